@@ -1,0 +1,3 @@
+mod EvaluationRows
+mod LargeRows
+mod TermRows

@@ -1,0 +1,100 @@
+-- What a run of a specification is to write, how it ends, and which place a refusal has.
+--     line y counted n task         the line of a term within n steps, with the steps spent where they are counted
+--     lines y given counted n       the lines of a specification's own terms and of given ones
+--     IsTermsVerdict y bytes v      the verdict on a text of terms
+--     IsDue spec terms counted n d  what is due for the two texts
+use Rattle.std.specs.Prelude.{ℕ, ◌-◌, ◌≡◌, ◌≤◌, ◌<◌, length, Option, Some, None, Bool, true, false, List, [], ◌++◌, codes, decimal, map, flat_map}
+use Rattle.rx_term.specs.Tree.{Tree, Trees, none, annotated, annotations}
+use Rattle.rx_text.specs.Grammar.{Spells}
+use Rattle.rx_text.specs.Place.{IsPlace}
+use Rattle.rx_text.specs.Canon.{canon}
+use Rattle.rec_syntax.specs.Syntax.{Term, Spec}
+use Rattle.rec_sorts.specs.TermRules.{broken_by_terms, elements}
+use Rattle.rec_sorts.specs.SpecRules.{Verdict, Long, Grammar, Breaks, Good, SpecVerdict, Fits, Fault}
+use Rattle.rec_sorts.specs.Evaluation.{Done, Over, Eval, term_of}
+use Rattle.rec_run.specs.declared.ending.Finish.{Finish}
+use Rattle.rec_run.specs.declared.ending.Finish.TheVariants as finish
+use Rattle.rec_run.specs.declared.ending.Source.{Source}
+use Rattle.rec_run.specs.declared.ending.Source.TheVariants as source
+use Rattle.rec_run.specs.declared.ending.Named.TheVariants as named
+use Rattle.rec_run.specs.declared.ending.Place.{Place}
+
+-- a term to be evaluated, and the annotations that its value bears
+pub record Task : Type 0 where
+  pub term : Term
+  pub notes : Trees
+
+-- a tab and the steps, where they are asked for
+abbrev pub steps_text : Bool → ℕ → List ℕ
+steps_text false steps = []
+steps_text true steps = codes "\t" ++ decimal steps
+
+-- the line of a term: the text of its value with the term's annotations, or that the limit was passed
+abbrev pub line : Spec → Bool → ℕ → Task → List ℕ
+line y counted n task = elim (Eval y n [] task.term) [
+  | Done v left ↦ canon (annotated v task.notes) ++ steps_text counted (n - left) ++ codes "\n"
+  | Over ↦ codes "!limit " ++ decimal n ++ codes "\n"
+]
+
+-- the specification's own terms, and then the given ones
+abbrev pub tasks : Spec → List Tree → List Task
+tasks y given = map (λ t. record { term = t; notes = none }) y.terms ++ map (λ t. record { term = term_of t; notes = annotations t }) given
+
+-- their lines, each with the whole budget
+abbrev pub each_line : Spec → List Tree → Bool → ℕ → List (List ℕ)
+each_line y given counted n = map (line y counted n) (tasks y given)
+
+-- all lines, one behind the other
+abbrev pub lines : Spec → List Tree → Bool → ℕ → List ℕ
+lines y given counted n = flat_map (λ l. l) (each_line y given counted n)
+
+-- a text of terms is too long, or leaves the grammar at a place, or breaks a rule, or is good with these terms
+pub data TermsVerdict : Type 0 where
+  TooLong : TermsVerdict
+  Outside : (at : ℕ) → TermsVerdict
+  BreaksTerms : (number : ℕ) → TermsVerdict
+  GoodTerms : List Tree → TermsVerdict
+
+-- the verdict on a text of terms for a specification that keeps its rules
+abbrev pub IsTermsVerdict : Spec → List ℕ → TermsVerdict → Type 0
+IsTermsVerdict y bytes TooLong = 16777216 < length bytes
+IsTermsVerdict y bytes (Outside at) = Fits bytes × IsPlace bytes at
+IsTermsVerdict y bytes (BreaksTerms number) = Fits bytes × ((t : Tree) × Spells bytes t × (broken_by_terms y t ≡ Some number))
+IsTermsVerdict y bytes (GoodTerms ts) = Fits bytes × ((t : Tree) × Spells bytes t × (broken_by_terms y t ≡ None) × (elements t ≡ Some ts))
+
+-- what is due: how the run ends, what it writes, and the place of a refusal that has one
+pub record Due : Type 0 where
+  pub finish : Finish
+  pub text : List ℕ
+  pub place : Option Place
+
+-- lines are due
+abbrev pub done : List ℕ → Due
+done text = record { finish = finish.Done; text = text; place = None }
+
+-- a refusal line is due: the word of the text, and the name of the refusal
+abbrev pub refused : List ℕ → List ℕ → Option Place → Due
+refused word name place = record { finish = finish.Refused; text = word ++ name ++ codes "\n"; place = place }
+
+-- what is due after the verdict on the specification alone
+abbrev pub due_of_spec : Bool → ℕ → Verdict → Due
+due_of_spec counted n Long = refused (codes "!spec ") (codes "L1") None
+due_of_spec counted n (Grammar at) = refused (codes "!spec ") (codes "G") (Some (record { text = source.Spec; rule = named.G; at = at }))
+due_of_spec counted n (Breaks f) = refused (codes "!spec ") (codes "S" ++ decimal f.number) (Some (record { text = source.Spec; rule = named.S f.number; at = f.at }))
+due_of_spec counted n (Good y) = done (lines y [] counted n)
+
+-- what is due after the verdict on the terms
+abbrev pub due_of_terms : Spec → Bool → ℕ → TermsVerdict → Due
+due_of_terms y counted n TooLong = refused (codes "!terms ") (codes "L1") None
+due_of_terms y counted n (Outside at) = refused (codes "!terms ") (codes "A") (Some (record { text = source.Terms; rule = named.A; at = at }))
+due_of_terms y counted n (BreaksTerms number) = refused (codes "!terms ") (codes "T" ++ decimal number) None
+due_of_terms y counted n (GoodTerms ts) = done (lines y ts counted n)
+
+-- what is due after the verdict on the specification: the terms are asked only of a good one
+abbrev pub IsDueAfter : Verdict → Option (List ℕ) → Bool → ℕ → Due → Type 0
+IsDueAfter (Good y) (Some terms) counted n d = (v : TermsVerdict) × IsTermsVerdict y terms v × (d ≡ due_of_terms y counted n v)
+IsDueAfter v terms counted n d = d ≡ due_of_spec counted n v
+
+-- what is due for the text of a specification and, where there is one, a text of terms
+abbrev pub IsDue : List ℕ → Option (List ℕ) → Bool → ℕ → Due → Type 0
+IsDue spec terms counted n d = (v : Verdict) × SpecVerdict spec v × IsDueAfter v terms counted n d

@@ -1,0 +1,69 @@
+//! How a run ends, and what it may use.
+
+use thiserror::Error;
+
+/// What a run may use.
+#[derive(Clone, Copy, Debug, Drop)]
+pub struct RunOptions {
+    /// The most steps that a term may take, 0 to 10^18.
+    pub steps: u64,
+    /// The most cells of the bank, 1 to 2^30.
+    pub cells: u32,
+    /// The most entries of the memo, 0 to 2^20.
+    pub memo: u32,
+    /// How many new cells there may be between two reclaims, 1 to 2^30.
+    pub reclaim: u32,
+    /// Whether each value's line has the steps that were spent.
+    pub count: bool,
+}
+
+/// How a run ends that met no fault.
+#[derive(Clone, Copy, Debug, Drop, PartialEq, Eq)]
+pub enum Finish {
+    /// All lines were written.
+    Done,
+    /// A text was refused, and its refusal line was written.
+    Refused,
+}
+
+/// Why a run stopped before its end. `lines` counts the lines that were written whole.
+#[derive(Clone, Copy, Debug, Drop, PartialEq, Eq, Error)]
+pub enum RunFault {
+    #[error("out of memory")]
+    Memory { lines: u64 },
+    #[error("out of cells")]
+    Room { lines: u64 },
+    #[error("read failed")]
+    Read,
+    #[error("write failed")]
+    Write,
+}
+
+/// A text that a run reads.
+#[derive(Clone, Copy, Debug, Drop, PartialEq, Eq)]
+pub enum Source {
+    Spec,
+    Terms,
+    Term,
+    Pattern,
+    Args,
+}
+
+/// A refusal that has a place.
+#[derive(Clone, Copy, Debug, Drop, PartialEq, Eq)]
+pub enum Named {
+    /// Outside the grammar of specifications.
+    G,
+    /// One of the rules 1 to 11 of specifications.
+    S(u8),
+    /// Outside the grammar of annotated terms.
+    A,
+}
+
+/// Where a refusal stands: `at` bytes behind the text's beginning.
+#[derive(Clone, Copy, Debug, Drop, PartialEq, Eq)]
+pub struct Place {
+    pub text: Source,
+    pub rule: Named,
+    pub at: u32,
+}

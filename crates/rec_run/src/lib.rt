@@ -1,0 +1,6 @@
+//! Whole runs: from the texts that come in to the lines that go out.
+#![tactic(auto)]
+
+mod ending;
+
+pub use ending::{Finish, Named, Place, RunFault, RunOptions, Source};

@@ -1,0 +1,11 @@
+mod SpecRows
+mod NextRows
+pub mod Steady
+pub mod Equations
+pub mod Rules
+pub mod Derivation
+pub mod Machine
+pub mod Rewriting
+pub mod Kept
+pub mod Bindings
+pub mod Built
