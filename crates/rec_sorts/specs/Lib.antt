@@ -4,3 +4,4 @@ pub mod TermRules
 pub mod Binding
 pub mod Evaluation
 pub mod Laws
+pub mod Numbering
