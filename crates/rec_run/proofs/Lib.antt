@@ -1,3 +1,4 @@
+mod Told
 mod EvaluationRows
 mod LargeRows
 mod TermRows

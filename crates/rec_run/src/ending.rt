@@ -1,5 +1,7 @@
 //! How a run ends, and what it may use.
 
+ghost use Rattle.std.specs.Prelude.{◌≤◌, ◌^◌};
+
 use thiserror::Error;
 
 /// What a run may use.
@@ -15,6 +17,10 @@ pub struct RunOptions {
     pub reclaim: u32,
     /// Whether each value's line has the steps that were spent.
     pub count: bool,
+    ghost steps_in_range: { steps ≤ 10 ^ 18 },
+    ghost cells_in_range: { (1 ≤ cells) × (cells ≤ 2 ^ 30) },
+    ghost memo_in_range: { memo ≤ 2 ^ 20 },
+    ghost reclaim_in_range: { (1 ≤ reclaim) × (reclaim ≤ 2 ^ 30) },
 }
 
 /// How a run ends that met no fault.

@@ -2,5 +2,6 @@
 #![tactic(auto)]
 
 mod ending;
+mod text;
 
 pub use ending::{Finish, Named, Place, RunFault, RunOptions, Source};

@@ -1,0 +1,70 @@
+//! Texts from readers and to writers.
+
+ghost use Rattle.std.specs.Prelude.{◌≡◌, ◌+◌, ◌-◌, ◌≤◌, ◌<◌, ◌^◌, List, ℕ, IfOk, OnOk, OnErr, IfSome, take, vec_len, length};
+ghost use Rattle.std.specs.Io.KnownBytes.{Appends, Consumes};
+ghost use Rattle.rec_run.specs.Bytes.{AppendsFront};
+
+use std::alloc::{AllocError, Global};
+use std::io::{Read, Write};
+
+/// The most bytes of a text.
+pub const LIMIT: usize = 16_777_216;
+
+/// Why a text was not read.
+#[derive(Clone, Copy, Debug)]
+pub enum ReadFault {
+    Memory,
+    Read,
+}
+
+/// The writer refused.
+#[derive(Clone, Copy, Debug)]
+pub struct Stopped;
+
+impl From<AllocError> for ReadFault {
+    ghost use Rattle.rec_run.specs.declared.text.ReadFault.TheVariants.{Memory};
+
+    ghost from_gives = { λ _ r. r ≡ Memory };
+
+    fn from(_error: AllocError) -> ReadFault {
+        ReadFault::Memory
+    }
+}
+
+/// Reads to the end, or one byte past the limit. Of a fault no more is said than that the bytes
+/// that the reader lost stood at its front.
+pub fn read_all<R: Read>(alloc: Global, reader: &mut R) -> Result<Vec<u8>, ReadFault>
+    ensures text { IfOk result (λ text. IfSome (R.remaining reader.old) (λ bytes. text.items ≡ take (LIMIT + 1) bytes)) }
+    ensures rest { IfOk result (λ text. Consumes (R.remaining reader.old) (R.remaining reader.new) text.items) }
+    ensures within { IfOk result (λ text. vec_len text ≤ LIMIT + 1) }
+    ensures lost { OnErr result ((bytes : List ℕ) × Consumes (R.remaining reader.old) (R.remaining reader.new) bytes) }
+{
+    let mut text = Vec::new(alloc);
+    let mut buffer = [0u8; 4096];
+    while text.len() <= LIMIT {
+        let room = buffer.len().min(LIMIT + 1 - text.len());
+        let Ok(count) = reader.read(&mut buffer[..room]) else {
+            return Err(ReadFault::Read);
+        };
+        if count == 0 {
+            return Ok(text);
+        }
+        text.extend_from_slice(&buffer[..count])?;
+    }
+    Ok(text)
+}
+
+/// Writes all of a text, by as many writes as the writer needs.
+pub fn put<W: Write>(out: &mut W, text: &[u8]) -> Result<(), Stopped>
+    ensures ok { OnOk result (Appends (W.contents out.old) (W.contents out.new) text.now) }
+    ensures err { OnErr result (AppendsFront text.now (W.contents out.old) (W.contents out.new)) }
+{
+    let mut at = 0;
+    while at < text.len() {
+        match out.write(&text[at..]) {
+            Ok(count) if count > 0 => at += count,
+            _ => return Err(Stopped),
+        }
+    }
+    Ok(())
+}
