@@ -1,4 +1,5 @@
 mod Told
+mod OneDue
 mod EvaluationRows
 mod LargeRows
 mod TermRows

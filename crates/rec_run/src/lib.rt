@@ -2,6 +2,7 @@
 #![tactic(auto)]
 
 mod ending;
+pub mod laws;
 mod text;
 
 pub use ending::{Finish, Named, Place, RunFault, RunOptions, Source};

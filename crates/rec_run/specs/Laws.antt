@@ -1,0 +1,7 @@
+-- The law of the output.
+use Rattle.std.specs.Prelude.{◌≡◌, ℕ, Bool, List, Option}
+use Rattle.rec_run.specs.Output.{Due, IsDue}
+
+-- for a text of a specification, and a text of terms where there is one, one thing is due at most
+abbrev pub OneDue : Type 0
+OneDue = (spec : List ℕ) (terms : Option (List ℕ)) (counted : Bool) (n : ℕ) (d e : Due) → IsDue spec terms counted n d → IsDue spec terms counted n e → d ≡ e
