@@ -2,6 +2,9 @@ mod Told
 mod OneDue
 mod ValueTrees
 mod LineEnds
+mod LineFronts
+mod SpecLines
+mod WholeRuns
 mod EvaluationRows
 mod LargeRows
 mod TermRows

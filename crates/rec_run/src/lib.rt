@@ -2,7 +2,14 @@
 #![tactic(auto)]
 
 mod ending;
+mod evaluator;
 pub mod laws;
+mod lines;
+mod printer;
+mod runs;
 mod text;
+mod value;
+mod verdict;
 
 pub use ending::{Finish, Named, Place, RunFault, RunOptions, Source};
+pub use runs::{run, run_at};

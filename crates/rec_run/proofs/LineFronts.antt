@@ -1,0 +1,104 @@
+-- Texts that are made of lines: their fronts, and how many line ends these have.
+use Rattle.std.proofs.Common.{◌≡◌, ℕ, ◌+◌, ◌<◌, ◌≤◌, List, [], ◌∷◌, ◌++◌, Option, take, drop, get_or, length, length-take-le, refl, sym, ap, ◌∙◌, append_assoc, append-nil, take-append-drop, arith}
+use Rattle.std.specs.Prelude.{flat_map, codes}
+use Rattle.std.proofs.lemmas.List.{take_more}
+use Rattle.std.proofs.lemmas.List.Concat.{flat_map-append}
+use Rattle.std.specs.Io.KnownBytes.{Appends}
+use Rattle.rec_run.specs.Bytes.{AppendsFront, IsFront, newlines}
+use Rattle.rec_run.specs.Run.{Stops, Reports}
+use Rattle.rec_run.specs.Reading.{within, raised}
+use Rattle.rec_run.specs.declared.printer.WriteFault.{WriteFault}
+use Rattle.rec_run.specs.declared.printer.WriteFault.TheVariants.{Memory, Write}
+use Rattle.rec_run.specs.declared.ending.RunFault.TheVariants as fault
+use Rattle.rec_run.proofs.Told.{appends_both, front_before}
+use Rattle.rec_run.proofs.LineEnds.{newlines-append}
+
+-- a line for each item, with this text
+abbrev pub lines_of : {X : Type 0} → (X → List ℕ) → List X → List ℕ
+lines_of f items = flat_map (λ x. f x ++ codes "\n") items
+
+-- no text has a line end
+abbrev pub NoEnds : {X : Type 0} → (X → List ℕ) → Type 0
+NoEnds {X} f = (x : X) → newlines (f x) ≡ 0
+
+-- each line has one line end
+pub newlines-lines_of : {X : Type 0} (f : X → List ℕ) (items : List X) → NoEnds f → newlines (lines_of f items) ≡ length items
+newlines-lines_of f [] none = refl
+newlines-lines_of f (x ∷ items) none =
+    let both = newlines-append (f x ++ codes "\n") (lines_of f items) in
+    let line = newlines-append (f x) (codes "\n") in
+    let one : newlines (codes "\n") ≡ 1 = refl in
+    let text = none x in
+    let others = newlines-lines_of f items none in
+    omega (arith, both, line, one, text, others)
+
+-- a front of a text without line ends has none
+newlines-front : (front rest : List ℕ) → newlines (front ++ rest) ≡ 0 → newlines front ≡ 0
+newlines-front front rest h = let e = newlines-append front rest in omega (arith, e, h)
+
+-- the lines up to an item, and its own
+pub lines_of-more : {X : Type 0} (f : X → List ℕ) (items : List X) (i : ℕ) (d : X) → i < length items → lines_of f (take (i + 1) items) ≡ lines_of f (take i items) ++ (f (get_or items i d) ++ codes "\n")
+lines_of-more f items i d h =
+    ap (lines_of f) (take_more items i d h) ∙ flat_map-append (λ x. f x ++ codes "\n") (take i items) (get_or items i d ∷ [])
+    ∙ ap (λ z. lines_of f (take i items) ++ z) (append-nil (f (get_or items i d) ++ codes "\n"))
+
+-- the lines up to an item begin all lines
+lines_of-front : {X : Type 0} (f : X → List ℕ) (items : List X) (i : ℕ) (d : X) → i < length items → (rest : List ℕ) × (lines_of f items ≡ lines_of f (take i items) ++ (f (get_or items i d) ++ codes "\n" ++ rest))
+lines_of-front f items i d h = (
+  lines_of f (drop (i + 1) items),
+  ap (lines_of f) (sym (take-append-drop (i + 1) items)) ∙ flat_map-append (λ x. f x ++ codes "\n") (take (i + 1) items) (drop (i + 1) items)
+      ∙ ap (λ z. z ++ lines_of f (drop (i + 1) items)) (lines_of-more f items i d h) ∙ append_assoc (lines_of f (take i items)) (f (get_or items i d) ++ codes "\n") (lines_of f (drop (i + 1) items)),
+)
+
+-- a front of a line after the lines before it is a front of all lines
+front_in_lines : {X : Type 0} (f : X → List ℕ) (items : List X) (i : ℕ) (d : X) (front rest : List ℕ) → i < length items → f (get_or items i d) ++ codes "\n" ≡ front ++ rest → IsFront (lines_of f (take i items) ++ front) (lines_of f items)
+front_in_lines f items i d front rest h e =
+    let all = lines_of-front f items i d h in
+    let before = lines_of f (take i items) in (
+      rest ++ all.0,
+      all.1 ∙ ap (λ z. before ++ (z ++ all.0)) e ∙ ap (λ z. before ++ z) (append_assoc front rest all.0) ∙ sym (append_assoc before front (rest ++ all.0)),
+    )
+
+-- a front of a text is a front of its line
+front_in_line : (text front rest : List ℕ) → text ≡ front ++ rest → text ++ codes "\n" ≡ front ++ (rest ++ codes "\n")
+front_in_line text front rest e = ap (λ z. z ++ codes "\n") e ∙ append_assoc front rest (codes "\n")
+
+-- before the line end of an item there are as many line ends as its number
+ends_before : {X : Type 0} (f : X → List ℕ) (items : List X) (i : ℕ) (d : X) (front rest : List ℕ) → NoEnds f → i < length items → f (get_or items i d) ≡ front ++ rest → i ≡ newlines (lines_of f (take i items) ++ front)
+ends_before f items i d front rest no_ends h e =
+    let both = newlines-append (lines_of f (take i items)) front in
+    let before = newlines-lines_of f (take i items) no_ends in
+    let long : length (take i items) ≡ i = length-take-le i items (omega (arith, h)) in
+    let none = newlines-front front rest (ap newlines (sym e) ∙ no_ends (get_or items i d)) in
+    omega (arith, both, before, long, none)
+
+front_of : {X : Type 0} (w : WriteFault) (f : X → List ℕ) (items : List X) (i : ℕ) (d : X) (front rest : List ℕ) → i < length items → within w (f (get_or items i d)) ≡ front ++ rest → IsFront (lines_of f (take i items) ++ front) (lines_of f items)
+front_of Memory f items i d front rest h e = front_in_lines f items i d front (rest ++ codes "\n") h (front_in_line (f (get_or items i d)) front rest e)
+front_of Write f items i d front rest h e = front_in_lines f items i d front rest h e
+
+report_of : {X : Type 0} (w : WriteFault) (f : X → List ℕ) (items : List X) (i : ℕ) (d : X) (front rest : List ℕ) → NoEnds f → i < length items → within w (f (get_or items i d)) ≡ front ++ rest → Reports (raised w i) (lines_of f (take i items) ++ front)
+report_of Memory f items i d front rest no_ends h e = ends_before f items i d front rest no_ends h e
+report_of Write f items i d front rest no_ends h e = tt
+
+-- a line stopped: so did the lines
+pub stops_lines :
+    {X : Type 0} (w : WriteFault) (f : X → List ℕ) (items : List X) (i : ℕ) (d : X) (old between new : Option (List ℕ)) → NoEnds f → i < length items
+    → Appends old between (lines_of f (take i items))
+    → AppendsFront (within w (f (get_or items i d))) between new
+    → Stops (raised w i) (lines_of f items) old new
+stops_lines w f items i d old between new no_ends h so_far (front, appended, (rest, e)) =
+    record {
+      written = lines_of f (take i items) ++ front;
+      appended = appends_both old between new (lines_of f (take i items)) front so_far appended;
+      front = front_of w f items i d front rest h e;
+      reported = report_of w f items i d front rest no_ends h e;
+    }
+
+-- a front of a text that meets only the writer's refusal
+pub stops_write : (text : List ℕ) (old new : Option (List ℕ)) → AppendsFront text old new → Stops fault.Write text old new
+stops_write text old new (front, appended, is_front) = record { written = front; appended = appended; front = is_front; reported = tt }
+
+-- a front of a line's text is due before any fault of the line
+pub front_within : (w : WriteFault) (text : List ℕ) (old new : Option (List ℕ)) → AppendsFront text old new → AppendsFront (within w text) old new
+front_within Memory text old new h = h
+front_within Write text old new h = front_before old new text (codes "\n") h

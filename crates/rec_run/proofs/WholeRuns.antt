@@ -1,0 +1,93 @@
+-- From the verdict on what was read to what is due.
+use Rattle.std.proofs.Common.{◌≡◌, ℕ, ◌+◌, ◌<◌, ◌≤◌, Bool, true, false, List, [], Option, Some, None, IfSome, length, take, take_all, refl, sym, ap, subst, ◌∙◌, arith, min}
+use Rattle.std.proofs.lemmas.List.{length-take}
+use Rattle.std.specs.Io.KnownBytes.{Appends, Keeps}
+use Rattle.rec_sorts.specs.SpecRules as verdict
+use Rattle.rec_sorts.specs.SpecRules.{Verdict, SpecVerdict}
+use Rattle.rec_run.specs.Output.{Due, IsDue, IsDueAfter, due_of_spec}
+use Rattle.rec_run.specs.Bytes.{AppendsFront}
+use Rattle.rec_run.specs.Run.{Gives, HasPlace, Leaves, Stops}
+use Rattle.rec_run.specs.Reading.{verdict_of, due_of, refusal_line, place_of, finish_of, unread}
+use Rattle.rec_run.specs.declared.ending.Place.{Place}
+use Rattle.rec_run.specs.declared.ending.RunFault.{RunFault}
+use Rattle.rec_run.specs.declared.text.ReadFault.{ReadFault}
+use Rattle.rec_run.specs.declared.text.ReadFault.TheVariants as reading
+use Rattle.rec_run.specs.declared.text.TheConstants.{LIMIT}
+use Rattle.rec_run.specs.declared.verdict.Refusal.{Refusal}
+use Rattle.rec_run.specs.declared.verdict.Refusal.TheVariants.{Long, Grammar, Rule}
+use Rattle.rec_run.specs.declared.verdict.Reading.{Reading}
+use Rattle.rec_run.specs.declared.verdict.Reading.TheVariants.{Refused, Good}
+use Rattle.rec_run.proofs.OneDue.{one_due}
+use Rattle.rec_run.proofs.Told.{appends_none}
+
+-- a front within the limit is the whole text
+short_front : (bytes : List ℕ) → length (take (LIMIT + 1) bytes) ≤ LIMIT → take (LIMIT + 1) bytes ≡ bytes
+short_front bytes h = take_all (LIMIT + 1) bytes (let e = length-take (LIMIT + 1) bytes in omega (arith, e, h))
+
+-- one byte past the limit is enough for the verdict
+verdict_front : (bytes : List ℕ) (v : Verdict) → SpecVerdict (take (LIMIT + 1) bytes) v → SpecVerdict bytes v
+verdict_front bytes verdict.Long h = let e = length-take (LIMIT + 1) bytes in omega (arith, e, h)
+verdict_front bytes (verdict.Grammar at) h = subst (λ text. SpecVerdict text (verdict.Grammar at)) (short_front bytes h.0) h
+verdict_front bytes (verdict.Breaks f) h = subst (λ text. SpecVerdict text (verdict.Breaks f)) (short_front bytes h.0) h
+verdict_front bytes (verdict.Good y) h = subst (λ text. SpecVerdict text (verdict.Good y)) (short_front bytes h.0) h
+
+-- the verdict on what was read is that on the text
+pub verdict_read : (told : Option (List ℕ)) (text : List ℕ) (v : Verdict) → IfSome told (λ bytes. text ≡ take (LIMIT + 1) bytes) → SpecVerdict text v → IfSome told (λ bytes. SpecVerdict bytes v)
+verdict_read None text v e h = tt
+verdict_read (Some bytes) text v e h = verdict_front bytes v (subst (λ t. SpecVerdict t v) e h)
+
+-- the text that is due for a refusal is its line
+pub due_of-refused : (counted : Bool) (n : ℕ) (r : Refusal) → (due_of counted n (Refused r)).text ≡ refusal_line r
+due_of-refused counted n Long = refl
+due_of-refused counted n (Grammar at) = refl
+due_of-refused counted n (Rule number at) = refl
+
+finish-due_of : (counted : Bool) (n : ℕ) (r : Reading) → (due_of counted n r).finish ≡ finish_of r
+finish-due_of counted n (Refused Long) = refl
+finish-due_of counted n (Refused (Grammar at)) = refl
+finish-due_of counted n (Refused (Rule number at)) = refl
+finish-due_of counted n (Good c) = refl
+
+place-due_of : (counted : Bool) (n : ℕ) (r : Reading) → (due_of counted n r).place ≡ place_of r
+place-due_of counted n (Refused Long) = refl
+place-due_of counted n (Refused (Grammar at)) = refl
+place-due_of counted n (Refused (Rule number at)) = refl
+place-due_of counted n (Good c) = refl
+
+after_spec : (counted : Bool) (n : ℕ) (v : Verdict) → IsDueAfter v None counted n (due_of_spec counted n v)
+after_spec counted n verdict.Long = refl
+after_spec counted n (verdict.Grammar at) = refl
+after_spec counted n (verdict.Breaks f) = refl
+after_spec counted n (verdict.Good y) = refl
+
+-- what is due for a text with this verdict
+due_here : (bytes : List ℕ) (counted : Bool) (n : ℕ) (r : Reading) → SpecVerdict bytes (verdict_of r) → IsDue bytes None counted n (due_of counted n r)
+due_here bytes counted n r h = (verdict_of r, h, after_spec counted n (verdict_of r))
+
+pub gives : (told : Option (List ℕ)) (counted : Bool) (n : ℕ) (r : Reading) (old new : Option (List ℕ)) → IfSome told (λ bytes. SpecVerdict bytes (verdict_of r)) → Appends old new (due_of counted n r).text
+    → IfSome told (λ bytes. Gives bytes None counted n (finish_of r) old new)
+gives None counted n r old new h w = tt
+gives (Some bytes) counted n r old new h w =
+    record { due = due_of counted n r; is_due = due_here bytes counted n r h; ends = finish-due_of counted n r; written = w }
+
+pub has_place : (told : Option (List ℕ)) (counted : Bool) (n : ℕ) (r : Reading) (place : Option Place) → IfSome told (λ bytes. SpecVerdict bytes (verdict_of r)) → place ≡ place_of r
+    → IfSome told (λ bytes. HasPlace bytes None counted n place)
+has_place None counted n r place h e = tt
+has_place (Some bytes) counted n r place h e =
+    record { due = due_of counted n r; is_due = due_here bytes counted n r h; placed = place-due_of counted n r ∙ sym e }
+
+pub leaves : (told : Option (List ℕ)) (counted : Bool) (n : ℕ) (r : Reading) (fault : RunFault) (old new : Option (List ℕ)) → IfSome told (λ bytes. SpecVerdict bytes (verdict_of r)) → Stops fault (due_of counted n r).text old new
+    → IfSome told (λ bytes. Leaves bytes None counted n fault old new)
+leaves None counted n r fault old new h s = tt
+leaves (Some bytes) counted n r fault old new h s = λ d is.
+    subst (λ (e : Due). Stops fault e.text old new) (one_due bytes None counted n (due_of counted n r) d (due_here bytes counted n r h) is) s
+
+kept : (o : Option (List ℕ)) → Keeps o o
+kept None = tt
+kept (Some a) = refl
+
+-- nothing is written where no text is read
+pub leaves_unread : (told : Option (List ℕ)) (counted : Bool) (n : ℕ) (e : ReadFault) (old : Option (List ℕ)) → IfSome told (λ bytes. Leaves bytes None counted n (unread e) old old)
+leaves_unread None counted n e old = tt
+leaves_unread (Some bytes) counted n reading.Memory old = λ d is. record { written = []; appended = appends_none old old (kept old); front = (d.text, refl); reported = refl }
+leaves_unread (Some bytes) counted n reading.Read old = λ d is. record { written = []; appended = appends_none old old (kept old); front = (d.text, refl); reported = refl }

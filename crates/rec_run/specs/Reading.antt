@@ -1,0 +1,99 @@
+-- What the text of a specification comes to, and what is written for it.
+use Rattle.std.specs.Prelude.{ℕ, ◌-◌, List, [], ◌++◌, Bool, Option, Some, None, get_or, codes, decimal}
+use Rattle.rx_term.specs.Tree.{Tree, annotated, none}
+use Rattle.rx_text.specs.Canon.{canon}
+use Rattle.rec_syntax.specs.Syntax.{Term, Apply, Spec, nameless}
+use Rattle.rec_syntax.specs.Syntax as syntax
+use Rattle.rec_sorts.specs.SpecRules as verdict
+use Rattle.rec_sorts.specs.SpecRules.{Verdict}
+use Rattle.rec_sorts.specs.Evaluation as evaluation
+use Rattle.rec_sorts.specs.Evaluation.{Eval}
+use Rattle.rec_run.specs.Output.{Due, due_of_spec, steps_text}
+use Rattle.rec_run.specs.Values.{tree_of_value}
+use Rattle.rec_run.specs.declared.ending.Finish.{Finish}
+use Rattle.rec_run.specs.declared.ending.Finish.TheVariants as finish
+use Rattle.rec_run.specs.declared.ending.Place.{Place}
+use Rattle.rec_run.specs.declared.ending.RunFault.{RunFault}
+use Rattle.rec_run.specs.declared.ending.RunFault.TheVariants as fault
+use Rattle.rec_run.specs.declared.text.ReadFault.{ReadFault}
+use Rattle.rec_run.specs.declared.text.ReadFault.TheVariants as reading
+use Rattle.rec_run.specs.declared.printer.WriteFault.{WriteFault}
+use Rattle.rec_run.specs.declared.printer.WriteFault.TheVariants as writing
+use Rattle.rec_run.specs.declared.evaluator.Outcome.{Outcome}
+use Rattle.rec_run.specs.declared.evaluator.Outcome.TheVariants as outcome
+use Rattle.rec_run.specs.declared.verdict.Refusal.{Refusal}
+use Rattle.rec_run.specs.declared.verdict.Refusal.TheVariants.{Long, Grammar, Rule}
+use Rattle.rec_run.specs.declared.verdict.Reading.{Reading}
+use Rattle.rec_run.specs.declared.verdict.Reading.TheVariants.{Refused, Good}
+
+-- the verdict that a refusal is
+abbrev pub verdict_of_refusal : Refusal → Verdict
+verdict_of_refusal Long = verdict.Long
+verdict_of_refusal (Grammar at) = verdict.Grammar at
+verdict_of_refusal (Rule number at) = verdict.Breaks (record { number = number; at = at })
+
+-- the verdict that a text came to
+abbrev pub verdict_of : Reading → Verdict
+verdict_of (Refused refusal) = verdict_of_refusal refusal
+verdict_of (Good checked) = verdict.Good checked.spec
+
+-- a refusal's name
+abbrev pub name_of_refusal : Refusal → List ℕ
+name_of_refusal Long = codes "L1"
+name_of_refusal (Grammar at) = codes "G"
+name_of_refusal (Rule number at) = codes "S" ++ decimal number
+
+-- the line of a refusal
+abbrev pub refusal_line : Refusal → List ℕ
+refusal_line refusal = codes "!spec " ++ name_of_refusal refusal ++ codes "\n"
+
+-- the place of a refusal
+abbrev pub place_of_refusal : Refusal → Option Place
+place_of_refusal refusal = (due_of_spec Bool.false 0 (verdict_of_refusal refusal)).place
+
+-- the place of what a text came to
+abbrev pub place_of : Reading → Option Place
+place_of (Refused refusal) = place_of_refusal refusal
+place_of (Good checked) = None
+
+-- how a run ends by what its text came to
+abbrev pub finish_of : Reading → Finish
+finish_of (Refused refusal) = finish.Refused
+finish_of (Good checked) = finish.Done
+
+-- what is due for what a text came to
+abbrev pub due_of : Bool → ℕ → Reading → Due
+due_of counted n reading = due_of_spec counted n (verdict_of reading)
+
+-- what is shown of an evaluation within n steps: the line of its term without the line end
+abbrev pub shown : Bool → ℕ → evaluation.Outcome Tree → List ℕ
+shown counted n (evaluation.Done v left) = canon (annotated v none) ++ steps_text counted (n - left)
+shown counted n evaluation.Over = codes "!limit " ++ decimal n
+
+-- the text of a term's line
+abbrev pub line_text : Spec → Bool → ℕ → Term → List ℕ
+line_text y counted n t = shown counted n (Eval y n [] t)
+
+-- the term of the list of terms that has this number
+abbrev pub term_at : Spec → ℕ → Term
+term_at y i = get_or y.terms i (Apply nameless syntax.none)
+
+-- what is shown of an answer of the evaluator
+abbrev pub answer_text : Spec → Bool → ℕ → Outcome → List ℕ
+answer_text y counted n (outcome.Value v steps) = canon (tree_of_value y v) ++ steps_text counted steps
+answer_text y counted n outcome.Limit = codes "!limit " ++ decimal n
+
+-- of a line with this text, what is due before such a fault: the line end meets the writer's refusal alone
+abbrev pub within : WriteFault → List ℕ → List ℕ
+within writing.Memory text = text
+within writing.Write text = text ++ codes "\n"
+
+-- the run's fault where a line's came after so many lines
+abbrev pub raised : WriteFault → ℕ → RunFault
+raised writing.Memory lines = fault.Memory lines
+raised writing.Write lines = fault.Write
+
+-- the run's fault where no text was read
+abbrev pub unread : ReadFault → RunFault
+unread reading.Memory = fault.Memory 0
+unread reading.Read = fault.Read

@@ -1,0 +1,43 @@
+-- What a run leaves.
+--     Gives spec terms counted n finish old new    it ended as is due, and wrote what is due
+--     HasPlace spec terms counted n place          the place is that of what is due
+--     Leaves spec terms counted n fault old new    it stopped at a fault, with a front of what is due written
+use Rattle.std.specs.Prelude.{◌≡◌, ℕ, List, [], Bool, Option}
+use Rattle.std.specs.Io.KnownBytes.{Appends}
+use Rattle.rec_run.specs.Bytes.{IsFront, newlines}
+use Rattle.rec_run.specs.Output.{Due, IsDue}
+use Rattle.rec_run.specs.declared.ending.Finish.{Finish}
+use Rattle.rec_run.specs.declared.ending.Place.{Place}
+use Rattle.rec_run.specs.declared.ending.RunFault.{RunFault}
+use Rattle.rec_run.specs.declared.ending.RunFault.TheVariants.{Memory, Room, Read, Write}
+
+-- a run that ended: it ended as is due, and what is due was written
+pub record Gives (spec : List ℕ) (terms : Option (List ℕ)) (counted : Bool) (n : ℕ) (finish : Finish) (old new : Option (List ℕ)) : Type 0 where
+  pub due : Due
+  pub is_due : IsDue spec terms counted n due
+  pub ends : due.finish ≡ finish
+  pub written : Appends old new due.text
+
+-- the place of a refusal is the one that is due
+pub record HasPlace (spec : List ℕ) (terms : Option (List ℕ)) (counted : Bool) (n : ℕ) (place : Option Place) : Type 0 where
+  pub due : Due
+  pub is_due : IsDue spec terms counted n due
+  pub placed : due.place ≡ place
+
+-- what a fault tells of what was written before it: how many lines were written whole
+abbrev pub Reports : RunFault → List ℕ → Type 0
+Reports (Memory lines) written = lines ≡ newlines written
+Reports (Room lines) written = lines ≡ newlines written
+Reports Read written = written ≡ []
+Reports Write written = Unit {0}
+
+-- what was written before a fault is a front of a text, and is as the fault tells
+pub record Stops (fault : RunFault) (text : List ℕ) (old new : Option (List ℕ)) : Type 0 where
+  pub written : List ℕ
+  pub appended : Appends old new written
+  pub front : IsFront written text
+  pub reported : Reports fault written
+
+-- a run that stopped at a fault: what was written is a front of whatever is due
+abbrev pub Leaves : List ℕ → Option (List ℕ) → Bool → ℕ → RunFault → Option (List ℕ) → Option (List ℕ) → Type 0
+Leaves spec terms counted n fault old new = (d : Due) → IsDue spec terms counted n d → Stops fault d.text old new
