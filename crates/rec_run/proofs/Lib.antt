@@ -5,6 +5,7 @@ mod LineEnds
 mod LineFronts
 mod SpecLines
 mod WholeRuns
-mod EvaluationRows
-mod LargeRows
+mod DueOfText
+mod OutputRows
+mod RefusalRows
 mod TermRows

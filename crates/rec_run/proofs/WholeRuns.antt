@@ -54,7 +54,7 @@ place-due_of counted n (Refused (Grammar at)) = refl
 place-due_of counted n (Refused (Rule number at)) = refl
 place-due_of counted n (Good c) = refl
 
-after_spec : (counted : Bool) (n : ℕ) (v : Verdict) → IsDueAfter v None counted n (due_of_spec counted n v)
+pub after_spec : (counted : Bool) (n : ℕ) (v : Verdict) → IsDueAfter v None counted n (due_of_spec counted n v)
 after_spec counted n verdict.Long = refl
 after_spec counted n (verdict.Grammar at) = refl
 after_spec counted n (verdict.Breaks f) = refl
