@@ -2,6 +2,7 @@
 
 ghost use Rattle.std.specs.Prelude.{◌≤◌, ◌^◌};
 
+use std::fmt;
 use thiserror::Error;
 
 /// What a run may use.
@@ -72,4 +73,33 @@ pub struct Place {
     pub text: Source,
     pub rule: Named,
     pub at: u32,
+}
+
+impl fmt::Display for Source {
+    fn fmt<W: fmt::Write>(&self, f: &mut fmt::Formatter<W>) -> fmt::Result {
+        f.write_str(match *self {
+            Source::Spec => "spec",
+            Source::Terms => "terms",
+            Source::Term => "term",
+            Source::Pattern => "pattern",
+            Source::Args => "args",
+        })
+    }
+}
+
+impl fmt::Display for Named {
+    fn fmt<W: fmt::Write>(&self, f: &mut fmt::Formatter<W>) -> fmt::Result {
+        match *self {
+            Named::G => f.write_str("G"),
+            Named::S(number) => write!(f, "S{number}"),
+            Named::A => f.write_str("A"),
+        }
+    }
+}
+
+impl fmt::Display for Place {
+    fn fmt<W: fmt::Write>(&self, f: &mut fmt::Formatter<W>) -> fmt::Result {
+        let Place { text, rule, at } = *self;
+        write!(f, "{text} {rule} at byte {at}")
+    }
 }

@@ -7,6 +7,8 @@ pub mod laws;
 mod lines;
 mod printer;
 mod runs;
+#[cfg(test)]
+mod tests;
 mod text;
 mod value;
 mod verdict;

@@ -1,9 +1,10 @@
-use Rattle.std.proofs.Common.{◌≡◌, ◌<◌, ◌≤◌, ◌^◌, arith, length, take, take_all, subst, sym, ap, ◌∙◌}
+use Rattle.std.proofs.Common.{◌++◌, ◌≡◌, ◌<◌, ◌≤◌, ◌^◌, arith, length, take, take_all, subst, sym, ap, ◌∙◌}
+use Rattle.std.specs.Prelude.{codes}
 use Rattle.rec_syntax.specs.Syntax.{Apply, nameless}
 use Rattle.rec_syntax.specs.Syntax as syntax
 use Rattle.std.specs.Io.KnownBytes.{Appends}
 use Rattle.rec_run.specs.Run.{Stops}
-use Rattle.rec_run.specs.Reading.{line_text}
+use Rattle.rec_run.specs.Reading.{line_text, term_at}
 use Rattle.rec_run.proofs.Told.{appends_both}
 use Rattle.rec_run.proofs.LineFronts.{lines_of, lines_of-more, stops_lines}
 use Rattle.rec_run.proofs.SpecLines.{length-Pairwise, lines-own, line_text-newlines}
@@ -29,7 +30,7 @@ loop-i-preserved g c =
     let e = length-Pairwise _ _ _ c.terms-i-end.ensures in
     let low : c.loop-i.i < length y.terms = omega (arith, e) in
     subst (λ text. Appends (g.W.Write.contents c.args.out.now) (g.W.Write.contents c.write_line.new.out) text) (sym (lines_of-more f y.terms c.loop-i.i (Apply nameless syntax.none) low))
-    (appends_both _ _ _ (lines_of f (take c.loop-i.i y.terms)) _ c.loop-i.invariant c.in-Ok.ensures.ok)
+    (appends_both _ _ _ (lines_of f (take c.loop-i.i y.terms)) (f (term_at y c.loop-i.i) ++ codes "\n") c.loop-i.invariant c.in-Ok.ensures.ok)
 
 pub returns-clause-ok : goal.returns-clause-ok
 returns-clause-ok g c =
