@@ -5,6 +5,7 @@ use crate::{Finish, Named, Place, RunFault, RunOptions, Source, run, run_at};
 use std::alloc::{AllocError, Global};
 use std::io;
 use std::io::{ErrorKind, Read, Write};
+use std::process::Abort;
 use std::test::Fail;
 
 const ADD: &str = "REC-SPEC Add
@@ -112,9 +113,11 @@ EVAL h(z)
 END-SPEC
 ";
 
-const HIT: &str = "REC-SPEC Hit SORTS Nat Pair CONS z : -> Nat s : Nat -> Nat p : Nat Nat -> Pair OPNS k : Nat -> Nat d : Nat -> Pair VARS X : Nat RULES k(z) -> z k(s(X)) -> k(X) d(X) -> p(k(X),k(X)) EVAL d(s(s(z))) END-SPEC";
+const HIT: &str =
+    "REC-SPEC Hit SORTS Nat Pair CONS z : -> Nat s : Nat -> Nat p : Nat Nat -> Pair OPNS k : Nat -> Nat d : Nat -> Pair VARS X : Nat RULES k(z) -> z k(s(X)) -> k(X) d(X) -> p(k(X),k(X)) EVAL d(s(s(z))) END-SPEC";
 
-const IDLE: &str = "REC-SPEC Idle SORTS Nat Pair CONS z : -> Nat s : Nat -> Nat p : Nat Nat -> Pair OPNS h : Nat -> Nat f : Nat -> Nat d : Nat -> Pair VARS X : Nat RULES h(X) -> z if X -><- s(z) f(X) -> z d(X) -> p(f(X),f(X)) EVAL f(h(z)) d(h(z)) END-SPEC";
+const IDLE: &str =
+    "REC-SPEC Idle SORTS Nat Pair CONS z : -> Nat s : Nat -> Nat p : Nat Nat -> Pair OPNS h : Nat -> Nat f : Nat -> Nat d : Nat -> Pair VARS X : Nat RULES h(X) -> z if X -><- s(z) f(X) -> z d(X) -> p(f(X),f(X)) EVAL f(h(z)) d(h(z)) END-SPEC";
 
 const TITLE: &str = "REC-SPEC E END-SPEC";
 
@@ -129,7 +132,12 @@ const SECTIONS: [&str; 6] = [
 ];
 
 /// The specification with one section changed, and with a text after it.
-fn with_section(alloc: Global, changed: usize, section: &str, after: &str) -> Result<String, AllocError> {
+fn with_section(
+    alloc: Global,
+    changed: usize,
+    section: &str,
+    after: &str,
+) -> Result<String, AllocError> {
     let mut text = String::from_str(alloc, "REC-SPEC Q ")?;
     for (i, kept) in SECTIONS.iter().enumerate() {
         text.push_str(if i == changed { section } else { kept })?;
@@ -158,7 +166,7 @@ struct Ran {
     written: Vec<u8>,
 }
 
-fn ran(alloc: Global, mut text: &[u8], options: RunOptions) -> Ran {
+fn run_on(alloc: Global, mut text: &[u8], options: RunOptions) -> Ran {
     let mut place = None;
     let mut written = Vec::new(alloc);
     let result = run_at(alloc, &mut text, &mut written, options, &mut place);
@@ -200,7 +208,7 @@ fn values(rt: HostRuntime) {
             result,
             place,
             written,
-        } = ran(rt.alloc(), text.as_bytes(), options(steps, count));
+        } = run_on(rt.alloc(), text.as_bytes(), options(steps, count));
         assert!(rt; result == Ok(Finish::Done) && place == None, "{text}");
         assert_eq!(rt; written.as_slice(), lines.as_bytes(), "{text}");
     }
@@ -221,43 +229,69 @@ fn refusals(rt: HostRuntime) -> Result<(), Fail> {
         (5, "EVAL f(b)", "!spec S7\n", Named::S(7), 97),
         (4, "RULES a -> a", "!spec S8\n", Named::S(8), 80),
         (4, "RULES f(X) -> b", "!spec S9\n", Named::S(9), 80),
-        (4, "RULES f(X) -> X if a -><- b", "!spec S9\n", Named::S(9), 93),
+        (
+            4,
+            "RULES f(X) -> X if a -><- b",
+            "!spec S9\n",
+            Named::S(9),
+            93,
+        ),
         (4, "RULES f(X) -> Y", "!spec S10\n", Named::S(10), 88),
         (5, "EVAL f(X)", "!spec S11\n", Named::S(11), 97),
-        (4, "RULES f(X) -> X and-if a -><- a", "!spec G\n", Named::G, 90),
+        (
+            4,
+            "RULES f(X) -> X and-if a -><- a",
+            "!spec G\n",
+            Named::G,
+            90,
+        ),
         (5, "EVAL f()", "!spec S6\n", Named::S(6), 95),
     ];
     for (changed, section, line, rule, at) in sections {
         let text = with_section(alloc, changed, section, "")?;
-        is_refused(&rt, text.as_str(), line, rule, at);
+        is_refused(&rt, alloc, text.as_str(), line, rule, at);
     }
     let texts = [
-        ("REC-SPEC W SORTS Nat Nat OPNS f : Nat -> Nat VARS X : Nat RULES f(X) -> g(X) END-SPEC", "!spec S1\n", Named::S(1), 21),
-        ("REC-SPEC V SORTS Nat CONS z : -> Nat OPNS f : Nat -> Nat VARS X Y : Nat RULES f(X) -> Y EVAL k END-SPEC", "!spec S5\n", Named::S(5), 93),
+        (
+            "REC-SPEC W SORTS Nat Nat OPNS f : Nat -> Nat VARS X : Nat RULES f(X) -> g(X) END-SPEC",
+            "!spec S1\n",
+            Named::S(1),
+            21,
+        ),
+        (
+            "REC-SPEC V SORTS Nat CONS z : -> Nat OPNS f : Nat -> Nat VARS X Y : Nat RULES f(X) -> Y EVAL k END-SPEC",
+            "!spec S5\n",
+            Named::S(5),
+            93,
+        ),
         ("REC-SPEC E SORTS : END-SPEC", "!spec G\n", Named::G, 17),
         ("REC-SPEC E", "!spec G\n", Named::G, 10),
         ("REC-SPEC if END-SPEC", "!spec G\n", Named::G, 9),
         ("REC-SPEC E OPNS CONS END-SPEC", "!spec G\n", Named::G, 16),
     ];
     for (text, line, rule, at) in texts {
-        is_refused(&rt, text, line, rule, at);
+        is_refused(&rt, alloc, text, line, rule, at);
     }
     let text = with_section(alloc, 0, SECTIONS[0], "a")?;
-    is_refused(&rt, text.as_str(), "!spec G\n", Named::G, 109);
+    is_refused(&rt, alloc, text.as_str(), "!spec G\n", Named::G, 109);
     let unended = ADD.strip_suffix("END-SPEC\n").ok_or("no end")?;
-    is_refused(&rt, unended, "!spec G\n", Named::G, 184);
+    is_refused(&rt, alloc, unended, "!spec G\n", Named::G, 184);
     let text = with_section(alloc, 0, SECTIONS[0], "")?;
-    let Ran { result, written, .. } = ran(alloc, text.as_bytes(), options(1, false));
+    let Ran {
+        result,
+        written,
+        ..
+    } = run_on(alloc, text.as_bytes(), options(1, false));
     assert!(rt; result == Ok(Finish::Done) && written.as_slice() == b"a\n".as_slice());
     Ok(())
 }
 
-fn is_refused(rt: &HostRuntime, text: &str, line: &str, rule: Named, at: u32) {
+fn is_refused(rt: &impl Abort, alloc: Global, text: &str, line: &str, rule: Named, at: u32) {
     let Ran {
         result,
         place,
         written,
-    } = ran(rt.alloc(), text.as_bytes(), options(0, false));
+    } = run_on(alloc, text.as_bytes(), options(0, false));
     let due = Place {
         text: Source::Spec,
         rule,
@@ -369,7 +403,10 @@ fn reads_fail(rt: HostRuntime) {
         spec.fails_at = k;
         let mut out = taking(rt.alloc());
         let result = run(rt.alloc(), &mut spec, &mut out, options(2, false));
-        assert!(rt; result == Err(RunFault::Read) && out.held.is_empty(), "read {k}");
+        assert!(rt;
+            result == Err(RunFault::Read) && out.held.is_empty(),
+            "read {k}"
+        );
     }
 }
 
@@ -404,15 +441,17 @@ fn limit_of_bytes(rt: HostRuntime) -> Result<(), Fail> {
     let mut text = Vec::from_slice(alloc, TITLE.as_bytes())?;
     text.resize(LIMIT, b' ')?;
     let Ran {
-        result, written, ..
-    } = ran(alloc, &text, options(0, false));
+        result,
+        written,
+        ..
+    } = run_on(alloc, &text, options(0, false));
     assert!(rt; result == Ok(Finish::Done) && written.is_empty());
     text.push(b' ')?;
     let Ran {
         result,
         place,
         written,
-    } = ran(alloc, &text, options(0, false));
+    } = run_on(alloc, &text, options(0, false));
     assert!(rt; result == Ok(Finish::Refused) && place == None);
     assert!(rt; written.as_slice() == b"!spec L1\n".as_slice());
     let mut out = taking(alloc);
