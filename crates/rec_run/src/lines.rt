@@ -94,8 +94,10 @@ fn write_line<W: Write>(
 {
     let outcome = evaluate_term(alloc, checked, i, options.steps)?;
     write_answer(alloc, checked, &outcome, out, options)?;
-    put(out, b"\n")?;
-    Ok(())
+    match put(out, b"\n") {
+        Ok(()) => Ok(()),
+        Err(Stopped) => Err(WriteFault::Write),
+    }
 }
 
 /// Writes what is shown of an answer of the evaluator.

@@ -3,8 +3,7 @@ use Rattle.std.specs.Prelude.{codes}
 use Rattle.std.specs.Io.KnownBytes.{Appends}
 use Rattle.rec_run.specs.Bytes.{AppendsFront}
 use Rattle.rec_run.specs.Reading.{answer_text, line_text, term_at}
-use Rattle.rec_run.specs.declared.printer.WriteFault.TheVariants.{Write}
-use Rattle.rec_run.proofs.Told.{appends_both, front_after, if_err_any, if_err_at}
+use Rattle.rec_run.proofs.Told.{appends_both, front_after, if_err_any}
 use Rattle.rec_run.proofs.LineFronts.{front_within}
 use Rattle.rec_run.proofs.SpecLines.{answer_text-line}
 use Rattle.rec_run.proofs.lines.write_line.Goals as goal
@@ -17,17 +16,16 @@ returns-in_err-write_answer-clause-err g c =
     (λ fault. front_within fault (line_text y c.args.options.count c.args.options.steps (term_at y c.args.i)) _ _
     (subst (λ text. AppendsFront text (g.W.Write.contents c.args.out.now) (g.W.Write.contents c.write_answer.new.out)) e c.in_err-write_answer.ensures.err))
 
-pub returns-in_err-put-clause-err : goal.returns-in_err-put-clause-err
-returns-in_err-put-clause-err g c =
+pub returns-in-Err-clause-err : goal.returns-in-Err-clause-err
+returns-in-Err-clause-err g c =
     let y = c.args.checked.now.spec in
     let e = answer_text-line y c.args.options.count c.args.options.steps c.args.i c.in_ok-outcome.outcome c.requires c.in_ok-outcome.ensures.exact c.in_ok-outcome.ensures.within in
-    if_err_at c.from_residual-in_err-put.result _ Write c.from_residual-in_err-put.ensures.1
-    (front_after _ _ _ (line_text y c.args.options.count c.args.options.steps (term_at y c.args.i)) (codes "\n")
-    (subst (λ text. Appends (g.W.Write.contents c.args.out.now) (g.W.Write.contents c.write_answer.new.out) text) e c.in_ok-write_answer.ensures.ok) c.in_err-put.ensures.err)
+    front_after _ _ _ (line_text y c.args.options.count c.args.options.steps (term_at y c.args.i)) (codes "\n")
+    (subst (λ text. Appends (g.W.Write.contents c.args.out.now) (g.W.Write.contents c.write_answer.new.out) text) e c.in_ok-write_answer.ensures.ok) c.in-Err.ensures.err
 
-pub returns-clause-ok : goal.returns-clause-ok
-returns-clause-ok g c =
+pub returns-in-Ok-clause-ok : goal.returns-in-Ok-clause-ok
+returns-in-Ok-clause-ok g c =
     let y = c.args.checked.now.spec in
     let e = answer_text-line y c.args.options.count c.args.options.steps c.args.i c.in_ok-outcome.outcome c.requires c.in_ok-outcome.ensures.exact c.in_ok-outcome.ensures.within in
     appends_both _ _ _ (line_text y c.args.options.count c.args.options.steps (term_at y c.args.i)) (codes "\n")
-    (subst (λ text. Appends (g.W.Write.contents c.args.out.now) (g.W.Write.contents c.write_answer.new.out) text) e c.in_ok-write_answer.ensures.ok) c.in_ok-put.ensures.ok
+    (subst (λ text. Appends (g.W.Write.contents c.args.out.now) (g.W.Write.contents c.write_answer.new.out) text) e c.in_ok-write_answer.ensures.ok) c.in-Ok.ensures.ok

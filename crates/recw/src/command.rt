@@ -1,0 +1,55 @@
+//! The command line, and its help.
+
+use clap::{Arg, ArgAction, Command, value_parser};
+use std::alloc::{AllocError, Global};
+
+pub const MOST_STEPS: u64 = 1_000_000_000_000_000_000;
+
+/// The command without the program's name before its words.
+pub fn command<'a>(alloc: Global) -> Result<Command<'a>, AllocError> {
+    Command::new(alloc, "recw")
+        .no_binary_name(true)
+        .bin_name("recw")?
+        .subcommand_required(true)
+        .override_usage("recw [COMMAND]")
+        .about("Evaluate REC specifications")
+        .after_help(
+            "With no arguments, recw evaluates the specification on standard input.\n\n\
+             Exit status: 0 done, 1 the text was refused, 2 wrong arguments,\n\
+             3 out of memory or cells, 4 a read or a write failed.",
+        )
+        .subcommand(eval_command(alloc)?)
+}
+
+fn eval_command<'a>(alloc: Global) -> Result<Command<'a>, AllocError> {
+    Command::new(alloc, "eval")
+        .about("Evaluate the terms of a REC specification")
+        .after_help("Example: recw eval --steps 500 add.rec")
+        .arg(file(
+            alloc,
+            "SPEC",
+            "File of the specification [default: standard input]",
+        ))?
+        .arg(steps(alloc))?
+        .arg(count(alloc))
+}
+
+fn file<'a>(alloc: Global, name: &'a str, help: &'a str) -> Arg<'a> {
+    Arg::new(alloc, name).help(help)
+}
+
+fn steps<'a>(alloc: Global) -> Arg<'a> {
+    Arg::new(alloc, "steps")
+        .long("steps")
+        .value_name("N")
+        .value_parser(value_parser!(u64).range(0..=MOST_STEPS as i64))
+        .default_value("1000000")
+        .help("Most steps that a term may take, up to 10^18")
+}
+
+fn count<'a>(alloc: Global) -> Arg<'a> {
+    Arg::new(alloc, "count")
+        .long("count")
+        .action(ArgAction::SetTrue)
+        .help("Print the steps that each term took behind its value")
+}

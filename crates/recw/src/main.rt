@@ -1,0 +1,41 @@
+//! Reads the words of the command line, does what they ask, and ends with its status.
+#![tactic(auto)]
+
+mod command;
+mod opened;
+mod program;
+mod report;
+mod request;
+#[cfg(test)]
+mod tests;
+
+use program::program;
+use std::alloc::Global;
+use std::env;
+use std::io::{self, BufWriter};
+use std::process::ExitCode;
+
+const OUT_CAPACITY: usize = 65_536;
+
+fn main(rt: HostRuntime) -> ExitCode {
+    let status = match start(&rt, rt.alloc()) {
+        Ok(status) => status,
+        Err(error) => report::failed_start(&error, &mut rt.stderr()),
+    };
+    ExitCode::from(status)
+}
+
+/// Fails where a word is no text, and where there is no memory.
+fn start(rt: &HostRuntime, alloc: Global) -> io::Result<u8> {
+    let given: Vec<String> = env::args(rt)?.skip(1).collect(alloc)?;
+    let words: Vec<&str> = given.iter().map(|word| word.as_str()).collect(alloc)?;
+    let mut out = BufWriter::with_capacity(alloc, OUT_CAPACITY, rt.stdout())?;
+    Ok(program(
+        rt,
+        alloc,
+        words.as_slice(),
+        &mut rt.stdin(),
+        &mut out,
+        &mut rt.stderr(),
+    ))
+}

@@ -1,0 +1,37 @@
+//! What a run reads.
+use rec_run::RunFault;
+use std::fs::File;
+use std::io;
+use std::io::Read;
+use std::rt::Files;
+
+/// The standard input, or a file.
+#[derive(Drop)]
+pub enum Opened<'a, R, F> {
+    Input(&'a mut R),
+    File(F),
+}
+
+impl<R: Read, F: Read> Read for Opened<'_, R, F> {
+    fn read(&mut self, buf: &mut [u8]) -> io::Result<usize> {
+        match self {
+            Opened::Input(input) => input.read(buf),
+            Opened::File(file) => file.read(buf),
+        }
+    }
+}
+
+/// The file at `path`, or else the standard input.
+pub fn open<'a, H: Files, R: Read>(
+    rt: &H,
+    path: Option<&str>,
+    input: &'a mut R,
+) -> Result<Opened<'a, R, H::File>, RunFault> {
+    match path {
+        None => Ok(Opened::Input(input)),
+        Some(path) => match File::open(rt, path) {
+            Ok(file) => Ok(Opened::File(file)),
+            Err(_) => Err(RunFault::Read),
+        },
+    }
+}

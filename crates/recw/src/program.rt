@@ -1,0 +1,59 @@
+//! Does what the words ask.
+
+use crate::opened::open;
+use crate::report;
+use crate::request::{Request, read_words};
+use rec_run::{Finish, Place, RunFault, run_at};
+use std::alloc::Global;
+use std::io::{Read, Write};
+use std::rt::Files;
+
+/// Does what the words after the program's name ask, and gives the exit status. No words ask for an
+/// evaluation.
+pub fn program<H: Files, R: Read, W: Write, E: Write>(
+    rt: &H,
+    alloc: Global,
+    words: &[&str],
+    input: &mut R,
+    out: &mut W,
+    err: &mut E,
+) -> u8 {
+    if words.is_empty() {
+        return obey(rt, alloc, read_words(alloc, &["eval"]), input, out, err);
+    }
+    obey(rt, alloc, read_words(alloc, words), input, out, err)
+}
+
+fn obey<H: Files, R: Read, W: Write, E: Write>(
+    rt: &H,
+    alloc: Global,
+    asked: Result<Request<'_>, clap::Error>,
+    input: &mut R,
+    out: &mut W,
+    err: &mut E,
+) -> u8 {
+    match asked {
+        Ok(request) => {
+            let mut place = None;
+            let end = perform(rt, alloc, request, input, out, &mut place);
+            report::ended(end, place, err)
+        }
+        Err(error) => report::refused_words(&error, out, err),
+    }
+}
+
+fn perform<H: Files, R: Read, W: Write>(
+    rt: &H,
+    alloc: Global,
+    request: Request<'_>,
+    input: &mut R,
+    out: &mut W,
+    place: &mut Option<Place>,
+) -> Result<Finish, RunFault> {
+    match request {
+        Request::Eval { options, spec } => {
+            let mut spec = open(rt, spec, input)?;
+            run_at(alloc, &mut spec, out, options, place)
+        }
+    }
+}

@@ -1,0 +1,54 @@
+//! What the words ask for.
+
+use crate::command::{self, MOST_STEPS};
+use clap::error::ErrorKind;
+use clap::{ArgMatches, Error};
+use rec_run::RunOptions;
+use std::alloc::Global;
+
+const CELLS: u32 = 16_777_216;
+
+const MEMO: u32 = 65_536;
+
+const RECLAIM: u32 = 262_144;
+
+#[derive(Clone, Copy, Debug)]
+pub enum Request<'a> {
+    /// Evaluate a specification, which stands in a file or on the standard input.
+    Eval {
+        options: RunOptions,
+        spec: Option<&'a str>,
+    },
+}
+
+/// What the words after the program's name ask for.
+pub fn read_words<'a>(alloc: Global, words: &'a [&str]) -> Result<Request<'a>, Error> {
+    let mut command = command::command(alloc)?;
+    let matches = command.try_get_matches_from_mut(words)?;
+    match request_of(&matches) {
+        Some(request) => Ok(request),
+        None => Err(command.error(ErrorKind::MissingSubcommand, "a subcommand is missing")?),
+    }
+}
+
+/// `None` where a word is missing, which the command rules out.
+fn request_of<'a>(matches: &ArgMatches<'a>) -> Option<Request<'a>> {
+    let (name, inner) = matches.subcommand()?;
+    match name {
+        "eval" => Some(Request::Eval {
+            options: options_of(inner)?,
+            spec: inner.get_str("SPEC"),
+        }),
+        _ => None,
+    }
+}
+
+fn options_of(matches: &ArgMatches<'_>) -> Option<RunOptions> {
+    Some(RunOptions {
+        steps: matches.get_one::<u64>("steps")?.min(MOST_STEPS),
+        cells: CELLS,
+        memo: MEMO,
+        reclaim: RECLAIM,
+        count: matches.get_flag("count"),
+    })
+}

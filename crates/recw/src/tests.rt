@@ -1,0 +1,168 @@
+//! The words of the command line, the exit statuses and what the two outputs say.
+
+use crate::program::program;
+use std::io;
+use std::io::Write;
+use std::test::Fail;
+
+const ADDITION: &str =
+    "REC-SPEC Add SORTS Nat CONS z : -> Nat s : Nat -> Nat OPNS plus : Nat Nat -> Nat VARS X Y : Nat RULES plus(z,Y) -> Y plus(s(X),Y) -> s(plus(X,Y)) EVAL plus(s(s(z)),s(z)) END-SPEC";
+
+#[derive(Drop)]
+struct Ran {
+    status: u8,
+    out: String,
+    err: String,
+}
+
+fn run(rt: &HostRuntime, words: &[&str], text: &str) -> Result<Ran, Fail> {
+    let alloc = rt.alloc();
+    let mut out = Vec::new(alloc);
+    let mut err = Vec::new(alloc);
+    let mut input = text.as_bytes();
+    let status = program(rt, alloc, words, &mut input, &mut out, &mut err);
+    Ok(Ran {
+        status,
+        out: String::from_utf8(out)?,
+        err: String::from_utf8(err)?,
+    })
+}
+
+#[test]
+fn ends_with_its_status(rt: HostRuntime) -> Result<(), Fail> {
+    let rows: [(&[&str], &str, u8, &str, &str); 11] = [
+        (&[], ADDITION, 0, "s(s(s(z)))\n", ""),
+        (&["eval"], ADDITION, 0, "s(s(s(z)))\n", ""),
+        (&["eval", "--steps", "2"], ADDITION, 0, "!limit 2\n", ""),
+        (
+            &["eval", "--steps=1000000000000000000", "--count"],
+            ADDITION,
+            0,
+            "s(s(s(z)))\t3\n",
+            "",
+        ),
+        (&["eval"], "REC-SPEC E END-SPEC", 0, "", ""),
+        (
+            &["eval"],
+            "REC-SPEC E SORTS : END-SPEC",
+            1,
+            "!spec G\n",
+            "recw: spec G at byte 17\n",
+        ),
+        (
+            &[],
+            "REC-SPEC W SORTS Nat Nat OPNS f : Nat -> Nat VARS X : Nat RULES f(X) -> g(X) END-SPEC",
+            1,
+            "!spec S1\n",
+            "recw: spec S1 at byte 21\n",
+        ),
+        (
+            &["eval"],
+            "REC-SPEC T SORTS N OPNS f : N -> N VARS X Y : N RULES f(X) -> Y END-SPEC",
+            1,
+            "!spec S10\n",
+            "recw: spec S10 at byte 62\n",
+        ),
+        (
+            &["eval", "/dev/null"],
+            ADDITION,
+            1,
+            "!spec G\n",
+            "recw: spec G at byte 0\n",
+        ),
+        (
+            &["eval", "no such file"],
+            ADDITION,
+            4,
+            "",
+            "recw: read failed\n",
+        ),
+        (&["eval", "/"], ADDITION, 4, "", "recw: read failed\n"),
+    ];
+    for (words, text, status, out, err) in rows {
+        let ran = run(&rt, words, text)?;
+        assert_eq!(rt; ran.status, status, "{words:?}");
+        assert_eq!(rt; ran.out.as_str(), out, "{words:?}");
+        assert_eq!(rt; ran.err.as_str(), err, "{words:?}");
+    }
+    Ok(())
+}
+
+#[test]
+fn refuses_words(rt: HostRuntime) -> Result<(), Fail> {
+    let rows: [&[&str]; 8] = [
+        &["eval", "--steps", "1000000000000000001"],
+        &["eval", "--steps", "-1"],
+        &["eval", "--steps", "x"],
+        &["eval", "--steps"],
+        &["eval", "a", "b"],
+        &["--steps", "3"],
+        &["eval", "-7"],
+        &["share"],
+    ];
+    for words in rows {
+        let Ran { status, out, err } = run(&rt, words, ADDITION)?;
+        assert_eq!(rt; status, 2, "{words:?}");
+        assert_eq!(rt; out.as_str(), "", "{words:?}");
+        assert!(rt; err.as_str().starts_with("error: "), "{words:?}: {err}");
+    }
+    Ok(())
+}
+
+/// A writer that takes nothing.
+#[derive(Drop)]
+struct Full;
+
+impl Write for Full {
+    fn write(&mut self, _buf: &[u8]) -> io::Result<usize> {
+        Err(io::Error::from(io::ErrorKind::StorageFull))
+    }
+
+    fn flush(&mut self) -> io::Result<()> {
+        Ok(())
+    }
+}
+
+#[test]
+fn reports_a_full_output(rt: HostRuntime) -> Result<(), Fail> {
+    let rows: [&[&str]; 2] = [&["--help"], &["eval"]];
+    for words in rows {
+        let mut err = Vec::new(rt.alloc());
+        let mut input = ADDITION.as_bytes();
+        let status = program(&rt, rt.alloc(), words, &mut input, &mut Full, &mut err);
+        assert_eq!(rt; status, 4, "{words:?}");
+        assert_eq!(rt;
+            err.as_slice(),
+            b"recw: write failed\n".as_slice(),
+            "{words:?}"
+        );
+    }
+    Ok(())
+}
+
+const EVAL_HELP: &str = "Evaluate the terms of a REC specification
+
+Usage: recw eval [OPTIONS] [SPEC]
+
+Arguments:
+  [SPEC]  File of the specification [default: standard input]
+
+Options:
+      --steps <N>  Most steps that a term may take, up to 10^18 [default: 1000000]
+      --count      Print the steps that each term took behind its value
+  -h, --help       Print help
+
+Example: recw eval --steps 500 add.rec
+";
+
+#[test]
+fn shows_help(rt: HostRuntime) -> Result<(), Fail> {
+    let rows: [&[&str]; 3] = [&["eval", "-h"], &["eval", "--help"], &["help", "eval"]];
+    for words in rows {
+        let Ran { status, out, err } = run(&rt, words, "")?;
+        assert_eq!(rt; status, 0, "{words:?}");
+        assert_eq!(rt; out.as_str(), EVAL_HELP, "{words:?}");
+        assert_eq!(rt; err.as_str(), "", "{words:?}");
+    }
+    Ok(())
+}
