@@ -78,6 +78,10 @@ line_text y counted n t = shown counted n (Eval y n [] t)
 abbrev pub term_at : Spec → ℕ → Term
 term_at y i = get_or y.terms i (Apply nameless syntax.none)
 
+-- the text of its line
+abbrev pub text_at : Spec → Bool → ℕ → ℕ → List ℕ
+text_at y counted n i = line_text y counted n (term_at y i)
+
 -- what is shown of an answer of the evaluator
 abbrev pub answer_text : Spec → Bool → ℕ → Outcome → List ℕ
 answer_text y counted n (outcome.Value v steps) = canon (tree_of_value y v) ++ steps_text counted steps

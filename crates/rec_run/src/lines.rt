@@ -4,7 +4,7 @@ ghost use Rattle.std.specs.Prelude.{◌≡◌, ◌<◌, ◌++◌, [], IfErr, OnO
 ghost use Rattle.std.specs.Io.KnownBytes.{Appends};
 ghost use Rattle.rec_run.specs.Bytes.{AppendsFront};
 ghost use Rattle.rec_run.specs.Output.{steps_text, lines};
-ghost use Rattle.rec_run.specs.Reading.{name_of_refusal, refusal_line, line_text, term_at, answer_text, within, raised};
+ghost use Rattle.rec_run.specs.Reading.{name_of_refusal, refusal_line, text_at, answer_text, within, raised};
 ghost use Rattle.rec_run.specs.Run.{Stops};
 ghost use Rattle.rec_run.specs.Evaluated.{IsAnswer};
 
@@ -58,8 +58,10 @@ pub(crate) fn write_lines<W: Write>(
     out: &mut W,
     options: RunOptions,
 ) -> Result<(), RunFault>
-    ensures ok { OnOk result (Appends (W.contents out.old) (W.contents out.new) (lines checked.now.spec [] options.count options.steps)) }
-    ensures err { IfErr result (λ fault. Stops fault (lines checked.now.spec [] options.count options.steps) (W.contents out.old) (W.contents out.new)) }
+    ensures ok { OnOk result (Appends (W.contents out.old) (W.contents out.new)
+        (lines checked.now.spec [] options.count options.steps)) }
+    ensures err { IfErr result (λ fault. Stops fault (lines checked.now.spec [] options.count options.steps)
+        (W.contents out.old) (W.contents out.new)) }
 {
     for i in 0..checked.terms().len() {
         match write_line(alloc, checked, i, out, options) {
@@ -89,8 +91,10 @@ fn write_line<W: Write>(
     options: RunOptions,
 ) -> Result<(), WriteFault>
     requires { i < length checked.now.spec.terms }
-    ensures ok { OnOk result (Appends (W.contents out.old) (W.contents out.new) (line_text checked.now.spec options.count options.steps (term_at checked.now.spec i) ++ codes "\n")) }
-    ensures err { IfErr result (λ fault. AppendsFront (within fault (line_text checked.now.spec options.count options.steps (term_at checked.now.spec i))) (W.contents out.old) (W.contents out.new)) }
+    ensures ok { OnOk result (Appends (W.contents out.old) (W.contents out.new)
+        (text_at checked.now.spec options.count options.steps i ++ codes "\n")) }
+    ensures err { IfErr result (λ fault. AppendsFront (within fault (text_at checked.now.spec options.count options.steps i))
+        (W.contents out.old) (W.contents out.new)) }
 {
     let outcome = evaluate_term(alloc, checked, i, options.steps)?;
     write_answer(alloc, checked, &outcome, out, options)?;
@@ -109,8 +113,10 @@ fn write_answer<W: Write>(
     options: RunOptions,
 ) -> Result<(), WriteFault>
     requires { IsAnswer checked.now.spec options.steps outcome.now }
-    ensures ok { OnOk result (Appends (W.contents out.old) (W.contents out.new) (answer_text checked.now.spec options.count options.steps outcome.now)) }
-    ensures err { OnErr result (AppendsFront (answer_text checked.now.spec options.count options.steps outcome.now) (W.contents out.old) (W.contents out.new)) }
+    ensures ok { OnOk result (Appends (W.contents out.old) (W.contents out.new)
+        (answer_text checked.now.spec options.count options.steps outcome.now)) }
+    ensures err { OnErr result (AppendsFront (answer_text checked.now.spec options.count options.steps outcome.now)
+        (W.contents out.old) (W.contents out.new)) }
 {
     match outcome {
         Outcome::Value { value, steps } => {

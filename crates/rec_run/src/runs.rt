@@ -77,7 +77,8 @@ pub fn run_at<R: Read, W: Write>(
 
 /// Reads the text of a specification, and judges it.
 fn read_spec_text<R: Read>(alloc: Global, spec: &mut R) -> Result<Reading, ReadFault>
-    ensures { IfOk result (λ reading. IfSome (R.remaining spec.old) (λ bytes. SpecVerdict bytes (verdict_of reading))) }
+    ensures { IfOk result (λ reading. IfSome (R.remaining spec.old)
+        (λ bytes. SpecVerdict bytes (verdict_of reading))) }
 {
     let text = read_all(alloc, spec)?;
     let reading = judge(alloc, &text)?;
@@ -91,8 +92,10 @@ fn write_due<W: Write>(
     out: &mut W,
     options: RunOptions,
 ) -> Result<(), RunFault>
-    ensures ok { OnOk result (Appends (W.contents out.old) (W.contents out.new) (due_of options.count options.steps reading.now).text) }
-    ensures err { IfErr result (λ fault. Stops fault (due_of options.count options.steps reading.now).text (W.contents out.old) (W.contents out.new)) }
+    ensures ok { OnOk result (Appends (W.contents out.old) (W.contents out.new)
+        (due_of options.count options.steps reading.now).text) }
+    ensures err { IfErr result (λ fault. Stops fault (due_of options.count options.steps reading.now).text
+        (W.contents out.old) (W.contents out.new)) }
 {
     match reading {
         Reading::Refused(refusal) => write_refusal(*refusal, out)?,
