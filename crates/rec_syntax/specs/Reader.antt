@@ -6,12 +6,11 @@ use Rattle.rec_syntax.specs.Nodes as nodes
 use Rattle.rec_syntax.specs.Nodes.{newest, joined, made_by, newest_term}
 use Rattle.rec_syntax.specs.Machine as machine
 use Rattle.rec_syntax.specs.Machine.{Frame, Config}
-use Rattle.rec_syntax.specs.Lexemes.{word_of, section_of, token_of}
-use Rattle.rec_syntax.specs.Parts.{words_of, node_of, term_of, condition_of, spec_of, Within, IsTerm, IsRule, AreSections}
+use Rattle.rec_syntax.specs.Lexemes.{word_of, section_of, token_of, Within}
+use Rattle.rec_syntax.specs.Parts.{words_of, node_of, term_of, condition_of, spec_of, IsTerm, IsRule, AreSections}
 use Rattle.rec_syntax.specs.declared.lexer.Span.{Span}
 use Rattle.rec_syntax.specs.declared.lexer.Part.{Part}
 use Rattle.rec_syntax.specs.declared.lexer.Kind.{Kind}
-use Rattle.rec_syntax.specs.declared.lexer.Kind.TheVariants.{Plain}
 use Rattle.rec_syntax.specs.declared.parts.Node.{Node}
 use Rattle.rec_syntax.specs.declared.reader.Symbols.{Symbols}
 use Rattle.rec_syntax.specs.declared.reader.Symbols.TheVariants.{Constructors, Operators}
@@ -134,11 +133,6 @@ HoldsDue bytes d r = Unit {0}
 pub record IsState (bytes : List ℕ) (d : Due) (r : Reader) : Type 0 where
   pub sections : AreSections bytes r.sections
   pub due : HoldsDue bytes d r
-
--- a token's word lies within the text
-abbrev pub IsToken : List ℕ → Kind → Type 0
-IsToken bytes (Plain s) = Within bytes s
-IsToken bytes k = Unit {0}
 
 -- a step of the machine, unless memory ran out
 abbrev pub Moves : List ℕ → Option Config → Result Due Stop → Reader → Type 0

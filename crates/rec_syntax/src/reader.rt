@@ -3,8 +3,9 @@
 ghost use Rattle.std.specs.Prelude.{◌≡◌, ◌<◌, ◌≤◌, ◌↔◌, [], length, IfOk, IfErr, IsErrOf};
 ghost use Rattle.rec_syntax.specs.Grammar.{SpecText};
 ghost use Rattle.rec_syntax.specs.Answer.{IsPlaced};
-ghost use Rattle.rec_syntax.specs.Parts.{AreSections};
-ghost use Rattle.rec_syntax.specs.Reader.{advance, IsState, IsToken, Moves};
+ghost use Rattle.rec_syntax.specs.Lexemes.{IsToken};
+ghost use Rattle.rec_syntax.specs.Machine.{start};
+ghost use Rattle.rec_syntax.specs.Reader.{config_of, advance, IsState, Moves};
 
 mod items;
 mod terms;
@@ -92,6 +93,7 @@ pub struct Reader {
 impl Reader {
     fn new(alloc: Global, source: Vec<u8>) -> Self
         ensures source { result.source ≡ source }
+        ensures start { config_of source.items Due.Start result ≡ start }
         ensures state { IsState source.items Due.Start result }
     {
         Reader {

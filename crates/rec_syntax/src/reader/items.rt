@@ -1,10 +1,10 @@
 //! The title, and the items of the sections before the rules.
 
 ghost use Rattle.std.specs.Prelude.{◌≡◌};
-ghost use Rattle.rec_syntax.specs.Lexemes.{word_of, section_of, token_of};
+ghost use Rattle.rec_syntax.specs.Lexemes.{word_of, section_of, token_of, Within, IsToken};
 ghost use Rattle.rec_syntax.specs.Machine.{later, between, item};
-ghost use Rattle.rec_syntax.specs.Parts.{spec_of, Within, AreSections};
-ghost use Rattle.rec_syntax.specs.Reader.{level_of, advance, IsState, IsToken, Moves};
+ghost use Rattle.rec_syntax.specs.Parts.{spec_of, AreSections};
+ghost use Rattle.rec_syntax.specs.Reader.{level_of, advance, IsState, Moves};
 
 use super::{Due, Reader, Role, Stop, Symbols};
 use crate::lexer::{Kind, Part, Span};

@@ -1,12 +1,12 @@
 //! Terms, and the rules and the terms to evaluate that are made of them.
 
 ghost use Rattle.std.specs.Prelude.{◌≡◌, []};
-ghost use Rattle.rec_syntax.specs.Lexemes.{token_of};
+ghost use Rattle.rec_syntax.specs.Lexemes.{token_of, IsToken};
 ghost use Rattle.rec_syntax.specs.Machine as machine;
 ghost use Rattle.rec_syntax.specs.Machine.{complete};
 ghost use Rattle.rec_syntax.specs.Nodes.{newest_term};
 ghost use Rattle.rec_syntax.specs.Parts.{term_of, spec_of, IsTerm, IsCondition, IsRule, AreSections};
-ghost use Rattle.rec_syntax.specs.Reader.{role_of, made_of, advance, IsRole, IsState, IsToken, Moves};
+ghost use Rattle.rec_syntax.specs.Reader.{role_of, made_of, advance, IsState, Moves};
 
 use super::{Call, Due, Reader, Role, Stop};
 use crate::lexer::{Kind, Part, Span};
