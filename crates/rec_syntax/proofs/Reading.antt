@@ -11,7 +11,7 @@ use Rattle.rec_syntax.specs.Machine as machine
 use Rattle.rec_syntax.specs.Machine.{Frame, In, complete, between, with_rule, to}
 use Rattle.rec_syntax.specs.Lexemes.{word_of, token_of}
 use Rattle.rec_syntax.specs.Parts.{term_of, condition_of, rule_of, spec_of, Within, IsTerm, IsCondition, IsRule, AreSections}
-use Rattle.rec_syntax.specs.Reader.{role_of, made_of, frames_of, rest, config_of, IsRole, IsStack, IsState, Moves}
+use Rattle.rec_syntax.specs.Reader.{role_of, made_of, frames_of, rest, config_of, advance, IsRole, IsStack, IsState, Moves}
 use Rattle.rec_syntax.specs.declared.lexer.Span.{Span}
 use Rattle.rec_syntax.specs.declared.lexer.Kind.{Kind}
 use Rattle.rec_syntax.specs.declared.lexer.Kind.TheVariants.{Open, AndIf}
@@ -113,8 +113,12 @@ condition_ends bytes s rules rule v c k result r h e f m =
     let cs = map (condition_of bytes) rule.conditions.items in
     let y = spec_of bytes s in
     let all : map (rule_of bytes) rules.items ≡ map (rule_of bytes) s.rules.items ++ record { left = l; right = t; conditions = cs ++ condition_of bytes c ∷ [] } ∷ [] =
-        rw f (map-append (rule_of bytes) s.rules.items (record rule { conditions = v } ∷ [])
-        ∙ ap (λ (ds : List syntax.Condition). map (rule_of bytes) s.rules.items ++ record { left = l; right = t; conditions = ds } ∷ []) (conditions_are bytes rule.conditions.items c v.items e)) in
+    rw f (map-append (rule_of bytes) s.rules.items (record rule { conditions = v } ∷ [])
+    ∙ ap (λ (ds : List syntax.Condition). map (rule_of bytes) s.rules.items ++ record { left = l; right = t; conditions = ds } ∷ []) (conditions_are bytes rule.conditions.items c v.items e)) in
     let same = ap (λ (rs : List syntax.Rule). between (In Rules) (record y { rules = rs }) (token_of bytes k)) all
-        ∙ sym (rule_ends bytes l t cs (term_of bytes c.left) c.equal (term_of bytes c.right) y k h) in
+    ∙ sym (rule_ends bytes l t cs (term_of bytes c.left) c.equal (term_of bytes c.right) y k h) in
     subst (λ o. Moves bytes o result r) same m
+
+-- a step on a text is one on an equal text
+pub moved : (bytes text : List ℕ) (d : Due) (r after : Reader) (k : Kind) (result : Result Due Stop) → bytes ≡ text → Moves bytes (advance bytes d r k) result after → Moves text (advance text d r k) result after
+moved bytes text d r after k result e m = subst (λ (bs : List ℕ). Moves bs (advance bs d r k) result after) e m
