@@ -170,10 +170,7 @@ fn read(alloc: Global, source: Vec<u8>) -> Result<Syntax, SyntaxFault>
             }
         };
         if let Kind::End = lexeme.kind {
-            return Ok(Syntax {
-                source: reader.source,
-                sections: reader.sections,
-            });
+            return Ok(Syntax::new(reader.source, reader.sections));
         }
         from = lexeme.to;
     }

@@ -38,7 +38,8 @@ returns-in-End-clause-spelled c =
     let m = rw c.in-End.is at moves in
     let text : SpecText bytes (spec_of bytes r.sections) = spelled bytes (config_of bytes l.due l.reader) (config_of bytes c.in-Ok.due r) (tokens_from bytes l.from) x.at l.invariant.decides cut m.0 in
     let same : r.source ≡ c.args.source = c.step.ensures.same ∙ l.invariant.same in
-    subst (λ (v : Vec ℕ Global). SpecText bytes (spec_of v.items r.sections)) (sym same) text
+    let read : SpecText bytes (spec_of r.source.items r.sections) = subst (λ (v : Vec ℕ Global). SpecText bytes (spec_of v.items r.sections)) (sym same) text in
+    subst (SpecText bytes) (sym c.new.ensures.spec) read
 
 pub loop-due-preserved : goal.loop-due-preserved
 loop-due-preserved c =
