@@ -12,6 +12,7 @@ use Rattle.rec_syntax.specs.declared.lexer.Span.{Span}
 use Rattle.rec_syntax.specs.declared.lexer.Part.{Part}
 use Rattle.rec_syntax.specs.declared.lexer.Kind.{Kind}
 use Rattle.rec_syntax.specs.declared.parts.Node.{Node}
+use Rattle.rec_syntax.specs.declared.parts.Term.{Term}
 use Rattle.rec_syntax.specs.declared.reader.Symbols.{Symbols}
 use Rattle.rec_syntax.specs.declared.reader.Symbols.TheVariants.{Constructors, Operators}
 use Rattle.rec_syntax.specs.declared.reader.Role.{Role}
@@ -139,3 +140,15 @@ abbrev pub Moves : List ℕ → Option Config → Result Due Stop → Reader →
 Moves bytes moved (Ok d) r = (moved ≡ Some (config_of bytes d r)) × IsState bytes d r
 Moves bytes moved (Err stop.Refused) r = moved ≡ None
 Moves bytes moved (Err stop.Memory) r = Unit {0}
+
+-- the reader is in a state, with this due
+abbrev pub IsAt : Due → Reader → Type 0
+IsAt d r = IsState r.source.items d r
+
+-- where this is due, a token leads to where the machine goes
+abbrev pub Steps : Due → Reader → Kind → Result Due Stop → Reader → Type 0
+Steps d r k result after = Moves r.source.items (advance r.source.items d r k) result after
+
+-- behind a whole term in this role, a token leads to where the machine goes
+abbrev pub Completes : Role → Term → Reader → Kind → Result Due Stop → Reader → Type 0
+Completes p t r k result after = Moves r.source.items (machine.complete (role_of r.source.items p) (term_of r.source.items t) (spec_of r.source.items r.sections) (token_of r.source.items k)) result after

@@ -5,7 +5,7 @@ ghost use Rattle.rec_syntax.specs.Grammar.{SpecText};
 ghost use Rattle.rec_syntax.specs.Answer.{IsPlaced};
 ghost use Rattle.rec_syntax.specs.Lexemes.{IsToken};
 ghost use Rattle.rec_syntax.specs.Machine.{start};
-ghost use Rattle.rec_syntax.specs.Reader.{config_of, advance, IsState, Moves};
+ghost use Rattle.rec_syntax.specs.Reader.{config_of, IsState, IsAt, Steps};
 
 mod items;
 mod terms;
@@ -117,9 +117,9 @@ impl Reader {
 
     // The next token.
     fn step(&mut self, due: Due, token: Kind) -> Result<Due, Stop>
-        requires state { IsState self.old.source.items due self.old }
+        requires state { IsAt due self.old }
         requires token { IsToken self.old.source.items token }
-        ensures moves { Moves self.old.source.items (advance self.old.source.items due self.old token) result self.new }
+        ensures moves { Steps due self.old token result self.new }
         ensures same { self.new.source ≡ self.old.source }
     {
         match due {

@@ -48,7 +48,7 @@ impl Syntax {
         ensures text { result.now ≡ self.now.source }
         ensures short { length result.now ≤ LONGEST }
     {
-        &self.source
+        self.source.as_slice()
     }
 
     /// The bytes of a word.
