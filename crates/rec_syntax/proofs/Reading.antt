@@ -1,6 +1,5 @@
 -- The reader's fields behind a step are those of the machine's state.
 use Rattle.std.proofs.Common.{◌≡◌, ℕ, Bool, List, [], ◌∷◌, ◌++◌, map, reverse, Some, Result, Vec, Global, refl, sym, ap, subst, ◌∙◌}
-use Rattle.std.specs.List.{All}
 use Rattle.std.proofs.lemmas.List.{map-append}
 use Rattle.std.proofs.lemmas.List.Elements.{All-push, All-nil}
 use Rattle.rec_syntax.specs.Tokens.{Word, Rules}
@@ -11,7 +10,7 @@ use Rattle.rec_syntax.specs.Machine as machine
 use Rattle.rec_syntax.specs.Machine.{Frame, In, complete, between, with_rule, to}
 use Rattle.rec_syntax.specs.Lexemes.{word_of, token_of}
 use Rattle.rec_syntax.specs.Parts.{term_of, condition_of, rule_of, spec_of, Within, IsTerm, IsCondition, IsRule, AreSections}
-use Rattle.rec_syntax.specs.Reader.{role_of, made_of, frames_of, rest, config_of, advance, IsRole, IsStack, IsState, Moves}
+use Rattle.rec_syntax.specs.Reader.{role_of, made_of, frames_of, rest, config_of, advance, IsRole, IsState, Moves}
 use Rattle.rec_syntax.specs.declared.lexer.Span.{Span}
 use Rattle.rec_syntax.specs.declared.lexer.Kind.{Kind}
 use Rattle.rec_syntax.specs.declared.lexer.Kind.TheVariants.{Open, AndIf}
@@ -27,7 +26,6 @@ use Rattle.rec_syntax.specs.declared.reader.Due.TheVariants.{AtTerm}
 use Rattle.rec_syntax.specs.declared.reader.Call.{Call}
 use Rattle.rec_syntax.specs.declared.reader.Reader.{Reader}
 use Rattle.rec_syntax.specs.declared.reader.Stop.{Stop}
-use Rattle.rec_syntax.proofs.TermStack.{leaf}
 
 -- one more rule
 pub rule_pushed : (bytes : List ℕ) (s : Sections) (v : Vec Rule Global) (r : Rule) → v.items ≡ s.rules.items ++ r ∷ [] → AreSections bytes s → IsRule bytes r → AreSections bytes (record s { rules = v })

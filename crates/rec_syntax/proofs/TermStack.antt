@@ -8,11 +8,10 @@ use Rattle.rec_syntax.specs.Syntax as syntax
 use Rattle.rec_syntax.specs.Syntax.{Terms, Apply, none, more}
 use Rattle.rec_syntax.specs.Nodes as nodes
 use Rattle.rec_syntax.specs.Nodes.{term_count, flat, flat_all, newest, joined, made_by, newest_term, spelled_by}
-use Rattle.rec_syntax.specs.TermCode.{spelled_by-flat}
 use Rattle.rec_syntax.specs.Machine as machine
 use Rattle.rec_syntax.specs.Machine.{Role, snoc, to}
 use Rattle.rec_syntax.specs.Lexemes.{word_of}
-use Rattle.rec_syntax.specs.Parts.{node_of, term_of, Within, IsTerm}
+use Rattle.rec_syntax.specs.Parts.{node_of, Within, IsTerm}
 use Rattle.rec_syntax.specs.Reader.{made_of, frames_of, rest, total, Enough, IsStack}
 use Rattle.rec_syntax.specs.declared.lexer.Span.{Span}
 use Rattle.rec_syntax.specs.declared.parts.Node.{Node}

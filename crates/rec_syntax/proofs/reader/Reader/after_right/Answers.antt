@@ -1,4 +1,3 @@
-use Rattle.std.specs.Prelude.{[]}
 use Rattle.std.proofs.lemmas.List.Elements.{All-nil}
 use Rattle.rec_syntax.specs.Parts.{IsCondition}
 use Rattle.rec_syntax.proofs.Reading.{rule_pushed}
