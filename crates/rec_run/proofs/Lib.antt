@@ -1,5 +1,12 @@
 mod Told
 mod OneDue
+pub mod Walks
+pub mod Moves
+pub mod Congruence
+pub mod Facts
+pub mod ValueLemmas
+pub mod MatchLemmas
+pub mod EvaluationLemmas
 mod EvaluationRows
 mod LargeRows
 mod TermRows

@@ -1,3 +1,7 @@
+pub mod Asking
 pub mod Bytes
+pub mod Evaluated
 pub mod Laws
+pub mod Matched
 pub mod Output
+pub mod Values

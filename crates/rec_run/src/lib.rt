@@ -2,7 +2,11 @@
 #![tactic(auto)]
 
 mod ending;
+mod evaluator;
 pub mod laws;
+mod matching;
+mod printer;
 mod text;
+mod value;
 
 pub use ending::{Finish, Named, Place, RunFault, RunOptions, Source};
