@@ -46,8 +46,7 @@ pub(crate) fn write_value<W: Write>(alloc: Global, checked: &Checked, value: &Va
     ensures ok { OnOk result (Appends (W.contents out.old) (W.contents out.new) (canon (tree_of_value checked.now.spec value.now))) }
     ensures err { OnErr result (AppendsFront (canon (tree_of_value checked.now.spec value.now)) (W.contents out.old) (W.contents out.new)) }
 {
-    let mut pieces = Vec::new(alloc);
-    pieces.push(Piece::Value(value))?;
+    let mut pieces = pieces_of(alloc, value)?;
     while let Some(piece) = pieces.pop() {
         match piece {
             Piece::Mark(mark) => put(out, &[mark])?,
@@ -58,6 +57,13 @@ pub(crate) fn write_value<W: Write>(alloc: Global, checked: &Checked, value: &Va
         }
     }
     Ok(())
+}
+
+/// A stack of one value.
+fn pieces_of<'a>(alloc: Global, value: &'a Value) -> Result<Vec<Piece<'a>>, AllocError> {
+    let mut pieces = Vec::new(alloc);
+    pieces.push(Piece::Value(value))?;
+    Ok(pieces)
 }
 
 /// Puts the arguments of a value on the stack, the first on top, in parentheses and with commas between.

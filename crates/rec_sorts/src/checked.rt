@@ -104,14 +104,16 @@ impl Checked {
 
     /// The letters of the rules.
     pub fn rules(&self) -> &[LetterRule]
-        ensures { Pairwise (IsLetterRule self.now.spec) result.now self.now.spec.rules }
+        ensures kept { fault self.now.spec ≡ None }
+        ensures letters { Pairwise (IsLetterRule self.now.spec) result.now self.now.spec.rules }
     {
         &self.rules
     }
 
     /// The letters of the terms to evaluate.
     pub fn terms(&self) -> &[Vec<Letter>]
-        ensures { Pairwise (λ v t. AreLetters self.now.spec v.items t) result.now self.now.spec.terms }
+        ensures kept { fault self.now.spec ≡ None }
+        ensures letters { Pairwise (λ v t. AreLetters self.now.spec v.items t) result.now self.now.spec.terms }
     {
         &self.terms
     }
