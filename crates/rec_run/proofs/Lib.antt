@@ -8,4 +8,11 @@ mod WholeRuns
 mod DueOfText
 mod OutputRows
 mod RefusalRows
+pub mod Walks
+pub mod Moves
+pub mod Congruence
+pub mod Facts
+pub mod ValueLemmas
+pub mod MatchLemmas
+pub mod EvaluationLemmas
 mod TermRows

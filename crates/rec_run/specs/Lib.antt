@@ -1,6 +1,8 @@
+pub mod Asking
 pub mod Bytes
 pub mod Evaluated
 pub mod Laws
+pub mod Matched
 pub mod Output
 pub mod Reading
 pub mod Run

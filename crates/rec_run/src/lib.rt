@@ -5,6 +5,7 @@ mod ending;
 mod evaluator;
 pub mod laws;
 mod lines;
+mod matching;
 mod printer;
 mod runs;
 #[cfg(test)]

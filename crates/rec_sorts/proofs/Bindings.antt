@@ -16,11 +16,11 @@ use Rattle.rx_term.proofs.TreeLemmas.{same_tree, tree_eq_same}
 use Rattle.rec_sorts.proofs.Kept.{bytes_eq-eq}
 
 -- a list of bytes is the same as itself
-bytes_eq-refl : (bs : List ℕ) → bytes_eq bs bs ≡ true
+pub bytes_eq-refl : (bs : List ℕ) → bytes_eq bs bs ≡ true
 bytes_eq-refl bs = (bytes_eq-Decides bs bs).1 refl
 
 -- whatever a name gives before, it gives with one binding more at the end
-append_keeps : (s : Substitution) (b : Bound) (name : List ℕ) (v : Tree) → value_of s name ≡ Some v → value_of (s ++ (b ∷ [])) name ≡ Some v
+pub append_keeps : (s : Substitution) (b : Bound) (name : List ℕ) (v : Tree) → value_of s name ≡ Some v → value_of (s ++ (b ∷ [])) name ≡ Some v
 append_keeps [] b name v e = absurd (cc e)
 append_keeps (a ∷ s) b name v e = by_name (bytes_eq a.name name) (append_keeps s b name v) e
   where
@@ -45,7 +45,7 @@ append_is (a ∷ s) b name v e P old new = by_name (bytes_eq a.name name) (λ f.
     by_name false later e old = later e old new
 
 -- the last binding counts where the name is not bound before
-append_finds : (s : Substitution) (b : Bound) → value_of s b.name ≡ None → value_of (s ++ (b ∷ [])) b.name ≡ Some b.value
+pub append_finds : (s : Substitution) (b : Bound) → value_of s b.name ≡ None → value_of (s ++ (b ∷ [])) b.name ≡ Some b.value
 append_finds [] b e = ap (λ found. by found) (bytes_eq-refl b.name)
   where
     by : Bool → Option Tree
@@ -75,7 +75,7 @@ bind_first_grows s s' name v h e = by_value (value_of s name)
       keeps = λ x w f. append_keeps s (record { name = name; value = v }) x w f;
     }
 
-bind_first_binds : (s : Substitution) (name : List ℕ) (v : Tree) → (w : Tree) × (value_of (bind_first s name v) name ≡ Some w)
+pub bind_first_binds : (s : Substitution) (name : List ℕ) (v : Tree) → (w : Tree) × (value_of (bind_first s name v) name ≡ Some w)
 bind_first_binds s name v = by_value (value_of s name) refl
   where
     by_value : (o : Option Tree) → value_of s name ≡ o → (w : Tree) × (value_of (bound_or s name v o) name ≡ Some w)
@@ -173,7 +173,7 @@ mutual
 abbrev bound_if : Substitution → Bool → Option Substitution
 bound_if s b = elim b [ true ↦ Some s | false ↦ None ]
 
-is_bound : (s s' : Substitution) (b : Bool) → bound_if s b ≡ Some s' → (s ≡ s') × (b ≡ true)
+pub is_bound : (s s' : Substitution) (b : Bool) → bound_if s b ≡ Some s' → (s ≡ s') × (b ≡ true)
 is_bound s s' true e = let is : s ≡ s' = cc e in (is, refl)
 is_bound s s' false e = absurd (cc e)
 

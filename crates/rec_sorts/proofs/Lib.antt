@@ -9,3 +9,8 @@ pub mod Rewriting
 pub mod Kept
 pub mod Bindings
 pub mod Built
+pub mod LeastPlaces
+pub mod Tables
+pub mod Subterms
+pub mod Stacks
+pub mod Meanings

@@ -5,3 +5,12 @@ pub mod Binding
 pub mod Evaluation
 pub mod Laws
 pub mod Numbering
+pub mod Least
+pub mod Names
+pub mod Scope
+pub mod Letters
+pub mod SortFaults
+pub mod CheckedView
+pub mod Declaring
+pub mod Reading
+pub mod Agreeing

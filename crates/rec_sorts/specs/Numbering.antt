@@ -58,3 +58,11 @@ IsLetterCondition y l c = AreLetters y l.left.items c.left × AreLetters y l.rig
 
 abbrev pub IsLetterRule : Spec → LetterRule → Rule → Type 0
 IsLetterRule y l r = AreLetters y l.left.items r.left × AreLetters y l.right.items r.right × Pairwise (IsLetterCondition y) l.conditions.items r.conditions
+
+-- the number of arguments that a symbol is declared with
+abbrev pub arity_of : Spec → ℕ → ℕ
+arity_of y k = get_or (map (λ d. length d.arguments) (symbols y)) k 0
+
+-- how many variables are declared
+abbrev pub variable_count : Spec → ℕ
+variable_count y = length (variable_words y.variables)

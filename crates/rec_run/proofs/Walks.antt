@@ -1,0 +1,399 @@
+-- Matching in one walk over a left side, its arguments from right to left, and that it finds what `binds` finds.
+use Rattle.std.proofs.Common.{refl, sym, ap, subst, arith, ◌∙◌}
+use Rattle.std.proofs.lemmas.List.{append-nil, reverse-append}
+use Rattle.std.proofs.lemmas.Bool.{eqb-true, eq-eqb}
+use Rattle.std.specs.Prelude.{ℕ, suc, ◌≡◌, Bool, true, false, ◌&&◌, not, List, [], ◌∷◌, ◌++◌, reverse, Option, Some, None, nat_eq, MatchBool, bytes_eq}
+use Rattle.std.proofs.Common.{append_assoc}
+use Rattle.std.specs.Bool.{beq}
+use Rattle.rx_term.specs.Tree.{Tree, Trees, Appl, none, more, tree_eq, trees_eq, count_of}
+use Rattle.rx_term.specs.Name.{plain_name}
+use Rattle.rx_term.proofs.TreeLemmas.{same_tree, tree_eq_same}
+use Rattle.rec_syntax.specs.Tokens.{Word}
+use Rattle.rec_syntax.specs.Syntax.{Term, Terms, Apply, Spec}
+use Rattle.rec_sorts.specs.Lookup.{is_variable, count}
+use Rattle.rec_sorts.specs.TermRules.{arguments}
+use Rattle.rec_sorts.specs.Binding.{Substitution, Bound, value_of, application, instance, instances, binds, bind_first, parts_at_variables, parts_at_variables_all}
+use Rattle.rec_sorts.specs.Laws.{BindsVariables, BindsVariablesAll, IsPartOf, Every}
+use Rattle.rec_sorts.specs.Numbering.{Named, named, named_all}
+use Rattle.rec_run.specs.Asking.{with_one, opened, bound, goes_on, stack_on, asked}
+use Rattle.rec_sorts.proofs.Bindings.{append_keeps, append_finds, append_is, bind_first_binds, is_bound, binding_law}
+
+-- only variables are bound
+abbrev pub BindsOnly : Spec → Substitution → Type 0
+BindsOnly y s = (name : List ℕ) (v : Tree) → value_of s name ≡ Some v → is_variable y name ≡ true
+
+with_one_only : (y : Spec) (s : Substitution) (name : List ℕ) (u : Tree) → is_variable y name ≡ true → BindsOnly y s → BindsOnly y (with_one s name u)
+with_one_only y s name u variable h = λ x v e. append_is s (record { name = name; value = u }) x v e (is_variable y x ≡ true) (λ g. h x v g) (λ is_x is_v. subst (λ n. is_variable y n ≡ true) is_x variable)
+
+with_one_part : (s t : Substitution) (name : List ℕ) (u : Tree) → IsPartOf s t → value_of t name ≡ Some u → IsPartOf (with_one s name u) t
+with_one_part s t name u part e = λ x v g. append_is s (record { name = name; value = u }) x v g (value_of t x ≡ Some v) (λ h. part x v h)
+    (λ is_x is_v. subst (λ n. value_of t n ≡ Some v) is_x (e ∙ ap Some is_v))
+
+-- what a name is not bound to where it is no variable
+unbound : (y : Spec) (s : Substitution) → BindsOnly y s → (name : List ℕ) → is_variable y name ≡ false → value_of s name ≡ None
+unbound y s only name e = by (value_of s name) refl
+  where
+    by : (o : Option Tree) → value_of s name ≡ o → value_of s name ≡ None
+    by None h = h
+    by (Some v) h = absurd (cc (sym e ∙ only name v h))
+
+abbrev mutual
+  pub walk : Spec → Term → Tree → Substitution → Option Substitution
+  walk y (Apply w ts) u s = elim (is_variable y w.bytes) [ true ↦ bound s w.bytes u | false ↦ goes_on (opened w.bytes (count ts) u) (λ us. walk_all y ts us s) ]
+
+  pub walk_all : Spec → Terms → Trees → Substitution → Option Substitution
+  walk_all y Terms.none none s = Some s
+  walk_all y Terms.none (more u us) s = None
+  walk_all y (Terms.more t ts) none s = None
+  walk_all y (Terms.more t ts) (more u us) s = goes_on (walk_all y ts us s) (λ r. walk y t u r)
+
+and_parts : (a b : Bool) → a && b ≡ true → (a ≡ true) × (b ≡ true)
+and_parts true b e = (refl, e)
+and_parts false b e = absurd (cc e)
+
+opened_is : (name : List ℕ) (k : ℕ) (u : Tree) (us : Trees) → opened name k u ≡ Some us → (application name us ≡ u) × (count_of us ≡ k)
+opened_is name k u us e = by (tree_eq (application name (arguments u)) u && nat_eq (count_of (arguments u)) k) refl e
+  where
+    by : (b : Bool) → tree_eq (application name (arguments u)) u && nat_eq (count_of (arguments u)) k ≡ b → ◌≡◌ {A = Option Trees} (elim b [ true ↦ Some (arguments u) | false ↦ None ]) (Some us) → (application name us ≡ u) × (count_of us ≡ k)
+    by false h e = absurd (cc e)
+    by true h e =
+        let is : arguments u ≡ us = cc e in
+        let both = and_parts (tree_eq (application name (arguments u)) u) (nat_eq (count_of (arguments u)) k) h in
+        (subst (λ x. application name x ≡ u) is (same_tree (application name (arguments u)) u both.0),
+         subst (λ x. count_of x ≡ k) is (eqb-true (count_of (arguments u)) k both.1))
+
+pub opened_same : (name : List ℕ) (k : ℕ) (us : Trees) → count_of us ≡ k → opened name k (application name us) ≡ Some us
+opened_same name k us e = by (tree_eq (application name us) (application name us)) (nat_eq (count_of us) k) (tree_eq_same (application name us)) (eq-eqb (count_of us) k e)
+  where
+    by : (a b : Bool) → a ≡ true → b ≡ true → ◌≡◌ {A = Option Trees} (elim (a && b) [ true ↦ Some us | false ↦ None ]) (Some us)
+    by a b e f = ap (λ c. by_test (c && b)) e ∙ ap by_test f
+      where
+        by_test : Bool → Option Trees
+        by_test c = elim c [ true ↦ Some us | false ↦ None ]
+
+abbrev instance_by : Substitution → Word → Terms → Option Tree → Tree
+instance_by s w ts o = elim o [ Some v ↦ v | None ↦ application w.bytes (instances s ts) ]
+
+mutual
+  -- with more bound, a term still has its variables bound, and the same instance
+  grown : (y : Spec) (s s' : Substitution) → IsPartOf s s' → BindsOnly y s' → (t : Term) → BindsVariables y s t → BindsVariables y s' t × (instance s' t ≡ instance s t)
+  grown y s s' part only (Apply w ts) h = by (is_variable y w.bytes) refl h (λ k. grown_all y s s' part only ts k)
+    where
+      by : (b : Bool) → is_variable y w.bytes ≡ b → MatchBool b ((v : Tree) × (value_of s w.bytes ≡ Some v)) ((value_of s w.bytes ≡ None) × BindsVariablesAll y s ts)
+          → (BindsVariablesAll y s ts → BindsVariablesAll y s' ts × (instances s' ts ≡ instances s ts))
+          → MatchBool b ((v : Tree) × (value_of s' w.bytes ≡ Some v)) ((value_of s' w.bytes ≡ None) × BindsVariablesAll y s' ts) × (instance s' (Apply w ts) ≡ instance s (Apply w ts))
+      by true e h later = ((h.0, part w.bytes h.0 h.1), ap (instance_by s' w ts) (part w.bytes h.0 h.1) ∙ sym (ap (instance_by s w ts) h.1))
+      by false e h later =
+          let k : BindsVariablesAll y s' ts × (instances s' ts ≡ instances s ts) = later h.1 in
+          let no : value_of s' w.bytes ≡ None = unbound y s' only w.bytes e in
+          ((no, k.0), ap (instance_by s' w ts) no ∙ ap (application w.bytes) k.1 ∙ sym (ap (instance_by s w ts) h.0))
+
+  grown_all : (y : Spec) (s s' : Substitution) → IsPartOf s s' → BindsOnly y s' → (ts : Terms) → BindsVariablesAll y s ts → BindsVariablesAll y s' ts × (instances s' ts ≡ instances s ts)
+  grown_all y s s' part only Terms.none h = (tt, refl)
+  grown_all y s s' part only (Terms.more t ts) h =
+      let a = grown y s s' part only t h.0 in
+      let b = grown_all y s s' part only ts h.1 in
+      ((a.0, b.0), ap (λ x. more x (instances s' ts)) a.1 ∙ ap (more (instance s t)) b.1)
+
+-- what a walk comes to: it binds more, and variables alone, and makes the term the tree
+record Walked (y : Spec) (t : Term) (u : Tree) (s s' : Substitution) : Type 0 where
+  part : IsPartOf s s'
+  only : BindsOnly y s'
+  binding : BindsVariables y s' t
+  is : instance s' t ≡ u
+
+record WalkedAll (y : Spec) (ts : Terms) (us : Trees) (s s' : Substitution) : Type 0 where
+  part : IsPartOf s s'
+  only : BindsOnly y s'
+  binding : BindsVariablesAll y s' ts
+  is : instances s' ts ≡ us
+
+abbrev binding_at : Spec → Substitution → Word → Terms → Bool → Type 0
+binding_at y s w ts b = MatchBool b ((v : Tree) × (value_of s w.bytes ≡ Some v)) ((value_of s w.bytes ≡ None) × BindsVariablesAll y s ts)
+
+walked_bound : (y : Spec) (w : Word) (ts : Terms) (u : Tree) (s s' : Substitution) → is_variable y w.bytes ≡ true → BindsOnly y s → bound s w.bytes u ≡ Some s'
+    → IsPartOf s s' × BindsOnly y s' × (value_of s' w.bytes ≡ Some u)
+walked_bound y w ts u s s' variable only e = by (value_of s w.bytes) refl e
+  where
+    by_test : (v : Tree) (b : Bool) → tree_eq v u ≡ b → value_of s w.bytes ≡ Some v → ◌≡◌ {A = Option Substitution} (elim b [ true ↦ Some s | false ↦ None ]) (Some s') → IsPartOf s s' × BindsOnly y s' × (value_of s' w.bytes ≡ Some u)
+    by_test v true h is e =
+        let same : s ≡ s' = cc e in
+        subst (λ r. IsPartOf s r × BindsOnly y r × (value_of r w.bytes ≡ Some u)) same ((λ x v g. g), only, is ∙ ap Some (same_tree v u h))
+    by_test v false h is e = absurd (cc e)
+
+    by : (o : Option Tree) → value_of s w.bytes ≡ o → ◌≡◌ {A = Option Substitution} (elim o [ None ↦ Some (with_one s w.bytes u) | Some v ↦ elim (tree_eq v u) [ true ↦ Some s | false ↦ None ] ]) (Some s')
+        → IsPartOf s s' × BindsOnly y s' × (value_of s' w.bytes ≡ Some u)
+    by None h e =
+        let same : with_one s w.bytes u ≡ s' = cc e in
+        subst (λ r. IsPartOf s r × BindsOnly y r × (value_of r w.bytes ≡ Some u)) same
+        ((λ x v g. append_keeps s (record { name = w.bytes; value = u }) x v g), with_one_only y s w.bytes u variable only, append_finds s (record { name = w.bytes; value = u }) h)
+    by (Some v) h e = by_test v (tree_eq v u) refl h e
+
+mutual
+  walked : (y : Spec) (t : Term) (u : Tree) (s s' : Substitution) → BindsOnly y s → walk y t u s ≡ Some s' → Walked y t u s s'
+  walked y (Apply w ts) u s s' only e =
+      let k = by (is_variable y w.bytes) refl e (λ us g. walked_all y ts us s s' only g) in
+      record { part = k.0; only = k.1; binding = k.2; is = k.3 }
+    where
+      by_opened : is_variable y w.bytes ≡ false → (o : Option Trees) → opened w.bytes (count ts) u ≡ o → goes_on o (λ us. walk_all y ts us s) ≡ Some s' → ((us : Trees) → walk_all y ts us s ≡ Some s' → WalkedAll y ts us s s')
+          → IsPartOf s s' × BindsOnly y s' × ((value_of s' w.bytes ≡ None) × BindsVariablesAll y s' ts) × (instance s' (Apply w ts) ≡ u)
+      by_opened symbol None h e later = absurd (cc e)
+      by_opened symbol (Some us) h e later =
+          let k : WalkedAll y ts us s s' = later us e in
+          let no : value_of s' w.bytes ≡ None = unbound y s' k.only w.bytes symbol in
+          (k.part, k.only, (no, k.binding), ap (instance_by s' w ts) no ∙ ap (application w.bytes) k.is ∙ (opened_is w.bytes (count ts) u us h).0)
+
+      by : (b : Bool) → is_variable y w.bytes ≡ b → ◌≡◌ {A = Option Substitution} (elim b [ true ↦ bound s w.bytes u | false ↦ goes_on (opened w.bytes (count ts) u) (λ us. walk_all y ts us s) ]) (Some s')
+          → ((us : Trees) → walk_all y ts us s ≡ Some s' → WalkedAll y ts us s s')
+          → IsPartOf s s' × BindsOnly y s' × binding_at y s' w ts b × (instance s' (Apply w ts) ≡ u)
+      by true variable e later =
+          let k = walked_bound y w ts u s s' variable only e in
+          (k.0, k.1, (u, k.2), ap (instance_by s' w ts) k.2)
+      by false symbol e later = by_opened symbol (opened w.bytes (count ts) u) refl e later
+
+  walked_all : (y : Spec) (ts : Terms) (us : Trees) (s s' : Substitution) → BindsOnly y s → walk_all y ts us s ≡ Some s' → WalkedAll y ts us s s'
+  walked_all y Terms.none none s s' only e =
+      let same : s ≡ s' = cc e in
+      subst (λ r. WalkedAll y Terms.none none s r) same (record { part = λ x v g. g; only = only; binding = tt; is = refl })
+  walked_all y Terms.none (more u us) s s' only e = absurd (cc e)
+  walked_all y (Terms.more t ts) none s s' only e = absurd (cc e)
+  walked_all y (Terms.more t ts) (more u us) s s' only e = by (walk_all y ts us s) refl e (λ r f. walked_all y ts us s r only f) (λ r f g. walked y t u r s' f g)
+    where
+      by : (o : Option Substitution) → walk_all y ts us s ≡ o → goes_on o (λ r. walk y t u r) ≡ Some s'
+          → ((r : Substitution) → walk_all y ts us s ≡ Some r → WalkedAll y ts us s r) → ((r : Substitution) → BindsOnly y r → walk y t u r ≡ Some s' → Walked y t u r s')
+          → WalkedAll y (Terms.more t ts) (more u us) s s'
+      by None h e all first = absurd (cc e)
+      by (Some r) h e all first =
+          let a : WalkedAll y ts us s r = all r h in
+          let b : Walked y t u r s' = first r a.only e in
+          let g = grown_all y r s' b.part b.only ts a.binding in
+          record {
+            part = λ x v f. b.part x v (a.part x v f);
+            only = b.only;
+            binding = (b.binding, g.0);
+            is = ap (λ x. more x (instances s' ts)) b.is ∙ ap (more u) (g.1 ∙ a.is);
+          }
+
+-- a walk comes to a substitution, a part of a given one
+abbrev Comes : Option Substitution → Substitution → Type 0
+Comes o t = (s' : Substitution) × (o ≡ Some s') × IsPartOf s' t
+
+counted : (s : Substitution) (ts : Terms) → count_of (instances s ts) ≡ count ts
+counted s Terms.none = refl
+counted s (Terms.more t ts) = let e = counted s ts in omega arith
+
+bound_comes : (s t : Substitution) (name : List ℕ) (u : Tree) → IsPartOf s t → value_of t name ≡ Some u → Comes (bound s name u) t
+bound_comes s t name u part e = by (value_of s name) refl
+  where
+    by_test : (b : Bool) → b ≡ true → Comes (elim b [ true ↦ Some s | false ↦ None ]) t
+    by_test true h = (s, refl, part)
+    by_test false h = absurd (cc h)
+
+    by : (o : Option Tree) → value_of s name ≡ o → Comes (elim o [ None ↦ Some (with_one s name u) | Some v ↦ elim (tree_eq v u) [ true ↦ Some s | false ↦ None ] ]) t
+    by None h = (with_one s name u, refl, with_one_part s t name u part e)
+    by (Some v) h =
+        let same : v ≡ u = cc (sym (part name v h) ∙ e) in
+        by_test (tree_eq v u) (ap (λ x. tree_eq x u) same ∙ tree_eq_same u)
+
+mutual
+  -- where a substitution makes the term a tree, the walk over the tree comes to a part of it
+  comes : (y : Spec) (g : Substitution) (t : Term) → BindsVariables y g t → (s : Substitution) → IsPartOf s g → Comes (walk y t (instance g t) s) g
+  comes y g (Apply w ts) h s part = by (is_variable y w.bytes) h (λ k. comes_all y g ts k s part)
+    where
+      by : (b : Bool) → binding_at y g w ts b → (BindsVariablesAll y g ts → Comes (walk_all y ts (instances g ts) s) g)
+          → Comes (elim b [ true ↦ bound s w.bytes (instance g (Apply w ts)) | false ↦ goes_on (opened w.bytes (count ts) (instance g (Apply w ts))) (λ us. walk_all y ts us s) ]) g
+      by true h later = subst (λ u. Comes (bound s w.bytes u) g) (sym (ap (instance_by g w ts) h.1)) (bound_comes s g w.bytes h.0 part h.1)
+      by false h later =
+          let is : instance g (Apply w ts) ≡ application w.bytes (instances g ts) = ap (instance_by g w ts) h.0 in
+          let open_it : opened w.bytes (count ts) (instance g (Apply w ts)) ≡ Some (instances g ts) = ap (opened w.bytes (count ts)) is ∙ opened_same w.bytes (count ts) (instances g ts) (counted g ts) in
+          subst (λ o. Comes (goes_on o (λ us. walk_all y ts us s)) g) (sym open_it) (later h.1)
+
+  comes_all : (y : Spec) (g : Substitution) (ts : Terms) → BindsVariablesAll y g ts → (s : Substitution) → IsPartOf s g → Comes (walk_all y ts (instances g ts) s) g
+  comes_all y g Terms.none h s part = (s, refl, part)
+  comes_all y g (Terms.more t ts) h s part =
+      let all = comes_all y g ts h.1 s part in
+      let first = comes y g t h.0 all.0 all.2 in
+      subst (λ o. Comes (goes_on o (λ r. walk y t (instance g t) r)) g) (sym all.1) first
+
+-- a name is bound at the end, unless it is bound before: what was bound stays
+bind_first_keeps : (s : Substitution) (name : List ℕ) (u : Tree) → IsPartOf s (bind_first s name u)
+bind_first_keeps s name u = by (value_of s name)
+  where
+    by : (o : Option Tree) → IsPartOf s (elim o [ Some v ↦ s | None ↦ with_one s name u ])
+    by None = λ x v f. append_keeps s (record { name = name; value = u }) x v f
+    by (Some w) = λ x v f. f
+
+bind_first_only : (y : Spec) (s : Substitution) (name : List ℕ) (u : Tree) → is_variable y name ≡ true → BindsOnly y s → BindsOnly y (bind_first s name u)
+bind_first_only y s name u variable only = by (value_of s name)
+  where
+    by : (o : Option Tree) → BindsOnly y (elim o [ Some v ↦ s | None ↦ with_one s name u ])
+    by None = with_one_only y s name u variable only
+    by (Some w) = only
+
+abbrev parts_at : Spec → Substitution → Word → Terms → Tree → Bool → Substitution
+parts_at y s w ts u b = elim b [ true ↦ bind_first s w.bytes u | false ↦ parts_at_variables_all y s ts (arguments u) ]
+
+mutual
+  parts_keep : (y : Spec) (s : Substitution) (t : Term) (u : Tree) → IsPartOf s (parts_at_variables y s t u)
+  parts_keep y s (Apply w ts) u = by (is_variable y w.bytes) (parts_keep_all y s ts (arguments u))
+    where
+      by : (b : Bool) → IsPartOf s (parts_at_variables_all y s ts (arguments u)) → IsPartOf s (parts_at y s w ts u b)
+      by true later = bind_first_keeps s w.bytes u
+      by false later = later
+
+  parts_keep_all : (y : Spec) (s : Substitution) (ts : Terms) (us : Trees) → IsPartOf s (parts_at_variables_all y s ts us)
+  parts_keep_all y s Terms.none us = λ x v f. f
+  parts_keep_all y s (Terms.more t ts) none = λ x v f. f
+  parts_keep_all y s (Terms.more t ts) (more u us) = λ x v f. parts_keep_all y (parts_at_variables y s t u) ts us x v (parts_keep y s t u x v f)
+
+mutual
+  parts_only : (y : Spec) (s : Substitution) (t : Term) (u : Tree) → BindsOnly y s → BindsOnly y (parts_at_variables y s t u)
+  parts_only y s (Apply w ts) u only = by (is_variable y w.bytes) refl (parts_only_all y s ts (arguments u) only)
+    where
+      by : (b : Bool) → is_variable y w.bytes ≡ b → BindsOnly y (parts_at_variables_all y s ts (arguments u)) → BindsOnly y (parts_at y s w ts u b)
+      by true variable later = bind_first_only y s w.bytes u variable only
+      by false symbol later = later
+
+  parts_only_all : (y : Spec) (s : Substitution) (ts : Terms) (us : Trees) → BindsOnly y s → BindsOnly y (parts_at_variables_all y s ts us)
+  parts_only_all y s Terms.none us only = only
+  parts_only_all y s (Terms.more t ts) none only = only
+  parts_only_all y s (Terms.more t ts) (more u us) only = parts_only_all y (parts_at_variables y s t u) ts us (parts_only y s t u only)
+
+mutual
+  -- the parts of an instance bind all variables
+  reach : (y : Spec) (g : Substitution) → BindsOnly y g → (t : Term) (s s' : Substitution) → BindsOnly y s' → IsPartOf (parts_at_variables y s t (instance g t)) s' → BindsVariables y s' t
+  reach y g only_g (Apply w ts) s s' only part = by (is_variable y w.bytes) refl part (λ f. reach_all y g only_g ts s s' only f)
+    where
+      by : (b : Bool) → is_variable y w.bytes ≡ b → IsPartOf (parts_at y s w ts (instance g (Apply w ts)) b) s'
+          → (IsPartOf (parts_at_variables_all y s ts (instances g ts)) s' → BindsVariablesAll y s' ts) → binding_at y s' w ts b
+      by true variable part later =
+          let k = bind_first_binds s w.bytes (instance g (Apply w ts)) in
+          (k.0, part w.bytes k.0 k.1)
+      by false symbol part later =
+          let is : instance g (Apply w ts) ≡ application w.bytes (instances g ts) = ap (instance_by g w ts) (unbound y g only_g w.bytes symbol) in
+          (unbound y s' only w.bytes symbol, later (subst (λ u. IsPartOf (parts_at_variables_all y s ts (arguments u)) s') is part))
+
+  reach_all : (y : Spec) (g : Substitution) → BindsOnly y g → (ts : Terms) (s s' : Substitution) → BindsOnly y s' → IsPartOf (parts_at_variables_all y s ts (instances g ts)) s' → BindsVariablesAll y s' ts
+  reach_all y g only_g Terms.none s s' only part = tt
+  reach_all y g only_g (Terms.more t ts) s s' only part =
+      (reach y g only_g t s s' only (λ x v f. part x v (parts_keep_all y (parts_at_variables y s t (instance g t)) ts (instances g ts) x v f)),
+       reach_all y g only_g ts (parts_at_variables y s t (instance g t)) s' only part)
+
+-- what makes the left side the tree binds its variables, and variables alone
+pub binds_variables : (y : Spec) (l : Term) (u : Tree) (s : Substitution) → binds y l u ≡ Some s → BindsVariables y s l
+binds_variables y l u s e =
+    let parts : Substitution = parts_at_variables y [] l u in
+    let known : (parts ≡ s) × (tree_eq (instance parts l) u ≡ true) = is_bound parts s (tree_eq (instance parts l) u) e in
+    let is : instance parts l ≡ u = same_tree (instance parts l) u known.1 in
+    let only : BindsOnly y parts = parts_only y [] l u (λ x v f. absurd (cc f)) in
+    subst (λ r. BindsVariables y r l) known.0
+    (reach y parts only l [] parts only (subst (λ x. IsPartOf (parts_at_variables y [] l x) parts) (sym is) (λ x v f. f)))
+
+-- two substitutions give each name the same, or there is neither
+abbrev pub AgreeOn : Option Substitution → Option Substitution → Type 0
+AgreeOn (Some a) (Some b) = (name : List ℕ) → value_of a name ≡ value_of b name
+AgreeOn None None = Unit {0}
+AgreeOn _ _ = ⊥
+
+both_ways : (a b : Substitution) → IsPartOf a b → IsPartOf b a → (name : List ℕ) → value_of a name ≡ value_of b name
+both_ways a b ab ba name = by (value_of a name) (value_of b name) refl refl
+  where
+    by : (o p : Option Tree) → value_of a name ≡ o → value_of b name ≡ p → value_of a name ≡ value_of b name
+    by (Some v) p e f = e ∙ sym (ab name v e)
+    by None None e f = e ∙ sym f
+    by None (Some v) e f = ba name v f ∙ sym f
+
+-- the walk finds what `binds` finds
+pub walk_binds : (y : Spec) (l : Term) (u : Tree) → AgreeOn (walk y l u []) (binds y l u)
+walk_binds y l u = by (walk y l u []) (binds y l u) refl refl
+  where
+    nothing : BindsOnly y []
+    nothing = λ x v f. absurd (cc f)
+
+    found : (s : Substitution) → binds y l u ≡ Some s → Comes (walk y l u []) s
+    found s e = subst (λ x. Comes (walk y l x []) s) ((binding_law y l u).0 s e) (comes y s l (binds_variables y l u s e) [] (λ x v f. absurd (cc f)))
+
+    sound : (a : Substitution) → walk y l u [] ≡ Some a → (s : Substitution) × (binds y l u ≡ Some s) × IsPartOf s a
+    sound a e = let k : Walked y l u [] a = walked y l u [] a nothing e in (binding_law y l u).1 a k.binding k.is
+
+    by : (o p : Option Substitution) → walk y l u [] ≡ o → binds y l u ≡ p → AgreeOn o p
+    by (Some a) (Some b) e f =
+        let k = sound a e in
+        let same : k.0 ≡ b = cc (sym k.1 ∙ f) in
+        let c = found b f in
+        let same_walk : c.0 ≡ a = cc (sym c.1 ∙ e) in
+        both_ways a b (subst (λ r. IsPartOf r b) same_walk c.2) (subst (λ r. IsPartOf r a) same k.2)
+    by (Some a) None e f = let k = sound a e in absurd (cc (sym k.1 ∙ f))
+    by None (Some b) e f = let c = found b f in absurd (cc (sym c.1 ∙ e))
+    by None None e f = tt
+
+-- variables have no arguments
+abbrev pub AreBare : Spec → List Named → Type 0
+AreBare y ms = Every (λ (m : Named). is_variable y m.name ≡ true → m.arguments ≡ 0) ms
+
+bare_append : (y : Spec) (ms ns : List Named) → AreBare y (ms ++ ns) → AreBare y ms × AreBare y ns
+bare_append y [] ns h = (tt, h)
+bare_append y (m ∷ ms) ns h = let k = bare_append y ms ns h.1 in ((h.0, k.0), k.1)
+
+abbrev named_at : Word → Terms → Named
+named_at w ts = record { name = w.bytes; arguments = count ts }
+
+no_count : (ts : Terms) → count ts ≡ 0 → ts ≡ Terms.none
+no_count Terms.none e = refl
+no_count (Terms.more t ts) e = absurd (cc e)
+
+goes_on_twice : {A : Type 0} (o : Option A) (f : A → Option Substitution) (g : Substitution → Option Substitution) → goes_on (goes_on o f) g ≡ goes_on o (λ a. goes_on (f a) g)
+goes_on_twice None f g = refl
+goes_on_twice (Some a) f g = refl
+
+mutual
+  -- asking a term's names is walking over it
+  pub asked_walk : (y : Spec) (t : Term) (ms : List Named) (u : Tree) (st : List Tree) (s : Substitution) → AreBare y (named t)
+      → asked y (reverse (named t) ++ ms) (u ∷ st) s ≡ goes_on (walk y t u s) (λ r. asked y ms st r)
+  asked_walk y (Apply w ts) ms u st s bare =
+      let split = bare_append y (named_all ts) (named_at w ts ∷ []) bare in
+      ap (λ ns. asked y (ns ++ ms) (u ∷ st) s) (reverse-append (named_all ts) (named_at w ts ∷ []))
+      ∙ by (is_variable y w.bytes) refl (split.1.0) (λ us e. asked_walk_all y ts ms us st s split.0 e)
+    where
+      by_variable : (zs : Terms) → zs ≡ Terms.none → goes_on (bound s w.bytes u) (λ r. asked y (reverse (named_all zs) ++ ms) st r) ≡ goes_on (bound s w.bytes u) (λ r. asked y ms st r)
+      by_variable zs e = ap (λ xs. goes_on (bound s w.bytes u) (λ r. asked y (reverse (named_all xs) ++ ms) st r)) e
+
+      by_opened : (o : Option Trees) → opened w.bytes (count ts) u ≡ o → ((us : Trees) → count_of us ≡ count ts → asked y (reverse (named_all ts) ++ ms) (stack_on us st) s ≡ goes_on (walk_all y ts us s) (λ r. asked y ms st r))
+          → goes_on o (λ us. asked y (reverse (named_all ts) ++ ms) (stack_on us st) s) ≡ goes_on (goes_on o (λ us. walk_all y ts us s)) (λ r. asked y ms st r)
+      by_opened None h later = refl
+      by_opened (Some us) h later = later us (opened_is w.bytes (count ts) u us h).1
+
+      by : (b : Bool) → is_variable y w.bytes ≡ b → (is_variable y w.bytes ≡ true → count ts ≡ 0)
+          → ((us : Trees) → count_of us ≡ count ts → asked y (reverse (named_all ts) ++ ms) (stack_on us st) s ≡ goes_on (walk_all y ts us s) (λ r. asked y ms st r))
+          → ◌≡◌ {A = Option Substitution} (elim b [ true ↦ goes_on (bound s w.bytes u) (λ r. asked y (reverse (named_all ts) ++ ms) st r) | false ↦ goes_on (opened w.bytes (count ts) u) (λ us. asked y (reverse (named_all ts) ++ ms) (stack_on us st) s) ])
+            (goes_on (elim b [ true ↦ bound s w.bytes u | false ↦ goes_on (opened w.bytes (count ts) u) (λ us. walk_all y ts us s) ]) (λ r. asked y ms st r))
+      by true e h later = by_variable ts (no_count ts (h e))
+      by false e h later = by_opened (opened w.bytes (count ts) u) refl later
+
+  pub asked_walk_all : (y : Spec) (ts : Terms) (ms : List Named) (us : Trees) (st : List Tree) (s : Substitution) → AreBare y (named_all ts) → count_of us ≡ count ts
+      → asked y (reverse (named_all ts) ++ ms) (stack_on us st) s ≡ goes_on (walk_all y ts us s) (λ r. asked y ms st r)
+  asked_walk_all y Terms.none ms none st s bare e = refl
+  asked_walk_all y Terms.none ms (more u us) st s bare e = absurd (let no : ⊥ = omega arith in no)
+  asked_walk_all y (Terms.more t ts) ms none st s bare e = absurd (let no : ⊥ = omega arith in no)
+  asked_walk_all y (Terms.more t ts) ms (more u us) st s bare e =
+      let split = bare_append y (named t) (named_all ts) bare in
+      ap (λ ns. asked y (ns ++ ms) (stack_on us (u ∷ st)) s) (reverse-append (named t) (named_all ts))
+      ∙ ap (λ ns. asked y ns (stack_on us (u ∷ st)) s) (append_assoc (reverse (named_all ts)) (reverse (named t)) ms)
+      ∙ asked_walk_all y ts (reverse (named t) ++ ms) us (u ∷ st) s split.1 (omega arith)
+      ∙ by (walk_all y ts us s) (λ r. asked_walk y t ms u st r split.0)
+    where
+      by : (o : Option Substitution) → ((r : Substitution) → asked y (reverse (named t) ++ ms) (u ∷ st) r ≡ goes_on (walk y t u r) (λ q. asked y ms st q))
+          → goes_on o (λ r. asked y (reverse (named t) ++ ms) (u ∷ st) r) ≡ goes_on (goes_on o (λ r. walk y t u r)) (λ q. asked y ms st q)
+      by None first = refl
+      by (Some r) first = first r
+
+-- asking all names of a left side of one tree finds what `binds` finds
+pub asked_binds : (y : Spec) (l : Term) (u : Tree) → AreBare y (named l) → AgreeOn (asked y (reverse (named l)) (u ∷ []) []) (binds y l u)
+asked_binds y l u bare = subst (λ o. AgreeOn o (binds y l u)) (sym is) (walk_binds y l u)
+  where
+    by : (o : Option Substitution) → goes_on o (λ r. Some r) ≡ o
+    by None = refl
+    by (Some r) = refl
+
+    is : asked y (reverse (named l)) (u ∷ []) [] ≡ walk y l u []
+    is = ap (λ ns. asked y ns (u ∷ []) []) (sym (append-nil (reverse (named l)))) ∙ asked_walk y l [] u [] [] bare ∙ by (walk y l u [])

@@ -1,0 +1,18 @@
+-- When numbered declarations are those of a specification.
+use Rattle.std.specs.Prelude.{ℕ, ◌≡◌, List, ◌∷◌, ◌++◌, Option, map, flat_map, length}
+use Rattle.rec_syntax.specs.Syntax.{Variables, Spec}
+use Rattle.rec_sorts.specs.Lookup.{symbols, names, variable_words}
+use Rattle.rec_sorts.specs.Names.{Numbers, given_to, first_at}
+use Rattle.rec_sorts.specs.Declaring.{sort_numbers}
+use Rattle.rec_sorts.specs.declared.scope.Scope.{Scope}
+
+-- the sorts of variables, by their numbers
+abbrev pub variable_sorts : Numbers → List Variables → List (Option ℕ)
+variable_sorts numbers vs = flat_map (λ v. map (λ _. numbers v.sort.bytes) (v.first ∷ v.others)) vs
+
+pub record IsScope (y : Spec) (s : Scope) : Type 0 where
+  pub words_numbered : given_to s.words ≡ first_at (names (symbols y) ++ variable_words y.variables)
+  pub sorts_listed : s.sorts.items ≡ map (λ d. first_at y.sorts d.sort.bytes) (symbols y) ++ variable_sorts (first_at y.sorts) y.variables
+  pub arguments_listed : map (λ v. v.items) s.arguments.items ≡ map (λ d. sort_numbers (first_at y.sorts) d.arguments) (symbols y)
+  pub constructors_counted : s.constructors ≡ length y.constructors
+  pub symbols_counted : s.symbols ≡ length (symbols y)

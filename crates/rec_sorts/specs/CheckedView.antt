@@ -1,0 +1,20 @@
+-- What a checked specification stands for, and what always holds of it.
+use Rattle.std.specs.Prelude.{◌≡◌, None, map, length}
+use Rattle.rec_syntax.specs.Syntax.{Sourced}
+use Rattle.rec_sorts.specs.Lookup.{symbols}
+use Rattle.rec_sorts.specs.SpecRules.{fault}
+use Rattle.rec_sorts.specs.Numbering.{Pairwise, IsLetterRule, AreLetters, variable_count}
+use Rattle.rec_sorts.specs.declared.checked.Checked.TheInside.{Inside}
+
+abbrev pub sourced_of : Inside → Sourced
+sourced_of a = a.syntax
+
+-- all rules are kept, and the numbers and letters are those of the specification
+pub record IsChecked (a : Inside) : Type 0 where
+  pub kept : fault a.syntax.spec ≡ None
+  pub constructors_counted : a.constructors ≡ length a.syntax.spec.constructors
+  pub symbols_counted : a.symbols ≡ length (symbols a.syntax.spec)
+  pub variables_counted : a.variables ≡ variable_count a.syntax.spec
+  pub arities_listed : a.arities.items ≡ map (λ d. length d.arguments) (symbols a.syntax.spec)
+  pub rules_lettered : Pairwise (IsLetterRule a.syntax.spec) a.rules.items a.syntax.spec.rules
+  pub terms_lettered : Pairwise (λ v t. AreLetters a.syntax.spec v.items t) a.terms.items a.syntax.spec.terms

@@ -1,0 +1,67 @@
+-- What is declared, by numbers.
+use Rattle.std.specs.Prelude.{ℕ, ◌≡◌, List, [], ◌∷◌, ◌++◌, Option, Some, None, map, flat_map, is_none}
+use Rattle.rec_syntax.specs.Tokens.{Word}
+use Rattle.rec_syntax.specs.Syntax.{Declaration, Variables}
+use Rattle.rec_syntax.specs.Parts.{words_of}
+use Rattle.rec_sorts.specs.Least.{earlier, place_where}
+use Rattle.rec_sorts.specs.Names.{Numbers}
+use Rattle.rec_sorts.specs.declared.declarations.Declared.{Declared}
+
+-- the numbers of some words
+abbrev pub sort_numbers : Numbers → List Word → List (Option ℕ)
+sort_numbers numbers ws = map (λ w. numbers w.bytes) ws
+
+-- the place of a word that has no number
+abbrev pub unnumbered : Numbers → Word → Option ℕ
+unnumbered numbers w = place_where (is_none (numbers w.bytes)) w.at
+
+-- the least place of a word that has no number
+abbrev pub least_unnumbered : Numbers → List Word → Option ℕ
+least_unnumbered numbers [] = None
+least_unnumbered numbers (w ∷ ws) = earlier (unnumbered numbers w) (least_unnumbered numbers ws)
+
+-- what declarations add: words, their sorts, and the sorts of symbols' arguments
+pub record Additions : Type 0 where
+  pub words : List Word
+  pub sorts : List (Option ℕ)
+  pub arguments : List (List (Option ℕ))
+  -- the words that are to be sorts
+  pub named : List Word
+
+-- some additions, and then others
+abbrev pub both : Additions → Additions → Additions
+both a b = record { words = a.words ++ b.words; sorts = a.sorts ++ b.sorts; arguments = a.arguments ++ b.arguments; named = a.named ++ b.named }
+
+abbrev pub nothing_added : Additions
+nothing_added = record { words = []; sorts = []; arguments = []; named = [] }
+
+abbrev pub added_by_symbol : Numbers → Declaration → Additions
+added_by_symbol numbers d = record {
+  words = d.name ∷ [];
+  sorts = numbers d.sort.bytes ∷ [];
+  arguments = sort_numbers numbers d.arguments ∷ [];
+  named = d.arguments ++ d.sort ∷ [];
+}
+
+abbrev pub added_by_symbols : Numbers → List Declaration → Additions
+added_by_symbols numbers [] = nothing_added
+added_by_symbols numbers (d ∷ ds) = both (added_by_symbol numbers d) (added_by_symbols numbers ds)
+
+abbrev pub added_by_group : Numbers → Variables → Additions
+added_by_group numbers v = record {
+  words = v.first ∷ v.others;
+  sorts = map (λ _. numbers v.sort.bytes) (v.first ∷ v.others);
+  arguments = [];
+  named = v.sort ∷ [];
+}
+
+abbrev pub added_by_groups : Numbers → List Variables → Additions
+added_by_groups numbers [] = nothing_added
+added_by_groups numbers (v ∷ vs) = both (added_by_group numbers v) (added_by_groups numbers vs)
+
+-- the new declarations are the old ones and these
+pub record Adds (source : List ℕ) (numbers : Numbers) (old new : Declared) (a : Additions) : Type 0 where
+  pub words_added : words_of source new.words.items ≡ words_of source old.words.items ++ a.words
+  pub sorts_added : new.sorts.items ≡ old.sorts.items ++ a.sorts
+  pub arguments_added : map (λ v. v.items) new.arguments.items ≡ map (λ v. v.items) old.arguments.items ++ a.arguments
+  pub unknown_added : new.unknown ≡ earlier old.unknown (least_unnumbered numbers a.named)

@@ -1,0 +1,32 @@
+-- The least of some places, none where there is no place.
+use Rattle.std.specs.Prelude.{ℕ, Bool, true, false, List, [], ◌∷◌, Option, Some, None, min}
+use Rattle.rec_syntax.specs.Tokens.{Word}
+use Rattle.rec_sorts.specs.declared.places.TermPlaces.{TermPlaces}
+
+-- the lesser of two places
+abbrev pub earlier : Option ℕ → Option ℕ → Option ℕ
+earlier (Some p) (Some q) = Some (min p q)
+earlier (Some p) None = Some p
+earlier None q = q
+
+-- the least place of some words
+abbrev pub least_place : List Word → Option ℕ
+least_place [] = None
+least_place (w ∷ ws) = earlier (Some w.at) (least_place ws)
+
+-- the place, where the flag is set
+abbrev pub place_where : Bool → ℕ → Option ℕ
+place_where true at = Some at
+place_where false at = None
+
+-- the lesser place for each rule
+abbrev pub joined : TermPlaces → TermPlaces → TermPlaces
+joined p q = record {
+  unknown = earlier p.unknown q.unknown;
+  ill_filled = earlier p.ill_filled q.ill_filled;
+  ill_sorted = earlier p.ill_sorted q.ill_sorted;
+  ill_headed = earlier p.ill_headed q.ill_headed;
+  unlike = earlier p.unlike q.unlike;
+  unbound = earlier p.unbound q.unbound;
+  free = earlier p.free q.free;
+}

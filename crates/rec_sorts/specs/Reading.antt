@@ -1,0 +1,115 @@
+-- The letters of terms and rules, and the least places at which they break rules.
+use Rattle.std.specs.Prelude.{ℕ, ◌≡◌, ◌-◌, Bool, true, false, not, List, [], ◌∷◌, Option, Some, None, length, map, slice_get, nat_eq}
+use Rattle.std.specs.List.{list_any}
+use Rattle.std.specs.Option.{option_eq}
+use Rattle.rec_syntax.specs.Syntax.{Term, Condition, Rule}
+use Rattle.rec_syntax.specs.Nodes.{flat}
+use Rattle.rec_sorts.specs.Least.{earlier, place_where, joined}
+use Rattle.rec_sorts.specs.Scope.{sort_at, is_operator}
+use Rattle.rec_sorts.specs.Letters.{placed_by, bare, unknown_among, ill_filled_among, ill_sorted_among}
+use Rattle.rec_sorts.specs.Numbering.{Pairwise}
+use Rattle.rec_sorts.specs.declared.letters.Letter.{Letter}
+use Rattle.rec_sorts.specs.declared.letters.LetterCondition.{LetterCondition}
+use Rattle.rec_sorts.specs.declared.letters.LetterRule.{LetterRule}
+use Rattle.rec_sorts.specs.declared.letters.Meaning.{Meaning}
+use Rattle.rec_sorts.specs.declared.letters.Meaning.TheVariants.{Variable}
+use Rattle.rec_sorts.specs.declared.places.TermPlaces.{TermPlaces}
+use Rattle.rec_sorts.specs.declared.scope.Scope.{Scope}
+use Rattle.rec_sorts.specs.declared.terms.Placed.{Placed}
+use Rattle.rec_sorts.specs.declared.terms.ReadTerm.{ReadTerm}
+
+-- the letters of a term
+abbrev pub letters_of : Scope → Term → List Placed
+letters_of s t = map (placed_by s) (flat t)
+
+-- no rule is broken
+abbrev pub nowhere : TermPlaces
+nowhere = record { unknown = None; ill_filled = None; ill_sorted = None; ill_headed = None; unlike = None; unbound = None; free = None }
+
+-- where a term breaks a rule by itself
+abbrev pub term_places : Scope → Term → TermPlaces
+term_places s t = record nowhere {
+  unknown = unknown_among (letters_of s t);
+  ill_filled = ill_filled_among s (letters_of s t);
+  ill_sorted = ill_sorted_among s [] (letters_of s t);
+}
+
+-- a term was read
+pub record IsReadTerm (s : Scope) (t : Term) (r : ReadTerm) : Type 0 where
+  pub letters_read : r.letters.items ≡ letters_of s t
+  pub places_read : r.places ≡ term_places s t
+
+-- the last of some letters
+abbrev pub last_letter : List Placed → Option Placed
+last_letter ps = slice_get ps (length ps - 1)
+
+-- the place of the head, where it is no operator
+abbrev pub ill_headed_at : Scope → List Placed → Option ℕ
+ill_headed_at s ps = elim (last_letter ps) [ None ↦ None | Some p ↦ place_where (not (is_operator s p.meaning)) p.at ]
+
+-- the place of the left one of two heads of different sorts
+abbrev pub unlike_at : Scope → List Placed → List Placed → Option ℕ
+unlike_at s ls rs = elim (last_letter ls) [ None ↦ None | Some l ↦ elim (last_letter rs) [ None ↦ None | Some r ↦ place_where (not (option_eq nat_eq (sort_at s l.meaning) (sort_at s r.meaning))) l.at ] ]
+
+-- the letter is the variable of this number
+abbrev pub is_the_variable : ℕ → Option Meaning → Bool
+is_the_variable v (Some (Variable k)) = nat_eq v k
+is_the_variable v _ = false
+
+-- the variable of this number is among some letters
+abbrev pub binds_variable : List Placed → ℕ → Bool
+binds_variable ps v = list_any (λ p. is_the_variable v p.meaning) ps
+
+-- the letter is a variable that is not bound
+abbrev pub is_unbound : (ℕ → Bool) → Option Meaning → Bool
+is_unbound bound (Some (Variable k)) = not (bound k)
+is_unbound bound _ = false
+
+-- the least place of a variable that is not bound
+abbrev pub unbound_among : (ℕ → Bool) → List Placed → Option ℕ
+unbound_among bound [] = None
+unbound_among bound (p ∷ ps) = earlier (place_where (is_unbound bound p.meaning) p.at) (unbound_among bound ps)
+
+-- where a condition of a rule with these variables breaks a rule
+abbrev pub condition_places : Scope → (ℕ → Bool) → Condition → TermPlaces
+condition_places s bound c =
+    joined (joined (term_places s c.left) (term_places s c.right)) (record nowhere {
+      unlike = unlike_at s (letters_of s c.left) (letters_of s c.right);
+      unbound = earlier (unbound_among bound (letters_of s c.left)) (unbound_among bound (letters_of s c.right));
+    })
+
+abbrev pub conditions_places : Scope → (ℕ → Bool) → List Condition → TermPlaces
+conditions_places s bound [] = nowhere
+conditions_places s bound (c ∷ cs) = joined (condition_places s bound c) (conditions_places s bound cs)
+
+-- where a rule breaks a rule
+abbrev pub rule_places : Scope → Rule → TermPlaces
+rule_places s r =
+    let bound = binds_variable (letters_of s r.left) in
+    joined (joined (joined (term_places s r.left) (term_places s r.right)) (record nowhere {
+      ill_headed = ill_headed_at s (letters_of s r.left);
+      unlike = unlike_at s (letters_of s r.left) (letters_of s r.right);
+      unbound = unbound_among bound (letters_of s r.right);
+    })) (conditions_places s bound r.conditions)
+
+abbrev pub rules_places : Scope → List Rule → TermPlaces
+rules_places s [] = nowhere
+rules_places s (r ∷ rs) = joined (rule_places s r) (rules_places s rs)
+
+-- where a term to evaluate breaks a rule
+abbrev pub open_term_places : Scope → Term → TermPlaces
+open_term_places s t = joined (term_places s t) (record nowhere { free = unbound_among (λ _. false) (letters_of s t) })
+
+abbrev pub open_terms_places : Scope → List Term → TermPlaces
+open_terms_places s [] = nowhere
+open_terms_places s (t ∷ ts) = joined (open_term_places s t) (open_terms_places s ts)
+
+-- the letters are those of the term
+abbrev pub SpellsTerm : Scope → List Letter → Term → Type 0
+SpellsTerm s ls t = ls ≡ bare (letters_of s t)
+
+abbrev pub SpellsCondition : Scope → LetterCondition → Condition → Type 0
+SpellsCondition s l c = SpellsTerm s l.left.items c.left × SpellsTerm s l.right.items c.right × (l.equal ≡ c.equal)
+
+abbrev pub SpellsRule : Scope → LetterRule → Rule → Type 0
+SpellsRule s l r = SpellsTerm s l.left.items r.left × SpellsTerm s l.right.items r.right × Pairwise (SpellsCondition s) l.conditions.items r.conditions

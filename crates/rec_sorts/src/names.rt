@@ -1,0 +1,44 @@
+//! Names by their numbers.
+
+ghost use Rattle.std.specs.Prelude.{◌≡◌, None, IfOk, OnOk, is_none};
+
+use indexmap::IndexMap;
+use std::alloc::{AllocError, Global};
+
+/// The names that have a number.
+#[derive(Drop)]
+pub struct Names<'a> {
+    numbers: IndexMap<&'a [u8], u32>,
+}
+
+impl<'a> Names<'a> {
+    ghost use Rattle.rec_sorts.specs.Names.{given_to, given_first};
+
+    /// No name has a number.
+    pub fn new(alloc: Global) -> Self
+        ensures { given_to result ≡ (λ _. None) }
+    {
+        Names {
+            numbers: IndexMap::new(alloc),
+        }
+    }
+
+    /// The number of a name.
+    pub fn number(&self, name: &[u8]) -> Option<u32>
+        ensures { result ≡ given_to self.now name.now }
+    {
+        self.numbers.get(name).copied()
+    }
+
+    /// Gives a name this number, unless it has one already; answers whether it had none.
+    pub fn give(&mut self, name: &'a [u8], number: u32) -> Result<bool, AllocError>
+        ensures fresh { IfOk result (λ fresh. fresh ≡ is_none (given_to self.old name.entry.now)) }
+        ensures given { OnOk result (given_to self.new ≡ given_first (given_to self.old) name.entry.now number) }
+    {
+        if self.number(name).is_some() {
+            return Ok(false);
+        }
+        self.numbers.insert(name, number)?;
+        Ok(true)
+    }
+}

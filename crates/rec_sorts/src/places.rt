@@ -1,0 +1,64 @@
+//! The least places at which rules are broken.
+
+ghost use Rattle.std.specs.Prelude.{◌≡◌, IfOk};
+ghost use Rattle.rec_sorts.specs.Least.{earlier, joined};
+
+use std::alloc::AllocError;
+
+/// The lesser of two places.
+pub fn earlier(first: Option<u32>, second: Option<u32>) -> Option<u32>
+    ensures { result ≡ earlier first second }
+{
+    match (first, second) {
+        (Some(first), Some(second)) => Some(first.min(second)),
+        (Some(first), None) => Some(first),
+        (None, second) => second,
+    }
+}
+
+/// The least place at which each rule of the terms is broken.
+#[derive(Clone, Copy, Debug)]
+pub struct TermPlaces {
+    pub unknown: Option<u32>,
+    pub ill_filled: Option<u32>,
+    pub ill_sorted: Option<u32>,
+    pub ill_headed: Option<u32>,
+    pub unlike: Option<u32>,
+    pub unbound: Option<u32>,
+    pub free: Option<u32>,
+}
+
+impl TermPlaces {
+    /// No rule is broken.
+    pub const NONE: TermPlaces = TermPlaces {
+        unknown: None,
+        ill_filled: None,
+        ill_sorted: None,
+        ill_headed: None,
+        unlike: None,
+        unbound: None,
+        free: None,
+    };
+
+    /// The lesser place for each rule.
+    pub fn join(self, other: TermPlaces) -> TermPlaces
+        ensures { result ≡ joined self other }
+    {
+        TermPlaces {
+            unknown: earlier(self.unknown, other.unknown),
+            ill_filled: earlier(self.ill_filled, other.ill_filled),
+            ill_sorted: earlier(self.ill_sorted, other.ill_sorted),
+            ill_headed: earlier(self.ill_headed, other.ill_headed),
+            unlike: earlier(self.unlike, other.unlike),
+            unbound: earlier(self.unbound, other.unbound),
+            free: earlier(self.free, other.free),
+        }
+    }
+}
+
+/// A number that fits.
+pub fn number(n: usize) -> Result<u32, AllocError>
+    ensures { IfOk result (λ k. k ≡ n) }
+{
+    u32::try_from(n).map_err(|_| AllocError)
+}
