@@ -14,3 +14,9 @@ pub mod Tables
 pub mod Subterms
 pub mod Stacks
 pub mod Meanings
+pub mod Turns
+pub mod Additions
+pub mod KeptNames
+pub mod Agreement
+pub mod Bound
+pub mod Conclusion

@@ -3,7 +3,7 @@ use Rattle.std.specs.Prelude.{ℕ, ◌≡◌, List, [], ◌∷◌, ◌++◌, Opt
 use Rattle.rec_syntax.specs.Tokens.{Word}
 use Rattle.rec_syntax.specs.Syntax.{Declaration, Variables}
 use Rattle.rec_syntax.specs.Parts.{words_of}
-use Rattle.rec_sorts.specs.Least.{earlier, place_where}
+use Rattle.rec_sorts.specs.Least.{earlier, least_of, place_where}
 use Rattle.rec_sorts.specs.Names.{Numbers}
 use Rattle.rec_sorts.specs.declared.declarations.Declared.{Declared}
 
@@ -17,8 +17,7 @@ unnumbered numbers w = place_where (is_none (numbers w.bytes)) w.at
 
 -- the least place of a word that has no number
 abbrev pub least_unnumbered : Numbers → List Word → Option ℕ
-least_unnumbered numbers [] = None
-least_unnumbered numbers (w ∷ ws) = earlier (unnumbered numbers w) (least_unnumbered numbers ws)
+least_unnumbered numbers ws = least_of (unnumbered numbers) ws
 
 -- what declarations add: words, their sorts, and the sorts of symbols' arguments
 pub record Additions : Type 0 where
