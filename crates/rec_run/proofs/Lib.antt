@@ -7,6 +7,7 @@ pub mod Facts
 pub mod ValueLemmas
 pub mod MatchLemmas
 pub mod EvaluationLemmas
+pub mod RuleLemmas
 mod EvaluationRows
 mod LargeRows
 mod TermRows
