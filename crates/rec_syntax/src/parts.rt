@@ -1,0 +1,71 @@
+//! The parts of a specification, their words as spans of its text.
+
+ghost use Rattle.std.specs.Prelude.{◌≡◌};
+
+use crate::lexer::Span;
+
+/// A word of a term, with the number of its arguments.
+#[derive(Clone, Copy, Debug, Drop)]
+pub struct Node {
+    pub word: Span,
+    pub count: usize,
+}
+
+/// A term: its nodes, each behind those of its arguments.
+#[derive(Debug, Drop)]
+pub struct Term {
+    pub nodes: Vec<Node>,
+}
+
+impl Term {
+    /// The nodes, each behind those of its arguments.
+    pub fn nodes(&self) -> &[Node]
+        ensures { result.now ≡ self.now.nodes.items }
+    {
+        &self.nodes
+    }
+}
+
+/// Two terms, whose values are to be equal, or to differ.
+#[derive(Debug, Drop)]
+pub struct Condition {
+    pub left: Term,
+    pub right: Term,
+    pub equal: bool,
+}
+
+/// A rewrite rule.
+#[derive(Debug, Drop)]
+pub struct Rule {
+    pub left: Term,
+    pub right: Term,
+    pub conditions: Vec<Condition>,
+}
+
+/// A symbol with the sorts of its arguments and its own.
+#[derive(Debug, Drop)]
+pub struct Declaration {
+    pub name: Span,
+    pub arguments: Vec<Span>,
+    pub sort: Span,
+}
+
+/// Variables that are declared together, with their sort.
+#[derive(Debug, Drop)]
+pub struct Group {
+    pub first: Span,
+    pub others: Vec<Span>,
+    pub sort: Span,
+}
+
+/// The name of a specification, and its sections in their order.
+#[derive(Drop)]
+pub struct Sections {
+    pub name: Span,
+    pub sorts: Vec<Span>,
+    pub constructors: Vec<Declaration>,
+    pub operators: Vec<Declaration>,
+    pub groups: Vec<Group>,
+    pub rules: Vec<Rule>,
+    pub terms: Vec<Term>,
+}

@@ -1,0 +1,192 @@
+//! The reader: what is due next, and what is read so far.
+
+ghost use Rattle.std.specs.Prelude.{◌≡◌, ◌<◌, ◌≤◌, ◌↔◌, [], length, IfOk, IfErr, IsErrOf};
+ghost use Rattle.rec_syntax.specs.Grammar.{SpecText};
+ghost use Rattle.rec_syntax.specs.Answer.{IsPlaced};
+ghost use Rattle.rec_syntax.specs.Lexemes.{IsToken};
+ghost use Rattle.rec_syntax.specs.Machine.{start};
+ghost use Rattle.rec_syntax.specs.Reader.{config_of, IsState, IsAt, Steps};
+
+mod items;
+mod terms;
+
+use crate::fault::SyntaxFault;
+use crate::lexer::{Kind, Part, Span, next};
+use crate::parts::{Node, Rule, Sections, Term};
+use crate::spec::{LONGEST, Syntax};
+use std::alloc::{AllocError, AllocFailed, Global};
+
+/// The symbols that a section declares.
+#[derive(Clone, Copy, Drop)]
+pub enum Symbols {
+    Constructors,
+    Operators,
+}
+
+/// Where the term that is read stands, with what was read before it.
+#[derive(Drop)]
+pub enum Role {
+    Left,
+    Right(Term),
+    ConditionLeft(Rule),
+    ConditionRight(Rule, Term, bool),
+    InEval,
+}
+
+/// What is due next.
+#[derive(Clone, Copy, Drop)]
+pub enum Due {
+    Start,
+    Title,
+    Between(Option<Part>),
+    Named(Symbols, Span),
+    Arguments(Symbols, Span),
+    ResultSort(Symbols, Span),
+    Grouped(Span),
+    GroupSort(Span),
+    AtTerm,
+    Called(Span),
+    First(Span),
+    After,
+    Ended,
+    Done,
+}
+
+/// Why a step is not made.
+#[derive(Drop)]
+pub enum Stop {
+    Refused,
+    Memory,
+}
+
+impl<T: Drop> From<AllocFailed<T>> for Stop {
+    ghost use Rattle.rec_syntax.specs.declared.reader.Stop.TheVariants.{Memory};
+
+    ghost from_gives = { λ _ e. e ≡ Memory };
+
+    fn from(_e: AllocFailed<T>) -> Stop {
+        Stop::Memory
+    }
+}
+
+/// An open application, and how many arguments are read.
+#[derive(Drop)]
+pub struct Call {
+    word: Span,
+    count: usize,
+}
+
+/// The text, and what is read of it.
+#[derive(Drop)]
+pub struct Reader {
+    alloc: Global,
+    source: Vec<u8>,
+    sections: Sections,
+    // the words of the declaration or the group that is read
+    words: Vec<Span>,
+    role: Role,
+    // the open applications, and the nodes of the term that is read
+    calls: Vec<Call>,
+    nodes: Vec<Node>,
+}
+
+impl Reader {
+    fn new(alloc: Global, source: Vec<u8>) -> Self
+        ensures source { result.source ≡ source }
+        ensures start { config_of source.items Due.Start result ≡ start }
+        ensures state { IsState source.items Due.Start result }
+    {
+        Reader {
+            alloc,
+            source,
+            sections: Sections {
+                name: Span { from: 0, to: 0 },
+                sorts: Vec::new(alloc),
+                constructors: Vec::new(alloc),
+                operators: Vec::new(alloc),
+                groups: Vec::new(alloc),
+                rules: Vec::new(alloc),
+                terms: Vec::new(alloc),
+            },
+            words: Vec::new(alloc),
+            role: Role::Left,
+            calls: Vec::new(alloc),
+            nodes: Vec::new(alloc),
+        }
+    }
+
+    // The next token.
+    fn step(&mut self, due: Due, token: Kind) -> Result<Due, Stop>
+        requires state { IsAt due self.old }
+        requires token { IsToken self.old.source.items token }
+        ensures moves { Steps due self.old token result self.new }
+        ensures same { self.new.source ≡ self.old.source }
+    {
+        match due {
+            Due::Start => match token {
+                Kind::RecSpec => Ok(Due::Title),
+                _ => Err(Stop::Refused),
+            },
+            Due::Title => self.title(token),
+            Due::Between(level) => self.between(level, token),
+            Due::Named(symbols, name) => self.named(symbols, name, token),
+            Due::Arguments(symbols, name) => self.arguments(symbols, name, token),
+            Due::ResultSort(symbols, name) => self.result_sort(symbols, name, token),
+            Due::Grouped(first) => self.grouped(first, token),
+            Due::GroupSort(first) => self.group_sort(first, token),
+            Due::AtTerm => self.at_term(token),
+            Due::Called(word) => self.called(word, token),
+            Due::First(word) => self.first(word, token),
+            Due::After => self.after(token),
+            Due::Ended => match token {
+                Kind::End => Ok(Due::Done),
+                _ => Err(Stop::Refused),
+            },
+            Due::Done => Err(Stop::Refused),
+        }
+    }
+}
+
+// The specification that the text spells.
+fn read(alloc: Global, source: Vec<u8>) -> Result<Syntax, SyntaxFault>
+    requires { length source.items ≤ LONGEST }
+    ensures source { IfOk result (λ s. s.source ≡ source.items) }
+    ensures spelled { IfOk result (λ s. SpecText source.items s.spec) }
+    ensures long { ¬ IsErrOf result SyntaxFault.Long }
+    ensures place { IfErr result (IsPlaced source.items) }
+{
+    let mut reader = Reader::new(alloc, source);
+    let mut due = Due::Start;
+    let mut from = 0;
+    loop {
+        let lexeme = next(&reader.source, from);
+        due = match reader.step(due, lexeme.kind) {
+            Ok(due) => due,
+            Err(Stop::Memory) => return Err(SyntaxFault::Memory),
+            Err(Stop::Refused) => {
+                return Err(SyntaxFault::Grammar {
+                    at: lexeme.at as u32,
+                });
+            }
+        };
+        if let Kind::End = lexeme.kind {
+            return Ok(Syntax::new(reader.source, reader.sections));
+        }
+        from = lexeme.to;
+    }
+}
+
+/// The specification that the bytes spell. Where memory runs out, that comes before a fault of the grammar.
+pub fn read_spec(alloc: Global, bytes: &[u8]) -> Result<Syntax, SyntaxFault>
+    ensures source { IfOk result (λ s. s.source ≡ bytes.now) }
+    ensures spelled { IfOk result (λ s. SpecText bytes.now s.spec) }
+    ensures short { IfOk result (λ s. length bytes.now ≤ LONGEST) }
+    ensures long { IsErrOf result SyntaxFault.Long ↔ (LONGEST < length bytes.now) }
+    ensures place { IfErr result (IsPlaced bytes.now) }
+{
+    if bytes.len() > LONGEST {
+        return Err(SyntaxFault::Long);
+    }
+    let source = Vec::from_slice(alloc, bytes).map_err(|_: AllocError| SyntaxFault::Memory)?;
+    read(alloc, source)
+}

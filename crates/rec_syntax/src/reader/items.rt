@@ -1,0 +1,202 @@
+//! The title, and the items of the sections before the rules.
+
+ghost use Rattle.std.specs.Prelude.{◌≡◌};
+ghost use Rattle.rec_syntax.specs.Lexemes.{section_of, Within, IsToken};
+ghost use Rattle.rec_syntax.specs.Machine.{later};
+ghost use Rattle.rec_syntax.specs.Parts.{AreSections};
+ghost use Rattle.rec_syntax.specs.Reader.{level_of, IsAt, Steps};
+
+use super::{Due, Reader, Role, Stop, Symbols};
+use crate::lexer::{Kind, Part, Span};
+use crate::parts::{Declaration, Group};
+use std::mem;
+
+// Whether the section comes after the open one.
+fn is_later(level: Option<Part>, part: Part) -> bool
+    ensures { result ≡ later (level_of level) (section_of part) }
+{
+    match level {
+        None => true,
+        Some(open_part) => (open_part as u8) < (part as u8),
+    }
+}
+
+impl Reader {
+    // After REC-SPEC: the name.
+    pub(super) fn title(&mut self, token: Kind) -> Result<Due, Stop>
+        requires state { IsAt Due.Title self.old }
+        requires token { IsToken self.old.source.items token }
+        ensures moves { Steps Due.Title self.old token result self.new }
+        ensures same { self.new.source ≡ self.old.source }
+    {
+        match token {
+            Kind::Plain(name) => {
+                self.sections.name = name;
+                Ok(Due::Between(None))
+            }
+            _ => Err(Stop::Refused),
+        }
+    }
+
+    // An item of the open section begins with this word.
+    fn item(&mut self, level: Option<Part>, word: Span) -> Result<Due, Stop>
+        requires sections { AreSections self.old.source.items self.old.sections }
+        requires word { Within self.old.source.items word }
+        ensures moves { Steps (Due.Between level) self.old (Kind.Plain word) result self.new }
+        ensures same { self.new.source ≡ self.old.source }
+    {
+        match level {
+            None => Err(Stop::Refused),
+            Some(Part::Sorts) => {
+                self.sections.sorts.push(word)?;
+                Ok(Due::Between(level))
+            }
+            Some(Part::Cons) => Ok(Due::Named(Symbols::Constructors, word)),
+            Some(Part::Opns) => Ok(Due::Named(Symbols::Operators, word)),
+            Some(Part::Vars) => {
+                self.words.clear();
+                Ok(Due::Grouped(word))
+            }
+            Some(Part::Rules) => {
+                self.begin(Role::Left);
+                Ok(Due::Called(word))
+            }
+            Some(Part::Eval) => {
+                self.begin(Role::InEval);
+                Ok(Due::Called(word))
+            }
+        }
+    }
+
+    // After a whole item: another one, a later section, or the end.
+    pub(super) fn between(&mut self, level: Option<Part>, token: Kind) -> Result<Due, Stop>
+        requires sections { AreSections self.old.source.items self.old.sections }
+        requires token { IsToken self.old.source.items token }
+        ensures moves { Steps (Due.Between level) self.old token result self.new }
+        ensures same { self.new.source ≡ self.old.source }
+    {
+        match token {
+            Kind::Plain(word) => self.item(level, word),
+            Kind::Head(part) => {
+                if is_later(level, part) {
+                    Ok(Due::Between(Some(part)))
+                } else {
+                    Err(Stop::Refused)
+                }
+            }
+            Kind::EndSpec => Ok(Due::Ended),
+            _ => Err(Stop::Refused),
+        }
+    }
+
+    // After a declaration's word: the colon.
+    pub(super) fn named(&mut self, symbols: Symbols, name: Span, token: Kind) -> Result<Due, Stop>
+        requires state { IsAt (Due.Named symbols name) self.old }
+        requires token { IsToken self.old.source.items token }
+        ensures moves { Steps (Due.Named symbols name) self.old token result self.new }
+        ensures same { self.new.source ≡ self.old.source }
+    {
+        match token {
+            Kind::Colon => {
+                self.words.clear();
+                Ok(Due::Arguments(symbols, name))
+            }
+            _ => Err(Stop::Refused),
+        }
+    }
+
+    // After the colon: the sorts of the arguments, and the arrow.
+    pub(super) fn arguments(
+        &mut self,
+        symbols: Symbols,
+        name: Span,
+        token: Kind,
+    ) -> Result<Due, Stop>
+        requires state { IsAt (Due.Arguments symbols name) self.old }
+        requires token { IsToken self.old.source.items token }
+        ensures moves { Steps (Due.Arguments symbols name) self.old token result self.new }
+        ensures same { self.new.source ≡ self.old.source }
+    {
+        match token {
+            Kind::Plain(word) => {
+                self.words.push(word)?;
+                Ok(Due::Arguments(symbols, name))
+            }
+            Kind::Arrow => Ok(Due::ResultSort(symbols, name)),
+            _ => Err(Stop::Refused),
+        }
+    }
+
+    // After the arrow: the sort.
+    pub(super) fn result_sort(
+        &mut self,
+        symbols: Symbols,
+        name: Span,
+        token: Kind,
+    ) -> Result<Due, Stop>
+        requires state { IsAt (Due.ResultSort symbols name) self.old }
+        requires token { IsToken self.old.source.items token }
+        ensures moves { Steps (Due.ResultSort symbols name) self.old token result self.new }
+        ensures same { self.new.source ≡ self.old.source }
+    {
+        match token {
+            Kind::Plain(sort) => {
+                let arguments = mem::replace(&mut self.words, Vec::new(self.alloc));
+                let declaration = Declaration {
+                    name,
+                    arguments,
+                    sort,
+                };
+                match symbols {
+                    Symbols::Constructors => {
+                        self.sections.constructors.push(declaration)?;
+                        Ok(Due::Between(Some(Part::Cons)))
+                    }
+                    Symbols::Operators => {
+                        self.sections.operators.push(declaration)?;
+                        Ok(Due::Between(Some(Part::Opns)))
+                    }
+                }
+            }
+            _ => Err(Stop::Refused),
+        }
+    }
+
+    // After a group's first word: the others, and the colon.
+    pub(super) fn grouped(&mut self, first: Span, token: Kind) -> Result<Due, Stop>
+        requires state { IsAt (Due.Grouped first) self.old }
+        requires token { IsToken self.old.source.items token }
+        ensures moves { Steps (Due.Grouped first) self.old token result self.new }
+        ensures same { self.new.source ≡ self.old.source }
+    {
+        match token {
+            Kind::Plain(word) => {
+                self.words.push(word)?;
+                Ok(Due::Grouped(first))
+            }
+            Kind::Colon => Ok(Due::GroupSort(first)),
+            _ => Err(Stop::Refused),
+        }
+    }
+
+    // After a group's colon: the sort.
+    pub(super) fn group_sort(&mut self, first: Span, token: Kind) -> Result<Due, Stop>
+        requires state { IsAt (Due.GroupSort first) self.old }
+        requires token { IsToken self.old.source.items token }
+        ensures moves { Steps (Due.GroupSort first) self.old token result self.new }
+        ensures same { self.new.source ≡ self.old.source }
+    {
+        match token {
+            Kind::Plain(sort) => {
+                let others = mem::replace(&mut self.words, Vec::new(self.alloc));
+                self.sections.groups.push(Group {
+                    first,
+                    others,
+                    sort,
+                })?;
+                Ok(Due::Between(Some(Part::Vars)))
+            }
+            _ => Err(Stop::Refused),
+        }
+    }
+}

@@ -1,0 +1,223 @@
+//! Terms, and the rules and the terms to evaluate that are made of them.
+
+ghost use Rattle.std.specs.Prelude.{◌≡◌, []};
+ghost use Rattle.rec_syntax.specs.Lexemes.{IsToken};
+ghost use Rattle.rec_syntax.specs.Parts.{IsTerm, IsCondition, IsRule, AreSections};
+ghost use Rattle.rec_syntax.specs.Reader.{IsAt, Steps, Completes};
+
+use super::{Call, Due, Reader, Role, Stop};
+use crate::lexer::{Kind, Part, Span};
+use crate::parts::{Condition, Node, Rule, Term};
+use std::mem;
+
+impl Reader {
+    // Nothing is read of the next term.
+    pub(super) fn begin(&mut self, role: Role)
+        ensures role { self.new.role ≡ role }
+        ensures calls { self.new.calls.items ≡ [] }
+        ensures nodes { self.new.nodes.items ≡ [] }
+        ensures sections { self.new.sections ≡ self.old.sections }
+        ensures same { self.new.source ≡ self.old.source }
+    {
+        self.role = role;
+        self.calls.clear();
+        self.nodes.clear();
+    }
+
+    // A term's word.
+    pub(super) fn at_term(&mut self, token: Kind) -> Result<Due, Stop>
+        requires state { IsAt Due.AtTerm self.old }
+        requires token { IsToken self.old.source.items token }
+        ensures moves { Steps Due.AtTerm self.old token result self.new }
+        ensures same { self.new.source ≡ self.old.source }
+    {
+        match token {
+            Kind::Plain(word) => Ok(Due::Called(word)),
+            _ => Err(Stop::Refused),
+        }
+    }
+
+    // After a term's word: an opening parenthesis, or what follows a term.
+    pub(super) fn called(&mut self, word: Span, token: Kind) -> Result<Due, Stop>
+        requires state { IsAt (Due.Called word) self.old }
+        requires token { IsToken self.old.source.items token }
+        ensures moves { Steps (Due.Called word) self.old token result self.new }
+        ensures same { self.new.source ≡ self.old.source }
+    {
+        match token {
+            Kind::Open => Ok(Due::First(word)),
+            _ => {
+                self.nodes.push(Node { word, count: 0 })?;
+                self.after(token)
+            }
+        }
+    }
+
+    // After an opening parenthesis: the first argument, or the closing one.
+    pub(super) fn first(&mut self, word: Span, token: Kind) -> Result<Due, Stop>
+        requires state { IsAt (Due.First word) self.old }
+        requires token { IsToken self.old.source.items token }
+        ensures moves { Steps (Due.First word) self.old token result self.new }
+        ensures same { self.new.source ≡ self.old.source }
+    {
+        match token {
+            Kind::Plain(argument) => {
+                self.calls.push(Call { word, count: 0 })?;
+                Ok(Due::Called(argument))
+            }
+            Kind::Close => {
+                self.nodes.push(Node { word, count: 0 })?;
+                Ok(Due::After)
+            }
+            _ => Err(Stop::Refused),
+        }
+    }
+
+    // After a whole term.
+    pub(super) fn after(&mut self, token: Kind) -> Result<Due, Stop>
+        requires state { IsAt Due.After self.old }
+        requires token { IsToken self.old.source.items token }
+        ensures moves { Steps Due.After self.old token result self.new }
+        ensures same { self.new.source ≡ self.old.source }
+    {
+        match self.calls.pop() {
+            None => self.complete(token),
+            Some(call) => match token {
+                Kind::Comma => {
+                    self.calls.push(Call {
+                        word: call.word,
+                        count: call.count + 1,
+                    })?;
+                    Ok(Due::AtTerm)
+                }
+                Kind::Close => {
+                    self.nodes.push(Node {
+                        word: call.word,
+                        count: call.count + 1,
+                    })?;
+                    Ok(Due::After)
+                }
+                _ => Err(Stop::Refused),
+            },
+        }
+    }
+
+    // After a whole term that is no argument.
+    fn complete(&mut self, token: Kind) -> Result<Due, Stop>
+        requires state { IsAt Due.After self.old }
+        requires alone { self.old.calls.items ≡ [] }
+        requires token { IsToken self.old.source.items token }
+        ensures moves { Completes self.old.role (record { nodes = self.old.nodes }) self.old token result self.new }
+        ensures same { self.new.source ≡ self.old.source }
+    {
+        let nodes = mem::replace(&mut self.nodes, Vec::new(self.alloc));
+        let term = Term { nodes };
+        match mem::replace(&mut self.role, Role::Left) {
+            Role::Left => self.after_left(term, token),
+            Role::Right(left) => self.after_right(left, term, token),
+            Role::ConditionLeft(rule) => self.after_condition_left(rule, term, token),
+            Role::ConditionRight(rule, left, equal) => {
+                let condition = Condition {
+                    left,
+                    right: term,
+                    equal,
+                };
+                self.after_condition(rule, condition, token)
+            }
+            Role::InEval => {
+                self.sections.terms.push(term)?;
+                self.between(Some(Part::Eval), token)
+            }
+        }
+    }
+
+    // After a rule's left side: the arrow.
+    fn after_left(&mut self, left: Term, token: Kind) -> Result<Due, Stop>
+        requires sections { AreSections self.old.source.items self.old.sections }
+        requires left { IsTerm self.old.source.items left }
+        ensures moves { Completes Role.Left left self.old token result self.new }
+        ensures same { self.new.source ≡ self.old.source }
+    {
+        match token {
+            Kind::Arrow => {
+                self.begin(Role::Right(left));
+                Ok(Due::AtTerm)
+            }
+            _ => Err(Stop::Refused),
+        }
+    }
+
+    // After a rule's right side: a condition, or what follows a rule.
+    fn after_right(&mut self, left: Term, right: Term, token: Kind) -> Result<Due, Stop>
+        requires sections { AreSections self.old.source.items self.old.sections }
+        requires left { IsTerm self.old.source.items left }
+        requires right { IsTerm self.old.source.items right }
+        requires token { IsToken self.old.source.items token }
+        ensures moves { Completes (Role.Right left) right self.old token result self.new }
+        ensures same { self.new.source ≡ self.old.source }
+    {
+        let rule = Rule {
+            left,
+            right,
+            conditions: Vec::new(self.alloc),
+        };
+        match token {
+            Kind::If => {
+                self.begin(Role::ConditionLeft(rule));
+                Ok(Due::AtTerm)
+            }
+            _ => {
+                self.sections.rules.push(rule)?;
+                self.between(Some(Part::Rules), token)
+            }
+        }
+    }
+
+    // After a condition's left term: the mark.
+    fn after_condition_left(&mut self, rule: Rule, left: Term, token: Kind) -> Result<Due, Stop>
+        requires sections { AreSections self.old.source.items self.old.sections }
+        requires rule { IsRule self.old.source.items rule }
+        requires left { IsTerm self.old.source.items left }
+        ensures moves { Completes (Role.ConditionLeft rule) left self.old token result self.new }
+        ensures same { self.new.source ≡ self.old.source }
+    {
+        match token {
+            Kind::Equal => {
+                self.begin(Role::ConditionRight(rule, left, true));
+                Ok(Due::AtTerm)
+            }
+            Kind::Unequal => {
+                self.begin(Role::ConditionRight(rule, left, false));
+                Ok(Due::AtTerm)
+            }
+            _ => Err(Stop::Refused),
+        }
+    }
+
+    // After a whole condition: another one, or what follows a rule.
+    fn after_condition(
+        &mut self,
+        mut rule: Rule,
+        condition: Condition,
+        token: Kind,
+    ) -> Result<Due, Stop>
+        requires sections { AreSections self.old.source.items self.old.sections }
+        requires rule { IsRule self.old.source.items rule }
+        requires condition { IsCondition self.old.source.items condition }
+        requires token { IsToken self.old.source.items token }
+        ensures moves { Completes (Role.ConditionRight rule condition.left condition.equal) condition.right self.old token result self.new }
+        ensures same { self.new.source ≡ self.old.source }
+    {
+        rule.conditions.push(condition)?;
+        match token {
+            Kind::AndIf => {
+                self.begin(Role::ConditionLeft(rule));
+                Ok(Due::AtTerm)
+            }
+            _ => {
+                self.sections.rules.push(rule)?;
+                self.between(Some(Part::Rules), token)
+            }
+        }
+    }
+}
