@@ -50,7 +50,7 @@ module _ (s : Scope) (π : TermPlaces → Option ℕ) (joins : (p q : TermPlaces
       by_rule r =
           at_rule r
           ∙ ap (earlier (earlier (earlier (F r.left) (F r.right)) None))
-            (conditions-field (binds_variable (letters_of s r.left)) r.conditions ∙ least_of-same r.conditions (λ c. at_condition (binds_variable (letters_of s r.left)) c ∙ earlier_none (earlier (F c.left) (F c.right))))
+          (conditions-field (binds_variable (letters_of s r.left)) r.conditions ∙ least_of-same r.conditions (λ c. at_condition (binds_variable (letters_of s r.left)) c ∙ earlier_none (earlier (F c.left) (F c.right))))
           ∙ ap (λ p. earlier p (least_of (λ c. earlier (F c.left) (F c.right)) r.conditions)) (earlier_none (earlier (F r.left) (F r.right)))
           ∙ earlier_assoc (F r.left) (F r.right) (least_of (λ c. earlier (F c.left) (F c.right)) r.conditions)
 
@@ -121,9 +121,9 @@ module _ (y : Spec) (s : Scope) (h : IsScope y s) where
       by_rule : (r : Rule) → (rule_places s r).unlike ≡ least_place (heads (unlike y r.left r.right ++ flat_map (λ c. unlike y c.left c.right) r.conditions))
       by_rule r =
           ap (earlier (unlike_at s (letters_of s r.left) (letters_of s r.right)))
-            (conditions-field s (λ p. p.unlike) (λ p q. refl) refl (binds_variable (letters_of s r.left)) r.conditions
-              ∙ least_of-same r.conditions (λ c. unlike-terms y s h kept c.left c.right)
-              ∙ sym (heads-flat_map (λ c. unlike y c.left c.right) r.conditions))
+          (conditions-field s (λ p. p.unlike) (λ p q. refl) refl (binds_variable (letters_of s r.left)) r.conditions
+          ∙ least_of-same r.conditions (λ c. unlike-terms y s h kept c.left c.right)
+          ∙ sym (heads-flat_map (λ c. unlike y c.left c.right) r.conditions))
           ∙ ap (λ p. earlier p (least_place (heads (flat_map (λ c. unlike y c.left c.right) r.conditions)))) (unlike-terms y s h kept r.left r.right)
           ∙ sym (heads-append (unlike y r.left r.right) (flat_map (λ c. unlike y c.left c.right) r.conditions))
 
@@ -139,7 +139,7 @@ module _ (y : Spec) (s : Scope) (h : IsScope y s) where
       by_rule r =
           let B = λ (t : Term). unbound_among (binds_variable (letters_of s r.left)) (letters_of s t) in
           ap (earlier (B r.right))
-            (conditions-field s (λ p. p.unbound) (λ p q. refl) refl (binds_variable (letters_of s r.left)) r.conditions ∙ sym (least_of-conditions B r.conditions))
+          (conditions-field s (λ p. p.unbound) (λ p q. refl) refl (binds_variable (letters_of s r.left)) r.conditions ∙ sym (least_of-conditions B r.conditions))
           ∙ unbound-terms y s h kept r.left (r.right ∷ condition_terms r.conditions)
 
   free-found : taken_variables y ≡ [] → found.free ≡ least_place (open_terms y)

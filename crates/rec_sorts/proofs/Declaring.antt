@@ -36,9 +36,9 @@ pub Adds-all : (source : List ℕ) (numbers : Numbers) (y : Spec) (d₀ d₁ d�
 Adds-all source numbers y d₀ d₁ d₂ d₃ c o g =
     subst (Adds source numbers d₀ d₃)
     (ap (λ a. both a (added_by_groups numbers y.variables)) (sym (added_by_symbols-append numbers y.constructors y.operators) ∙ added_by_symbols-parts numbers (symbols y))
-      ∙ ap (both (record { words = names (symbols y); sorts = map (λ d. numbers d.sort.bytes) (symbols y); arguments = map (λ d. sort_numbers numbers d.arguments) (symbols y); named = flat_map sorts_of (symbols y) })) (added_by_groups-parts numbers y.variables))
+    ∙ ap (both (record { words = names (symbols y); sorts = map (λ d. numbers d.sort.bytes) (symbols y); arguments = map (λ d. sort_numbers numbers d.arguments) (symbols y); named = flat_map sorts_of (symbols y) })) (added_by_groups-parts numbers y.variables))
     (Adds-both source numbers d₀ d₂ d₃ (both (added_by_symbols numbers y.constructors) (added_by_symbols numbers y.operators)) (added_by_groups numbers y.variables)
-      (Adds-both source numbers d₀ d₁ d₂ (added_by_symbols numbers y.constructors) (added_by_symbols numbers y.operators) c o) g)
+    (Adds-both source numbers d₀ d₁ d₂ (added_by_symbols numbers y.constructors) (added_by_symbols numbers y.operators) c o) g)
 
 -- as many words are read before the groups as there are symbols
 pub symbols-read : (source : List ℕ) (numbers : Numbers) (y : Spec) (d₀ d₁ d₂ : Declared) → d₀.words.items ≡ [] → Adds source numbers d₀ d₁ (added_by_symbols numbers y.constructors) → Adds source numbers d₁ d₂ (added_by_symbols numbers y.operators)
@@ -46,8 +46,8 @@ pub symbols-read : (source : List ℕ) (numbers : Numbers) (y : Spec) (d₀ d₁
 symbols-read source numbers y d₀ d₁ d₂ empty c o =
     let both_added = Adds-both source numbers d₀ d₁ d₂ (added_by_symbols numbers y.constructors) (added_by_symbols numbers y.operators) c o in
     let all : words_of source d₂.words.items ≡ names (symbols y) =
-      both_added.words_added ∙ ap (λ xs. words_of source xs ++ (both (added_by_symbols numbers y.constructors) (added_by_symbols numbers y.operators)).words) empty
-      ∙ ap (λ (a : Additions). a.words) (sym (added_by_symbols-append numbers y.constructors y.operators) ∙ added_by_symbols-parts numbers (symbols y)) in
+    both_added.words_added ∙ ap (λ xs. words_of source xs ++ (both (added_by_symbols numbers y.constructors) (added_by_symbols numbers y.operators)).words) empty
+    ∙ ap (λ (a : Additions). a.words) (sym (added_by_symbols-append numbers y.constructors y.operators) ∙ added_by_symbols-parts numbers (symbols y)) in
     sym (length-map d₂.words.items (word_of source)) ∙ ap length all ∙ length-map (symbols y) (λ d. d.name)
 
 module _ (source : List ℕ) (y : Spec) (words : List Span) (n : ℕ) (all : words_of source words ≡ names (symbols y) ++ variable_words y.variables) (long : n ≡ length (symbols y)) where
@@ -114,15 +114,15 @@ declared-read y source numbers d₀ d₁ d₂ d₃ n long en ew es ea eu c o g =
       words_read = all.words_added ∙ ap (λ xs. words_of source xs ++ (names (symbols y) ++ variable_words y.variables)) ew;
       sorts_read = all.sorts_added ∙ ap (λ xs. xs ++ (map (λ d. numbers d.sort.bytes) (symbols y) ++ variable_sorts numbers y.variables)) es ∙ ap (λ (g : Numbers). map (λ d. g d.sort.bytes) (symbols y) ++ variable_sorts g y.variables) en;
       arguments_read =
-        all.arguments_added
-        ∙ ap (λ xs. map (λ v. v.items) xs ++ (map (λ d. sort_numbers numbers d.arguments) (symbols y) ++ [])) ea
-        ∙ append-nil (map (λ d. sort_numbers numbers d.arguments) (symbols y))
-        ∙ ap (λ (g : Numbers). map (λ d. sort_numbers g d.arguments) (symbols y)) en;
+          all.arguments_added
+          ∙ ap (λ xs. map (λ v. v.items) xs ++ (map (λ d. sort_numbers numbers d.arguments) (symbols y) ++ [])) ea
+          ∙ append-nil (map (λ d. sort_numbers numbers d.arguments) (symbols y))
+          ∙ ap (λ (g : Numbers). map (λ d. sort_numbers g d.arguments) (symbols y)) en;
       unknown_read =
-        all.unknown_added
-        ∙ ap (λ p. earlier p (least_unnumbered numbers (flat_map sorts_of (symbols y) ++ map (λ v. v.sort) y.variables))) eu
-        ∙ ap (λ (g : Numbers). least_unnumbered g (flat_map sorts_of (symbols y) ++ map (λ v. v.sort) y.variables)) en
-        ∙ unnumbered-sorts y.sorts (flat_map sorts_of (symbols y) ++ map (λ v. v.sort) y.variables);
+          all.unknown_added
+          ∙ ap (λ p. earlier p (least_unnumbered numbers (flat_map sorts_of (symbols y) ++ map (λ v. v.sort) y.variables))) eu
+          ∙ ap (λ (g : Numbers). least_unnumbered g (flat_map sorts_of (symbols y) ++ map (λ v. v.sort) y.variables)) en
+          ∙ unnumbered-sorts y.sorts (flat_map sorts_of (symbols y) ++ map (λ v. v.sort) y.variables);
       within_read = all.within_added (none_within source d₀.words.items ew);
       symbols_read = long ∙ symbols-read source numbers y d₀ d₁ d₂ ew c o;
       symbols_within = omega (arith, words_longer source numbers d₂ d₃ (added_by_groups numbers y.variables) g);

@@ -119,7 +119,7 @@ first_kept before ws w e = by_test (mentions before w.bytes) e
 no_later : (before ws : List Word) (w : Word) (k : ℕ) → repeated (w ∷ before) ws ≡ [] → k < length ws → w.bytes ≡ bytes_at ws k → ⊥
 no_later before ws w k e h same =
     cc (sym (ap (λ b. b || mentions before w.bytes) (bytes_eq-self w.bytes))
-      ∙ not_before (w ∷ before) ws w.bytes (repeated_none (w ∷ before) ws e) (ap (mentions ws) same ∙ mentions-at ws k h))
+    ∙ not_before (w ∷ before) ws w.bytes (repeated_none (w ∷ before) ws e) (ap (mentions ws) same ∙ mentions-at ws k h))
 
 -- where no word repeats, words with one name have one number
 pub one_number : (before ws : List Word) (j k : ℕ) → repeated before ws ≡ [] → j < length ws → k < length ws → bytes_at ws j ≡ bytes_at ws k → j ≡ k
@@ -148,8 +148,8 @@ module _ (y : Spec) (kept : fault y ≡ None) where
   no_shared_name j k g h same =
       let long : length (names (symbols y)) ≡ length (symbols y) = length-map (symbols y) (λ d. d.name) in
       cc (sym (mentions-at (names (symbols y)) j (omega arith))
-        ∙ ap (mentions (names (symbols y))) same
-        ∙ not_before (names (symbols y)) (variable_words y.variables) (name_of y (Variable k)) (repeated_none (names (symbols y)) (variable_words y.variables) kept_lists.1.1.0) (mentions-at (variable_words y.variables) k h))
+      ∙ ap (mentions (names (symbols y))) same
+      ∙ not_before (names (symbols y)) (variable_words y.variables) (name_of y (Variable k)) (repeated_none (names (symbols y)) (variable_words y.variables) kept_lists.1.1.0) (mentions-at (variable_words y.variables) k h))
 
   -- each word of a term has the number of arguments that it is declared with
   pub all_filled : Every (λ t. is_filled y t ≡ true) (all_terms y)

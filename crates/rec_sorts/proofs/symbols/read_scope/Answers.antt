@@ -16,9 +16,9 @@ returns-clause-scope c =
     let front = words_of c.source-source.result.now c.split_at-parts.result.0.now in
     let back = words_of c.source-source.result.now c.split_at-parts.result.1.now in
     let first : front ≡ names (symbols y) =
-      ap (λ t. words_of t c.split_at-parts.result.0.now) c.source-source.ensures ∙ ap (words_of source) (c.split_at-parts.ensures.front ∙ ap (take n) c.deref.ensures.value) ∙ first_words source y d.words.items n read.words_read read.symbols_read in
+    ap (λ t. words_of t c.split_at-parts.result.0.now) c.source-source.ensures.text ∙ ap (words_of source) (c.split_at-parts.ensures.front ∙ ap (take n) c.deref.ensures.value) ∙ first_words source y d.words.items n read.words_read read.symbols_read in
     let second : back ≡ variable_words y.variables =
-      ap (λ t. words_of t c.split_at-parts.result.1.now) c.source-source.ensures ∙ ap (words_of source) (c.split_at-parts.ensures.back ∙ ap (drop n) c.deref.ensures.value) ∙ other_words source y d.words.items n read.words_read read.symbols_read in
+    ap (λ t. words_of t c.split_at-parts.result.1.now) c.source-source.ensures.text ∙ ap (words_of source) (c.split_at-parts.ensures.back ∙ ap (drop n) c.deref.ensures.value) ∙ other_words source y d.words.items n read.words_read read.symbols_read in
     record {
       words_numbered = words_all-numbered y n read.symbols_read front back first second (given_to c.new-words.result) (given_to c.number_words.new.names) (given_to c.number_words-2.new.names) c.new-words.ensures c.in_ok-repeated_symbol.ensures.numbers c.in_ok-taken_variable.ensures.numbers;
       sorts_listed = read.sorts_read;
@@ -37,9 +37,9 @@ returns-clause-repeated c =
     let front = words_of c.source-source.result.now c.split_at-parts.result.0.now in
     let back = words_of c.source-source.result.now c.split_at-parts.result.1.now in
     let first : front ≡ names (symbols y) =
-      ap (λ t. words_of t c.split_at-parts.result.0.now) c.source-source.ensures ∙ ap (words_of source) (c.split_at-parts.ensures.front ∙ ap (take n) c.deref.ensures.value) ∙ first_words source y d.words.items n read.words_read read.symbols_read in
+    ap (λ t. words_of t c.split_at-parts.result.0.now) c.source-source.ensures.text ∙ ap (words_of source) (c.split_at-parts.ensures.front ∙ ap (take n) c.deref.ensures.value) ∙ first_words source y d.words.items n read.words_read read.symbols_read in
     let second : back ≡ variable_words y.variables =
-      ap (λ t. words_of t c.split_at-parts.result.1.now) c.source-source.ensures ∙ ap (words_of source) (c.split_at-parts.ensures.back ∙ ap (drop n) c.deref.ensures.value) ∙ other_words source y d.words.items n read.words_read read.symbols_read in
+    ap (λ t. words_of t c.split_at-parts.result.1.now) c.source-source.ensures.text ∙ ap (words_of source) (c.split_at-parts.ensures.back ∙ ap (drop n) c.deref.ensures.value) ∙ other_words source y d.words.items n read.words_read read.symbols_read in
     c.in_ok-repeated_symbol.ensures.repeated ∙ symbols_repeated y n read.symbols_read front back first second (given_to c.new-words.result) (given_to c.number_words.new.names) (given_to c.number_words-2.new.names) c.new-words.ensures c.in_ok-repeated_symbol.ensures.numbers c.in_ok-taken_variable.ensures.numbers
 
 pub returns-clause-taken : goal.returns-clause-taken
@@ -52,7 +52,7 @@ returns-clause-taken c =
     let front = words_of c.source-source.result.now c.split_at-parts.result.0.now in
     let back = words_of c.source-source.result.now c.split_at-parts.result.1.now in
     let first : front ≡ names (symbols y) =
-      ap (λ t. words_of t c.split_at-parts.result.0.now) c.source-source.ensures ∙ ap (words_of source) (c.split_at-parts.ensures.front ∙ ap (take n) c.deref.ensures.value) ∙ first_words source y d.words.items n read.words_read read.symbols_read in
+    ap (λ t. words_of t c.split_at-parts.result.0.now) c.source-source.ensures.text ∙ ap (words_of source) (c.split_at-parts.ensures.front ∙ ap (take n) c.deref.ensures.value) ∙ first_words source y d.words.items n read.words_read read.symbols_read in
     let second : back ≡ variable_words y.variables =
-      ap (λ t. words_of t c.split_at-parts.result.1.now) c.source-source.ensures ∙ ap (words_of source) (c.split_at-parts.ensures.back ∙ ap (drop n) c.deref.ensures.value) ∙ other_words source y d.words.items n read.words_read read.symbols_read in
+    ap (λ t. words_of t c.split_at-parts.result.1.now) c.source-source.ensures.text ∙ ap (words_of source) (c.split_at-parts.ensures.back ∙ ap (drop n) c.deref.ensures.value) ∙ other_words source y d.words.items n read.words_read read.symbols_read in
     c.in_ok-taken_variable.ensures.repeated ∙ variables_repeated y n read.symbols_read front back first second (given_to c.new-words.result) (given_to c.number_words.new.names) (given_to c.number_words-2.new.names) c.new-words.ensures c.in_ok-repeated_symbol.ensures.numbers c.in_ok-taken_variable.ensures.numbers
