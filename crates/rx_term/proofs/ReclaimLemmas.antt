@@ -8,7 +8,8 @@ use Rattle.rx_term.proofs.PartsLemmas.{cons_head, cons_tail, cons_cases, no_elem
 use Rattle.rx_term.specs.Heap.{Node, pair, application, placeholder, Cell, Heap, Table, tree_of, Notes, Says, links, node_links, notes_links, kept_slots}
 use Rattle.std.specs.FinMap as map
 use Rattle.rx_term.specs.Heap.{IsHeap, is_whole, content_of}
-use Rattle.rx_term.proofs.ContentLemmas.{known, content-at, some-value}
+use Rattle.rx_term.proofs.ContentLemmas.{known, content-at}
+use Rattle.rx_term.proofs.StoreLemmas.{some-value}
 use Rattle.rx_term.proofs.HeapLemmas.{whole-at, whole-from, opens, closes, kept-tree_of}
 
 -- what a cell says of the slots that it names, told of each of them alone

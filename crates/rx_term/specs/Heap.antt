@@ -102,11 +102,11 @@ pub Least-prop : (p : ℕ → Bool) → IsProp (Least p)
 Least-prop p x y = let same : x.0 ≡ y.0 = omega (arith, none_before p x y, none_before p y x) in Σ_prop_path (IsLeast-prop p) same
 
 -- a map of the slots below `len` that have a value
-abbrev pub put_some : map.FinMap nat_cmp Tree → ℕ → Option Tree → map.FinMap nat_cmp Tree
+abbrev pub put_some : {X : Type 0} → map.FinMap nat_cmp X → ℕ → Option X → map.FinMap nat_cmp X
 put_some m k None = m
 put_some m k (Some u) = map.insert m k u
 
-abbrev pub tabulate : ℕ → (ℕ → Option Tree) → map.FinMap nat_cmp Tree
+abbrev pub tabulate : {X : Type 0} → ℕ → (ℕ → Option X) → map.FinMap nat_cmp X
 tabulate zero f = map.empty
 tabulate (suc k) f = put_some (tabulate k f) k (f k)
 
