@@ -1,13 +1,13 @@
 //! Rows that any bank gives, as calls for the tests of each bank.
 #![tactic(auto, using(crate::proofs::StoreLemmas::bank_steps))]
 
-ghost use Rattle.std.specs.Prelude.{◌≡◌, ◌+◌, ◌≤◌, ◌<◌, false, IsTrue, IsSome, IfOk, Some, None, codes};
+ghost use Rattle.std.specs.Prelude.{◌≡◌, ℕ, ◌+◌, ◌≤◌, ◌<◌, false, IsTrue, IsSome, IfOk, Some, None, codes};
 ghost use Rattle.rx_term.specs.Tree.{Int, Items, Appl, none, more};
 ghost use Rattle.rx_term.specs.Store.{tree_at, signature_of};
 ghost use Rattle.rx_term.specs.Steps.{Grows};
 
 use crate::build::constant;
-use crate::{BankFault, Term, TermBank};
+use crate::{BankFault, Kind, Term, TermBank};
 
 /// `f(a,a)`, whose two arguments are one reference.
 pub fn pair<B: TermBank>(bank: &mut B) -> Result<(Term, bool), BankFault>
@@ -26,19 +26,25 @@ pub fn pair<B: TermBank>(bank: &mut B) -> Result<(Term, bool), BankFault>
     Ok((r, first == second))
 }
 
+/// Whether the rows hold of two empty banks: of cap 5 and of cap 10.
+pub fn hold<B: TermBank>(five: &mut B, ten: &mut B) -> Result<bool, BankFault>
+    requires { (t : ℕ) → (B.store five.old).roots t ≡ 0 }
+{
+    match fills(five)? {
+        Some(a) => Ok(reclaims(five, a) && notes(ten)?),
+        None => Ok(false),
+    }
+}
+
 /// In an empty bank of cap 5: five trees fit, a sixth does not, and a tree that is there is found.
-pub fn fills<B: TermBank>(bank: &mut B) -> Result<Option<Term>, BankFault>
-    ensures { IfOk result (λ r. (a : _) → r ≡ Some a → IsSome (tree_at (B.store bank.new) a)) }
+fn fills<B: TermBank>(bank: &mut B) -> Result<Option<Term>, BankFault>
+    ensures held { IfOk result (λ r. (a : _) → r ≡ Some a → IsSome (tree_at (B.store bank.new) a)) }
+    ensures roots { (B.store bank.new).roots ≡ (B.store bank.old).roots }
 {
     let refused = bank.reserve(6) == Err(BankFault::Full);
     bank.reserve(5)?;
     let roomy = bank.spare() == 5;
-    let a = constant(bank, b"a")?;
-    let nil = bank.nil()?;
-    let one = bank.cons(a, nil)?;
-    let two = bank.cons(a, one)?;
-    let f = bank.symbol(b"f", false, 2)?;
-    bank.appl(f, two)?;
+    let a = make_five(bank)?;
     let whole = bank.cells() == 5;
     let full = bank.int(7) == Err(BankFault::Full);
     let again = constant(bank, b"a")?;
@@ -47,6 +53,19 @@ pub fn fills<B: TermBank>(bank: &mut B) -> Result<Option<Term>, BankFault>
     } else {
         Ok(None)
     }
+}
+
+/// Makes `f(a,a)` and what it is made of; the reference of `a`.
+fn make_five<B: TermBank>(bank: &mut B) -> Result<Term, BankFault>
+    ensures roots { (B.store bank.new).roots ≡ (B.store bank.old).roots }
+{
+    let nil = bank.nil()?;
+    let a = constant(bank, b"a")?;
+    let one = bank.cons(a, nil)?;
+    let two = bank.cons(a, one)?;
+    let f = bank.symbol(b"f", false, 2)?;
+    bank.appl(f, two)?;
+    Ok(a)
 }
 
 /// Roots a term as often as it can be; whether the next time was refused.
@@ -72,17 +91,19 @@ fn unroot<B: TermBank>(bank: &mut B, a: Term)
 }
 
 /// In an empty bank of cap 10: a placeholder of 7 with the annotation list of 7; whether its parts are as they were made.
-pub fn notes<B: TermBank>(bank: &mut B) -> Result<bool, BankFault> {
+fn notes<B: TermBank>(bank: &mut B) -> Result<bool, BankFault> {
     let seven = bank.int(7)?;
     let hole = bank.hole(seven)?;
     let nil = bank.nil()?;
     let list = bank.cons(seven, nil)?;
     let noted = bank.annotated(hole, list)?;
-    Ok(bank.inner(noted) == seven && bank.anns(noted) == Some(list))
+    let named = bank.inner(noted) == seven && bank.anns(noted) == Some(list);
+    let listed = bank.head(list) == seven && bank.tail(list) == nil;
+    Ok(named && listed && bank.kind(noted) == Kind::Hole && bank.kind(seven) == Kind::Int(7))
 }
 
 /// Of a bank with `a` and what it is made of: what stays while `a` is rooted as often as it can be, and after.
-pub fn reclaims<B: TermBank>(bank: &mut B, a: Term) -> bool
+fn reclaims<B: TermBank>(bank: &mut B, a: Term) -> bool
     requires held { IsSome (tree_at (B.store bank.old) a) }
     requires unrooted { (B.store bank.old).roots a.0 ≡ 0 }
 {
