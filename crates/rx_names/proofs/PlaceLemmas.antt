@@ -98,31 +98,51 @@ module _ {X Y : Type 0} (f : X → Y) (w : Y) (p : X → Bool) (exact : (x : X) 
   searched xs None e s = none-found xs (sym s)
   searched xs (Some i) e s = found-at xs i (sym e)
 
--- the list is as it was, or has the new thing at its end
+-- the list is as it was, or has at its end a thing that stood nowhere
 abbrev pub Placed : {X : Type 0} → List X → List X → X → Type 0
-Placed xs new x = (new ≡ xs) ⊎ (new ≡ xs ++ x ∷ [])
+Placed xs new x = (new ≡ xs) ⊎ (((i : ℕ) → slice_get xs i ≢ Some x) × (new ≡ xs ++ x ∷ []))
 
--- what an insertion of a thing that was not there does, whether it was refused or not
-pub inserted-once : {A E X : Type 0} (r : Result A E) (found : Bool) (xs new : List X) (x : X) → IfOk r (λ _. new ≡ (if found then xs else xs ++ x ∷ [])) → OnErr r (new ≡ xs) → found ≡ false → Placed xs new x
-inserted-once (Ok a) true xs new x p q e = cc
-inserted-once (Ok a) false xs new x p q e = inr p
-inserted-once (Err a) found xs new x p q e = inl q
+-- what an insertion does, whether it was refused or not
+pub inserted-once : {A E X : Type 0} (r : Result A E) (found : Bool) (xs new : List X) (x : X) → IfOk r (λ _. new ≡ (if found then xs else xs ++ x ∷ [])) → OnErr r (new ≡ xs) → (found ≡ false → (i : ℕ) → slice_get xs i ≢ Some x) → Placed xs new x
+inserted-once (Ok a) true xs new x p q lacks = inl p
+inserted-once (Ok a) false xs new x p q lacks = inr (lacks refl, p)
+inserted-once (Err a) found xs new x p q lacks = inl q
 
-module _ {X Y : Type 0} (f : X → Y) (xs new : List X) (x : X) (placed : Placed xs new x) where
-  pub Placed-kept : KeepsPlaces (map f xs) (map f new)
-  Placed-kept = elim placed [
-    | inl e ↦ subst (λ zs. KeepsPlaces (map f xs) (map f zs)) (sym e) (λ i y q. q)
-    | inr e ↦ subst (λ zs. KeepsPlaces (map f xs) (map f zs)) (sym e) (subst (KeepsPlaces (map f xs)) (sym (map-push f xs x)) (push-kept (map f xs) (f x)))
-  ]
-
-  pub Placed-apart : AreApart (map f xs) → ((i : ℕ) → slice_get (map f xs) i ≢ Some (f x)) → AreApart (map f new)
-  Placed-apart apart nowhere = elim placed [
-    | inl e ↦ subst (λ zs. AreApart (map f zs)) (sym e) apart
-    | inr e ↦ subst (λ zs. AreApart (map f zs)) (sym e) (subst AreApart (sym (map-push f xs x)) (AreApart-push (map f xs) (f x) apart nowhere))
-  ]
-
-pub Placed-bytes : {X : Type 0} (f : X → List ℕ) (xs new : List X) (x : X) → Placed xs new x → AllBytes (map f xs) → list_all (λ b. nat_lt b 256) (f x) ≡ true → AllBytes (map f new)
-Placed-bytes f xs new x placed all fit = elim placed [
-  | inl e ↦ subst (λ zs. AllBytes (map f zs)) (sym e) all
-  | inr e ↦ subst (λ zs. AllBytes (map f zs)) (sym e) (subst AllBytes (sym (map-push f xs x)) (AllBytes-push (map f xs) (f x) all fit))
+pub Placed-kept : {X : Type 0} (xs new : List X) (x : X) → Placed xs new x → KeepsPlaces xs new
+Placed-kept xs new x placed = elim placed [
+  | inl e ↦ subst (λ zs. KeepsPlaces xs zs) (sym e) (λ i y q. q)
+  | inr e ↦ subst (λ zs. KeepsPlaces xs zs) (sym e.1) (push-kept xs x)
 ]
+
+pub Placed-apart : {X : Type 0} (xs new : List X) (x : X) → Placed xs new x → AreApart xs → AreApart new
+Placed-apart xs new x placed apart = elim placed [
+  | inl e ↦ subst AreApart (sym e) apart
+  | inr e ↦ subst AreApart (sym e.1) (AreApart-push xs x apart e.0)
+]
+
+pub Placed-bytes : (ws new : List (List ℕ)) (w : List ℕ) → Placed ws new w → AllBytes ws → list_all (λ b. nat_lt b 256) w ≡ true → AllBytes new
+Placed-bytes ws new w placed all fit = elim placed [
+  | inl e ↦ subst AllBytes (sym e) all
+  | inr e ↦ subst AllBytes (sym e.1) (AllBytes-push ws w all fit)
+]
+
+-- each thing seen by a function
+pub Placed-map : {X Y : Type 0} (f : X → Y) (xs new : List X) (x : X) → (new ≡ xs) ⊎ (new ≡ xs ++ x ∷ []) → ((i : ℕ) → slice_get (map f xs) i ≢ Some (f x)) → Placed (map f xs) (map f new) (f x)
+Placed-map f xs new x p nowhere = elim p [ inl e ↦ inl (ap (map f) e) | inr e ↦ inr (nowhere, ap (map f) e ∙ map-push f xs x) ]
+
+pub inserted-new : {A E X : Type 0} (r : Result A E) (found : Bool) (xs new : List X) (x : X) → IfOk r (λ _. new ≡ (if found then xs else xs ++ x ∷ [])) → OnErr r (new ≡ xs) → found ≡ false → (new ≡ xs) ⊎ (new ≡ xs ++ x ∷ [])
+inserted-new (Ok a) true xs new x p q e = cc
+inserted-new (Ok a) false xs new x p q e = inr p
+inserted-new (Err a) found xs new x p q e = inl q
+
+map-same : {X : Type 0} (xs : List X) → map (λ x. x) xs ≡ xs
+map-same [] = refl
+map-same (x ∷ xs) = ap (λ ys. x ∷ ys) (map-same xs)
+
+-- a search for a thing itself
+module _ {X : Type 0} (w : X) (p : X → Bool) (exact : (x : X) → Decides (p x) (w ≡ x)) where
+  pub searched-itself : (xs : List X) (r : Option ℕ) → r ≡ position p xs → is_some r ≡ list_any p xs → MatchOption r ((i : ℕ) → slice_get xs i ≢ Some w) (λ i. slice_get xs i ≡ Some w)
+  searched-itself xs r e s = subst (λ ys. MatchOption r ((i : ℕ) → slice_get ys i ≢ Some w) (λ i. slice_get ys i ≡ Some w)) (map-same xs) (searched (λ x. x) w p exact xs r e s)
+
+  pub lacks-itself : (xs : List X) → list_any p xs ≡ false → (i : ℕ) → slice_get xs i ≢ Some w
+  lacks-itself xs e i q = none-found (λ x. x) w p exact xs e i (ap (λ ys. slice_get ys i) (map-same xs) ∙ q)

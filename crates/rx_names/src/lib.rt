@@ -3,7 +3,9 @@
 
 pub mod faults;
 pub mod names;
-pub mod words;
+#[cfg(test)]
+mod tests;
+mod words;
 
 pub use faults::NamesFault;
-
+pub use names::Names;
