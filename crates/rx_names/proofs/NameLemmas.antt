@@ -1,6 +1,8 @@
 -- A table of names as a map of symbols.
 use Rattle.std.proofs.Common.{ℕ, zero, suc, ◌≡◌, ◌≢◌, ◌⊎◌, ◌<◌, ◌≤◌, Bool, true, false, ◌&&◌, List, [], ◌∷◌, ◌++◌, length, Option, Some, None, IsSome, is_some, IsTrue, refl, sym, ap, ◌∙◌, subst, inl, inr, arith, slice_get, nat_eq}
-use Rattle.std.specs.Prelude.{Decides, MatchOption}
+use Rattle.std.specs.Prelude.{Decides, MatchOption, Result, Ok, Err}
+use Rattle.std.specs.Ordering.{nat_cmp}
+use Rattle.rx_names.specs.declared.faults.NamesFault.{NamesFault}
 use Rattle.std.specs.Bool.{beq}
 use Rattle.std.specs.Option.{option_and_then, option_map}
 use Rattle.std.specs.FinMap as map
@@ -17,7 +19,7 @@ use Rattle.rx_term.proofs.StoreLemmas.{some-value}
 use Rattle.rx_names.specs.Places.{AreApart, AllBytes, KeepsPlaces}
 use Rattle.rx_names.specs.Words.{words_of}
 use Rattle.rx_names.specs.Entries.{signature_in, signature_at, symbols_from, is_allowed_word, AllAllowed}
-use Rattle.rx_names.specs.Names.{symbols_of, Interns, FindsOrLacks}
+use Rattle.rx_names.specs.Names.{symbols_of, Interns, InternsOrRefuses, FindsOrLacks}
 use Rattle.rx_names.specs.declared.names.Entry.{Entry}
 use Rattle.rx_names.specs.declared.names.Names.{Names}
 use Rattle.rx_names.proofs.PlaceLemmas.{Placed, push-kept, push-cases}
@@ -181,3 +183,14 @@ the-entry n s e read held same at =
 pub found-or-lacks : (n : Names) (g : Signature) (e : Entry) → slice_get (words_of n.words) e.word ≡ Some g.name → e.quoted ≡ g.quoted → e.arity ≡ g.arity → (r : Option Symbol) → MatchOption r ((i : ℕ) → slice_get n.entries.keys i ≢ Some e) (λ s. slice_get n.entries.keys s.0 ≡ Some e) → FindsOrLacks (symbols_of n) g r
 found-or-lacks n g e word quoted arity None m = lacks-entry n g e word quoted arity m
 found-or-lacks n g e word quoted arity (Some s) m = has-entry n g e word quoted arity s m
+
+-- taking in a name keeps what each symbol stands for
+pub kept-Interns : {old new : map.FinMap nat_cmp Signature} {g : Signature} {s : Symbol} → Interns old new g s → (t : ℕ) (d : Signature) → map.get old t ≡ Some d → map.get new t ≡ Some d
+kept-Interns {old = old} {s = s} m t d h = elim (eqb_tells t s.0) [
+  | inl p ↦ (let there : IsSome (map.get old s.0) = ap is_some (subst (λ k. map.get old k ≡ Some d) p.1 h) in ap (λ n. map.get n t) (m.there there) ∙ h)
+  | inr p ↦ m.others t p.1 ∙ h
+]
+
+pub kept-interned : (old new : map.FinMap nat_cmp Signature) (g : Signature) (x : Result Symbol NamesFault) → InternsOrRefuses old new g x → (t : ℕ) (d : Signature) → map.get old t ≡ Some d → map.get new t ≡ Some d
+kept-interned old new g (Ok s) m t d h = kept-Interns m t d h
+kept-interned old new g (Err e) m t d h = ap (λ n. map.get n t) m ∙ h

@@ -63,7 +63,7 @@ module _ (c : ℕ → Option Tree) (m : Table) where
   longer-parts (Some x) (Some (Items xs (more y ys))) u e = cc
   longer-parts (Some x) (Some (Hole v anns)) u e = cc
 
-if-some : (b : Bool) (t u : Tree) → (if b then Some t else None) ≡ Some u → (b ≡ true) × (t ≡ u)
+pub if-some : (b : Bool) (t u : Tree) → (if b then Some t else None) ≡ Some u → (b ≡ true) × (t ≡ u)
 if-some true t u e = (refl, cc)
 if-some false t u e = cc
 

@@ -1,0 +1,7 @@
+//! A bank of terms as a vector of slots, searched from the front.
+#![tactic(auto)]
+
+pub mod bank;
+mod slots;
+
+pub use bank::PlainBank;
