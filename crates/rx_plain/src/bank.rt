@@ -6,6 +6,7 @@ ghost use Rattle.rx_term.specs.Heap.{Least, Least-prop, IsDistinct, is_whole, co
 ghost use Rattle.rx_names.specs.Names.{symbols_of};
 ghost use Rattle.rx_plain.specs.Slots.{table_of, heap_of, roots_of, cell_of};
 
+use crate::marks::mark_reached;
 use crate::slots::{find, find_free, sweep, Body, Shape, Slot};
 use rx_names::Names;
 use rx_term::{BankFault, Kind, RootsFull, Symbol, Term, TermBank};
@@ -236,7 +237,7 @@ impl TermBank for PlainBank {
     }
 
     fn reclaim(&mut self, extra: &[Term]) {
-        let _ = extra;
+        mark_reached(&mut self.slots, extra);
         self.taken = sweep(&mut self.slots) as u32;
     }
 

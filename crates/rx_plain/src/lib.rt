@@ -2,6 +2,7 @@
 #![tactic(auto)]
 
 pub mod bank;
+mod marks;
 mod slots;
 
 pub use bank::PlainBank;
