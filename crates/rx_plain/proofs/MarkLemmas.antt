@@ -109,9 +109,9 @@ Progress-step old now next k false true p m f = (λ e. cc, λ e. subst (λ xs. u
 Progress-step old now next k false false p m f = (
   λ e. cc,
   λ e. (
-    let same : next ≡ old = f ∙ p.0 in
-    let here : Marks old old (links_below (slice_get old k)) = subst (λ xs. Marks xs xs (links_below (slice_get xs k))) p.0 (subst (λ xs. Marks now xs (links_below (slice_get now k))) f m) in
-    (same, closed-until old k p.1 (closed-here old k here))),
+      let same : next ≡ old = f ∙ p.0 in
+      let here : Marks old old (links_below (slice_get old k)) = subst (λ xs. Marks xs xs (links_below (slice_get xs k))) p.0 (subst (λ xs. Marks now xs (links_below (slice_get now k))) f m) in
+      (same, closed-until old k p.1 (closed-here old k here))),
 )
 
 -- a cell has its links within the vector from where no slot stands

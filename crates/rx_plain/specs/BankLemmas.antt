@@ -209,7 +209,7 @@ int-cell c o (Some a) z e held =
     let q = if-some (is_i32 z) (Int z none) p.0 p.1.1.1 in
     (more p.1.0 p.1.1.0, u.1 ∙ ap (λ v. let w : Option Tree = Some v in w) (sym p.1.1.3 ∙ ap (λ v. annotated v (more p.1.0 p.1.1.0)) (sym q.1)))
 
-same_ref : (s t : Term) → s.0 ≡ t.0 → s ≡ t
+pub same_ref : (s t : Term) → s.0 ≡ t.0 → s ≡ t
 same_ref s t e = ap (λ k. let x : Term = record { 0 = k } in x) e
 
 -- every bank is sound

@@ -7,7 +7,7 @@ ghost use Rattle.rx_names.specs.Names.{symbols_of};
 ghost use Rattle.rx_plain.specs.Slots.{table_of, heap_of, roots_of, cell_of};
 
 use crate::marks::mark_reached;
-use crate::slots::{find, find_free, sweep, Body, Shape, Slot};
+use crate::slots::{Body, Shape, Slot, find, find_free, sweep};
 use rx_names::Names;
 use rx_term::{BankFault, Kind, RootsFull, Symbol, Term, TermBank};
 use std::alloc::Global;

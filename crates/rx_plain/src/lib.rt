@@ -4,5 +4,7 @@
 pub mod bank;
 mod marks;
 mod slots;
+#[cfg(test)]
+mod tests;
 
 pub use bank::PlainBank;
