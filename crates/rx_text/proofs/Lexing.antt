@@ -1,5 +1,5 @@
 -- The first token at an offset, and the tokens behind it.
-use Rattle.std.proofs.Common.{◌≡◌, ℕ, zero, suc, ◌+◌, ◌-◌, ◌≤◌, ◌<◌, ◌^◌, ◌*◌, true, false, Bool, cond, List, [], ◌∷◌, ◌++◌, length, drop, take, get_or, min, pos, neg_ℤ, refl, sym, ap, ◌∙◌, inl, inr, arith, add-zero, add-one, one-add, length-drop}
+use Rattle.std.proofs.Common.{◌≡◌, ℕ, zero, suc, ◌+◌, ◌-◌, ◌≤◌, ◌<◌, ◌^◌, ◌*◌, true, false, Bool, cond, List, [], ◌∷◌, ◌++◌, length, drop, take, get_or, min, ℤ, pos, neg_ℤ, refl, sym, ap, ◌∙◌, inl, inr, arith, add-zero, add-one, one-add, length-drop}
 use Rattle.std.specs.Prelude.{nat_le, nat_lt, IsTrue}
 use Rattle.std.specs.List.{list_all, prefix_len}
 use Rattle.std.specs.Char.{digit_value}
@@ -10,9 +10,11 @@ use Rattle.std.proofs.lemmas.Bool.Decides.{nat_tests}
 use Rattle.std.proofs.lemmas.List.{drop-drop}
 use Rattle.std.proofs.Math.Seq.{drop-cons}
 use Rattle.rx_term.specs.Name.{is_digit, starts_name, continues_name, is_allowed}
-use Rattle.rx_text.specs.Token.{Token, Name, Bad, tokens_from, token_at, token_or_layout, is_layout, integer_token, starts_with_digit}
-use Rattle.rx_text.specs.Lexemes.{token_of, tokens_after, behind, IsInner, AreDigits}
+use Rattle.rx_term.specs.Tree.{is_i32}
+use Rattle.rx_text.specs.Token.{Token, Integer, Name, Bad, tokens_from, token_at, token_or_layout, is_layout, integer_token, starts_with_digit}
+use Rattle.rx_text.specs.Lexemes.{token_of, tokens_after, behind, IsInner, IsToken, AreDigits}
 use Rattle.rx_text.specs.declared.lexer.Kind.{Kind}
+use Rattle.rx_text.specs.declared.lexer.Kind.TheVariants as kind
 use Rattle.rx_text.specs.declared.lexer.Kind.TheVariants.{End}
 use Rattle.rx_text.proofs.Cutting.{and_parts, letter_facts}
 
@@ -123,6 +125,17 @@ pub magnitude_on : (digits : List ℕ) (i v m d r : ℕ) → AreDigits digits �
 magnitude_on digits i v m d r all lt so_far times digit plus =
     let more : digits_value 10 (take (i + 1) digits) ≡ digits_value 10 (take i digits) * 10 + (get_or digits i 0 - 48) = digits_value_more 10 digits i lt ∙ ap (λ x. digits_value 10 (take i digits) * 10 + x) (digit_is (get_or digits i 0) (digit_at digits i all lt)) in
     omega (arith, more)
+
+-- the token of an integer holds one
+token_in_range : (bytes : List ℕ) (k : Kind) (z : ℤ) (b : Bool) → is_i32 z ≡ b → token_of bytes k ≡ cond b (Integer z) Bad → IsToken bytes k
+token_in_range bytes (kind.Integer y) z true e h = let same : y ≡ z = cc h in rw same e
+token_in_range bytes (kind.Integer y) z false e h = absurd (cc h)
+token_in_range bytes (kind.Name w) z true e h = absurd (cc h)
+token_in_range bytes (kind.Name w) z false e h = absurd (cc h)
+token_in_range bytes k z b e h = tt
+
+pub number_is_token : (bytes : List ℕ) (k : Kind) (z : ℤ) → token_of bytes k ≡ integer_token z → IsToken bytes k
+number_is_token bytes k z h = token_in_range bytes k z (is_i32 z) refl h
 
 pub number_token : (bytes : List ℕ) (at b to : ℕ) (k : Kind) (m : ℕ) → drop at bytes ≡ b ∷ drop (at + 1) bytes → is_digit b ≡ true → to ≡ at + 1 + prefix_len is_digit (drop (at + 1) bytes)
     → m ≡ min (digits_value 10 (take (to - at) (drop at bytes))) largest → token_of bytes k ≡ integer_token (pos m) → token_of bytes k ≡ (token_at b (drop (at + 1) bytes)).0

@@ -2,6 +2,7 @@
 use Rattle.std.specs.Prelude.{◌≡◌, ℕ, ◌<◌, ◌≤◌, Bool, true, false, List, [], drop, slice_range, length, Option, Some, None, IsSome, IsTrue}
 use Rattle.std.specs.List.{list_all}
 use Rattle.rx_term.specs.Name.{is_allowed, is_digit}
+use Rattle.rx_term.specs.Tree.{is_i32}
 use Rattle.rx_text.specs.Token as token
 use Rattle.rx_text.specs.Token.{Token, tokens_from, quoted}
 use Rattle.rx_text.specs.declared.nodes.Word.{Word}
@@ -69,8 +70,9 @@ abbrev pub IsInner : Kind → Type 0
 IsInner End = ⊥
 IsInner k = Unit {0}
 
--- a name is one
+-- an integer fits, and a name is one
 abbrev pub IsToken : List ℕ → Kind → Type 0
+IsToken bytes (Integer z) = IsTrue (is_i32 z)
 IsToken bytes (Name w) = IsWord bytes w
 IsToken bytes k = Unit {0}
 

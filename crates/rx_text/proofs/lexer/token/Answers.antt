@@ -1,6 +1,6 @@
-use Rattle.std.proofs.Common.{rules, ◌≡◌, true, sym, ◌∙◌, get_or}
+use Rattle.std.proofs.Common.{rules, pos, neg_ℤ, ◌≡◌, true, sym, ◌∙◌, get_or}
 use Rattle.rx_term.specs.Name.{is_digit, starts_name}
-use Rattle.rx_text.proofs.Lexing.{next_byte, digits_from, digits_behind, number_token, negative_token, digit_next, name_token, name_allowed}
+use Rattle.rx_text.proofs.Lexing.{number_is_token, next_byte, digits_from, digits_behind, number_token, negative_token, digit_next, name_token, name_allowed}
 use Rattle.rx_text.proofs.lexer.token.Goals as goal
 
 pub magnitude-requires : goal.magnitude-requires
@@ -35,3 +35,9 @@ returns-then-begins_plain_name-clause-kind c =
     let bytes = c.args.bytes.now in
     let letter : starts_name (get_or bytes c.args.at 0) ≡ true = sym c.begins_plain_name.ensures ∙ c.if-begins_plain_name.true in
     (search rules, c.name_end-end.ensures.within, name_allowed bytes c.args.at (get_or bytes c.args.at 0) c.name_end-end.result (next_byte bytes c.args.at c.requires.at) letter c.name_end-end.ensures.end)
+
+pub returns-then-is_decimal-clause-kind : goal.returns-then-is_decimal-clause-kind
+returns-then-is_decimal-clause-kind c = number_is_token c.args.bytes.now _ (pos c.magnitude.result) (c.integer.ensures.token c.args.bytes.now)
+
+pub returns-then-is_decimal-2-clause-kind : goal.returns-then-is_decimal-2-clause-kind
+returns-then-is_decimal-2-clause-kind c = number_is_token c.args.bytes.now _ (neg_ℤ (pos c.magnitude-then-is_decimal-2.result)) (c.integer-then-is_decimal-2.ensures.token c.args.bytes.now)
