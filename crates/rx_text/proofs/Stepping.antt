@@ -139,7 +139,7 @@ body_made : (bytes : List ℕ) (frames : List Frame) (after : List Node) (t : Tr
     → (Some (machine.Body t, frames_of bytes (reverse frames) made) ≡ Some (state_of bytes Body frames after)) × IsState bytes Body frames after
 body_made bytes frames after t made e bare s = (rw e refl, record { stack = s; bare = rw e bare; word = tt })
 
-in_word : (z : ℤ) → is_i32 z ≡ true → to_z w32 (of_z w32 z) ≡ z
+pub in_word : (z : ℤ) → is_i32 z ≡ true → to_z w32 (of_z w32 z) ≡ z
 in_word (pos n) h = let lt : n < 2147483648 = grind (arith, nat_tests, h) in to_z-of_z w32 (pos n) (omega arith)
 in_word (negsuc n) h = let lt : n < 2147483648 = grind (arith, nat_tests, h) in to_z-of_z w32 (negsuc n) (omega arith)
 
@@ -147,7 +147,7 @@ pub integer_moves : (bytes : List ℕ) (z : ℤ) (frames : List Frame) (ns after
     → (Some (machine.Body (Int z none), frames_of bytes (reverse frames) (made_of bytes ns)) ≡ Some (state_of bytes Body frames after)) × IsState bytes Body frames after
 integer_moves bytes z frames ns after h e s =
     let f : after ≡ ns ++ node.Integer z ∷ [] = e ∙ ap (λ (x : ℤ). ns ++ node.Integer x ∷ []) (in_word z h) in
-    let a = add_node bytes 0 1 frames ns after (node.Integer z) f s tt (omega arith) (omega arith) in
+    let a = add_node bytes 0 1 frames ns after (node.Integer z) f s h (omega arith) (omega arith) in
     body_made bytes frames after (Int z none) (made_of bytes ns) a.0 refl a.1
 
 pub arguments_move : (bytes : List ℕ) (w : Word) (k : ℕ) (frames : List Frame) (ns after : List Node) → after ≡ ns ++ node.Application w k ∷ [] → IsStack bytes k frames ns → IsWord bytes w

@@ -1,7 +1,7 @@
 -- What the reader's stack and nodes stand for: a state of the machine.
-use Rattle.std.specs.Prelude.{◌≡◌, ℕ, ◌+◌, ◌≤◌, List, [], ◌∷◌, length, map, drop, reverse, Option, Some, None, Result, Ok, Err}
+use Rattle.std.specs.Prelude.{◌≡◌, ℕ, ◌+◌, ◌≤◌, List, [], ◌∷◌, length, map, drop, reverse, Option, Some, None, Result, Ok, Err, IsTrue}
 use Rattle.std.specs.List.{AllByRecursion}
-use Rattle.rx_term.specs.Tree.{Tree, none, annotated}
+use Rattle.rx_term.specs.Tree.{Tree, none, annotated, is_i32}
 use Rattle.rx_text.specs.Nodes as nodes
 use Rattle.rx_text.specs.Nodes.{taken, top, rest, trees_of, Enough}
 use Rattle.rx_text.specs.Machine as machine
@@ -24,8 +24,9 @@ node_of bytes (node.List k) = nodes.Listing k
 node_of bytes node.Placeholder = nodes.Holding
 node_of bytes (node.Annotations k) = nodes.Annotating k
 
--- a node's name is one
+-- a node's integer fits, and its name is one
 abbrev pub IsNode : List ℕ → Node → Type 0
+IsNode bytes (node.Integer z) = IsTrue (is_i32 z)
 IsNode bytes (node.Application w k) = IsWord bytes w
 IsNode bytes n = Unit {0}
 

@@ -25,10 +25,8 @@ fn take_list<B: TermBank>(made: &mut Vec<Term>, count: u32, bank: &mut B) -> Res
     ensures grows { Grows (B.store bank.old) (B.store bank.new) }
 {
     let mut list = bank.nil()?;
-    for _ in 0..count {
-        let Some(item) = made.pop() else {
-            return Ok(list);
-        };
+    for _index in 0..count {
+        let item = made.pop().unwrap();
         list = bank.cons(item, list)?;
     }
     Ok(list)
@@ -49,9 +47,7 @@ fn symbol_of<B: TermBank>(
 {
     if word.quoted {
         let read = read_quoted(alloc, &bytes[word.from as usize..])?;
-        let Some((name, _)) = read else {
-            return Err(TextFault::Memory);
-        };
+        let (name, _) = read.unwrap();
         Ok(bank.symbol(&name, true, count)?)
     } else {
         let name = &bytes[word.from as usize..word.to as usize];
