@@ -1,7 +1,7 @@
 -- What writes one after another do to known bytes.
-use Rattle.std.proofs.Common.{IfErr, IsErrAnd, subst, refl, ◌≡◌, ℕ, ◌+◌, ◌-◌, ◌≤◌, List, [], ◌++◌, Option, Some, None, Result, Ok, Err, OnErr, IfSome, length, take, drop, sym, ap, ◌∙◌, append_assoc, append-nil, take-add, take_all, take_at, take-append-drop}
+use Rattle.std.proofs.Common.{IfErr, IsErrAnd, subst, refl, ◌≡◌, ℕ, ◌+◌, ◌-◌, ◌≤◌, List, [], ◌++◌, Option, Some, None, Result, Ok, Err, OnOk, OnErr, IfSome, length, take, drop, sym, ap, ◌∙◌, append_assoc, append-nil, take-add, take_all, take_at, take-append-drop}
 use Rattle.std.proofs.lemmas.List.{take_rest}
-use Rattle.std.specs.Io.KnownBytes.{Appends, Consumes, Keeps, IsAtEnd}
+use Rattle.std.specs.Io.KnownBytes.{Appends, Keeps}
 use Rattle.rx_text.specs.Written.{AppendsFront}
 
 -- two writes are one
@@ -65,3 +65,29 @@ if_err_any (Err e) P h = h e
 pub if_err_at : {X E : Type 0} (r : Result X E) (P : E → Type 0) (x : E) → IsErrAnd r (λ e. e ≡ x) → P x → IfErr r P
 if_err_at (Ok y) P x h p = tt
 if_err_at (Err e) P x h p = subst P (sym h) p
+
+-- what holds anyway holds at an error
+pub on_err : {X E : Type 0} {P : Type 0} (r : Result X E) → P → OnErr r P
+on_err (Ok x) p = tt
+on_err (Err e) p = p
+
+-- a front of a piece in the middle, after what was written before
+pub front_within : (old between new : Option (List ℕ)) (whole xs ys zs : List ℕ) → whole ≡ xs ++ (ys ++ zs) → Appends old between xs → AppendsFront ys between new → AppendsFront whole old new
+front_within old between new whole xs ys zs e h k =
+    let f = front_before old new (xs ++ ys) zs (front_after old between new xs ys h k) in
+    let same : whole ≡ (xs ++ ys) ++ zs = e ∙ sym (append_assoc xs ys zs) in
+    rw same f
+
+-- a front of a text whose front was to be written
+pub err_front : {X E : Type 0} (r : Result X E) (old new : Option (List ℕ)) (whole xs rest : List ℕ) → whole ≡ xs ++ rest → OnErr r (AppendsFront xs old new) → OnErr r (AppendsFront whole old new)
+err_front (Ok x) old new whole xs rest e h = tt
+err_front (Err x) old new whole xs rest e h = rw e (front_before old new xs rest h)
+
+-- the same behind what was written before
+pub err_within : {X E : Type 0} (r : Result X E) (old between new : Option (List ℕ)) (whole xs ys zs : List ℕ) → whole ≡ xs ++ (ys ++ zs) → Appends old between xs → OnErr r (AppendsFront ys between new) → OnErr r (AppendsFront whole old new)
+err_within (Ok x) old between new whole xs ys zs e a h = tt
+err_within (Err x) old between new whole xs ys zs e a h = front_within old between new whole xs ys zs e a h
+
+pub appends_same : (old : Option (List ℕ)) → Appends old old []
+appends_same None = tt
+appends_same (Some a) = sym (append-nil a)

@@ -83,13 +83,15 @@ pub add_node : (bytes : List ℕ) (k l : ℕ) (frames : List Frame) (ns after : 
 add_node bytes k l frames ns after n e s name takes left =
     let count = s.counted in
     let fits : needed (node_of bytes n) ≤ length (made_of bytes ns) = omega (arith, count) in
-    let made : made_of bytes after ≡ joined (node_of bytes n) (made_of bytes ns) = rw e (made-push bytes ns n) in
-    (made, record {
-      enough = rw (e, nodes-push) (Enough-push [] (map (node_of bytes) ns) (node_of bytes n) s.enough fits);
-      counted = omega (arith, count, length-joined (node_of bytes n) (made_of bytes ns) fits, ap length made);
-      openings = s.openings;
-      names = rw e (All-push (IsNode bytes) ns n s.names name);
-    })
+    let made : made_of bytes after ≡ joined (node_of bytes n) (made_of bytes ns) = rw e (made-push bytes ns n) in (
+      made,
+      record {
+        enough = rw (e, nodes-push) (Enough-push [] (map (node_of bytes) ns) (node_of bytes n) s.enough fits);
+        counted = omega (arith, count, length-joined (node_of bytes n) (made_of bytes ns) fits, ap length made);
+        openings = s.openings;
+        names = rw e (All-push (IsNode bytes) ns n s.names name);
+      },
+    )
 
 -- ---- frames
 
@@ -201,8 +203,7 @@ next_moves bytes before frames after f ns e g h s =
     let whole : made ≡ top made ∷ rest made = top_first made (some_made bytes before ns s) in
     let core = next_core bytes f.opening f.count (reverse frames) (top made) (rest made) h in
     let same : frames_of bytes (longer f ∷ reverse frames) (top made ∷ rest made) ≡ frames_of bytes (longer f ∷ reverse frames) made = ap (λ (m : List Tree). frames_of bytes (longer f ∷ reverse frames) m) (sym whole) in
-    let long : frame_of bytes f.opening (suc f.count) (top made ∷ rest made) ∷ frames_of bytes (reverse frames) (under f.opening (suc f.count) (top made ∷ rest made)) ≡ frames_of bytes (longer f ∷ reverse frames) (top made ∷ rest made) = rw add-one refl in
-    (
+    let long : frame_of bytes f.opening (suc f.count) (top made ∷ rest made) ∷ frames_of bytes (reverse frames) (under f.opening (suc f.count) (top made ∷ rest made)) ≡ frames_of bytes (longer f ∷ reverse frames) (top made ∷ rest made) = rw add-one refl in (
       rw (e, g, frames-push, frames-push) (core ∙ ap (λ (x : List machine.Frame). Some (machine.Due, x)) (long ∙ same)),
       record { stack = push_frame bytes 0 _ frames after (longer f) ns g p.0 (omega (arith, held-longer f.opening f.count h)) p.1; bare = tt; word = tt },
     )
@@ -219,7 +220,7 @@ end_moves bytes before frames f ns tok e h s =
     let whole : made ≡ top made ∷ rest made = top_first made (some_made bytes before ns s) in
     let core = end_core bytes f.opening f.count (reverse frames) (top made) (rest made) tok h in
     let same : machine.close (frame_of bytes f.opening (suc f.count) (top made ∷ rest made)) (frames_of bytes (reverse frames) (under f.opening (suc f.count) (top made ∷ rest made))) tok
-        ≡ machine.close (frame_of bytes f.opening (suc f.count) made) (frames_of bytes (reverse frames) (under f.opening (suc f.count) made)) tok
+    ≡ machine.close (frame_of bytes f.opening (suc f.count) made) (frames_of bytes (reverse frames) (under f.opening (suc f.count) made)) tok
     = ap (λ (m : List Tree). machine.close (frame_of bytes f.opening (suc f.count) m) (frames_of bytes (reverse frames) (under f.opening (suc f.count) m)) tok) (sym whole) in
     rw (e, frames-push, add-one) (core ∙ same)
 

@@ -1,6 +1,7 @@
 -- What is left to be written, as text.
 use Rattle.std.specs.Prelude.{◌≡◌, ℕ, ◌+◌, ◌<◌, List, [], ◌∷◌, ◌++◌, reverse, Option, Some, None, IsSome}
 use Rattle.std.specs.List.{AllByRecursion}
+use Rattle.std.specs.Fmt.{signed_decimal}
 use Rattle.std.specs.Io.KnownBytes.{Appends}
 use Rattle.rx_term.specs.Tree.{Tree, Trees, none, more, Int, Appl, Items, Hole, annotations}
 use Rattle.rx_term.specs.Store.{Store, tree_at}
@@ -22,14 +23,12 @@ abbrev pub seen : {X : Type 0} → X → (Tree → X) → Option Tree → X
 seen x of None = x
 seen x of (Some t) = of t
 
--- an application without its annotations
-abbrev pub application_text : Tree → List ℕ
-application_text (Appl name quoted args anns) = name_text name quoted ++ enclosed 40 args (canon_all args) 41 (no_arguments name quoted)
-application_text t = []
-
-abbrev pub arguments_of : Tree → Trees
-arguments_of (Appl name quoted args anns) = args
-arguments_of t = none
+-- a tree without its annotations
+abbrev pub body_text : Tree → List ℕ
+body_text (Int z anns) = signed_decimal z
+body_text (Appl name quoted args anns) = name_text name quoted ++ enclosed 40 args (canon_all args) 41 (no_arguments name quoted)
+body_text (Items items anns) = 91 ∷ canon_all items ++ 93 ∷ []
+body_text (Hole inner anns) = 60 ∷ canon inner ++ 62 ∷ []
 
 -- the text of a job
 abbrev pub job_text : Store → Job → List ℕ
@@ -50,6 +49,13 @@ abbrev mutual
   pub sizes : Trees → ℕ
   sizes none = 1
   sizes (more t ts) = 1 + size t + sizes ts
+
+-- the same without annotations
+abbrev pub body_size : Tree → ℕ
+body_size (Int z anns) = 1
+body_size (Appl name quoted args anns) = 2 + sizes args
+body_size (Items items anns) = 2 + sizes items
+body_size (Hole inner anns) = 2 + size inner
 
 -- how much there is to do
 abbrev pub job_size : Store → Job → ℕ
@@ -80,6 +86,14 @@ jobs_text w (j ∷ js) = jobs_text w js ++ job_text w j
 abbrev pub jobs_size : Store → List Job → ℕ
 jobs_size w [] = 0
 jobs_size w (j ∷ js) = job_size w j + jobs_size w js
+
+-- the jobs that were added are the text
+pub record Adds (w : Store) (whole : List ℕ) (room : ℕ) (before after : List Job) : Type 0 where
+  pub added : List Job
+  pub grown : after ≡ before ++ added
+  pub text : whole ≡ jobs_text w added
+  pub jobs : AllByRecursion (IsJob w) added
+  pub less : jobs_size w added < room
 
 -- a front of the text was written, and the jobs that were added are the rest of it
 pub record Leaves (w : Store) (whole : List ℕ) (room : ℕ) (old new : Option (List ℕ)) (before after : List Job) : Type 0 where

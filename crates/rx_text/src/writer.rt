@@ -1,6 +1,6 @@
 //! Printing the tree of a reference.
 
-ghost use Rattle.std.specs.Prelude.{◌≡◌, ◌+◌, ◌∷◌, [], None, IsSome, IfSome, OnOk, OnErr};
+ghost use Rattle.std.specs.Prelude.{◌≡◌, ◌++◌, ◌∷◌, [], IsSome, IfSome, OnOk, OnErr};
 ghost use Rattle.std.specs.Fmt.{signed_decimal};
 ghost use Rattle.std.specs.Io.KnownBytes.{Appends};
 ghost use Rattle.rx_term.specs.Tree.{Tree};
@@ -8,7 +8,7 @@ ghost use Rattle.rx_term.specs.Store.{tree_at, part_at, args_of};
 ghost use Rattle.rx_term.specs.Kinds.{HasAppl};
 ghost use Rattle.rx_text.specs.Canon.{canon, octal_text, quoted_byte, name_text};
 ghost use Rattle.rx_text.specs.Written.{AppendsFront};
-ghost use Rattle.rx_text.specs.Jobs.{seen, sizes, application_text, arguments_of, job_text, job_size, IsJob, Leaves};
+ghost use Rattle.rx_text.specs.Jobs.{seen, body_text, body_size, job_text, job_size, IsJob, Adds, Leaves};
 
 use crate::faults::WriteFault;
 use itoa::Buffer;
@@ -104,7 +104,16 @@ fn put_integer<W: Write>(out: &mut W, value: i32) -> Result<(), WriteFault>
     put(out, buffer.format(value).as_bytes())
 }
 
-// Writes the name of an application; its arguments are left to do.
+// Adds two jobs, of which the second is done first.
+fn leave(jobs: &mut Vec<Job>, later: Job, first: Job) -> Result<(), WriteFault>
+    ensures { OnOk result (jobs.new.items ≡ jobs.old.items ++ later ∷ first ∷ []) }
+{
+    jobs.push(later)?;
+    jobs.push(first)?;
+    Ok(())
+}
+
+// Writes the front of an application without its annotations.
 fn write_application<B: TermBank, W: Write>(
     bank: &B,
     term: Term,
@@ -113,30 +122,50 @@ fn write_application<B: TermBank, W: Write>(
     out: &mut W,
 ) -> Result<(), WriteFault>
     requires { HasAppl (B.store bank.now) term symbol }
-    ensures written { OnOk result (Leaves (B.store bank.now) (seen [] application_text (tree_at (B.store bank.now) term)) (2 + seen 1 (λ u. sizes (arguments_of u)) (tree_at (B.store bank.now) term)) (W.contents out.old) (W.contents out.new) jobs.old.items jobs.new.items) }
-    ensures front { OnErr result (AppendsFront (seen [] application_text (tree_at (B.store bank.now) term)) (W.contents out.old) (W.contents out.new)) }
+    ensures written { OnOk result (Leaves (B.store bank.now) (seen [] body_text (tree_at (B.store bank.now) term)) (seen 1 body_size (tree_at (B.store bank.now) term)) (W.contents out.old) (W.contents out.new) jobs.old.items jobs.new.items) }
+    ensures front { OnErr result (AppendsFront (seen [] body_text (tree_at (B.store bank.now) term)) (W.contents out.old) (W.contents out.new)) }
 {
     let name = bank.name_of(symbol);
     let quoted = bank.quoted_of(symbol);
-    put_name(out, name, quoted)?;
     let args = bank.args(term);
-    match bank.kind(args) {
+    if let Kind::Cons = bank.kind(args) {
+        leave(jobs, Job::Byte(b')'), Job::Items(args))?;
+        put_name(out, name, quoted)?;
+        put(out, b"(")
+    } else if name.is_empty() && !quoted {
+        put(out, b"()")
+    } else {
+        put_name(out, name, quoted)
+    }
+}
+
+// Writes the front of a tree without its annotations.
+fn write_body<B: TermBank, W: Write>(
+    bank: &B,
+    term: Term,
+    jobs: &mut Vec<Job>,
+    out: &mut W,
+) -> Result<(), WriteFault>
+    requires { IsSome (tree_at (B.store bank.now) term) }
+    ensures written { OnOk result (Leaves (B.store bank.now) (seen [] body_text (tree_at (B.store bank.now) term)) (seen 1 body_size (tree_at (B.store bank.now) term)) (W.contents out.old) (W.contents out.new) jobs.old.items jobs.new.items) }
+    ensures front { OnErr result (AppendsFront (seen [] body_text (tree_at (B.store bank.now) term)) (W.contents out.old) (W.contents out.new)) }
+{
+    match bank.kind(term) {
+        Kind::Int(value) => put_integer(out, value),
+        Kind::Nil => put(out, b"[]"),
         Kind::Cons => {
-            put(out, b"(")?;
-            jobs.push(Job::Byte(b')'))?;
-            jobs.push(Job::Items(args))?;
-            Ok(())
+            leave(jobs, Job::Byte(b']'), Job::Items(term))?;
+            put(out, b"[")
         }
-        _ => {
-            if name.is_empty() && !quoted {
-                put(out, b"()")?;
-            }
-            Ok(())
+        Kind::Appl(symbol) => write_application(bank, term, symbol, jobs, out),
+        Kind::Hole => {
+            leave(jobs, Job::Byte(b'>'), Job::Tree(bank.inner(term)))?;
+            put(out, b"<")
         }
     }
 }
 
-// Writes the front of a tree; the rest of it is left to do.
+// Writes the front of a tree.
 fn write_tree<B: TermBank, W: Write>(
     bank: &B,
     term: Term,
@@ -148,26 +177,10 @@ fn write_tree<B: TermBank, W: Write>(
     ensures front { OnErr result (AppendsFront (job_text (B.store bank.now) (Job.Tree term)) (W.contents out.old) (W.contents out.new)) }
 {
     jobs.push(Job::Notes(term))?;
-    match bank.kind(term) {
-        Kind::Int(value) => put_integer(out, value),
-        Kind::Nil => put(out, b"[]"),
-        Kind::Cons => {
-            put(out, b"[")?;
-            jobs.push(Job::Byte(b']'))?;
-            jobs.push(Job::Items(term))?;
-            Ok(())
-        }
-        Kind::Appl(symbol) => write_application(bank, term, symbol, jobs, out),
-        Kind::Hole => {
-            put(out, b"<")?;
-            jobs.push(Job::Byte(b'>'))?;
-            jobs.push(Job::Tree(bank.inner(term)))?;
-            Ok(())
-        }
-    }
+    write_body(bank, term, jobs, out)
 }
 
-// Writes the brace before annotations; the rest of them is left to do.
+// Writes the brace before the annotations of a tree.
 fn write_notes<B: TermBank, W: Write>(
     bank: &B,
     term: Term,
@@ -178,27 +191,30 @@ fn write_notes<B: TermBank, W: Write>(
     ensures written { OnOk result (Leaves (B.store bank.now) (job_text (B.store bank.now) (Job.Notes term)) (job_size (B.store bank.now) (Job.Notes term)) (W.contents out.old) (W.contents out.new) jobs.old.items jobs.new.items) }
     ensures front { OnErr result (AppendsFront (job_text (B.store bank.now) (Job.Notes term)) (W.contents out.old) (W.contents out.new)) }
 {
-    if let Some(anns) = bank.anns(term) {
-        put(out, b"{")?;
-        jobs.push(Job::Byte(b'}'))?;
-        jobs.push(Job::Items(anns))?;
-    }
-    Ok(())
+    let Some(anns) = bank.anns(term) else {
+        return Ok(());
+    };
+    leave(jobs, Job::Byte(b'}'), Job::Items(anns))?;
+    put(out, b"{")
 }
 
 // Leaves the items of a list to do.
-fn write_items<B: TermBank>(bank: &B, list: Term, jobs: &mut Vec<Job>) -> Result<(), WriteFault>
+fn leave_items<B: TermBank>(bank: &B, list: Term, jobs: &mut Vec<Job>) -> Result<(), WriteFault>
     requires { IsJob (B.store bank.now) (Job.Items list) }
-    ensures { OnOk result (Leaves (B.store bank.now) (job_text (B.store bank.now) (Job.Items list)) (job_size (B.store bank.now) (Job.Items list)) None None jobs.old.items jobs.new.items) }
+    ensures { OnOk result (Adds (B.store bank.now) (job_text (B.store bank.now) (Job.Items list)) (job_size (B.store bank.now) (Job.Items list)) jobs.old.items jobs.new.items) }
 {
     if let Kind::Cons = bank.kind(list) {
-        jobs.push(Job::Others(bank.tail(list)))?;
-        jobs.push(Job::Tree(bank.head(list)))?;
+        leave(
+            jobs,
+            Job::Others(bank.tail(list)),
+            Job::Tree(bank.head(list)),
+        )
+    } else {
+        Ok(())
     }
-    Ok(())
 }
 
-// Writes the comma before an item; the item and those behind it are left to do.
+// Writes the comma before the first item of a list.
 fn write_others<B: TermBank, W: Write>(
     bank: &B,
     list: Term,
@@ -210,11 +226,15 @@ fn write_others<B: TermBank, W: Write>(
     ensures front { OnErr result (AppendsFront (job_text (B.store bank.now) (Job.Others list)) (W.contents out.old) (W.contents out.new)) }
 {
     if let Kind::Cons = bank.kind(list) {
-        put(out, b",")?;
-        jobs.push(Job::Others(bank.tail(list)))?;
-        jobs.push(Job::Tree(bank.head(list)))?;
+        leave(
+            jobs,
+            Job::Others(bank.tail(list)),
+            Job::Tree(bank.head(list)),
+        )?;
+        put(out, b",")
+    } else {
+        Ok(())
     }
-    Ok(())
 }
 
 // Does the front of a job; the rest of it is left to do.
@@ -232,7 +252,7 @@ fn write_job<B: TermBank, W: Write>(
         Job::Byte(byte) => put(out, &[byte]),
         Job::Tree(term) => write_tree(bank, term, jobs, out),
         Job::Notes(term) => write_notes(bank, term, jobs, out),
-        Job::Items(list) => write_items(bank, list, jobs),
+        Job::Items(list) => leave_items(bank, list, jobs),
         Job::Others(list) => write_others(bank, list, jobs, out),
     }
 }

@@ -8,10 +8,10 @@ loop-at-preserved g c = (
   appends_piece _ _ _ _ _ _ c.loop-at.invariant.1 c.in-Ok.ensures.bytes,
 )
 
-pub returns-in_default-clause-err : goal.returns-in_default-clause-err
-returns-in_default-clause-err g c =
+pub returns-in_default-clause-front : goal.returns-in_default-clause-front
+returns-in_default-clause-front g c =
     appends_front _ _ _ _ (appends_piece _ _ _ _ _ _ c.loop-at.invariant.1 c.in-Ok.ensures.bytes)
 
-pub returns-in_default-2-clause-err : goal.returns-in_default-2-clause-err
-returns-in_default-2-clause-err g c =
+pub returns-in_default-2-clause-front : goal.returns-in_default-2-clause-front
+returns-in_default-2-clause-front g c =
     keeps_front _ _ _ _ _ c.loop-at.invariant.1 c.in_default.ensures.bytes
