@@ -1,19 +1,16 @@
 -- The content of a heap: what a new cell adds to it.
-use Rattle.std.proofs.Common.{ℕ, suc, zero, ◌≡◌, ◌≢◌, ◌+◌, ◌≤◌, ◌<◌, true, Option, Some, None, IsSome, is_some, refl, sym, ap, ◌∙◌, subst, inl, inr, arith, Contains}
+use Rattle.std.proofs.Common.{ℕ, suc, zero, ◌≡◌, ◌≢◌, ◌+◌, ◌≤◌, ◌<◌, true, Option, Some, None, IsSome, is_some, IsTrue, refl, sym, ap, ◌∙◌, subst, inl, inr, arith, Contains}
 use Rattle.std.specs.Ordering.{nat_cmp}
 use Rattle.std.specs.Cmp.{nat_cmp_total}
 use Rattle.std.specs.FinMap as map
 use Rattle.std.specs.FinMap.{gets}
 use Rattle.std.proofs.lemmas.Bool.Decides.{eqb_tells, nat_tests}
-use Rattle.rx_term.specs.Tree.{Tree}
+use Rattle.rx_term.specs.Tree.{Tree, is_tree}
 use Rattle.rx_term.specs.Parts.{parts}
 use Rattle.rx_term.specs.Name.{Signature}
 use Rattle.rx_term.specs.Heap.{Cell, Heap, Table, tree_of, Says, IsHeap, IsTable, IsDistinct, is_whole, content_of, tabulate, put_some}
-use Rattle.rx_term.proofs.HeapLemmas.{opens, closes, Says-some, Says-alike, kept-tree_of, lt_or_le, one_tree, one_place, reaches, get-tabulate, past-tabulate, whole-at, whole-from}
-
-pub some-value : {X : Type 0} (o : Option X) → IsSome o → (x : X) × (o ≡ Some x)
-some-value None e = cc
-some-value (Some x) e = (x, refl)
+use Rattle.rx_term.proofs.StoreLemmas.{some-value, inserted, not_inserted, len-insert-new}
+use Rattle.rx_term.proofs.HeapLemmas.{valid-tree, opens, closes, Says-some, Says-alike, kept-tree_of, lt_or_le, one_tree, one_place, reaches, get-tabulate, past-tabulate, whole-at, whole-from}
 
 pub untaken : (h : Heap) (m : Table) (n t : ℕ) → h t ≡ None → tree_of h m n t ≡ None
 unfolding tree_of
@@ -60,18 +57,16 @@ module _ (h : Heap) (m : Table) (len n : ℕ) (heap : IsHeap h m len n) where
   pub content-closed : (t : ℕ) (u v : Tree) → map.get (content_of h m len n) t ≡ Some u → Contains (parts u) v → (s : ℕ) × (map.get (content_of h m len n) s ≡ Some v)
   content-closed t u v e p = let r = reaches h m n t u v (sym (content-at t) ∙ e) p in (r.0, known r.1.0 r.0 v r.1.1)
 
+  -- each tree is valid
+  pub content-valid : (t : ℕ) (u : Tree) → map.get (content_of h m len n) t ≡ Some u → IsTrue (is_tree u)
+  content-valid t u e = valid-tree h m heap.symbols n t u (sym (content-at t) ∙ e)
+
   -- where no slot holds a cell, none has its tree
   pub absent-tree : (x : Cell) (u : Tree) → Says at m x u → ((t : ℕ) → h t ≢ Some x) → (t : ℕ) → map.get (content_of h m len n) t ≢ Some u
   absent-tree x u s nowhere t e =
       let y = cell-of t u e in
       let same : y.0 ≡ x = Says-alike at at m content-one_place heap.symbols.apart y.0 x u y.2 s in
       nowhere t (y.1 ∙ ap (λ w. let z : Option Cell = Some w in z) same)
-
-inserted : (c : map.FinMap nat_cmp Tree) (k : ℕ) (v : Tree) → map.get (map.insert c k v) k ≡ Some v
-inserted c k v = grind (arith, gets, nat_tests)
-
-not_inserted : (c : map.FinMap nat_cmp Tree) (k q : ℕ) (v : Tree) → q ≢ k → map.get (map.insert c k v) q ≡ map.get c q
-not_inserted c k q v n = grind (arith, gets, nat_tests)
 
 -- a new cell in a free slot: the heap with it is one, and its tree is added to the content
 module _ (h g : Heap) (m : Table) (len wide n i : ℕ) (x : Cell) (u : Tree) (heap : IsHeap h m len n)
@@ -142,9 +137,6 @@ module _ (h g : Heap) (m : Table) (len wide n i : ℕ) (x : Cell) (u : Tree) (he
       | inl p ↦ subst (λ j. map.get (content_of g m wide k) j ≡ map.get (map.insert (content_of h m len n) i u) j) (sym p.1) (new-made ∙ sym (inserted (content_of h m len n) i u))
       | inr p ↦ new-others q p.1 ∙ sym (not_inserted (content_of h m len n) i q u p.1)
     ])
-
-pub len-insert-new : (c : map.FinMap nat_cmp Tree) (k : ℕ) (v : Tree) → map.get c k ≡ None → map.len (map.insert c k v) ≡ map.len c + 1
-len-insert-new c k v e = map.len-insert nat_cmp_total c k v ∙ rw e refl
 
 -- a content has as many trees as slots at most, and as many where each slot has one
 pub len-tabulate-le : (len : ℕ) (f : ℕ → Option Tree) → map.len (tabulate len f) ≤ len

@@ -1,6 +1,9 @@
 -- Cells that name one another: their trees are unique, differ where the cells do, and outlive the cells that they do not name.
 use Rattle.std.proofs.Common.{List, [], ◌∷◌, ◌++◌, ℕ, suc, zero, ◌≡◌, ◌≢◌, ◌⊎◌, ◌+◌, ◌≤◌, ◌<◌, Bool, true, false, Option, Some, None, IsSome, is_some, refl, sym, ap, ◌∙◌, subst, inl, inr, arith, Contains, eq-eqb}
 use Rattle.std.proofs.lemmas.Bool.{eqb-true}
+use Rattle.std.specs.Cmp.Derive.{both_true}
+use Rattle.std.specs.Prelude.{IsTrue}
+use Rattle.rx_term.proofs.TreeLemmas.{both_parts}
 use Rattle.std.specs.Prelude.{if◌then◌else◌}
 use Rattle.std.specs.Option.{option_and_then}
 use Rattle.std.specs.FinMap as map
@@ -9,7 +12,7 @@ use Rattle.std.proofs.lemmas.Bool.Decides.{eqb_tells, nat_tests}
 use Rattle.std.specs.FinMap.{gets}
 use Rattle.std.specs.Prelude.{not, ◌||◌, ◌&&◌}
 use Rattle.std.proofs.Math.Dec.{eqb}
-use Rattle.rx_term.specs.Tree.{Tree, Int, Appl, Items, Hole, Trees, none, more, count_of, annotated, annotations, is_i32}
+use Rattle.rx_term.specs.Tree.{Tree, Int, Appl, Items, Hole, Trees, none, more, count_of, annotated, annotations, is_i32, is_tree, are_trees}
 use Rattle.rx_term.specs.Parts.{parts, list_parts, annotation_parts}
 use Rattle.rx_term.proofs.PartsLemmas.{cons_cases, no_element, list_parts-parts, notes-part, item-part, rest-part, args-part, inner-part}
 use Rattle.std.proofs.lemmas.List.{append-nil}
@@ -60,7 +63,7 @@ module _ (c : ℕ → Option Tree) (m : Table) where
   longer-parts (Some x) (Some (Items xs (more y ys))) u e = cc
   longer-parts (Some x) (Some (Hole v anns)) u e = cc
 
-if-some : (b : Bool) (t u : Tree) → (if b then Some t else None) ≡ Some u → (b ≡ true) × (t ≡ u)
+pub if-some : (b : Bool) (t u : Tree) → (if b then Some t else None) ≡ Some u → (b ≡ true) × (t ≡ u)
 if-some true t u e = (refl, cc)
 if-some false t u e = cc
 
@@ -251,20 +254,43 @@ module _ (h : Heap) (m : Table) where
       let held : IsSome (h s) = ap is_some o.1.2 in
       d s t held (o.1.2 ∙ ap (λ w. let y : Option Cell = Some w in y) e ∙ sym p.1.2)
 
-put-same : (m : map.FinMap nat_cmp Tree) (k : ℕ) (o : Option Tree) → map.get m k ≡ None → map.get (put_some m k o) k ≡ o
+-- a cell's tree is valid where the trees of slots are
+module _ (c : ℕ → Option Tree) (m : Table) (table : IsTable m) (each : (i : ℕ) (v : Tree) → c i ≡ Some v → IsTrue (is_tree v)) where
+  items-valid : (i : ℕ) (ts : Trees) → c i ≡ Some (Items ts none) → are_trees ts ≡ true
+  items-valid i ts e = (both_parts (are_trees ts) true (each i (Items ts none) e)).0
+
+  notes-valid : (l : Option ℕ) (anns : Trees) → Notes c l anns → are_trees anns ≡ true
+  notes-valid l none n = refl
+  notes-valid l (more v vs) (i, a, b) = items-valid i (more v vs) b
+
+  pub valid-cell : (x : Cell) (u : Tree) → Says c m x u → IsTrue (is_tree u)
+  valid-cell x (Int z anns) (a, f, n) = both_true f (notes-valid _ anns n)
+  valid-cell x (Items none anns) (a, n) = both_true refl (notes-valid _ anns n)
+  valid-cell x (Items (more v vs) anns) (i, (j, e, a, b, n)) = both_true (both_true (each i v a) (items-valid j vs b)) (notes-valid _ anns n)
+  valid-cell x (Appl name quoted args anns) (s, (j, e, g, b, n)) = both_true (both_true (table.valid s (record { name = name; quoted = quoted; arity = count_of args }) g) (items-valid j args b)) (notes-valid _ anns n)
+  valid-cell x (Hole v anns) (i, e, a, n) = both_true (each i v a) (notes-valid _ anns n)
+
+pub valid-tree : (h : Heap) (m : Table) → IsTable m → (n t : ℕ) (u : Tree) → tree_of h m n t ≡ Some u → IsTrue (is_tree u)
+valid-tree h m table zero t u e = let o = opens h m zero t u e in absurd (omega (arith, o.1.1))
+valid-tree h m table (suc n) t u e =
+    let o = opens h m (suc n) t u e in
+    let j : o.0 ≡ n = omega (arith, o.1.1) in
+    valid-cell (tree_of h m n) m table (valid-tree h m table n) o.1.0 u (subst (λ j. Says (tree_of h m j) m o.1.0 u) j o.1.3)
+
+put-same : {X : Type 0} (m : map.FinMap nat_cmp X) (k : ℕ) (o : Option X) → map.get m k ≡ None → map.get (put_some m k o) k ≡ o
 put-same m k None e = e
 put-same m k (Some v) e = grind (arith, gets, nat_tests)
 
-put-other : (m : map.FinMap nat_cmp Tree) (k q : ℕ) (o : Option Tree) → q ≢ k → map.get (put_some m k o) q ≡ map.get m q
+put-other : {X : Type 0} (m : map.FinMap nat_cmp X) (k q : ℕ) (o : Option X) → q ≢ k → map.get (put_some m k o) q ≡ map.get m q
 put-other m k q None n = refl
 put-other m k q (Some v) n = grind (arith, gets, nat_tests)
 
 -- what is at each key of a table of values
-pub past-tabulate : (len q : ℕ) (f : ℕ → Option Tree) → len ≤ q → map.get (tabulate len f) q ≡ None
+pub past-tabulate : {X : Type 0} (len q : ℕ) (f : ℕ → Option X) → len ≤ q → map.get (tabulate len f) q ≡ None
 past-tabulate zero q f le = map.get-empty nat_cmp q
 past-tabulate (suc k) q f le = put-other (tabulate k f) k q (f k) (λ e. omega arith) ∙ past-tabulate k q f (omega arith)
 
-pub get-tabulate : (len q : ℕ) (f : ℕ → Option Tree) → q < len → map.get (tabulate len f) q ≡ f q
+pub get-tabulate : {X : Type 0} (len q : ℕ) (f : ℕ → Option X) → q < len → map.get (tabulate len f) q ≡ f q
 get-tabulate zero q f lt = absurd (omega arith)
 get-tabulate (suc k) q f lt = elim (eqb_tells q k) [
   | inl p ↦ subst (λ j. map.get (put_some (tabulate k f) k (f k)) j ≡ f j) (sym p.1) (put-same (tabulate k f) k (f k) (past-tabulate k k f (omega arith)))
@@ -276,17 +302,10 @@ cell_whole : (a b : Bool) → (not a || b) ≡ true → a ≡ true → b ≡ tru
 cell_whole true b e h = e
 cell_whole false b e h = cc
 
-both : (a b : Bool) → (a && b) ≡ true → (a ≡ true) × (b ≡ true)
-both true b e = (refl, e)
-both false b e = cc
-
-both-true : (a b : Bool) → a ≡ true → b ≡ true → (a && b) ≡ true
-both-true a b p q = rw (p, q) refl
-
 pub whole-at : (h : Heap) (m : Table) (len n t : ℕ) → is_whole h m len n ≡ true → t < len → IsSome (h t) → IsSome (tree_of h m n t)
 whole-at h m zero n t e lt held = absurd (omega arith)
 whole-at h m (suc k) n t e lt held =
-    let p = both _ _ e in
+    let p = both_parts _ _ e in
     elim (eqb_tells t k) [
       | inl q ↦ subst (λ j. IsSome (tree_of h m n j)) (sym q.1) (cell_whole _ _ p.0 (subst (λ j. IsSome (h j)) q.1 held))
       | inr q ↦ whole-at h m k n t p.1 (omega (arith, q.1)) held
@@ -298,7 +317,7 @@ cell_whole-from false b f = refl
 
 pub whole-from : (h : Heap) (m : Table) (len n : ℕ) → ((t : ℕ) → t < len → IsSome (h t) → IsSome (tree_of h m n t)) → is_whole h m len n ≡ true
 whole-from h m zero n each = refl
-whole-from h m (suc k) n each = both-true _ _ (cell_whole-from _ _ (each k (omega arith))) (whole-from h m k n (λ t lt. each t (omega arith)))
+whole-from h m (suc k) n each = both_true (cell_whole-from _ _ (each k (omega arith))) (whole-from h m k n (λ t lt. each t (omega arith)))
 
 -- a number that passes leads to the least one
 pub least : (p : ℕ → Bool) (n : ℕ) → p n ≡ true → (k : ℕ) × IsLeast p k

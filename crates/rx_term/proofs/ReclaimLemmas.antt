@@ -1,14 +1,15 @@
 -- What stays of a heap whose kept slots name kept slots alone.
-use Rattle.std.proofs.Common.{[], ◌∷◌, ◌++◌, ℕ, suc, zero, ◌≡◌, Bool, true, false, Option, Some, None, IsSome, is_some, refl, sym, ap, ◌∙◌, subst, inl, inr, arith, Contains}
+use Rattle.std.proofs.Common.{[], ◌∷◌, ◌++◌, ℕ, suc, zero, ◌≡◌, ◌⊎◌, Bool, true, false, Option, Some, None, IsSome, is_some, refl, sym, ap, ◌∙◌, subst, inl, inr, arith, Contains}
 use Rattle.std.specs.Prelude.{if◌then◌else◌}
 use Rattle.std.proofs.lemmas.List.Elements.{Contains-append_left, Contains-append_right, Contains-append_cases}
 use Rattle.rx_term.specs.Tree.{Tree, Int, Appl, Items, Hole, Trees, none, more, annotations}
 use Rattle.rx_term.specs.Parts.{parts}
-use Rattle.rx_term.proofs.PartsLemmas.{cons_head, cons_tail, cons_cases, no_element, notes-part}
-use Rattle.rx_term.specs.Heap.{Node, pair, application, placeholder, Cell, Heap, Table, tree_of, Notes, Says, links, node_links, notes_links, kept_slots}
+use Rattle.rx_term.proofs.PartsLemmas.{cons_head, cons_tail, cons_cases, no_element, notes-part, item-part, rest-part, args-part, inner-part, parts-self, parts-trans}
+use Rattle.rx_term.specs.Heap.{Node, number, empty, pair, application, placeholder, IsLinked, start, along, Cell, Heap, Table, tree_of, Notes, Says, links, node_links, notes_links, kept_slots}
 use Rattle.std.specs.FinMap as map
 use Rattle.rx_term.specs.Heap.{IsHeap, is_whole, content_of}
-use Rattle.rx_term.proofs.ContentLemmas.{known, content-at, some-value}
+use Rattle.rx_term.proofs.ContentLemmas.{known, content-at, cell-of, content-closed, content-one_place}
+use Rattle.rx_term.proofs.StoreLemmas.{some-value}
 use Rattle.rx_term.proofs.HeapLemmas.{whole-at, whole-from, opens, closes, kept-tree_of}
 
 -- what a cell says of the slots that it names, told of each of them alone
@@ -68,6 +69,48 @@ module _ (c : ℕ → Option Tree) (m : Table) where
       | inr q ↦ absurd (no_element _ q)
     ]
 
+  link-in : (n : Node) (l : Option ℕ) (x : Cell) (i : ℕ) → x.node ≡ n → x.notes ≡ l → Contains (links x) i → Contains (node_links n) i ⊎ Contains (notes_links l) i
+  link-in n l x i e q h = Contains-append_cases (node_links n) (notes_links l) i (subst (λ k. Contains (node_links k ++ notes_links l) i) e (subst (λ k. Contains (node_links x.node ++ notes_links k) i) q h))
+
+  one-link : (j i : ℕ) → Contains (j ∷ []) i → j ≡ i
+  one-link j i h = elim (cons_cases j [] i h) [ inl e ↦ e | inr q ↦ absurd (no_element _ q) ]
+
+  -- the tree of a slot that a cell names is a part of the cell's tree
+  pub link-part : (x : Cell) (u : Tree) (i : ℕ) → Says c m x u → Contains (links x) i → (v : Tree) × (c i ≡ Some v) × Contains (parts u) v
+  link-part x (Int z anns) i (a, f, n) h = elim (link-in (number z) x.notes x i a refl h) [ inl q ↦ absurd (no_element _ q) | inr q ↦ notes-linked (Int z anns) x.notes i n q ]
+  link-part x (Items none anns) i (a, n) h = elim (link-in empty x.notes x i a refl h) [ inl q ↦ absurd (no_element _ q) | inr q ↦ notes-linked (Items none anns) x.notes i n q ]
+  link-part x (Items (more v vs) anns) i (j, (k, e, a, b, n)) h = elim (link-in (pair j k) x.notes x i e refl h) [
+    | inl q ↦ elim (cons_cases j (k ∷ []) i q) [
+      | inl p ↦ (v, ap c (sym p) ∙ a, item-part v vs anns)
+      | inr p ↦ (Items vs none, ap c (sym (one-link k i p)) ∙ b, rest-part v vs anns)
+    ]
+    | inr q ↦ notes-linked (Items (more v vs) anns) x.notes i n q
+  ]
+  link-part x (Appl name quoted args anns) i (s, (j, e, g, b, n)) h = elim (link-in (application s j) x.notes x i e refl h) [
+    | inl q ↦ (Items args none, ap c (sym (one-link j i q)) ∙ b, args-part name quoted args anns)
+    | inr q ↦ notes-linked (Appl name quoted args anns) x.notes i n q
+  ]
+  link-part x (Hole v anns) i (j, e, a, n) h = elim (link-in (placeholder j) x.notes x i e refl h) [
+    | inl q ↦ (v, ap c (sym (one-link j i q)) ∙ a, inner-part v anns)
+    | inr q ↦ notes-linked (Hole v anns) x.notes i n q
+  ]
+
+-- what is linked from some slots is linked from those that these are linked from
+pub IsLinked-trans : {h : Heap} {P Q : ℕ → Type 0} {t : ℕ} → ((s : ℕ) → P s → IsLinked h Q s) → IsLinked h P t → IsLinked h Q t
+IsLinked-trans f (start p) = f _ p
+IsLinked-trans f (along l e c) = along (IsLinked-trans f l) e c
+
+-- the tree of a linked slot is a part of the tree of a slot to begin with
+module _ (h : Heap) (m : Table) (len n : ℕ) (heap : IsHeap h m len n) (from : ℕ → Type 0) (each : (s : ℕ) → from s → IsSome (map.get (content_of h m len n) s)) where
+  pub linked-part : (t : ℕ) → IsLinked h from t → (s : ℕ) × ((u : Tree) × ((v : Tree) × from s × (map.get (content_of h m len n) s ≡ Some u) × (map.get (content_of h m len n) t ≡ Some v) × Contains (parts u) v))
+  linked-part t (start p) = let u = some-value (map.get (content_of h m len n) t) (each t p) in (t, (u.0, (u.0, p, u.1, u.1, parts-self u.0)))
+  linked-part i (along {t = t} {x = x} l e c) =
+      let r = linked-part t l in
+      let y = cell-of h m len n heap t r.1.1.0 r.1.1.3 in
+      let same : y.0 ≡ x = (let p = y.1 in cc) in
+      let w = link-part (λ k. map.get (content_of h m len n) k) m y.0 r.1.1.0 i y.2 (subst (λ z. Contains (links z) i) (sym same) c) in
+      (r.0, (r.1.0, (w.0, r.1.1.1, r.1.1.2, w.1, parts-trans r.1.0 r.1.1.0 w.0 r.1.1.4 w.2)))
+
 -- the kept slots of a whole heap are a whole heap, at the same depth
 module _ (h : Heap) (m : Table) (len n : ℕ) (heap : IsHeap h m len n) (keep : ℕ → Bool) (closed : (t i : ℕ) (x : Cell) → keep t ≡ true → h t ≡ Some x → Contains (links x) i → keep i ≡ true) where
   some-kept : (t : ℕ) (b : Bool) → keep t ≡ b → IsSome (if b then h t else None) → (keep t ≡ true) × IsSome (h t)
@@ -105,3 +148,10 @@ module _ (h : Heap) (m : Table) (len n : ℕ) (heap : IsHeap h m len n) (keep : 
     only-content t u e =
         let o = only-kept-tree h m keep closed d t u (sym (content-at (kept_slots keep h) m len d (kept-heap d w) t) ∙ e) in
         (o.0, known h m len n heap d t u o.1)
+
+    -- a tree that is a part of a kept slot's tree keeps its slot
+    pub kept-part : (r t : ℕ) (u v : Tree) → keep r ≡ true → map.get (content_of h m len n) r ≡ Some v → Contains (parts v) u → map.get (content_of h m len n) t ≡ Some u → keep t ≡ true
+    kept-part r t u v k e p q =
+        let s = content-closed (kept_slots keep h) m len d (kept-heap d w) r v u (kept-content r v k e) p in
+        let o = only-content s.0 u s.1 in
+        subst (λ j. keep j ≡ true) (content-one_place h m len n heap s.0 t u o.1 q) o.0

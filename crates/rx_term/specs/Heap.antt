@@ -1,5 +1,5 @@
 -- How cells that name one another stand for trees. A cell may name any other, before or after it, as long as none leads back to itself.
-use Rattle.std.specs.Prelude.{ℕ, ◌≡◌, ◌<◌, ◌≤◌, Bool, true, false, ◌||◌, ◌&&◌, not, if◌then◌else◌, List, [], ◌∷◌, ◌++◌, ℤ, Option, Some, None, IsSome, is_some, IsTrue}
+use Rattle.std.specs.Prelude.{ℕ, ◌≡◌, ◌<◌, ◌≤◌, Bool, true, false, ◌||◌, ◌&&◌, not, if◌then◌else◌, List, [], ◌∷◌, ◌++◌, ℤ, Option, Some, None, IsSome, is_some, IsTrue, Contains}
 use Rattle.std.proofs.Common.{zero, suc, arith}
 use Rattle.std.proofs.Math.Bool.{Bool-set}
 use mathlib.Core.HLevel.{Σ_prop_path}
@@ -102,11 +102,11 @@ pub Least-prop : (p : ℕ → Bool) → IsProp (Least p)
 Least-prop p x y = let same : x.0 ≡ y.0 = omega (arith, none_before p x y, none_before p y x) in Σ_prop_path (IsLeast-prop p) same
 
 -- a map of the slots below `len` that have a value
-abbrev pub put_some : map.FinMap nat_cmp Tree → ℕ → Option Tree → map.FinMap nat_cmp Tree
+abbrev pub put_some : {X : Type 0} → map.FinMap nat_cmp X → ℕ → Option X → map.FinMap nat_cmp X
 put_some m k None = m
 put_some m k (Some u) = map.insert m k u
 
-abbrev pub tabulate : ℕ → (ℕ → Option Tree) → map.FinMap nat_cmp Tree
+abbrev pub tabulate : {X : Type 0} → ℕ → (ℕ → Option X) → map.FinMap nat_cmp X
 tabulate zero f = map.empty
 tabulate (suc k) f = put_some (tabulate k f) k (f k)
 
@@ -148,3 +148,8 @@ links x = node_links x.node ++ notes_links x.notes
 -- only the slots that pass the test stay
 abbrev pub kept_slots : (ℕ → Bool) → Heap → Heap
 kept_slots keep h t = if keep t then h t else None
+
+-- the slot is one of those to begin with, or a slot that is reached names it
+pub data IsLinked (h : Heap) (from : ℕ → Type 0) : ℕ → Type 0 where
+  start : {t : ℕ} → from t → IsLinked h from t
+  along : {t i : ℕ} {x : Cell} → IsLinked h from t → h t ≡ Some x → Contains (links x) i → IsLinked h from i

@@ -119,6 +119,11 @@ pub record Keeps (old new : Store) (work : List Term) : Type 0 where
   pub trees : (t : Term) (u : Tree) → tree_at old t ≡ Some u → IsReached old work u → tree_at new t ≡ Some u
   pub beside : SameBesideContent old new
 
+-- no cell is left, and each tree that is held is reached from the roots or from a work list
+pub record IsExhausted (w : Store) (work : List Term) : Type 0 where
+  pub full : cells w ≡ w.cap
+  pub needed : (t : Term) (u : Tree) → tree_at w t ≡ Some u → IsReached w work u
+
 -- what holds of every bank: one reference for each tree, one symbol for each signature, parts and symbols are there, all of it valid,
 -- and what is rooted is there
 pub record IsSound (w : Store) : Type 0 where
