@@ -1,0 +1,7 @@
+pub mod Sharing
+pub mod Slots
+pub mod Steps
+pub mod Access
+pub mod Values
+pub mod Blocks
+pub mod Agrees
