@@ -5,3 +5,7 @@ pub mod Access
 pub mod Values
 pub mod Blocks
 pub mod Agrees
+pub mod Puts
+pub mod Chains
+pub mod Pools
+pub mod PoolSteps

@@ -4,3 +4,6 @@ pub mod Held
 pub mod Real
 pub mod Block
 pub mod Blocks
+pub mod Put
+pub mod Links
+pub mod Pool

@@ -1,6 +1,6 @@
 //! The blocks, and the cells in them by their slots' numbers.
 ghost use Rattle.std.specs.Prelude.{◌≡◌, ℕ, ◌*◌, ◌<◌, [], ◌++◌, List, Option, Some, None, length, get_or, slice_set, replicate, IfSome, OnOk, OnErr};
-ghost use Rattle.rx_arena.specs.Node.{Node, lone, with_chain, changed};
+ghost use Rattle.rx_arena.specs.Node.{Node, lone, with_body, with_chain, with_free, with_gray, with_mark, with_roots, changed};
 ghost use Rattle.rx_arena.specs.Held.{IsHeld};
 ghost use Rattle.rx_arena.specs.Ownership as spec;
 ghost use Rattle.rx_arena.specs.Blocks as all;
@@ -109,12 +109,85 @@ impl Store {
     }
 
     pub fn set_chain(&mut self, slot: u32, next: Option<u32>)
-        requires { IsHeld self.old slot × IfSome next (λ t. t < length self.old) }
+        requires held { IsHeld self.old slot × IfSome next (λ t. t < length self.old) }
+        requires apart { IfSome next (λ t. ¬ (t ≡ slot)) }
         ensures { self.new ≡ changed slot (with_chain next) self.old }
     {
         let at = place(&self.blocks, slot);
         let target = target(&self.blocks, next);
         self.cells.set_chain(at, target)
+    }
+
+    pub fn gray(&self, slot: u32) -> Option<u32>
+        requires { IsHeld self.now slot × IfSome (get_or self.now slot None) (λ n. IfSome n.gray (IsHeld self.now)) }
+        ensures { IfSome (get_or self.now slot None) (λ n. result ≡ n.gray) }
+    {
+        self.cells.gray_of(place(&self.blocks, slot))
+    }
+
+    pub fn set_gray(&mut self, slot: u32, next: Option<u32>)
+        requires held { IsHeld self.old slot × IfSome next (λ t. t < length self.old) }
+        requires apart { IfSome next (λ t. ¬ (t ≡ slot)) }
+        ensures { self.new ≡ changed slot (with_gray next) self.old }
+    {
+        let at = place(&self.blocks, slot);
+        let target = target(&self.blocks, next);
+        self.cells.set_gray(at, target)
+    }
+
+    pub fn free(&self, slot: u32) -> Option<u32>
+        requires { IsHeld self.now slot × IfSome (get_or self.now slot None) (λ n. IfSome n.free (IsHeld self.now)) }
+        ensures { IfSome (get_or self.now slot None) (λ n. result ≡ n.free) }
+    {
+        self.cells.free_of(place(&self.blocks, slot))
+    }
+
+    pub fn set_free(&mut self, slot: u32, next: Option<u32>)
+        requires held { IsHeld self.old slot × IfSome next (λ t. t < length self.old) }
+        requires apart { IfSome next (λ t. ¬ (t ≡ slot)) }
+        ensures { self.new ≡ changed slot (with_free next) self.old }
+    {
+        let at = place(&self.blocks, slot);
+        let target = target(&self.blocks, next);
+        self.cells.set_free(at, target)
+    }
+
+    pub fn roots(&self, slot: u32) -> u16
+        requires { IsHeld self.now slot }
+        ensures { IfSome (get_or self.now slot None) (λ n. result ≡ n.roots) }
+    {
+        self.cells.get(place(&self.blocks, slot)).roots
+    }
+
+    pub fn marked(&self, slot: u32) -> bool
+        requires { IsHeld self.now slot }
+        ensures { IfSome (get_or self.now slot None) (λ n. result ≡ n.marked) }
+    {
+        self.cells.get(place(&self.blocks, slot)).marked
+    }
+
+    pub fn set_body(&mut self, slot: u32, body: CellBody)
+        requires { IsHeld self.old slot }
+        ensures { self.new ≡ changed slot (with_body body) self.old }
+    {
+        let at = place(&self.blocks, slot);
+        self.cells.set_body(at, body)
+    }
+
+    pub fn set_roots(&mut self, slot: u32, count: u16)
+        requires { IsHeld self.old slot }
+        ensures { self.new ≡ changed slot (with_roots count) self.old }
+    {
+        let at = place(&self.blocks, slot);
+        self.cells.set_roots(at, count)
+    }
+
+    pub fn set_marked(&mut self, slot: u32, marked: bool)
+        requires { IsHeld self.old slot }
+        ensures { self.new ≡ changed slot (with_mark marked) self.old }
+    {
+        let at = place(&self.blocks, slot);
+        self.cells.set_marked(at, marked)
     }
 }
 
