@@ -1,14 +1,14 @@
 -- What each call of a pool makes of the store, the free list and the cells.
 use Rattle.std.proofs.Common.{◌≡◌, ◌≢◌, ℕ, zero, suc, ◌+◌, ◌-◌, ◌<◌, ◌≤◌, ◌⊎◌, inl, inr, List, [], ◌∷◌, ◌++◌, length, get_or, set, Some, None, IfSome, refl, sym, ap, subst, ◌∙◌, arith}
-use Rattle.std.specs.Prelude.{Option, replicate, ◌^◌}
+use Rattle.std.specs.Prelude.{Option, replicate, ◌^◌, min}
 use Rattle.std.specs.Option.{option_map}
-use Rattle.std.proofs.lemmas.List.{length-set}
+use Rattle.std.proofs.lemmas.List.{length-set, get_or-set_same, set-set, set-get_or}
 use Rattle.rx_arena.specs.Node.{Node, lone, with_free, changed}
 use Rattle.rx_arena.specs.Held.{IsHeld}
-use Rattle.rx_arena.specs.Put.{times, put, filled}
+use Rattle.rx_arena.specs.Put.{times, put, filled, one_some}
 use Rattle.rx_arena.specs.Links.{Links, links, IsChain, Listed}
 use Rattle.rx_arena.specs.Pool.{PoolState, IsPool, cells_of, altered}
-use Rattle.rx_arena.proofs.Puts.{within_some}
+use Rattle.rx_arena.proofs.Puts.{within_some, filled-put}
 use Rattle.rx_arena.proofs.Chains.{chain_stays, popped, pushed, listed_is, first_some}
 use Rattle.rx_arena.proofs.Pools.{lt_or_le, links-set_other, links-set_same, links_some, IsTakenAt, taken_at, cells-set, pool-set, reused-away, reused-below, reused-was_free, reused-cells, reused-pool, extended-chain, extended-was_free, extended-cells, extended-pool, given_back-cells, given_back-some_taken, given_back-pool, grown-chain, grown-cells, grown-pool}
 
@@ -31,6 +31,25 @@ module _ (slots : List (Option Node)) (first : Option ℕ) (free : List ℕ) (fr
 
   pub step_cells : cells_of slots l.0 fresh ≡ cells
   step_cells = ap (λ (z : List ℕ). cells_of slots z fresh) (listed_is (frees slots) first l free st.chain) ∙ st.cells_is
+
+-- what is taken and what is spare fit
+pub pool_fits : (slots : List (Option Node)) (free : List ℕ) (fresh taken room cap : ℕ) → IsPool slots free fresh taken room cap → (min cap room - filled (cells_of slots free fresh)) + filled (cells_of slots free fresh) ≤ cap
+pool_fits slots free fresh taken room cap p = omega (arith, p.taken_counted, p.free_counted, p.fresh_in_cap)
+
+-- one more is taken
+pub filled-taken : (cells : List (Option Node)) (s : ℕ) (b : Node) → get_or cells s None ≡ None → filled (put cells s (Some b)) ≡ filled cells + 1
+filled-taken cells s b e = let none = ap one_some e in omega (arith, filled-put cells s (Some b), none)
+
+-- a node at its slot is changed
+pub changed_at : (base slots new : List (Option Node)) (s : ℕ) (n : Node) (f : Node → Node) → s < length base → slots ≡ set base s (Some n) → new ≡ changed s f slots → new ≡ set base s (Some (f n))
+changed_at base slots new s n f lt is e =
+    e ∙ ap (changed s f) is ∙ ap (λ z. set (set base s (Some n)) s (option_map f z)) (get_or-set_same base s (Some n) None lt) ∙ set-set base s (Some n) (Some (f n))
+
+pub held_at : (base slots : List (Option Node)) (s : ℕ) (n : Node) → s < length base → slots ≡ set base s (Some n) → IsHeld slots s
+held_at base slots s n lt e = (n, ap (λ (z : List (Option Node)). get_or z s None) e ∙ get_or-set_same base s (Some n) None lt)
+
+pub itself_at : (base : List (Option Node)) (s : ℕ) (n : Node) → get_or base s None ≡ Some n → base ≡ set base s (Some n)
+itself_at base s n e = sym (set-get_or base s None) ∙ ap (λ z. set base s z) e
 
 -- two states that differ in no part
 pub same_pool : (cells cells' : List (Option Node)) (free free' : List ℕ) (fresh room cap : ℕ) → cells ≡ cells' → free ≡ free'
@@ -153,10 +172,10 @@ module _ (slots : List (Option Node)) (first : Option ℕ) (l : Listed (frees sl
 
   -- the first free slot, if there is one
   module _ (s : ℕ) (is : first ≡ Some s) where
-    abbrev front : (rest : List ℕ) × (l.0 ≡ s ∷ rest) × (next : Option ℕ) × (get_or (frees slots) s None ≡ Some next) × IsChain (frees slots) next rest
+    abbrev pub front : (rest : List ℕ) × (l.0 ≡ s ∷ rest) × (next : Option ℕ) × (get_or (frees slots) s None ≡ Some next) × IsChain (frees slots) next rest
     front = popped (frees slots) first s l.0 l.1 is
 
-    abbrev front_node : (n : Node) × (get_or slots s None ≡ Some n) × (n.free ≡ front.2)
+    abbrev pub front_node : (n : Node) × (get_or slots s None ≡ Some n) × (n.free ≡ front.2)
     front_node = links_some (λ n. n.free) slots s front.2 front.3
 
     held_of : (next : Option ℕ) → IfSome next (λ t. (0 < times t front.0) × ((k : Option ℕ) × (get_or (frees slots) t None ≡ Some k))) → IfSome next (IsHeld slots)

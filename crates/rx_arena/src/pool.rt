@@ -93,6 +93,7 @@ impl Pool {
         ensures below { IfSome result (λ s. s < self.old.cap) }
         ensures some { IfSome result (λ s. self.new ≡ record self.old { cells = put self.old.cells s (Some (lone body)); free = self.new.free }) }
         ensures none { IfNone result (self.new ≡ self.old) }
+        ensures fits { spare_of self.new + filled self.new.cells ≤ self.new.cap }
     {
         match self.free {
             Some(slot) => {
@@ -111,6 +112,7 @@ impl Pool {
         ensures slot { result ≡ self.old.fresh }
         ensures was_free { get_or self.old.cells result None ≡ None }
         ensures after { self.new ≡ record self.old { cells = put self.old.cells result (Some (lone body)); fresh = self.old.fresh + 1 } }
+        ensures fits { spare_of self.new + filled self.new.cells ≤ self.new.cap }
     {
         let slot = self.fresh;
         self.store.fill(slot, body);

@@ -3,7 +3,7 @@ use Rattle.rx_arena.specs.Node.{Node, lone, with_chain, with_gray, with_mark, wi
 use Rattle.rx_arena.specs.Held.{IsHeld}
 use Rattle.rx_arena.specs.Put.{times, put, filled}
 use Rattle.rx_arena.specs.Pool.{PoolState, IsPool, altered}
-use Rattle.rx_arena.proofs.PoolSteps.{extended-step, extended_free, step_pool, step_free, step_cells, same_pool}
+use Rattle.rx_arena.proofs.PoolSteps.{extended-step, extended_free, pool_fits, step_pool, step_free, step_cells, same_pool}
 use Rattle.rx_arena.proofs.pool.Pool.extend.Goals as goal
 
 pub invariant_of-self-inside : goal.invariant_of-self-inside
@@ -29,3 +29,9 @@ pub returns-clause-was_free : goal.returns-clause-was_free
 returns-clause-was_free c =
     let lr = subst (λ (v : PoolState). (v.fresh < v.room) × (v.fresh < v.cap)) (sym c.self.view_is) c.requires in
     subst (λ (v : PoolState). get_or v.cells c.self.inside.fresh None ≡ None) c.self.view_is (extended_free c.self.inside.store c.self.inside.free c.self.inside.listed c.self.inside.fresh c.self.inside.taken c.self.inside.room c.self.inside.cap c.self.invariant lr.0 lr.1)
+
+pub returns-clause-fits : goal.returns-clause-fits
+returns-clause-fits c =
+    let lr = subst (λ (v : PoolState). (v.fresh < v.room) × (v.fresh < v.cap)) (sym c.self.view_is) c.requires in
+    let st = extended-step c.self.inside.store c.self.inside.free c.self.inside.listed c.self.inside.fresh c.self.inside.taken c.self.inside.room c.self.inside.cap c.self.invariant c.fill.new.self (lone c.args.body) lr.0 lr.1 c.fill.ensures in
+    pool_fits _ _ _ _ _ _ (step_pool _ _ _ _ _ _ _ _ st c.self-1.given.0)
