@@ -5,9 +5,9 @@ use Rattle.std.specs.Option.{option_map}
 use Rattle.std.proofs.lemmas.List.{length-set, get_or-set_same, set-set, set-get_or}
 use Rattle.rx_arena.specs.Node.{Node, lone, with_free, changed}
 use Rattle.rx_arena.specs.Held.{IsHeld}
-use Rattle.rx_arena.specs.Put.{times, put, filled, one_some}
+use Rattle.rx_arena.specs.Put.{times, put, filled, one_some, altered}
 use Rattle.rx_arena.specs.Links.{Links, links, IsChain, Listed}
-use Rattle.rx_arena.specs.Pool.{PoolState, IsPool, cells_of, altered}
+use Rattle.rx_arena.specs.Pool.{PoolState, IsPool, cells_of}
 use Rattle.rx_arena.proofs.Puts.{within_some, filled-put}
 use Rattle.rx_arena.proofs.Chains.{chain_stays, popped, pushed, listed_is, first_some}
 use Rattle.rx_arena.proofs.Pools.{lt_or_le, links-set_other, links-set_same, links_some, IsTakenAt, taken_at, cells-set, pool-set, reused-away, reused-below, reused-was_free, reused-cells, reused-pool, extended-chain, extended-was_free, extended-cells, extended-pool, given_back-cells, given_back-some_taken, given_back-pool, grown-chain, grown-cells, grown-pool}
@@ -35,6 +35,10 @@ module _ (slots : List (Option Node)) (first : Option ℕ) (free : List ℕ) (fr
 -- what is taken and what is spare fit
 pub pool_fits : (slots : List (Option Node)) (free : List ℕ) (fresh taken room cap : ℕ) → IsPool slots free fresh taken room cap → (min cap room - filled (cells_of slots free fresh)) + filled (cells_of slots free fresh) ≤ cap
 pool_fits slots free fresh taken room cap p = omega (arith, p.taken_counted, p.free_counted, p.fresh_in_cap)
+
+-- the taken slots are below the room and the limit
+pub pool_room : (slots : List (Option Node)) (free : List ℕ) (fresh taken room cap : ℕ) → IsPool slots free fresh taken room cap → (filled (cells_of slots free fresh) ≡ taken) × (taken ≤ room) × (taken ≤ cap)
+pool_room slots free fresh taken room cap p = (p.taken_counted, omega (arith, p.free_counted, p.fresh_in_room), omega (arith, p.free_counted, p.fresh_in_cap))
 
 -- one more is taken
 pub filled-taken : (cells : List (Option Node)) (s : ℕ) (b : Node) → get_or cells s None ≡ None → filled (put cells s (Some b)) ≡ filled cells + 1

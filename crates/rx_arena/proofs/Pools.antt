@@ -7,7 +7,7 @@ use Rattle.rx_arena.specs.Node.{Node, lone, with_free, changed}
 use Rattle.rx_arena.specs.Held.{IsHeld}
 use Rattle.rx_arena.specs.Put.{one_if, times, put, one_some, filled, without}
 use Rattle.rx_arena.specs.Links.{Links, links, IsChain}
-use Rattle.rx_arena.specs.Pool.{PoolState, IsPool, cells_of, altered}
+use Rattle.rx_arena.specs.Pool.{PoolState, IsPool, cells_of}
 use Rattle.rx_arena.proofs.Puts.{one_or_two, one_if-same, get_or-put_same, put-put, put-set, put_end, within_some, without-put, get_or-without_other, get_or-without_same, some-without, filled-put, filled_some, get_or-map_option}
 use Rattle.rx_arena.proofs.Chains.{chain_agrees, chain_stays, member_some, popped, pushed, one_or_more}
 

@@ -7,3 +7,4 @@ pub mod Blocks
 pub mod Put
 pub mod Links
 pub mod Pool
+pub mod Arena

@@ -2,8 +2,7 @@
 use Rattle.std.specs.Prelude.{◌≡◌, ℕ, ◌+◌, ◌-◌, ◌<◌, ◌≤◌, ◌^◌, min, List, take, length, get_or, Option, Some, None}
 use Rattle.rx_arena.specs.Node.{Node}
 use Rattle.rx_arena.specs.Held.{IsHeld}
-use Rattle.rx_arena.specs.Put.{times, put, filled, without}
-use Rattle.std.specs.Option.{option_map}
+use Rattle.rx_arena.specs.Put.{times, filled, without}
 
 pub record PoolState : Type 0 where
   -- what each slot holds that is taken
@@ -36,7 +35,3 @@ pub record IsPool (slots : List (Option Node)) (free : List ℕ) (fresh taken ro
   pub fresh_in_cap : fresh ≤ cap
   pub room_in_cap : room < cap + 1024
   pub cap_small : cap ≤ 2 ^ 30
-
--- a taken slot with f done to what it holds
-abbrev pub altered : ℕ → (Node → Node) → List (Option Node) → List (Option Node)
-altered s f cells = put cells s (option_map f (get_or cells s None))

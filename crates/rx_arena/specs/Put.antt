@@ -1,5 +1,6 @@
 -- Lists by slot: what lies at each slot, and how often a list names a slot.
-use Rattle.std.specs.Prelude.{ℕ, zero, suc, ◌+◌, List, [], ◌∷◌, Option, Some, None, nat_eq, cond}
+use Rattle.std.specs.Prelude.{ℕ, zero, suc, ◌+◌, List, [], ◌∷◌, Option, Some, None, nat_eq, cond, get_or}
+use Rattle.std.specs.Option.{option_map}
 
 -- 1 where the two are one slot
 abbrev pub one_if : ℕ → ℕ → ℕ
@@ -36,3 +37,7 @@ filled (x ∷ xs) = one_some x + filled xs
 abbrev pub without : {X : Type 0} → List (Option X) → List ℕ → List (Option X)
 without xs [] = xs
 without xs (s ∷ ss) = put (without xs ss) s None
+
+-- the list with f done to what lies at slot s
+abbrev pub altered : {X : Type 0} → ℕ → (X → X) → List (Option X) → List (Option X)
+altered s f xs = put xs s (option_map f (get_or xs s None))

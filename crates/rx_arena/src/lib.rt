@@ -7,6 +7,7 @@ ghost use Rattle.rx_arena.specs.Real.{InBlock-prop, IsLast};
 ghost use Rattle.rx_arena.specs.Node.{Node, lone, with_body, with_chain, with_gray, with_free, with_roots, with_mark, changed, IsClosed};
 
 pub mod room;
+pub mod arena;
 pub mod fault;
 mod pool;
 pub mod store;

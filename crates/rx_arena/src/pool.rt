@@ -2,9 +2,9 @@
 ghost use Rattle.std.specs.Prelude.{◌≡◌, ◌+◌, ◌-◌, ◌<◌, ◌≤◌, ◌^◌, ◌∷◌, [], Option, Some, None, Ok, Err, MatchOption, MatchResult, IfSome, IfOk, IfErr, OnOk, OnErr, OnSome, IfNone, get_or, length, slice_set, min};
 ghost use Rattle.rx_arena.specs.Held.{IsHeld};
 ghost use Rattle.rx_arena.specs.Node.{lone, with_chain, with_gray, with_mark, with_roots};
-ghost use Rattle.rx_arena.specs.Put.{put, filled};
+ghost use Rattle.rx_arena.specs.Put.{put, filled, altered};
 ghost use Rattle.rx_arena.specs.Links.{Listed, Listed-prop, links};
-ghost use Rattle.rx_arena.specs.Pool.{spare_of, altered};
+ghost use Rattle.rx_arena.specs.Pool.{spare_of};
 
 use crate::fault::ArenaFault;
 use crate::store::Store;
@@ -140,7 +140,8 @@ impl Pool {
     /// Gives a slot back.
     pub(crate) fn give_back(&mut self, slot: u32)
         requires { IsHeld self.old.cells slot }
-        ensures { self.new ≡ record self.old { cells = put self.old.cells slot None; free = slot ∷ self.old.free } }
+        ensures after { self.new ≡ record self.old { cells = put self.old.cells slot None; free = slot ∷ self.old.free } }
+        ensures spare { spare_of self.new ≡ spare_of self.old + 1 }
     {
         self.store.set_free(slot, self.free);
         self.free = Some(slot);

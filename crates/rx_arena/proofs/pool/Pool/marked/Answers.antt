@@ -1,8 +1,8 @@
 use Rattle.std.proofs.Common.{◌≡◌, ◌+◌, ◌-◌, ◌<◌, ◌≤◌, ◌^◌, ◌∷◌, ◌++◌, [], List, ℕ, Some, None, IfSome, get_or, length, refl, sym, ap, subst, ◌∙◌, arith, min}
 use Rattle.rx_arena.specs.Node.{Node, lone, with_chain, with_gray, with_mark, with_roots, with_free}
 use Rattle.rx_arena.specs.Held.{IsHeld}
-use Rattle.rx_arena.specs.Put.{times, put, filled}
-use Rattle.rx_arena.specs.Pool.{PoolState, IsPool, altered}
+use Rattle.rx_arena.specs.Put.{times, put, filled, altered}
+use Rattle.rx_arena.specs.Pool.{PoolState, IsPool}
 use Rattle.rx_arena.proofs.PoolSteps.{held_in_store, shown}
 use Rattle.rx_arena.proofs.pool.Pool.marked.Goals as goal
 
