@@ -114,3 +114,21 @@ chained_some ls [] [] t a lt = absurd (omega (arith, lt))
 chained_some ls [] (c ∷ cs) t a lt = absurd a
 chained_some ls (h ∷ hs) [] t a lt = absurd a
 chained_some ls (h ∷ hs) (c ∷ cs) t a lt = elim (one_or_more (times t c)) [ inl z ↦ chained_some ls hs cs t a.1 (omega (arith, lt, z)) | inr p ↦ member_some ls h c t a.0 p ]
+
+-- where chain t holds the slot it can be split there
+pub split_at : (s : ℕ) (ss : List ℕ) → 0 < times s ss → (before : List ℕ) × ((after : List ℕ) × (ss ≡ before ++ s ∷ after))
+split_at s [] lt = absurd (omega (arith, lt))
+split_at s (t ∷ ts) lt =
+    elim (one_or_two t s) [
+      inl h ↦ ([], (ts, ap (λ (z : ℕ). z ∷ ts) h.1))
+      | inr h ↦ (let r = split_at s ts (omega (arith, lt, h.0)) in (t ∷ r.0, (r.1.0, ap (λ (z : List ℕ). t ∷ z) r.1.1)))
+    ]
+
+-- one of the chains holds the slot
+pub some_chain : (s : ℕ) (css : List (List ℕ)) → 0 < times_in s css → (c : ℕ) × (c < length css) × (0 < times s (get_or css c []))
+some_chain s [] lt = absurd (omega (arith, lt))
+some_chain s (c ∷ cs) lt =
+    elim (one_or_more (times s c)) [
+      inl z ↦ (let r = some_chain s cs (omega (arith, lt, z)) in (suc r.0, omega (arith, r.1), r.2))
+      | inr p ↦ (0, omega arith, p)
+    ]

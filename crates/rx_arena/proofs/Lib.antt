@@ -9,3 +9,6 @@ pub mod Puts
 pub mod Chains
 pub mod Pools
 pub mod PoolSteps
+pub mod ArenaLaws
+pub mod ArenaSteps
+pub mod ArenaReads

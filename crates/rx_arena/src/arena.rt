@@ -1,5 +1,5 @@
 //! The arena: slots to take and give back, the chains of a table, and the gray list of a marking.
-ghost use Rattle.std.specs.Prelude.{◌≡◌, ℕ, ◌+◌, ◌-◌, ◌<◌, ◌≤◌, ◌^◌, ◌++◌, ◌∷◌, [], List, Bool, true, false, Option, Some, None, Ok, Err, MatchOption, IfSome, IfOk, IfErr, OnOk, OnErr, IfNone, get_or, length, slice_set, take, replicate, reverse};
+ghost use Rattle.std.specs.Prelude.{◌≡◌, ℕ, ◌+◌, ◌-◌, ◌<◌, ◌≤◌, ◌^◌, ◌++◌, ◌∷◌, [], List, Bool, true, false, Option, Some, None, Ok, Err, MatchOption, IfSome, IfOk, IfErr, OnOk, OnErr, IfNone, IsSome, get_or, length, slice_set, take, replicate, reverse};
 ghost use Rattle.rx_arena.specs.Put.{times, times_in, put, altered, without};
 ghost use Rattle.rx_arena.specs.Links.{Chained, Chained-prop, Listed, Listed-prop, links};
 ghost use Rattle.rx_arena.specs.Arena.{taken_at, IsTaken, taken_count, chain_at, InChain, IsLoose, marked_at, IsMarked, roots_at, new_cell, with_count, with_marking, kept_in, dropped_from, IsFirst, times_hashed, IsArena, empty_arena};
@@ -37,10 +37,17 @@ fn empty_heads(alloc: Global, count: u32) -> Result<Vec<Option<u32>>, ArenaFault
     ensures fault { IfErr result (λ e. e ≡ ArenaFault.Memory) }
 {
     let mut heads = Vec::new(alloc);
-    for _ in 0..count {
+    for i in 0..count {
         heads.push(None).map_err(|_| ArenaFault::Memory)?;
     }
     Ok(heads)
+}
+
+/// The slot of a number.
+fn slot_of(number: Option<u32>) -> Option<Slot>
+    ensures { MatchOption number (result ≡ None) (λ n. IfSome result (λ s. s.0 ≡ n) × IsSome result) }
+{
+    number.map(Slot)
 }
 
 impl Arena {
@@ -99,8 +106,10 @@ impl Arena {
         ensures full { result ≡ Err ArenaFault.Full → taken_count self.old ≡ self.old.cap }
         ensures memory { result ≡ Err ArenaFault.Memory → taken_count self.old < self.old.cap }
     {
-        let slot = self.pool.take(body)?;
-        Ok(Slot(slot))
+        match self.pool.take(body) {
+            Ok(slot) => Ok(Slot(slot)),
+            Err(fault) => Err(fault),
+        }
     }
 
     /// Gives back a slot that nothing needs any more.
@@ -159,7 +168,7 @@ impl Arena {
         ensures first { IsFirst result (chain_at self.now chain) }
         ensures law { IsArena self.now }
     {
-        self.heads[chain as usize].map(Slot)
+        slot_of(self.heads[chain as usize])
     }
 
     /// The slot after this one in its chain.
@@ -168,7 +177,7 @@ impl Arena {
         ensures next { (c : ℕ) (before after : List ℕ) → chain_at self.now c ≡ before ++ slot.0 ∷ after → IsFirst result after }
         ensures law { IsArena self.now }
     {
-        self.pool.chain(slot.0).map(Slot)
+        slot_of(self.pool.chain(slot.0))
     }
 
     /// Puts a slot in front of a chain.
