@@ -1,8 +1,8 @@
 -- What is true of every arena stays true: of what users see alone.
 use Rattle.std.proofs.Common.{◌≡◌, ◌≢◌, ℕ, zero, suc, ◌+◌, ◌-◌, ◌<◌, ◌≤◌, ◌⊎◌, inl, inr, List, [], ◌∷◌, ◌++◌, length, get_or, set, Some, None, refl, sym, ap, subst, ◌∙◌, arith}
-use Rattle.std.specs.Prelude.{Option, Bool, true, false, replicate, ◌^◌}
+use Rattle.std.specs.Prelude.{Option, Bool, true, false, replicate, take, ◌^◌}
 use Rattle.std.specs.Option.{option_map}
-use Rattle.std.proofs.lemmas.List.{length-set, length-replicate}
+use Rattle.std.proofs.lemmas.List.{length-set, length-replicate, length-take}
 use Rattle.rx_arena.specs.Put.{one_if, times, times_in, put, one_some, filled, altered}
 use Rattle.rx_arena.specs.Arena.{Taken, ArenaState, taken_at, IsTaken, taken_count, chain_at, InChain, IsLoose, marked_at, is_marked, IsMarked, IsArena, empty_arena, with_marking}
 use Rattle.rx_arena.proofs.Puts.{one_or_two, one_if-same, get_or-put_same, get_or-put_other, filled-put, filled_some, times_in-set}
@@ -201,3 +201,31 @@ module _ (a : ArenaState) (law : IsArena a) where
 
   pub gray_mark : (s : ℕ) (t : Taken) → taken_at a s ≡ Some t → 0 < times s a.gray → t.marked ≡ true
   gray_mark s t e g = sym (ap is_marked e) ∙ law.gray_marked s g
+
+pub times_in-append : (s : ℕ) (xs ys : List (List ℕ)) → times_in s (xs ++ ys) ≡ times_in s xs + times_in s ys
+times_in-append s [] ys = omega arith
+times_in-append s (x ∷ xs) ys = omega (arith, times_in-append s xs ys)
+
+pub times_in-take : (s n : ℕ) (xs : List (List ℕ)) → times_in s (take n xs) ≤ times_in s xs
+times_in-take s zero xs = omega arith
+times_in-take s (suc n) [] = omega arith
+times_in-take s (suc n) (x ∷ xs) = omega (arith, times_in-take s n xs)
+
+-- other chains with the same slots, or some of them
+chains_law : (a : ArenaState) → IsArena a → (css : List (List ℕ)) → ((s : ℕ) → times_in s css ≤ times_in s a.chains) → length css < 2 ^ 32 → IsArena (record a { chains = css })
+chains_law a law css fewer few = record {
+  alone = λ s. omega (arith, fewer s, law.alone s);
+  chained_taken = λ s h. law.chained_taken s (omega (arith, h, fewer s));
+  gray_once = law.gray_once;
+  gray_marked = law.gray_marked;
+  fits = law.fits;
+  below = law.below;
+  few_chains = few;
+  small_cap = law.small_cap;
+}
+
+pub prepend_law : (a : ArenaState) → IsArena a → (n : ℕ) → length (replicate n [] ++ a.chains) < 2 ^ 32 → IsArena (record a { chains = replicate n [] ++ a.chains })
+prepend_law a law n few = chains_law a law (replicate n [] ++ a.chains) (λ s. omega (arith, times_in-append s (replicate n []) a.chains, times_in-replicate s n)) few
+
+pub truncate_law : (a : ArenaState) → IsArena a → (n : ℕ) → IsArena (record a { chains = take n a.chains })
+truncate_law a law n = chains_law a law (take n a.chains) (λ s. times_in-take s n a.chains) (omega (arith, length-take n a.chains, law.few_chains))

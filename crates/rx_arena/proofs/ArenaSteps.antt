@@ -1,6 +1,6 @@
 -- What each call of an arena makes of the pool, the heads and the lists.
 use Rattle.std.proofs.Common.{◌≡◌, ◌≢◌, ℕ, zero, suc, ◌+◌, ◌-◌, ◌<◌, ◌≤◌, ◌⊎◌, inl, inr, List, [], ◌∷◌, ◌++◌, length, get_or, set, map, Some, None, IfSome, refl, sym, ap, subst, ◌∙◌, arith}
-use Rattle.std.specs.Prelude.{Option, Bool, true, false, min, Result, Ok, Err, IfOk, OnErr}
+use Rattle.std.specs.Prelude.{Option, Bool, true, false, min, take, replicate, ◌^◌, Result, Ok, Err, IfOk, OnErr}
 use Rattle.rx_arena.specs.declared.fault.ArenaFault.{ArenaFault}
 use Rattle.std.specs.Option.{option_map}
 use Rattle.rx_arena.specs.declared.CellBody.{CellBody}
@@ -9,12 +9,12 @@ use Rattle.rx_arena.specs.Held.{IsHeld}
 use Rattle.rx_arena.specs.Put.{one_if, times, times_in, put, one_some, filled, altered}
 use Rattle.rx_arena.specs.Links.{Links, links, IsChain, Listed, AreChains, Chained}
 use Rattle.rx_arena.specs.Pool.{PoolState, spare_of}
-use Rattle.rx_arena.specs.Arena.{Taken, ArenaState, taken_at, IsTaken, taken_count, chain_at, InChain, IsLoose, marked_at, is_marked, IsMarked, roots_at, root_count, IsArena, new_cell, with_count, with_marking, shown_of, state_of}
+use Rattle.rx_arena.specs.Arena.{Taken, ArenaState, taken_at, IsTaken, taken_count, chain_at, InChain, IsLoose, marked_at, is_marked, IsMarked, roots_at, root_count, IsArena, empty_arena, new_cell, with_count, with_marking, shown_of, state_of}
 use Rattle.rx_arena.proofs.Puts.{one_or_two, one_if-same, get_or-put_same, get_or-put_other, put-get_or, map-put, get_or-map_option, filled-put, filled-map, times_in-at}
 use Rattle.rx_arena.proofs.Chains as chains
 use Rattle.rx_arena.proofs.Chains.{one_or_more, chain_agrees, chain_stays, chains_agree, chains_stay, chains-set, pushed, popped, ended, first_some, listed_is, chained_is, chains-length}
 use Rattle.rx_arena.proofs.Pools.{links_some}
-use Rattle.rx_arena.proofs.ArenaLaws.{loose_free, push_law, pop_law, altered_law, unmarked_away, gray_law, gray_pop_law, take_law, give_back_law, reserve_law, taken_marked}
+use Rattle.rx_arena.proofs.ArenaLaws.{empty_law, prepend_law, truncate_law, loose_free, push_law, pop_law, altered_law, unmarked_away, gray_law, gray_pop_law, take_law, give_back_law, reserve_law, taken_marked}
 
 abbrev pub chain_links : List (Option Node) → Links
 chain_links cells = links (λ n. n.chain) cells
@@ -301,3 +301,50 @@ take_result_step p heads first l m law q b (Ok s) none lt e ec fit err =
     subst (λ z. ArenaStep q heads first (record (state_of p l.0 m.0) { cells = z; spare = spare_of q })) (sym shows) (take_step p heads first l m law q s b none lt e ec fit)
 take_result_step p heads first l m law q b (Err f) none lt e ec fit err =
     subst (λ z. ArenaStep z heads first (record (state_of p l.0 m.0) { cells = map (option_map shown_of) z.cells; spare = spare_of z })) (sym err) (same_step p heads first l m law p refl)
+
+empty_chains : (ls : Links) (n : ℕ) → AreChains ls (replicate n None) (replicate n [])
+empty_chains ls zero = tt
+empty_chains ls (suc n) = (tt, empty_chains ls n)
+
+-- an arena of empty chains
+pub new_step : (p : PoolState) (heads : List (Option ℕ)) (cap chains : ℕ) → cap ≤ 2 ^ 30 → chains ≤ 2 ^ 30 → p ≡ record { cells = []; free = []; fresh = 0; room = 0; cap = cap } → heads ≡ replicate chains None → ArenaStep p heads None (empty_arena cap chains)
+new_step p heads cap chains lc lk e eh =
+    subst (λ z. ArenaStep z heads None (empty_arena cap chains)) (sym e) (subst (λ h. ArenaStep (record { cells = []; free = []; fresh = 0; room = 0; cap = cap }) h None (empty_arena cap chains)) (sym eh) (record {
+      chained = empty_chains [] chains;
+      grayed = tt;
+      state_is = (let none : min cap 0 - 0 ≡ 0 = omega arith in λ i. record { cells = []; chains = replicate chains []; gray = []; spare = none i; cap = cap });
+      law = empty_law cap chains lc lk;
+    }))
+
+prepended : (ls : Links) (n : ℕ) (hs : List (Option ℕ)) (css : List (List ℕ)) → AreChains ls hs css → AreChains ls (replicate n None ++ hs) (replicate n [] ++ css)
+prepended ls zero hs css a = a
+prepended ls (suc n) hs css a = (tt, prepended ls n hs css a)
+
+truncated : (ls : Links) (n : ℕ) (hs : List (Option ℕ)) (css : List (List ℕ)) → AreChains ls hs css → AreChains ls (take n hs) (take n css)
+truncated ls zero hs css a = tt
+truncated ls (suc n) [] [] a = tt
+truncated ls (suc n) [] (c ∷ cs) a = absurd a
+truncated ls (suc n) (h ∷ hs) [] a = absurd a
+truncated ls (suc n) (h ∷ hs) (c ∷ cs) a = (a.0, truncated ls n hs cs a.1)
+
+-- empty chains go before the others
+pub prepend_step : (p : PoolState) (heads new : List (Option ℕ)) (first : Option ℕ) (l : Chained (chain_links p.cells) heads) (m : Listed (gray_links p.cells) first) (law : IsArena (state_of p l.0 m.0)) (n : ℕ)
+    → new ≡ replicate n None ++ heads → length new < 2 ^ 32 → ArenaStep p new first (record (state_of p l.0 m.0) { chains = replicate n [] ++ l.0 })
+prepend_step p heads new first l m law n e lt =
+    let at = subst (λ z. AreChains (chain_links p.cells) z (replicate n [] ++ l.0)) (sym e) (prepended (chain_links p.cells) n heads l.0 l.1) in
+    record {
+      chained = at;
+      grayed = m.1;
+      state_is = refl;
+      law = prepend_law (state_of p l.0 m.0) law n (omega (arith, lt, chains-length (chain_links p.cells) new (replicate n [] ++ l.0) at));
+    }
+
+-- the first n chains alone stay
+pub truncate_step : (p : PoolState) (heads new : List (Option ℕ)) (first : Option ℕ) (l : Chained (chain_links p.cells) heads) (m : Listed (gray_links p.cells) first) (law : IsArena (state_of p l.0 m.0)) (n : ℕ)
+    → new ≡ take n heads → ArenaStep p new first (record (state_of p l.0 m.0) { chains = take n l.0 })
+truncate_step p heads new first l m law n e = record {
+  chained = subst (λ z. AreChains (chain_links p.cells) z (take n l.0)) (sym e) (truncated (chain_links p.cells) n heads l.0 l.1);
+  grayed = m.1;
+  state_is = refl;
+  law = truncate_law (state_of p l.0 m.0) law n;
+}

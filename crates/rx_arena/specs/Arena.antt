@@ -86,6 +86,10 @@ kept_in a c = filter (λ s. marked_at a s) (chain_at a c)
 abbrev pub dropped_from : ArenaState → ℕ → List ℕ
 dropped_from a c = filter (λ s. not (marked_at a s)) (chain_at a c)
 
+-- no root protects what chain c would drop
+abbrev pub IsUnprotected : ArenaState → ℕ → Type 0
+IsUnprotected a c = (s : ℕ) → 0 < times s (chain_at a c) → marked_at a s ≡ false → roots_at a s ≡ 0
+
 -- the slot is the list's first, or the list is empty
 abbrev pub IsFirst : Option Slot → List ℕ → Type 0
 IsFirst None ss = ss ≡ []

@@ -1,8 +1,8 @@
 //! The arena: slots to take and give back, the chains of a table, and the gray list of a marking.
-ghost use Rattle.std.specs.Prelude.{◌≡◌, ℕ, ◌+◌, ◌-◌, ◌<◌, ◌≤◌, ◌^◌, ◌++◌, ◌∷◌, [], List, Bool, true, false, Option, Some, None, Ok, Err, MatchOption, IfSome, IfOk, IfErr, OnOk, OnErr, IfNone, IsSome, get_or, length, slice_set, take, replicate, reverse};
+ghost use Rattle.std.specs.Prelude.{◌≡◌, ◌≢◌, ◌==◌, if◌then◌else◌, ℕ, ◌+◌, ◌%◌, ◌-◌, ◌<◌, ◌≤◌, ◌^◌, ◌++◌, ◌∷◌, [], List, Bool, true, false, Option, Some, None, Ok, Err, MatchOption, IfSome, IfOk, IfErr, OnOk, OnErr, IfNone, IsSome, get_or, length, slice_set, take, replicate, reverse};
 ghost use Rattle.rx_arena.specs.Put.{times, times_in, put, altered, without};
 ghost use Rattle.rx_arena.specs.Links.{Chained, Chained-prop, Listed, Listed-prop, links};
-ghost use Rattle.rx_arena.specs.Arena.{taken_at, IsTaken, taken_count, chain_at, InChain, IsLoose, marked_at, IsMarked, roots_at, new_cell, with_count, with_marking, kept_in, dropped_from, IsFirst, times_hashed, IsArena, empty_arena};
+ghost use Rattle.rx_arena.specs.Arena.{taken_at, IsTaken, taken_count, chain_at, InChain, IsLoose, marked_at, IsMarked, roots_at, hash_at, IsUnprotected, new_cell, with_count, with_marking, kept_in, dropped_from, IsFirst, times_hashed, IsArena, empty_arena};
 
 use crate::fault::ArenaFault;
 use crate::pool::Pool;
@@ -265,5 +265,119 @@ impl Arena {
         ensures law { IsArena self.new }
     {
         self.pool.set_marked(slot.0, false)
+    }
+
+    /// Moves the marked slots of a chain to the gray list, and gives back the others.
+    fn sort_out(&mut self, chain: u32)
+        requires chain { chain < length self.old.chains }
+        requires no_gray { self.old.gray ≡ [] }
+        requires unprotected { IsUnprotected self.old chain }
+        ensures cells { self.new.cells ≡ without self.old.cells (reverse (dropped_from self.old chain)) }
+        ensures gray { self.new.gray ≡ reverse (kept_in self.old chain) }
+        ensures spare { self.new.spare ≡ self.old.spare + length (dropped_from self.old chain) }
+        ensures chains { self.new.chains ≡ slice_set self.old.chains chain [] }
+        ensures cap { self.new.cap ≡ self.old.cap }
+        ensures law { IsArena self.new }
+    {
+        while let Some(slot) = self.chain_pop(chain) {
+            if self.marked(slot) {
+                self.gray_return(slot);
+            } else {
+                self.give_back(slot);
+            }
+        }
+    }
+
+    /// Moves the gray list to a chain that is empty.
+    fn restore(&mut self, chain: u32)
+        requires chain { chain < length self.old.chains }
+        requires empty { chain_at self.old chain ≡ [] }
+        requires loose { (s : ℕ) → 0 < times s self.old.gray → IsLoose self.old s }
+        ensures after { self.new ≡ record self.old { chains = slice_set self.old.chains chain (reverse self.old.gray); gray = [] } }
+        ensures law { IsArena self.new }
+    {
+        while let Some(slot) = self.gray_pop() {
+            self.chain_push(chain, slot);
+        }
+    }
+
+    /// Gives back the slots of a chain that are not marked. The others keep their order.
+    pub fn chain_retain_marked(&mut self, chain: u32)
+        requires chain { chain < length self.old.chains }
+        requires no_gray { self.old.gray ≡ [] }
+        requires unprotected { IsUnprotected self.old chain }
+        ensures cells { self.new.cells ≡ without self.old.cells (dropped_from self.old chain) }
+        ensures chains { self.new.chains ≡ slice_set self.old.chains chain (kept_in self.old chain) }
+        ensures spare { self.new.spare ≡ self.old.spare + length (dropped_from self.old chain) }
+        ensures rest { self.new ≡ record self.old { cells = self.new.cells; chains = self.new.chains; spare = self.new.spare } }
+        ensures law { IsArena self.new }
+    {
+        self.sort_out(chain);
+        self.restore(chain);
+    }
+
+    /// Puts empty chains before the others.
+    fn add_chains(&mut self, count: u32) -> Result<(), ArenaFault>
+        ensures ok { OnOk result (self.new ≡ record self.old { chains = replicate count [] ++ self.old.chains }) }
+        ensures err { OnErr result (self.new ≡ self.old) }
+        ensures fault { IfErr result (λ e. e ≡ ArenaFault.Memory) }
+        ensures law { IsArena self.new }
+    {
+        let total = self.heads.len() + count as usize;
+        if total > u32::MAX as usize {
+            return Err(ArenaFault::Memory);
+        }
+        let mut heads = empty_heads(self.alloc, count)?;
+        match heads.extend_from_slice(&self.heads) {
+            Ok(()) => {
+                self.heads = heads;
+                Ok(())
+            }
+            Err(_) => Err(ArenaFault::Memory),
+        }
+    }
+
+    /// Keeps the first chains alone.
+    fn keep_chains(&mut self, count: u32)
+        ensures after { self.new ≡ record self.old { chains = take count self.old.chains } }
+        ensures law { IsArena self.new }
+    {
+        self.heads.truncate(count as usize);
+    }
+
+    /// Moves each slot of a chain to the one of the first `count` chains that its hash names.
+    fn move_chain(&mut self, from: u32, count: u32)
+        requires count { (0 < count) × (count ≤ from) }
+        requires from { from < length self.old.chains }
+        ensures moved { (c : ℕ) → c < count → (s : ℕ) → times s (chain_at self.new c) ≡ times s (chain_at self.old c) + (if hash_at self.old s % count == c then times s (chain_at self.old from) else 0) }
+        ensures empty { chain_at self.new from ≡ [] }
+        ensures others { (c : ℕ) → count ≤ c → c ≢ from → chain_at self.new c ≡ chain_at self.old c }
+        ensures chains { length self.new.chains ≡ length self.old.chains }
+        ensures rest { self.new ≡ record self.old { chains = self.new.chains } }
+        ensures law { IsArena self.new }
+    {
+        while let Some(slot) = self.chain_pop(from) {
+            let chain = (self.read(slot).hash % count as u64) as u32;
+            self.chain_push(chain, slot);
+        }
+    }
+
+    /// Deals the slots of all chains out to `chains` new ones, by their hashes.
+    pub fn rehash_into(&mut self, chains: u32) -> Result<(), ArenaFault>
+        requires { (1 ≤ chains) × (chains ≤ 2 ^ 30) }
+        ensures chains { OnOk result (length self.new.chains ≡ chains) }
+        ensures hashed { OnOk result ((c : ℕ) → c < chains → (s : ℕ) → times s (chain_at self.new c) ≡ times_hashed self.old chains c s) }
+        ensures rest { self.new ≡ record self.old { chains = self.new.chains } }
+        ensures err { OnErr result (self.new ≡ self.old) }
+        ensures fault { IfErr result (λ e. e ≡ ArenaFault.Memory) }
+        ensures law { IsArena self.new }
+    {
+        let old = self.chains();
+        self.add_chains(chains)?;
+        for from in chains..chains + old {
+            self.move_chain(from, chains);
+        }
+        self.keep_chains(chains);
+        Ok(())
     }
 }
