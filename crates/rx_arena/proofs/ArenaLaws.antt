@@ -5,7 +5,7 @@ use Rattle.std.specs.Option.{option_map}
 use Rattle.std.proofs.lemmas.List.{length-set, length-replicate, length-take}
 use Rattle.rx_arena.specs.Put.{one_if, times, times_in, put, one_some, filled, altered}
 use Rattle.rx_arena.specs.Arena.{Taken, ArenaState, taken_at, IsTaken, taken_count, chain_at, InChain, IsLoose, marked_at, is_marked, IsMarked, IsArena, empty_arena, with_marking}
-use Rattle.rx_arena.proofs.Puts.{one_or_two, one_if-same, get_or-put_same, get_or-put_other, filled-put, filled_some, times_in-set}
+use Rattle.rx_arena.proofs.Puts.{one_or_two, one_if-same, get_or-put_same, get_or-put_other, filled-put, filled_some, times_in-set, times_in-at}
 use Rattle.rx_arena.proofs.Chains.{one_or_more}
 
 pub times_in-replicate : (s n : ℕ) → times_in s (replicate n []) ≡ 0
@@ -74,6 +74,20 @@ module _ (a : ArenaState) (law : IsArena a) where
 
   pub pop_law : (c s : ℕ) (rest : List ℕ) → c < length a.chains → chain_at a c ≡ s ∷ rest → IsArena (record a { chains = set a.chains c rest })
   pop_law c s rest lt e = shrink_law c rest lt (λ t. subst (λ z. times t rest ≤ times t z) (sym e) (omega arith))
+
+  -- the first slot of a chain stands nowhere else
+  pub pop_loose : (c s : ℕ) (rest : List ℕ) → c < length a.chains → chain_at a c ≡ s ∷ rest → IsLoose (record a { chains = set a.chains c rest }) s
+  pop_loose c s rest lt e =
+      let count = subst (λ z. times_in s (set a.chains c rest) + times s z ≡ times_in s a.chains + times s rest) e (times_in-set s a.chains c rest lt) in
+      omega (arith, count, one_if-same s, law.alone s)
+
+  pub pop_taken : (c s : ℕ) (rest : List ℕ) → chain_at a c ≡ s ∷ rest → IsTaken a s
+  pop_taken c s rest e =
+      let here : 0 < times s (chain_at a c) = subst (λ z. 0 < times s z) (sym e) (omega (arith, one_if-same s)) in
+      law.chained_taken s (omega (arith, here, times_in-at s a.chains c))
+
+  pub gray_first_marked : (s : ℕ) (rest : List ℕ) → a.gray ≡ s ∷ rest → IsMarked a s
+  gray_first_marked s rest e = law.gray_marked s (subst (λ z. 0 < times s z) (sym e) (omega (arith, one_if-same s)))
 
   -- a change of what lies at one taken slot
   changed_law : (s : ℕ) (t u : Taken) → taken_at a s ≡ Some t → (0 < times s a.gray → u.marked ≡ true) → IsArena (record a { cells = put a.cells s (Some u) })

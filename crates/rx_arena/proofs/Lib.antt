@@ -12,3 +12,4 @@ pub mod PoolSteps
 pub mod ArenaLaws
 pub mod ArenaSteps
 pub mod ArenaReads
+pub mod Sorting

@@ -41,3 +41,8 @@ without xs (s ∷ ss) = put (without xs ss) s None
 -- the list with f done to what lies at slot s
 abbrev pub altered : {X : Type 0} → ℕ → (X → X) → List (Option X) → List (Option X)
 altered s f xs = put xs s (option_map f (get_or xs s None))
+
+-- the list with nothing at these slots, one after the other
+abbrev pub emptied : {X : Type 0} → List (Option X) → List ℕ → List (Option X)
+emptied xs [] = xs
+emptied xs (s ∷ ss) = emptied (put xs s None) ss

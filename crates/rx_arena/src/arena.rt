@@ -1,6 +1,6 @@
 //! The arena: slots to take and give back, the chains of a table, and the gray list of a marking.
 ghost use Rattle.std.specs.Prelude.{◌≡◌, ◌≢◌, ◌==◌, if◌then◌else◌, ℕ, ◌+◌, ◌%◌, ◌-◌, ◌<◌, ◌≤◌, ◌^◌, ◌++◌, ◌∷◌, [], List, Bool, true, false, Option, Some, None, Ok, Err, MatchOption, IfSome, IfOk, IfErr, OnOk, OnErr, IfNone, IsSome, get_or, length, slice_set, take, replicate, reverse};
-ghost use Rattle.rx_arena.specs.Put.{times, times_in, put, altered, without};
+ghost use Rattle.rx_arena.specs.Put.{times, times_in, put, altered, emptied};
 ghost use Rattle.rx_arena.specs.Links.{Chained, Chained-prop, Listed, Listed-prop, links};
 ghost use Rattle.rx_arena.specs.Arena.{taken_at, IsTaken, taken_count, chain_at, InChain, IsLoose, marked_at, IsMarked, roots_at, hash_at, IsUnprotected, new_cell, with_count, with_marking, kept_in, dropped_from, IsFirst, times_hashed, IsArena, empty_arena};
 
@@ -197,6 +197,9 @@ impl Arena {
     fn chain_pop(&mut self, chain: u32) -> Option<Slot>
         requires { chain < length self.old.chains }
         ensures first { MatchOption result (chain_at self.old chain ≡ []) (λ s. chain_at self.old chain ≡ s.0 ∷ chain_at self.new chain) }
+        ensures taken { IfSome result (λ s. IsTaken self.new s.0) }
+        ensures loose { IfSome result (λ s. IsLoose self.new s.0) }
+        ensures none { IfNone result (self.new ≡ self.old) }
         ensures rest { self.new ≡ record self.old { chains = slice_set self.old.chains chain (chain_at self.new chain) } }
         ensures law { IsArena self.new }
     {
@@ -244,6 +247,8 @@ impl Arena {
     /// Takes the first slot out of the gray list. It stays marked.
     pub fn gray_pop(&mut self) -> Option<Slot>
         ensures first { MatchOption result (self.old.gray ≡ []) (λ s. self.old.gray ≡ s.0 ∷ self.new.gray) }
+        ensures marked { IfSome result (λ s. IsMarked self.new s.0) }
+        ensures not_gray { IfSome result (λ s. times s.0 self.new.gray ≡ 0) }
         ensures none { IfNone result (self.new ≡ self.old) }
         ensures rest { self.new ≡ record self.old { gray = self.new.gray } }
         ensures law { IsArena self.new }
@@ -272,10 +277,11 @@ impl Arena {
         requires chain { chain < length self.old.chains }
         requires no_gray { self.old.gray ≡ [] }
         requires unprotected { IsUnprotected self.old chain }
-        ensures cells { self.new.cells ≡ without self.old.cells (reverse (dropped_from self.old chain)) }
-        ensures gray { self.new.gray ≡ reverse (kept_in self.old chain) }
-        ensures spare { self.new.spare ≡ self.old.spare + length (dropped_from self.old chain) }
+        ensures cells { self.new.cells ≡ emptied self.old.cells (dropped_from self.old chain) }
+        ensures gray { reverse self.new.gray ≡ kept_in self.old chain }
+        ensures loose { (s : ℕ) → 0 < times s self.new.gray → IsLoose self.new s }
         ensures chains { self.new.chains ≡ slice_set self.old.chains chain [] }
+        ensures spare { self.new.spare ≡ self.old.spare + length (dropped_from self.old chain) }
         ensures cap { self.new.cap ≡ self.old.cap }
         ensures law { IsArena self.new }
     {
@@ -306,7 +312,7 @@ impl Arena {
         requires chain { chain < length self.old.chains }
         requires no_gray { self.old.gray ≡ [] }
         requires unprotected { IsUnprotected self.old chain }
-        ensures cells { self.new.cells ≡ without self.old.cells (dropped_from self.old chain) }
+        ensures cells { self.new.cells ≡ emptied self.old.cells (dropped_from self.old chain) }
         ensures chains { self.new.chains ≡ slice_set self.old.chains chain (kept_in self.old chain) }
         ensures spare { self.new.spare ≡ self.old.spare + length (dropped_from self.old chain) }
         ensures rest { self.new ≡ record self.old { cells = self.new.cells; chains = self.new.chains; spare = self.new.spare } }

@@ -5,6 +5,7 @@ use Rattle.rx_arena.specs.Pool.{PoolState, spare_of}
 use Rattle.rx_arena.specs.Arena.{ArenaState, taken_at, IsTaken, taken_count, chain_at, InChain, IsLoose, marked_at, IsMarked, roots_at, new_cell, with_count, with_marking, IsFirst, IsArena, state_of, shown_of, root_count, is_marked}
 use Rattle.rx_arena.proofs.Puts.{filled-map}
 use Rattle.rx_arena.proofs.Chains.{ended}
+use Rattle.rx_arena.proofs.ArenaLaws.{gray_first_marked, gray_first_away}
 use Rattle.rx_arena.proofs.ArenaSteps.{gray_pop_step, gray_front, gray_asked, step_law, step_state, step_gray}
 use Rattle.rx_arena.proofs.arena.Arena.gray_pop.Goals as goal
 
@@ -38,6 +39,15 @@ returns-in-Some-clause-rest c =
     let now : c.self-1.given.1.0.0 ≡ (gray_front c.self.inside.pool c.self.inside.heads.items c.self.inside.gray_first c.self.inside.chained c.self.inside.grayed c.self.invariant c.in-Some.slot c.in-Some.is).0 = step_gray _ _ _ _ st c.self-1.given.0 c.self-1.given.1.0 in
     step_state _ _ _ _ st c.self-1.given.0 c.self-1.given.1.0 ∙ ap (λ z. record (state_of c.self.inside.pool c.self.inside.chained.0 c.self.inside.grayed.0) { gray = z }) (sym now)
     ∙ ap (λ (v : ArenaState). record v { gray = c.self-1.given.1.0.0 }) c.self.view_is
+
+pub returns-in-Some-clause-marked : goal.returns-in-Some-clause-marked
+returns-in-Some-clause-marked c = subst (λ (v : ArenaState). IsMarked v c.in-Some.slot) c.self.view_is (gray_first_marked _ c.self.invariant c.in-Some.slot (gray_front c.self.inside.pool c.self.inside.heads.items c.self.inside.gray_first c.self.inside.chained c.self.inside.grayed c.self.invariant c.in-Some.slot c.in-Some.is).0 (gray_front c.self.inside.pool c.self.inside.heads.items c.self.inside.gray_first c.self.inside.chained c.self.inside.grayed c.self.invariant c.in-Some.slot c.in-Some.is).1)
+
+pub returns-in-Some-clause-not_gray : goal.returns-in-Some-clause-not_gray
+returns-in-Some-clause-not_gray c =
+    let st = gray_pop_step c.self.inside.pool c.self.inside.heads.items c.self.inside.gray_first c.self.inside.chained c.self.inside.grayed c.self.invariant c.in-Some.slot c.in-Some.is c.gray-self-inside.result c.gray-self-inside.ensures in
+    let now : c.self-1.given.1.0.0 ≡ (gray_front c.self.inside.pool c.self.inside.heads.items c.self.inside.gray_first c.self.inside.chained c.self.inside.grayed c.self.invariant c.in-Some.slot c.in-Some.is).0 = step_gray _ _ _ _ st c.self-1.given.0 c.self-1.given.1.0 in
+    subst (λ z. times c.in-Some.slot z ≡ 0) (sym now) (gray_first_away _ c.self.invariant c.in-Some.slot (gray_front c.self.inside.pool c.self.inside.heads.items c.self.inside.gray_first c.self.inside.chained c.self.inside.grayed c.self.invariant c.in-Some.slot c.in-Some.is).0 (gray_front c.self.inside.pool c.self.inside.heads.items c.self.inside.gray_first c.self.inside.chained c.self.inside.grayed c.self.invariant c.in-Some.slot c.in-Some.is).1)
 
 pub returns-in-None-clause-first : goal.returns-in-None-clause-first
 returns-in-None-clause-first c = subst (λ (v : ArenaState). v.gray ≡ []) c.self.view_is (ended _ _ _ c.self.inside.grayed.1 c.in-None.is)
