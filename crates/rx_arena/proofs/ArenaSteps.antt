@@ -3,6 +3,7 @@ use Rattle.std.proofs.Common.{◌≡◌, ◌≢◌, ℕ, zero, suc, ◌+◌, ◌
 use Rattle.std.specs.Prelude.{Option, Bool, true, false, min, take, replicate, ◌^◌, Result, Ok, Err, IfOk, OnErr}
 use Rattle.rx_arena.specs.declared.fault.ArenaFault.{ArenaFault}
 use Rattle.std.specs.Option.{option_map}
+use Rattle.std.proofs.lemmas.List.{length-append, length-replicate}
 use Rattle.rx_arena.specs.declared.CellBody.{CellBody}
 use Rattle.rx_arena.specs.Node.{Node, lone, with_chain, with_gray, with_mark, with_roots}
 use Rattle.rx_arena.specs.Held.{IsHeld}
@@ -348,3 +349,8 @@ truncate_step p heads new first l m law n e = record {
   state_is = refl;
   law = truncate_law (state_of p l.0 m.0) law n;
 }
+
+pub prepended_few : (heads new : List (Option ℕ)) (n : ℕ) → new ≡ replicate n None ++ heads → length heads + n < 2 ^ 32 → length new < 2 ^ 32
+prepended_few heads new n e lt =
+    let none : Option ℕ = None in
+    omega (arith, lt, ap length e, length-append (replicate n none) heads, length-replicate n none)

@@ -13,3 +13,4 @@ pub mod ArenaLaws
 pub mod ArenaSteps
 pub mod ArenaReads
 pub mod Sorting
+pub mod Dealing

@@ -70,7 +70,7 @@ pub returns-in-Some-clause-taken : goal.returns-in-Some-clause-taken
 returns-in-Some-clause-taken c =
     let lt = subst (λ (v : ArenaState). c.args.chain < length v.chains) (sym c.self.view_is) c.requires in
     let head : get_or c.self.inside.heads.items c.args.chain None ≡ Some c.in-Some.slot = sym (c.index.ensures ∙ get_or_default c.self.inside.heads.items c.args.chain c.index.result.now None (within_heads c.self.inside.pool c.self.inside.heads.items c.self.inside.gray_first c.self.inside.chained c.self.inside.grayed c.self.invariant c.args.chain lt)) ∙ c.in-Some.is in
-    subst (λ (v : ArenaState). IsTaken v c.in-Some.slot) c.self.view_is (pop_taken _ c.self.invariant c.args.chain c.in-Some.slot (front c.self.inside.pool c.self.inside.heads.items c.self.inside.gray_first c.self.inside.chained c.self.inside.grayed c.self.invariant c.args.chain c.in-Some.slot head).0 (front c.self.inside.pool c.self.inside.heads.items c.self.inside.gray_first c.self.inside.chained c.self.inside.grayed c.self.invariant c.args.chain c.in-Some.slot head).1)
+    pop_taken _ c.self.invariant c.args.chain c.in-Some.slot (front c.self.inside.pool c.self.inside.heads.items c.self.inside.gray_first c.self.inside.chained c.self.inside.grayed c.self.invariant c.args.chain c.in-Some.slot head).0 (front c.self.inside.pool c.self.inside.heads.items c.self.inside.gray_first c.self.inside.chained c.self.inside.grayed c.self.invariant c.args.chain c.in-Some.slot head).1
 
 pub returns-in-Some-clause-loose : goal.returns-in-Some-clause-loose
 returns-in-Some-clause-loose c =

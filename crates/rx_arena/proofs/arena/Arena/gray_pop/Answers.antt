@@ -41,7 +41,7 @@ returns-in-Some-clause-rest c =
     ∙ ap (λ (v : ArenaState). record v { gray = c.self-1.given.1.0.0 }) c.self.view_is
 
 pub returns-in-Some-clause-marked : goal.returns-in-Some-clause-marked
-returns-in-Some-clause-marked c = subst (λ (v : ArenaState). IsMarked v c.in-Some.slot) c.self.view_is (gray_first_marked _ c.self.invariant c.in-Some.slot (gray_front c.self.inside.pool c.self.inside.heads.items c.self.inside.gray_first c.self.inside.chained c.self.inside.grayed c.self.invariant c.in-Some.slot c.in-Some.is).0 (gray_front c.self.inside.pool c.self.inside.heads.items c.self.inside.gray_first c.self.inside.chained c.self.inside.grayed c.self.invariant c.in-Some.slot c.in-Some.is).1)
+returns-in-Some-clause-marked c = gray_first_marked _ c.self.invariant c.in-Some.slot (gray_front c.self.inside.pool c.self.inside.heads.items c.self.inside.gray_first c.self.inside.chained c.self.inside.grayed c.self.invariant c.in-Some.slot c.in-Some.is).0 (gray_front c.self.inside.pool c.self.inside.heads.items c.self.inside.gray_first c.self.inside.chained c.self.inside.grayed c.self.invariant c.in-Some.slot c.in-Some.is).1
 
 pub returns-in-Some-clause-not_gray : goal.returns-in-Some-clause-not_gray
 returns-in-Some-clause-not_gray c =
