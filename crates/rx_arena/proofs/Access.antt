@@ -19,10 +19,10 @@ use borrow.Table.OneValue.{part_in, part_out}
 use Rattle.rx_arena.specs.Node.{Node}
 use Rattle.rx_arena.specs.Held.{IsPlace}
 use Rattle.rx_arena.specs.Ownership.{cell_of, slot_owns, slots_own, slot_lent, slots_lent}
-use Rattle.rx_arena.specs.declared.Cell.{Cell}
-use Rattle.rx_arena.specs.declared.Place.{Place}
-use Rattle.rx_arena.specs.contracts.Cell as C
-use Rattle.rx_arena.proofs.Cell.TheLaws as cell
+use Rattle.rx_arena.specs.declared.cells.Cell.{Cell}
+use Rattle.rx_arena.specs.declared.cells.Place.{Place}
+use Rattle.rx_arena.specs.contracts.cells.Cell as C
+use Rattle.rx_arena.proofs.cells.Cell.TheLaws as cell
 use Rattle.rx_arena.proofs.Slots.{besides, slot_out, slot_in, slot_seen, held_within}
 use Rattle.rx_arena.proofs.Steps.{cell_val, cell_is, cell_told, CellFits}
 

@@ -11,8 +11,8 @@ use denote.Shares.{Shares-less}
 use denote.Struct.Lending.{Lends, lent_at_shr_laws, Lends-lies, Lends-both, Lends-nothing}
 use Rattle.rx_arena.specs.Node.{Node}
 use Rattle.rx_arena.specs.Ownership.{place, cell_of, slot_owns, slots_own, slot_lent, slots_lent}
-use Rattle.rx_arena.specs.contracts.Cell.{the_row as Cell}
-use Rattle.rx_arena.proofs.Cell.TheLaws as cell
+use Rattle.rx_arena.specs.contracts.cells.Cell.{the_row as Cell}
+use Rattle.rx_arena.proofs.cells.Cell.TheLaws as cell
 
 slot_lent_laws : (bs : List Ptr) (s : ℕ) (c : Option Node) → ShrLaws (slot_lent bs s c)
 slot_lent_laws bs s None = nothing_shr_laws

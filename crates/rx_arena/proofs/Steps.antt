@@ -1,96 +1,118 @@
--- What the walks share. Assumes `Logic`.
-use Rattle.std.proofs.Common.{ℕ, zero, suc, List, [], ◌∷◌}
+-- What the walks share: machine values of the crate's types, and code that is left. Assumes `Logic`.
+use Rattle.std.proofs.Common.{◌≡◌, ◌<◌, ◌^◌, ℕ, zero, suc, List, [], ◌∷◌, ◌++◌, refl, subst, T, lit<, w8, w16, w32, w64, Some, None}
+use Rattle.std.specs.Prelude.{Option}
 use seplogic.Ra.Ura.{Ura}
-use mir.Syntax.{Body, Width, int_big}
-use types.Run.{Opd}
+use mir.Syntax.{Body, Width, int_big, ty_ptr}
+use mir.Val.{Fits, has_ty, WT, Val, vint, vbool, vstruct, vcons, vnil, of_list}
 use base.Logic.{via, guard_i}
 use prog.Wp.{Env, Calls, Loops, Wp, after_seq, after_block}
 use types.Logic.{Logic}
 use types.Kit.{Item, Post, any_q, post}
+use types.Run.{Opd}
 use denote.Builtin.{unit}
-use denote.Signature.{Slot, plain}
-use Rattle.std.proofs.Common.{◌≡◌, ◌<◌, ◌^◌, refl, ap, subst, T, lit<, ◌∙◌, w32, w16, Some, None}
-use Rattle.std.specs.Prelude.{Option}
-use mir.Val.{Fits, has_ty, WT, Val, vint, vbool, vstruct, vcons, vnil}
 use denote.Laws.{Is, Tells}
-use types.Match.{live}
-use denote.RawPtr.{Ptr, RawPtr, block_ptr, null_ptr, ptr_val}
+use denote.Memory.{lone}
+use denote.RawPtr.{Ptr, block_ptr, null_ptr, ptr_val}
+use denote.Signature.{Slot as Param, plain}
+use denote.Struct.Laws as LL
 use Rattle.std.specs.contracts.option.Option as O
-use Rattle.rx_arena.specs.declared.Cell.{Cell}
-use Rattle.rx_arena.specs.declared.Place.{Place}
-use Rattle.rx_arena.specs.declared.Target.{Target}
-use Rattle.rx_arena.specs.contracts.room.Room as R
-use Rattle.rx_arena.proofs.Values.{room_val, room_told}
-use Rattle.rx_arena.specs.declared.Base.{Base}
-use Rattle.rx_arena.specs.contracts.Base as B
-use Rattle.rx_arena.proofs.Base.TheLaws as base_laws
+use Rattle.std.proofs.option.Option.TheLaws as option
+use Rattle.rx_arena.specs.contracts.Slot as S
+use Rattle.rx_arena.specs.declared.Slot.{Slot}
+use Rattle.rx_arena.proofs.Slot.TheLaws as slot
+use Rattle.rx_arena.specs.declared.CellBody.{CellBody}
 use Rattle.rx_arena.specs.contracts.CellBody as D
 use Rattle.rx_arena.proofs.CellBody.TheLaws as body_laws
-use Rattle.rx_arena.specs.contracts.Place as P
-use Rattle.rx_arena.proofs.Place.TheLaws as place
-use Rattle.rx_arena.specs.contracts.Target as G
-use Rattle.rx_arena.proofs.Target.TheLaws as target
-use denote.Struct.Laws as LL
-use denote.Memory.{lone}
-use Rattle.rx_arena.specs.contracts.Cell as C
-use Rattle.rx_arena.proofs.Cell.TheLaws as cell
+use Rattle.rx_arena.specs.declared.cells.Cell.{Cell}
+use Rattle.rx_arena.specs.contracts.cells.Cell as C
+use Rattle.rx_arena.proofs.cells.Cell.TheLaws as cell
+use Rattle.rx_arena.specs.declared.cells.Place.{Place}
+use Rattle.rx_arena.specs.contracts.cells.Place as P
+use Rattle.rx_arena.proofs.cells.Place.TheLaws as place
+use Rattle.rx_arena.specs.declared.cells.Target.{Target}
+use Rattle.rx_arena.specs.contracts.cells.Target as G
+use Rattle.rx_arena.proofs.cells.Target.TheLaws as target
+use Rattle.rx_arena.specs.declared.cells.Base.{Base}
+use Rattle.rx_arena.specs.contracts.cells.Base as B
+use Rattle.rx_arena.proofs.cells.Base.TheLaws as base_laws
+use Rattle.rx_arena.specs.contracts.room.Room as R
+use Rattle.rx_arena.proofs.Values.{room_val, room_told}
 
-abbrev pub slot_at : {n : ℕ} → ℕ → List (Slot n) → Slot n
+-- the k-th parameter
+abbrev pub slot_at : {n : ℕ} → ℕ → List (Param n) → Param n
 slot_at k [] = plain (λ _. unit)
 slot_at zero (s ∷ ss) = s
 slot_at (suc k) (s ∷ ss) = slot_at k ss
 
--- an optional pointer, as the machine has it
-abbrev pub link_val : Option Ptr → Val
-link_val None = live 0 vnil
-link_val (Some p) = live 1 (vcons (ptr_val p) vnil)
+pub pointer_good : (p : Ptr) → T (has_ty ty_ptr (ptr_val p)) × WT (ptr_val p)
+pointer_good (block_ptr b o) = (tt, tt)
+pointer_good null_ptr = (tt, record { fits = lit< tt })
 
-pub link_is : (z : Option Ptr) → Is (O.the_row RawPtr) z (link_val z ∷ [])
-link_is None = ([], (refl, (tt, (refl, tt))))
-link_is (Some p) = (ptr_val p ∷ [], (refl, ((ptr_val p ∷ [], tt), (refl, (refl, tt)))))
+-- the annotations' slot, as the machine has it
+abbrev pub anns_val : Option Slot → Val
+anns_val = option.lowered S.the_row slot.the_row_laws slot.the_told
 
+pub anns_good : (z : Option Slot) (us : List Val) → Is (O.the_row S.the_row) z us → T (has_ty (lone (O.the_row S.the_row).mir) (anns_val z)) × WT (anns_val z)
+anns_good None us is = (tt, (record { fits = lit< tt }, tt))
+anns_good (Some s) us is = (tt, (record { fits = lit< tt }, ((record { fits = is.1.1.1.1.0.1.1.0.1 }, tt), tt)))
+
+-- a cell, as the machine has it
 abbrev pub cell_val : Cell → Val
-cell_val x =
-    vstruct
-    (vcons (body_laws.lowered x.body) (vcons (vint w32 x.number) (vcons (vint w16 x.roots) (vcons (vbool x.marked) (vcons (link_val x.chain) (vcons (link_val x.gray) (vcons (link_val x.free) vnil)))))))
+cell_val = cell.lowered
 
--- what the machine knows of a body, and that the numbers fit
+-- the body that lies in a cell
+abbrev pub body_in : Cell → CellBody
+body_in x = record { kind = x.kind; a = x.a; b = x.b; anns = x.anns; hash = x.hash }
+
+-- the machine knows the body, and the numbers fit
 abbrev pub CellFits : Cell → Type 0
-CellFits x = Is D.the_row x.body (body_laws.lowered x.body ∷ []) × (x.number < 2 ^ 32) × (x.roots < 2 ^ 16)
+CellFits x = Is D.the_row (body_in x) (body_laws.lowered (body_in x) ∷ []) × (x.number < 2 ^ 32) × (x.roots < 2 ^ 16)
 
 pub cell_is : (x : Cell) → CellFits x → Is C.the_row x (cell_val x ∷ [])
-cell_is x f = (
-  (body_laws.lowered x.body ∷ [], (vint w32 x.number ∷ [], (vint w16 x.roots ∷ [], (vbool x.marked ∷ [], (link_val x.chain ∷ [], (link_val x.gray ∷ [], (link_val x.free ∷ [], tt))))))),
-  (refl, (f.0, ((refl, f.1), ((refl, f.2), (refl, (link_is x.chain, (link_is x.gray, (link_is x.free, tt)))))))),
-)
-
-lowered_is : (x : Cell) (z y w : Option Ptr) → cell.lowered (record x { chain = z; gray = y; free = w }) ≡ cell_val (record x { chain = z; gray = y; free = w })
-lowered_is x None None None = refl
-lowered_is x None None (Some p) = refl
-lowered_is x None (Some p) None = refl
-lowered_is x None (Some p) (Some q) = refl
-lowered_is x (Some p) None None = refl
-lowered_is x (Some p) None (Some q) = refl
-lowered_is x (Some p) (Some q) None = refl
-lowered_is x (Some p) (Some q) (Some r) = refl
+cell_is x f =
+    let d = f.0 in let anns = d.0.1.1.1.0 in
+    let vs : List Val = vstruct (of_list ((ptr_val x.chain ∷ ptr_val x.gray ∷ ptr_val x.free ∷ vint w64 x.a ∷ vint w64 x.b ∷ vint w64 x.hash ∷ []) ++ (anns ++ (vint w32 x.number ∷ vint w16 x.roots ∷ vint w8 x.kind ∷ vbool x.marked ∷ [])))) ∷ [] in
+    let is : Is C.the_row x vs = (
+      (
+        ptr_val x.chain ∷ [],
+        (
+          ptr_val x.gray ∷ [],
+          (ptr_val x.free ∷ [], (vint w64 x.a ∷ [], (vint w64 x.b ∷ [], (vint w64 x.hash ∷ [], (anns, (vint w32 x.number ∷ [], (vint w16 x.roots ∷ [], (vint w8 x.kind ∷ [], (vbool x.marked ∷ [], tt))))))))),
+        ),
+      ),
+      (
+        refl,
+        (refl, (refl, (refl, ((refl, d.1.1.1.0.1), ((refl, d.1.1.1.1.0.1), ((refl, d.1.1.1.1.1.1.0.1), (d.1.1.1.1.1.0, ((refl, f.1), ((refl, f.2), ((refl, d.1.1.0.1), (refl, tt))))))))))),
+      ),
+    ) in
+    subst (λ us. Is C.the_row x us) (cell.lowers.val_is x vs is) is
 
 pub cell_told : (x : Cell) (vs : List Val) → Is C.the_row x vs → (vs ≡ cell_val x ∷ []) × CellFits x
-cell_told x vs is = (
-  cell.lowers.val_is x vs is ∙ ap (λ (v : Val). v ∷ []) (lowered_is x x.chain x.gray x.free),
-  (subst (λ us. Is D.the_row x.body us) (body_laws.lowers.val_is x.body is.0.0 is.1.1.0) is.1.1.0, is.1.1.1.0.1, is.1.1.1.1.0.1),
-)
-
-pub link_good : (z : Option Ptr) → T (has_ty (lone (O.the_row RawPtr).mir) (link_val z)) × WT (link_val z)
-link_good None = (tt, (record { fits = lit< tt }, tt))
-link_good (Some (block_ptr b o)) = (tt, (record { fits = lit< tt }, (tt, tt)))
-link_good (Some null_ptr) = (tt, (record { fits = lit< tt }, (record { fits = lit< tt }, tt)))
+cell_told x vs is =
+    let us = is.0 in let js = is.1.1 in let a = js.1.1.1.0 in let b = js.1.1.1.1.0 in let hash = js.1.1.1.1.1.0 in let anns = js.1.1.1.1.1.1.0 in let kind = js.1.1.1.1.1.1.1.1.1.0 in
+    let anns_us = us.1.1.1.1.1.1.0 in
+    let ws : List Val = vstruct (of_list ((vint w8 x.kind ∷ vint w64 x.a ∷ vint w64 x.b ∷ []) ++ (anns_us ++ (vint w64 x.hash ∷ [])))) ∷ [] in
+    let body : Is D.the_row (body_in x) ws = (
+      (vint w8 x.kind ∷ [], (vint w64 x.a ∷ [], (vint w64 x.b ∷ [], (anns_us, (vint w64 x.hash ∷ [], tt))))),
+      (refl, ((refl, kind.1), ((refl, a.1), ((refl, b.1), (anns, ((refl, hash.1), tt)))))),
+    ) in (
+      cell.lowers.val_is x vs is,
+      (subst (λ vs. Is D.the_row (body_in x) vs) (body_laws.lowers.val_is (body_in x) ws body) body, js.1.1.1.1.1.1.1.0.1, js.1.1.1.1.1.1.1.1.0.1),
+    )
 
 -- a place, as the machine has it
 abbrev pub place_val : Place → Val
-place_val p = vstruct (vcons (vint w32 p.slot) (vcons (ptr_val p.at) vnil))
+place_val = place.lowered
 
 pub place_Tells : Tells P.the_row (Is P.the_row) (λ p. place_val p ∷ [])
 place_Tells = LL.tells P.the_type place.the_laws
+
+-- a target, as the machine has it
+abbrev pub target_val : Target → Val
+target_val = target.lowered
+
+pub target_Tells : Tells G.the_row (Is G.the_row) (λ t. target_val t ∷ [])
+target_Tells t vs is = target.lowers.val_is t vs is
 
 -- where a block begins, as the machine has it
 abbrev pub base_val : Ptr → Val
@@ -99,27 +121,11 @@ base_val q = vstruct (vcons (ptr_val q) vnil)
 pub base_Tells : Tells B.the_row (Is B.the_row) (λ x. base_val x.at ∷ [])
 base_Tells = LL.tells B.the_type base_laws.the_laws
 
-abbrev pub slot_val : Option ℕ → Val
-slot_val None = live 0 vnil
-slot_val (Some n) = live 1 (vcons (vint w32 n) vnil)
+pub base_is : (x : Base) → Is B.the_row x (base_val x.at ∷ [])
+base_is x = ((ptr_val x.at ∷ [], tt), (refl, (refl, tt)))
 
--- a target, as the machine has it
-abbrev pub target_val : Target → Val
-target_val t = vstruct (vcons (slot_val t.slot) (vcons (link_val t.to) vnil))
-
-target_is : (t : Target) (s : Option ℕ) (z : Option Ptr) → target.lowered (record t { slot = s; to = z }) ≡ target_val (record t { slot = s; to = z })
-target_is t None None = refl
-target_is t None (Some p) = refl
-target_is t (Some s) None = refl
-target_is t (Some s) (Some p) = refl
-
-pub target_Tells : Tells G.the_row (Is G.the_row) (λ t. target_val t ∷ [])
-target_Tells t vs is = target.lowers.val_is t vs is ∙ ap (λ (v : Val). v ∷ []) (target_is t t.slot t.to)
-
--- by whether an optional number is there
-pub by_option : {X : Type 1} (z : Option ℕ) → (z ≡ None → X) → ((t : ℕ) → z ≡ Some t → X) → X
-by_option None none some = none refl
-by_option (Some t) none some = some t refl
+pub room_Tells : Tells R.the_row (Is R.the_row) (λ r. room_val r.at ∷ [])
+room_Tells r vs is = room_told r.at vs is.0
 
 module _ {M : Type 1} {𝓤 : Ura M} (𝓛 : Logic 𝓤) where
   open 𝓛 use {H}
@@ -131,12 +137,6 @@ module _ {M : Type 1} {𝓤 : Ura M} (𝓛 : Logic 𝓤) where
   -- what follows a block
   abbrev pub out_of_block : Post 𝓤 H → Post 𝓤 H
   out_of_block q = any_q (after_block 𝓤 H (post 𝓤 H q))
-
-pub room_Tells : Tells R.the_row (Is R.the_row) (λ r. room_val r.at ∷ [])
-room_Tells r vs is = room_told r.at vs is.0
-
-pub base_is : (x : Base) → Is B.the_row x (base_val x.at ∷ [])
-base_is x = ((ptr_val x.at ∷ [], tt), (refl, (refl, tt)))
 
 module _ {M : Type 1} {𝓤 : Ura M} {𝓛 : Logic 𝓤} {K : Type 0} {Γ : List (Item 𝓤)} {E : Env 𝓤 𝓛.H} where
   -- a constant of some size, whose bound is shown

@@ -3,7 +3,7 @@ use Rattle.std.specs.Prelude.{◌≡◌, ℕ, List, get_or, Option, Some, None}
 use denote.RawPtr.{Ptr}
 use Rattle.rx_arena.specs.Node.{Node}
 use Rattle.rx_arena.specs.Ownership.{place}
-use Rattle.rx_arena.specs.declared.Place.{Place}
+use Rattle.rx_arena.specs.declared.cells.Place.{Place}
 
 -- the place is that of its slot
 abbrev pub IsPlace : List Ptr → Place → Type 0

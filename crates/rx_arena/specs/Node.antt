@@ -1,6 +1,6 @@
 -- What a slot holds, as its users see it.
 use Rattle.rx_arena.specs.declared.CellBody.{CellBody}
-use Rattle.std.specs.Prelude.{Bool, false, ℕ, ◌<◌, List, [], ◌∷◌, IfSome, Option, None, get_or, set}
+use Rattle.std.specs.Prelude.{◌≡◌, Bool, false, ℕ, suc, ◌<◌, List, [], ◌∷◌, IfSome, unwrap_or, Option, Some, None, get_or, set}
 use Rattle.std.specs.Option.{option_map}
 
 -- what the cell says, how often it is protected, whether it is marked, and the next slot of each list
@@ -38,11 +38,19 @@ with_mark y n = record n { marked = y }
 abbrev pub changed : ℕ → (Node → Node) → List (Option Node) → List (Option Node)
 changed s f slots = set slots s (option_map f (get_or slots s None))
 
--- each link of the node is to a slot below n
-abbrev pub LinksBelow : ℕ → Node → Type 0
-LinksBelow n m = IfSome m.chain (λ t. t < n) × IfSome m.gray (λ t. t < n) × IfSome m.free (λ t. t < n)
+-- the slot that a link of slot s leads to, where the end leads to s itself
+abbrev pub led_to : ℕ → Option ℕ → ℕ
+led_to s next = unwrap_or next s
 
--- each link is to a slot below n
-abbrev pub IsClosed : ℕ → List (Option Node) → Type 0
-IsClosed n [] = Unit {0}
-IsClosed n (c ∷ cs) = IfSome c (LinksBelow n) × IsClosed n cs
+-- the link of slot s is to another slot, below n
+abbrev pub IsLink : ℕ → ℕ → Option ℕ → Type 0
+IsLink n s next = IfSome next (λ t. (t < n) × ¬ (t ≡ s))
+
+-- the node of slot s has links to other slots, below n
+abbrev pub HasLinks : ℕ → ℕ → Node → Type 0
+HasLinks n s m = IsLink n s m.chain × IsLink n s m.gray × IsLink n s m.free
+
+-- each node of the slots from s on has links to other slots, below n
+abbrev pub IsClosed : ℕ → ℕ → List (Option Node) → Type 0
+IsClosed n s [] = Unit {0}
+IsClosed n s (c ∷ cs) = IfSome c (HasLinks n s) × IsClosed n (suc s) cs

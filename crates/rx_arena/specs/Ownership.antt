@@ -1,33 +1,36 @@
--- What the owner of the cells owns: each slot's memory, where its block has it. A link is the place of the slot that it names.
+-- What the owner of the cells owns: each slot's memory, where its block has it. A link is the place of the slot that it leads to.
 use Rattle.std.specs.Prelude.{ℕ, suc, ◌*◌, ◌/◌, ◌%◌, List, [], ◌∷◌, Option, Some, None, get_or}
 use base.Fraction.{full_share}
 use base.Fml.{Fml, Lft, ftrue, fsep}
 use denote.RawPtr.{Ptr, null_ptr, lies_at, room_at, ◌+ₚ◌}
 use denote.Sharing.{nothing, beside}
 use denote.Struct.Lending.{lent_at}
-use Rattle.rx_arena.specs.Node.{Node}
-use Rattle.rx_arena.specs.declared.Cell.{Cell}
-use Rattle.rx_arena.specs.contracts.Cell.{the_row}
+use Rattle.rx_arena.specs.Node.{Node, led_to}
+use Rattle.rx_arena.specs.declared.cells.Cell.{Cell}
+use Rattle.rx_arena.specs.contracts.cells.Cell.{the_row}
 
--- where a slot lies: 1,024 to a block, 96 bytes each
+-- where a slot lies: 1,024 to a block, 64 bytes each
 abbrev pub place : List Ptr → ℕ → Ptr
-place blocks s = get_or blocks (s / 1024) null_ptr +ₚ ((s % 1024) * 96)
+place blocks s = get_or blocks (s / 1024) null_ptr +ₚ ((s % 1024) * 64)
 
--- the link to a slot, if there is one
-abbrev pub link : List Ptr → Option ℕ → Option Ptr
-link blocks None = None
-link blocks (Some s) = Some (place blocks s)
+-- the pointer for a link of slot s
+abbrev pub link : List Ptr → ℕ → Option ℕ → Ptr
+link blocks s next = place blocks (led_to s next)
 
 -- the cell in memory
 abbrev pub cell_of : List Ptr → ℕ → Node → Cell
 cell_of blocks s n = record {
-  body = n.body;
+  chain = link blocks s n.chain;
+  gray = link blocks s n.gray;
+  free = link blocks s n.free;
+  a = n.body.a;
+  b = n.body.b;
+  hash = n.body.hash;
+  anns = n.body.anns;
   number = s;
   roots = n.roots;
+  kind = n.body.kind;
   marked = n.marked;
-  chain = link blocks n.chain;
-  gray = link blocks n.gray;
-  free = link blocks n.free;
 }
 
 abbrev pub slot_owns : List Ptr → ℕ → Option Node → Fml

@@ -2,7 +2,7 @@
 ghost use Rattle.std.specs.Prelude.{◌≡◌, IfSome};
 ghost use denote.RawPtr.{Ptr};
 
-use crate::Cell;
+use crate::cells::Cell;
 use std::alloc::Allocator;
 use std::marker::{Model, PhantomData};
 use std::mem::{align_of, size_of};

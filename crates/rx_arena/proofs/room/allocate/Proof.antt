@@ -47,7 +47,7 @@ allocate_spec 𝓤 𝓛 𝓜 𝓡 wired A L g d dd met md =
     let Post : Val → SProp 𝓤 = (walk_of 𝓛 T stays c).post z in let a = z.0.3 in let vss = z.0.4 in
     let Y : Al = record { row = A; laws = L; g = g; d = d; drops = dd } in let κ : Lft = z.0.0.0 in let q : Share = z.0.1.0 in
     let h = a.0.now in let at = a.0.ref_ptr in
-    let y = at_takes Y 𝓛 𝓜.mem 𝓡.returns κ q at h 98304 8 block_type in
+    let y = at_takes Y 𝓛 𝓜.mem 𝓡.returns κ q at h 65536 8 block_type in
     let Lease : RattleType = lease.the_row (param 0 A) g in let Out : RattleType = type_at T.signature.result z.0.0 in
     qed 𝓛 ((raw (alive 𝓛 T.signature z.0.0 z.0.1) ⊛ ‵ (owns (types_at T.signature.params z.0.0) a vss)) ∷ (raw (fact 𝓤 (z.0.0.1.0 ⊑ A.lives)) ⊛ ‵ ftrue) ∷ []) ∵
     move ! (1 ∷ []) $ split ! $ move ! (0 ∷ 2 ∷ []) $ heard ! (z.0.0.1.0 ⊑ A.lives) (λ le. split ! $ move ! (1 ∷ []) $ fsplit ! $ fsplit ! $ keep ! (1 ∷ 3 ∷ []) $
@@ -56,9 +56,9 @@ allocate_spec 𝓤 𝓛 𝓜 𝓡 wired A L g d dd met md =
     regoal ! (λ (us : List Val). prop (WpFn 𝓤 H 𝓣.C 𝓣.Λ fn us Post)) (λ i. are.0.0 i ++ []) refl $
     enter ! 𝓣.C 𝓣.Λ fn (vptr at.0 at.1 ∷ []) Post $ alloc_all ! (λ l. pass_all ! refl ((tt, tt), tt) $ let E : Env 𝓤 H = env fn.locals l in
     sets ! (bin ! (big_lit ! (record { fits = lit< tt })) (lit ! tt) (record { fits = lit< tt })) refl (tt, record { fits = lit< tt }) $
-    use2 𝓛 (raw ((Takes Y 𝓛 𝓜.mem 𝓡.returns).pre y)) (Takes-goes Y 𝓛 𝓜.mem 𝓡.returns κ q at h (⊑_trans κ z.0.0.1.0 A.lives z.0.2.0 le) 98304 8 block_type refl refl (lit< tt) (lit< tt)) $
+    use2 𝓛 (raw ((Takes Y 𝓛 𝓜.mem 𝓡.returns).pre y)) (Takes-goes Y 𝓛 𝓜.mem 𝓡.returns κ q at h (⊑_trans κ z.0.0.1.0 A.lives z.0.2.0 le) 65536 8 block_type refl refl (lit< tt) (lit< tt)) $
     calls_at ! (framed 𝓤 H 𝓜 𝓣) (Takes Y 𝓛 𝓜.mem 𝓡.returns) (met.allocate dd) y (and_then ! (get ! refl) (and_then ! (get ! refl) (and_then ! (lit ! tt) (no_more !)))) (λ v.
-    use1 𝓛 (later (raw (Answered Y 𝓛 𝓜.mem 𝓡.returns h block_type v) ⊛ ‵ (flft κ q))) (Takes-gives Y 𝓛 𝓜.mem 𝓡.returns κ q at h 98304 8 block_type v) $ await ! tt $ split ! $
+    use1 𝓛 (later (raw (Answered Y 𝓛 𝓜.mem 𝓡.returns h block_type v) ⊛ ‵ (flft κ q))) (Takes-gives Y 𝓛 𝓜.mem 𝓡.returns κ q at h 65536 8 block_type v) $ await ! tt $ split ! $
     answers Y ! 𝓜.mem 𝓡.returns h block_type v
     (λ b o e. move ! (2 ∷ 3 ∷ []) $ join ! $ move ! (1 ∷ 2 ∷ []) $ lands_as ! e refl (tt, (record { fits = lit< tt }, (tt, tt))) $
     first ! $ switches_on ! (get_tag ! (vrt ! refl (fld ! refl (stop !))) (whole !)) $ exec ! 𝓣.C 𝓣.Λ E (arm_body 0 (head (after 2 fn.body))) (then_runs 𝓛 𝓣.C 𝓣.Λ E (after 3 fn.body) (at_ret E Post)) $

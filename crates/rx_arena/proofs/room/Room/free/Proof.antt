@@ -52,15 +52,15 @@ free_spec 𝓤 𝓛 𝓜 𝓡 wired A L g d dd met md =
     move ! (2 ∷ []) $ fsplit ! $ fsplit ! $ drop ! $ move ! (1 ∷ []) $ drop ! $ use1 𝓛 (‵ (seen Y κ handle h)) (id⊢ 𝓤 _) $ move ! (3 ∷ []) $ use1 𝓛 (‵ (flft κ q) ⊛ ‵ (flft z.0.0.1.0 z.0.1.1.0) ⊛ ‵ ftrue) (id⊢ 𝓤 _) $ split ! $
     move ! (2 ∷ 0 ∷ []) $ join ! $ move ! (3 ∷ 2 ∷ []) $
     -- [the room; the right to free it; the handle and the token; the other tokens]
-    let y = at_gives Y 𝓛 𝓜.mem 𝓡.returns κ q handle h b o 98304 8 block_type in
+    let y = at_gives Y 𝓛 𝓜.mem 𝓡.returns κ q handle h b o 65536 8 block_type in
     regoal ! (λ (us : List Val). prop (WpFn 𝓤 H 𝓣.C 𝓣.Λ fn us Post)) (λ i. (room_told x.at vss.0 are.0.0 ∙ ap (λ (p : Ptr). room_val p ∷ []) at) i ++ (lease_told vss.1.0 are.1.0.0 i ++ (are.1.1.0.0 i ++ []))) refl $
     enter ! 𝓣.C 𝓣.Λ fn (room_val (block_ptr b o) ∷ lease_val ∷ vptr handle.0 handle.1 ∷ []) Post $
     alloc_all ! (λ l. pass_all ! refl ((tt, (tt, tt)), ((tt, (tt, tt)), ((tt, tt), tt))) $ let E : Env 𝓤 H = env fn.locals l in
     sets ! (of_opd ! (get_in ! (fld ! refl (stop !)) (sub ! 0 refl (whole !)))) refl (tt, tt) $
     first ! $ blocks ! $ sets ! (of_opd ! (get ! refl)) refl (tt, tt) $ sets ! (bin ! (big_lit ! (record { fits = lit< tt })) (lit ! tt) (record { fits = lit< tt })) refl (tt, record { fits = lit< tt }) $
-    use3 𝓛 (raw ((Gives Y 𝓛 𝓜.mem 𝓡.returns).pre y)) (Gives-goes Y 𝓛 𝓜.mem 𝓡.returns κ q handle h (⊑_trans κ z.0.0.1.0 A.lives z.0.2.0 le) b o 98304 8 block_type refl refl (lit< tt) (lit< tt)) $
+    use3 𝓛 (raw ((Gives Y 𝓛 𝓜.mem 𝓡.returns).pre y)) (Gives-goes Y 𝓛 𝓜.mem 𝓡.returns κ q handle h (⊑_trans κ z.0.0.1.0 A.lives z.0.2.0 le) b o 65536 8 block_type refl refl (lit< tt) (lit< tt)) $
     calls_at_last ! (framed 𝓤 H 𝓜 𝓣) (Gives Y 𝓛 𝓜.mem 𝓡.returns) (met.deallocate dd) y (and_then ! (get ! refl) (and_then ! (get ! refl) (and_then ! (get ! refl) (and_then ! (lit ! tt) (no_more !))))) (λ v.
-    use1 𝓛 (later (given (v ≡ vunit) (‵ (flft κ q)))) (Gives-Gives Y 𝓛 𝓜.mem 𝓡.returns κ q handle h b o 98304 8 block_type v) $ await ! tt $ learn ! (λ e. join ! $
+    use1 𝓛 (later (given (v ≡ vunit) (‵ (flft κ q)))) (Gives-Gives Y 𝓛 𝓜.mem 𝓡.returns κ q handle h b o 65536 8 block_type v) $ await ! tt $ learn ! (λ e. join ! $
     regoal ! (λ (u : Val). settles E (place 5 []) u (out_of_block 𝓛 (then_runs 𝓛 𝓣.C 𝓣.Λ E (after 2 fn.body) (at_ret E Post)))) e refl $ lands_last ! refl (tt, tt) $
     exec ! 𝓣.C 𝓣.Λ E (after 2 fn.body) (at_ret E Post) $ sets ! (of_opd ! (unit_lit !)) refl (tt, tt) $ returns ! (look_at ! 0 refl) $ free_all ! refl $
     feq_i ! (List Val) (vunit ∷ []) (vunit ∷ []) refl $ nothing ! $ nothing ! $ nothing ! $ fjoin ! $ nothing ! $ fjoin ! $ nothing ! $ fjoin ! $ move ! (3 ∷ 0 ∷ 2 ∷ 1 ∷ []) $
