@@ -4,3 +4,4 @@ pub mod Slots
 pub mod Steps
 pub mod Access
 pub mod Blocks
+pub mod Agrees

@@ -1,6 +1,6 @@
 -- What a slot holds, as its users see it.
 use Rattle.rx_arena.specs.declared.CellBody.{CellBody}
-use Rattle.std.specs.Prelude.{◌≡◌, Bool, false, ℕ, suc, ◌<◌, List, [], ◌∷◌, IfSome, unwrap_or, Option, Some, None, get_or, set}
+use Rattle.std.specs.Prelude.{◌≡◌, Bool, false, ℕ, suc, ◌<◌, List, [], ◌∷◌, IfSome, unwrap_or, Option, None, get_or, set}
 use Rattle.std.specs.Option.{option_map}
 
 -- what the cell says, how often it is protected, whether it is marked, and the next slot of each list

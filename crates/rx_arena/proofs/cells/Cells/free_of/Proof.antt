@@ -1,5 +1,5 @@
 -- `free_of` reads the link of one cell, and the number in the cell that it leads to. Assumes `Logic`.
-use Rattle.std.proofs.Common.{◌≡◌, ℕ, List, [], ◌∷◌, ◌^◌, get_or, None, IfSome, refl, sym, subst, w32}
+use Rattle.std.proofs.Common.{◌≡◌, List, [], ◌∷◌, ◌^◌, get_or, None, IfSome, refl, sym, subst, w32}
 use Rattle.std.specs.Prelude.{Option}
 use Rattle.std.proofs.raw_atomic.Walks.{proved, leaves}
 use base.Logic.{emp}
@@ -35,7 +35,7 @@ use Rattle.rx_arena.specs.contracts.cells.Cells.free_of as f
 use Rattle.rx_arena.proofs.cells.Cells.free_of.Statement.{statement}
 use Rattle.rx_arena.proofs.cells.Cells.free_of.Code as code
 use Rattle.rx_arena.proofs.Sharing.{slots_lent_laws}
-use Rattle.rx_arena.proofs.Steps.{slot_at, place_val, place_Tells, pointer_good}
+use Rattle.rx_arena.proofs.Steps.{slot_at, place_val, place_Tells}
 use Rattle.rx_arena.proofs.Access.{slot_looks, cell_seen, cell_shut}
 
 abbrev stayed : Stays f.ended.signature.params f.ended.kept

@@ -13,7 +13,7 @@ use contract.Running.{tables}
 use types.Kit.{‵, raw, ◌⊛◌, at_ret, ◌$◌, ◌∵◌, !, qed, by, move, keep, use0, split, join, rewrite, fsplit, fsplit3, fjoin, fjoin3, feq_i}
 use types.Part.{whole, sub, store_in}
 use types.Run.{from, hop, stop, fld, of_opd, unit_lit, assigns_last, first, blocks, exec, returns, enter}
-use types.ByLocal.{alloc_all, pass_all, free_all, look_at, look_in_at, get, get_in, sets, take_at, give_at, env}
+use types.ByLocal.{alloc_all, pass_all, free_all, look_at, look_in_at, get_in, sets, take_at, give_at, env}
 use denote.Memory.{lone}
 use denote.Ref.{mut_vals, mut_Tells}
 use denote.RattleType.{owns}
