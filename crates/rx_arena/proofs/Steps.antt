@@ -1,5 +1,5 @@
 -- What the walks share: machine values of the crate's types, and code that is left. Assumes `Logic`.
-use Rattle.std.proofs.Common.{◌≡◌, ◌<◌, ◌^◌, ℕ, zero, suc, List, [], ◌∷◌, ◌++◌, refl, subst, T, lit<, w8, w16, w32, w64, Some, None}
+use Rattle.std.proofs.Common.{◌≡◌, ◌<◌, ◌^◌, ℕ, List, [], ◌∷◌, ◌++◌, get_or, refl, subst, T, lit<, w8, w16, w32, w64, Some, None}
 use Rattle.std.specs.Prelude.{Option}
 use seplogic.Ra.Ura.{Ura}
 use mir.Syntax.{Body, Width, int_big, ty_ptr}
@@ -35,14 +35,10 @@ use Rattle.rx_arena.proofs.cells.Target.TheLaws as target
 use Rattle.rx_arena.specs.declared.cells.Base.{Base}
 use Rattle.rx_arena.specs.contracts.cells.Base as B
 use Rattle.rx_arena.proofs.cells.Base.TheLaws as base_laws
-use Rattle.rx_arena.specs.contracts.room.Room as R
-use Rattle.rx_arena.proofs.Values.{room_val, room_told}
 
--- the k-th parameter
-abbrev pub slot_at : {n : ℕ} → ℕ → List (Param n) → Param n
-slot_at k [] = plain (λ _. unit)
-slot_at zero (s ∷ ss) = s
-slot_at (suc k) (s ∷ ss) = slot_at k ss
+-- the parameter with this index
+abbrev pub param_at : {n : ℕ} → List (Param n) → ℕ → Param n
+param_at params k = get_or params k (plain (λ _. unit))
 
 pub pointer_good : (p : Ptr) → T (has_ty ty_ptr (ptr_val p)) × WT (ptr_val p)
 pointer_good (block_ptr b o) = (tt, tt)
@@ -124,19 +120,13 @@ base_Tells = LL.tells B.the_type base_laws.the_laws
 pub base_is : (x : Base) → Is B.the_row x (base_val x.at ∷ [])
 base_is x = ((ptr_val x.at ∷ [], tt), (refl, (refl, tt)))
 
-pub room_Tells : Tells R.the_row (Is R.the_row) (λ r. room_val r.at ∷ [])
-room_Tells r vs is = room_told r.at vs is.0
+-- what has to hold where an arm ends, if the code `rest` follows its switch
+abbrev pub and_then_runs : {M : Type 1} {𝓤 : Ura M} (𝓛 : Logic 𝓤) → Calls 𝓤 𝓛.H → Loops 𝓤 𝓛.H → Env 𝓤 𝓛.H → Body → Post 𝓤 𝓛.H → Post 𝓤 𝓛.H
+and_then_runs {𝓤 = 𝓤} 𝓛 calls loops E rest q = let out = post 𝓤 𝓛.H q in any_q (after_seq 𝓤 𝓛.H (Wp 𝓤 𝓛.H calls loops E rest out) out)
 
-module _ {M : Type 1} {𝓤 : Ura M} (𝓛 : Logic 𝓤) where
-  open 𝓛 use {H}
-
-  -- what follows an arm whose switch is followed by b
-  abbrev pub then_runs : Calls 𝓤 H → Loops 𝓤 H → Env 𝓤 H → Body → Post 𝓤 H → Post 𝓤 H
-  then_runs C Λ E b q = any_q (after_seq 𝓤 H (Wp 𝓤 H C Λ E b (post 𝓤 H q)) (post 𝓤 H q))
-
-  -- what follows a block
-  abbrev pub out_of_block : Post 𝓤 H → Post 𝓤 H
-  out_of_block q = any_q (after_block 𝓤 H (post 𝓤 H q))
+-- what has to hold where a block ends
+abbrev pub past_block : {M : Type 1} {𝓤 : Ura M} (𝓛 : Logic 𝓤) → Post 𝓤 𝓛.H → Post 𝓤 𝓛.H
+past_block {𝓤 = 𝓤} 𝓛 q = any_q (after_block 𝓤 𝓛.H (post 𝓤 𝓛.H q))
 
 module _ {M : Type 1} {𝓤 : Ura M} {𝓛 : Logic 𝓤} {K : Type 0} {Γ : List (Item 𝓤)} {E : Env 𝓤 𝓛.H} where
   -- a constant of some size, whose bound is shown

@@ -96,7 +96,7 @@ impl Store {
         requires { length self.now < 2 ^ 64 }
         ensures { result ≡ length self.now }
     {
-        self.blocks.len() * BLOCK
+        self.blocks() * BLOCK
     }
 
     /// Adds a block of slots in which nothing lies.

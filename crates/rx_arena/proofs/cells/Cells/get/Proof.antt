@@ -35,17 +35,17 @@ use Rattle.rx_arena.specs.contracts.cells.Cells.{the_row as Cs}
 use Rattle.rx_arena.specs.contracts.cells.Cells.get as f
 use Rattle.rx_arena.proofs.cells.Cells.get.Statement.{statement}
 use Rattle.rx_arena.proofs.cells.Cells.get.Code as code
-use Rattle.rx_arena.proofs.Slots.{slot_seen, held_within}
-use Rattle.rx_arena.proofs.Steps.{slot_at}
+use Rattle.rx_arena.proofs.Slots.{one_lent, held_below}
+use Rattle.rx_arena.proofs.Steps.{param_at}
 
 abbrev stayed : Stays f.ended.signature.params f.ended.kept
-stayed = (stay_dropped (slot_at 0 f.ended.signature.params) f.ended.kept.0, (stay_dropped (slot_at 1 f.ended.signature.params) f.ended.kept.1.0, tt))
+stayed = (stay_dropped (param_at f.ended.signature.params 0) f.ended.kept.0, (stay_dropped (param_at f.ended.signature.params 1) f.ended.kept.1.0, tt))
 
 pub get_spec : {M : Type 1} → statement M
 get_spec 𝓤 𝓛 𝓜 𝓡 wired =
     let c = f.clauses 𝓛 𝓜.mem 𝓡.returns in let W = walk_of 𝓛 f.ended stayed c in let 𝓣 = tables 𝓤 𝓛.H 𝓜 𝓡 𝓡.env in
     proved 𝓛 f.ended stayed c 𝓜 𝓡
-    (Goes-dropped 𝓛 1 (slot_at 0 f.ended.signature.params) f.ended.kept.0 (λ κs x w. refl), (Goes-dropped 𝓛 1 (slot_at 1 f.ended.signature.params) f.ended.kept.1.0 (λ κs x w. refl), tt))
+    (Goes-dropped 𝓛 1 (param_at f.ended.signature.params 0) f.ended.kept.0 (λ κs x w. refl), (Goes-dropped 𝓛 1 (param_at f.ended.signature.params 1) f.ended.kept.1.0 (λ κs x w. refl), tt))
     f.Key.name code.function (code.unfolded 𝓤 𝓛.H 𝓜 𝓡 wired)
     (λ κs. (shr_vals, ((λ p. place_laws.lowered p ∷ []), tt))) (λ κs. (shr_Tells (named 0) κs.0 Cs, (LL.tells P.the_type place_laws.the_laws, tt))) (λ κs qs bounds a g are.
     let κ = κs.0 in let b = a.0.ref_ptr.0 in let o = a.0.ref_ptr.1 in let d = a.0.now in let p = a.1.0 in
@@ -56,7 +56,7 @@ get_spec 𝓤 𝓛 𝓜 𝓡 wired =
     let n = asked.1.0 in let x = cell_of d.blocks p.slot n in let good = ((place_laws.the_row_laws.lawful 𝓛).typed p y.0.4.1.0 are.1.0).0 in
     -- [what the `&` to the owner holds; the token]
     unhide ! $ fsplit ! $ drop ! $
-    use1 𝓛 (‵ (slot_lent d.blocks (p.slot + 0) (get_or d.slots p.slot None) κ)) (slot_seen 𝓛 d.blocks κ 0 d.slots p.slot (held_within d.slots p.slot n asked.1.1)) $
+    use1 𝓛 (‵ (slot_lent d.blocks (p.slot + 0) (get_or d.slots p.slot None) κ)) (one_lent 𝓛 d.blocks κ 0 d.slots p.slot (held_below d.slots p.slot n asked.1.1)) $
     rewrite ! 0 (λ (k : ℕ). ‵ (slot_lent d.blocks k (get_or d.slots p.slot None) κ)) {x = p.slot} (omega arith) refl $
     rewrite ! 0 (λ (z : Option Node). ‵ (slot_lent d.blocks p.slot z κ)) asked.1.1 refl $
     rewrite ! 0 (λ (q : Ptr). ‵ (lent_at C.the_row q x κ)) (sym asked.0) refl $

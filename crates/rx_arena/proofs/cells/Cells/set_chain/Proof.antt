@@ -32,18 +32,18 @@ use Rattle.rx_arena.specs.contracts.cells.Cells.{the_row as Cs}
 use Rattle.rx_arena.specs.contracts.cells.Cells.set_chain as f
 use Rattle.rx_arena.proofs.cells.Cells.set_chain.Statement.{statement}
 use Rattle.rx_arena.proofs.cells.Cells.set_chain.Code as code
-use Rattle.rx_arena.proofs.Steps.{slot_at, place_val, place_Tells, target_val, target_Tells, pointer_good}
-use Rattle.rx_arena.proofs.Slots.{held_within}
+use Rattle.rx_arena.proofs.Steps.{param_at, place_val, place_Tells, target_val, target_Tells, pointer_good}
+use Rattle.rx_arena.proofs.Slots.{held_below}
 use Rattle.rx_arena.proofs.Access.{cell_lies, slot_opens, slot_closes}
 
 abbrev stayed : Stays f.ended.signature.params f.ended.kept
-stayed = (stay_ref (0 ∷ []) tt (plain (λ _. Cs)), (stay_dropped (slot_at 1 f.ended.signature.params) f.ended.kept.1.0, (stay_dropped (slot_at 2 f.ended.signature.params) f.ended.kept.1.1.0, tt)))
+stayed = (stay_ref (0 ∷ []) tt (plain (λ _. Cs)), (stay_dropped (param_at f.ended.signature.params 1) f.ended.kept.1.0, (stay_dropped (param_at f.ended.signature.params 2) f.ended.kept.1.1.0, tt)))
 
 pub set_chain_spec : {M : Type 1} → statement M
 set_chain_spec 𝓤 𝓛 𝓜 𝓡 wired =
     let c = f.clauses 𝓛 𝓜.mem 𝓡.returns in let W = walk_of 𝓛 f.ended stayed c in let 𝓣 = tables 𝓤 𝓛.H 𝓜 𝓡 𝓡.env in
     proved 𝓛 f.ended stayed c 𝓜 𝓡
-    (Goes-ref 𝓛 1 0 tt (plain (λ _. Cs)), (Goes-dropped 𝓛 1 (slot_at 1 f.ended.signature.params) f.ended.kept.1.0 (λ κs x w. refl), (Goes-dropped 𝓛 1 (slot_at 2 f.ended.signature.params) f.ended.kept.1.1.0 (λ κs x w. refl), tt)))
+    (Goes-ref 𝓛 1 0 tt (plain (λ _. Cs)), (Goes-dropped 𝓛 1 (param_at f.ended.signature.params 1) f.ended.kept.1.0 (λ κs x w. refl), (Goes-dropped 𝓛 1 (param_at f.ended.signature.params 2) f.ended.kept.1.1.0 (λ κs x w. refl), tt)))
     f.Key.name code.function (code.unfolded 𝓤 𝓛.H 𝓜 𝓡 wired)
     (λ κs. (mut_vals, ((λ p. place_val p ∷ []), ((λ t. target_val t ∷ []), tt)))) (λ κs. (mut_Tells (named 0) κs.0 Cs, (place_Tells, (target_Tells, tt)))) (λ κs qs bounds a g are.
     let κ = κs.0 in let rb = a.0.ref_ptr.0 in let ro = a.0.ref_ptr.1 in let d = a.0.now in let p = a.1.0 in let next = a.1.1.0 in
@@ -64,7 +64,7 @@ set_chain_spec 𝓤 𝓛 𝓜 𝓡 wired =
     assigns_last ! (of_opd ! (get_in ! (fld ! refl (stop !)) (sub ! 1 refl (whole !)))) (from ! (fld ! refl (hop ! (look_in_at ! 2 (sub ! 1 refl (whole !))) (fld ! refl (stop !))))) (store_in ! 0 (sub ! 0 refl (whole !)) (pointer_good next.to)) $
     exec ! 𝓣.C 𝓣.Λ (env code.Mir.locals l) (after 1 code.function.body) (at_ret _ (W.post y)) $ sets ! (of_opd ! (unit_lit !)) refl (tt, tt) $
     rewrite ! 0 (λ (q : Ptr). ‵ (cell_lies full_share (record (cell_of d.blocks p.slot n) { chain = q }) b o)) asked.2 refl $
-    slot_closes d.blocks d.slots p ! asked.0 (held_within d.slots p.slot n asked.1.1) m fits b o e $
+    slot_closes d.blocks d.slots p ! asked.0 (held_below d.slots p.slot n asked.1.1) m fits b o e $
     rewrite ! 0 (λ (z : Option Node). ‵ (slots_own d.blocks 0 (set d.slots p.slot z))) (sym (ap (option_map (with_chain next.slot)) asked.1.1)) refl $
     let new = record d { slots = changed p.slot (with_chain next.slot) d.slots } in
     move ! (1 ∷ []) $ fjoin ! $ move ! (1 ∷ []) $ closes ! tt Cs new us rb ro $

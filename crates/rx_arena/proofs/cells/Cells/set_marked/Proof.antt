@@ -32,18 +32,18 @@ use Rattle.rx_arena.specs.contracts.cells.Cells.{the_row as Cs}
 use Rattle.rx_arena.specs.contracts.cells.Cells.set_marked as f
 use Rattle.rx_arena.proofs.cells.Cells.set_marked.Statement.{statement}
 use Rattle.rx_arena.proofs.cells.Cells.set_marked.Code as code
-use Rattle.rx_arena.proofs.Steps.{slot_at, place_val, place_Tells}
-use Rattle.rx_arena.proofs.Slots.{held_within}
+use Rattle.rx_arena.proofs.Steps.{param_at, place_val, place_Tells}
+use Rattle.rx_arena.proofs.Slots.{held_below}
 use Rattle.rx_arena.proofs.Access.{slot_opens, slot_closes}
 
 abbrev stayed : Stays f.ended.signature.params f.ended.kept
-stayed = (stay_ref (0 ∷ []) tt (plain (λ _. Cs)), (stay_dropped (slot_at 1 f.ended.signature.params) f.ended.kept.1.0, (stay_dropped (slot_at 2 f.ended.signature.params) f.ended.kept.1.1.0, tt)))
+stayed = (stay_ref (0 ∷ []) tt (plain (λ _. Cs)), (stay_dropped (param_at f.ended.signature.params 1) f.ended.kept.1.0, (stay_dropped (param_at f.ended.signature.params 2) f.ended.kept.1.1.0, tt)))
 
 pub set_marked_spec : {M : Type 1} → statement M
 set_marked_spec 𝓤 𝓛 𝓜 𝓡 wired =
     let c = f.clauses 𝓛 𝓜.mem 𝓡.returns in let W = walk_of 𝓛 f.ended stayed c in let 𝓣 = tables 𝓤 𝓛.H 𝓜 𝓡 𝓡.env in
     proved 𝓛 f.ended stayed c 𝓜 𝓡
-    (Goes-ref 𝓛 1 0 tt (plain (λ _. Cs)), (Goes-dropped 𝓛 1 (slot_at 1 f.ended.signature.params) f.ended.kept.1.0 (λ κs x w. refl), (Goes-dropped 𝓛 1 (slot_at 2 f.ended.signature.params) f.ended.kept.1.1.0 (λ κs x w. refl), tt)))
+    (Goes-ref 𝓛 1 0 tt (plain (λ _. Cs)), (Goes-dropped 𝓛 1 (param_at f.ended.signature.params 1) f.ended.kept.1.0 (λ κs x w. refl), (Goes-dropped 𝓛 1 (param_at f.ended.signature.params 2) f.ended.kept.1.1.0 (λ κs x w. refl), tt)))
     f.Key.name code.function (code.unfolded 𝓤 𝓛.H 𝓜 𝓡 wired)
     (λ κs. (mut_vals, ((λ p. place_val p ∷ []), (bool_vals, tt)))) (λ κs. (mut_Tells (named 0) κs.0 Cs, (place_Tells, (bool_Tells, tt)))) (λ κs qs bounds a g are.
     let κ = κs.0 in let rb = a.0.ref_ptr.0 in let ro = a.0.ref_ptr.1 in let d = a.0.now in let p = a.1.0 in let k = a.1.1.0 in
@@ -62,7 +62,7 @@ set_marked_spec 𝓤 𝓛 𝓜 𝓡 wired =
     first ! $ blocks ! $
     assigns_last ! (of_opd ! (get ! refl)) (from ! (fld ! refl (hop ! (look_in_at ! 2 (sub ! 1 refl (whole !))) (fld ! refl (stop !))))) (store_in ! 0 (sub ! 10 refl (whole !)) (tt, tt)) $
     exec ! 𝓣.C 𝓣.Λ (env code.Mir.locals l) (after 1 code.function.body) (at_ret _ (W.post y)) $ sets ! (of_opd ! (unit_lit !)) refl (tt, tt) $
-    slot_closes d.blocks d.slots p ! asked.0 (held_within d.slots p.slot n asked.1.1) m fits b o e $
+    slot_closes d.blocks d.slots p ! asked.0 (held_below d.slots p.slot n asked.1.1) m fits b o e $
     rewrite ! 0 (λ (z : Option Node). ‵ (slots_own d.blocks 0 (set d.slots p.slot z))) (sym (ap (option_map (with_mark k)) asked.1.1)) refl $
     let new = record d { slots = changed p.slot (with_mark k) d.slots } in
     move ! (1 ∷ []) $ fjoin ! $ move ! (1 ∷ []) $ closes ! tt Cs new us rb ro $
