@@ -21,11 +21,11 @@ mod room;
 pub mod store;
 
 /// The number of a cell, counted from 0.
-#[derive(Clone, Copy)]
+#[derive(Clone, Copy, Debug, PartialEq, Eq)]
 pub struct Slot(pub u32);
 
 /// What a cell says: its kind, two words, the slot of its annotations, and a hash of all of these.
-#[derive(Clone, Copy)]
+#[derive(Clone, Copy, Debug, PartialEq, Eq)]
 pub struct CellBody {
     pub kind: u8,
     pub a: u64,
