@@ -33,7 +33,7 @@ use Rattle.rx_arena.specs.contracts.cells.Cells.set_body as f
 use Rattle.rx_arena.proofs.cells.Cells.set_body.Statement.{statement}
 use Rattle.rx_arena.proofs.cells.Cells.set_body.Code as code
 use Rattle.rx_arena.proofs.Steps.{param_at, place_val, place_Tells, anns_good}
-use Rattle.rx_arena.proofs.Slots.{held_below}
+use Rattle.rx_arena.proofs.Slots.{held_within}
 use Rattle.rx_arena.proofs.Access.{slot_opens, slot_closes}
 
 abbrev stayed : Stays f.ended.signature.params f.ended.kept
@@ -68,7 +68,7 @@ set_body_spec 𝓤 𝓛 𝓜 𝓡 wired =
     sets ! (of_opd ! (get_in ! (fld ! refl (stop !)) (sub ! 3 refl (whole !)))) refl good_anns $ assigns ! (of_opd ! (get ! refl)) (from ! (fld ! refl (hop ! (look_in_at ! 2 (sub ! 1 refl (whole !))) (fld ! refl (stop !))))) (store_in ! 0 (sub ! 6 refl (whole !)) good_anns) $
     sets ! (of_opd ! (get_in ! (fld ! refl (stop !)) (sub ! 4 refl (whole !)))) refl (tt, record { fits = is.1.1.1.1.1.1.0.1 }) $ assigns_last ! (of_opd ! (get ! refl)) (from ! (fld ! refl (hop ! (look_in_at ! 2 (sub ! 1 refl (whole !))) (fld ! refl (stop !))))) (store_in ! 0 (sub ! 5 refl (whole !)) (tt, record { fits = is.1.1.1.1.1.1.0.1 })) $
     exec ! 𝓣.C 𝓣.Λ (env code.Mir.locals l) (after 1 code.function.body) (at_ret _ (W.post y)) $ sets ! (of_opd ! (unit_lit !)) refl (tt, tt) $
-    slot_closes d.blocks d.slots p ! asked.0 (held_below d.slots p.slot n asked.1.1) m (are.1.1.0, fits.1, fits.2) b o e $
+    slot_closes d.blocks d.slots p ! asked.0 (held_within d.slots p.slot n asked.1.1) m (are.1.1.0, fits.1, fits.2) b o e $
     rewrite ! 0 (λ (z : Option Node). ‵ (slots_own d.blocks 0 (set d.slots p.slot z))) (sym (ap (option_map (with_body k)) asked.1.1)) refl $
     let new = record d { slots = changed p.slot (with_body k) d.slots } in
     move ! (1 ∷ []) $ fjoin ! $ move ! (1 ∷ []) $ closes ! tt Cs new us rb ro $
