@@ -1,9 +1,11 @@
-//! Cells in memory. Only this file and `room.rt` follow pointers: each function here works on the cell at one place, and a function
-//! that follows a link reads the number in the cell behind it too.
-ghost use Rattle.std.specs.Prelude.{◌≡◌, ℕ, ◌*◌, ◌<◌, List, [], ◌∷◌, ◌++◌, replicate, Option, Some, None, length, slice_set, get_or, IfSome};
+//! Cells in memory. Only this file and `room.rt` hold pointers. Each function here works on the cell at
+//! one place, and one that follows a link reads the number in the cell behind it too.
+ghost use Rattle.std.specs.Prelude.{◌≡◌, ℕ, ◌*◌, ◌<◌, List, [], ◌∷◌, ◌++◌, length, replicate, slice_set};
+ghost use Rattle.std.specs.Prelude.{Option, Some, None, IfSome};
 ghost use denote.RawPtr.{Ptr, InBlock};
 ghost use Rattle.rx_arena.specs.Real.{InBlock-prop, IsLast};
-ghost use Rattle.rx_arena.specs.Node.{Node, lone, led_to, with_body, with_chain, with_gray, with_free, with_roots, with_mark, changed, IsClosed};
+ghost use Rattle.rx_arena.specs.Node.{Node, node_at, lone, led_to, changed, IsClosed};
+ghost use Rattle.rx_arena.specs.Node.{with_body, with_roots, with_mark, with_chain, with_gray, with_free};
 
 use crate::room::Room;
 use crate::{CellBody, Slot};
@@ -64,9 +66,11 @@ impl Model for Cells {
 }
 
 impl Cell {
+    ghost use Rattle.rx_arena.specs.Ownership.{body_of};
+
     /// The body, whose fields lie apart.
     pub(crate) fn body(&self) -> CellBody
-        ensures { result ≡ record { kind = self.now.kind; a = self.now.a; b = self.now.b; anns = self.now.anns; hash = self.now.hash } }
+        ensures { result ≡ body_of self.now }
     {
         CellBody {
             kind: self.kind,
@@ -91,7 +95,8 @@ impl Cells {
 
     /// Adds a block of empty slots.
     pub(crate) fn add(&mut self, room: Room) -> Base
-        requires { (length self.old.slots ≡ 1024 * length self.old.blocks) × IsClosed (length self.old.slots) 0 self.old.slots }
+        requires { (length self.old.slots ≡ 1024 * length self.old.blocks)
+            × IsClosed (length self.old.slots) 0 self.old.slots }
         ensures blocks { self.new.blocks ≡ self.old.blocks ++ result.at ∷ [] }
         ensures slots { self.new.slots ≡ self.old.slots ++ replicate 1024 None }
         ensures place { result.at ≡ room.at }
@@ -102,7 +107,8 @@ impl Cells {
 
     /// Empties all slots, and hands out the room of the last block.
     pub(crate) fn remove(&mut self, base: Base) -> Room
-        requires { (length self.old.slots ≡ 1024 * length self.old.blocks) × IsLast self.old.blocks base.at }
+        requires { (length self.old.slots ≡ 1024 * length self.old.blocks)
+            × IsLast self.old.blocks base.at }
         ensures blocks { self.old.blocks ≡ self.new.blocks ++ base.at ∷ [] }
         ensures slots { self.new.slots ≡ replicate (1024 * length self.new.blocks) None }
         ensures room { result.at ≡ base.at }
@@ -119,7 +125,9 @@ impl Cells {
 
     /// Writes a node into an empty slot.
     pub(crate) fn fill(&mut self, at: Place, body: CellBody)
-        requires { IsPlace self.old.blocks at × (at.slot < length self.old.slots) × (get_or self.old.slots at.slot None ≡ None) }
+        requires { IsPlace self.old.blocks at
+            × (at.slot < length self.old.slots)
+            × (node_at self.old.slots at.slot ≡ None) }
         ensures blocks { self.new.blocks ≡ self.old.blocks }
         ensures slots { self.new.slots ≡ slice_set self.old.slots at.slot (Some (lone body)) }
     {
@@ -143,7 +151,8 @@ impl Cells {
     /// Lends the cell, whose links only this file reads.
     pub(crate) fn get(&self, at: Place) -> &Cell
         requires { IsPlace self.now.blocks at × IsHeld self.now.slots at.slot }
-        ensures { IfSome (get_or self.now.slots at.slot None) (λ n. result.now ≡ cell_of self.now.blocks at.slot n) }
+        ensures { IfSome (node_at self.now.slots at.slot)
+            (λ n. result.now ≡ cell_of self.now.blocks at.slot n) }
     {
         unsafe { &*at.at }
     }
@@ -183,7 +192,9 @@ impl Cells {
 
     /// Writes the link to the next cell of the chain.
     pub(crate) fn set_chain(&mut self, at: Place, next: Target)
-        requires { IsPlace self.old.blocks at × IsHeld self.old.slots at.slot × (next.to ≡ link self.old.blocks at.slot next.slot) }
+        requires { IsPlace self.old.blocks at
+            × IsHeld self.old.slots at.slot
+            × (next.to ≡ link self.old.blocks at.slot next.slot) }
         ensures blocks { self.new.blocks ≡ self.old.blocks }
         ensures slots { self.new.slots ≡ changed at.slot (with_chain next.slot) self.old.slots }
     {
@@ -192,7 +203,9 @@ impl Cells {
 
     /// Writes the link to the next cell of the gray list.
     pub(crate) fn set_gray(&mut self, at: Place, next: Target)
-        requires { IsPlace self.old.blocks at × IsHeld self.old.slots at.slot × (next.to ≡ link self.old.blocks at.slot next.slot) }
+        requires { IsPlace self.old.blocks at
+            × IsHeld self.old.slots at.slot
+            × (next.to ≡ link self.old.blocks at.slot next.slot) }
         ensures blocks { self.new.blocks ≡ self.old.blocks }
         ensures slots { self.new.slots ≡ changed at.slot (with_gray next.slot) self.old.slots }
     {
@@ -201,7 +214,9 @@ impl Cells {
 
     /// Writes the link to the next cell of the free list.
     pub(crate) fn set_free(&mut self, at: Place, next: Target)
-        requires { IsPlace self.old.blocks at × IsHeld self.old.slots at.slot × (next.to ≡ link self.old.blocks at.slot next.slot) }
+        requires { IsPlace self.old.blocks at
+            × IsHeld self.old.slots at.slot
+            × (next.to ≡ link self.old.blocks at.slot next.slot) }
         ensures blocks { self.new.blocks ≡ self.old.blocks }
         ensures slots { self.new.slots ≡ changed at.slot (with_free next.slot) self.old.slots }
     {
@@ -210,8 +225,12 @@ impl Cells {
 
     /// The number of the cell that the chain leads to: the cell's own, where the chain ends.
     pub(crate) fn chain_of(&self, at: Place) -> u32
-        requires { IsPlace self.now.blocks at × IsHeld self.now.slots at.slot × IfSome (get_or self.now.slots at.slot None) (λ n. IsHeld self.now.slots (led_to at.slot n.chain)) }
-        ensures { IfSome (get_or self.now.slots at.slot None) (λ n. result ≡ led_to at.slot n.chain) }
+        requires { IsPlace self.now.blocks at
+            × IsHeld self.now.slots at.slot
+            × IfSome (node_at self.now.slots at.slot)
+            (λ n. IsHeld self.now.slots (led_to at.slot n.chain)) }
+        ensures { IfSome (node_at self.now.slots at.slot)
+            (λ n. result ≡ led_to at.slot n.chain) }
     {
         let next = unsafe { (*at.at).chain };
         unsafe { (*next).number }
@@ -219,8 +238,12 @@ impl Cells {
 
     /// The number of the cell that the gray list leads to: the cell's own, where the list ends.
     pub(crate) fn gray_of(&self, at: Place) -> u32
-        requires { IsPlace self.now.blocks at × IsHeld self.now.slots at.slot × IfSome (get_or self.now.slots at.slot None) (λ n. IsHeld self.now.slots (led_to at.slot n.gray)) }
-        ensures { IfSome (get_or self.now.slots at.slot None) (λ n. result ≡ led_to at.slot n.gray) }
+        requires { IsPlace self.now.blocks at
+            × IsHeld self.now.slots at.slot
+            × IfSome (node_at self.now.slots at.slot)
+            (λ n. IsHeld self.now.slots (led_to at.slot n.gray)) }
+        ensures { IfSome (node_at self.now.slots at.slot)
+            (λ n. result ≡ led_to at.slot n.gray) }
     {
         let next = unsafe { (*at.at).gray };
         unsafe { (*next).number }
@@ -228,8 +251,12 @@ impl Cells {
 
     /// The number of the cell that the free list leads to: the cell's own, where the list ends.
     pub(crate) fn free_of(&self, at: Place) -> u32
-        requires { IsPlace self.now.blocks at × IsHeld self.now.slots at.slot × IfSome (get_or self.now.slots at.slot None) (λ n. IsHeld self.now.slots (led_to at.slot n.free)) }
-        ensures { IfSome (get_or self.now.slots at.slot None) (λ n. result ≡ led_to at.slot n.free) }
+        requires { IsPlace self.now.blocks at
+            × IsHeld self.now.slots at.slot
+            × IfSome (node_at self.now.slots at.slot)
+            (λ n. IsHeld self.now.slots (led_to at.slot n.free)) }
+        ensures { IfSome (node_at self.now.slots at.slot)
+            (λ n. result ≡ led_to at.slot n.free) }
     {
         let next = unsafe { (*at.at).free };
         unsafe { (*next).number }

@@ -1,6 +1,8 @@
 //! The blocks, and the cells in them by their slots' numbers.
-ghost use Rattle.std.specs.Prelude.{◌≡◌, ◌≢◌, ℕ, ◌*◌, ◌<◌, ◌^◌, [], ◌++◌, List, Option, Some, None, length, get_or, slice_set, replicate, IfSome, OnOk, OnErr};
-ghost use Rattle.rx_arena.specs.Node.{Node, lone, with_body, with_roots, with_mark, with_chain, with_gray, with_free, changed};
+ghost use Rattle.std.specs.Prelude.{◌≡◌, ◌≢◌, ℕ, ◌*◌, ◌<◌, ◌^◌, List, [], ◌++◌, length, replicate, slice_set};
+ghost use Rattle.std.specs.Prelude.{Option, Some, None, IfSome, OnOk, OnErr};
+ghost use Rattle.rx_arena.specs.Node.{Node, node_at, lone, changed};
+ghost use Rattle.rx_arena.specs.Node.{with_body, with_roots, with_mark, with_chain, with_gray, with_free};
 ghost use Rattle.rx_arena.specs.Held.{IsHeld};
 ghost use Rattle.rx_arena.specs.Ownership as spec;
 ghost use Rattle.rx_arena.specs.Blocks as all;
@@ -117,7 +119,7 @@ impl Store {
 
     /// Puts a node with this body, in no list, where nothing lies.
     pub fn fill(&mut self, slot: u32, body: CellBody)
-        requires { (slot < length self.old) × (get_or self.old slot None ≡ None) }
+        requires { (slot < length self.old) × (node_at self.old slot ≡ None) }
         ensures { self.new ≡ slice_set self.old slot (Some (lone body)) }
     {
         let at = place(&self.blocks, slot);
@@ -127,7 +129,7 @@ impl Store {
     /// The body.
     pub fn body(&self, slot: u32) -> CellBody
         requires { IsHeld self.now slot }
-        ensures { IfSome (get_or self.now slot None) (λ n. result ≡ n.body) }
+        ensures { IfSome (node_at self.now slot) (λ n. result ≡ n.body) }
     {
         self.cells.get(place(&self.blocks, slot)).body()
     }
@@ -144,7 +146,7 @@ impl Store {
     /// The root count.
     pub fn roots(&self, slot: u32) -> u16
         requires { IsHeld self.now slot }
-        ensures { IfSome (get_or self.now slot None) (λ n. result ≡ n.roots) }
+        ensures { IfSome (node_at self.now slot) (λ n. result ≡ n.roots) }
     {
         self.cells.get(place(&self.blocks, slot)).roots
     }
@@ -161,7 +163,7 @@ impl Store {
     /// Whether the cell is marked.
     pub fn marked(&self, slot: u32) -> bool
         requires { IsHeld self.now slot }
-        ensures { IfSome (get_or self.now slot None) (λ n. result ≡ n.marked) }
+        ensures { IfSome (node_at self.now slot) (λ n. result ≡ n.marked) }
     {
         self.cells.get(place(&self.blocks, slot)).marked
     }
@@ -177,8 +179,9 @@ impl Store {
 
     /// The next slot of the chain.
     pub fn chain(&self, slot: u32) -> Option<u32>
-        requires { IsHeld self.now slot × IfSome (get_or self.now slot None) (λ n. IfSome n.chain (IsHeld self.now)) }
-        ensures { IfSome (get_or self.now slot None) (λ n. result ≡ n.chain) }
+        requires { IsHeld self.now slot
+            × IfSome (node_at self.now slot) (λ n. IfSome n.chain (IsHeld self.now)) }
+        ensures { IfSome (node_at self.now slot) (λ n. result ≡ n.chain) }
     {
         other(slot, self.cells.chain_of(place(&self.blocks, slot)))
     }
@@ -196,8 +199,9 @@ impl Store {
 
     /// The next slot of the gray list.
     pub fn gray(&self, slot: u32) -> Option<u32>
-        requires { IsHeld self.now slot × IfSome (get_or self.now slot None) (λ n. IfSome n.gray (IsHeld self.now)) }
-        ensures { IfSome (get_or self.now slot None) (λ n. result ≡ n.gray) }
+        requires { IsHeld self.now slot
+            × IfSome (node_at self.now slot) (λ n. IfSome n.gray (IsHeld self.now)) }
+        ensures { IfSome (node_at self.now slot) (λ n. result ≡ n.gray) }
     {
         other(slot, self.cells.gray_of(place(&self.blocks, slot)))
     }
@@ -215,8 +219,9 @@ impl Store {
 
     /// The next slot of the free list.
     pub fn free(&self, slot: u32) -> Option<u32>
-        requires { IsHeld self.now slot × IfSome (get_or self.now slot None) (λ n. IfSome n.free (IsHeld self.now)) }
-        ensures { IfSome (get_or self.now slot None) (λ n. result ≡ n.free) }
+        requires { IsHeld self.now slot
+            × IfSome (node_at self.now slot) (λ n. IfSome n.free (IsHeld self.now)) }
+        ensures { IfSome (node_at self.now slot) (λ n. result ≡ n.free) }
     {
         other(slot, self.cells.free_of(place(&self.blocks, slot)))
     }
