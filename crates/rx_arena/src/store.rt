@@ -5,7 +5,7 @@ ghost use Rattle.rx_arena.specs.Node.{Node, node_at, lone, changed};
 ghost use Rattle.rx_arena.specs.Node.{with_body, with_roots, with_mark, with_chain, with_gray, with_free};
 ghost use Rattle.rx_arena.specs.Held.{IsHeld};
 ghost use Rattle.rx_arena.specs.Ownership as spec;
-ghost use Rattle.rx_arena.specs.Blocks as all;
+ghost use Rattle.rx_arena.specs.Blocks.{bases};
 
 use crate::CellBody;
 use crate::cells::{Base, Cells, Place, Target};
@@ -41,7 +41,7 @@ impl Model for Store {
 /// Where the slot lies: a look-up of its block, with no search.
 fn place(blocks: &[Block], slot: u32) -> Place
     requires { slot < 1024 * length blocks.now }
-    ensures { (result.slot ≡ slot) × (result.at ≡ spec.place (all.bases blocks.now) slot) }
+    ensures { (result.slot ≡ slot) × (result.at ≡ spec.place (bases blocks.now) slot) }
 {
     let index = slot as usize;
     Place {
@@ -54,7 +54,7 @@ fn place(blocks: &[Block], slot: u32) -> Place
 fn target(blocks: &[Block], slot: u32, next: Option<u32>) -> Target
     requires slot { slot < 1024 * length blocks.now }
     requires next { IfSome next (λ t. t < 1024 * length blocks.now) }
-    ensures { (result.slot ≡ next) × (result.to ≡ spec.link (all.bases blocks.now) slot next) }
+    ensures { (result.slot ≡ next) × (result.to ≡ spec.link (bases blocks.now) slot next) }
 {
     let led_to = match next {
         Some(t) => t,
