@@ -2,9 +2,9 @@ pub mod Sharing
 pub mod Slots
 pub mod Steps
 pub mod Access
-pub mod Values
 pub mod Blocks
 pub mod Agrees
+pub mod Fields
 pub mod Puts
 pub mod Chains
 pub mod Pools
