@@ -42,11 +42,11 @@ module _ (a : ArenaState) (law : IsArena a) where
       let added : (t : ℕ) → times_in t (set a.chains c (s ∷ chain_at a c)) ≡ times_in t a.chains + one_if s t = λ t. omega (arith, times_in-set t a.chains c (s ∷ chain_at a c) lt) in
       record {
         alone = λ t. elim (one_or_two s t) [
-          inl h ↦ (let none = subst (λ z. times_in z a.chains ≡ 0) h.1 loose in omega (arith, added t, h.0, none))
+          | inl h ↦ (let none = subst (λ z. times_in z a.chains ≡ 0) h.1 loose in omega (arith, added t, h.0, none))
           | inr h ↦ omega (arith, added t, h.0, law.alone t)
         ];
         chained_taken = λ t i. elim (one_or_two s t) [
-          inl h ↦ subst (IsTaken a) h.1 taken
+          | inl h ↦ subst (IsTaken a) h.1 taken
           | inr h ↦ law.chained_taken t (omega (arith, i, added t, h.0))
         ];
         gray_once = law.gray_once;
@@ -97,18 +97,18 @@ module _ (a : ArenaState) (law : IsArena a) where
       record {
         alone = law.alone;
         chained_taken = λ k i. elim (one_or_two k s) [
-          inl h ↦ (u, subst (λ z. get_or (put a.cells s (Some u)) z None ≡ Some u) (sym h.1) (get_or-put_same a.cells s (Some u)))
+          | inl h ↦ (u, subst (λ z. get_or (put a.cells s (Some u)) z None ≡ Some u) (sym h.1) (get_or-put_same a.cells s (Some u)))
           | inr h ↦ (let old = law.chained_taken k i in (old.0, get_or-put_other a.cells s k (Some u) h.1 ∙ old.1))
         ];
         gray_once = law.gray_once;
         gray_marked = λ k i. elim (one_or_two k s) [
-          inl h ↦ subst (λ z. is_marked (get_or (put a.cells s (Some u)) z None) ≡ true) (sym h.1)
+          | inl h ↦ subst (λ z. is_marked (get_or (put a.cells s (Some u)) z None) ≡ true) (sym h.1)
               (ap is_marked (get_or-put_same a.cells s (Some u)) ∙ marked (subst (λ z. 0 < times z a.gray) h.1 i))
           | inr h ↦ ap is_marked (get_or-put_other a.cells s k (Some u) h.1) ∙ law.gray_marked k i
         ];
         fits = omega (arith, law.fits, count);
         below = λ k i. elim (one_or_two k s) [
-          inl h ↦ law.below k (t, subst (λ z. taken_at a z ≡ Some t) (sym h.1) e)
+          | inl h ↦ law.below k (t, subst (λ z. taken_at a z ≡ Some t) (sym h.1) e)
           | inr h ↦ law.below k (i.0, sym (get_or-put_other a.cells s k (Some u) h.1) ∙ i.1)
         ];
         few_chains = law.few_chains;
@@ -127,11 +127,11 @@ module _ (a : ArenaState) (law : IsArena a) where
     alone = law.alone;
     chained_taken = law.chained_taken;
     gray_once = λ t. elim (one_or_two s t) [
-      inl h ↦ (let none = subst (λ z. times z a.gray ≡ 0) h.1 away in omega (arith, h.0, none))
+      | inl h ↦ (let none = subst (λ z. times z a.gray ≡ 0) h.1 away in omega (arith, h.0, none))
       | inr h ↦ omega (arith, h.0, law.gray_once t)
     ];
     gray_marked = λ t i. elim (one_or_two s t) [
-      inl h ↦ subst (IsMarked a) h.1 marked
+      | inl h ↦ subst (IsMarked a) h.1 marked
       | inr h ↦ law.gray_marked t (omega (arith, i, h.0))
     ];
     fits = law.fits;
@@ -165,15 +165,15 @@ module _ (a : ArenaState) (law : IsArena a) where
   take_law s u spare none lt fit = record {
     alone = law.alone;
     chained_taken = λ k i. (let old = law.chained_taken k i in
-    let ne : k ≢ s = λ e. (let n = subst (λ z. taken_at a z ≡ None) (sym e) none in let o = old.1 in absurd (cc)) in
-    (old.0, get_or-put_other a.cells s k (Some u) ne ∙ old.1));
+        let ne : k ≢ s = λ e. (let n = subst (λ z. taken_at a z ≡ None) (sym e) none in let o = old.1 in absurd (cc)) in
+        (old.0, get_or-put_other a.cells s k (Some u) ne ∙ old.1));
     gray_once = law.gray_once;
     gray_marked = λ k i. (let old = law.gray_marked k i in
-    let ne : k ≢ s = λ e. (let n = ap is_marked (subst (λ z. taken_at a z ≡ None) (sym e) none) in absurd (cc)) in
-    ap is_marked (get_or-put_other a.cells s k (Some u) ne) ∙ old);
+        let ne : k ≢ s = λ e. (let n = ap is_marked (subst (λ z. taken_at a z ≡ None) (sym e) none) in absurd (cc)) in
+        ap is_marked (get_or-put_other a.cells s k (Some u) ne) ∙ old);
     fits = fit;
     below = λ k i. elim (one_or_two k s) [
-      inl h ↦ subst (λ z. z < a.cap) (sym h.1) lt
+      | inl h ↦ subst (λ z. z < a.cap) (sym h.1) lt
       | inr h ↦ law.below k (i.0, sym (get_or-put_other a.cells s k (Some u) h.1) ∙ i.1)
     ];
     few_chains = law.few_chains;
@@ -187,14 +187,14 @@ module _ (a : ArenaState) (law : IsArena a) where
       record {
         alone = law.alone;
         chained_taken = λ k i. (let old = law.chained_taken k i in
-        let ne : k ≢ s = λ e. (let l = subst (λ z. times_in z a.chains ≡ 0) (sym e) loose in absurd (omega (arith, l, i))) in
-        (old.0, get_or-put_other a.cells s k None ne ∙ old.1));
+            let ne : k ≢ s = λ e. (let l = subst (λ z. times_in z a.chains ≡ 0) (sym e) loose in absurd (omega (arith, l, i))) in
+            (old.0, get_or-put_other a.cells s k None ne ∙ old.1));
         gray_once = law.gray_once;
         gray_marked = λ k i. (let ne : k ≢ s = λ e. (let l = subst (λ z. times z a.gray ≡ 0) (sym e) away in absurd (omega (arith, l, i))) in
-        ap is_marked (get_or-put_other a.cells s k None ne) ∙ law.gray_marked k i);
+            ap is_marked (get_or-put_other a.cells s k None ne) ∙ law.gray_marked k i);
         fits = omega (arith, law.fits, count);
         below = λ k i. elim (one_or_two k s) [
-          inl h ↦ law.below k (taken.0, subst (λ z. taken_at a z ≡ Some taken.0) (sym h.1) taken.1)
+          | inl h ↦ law.below k (taken.0, subst (λ z. taken_at a z ≡ Some taken.0) (sym h.1) taken.1)
           | inr h ↦ law.below k (i.0, sym (get_or-put_other a.cells s k None h.1) ∙ i.1)
         ];
         few_chains = law.few_chains;

@@ -53,7 +53,7 @@ links-put_same k xs s v = get_or-map_option k (put xs s v) s ∙ ap (option_map 
 links-kept : (k : Node → Option ℕ) (xs : List (Option Node)) (s : ℕ) (n m : Node) → get_or xs s None ≡ Some n → k m ≡ k n → (t : ℕ) → get_or (links k (put xs s (Some m))) t None ≡ get_or (links k xs) t None
 links-kept k xs s n m e same t =
     elim (one_or_two t s) [
-      inl h ↦ subst (λ z. get_or (links k (put xs s (Some m))) z None ≡ get_or (links k xs) z None) (sym h.1)
+      | inl h ↦ subst (λ z. get_or (links k (put xs s (Some m))) z None ≡ get_or (links k xs) z None) (sym h.1)
           (links-put_same k xs s (Some m) ∙ ap Some same ∙ sym (get_or-map_option k xs s ∙ ap (option_map k) e))
       | inr h ↦ links-put_other k xs s t (Some m) h.1
     ]
@@ -106,7 +106,7 @@ module _ (p : PoolState) (heads : List (Option ℕ)) (first : Option ℕ) (l : C
       let n = taken_node s taken.0 taken.1 in
       let is : altered s f p.cells ≡ put p.cells s (Some (f n.0)) = altered-at p.cells s f n.0 n.1 in
       let shows : put a.cells s (Some (shown_of (f n.0))) ≡ altered s g a.cells =
-          ap (λ z. put a.cells s (Some z)) (like n.0).0 ∙ sym (altered-at a.cells s g (shown_of n.0) (shown_at s ∙ ap (option_map shown_of) n.1)) in
+      ap (λ z. put a.cells s (Some z)) (like n.0).0 ∙ sym (altered-at a.cells s g (shown_of n.0) (shown_at s ∙ ap (option_map shown_of) n.1)) in
       subst (λ z. ArenaStep z heads first (record a { cells = altered s g a.cells })) (sym (e ∙ ap (λ z. record p { cells = z }) is)) (record {
         chained = chains_agree (chain_links p.cells) (chain_links (put p.cells s (Some (f n.0)))) heads l.0 (λ t _. links-kept (λ n. n.chain) p.cells s n.0 (f n.0) n.1 (like n.0).1 t) l.1;
         grayed = chain_agrees (gray_links p.cells) (gray_links (put p.cells s (Some (f n.0)))) first m.0 (λ t _. links-kept (λ n. n.gray) p.cells s n.0 (f n.0) n.1 (like n.0).2 t) m.1;

@@ -31,7 +31,7 @@ member_some ls first [] t c lt = absurd (omega (arith, lt))
 member_some ls first (s ∷ ss) t c lt =
     let l = leads_some (get_or ls s None) (λ next. IsChain ls next ss) c.1 in
     elim (one_or_two s t) [
-      inl h ↦ (l.0, ap (λ (z : ℕ). get_or ls z None) (sym h.1) ∙ l.1)
+      | inl h ↦ (l.0, ap (λ (z : ℕ). get_or ls z None) (sym h.1) ∙ l.1)
       | inr h ↦ member_some ls l.0 ss t l.2 (omega (arith, lt, h.0))
     ]
 
@@ -120,7 +120,7 @@ pub split_at : (s : ℕ) (ss : List ℕ) → 0 < times s ss → (before : List �
 split_at s [] lt = absurd (omega (arith, lt))
 split_at s (t ∷ ts) lt =
     elim (one_or_two t s) [
-      inl h ↦ ([], (ts, ap (λ (z : ℕ). z ∷ ts) h.1))
+      | inl h ↦ ([], (ts, ap (λ (z : ℕ). z ∷ ts) h.1))
       | inr h ↦ (let r = split_at s ts (omega (arith, lt, h.0)) in (t ∷ r.0, (r.1.0, ap (λ (z : List ℕ). t ∷ z) r.1.1)))
     ]
 
@@ -129,6 +129,6 @@ pub some_chain : (s : ℕ) (css : List (List ℕ)) → 0 < times_in s css → (c
 some_chain s [] lt = absurd (omega (arith, lt))
 some_chain s (c ∷ cs) lt =
     elim (one_or_more (times s c)) [
-      inl z ↦ (let r = some_chain s cs (omega (arith, lt, z)) in (suc r.0, omega (arith, r.1), r.2))
+      | inl z ↦ (let r = some_chain s cs (omega (arith, lt, z)) in (suc r.0, omega (arith, r.1), r.2))
       | inr p ↦ (0, omega arith, p)
     ]

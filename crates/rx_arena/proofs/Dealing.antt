@@ -69,24 +69,24 @@ module _ (init : ArenaState) (from n : ℕ) (self : ArenaState) (inv : Moving in
     gains k lt t =
         let ne_from : k ≢ from = λ e. absurd (omega (arith, e, lt, le)) in
         elim (one_or_two s t) [
-          inl st ↦ elim (one_or_two k to) [
-            inl kt ↦ (let hit : nat_eq (hash_at init t % n) k ≡ true = eq-eqb (hash_at init t % n) k (ap (λ z. hash_at init z % n) (sym st.1) ∙ sym to_is ∙ sym kt.1) in
-            let there : times t (chain_at two k) ≡ one_if s t + times t (chain_at one k) = subst (λ z. times t (chain_at two z) ≡ one_if s t + times t (chain_at one z)) (sym kt.1) (ap (times t) two_to) in
-            let old = ap (times t) (one_at k ne_from) in
-            let gain : cond (nat_eq (hash_at init t % n) k) (one_if s t) 0 ≡ one_if s t = ap (λ b. cond b (one_if s t) 0) hit in
-            omega (arith, there, old, gain))
+          | inl st ↦ elim (one_or_two k to) [
+            | inl kt ↦ (let hit : nat_eq (hash_at init t % n) k ≡ true = eq-eqb (hash_at init t % n) k (ap (λ z. hash_at init z % n) (sym st.1) ∙ sym to_is ∙ sym kt.1) in
+                let there : times t (chain_at two k) ≡ one_if s t + times t (chain_at one k) = subst (λ z. times t (chain_at two z) ≡ one_if s t + times t (chain_at one z)) (sym kt.1) (ap (times t) two_to) in
+                let old = ap (times t) (one_at k ne_from) in
+                let gain : cond (nat_eq (hash_at init t % n) k) (one_if s t) 0 ≡ one_if s t = ap (λ b. cond b (one_if s t) 0) hit in
+                omega (arith, there, old, gain))
             | inr kt ↦ (let miss : nat_eq (hash_at init t % n) k ≡ false = ne_eqb (hash_at init t % n) k (λ e. kt.1 (sym e ∙ ap (λ z. hash_at init z % n) (sym st.1) ∙ sym to_is)) in
-            let there = ap (times t) (two_other k kt.1 ∙ one_at k ne_from) in
-            let gain : cond (nat_eq (hash_at init t % n) k) (one_if s t) 0 ≡ 0 = ap (λ b. cond b (one_if s t) 0) miss in
-            omega (arith, there, gain))
+                let there = ap (times t) (two_other k kt.1 ∙ one_at k ne_from) in
+                let gain : cond (nat_eq (hash_at init t % n) k) (one_if s t) 0 ≡ 0 = ap (λ b. cond b (one_if s t) 0) miss in
+                omega (arith, there, gain))
           ]
           | inr st ↦ (let gain : cond (nat_eq (hash_at init t % n) k) (one_if s t) 0 ≡ 0 = ap (λ z. cond (nat_eq (hash_at init t % n) k) z 0) st.0 ∙ cond-zero (nat_eq (hash_at init t % n) k) in
-          elim (one_or_two k to) [
-            inl kt ↦ (let there : times t (chain_at two k) ≡ one_if s t + times t (chain_at one k) = subst (λ z. times t (chain_at two z) ≡ one_if s t + times t (chain_at one z)) (sym kt.1) (ap (times t) two_to) in
-            let old = ap (times t) (one_at k ne_from) in
-            omega (arith, there, old, gain, st.0))
-            | inr kt ↦ (let there = ap (times t) (two_other k kt.1 ∙ one_at k ne_from) in omega (arith, there, gain))
-          ])
+              elim (one_or_two k to) [
+                | inl kt ↦ (let there : times t (chain_at two k) ≡ one_if s t + times t (chain_at one k) = subst (λ z. times t (chain_at two z) ≡ one_if s t + times t (chain_at one z)) (sym kt.1) (ap (times t) two_to) in
+                    let old = ap (times t) (one_at k ne_from) in
+                    omega (arith, there, old, gain, st.0))
+                | inr kt ↦ (let there = ap (times t) (two_other k kt.1 ∙ one_at k ne_from) in omega (arith, there, gain))
+              ])
         ]
 
     pub moved_on : Moving init from n two
@@ -96,13 +96,13 @@ module _ (init : ArenaState) (from n : ℕ) (self : ArenaState) (inv : Moving in
       same = put_there ∙ ap (λ (v : ArenaState). record v { chains = set one.chains to (s ∷ chain_at one to) }) (rest ∙ ap (λ (v : ArenaState). record v { chains = set self.chains from (chain_at one from) }) inv.same) ∙ ap (λ z. record init { chains = z }) (sym two_chains);
       others = λ k l ne. two_other k (λ e. absurd (omega (arith, e, below, l))) ∙ one_at k ne ∙ inv.others k l ne;
       moved = λ k l t.
-      (let b = nat_eq (hash_at init t % n) k in
-      let left : cond (nat_eq (hash_at init t % n) k) (times t (chain_at two from)) 0 ≡ cond (nat_eq (hash_at init t % n) k) (times t (chain_at one from)) 0 = ap (λ z. cond (nat_eq (hash_at init t % n) k) (times t z) 0) from_left in
-      let was : cond (nat_eq (hash_at init t % n) k) (times t (chain_at self from)) 0 ≡ cond (nat_eq (hash_at init t % n) k) (one_if s t) 0 + cond (nat_eq (hash_at init t % n) k) (times t (chain_at one from)) 0 =
+          (let b = nat_eq (hash_at init t % n) k in
+          let left : cond (nat_eq (hash_at init t % n) k) (times t (chain_at two from)) 0 ≡ cond (nat_eq (hash_at init t % n) k) (times t (chain_at one from)) 0 = ap (λ z. cond (nat_eq (hash_at init t % n) k) (times t z) 0) from_left in
+          let was : cond (nat_eq (hash_at init t % n) k) (times t (chain_at self from)) 0 ≡ cond (nat_eq (hash_at init t % n) k) (one_if s t) 0 + cond (nat_eq (hash_at init t % n) k) (times t (chain_at one from)) 0 =
           ap (λ z. cond (nat_eq (hash_at init t % n) k) (times t z) 0) split ∙ cond-plus (nat_eq (hash_at init t % n) k) (one_if s t) (times t (chain_at one from)) in
-      let old = inv.moved k l t in
-      let gain = gains k l t in
-      omega (arith, left, was, old, gain));
+          let old = inv.moved k l t in
+          let gain = gains k l t in
+          omega (arith, left, was, old, gain));
     }
 
 pub moved_all : (init : ArenaState) (from n : ℕ) (self : ArenaState) → Moving init from n self → chain_at self from ≡ [] → (k : ℕ) → k < n → (t : ℕ) → times t (chain_at self k) ≡ times t (chain_at init k) + cond (nat_eq (hash_at init t % n) k) (times t (chain_at init from)) 0
@@ -126,9 +126,9 @@ dealing_begins init n self e =
       same = refl;
       left = λ k le. get_or-append_right (replicate n []) init.chains n k [] count le;
       dealt = λ k lt t.
-      (let here : get_or (replicate n [] ++ init.chains) k [] ≡ [] = get_or_append_left (replicate n []) init.chains [] k (omega (arith, count, lt)) ∙ get_or-replicate n k [] [] lt in
-      let start : n - n ≡ 0 = omega arith in
-      ap (times t) here ∙ sym (ap (λ z. cond (nat_eq (hash_at init t % n) k) (times_in t (take z init.chains)) 0) start ∙ cond-zero (nat_eq (hash_at init t % n) k)));
+          (let here : get_or (replicate n [] ++ init.chains) k [] ≡ [] = get_or_append_left (replicate n []) init.chains [] k (omega (arith, count, lt)) ∙ get_or-replicate n k [] [] lt in
+          let start : n - n ≡ 0 = omega arith in
+          ap (times t) here ∙ sym (ap (λ z. cond (nat_eq (hash_at init t % n) k) (times_in t (take z init.chains)) 0) start ∙ cond-zero (nat_eq (hash_at init t % n) k)));
     })
 
 times_in-take_more : (t j : ℕ) (css : List (List ℕ)) → j < length css → times_in t (take (j + 1) css) ≡ times_in t (take j css) + times t (get_or css j [])
@@ -146,14 +146,14 @@ module _ (init : ArenaState) (n i : ℕ) (self : ArenaState) (inv : Dealing init
     same = same ∙ ap (λ (v : ArenaState). record v { chains = two.chains }) inv.same;
     left = λ k le. others k (omega (arith, le, low)) (λ e. absurd (omega (arith, e, le))) ∙ inv.left k (omega (arith, le));
     dealt = λ k lt t.
-    (let hash : hash_at self t ≡ hash_at init t = ap (λ (v : ArenaState). hash_at v t) inv.same in
-    let next : (i + 1) - n ≡ (i - n) + 1 = omega (arith, low) in
-    let chain : times t (chain_at self i) ≡ times t (get_or init.chains (i - n) []) = ap (times t) (inv.left i (omega arith)) in
-    let more : times_in t (take (i - n) init.chains) + times t (chain_at self i) ≡ times_in t (take ((i + 1) - n) init.chains) =
+        (let hash : hash_at self t ≡ hash_at init t = ap (λ (v : ArenaState). hash_at v t) inv.same in
+        let next : (i + 1) - n ≡ (i - n) + 1 = omega (arith, low) in
+        let chain : times t (chain_at self i) ≡ times t (get_or init.chains (i - n) []) = ap (times t) (inv.left i (omega arith)) in
+        let more : times_in t (take (i - n) init.chains) + times t (chain_at self i) ≡ times_in t (take ((i + 1) - n) init.chains) =
         ap (λ z. times_in t (take (i - n) init.chains) + z) chain ∙ sym (ap (λ z. times_in t (take z init.chains)) next ∙ times_in-take_more t (i - n) init.chains (omega (arith, low, high))) in
-    moved k lt t ∙ (λ j. inv.dealt k lt t j + cond (nat_eq (hash j % n) k) (times t (chain_at self i)) 0)
-    ∙ sym (cond-plus (nat_eq (hash_at init t % n) k) (times_in t (take (i - n) init.chains)) (times t (chain_at self i)))
-    ∙ ap (λ z. cond (nat_eq (hash_at init t % n) k) z 0) more);
+        moved k lt t ∙ (λ j. inv.dealt k lt t j + cond (nat_eq (hash j % n) k) (times t (chain_at self i)) 0)
+        ∙ sym (cond-plus (nat_eq (hash_at init t % n) k) (times_in t (take (i - n) init.chains)) (times t (chain_at self i)))
+        ∙ ap (λ z. cond (nat_eq (hash_at init t % n) k) z 0) more);
   }
 
 -- all chains are dealt out, and the new ones stay

@@ -79,7 +79,7 @@ module _ (slots : List (Option Node)) (free : List ℕ) (fresh taken room cap : 
   held-set s m ls t lt =
       let within : s < length slots = omega (arith, ls, in_store) in
       elim (one_or_two t s) [
-        inl h ↦ (m, subst (λ z. get_or (set slots s (Some m)) z None ≡ Some m) (sym h.1) (get_or-set_same slots s (Some m) None within))
+        | inl h ↦ (m, subst (λ z. get_or (set slots s (Some m)) z None ≡ Some m) (sym h.1) (get_or-set_same slots s (Some m) None within))
         | inr h ↦ (let was = p.held t lt in (was.0, get_or-set_other slots s t (Some m) None h.1 ∙ was.1))
       ]
 
@@ -155,10 +155,10 @@ module _ (slots : List (Option Node)) (free : List ℕ) (fresh taken room cap : 
       pub extended-away : times fresh free ≡ 0
       extended-away =
           elim (one_or_more (times fresh free)) [
-            inl z ↦ z
+            | inl z ↦ z
             | inr h ↦ (let m = member_some (links (λ n. n.free) slots) first free fresh c h in
-            let l = links_some (λ n. n.free) slots fresh m.0 m.1 in
-            let none = extended-unheld in let some = l.1 in absurd (cc))
+                let l = links_some (λ n. n.free) slots fresh m.0 m.1 in
+                let none = extended-unheld in let some = l.1 in absurd (cc))
           ]
 
       pub extended-chain : (m : Node) → IsChain (links (λ n. n.free) (set slots fresh (Some m))) first free
@@ -180,7 +180,7 @@ module _ (slots : List (Option Node)) (free : List ℕ) (fresh taken room cap : 
           record {
             once = p.once;
             held = λ t lt. elim (one_or_two t fresh) [
-              inl h ↦ (m, subst (λ z. get_or (set slots fresh (Some m)) z None ≡ Some m) (sym h.1) (get_or-set_same slots fresh (Some m) None extended-within))
+              | inl h ↦ (m, subst (λ z. get_or (set slots fresh (Some m)) z None ≡ Some m) (sym h.1) (get_or-set_same slots fresh (Some m) None extended-within))
               | inr h ↦ (let was_held = p.held t (let ne = h.1 in omega (arith, lt, ne)) in (was_held.0, get_or-set_other slots fresh t (Some m) None h.1 ∙ was_held.1))
             ];
             empty = λ t le. get_or-set_other slots fresh t (Some m) None (λ e. absurd (omega (arith, le, e))) ∙ p.empty t (omega (arith, le));
@@ -212,7 +212,7 @@ module _ (slots : List (Option Node)) (free : List ℕ) (fresh taken room cap : 
         let some = given_back-some_taken in
         record {
           once = λ t. elim (one_or_two s t) [
-            inl h ↦ (let none : times t free ≡ 0 = subst (λ z. times z free ≡ 0) h.1 given_back-at.away in omega (arith, h.0, none))
+            | inl h ↦ (let none : times t free ≡ 0 = subst (λ z. times z free ≡ 0) h.1 given_back-at.away in omega (arith, h.0, none))
             | inr h ↦ omega (arith, h.0, p.once t)
           ];
           held = held-set s m given_back-at.below;
@@ -249,4 +249,3 @@ module _ (slots : List (Option Node)) (free : List ℕ) (fresh taken room cap : 
       room_in_cap = omega (arith, lt);
       cap_small = p.cap_small;
     }
-

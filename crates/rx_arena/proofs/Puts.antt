@@ -102,7 +102,7 @@ pub without-put : {X : Type 0} (xs : List (Option X)) (ss : List ℕ) (s : ℕ) 
 without-put xs [] s v e = refl
 without-put xs (t ∷ ts) s v e =
     elim (one_or_two t s) [
-      inl h ↦ absurd (omega (arith, e, h.0))
+      | inl h ↦ absurd (omega (arith, e, h.0))
       | inr h ↦ ap (λ ys. put ys t None) (without-put xs ts s v (omega (arith, e, h.0))) ∙ put_comm (without xs ts) s t v None (λ p. h.1 (sym p))
     ]
 
@@ -110,7 +110,7 @@ pub get_or-without_other : {X : Type 0} (xs : List (Option X)) (ss : List ℕ) (
 get_or-without_other xs [] s e = refl
 get_or-without_other xs (t ∷ ts) s e =
     elim (one_or_two t s) [
-      inl h ↦ absurd (omega (arith, e, h.0))
+      | inl h ↦ absurd (omega (arith, e, h.0))
       | inr h ↦ get_or-put_other (without xs ts) t s None (λ p. h.1 (sym p)) ∙ get_or-without_other xs ts s (omega (arith, e, h.0))
     ]
 
@@ -118,7 +118,7 @@ pub get_or-without_same : {X : Type 0} (xs : List (Option X)) (ss : List ℕ) (s
 get_or-without_same xs [] s lt = absurd (omega arith)
 get_or-without_same xs (t ∷ ts) s lt =
     elim (one_or_two t s) [
-      inl h ↦ subst (λ z. get_or (put (without xs ts) t None) z None ≡ None) h.1 (get_or-put_same (without xs ts) t None)
+      | inl h ↦ subst (λ z. get_or (put (without xs ts) t None) z None ≡ None) h.1 (get_or-put_same (without xs ts) t None)
       | inr h ↦ get_or-put_other (without xs ts) t s None (λ p. h.1 (sym p)) ∙ get_or-without_same xs ts s (omega (arith, lt, h.0))
     ]
 
@@ -126,7 +126,7 @@ get_or-without_same xs (t ∷ ts) s lt =
 pub some-without : {X : Type 0} (xs : List (Option X)) (ss : List ℕ) (s : ℕ) (x : X) → get_or (without xs ss) s None ≡ Some x → (times s ss ≡ 0) × (get_or xs s None ≡ Some x)
 some-without xs ss s x e =
     elim (eqb_tells (times s ss) 0) [
-      inl h ↦ (h.1, sym (get_or-without_other xs ss s h.1) ∙ e)
+      | inl h ↦ (h.1, sym (get_or-without_other xs ss s h.1) ∙ e)
       | inr h ↦ let none = get_or-without_same xs ss s (omega (arith, h.1)) in absurd (cc (none, e))
     ]
 

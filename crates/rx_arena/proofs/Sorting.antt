@@ -129,11 +129,11 @@ module _ (init : ArenaState) (c : ℕ) (self : ArenaState) (inv : Sorting init c
         left = λ t h. ap (λ (z : List (Option Taken)). get_or z t None) cells_are ∙ inv.left t (was_left t h);
         left_in = λ t h. inv.left_in t (was_left t h);
         not_gray = λ t h. elim (one_or_two s t) [
-          inl y ↦ absurd (other t h (sym y.1))
+          | inl y ↦ absurd (other t h (sym y.1))
           | inr y ↦ (let z = ap (times t) gray_is ∙ inv.not_gray t (was_left t h) in omega (arith, y.0, z))
         ];
         loose = λ t h. elim (one_or_two s t) [
-          inl y ↦ subst (λ z. times_in z one.chains ≡ 0) y.1 free
+          | inl y ↦ subst (λ z. times_in z one.chains ≡ 0) y.1 free
           | inr y ↦ stays_loose t (inv.loose t (let is = ap (times t) gray_is in omega (arith, h, y.0, is)))
         ];
       })
@@ -202,19 +202,19 @@ module _ (init : ArenaState) (c : ℕ) (self : ArenaState) (inv : Restoring init
       let at : get_or (set one.chains c (s ∷ chain_at one c)) c [] ≡ s ∷ chain_at one c = get_or-set_same one.chains c (s ∷ chain_at one c) [] lt in
       let old : chain_at one c ≡ chain_at self c = ap (λ (z : List (List ℕ)). get_or z c []) one_chains in
       let chains : set one.chains c (s ∷ chain_at one c) ≡ set init.chains c (s ∷ chain_at one c) =
-          ap (λ z. set z c (s ∷ chain_at one c)) (one_chains ∙ ap (λ (v : ArenaState). v.chains) inv.same) ∙ set-set init.chains c (chain_at self c) (s ∷ chain_at one c) in
+      ap (λ z. set z c (s ∷ chain_at one c)) (one_chains ∙ ap (λ (v : ArenaState). v.chains) inv.same) ∙ set-set init.chains c (chain_at self c) (s ∷ chain_at one c) in
       let base : record one { chains = set init.chains c (s ∷ chain_at one c) } ≡ record init { chains = set init.chains c (s ∷ chain_at one c); gray = one.gray } =
-          ap (λ (v : ArenaState). record v { chains = set init.chains c (s ∷ chain_at one c) }) (rest ∙ ap (λ (v : ArenaState). record v { gray = one.gray }) inv.same) in
+      ap (λ (v : ArenaState). record v { chains = set init.chains c (s ∷ chain_at one c) }) (rest ∙ ap (λ (v : ArenaState). record v { gray = one.gray }) inv.same) in
       subst (Restoring init c) (sym e) (record {
         within = omega (arith, lt, length-set one.chains c (s ∷ chain_at one c));
         same = ap (λ z. record one { chains = z }) chains ∙ base ∙ ap (λ z. record init { chains = set init.chains c z; gray = one.gray }) (sym at);
         built = ap (λ z. reverse one.gray ++ z) at ∙ sym (reverse-cons s one.gray (chain_at one c)) ∙ (λ i. reverse (sym split i) ++ old i) ∙ inv.built;
         loose = λ t h. elim (one_or_two s t) [
-          inl y ↦ (let here : 0 < times s one.gray = subst (λ z. 0 < times z one.gray) (sym y.1) h in absurd (omega (arith, here, away)))
+          | inl y ↦ (let here : 0 < times s one.gray = subst (λ z. 0 < times z one.gray) (sym y.1) h in absurd (omega (arith, here, away)))
           | inr y ↦ (let was : 0 < times t self.gray = subst (λ z. 0 < times t z) (sym split) (omega (arith, h)) in
-          let none : times_in t one.chains ≡ 0 = ap (times_in t) one_chains ∙ inv.loose t was in
-          let count = times_in-set t one.chains c (s ∷ chain_at one c) lt in
-          omega (arith, none, count, y.0))
+              let none : times_in t one.chains ≡ 0 = ap (times_in t) one_chains ∙ inv.loose t was in
+              let count = times_in-set t one.chains c (s ∷ chain_at one c) lt in
+              omega (arith, none, count, y.0))
         ];
       })
 

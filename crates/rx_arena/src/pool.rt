@@ -6,9 +6,9 @@ ghost use Rattle.rx_arena.specs.Put.{put, filled, altered};
 ghost use Rattle.rx_arena.specs.Links.{Listed, Listed-prop, links};
 ghost use Rattle.rx_arena.specs.Pool.{spare_of};
 
+use crate::CellBody;
 use crate::fault::ArenaFault;
 use crate::store::Store;
-use crate::CellBody;
 use std::alloc::Global;
 use std::marker::Model;
 

@@ -22,10 +22,10 @@ pub returns-clause-spare : goal.returns-clause-spare
 returns-clause-spare c =
     let same : c.reuse.new.self ≡ c.args.self.now = none_of c.reuse.result (c.reuse.new.self ≡ c.args.self.now) c.in_default.not-Some c.reuse.ensures.none in
     let grew : spare_of c.reuse.new.self ≤ spare_of c.if-self-2.self =
-        elim c.if-self-2.branch [
-          then-self-2+in_ok-grow w ↦ subst (λ (v : PoolState). spare_of c.reuse.new.self ≤ spare_of v) (sym (w.self-is ∙ w.in_ok-grow.ensures.ok)) (omega arith)
-          | else-self-2 w ↦ subst (λ (v : PoolState). spare_of c.reuse.new.self ≤ spare_of v) (sym w.self-is) (omega arith)
-        ] in
+    elim c.if-self-2.branch [
+      | then-self-2+in_ok-grow w ↦ subst (λ (v : PoolState). spare_of c.reuse.new.self ≤ spare_of v) (sym (w.self-is ∙ w.in_ok-grow.ensures.ok)) (omega arith)
+      | else-self-2 w ↦ subst (λ (v : PoolState). spare_of c.reuse.new.self ≤ spare_of v) (sym w.self-is) (omega arith)
+    ] in
     let one = filled-taken c.if-self-2.self.cells c.extend.result (lone c.args.body) c.extend.ensures.was_free in
     subst (λ (v : PoolState). spare_of c.args.self.now ≤ spare_of v + 1) (sym c.extend.ensures.after)
     (subst (λ (u : PoolState). spare_of u ≤ (min c.if-self-2.self.cap c.if-self-2.self.room - filled (put c.if-self-2.self.cells c.extend.result (Some (lone c.args.body)))) + 1) same (omega (arith, grew, one)))
