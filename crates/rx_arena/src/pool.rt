@@ -65,13 +65,6 @@ impl Pool {
         }
     }
 
-    pub(crate) fn cap(&self) -> u32
-        ensures value { result ≡ self.now.cap }
-        ensures small { result ≤ 2 ^ 30 }
-    {
-        self.cap
-    }
-
     pub(crate) fn taken(&self) -> u32
         ensures value { result ≡ filled self.now.cells }
         ensures fits { result ≤ self.now.cap }
