@@ -1,4 +1,4 @@
-mod Told
+pub mod Told
 mod OneDue
 pub mod Walks
 pub mod Moves
@@ -8,6 +8,7 @@ pub mod ValueLemmas
 pub mod MatchLemmas
 pub mod EvaluationLemmas
 pub mod RuleLemmas
+pub mod PrinterLemmas
 mod EvaluationRows
 mod LargeRows
 mod TermRows

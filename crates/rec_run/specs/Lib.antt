@@ -4,4 +4,5 @@ pub mod Evaluated
 pub mod Laws
 pub mod Matched
 pub mod Output
+pub mod Printed
 pub mod Values
