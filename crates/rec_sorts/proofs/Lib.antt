@@ -14,3 +14,14 @@ pub mod Tables
 pub mod Subterms
 pub mod Stacks
 pub mod Meanings
+pub mod Turns
+pub mod Additions
+pub mod KeptNames
+pub mod Agreement
+pub mod Bound
+pub mod Conclusion
+pub mod RuleParts
+pub mod Lettering
+pub mod Declaring
+pub mod NamesThere
+pub mod Examining

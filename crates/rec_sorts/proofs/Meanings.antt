@@ -68,7 +68,7 @@ pub record IsDeclaredAt (ds : List Declaration) (us : List Word) (name : List �
 abbrev declared_test : Bool → Declaration → Option Declaration → Option Declaration
 declared_test b d o = elim b [ true ↦ Some d | false ↦ o ]
 
-some_same : (d e : Declaration) → ◌≡◌ {A = Option Declaration} (Some d) (Some e) → d ≡ e
+pub some_same : (d e : Declaration) → ◌≡◌ {A = Option Declaration} (Some d) (Some e) → d ≡ e
 some_same d e p = ap (λ o. value o) p
   where
     value : Option Declaration → Declaration
@@ -146,7 +146,7 @@ pub record IsNumberOf (ws : List Word) (name : List ℕ) (k : ℕ) : Type 0 wher
   pub within : k < length ws
   pub there : get_or (map (λ w. w.bytes) ws) k [] ≡ name
 
-some_number : (j k : ℕ) → ◌≡◌ {A = Option ℕ} (Some j) (Some k) → j ≡ k
+pub some_number : (j k : ℕ) → ◌≡◌ {A = Option ℕ} (Some j) (Some k) → j ≡ k
 some_number j k e = cc
 
 pub first_at-number : (ws : List Word) (name : List ℕ) (k : ℕ) → first_at ws name ≡ Some k → IsNumberOf ws name k

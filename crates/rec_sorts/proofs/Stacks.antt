@@ -6,13 +6,13 @@ use Rattle.std.specs.Prelude.{ℕ, ◌≡◌, ◌+◌, ◌-◌, List, [], ◌∷
 use Rattle.rec_syntax.specs.Tokens.{Word}
 use Rattle.rec_syntax.specs.Syntax.{Term, Terms, Apply, none, more, subterms, subterms_all}
 use Rattle.rec_syntax.specs.Nodes.{Node, flat, flat_all, term_count}
-use Rattle.rec_sorts.specs.Least.{earlier}
+use Rattle.rec_sorts.specs.Least.{earlier, least_of}
 use Rattle.rec_sorts.specs.Scope.{meaning_of, arguments_at}
 use Rattle.rec_sorts.specs.Letters.{placed_by, misplaced, ill_sorted_among}
 use Rattle.rec_sorts.specs.declared.scope.Scope.{Scope}
 use Rattle.rec_sorts.specs.declared.terms.Placed.{Placed}
 use Rattle.rec_sorts.proofs.LeastPlaces.{earlier_assoc, earlier_comm, earlier_none}
-use Rattle.rec_sorts.proofs.Subterms.{total, total-append}
+use Rattle.rec_sorts.proofs.Subterms.{least_of-append}
 
 pub map-append : {X Y : Type 0} (f : X → Y) (xs ys : List X) → map f (xs ++ ys) ≡ map f xs ++ map f ys
 map-append f [] ys = refl
@@ -46,30 +46,30 @@ split_off s hs ts w ps =
 
 mutual
   ill_sorted_among-flat : (s : Scope) (hs : List Placed) (t : Term) (ps : List Placed)
-      → ill_sorted_among s hs (map (placed_by s) (flat t) ++ ps) ≡ earlier (total (misplaced_in s) (subterms t)) (ill_sorted_among s (hs ++ head_of s t ∷ []) ps)
+      → ill_sorted_among s hs (map (placed_by s) (flat t) ++ ps) ≡ earlier (least_of (misplaced_in s) (subterms t)) (ill_sorted_among s (hs ++ head_of s t ∷ []) ps)
   ill_sorted_among-flat s hs (Apply w ts) ps =
       ap (λ zs. ill_sorted_among s hs (zs ++ ps)) (map-append (placed_by s) (flat_all ts) (record { word = w; count = term_count ts } ∷ []))
       ∙ ap (ill_sorted_among s hs) (append_assoc (map (placed_by s) (flat_all ts)) (head_of s (Apply w ts) ∷ []) ps)
       ∙ ill_sorted_among-flat_all s hs ts (head_of s (Apply w ts) ∷ ps)
-      ∙ ap (earlier (total (misplaced_in s) (subterms_all ts))) (split_off s hs ts w ps)
-      ∙ sym (earlier_assoc (total (misplaced_in s) (subterms_all ts)) (misplaced_in s (Apply w ts)) (ill_sorted_among s (hs ++ head_of s (Apply w ts) ∷ []) ps))
-      ∙ ap (λ p. earlier p (ill_sorted_among s (hs ++ head_of s (Apply w ts) ∷ []) ps)) (earlier_comm (total (misplaced_in s) (subterms_all ts)) (misplaced_in s (Apply w ts)))
+      ∙ ap (earlier (least_of (misplaced_in s) (subterms_all ts))) (split_off s hs ts w ps)
+      ∙ sym (earlier_assoc (least_of (misplaced_in s) (subterms_all ts)) (misplaced_in s (Apply w ts)) (ill_sorted_among s (hs ++ head_of s (Apply w ts) ∷ []) ps))
+      ∙ ap (λ p. earlier p (ill_sorted_among s (hs ++ head_of s (Apply w ts) ∷ []) ps)) (earlier_comm (least_of (misplaced_in s) (subterms_all ts)) (misplaced_in s (Apply w ts)))
 
   ill_sorted_among-flat_all : (s : Scope) (hs : List Placed) (ts : Terms) (ps : List Placed)
-      → ill_sorted_among s hs (map (placed_by s) (flat_all ts) ++ ps) ≡ earlier (total (misplaced_in s) (subterms_all ts)) (ill_sorted_among s (hs ++ heads_of s ts) ps)
+      → ill_sorted_among s hs (map (placed_by s) (flat_all ts) ++ ps) ≡ earlier (least_of (misplaced_in s) (subterms_all ts)) (ill_sorted_among s (hs ++ heads_of s ts) ps)
   ill_sorted_among-flat_all s hs none ps = ap (λ zs. ill_sorted_among s zs ps) (sym (append-nil hs))
   ill_sorted_among-flat_all s hs (more t ts) ps =
       ap (λ zs. ill_sorted_among s hs (zs ++ ps)) (map-append (placed_by s) (flat t) (flat_all ts))
       ∙ ap (ill_sorted_among s hs) (append_assoc (map (placed_by s) (flat t)) (map (placed_by s) (flat_all ts)) ps)
       ∙ ill_sorted_among-flat s hs t (map (placed_by s) (flat_all ts) ++ ps)
-      ∙ ap (earlier (total (misplaced_in s) (subterms t))) (ill_sorted_among-flat_all s (hs ++ head_of s t ∷ []) ts ps)
-      ∙ sym (earlier_assoc (total (misplaced_in s) (subterms t)) (total (misplaced_in s) (subterms_all ts)) (ill_sorted_among s ((hs ++ head_of s t ∷ []) ++ heads_of s ts) ps))
-      ∙ ap (λ p. earlier p (ill_sorted_among s ((hs ++ head_of s t ∷ []) ++ heads_of s ts) ps)) (sym (total-append (misplaced_in s) (subterms t) (subterms_all ts)))
-      ∙ ap (λ zs. earlier (total (misplaced_in s) (subterms t ++ subterms_all ts)) (ill_sorted_among s zs ps)) (append_assoc hs (head_of s t ∷ []) (heads_of s ts))
+      ∙ ap (earlier (least_of (misplaced_in s) (subterms t))) (ill_sorted_among-flat_all s (hs ++ head_of s t ∷ []) ts ps)
+      ∙ sym (earlier_assoc (least_of (misplaced_in s) (subterms t)) (least_of (misplaced_in s) (subterms_all ts)) (ill_sorted_among s ((hs ++ head_of s t ∷ []) ++ heads_of s ts) ps))
+      ∙ ap (λ p. earlier p (ill_sorted_among s ((hs ++ head_of s t ∷ []) ++ heads_of s ts) ps)) (sym (least_of-append (misplaced_in s) (subterms t) (subterms_all ts)))
+      ∙ ap (λ zs. earlier (least_of (misplaced_in s) (subterms t ++ subterms_all ts)) (ill_sorted_among s zs ps)) (append_assoc hs (head_of s t ∷ []) (heads_of s ts))
 
 -- what the walk over a term's words finds is what its subterms have
-pub ill_sorted_among-term : (s : Scope) (t : Term) → ill_sorted_among s [] (map (placed_by s) (flat t)) ≡ total (misplaced_in s) (subterms t)
+pub ill_sorted_among-term : (s : Scope) (t : Term) → ill_sorted_among s [] (map (placed_by s) (flat t)) ≡ least_of (misplaced_in s) (subterms t)
 ill_sorted_among-term s t =
     ap (ill_sorted_among s []) (sym (append-nil (map (placed_by s) (flat t))))
     ∙ ill_sorted_among-flat s [] t []
-    ∙ earlier_none (total (misplaced_in s) (subterms t))
+    ∙ earlier_none (least_of (misplaced_in s) (subterms t))

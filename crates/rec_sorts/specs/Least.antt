@@ -9,10 +9,14 @@ earlier (Some p) (Some q) = Some (min p q)
 earlier (Some p) None = Some p
 earlier None q = q
 
+-- the least of the places of some things
+abbrev pub least_of : {X : Type 0} → (X → Option ℕ) → List X → Option ℕ
+least_of f [] = None
+least_of f (x ∷ xs) = earlier (f x) (least_of f xs)
+
 -- the least place of some words
 abbrev pub least_place : List Word → Option ℕ
-least_place [] = None
-least_place (w ∷ ws) = earlier (Some w.at) (least_place ws)
+least_place ws = least_of (λ w. Some w.at) ws
 
 -- the place, where the flag is set
 abbrev pub place_where : Bool → ℕ → Option ℕ

@@ -2,7 +2,7 @@
 use Rattle.std.specs.Prelude.{ℕ, ◌-◌, Bool, true, false, not, List, [], ◌∷◌, ◌++◌, Option, Some, None, length, map, take, drop, nat_eq, is_none, unwrap_or}
 use Rattle.std.specs.Option.{option_eq}
 use Rattle.rec_syntax.specs.Nodes.{Node}
-use Rattle.rec_sorts.specs.Least.{earlier, place_where}
+use Rattle.rec_sorts.specs.Least.{earlier, least_of, place_where}
 use Rattle.rec_sorts.specs.Scope.{meaning_of, sort_at, arguments_at}
 use Rattle.rec_sorts.specs.declared.letters.Letter.{Letter}
 use Rattle.rec_sorts.specs.declared.letters.Meaning.TheVariants.{Symbol, Variable}
@@ -22,13 +22,11 @@ bare ps = map letter_of ps
 
 -- the least place of a word that is not declared
 abbrev pub unknown_among : List Placed → Option ℕ
-unknown_among [] = None
-unknown_among (p ∷ ps) = earlier (place_where (is_none p.meaning) p.at) (unknown_among ps)
+unknown_among ps = least_of (λ p. place_where (is_none p.meaning) p.at) ps
 
 -- the least place of a word with another number of arguments than declared
 abbrev pub ill_filled_among : Scope → List Placed → Option ℕ
-ill_filled_among s [] = None
-ill_filled_among s (p ∷ ps) = earlier (place_where (not (nat_eq p.count (length (arguments_at s p.meaning)))) p.at) (ill_filled_among s ps)
+ill_filled_among s ps = least_of (λ p. place_where (not (nat_eq p.count (length (arguments_at s p.meaning)))) p.at) ps
 
 -- the least place of a word of another sort than the one for it
 abbrev pub misplaced : Scope → List Placed → List (Option ℕ) → Option ℕ

@@ -4,7 +4,7 @@ use Rattle.std.specs.List.{list_any}
 use Rattle.std.specs.Option.{option_eq}
 use Rattle.rec_syntax.specs.Syntax.{Term, Condition, Rule}
 use Rattle.rec_syntax.specs.Nodes.{flat}
-use Rattle.rec_sorts.specs.Least.{earlier, place_where, joined}
+use Rattle.rec_sorts.specs.Least.{earlier, least_of, place_where, joined}
 use Rattle.rec_sorts.specs.Scope.{sort_at, is_operator}
 use Rattle.rec_sorts.specs.Letters.{placed_by, bare, unknown_among, ill_filled_among, ill_sorted_among}
 use Rattle.rec_sorts.specs.Numbering.{Pairwise}
@@ -67,8 +67,7 @@ is_unbound bound _ = false
 
 -- the least place of a variable that is not bound
 abbrev pub unbound_among : (ℕ → Bool) → List Placed → Option ℕ
-unbound_among bound [] = None
-unbound_among bound (p ∷ ps) = earlier (place_where (is_unbound bound p.meaning) p.at) (unbound_among bound ps)
+unbound_among bound ps = least_of (λ p. place_where (is_unbound bound p.meaning) p.at) ps
 
 -- where a condition of a rule with these variables breaks a rule
 abbrev pub condition_places : Scope → (ℕ → Bool) → Condition → TermPlaces

@@ -6,7 +6,7 @@ ghost use Rattle.rec_syntax.specs.Lexemes.{word_of};
 ghost use Rattle.rec_sorts.specs.Names.{given_to, numbers_after, least_repeated};
 
 use crate::names::Names;
-use crate::places::{earlier, number};
+use crate::places::{earlier, number, place_where};
 use rec_syntax::{Declaration, Group, Span};
 use std::alloc::{AllocError, Global};
 
@@ -42,9 +42,8 @@ pub fn number_words<'a>(
     let mut repeated = None;
     for (i, word) in words.iter().enumerate() {
         let at = number(word.from)?;
-        if !names.give(&source[word.from..word.to], number(first + i)?)? {
-            repeated = earlier(repeated, Some(at));
-        }
+        let fresh = names.give(&source[word.from..word.to], number(first + i)?)?;
+        repeated = earlier(repeated, place_where(!fresh, at));
     }
     Ok(repeated)
 }
@@ -59,10 +58,8 @@ impl<'a> Sorts<'a> {
         ensures missing { IfOk result (λ r. r.1 ≡ unnumbered (given_to self.now.names) (word_of self.now.source.now word)) }
     {
         let at = number(word.from)?;
-        match self.names.number(&self.source[word.from..word.to]) {
-            Some(sort) => Ok((Some(sort), None)),
-            None => Ok((None, Some(at))),
-        }
+        let sort = self.names.number(&self.source[word.from..word.to]);
+        Ok((sort, place_where(sort.is_none(), at)))
     }
 
     // The numbers of some sorts, and the least place of one that has none.

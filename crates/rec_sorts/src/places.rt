@@ -1,7 +1,7 @@
 //! The least places at which rules are broken.
 
 ghost use Rattle.std.specs.Prelude.{◌≡◌, IfOk};
-ghost use Rattle.rec_sorts.specs.Least.{earlier, joined};
+ghost use Rattle.rec_sorts.specs.Least.{earlier, place_where, joined};
 
 use std::alloc::AllocError;
 
@@ -14,6 +14,13 @@ pub fn earlier(first: Option<u32>, second: Option<u32>) -> Option<u32>
         (Some(first), None) => Some(first),
         (None, second) => second,
     }
+}
+
+/// The place, where a rule is broken there.
+pub fn place_where(broken: bool, at: u32) -> Option<u32>
+    ensures { result ≡ place_where broken at }
+{
+    if broken { Some(at) } else { None }
 }
 
 /// The least place at which each rule of the terms is broken.

@@ -4,10 +4,10 @@ ghost use Rattle.std.specs.Prelude.{◌≡◌, ℕ, All, IfOk, false, map, nat_e
 ghost use Rattle.std.specs.HashSet.{contains};
 ghost use Rattle.rec_syntax.specs.Parts.{IsTerm, IsRule, IsCondition, term_of, condition_of, rule_of};
 ghost use Rattle.rec_sorts.specs.Numbering.{Pairwise};
-ghost use Rattle.rec_sorts.specs.Reading.{binds_variable, unbound_among};
+ghost use Rattle.rec_sorts.specs.Reading.{binds_variable, is_unbound, unbound_among};
 
 use crate::letters::{Letter, LetterCondition, LetterRule, Meaning};
-use crate::places::{TermPlaces, earlier};
+use crate::places::{TermPlaces, earlier, place_where};
 use crate::scope::Scope;
 use crate::terms::{Placed, bare_letters};
 use rec_syntax::{Condition, Rule, Term};
@@ -34,19 +34,35 @@ fn variables(alloc: Global, letters: &[Placed]) -> Result<HashSet<u32>, AllocErr
     Ok(variables)
 }
 
+// Whether a word is a variable that is not bound.
+fn is_unbound(meaning: Option<Meaning>, bound: &HashSet<u32>) -> bool
+    ensures { result ≡ is_unbound (contains nat_eq bound.now) meaning }
+{
+    match meaning {
+        Some(Meaning::Variable(number)) => !bound.contains(&number),
+        _ => false,
+    }
+}
+
 // The least place of a variable that is not bound.
 fn unbound(letters: &[Placed], bound: &HashSet<u32>) -> Option<u32>
     ensures { result ≡ unbound_among (contains nat_eq bound.now) letters.now }
 {
     let mut least = None;
     for placed in letters {
-        if let Some(Meaning::Variable(number)) = placed.meaning
-            && !bound.contains(&number)
-        {
-            least = earlier(least, Some(placed.at));
-        }
+        least = earlier(
+            least,
+            place_where(is_unbound(placed.meaning, bound), placed.at),
+        );
     }
     least
+}
+
+// Whether a word is a variable.
+fn is_variable(meaning: Option<Meaning>) -> bool
+    ensures { result ≡ is_unbound (λ _. false) meaning }
+{
+    matches!(meaning, Some(Meaning::Variable(_)))
 }
 
 // The least place of a variable.
@@ -55,9 +71,7 @@ fn first_variable(letters: &[Placed]) -> Option<u32>
 {
     let mut least = None;
     for placed in letters {
-        if let Some(Meaning::Variable(_)) = placed.meaning {
-            least = earlier(least, Some(placed.at));
-        }
+        least = earlier(least, place_where(is_variable(placed.meaning), placed.at));
     }
     least
 }
@@ -70,11 +84,7 @@ impl Scope<'_> {
         ensures { result ≡ ill_headed_at self.now letters.now }
     {
         let head = letters.last()?;
-        if self.is_operator(head.meaning) {
-            None
-        } else {
-            Some(head.at)
-        }
+        place_where(!self.is_operator(head.meaning), head.at)
     }
 
     // The place of the left one of two terms, where their sorts differ.
@@ -83,11 +93,8 @@ impl Scope<'_> {
     {
         let left = left.last()?;
         let right = right.last()?;
-        if self.sort(left.meaning) == self.sort(right.meaning) {
-            None
-        } else {
-            Some(left.at)
-        }
+        let alike = self.sort(left.meaning) == self.sort(right.meaning);
+        place_where(!alike, left.at)
     }
 
     // A condition of a rule that binds these variables.

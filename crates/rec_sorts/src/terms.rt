@@ -5,7 +5,7 @@ ghost use Rattle.rec_syntax.specs.Parts.{Within, IsTerm, node_of, term_of};
 ghost use Rattle.rec_sorts.specs.Letters.{bare, unknown_among};
 
 use crate::letters::{Letter, Meaning};
-use crate::places::{TermPlaces, earlier, number};
+use crate::places::{TermPlaces, earlier, number, place_where};
 use crate::scope::Scope;
 use rec_syntax::{Node, Term};
 use std::alloc::{AllocError, Global};
@@ -44,9 +44,7 @@ fn unknown(letters: &[Placed]) -> Option<u32>
 {
     let mut least = None;
     for placed in letters {
-        if placed.meaning.is_none() {
-            least = earlier(least, Some(placed.at));
-        }
+        least = earlier(least, place_where(placed.meaning.is_none(), placed.at));
     }
     least
 }
@@ -77,9 +75,8 @@ impl Scope<'_> {
     {
         let mut least = None;
         for placed in letters {
-            if placed.count as usize != self.arguments(placed.meaning).len() {
-                least = earlier(least, Some(placed.at));
-            }
+            let filled = placed.count as usize == self.arguments(placed.meaning).len();
+            least = earlier(least, place_where(!filled, placed.at));
         }
         least
     }
@@ -90,9 +87,8 @@ impl Scope<'_> {
     {
         let mut least = None;
         for (argument, sort) in arguments.iter().zip(sorts) {
-            if self.sort(argument.meaning) != *sort {
-                least = earlier(least, Some(argument.at));
-            }
+            let fits = self.sort(argument.meaning) == *sort;
+            least = earlier(least, place_where(!fits, argument.at));
         }
         least
     }

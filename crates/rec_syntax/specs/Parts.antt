@@ -1,9 +1,10 @@
 -- What the parts of a specification that was read stand for.
-use Rattle.std.specs.Prelude.{ℕ, ◌≡◌, ◌≤◌, List, length, map, All}
+use Rattle.std.specs.Prelude.{ℕ, ◌≡◌, List, map, All}
 use Rattle.rec_syntax.specs.Tokens.{Word}
 use Rattle.rec_syntax.specs.Syntax as syntax
 use Rattle.rec_syntax.specs.Nodes as nodes
 use Rattle.rec_syntax.specs.Nodes.{flat, spelled_by}
+pub use Rattle.rec_syntax.specs.Lexemes.{Within}
 use Rattle.rec_syntax.specs.Lexemes.{word_of}
 use Rattle.rec_syntax.specs.declared.lexer.Span.{Span}
 use Rattle.rec_syntax.specs.declared.parts.Node.{Node}
@@ -47,11 +48,6 @@ spec_of source s = record {
   rules = map (rule_of source) s.rules.items;
   terms = map (term_of source) s.terms.items;
 }
-
--- the span lies within the source
-pub record Within (source : List ℕ) (s : Span) : Type 0 where
-  pub order : s.from ≤ s.to
-  pub end : s.to ≤ length source
 
 -- the nodes are those of one term, and its words lie within the source
 pub record IsTerm (source : List ℕ) (t : Term) : Type 0 where

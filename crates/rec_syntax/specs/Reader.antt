@@ -6,13 +6,13 @@ use Rattle.rec_syntax.specs.Nodes as nodes
 use Rattle.rec_syntax.specs.Nodes.{newest, joined, made_by, newest_term}
 use Rattle.rec_syntax.specs.Machine as machine
 use Rattle.rec_syntax.specs.Machine.{Frame, Config}
-use Rattle.rec_syntax.specs.Lexemes.{word_of, section_of, token_of}
-use Rattle.rec_syntax.specs.Parts.{words_of, node_of, term_of, condition_of, spec_of, Within, IsTerm, IsRule, AreSections}
+use Rattle.rec_syntax.specs.Lexemes.{word_of, section_of, token_of, Within}
+use Rattle.rec_syntax.specs.Parts.{words_of, node_of, term_of, condition_of, spec_of, IsTerm, IsRule, AreSections}
 use Rattle.rec_syntax.specs.declared.lexer.Span.{Span}
 use Rattle.rec_syntax.specs.declared.lexer.Part.{Part}
 use Rattle.rec_syntax.specs.declared.lexer.Kind.{Kind}
-use Rattle.rec_syntax.specs.declared.lexer.Kind.TheVariants.{Plain}
 use Rattle.rec_syntax.specs.declared.parts.Node.{Node}
+use Rattle.rec_syntax.specs.declared.parts.Term.{Term}
 use Rattle.rec_syntax.specs.declared.reader.Symbols.{Symbols}
 use Rattle.rec_syntax.specs.declared.reader.Symbols.TheVariants.{Constructors, Operators}
 use Rattle.rec_syntax.specs.declared.reader.Role.{Role}
@@ -135,13 +135,20 @@ pub record IsState (bytes : List ℕ) (d : Due) (r : Reader) : Type 0 where
   pub sections : AreSections bytes r.sections
   pub due : HoldsDue bytes d r
 
--- a token's word lies within the text
-abbrev pub IsToken : List ℕ → Kind → Type 0
-IsToken bytes (Plain s) = Within bytes s
-IsToken bytes k = Unit {0}
-
 -- a step of the machine, unless memory ran out
 abbrev pub Moves : List ℕ → Option Config → Result Due Stop → Reader → Type 0
 Moves bytes moved (Ok d) r = (moved ≡ Some (config_of bytes d r)) × IsState bytes d r
 Moves bytes moved (Err stop.Refused) r = moved ≡ None
 Moves bytes moved (Err stop.Memory) r = Unit {0}
+
+-- the reader is in a state, with this due
+abbrev pub IsAt : Due → Reader → Type 0
+IsAt d r = IsState r.source.items d r
+
+-- where this is due, a token leads to where the machine goes
+abbrev pub Steps : Due → Reader → Kind → Result Due Stop → Reader → Type 0
+Steps d r k result after = Moves r.source.items (advance r.source.items d r k) result after
+
+-- behind a whole term in this role, a token leads to where the machine goes
+abbrev pub Completes : Role → Term → Reader → Kind → Result Due Stop → Reader → Type 0
+Completes p t r k result after = Moves r.source.items (machine.complete (role_of r.source.items p) (term_of r.source.items t) (spec_of r.source.items r.sections) (token_of r.source.items k)) result after

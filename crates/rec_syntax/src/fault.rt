@@ -1,6 +1,5 @@
 //! Why a text is not read.
 
-use std::alloc::AllocError;
 use thiserror::Error;
 
 /// Why no specification is read.
@@ -12,6 +11,7 @@ pub enum SyntaxFault {
     /// The text is outside the grammar; the place is that of the first token that no text has there.
     #[error("the text is outside the grammar at {at}")]
     Grammar { at: u32 },
+    /// Memory ran out.
     #[error("out of memory")]
     Memory,
 }

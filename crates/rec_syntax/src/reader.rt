@@ -3,8 +3,9 @@
 ghost use Rattle.std.specs.Prelude.{◌≡◌, ◌<◌, ◌≤◌, ◌↔◌, [], length, IfOk, IfErr, IsErrOf};
 ghost use Rattle.rec_syntax.specs.Grammar.{SpecText};
 ghost use Rattle.rec_syntax.specs.Answer.{IsPlaced};
-ghost use Rattle.rec_syntax.specs.Parts.{AreSections};
-ghost use Rattle.rec_syntax.specs.Reader.{advance, IsState, IsToken, Moves};
+ghost use Rattle.rec_syntax.specs.Lexemes.{IsToken};
+ghost use Rattle.rec_syntax.specs.Machine.{start};
+ghost use Rattle.rec_syntax.specs.Reader.{config_of, IsState, IsAt, Steps};
 
 mod items;
 mod terms;
@@ -92,6 +93,7 @@ pub struct Reader {
 impl Reader {
     fn new(alloc: Global, source: Vec<u8>) -> Self
         ensures source { result.source ≡ source }
+        ensures start { config_of source.items Due.Start result ≡ start }
         ensures state { IsState source.items Due.Start result }
     {
         Reader {
@@ -115,9 +117,9 @@ impl Reader {
 
     // The next token.
     fn step(&mut self, due: Due, token: Kind) -> Result<Due, Stop>
-        requires state { IsState self.old.source.items due self.old }
+        requires state { IsAt due self.old }
         requires token { IsToken self.old.source.items token }
-        ensures moves { Moves self.old.source.items (advance self.old.source.items due self.old token) result self.new }
+        ensures moves { Steps due self.old token result self.new }
         ensures same { self.new.source ≡ self.old.source }
     {
         match due {
@@ -168,16 +170,13 @@ fn read(alloc: Global, source: Vec<u8>) -> Result<Syntax, SyntaxFault>
             }
         };
         if let Kind::End = lexeme.kind {
-            return Ok(Syntax {
-                source: reader.source,
-                sections: reader.sections,
-            });
+            return Ok(Syntax::new(reader.source, reader.sections));
         }
         from = lexeme.to;
     }
 }
 
-/// The specification that the bytes spell. Where memory runs out, that comes before a fault of the grammar.
+/// The specification that the bytes spell. A text that is too long is refused before memory is asked for.
 pub fn read_spec(alloc: Global, bytes: &[u8]) -> Result<Syntax, SyntaxFault>
     ensures source { IfOk result (λ s. s.source ≡ bytes.now) }
     ensures spelled { IfOk result (λ s. SpecText bytes.now s.spec) }

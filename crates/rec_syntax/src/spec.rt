@@ -1,8 +1,8 @@
 //! A specification that was read, with its text.
 
-ghost use Rattle.std.specs.Prelude.{◌≡◌, map, All};
-ghost use Rattle.rec_syntax.specs.Lexemes.{word_of};
-ghost use Rattle.rec_syntax.specs.Parts.{declaration_of, group_of, rule_of, term_of, Within, IsDeclaration, IsGroup, IsRule, IsTerm};
+ghost use Rattle.std.specs.Prelude.{◌≡◌, ◌≤◌, length, map, All};
+ghost use Rattle.rec_syntax.specs.Lexemes.{word_of, Within};
+ghost use Rattle.rec_syntax.specs.Parts.{declaration_of, group_of, rule_of, term_of, spec_of, AreSections, IsDeclaration, IsGroup, IsRule, IsTerm};
 
 use crate::lexer::Span;
 use crate::parts::{Declaration, Group, Rule, Sections, Term};
@@ -14,8 +14,8 @@ pub const LONGEST: usize = 16_777_216;
 /// A specification and the text that spells it: contracts see the text and the syntax tree.
 #[derive(Drop)]
 pub struct Syntax {
-    pub(crate) source: Vec<u8>,
-    pub(crate) sections: Sections,
+    source: Vec<u8>,
+    sections: Sections,
 }
 
 impl Model for Syntax {
@@ -34,11 +34,29 @@ impl Model for Syntax {
 }
 
 impl Syntax {
+    pub(crate) fn new(source: Vec<u8>, sections: Sections) -> Self
+        requires short { length source.items ≤ LONGEST }
+        requires sections { AreSections source.items sections }
+        ensures source { result.source ≡ source.items }
+        ensures spec { result.spec ≡ spec_of source.items sections }
+    {
+        Syntax { source, sections }
+    }
+
     /// The text.
     pub fn source(&self) -> &[u8]
-        ensures { result.now ≡ self.now.source }
+        ensures text { result.now ≡ self.now.source }
+        ensures short { length result.now ≤ LONGEST }
     {
-        &self.source
+        self.source.as_slice()
+    }
+
+    /// The bytes of a word.
+    pub fn word(&self, span: Span) -> &[u8]
+        requires { Within self.now.source span }
+        ensures { result.now ≡ (word_of self.now.source span).bytes }
+    {
+        &self.source[span.from..span.to]
     }
 
     /// The specification's name.

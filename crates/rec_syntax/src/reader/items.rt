@@ -1,10 +1,10 @@
 //! The title, and the items of the sections before the rules.
 
 ghost use Rattle.std.specs.Prelude.{◌≡◌};
-ghost use Rattle.rec_syntax.specs.Lexemes.{word_of, section_of, token_of};
-ghost use Rattle.rec_syntax.specs.Machine.{later, between, item};
-ghost use Rattle.rec_syntax.specs.Parts.{spec_of, Within, AreSections};
-ghost use Rattle.rec_syntax.specs.Reader.{level_of, advance, IsState, IsToken, Moves};
+ghost use Rattle.rec_syntax.specs.Lexemes.{section_of, Within, IsToken};
+ghost use Rattle.rec_syntax.specs.Machine.{later};
+ghost use Rattle.rec_syntax.specs.Parts.{AreSections};
+ghost use Rattle.rec_syntax.specs.Reader.{level_of, IsAt, Steps};
 
 use super::{Due, Reader, Role, Stop, Symbols};
 use crate::lexer::{Kind, Part, Span};
@@ -24,9 +24,9 @@ fn is_later(level: Option<Part>, part: Part) -> bool
 impl Reader {
     // After REC-SPEC: the name.
     pub(super) fn title(&mut self, token: Kind) -> Result<Due, Stop>
-        requires state { IsState self.old.source.items Due.Title self.old }
+        requires state { IsAt Due.Title self.old }
         requires token { IsToken self.old.source.items token }
-        ensures moves { Moves self.old.source.items (advance self.old.source.items Due.Title self.old token) result self.new }
+        ensures moves { Steps Due.Title self.old token result self.new }
         ensures same { self.new.source ≡ self.old.source }
     {
         match token {
@@ -42,7 +42,7 @@ impl Reader {
     fn item(&mut self, level: Option<Part>, word: Span) -> Result<Due, Stop>
         requires sections { AreSections self.old.source.items self.old.sections }
         requires word { Within self.old.source.items word }
-        ensures moves { Moves self.old.source.items (item (level_of level) (spec_of self.old.source.items self.old.sections) (word_of self.old.source.items word)) result self.new }
+        ensures moves { Steps (Due.Between level) self.old (Kind.Plain word) result self.new }
         ensures same { self.new.source ≡ self.old.source }
     {
         match level {
@@ -72,7 +72,7 @@ impl Reader {
     pub(super) fn between(&mut self, level: Option<Part>, token: Kind) -> Result<Due, Stop>
         requires sections { AreSections self.old.source.items self.old.sections }
         requires token { IsToken self.old.source.items token }
-        ensures moves { Moves self.old.source.items (between (level_of level) (spec_of self.old.source.items self.old.sections) (token_of self.old.source.items token)) result self.new }
+        ensures moves { Steps (Due.Between level) self.old token result self.new }
         ensures same { self.new.source ≡ self.old.source }
     {
         match token {
@@ -91,9 +91,9 @@ impl Reader {
 
     // After a declaration's word: the colon.
     pub(super) fn named(&mut self, symbols: Symbols, name: Span, token: Kind) -> Result<Due, Stop>
-        requires state { IsState self.old.source.items (Due.Named symbols name) self.old }
+        requires state { IsAt (Due.Named symbols name) self.old }
         requires token { IsToken self.old.source.items token }
-        ensures moves { Moves self.old.source.items (advance self.old.source.items (Due.Named symbols name) self.old token) result self.new }
+        ensures moves { Steps (Due.Named symbols name) self.old token result self.new }
         ensures same { self.new.source ≡ self.old.source }
     {
         match token {
@@ -112,9 +112,9 @@ impl Reader {
         name: Span,
         token: Kind,
     ) -> Result<Due, Stop>
-        requires state { IsState self.old.source.items (Due.Arguments symbols name) self.old }
+        requires state { IsAt (Due.Arguments symbols name) self.old }
         requires token { IsToken self.old.source.items token }
-        ensures moves { Moves self.old.source.items (advance self.old.source.items (Due.Arguments symbols name) self.old token) result self.new }
+        ensures moves { Steps (Due.Arguments symbols name) self.old token result self.new }
         ensures same { self.new.source ≡ self.old.source }
     {
         match token {
@@ -134,9 +134,9 @@ impl Reader {
         name: Span,
         token: Kind,
     ) -> Result<Due, Stop>
-        requires state { IsState self.old.source.items (Due.ResultSort symbols name) self.old }
+        requires state { IsAt (Due.ResultSort symbols name) self.old }
         requires token { IsToken self.old.source.items token }
-        ensures moves { Moves self.old.source.items (advance self.old.source.items (Due.ResultSort symbols name) self.old token) result self.new }
+        ensures moves { Steps (Due.ResultSort symbols name) self.old token result self.new }
         ensures same { self.new.source ≡ self.old.source }
     {
         match token {
@@ -164,9 +164,9 @@ impl Reader {
 
     // After a group's first word: the others, and the colon.
     pub(super) fn grouped(&mut self, first: Span, token: Kind) -> Result<Due, Stop>
-        requires state { IsState self.old.source.items (Due.Grouped first) self.old }
+        requires state { IsAt (Due.Grouped first) self.old }
         requires token { IsToken self.old.source.items token }
-        ensures moves { Moves self.old.source.items (advance self.old.source.items (Due.Grouped first) self.old token) result self.new }
+        ensures moves { Steps (Due.Grouped first) self.old token result self.new }
         ensures same { self.new.source ≡ self.old.source }
     {
         match token {
@@ -181,9 +181,9 @@ impl Reader {
 
     // After a group's colon: the sort.
     pub(super) fn group_sort(&mut self, first: Span, token: Kind) -> Result<Due, Stop>
-        requires state { IsState self.old.source.items (Due.GroupSort first) self.old }
+        requires state { IsAt (Due.GroupSort first) self.old }
         requires token { IsToken self.old.source.items token }
-        ensures moves { Moves self.old.source.items (advance self.old.source.items (Due.GroupSort first) self.old token) result self.new }
+        ensures moves { Steps (Due.GroupSort first) self.old token result self.new }
         ensures same { self.new.source ≡ self.old.source }
     {
         match token {

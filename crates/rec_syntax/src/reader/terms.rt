@@ -1,12 +1,9 @@
 //! Terms, and the rules and the terms to evaluate that are made of them.
 
 ghost use Rattle.std.specs.Prelude.{◌≡◌, []};
-ghost use Rattle.rec_syntax.specs.Lexemes.{token_of};
-ghost use Rattle.rec_syntax.specs.Machine as machine;
-ghost use Rattle.rec_syntax.specs.Machine.{complete};
-ghost use Rattle.rec_syntax.specs.Nodes.{newest_term};
-ghost use Rattle.rec_syntax.specs.Parts.{term_of, spec_of, IsTerm, IsCondition, IsRule, AreSections};
-ghost use Rattle.rec_syntax.specs.Reader.{role_of, made_of, advance, IsRole, IsState, IsToken, Moves};
+ghost use Rattle.rec_syntax.specs.Lexemes.{IsToken};
+ghost use Rattle.rec_syntax.specs.Parts.{IsTerm, IsCondition, IsRule, AreSections};
+ghost use Rattle.rec_syntax.specs.Reader.{IsAt, Steps, Completes};
 
 use super::{Call, Due, Reader, Role, Stop};
 use crate::lexer::{Kind, Part, Span};
@@ -29,9 +26,9 @@ impl Reader {
 
     // A term's word.
     pub(super) fn at_term(&mut self, token: Kind) -> Result<Due, Stop>
-        requires state { IsState self.old.source.items Due.AtTerm self.old }
+        requires state { IsAt Due.AtTerm self.old }
         requires token { IsToken self.old.source.items token }
-        ensures moves { Moves self.old.source.items (advance self.old.source.items Due.AtTerm self.old token) result self.new }
+        ensures moves { Steps Due.AtTerm self.old token result self.new }
         ensures same { self.new.source ≡ self.old.source }
     {
         match token {
@@ -42,9 +39,9 @@ impl Reader {
 
     // After a term's word: an opening parenthesis, or what follows a term.
     pub(super) fn called(&mut self, word: Span, token: Kind) -> Result<Due, Stop>
-        requires state { IsState self.old.source.items (Due.Called word) self.old }
+        requires state { IsAt (Due.Called word) self.old }
         requires token { IsToken self.old.source.items token }
-        ensures moves { Moves self.old.source.items (advance self.old.source.items (Due.Called word) self.old token) result self.new }
+        ensures moves { Steps (Due.Called word) self.old token result self.new }
         ensures same { self.new.source ≡ self.old.source }
     {
         match token {
@@ -58,9 +55,9 @@ impl Reader {
 
     // After an opening parenthesis: the first argument, or the closing one.
     pub(super) fn first(&mut self, word: Span, token: Kind) -> Result<Due, Stop>
-        requires state { IsState self.old.source.items (Due.First word) self.old }
+        requires state { IsAt (Due.First word) self.old }
         requires token { IsToken self.old.source.items token }
-        ensures moves { Moves self.old.source.items (advance self.old.source.items (Due.First word) self.old token) result self.new }
+        ensures moves { Steps (Due.First word) self.old token result self.new }
         ensures same { self.new.source ≡ self.old.source }
     {
         match token {
@@ -78,9 +75,9 @@ impl Reader {
 
     // After a whole term.
     pub(super) fn after(&mut self, token: Kind) -> Result<Due, Stop>
-        requires state { IsState self.old.source.items Due.After self.old }
+        requires state { IsAt Due.After self.old }
         requires token { IsToken self.old.source.items token }
-        ensures moves { Moves self.old.source.items (advance self.old.source.items Due.After self.old token) result self.new }
+        ensures moves { Steps Due.After self.old token result self.new }
         ensures same { self.new.source ≡ self.old.source }
     {
         match self.calls.pop() {
@@ -107,10 +104,10 @@ impl Reader {
 
     // After a whole term that is no argument.
     fn complete(&mut self, token: Kind) -> Result<Due, Stop>
-        requires state { IsState self.old.source.items Due.After self.old }
+        requires state { IsAt Due.After self.old }
         requires alone { self.old.calls.items ≡ [] }
         requires token { IsToken self.old.source.items token }
-        ensures moves { let bytes = self.old.source.items in Moves bytes (complete (role_of bytes self.old.role) (newest_term (made_of bytes self.old.nodes.items)) (spec_of bytes self.old.sections) (token_of bytes token)) result self.new }
+        ensures moves { Completes self.old.role (record { nodes = self.old.nodes }) self.old token result self.new }
         ensures same { self.new.source ≡ self.old.source }
     {
         let nodes = mem::replace(&mut self.nodes, Vec::new(self.alloc));
@@ -138,7 +135,7 @@ impl Reader {
     fn after_left(&mut self, left: Term, token: Kind) -> Result<Due, Stop>
         requires sections { AreSections self.old.source.items self.old.sections }
         requires left { IsTerm self.old.source.items left }
-        ensures moves { let bytes = self.old.source.items in Moves bytes (complete machine.Left (term_of bytes left) (spec_of bytes self.old.sections) (token_of bytes token)) result self.new }
+        ensures moves { Completes Role.Left left self.old token result self.new }
         ensures same { self.new.source ≡ self.old.source }
     {
         match token {
@@ -156,7 +153,7 @@ impl Reader {
         requires left { IsTerm self.old.source.items left }
         requires right { IsTerm self.old.source.items right }
         requires token { IsToken self.old.source.items token }
-        ensures moves { let bytes = self.old.source.items in Moves bytes (complete (machine.Right (term_of bytes left)) (term_of bytes right) (spec_of bytes self.old.sections) (token_of bytes token)) result self.new }
+        ensures moves { Completes (Role.Right left) right self.old token result self.new }
         ensures same { self.new.source ≡ self.old.source }
     {
         let rule = Rule {
@@ -181,7 +178,7 @@ impl Reader {
         requires sections { AreSections self.old.source.items self.old.sections }
         requires rule { IsRule self.old.source.items rule }
         requires left { IsTerm self.old.source.items left }
-        ensures moves { let bytes = self.old.source.items in Moves bytes (complete (role_of bytes (Role.ConditionLeft rule)) (term_of bytes left) (spec_of bytes self.old.sections) (token_of bytes token)) result self.new }
+        ensures moves { Completes (Role.ConditionLeft rule) left self.old token result self.new }
         ensures same { self.new.source ≡ self.old.source }
     {
         match token {
@@ -208,7 +205,7 @@ impl Reader {
         requires rule { IsRule self.old.source.items rule }
         requires condition { IsCondition self.old.source.items condition }
         requires token { IsToken self.old.source.items token }
-        ensures moves { let bytes = self.old.source.items in Moves bytes (complete (role_of bytes (Role.ConditionRight rule condition.left condition.equal)) (term_of bytes condition.right) (spec_of bytes self.old.sections) (token_of bytes token)) result self.new }
+        ensures moves { Completes (Role.ConditionRight rule condition.left condition.equal) condition.right self.old token result self.new }
         ensures same { self.new.source ≡ self.old.source }
     {
         rule.conditions.push(condition)?;

@@ -1,0 +1,143 @@
+use crate::*;
+use std::alloc::{AllocError, Global};
+use std::test::Fail;
+
+const ADDITION: &[u8; 192] = b"REC-SPEC Add
+SORTS Nat
+CONS
+  z : -> Nat
+  s : Nat -> Nat
+OPNS
+  plus : Nat Nat -> Nat
+VARS
+  X Y : Nat
+RULES
+  plus(z,Y) -> Y
+  plus(s(X),Y) -> s(plus(X,Y))
+EVAL
+  plus(s(s(z)),s(z))
+END-SPEC";
+
+// The place of a text that is outside the grammar.
+fn place(answer: Result<Syntax, SyntaxFault>) -> Option<u32> {
+    match answer {
+        Err(SyntaxFault::Grammar { at }) => Some(at),
+        Ok(_) | Err(SyntaxFault::Long) | Err(SyntaxFault::Memory) => None,
+    }
+}
+
+// A specification with a word inside `depth` others, as a term to evaluate.
+fn nested(alloc: Global, depth: u32) -> Result<Vec<u8>, AllocError> {
+    let mut text = Vec::from_slice(alloc, b"REC-SPEC E EVAL ")?;
+    for _ in 0..depth {
+        text.extend_from_slice(b"s(")?;
+    }
+    text.push(b'z')?;
+    for _ in 0..depth {
+        text.push(b')')?;
+    }
+    text.extend_from_slice(b" END-SPEC")?;
+    Ok(text)
+}
+
+// A specification of this many bytes, most of them blanks.
+fn blank(alloc: Global, length: usize) -> Result<Vec<u8>, AllocError> {
+    let mut text = Vec::from_slice(alloc, b"REC-SPEC E END-SPEC")?;
+    for _ in 19..length {
+        text.push(b' ')?;
+    }
+    Ok(text)
+}
+
+#[test]
+fn addition(rt: HostRuntime) -> Result<(), Fail> {
+    let spec = read_spec(rt.alloc(), ADDITION)?;
+    let name = spec.name();
+    assert_eq!(rt; (name.from, name.to), (9, 12));
+    assert_eq!(rt; spec.sorts().len(), 1);
+    assert_eq!(rt; spec.constructors().len(), 2);
+    assert_eq!(rt; spec.operators().len(), 1);
+    assert_eq!(rt; spec.groups().len(), 1);
+    assert_eq!(rt; spec.rules().len(), 2);
+    assert_eq!(rt; spec.terms().len(), 1);
+    for term in spec.terms() {
+        let mut nodes = Vec::new(rt.alloc());
+        for node in term.nodes() {
+            nodes.push((node.word.from, node.count))?;
+        }
+        let wanted = [(174, 0), (172, 1), (170, 1), (180, 0), (178, 1), (165, 2)];
+        assert_eq!(rt; nodes.as_slice(), wanted.as_slice());
+    }
+    Ok(())
+}
+
+#[test]
+fn places(rt: HostRuntime) {
+    assert_eq!(rt;
+        place(read_spec(rt.alloc(), b"REC-SPEC E SORTS : END-SPEC")),
+        Some(17)
+    );
+    assert_eq!(rt; place(read_spec(rt.alloc(), b"REC-SPEC E")), Some(10));
+    assert_eq!(rt;
+        place(read_spec(rt.alloc(), b"REC-SPEC if END-SPEC")),
+        Some(9)
+    );
+    assert_eq!(rt;
+        place(read_spec(rt.alloc(), b"REC-SPEC E OPNS CONS END-SPEC")),
+        Some(16)
+    );
+    assert_eq!(rt;
+        place(read_spec(rt.alloc(), b"REC-SPEC E END-SPEC END-SPEC")),
+        Some(20)
+    );
+    assert_eq!(rt;
+        place(read_spec(rt.alloc(), b"REC-SPEC E EVAL f(a,) END-SPEC")),
+        Some(20)
+    );
+    assert_eq!(rt; place(read_spec(rt.alloc(), &ADDITION[..184])), Some(184));
+}
+
+#[test]
+fn the_least_one(rt: HostRuntime) -> Result<(), Fail> {
+    let spec = read_spec(rt.alloc(), b"REC-SPEC E END-SPEC")?;
+    assert_eq!(rt; spec.source().len(), 19);
+    assert!(rt; spec.sorts().is_empty());
+    assert!(rt; spec.terms().is_empty());
+    Ok(())
+}
+
+#[test]
+fn a_condition(rt: HostRuntime) -> Result<(), Fail> {
+    let text = b"REC-SPEC E RULES f(X) -> z if g(X) -><- z and-if X ->/<- z END-SPEC";
+    let spec = read_spec(rt.alloc(), text)?;
+    let mut marks = Vec::new(rt.alloc());
+    for rule in spec.rules() {
+        for condition in &rule.conditions {
+            marks.push(condition.equal)?;
+        }
+    }
+    assert_eq!(rt; marks.as_slice(), [true, false].as_slice());
+    Ok(())
+}
+
+#[test]
+fn a_million_deep(rt: HostRuntime) -> Result<(), Fail> {
+    let text = nested(rt.alloc(), 1_000_000)?;
+    let spec = read_spec(rt.alloc(), &text)?;
+    for term in spec.terms() {
+        assert_eq!(rt; term.nodes().len(), 1_000_001);
+    }
+    assert_eq!(rt; spec.terms().len(), 1);
+    Ok(())
+}
+
+#[test]
+fn the_longest(rt: HostRuntime) -> Result<(), Fail> {
+    let mut text = blank(rt.alloc(), LONGEST)?;
+    assert!(rt; read_spec(rt.alloc(), &text).is_ok());
+    text.push(b' ')?;
+    match read_spec(rt.alloc(), &text) {
+        Err(SyntaxFault::Long) => Ok(()),
+        Ok(_) | Err(_) => Err("a text of 16,777,217 bytes is too long")?,
+    }
+}
