@@ -2,7 +2,7 @@
 ghost use Rattle.std.specs.Prelude.{◌≡◌, ℕ, ◌+◌, ◌<◌, List, [], length};
 ghost use Rattle.rx_arena.specs.Put.{times};
 ghost use Rattle.rx_arena.specs.Arena.{IsTaken, roots_at, chain_at, IsMarked, IsArena};
-ghost use Rattle.rx_sweep.specs.Reach.{words, names, named_at, IsReached, IsClosed, CanCollect};
+ghost use Rattle.rx_sweep.specs.Reach.{annotations, words, names, named_at, IsReached, IsClosed, CanCollect};
 ghost use Rattle.rx_sweep.specs.Marking.{SameButMarks, Marks};
 
 use crate::kinds::{APPLICATION, LIST, PLACEHOLDER};
@@ -11,7 +11,8 @@ use rx_arena::{CellBody, Slot};
 
 /// Marks a slot, and makes it gray, where it is not marked.
 fn mark_slot(arena: &mut Arena, slot: Slot)
-    requires { IsTaken arena.old slot.0 }
+    requires taken { IsTaken arena.old slot.0 }
+    requires law { IsArena arena.old }
     ensures marks { Marks arena.old arena.new (λ s. s ≡ slot.0) }
     ensures law { IsArena arena.new }
 {
@@ -22,7 +23,8 @@ fn mark_slot(arena: &mut Arena, slot: Slot)
 
 /// Marks a slot that is protected.
 fn mark_root(arena: &mut Arena, slot: Slot)
-    requires { IsTaken arena.old slot.0 }
+    requires taken { IsTaken arena.old slot.0 }
+    requires law { IsArena arena.old }
     ensures marks { Marks arena.old arena.new (λ s. (s ≡ slot.0) × (0 < roots_at arena.old s)) }
     ensures law { IsArena arena.new }
 {
@@ -58,7 +60,8 @@ pub(crate) fn mark_roots(arena: &mut Arena)
 
 /// Marks the slots that a word of this kind of body names.
 fn mark_words(arena: &mut Arena, kind: u8, a: u64, b: u64)
-    requires { (s : ℕ) → 0 < times s (words kind a b) → IsTaken arena.old s }
+    requires taken { (s : ℕ) → 0 < times s (words kind a b) → IsTaken arena.old s }
+    requires law { IsArena arena.old }
     ensures marks { Marks arena.old arena.new (λ s. 0 < times s (words kind a b)) }
     ensures law { IsArena arena.new }
 {
@@ -72,21 +75,33 @@ fn mark_words(arena: &mut Arena, kind: u8, a: u64, b: u64)
     }
 }
 
+/// Marks the slot of the annotations, where there are some.
+fn mark_annotations(arena: &mut Arena, anns: Option<Slot>)
+    requires taken { (s : ℕ) → 0 < times s (annotations anns) → IsTaken arena.old s }
+    requires law { IsArena arena.old }
+    ensures marks { Marks arena.old arena.new (λ s. 0 < times s (annotations anns)) }
+    ensures law { IsArena arena.new }
+{
+    if let Some(slot) = anns {
+        mark_slot(arena, slot);
+    }
+}
+
 /// Marks the slots that a body names.
 fn mark_named(arena: &mut Arena, body: CellBody)
-    requires { (s : ℕ) → 0 < times s (names body) → IsTaken arena.old s }
+    requires taken { (s : ℕ) → 0 < times s (names body) → IsTaken arena.old s }
+    requires law { IsArena arena.old }
     ensures marks { Marks arena.old arena.new (λ s. 0 < times s (names body)) }
     ensures law { IsArena arena.new }
 {
-    if let Some(annotations) = body.anns {
-        mark_slot(arena, annotations);
-    }
+    mark_annotations(arena, body.anns);
     mark_words(arena, body.kind, body.a, body.b);
 }
 
 /// Marks all that the gray slots lead to. None is gray at the end.
 pub(crate) fn mark_on(arena: &mut Arena)
     requires closed { IsClosed arena.old }
+    requires law { IsArena arena.old }
     requires gray { (s : ℕ) → IsMarked arena.old s → 0 < times s arena.old.gray }
     ensures same { SameButMarks arena.old arena.new }
     ensures stay { (s : ℕ) → IsMarked arena.old s → IsMarked arena.new s }
