@@ -6,3 +6,4 @@ pub mod Named
 pub mod Spreading
 pub mod Clearing
 pub mod Sweeps
+pub mod Collected

@@ -25,36 +25,46 @@ length-map_lists : (f : List ℕ → List ℕ) (xs : List (List ℕ)) → length
 length-map_lists f [] = refl
 length-map_lists f (x ∷ xs) = ap suc (length-map_lists f xs)
 
+true_or_false : (b : Bool) → (b ≡ true) ⊎ (b ≡ false)
+true_or_false true = inl refl
+true_or_false false = inr refl
+
+times-filter_in : (p : ℕ → Bool) (s t : ℕ) (ts : List ℕ) → p t ≡ true → times s (filter p (t ∷ ts)) ≡ one_if t s + times s (filter p ts)
+times-filter_in p s t ts is = ap (λ y. times s (cond y (t ∷ filter p ts) (filter p ts))) is
+
+times-filter_out : (p : ℕ → Bool) (s t : ℕ) (ts : List ℕ) → p t ≡ false → times s (filter p (t ∷ ts)) ≡ times s (filter p ts)
+times-filter_out p s t ts is = ap (λ y. times s (cond y (t ∷ filter p ts) (filter p ts))) is
+
+-- a slot that passes the test is none that does not
+passes_apart : (p : ℕ → Bool) (s t : ℕ) (b : Bool) → p s ≡ b → p t ≡ not b → one_if t s ≡ 0
+passes_apart p s t b e f = elim (one_or_two t s) [ inl h ↦ absurd (neither b (sym e ∙ ap p (sym h.1) ∙ f)) | inr h ↦ h.0 ]
+  where
+    neither : (b : Bool) → b ≡ not b → ⊥
+    neither true g = cc
+    neither false g = cc
+
 -- how often a filtered list names a slot
 pub times-filter_true : (p : ℕ → Bool) (s : ℕ) (ss : List ℕ) → p s ≡ true → times s (filter p ss) ≡ times s ss
 times-filter_true p s [] e = refl
-times-filter_true p s (t ∷ ts) e = by_test (p t) refl
-  where
-    by_test : (b : Bool) → p t ≡ b → times s (filter p (t ∷ ts)) ≡ times s (t ∷ ts)
-    by_test true is = ap (λ y. times s (cond y (t ∷ filter p ts) (filter p ts))) is ∙ ap (λ n. one_if t s + n) (times-filter_true p s ts e)
-    by_test false is = ap (λ y. times s (cond y (t ∷ filter p ts) (filter p ts))) is ∙ elim (one_or_two t s) [
-      | inl h ↦ absurd (let pt : p t ≡ true = ap p h.1 ∙ e in cc)
-      | inr h ↦ (let rest = times-filter_true p s ts e in omega (arith, rest, h.0))
+times-filter_true p s (t ∷ ts) e =
+    let rest = times-filter_true p s ts e in
+    elim (true_or_false (p t)) [
+      | inl is ↦ times-filter_in p s t ts is ∙ ap (λ n. one_if t s + n) rest
+      | inr is ↦ times-filter_out p s t ts is ∙ (let other = passes_apart p s t true e is in omega (arith, rest, other))
     ]
 
 pub times-filter_false : (p : ℕ → Bool) (s : ℕ) (ss : List ℕ) → p s ≡ false → times s (filter p ss) ≡ 0
 times-filter_false p s [] e = refl
-times-filter_false p s (t ∷ ts) e = by_test (p t) refl
-  where
-    by_test : (b : Bool) → p t ≡ b → times s (filter p (t ∷ ts)) ≡ 0
-    by_test false is = ap (λ y. times s (cond y (t ∷ filter p ts) (filter p ts))) is ∙ times-filter_false p s ts e
-    by_test true is = ap (λ y. times s (cond y (t ∷ filter p ts) (filter p ts))) is ∙ elim (one_or_two t s) [
-      | inl h ↦ absurd (let pt : p t ≡ false = ap p h.1 ∙ e in cc)
-      | inr h ↦ (let rest = times-filter_false p s ts e in omega (arith, rest, h.0))
+times-filter_false p s (t ∷ ts) e =
+    let rest = times-filter_false p s ts e in
+    elim (true_or_false (p t)) [
+      | inl is ↦ times-filter_in p s t ts is ∙ (let other = passes_apart p s t false e is in omega (arith, rest, other))
+      | inr is ↦ times-filter_out p s t ts is ∙ rest
     ]
 
 pub times_in-filter_true : (p : ℕ → Bool) (s : ℕ) (css : List (List ℕ)) → p s ≡ true → times_in s (map (filter p) css) ≡ times_in s css
 times_in-filter_true p s [] e = refl
 times_in-filter_true p s (c ∷ cs) e = λ i. times-filter_true p s c e i + times_in-filter_true p s cs e i
-
-true_or_false : (b : Bool) → (b ≡ true) ⊎ (b ≡ false)
-true_or_false true = inl refl
-true_or_false false = inr refl
 
 times-filter_le : (p : ℕ → Bool) (s : ℕ) (ss : List ℕ) → times s (filter p ss) ≤ times s ss
 times-filter_le p s ss = elim (true_or_false (p s)) [
