@@ -14,7 +14,7 @@ same_refl a = record { bare_same = refl }
 pub same_trans : (a b c : ArenaState) → SameButMarks a b → SameButMarks b c → SameButMarks a c
 same_trans a b c p q = record { bare_same = q.bare_same ∙ p.bare_same }
 
-names-unmarked : (c : Option Taken) → cell_names (unmarked c) ≡ cell_names c
+pub names-unmarked : (c : Option Taken) → cell_names (unmarked c) ≡ cell_names c
 names-unmarked None = refl
 names-unmarked (Some t) = refl
 

@@ -3,10 +3,10 @@ use Rattle.std.proofs.Common.{◌≡◌, ◌≢◌, ◌↔◌, ℕ, ◌+◌, ◌
 use Rattle.std.specs.Prelude.{Option, Bool, true, false, cond, filter, is_some}
 use Rattle.rx_arena.specs.Put.{times, times_in}
 use Rattle.rx_arena.specs.Arena.{Taken, ArenaState, taken_at, IsTaken, taken_count, InChain, is_marked, marked_at, IsMarked, roots_at, IsArena}
-use Rattle.rx_sweep.specs.Reach.{unmarked, is_taken, named_at, IsClosed, IsReached, CanCollect}
+use Rattle.rx_sweep.specs.Reach.{unmarked, is_taken, cell_names, named_at, IsClosed, IsReached, CanCollect}
 use Rattle.rx_sweep.specs.Reach.IsReached.{rooted, grayed, named}
 use Rattle.rx_sweep.specs.Marking.{SameButMarks, Marks, Clears}
-use Rattle.rx_sweep.proofs.Bare.{same_trans, same_at, same_names, same_roots, same_chains, same_spare, same_cap, same_count, same_taken, taken_same, unmarked-clear}
+use Rattle.rx_sweep.proofs.Bare.{same_trans, same_at, same_names, same_roots, same_chains, same_spare, same_count, same_taken, taken_same, unmarked-clear, names-unmarked}
 use Rattle.rx_sweep.proofs.Spreading.{marked_taken}
 use Rattle.rx_sweep.proofs.Sweeps.{true_or_false, times_in-filter_true}
 
@@ -16,8 +16,28 @@ reached_in a P r g n _ (rooted s h) = r s h
 reached_in a P r g n _ (grayed s h) = g s h
 reached_in a P r g n _ (named s t h e) = n s t (reached_in a P r g n s h) e
 
-some_is : (c : Option Taken) (t : Taken) → c ≡ Some t → is_some c ≡ true
-some_is c t e = ap is_some e
+none_or_some : (c : Option Taken) → (c ≡ None) ⊎ ((t : Taken) × (c ≡ Some t))
+none_or_some None = inl refl
+none_or_some (Some t) = inr (t, refl)
+
+none_unmarked : (c : Option Taken) → unmarked c ≡ None → c ≡ None
+none_unmarked None h = refl
+none_unmarked (Some t) h = absurd (cc)
+
+-- what names a slot is there
+names_some : (t : ℕ) (c : Option Taken) → 0 < times t (cell_names c) → (u : Taken) × (c ≡ Some u)
+names_some t None h = absurd (omega (arith, h))
+names_some t (Some u) h = (u, refl)
+
+-- what a collection leaves
+pub record Collected (old new : ArenaState) : Type 0 where
+  pub taken : (s : ℕ) → IsTaken new s ↔ IsReached old s
+  pub kept : (s : ℕ) → IsReached old s → taken_at new s ≡ unmarked (taken_at old s)
+  pub dropped : (s : ℕ) → ¬ (IsReached old s) → taken_at new s ≡ None
+  pub chains : new.chains ≡ map (filter (λ s. is_taken new s)) old.chains
+  pub clear : (s : ℕ) → marked_at new s ≡ false
+  pub spare : new.spare + taken_count new ≡ old.spare + taken_count old
+  pub ready : CanCollect new
 
 -- after the protected slots are marked
 module _ (old : ArenaState) (law : IsArena old) (can : CanCollect old) (one : ArenaState) (m : Marks old one (λ s. 0 < roots_at old s)) where
@@ -65,11 +85,7 @@ module _ (old : ArenaState) (law : IsArena old) (can : CanCollect old) (one : Ar
       cell_gone s e = cells s ∙ ap (λ b. cond b (taken_at two s) None) e
 
       none_stays : (s : ℕ) → taken_at three s ≡ None → taken_at four s ≡ None
-      none_stays s e = is_none (taken_at four s) (same_at three four clears.same s ∙ ap unmarked e)
-        where
-          is_none : (c : Option Taken) → unmarked c ≡ None → c ≡ None
-          is_none None h = refl
-          is_none (Some t) h = absurd (cc)
+      none_stays s e = none_unmarked (taken_at four s) (same_at three four clears.same s ∙ ap unmarked e)
 
       taken_three : (s : ℕ) → IsTaken three s → IsMarked two s
       taken_three s h = elim (true_or_false (marked_at two s)) [
@@ -77,17 +93,19 @@ module _ (old : ArenaState) (law : IsArena old) (can : CanCollect old) (one : Ar
         | inr e ↦ absurd (let gone = cell_gone s e in let here = h.1 in cc)
       ]
 
-      pub clear_four : (s : ℕ) → marked_at four s ≡ false
-      clear_four s = by_cell (taken_at three s) refl
-        where
-          by_cell : (c : Option Taken) → taken_at three s ≡ c → marked_at four s ≡ false
-          by_cell None e = ap is_marked (none_stays s e)
-          by_cell (Some t) e = clears.cleared s (chained_three s (t, e))
-            where
-              chained_three : (k : ℕ) → IsTaken three k → InChain three k
-              chained_three k h = ?
+      chained_three : (s : ℕ) → IsTaken three s → InChain three s
+      chained_three s h =
+          let mark = taken_three s h in
+          let count = ap (times_in s) chains ∙ times_in-filter_true (λ k. marked_at two k) s two.chains mark in
+          omega (arith, count, chained_two s (marked_taken two s mark))
 
-      pub kept_four : (s : ℕ) → IsReached old s → taken_at four s ≡ unmarked (taken_at old s)
+      clear_four : (s : ℕ) → marked_at four s ≡ false
+      clear_four s = elim (none_or_some (taken_at three s)) [
+        | inl e ↦ ap is_marked (none_stays s e)
+        | inr e ↦ clears.cleared s (chained_three s e)
+      ]
+
+      kept_four : (s : ℕ) → IsReached old s → taken_at four s ≡ unmarked (taken_at old s)
       kept_four s r =
           sym (unmarked-clear (taken_at four s) (clear_four s)) ∙ same_at three four clears.same s
           ∙ ap unmarked (cell_kept s (marked_two s r)) ∙ same_at old two same_two s
@@ -100,12 +118,9 @@ module _ (old : ArenaState) (law : IsArena old) (can : CanCollect old) (one : Ar
           let t = marked_taken two s (marked_two s r) in
           same_taken three four clears.same s (t.0, cell_kept s (marked_two s r) ∙ t.1)
 
-      pub taken_is : (s : ℕ) → IsTaken four s ↔ IsReached old s
-      taken_is s = (taken_four s, four_taken s)
-
-      pub dropped_four : (s : ℕ) → ¬ (IsReached old s) → taken_at four s ≡ None
-      dropped_four s no = elim (true_or_false (marked_at two s)) [
-        | inl e ↦ absurd (no (reached_two s e))
+      dropped_four : (s : ℕ) → ¬ (IsReached old s) → taken_at four s ≡ None
+      dropped_four s away = elim (true_or_false (marked_at two s)) [
+        | inl e ↦ absurd (away (reached_two s e))
         | inr e ↦ none_stays s (cell_gone s e)
       ]
 
@@ -115,12 +130,29 @@ module _ (old : ArenaState) (law : IsArena old) (can : CanCollect old) (one : Ar
         | inr e ↦ e ∙ sym (ap is_some (none_stays s (cell_gone s e)))
       ]
 
-      pub chains_four : four.chains ≡ map (filter (λ s. is_taken four s)) old.chains
+      chains_four : four.chains ≡ map (filter (λ s. is_taken four s)) old.chains
       chains_four = same_chains three four clears.same ∙ chains ∙ (λ i. map (filter (λ s. test_same s i)) (same_chains old two same_two i))
 
-      pub ready_four : CanCollect four
+      names_four : (s : ℕ) → IsReached old s → named_at four s ≡ named_at old s
+      names_four s r = ap cell_names (kept_four s r) ∙ names-unmarked (taken_at old s)
+
+      ready_four : CanCollect four
       ready_four = record {
-        chained = λ s h. ap (times_in s) chains_four ∙ times_in-filter_true (λ k. is_taken four k) s old.chains (ap is_some h.1) ∙ can.chained s (reached_taken s (taken_four s h));
-        closed = λ s t h. four_taken t (named s t (by_names s t h) (names_old s t h));
+        chained = λ s h. (let r = taken_four s h in
+            ap (times_in s) chains_four ∙ times_in-filter_true (λ k. is_taken four k) s old.chains (ap is_some h.1)
+            ∙ can.chained s (taken_same old two same_two s (marked_taken two s (marked_two s r))));
+        closed = λ s t h. (let r = taken_four s (names_some t (taken_at four s) h) in
+            four_taken t (named s t r (subst (λ z. 0 < times t z) (names_four s r) h)));
         marked_gray = λ s h. absurd (let clear = clear_four s in cc);
+      }
+
+      pub collected : three.spare + taken_count three ≡ two.spare + taken_count two → Collected old four
+      collected spare = record {
+        taken = λ s. (taken_four s, four_taken s);
+        kept = kept_four;
+        dropped = dropped_four;
+        chains = chains_four;
+        clear = clear_four;
+        spare = (λ i. same_spare three four clears.same i + same_count three four clears.same i) ∙ spare ∙ (λ i. same_spare old two same_two i + same_count old two same_two i);
+        ready = ready_four;
       }

@@ -120,6 +120,6 @@ pub root_chains_end : (init : ArenaState) (i : ℕ) (self : ArenaState) → Root
 root_chains_end init i self inv end can =
     marks_by init self (RootedBelow init i) (λ s. 0 < roots_at init s) (λ s h. h.0)
     (λ s h. let in_chains = can.chained s (rooted_taken init s h) in
-        let found = some_chain s init.chains (omega (arith, in_chains)) in
-        (h, (found.0, omega (arith, found.1, end), found.2)))
+    let found = some_chain s init.chains (omega (arith, in_chains)) in
+    (h, (found.0, omega (arith, found.1, end), found.2)))
     inv.marks

@@ -25,7 +25,7 @@ length-map_lists : (f : List ℕ → List ℕ) (xs : List (List ℕ)) → length
 length-map_lists f [] = refl
 length-map_lists f (x ∷ xs) = ap suc (length-map_lists f xs)
 
-true_or_false : (b : Bool) → (b ≡ true) ⊎ (b ≡ false)
+pub true_or_false : (b : Bool) → (b ≡ true) ⊎ (b ≡ false)
 true_or_false true = inl refl
 true_or_false false = inr refl
 
@@ -100,10 +100,10 @@ filled-emptied xs [] once some = omega arith
 filled-emptied xs (t ∷ ts) once some =
     let at_t : one_some (get_or xs t None) ≡ 1 = some t (omega (arith, one_if-same t)) in
     let rest = filled-emptied (put xs t None) ts (λ s. omega (arith, once s))
-        (λ s h. elim (one_or_two t s) [
-          | inl e ↦ absurd (let o = once s in omega (arith, o, h, e.0))
-          | inr e ↦ ap one_some (get_or-put_other xs t s None (λ z. e.1 (sym z))) ∙ some s (omega (arith, h))
-        ]) in
+    (λ s h. elim (one_or_two t s) [
+      | inl e ↦ absurd (let o = once s in omega (arith, o, h, e.0))
+      | inr e ↦ ap one_some (get_or-put_other xs t s None (λ z. e.1 (sym z))) ∙ some s (omega (arith, h))
+    ]) in
     let count = filled-put xs t None in
     omega (arith, at_t, rest, count)
 

@@ -2,6 +2,7 @@
 //!
 //! It marks along the arena's gray list, and so needs neither recursion nor memory.
 #![tactic(auto)]
+
 ghost use Rattle.std.specs.Prelude.{◌≡◌, ◌↔◌, ℕ, ◌+◌, List, [], false, None, map, filter};
 ghost use Rattle.rx_arena.specs.Arena.{taken_at, IsTaken, taken_count, marked_at, IsArena};
 ghost use Rattle.rx_sweep.specs.Reach.{unmarked, is_taken, IsReached, CanCollect};

@@ -13,5 +13,5 @@ pub returns-else-roots-gt0-clause-marks : goal.returns-else-roots-gt0-clause-mar
 returns-else-roots-gt0-clause-marks c =
     let a = c.args.arena.now in
     marks_none a (λ s. (s ≡ c.args.slot.0) × (0 < roots_at a s)) (λ s h.
-      let root : 0 < roots_at a c.args.slot.0 = subst (λ z. 0 < roots_at a z) h.0 h.1 in
-      absurd (omega (arith, root, c.if-roots-gt0.false, c.roots.ensures)))
+    let root : 0 < roots_at a c.args.slot.0 = subst (λ z. 0 < roots_at a z) h.0 h.1 in
+    absurd (omega (arith, root, c.if-roots-gt0.false, c.roots.ensures)))

@@ -24,4 +24,3 @@ loop-next-preserved c =
 
 pub returns-clause-marks : goal.returns-clause-marks
 returns-clause-marks c = root_walked c.args.arena.now c.args.chain c.loop-next.arena c.loop-next.next c.loop-next.invariant (none_of c.loop-next.next c.in_default.not-Some)
-
