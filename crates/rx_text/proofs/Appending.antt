@@ -45,27 +45,6 @@ pub front_before : (old new : Option (List ℕ)) (xs ys : List ℕ) → AppendsF
 front_before old new xs ys (front, k, (rest, e)) =
     (front, k, (rest ++ ys, ap (λ z. z ++ ys) e ∙ append_assoc front rest ys))
 
--- nothing was written
-pub nothing_written : (old : Option (List ℕ)) (text : List ℕ) → AppendsFront text old old
-nothing_written old text = ([], appends_none old old (kept old), (text, refl))
-  where
-    kept : (o : Option (List ℕ)) → Keeps o o
-    kept None = tt
-    kept (Some a) = refl
-
-pub nothing_written_2 : (old new : Option (List ℕ)) (text : List ℕ) → Keeps old new → AppendsFront text old new
-nothing_written_2 old new text h = ([], appends_none old new h, (text, refl))
-
--- what holds of any error holds of this one
-pub if_err_any : {X E : Type 0} (r : Result X E) (P : E → Type 0) → ((e : E) → P e) → IfErr r P
-if_err_any (Ok x) P h = tt
-if_err_any (Err e) P h = h e
-
--- what holds of an error, where it is this one
-pub if_err_at : {X E : Type 0} (r : Result X E) (P : E → Type 0) (x : E) → IsErrAnd r (λ e. e ≡ x) → P x → IfErr r P
-if_err_at (Ok y) P x h p = tt
-if_err_at (Err e) P x h p = subst P (sym h) p
-
 -- what holds anyway holds at an error
 pub on_err : {X E : Type 0} {P : Type 0} (r : Result X E) → P → OnErr r P
 on_err (Ok x) p = tt

@@ -25,12 +25,6 @@ pub record Decides (bytes : List ℕ) (s : State) (ps : List (ℕ × Token)) : T
   pub fault : fault_at ps s.0 s.1 ≡ fault_at (tokens bytes) machine.Due []
   pub tree : tree_of (run (map (λ t. t.1) ps) s.0 s.1) ≡ read (kinds bytes)
 
-abbrev pub start : State
-start = (machine.Due, [])
-
-pub starts : (bytes : List ℕ) → Decides bytes start (tokens bytes)
-starts bytes = record { fault = refl; tree = refl }
-
 pub goes_on : (bytes : List ℕ) (s r : State) (ps rest : List (ℕ × Token)) (t : Token) (at : ℕ) → Decides bytes s ps → ps ≡ (at, t) ∷ rest → step s.0 s.1 t ≡ Some r → Decides bytes r rest
 goes_on bytes s r ps rest t at d cut e =
     let f : fault_at ps s.0 s.1 ≡ fault_at rest r.0 r.1 = ap (λ qs. fault_at qs s.0 s.1) cut ∙ ap (λ o. next_state (Some at) (λ n gs. fault_at rest n gs) o) e in

@@ -29,12 +29,6 @@ tokens_skip (suc skip) at (b ∷ bytes) h =
     let e : 1 + at + skip ≡ at + suc skip = omega arith in
     tokens_skip skip (1 + at) bytes (omega arith) ∙ ap (λ (n : ℕ). tokens_from 0 n (drop skip bytes)) e
 
--- layout is no token
-pub layout_first : (bytes : List ℕ) (at b : ℕ) → drop at bytes ≡ b ∷ drop (at + 1) bytes → is_layout b ≡ true → tokens_after bytes at ≡ tokens_after bytes (at + 1)
-layout_first bytes at b front blank =
-    let e : 1 + at ≡ at + 1 = omega arith in
-    rw (front, blank, e) refl
-
 behind_inner : (bytes : List ℕ) (k : Kind) (to : ℕ) → IsInner k → behind bytes k to ≡ tokens_after bytes to
 behind_inner bytes End to h = absurd h
 behind_inner bytes k to h = refl
