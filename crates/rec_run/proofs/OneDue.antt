@@ -4,7 +4,7 @@ use Rattle.rx_term.specs.Tree.{Tree}
 use Rattle.rx_text.specs.Grammar.{Spells}
 use Rattle.rx_text.proofs.Unique.{one_tree}
 use Rattle.rx_text.proofs.Places as trees
-use Rattle.rx_text.proofs.Faults as trees_or_places
+use Rattle.rx_text.proofs.FaultLemmas as trees_or_places
 use Rattle.rec_syntax.specs.Syntax.{Spec}
 use Rattle.rec_syntax.specs.Grammar.{SpecText}
 use Rattle.rec_syntax.proofs.Places.{one_place, not_both}
