@@ -1,5 +1,5 @@
 -- What writes one after another do to known bytes.
-use Rattle.std.proofs.Common.{IfErr, IsErrAnd, subst, refl, ◌≡◌, ℕ, ◌+◌, ◌-◌, ◌≤◌, List, [], ◌++◌, Option, Some, None, Result, Ok, Err, OnOk, OnErr, IfSome, length, take, drop, sym, ap, ◌∙◌, append_assoc, append-nil, take-add, take_all, take_at, take-append-drop}
+use Rattle.std.proofs.Common.{◌≡◌, ℕ, ◌+◌, ◌-◌, List, [], ◌++◌, Option, Some, None, Result, Ok, Err, OnErr, length, take, drop, sym, ap, ◌∙◌, append_assoc, append-nil, take-add, take-append-drop}
 use Rattle.std.proofs.lemmas.List.{take_rest}
 use Rattle.std.specs.Io.KnownBytes.{Appends, Keeps}
 use Rattle.rx_text.specs.Written.{AppendsFront}

@@ -1,6 +1,5 @@
 -- A turn of the reader's loop, and its end.
-use Rattle.std.proofs.Common.{◌≡◌, ℕ, ◌+◌, ◌≤◌, ◌<◌, List, [], ◌∷◌, length, map, reverse, Option, Some, None, refl, sym, ap, ◌∙◌, arith}
-use Rattle.std.proofs.lemmas.List.{length-reverse}
+use Rattle.std.proofs.Common.{◌≡◌, ℕ, ◌+◌, ◌<◌, List, [], ◌∷◌, length, map, reverse, Option, Some, None, refl, sym, ap, ◌∙◌, arith}
 use Rattle.rx_term.specs.Tree.{Tree, none, Appl, annotated}
 use Rattle.rx_text.specs.Token as token
 use Rattle.rx_text.specs.Token.{Token, tokens, kinds}

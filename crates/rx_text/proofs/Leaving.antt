@@ -7,14 +7,14 @@ use Rattle.rx_text.specs.Written.{AppendsFront}
 use Rattle.rx_text.specs.declared.faults.WriteFault.{WriteFault}
 use Rattle.rx_text.proofs.Appending.{appends_both, appends_same, front_within}
 use Rattle.rx_term.specs.Tree.{Tree, Trees, none, more, Int, Appl, Items, Hole, annotations, list_of}
-use Rattle.rx_term.specs.Store.{Store, tree_at, part_at, head_of, tail_of, args_of, inner_of, anns_of, name_at, quoted_at, list_unless_empty}
-use Rattle.rx_term.specs.Kinds.{HasKind, HasInt, HasNil, HasCons, HasAppl, HasHole, HasAnns}
+use Rattle.rx_term.specs.Store.{Store, tree_at, part_at, head_of, tail_of, args_of, anns_of, name_at, quoted_at, list_unless_empty}
+use Rattle.rx_term.specs.Kinds.{HasKind, HasCons, HasAppl, HasHole}
 use Rattle.rx_term.specs.declared.Term.{Term}
 use Rattle.rx_term.specs.declared.Symbol.{Symbol}
 use Rattle.rx_term.specs.declared.Kind.{Kind}
 use Rattle.rx_term.specs.declared.Kind.TheVariants as kind
-use Rattle.rx_text.specs.Canon.{canon, canon_all, canon_others, enclosed, name_text, no_arguments}
-use Rattle.rx_text.specs.Jobs.{seen, notes_text, items_of, body_text, body_size, size, sizes, job_text, job_size, IsList, IsJob, jobs_text, jobs_size, Adds, Leaves}
+use Rattle.rx_text.specs.Canon.{canon, canon_all, enclosed, name_text, no_arguments}
+use Rattle.rx_text.specs.Jobs.{seen, notes_text, body_text, body_size, size, sizes, job_text, job_size, IsList, IsJob, jobs_text, jobs_size, Adds, Leaves}
 use Rattle.rx_text.specs.declared.writer.Job.{Job}
 use Rattle.rx_text.specs.declared.writer.Job.TheVariants as job
 

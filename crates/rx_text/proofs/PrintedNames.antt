@@ -1,12 +1,12 @@
 -- Writing a name byte by byte.
-use Rattle.std.proofs.Common.{◌≡◌, ℕ, ◌+◌, ◌<◌, ◌≤◌, true, List, [], ◌∷◌, ◌++◌, Option, length, take, drop, get_or, refl, sym, ap, ◌∙◌, append_assoc, append-nil, take_all, take-append-drop}
+use Rattle.std.proofs.Common.{◌≡◌, ℕ, ◌+◌, ◌<◌, ◌≤◌, true, List, [], ◌∷◌, ◌++◌, Option, length, take, drop, get_or, sym, ap, ◌∙◌, append_assoc, append-nil, take_all, take-append-drop}
 use Rattle.std.specs.Prelude.{flat_map}
 use Rattle.std.proofs.lemmas.List.{take_more}
 use Rattle.std.proofs.lemmas.List.Concat.{flat_map-append}
 use Rattle.std.specs.Io.KnownBytes.{Appends}
 use Rattle.rx_text.specs.Canon.{quoted_byte, name_text}
 use Rattle.rx_text.specs.Written.{AppendsFront}
-use Rattle.rx_text.proofs.Appending.{appends_both, front_within, front_before}
+use Rattle.rx_text.proofs.Appending.{front_within, front_before}
 
 -- the opening quote, and so many bytes
 abbrev pub begun_name : List ℕ → ℕ → List ℕ

@@ -1,10 +1,10 @@
 -- Each step of the reader on its stack and nodes is a step of the machine.
-use Rattle.std.proofs.Common.{◌≡◌, ℕ, zero, suc, ◌+◌, ◌-◌, ◌≤◌, ◌<◌, List, [], ◌∷◌, ◌++◌, length, map, drop, reverse, Option, Some, None, Result, true, ℤ, pos, negsuc, w32, to_z, of_z, refl, sym, ap, ◌∙◌, arith, add-one, length-drop}
+use Rattle.std.proofs.Common.{◌≡◌, ℕ, suc, ◌+◌, ◌-◌, ◌≤◌, ◌<◌, List, [], ◌∷◌, ◌++◌, length, map, drop, reverse, Some, None, true, ℤ, pos, negsuc, w32, to_z, of_z, refl, sym, ap, ◌∙◌, arith, add-one, length-drop}
 use Rattle.std.proofs.lemmas.List.{reverse-append, length-reverse}
 use Rattle.std.specs.List.{AllByRecursion}
 use Rattle.std.proofs.lemmas.Int.{to_z-of_z}
 use Rattle.std.proofs.lemmas.Bool.Decides.{nat_tests}
-use Rattle.rx_term.specs.Tree.{Tree, Trees, none, more, Int, Appl, annotated, is_i32}
+use Rattle.rx_term.specs.Tree.{Tree, none, Int, Appl, annotated, is_i32}
 use Rattle.rx_text.specs.Nodes as nodes
 use Rattle.rx_text.specs.Nodes.{Number, Application, Listing, Holding, Annotating, taken, newest, top, rest, needed, joined, trees_of, Enough}
 use Rattle.rx_text.specs.Machine as machine
@@ -12,7 +12,7 @@ use Rattle.rx_text.specs.Machine.{State, onto}
 use Rattle.rx_text.specs.Token as token
 use Rattle.rx_text.specs.Token.{Token}
 use Rattle.rx_text.specs.Lexemes.{name_of, IsWord, token_of}
-use Rattle.rx_text.specs.Reader.{node_of, IsNode, made_of, frame_of, held, under, IsOpening, frames_of, mode_of, owned, loose, state_of, total, pending, IsStack, IsState, Moves}
+use Rattle.rx_text.specs.Reader.{node_of, IsNode, made_of, frame_of, held, under, IsOpening, frames_of, state_of, total, IsStack, IsState}
 use Rattle.rx_text.specs.declared.lexer.Kind.{Kind}
 use Rattle.rx_text.specs.declared.lexer.Kind.TheVariants as kind
 use Rattle.rx_text.specs.declared.nodes.Word.{Word}
@@ -21,9 +21,7 @@ use Rattle.rx_text.specs.declared.nodes.Node.TheVariants as node
 use Rattle.rx_text.specs.declared.reader.Opening.{Opening}
 use Rattle.rx_text.specs.declared.reader.Opening.TheVariants as opening
 use Rattle.rx_text.specs.declared.reader.Frame.{Frame}
-use Rattle.rx_text.specs.declared.reader.Due.{Due}
-use Rattle.rx_text.specs.declared.reader.Due.TheVariants.{Term, First, Named, Body, Whole, Done}
-use Rattle.rx_text.specs.declared.reader.Stop.{Stop}
+use Rattle.rx_text.specs.declared.reader.Due.TheVariants.{Term, Named, Body, Whole}
 
 -- ---- nodes
 
