@@ -1,0 +1,30 @@
+-- What a table of names is seen as, and how taking in a name changes it.
+use Rattle.std.specs.Prelude.{ℕ, ◌≡◌, ◌≢◌, Option, None, Some, IsSome, Result, Ok, Err}
+use Rattle.std.specs.Ordering.{nat_cmp}
+use Rattle.std.specs.FinMap as map
+use Rattle.rx_term.specs.Name.{Signature}
+use Rattle.rx_term.specs.declared.Symbol.{Symbol}
+use Rattle.rx_names.specs.declared.names.Names.{Names}
+use Rattle.rx_names.specs.declared.faults.NamesFault.{NamesFault}
+use Rattle.rx_names.specs.Words.{words_of}
+use Rattle.rx_names.specs.Entries.{symbols_from}
+
+-- what each symbol stands for
+abbrev pub symbols_of : Names → map.FinMap nat_cmp Signature
+symbols_of n = symbols_from (words_of n.words) n.entries.keys
+
+-- the symbol of the signature, or None where none stands for it
+abbrev pub FindsOrLacks : map.FinMap nat_cmp Signature → Signature → Option Symbol → Type 0
+FindsOrLacks symbols g None = (s : Symbol) → map.get symbols s.0 ≢ Some g
+FindsOrLacks symbols g (Some s) = map.get symbols s.0 ≡ Some g
+
+-- s stands for the signature afterwards, no other symbol changes, and nothing at all changes where s was there before
+pub record Interns (old new : map.FinMap nat_cmp Signature) (g : Signature) (s : Symbol) : Type 0 where
+  pub added : map.get new s.0 ≡ Some g
+  pub others : (t : ℕ) → t ≢ s.0 → map.get new t ≡ map.get old t
+  pub there : IsSome (map.get old s.0) → new ≡ old
+
+-- the symbol, or that memory ran out and nothing changed
+abbrev pub InternsOrRefuses : map.FinMap nat_cmp Signature → map.FinMap nat_cmp Signature → Signature → Result Symbol NamesFault → Type 0
+InternsOrRefuses old new g (Ok s) = Interns old new g s
+InternsOrRefuses old new g (Err e) = new ≡ old

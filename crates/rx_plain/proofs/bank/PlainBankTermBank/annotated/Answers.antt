@@ -1,0 +1,10 @@
+use Rattle.std.proofs.Common.{subst}
+use Rattle.rx_term.specs.Steps.{MakesOrRefuses}
+use Rattle.rx_plain.specs.State.{store_of}
+use Rattle.rx_plain.specs.BankLemmas.{annotated-body}
+use Rattle.rx_plain.proofs.bank.PlainBankTermBank.annotated.Goals as goal
+
+pub returns : goal.returns
+returns c =
+    let e = annotated-body c.args.self.now c.body-body.result c.args.t c.args.anns c.notes-notes.result c.body-body.ensures.tree c.requires c.notes-notes.ensures in
+    subst (λ o. MakesOrRefuses (store_of c.args.self.now) (store_of c.make.new.self) o c.make.result) e c.make.ensures

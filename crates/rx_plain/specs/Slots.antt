@@ -1,0 +1,72 @@
+-- The heap that a vector of slots is.
+use Rattle.std.specs.Prelude.{ℕ, List, Bool, true, false, Option, Some, None, is_some, slice_get}
+use Rattle.std.specs.Ordering.{nat_cmp}
+use Rattle.std.specs.FinMap as map
+use Rattle.rx_term.specs.Name.{Signature}
+use Rattle.rx_term.specs.declared.Term.{Term}
+use Rattle.rx_term.specs.Heap.{Node, number, empty, pair, application, placeholder, Cell, Heap, Table}
+use Rattle.rx_plain.specs.declared.slots.Body.{Body}
+use Rattle.rx_plain.specs.declared.slots.Slot.{Slot}
+use Rattle.rx_plain.specs.declared.slots.Shape.{Shape}
+use Rattle.rx_plain.specs.declared.slots.Shape.TheVariants as shape
+
+-- the node of a shape
+abbrev pub node_of : Shape → Node
+node_of (shape.Int z) = number z
+node_of shape.Nil = empty
+node_of (shape.Cons i j) = pair i.0 j.0
+node_of (shape.Appl s j) = application s.0 j.0
+node_of (shape.Hole i) = placeholder i.0
+
+-- the slot of the annotations
+abbrev pub notes_of : Option Term → Option ℕ
+notes_of None = None
+notes_of (Some t) = Some t.0
+
+-- the cell of a body
+abbrev pub cell_of : Body → Cell
+cell_of b = record { node = node_of b.shape; notes = notes_of b.anns }
+
+abbrev pub cell_in : Option Body → Option Cell
+cell_in None = None
+cell_in (Some b) = Some (cell_of b)
+
+abbrev pub cell_at : Option Slot → Option Cell
+cell_at None = None
+cell_at (Some s) = cell_in s.body
+
+-- the cell that each slot holds
+abbrev pub heap_of : List Slot → Heap
+heap_of xs t = cell_at (slice_get xs t)
+
+-- how often a slot is rooted
+abbrev pub count_in : Option Slot → ℕ
+count_in None = 0
+count_in (Some s) = s.roots
+
+abbrev pub roots_of : List Slot → ℕ → ℕ
+roots_of xs t = count_in (slice_get xs t)
+
+-- what symbols stand for, as a function
+abbrev pub table_of : map.FinMap nat_cmp Signature → Table
+table_of symbols s = map.get symbols s
+
+-- the slot after a sweep: kept where it was marked, else free; unmarked
+abbrev pub swept_by : Bool → Slot → Slot
+swept_by true s = record { body = s.body; roots = s.roots; mark = false }
+swept_by false s = record { body = None; roots = 0; mark = false }
+
+abbrev pub swept_of : Slot → Slot
+swept_of s = swept_by s.mark s
+
+-- whether a slot is taken
+abbrev pub is_taken : Slot → Bool
+is_taken s = is_some s.body
+
+-- whether a slot is marked
+abbrev pub mark_in : Option Slot → Bool
+mark_in None = false
+mark_in (Some s) = s.mark
+
+abbrev pub marks_of : List Slot → ℕ → Bool
+marks_of xs t = mark_in (slice_get xs t)

@@ -1,0 +1,10 @@
+//! A bank of terms as a vector of slots, searched from the front.
+#![tactic(auto)]
+
+pub mod bank;
+mod marks;
+mod slots;
+#[cfg(test)]
+mod tests;
+
+pub use bank::PlainBank;

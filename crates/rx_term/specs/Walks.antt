@@ -1,0 +1,49 @@
+-- What those who build and walk trees through a bank promise.
+use Rattle.std.specs.Prelude.{◌≡◌, List, [], ◌∷◌, ◌++◌, Option, Some, None, IsSome}
+use Rattle.rx_term.specs.Parts.{parts, annotation_parts}
+use Rattle.rx_term.specs.Tree.{Tree, Trees, Items, none, more, annotations}
+use Rattle.rx_term.specs.Store.{Store, tree_at}
+use Rattle.rx_term.specs.declared.Term.{Term}
+
+-- the trees of these references, in order
+abbrev pub TreesAt : Store → List Term → Trees → Type 0
+TreesAt w [] ts = ts ≡ none
+TreesAt w (r ∷ rs) none = ⊥
+TreesAt w (r ∷ rs) (more t ts) = (tree_at w r ≡ Some t) × TreesAt w rs ts
+
+-- the tree is the list of the trees of these references
+abbrev pub Lists : Store → List Term → Option Tree → Type 0
+Lists w rs tree = (ts : Trees) × TreesAt w rs ts × (tree ≡ Some (Items ts none))
+
+-- the parts of the tree of a reference
+abbrev pub parts_of : Option Tree → List Tree
+parts_of None = []
+parts_of (Some t) = parts t
+
+-- the parts of the trees of some references
+abbrev pub all_parts : Store → List Term → List Tree
+all_parts w [] = []
+all_parts w (r ∷ rs) = parts_of (tree_at w r) ++ all_parts w rs
+
+-- each of them is held
+abbrev pub AllHeld : Store → List Term → Type 0
+AllHeld w [] = Unit {0}
+AllHeld w (r ∷ rs) = IsSome (tree_at w r) × AllHeld w rs
+
+-- what stands below a node, but for its annotations, was pushed: kids are the references of these parts
+pub record PushesInside (w : Store) (u : Term) (old new : List Term) : Type 0 where
+  pub tree : Tree
+  pub kids : List Term
+  pub here : tree_at w u ≡ Some tree
+  pub pushed : new ≡ old ++ kids
+  pub held : AllHeld w kids
+  pub covers : parts tree ≡ tree ∷ (all_parts w kids ++ annotation_parts (annotations tree))
+
+-- the annotation list was pushed, where there is one
+pub record PushesAnns (w : Store) (u : Term) (old new : List Term) : Type 0 where
+  pub tree : Tree
+  pub kids : List Term
+  pub here : tree_at w u ≡ Some tree
+  pub pushed : new ≡ old ++ kids
+  pub held : AllHeld w kids
+  pub covers : annotation_parts (annotations tree) ≡ all_parts w kids
