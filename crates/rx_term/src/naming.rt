@@ -22,14 +22,14 @@ fn all_continue(bytes: &[u8]) -> bool
 }
 
 /// Whether a name without quotes may begin with this byte.
-fn begins_plain_name(byte: u8) -> bool
+pub fn begins_plain_name(byte: u8) -> bool
     ensures { result ≡ starts_name byte }
 {
     byte >= b'A' && byte <= b'Z' || byte >= b'a' && byte <= b'z' || byte == b'_'
 }
 
 /// Whether a name without quotes may go on with this byte.
-fn continues_plain_name(byte: u8) -> bool
+pub fn continues_plain_name(byte: u8) -> bool
     ensures { result ≡ continues_name byte }
 {
     begins_plain_name(byte)

@@ -1,0 +1,106 @@
+-- What is left to be written, as text.
+use Rattle.std.specs.Prelude.{◌≡◌, ℕ, ◌+◌, ◌<◌, List, [], ◌∷◌, ◌++◌, reverse, Option, Some, None, IsSome}
+use Rattle.std.specs.List.{AllByRecursion}
+use Rattle.std.specs.Fmt.{signed_decimal}
+use Rattle.std.specs.Io.KnownBytes.{Appends}
+use Rattle.rx_term.specs.Tree.{Tree, Trees, none, more, Int, Appl, Items, Hole, annotations}
+use Rattle.rx_term.specs.Store.{Store, tree_at}
+use Rattle.rx_text.specs.Canon.{canon, canon_all, canon_others, enclosed, name_text, no_arguments}
+use Rattle.rx_text.specs.declared.writer.Job.{Job}
+use Rattle.rx_text.specs.declared.writer.Job.TheVariants as job
+
+-- the annotations of a tree in braces, where it has any
+abbrev pub notes_text : Trees → List ℕ
+notes_text anns = enclosed 123 anns (canon_all anns) 125 []
+
+-- a tree's own items, where it is a list
+abbrev pub items_of : Tree → Trees
+items_of (Items items anns) = items
+items_of t = none
+
+-- the same of the tree of a reference
+abbrev pub seen : {X : Type 0} → X → (Tree → X) → Option Tree → X
+seen x of None = x
+seen x of (Some t) = of t
+
+-- a tree without its annotations
+abbrev pub body_text : Tree → List ℕ
+body_text (Int z anns) = signed_decimal z
+body_text (Appl name quoted args anns) = name_text name quoted ++ enclosed 40 args (canon_all args) 41 (no_arguments name quoted)
+body_text (Items items anns) = 91 ∷ canon_all items ++ 93 ∷ []
+body_text (Hole inner anns) = 60 ∷ canon inner ++ 62 ∷ []
+
+-- the text of a job
+abbrev pub job_text : Store → Job → List ℕ
+job_text w (job.Byte b) = b ∷ []
+job_text w (job.Tree t) = seen [] canon (tree_at w t)
+job_text w (job.Notes t) = seen [] (λ u. notes_text (annotations u)) (tree_at w t)
+job_text w (job.Items t) = seen [] (λ u. canon_all (items_of u)) (tree_at w t)
+job_text w (job.Others t) = seen [] (λ u. canon_others (items_of u)) (tree_at w t)
+
+abbrev mutual
+  -- more than its parts together
+  pub size : Tree → ℕ
+  size (Int z anns) = 3 + sizes anns
+  size (Appl name quoted args anns) = 4 + sizes args + sizes anns
+  size (Items items anns) = 4 + sizes items + sizes anns
+  size (Hole inner anns) = 4 + size inner + sizes anns
+
+  pub sizes : Trees → ℕ
+  sizes none = 1
+  sizes (more t ts) = 1 + size t + sizes ts
+
+-- the same without annotations
+abbrev pub body_size : Tree → ℕ
+body_size (Int z anns) = 1
+body_size (Appl name quoted args anns) = 2 + sizes args
+body_size (Items items anns) = 2 + sizes items
+body_size (Hole inner anns) = 2 + size inner
+
+-- how much there is to do
+abbrev pub job_size : Store → Job → ℕ
+job_size w (job.Byte b) = 1
+job_size w (job.Tree t) = seen 1 size (tree_at w t)
+job_size w (job.Notes t) = seen 1 (λ u. 2 + sizes (annotations u)) (tree_at w t)
+job_size w (job.Items t) = seen 1 (λ u. sizes (items_of u)) (tree_at w t)
+job_size w (job.Others t) = seen 1 (λ u. sizes (items_of u)) (tree_at w t)
+
+-- the tree is a list
+abbrev pub IsList : Option Tree → Type 0
+IsList (Some (Items items anns)) = Unit {0}
+IsList o = ⊥
+
+-- the reference of a job has such a tree
+abbrev pub IsJob : Store → Job → Type 0
+IsJob w (job.Byte b) = Unit {0}
+IsJob w (job.Tree t) = IsSome (tree_at w t)
+IsJob w (job.Notes t) = IsSome (tree_at w t)
+IsJob w (job.Items t) = IsList (tree_at w t)
+IsJob w (job.Others t) = IsList (tree_at w t)
+
+-- the text of jobs, of which the last is done first
+abbrev pub jobs_text : Store → List Job → List ℕ
+jobs_text w [] = []
+jobs_text w (j ∷ js) = jobs_text w js ++ job_text w j
+
+abbrev pub jobs_size : Store → List Job → ℕ
+jobs_size w [] = 0
+jobs_size w (j ∷ js) = job_size w j + jobs_size w js
+
+-- the jobs that were added are the text
+pub record Adds (w : Store) (whole : List ℕ) (room : ℕ) (before after : List Job) : Type 0 where
+  pub added : List Job
+  pub grown : after ≡ before ++ added
+  pub text : whole ≡ jobs_text w added
+  pub jobs : AllByRecursion (IsJob w) added
+  pub less : jobs_size w added < room
+
+-- a front of the text was written, and the jobs that were added are the rest of it
+pub record Leaves (w : Store) (whole : List ℕ) (room : ℕ) (old new : Option (List ℕ)) (before after : List Job) : Type 0 where
+  pub front : List ℕ
+  pub added : List Job
+  pub grown : after ≡ before ++ added
+  pub written : Appends old new front
+  pub text : whole ≡ front ++ jobs_text w added
+  pub jobs : AllByRecursion (IsJob w) added
+  pub less : jobs_size w added < room

@@ -1,0 +1,81 @@
+-- What the reader's tokens stand for.
+use Rattle.std.specs.Prelude.{◌≡◌, ℕ, ◌<◌, ◌≤◌, Bool, true, false, List, [], drop, slice_range, length, Option, Some, None, IsSome, IsTrue}
+use Rattle.std.specs.List.{list_all}
+use Rattle.rx_term.specs.Name.{is_allowed, is_digit}
+use Rattle.rx_term.specs.Tree.{is_i32}
+use Rattle.rx_text.specs.Token as token
+use Rattle.rx_text.specs.Token.{Token, tokens_from, quoted}
+use Rattle.rx_text.specs.declared.nodes.Word.{Word}
+use Rattle.rx_text.specs.declared.lexer.Kind.{Kind}
+use Rattle.rx_text.specs.declared.lexer.Kind.TheVariants.{Integer, Name, Open, Close, OpenBracket, CloseBracket, OpenBrace, CloseBrace, Less, Greater, Comma, Bad, End}
+
+-- the name that was read up to its closing quote
+abbrev pub quoted_name : Option (List ℕ × ℕ) → List ℕ
+quoted_name None = []
+quoted_name (Some q) = q.0
+
+-- the name that stands between two offsets, or in quotes from the first on
+abbrev pub name_between : List ℕ → ℕ → ℕ → Bool → List ℕ
+name_between bytes from to false = slice_range bytes from to
+name_between bytes from to true = quoted_name (quoted 0 (drop from bytes))
+
+abbrev pub name_of : List ℕ → Word → List ℕ
+name_of bytes w = name_between bytes w.from w.to w.quoted
+
+-- a name stands there
+abbrev pub IsNameBetween : List ℕ → ℕ → ℕ → Bool → Type 0
+IsNameBetween bytes from to false = (from ≤ to) × (to ≤ length bytes) × IsTrue (is_allowed (slice_range bytes from to) false)
+IsNameBetween bytes from to true = (from ≤ length bytes) × IsSome (quoted 0 (drop from bytes))
+
+abbrev pub IsWord : List ℕ → Word → Type 0
+IsWord bytes w = IsNameBetween bytes w.from w.to w.quoted
+
+abbrev pub token_of : List ℕ → Kind → Token
+token_of bytes (Integer z) = token.Integer z
+token_of bytes (Name w) = token.Name (name_of bytes w) w.quoted
+token_of bytes Open = token.Open
+token_of bytes Close = token.Close
+token_of bytes OpenBracket = token.OpenBracket
+token_of bytes CloseBracket = token.CloseBracket
+token_of bytes OpenBrace = token.OpenBrace
+token_of bytes CloseBrace = token.CloseBrace
+token_of bytes Less = token.Less
+token_of bytes Greater = token.Greater
+token_of bytes Comma = token.Comma
+token_of bytes Bad = token.Bad
+token_of bytes End = token.End
+
+-- the tokens from an offset on
+abbrev pub tokens_after : List ℕ → ℕ → List (ℕ × Token)
+tokens_after bytes from = tokens_from 0 from (drop from bytes)
+
+-- the tokens behind a token that takes the bytes up to `to`
+abbrev pub behind : List ℕ → Kind → ℕ → List (ℕ × Token)
+behind bytes End to = []
+behind bytes k to = tokens_after bytes to
+
+-- a token that is not the end takes a byte
+abbrev pub Advances : Kind → ℕ → ℕ → Type 0
+Advances End from to = Unit {0}
+Advances k from to = from < to
+
+-- neither a name nor the end
+abbrev pub IsMark : Kind → Type 0
+IsMark (Name w) = ⊥
+IsMark End = ⊥
+IsMark k = Unit {0}
+
+-- not the end
+abbrev pub IsInner : Kind → Type 0
+IsInner End = ⊥
+IsInner k = Unit {0}
+
+-- an integer fits, and a name is one
+abbrev pub IsToken : List ℕ → Kind → Type 0
+IsToken bytes (Integer z) = IsTrue (is_i32 z)
+IsToken bytes (Name w) = IsWord bytes w
+IsToken bytes k = Unit {0}
+
+-- each byte is a digit
+abbrev pub AreDigits : List ℕ → Type 0
+AreDigits bytes = list_all is_digit bytes ≡ true

@@ -1,0 +1,133 @@
+-- What the reader's stack and nodes stand for: a state of the machine.
+use Rattle.std.specs.Prelude.{◌≡◌, ℕ, ◌+◌, ◌≤◌, List, [], ◌∷◌, length, map, drop, reverse, Option, Some, None, Result, Ok, Err, IsTrue}
+use Rattle.std.specs.List.{AllByRecursion}
+use Rattle.rx_term.specs.Tree.{Tree, none, annotated, is_i32}
+use Rattle.rx_text.specs.Nodes as nodes
+use Rattle.rx_text.specs.Nodes.{taken, top, rest, trees_of, Enough}
+use Rattle.rx_text.specs.Machine as machine
+use Rattle.rx_text.specs.Machine.{State}
+use Rattle.rx_text.specs.Lexemes.{name_of, IsWord}
+use Rattle.rx_text.specs.declared.nodes.Node.{Node}
+use Rattle.rx_text.specs.declared.nodes.Node.TheVariants as node
+use Rattle.rx_text.specs.declared.reader.Opening.{Opening}
+use Rattle.rx_text.specs.declared.reader.Opening.TheVariants as opening
+use Rattle.rx_text.specs.declared.reader.Frame.{Frame}
+use Rattle.rx_text.specs.declared.reader.Due.{Due}
+use Rattle.rx_text.specs.declared.reader.Due.TheVariants.{Term, First, Named, Body, Whole, Done}
+use Rattle.rx_text.specs.declared.reader.Stop.{Stop}
+use Rattle.rx_text.specs.declared.reader.Stop.TheVariants as stop
+
+abbrev pub node_of : List ℕ → Node → nodes.Node
+node_of bytes (node.Integer z) = nodes.Number z
+node_of bytes (node.Application w k) = nodes.Application (name_of bytes w) w.quoted k
+node_of bytes (node.List k) = nodes.Listing k
+node_of bytes node.Placeholder = nodes.Holding
+node_of bytes (node.Annotations k) = nodes.Annotating k
+
+-- a node's integer fits, and its name is one
+abbrev pub IsNode : List ℕ → Node → Type 0
+IsNode bytes (node.Integer z) = IsTrue (is_i32 z)
+IsNode bytes (node.Application w k) = IsWord bytes w
+IsNode bytes n = Unit {0}
+
+-- the trees that are read, the newest first
+abbrev pub made_of : List ℕ → List Node → List Tree
+made_of bytes ns = trees_of [] (map (node_of bytes) ns)
+
+-- the frame of what is open, with its newest trees
+abbrev pub frame_of : List ℕ → Opening → ℕ → List Tree → machine.Frame
+frame_of bytes (opening.Arguments w) k made = machine.InArguments (name_of bytes w) w.quoted (taken k made)
+frame_of bytes opening.List k made = machine.InList (taken k made)
+frame_of bytes opening.Placeholder k made = machine.InHole
+frame_of bytes opening.Annotations k made = machine.InAnnotations (top (drop k made)) (taken k made)
+
+-- how many trees belong to it
+abbrev pub held : Opening → ℕ → ℕ
+held (opening.Arguments w) k = k
+held opening.List k = k
+held opening.Placeholder k = 0
+held opening.Annotations k = k + 1
+
+-- the trees that were made before those
+abbrev pub under : Opening → ℕ → List Tree → List Tree
+under (opening.Arguments w) k made = drop k made
+under opening.List k made = drop k made
+under opening.Placeholder k made = made
+under opening.Annotations k made = rest (drop k made)
+
+-- its name is one
+abbrev pub IsOpening : List ℕ → Opening → Type 0
+IsOpening bytes (opening.Arguments w) = IsWord bytes w
+IsOpening bytes o = Unit {0}
+
+-- what is open, the innermost first
+abbrev pub frames_of : List ℕ → List Frame → List Tree → List machine.Frame
+frames_of bytes [] made = []
+frames_of bytes (f ∷ fs) made = frame_of bytes f.opening f.count made ∷ frames_of bytes fs (under f.opening f.count made)
+
+abbrev pub mode_of : List ℕ → Due → List Tree → machine.Mode
+mode_of bytes Term made = machine.Due
+mode_of bytes (First o) made = machine.First (frame_of bytes o 0 made)
+mode_of bytes (Named w) made = machine.Named (name_of bytes w) w.quoted
+mode_of bytes Body made = machine.Body (top made)
+mode_of bytes Whole made = machine.Whole (top made)
+mode_of bytes Done made = machine.Done (top made)
+
+-- the trees that belong to frames of the stack
+abbrev pub owned : Due → List Tree → List Tree
+owned Term made = made
+owned (First o) made = under o 0 made
+owned (Named w) made = made
+owned Body made = rest made
+owned Whole made = rest made
+owned Done made = rest made
+
+-- how many trees belong to none
+abbrev pub loose : Due → ℕ
+loose Term = 0
+loose (First o) = held o 0
+loose (Named w) = 0
+loose Body = 1
+loose Whole = 1
+loose Done = 1
+
+abbrev pub state_of : List ℕ → Due → List Frame → List Node → State
+state_of bytes d frames ns = (mode_of bytes d (made_of bytes ns), frames_of bytes (reverse frames) (owned d (made_of bytes ns)))
+
+-- how many trees belong to the frames
+abbrev pub total : List Frame → ℕ
+total [] = 0
+total (f ∷ fs) = held f.opening f.count + total fs
+
+-- a name that is read and not yet a node
+abbrev pub pending : Due → ℕ
+pending (Named w) = 1
+pending d = 0
+
+-- a body has no annotations
+abbrev pub IsBare : Due → List Tree → Type 0
+IsBare Body made = annotated (top made) none ≡ top made
+IsBare d made = Unit {0}
+
+abbrev pub IsDue : List ℕ → Due → Type 0
+IsDue bytes (First o) = IsOpening bytes o
+IsDue bytes (Named w) = IsWord bytes w
+IsDue bytes d = Unit {0}
+
+-- every tree belongs to a frame, but so many; and names are names
+pub record IsStack (bytes : List ℕ) (k : ℕ) (frames : List Frame) (ns : List Node) : Type 0 where
+  pub enough : Enough [] (map (node_of bytes) ns)
+  pub counted : total (reverse frames) + k ≡ length (made_of bytes ns)
+  pub openings : AllByRecursion (λ f. IsOpening bytes f.opening) frames
+  pub names : AllByRecursion (IsNode bytes) ns
+
+pub record IsState (bytes : List ℕ) (d : Due) (frames : List Frame) (ns : List Node) : Type 0 where
+  pub stack : IsStack bytes (loose d) frames ns
+  pub bare : IsBare d (made_of bytes ns)
+  pub word : IsDue bytes d
+
+-- a step of the machine, unless memory ran out
+abbrev pub Moves : List ℕ → Option State → Result Due Stop → List Frame → List Node → Type 0
+Moves bytes moved (Ok d) frames ns = (moved ≡ Some (state_of bytes d frames ns)) × IsState bytes d frames ns
+Moves bytes moved (Err stop.Refused) frames ns = moved ≡ None
+Moves bytes moved (Err stop.Memory) frames ns = Unit {0}

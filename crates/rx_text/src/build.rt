@@ -1,0 +1,110 @@
+//! A tree is made in a bank from its nodes.
+
+ghost use Rattle.std.specs.Prelude.{◌≡◌, ◌≤◌, ◌++◌, ◌∷◌, [], List, length, drop, Some, IfOk, IfErr};
+ghost use Rattle.rx_term.specs.Tree.{Tree, list_of};
+ghost use Rattle.rx_term.specs.Store.{tree_at, signature_of};
+ghost use Rattle.rx_term.specs.Steps.{Grows};
+ghost use Rattle.rx_text.specs.Lexemes.{name_of, IsWord};
+ghost use Rattle.rx_text.specs.Nodes.{newest, needed, joined};
+ghost use Rattle.rx_text.specs.Reader.{node_of, IsNode};
+ghost use Rattle.rx_text.specs.Answer.{AreNodesOf};
+ghost use Rattle.rx_text.specs.Held.{Holds, IsBankRefusal, IsRefusal};
+
+use crate::faults::TextFault;
+use crate::nodes::{Node, Word};
+use crate::quoted_name::read_quoted;
+use rx_term::{BankFault, Symbol, Term, TermBank};
+use std::alloc::Global;
+
+// The list of the last so many references, which it takes away.
+fn take_list<B: TermBank>(made: &mut Vec<Term>, count: u32, bank: &mut B) -> Result<Term, BankFault>
+    requires held { (trees : List Tree) × Holds (B.store bank.old) made.old.items trees × (count ≤ length trees) }
+    ensures list { IfOk result (λ r. (trees : List Tree) → Holds (B.store bank.old) made.old.items trees → tree_at (B.store bank.new) r ≡ Some (list_of (newest count trees))) }
+    ensures left { IfOk result (λ r. (trees : List Tree) → Holds (B.store bank.old) made.old.items trees → Holds (B.store bank.new) made.new.items (drop count trees)) }
+    ensures refused { IfErr result (IsBankRefusal (B.store bank.new)) }
+    ensures grows { Grows (B.store bank.old) (B.store bank.new) }
+{
+    let mut list = bank.nil()?;
+    for _index in 0..count {
+        let item = made.pop().unwrap();
+        list = bank.cons(item, list)?;
+    }
+    Ok(list)
+}
+
+// The symbol of a name and a number of arguments.
+fn symbol_of<B: TermBank>(
+    alloc: Global,
+    bytes: &[u8],
+    word: Word,
+    count: u32,
+    bank: &mut B,
+) -> Result<Symbol, TextFault>
+    requires { IsWord bytes.now word }
+    ensures symbol { IfOk result (λ s. signature_of (B.store bank.new) s ≡ Some (record { name = name_of bytes.now word; quoted = word.quoted; arity = count })) }
+    ensures refused { IfErr result (IsRefusal (B.store bank.new)) }
+    ensures grows { Grows (B.store bank.old) (B.store bank.new) }
+{
+    if word.quoted {
+        let read = read_quoted(alloc, &bytes[word.from as usize..])?;
+        let (name, _) = read.unwrap();
+        Ok(bank.symbol(&name, true, count)?)
+    } else {
+        let name = &bytes[word.from as usize..word.to as usize];
+        Ok(bank.symbol(name, false, count)?)
+    }
+}
+
+// The tree of a node, whose parts are the last references.
+fn make<B: TermBank>(
+    alloc: Global,
+    bytes: &[u8],
+    node: Node,
+    made: &mut Vec<Term>,
+    bank: &mut B,
+) -> Result<Term, TextFault>
+    requires held { (trees : List Tree) × Holds (B.store bank.old) made.old.items trees × (needed (node_of bytes.now node) ≤ length trees) }
+    requires name { IsNode bytes.now node }
+    ensures made { IfOk result (λ r. (trees : List Tree) → Holds (B.store bank.old) made.old.items trees → Holds (B.store bank.new) (made.new.items ++ r ∷ []) (joined (node_of bytes.now node) trees)) }
+    ensures refused { IfErr result (IsRefusal (B.store bank.new)) }
+    ensures grows { Grows (B.store bank.old) (B.store bank.new) }
+{
+    match node {
+        Node::Integer(value) => Ok(bank.int(value)?),
+        Node::Application(word, count) => {
+            let args = take_list(made, count, bank)?;
+            let symbol = symbol_of(alloc, bytes, word, count, bank)?;
+            Ok(bank.appl(symbol, args)?)
+        }
+        Node::List(count) => Ok(take_list(made, count, bank)?),
+        Node::Placeholder => {
+            let inner = made.pop().unwrap();
+            Ok(bank.hole(inner)?)
+        }
+        Node::Annotations(count) => {
+            let anns = take_list(made, count, bank)?;
+            let term = made.pop().unwrap();
+            Ok(bank.annotated(term, anns)?)
+        }
+    }
+}
+
+/// Makes the tree of the nodes.
+pub fn build<B: TermBank>(
+    alloc: Global,
+    bytes: &[u8],
+    nodes: &[Node],
+    bank: &mut B,
+) -> Result<Term, TextFault>
+    requires { (t : Tree) × AreNodesOf bytes.now nodes.now t }
+    ensures made { IfOk result (λ r. (t : Tree) → AreNodesOf bytes.now nodes.now t → tree_at (B.store bank.new) r ≡ Some t) }
+    ensures refused { IfErr result (IsRefusal (B.store bank.new)) }
+    ensures grows { Grows (B.store bank.old) (B.store bank.new) }
+{
+    let mut made: Vec<Term> = Vec::new(alloc);
+    for node in nodes {
+        let term = make(alloc, bytes, *node, &mut made, bank)?;
+        made.push(term)?;
+    }
+    Ok(made[0])
+}

@@ -1,0 +1,78 @@
+//! Why a text is not read or written.
+
+ghost use Rattle.std.specs.Prelude.{◌≡◌};
+
+use rx_term::BankFault;
+use std::alloc::{AllocError, AllocFailed};
+use thiserror::Error;
+
+/// Why no tree was read.
+#[derive(Clone, Copy, PartialEq, Eq, Debug, Drop, Error)]
+pub enum TextFault {
+    /// The text has more than 16,777,216 bytes.
+    #[error("the text is too long")]
+    Long,
+    /// The text is outside the grammar, from the token at this offset on.
+    #[error("the text is outside the grammar at {at}")]
+    Grammar { at: u32 },
+    /// Memory ran out.
+    #[error("out of memory")]
+    Memory,
+    /// The bank has as many cells as it may have.
+    #[error("out of cells")]
+    Full,
+}
+
+impl<T: Drop> From<AllocFailed<T>> for TextFault {
+    ghost use Rattle.rx_text.specs.declared.faults.TextFault.TheVariants.{Memory};
+
+    ghost from_gives = { λ _ e. e ≡ Memory };
+
+    fn from(_error: AllocFailed<T>) -> Self {
+        TextFault::Memory
+    }
+}
+
+impl From<AllocError> for TextFault {
+    ghost use Rattle.rx_text.specs.declared.faults.TextFault.TheVariants.{Memory};
+
+    ghost from_gives = { λ _ e. e ≡ Memory };
+
+    fn from(_error: AllocError) -> Self {
+        TextFault::Memory
+    }
+}
+
+impl From<BankFault> for TextFault {
+    ghost use Rattle.rx_text.specs.Faults.{text_fault};
+
+    ghost from_gives = { λ fault e. e ≡ text_fault fault };
+
+    fn from(fault: BankFault) -> Self {
+        match fault {
+            BankFault::Memory => TextFault::Memory,
+            BankFault::Full => TextFault::Full,
+        }
+    }
+}
+
+/// Why a tree was not printed.
+#[derive(Clone, Copy, PartialEq, Eq, Debug, Drop, Error)]
+pub enum WriteFault {
+    /// Memory ran out.
+    #[error("out of memory")]
+    Memory,
+    /// The writer refused.
+    #[error("the text was not written")]
+    Write,
+}
+
+impl<T: Drop> From<AllocFailed<T>> for WriteFault {
+    ghost use Rattle.rx_text.specs.declared.faults.WriteFault.TheVariants.{Memory};
+
+    ghost from_gives = { λ _ e. e ≡ Memory };
+
+    fn from(_error: AllocFailed<T>) -> Self {
+        WriteFault::Memory
+    }
+}

@@ -1,0 +1,221 @@
+//! The tokens of a text.
+
+ghost use Rattle.std.specs.Prelude.{◌≡◌, ℕ, ◌+◌, ◌-◌, ◌<◌, ◌≤◌, ◌^◌, ◌∷◌, List, Bool, true, false, cond, length, drop, min, slice_index, pos, neg_ℤ};
+ghost use Rattle.std.specs.List.{prefix_len};
+ghost use Rattle.std.specs.Str.Parse.{digits_value};
+ghost use Rattle.rx_term.specs.Name.{continues_name, is_digit};
+ghost use Rattle.rx_text.specs.Token.{token_at, quoted, quoted_token, is_layout, integer_token, mark};
+ghost use Rattle.rx_text.specs.Lexemes.{token_of, tokens_after, behind, Advances, IsToken, IsMark, IsInner, AreDigits};
+ghost use Rattle.rx_text.specs.Verdict.{longest};
+
+use crate::nodes::Word;
+use crate::quoted_name::quoted_length;
+use rx_term::naming::{begins_plain_name, continues_plain_name};
+
+/// What a token is.
+#[derive(Clone, Copy, Debug, Drop)]
+pub enum Kind {
+    Integer(i32),
+    Name(Word),
+    Open,
+    Close,
+    OpenBracket,
+    CloseBracket,
+    OpenBrace,
+    CloseBrace,
+    Less,
+    Greater,
+    Comma,
+    Bad,
+    End,
+}
+
+/// A token, the offset at which it begins, and the offset behind it.
+#[derive(Clone, Copy, Debug, Drop)]
+pub struct Lexeme {
+    pub kind: Kind,
+    pub at: usize,
+    pub to: usize,
+}
+
+fn is_blank(byte: u8) -> bool
+    ensures { result ≡ is_layout byte }
+{
+    byte == b' ' || byte == b'\t' || byte == b'\n' || byte == b'\r'
+}
+
+// Whether the byte is an ASCII digit.
+fn is_decimal(byte: u8) -> bool
+    ensures { result ≡ is_digit byte }
+{
+    byte >= b'0' && byte <= b'9'
+}
+
+// The first offset from `from` on at which no layout stands.
+fn after_layout(bytes: &[u8], from: usize) -> usize
+    requires { from ≤ length bytes.now }
+    ensures above { from ≤ result }
+    ensures within { result ≤ length bytes.now }
+    ensures blank { result < length bytes.now → is_layout (slice_index bytes.now result) ≡ false }
+    ensures same { tokens_after bytes.now from ≡ tokens_after bytes.now result }
+{
+    let mut at = from;
+    while at < bytes.len() && is_blank(bytes[at]) {
+        at += 1;
+    }
+    at
+}
+
+// The end of the digits that stand from `from` on.
+fn digits_end(bytes: &[u8], from: usize) -> usize
+    requires { from ≤ length bytes.now }
+    ensures above { from ≤ result }
+    ensures within { result ≤ length bytes.now }
+    ensures end { result ≡ from + prefix_len is_digit (drop from bytes.now) }
+{
+    let mut end = from;
+    while end < bytes.len() && is_decimal(bytes[end]) {
+        end += 1;
+    }
+    end
+}
+
+// The end of the bytes that go on a name from `from` on.
+fn name_end(bytes: &[u8], from: usize) -> usize
+    requires { from ≤ length bytes.now }
+    ensures above { from ≤ result }
+    ensures within { result ≤ length bytes.now }
+    ensures end { result ≡ from + prefix_len continues_name (drop from bytes.now) }
+{
+    let mut end = from;
+    while end < bytes.len() && continues_plain_name(bytes[end]) {
+        end += 1;
+    }
+    end
+}
+
+// The number that the digits write, or the greatest number where that is greater.
+fn magnitude(digits: &[u8]) -> u32
+    requires { AreDigits digits.now }
+    ensures { result ≡ min (digits_value 10 digits.now) (2 ^ 32 - 1) }
+{
+    let mut value: u32 = 0;
+    for digit in digits {
+        value = value
+            .saturating_mul(10)
+            .saturating_add(u32::from(*digit - b'0'));
+    }
+    value
+}
+
+// The integer of a sign and a magnitude, or a bad token where it is none of 32 bits.
+fn integer(magnitude: u32, negative: bool) -> Kind
+    ensures token { (bytes : List ℕ) → token_of bytes result ≡ integer_token (cond negative (neg_ℤ (pos magnitude)) (pos magnitude)) }
+    ensures kind { IsMark result }
+{
+    let value = if negative {
+        -i64::from(magnitude)
+    } else {
+        i64::from(magnitude)
+    };
+    match i32::try_from(value) {
+        Ok(value) => Kind::Integer(value),
+        Err(_) => Kind::Bad,
+    }
+}
+
+// The name between quotes whose first quote stands before `from`, or a bad token.
+fn quoted_word(bytes: &[u8], from: usize) -> (Kind, usize)
+    requires from { from ≤ length bytes.now }
+    requires short { length bytes.now ≤ longest }
+    ensures token { token_of bytes.now result.0 ≡ (quoted_token (quoted 0 (drop from bytes.now))).0 }
+    ensures end { result.1 ≡ from + (quoted_token (quoted 0 (drop from bytes.now))).1 }
+    ensures within { result.1 ≤ length bytes.now }
+    ensures inner { IsInner result.0 }
+    ensures kind { IsToken bytes.now result.0 }
+{
+    match quoted_length(&bytes[from..]) {
+        Some(used) => {
+            let word = Word {
+                from: from as u32,
+                to: (from + used) as u32,
+                quoted: true,
+            };
+            (Kind::Name(word), from + used)
+        }
+        None => (Kind::Bad, from),
+    }
+}
+
+// The mark that a byte is, or a bad token.
+fn mark_of(byte: u8) -> Kind
+    ensures token { (bytes : List ℕ) → token_of bytes result ≡ mark byte }
+    ensures kind { IsMark result }
+{
+    match byte {
+        b'(' => Kind::Open,
+        b')' => Kind::Close,
+        b'[' => Kind::OpenBracket,
+        b']' => Kind::CloseBracket,
+        b'{' => Kind::OpenBrace,
+        b'}' => Kind::CloseBrace,
+        b'<' => Kind::Less,
+        b'>' => Kind::Greater,
+        b',' => Kind::Comma,
+        _ => Kind::Bad,
+    }
+}
+
+// The token that begins at `at`, and its end.
+fn token(bytes: &[u8], at: usize) -> (Kind, usize)
+    requires at { at < length bytes.now }
+    requires short { length bytes.now ≤ longest }
+    ensures token { token_of bytes.now result.0 ≡ (token_at (slice_index bytes.now at) (drop (at + 1) bytes.now)).0 }
+    ensures end { result.1 ≡ at + 1 + (token_at (slice_index bytes.now at) (drop (at + 1) bytes.now)).1 }
+    ensures within { result.1 ≤ length bytes.now }
+    ensures inner { IsInner result.0 }
+    ensures kind { IsToken bytes.now result.0 }
+{
+    let first = bytes[at];
+    if is_decimal(first) {
+        let end = digits_end(bytes, at + 1);
+        (integer(magnitude(&bytes[at..end]), false), end)
+    } else if first == b'-' && at + 1 < bytes.len() && is_decimal(bytes[at + 1]) {
+        let end = digits_end(bytes, at + 1);
+        (integer(magnitude(&bytes[at + 1..end]), true), end)
+    } else if begins_plain_name(first) {
+        let end = name_end(bytes, at + 1);
+        let word = Word {
+            from: at as u32,
+            to: end as u32,
+            quoted: false,
+        };
+        (Kind::Name(word), end)
+    } else if first == b'"' {
+        quoted_word(bytes, at + 1)
+    } else {
+        (mark_of(first), at + 1)
+    }
+}
+
+/// The first token from `from` on.
+pub fn next(bytes: &[u8], from: usize) -> Lexeme
+    requires from { from ≤ length bytes.now }
+    requires short { length bytes.now ≤ longest }
+    ensures place { result.at ≤ length bytes.now }
+    ensures within { result.to ≤ length bytes.now }
+    ensures advances { Advances result.kind from result.to }
+    ensures kind { IsToken bytes.now result.kind }
+    ensures first { tokens_after bytes.now from ≡ (result.at, token_of bytes.now result.kind) ∷ behind bytes.now result.kind result.to }
+{
+    let at = after_layout(bytes, from);
+    if at == bytes.len() {
+        return Lexeme {
+            kind: Kind::End,
+            at,
+            to: at,
+        };
+    }
+    let (kind, to) = token(bytes, at);
+    Lexeme { kind, at, to }
+}

@@ -1,0 +1,320 @@
+//! The reader: a stack of what is open, and the nodes of what is read.
+
+ghost use Rattle.std.specs.Prelude.{◌≡◌, ◌+◌, ◌<◌, ◌≤◌, length, reverse, IfOk, MatchResult};
+ghost use Rattle.rx_text.specs.Lexemes.{name_of, token_of, IsToken};
+ghost use Rattle.rx_text.specs.Machine.{start, close, first, end_item, next_item, end_hole, whole, body, after_name, step};
+ghost use Rattle.rx_text.specs.Nodes.{top, rest};
+ghost use Rattle.rx_text.specs.Reader.{made_of, frame_of, held, under, frames_of, mode_of, owned, pending, IsStack, IsState, IsOpening, Moves};
+ghost use Rattle.rx_text.specs.Verdict.{longest};
+ghost use Rattle.rx_text.specs.Answer.{AreRead, IsFault};
+
+use crate::faults::TextFault;
+use crate::lexer::{Kind, next};
+use crate::nodes::{Node, Word};
+use std::alloc::{AllocFailed, Global};
+
+/// What is open.
+#[derive(Clone, Copy, Debug, Drop)]
+pub enum Opening {
+    Arguments(Word),
+    List,
+    Placeholder,
+    Annotations,
+}
+
+/// What is open, and how many items of it are read.
+#[derive(Clone, Copy, Debug, Drop)]
+pub struct Frame {
+    opening: Opening,
+    count: u32,
+}
+
+/// What is due next: a term; a term or the end of what was just opened; what follows a name, a body or a term; nothing.
+#[derive(Clone, Copy, Debug, Drop)]
+pub enum Due {
+    Term,
+    First(Opening),
+    Named(Word),
+    Body,
+    Whole,
+    Done,
+}
+
+/// Why a step is not made.
+#[derive(Clone, Copy, Debug, Drop)]
+pub enum Stop {
+    Refused,
+    Memory,
+}
+
+impl<T: Drop> From<AllocFailed<T>> for Stop {
+    ghost use Rattle.rx_text.specs.declared.reader.Stop.TheVariants.{Memory};
+
+    ghost from_gives = { λ _ e. e ≡ Memory };
+
+    fn from(_error: AllocFailed<T>) -> Self {
+        Stop::Memory
+    }
+}
+
+/// The text, what is open in it, and the nodes that are read.
+#[derive(Drop)]
+pub struct Reader<'a> {
+    bytes: &'a [u8],
+    frames: Vec<Frame>,
+    nodes: Vec<Node>,
+}
+
+impl<'a> Reader<'a> {
+    // Where a term is due.
+    fn start(&mut self, token: Kind) -> Result<Due, Stop>
+        requires state { IsState self.old.bytes.now Due.Term self.old.frames.items self.old.nodes.items }
+        requires token { IsToken self.old.bytes.now token }
+        requires few { length self.old.nodes.items ≤ longest }
+        ensures moves { let made = made_of self.old.bytes.now self.old.nodes.items in Moves self.old.bytes.now (start (frames_of self.old.bytes.now (reverse self.old.frames.items) made) (token_of self.old.bytes.now token)) result self.new.frames.items self.new.nodes.items }
+        ensures same { self.new.bytes.now ≡ self.old.bytes.now }
+        ensures few { IfOk result (λ d. length self.new.nodes.items + pending d ≤ length self.old.nodes.items + 1) }
+    {
+        match token {
+            Kind::Integer(value) => {
+                self.nodes.push(Node::Integer(value))?;
+                Ok(Due::Body)
+            }
+            Kind::Name(word) => Ok(Due::Named(word)),
+            Kind::Open => Ok(Due::First(Opening::Arguments(Word::EMPTY))),
+            Kind::OpenBracket => Ok(Due::First(Opening::List)),
+            Kind::Less => {
+                self.frames.push(Frame {
+                    opening: Opening::Placeholder,
+                    count: 0,
+                })?;
+                Ok(Due::Term)
+            }
+            _ => Err(Stop::Refused),
+        }
+    }
+
+    // What was open, and is no longer on the stack, ends at its mark.
+    fn close(&mut self, frame: Frame, token: Kind) -> Result<Due, Stop>
+        requires stack { IsStack self.old.bytes.now (held frame.opening frame.count) self.old.frames.items self.old.nodes.items }
+        requires opening { IsOpening self.old.bytes.now frame.opening }
+        requires few { length self.old.nodes.items ≤ longest }
+        ensures moves { let made = made_of self.old.bytes.now self.old.nodes.items in Moves self.old.bytes.now (close (frame_of self.old.bytes.now frame.opening frame.count made) (frames_of self.old.bytes.now (reverse self.old.frames.items) (under frame.opening frame.count made)) (token_of self.old.bytes.now token)) result self.new.frames.items self.new.nodes.items }
+        ensures same { self.new.bytes.now ≡ self.old.bytes.now }
+        ensures few { IfOk result (λ d. length self.new.nodes.items + pending d ≤ length self.old.nodes.items + 1) }
+    {
+        match frame.opening {
+            Opening::Arguments(word) => match token {
+                Kind::Close => {
+                    self.nodes.push(Node::Application(word, frame.count))?;
+                    Ok(Due::Body)
+                }
+                _ => Err(Stop::Refused),
+            },
+            Opening::List => match token {
+                Kind::CloseBracket => {
+                    self.nodes.push(Node::List(frame.count))?;
+                    Ok(Due::Body)
+                }
+                _ => Err(Stop::Refused),
+            },
+            Opening::Annotations => match token {
+                Kind::CloseBrace => {
+                    self.nodes.push(Node::Annotations(frame.count))?;
+                    Ok(Due::Whole)
+                }
+                _ => Err(Stop::Refused),
+            },
+            Opening::Placeholder => Err(Stop::Refused),
+        }
+    }
+
+    // Behind the mark that opened something: its end, or its first item.
+    fn first(&mut self, opening: Opening, token: Kind) -> Result<Due, Stop>
+        requires state { IsState self.old.bytes.now (Due.First opening) self.old.frames.items self.old.nodes.items }
+        requires token { IsToken self.old.bytes.now token }
+        requires few { length self.old.nodes.items ≤ longest }
+        ensures moves { let made = made_of self.old.bytes.now self.old.nodes.items in Moves self.old.bytes.now (first (frame_of self.old.bytes.now opening 0 made) (frames_of self.old.bytes.now (reverse self.old.frames.items) (under opening 0 made)) (token_of self.old.bytes.now token)) result self.new.frames.items self.new.nodes.items }
+        ensures same { self.new.bytes.now ≡ self.old.bytes.now }
+        ensures few { IfOk result (λ d. length self.new.nodes.items + pending d ≤ length self.old.nodes.items + 1) }
+    {
+        let frame = Frame { opening, count: 0 };
+        match token {
+            Kind::Close => self.close(frame, token),
+            Kind::CloseBracket => self.close(frame, token),
+            Kind::CloseBrace => self.close(frame, token),
+            _ => {
+                self.frames.push(frame)?;
+                self.start(token)
+            }
+        }
+    }
+
+    // One more item of what is open, and a comma.
+    fn next_item(&mut self) -> Result<Due, Stop>
+        requires state { IsState self.old.bytes.now Due.Whole self.old.frames.items self.old.nodes.items }
+        requires few { length self.old.nodes.items ≤ longest }
+        ensures moves { let made = made_of self.old.bytes.now self.old.nodes.items in Moves self.old.bytes.now (next_item (top made) (frames_of self.old.bytes.now (reverse self.old.frames.items) (rest made))) result self.new.frames.items self.new.nodes.items }
+        ensures same { self.new.bytes.now ≡ self.old.bytes.now }
+        ensures few { IfOk result (λ d. length self.new.nodes.items + pending d ≤ length self.old.nodes.items + 1) }
+    {
+        let Some(frame) = self.frames.pop() else {
+            return Err(Stop::Refused);
+        };
+        if let Opening::Placeholder = frame.opening {
+            return Err(Stop::Refused);
+        }
+        self.frames.push(Frame {
+            opening: frame.opening,
+            count: frame.count + 1,
+        })?;
+        Ok(Due::Term)
+    }
+
+    // One more item of what is open, and a mark that ends it.
+    fn end_item(&mut self, token: Kind) -> Result<Due, Stop>
+        requires state { IsState self.old.bytes.now Due.Whole self.old.frames.items self.old.nodes.items }
+        requires few { length self.old.nodes.items ≤ longest }
+        ensures moves { let made = made_of self.old.bytes.now self.old.nodes.items in Moves self.old.bytes.now (end_item (top made) (frames_of self.old.bytes.now (reverse self.old.frames.items) (rest made)) (token_of self.old.bytes.now token)) result self.new.frames.items self.new.nodes.items }
+        ensures same { self.new.bytes.now ≡ self.old.bytes.now }
+        ensures few { IfOk result (λ d. length self.new.nodes.items + pending d ≤ length self.old.nodes.items + 1) }
+    {
+        let Some(frame) = self.frames.pop() else {
+            return Err(Stop::Refused);
+        };
+        if let Opening::Placeholder = frame.opening {
+            return Err(Stop::Refused);
+        }
+        let longer = Frame {
+            opening: frame.opening,
+            count: frame.count + 1,
+        };
+        self.close(longer, token)
+    }
+
+    // The end of a placeholder.
+    fn end_placeholder(&mut self) -> Result<Due, Stop>
+        requires state { IsState self.old.bytes.now Due.Whole self.old.frames.items self.old.nodes.items }
+        requires few { length self.old.nodes.items ≤ longest }
+        ensures moves { let made = made_of self.old.bytes.now self.old.nodes.items in Moves self.old.bytes.now (end_hole (top made) (frames_of self.old.bytes.now (reverse self.old.frames.items) (rest made))) result self.new.frames.items self.new.nodes.items }
+        ensures same { self.new.bytes.now ≡ self.old.bytes.now }
+        ensures few { IfOk result (λ d. length self.new.nodes.items + pending d ≤ length self.old.nodes.items + 1) }
+    {
+        let Some(frame) = self.frames.pop() else {
+            return Err(Stop::Refused);
+        };
+        let Opening::Placeholder = frame.opening else {
+            return Err(Stop::Refused);
+        };
+        self.nodes.push(Node::Placeholder)?;
+        Ok(Due::Body)
+    }
+
+    // Behind a term with its annotations.
+    fn whole(&mut self, token: Kind) -> Result<Due, Stop>
+        requires state { IsState self.old.bytes.now Due.Whole self.old.frames.items self.old.nodes.items }
+        requires token { IsToken self.old.bytes.now token }
+        requires few { length self.old.nodes.items ≤ longest }
+        ensures moves { let made = made_of self.old.bytes.now self.old.nodes.items in Moves self.old.bytes.now (whole (top made) (frames_of self.old.bytes.now (reverse self.old.frames.items) (rest made)) (token_of self.old.bytes.now token)) result self.new.frames.items self.new.nodes.items }
+        ensures same { self.new.bytes.now ≡ self.old.bytes.now }
+        ensures few { IfOk result (λ d. length self.new.nodes.items + pending d ≤ length self.old.nodes.items + 1) }
+    {
+        match token {
+            Kind::Comma => self.next_item(),
+            Kind::Close => self.end_item(token),
+            Kind::CloseBracket => self.end_item(token),
+            Kind::CloseBrace => self.end_item(token),
+            Kind::Greater => self.end_placeholder(),
+            Kind::End => {
+                if self.frames.is_empty() {
+                    Ok(Due::Done)
+                } else {
+                    Err(Stop::Refused)
+                }
+            }
+            _ => Err(Stop::Refused),
+        }
+    }
+
+    // Behind a term to which annotations may come.
+    fn body(&mut self, token: Kind) -> Result<Due, Stop>
+        requires state { IsState self.old.bytes.now Due.Body self.old.frames.items self.old.nodes.items }
+        requires token { IsToken self.old.bytes.now token }
+        requires few { length self.old.nodes.items ≤ longest }
+        ensures moves { let made = made_of self.old.bytes.now self.old.nodes.items in Moves self.old.bytes.now (body (top made) (frames_of self.old.bytes.now (reverse self.old.frames.items) (rest made)) (token_of self.old.bytes.now token)) result self.new.frames.items self.new.nodes.items }
+        ensures same { self.new.bytes.now ≡ self.old.bytes.now }
+        ensures few { IfOk result (λ d. length self.new.nodes.items + pending d ≤ length self.old.nodes.items + 1) }
+    {
+        match token {
+            Kind::OpenBrace => Ok(Due::First(Opening::Annotations)),
+            _ => self.whole(token),
+        }
+    }
+
+    // Behind a name.
+    fn named(&mut self, word: Word, token: Kind) -> Result<Due, Stop>
+        requires state { IsState self.old.bytes.now (Due.Named word) self.old.frames.items self.old.nodes.items }
+        requires token { IsToken self.old.bytes.now token }
+        requires few { length self.old.nodes.items + 1 ≤ longest }
+        ensures moves { let made = made_of self.old.bytes.now self.old.nodes.items in Moves self.old.bytes.now (after_name (name_of self.old.bytes.now word) word.quoted (frames_of self.old.bytes.now (reverse self.old.frames.items) made) (token_of self.old.bytes.now token)) result self.new.frames.items self.new.nodes.items }
+        ensures same { self.new.bytes.now ≡ self.old.bytes.now }
+        ensures few { IfOk result (λ d. length self.new.nodes.items + pending d ≤ length self.old.nodes.items + 1 + 1) }
+    {
+        match token {
+            Kind::Open => Ok(Due::First(Opening::Arguments(word))),
+            _ => {
+                self.nodes.push(Node::Application(word, 0))?;
+                self.body(token)
+            }
+        }
+    }
+
+    // The next token.
+    fn step(&mut self, due: Due, token: Kind) -> Result<Due, Stop>
+        requires state { IsState self.old.bytes.now due self.old.frames.items self.old.nodes.items }
+        requires token { IsToken self.old.bytes.now token }
+        requires few { length self.old.nodes.items + pending due ≤ longest }
+        ensures moves { let made = made_of self.old.bytes.now self.old.nodes.items in Moves self.old.bytes.now (step (mode_of self.old.bytes.now due made) (frames_of self.old.bytes.now (reverse self.old.frames.items) (owned due made)) (token_of self.old.bytes.now token)) result self.new.frames.items self.new.nodes.items }
+        ensures same { self.new.bytes.now ≡ self.old.bytes.now }
+        ensures few { IfOk result (λ d. length self.new.nodes.items + pending d ≤ length self.old.nodes.items + pending due + 1) }
+    {
+        match due {
+            Due::Term => self.start(token),
+            Due::First(opening) => self.first(opening, token),
+            Due::Named(word) => self.named(word, token),
+            Due::Body => self.body(token),
+            Due::Whole => self.whole(token),
+            Due::Done => Err(Stop::Refused),
+        }
+    }
+}
+
+/// The nodes of the tree that the bytes spell.
+pub fn read_nodes(alloc: Global, bytes: &[u8]) -> Result<Vec<Node>, TextFault>
+    requires { length bytes.now ≤ longest }
+    ensures { MatchResult result (λ nodes. AreRead bytes.now nodes.items) (IsFault bytes.now) }
+{
+    let mut reader = Reader {
+        bytes,
+        frames: Vec::new(alloc),
+        nodes: Vec::new(alloc),
+    };
+    let mut due = Due::Term;
+    let mut from = 0;
+    loop {
+        let lexeme = next(reader.bytes, from);
+        due = match reader.step(due, lexeme.kind) {
+            Ok(due) => due,
+            Err(Stop::Memory) => return Err(TextFault::Memory),
+            Err(Stop::Refused) => {
+                return Err(TextFault::Grammar {
+                    at: lexeme.at as u32,
+                });
+            }
+        };
+        if let Kind::End = lexeme.kind {
+            return Ok(reader.nodes);
+        }
+        from = lexeme.to;
+    }
+}

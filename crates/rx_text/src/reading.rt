@@ -1,0 +1,33 @@
+//! Reading a text into a bank.
+
+ghost use Rattle.std.specs.Prelude.{◌≡◌, ◌↔◌, ℕ, Some, IfOk, IfErr, IsErrOf};
+ghost use Rattle.rx_term.specs.Tree.{Tree};
+ghost use Rattle.rx_term.specs.Store.{tree_at, cells};
+ghost use Rattle.rx_term.specs.Steps.{Grows};
+ghost use Rattle.rx_text.specs.Verdict.{IsVerdict, TooLong, Outside, Spelt};
+ghost use Rattle.rx_text.specs.Faults.{IsOfText};
+
+use crate::build::build;
+use crate::faults::TextFault;
+use crate::reader::read_nodes;
+use rx_term::{Term, TermBank};
+use std::alloc::Global;
+
+/// The most bytes that a text may have.
+pub const LONGEST: usize = 16_777_216;
+
+/// Makes the tree that the bytes spell in the bank.
+pub fn read<B: TermBank>(alloc: Global, bytes: &[u8], bank: &mut B) -> Result<Term, TextFault>
+    ensures spelt { IfOk result (λ t. (u : Tree) × (tree_at (B.store bank.new) t ≡ Some u) × IsVerdict bytes.now (Spelt u)) }
+    ensures long { IsErrOf result TextFault.Long ↔ IsVerdict bytes.now TooLong }
+    ensures outside { (at : ℕ) → IsErrOf result (TextFault.Grammar at) → IsVerdict bytes.now (Outside at) }
+    ensures unchanged { IfErr result (λ fault. IsOfText fault → B.store bank.new ≡ B.store bank.old) }
+    ensures full { IsErrOf result TextFault.Full → cells (B.store bank.new) ≡ (B.store bank.new).cap }
+    ensures grows { Grows (B.store bank.old) (B.store bank.new) }
+{
+    if bytes.len() > LONGEST {
+        return Err(TextFault::Long);
+    }
+    let nodes = read_nodes(alloc, bytes)?;
+    build(alloc, bytes, &nodes, bank)
+}
