@@ -217,10 +217,13 @@ each_rule y taken (r ∷ rs) h k = (rule_facts y taken r h.0 k.0, each_rule y ta
 each_term : (y : Spec) → taken_variables y ≡ [] → (ts : List Term) → Every (λ t. Every (λ u. not (is_filled y u) ≡ false) (subterms t)) ts
     → Every (λ t. Every (λ u. is_variable y (head u).bytes ≡ false) (subterms t)) ts → Every (λ t. AreBare y (named t) × IsClosed y t) ts
 each_term y taken [] h k = tt
-each_term y taken (t ∷ ts) h k =
-    ((every_named (λ u. not (is_filled y u) ≡ false) (λ m. is_variable y m.name ≡ true → m.arguments ≡ 0) (λ w us. bare_at y taken w us) t h.0,
-      every_named (λ u. is_variable y (head u).bytes ≡ false) (λ m. is_variable y m.name ≡ false) (λ w us e. e) t k.0),
-     each_term y taken ts h.1 k.1)
+each_term y taken (t ∷ ts) h k = (
+  (
+    every_named (λ u. not (is_filled y u) ≡ false) (λ m. is_variable y m.name ≡ true → m.arguments ≡ 0) (λ w us. bare_at y taken w us) t h.0,
+    every_named (λ u. is_variable y (head u).bytes ≡ false) (λ m. is_variable y m.name ≡ false) (λ w us e. e) t k.0,
+  ),
+  each_term y taken ts h.1 k.1,
+)
 
 pub facts : (y : Spec) → fault y ≡ None → Facts y
 facts y e =
@@ -232,7 +235,7 @@ facts y e =
     let open_ones : open_terms y ≡ [] = kept.1.1.1.1.1.1.1.1.1.1.0 in
     let all_filled = filter_none (λ t. not (is_filled y t)) (all_terms y) (heads_none (filter (λ t. not (is_filled y t)) (all_terms y)) filled) in
     let split = every_append (λ t. Every (λ u. not (is_filled y u) ≡ false) (subterms t)) (rule_terms y.rules) y.terms
-        (every_flat (λ u. not (is_filled y u) ≡ false) subterms (rule_terms y.rules ++ y.terms) all_filled) in
+    (every_flat (λ u. not (is_filled y u) ≡ false) subterms (rule_terms y.rules ++ y.terms) all_filled) in
     record {
       symbols_differ = λ k j hk hj same. differ [] (names (symbols y)) repeated k j (rw length-map hk) (rw length-map hj) same;
       variables_differ = differ (names (symbols y)) (variable_words y.variables) taken;

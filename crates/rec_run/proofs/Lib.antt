@@ -15,4 +15,5 @@ pub mod Facts
 pub mod ValueLemmas
 pub mod MatchLemmas
 pub mod EvaluationLemmas
+pub mod RuleLemmas
 mod TermRows

@@ -98,7 +98,7 @@ counted y [] = refl
 counted y (v ∷ vs) = let e = counted y vs in omega arith
 
 -- trees go onto a stack in their order
-stacked : (ts st : List Tree) → stack_on (from_list ts) st ≡ reverse ts ++ st
+pub stacked : (ts st : List Tree) → stack_on (from_list ts) st ≡ reverse ts ++ st
 stacked [] st = refl
 stacked (t ∷ ts) st = stacked ts (t ∷ st) ∙ sym (append_assoc (reverse ts) (t ∷ []) st) ∙ ap (λ us. us ++ st) (sym (reverse-append (t ∷ []) ts))
 
@@ -182,17 +182,19 @@ both_ok (Err e) P Q p q = tt
 pub asks_by_variable : (l : Letter) (k : ℕ) → l.meaning ≡ Variable k → (v : Value) (rs : List (Bor Value)) (old new : List Binding) (can : Bool) → Gives k v old can new → Asks l v rs old can rs new
 asks_by_variable l k e v rs old new can gives y kept meaning d all =
     let lt : k < length (variable_words y.variables) = subst (λ m. IsMeaning y m) e meaning in
-    let given = gives y kept lt d all.bindings in
-    ((λ _. record { stack = all.stack; bindings = given.1 }),
-     λ ms. ap (λ m. asked y (record { name = name_of y m; arguments = l.count } ∷ ms) (tree_of_value y v ∷ trees_on y rs) (substitution y old)) e ∙ asks_variable y k l.count lt v rs old new can given.0 ms)
+    let given = gives y kept lt d all.bindings in (
+      (λ _. record { stack = all.stack; bindings = given.1 }),
+      λ ms. ap (λ m. asked y (record { name = name_of y m; arguments = l.count } ∷ ms) (tree_of_value y v ∷ trees_on y rs) (substitution y old)) e ∙ asks_variable y k l.count lt v rs old new can given.0 ms,
+    )
 
 -- a letter that is a symbol is asked by opening the value
 pub asks_by_symbol : (l : Letter) (k : ℕ) → l.meaning ≡ Symbol k → (v : Value) (old new : List (Bor Value)) (bs : List Binding) (can : Bool)
     → can ≡ (nat_eq (symbol_of v) k && nat_eq (length (arguments_of v)) l.count) → (can ≡ true → values_on new ≡ values_on old ++ arguments_of v) → Asks l v old bs can new bs
 asks_by_symbol l k e v old new bs can is stack y kept meaning d all =
-    let lt : k < length (symbols y) = subst (λ m. IsMeaning y m) e meaning in
-    ((λ h. record { stack = subst (λ vs. All (IsDeclared y) vs) (sym (stack h)) (All-append (IsDeclared y) (values_on old) (arguments_of v) all.stack (declared_arguments y v d)); bindings = all.bindings }),
-     λ ms. ap (λ m. asked y (record { name = name_of y m; arguments = l.count } ∷ ms) (tree_of_value y v ∷ trees_on y old) (substitution y bs)) e ∙ asks_symbol y kept k l.count lt v d old new can is stack bs ms)
+    let lt : k < length (symbols y) = subst (λ m. IsMeaning y m) e meaning in (
+      (λ h. record { stack = subst (λ vs. All (IsDeclared y) vs) (sym (stack h)) (All-append (IsDeclared y) (values_on old) (arguments_of v) all.stack (declared_arguments y v d)); bindings = all.bindings }),
+      λ ms. ap (λ m. asked y (record { name = name_of y m; arguments = l.count } ∷ ms) (tree_of_value y v ∷ trees_on y old) (substitution y bs)) e ∙ asks_symbol y kept k l.count lt v d old new can is stack bs ms,
+    )
 
 -- the names of letters, from the last to the first
 abbrev pub backward : Spec → List Letter → List Named
@@ -222,10 +224,10 @@ backward_at y ls i l h e =
     rw add-one (
     drop-cons (backward y ls) i (named_by y l) (omega arith)
     ∙ ap (λ m. m ∷ drop (suc i) (backward y ls))
-      (get_or-reverse (map (named_by y) ls) i (named_by y l) (omega arith)
-      ∙ ap (λ n. get_or (map (named_by y) ls) (n - 1 - i) (named_by y l)) mlen
-      ∙ get_or-map (named_by y) ls (length ls - 1 - i) l (named_by y l) (omega arith)
-      ∙ ap (named_by y) (sym e)))
+    (get_or-reverse (map (named_by y) ls) i (named_by y l) (omega arith)
+    ∙ ap (λ n. get_or (map (named_by y) ls) (n - 1 - i) (named_by y l)) mlen
+    ∙ get_or-map (named_by y) ls (length ls - 1 - i) l (named_by y l) (omega arith)
+    ∙ ap (named_by y) (sym e)))
 
 -- the trees on a stack with one value more
 trees_snoc : (y : Spec) (before rest : List (Bor Value)) (top : Bor Value) → before ≡ rest ++ top ∷ [] → trees_on y before ≡ tree_of_value y top.now ∷ trees_on y rest
@@ -255,12 +257,13 @@ asked_one ls v i l before rest after top here old new can asks so_far y kept kno
     let h : i < length ls = here.within in
     let meaning : IsMeaning y l.meaning = subst (λ (x : Letter). IsMeaning y x.meaning) (sym here.letter) (known (length ls - 1 - i) l (omega arith)) in
     let parts = top_declared y before rest top here.stack p.declared.stack in
-    let a = asks y kept meaning parts.1 (record { stack = parts.0; bindings = p.declared.bindings }) in
-    (sym (a.1 (drop (i + 1) (backward y ls)))
-     ∙ ap (λ st. asked y (named_by y l ∷ drop (i + 1) (backward y ls)) st (substitution y old)) (sym (trees_snoc y before rest top here.stack))
-     ∙ ap (λ ms. asked y ms (trees_on y before) (substitution y old)) (sym (backward_at y ls i l h here.letter))
-     ∙ p.same,
-     a.0)
+    let a = asks y kept meaning parts.1 (record { stack = parts.0; bindings = p.declared.bindings }) in (
+      sym (a.1 (drop (i + 1) (backward y ls)))
+          ∙ ap (λ st. asked y (named_by y l ∷ drop (i + 1) (backward y ls)) st (substitution y old)) (sym (trees_snoc y before rest top here.stack))
+          ∙ ap (λ ms. asked y ms (trees_on y before) (substitution y old)) (sym (backward_at y ls i l h here.letter))
+          ∙ p.same,
+      a.0,
+    )
 
 -- one letter more is asked of the value on top
 pub asked_more : (ls : List Letter) (v : Value) (i : ℕ) (l : Letter) (before rest after : List (Bor Value)) (top : Bor Value) → AtTop ls i l before rest top → (old new : List Binding)

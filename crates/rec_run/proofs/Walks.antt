@@ -58,9 +58,10 @@ opened_is name k u us e = by (tree_eq (application name (arguments u)) u && nat_
     by false h e = absurd (cc e)
     by true h e =
         let is : arguments u ≡ us = cc e in
-        let both = and_parts (tree_eq (application name (arguments u)) u) (nat_eq (count_of (arguments u)) k) h in
-        (subst (λ x. application name x ≡ u) is (same_tree (application name (arguments u)) u both.0),
-         subst (λ x. count_of x ≡ k) is (eqb-true (count_of (arguments u)) k both.1))
+        let both = and_parts (tree_eq (application name (arguments u)) u) (nat_eq (count_of (arguments u)) k) h in (
+          subst (λ x. application name x ≡ u) is (same_tree (application name (arguments u)) u both.0),
+          subst (λ x. count_of x ≡ k) is (eqb-true (count_of (arguments u)) k both.1),
+        )
 
 pub opened_same : (name : List ℕ) (k : ℕ) (us : Trees) → count_of us ≡ k → opened name k (application name us) ≡ Some us
 opened_same name k us e = by (tree_eq (application name us) (application name us)) (nat_eq (count_of us) k) (tree_eq_same (application name us)) (eq-eqb (count_of us) k e)
@@ -275,9 +276,10 @@ mutual
 
   reach_all : (y : Spec) (g : Substitution) → BindsOnly y g → (ts : Terms) (s s' : Substitution) → BindsOnly y s' → IsPartOf (parts_at_variables_all y s ts (instances g ts)) s' → BindsVariablesAll y s' ts
   reach_all y g only_g Terms.none s s' only part = tt
-  reach_all y g only_g (Terms.more t ts) s s' only part =
-      (reach y g only_g t s s' only (λ x v f. part x v (parts_keep_all y (parts_at_variables y s t (instance g t)) ts (instances g ts) x v f)),
-       reach_all y g only_g ts (parts_at_variables y s t (instance g t)) s' only part)
+  reach_all y g only_g (Terms.more t ts) s s' only part = (
+    reach y g only_g t s s' only (λ x v f. part x v (parts_keep_all y (parts_at_variables y s t (instance g t)) ts (instances g ts) x v f)),
+    reach_all y g only_g ts (parts_at_variables y s t (instance g t)) s' only part,
+  )
 
 -- what makes the left side the tree binds its variables, and variables alone
 pub binds_variables : (y : Spec) (l : Term) (u : Tree) (s : Substitution) → binds y l u ≡ Some s → BindsVariables y s l
@@ -366,7 +368,7 @@ mutual
       by : (b : Bool) → is_variable y w.bytes ≡ b → (is_variable y w.bytes ≡ true → count ts ≡ 0)
           → ((us : Trees) → count_of us ≡ count ts → asked y (reverse (named_all ts) ++ ms) (stack_on us st) s ≡ goes_on (walk_all y ts us s) (λ r. asked y ms st r))
           → ◌≡◌ {A = Option Substitution} (elim b [ true ↦ goes_on (bound s w.bytes u) (λ r. asked y (reverse (named_all ts) ++ ms) st r) | false ↦ goes_on (opened w.bytes (count ts) u) (λ us. asked y (reverse (named_all ts) ++ ms) (stack_on us st) s) ])
-            (goes_on (elim b [ true ↦ bound s w.bytes u | false ↦ goes_on (opened w.bytes (count ts) u) (λ us. walk_all y ts us s) ]) (λ r. asked y ms st r))
+          (goes_on (elim b [ true ↦ bound s w.bytes u | false ↦ goes_on (opened w.bytes (count ts) u) (λ us. walk_all y ts us s) ]) (λ r. asked y ms st r))
       by true e h later = by_variable ts (no_count ts (h e))
       by false e h later = by_opened (opened w.bytes (count ts) u) refl later
 

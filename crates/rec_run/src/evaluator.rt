@@ -8,7 +8,6 @@ ghost use Rattle.rec_run.specs.Matched.{AreDeclared};
 ghost use Rattle.rec_run.specs.Evaluated.{CanEvaluate, CanCompare, LeavesAtMost, HeldWithin, ReachesDeclared, reached_tree, IsValueOf, IsAnswerOf, answer, IsAnswer};
 
 use crate::matching::{Binding, find, match_left};
-
 use crate::value::Value;
 use rec_sorts::{Checked, Letter, LetterCondition, Meaning};
 use std::alloc::{AllocError, Global};
@@ -38,7 +37,12 @@ pub(crate) enum Held {
 }
 
 /// What a term of the list of terms comes to within `n` steps.
-pub(crate) fn evaluate_term(alloc: Global, checked: &Checked, i: usize, n: u64) -> Result<Outcome, AllocError>
+pub(crate) fn evaluate_term(
+    alloc: Global,
+    checked: &Checked,
+    i: usize,
+    n: u64,
+) -> Result<Outcome, AllocError>
     requires { i < length checked.now.spec.terms }
     ensures exact { IfOk result (λ outcome. (t : Term) → slice_get checked.now.spec.terms i ≡ Some t
         → answer checked.now.spec n outcome ≡ Eval checked.now.spec n [] t) }
@@ -56,7 +60,13 @@ pub(crate) fn evaluate_term(alloc: Global, checked: &Checked, i: usize, n: u64) 
 
 /// What the term of these letters comes to. Values wait on a stack for the symbol that is called on them.
 #[cycle(evaluate)]
-fn evaluate(alloc: Global, checked: &Checked, letters: &[Letter], bindings: &[Binding], n: u64) -> Result<Reached, AllocError>
+fn evaluate(
+    alloc: Global,
+    checked: &Checked,
+    letters: &[Letter],
+    bindings: &[Binding],
+    n: u64,
+) -> Result<Reached, AllocError>
     requires can { CanEvaluate checked.now.spec bindings.now letters.now }
     requires declared { AreDeclared checked.now.spec bindings.now }
     ensures spent { IfOk result (LeavesAtMost n) }
@@ -122,7 +132,13 @@ fn call(alloc: Global, checked: &Checked, subject: Value, n: u64) -> Result<Reac
 
 /// Whether conditions hold: each in turn, up to the first that fails.
 #[cycle(evaluate)]
-fn conditions_hold(alloc: Global, checked: &Checked, conditions: &[LetterCondition], bindings: &[Binding], n: u64) -> Result<Held, AllocError>
+fn conditions_hold(
+    alloc: Global,
+    checked: &Checked,
+    conditions: &[LetterCondition],
+    bindings: &[Binding],
+    n: u64,
+) -> Result<Held, AllocError>
     requires can { All (CanCompare checked.now.spec bindings.now) conditions.now }
     requires declared { AreDeclared checked.now.spec bindings.now }
     ensures spent { IfOk result (HeldWithin n) }
@@ -130,10 +146,18 @@ fn conditions_hold(alloc: Global, checked: &Checked, conditions: &[LetterConditi
 {
     let mut left = n;
     for condition in conditions {
-        let Reached::Value { value: first, left: middle } = evaluate(alloc, checked, &condition.left, bindings, left)? else {
+        let Reached::Value {
+            value: first,
+            left: middle,
+        } = evaluate(alloc, checked, &condition.left, bindings, left)?
+        else {
             return Ok(Held::Limit);
         };
-        let Reached::Value { value: second, left: rest } = evaluate(alloc, checked, &condition.right, bindings, middle)? else {
+        let Reached::Value {
+            value: second,
+            left: rest,
+        } = evaluate(alloc, checked, &condition.right, bindings, middle)?
+        else {
             return Ok(Held::Limit);
         };
         left = rest;

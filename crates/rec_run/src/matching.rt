@@ -31,7 +31,11 @@ pub(crate) fn find(bindings: &[Binding], variable: u32) -> Option<&Value>
 
 /// The values of a left side's variables under which it is this value, where there are some. The left side is read from its last letter to its first:
 /// each letter stands for the value on top of a stack, where a symbol leaves its arguments, the last one on top.
-pub(crate) fn match_left(alloc: Global, left: &[Letter], value: &Value) -> Result<Option<Vec<Binding>>, AllocError>
+pub(crate) fn match_left(
+    alloc: Global,
+    left: &[Letter],
+    value: &Value,
+) -> Result<Option<Vec<Binding>>, AllocError>
     ensures { IfOk result (λ found. Binds left.now value.now (option_map (λ bindings. bindings.items) found)) }
 {
     let mut bindings = Vec::new(alloc);
@@ -57,7 +61,12 @@ fn letter_before(letters: &[Letter], behind: usize) -> Letter
 }
 
 /// Asks whether a letter can stand for this value.
-fn ask<'a>(bindings: &mut Vec<Binding>, stack: &mut Vec<&'a Value>, letter: Letter, top: &'a Value) -> Result<bool, AllocError>
+fn ask<'a>(
+    bindings: &mut Vec<Binding>,
+    stack: &mut Vec<&'a Value>,
+    letter: Letter,
+    top: &'a Value,
+) -> Result<bool, AllocError>
     ensures { IfOk result (λ can. Asks letter top.now stack.old.items bindings.old.items can stack.new.items bindings.new.items) }
 {
     match letter.meaning {
@@ -81,7 +90,12 @@ fn bind(bindings: &mut Vec<Binding>, variable: u32, value: &Value) -> Result<boo
 }
 
 /// Leaves the arguments of a value on the stack, where it is this symbol applied to so many; answers whether it is.
-fn open<'a>(stack: &mut Vec<&'a Value>, symbol: u32, count: u32, value: &'a Value) -> Result<bool, AllocError>
+fn open<'a>(
+    stack: &mut Vec<&'a Value>,
+    symbol: u32,
+    count: u32,
+    value: &'a Value,
+) -> Result<bool, AllocError>
     ensures is { IfOk result (λ is. is ≡ (symbol_of value.now == symbol && length (arguments_of value.now) == count)) }
     ensures left { IfOk result (λ is. is ≡ true → values_on stack.new.items ≡ values_on stack.old.items ++ arguments_of value.now) }
 {

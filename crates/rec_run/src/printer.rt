@@ -41,7 +41,12 @@ enum Piece<'a> {
 }
 
 /// Writes the text of a value. What is still to be written waits on a stack, the next piece on top.
-pub(crate) fn write_value<W: Write>(alloc: Global, checked: &Checked, value: &Value, out: &mut W) -> Result<(), WriteFault>
+pub(crate) fn write_value<W: Write>(
+    alloc: Global,
+    checked: &Checked,
+    value: &Value,
+    out: &mut W,
+) -> Result<(), WriteFault>
     requires { IsDeclared checked.now.spec value.now }
     ensures ok { OnOk result (Appends (W.contents out.old) (W.contents out.new) (canon (tree_of_value checked.now.spec value.now))) }
     ensures err { OnErr result (AppendsFront (canon (tree_of_value checked.now.spec value.now)) (W.contents out.old) (W.contents out.new)) }
@@ -103,7 +108,12 @@ fn put_quoted<W: Write>(out: &mut W, byte: u8) -> Result<(), Stopped> {
         32..=126 => put(out, &[byte]),
         _ => put(
             out,
-            &[b'\\', b'0' + byte / 64, b'0' + byte / 8 % 8, b'0' + byte % 8],
+            &[
+                b'\\',
+                b'0' + byte / 64,
+                b'0' + byte / 8 % 8,
+                b'0' + byte % 8,
+            ],
         ),
     }
 }

@@ -17,7 +17,11 @@ pub(crate) struct Value {
 
 impl Value {
     /// A symbol applied to these values.
-    pub(crate) fn new(alloc: Global, symbol: u32, arguments: Vec<Value>) -> Result<Value, AllocError>
+    pub(crate) fn new(
+        alloc: Global,
+        symbol: u32,
+        arguments: Vec<Value>,
+    ) -> Result<Value, AllocError>
         ensures symbol { IfOk result (λ value. symbol_of value ≡ symbol) }
         ensures arguments { IfOk result (λ value. arguments_of value ≡ arguments.items) }
     {

@@ -26,15 +26,15 @@ nothing-found (x ∷ xs) = nothing-found xs
 
 -- one rule's place, over all rules, conditions and terms
 module _ (s : Scope) (π : TermPlaces → Option ℕ) (joins : (p q : TermPlaces) → π (joined p q) ≡ earlier (π p) (π q)) (starts : π nowhere ≡ None) where
-  conditions-field : (bound : ℕ → Bool) (cs : List Condition) → π (conditions_places s bound cs) ≡ least_of (λ c. π (condition_places s bound c)) cs
+  pub conditions-field : (bound : ℕ → Bool) (cs : List Condition) → π (conditions_places s bound cs) ≡ least_of (λ c. π (condition_places s bound c)) cs
   conditions-field bound [] = starts
   conditions-field bound (c ∷ cs) = joins (condition_places s bound c) (conditions_places s bound cs) ∙ ap (earlier (π (condition_places s bound c))) (conditions-field bound cs)
 
-  rules-field : (rs : List Rule) → π (rules_places s rs) ≡ least_of (λ r. π (rule_places s r)) rs
+  pub rules-field : (rs : List Rule) → π (rules_places s rs) ≡ least_of (λ r. π (rule_places s r)) rs
   rules-field [] = starts
   rules-field (r ∷ rs) = joins (rule_places s r) (rules_places s rs) ∙ ap (earlier (π (rule_places s r))) (rules-field rs)
 
-  terms-field : (ts : List Term) → π (open_terms_places s ts) ≡ least_of (λ t. π (open_term_places s t)) ts
+  pub terms-field : (ts : List Term) → π (open_terms_places s ts) ≡ least_of (λ t. π (open_term_places s t)) ts
   terms-field [] = starts
   terms-field (t ∷ ts) = joins (open_term_places s t) (open_terms_places s ts) ∙ ap (earlier (π (open_term_places s t))) (terms-field ts)
 
@@ -75,7 +75,7 @@ module _ (y : Spec) (s : Scope) (h : IsScope y s) where
   abbrev pub found : TermPlaces
   found = joined (rules_places s y.rules) (open_terms_places s y.terms)
 
-  unknown-found : found.unknown ≡ least_place (unknown_words y)
+  pub unknown-found : found.unknown ≡ least_place (unknown_words y)
   unknown-found =
       each_term s (λ p. p.unknown) (λ p q. refl) refl (λ t. unknown_among (letters_of s t)) (λ bound c. refl) (λ r. refl) (λ t. refl) y.rules y.terms
       ∙ least_of-same (rule_terms y.rules ++ y.terms) (unknown-term y s h)

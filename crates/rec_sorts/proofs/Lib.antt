@@ -20,3 +20,8 @@ pub mod KeptNames
 pub mod Agreement
 pub mod Bound
 pub mod Conclusion
+pub mod RuleParts
+pub mod Lettering
+pub mod Declaring
+pub mod NamesThere
+pub mod Examining

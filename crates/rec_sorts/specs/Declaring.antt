@@ -1,8 +1,8 @@
 -- What is declared, by numbers.
-use Rattle.std.specs.Prelude.{ℕ, ◌≡◌, List, [], ◌∷◌, ◌++◌, Option, Some, None, map, flat_map, is_none}
+use Rattle.std.specs.Prelude.{ℕ, ◌≡◌, List, [], ◌∷◌, ◌++◌, Option, Some, None, map, flat_map, All, is_none}
 use Rattle.rec_syntax.specs.Tokens.{Word}
 use Rattle.rec_syntax.specs.Syntax.{Declaration, Variables}
-use Rattle.rec_syntax.specs.Parts.{words_of}
+use Rattle.rec_syntax.specs.Parts.{words_of, Within}
 use Rattle.rec_sorts.specs.Least.{earlier, least_of, place_where}
 use Rattle.rec_sorts.specs.Names.{Numbers}
 use Rattle.rec_sorts.specs.declared.declarations.Declared.{Declared}
@@ -63,4 +63,5 @@ pub record Adds (source : List ℕ) (numbers : Numbers) (old new : Declared) (a 
   pub words_added : words_of source new.words.items ≡ words_of source old.words.items ++ a.words
   pub sorts_added : new.sorts.items ≡ old.sorts.items ++ a.sorts
   pub arguments_added : map (λ v. v.items) new.arguments.items ≡ map (λ v. v.items) old.arguments.items ++ a.arguments
+  pub within_added : All (Within source) old.words.items → All (Within source) new.words.items
   pub unknown_added : new.unknown ≡ earlier old.unknown (least_unnumbered numbers a.named)

@@ -8,12 +8,10 @@ ghost use Rattle.rec_sorts.specs.SortFaults.{IsFault, first_place};
 ghost use Rattle.rec_sorts.specs.Numbering.{Pairwise, IsLetterRule, AreLetters, bytes_at, name_of, arity_of, variable_count};
 ghost use Rattle.rec_sorts.specs.declared.letters.Meaning.TheVariants.{Symbol};
 
-use crate::declarations::{Declared, Sorts, number_words};
 use crate::fault::SortFault;
 use crate::letters::{Letter, LetterRule};
-use crate::names::Names;
 use crate::places::number;
-use crate::scope::Scope;
+use crate::symbols::{read_scope, read_sorts};
 use rec_syntax::{Declaration, Syntax};
 use std::alloc::{AllocError, Global};
 use std::marker::Model;
@@ -162,41 +160,20 @@ fn examine(alloc: Global, syntax: &Syntax) -> Result<Examined, AllocError>
     ensures rules { IfOk result (λ e. fault syntax.now.spec ≡ None → Pairwise (IsLetterRule syntax.now.spec) e.rules.items syntax.now.spec.rules) }
     ensures terms { IfOk result (λ e. fault syntax.now.spec ≡ None → Pairwise (λ v t. AreLetters syntax.now.spec v.items t) e.terms.items syntax.now.spec.terms) }
 {
-    let source = syntax.source();
-    let mut sorts = Sorts {
-        source,
-        names: Names::new(alloc),
-    };
-    let repeated_sort = number_words(&mut sorts.names, source, syntax.sorts(), 0)?;
-    let mut declared = Declared::new(alloc);
-    declared.symbols(alloc, &sorts, syntax.constructors())?;
-    declared.symbols(alloc, &sorts, syntax.operators())?;
-    let symbols = declared.words.len();
-    declared.groups(&sorts, syntax.groups())?;
-    let mut words = Names::new(alloc);
-    let repeated_symbol = number_words(&mut words, source, &declared.words[..symbols], 0)?;
-    let taken_variable = number_words(&mut words, source, &declared.words[symbols..], symbols)?;
-    let constructors = number(syntax.constructors().len())?;
-    let variables = number(declared.words.len() - symbols)?;
-    let symbols = number(symbols)?;
-    let arities = lengths(alloc, &declared.arguments)?;
-    let scope = Scope {
-        source,
-        words,
-        sorts: declared.sorts,
-        arguments: declared.arguments,
-        constructors,
-        symbols,
-    };
+    let sorts = read_sorts(alloc, syntax)?;
+    let declared = read_scope(alloc, syntax, &sorts.sorts)?;
+    let scope = &declared.scope;
+    let arities = lengths(alloc, &scope.arguments)?;
+    let variables = number(scope.sorts.len().saturating_sub(scope.symbols as usize))?;
     let rules = scope.rules(alloc, syntax.rules())?;
     let terms = scope.terms(alloc, syntax.terms())?;
     let places = rules.places.join(terms.places);
     Ok(Examined {
         places: [
-            repeated_sort,
-            repeated_symbol,
-            taken_variable,
-            declared.unknown,
+            sorts.repeated,
+            declared.repeated_symbol,
+            declared.taken_variable,
+            declared.unknown_sort,
             places.unknown,
             places.ill_filled,
             places.ill_sorted,
@@ -205,8 +182,8 @@ fn examine(alloc: Global, syntax: &Syntax) -> Result<Examined, AllocError>
             places.unbound,
             places.free,
         ],
-        constructors,
-        symbols,
+        constructors: scope.constructors,
+        symbols: scope.symbols,
         variables,
         arities,
         rules: rules.letters,

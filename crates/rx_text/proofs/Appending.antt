@@ -91,3 +91,6 @@ err_within (Err x) old between new whole xs ys zs e a h = front_within old betwe
 pub appends_same : (old : Option (List ℕ)) → Appends old old []
 appends_same None = tt
 appends_same (Some a) = sym (append-nil a)
+
+pub front_of : (old new : Option (List ℕ)) (whole xs rest : List ℕ) → whole ≡ xs ++ rest → AppendsFront xs old new → AppendsFront whole old new
+front_of old new whole xs rest e h = rw e (front_before old new xs rest h)

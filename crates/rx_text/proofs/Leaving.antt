@@ -27,10 +27,10 @@ leaves_none w whole room old new before h a = record { front = whole; added = []
 -- two jobs are left
 pub leaves_two : (w : Store) (whole front : List ℕ) (room : ℕ) (old new : Option (List ℕ)) (before after : List Job) (j k : Job) → after ≡ before ++ j ∷ k ∷ [] → IsJob w j → IsJob w k → whole ≡ front ++ (job_text w k ++ job_text w j) → job_size w j + job_size w k < room
     → Appends old new front → Leaves w whole room old new before after
-leaves_two w whole front room old new before after j k e p q text less a = record { front = front; added = j ∷ k ∷ []; grown = e; written = a; text = text; jobs = (p, q, tt); less = omega (arith, less) }
+leaves_two w whole front room old new before after j k e p q text less a = record { front = front; added = j ∷ k ∷ []; grown = e; written = a; text = text; jobs = (p, (q, tt)); less = omega (arith, less) }
 
 pub adds_two : (w : Store) (whole : List ℕ) (room : ℕ) (before after : List Job) (j k : Job) → after ≡ before ++ j ∷ k ∷ [] → IsJob w j → IsJob w k → whole ≡ job_text w k ++ job_text w j → job_size w j + job_size w k < room → Adds w whole room before after
-adds_two w whole room before after j k e p q text less = record { added = j ∷ k ∷ []; grown = e; text = text; jobs = (p, q, tt); less = omega (arith, less) }
+adds_two w whole room before after j k e p q text less = record { added = j ∷ k ∷ []; grown = e; text = text; jobs = (p, (q, tt)); less = omega (arith, less) }
 
 pub adds_none : (w : Store) (room : ℕ) (before : List Job) → 0 < room → Adds w [] room before before
 adds_none w room before h = record { added = []; grown = sym (append-nil before); text = refl; jobs = tt; less = h }
@@ -48,9 +48,9 @@ jobs_size-append w [] ks = omega arith
 jobs_size-append w (j ∷ js) ks = omega (arith, jobs_size-append w js ks)
 
 -- a job was left before
-pub leaves_after : (w : Store) (whole inside : List ℕ) (room more : ℕ) (old new : Option (List ℕ)) (before between after : List Job) (j : Job) → between ≡ before ++ j ∷ [] → IsJob w j → whole ≡ inside ++ job_text w j → more + job_size w j ≡ room
-    → Leaves w inside more old new between after → Leaves w whole room old new before after
-leaves_after w whole inside room more old new before between after j e p text left h =
+pub leaves_after : (w : Store) (whole inside : List ℕ) (room inner : ℕ) (old new : Option (List ℕ)) (before between after : List Job) (j : Job) → between ≡ before ++ j ∷ [] → IsJob w j → whole ≡ inside ++ job_text w j → inner + job_size w j ≡ room
+    → Leaves w inside inner old new between after → Leaves w whole room old new before after
+leaves_after w whole inside room inner old new before between after j e p text left h =
     let less = h.less in
     record {
       front = h.front;
@@ -233,11 +233,11 @@ All-split P [] x h = (tt, h.0)
 All-split P (y ∷ ys) x h = let k = All-split P ys x h.1 in ((h.0, k.0), k.1)
 
 -- what was written, and the jobs that are left, are the whole text
-pub record Writing (w : Store) (whole : List ℕ) (old now : Option (List ℕ)) (jobs : List Job) : Type 0 where
+pub record Writing (w : Store) (whole : List ℕ) (old now : Option (List ℕ)) (left : List Job) : Type 0 where
   pub front : List ℕ
   pub written : Appends old now front
-  pub text : whole ≡ front ++ jobs_text w jobs
-  pub jobs : AllByRecursion (IsJob w) jobs
+  pub text : whole ≡ front ++ jobs_text w left
+  pub jobs : AllByRecursion (IsJob w) left
 
 pub writing_begun : (w : Store) (t : Term) (old : Option (List ℕ)) (jobs : List Job) → jobs ≡ job.Tree t ∷ [] → IsSome (tree_at w t) → Writing w (seen [] canon (tree_at w t)) old old jobs
 writing_begun w t old jobs e h = rw e (record { front = []; written = appends_same old; text = refl; jobs = (h, tt) })

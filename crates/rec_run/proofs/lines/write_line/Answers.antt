@@ -16,8 +16,8 @@ returns-in_err-write_answer-clause-err g c =
     (λ fault. front_within fault (line_text y c.args.options.count c.args.options.steps (term_at y c.args.i)) _ _
     (subst (λ text. AppendsFront text (g.W.Write.contents c.args.out.now) (g.W.Write.contents c.write_answer.new.out)) e c.in_err-write_answer.ensures.err))
 
-pub returns-in-Err-clause-err : goal.returns-in-Err-clause-err
-returns-in-Err-clause-err g c =
+pub returns-clause-err : goal.returns-clause-err
+returns-clause-err g c =
     let y = c.args.checked.now.spec in
     let e = answer_text-line y c.args.options.count c.args.options.steps c.args.i c.in_ok-outcome.outcome c.requires c.in_ok-outcome.ensures.exact c.in_ok-outcome.ensures.within in
     front_after _ _ _ (line_text y c.args.options.count c.args.options.steps (term_at y c.args.i)) (codes "\n")

@@ -18,6 +18,7 @@ returns-in_ok-push-in-None c = λ y kept lt d all.
     let here = ap (λ bs. bound_value bs c.args.variable) (sym c.deref.ensures.value) ∙ e in
     let s = c.in_ok-value-in-None.ensures in
     let b : Binding = record { variable = c.args.variable; value = c.in_ok-value-in-None.value } in
-    let items : c.push.new.self.items ≡ c.args.bindings.now.items ++ b ∷ [] = c.in_ok-push-in-None.ensures.items in
-    (gives_new y kept c.args.bindings.now.items all c.args.variable lt c.args.value.now here b refl (same_tree_of y c.in_ok-value-in-None.value c.args.value.now s.symbol s.arguments) ∙ ap (λ bs. Some (substitution y bs)) (sym items),
-     subst (λ bs. AreDeclared y bs) (sym items) (new_declared y c.args.bindings.now.items all b lt (same_declared y c.in_ok-value-in-None.value c.args.value.now s.symbol s.arguments d)))
+    let items : c.push.new.self.items ≡ c.args.bindings.now.items ++ b ∷ [] = c.in_ok-push-in-None.ensures.items in (
+      gives_new y kept c.args.bindings.now.items all c.args.variable lt c.args.value.now here b refl (same_tree_of y c.in_ok-value-in-None.value c.args.value.now s.symbol s.arguments) ∙ ap (λ bs. Some (substitution y bs)) (sym items),
+      subst (λ bs. AreDeclared y bs) (sym items) (new_declared y c.args.bindings.now.items all b lt (same_declared y c.in_ok-value-in-None.value c.args.value.now s.symbol s.arguments d)),
+    )

@@ -1,0 +1,9 @@
+use Rattle.std.proofs.Common.{arith}
+use Rattle.rec_sorts.specs.Names.{given_to}
+use Rattle.rec_sorts.proofs.Additions.{symbols_turn}
+use Rattle.rec_sorts.proofs.declarations.Declared.symbols.Goals as goal
+
+pub loop-declaration-preserved : goal.loop-declaration-preserved
+loop-declaration-preserved c =
+    symbols_turn c.args.sorts.now.source.now (given_to c.args.sorts.now.names) c.args.self.now c.loop-declaration.self c.symbol.new.self c.args.declarations.now c.loop-declaration.declaration-index c.declaration-item.result (omega arith)
+    c.declaration-item.is c.loop-declaration.invariant c.in_ok-symbol.ensures

@@ -1,0 +1,16 @@
+use Rattle.std.proofs.Common.{[]}
+use Rattle.rx_term.specs.Store.{tree_at}
+use Rattle.rx_text.specs.Jobs.{seen, body_text, job_text}
+use Rattle.rx_text.specs.declared.writer.Job.TheVariants as job
+use Rattle.rx_text.proofs.Appending.{err_front}
+use Rattle.rx_text.proofs.Leaving.{tree_text, tree_leaves}
+use Rattle.rx_text.proofs.writer.write_tree.Goals as goal
+
+pub returns-clause-written : goal.returns-clause-written
+returns-clause-written g c =
+    tree_leaves c.write_body.result (g.B.TermBank.store c.args.bank.now) c.args.term (g.W.Write.contents c.args.out.now) (g.W.Write.contents c.write_body.new.out) c.args.jobs.now.items c.push.new.self.items c.write_body.new.jobs.items c.in_ok-push.ensures.items c.requires c.write_body.ensures.written
+
+pub returns-clause-front : goal.returns-clause-front
+returns-clause-front g c =
+    let w = g.B.TermBank.store c.args.bank.now in
+    err_front c.write_body.result (g.W.Write.contents c.args.out.now) (g.W.Write.contents c.write_body.new.out) (job_text w (job.Tree c.args.term)) (seen [] body_text (tree_at w c.args.term)) (job_text w (job.Notes c.args.term)) (tree_text w c.args.term c.requires) c.write_body.ensures.front
