@@ -6,4 +6,5 @@ pub mod Matched
 pub mod Output
 pub mod Reading
 pub mod Run
+pub mod TermRuns
 pub mod Values
