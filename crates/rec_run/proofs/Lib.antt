@@ -17,3 +17,5 @@ pub mod MatchLemmas
 pub mod EvaluationLemmas
 pub mod RuleLemmas
 mod TermRows
+mod CountedParts
+mod TermsDue

@@ -11,6 +11,8 @@ mod printer;
 mod runs;
 mod term_runs;
 #[cfg(test)]
+mod term_tests;
+#[cfg(test)]
 mod tests;
 mod text;
 mod value;
