@@ -1,4 +1,4 @@
-mod Told
+pub mod Told
 mod OneDue
 mod ValueTrees
 mod LineEnds
@@ -16,6 +16,7 @@ pub mod ValueLemmas
 pub mod MatchLemmas
 pub mod EvaluationLemmas
 pub mod RuleLemmas
+pub mod PrinterLemmas
 mod TermRows
 mod CountedParts
 mod TermsDue

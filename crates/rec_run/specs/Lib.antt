@@ -7,4 +7,5 @@ pub mod Output
 pub mod Reading
 pub mod Run
 pub mod TermRuns
+pub mod Printed
 pub mod Values

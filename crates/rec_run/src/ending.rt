@@ -36,12 +36,16 @@ pub enum Finish {
 /// Why a run stopped before its end. `lines` counts the lines that were written whole.
 #[derive(Clone, Copy, Debug, Drop, PartialEq, Eq, Error)]
 pub enum RunFault {
+    /// A growth was refused.
     #[error("out of memory")]
     Memory { lines: u64 },
+    /// There were as many cells as the options allow.
     #[error("out of cells")]
     Room { lines: u64 },
+    /// The reader answered an error.
     #[error("read failed")]
     Read,
+    /// The writer answered an error, or took nothing.
     #[error("write failed")]
     Write,
 }
@@ -49,10 +53,15 @@ pub enum RunFault {
 /// A text that a run reads.
 #[derive(Clone, Copy, Debug, Drop, PartialEq, Eq)]
 pub enum Source {
+    /// A specification.
     Spec,
+    /// A list of terms that are given beside it.
     Terms,
+    /// An annotated term.
     Term,
+    /// A pattern.
     Pattern,
+    /// The arguments of a pattern.
     Args,
 }
 
@@ -70,8 +79,11 @@ pub enum Named {
 /// Where a refusal stands: `at` bytes behind the text's beginning.
 #[derive(Clone, Copy, Debug, Drop, PartialEq, Eq)]
 pub struct Place {
+    /// The text that is refused.
     pub text: Source,
+    /// The refusal.
     pub rule: Named,
+    /// How many bytes stand before it.
     pub at: u32,
 }
 

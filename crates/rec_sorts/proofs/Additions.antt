@@ -40,10 +40,10 @@ Adds-both source numbers c d e a b h k = record {
   arguments_added = k.arguments_added ∙ ap (λ xs. xs ++ b.arguments) h.arguments_added ∙ append_assoc (map (λ v. v.items) c.arguments.items) a.arguments b.arguments;
   within_added = λ w. k.within_added (h.within_added w);
   unknown_added =
-    k.unknown_added
-    ∙ ap (λ p. earlier p (least_unnumbered numbers b.named)) h.unknown_added
-    ∙ earlier_assoc c.unknown (least_unnumbered numbers a.named) (least_unnumbered numbers b.named)
-    ∙ ap (earlier c.unknown) (sym (least_of-append (unnumbered numbers) a.named b.named));
+      k.unknown_added
+      ∙ ap (λ p. earlier p (least_unnumbered numbers b.named)) h.unknown_added
+      ∙ earlier_assoc c.unknown (least_unnumbered numbers a.named) (least_unnumbered numbers b.named)
+      ∙ ap (earlier c.unknown) (sym (least_of-append (unnumbered numbers) a.named b.named));
 }
 
 pub both-nothing : (a : Additions) → both a nothing_added ≡ a
@@ -135,7 +135,7 @@ pub unknown_pushed : (numbers : Numbers) (ws : List Word) (w : Word) (old unknow
 unknown_pushed numbers ws w old unknown missing both new eu em eb en =
     en
     ∙ ap (earlier old)
-      (eb ∙ ap (λ p. earlier p missing) eu ∙ ap (earlier (least_unnumbered numbers ws)) (em ∙ sym (earlier_none (unnumbered numbers w))) ∙ sym (least_of-append (unnumbered numbers) ws (w ∷ [])))
+    (eb ∙ ap (λ p. earlier p missing) eu ∙ ap (earlier (least_unnumbered numbers ws)) (em ∙ sym (earlier_none (unnumbered numbers w))) ∙ sym (least_of-append (unnumbered numbers) ws (w ∷ [])))
 
 -- one more symbol is added
 pub symbols_turn : (source : List ℕ) (numbers : Numbers) (old mid new : Declared) (ds : List declared.Declaration) (i : ℕ) (d : declared.Declaration) → i < length ds → d ≡ get_or ds i d

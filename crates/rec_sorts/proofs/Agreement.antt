@@ -88,7 +88,7 @@ module _ (y : Spec) (s : Scope) (h : IsScope y s) where
     placed-at (v ∷ ss) none k = refl
     placed-at (v ∷ ss) (more t ts) k =
         ap (λ b. earlier (place_where (not b) (head_of s t).at) (misplaced s (heads_of s ts) (sort_numbers (first_at y.sorts) ss)))
-          (ap (λ (o : Option ℕ). option_eq nat_eq o (first_at y.sorts v.bytes)) (head-sort t) ∙ option_eq-numbers y.sorts (sort_of y t) (Some v.bytes) (sort_of-known t) k.0)
+        (ap (λ (o : Option ℕ). option_eq nat_eq o (first_at y.sorts v.bytes)) (head-sort t) ∙ option_eq-numbers y.sorts (sort_of y t) (Some v.bytes) (sort_of-known t) k.0)
         ∙ ap (λ (n : ℕ). earlier (place_where (not (same_sort (sort_of y t) (Some v.bytes))) n) (misplaced s (heads_of s ts) (sort_numbers (first_at y.sorts) ss))) (head_of-at s t)
         ∙ ap (earlier (place_where (not (same_sort (sort_of y t) (Some v.bytes))) (head t).at)) (placed-at ss ts k.1)
         ∙ by_test (same_sort (sort_of y t) (Some v.bytes)) (ill_placed y ss ts)
@@ -114,9 +114,9 @@ module _ (y : Spec) (s : Scope) (h : IsScope y s) where
         ap (λ o. by_left o (last_letter (letters_of s r))) (last_letter-letters s l)
         ∙ ap (by_left (Some (head_of s l))) (last_letter-letters s r)
         ∙ ap (λ b. place_where (not b) (head_of s l).at)
-          (ap (λ (o : Option ℕ). option_eq nat_eq o (sort_at s (head_of s r).meaning)) (head-sort l)
-            ∙ ap (option_eq nat_eq (option_and_then (first_at y.sorts) (sort_of y l))) (head-sort r)
-            ∙ option_eq-numbers y.sorts (sort_of y l) (sort_of y r) (sort_of-known l) (sort_of-known r))
+        (ap (λ (o : Option ℕ). option_eq nat_eq o (sort_at s (head_of s r).meaning)) (head-sort l)
+        ∙ ap (option_eq nat_eq (option_and_then (first_at y.sorts) (sort_of y l))) (head-sort r)
+        ∙ option_eq-numbers y.sorts (sort_of y l) (sort_of y r) (sort_of-known l) (sort_of-known r))
         ∙ ap (place_where (not (same_sort (sort_of y l) (sort_of y r)))) (head_of-at s l)
         ∙ by_test (same_sort (sort_of y l) (sort_of y r))
       where

@@ -101,7 +101,7 @@ module _ (y : Spec) (s : Scope) (h : IsScope y s) (kept : taken_variables y ≡ 
       → least_of (λ t. unbound_among (binds_variable (letters_of s left)) (letters_of s t)) ts ≡ least_place (missing (heads (subterms left)) (variables_among y (heads (everywhere ts))))
   unbound-terms left ts =
       least_of-same ts (λ t. unbound-term y s h (binds_variable (letters_of s left)) t
-          ∙ least_of-same (subterms t) (λ u. ap (λ b. place_where b (head u).at) (unbound-name left (head u).bytes)))
+      ∙ least_of-same (subterms t) (λ u. ap (λ b. place_where b (head u).at) (unbound-name left (head u).bytes)))
       ∙ sym (least_of-flat_map (λ u. place_where (is_variable y (head u).bytes && not (mentions (heads (subterms left)) (head u).bytes)) (head u).at) subterms ts)
       ∙ sym (least_place-heads (λ w. is_variable y w.bytes && not (mentions (heads (subterms left)) w.bytes)) (everywhere ts))
       ∙ ap least_place (sym (filter-filter (λ w. not (mentions (heads (subterms left)) w.bytes)) (λ w. is_variable y w.bytes) (heads (everywhere ts))))

@@ -1,13 +1,12 @@
 -- The places that are found are those of the rules, in their order.
 use Rattle.std.proofs.Common.{refl, sym, ap, ◌∙◌}
-use Rattle.std.specs.Prelude.{ℕ, ◌≡◌, Bool, true, false, not, cond, List, [], ◌∷◌, ◌++◌, Option, Some, None, map, flat_map, filter, is_some, is_none}
+use Rattle.std.specs.Prelude.{ℕ, ◌≡◌, Bool, true, false, not, cond, List, [], ◌∷◌, ◌++◌, Option, Some, None, map, flat_map, filter}
 use Rattle.rec_syntax.specs.Tokens.{Word}
 use Rattle.rec_syntax.specs.Syntax.{Term, Condition, Rule, Spec, head, subterms}
 use Rattle.rec_sorts.specs.Lookup.{mentions, repeated, symbols, names, variable_words, rule_terms, condition_terms}
 use Rattle.rec_sorts.specs.SpecRules.{heads, everywhere, all_terms, is_filled, ill_sorted_in, unlike, missing, variables_among, sorts_of, fault, all_rules, first_broken, repeated_sorts, repeated_symbols, taken_variables, unknown_sorts, unknown_words, ill_filled, ill_sorted, ill_headed, unlike_sides, unbound, open_terms}
 use Rattle.rec_sorts.specs.Least.{earlier, least_of, least_place, place_where, joined}
-use Rattle.rec_sorts.specs.Names.{Numbers, first_at}
-use Rattle.rec_sorts.specs.Declaring.{least_unnumbered}
+use Rattle.rec_sorts.specs.Names.{first_at}
 use Rattle.rec_sorts.specs.Letters.{unknown_among, ill_filled_among, ill_sorted_among}
 use Rattle.rec_sorts.specs.Reading.{letters_of, nowhere, term_places, ill_headed_at, unlike_at, binds_variable, unbound_among, condition_places, conditions_places, rule_places, rules_places, open_term_places, open_terms_places}
 use Rattle.rec_sorts.specs.SortFaults.{first_place}
@@ -15,7 +14,6 @@ use Rattle.rec_sorts.specs.Agreeing.{IsScope}
 use Rattle.rec_sorts.specs.declared.places.TermPlaces.{TermPlaces}
 use Rattle.rec_sorts.specs.declared.scope.Scope.{Scope}
 use Rattle.rec_sorts.proofs.LeastPlaces.{earlier_none, earlier_assoc, Agree, first_place-Agree}
-use Rattle.rec_sorts.proofs.Tables.{is_some-first_at}
 use Rattle.rec_sorts.proofs.Subterms.{least_of-append, least_of-map, least_of-flat_map, least_of-filter, least_of-same, place_where-cond, least_place-heads, least_place-heads_of, least_of-conditions, least_of-rules}
 use Rattle.rec_sorts.proofs.Agreement.{unknown-term, filled-term, sorted-term, unlike-terms, headed-term}
 use Rattle.rec_sorts.proofs.Bound.{unbound-terms, open-terms}
@@ -52,7 +50,7 @@ module _ (s : Scope) (π : TermPlaces → Option ℕ) (joins : (p q : TermPlaces
       by_rule r =
           at_rule r
           ∙ ap (earlier (earlier (earlier (F r.left) (F r.right)) None))
-            (conditions-field (binds_variable (letters_of s r.left)) r.conditions ∙ least_of-same r.conditions (λ c. at_condition (binds_variable (letters_of s r.left)) c ∙ earlier_none (earlier (F c.left) (F c.right))))
+          (conditions-field (binds_variable (letters_of s r.left)) r.conditions ∙ least_of-same r.conditions (λ c. at_condition (binds_variable (letters_of s r.left)) c ∙ earlier_none (earlier (F c.left) (F c.right))))
           ∙ ap (λ p. earlier p (least_of (λ c. earlier (F c.left) (F c.right)) r.conditions)) (earlier_none (earlier (F r.left) (F r.right)))
           ∙ earlier_assoc (F r.left) (F r.right) (least_of (λ c. earlier (F c.left) (F c.right)) r.conditions)
 
@@ -123,9 +121,9 @@ module _ (y : Spec) (s : Scope) (h : IsScope y s) where
       by_rule : (r : Rule) → (rule_places s r).unlike ≡ least_place (heads (unlike y r.left r.right ++ flat_map (λ c. unlike y c.left c.right) r.conditions))
       by_rule r =
           ap (earlier (unlike_at s (letters_of s r.left) (letters_of s r.right)))
-            (conditions-field s (λ p. p.unlike) (λ p q. refl) refl (binds_variable (letters_of s r.left)) r.conditions
-              ∙ least_of-same r.conditions (λ c. unlike-terms y s h kept c.left c.right)
-              ∙ sym (heads-flat_map (λ c. unlike y c.left c.right) r.conditions))
+          (conditions-field s (λ p. p.unlike) (λ p q. refl) refl (binds_variable (letters_of s r.left)) r.conditions
+          ∙ least_of-same r.conditions (λ c. unlike-terms y s h kept c.left c.right)
+          ∙ sym (heads-flat_map (λ c. unlike y c.left c.right) r.conditions))
           ∙ ap (λ p. earlier p (least_place (heads (flat_map (λ c. unlike y c.left c.right) r.conditions)))) (unlike-terms y s h kept r.left r.right)
           ∙ sym (heads-append (unlike y r.left r.right) (flat_map (λ c. unlike y c.left c.right) r.conditions))
 
@@ -141,7 +139,7 @@ module _ (y : Spec) (s : Scope) (h : IsScope y s) where
       by_rule r =
           let B = λ (t : Term). unbound_among (binds_variable (letters_of s r.left)) (letters_of s t) in
           ap (earlier (B r.right))
-            (conditions-field s (λ p. p.unbound) (λ p q. refl) refl (binds_variable (letters_of s r.left)) r.conditions ∙ sym (least_of-conditions B r.conditions))
+          (conditions-field s (λ p. p.unbound) (λ p q. refl) refl (binds_variable (letters_of s r.left)) r.conditions ∙ sym (least_of-conditions B r.conditions))
           ∙ unbound-terms y s h kept r.left (r.right ∷ condition_terms r.conditions)
 
   free-found : taken_variables y ≡ [] → found.free ≡ least_place (open_terms y)
@@ -152,16 +150,6 @@ module _ (y : Spec) (s : Scope) (h : IsScope y s) where
     where
       by_rule : (r : Rule) → (rule_places s r).free ≡ None
       by_rule r = conditions-field s (λ p. p.free) (λ p q. refl) refl (binds_variable (letters_of s r.left)) r.conditions ∙ nothing-found r.conditions
-
-  -- the sorts that are not declared
-  pub unnumbered-sorts : (ws : List Word) → least_unnumbered (first_at y.sorts) ws ≡ least_place (missing y.sorts ws)
-  unnumbered-sorts ws =
-      least_of-same ws (λ w. ap (λ b. place_where b w.at) (is_none-not (first_at y.sorts w.bytes) ∙ ap not (is_some-first_at y.sorts w.bytes)) ∙ sym (place_where-cond (not (mentions y.sorts w.bytes)) w.at))
-      ∙ sym (least_of-filter (λ w. Some w.at) (λ w. not (mentions y.sorts w.bytes)) ws)
-    where
-      is_none-not : (o : Option ℕ) → is_none o ≡ not (is_some o)
-      is_none-not None = refl
-      is_none-not (Some k) = refl
 
   -- the first place found is the specification's fault
   pub first_place-found : (p₁ p₂ p₃ p₄ : Option ℕ) → p₁ ≡ least_place (repeated_sorts y) → p₂ ≡ least_place (repeated_symbols y) → p₃ ≡ least_place (taken_variables y) → p₄ ≡ least_place (unknown_sorts y)

@@ -32,10 +32,10 @@ module _ (y : Spec) (s : Scope) (h : IsScope y s) where
   pub variables-counted : length s.sorts.items - s.symbols ≡ variable_count y
   variables-counted =
       let all : length s.sorts.items ≡ length (symbols y) + length (variable_words y.variables) =
-        ap length h.sorts_listed
-        ∙ length-append (map (λ d. first_at y.sorts d.sort.bytes) (symbols y)) (variable_sorts (first_at y.sorts) y.variables)
-        ∙ ap (λ (n : ℕ). n + length (variable_sorts (first_at y.sorts) y.variables)) (length-map (symbols y) (λ d. first_at y.sorts d.sort.bytes))
-        ∙ ap (λ (n : ℕ). length (symbols y) + n) (length-variable_sorts (first_at y.sorts) y.variables) in
+      ap length h.sorts_listed
+      ∙ length-append (map (λ d. first_at y.sorts d.sort.bytes) (symbols y)) (variable_sorts (first_at y.sorts) y.variables)
+      ∙ ap (λ (n : ℕ). n + length (variable_sorts (first_at y.sorts) y.variables)) (length-map (symbols y) (λ d. first_at y.sorts d.sort.bytes))
+      ∙ ap (λ (n : ℕ). length (symbols y) + n) (length-variable_sorts (first_at y.sorts) y.variables) in
       omega (arith, all, h.symbols_counted)
 
   -- each symbol has as many sorts for arguments as it has arguments

@@ -102,7 +102,7 @@ module _ (y : Spec) (s : Scope) (h : IsScope y s) where
           no_operator false m = m
       by_constructor k at there false is =
           let moved : shifted (length (names y.constructors)) (first_at (names y.operators ++ variable_words y.variables) name) ≡ Some k =
-            sym (first_at-after (names y.constructors) (names y.operators ++ variable_words y.variables) name is) ∙ sym split ∙ at in
+          sym (first_at-after (names y.constructors) (names y.operators ++ variable_words y.variables) name is) ∙ sym split ∙ at in
           let high : length (names y.constructors) ≤ k = shifted_least (length (names y.constructors)) (first_at (names y.operators ++ variable_words y.variables) name) k moved in
           le-leb s.constructors k (omega (arith, high, long, h.constructors_counted))
           ∙ sym there ∙ both name ∙ ap (λ b. b || mentions (names y.operators) name) is
@@ -123,7 +123,7 @@ module _ (y : Spec) (s : Scope) (h : IsScope y s) where
       by_test : (b : Bool) → is_variable y name ≡ b → is_variable y name ≡ false
       by_test true m =
           absurd (false≢true (sym (not_before (names (symbols y)) (variable_words y.variables) name (repeated_none (names (symbols y)) (variable_words y.variables) distinct) m)
-              ∙ mentions-declared (symbols y) name ∙ ap is_some e))
+          ∙ mentions-declared (symbols y) name ∙ ap is_some e))
       by_test false m = m
 
   -- a name is a variable's where it stands for one

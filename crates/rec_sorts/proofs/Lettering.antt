@@ -96,9 +96,9 @@ module _ (y : Spec) (s : Scope) (h : IsScope y s) where
             stands = f.4;
             there = f.1;
             named_so =
-              sym (get_or_append_left (map (λ (w : Word). w.bytes) (names (symbols y))) (map (λ (w : Word). w.bytes) (variable_words y.variables)) [] f.0 (omega (arith, f.1, long)))
-              ∙ ap (λ (ns : List (List ℕ)). get_or ns f.0 []) (sym (map-append (λ (w : Word). w.bytes) (names (symbols y)) (variable_words y.variables)))
-              ∙ n.there;
+                sym (get_or_append_left (map (λ (w : Word). w.bytes) (names (symbols y))) (map (λ (w : Word). w.bytes) (variable_words y.variables)) [] f.0 (omega (arith, f.1, long)))
+                ∙ ap (λ (ns : List (List ℕ)). get_or ns f.0 []) (sym (map-append (λ (w : Word). w.bytes) (names (symbols y)) (variable_words y.variables)))
+                ∙ n.there;
           }
       by_symbol None e = by_number (first_at (variable_words y.variables) name) refl (meaning-variable y s h name e)
 
@@ -114,10 +114,11 @@ module _ (y : Spec) (s : Scope) (h : IsScope y s) where
   letters_each (n ∷ ns) k =
       let m = stands_for n.word.bytes k.0 in
       let e : unwrap_or (meaning_of s n.word.bytes) (Symbol 0) ≡ m.meaning = ap (λ (o : Option Meaning). unwrap_or o (Symbol 0)) m.stands in
-      let rest = letters_each ns k.1 in
-      (all_cons (λ (l : Letter). IsMeaning y l.meaning) (letter_of (placed_by s n)) (bare (map (placed_by s) ns)) (subst (IsMeaning y) (sym e) m.there) rest.0,
+      let rest = letters_each ns k.1 in (
+        all_cons (λ (l : Letter). IsMeaning y l.meaning) (letter_of (placed_by s n)) (bare (map (placed_by s) ns)) (subst (IsMeaning y) (sym e) m.there) rest.0,
         ap (λ (b : List ℕ). record { name = b; arguments = n.count } ∷ map (named_by y) (bare (map (placed_by s) ns))) (ap (name_of y) e ∙ m.named_so)
-        ∙ ap (λ (zs : List Named). named_node n ∷ zs) rest.1)
+            ∙ ap (λ (zs : List Named). named_node n ∷ zs) rest.1,
+      )
 
   -- the letters of a term whose words are declared
   are_letters : (ls : List Letter) (t : Term) → SpellsTerm s ls t → unknown_among (letters_of s t) ≡ None → AreLetters y ls t
@@ -137,9 +138,11 @@ module _ (y : Spec) (s : Scope) (h : IsScope y s) where
       let a = both_none (earlier (earlier (unknown_among (letters_of s r.left)) (unknown_among (letters_of s r.right))) None) (conditions_places s bound r.conditions).unknown known in
       let both = both_none (earlier (unknown_among (letters_of s r.left)) (unknown_among (letters_of s r.right))) None a.0 in
       let b = both_none (unknown_among (letters_of s r.left)) (unknown_among (letters_of s r.right)) both.0 in
-      let c = none_each (λ (c : Condition). (condition_places s bound c).unknown) r.conditions (sym (conditions-field s (λ p. p.unknown) (λ p q. refl) refl bound r.conditions) ∙ a.1) in
-      (are_letters l.left.items r.left e.0 b.0, are_letters l.right.items r.right e.1 b.1,
-        pair_each (SpellsCondition s) (IsLetterCondition y) (λ c. (condition_places s bound c).unknown ≡ None) (is_letter_condition bound) l.conditions.items r.conditions e.2 c)
+      let c = none_each (λ (c : Condition). (condition_places s bound c).unknown) r.conditions (sym (conditions-field s (λ p. p.unknown) (λ p q. refl) refl bound r.conditions) ∙ a.1) in (
+        are_letters l.left.items r.left e.0 b.0,
+        are_letters l.right.items r.right e.1 b.1,
+        pair_each (SpellsCondition s) (IsLetterCondition y) (λ c. (condition_places s bound c).unknown ≡ None) (is_letter_condition bound) l.conditions.items r.conditions e.2 c,
+      )
 
   module _ (kept : fault y ≡ None) where
     all_known : ((rules_places s y.rules).unknown ≡ None) × ((open_terms_places s y.terms).unknown ≡ None)

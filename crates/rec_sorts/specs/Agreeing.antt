@@ -1,7 +1,11 @@
 -- When numbered declarations are those of a specification.
-use Rattle.std.specs.Prelude.{ℕ, ◌≡◌, List, ◌∷◌, ◌++◌, Option, map, flat_map, length}
+use Rattle.std.specs.Prelude.{ℕ, ◌≡◌, List, ◌∷◌, ◌++◌, ◌≤◌, Option, All, map, flat_map, length}
 use Rattle.rec_syntax.specs.Syntax.{Variables, Spec}
 use Rattle.rec_sorts.specs.Lookup.{symbols, names, variable_words}
+use Rattle.rec_syntax.specs.Parts.{words_of, Within}
+use Rattle.rec_sorts.specs.SpecRules.{unknown_sorts}
+use Rattle.rec_sorts.specs.Least.{least_place}
+use Rattle.rec_sorts.specs.declared.declarations.Declared.{Declared}
 use Rattle.rec_sorts.specs.Names.{Numbers, given_to, first_at}
 use Rattle.rec_sorts.specs.Declaring.{sort_numbers}
 use Rattle.rec_sorts.specs.declared.scope.Scope.{Scope}
@@ -10,6 +14,17 @@ use Rattle.rec_sorts.specs.declared.scope.Scope.{Scope}
 abbrev pub variable_sorts : Numbers → List Variables → List (Option ℕ)
 variable_sorts numbers vs = flat_map (λ v. map (λ _. numbers v.sort.bytes) (v.first ∷ v.others)) vs
 
+-- the declarations are those of a specification, of whose words the first n are symbols
+pub record IsDeclared (y : Spec) (source : List ℕ) (d : Declared) (n : ℕ) : Type 0 where
+  pub words_read : words_of source d.words.items ≡ names (symbols y) ++ variable_words y.variables
+  pub sorts_read : d.sorts.items ≡ map (λ c. first_at y.sorts c.sort.bytes) (symbols y) ++ variable_sorts (first_at y.sorts) y.variables
+  pub arguments_read : map (λ v. v.items) d.arguments.items ≡ map (λ c. sort_numbers (first_at y.sorts) c.arguments) (symbols y)
+  pub unknown_read : d.unknown ≡ least_place (unknown_sorts y)
+  pub within_read : All (Within source) d.words.items
+  pub symbols_read : n ≡ length (symbols y)
+  pub symbols_within : n ≤ length d.words.items
+
+-- the numbers are those of what a specification declares
 pub record IsScope (y : Spec) (s : Scope) : Type 0 where
   pub words_numbered : given_to s.words ≡ first_at (names (symbols y) ++ variable_words y.variables)
   pub sorts_listed : s.sorts.items ≡ map (λ d. first_at y.sorts d.sort.bytes) (symbols y) ++ variable_sorts (first_at y.sorts) y.variables

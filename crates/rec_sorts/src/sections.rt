@@ -50,7 +50,10 @@ fn unbound(letters: &[Placed], bound: &HashSet<u32>) -> Option<u32>
 {
     let mut least = None;
     for placed in letters {
-        least = earlier(least, place_where(is_unbound(placed.meaning, bound), placed.at));
+        least = earlier(
+            least,
+            place_where(is_unbound(placed.meaning, bound), placed.at),
+        );
     }
     least
 }

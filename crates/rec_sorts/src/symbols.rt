@@ -5,7 +5,7 @@ ghost use Rattle.rec_sorts.specs.Lookup.{symbols};
 ghost use Rattle.rec_sorts.specs.SpecRules.{repeated_sorts, repeated_symbols, taken_variables, unknown_sorts};
 ghost use Rattle.rec_sorts.specs.Least.{least_place};
 ghost use Rattle.rec_sorts.specs.Names.{given_to, first_at};
-ghost use Rattle.rec_sorts.specs.Agreeing.{IsScope};
+ghost use Rattle.rec_sorts.specs.Agreeing.{IsScope, IsDeclared};
 
 use crate::declarations::{Declared, Sorts, number_words};
 use crate::names::Names;
@@ -45,6 +45,24 @@ pub fn read_sorts(alloc: Global, syntax: &Syntax) -> Result<ReadSorts<'_>, Alloc
     })
 }
 
+// The declarations of a specification with these sorts, and how many of the words are symbols.
+fn read_declared(
+    alloc: Global,
+    syntax: &Syntax,
+    sorts: &Sorts,
+) -> Result<(Declared, usize), AllocError>
+    requires source { sorts.now.source.now ≡ syntax.now.source }
+    requires names { given_to sorts.now.names ≡ first_at syntax.now.spec.sorts }
+    ensures { IfOk result (λ r. IsDeclared syntax.now.spec syntax.now.source r.0 r.1) }
+{
+    let mut declared = Declared::new(alloc);
+    declared.symbols(alloc, sorts, syntax.constructors())?;
+    declared.symbols(alloc, sorts, syntax.operators())?;
+    let symbols = declared.words.len();
+    declared.groups(sorts, syntax.groups())?;
+    Ok((declared, symbols))
+}
+
 /// The symbols and variables of a specification with these sorts.
 pub fn read_scope<'a>(
     alloc: Global,
@@ -60,14 +78,11 @@ pub fn read_scope<'a>(
     ensures unknown { IfOk result (λ r. r.unknown_sort ≡ least_place (unknown_sorts syntax.now.spec)) }
 {
     let source = syntax.source();
-    let mut declared = Declared::new(alloc);
-    declared.symbols(alloc, sorts, syntax.constructors())?;
-    declared.symbols(alloc, sorts, syntax.operators())?;
-    let symbols = declared.words.len();
-    declared.groups(sorts, syntax.groups())?;
+    let (declared, symbols) = read_declared(alloc, syntax, sorts)?;
     let mut words = Names::new(alloc);
-    let repeated_symbol = number_words(&mut words, source, &declared.words[..symbols], 0)?;
-    let taken_variable = number_words(&mut words, source, &declared.words[symbols..], symbols)?;
+    let parts = declared.words.split_at(symbols);
+    let repeated_symbol = number_words(&mut words, source, parts.0, 0)?;
+    let taken_variable = number_words(&mut words, source, parts.1, symbols)?;
     let constructors = number(syntax.constructors().len())?;
     let symbols = number(symbols)?;
     Ok(ReadScope {

@@ -1,6 +1,11 @@
 use crate::reader::read_nodes;
-use crate::{TextFault, WriteFault};
+use crate::{TextFault, WriteFault, read, write};
+use rx_plain::PlainBank;
+use rx_term::TermBank;
 use std::alloc::{AllocError, Global};
+use std::io;
+use std::io::Write;
+use std::process::Abort;
 use std::test::*;
 
 // The offset of the token at which the text leaves the grammar.
@@ -8,6 +13,16 @@ fn place(alloc: Global, text: &[u8]) -> Option<u32> {
     match read_nodes(alloc, text) {
         Err(TextFault::Grammar { at }) => Some(at),
         _ => None,
+    }
+}
+
+// Whether the tree that the first text spells is printed as the second.
+fn prints(rt: &impl Abort, alloc: Global, text: &[u8], printed: &[u8]) -> bool {
+    let mut bank = PlainBank::new(alloc, 1000).expect(rt, "a bank");
+    let mut out = Vec::new(alloc);
+    match read(alloc, text, &mut bank) {
+        Ok(t) => write(alloc, &bank, t, &mut out).is_ok() && out.as_slice() == printed,
+        Err(_) => false,
     }
 }
 
@@ -31,16 +46,25 @@ fn places(rt: HostRuntime) {
 }
 
 #[test]
-fn texts(rt: HostRuntime) {
+fn printed_texts(rt: HostRuntime) {
     let alloc = rt.alloc();
-    assert!(rt; read_nodes(alloc, b"f ( a , [ 1 , -007 ] ) { b }").is_ok());
-    assert!(rt; read_nodes(alloc, b"()").is_ok());
-    assert!(rt; read_nodes(alloc, b"a{}").is_ok());
-    assert!(rt; read_nodes(alloc, b"2147483647").is_ok());
-    assert!(rt; read_nodes(alloc, b"-2147483648").is_ok());
-    assert!(rt; read_nodes(alloc, b"\"a\\012\\\"\\377\"").is_ok());
-    assert!(rt; read_nodes(alloc, b"<7>{7}").is_ok());
-    assert!(rt; read_nodes(alloc, b"<a{b}>{c,[]}").is_ok());
+    assert!(rt;
+        prints(
+            &rt,
+            alloc,
+            b"f ( a , [ 1 , -007 ] ) { b }",
+            b"f(a,[1,-7]){b}"
+        )
+    );
+    assert!(rt; prints(&rt, alloc, b"f()", b"f"));
+    assert!(rt; prints(&rt, alloc, b"()", b"()"));
+    assert!(rt; prints(&rt, alloc, b"a{}", b"a"));
+    assert!(rt; prints(&rt, alloc, b"2147483647", b"2147483647"));
+    assert!(rt; prints(&rt, alloc, b"-2147483648", b"-2147483648"));
+    assert!(rt; prints(&rt, alloc, b"-0", b"0"));
+    assert!(rt; prints(&rt, alloc, b"\"a\\012\\\"\\377\"", b"\"a\\n\\\"\\377\""));
+    assert!(rt; prints(&rt, alloc, b"\"\xc3\xa9\"", b"\"\\303\\251\""));
+    assert!(rt; prints(&rt, alloc, b"<7>{7}", b"<7>{7}"));
 }
 
 // So many opening brackets, and as many closing ones.
@@ -62,5 +86,77 @@ fn two_million_brackets(rt: HostRuntime) -> Result<(), Fail> {
         .ok()
         .ok_or("the bytes are a term")?;
     assert_eq!(rt; nodes.len(), 2_000_000);
+    Ok(())
+}
+
+#[test]
+fn two_thousand_levels(rt: HostRuntime) -> Result<(), Fail> {
+    let alloc = rt.alloc();
+    let bytes = nested(alloc, 2000).ok().ok_or("memory")?;
+    let mut bank = PlainBank::new(alloc, 4000).ok().ok_or("a bank")?;
+    let t = read(alloc, &bytes, &mut bank)
+        .ok()
+        .ok_or("the bytes are a term")?;
+    let mut out = Vec::new(alloc);
+    assert!(rt; write(alloc, &bank, t, &mut out).is_ok());
+    assert!(rt; out.as_slice() == bytes.as_slice());
+    Ok(())
+}
+
+// A full bank answers that; a text with a fault is answered first.
+#[test]
+fn a_full_bank(rt: HostRuntime) -> Result<(), Fail> {
+    let alloc = rt.alloc();
+    let mut bank = PlainBank::new(alloc, 3).ok().ok_or("a bank")?;
+    assert!(rt; read(alloc, b"[1,2,3]", &mut bank) == Err(TextFault::Full));
+    assert!(rt; bank.cells() == bank.cap());
+    assert!(rt; read(alloc, b"[1,2,3", &mut bank) == Err(TextFault::Grammar { at: 6 }));
+    Ok(())
+}
+
+// A writer with room for so many bytes.
+#[derive(Drop)]
+struct Small {
+    left: usize,
+}
+
+impl Write for Small {
+    fn write(&mut self, buf: &[u8]) -> io::Result<usize> {
+        let count = buf.len().min(self.left).min(1);
+        self.left -= count;
+        Ok(count)
+    }
+
+    fn flush(&mut self) -> io::Result<()> {
+        Ok(())
+    }
+}
+
+#[test]
+fn a_writer_that_stops(rt: HostRuntime) -> Result<(), Fail> {
+    let alloc = rt.alloc();
+    let mut bank = PlainBank::new(alloc, 100).ok().ok_or("a bank")?;
+    let t = read(alloc, b"f(a,[1])", &mut bank).ok().ok_or("a term")?;
+    for left in 0..8 {
+        let mut out = Small { left };
+        assert!(rt; write(alloc, &bank, t, &mut out) == Err(WriteFault::Write));
+        assert_eq!(rt; out.left, 0);
+    }
+    let mut out = Small { left: 8 };
+    assert!(rt; write(alloc, &bank, t, &mut out).is_ok());
+    Ok(())
+}
+
+#[test]
+fn too_long(rt: HostRuntime) -> Result<(), Fail> {
+    let alloc = rt.alloc();
+    let mut bank = PlainBank::new(alloc, 10).ok().ok_or("a bank")?;
+    let mut bytes = Vec::new(alloc);
+    for _ in 0..crate::LONGEST {
+        bytes.push(b' ').ok().ok_or("memory")?;
+    }
+    assert!(rt; read(alloc, &bytes, &mut bank) == Err(TextFault::Grammar { at: 16_777_216 }));
+    bytes.push(b'a').ok().ok_or("memory")?;
+    assert!(rt; read(alloc, &bytes, &mut bank) == Err(TextFault::Long));
     Ok(())
 }

@@ -9,4 +9,4 @@ pub returns-clause-given : goal.returns-clause-given
 returns-clause-given c =
     let absent : given_to c.args.self.now c.args.name.now ≡ None = none_from_test _ (search rules) in
     same_function (λ other. hash_map_updates_str c.args.name.now c.args.self.now.numbers c.insert.new.self _ c.in_ok-insert.ensures.updates other
-        ∙ given_first-new (given_to c.args.self.now) c.args.name.now c.args.number other absent)
+    ∙ given_first-new (given_to c.args.self.now) c.args.name.now c.args.number other absent)

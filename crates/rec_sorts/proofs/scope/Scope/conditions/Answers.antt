@@ -12,7 +12,7 @@ loop-condition-preserved c =
     let bound = contains nat_eq c.args.bound.now in
     record {
       letters = Pairwise_turn (SpellsCondition s) (condition_of s.source.now) c.args.conditions.now c.loop-condition.condition-index c.condition-item.result c.loop-condition.letters.items c.push.new.self.items c.in_ok-read.read.letters
-        (omega arith) c.condition-item.is c.in_ok-push.ensures.items c.loop-condition.invariant.letters c.in_ok-read.ensures.letters;
+          (omega arith) c.condition-item.is c.in_ok-push.ensures.items c.loop-condition.invariant.letters c.in_ok-read.ensures.letters;
       places = places_turn (condition_of s.source.now) (conditions_places s bound) (condition_places s bound) (λ y ys. refl) c.args.conditions.now c.loop-condition.condition-index c.condition-item.result c.loop-condition.places c.in_ok-read.read.places c.join-places.result _
-        (omega arith) c.condition-item.is c.join-places.ensures c.in_ok-read.ensures.places c.loop-condition.invariant.places;
+          (omega arith) c.condition-item.is c.join-places.ensures c.in_ok-read.ensures.places c.loop-condition.invariant.places;
     }

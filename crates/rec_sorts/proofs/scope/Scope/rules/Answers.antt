@@ -9,7 +9,7 @@ loop-rule-preserved c =
     let s = c.args.self.now in
     record {
       letters = Pairwise_turn (SpellsRule s) (rule_of s.source.now) c.args.rules.now c.loop-rule.rule-index c.rule-item.result c.loop-rule.letters.items c.push.new.self.items c.in_ok-read.read.letters
-        (omega arith) c.rule-item.is c.in_ok-push.ensures.items c.loop-rule.invariant.letters c.in_ok-read.ensures.letters;
+          (omega arith) c.rule-item.is c.in_ok-push.ensures.items c.loop-rule.invariant.letters c.in_ok-read.ensures.letters;
       places = places_turn (rule_of s.source.now) (rules_places s) (rule_places s) (λ y ys. refl) c.args.rules.now c.loop-rule.rule-index c.rule-item.result c.loop-rule.places c.in_ok-read.read.places c.join-places.result _
-        (omega arith) c.rule-item.is c.join-places.ensures c.in_ok-read.ensures.places c.loop-rule.invariant.places;
+          (omega arith) c.rule-item.is c.join-places.ensures c.in_ok-read.ensures.places c.loop-rule.invariant.places;
     }

@@ -1,0 +1,16 @@
+pub mod Sharing
+pub mod Slots
+pub mod Steps
+pub mod Access
+pub mod Blocks
+pub mod Agrees
+pub mod Fields
+pub mod Puts
+pub mod Chains
+pub mod Pools
+pub mod PoolSteps
+pub mod ArenaLaws
+pub mod ArenaSteps
+pub mod ArenaReads
+pub mod Sorting
+pub mod Dealing

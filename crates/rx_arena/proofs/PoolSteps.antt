@@ -1,0 +1,212 @@
+-- What each call of a pool makes of the store, the free list and the cells.
+use Rattle.std.proofs.Common.{◌≡◌, ◌≢◌, ℕ, zero, suc, ◌+◌, ◌-◌, ◌<◌, ◌≤◌, ◌⊎◌, inl, inr, List, [], ◌∷◌, ◌++◌, length, get_or, set, Some, None, IfSome, refl, sym, ap, subst, ◌∙◌, arith}
+use Rattle.std.specs.Prelude.{Option, replicate, ◌^◌, min}
+use Rattle.std.specs.Option.{option_map}
+use Rattle.std.proofs.lemmas.List.{length-set, get_or-set_same, set-set, set-get_or}
+use Rattle.rx_arena.specs.Node.{Node, lone, with_free, changed}
+use Rattle.rx_arena.specs.Held.{IsHeld}
+use Rattle.rx_arena.specs.Put.{times, put, filled, one_some, altered}
+use Rattle.rx_arena.specs.Links.{Links, links, IsChain, Listed}
+use Rattle.rx_arena.specs.Pool.{PoolState, IsPool, cells_of}
+use Rattle.rx_arena.proofs.Puts.{within_some, filled-put}
+use Rattle.rx_arena.proofs.Chains.{chain_stays, popped, pushed, listed_is, first_some}
+use Rattle.rx_arena.proofs.Pools.{lt_or_le, links-set_other, links-set_same, links_some, IsTakenAt, taken_at, cells-set, pool-set, reused-away, reused-below, reused-was_free, reused-cells, reused-pool, extended-chain, extended-was_free, extended-cells, extended-pool, given_back-cells, given_back-some_taken, given_back-pool, grown-chain, grown-cells, grown-pool}
+
+-- the free links of the nodes
+abbrev pub frees : List (Option Node) → Links
+frees slots = links (λ n. n.free) slots
+
+-- the store, with its free list and counts, holds these cells
+pub record Step (slots : List (Option Node)) (first : Option ℕ) (free : List ℕ) (fresh taken room cap : ℕ) (cells : List (Option Node)) : Type 0 where
+  pub chain : IsChain (frees slots) first free
+  pub pool : IsPool slots free fresh taken room cap
+  pub cells_is : cells_of slots free fresh ≡ cells
+
+module _ (slots : List (Option Node)) (first : Option ℕ) (free : List ℕ) (fresh taken room cap : ℕ) (cells : List (Option Node)) (st : Step slots first free fresh taken room cap cells) (l : Listed (frees slots) first) where
+  pub step_pool : IsPool slots l.0 fresh taken room cap
+  step_pool = subst (λ z. IsPool slots z fresh taken room cap) (sym (listed_is (frees slots) first l free st.chain)) st.pool
+
+  pub step_free : l.0 ≡ free
+  step_free = listed_is (frees slots) first l free st.chain
+
+  pub step_cells : cells_of slots l.0 fresh ≡ cells
+  step_cells = ap (λ (z : List ℕ). cells_of slots z fresh) (listed_is (frees slots) first l free st.chain) ∙ st.cells_is
+
+-- what is taken and what is spare fit
+pub pool_fits : (slots : List (Option Node)) (free : List ℕ) (fresh taken room cap : ℕ) → IsPool slots free fresh taken room cap → (min cap room - filled (cells_of slots free fresh)) + filled (cells_of slots free fresh) ≤ cap
+pool_fits slots free fresh taken room cap p = omega (arith, p.taken_counted, p.free_counted, p.fresh_in_cap)
+
+-- the taken slots are below the room and the limit
+pub pool_room : (slots : List (Option Node)) (free : List ℕ) (fresh taken room cap : ℕ) → IsPool slots free fresh taken room cap → (filled (cells_of slots free fresh) ≡ taken) × (taken ≤ room) × (taken ≤ cap)
+pool_room slots free fresh taken room cap p = (p.taken_counted, omega (arith, p.free_counted, p.fresh_in_room), omega (arith, p.free_counted, p.fresh_in_cap))
+
+-- one more is taken
+pub filled-taken : (cells : List (Option Node)) (s : ℕ) (b : Node) → get_or cells s None ≡ None → filled (put cells s (Some b)) ≡ filled cells + 1
+filled-taken cells s b e = let none = ap one_some e in omega (arith, filled-put cells s (Some b), none)
+
+-- a node at its slot is changed
+pub changed_at : (base slots new : List (Option Node)) (s : ℕ) (n : Node) (f : Node → Node) → s < length base → slots ≡ set base s (Some n) → new ≡ changed s f slots → new ≡ set base s (Some (f n))
+changed_at base slots new s n f lt is e =
+    e ∙ ap (changed s f) is ∙ ap (λ z. set (set base s (Some n)) s (option_map f z)) (get_or-set_same base s (Some n) None lt) ∙ set-set base s (Some n) (Some (f n))
+
+pub held_at : (base slots : List (Option Node)) (s : ℕ) (n : Node) → s < length base → slots ≡ set base s (Some n) → IsHeld slots s
+held_at base slots s n lt e = (n, ap (λ (z : List (Option Node)). get_or z s None) e ∙ get_or-set_same base s (Some n) None lt)
+
+pub itself_at : (base : List (Option Node)) (s : ℕ) (n : Node) → get_or base s None ≡ Some n → base ≡ set base s (Some n)
+itself_at base s n e = sym (set-get_or base s None) ∙ ap (λ z. set base s z) e
+
+-- two states that differ in no part
+pub same_pool : (cells cells' : List (Option Node)) (free free' : List ℕ) (fresh room cap : ℕ) → cells ≡ cells' → free ≡ free'
+    → ◌≡◌ {A = PoolState} (record { cells = cells; free = free; fresh = fresh; room = room; cap = cap }) (record { cells = cells'; free = free'; fresh = fresh; room = room; cap = cap })
+same_pool cells cells' free free' fresh room cap e f = λ i. record { cells = e i; free = f i; fresh = fresh; room = room; cap = cap }
+
+-- a step over an equal store
+step_at : (slots new : List (Option Node)) (first : Option ℕ) (free : List ℕ) (fresh taken room cap : ℕ) (cells : List (Option Node)) → new ≡ slots → Step slots first free fresh taken room cap cells → Step new first free fresh taken room cap cells
+step_at slots new first free fresh taken room cap cells e st = subst (λ z. Step z first free fresh taken room cap cells) (sym e) st
+
+pub new-step : (cap : ℕ) → cap ≤ 2 ^ 30 → Step [] None [] 0 0 0 cap []
+new-step cap le = record {
+  chain = tt;
+  pool = record {
+    once = λ s. omega arith;
+    held = λ s lt. absurd (omega (arith, lt));
+    empty = λ s h. refl;
+    free_counted = refl;
+    taken_counted = refl;
+    room_is = refl;
+    fresh_in_room = omega arith;
+    fresh_in_cap = omega arith;
+    room_in_cap = omega arith;
+    cap_small = le;
+  };
+  cells_is = refl;
+}
+
+module _ (slots : List (Option Node)) (first : Option ℕ) (l : Listed (frees slots) first) (fresh taken room cap : ℕ) (p : IsPool slots l.0 fresh taken room cap) where
+  abbrev cells : List (Option Node)
+  cells = cells_of slots l.0 fresh
+
+  pub extended-step : (new : List (Option Node)) (b : Node) → fresh < room → fresh < cap → new ≡ set slots fresh (Some b) → Step new first l.0 (fresh + 1) (taken + 1) room cap (put cells fresh (Some b))
+  extended-step new b lr lc e = step_at (set slots fresh (Some b)) new first l.0 (fresh + 1) (taken + 1) room cap (put cells fresh (Some b)) e (record {
+    chain = extended-chain slots l.0 fresh taken room cap p lr lc first l.1 b;
+    pool = extended-pool slots l.0 fresh taken room cap p lr lc first l.1 b;
+    cells_is = extended-cells slots l.0 fresh taken room cap p lr lc first l.1 b;
+  })
+
+  pub extended_free : fresh < room → fresh < cap → get_or cells fresh None ≡ None
+  extended_free lr lc = extended-was_free slots l.0 fresh taken room cap p lr lc first l.1
+
+  pub grown-step : (new : List (Option Node)) → room < cap → new ≡ slots ++ replicate 1024 None → Step new first l.0 fresh taken (room + 1024) cap cells
+  grown-step new lt e = step_at (slots ++ replicate 1024 None) new first l.0 fresh taken (room + 1024) cap cells e (record {
+    chain = grown-chain slots l.0 fresh taken room cap p lt first l.1;
+    pool = grown-pool slots l.0 fresh taken room cap p lt;
+    cells_is = grown-cells slots l.0 fresh taken room cap p lt;
+  })
+
+  pub same-step : (new : List (Option Node)) → new ≡ slots → Step new first l.0 fresh taken room cap cells
+  same-step new e = step_at slots new first l.0 fresh taken room cap cells e (record { chain = l.1; pool = p; cells_is = refl })
+
+  -- a taken slot is held in the store, and is not free
+  pub held_in_store : (s : ℕ) → IsHeld cells s → IsHeld slots s
+  held_in_store s h = (h.0, (taken_at slots l.0 fresh s h.0 h.1).at_store)
+
+  pub within_store : (s : ℕ) → IsHeld cells s → s < length slots
+  within_store s h = (taken_at slots l.0 fresh s h.0 h.1).within
+
+  -- a fact of the node in the store is one of the node that is shown
+  pub shown : (P : Node → Type 0) (s : ℕ) → IsHeld cells s → IfSome (get_or slots s None) P → IfSome (get_or cells s None) P
+  shown P s h f = subst (λ z. IfSome z P) (sym h.1) (subst (λ z. IfSome z P) (taken_at slots l.0 fresh s h.0 h.1).at_store f)
+
+  pub unshown : (P : Node → Type 0) (s : ℕ) → IsHeld cells s → IfSome (get_or cells s None) P → IfSome (get_or slots s None) P
+  unshown P s h f = subst (λ z. IfSome z P) (sym (taken_at slots l.0 fresh s h.0 h.1).at_store) (subst (λ z. IfSome z P) h.1 f)
+
+  pub held_links : (next : Option ℕ) → IfSome next (IsHeld cells) → IfSome next (IsHeld slots)
+  held_links None h = tt
+  held_links (Some t) h = held_in_store t h
+
+  pub within_links : (next : Option ℕ) → IfSome next (IsHeld cells) → IfSome next (λ t. t < length slots)
+  within_links None h = tt
+  within_links (Some t) h = within_store t h
+
+  pub link_held : (f : Node → Option ℕ) (s : ℕ) → IsHeld cells s → IfSome (get_or cells s None) (λ n. IfSome (f n) (IsHeld cells)) → IfSome (get_or slots s None) (λ n. IfSome (f n) (IsHeld slots))
+  link_held f s h k =
+      let at = (taken_at slots l.0 fresh s h.0 h.1).at_store in
+      subst (λ z. IfSome z (λ n. IfSome (f n) (IsHeld slots))) (sym at) (held_links (f h.0) (subst (λ z. IfSome z (λ n. IfSome (f n) (IsHeld cells))) h.1 k))
+
+  -- a change of a taken slot's node that keeps its free link
+  pub kept-step : (new : List (Option Node)) (s : ℕ) (f : Node → Node) → IsHeld cells s → new ≡ changed s f slots → Step new first l.0 fresh taken room cap (altered s f cells)
+  kept-step new s f h e =
+      let at = taken_at slots l.0 fresh s h.0 h.1 in
+      let is : changed s f slots ≡ set slots s (Some (f h.0)) = ap (λ z. set slots s (option_map f z)) at.at_store in
+      let shows : altered s f cells ≡ put cells s (Some (f h.0)) = ap (λ z. put cells s (option_map f z)) h.1 in
+      step_at (set slots s (Some (f h.0))) new first l.0 fresh taken room cap (altered s f cells) (e ∙ is) (record {
+        chain = chain_stays (frees slots) (frees (set slots s (Some (f h.0)))) s first l.0 at.away (λ t ne. links-set_other (λ n. n.free) slots s t (Some (f h.0)) ne) l.1;
+        pool = pool-set slots l.0 fresh taken room cap p s h.0 (f h.0) h.1;
+        cells_is = cells-set slots l.0 fresh s (Some (f h.0)) at.away at.below (omega (arith, p.room_is, p.fresh_in_room)) ∙ sym shows;
+      })
+
+  apart_of : (next : Option ℕ) → IfSome next (λ s. (0 < times s l.0) × ((k : Option ℕ) × (get_or (frees slots) s None ≡ Some k))) → (s : ℕ) → times s l.0 ≡ 0 → IfSome next (λ t. ¬ (t ≡ s))
+  apart_of None h s away = tt
+  apart_of (Some t) h s away = λ e. (let here : 0 < times s l.0 = subst (λ z. 0 < times z l.0) e h.0 in absurd (omega (arith, here, away)))
+
+  within_of : (next : Option ℕ) → IfSome next (λ s. (0 < times s l.0) × ((k : Option ℕ) × (get_or (frees slots) s None ≡ Some k))) → IfSome next (λ t. t < length slots)
+  within_of None h = tt
+  within_of (Some t) h = let n = links_some (λ n. n.free) slots t h.1.0 h.1.1 in within_some slots t n.0 n.1
+
+  -- what `give_back` asks of the free list's first slot
+  pub first_apart : (s : ℕ) → IsHeld cells s → IfSome first (λ t. ¬ (t ≡ s))
+  first_apart s h = apart_of first (first_some (frees slots) first l.0 l.1) s (taken_at slots l.0 fresh s h.0 h.1).away
+
+  pub first_within : IfSome first (λ t. t < length slots)
+  first_within = within_of first (first_some (frees slots) first l.0 l.1)
+
+  pub given_back-step : (new : List (Option Node)) (s : ℕ) → IsHeld cells s → new ≡ changed s (with_free first) slots → Step new (Some s) (s ∷ l.0) fresh (taken - 1) room cap (put cells s None)
+  given_back-step new s h e =
+      let at = taken_at slots l.0 fresh s h.0 h.1 in
+      let m : Node = with_free first h.0 in
+      let is : changed s (with_free first) slots ≡ set slots s (Some m) = ap (λ z. set slots s (option_map (with_free first) z)) at.at_store in
+      step_at (set slots s (Some m)) new (Some s) (s ∷ l.0) fresh (taken - 1) room cap (put cells s None) (e ∙ is) (record {
+        chain = pushed (frees slots) (frees (set slots s (Some m))) s first l.0 at.away (λ t ne. links-set_other (λ n. n.free) slots s t (Some m) ne) (links-set_same (λ n. n.free) slots s (Some m) at.within) l.1;
+        pool = given_back-pool slots l.0 fresh taken room cap p s h.0 h.1 m;
+        cells_is = given_back-cells slots l.0 fresh taken room cap p s h.0 h.1 m;
+      })
+
+  pub given_back_some : (s : ℕ) → IsHeld cells s → 0 < taken
+  given_back_some s h = given_back-some_taken slots l.0 fresh taken room cap p s h.0 h.1 h.0
+
+  -- the first free slot, if there is one
+  module _ (s : ℕ) (is : first ≡ Some s) where
+    abbrev pub front : (rest : List ℕ) × (l.0 ≡ s ∷ rest) × (next : Option ℕ) × (get_or (frees slots) s None ≡ Some next) × IsChain (frees slots) next rest
+    front = popped (frees slots) first s l.0 l.1 is
+
+    abbrev pub front_node : (n : Node) × (get_or slots s None ≡ Some n) × (n.free ≡ front.2)
+    front_node = links_some (λ n. n.free) slots s front.2 front.3
+
+    held_of : (next : Option ℕ) → IfSome next (λ t. (0 < times t front.0) × ((k : Option ℕ) × (get_or (frees slots) t None ≡ Some k))) → IfSome next (IsHeld slots)
+    held_of None h = tt
+    held_of (Some t) h = let n = links_some (λ n. n.free) slots t h.1.0 h.1.1 in (n.0, n.1)
+
+    pub front_held : IsHeld slots s
+    front_held = (front_node.0, front_node.1)
+
+    pub front_link : IfSome (get_or slots s None) (λ n. IfSome n.free (IsHeld slots))
+    front_link = subst (λ z. IfSome z (λ n. IfSome n.free (IsHeld slots))) (sym front_node.1) (subst (λ z. IfSome z (IsHeld slots)) (sym front_node.2) (held_of front.2 (first_some (frees slots) front.2 front.0 front.4)))
+
+    pub front_split : l.0 ≡ s ∷ front.0
+    front_split = front.1
+
+    pub front_free : get_or cells s None ≡ None
+    front_free = reused-was_free slots l.0 fresh taken room cap p s front.0 front.1 front_held
+
+    pub front_below : s < cap
+    front_below = omega (arith, reused-below slots l.0 fresh taken room cap p s front.0 front.1 front_held, p.fresh_in_cap)
+
+    pub reused-step : (new : List (Option Node)) (b : Node) (next : Option ℕ) → IfSome (get_or slots s None) (λ n. next ≡ n.free) → new ≡ set slots s (Some b) → Step new next front.0 fresh (taken + 1) room cap (put cells s (Some b))
+    reused-step new b next led e =
+        let n_is : next ≡ front.2 = subst (λ z. IfSome z (λ n. next ≡ n.free)) front_node.1 led ∙ front_node.2 in
+        let away = reused-away slots l.0 fresh taken room cap p s front.0 front.1 front_held in
+        step_at (set slots s (Some b)) new next front.0 fresh (taken + 1) room cap (put cells s (Some b)) e (record {
+          chain = chain_stays (frees slots) (frees (set slots s (Some b))) s next front.0 away (λ t ne. links-set_other (λ n. n.free) slots s t (Some b) ne) (subst (λ z. IsChain (frees slots) z front.0) (sym n_is) front.4);
+          pool = reused-pool slots l.0 fresh taken room cap p s front.0 front.1 front_held b;
+          cells_is = reused-cells slots l.0 fresh taken room cap p s front.0 front.1 front_held b;
+        })

@@ -1,0 +1,53 @@
+use Rattle.std.proofs.Common.{◌≡◌, ◌+◌, ◌-◌, ◌<◌, ◌≤◌, ◌^◌, ◌∷◌, ◌++◌, [], List, ℕ, Some, None, IfSome, get_or, length, refl, sym, ap, subst, ◌∙◌, arith, min}
+use Rattle.rx_arena.specs.Node.{Node, lone, with_chain, with_gray, with_mark, with_roots, with_free}
+use Rattle.rx_arena.specs.Held.{IsHeld}
+use Rattle.rx_arena.specs.Put.{times, put, filled, altered}
+use Rattle.rx_arena.specs.Pool.{PoolState, IsPool}
+use Rattle.rx_arena.specs.Pool.{spare_of}
+use Rattle.rx_arena.proofs.Chains.{ended}
+use Rattle.rx_arena.proofs.PoolSteps.{reused-step, step_pool, step_free, step_cells, same_pool, front, front_held, front_link, front_split, front_free, front_below, pool_fits}
+use Rattle.rx_arena.proofs.pool.Pool.reuse.Goals as goal
+
+pub free-self-inside-requires : goal.free-self-inside-requires
+free-self-inside-requires c = (front_held c.self.inside.store c.self.inside.free c.self.inside.listed c.self.inside.fresh c.self.inside.taken c.self.inside.room c.self.inside.cap c.self.invariant c.in-Some.slot c.in-Some.is, front_link c.self.inside.store c.self.inside.free c.self.inside.listed c.self.inside.fresh c.self.inside.taken c.self.inside.room c.self.inside.cap c.self.invariant c.in-Some.slot c.in-Some.is)
+
+pub renew-requires : goal.renew-requires
+renew-requires c = front_held c.self.inside.store c.self.inside.free c.self.inside.listed c.self.inside.fresh c.self.inside.taken c.self.inside.room c.self.inside.cap c.self.invariant c.in-Some.slot c.in-Some.is
+
+pub invariant_of-self-inside : goal.invariant_of-self-inside
+invariant_of-self-inside c =
+    let st = reused-step c.self.inside.store c.self.inside.free c.self.inside.listed c.self.inside.fresh c.self.inside.taken c.self.inside.room c.self.inside.cap c.self.invariant c.in-Some.slot c.in-Some.is c.renew.new.store (lone c.args.body) c.free-self-inside.result c.free-self-inside.ensures c.renew.ensures in
+    (((front c.self.inside.store c.self.inside.free c.self.inside.listed c.self.inside.fresh c.self.inside.taken c.self.inside.room c.self.inside.cap c.self.invariant c.in-Some.slot c.in-Some.is).0, st.chain), tt)
+
+pub invariant_of-self : goal.invariant_of-self
+invariant_of-self c =
+    let st = reused-step c.self.inside.store c.self.inside.free c.self.inside.listed c.self.inside.fresh c.self.inside.taken c.self.inside.room c.self.inside.cap c.self.invariant c.in-Some.slot c.in-Some.is c.renew.new.store (lone c.args.body) c.free-self-inside.result c.free-self-inside.ensures c.renew.ensures in
+    step_pool _ _ _ _ _ _ _ _ st c.self-1.given.0
+
+pub returns-in-Some-clause-listed : goal.returns-in-Some-clause-listed
+returns-in-Some-clause-listed c =
+    let st = reused-step c.self.inside.store c.self.inside.free c.self.inside.listed c.self.inside.fresh c.self.inside.taken c.self.inside.room c.self.inside.cap c.self.invariant c.in-Some.slot c.in-Some.is c.renew.new.store (lone c.args.body) c.free-self-inside.result c.free-self-inside.ensures c.renew.ensures in
+    ap (λ (v : PoolState). v.free) (sym c.self.view_is) ∙ front_split c.self.inside.store c.self.inside.free c.self.inside.listed c.self.inside.fresh c.self.inside.taken c.self.inside.room c.self.inside.cap c.self.invariant c.in-Some.slot c.in-Some.is ∙ ap (λ (z : List ℕ). c.in-Some.slot ∷ z) (sym (step_free _ _ _ _ _ _ _ _ st c.self-1.given.0))
+
+pub returns-in-Some-clause-was_free : goal.returns-in-Some-clause-was_free
+returns-in-Some-clause-was_free c = subst (λ (v : PoolState). get_or v.cells c.in-Some.slot None ≡ None) c.self.view_is (front_free c.self.inside.store c.self.inside.free c.self.inside.listed c.self.inside.fresh c.self.inside.taken c.self.inside.room c.self.inside.cap c.self.invariant c.in-Some.slot c.in-Some.is)
+
+pub returns-in-Some-clause-below : goal.returns-in-Some-clause-below
+returns-in-Some-clause-below c = subst (λ (v : PoolState). c.in-Some.slot < v.cap) c.self.view_is (front_below c.self.inside.store c.self.inside.free c.self.inside.listed c.self.inside.fresh c.self.inside.taken c.self.inside.room c.self.inside.cap c.self.invariant c.in-Some.slot c.in-Some.is)
+
+pub returns-in-Some-clause-some : goal.returns-in-Some-clause-some
+returns-in-Some-clause-some c =
+    let st = reused-step c.self.inside.store c.self.inside.free c.self.inside.listed c.self.inside.fresh c.self.inside.taken c.self.inside.room c.self.inside.cap c.self.invariant c.in-Some.slot c.in-Some.is c.renew.new.store (lone c.args.body) c.free-self-inside.result c.free-self-inside.ensures c.renew.ensures in
+    same_pool _ _ _ _ _ _ _ (step_cells _ _ _ _ _ _ _ _ st c.self-1.given.0) refl
+    ∙ ap (λ (v : PoolState). record v { cells = put v.cells c.in-Some.slot (Some (lone c.args.body)); free = c.self-1.given.0.0 }) c.self.view_is
+
+pub returns-in-Some-clause-fits : goal.returns-in-Some-clause-fits
+returns-in-Some-clause-fits c =
+    let st = reused-step c.self.inside.store c.self.inside.free c.self.inside.listed c.self.inside.fresh c.self.inside.taken c.self.inside.room c.self.inside.cap c.self.invariant c.in-Some.slot c.in-Some.is c.renew.new.store (lone c.args.body) c.free-self-inside.result c.free-self-inside.ensures c.renew.ensures in
+    pool_fits _ _ _ _ _ _ (step_pool _ _ _ _ _ _ _ _ st c.self-1.given.0)
+
+pub returns-in-None-clause-listed : goal.returns-in-None-clause-listed
+returns-in-None-clause-listed c = ap (λ (v : PoolState). v.free) (sym c.self.view_is) ∙ ended _ _ _ c.self.inside.listed.1 c.in-None.is
+
+pub returns-in-None-clause-fits : goal.returns-in-None-clause-fits
+returns-in-None-clause-fits c = subst (λ (v : PoolState). spare_of v + filled v.cells ≤ v.cap) c.self.view_is (pool_fits _ _ _ _ _ _ c.self.invariant)

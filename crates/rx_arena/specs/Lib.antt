@@ -1,0 +1,10 @@
+pub mod Node
+pub mod Ownership
+pub mod Held
+pub mod Real
+pub mod Block
+pub mod Blocks
+pub mod Put
+pub mod Links
+pub mod Pool
+pub mod Arena

@@ -1,0 +1,37 @@
+-- What a pool of slots shows: the slots that are taken, and those that may be.
+use Rattle.std.specs.Prelude.{◌≡◌, ℕ, ◌+◌, ◌-◌, ◌<◌, ◌≤◌, ◌^◌, min, List, take, length, get_or, Option, Some, None}
+use Rattle.rx_arena.specs.Node.{Node}
+use Rattle.rx_arena.specs.Held.{IsHeld}
+use Rattle.rx_arena.specs.Put.{times, filled, without}
+
+pub record PoolState : Type 0 where
+  -- what each slot holds that is taken
+  pub cells : List (Option Node)
+  -- the slots that were given back, the next to be taken first
+  pub free : List ℕ
+  -- the slots from here on were never taken
+  pub fresh : ℕ
+  -- the slots of all blocks
+  pub room : ℕ
+  pub cap : ℕ
+
+-- how many slots can be taken with no more memory
+abbrev pub spare_of : PoolState → ℕ
+spare_of p = min p.cap p.room - filled p.cells
+
+-- what the taken slots hold, out of all that lies in the store
+abbrev pub cells_of : List (Option Node) → List ℕ → ℕ → List (Option Node)
+cells_of slots free fresh = without (take fresh slots) free
+
+-- the free slots, the counts and the store agree
+pub record IsPool (slots : List (Option Node)) (free : List ℕ) (fresh taken room cap : ℕ) : Type 0 where
+  pub once : (s : ℕ) → times s free ≤ 1
+  pub held : (s : ℕ) → s < fresh → IsHeld slots s
+  pub empty : (s : ℕ) → fresh ≤ s → get_or slots s None ≡ None
+  pub free_counted : taken + length free ≡ fresh
+  pub taken_counted : filled (cells_of slots free fresh) ≡ taken
+  pub room_is : length slots ≡ room
+  pub fresh_in_room : fresh ≤ room
+  pub fresh_in_cap : fresh ≤ cap
+  pub room_in_cap : room < cap + 1024
+  pub cap_small : cap ≤ 2 ^ 30

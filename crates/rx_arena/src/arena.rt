@@ -1,0 +1,389 @@
+//! The arena: slots to take and give back, the chains of a table, and the gray list of a marking.
+ghost use Rattle.std.specs.Prelude.{◌≡◌, ◌≢◌, ◌==◌, if◌then◌else◌, ℕ, ◌+◌, ◌%◌, ◌-◌, ◌<◌, ◌≤◌, ◌^◌, ◌++◌, ◌∷◌, [], List, Bool, true, false, Option, Some, None, Ok, Err, MatchOption, IfSome, IfOk, IfErr, OnOk, OnErr, IfNone, IsSome, get_or, length, slice_set, take, replicate, reverse};
+ghost use Rattle.rx_arena.specs.Put.{times, times_in, put, altered, emptied};
+ghost use Rattle.rx_arena.specs.Links.{Chained, Chained-prop, Listed, Listed-prop, links};
+ghost use Rattle.rx_arena.specs.Arena.{taken_at, IsTaken, taken_count, chain_at, InChain, IsLoose, marked_at, IsMarked, roots_at, hash_at, IsUnprotected, new_cell, with_count, with_marking, kept_in, dropped_from, IsFirst, times_hashed, IsArena, empty_arena};
+
+use crate::fault::ArenaFault;
+use crate::pool::Pool;
+use crate::{CellBody, Slot};
+use std::alloc::Global;
+use std::marker::Model;
+
+/// Cells by their slots, in chains by their hashes.
+#[derive(Drop)]
+pub struct Arena {
+    alloc: Global,
+    pool: Pool,
+    heads: Vec<Option<u32>>,
+    gray_first: Option<u32>,
+    ghost chained: { Chained (links (λ n. n.chain) pool.cells) heads.items } by { Chained-prop (links (λ n. n.chain) pool.cells) heads.items },
+    ghost grayed: { Listed (links (λ n. n.gray) pool.cells) gray_first } by { Listed-prop (links (λ n. n.gray) pool.cells) gray_first },
+}
+
+impl Model for Arena {
+    ghost use Rattle.rx_arena.specs.Arena.{ArenaState, IsArena, state_of};
+
+    ghost Value = { ArenaState };
+
+    ghost view = { λ a. state_of a.pool a.chained.0 a.grayed.0 };
+
+    ghost invariant = { λ a. IsArena (state_of a.pool a.chained.0 a.grayed.0) };
+}
+
+/// The heads of empty chains.
+fn empty_heads(alloc: Global, count: u32) -> Result<Vec<Option<u32>>, ArenaFault>
+    ensures ok { IfOk result (λ v. v.items ≡ replicate count None) }
+    ensures fault { IfErr result (λ e. e ≡ ArenaFault.Memory) }
+{
+    let mut heads = Vec::new(alloc);
+    for i in 0..count {
+        heads.push(None).map_err(|_| ArenaFault::Memory)?;
+    }
+    Ok(heads)
+}
+
+/// The slot of a number.
+fn slot_of(number: Option<u32>) -> Option<Slot>
+    ensures { MatchOption number (result ≡ None) (λ n. IfSome result (λ s. s.0 ≡ n) × IsSome result) }
+{
+    number.map(Slot)
+}
+
+impl Arena {
+    /// An arena of empty chains, in which at most `cap` slots may be taken.
+    pub fn new(alloc: Global, cap: u32, chains: u32) -> Result<Arena, ArenaFault>
+        requires cap { (1 ≤ cap) × (cap ≤ 2 ^ 30) }
+        requires chains { (1 ≤ chains) × (chains ≤ 2 ^ 30) }
+        ensures ok { IfOk result (λ a. a ≡ empty_arena cap chains) }
+        ensures law { IfOk result IsArena }
+        ensures fault { IfErr result (λ e. e ≡ ArenaFault.Memory) }
+    {
+        let heads = empty_heads(alloc, chains)?;
+        Ok(Arena {
+            alloc,
+            pool: Pool::new(alloc, cap),
+            heads,
+            gray_first: None,
+        })
+    }
+
+    /// How many slots are taken.
+    pub fn cells(&self) -> u32
+        ensures count { result ≡ taken_count self.now }
+        ensures law { IsArena self.now }
+    {
+        self.pool.taken()
+    }
+
+    /// How many slots can be taken with no more memory.
+    pub fn spare(&self) -> u32
+        ensures value { result ≡ self.now.spare }
+        ensures law { IsArena self.now }
+    {
+        self.pool.spare()
+    }
+
+    /// How many chains there are.
+    pub fn chains(&self) -> u32
+        ensures count { result ≡ length self.now.chains }
+        ensures law { IsArena self.now }
+    {
+        self.heads.len() as u32
+    }
+
+    /// Takes a slot for this body: unmarked, protected by no root, in no chain.
+    pub fn take(&mut self, body: CellBody) -> Result<Slot, ArenaFault>
+        ensures free { IfOk result (λ s. taken_at self.old s.0 ≡ None) }
+        ensures below { IfOk result (λ s. s.0 < self.old.cap) }
+        ensures cells { IfOk result (λ s. self.new.cells ≡ put self.old.cells s.0 (Some (new_cell body))) }
+        ensures loose { IfOk result (λ s. IsLoose self.new s.0) }
+        ensures rest { self.new ≡ record self.old { cells = self.new.cells; spare = self.new.spare } }
+        ensures spare { self.old.spare ≤ self.new.spare + 1 }
+        ensures law { IsArena self.new }
+        ensures err { OnErr result (self.new ≡ self.old) }
+        ensures none_spare { OnErr result (self.old.spare ≡ 0) }
+        ensures full { result ≡ Err ArenaFault.Full → taken_count self.old ≡ self.old.cap }
+        ensures memory { result ≡ Err ArenaFault.Memory → taken_count self.old < self.old.cap }
+    {
+        match self.pool.take(body) {
+            Ok(slot) => Ok(Slot(slot)),
+            Err(fault) => Err(fault),
+        }
+    }
+
+    /// Gives back a slot that nothing needs any more.
+    pub fn give_back(&mut self, slot: Slot)
+        requires taken { IsTaken self.old slot.0 }
+        requires loose { IsLoose self.old slot.0 }
+        requires not_gray { times slot.0 self.old.gray ≡ 0 }
+        requires unmarked { marked_at self.old slot.0 ≡ false }
+        requires unprotected { roots_at self.old slot.0 ≡ 0 }
+        ensures after { self.new ≡ record self.old { cells = put self.old.cells slot.0 None; spare = self.old.spare + 1 } }
+        ensures law { IsArena self.new }
+    {
+        self.pool.give_back(slot.0)
+    }
+
+    /// What the cell says.
+    pub fn read(&self, slot: Slot) -> CellBody
+        requires { IsTaken self.now slot.0 }
+        ensures { IfSome (taken_at self.now slot.0) (λ t. result ≡ t.body) }
+    {
+        self.pool.body(slot.0)
+    }
+
+    /// How often the cell is protected.
+    pub fn roots(&self, slot: Slot) -> u16
+        requires { IsTaken self.now slot.0 }
+        ensures { result ≡ roots_at self.now slot.0 }
+    {
+        self.pool.roots(slot.0)
+    }
+
+    /// Replaces how often the cell is protected.
+    pub fn set_roots(&mut self, slot: Slot, count: u16)
+        requires { IsTaken self.old slot.0 }
+        ensures after { self.new ≡ record self.old { cells = altered slot.0 (with_count count) self.old.cells } }
+        ensures law { IsArena self.new }
+    {
+        self.pool.set_roots(slot.0, count)
+    }
+
+    /// Makes sure of memory for `count` more slots.
+    pub fn reserve(&mut self, count: u32) -> Result<(), ArenaFault>
+        ensures rest { self.new ≡ record self.old { spare = self.new.spare } }
+        ensures grown { self.old.spare ≤ self.new.spare }
+        ensures law { IsArena self.new }
+        ensures ok { OnOk result (count ≤ self.new.spare) }
+        ensures full { result ≡ Err ArenaFault.Full → self.old.cap < taken_count self.old + count }
+        ensures memory { result ≡ Err ArenaFault.Memory → taken_count self.old + count ≤ self.old.cap }
+    {
+        self.pool.reserve(count)
+    }
+
+    /// The first slot of a chain.
+    pub fn chain_first(&self, chain: u32) -> Option<Slot>
+        requires { chain < length self.now.chains }
+        ensures first { IsFirst result (chain_at self.now chain) }
+        ensures law { IsArena self.now }
+    {
+        slot_of(self.heads[chain as usize])
+    }
+
+    /// The slot after this one in its chain.
+    pub fn chain_next(&self, slot: Slot) -> Option<Slot>
+        requires { InChain self.now slot.0 }
+        ensures next { (c : ℕ) (before after : List ℕ) → chain_at self.now c ≡ before ++ slot.0 ∷ after → IsFirst result after }
+        ensures law { IsArena self.now }
+    {
+        slot_of(self.pool.chain(slot.0))
+    }
+
+    /// Puts a slot in front of a chain.
+    pub fn chain_push(&mut self, chain: u32, slot: Slot)
+        requires chain { chain < length self.old.chains }
+        requires taken { IsTaken self.old slot.0 }
+        requires loose { IsLoose self.old slot.0 }
+        ensures after { self.new ≡ record self.old { chains = slice_set self.old.chains chain (slot.0 ∷ chain_at self.old chain) } }
+        ensures law { IsArena self.new }
+    {
+        let index = chain as usize;
+        self.pool.set_chain(slot.0, self.heads[index]);
+        self.heads[index] = Some(slot.0);
+    }
+
+    /// Takes the first slot out of a chain.
+    fn chain_pop(&mut self, chain: u32) -> Option<Slot>
+        requires { chain < length self.old.chains }
+        ensures first { MatchOption result (chain_at self.old chain ≡ []) (λ s. chain_at self.old chain ≡ s.0 ∷ chain_at self.new chain) }
+        ensures taken { IfSome result (λ s. IsTaken self.new s.0) }
+        ensures loose { IfSome result (λ s. IsLoose self.new s.0) }
+        ensures none { IfNone result (self.new ≡ self.old) }
+        ensures rest { self.new ≡ record self.old { chains = slice_set self.old.chains chain (chain_at self.new chain) } }
+        ensures law { IsArena self.new }
+    {
+        let index = chain as usize;
+        match self.heads[index] {
+            Some(slot) => {
+                self.heads[index] = self.pool.chain(slot);
+                Some(Slot(slot))
+            }
+            None => None,
+        }
+    }
+
+    /// Whether the cell is marked.
+    pub fn marked(&self, slot: Slot) -> bool
+        requires { IsTaken self.now slot.0 }
+        ensures { result ≡ marked_at self.now slot.0 }
+    {
+        self.pool.marked(slot.0)
+    }
+
+    /// Marks the cell, and puts it in front of the gray list.
+    pub fn gray_push(&mut self, slot: Slot)
+        requires taken { IsTaken self.old slot.0 }
+        requires unmarked { marked_at self.old slot.0 ≡ false }
+        ensures after { self.new ≡ record self.old { cells = altered slot.0 (with_marking true) self.old.cells; gray = slot.0 ∷ self.old.gray } }
+        ensures law { IsArena self.new }
+    {
+        self.pool.set_marked(slot.0, true);
+        self.pool.set_gray(slot.0, self.gray_first);
+        self.gray_first = Some(slot.0);
+    }
+
+    /// Puts a marked slot in front of the gray list.
+    fn gray_return(&mut self, slot: Slot)
+        requires marked { IsMarked self.old slot.0 }
+        requires not_gray { times slot.0 self.old.gray ≡ 0 }
+        ensures after { self.new ≡ record self.old { gray = slot.0 ∷ self.old.gray } }
+        ensures law { IsArena self.new }
+    {
+        self.pool.set_gray(slot.0, self.gray_first);
+        self.gray_first = Some(slot.0);
+    }
+
+    /// Takes the first slot out of the gray list. It stays marked.
+    pub fn gray_pop(&mut self) -> Option<Slot>
+        ensures first { MatchOption result (self.old.gray ≡ []) (λ s. self.old.gray ≡ s.0 ∷ self.new.gray) }
+        ensures marked { IfSome result (λ s. IsMarked self.new s.0) }
+        ensures not_gray { IfSome result (λ s. times s.0 self.new.gray ≡ 0) }
+        ensures none { IfNone result (self.new ≡ self.old) }
+        ensures rest { self.new ≡ record self.old { gray = self.new.gray } }
+        ensures law { IsArena self.new }
+    {
+        match self.gray_first {
+            Some(slot) => {
+                self.gray_first = self.pool.gray(slot);
+                Some(Slot(slot))
+            }
+            None => None,
+        }
+    }
+
+    /// Clears the mark of a cell.
+    pub fn clear_mark(&mut self, slot: Slot)
+        requires taken { IsTaken self.old slot.0 }
+        requires not_gray { times slot.0 self.old.gray ≡ 0 }
+        ensures after { self.new ≡ record self.old { cells = altered slot.0 (with_marking false) self.old.cells } }
+        ensures law { IsArena self.new }
+    {
+        self.pool.set_marked(slot.0, false)
+    }
+
+    /// Moves the marked slots of a chain to the gray list, and gives back the others.
+    fn sort_out(&mut self, chain: u32)
+        requires chain { chain < length self.old.chains }
+        requires no_gray { self.old.gray ≡ [] }
+        requires unprotected { IsUnprotected self.old chain }
+        ensures cells { self.new.cells ≡ emptied self.old.cells (dropped_from self.old chain) }
+        ensures gray { reverse self.new.gray ≡ kept_in self.old chain }
+        ensures loose { (s : ℕ) → 0 < times s self.new.gray → IsLoose self.new s }
+        ensures chains { self.new.chains ≡ slice_set self.old.chains chain [] }
+        ensures spare { self.new.spare ≡ self.old.spare + length (dropped_from self.old chain) }
+        ensures cap { self.new.cap ≡ self.old.cap }
+        ensures law { IsArena self.new }
+    {
+        while let Some(slot) = self.chain_pop(chain) {
+            if self.marked(slot) {
+                self.gray_return(slot);
+            } else {
+                self.give_back(slot);
+            }
+        }
+    }
+
+    /// Moves the gray list to a chain that is empty.
+    fn restore(&mut self, chain: u32)
+        requires chain { chain < length self.old.chains }
+        requires empty { chain_at self.old chain ≡ [] }
+        requires loose { (s : ℕ) → 0 < times s self.old.gray → IsLoose self.old s }
+        ensures after { self.new ≡ record self.old { chains = slice_set self.old.chains chain (reverse self.old.gray); gray = [] } }
+        ensures law { IsArena self.new }
+    {
+        while let Some(slot) = self.gray_pop() {
+            self.chain_push(chain, slot);
+        }
+    }
+
+    /// Gives back the slots of a chain that are not marked. The others keep their order.
+    pub fn chain_retain_marked(&mut self, chain: u32)
+        requires chain { chain < length self.old.chains }
+        requires no_gray { self.old.gray ≡ [] }
+        requires unprotected { IsUnprotected self.old chain }
+        ensures cells { self.new.cells ≡ emptied self.old.cells (dropped_from self.old chain) }
+        ensures chains { self.new.chains ≡ slice_set self.old.chains chain (kept_in self.old chain) }
+        ensures spare { self.new.spare ≡ self.old.spare + length (dropped_from self.old chain) }
+        ensures rest { self.new ≡ record self.old { cells = self.new.cells; chains = self.new.chains; spare = self.new.spare } }
+        ensures law { IsArena self.new }
+    {
+        self.sort_out(chain);
+        self.restore(chain);
+    }
+
+    /// Puts empty chains before the others.
+    fn add_chains(&mut self, count: u32) -> Result<(), ArenaFault>
+        ensures ok { OnOk result (self.new ≡ record self.old { chains = replicate count [] ++ self.old.chains }) }
+        ensures err { OnErr result (self.new ≡ self.old) }
+        ensures fault { IfErr result (λ e. e ≡ ArenaFault.Memory) }
+        ensures law { IsArena self.new }
+    {
+        let total = self.heads.len() + count as usize;
+        if total > u32::MAX as usize {
+            return Err(ArenaFault::Memory);
+        }
+        let mut heads = empty_heads(self.alloc, count)?;
+        match heads.extend_from_slice(&self.heads) {
+            Ok(()) => {
+                self.heads = heads;
+                Ok(())
+            }
+            Err(_) => Err(ArenaFault::Memory),
+        }
+    }
+
+    /// Keeps the first chains alone.
+    fn keep_chains(&mut self, count: u32)
+        ensures after { self.new ≡ record self.old { chains = take count self.old.chains } }
+        ensures law { IsArena self.new }
+    {
+        self.heads.truncate(count as usize);
+    }
+
+    /// Moves each slot of a chain to the one of the first `count` chains that its hash names.
+    fn move_chain(&mut self, from: u32, count: u32)
+        requires count { (0 < count) × (count ≤ from) }
+        requires from { from < length self.old.chains }
+        ensures moved { (c : ℕ) → c < count → (s : ℕ) → times s (chain_at self.new c) ≡ times s (chain_at self.old c) + (if hash_at self.old s % count == c then times s (chain_at self.old from) else 0) }
+        ensures empty { chain_at self.new from ≡ [] }
+        ensures others { (c : ℕ) → count ≤ c → c ≢ from → chain_at self.new c ≡ chain_at self.old c }
+        ensures chains { length self.new.chains ≡ length self.old.chains }
+        ensures rest { self.new ≡ record self.old { chains = self.new.chains } }
+        ensures law { IsArena self.new }
+    {
+        while let Some(slot) = self.chain_pop(from) {
+            let chain = (self.read(slot).hash % count as u64) as u32;
+            self.chain_push(chain, slot);
+        }
+    }
+
+    /// Deals the slots of all chains out to `chains` new ones, by their hashes.
+    pub fn rehash_into(&mut self, chains: u32) -> Result<(), ArenaFault>
+        requires { (1 ≤ chains) × (chains ≤ 2 ^ 30) }
+        ensures chains { OnOk result (length self.new.chains ≡ chains) }
+        ensures hashed { OnOk result ((c : ℕ) → c < chains → (s : ℕ) → times s (chain_at self.new c) ≡ times_hashed self.old chains c s) }
+        ensures rest { self.new ≡ record self.old { chains = self.new.chains } }
+        ensures err { OnErr result (self.new ≡ self.old) }
+        ensures fault { IfErr result (λ e. e ≡ ArenaFault.Memory) }
+        ensures law { IsArena self.new }
+    {
+        let old = self.chains();
+        self.add_chains(chains)?;
+        for from in chains..chains + old {
+            self.move_chain(from, chains);
+        }
+        self.keep_chains(chains);
+        Ok(())
+    }
+}

@@ -1,0 +1,277 @@
+//! Cells in memory. Only this file and `room.rt` hold pointers. Each function here works on the cell at
+//! one place, and one that follows a link reads the number in the cell behind it too.
+ghost use Rattle.std.specs.Prelude.{◌≡◌, ℕ, ◌*◌, ◌<◌, List, [], ◌∷◌, ◌++◌, length, replicate, slice_set};
+ghost use Rattle.std.specs.Prelude.{Option, Some, None, IfSome};
+ghost use denote.RawPtr.{Ptr, InBlock};
+ghost use Rattle.rx_arena.specs.Real.{InBlock-prop, IsLast};
+ghost use Rattle.rx_arena.specs.Node.{Node, node_at, lone, led_to, changed, IsClosed};
+ghost use Rattle.rx_arena.specs.Node.{with_body, with_roots, with_mark, with_chain, with_gray, with_free};
+
+use crate::room::Room;
+use crate::{CellBody, Slot};
+use std::marker::{Model, PhantomData};
+use std::mem::size_of;
+
+/// A cell. The crate's root says how it lies.
+pub struct Cell {
+    chain: *mut Cell,
+    gray: *mut Cell,
+    free: *mut Cell,
+    a: u64,
+    b: u64,
+    hash: u64,
+    anns: Option<Slot>,
+    number: u32,
+    pub(crate) roots: u16,
+    kind: u8,
+    pub(crate) marked: bool,
+}
+
+const _: () = prove!(size_of::<Cell>() == 64);
+
+/// Where a block begins. It owns nothing.
+#[derive(Clone, Copy)]
+pub struct Base {
+    at: *mut Cell,
+    ghost real: { InBlock at } by { InBlock-prop at },
+}
+
+/// A slot and where it lies. It owns nothing.
+#[derive(Clone, Copy)]
+pub struct Place {
+    pub(crate) slot: u32,
+    pub(crate) at: *mut Cell,
+}
+
+/// What a link is to become: the next slot, if there is one, and the pointer for it.
+#[derive(Clone, Copy)]
+pub struct Target {
+    pub(crate) slot: Option<u32>,
+    pub(crate) to: *mut Cell,
+}
+
+/// The owner of the cells' memory. It takes no space.
+pub struct Cells {
+    mark: PhantomData<*mut Cell>,
+    ghost blocks: { List Ptr },
+    ghost slots: { List (Option Node) },
+}
+
+impl Model for Cells {
+    ghost use Rattle.rx_arena.specs.Ownership.{slots_own, slots_lent};
+
+    ghost also_owns = { λ c. slots_own c.blocks 0 c.slots };
+
+    ghost also_shares = { λ c _ κ. slots_lent c.blocks 0 c.slots κ };
+}
+
+impl Cell {
+    ghost use Rattle.rx_arena.specs.Ownership.{body_of};
+
+    /// The body, whose fields lie apart.
+    pub(crate) fn body(&self) -> CellBody
+        ensures { result ≡ body_of self.now }
+    {
+        CellBody {
+            kind: self.kind,
+            a: self.a,
+            b: self.b,
+            anns: self.anns,
+            hash: self.hash,
+        }
+    }
+}
+
+impl Cells {
+    ghost use Rattle.rx_arena.specs.Ownership.{cell_of, link};
+    ghost use Rattle.rx_arena.specs.Held.{IsPlace, IsHeld};
+
+    /// An owner of no cells.
+    pub(crate) fn new() -> Cells
+        ensures { (result.blocks ≡ []) × (result.slots ≡ []) }
+    {
+        Cells { mark: PhantomData }
+    }
+
+    /// Adds a block of empty slots.
+    pub(crate) fn add(&mut self, room: Room) -> Base
+        requires { (length self.old.slots ≡ 1024 * length self.old.blocks)
+            × IsClosed (length self.old.slots) 0 self.old.slots }
+        ensures blocks { self.new.blocks ≡ self.old.blocks ++ result.at ∷ [] }
+        ensures slots { self.new.slots ≡ self.old.slots ++ replicate 1024 None }
+        ensures place { result.at ≡ room.at }
+    {
+        let Room { at } = room;
+        Base { at }
+    }
+
+    /// Empties all slots, and hands out the room of the last block.
+    pub(crate) fn remove(&mut self, base: Base) -> Room
+        requires { (length self.old.slots ≡ 1024 * length self.old.blocks)
+            × IsLast self.old.blocks base.at }
+        ensures blocks { self.old.blocks ≡ self.new.blocks ++ base.at ∷ [] }
+        ensures slots { self.new.slots ≡ replicate (1024 * length self.new.blocks) None }
+        ensures room { result.at ≡ base.at }
+    {
+        Room { at: base.at }
+    }
+
+    /// Ends an owner that has given back all blocks.
+    pub(crate) fn end(self)
+        requires { self.blocks ≡ [] }
+    {
+        let Cells { mark: _ } = self;
+    }
+
+    /// Writes a node into an empty slot.
+    pub(crate) fn fill(&mut self, at: Place, body: CellBody)
+        requires { IsPlace self.old.blocks at
+            × (at.slot < length self.old.slots)
+            × (node_at self.old.slots at.slot ≡ None) }
+        ensures blocks { self.new.blocks ≡ self.old.blocks }
+        ensures slots { self.new.slots ≡ slice_set self.old.slots at.slot (Some (lone body)) }
+    {
+        unsafe {
+            at.at.write(Cell {
+                chain: at.at,
+                gray: at.at,
+                free: at.at,
+                a: body.a,
+                b: body.b,
+                hash: body.hash,
+                anns: body.anns,
+                number: at.slot,
+                roots: 0,
+                kind: body.kind,
+                marked: false,
+            })
+        }
+    }
+
+    /// Lends the cell, whose links only this file reads.
+    pub(crate) fn get(&self, at: Place) -> &Cell
+        requires { IsPlace self.now.blocks at × IsHeld self.now.slots at.slot }
+        ensures { IfSome (node_at self.now.slots at.slot)
+            (λ n. result.now ≡ cell_of self.now.blocks at.slot n) }
+    {
+        unsafe { &*at.at }
+    }
+
+    /// Writes the body, field by field.
+    pub(crate) fn set_body(&mut self, at: Place, body: CellBody)
+        requires { IsPlace self.old.blocks at × IsHeld self.old.slots at.slot }
+        ensures blocks { self.new.blocks ≡ self.old.blocks }
+        ensures slots { self.new.slots ≡ changed at.slot (with_body body) self.old.slots }
+    {
+        unsafe {
+            (*at.at).kind = body.kind;
+            (*at.at).a = body.a;
+            (*at.at).b = body.b;
+            (*at.at).anns = body.anns;
+            (*at.at).hash = body.hash
+        }
+    }
+
+    /// Writes the root count.
+    pub(crate) fn set_roots(&mut self, at: Place, count: u16)
+        requires { IsPlace self.old.blocks at × IsHeld self.old.slots at.slot }
+        ensures blocks { self.new.blocks ≡ self.old.blocks }
+        ensures slots { self.new.slots ≡ changed at.slot (with_roots count) self.old.slots }
+    {
+        unsafe { (*at.at).roots = count }
+    }
+
+    /// Writes the mark.
+    pub(crate) fn set_marked(&mut self, at: Place, marked: bool)
+        requires { IsPlace self.old.blocks at × IsHeld self.old.slots at.slot }
+        ensures blocks { self.new.blocks ≡ self.old.blocks }
+        ensures slots { self.new.slots ≡ changed at.slot (with_mark marked) self.old.slots }
+    {
+        unsafe { (*at.at).marked = marked }
+    }
+
+    /// Writes the link to the next cell of the chain.
+    pub(crate) fn set_chain(&mut self, at: Place, next: Target)
+        requires { IsPlace self.old.blocks at
+            × IsHeld self.old.slots at.slot
+            × (next.to ≡ link self.old.blocks at.slot next.slot) }
+        ensures blocks { self.new.blocks ≡ self.old.blocks }
+        ensures slots { self.new.slots ≡ changed at.slot (with_chain next.slot) self.old.slots }
+    {
+        unsafe { (*at.at).chain = next.to }
+    }
+
+    /// Writes the link to the next cell of the gray list.
+    pub(crate) fn set_gray(&mut self, at: Place, next: Target)
+        requires { IsPlace self.old.blocks at
+            × IsHeld self.old.slots at.slot
+            × (next.to ≡ link self.old.blocks at.slot next.slot) }
+        ensures blocks { self.new.blocks ≡ self.old.blocks }
+        ensures slots { self.new.slots ≡ changed at.slot (with_gray next.slot) self.old.slots }
+    {
+        unsafe { (*at.at).gray = next.to }
+    }
+
+    /// Writes the link to the next cell of the free list.
+    pub(crate) fn set_free(&mut self, at: Place, next: Target)
+        requires { IsPlace self.old.blocks at
+            × IsHeld self.old.slots at.slot
+            × (next.to ≡ link self.old.blocks at.slot next.slot) }
+        ensures blocks { self.new.blocks ≡ self.old.blocks }
+        ensures slots { self.new.slots ≡ changed at.slot (with_free next.slot) self.old.slots }
+    {
+        unsafe { (*at.at).free = next.to }
+    }
+
+    /// The number of the cell that the chain leads to: the cell's own, where the chain ends.
+    pub(crate) fn chain_of(&self, at: Place) -> u32
+        requires { IsPlace self.now.blocks at
+            × IsHeld self.now.slots at.slot
+            × IfSome (node_at self.now.slots at.slot)
+            (λ n. IsHeld self.now.slots (led_to at.slot n.chain)) }
+        ensures { IfSome (node_at self.now.slots at.slot)
+            (λ n. result ≡ led_to at.slot n.chain) }
+    {
+        let next = unsafe { (*at.at).chain };
+        unsafe { (*next).number }
+    }
+
+    /// The number of the cell that the gray list leads to: the cell's own, where the list ends.
+    pub(crate) fn gray_of(&self, at: Place) -> u32
+        requires { IsPlace self.now.blocks at
+            × IsHeld self.now.slots at.slot
+            × IfSome (node_at self.now.slots at.slot)
+            (λ n. IsHeld self.now.slots (led_to at.slot n.gray)) }
+        ensures { IfSome (node_at self.now.slots at.slot)
+            (λ n. result ≡ led_to at.slot n.gray) }
+    {
+        let next = unsafe { (*at.at).gray };
+        unsafe { (*next).number }
+    }
+
+    /// The number of the cell that the free list leads to: the cell's own, where the list ends.
+    pub(crate) fn free_of(&self, at: Place) -> u32
+        requires { IsPlace self.now.blocks at
+            × IsHeld self.now.slots at.slot
+            × IfSome (node_at self.now.slots at.slot)
+            (λ n. IsHeld self.now.slots (led_to at.slot n.free)) }
+        ensures { IfSome (node_at self.now.slots at.slot)
+            (λ n. result ≡ led_to at.slot n.free) }
+    {
+        let next = unsafe { (*at.at).free };
+        unsafe { (*next).number }
+    }
+}
+
+impl Base {
+    ghost use Rattle.std.specs.Prelude.{◌*◌};
+    ghost use denote.RawPtr.{◌+ₚ◌};
+
+    /// Where the cell with this index in the block lies.
+    pub(crate) fn cell(self, index: usize) -> *mut Cell
+        requires { index < 1024 }
+        ensures { result ≡ self.at +ₚ (index * 64) }
+    {
+        unsafe { self.at.add(index) }
+    }
+}

@@ -1,0 +1,39 @@
+//! The cells of terms, in raw blocks of 1,024, linked by raw pointers and known by the numbers of their
+//! slots.
+//!
+//! A cell takes 64 bytes, the size of a cache line, in this order:
+//!
+//! | Bytes | Field | What it is |
+//! |---|---|---|
+//! | 0 to 23 | `chain`, `gray`, `free` | for each list a pointer to the next cell, or to the cell itself at the end |
+//! | 24 to 47 | `a`, `b`, `hash` | two words of the body, and its hash |
+//! | 48 to 55 | `anns` | the slot of the annotations, if there are any |
+//! | 56 to 59 | `number` | the cell's own slot |
+//! | 60 to 61 | `roots` | how often it is protected |
+//! | 62 | `kind` | the body's kind |
+//! | 63 | `marked` | whether it is marked |
+//!
+//! No pointer is compared, tested against null or turned into a number: a link is known by the `number`
+//! in the cell that it leads to, and a cell's own number means the end.
+#![tactic(auto)]
+
+pub mod arena;
+mod cells;
+pub mod fault;
+mod pool;
+mod room;
+pub mod store;
+
+/// The number of a cell, counted from 0.
+#[derive(Clone, Copy, Debug, PartialEq, Eq)]
+pub struct Slot(pub u32);
+
+/// What a cell says: its kind, two words, the slot of its annotations, and a hash of all of these.
+#[derive(Clone, Copy, Debug, PartialEq, Eq)]
+pub struct CellBody {
+    pub kind: u8,
+    pub a: u64,
+    pub b: u64,
+    pub anns: Option<Slot>,
+    pub hash: u64,
+}

@@ -1,0 +1,251 @@
+//! The slots that are taken, and a list of those that were given back.
+ghost use Rattle.std.specs.Prelude.{◌≡◌, ◌+◌, ◌-◌, ◌<◌, ◌≤◌, ◌^◌, ◌∷◌, [], Option, Some, None, Ok, Err, MatchOption, MatchResult, IfSome, IfOk, IfErr, OnOk, OnErr, OnSome, IfNone, get_or, length, slice_set, min};
+ghost use Rattle.rx_arena.specs.Held.{IsHeld};
+ghost use Rattle.rx_arena.specs.Node.{lone, with_chain, with_gray, with_mark, with_roots};
+ghost use Rattle.rx_arena.specs.Put.{put, filled, altered};
+ghost use Rattle.rx_arena.specs.Links.{Listed, Listed-prop, links};
+ghost use Rattle.rx_arena.specs.Pool.{spare_of};
+
+use crate::CellBody;
+use crate::fault::ArenaFault;
+use crate::store::Store;
+use std::alloc::Global;
+use std::marker::Model;
+
+/// How many slots a block has.
+const BLOCK: u32 = 1024;
+
+/// The slots that are taken. A slot that is given back is the next to be taken.
+#[derive(Drop)]
+pub(crate) struct Pool {
+    store: Store,
+    free: Option<u32>,
+    fresh: u32,
+    taken: u32,
+    room: u32,
+    cap: u32,
+    ghost listed: { Listed (links (λ n. n.free) store) free } by { Listed-prop (links (λ n. n.free) store) free },
+}
+
+impl Model for Pool {
+    ghost use Rattle.rx_arena.specs.Pool.{PoolState, IsPool, cells_of};
+
+    ghost Value = { PoolState };
+
+    ghost view = { λ p. record { cells = cells_of p.store p.listed.0 p.fresh; free = p.listed.0; fresh = p.fresh; room = p.room; cap = p.cap } };
+
+    ghost invariant = { λ p. IsPool p.store p.listed.0 p.fresh p.taken p.room p.cap };
+}
+
+/// Makes the node at a slot a new one.
+fn renew(store: &mut Store, slot: u32, body: CellBody)
+    requires { IsHeld store.old slot }
+    ensures { store.new ≡ slice_set store.old slot (Some (lone body)) }
+{
+    store.set_body(slot, body);
+    store.set_roots(slot, 0);
+    store.set_marked(slot, false);
+    store.set_chain(slot, None);
+    store.set_gray(slot, None);
+    store.set_free(slot, None);
+}
+
+impl Pool {
+    pub(crate) fn new(alloc: Global, cap: u32) -> Pool
+        requires { cap ≤ 2 ^ 30 }
+        ensures { result ≡ record { cells = []; free = []; fresh = 0; room = 0; cap = cap } }
+    {
+        Pool {
+            store: Store::new(alloc),
+            free: None,
+            fresh: 0,
+            taken: 0,
+            room: 0,
+            cap,
+        }
+    }
+
+    pub(crate) fn taken(&self) -> u32
+        ensures value { result ≡ filled self.now.cells }
+        ensures fits { result ≤ self.now.cap }
+    {
+        self.taken
+    }
+
+    pub(crate) fn spare(&self) -> u32
+        ensures value { result ≡ spare_of self.now }
+        ensures fits { result + filled self.now.cells ≤ self.now.cap }
+    {
+        self.cap.min(self.room) - self.taken
+    }
+
+    /// Takes the slot that was given back last.
+    fn reuse(&mut self, body: CellBody) -> Option<u32>
+        ensures listed { MatchOption result (self.old.free ≡ []) (λ s. self.old.free ≡ s ∷ self.new.free) }
+        ensures was_free { IfSome result (λ s. get_or self.old.cells s None ≡ None) }
+        ensures below { IfSome result (λ s. s < self.old.cap) }
+        ensures some { IfSome result (λ s. self.new ≡ record self.old { cells = put self.old.cells s (Some (lone body)); free = self.new.free }) }
+        ensures none { IfNone result (self.new ≡ self.old) }
+        ensures fits { spare_of self.new + filled self.new.cells ≤ self.new.cap }
+    {
+        match self.free {
+            Some(slot) => {
+                self.free = self.store.free(slot);
+                renew(&mut self.store, slot, body);
+                self.taken += 1;
+                Some(slot)
+            }
+            None => None,
+        }
+    }
+
+    /// Takes a slot that was never taken.
+    fn extend(&mut self, body: CellBody) -> u32
+        requires { (self.old.fresh < self.old.room) × (self.old.fresh < self.old.cap) }
+        ensures slot { result ≡ self.old.fresh }
+        ensures was_free { get_or self.old.cells result None ≡ None }
+        ensures after { self.new ≡ record self.old { cells = put self.old.cells result (Some (lone body)); fresh = self.old.fresh + 1 } }
+        ensures fits { spare_of self.new + filled self.new.cells ≤ self.new.cap }
+    {
+        let slot = self.fresh;
+        self.store.fill(slot, body);
+        self.fresh += 1;
+        self.taken += 1;
+        slot
+    }
+
+    /// Adds a block of slots.
+    fn grow(&mut self) -> Result<(), ArenaFault>
+        requires { self.old.room < self.old.cap }
+        ensures ok { OnOk result (self.new ≡ record self.old { room = self.old.room + 1024 }) }
+        ensures err { OnErr result (self.new ≡ self.old) }
+        ensures fault { IfErr result (λ e. e ≡ ArenaFault.Memory) }
+    {
+        match self.store.grow() {
+            Ok(()) => {
+                self.room += BLOCK;
+                Ok(())
+            }
+            Err(_) => Err(ArenaFault::Memory),
+        }
+    }
+
+    /// Gives a slot back.
+    pub(crate) fn give_back(&mut self, slot: u32)
+        requires { IsHeld self.old.cells slot }
+        ensures after { self.new ≡ record self.old { cells = put self.old.cells slot None; free = slot ∷ self.old.free } }
+        ensures spare { spare_of self.new ≡ spare_of self.old + 1 }
+    {
+        self.store.set_free(slot, self.free);
+        self.free = Some(slot);
+        self.taken -= 1;
+    }
+
+    pub(crate) fn body(&self, slot: u32) -> CellBody
+        requires { IsHeld self.now.cells slot }
+        ensures { IfSome (get_or self.now.cells slot None) (λ n. result ≡ n.body) }
+    {
+        self.store.body(slot)
+    }
+
+    pub(crate) fn roots(&self, slot: u32) -> u16
+        requires { IsHeld self.now.cells slot }
+        ensures { IfSome (get_or self.now.cells slot None) (λ n. result ≡ n.roots) }
+    {
+        self.store.roots(slot)
+    }
+
+    pub(crate) fn marked(&self, slot: u32) -> bool
+        requires { IsHeld self.now.cells slot }
+        ensures { IfSome (get_or self.now.cells slot None) (λ n. result ≡ n.marked) }
+    {
+        self.store.marked(slot)
+    }
+
+    pub(crate) fn chain(&self, slot: u32) -> Option<u32>
+        requires { IsHeld self.now.cells slot × IfSome (get_or self.now.cells slot None) (λ n. IfSome n.chain (IsHeld self.now.cells)) }
+        ensures { IfSome (get_or self.now.cells slot None) (λ n. result ≡ n.chain) }
+    {
+        self.store.chain(slot)
+    }
+
+    pub(crate) fn gray(&self, slot: u32) -> Option<u32>
+        requires { IsHeld self.now.cells slot × IfSome (get_or self.now.cells slot None) (λ n. IfSome n.gray (IsHeld self.now.cells)) }
+        ensures { IfSome (get_or self.now.cells slot None) (λ n. result ≡ n.gray) }
+    {
+        self.store.gray(slot)
+    }
+
+    pub(crate) fn set_roots(&mut self, slot: u32, count: u16)
+        requires { IsHeld self.old.cells slot }
+        ensures { self.new ≡ record self.old { cells = altered slot (with_roots count) self.old.cells } }
+    {
+        self.store.set_roots(slot, count)
+    }
+
+    pub(crate) fn set_marked(&mut self, slot: u32, marked: bool)
+        requires { IsHeld self.old.cells slot }
+        ensures { self.new ≡ record self.old { cells = altered slot (with_mark marked) self.old.cells } }
+    {
+        self.store.set_marked(slot, marked)
+    }
+
+    pub(crate) fn set_chain(&mut self, slot: u32, next: Option<u32>)
+        requires held { IsHeld self.old.cells slot × IfSome next (IsHeld self.old.cells) }
+        requires apart { IfSome next (λ t. ¬ (t ≡ slot)) }
+        ensures { self.new ≡ record self.old { cells = altered slot (with_chain next) self.old.cells } }
+    {
+        self.store.set_chain(slot, next)
+    }
+
+    pub(crate) fn set_gray(&mut self, slot: u32, next: Option<u32>)
+        requires held { IsHeld self.old.cells slot × IfSome next (IsHeld self.old.cells) }
+        requires apart { IfSome next (λ t. ¬ (t ≡ slot)) }
+        ensures { self.new ≡ record self.old { cells = altered slot (with_gray next) self.old.cells } }
+    {
+        self.store.set_gray(slot, next)
+    }
+
+    /// Takes a slot, one that was given back where there is one.
+    pub(crate) fn take(&mut self, body: CellBody) -> Result<u32, ArenaFault>
+        ensures free { IfOk result (λ s. get_or self.old.cells s None ≡ None) }
+        ensures below { IfOk result (λ s. s < self.old.cap) }
+        ensures cells { IfOk result (λ s. self.new.cells ≡ put self.old.cells s (Some (lone body))) }
+        ensures cap { self.new.cap ≡ self.old.cap }
+        ensures spare { spare_of self.old ≤ spare_of self.new + 1 }
+        ensures fits { spare_of self.new + filled self.new.cells ≤ self.new.cap }
+        ensures err { OnErr result (self.new ≡ self.old) }
+        ensures none_spare { OnErr result (spare_of self.old ≡ 0) }
+        ensures full { result ≡ Err ArenaFault.Full → filled self.old.cells ≡ self.old.cap }
+        ensures memory { result ≡ Err ArenaFault.Memory → filled self.old.cells < self.old.cap }
+    {
+        if let Some(slot) = self.reuse(body) {
+            return Ok(slot);
+        }
+        if self.fresh == self.cap {
+            return Err(ArenaFault::Full);
+        }
+        if self.fresh == self.room {
+            self.grow()?;
+        }
+        Ok(self.extend(body))
+    }
+
+    /// Adds blocks until `count` slots can be taken.
+    pub(crate) fn reserve(&mut self, count: u32) -> Result<(), ArenaFault>
+        ensures same { self.new ≡ record self.old { room = self.new.room } }
+        ensures grown { self.old.room ≤ self.new.room }
+        ensures fits { spare_of self.new + filled self.new.cells ≤ self.new.cap }
+        ensures ok { OnOk result (count ≤ spare_of self.new) }
+        ensures full { result ≡ Err ArenaFault.Full → self.old.cap < filled self.old.cells + count }
+        ensures memory { result ≡ Err ArenaFault.Memory → filled self.old.cells + count ≤ self.old.cap }
+    {
+        if count > self.cap - self.taken {
+            return Err(ArenaFault::Full);
+        }
+        while self.spare() < count {
+            self.grow()?;
+        }
+        Ok(())
+    }
+}

@@ -1,0 +1,254 @@
+//! The blocks, and the cells in them by their slots' numbers.
+ghost use Rattle.std.specs.Prelude.{◌≡◌, ◌≢◌, ℕ, ◌*◌, ◌<◌, ◌^◌, List, [], ◌++◌, length, replicate, slice_set};
+ghost use Rattle.std.specs.Prelude.{Option, Some, None, IfSome, OnOk, OnErr};
+ghost use Rattle.rx_arena.specs.Node.{Node, node_at, lone, changed};
+ghost use Rattle.rx_arena.specs.Node.{with_body, with_roots, with_mark, with_chain, with_gray, with_free};
+ghost use Rattle.rx_arena.specs.Held.{IsHeld};
+ghost use Rattle.rx_arena.specs.Ownership as spec;
+ghost use Rattle.rx_arena.specs.Blocks.{bases};
+
+use crate::CellBody;
+use crate::cells::{Base, Cells, Place, Target};
+use crate::room::{BLOCK, Lease, allocate};
+use std::alloc::{AllocError, Global};
+use std::marker::Model;
+
+/// A block: where it begins, and the right to give it back.
+pub struct Block {
+    pub(crate) base: Base,
+    pub(crate) lease: Lease<Global>,
+}
+
+/// All blocks, seen as one list: what each slot holds, if anything lies there.
+pub struct Store {
+    alloc: Global,
+    blocks: Vec<Block>,
+    cells: Cells,
+}
+
+impl Model for Store {
+    ghost use Rattle.std.specs.Prelude.{List, Option};
+    ghost use Rattle.rx_arena.specs.Node.{Node};
+    ghost use Rattle.rx_arena.specs.Blocks.{Agree};
+
+    ghost Value = { List (Option Node) };
+
+    ghost view = { λ s. s.cells.slots };
+
+    ghost invariant = { λ s. Agree s.alloc s.blocks.items s.cells };
+}
+
+/// Where the slot lies: a look-up of its block, with no search.
+fn place(blocks: &[Block], slot: u32) -> Place
+    requires { slot < 1024 * length blocks.now }
+    ensures { (result.slot ≡ slot) × (result.at ≡ spec.place (bases blocks.now) slot) }
+{
+    let index = slot as usize;
+    Place {
+        slot,
+        at: blocks[index / BLOCK].base.cell(index % BLOCK),
+    }
+}
+
+/// What a link of `slot` becomes.
+fn target(blocks: &[Block], slot: u32, next: Option<u32>) -> Target
+    requires slot { slot < 1024 * length blocks.now }
+    requires next { IfSome next (λ t. t < 1024 * length blocks.now) }
+    ensures { (result.slot ≡ next) × (result.to ≡ spec.link (bases blocks.now) slot next) }
+{
+    let led_to = match next {
+        Some(t) => t,
+        None => slot,
+    };
+    Target {
+        slot: next,
+        to: place(blocks, led_to).at,
+    }
+}
+
+/// The slot that a link of `slot` is to, by the number found behind the link.
+fn other(slot: u32, found: u32) -> Option<u32>
+    ensures end { found ≡ slot → result ≡ None }
+    ensures on { found ≢ slot → result ≡ Some found }
+{
+    if found == slot { None } else { Some(found) }
+}
+
+impl Store {
+    /// A store of no cells.
+    pub fn new(alloc: Global) -> Store
+        ensures { result ≡ [] }
+    {
+        Store {
+            alloc,
+            blocks: Vec::new(alloc),
+            cells: Cells::new(),
+        }
+    }
+
+    /// How many blocks there are, each of 1,024 slots.
+    pub fn blocks(&self) -> usize
+        ensures { length self.now ≡ 1024 * result }
+    {
+        self.blocks.len()
+    }
+
+    /// How many slots there are.
+    pub fn len(&self) -> usize
+        requires { length self.now < 2 ^ 64 }
+        ensures { result ≡ length self.now }
+    {
+        self.blocks() * BLOCK
+    }
+
+    /// Adds a block of slots in which nothing lies.
+    pub fn grow(&mut self) -> Result<(), AllocError>
+        ensures ok { OnOk result (self.new ≡ self.old ++ replicate 1024 None) }
+        ensures err { OnErr result (self.new ≡ self.old) }
+    {
+        self.blocks.reserve(1)?;
+        match allocate(&self.alloc) {
+            Some((room, lease)) => {
+                let base = self.cells.add(room);
+                self.blocks.push_reserved(Block { base, lease });
+                Ok(())
+            }
+            None => Err(AllocError),
+        }
+    }
+
+    /// Puts a node with this body, in no list, where nothing lies.
+    pub fn fill(&mut self, slot: u32, body: CellBody)
+        requires { (slot < length self.old) × (node_at self.old slot ≡ None) }
+        ensures { self.new ≡ slice_set self.old slot (Some (lone body)) }
+    {
+        let at = place(&self.blocks, slot);
+        self.cells.fill(at, body)
+    }
+
+    /// The body.
+    pub fn body(&self, slot: u32) -> CellBody
+        requires { IsHeld self.now slot }
+        ensures { IfSome (node_at self.now slot) (λ n. result ≡ n.body) }
+    {
+        self.cells.get(place(&self.blocks, slot)).body()
+    }
+
+    /// Replaces the body.
+    pub fn set_body(&mut self, slot: u32, body: CellBody)
+        requires { IsHeld self.old slot }
+        ensures { self.new ≡ changed slot (with_body body) self.old }
+    {
+        let at = place(&self.blocks, slot);
+        self.cells.set_body(at, body)
+    }
+
+    /// The root count.
+    pub fn roots(&self, slot: u32) -> u16
+        requires { IsHeld self.now slot }
+        ensures { IfSome (node_at self.now slot) (λ n. result ≡ n.roots) }
+    {
+        self.cells.get(place(&self.blocks, slot)).roots
+    }
+
+    /// Replaces the root count.
+    pub fn set_roots(&mut self, slot: u32, count: u16)
+        requires { IsHeld self.old slot }
+        ensures { self.new ≡ changed slot (with_roots count) self.old }
+    {
+        let at = place(&self.blocks, slot);
+        self.cells.set_roots(at, count)
+    }
+
+    /// Whether the cell is marked.
+    pub fn marked(&self, slot: u32) -> bool
+        requires { IsHeld self.now slot }
+        ensures { IfSome (node_at self.now slot) (λ n. result ≡ n.marked) }
+    {
+        self.cells.get(place(&self.blocks, slot)).marked
+    }
+
+    /// Sets or clears the mark.
+    pub fn set_marked(&mut self, slot: u32, marked: bool)
+        requires { IsHeld self.old slot }
+        ensures { self.new ≡ changed slot (with_mark marked) self.old }
+    {
+        let at = place(&self.blocks, slot);
+        self.cells.set_marked(at, marked)
+    }
+
+    /// The next slot of the chain.
+    pub fn chain(&self, slot: u32) -> Option<u32>
+        requires { IsHeld self.now slot
+            × IfSome (node_at self.now slot) (λ n. IfSome n.chain (IsHeld self.now)) }
+        ensures { IfSome (node_at self.now slot) (λ n. result ≡ n.chain) }
+    {
+        other(slot, self.cells.chain_of(place(&self.blocks, slot)))
+    }
+
+    /// Links the slot to the next one of the chain.
+    pub fn set_chain(&mut self, slot: u32, next: Option<u32>)
+        requires held { IsHeld self.old slot × IfSome next (λ t. t < length self.old) }
+        requires apart { IfSome next (λ t. ¬ (t ≡ slot)) }
+        ensures { self.new ≡ changed slot (with_chain next) self.old }
+    {
+        let at = place(&self.blocks, slot);
+        let target = target(&self.blocks, slot, next);
+        self.cells.set_chain(at, target)
+    }
+
+    /// The next slot of the gray list.
+    pub fn gray(&self, slot: u32) -> Option<u32>
+        requires { IsHeld self.now slot
+            × IfSome (node_at self.now slot) (λ n. IfSome n.gray (IsHeld self.now)) }
+        ensures { IfSome (node_at self.now slot) (λ n. result ≡ n.gray) }
+    {
+        other(slot, self.cells.gray_of(place(&self.blocks, slot)))
+    }
+
+    /// Links the slot to the next one of the gray list.
+    pub fn set_gray(&mut self, slot: u32, next: Option<u32>)
+        requires held { IsHeld self.old slot × IfSome next (λ t. t < length self.old) }
+        requires apart { IfSome next (λ t. ¬ (t ≡ slot)) }
+        ensures { self.new ≡ changed slot (with_gray next) self.old }
+    {
+        let at = place(&self.blocks, slot);
+        let target = target(&self.blocks, slot, next);
+        self.cells.set_gray(at, target)
+    }
+
+    /// The next slot of the free list.
+    pub fn free(&self, slot: u32) -> Option<u32>
+        requires { IsHeld self.now slot
+            × IfSome (node_at self.now slot) (λ n. IfSome n.free (IsHeld self.now)) }
+        ensures { IfSome (node_at self.now slot) (λ n. result ≡ n.free) }
+    {
+        other(slot, self.cells.free_of(place(&self.blocks, slot)))
+    }
+
+    /// Links the slot to the next one of the free list.
+    pub fn set_free(&mut self, slot: u32, next: Option<u32>)
+        requires held { IsHeld self.old slot × IfSome next (λ t. t < length self.old) }
+        requires apart { IfSome next (λ t. ¬ (t ≡ slot)) }
+        ensures { self.new ≡ changed slot (with_free next) self.old }
+    {
+        let at = place(&self.blocks, slot);
+        let target = target(&self.blocks, slot, next);
+        self.cells.set_free(at, target)
+    }
+}
+
+impl Drop for Store {
+    fn drop(self) {
+        let Store {
+            alloc,
+            mut blocks,
+            mut cells,
+        } = self;
+        while let Some(Block { base, lease }) = blocks.pop() {
+            cells.remove(base).free(lease, &alloc);
+        }
+        cells.end();
+        blocks.destroy_empty();
+    }
+}
