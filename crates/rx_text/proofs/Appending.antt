@@ -1,5 +1,5 @@
 -- What writes one after another do to known bytes.
-use Rattle.std.proofs.Common.{IfErr, IsErrAnd, subst, refl, ◌≡◌, ℕ, ◌+◌, ◌-◌, ◌≤◌, List, [], ◌++◌, Option, Some, None, Result, Ok, Err, OnOk, OnErr, IfSome, length, take, drop, sym, ap, ◌∙◌, append_assoc, append-nil, take-add, take_all, take_at, take-append-drop}
+use Rattle.std.proofs.Common.{◌≡◌, ℕ, ◌+◌, ◌-◌, List, [], ◌++◌, Option, Some, None, Result, Ok, Err, OnErr, length, take, drop, sym, ap, ◌∙◌, append_assoc, append-nil, take-add, take-append-drop}
 use Rattle.std.proofs.lemmas.List.{take_rest}
 use Rattle.std.specs.Io.KnownBytes.{Appends, Keeps}
 use Rattle.rx_text.specs.Written.{AppendsFront}
@@ -44,27 +44,6 @@ front_after old between new xs ys h (front, k, (rest, e)) =
 pub front_before : (old new : Option (List ℕ)) (xs ys : List ℕ) → AppendsFront xs old new → AppendsFront (xs ++ ys) old new
 front_before old new xs ys (front, k, (rest, e)) =
     (front, k, (rest ++ ys, ap (λ z. z ++ ys) e ∙ append_assoc front rest ys))
-
--- nothing was written
-pub nothing_written : (old : Option (List ℕ)) (text : List ℕ) → AppendsFront text old old
-nothing_written old text = ([], appends_none old old (kept old), (text, refl))
-  where
-    kept : (o : Option (List ℕ)) → Keeps o o
-    kept None = tt
-    kept (Some a) = refl
-
-pub nothing_written_2 : (old new : Option (List ℕ)) (text : List ℕ) → Keeps old new → AppendsFront text old new
-nothing_written_2 old new text h = ([], appends_none old new h, (text, refl))
-
--- what holds of any error holds of this one
-pub if_err_any : {X E : Type 0} (r : Result X E) (P : E → Type 0) → ((e : E) → P e) → IfErr r P
-if_err_any (Ok x) P h = tt
-if_err_any (Err e) P h = h e
-
--- what holds of an error, where it is this one
-pub if_err_at : {X E : Type 0} (r : Result X E) (P : E → Type 0) (x : E) → IsErrAnd r (λ e. e ≡ x) → P x → IfErr r P
-if_err_at (Ok y) P x h p = tt
-if_err_at (Err e) P x h p = subst P (sym h) p
 
 -- what holds anyway holds at an error
 pub on_err : {X E : Type 0} {P : Type 0} (r : Result X E) → P → OnErr r P

@@ -1,6 +1,5 @@
 -- A turn of the reader's loop, and its end.
-use Rattle.std.proofs.Common.{◌≡◌, ℕ, ◌+◌, ◌≤◌, ◌<◌, List, [], ◌∷◌, length, map, reverse, Option, Some, None, refl, sym, ap, ◌∙◌, arith}
-use Rattle.std.proofs.lemmas.List.{length-reverse}
+use Rattle.std.proofs.Common.{◌≡◌, ℕ, ◌+◌, ◌<◌, List, [], ◌∷◌, length, map, reverse, Option, Some, None, refl, sym, ap, ◌∙◌, arith}
 use Rattle.rx_term.specs.Tree.{Tree, none, Appl, annotated}
 use Rattle.rx_text.specs.Token as token
 use Rattle.rx_text.specs.Token.{Token, tokens, kinds}
@@ -24,12 +23,6 @@ use Rattle.rx_text.proofs.FaultLemmas.{is_place}
 pub record Decides (bytes : List ℕ) (s : State) (ps : List (ℕ × Token)) : Type 0 where
   pub fault : fault_at ps s.0 s.1 ≡ fault_at (tokens bytes) machine.Due []
   pub tree : tree_of (run (map (λ t. t.1) ps) s.0 s.1) ≡ read (kinds bytes)
-
-abbrev pub start : State
-start = (machine.Due, [])
-
-pub starts : (bytes : List ℕ) → Decides bytes start (tokens bytes)
-starts bytes = record { fault = refl; tree = refl }
 
 pub goes_on : (bytes : List ℕ) (s r : State) (ps rest : List (ℕ × Token)) (t : Token) (at : ℕ) → Decides bytes s ps → ps ≡ (at, t) ∷ rest → step s.0 s.1 t ≡ Some r → Decides bytes r rest
 goes_on bytes s r ps rest t at d cut e =

@@ -7,14 +7,14 @@ use Rattle.rx_text.specs.Written.{AppendsFront}
 use Rattle.rx_text.specs.declared.faults.WriteFault.{WriteFault}
 use Rattle.rx_text.proofs.Appending.{appends_both, appends_same, front_within}
 use Rattle.rx_term.specs.Tree.{Tree, Trees, none, more, Int, Appl, Items, Hole, annotations, list_of}
-use Rattle.rx_term.specs.Store.{Store, tree_at, part_at, head_of, tail_of, args_of, inner_of, anns_of, name_at, quoted_at, list_unless_empty}
-use Rattle.rx_term.specs.Kinds.{HasKind, HasInt, HasNil, HasCons, HasAppl, HasHole, HasAnns}
+use Rattle.rx_term.specs.Store.{Store, tree_at, part_at, head_of, tail_of, args_of, anns_of, name_at, quoted_at, list_unless_empty}
+use Rattle.rx_term.specs.Kinds.{HasKind, HasCons, HasAppl, HasHole}
 use Rattle.rx_term.specs.declared.Term.{Term}
 use Rattle.rx_term.specs.declared.Symbol.{Symbol}
 use Rattle.rx_term.specs.declared.Kind.{Kind}
 use Rattle.rx_term.specs.declared.Kind.TheVariants as kind
-use Rattle.rx_text.specs.Canon.{canon, canon_all, canon_others, enclosed, name_text, no_arguments}
-use Rattle.rx_text.specs.Jobs.{seen, notes_text, items_of, body_text, body_size, size, sizes, job_text, job_size, IsList, IsJob, jobs_text, jobs_size, Adds, Leaves}
+use Rattle.rx_text.specs.Canon.{canon, canon_all, enclosed, name_text, no_arguments}
+use Rattle.rx_text.specs.Jobs.{seen, notes_text, body_text, body_size, size, sizes, job_text, job_size, IsList, IsJob, jobs_text, jobs_size, Adds, Leaves}
 use Rattle.rx_text.specs.declared.writer.Job.{Job}
 use Rattle.rx_text.specs.declared.writer.Job.TheVariants as job
 
@@ -28,12 +28,6 @@ leaves_none w whole room old new before h a = record { front = whole; added = []
 pub leaves_two : (w : Store) (whole front : List ℕ) (room : ℕ) (old new : Option (List ℕ)) (before after : List Job) (j k : Job) → after ≡ before ++ j ∷ k ∷ [] → IsJob w j → IsJob w k → whole ≡ front ++ (job_text w k ++ job_text w j) → job_size w j + job_size w k < room
     → Appends old new front → Leaves w whole room old new before after
 leaves_two w whole front room old new before after j k e p q text less a = record { front = front; added = j ∷ k ∷ []; grown = e; written = a; text = text; jobs = (p, (q, tt)); less = omega (arith, less) }
-
-pub adds_two : (w : Store) (whole : List ℕ) (room : ℕ) (before after : List Job) (j k : Job) → after ≡ before ++ j ∷ k ∷ [] → IsJob w j → IsJob w k → whole ≡ job_text w k ++ job_text w j → job_size w j + job_size w k < room → Adds w whole room before after
-adds_two w whole room before after j k e p q text less = record { added = j ∷ k ∷ []; grown = e; text = text; jobs = (p, (q, tt)); less = omega (arith, less) }
-
-pub adds_none : (w : Store) (room : ℕ) (before : List Job) → 0 < room → Adds w [] room before before
-adds_none w room before h = record { added = []; grown = sym (append-nil before); text = refl; jobs = tt; less = h }
 
 -- jobs that are added, with nothing written
 pub adds_leaves : (w : Store) (whole : List ℕ) (room : ℕ) (old new : Option (List ℕ)) (before after : List Job) → Adds w whole room before after → Appends old new [] → Leaves w whole room old new before after
@@ -67,9 +61,6 @@ leaves_after w whole inside room inner old new before between after j e p text l
 is_list : (w : Store) (t : Term) (xs anns : Trees) → tree_at w t ≡ Some (Items xs anns) → IsList (tree_at w t)
 is_list w t xs anns e = rw e tt
 
-held : (w : Store) (t : Term) (u : Tree) → tree_at w t ≡ Some u → IsSome (tree_at w t)
-held w t u e = rw e refl
-
 head_is : (w : Store) (t head : Term) (h : HasCons w t) → tree_at w head ≡ part_at head_of w t → tree_at w head ≡ Some h.first
 head_is w t head h e = let here = h.here in rw here at e
 
@@ -86,18 +77,6 @@ module _ (w : Store) (t head tail : Term) (h : HasCons w t) (at_head : tree_at w
   pub others_text : job_text w (job.Others t) ≡ (44 ∷ []) ++ (job_text w (job.Tree head) ++ job_text w (job.Others tail))
   others_text = let here = h.here in let f = first_is in let r = rest_is in rw (here, f, r) refl
 
-  pub items_text : job_text w (job.Items t) ≡ job_text w (job.Tree head) ++ job_text w (job.Others tail)
-  items_text = let here = h.here in let f = first_is in let r = rest_is in rw (here, f, r) refl
-
-  pub items_less : job_size w (job.Others tail) + job_size w (job.Tree head) < job_size w (job.Items t)
-  items_less = let here = h.here in let f = first_is in let r = rest_is in rw (here, f, r) (omega arith)
-
-  pub tail_job : IsJob w (job.Others tail)
-  tail_job = is_list w tail h.rest none rest_is
-
-  pub head_job : IsJob w (job.Tree head)
-  head_job = held w head h.first first_is
-
 -- a list with no first item
 no_items : (w : Store) (t : Term) (k : Kind) → HasKind w t k → IsList (tree_at w t) → (k ≡ kind.Cons → ⊥) → (anns : Trees) × (tree_at w t ≡ Some (Items none anns))
 no_items w t (kind.Int z) h l n = absurd (rw h.here at l)
@@ -106,14 +85,14 @@ no_items w t kind.Cons h l n = absurd (n refl)
 no_items w t (kind.Appl s) h l n = absurd (rw h.here at l)
 no_items w t kind.Hole h l n = absurd (rw h.here at l)
 
-pub no_items_text : (w : Store) (t : Term) (k : Kind) → HasKind w t k → IsList (tree_at w t) → (k ≡ kind.Cons → ⊥) → (job_text w (job.Items t) ≡ []) × (job_text w (job.Others t) ≡ []) × (job_size w (job.Items t) ≡ 1)
-no_items_text w t k h l n = let e = no_items w t k h l n in let here = e.1 in (rw here refl, rw here refl, rw here refl)
+no_items_text : (w : Store) (t : Term) (k : Kind) → HasKind w t k → IsList (tree_at w t) → (k ≡ kind.Cons → ⊥) → (job_text w (job.Others t) ≡ []) × (job_size w (job.Others t) ≡ 1)
+no_items_text w t k h l n = let e = no_items w t k h l n in let here = e.1 in (rw here refl, rw here refl)
 
 pub nothing_left : (w : Store) (t : Term) (k : Kind) (old : Option (List ℕ)) (before : List Job) → HasKind w t k → IsList (tree_at w t) → (k ≡ kind.Cons → ⊥) → Leaves w (job_text w (job.Others t)) (job_size w (job.Others t)) old old before before
 nothing_left w t k old before h l n =
     let e = no_items_text w t k h l n in
-    let room : 0 < job_size w (job.Others t) = rw (e.2) (omega arith) in
-    leaves_none w (job_text w (job.Others t)) (job_size w (job.Others t)) old old before room (rw (e.1) (appends_same old))
+    let room : 0 < job_size w (job.Others t) = rw (e.1) (omega arith) in
+    leaves_none w (job_text w (job.Others t)) (job_size w (job.Others t)) old old before room (rw (e.0) (appends_same old))
 
 -- ---- applications
 
@@ -239,18 +218,12 @@ pub record Writing (w : Store) (whole : List ℕ) (old now : Option (List ℕ)) 
   pub text : whole ≡ front ++ jobs_text w left
   pub jobs : AllByRecursion (IsJob w) left
 
-pub writing_begun : (w : Store) (t : Term) (old : Option (List ℕ)) (jobs : List Job) → jobs ≡ job.Tree t ∷ [] → IsSome (tree_at w t) → Writing w (seen [] canon (tree_at w t)) old old jobs
-writing_begun w t old jobs e h = rw e (record { front = []; written = appends_same old; text = refl; jobs = (h, tt) })
-
 module _ (w : Store) (whole : List ℕ) (old now : Option (List ℕ)) (jobs left : List Job) (j : Job) (u : Writing w whole old now jobs) (popped : jobs ≡ left ++ j ∷ []) where
   parts : whole ≡ u.front ++ (job_text w j ++ jobs_text w left)
   parts = u.text ∙ ap (λ xs. u.front ++ xs) (ap (jobs_text w) popped ∙ jobs_text-append w left (j ∷ []))
 
   jobs_are : AllByRecursion (IsJob w) left × IsJob w j
   jobs_are = let all = u.jobs in All-split (IsJob w) left j (rw popped at all)
-
-  pub job_ready : IsJob w j
-  job_ready = jobs_are.1
 
   pub writing_on : (new : Option (List ℕ)) (after : List Job) → Leaves w (job_text w j) (job_size w j) now new left after → Writing w whole old new after
   writing_on new after l =
@@ -272,17 +245,6 @@ module _ (w : Store) (whole : List ℕ) (old now : Option (List ℕ)) (jobs left
 
   pub writing_stopped : (new : Option (List ℕ)) → AppendsFront (job_text w j) now new → AppendsFront whole old new
   writing_stopped new h = front_within old now new whole u.front (job_text w j) (jobs_text w left) parts u.written h
-
-pub writing_ended : (w : Store) (whole : List ℕ) (old now : Option (List ℕ)) (jobs : List Job) → jobs ≡ [] → Writing w whole old now jobs → Appends old now whole
-writing_ended w whole old now jobs e u =
-    let written = u.written in
-    let text : whole ≡ u.front = u.text ∙ ap (λ js. u.front ++ jobs_text w js) e ∙ append-nil u.front in
-    rw text written
-
--- of the tree of a reference
-pub if_written : (o : Option Tree) (old new : Option (List ℕ)) → Appends old new (seen [] canon o) → IfSome o (λ u. Appends old new (canon u))
-if_written None old new h = tt
-if_written (Some u) old new h = h
 
 pub if_front : (o : Option Tree) (old new : Option (List ℕ)) → AppendsFront (seen [] canon o) old new → IfSome o (λ u. AppendsFront (canon u) old new)
 if_front None old new h = tt

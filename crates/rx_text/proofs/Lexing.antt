@@ -1,5 +1,5 @@
 -- The first token at an offset, and the tokens behind it.
-use Rattle.std.proofs.Common.{◌≡◌, ℕ, zero, suc, ◌+◌, ◌-◌, ◌≤◌, ◌<◌, ◌^◌, ◌*◌, true, false, Bool, cond, List, [], ◌∷◌, ◌++◌, length, drop, take, get_or, min, ℤ, pos, neg_ℤ, refl, sym, ap, ◌∙◌, inl, inr, arith, add-zero, add-one, one-add, length-drop}
+use Rattle.std.proofs.Common.{◌≡◌, ℕ, zero, suc, ◌+◌, ◌-◌, ◌≤◌, ◌<◌, ◌^◌, ◌*◌, true, false, Bool, cond, List, [], ◌∷◌, length, drop, take, get_or, min, ℤ, pos, neg_ℤ, refl, ap, ◌∙◌, inl, inr, arith, add-zero, add-one, one-add, length-drop}
 use Rattle.std.specs.Prelude.{nat_le, nat_lt, IsTrue}
 use Rattle.std.specs.List.{list_all, prefix_len}
 use Rattle.std.specs.Char.{digit_value}
@@ -11,7 +11,7 @@ use Rattle.std.proofs.lemmas.List.{drop-drop}
 use Rattle.std.proofs.Math.Seq.{drop-cons}
 use Rattle.rx_term.specs.Name.{is_digit, starts_name, continues_name, is_allowed}
 use Rattle.rx_term.specs.Tree.{is_i32}
-use Rattle.rx_text.specs.Token.{Token, Integer, Name, Bad, tokens_from, token_at, token_or_layout, is_layout, integer_token, starts_with_digit}
+use Rattle.rx_text.specs.Token.{Integer, Name, Bad, tokens_from, token_at, is_layout, integer_token, starts_with_digit}
 use Rattle.rx_text.specs.Lexemes.{token_of, tokens_after, behind, IsInner, IsToken, AreDigits}
 use Rattle.rx_text.specs.declared.lexer.Kind.{Kind}
 use Rattle.rx_text.specs.declared.lexer.Kind.TheVariants as kind
@@ -28,12 +28,6 @@ tokens_skip (suc skip) at [] h = absurd (omega arith)
 tokens_skip (suc skip) at (b ∷ bytes) h =
     let e : 1 + at + skip ≡ at + suc skip = omega arith in
     tokens_skip skip (1 + at) bytes (omega arith) ∙ ap (λ (n : ℕ). tokens_from 0 n (drop skip bytes)) e
-
--- layout is no token
-pub layout_first : (bytes : List ℕ) (at b : ℕ) → drop at bytes ≡ b ∷ drop (at + 1) bytes → is_layout b ≡ true → tokens_after bytes at ≡ tokens_after bytes (at + 1)
-layout_first bytes at b front blank =
-    let e : 1 + at ≡ at + 1 = omega arith in
-    rw (front, blank, e) refl
 
 behind_inner : (bytes : List ℕ) (k : Kind) (to : ℕ) → IsInner k → behind bytes k to ≡ tokens_after bytes to
 behind_inner bytes End to h = absurd h

@@ -1,8 +1,8 @@
 -- A turn of the loop that makes a tree from its nodes.
-use Rattle.std.proofs.Common.{◌≡◌, ℕ, zero, suc, ◌+◌, ◌-◌, ◌≤◌, ◌<◌, ◌==◌, Bool, true, List, [], ◌∷◌, ◌++◌, length, map, drop, reverse, get_or, Option, Some, ℤ, pos, w32, to_z, of_z, refl, sym, ap, ◌∙◌, arith, add-one, eq-eqb}
+use Rattle.std.proofs.Common.{◌≡◌, ℕ, zero, suc, ◌+◌, ◌≤◌, ◌<◌, ◌==◌, Bool, true, List, [], ◌∷◌, ◌++◌, length, map, drop, reverse, get_or, Option, Some, ℤ, pos, w32, to_z, of_z, refl, sym, ap, ◌∙◌, arith, add-one, eq-eqb}
 use Rattle.std.proofs.lemmas.List.{reverse-append, length-reverse}
 use Rattle.rx_term.specs.Name.{Signature}
-use Rattle.rx_term.specs.Tree.{Tree, Trees, none, more, Int, Appl, Items, Hole, annotated, count_of, list_of, is_i32}
+use Rattle.rx_term.specs.Tree.{Tree, Trees, none, more, Int, Appl, Hole, annotated, count_of, list_of, is_i32}
 use Rattle.rx_term.specs.Store.{Store, tree_at, signature_of, longer, applied, held_open, noted}
 use Rattle.rx_term.specs.Steps.{Grows, Makes}
 use Rattle.rx_term.proofs.StoreLemmas.{Grows-Makes}

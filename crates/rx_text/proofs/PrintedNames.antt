@@ -1,12 +1,12 @@
 -- Writing a name byte by byte.
-use Rattle.std.proofs.Common.{◌≡◌, ℕ, ◌+◌, ◌<◌, ◌≤◌, true, List, [], ◌∷◌, ◌++◌, Option, length, take, drop, get_or, refl, sym, ap, ◌∙◌, append_assoc, append-nil, take_all, take-append-drop}
+use Rattle.std.proofs.Common.{◌≡◌, ℕ, ◌+◌, ◌<◌, ◌≤◌, true, List, [], ◌∷◌, ◌++◌, Option, length, take, drop, get_or, sym, ap, ◌∙◌, append_assoc, append-nil, take_all, take-append-drop}
 use Rattle.std.specs.Prelude.{flat_map}
 use Rattle.std.proofs.lemmas.List.{take_more}
 use Rattle.std.proofs.lemmas.List.Concat.{flat_map-append}
 use Rattle.std.specs.Io.KnownBytes.{Appends}
 use Rattle.rx_text.specs.Canon.{quoted_byte, name_text}
 use Rattle.rx_text.specs.Written.{AppendsFront}
-use Rattle.rx_text.proofs.Appending.{appends_both, front_within, front_before}
+use Rattle.rx_text.proofs.Appending.{front_within, front_before}
 
 -- the opening quote, and so many bytes
 abbrev pub begun_name : List ℕ → ℕ → List ℕ
@@ -20,9 +20,6 @@ name-from name i =
     let split : flat_map quoted_byte name ≡ flat_map quoted_byte (take i name) ++ flat_map quoted_byte (drop i name) = ap (flat_map quoted_byte) (sym (take-append-drop i name)) ∙ flat_map-append quoted_byte (take i name) (drop i name) in
     ap (λ xs. 34 ∷ (xs ++ 34 ∷ [])) split ∙ ap (λ xs. 34 ∷ xs) (append_assoc (flat_map quoted_byte (take i name)) (flat_map quoted_byte (drop i name)) (34 ∷ []))
 
-pub byte_written : (old between new : Option (List ℕ)) (name : List ℕ) (i : ℕ) → i < length name → Appends old between (begun_name name i) → Appends between new (quoted_byte (get_or name i 0)) → Appends old new (begun_name name (i + 1))
-byte_written old between new name i h a b = rw (begun-more name i h) (appends_both old between new (begun_name name i) (quoted_byte (get_or name i 0)) a b)
-
 pub byte_front : (old between new : Option (List ℕ)) (name : List ℕ) (i : ℕ) → i < length name → Appends old between (begun_name name i) → AppendsFront (quoted_byte (get_or name i 0)) between new → AppendsFront (name_text name true) old new
 byte_front old between new name i h a b =
     let whole : name_text name true ≡ begun_name name i ++ (quoted_byte (get_or name i 0) ++ (flat_map quoted_byte (drop (i + 1) name) ++ 34 ∷ []))
@@ -35,9 +32,6 @@ quote_front old new name h = front_before old new (34 ∷ []) (flat_map quoted_b
 -- the closing quote
 name-ended : (name : List ℕ) (i : ℕ) → length name ≤ i → name_text name true ≡ begun_name name i ++ 34 ∷ []
 name-ended name i h = ap (λ xs. 34 ∷ (flat_map quoted_byte xs ++ 34 ∷ [])) (sym (take_all i name h))
-
-pub name_written : (old between new : Option (List ℕ)) (name : List ℕ) (i : ℕ) → length name ≤ i → Appends old between (begun_name name i) → Appends between new (34 ∷ []) → Appends old new (name_text name true)
-name_written old between new name i h a b = rw (name-ended name i h) (appends_both old between new (begun_name name i) (34 ∷ []) a b)
 
 pub name_ends : (name : List ℕ) (i : ℕ) → length name ≤ i → name_text name true ≡ begun_name name i ++ ((34 ∷ []) ++ [])
 name_ends name i h = name-ended name i h

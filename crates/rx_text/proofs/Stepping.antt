@@ -1,10 +1,10 @@
 -- Each step of the reader on its stack and nodes is a step of the machine.
-use Rattle.std.proofs.Common.{◌≡◌, ℕ, zero, suc, ◌+◌, ◌-◌, ◌≤◌, ◌<◌, List, [], ◌∷◌, ◌++◌, length, map, drop, reverse, Option, Some, None, Result, true, ℤ, pos, negsuc, w32, to_z, of_z, refl, sym, ap, ◌∙◌, arith, add-one, length-drop}
+use Rattle.std.proofs.Common.{◌≡◌, ℕ, suc, ◌+◌, ◌-◌, ◌≤◌, ◌<◌, List, [], ◌∷◌, ◌++◌, length, map, drop, reverse, Some, None, true, ℤ, pos, negsuc, w32, to_z, of_z, refl, sym, ap, ◌∙◌, arith, add-one, length-drop}
 use Rattle.std.proofs.lemmas.List.{reverse-append, length-reverse}
 use Rattle.std.specs.List.{AllByRecursion}
 use Rattle.std.proofs.lemmas.Int.{to_z-of_z}
 use Rattle.std.proofs.lemmas.Bool.Decides.{nat_tests}
-use Rattle.rx_term.specs.Tree.{Tree, Trees, none, more, Int, Appl, annotated, is_i32}
+use Rattle.rx_term.specs.Tree.{Tree, none, Int, Appl, annotated, is_i32}
 use Rattle.rx_text.specs.Nodes as nodes
 use Rattle.rx_text.specs.Nodes.{Number, Application, Listing, Holding, Annotating, taken, newest, top, rest, needed, joined, trees_of, Enough}
 use Rattle.rx_text.specs.Machine as machine
@@ -12,7 +12,7 @@ use Rattle.rx_text.specs.Machine.{State, onto}
 use Rattle.rx_text.specs.Token as token
 use Rattle.rx_text.specs.Token.{Token}
 use Rattle.rx_text.specs.Lexemes.{name_of, IsWord, token_of}
-use Rattle.rx_text.specs.Reader.{node_of, IsNode, made_of, frame_of, held, under, IsOpening, frames_of, mode_of, owned, loose, state_of, total, pending, IsStack, IsState, Moves}
+use Rattle.rx_text.specs.Reader.{node_of, IsNode, made_of, frame_of, held, under, IsOpening, frames_of, state_of, total, IsStack, IsState}
 use Rattle.rx_text.specs.declared.lexer.Kind.{Kind}
 use Rattle.rx_text.specs.declared.lexer.Kind.TheVariants as kind
 use Rattle.rx_text.specs.declared.nodes.Word.{Word}
@@ -21,9 +21,7 @@ use Rattle.rx_text.specs.declared.nodes.Node.TheVariants as node
 use Rattle.rx_text.specs.declared.reader.Opening.{Opening}
 use Rattle.rx_text.specs.declared.reader.Opening.TheVariants as opening
 use Rattle.rx_text.specs.declared.reader.Frame.{Frame}
-use Rattle.rx_text.specs.declared.reader.Due.{Due}
-use Rattle.rx_text.specs.declared.reader.Due.TheVariants.{Term, First, Named, Body, Whole, Done}
-use Rattle.rx_text.specs.declared.reader.Stop.{Stop}
+use Rattle.rx_text.specs.declared.reader.Due.TheVariants.{Term, Named, Body, Whole}
 
 -- ---- nodes
 
@@ -233,22 +231,6 @@ placeholder_moves bytes before frames f ns after e o g s =
     let b = body_made bytes frames after _ (rest (made_of bytes ns)) a.0 refl a.1 in
     (rw (e, frames-push, o) b.0, b.1)
 
-hole_core : (bytes : List ℕ) (o : Opening) (k : ℕ) (t : Tree) (made : List Tree) (fs : List machine.Frame) → (o ≡ opening.Placeholder → ⊥) → machine.end_hole t (frame_of bytes o k made ∷ fs) ≡ None
-hole_core bytes (opening.Arguments w) k t made fs h = refl
-hole_core bytes opening.List k t made fs h = refl
-hole_core bytes opening.Placeholder k t made fs h = absurd (h refl)
-hole_core bytes opening.Annotations k t made fs h = refl
-
--- what is open is no placeholder, or is one
-pub hole_refused : (bytes : List ℕ) (before frames : List Frame) (f : Frame) (t : Tree) (made : List Tree) → before ≡ frames ++ f ∷ [] → (f.opening ≡ opening.Placeholder → ⊥) → machine.end_hole t (frames_of bytes (reverse before) made) ≡ None
-hole_refused bytes before frames f t made e h = rw (e, frames-push) (hole_core bytes f.opening f.count t made (frames_of bytes (reverse frames) (under f.opening f.count made)) h)
-
-pub next_refused : (bytes : List ℕ) (before frames : List Frame) (f : Frame) (t : Tree) (made : List Tree) → before ≡ frames ++ f ∷ [] → f.opening ≡ opening.Placeholder → machine.next_item t (frames_of bytes (reverse before) made) ≡ None
-next_refused bytes before frames f t made e h = rw (e, frames-push, h) refl
-
-pub end_refused : (bytes : List ℕ) (before frames : List Frame) (f : Frame) (t : Tree) (made : List Tree) (tok : Token) → before ≡ frames ++ f ∷ [] → f.opening ≡ opening.Placeholder → machine.end_item t (frames_of bytes (reverse before) made) tok ≡ None
-end_refused bytes before frames f t made tok e h = rw (e, frames-push, h) refl
-
 text_core : (bytes : List ℕ) (fs : List Frame) (t : Tree) (made : List Tree) → 0 < length fs → machine.end_text t (frames_of bytes fs made) ≡ None
 text_core bytes [] t made h = absurd (omega arith)
 text_core bytes (f ∷ fs) t made h = refl
@@ -257,21 +239,10 @@ text_core bytes (f ∷ fs) t made h = refl
 pub text_refused : (bytes : List ℕ) (frames : List Frame) (t : Tree) (made : List Tree) → 0 < length frames → machine.end_text t (frames_of bytes (reverse frames) made) ≡ None
 text_refused bytes frames t made h = text_core bytes (reverse frames) t made (omega (arith, length-reverse frames))
 
--- behind a body that bears no annotations
-pub body_is_whole : (bytes : List ℕ) (t : Tree) (fs : List machine.Frame) (k : Kind) → (k ≡ kind.OpenBrace → ⊥) → annotated t none ≡ t → machine.body t fs (token_of bytes k) ≡ machine.whole t fs (token_of bytes k)
-body_is_whole bytes t fs kind.OpenBrace h bare = absurd (h refl)
-body_is_whole bytes t fs k h bare = ap (λ (u : Tree). machine.whole u fs (token_of bytes k)) bare
-
 -- a name that is not called is a body
 pub name_is_body : (bytes : List ℕ) (n : List ℕ) (q : _) (fs : List machine.Frame) (k : Kind) → (k ≡ kind.Open → ⊥) → machine.after_name n q fs (token_of bytes k) ≡ machine.body (Appl n q none none) fs (token_of bytes k)
 name_is_body bytes n q fs kind.Open h = absurd (h refl)
 name_is_body bytes n q fs k h = refl
-
-pub first_is_start : (bytes : List ℕ) (f : machine.Frame) (fs : List machine.Frame) (k : Kind) → (k ≡ kind.Close → ⊥) → (k ≡ kind.CloseBracket → ⊥) → (k ≡ kind.CloseBrace → ⊥) → machine.first f fs (token_of bytes k) ≡ machine.start (f ∷ fs) (token_of bytes k)
-first_is_start bytes f fs kind.Close h i j = absurd (h refl)
-first_is_start bytes f fs kind.CloseBracket h i j = absurd (i refl)
-first_is_start bytes f fs kind.CloseBrace h i j = absurd (j refl)
-first_is_start bytes f fs k h i j = refl
 
 pub leaf : (bytes : List ℕ) (w : Word) (frames : List Frame) (ns after : List Node) → after ≡ ns ++ node.Application w 0 ∷ [] → IsState bytes (Named w) frames ns → (made_of bytes after ≡ Appl (name_of bytes w) w.quoted none none ∷ made_of bytes ns) × IsState bytes Body frames after
 leaf bytes w frames ns after e s =

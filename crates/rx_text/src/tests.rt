@@ -1,4 +1,3 @@
-use crate::reader::read_nodes;
 use crate::{TextFault, WriteFault, read, write};
 use rx_plain::PlainBank;
 use rx_term::TermBank;
@@ -9,8 +8,9 @@ use std::process::Abort;
 use std::test::*;
 
 // The offset of the token at which the text leaves the grammar.
-fn place(alloc: Global, text: &[u8]) -> Option<u32> {
-    match read_nodes(alloc, text) {
+fn place(rt: &impl Abort, alloc: Global, text: &[u8]) -> Option<u32> {
+    let mut bank = PlainBank::new(alloc, 10).expect(rt, "a bank");
+    match read(alloc, text, &mut bank) {
         Err(TextFault::Grammar { at }) => Some(at),
         _ => None,
     }
@@ -29,20 +29,20 @@ fn prints(rt: &impl Abort, alloc: Global, text: &[u8], printed: &[u8]) -> bool {
 #[test]
 fn places(rt: HostRuntime) {
     let alloc = rt.alloc();
-    assert_eq!(rt; place(alloc, b""), Some(0));
-    assert_eq!(rt; place(alloc, b"2147483648"), Some(0));
-    assert_eq!(rt; place(alloc, b"-2147483649"), Some(0));
-    assert_eq!(rt; place(alloc, b"1.5"), Some(1));
-    assert_eq!(rt; place(alloc, b"\"\\8\""), Some(0));
-    assert_eq!(rt; place(alloc, b"f(a"), Some(3));
-    assert_eq!(rt; place(alloc, b"a{b}{c}"), Some(4));
-    assert_eq!(rt; place(alloc, b"[1,2147483648]"), Some(3));
-    assert_eq!(rt; place(alloc, b"f(a,)"), Some(4));
-    assert_eq!(rt; place(alloc, b"a b"), Some(2));
-    assert_eq!(rt; place(alloc, b"1a"), Some(1));
-    assert_eq!(rt; place(alloc, b"a'"), Some(1));
-    assert_eq!(rt; place(alloc, b"--1"), Some(0));
-    assert_eq!(rt; place(alloc, b"<a,b>"), Some(2));
+    assert_eq!(rt; place(&rt, alloc, b""), Some(0));
+    assert_eq!(rt; place(&rt, alloc, b"2147483648"), Some(0));
+    assert_eq!(rt; place(&rt, alloc, b"-2147483649"), Some(0));
+    assert_eq!(rt; place(&rt, alloc, b"1.5"), Some(1));
+    assert_eq!(rt; place(&rt, alloc, b"\"\\8\""), Some(0));
+    assert_eq!(rt; place(&rt, alloc, b"f(a"), Some(3));
+    assert_eq!(rt; place(&rt, alloc, b"a{b}{c}"), Some(4));
+    assert_eq!(rt; place(&rt, alloc, b"[1,2147483648]"), Some(3));
+    assert_eq!(rt; place(&rt, alloc, b"f(a,)"), Some(4));
+    assert_eq!(rt; place(&rt, alloc, b"a b"), Some(2));
+    assert_eq!(rt; place(&rt, alloc, b"1a"), Some(1));
+    assert_eq!(rt; place(&rt, alloc, b"a'"), Some(1));
+    assert_eq!(rt; place(&rt, alloc, b"--1"), Some(0));
+    assert_eq!(rt; place(&rt, alloc, b"<a,b>"), Some(2));
 }
 
 #[test]
@@ -79,13 +79,13 @@ fn nested(alloc: Global, depth: u32) -> Result<Vec<u8>, AllocError> {
     Ok(bytes)
 }
 
+// The brackets are read before a bank without room for their lists is asked.
 #[test]
 fn two_million_brackets(rt: HostRuntime) -> Result<(), Fail> {
-    let bytes = nested(rt.alloc(), 2_000_000).ok().ok_or("memory")?;
-    let nodes = read_nodes(rt.alloc(), &bytes)
-        .ok()
-        .ok_or("the bytes are a term")?;
-    assert_eq!(rt; nodes.len(), 2_000_000);
+    let alloc = rt.alloc();
+    let bytes = nested(alloc, 2_000_000).ok().ok_or("memory")?;
+    let mut bank = PlainBank::new(alloc, 2).ok().ok_or("a bank")?;
+    assert!(rt; read(alloc, &bytes, &mut bank) == Err(TextFault::Full));
     Ok(())
 }
 

@@ -1,4 +1,4 @@
-use Rattle.std.proofs.Common.{◌≡◌, ◌<◌, ◌∙◌, get_or, length, arith}
+use Rattle.std.proofs.Common.{◌<◌, ◌∙◌, get_or, length, arith}
 use Rattle.rx_text.proofs.Lexing.{next_byte, token_first}
 use Rattle.rx_text.proofs.lexer.next.Goals as goal
 

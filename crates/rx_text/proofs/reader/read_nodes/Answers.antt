@@ -1,4 +1,4 @@
-use Rattle.std.proofs.Common.{rules, ◌≡◌, ◌≤◌, ◌<◌, ◌+◌, ℕ, ◌∙◌, ap, List, ◌∷◌, length, arith}
+use Rattle.std.proofs.Common.{◌≡◌, ◌<◌, ℕ, ◌∙◌, ap, List, ◌∷◌, arith}
 use Rattle.rx_text.specs.Token.{Token}
 use Rattle.rx_text.specs.Lexemes.{tokens_after, token_of, behind}
 use Rattle.rx_text.specs.Reader.{state_of}
