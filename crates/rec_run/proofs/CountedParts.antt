@@ -1,21 +1,19 @@
 -- After all but one term was reclaimed, there are as many cells as the term has different parts.
-use Rattle.std.proofs.Common.{ℕ, ◌≡◌, ◌≢◌, ◌<◌, ◌↔◌, ◌⊎◌, Bool, true, false, ◌&&◌, cond, T, List, [], ◌∷◌, Option, Some, None, IsSome, IfSome, inl, inr, length, map, Contains, refl, sym, ap, subst, ◌∙◌, arith}
+use Rattle.std.proofs.Common.{ℕ, ◌≡◌, ◌<◌, ◌⊎◌, Bool, true, false, ◌&&◌, cond, T, List, [], ◌∷◌, Option, Some, IsSome, IfSome, inl, inr, map, Contains, refl, sym, ap, subst, ◌∙◌, arith}
 use Rattle.std.proofs.Common.{Ordering, Less, Equal, Greater}
 use Rattle.std.specs.Ordering.{is_lt, is_eq, nat_cmp, eq_by_cmp}
-
 use Rattle.std.specs.List.{AllByRecursion, IsDistinct}
-use Rattle.std.specs.Set.{distinct_count, is_member}
+use Rattle.std.specs.Set.{distinct_count}
 use Rattle.std.specs.Cmp.{IsEquivalence, decided, ranked, nat_cmp_is}
 use Rattle.std.specs.FinMap as map
 use Rattle.std.specs.FinMap.Entries.{find, is_sorted, below_all}
 use Rattle.std.proofs.lemmas.Bool.Decides.{same_from_decides}
 use Rattle.std.proofs.lemmas.List.{length-map}
-use Rattle.std.proofs.lemmas.Map.Keys.{IsDistinct-cons}
 use Rattle.std.proofs.lemmas.Map.Made.{length-from_keys, is_member-Decides}
 use Rattle.rx_term.specs.Tree.{Tree, tree_eq}
 use Rattle.rx_term.specs.Parts.{parts, part_count}
 use Rattle.rx_term.specs.Store.{Store, tree_at, cells}
-use Rattle.rx_term.specs.Steps.{Reclaims, IsReached, IsSound}
+use Rattle.rx_term.specs.Steps.{Reclaims, IsSound}
 use Rattle.rx_term.specs.declared.Term.{Term}
 use Rattle.rx_term.proofs.TreeLemmas.{tree_eq-Decides}
 use Rattle.rx_term.proofs.StoreLemmas.{some-value}
@@ -108,11 +106,11 @@ distinct [] s one = tt
 distinct (e ∷ es) s one =
     let below = (rising e es s).0 in
     let differs : (u : Tree) → Contains (trees es) u → tree_eq e.1 u ≡ false = λ u c. (
-        let r = found es (rising e es s).1 u c in
-        different e.1 u (λ q.
-          let same : e.0 ≡ r.0 = one e.0 r.0 u (first_found e es ∙ ap (λ v. let y : Option Tree = Some v in y) q) (later e es below r.0 u r.1) in
-          let less = above e.0 es below r.0 u r.1 in
-          omega (arith, same, less))) in
+    let r = found es (rising e es s).1 u c in
+    different e.1 u (λ q.
+    let same : e.0 ≡ r.0 = one e.0 r.0 u (first_found e es ∙ ap (λ v. let y : Option Tree = Some v in y) q) (later e es below r.0 u r.1) in
+    let less = above e.0 es below r.0 u r.1 in
+    omega (arith, same, less))) in
     (each (λ u. tree_eq e.1 u ≡ false) (trees es) differs, distinct es (rising e es s).1 (λ i j u p q. one i j u (later e es below i u p) (later e es below j u q)))
 
 tree_equivalence : IsEquivalence tree_eq
@@ -126,11 +124,11 @@ len-distinct m ts one within has =
     let s = map.entries_sorted m in
     let at : (i : ℕ) (u : Tree) → find nat_cmp i es ≡ Some u → map.get m i ≡ Some u = λ i u q. map.get-entries m i ∙ q in
     map.len-entries m ∙ sym (length-map es (λ e. e.1)) ∙ length-from_keys tree_equivalence (trees es) ts
-      (distinct es s (λ i j u p q. one i j u (at i u p) (at j u q)))
-      (λ u. same_from_decides _ _ (is_member-Decides tree_eq-Decides (trees es) u) (
-        (λ e. let r = has u ((is_member-Decides tree_eq-Decides ts u).0 e) in listed es r.0 u (sym (map.get-entries m r.0) ∙ r.1)),
-        (λ c. let r = found es s u c in (is_member-Decides tree_eq-Decides ts u).1 (within r.0 u (at r.0 u r.1))),
-      ))
+    (distinct es s (λ i j u p q. one i j u (at i u p) (at j u q)))
+    (λ u. same_from_decides _ _ (is_member-Decides tree_eq-Decides (trees es) u) (
+      (λ e. let r = has u ((is_member-Decides tree_eq-Decides ts u).0 e) in listed es r.0 u (sym (map.get-entries m r.0) ∙ r.1)),
+      (λ c. let r = found es s u c in (is_member-Decides tree_eq-Decides ts u).1 (within r.0 u (at r.0 u r.1))),
+    ))
 
 -- the parts of the one term that is kept
 module _ (old new : Store) (t : Term) (u : Tree) (here : tree_at old t ≡ Some u) (unrooted : (r : ℕ) → old.roots r ≡ 0) (sound : IsSound old) (sound_after : IsSound new) (reclaimed : Reclaims old new (t ∷ [])) where

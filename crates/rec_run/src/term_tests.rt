@@ -1,8 +1,9 @@
 //! Texts of one term, printed and counted.
 
 use crate::tests::{Blanks, bytewise, taking};
-use crate::{Finish, Named, Place, RunFault, Source};
-use crate::{run_aterm, run_aterm_at, run_share, run_share_at};
+use crate::{
+    Finish, Named, Place, RunFault, Source, run_aterm, run_aterm_at, run_share, run_share_at,
+};
 use std::alloc::Global;
 
 /// What a run came to.
@@ -123,7 +124,10 @@ fn proper_prefixes(rt: HostRuntime) {
         } = print(rt.alloc(), &text[..count]);
         if count == 1 || count == 11 {
             assert!(rt; result == Ok(Finish::Done), "{count}");
-            assert!(rt; written.len() > count && &written[..count] == &text[..count], "{count}");
+            assert!(rt;
+                written.len() > count && &written[..count] == &text[..count],
+                "{count}"
+            );
         } else {
             assert!(rt; result == Ok(Finish::Refused), "{count}");
             assert!(rt; written.as_slice() == b"!term A\n".as_slice(), "{count}");
@@ -148,7 +152,10 @@ fn streams_that_fail(rt: HostRuntime) {
         text.fails_at = k;
         let mut out = taking(rt.alloc());
         let result = run_share(rt.alloc(), &mut text, &mut out);
-        assert!(rt; result == Err(RunFault::Read) && out.held.is_empty(), "read {k}");
+        assert!(rt;
+            result == Err(RunFault::Read) && out.held.is_empty(),
+            "read {k}"
+        );
     }
     let lines = b"a{b}\ncells 4\n".as_slice();
     let mut k = 0u64;
