@@ -14,3 +14,4 @@ pub mod ArenaSteps
 pub mod ArenaReads
 pub mod Sorting
 pub mod Dealing
+pub mod ArenaCalls

@@ -8,3 +8,4 @@ pub mod Put
 pub mod Links
 pub mod Pool
 pub mod Arena
+pub mod Samples

@@ -387,3 +387,6 @@ impl Arena {
         Ok(())
     }
 }
+
+#[cfg(test)]
+mod tests;

@@ -1,5 +1,5 @@
 -- A table of names as a map of symbols.
-use Rattle.std.proofs.Common.{ℕ, zero, suc, ◌≡◌, ◌≢◌, ◌⊎◌, ◌<◌, ◌≤◌, Bool, true, false, ◌&&◌, List, [], ◌∷◌, ◌++◌, length, Option, Some, None, IsSome, is_some, IsTrue, refl, sym, ap, ◌∙◌, subst, inl, inr, arith, slice_get, nat_eq}
+use Rattle.std.proofs.Common.{ℕ, zero, suc, ◌≡◌, ◌≢◌, true, ◌&&◌, List, [], ◌∷◌, ◌++◌, length, Option, Some, None, IsSome, is_some, refl, sym, ap, ◌∙◌, subst, inl, inr, arith, slice_get, nat_eq}
 use Rattle.std.specs.Prelude.{Decides, MatchOption, Result, Ok, Err}
 use Rattle.std.specs.Ordering.{nat_cmp}
 use Rattle.rx_names.specs.declared.faults.NamesFault.{NamesFault}
@@ -10,19 +10,19 @@ use Rattle.std.specs.Cmp.{booleans_Decides}
 use Rattle.std.specs.Cmp.Derive.{both_true}
 use Rattle.std.proofs.lemmas.Bool.Decides.{eqb_tells, Decides-eqb}
 use Rattle.rx_term.proofs.TreeLemmas.{both_parts}
-use Rattle.std.proofs.lemmas.Option.{slice_get_past, slice_get_within}
-use Rattle.rx_term.specs.Name.{Signature, is_allowed, is_name}
+use Rattle.std.proofs.lemmas.Option.{slice_get_past}
+use Rattle.rx_term.specs.Name.{Signature, is_allowed}
 use Rattle.rx_term.specs.Heap.{IsTable, tabulate, put_some}
 use Rattle.rx_term.specs.declared.Symbol.{Symbol}
 use Rattle.rx_term.proofs.HeapLemmas.{lt_or_le, get-tabulate, past-tabulate}
 use Rattle.rx_term.proofs.StoreLemmas.{some-value}
-use Rattle.rx_names.specs.Places.{AreApart, AllBytes, KeepsPlaces}
+use Rattle.rx_names.specs.Places.{KeepsPlaces}
 use Rattle.rx_names.specs.Words.{words_of}
 use Rattle.rx_names.specs.Entries.{signature_in, signature_at, symbols_from, is_allowed_word, AllAllowed}
 use Rattle.rx_names.specs.Names.{symbols_of, Interns, InternsOrRefuses, FindsOrLacks}
 use Rattle.rx_names.specs.declared.names.Entry.{Entry}
 use Rattle.rx_names.specs.declared.names.Names.{Names}
-use Rattle.rx_names.proofs.PlaceLemmas.{Placed, push-kept, push-cases}
+use Rattle.rx_names.proofs.PlaceLemmas.{Placed, push-cases}
 
 pub symbols-at : (ws : List (List ℕ)) (es : List Entry) (i : ℕ) → map.get (symbols_from ws es) i ≡ signature_at ws es i
 symbols-at ws es i = elim (lt_or_le i (length es)) [

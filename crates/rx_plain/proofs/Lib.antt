@@ -1,2 +1,11 @@
+pub mod SlotLemmas
+pub mod SweepLemmas
 pub mod MarkLemmas
+pub mod Contents
+pub mod Reading
+pub mod Making
+pub mod Noting
+pub mod Counting
+pub mod Room
+pub mod Naming
 pub mod Reclaiming

@@ -1,16 +1,16 @@
 -- Marks: one more, those of several slots, and all that is linked.
-use Rattle.std.proofs.Common.{List, [], ◌∷◌, ◌++◌, length, get_or, map, take, ℕ, zero, suc, ◌≡◌, ◌⊎◌, ◌+◌, ◌≤◌, ◌<◌, Bool, true, false, Option, Some, None, IsSome, refl, sym, ap, ◌∙◌, subst, inl, inr, arith, slice_get, Contains, nat_lt, add-one, not}
+use Rattle.std.proofs.Common.{List, [], ◌∷◌, ◌++◌, length, get_or, map, take, ℕ, zero, suc, ◌≡◌, ◌+◌, ◌≤◌, ◌<◌, Bool, true, false, Option, Some, None, refl, sym, ap, ◌∙◌, subst, inl, inr, arith, slice_get, Contains, nat_lt, add-one, not}
 use Rattle.std.specs.Prelude.{slice_set, if◌then◌else◌}
 use Rattle.std.proofs.lemmas.Bool.{ltb-true, lt-ltb}
 use Rattle.std.proofs.lemmas.Bool.Decides.{eqb_tells}
 use Rattle.std.proofs.lemmas.List.{get_or_default}
 use Rattle.std.proofs.lemmas.List.Elements.{Contains-append_left, Contains-append_right, Contains-append_cases}
-use Rattle.rx_term.specs.Heap.{Cell, links, node_links, notes_links, IsLinked, start, along}
+use Rattle.rx_term.specs.Heap.{Cell, links, IsLinked, start, along}
 use Rattle.rx_term.proofs.PartsLemmas.{cons_head, cons_tail, cons_cases, no_element}
 use Rattle.rx_term.proofs.ReclaimLemmas.{IsLinked-trans}
 use Rattle.rx_term.proofs.HeapLemmas.{lt_or_le}
 use Rattle.rx_term.specs.declared.Term.{Term}
-use Rattle.rx_plain.specs.Slots.{heap_of, roots_of, marks_of, mark_in, cell_at, cell_in, count_in, cell_of}
+use Rattle.rx_plain.specs.Slots.{heap_of, roots_of, marks_of, mark_in, cell_at, cell_in, cell_of}
 use Rattle.rx_plain.specs.Marks.{unmarked, count_unless, Keeps, Marks, Fresh, cell_links, links_below, AreLinksWithin, IsClosedAt, IsClosed, OnlyLinked, Progress, Passes, Spreads, IsStart, Reaches, root_marked}
 use Rattle.rx_plain.specs.declared.slots.Slot.{Slot}
 use Rattle.rx_plain.specs.declared.slots.Body.{Body}

@@ -1,5 +1,5 @@
 -- What a bank keeps when the slots that are not marked are freed.
-use Rattle.std.proofs.Common.{List, [], ◌∷◌, length, map, take, get_or, ℕ, zero, suc, ◌≡◌, ◌⊎◌, ◌+◌, ◌≤◌, ◌<◌, Bool, true, false, Option, Some, None, IsSome, is_some, refl, sym, ap, ◌∙◌, subst, inl, inr, arith, Contains, vec_capacity, min, add-one}
+use Rattle.std.proofs.Common.{List, [], length, map, take, get_or, ℕ, zero, suc, ◌≡◌, ◌+◌, ◌≤◌, ◌<◌, Bool, true, false, Option, Some, None, IsSome, is_some, refl, sym, ap, ◌∙◌, subst, inl, inr, arith, Contains, vec_capacity, add-one}
 use Rattle.std.specs.Prelude.{if◌then◌else◌, count_by}
 use Rattle.std.specs.FinMap as fin
 use Rattle.std.specs.Ordering.{nat_cmp}
@@ -10,20 +10,22 @@ use Rattle.std.proofs.Common.{drop, ◌++◌}
 use Rattle.std.proofs.lemmas.List.Sums.{count_by_more_no, count_by_more_yes, count_by-le-length}
 use Rattle.rx_term.specs.Tree.{Tree}
 use Rattle.rx_term.specs.Parts.{parts}
-use Rattle.rx_term.specs.Store.{Store, tree_at, cells}
+use Rattle.rx_term.specs.Store.{tree_at}
 use Rattle.rx_term.specs.Steps.{Reclaims, IsReached, IsKeptRoot}
-use Rattle.rx_term.specs.Heap.{Cell, Heap, Table, links, tree_of, tabulate, put_some, kept_slots, IsLinked, Least, IsDistinct, is_whole, content_of, content_by}
+use Rattle.rx_term.specs.Heap.{Cell, Table, links, tree_of, tabulate, put_some, kept_slots, Least, IsDistinct, is_whole, content_of, content_by}
 use Rattle.rx_term.specs.declared.Term.{Term}
 use Rattle.rx_term.proofs.HeapLemmas.{least, whole-at, past-tabulate}
 use Rattle.rx_term.proofs.StoreLemmas.{some-value, len-insert-new}
 use Rattle.rx_term.proofs.ContentLemmas.{untaken, content-at, cell-of}
 use Rattle.rx_term.proofs.ReclaimLemmas.{kept-whole, kept-heap, kept-content, only-content, kept-part, linked-part, link-part}
 use Rattle.rx_names.specs.Names.{symbols_of}
-use Rattle.rx_plain.specs.Slots.{heap_of, roots_of, marks_of, is_taken, swept_of, cell_in, cell_at}
+use Rattle.rx_plain.specs.Slots.{heap_of, roots_of, marks_of, is_taken, swept_of, cell_at}
 use Rattle.rx_plain.specs.Marks.{Reaches, IsStart, AreLinksWithin}
 use Rattle.rx_plain.specs.State.{store_of, store_from}
-use Rattle.rx_plain.specs.SweepLemmas.{swept-heap, swept-roots, swept-length}
-use Rattle.rx_plain.specs.BankLemmas.{table, taken-le, held-cell, cell-within, bank-heap, sound, same_ref, cell-there, whole-along, content-unique}
+use Rattle.rx_plain.proofs.SweepLemmas.{swept-heap, swept-roots, swept-length}
+use Rattle.rx_plain.specs.Soundness.{table, taken-le, cell-within, bank-heap, sound, same_ref}
+use Rattle.rx_plain.proofs.Reading.{held-cell, cell-there}
+use Rattle.rx_plain.proofs.Contents.{whole-along, content-unique}
 use Rattle.rx_plain.specs.declared.slots.Slot.{Slot}
 use Rattle.rx_plain.specs.declared.bank.PlainBank.{PlainBank}
 
@@ -181,3 +183,11 @@ pub written-same : (n : ℕ) (xs items : List Slot) → n ≡ length items → l
 written-same n xs items p q =
     let gone : drop (length xs) items ≡ [] = ap (λ k. drop k items) q ∙ drop-length items in
     ap (λ k. take k (xs ++ drop (length xs) items)) (p ∙ sym q) ∙ ap (λ zs. take (length xs) (xs ++ zs)) gone ∙ ap (take (length xs)) (append-nil xs) ∙ take-length xs
+
+-- both writes back, of the marked slots and then of the swept ones, are whole
+pub swept-back : (n : ℕ) (xs marked read new : List Slot) → n ≡ length xs → length marked ≡ length xs → read ≡ written n marked xs → new ≡ map swept_of read → (written n new (written n marked xs) ≡ new) × (new ≡ map swept_of marked)
+swept-back n xs marked read new size len seen frees =
+    let back = written-same n marked xs size len in
+    let done : new ≡ map swept_of marked = frees ∙ ap (map swept_of) (seen ∙ back) in
+    let fits : length new ≡ length (written n marked xs) = ap length done ∙ swept-length marked ∙ sym (ap length back) in
+    (written-same n new (written n marked xs) (size ∙ sym len ∙ sym (ap length back)) fits, done)

@@ -1,4 +1,4 @@
-// The rows of every bank, and a tree that is deeper than any call stack.
+// The rows of every bank, and one reference for equal terms.
 use crate::PlainBank;
 use rx_term::walk::count_nodes;
 use rx_term::{Kind, TermBank, rows};

@@ -1,10 +1,9 @@
 -- The content of a heap: what a new cell adds to it.
-use Rattle.std.proofs.Common.{ℕ, suc, zero, ◌≡◌, ◌≢◌, ◌+◌, ◌≤◌, ◌<◌, true, Option, Some, None, IsSome, is_some, IsTrue, refl, sym, ap, ◌∙◌, subst, inl, inr, arith, Contains}
+use Rattle.std.proofs.Common.{ℕ, suc, zero, ◌≡◌, ◌≢◌, ◌≤◌, ◌<◌, true, Option, Some, None, IsSome, is_some, IsTrue, refl, sym, ap, ◌∙◌, subst, inl, inr, arith, Contains}
 use Rattle.std.specs.Ordering.{nat_cmp}
 use Rattle.std.specs.Cmp.{nat_cmp_total}
 use Rattle.std.specs.FinMap as map
-use Rattle.std.specs.FinMap.{gets}
-use Rattle.std.proofs.lemmas.Bool.Decides.{eqb_tells, nat_tests}
+use Rattle.std.proofs.lemmas.Bool.Decides.{eqb_tells}
 use Rattle.rx_term.specs.Tree.{Tree, is_tree}
 use Rattle.rx_term.specs.Parts.{parts}
 use Rattle.rx_term.specs.Name.{Signature}

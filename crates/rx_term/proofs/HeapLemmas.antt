@@ -1,5 +1,5 @@
 -- Cells that name one another: their trees are unique, differ where the cells do, and outlive the cells that they do not name.
-use Rattle.std.proofs.Common.{List, [], ◌∷◌, ◌++◌, ℕ, suc, zero, ◌≡◌, ◌≢◌, ◌⊎◌, ◌+◌, ◌≤◌, ◌<◌, Bool, true, false, Option, Some, None, IsSome, is_some, refl, sym, ap, ◌∙◌, subst, inl, inr, arith, Contains, eq-eqb}
+use Rattle.std.proofs.Common.{◌++◌, ℕ, suc, zero, ◌≡◌, ◌≢◌, ◌⊎◌, ◌+◌, ◌≤◌, ◌<◌, Bool, true, false, Option, Some, None, IsSome, is_some, refl, sym, ap, ◌∙◌, subst, inl, inr, arith, Contains, eq-eqb}
 use Rattle.std.proofs.lemmas.Bool.{eqb-true}
 use Rattle.std.specs.Cmp.Derive.{both_true}
 use Rattle.std.specs.Prelude.{IsTrue}
@@ -10,13 +10,12 @@ use Rattle.std.specs.FinMap as map
 use Rattle.std.specs.Ordering.{nat_cmp}
 use Rattle.std.proofs.lemmas.Bool.Decides.{eqb_tells, nat_tests}
 use Rattle.std.specs.FinMap.{gets}
-use Rattle.std.specs.Prelude.{not, ◌||◌, ◌&&◌}
+use Rattle.std.specs.Prelude.{not, ◌||◌}
 use Rattle.std.proofs.Math.Dec.{eqb}
 use Rattle.rx_term.specs.Tree.{Tree, Int, Appl, Items, Hole, Trees, none, more, count_of, annotated, annotations, is_i32, is_tree, are_trees}
 use Rattle.rx_term.specs.Parts.{parts, list_parts, annotation_parts}
 use Rattle.rx_term.proofs.PartsLemmas.{cons_cases, no_element, list_parts-parts, notes-part, item-part, rest-part, args-part, inner-part}
-use Rattle.std.proofs.lemmas.List.{append-nil}
-use Rattle.std.proofs.lemmas.List.Elements.{Contains-append_left, Contains-append_right, Contains-append_cases}
+use Rattle.std.proofs.lemmas.List.Elements.{Contains-append_cases}
 use Rattle.rx_term.specs.Name.{Signature}
 use Rattle.rx_term.specs.Store.{longer, applied, held_open}
 use Rattle.rx_term.specs.Heap.{Node, number, empty, pair, application, placeholder, Cell, Heap, Table, with_notes, node_tree, noted_tree, cell_tree, put_some, tabulate, tree_of, Notes, Says, IsDistinct, IsTable, is_whole, IsLeast}

@@ -2,9 +2,8 @@
 use Rattle.std.proofs.Common.{◌≡◌, ◌<◌, inl, inr, List, Option, Some, Result, Ok, Err, IsSome, Contains, refl, sym, ap, ◌∙◌, subst, ℕ}
 use Rattle.std.specs.FinMap as map
 use Rattle.rx_term.specs.Tree.{Tree}
-use Rattle.rx_term.specs.Parts.{parts}
 use Rattle.rx_term.specs.Store.{Store, tree_at}
-use Rattle.rx_term.specs.Steps.{SameBesideContent, IsReached, IsKeptRoot, Reclaims, Makes, Refuses, MakesOrRefuses, Reserves, RefusesReserve, ReservesOrRefuses, Keeps, IsExhausted}
+use Rattle.rx_term.specs.Steps.{SameBesideContent, IsReached, IsKeptRoot, Reclaims, Makes, Refuses, MakesOrRefuses, ReservesOrRefuses, Keeps, IsExhausted}
 use Rattle.rx_term.specs.declared.Term.{Term}
 use Rattle.rx_term.specs.declared.faults.BankFault.{BankFault}
 use Rattle.rx_term.specs.declared.faults.BankFault.TheVariants.{Full}

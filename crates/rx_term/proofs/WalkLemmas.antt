@@ -7,7 +7,7 @@ use Rattle.rx_term.specs.Parts.{parts, annotation_parts}
 use Rattle.rx_term.specs.Walks.{all_parts, parts_of, AllHeld, PushesInside, PushesAnns}
 use Rattle.std.specs.Option.{option_and_then}
 use Rattle.std.proofs.Common.{append_assoc, length-append, ◌++◌, Bool, is_some, ◌+◌, zero-add, min}
-use Rattle.rx_term.specs.Tree.{Tree, Trees, Int, Hole, Appl, Items, none, more, annotations}
+use Rattle.rx_term.specs.Tree.{Tree, Trees, Appl, Items, none, more, annotations}
 use Rattle.rx_term.specs.Store.{Store, tree_at, longer}
 use Rattle.rx_term.specs.Steps.{Grows}
 use Rattle.rx_term.specs.declared.Term.{Term}

@@ -6,7 +6,7 @@ use mathlib.Core.HLevel.{Σ_prop_path}
 use Rattle.std.specs.Option.{option_and_then}
 use Rattle.std.specs.Ordering.{nat_cmp}
 use Rattle.std.specs.FinMap as map
-use Rattle.rx_term.specs.Tree.{Tree, Int, Appl, Items, Hole, Trees, none, more, count_of, annotated, list_of, is_i32}
+use Rattle.rx_term.specs.Tree.{Tree, Int, Appl, Items, Hole, Trees, none, more, count_of, annotated, is_i32}
 use Rattle.rx_term.specs.Name.{Signature, is_name}
 use Rattle.rx_term.specs.Store.{longer, applied, held_open}
 

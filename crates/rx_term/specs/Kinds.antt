@@ -1,6 +1,5 @@
 -- What the kind of a node says of its tree.
 use Rattle.std.specs.Prelude.{◌≡◌, ℕ, Bool, ℤ, List, Option, Some, None, IsSome}
-use Rattle.rx_term.specs.Name.{Signature}
 use Rattle.rx_term.specs.Tree.{Tree, Int, Appl, Items, Hole, Trees, none, more, count_of}
 use Rattle.rx_term.specs.Store.{Store, tree_at, signature_of, part_at, anns_of}
 use Rattle.rx_term.specs.declared.Term.{Term}

@@ -1,6 +1,6 @@
 use Rattle.std.proofs.Common.{subst}
 use Rattle.rx_plain.specs.Marks.{Marks}
-use Rattle.rx_plain.proofs.MarkLemmas.{not-false, Marks-none, below-marked, below-unmarked, below-free, body-links}
+use Rattle.rx_plain.proofs.MarkLemmas.{not-false, below-marked, body-links}
 use Rattle.rx_plain.proofs.marks.mark_below.Goals as goal
 
 pub mark_links-requires : goal.mark_links-requires

@@ -1,7 +1,7 @@
-use Rattle.std.proofs.Common.{ℕ, ◌≡◌, [], ◌∷◌, ◌+◌, map, take, get_or, refl, arith, subst, sym, Contains}
+use Rattle.std.proofs.Common.{get_or, arith, subst, sym}
 use Rattle.rx_term.specs.declared.Term.{Term}
 use Rattle.rx_plain.specs.Marks.{Marks}
-use Rattle.rx_plain.proofs.MarkLemmas.{Marks-none, Marks-trans, within-after, take-one, place-in}
+use Rattle.rx_plain.proofs.MarkLemmas.{Marks-trans, within-after, take-one, place-in}
 use Rattle.rx_plain.proofs.marks.mark_extra.Goals as goal
 
 pub mark-requires : goal.mark-requires

@@ -1,6 +1,6 @@
-use Rattle.std.proofs.Common.{subst, length, sym, ◌<◌, map}
-use Rattle.rx_plain.specs.Marks.{Marks, AreLinksWithin, root_marked}
-use Rattle.rx_plain.proofs.MarkLemmas.{LinksWithin-kept, rooted-within, length-rooted, Reaches-from}
+use Rattle.std.proofs.Common.{subst, sym, map}
+use Rattle.rx_plain.specs.Marks.{Marks, AreLinksWithin}
+use Rattle.rx_plain.proofs.MarkLemmas.{LinksWithin-kept, rooted-within, Reaches-from}
 use Rattle.rx_plain.proofs.marks.mark_reached.Goals as goal
 
 pub spread-requires : goal.spread-requires

@@ -1,6 +1,6 @@
 use Rattle.std.proofs.Common.{arith}
 use Rattle.rx_plain.specs.Marks.{root_marked}
-use Rattle.rx_plain.specs.SweepLemmas.{rewrite-turn}
+use Rattle.rx_plain.proofs.SweepLemmas.{rewrite-turn}
 use Rattle.rx_plain.proofs.marks.mark_roots.Goals as goal
 
 pub loop-place-preserved : goal.loop-place-preserved

@@ -1,6 +1,6 @@
 use Rattle.std.proofs.Common.{◌≡◌}
 use Rattle.rx_plain.specs.Marks.{root_marked}
-use Rattle.rx_plain.specs.SweepLemmas.{partly}
+use Rattle.rx_plain.proofs.SweepLemmas.{partly}
 use Rattle.rx_plain.proofs.marks.mark_roots.Given as goal
 
 abbrev pub invariant-loop-place : goal.invariant-loop-place

@@ -1,5 +1,4 @@
 use Rattle.std.proofs.Common.{◌+◌, arith, refl, sym, subst}
-use Rattle.std.specs.Prelude.{slice_get}
 use Rattle.rx_plain.specs.Marks.{Progress}
 use Rattle.rx_plain.proofs.MarkLemmas.{Keeps-refl, Keeps-trans, OnlyLinked-refl, OnlyLinked-trans, OnlyLinked-below, LinksWithin-kept, Progress-step}
 use Rattle.rx_plain.proofs.marks.pass.Goals as goal

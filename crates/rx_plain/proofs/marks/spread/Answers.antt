@@ -1,7 +1,6 @@
-use Rattle.std.proofs.Common.{◌≡◌, ◌<◌, ◌+◌, arith, Bool, true, false, subst}
-use Rattle.std.specs.Prelude.{if◌then◌else◌}
-use Rattle.rx_plain.specs.Marks.{Passes, unmarked}
-use Rattle.rx_plain.proofs.MarkLemmas.{Keeps-refl, Keeps-trans, OnlyLinked-refl, OnlyLinked-trans, LinksWithin-kept, settled, pass-smaller}
+use Rattle.std.proofs.Common.{subst}
+use Rattle.rx_plain.specs.Marks.{Passes}
+use Rattle.rx_plain.proofs.MarkLemmas.{Keeps-refl, Keeps-trans, OnlyLinked-refl, OnlyLinked-trans, LinksWithin-kept, settled}
 use Rattle.rx_plain.proofs.marks.spread.Goals as goal
 
 pub loop-fresh-init : goal.loop-fresh-init

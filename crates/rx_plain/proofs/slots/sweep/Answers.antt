@@ -1,6 +1,6 @@
 use Rattle.std.proofs.Common.{arith}
 use Rattle.rx_plain.specs.Slots.{swept_of}
-use Rattle.rx_plain.specs.SweepLemmas.{rewrite-turn}
+use Rattle.rx_plain.proofs.SweepLemmas.{rewrite-turn}
 use Rattle.rx_plain.proofs.slots.sweep.Goals as goal
 
 pub loop-i-preserved : goal.loop-i-preserved

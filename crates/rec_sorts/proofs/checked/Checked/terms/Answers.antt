@@ -1,4 +1,10 @@
+use Rattle.std.proofs.Common.{subst}
+use Rattle.std.specs.Prelude.{◌≡◌, None}
+use Rattle.rec_sorts.specs.SpecRules.{fault}
 use Rattle.rec_sorts.proofs.checked.Checked.terms.Goals as goal
 
-pub returns : goal.returns
-returns c = rw (c.deref.ensures.value, ← c.self.view_is) c.self.invariant.terms_lettered
+pub returns-clause-kept : goal.returns-clause-kept
+returns-clause-kept c = subst (λ v. fault v.spec ≡ None) c.self.view_is c.self.invariant.kept
+
+pub returns-clause-letters : goal.returns-clause-letters
+returns-clause-letters c = rw (c.deref.ensures.value, ← c.self.view_is) c.self.invariant.terms_lettered

@@ -1,11 +1,9 @@
-use Rattle.std.proofs.Common.{◌≡◌, ◌<◌, length, Option, Some, is_some, sym, ap, ◌∙◌, subst}
-use Rattle.std.specs.Option.{option_and_then}
+use Rattle.std.proofs.Common.{◌<◌, length, is_some, sym, ap, subst}
 use Rattle.std.proofs.lemmas.Option.{slice_get_within}
-use Rattle.rx_term.specs.Name.{Signature}
 use Rattle.rx_term.proofs.StoreLemmas.{some-value}
 use Rattle.rx_names.specs.Words.{words_of}
 use Rattle.rx_names.specs.Names.{symbols_of}
-use Rattle.rx_names.proofs.NameLemmas.{stands, has-entry, the-entry}
+use Rattle.rx_names.proofs.NameLemmas.{stands, the-entry}
 use Rattle.rx_names.proofs.names.Names.get.Goals as goal
 use Rattle.std.specs.FinMap as map
 

@@ -1,6 +1,6 @@
 -- The words only grow, and the entry is put last or is there.
 use Rattle.std.proofs.Common.{◌≡◌, true, Some, refl, sym, ap, ◌∙◌, slice_get, subst}
-use Rattle.rx_term.specs.Name.{Signature, is_allowed}
+use Rattle.rx_term.specs.Name.{Signature}
 use Rattle.rx_names.specs.Words.{words_of}
 use Rattle.rx_names.specs.Entries.{is_allowed_word, symbols_from}
 use Rattle.rx_names.specs.Names.{Interns}

@@ -1,5 +1,5 @@
 -- The word was nowhere, so it is put last, or nothing changes.
-use Rattle.std.proofs.Common.{◌≡◌, ◌≢◌, ℕ, Some, sym, ap, ◌∙◌, subst, slice_get, map}
+use Rattle.std.proofs.Common.{◌≢◌, ℕ, Some, sym, ap, ◌∙◌, subst, slice_get, map}
 use Rattle.std.proofs.lemmas.Slice.Eq.{bytes_eq-Decides}
 use Rattle.rx_names.proofs.PlaceLemmas.{nothing-there, inserted-new, Placed-map, Placed-kept, Placed-apart, Placed-bytes, map-at}
 use Rattle.rx_names.proofs.words.Words.intern.Goals as goal

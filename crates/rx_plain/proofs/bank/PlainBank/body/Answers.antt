@@ -1,6 +1,7 @@
 use Rattle.std.proofs.Common.{◌≡◌, Some, is_some, arith, sym, ap, ◌∙◌}
 use Rattle.rx_plain.specs.Slots.{heap_of, cell_of, cell_in}
-use Rattle.rx_plain.specs.BankLemmas.{held-cell, cell-within, read-cell, body-there}
+use Rattle.rx_plain.proofs.Reading.{held-cell, read-cell, body-there}
+use Rattle.rx_plain.specs.Soundness.{cell-within}
 use Rattle.rx_plain.proofs.bank.PlainBank.body.Goals as goal
 
 pub index-requires : goal.index-requires

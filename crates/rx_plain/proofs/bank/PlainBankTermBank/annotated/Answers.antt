@@ -1,7 +1,7 @@
 use Rattle.std.proofs.Common.{subst}
 use Rattle.rx_term.specs.Steps.{MakesOrRefuses}
 use Rattle.rx_plain.specs.State.{store_of}
-use Rattle.rx_plain.specs.BankLemmas.{annotated-body}
+use Rattle.rx_plain.proofs.Noting.{annotated-body}
 use Rattle.rx_plain.proofs.bank.PlainBankTermBank.annotated.Goals as goal
 
 pub returns : goal.returns

@@ -3,9 +3,8 @@ use Rattle.std.proofs.Common.{◌≡◌, ◌<◌, ◌≤◌, length, map, sym, a
 use Rattle.std.specs.Prelude.{count_by}
 use Rattle.rx_plain.specs.Marks.{Reaches, AreLinksWithin}
 use Rattle.rx_plain.specs.Slots.{swept_of, is_taken}
-use Rattle.rx_plain.specs.SweepLemmas.{swept-length}
-use Rattle.rx_plain.specs.BankLemmas.{table}
-use Rattle.rx_plain.proofs.Reclaiming.{written, written-same, bank-within, held-within, reclaimed-whole, reclaimed-distinct, reclaimed-roots, reclaimed-unrooted, reclaimed-len, reclaimed, count-content}
+use Rattle.rx_plain.specs.Soundness.{table}
+use Rattle.rx_plain.proofs.Reclaiming.{written, swept-back, bank-within, held-within, reclaimed-whole, reclaimed-distinct, reclaimed-roots, reclaimed-unrooted, reclaimed-len, reclaimed, count-content}
 use Rattle.rx_plain.proofs.bank.PlainBankTermBank.reclaim.Goals as goal
 
 pub mark_reached-requires-clause-within : goal.mark_reached-requires-clause-within
@@ -21,12 +20,9 @@ invariant_of-self c =
     let extra = c.args.extra.now in
     let r = subst (λ xs. Reaches xs marked extra) c.deref_mut.ensures.value c.mark_reached.ensures in
     let size : b.slots.len ≡ length b.slots.items = (let k = b.slots.ok.0 in omega arith) in
-    let back = written-same b.slots.len marked b.slots.items size r.len in
-    let frees : c.sweep.new.slots ≡ map swept_of marked = c.sweep.ensures.slots ∙ ap (map swept_of) (c.deref_mut-2.ensures.value ∙ back) in
-    let fits : length c.sweep.new.slots ≡ length (written b.slots.len marked b.slots.items) = ap length frees ∙ swept-length marked ∙ sym (ap length back) in
-    let again = written-same b.slots.len c.sweep.new.slots (written b.slots.len marked b.slots.items) (size ∙ sym r.len ∙ sym (ap length back)) fits in
+    let both = swept-back b.slots.len b.slots.items marked c.deref_mut-2.result.now c.sweep.new.slots size r.len c.deref_mut-2.ensures.value c.sweep.ensures.slots in
     let ys = written b.slots.len c.sweep.new.slots (written b.slots.len marked b.slots.items) in
-    let swept : ys ≡ map swept_of marked = again ∙ frees in
+    let swept : ys ≡ map swept_of marked = both.0 ∙ both.1 in
     let whole = reclaimed-whole b marked ys extra r swept c.requires in
     let roots = reclaimed-roots b marked ys extra r swept c.requires in
     record {
@@ -36,7 +32,7 @@ invariant_of-self c =
       whole = whole;
       unrooted = reclaimed-unrooted b marked ys extra r swept c.requires;
       counts = λ t. subst (λ f. f t ≤ 65535) (sym roots) (b.counts t);
-      counted = c.sweep.ensures.taken ∙ ap (count_by is_taken) (sym again) ∙ sym (count-content ys (table b) whole);
+      counted = c.sweep.ensures.taken ∙ ap (count_by is_taken) (sym both.0) ∙ sym (count-content ys (table b) whole);
     }
 
 pub returns : goal.returns
@@ -46,10 +42,7 @@ returns c =
     let extra = c.args.extra.now in
     let r = subst (λ xs. Reaches xs marked extra) c.deref_mut.ensures.value c.mark_reached.ensures in
     let size : b.slots.len ≡ length b.slots.items = (let k = b.slots.ok.0 in omega arith) in
-    let back = written-same b.slots.len marked b.slots.items size r.len in
-    let frees : c.sweep.new.slots ≡ map swept_of marked = c.sweep.ensures.slots ∙ ap (map swept_of) (c.deref_mut-2.ensures.value ∙ back) in
-    let fits : length c.sweep.new.slots ≡ length (written b.slots.len marked b.slots.items) = ap length frees ∙ swept-length marked ∙ sym (ap length back) in
-    let again = written-same b.slots.len c.sweep.new.slots (written b.slots.len marked b.slots.items) (size ∙ sym r.len ∙ sym (ap length back)) fits in
+    let both = swept-back b.slots.len b.slots.items marked c.deref_mut-2.result.now c.sweep.new.slots size r.len c.deref_mut-2.ensures.value c.sweep.ensures.slots in
     let ys = written b.slots.len c.sweep.new.slots (written b.slots.len marked b.slots.items) in
-    let swept : ys ≡ map swept_of marked = again ∙ frees in
-    reclaimed b marked ys extra r swept c.requires _ c.sweep.result (c.sweep.ensures.taken ∙ ap (count_by is_taken) (sym again))
+    let swept : ys ≡ map swept_of marked = both.0 ∙ both.1 in
+    reclaimed b marked ys extra r swept c.requires _ c.sweep.result (c.sweep.ensures.taken ∙ ap (count_by is_taken) (sym both.0))

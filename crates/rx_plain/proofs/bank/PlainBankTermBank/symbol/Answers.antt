@@ -1,10 +1,10 @@
 -- A larger table of names leaves the slots and their trees.
-use Rattle.std.proofs.Common.{Some, sym, ap, ◌∙◌, refl}
+use Rattle.std.proofs.Common.{sym, ap, ◌∙◌, refl}
 use Rattle.std.specs.FinMap as map
 use Rattle.rx_term.specs.Name.{Signature}
 use Rattle.rx_names.specs.Names.{symbols_of}
 use Rattle.rx_names.proofs.NameLemmas.{kept-interned}
-use Rattle.rx_plain.specs.BankLemmas.{renamed-whole, renamed-content, renamed-adds, renamed-same}
+use Rattle.rx_plain.proofs.Naming.{renamed-whole, renamed-content, renamed-adds, renamed-same}
 use Rattle.rx_plain.proofs.bank.PlainBankTermBank.symbol.Goals as goal
 
 pub invariant_of-self : goal.invariant_of-self
