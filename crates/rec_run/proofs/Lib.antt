@@ -18,3 +18,5 @@ pub mod EvaluationLemmas
 pub mod RuleLemmas
 pub mod PrinterLemmas
 mod TermRows
+mod CountedParts
+mod TermsDue

@@ -6,5 +6,6 @@ pub mod Matched
 pub mod Output
 pub mod Reading
 pub mod Run
+pub mod TermRuns
 pub mod Printed
 pub mod Values

@@ -3,11 +3,15 @@
 
 mod ending;
 mod evaluator;
+mod given_term;
 pub mod laws;
 mod lines;
 mod matching;
 mod printer;
 mod runs;
+mod term_runs;
+#[cfg(test)]
+mod term_tests;
 #[cfg(test)]
 mod tests;
 mod text;
@@ -16,3 +20,4 @@ mod verdict;
 
 pub use ending::{Finish, Named, Place, RunFault, RunOptions, Source};
 pub use runs::{run, run_at};
+pub use term_runs::{run_aterm, run_aterm_at, run_share, run_share_at};

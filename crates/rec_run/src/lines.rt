@@ -42,7 +42,7 @@ fn write_name<W: Write>(refusal: Refusal, out: &mut W) -> Result<(), Stopped>
 }
 
 /// Writes a text and then a number.
-fn put_numbered<W: Write>(out: &mut W, text: &[u8], n: u64) -> Result<(), Stopped>
+pub(crate) fn put_numbered<W: Write>(out: &mut W, text: &[u8], n: u64) -> Result<(), Stopped>
     ensures ok { OnOk result (Appends (W.contents out.old) (W.contents out.new) (text.now ++ decimal n)) }
     ensures err { OnErr result (AppendsFront (text.now ++ decimal n) (W.contents out.old) (W.contents out.new)) }
 {

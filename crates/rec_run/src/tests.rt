@@ -304,14 +304,14 @@ fn is_refused(rt: &impl Abort, alloc: Global, text: &str, line: &str, rule: Name
 
 /// Gives at most `step` bytes a read, and fails at one read.
 #[derive(Drop)]
-struct Slow<'a> {
+pub(crate) struct Slow<'a> {
     bytes: &'a [u8],
     step: usize,
     reads: u64,
-    fails_at: u64,
+    pub(crate) fails_at: u64,
 }
 
-fn bytewise(text: &str) -> Slow<'_> {
+pub(crate) fn bytewise(text: &str) -> Slow<'_> {
     Slow {
         bytes: text.as_bytes(),
         step: 1,
@@ -335,7 +335,7 @@ impl Read for Slow<'_> {
 
 /// Gives blanks without end.
 #[derive(Drop)]
-struct Blanks;
+pub(crate) struct Blanks;
 
 impl Read for Blanks {
     fn read(&mut self, buf: &mut [u8]) -> io::Result<usize> {
@@ -346,15 +346,15 @@ impl Read for Blanks {
 
 /// Takes one byte a write; one write fails, one takes nothing, and the flush may fail.
 #[derive(Drop)]
-struct Sink {
-    held: Vec<u8>,
+pub(crate) struct Sink {
+    pub(crate) held: Vec<u8>,
     writes: u64,
-    fails_at: u64,
+    pub(crate) fails_at: u64,
     stops_at: u64,
-    flush_fails: bool,
+    pub(crate) flush_fails: bool,
 }
 
-fn taking(alloc: Global) -> Sink {
+pub(crate) fn taking(alloc: Global) -> Sink {
     Sink {
         held: Vec::new(alloc),
         writes: 0,

@@ -12,13 +12,15 @@ pub fn command<'a>(alloc: Global) -> Result<Command<'a>, AllocError> {
         .bin_name("recw")?
         .subcommand_required(true)
         .override_usage("recw [COMMAND]")
-        .about("Evaluate REC specifications")
+        .about("Evaluate REC specifications, and read ATerms")
         .after_help(
             "With no arguments, recw evaluates the specification on standard input.\n\n\
              Exit status: 0 done, 1 the text was refused, 2 wrong arguments,\n\
              3 out of memory or cells, 4 a read or a write failed.",
         )
-        .subcommand(eval_command(alloc)?)
+        .subcommand(eval_command(alloc)?)?
+        .subcommand(aterm_command(alloc)?)?
+        .subcommand(share_command(alloc)?)
 }
 
 fn eval_command<'a>(alloc: Global) -> Result<Command<'a>, AllocError> {
@@ -32,6 +34,24 @@ fn eval_command<'a>(alloc: Global) -> Result<Command<'a>, AllocError> {
         ))?
         .arg(steps(alloc))?
         .arg(count(alloc))
+}
+
+fn aterm_command<'a>(alloc: Global) -> Result<Command<'a>, AllocError> {
+    Command::new(alloc, "aterm")
+        .about("Print an ATerm in its shortest form")
+        .after_help("Example: echo 'f ( a , [ 1 , -007 ] )' | recw aterm")
+        .arg(term_file(alloc))
+}
+
+fn share_command<'a>(alloc: Global) -> Result<Command<'a>, AllocError> {
+    Command::new(alloc, "share")
+        .about("Print an ATerm and how many cells it takes with equal parts shared")
+        .after_help("Example: echo 'f(a,a)' | recw share")
+        .arg(term_file(alloc))
+}
+
+fn term_file<'a>(alloc: Global) -> Arg<'a> {
+    file(alloc, "FILE", "File of the ATerm [default: standard input]")
 }
 
 fn file<'a>(alloc: Global, name: &'a str, help: &'a str) -> Arg<'a> {

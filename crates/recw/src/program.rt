@@ -3,7 +3,7 @@
 use crate::opened::open;
 use crate::report;
 use crate::request::{Request, read_words};
-use rec_run::{Finish, Place, RunFault, run_at};
+use rec_run::{Finish, Place, RunFault, run_at, run_aterm_at, run_share_at};
 use std::alloc::Global;
 use std::io::{Read, Write};
 use std::rt::Files;
@@ -54,6 +54,14 @@ fn perform<H: Files, R: Read, W: Write>(
         Request::Eval { options, spec } => {
             let mut spec = open(rt, spec, input)?;
             run_at(alloc, &mut spec, out, options, place)
+        }
+        Request::Aterm { file } => {
+            let mut input = open(rt, file, input)?;
+            run_aterm_at(alloc, &mut input, out, place)
+        }
+        Request::Share { file } => {
+            let mut input = open(rt, file, input)?;
+            run_share_at(alloc, &mut input, out, place)
         }
     }
 }

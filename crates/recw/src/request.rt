@@ -19,6 +19,14 @@ pub enum Request<'a> {
         options: RunOptions,
         spec: Option<&'a str>,
     },
+    /// Print a term, which stands in a file or on the standard input.
+    Aterm {
+        file: Option<&'a str>,
+    },
+    /// Print a term and how many cells it takes.
+    Share {
+        file: Option<&'a str>,
+    },
 }
 
 /// What the words after the program's name ask for.
@@ -38,6 +46,12 @@ fn request_of<'a>(matches: &ArgMatches<'a>) -> Option<Request<'a>> {
         "eval" => Some(Request::Eval {
             options: options_of(inner)?,
             spec: inner.get_str("SPEC"),
+        }),
+        "aterm" => Some(Request::Aterm {
+            file: inner.get_str("FILE"),
+        }),
+        "share" => Some(Request::Share {
+            file: inner.get_str("FILE"),
         }),
         _ => None,
     }

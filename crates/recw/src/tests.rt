@@ -89,8 +89,51 @@ fn ends_with_its_status(rt: HostRuntime) -> Result<(), Fail> {
 }
 
 #[test]
+fn prints_terms(rt: HostRuntime) -> Result<(), Fail> {
+    let rows: [(&[&str], &str, u8, &str, &str); 6] = [
+        (&["aterm"], "f ( a , [ 1 , -007 ] )", 0, "f(a,[1,-7])\n", ""),
+        (
+            &["aterm"],
+            "f(a,)",
+            1,
+            "!term A\n",
+            "recw: term A at byte 4\n",
+        ),
+        (
+            &["aterm", "/dev/null"],
+            "a",
+            1,
+            "!term A\n",
+            "recw: term A at byte 0\n",
+        ),
+        (&["share"], "f(a,a)", 0, "f(a,a)\ncells 5\n", ""),
+        (
+            &["share"],
+            "a b",
+            1,
+            "!term A\n",
+            "recw: term A at byte 2\n",
+        ),
+        (
+            &["share", "no such file"],
+            "a",
+            4,
+            "",
+            "recw: read failed\n",
+        ),
+    ];
+    for (words, text, status, out, err) in rows {
+        let ran = run(&rt, words, text)?;
+        assert_eq!(rt; ran.status, status, "{words:?}");
+        assert_eq!(rt; ran.out.as_str(), out, "{words:?}");
+        assert_eq!(rt; ran.err.as_str(), err, "{words:?}");
+    }
+    Ok(())
+}
+
+#[test]
 fn refuses_words(rt: HostRuntime) -> Result<(), Fail> {
-    let rows: [&[&str]; 8] = [
+    let rows: [&[&str]; 9] = [
         &["eval", "--steps", "1000000000000000001"],
         &["eval", "--steps", "-1"],
         &["eval", "--steps", "x"],
@@ -98,7 +141,8 @@ fn refuses_words(rt: HostRuntime) -> Result<(), Fail> {
         &["eval", "a", "b"],
         &["--steps", "3"],
         &["eval", "-7"],
-        &["share"],
+        &["match"],
+        &["share", "a", "b"],
     ];
     for words in rows {
         let Ran { status, out, err } = run(&rt, words, ADDITION)?;
@@ -155,13 +199,31 @@ Options:
 Example: recw eval --steps 500 add.rec
 ";
 
+const ATERM_HELP: &str = "Print an ATerm in its shortest form
+
+Usage: recw aterm [FILE]
+
+Arguments:
+  [FILE]  File of the ATerm [default: standard input]
+
+Options:
+  -h, --help  Print help
+
+Example: echo 'f ( a , [ 1 , -007 ] )' | recw aterm
+";
+
 #[test]
 fn shows_help(rt: HostRuntime) -> Result<(), Fail> {
-    let rows: [&[&str]; 3] = [&["eval", "-h"], &["eval", "--help"], &["help", "eval"]];
-    for words in rows {
+    let rows: [(&[&str], &str); 4] = [
+        (&["eval", "-h"], EVAL_HELP),
+        (&["eval", "--help"], EVAL_HELP),
+        (&["help", "eval"], EVAL_HELP),
+        (&["aterm", "-h"], ATERM_HELP),
+    ];
+    for (words, help) in rows {
         let Ran { status, out, err } = run(&rt, words, "")?;
         assert_eq!(rt; status, 0, "{words:?}");
-        assert_eq!(rt; out.as_str(), EVAL_HELP, "{words:?}");
+        assert_eq!(rt; out.as_str(), help, "{words:?}");
         assert_eq!(rt; err.as_str(), "", "{words:?}");
     }
     Ok(())
