@@ -53,11 +53,11 @@ quiet_taken old new k b q law is rest = record {
   law = law;
   no_gray = ap (λ (v : ArenaState). v.gray) rest ∙ q.no_gray;
   unmarked = λ s. elim (one_or_two s k) [
-    inl h ↦ ap (λ (z : ℕ). marked_at new z) h.1 ∙ ap is_marked (just_taken old new k (new_cell b) is)
+    | inl h ↦ ap (λ (z : ℕ). marked_at new z) h.1 ∙ ap is_marked (just_taken old new k (new_cell b) is)
     | inr h ↦ ap is_marked (taken_else old new k (new_cell b) is s h.1) ∙ q.unmarked s
   ];
   unprotected = λ s. elim (one_or_two s k) [
-    inl h ↦ ap (λ (z : ℕ). roots_at new z) h.1 ∙ ap root_count (just_taken old new k (new_cell b) is)
+    | inl h ↦ ap (λ (z : ℕ). roots_at new z) h.1 ∙ ap root_count (just_taken old new k (new_cell b) is)
     | inr h ↦ ap root_count (taken_else old new k (new_cell b) is s h.1) ∙ q.unprotected s
   ];
 }
@@ -84,7 +84,7 @@ pub roots_marked : (old new : ArenaState) (k : ℕ) (y : Bool) → new.cells ≡
 roots_marked old new k y is s =
     ap (λ (z : List (Option Taken)). root_count (get_or z s None)) is
     ∙ elim (one_or_two s k) as (λ _. root_count (get_or (altered k (with_marking y) old.cells) s None) ≡ roots_at old s) [
-      inl h ↦ subst (λ z. root_count (get_or (altered k (with_marking y) old.cells) z None) ≡ roots_at old z) (sym h.1)
+      | inl h ↦ subst (λ z. root_count (get_or (altered k (with_marking y) old.cells) z None) ≡ roots_at old z) (sym h.1)
           (ap root_count (get_or-put_same old.cells k (option_map (with_marking y) (get_or old.cells k None))) ∙ roots-marking (get_or old.cells k None) y)
       | inr h ↦ ap root_count (get_or-put_other old.cells k s (option_map (with_marking y) (get_or old.cells k None)) h.1)
     ]
