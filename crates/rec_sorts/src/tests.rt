@@ -187,8 +187,9 @@ fn letters(rt: HostRuntime) -> Result<(), Fail> {
     assert_eq!(rt; checked.symbol_name(2), b"f".as_slice());
     assert_eq!(rt; checked.arity(1), 0);
     assert_eq!(rt; checked.arity(2), 1);
-    assert_eq!(rt; checked.rules().len(), 1);
-    let left = &checked.rules()[0].left;
+    let rules = checked.rules();
+    assert_eq!(rt; rules.len(), 1);
+    let left = &rules[0].left;
     assert_eq!(rt; left.len(), 2);
     assert_eq!(rt; left[0].meaning, Meaning::Variable(0));
     assert_eq!(rt; left[1].meaning, Meaning::Symbol(2));
