@@ -30,8 +30,7 @@ fn run(rt: &HostRuntime, words: &[&str], text: &str) -> Result<Ran, Fail> {
 
 #[test]
 fn ends_with_its_status(rt: HostRuntime) -> Result<(), Fail> {
-    let rows: [(&[&str], &str, u8, &str, &str); 11] = [
-        (&[], ADDITION, 0, "s(s(s(z)))\n", ""),
+    let rows: [(&[&str], &str, u8, &str, &str); 10] = [
         (&["eval"], ADDITION, 0, "s(s(s(z)))\n", ""),
         (&["eval", "--steps", "2"], ADDITION, 0, "!limit 2\n", ""),
         (
@@ -50,7 +49,7 @@ fn ends_with_its_status(rt: HostRuntime) -> Result<(), Fail> {
             "recw: spec G at byte 17\n",
         ),
         (
-            &[],
+            &["eval"],
             "REC-SPEC W SORTS Nat Nat OPNS f : Nat -> Nat VARS X : Nat RULES f(X) -> g(X) END-SPEC",
             1,
             "!spec S1\n",
@@ -85,6 +84,15 @@ fn ends_with_its_status(rt: HostRuntime) -> Result<(), Fail> {
         assert_eq!(rt; ran.out.as_str(), out, "{words:?}");
         assert_eq!(rt; ran.err.as_str(), err, "{words:?}");
     }
+    Ok(())
+}
+
+#[test]
+fn evaluates_without_words(rt: HostRuntime) -> Result<(), Fail> {
+    let ran = run(&rt, &[], ADDITION)?;
+    assert_eq!(rt; ran.status, 0);
+    assert_eq!(rt; ran.out.as_str(), "s(s(s(z)))\n");
+    assert_eq!(rt; ran.err.as_str(), "");
     Ok(())
 }
 
