@@ -14,3 +14,6 @@ pub mod CheckedView
 pub mod Declaring
 pub mod Reading
 pub mod Agreeing
+pub mod TermsFaults
+pub mod Walking
+pub mod GivenTerms
