@@ -71,13 +71,13 @@ pair_each P R Q f (x ∷ xs) [] h k = absurd h
 
 module _ (y : Spec) (s : Scope) (h : IsScope y s) where
   -- what a name stands for, where it is declared
-  record StandsFor (name : List ℕ) : Type 0 where
+  pub record StandsFor (name : List ℕ) : Type 0 where
     pub meaning : Meaning
     pub stands : meaning_of s name ≡ Some meaning
     pub there : IsMeaning y meaning
     pub named_so : name_of y meaning ≡ name
 
-  stands_for : (name : List ℕ) → is_none (meaning_of s name) ≡ false → StandsFor name
+  pub stands_for : (name : List ℕ) → is_none (meaning_of s name) ≡ false → StandsFor name
   stands_for name known = by_symbol (symbol y name) refl
     where
       by_number : (o : Option ℕ) → first_at (variable_words y.variables) name ≡ o → meaning_of s name ≡ option_map (λ k. Variable k) o → StandsFor name

@@ -1,13 +1,12 @@
 -- What the nodes of given terms are by the numbers of what is declared.
-use Rattle.std.specs.Prelude.{ℕ, Bool, true, false, not, ◌&&◌, ◌||◌, List, [], ◌∷◌, Option, Some, None, length, flat_map, nat_eq, is_some, is_none, unwrap_or}
+use Rattle.std.specs.Prelude.{ℕ, Bool, true, false, not, ◌&&◌, ◌||◌, List, [], ◌∷◌, Option, Some, None, length, nat_eq, is_some, is_none, unwrap_or}
 use Rattle.std.specs.Bool.{beq}
 use Rattle.std.specs.List.{list_any}
 use Rattle.std.specs.Option.{option_eq}
-use Rattle.rx_term.specs.Tree.{Tree, Trees, Appl, none, more, count_of, to_list}
+use Rattle.rx_term.specs.Tree.{Tree, Trees, Appl, none, more, count_of}
 use Rattle.rx_term.specs.Name.{plain_name}
 use Rattle.rec_sorts.specs.TermRules.{arguments, is_no_application, is_annotated, first_passed}
 use Rattle.rec_sorts.specs.Scope.{meaning_of, sort_at, arguments_at}
-use Rattle.rec_sorts.specs.Walking.{unstacked}
 use Rattle.rec_sorts.specs.declared.letters.Letter.{Letter}
 use Rattle.rec_sorts.specs.declared.letters.Meaning.{Meaning}
 use Rattle.rec_sorts.specs.declared.letters.Meaning.TheVariants.{Symbol, Variable}
@@ -44,11 +43,9 @@ has_misfit s t = are_misfits s (arguments_at s (symbol_at s t)) (arguments t)
 abbrev pub node_letter : Scope → Tree → Letter
 node_letter s t = record { meaning = unwrap_or (symbol_at s t) (Symbol 0); count = count_of (arguments t) }
 
--- the first of the rules 2 to 6 that the terms of a list break
-abbrev pub broken_by_items : Scope → List Tree → Option ℕ
-broken_by_items s ts =
-    let all = unstacked ts in
-    let inner = unstacked (flat_map (λ t. to_list (arguments t)) ts) in
+-- the first of the rules 2 to 6 that nodes break, of which some must not have annotations
+abbrev pub broken_by_nodes : Scope → List Tree → List Tree → Option ℕ
+broken_by_nodes s all inner =
     first_passed 2
     (list_any is_no_application all
     ∷ list_any is_annotated inner

@@ -16,4 +16,5 @@ pub mod Reading
 pub mod Agreeing
 pub mod TermsFaults
 pub mod Walking
+pub mod ListNodes
 pub mod GivenTerms

@@ -2,21 +2,21 @@
 
 ghost use Rattle.std.specs.Prelude.{◌≡◌, None, Some, List, IsSome, IfSome, IfOk, IfErr, OnOk, is_some, length, map, reverse};
 ghost use Rattle.std.specs.List.{list_any};
-ghost use Rattle.rx_term.specs.Tree.{Tree, count_of, to_list};
+ghost use Rattle.rx_term.specs.Tree.{Tree, count_of};
 ghost use Rattle.rx_term.specs.Store.{tree_at};
 ghost use Rattle.rec_sorts.specs.TermRules.{arguments, elements, is_no_application, is_annotated, broken_by_terms};
 ghost use Rattle.rec_sorts.specs.TermsFaults.{IsTermsFault};
 ghost use Rattle.rec_sorts.specs.Evaluation.{term_of};
 ghost use Rattle.rec_sorts.specs.Numbering.{Pairwise, AreLetters};
 ghost use Rattle.rec_sorts.specs.Agreeing.{IsScope};
-ghost use Rattle.rec_sorts.specs.Walking.{held_tree, held_trees, AreHeld, items_of, backwards};
+ghost use Rattle.rec_sorts.specs.Walking.{held_tree, held_trees, AreHeld, backwards};
 
 use crate::checked::Checked;
 use crate::fault::TermsFault;
 use crate::letters::{Letter, Meaning};
 use crate::scope::Scope;
 use crate::symbols::{read_scope, read_sorts};
-use crate::walk::{arguments, nodes, push_items};
+use crate::walk::{list_nodes, nodes, push_items};
 use rec_syntax::Syntax;
 use rx_term::{Kind, Term, TermBank, plain_name};
 use std::alloc::{AllocError, Global};
@@ -79,7 +79,7 @@ fn argument_count<B: TermBank>(bank: &B, node: Term) -> u32
 }
 
 impl Scope<'_> {
-    ghost use Rattle.rec_sorts.specs.GivenTerms.{symbol_at, is_nameless, is_misfilled, are_misfits, has_misfit, node_letter, broken_by_items};
+    ghost use Rattle.rec_sorts.specs.GivenTerms.{symbol_at, is_nameless, is_misfilled, are_misfits, has_misfit, node_letter, broken_by_nodes};
 
     // The symbol that a node stands for: one of its name, which stands unquoted where it may.
     fn symbol<B: TermBank>(&self, bank: &B, node: Term) -> Option<Meaning>
@@ -192,47 +192,53 @@ impl Scope<'_> {
     {
         let mut stack = Vec::new(alloc);
         stack.push(term)?;
+        let found = nodes(alloc, bank, stack)?;
         let mut letters = Vec::new(alloc);
-        for node in &nodes(alloc, bank, stack)? {
+        for node in &found {
             letters.push(self.node_letter(bank, *node))?;
         }
         letters.reverse();
         Ok(letters)
     }
 
-    // Asks the rules 2 to 6 of the elements of a list.
-    fn check_elements<B: TermBank>(
-        &self,
-        alloc: Global,
-        bank: &B,
-        list: Term,
-    ) -> Result<(), TermsFault>
-        requires { IsSome (tree_at (B.store bank.now) list) }
-        ensures kept { OnOk result (broken_by_items self.now (to_list (items_of (held_tree (B.store bank.now) list))) ≡ None) }
-        ensures broken { IfErr result (IsTermsFault (broken_by_items self.now (to_list (items_of (held_tree (B.store bank.now) list))))) }
+    // The first of the rules 2 to 6 that some nodes break, of which the inner ones may not have annotations.
+    fn first_broken<B: TermBank>(&self, bank: &B, all: &[Term], inner: &[Term]) -> Option<u8>
+        requires all { AreHeld (B.store bank.now) all.now }
+        requires inner { AreHeld (B.store bank.now) inner.now }
+        ensures { result ≡ broken_by_nodes self.now (held_trees (B.store bank.now) all.now) (held_trees (B.store bank.now) inner.now) }
     {
-        let mut elements = Vec::new(alloc);
-        push_items(bank, list, &mut elements).map_err(|_| TermsFault::Memory)?;
-        let below = arguments(alloc, bank, &elements).map_err(|_| TermsFault::Memory)?;
-        let inner = nodes(alloc, bank, below).map_err(|_| TermsFault::Memory)?;
-        let all = nodes(alloc, bank, elements).map_err(|_| TermsFault::Memory)?;
-        if any_no_application(bank, &all) {
-            return Err(TermsFault::Rule { number: 2 });
+        if any_no_application(bank, all) {
+            Some(2)
+        } else if any_annotated(bank, inner) {
+            Some(3)
+        } else if self.any_nameless(bank, all) {
+            Some(4)
+        } else if self.any_misfilled(bank, all) {
+            Some(5)
+        } else if self.any_misfit(bank, all) {
+            Some(6)
+        } else {
+            None
         }
-        if any_annotated(bank, &inner) {
-            return Err(TermsFault::Rule { number: 3 });
-        }
-        if self.any_nameless(bank, &all) {
-            return Err(TermsFault::Rule { number: 4 });
-        }
-        if self.any_misfilled(bank, &all) {
-            return Err(TermsFault::Rule { number: 5 });
-        }
-        if self.any_misfit(bank, &all) {
-            return Err(TermsFault::Rule { number: 6 });
-        }
-        Ok(())
     }
+}
+
+// The first of the six rules that a list of given terms breaks.
+fn broken_rule<B: TermBank>(
+    alloc: Global,
+    checked: &Checked,
+    bank: &B,
+    list: Term,
+) -> Result<Option<u8>, AllocError>
+    requires { IsSome (tree_at (B.store bank.now) list) }
+    ensures { IfOk result (λ r. r ≡ broken_by_terms checked.now.spec (held_tree (B.store bank.now) list)) }
+{
+    if !is_plain_list(bank, list) {
+        return Ok(Some(1));
+    }
+    let scope = scope_of(alloc, checked.syntax())?;
+    let found = list_nodes(alloc, bank, list)?;
+    Ok(scope.first_broken(bank, &found.all, &found.inner))
 }
 
 /// Asks the six rules of a list of given terms. A fault names the first one that is broken, or says that memory ran out.
@@ -246,11 +252,11 @@ pub fn check_terms<B: TermBank>(
     ensures kept { OnOk result (IfSome (tree_at (B.store bank.now) list) (λ t. broken_by_terms checked.now.spec t ≡ None)) }
     ensures broken { IfErr result (λ fault. IfSome (tree_at (B.store bank.now) list) (λ t. IsTermsFault (broken_by_terms checked.now.spec t) fault)) }
 {
-    if !is_plain_list(bank, list) {
-        return Err(TermsFault::Rule { number: 1 });
+    match broken_rule(alloc, checked, bank, list) {
+        Ok(None) => Ok(()),
+        Ok(Some(number)) => Err(TermsFault::Rule { number }),
+        Err(_) => Err(TermsFault::Memory),
     }
-    let scope = scope_of(alloc, checked.syntax()).map_err(|_| TermsFault::Memory)?;
-    scope.check_elements(alloc, bank, list)
 }
 
 /// The letters of given terms that keep the rules: a vector for each, in their order.

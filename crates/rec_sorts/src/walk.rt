@@ -4,10 +4,18 @@ ghost use Rattle.std.specs.Prelude.{◌≡◌, ◌++◌, IsSome, IfOk, OnOk, fla
 ghost use Rattle.rx_term.specs.Tree.{to_list};
 ghost use Rattle.rx_term.specs.Store.{tree_at};
 ghost use Rattle.rec_sorts.specs.TermRules.{arguments};
+ghost use Rattle.rec_sorts.specs.ListNodes.{AreNodes};
 ghost use Rattle.rec_sorts.specs.Walking.{held_tree, held_trees, AreHeld, items_of, unstacked};
 
 use rx_term::{Kind, Term, TermBank};
 use std::alloc::{AllocError, Global};
+
+/// The nodes of a list's items, and those below the items.
+#[derive(Drop)]
+pub struct ListNodes {
+    pub all: Vec<Term>,
+    pub inner: Vec<Term>,
+}
 
 /// Pushes the items of a list, in their order; nothing, where the term is no list.
 pub fn push_items<B: TermBank>(
@@ -28,8 +36,8 @@ pub fn push_items<B: TermBank>(
     Ok(())
 }
 
-/// Pushes the arguments of a term, from left to right; nothing, where it is no application.
-pub fn push_arguments<B: TermBank>(
+// Pushes the arguments of a term, from left to right; nothing, where it is no application.
+fn push_arguments<B: TermBank>(
     bank: &B,
     term: Term,
     stack: &mut Vec<Term>,
@@ -46,12 +54,8 @@ pub fn push_arguments<B: TermBank>(
     }
 }
 
-/// The arguments of some terms, from left to right.
-pub fn arguments<B: TermBank>(
-    alloc: Global,
-    bank: &B,
-    terms: &[Term],
-) -> Result<Vec<Term>, AllocError>
+// The arguments of some terms, from left to right.
+fn arguments<B: TermBank>(alloc: Global, bank: &B, terms: &[Term]) -> Result<Vec<Term>, AllocError>
     requires { AreHeld (B.store bank.now) terms.now }
     ensures held { IfOk result (λ v. AreHeld (B.store bank.now) v.items) }
     ensures trees { IfOk result (λ v. held_trees (B.store bank.now) v.items ≡ flat_map (λ t. to_list (arguments t)) (held_trees (B.store bank.now) terms.now)) }
@@ -79,4 +83,17 @@ pub fn nodes<B: TermBank>(
         push_arguments(bank, node, &mut stack)?;
     }
     Ok(found)
+}
+
+/// The nodes of a list's items.
+pub fn list_nodes<B: TermBank>(alloc: Global, bank: &B, list: Term) -> Result<ListNodes, AllocError>
+    requires { IsSome (tree_at (B.store bank.now) list) }
+    ensures { IfOk result (AreNodes (B.store bank.now) (to_list (items_of (held_tree (B.store bank.now) list)))) }
+{
+    let mut items = Vec::new(alloc);
+    push_items(bank, list, &mut items)?;
+    let below = arguments(alloc, bank, &items)?;
+    let inner = nodes(alloc, bank, below)?;
+    let all = nodes(alloc, bank, items)?;
+    Ok(ListNodes { all, inner })
 }
