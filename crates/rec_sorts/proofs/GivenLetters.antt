@@ -9,14 +9,12 @@ use Rattle.std.proofs.lemmas.List.Folds.{list_any-append}
 use Rattle.rx_term.specs.Tree.{Tree, Trees, Int, Appl, Items, Hole, none, more, count_of, to_list}
 use Rattle.rx_term.specs.Store.{Store, tree_at}
 use Rattle.rx_term.specs.declared.Term.{Term}
-use Rattle.rec_syntax.specs.Tokens.{Word}
 use Rattle.rec_syntax.specs.Syntax.{Declaration, Spec}
-use Rattle.rec_sorts.specs.Lookup.{symbols, names, symbol, variable_words, count}
+use Rattle.rec_sorts.specs.Lookup.{count}
 use Rattle.rec_sorts.specs.Laws.{Every}
 use Rattle.rec_sorts.specs.TermRules.{nodes, arguments, tree_symbol, is_undeclared, is_no_application, is_annotated, is_ill_filled, is_ill_sorted, first_passed, nodes_all, elements, broken_by_elements, broken_by_terms}
 use Rattle.rec_sorts.specs.Evaluation.{term_of, terms_of}
 use Rattle.rec_sorts.specs.Numbering.{IsMeaning, name_of, Named, named, named_all, named_by, AreLetters, Pairwise}
-use Rattle.rec_sorts.specs.Scope.{meaning_of}
 use Rattle.rec_sorts.specs.Agreeing.{IsScope}
 use Rattle.rec_sorts.specs.Walking.{held_tree, held_trees, items_of, backwards, backwards_all, unstacked}
 use Rattle.rec_sorts.specs.GivenTerms.{symbol_at, node_letter}
@@ -25,8 +23,8 @@ use Rattle.rec_sorts.specs.declared.letters.Meaning.{Meaning}
 use Rattle.rec_sorts.specs.declared.letters.Meaning.TheVariants.{Symbol}
 use Rattle.rec_sorts.specs.declared.scope.Scope.{Scope}
 use Rattle.rec_sorts.proofs.Walked.{held, any-backwards}
-use Rattle.rec_sorts.proofs.GivenRules.{tree_name, stands}
-use Rattle.rec_sorts.proofs.Lettering.{StandsFor, stands_for}
+use Rattle.rec_sorts.proofs.GivenRules.{stands}
+use Rattle.rec_sorts.proofs.Lettering.{stands_for}
 
 -- a node's name, and how many arguments it has
 abbrev pub node_named : Tree → Named

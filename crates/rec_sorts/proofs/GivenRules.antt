@@ -1,7 +1,7 @@
 -- What the numbers of what is declared show of given terms is what their rules ask.
 use Rattle.std.proofs.Common.{refl, sym, ap, ◌∙◌, arith}
 use Rattle.std.proofs.lemmas.List.{length-map}
-use Rattle.std.specs.Prelude.{ℕ, ◌≡◌, ◌<◌, ◌&&◌, ◌||◌, Bool, true, false, not, List, [], ◌∷◌, ◌++◌, Option, Some, None, length, map, flat_map, nat_eq, is_some, is_none, unwrap_or, IfSome}
+use Rattle.std.specs.Prelude.{ℕ, ◌≡◌, ◌<◌, ◌&&◌, ◌||◌, Bool, true, false, not, List, [], ◌∷◌, ◌++◌, Option, Some, None, length, flat_map, nat_eq, is_some, is_none, unwrap_or, IfSome}
 use Rattle.std.specs.Bool.{beq}
 use Rattle.std.specs.List.{list_any}
 use Rattle.std.specs.Option.{option_eq, option_map, option_and_then}
@@ -12,7 +12,7 @@ use Rattle.rec_syntax.specs.Syntax.{Declaration, Spec}
 use Rattle.rec_sorts.specs.Lookup.{symbols, symbol, variable_words, same_sort}
 use Rattle.rec_sorts.specs.SpecRules.{fault, all_rules, unknown_sorts}
 use Rattle.rec_sorts.specs.Laws.{Every}
-use Rattle.rec_sorts.specs.TermRules.{nodes, nodes_all, arguments, is_no_application, is_annotated, tree_symbol, is_undeclared, is_ill_filled, tree_sort, are_ill_sorted, is_ill_sorted, first_passed, elements, broken_by_elements, broken_by_terms}
+use Rattle.rec_sorts.specs.TermRules.{nodes, arguments, is_no_application, is_annotated, tree_symbol, is_undeclared, is_ill_filled, tree_sort, are_ill_sorted, is_ill_sorted, first_passed, elements, broken_by_elements, broken_by_terms}
 use Rattle.rec_sorts.specs.Names.{first_at}
 use Rattle.rec_sorts.specs.Declaring.{sort_numbers}
 use Rattle.rec_sorts.specs.Scope.{meaning_of, sort_at, arguments_at}

@@ -2,20 +2,20 @@
 use Rattle.std.proofs.Common.{refl, sym, ap, subst, ◌∙◌, arith}
 use Rattle.std.proofs.lemmas.Bool.{false≢true}
 use Rattle.std.proofs.lemmas.List.{length-map, get_or_append_left}
-use Rattle.std.specs.Prelude.{ℕ, ◌≡◌, ◌+◌, ◌<◌, Bool, true, false, List, [], ◌∷◌, ◌++◌, Option, Some, None, zero, suc, length, map, get_or, All, is_none, unwrap_or}
+use Rattle.std.specs.Prelude.{ℕ, ◌≡◌, Bool, true, false, List, [], ◌∷◌, ◌++◌, Option, Some, None, zero, suc, length, map, get_or, All, is_none, unwrap_or}
 use Rattle.std.specs.Option.{option_map}
 use Rattle.rec_syntax.specs.Tokens.{Word}
 use Rattle.rec_syntax.specs.Syntax.{Term, Terms, Apply, none, more, Declaration, Condition, Rule, Spec}
 use Rattle.rec_syntax.specs.Nodes.{Node, flat, flat_all, term_count}
-use Rattle.rec_sorts.specs.Lookup.{symbols, names, variable_words, symbol, count}
-use Rattle.rec_sorts.specs.SpecRules.{fault, all_rules, unknown_words}
+use Rattle.rec_sorts.specs.Lookup.{symbols, names, variable_words, symbol}
+use Rattle.rec_sorts.specs.SpecRules.{fault, all_rules}
 use Rattle.rec_sorts.specs.Laws.{Every}
 use Rattle.rec_sorts.specs.Least.{earlier, least_of, least_place, place_where}
 use Rattle.rec_sorts.specs.Names.{first_at}
 use Rattle.rec_sorts.specs.Scope.{meaning_of}
 use Rattle.rec_sorts.specs.Letters.{placed_by, letter_of, bare, unknown_among}
 use Rattle.rec_sorts.specs.Reading.{letters_of, binds_variable, condition_places, conditions_places, rule_places, rules_places, open_term_places, open_terms_places, SpellsTerm, SpellsCondition, SpellsRule}
-use Rattle.rec_sorts.specs.Numbering.{IsMeaning, name_of, bytes_at, Named, named, named_all, named_by, AreLetters, Pairwise, IsLetterCondition, IsLetterRule}
+use Rattle.rec_sorts.specs.Numbering.{IsMeaning, name_of, Named, named, named_all, named_by, AreLetters, Pairwise, IsLetterCondition, IsLetterRule}
 use Rattle.rec_sorts.specs.Agreeing.{IsScope}
 use Rattle.rec_sorts.specs.declared.letters.Letter.{Letter}
 use Rattle.rec_sorts.specs.declared.letters.LetterCondition.{LetterCondition}
@@ -27,7 +27,7 @@ use Rattle.rec_sorts.proofs.Kept.{all_kept}
 use Rattle.rec_sorts.proofs.Subterms.{term_count-count}
 use Rattle.rec_sorts.proofs.Stacks.{map-append}
 use Rattle.rec_sorts.proofs.Meanings.{first_at-number, meaning-symbol, meaning-variable}
-use Rattle.rec_sorts.proofs.Conclusion.{conditions-field, rules-field, terms-field, found, unknown-found}
+use Rattle.rec_sorts.proofs.Conclusion.{conditions-field, rules-field, terms-field, unknown-found}
 
 abbrev named_node : Node → Named
 named_node n = record { name = n.word.bytes; arguments = n.count }

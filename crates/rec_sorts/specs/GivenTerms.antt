@@ -3,13 +3,13 @@ use Rattle.std.specs.Prelude.{ℕ, Bool, true, false, not, ◌&&◌, ◌||◌, L
 use Rattle.std.specs.Bool.{beq}
 use Rattle.std.specs.List.{list_any}
 use Rattle.std.specs.Option.{option_eq}
-use Rattle.rx_term.specs.Tree.{Tree, Trees, Appl, none, more, count_of}
+use Rattle.rx_term.specs.Tree.{Tree, Trees, Appl, more, count_of}
 use Rattle.rx_term.specs.Name.{plain_name}
 use Rattle.rec_sorts.specs.TermRules.{arguments, is_no_application, is_annotated, first_passed}
 use Rattle.rec_sorts.specs.Scope.{meaning_of, sort_at, arguments_at}
 use Rattle.rec_sorts.specs.declared.letters.Letter.{Letter}
 use Rattle.rec_sorts.specs.declared.letters.Meaning.{Meaning}
-use Rattle.rec_sorts.specs.declared.letters.Meaning.TheVariants.{Symbol, Variable}
+use Rattle.rec_sorts.specs.declared.letters.Meaning.TheVariants.{Symbol}
 use Rattle.rec_sorts.specs.declared.scope.Scope.{Scope}
 
 -- no variable

@@ -1,4 +1,4 @@
-use Rattle.std.proofs.Common.{IsSome}
+use Rattle.std.proofs.Common.{IsSome, [], ◌∷◌, ◌++◌}
 use Rattle.std.proofs.lemmas.List.Elements.{All-push, All-pop, All-same}
 use Rattle.std.specs.Prelude.{Some}
 use Rattle.rx_term.specs.Store.{tree_at}
@@ -18,6 +18,6 @@ loop-node-preserved g c =
     let IsHeld = λ (r : Term). IsSome (tree_at w r) in
     record {
       stacked = c.in_ok-push_arguments.ensures.held;
-      held = All-same IsHeld c.push.new.self.items _ c.in_ok-push.ensures.items (All-push IsHeld c.loop-node.found.items c.in-Some.node c.loop-node.invariant.held (All-pop IsHeld c.loop-node.stack.items c.pop.new.self.items (Some c.in-Some.node) c.in-Some.ensures.items c.loop-node.invariant.stacked).1);
+      held = All-same IsHeld c.push.new.self.items (c.loop-node.found.items ++ c.in-Some.node ∷ []) c.in_ok-push.ensures.items (All-push IsHeld c.loop-node.found.items c.in-Some.node c.loop-node.invariant.held (All-pop IsHeld c.loop-node.stack.items c.pop.new.self.items (Some c.in-Some.node) c.in-Some.ensures.items c.loop-node.invariant.stacked).1);
       trees = found_turn w c.loop-node.found.items c.push.new.self.items c.loop-node.stack.items c.push_arguments.new.stack.items c.in-Some.node (unstacked (held_trees w c.args.stack.items)) c.in_ok-push.ensures.items turn c.loop-node.invariant.trees;
     }
