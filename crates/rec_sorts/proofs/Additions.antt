@@ -12,7 +12,7 @@ use Rattle.rec_syntax.specs.declared.parts.Declaration as declared
 use Rattle.rec_syntax.specs.declared.parts.Group as declared_group
 use Rattle.rec_sorts.specs.Lookup.{names, variable_words}
 use Rattle.rec_sorts.specs.SpecRules.{sorts_of}
-use Rattle.rec_sorts.specs.Least.{earlier, least_of}
+use Rattle.rec_sorts.specs.Least.{earlier}
 use Rattle.rec_sorts.specs.Names.{Numbers}
 use Rattle.rec_sorts.specs.Declaring.{sort_numbers, unnumbered, least_unnumbered, Additions, both, nothing_added, added_by_symbol, added_by_symbols, added_by_group, added_by_groups, Adds}
 use Rattle.rec_sorts.specs.Agreeing.{variable_sorts}

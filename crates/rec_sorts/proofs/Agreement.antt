@@ -1,24 +1,23 @@
 -- What the letters of a term show is what the rules ask of its subterms.
-use Rattle.std.proofs.Common.{refl, sym, ap, subst, ◌∙◌, arith}
+use Rattle.std.proofs.Common.{refl, sym, ap, ◌∙◌, arith}
 use Rattle.std.proofs.lemmas.Bool.{false≢true, eq-eqb, eqb-true}
 use Rattle.std.proofs.lemmas.List.{length-map, length-append}
 use Rattle.std.proofs.lemmas.Option.{slice_get-get_or}
 use Rattle.std.proofs.lemmas.Slice.Eq.{bytes_eq-Decides}
 use Rattle.std.proofs.Math.Seq.{get_or-append_seam}
-use Rattle.std.specs.Prelude.{ℕ, ◌≡◌, ◌+◌, ◌-◌, Bool, true, false, not, cond, ◌&&◌, ◌||◌, List, [], ◌∷◌, ◌++◌, Option, Some, None, length, map, flat_map, filter, slice_get, nat_eq, bytes_eq, is_some, is_none}
-use Rattle.std.specs.List.{list_any}
+use Rattle.std.specs.Prelude.{ℕ, ◌≡◌, ◌-◌, Bool, true, false, not, List, [], ◌∷◌, ◌++◌, Option, Some, None, length, map, slice_get, nat_eq, bytes_eq, is_some, is_none}
 use Rattle.std.specs.Option.{option_eq, option_map, option_and_then}
 use Rattle.rec_syntax.specs.Tokens.{Word}
-use Rattle.rec_syntax.specs.Syntax.{Term, Terms, Apply, none, more, Declaration, Spec, head, arguments, subterms, subterms_all}
-use Rattle.rec_syntax.specs.Nodes.{Node, flat, flat_all, term_count}
-use Rattle.rec_sorts.specs.Lookup.{mentions, symbols, names, variable_words, symbol, is_variable, variable_sort, sort_of, same_sort, count}
+use Rattle.rec_syntax.specs.Syntax.{Term, Terms, Apply, none, more, Declaration, Spec, head, arguments, subterms}
+use Rattle.rec_syntax.specs.Nodes.{flat, flat_all, term_count}
+use Rattle.rec_sorts.specs.Lookup.{mentions, symbols, names, variable_words, symbol, is_variable, sort_of, same_sort, count}
 use Rattle.rec_sorts.specs.SpecRules.{heads, is_filled, ill_placed, ill_sorted_in, unlike, repeated_symbols, taken_variables, unknown_sorts}
 use Rattle.rec_sorts.specs.Least.{earlier, least_of, least_place, place_where}
 use Rattle.rec_sorts.specs.Names.{first_at}
 use Rattle.rec_sorts.specs.Declaring.{sort_numbers}
 use Rattle.rec_sorts.specs.Scope.{meaning_of, sort_at, arguments_at, is_operator}
 use Rattle.rec_sorts.specs.Letters.{placed_by, unknown_among, ill_filled_among, misplaced, ill_sorted_among}
-use Rattle.rec_sorts.specs.Reading.{letters_of, last_letter, ill_headed_at, unlike_at, is_the_variable, binds_variable, is_unbound, unbound_among}
+use Rattle.rec_sorts.specs.Reading.{letters_of, last_letter, ill_headed_at, unlike_at, is_the_variable, is_unbound, unbound_among}
 use Rattle.rec_sorts.specs.Agreeing.{IsScope}
 use Rattle.rec_sorts.specs.declared.letters.Meaning.{Meaning}
 use Rattle.rec_sorts.specs.declared.letters.Meaning.TheVariants.{Symbol, Variable}
@@ -29,8 +28,8 @@ use Rattle.rec_sorts.proofs.Tables.{is_some-first_at}
 use Rattle.rec_sorts.proofs.Turns.{misplaced-nothing}
 use Rattle.rec_sorts.proofs.Subterms.{least_of-map, least_of-flat, least_of-same}
 use Rattle.rec_sorts.proofs.Stacks.{map-append, head_of, heads_of, misplaced_in, ill_sorted_among-term}
-use Rattle.rec_sorts.proofs.Meanings.{meaning-symbol, meaning-variable, sort_by, arguments_by, sort_at-name, arguments_at-name, is_none-name, first_at-one}
-use Rattle.rec_sorts.proofs.KeptNames.{is_operator-name, no_variable, is_unbound-name, IsKnown, AreKnown, option_eq-numbers, arguments_known, sort_known}
+use Rattle.rec_sorts.proofs.Meanings.{meaning-symbol, meaning-variable, arguments_by, sort_at-name, arguments_at-name, is_none-name, first_at-one}
+use Rattle.rec_sorts.proofs.KeptNames.{is_operator-name, no_variable, IsKnown, AreKnown, option_eq-numbers, arguments_known, sort_known}
 
 -- the last of a list that ends with an item
 last-push : (ps : List Placed) (p : Placed) → last_letter (ps ++ p ∷ []) ≡ Some p

@@ -1,10 +1,7 @@
 -- The substitution that is found is the one under which the left side is the tree.
 use Rattle.std.proofs.Common.{refl, sym, ap, subst, ◌∙◌}
-use Rattle.std.proofs.lemmas.Bool.{eqb-true, eq-eqb}
-use Rattle.std.specs.Prelude.{ℕ, ◌≡◌, Bool, true, false, ◌&&◌, List, [], ◌∷◌, ◌++◌, Option, Some, None, nat_eq, ℤ, pos, negsuc, MatchBool, bytes_eq}
-use Rattle.std.specs.Bool.{beq}
-use Rattle.std.specs.Ordering.{int_eq}
-use Rattle.rx_term.specs.Tree.{Tree, Trees, Int, Appl, Items, Hole, none, more, tree_eq, trees_eq}
+use Rattle.std.specs.Prelude.{ℕ, ◌≡◌, Bool, true, false, List, [], ◌∷◌, ◌++◌, Option, Some, None, MatchBool, bytes_eq}
+use Rattle.rx_term.specs.Tree.{Tree, more, tree_eq}
 use Rattle.rec_syntax.specs.Tokens.{Word}
 use Rattle.rec_syntax.specs.Syntax.{Term, Terms, Apply, Spec}
 use Rattle.rec_sorts.specs.Lookup.{is_variable}

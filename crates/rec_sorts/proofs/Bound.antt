@@ -1,14 +1,14 @@
 -- Which variables a left side binds, by the letters and by the rules.
 use Rattle.std.proofs.Common.{refl, sym, ap, ◌∙◌}
 use Rattle.std.proofs.lemmas.Bool.{false≢true}
-use Rattle.std.specs.Prelude.{ℕ, ◌≡◌, Bool, true, false, not, cond, ◌&&◌, ◌||◌, List, [], ◌∷◌, ◌++◌, Option, Some, None, map, flat_map, filter, bytes_eq}
+use Rattle.std.specs.Prelude.{ℕ, ◌≡◌, Bool, true, false, not, cond, ◌&&◌, ◌||◌, List, [], ◌∷◌, ◌++◌, Option, Some, None, map, filter, bytes_eq}
 use Rattle.std.specs.List.{list_any}
 use Rattle.rec_syntax.specs.Tokens.{Word}
-use Rattle.rec_syntax.specs.Syntax.{Term, Terms, Apply, none, more, Spec, head, arguments, subterms, subterms_all}
+use Rattle.rec_syntax.specs.Syntax.{Term, Terms, Apply, none, more, Spec, head, subterms, subterms_all}
 use Rattle.rec_syntax.specs.Nodes.{Node, flat, flat_all, term_count}
 use Rattle.rec_sorts.specs.Lookup.{mentions, is_variable}
 use Rattle.rec_sorts.specs.SpecRules.{heads, everywhere, missing, variables_among, taken_variables}
-use Rattle.rec_sorts.specs.Least.{earlier, least_of, least_place, place_where}
+use Rattle.rec_sorts.specs.Least.{least_of, least_place, place_where}
 use Rattle.rec_sorts.specs.Scope.{meaning_of}
 use Rattle.rec_sorts.specs.Letters.{placed_by}
 use Rattle.rec_sorts.specs.Reading.{letters_of, is_the_variable, binds_variable, is_unbound, unbound_among}

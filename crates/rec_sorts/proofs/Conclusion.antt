@@ -1,19 +1,17 @@
 -- The places that are found are those of the rules, in their order.
 use Rattle.std.proofs.Common.{refl, sym, ap, ◌∙◌}
-use Rattle.std.specs.Prelude.{ℕ, ◌≡◌, Bool, true, false, not, cond, List, [], ◌∷◌, ◌++◌, Option, Some, None, map, flat_map, filter}
-use Rattle.rec_syntax.specs.Tokens.{Word}
+use Rattle.std.specs.Prelude.{ℕ, ◌≡◌, Bool, not, cond, List, [], ◌∷◌, ◌++◌, Option, Some, None, map, flat_map}
 use Rattle.rec_syntax.specs.Syntax.{Term, Condition, Rule, Spec, head, subterms}
-use Rattle.rec_sorts.specs.Lookup.{mentions, repeated, symbols, names, variable_words, rule_terms, condition_terms}
-use Rattle.rec_sorts.specs.SpecRules.{heads, everywhere, all_terms, is_filled, ill_sorted_in, unlike, missing, variables_among, sorts_of, fault, all_rules, first_broken, repeated_sorts, repeated_symbols, taken_variables, unknown_sorts, unknown_words, ill_filled, ill_sorted, ill_headed, unlike_sides, unbound, open_terms}
+use Rattle.rec_sorts.specs.Lookup.{mentions, symbols, names, variable_words, rule_terms, condition_terms}
+use Rattle.rec_sorts.specs.SpecRules.{heads, everywhere, all_terms, is_filled, ill_sorted_in, unlike, missing, variables_among, fault, all_rules, repeated_sorts, repeated_symbols, taken_variables, unknown_sorts, unknown_words, ill_filled, ill_sorted, ill_headed, unlike_sides, unbound, open_terms}
 use Rattle.rec_sorts.specs.Least.{earlier, least_of, least_place, place_where, joined}
-use Rattle.rec_sorts.specs.Names.{first_at}
 use Rattle.rec_sorts.specs.Letters.{unknown_among, ill_filled_among, ill_sorted_among}
-use Rattle.rec_sorts.specs.Reading.{letters_of, nowhere, term_places, ill_headed_at, unlike_at, binds_variable, unbound_among, condition_places, conditions_places, rule_places, rules_places, open_term_places, open_terms_places}
+use Rattle.rec_sorts.specs.Reading.{letters_of, nowhere, ill_headed_at, unlike_at, binds_variable, unbound_among, condition_places, conditions_places, rule_places, rules_places, open_term_places, open_terms_places}
 use Rattle.rec_sorts.specs.SortFaults.{first_place}
 use Rattle.rec_sorts.specs.Agreeing.{IsScope}
 use Rattle.rec_sorts.specs.declared.places.TermPlaces.{TermPlaces}
 use Rattle.rec_sorts.specs.declared.scope.Scope.{Scope}
-use Rattle.rec_sorts.proofs.LeastPlaces.{earlier_none, earlier_assoc, Agree, first_place-Agree}
+use Rattle.rec_sorts.proofs.LeastPlaces.{earlier_none, earlier_assoc, first_place-Agree}
 use Rattle.rec_sorts.proofs.Subterms.{least_of-append, least_of-map, least_of-flat_map, least_of-filter, least_of-same, place_where-cond, least_place-heads, least_place-heads_of, least_of-conditions, least_of-rules}
 use Rattle.rec_sorts.proofs.Agreement.{unknown-term, filled-term, sorted-term, unlike-terms, headed-term}
 use Rattle.rec_sorts.proofs.Bound.{unbound-terms, open-terms}

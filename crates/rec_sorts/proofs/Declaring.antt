@@ -1,8 +1,8 @@
 -- The declarations that are read are those of the specification.
 use Rattle.std.proofs.Common.{refl, sym, ap, subst, ◌∙◌, arith}
-use Rattle.std.proofs.lemmas.List.{append-nil, length-map, length-append, take-map, drop-map}
+use Rattle.std.proofs.lemmas.List.{append-nil, length-map, take-map, drop-map}
 use Rattle.std.proofs.Math.Seq.{take-append_seam, drop-append_seam}
-use Rattle.std.specs.Prelude.{ℕ, ◌≡◌, Bool, not, List, [], ◌∷◌, ◌++◌, Option, Some, None, All, length, map, flat_map, take, drop, is_some, is_none}
+use Rattle.std.specs.Prelude.{ℕ, ◌≡◌, not, List, [], ◌++◌, Option, Some, None, All, length, map, flat_map, take, drop, is_some, is_none}
 use Rattle.rec_syntax.specs.Tokens.{Word}
 use Rattle.rec_syntax.specs.Syntax.{Declaration, Variables, Spec}
 use Rattle.rec_syntax.specs.Parts.{words_of, Within, declaration_of, group_of}

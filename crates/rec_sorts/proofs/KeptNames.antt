@@ -5,24 +5,24 @@ use Rattle.std.proofs.lemmas.Bool.{eqb-true}
 use Rattle.std.proofs.lemmas.Bool.{false≢true, leb-true, le-leb}
 use Rattle.std.proofs.lemmas.List.{length-map}
 use Rattle.std.proofs.lemmas.Slice.Eq.{bytes_eq-Decides}
-use Rattle.std.specs.Prelude.{ℕ, ◌≡◌, ◌+◌, ◌<◌, ◌≤◌, Bool, true, false, not, ◌&&◌, ◌||◌, List, [], ◌∷◌, ◌++◌, Option, Some, None, suc, length, map, flat_map, nat_eq, nat_le, bytes_eq, is_some}
+use Rattle.std.specs.Prelude.{ℕ, ◌≡◌, ◌+◌, ◌<◌, ◌≤◌, Bool, true, false, ◌&&◌, ◌||◌, List, [], ◌∷◌, ◌++◌, Option, Some, None, length, map, flat_map, nat_eq, nat_le, bytes_eq, is_some}
 use Rattle.std.specs.Option.{option_map, option_and_then, option_eq}
 use Rattle.rec_syntax.specs.Tokens.{Word}
 use Rattle.rec_syntax.specs.Syntax.{Declaration, Variables, Spec}
 use Rattle.rec_sorts.specs.Lookup.{mentions, repeated, symbols, names, variable_words, declared, symbol, is_variable, variable_sort, same_sort}
-use Rattle.rec_sorts.specs.SpecRules.{missing, sorts_of, repeated_symbols, taken_variables, unknown_sorts}
+use Rattle.rec_sorts.specs.SpecRules.{sorts_of, repeated_symbols, taken_variables, unknown_sorts}
 use Rattle.rec_sorts.specs.Laws.{Every}
-use Rattle.rec_sorts.specs.Names.{Numbers, first_at}
+use Rattle.rec_sorts.specs.Names.{first_at}
 use Rattle.rec_sorts.specs.Scope.{meaning_of, is_operator}
 use Rattle.rec_sorts.specs.Reading.{is_unbound}
 use Rattle.rec_sorts.specs.Agreeing.{IsScope}
 use Rattle.rec_sorts.specs.declared.letters.Meaning.{Meaning}
-use Rattle.rec_sorts.specs.declared.letters.Meaning.TheVariants.{Symbol, Variable}
+use Rattle.rec_sorts.specs.declared.letters.Meaning.TheVariants.{Variable}
 use Rattle.rec_sorts.specs.declared.scope.Scope.{Scope}
 use Rattle.rec_sorts.proofs.Kept.{bytes_eq-eq, repeated_none, not_before, missing_none}
 use Rattle.rec_sorts.proofs.Tables.{is_some-first_at}
 use Rattle.rec_sorts.proofs.Stacks.{map-append}
-use Rattle.rec_sorts.proofs.Meanings.{first_at-among, first_at-after, first_at-one, mentions-declared, meaning-symbol, meaning-variable, sort_by, some_number, some_same, shifted}
+use Rattle.rec_sorts.proofs.Meanings.{first_at-among, first_at-after, first_at-one, mentions-declared, meaning-symbol, meaning-variable, some_number, some_same, shifted}
 
 shifted_least : (n : ℕ) (o : Option ℕ) (k : ℕ) → shifted n o ≡ Some k → n ≤ k
 shifted_least n None k e = absurd (cc e)

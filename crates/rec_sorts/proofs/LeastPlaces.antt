@@ -1,6 +1,6 @@
 -- Least places: their laws, and the first rule with a place.
 use Rattle.std.proofs.Common.{refl, sym, ap, ◌∙◌, arith}
-use Rattle.std.specs.Prelude.{ℕ, ◌≡◌, Bool, true, false, List, [], ◌∷◌, ◌++◌, Option, Some, None, min, suc}
+use Rattle.std.specs.Prelude.{ℕ, ◌≡◌, List, [], ◌∷◌, ◌++◌, Option, Some, None, min, suc}
 use Rattle.rec_syntax.specs.Tokens.{Word}
 use Rattle.rec_sorts.specs.Lookup.{places}
 use Rattle.rec_sorts.specs.SpecRules.{Broken, Fault, first_broken, least}

@@ -2,20 +2,20 @@
 use Rattle.std.proofs.Common.{refl, sym, ap, subst, ◌∙◌, arith}
 use Rattle.std.proofs.lemmas.Bool.{false≢true}
 use Rattle.std.proofs.lemmas.List.{length-map, get_or_append_left}
-use Rattle.std.specs.Prelude.{ℕ, ◌≡◌, ◌+◌, ◌<◌, Bool, true, false, List, [], ◌∷◌, ◌++◌, Option, Some, None, zero, suc, length, map, get_or, All, is_none, unwrap_or}
+use Rattle.std.specs.Prelude.{ℕ, ◌≡◌, Bool, true, false, List, [], ◌∷◌, ◌++◌, Option, Some, None, zero, suc, length, map, get_or, All, is_none, unwrap_or}
 use Rattle.std.specs.Option.{option_map}
 use Rattle.rec_syntax.specs.Tokens.{Word}
 use Rattle.rec_syntax.specs.Syntax.{Term, Terms, Apply, none, more, Declaration, Condition, Rule, Spec}
 use Rattle.rec_syntax.specs.Nodes.{Node, flat, flat_all, term_count}
-use Rattle.rec_sorts.specs.Lookup.{symbols, names, variable_words, symbol, count}
-use Rattle.rec_sorts.specs.SpecRules.{fault, all_rules, unknown_words}
+use Rattle.rec_sorts.specs.Lookup.{symbols, names, variable_words, symbol}
+use Rattle.rec_sorts.specs.SpecRules.{fault, all_rules}
 use Rattle.rec_sorts.specs.Laws.{Every}
 use Rattle.rec_sorts.specs.Least.{earlier, least_of, least_place, place_where}
 use Rattle.rec_sorts.specs.Names.{first_at}
 use Rattle.rec_sorts.specs.Scope.{meaning_of}
 use Rattle.rec_sorts.specs.Letters.{placed_by, letter_of, bare, unknown_among}
 use Rattle.rec_sorts.specs.Reading.{letters_of, binds_variable, condition_places, conditions_places, rule_places, rules_places, open_term_places, open_terms_places, SpellsTerm, SpellsCondition, SpellsRule}
-use Rattle.rec_sorts.specs.Numbering.{IsMeaning, name_of, bytes_at, Named, named, named_all, named_by, AreLetters, Pairwise, IsLetterCondition, IsLetterRule}
+use Rattle.rec_sorts.specs.Numbering.{IsMeaning, name_of, Named, named, named_all, named_by, AreLetters, Pairwise, IsLetterCondition, IsLetterRule}
 use Rattle.rec_sorts.specs.Agreeing.{IsScope}
 use Rattle.rec_sorts.specs.declared.letters.Letter.{Letter}
 use Rattle.rec_sorts.specs.declared.letters.LetterCondition.{LetterCondition}
@@ -27,7 +27,7 @@ use Rattle.rec_sorts.proofs.Kept.{all_kept}
 use Rattle.rec_sorts.proofs.Subterms.{term_count-count}
 use Rattle.rec_sorts.proofs.Stacks.{map-append}
 use Rattle.rec_sorts.proofs.Meanings.{first_at-number, meaning-symbol, meaning-variable}
-use Rattle.rec_sorts.proofs.Conclusion.{conditions-field, rules-field, terms-field, found, unknown-found}
+use Rattle.rec_sorts.proofs.Conclusion.{conditions-field, rules-field, terms-field, unknown-found}
 
 abbrev named_node : Node → Named
 named_node n = record { name = n.word.bytes; arguments = n.count }
@@ -71,13 +71,13 @@ pair_each P R Q f (x ∷ xs) [] h k = absurd h
 
 module _ (y : Spec) (s : Scope) (h : IsScope y s) where
   -- what a name stands for, where it is declared
-  record StandsFor (name : List ℕ) : Type 0 where
+  pub record StandsFor (name : List ℕ) : Type 0 where
     pub meaning : Meaning
     pub stands : meaning_of s name ≡ Some meaning
     pub there : IsMeaning y meaning
     pub named_so : name_of y meaning ≡ name
 
-  stands_for : (name : List ℕ) → is_none (meaning_of s name) ≡ false → StandsFor name
+  pub stands_for : (name : List ℕ) → is_none (meaning_of s name) ≡ false → StandsFor name
   stands_for name known = by_symbol (symbol y name) refl
     where
       by_number : (o : Option ℕ) → first_at (variable_words y.variables) name ≡ o → meaning_of s name ≡ option_map (λ k. Variable k) o → StandsFor name

@@ -25,3 +25,6 @@ pub mod Lettering
 pub mod Declaring
 pub mod NamesThere
 pub mod Examining
+pub mod Walked
+pub mod GivenRules
+pub mod GivenLetters

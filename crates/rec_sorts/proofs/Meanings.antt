@@ -1,15 +1,15 @@
 -- What a name stands for, its sort and those of its arguments are as the specification declares them.
 use Rattle.std.proofs.Common.{refl, sym, ap, subst, ◌∙◌, arith}
 use Rattle.std.proofs.lemmas.Bool.{false≢true, lt-ltb, le-ltb}
-use Rattle.std.proofs.lemmas.List.{length-append, length-map, get_or-map, get_or_append_left, get_or-append-add}
-use Rattle.std.specs.Prelude.{ℕ, ◌≡◌, ◌+◌, ◌-◌, ◌<◌, ◌≤◌, Bool, true, false, not, ◌||◌, List, [], ◌∷◌, ◌++◌, Option, Some, None, suc, length, map, flat_map, get_or, nat_lt, bytes_eq, cond, is_some, is_none}
+use Rattle.std.proofs.lemmas.List.{length-map, get_or-map, get_or_append_left, get_or-append-add}
+use Rattle.std.specs.Prelude.{ℕ, ◌≡◌, ◌+◌, ◌-◌, ◌<◌, Bool, true, false, not, ◌||◌, List, [], ◌∷◌, ◌++◌, Option, Some, None, suc, length, map, get_or, bytes_eq, cond, is_some, is_none}
 use Rattle.std.specs.Option.{option_map, option_and_then}
 use Rattle.rec_syntax.specs.Tokens.{Word}
 use Rattle.rec_syntax.specs.Syntax.{Declaration, Variables, Spec}
-use Rattle.rec_sorts.specs.Lookup.{mentions, symbols, names, variable_words, declared, symbol, is_variable, variable_sort}
-use Rattle.rec_sorts.specs.Names.{Numbers, given_to, first_at}
+use Rattle.rec_sorts.specs.Lookup.{mentions, symbols, names, variable_words, declared, symbol, variable_sort}
+use Rattle.rec_sorts.specs.Names.{Numbers, first_at}
 use Rattle.rec_sorts.specs.Declaring.{sort_numbers}
-use Rattle.rec_sorts.specs.Scope.{numbered, meaning_of, sort_at, arguments_at, is_operator}
+use Rattle.rec_sorts.specs.Scope.{numbered, meaning_of, sort_at, arguments_at}
 use Rattle.rec_sorts.specs.Agreeing.{IsScope, variable_sorts}
 use Rattle.rec_sorts.specs.declared.letters.Meaning.{Meaning}
 use Rattle.rec_sorts.specs.declared.letters.Meaning.TheVariants.{Symbol, Variable}

@@ -1,8 +1,8 @@
 -- The places of a rule, as they are found.
 use Rattle.std.proofs.Common.{refl, sym, ap, ◌∙◌}
-use Rattle.std.specs.Prelude.{ℕ, ◌≡◌, Bool, true, false, cond, List, [], ◌∷◌, Option, Some, None, bytes_eq}
+use Rattle.std.specs.Prelude.{ℕ, ◌≡◌, Bool, true, false, cond, List, Option, Some, None, bytes_eq}
 use Rattle.rec_syntax.specs.Syntax.{Term, Condition}
-use Rattle.rec_sorts.specs.Least.{earlier, joined}
+use Rattle.rec_sorts.specs.Least.{joined}
 use Rattle.rec_sorts.specs.Names.{Numbers, given_first}
 use Rattle.rec_sorts.specs.Reading.{letters_of, nowhere, term_places, ill_headed_at, unlike_at, binds_variable, unbound_among, conditions_places, rule_places, open_term_places}
 use Rattle.rec_sorts.specs.declared.places.TermPlaces.{TermPlaces}

@@ -2,10 +2,10 @@
 use Rattle.std.proofs.Common.{refl, sym, ap, ◌∙◌, arith, append_assoc}
 use Rattle.std.proofs.lemmas.List.{append-nil, length-append}
 use Rattle.std.proofs.Math.Seq.{take-append_seam, drop-append_seam}
-use Rattle.std.specs.Prelude.{ℕ, ◌≡◌, ◌+◌, ◌-◌, List, [], ◌∷◌, ◌++◌, Option, Some, None, length, map, take, drop}
+use Rattle.std.specs.Prelude.{ℕ, ◌≡◌, ◌-◌, List, [], ◌∷◌, ◌++◌, Option, length, map, take, drop}
 use Rattle.rec_syntax.specs.Tokens.{Word}
 use Rattle.rec_syntax.specs.Syntax.{Term, Terms, Apply, none, more, subterms, subterms_all}
-use Rattle.rec_syntax.specs.Nodes.{Node, flat, flat_all, term_count}
+use Rattle.rec_syntax.specs.Nodes.{flat, flat_all, term_count}
 use Rattle.rec_sorts.specs.Least.{earlier, least_of}
 use Rattle.rec_sorts.specs.Scope.{meaning_of, arguments_at}
 use Rattle.rec_sorts.specs.Letters.{placed_by, misplaced, ill_sorted_among}

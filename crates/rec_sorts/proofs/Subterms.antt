@@ -1,11 +1,11 @@
 -- The least place over the nodes of a term is that over its subterms.
-use Rattle.std.proofs.Common.{refl, sym, ap, ◌∙◌, arith, add-one}
-use Rattle.std.specs.Prelude.{ℕ, ◌≡◌, ◌+◌, Bool, true, false, not, cond, List, [], ◌∷◌, ◌++◌, Option, Some, None, suc, map, flat_map, filter}
+use Rattle.std.proofs.Common.{refl, sym, ap, ◌∙◌, add-one}
+use Rattle.std.specs.Prelude.{ℕ, ◌≡◌, Bool, true, false, cond, List, [], ◌∷◌, ◌++◌, Option, Some, None, suc, map, flat_map, filter}
 use Rattle.rec_syntax.specs.Tokens.{Word}
 use Rattle.rec_syntax.specs.Syntax.{Term, Terms, Apply, none, more, Condition, Rule, head, arguments, subterms, subterms_all}
-use Rattle.rec_syntax.specs.Nodes.{Node, flat, flat_all, term_count}
+use Rattle.rec_syntax.specs.Nodes.{flat, flat_all, term_count}
 use Rattle.rec_sorts.specs.Lookup.{count, rule_terms, condition_terms}
-use Rattle.rec_sorts.specs.SpecRules.{heads, everywhere}
+use Rattle.rec_sorts.specs.SpecRules.{heads}
 use Rattle.rec_sorts.specs.Least.{earlier, least_of, least_place, place_where}
 use Rattle.rec_sorts.proofs.LeastPlaces.{earlier_none, earlier_assoc, earlier_comm, earlier_swap}
 use Rattle.rec_sorts.proofs.Tables.{same_function}

@@ -1,7 +1,7 @@
 -- Names get the numbers of their first places, and words that repeat are found.
 use Rattle.std.proofs.Common.{refl, sym, ap, subst, ◌∙◌, arith, append_assoc}
 use Rattle.std.proofs.lemmas.List.{append-nil, length-append}
-use Rattle.std.specs.Prelude.{ℕ, ◌≡◌, ◌+◌, Bool, true, false, ◌||◌, List, [], ◌∷◌, ◌++◌, Option, Some, None, suc, length, bytes_eq, is_some}
+use Rattle.std.specs.Prelude.{ℕ, ◌≡◌, Bool, true, false, ◌||◌, List, [], ◌∷◌, ◌++◌, Option, Some, None, suc, length, bytes_eq, is_some}
 use Rattle.std.specs.Option.{option_map}
 use Rattle.rec_syntax.specs.Tokens.{Word}
 use Rattle.rec_sorts.specs.Lookup.{mentions, repeated}

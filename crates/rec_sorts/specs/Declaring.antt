@@ -1,5 +1,5 @@
 -- What is declared, by numbers.
-use Rattle.std.specs.Prelude.{ℕ, ◌≡◌, List, [], ◌∷◌, ◌++◌, Option, Some, None, map, flat_map, All, is_none}
+use Rattle.std.specs.Prelude.{ℕ, ◌≡◌, List, [], ◌∷◌, ◌++◌, Option, map, All, is_none}
 use Rattle.rec_syntax.specs.Tokens.{Word}
 use Rattle.rec_syntax.specs.Syntax.{Declaration, Variables}
 use Rattle.rec_syntax.specs.Parts.{words_of, Within}

@@ -1,11 +1,11 @@
 -- The words of terms with their places, and where they break rules.
-use Rattle.std.specs.Prelude.{ℕ, ◌-◌, Bool, true, false, not, List, [], ◌∷◌, ◌++◌, Option, Some, None, length, map, take, drop, nat_eq, is_none, unwrap_or}
+use Rattle.std.specs.Prelude.{ℕ, ◌-◌, not, List, [], ◌∷◌, ◌++◌, Option, None, length, map, take, drop, nat_eq, is_none, unwrap_or}
 use Rattle.std.specs.Option.{option_eq}
 use Rattle.rec_syntax.specs.Nodes.{Node}
 use Rattle.rec_sorts.specs.Least.{earlier, least_of, place_where}
 use Rattle.rec_sorts.specs.Scope.{meaning_of, sort_at, arguments_at}
 use Rattle.rec_sorts.specs.declared.letters.Letter.{Letter}
-use Rattle.rec_sorts.specs.declared.letters.Meaning.TheVariants.{Symbol, Variable}
+use Rattle.rec_sorts.specs.declared.letters.Meaning.TheVariants.{Symbol}
 use Rattle.rec_sorts.specs.declared.scope.Scope.{Scope}
 use Rattle.rec_sorts.specs.declared.terms.Placed.{Placed}
 

@@ -14,3 +14,7 @@ pub mod CheckedView
 pub mod Declaring
 pub mod Reading
 pub mod Agreeing
+pub mod TermsFaults
+pub mod Walking
+pub mod ListNodes
+pub mod GivenTerms

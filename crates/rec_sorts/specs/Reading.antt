@@ -1,5 +1,5 @@
 -- The letters of terms and rules, and the least places at which they break rules.
-use Rattle.std.specs.Prelude.{ℕ, ◌≡◌, ◌-◌, Bool, true, false, not, List, [], ◌∷◌, Option, Some, None, length, map, slice_get, nat_eq}
+use Rattle.std.specs.Prelude.{ℕ, ◌≡◌, ◌-◌, Bool, false, not, List, [], ◌∷◌, Option, Some, None, length, map, slice_get, nat_eq}
 use Rattle.std.specs.List.{list_any}
 use Rattle.std.specs.Option.{option_eq}
 use Rattle.rec_syntax.specs.Syntax.{Term, Condition, Rule}

@@ -2,7 +2,7 @@
 use Rattle.std.specs.Prelude.{ℕ, Bool, true, false, ◌||◌, not, List, [], ◌∷◌, ◌++◌, Option, Some, None, flat_map, length, nat_eq}
 use Rattle.std.specs.Bool.{beq}
 use Rattle.std.specs.List.{list_any}
-use Rattle.rx_term.specs.Tree.{Tree, Trees, Int, Appl, Items, Hole, none, more, to_list, annotations}
+use Rattle.rx_term.specs.Tree.{Tree, Trees, Appl, Items, none, more, to_list, annotations}
 use Rattle.rx_term.specs.Name.{plain_name}
 use Rattle.rec_syntax.specs.Tokens.{Word}
 use Rattle.rec_syntax.specs.Syntax.{Declaration, Spec}

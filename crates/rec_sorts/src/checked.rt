@@ -45,9 +45,10 @@ impl Model for Checked {
 }
 
 impl Checked {
-    /// The specification.
+    /// The specification, which keeps its rules.
     pub fn syntax(&self) -> &Syntax
-        ensures { result.now ≡ self.now }
+        ensures same { result.now ≡ self.now }
+        ensures kept { fault self.now.spec ≡ None }
     {
         &self.syntax
     }

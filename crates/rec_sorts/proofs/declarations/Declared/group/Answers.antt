@@ -1,8 +1,7 @@
-use Rattle.std.proofs.Common.{arith, ap, sym, ◌∙◌, map}
+use Rattle.std.proofs.Common.{arith, ap, sym, ◌∙◌}
 use Rattle.std.proofs.lemmas.List.{append-nil}
 use Rattle.rec_syntax.specs.Lexemes.{word_of}
 use Rattle.rec_sorts.specs.Least.{earlier}
-use Rattle.rec_sorts.specs.declared.declarations.Declared.{Declared}
 use Rattle.rec_sorts.proofs.LeastPlaces.{earlier_none}
 use Rattle.rec_sorts.proofs.Additions.{words_pushed, sorts_pushed, all_within_pushed, lists}
 use Rattle.rec_sorts.proofs.declarations.Declared.group.Goals as goal

@@ -1,7 +1,6 @@
-use Rattle.std.proofs.Common.{ap, sym, ◌∙◌, map, ◌++◌, ◌∷◌, []}
+use Rattle.std.proofs.Common.{ap, ◌∙◌, map, ◌++◌, ◌∷◌, []}
 use Rattle.rec_syntax.specs.Lexemes.{word_of}
 use Rattle.rec_syntax.specs.Parts.{words_of}
-use Rattle.rec_sorts.specs.Least.{earlier}
 use Rattle.rec_sorts.specs.Names.{given_to}
 use Rattle.rec_sorts.specs.Declaring.{sort_numbers, least_unnumbered}
 use Rattle.rec_sorts.proofs.Stacks.{map-append}

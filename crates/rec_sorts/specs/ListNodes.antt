@@ -1,0 +1,14 @@
+-- The nodes that are found in a list of terms.
+use Rattle.std.specs.Prelude.{◌≡◌, List, flat_map}
+use Rattle.rx_term.specs.Tree.{Tree, to_list}
+use Rattle.rx_term.specs.Store.{Store}
+use Rattle.rec_sorts.specs.TermRules.{arguments}
+use Rattle.rec_sorts.specs.Walking.{held_trees, AreHeld, unstacked}
+use Rattle.rec_sorts.specs.declared.walk.ListNodes.{ListNodes}
+
+-- they are the nodes of these terms, and those of the terms' arguments
+pub record AreNodes (w : Store) (ts : List Tree) (n : ListNodes) : Type 0 where
+  pub all_held : AreHeld w n.all.items
+  pub inner_held : AreHeld w n.inner.items
+  pub all_found : held_trees w n.all.items ≡ unstacked ts
+  pub inner_found : held_trees w n.inner.items ≡ unstacked (flat_map (λ t. to_list (arguments t)) ts)

@@ -1,0 +1,36 @@
+-- The trees of references, and the order in which a walk finds the nodes of terms.
+use Rattle.std.specs.Prelude.{List, [], ◌∷◌, ◌++◌, All, IsSome, map, unwrap_or}
+use Rattle.rx_term.specs.Tree.{Tree, Trees, Appl, Items, none, more, list_of}
+use Rattle.rx_term.specs.Store.{Store, tree_at}
+use Rattle.rx_term.specs.declared.Term.{Term}
+
+-- the tree of a reference; the empty list, where there is none
+abbrev pub held_tree : Store → Term → Tree
+held_tree w r = unwrap_or (tree_at w r) (list_of none)
+
+abbrev pub held_trees : Store → List Term → List Tree
+held_trees w rs = map (held_tree w) rs
+
+-- each of these references has a tree
+abbrev pub AreHeld : Store → List Term → Type 0
+AreHeld w rs = All (λ r. IsSome (tree_at w r)) rs
+
+-- the items of a list; nothing, where a tree is no list
+abbrev pub items_of : Tree → Trees
+items_of (Items items anns) = items
+items_of t = none
+
+abbrev mutual
+  -- the nodes of a term, those of its arguments from right to left, each before its own arguments
+  pub backwards : Tree → List Tree
+  backwards (Appl name quoted args anns) = Appl name quoted args anns ∷ backwards_all args
+  backwards t = t ∷ []
+
+  pub backwards_all : Trees → List Tree
+  backwards_all none = []
+  backwards_all (more t ts) = backwards_all ts ++ backwards t
+
+-- the nodes of the terms on a stack, of which the last is on top
+abbrev pub unstacked : List Tree → List Tree
+unstacked [] = []
+unstacked (t ∷ ts) = unstacked ts ++ backwards t

@@ -1,0 +1,282 @@
+//! The rules of given terms, and their letters.
+
+ghost use Rattle.std.specs.Prelude.{◌≡◌, None, Some, List, IsSome, IfSome, IfOk, IfErr, OnOk, is_some, length, map, reverse};
+ghost use Rattle.std.specs.List.{list_any};
+ghost use Rattle.rx_term.specs.Tree.{Tree, count_of};
+ghost use Rattle.rx_term.specs.Store.{tree_at};
+ghost use Rattle.rec_sorts.specs.TermRules.{arguments, elements, is_no_application, is_annotated, broken_by_terms};
+ghost use Rattle.rec_sorts.specs.TermsFaults.{IsTermsFault};
+ghost use Rattle.rec_sorts.specs.Evaluation.{term_of};
+ghost use Rattle.rec_sorts.specs.Numbering.{Pairwise, AreLetters};
+ghost use Rattle.rec_sorts.specs.Agreeing.{IsScope};
+ghost use Rattle.rec_sorts.specs.Walking.{held_tree, held_trees, AreHeld, backwards};
+
+use crate::checked::Checked;
+use crate::fault::TermsFault;
+use crate::letters::{Letter, Meaning};
+use crate::scope::Scope;
+use crate::symbols::{read_scope, read_sorts};
+use crate::walk::{list_nodes, nodes, push_items};
+use rec_syntax::Syntax;
+use rx_term::{Kind, Term, TermBank, plain_name};
+use std::alloc::{AllocError, Global};
+
+// What a specification declares.
+fn scope_of(alloc: Global, syntax: &Syntax) -> Result<Scope<'_>, AllocError>
+    ensures { IfOk result (IsScope syntax.now.spec) }
+{
+    let sorts = read_sorts(alloc, syntax)?;
+    let declared = read_scope(alloc, syntax, &sorts.sorts)?;
+    Ok(declared.scope)
+}
+
+// Whether a term is a list without annotations.
+fn is_plain_list<B: TermBank>(bank: &B, term: Term) -> bool
+    requires { IsSome (tree_at (B.store bank.now) term) }
+    ensures { result ≡ is_some (elements (held_tree (B.store bank.now) term)) }
+{
+    match bank.kind(term) {
+        Kind::Nil | Kind::Cons => bank.anns(term).is_none(),
+        _ => false,
+    }
+}
+
+// Whether some of these nodes is no application.
+fn any_no_application<B: TermBank>(bank: &B, nodes: &[Term]) -> bool
+    requires { AreHeld (B.store bank.now) nodes.now }
+    ensures { result ≡ list_any (λ r. is_no_application (held_tree (B.store bank.now) r)) nodes.now }
+{
+    for node in nodes {
+        let Kind::Appl(_) = bank.kind(*node) else {
+            return true;
+        };
+    }
+    false
+}
+
+// Whether some of these nodes has annotations.
+fn any_annotated<B: TermBank>(bank: &B, nodes: &[Term]) -> bool
+    requires { AreHeld (B.store bank.now) nodes.now }
+    ensures { result ≡ list_any (λ r. is_annotated (held_tree (B.store bank.now) r)) nodes.now }
+{
+    for node in nodes {
+        if bank.anns(*node).is_some() {
+            return true;
+        }
+    }
+    false
+}
+
+// How many arguments a node has.
+fn argument_count<B: TermBank>(bank: &B, node: Term) -> u32
+    requires { IsSome (tree_at (B.store bank.now) node) }
+    ensures { result ≡ count_of (arguments (held_tree (B.store bank.now) node)) }
+{
+    match bank.kind(node) {
+        Kind::Appl(symbol) => bank.arity_of(symbol),
+        _ => 0,
+    }
+}
+
+impl Scope<'_> {
+    ghost use Rattle.rec_sorts.specs.GivenTerms.{symbol_at, is_nameless, is_misfilled, are_misfits, has_misfit, node_letter, broken_by_nodes};
+
+    // The symbol that a node stands for: one of its name, which stands unquoted where it may.
+    fn symbol<B: TermBank>(&self, bank: &B, node: Term) -> Option<Meaning>
+        requires { IsSome (tree_at (B.store bank.now) node) }
+        ensures { result ≡ symbol_at self.now (held_tree (B.store bank.now) node) }
+    {
+        let Kind::Appl(symbol) = bank.kind(node) else {
+            return None;
+        };
+        let name = bank.name_of(symbol);
+        if bank.quoted_of(symbol) == plain_name(name) {
+            return None;
+        }
+        match self.meaning(name) {
+            Some(Meaning::Symbol(number)) => Some(Meaning::Symbol(number)),
+            _ => None,
+        }
+    }
+
+    // Whether some of these nodes stands for no symbol.
+    fn any_nameless<B: TermBank>(&self, bank: &B, nodes: &[Term]) -> bool
+        requires { AreHeld (B.store bank.now) nodes.now }
+        ensures { result ≡ list_any (λ r. is_nameless self.now (held_tree (B.store bank.now) r)) nodes.now }
+    {
+        for node in nodes {
+            if self.symbol(bank, *node).is_none() {
+                return true;
+            }
+        }
+        false
+    }
+
+    // Whether a node has another number of arguments than its symbol is declared with.
+    fn is_misfilled<B: TermBank>(&self, bank: &B, node: Term) -> bool
+        requires { IsSome (tree_at (B.store bank.now) node) }
+        ensures { result ≡ is_misfilled self.now (held_tree (B.store bank.now) node) }
+    {
+        let symbol = self.symbol(bank, node);
+        let count = argument_count(bank, node);
+        symbol.is_some() && count as usize != self.arguments(symbol).len()
+    }
+
+    // Whether some of these nodes has.
+    fn any_misfilled<B: TermBank>(&self, bank: &B, nodes: &[Term]) -> bool
+        requires { AreHeld (B.store bank.now) nodes.now }
+        ensures { result ≡ list_any (λ r. is_misfilled self.now (held_tree (B.store bank.now) r)) nodes.now }
+    {
+        for node in nodes {
+            if self.is_misfilled(bank, *node) {
+                return true;
+            }
+        }
+        false
+    }
+
+    // Whether an argument of a node has another sort than declared for its place.
+    fn has_misfit<B: TermBank>(&self, bank: &B, node: Term) -> bool
+        requires { IsSome (tree_at (B.store bank.now) node) }
+        ensures { result ≡ has_misfit self.now (held_tree (B.store bank.now) node) }
+    {
+        let Kind::Appl(_) = bank.kind(node) else {
+            return false;
+        };
+        let mut rest = bank.args(node);
+        for sort in self.arguments(self.symbol(bank, node)) {
+            let Kind::Cons = bank.kind(rest) else {
+                return false;
+            };
+            if self.sort(self.symbol(bank, bank.head(rest))) != *sort {
+                return true;
+            }
+            rest = bank.tail(rest);
+        }
+        false
+    }
+
+    // Whether some of these nodes has such an argument.
+    fn any_misfit<B: TermBank>(&self, bank: &B, nodes: &[Term]) -> bool
+        requires { AreHeld (B.store bank.now) nodes.now }
+        ensures { result ≡ list_any (λ r. has_misfit self.now (held_tree (B.store bank.now) r)) nodes.now }
+    {
+        for node in nodes {
+            if self.has_misfit(bank, *node) {
+                return true;
+            }
+        }
+        false
+    }
+
+    // The letter of a node that stands for a symbol.
+    fn node_letter<B: TermBank>(&self, bank: &B, node: Term) -> Letter
+        requires { IsSome (tree_at (B.store bank.now) node) }
+        ensures { result ≡ node_letter self.now (held_tree (B.store bank.now) node) }
+    {
+        Letter {
+            meaning: self.symbol(bank, node).unwrap_or(Meaning::Symbol(0)),
+            count: argument_count(bank, node),
+        }
+    }
+
+    // The letters of a term.
+    fn letters_of<B: TermBank>(
+        &self,
+        alloc: Global,
+        bank: &B,
+        term: Term,
+    ) -> Result<Vec<Letter>, AllocError>
+        requires { IsSome (tree_at (B.store bank.now) term) }
+        ensures { IfOk result (λ v. v.items ≡ reverse (map (node_letter self.now) (backwards (held_tree (B.store bank.now) term)))) }
+    {
+        let mut stack = Vec::new(alloc);
+        stack.push(term)?;
+        let found = nodes(alloc, bank, stack)?;
+        let mut letters = Vec::new(alloc);
+        for node in &found {
+            letters.push(self.node_letter(bank, *node))?;
+        }
+        letters.reverse();
+        Ok(letters)
+    }
+
+    // The first of the rules 2 to 6 that some nodes break, of which the inner ones may not have annotations.
+    fn first_broken<B: TermBank>(&self, bank: &B, all: &[Term], inner: &[Term]) -> Option<u8>
+        requires all { AreHeld (B.store bank.now) all.now }
+        requires inner { AreHeld (B.store bank.now) inner.now }
+        ensures { result ≡ broken_by_nodes self.now (held_trees (B.store bank.now) all.now) (held_trees (B.store bank.now) inner.now) }
+    {
+        if any_no_application(bank, all) {
+            Some(2)
+        } else if any_annotated(bank, inner) {
+            Some(3)
+        } else if self.any_nameless(bank, all) {
+            Some(4)
+        } else if self.any_misfilled(bank, all) {
+            Some(5)
+        } else if self.any_misfit(bank, all) {
+            Some(6)
+        } else {
+            None
+        }
+    }
+}
+
+// The first of the six rules that a list of given terms breaks.
+fn broken_rule<B: TermBank>(
+    alloc: Global,
+    checked: &Checked,
+    bank: &B,
+    list: Term,
+) -> Result<Option<u8>, AllocError>
+    requires { IsSome (tree_at (B.store bank.now) list) }
+    ensures { IfOk result (λ r. r ≡ broken_by_terms checked.now.spec (held_tree (B.store bank.now) list)) }
+{
+    if !is_plain_list(bank, list) {
+        return Ok(Some(1));
+    }
+    let scope = scope_of(alloc, checked.syntax())?;
+    let found = list_nodes(alloc, bank, list)?;
+    Ok(scope.first_broken(bank, &found.all, &found.inner))
+}
+
+/// Asks the six rules of a list of given terms. A fault names the first one that is broken, or says that memory ran out.
+pub fn check_terms<B: TermBank>(
+    alloc: Global,
+    checked: &Checked,
+    bank: &B,
+    list: Term,
+) -> Result<(), TermsFault>
+    requires { IsSome (tree_at (B.store bank.now) list) }
+    ensures kept { OnOk result (IfSome (tree_at (B.store bank.now) list) (λ t. broken_by_terms checked.now.spec t ≡ None)) }
+    ensures broken { IfErr result (λ fault. IfSome (tree_at (B.store bank.now) list) (λ t. IsTermsFault (broken_by_terms checked.now.spec t) fault)) }
+{
+    match broken_rule(alloc, checked, bank, list) {
+        Ok(None) => Ok(()),
+        Ok(Some(number)) => Err(TermsFault::Rule { number }),
+        Err(_) => Err(TermsFault::Memory),
+    }
+}
+
+/// The letters of given terms that keep the rules: a vector for each, in their order.
+pub fn term_letters<B: TermBank>(
+    alloc: Global,
+    checked: &Checked,
+    bank: &B,
+    list: Term,
+) -> Result<Vec<Vec<Letter>>, AllocError>
+    requires held { IsSome (tree_at (B.store bank.now) list) }
+    requires kept { IfSome (tree_at (B.store bank.now) list) (λ t. broken_by_terms checked.now.spec t ≡ None) }
+    ensures letters { IfOk result (λ v. (t : Tree) (ts : List Tree) → tree_at (B.store bank.now) list ≡ Some t → elements t ≡ Some ts →
+        Pairwise (λ ls u. AreLetters checked.now.spec ls.items (term_of u)) v.items ts) }
+{
+    let scope = scope_of(alloc, checked.syntax())?;
+    let mut elements = Vec::new(alloc);
+    push_items(bank, list, &mut elements)?;
+    let mut letters = Vec::new(alloc);
+    for element in &elements {
+        letters.push(scope.letters_of(alloc, bank, *element)?)?;
+    }
+    Ok(letters)
+}

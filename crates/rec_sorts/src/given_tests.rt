@@ -1,0 +1,151 @@
+//! The rules of given terms, row by row, and their letters.
+
+use crate::{Checked, Letter, Meaning, TermsFault, check, check_terms, term_letters};
+use rec_syntax::read_spec;
+use rx_plain::PlainBank;
+use rx_text::read;
+use std::alloc::{AllocError, Global};
+use std::test::Fail;
+
+const Q: &[u8] =
+    b"REC-SPEC Q SORTS A B CONS a : -> A b : -> B OPNS f : A -> A VARS X Y : A RULES f(X) -> X EVAL f(a) END-SPEC";
+
+const ADD: &[u8] =
+    b"REC-SPEC Add SORTS Nat CONS z : -> Nat s : Nat -> Nat OPNS plus : Nat Nat -> Nat VARS X Y : Nat RULES plus(z,Y) -> Y plus(s(X),Y) -> s(plus(X,Y)) EVAL plus(s(s(z)),s(z)) END-SPEC";
+
+// A constant whose name is quoted in terms, and an operator with arguments of two sorts.
+const TWO: &[u8] =
+    b"REC-SPEC Two SORTS A B CONS 0 : -> A b : -> B OPNS g : A B -> A EVAL 0 END-SPEC";
+
+fn specification(alloc: Global, text: &[u8]) -> Result<Checked, Fail> {
+    Ok(check(alloc, read_spec(alloc, text)?)?)
+}
+
+// The number of the rule that terms break.
+fn broken(alloc: Global, specified: &[u8], terms: &[u8]) -> Result<Option<u8>, Fail> {
+    let checked = specification(alloc, specified)?;
+    let mut bank = PlainBank::new(alloc, 10_000)?;
+    let list = read(alloc, terms, &mut bank)?;
+    match check_terms(alloc, &checked, &bank, list) {
+        Ok(()) => Ok(None),
+        Err(TermsFault::Rule { number }) => Ok(Some(number)),
+        Err(TermsFault::Memory) => Err(Fail::from("memory")),
+    }
+}
+
+// The letters of terms.
+fn letters(alloc: Global, specified: &[u8], terms: &[u8]) -> Result<Vec<Vec<Letter>>, Fail> {
+    let checked = specification(alloc, specified)?;
+    let mut bank = PlainBank::new(alloc, 1000)?;
+    let list = read(alloc, terms, &mut bank)?;
+    check_terms(alloc, &checked, &bank, list)?;
+    Ok(term_letters(alloc, &checked, &bank, list)?)
+}
+
+fn symbol(number: u32, count: u32) -> Letter {
+    Letter {
+        meaning: Meaning::Symbol(number),
+        count,
+    }
+}
+
+// A list of one term, `f` of `f` of and so on.
+fn nested(alloc: Global, depth: u32) -> Result<Vec<u8>, AllocError> {
+    let mut bytes = Vec::new(alloc);
+    bytes.push(b'[')?;
+    for _ in 0..depth {
+        bytes.extend_from_slice(b"f(")?;
+    }
+    bytes.push(b'a')?;
+    for _ in 0..depth {
+        bytes.push(b')')?;
+    }
+    bytes.push(b']')?;
+    Ok(bytes)
+}
+
+#[test]
+fn no_list(rt: HostRuntime) -> Result<(), Fail> {
+    let alloc = rt.alloc();
+    assert_eq!(rt; broken(alloc, Q, b"a")?, Some(1));
+    assert_eq!(rt; broken(alloc, Q, b"[a]{a}")?, Some(1));
+    Ok(())
+}
+
+#[test]
+fn no_application(rt: HostRuntime) -> Result<(), Fail> {
+    let alloc = rt.alloc();
+    assert_eq!(rt; broken(alloc, Q, b"[f(a),3]")?, Some(2));
+    assert_eq!(rt; broken(alloc, Q, b"[a{a},<a>]")?, Some(2));
+    assert_eq!(rt; broken(alloc, Q, b"[g(1)]")?, Some(2));
+    assert_eq!(rt; broken(alloc, ADD, b"[plus(s(z),z),3]")?, Some(2));
+    assert_eq!(rt; broken(alloc, TWO, b"[0]")?, Some(2));
+    Ok(())
+}
+
+#[test]
+fn annotations_inside(rt: HostRuntime) -> Result<(), Fail> {
+    let alloc = rt.alloc();
+    assert_eq!(rt; broken(alloc, Q, b"[f(a{b})]")?, Some(3));
+    assert_eq!(rt; broken(alloc, Q, b"[a{b},f(a{b})]")?, Some(3));
+    Ok(())
+}
+
+#[test]
+fn undeclared(rt: HostRuntime) -> Result<(), Fail> {
+    let alloc = rt.alloc();
+    assert_eq!(rt; broken(alloc, Q, b"[\"a\"]")?, Some(4));
+    assert_eq!(rt; broken(alloc, Q, b"[X]")?, Some(4));
+    assert_eq!(rt; broken(alloc, Q, b"[\"a-b\"]")?, Some(4));
+    Ok(())
+}
+
+#[test]
+fn ill_filled(rt: HostRuntime) -> Result<(), Fail> {
+    let alloc = rt.alloc();
+    assert_eq!(rt; broken(alloc, Q, b"[f(a,a)]")?, Some(5));
+    assert_eq!(rt; broken(alloc, Q, b"[f]")?, Some(5));
+    Ok(())
+}
+
+#[test]
+fn ill_sorted(rt: HostRuntime) -> Result<(), Fail> {
+    let alloc = rt.alloc();
+    assert_eq!(rt; broken(alloc, Q, b"[f(b)]")?, Some(6));
+    assert_eq!(rt; broken(alloc, TWO, b"[g(\"0\",\"0\")]")?, Some(6));
+    Ok(())
+}
+
+#[test]
+fn kept(rt: HostRuntime) -> Result<(), Fail> {
+    let alloc = rt.alloc();
+    assert_eq!(rt; broken(alloc, Q, b"[f(a){a}]")?, None);
+    assert_eq!(rt; broken(alloc, Q, b"[a{3}]")?, None);
+    assert_eq!(rt; broken(alloc, Q, b"[f(a){b,[3]},a{f(a)}]")?, None);
+    assert_eq!(rt; broken(alloc, Q, b"[ b , f(f(a)) ]")?, None);
+    assert_eq!(rt; broken(alloc, Q, b"[]")?, None);
+    assert_eq!(rt; broken(alloc, TWO, b"[\"0\"]")?, None);
+    assert_eq!(rt; broken(alloc, TWO, b"[g(\"0\",b)]")?, None);
+    Ok(())
+}
+
+#[test]
+fn deep(rt: HostRuntime) -> Result<(), Fail> {
+    let alloc = rt.alloc();
+    let terms = nested(alloc, 2000)?;
+    assert_eq!(rt; broken(alloc, Q, &terms)?, None);
+    Ok(())
+}
+
+#[test]
+fn letters_in_order(rt: HostRuntime) -> Result<(), Fail> {
+    let alloc = rt.alloc();
+    let terms = letters(alloc, ADD, b"[plus(s(z),z),z{3}]")?;
+    assert_eq!(rt; terms.len(), 2);
+    assert_eq!(rt;
+        terms[0].as_slice(),
+        [symbol(0, 0), symbol(1, 1), symbol(0, 0), symbol(2, 2)].as_slice()
+    );
+    assert_eq!(rt; terms[1].as_slice(), [symbol(0, 0)].as_slice());
+    Ok(())
+}

@@ -1,0 +1,99 @@
+//! Walks over terms of a bank, by a stack of references.
+
+ghost use Rattle.std.specs.Prelude.{◌≡◌, ◌++◌, IsSome, IfOk, OnOk, flat_map};
+ghost use Rattle.rx_term.specs.Tree.{to_list};
+ghost use Rattle.rx_term.specs.Store.{tree_at};
+ghost use Rattle.rec_sorts.specs.TermRules.{arguments};
+ghost use Rattle.rec_sorts.specs.ListNodes.{AreNodes};
+ghost use Rattle.rec_sorts.specs.Walking.{held_tree, held_trees, AreHeld, items_of, unstacked};
+
+use rx_term::{Kind, Term, TermBank};
+use std::alloc::{AllocError, Global};
+
+/// The nodes of a list's items, and those below the items.
+#[derive(Drop)]
+pub struct ListNodes {
+    pub all: Vec<Term>,
+    pub inner: Vec<Term>,
+}
+
+/// Pushes the items of a list, in their order; nothing, where the term is no list.
+pub fn push_items<B: TermBank>(
+    bank: &B,
+    list: Term,
+    stack: &mut Vec<Term>,
+) -> Result<(), AllocError>
+    requires list { IsSome (tree_at (B.store bank.now) list) }
+    requires stack { AreHeld (B.store bank.now) stack.old.items }
+    ensures held { OnOk result (AreHeld (B.store bank.now) stack.new.items) }
+    ensures trees { OnOk result (held_trees (B.store bank.now) stack.new.items ≡ held_trees (B.store bank.now) stack.old.items ++ to_list (items_of (held_tree (B.store bank.now) list))) }
+{
+    let mut rest = list;
+    while let Kind::Cons = bank.kind(rest) {
+        stack.push(bank.head(rest))?;
+        rest = bank.tail(rest);
+    }
+    Ok(())
+}
+
+// Pushes the arguments of a term, from left to right; nothing, where it is no application.
+fn push_arguments<B: TermBank>(
+    bank: &B,
+    term: Term,
+    stack: &mut Vec<Term>,
+) -> Result<(), AllocError>
+    requires term { IsSome (tree_at (B.store bank.now) term) }
+    requires stack { AreHeld (B.store bank.now) stack.old.items }
+    ensures held { OnOk result (AreHeld (B.store bank.now) stack.new.items) }
+    ensures trees { OnOk result (held_trees (B.store bank.now) stack.new.items ≡ held_trees (B.store bank.now) stack.old.items ++ to_list (arguments (held_tree (B.store bank.now) term))) }
+{
+    if let Kind::Appl(_) = bank.kind(term) {
+        push_items(bank, bank.args(term), stack)
+    } else {
+        Ok(())
+    }
+}
+
+// The arguments of some terms, from left to right.
+fn arguments<B: TermBank>(alloc: Global, bank: &B, terms: &[Term]) -> Result<Vec<Term>, AllocError>
+    requires { AreHeld (B.store bank.now) terms.now }
+    ensures held { IfOk result (λ v. AreHeld (B.store bank.now) v.items) }
+    ensures trees { IfOk result (λ v. held_trees (B.store bank.now) v.items ≡ flat_map (λ t. to_list (arguments t)) (held_trees (B.store bank.now) terms.now)) }
+{
+    let mut found = Vec::new(alloc);
+    for term in terms {
+        push_arguments(bank, *term, &mut found)?;
+    }
+    Ok(found)
+}
+
+/// The nodes of the terms on a stack, from the last of the last one to the first of the first; a node stands before its arguments.
+pub fn nodes<B: TermBank>(
+    alloc: Global,
+    bank: &B,
+    mut stack: Vec<Term>,
+) -> Result<Vec<Term>, AllocError>
+    requires { AreHeld (B.store bank.now) stack.items }
+    ensures held { IfOk result (λ v. AreHeld (B.store bank.now) v.items) }
+    ensures trees { IfOk result (λ v. held_trees (B.store bank.now) v.items ≡ unstacked (held_trees (B.store bank.now) stack.items)) }
+{
+    let mut found = Vec::new(alloc);
+    while let Some(node) = stack.pop() {
+        found.push(node)?;
+        push_arguments(bank, node, &mut stack)?;
+    }
+    Ok(found)
+}
+
+/// The nodes of a list's items.
+pub fn list_nodes<B: TermBank>(alloc: Global, bank: &B, list: Term) -> Result<ListNodes, AllocError>
+    requires { IsSome (tree_at (B.store bank.now) list) }
+    ensures { IfOk result (AreNodes (B.store bank.now) (to_list (items_of (held_tree (B.store bank.now) list)))) }
+{
+    let mut items = Vec::new(alloc);
+    push_items(bank, list, &mut items)?;
+    let below = arguments(alloc, bank, &items)?;
+    let inner = nodes(alloc, bank, below)?;
+    let all = nodes(alloc, bank, items)?;
+    Ok(ListNodes { all, inner })
+}
