@@ -1,14 +1,15 @@
 -- What follows for other slots from what an arena's calls ensure.
-use Rattle.std.proofs.Common.{◌≡◌, ◌≢◌, ℕ, ◌+◌, ◌<◌, ◌≤◌, ◌⊎◌, inl, inr, List, [], ◌∷◌, length, get_or, set, Some, None, refl, sym, ap, subst, ◌∙◌, arith}
+use Rattle.std.proofs.Common.{◌≡◌, ◌≢◌, ℕ, ◌+◌, ◌<◌, ◌≤◌, ◌⊎◌, inl, inr, List, [], ◌∷◌, ◌++◌, length, get_or, set, Some, None, refl, sym, ap, subst, ◌∙◌, arith}
 use Rattle.std.specs.Prelude.{Option, Bool, false, replicate, Result, Ok, Err, IfOk, OnErr}
 use Rattle.std.specs.Option.{option_map}
 use Rattle.rx_arena.specs.declared.fault.ArenaFault.{ArenaFault}
 use Rattle.rx_arena.specs.declared.Slot.{Slot}
 use Rattle.rx_arena.specs.declared.CellBody.{CellBody}
 use Rattle.rx_arena.specs.Put.{one_if, times, times_in, put, altered}
-use Rattle.rx_arena.specs.Arena.{Taken, ArenaState, taken_at, IsTaken, chain_at, InChain, IsLoose, marked_at, is_marked, roots_at, root_count, hash_at, stored_hash, new_cell, with_marking, IsArena, empty_arena}
+use Rattle.rx_arena.specs.Arena.{Taken, ArenaState, taken_at, IsTaken, chain_at, InChain, IsLoose, marked_at, is_marked, roots_at, root_count, hash_at, stored_hash, new_cell, with_marking, IsFirst, IsArena, empty_arena}
 use Rattle.rx_arena.specs.Samples.{IsQuiet}
-use Rattle.rx_arena.proofs.Puts.{one_or_two, one_if-other, get_or-put_same, get_or-put_other, times_in-set, times_in-at}
+use Rattle.rx_arena.proofs.Puts.{one_or_two, one_if-same, one_if-other, get_or-put_same, get_or-put_other, times_in-set, times_in-at, times-append}
+use Rattle.rx_arena.proofs.Chains.{some_chain, split_at}
 
 -- a slot was free before it was taken, and so is another than one that was taken before
 pub two_slots : (a : ArenaState) (s k : ℕ) → IsTaken a s → taken_at a k ≡ None → s ≢ k
@@ -131,3 +132,18 @@ module _ (a0 a1 a2 a3 : ArenaState) (k0 k1 k2 : ℕ) (b0 b1 b2 : CellBody) (e0 :
 -- three slots in one chain
 pub loose_in : (a : ArenaState) (k : ℕ) (css : List (List ℕ)) → a.chains ≡ css → times_in k css ≡ 0 → IsLoose a k
 loose_in a k css is none = ap (times_in k) is ∙ none
+
+-- the first slot of a chain stands in it
+pub first_in : (a : ArenaState) (c : ℕ) (first : Option Slot) (s : Slot) → IsFirst first (chain_at a c) → first ≡ Some s → InChain a s.0
+first_in a c first s h e =
+    let here : IsFirst (Some s) (chain_at a c) = subst (λ z. IsFirst z (chain_at a c)) e h in
+    in_chain_at a c s.0 (subst (λ z. 0 < times s.0 z) (sym here.1) (omega (arith, one_if-same s.0)))
+
+-- and so does the one after a slot
+pub next_in : (a : ArenaState) (k : ℕ) (next : Option Slot) (s : Slot) → InChain a k → ((c : ℕ) (before after : List ℕ) → chain_at a c ≡ before ++ k ∷ after → IsFirst next after) → next ≡ Some s → InChain a s.0
+next_in a k next s h found e =
+    let at = some_chain k a.chains h in
+    let split = split_at k (chain_at a at.0) at.2 in
+    let here : IsFirst (Some s) split.1.0 = subst (λ z. IsFirst z split.1.0) e (found at.0 split.0 split.1.0 split.1.1) in
+    let after : 0 < times s.0 split.1.0 = subst (λ z. 0 < times s.0 z) (sym here.1) (omega (arith, one_if-same s.0)) in
+    in_chain_at a at.0 s.0 (subst (λ z. 0 < times s.0 z) (sym split.1.1) (omega (arith, after, times-append s.0 split.0 (k ∷ split.1.0))))

@@ -16,3 +16,7 @@ pub record HoldsThree (a : ArenaState) (s0 s1 s2 : ℕ) : Type 0 where
   pub hash0 : hash_at a s0 ≡ 0
   pub hash1 : hash_at a s1 ≡ 1
   pub hash2 : hash_at a s2 ≡ 2
+
+-- no slot is protected
+abbrev pub HasNoRoots : ArenaState → Type 0
+HasNoRoots a = (s : ℕ) → roots_at a s ≡ 0

@@ -1,6 +1,6 @@
 //! What no clause says: that calls succeed where memory is ample, and that a million cells take seconds.
-ghost use Rattle.std.specs.Prelude.{◌≡◌, IfOk};
-ghost use Rattle.rx_arena.specs.Samples.{HoldsThree};
+ghost use Rattle.std.specs.Prelude.{◌≡◌, List, [], length, IfOk, OnOk};
+ghost use Rattle.rx_arena.specs.Samples.{HoldsThree, HasNoRoots};
 
 use super::Arena;
 use crate::fault::ArenaFault;
@@ -73,8 +73,10 @@ fn rehashes_by_the_stored_hash(rt: HostRuntime) -> Result<(), Fail> {
     assert_eq!(rt; arena.chains(), 2);
     assert_eq!(rt; arena.chain_first(1), Some(s1));
     assert_eq!(rt; arena.chain_next(s1), None);
-    let first = arena.chain_first(0);
-    assert!(rt; first == Some(s0) || first == Some(s2));
+    let first = arena.chain_first(0).ok_or("chain 0 is empty")?;
+    let second = arena.chain_next(first).ok_or("chain 0 has one slot")?;
+    assert!(rt; (first, second) == (s0, s2) || (first, second) == (s2, s0));
+    assert_eq!(rt; arena.chain_next(second), None);
     Ok(())
 }
 
@@ -93,5 +95,65 @@ fn keeps_the_marked(rt: HostRuntime) -> Result<(), Fail> {
     assert!(rt; arena.marked(s1));
     arena.clear_mark(s1);
     assert!(rt; !arena.marked(s1));
+    Ok(())
+}
+
+/// How many cells the large arena takes.
+const CELLS: u32 = 1_000_000;
+
+/// Into how many chains they are linked.
+const CHAINS: u32 = 1 << 16;
+
+/// Takes the cells, with their numbers for hashes, links each into the chain of its hash, and marks
+/// each second one.
+fn fill(arena: &mut Arena) -> Result<(), ArenaFault>
+    requires chains { length arena.old.chains ≡ CHAINS }
+    requires no_roots { HasNoRoots arena.old }
+    ensures chains { OnOk result (length arena.new.chains ≡ CHAINS) }
+    ensures no_roots { OnOk result (HasNoRoots arena.new) }
+{
+    for i in 0..CELLS {
+        let slot = arena.take(body(u64::from(i)))?;
+        arena.chain_push(i % CHAINS, slot);
+        if i % 2 == 0 {
+            arena.gray_push(slot);
+        }
+    }
+    Ok(())
+}
+
+/// Empties the gray list. Its slots stay marked.
+fn drain_gray(arena: &mut Arena)
+    ensures { arena.new ≡ record arena.old { gray = [] } }
+{
+    while let Some(_slot) = arena.gray_pop() {}
+}
+
+/// Gives back what is not marked, in all chains.
+fn sweep(arena: &mut Arena)
+    requires no_gray { arena.old.gray ≡ [] }
+    requires chains { length arena.old.chains ≡ CHAINS }
+    requires no_roots { HasNoRoots arena.old }
+{
+    for chain in 0..CHAINS {
+        arena.chain_retain_marked(chain);
+    }
+}
+
+#[test]
+fn takes_links_marks_sweeps_and_rehashes_a_million(rt: HostRuntime) -> Result<(), Fail> {
+    let mut arena = Arena::new(rt.alloc(), 1 << 20, CHAINS)?;
+    fill(&mut arena)?;
+    assert_eq!(rt; arena.cells(), CELLS);
+    drain_gray(&mut arena);
+    sweep(&mut arena);
+    assert_eq!(rt; arena.cells(), CELLS / 2);
+    assert_eq!(rt; arena.chains(), CHAINS);
+    arena.rehash_into(2 * CHAINS)?;
+    assert_eq!(rt; arena.cells(), CELLS / 2);
+    assert_eq!(rt; arena.chains(), 2 * CHAINS);
+    let first = arena.chain_first(6).ok_or("chain 6 is empty")?;
+    assert_eq!(rt; arena.read(first).hash % u64::from(2 * CHAINS), 6);
+    assert_eq!(rt; arena.chain_first(7), None);
     Ok(())
 }
