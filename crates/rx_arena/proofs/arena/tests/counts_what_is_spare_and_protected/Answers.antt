@@ -16,9 +16,8 @@ set_roots-requires g c = (new_cell c.body.result, just_taken c.reserve.new.self 
 
 pub roots-requires-2 : goal.roots-requires-2
 roots-requires-2 g c =
-    let was = just_taken c.reserve.new.self c.take.new.self c.in_ok-slot.slot.0 (new_cell c.body.result) c.in_ok-slot.ensures.cells in
-    (
+    let was = just_taken c.reserve.new.self c.take.new.self c.in_ok-slot.slot.0 (new_cell c.body.result) c.in_ok-slot.ensures.cells in (
       with_count 3 (new_cell c.body.result),
       ap (λ (v : ArenaState). taken_at v c.in_ok-slot.slot.0) c.set_roots.ensures.after
-      ∙ get_or-put_same c.take.new.self.cells c.in_ok-slot.slot.0 (option_map (with_count 3) (taken_at c.take.new.self c.in_ok-slot.slot.0)) ∙ ap (option_map (with_count 3)) was,
+          ∙ get_or-put_same c.take.new.self.cells c.in_ok-slot.slot.0 (option_map (with_count 3) (taken_at c.take.new.self c.in_ok-slot.slot.0)) ∙ ap (option_map (with_count 3)) was,
     )
