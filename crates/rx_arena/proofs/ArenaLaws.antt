@@ -1,11 +1,11 @@
 -- What is true of every arena stays true: of what users see alone.
-use Rattle.std.proofs.Common.{◌≡◌, ◌≢◌, ℕ, zero, suc, ◌+◌, ◌-◌, ◌<◌, ◌≤◌, ◌⊎◌, inl, inr, List, [], ◌∷◌, ◌++◌, length, get_or, set, Some, None, refl, sym, ap, subst, ◌∙◌, arith}
-use Rattle.std.specs.Prelude.{Option, Bool, true, false, replicate, take, ◌^◌}
+use Rattle.std.proofs.Common.{◌≡◌, ◌≢◌, ℕ, zero, suc, ◌+◌, ◌<◌, ◌≤◌, inl, inr, List, [], ◌∷◌, ◌++◌, length, get_or, set, Some, None, refl, sym, ap, subst, ◌∙◌, arith}
+use Rattle.std.specs.Prelude.{Option, true, false, replicate, take, ◌^◌}
 use Rattle.std.specs.Option.{option_map}
 use Rattle.std.proofs.lemmas.List.{length-set, length-replicate, length-take}
 use Rattle.rx_arena.specs.Put.{one_if, times, times_in, put, one_some, filled, altered}
-use Rattle.rx_arena.specs.Arena.{Taken, ArenaState, taken_at, IsTaken, taken_count, chain_at, InChain, IsLoose, marked_at, is_marked, IsMarked, IsArena, empty_arena, with_marking}
-use Rattle.rx_arena.proofs.Puts.{one_or_two, one_if-same, get_or-put_same, get_or-put_other, filled-put, filled_some, times_in-set, times_in-at}
+use Rattle.rx_arena.specs.Arena.{Taken, ArenaState, taken_at, IsTaken, taken_count, chain_at, IsLoose, marked_at, is_marked, IsMarked, IsArena, empty_arena}
+use Rattle.rx_arena.proofs.Puts.{one_or_two, one_if-same, get_or-put_same, get_or-put_other, filled-put, times_in-set, times_in-at}
 use Rattle.rx_arena.proofs.Chains.{one_or_more}
 
 pub times_in-replicate : (s n : ℕ) → times_in s (replicate n []) ≡ 0

@@ -1,15 +1,14 @@
 -- What an arena's reading calls find.
-use Rattle.std.proofs.Common.{◌≡◌, ◌≢◌, ℕ, ◌+◌, ◌<◌, ◌≤◌, List, [], ◌∷◌, ◌++◌, length, get_or, Some, None, IfSome, refl, sym, ap, subst, ◌∙◌, arith}
+use Rattle.std.proofs.Common.{◌≡◌, ℕ, List, [], ◌∷◌, ◌++◌, get_or, Some, None, IfSome, refl, sym, ap, subst, ◌∙◌}
 use Rattle.std.specs.Prelude.{Option, Bool, MatchOption, IsSome}
 use Rattle.std.specs.Option.{option_map}
 use Rattle.rx_arena.specs.declared.Slot.{Slot}
 use Rattle.rx_arena.specs.declared.CellBody.{CellBody}
 use Rattle.rx_arena.specs.Node.{Node}
 use Rattle.rx_arena.specs.Held.{IsHeld}
-use Rattle.rx_arena.specs.Put.{times, times_in}
-use Rattle.rx_arena.specs.Links.{Links, links, IsChain, AreChains, Chained, Listed}
+use Rattle.rx_arena.specs.Links.{Links, IsChain, Chained, Listed}
 use Rattle.rx_arena.specs.Pool.{PoolState}
-use Rattle.rx_arena.specs.Arena.{Taken, ArenaState, taken_at, IsTaken, chain_at, InChain, IsFirst, marked_at, is_marked, roots_at, root_count, IsArena, shown_of, state_of}
+use Rattle.rx_arena.specs.Arena.{taken_at, IsTaken, chain_at, InChain, IsFirst, marked_at, is_marked, roots_at, root_count, IsArena, shown_of, state_of}
 use Rattle.rx_arena.proofs.Chains as chains
 use Rattle.rx_arena.proofs.Chains.{ended, popped, chain_after, split_at, some_chain, first_some}
 use Rattle.rx_arena.proofs.Pools.{links_some}

@@ -1,17 +1,17 @@
 -- What each call of an arena makes of the pool, the heads and the lists.
-use Rattle.std.proofs.Common.{◌≡◌, ◌≢◌, ℕ, zero, suc, ◌+◌, ◌-◌, ◌<◌, ◌≤◌, ◌⊎◌, inl, inr, List, [], ◌∷◌, ◌++◌, length, get_or, set, map, Some, None, IfSome, refl, sym, ap, subst, ◌∙◌, arith}
-use Rattle.std.specs.Prelude.{Option, Bool, true, false, min, take, replicate, ◌^◌, Result, Ok, Err, IfOk, OnErr}
+use Rattle.std.proofs.Common.{◌≡◌, ◌≢◌, ℕ, zero, suc, ◌+◌, ◌-◌, ◌<◌, ◌≤◌, inl, inr, List, [], ◌∷◌, ◌++◌, length, get_or, set, map, Some, None, IfSome, refl, sym, ap, subst, ◌∙◌, arith}
+use Rattle.std.specs.Prelude.{Option, true, min, take, replicate, ◌^◌, Result, Ok, Err, IfOk, OnErr}
 use Rattle.rx_arena.specs.declared.fault.ArenaFault.{ArenaFault}
 use Rattle.std.specs.Option.{option_map}
 use Rattle.std.proofs.lemmas.List.{length-append, length-replicate}
 use Rattle.rx_arena.specs.declared.CellBody.{CellBody}
-use Rattle.rx_arena.specs.Node.{Node, lone, with_chain, with_gray, with_mark, with_roots}
+use Rattle.rx_arena.specs.Node.{Node, lone, with_chain, with_gray, with_mark}
 use Rattle.rx_arena.specs.Held.{IsHeld}
-use Rattle.rx_arena.specs.Put.{one_if, times, times_in, put, one_some, filled, altered}
+use Rattle.rx_arena.specs.Put.{times, put, one_some, filled, altered}
 use Rattle.rx_arena.specs.Links.{Links, links, IsChain, Listed, AreChains, Chained}
 use Rattle.rx_arena.specs.Pool.{PoolState, spare_of}
-use Rattle.rx_arena.specs.Arena.{Taken, ArenaState, taken_at, IsTaken, taken_count, chain_at, InChain, IsLoose, marked_at, is_marked, IsMarked, roots_at, root_count, IsArena, empty_arena, new_cell, with_count, with_marking, shown_of, state_of}
-use Rattle.rx_arena.proofs.Puts.{one_or_two, one_if-same, get_or-put_same, get_or-put_other, put-get_or, map-put, get_or-map_option, filled-put, filled-map, times_in-at}
+use Rattle.rx_arena.specs.Arena.{Taken, ArenaState, taken_at, IsTaken, chain_at, IsLoose, is_marked, IsMarked, IsArena, empty_arena, new_cell, with_marking, shown_of, state_of}
+use Rattle.rx_arena.proofs.Puts.{one_or_two, get_or-put_same, get_or-put_other, put-get_or, map-put, get_or-map_option, filled-put, filled-map, times_in-at}
 use Rattle.rx_arena.proofs.Chains as chains
 use Rattle.rx_arena.proofs.Chains.{one_or_more, chain_agrees, chain_stays, chains_agree, chains_stay, chains-set, pushed, popped, ended, first_some, listed_is, chained_is, chains-length}
 use Rattle.rx_arena.proofs.Pools.{links_some}

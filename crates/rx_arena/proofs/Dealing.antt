@@ -1,11 +1,11 @@
 -- The slots of the chains are dealt out to new chains, by their hashes.
-use Rattle.std.proofs.Common.{◌≡◌, ◌≢◌, ℕ, zero, suc, ◌+◌, ◌-◌, ◌%◌, ◌<◌, ◌≤◌, ◌⊎◌, inl, inr, List, [], ◌∷◌, ◌++◌, length, get_or, set, take, Some, None, IfSome, refl, sym, ap, subst, ◌∙◌, arith}
-use Rattle.std.specs.Prelude.{Option, Bool, true, false, cond, nat_eq, replicate}
-use Rattle.std.proofs.lemmas.List.{length-append, length-replicate, length-set, length-take-le, get_or-set_same, get_or-set_other, get_or-take, get_or_append_left, get_or-append_right, get_or-replicate, take_all, take_more, set-get_or}
+use Rattle.std.proofs.Common.{◌≡◌, ◌≢◌, ℕ, ◌+◌, ◌-◌, ◌%◌, ◌<◌, ◌≤◌, inl, inr, List, [], ◌∷◌, ◌++◌, length, get_or, set, take, IfSome, refl, sym, ap, subst, ◌∙◌, arith}
+use Rattle.std.specs.Prelude.{Bool, true, false, cond, nat_eq, replicate}
+use Rattle.std.proofs.lemmas.List.{length-append, length-replicate, length-set, length-take-le, get_or-set_same, get_or-set_other, get_or-take, get_or_append_left, get_or-append_right, get_or-replicate, take_all, take_more}
 use Rattle.std.proofs.lemmas.Bool.{eq-eqb, ne_eqb}
 use Rattle.rx_arena.specs.declared.CellBody.{CellBody}
 use Rattle.rx_arena.specs.Put.{one_if, times, times_in}
-use Rattle.rx_arena.specs.Arena.{Taken, ArenaState, taken_at, IsTaken, chain_at, hash_at, stored_hash, times_hashed}
+use Rattle.rx_arena.specs.Arena.{ArenaState, taken_at, IsTaken, chain_at, hash_at, stored_hash, times_hashed}
 use Rattle.rx_arena.proofs.Puts.{one_or_two}
 use Rattle.rx_arena.proofs.ArenaLaws.{times_in-append}
 

@@ -15,3 +15,4 @@ pub mod ArenaReads
 pub mod Sorting
 pub mod Dealing
 pub mod ArenaCalls
+pub mod Unrooted

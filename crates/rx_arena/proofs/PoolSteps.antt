@@ -1,16 +1,16 @@
 -- What each call of a pool makes of the store, the free list and the cells.
-use Rattle.std.proofs.Common.{◌≡◌, ◌≢◌, ℕ, zero, suc, ◌+◌, ◌-◌, ◌<◌, ◌≤◌, ◌⊎◌, inl, inr, List, [], ◌∷◌, ◌++◌, length, get_or, set, Some, None, IfSome, refl, sym, ap, subst, ◌∙◌, arith}
+use Rattle.std.proofs.Common.{◌≡◌, ℕ, ◌+◌, ◌-◌, ◌<◌, ◌≤◌, List, [], ◌∷◌, ◌++◌, length, get_or, set, Some, None, IfSome, refl, sym, ap, subst, ◌∙◌, arith}
 use Rattle.std.specs.Prelude.{Option, replicate, ◌^◌, min}
 use Rattle.std.specs.Option.{option_map}
-use Rattle.std.proofs.lemmas.List.{length-set, get_or-set_same, set-set, set-get_or}
-use Rattle.rx_arena.specs.Node.{Node, lone, with_free, changed}
+use Rattle.std.proofs.lemmas.List.{get_or-set_same, set-set, set-get_or}
+use Rattle.rx_arena.specs.Node.{Node, with_free, changed}
 use Rattle.rx_arena.specs.Held.{IsHeld}
 use Rattle.rx_arena.specs.Put.{times, put, filled, one_some, altered}
 use Rattle.rx_arena.specs.Links.{Links, links, IsChain, Listed}
 use Rattle.rx_arena.specs.Pool.{PoolState, IsPool, cells_of}
 use Rattle.rx_arena.proofs.Puts.{within_some, filled-put}
 use Rattle.rx_arena.proofs.Chains.{chain_stays, popped, pushed, listed_is, first_some}
-use Rattle.rx_arena.proofs.Pools.{lt_or_le, links-set_other, links-set_same, links_some, IsTakenAt, taken_at, cells-set, pool-set, reused-away, reused-below, reused-was_free, reused-cells, reused-pool, extended-chain, extended-was_free, extended-cells, extended-pool, given_back-cells, given_back-some_taken, given_back-pool, grown-chain, grown-cells, grown-pool}
+use Rattle.rx_arena.proofs.Pools.{links-set_other, links-set_same, links_some, taken_at, cells-set, pool-set, reused-away, reused-below, reused-was_free, reused-cells, reused-pool, extended-chain, extended-was_free, extended-cells, extended-pool, given_back-cells, given_back-some_taken, given_back-pool, grown-chain, grown-cells, grown-pool}
 
 -- the free links of the nodes
 abbrev pub frees : List (Option Node) → Links

@@ -1,15 +1,15 @@
 -- The store under a pool: what its slots hold as they are taken, given back and changed.
-use Rattle.std.proofs.Common.{◌≡◌, ◌≢◌, ℕ, zero, suc, ◌+◌, ◌-◌, ◌<◌, ◌≤◌, ◌⊎◌, inl, inr, List, [], ◌∷◌, ◌++◌, length, get_or, set, take, map, Some, None, IfSome, refl, sym, ap, subst, ◌∙◌, arith}
-use Rattle.std.specs.Prelude.{Option, replicate, min}
+use Rattle.std.proofs.Common.{◌≡◌, ◌≢◌, ℕ, zero, suc, ◌+◌, ◌-◌, ◌<◌, ◌≤◌, ◌⊎◌, inl, inr, List, [], ◌∷◌, ◌++◌, length, get_or, set, take, Some, None, refl, sym, ap, subst, ◌∙◌, arith}
+use Rattle.std.specs.Prelude.{Option, replicate}
 use Rattle.std.specs.Option.{option_map}
-use Rattle.std.proofs.lemmas.List.{length-append, length-replicate, length-set, length-take, length-take-le, get_or-set_same, get_or-set_other, get_or-take, get_or_past, get_or-replicate, get_or_append_left, get_or-append_right, take_all, take-append-le, map-set}
-use Rattle.rx_arena.specs.Node.{Node, lone, with_free, changed}
+use Rattle.std.proofs.lemmas.List.{length-append, length-set, length-take, length-take-le, get_or-set_same, get_or-set_other, get_or-take, get_or_past, take-append-le}
+use Rattle.rx_arena.specs.Node.{Node}
 use Rattle.rx_arena.specs.Held.{IsHeld}
-use Rattle.rx_arena.specs.Put.{one_if, times, put, one_some, filled, without}
-use Rattle.rx_arena.specs.Links.{Links, links, IsChain}
-use Rattle.rx_arena.specs.Pool.{PoolState, IsPool, cells_of}
-use Rattle.rx_arena.proofs.Puts.{one_or_two, one_if-same, get_or-put_same, put-put, put-set, put_end, within_some, without-put, get_or-without_other, get_or-without_same, some-without, filled-put, filled_some, get_or-map_option}
-use Rattle.rx_arena.proofs.Chains.{chain_agrees, chain_stays, member_some, popped, pushed, one_or_more}
+use Rattle.rx_arena.specs.Put.{times, put, one_some, filled, without}
+use Rattle.rx_arena.specs.Links.{links, IsChain}
+use Rattle.rx_arena.specs.Pool.{IsPool, cells_of}
+use Rattle.rx_arena.proofs.Puts.{one_or_two, one_if-same, put-put, put-set, put_end, within_some, without-put, get_or-without_other, get_or-without_same, some-without, filled-put, filled_some, get_or-map_option}
+use Rattle.rx_arena.proofs.Chains.{chain_agrees, chain_stays, member_some, one_or_more}
 
 pub lt_or_le : (a b : ℕ) → (a < b) ⊎ (b ≤ a)
 lt_or_le a zero = inr (omega arith)

@@ -1,12 +1,10 @@
 -- A chain is sorted out: its slots are popped one by one, and go to the gray list or back.
-use Rattle.std.proofs.Common.{◌≡◌, ◌≢◌, ℕ, zero, suc, ◌+◌, ◌-◌, ◌<◌, ◌≤◌, ◌⊎◌, inl, inr, List, [], ◌∷◌, ◌++◌, length, get_or, set, Some, None, refl, sym, ap, subst, ◌∙◌, arith}
-use Rattle.std.specs.Prelude.{Option, Bool, true, false, cond, not, filter, reverse, MatchOption, IfNone}
-use Rattle.std.specs.Option.{option_map}
+use Rattle.std.proofs.Common.{◌≡◌, ◌≢◌, ℕ, ◌+◌, ◌<◌, ◌≤◌, inl, inr, List, [], ◌∷◌, ◌++◌, length, get_or, set, Some, None, refl, sym, ap, subst, ◌∙◌, arith}
+use Rattle.std.specs.Prelude.{Option, true, false, cond, not, filter, reverse, MatchOption, IfNone}
 use Rattle.std.proofs.lemmas.List.{append-nil, append_assoc, reverse-append, length-set, get_or-set_same, set-set, set-get_or}
-use Rattle.rx_arena.specs.declared.Slot.{Slot}
-use Rattle.rx_arena.specs.Put.{one_if, times, times_in, put, emptied}
-use Rattle.rx_arena.specs.Arena.{Taken, ArenaState, taken_at, IsTaken, chain_at, InChain, IsLoose, marked_at, is_marked, IsMarked, roots_at, root_count, kept_in, dropped_from, IsUnprotected}
-use Rattle.rx_arena.proofs.Puts.{one_or_two, one_if-same, get_or-put_same, get_or-put_other, times_in-set, times_in-at}
+use Rattle.rx_arena.specs.Put.{times, times_in, put, emptied}
+use Rattle.rx_arena.specs.Arena.{Taken, ArenaState, taken_at, chain_at, IsLoose, marked_at, is_marked, roots_at, root_count, kept_in, dropped_from, IsUnprotected}
+use Rattle.rx_arena.proofs.Puts.{one_or_two, one_if-same, get_or-put_other, times_in-set, times_in-at}
 
 -- what a chain's end says, of a loop that ends
 pub at_none : {X : Type 0} (r : Option X) (P : Type 0) → ((x : X) → r ≡ Some x → ⊥) → IfNone r P → P

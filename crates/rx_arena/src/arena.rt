@@ -158,6 +158,7 @@ impl Arena {
         ensures ok { OnOk result (count ≤ self.new.spare) }
         ensures full { result ≡ Err ArenaFault.Full → self.old.cap < taken_count self.old + count }
         ensures memory { result ≡ Err ArenaFault.Memory → taken_count self.old + count ≤ self.old.cap }
+        ensures too_few { OnErr result (self.old.spare < count) }
     {
         self.pool.reserve(count)
     }

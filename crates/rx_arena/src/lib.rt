@@ -19,10 +19,12 @@
 
 pub mod arena;
 mod cells;
-pub mod fault;
+mod fault;
 mod pool;
 mod room;
-pub mod store;
+mod store;
+
+pub use fault::ArenaFault;
 
 /// The number of a cell, counted from 0.
 #[derive(Clone, Copy, Debug, PartialEq, Eq)]

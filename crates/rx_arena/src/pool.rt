@@ -239,6 +239,7 @@ impl Pool {
         ensures ok { OnOk result (count ≤ spare_of self.new) }
         ensures full { result ≡ Err ArenaFault.Full → self.old.cap < filled self.old.cells + count }
         ensures memory { result ≡ Err ArenaFault.Memory → filled self.old.cells + count ≤ self.old.cap }
+        ensures too_few { OnErr result (spare_of self.old < count) }
     {
         if count > self.cap - self.taken {
             return Err(ArenaFault::Full);

@@ -1,5 +1,5 @@
 //! The blocks, and the cells in them by their slots' numbers.
-ghost use Rattle.std.specs.Prelude.{◌≡◌, ◌≢◌, ℕ, ◌*◌, ◌<◌, ◌^◌, List, [], ◌++◌, length, replicate, slice_set};
+ghost use Rattle.std.specs.Prelude.{◌≡◌, ◌≢◌, ℕ, ◌*◌, ◌<◌, List, [], ◌++◌, length, replicate, slice_set};
 ghost use Rattle.std.specs.Prelude.{Option, Some, None, IfSome, OnOk, OnErr};
 ghost use Rattle.rx_arena.specs.Node.{Node, node_at, lone, changed};
 ghost use Rattle.rx_arena.specs.Node.{with_body, with_roots, with_mark, with_chain, with_gray, with_free};
@@ -84,21 +84,6 @@ impl Store {
             blocks: Vec::new(alloc),
             cells: Cells::new(),
         }
-    }
-
-    /// How many blocks there are, each of 1,024 slots.
-    pub fn blocks(&self) -> usize
-        ensures { length self.now ≡ 1024 * result }
-    {
-        self.blocks.len()
-    }
-
-    /// How many slots there are.
-    pub fn len(&self) -> usize
-        requires { length self.now < 2 ^ 64 }
-        ensures { result ≡ length self.now }
-    {
-        self.blocks() * BLOCK
     }
 
     /// Adds a block of slots in which nothing lies.

@@ -7,3 +7,4 @@ pub mod Spreading
 pub mod Clearing
 pub mod Sweeps
 pub mod Collected
+pub mod Ready

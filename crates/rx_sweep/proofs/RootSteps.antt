@@ -1,12 +1,12 @@
 -- The protected slots are marked, chain by chain.
-use Rattle.std.proofs.Common.{◌≡◌, ℕ, suc, ◌+◌, ◌<◌, ◌≤◌, ◌⊎◌, inl, inr, List, [], ◌∷◌, ◌++◌, length, get_or, Some, None, refl, sym, ap, subst, ◌∙◌, arith}
+use Rattle.std.proofs.Common.{◌≡◌, ℕ, ◌+◌, ◌<◌, ◌≤◌, ◌⊎◌, inl, inr, List, [], ◌∷◌, ◌++◌, length, Some, None, refl, sym, subst, ◌∙◌, arith}
 use Rattle.std.specs.Prelude.{Option}
 use Rattle.std.proofs.lemmas.Bool.{cases_lt}
 use Rattle.rx_arena.specs.declared.Slot.{Slot}
 use Rattle.rx_arena.specs.Put.{times, times_in}
 use Rattle.rx_arena.specs.Arena.{Taken, ArenaState, taken_at, IsTaken, chain_at, InChain, root_count, roots_at, IsFirst, IsArena}
 use Rattle.rx_arena.proofs.Chains.{some_chain}
-use Rattle.rx_sweep.specs.Marking.{SameButMarks, Marks}
+use Rattle.rx_sweep.specs.Marking.{Marks}
 use Rattle.rx_sweep.specs.Reach.{CanCollect}
 use Rattle.rx_sweep.proofs.Bare.{same_chain, same_chains, same_roots}
 use Rattle.rx_sweep.proofs.MarkSteps.{marks_none, marks_then, marks_by}

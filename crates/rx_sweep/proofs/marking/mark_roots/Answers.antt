@@ -1,4 +1,4 @@
-use Rattle.std.proofs.Common.{◌≡◌, ◌<◌, ◌≤◌, length, arith}
+use Rattle.std.proofs.Common.{◌<◌, ◌≤◌, length, arith}
 use Rattle.rx_sweep.proofs.RootSteps.{root_chains_begin, root_chains_within, root_chains_on, root_chains_end}
 use Rattle.rx_sweep.proofs.marking.mark_roots.Goals as goal
 

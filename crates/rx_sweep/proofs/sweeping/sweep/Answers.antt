@@ -1,4 +1,4 @@
-use Rattle.std.proofs.Common.{◌≡◌, ◌<◌, ◌≤◌, length, arith}
+use Rattle.std.proofs.Common.{◌<◌, ◌≤◌, length, arith}
 use Rattle.rx_sweep.proofs.Sweeps.{sweeping_begins, sweeping_within, sweeping_unprotected, sweeping_on, swept_cells, swept_chains}
 use Rattle.rx_sweep.proofs.sweeping.sweep.Goals as goal
 

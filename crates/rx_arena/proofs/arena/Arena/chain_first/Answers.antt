@@ -1,9 +1,5 @@
-use Rattle.std.proofs.Common.{◌≡◌, ◌+◌, ◌-◌, ◌<◌, ◌≤◌, ◌^◌, ◌∷◌, ◌++◌, [], List, ℕ, Some, None, IfSome, get_or, set, length, refl, sym, ap, subst, ◌∙◌, arith, min, true, false}
-use Rattle.rx_arena.specs.Node.{Node, lone, with_chain, with_gray, with_mark, with_roots}
-use Rattle.rx_arena.specs.Put.{times, times_in, put, filled, altered}
-use Rattle.rx_arena.specs.Pool.{PoolState, spare_of}
-use Rattle.rx_arena.specs.Arena.{ArenaState, taken_at, IsTaken, taken_count, chain_at, InChain, IsLoose, marked_at, IsMarked, roots_at, new_cell, with_count, with_marking, IsFirst, IsArena, state_of, shown_of, root_count, is_marked}
-use Rattle.rx_arena.proofs.Puts.{filled-map}
+use Rattle.std.proofs.Common.{◌<◌, None, length, sym, subst, ◌∙◌, arith}
+use Rattle.rx_arena.specs.Arena.{ArenaState, chain_at, IsFirst}
 use Rattle.std.proofs.lemmas.List.{get_or_default}
 use Rattle.rx_arena.proofs.ArenaSteps.{within_heads}
 use Rattle.rx_arena.proofs.ArenaReads.{chain_first_of}

@@ -1,8 +1,7 @@
-use Rattle.std.proofs.Common.{◌≡◌, ◌+◌, ◌-◌, ◌<◌, ◌≤◌, ◌^◌, ◌∷◌, ◌++◌, [], List, ℕ, Some, None, IfSome, get_or, length, refl, sym, ap, subst, ◌∙◌, arith, min}
-use Rattle.rx_arena.specs.Node.{Node, lone, with_chain, with_gray, with_mark, with_roots, with_free}
+use Rattle.std.proofs.Common.{◌≡◌, ◌+◌, ◌-◌, ◌∷◌, None, sym, ap, subst, ◌∙◌, arith, min}
 use Rattle.rx_arena.specs.Held.{IsHeld}
-use Rattle.rx_arena.specs.Put.{times, put, filled, altered}
-use Rattle.rx_arena.specs.Pool.{PoolState, IsPool, spare_of, cells_of}
+use Rattle.rx_arena.specs.Put.{put, filled}
+use Rattle.rx_arena.specs.Pool.{PoolState, spare_of, cells_of}
 use Rattle.rx_arena.proofs.PoolSteps.{pool_room, given_back-step, given_back_some, first_apart, first_within, held_in_store, step_pool, step_free, step_cells, same_pool}
 use Rattle.rx_arena.proofs.pool.Pool.give_back.Goals as goal
 

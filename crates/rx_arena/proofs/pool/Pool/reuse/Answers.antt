@@ -1,8 +1,7 @@
-use Rattle.std.proofs.Common.{◌≡◌, ◌+◌, ◌-◌, ◌<◌, ◌≤◌, ◌^◌, ◌∷◌, ◌++◌, [], List, ℕ, Some, None, IfSome, get_or, length, refl, sym, ap, subst, ◌∙◌, arith, min}
-use Rattle.rx_arena.specs.Node.{Node, lone, with_chain, with_gray, with_mark, with_roots, with_free}
-use Rattle.rx_arena.specs.Held.{IsHeld}
-use Rattle.rx_arena.specs.Put.{times, put, filled, altered}
-use Rattle.rx_arena.specs.Pool.{PoolState, IsPool}
+use Rattle.std.proofs.Common.{◌≡◌, ◌+◌, ◌<◌, ◌≤◌, ◌∷◌, List, ℕ, Some, None, get_or, refl, sym, ap, subst, ◌∙◌}
+use Rattle.rx_arena.specs.Node.{lone}
+use Rattle.rx_arena.specs.Put.{put, filled}
+use Rattle.rx_arena.specs.Pool.{PoolState}
 use Rattle.rx_arena.specs.Pool.{spare_of}
 use Rattle.rx_arena.proofs.Chains.{ended}
 use Rattle.rx_arena.proofs.PoolSteps.{reused-step, step_pool, step_free, step_cells, same_pool, front, front_held, front_link, front_split, front_free, front_below, pool_fits}
