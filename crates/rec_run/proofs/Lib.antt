@@ -19,4 +19,8 @@ pub mod RuleLemmas
 pub mod PrinterLemmas
 mod TermRows
 mod CountedParts
+mod PatternDue
+mod PatternLines
+mod PatternRows
+mod PatternTerms
 mod TermsDue

@@ -4,6 +4,8 @@ pub mod Evaluated
 pub mod Laws
 pub mod Matched
 pub mod Output
+pub mod PatternAnswers
+pub mod PatternRuns
 pub mod Reading
 pub mod Run
 pub mod TermRuns

@@ -7,6 +7,11 @@ mod given_term;
 pub mod laws;
 mod lines;
 mod matching;
+mod pattern_answer;
+mod pattern_lines;
+mod pattern_runs;
+#[cfg(test)]
+mod pattern_tests;
 mod printer;
 mod runs;
 mod term_runs;
@@ -19,5 +24,6 @@ mod value;
 mod verdict;
 
 pub use ending::{Finish, Named, Place, RunFault, RunOptions, Source};
+pub use pattern_runs::{run_make, run_make_at, run_match, run_match_at};
 pub use runs::{run, run_at};
 pub use term_runs::{run_aterm, run_aterm_at, run_share, run_share_at};

@@ -220,7 +220,7 @@ fn write_refusal<W: Write>(refusal: TermRefusal, out: &mut W) -> Result<(), Stop
 }
 
 /// Flushes.
-fn flush<W: Write>(out: &mut W) -> Result<(), Stopped>
+pub(crate) fn flush<W: Write>(out: &mut W) -> Result<(), Stopped>
     ensures { Keeps (W.contents out.old) (W.contents out.new) }
 {
     match out.flush() {

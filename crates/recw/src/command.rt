@@ -20,7 +20,9 @@ pub fn command<'a>(alloc: Global) -> Result<Command<'a>, AllocError> {
         )
         .subcommand(eval_command(alloc)?)?
         .subcommand(aterm_command(alloc)?)?
-        .subcommand(share_command(alloc)?)
+        .subcommand(share_command(alloc)?)?
+        .subcommand(match_command(alloc)?)?
+        .subcommand(make_command(alloc)?)
 }
 
 fn eval_command<'a>(alloc: Global) -> Result<Command<'a>, AllocError> {
@@ -48,6 +50,37 @@ fn share_command<'a>(alloc: Global) -> Result<Command<'a>, AllocError> {
         .about("Print an ATerm and how many cells it takes with equal parts shared")
         .after_help("Example: echo 'f(a,a)' | recw share")
         .arg(term_file(alloc))
+}
+
+fn match_command<'a>(alloc: Global) -> Result<Command<'a>, AllocError> {
+    Command::new(alloc, "match")
+        .about("Print what a pattern binds in an ATerm, or that it does not match")
+        .after_help(
+            "Placeholders: <term>, <int>, <str>, <appl>, <placeholder>, <list>.\n\
+             Give a pattern that begins with - a blank before it: ' -7'.\n\n\
+             Example: echo 'f(1,2,3)' | recw match 'f(<int>,<list>)'",
+        )
+        .arg(text(alloc, "PATTERN", "ATerm with placeholders"))?
+        .arg(term_file(alloc))
+}
+
+fn make_command<'a>(alloc: Global) -> Result<Command<'a>, AllocError> {
+    Command::new(alloc, "make")
+        .about("Print a pattern with arguments in place of its placeholders")
+        .after_help(
+            "Give a pattern that begins with - a blank before it: ' -7'.\n\n\
+             Example: recw make 'f(<int>,<list>)' '[1,[2,3]]'",
+        )
+        .arg(text(alloc, "PATTERN", "ATerm with placeholders"))?
+        .arg(text(
+            alloc,
+            "ARGS",
+            "List with an ATerm for each placeholder, in order",
+        ))
+}
+
+fn text<'a>(alloc: Global, name: &'a str, help: &'a str) -> Arg<'a> {
+    Arg::new(alloc, name).help(help).required(true)
 }
 
 fn term_file<'a>(alloc: Global) -> Arg<'a> {

@@ -3,7 +3,9 @@
 use crate::opened::open;
 use crate::report;
 use crate::request::{Request, read_words};
-use rec_run::{Finish, Place, RunFault, run_at, run_aterm_at, run_share_at};
+use rec_run::{
+    Finish, Place, RunFault, run_at, run_aterm_at, run_make_at, run_match_at, run_share_at,
+};
 use std::alloc::Global;
 use std::io::{Read, Write};
 use std::rt::Files;
@@ -62,6 +64,13 @@ fn perform<H: Files, R: Read, W: Write>(
         Request::Share { file } => {
             let mut input = open(rt, file, input)?;
             run_share_at(alloc, &mut input, out, place)
+        }
+        Request::Match { pattern, file } => {
+            let mut input = open(rt, file, input)?;
+            run_match_at(alloc, pattern.as_bytes(), &mut input, out, place)
+        }
+        Request::Make { pattern, args } => {
+            run_make_at(alloc, pattern.as_bytes(), args.as_bytes(), out, place)
         }
     }
 }

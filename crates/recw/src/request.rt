@@ -27,6 +27,16 @@ pub enum Request<'a> {
     Share {
         file: Option<&'a str>,
     },
+    /// Match a pattern with a term, which stands in a file or on the standard input.
+    Match {
+        pattern: &'a str,
+        file: Option<&'a str>,
+    },
+    /// Make a term from a pattern and a list of arguments.
+    Make {
+        pattern: &'a str,
+        args: &'a str,
+    },
 }
 
 /// What the words after the program's name ask for.
@@ -52,6 +62,14 @@ fn request_of<'a>(matches: &ArgMatches<'a>) -> Option<Request<'a>> {
         }),
         "share" => Some(Request::Share {
             file: inner.get_str("FILE"),
+        }),
+        "match" => Some(Request::Match {
+            pattern: inner.get_str("PATTERN")?,
+            file: inner.get_str("FILE"),
+        }),
+        "make" => Some(Request::Make {
+            pattern: inner.get_str("PATTERN")?,
+            args: inner.get_str("ARGS")?,
         }),
         _ => None,
     }

@@ -140,8 +140,91 @@ fn prints_terms(rt: HostRuntime) -> Result<(), Fail> {
 }
 
 #[test]
+fn matches_and_makes(rt: HostRuntime) -> Result<(), Fail> {
+    let rows: [(&[&str], &str, u8, &str, &str); 22] = [
+        (
+            &["match", "f(<int>,<list>)"],
+            "f(1,2,3)",
+            0,
+            "yes\n1\n[2,3]\n",
+            "",
+        ),
+        (&["match", "f(<int>,<list>)"], "f(1)", 0, "yes\n1\n[]\n", ""),
+        (&["match", "f(<int>,<list>)"], "f(a)", 0, "no\n", ""),
+        (&["match", "[<list>]{x}"], "[1,2]{x}", 0, "yes\n[1,2]\n", ""),
+        (&["match", "<str>"], "a", 0, "no\n", ""),
+        (&["match", " -7"], "-7", 0, "yes\n", ""),
+        (&["match", "--", "-7"], "-7", 0, "yes\n", ""),
+        (&["match", "<foo>"], "a", 1, "!pattern P1\n", ""),
+        (&["match", "<int>{a}"], "1", 1, "!pattern P2\n", ""),
+        (
+            &["match", ""],
+            "a",
+            1,
+            "!pattern A\n",
+            "recw: pattern A at byte 0\n",
+        ),
+        (
+            &["match", "a"],
+            "f(a",
+            1,
+            "!term A\n",
+            "recw: term A at byte 3\n",
+        ),
+        (
+            &["match", "a", "/dev/null"],
+            "a",
+            1,
+            "!term A\n",
+            "recw: term A at byte 0\n",
+        ),
+        (
+            &["match", "<foo>", "no such file"],
+            "a",
+            4,
+            "",
+            "recw: read failed\n",
+        ),
+        (
+            &["make", "f(<int>,<list>)", "[1,[2,3]]"],
+            "",
+            0,
+            "f(1,2,3)\n",
+            "",
+        ),
+        (&["make", "a", "[]{}"], "", 0, "a\n", ""),
+        (&["make", " -7", "[]"], "", 0, "-7\n", ""),
+        (&["make", "f(<int>)", "[]"], "", 1, "!args M1\n", ""),
+        (&["make", "f(<int>)", "[a]"], "", 1, "!args M2\n", ""),
+        (&["make", "a", "[]{b}"], "", 1, "!args T1\n", ""),
+        (&["make", "<foo>", "("], "", 1, "!pattern P1\n", ""),
+        (
+            &["make", "a", "["],
+            "",
+            1,
+            "!args A\n",
+            "recw: args A at byte 1\n",
+        ),
+        (
+            &["make", "a", ""],
+            "",
+            1,
+            "!args A\n",
+            "recw: args A at byte 0\n",
+        ),
+    ];
+    for (words, text, status, out, err) in rows {
+        let ran = run(&rt, words, text)?;
+        assert_eq!(rt; ran.status, status, "{words:?}");
+        assert_eq!(rt; ran.out.as_str(), out, "{words:?}");
+        assert_eq!(rt; ran.err.as_str(), err, "{words:?}");
+    }
+    Ok(())
+}
+
+#[test]
 fn refuses_words(rt: HostRuntime) -> Result<(), Fail> {
-    let rows: [&[&str]; 9] = [
+    let rows: [&[&str]; 14] = [
         &["eval", "--steps", "1000000000000000001"],
         &["eval", "--steps", "-1"],
         &["eval", "--steps", "x"],
@@ -150,6 +233,11 @@ fn refuses_words(rt: HostRuntime) -> Result<(), Fail> {
         &["--steps", "3"],
         &["eval", "-7"],
         &["match"],
+        &["match", "a", "b", "c"],
+        &["match", "-7"],
+        &["make"],
+        &["make", "a"],
+        &["make", "a", "b", "c"],
         &["share", "a", "b"],
     ];
     for words in rows {
@@ -220,13 +308,48 @@ Options:
 Example: echo 'f ( a , [ 1 , -007 ] )' | recw aterm
 ";
 
+const MATCH_HELP: &str = "Print what a pattern binds in an ATerm, or that it does not match
+
+Usage: recw match <PATTERN> [FILE]
+
+Arguments:
+  <PATTERN>  ATerm with placeholders
+  [FILE]     File of the ATerm [default: standard input]
+
+Options:
+  -h, --help  Print help
+
+Placeholders: <term>, <int>, <str>, <appl>, <placeholder>, <list>.
+Give a pattern that begins with - a blank before it: ' -7'.
+
+Example: echo 'f(1,2,3)' | recw match 'f(<int>,<list>)'
+";
+
+const MAKE_HELP: &str = "Print a pattern with arguments in place of its placeholders
+
+Usage: recw make <PATTERN> <ARGS>
+
+Arguments:
+  <PATTERN>  ATerm with placeholders
+  <ARGS>     List with an ATerm for each placeholder, in order
+
+Options:
+  -h, --help  Print help
+
+Give a pattern that begins with - a blank before it: ' -7'.
+
+Example: recw make 'f(<int>,<list>)' '[1,[2,3]]'
+";
+
 #[test]
 fn shows_help(rt: HostRuntime) -> Result<(), Fail> {
-    let rows: [(&[&str], &str); 4] = [
+    let rows: [(&[&str], &str); 6] = [
         (&["eval", "-h"], EVAL_HELP),
         (&["eval", "--help"], EVAL_HELP),
         (&["help", "eval"], EVAL_HELP),
         (&["aterm", "-h"], ATERM_HELP),
+        (&["match", "-h"], MATCH_HELP),
+        (&["help", "make"], MAKE_HELP),
     ];
     for (words, help) in rows {
         let Ran { status, out, err } = run(&rt, words, "")?;

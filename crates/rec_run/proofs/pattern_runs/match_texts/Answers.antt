@@ -1,0 +1,25 @@
+use Rattle.std.proofs.Common.{subst}
+use Rattle.rx_pattern.specs.Matching.{matching}
+use Rattle.rx_term.specs.Tree.{Tree}
+use Rattle.rx_text.specs.Verdict.{Verdict}
+use Rattle.rec_run.specs.Output.{Due}
+use Rattle.rec_run.specs.TermRuns.{due_of}
+use Rattle.rec_run.specs.PatternRuns.{match_lines}
+use Rattle.rec_run.specs.PatternAnswers.{IsPatternRead, answer_due}
+use Rattle.rec_run.specs.declared.pattern_runs.PatternReading.{PatternReading}
+use Rattle.rec_run.proofs.PatternDue.{good_both, if_ok_map, refused_both}
+use Rattle.rec_run.proofs.pattern_runs.match_texts.Goals as goal
+
+abbrev after : Tree → Verdict → Due
+after p v = due_of (λ t. match_lines (matching p t)) v
+
+pub returns-in-Refused-clause-due : goal.returns-in-Refused-clause-due
+returns-in-Refused-clause-due g c =
+    refused_both after _ c.args.pattern.now c.in-Refused.refusal (subst (λ (r : PatternReading). IsPatternRead c.args.pattern.now r) c.in-Refused.is c.in_ok-refusal.ensures.read)
+
+pub returns-in-Good-clause-due : goal.returns-in-Good-clause-due
+returns-in-Good-clause-due g c =
+    let spelt = subst (λ (r : PatternReading). IsPatternRead c.args.pattern.now r) c.in-Good.is c.in_ok-refusal.ensures.read in
+    if_ok_map c.match_input.result _ _
+    (λ answer h. good_both after _ c.args.pattern.now c.in-Good.pattern (answer_due (g.B.TermBank.store c.match_input.new.bank) answer) spelt h)
+    c.match_input.ensures.due

@@ -1,0 +1,30 @@
+use Rattle.rx_plain.specs.State.{store_of}
+use Rattle.rec_run.specs.PatternRuns.{match_due}
+use Rattle.rec_run.specs.PatternAnswers.{answer_due}
+use Rattle.rec_run.proofs.Told.{if_err_at}
+use Rattle.rec_run.proofs.PatternDue.{breaks_both, ends_both, placed_both}
+use Rattle.rec_run.specs.PatternRuns.{IsMatchDue}
+use Rattle.rec_run.proofs.PatternLines.{breaks_unwritten}
+use Rattle.rec_run.proofs.pattern_runs.run_match_at.Goals as goal
+
+pub returns-in_err-write_answer-clause-fault : goal.returns-in_err-write_answer-clause-fault
+returns-in_err-write_answer-clause-fault g c =
+    let f = c.in_err-write_answer.field-0.0 in
+    if_err_at c.from_residual-in_err-write_answer.result _ f c.from_residual-in_err-write_answer.ensures.1
+    (breaks_both match_due (g.R.Read.remaining c.args.input.now) c.args.pattern.now (answer_due (store_of c.match_texts.new.bank) c.in_ok-answer.answer) f _ _ c.in_ok-answer.ensures.due c.in_err-write_answer.ensures.err)
+
+pub returns-in_err-answer-clause-fault : goal.returns-in_err-answer-clause-fault
+returns-in_err-answer-clause-fault g c =
+    let f = c.in_err-answer.field-0.0 in
+    if_err_at c.from_residual-in_err-answer.result _ f c.from_residual-in_err-answer.ensures.1
+    (breaks_unwritten (IsMatchDue c.args.pattern.now) (g.R.Read.remaining c.args.input.now) f _ c.in_err-answer.ensures.fault)
+
+pub returns-clause-output : goal.returns-clause-output
+returns-clause-output g c =
+    let w = store_of c.match_texts.new.bank in
+    ends_both match_due (g.R.Read.remaining c.args.input.now) c.args.pattern.now (answer_due w c.in_ok-answer.answer) c.finish.result _ _ c.in_ok-answer.ensures.due (c.finish.ensures w) c.in_ok-write_answer.ensures.ok
+
+pub returns-clause-place : goal.returns-clause-place
+returns-clause-place g c =
+    let w = store_of c.match_texts.new.bank in
+    placed_both match_due (g.R.Read.remaining c.args.input.now) c.args.pattern.now (answer_due w c.in_ok-answer.answer) c.place.result c.in_ok-answer.ensures.due (c.place.ensures w)

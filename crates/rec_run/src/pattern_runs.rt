@@ -1,0 +1,361 @@
+//! Runs with a pattern: matching it with a term, and making a term from it.
+
+ghost use Rattle.std.specs.Prelude.{◌≡◌, List, [], ◌++◌, option_map, Some, None, IfErr, IfOk, IfSome, IsSome, OnErr, OnOk};
+ghost use Rattle.std.specs.Option.{option_and_then};
+ghost use Rattle.rx_term.specs.Tree.{Tree, Trees, list_of, to_list};
+ghost use Rattle.rx_term.specs.Store.{tree_at};
+ghost use Rattle.rx_term.specs.Walks.{AllHeld};
+ghost use Rattle.rx_text.specs.Verdict.{Verdict, IsVerdict};
+ghost use Rattle.rx_pattern.specs.Held.{HaveTrees};
+ghost use Rattle.rx_pattern.specs.Matching.{matching};
+ghost use Rattle.rx_pattern.specs.Filling.{filling};
+ghost use Rattle.rec_sorts.specs.TermRules.{elements};
+ghost use Rattle.rec_run.specs.Output.{Due, done};
+ghost use Rattle.rec_run.specs.Run.{Reports};
+ghost use Rattle.rec_run.specs.TermRuns.{Breaks, Ends, FitsRoom, IsPlaced, due_of};
+ghost use Rattle.rec_run.specs.PatternRuns.{
+  IsMakeDue,
+  IsMatchDue,
+  IsNoPattern,
+  due_of_args,
+  filled_due,
+  made_due,
+  match_lines,
+};
+ghost use Rattle.rec_run.specs.PatternAnswers.{
+  HasElements,
+  IsAnswerHeld,
+  IsPatternOf,
+  IsPatternRead,
+  answer_due,
+  text_refusal,
+};
+
+use crate::ending::{Finish, Place, RunFault, Source};
+use crate::given_term::{TermReading, TermRefusal, empty_bank, parse};
+use crate::pattern_answer::{Answer, Reason, Refusal};
+use crate::pattern_lines::write_answer;
+use crate::text::read_all;
+use rx_pattern::{MakeFault, Pattern, PatternFault};
+use rx_term::{Kind, Term, TermBank};
+use std::alloc::{AllocError, Global};
+use std::io::{Read, Write};
+
+/// What the text of a pattern came to.
+#[derive(Drop)]
+pub(crate) enum PatternReading {
+    Refused(Refusal),
+    Good(Pattern),
+}
+
+/// Reads a pattern and then the text of a term, writes `yes` and a line for each binding, or `no`, and flushes; or the line of a refusal.
+/// Where the pattern is refused nothing of the input is read; else what a fault leaves of the reader is open.
+pub fn run_match<R: Read, W: Write>(
+    alloc: Global,
+    pattern: &[u8],
+    input: &mut R,
+    out: &mut W,
+) -> Result<Finish, RunFault>
+    ensures output { IfOk result (λ finish. IfSome (R.remaining input.old)
+        (λ bytes. Ends (IsMatchDue pattern.now bytes) finish (W.contents out.old) (W.contents out.new))) }
+    ensures fault { IfErr result (λ fault. IfSome (R.remaining input.old)
+        (λ bytes. Breaks (IsMatchDue pattern.now bytes) fault (W.contents out.old) (W.contents out.new))) }
+    ensures unread { IsNoPattern pattern.now → input.new ≡ input.old }
+{
+    let mut place = None;
+    run_match_at(alloc, pattern, input, out, &mut place)
+}
+
+/// The same, with the place of the refusal that was written.
+pub fn run_match_at<R: Read, W: Write>(
+    alloc: Global,
+    pattern: &[u8],
+    input: &mut R,
+    out: &mut W,
+    place: &mut Option<Place>,
+) -> Result<Finish, RunFault>
+    ensures output { IfOk result (λ finish. IfSome (R.remaining input.old)
+        (λ bytes. Ends (IsMatchDue pattern.now bytes) finish (W.contents out.old) (W.contents out.new))) }
+    ensures place { OnOk result (IfSome (R.remaining input.old) (λ bytes. IsPlaced (IsMatchDue pattern.now bytes) place.new)) }
+    ensures fault { IfErr result (λ fault. IfSome (R.remaining input.old)
+        (λ bytes. Breaks (IsMatchDue pattern.now bytes) fault (W.contents out.old) (W.contents out.new))) }
+    ensures no_place { OnErr result (place.new ≡ None) }
+    ensures unread { IsNoPattern pattern.now → input.new ≡ input.old }
+{
+    *place = None;
+    let mut bank = empty_bank(alloc)?;
+    let answer = match_texts(alloc, pattern, input, &mut bank)?;
+    write_answer(alloc, &bank, &answer, out)?;
+    *place = answer.place();
+    Ok(answer.finish())
+}
+
+/// Makes a tree from the texts of a pattern and of its arguments, writes its printed text and a line end, and flushes; or the line of a
+/// refusal.
+pub fn run_make<W: Write>(
+    alloc: Global,
+    pattern: &[u8],
+    args: &[u8],
+    out: &mut W,
+) -> Result<Finish, RunFault>
+    ensures output { IfOk result (λ finish. Ends (IsMakeDue pattern.now args.now) finish (W.contents out.old) (W.contents out.new)) }
+    ensures fault { IfErr result (λ fault. Breaks (IsMakeDue pattern.now args.now) fault (W.contents out.old) (W.contents out.new)) }
+{
+    let mut place = None;
+    run_make_at(alloc, pattern, args, out, &mut place)
+}
+
+/// The same, with the place of the refusal that was written.
+pub fn run_make_at<W: Write>(
+    alloc: Global,
+    pattern: &[u8],
+    args: &[u8],
+    out: &mut W,
+    place: &mut Option<Place>,
+) -> Result<Finish, RunFault>
+    ensures output { IfOk result (λ finish. Ends (IsMakeDue pattern.now args.now) finish (W.contents out.old) (W.contents out.new)) }
+    ensures place { OnOk result (IsPlaced (IsMakeDue pattern.now args.now) place.new) }
+    ensures fault { IfErr result (λ fault. Breaks (IsMakeDue pattern.now args.now) fault (W.contents out.old) (W.contents out.new)) }
+    ensures no_place { OnErr result (place.new ≡ None) }
+{
+    *place = None;
+    let mut bank = empty_bank(alloc)?;
+    let answer = make_of_texts(alloc, pattern, args, &mut bank)?;
+    write_answer(alloc, &bank, &answer, out)?;
+    *place = answer.place();
+    Ok(answer.finish())
+}
+
+/// Reads the pattern, then the input, and matches the one with the other.
+fn match_texts<B: TermBank, R: Read>(
+    alloc: Global,
+    pattern: &[u8],
+    input: &mut R,
+    bank: &mut B,
+) -> Result<Answer, RunFault>
+    ensures due { IfOk result (λ answer. IfSome (R.remaining input.old)
+        (λ bytes. IsMatchDue pattern.now bytes (answer_due (B.store bank.new) answer))) }
+    ensures held { IfOk result (λ answer. IsAnswerHeld (B.store bank.new) answer) }
+    ensures fault { IfErr result (λ fault. Reports fault []) }
+    ensures full { IfErr result (λ fault. FitsRoom (B.store bank.new) fault) }
+    ensures unread { IsNoPattern pattern.now → input.new ≡ input.old }
+{
+    match read_pattern(alloc, pattern, bank)? {
+        PatternReading::Refused(refusal) => Ok(Answer::Refused(refusal)),
+        PatternReading::Good(pattern) => match_input(alloc, &pattern, input, bank),
+    }
+}
+
+/// Reads the input, and matches a pattern with it.
+fn match_input<B: TermBank, R: Read>(
+    alloc: Global,
+    pattern: &Pattern,
+    input: &mut R,
+    bank: &mut B,
+) -> Result<Answer, RunFault>
+    ensures due { IfOk result (λ answer. IfSome (R.remaining input.old) (λ bytes. (v : Verdict) ×
+        (IsVerdict bytes v × (answer_due (B.store bank.new) answer ≡ due_of (λ t. match_lines (matching pattern.now t)) v)))) }
+    ensures held { IfOk result (λ answer. IsAnswerHeld (B.store bank.new) answer) }
+    ensures fault { IfErr result (λ fault. Reports fault []) }
+    ensures full { IfErr result (λ fault. FitsRoom (B.store bank.new) fault) }
+{
+    let text = read_all(alloc, input)?;
+    match parse(alloc, &text, bank)? {
+        TermReading::Refused(refusal) => Ok(Answer::Refused(refusal_of(Source::Term, refusal))),
+        TermReading::Spells(t) => match_term(alloc, pattern, t, bank),
+    }
+}
+
+/// Matches a pattern with a term of the bank.
+fn match_term<B: TermBank>(
+    alloc: Global,
+    pattern: &Pattern,
+    t: Term,
+    bank: &mut B,
+) -> Result<Answer, RunFault>
+    requires { IsSome (tree_at (B.store bank.old) t) }
+    ensures due { IfOk result (λ answer. (u : Tree) → tree_at (B.store bank.old) t ≡ Some u →
+        answer_due (B.store bank.new) answer ≡ done (match_lines (matching pattern.now u))) }
+    ensures held { IfOk result (λ answer. IsAnswerHeld (B.store bank.new) answer) }
+    ensures fault { IfErr result (λ fault. Reports fault []) }
+    ensures full { IfErr result (λ fault. FitsRoom (B.store bank.new) fault) }
+{
+    let mut bindings = Vec::new(alloc);
+    match pattern.matches(bank, t, &mut bindings) {
+        Ok(true) => Ok(Answer::Yes(bindings)),
+        Ok(false) => Ok(Answer::No),
+        Err(PatternFault::Full) => Err(RunFault::Room { lines: 0 }),
+        Err(_) => Err(RunFault::Memory { lines: 0 }),
+    }
+}
+
+/// Reads the pattern, then the arguments, and makes a tree from them.
+fn make_of_texts<B: TermBank>(
+    alloc: Global,
+    pattern: &[u8],
+    args: &[u8],
+    bank: &mut B,
+) -> Result<Answer, RunFault>
+    ensures due { IfOk result (λ answer. IsMakeDue pattern.now args.now (answer_due (B.store bank.new) answer)) }
+    ensures held { IfOk result (λ answer. IsAnswerHeld (B.store bank.new) answer) }
+    ensures fault { IfErr result (λ fault. Reports fault []) }
+    ensures full { IfErr result (λ fault. FitsRoom (B.store bank.new) fault) }
+{
+    match read_pattern(alloc, pattern, bank)? {
+        PatternReading::Refused(refusal) => Ok(Answer::Refused(refusal)),
+        PatternReading::Good(pattern) => make_of_text(alloc, &pattern, args, bank),
+    }
+}
+
+/// Reads the arguments, and makes a tree from a pattern and them.
+fn make_of_text<B: TermBank>(
+    alloc: Global,
+    pattern: &Pattern,
+    args: &[u8],
+    bank: &mut B,
+) -> Result<Answer, RunFault>
+    ensures due { IfOk result (λ answer. (v : Verdict) × (IsVerdict args.now v × (answer_due (B.store bank.new) answer ≡ due_of_args pattern.now v))) }
+    ensures held { IfOk result (λ answer. IsAnswerHeld (B.store bank.new) answer) }
+    ensures fault { IfErr result (λ fault. Reports fault []) }
+    ensures full { IfErr result (λ fault. FitsRoom (B.store bank.new) fault) }
+{
+    match parse(alloc, args, bank)? {
+        TermReading::Refused(refusal) => Ok(Answer::Refused(refusal_of(Source::Args, refusal))),
+        TermReading::Spells(t) => make_of_term(alloc, pattern, t, bank),
+    }
+}
+
+/// Makes a tree from a pattern and the elements of a term of the bank.
+fn make_of_term<B: TermBank>(
+    alloc: Global,
+    pattern: &Pattern,
+    t: Term,
+    bank: &mut B,
+) -> Result<Answer, RunFault>
+    requires { IsSome (tree_at (B.store bank.old) t) }
+    ensures due { IfOk result (λ answer. (u : Tree) → tree_at (B.store bank.old) t ≡ Some u →
+        answer_due (B.store bank.new) answer ≡ filled_due pattern.now (elements u)) }
+    ensures held { IfOk result (λ answer. IsAnswerHeld (B.store bank.new) answer) }
+    ensures fault { IfErr result (λ fault. Reports fault []) }
+    ensures full { IfErr result (λ fault. FitsRoom (B.store bank.new) fault) }
+{
+    match elements_of(alloc, bank, t) {
+        Ok(Some(args)) => make_of_elements(pattern, &args, bank),
+        Ok(None) => Ok(refused_args(Reason::Unlisted)),
+        Err(_) => Err(RunFault::Memory { lines: 0 }),
+    }
+}
+
+/// Makes a tree from a pattern and terms of the bank.
+fn make_of_elements<B: TermBank>(
+    pattern: &Pattern,
+    args: &[Term],
+    bank: &mut B,
+) -> Result<Answer, RunFault>
+    requires { AllHeld (B.store bank.old) args.now }
+    ensures due { IfOk result (λ answer. (ts : List Tree) → HaveTrees (B.store bank.old) args.now ts →
+        answer_due (B.store bank.new) answer ≡ made_due (filling pattern.now ts)) }
+    ensures held { IfOk result (λ answer. IsAnswerHeld (B.store bank.new) answer) }
+    ensures fault { IfErr result (λ fault. Reports fault []) }
+    ensures full { IfErr result (λ fault. FitsRoom (B.store bank.new) fault) }
+{
+    match pattern.make(bank, args) {
+        Ok(t) => Ok(Answer::Made(t)),
+        Err(MakeFault::Count) => Ok(refused_args(Reason::Count)),
+        Err(MakeFault::Kind { at: _ }) => Ok(refused_args(Reason::Kind)),
+        Err(MakeFault::Memory) => Err(RunFault::Memory { lines: 0 }),
+        Err(MakeFault::Full) => Err(RunFault::Room { lines: 0 }),
+    }
+}
+
+/// That the arguments are refused.
+fn refused_args(reason: Reason) -> Answer
+    ensures { result ≡ Answer.Refused (record { text = Source.Args; reason = reason }) }
+{
+    Answer::Refused(Refusal {
+        text: Source::Args,
+        reason,
+    })
+}
+
+/// References of the elements of a list without annotations; `None` of any other tree.
+fn elements_of<B: TermBank>(
+    alloc: Global,
+    bank: &B,
+    t: Term,
+) -> Result<Option<Vec<Term>>, AllocError>
+    requires { IsSome (tree_at (B.store bank.now) t) }
+    ensures { IfOk result (λ found. HasElements (B.store bank.now) (option_and_then elements (tree_at (B.store bank.now) t))
+        (option_map (λ v. v.items) found)) }
+{
+    if bank.anns(t).is_some() {
+        return Ok(None);
+    }
+    match bank.kind(t) {
+        Kind::Nil | Kind::Cons => Ok(Some(items_of(alloc, bank, t)?)),
+        Kind::Int(_) | Kind::Appl(_) | Kind::Hole => Ok(None),
+    }
+}
+
+/// References of the items of a list without annotations.
+fn items_of<B: TermBank>(alloc: Global, bank: &B, list: Term) -> Result<Vec<Term>, AllocError>
+    requires { (ts : Trees) × (tree_at (B.store bank.now) list ≡ Some (list_of ts)) }
+    ensures { IfOk result (λ found. (ts : Trees) → tree_at (B.store bank.now) list ≡ Some (list_of ts) →
+        HaveTrees (B.store bank.now) found.items (to_list ts)) }
+{
+    let mut found = Vec::new(alloc);
+    let mut rest = list;
+    while let Kind::Cons = bank.kind(rest) {
+        found.push(bank.head(rest))?;
+        rest = bank.tail(rest);
+    }
+    Ok(found)
+}
+
+/// Reads the text of a pattern.
+fn read_pattern<B: TermBank>(
+    alloc: Global,
+    text: &[u8],
+    bank: &mut B,
+) -> Result<PatternReading, RunFault>
+    ensures read { IfOk result (λ reading. IsPatternRead text.now reading) }
+    ensures fault { IfErr result (λ fault. Reports fault []) }
+    ensures full { IfErr result (λ fault. FitsRoom (B.store bank.new) fault) }
+{
+    match parse(alloc, text, bank)? {
+        TermReading::Refused(refusal) => Ok(PatternReading::Refused(refusal_of(
+            Source::Pattern,
+            refusal,
+        ))),
+        TermReading::Spells(t) => pattern_of(alloc, bank, t),
+    }
+}
+
+/// The pattern that a term of the bank is.
+fn pattern_of<B: TermBank>(alloc: Global, bank: &B, t: Term) -> Result<PatternReading, RunFault>
+    requires { IsSome (tree_at (B.store bank.now) t) }
+    ensures read { IfOk result (λ reading. (u : Tree) → tree_at (B.store bank.now) t ≡ Some u → IsPatternOf u reading) }
+    ensures fault { IfErr result (λ fault. fault ≡ RunFault.Memory 0) }
+{
+    let reason = match Pattern::of(alloc, bank, t) {
+        Ok(pattern) => return Ok(PatternReading::Good(pattern)),
+        Err(PatternFault::Unknown) => Reason::Unknown,
+        Err(PatternFault::Annotated) => Reason::Annotated,
+        Err(_) => return Err(RunFault::Memory { lines: 0 }),
+    };
+    Ok(PatternReading::Refused(Refusal {
+        text: Source::Pattern,
+        reason,
+    }))
+}
+
+/// The refusal of a text that spells no term.
+fn refusal_of(text: Source, refusal: TermRefusal) -> Refusal
+    ensures { result ≡ text_refusal text refusal }
+{
+    let reason = match refusal {
+        TermRefusal::Long => Reason::Long,
+        TermRefusal::Outside { at } => Reason::Outside { at },
+    };
+    Refusal { text, reason }
+}
