@@ -84,7 +84,7 @@ no_ends_front front rest h = let e = newlines-append front rest in omega (arith,
 other_byte : (b : ℕ) (bs : List ℕ) → b ≢ 10 → newlines bs ≡ 0 → newlines (b ∷ bs) ≡ 0
 other_byte b bs h k = grind (arith, nat_tests, h, k)
 
-no_ends : (bs : List ℕ) → All (λ b. (b ≢ 10) × (b ≢ 9)) bs → newlines bs ≡ 0
+pub no_ends : (bs : List ℕ) → All (λ b. (b ≢ 10) × (b ≢ 9)) bs → newlines bs ≡ 0
 no_ends [] h = refl
 no_ends (b ∷ bs) h = other_byte b bs (h 0 0 (omega arith)).0 (no_ends bs (λ k d lt. h (suc k) d (omega arith)))
 

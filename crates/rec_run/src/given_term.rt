@@ -80,7 +80,7 @@ pub(crate) fn read_term<R: Read>(alloc: Global, input: &mut R) -> Result<GivenTe
 }
 
 /// An empty bank.
-fn empty_bank(alloc: Global) -> Result<PlainBank, RunFault>
+pub(crate) fn empty_bank(alloc: Global) -> Result<PlainBank, RunFault>
     ensures unrooted { IfOk result (λ bank. (t : ℕ) → (store_of bank).roots t ≡ 0) }
     ensures fault { IfErr result (λ fault. Reports fault []) }
 {
@@ -91,7 +91,11 @@ fn empty_bank(alloc: Global) -> Result<PlainBank, RunFault>
 }
 
 /// The verdict on a text, with its term in the bank.
-fn parse<B: TermBank>(alloc: Global, text: &[u8], bank: &mut B) -> Result<TermReading, RunFault>
+pub(crate) fn parse<B: TermBank>(
+    alloc: Global,
+    text: &[u8],
+    bank: &mut B,
+) -> Result<TermReading, RunFault>
     ensures read { IfOk result (λ reading. (v : Verdict) × IsReadingOf (B.store bank.new) reading v × IsVerdict text.now v) }
     ensures roots { (B.store bank.new).roots ≡ (B.store bank.old).roots }
     ensures fault { IfErr result (λ fault. Reports fault []) }
