@@ -69,11 +69,11 @@ heads_none : (ts : List Term) → heads ts ≡ [] → ts ≡ []
 heads_none [] e = refl
 heads_none (t ∷ ts) e = absurd (cc e)
 
-every_append : {X : Type 0} (P : X → Type 0) (xs ys : List X) → Every P (xs ++ ys) → Every P xs × Every P ys
+pub every_append : {X : Type 0} (P : X → Type 0) (xs ys : List X) → Every P (xs ++ ys) → Every P xs × Every P ys
 every_append P [] ys h = (tt, h)
 every_append P (x ∷ xs) ys h = let k = every_append P xs ys h.1 in ((h.0, k.0), k.1)
 
-every_joined : {X : Type 0} (P : X → Type 0) (xs ys : List X) → Every P xs → Every P ys → Every P (xs ++ ys)
+pub every_joined : {X : Type 0} (P : X → Type 0) (xs ys : List X) → Every P xs → Every P ys → Every P (xs ++ ys)
 every_joined P [] ys h k = k
 every_joined P (x ∷ xs) ys h k = (h.0, every_joined P xs ys h.1 k)
 
@@ -81,7 +81,7 @@ every_flat : {X Y : Type 0} (P : Y → Type 0) (f : X → List Y) (xs : List X) 
 every_flat P f [] h = tt
 every_flat P f (x ∷ xs) h = let k = every_append P (f x) (flat_map f xs) h in (k.0, every_flat P f xs k.1)
 
-every_map : {X : Type 0} (P Q : X → Type 0) → ((x : X) → P x → Q x) → (xs : List X) → Every P xs → Every Q xs
+pub every_map : {X : Type 0} (P Q : X → Type 0) → ((x : X) → P x → Q x) → (xs : List X) → Every P xs → Every Q xs
 every_map P Q f [] h = tt
 every_map P Q f (x ∷ xs) h = (f x h.0, every_map P Q f xs h.1)
 
@@ -254,6 +254,14 @@ facts y e =
         by : (b : Bool) → is_variable y (bytes_at (names (symbols y)) k) ≡ b → is_variable y (bytes_at (names (symbols y)) k) ≡ false
         by false e = e
         by true e = absurd (cc (sym (mentions_at (names (symbols y)) k h) ∙ apart y taken (bytes_at (names (symbols y)) k) e))
+
+-- a declared symbol is no variable
+pub symbol_no_variable : (y : Spec) → fault y ≡ None → (name : List ℕ) (d : Declaration) → symbol y name ≡ Some d → is_variable y name ≡ false
+symbol_no_variable y kept name d e = by (is_variable y name) refl
+  where
+    by : (b : Bool) → is_variable y name ≡ b → b ≡ false
+    by false h = refl
+    by true h = absurd (cc (sym (undeclared (symbols y) name (apart y (all_kept (all_rules y) kept).1.1.0 name h)) ∙ e))
 
 -- the words of a term's subterms
 heads_append : (ts us : List Term) → heads (ts ++ us) ≡ heads ts ++ heads us

@@ -5,6 +5,9 @@ mod LineEnds
 mod LineFronts
 mod SpecLines
 mod WholeRuns
+mod GivenDue
+mod GivenLemmas
+mod NoteLemmas
 mod DueOfText
 mod OutputRows
 mod RefusalRows

@@ -1,14 +1,17 @@
 -- Texts that are made of lines: their fronts, and how many line ends these have.
-use Rattle.std.proofs.Common.{◌≡◌, ℕ, ◌+◌, ◌<◌, ◌≤◌, List, [], ◌∷◌, ◌++◌, Option, take, drop, get_or, length, length-take-le, refl, sym, ap, ◌∙◌, append_assoc, append-nil, take-append-drop, arith}
-use Rattle.std.specs.Prelude.{flat_map, codes}
+use Rattle.std.proofs.Common.{suc, ◌≡◌, ℕ, ◌+◌, ◌<◌, ◌≤◌, List, [], ◌∷◌, ◌++◌, Option, take, drop, get_or, length, length-take-le, refl, sym, ap, ◌∙◌, append_assoc, append-nil, take-append-drop, arith}
+use Rattle.std.specs.Prelude.{All, flat_map, codes}
+use Rattle.std.proofs.lemmas.List.Elements.{All-take}
 use Rattle.std.proofs.lemmas.List.{take_more}
 use Rattle.std.proofs.lemmas.List.Concat.{flat_map-append}
 use Rattle.std.specs.Io.KnownBytes.{Appends}
 use Rattle.rec_run.specs.Bytes.{AppendsFront, IsFront, newlines}
+use Rattle.rec_run.specs.GivenTerms.{ReportsAfter, StopsAfter}
 use Rattle.rec_run.specs.Run.{Stops, Reports}
 use Rattle.rec_run.specs.Reading.{within, raised}
 use Rattle.rec_run.specs.declared.printer.WriteFault.{WriteFault}
 use Rattle.rec_run.specs.declared.printer.WriteFault.TheVariants.{Memory, Write}
+use Rattle.rec_run.specs.declared.ending.RunFault.{RunFault}
 use Rattle.rec_run.specs.declared.ending.RunFault.TheVariants as fault
 use Rattle.rec_run.proofs.Told.{appends_both, front_before}
 use Rattle.rec_run.proofs.LineEnds.{newlines-append}
@@ -17,24 +20,29 @@ use Rattle.rec_run.proofs.LineEnds.{newlines-append}
 abbrev pub lines_of : {X : Type 0} → (X → List ℕ) → List X → List ℕ
 lines_of f items = flat_map (λ x. f x ++ codes "\n") items
 
--- no text has a line end
-abbrev pub NoEnds : {X : Type 0} → (X → List ℕ) → Type 0
-NoEnds {X} f = (x : X) → newlines (f x) ≡ 0
+-- no text of these items has a line end
+abbrev pub NoEnds : {X : Type 0} → (X → List ℕ) → List X → Type 0
+NoEnds f items = All (λ x. newlines (f x) ≡ 0) items
 
 -- each line has one line end
-pub newlines-lines_of : {X : Type 0} (f : X → List ℕ) (items : List X) → NoEnds f → newlines (lines_of f items) ≡ length items
+pub newlines-lines_of : {X : Type 0} (f : X → List ℕ) (items : List X) → NoEnds f items → newlines (lines_of f items) ≡ length items
 newlines-lines_of f [] none = refl
 newlines-lines_of f (x ∷ items) none =
     let both = newlines-append (f x ++ codes "\n") (lines_of f items) in
     let line = newlines-append (f x) (codes "\n") in
     let one : newlines (codes "\n") ≡ 1 = refl in
-    let text = none x in
-    let others = newlines-lines_of f items none in
+    let text : newlines (f x) ≡ 0 = none 0 x (omega arith) in
+    let others = newlines-lines_of f items (λ k d h. none (suc k) d (omega arith)) in
     omega (arith, both, line, one, text, others)
 
 -- a front of a text without line ends has none
 newlines-front : (front rest : List ℕ) → newlines (front ++ rest) ≡ 0 → newlines front ≡ 0
 newlines-front front rest h = let e = newlines-append front rest in omega (arith, e, h)
+
+-- no line so far
+pub lines_of-none : {X : Type 0} (f : X → List ℕ) (items : List X) → lines_of f (take 0 items) ≡ []
+lines_of-none f [] = refl
+lines_of-none f (x ∷ items) = refl
 
 -- the lines up to an item, and its own
 pub lines_of-more : {X : Type 0} (f : X → List ℕ) (items : List X) (i : ℕ) (d : X) → i < length items → lines_of f (take (i + 1) items) ≡ lines_of f (take i items) ++ (f (get_or items i d) ++ codes "\n")
@@ -64,25 +72,29 @@ front_in_line : (text front rest : List ℕ) → text ≡ front ++ rest → text
 front_in_line text front rest e = ap (λ z. z ++ codes "\n") e ∙ append_assoc front rest (codes "\n")
 
 -- before the line end of an item there are as many line ends as its number
-ends_before : {X : Type 0} (f : X → List ℕ) (items : List X) (i : ℕ) (d : X) (front rest : List ℕ) → NoEnds f → i < length items → f (get_or items i d) ≡ front ++ rest → i ≡ newlines (lines_of f (take i items) ++ front)
+ends_before : {X : Type 0} (f : X → List ℕ) (items : List X) (i : ℕ) (d : X) (front rest : List ℕ) → NoEnds f items → i < length items → f (get_or items i d) ≡ front ++ rest → i ≡ newlines (lines_of f (take i items) ++ front)
 ends_before f items i d front rest no_ends h e =
     let both = newlines-append (lines_of f (take i items)) front in
-    let before = newlines-lines_of f (take i items) no_ends in
+    let before = newlines-lines_of f (take i items) (All-take (λ x. newlines (f x) ≡ 0) i items no_ends) in
     let long : length (take i items) ≡ i = length-take-le i items (omega (arith, h)) in
-    let none = newlines-front front rest (ap newlines (sym e) ∙ no_ends (get_or items i d)) in
+    let none = newlines-front front rest (ap newlines (sym e) ∙ no_ends i d h) in
     omega (arith, both, before, long, none)
 
 front_of : {X : Type 0} (w : WriteFault) (f : X → List ℕ) (items : List X) (i : ℕ) (d : X) (front rest : List ℕ) → i < length items → within w (f (get_or items i d)) ≡ front ++ rest → IsFront (lines_of f (take i items) ++ front) (lines_of f items)
 front_of Memory f items i d front rest h e = front_in_lines f items i d front (rest ++ codes "\n") h (front_in_line (f (get_or items i d)) front rest e)
 front_of Write f items i d front rest h e = front_in_lines f items i d front rest h e
 
-report_of : {X : Type 0} (w : WriteFault) (f : X → List ℕ) (items : List X) (i : ℕ) (d : X) (front rest : List ℕ) → NoEnds f → i < length items → within w (f (get_or items i d)) ≡ front ++ rest → Reports (raised w i) (lines_of f (take i items) ++ front)
+report_of : {X : Type 0} (w : WriteFault) (f : X → List ℕ) (items : List X) (i : ℕ) (d : X) (front rest : List ℕ) → NoEnds f items → i < length items → within w (f (get_or items i d)) ≡ front ++ rest → Reports (raised w i) (lines_of f (take i items) ++ front)
 report_of Memory f items i d front rest no_ends h e = ends_before f items i d front rest no_ends h e
 report_of Write f items i d front rest no_ends h e = tt
 
+report_after : {X : Type 0} (w : WriteFault) (first : ℕ) (f : X → List ℕ) (items : List X) (i : ℕ) (d : X) (front rest : List ℕ) → NoEnds f items → i < length items → within w (f (get_or items i d)) ≡ front ++ rest → ReportsAfter first (raised w (first + i)) (lines_of f (take i items) ++ front)
+report_after Memory first f items i d front rest no_ends h e = ap (λ n. first + n) (ends_before f items i d front rest no_ends h e)
+report_after Write first f items i d front rest no_ends h e = tt
+
 -- a line stopped: so did the lines
 pub stops_lines :
-    {X : Type 0} (w : WriteFault) (f : X → List ℕ) (items : List X) (i : ℕ) (d : X) (old between new : Option (List ℕ)) → NoEnds f → i < length items
+    {X : Type 0} (w : WriteFault) (f : X → List ℕ) (items : List X) (i : ℕ) (d : X) (old between new : Option (List ℕ)) → NoEnds f items → i < length items
     → Appends old between (lines_of f (take i items))
     → AppendsFront (within w (f (get_or items i d))) between new
     → Stops (raised w i) (lines_of f items) old new
@@ -92,6 +104,46 @@ stops_lines w f items i d old between new no_ends h so_far (front, appended, (re
       appended = appends_both old between new (lines_of f (take i items)) front so_far appended;
       front = front_of w f items i d front rest h e;
       reported = report_of w f items i d front rest no_ends h e;
+    }
+
+-- so did the lines behind others
+pub stops_after :
+    {X : Type 0} (w : WriteFault) (first : ℕ) (f : X → List ℕ) (items : List X) (i : ℕ) (d : X) (old between new : Option (List ℕ)) → NoEnds f items → i < length items
+    → Appends old between (lines_of f (take i items))
+    → AppendsFront (within w (f (get_or items i d))) between new
+    → StopsAfter first (raised w (first + i)) (lines_of f items) old new
+stops_after w first f items i d old between new no_ends h so_far (front, appended, (rest, e)) =
+    record {
+      written = lines_of f (take i items) ++ front;
+      appended = appends_both old between new (lines_of f (take i items)) front so_far appended;
+      front = front_of w f items i d front rest h e;
+      reported = report_after w first f items i d front rest no_ends h e;
+    }
+
+reports_all : (stop : RunFault) (first : ℕ) (before written : List ℕ) → newlines before ≡ first → ReportsAfter first stop written → Reports stop (before ++ written)
+reports_all (fault.Memory lines) first before written h k = let e = newlines-append before written in omega (arith, e, h, k)
+reports_all (fault.Room lines) first before written h k = let e = newlines-append before written in omega (arith, e, h, k)
+reports_all fault.Read first before written h k = absurd k
+reports_all fault.Write first before written h k = tt
+
+-- what stopped behind a text stopped within both
+pub stops_behind : (stop : RunFault) (first : ℕ) (before text : List ℕ) (old between new : Option (List ℕ)) → newlines before ≡ first → Appends old between before → StopsAfter first stop text between new → Stops stop (before ++ text) old new
+stops_behind stop first before text old between new h so_far s =
+    record {
+      written = before ++ s.written;
+      appended = appends_both old between new before s.written so_far s.appended;
+      front = (s.front.0, ap (λ z. before ++ z) s.front.1 ∙ sym (append_assoc before s.written s.front.0));
+      reported = reports_all stop first before s.written h s.reported;
+    }
+
+-- what stopped within a text stopped within that and more
+pub stops_before : (stop : RunFault) (text more : List ℕ) (old new : Option (List ℕ)) → Stops stop text old new → Stops stop (text ++ more) old new
+stops_before stop text more old new s =
+    record {
+      written = s.written;
+      appended = s.appended;
+      front = (s.front.0 ++ more, ap (λ z. z ++ more) s.front.1 ∙ append_assoc s.written s.front.0 more);
+      reported = s.reported;
     }
 
 -- a front of a text that meets only the writer's refusal

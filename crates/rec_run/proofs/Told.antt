@@ -1,5 +1,5 @@
 -- What reads and writes one after another do to known bytes.
-use Rattle.std.proofs.Common.{IfErr, IsErrAnd, subst, refl, ◌≡◌, ℕ, ◌+◌, ◌-◌, ◌≤◌, List, [], ◌++◌, Option, Some, None, Result, Ok, Err, OnErr, IfSome, length, take, drop, sym, ap, ◌∙◌, append_assoc, append-nil, take-add, take_all, take_at, take-append-drop}
+use Rattle.std.proofs.Common.{IfErr, IsErrAnd, subst, refl, ◌≡◌, ℕ, ◌+◌, ◌-◌, ◌≤◌, List, [], ◌++◌, Option, Some, None, Result, Ok, Err, OnErr, OnOk, IfSome, length, take, drop, sym, ap, ◌∙◌, append_assoc, append-nil, take-add, take_all, take_at, take-append-drop}
 use Rattle.std.proofs.lemmas.List.{take_rest}
 use Rattle.std.specs.Io.KnownBytes.{Appends, Consumes, Keeps, IsAtEnd}
 use Rattle.rec_run.specs.Bytes.{AppendsFront}
@@ -77,6 +77,10 @@ front_before old new xs ys (front, k, (rest, e)) =
     (front, k, (rest ++ ys, ap (λ z. z ++ ys) e ∙ append_assoc front rest ys))
 
 -- nothing was written
+pub appends_nothing : (old : Option (List ℕ)) → Appends old old []
+appends_nothing None = tt
+appends_nothing (Some a) = sym (append-nil a)
+
 pub nothing_written : (old : Option (List ℕ)) (text : List ℕ) → AppendsFront text old old
 nothing_written old text = ([], appends_none old old (kept old), (text, refl))
   where
@@ -96,3 +100,12 @@ if_err_any (Err e) P h = h e
 pub if_err_at : {X E : Type 0} (r : Result X E) (P : E → Type 0) (x : E) → IsErrAnd r (λ e. e ≡ x) → P x → IfErr r P
 if_err_at (Ok y) P x h p = tt
 if_err_at (Err e) P x h p = subst P (sym h) p
+
+-- what follows from what holds at a value holds there too
+pub on_ok_of : {X E : Type 0} {P Q : Type 0} (r : Result X E) → (P → Q) → OnOk r P → OnOk r Q
+on_ok_of (Ok x) f h = f h
+on_ok_of (Err e) f h = tt
+
+pub on_err_of : {X E : Type 0} {P Q : Type 0} (r : Result X E) → (P → Q) → OnErr r P → OnErr r Q
+on_err_of (Ok x) f h = tt
+on_err_of (Err e) f h = f h

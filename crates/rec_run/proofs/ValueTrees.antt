@@ -1,7 +1,7 @@
 -- Values are built of applications: each name is quoted just where it must be, and nothing has annotations.
 use Rattle.std.proofs.Common.{refl, sym, ap, subst, ◌∙◌}
 use Rattle.std.specs.Prelude.{ℕ, zero, suc, ◌≡◌, Bool, true, false, not, List, [], ◌∷◌, ◌++◌, Option, Some, None, bytes_eq}
-use Rattle.rx_term.specs.Tree.{Tree, Trees, Appl, Int, Items, Hole, none, more, tree_eq, annotated}
+use Rattle.rx_term.specs.Tree.{Tree, Trees, Appl, Int, Items, Hole, none, more, tree_eq, annotated, annotations}
 use Rattle.rx_term.specs.Name.{plain_name}
 use Rattle.rec_syntax.specs.Tokens.{Word}
 use Rattle.rec_syntax.specs.Syntax.{Term, Terms, Apply, Spec, Rule}
@@ -103,6 +103,13 @@ mutual
 -- the value of a term without variables
 pub value_is_applied : (y : Spec) (n : ℕ) (t : Term) (v : Tree) (left : ℕ) → Eval y n [] t ≡ Done v left → IsApplied v
 value_is_applied y n t v left e = evals_applied (derived y n [] t (Done v left) e) tt
+
+-- such a tree has no annotations
+pub applied_unannotated : (t : Tree) → IsApplied t → annotations t ≡ none
+applied_unannotated (Appl name quoted args anns) h = h.1
+applied_unannotated (Int z anns) h = absurd h
+applied_unannotated (Items ts anns) h = absurd h
+applied_unannotated (Hole t anns) h = absurd h
 
 -- such a tree has no annotations of its own to be replaced
 pub annotated-none : (t : Tree) → IsApplied t → annotated t none ≡ t

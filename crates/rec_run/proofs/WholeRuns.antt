@@ -1,4 +1,4 @@
--- From the verdict on what was read to what is due.
+-- From what both texts came to to what is due.
 use Rattle.std.proofs.Common.{◌≡◌, ℕ, ◌+◌, ◌<◌, ◌≤◌, Bool, true, false, List, [], Option, Some, None, IfSome, length, take, take_all, refl, sym, ap, subst, ◌∙◌, arith, min}
 use Rattle.std.proofs.lemmas.List.{length-take}
 use Rattle.std.specs.Io.KnownBytes.{Appends, Keeps}
@@ -6,13 +6,17 @@ use Rattle.rec_sorts.specs.SpecRules as verdict
 use Rattle.rec_sorts.specs.SpecRules.{Verdict, SpecVerdict}
 use Rattle.rec_run.specs.Output.{Due, IsDue, IsDueAfter, due_of_spec}
 use Rattle.rec_run.specs.Bytes.{AppendsFront}
-use Rattle.rec_run.specs.Run.{Gives, HasPlace, Leaves, Stops}
+use Rattle.rec_run.specs.GivenTerms.{IsReadFrom, finish_of_run, place_of_run, run_due}
+use Rattle.rec_run.specs.Run.{Gives, HasPlace, Leaves, Reports, Stops, Texts}
 use Rattle.rec_run.specs.Reading.{verdict_of, due_of, refusal_line, place_of, finish_of, unread}
+use Rattle.rec_run.specs.declared.ending.Finish.{Finish}
 use Rattle.rec_run.specs.declared.ending.Place.{Place}
 use Rattle.rec_run.specs.declared.ending.RunFault.{RunFault}
 use Rattle.rec_run.specs.declared.text.ReadFault.{ReadFault}
 use Rattle.rec_run.specs.declared.text.ReadFault.TheVariants as reading
 use Rattle.rec_run.specs.declared.text.TheConstants.{LIMIT}
+use Rattle.rec_run.specs.declared.texts.RunReading.{RunReading}
+use Rattle.rec_run.specs.declared.texts.RunReading.TheVariants.{Alone, Both, Refused as RefusedTerms}
 use Rattle.rec_run.specs.declared.verdict.Refusal.{Refusal}
 use Rattle.rec_run.specs.declared.verdict.Refusal.TheVariants.{Long, Grammar, Rule}
 use Rattle.rec_run.specs.declared.verdict.Reading.{Reading}
@@ -21,7 +25,7 @@ use Rattle.rec_run.proofs.OneDue.{one_due}
 use Rattle.rec_run.proofs.Told.{appends_none}
 
 -- a front within the limit is the whole text
-short_front : (bytes : List ℕ) → length (take (LIMIT + 1) bytes) ≤ LIMIT → take (LIMIT + 1) bytes ≡ bytes
+pub short_front : (bytes : List ℕ) → length (take (LIMIT + 1) bytes) ≤ LIMIT → take (LIMIT + 1) bytes ≡ bytes
 short_front bytes h = take_all (LIMIT + 1) bytes (let e = length-take (LIMIT + 1) bytes in omega (arith, e, h))
 
 -- one byte past the limit is enough for the verdict
@@ -60,34 +64,45 @@ after_spec counted n (verdict.Grammar at) = refl
 after_spec counted n (verdict.Breaks f) = refl
 after_spec counted n (verdict.Good y) = refl
 
--- what is due for a text with this verdict
-due_here : (bytes : List ℕ) (counted : Bool) (n : ℕ) (r : Reading) → SpecVerdict bytes (verdict_of r) → IsDue bytes None counted n (due_of counted n r)
-due_here bytes counted n r h = (verdict_of r, h, after_spec counted n (verdict_of r))
+-- how a run ends, and the place of a refusal, by what both texts came to
+finish-run_due : (counted : Bool) (n : ℕ) (r : RunReading) → (run_due counted n r).finish ≡ finish_of_run r
+finish-run_due counted n (Alone r) = finish-due_of counted n r
+finish-run_due counted n (RefusedTerms r) = refl
+finish-run_due counted n (Both checked given) = refl
 
-pub gives : (told : Option (List ℕ)) (counted : Bool) (n : ℕ) (r : Reading) (old new : Option (List ℕ)) → IfSome told (λ bytes. SpecVerdict bytes (verdict_of r)) → Appends old new (due_of counted n r).text
-    → IfSome told (λ bytes. Gives bytes None counted n (finish_of r) old new)
-gives None counted n r old new h w = tt
-gives (Some bytes) counted n r old new h w =
-    record { due = due_of counted n r; is_due = due_here bytes counted n r h; ends = finish-due_of counted n r; written = w }
+place-run_due : (counted : Bool) (n : ℕ) (r : RunReading) → (run_due counted n r).place ≡ place_of_run r
+place-run_due counted n (Alone r) = place-due_of counted n r
+place-run_due counted n (RefusedTerms r) = refl
+place-run_due counted n (Both checked given) = refl
 
-pub has_place : (told : Option (List ℕ)) (counted : Bool) (n : ℕ) (r : Reading) (place : Option Place) → IfSome told (λ bytes. SpecVerdict bytes (verdict_of r)) → place ≡ place_of r
-    → IfSome told (λ bytes. HasPlace bytes None counted n place)
+pub gives : (told : Option Texts) (counted : Bool) (n : ℕ) (r : RunReading) (finish : Finish) (old new : Option (List ℕ)) → IfSome told (λ texts. IsReadFrom texts r) → finish ≡ finish_of_run r → Appends old new (run_due counted n r).text
+    → IfSome told (λ texts. Gives texts.spec texts.terms counted n finish old new)
+gives None counted n r finish old new h e w = tt
+gives (Some texts) counted n r finish old new h e w =
+    record { due = run_due counted n r; is_due = h counted n; ends = finish-run_due counted n r ∙ sym e; written = w }
+
+pub has_place : (told : Option Texts) (counted : Bool) (n : ℕ) (r : RunReading) (place : Option Place) → IfSome told (λ texts. IsReadFrom texts r) → place ≡ place_of_run r
+    → IfSome told (λ texts. HasPlace texts.spec texts.terms counted n place)
 has_place None counted n r place h e = tt
-has_place (Some bytes) counted n r place h e =
-    record { due = due_of counted n r; is_due = due_here bytes counted n r h; placed = place-due_of counted n r ∙ sym e }
+has_place (Some texts) counted n r place h e =
+    record { due = run_due counted n r; is_due = h counted n; placed = place-run_due counted n r ∙ sym e }
 
-pub leaves : (told : Option (List ℕ)) (counted : Bool) (n : ℕ) (r : Reading) (fault : RunFault) (old new : Option (List ℕ)) → IfSome told (λ bytes. SpecVerdict bytes (verdict_of r)) → Stops fault (due_of counted n r).text old new
-    → IfSome told (λ bytes. Leaves bytes None counted n fault old new)
+pub leaves : (told : Option Texts) (counted : Bool) (n : ℕ) (r : RunReading) (fault : RunFault) (old new : Option (List ℕ)) → IfSome told (λ texts. IsReadFrom texts r) → Stops fault (run_due counted n r).text old new
+    → IfSome told (λ texts. Leaves texts.spec texts.terms counted n fault old new)
 leaves None counted n r fault old new h s = tt
-leaves (Some bytes) counted n r fault old new h s = λ d is.
-    subst (λ (e : Due). Stops fault e.text old new) (one_due bytes None counted n (due_of counted n r) d (due_here bytes counted n r h) is) s
+leaves (Some texts) counted n r fault old new h s = λ d is.
+    subst (λ (e : Due). Stops fault e.text old new) (one_due texts.spec texts.terms counted n (run_due counted n r) d (h counted n) is) s
 
 kept : (o : Option (List ℕ)) → Keeps o o
 kept None = tt
 kept (Some a) = refl
 
--- nothing is written where no text is read
-pub leaves_unread : (told : Option (List ℕ)) (counted : Bool) (n : ℕ) (e : ReadFault) (old : Option (List ℕ)) → IfSome told (λ bytes. Leaves bytes None counted n (unread e) old old)
-leaves_unread None counted n e old = tt
-leaves_unread (Some bytes) counted n reading.Memory old = λ d is. record { written = []; appended = appends_none old old (kept old); front = (d.text, refl); reported = refl }
-leaves_unread (Some bytes) counted n reading.Read old = λ d is. record { written = []; appended = appends_none old old (kept old); front = (d.text, refl); reported = refl }
+-- nothing is written where a text is not read
+pub leaves_unread : (told : Option Texts) (counted : Bool) (n : ℕ) (fault : RunFault) (old : Option (List ℕ)) → Reports fault [] → IfSome told (λ texts. Leaves texts.spec texts.terms counted n fault old old)
+leaves_unread None counted n fault old h = tt
+leaves_unread (Some texts) counted n fault old h = λ d is. record { written = []; appended = appends_none old old (kept old); front = (d.text, refl); reported = h }
+
+-- the fault of a text that is not read tells of no line
+pub unread_reports : (e : ReadFault) → Reports (unread e) []
+unread_reports reading.Memory = refl
+unread_reports reading.Read = refl

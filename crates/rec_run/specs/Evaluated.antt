@@ -1,5 +1,5 @@
 -- What the answers of evaluation stand for.
-use Rattle.std.specs.Prelude.{ℕ, ◌≡◌, ◌≤◌, ◌-◌, Bool, true, false, List, All}
+use Rattle.std.specs.Prelude.{ℕ, ◌≡◌, ◌≤◌, ◌-◌, Bool, true, false, List, [], All}
 use Rattle.rx_term.specs.Tree.{Tree}
 use Rattle.rec_syntax.specs.Syntax.{Term, Condition, Spec}
 use Rattle.rec_sorts.specs.Laws.{Every}
@@ -75,3 +75,7 @@ answer y n outcome.Limit = Over
 abbrev pub IsAnswer : Spec → ℕ → Outcome → Type 0
 IsAnswer y n (outcome.Value v steps) = IsDeclared y v × (steps ≤ n)
 IsAnswer y n outcome.Limit = Unit {0}
+
+-- for a specification that keeps its rules, the answer is what the term of these letters evaluates to without bindings
+abbrev pub IsAnswerFor : Spec → List Letter → ℕ → Outcome → Type 0
+IsAnswerFor y ls n o = (t : Term) → KeepsRules y → AreLetters y ls t → HasBareVariables y t → answer y n o ≡ Eval y n [] t

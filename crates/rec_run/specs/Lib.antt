@@ -1,6 +1,7 @@
 pub mod Asking
 pub mod Bytes
 pub mod Evaluated
+pub mod GivenTerms
 pub mod Laws
 pub mod Matched
 pub mod Output

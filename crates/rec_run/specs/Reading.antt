@@ -1,6 +1,6 @@
 -- What the text of a specification comes to, and what is written for it.
 use Rattle.std.specs.Prelude.{ℕ, ◌-◌, List, [], ◌++◌, Bool, Option, Some, None, get_or, codes, decimal}
-use Rattle.rx_term.specs.Tree.{Tree, annotated, none}
+use Rattle.rx_term.specs.Tree.{Tree, Trees, annotated, none}
 use Rattle.rx_text.specs.Canon.{canon}
 use Rattle.rec_syntax.specs.Syntax.{Term, Apply, Spec, nameless}
 use Rattle.rec_syntax.specs.Syntax as syntax
@@ -65,14 +65,14 @@ finish_of (Good checked) = finish.Done
 abbrev pub due_of : Bool → ℕ → Reading → Due
 due_of counted n reading = due_of_spec counted n (verdict_of reading)
 
--- what is shown of an evaluation within n steps: the line of its term without the line end
-abbrev pub shown : Bool → ℕ → evaluation.Outcome Tree → List ℕ
-shown counted n (evaluation.Done v left) = canon (annotated v none) ++ steps_text counted (n - left)
-shown counted n evaluation.Over = codes "!limit " ++ decimal n
+-- what is shown of an evaluation within n steps, with annotations: the line of its term without the line end
+abbrev pub shown : Trees → Bool → ℕ → evaluation.Outcome Tree → List ℕ
+shown notes counted n (evaluation.Done v left) = canon (annotated v notes) ++ steps_text counted (n - left)
+shown notes counted n evaluation.Over = codes "!limit " ++ decimal n
 
 -- the text of a term's line
 abbrev pub line_text : Spec → Bool → ℕ → Term → List ℕ
-line_text y counted n t = shown counted n (Eval y n [] t)
+line_text y counted n t = shown none counted n (Eval y n [] t)
 
 -- the term of the list of terms that has this number
 abbrev pub term_at : Spec → ℕ → Term

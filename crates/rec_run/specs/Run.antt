@@ -2,7 +2,10 @@
 --     Gives spec terms counted n finish old new    it ended as is due, and wrote what is due
 --     HasPlace spec terms counted n place          the place is that of what is due
 --     Leaves spec terms counted n fault old new    it stopped at a fault, with a front of what is due written
-use Rattle.std.specs.Prelude.{◌≡◌, ℕ, List, [], Bool, Option}
+--     told spec terms                              both texts, where their readers tell them
+use Rattle.std.specs.Prelude.{◌≡◌, ◌⊎◌, ℕ, List, [], Bool, Option, Some, None, option_map}
+use Rattle.std.proofs.Common.{inl, inr}
+use Rattle.std.specs.Borrow.{MutBor}
 use Rattle.std.specs.Io.KnownBytes.{Appends}
 use Rattle.rec_run.specs.Bytes.{IsFront, newlines}
 use Rattle.rec_run.specs.Output.{Due, IsDue}
@@ -41,3 +44,25 @@ pub record Stops (fault : RunFault) (text : List ℕ) (old new : Option (List �
 -- a run that stopped at a fault: what was written is a front of whatever is due
 abbrev pub Leaves : List ℕ → Option (List ℕ) → Bool → ℕ → RunFault → Option (List ℕ) → Option (List ℕ) → Type 0
 Leaves spec terms counted n fault old new = (d : Due) → IsDue spec terms counted n d → Stops fault d.text old new
+
+-- the texts of a run: the specification, and the terms where some are given
+pub record Texts : Type 0 where
+  pub spec : List ℕ
+  pub terms : Option (List ℕ)
+
+-- the text of the terms, where some are given, by what their reader tells
+abbrev pub told_terms : {T : Type 0} → (T → Option (List ℕ)) → Option (MutBor T) → Option (Option (List ℕ))
+told_terms remaining None = Some None
+told_terms remaining (Some reader) = option_map (λ bytes. Some bytes) (remaining reader.now)
+
+-- both texts, where their readers tell them
+abbrev pub told : Option (List ℕ) → Option (Option (List ℕ)) → Option Texts
+told None terms = None
+told (Some spec) None = None
+told (Some spec) (Some terms) = Some (record { spec = spec; terms = terms })
+
+-- what an optional reference leads to in the end, where there is one
+abbrev pub Left : {X F Z T : Type 0} → (F → T) → X ⊎ (F ⊎ Z) → Option T → Type 0
+Left now (inl none) value = Unit {0}
+Left now (inr (inl some)) value = value ≡ Some (now some)
+Left now (inr (inr never)) value = Unit {0}

@@ -5,7 +5,7 @@ ghost use Rattle.rec_syntax.specs.Syntax.{Term};
 ghost use Rattle.rec_sorts.specs.Evaluation.{Eval, Call};
 ghost use Rattle.rec_run.specs.Values.{tree_of_value, IsDeclared};
 ghost use Rattle.rec_run.specs.Matched.{AreDeclared};
-ghost use Rattle.rec_run.specs.Evaluated.{CanEvaluate, CanCompare, LeavesAtMost, HeldWithin, ReachesDeclared, reached_tree, IsValueOf, IsAnswerOf, answer, IsAnswer};
+ghost use Rattle.rec_run.specs.Evaluated.{CanEvaluate, CanCompare, LeavesAtMost, HeldWithin, ReachesDeclared, reached_tree, IsValueOf, IsAnswerOf, answer, IsAnswer, IsAnswerFor};
 
 use crate::matching::{Binding, find, match_left};
 use crate::value::Value;
@@ -48,7 +48,20 @@ pub(crate) fn evaluate_term(
         → answer checked.now.spec n outcome ≡ Eval checked.now.spec n [] t) }
     ensures within { IfOk result (λ outcome. IsAnswer checked.now.spec n outcome) }
 {
-    let letters = &checked.terms()[i];
+    evaluate_letters(alloc, checked, &checked.terms()[i], n)
+}
+
+/// What the term of these letters, which has no variables, comes to within `n` steps.
+pub(crate) fn evaluate_letters(
+    alloc: Global,
+    checked: &Checked,
+    letters: &[Letter],
+    n: u64,
+) -> Result<Outcome, AllocError>
+    requires { CanEvaluate checked.now.spec [] letters.now }
+    ensures exact { IfOk result (IsAnswerFor checked.now.spec letters.now n) }
+    ensures within { IfOk result (λ outcome. IsAnswer checked.now.spec n outcome) }
+{
     match evaluate(alloc, checked, letters, &[], n)? {
         Reached::Limit => Ok(Outcome::Limit),
         Reached::Value { value, left } => Ok(Outcome::Value {

@@ -3,10 +3,14 @@
 
 mod ending;
 mod evaluator;
+mod given_lines;
 mod given_term;
+#[cfg(test)]
+mod given_tests;
 pub mod laws;
 mod lines;
 mod matching;
+mod notes;
 mod pattern_answer;
 mod pattern_lines;
 mod pattern_runs;
@@ -20,6 +24,7 @@ mod term_tests;
 #[cfg(test)]
 mod tests;
 mod text;
+mod texts;
 mod value;
 mod verdict;
 

@@ -3,6 +3,7 @@
 ghost use Rattle.std.specs.Prelude.{◌≡◌, ◌<◌, ◌++◌, [], IfErr, OnOk, OnErr, codes, decimal, length, true};
 ghost use Rattle.std.specs.Io.KnownBytes.{Appends};
 ghost use Rattle.rec_run.specs.Bytes.{AppendsFront};
+ghost use Rattle.rec_run.specs.GivenTerms.{name_of_terms, terms_line};
 ghost use Rattle.rec_run.specs.Output.{steps_text, lines};
 ghost use Rattle.rec_run.specs.Reading.{name_of_refusal, refusal_line, text_at, answer_text, within, raised};
 ghost use Rattle.rec_run.specs.Run.{Stops};
@@ -12,6 +13,7 @@ use crate::ending::{RunFault, RunOptions};
 use crate::evaluator::{Outcome, evaluate_term};
 use crate::printer::{WriteFault, write_value};
 use crate::text::{Stopped, put};
+use crate::texts::TermsRefusal;
 use crate::verdict::Refusal;
 use itoa::Buffer;
 use rec_sorts::Checked;
@@ -38,6 +40,32 @@ fn write_name<W: Write>(refusal: Refusal, out: &mut W) -> Result<(), Stopped>
         Refusal::Long => put(out, b"L1"),
         Refusal::Grammar { at: _ } => put(out, b"G"),
         Refusal::Rule { number, at: _ } => put_numbered(out, b"S", u64::from(number)),
+    }
+}
+
+/// Writes the line of a refusal of given terms.
+pub(crate) fn write_terms_refusal<W: Write>(
+    refusal: TermsRefusal,
+    out: &mut W,
+) -> Result<(), Stopped>
+    ensures ok { OnOk result (Appends (W.contents out.old) (W.contents out.new) (terms_line refusal)) }
+    ensures err { OnErr result (AppendsFront (terms_line refusal) (W.contents out.old) (W.contents out.new)) }
+{
+    put(out, b"!terms ")?;
+    write_terms_name(refusal, out)?;
+    put(out, b"\n")?;
+    Ok(())
+}
+
+/// Writes the name of a refusal of given terms.
+fn write_terms_name<W: Write>(refusal: TermsRefusal, out: &mut W) -> Result<(), Stopped>
+    ensures ok { OnOk result (Appends (W.contents out.old) (W.contents out.new) (name_of_terms refusal)) }
+    ensures err { OnErr result (AppendsFront (name_of_terms refusal) (W.contents out.old) (W.contents out.new)) }
+{
+    match refusal {
+        TermsRefusal::Long => put(out, b"L1"),
+        TermsRefusal::Outside { at: _ } => put(out, b"A"),
+        TermsRefusal::Rule { number } => put_numbered(out, b"T", u64::from(number)),
     }
 }
 
@@ -73,7 +101,7 @@ pub(crate) fn write_lines<W: Write>(
 }
 
 /// The run's fault where a line's came after so many lines.
-fn fault_after(fault: WriteFault, lines: u64) -> RunFault
+pub(crate) fn fault_after(fault: WriteFault, lines: u64) -> RunFault
     ensures { result ≡ raised fault lines }
 {
     match fault {
@@ -129,7 +157,7 @@ fn write_answer<W: Write>(
 }
 
 /// Writes the steps that a value took, where they are asked for.
-fn write_steps<W: Write>(counted: bool, steps: u64, out: &mut W) -> Result<(), Stopped>
+pub(crate) fn write_steps<W: Write>(counted: bool, steps: u64, out: &mut W) -> Result<(), Stopped>
     ensures ok { OnOk result (Appends (W.contents out.old) (W.contents out.new) (steps_text counted steps)) }
     ensures err { OnErr result (AppendsFront (steps_text counted steps) (W.contents out.old) (W.contents out.new)) }
 {

@@ -2,14 +2,16 @@
 
 ghost use Rattle.std.specs.Prelude.{◌≡◌, Bool, None, IfErr, IfOk, IfSome, OnErr, OnOk};
 ghost use Rattle.std.specs.Io.KnownBytes.{Appends};
-ghost use Rattle.rec_sorts.specs.SpecRules.{SpecVerdict};
-ghost use Rattle.rec_run.specs.Reading.{due_of, verdict_of};
-ghost use Rattle.rec_run.specs.Run.{Gives, HasPlace, Leaves, Stops};
+ghost use Rattle.rec_run.specs.GivenTerms.{HoldsGiven, run_due};
+ghost use Rattle.rec_run.specs.Reading.{due_of};
+ghost use Rattle.rec_run.specs.Run.{Gives, HasPlace, Leaves, Stops, told, told_terms};
 
 use crate::ending::{Finish, Place, RunFault, RunOptions};
-use crate::lines::{write_lines, write_refusal};
-use crate::text::{ReadFault, Stopped, read_all};
-use crate::verdict::{Reading, judge};
+use crate::given_lines::write_both;
+use crate::lines::{write_lines, write_refusal, write_terms_refusal};
+use crate::text::{ReadFault, Stopped};
+use crate::texts::{RunReading, read_texts};
+use crate::verdict::Reading;
 use std::alloc::Global;
 use std::io::{Read, Write};
 
@@ -36,57 +38,74 @@ impl From<Stopped> for RunFault {
     }
 }
 
-/// Reads a specification, writes the lines of its terms, and flushes; or the line of its refusal. What a fault leaves of the reader is open.
-pub fn run<R: Read, W: Write>(
+/// Reads a specification and, where it is good, the list of given terms; writes a line for each term of both, and flushes; or the line of a refusal.
+/// What a fault leaves of the readers is open.
+pub fn run<R: Read, T: Read, W: Write>(
     alloc: Global,
     spec: &mut R,
+    terms: Option<&mut T>,
     out: &mut W,
     options: RunOptions,
 ) -> Result<Finish, RunFault>
-    ensures output { IfOk result (λ finish. IfSome (R.remaining spec.old)
-        (λ bytes. Gives bytes None options.count options.steps finish (W.contents out.old) (W.contents out.new))) }
-    ensures fault { IfErr result (λ fault. IfSome (R.remaining spec.old)
-        (λ bytes. Leaves bytes None options.count options.steps fault (W.contents out.old) (W.contents out.new))) }
+    ensures output { IfOk result (λ finish. IfSome (told (R.remaining spec.old) (told_terms T.remaining terms.entry))
+        (λ texts. Gives texts.spec texts.terms options.count options.steps finish (W.contents out.old) (W.contents out.new))) }
+    ensures fault { IfErr result (λ fault. IfSome (told (R.remaining spec.old) (told_terms T.remaining terms.entry))
+        (λ texts. Leaves texts.spec texts.terms options.count options.steps fault (W.contents out.old) (W.contents out.new))) }
 {
     let mut place = None;
-    run_at(alloc, spec, out, options, &mut place)
+    run_at(alloc, spec, terms, out, options, &mut place)
 }
 
 /// The same, with the place of the refusal that was written.
-pub fn run_at<R: Read, W: Write>(
+pub fn run_at<R: Read, T: Read, W: Write>(
     alloc: Global,
     spec: &mut R,
+    terms: Option<&mut T>,
     out: &mut W,
     options: RunOptions,
     place: &mut Option<Place>,
 ) -> Result<Finish, RunFault>
-    ensures output { IfOk result (λ finish. IfSome (R.remaining spec.old)
-        (λ bytes. Gives bytes None options.count options.steps finish (W.contents out.old) (W.contents out.new))) }
-    ensures place { OnOk result (IfSome (R.remaining spec.old)
-        (λ bytes. HasPlace bytes None options.count options.steps place.new)) }
-    ensures fault { IfErr result (λ fault. IfSome (R.remaining spec.old)
-        (λ bytes. Leaves bytes None options.count options.steps fault (W.contents out.old) (W.contents out.new))) }
+    ensures output { IfOk result (λ finish. IfSome (told (R.remaining spec.old) (told_terms T.remaining terms.entry))
+        (λ texts. Gives texts.spec texts.terms options.count options.steps finish (W.contents out.old) (W.contents out.new))) }
+    ensures place { OnOk result (IfSome (told (R.remaining spec.old) (told_terms T.remaining terms.entry))
+        (λ texts. HasPlace texts.spec texts.terms options.count options.steps place.new)) }
+    ensures fault { IfErr result (λ fault. IfSome (told (R.remaining spec.old) (told_terms T.remaining terms.entry))
+        (λ texts. Leaves texts.spec texts.terms options.count options.steps fault (W.contents out.old) (W.contents out.new))) }
     ensures no_place { OnErr result (place.new ≡ None) }
 {
     *place = None;
-    let reading = read_spec_text(alloc, spec)?;
+    let reading = read_texts(alloc, spec, terms)?;
     write_due(alloc, &reading, out, options)?;
     *place = reading.place();
     Ok(reading.finish())
 }
 
-/// Reads the text of a specification, and judges it.
-fn read_spec_text<R: Read>(alloc: Global, spec: &mut R) -> Result<Reading, ReadFault>
-    ensures { IfOk result (λ reading. IfSome (R.remaining spec.old)
-        (λ bytes. SpecVerdict bytes (verdict_of reading))) }
-{
-    let text = read_all(alloc, spec)?;
-    let reading = judge(alloc, &text)?;
-    Ok(reading)
-}
-
 /// Writes what is due, and flushes.
 fn write_due<W: Write>(
+    alloc: Global,
+    reading: &RunReading,
+    out: &mut W,
+    options: RunOptions,
+) -> Result<(), RunFault>
+    requires { HoldsGiven reading.now }
+    ensures ok { OnOk result (Appends (W.contents out.old) (W.contents out.new)
+        (run_due options.count options.steps reading.now).text) }
+    ensures err { IfErr result (λ fault. Stops fault (run_due options.count options.steps reading.now).text
+        (W.contents out.old) (W.contents out.new)) }
+{
+    match reading {
+        RunReading::Alone(reading) => write_own(alloc, reading, out, options)?,
+        RunReading::Refused(refusal) => write_terms_refusal(*refusal, out)?,
+        RunReading::Both { checked, given } => write_both(alloc, checked, given, out, options)?,
+    }
+    match out.flush() {
+        Ok(()) => Ok(()),
+        Err(_) => Err(RunFault::Write),
+    }
+}
+
+/// Writes what is due for a specification without given terms.
+fn write_own<W: Write>(
     alloc: Global,
     reading: &Reading,
     out: &mut W,
@@ -101,8 +120,5 @@ fn write_due<W: Write>(
         Reading::Refused(refusal) => write_refusal(*refusal, out)?,
         Reading::Good(checked) => write_lines(alloc, checked, out, options)?,
     }
-    match out.flush() {
-        Ok(()) => Ok(()),
-        Err(_) => Err(RunFault::Write),
-    }
+    Ok(())
 }

@@ -8,7 +8,7 @@ use std::io::{ErrorKind, Read, Write};
 use std::process::Abort;
 use std::test::Fail;
 
-const ADD: &str = "REC-SPEC Add
+pub(crate) const ADD: &str = "REC-SPEC Add
 SORTS Nat
 CONS
   z : -> Nat
@@ -148,7 +148,7 @@ fn with_section(
     Ok(text)
 }
 
-fn options(steps: u32, count: bool) -> RunOptions {
+pub(crate) fn options(steps: u32, count: bool) -> RunOptions {
     RunOptions {
         steps: u64::from(steps),
         cells: 16_777_216,
@@ -169,7 +169,14 @@ struct Ran {
 fn run_on(alloc: Global, mut text: &[u8], options: RunOptions) -> Ran {
     let mut place = None;
     let mut written = Vec::new(alloc);
-    let result = run_at(alloc, &mut text, &mut written, options, &mut place);
+    let result = run_at(
+        alloc,
+        &mut text,
+        None::<&mut &[u8]>,
+        &mut written,
+        options,
+        &mut place,
+    );
     Ran {
         result,
         place,
@@ -307,7 +314,7 @@ fn is_refused(rt: &impl Abort, alloc: Global, text: &str, line: &str, rule: Name
 pub(crate) struct Slow<'a> {
     bytes: &'a [u8],
     step: usize,
-    reads: u64,
+    pub(crate) reads: u64,
     pub(crate) fails_at: u64,
 }
 
@@ -392,7 +399,13 @@ const TWO_LINES: &[u8] = b"z\ns(z)\n";
 fn one_byte_a_call(rt: HostRuntime) {
     let mut spec = bytewise(NEQ);
     let mut out = taking(rt.alloc());
-    let result = run(rt.alloc(), &mut spec, &mut out, options(2, false));
+    let result = run(
+        rt.alloc(),
+        &mut spec,
+        None::<&mut &[u8]>,
+        &mut out,
+        options(2, false),
+    );
     assert!(rt; result == Ok(Finish::Done) && out.held.as_slice() == TWO_LINES);
 }
 
@@ -402,7 +415,13 @@ fn reads_fail(rt: HostRuntime) {
         let mut spec = bytewise(NEQ);
         spec.fails_at = k;
         let mut out = taking(rt.alloc());
-        let result = run(rt.alloc(), &mut spec, &mut out, options(2, false));
+        let result = run(
+            rt.alloc(),
+            &mut spec,
+            None::<&mut &[u8]>,
+            &mut out,
+            options(2, false),
+        );
         assert!(rt;
             result == Err(RunFault::Read) && out.held.is_empty(),
             "read {k}"
@@ -423,7 +442,13 @@ fn writes_fail(rt: HostRuntime) {
             } else {
                 out.fails_at = k;
             }
-            let result = run(rt.alloc(), &mut spec, &mut out, options(2, false));
+            let result = run(
+                rt.alloc(),
+                &mut spec,
+                None::<&mut &[u8]>,
+                &mut out,
+                options(2, false),
+            );
             assert!(rt; result == Err(RunFault::Write), "write {k}");
             assert!(rt; out.held.as_slice() == &TWO_LINES[..written], "write {k}");
         }
@@ -431,7 +456,13 @@ fn writes_fail(rt: HostRuntime) {
     let mut spec = bytewise(NEQ);
     let mut out = taking(rt.alloc());
     out.flush_fails = true;
-    let result = run(rt.alloc(), &mut spec, &mut out, options(2, false));
+    let result = run(
+        rt.alloc(),
+        &mut spec,
+        None::<&mut &[u8]>,
+        &mut out,
+        options(2, false),
+    );
     assert!(rt; result == Err(RunFault::Write) && out.held.as_slice() == TWO_LINES);
 }
 
@@ -455,7 +486,13 @@ fn limit_of_bytes(rt: HostRuntime) -> Result<(), Fail> {
     assert!(rt; result == Ok(Finish::Refused) && place == None);
     assert!(rt; written.as_slice() == b"!spec L1\n".as_slice());
     let mut out = taking(alloc);
-    let result = run(alloc, &mut Blanks, &mut out, options(0, false));
+    let result = run(
+        alloc,
+        &mut Blanks,
+        None::<&mut &[u8]>,
+        &mut out,
+        options(0, false),
+    );
     assert!(rt; result == Ok(Finish::Refused) && out.held.as_slice() == b"!spec L1\n".as_slice());
     Ok(())
 }

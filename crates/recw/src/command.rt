@@ -28,12 +28,13 @@ pub fn command<'a>(alloc: Global) -> Result<Command<'a>, AllocError> {
 fn eval_command<'a>(alloc: Global) -> Result<Command<'a>, AllocError> {
     Command::new(alloc, "eval")
         .about("Evaluate the terms of a REC specification")
-        .after_help("Example: recw eval --steps 500 add.rec")
+        .after_help("Example: recw eval --steps 500 add.rec add.trm")
         .arg(file(
             alloc,
             "SPEC",
             "File of the specification [default: standard input]",
         ))?
+        .arg(file(alloc, "TERMS", "File of an ATerm list of further terms"))?
         .arg(steps(alloc))?
         .arg(count(alloc))
 }

@@ -29,9 +29,21 @@ pub fn open<'a, H: Files, R: Read>(
 ) -> Result<Opened<'a, R, H::File>, RunFault> {
     match path {
         None => Ok(Opened::Input(input)),
-        Some(path) => match File::open(rt, path) {
-            Ok(file) => Ok(Opened::File(file)),
-            Err(_) => Err(RunFault::Read),
-        },
+        Some(path) => Ok(Opened::File(open_file(rt, path)?)),
+    }
+}
+
+/// The file at `path`, where there is one.
+pub fn open_given<H: Files>(rt: &H, path: Option<&str>) -> Result<Option<H::File>, RunFault> {
+    match path {
+        None => Ok(None),
+        Some(path) => Ok(Some(open_file(rt, path)?)),
+    }
+}
+
+fn open_file<H: Files>(rt: &H, path: &str) -> Result<H::File, RunFault> {
+    match File::open(rt, path) {
+        Ok(file) => Ok(file),
+        Err(_) => Err(RunFault::Read),
     }
 }

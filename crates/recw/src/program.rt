@@ -1,6 +1,6 @@
 //! Does what the words ask.
 
-use crate::opened::open;
+use crate::opened::{open, open_given};
 use crate::report;
 use crate::request::{Request, read_words};
 use rec_run::{
@@ -53,9 +53,14 @@ fn perform<H: Files, R: Read, W: Write>(
     place: &mut Option<Place>,
 ) -> Result<Finish, RunFault> {
     match request {
-        Request::Eval { options, spec } => {
+        Request::Eval {
+            options,
+            spec,
+            terms,
+        } => {
             let mut spec = open(rt, spec, input)?;
-            run_at(alloc, &mut spec, out, options, place)
+            let mut terms = open_given(rt, terms)?;
+            run_at(alloc, &mut spec, terms.as_mut(), out, options, place)
         }
         Request::Aterm { file } => {
             let mut input = open(rt, file, input)?;

@@ -14,10 +14,12 @@ const RECLAIM: u32 = 262_144;
 
 #[derive(Clone, Copy, Debug)]
 pub enum Request<'a> {
-    /// Evaluate a specification, which stands in a file or on the standard input.
+    /// Evaluate a specification, which stands in a file or on the standard input, and given terms,
+    /// which stand in a file.
     Eval {
         options: RunOptions,
         spec: Option<&'a str>,
+        terms: Option<&'a str>,
     },
     /// Print a term, which stands in a file or on the standard input.
     Aterm {
@@ -56,6 +58,7 @@ fn request_of<'a>(matches: &ArgMatches<'a>) -> Option<Request<'a>> {
         "eval" => Some(Request::Eval {
             options: options_of(inner)?,
             spec: inner.get_str("SPEC"),
+            terms: inner.get_str("TERMS"),
         }),
         "aterm" => Some(Request::Aterm {
             file: inner.get_str("FILE"),

@@ -30,7 +30,7 @@ fn run(rt: &HostRuntime, words: &[&str], text: &str) -> Result<Ran, Fail> {
 
 #[test]
 fn ends_with_its_status(rt: HostRuntime) -> Result<(), Fail> {
-    let rows: [(&[&str], &str, u8, &str, &str); 10] = [
+    let rows: [(&[&str], &str, u8, &str, &str); 12] = [
         (&["eval"], ADDITION, 0, "s(s(s(z)))\n", ""),
         (&["eval", "--steps", "2"], ADDITION, 0, "!limit 2\n", ""),
         (
@@ -77,6 +77,20 @@ fn ends_with_its_status(rt: HostRuntime) -> Result<(), Fail> {
             "recw: read failed\n",
         ),
         (&["eval", "/"], ADDITION, 4, "", "recw: read failed\n"),
+        (
+            &["eval", "/dev/null", "/"],
+            ADDITION,
+            1,
+            "!spec G\n",
+            "recw: spec G at byte 0\n",
+        ),
+        (
+            &["eval", "/dev/null", "no such file"],
+            ADDITION,
+            4,
+            "",
+            "recw: read failed\n",
+        ),
     ];
     for (words, text, status, out, err) in rows {
         let ran = run(&rt, words, text)?;
@@ -229,7 +243,7 @@ fn refuses_words(rt: HostRuntime) -> Result<(), Fail> {
         &["eval", "--steps", "-1"],
         &["eval", "--steps", "x"],
         &["eval", "--steps"],
-        &["eval", "a", "b"],
+        &["eval", "a", "b", "c"],
         &["--steps", "3"],
         &["eval", "-7"],
         &["match"],
@@ -282,17 +296,18 @@ fn reports_a_full_output(rt: HostRuntime) -> Result<(), Fail> {
 
 const EVAL_HELP: &str = "Evaluate the terms of a REC specification
 
-Usage: recw eval [OPTIONS] [SPEC]
+Usage: recw eval [OPTIONS] [SPEC] [TERMS]
 
 Arguments:
-  [SPEC]  File of the specification [default: standard input]
+  [SPEC]   File of the specification [default: standard input]
+  [TERMS]  File of an ATerm list of further terms
 
 Options:
       --steps <N>  Most steps that a term may take, up to 10^18 [default: 1000000]
       --count      Print the steps that each term took behind its value
   -h, --help       Print help
 
-Example: recw eval --steps 500 add.rec
+Example: recw eval --steps 500 add.rec add.trm
 ";
 
 const ATERM_HELP: &str = "Print an ATerm in its shortest form

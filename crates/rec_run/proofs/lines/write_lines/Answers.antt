@@ -21,7 +21,7 @@ returns-in-Err-clause-err g c =
     let low : c.loop-i.i < length y.terms = omega (arith, e) in
     let few : c.args.options.steps < 2 ^ 64 = omega (arith, c.args.options.steps_in_range) in
     rw (c.fault_after.ensures, lines-own)
-    (stops_lines c.in-Err.fault f y.terms c.loop-i.i (Apply nameless syntax.none) _ _ _ (line_text-newlines y c.args.options.count c.args.options.steps few) low c.loop-i.invariant c.in-Err.ensures.err)
+    (stops_lines c.in-Err.fault f y.terms c.loop-i.i (Apply nameless syntax.none) _ _ _ (line_text-newlines y c.args.options.count c.args.options.steps few y.terms) low c.loop-i.invariant c.in-Err.ensures.err)
 
 pub loop-i-preserved : goal.loop-i-preserved
 loop-i-preserved g c =

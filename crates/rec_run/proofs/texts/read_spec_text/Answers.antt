@@ -2,7 +2,7 @@ use Rattle.std.proofs.Common.{subst}
 use Rattle.rec_sorts.specs.SpecRules.{SpecVerdict}
 use Rattle.rec_run.specs.Reading.{verdict_of}
 use Rattle.rec_run.proofs.WholeRuns.{verdict_read}
-use Rattle.rec_run.proofs.runs.read_spec_text.Goals as goal
+use Rattle.rec_run.proofs.texts.read_spec_text.Goals as goal
 
 pub returns : goal.returns
 returns g c =

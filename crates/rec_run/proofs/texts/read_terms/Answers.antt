@@ -1,0 +1,5 @@
+use Rattle.rec_run.proofs.GivenDue.{read_due}
+use Rattle.rec_run.proofs.texts.read_terms.Goals as goal
+
+pub returns-clause-due : goal.returns-clause-due
+returns-clause-due g c = read_due c.judge_terms.result _ c.in_ok-text.text.items _ c.args.checked.spec c.in_ok-text.ensures.text c.deref.ensures.value c.judge_terms.ensures.due
