@@ -18,5 +18,7 @@ pub mod EvaluationLemmas
 pub mod RuleLemmas
 pub mod PrinterLemmas
 mod TermRows
+mod DueRows
+mod GivenRows
 mod CountedParts
 mod TermsDue

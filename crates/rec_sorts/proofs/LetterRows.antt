@@ -3,7 +3,6 @@ use Rattle.std.proofs.Common.{refl, arith, ◌<◌}
 use Rattle.std.specs.Prelude.{ℕ, List, [], ◌∷◌, codes, ◌≡◌}
 use Rattle.rec_syntax.specs.Syntax.{Terms, Apply, Condition, Spec}
 use Rattle.rec_sorts.specs.Numbering.{name_of, IsMeaning, Named, named, AreLetters, Pairwise, IsLetterCondition, arity_of, variable_count}
-use Rattle.rec_sorts.specs.declared.letters.Letter.{Letter}
 use Rattle.rec_sorts.specs.declared.letters.LetterCondition.{LetterCondition}
 use Rattle.rec_sorts.specs.declared.letters.Meaning.TheVariants.{Symbol, Variable}
 use Rattle.rec_sorts.proofs.SpecRows.{w, good}
