@@ -1,13 +1,21 @@
--- What is due for a text, by the machine that reads it and by the rules.
+-- What is due for a text, or for two, by the machines that read them and by the rules.
 use Rattle.std.proofs.Common.{◌≡◌, ℕ, ◌≤◌, Bool, true, List, Option, Some, None, length, refl, sym, ap, subst, ◌∙◌, arith}
-use Rattle.std.specs.Prelude.{nat_le, option_map}
+use Rattle.std.specs.Prelude.{nat_le, option_map, []}
+use Rattle.std.specs.Option.{option_and_then}
 use Rattle.std.proofs.lemmas.Bool.{leb-true}
+use Rattle.rx_term.specs.Tree.{Tree}
+use Rattle.rx_text.specs.Token.{tokens, kinds}
+use Rattle.rx_text.specs.Grammar.{Spells}
+use Rattle.rx_text.specs.Machine as machine
+use Rattle.rx_text.proofs.Machine.{read_spelled}
+use Rattle.rx_text.proofs.FaultLemmas.{is_place}
 use Rattle.rec_syntax.specs.Syntax.{Spec}
 use Rattle.rec_syntax.specs.Machine.{Outcome, Read, Fault, Unfinished}
 use Rattle.rec_syntax.proofs.Verdict.{comes_of, read_spells, stops_at_place}
 use Rattle.rec_sorts.specs.SpecRules as rules
 use Rattle.rec_sorts.specs.SpecRules.{Verdict, Long, Grammar, Breaks, Good, SpecVerdict, fault, Fits}
-use Rattle.rec_run.specs.Output.{Due, IsDue, IsDueAfter, due_of_spec}
+use Rattle.rec_sorts.specs.TermRules.{broken_by_terms, elements}
+use Rattle.rec_run.specs.Output.{Due, IsDue, IsDueAfter, due_of_spec, due_of_terms, TermsVerdict, Outside, BreaksTerms, GoodTerms, IsTermsVerdict}
 use Rattle.rec_run.proofs.WholeRuns.{after_spec}
 
 -- the verdict on a specification that is read
@@ -39,3 +47,52 @@ due_by_verdict bytes counted n d (Some v) h e = let same : due_of_spec counted n
 pub due_of_text : (bytes : List ℕ) (counted : Bool) (n : ℕ) (d : Due) → nat_le (length bytes) 16777216 ≡ true → option_map (due_of_spec counted n) (verdict_by (comes_of bytes)) ≡ Some d
     → IsDue bytes None counted n d
 due_of_text bytes counted n d fits e = due_by_verdict bytes counted n d (verdict_by (comes_of bytes)) (λ v. machine_verdict bytes (comes_of bytes) v (leb-true (length bytes) 16777216 fits) refl) e
+
+-- the verdict on a tree by what the rules of given terms answer
+abbrev pub terms_by_rules : Option ℕ → Option (List Tree) → Option TermsVerdict
+terms_by_rules (Some number) o = Some (BreaksTerms number)
+terms_by_rules None (Some ts) = Some (GoodTerms ts)
+terms_by_rules None None = None
+
+-- the verdict by the tree that was read, or else by the place
+abbrev pub terms_verdict_by : Spec → Option Tree → Option ℕ → Option TermsVerdict
+terms_verdict_by y (Some t) place = terms_by_rules (broken_by_terms y t) (elements t)
+terms_verdict_by y None (Some at) = Some (Outside at)
+terms_verdict_by y None None = None
+
+tree_verdict : (y : Spec) (bytes : List ℕ) (t : Tree) → Fits bytes → Spells bytes t → (broken : Option ℕ) (o : Option (List Tree)) → broken_by_terms y t ≡ broken → elements t ≡ o
+    → (v : TermsVerdict) → terms_by_rules broken o ≡ Some v → IsTermsVerdict y bytes v
+tree_verdict y bytes t fits spelt (Some number) o b k v e = let same : BreaksTerms number ≡ v = cc in subst (IsTermsVerdict y bytes) same (fits, (t, spelt, b))
+tree_verdict y bytes t fits spelt None (Some ts) b k v e = let same : GoodTerms ts ≡ v = cc in subst (IsTermsVerdict y bytes) same (fits, (t, spelt, b, k))
+tree_verdict y bytes t fits spelt None None b k v e = absurd (cc e)
+
+terms_verdict : (y : Spec) (bytes : List ℕ) (o : Option Tree) (place : Option ℕ) → Fits bytes → machine.read (kinds bytes) ≡ o → machine.fault_at (tokens bytes) machine.Due [] ≡ place
+    → (v : TermsVerdict) → terms_verdict_by y o place ≡ Some v → IsTermsVerdict y bytes v
+terms_verdict y bytes (Some t) place fits r f v e = tree_verdict y bytes t fits (read_spelled (kinds bytes) t r) (broken_by_terms y t) (elements t) refl refl v e
+terms_verdict y bytes None (Some at) fits r f v e = let same : Outside at ≡ v = cc in subst (IsTermsVerdict y bytes) same (fits, is_place bytes at f)
+terms_verdict y bytes None None fits r f v e = absurd (cc e)
+
+-- what is due after the verdict on the specification
+abbrev pub due_by : List ℕ → Bool → ℕ → Verdict → Option Due
+due_by terms counted n (Good y) = option_map (due_of_terms y counted n) (terms_verdict_by y (machine.read (kinds terms)) (machine.fault_at (tokens terms) machine.Due []))
+due_by terms counted n v = Some (due_of_spec counted n v)
+
+due_after : (terms : List ℕ) (counted : Bool) (n : ℕ) (d : Due) → Fits terms → (v : Verdict) → due_by terms counted n v ≡ Some d → IsDueAfter v (Some terms) counted n d
+due_after terms counted n d fits (Good y) e = by_terms (terms_verdict_by y (machine.read (kinds terms)) (machine.fault_at (tokens terms) machine.Due [])) refl e
+  where
+    by_terms : (o : Option TermsVerdict) → terms_verdict_by y (machine.read (kinds terms)) (machine.fault_at (tokens terms) machine.Due []) ≡ o → option_map (due_of_terms y counted n) o ≡ Some d
+        → (v : TermsVerdict) × IsTermsVerdict y terms v × (d ≡ due_of_terms y counted n v)
+    by_terms None k e = absurd (cc e)
+    by_terms (Some v) k e = let same : d ≡ due_of_terms y counted n v = cc in (v, terms_verdict y terms (machine.read (kinds terms)) (machine.fault_at (tokens terms) machine.Due []) fits refl refl v k, same)
+due_after terms counted n d fits Long e = let same : d ≡ due_of_spec counted n Long = cc in same
+due_after terms counted n d fits (Grammar at) e = let same : d ≡ due_of_spec counted n (Grammar at) = cc in same
+due_after terms counted n d fits (Breaks f) e = let same : d ≡ due_of_spec counted n (Breaks f) = cc in same
+
+-- what is due for two texts that are not too long: all premises are computed
+pub due_of_texts : (spec terms : List ℕ) (counted : Bool) (n : ℕ) (d : Due) → nat_le (length spec) 16777216 ≡ true → nat_le (length terms) 16777216 ≡ true
+    → option_and_then (due_by terms counted n) (verdict_by (comes_of spec)) ≡ Some d → IsDue spec (Some terms) counted n d
+due_of_texts spec terms counted n d fits short e = by_verdict (verdict_by (comes_of spec)) (λ v. machine_verdict spec (comes_of spec) v (leb-true (length spec) 16777216 fits) refl) e
+  where
+    by_verdict : (o : Option Verdict) → ((v : Verdict) → o ≡ Some v → SpecVerdict spec v) → option_and_then (due_by terms counted n) o ≡ Some d → IsDue spec (Some terms) counted n d
+    by_verdict None h e = absurd (cc e)
+    by_verdict (Some v) h e = (v, h v refl, due_after terms counted n d (leb-true (length terms) 16777216 short) v e)

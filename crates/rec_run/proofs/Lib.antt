@@ -21,6 +21,8 @@ pub mod EvaluationLemmas
 pub mod RuleLemmas
 pub mod PrinterLemmas
 mod TermRows
+mod DueRows
+mod GivenRows
 mod CountedParts
 mod PatternDue
 mod PatternLines

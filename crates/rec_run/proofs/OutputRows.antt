@@ -165,3 +165,32 @@ doubling = codes "REC-SPEC Fast SORTS Nat CONS z : -> Nat s : Nat -> Nat OPNS k 
 doubling-94 : IsDue doubling None false 94 (done (codes "z\n"))
 unfolding Eval digits
 doubling-94 = due_of_text doubling false 94 (done (codes "z\n")) refl refl
+
+abbrev first_condition_fails : List ℕ
+first_condition_fails = codes "REC-SPEC And SORTS Nat CONS z : -> Nat s : Nat -> Nat OPNS f : Nat -> Nat g : Nat -> Nat VARS X : Nat RULES f(X) -> z if X -><- s(z) and-if g(X) -><- z f(X) -> s(z) g(X) -> g(X) EVAL f(z) END-SPEC"
+
+first_condition_fails-2 : IsDue first_condition_fails None false 2 (done (codes "s(z)\n"))
+unfolding Eval digits
+first_condition_fails-2 = due_of_text first_condition_fails false 2 (done (codes "s(z)\n")) refl refl
+
+first_condition_fails-1 : IsDue first_condition_fails None false 1 (done (codes "!limit 1\n"))
+unfolding Eval digits
+first_condition_fails-1 = due_of_text first_condition_fails false 1 (done (codes "!limit 1\n")) refl refl
+
+abbrev second_condition_fails : List ℕ
+second_condition_fails = codes "REC-SPEC And SORTS Nat CONS z : -> Nat s : Nat -> Nat OPNS f : Nat -> Nat VARS X : Nat RULES f(X) -> z if X -><- z and-if X -><- s(z) f(X) -> s(z) EVAL f(z) END-SPEC"
+
+second_condition_fails-2 : IsDue second_condition_fails None false 2 (done (codes "s(z)\n"))
+unfolding Eval digits
+second_condition_fails-2 = due_of_text second_condition_fails false 2 (done (codes "s(z)\n")) refl refl
+
+abbrev both_sides_spend : List ℕ
+both_sides_spend = codes "REC-SPEC Both SORTS Nat CONS z : -> Nat OPNS f : Nat -> Nat g : Nat -> Nat VARS X : Nat RULES f(X) -> z if g(X) -><- g(X) g(X) -> X EVAL f(z) END-SPEC"
+
+both_sides_spend-3 : IsDue both_sides_spend None false 3 (done (codes "z\n"))
+unfolding Eval digits
+both_sides_spend-3 = due_of_text both_sides_spend false 3 (done (codes "z\n")) refl refl
+
+both_sides_spend-2 : IsDue both_sides_spend None false 2 (done (codes "!limit 2\n"))
+unfolding Eval digits
+both_sides_spend-2 = due_of_text both_sides_spend false 2 (done (codes "!limit 2\n")) refl refl

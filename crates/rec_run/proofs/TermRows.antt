@@ -17,7 +17,7 @@ w at bytes = record { at = at; bytes = bytes }
 abbrev limit : ℕ → List ℕ
 limit n = codes "!limit " ++ decimal n ++ codes "\n"
 
-abbrev q : Spec
+abbrev pub q : Spec
 q = record {
   name = (w 9 (codes "Q"));
   sorts = ((w 17 (codes "A")) ∷ (w 19 (codes "B")) ∷ []);
@@ -100,3 +100,111 @@ annotated_terms = refl
 annotated_limit : each_line q ((Appl (codes "f") false (more (Appl (codes "f") false (more (Appl (codes "a") false none none) none) none) none) (more (Appl (codes "b") false none none) none)) ∷ []) true 1 ≡ codes "a\t1\n" ∷ codes "!limit 1\n" ∷ []
 unfolding Eval digits
 annotated_limit = refl
+
+-- [f(f(3))]
+row_15 : broken_by_terms q (Items (more (Appl (codes "f") false (more (Appl (codes "f") false (more (Int (ℤ.pos 3) none) none) none) none) none) none) none) ≡ Some 2
+row_15 = refl
+
+-- [f(a{b}),3]
+row_16 : broken_by_terms q (Items (more (Appl (codes "f") false (more (Appl (codes "a") false none (more (Appl (codes "b") false none none) none)) none) none) (more (Int (ℤ.pos 3) none) none)) none) ≡ Some 2
+row_16 = refl
+
+-- [c(3)]
+row_17 : broken_by_terms q (Items (more (Appl (codes "c") false (more (Int (ℤ.pos 3) none) none) none) none) none) ≡ Some 2
+row_17 = refl
+
+-- [f(f(a{b}))]
+row_18 : broken_by_terms q (Items (more (Appl (codes "f") false (more (Appl (codes "f") false (more (Appl (codes "a") false none (more (Appl (codes "b") false none none) none)) none) none) none) none) none) none) ≡ Some 3
+row_18 = refl
+
+-- [a{b},f(a{b})]
+row_19 : broken_by_terms q (Items (more (Appl (codes "a") false none (more (Appl (codes "b") false none none) none)) (more (Appl (codes "f") false (more (Appl (codes "a") false none (more (Appl (codes "b") false none none) none)) none) none) none)) none) ≡ Some 3
+row_19 = refl
+
+-- [c(a{b})]
+row_20 : broken_by_terms q (Items (more (Appl (codes "c") false (more (Appl (codes "a") false none (more (Appl (codes "b") false none none) none)) none) none) none) none) ≡ Some 3
+row_20 = refl
+
+-- [f(f(c))]
+row_21 : broken_by_terms q (Items (more (Appl (codes "f") false (more (Appl (codes "f") false (more (Appl (codes "c") false none none) none) none) none) none) none) none) ≡ Some 4
+row_21 = refl
+
+-- [f(c,c)]
+row_22 : broken_by_terms q (Items (more (Appl (codes "f") false (more (Appl (codes "c") false none none) (more (Appl (codes "c") false none none) none)) none) none) none) ≡ Some 4
+row_22 = refl
+
+-- [f(f(a,a))]
+row_23 : broken_by_terms q (Items (more (Appl (codes "f") false (more (Appl (codes "f") false (more (Appl (codes "a") false none none) (more (Appl (codes "a") false none none) none)) none) none) none) none) none) ≡ Some 5
+row_23 = refl
+
+-- [f(b,b)]
+row_24 : broken_by_terms q (Items (more (Appl (codes "f") false (more (Appl (codes "b") false none none) (more (Appl (codes "b") false none none) none)) none) none) none) ≡ Some 5
+row_24 = refl
+
+-- [a(a)]
+row_25 : broken_by_terms q (Items (more (Appl (codes "a") false (more (Appl (codes "a") false none none) none) none) none) none) ≡ Some 5
+row_25 = refl
+
+-- [f(f(b))]
+row_26 : broken_by_terms q (Items (more (Appl (codes "f") false (more (Appl (codes "f") false (more (Appl (codes "b") false none none) none) none) none) none) none) none) ≡ Some 6
+row_26 = refl
+
+-- [a,f(b)]
+row_27 : broken_by_terms q (Items (more (Appl (codes "a") false none none) (more (Appl (codes "f") false (more (Appl (codes "b") false none none) none) none) none)) none) ≡ Some 6
+row_27 = refl
+
+-- [a{3,<x>,"y"}]
+row_28 : broken_by_terms q (Items (more (Appl (codes "a") false none (more (Int (ℤ.pos 3) none) (more (Hole (Appl (codes "x") false none none) none) (more (Appl (codes "y") true none none) none)))) none) none) ≡ None
+row_28 = refl
+
+-- REC-SPEC Zero SORTS Nat CONS 0 : -> Nat s : Nat -> Nat x' : -> Nat EVAL s(0) x' END-SPEC
+abbrev zero : Spec
+zero = record {
+  name = (w 9 (codes "Zero"));
+  sorts = ((w 20 (codes "Nat")) ∷ []);
+  constructors = ((record { name = (w 29 (codes "0")); arguments = ([]); sort = (w 36 (codes "Nat")) }) ∷ (record { name = (w 40 (codes "s")); arguments = ((w 44 (codes "Nat")) ∷ []); sort = (w 51 (codes "Nat")) }) ∷ (record { name = (w 55 (codes "x'")); arguments = ([]); sort = (w 63 (codes "Nat")) }) ∷ []);
+  operators = ([]);
+  variables = ([]);
+  rules = ([]);
+  terms = ((Apply (w 72 (codes "s")) (Terms.more (Apply (w 74 (codes "0")) Terms.none) Terms.none)) ∷ (Apply (w 77 (codes "x'")) Terms.none) ∷ []);
+}
+
+-- ["0","x'",s("0")]
+quoted_names : broken_by_terms zero (Items (more (Appl (codes "0") true none none) (more (Appl (codes "x'") true none none) (more (Appl (codes "s") false (more (Appl (codes "0") true none none) none) none) none))) none) ≡ None
+quoted_names = refl
+
+-- [s(x_)]
+unquoted_name : broken_by_terms zero (Items (more (Appl (codes "s") false (more (Appl (codes "x_") false none none) none) none) none) none) ≡ Some 4
+unquoted_name = refl
+
+-- ["s"("0")]
+needless_quotes : broken_by_terms zero (Items (more (Appl (codes "s") true (more (Appl (codes "0") true none none) none) none) none) none) ≡ Some 4
+needless_quotes = refl
+
+-- [0]
+number_for_a_name : broken_by_terms zero (Items (more (Int (ℤ.pos 0) none) none) none) ≡ Some 2
+number_for_a_name = refl
+
+-- REC-SPEC Two SORTS A B CONS a : -> A b : -> B p : A B -> A END-SPEC
+abbrev two : Spec
+two = record {
+  name = (w 9 (codes "Two"));
+  sorts = ((w 19 (codes "A")) ∷ (w 21 (codes "B")) ∷ []);
+  constructors = ((record { name = (w 28 (codes "a")); arguments = ([]); sort = (w 35 (codes "A")) }) ∷ (record { name = (w 37 (codes "b")); arguments = ([]); sort = (w 44 (codes "B")) }) ∷ (record { name = (w 46 (codes "p")); arguments = ((w 50 (codes "A")) ∷ (w 52 (codes "B")) ∷ []); sort = (w 57 (codes "A")) }) ∷ []);
+  operators = ([]);
+  variables = ([]);
+  rules = ([]);
+  terms = ([]);
+}
+
+-- [p(a,b)]
+both_sorts : broken_by_terms two (Items (more (Appl (codes "p") false (more (Appl (codes "a") false none none) (more (Appl (codes "b") false none none) none)) none) none) none) ≡ None
+both_sorts = refl
+
+-- [p(a,a)]
+second_sort : broken_by_terms two (Items (more (Appl (codes "p") false (more (Appl (codes "a") false none none) (more (Appl (codes "a") false none none) none)) none) none) none) ≡ Some 6
+second_sort = refl
+
+-- [p(b,b)]
+first_sort : broken_by_terms two (Items (more (Appl (codes "p") false (more (Appl (codes "b") false none none) (more (Appl (codes "b") false none none) none)) none) none) none) ≡ Some 6
+first_sort = refl

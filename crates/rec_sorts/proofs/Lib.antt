@@ -1,5 +1,7 @@
 mod SpecRows
 mod NextRows
+mod StepRows
+mod LetterRows
 pub mod Steady
 pub mod Equations
 pub mod Rules

@@ -3,7 +3,7 @@
 
 ghost use Rattle.std.specs.Prelude.{◌≡◌, ℕ, ◌+◌, ◌≤◌, ◌<◌, false, IsTrue, IsSome, IfOk, Some, None, codes};
 ghost use Rattle.rx_term.specs.Tree.{Int, Items, Appl, none, more};
-ghost use Rattle.rx_term.specs.Store.{tree_at, signature_of};
+ghost use Rattle.rx_term.specs.Store.{tree_at, signature_of, cells};
 ghost use Rattle.rx_term.specs.Steps.{Grows};
 
 use crate::build::constant;
@@ -26,9 +26,10 @@ pub fn pair<B: TermBank>(bank: &mut B) -> Result<(Term, bool), BankFault>
     Ok((r, first == second))
 }
 
-/// Whether the rows hold of two empty banks: of cap 5 and of cap 10.
+/// Whether the rows hold of two empty banks: of cap 5 and of cap 10. Where they do, the first one is empty again.
 pub fn hold<B: TermBank>(five: &mut B, ten: &mut B) -> Result<bool, BankFault>
     requires { (t : ℕ) → (B.store five.old).roots t ≡ 0 }
+    ensures emptied { IfOk result (λ b. IsTrue b → cells (B.store five.new) ≡ 0) }
 {
     match fills(five)? {
         Some(a) => Ok(reclaims(five, a) && notes(ten)?),
@@ -72,7 +73,8 @@ fn make_five<B: TermBank>(bank: &mut B) -> Result<Term, BankFault>
 fn root_fully<B: TermBank>(bank: &mut B, a: Term) -> bool
     requires held { IsSome (tree_at (B.store bank.old) a) }
     requires unrooted { (B.store bank.old).roots a.0 ≡ 0 }
-    ensures { (B.store bank.new).roots a.0 ≡ 65535 }
+    ensures rooted { (B.store bank.new).roots a.0 ≡ 65535 }
+    ensures refused { IsTrue result }
 {
     for _i in 0..65535u32 {
         let _ = bank.protect(a);
@@ -106,6 +108,7 @@ fn notes<B: TermBank>(bank: &mut B) -> Result<bool, BankFault> {
 fn reclaims<B: TermBank>(bank: &mut B, a: Term) -> bool
     requires held { IsSome (tree_at (B.store bank.old) a) }
     requires unrooted { (B.store bank.old).roots a.0 ≡ 0 }
+    ensures emptied { IsTrue result → cells (B.store bank.new) ≡ 0 }
 {
     let refused = root_fully(bank, a);
     bank.reclaim(&[]);
