@@ -59,11 +59,14 @@ pub fn count<B: TermBank>(bank: &B, list: Term) -> u32
     requires { (ts : Trees) × (tree_at (B.store bank.now) list ≡ Some (list_of ts)) }
     ensures { (ts : Trees) → tree_at (B.store bank.now) list ≡ Some (list_of ts) → result ≡ count_of ts }
 {
-    let mut counted = 0;
     let mut rest = list;
-    while let Kind::Cons = bank.kind(rest) {
-        counted += 1;
+    // each tail of a list has a cell of its own
+    let cells = bank.cells();
+    for counted in 0..cells {
+        if !matches!(bank.kind(rest), Kind::Cons) {
+            return counted;
+        }
         rest = bank.tail(rest);
     }
-    counted
+    cells
 }

@@ -1,20 +1,23 @@
 //! Matching the nodes of a pattern with a term.
 
-ghost use Rattle.std.specs.Prelude.{◌≡◌, IsSome, IfOk, IfErr, Some};
-ghost use Rattle.rx_term.specs.Tree.{Tree};
-ghost use Rattle.rx_term.specs.Store.{tree_at};
+ghost use Rattle.std.specs.Prelude.{◌≡◌, ◌&&◌, [], map, bytes_eq, IsSome, IfOk, IfErr, Some};
+ghost use Rattle.std.specs.Bool.{beq};
+ghost use Rattle.rx_term.specs.Name.{Signature};
+ghost use Rattle.rx_term.specs.Tree.{Tree, Trees};
+ghost use Rattle.rx_term.specs.Store.{tree_at, signature_of};
 ghost use Rattle.rx_term.specs.Steps.{Grows};
 ghost use Rattle.rx_pattern.specs.Matching.{matching};
-ghost use Rattle.rx_pattern.specs.Code.{code};
-ghost use Rattle.rx_pattern.specs.Nodes.{step_of};
-ghost use Rattle.rx_pattern.specs.Held.{Binds, AddsOnlyLists};
+ghost use Rattle.rx_pattern.specs.Code.{Number, Named, Listing, Item, Piece, One, Several};
+ghost use Rattle.rx_pattern.specs.Nodes.{step_of, tree_of_nodes, AreNodes};
+ghost use Rattle.rx_pattern.specs.Subjects.{IsListed, Stands, Suits, meets, Met, MetOrNot, Answers};
+ghost use Rattle.rx_pattern.specs.Held.{AddsOnlyLists};
 ghost use Rattle.rx_pattern.specs.Faults.{IsMatchRefusal};
 
 use crate::faults::PatternFault;
 use crate::lists::{is_empty, plain};
-use crate::nodes::{Name, Node};
+use crate::nodes::{Class, Name, Node};
 use crate::words::fits;
-use rx_term::{Kind, Term, TermBank};
+use rx_term::{Kind, Symbol, Term, TermBank};
 use std::alloc::{AllocError, Global};
 
 // Whether the tree is this integer; its annotations are left.
@@ -23,7 +26,10 @@ fn match_integer<B: TermBank>(
     value: i32,
     t: Term,
     subjects: &mut Vec<Option<Term>>,
-) -> Result<bool, AllocError> {
+) -> Result<bool, AllocError>
+    requires { IsSome (tree_at (B.store bank.now) t) }
+    ensures { IfOk result (λ matched. (u : Tree) → tree_at (B.store bank.now) t ≡ Some u → Met (B.store bank.now) (meets (Number value) (One u)) subjects.old.items subjects.new.items matched) }
+{
     let Kind::Int(other) = bank.kind(t) else {
         return Ok(false);
     };
@@ -34,17 +40,28 @@ fn match_integer<B: TermBank>(
     Ok(true)
 }
 
+// Whether the symbol has the name.
+fn is_name<B: TermBank>(bank: &B, symbol: Symbol, name: &Name) -> bool
+    requires { IsSome (signature_of (B.store bank.now) symbol) }
+    ensures { (g : Signature) → signature_of (B.store bank.now) symbol ≡ Some g → result ≡ (bytes_eq name.now.bytes.items g.name && beq name.now.quoted g.quoted) }
+{
+    name.bytes.as_slice() == bank.name_of(symbol) && name.quoted == bank.quoted_of(symbol)
+}
+
 // Whether the tree is an application of this name; its arguments are left, and then its annotations.
 fn match_application<B: TermBank>(
     bank: &B,
     name: &Name,
     t: Term,
     subjects: &mut Vec<Option<Term>>,
-) -> Result<bool, AllocError> {
+) -> Result<bool, AllocError>
+    requires { IsSome (tree_at (B.store bank.now) t) }
+    ensures { IfOk result (λ matched. (u : Tree) → tree_at (B.store bank.now) t ≡ Some u → Met (B.store bank.now) (meets (Named name.now.bytes.items name.now.quoted) (One u)) subjects.old.items subjects.new.items matched) }
+{
     let Kind::Appl(symbol) = bank.kind(t) else {
         return Ok(false);
     };
-    if bank.quoted_of(symbol) != name.quoted || bank.name_of(symbol) != name.bytes.as_slice() {
+    if !is_name(bank, symbol, name) {
         return Ok(false);
     }
     subjects.push(bank.anns(t))?;
@@ -57,8 +74,11 @@ fn match_list<B: TermBank>(
     bank: &B,
     t: Term,
     subjects: &mut Vec<Option<Term>>,
-) -> Result<bool, AllocError> {
-    if !matches!(bank.kind(t), Kind::Nil | Kind::Cons) {
+) -> Result<bool, AllocError>
+    requires { IsSome (tree_at (B.store bank.now) t) }
+    ensures { IfOk result (λ matched. (u : Tree) → tree_at (B.store bank.now) t ≡ Some u → Met (B.store bank.now) (meets (Listing) (One u)) subjects.old.items subjects.new.items matched) }
+{
+    if !fits(bank, Class::List, t) {
         return Ok(false);
     }
     subjects.push(bank.anns(t))?;
@@ -71,7 +91,10 @@ fn match_item<B: TermBank>(
     bank: &B,
     list: Option<Term>,
     subjects: &mut Vec<Option<Term>>,
-) -> Result<bool, AllocError> {
+) -> Result<bool, AllocError>
+    requires { (ts : Trees) × IsListed (B.store bank.now) list ts }
+    ensures { IfOk result (λ matched. (ts : Trees) → IsListed (B.store bank.now) list ts → Met (B.store bank.now) (meets Item (Several ts)) subjects.old.items subjects.new.items matched) }
+{
     if is_empty(bank, list) {
         return Ok(false);
     }
@@ -88,7 +111,13 @@ fn match_node<B: TermBank>(
     subject: Option<Term>,
     subjects: &mut Vec<Option<Term>>,
     out: &mut Vec<Term>,
-) -> Result<bool, PatternFault> {
+) -> Result<bool, PatternFault>
+    requires { (v : Piece) × Stands (B.store bank.old) subject v × Suits (step_of node.now) v }
+    ensures met { IfOk result (λ matched. (v : Piece) → Stands (B.store bank.old) subject v → Suits (step_of node.now) v → MetOrNot (B.store bank.old) (B.store bank.new) (meets (step_of node.now) v) subjects.old.items subjects.new.items out.old.items out.new.items matched) }
+    ensures refused { IfErr result (IsMatchRefusal (B.store bank.new)) }
+    ensures grows { Grows (B.store bank.old) (B.store bank.new) }
+    ensures added { AddsOnlyLists (B.store bank.old) (B.store bank.new) }
+{
     match node {
         Node::Integer(value) => Ok(match_integer(bank, *value, subject.unwrap(), subjects)?),
         Node::Application(name) => Ok(match_application(bank, name, subject.unwrap(), subjects)?),
@@ -118,7 +147,15 @@ pub fn match_nodes<B: TermBank>(
     bank: &mut B,
     t: Term,
     out: &mut Vec<Term>,
-) -> Result<bool, PatternFault> {
+) -> Result<bool, PatternFault>
+    requires nodes { AreNodes nodes.now }
+    requires held { IsSome (tree_at (B.store bank.old) t) }
+    requires empty { out.old.items ≡ [] }
+    ensures answer { IfOk result (λ found. (u : Tree) → tree_at (B.store bank.old) t ≡ Some u → Answers (B.store bank.new) (matching (tree_of_nodes nodes.now) u) out.new.items found) }
+    ensures refused { IfErr result (IsMatchRefusal (B.store bank.new)) }
+    ensures grows { Grows (B.store bank.old) (B.store bank.new) }
+    ensures added { AddsOnlyLists (B.store bank.old) (B.store bank.new) }
+{
     let mut subjects = Vec::new(alloc);
     subjects.push(Some(t))?;
     for node in nodes {
