@@ -1,6 +1,7 @@
 -- A turn of the loop that matches a pattern.
-use Rattle.std.proofs.Common.{◌≡◌, Bool, true, false, ◌&&◌, List, [], ◌∷◌, ◌++◌, Option, Some, None, cond, reverse, refl, sym, ap, ◌∙◌, subst, append_assoc}
-use Rattle.std.specs.Prelude.{bytes_eq, is_some, IsSome}
+use Rattle.std.proofs.Common.{ℕ, suc, ◌+◌, ◌<◌, ◌≡◌, Bool, true, false, ◌&&◌, List, [], ◌∷◌, ◌++◌, Option, Some, None, cond, refl, sym, ap, ◌∙◌, subst, append_assoc, length, map, drop, get_or, inl, inr, add-one}
+use Rattle.std.proofs.Math.Seq.{drop-cons}
+use Rattle.std.specs.Prelude.{bytes_eq, IsSome, unwrap_or, option_to_list}
 use Rattle.std.specs.Bool.{beq}
 use Rattle.std.specs.Ordering.{int_eq}
 use Rattle.std.proofs.lemmas.List.{append-nil}
@@ -11,8 +12,10 @@ use Rattle.rx_term.specs.declared.Term.{Term}
 use Rattle.rx_pattern.specs.Pattern.{Kind, AnyList, kind_of, fits, is_rest}
 use Rattle.rx_pattern.specs.Matching.{matching, matching_all, both, where_true, bound}
 use Rattle.rx_pattern.specs.Code.{Step, Number, Named, Listing, Holding, End, Item, Rest, Piece, One, Several, placeholder, joined, pieces, word_of}
-use Rattle.rx_pattern.specs.Held.{HaveTrees}
-use Rattle.rx_pattern.specs.Subjects.{AreEach, OnStack, Stands, Suits, Front, front_if, meets, MetOrNot, Answers}
+use Rattle.rx_pattern.specs.Held.{HaveTrees, AddsOnlyLists}
+use Rattle.rx_pattern.specs.Nodes.{step_of}
+use Rattle.rx_pattern.specs.declared.nodes.Node.{Node}
+use Rattle.rx_pattern.specs.Subjects.{OnStack, Stands, Suits, Front, front_if, meets, MetOrNot, Answers}
 use Rattle.rx_pattern.proofs.Stacks.{pop}
 use Rattle.rx_pattern.proofs.Spelling.{IsSpelt, CanJoin, can_join, still_spelt, kind_word}
 
@@ -177,11 +180,11 @@ module _ (w : Store) (s : Step) (ns : List Step) (whole : Option (List Tree)) (s
   shaped : Shapes (joined s (pieces ns)) (first.0 ∷ first.1.0)
   shaped = subst (λ (vs : List Piece). Shapes (joined s (pieces ns)) vs) first.1.1 h.shapes
 
-  as : (match_pieces (joined s (pieces ns)) (first.0 ∷ first.1.0) ≡ onward (meets s first.0) (pieces ns) first.1.0) × AllShapes (meets s first.0) (pieces ns) first.1.0 × Suits s first.0
-  as = meets_as s (pieces ns) first.0 first.1.0 (can_join s ns h.spelt) shaped
+  agrees : (match_pieces (joined s (pieces ns)) (first.0 ∷ first.1.0) ≡ onward (meets s first.0) (pieces ns) first.1.0) × AllShapes (meets s first.0) (pieces ns) first.1.0 × Suits s first.0
+  agrees = meets_as s (pieces ns) first.0 first.1.0 (can_join s ns h.spelt) shaped
 
   bound_so_far : whole ≡ both (Some h.bindings) (onward (meets s first.0) (pieces ns) first.1.0)
-  bound_so_far = h.same ∙ ap (λ (vs : List Piece). both (Some h.bindings) (match_pieces (joined s (pieces ns)) vs)) first.1.1 ∙ ap (λ (x : Option (List Tree)). both (Some h.bindings) x) as.0
+  bound_so_far = h.same ∙ ap (λ (vs : List Piece). both (Some h.bindings) (match_pieces (joined s (pieces ns)) vs)) first.1.1 ∙ ap (λ (x : Option (List Tree)). both (Some h.bindings) x) agrees.0
 
   on_stack : OnStack (Stands w) stack (first.0 ∷ first.1.0)
   on_stack = subst (λ (vs : List Piece). OnStack (Stands w) stack vs) first.1.1 h.stands
@@ -192,19 +195,19 @@ module _ (w : Store) (s : Step) (ns : List Step) (whole : Option (List Tree)) (s
 
     -- what the turn asks for
     pub turn_needs : (v : Piece) × Stands w x v × Suits s v
-    turn_needs = (first.0, split.0, as.2)
+    turn_needs = (first.0, split.0, agrees.2)
 
     module _ (new : Store) (after : List (Option Term)) (more_out : List Term) where
       -- the step did not meet its subject
       pub turn_off : ((v : Piece) → Stands w x v → Suits s v → MetOrNot w new (meets s v) rest after out more_out false) → whole ≡ None
-      turn_off met = by_front (meets s first.0) (met first.0 split.0 as.2) bound_so_far where
+      turn_off met = by_front (meets s first.0) (met first.0 split.0 agrees.2) bound_so_far where
         by_front : (f : Option Front) → MetOrNot w new f rest after out more_out false → whole ≡ both (Some h.bindings) (onward f (pieces ns) first.1.0) → whole ≡ None
         by_front None m e = e
         by_front (Some front) m e = absurd m
 
       -- it did
       pub turn_on : ((v : Piece) → Stands w x v → Suits s v → MetOrNot w new (meets s v) rest after out more_out true) → Underway new ns whole after more_out
-      turn_on met = by_front (meets s first.0) (met first.0 split.0 as.2) bound_so_far as.1 where
+      turn_on met = by_front (meets s first.0) (met first.0 split.0 agrees.2) bound_so_far agrees.1 where
         by_front : (f : Option Front) → MetOrNot w new f rest after out more_out true → whole ≡ both (Some h.bindings) (onward f (pieces ns) first.1.0) → AllShapes f (pieces ns) first.1.0 → Underway new ns whole after more_out
         by_front None m e sh = absurd m
         by_front (Some front) m e sh = record {
@@ -236,3 +239,20 @@ pub some_subject : (w : Store) (s : Step) (ns : List Step) (whole : Option (List
 some_subject w s ns whole stack out h e = empty (first w s ns whole stack out h) where
   empty : (v : Piece) × ((rest : List Piece) × (h.subjects ≡ v ∷ rest)) → ⊥
   empty (v, (rest, f)) = let k = rw (e, f) at h.stands in k
+
+-- the step at a place, and those behind it
+pub next_step : (nodes : List Node) (i : ℕ) (n : Node) → i < length nodes → n ≡ get_or nodes i n → map step_of (drop i nodes) ≡ step_of n ∷ map step_of (drop (i + 1) nodes)
+next_step nodes i n lt e = ap (map step_of) (rw add-one (drop-cons nodes i n lt) ∙ ap (λ (m : Node). m ∷ drop (i + 1) nodes) (sym e))
+
+pub held_tree : (o : Option Tree) (d : Tree) → IsSome o → o ≡ Some (unwrap_or o d)
+held_tree None d h = absurd (let z : ⊥ = cc in z)
+held_tree (Some u) d h = refl
+
+pub adds_nothing : (w : Store) → AddsOnlyLists w w
+adds_nothing w = record { lists = λ t u e. inl e }
+
+pub adds_more : (a b c : Store) → AddsOnlyLists a b → AddsOnlyLists b c → AddsOnlyLists a c
+adds_more a b c p q = record { lists = λ t u e. elim (q.lists t u e) [ inl h ↦ p.lists t u h | inr h ↦ inr h ] }
+
+pub popped : (before after : List (Option Term)) (o : Option (Option Term)) (x : Option Term) → before ≡ after ++ option_to_list o → o ≡ Some x → before ≡ after ++ x ∷ []
+popped before after o x e f = e ∙ ap (λ (p : Option (Option Term)). after ++ option_to_list p) f
