@@ -244,10 +244,6 @@ some_subject w s ns whole stack out h e = empty (first w s ns whole stack out h)
 pub next_step : (nodes : List Node) (i : ℕ) (n : Node) → i < length nodes → n ≡ get_or nodes i n → map step_of (drop i nodes) ≡ step_of n ∷ map step_of (drop (i + 1) nodes)
 next_step nodes i n lt e = ap (map step_of) (rw add-one (drop-cons nodes i n lt) ∙ ap (λ (m : Node). m ∷ drop (i + 1) nodes) (sym e))
 
-pub held_tree : (o : Option Tree) (d : Tree) → IsSome o → o ≡ Some (unwrap_or o d)
-held_tree None d h = absurd (let z : ⊥ = cc in z)
-held_tree (Some u) d h = refl
-
 pub adds_nothing : (w : Store) → AddsOnlyLists w w
 adds_nothing w = record { lists = λ t u e. inl e }
 

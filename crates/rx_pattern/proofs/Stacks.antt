@@ -1,5 +1,6 @@
 -- Stacks of references, and what they stand for.
 use Rattle.std.proofs.Common.{◌≡◌, List, [], ◌∷◌, ◌++◌, reverse, Option, Some, None, IsSome, refl, sym, ap, ◌∙◌, subst}
+use Rattle.std.specs.Prelude.{unwrap_or}
 use Rattle.std.proofs.lemmas.List.{reverse-append, append-nil}
 use Rattle.std.specs.Option.{option_and_then}
 use Rattle.rx_term.specs.Tree.{Tree, Trees, none, more, Items, annotations, list_of}
@@ -11,11 +12,16 @@ use Rattle.rx_pattern.specs.Code.{Piece, One, Several}
 use Rattle.rx_pattern.specs.Held.{HaveTrees}
 use Rattle.rx_pattern.specs.Subjects.{AreEach, OnStack, IsListed, Stands, Pushes, Adds}
 
+-- what is held has a tree
+pub held_tree : (o : Option Tree) (d : Tree) → IsSome o → o ≡ Some (unwrap_or o d)
+held_tree None d h = absurd (let z : ⊥ = cc in z)
+held_tree (Some u) d h = refl
+
 -- one tree at a place
 pub same : {o : Option Tree} {x y : Tree} → o ≡ Some x → o ≡ Some y → x ≡ y
 same p q = cc
 
-push-reverse : {A : Type 0} (xs : List A) (x : A) → reverse (xs ++ x ∷ []) ≡ x ∷ reverse xs
+pub push-reverse : {A : Type 0} (xs : List A) (x : A) → reverse (xs ++ x ∷ []) ≡ x ∷ reverse xs
 push-reverse xs x = reverse-append xs (x ∷ [])
 
 pub push : {A B : Type 0} (R : A → B → Type 0) (before after : List A) (x : A) (v : B) (vs : List B) → after ≡ before ++ x ∷ [] → R x v → OnStack R before vs → OnStack R after (v ∷ vs)
