@@ -17,6 +17,9 @@ pub held_tree : (o : Option Tree) (d : Tree) → IsSome o → o ≡ Some (unwrap
 held_tree None d h = absurd (let z : ⊥ = cc in z)
 held_tree (Some u) d h = refl
 
+pub held_at : (P : Tree → Type 0) (o : Option Tree) (d u : Tree) → o ≡ Some u → P u → (o ≡ Some (unwrap_or o d)) × P (unwrap_or o d)
+held_at P o d u e h = rw e (refl, h)
+
 -- one tree at a place
 pub same : {o : Option Tree} {x y : Tree} → o ≡ Some x → o ≡ Some y → x ≡ y
 same p q = cc
