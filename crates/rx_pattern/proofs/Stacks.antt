@@ -88,3 +88,7 @@ listed_notes w t u None e h = no_notes (annotations u) (rw e at h)
 listed_notes w t u (Some r) e h =
     let k : IsSome (list_unless_empty (annotations u)) × (tree_at w r ≡ list_unless_empty (annotations u)) = rw e at h in
     (none, k.1 ∙ some_notes (annotations u) k.0)
+
+pub listed : (w : Store) (l : Option Term) (ts : Trees) → Stands w l (Several ts) → IsListed w l ts
+listed w None ts h = h
+listed w (Some r) ts h = h
