@@ -351,11 +351,6 @@ ended w nodes stack left all are counted len on =
     let e : filled_pieces (pieces (map step_of nodes)) (drop left all) ≡ One (filled (tree_of_nodes nodes) all).0 ∷ [] = ap (λ (ps : List Piece). filled_pieces ps (drop left all)) (one_piece nodes are) ∙ ap (λ (k : ℕ). One (filled (tree_of_nodes nodes) (drop k all)).0 ∷ []) z in
     subst (OnStack (Stands w) stack) e on
 
-pub same_at : (xs : List Term) (k : ℕ) (d e : Term) → k < length xs → get_or xs k d ≡ get_or xs k e
-same_at [] k d e h = absurd (omega arith)
-same_at (x ∷ xs) zero d e h = refl
-same_at (x ∷ xs) (suc k) d e h = same_at xs k d e (omega arith)
-
 -- no node is left
 pub all_filled : (old w : Store) (nodes : List Node) (args : List Term) (stack rest : List (Option Term)) (x : Option Term) (at left : ℕ) → AreNodes nodes → Fits old nodes args → at ≡ 0 → Filling old w nodes args stack at left → stack ≡ rest ++ x ∷ []
     → Stands w x (One (filled (tree_of_nodes nodes) (trees_of old args)).0)

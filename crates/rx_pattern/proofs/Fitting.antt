@@ -132,3 +132,75 @@ takes_no_rest (Items items anns) c f n = absurd (let z : ⊥ = cc in z)
 takes_no_rest (Int z anns) c f n = n
 takes_no_rest (Appl name quoted args anns) c f n = n
 takes_no_rest (Hole inner anns) c f n = n
+
+-- ---- the loop
+
+pub tree_held : (w : Store) (args : List Term) (k : ℕ) (d : Term) → AllHeld w args → k < length args → IsSome (tree_at w (get_or args k d))
+tree_held w [] k d h lt = absurd (omega arith)
+tree_held w (r ∷ rs) zero d h lt = h.0
+tree_held w (r ∷ rs) (suc k) d h lt = tree_held w rs k d h.1 (omega arith)
+
+pub same_at : (xs : List Term) (k : ℕ) (d e : Term) → k < length xs → get_or xs k d ≡ get_or xs k e
+same_at [] k d e h = absurd (omega arith)
+same_at (x ∷ xs) zero d e h = refl
+same_at (x ∷ xs) (suc k) d e h = same_at xs k d e (omega arith)
+
+pub place_slot : (at n : ℕ) (s : Step) (left here : List Slot) → here ≡ slots_of_step s ++ left → is_slot s ≡ true → at + length here ≡ n → (at < n) × (at + 1 + length left ≡ n)
+place_slot at n s left here e y counted =
+    let x = one_slot s y in
+    let f : here ≡ x.0 ∷ left = e ∙ ap (λ (ss : List Slot). ss ++ left) x.1 in
+    let k = ap length f in
+    (omega arith, omega arith)
+
+pub place_other : (at n : ℕ) (s : Step) (left here : List Slot) → here ≡ slots_of_step s ++ left → is_slot s ≡ false → at + length here ≡ n → at + length left ≡ n
+place_other at n s left here e other counted = let k = ap length (e ∙ ap (λ (ss : List Slot). ss ++ left) (no_slot s other)) in omega arith
+
+-- the invariant of the loop
+pub record Checking (w : Store) (all left : List Slot) (args : List Term) (at i : ℕ) : Type 0 where
+  pub within : at ≤ i
+  pub counted : at + length left ≡ length args
+  pub fits : (bs : List Tree) → HaveTrees w args bs → Looking all left at bs
+
+module _ (w : Store) (all here left : List Slot) (s : Step) (args : List Term) (at i : ℕ) (steps : here ≡ slots_of_step s ++ left) (h : Checking w all here args at i) where
+  looking : (bs : List Tree) → HaveTrees w args bs → Looking all (slots_of_step s ++ left) at bs
+  looking bs held = subst (λ (ss : List Slot). Looking all ss at bs) steps (h.fits bs held)
+
+  module _ (slot : is_slot s ≡ true) where
+    pub at_place : at < length args
+    at_place = (place_slot at (length args) s left here steps slot h.counted).0
+
+    module _ (d : Term) (b : Bool) (test : (u : Tree) → tree_at w (get_or args at d) ≡ Some u → b ≡ takes_as s u) where
+      is : get_or args at d ≡ get_or args at (get_or args at d)
+      is = same_at args at d (get_or args at d) at_place
+
+      pub turn_taken : b ≡ true → Checking w all left args (at + 1) (i + 1)
+      turn_taken y = record {
+        within = let e = h.within in omega arith;
+        counted = (place_slot at (length args) s left here steps slot h.counted).1;
+        fits = λ bs held. slot_on w all left s at args (get_or args at d) bs slot held at_place is (looking bs held) b test y;
+      }
+
+      pub turn_refused : b ≡ false → (bs : List Tree) → HaveTrees w args bs → misfit all bs ≡ Some at
+      turn_refused n bs held = slot_off w all left s at args (get_or args at d) bs slot held at_place is (looking bs held) b test n
+
+  pub turn_other : is_slot s ≡ false → Checking w all left args at (i + 1)
+  turn_other e = record {
+    within = let f = h.within in omega arith;
+    counted = place_other at (length args) s left here steps e h.counted;
+    fits = λ bs held. other_on all left s at bs e (looking bs held);
+  }
+
+pub started : (w : Store) (all : List Slot) (args : List Term) → length all ≡ length args → Checking w all all args 0 0
+started w all args e = record { within = omega arith; counted = omega arith; fits = λ bs held. begun all bs }
+
+pub all_fit : (w : Store) (all left : List Slot) (args : List Term) (at i : ℕ) → left ≡ [] → Checking w all left args at i → (bs : List Tree) → HaveTrees w args bs → misfit all bs ≡ None
+all_fit w all left args at i e h bs held = ended all at bs (subst (λ (ss : List Slot). Looking all ss at bs) e (h.fits bs held))
+
+pub as_many : (w : Store) (args : List Term) (bs : List Tree) (slots : List Slot) (n : ℕ) → HaveTrees w args bs → n ≡ length slots → n ≡ length args → length bs ≡ length slots
+as_many w args bs slots n h e f = let k = HaveTrees-length w args bs h in omega arith
+
+pub drop-past : {A : Type 0} (xs : List A) (i : ℕ) → length xs ≤ i → drop i xs ≡ []
+drop-past [] zero h = refl
+drop-past (x ∷ xs) zero h = absurd (omega arith)
+drop-past [] (suc i) h = refl
+drop-past (x ∷ xs) (suc i) h = drop-past xs i (omega arith)
