@@ -278,7 +278,7 @@ module _ (nodes : List Node) (are : AreNodes nodes) (at : ℕ) (n : Node) (lt : 
           let f = fills-slot (step_of n) (pieces others) t.0 (drop left all) yes' takes_it in
           let rest : drop (left - 1) all ≡ t.0 ∷ drop left all = ap (λ (j : ℕ). drop j all) k ∙ t.2 ∙ ap (λ (j : ℕ). t.0 ∷ drop j all) (sym here) in
           let e : filled_pieces (pieces (map step_of (drop at nodes))) (drop (left - 1) all) ≡ f.0 ∷ filled_pieces (pieces others) (drop left all)
-              = ap (λ (ss : List Step). filled_pieces (pieces ss) (drop (left - 1) all)) steps ∙ ap (λ (bs : List Tree). filled_pieces (joined (step_of n) (pieces others)) bs) rest ∙ f.1 in
+          = ap (λ (ss : List Step). filled_pieces (pieces ss) (drop (left - 1) all)) steps ∙ ap (λ (bs : List Tree). filled_pieces (joined (step_of n) (pieces others)) bs) rest ∙ f.1 in
           subst (OnStack (Stands w) after) (sym e) (push (Stands w) stack after (Some r) f.0 (filled_pieces (pieces others) (drop left all)) grown (f.2 w r (g.trees r t.0 t.1)) on)
 
 -- the terms that are left to the left, and what the nodes from here on make of the others

@@ -23,12 +23,27 @@ chosen word text kind k e h = h.0 ∙ e ∙ ap word_of h.1
 
 pub named_word : (word : List ℕ) (k : Kind) → kind_named word ≡ Some k → word ≡ word_of k
 named_word word k e =
-    elim (named_or word (codes "term") AnyTerm _ k e) [ inl h ↦ chosen word _ AnyTerm k refl h | inr e1 ↦
-    elim (named_or word (codes "int") AnyInt _ k e1) [ inl h ↦ chosen word _ AnyInt k refl h | inr e2 ↦
-    elim (named_or word (codes "str") AnyStr _ k e2) [ inl h ↦ chosen word _ AnyStr k refl h | inr e3 ↦
-    elim (named_or word (codes "appl") AnyAppl _ k e3) [ inl h ↦ chosen word _ AnyAppl k refl h | inr e4 ↦
-    elim (named_or word (codes "placeholder") AnyPlaceholder _ k e4) [ inl h ↦ chosen word _ AnyPlaceholder k refl h | inr e5 ↦
-    elim (named_or word (codes "list") AnyList None k e5) [ inl h ↦ chosen word _ AnyList k refl h | inr e6 ↦ absurd (let z : ⊥ = cc in z) ] ] ] ] ] ]
+    elim (named_or word (codes "term") AnyTerm _ k e) [
+      | inl h ↦ chosen word _ AnyTerm k refl h
+      | inr e1 ↦
+          elim (named_or word (codes "int") AnyInt _ k e1) [
+            | inl h ↦ chosen word _ AnyInt k refl h
+            | inr e2 ↦
+                elim (named_or word (codes "str") AnyStr _ k e2) [
+                  | inl h ↦ chosen word _ AnyStr k refl h
+                  | inr e3 ↦
+                      elim (named_or word (codes "appl") AnyAppl _ k e3) [
+                        | inl h ↦ chosen word _ AnyAppl k refl h
+                        | inr e4 ↦
+                            elim (named_or word (codes "placeholder") AnyPlaceholder _ k e4) [
+                              | inl h ↦ chosen word _ AnyPlaceholder k refl h
+                              | inr e5 ↦
+                                  elim (named_or word (codes "list") AnyList None k e5) [ inl h ↦ chosen word _ AnyList k refl h | inr e6 ↦ absurd (let z : ⊥ = cc in z) ]
+                            ]
+                      ]
+                ]
+          ]
+    ]
 
 inside_is : (inner : Tree) (k : Kind) → kind_of inner ≡ Some k → inner ≡ Appl (word_of k) false none none
 inside_is (Appl word false none none) k e = ap (λ (n : List ℕ). Appl n false none none) (named_word word k e)

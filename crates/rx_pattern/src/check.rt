@@ -34,11 +34,7 @@ fn is_plain<B: TermBank>(bank: &B, t: Term) -> bool
 }
 
 // Pushes what is looked at below a tree.
-fn push_below<B: TermBank>(
-    bank: &B,
-    t: Term,
-    stack: &mut Vec<Term>,
-) -> Result<(), AllocError>
+fn push_below<B: TermBank>(bank: &B, t: Term, stack: &mut Vec<Term>) -> Result<(), AllocError>
     requires { IsSome (tree_at (B.store bank.now) t) }
     ensures { OnOk result ((u : Tree) → tree_at (B.store bank.now) t ≡ Some u → PushesTrees (B.store bank.now) (below u) stack.old.items stack.new.items) }
 {

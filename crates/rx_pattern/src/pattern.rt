@@ -78,11 +78,17 @@ impl Pattern {
         ensures added { AddsOnlyLists (B.store bank.old) (B.store bank.new) }
     {
         out.clear();
-        let found = match_nodes(self.alloc, &self.nodes, bank, t, out);
-        if found != Ok(true) {
+        let found = match match_nodes(self.alloc, &self.nodes, bank, t, out) {
+            Ok(found) => found,
+            Err(fault) => {
+                out.clear();
+                return Err(fault);
+            }
+        };
+        if !found {
             out.clear();
         }
-        found
+        Ok(found)
     }
 
     /// The pattern with terms in place of its placeholders, in order. `Count` where there are not as many; else `Kind` with the least

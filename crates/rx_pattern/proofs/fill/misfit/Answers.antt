@@ -41,7 +41,7 @@ returns-then-not-takes g c = λ bs held.
     let n = c.node-item.result in (
       as_many w c.args.args.now bs (slots_of_steps (map step_of nodes)) c.count_slots.result held c.count_slots.ensures c.if-count_slots-args.false,
       turn_refused w (slots_of_steps (map step_of nodes)) (slots_of_steps (map step_of (drop i nodes))) (slots_of_steps (map step_of (drop (i + 1) nodes))) (step_of n) c.args.args.now c.loop-node.at i (ap slots_of_steps (next_step nodes i n c.loop-node-test.true c.node-item.is)) c.loop-node.invariant (sym c.is_slot.ensures ∙ c.if-is_slot.true)
-      no_term c.takes.result c.takes.ensures c.if-not-takes.true bs held,
+          no_term c.takes.result c.takes.ensures c.if-not-takes.true bs held,
     )
 
 pub loop-node-preserved : goal.loop-node-preserved

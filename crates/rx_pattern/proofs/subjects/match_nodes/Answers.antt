@@ -16,7 +16,7 @@ loop-node-init g c =
     let nodes = c.args.nodes.now in
     record {
       underway = begun w (map step_of nodes) (tree_of_nodes nodes) (unwrap_or (tree_at w c.args.t) (Items none none)) c.args.t c.push.new.self.items c.args.out.now.items (all_spelt nodes c.requires.nodes) (one_piece nodes c.requires.nodes)
-      (held_tree (tree_at w c.args.t) (Items none none) c.requires.held) (c.in_ok-push.ensures.items ∙ ap (λ (xs : List (Option Term)). xs ++ Some c.args.t ∷ []) c.new-subjects.ensures.items) c.requires.empty;
+          (held_tree (tree_at w c.args.t) (Items none none) c.requires.held) (c.in_ok-push.ensures.items ∙ ap (λ (xs : List (Option Term)). xs ++ Some c.args.t ∷ []) c.new-subjects.ensures.items) c.requires.empty;
       grows = Grows-refl w;
       added = adds_nothing w;
     }
@@ -55,7 +55,7 @@ loop-node-preserved g c =
     let met = rw c.if-not-branch.false at c.in_ok-match_node.ensures.met in
     record {
       underway = turn_on w (step_of n) (map step_of (drop (i + 1) nodes)) (matching (tree_of_nodes nodes) (unwrap_or (tree_at (g.B.TermBank.store c.args.bank.now) c.args.t) (Items none none))) c.loop-node.subjects.items c.loop-node.out.items h
-      c.pop.new.self.items c.unwrap-subject.result (popped c.loop-node.subjects.items c.pop.new.self.items c.pop.result c.unwrap-subject.result c.pop.ensures.items c.unwrap-subject.ensures) new c.match_node.new.subjects.items c.match_node.new.out.items met;
+          c.pop.new.self.items c.unwrap-subject.result (popped c.loop-node.subjects.items c.pop.new.self.items c.pop.result c.unwrap-subject.result c.pop.ensures.items c.unwrap-subject.ensures) new c.match_node.new.subjects.items c.match_node.new.out.items met;
       grows = Grows-trans c.loop-node.invariant.grows c.match_node.ensures.grows;
       added = adds_more (g.B.TermBank.store c.args.bank.now) w new c.loop-node.invariant.added c.match_node.ensures.added;
     }
