@@ -1,0 +1,70 @@
+-- A pattern as a list of steps, from which it is given back.
+--     code p rest           the steps of p, and then rest
+--     pieces steps          the trees and lists of trees that steps spell
+--     tree_of_steps steps   the one tree that they spell
+use Rattle.std.specs.Prelude.{ℕ, Bool, true, false, ℤ, List, [], ◌∷◌, codes, Option, Some, None, if◌then◌else◌}
+use Rattle.rx_term.specs.Tree.{Tree, Trees, none, more, Int, Appl, Items, Hole}
+use Rattle.rx_pattern.specs.Pattern.{Kind, AnyTerm, AnyInt, AnyStr, AnyAppl, AnyPlaceholder, AnyList, kind_of, is_rest}
+
+-- an integer, a name, a list or a placeholder; the end of a list, one item more of it, or the rest of it, whatever that is
+pub data Step : Type 0 where
+  Number : ℤ → Step
+  Named : List ℕ → Bool → Step
+  Listing : Step
+  Holding : Option Kind → Step
+  End : Step
+  Item : Step
+  Rest : Step
+
+abbrev mutual
+  -- the node, then elements or arguments, then annotations
+  pub code : Tree → List Step → List Step
+  code (Int z anns) rest = Number z ∷ code_of_all anns rest
+  code (Appl name quoted args anns) rest = Named name quoted ∷ code_of_all args (code_of_all anns rest)
+  code (Items items anns) rest = Listing ∷ code_of_all items (code_of_all anns rest)
+  code (Hole inner anns) rest = Holding (kind_of inner) ∷ rest
+
+  -- `Item` before each tree, and an `End`; a last `<list>` is a `Rest`
+  pub code_of_all : Trees → List Step → List Step
+  code_of_all none rest = End ∷ rest
+  code_of_all (more p ps) rest = if is_rest p ps then Rest ∷ rest else Item ∷ code p (code_of_all ps rest)
+
+-- a tree, or the trees of a list
+pub data Piece : Type 0 where
+  One : Tree → Piece
+  Several : Trees → Piece
+
+abbrev pub word_of : Kind → List ℕ
+word_of AnyTerm = codes "term"
+word_of AnyInt = codes "int"
+word_of AnyStr = codes "str"
+word_of AnyAppl = codes "appl"
+word_of AnyPlaceholder = codes "placeholder"
+word_of AnyList = codes "list"
+
+-- the placeholder of a kind
+abbrev pub placeholder : Kind → Tree
+placeholder kind = Hole (Appl (word_of kind) false none none) none
+
+-- what a step makes of the pieces behind it
+abbrev pub joined : Step → List Piece → List Piece
+joined (Number z) (Several anns ∷ ps) = One (Int z anns) ∷ ps
+joined (Named name quoted) (Several args ∷ Several anns ∷ ps) = One (Appl name quoted args anns) ∷ ps
+joined Listing (Several items ∷ Several anns ∷ ps) = One (Items items anns) ∷ ps
+joined (Holding (Some kind)) ps = One (placeholder kind) ∷ ps
+joined End ps = Several none ∷ ps
+joined Item (One t ∷ Several ts ∷ ps) = Several (more t ts) ∷ ps
+joined Rest ps = Several (more (placeholder AnyList) none) ∷ ps
+joined _ ps = []
+
+abbrev pub pieces : List Step → List Piece
+pieces [] = []
+pieces (s ∷ steps) = joined s (pieces steps)
+
+-- the tree, where there is just one
+abbrev pub only_tree : List Piece → Tree
+only_tree (One t ∷ []) = t
+only_tree _ = Items none none
+
+abbrev pub tree_of_steps : List Step → Tree
+tree_of_steps steps = only_tree (pieces steps)

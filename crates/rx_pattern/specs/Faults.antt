@@ -1,0 +1,43 @@
+-- How the faults of patterns pass on what a bank refuses.
+use Rattle.std.specs.Prelude.{◌≡◌}
+use Rattle.rx_term.specs.Store.{Store, cells}
+use Rattle.rx_term.specs.declared.faults.BankFault.{BankFault}
+use Rattle.rx_term.specs.declared.faults.BankFault.TheVariants as bank
+use Rattle.rx_pattern.specs.declared.faults.PatternFault.{PatternFault}
+use Rattle.rx_pattern.specs.declared.faults.PatternFault.TheVariants as pattern
+use Rattle.rx_pattern.specs.declared.faults.MakeFault.{MakeFault}
+use Rattle.rx_pattern.specs.declared.faults.MakeFault.TheVariants as make
+
+abbrev pub pattern_fault : BankFault → PatternFault
+pattern_fault bank.Memory = pattern.Memory
+pattern_fault bank.Full = pattern.Full
+
+abbrev pub make_fault : BankFault → MakeFault
+make_fault bank.Memory = make.Memory
+make_fault bank.Full = make.Full
+
+-- a bank that is full has as many cells as it may have
+abbrev pub IsBankRefusal : Store → BankFault → Type 0
+IsBankRefusal w bank.Memory = Unit {0}
+IsBankRefusal w bank.Full = cells w ≡ w.cap
+
+-- the same of a match, which refuses for nothing else
+abbrev pub IsMatchRefusal : Store → PatternFault → Type 0
+IsMatchRefusal w pattern.Unknown = ⊥
+IsMatchRefusal w pattern.Annotated = ⊥
+IsMatchRefusal w pattern.Memory = Unit {0}
+IsMatchRefusal w pattern.Full = cells w ≡ w.cap
+
+-- the terms do not go into the placeholders
+abbrev pub IsOfTerms : MakeFault → Type 0
+IsOfTerms make.Count = Unit {0}
+IsOfTerms (make.Kind at) = Unit {0}
+IsOfTerms make.Memory = ⊥
+IsOfTerms make.Full = ⊥
+
+-- the same of what is made of nodes, once the terms fit
+abbrev pub IsMakeRefusal : Store → MakeFault → Type 0
+IsMakeRefusal w make.Count = ⊥
+IsMakeRefusal w (make.Kind at) = ⊥
+IsMakeRefusal w make.Memory = Unit {0}
+IsMakeRefusal w make.Full = cells w ≡ w.cap

@@ -1,0 +1,97 @@
+//! Why there is no pattern, no answer or no term.
+
+ghost use Rattle.std.specs.Prelude.{◌≡◌};
+
+use rx_term::BankFault;
+use std::alloc::{AllocError, AllocFailed};
+use thiserror::Error;
+
+/// Why a term is no pattern, or was not matched.
+#[derive(Clone, Copy, PartialEq, Eq, Debug, Drop, Error)]
+pub enum PatternFault {
+    /// A placeholder is not one of the six.
+    #[error("an unknown placeholder")]
+    Unknown,
+    /// All placeholders are known, and one has annotations.
+    #[error("a placeholder with annotations")]
+    Annotated,
+    /// Memory ran out.
+    #[error("out of memory")]
+    Memory,
+    /// The bank has as many cells as it may have.
+    #[error("out of cells")]
+    Full,
+}
+
+impl<T: Drop> From<AllocFailed<T>> for PatternFault {
+    ghost use Rattle.rx_pattern.specs.declared.faults.PatternFault.TheVariants.{Memory};
+
+    ghost from_gives = { λ _ e. e ≡ Memory };
+
+    fn from(_error: AllocFailed<T>) -> Self {
+        PatternFault::Memory
+    }
+}
+
+impl From<AllocError> for PatternFault {
+    ghost use Rattle.rx_pattern.specs.declared.faults.PatternFault.TheVariants.{Memory};
+
+    ghost from_gives = { λ _ e. e ≡ Memory };
+
+    fn from(_error: AllocError) -> Self {
+        PatternFault::Memory
+    }
+}
+
+impl From<BankFault> for PatternFault {
+    ghost use Rattle.rx_pattern.specs.Faults.{pattern_fault};
+
+    ghost from_gives = { λ fault e. e ≡ pattern_fault fault };
+
+    fn from(fault: BankFault) -> Self {
+        match fault {
+            BankFault::Memory => PatternFault::Memory,
+            BankFault::Full => PatternFault::Full,
+        }
+    }
+}
+
+/// Why no term was made.
+#[derive(Clone, Copy, PartialEq, Eq, Debug, Drop, Error)]
+pub enum MakeFault {
+    /// There are not as many terms as placeholders.
+    #[error("a wrong number of terms")]
+    Count,
+    /// The term at this place, from 0, is the first that its placeholder does not take.
+    #[error("the term at {at} is of a wrong kind")]
+    Kind { at: u32 },
+    /// Memory ran out.
+    #[error("out of memory")]
+    Memory,
+    /// The bank has as many cells as it may have.
+    #[error("out of cells")]
+    Full,
+}
+
+impl<T: Drop> From<AllocFailed<T>> for MakeFault {
+    ghost use Rattle.rx_pattern.specs.declared.faults.MakeFault.TheVariants.{Memory};
+
+    ghost from_gives = { λ _ e. e ≡ Memory };
+
+    fn from(_error: AllocFailed<T>) -> Self {
+        MakeFault::Memory
+    }
+}
+
+impl From<BankFault> for MakeFault {
+    ghost use Rattle.rx_pattern.specs.Faults.{make_fault};
+
+    ghost from_gives = { λ fault e. e ≡ make_fault fault };
+
+    fn from(fault: BankFault) -> Self {
+        match fault {
+            BankFault::Memory => MakeFault::Memory,
+            BankFault::Full => MakeFault::Full,
+        }
+    }
+}

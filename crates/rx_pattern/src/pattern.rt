@@ -1,0 +1,110 @@
+//! Patterns.
+
+ghost use Rattle.std.specs.Prelude.{◌≡◌, ◌↔◌, ℕ, List, [], Some, None, Ok, Err, IsSome, IfSome, IfOk, IfErr, OnErr, IsErrOf};
+ghost use Rattle.rx_term.specs.Tree.{Tree};
+ghost use Rattle.rx_term.specs.Store.{tree_at, cells};
+ghost use Rattle.rx_term.specs.Steps.{Grows};
+ghost use Rattle.rx_term.specs.Walks.{AllHeld};
+ghost use Rattle.rx_pattern.specs.Pattern.{unfit, Unknown, Annotated};
+ghost use Rattle.rx_pattern.specs.Matching.{matching};
+ghost use Rattle.rx_pattern.specs.Filling.{filling, Count, Kinds};
+ghost use Rattle.rx_pattern.specs.Held.{HaveTrees, Binds, AddsOnlyLists};
+ghost use Rattle.rx_pattern.specs.Faults.{IsMatchRefusal, IsOfTerms};
+
+use crate::check::check;
+use crate::faults::{MakeFault, PatternFault};
+use crate::fill::{fill, misfit};
+use crate::flatten::flatten;
+use crate::nodes::Node;
+use crate::subjects::match_nodes;
+use rx_term::{Term, TermBank};
+use std::alloc::Global;
+use std::marker::Model;
+
+/// A term with placeholders, apart from any bank; contracts see its tree.
+#[derive(Drop)]
+pub struct Pattern {
+    alloc: Global,
+    nodes: Vec<Node>,
+}
+
+impl Model for Pattern {
+    ghost use Rattle.rx_term.specs.Tree.{Tree};
+    ghost use Rattle.rx_term.specs.Code.{coded_tree};
+
+    ghost Value = { Tree };
+
+    ghost coded = { coded_tree };
+
+    ghost use Rattle.rx_pattern.specs.PatternView.{tree_of, IsPatternCode};
+
+    ghost view = { tree_of };
+
+    ghost invariant = { IsPatternCode };
+}
+
+impl Pattern {
+    /// The pattern that a term of the bank is. `Unknown` where a placeholder is not one of the six, else `Annotated` where one has
+    /// annotations; `Memory` also for a pattern of more than 4,294,967,295 nodes.
+    pub fn of<B: TermBank>(alloc: Global, bank: &B, t: Term) -> Result<Pattern, PatternFault>
+        requires { IsSome (tree_at (B.store bank.now) t) }
+        ensures made { IfOk result (λ p. tree_at (B.store bank.now) t ≡ Some p) }
+        ensures fit { IfOk result (λ p. unfit p ≡ None) }
+        ensures unknown { IsErrOf result PatternFault.Unknown → IfSome (tree_at (B.store bank.now) t) (λ u. unfit u ≡ Some Unknown) }
+        ensures annotated { IsErrOf result PatternFault.Annotated → IfSome (tree_at (B.store bank.now) t) (λ u. unfit u ≡ Some Annotated) }
+        ensures never_full { IsErrOf result PatternFault.Full → ⊥ }
+    {
+        check(alloc, bank, t)?;
+        let nodes = flatten(alloc, bank, t)?;
+        if nodes.len() > u32::MAX as usize {
+            return Err(PatternFault::Memory);
+        }
+        Ok(Pattern { alloc, nodes })
+    }
+
+    /// Whether the pattern matches a term, and references of its bindings, in order. In the bank only lists without annotations are new.
+    /// `out` is empty after any other answer than true.
+    pub fn matches<B: TermBank>(
+        &self,
+        bank: &mut B,
+        t: Term,
+        out: &mut Vec<Term>,
+    ) -> Result<bool, PatternFault>
+        requires { IsSome (tree_at (B.store bank.old) t) }
+        ensures answer { IfOk result (λ found. (u : Tree) → tree_at (B.store bank.old) t ≡ Some u → Binds (B.store bank.new) (matching self.now u) out.new.items found) }
+        ensures refused { IfErr result (IsMatchRefusal (B.store bank.new)) }
+        ensures emptied { OnErr result (out.new.items ≡ []) }
+        ensures grows { Grows (B.store bank.old) (B.store bank.new) }
+        ensures added { AddsOnlyLists (B.store bank.old) (B.store bank.new) }
+    {
+        out.clear();
+        let found = match match_nodes(self.alloc, &self.nodes, bank, t, out) {
+            Ok(found) => found,
+            Err(fault) => {
+                out.clear();
+                return Err(fault);
+            }
+        };
+        if !found {
+            out.clear();
+        }
+        Ok(found)
+    }
+
+    /// The pattern with terms in place of its placeholders, in order. `Count` where there are not as many; else `Kind` with the least
+    /// place of a term that its placeholder does not take; then nothing changed.
+    pub fn make<B: TermBank>(&self, bank: &mut B, args: &[Term]) -> Result<Term, MakeFault>
+        requires { AllHeld (B.store bank.old) args.now }
+        ensures made { IfOk result (λ r. (bs : List Tree) → HaveTrees (B.store bank.old) args.now bs → (u : Tree) × (filling self.now bs ≡ Ok u) × (tree_at (B.store bank.new) r ≡ Some u)) }
+        ensures count { (bs : List Tree) → HaveTrees (B.store bank.old) args.now bs → (IsErrOf result MakeFault.Count ↔ (filling self.now bs ≡ Err Count)) }
+        ensures kind { (bs : List Tree) → HaveTrees (B.store bank.old) args.now bs → (at : ℕ) → (IsErrOf result (MakeFault.Kind at) ↔ (filling self.now bs ≡ Err (Kinds at))) }
+        ensures unchanged { IfErr result (λ fault. IsOfTerms fault → B.store bank.new ≡ B.store bank.old) }
+        ensures full { IsErrOf result MakeFault.Full → cells (B.store bank.new) ≡ (B.store bank.new).cap }
+        ensures grows { Grows (B.store bank.old) (B.store bank.new) }
+    {
+        if let Some(fault) = misfit(&self.nodes, bank, args) {
+            return Err(fault);
+        }
+        fill(self.alloc, &self.nodes, bank, args)
+    }
+}

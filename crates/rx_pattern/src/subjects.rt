@@ -1,0 +1,168 @@
+//! Matching the nodes of a pattern with a term.
+
+ghost use Rattle.std.specs.Prelude.{◌≡◌, ◌&&◌, [], map, bytes_eq, IsSome, IfOk, IfErr, Some};
+ghost use Rattle.std.specs.Bool.{beq};
+ghost use Rattle.rx_term.specs.Name.{Signature};
+ghost use Rattle.rx_term.specs.Tree.{Tree, Trees};
+ghost use Rattle.rx_term.specs.Store.{tree_at, signature_of};
+ghost use Rattle.rx_term.specs.Steps.{Grows};
+ghost use Rattle.rx_pattern.specs.Matching.{matching};
+ghost use Rattle.rx_pattern.specs.Code.{Number, Named, Listing, Item, Piece, One, Several};
+ghost use Rattle.rx_pattern.specs.Nodes.{step_of, tree_of_nodes, AreNodes};
+ghost use Rattle.rx_pattern.specs.Subjects.{IsListed, Stands, Suits, meets, Met, MetOrNot, Answers};
+ghost use Rattle.rx_pattern.specs.Held.{AddsOnlyLists};
+ghost use Rattle.rx_pattern.specs.Faults.{IsMatchRefusal};
+
+use crate::faults::PatternFault;
+use crate::lists::{is_empty, plain};
+use crate::nodes::{Class, Name, Node};
+use crate::words::fits;
+use rx_term::{Kind, Symbol, Term, TermBank};
+use std::alloc::{AllocError, Global};
+
+// Whether the tree is this integer; its annotations are left.
+fn match_integer<B: TermBank>(
+    bank: &B,
+    value: i32,
+    t: Term,
+    subjects: &mut Vec<Option<Term>>,
+) -> Result<bool, AllocError>
+    requires { IsSome (tree_at (B.store bank.now) t) }
+    ensures { IfOk result (λ matched. (u : Tree) → tree_at (B.store bank.now) t ≡ Some u → Met (B.store bank.now) (meets (Number value) (One u)) subjects.old.items subjects.new.items matched) }
+{
+    let Kind::Int(other) = bank.kind(t) else {
+        return Ok(false);
+    };
+    if other != value {
+        return Ok(false);
+    }
+    subjects.push(bank.anns(t))?;
+    Ok(true)
+}
+
+// Whether the symbol has the name.
+fn is_name<B: TermBank>(bank: &B, symbol: Symbol, name: &Name) -> bool
+    requires { IsSome (signature_of (B.store bank.now) symbol) }
+    ensures { (g : Signature) → signature_of (B.store bank.now) symbol ≡ Some g → result ≡ (bytes_eq name.now.bytes.items g.name && beq name.now.quoted g.quoted) }
+{
+    name.bytes.as_slice() == bank.name_of(symbol) && name.quoted == bank.quoted_of(symbol)
+}
+
+// Whether the tree is an application of this name; its arguments are left, and then its annotations.
+fn match_application<B: TermBank>(
+    bank: &B,
+    name: &Name,
+    t: Term,
+    subjects: &mut Vec<Option<Term>>,
+) -> Result<bool, AllocError>
+    requires { IsSome (tree_at (B.store bank.now) t) }
+    ensures { IfOk result (λ matched. (u : Tree) → tree_at (B.store bank.now) t ≡ Some u → Met (B.store bank.now) (meets (Named name.now.bytes.items name.now.quoted) (One u)) subjects.old.items subjects.new.items matched) }
+{
+    let Kind::Appl(symbol) = bank.kind(t) else {
+        return Ok(false);
+    };
+    if !is_name(bank, symbol, name) {
+        return Ok(false);
+    }
+    subjects.push(bank.anns(t))?;
+    subjects.push(Some(bank.args(t)))?;
+    Ok(true)
+}
+
+// Whether the tree is a list; its items are left, and then its annotations.
+fn match_list<B: TermBank>(
+    bank: &B,
+    t: Term,
+    subjects: &mut Vec<Option<Term>>,
+) -> Result<bool, AllocError>
+    requires { IsSome (tree_at (B.store bank.now) t) }
+    ensures { IfOk result (λ matched. (u : Tree) → tree_at (B.store bank.now) t ≡ Some u → Met (B.store bank.now) (meets (Listing) (One u)) subjects.old.items subjects.new.items matched) }
+{
+    if !fits(bank, Class::List, t) {
+        return Ok(false);
+    }
+    subjects.push(bank.anns(t))?;
+    subjects.push(Some(t))?;
+    Ok(true)
+}
+
+// Whether there is an item; it is left, and then the others.
+fn match_item<B: TermBank>(
+    bank: &B,
+    list: Option<Term>,
+    subjects: &mut Vec<Option<Term>>,
+) -> Result<bool, AllocError>
+    requires { (ts : Trees) × IsListed (B.store bank.now) list ts }
+    ensures { IfOk result (λ matched. (ts : Trees) → IsListed (B.store bank.now) list ts → Met (B.store bank.now) (meets Item (Several ts)) subjects.old.items subjects.new.items matched) }
+{
+    if is_empty(bank, list) {
+        return Ok(false);
+    }
+    let list = list.unwrap();
+    subjects.push(Some(bank.tail(list)))?;
+    subjects.push(Some(bank.head(list)))?;
+    Ok(true)
+}
+
+// Whether the node matches the front of its subject; the rest of it is left.
+fn match_node<B: TermBank>(
+    bank: &mut B,
+    node: &Node,
+    subject: Option<Term>,
+    subjects: &mut Vec<Option<Term>>,
+    out: &mut Vec<Term>,
+) -> Result<bool, PatternFault>
+    requires { (v : Piece) × Stands (B.store bank.old) subject v × Suits (step_of node.now) v }
+    ensures met { IfOk result (λ matched. (v : Piece) → Stands (B.store bank.old) subject v → Suits (step_of node.now) v → MetOrNot (B.store bank.old) (B.store bank.new) (meets (step_of node.now) v) subjects.old.items subjects.new.items out.old.items out.new.items matched) }
+    ensures refused { IfErr result (IsMatchRefusal (B.store bank.new)) }
+    ensures grows { Grows (B.store bank.old) (B.store bank.new) }
+    ensures added { AddsOnlyLists (B.store bank.old) (B.store bank.new) }
+{
+    match node {
+        Node::Integer(value) => Ok(match_integer(bank, *value, subject.unwrap(), subjects)?),
+        Node::Application(name) => Ok(match_application(bank, name, subject.unwrap(), subjects)?),
+        Node::List => Ok(match_list(bank, subject.unwrap(), subjects)?),
+        Node::Placeholder(class) => {
+            let t = subject.unwrap();
+            if !fits(bank, *class, t) {
+                return Ok(false);
+            }
+            out.push(t)?;
+            Ok(true)
+        }
+        Node::End => Ok(is_empty(bank, subject)),
+        Node::Item => Ok(match_item(bank, subject, subjects)?),
+        Node::Rest => {
+            let rest = plain(bank, subject)?;
+            out.push(rest)?;
+            Ok(true)
+        }
+    }
+}
+
+/// Whether the nodes match the tree; the bindings go to `out`, which is empty before.
+pub fn match_nodes<B: TermBank>(
+    alloc: Global,
+    nodes: &[Node],
+    bank: &mut B,
+    t: Term,
+    out: &mut Vec<Term>,
+) -> Result<bool, PatternFault>
+    requires nodes { AreNodes nodes.now }
+    requires held { IsSome (tree_at (B.store bank.old) t) }
+    requires empty { out.old.items ≡ [] }
+    ensures answer { IfOk result (λ found. (u : Tree) → tree_at (B.store bank.old) t ≡ Some u → Answers (B.store bank.new) (matching (tree_of_nodes nodes.now) u) out.new.items found) }
+    ensures refused { IfErr result (IsMatchRefusal (B.store bank.new)) }
+    ensures grows { Grows (B.store bank.old) (B.store bank.new) }
+    ensures added { AddsOnlyLists (B.store bank.old) (B.store bank.new) }
+{
+    let mut subjects = Vec::new(alloc);
+    subjects.push(Some(t))?;
+    for node in nodes {
+        let subject = subjects.pop().unwrap();
+        if !match_node(bank, node, subject, &mut subjects, out)? {
+            return Ok(false);
+        }
+    }
+    Ok(true)
+}
