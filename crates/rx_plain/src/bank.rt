@@ -29,15 +29,17 @@ pub struct PlainBank {
 }
 
 impl PlainBank {
-    ghost use Rattle.std.specs.Prelude.{IsSome, IfOk, Some};
+    ghost use Rattle.std.specs.Prelude.{IsSome, IfOk, IfErr, Some};
     ghost use Rattle.rx_term.specs.Store.{tree_at};
     ghost use Rattle.rx_term.specs.Steps.{MakesOrRefuses};
+    ghost use Rattle.rx_term.specs.declared.faults.BankFault.TheVariants.{Memory};
     ghost use Rattle.rx_plain.specs.State.{store_of, tree_of_body, IsEmptyStore, IsNotesOf};
 
-    /// An empty bank.
+    /// An empty bank of at most `cap` terms, from 1 to 2^30; or memory ran out, and nothing else.
     pub fn new(alloc: Global, cap: u32) -> Result<PlainBank, BankFault>
         requires { (0 < cap) × (cap ≤ 1073741824) }
-        ensures { IfOk result (λ b. IsEmptyStore (store_of b) cap) }
+        ensures empty { IfOk result (λ b. IsEmptyStore (store_of b) cap) }
+        ensures memory_alone { IfErr result (λ e. e ≡ Memory) }
     {
         match Names::new(alloc) {
             Ok(names) => Ok(PlainBank {

@@ -22,5 +22,5 @@ invariant_of-result c =
       counted = sym (ap map.len content ∙ empty-len m);
     }
 
-pub returns-in-Ok : goal.returns-in-Ok
-returns-in-Ok c = (empty-content (table_of (symbols_of c.in-Ok.names)) c.new-in-Ok.result.items c.new-in-Ok.ensures.items _, c.in-Ok.ensures, subst (λ xs. (t : ℕ) → roots_of xs t ≡ 0) (sym c.new-in-Ok.ensures.items) (λ t. refl), refl)
+pub returns-in-Ok-clause-empty : goal.returns-in-Ok-clause-empty
+returns-in-Ok-clause-empty c = (empty-content (table_of (symbols_of c.in-Ok.names)) c.new-in-Ok.result.items c.new-in-Ok.ensures.items _, c.in-Ok.ensures, subst (λ xs. (t : ℕ) → roots_of xs t ≡ 0) (sym c.new-in-Ok.ensures.items) (λ t. refl), refl)
