@@ -44,9 +44,9 @@ tree_is nodes u e p =
     let h = both_parts (knows_placeholders u) (has_plain_placeholders u) p in
     ap tree_of_steps e ∙ ap only_tree (pieces-code u [] h.0 h.1)
 
-pub whole_nodes : (w : Store) (t : Term) (nodes : List Node) → IsSound w → IsSome (tree_at w t) → ((u : Tree) → tree_at w t ≡ Some u → unfit u ≡ None) → ((u : Tree) → tree_at w t ≡ Some u → map step_of nodes ≡ code u []) → length nodes < 2 ^ 32
+pub whole_nodes : (w : Store) (t : Term) (nodes : List Node) → IsSound w → IsSome (tree_at w t) → ((u : Tree) → tree_at w t ≡ Some u → unfit u ≡ None) → ((u : Tree) → tree_at w t ≡ Some u → map step_of nodes ≡ code u [])
     → AreNodes nodes × (tree_at w t ≡ Some (tree_of_nodes nodes)) × (unfit (tree_of_nodes nodes) ≡ None)
-whole_nodes w t nodes s held fit flat short =
+whole_nodes w t nodes s held fit flat =
     let v = some-value (tree_at w t) held in
     let f = fit v.0 v.1 in
     let p = fit_is_pattern v.0 f in
@@ -56,7 +56,6 @@ whole_nodes w t nodes s held fit flat short =
         code = e ∙ ap (λ (u : Tree). code u []) (sym i);
         pattern = subst (λ (u : Tree). IsTrue (is_pattern u)) (sym i) p;
         valid = subst (λ (u : Tree). IsTrue (is_tree u)) (sym i) (s.valid t v.0 v.1);
-        short = short;
       },
       v.1 ∙ ap (λ (u : Tree). let o : Option Tree = Some u in o) (sym i),
       ap unfit i ∙ f,

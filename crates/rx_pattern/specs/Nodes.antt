@@ -34,4 +34,3 @@ pub record AreNodes (nodes : List Node) : Type 0 where
   pub code : map step_of nodes ≡ code (tree_of_nodes nodes) []
   pub pattern : IsTrue (is_pattern (tree_of_nodes nodes))
   pub valid : IsTrue (is_tree (tree_of_nodes nodes))
-  pub short : length nodes < 2 ^ 32

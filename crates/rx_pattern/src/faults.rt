@@ -64,7 +64,7 @@ pub enum MakeFault {
     Count,
     /// The term at this place, from 0, is the first that its placeholder does not take.
     #[error("the term at {at} is of a wrong kind")]
-    Kind { at: u32 },
+    Kind { at: usize },
     /// Memory ran out.
     #[error("out of memory")]
     Memory,

@@ -63,17 +63,16 @@ fn takes<B: TermBank>(bank: &B, node: &Node, t: Term) -> bool
 
 /// Why the terms do not go into the nodes, if they do not.
 pub fn misfit<B: TermBank>(nodes: &[Node], bank: &B, args: &[Term]) -> Option<MakeFault>
-    requires short { length nodes.now < 2 ^ 32 }
-    requires held { AllHeld (B.store bank.now) args.now }
+    requires { AllHeld (B.store bank.now) args.now }
     ensures { (bs : List Tree) → HaveTrees (B.store bank.now) args.now bs → IsMisfit result (slots_of_steps (map step_of nodes.now)) bs }
 {
     if count_slots(nodes) != args.len() {
         return Some(MakeFault::Count);
     }
-    let mut at = 0u32;
+    let mut at = 0;
     for node in nodes {
         if is_slot(node) {
-            if !takes(bank, node, args[at as usize]) {
+            if !takes(bank, node, args[at]) {
                 return Some(MakeFault::Kind { at });
             }
             at += 1;

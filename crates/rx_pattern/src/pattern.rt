@@ -45,7 +45,7 @@ impl Model for Pattern {
 
 impl Pattern {
     /// The pattern that a term of the bank is. `Unknown` where a placeholder is not one of the six, else `Annotated` where one has
-    /// annotations; `Memory` also for a pattern of more than 4,294,967,295 nodes.
+    /// annotations.
     pub fn of<B: TermBank>(alloc: Global, bank: &B, t: Term) -> Result<Pattern, PatternFault>
         requires { IsSome (tree_at (B.store bank.now) t) }
         ensures made { IfOk result (λ p. tree_at (B.store bank.now) t ≡ Some p) }
@@ -56,9 +56,6 @@ impl Pattern {
     {
         check(alloc, bank, t)?;
         let nodes = flatten(alloc, bank, t)?;
-        if nodes.len() > u32::MAX as usize {
-            return Err(PatternFault::Memory);
-        }
         Ok(Pattern { alloc, nodes })
     }
 

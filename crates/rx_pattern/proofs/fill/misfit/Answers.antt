@@ -31,7 +31,7 @@ takes-requires g c =
     let nodes = c.args.nodes.now in
     let i = c.loop-node.node-index in
     let n = c.node-item.result in
-    tree_held w c.args.args.now c.loop-node.at no_term c.requires.held (at_place w (slots_of_steps (map step_of nodes)) (slots_of_steps (map step_of (drop i nodes))) (slots_of_steps (map step_of (drop (i + 1) nodes))) (step_of n) c.args.args.now c.loop-node.at i (ap slots_of_steps (next_step nodes i n c.loop-node-test.true c.node-item.is)) c.loop-node.invariant (sym c.is_slot.ensures ∙ c.if-is_slot.true))
+    tree_held w c.args.args.now c.loop-node.at no_term c.requires (at_place w (slots_of_steps (map step_of nodes)) (slots_of_steps (map step_of (drop i nodes))) (slots_of_steps (map step_of (drop (i + 1) nodes))) (step_of n) c.args.args.now c.loop-node.at i (ap slots_of_steps (next_step nodes i n c.loop-node-test.true c.node-item.is)) c.loop-node.invariant (sym c.is_slot.ensures ∙ c.if-is_slot.true))
 
 pub returns-then-not-takes : goal.returns-then-not-takes
 returns-then-not-takes g c = λ bs held.
