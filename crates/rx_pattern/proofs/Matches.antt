@@ -1,17 +1,16 @@
 -- A turn of the loop that matches a pattern.
-use Rattle.std.proofs.Common.{ℕ, suc, ◌+◌, ◌<◌, ◌≡◌, Bool, true, false, ◌&&◌, List, [], ◌∷◌, ◌++◌, Option, Some, None, cond, refl, sym, ap, ◌∙◌, subst, append_assoc, length, map, drop, get_or, inl, inr, add-one}
+use Rattle.std.proofs.Common.{ℕ, ◌+◌, ◌<◌, ◌≡◌, Bool, true, false, ◌&&◌, List, [], ◌∷◌, ◌++◌, Option, Some, None, cond, refl, sym, ap, ◌∙◌, subst, append_assoc, length, map, drop, get_or, inl, inr, add-one}
 use Rattle.std.proofs.Math.Seq.{drop-cons}
-use Rattle.std.specs.Prelude.{bytes_eq, IsSome, unwrap_or, option_to_list}
+use Rattle.std.specs.Prelude.{bytes_eq, option_to_list}
 use Rattle.std.specs.Bool.{beq}
 use Rattle.std.specs.Ordering.{int_eq}
 use Rattle.std.proofs.lemmas.List.{append-nil}
-use Rattle.rx_term.specs.Tree.{Tree, Trees, none, more, Int, Appl, Items, Hole, list_of}
+use Rattle.rx_term.specs.Tree.{Tree, none, more, Int, Appl, Items, Hole}
 use Rattle.rx_term.specs.Store.{Store, tree_at}
-use Rattle.rx_term.specs.Steps.{Grows}
 use Rattle.rx_term.specs.declared.Term.{Term}
-use Rattle.rx_pattern.specs.Pattern.{Kind, AnyList, kind_of, fits, is_rest}
+use Rattle.rx_pattern.specs.Pattern.{Kind, fits}
 use Rattle.rx_pattern.specs.Matching.{matching, matching_all, both, where_true, bound}
-use Rattle.rx_pattern.specs.Code.{Step, Number, Named, Listing, Holding, End, Item, Rest, Piece, One, Several, placeholder, joined, pieces, word_of}
+use Rattle.rx_pattern.specs.Code.{Step, Number, Named, Listing, Holding, End, Item, Rest, Piece, One, Several, joined, pieces}
 use Rattle.rx_pattern.specs.Held.{HaveTrees, AddsOnlyLists}
 use Rattle.rx_pattern.specs.Nodes.{step_of}
 use Rattle.rx_pattern.specs.declared.nodes.Node.{Node}

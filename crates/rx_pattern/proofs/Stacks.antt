@@ -1,16 +1,15 @@
 -- Stacks of references, and what they stand for.
-use Rattle.std.proofs.Common.{◌≡◌, List, [], ◌∷◌, ◌++◌, reverse, Option, Some, None, IsSome, refl, sym, ap, ◌∙◌, subst}
+use Rattle.std.proofs.Common.{◌≡◌, List, [], ◌∷◌, ◌++◌, reverse, Option, Some, None, IsSome, refl, ◌∙◌}
 use Rattle.std.specs.Prelude.{unwrap_or}
 use Rattle.std.proofs.lemmas.List.{reverse-append, append-nil}
-use Rattle.std.specs.Option.{option_and_then}
 use Rattle.rx_term.specs.Tree.{Tree, Trees, none, more, Items, annotations, list_of}
-use Rattle.rx_term.specs.Store.{Store, tree_at, part_at, anns_of, list_unless_empty}
+use Rattle.rx_term.specs.Store.{Store, tree_at, list_unless_empty}
 use Rattle.rx_term.specs.Steps.{Grows}
 use Rattle.rx_term.specs.Kinds.{HasAnns}
 use Rattle.rx_term.specs.declared.Term.{Term}
 use Rattle.rx_pattern.specs.Code.{Piece, One, Several}
 use Rattle.rx_pattern.specs.Held.{HaveTrees}
-use Rattle.rx_pattern.specs.Subjects.{AreEach, OnStack, IsListed, Stands, Pushes, Adds}
+use Rattle.rx_pattern.specs.Subjects.{AreEach, OnStack, IsListed, Stands, Adds}
 
 -- what is held has a tree
 pub held_tree : (o : Option Tree) (d : Tree) → IsSome o → o ≡ Some (unwrap_or o d)

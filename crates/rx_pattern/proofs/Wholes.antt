@@ -1,5 +1,5 @@
 -- The nodes of a whole pattern.
-use Rattle.std.proofs.Common.{ℕ, ◌==◌, eq-eqb, ◌≡◌, ◌≢◌, ◌<◌, ◌^◌, ◌&&◌, Bool, true, false, List, [], ◌∷◌, ◌++◌, Option, Some, None, IsSome, cond, length, map, refl, sym, ap, ◌∙◌, subst}
+use Rattle.std.proofs.Common.{ℕ, ◌==◌, eq-eqb, ◌≡◌, ◌≢◌, ◌<◌, ◌^◌, ◌&&◌, Bool, true, false, List, [], ◌∷◌, Option, Some, None, IsSome, cond, length, map, refl, sym, ap, ◌∙◌, subst}
 use Rattle.std.specs.Prelude.{IsTrue, Result, Ok, Err, IfOk, IfErr, IsErrOf}
 use Rattle.std.proofs.lemmas.Bool.Decides.{Decides-eqb}
 use Rattle.rx_term.specs.Tree.{Tree, is_tree}
@@ -20,7 +20,7 @@ use Rattle.rx_pattern.specs.Faults.{IsMakeRefusal}
 use Rattle.rx_pattern.specs.declared.faults.MakeFault.{MakeFault}
 use Rattle.rx_pattern.specs.declared.faults.MakeFault.TheVariants as make
 use Rattle.rx_pattern.proofs.Fills.{slots-nodes}
-use Rattle.rx_pattern.specs.Code.{Step, code, only_tree, pieces, tree_of_steps}
+use Rattle.rx_pattern.specs.Code.{code, only_tree, tree_of_steps}
 use Rattle.rx_pattern.specs.Nodes.{step_of, tree_of_nodes, AreNodes}
 use Rattle.rx_pattern.specs.declared.nodes.Node.{Node}
 use Rattle.rx_pattern.proofs.Spelling.{pieces-code}
