@@ -28,10 +28,6 @@ and_assoc : (a b c : Bool) → ((a && b) && c) ≡ (a && (b && c))
 and_assoc true b c = refl
 and_assoc false b c = refl
 
-and_false : (b : Bool) → (b && false) ≡ false
-and_false true = refl
-and_false false = refl
-
 knows_each-append : (ts us : List Tree) → knows_each (ts ++ us) ≡ (knows_each ts && knows_each us)
 knows_each-append [] us = refl
 knows_each-append (t ∷ ts) us = ap (λ (b : Bool). knows_placeholders t && b) (knows_each-append ts us) ∙ sym (and_assoc (knows_placeholders t) (knows_each ts) (knows_each us))
@@ -174,23 +170,3 @@ module _ (w : Store) (p : Tree) (plain : Bool) (stack rest : List Term) (r : Ter
       let b : weight_each h.trees ≡ weight_each (first.0 ∷ others) = ap weight_each first.1.1 in
       let c : weight_of w (reverse after) ≡ weight_each (below first.0 ++ others) = weight_of-each w (reverse after) (below first.0 ++ others) (pushes first.0 first.1.2 others first.1.3) in
       omega (arith, weight_each-append (below first.0) others, weight-below first.0)
-
-no_trees : (w : Store) (stack : List Term) (us : List Tree) → stack ≡ [] → OnStack (HasTree w) stack us → us ≡ []
-no_trees w stack [] e h = refl
-no_trees w stack (u ∷ us) e h = absurd (rw e at h)
-
-module _ (w : Store) (p : Tree) (plain : Bool) (stack : List Term) (empty : stack ≡ []) (h : Looking w p plain stack) where
-  none_left : h.trees ≡ []
-  none_left = no_trees w stack h.trees empty h.stands
-
-  all_known_now : knows_placeholders p ≡ true
-  all_known_now = h.knows ∙ ap knows_each none_left
-
-  plain_now : has_plain_placeholders p ≡ plain
-  plain_now = h.bare ∙ ap (λ (us : List Tree). plain && plain_each us) none_left ∙ and_true plain
-
-  pub ended_annotated : plain ≡ false → unfit p ≡ Some pattern.Annotated
-  ended_annotated e = let k = all_known_now in let b : has_plain_placeholders p ≡ false = plain_now ∙ e in rw (k, b) refl
-
-  pub ended_fit : plain ≡ true → unfit p ≡ None
-  ended_fit e = let k = all_known_now in let b : has_plain_placeholders p ≡ true = plain_now ∙ e in rw (k, b) refl

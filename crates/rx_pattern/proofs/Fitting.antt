@@ -53,9 +53,6 @@ no_slot Listing e = refl
 no_slot End e = refl
 no_slot Item e = refl
 
-pub length-slot : (s : Step) → is_slot s ≡ true → length (slots_of_step s) ≡ 1
-length-slot s e = ap length (one_slot s e).1
-
 -- references and their trees
 pub HaveTrees-length : (w : Store) (rs : List Term) (bs : List Tree) → HaveTrees w rs bs → length rs ≡ length bs
 HaveTrees-length w [] [] h = refl

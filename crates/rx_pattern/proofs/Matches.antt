@@ -233,12 +233,6 @@ ended w steps whole stack out e h =
 pub not_matched : (w : Store) (whole : Option (List Tree)) (out : List Term) → whole ≡ None → Answers w whole out false
 not_matched w whole out e = rw e tt
 
--- the stack is not empty
-pub some_subject : (w : Store) (s : Step) (ns : List Step) (whole : Option (List Tree)) (stack : List (Option Term)) (out : List Term) → Underway w (s ∷ ns) whole stack out → stack ≡ [] → ⊥
-some_subject w s ns whole stack out h e = empty (first w s ns whole stack out h) where
-  empty : (v : Piece) × ((rest : List Piece) × (h.subjects ≡ v ∷ rest)) → ⊥
-  empty (v, (rest, f)) = let k = rw (e, f) at h.stands in k
-
 -- the step at a place, and those behind it
 pub next_step : (nodes : List Node) (i : ℕ) (n : Node) → i < length nodes → n ≡ get_or nodes i n → map step_of (drop i nodes) ≡ step_of n ∷ map step_of (drop (i + 1) nodes)
 next_step nodes i n lt e = ap (map step_of) (rw add-one (drop-cons nodes i n lt) ∙ ap (λ (m : Node). m ∷ drop (i + 1) nodes) (sym e))

@@ -33,12 +33,6 @@ fit_tests false b x y e f g = absurd (g e)
 pub fit_is_pattern : (u : Tree) → unfit u ≡ None → IsTrue (is_pattern u)
 fit_is_pattern u e = fit_tests (knows_placeholders u) (has_plain_placeholders u) _ _ e (λ h. cc) (λ h. cc)
 
-pub pattern_is_fit : (u : Tree) → IsTrue (is_pattern u) → unfit u ≡ None
-pattern_is_fit u e = let h = both_parts (knows_placeholders u) (has_plain_placeholders u) e in let a = h.0 in let b = h.1 in rw (a, b) refl
-
-pub flat_pattern : (w : Store) (t : Term) → IsSome (tree_at w t) → ((u : Tree) → tree_at w t ≡ Some u → unfit u ≡ None) → (u : Tree) × (tree_at w t ≡ Some u) × IsTrue (is_pattern u)
-flat_pattern w t held fit = let v = some-value (tree_at w t) held in (v.0, v.1, fit_is_pattern v.0 (fit v.0 v.1))
-
 tree_is : (nodes : List Node) (u : Tree) → map step_of nodes ≡ code u [] → IsTrue (is_pattern u) → tree_of_nodes nodes ≡ u
 tree_is nodes u e p =
     let h = both_parts (knows_placeholders u) (has_plain_placeholders u) p in
