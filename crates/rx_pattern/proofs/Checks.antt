@@ -1,7 +1,7 @@
 -- A turn of the loop that looks for placeholders.
-use Rattle.std.proofs.Common.{ℕ, ◌+◌, ◌<◌, ◌≤◌, ◌≡◌, IsSome, Bool, true, false, ◌&&◌, List, [], ◌∷◌, ◌++◌, Option, Some, None, reverse, refl, sym, ap, ◌∙◌, subst, arith}
+use Rattle.std.proofs.Common.{ℕ, ◌+◌, ◌<◌, ◌≤◌, ◌≡◌, IsSome, Bool, true, false, ◌&&◌, List, [], ◌∷◌, ◌++◌, Option, Some, None, reverse, refl, sym, ap, ◌∙◌, arith}
 use Rattle.std.specs.Prelude.{is_some}
-use Rattle.rx_term.specs.Tree.{Tree, Trees, none, more, Int, Appl, Items, Hole, list_of, is_none}
+use Rattle.rx_term.specs.Tree.{Tree, Trees, none, more, Int, Appl, Items, Hole}
 use Rattle.rx_term.specs.Store.{Store, tree_at}
 use Rattle.rx_term.specs.declared.Term.{Term}
 use Rattle.rx_pattern.specs.Pattern as pattern
@@ -27,10 +27,6 @@ and_true false = refl
 and_assoc : (a b c : Bool) → ((a && b) && c) ≡ (a && (b && c))
 and_assoc true b c = refl
 and_assoc false b c = refl
-
-and_false : (b : Bool) → (b && false) ≡ false
-and_false true = refl
-and_false false = refl
 
 knows_each-append : (ts us : List Tree) → knows_each (ts ++ us) ≡ (knows_each ts && knows_each us)
 knows_each-append [] us = refl
@@ -174,23 +170,3 @@ module _ (w : Store) (p : Tree) (plain : Bool) (stack rest : List Term) (r : Ter
       let b : weight_each h.trees ≡ weight_each (first.0 ∷ others) = ap weight_each first.1.1 in
       let c : weight_of w (reverse after) ≡ weight_each (below first.0 ++ others) = weight_of-each w (reverse after) (below first.0 ++ others) (pushes first.0 first.1.2 others first.1.3) in
       omega (arith, weight_each-append (below first.0) others, weight-below first.0)
-
-no_trees : (w : Store) (stack : List Term) (us : List Tree) → stack ≡ [] → OnStack (HasTree w) stack us → us ≡ []
-no_trees w stack [] e h = refl
-no_trees w stack (u ∷ us) e h = absurd (rw e at h)
-
-module _ (w : Store) (p : Tree) (plain : Bool) (stack : List Term) (empty : stack ≡ []) (h : Looking w p plain stack) where
-  none_left : h.trees ≡ []
-  none_left = no_trees w stack h.trees empty h.stands
-
-  all_known_now : knows_placeholders p ≡ true
-  all_known_now = h.knows ∙ ap knows_each none_left
-
-  plain_now : has_plain_placeholders p ≡ plain
-  plain_now = h.bare ∙ ap (λ (us : List Tree). plain && plain_each us) none_left ∙ and_true plain
-
-  pub ended_annotated : plain ≡ false → unfit p ≡ Some pattern.Annotated
-  ended_annotated e = let k = all_known_now in let b : has_plain_placeholders p ≡ false = plain_now ∙ e in rw (k, b) refl
-
-  pub ended_fit : plain ≡ true → unfit p ≡ None
-  ended_fit e = let k = all_known_now in let b : has_plain_placeholders p ≡ true = plain_now ∙ e in rw (k, b) refl

@@ -1,19 +1,17 @@
 -- A turn of the loop that makes a term of a pattern's nodes, from the last one on.
-use Rattle.std.proofs.Common.{ℕ, suc, zero, ◌+◌, ◌-◌, ◌<◌, ◌≤◌, ◌≡◌, ◌==◌, Bool, true, false, ◌&&◌, List, [], ◌∷◌, ◌++◌, Option, Some, None, IsSome, cond, length, map, drop, reverse, get_or, refl, sym, ap, ◌∙◌, subst, arith, add-one, eq-eqb, inl, inr, ◌⊎◌}
-use Rattle.std.specs.Prelude.{IsTrue, unwrap_or, Result, Ok, Err}
-use Rattle.std.proofs.Math.Seq.{drop-cons}
+use Rattle.std.proofs.Common.{ℕ, suc, zero, ◌+◌, ◌-◌, ◌<◌, ◌≤◌, ◌≡◌, Bool, true, false, List, [], ◌∷◌, ◌++◌, Option, Some, None, IsSome, length, map, drop, get_or, refl, sym, ap, ◌∙◌, subst, arith, eq-eqb, inl, inr, ◌⊎◌}
+use Rattle.std.specs.Prelude.{unwrap_or}
 use Rattle.rx_term.specs.Name.{is_allowed}
 use Rattle.rx_term.specs.Tree.{Tree, Trees, none, more, Int, Appl, Items, Hole, is_tree, are_trees}
 use Rattle.rx_term.specs.Store.{Store, tree_at}
 use Rattle.rx_term.specs.Steps.{Grows}
-use Rattle.rx_term.specs.Walks.{AllHeld}
 use Rattle.rx_term.specs.declared.Term.{Term}
 use Rattle.rx_term.proofs.StoreLemmas.{Grows-refl, Grows-trans}
 use Rattle.rx_term.proofs.TreeLemmas.{both_parts}
-use Rattle.rx_pattern.specs.Pattern.{Kind, kind_of, fits, is_rest}
+use Rattle.rx_pattern.specs.Pattern.{Kind, kind_of, is_rest}
 use Rattle.rx_pattern.specs.Filling as filling
 use Rattle.rx_pattern.specs.Filling.{Slot, slots, slots_of_all, slot_of, filled, filled_all, items_of, takes, misfit, made}
-use Rattle.rx_pattern.specs.Code.{Step, Number, Named, Listing, Holding, End, Item, Rest, code, code_of_all, Piece, One, Several, joined, pieces, placeholder}
+use Rattle.rx_pattern.specs.Code.{Step, Number, Named, Listing, Holding, End, Item, Rest, code, code_of_all, Piece, One, Several, joined, pieces}
 use Rattle.rx_pattern.specs.Nodes.{step_of, tree_of_nodes, AreNodes}
 use Rattle.rx_pattern.specs.Held.{HaveTrees}
 use Rattle.rx_pattern.specs.Subjects.{OnStack, Stands}

@@ -1,7 +1,6 @@
 -- Whether terms go into the slots of nodes.
-use Rattle.std.proofs.Common.{ℕ, suc, zero, ◌+◌, ◌<◌, ◌≤◌, ◌≡◌, Bool, true, false, not, List, [], ◌∷◌, ◌++◌, Option, Some, None, IsSome, cond, length, map, drop, get_or, refl, sym, ap, ◌∙◌, subst, arith, add-one}
+use Rattle.std.proofs.Common.{ℕ, suc, zero, ◌+◌, ◌<◌, ◌≤◌, ◌≡◌, Bool, true, false, not, List, [], ◌∷◌, ◌++◌, Option, Some, None, IsSome, length, drop, get_or, refl, sym, ap, ◌∙◌, subst, arith, add-one}
 use Rattle.std.specs.Prelude.{option_map, is_some}
-use Rattle.std.proofs.Math.Seq.{drop-cons}
 use Rattle.rx_term.specs.Tree.{Tree, Trees, none, more, Int, Appl, Items, Hole, annotations}
 use Rattle.rx_term.specs.Store.{Store, tree_at, list_unless_empty}
 use Rattle.rx_term.specs.Kinds.{HasAnns}
@@ -53,9 +52,6 @@ no_slot (Named name quoted) e = refl
 no_slot Listing e = refl
 no_slot End e = refl
 no_slot Item e = refl
-
-pub length-slot : (s : Step) → is_slot s ≡ true → length (slots_of_step s) ≡ 1
-length-slot s e = ap length (one_slot s e).1
 
 -- references and their trees
 pub HaveTrees-length : (w : Store) (rs : List Term) (bs : List Tree) → HaveTrees w rs bs → length rs ≡ length bs

@@ -1,5 +1,5 @@
 -- A turn of the loop that makes the nodes of a pattern.
-use Rattle.std.proofs.Common.{ℕ, suc, ◌+◌, ◌-◌, ◌<◌, ◌≤◌, ◌≡◌, Bool, true, false, ◌&&◌, List, [], ◌∷◌, ◌++◌, Option, Some, None, cond, length, map, reverse, refl, sym, ap, ◌∙◌, subst, arith, append_assoc, length-append}
+use Rattle.std.proofs.Common.{suc, ◌-◌, ◌<◌, ◌≤◌, ◌≡◌, Bool, true, false, List, [], ◌∷◌, ◌++◌, Some, length, map, reverse, refl, sym, ap, ◌∙◌, subst, arith, append_assoc, length-append}
 use Rattle.std.specs.Prelude.{IsTrue}
 use Rattle.std.proofs.lemmas.List.{append-nil}
 use Rattle.rx_term.specs.Tree.{Tree, Trees, none, more, Int, Appl, Items, Hole}
@@ -7,10 +7,10 @@ use Rattle.rx_term.specs.Store.{Store, tree_at}
 use Rattle.rx_term.specs.declared.Term.{Term}
 use Rattle.rx_term.proofs.TreeLemmas.{both_parts}
 use Rattle.rx_pattern.specs.Pattern.{is_pattern, is_rest, knows_placeholders, has_plain_placeholders, all_known, all_plain}
-use Rattle.rx_pattern.specs.Code.{Step, Item, Rest, code, code_of_all, Piece, One, Several}
+use Rattle.rx_pattern.specs.Code.{Step, code, Piece, One, Several}
 use Rattle.rx_pattern.specs.Nodes.{step_of}
 use Rattle.rx_pattern.specs.Subjects.{OnStack, AreEach}
-use Rattle.rx_pattern.specs.Jobs.{IsFor, IsOfPattern, opens, PushesJobs, Opens}
+use Rattle.rx_pattern.specs.Jobs.{IsFor, IsOfPattern, opens, Opens}
 use Rattle.rx_pattern.specs.declared.nodes.Node.{Node}
 use Rattle.rx_pattern.specs.declared.flatten.Job.{Job}
 use Rattle.rx_pattern.specs.declared.flatten.Job.TheVariants as job

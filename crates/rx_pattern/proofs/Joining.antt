@@ -1,5 +1,5 @@
 -- What a node makes of the newest of what was made.
-use Rattle.std.proofs.Common.{◌≡◌, List, [], ◌∷◌, ◌++◌, Option, Some, None, Result, Ok, Err, refl, sym, ap, ◌∙◌}
+use Rattle.std.proofs.Common.{◌≡◌, List, [], ◌∷◌, ◌++◌, Option, Some, Result, Ok, Err, ap, ◌∙◌}
 use Rattle.std.specs.Prelude.{OnOk}
 use Rattle.rx_term.specs.Tree.{Tree, Trees, none, more, Items, annotated, list_of}
 use Rattle.rx_term.specs.Store.{Store, tree_at, longer}

@@ -1,17 +1,16 @@
 -- A turn of the loop that matches a pattern.
-use Rattle.std.proofs.Common.{ℕ, suc, ◌+◌, ◌<◌, ◌≡◌, Bool, true, false, ◌&&◌, List, [], ◌∷◌, ◌++◌, Option, Some, None, cond, refl, sym, ap, ◌∙◌, subst, append_assoc, length, map, drop, get_or, inl, inr, add-one}
+use Rattle.std.proofs.Common.{ℕ, ◌+◌, ◌<◌, ◌≡◌, Bool, true, false, ◌&&◌, List, [], ◌∷◌, ◌++◌, Option, Some, None, cond, refl, sym, ap, ◌∙◌, subst, append_assoc, length, map, drop, get_or, inl, inr, add-one}
 use Rattle.std.proofs.Math.Seq.{drop-cons}
-use Rattle.std.specs.Prelude.{bytes_eq, IsSome, unwrap_or, option_to_list}
+use Rattle.std.specs.Prelude.{bytes_eq, option_to_list}
 use Rattle.std.specs.Bool.{beq}
 use Rattle.std.specs.Ordering.{int_eq}
 use Rattle.std.proofs.lemmas.List.{append-nil}
-use Rattle.rx_term.specs.Tree.{Tree, Trees, none, more, Int, Appl, Items, Hole, list_of}
+use Rattle.rx_term.specs.Tree.{Tree, none, more, Int, Appl, Items, Hole}
 use Rattle.rx_term.specs.Store.{Store, tree_at}
-use Rattle.rx_term.specs.Steps.{Grows}
 use Rattle.rx_term.specs.declared.Term.{Term}
-use Rattle.rx_pattern.specs.Pattern.{Kind, AnyList, kind_of, fits, is_rest}
+use Rattle.rx_pattern.specs.Pattern.{Kind, fits}
 use Rattle.rx_pattern.specs.Matching.{matching, matching_all, both, where_true, bound}
-use Rattle.rx_pattern.specs.Code.{Step, Number, Named, Listing, Holding, End, Item, Rest, Piece, One, Several, placeholder, joined, pieces, word_of}
+use Rattle.rx_pattern.specs.Code.{Step, Number, Named, Listing, Holding, End, Item, Rest, Piece, One, Several, joined, pieces}
 use Rattle.rx_pattern.specs.Held.{HaveTrees, AddsOnlyLists}
 use Rattle.rx_pattern.specs.Nodes.{step_of}
 use Rattle.rx_pattern.specs.declared.nodes.Node.{Node}
@@ -233,12 +232,6 @@ ended w steps whole stack out e h =
 
 pub not_matched : (w : Store) (whole : Option (List Tree)) (out : List Term) → whole ≡ None → Answers w whole out false
 not_matched w whole out e = rw e tt
-
--- the stack is not empty
-pub some_subject : (w : Store) (s : Step) (ns : List Step) (whole : Option (List Tree)) (stack : List (Option Term)) (out : List Term) → Underway w (s ∷ ns) whole stack out → stack ≡ [] → ⊥
-some_subject w s ns whole stack out h e = empty (first w s ns whole stack out h) where
-  empty : (v : Piece) × ((rest : List Piece) × (h.subjects ≡ v ∷ rest)) → ⊥
-  empty (v, (rest, f)) = let k = rw (e, f) at h.stands in k
 
 -- the step at a place, and those behind it
 pub next_step : (nodes : List Node) (i : ℕ) (n : Node) → i < length nodes → n ≡ get_or nodes i n → map step_of (drop i nodes) ≡ step_of n ∷ map step_of (drop (i + 1) nodes)

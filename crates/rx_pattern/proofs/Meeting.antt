@@ -1,28 +1,24 @@
 -- One step of a pattern and its subject.
-use Rattle.std.proofs.Common.{ℕ, ◌≡◌, ◌≢◌, Bool, true, false, ◌&&◌, List, [], ◌∷◌, ◌++◌, ℤ, Option, Some, None, refl, sym, ap, ◌∙◌, subst}
+use Rattle.std.proofs.Common.{ℕ, ◌≡◌, Bool, true, false, ◌&&◌, List, [], ◌∷◌, ◌++◌, Option, Some, None, refl, sym, ap, ◌∙◌}
 use Rattle.std.specs.Prelude.{bytes_eq}
 use Rattle.std.specs.Bool.{beq}
-use Rattle.std.specs.Ordering.{int_eq}
 use Rattle.std.specs.Option.{option_and_then}
-use Rattle.std.proofs.lemmas.Bool.Decides.{Decides-int_eq}
 use Rattle.rx_term.specs.Name.{Signature}
-use Rattle.rx_term.specs.Tree.{Tree, Trees, none, more, Int, Appl, Items, Hole, annotations, is_none, list_of, count_of}
-use Rattle.rx_term.specs.Store.{Store, tree_at, part_at, signature_of, args_of, head_of, tail_of}
+use Rattle.rx_term.specs.Tree.{Tree, Trees, none, Int, Appl, Items, Hole, list_of, count_of}
+use Rattle.rx_term.specs.Store.{Store, tree_at, part_at, signature_of, args_of}
 use Rattle.rx_term.specs.Steps.{Grows}
-use Rattle.rx_term.specs.Kinds.{HasKind, HasAnns, HasInt, HasAppl}
+use Rattle.rx_term.specs.Kinds.{HasAnns, HasAppl}
 use Rattle.rx_term.specs.declared.Term.{Term}
 use Rattle.rx_term.specs.declared.Symbol.{Symbol}
-use Rattle.rx_term.specs.declared.Kind as rx
-use Rattle.rx_term.specs.declared.Kind.TheVariants as kind
 use Rattle.rx_pattern.specs.Pattern.{fits, AnyList}
-use Rattle.rx_pattern.specs.Code.{Step, Number, Named, Listing, Holding, End, Item, Rest, Piece, One, Several}
+use Rattle.rx_pattern.specs.Code.{Named, Listing, Piece, One, Several}
 use Rattle.rx_pattern.specs.Nodes.{kind_of_class, step_of}
-use Rattle.rx_pattern.specs.Subjects.{OnStack, IsListed, Stands, Suits, Front, front_if, meets, Met, MetOrNot}
+use Rattle.rx_pattern.specs.Subjects.{IsListed, Stands, Suits, Front, meets, Met, MetOrNot}
 use Rattle.rx_pattern.specs.declared.nodes.Class.{Class}
 use Rattle.rx_pattern.specs.declared.nodes.Node.{Node}
 use Rattle.rx_pattern.specs.declared.nodes.Node.TheVariants as node
 use Rattle.rx_term.proofs.StoreLemmas.{Grows-refl}
-use Rattle.rx_pattern.proofs.Stacks.{same, push, still_on, listed_notes, adds_one, adds_none}
+use Rattle.rx_pattern.proofs.Stacks.{same, push, still_on, listed_notes, adds_one}
 
 -- a step that does not meet its subject leaves nothing
 pub met_none : (w : Store) (f : Option Front) (before after : List (Option Term)) → f ≡ None → Met w f before after false

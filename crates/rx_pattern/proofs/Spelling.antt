@@ -1,11 +1,11 @@
 -- The steps of a pattern spell it, and so do those that are left, from any step on.
-use Rattle.std.proofs.Common.{ℕ, ◌≡◌, Bool, true, false, ◌&&◌, List, [], ◌∷◌, Option, Some, None, cond, refl, sym, ap, ◌∙◌, subst, ◌⊎◌, inl, inr}
-use Rattle.std.specs.Prelude.{bytes_eq, codes, is_some, IsTrue, map}
+use Rattle.std.proofs.Common.{ℕ, ◌≡◌, Bool, true, false, List, [], ◌∷◌, Option, Some, None, cond, refl, sym, ap, ◌∙◌, ◌⊎◌, inl, inr}
+use Rattle.std.specs.Prelude.{bytes_eq, codes, is_some, map}
 use Rattle.std.proofs.lemmas.Slice.Eq.{bytes_eq-Decides}
 use Rattle.rx_term.specs.Tree.{Tree, Trees, none, more, Int, Appl, Items, Hole, is_none}
 use Rattle.rx_term.proofs.TreeLemmas.{both_parts}
-use Rattle.rx_pattern.specs.Pattern.{Kind, AnyTerm, AnyInt, AnyStr, AnyAppl, AnyPlaceholder, AnyList, kind_named, kind_of, is_rest, is_list_kind, knows_placeholders, all_known, has_plain_placeholders, all_plain, is_pattern}
-use Rattle.rx_pattern.specs.Code.{Step, Number, Named, Listing, Holding, End, Item, Rest, code, code_of_all, Piece, One, Several, word_of, placeholder, joined, pieces, tree_of_steps}
+use Rattle.rx_pattern.specs.Pattern.{Kind, AnyTerm, AnyInt, AnyStr, AnyAppl, AnyPlaceholder, AnyList, kind_named, kind_of, is_rest, is_list_kind, knows_placeholders, all_known, has_plain_placeholders, all_plain}
+use Rattle.rx_pattern.specs.Code.{Step, Number, Named, Listing, Holding, End, Item, Rest, code, code_of_all, Piece, One, Several, word_of, placeholder, joined, pieces}
 use Rattle.rx_pattern.specs.Nodes.{step_of, tree_of_nodes, AreNodes}
 use Rattle.rx_pattern.specs.declared.nodes.Node.{Node}
 

@@ -1,16 +1,15 @@
 -- Stacks of references, and what they stand for.
-use Rattle.std.proofs.Common.{◌≡◌, List, [], ◌∷◌, ◌++◌, reverse, Option, Some, None, IsSome, refl, sym, ap, ◌∙◌, subst}
+use Rattle.std.proofs.Common.{◌≡◌, List, [], ◌∷◌, ◌++◌, reverse, Option, Some, None, IsSome, refl, ◌∙◌}
 use Rattle.std.specs.Prelude.{unwrap_or}
-use Rattle.std.proofs.lemmas.List.{reverse-append, append-nil}
-use Rattle.std.specs.Option.{option_and_then}
+use Rattle.std.proofs.lemmas.List.{reverse-append}
 use Rattle.rx_term.specs.Tree.{Tree, Trees, none, more, Items, annotations, list_of}
-use Rattle.rx_term.specs.Store.{Store, tree_at, part_at, anns_of, list_unless_empty}
+use Rattle.rx_term.specs.Store.{Store, tree_at, list_unless_empty}
 use Rattle.rx_term.specs.Steps.{Grows}
 use Rattle.rx_term.specs.Kinds.{HasAnns}
 use Rattle.rx_term.specs.declared.Term.{Term}
 use Rattle.rx_pattern.specs.Code.{Piece, One, Several}
 use Rattle.rx_pattern.specs.Held.{HaveTrees}
-use Rattle.rx_pattern.specs.Subjects.{AreEach, OnStack, IsListed, Stands, Pushes, Adds}
+use Rattle.rx_pattern.specs.Subjects.{AreEach, OnStack, IsListed, Stands, Adds}
 
 -- what is held has a tree
 pub held_tree : (o : Option Tree) (d : Tree) → IsSome o → o ≡ Some (unwrap_or o d)
@@ -35,10 +34,6 @@ first_on R x xs v vs h = h
 
 pub pop : {A B : Type 0} (R : A → B → Type 0) (before after : List A) (x : A) (v : B) (vs : List B) → before ≡ after ++ x ∷ [] → OnStack R before (v ∷ vs) → R x v × OnStack R after vs
 pop R before after x v vs e h = first_on R x (reverse after) v vs (rw (e, push-reverse after x) at h)
-
-pub still_listed : (old new : Store) → Grows old new → (l : Option Term) (ts : Trees) → IsListed old l ts → IsListed new l ts
-still_listed old new g None ts h = h
-still_listed old new g (Some r) ts h = (h.0, g.trees r (Items ts h.0) h.1)
 
 pub still_stands : (old new : Store) → Grows old new → (x : Option Term) (v : Piece) → Stands old x v → Stands new x v
 still_stands old new g None (One u) h = absurd h
@@ -70,9 +65,6 @@ HaveTrees-push w (x ∷ xs) r [] t h e = absurd h
 -- one binding more
 pub adds_one : (old new : Store) → Grows old new → (before after : List Term) (r : Term) (t : Tree) → after ≡ before ++ r ∷ [] → tree_at new r ≡ Some t → Adds old new (t ∷ []) before after
 adds_one old new g before after r t e there = λ cs h. rw e (HaveTrees-push new before r cs t (still_have old new g before cs h) there)
-
-pub adds_none : (w : Store) (out : List Term) → Adds w w [] out out
-adds_none w out = λ cs h. rw (append-nil cs) h
 
 -- the annotations of a tree, as a list
 no_notes : (ts : Trees) → list_unless_empty ts ≡ None → ts ≡ none

@@ -1,5 +1,5 @@
 -- The nodes of a whole pattern.
-use Rattle.std.proofs.Common.{ℕ, ◌==◌, eq-eqb, ◌≡◌, ◌≢◌, ◌<◌, ◌^◌, ◌&&◌, Bool, true, false, List, [], ◌∷◌, ◌++◌, Option, Some, None, IsSome, cond, length, map, refl, sym, ap, ◌∙◌, subst}
+use Rattle.std.proofs.Common.{ℕ, ◌==◌, eq-eqb, ◌≡◌, ◌≢◌, ◌<◌, ◌^◌, ◌&&◌, Bool, true, false, List, [], ◌∷◌, Option, Some, None, IsSome, cond, length, map, refl, sym, ap, ◌∙◌, subst}
 use Rattle.std.specs.Prelude.{IsTrue, Result, Ok, Err, IfOk, IfErr, IsErrOf}
 use Rattle.std.proofs.lemmas.Bool.Decides.{Decides-eqb}
 use Rattle.rx_term.specs.Tree.{Tree, is_tree}
@@ -20,7 +20,7 @@ use Rattle.rx_pattern.specs.Faults.{IsMakeRefusal}
 use Rattle.rx_pattern.specs.declared.faults.MakeFault.{MakeFault}
 use Rattle.rx_pattern.specs.declared.faults.MakeFault.TheVariants as make
 use Rattle.rx_pattern.proofs.Fills.{slots-nodes}
-use Rattle.rx_pattern.specs.Code.{Step, code, only_tree, pieces, tree_of_steps}
+use Rattle.rx_pattern.specs.Code.{code, only_tree, tree_of_steps}
 use Rattle.rx_pattern.specs.Nodes.{step_of, tree_of_nodes, AreNodes}
 use Rattle.rx_pattern.specs.declared.nodes.Node.{Node}
 use Rattle.rx_pattern.proofs.Spelling.{pieces-code}
@@ -32,12 +32,6 @@ fit_tests false b x y e f g = absurd (g e)
 
 pub fit_is_pattern : (u : Tree) → unfit u ≡ None → IsTrue (is_pattern u)
 fit_is_pattern u e = fit_tests (knows_placeholders u) (has_plain_placeholders u) _ _ e (λ h. cc) (λ h. cc)
-
-pub pattern_is_fit : (u : Tree) → IsTrue (is_pattern u) → unfit u ≡ None
-pattern_is_fit u e = let h = both_parts (knows_placeholders u) (has_plain_placeholders u) e in let a = h.0 in let b = h.1 in rw (a, b) refl
-
-pub flat_pattern : (w : Store) (t : Term) → IsSome (tree_at w t) → ((u : Tree) → tree_at w t ≡ Some u → unfit u ≡ None) → (u : Tree) × (tree_at w t ≡ Some u) × IsTrue (is_pattern u)
-flat_pattern w t held fit = let v = some-value (tree_at w t) held in (v.0, v.1, fit_is_pattern v.0 (fit v.0 v.1))
 
 tree_is : (nodes : List Node) (u : Tree) → map step_of nodes ≡ code u [] → IsTrue (is_pattern u) → tree_of_nodes nodes ≡ u
 tree_is nodes u e p =

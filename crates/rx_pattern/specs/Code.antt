@@ -2,7 +2,7 @@
 --     code p rest           the steps of p, and then rest
 --     pieces steps          the trees and lists of trees that steps spell
 --     tree_of_steps steps   the one tree that they spell
-use Rattle.std.specs.Prelude.{ℕ, Bool, true, false, ℤ, List, [], ◌∷◌, codes, Option, Some, None, if◌then◌else◌}
+use Rattle.std.specs.Prelude.{ℕ, Bool, false, ℤ, List, [], ◌∷◌, codes, Option, Some, if◌then◌else◌}
 use Rattle.rx_term.specs.Tree.{Tree, Trees, none, more, Int, Appl, Items, Hole}
 use Rattle.rx_pattern.specs.Pattern.{Kind, AnyTerm, AnyInt, AnyStr, AnyAppl, AnyPlaceholder, AnyList, kind_of, is_rest}
 

@@ -1,6 +1,6 @@
 -- What is still to be made nodes of.
 use Rattle.std.specs.Prelude.{◌≡◌, true, Some, List, [], ◌∷◌, ◌++◌, if◌then◌else◌}
-use Rattle.rx_term.specs.Tree.{Tree, Trees, none, more, Int, Appl, Items, Hole}
+use Rattle.rx_term.specs.Tree.{none, more, Int, Appl, Items, Hole}
 use Rattle.rx_term.specs.Store.{Store, tree_at}
 use Rattle.rx_pattern.specs.Pattern.{kind_of, is_rest, knows_placeholders, has_plain_placeholders, all_known, all_plain}
 use Rattle.rx_pattern.specs.Code.{Step, Number, Named, Listing, Holding, End, Item, Rest, Piece, One, Several}

@@ -2,7 +2,7 @@
 --     AreEach R xs ys       R holds of the first of each, the second of each, and so on
 --     OnStack R xs ys       the same, where the last of xs goes with the first of ys
 --     meets s v             what a step of a pattern binds of a subject, and what is left of it, where it matches the front of it
-use Rattle.std.specs.Prelude.{◌≡◌, ◌&&◌, Bool, true, false, List, [], ◌∷◌, ◌++◌, reverse, bytes_eq, Option, Some, None, if◌then◌else◌}
+use Rattle.std.specs.Prelude.{◌≡◌, ◌&&◌, Bool, true, false, List, [], ◌∷◌, ◌++◌, reverse, bytes_eq, Option, Some, None}
 use Rattle.std.specs.Bool.{beq}
 use Rattle.std.specs.Ordering.{int_eq}
 use Rattle.rx_term.specs.Tree.{Tree, Trees, Int, Appl, Items, none, more, list_of}

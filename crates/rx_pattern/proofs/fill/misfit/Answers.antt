@@ -1,8 +1,8 @@
-use Rattle.std.proofs.Common.{◌+◌, ◌∙◌, sym, ap, arith, map, drop, get_or}
+use Rattle.std.proofs.Common.{◌+◌, ◌∙◌, sym, ap, map, drop}
 use Rattle.rx_term.specs.declared.Term.{Term}
 use Rattle.rx_pattern.specs.Nodes.{step_of}
 use Rattle.rx_pattern.specs.Making.{slots_of_steps}
-use Rattle.rx_pattern.proofs.Fitting.{Checking, HaveTrees-length, tree_held, at_place, turn_taken, turn_refused, turn_other, started, all_fit, as_many, drop-past}
+use Rattle.rx_pattern.proofs.Fitting.{HaveTrees-length, tree_held, at_place, turn_taken, turn_refused, turn_other, started, all_fit, as_many, drop-past}
 use Rattle.rx_pattern.proofs.Matches.{next_step}
 use Rattle.rx_pattern.proofs.fill.misfit.Goals as goal
 use Rattle.rx_pattern.proofs.fill.misfit.Goals.{then-is_slot+else-not-takes, else-is_slot}
