@@ -1,5 +1,5 @@
 -- What is due for a text, by the machine that reads it and by the rules.
-use Rattle.std.proofs.Common.{◌≡◌, ℕ, ◌≤◌, Bool, true, List, Option, Some, None, length, refl, sym, ap, subst, ◌∙◌, arith}
+use Rattle.std.proofs.Common.{◌≡◌, ℕ, Bool, true, List, Option, Some, None, length, refl, subst}
 use Rattle.std.specs.Prelude.{nat_le, option_map}
 use Rattle.std.proofs.lemmas.Bool.{leb-true}
 use Rattle.rec_syntax.specs.Syntax.{Spec}
