@@ -1,11 +1,11 @@
 -- Evaluation under a substitution depends on the values of names alone.
-use Rattle.std.proofs.Common.{refl, sym, ap, ◌∙◌}
-use Rattle.std.specs.Prelude.{ℕ, suc, ◌≡◌, Bool, true, false, List, [], ◌∷◌, Option, Some, None}
+use Rattle.std.proofs.Common.{refl, ap, ◌∙◌}
+use Rattle.std.specs.Prelude.{ℕ, ◌≡◌, true, false, List, [], ◌∷◌, Option, Some, None}
 use Rattle.std.specs.Bool.{beq}
-use Rattle.rx_term.specs.Tree.{Tree, Trees, none, more, tree_eq}
+use Rattle.rx_term.specs.Tree.{Tree, Trees, more, tree_eq}
 use Rattle.rec_syntax.specs.Syntax.{Term, Terms, Apply, Condition, Spec}
 use Rattle.rec_sorts.specs.Binding.{Substitution, value_of, application}
-use Rattle.rec_sorts.specs.Evaluation.{Outcome, Done, Over, ◌then◌, Caller, evaluate, evaluate_all, holds, call, evaluate_within, Eval, Holds}
+use Rattle.rec_sorts.specs.Evaluation.{Outcome, Done, ◌then◌, Caller, evaluate, evaluate_all, holds, call, evaluate_within, Eval, Holds}
 use Rattle.rec_sorts.proofs.Equations.{then_agrees, if_agrees}
 
 -- two substitutions give each name the same

@@ -1,19 +1,18 @@
 -- Evaluation by letters over a stack of values, by rules in their order and by conditions in their order.
-use Rattle.std.proofs.Common.{refl, sym, ap, subst, arith, add-one, zero-add, drop-cons, length-drop, take-append-drop, inl, inr, ◌∙◌, append_assoc}
+use Rattle.std.proofs.Common.{refl, sym, ap, subst, arith, add-one, zero-add, drop-cons, length-drop, take-append-drop, inl, inr, ◌∙◌}
 use Rattle.std.proofs.Math.Seq.{drop-nil}
 use Rattle.std.proofs.lemmas.Bool.{cases_lt}
-use Rattle.std.proofs.Math.ListN.{drop_of_length-le}
-use Rattle.std.proofs.lemmas.List.{append-nil, reverse-append, length-reverse, length-map, map-append, get_or-map}
-use Rattle.std.proofs.lemmas.List.Elements.{All-nil, All-cons, All-head, All-tail, All-push, All-pop, All-take, All-drop}
-use Rattle.std.specs.Prelude.{ℕ, zero, suc, ◌≡◌, ◌<◌, ◌≤◌, ◌+◌, ◌-◌, Bool, true, false, List, [], ◌∷◌, ◌++◌, Option, Some, None, All, map, reverse, length, get_or, drop, take, bytes_eq, is_some, ◌⊎◌}
+use Rattle.std.proofs.lemmas.List.{reverse-append, map-append}
+use Rattle.std.proofs.lemmas.List.Elements.{All-nil, All-head, All-tail, All-push, All-take, All-drop}
+use Rattle.std.specs.Prelude.{ℕ, zero, suc, ◌≡◌, ◌<◌, ◌≤◌, ◌+◌, ◌-◌, Bool, true, false, List, [], ◌∷◌, ◌++◌, Option, Some, None, All, map, reverse, length, get_or, drop, take, bytes_eq, ◌⊎◌}
 use Rattle.std.specs.Option.{option_map}
-use Rattle.rx_term.specs.Tree.{Tree, Trees, none, more, tree_eq, from_list}
-use Rattle.rec_syntax.specs.Syntax.{Term, Condition, Rule, Spec}
-use Rattle.rec_sorts.specs.Lookup.{symbols, names, variable_words, is_variable}
-use Rattle.rec_sorts.specs.Binding.{Substitution, value_of, application, binds}
-use Rattle.rec_sorts.specs.Evaluation.{Outcome, Done, Over, ◌then◌, Eval, Call, Try, Holds}
+use Rattle.rx_term.specs.Tree.{Tree, Trees, none}
+use Rattle.rec_syntax.specs.Syntax.{Term, Condition, Spec}
+use Rattle.rec_sorts.specs.Lookup.{symbols, variable_words, is_variable}
+use Rattle.rec_sorts.specs.Binding.{value_of, application}
+use Rattle.rec_sorts.specs.Evaluation.{Done, Over, ◌then◌, Eval, Call, Holds}
 use Rattle.rec_sorts.specs.Laws.{Every}
-use Rattle.rec_sorts.specs.Numbering.{Named, named, name_of, named_by, IsMeaning, AreLetters, Pairwise, IsLetterCondition, IsLetterRule}
+use Rattle.rec_sorts.specs.Numbering.{Named, named, name_of, named_by, IsMeaning, AreLetters, Pairwise, IsLetterCondition}
 use Rattle.rec_sorts.specs.declared.letters.Letter.{Letter}
 use Rattle.rec_sorts.specs.declared.letters.LetterCondition.{LetterCondition}
 use Rattle.rec_sorts.specs.declared.letters.Meaning.TheVariants.{Symbol, Variable}
@@ -22,11 +21,10 @@ use Rattle.rec_run.specs.declared.matching.Binding.{Binding}
 use Rattle.rec_run.specs.declared.value.Value.{Value}
 use Rattle.rec_run.specs.Values.{symbol_of, arguments_of, tree_of_value, trees_of_values, IsDeclared, KeepsRules}
 use Rattle.rec_run.specs.Asking.{stack_on}
-use Rattle.rec_run.specs.Matched.{bound_value, substitution, IsDeclaredBinding, AreDeclared, HasBareVariables, has_value, HaveValues, Binds, Agree}
-use Rattle.rec_run.specs.Evaluated.{ComparesBare, CanEvaluate, CanCompare}
-use Rattle.rec_run.proofs.Facts.{Facts, facts, RuleFacts, IsRead, IsClosed, OccursIn, variable_is_one, occurring_bound}
-use Rattle.rec_run.proofs.Congruence.{SameValues, eval_same, holds_same}
-use Rattle.rec_run.proofs.Walks.{BindsOnly, AreBare, binds_variables}
+use Rattle.rec_run.specs.Matched.{bound_value, substitution, IsDeclaredBinding, AreDeclared, HasBareVariables}
+use Rattle.rec_run.specs.Evaluated.{ComparesBare, CanEvaluate}
+use Rattle.rec_run.proofs.Facts.{facts, variable_is_one}
+use Rattle.rec_run.proofs.Walks.{BindsOnly, AreBare}
 use Rattle.rec_run.proofs.MatchLemmas.{value_of_bound, stacked, bound_declared}
 use Rattle.rec_run.proofs.ValueLemmas.{same_tree_of, same_declared, made_tree, made_declared}
 use Rattle.rec_run.proofs.Moves.{Move, Give, Invoke, move, run, top_of, runs_named, NoArguments, taken, size, plus, join, join-none, taken-on, dropped-on}

@@ -2,7 +2,7 @@
 use Rattle.std.proofs.Common.{refl, sym, ap, subst, arith, ◌∙◌}
 use Rattle.std.proofs.lemmas.List.{length-map}
 use Rattle.std.proofs.lemmas.Bool.{eqb-true}
-use Rattle.std.specs.Prelude.{ℕ, zero, suc, ◌≡◌, ◌<◌, ◌+◌, Bool, true, false, ◌&&◌, ◌||◌, not, cond, List, [], ◌∷◌, ◌++◌, Option, Some, None, map, filter, flat_map, length, get_or, nat_eq, MatchBool, bytes_eq}
+use Rattle.std.specs.Prelude.{ℕ, zero, suc, ◌≡◌, ◌<◌, Bool, true, false, ◌||◌, not, cond, List, [], ◌∷◌, ◌++◌, Option, Some, None, filter, flat_map, length, nat_eq, MatchBool, bytes_eq}
 use Rattle.rx_term.specs.Tree.{Tree}
 use Rattle.rec_syntax.specs.Tokens.{Word}
 use Rattle.rec_syntax.specs.Syntax.{Term, Terms, Apply, Declaration, Condition, Rule, Spec, head, subterms, subterms_all}
@@ -11,7 +11,7 @@ use Rattle.rec_sorts.specs.SpecRules.{heads, everywhere, all_terms, missing, var
 use Rattle.rec_sorts.specs.Binding.{Substitution, value_of}
 use Rattle.rec_sorts.specs.Laws.{Every, BindsVariables, BindsVariablesAll}
 use Rattle.rec_sorts.specs.Numbering.{Named, named, named_all, bytes_at}
-use Rattle.rec_sorts.proofs.Kept.{all_kept, bytes_eq-eq, repeated_none, not_before, missing_none}
+use Rattle.rec_sorts.proofs.Kept.{all_kept, bytes_eq-eq, repeated_none, not_before}
 use Rattle.rec_sorts.proofs.Bindings.{bytes_eq-refl}
 use Rattle.rec_run.proofs.Walks.{AreBare}
 

@@ -1,5 +1,5 @@
 -- From what was read of the text of terms to what is due for it.
-use Rattle.std.proofs.Common.{◌≡◌, ℕ, ◌+◌, ◌<◌, ◌≤◌, Bool, List, [], Option, Some, None, Result, Ok, Err, IfErr, IfOk, IfSome, IsSome, OnOk, Vec, Global, length, take, refl, sym, ap, subst, ◌∙◌, arith}
+use Rattle.std.proofs.Common.{◌≡◌, ℕ, ◌+◌, Bool, List, [], Option, Some, None, Result, Ok, Err, IfErr, IfOk, IfSome, IsSome, OnOk, Vec, Global, take, refl, sym, ap, subst, ◌∙◌, arith}
 use Rattle.std.specs.Prelude.{option_map}
 use Rattle.std.proofs.lemmas.List.{length-take}
 use Rattle.rx_term.specs.Tree.{Tree}
@@ -9,7 +9,6 @@ use Rattle.rx_text.specs.Grammar.{Spells}
 use Rattle.rx_text.specs.Verdict.{IsVerdict, Spelt}
 use Rattle.rx_text.specs.Verdict as text
 use Rattle.rec_syntax.specs.Syntax.{Spec}
-use Rattle.rec_sorts.specs.SpecRules as verdict
 use Rattle.rec_sorts.specs.SpecRules.{Fits, SpecVerdict, Verdict}
 use Rattle.rec_sorts.specs.TermRules.{broken_by_terms, elements}
 use Rattle.rec_sorts.specs.Evaluation.{term_of}
@@ -19,9 +18,9 @@ use Rattle.rec_sorts.specs.declared.fault.TermsFault.{TermsFault}
 use Rattle.rec_sorts.specs.declared.fault.TermsFault.TheVariants as rule
 use Rattle.rec_sorts.specs.declared.letters.Letter.{Letter}
 use Rattle.rec_run.specs.GivenTerms.{AreGiven, HoldsGiven, IsReadAs, IsReadFor, IsReadFrom, IsRefusal, given_at, list_refused, run_due, terms_refused}
-use Rattle.rec_run.specs.Output.{GoodTerms, BreaksTerms, TooLong, Outside, TermsVerdict, IsTermsVerdict, IsDueAfter, done, lines}
-use Rattle.rec_run.specs.Reading.{verdict_of, verdict_of_refusal}
-use Rattle.rec_run.specs.Run.{Reports, Texts, told}
+use Rattle.rec_run.specs.Output.{GoodTerms, BreaksTerms, TooLong, Outside, TermsVerdict, IsTermsVerdict, done, lines}
+use Rattle.rec_run.specs.Reading.{verdict_of}
+use Rattle.rec_run.specs.Run.{Reports, told}
 use Rattle.rec_run.specs.TermRuns.{IsReadingOf}
 use Rattle.rec_run.specs.declared.ending.RunFault.{RunFault}
 use Rattle.rec_run.specs.declared.given_term.TermRefusal.{TermRefusal}
@@ -29,15 +28,12 @@ use Rattle.rec_run.specs.declared.given_term.TermRefusal.TheVariants as refusal
 use Rattle.rec_run.specs.declared.given_term.TermReading.TheVariants as term
 use Rattle.rec_run.specs.declared.text.TheConstants.{LIMIT}
 use Rattle.rec_run.specs.declared.texts.RunReading.{RunReading}
-use Rattle.rec_run.specs.declared.texts.RunReading.TheVariants.{Alone, Refused}
+use Rattle.rec_run.specs.declared.texts.RunReading.TheVariants.{Refused}
 use Rattle.rec_run.specs.declared.texts.TermsRefusal.TheVariants as terms
 use Rattle.rec_run.specs.declared.verdict.Reading.{Reading}
-use Rattle.rec_run.specs.declared.verdict.Reading.TheVariants as reading
-use Rattle.rec_run.specs.declared.verdict.Refusal.{Refusal}
-use Rattle.rec_run.specs.declared.verdict.Refusal.TheVariants as spec
 use Rattle.rec_run.proofs.GivenLemmas.{are_given, given_elements, kept_elements}
 use Rattle.rec_run.proofs.OneDue.{one_verdict}
-use Rattle.rec_run.proofs.WholeRuns.{after_spec, short_front}
+use Rattle.rec_run.proofs.WholeRuns.{short_front}
 
 -- one byte past the limit is enough for the verdict
 terms_front : (y : Spec) (bytes : List ℕ) (v : TermsVerdict) → IsTermsVerdict y (take (LIMIT + 1) bytes) v → IsTermsVerdict y bytes v
@@ -60,13 +56,6 @@ read_due (Ok r) told text given y h same k = read_front told text y r h (subst (
 pub no_term : (w : Store) (y : Spec) (bytes : List ℕ) (r : TermRefusal) (v : text.Verdict) → IsReadingOf w (term.Refused r) v → IsVerdict bytes v → IsReadFor y bytes (Refused (terms_refused r))
 no_term w y bytes refusal.Long v e h = λ counted n. (TooLong, subst (IsVerdict bytes) e h, refl)
 no_term w y bytes (refusal.Outside at) v e h = λ counted n. (Outside at, subst (IsVerdict bytes) e h, refl)
-
--- a text that spells a term is judged as that term is
-pub spelt_term : (w : Store) (y : Spec) (bytes : List ℕ) (list : Reference) (v : text.Verdict) (r : RunReading) → IsReadingOf w (term.Spells list) v → IsVerdict bytes v
-    → IfSome (tree_at w list) (λ t. (bytes : List ℕ) → Fits bytes → Spells bytes t → IsReadFor y bytes r) → IsReadFor y bytes r
-spelt_term w y bytes list v r (u, here, e) h judged =
-    let k = subst (IsVerdict bytes) e h in
-    subst (λ o. IfSome o (λ t. (bytes : List ℕ) → Fits bytes → Spells bytes t → IsReadFor y bytes r)) here judged bytes k.0 k.1
 
 -- a list that is not accepted: the rule that it breaks is due
 broken_list : (o : Option Tree) (y : Spec) (number : ℕ) → IfSome o (λ t. broken_by_terms y t ≡ Some number) → IfSome o (λ t. (bytes : List ℕ) → Fits bytes → Spells bytes t → IsReadFor y bytes (Refused (terms.Rule number)))
@@ -115,24 +104,13 @@ given_list w y list letters there h lettered = by (tree_at w list) refl there h
     by None here there kept = absurd (cc there)
     by (Some t) here there kept = are_given y w list letters t here kept lettered
 
--- after a refused specification its refusal is due
-pub refused_first : (r : Refusal) (bytes : List ℕ) → IsReadAs (verdict_of_refusal r) bytes (Alone (reading.Refused r))
-refused_first spec.Long bytes counted n = refl
-refused_first (spec.Grammar at) bytes counted n = refl
-refused_first (spec.Rule number at) bytes counted n = refl
-
--- what both texts came to, where no terms are given
-pub read_alone : (bytes : Option (List ℕ)) (first : Reading) → IfSome bytes (λ b. SpecVerdict b (verdict_of first)) → IfSome (told bytes (Some None)) (λ texts. IsReadFrom texts (Alone first))
-read_alone None first h = tt
-read_alone (Some b) first h = λ counted n. (verdict_of first, h, after_spec counted n (verdict_of first))
-
 read_both : (bytes given : Option (List ℕ)) (first : Reading) (r : RunReading) → IfSome bytes (λ b. SpecVerdict b (verdict_of first)) → IfSome given (λ b. IsReadAs (verdict_of first) b r)
     → IfSome (told bytes (option_map (λ b. Some b) given)) (λ texts. IsReadFrom texts r)
 read_both None given first r h k = tt
 read_both (Some b) None first r h k = tt
 read_both (Some b) (Some t) first r h k = λ counted n. (verdict_of first, h, k counted n)
 
--- and where they are
+-- what both texts came to, where terms are given
 pub read_with : (result : Result RunReading RunFault) (bytes given : Option (List ℕ)) (first : Reading) → IfSome bytes (λ b. SpecVerdict b (verdict_of first)) → IfOk result (λ r. IfSome given (λ b. IsReadAs (verdict_of first) b r))
     → IfOk result (λ r. IfSome (told bytes (option_map (λ b. Some b) given)) (λ texts. IsReadFrom texts r))
 read_with (Err e) bytes given first h k = tt

@@ -1,5 +1,5 @@
 -- What holds of given terms that keep the rules, and of the list that a bank holds of them.
-use Rattle.std.proofs.Common.{◌≡◌, ℕ, zero, suc, ◌+◌, ◌<◌, ◌^◌, Bool, true, false, ◌||◌, ◌&&◌, not, List, [], ◌∷◌, ◌++◌, Option, Some, None, IsSome, Vec, Global, get_or, drop, length, refl, sym, ap, subst, ◌∙◌, arith}
+use Rattle.std.proofs.Common.{◌≡◌, ℕ, zero, suc, ◌+◌, ◌<◌, ◌^◌, Bool, true, false, ◌||◌, ◌&&◌, not, List, [], ◌∷◌, ◌++◌, Option, Some, None, Vec, Global, get_or, drop, length, refl, sym, ap, subst, ◌∙◌, arith}
 use Rattle.std.specs.Prelude.{All, flat_map, is_some, unwrap_or}
 use Rattle.std.specs.Option.{option_and_then}
 use Rattle.std.specs.Bool.{beq}
@@ -28,7 +28,7 @@ use Rattle.rec_run.specs.Matched.{HasBareVariables}
 use Rattle.rec_run.specs.Values.{KeepsRules}
 use Rattle.rec_run.proofs.Facts.{IsClosed, every_joined, every_map, symbol_no_variable}
 use Rattle.rec_run.proofs.LineEnds.{newlines-append}
-use Rattle.rec_run.proofs.RuleLemmas.{PairAt, pair_at, pair_length, every_at, can_evaluate_closed}
+use Rattle.rec_run.proofs.RuleLemmas.{pair_at, pair_length, every_at, can_evaluate_closed}
 use Rattle.rec_run.proofs.LineFronts.{NoEnds}
 use Rattle.rec_run.proofs.SpecLines.{given_text-newlines}
 use Rattle.rec_run.proofs.TermsDue as due

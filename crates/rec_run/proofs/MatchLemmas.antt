@@ -2,33 +2,30 @@
 use Rattle.std.proofs.Common.{refl, sym, ap, subst, arith, add-one, drop-cons, ◌∙◌, append_assoc}
 use Rattle.std.proofs.Math.ListN.{drop_of_length-le}
 use Rattle.std.proofs.lemmas.Bool.{eqb-true, eq-eqb, ne_eqb}
-use Rattle.std.proofs.lemmas.List.{append-nil, reverse-append, length-reverse, length-drop, get_or-reverse, length-map, map-append, get_or-map}
+use Rattle.std.proofs.lemmas.List.{reverse-append, length-reverse, length-drop, get_or-reverse, length-map, map-append, get_or-map}
 use Rattle.std.proofs.lemmas.List.Elements.{All-nil, All-cons, All-head, All-tail, All-append, All-push, All-pop}
-use Rattle.std.proofs.lemmas.Slice.Eq.{bytes_eq-Decides}
-use Rattle.std.specs.Prelude.{ℕ, zero, suc, ◌≡◌, ◌<◌, ◌≤◌, ◌+◌, ◌-◌, Bool, true, false, ◌&&◌, nat_eq, List, [], ◌∷◌, ◌++◌, Option, Some, None, All, map, reverse, length, get_or, drop, take, bytes_eq}
+use Rattle.std.specs.Prelude.{ℕ, suc, ◌≡◌, ◌<◌, ◌≤◌, ◌+◌, ◌-◌, Bool, true, false, ◌&&◌, nat_eq, List, [], ◌∷◌, ◌++◌, Option, Some, None, All, map, reverse, length, get_or, drop, bytes_eq}
 use Rattle.std.specs.Prelude.{Result, Ok, Err, IfOk}
 use Rattle.std.specs.Borrow.{Bor}
 use Rattle.std.specs.Option.{option_map, MatchOption}
-use Rattle.rx_term.specs.Tree.{Tree, Trees, none, more, tree_eq, trees_eq, from_list, count_of}
+use Rattle.rx_term.specs.Tree.{Tree, Trees, tree_eq, trees_eq, from_list, count_of}
 use Rattle.rx_term.proofs.TreeLemmas.{trees_eq_same}
-use Rattle.rec_syntax.specs.Syntax.{Term, Spec}
-use Rattle.rec_sorts.specs.Lookup.{symbols, names, variable_words, is_variable}
-use Rattle.rec_sorts.specs.TermRules.{arguments}
+use Rattle.rec_syntax.specs.Syntax.{Spec}
+use Rattle.rec_sorts.specs.Lookup.{symbols, variable_words}
 use Rattle.rec_sorts.specs.Binding.{Substitution, value_of, application, binds}
-use Rattle.rec_sorts.specs.Numbering.{Named, named, name_of, named_by, bytes_at, IsMeaning, AreLetters}
+use Rattle.rec_sorts.specs.Numbering.{Named, named, name_of, named_by, IsMeaning}
 use Rattle.rec_sorts.specs.declared.letters.Letter.{Letter}
-use Rattle.rec_sorts.specs.declared.letters.Meaning.{Meaning}
 use Rattle.rec_sorts.specs.declared.letters.Meaning.TheVariants.{Symbol, Variable}
 use Rattle.rec_sorts.proofs.Bindings.{bytes_eq-refl}
 use Rattle.rec_sorts.proofs.Kept.{bytes_eq-eq}
 use Rattle.rec_run.specs.declared.matching.Binding.{Binding}
 use Rattle.rec_run.specs.declared.value.Value.{Value}
 use Rattle.rec_run.specs.Values.{symbol_of, arguments_of, tree_of_value, trees_of_values, IsDeclared, KeepsRules}
-use Rattle.rec_run.specs.Matched.{bound_value, substitution, IsDeclaredBinding, AreDeclared, HasBareVariables, Agree, Binds}
+use Rattle.rec_run.specs.Matched.{bound_value, substitution, IsDeclaredBinding, AreDeclared, Agree, Binds}
 use Rattle.rec_run.specs.Asking.{with_one, opened, bound, goes_on, stack_on, asked, values_on, trees_on, given_if, left_if, AllDeclared, Gives, Asks}
-use Rattle.rec_run.proofs.Facts.{Facts, facts, variable_is_one}
+use Rattle.rec_run.proofs.Facts.{facts, variable_is_one}
 use Rattle.rec_run.proofs.Walks.{AgreeOn, asked_binds}
-use Rattle.rec_run.proofs.ValueLemmas.{tree_out, made_tree, declared_symbol, declared_arguments, same_heads, other_heads}
+use Rattle.rec_run.proofs.ValueLemmas.{tree_out, declared_symbol, declared_arguments, same_heads, other_heads}
 
 -- the value that bindings give a variable
 pub value_of_bound : (y : Spec) → KeepsRules y → (bs : List Binding) → AreDeclared y bs → (k : ℕ) → k < length (variable_words y.variables)

@@ -1,5 +1,5 @@
 -- What the parts of a list, and the annotations of a term, are in a bank.
-use Rattle.std.proofs.Common.{◌≡◌, ℕ, suc, ◌+◌, ◌<◌, List, [], ◌∷◌, ◌++◌, Option, Some, None, IsSome, IfSome, refl, sym, ap, ap₂, ◌∙◌, arith, append_assoc}
+use Rattle.std.proofs.Common.{◌≡◌, ℕ, ◌+◌, ◌<◌, List, [], ◌++◌, Option, Some, None, IsSome, refl, sym, ap, ap₂, ◌∙◌, arith}
 use Rattle.std.specs.Prelude.{codes, is_some, unwrap_or}
 use Rattle.std.specs.Option.{option_and_then}
 use Rattle.rx_term.specs.Tree.{Tree, Trees, Int, Appl, Items, Hole, none, more, annotations, count_of, list_of}
@@ -10,11 +10,6 @@ use Rattle.rx_term.specs.Store.{Store, tree_at, part_at, head_of, tail_of, anns_
 use Rattle.rx_term.specs.declared.Term.{Term as Reference}
 use Rattle.rx_text.specs.Canon.{canon, canon_all, canon_others}
 use Rattle.rec_run.specs.GivenTerms.{item_at, items_of, notes_text}
-
--- what holds of a tree that is there holds of the tree of its reference
-pub held_item : (o : Option Tree) (P : Tree → Type 0) → IsSome o → IfSome o P → P (unwrap_or o (list_of none))
-held_item None P there h = absurd (cc there)
-held_item (Some u) P there h = h
 
 -- a list with a first item
 pub cons_there : (w : Store) (r : Reference) → IsSome (part_at head_of w r) → HasCons w r
@@ -27,12 +22,6 @@ cons_there w r h = by (tree_at w r) refl h
     by (Some (Int z anns)) e k = absurd (cc k)
     by (Some (Appl name quoted args anns)) e k = absurd (cc k)
     by (Some (Hole inner anns)) e k = absurd (cc k)
-
-pub head_there : (w : Store) (r : Reference) → HasCons w r → IsSome (part_at head_of w r)
-head_there w r c = ap (λ o. is_some (option_and_then head_of o)) c.here
-
-pub tail_there : (w : Store) (r : Reference) → HasCons w r → IsSome (part_at tail_of w r)
-tail_there w r c = ap (λ o. is_some (option_and_then tail_of o)) c.here
 
 -- the first item and the rest of a list
 pub record ListStep (w : Store) (r head tail : Reference) : Type 0 where
@@ -87,18 +76,6 @@ no_others w r kind.Nil h other = ap (λ o. canon_others (items_of (unwrap_or o (
 no_others w r kind.Cons h other = absurd (other refl)
 no_others w r (kind.Appl s) h other = ap (λ o. canon_others (items_of (unwrap_or o (list_of none)))) h.here
 no_others w r kind.Hole h other = ap (λ o. canon_others (items_of (unwrap_or o (list_of none)))) h.here
-
--- no annotations
-pub notes_absent : (w : Store) (t : Reference) → part_at anns_of w t ≡ None → notes_text (annotations (item_at w t)) ≡ []
-notes_absent w t h = by (tree_at w t) h
-  where
-    by_notes : (ns : Trees) → list_unless_empty ns ≡ None → notes_text ns ≡ []
-    by_notes none e = refl
-    by_notes (more n ns) e = absurd (cc e)
-
-    by : (o : Option Tree) → option_and_then anns_of o ≡ None → notes_text (annotations (unwrap_or o (list_of none))) ≡ []
-    by None e = refl
-    by (Some u) e = by_notes (annotations u) e
 
 -- the list of annotations
 pub record NotesAt (w : Store) (t a : Reference) : Type 0 where

@@ -1,17 +1,14 @@
 -- What is due for two texts is one thing at most.
-use Rattle.std.proofs.Common.{◌≡◌, ℕ, ◌<◌, ◌≤◌, Bool, List, Option, Some, None, length, refl, sym, ap, ◌∙◌, arith}
-use Rattle.rx_term.specs.Tree.{Tree}
-use Rattle.rx_text.specs.Grammar.{Spells}
+use Rattle.std.proofs.Common.{◌≡◌, ℕ, Bool, List, Option, Some, None, refl, sym, ap, ◌∙◌, arith}
 use Rattle.rx_text.proofs.Unique.{one_tree}
 use Rattle.rx_text.proofs.Places as trees
 use Rattle.rx_text.proofs.FaultLemmas as trees_or_places
 use Rattle.rec_syntax.specs.Syntax.{Spec}
-use Rattle.rec_syntax.specs.Grammar.{SpecText}
 use Rattle.rec_syntax.proofs.Places.{one_place, not_both}
 use Rattle.rec_syntax.proofs.Deciding.{one_reading}
 use Rattle.rec_sorts.specs.SpecRules.{Verdict, Long, Grammar, Breaks, Good, SpecVerdict, Fault, fault}
 use Rattle.rec_sorts.specs.TermRules.{broken_by_terms, elements}
-use Rattle.rec_run.specs.Output.{Due, IsDue, IsDueAfter, due_of_spec, due_of_terms, TermsVerdict, TooLong, Outside, BreaksTerms, GoodTerms, IsTermsVerdict}
+use Rattle.rec_run.specs.Output.{Due, IsDueAfter, due_of_terms, TermsVerdict, TooLong, Outside, BreaksTerms, GoodTerms, IsTermsVerdict}
 use Rattle.rec_run.specs.Laws.{OneDue}
 
 -- two answers to one question

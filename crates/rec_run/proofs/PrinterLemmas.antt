@@ -5,10 +5,10 @@ use Rattle.std.proofs.lemmas.List.{reverse-append}
 use Rattle.std.proofs.lemmas.List.Concat.{flat_map-append}
 use Rattle.std.proofs.lemmas.List.Sums.{sum_by-append}
 use Rattle.std.proofs.lemmas.List.Elements.{All-push, All-pop}
-use Rattle.std.specs.Prelude.{ℕ, zero, suc, ◌≡◌, ◌<◌, ◌≤◌, ◌+◌, ◌-◌, Bool, true, false, ◌&&◌, not, List, [], ◌∷◌, ◌++◌, Option, Some, None, All, map, reverse, length, get_or, drop, take, sum_by, flat_map}
+use Rattle.std.specs.Prelude.{ℕ, suc, ◌≡◌, ◌<◌, ◌≤◌, ◌+◌, not, List, [], ◌∷◌, ◌++◌, Option, Some, All, map, length, get_or, drop, take, flat_map}
 use Rattle.std.specs.Io.KnownBytes.{Appends}
-use Rattle.rx_term.specs.Name.{plain_name, is_empty}
-use Rattle.rx_term.specs.Tree.{Tree, Trees, none, more}
+use Rattle.rx_term.specs.Name.{plain_name}
+use Rattle.rx_term.specs.Tree.{Tree, Trees, more}
 use Rattle.rx_text.specs.Canon.{canon, canon_all, canon_others, enclosed, name_text, no_arguments, quoted_byte}
 use Rattle.rec_syntax.specs.Syntax.{Spec}
 use Rattle.rec_sorts.specs.Binding.{application}

@@ -1,18 +1,18 @@
 -- The rules in their order, and the conditions in theirs.
-use Rattle.std.proofs.Common.{refl, sym, ap, subst, arith, add-one, ◌∙◌}
-use Rattle.std.specs.Prelude.{ℕ, zero, suc, ◌≡◌, ◌<◌, ◌≤◌, ◌+◌, ◌-◌, Bool, true, false, not, List, [], ◌∷◌, ◌++◌, Option, Some, None, All, map, length, get_or, drop, is_some, slice_get}
+use Rattle.std.proofs.Common.{refl, sym, ap, subst, arith, ◌∙◌}
+use Rattle.std.specs.Prelude.{ℕ, zero, suc, ◌≡◌, ◌<◌, ◌≤◌, ◌+◌, ◌-◌, Bool, true, false, not, List, [], ◌∷◌, Option, Some, None, All, map, length, get_or, drop, is_some, slice_get}
 use Rattle.std.specs.Prelude.{Vec}
 use Rattle.std.specs.declared.alloc.Global.{Global}
 use Rattle.std.specs.Bool.{beq}
 use Rattle.std.specs.Option.{option_map}
 use Rattle.rx_term.specs.Tree.{Tree, tree_eq}
 use Rattle.rec_syntax.specs.Syntax.{Term, Condition, Rule, Spec, subterms}
-use Rattle.rec_sorts.specs.Lookup.{symbols, variable_words, is_variable, mentions}
+use Rattle.rec_sorts.specs.Lookup.{is_variable, mentions}
 use Rattle.rec_sorts.specs.SpecRules.{heads}
-use Rattle.rec_sorts.specs.Binding.{Substitution, value_of, binds}
+use Rattle.rec_sorts.specs.Binding.{Substitution, binds}
 use Rattle.rec_sorts.specs.Evaluation.{Outcome, Done, Over, Eval, Call, Try, Holds}
-use Rattle.rec_sorts.specs.Laws.{Every, BindsVariables}
-use Rattle.rec_sorts.specs.Numbering.{Named, named, name_of, named_by, IsMeaning, AreLetters, Pairwise, IsLetterCondition, IsLetterRule}
+use Rattle.rec_sorts.specs.Laws.{Every}
+use Rattle.rec_sorts.specs.Numbering.{Named, name_of, named_by, IsMeaning, AreLetters, Pairwise, IsLetterCondition, IsLetterRule}
 use Rattle.rec_sorts.specs.declared.letters.Letter.{Letter}
 use Rattle.rec_sorts.specs.declared.letters.Meaning.{Meaning}
 use Rattle.rec_sorts.specs.declared.letters.Meaning.TheVariants.{Symbol, Variable}
@@ -22,11 +22,11 @@ use Rattle.rec_sorts.proofs.Rules as R
 use Rattle.rec_run.specs.declared.matching.Binding.{Binding}
 use Rattle.rec_run.specs.declared.value.Value.{Value}
 use Rattle.rec_run.specs.Values.{tree_of_value, IsDeclared, KeepsRules}
-use Rattle.rec_run.specs.Matched.{bound_value, substitution, AreDeclared, HasBareVariables, has_value, HaveValues, Binds, Agree}
+use Rattle.rec_run.specs.Matched.{bound_value, substitution, AreDeclared, has_value, HaveValues, Binds, Agree}
 use Rattle.rec_run.specs.declared.evaluator.Reached.{Reached}
 use Rattle.rec_run.specs.declared.evaluator.Held.{Held}
 use Rattle.rec_run.specs.Evaluated.{ComparesBare, CanEvaluate, CanCompare, IsAnswerOf, IsValueOf, held_answer, reached_tree}
-use Rattle.rec_run.proofs.Facts.{Facts, facts, RuleFacts, IsRead, IsClosed, OccursIn, variable_is_one, occurring_bound}
+use Rattle.rec_run.proofs.Facts.{facts, RuleFacts, IsRead, IsClosed, variable_is_one, occurring_bound}
 use Rattle.rec_run.proofs.Congruence.{SameValues, eval_same, holds_same}
 use Rattle.rec_run.proofs.Walks.{binds_variables}
 use Rattle.rec_run.proofs.MatchLemmas.{value_of_bound}

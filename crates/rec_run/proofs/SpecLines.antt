@@ -1,5 +1,5 @@
 -- The lines of a specification's terms and of given ones.
-use Rattle.std.proofs.Common.{suc, Some, slice_get, get_or, length, ap₂, append_assoc, ◌≡◌, ℕ, ◌+◌, ◌-◌, ◌<◌, ◌≤◌, ◌^◌, Bool, true, false, List, [], ◌∷◌, ◌++◌, refl, sym, ap, ◌∙◌, append-nil, arith}
+use Rattle.std.proofs.Common.{suc, Some, slice_get, get_or, length, ap₂, append_assoc, ◌≡◌, ℕ, ◌-◌, ◌<◌, ◌^◌, Bool, true, false, List, [], ◌∷◌, ◌++◌, refl, sym, ap, ◌∙◌, append-nil, arith}
 use Rattle.std.specs.Prelude.{flat_map, map, codes, decimal}
 use Rattle.std.specs.Fmt.{signed_decimal}
 use Rattle.rx_term.specs.Tree.{Tree, Trees, Int, Appl, Items, Hole, annotated, annotations, none}
@@ -17,8 +17,8 @@ use Rattle.rec_run.specs.Evaluated.{answer, IsAnswer}
 use Rattle.rec_run.specs.Values.{tree_of_value}
 use Rattle.rec_run.specs.declared.evaluator.Outcome.{Outcome as Answer}
 use Rattle.rec_run.specs.declared.evaluator.Outcome.TheVariants as answers
-use Rattle.rec_run.proofs.ValueTrees.{IsApplied, value_is_applied, annotated-none, applied_unannotated}
-use Rattle.rec_run.proofs.LineEnds.{newlines-append, no_ends, canon-newlines, decimal-newlines}
+use Rattle.rec_run.proofs.ValueTrees.{value_is_applied, annotated-none, applied_unannotated}
+use Rattle.rec_run.proofs.LineEnds.{no_ends, canon-newlines, decimal-newlines}
 use Rattle.rec_run.proofs.LineFronts.{lines_of, newlines-lines_of, NoEnds}
 
 -- a line is its text and a line end

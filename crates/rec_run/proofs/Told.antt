@@ -105,7 +105,3 @@ if_err_at (Err e) P x h p = subst P (sym h) p
 pub on_ok_of : {X E : Type 0} {P Q : Type 0} (r : Result X E) → (P → Q) → OnOk r P → OnOk r Q
 on_ok_of (Ok x) f h = f h
 on_ok_of (Err e) f h = tt
-
-pub on_err_of : {X E : Type 0} {P Q : Type 0} (r : Result X E) → (P → Q) → OnErr r P → OnErr r Q
-on_err_of (Ok x) f h = tt
-on_err_of (Err e) f h = f h

@@ -1,28 +1,26 @@
 -- Values by their symbols and arguments.
-use Rattle.std.proofs.Common.{refl, sym, ap, subst, arith, add-one, drop-cons, ◌∙◌}
+use Rattle.std.proofs.Common.{refl, sym, ap, subst, add-one, drop-cons, ◌∙◌}
 use Rattle.std.proofs.Math.ListN.{drop_of_length-le}
 use Rattle.std.proofs.lemmas.Bool.{eqb-true, eq-eqb}
 use Rattle.std.specs.Cmp.{booleans_Decides}
 use Rattle.std.proofs.lemmas.List.Elements.{All-nil, All-cons, All-head, All-tail}
 use Rattle.std.proofs.lemmas.Slice.Eq.{bytes_eq-Decides}
 use Rattle.std.proofs.lemmas.Bool.{ltb-true, lt-ltb}
-use Rattle.std.specs.Prelude.{ℕ, zero, suc, ◌≡◌, ◌<◌, ◌≤◌, ◌+◌, Bool, true, false, ◌&&◌, not, nat_eq, nat_lt, List, [], ◌∷◌, ◌++◌, All, map, length, get_or, drop, bytes_eq}
+use Rattle.std.specs.Prelude.{ℕ, suc, ◌≡◌, ◌<◌, ◌≤◌, ◌+◌, Bool, true, false, ◌&&◌, not, nat_eq, nat_lt, List, [], ◌∷◌, All, map, length, get_or, drop, bytes_eq}
 use Rattle.std.specs.Bool.{beq}
 use Rattle.std.specs.List.{list_all}
 use Rattle.rx_term.specs.Name.{plain_name}
-use Rattle.rx_term.specs.Tree.{Tree, Trees, Appl, none, more, tree_eq, trees_eq, from_list}
-use Rattle.rx_term.proofs.TreeLemmas.{same_tree, tree_eq_same}
+use Rattle.rx_term.specs.Tree.{Tree, Trees, none, tree_eq, trees_eq}
+use Rattle.rx_term.proofs.TreeLemmas.{same_tree}
 use Rattle.rec_syntax.specs.Syntax.{Spec}
 use Rattle.rec_sorts.specs.Binding.{application}
-use Rattle.rec_sorts.specs.Lookup.{symbols, names}
-use Rattle.rec_sorts.specs.Numbering.{name_of, bytes_at}
+use Rattle.rec_sorts.specs.Lookup.{symbols}
+use Rattle.rec_sorts.specs.Numbering.{name_of}
 use Rattle.rec_sorts.specs.declared.letters.Meaning.TheVariants.{Symbol}
 use Rattle.rec_run.specs.declared.value.Value.{Value}
-use Rattle.rec_run.specs.declared.value.Value.TheOpen.{Value-F}
-use Rattle.rec_run.specs.declared.value.Value.TheViews.{out-Value}
-use Rattle.rec_run.specs.declared.value.Value.TheFolds.{fold-Value, fold_out-Value}
+use Rattle.rec_run.specs.declared.value.Value.TheFolds.{fold_out-Value}
 use Rattle.rec_run.specs.Values.{symbol_of, arguments_of, tree_step, tree_of_value, trees_of_values, declared_step, all_below, IsDeclared, KeepsRules}
-use Rattle.rec_run.proofs.Facts.{Facts, facts}
+use Rattle.rec_run.proofs.Facts.{facts}
 
 -- a value's tree is its symbol over the trees of its arguments
 pub tree_out : (y : Spec) (v : Value) → tree_of_value y v ≡ application (name_of y (Symbol (symbol_of v))) (trees_of_values y (arguments_of v))

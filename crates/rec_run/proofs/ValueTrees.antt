@@ -1,12 +1,11 @@
 -- Values are built of applications: each name is quoted just where it must be, and nothing has annotations.
-use Rattle.std.proofs.Common.{refl, sym, ap, subst, ◌∙◌}
-use Rattle.std.specs.Prelude.{ℕ, zero, suc, ◌≡◌, Bool, true, false, not, List, [], ◌∷◌, ◌++◌, Option, Some, None, bytes_eq}
+use Rattle.std.proofs.Common.{refl, sym, ap, subst}
+use Rattle.std.specs.Prelude.{ℕ, ◌≡◌, Bool, true, false, not, List, [], ◌∷◌, ◌++◌, Option, Some, None, bytes_eq}
 use Rattle.rx_term.specs.Tree.{Tree, Trees, Appl, Int, Items, Hole, none, more, tree_eq, annotated, annotations}
 use Rattle.rx_term.specs.Name.{plain_name}
-use Rattle.rec_syntax.specs.Tokens.{Word}
 use Rattle.rec_syntax.specs.Syntax.{Term, Terms, Apply, Spec, Rule}
 use Rattle.rec_sorts.specs.Lookup.{is_variable}
-use Rattle.rec_sorts.specs.Binding.{Bound, Substitution, value_of, application, bind_first, parts_at_variables, parts_at_variables_all, instance, binds}
+use Rattle.rec_sorts.specs.Binding.{Bound, Substitution, value_of, bind_first, parts_at_variables, parts_at_variables_all, instance, binds}
 use Rattle.rec_sorts.specs.TermRules.{arguments}
 use Rattle.rec_sorts.specs.Evaluation.{Outcome, Done, Over, Eval}
 use Rattle.rec_sorts.proofs.Derivation.{Evals, variable, applied, arguments_over, EvalsAll, no_more, one_more, first_over, later_over, Tries, no_rule, no_match, nothing_left, fires, fails, conditions_over, derived}

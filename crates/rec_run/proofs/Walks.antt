@@ -2,17 +2,15 @@
 use Rattle.std.proofs.Common.{refl, sym, ap, subst, arith, ◌∙◌}
 use Rattle.std.proofs.lemmas.List.{append-nil, reverse-append}
 use Rattle.std.proofs.lemmas.Bool.{eqb-true, eq-eqb}
-use Rattle.std.specs.Prelude.{ℕ, suc, ◌≡◌, Bool, true, false, ◌&&◌, not, List, [], ◌∷◌, ◌++◌, reverse, Option, Some, None, nat_eq, MatchBool, bytes_eq}
+use Rattle.std.specs.Prelude.{ℕ, ◌≡◌, Bool, true, false, ◌&&◌, List, [], ◌∷◌, ◌++◌, reverse, Option, Some, None, nat_eq, MatchBool}
 use Rattle.std.proofs.Common.{append_assoc}
-use Rattle.std.specs.Bool.{beq}
-use Rattle.rx_term.specs.Tree.{Tree, Trees, Appl, none, more, tree_eq, trees_eq, count_of}
-use Rattle.rx_term.specs.Name.{plain_name}
+use Rattle.rx_term.specs.Tree.{Tree, Trees, none, more, tree_eq, count_of}
 use Rattle.rx_term.proofs.TreeLemmas.{same_tree, tree_eq_same}
 use Rattle.rec_syntax.specs.Tokens.{Word}
 use Rattle.rec_syntax.specs.Syntax.{Term, Terms, Apply, Spec}
 use Rattle.rec_sorts.specs.Lookup.{is_variable, count}
 use Rattle.rec_sorts.specs.TermRules.{arguments}
-use Rattle.rec_sorts.specs.Binding.{Substitution, Bound, value_of, application, instance, instances, binds, bind_first, parts_at_variables, parts_at_variables_all}
+use Rattle.rec_sorts.specs.Binding.{Substitution, value_of, application, instance, instances, binds, bind_first, parts_at_variables, parts_at_variables_all}
 use Rattle.rec_sorts.specs.Laws.{BindsVariables, BindsVariablesAll, IsPartOf, Every}
 use Rattle.rec_sorts.specs.Numbering.{Named, named, named_all}
 use Rattle.rec_run.specs.Asking.{with_one, opened, bound, goes_on, stack_on, asked}

@@ -1,19 +1,16 @@
 -- From what both texts came to to what is due.
-use Rattle.std.proofs.Common.{◌≡◌, ℕ, ◌+◌, ◌<◌, ◌≤◌, Bool, true, false, List, [], Option, Some, None, IfSome, length, take, take_all, refl, sym, ap, subst, ◌∙◌, arith, min}
+use Rattle.std.proofs.Common.{◌≡◌, ℕ, ◌+◌, ◌≤◌, Bool, List, [], Option, Some, None, IfSome, length, take, take_all, refl, sym, subst, ◌∙◌, arith}
 use Rattle.std.proofs.lemmas.List.{length-take}
 use Rattle.std.specs.Io.KnownBytes.{Appends, Keeps}
 use Rattle.rec_sorts.specs.SpecRules as verdict
 use Rattle.rec_sorts.specs.SpecRules.{Verdict, SpecVerdict}
-use Rattle.rec_run.specs.Output.{Due, IsDue, IsDueAfter, due_of_spec}
-use Rattle.rec_run.specs.Bytes.{AppendsFront}
+use Rattle.rec_run.specs.Output.{Due, IsDueAfter, due_of_spec}
 use Rattle.rec_run.specs.GivenTerms.{IsReadFrom, finish_of_run, place_of_run, run_due}
 use Rattle.rec_run.specs.Run.{Gives, HasPlace, Leaves, Reports, Stops, Texts}
-use Rattle.rec_run.specs.Reading.{verdict_of, due_of, refusal_line, place_of, finish_of, unread}
+use Rattle.rec_run.specs.Reading.{due_of, refusal_line, place_of, finish_of}
 use Rattle.rec_run.specs.declared.ending.Finish.{Finish}
 use Rattle.rec_run.specs.declared.ending.Place.{Place}
 use Rattle.rec_run.specs.declared.ending.RunFault.{RunFault}
-use Rattle.rec_run.specs.declared.text.ReadFault.{ReadFault}
-use Rattle.rec_run.specs.declared.text.ReadFault.TheVariants as reading
 use Rattle.rec_run.specs.declared.text.TheConstants.{LIMIT}
 use Rattle.rec_run.specs.declared.texts.RunReading.{RunReading}
 use Rattle.rec_run.specs.declared.texts.RunReading.TheVariants.{Alone, Both, Refused as RefusedTerms}
@@ -101,8 +98,3 @@ kept (Some a) = refl
 pub leaves_unread : (told : Option Texts) (counted : Bool) (n : ℕ) (fault : RunFault) (old : Option (List ℕ)) → Reports fault [] → IfSome told (λ texts. Leaves texts.spec texts.terms counted n fault old old)
 leaves_unread None counted n fault old h = tt
 leaves_unread (Some texts) counted n fault old h = λ d is. record { written = []; appended = appends_none old old (kept old); front = (d.text, refl); reported = h }
-
--- the fault of a text that is not read tells of no line
-pub unread_reports : (e : ReadFault) → Reports (unread e) []
-unread_reports reading.Memory = refl
-unread_reports reading.Read = refl

@@ -1,5 +1,5 @@
 -- Parts of a text that a writer was given.
-use Rattle.std.specs.Prelude.{◌≡◌, ◌⊎◌, ℕ, List, ◌++◌, ◌==◌, Option, count_by}
+use Rattle.std.specs.Prelude.{◌≡◌, ℕ, List, ◌++◌, ◌==◌, Option, count_by}
 use Rattle.std.specs.Io.KnownBytes.{Appends}
 
 -- whole begins with front

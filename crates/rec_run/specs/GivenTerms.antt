@@ -3,10 +3,10 @@
 --     AreGiven y w r letters     they keep the rules, and these are their letters
 --     run_due counted n r        what is due for what both texts came to
 --     given_text y counted n u   the line of a given term without the line end
-use Rattle.std.specs.Prelude.{ℕ, ◌+◌, ◌-◌, ◌≡◌, Bool, List, [], ◌∷◌, ◌++◌, Option, Some, None, Result, Ok, Err, IsSome, Vec, codes, decimal, flat_map, unwrap_or}
+use Rattle.std.specs.Prelude.{ℕ, ◌+◌, ◌≡◌, Bool, List, [], ◌++◌, Option, Some, None, Result, Ok, Err, IsSome, Vec, codes, decimal, flat_map, unwrap_or}
 use Rattle.std.proofs.Common.{Global}
 use Rattle.std.specs.Io.KnownBytes.{Appends}
-use Rattle.rx_term.specs.Tree.{Tree, Trees, Items, none, more, annotations, from_list, list_of}
+use Rattle.rx_term.specs.Tree.{Tree, Trees, Items, none, annotations, from_list, list_of}
 use Rattle.rx_term.specs.Store.{Store, tree_at}
 use Rattle.rx_term.specs.declared.Term.{Term as Reference}
 use Rattle.rx_plain.specs.State.{store_of}

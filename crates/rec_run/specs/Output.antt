@@ -3,18 +3,17 @@
 --     lines y given counted n       the lines of a specification's own terms and of given ones
 --     IsTermsVerdict y bytes v      the verdict on a text of terms
 --     IsDue spec terms counted n d  what is due for the two texts
-use Rattle.std.specs.Prelude.{ℕ, ◌-◌, ◌≡◌, ◌≤◌, ◌<◌, length, Option, Some, None, Bool, true, false, List, [], ◌++◌, codes, decimal, map, flat_map}
+use Rattle.std.specs.Prelude.{ℕ, ◌-◌, ◌≡◌, ◌<◌, length, Option, Some, None, Bool, true, false, List, [], ◌++◌, codes, decimal, map, flat_map}
 use Rattle.rx_term.specs.Tree.{Tree, Trees, none, annotated, annotations}
 use Rattle.rx_text.specs.Grammar.{Spells}
 use Rattle.rx_text.specs.Place.{IsPlace}
 use Rattle.rx_text.specs.Canon.{canon}
 use Rattle.rec_syntax.specs.Syntax.{Term, Spec}
 use Rattle.rec_sorts.specs.TermRules.{broken_by_terms, elements}
-use Rattle.rec_sorts.specs.SpecRules.{Verdict, Long, Grammar, Breaks, Good, SpecVerdict, Fits, Fault}
+use Rattle.rec_sorts.specs.SpecRules.{Verdict, Long, Grammar, Breaks, Good, SpecVerdict, Fits}
 use Rattle.rec_sorts.specs.Evaluation.{Done, Over, Eval, term_of}
 use Rattle.rec_run.specs.declared.ending.Finish.{Finish}
 use Rattle.rec_run.specs.declared.ending.Finish.TheVariants as finish
-use Rattle.rec_run.specs.declared.ending.Source.{Source}
 use Rattle.rec_run.specs.declared.ending.Source.TheVariants as source
 use Rattle.rec_run.specs.declared.ending.Named.TheVariants as named
 use Rattle.rec_run.specs.declared.ending.Place.{Place}

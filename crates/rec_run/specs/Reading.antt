@@ -1,5 +1,5 @@
 -- What the text of a specification comes to, and what is written for it.
-use Rattle.std.specs.Prelude.{ℕ, ◌-◌, List, [], ◌++◌, Bool, Option, Some, None, get_or, codes, decimal}
+use Rattle.std.specs.Prelude.{ℕ, ◌-◌, List, [], ◌++◌, Bool, Option, None, get_or, codes, decimal}
 use Rattle.rx_term.specs.Tree.{Tree, Trees, annotated, none}
 use Rattle.rx_text.specs.Canon.{canon}
 use Rattle.rec_syntax.specs.Syntax.{Term, Apply, Spec, nameless}

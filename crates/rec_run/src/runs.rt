@@ -38,8 +38,8 @@ impl From<Stopped> for RunFault {
     }
 }
 
-/// Reads a specification and, where it is good, the list of given terms; writes a line for each term of both, and flushes; or the line of a refusal.
-/// What a fault leaves of the readers is open.
+/// Reads a specification and, where it is good and terms are given, their text; writes a line for each term of both, and flushes; or the line of a refusal.
+/// A fault while a text is read has written nothing, and `Room` comes only where the bank of given terms is full. What a fault leaves of the readers is open.
 pub fn run<R: Read, T: Read, W: Write>(
     alloc: Global,
     spec: &mut R,

@@ -1,7 +1,7 @@
 -- Each return is a sentence of evaluation's definition, and each turn of a loop leaves what is left to the rest.
-use Rattle.std.proofs.Common.{◌≡◌, ◌+◌, ◌-◌, ℕ, sym, ap, subst, refl, arith, ◌∙◌, drop, length, List, [], ◌∷◌, ◌++◌, take, get_or, ◌<◌, All}
+use Rattle.std.proofs.Common.{◌≡◌, ◌+◌, ◌-◌, ℕ, sym, ap, subst, arith, ◌∙◌, drop, length, List, [], ◌∷◌, ◌++◌, take, get_or, ◌<◌, All}
 use Rattle.std.proofs.lemmas.Result.{IfOk-weaker}
-use Rattle.rec_sorts.specs.Evaluation.{Call, Try}
+use Rattle.rec_sorts.specs.Evaluation.{Call}
 use Rattle.rec_sorts.specs.declared.letters.Meaning.TheVariants.{Symbol}
 use Rattle.rec_run.specs.Values.{tree_of_value, KeepsRules}
 use Rattle.rec_run.specs.Matched.{substitution}
@@ -9,7 +9,7 @@ use Rattle.rec_syntax.specs.Syntax.{Spec}
 use Rattle.rec_sorts.specs.declared.letters.LetterCondition.{LetterCondition}
 use Rattle.rec_run.specs.declared.matching.Binding.{Binding}
 use Rattle.rec_run.specs.Evaluated.{CanEvaluate, CanCompare, reached_tree, held_answer, IsValueOf, LeavesAtMost, ReachesDeclared, HeldWithin}
-use Rattle.rec_run.proofs.EvaluationLemmas.{letter_of, Evaluating, first_evaluating, variable_evaluating, Called, called_declared, called_over, symbol_evaluating}
+use Rattle.rec_run.proofs.EvaluationLemmas.{letter_of, Evaluating, first_evaluating, variable_evaluating, called_declared, called_over, symbol_evaluating}
 use Rattle.rec_run.proofs.RuleLemmas.{RuleAt, rule_at, passes_over, matches, nothing_left, tried_over, tried_yes, tried_no, tried_none, found_some, found_none, can_ask, can_go_on, Trying, Spends, spends, went_on, held_all, ConditionAt, condition_at, left_came, right_came, over_left, over_right, compared_yes, compared_no, falls}
 use Rattle.rec_sorts.proofs.Rules.{call_tries}
 use Rattle.rec_run.proofs.evaluator.+evaluate.Goals as goal

@@ -1,10 +1,9 @@
-use Rattle.std.proofs.Common.{◌≡◌, ◌<◌, ◌^◌, List, [], Vec, Global, arith, ap, length, subst, sym, ◌∙◌}
+use Rattle.std.proofs.Common.{◌<◌, ◌^◌, List, [], Vec, Global, arith, length, subst, sym}
 use Rattle.std.specs.Io.KnownBytes.{Appends}
 use Rattle.std.proofs.lemmas.Result.{IfErr-weaker}
 use Rattle.rx_plain.specs.State.{store_of}
 use Rattle.rec_sorts.specs.declared.letters.Letter.{Letter}
-use Rattle.rec_run.specs.Bytes.{newlines}
-use Rattle.rec_run.specs.GivenTerms.{AreGiven, given_at, given_lines, StopsAfter}
+use Rattle.rec_run.specs.GivenTerms.{AreGiven, given_at, given_lines}
 use Rattle.rec_run.specs.Output.{lines}
 use Rattle.rec_run.specs.Run.{Stops}
 use Rattle.rec_run.proofs.LineFronts.{stops_before, stops_behind}

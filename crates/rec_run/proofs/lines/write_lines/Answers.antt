@@ -1,9 +1,8 @@
-use Rattle.std.proofs.Common.{◌++◌, ◌≡◌, ◌<◌, ◌≤◌, ◌^◌, arith, length, take, take_all, subst, sym, ap, ◌∙◌}
+use Rattle.std.proofs.Common.{◌++◌, ◌<◌, ◌≤◌, ◌^◌, arith, length, take, take_all, subst, sym, ap, ◌∙◌}
 use Rattle.std.specs.Prelude.{codes}
 use Rattle.rec_syntax.specs.Syntax.{Apply, nameless}
 use Rattle.rec_syntax.specs.Syntax as syntax
 use Rattle.std.specs.Io.KnownBytes.{Appends}
-use Rattle.rec_run.specs.Run.{Stops}
 use Rattle.rec_run.specs.Reading.{line_text, term_at}
 use Rattle.rec_run.proofs.Told.{appends_both}
 use Rattle.rec_run.proofs.LineFronts.{lines_of, lines_of-more, stops_lines}

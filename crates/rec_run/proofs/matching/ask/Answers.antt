@@ -1,10 +1,7 @@
 -- A letter is a variable or a symbol.
-use Rattle.std.proofs.Common.{◌≡◌, ◌<◌, ◌∙◌, refl, sym, ap, subst, length, Bool, true, ◌&&◌, nat_eq, ◌++◌}
+use Rattle.std.proofs.Common.{◌≡◌, length, true, ◌&&◌, nat_eq, ◌++◌}
 use Rattle.std.proofs.lemmas.Result.{IfOk-weaker}
-use Rattle.std.proofs.lemmas.List.Elements.{All-append}
-use Rattle.rec_sorts.specs.Lookup.{symbols, variable_words}
-use Rattle.rec_sorts.specs.Numbering.{IsMeaning}
-use Rattle.rec_run.specs.Values.{symbol_of, arguments_of, IsDeclared}
+use Rattle.rec_run.specs.Values.{symbol_of, arguments_of}
 use Rattle.rec_run.specs.Asking.{values_on, Asks, Gives}
 use Rattle.rec_run.proofs.MatchLemmas.{asks_by_variable, asks_by_symbol, both_ok}
 use Rattle.rec_run.proofs.matching.ask.Goals as goal

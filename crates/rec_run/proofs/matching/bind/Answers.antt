@@ -1,5 +1,5 @@
 -- A variable's value is compared, or given.
-use Rattle.std.proofs.Common.{◌≡◌, ◌∙◌, refl, sym, ap, subst, List, [], ◌∷◌, ◌++◌, Some}
+use Rattle.std.proofs.Common.{◌≡◌, ◌∙◌, refl, sym, ap, subst, [], ◌∷◌, ◌++◌, Some}
 use Rattle.rec_run.specs.declared.matching.Binding.{Binding}
 use Rattle.rec_run.specs.Matched.{bound_value, substitution, AreDeclared}
 use Rattle.rec_run.proofs.MatchLemmas.{gives_bound, gives_new, new_declared, bound_declared}

@@ -1,8 +1,8 @@
 -- Each turn asks one letter of the value on top.
-use Rattle.std.proofs.Common.{◌≡◌, refl, arith, subst, false, true}
+use Rattle.std.proofs.Common.{arith, subst}
 use Rattle.std.proofs.lemmas.List.{nil_from_length}
 use Rattle.rec_run.specs.Asking.{Asks}
-use Rattle.rec_run.proofs.MatchLemmas.{AtTop, asked_more, asked_fails, asked_empty, asked_all}
+use Rattle.rec_run.proofs.MatchLemmas.{asked_more, asked_fails, asked_empty, asked_all}
 use Rattle.rec_run.proofs.matching.match_left.Goals as goal
 
 pub returns-in_default : goal.returns-in_default

@@ -4,7 +4,7 @@ use Rattle.std.proofs.lemmas.List.{nil_from_length}
 use Rattle.rec_run.specs.declared.value.Value.{Value}
 use Rattle.rec_run.specs.declared.printer.Piece.TheVariants as piece
 use Rattle.rec_run.specs.Values.{arguments_of}
-use Rattle.rec_run.proofs.PrinterLemmas.{OthersOn, others_first, others_more, arguments_on, no_arguments_on}
+use Rattle.rec_run.proofs.PrinterLemmas.{OthersOn, others_more, arguments_on, no_arguments_on}
 use Rattle.rec_run.proofs.printer.push_arguments.Goals as goal
 
 pub returns-then-len-eq0 : goal.returns-then-len-eq0

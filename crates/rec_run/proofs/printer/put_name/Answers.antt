@@ -1,11 +1,11 @@
 -- A name that is not plain: a quote, its bytes and a quote.
-use Rattle.std.proofs.Common.{◌≡◌, sym, ap, subst, ◌∙◌, [], ◌∷◌, ◌++◌, List, ℕ, Bool, true, false, Option, flat_map}
+use Rattle.std.proofs.Common.{◌≡◌, sym, ap, subst, ◌∙◌, [], ◌∷◌, ◌++◌, List, ℕ, false, flat_map}
 use Rattle.std.proofs.lemmas.Result.{on_err_weaker}
 use Rattle.std.specs.Prelude.{not}
 use Rattle.rx_term.specs.Name.{plain_name}
 use Rattle.rx_text.specs.Canon.{name_text, quoted_byte}
 use Rattle.rec_run.specs.Bytes.{AppendsFront}
-use Rattle.rec_run.proofs.Told.{on_err, appends_both, front_after, front_before}
+use Rattle.rec_run.proofs.Told.{on_err, front_after, front_before}
 use Rattle.rec_run.proofs.printer.put_name.Goals as goal
 
 -- the text of a name that is not plain

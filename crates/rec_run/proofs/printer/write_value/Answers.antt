@@ -1,15 +1,10 @@
 -- Each turn writes the piece on top.
-use Rattle.std.proofs.Common.{◌≡◌, sym, ap, subst, refl, ◌∙◌, [], ◌∷◌, ◌++◌}
-use Rattle.rec_sorts.specs.Numbering.{name_of}
-use Rattle.rec_sorts.specs.declared.letters.Meaning.TheVariants.{Symbol}
-use Rattle.rec_run.specs.declared.printer.Piece.{Piece}
+use Rattle.std.proofs.Common.{ap, subst, refl, ◌∙◌, [], ◌∷◌, ◌++◌}
 use Rattle.rec_run.specs.declared.printer.Piece.TheVariants as piece
-use Rattle.rec_run.specs.Bytes.{AppendsFront}
-use Rattle.rec_run.specs.Values.{symbol_of, tree_of_value, IsDeclared}
 use Rattle.rec_run.specs.Printed.{pieces_text, IsDeclaredPiece}
 use Rattle.rec_run.proofs.Told.{on_err}
 use Rattle.rec_run.proofs.ValueLemmas.{declared_symbol}
-use Rattle.rec_run.proofs.PrinterLemmas.{Writing, wrote, wrote_name, stopped_in, stopped_in_name, mark_text, top_declared, rest_declared}
+use Rattle.rec_run.proofs.PrinterLemmas.{wrote, wrote_name, stopped_in, stopped_in_name, mark_text, top_declared, rest_declared}
 use Rattle.rec_run.proofs.printer.write_value.Goals as goal
 
 pub symbol_name-requires : goal.symbol_name-requires

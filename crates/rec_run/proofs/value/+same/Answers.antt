@@ -1,12 +1,12 @@
 -- Two values are compared by their symbols and then by their arguments.
-use Rattle.std.proofs.Common.{◌≡◌, ◌<◌, sym, ap, subst, arith, ◌∙◌, true, false, length, eqb, All, nat_eq, ◌&&◌, get_or, drop}
+use Rattle.std.proofs.Common.{◌≡◌, ◌<◌, sym, ap, subst, arith, ◌∙◌, length, All, get_or}
 use Rattle.std.proofs.lemmas.Bool.{eq-eqb, ne_eqb}
 use Rattle.rx_term.specs.Tree.{tree_eq, trees_eq}
 use Rattle.std.specs.Prelude.{ℕ, Bool, List}
 use Rattle.rec_syntax.specs.Syntax.{Spec}
 use Rattle.rec_run.specs.declared.value.Value.{Value}
 use Rattle.rec_run.specs.Values.{symbol_of, arguments_of, tree_of_value, trees_of_values, IsDeclared}
-use Rattle.rec_run.proofs.ValueLemmas.{same_symbol, other_symbol, lengths_differ, declared_arguments, one_same, one_differs, none_left}
+use Rattle.rec_run.proofs.ValueLemmas.{same_symbol, other_symbol, lengths_differ, declared_arguments, one_same}
 use Rattle.rec_run.proofs.value.+same.Goals as goal
 
 pub same_value-returns-then-a-b : goal.same_value-returns-then-a-b
