@@ -24,12 +24,20 @@ pub(crate) enum WriteFault {
 }
 
 impl From<AllocError> for WriteFault {
+    ghost use Rattle.rec_run.specs.declared.printer.WriteFault.TheVariants.{Memory};
+
+    ghost from_gives = { λ _ r. r ≡ Memory };
+
     fn from(_error: AllocError) -> WriteFault {
         WriteFault::Memory
     }
 }
 
 impl From<Stopped> for WriteFault {
+    ghost use Rattle.rec_run.specs.declared.printer.WriteFault.TheVariants.{Write};
+
+    ghost from_gives = { λ _ r. r ≡ Write };
+
     fn from(_stopped: Stopped) -> WriteFault {
         WriteFault::Write
     }

@@ -282,9 +282,9 @@ fn nested(rt: &impl Abort, alloc: Global, levels: u32, inner: &[u8]) -> Vec<u8> 
 #[test]
 fn deep_terms(rt: HostRuntime) {
     let alloc = rt.alloc();
-    let mut bank = bank_of(&rt, alloc, 10_000);
-    let p = pattern(&rt, alloc, &mut bank, &nested(&rt, alloc, 3_000, b"<int>"));
-    let t = term(&rt, alloc, &mut bank, &nested(&rt, alloc, 3_000, b"1"));
+    let mut bank = bank_of(&rt, alloc, 30_000);
+    let p = pattern(&rt, alloc, &mut bank, &nested(&rt, alloc, 10_000, b"<int>"));
+    let t = term(&rt, alloc, &mut bank, &nested(&rt, alloc, 10_000, b"1"));
     assert!(rt; bank.holds(t));
     let mut out = Vec::new(alloc);
     assert!(rt; p.matches(&mut bank, t, &mut out) == Ok(true));
