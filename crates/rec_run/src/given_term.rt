@@ -18,6 +18,9 @@ use std::io::Read;
 /// The most cells of the bank.
 const CELLS: u32 = 1_073_741_824;
 
+/// The hints of the bank, in 8 MiB: enough for a hundred thousand cells to be found nearly at once.
+const HINTS: u32 = 1_048_576;
+
 /// Why a text is refused.
 #[derive(Clone, Copy, Debug)]
 pub(crate) enum TermRefusal {
@@ -84,7 +87,7 @@ pub(crate) fn empty_bank(alloc: Global) -> Result<PlainBank, RunFault>
     ensures unrooted { IfOk result (λ bank. (t : ℕ) → (store_of bank).roots t ≡ 0) }
     ensures fault { IfErr result (λ fault. Reports fault []) }
 {
-    match PlainBank::new(alloc, CELLS) {
+    match PlainBank::with_hints(alloc, CELLS, HINTS) {
         Ok(bank) => Ok(bank),
         Err(_) => Err(RunFault::Memory { lines: 0 }),
     }

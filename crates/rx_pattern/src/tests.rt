@@ -278,13 +278,14 @@ fn nested(rt: &impl Abort, alloc: Global, levels: u32, inner: &[u8]) -> Vec<u8> 
     text
 }
 
-// Making so many cells takes long in a bank that searches them from the front.
+// A bank that searches from the front alone would take minutes.
 #[test]
 fn deep_terms(rt: HostRuntime) {
     let alloc = rt.alloc();
-    let mut bank = bank_of(&rt, alloc, 30_000);
-    let p = pattern(&rt, alloc, &mut bank, &nested(&rt, alloc, 10_000, b"<int>"));
-    let t = term(&rt, alloc, &mut bank, &nested(&rt, alloc, 10_000, b"1"));
+    let mut bank = PlainBank::with_hints(alloc, 500_000, 500_000).expect(&rt, "a bank");
+    let text = nested(&rt, alloc, 200_000, b"<int>");
+    let p = pattern(&rt, alloc, &mut bank, &text);
+    let t = term(&rt, alloc, &mut bank, &nested(&rt, alloc, 200_000, b"1"));
     assert!(rt; bank.holds(t));
     let mut out = Vec::new(alloc);
     assert!(rt; p.matches(&mut bank, t, &mut out) == Ok(true));
@@ -292,4 +293,8 @@ fn deep_terms(rt: HostRuntime) {
     assert!(rt; out.as_slice() == [one].as_slice());
     assert!(rt; bank.holds(one));
     assert!(rt; p.make(&mut bank, &[one]) == Ok(t));
+    let other = term(&rt, alloc, &mut bank, &text);
+    assert!(rt; bank.holds(other));
+    assert!(rt; p.matches(&mut bank, other, &mut out) == Ok(false));
+    assert!(rt; out.is_empty());
 }

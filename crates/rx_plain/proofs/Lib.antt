@@ -1,4 +1,5 @@
 pub mod SlotLemmas
+pub mod HintLemmas
 pub mod SweepLemmas
 pub mod MarkLemmas
 pub mod Contents

@@ -2,6 +2,7 @@
 #![tactic(auto)]
 
 pub mod bank;
+mod hints;
 mod marks;
 mod slots;
 #[cfg(test)]

@@ -90,10 +90,12 @@ fn two_million_brackets(rt: HostRuntime) -> Result<(), Fail> {
 }
 
 #[test]
-fn two_thousand_levels(rt: HostRuntime) -> Result<(), Fail> {
+fn two_million_levels(rt: HostRuntime) -> Result<(), Fail> {
     let alloc = rt.alloc();
-    let bytes = nested(alloc, 2000).ok().ok_or("memory")?;
-    let mut bank = PlainBank::new(alloc, 4000).ok().ok_or("a bank")?;
+    let bytes = nested(alloc, 2_000_000).ok().ok_or("memory")?;
+    let mut bank = PlainBank::with_hints(alloc, 2_000_000, 4_000_000)
+        .ok()
+        .ok_or("a bank")?;
     let t = read(alloc, &bytes, &mut bank)
         .ok()
         .ok_or("the bytes are a term")?;

@@ -4,7 +4,8 @@ use Rattle.rx_term.specs.Heap.{IsDistinct}
 use Rattle.rx_names.specs.Names.{symbols_of}
 use Rattle.rx_plain.specs.Slots.{heap_of, roots_of, table_of}
 use Rattle.rx_plain.proofs.Contents.{same-whole, same-content, empty-whole, empty-len, empty-content}
-use Rattle.rx_plain.proofs.bank.PlainBank.new.Goals as goal
+use Rattle.rx_plain.proofs.HintLemmas.{AreHinted-empty}
+use Rattle.rx_plain.proofs.bank.PlainBank.with_hints.Goals as goal
 
 pub invariant_of-result : goal.invariant_of-result
 invariant_of-result c =
@@ -19,6 +20,7 @@ invariant_of-result c =
       whole = whole;
       unrooted = subst (λ xs. (t : ℕ) → heap_of xs t ≡ None → roots_of xs t ≡ 0) (sym e) (λ t q. refl);
       counts = subst (λ xs. (t : ℕ) → roots_of xs t ≤ 65535) (sym e) (λ t. omega arith);
+      hinted = AreHinted-empty c.in_ok-hints.hints.last.items c.new-in-Ok.result.items e;
       counted = sym (ap map.len content ∙ empty-len m);
     }
 
