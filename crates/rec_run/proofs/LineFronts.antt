@@ -5,7 +5,8 @@ use Rattle.std.proofs.lemmas.List.Elements.{All-take}
 use Rattle.std.proofs.lemmas.List.{take_more}
 use Rattle.std.proofs.lemmas.List.Concat.{flat_map-append}
 use Rattle.std.specs.Io.KnownBytes.{Appends}
-use Rattle.rec_run.specs.Bytes.{AppendsFront, IsFront, newlines}
+use Rattle.rx_text.specs.Written.{AppendsFront, IsFront}
+use Rattle.rec_run.specs.Bytes.{newlines}
 use Rattle.rec_run.specs.GivenTerms.{ReportsAfter, StopsAfter}
 use Rattle.rec_run.specs.Run.{Stops, Reports}
 use Rattle.rec_run.specs.Reading.{within, raised}

@@ -12,7 +12,8 @@ use Rattle.rx_term.specs.declared.Term.{Term}
 use Rattle.rx_text.specs.Canon.{canon}
 use Rattle.rx_text.proofs.InLine.{stays_in_line}
 use Rattle.rx_pattern.specs.Held.{HaveTrees, Binds}
-use Rattle.rec_run.specs.Bytes.{AppendsFront, newlines}
+use Rattle.rx_text.specs.Written.{AppendsFront}
+use Rattle.rec_run.specs.Bytes.{newlines}
 use Rattle.rec_run.specs.Output.{Due, done}
 use Rattle.rec_run.specs.Run.{Reports, Stops}
 use Rattle.rec_run.specs.TermRuns.{Breaks, term_line}

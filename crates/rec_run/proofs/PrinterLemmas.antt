@@ -18,7 +18,7 @@ use Rattle.rec_run.specs.declared.printer.Piece.{Piece}
 use Rattle.rec_run.specs.declared.printer.Piece.TheVariants as piece
 use Rattle.rec_run.specs.declared.value.Value.{Value}
 use Rattle.rec_run.specs.declared.value.Value.TheFolds.{fold_out-Value}
-use Rattle.rec_run.specs.Bytes.{AppendsFront}
+use Rattle.rx_text.specs.Written.{AppendsFront}
 use Rattle.rec_run.specs.Values.{symbol_of, arguments_of, tree_of_value, trees_of_values, IsDeclared}
 use Rattle.rec_run.specs.Printed.{piece_text, pieces_text, IsDeclaredPiece, with_marks, weight_step, weight, piece_weight, pieces_weight, HasArguments}
 use Rattle.rec_run.proofs.Told.{appends_both, front_after, front_before}

@@ -13,7 +13,8 @@ use Rattle.rx_text.specs.Canon.{canon}
 use Rattle.rx_text.proofs.InLine.{stays_in_line}
 use Rattle.rx_text.specs.Verdict.{Verdict, TooLong, Outside, Spelt, IsVerdict}
 use Rattle.rx_text.proofs.Verdicts.{one_verdict}
-use Rattle.rec_run.specs.Bytes.{AppendsFront, newlines}
+use Rattle.rx_text.specs.Written.{AppendsFront}
+use Rattle.rec_run.specs.Bytes.{newlines}
 use Rattle.rec_run.specs.Output.{Due}
 use Rattle.rec_run.specs.Run.{Stops}
 use Rattle.rec_run.specs.TermRuns.{due_of, term_line, cells_line, share_lines, place_of, finish_of, IsReadingOf, Ends, IsPlaced, Breaks}

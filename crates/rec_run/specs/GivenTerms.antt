@@ -20,7 +20,8 @@ use Rattle.rec_sorts.specs.Numbering.{AreLetters, Pairwise}
 use Rattle.rec_sorts.specs.declared.fault.TermsFault.{TermsFault}
 use Rattle.rec_sorts.specs.declared.fault.TermsFault.TheVariants as rule
 use Rattle.rec_sorts.specs.declared.letters.Letter.{Letter}
-use Rattle.rec_run.specs.Bytes.{IsFront, newlines}
+use Rattle.rx_text.specs.Written.{IsFront}
+use Rattle.rec_run.specs.Bytes.{newlines}
 use Rattle.rec_run.specs.Evaluated.{CanEvaluate}
 use Rattle.rec_run.specs.Matched.{HasBareVariables}
 use Rattle.rec_run.specs.Output.{Due, IsDue, IsDueAfter, done, refused, lines, steps_text}

@@ -7,7 +7,8 @@ use Rattle.std.specs.Prelude.{◌≡◌, ◌⊎◌, ℕ, List, [], Bool, Option,
 use Rattle.std.proofs.Common.{inl, inr}
 use Rattle.std.specs.Borrow.{MutBor}
 use Rattle.std.specs.Io.KnownBytes.{Appends}
-use Rattle.rec_run.specs.Bytes.{IsFront, newlines}
+use Rattle.rx_text.specs.Written.{IsFront}
+use Rattle.rec_run.specs.Bytes.{newlines}
 use Rattle.rec_run.specs.Output.{Due, IsDue}
 use Rattle.rec_run.specs.declared.ending.Finish.{Finish}
 use Rattle.rec_run.specs.declared.ending.Place.{Place}

@@ -5,7 +5,7 @@ ghost use Rattle.std.specs.Io.KnownBytes.{Appends};
 ghost use Rattle.rx_plain.specs.State.{store_of};
 ghost use Rattle.rx_term.specs.Store.{tree_at};
 ghost use Rattle.rx_term.specs.Tree.{annotations};
-ghost use Rattle.rec_run.specs.Bytes.{AppendsFront};
+ghost use Rattle.rx_text.specs.Written.{AppendsFront};
 ghost use Rattle.rec_run.specs.Evaluated.{IsAnswer};
 ghost use Rattle.rec_run.specs.GivenTerms.{
   AreGiven,

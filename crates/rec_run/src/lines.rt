@@ -2,7 +2,7 @@
 
 ghost use Rattle.std.specs.Prelude.{◌≡◌, ◌<◌, ◌++◌, [], IfErr, OnOk, OnErr, codes, decimal, length, true};
 ghost use Rattle.std.specs.Io.KnownBytes.{Appends};
-ghost use Rattle.rec_run.specs.Bytes.{AppendsFront};
+ghost use Rattle.rx_text.specs.Written.{AppendsFront};
 ghost use Rattle.rec_run.specs.GivenTerms.{name_of_terms, terms_line};
 ghost use Rattle.rec_run.specs.Output.{steps_text, lines};
 ghost use Rattle.rec_run.specs.Reading.{name_of_refusal, refusal_line, text_at, answer_text, within, raised};

@@ -5,7 +5,7 @@ ghost use Rattle.std.specs.Io.KnownBytes.{Appends};
 ghost use Rattle.rx_term.specs.Store.{head_of, part_at, tree_at};
 ghost use Rattle.rx_term.specs.Tree.{annotations};
 ghost use Rattle.rx_text.specs.Canon.{canon, canon_all};
-ghost use Rattle.rec_run.specs.Bytes.{AppendsFront};
+ghost use Rattle.rx_text.specs.Written.{AppendsFront};
 ghost use Rattle.rec_run.specs.GivenTerms.{item_at, items_of, notes_text};
 
 use crate::printer::WriteFault;

@@ -5,7 +5,7 @@ ghost use Rattle.std.specs.Io.KnownBytes.{Appends};
 ghost use Rattle.rx_term.specs.Name.{plain_name};
 ghost use Rattle.rx_text.specs.Canon.{canon, name_text, quoted_byte};
 ghost use Rattle.rec_syntax.specs.Syntax.{Spec};
-ghost use Rattle.rec_run.specs.Bytes.{AppendsFront};
+ghost use Rattle.rx_text.specs.Written.{AppendsFront};
 ghost use Rattle.rec_run.specs.Values.{tree_of_value, IsDeclared};
 ghost use Rattle.rec_run.specs.Printed.{pieces_text, IsDeclaredPiece, HasArguments};
 

@@ -2,7 +2,7 @@
 
 ghost use Rattle.std.specs.Prelude.{◌≡◌, ◌+◌, ◌-◌, ◌≤◌, ◌<◌, ◌^◌, List, ℕ, IfOk, OnOk, OnErr, IfSome, take, vec_len, length};
 ghost use Rattle.std.specs.Io.KnownBytes.{Appends, Consumes};
-ghost use Rattle.rec_run.specs.Bytes.{AppendsFront};
+ghost use Rattle.rx_text.specs.Written.{AppendsFront};
 
 use std::alloc::{AllocError, Global};
 use std::io::{Read, Write};

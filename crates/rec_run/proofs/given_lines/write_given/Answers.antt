@@ -2,7 +2,7 @@ use Rattle.std.proofs.Common.{◌≡◌, ◌+◌, ◌++◌, ◌<◌, ◌≤◌, 
 use Rattle.std.specs.Prelude.{codes, is_some}
 use Rattle.std.specs.Io.KnownBytes.{Appends}
 use Rattle.rx_term.specs.Tree.{list_of, none}
-use Rattle.rec_run.specs.Bytes.{AppendsFront}
+use Rattle.rx_text.specs.Written.{AppendsFront}
 use Rattle.rec_run.specs.GivenTerms.{IsLettered, StopsAfter, given_at, given_text, item_at}
 use Rattle.rec_run.specs.Reading.{raised, within}
 use Rattle.rec_run.proofs.GivenLemmas.{given_length, given_no_ends, given_start, item_given, item_there, item_tree}

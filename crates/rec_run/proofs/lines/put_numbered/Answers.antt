@@ -1,6 +1,6 @@
 use Rattle.std.proofs.Common.{subst, ◌∙◌}
 use Rattle.std.specs.Prelude.{decimal}
-use Rattle.rec_run.specs.Bytes.{AppendsFront}
+use Rattle.rx_text.specs.Written.{AppendsFront}
 use Rattle.rec_run.proofs.Told.{front_after, front_before, on_err}
 use Rattle.rec_run.proofs.lines.put_numbered.Goals as goal
 

@@ -1,7 +1,7 @@
 use Rattle.std.proofs.Common.{subst}
 use Rattle.std.specs.Prelude.{codes}
 use Rattle.std.specs.Io.KnownBytes.{Appends}
-use Rattle.rec_run.specs.Bytes.{AppendsFront}
+use Rattle.rx_text.specs.Written.{AppendsFront}
 use Rattle.rec_run.specs.Reading.{line_text, term_at}
 use Rattle.rec_run.proofs.Told.{appends_both, front_after, if_err_any}
 use Rattle.rec_run.proofs.LineFronts.{front_within}

@@ -2,7 +2,7 @@ use Rattle.std.proofs.Common.{◌≡◌, ◌++◌, ap, append-nil, append_assoc,
 use Rattle.std.specs.Prelude.{codes}
 use Rattle.std.specs.Io.KnownBytes.{Appends}
 use Rattle.rx_text.specs.Canon.{canon, canon_all, canon_others}
-use Rattle.rec_run.specs.Bytes.{AppendsFront}
+use Rattle.rx_text.specs.Written.{AppendsFront}
 use Rattle.rec_run.specs.GivenTerms.{item_at, items_of}
 use Rattle.rec_run.proofs.NoteLemmas.{comma_front, cons_there, list_front, list_step, no_others}
 use Rattle.rec_run.proofs.Told.{appends_both, front_after, front_before, on_err}

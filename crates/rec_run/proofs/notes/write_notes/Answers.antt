@@ -1,7 +1,7 @@
 use Rattle.std.proofs.Common.{◌++◌, subst, sym}
 use Rattle.std.specs.Prelude.{codes}
 use Rattle.rx_text.specs.Canon.{canon_all}
-use Rattle.rec_run.specs.Bytes.{AppendsFront}
+use Rattle.rx_text.specs.Written.{AppendsFront}
 use Rattle.rec_run.specs.GivenTerms.{item_at, items_of}
 use Rattle.rec_run.proofs.NoteLemmas.{notes_there}
 use Rattle.rec_run.proofs.Told.{appends_both, front_after, front_before, on_err}

@@ -4,7 +4,7 @@ use Rattle.std.proofs.lemmas.Result.{on_err_weaker}
 use Rattle.std.specs.Prelude.{not}
 use Rattle.rx_term.specs.Name.{plain_name}
 use Rattle.rx_text.specs.Canon.{name_text, quoted_byte}
-use Rattle.rec_run.specs.Bytes.{AppendsFront}
+use Rattle.rx_text.specs.Written.{AppendsFront}
 use Rattle.rec_run.proofs.Told.{on_err, front_after, front_before}
 use Rattle.rec_run.proofs.printer.put_name.Goals as goal
 

@@ -1,7 +1,7 @@
 use Rattle.std.proofs.Common.{◌++◌, subst}
 use Rattle.std.specs.Prelude.{codes, decimal}
 use Rattle.std.specs.Io.KnownBytes.{Appends}
-use Rattle.rec_run.specs.Bytes.{AppendsFront}
+use Rattle.rx_text.specs.Written.{AppendsFront}
 use Rattle.rec_run.proofs.Told.{front_after, front_before, on_err}
 use Rattle.rec_run.proofs.term_runs.write_cells.Goals as goal
 
