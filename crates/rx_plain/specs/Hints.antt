@@ -2,7 +2,7 @@
 use Rattle.std.specs.Prelude.{ℕ, ◌+◌, ◌*◌, ◌%◌, ◌≡◌, ◌≢◌, List, length, Option, Some, None, unsigned_abs, slice_get}
 use Rattle.rx_term.specs.Heap.{Node, number, empty, pair, application, placeholder, Cell, Heap}
 
--- the numbers that a cell names, with weights that tell lists from applications; of a symbol's the last 32 bits
+-- a cell's key: the numbers that it names, of a symbol's the last 32 bits, with weights that tell lists from applications
 abbrev pub node_key : Node → ℕ
 node_key (number z) = unsigned_abs z
 node_key empty = 0

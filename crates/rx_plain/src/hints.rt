@@ -1,6 +1,6 @@
 //! Hints: for bodies of one remainder, the slot that such a body was last put in.
 
-ghost use Rattle.std.specs.Prelude.{◌≡◌, ◌<◌, ◌^◌, None, replicate, IfOk, IfErr};
+ghost use Rattle.std.specs.Prelude.{◌≡◌, ◌<◌, ◌^◌, Some, None, length, replicate, IfOk, IfErr};
 ghost use Rattle.rx_term.specs.Heap.{Cell};
 ghost use Rattle.rx_term.specs.declared.faults.BankFault.TheVariants.{Memory};
 ghost use Rattle.rx_plain.specs.Slots.{cell_of, node_of};
@@ -16,7 +16,7 @@ pub struct Hints {
     last: Vec<Option<u32>>,
 }
 
-/// The numbers that a shape names, with weights that tell lists from applications; of a symbol's the last 32 bits.
+/// A shape's key: the numbers that it names, of a symbol's the last 32 bits, with weights that tell lists from applications.
 fn shape_key(shape: Shape) -> u64
     ensures sum { result ≡ node_key (node_of shape) }
     ensures small { result < 2 ^ 50 }
@@ -30,7 +30,7 @@ fn shape_key(shape: Shape) -> u64
     }
 }
 
-/// The same of a body.
+/// A body's key: its shape's, and the reference of its annotations with a weight.
 fn key(body: Body) -> u64
     ensures { result ≡ key_of (cell_of body) }
 {
@@ -67,6 +67,7 @@ impl Hints {
 
     /// Tells of this slot for bodies with this one's remainder.
     pub fn note(&mut self, body: Body, slot: u32)
+        ensures slot { 0 < length self.old.last.items → hint_in self.new.last.items (cell_of body) ≡ Some (Some slot) }
         ensures this { IsHinted self.new.last.items (cell_of body) }
         ensures others { (x : Cell) → IsHinted self.old.last.items x → IsHinted self.new.last.items x }
     {
