@@ -18,9 +18,8 @@ use std::io::Read;
 /// The most cells of the bank.
 const CELLS: u32 = 1_073_741_824;
 
-/// The fewest hints of the bank, in 8 MiB, and the most: one for each byte of the longest text.
-const FEWEST_HINTS: usize = 1_048_576;
-const MOST_HINTS: usize = 16_777_216;
+/// The hints that the bank begins with.
+const HINTS: u32 = 1024;
 
 /// Why a text is refused.
 #[derive(Clone, Copy, Debug)]
@@ -78,18 +77,17 @@ pub(crate) fn read_term<R: Read>(alloc: Global, input: &mut R) -> Result<GivenTe
     ensures fault { IfErr result (λ fault. Reports fault []) }
 {
     let text = read_all(alloc, input)?;
-    let mut bank = empty_bank(alloc, text.len())?;
+    let mut bank = empty_bank(alloc)?;
     let reading = parse(alloc, &text, &mut bank)?;
     Ok(GivenTerm { bank, reading })
 }
 
-/// An empty bank for the terms of texts of so many bytes, with about as many hints as there can be parts.
-pub(crate) fn empty_bank(alloc: Global, bytes: usize) -> Result<PlainBank, RunFault>
+/// An empty bank.
+pub(crate) fn empty_bank(alloc: Global) -> Result<PlainBank, RunFault>
     ensures unrooted { IfOk result (λ bank. (t : ℕ) → (store_of bank).roots t ≡ 0) }
     ensures fault { IfErr result (λ fault. Reports fault []) }
 {
-    let hints = bytes.clamp(FEWEST_HINTS, MOST_HINTS) as u32;
-    match PlainBank::with_hints(alloc, CELLS, hints) {
+    match PlainBank::with_hints(alloc, CELLS, HINTS) {
         Ok(bank) => Ok(bank),
         Err(_) => Err(RunFault::Memory { lines: 0 }),
     }

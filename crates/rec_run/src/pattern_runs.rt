@@ -83,7 +83,7 @@ pub fn run_match_at<R: Read, W: Write>(
     ensures unread { IsNoPattern pattern.now → input.new ≡ input.old }
 {
     *place = None;
-    let mut bank = empty_bank(alloc, pattern.len())?;
+    let mut bank = empty_bank(alloc)?;
     let answer = match_texts(alloc, pattern, input, &mut bank)?;
     write_answer(alloc, &bank, &answer, out)?;
     *place = answer.place();
@@ -119,7 +119,7 @@ pub fn run_make_at<W: Write>(
     ensures no_place { OnErr result (place.new ≡ None) }
 {
     *place = None;
-    let mut bank = empty_bank(alloc, pattern.len().max(args.len()))?;
+    let mut bank = empty_bank(alloc)?;
     let answer = make_of_texts(alloc, pattern, args, &mut bank)?;
     write_answer(alloc, &bank, &answer, out)?;
     *place = answer.place();

@@ -170,7 +170,7 @@ fn judge_terms(alloc: Global, checked: Checked, text: &[u8]) -> Result<RunReadin
     ensures given { IfOk result HoldsGiven }
     ensures fault { IfErr result (λ fault. Reports fault []) }
 {
-    let mut bank = empty_bank(alloc, text.len())?;
+    let mut bank = empty_bank(alloc)?;
     match parse(alloc, text, &mut bank)? {
         TermReading::Refused(refusal) => Ok(RunReading::Refused(refused_terms(refusal))),
         TermReading::Spells(list) => judge_list(alloc, checked, bank, list),

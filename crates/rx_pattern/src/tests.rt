@@ -278,11 +278,11 @@ fn nested(rt: &impl Abort, alloc: Global, levels: u32, inner: &[u8]) -> Vec<u8> 
     text
 }
 
-// A bank that searches from the front alone would take minutes.
+// A bank that always searches from the front would take minutes.
 #[test]
 fn deep_terms(rt: HostRuntime) {
     let alloc = rt.alloc();
-    let mut bank = PlainBank::with_hints(alloc, 500_000, 500_000).expect(&rt, "a bank");
+    let mut bank = PlainBank::with_hints(alloc, 500_000, 1024).expect(&rt, "a bank");
     let text = nested(&rt, alloc, 200_000, b"<int>");
     let p = pattern(&rt, alloc, &mut bank, &text);
     let t = term(&rt, alloc, &mut bank, &nested(&rt, alloc, 200_000, b"1"));

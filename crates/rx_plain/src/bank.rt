@@ -48,8 +48,8 @@ impl PlainBank {
         PlainBank::with_hints(alloc, cap, 0)
     }
 
-    /// An empty bank of at most `cap` terms, from 1 to 2^30, with so many hints, from 0 on, of eight bytes each: it answers
-    /// what any bank does, and searches less. Or memory ran out, and nothing else.
+    /// An empty bank of at most `cap` terms, from 1 to 2^30, that begins with so many hints, from 0 on, of eight bytes each: it
+    /// answers what any bank does, and searches less. Or memory ran out, and nothing else.
     pub fn with_hints(alloc: Global, cap: u32, hints: u32) -> Result<PlainBank, BankFault>
         requires { (0 < cap) × (cap ≤ 1073741824) }
         ensures empty { IfOk result (λ b. IsEmptyStore (store_of b) cap) }
@@ -123,6 +123,7 @@ impl PlainBank {
             Ok(()) => {
                 self.taken += 1;
                 self.hints.note(body, i as u32);
+                self.hints.grow(&self.slots);
                 Ok(Term(i as u32))
             }
         }

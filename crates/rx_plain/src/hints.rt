@@ -3,17 +3,21 @@
 ghost use Rattle.std.specs.Prelude.{◌≡◌, ◌<◌, ◌^◌, Some, None, length, replicate, IfOk, IfErr};
 ghost use Rattle.rx_term.specs.Heap.{Cell};
 ghost use Rattle.rx_term.specs.declared.faults.BankFault.TheVariants.{Memory};
-ghost use Rattle.rx_plain.specs.Slots.{cell_of, node_of};
-ghost use Rattle.rx_plain.specs.Hints.{node_key, key_of, hint_in, IsHinted};
+ghost use Rattle.rx_plain.specs.Slots.{cell_of, node_of, heap_of};
+ghost use Rattle.rx_plain.specs.Hints.{node_key, key_of, hint_in, IsHinted, AreHinted};
 
-use crate::slots::{Body, Shape};
+use crate::slots::{Body, Shape, Slot};
 use rx_term::BankFault;
 use std::alloc::Global;
+
+/// The most hints that a bank grows to.
+const MOST: usize = 16_777_216;
 
 /// A slot for each remainder of the bodies' keys, or none where no such body was put anywhere.
 #[derive(Drop)]
 pub struct Hints {
     last: Vec<Option<u32>>,
+    alloc: Global,
 }
 
 /// A shape's key: the numbers that it names, of a symbol's the last 32 bits, with weights that tell lists from applications.
@@ -51,7 +55,7 @@ impl Hints {
         for i in 0..count {
             last.push(None).map_err(|_| BankFault::Memory)?;
         }
-        Ok(Hints { last })
+        Ok(Hints { last, alloc })
     }
 
     /// What is known of bodies with this one's remainder: nothing, that there are none, or where the last was put.
@@ -74,6 +78,33 @@ impl Hints {
         if !self.last.is_empty() {
             let place = key(body) as usize % self.last.len();
             self.last[place] = Some(slot);
+        }
+    }
+    /// Hints for `count` remainders, which tell of all these slots.
+    fn of_slots(alloc: Global, count: u32, slots: &[Slot]) -> Result<Hints, BankFault>
+        requires { length slots.now < 2 ^ 32 }
+        ensures { IfOk result (λ h. AreHinted h.last.items (heap_of slots.now)) }
+    {
+        let mut hints = Hints::new(alloc, count)?;
+        for (i, slot) in slots.iter().enumerate() {
+            if let Some(body) = slot.body {
+                hints.note(body, i as u32);
+            }
+        }
+        Ok(hints)
+    }
+
+    /// Takes twice as many hints where there are fewer than four for each of these slots; without memory for them it leaves all as it is.
+    pub fn grow(&mut self, slots: &[Slot])
+        requires { length slots.now < 2 ^ 32 }
+        ensures { AreHinted self.old.last.items (heap_of slots.now) → AreHinted self.new.last.items (heap_of slots.now) }
+    {
+        let count = self.last.len();
+        if count == 0 || count >= MOST || slots.len() <= count / 4 {
+            return;
+        }
+        if let Ok(grown) = Hints::of_slots(self.alloc, (2 * count) as u32, slots) {
+            *self = grown;
         }
     }
 }

@@ -93,7 +93,7 @@ fn two_million_brackets(rt: HostRuntime) -> Result<(), Fail> {
 fn two_million_levels(rt: HostRuntime) -> Result<(), Fail> {
     let alloc = rt.alloc();
     let bytes = nested(alloc, 2_000_000).ok().ok_or("memory")?;
-    let mut bank = PlainBank::with_hints(alloc, 2_000_000, 4_000_000)
+    let mut bank = PlainBank::with_hints(alloc, 2_000_000, 1024)
         .ok()
         .ok_or("a bank")?;
     let t = read(alloc, &bytes, &mut bank)

@@ -56,6 +56,20 @@ returns-in-Some-find_free c =
     put-makes b c.args.body c.requires nowhere (slice_set items c.in-Some-find_free.i slot) c.in-Some-find_free.i
     (Puts-set items c.in-Some-find_free.i slot (cell_of c.args.body) free.0 free.1 b.unrooted (refl, refl)) _ (vec_capacity b.slots) same_room
 
+pub invariant_of-self-then-i-self : goal.invariant_of-self-then-i-self
+invariant_of-self-then-i-self c =
+    let b = c.args.self.now in
+    record {
+      limited = b.limited;
+      bounded = b.bounded;
+      distinct = b.distinct;
+      whole = b.whole;
+      unrooted = b.unrooted;
+      counts = b.counts;
+      hinted = b.hinted;
+      counted = b.counted;
+    }
+
 pub returns-then-i-self : goal.returns-then-i-self
 returns-then-i-self c =
     let b = c.args.self.now in
@@ -64,7 +78,7 @@ returns-then-i-self c =
     let len = b.slots.ok.0 in
     let bounded = b.bounded in
     let counted = b.counted in
-    put-refuses b c.args.body c.requires nowhere b.slots.items _ b.whole (vec_capacity b.slots) refl (omega arith) (omega arith) (omega arith)
+    put-refuses b c.args.body c.requires nowhere b.slots.items _ _ (vec_capacity b.slots) refl (omega arith) (omega arith) (omega arith)
 
 pub invariant_of-self-in-Err : goal.invariant_of-self-in-Err
 invariant_of-self-in-Err c =
@@ -114,12 +128,13 @@ invariant_of-self-in-Ok c =
     let counted = b.counted in
     let bounded = b.bounded in
     let size = b.slots.ok.0 in
+    let noted = AreHinted-puts b.hints.last.items c.note-in-Ok.new.self.last.items items ys (length items) (cell_of c.args.body) puts c.note-in-Ok.ensures.this c.note-in-Ok.ensures.others b.hinted in
     record {
       limited = b.limited;
       bounded = rw e (simp length-append (omega arith));
       distinct = put-distinct b c.args.body c.requires nowhere ys (length items) puts;
       whole = whole;
-      hinted = AreHinted-puts b.hints.last.items c.note-in-Ok.new.self.last.items items ys (length items) (cell_of c.args.body) puts c.note-in-Ok.ensures.this c.note-in-Ok.ensures.others b.hinted;
+      hinted = subst (λ xs. AreHinted c.grow.new.self.last.items (heap_of xs)) c.deref.ensures.value (c.grow.ensures (subst (λ xs. AreHinted c.note-in-Ok.new.self.last.items (heap_of xs)) (sym c.deref.ensures.value) noted));
       unrooted = Unrooted-puts items ys (length items) (cell_of c.args.body) puts b.unrooted;
       counts = λ t. rw (puts.roots t) (b.counts t);
       counted = omega arith;
