@@ -41,7 +41,7 @@ apart : (k x : ℕ) → x < k → eq_by_cmp nat_cmp k x ≡ false
 apart k x h = ap is_eq (sym (nat_cmp_is k x Greater h))
 
 -- the trees of entries
-abbrev trees : List (ℕ × Tree) → List Tree
+abbrev pub trees : List (ℕ × Tree) → List Tree
 trees es = map (λ e. e.1) es
 
 -- a key that is found lies above each key below all
@@ -76,7 +76,7 @@ some_same : (v u : Tree) → Some v ≡ Some u → v ≡ u
 some_same v u q = cc q
 
 -- and what is found is one of them
-listed : (es : List (ℕ × Tree)) (k : ℕ) (u : Tree) → find nat_cmp k es ≡ Some u → Contains (trees es) u
+pub listed : (es : List (ℕ × Tree)) (k : ℕ) (u : Tree) → find nat_cmp k es ≡ Some u → Contains (trees es) u
 listed [] k u q = absurd (cc q)
 listed (e ∷ es) k u q = by (eq_by_cmp nat_cmp k e.0) refl (listed es k u)
   where
@@ -89,7 +89,7 @@ each : (P : Tree → Type 0) (ts : List Tree) → ((u : Tree) → Contains ts u 
 each P [] h = tt
 each P (t ∷ ts) h = (h t (cons_head t ts), each P ts (λ u c. h u (cons_tail t ts u c)))
 
-different : (t u : Tree) → (t ≡ u → ⊥) → tree_eq t u ≡ false
+pub different : (t u : Tree) → (t ≡ u → ⊥) → tree_eq t u ≡ false
 different t u n = by (tree_eq t u) refl
   where
     by : (b : Bool) → tree_eq t u ≡ b → tree_eq t u ≡ false
@@ -113,7 +113,7 @@ distinct (e ∷ es) s one =
     omega (arith, same, less))) in
     (each (λ u. tree_eq e.1 u ≡ false) (trees es) differs, distinct es (rising e es s).1 (λ i j u p q. one i j u (later e es below i u p) (later e es below j u q)))
 
-tree_equivalence : IsEquivalence tree_eq
+pub tree_equivalence : IsEquivalence tree_eq
 tree_equivalence = decided tree_eq tree_eq-Decides
 
 -- a one-to-one map whose values are the elements of a list has as many keys as the list has different elements

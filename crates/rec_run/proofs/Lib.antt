@@ -7,19 +7,12 @@ mod SpecLines
 mod WholeRuns
 mod GivenDue
 mod GivenLemmas
-mod NoteLemmas
+mod GivenLists
+mod EvaluatedLemmas
 mod DueOfText
 mod OutputRows
 mod RefusalRows
-pub mod Walks
-pub mod Moves
-pub mod Congruence
-pub mod Facts
-pub mod ValueLemmas
-pub mod MatchLemmas
-pub mod EvaluationLemmas
-pub mod RuleLemmas
-pub mod PrinterLemmas
+pub mod FaultLemmas
 mod TermRows
 mod DueRows
 mod GivenRows

@@ -9,9 +9,6 @@ use Rattle.rx_text.specs.Written.{AppendsFront, IsFront}
 use Rattle.rec_run.specs.Bytes.{newlines}
 use Rattle.rec_run.specs.GivenTerms.{ReportsAfter, StopsAfter}
 use Rattle.rec_run.specs.Run.{Stops, Reports}
-use Rattle.rec_run.specs.Reading.{within, raised}
-use Rattle.rec_run.specs.declared.printer.WriteFault.{WriteFault}
-use Rattle.rec_run.specs.declared.printer.WriteFault.TheVariants.{Memory, Write}
 use Rattle.rec_run.specs.declared.ending.RunFault.{RunFault}
 use Rattle.rec_run.specs.declared.ending.RunFault.TheVariants as fault
 use Rattle.rec_run.proofs.Told.{appends_both, front_before}
@@ -60,7 +57,7 @@ lines_of-front f items i d h = (
 )
 
 -- a front of a line after the lines before it is a front of all lines
-front_in_lines : {X : Type 0} (f : X → List ℕ) (items : List X) (i : ℕ) (d : X) (front rest : List ℕ) → i < length items → f (get_or items i d) ++ codes "\n" ≡ front ++ rest → IsFront (lines_of f (take i items) ++ front) (lines_of f items)
+pub front_in_lines : {X : Type 0} (f : X → List ℕ) (items : List X) (i : ℕ) (d : X) (front rest : List ℕ) → i < length items → f (get_or items i d) ++ codes "\n" ≡ front ++ rest → IsFront (lines_of f (take i items) ++ front) (lines_of f items)
 front_in_lines f items i d front rest h e =
     let all = lines_of-front f items i d h in
     let before = lines_of f (take i items) in (
@@ -69,57 +66,17 @@ front_in_lines f items i d front rest h e =
     )
 
 -- a front of a text is a front of its line
-front_in_line : (text front rest : List ℕ) → text ≡ front ++ rest → text ++ codes "\n" ≡ front ++ (rest ++ codes "\n")
+pub front_in_line : (text front rest : List ℕ) → text ≡ front ++ rest → text ++ codes "\n" ≡ front ++ (rest ++ codes "\n")
 front_in_line text front rest e = ap (λ z. z ++ codes "\n") e ∙ append_assoc front rest (codes "\n")
 
 -- before the line end of an item there are as many line ends as its number
-ends_before : {X : Type 0} (f : X → List ℕ) (items : List X) (i : ℕ) (d : X) (front rest : List ℕ) → NoEnds f items → i < length items → f (get_or items i d) ≡ front ++ rest → i ≡ newlines (lines_of f (take i items) ++ front)
+pub ends_before : {X : Type 0} (f : X → List ℕ) (items : List X) (i : ℕ) (d : X) (front rest : List ℕ) → NoEnds f items → i < length items → f (get_or items i d) ≡ front ++ rest → i ≡ newlines (lines_of f (take i items) ++ front)
 ends_before f items i d front rest no_ends h e =
     let both = newlines-append (lines_of f (take i items)) front in
     let before = newlines-lines_of f (take i items) (All-take (λ x. newlines (f x) ≡ 0) i items no_ends) in
     let long : length (take i items) ≡ i = length-take-le i items (omega (arith, h)) in
     let none = newlines-front front rest (ap newlines (sym e) ∙ no_ends i d h) in
     omega (arith, both, before, long, none)
-
-front_of : {X : Type 0} (w : WriteFault) (f : X → List ℕ) (items : List X) (i : ℕ) (d : X) (front rest : List ℕ) → i < length items → within w (f (get_or items i d)) ≡ front ++ rest → IsFront (lines_of f (take i items) ++ front) (lines_of f items)
-front_of Memory f items i d front rest h e = front_in_lines f items i d front (rest ++ codes "\n") h (front_in_line (f (get_or items i d)) front rest e)
-front_of Write f items i d front rest h e = front_in_lines f items i d front rest h e
-
-report_of : {X : Type 0} (w : WriteFault) (f : X → List ℕ) (items : List X) (i : ℕ) (d : X) (front rest : List ℕ) → NoEnds f items → i < length items → within w (f (get_or items i d)) ≡ front ++ rest → Reports (raised w i) (lines_of f (take i items) ++ front)
-report_of Memory f items i d front rest no_ends h e = ends_before f items i d front rest no_ends h e
-report_of Write f items i d front rest no_ends h e = tt
-
-report_after : {X : Type 0} (w : WriteFault) (first : ℕ) (f : X → List ℕ) (items : List X) (i : ℕ) (d : X) (front rest : List ℕ) → NoEnds f items → i < length items → within w (f (get_or items i d)) ≡ front ++ rest → ReportsAfter first (raised w (first + i)) (lines_of f (take i items) ++ front)
-report_after Memory first f items i d front rest no_ends h e = ap (λ n. first + n) (ends_before f items i d front rest no_ends h e)
-report_after Write first f items i d front rest no_ends h e = tt
-
--- a line stopped: so did the lines
-pub stops_lines :
-    {X : Type 0} (w : WriteFault) (f : X → List ℕ) (items : List X) (i : ℕ) (d : X) (old between new : Option (List ℕ)) → NoEnds f items → i < length items
-    → Appends old between (lines_of f (take i items))
-    → AppendsFront (within w (f (get_or items i d))) between new
-    → Stops (raised w i) (lines_of f items) old new
-stops_lines w f items i d old between new no_ends h so_far (front, appended, (rest, e)) =
-    record {
-      written = lines_of f (take i items) ++ front;
-      appended = appends_both old between new (lines_of f (take i items)) front so_far appended;
-      front = front_of w f items i d front rest h e;
-      reported = report_of w f items i d front rest no_ends h e;
-    }
-
--- so did the lines behind others
-pub stops_after :
-    {X : Type 0} (w : WriteFault) (first : ℕ) (f : X → List ℕ) (items : List X) (i : ℕ) (d : X) (old between new : Option (List ℕ)) → NoEnds f items → i < length items
-    → Appends old between (lines_of f (take i items))
-    → AppendsFront (within w (f (get_or items i d))) between new
-    → StopsAfter first (raised w (first + i)) (lines_of f items) old new
-stops_after w first f items i d old between new no_ends h so_far (front, appended, (rest, e)) =
-    record {
-      written = lines_of f (take i items) ++ front;
-      appended = appends_both old between new (lines_of f (take i items)) front so_far appended;
-      front = front_of w f items i d front rest h e;
-      reported = report_after w first f items i d front rest no_ends h e;
-    }
 
 reports_all : (stop : RunFault) (first : ℕ) (before written : List ℕ) → newlines before ≡ first → ReportsAfter first stop written → Reports stop (before ++ written)
 reports_all (fault.Memory lines) first before written h k = let e = newlines-append before written in omega (arith, e, h, k)
@@ -150,8 +107,3 @@ stops_before stop text more old new s =
 -- a front of a text that meets only the writer's refusal
 pub stops_write : (text : List ℕ) (old new : Option (List ℕ)) → AppendsFront text old new → Stops fault.Write text old new
 stops_write text old new (front, appended, is_front) = record { written = front; appended = appended; front = is_front; reported = tt }
-
--- a front of a line's text is due before any fault of the line
-pub front_within : (w : WriteFault) (text : List ℕ) (old new : Option (List ℕ)) → AppendsFront text old new → AppendsFront (within w text) old new
-front_within Memory text old new h = h
-front_within Write text old new h = front_before old new text (codes "\n") h

@@ -1,5 +1,5 @@
 -- From the verdicts on a pattern and on a second text to what is due.
-use Rattle.std.proofs.Common.{◌≡◌, ℕ, List, Option, Some, None, IfSome, IfOk, Result, Ok, Err, refl, sym, ap, subst, ◌∙◌}
+use Rattle.std.proofs.Common.{◌≡◌, ℕ, List, [], Option, Some, None, IfSome, IfOk, Result, Ok, Err, refl, sym, ap, subst, ◌∙◌}
 use Rattle.std.specs.Io.KnownBytes.{Appends}
 use Rattle.rx_term.specs.Tree.{Tree}
 use Rattle.rx_term.specs.Store.{Store, tree_at}
@@ -7,12 +7,13 @@ use Rattle.rx_term.specs.declared.Term.{Term}
 use Rattle.rx_text.specs.Verdict.{Verdict, Spelt, IsVerdict}
 use Rattle.rx_text.proofs.Verdicts.{one_verdict}
 use Rattle.rx_pattern.specs.Pattern.{unfit}
-use Rattle.rec_run.specs.Output.{Due}
+use Rattle.rec_run.specs.Output.{Due, done}
 use Rattle.rec_run.specs.Run.{Stops}
 use Rattle.rec_run.specs.TermRuns.{Ends, IsPlaced, Breaks, IsReadingOf, due_of}
 use Rattle.rec_run.specs.PatternRuns.{IsDueOfBoth, OneDueOfBoth, SpellsPattern, due_of_pattern, unless_unfit, due_of_args}
 use Rattle.rec_run.specs.PatternAnswers.{IsPatternOf, IsPatternRead, refusal_due, text_refusal}
 use Rattle.rec_run.specs.declared.ending.Finish.{Finish}
+use Rattle.rec_run.specs.declared.ending.Finish.TheVariants as finish
 use Rattle.rec_run.specs.declared.ending.Place.{Place}
 use Rattle.rec_run.specs.declared.ending.RunFault.{RunFault}
 use Rattle.rec_run.specs.declared.ending.Source.TheVariants as source
@@ -112,3 +113,11 @@ unspelt_args p w (term.Outside at) v e = sym (ap (due_of_args p) e)
 pub told_due : (told : Option (List ℕ)) (a : Due) (after : Verdict → Due) (v : Verdict) → IfSome told (λ bytes. IsVerdict bytes v) → a ≡ after v → IfSome told (λ bytes. (w : Verdict) × (IsVerdict bytes w × (a ≡ after w)))
 told_due None a after v h e = tt
 told_due (Some bytes) a after v h e = (v, (h, e))
+
+-- a text that is refused as a pattern spells none
+pub no_pattern : (text : List ℕ) (r : Refusal) → IsPatternRead text (reading.Refused r) → (p : Tree) → SpellsPattern text p → ⊥
+no_pattern text r (v, (is, due)) p spelt =
+    let none : unless_unfit (unfit p) (done []) ≡ refusal_due r = subst (λ z. due_of_pattern (λ q. done []) z ≡ refusal_due r) (same_verdict text v (Spelt p) is spelt.spelt) (due (λ q. done [])) in
+    let fit : unless_unfit None (done []) ≡ refusal_due r = subst (λ z. unless_unfit z (done []) ≡ refusal_due r) spelt.fit none in
+    let ends : finish.Done ≡ finish.Refused = ap (λ (d : Due). d.finish) fit in
+    cc

@@ -1,23 +1,16 @@
 -- The lines of a specification's terms and of given ones.
-use Rattle.std.proofs.Common.{suc, Some, slice_get, get_or, length, ap₂, append_assoc, ◌≡◌, ℕ, ◌-◌, ◌<◌, ◌^◌, Bool, true, false, List, [], ◌∷◌, ◌++◌, refl, sym, ap, ◌∙◌, append-nil, arith}
+use Rattle.std.proofs.Common.{get_or, length, ap₂, append_assoc, ◌≡◌, ℕ, ◌-◌, ◌<◌, ◌^◌, Bool, true, false, List, [], ◌∷◌, ◌++◌, refl, sym, ap, ◌∙◌, append-nil, arith}
 use Rattle.std.specs.Prelude.{flat_map, map, codes, decimal}
 use Rattle.std.specs.Fmt.{signed_decimal}
 use Rattle.rx_term.specs.Tree.{Tree, Trees, Int, Appl, Items, Hole, annotated, annotations, none}
 use Rattle.rx_text.specs.Canon.{canon, canon_all, enclosed, name_text, no_arguments}
-use Rattle.std.proofs.lemmas.Option.{slice_get-get_or}
-use Rattle.rec_syntax.specs.Syntax.{Term, Apply, Spec, nameless}
-use Rattle.rec_syntax.specs.Syntax as syntax
-use Rattle.rec_sorts.specs.Numbering.{Pairwise}
+use Rattle.rec_syntax.specs.Syntax.{Term, Spec}
 use Rattle.rec_sorts.specs.Evaluation.{Outcome, Done, Over, Eval, term_of}
 use Rattle.rec_run.specs.Bytes.{newlines}
-use Rattle.rec_run.specs.GivenTerms.{given_lines, given_text, noted_text, notes_text}
+use Rattle.rec_run.specs.GivenTerms.{given_lines, given_text, notes_text}
 use Rattle.rec_run.specs.Output.{Task, lines, line, steps_text}
-use Rattle.rec_run.specs.Reading.{shown, line_text, term_at, answer_text}
-use Rattle.rec_run.specs.Evaluated.{answer, IsAnswer}
-use Rattle.rec_run.specs.Values.{tree_of_value}
-use Rattle.rec_run.specs.declared.evaluator.Outcome.{Outcome as Answer}
-use Rattle.rec_run.specs.declared.evaluator.Outcome.TheVariants as answers
-use Rattle.rec_run.proofs.ValueTrees.{value_is_applied, annotated-none, applied_unannotated}
+use Rattle.rec_run.specs.Reading.{shown, line_text}
+use Rattle.rec_run.proofs.ValueTrees.{value_is_applied, applied_unannotated}
 use Rattle.rec_run.proofs.LineEnds.{no_ends, canon-newlines, decimal-newlines}
 use Rattle.rec_run.proofs.LineFronts.{lines_of, newlines-lines_of, NoEnds}
 
@@ -87,31 +80,3 @@ newlines-own y counted n h = ap newlines (lines-own y counted n) ∙ newlines-li
 -- nor has that of a given term whose annotations have none
 pub given_text-newlines : (y : Spec) (counted : Bool) (n : ℕ) → n < 2 ^ 64 → (u : Tree) → newlines (notes_text (annotations u)) ≡ 0 → newlines (given_text y counted n u) ≡ 0
 given_text-newlines y counted n h u k = shown-newlines y (annotations u) counted n (term_of u) (Eval y n [] (term_of u)) k h refl
-
--- what is shown of an answer of the evaluator is the text of its term's line
-pub answer_text-line : (y : Spec) (counted : Bool) (n i : ℕ) (o : Answer) → i < length y.terms
-    → ((t : Term) → slice_get y.terms i ≡ Some t → answer y n o ≡ Eval y n [] t) → IsAnswer y n o
-    → answer_text y counted n o ≡ line_text y counted n (term_at y i)
-answer_text-line y counted n i (answers.Value v steps) low h (declared, few) =
-    let e = h (term_at y i) (slice_get-get_or y.terms i (Apply nameless syntax.none) low) in
-    let a = value_is_applied y n (term_at y i) (tree_of_value y v) (n - steps) (sym e) in
-    let back : n - (n - steps) ≡ steps = omega (arith, few) in
-    ap₂ (λ u k. canon u ++ steps_text counted k) (sym (annotated-none (tree_of_value y v) a)) (sym back) ∙ ap (shown none counted n) e
-answer_text-line y counted n i answers.Limit low h few =
-    ap (shown none counted n) (h (term_at y i) (slice_get-get_or y.terms i (Apply nameless syntax.none) low))
-
--- what is shown of an answer with a given term's annotations is the text of its line
-pub noted_text-line : (y : Spec) (counted : Bool) (n : ℕ) (u : Tree) (o : Answer) → answer y n o ≡ Eval y n [] (term_of u) → IsAnswer y n o
-    → noted_text y (annotations u) counted n o ≡ given_text y counted n u
-noted_text-line y counted n u (answers.Value v steps) e (declared, few) =
-    let a = value_is_applied y n (term_of u) (tree_of_value y v) (n - steps) (sym e) in
-    let back : n - (n - steps) ≡ steps = omega (arith, few) in
-    ap₂ (λ t k. t ++ steps_text counted k) (sym (canon_annotated (tree_of_value y v) (annotations u) (applied_unannotated (tree_of_value y v) a))) (sym back) ∙ ap (shown (annotations u) counted n) e
-noted_text-line y counted n u answers.Limit e few = ap (shown (annotations u) counted n) e
-
--- as many letters as terms
-pub length-Pairwise : {X Y : Type 0} (P : X → Y → Type 0) (xs : List X) (ys : List Y) → Pairwise P xs ys → length xs ≡ length ys
-length-Pairwise P [] [] h = refl
-length-Pairwise P (x ∷ xs) (y ∷ ys) h = ap suc (length-Pairwise P xs ys h.1)
-length-Pairwise P [] (y ∷ ys) h = absurd h
-length-Pairwise P (x ∷ xs) [] h = absurd h

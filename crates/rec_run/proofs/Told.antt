@@ -1,6 +1,6 @@
 -- What reads and writes one after another do to known bytes.
 use Rattle.std.proofs.Common.{IfErr, IsErrAnd, subst, refl, ◌≡◌, ℕ, ◌+◌, ◌-◌, ◌≤◌, List, [], ◌++◌, Option, Some, None, Result, Ok, Err, OnErr, OnOk, IfSome, length, take, drop, sym, ap, ◌∙◌, append_assoc, append-nil, take-add, take_all, take_at, take-append-drop}
-use Rattle.std.proofs.lemmas.List.{take_rest}
+use Rattle.std.proofs.lemmas.List.{append_cancel_left, take_rest}
 use Rattle.std.specs.Io.KnownBytes.{Appends, Consumes, Keeps, IsAtEnd}
 use Rattle.rx_text.specs.Written.{AppendsFront}
 
@@ -60,6 +60,13 @@ pub reads_front : (old new : Option (List ℕ)) (text : List ℕ) (n : ℕ) → 
 reads_front None _ text n h l = tt
 reads_front (Some a) None text n h l = absurd h
 reads_front (Some a) (Some b) text n h l = sym (take_at text b n l) ∙ ap (take n) (sym h)
+
+-- what was read is the front of a length, and the rest is left
+pub reads_out : (old new : Option (List ℕ)) (text : List ℕ) (n : ℕ) → Consumes old new text → IfSome old (λ bytes. text ≡ take n bytes) → IfSome old (λ bytes. new ≡ Some (drop n bytes))
+reads_out None _ text n h k = tt
+reads_out (Some a) None text n h k = absurd h
+reads_out (Some a) (Some b) text n h k =
+    ap Some (append_cancel_left (take n a) b (drop n a) (ap (λ z. z ++ b) (sym k) ∙ sym h ∙ sym (take-append-drop n a)))
 
 -- what holds anyway holds at an error
 pub on_err : {X E : Type 0} {P : Type 0} (r : Result X E) → P → OnErr r P

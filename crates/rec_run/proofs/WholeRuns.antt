@@ -1,23 +1,24 @@
 -- From what both texts came to to what is due.
-use Rattle.std.proofs.Common.{◌≡◌, ℕ, ◌+◌, ◌≤◌, Bool, List, [], Option, Some, None, IfSome, length, take, take_all, refl, sym, subst, ◌∙◌, arith}
+use Rattle.std.proofs.Common.{ap, ◌≡◌, ℕ, ◌+◌, ◌≤◌, Bool, List, [], Option, Some, None, IfSome, length, take, take_all, refl, sym, subst, ◌∙◌, arith}
 use Rattle.std.proofs.lemmas.List.{length-take}
 use Rattle.std.specs.Io.KnownBytes.{Appends, Keeps}
 use Rattle.rec_sorts.specs.SpecRules as verdict
 use Rattle.rec_sorts.specs.SpecRules.{Verdict, SpecVerdict}
-use Rattle.rec_run.specs.Output.{Due, IsDueAfter, due_of_spec}
-use Rattle.rec_run.specs.GivenTerms.{IsReadFrom, finish_of_run, place_of_run, run_due}
-use Rattle.rec_run.specs.Run.{Gives, HasPlace, Leaves, Reports, Stops, Texts}
-use Rattle.rec_run.specs.Reading.{due_of, refusal_line, place_of, finish_of}
+use Rattle.rx_shared.specs.State.{store_of}
+use Rattle.rec_run.specs.Output.{Due, IsDueAfter, done, due_of_spec, lines}
+use Rattle.rec_run.specs.GivenTerms.{IsReadFrom, finish_of_run, given_by, place_of_run, run_due}
+use Rattle.rec_run.specs.Run.{Gives, HasPlace, Leaves, Reports, Stops, Texts, told as both}
+use Rattle.rec_run.specs.Reading.{place_of_refusal, refusal_line, verdict_of_refusal}
 use Rattle.rec_run.specs.declared.ending.Finish.{Finish}
+use Rattle.rec_run.specs.declared.ending.Finish.TheVariants as finish
 use Rattle.rec_run.specs.declared.ending.Place.{Place}
 use Rattle.rec_run.specs.declared.ending.RunFault.{RunFault}
 use Rattle.rec_run.specs.declared.text.TheConstants.{LIMIT}
 use Rattle.rec_run.specs.declared.texts.RunReading.{RunReading}
-use Rattle.rec_run.specs.declared.texts.RunReading.TheVariants.{Alone, Both, Refused as RefusedTerms}
+use Rattle.rec_run.specs.declared.texts.Job.{Job}
+use Rattle.rec_run.specs.declared.texts.RunReading.TheVariants.{Spec, Terms, Good}
 use Rattle.rec_run.specs.declared.verdict.Refusal.{Refusal}
 use Rattle.rec_run.specs.declared.verdict.Refusal.TheVariants.{Long, Grammar, Rule}
-use Rattle.rec_run.specs.declared.verdict.Reading.{Reading}
-use Rattle.rec_run.specs.declared.verdict.Reading.TheVariants.{Refused, Good}
 use Rattle.rec_run.proofs.OneDue.{one_due}
 use Rattle.rec_run.proofs.Told.{appends_none}
 
@@ -38,22 +39,26 @@ verdict_read None text v e h = tt
 verdict_read (Some bytes) text v e h = verdict_front bytes v (subst (λ t. SpecVerdict t v) e h)
 
 -- the text that is due for a refusal is its line
-pub due_of-refused : (counted : Bool) (n : ℕ) (r : Refusal) → (due_of counted n (Refused r)).text ≡ refusal_line r
-due_of-refused counted n Long = refl
-due_of-refused counted n (Grammar at) = refl
-due_of-refused counted n (Rule number at) = refl
+pub refusal-due : (counted : Bool) (n : ℕ) (r : Refusal) → (due_of_spec counted n (verdict_of_refusal r)).text ≡ refusal_line r
+refusal-due counted n Long = refl
+refusal-due counted n (Grammar at) = refl
+refusal-due counted n (Rule number at) = refl
 
-finish-due_of : (counted : Bool) (n : ℕ) (r : Reading) → (due_of counted n r).finish ≡ finish_of r
-finish-due_of counted n (Refused Long) = refl
-finish-due_of counted n (Refused (Grammar at)) = refl
-finish-due_of counted n (Refused (Rule number at)) = refl
-finish-due_of counted n (Good c) = refl
+finish-refusal : (counted : Bool) (n : ℕ) (r : Refusal) → (due_of_spec counted n (verdict_of_refusal r)).finish ≡ finish.Refused
+finish-refusal counted n Long = refl
+finish-refusal counted n (Grammar at) = refl
+finish-refusal counted n (Rule number at) = refl
 
-place-due_of : (counted : Bool) (n : ℕ) (r : Reading) → (due_of counted n r).place ≡ place_of r
-place-due_of counted n (Refused Long) = refl
-place-due_of counted n (Refused (Grammar at)) = refl
-place-due_of counted n (Refused (Rule number at)) = refl
-place-due_of counted n (Good c) = refl
+place-refusal : (counted : Bool) (n : ℕ) (r : Refusal) → (due_of_spec counted n (verdict_of_refusal r)).place ≡ place_of_refusal r
+place-refusal counted n Long = refl
+place-refusal counted n (Grammar at) = refl
+place-refusal counted n (Rule number at) = refl
+
+-- a refused specification is all that counts
+pub after_refusal : (r : Refusal) (terms : Option (List ℕ)) (counted : Bool) (n : ℕ) → IsDueAfter (verdict_of_refusal r) terms counted n (due_of_spec counted n (verdict_of_refusal r))
+after_refusal Long terms counted n = refl
+after_refusal (Grammar at) terms counted n = refl
+after_refusal (Rule number at) terms counted n = refl
 
 pub after_spec : (counted : Bool) (n : ℕ) (v : Verdict) → IsDueAfter v None counted n (due_of_spec counted n v)
 after_spec counted n verdict.Long = refl
@@ -61,16 +66,26 @@ after_spec counted n (verdict.Grammar at) = refl
 after_spec counted n (verdict.Breaks f) = refl
 after_spec counted n (verdict.Good y) = refl
 
--- how a run ends, and the place of a refusal, by what both texts came to
+-- how a run ends, and the place of a refusal, by what the texts came to
 finish-run_due : (counted : Bool) (n : ℕ) (r : RunReading) → (run_due counted n r).finish ≡ finish_of_run r
-finish-run_due counted n (Alone r) = finish-due_of counted n r
-finish-run_due counted n (RefusedTerms r) = refl
-finish-run_due counted n (Both checked given) = refl
+finish-run_due counted n (Spec r) = finish-refusal counted n r
+finish-run_due counted n (Terms r) = refl
+finish-run_due counted n (Good job) = refl
 
 place-run_due : (counted : Bool) (n : ℕ) (r : RunReading) → (run_due counted n r).place ≡ place_of_run r
-place-run_due counted n (Alone r) = place-due_of counted n r
-place-run_due counted n (RefusedTerms r) = refl
-place-run_due counted n (Both checked given) = refl
+place-run_due counted n (Spec r) = place-refusal counted n r
+place-run_due counted n (Terms r) = refl
+place-run_due counted n (Good job) = refl
+
+-- a specification without given terms
+pub read_refused : (told : Option (List ℕ)) (r : Refusal) → IfSome told (λ bytes. SpecVerdict bytes (verdict_of_refusal r)) → IfSome (both told (Some None)) (λ texts. IsReadFrom texts (Spec r))
+read_refused None r h = tt
+read_refused (Some bytes) r h = λ counted n. (verdict_of_refusal r, h, after_refusal r None counted n)
+
+pub read_good : (told : Option (List ℕ)) (job : Job) → job.list ≡ None → IfSome told (λ bytes. SpecVerdict bytes (verdict.Good job.checked.spec)) → IfSome (both told (Some None)) (λ texts. IsReadFrom texts (Good job))
+read_good None job e h = tt
+read_good (Some bytes) job e h = λ counted n.
+    (verdict.Good job.checked.spec, h, ap (λ list. done (lines job.checked.spec (given_by (store_of job.bank) list) counted n)) e)
 
 pub gives : (told : Option Texts) (counted : Bool) (n : ℕ) (r : RunReading) (finish : Finish) (old new : Option (List ℕ)) → IfSome told (λ texts. IsReadFrom texts r) → finish ≡ finish_of_run r → Appends old new (run_due counted n r).text
     → IfSome told (λ texts. Gives texts.spec texts.terms counted n finish old new)

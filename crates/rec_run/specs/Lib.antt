@@ -1,14 +1,10 @@
-pub mod Asking
 pub mod Bytes
-pub mod Evaluated
+pub mod EvaluatedLines
 pub mod GivenTerms
 pub mod Laws
-pub mod Matched
 pub mod Output
 pub mod PatternAnswers
 pub mod PatternRuns
 pub mod Reading
 pub mod Run
 pub mod TermRuns
-pub mod Printed
-pub mod Values

@@ -9,18 +9,11 @@ use Rattle.rec_sorts.specs.SpecRules.{Verdict}
 use Rattle.rec_sorts.specs.Evaluation as evaluation
 use Rattle.rec_sorts.specs.Evaluation.{Eval}
 use Rattle.rec_run.specs.Output.{Due, due_of_spec, steps_text}
-use Rattle.rec_run.specs.Values.{tree_of_value}
-use Rattle.rec_run.specs.declared.ending.Finish.{Finish}
-use Rattle.rec_run.specs.declared.ending.Finish.TheVariants as finish
 use Rattle.rec_run.specs.declared.ending.Place.{Place}
 use Rattle.rec_run.specs.declared.ending.RunFault.{RunFault}
 use Rattle.rec_run.specs.declared.ending.RunFault.TheVariants as fault
 use Rattle.rec_run.specs.declared.text.ReadFault.{ReadFault}
 use Rattle.rec_run.specs.declared.text.ReadFault.TheVariants as reading
-use Rattle.rec_run.specs.declared.printer.WriteFault.{WriteFault}
-use Rattle.rec_run.specs.declared.printer.WriteFault.TheVariants as writing
-use Rattle.rec_run.specs.declared.evaluator.Outcome.{Outcome}
-use Rattle.rec_run.specs.declared.evaluator.Outcome.TheVariants as outcome
 use Rattle.rec_run.specs.declared.verdict.Refusal.{Refusal}
 use Rattle.rec_run.specs.declared.verdict.Refusal.TheVariants.{Long, Grammar, Rule}
 use Rattle.rec_run.specs.declared.verdict.Reading.{Reading}
@@ -37,6 +30,11 @@ abbrev pub verdict_of : Reading → Verdict
 verdict_of (Refused refusal) = verdict_of_refusal refusal
 verdict_of (Good checked) = verdict.Good checked.spec
 
+-- the text is a good specification's
+abbrev pub IsGood : Reading → Type 0
+IsGood (Refused refusal) = ⊥
+IsGood (Good checked) = Unit {0}
+
 -- a refusal's name
 abbrev pub name_of_refusal : Refusal → List ℕ
 name_of_refusal Long = codes "L1"
@@ -50,20 +48,6 @@ refusal_line refusal = codes "!spec " ++ name_of_refusal refusal ++ codes "\n"
 -- the place of a refusal
 abbrev pub place_of_refusal : Refusal → Option Place
 place_of_refusal refusal = (due_of_spec Bool.false 0 (verdict_of_refusal refusal)).place
-
--- the place of what a text came to
-abbrev pub place_of : Reading → Option Place
-place_of (Refused refusal) = place_of_refusal refusal
-place_of (Good checked) = None
-
--- how a run ends by what its text came to
-abbrev pub finish_of : Reading → Finish
-finish_of (Refused refusal) = finish.Refused
-finish_of (Good checked) = finish.Done
-
--- what is due for what a text came to
-abbrev pub due_of : Bool → ℕ → Reading → Due
-due_of counted n reading = due_of_spec counted n (verdict_of reading)
 
 -- what is shown of an evaluation within n steps, with annotations: the line of its term without the line end
 abbrev pub shown : Trees → Bool → ℕ → evaluation.Outcome Tree → List ℕ
@@ -81,21 +65,6 @@ term_at y i = get_or y.terms i (Apply nameless syntax.none)
 -- the text of its line
 abbrev pub text_at : Spec → Bool → ℕ → ℕ → List ℕ
 text_at y counted n i = line_text y counted n (term_at y i)
-
--- what is shown of an answer of the evaluator
-abbrev pub answer_text : Spec → Bool → ℕ → Outcome → List ℕ
-answer_text y counted n (outcome.Value v steps) = canon (tree_of_value y v) ++ steps_text counted steps
-answer_text y counted n outcome.Limit = codes "!limit " ++ decimal n
-
--- of a line with this text, what is due before such a fault: the line end meets the writer's refusal alone
-abbrev pub within : WriteFault → List ℕ → List ℕ
-within writing.Memory text = text
-within writing.Write text = text ++ codes "\n"
-
--- the run's fault where a line's came after so many lines
-abbrev pub raised : WriteFault → ℕ → RunFault
-raised writing.Memory lines = fault.Memory lines
-raised writing.Write lines = fault.Write
 
 -- the run's fault where no text was read
 abbrev pub unread : ReadFault → RunFault

@@ -2,11 +2,15 @@
 --     Gives spec terms counted n finish old new    it ended as is due, and wrote what is due
 --     HasPlace spec terms counted n place          the place is that of what is due
 --     Leaves spec terms counted n fault old new    it stopped at a fault, with a front of what is due written
+--     RoomFits cap fault                           want of cells comes with a full bank
 --     told spec terms                              both texts, where their readers tell them
-use Rattle.std.specs.Prelude.{◌≡◌, ◌⊎◌, ℕ, List, [], Bool, Option, Some, None, option_map}
+--     IsReadOut old new                            an input was read to its end, or to one byte behind the most that a text may have
+use Rattle.std.specs.Prelude.{◌≡◌, ◌⊎◌, ℕ, List, [], Bool, Option, Some, None, IfSome, drop, option_map}
 use Rattle.std.proofs.Common.{inl, inr}
 use Rattle.std.specs.Borrow.{MutBor}
 use Rattle.std.specs.Io.KnownBytes.{Appends}
+use Rattle.rx_term.specs.Steps.{IsSound}
+use Rattle.rx_term.specs.Store.{Store, cells}
 use Rattle.rx_text.specs.Written.{IsFront}
 use Rattle.rec_run.specs.Bytes.{newlines}
 use Rattle.rec_run.specs.Output.{Due, IsDue}
@@ -62,8 +66,49 @@ told None terms = None
 told (Some spec) None = None
 told (Some spec) (Some terms) = Some (record { spec = spec; terms = terms })
 
--- what an optional reference leads to in the end, where there is one
-abbrev pub Left : {X F Z T : Type 0} → (F → T) → X ⊎ (F ⊎ Z) → Option T → Type 0
-Left now (inl none) value = Unit {0}
-Left now (inr (inl some)) value = value ≡ Some (now some)
-Left now (inr (inr never)) value = Unit {0}
+-- what an optional reference leads to in the end is so related to what it led to at first, where there is one
+abbrev pub Leads : {X F Z T : Type 0} → (T → T → Type 0) → (F → T) → X ⊎ (F ⊎ Z) → Option T → Type 0
+Leads Related now (inl none) first = Unit {0}
+Leads Related now (inr (inl some)) first = IfSome first (λ old. Related old (now some))
+Leads Related now (inr (inr never)) first = Unit {0}
+
+-- it leads to the same
+abbrev pub Stays : {X F Z T : Type 0} → (F → T) → X ⊎ (F ⊎ Z) → Option T → Type 0
+Stays now last first = Leads (λ old new. new ≡ old) now last first
+
+-- an input was read to its end, or to one byte behind the most that a text may have, and no further
+abbrev pub IsReadOut : Option (List ℕ) → Option (List ℕ) → Type 0
+IsReadOut old new = IfSome old (λ bytes. new ≡ Some (drop 16777217 bytes))
+
+-- a bank that has as many cells as it may have, which is this number
+pub record HasFullBank (cap : ℕ) : Type 0 where
+  pub bank : Store
+  pub sound : IsSound bank
+  pub limit : bank.cap ≡ cap
+  pub full : cells bank ≡ cap
+
+-- want of cells comes with a full bank of this limit
+abbrev pub RoomFits : ℕ → RunFault → Type 0
+RoomFits cap (Room lines) = HasFullBank cap
+RoomFits cap f = Unit {0}
+
+-- a fault before anything is written, where no reader is asked: memory or cells ran out
+abbrev pub RanOut : ℕ → RunFault → Type 0
+RanOut cap (Memory lines) = lines ≡ 0
+RanOut cap (Room lines) = (lines ≡ 0) × HasFullBank cap
+RanOut cap Read = ⊥
+RanOut cap Write = ⊥
+
+-- a fault before anything is written
+abbrev pub StopsUnwritten : ℕ → RunFault → Type 0
+StopsUnwritten cap (Memory lines) = lines ≡ 0
+StopsUnwritten cap (Room lines) = (lines ≡ 0) × HasFullBank cap
+StopsUnwritten cap Read = Unit {0}
+StopsUnwritten cap Write = ⊥
+
+-- a fault while lines are written of trees that are there: memory ran out, or the writer refused
+abbrev pub StopsWriting : RunFault → Type 0
+StopsWriting (Memory lines) = Unit {0}
+StopsWriting (Room lines) = ⊥
+StopsWriting Read = ⊥
+StopsWriting Write = Unit {0}

@@ -8,7 +8,7 @@ use Rattle.std.specs.Prelude.{ℕ, ◌≡◌, List, ◌++◌, Option, Some, None
 use Rattle.std.specs.Io.KnownBytes.{Appends}
 use Rattle.rx_term.specs.Tree.{Tree}
 use Rattle.rx_term.specs.Parts.{part_count}
-use Rattle.rx_term.specs.Store.{Store, tree_at, cells}
+use Rattle.rx_term.specs.Store.{Store, tree_at}
 use Rattle.rx_text.specs.Canon.{canon}
 use Rattle.rx_text.specs.Verdict.{Verdict, TooLong, Outside, Spelt, IsVerdict}
 use Rattle.rec_run.specs.Output.{Due, done, refused}
@@ -19,7 +19,6 @@ use Rattle.rec_run.specs.declared.ending.Source.TheVariants as source
 use Rattle.rec_run.specs.declared.ending.Named.TheVariants as named
 use Rattle.rec_run.specs.declared.ending.Place.{Place}
 use Rattle.rec_run.specs.declared.ending.RunFault.{RunFault}
-use Rattle.rec_run.specs.declared.ending.RunFault.TheVariants as fault
 use Rattle.rec_run.specs.declared.given_term.TermRefusal.{TermRefusal}
 use Rattle.rec_run.specs.declared.given_term.TermRefusal.TheVariants as refusal
 use Rattle.rec_run.specs.declared.given_term.TermReading.{TermReading}
@@ -92,8 +91,3 @@ IsReadingOf w (reading.Spells t) v = (u : Tree) × (tree_at w t ≡ Some u) × (
 -- what was read of a text is the verdict on it
 abbrev pub IsGiven : Option (List ℕ) → Store → TermReading → Type 0
 IsGiven told w r = (v : Verdict) × IsReadingOf w r v × IfSome told (λ bytes. IsVerdict bytes v)
-
--- a run that has no room for more cells has as many as it may have
-abbrev pub FitsRoom : Store → RunFault → Type 0
-FitsRoom w (fault.Room lines) = cells w ≡ w.cap
-FitsRoom w f = Unit {0}

@@ -1,25 +1,23 @@
 //! Reading the text of one term.
 
-ghost use Rattle.std.specs.Prelude.{◌≡◌, ℕ, [], IfOk, IfErr, Some};
+ghost use Rattle.std.specs.Prelude.{◌≡◌, ◌<◌, ◌≤◌, ℕ, IfOk, IfErr, OnOk, Some};
+ghost use Rattle.rx_term.specs.Steps.{Grows};
 ghost use Rattle.rx_term.specs.Store.{tree_at};
 ghost use Rattle.rx_text.specs.Verdict.{Verdict, IsVerdict};
-ghost use Rattle.rx_plain.specs.State.{store_of};
-ghost use Rattle.rec_run.specs.Run.{Reports};
-ghost use Rattle.rec_run.specs.TermRuns.{FitsRoom, IsGiven, IsReadingOf, finish_of, place_of};
+ghost use Rattle.rx_shared.specs.State.{IsEmptyStore, store_of};
+ghost use Rattle.rec_run.specs.Run.{IsReadOut, RanOut, StopsUnwritten};
+ghost use Rattle.rec_run.specs.TermRuns.{IsGiven, IsReadingOf, finish_of, place_of};
 
 use crate::ending::{Finish, Named, Place, RunFault, Source};
 use crate::text::read_all;
-use rx_plain::PlainBank;
+use rx_shared::SharedBank;
 use rx_term::{Term, TermBank};
 use rx_text::TextFault;
 use std::alloc::Global;
 use std::io::Read;
 
-/// The most cells of the bank.
-const CELLS: u32 = 1_073_741_824;
-
-/// The hints that the bank begins with.
-const HINTS: u32 = 1024;
+/// The most cells that a bank may have.
+pub(crate) const MOST_CELLS: u32 = 1_073_741_824;
 
 /// Why a text is refused.
 #[derive(Clone, Copy, Debug)]
@@ -66,7 +64,7 @@ impl TermReading {
 /// What a text came to, and the bank that holds its term.
 #[derive(Drop)]
 pub(crate) struct GivenTerm {
-    pub(crate) bank: PlainBank,
+    pub(crate) bank: SharedBank,
     pub(crate) reading: TermReading,
 }
 
@@ -74,20 +72,22 @@ pub(crate) struct GivenTerm {
 pub(crate) fn read_term<R: Read>(alloc: Global, input: &mut R) -> Result<GivenTerm, RunFault>
     ensures read { IfOk result (λ given. IsGiven (R.remaining input.old) (store_of given.bank) given.reading) }
     ensures unrooted { IfOk result (λ given. (t : ℕ) → (store_of given.bank).roots t ≡ 0) }
-    ensures fault { IfErr result (λ fault. Reports fault []) }
+    ensures out { OnOk result (IsReadOut (R.remaining input.old) (R.remaining input.new)) }
+    ensures fault { IfErr result (StopsUnwritten 1073741824) }
 {
     let text = read_all(alloc, input)?;
-    let mut bank = empty_bank(alloc)?;
+    let mut bank = empty_bank(alloc, MOST_CELLS)?;
     let reading = parse(alloc, &text, &mut bank)?;
     Ok(GivenTerm { bank, reading })
 }
 
-/// An empty bank.
-pub(crate) fn empty_bank(alloc: Global) -> Result<PlainBank, RunFault>
-    ensures unrooted { IfOk result (λ bank. (t : ℕ) → (store_of bank).roots t ≡ 0) }
-    ensures fault { IfErr result (λ fault. Reports fault []) }
+/// An empty bank of at most so many cells.
+pub(crate) fn empty_bank(alloc: Global, cells: u32) -> Result<SharedBank, RunFault>
+    requires { (0 < cells) × (cells ≤ 1073741824) }
+    ensures empty { IfOk result (λ bank. IsEmptyStore (store_of bank) cells) }
+    ensures fault { IfErr result (λ fault. fault ≡ RunFault.Memory 0) }
 {
-    match PlainBank::with_hints(alloc, CELLS, HINTS) {
+    match SharedBank::new(alloc, cells) {
         Ok(bank) => Ok(bank),
         Err(_) => Err(RunFault::Memory { lines: 0 }),
     }
@@ -100,9 +100,8 @@ pub(crate) fn parse<B: TermBank>(
     bank: &mut B,
 ) -> Result<TermReading, RunFault>
     ensures read { IfOk result (λ reading. (v : Verdict) × IsReadingOf (B.store bank.new) reading v × IsVerdict text.now v) }
-    ensures roots { (B.store bank.new).roots ≡ (B.store bank.old).roots }
-    ensures fault { IfErr result (λ fault. Reports fault []) }
-    ensures full { IfErr result (λ fault. FitsRoom (B.store bank.new) fault) }
+    ensures grows { Grows (B.store bank.old) (B.store bank.new) }
+    ensures fault { IfErr result (RanOut (B.store bank.old).cap) }
 {
     match rx_text::read(alloc, text, bank) {
         Ok(term) => Ok(TermReading::Spells(term)),

@@ -2,21 +2,17 @@
 #![tactic(auto)]
 
 mod ending;
-mod evaluator;
-mod given_lines;
+mod evaluated_lines;
 mod given_term;
 #[cfg(test)]
 mod given_tests;
 pub mod laws;
 mod lines;
-mod matching;
-mod notes;
 mod pattern_answer;
 mod pattern_lines;
 mod pattern_runs;
 #[cfg(test)]
 mod pattern_tests;
-mod printer;
 mod runs;
 mod term_runs;
 #[cfg(test)]
@@ -25,7 +21,6 @@ mod term_tests;
 mod tests;
 mod text;
 mod texts;
-mod value;
 mod verdict;
 
 pub use ending::{Finish, Named, Place, RunFault, RunOptions, Source};

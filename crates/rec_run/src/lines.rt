@@ -1,23 +1,16 @@
-//! The lines of a run.
+//! The lines of refusals, and numbers behind texts.
 
-ghost use Rattle.std.specs.Prelude.{◌≡◌, ◌<◌, ◌++◌, [], IfErr, OnOk, OnErr, codes, decimal, length, true};
+ghost use Rattle.std.specs.Prelude.{◌++◌, OnErr, OnOk, decimal};
 ghost use Rattle.std.specs.Io.KnownBytes.{Appends};
 ghost use Rattle.rx_text.specs.Written.{AppendsFront};
 ghost use Rattle.rec_run.specs.GivenTerms.{name_of_terms, terms_line};
-ghost use Rattle.rec_run.specs.Output.{steps_text, lines};
-ghost use Rattle.rec_run.specs.Reading.{name_of_refusal, refusal_line, text_at, answer_text, within, raised};
-ghost use Rattle.rec_run.specs.Run.{Stops};
-ghost use Rattle.rec_run.specs.Evaluated.{IsAnswer};
+ghost use Rattle.rec_run.specs.Output.{steps_text};
+ghost use Rattle.rec_run.specs.Reading.{name_of_refusal, refusal_line};
 
-use crate::ending::{RunFault, RunOptions};
-use crate::evaluator::{Outcome, evaluate_term};
-use crate::printer::{WriteFault, write_value};
 use crate::text::{Stopped, put};
 use crate::texts::TermsRefusal;
 use crate::verdict::Refusal;
 use itoa::Buffer;
-use rec_sorts::Checked;
-use std::alloc::Global;
 use std::io::Write;
 
 /// Writes the line of a refusal.
@@ -76,83 +69,6 @@ pub(crate) fn put_numbered<W: Write>(out: &mut W, text: &[u8], n: u64) -> Result
 {
     put(out, text)?;
     put(out, Buffer::new().format(n).as_bytes())?;
-    Ok(())
-}
-
-/// Writes a line for each term of the specification.
-pub(crate) fn write_lines<W: Write>(
-    alloc: Global,
-    checked: &Checked,
-    out: &mut W,
-    options: RunOptions,
-) -> Result<(), RunFault>
-    ensures ok { OnOk result (Appends (W.contents out.old) (W.contents out.new)
-        (lines checked.now.spec [] options.count options.steps)) }
-    ensures err { IfErr result (λ fault. Stops fault (lines checked.now.spec [] options.count options.steps)
-        (W.contents out.old) (W.contents out.new)) }
-{
-    for i in 0..checked.terms().len() {
-        match write_line(alloc, checked, i, out, options) {
-            Ok(()) => {}
-            Err(fault) => return Err(fault_after(fault, i as u64)),
-        }
-    }
-    Ok(())
-}
-
-/// The run's fault where a line's came after so many lines.
-pub(crate) fn fault_after(fault: WriteFault, lines: u64) -> RunFault
-    ensures { result ≡ raised fault lines }
-{
-    match fault {
-        WriteFault::Memory => RunFault::Memory { lines },
-        WriteFault::Write => RunFault::Write,
-    }
-}
-
-/// Writes the line of a term.
-fn write_line<W: Write>(
-    alloc: Global,
-    checked: &Checked,
-    i: usize,
-    out: &mut W,
-    options: RunOptions,
-) -> Result<(), WriteFault>
-    requires { i < length checked.now.spec.terms }
-    ensures ok { OnOk result (Appends (W.contents out.old) (W.contents out.new)
-        (text_at checked.now.spec options.count options.steps i ++ codes "\n")) }
-    ensures err { IfErr result (λ fault. AppendsFront (within fault (text_at checked.now.spec options.count options.steps i))
-        (W.contents out.old) (W.contents out.new)) }
-{
-    let outcome = evaluate_term(alloc, checked, i, options.steps)?;
-    write_answer(alloc, checked, &outcome, out, options)?;
-    match put(out, b"\n") {
-        Ok(()) => Ok(()),
-        Err(Stopped) => Err(WriteFault::Write),
-    }
-}
-
-/// Writes what is shown of an answer of the evaluator.
-fn write_answer<W: Write>(
-    alloc: Global,
-    checked: &Checked,
-    outcome: &Outcome,
-    out: &mut W,
-    options: RunOptions,
-) -> Result<(), WriteFault>
-    requires { IsAnswer checked.now.spec options.steps outcome.now }
-    ensures ok { OnOk result (Appends (W.contents out.old) (W.contents out.new)
-        (answer_text checked.now.spec options.count options.steps outcome.now)) }
-    ensures err { OnErr result (AppendsFront (answer_text checked.now.spec options.count options.steps outcome.now)
-        (W.contents out.old) (W.contents out.new)) }
-{
-    match outcome {
-        Outcome::Value { value, steps } => {
-            write_value(alloc, checked, value, out)?;
-            write_steps(options.count, *steps, out)?;
-        }
-        Outcome::Limit => put_numbered(out, b"!limit ", options.steps)?,
-    }
     Ok(())
 }
 

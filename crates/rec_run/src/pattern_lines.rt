@@ -5,7 +5,7 @@ ghost use Rattle.std.specs.Io.KnownBytes.{Appends};
 ghost use Rattle.rx_term.specs.Store.{tree_at};
 ghost use Rattle.rx_term.specs.Walks.{AllHeld};
 ghost use Rattle.rx_text.specs.Written.{AppendsFront};
-ghost use Rattle.rec_run.specs.Run.{Stops};
+ghost use Rattle.rec_run.specs.Run.{Stops, StopsWriting};
 ghost use Rattle.rec_run.specs.PatternAnswers.{
   IsAnswerHeld,
   StopsAfter,
@@ -36,6 +36,7 @@ pub(crate) fn write_answer<B: TermBank, W: Write>(
     ensures ok { OnOk result (Appends (W.contents out.old) (W.contents out.new) (answer_due (B.store bank.now) answer.now).text) }
     ensures err { IfErr result (λ fault. Stops fault (answer_due (B.store bank.now) answer.now).text
         (W.contents out.old) (W.contents out.new)) }
+    ensures writing { IfErr result StopsWriting }
 {
     write_lines(alloc, bank, answer, out)?;
     flush(out)?;
@@ -53,6 +54,7 @@ fn write_lines<B: TermBank, W: Write>(
     ensures ok { OnOk result (Appends (W.contents out.old) (W.contents out.new) (answer_due (B.store bank.now) answer.now).text) }
     ensures err { IfErr result (λ fault. Stops fault (answer_due (B.store bank.now) answer.now).text
         (W.contents out.old) (W.contents out.new)) }
+    ensures writing { IfErr result StopsWriting }
 {
     match answer {
         Answer::Refused(refusal) => write_refusal(*refusal, out)?,
@@ -75,6 +77,7 @@ fn write_bindings<B: TermBank, W: Write>(
         (codes "yes\n" ++ flat_map (line_at (B.store bank.now)) bindings.now)) }
     ensures err { IfErr result (λ fault. Stops fault (codes "yes\n" ++ flat_map (line_at (B.store bank.now)) bindings.now)
         (W.contents out.old) (W.contents out.new)) }
+    ensures writing { IfErr result StopsWriting }
 {
     put(out, b"yes\n")?;
     for i in 0..bindings.len() {
@@ -95,6 +98,7 @@ fn write_line<B: TermBank, W: Write>(
     ensures ok { OnOk result (Appends (W.contents out.old) (W.contents out.new) (line_at (B.store bank.now) t)) }
     ensures err { IfErr result (λ fault. StopsAfter lines fault (line_at (B.store bank.now) t)
         (W.contents out.old) (W.contents out.new)) }
+    ensures writing { IfErr result StopsWriting }
 {
     match rx_text::write(alloc, bank, t, out) {
         Ok(()) => {}

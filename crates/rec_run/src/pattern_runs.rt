@@ -1,6 +1,6 @@
 //! Runs with a pattern: matching it with a term, and making a term from it.
 
-ghost use Rattle.std.specs.Prelude.{◌≡◌, List, [], ◌++◌, option_map, Some, None, IfErr, IfOk, IfSome, IsSome, OnErr, OnOk};
+ghost use Rattle.std.specs.Prelude.{◌≡◌, ◌≢◌, List, option_map, Some, None, IfErr, IfOk, IfSome, IsSome, OnErr, OnOk};
 ghost use Rattle.std.specs.Option.{option_and_then};
 ghost use Rattle.rx_term.specs.Tree.{Tree, Trees, list_of, to_list};
 ghost use Rattle.rx_term.specs.Store.{tree_at};
@@ -11,12 +11,13 @@ ghost use Rattle.rx_pattern.specs.Matching.{matching};
 ghost use Rattle.rx_pattern.specs.Filling.{filling};
 ghost use Rattle.rec_sorts.specs.TermRules.{elements};
 ghost use Rattle.rec_run.specs.Output.{Due, done};
-ghost use Rattle.rec_run.specs.Run.{Reports};
-ghost use Rattle.rec_run.specs.TermRuns.{Breaks, Ends, FitsRoom, IsPlaced, due_of};
+ghost use Rattle.rec_run.specs.Run.{IsReadOut, RanOut, RoomFits, StopsUnwritten};
+ghost use Rattle.rec_run.specs.TermRuns.{Breaks, Ends, IsPlaced, due_of};
 ghost use Rattle.rec_run.specs.PatternRuns.{
   IsMakeDue,
   IsMatchDue,
   IsNoPattern,
+  SpellsPattern,
   due_of_args,
   filled_due,
   made_due,
@@ -32,7 +33,7 @@ ghost use Rattle.rec_run.specs.PatternAnswers.{
 };
 
 use crate::ending::{Finish, Place, RunFault, Source};
-use crate::given_term::{TermReading, TermRefusal, empty_bank, parse};
+use crate::given_term::{MOST_CELLS, TermReading, TermRefusal, empty_bank, parse};
 use crate::pattern_answer::{Answer, Reason, Refusal};
 use crate::pattern_lines::write_answer;
 use crate::text::read_all;
@@ -60,6 +61,8 @@ pub fn run_match<R: Read, W: Write>(
         (λ bytes. Ends (IsMatchDue pattern.now bytes) finish (W.contents out.old) (W.contents out.new))) }
     ensures fault { IfErr result (λ fault. IfSome (R.remaining input.old)
         (λ bytes. Breaks (IsMatchDue pattern.now bytes) fault (W.contents out.old) (W.contents out.new))) }
+    ensures room { IfErr result (RoomFits 1073741824) }
+    ensures input_read { OnOk result ((p : Tree) → SpellsPattern pattern.now p → IsReadOut (R.remaining input.old) (R.remaining input.new)) }
     ensures unread { IsNoPattern pattern.now → input.new ≡ input.old }
 {
     let mut place = None;
@@ -80,10 +83,12 @@ pub fn run_match_at<R: Read, W: Write>(
     ensures fault { IfErr result (λ fault. IfSome (R.remaining input.old)
         (λ bytes. Breaks (IsMatchDue pattern.now bytes) fault (W.contents out.old) (W.contents out.new))) }
     ensures no_place { OnErr result (place.new ≡ None) }
+    ensures room { IfErr result (RoomFits 1073741824) }
+    ensures input_read { OnOk result ((p : Tree) → SpellsPattern pattern.now p → IsReadOut (R.remaining input.old) (R.remaining input.new)) }
     ensures unread { IsNoPattern pattern.now → input.new ≡ input.old }
 {
     *place = None;
-    let mut bank = empty_bank(alloc)?;
+    let mut bank = empty_bank(alloc, MOST_CELLS)?;
     let answer = match_texts(alloc, pattern, input, &mut bank)?;
     write_answer(alloc, &bank, &answer, out)?;
     *place = answer.place();
@@ -100,6 +105,8 @@ pub fn run_make<W: Write>(
 ) -> Result<Finish, RunFault>
     ensures output { IfOk result (λ finish. Ends (IsMakeDue pattern.now args.now) finish (W.contents out.old) (W.contents out.new)) }
     ensures fault { IfErr result (λ fault. Breaks (IsMakeDue pattern.now args.now) fault (W.contents out.old) (W.contents out.new)) }
+    ensures room { IfErr result (RoomFits 1073741824) }
+    ensures no_reader { IfErr result (λ fault. fault ≢ RunFault.Read) }
 {
     let mut place = None;
     run_make_at(alloc, pattern, args, out, &mut place)
@@ -117,9 +124,11 @@ pub fn run_make_at<W: Write>(
     ensures place { OnOk result (IsPlaced (IsMakeDue pattern.now args.now) place.new) }
     ensures fault { IfErr result (λ fault. Breaks (IsMakeDue pattern.now args.now) fault (W.contents out.old) (W.contents out.new)) }
     ensures no_place { OnErr result (place.new ≡ None) }
+    ensures room { IfErr result (RoomFits 1073741824) }
+    ensures no_reader { IfErr result (λ fault. fault ≢ RunFault.Read) }
 {
     *place = None;
-    let mut bank = empty_bank(alloc)?;
+    let mut bank = empty_bank(alloc, MOST_CELLS)?;
     let answer = make_of_texts(alloc, pattern, args, &mut bank)?;
     write_answer(alloc, &bank, &answer, out)?;
     *place = answer.place();
@@ -136,8 +145,8 @@ fn match_texts<B: TermBank, R: Read>(
     ensures due { IfOk result (λ answer. IfSome (R.remaining input.old)
         (λ bytes. IsMatchDue pattern.now bytes (answer_due (B.store bank.new) answer))) }
     ensures held { IfOk result (λ answer. IsAnswerHeld (B.store bank.new) answer) }
-    ensures fault { IfErr result (λ fault. Reports fault []) }
-    ensures full { IfErr result (λ fault. FitsRoom (B.store bank.new) fault) }
+    ensures fault { IfErr result (StopsUnwritten (B.store bank.old).cap) }
+    ensures input_read { OnOk result ((p : Tree) → SpellsPattern pattern.now p → IsReadOut (R.remaining input.old) (R.remaining input.new)) }
     ensures unread { IsNoPattern pattern.now → input.new ≡ input.old }
 {
     match read_pattern(alloc, pattern, bank)? {
@@ -155,9 +164,9 @@ fn match_input<B: TermBank, R: Read>(
 ) -> Result<Answer, RunFault>
     ensures due { IfOk result (λ answer. IfSome (R.remaining input.old) (λ bytes. (v : Verdict) ×
         (IsVerdict bytes v × (answer_due (B.store bank.new) answer ≡ due_of (λ t. match_lines (matching pattern.now t)) v)))) }
+    ensures input_read { OnOk result (IsReadOut (R.remaining input.old) (R.remaining input.new)) }
     ensures held { IfOk result (λ answer. IsAnswerHeld (B.store bank.new) answer) }
-    ensures fault { IfErr result (λ fault. Reports fault []) }
-    ensures full { IfErr result (λ fault. FitsRoom (B.store bank.new) fault) }
+    ensures fault { IfErr result (StopsUnwritten (B.store bank.old).cap) }
 {
     let text = read_all(alloc, input)?;
     match parse(alloc, &text, bank)? {
@@ -177,8 +186,7 @@ fn match_term<B: TermBank>(
     ensures due { IfOk result (λ answer. (u : Tree) → tree_at (B.store bank.old) t ≡ Some u →
         answer_due (B.store bank.new) answer ≡ done (match_lines (matching pattern.now u))) }
     ensures held { IfOk result (λ answer. IsAnswerHeld (B.store bank.new) answer) }
-    ensures fault { IfErr result (λ fault. Reports fault []) }
-    ensures full { IfErr result (λ fault. FitsRoom (B.store bank.new) fault) }
+    ensures fault { IfErr result (RanOut (B.store bank.old).cap) }
 {
     let mut bindings = Vec::new(alloc);
     match pattern.matches(bank, t, &mut bindings) {
@@ -198,8 +206,7 @@ fn make_of_texts<B: TermBank>(
 ) -> Result<Answer, RunFault>
     ensures due { IfOk result (λ answer. IsMakeDue pattern.now args.now (answer_due (B.store bank.new) answer)) }
     ensures held { IfOk result (λ answer. IsAnswerHeld (B.store bank.new) answer) }
-    ensures fault { IfErr result (λ fault. Reports fault []) }
-    ensures full { IfErr result (λ fault. FitsRoom (B.store bank.new) fault) }
+    ensures fault { IfErr result (RanOut (B.store bank.old).cap) }
 {
     match read_pattern(alloc, pattern, bank)? {
         PatternReading::Refused(refusal) => Ok(Answer::Refused(refusal)),
@@ -216,8 +223,7 @@ fn make_of_text<B: TermBank>(
 ) -> Result<Answer, RunFault>
     ensures due { IfOk result (λ answer. (v : Verdict) × (IsVerdict args.now v × (answer_due (B.store bank.new) answer ≡ due_of_args pattern.now v))) }
     ensures held { IfOk result (λ answer. IsAnswerHeld (B.store bank.new) answer) }
-    ensures fault { IfErr result (λ fault. Reports fault []) }
-    ensures full { IfErr result (λ fault. FitsRoom (B.store bank.new) fault) }
+    ensures fault { IfErr result (RanOut (B.store bank.old).cap) }
 {
     match parse(alloc, args, bank)? {
         TermReading::Refused(refusal) => Ok(Answer::Refused(refusal_of(Source::Args, refusal))),
@@ -236,8 +242,7 @@ fn make_of_term<B: TermBank>(
     ensures due { IfOk result (λ answer. (u : Tree) → tree_at (B.store bank.old) t ≡ Some u →
         answer_due (B.store bank.new) answer ≡ filled_due pattern.now (elements u)) }
     ensures held { IfOk result (λ answer. IsAnswerHeld (B.store bank.new) answer) }
-    ensures fault { IfErr result (λ fault. Reports fault []) }
-    ensures full { IfErr result (λ fault. FitsRoom (B.store bank.new) fault) }
+    ensures fault { IfErr result (RanOut (B.store bank.old).cap) }
 {
     match elements_of(alloc, bank, t) {
         Ok(Some(args)) => make_of_elements(pattern, &args, bank),
@@ -256,8 +261,7 @@ fn make_of_elements<B: TermBank>(
     ensures due { IfOk result (λ answer. (ts : List Tree) → HaveTrees (B.store bank.old) args.now ts →
         answer_due (B.store bank.new) answer ≡ made_due (filling pattern.now ts)) }
     ensures held { IfOk result (λ answer. IsAnswerHeld (B.store bank.new) answer) }
-    ensures fault { IfErr result (λ fault. Reports fault []) }
-    ensures full { IfErr result (λ fault. FitsRoom (B.store bank.new) fault) }
+    ensures fault { IfErr result (RanOut (B.store bank.old).cap) }
 {
     match pattern.make(bank, args) {
         Ok(t) => Ok(Answer::Made(t)),
@@ -319,8 +323,8 @@ fn read_pattern<B: TermBank>(
     bank: &mut B,
 ) -> Result<PatternReading, RunFault>
     ensures read { IfOk result (λ reading. IsPatternRead text.now reading) }
-    ensures fault { IfErr result (λ fault. Reports fault []) }
-    ensures full { IfErr result (λ fault. FitsRoom (B.store bank.new) fault) }
+    ensures cap { (B.store bank.new).cap ≡ (B.store bank.old).cap }
+    ensures fault { IfErr result (RanOut (B.store bank.old).cap) }
 {
     match parse(alloc, text, bank)? {
         TermReading::Refused(refusal) => Ok(PatternReading::Refused(refusal_of(

@@ -1,17 +1,30 @@
 //! Whole runs.
 
-ghost use Rattle.std.specs.Prelude.{◌≡◌, Bool, None, IfErr, IfOk, IfSome, OnErr, OnOk};
+ghost use Rattle.std.specs.Prelude.{◌≡◌, None, IfErr, IfOk, IfSome, OnErr, OnOk, Some, option_map};
 ghost use Rattle.std.specs.Io.KnownBytes.{Appends};
-ghost use Rattle.rec_run.specs.GivenTerms.{HoldsGiven, run_due};
-ghost use Rattle.rec_run.specs.Reading.{due_of};
-ghost use Rattle.rec_run.specs.Run.{Gives, HasPlace, Leaves, Stops, told, told_terms};
+ghost use Rattle.std.specs.Option.{option_copied_mut};
+ghost use Rattle.rec_syntax.specs.Syntax.{Spec};
+ghost use Rattle.rec_sorts.specs.SpecRules.{Good, SpecVerdict, Verdict};
+ghost use Rattle.rec_run.specs.GivenTerms.{IsReady, IsRefusal, run_due};
+ghost use Rattle.rec_run.specs.Run.{
+  Gives,
+  HasPlace,
+  IsReadOut,
+  Leads,
+  Leaves,
+  RoomFits,
+  Stays,
+  Stops,
+  told,
+  told_terms,
+};
 
 use crate::ending::{Finish, Place, RunFault, RunOptions};
-use crate::given_lines::write_both;
-use crate::lines::{write_lines, write_refusal, write_terms_refusal};
+use crate::evaluated_lines::write_evaluated;
+use crate::lines::{write_refusal, write_terms_refusal};
+use crate::term_runs::flush;
 use crate::text::{ReadFault, Stopped};
-use crate::texts::{RunReading, read_texts};
-use crate::verdict::Reading;
+use crate::texts::{Job, RunReading, read_alone, read_both};
 use std::alloc::Global;
 use std::io::{Read, Write};
 
@@ -39,7 +52,7 @@ impl From<Stopped> for RunFault {
 }
 
 /// Reads a specification and, where it is good and terms are given, their text; writes a line for each term of both, and flushes; or the line of a refusal.
-/// A fault while a text is read has written nothing, and `Room` comes only where the bank of given terms is full. What a fault leaves of the readers is open.
+/// A fault while a text is read has written nothing. What a fault leaves of the readers is open.
 pub fn run<R: Read, T: Read, W: Write>(
     alloc: Global,
     spec: &mut R,
@@ -51,9 +64,18 @@ pub fn run<R: Read, T: Read, W: Write>(
         (λ texts. Gives texts.spec texts.terms options.count options.steps finish (W.contents out.old) (W.contents out.new))) }
     ensures fault { IfErr result (λ fault. IfSome (told (R.remaining spec.old) (told_terms T.remaining terms.entry))
         (λ texts. Leaves texts.spec texts.terms options.count options.steps fault (W.contents out.old) (W.contents out.new))) }
+    ensures room { IfErr result (RoomFits options.cells) }
+    ensures spec_read { OnOk result (IsReadOut (R.remaining spec.old) (R.remaining spec.new)) }
+    ensures terms_read { OnOk result (IfSome (R.remaining spec.old) (λ bytes. (y : Spec) → SpecVerdict bytes (Good y) →
+        Leads (λ old new. IsReadOut (T.remaining old) (T.remaining new)) (λ f. f.0.now) terms.exit (option_copied_mut terms.entry))) }
+    ensures unread { IfSome (R.remaining spec.old) (λ bytes. (v : Verdict) → SpecVerdict bytes v → IsRefusal v →
+        Stays (λ f. f.0.now) terms.exit (option_copied_mut terms.entry)) }
 {
     let mut place = None;
-    run_at(alloc, spec, terms, out, options, &mut place)
+    match terms {
+        None => run_alone(alloc, spec, out, options, &mut place),
+        Some(terms) => run_beside(alloc, spec, terms, out, options, &mut place),
+    }
 }
 
 /// The same, with the place of the refusal that was written.
@@ -71,54 +93,122 @@ pub fn run_at<R: Read, T: Read, W: Write>(
         (λ texts. HasPlace texts.spec texts.terms options.count options.steps place.new)) }
     ensures fault { IfErr result (λ fault. IfSome (told (R.remaining spec.old) (told_terms T.remaining terms.entry))
         (λ texts. Leaves texts.spec texts.terms options.count options.steps fault (W.contents out.old) (W.contents out.new))) }
+    ensures room { IfErr result (RoomFits options.cells) }
     ensures no_place { OnErr result (place.new ≡ None) }
+    ensures spec_read { OnOk result (IsReadOut (R.remaining spec.old) (R.remaining spec.new)) }
+    ensures terms_read { OnOk result (IfSome (R.remaining spec.old) (λ bytes. (y : Spec) → SpecVerdict bytes (Good y) →
+        Leads (λ old new. IsReadOut (T.remaining old) (T.remaining new)) (λ f. f.0.now) terms.exit (option_copied_mut terms.entry))) }
+    ensures unread { IfSome (R.remaining spec.old) (λ bytes. (v : Verdict) → SpecVerdict bytes v → IsRefusal v →
+        Stays (λ f. f.0.now) terms.exit (option_copied_mut terms.entry)) }
+{
+    match terms {
+        None => run_alone(alloc, spec, out, options, place),
+        Some(terms) => run_beside(alloc, spec, terms, out, options, place),
+    }
+}
+
+/// A run without given terms.
+fn run_alone<R: Read, W: Write>(
+    alloc: Global,
+    spec: &mut R,
+    out: &mut W,
+    options: RunOptions,
+    place: &mut Option<Place>,
+) -> Result<Finish, RunFault>
+    ensures output { IfOk result (λ finish. IfSome (told (R.remaining spec.old) (Some None))
+        (λ texts. Gives texts.spec texts.terms options.count options.steps finish (W.contents out.old) (W.contents out.new))) }
+    ensures place { OnOk result (IfSome (told (R.remaining spec.old) (Some None))
+        (λ texts. HasPlace texts.spec texts.terms options.count options.steps place.new)) }
+    ensures fault { IfErr result (λ fault. IfSome (told (R.remaining spec.old) (Some None))
+        (λ texts. Leaves texts.spec texts.terms options.count options.steps fault (W.contents out.old) (W.contents out.new))) }
+    ensures room { IfErr result (RoomFits options.cells) }
+    ensures no_place { OnErr result (place.new ≡ None) }
+    ensures spec_read { OnOk result (IsReadOut (R.remaining spec.old) (R.remaining spec.new)) }
 {
     *place = None;
-    let reading = read_texts(alloc, spec, terms)?;
-    write_due(alloc, &reading, out, options)?;
-    *place = reading.place();
-    Ok(reading.finish())
+    let reading = read_alone(alloc, spec, options.cells)?;
+    let finish = reading.finish();
+    let refused_at = reading.place();
+    write_due(alloc, reading, out, options)?;
+    *place = refused_at;
+    Ok(finish)
+}
+
+/// A run with given terms.
+fn run_beside<R: Read, T: Read, W: Write>(
+    alloc: Global,
+    spec: &mut R,
+    terms: &mut T,
+    out: &mut W,
+    options: RunOptions,
+    place: &mut Option<Place>,
+) -> Result<Finish, RunFault>
+    ensures output { IfOk result (λ finish. IfSome (told (R.remaining spec.old) (option_map (λ bytes. Some bytes) (T.remaining terms.old)))
+        (λ texts. Gives texts.spec texts.terms options.count options.steps finish (W.contents out.old) (W.contents out.new))) }
+    ensures place { OnOk result (IfSome (told (R.remaining spec.old) (option_map (λ bytes. Some bytes) (T.remaining terms.old)))
+        (λ texts. HasPlace texts.spec texts.terms options.count options.steps place.new)) }
+    ensures fault { IfErr result (λ fault. IfSome (told (R.remaining spec.old) (option_map (λ bytes. Some bytes) (T.remaining terms.old)))
+        (λ texts. Leaves texts.spec texts.terms options.count options.steps fault (W.contents out.old) (W.contents out.new))) }
+    ensures room { IfErr result (RoomFits options.cells) }
+    ensures no_place { OnErr result (place.new ≡ None) }
+    ensures spec_read { OnOk result (IsReadOut (R.remaining spec.old) (R.remaining spec.new)) }
+    ensures terms_read { OnOk result (IfSome (R.remaining spec.old)
+        (λ bytes. (y : Spec) → SpecVerdict bytes (Good y) → IsReadOut (T.remaining terms.old) (T.remaining terms.new))) }
+    ensures unread { IfSome (R.remaining spec.old)
+        (λ bytes. (v : Verdict) → SpecVerdict bytes v → IsRefusal v → terms.new ≡ terms.old) }
+{
+    *place = None;
+    let reading = read_both(alloc, spec, terms, options.cells)?;
+    let finish = reading.finish();
+    let refused_at = reading.place();
+    write_due(alloc, reading, out, options)?;
+    *place = refused_at;
+    Ok(finish)
 }
 
 /// Writes what is due, and flushes.
 fn write_due<W: Write>(
     alloc: Global,
-    reading: &RunReading,
+    reading: RunReading,
     out: &mut W,
     options: RunOptions,
 ) -> Result<(), RunFault>
-    requires { HoldsGiven reading.now }
+    requires { IsReady options.cells reading }
     ensures ok { OnOk result (Appends (W.contents out.old) (W.contents out.new)
-        (run_due options.count options.steps reading.now).text) }
-    ensures err { IfErr result (λ fault. Stops fault (run_due options.count options.steps reading.now).text
+        (run_due options.count options.steps reading).text) }
+    ensures err { IfErr result (λ fault. Stops fault (run_due options.count options.steps reading).text
         (W.contents out.old) (W.contents out.new)) }
+    ensures room { IfErr result (RoomFits options.cells) }
 {
-    match reading {
-        RunReading::Alone(reading) => write_own(alloc, reading, out, options)?,
-        RunReading::Refused(refusal) => write_terms_refusal(*refusal, out)?,
-        RunReading::Both { checked, given } => write_both(alloc, checked, given, out, options)?,
-    }
-    match out.flush() {
-        Ok(()) => Ok(()),
-        Err(_) => Err(RunFault::Write),
-    }
+    write_reading(alloc, reading, out, options)?;
+    flush(out)?;
+    Ok(())
 }
 
-/// Writes what is due for a specification without given terms.
-fn write_own<W: Write>(
+/// Writes what is due.
+fn write_reading<W: Write>(
     alloc: Global,
-    reading: &Reading,
+    reading: RunReading,
     out: &mut W,
     options: RunOptions,
 ) -> Result<(), RunFault>
+    requires { IsReady options.cells reading }
     ensures ok { OnOk result (Appends (W.contents out.old) (W.contents out.new)
-        (due_of options.count options.steps reading.now).text) }
-    ensures err { IfErr result (λ fault. Stops fault (due_of options.count options.steps reading.now).text
+        (run_due options.count options.steps reading).text) }
+    ensures err { IfErr result (λ fault. Stops fault (run_due options.count options.steps reading).text
         (W.contents out.old) (W.contents out.new)) }
+    ensures room { IfErr result (RoomFits options.cells) }
 {
     match reading {
-        Reading::Refused(refusal) => write_refusal(*refusal, out)?,
-        Reading::Good(checked) => write_lines(alloc, checked, out, options)?,
+        RunReading::Spec(refusal) => write_refusal(refusal, out)?,
+        RunReading::Terms(refusal) => write_terms_refusal(refusal, out)?,
+        RunReading::Good(
+            Job {
+                checked,
+                bank,
+                list,
+            },
+        ) => { write_evaluated(alloc, checked, bank, list, out, options)? }
     }
     Ok(())
 }

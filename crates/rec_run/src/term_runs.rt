@@ -6,7 +6,7 @@ ghost use Rattle.rx_term.specs.Parts.{part_count};
 ghost use Rattle.rx_term.specs.Store.{tree_at};
 ghost use Rattle.rx_text.specs.Verdict.{Verdict};
 ghost use Rattle.rx_text.specs.Written.{AppendsFront};
-ghost use Rattle.rec_run.specs.Run.{Stops};
+ghost use Rattle.rec_run.specs.Run.{IsReadOut, RoomFits, Stops, StopsWriting};
 ghost use Rattle.rec_run.specs.TermRuns.{
   Breaks,
   Ends,
@@ -40,6 +40,8 @@ pub fn run_aterm<R: Read, W: Write>(
         (λ bytes. Ends (IsTermDue bytes) finish (W.contents out.old) (W.contents out.new))) }
     ensures fault { IfErr result (λ fault. IfSome (R.remaining input.old)
         (λ bytes. Breaks (IsTermDue bytes) fault (W.contents out.old) (W.contents out.new))) }
+    ensures room { IfErr result (RoomFits 1073741824) }
+    ensures input_read { OnOk result (IsReadOut (R.remaining input.old) (R.remaining input.new)) }
 {
     let mut place = None;
     run_aterm_at(alloc, input, out, &mut place)
@@ -58,6 +60,8 @@ pub fn run_aterm_at<R: Read, W: Write>(
     ensures fault { IfErr result (λ fault. IfSome (R.remaining input.old)
         (λ bytes. Breaks (IsTermDue bytes) fault (W.contents out.old) (W.contents out.new))) }
     ensures no_place { OnErr result (place.new ≡ None) }
+    ensures room { IfErr result (RoomFits 1073741824) }
+    ensures input_read { OnOk result (IsReadOut (R.remaining input.old) (R.remaining input.new)) }
 {
     *place = None;
     let given = read_term(alloc, input)?;
@@ -76,6 +80,8 @@ pub fn run_share<R: Read, W: Write>(
         (λ bytes. Ends (IsShareDue bytes) finish (W.contents out.old) (W.contents out.new))) }
     ensures fault { IfErr result (λ fault. IfSome (R.remaining input.old)
         (λ bytes. Breaks (IsShareDue bytes) fault (W.contents out.old) (W.contents out.new))) }
+    ensures room { IfErr result (RoomFits 1073741824) }
+    ensures input_read { OnOk result (IsReadOut (R.remaining input.old) (R.remaining input.new)) }
 {
     let mut place = None;
     run_share_at(alloc, input, out, &mut place)
@@ -94,6 +100,8 @@ pub fn run_share_at<R: Read, W: Write>(
     ensures fault { IfErr result (λ fault. IfSome (R.remaining input.old)
         (λ bytes. Breaks (IsShareDue bytes) fault (W.contents out.old) (W.contents out.new))) }
     ensures no_place { OnErr result (place.new ≡ None) }
+    ensures room { IfErr result (RoomFits 1073741824) }
+    ensures input_read { OnOk result (IsReadOut (R.remaining input.old) (R.remaining input.new)) }
 {
     *place = None;
     let mut given = read_term(alloc, input)?;
@@ -114,6 +122,7 @@ fn write_term<B: TermBank, W: Write>(
         OnOk result (Appends (W.contents out.old) (W.contents out.new) (due_of term_line v).text) }
     ensures err { (v : Verdict) → IsReadingOf (B.store bank.now) reading v →
         IfErr result (λ fault. Stops fault (due_of term_line v).text (W.contents out.old) (W.contents out.new)) }
+    ensures writing { IfErr result StopsWriting }
 {
     match reading {
         TermReading::Refused(refusal) => write_refusal(refusal, out)?,
@@ -136,6 +145,7 @@ fn write_share<B: TermBank, W: Write>(
         OnOk result (Appends (W.contents out.old) (W.contents out.new) (due_of share_lines v).text) }
     ensures err { (v : Verdict) → IsReadingOf (B.store bank.old) reading v →
         IfErr result (λ fault. Stops fault (due_of share_lines v).text (W.contents out.old) (W.contents out.new)) }
+    ensures writing { IfErr result StopsWriting }
 {
     match reading {
         TermReading::Refused(refusal) => write_refusal(refusal, out)?,
@@ -157,6 +167,7 @@ fn write_line<B: TermBank, W: Write>(
         (λ u. Appends (W.contents out.old) (W.contents out.new) (term_line u))) }
     ensures err { IfErr result (λ fault. IfSome (tree_at (B.store bank.now) t)
         (λ u. Stops fault (term_line u) (W.contents out.old) (W.contents out.new))) }
+    ensures writing { IfErr result StopsWriting }
 {
     match rx_text::write(alloc, bank, t, out) {
         Ok(()) => {}
@@ -180,6 +191,7 @@ fn write_counted<B: TermBank, W: Write>(
         (λ u. Appends (W.contents out.old) (W.contents out.new) (share_lines u))) }
     ensures err { IfErr result (λ fault. IfSome (tree_at (B.store bank.old) t)
         (λ u. Stops fault (share_lines u) (W.contents out.old) (W.contents out.new))) }
+    ensures writing { IfErr result StopsWriting }
 {
     let cells = keep_alone(bank, t);
     write_line(alloc, bank, t, out)?;

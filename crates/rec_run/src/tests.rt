@@ -158,6 +158,18 @@ pub(crate) fn options(steps: u32, count: bool) -> RunOptions {
     }
 }
 
+/// The same with a bank of so many cells, at least one and at most a million, and a reclaim after
+/// each new one.
+fn narrow(steps: u32, cells: u32) -> RunOptions {
+    RunOptions {
+        steps: u64::from(steps),
+        cells: cells.clamp(1, 1_000_000),
+        memo: 0,
+        reclaim: 1,
+        count: false,
+    }
+}
+
 /// What a run came to.
 #[derive(Debug, Drop)]
 struct Ran {
@@ -218,7 +230,96 @@ fn values(rt: HostRuntime) {
         } = run_on(rt.alloc(), text.as_bytes(), options(steps, count));
         assert!(rt; result == Ok(Finish::Done) && place == None, "{text}");
         assert_eq!(rt; written.as_slice(), lines.as_bytes(), "{text}");
+        let mut often = options(steps, count);
+        often.reclaim = 1;
+        let ran = run_on(rt.alloc(), text.as_bytes(), often);
+        assert_eq!(rt;
+            ran.written.as_slice(),
+            lines.as_bytes(),
+            "{text}, reclaim 1"
+        );
     }
+}
+
+#[test]
+fn few_cells(rt: HostRuntime) {
+    let alloc = rt.alloc();
+    for cells in 1..=64 {
+        let ran = run_on(alloc, ADD.as_bytes(), narrow(3, cells));
+        if cells < 10 {
+            assert_eq!(rt; ran.result, Err(RunFault::Room { lines: 0 }), "{cells}");
+        }
+        match ran.result {
+            Ok(Finish::Done) => {
+                assert_eq!(rt;
+                    ran.written.as_slice(),
+                    b"s(s(s(z)))\n".as_slice(),
+                    "{cells}"
+                );
+            }
+            Err(RunFault::Room { lines: 0 }) => {
+                assert!(rt; ran.written.is_empty() && cells < 64, "{cells}");
+            }
+            other => assert!(rt; false, "{cells}: {other:?}"),
+        }
+    }
+}
+
+#[test]
+fn cells_of_earlier_terms(rt: HostRuntime) -> Result<(), Fail> {
+    let alloc = rt.alloc();
+    let mut text = String::from_str(alloc, "REC-SPEC K SORTS N CONS")?;
+    for i in 1..=20 {
+        text.push_str(format!(in alloc; " c{i} : -> N")?.as_str())?;
+    }
+    text.push_str(" OPNS h : N -> N EVAL")?;
+    let mut due = String::new(alloc);
+    for i in 1..=20 {
+        text.push_str(format!(in alloc; " h(c{i})")?.as_str())?;
+        due.push_str(format!(in alloc; "h(c{i})\n")?.as_str())?;
+    }
+    text.push_str(" END-SPEC")?;
+    let mut few = options(0, false);
+    few.cells = 16;
+    for reclaim in [1, 262_144] {
+        few.reclaim = reclaim;
+        let ran = run_on(alloc, text.as_bytes(), few);
+        assert_eq!(rt; ran.result, Ok(Finish::Done));
+        assert_eq!(rt; ran.written.as_slice(), due.as_bytes());
+    }
+    Ok(())
+}
+
+/// A tree of a symbol so often about `z`.
+fn about_z(alloc: Global, front: &str, back: &str, times: usize) -> Result<String, AllocError> {
+    let mut tree = String::new(alloc);
+    for _ in 0..times {
+        tree.push_str(front)?;
+    }
+    tree.push_str("z")?;
+    for _ in 0..times {
+        tree.push_str(back)?;
+    }
+    Ok(tree)
+}
+
+#[test]
+fn cells_of_a_nested_term(rt: HostRuntime) -> Result<(), Fail> {
+    let alloc = rt.alloc();
+    let mut text = String::from_str(
+        alloc,
+        "REC-SPEC K SORTS N CONS z : -> N s : N -> N q : N -> N OPNS t : N -> N e : N -> N VARS X : N RULES t(X) -> e(q(X)) e(q(X)) -> X EVAL ",
+    )?;
+    text.push_str(about_z(alloc, "t(s(", "))", 30)?.as_str())?;
+    text.push_str(" END-SPEC")?;
+    let mut due = about_z(alloc, "s(", ")", 30)?;
+    due.push_str("\n")?;
+    let mut few = options(60, false);
+    few.cells = 200;
+    let ran = run_on(alloc, text.as_bytes(), few);
+    assert_eq!(rt; ran.result, Ok(Finish::Done));
+    assert_eq!(rt; ran.written.as_slice(), due.as_bytes());
+    Ok(())
 }
 
 #[test]
@@ -316,6 +417,7 @@ pub(crate) struct Slow<'a> {
     step: usize,
     pub(crate) reads: u64,
     pub(crate) fails_at: u64,
+    kind: ErrorKind,
 }
 
 pub(crate) fn bytewise(text: &str) -> Slow<'_> {
@@ -324,6 +426,7 @@ pub(crate) fn bytewise(text: &str) -> Slow<'_> {
         step: 1,
         reads: 0,
         fails_at: 0,
+        kind: ErrorKind::Other,
     }
 }
 
@@ -331,7 +434,7 @@ impl Read for Slow<'_> {
     fn read(&mut self, buf: &mut [u8]) -> io::Result<usize> {
         self.reads = self.reads.wrapping_add(1);
         if self.reads == self.fails_at {
-            return Err(io::Error::from(ErrorKind::Other));
+            return Err(io::Error::from(self.kind));
         }
         let count = self.step.min(buf.len()).min(self.bytes.len());
         buf[..count].copy_from_slice(&self.bytes[..count]);
@@ -351,12 +454,14 @@ impl Read for Blanks {
     }
 }
 
-/// Takes one byte a write; one write fails, one takes nothing, and the flush may fail.
+/// Takes one byte a write; one write fails and the next one succeeds again, one takes nothing, and
+/// the flush may fail.
 #[derive(Drop)]
 pub(crate) struct Sink {
     pub(crate) held: Vec<u8>,
     writes: u64,
     pub(crate) fails_at: u64,
+    kind: ErrorKind,
     stops_at: u64,
     pub(crate) flush_fails: bool,
 }
@@ -366,6 +471,7 @@ pub(crate) fn taking(alloc: Global) -> Sink {
         held: Vec::new(alloc),
         writes: 0,
         fails_at: 0,
+        kind: ErrorKind::Other,
         stops_at: 0,
         flush_fails: false,
     }
@@ -375,7 +481,7 @@ impl Write for Sink {
     fn write(&mut self, buf: &[u8]) -> io::Result<usize> {
         self.writes = self.writes.wrapping_add(1);
         if self.writes == self.fails_at {
-            return Err(io::Error::from(ErrorKind::Other));
+            return Err(io::Error::from(self.kind));
         }
         if self.writes == self.stops_at {
             return Ok(0);
@@ -411,21 +517,28 @@ fn one_byte_a_call(rt: HostRuntime) {
 
 #[test]
 fn reads_fail(rt: HostRuntime) {
-    for k in [1, 2, 100, 187] {
-        let mut spec = bytewise(NEQ);
-        spec.fails_at = k;
-        let mut out = taking(rt.alloc());
-        let result = run(
-            rt.alloc(),
-            &mut spec,
-            None::<&mut &[u8]>,
-            &mut out,
-            options(2, false),
-        );
-        assert!(rt;
-            result == Err(RunFault::Read) && out.held.is_empty(),
-            "read {k}"
-        );
+    for kind in [
+        ErrorKind::Other,
+        ErrorKind::Interrupted,
+        ErrorKind::OutOfMemory,
+    ] {
+        for k in 1..=NEQ.len() as u64 + 1 {
+            let mut spec = bytewise(NEQ);
+            spec.fails_at = k;
+            spec.kind = kind;
+            let mut out = taking(rt.alloc());
+            let result = run(
+                rt.alloc(),
+                &mut spec,
+                None::<&mut &[u8]>,
+                &mut out,
+                options(2, false),
+            );
+            assert!(rt;
+                result == Err(RunFault::Read) && out.held.is_empty() && spec.reads == k,
+                "read {k}"
+            );
+        }
     }
 }
 
@@ -434,13 +547,15 @@ fn writes_fail(rt: HostRuntime) {
     let mut k = 0u64;
     for written in 0..TWO_LINES.len() {
         k = k.wrapping_add(1);
-        for takes_none in [false, true] {
+        for kind in [None, Some(ErrorKind::Other), Some(ErrorKind::Interrupted)] {
             let mut spec = bytewise(NEQ);
             let mut out = taking(rt.alloc());
-            if takes_none {
-                out.stops_at = k;
-            } else {
-                out.fails_at = k;
+            match kind {
+                None => out.stops_at = k,
+                Some(kind) => {
+                    out.fails_at = k;
+                    out.kind = kind;
+                }
             }
             let result = run(
                 rt.alloc(),
@@ -449,7 +564,10 @@ fn writes_fail(rt: HostRuntime) {
                 &mut out,
                 options(2, false),
             );
-            assert!(rt; result == Err(RunFault::Write), "write {k}");
+            assert!(rt;
+                result == Err(RunFault::Write) && out.writes == k,
+                "write {k}"
+            );
             assert!(rt; out.held.as_slice() == &TWO_LINES[..written], "write {k}");
         }
     }
@@ -485,6 +603,16 @@ fn limit_of_bytes(rt: HostRuntime) -> Result<(), Fail> {
     } = run_on(alloc, &text, options(0, false));
     assert!(rt; result == Ok(Finish::Refused) && place == None);
     assert!(rt; written.as_slice() == b"!spec L1\n".as_slice());
+    text.extend_from_slice(b"ab")?;
+    let mut rest = text.as_slice();
+    let result = run(
+        alloc,
+        &mut rest,
+        None::<&mut &[u8]>,
+        &mut Vec::new(alloc),
+        options(0, false),
+    );
+    assert!(rt; result == Ok(Finish::Refused) && rest == b"ab".as_slice());
     let mut out = taking(alloc);
     let result = run(
         alloc,
@@ -494,5 +622,37 @@ fn limit_of_bytes(rt: HostRuntime) -> Result<(), Fail> {
         options(0, false),
     );
     assert!(rt; result == Ok(Finish::Refused) && out.held.as_slice() == b"!spec L1\n".as_slice());
+    Ok(())
+}
+
+/// A tree of `p` over `z` with so many levels below its root.
+fn balanced(alloc: Global, levels: usize) -> Result<String, AllocError> {
+    let mut tree = String::from_str(alloc, "z")?;
+    for _ in 0..levels {
+        let part = tree;
+        tree = String::from_str(alloc, "p(")?;
+        tree.push_str(part.as_str())?;
+        tree.push_str(",")?;
+        tree.push_str(part.as_str())?;
+        tree.push_str(")")?;
+    }
+    Ok(tree)
+}
+
+#[test]
+fn long_specification(rt: HostRuntime) -> Result<(), Fail> {
+    let alloc = rt.alloc();
+    let tree = balanced(alloc, 15)?;
+    let mut text = String::from_str(
+        alloc,
+        "REC-SPEC Wide SORTS N CONS z : -> N p : N N -> N OPNS f : N -> N VARS X : N RULES f(X) -> X EVAL f(",
+    )?;
+    text.push_str(tree.as_str())?;
+    text.push_str(") END-SPEC")?;
+    assert!(rt; text.len() > 100_000);
+    let mut due = tree;
+    due.push_str("\n")?;
+    let ran = run_on(alloc, text.as_bytes(), options(1, false));
+    assert!(rt; ran.result == Ok(Finish::Done) && ran.written.as_slice() == due.as_bytes());
     Ok(())
 }

@@ -1,8 +1,10 @@
 //! Texts from readers and to writers.
 
 ghost use Rattle.std.specs.Prelude.{◌≡◌, ◌+◌, ◌-◌, ◌≤◌, ◌<◌, ◌^◌, List, ℕ, IfOk, OnOk, OnErr, IfSome, take, vec_len, length};
-ghost use Rattle.std.specs.Io.KnownBytes.{Appends, Consumes};
+ghost use Rattle.std.specs.Io.{ReadsAtMost};
+ghost use Rattle.std.specs.Io.KnownBytes.{Appends, Consumes, ReadConsumes};
 ghost use Rattle.rx_text.specs.Written.{AppendsFront};
+ghost use Rattle.rec_run.specs.Run.{IsReadOut};
 
 use std::alloc::{AllocError, Global};
 use std::io::{Read, Write};
@@ -17,9 +19,23 @@ pub enum ReadFault {
     Read,
 }
 
+/// The reader refused.
+#[derive(Clone, Copy, Debug)]
+struct Unreadable;
+
 /// The writer refused.
 #[derive(Clone, Copy, Debug)]
 pub struct Stopped;
+
+impl From<Unreadable> for ReadFault {
+    ghost use Rattle.rec_run.specs.declared.text.ReadFault.TheVariants.{Read};
+
+    ghost from_gives = { λ _ r. r ≡ Read };
+
+    fn from(_error: Unreadable) -> ReadFault {
+        ReadFault::Read
+    }
+}
 
 impl From<AllocError> for ReadFault {
     ghost use Rattle.rec_run.specs.declared.text.ReadFault.TheVariants.{Memory};
@@ -31,11 +47,22 @@ impl From<AllocError> for ReadFault {
     }
 }
 
+/// One read. Each error of the reader ends the text, also an interruption.
+fn read_piece<R: Read>(reader: &mut R, buffer: &mut [u8]) -> Result<usize, Unreadable>
+    ensures bound { ReadsAtMost result buffer.new }
+    ensures bytes { ReadConsumes (R.remaining reader.old) (R.remaining reader.new) result buffer.new }
+{
+    match reader.read(buffer) {
+        Ok(count) => Ok(count),
+        Err(_) => Err(Unreadable),
+    }
+}
+
 /// Reads to the end, or one byte past the limit. Of a fault no more is said than that the bytes
 /// that the reader lost stood at its front.
 pub fn read_all<R: Read>(alloc: Global, reader: &mut R) -> Result<Vec<u8>, ReadFault>
     ensures text { IfOk result (λ text. IfSome (R.remaining reader.old) (λ bytes. text.items ≡ take (LIMIT + 1) bytes)) }
-    ensures rest { IfOk result (λ text. Consumes (R.remaining reader.old) (R.remaining reader.new) text.items) }
+    ensures out { OnOk result (IsReadOut (R.remaining reader.old) (R.remaining reader.new)) }
     ensures within { IfOk result (λ text. vec_len text ≤ LIMIT + 1) }
     ensures lost { OnErr result ((bytes : List ℕ) × Consumes (R.remaining reader.old) (R.remaining reader.new) bytes) }
 {
@@ -43,9 +70,7 @@ pub fn read_all<R: Read>(alloc: Global, reader: &mut R) -> Result<Vec<u8>, ReadF
     let mut buffer = [0u8; 4096];
     while text.len() <= LIMIT {
         let room = buffer.len().min(LIMIT + 1 - text.len());
-        let Ok(count) = reader.read(&mut buffer[..room]) else {
-            return Err(ReadFault::Read);
-        };
+        let count = read_piece(reader, &mut buffer[..room])?;
         if count == 0 {
             return Ok(text);
         }

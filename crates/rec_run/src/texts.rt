@@ -1,18 +1,18 @@
 //! The texts of a run: a specification, and given terms.
 
-ghost use Rattle.std.specs.Prelude.{◌≡◌, ℕ, List, [], IfOk, IfErr, IfSome, IsSome, OnOk};
-ghost use Rattle.std.specs.Option.{option_copied_mut};
+ghost use Rattle.std.specs.Prelude.{◌≡◌, ◌<◌, ◌≤◌, ℕ, List, IfOk, IfErr, IfSome, IsSome, None, OnOk, Some, option_map};
 ghost use Rattle.rx_term.specs.Store.{tree_at};
 ghost use Rattle.rx_text.specs.Grammar.{Spells};
-ghost use Rattle.rx_plain.specs.State.{store_of};
-ghost use Rattle.rec_sorts.specs.SpecRules.{Fits, Verdict, SpecVerdict};
-ghost use Rattle.rec_run.specs.Reading.{verdict_of};
-ghost use Rattle.rec_run.specs.Run.{Left, Reports, told, told_terms};
+ghost use Rattle.rx_shared.specs.State.{store_of};
+ghost use Rattle.rec_syntax.specs.Syntax.{Spec};
+ghost use Rattle.rec_sorts.specs.SpecRules.{Fits, Good, Verdict, SpecVerdict};
+ghost use Rattle.rec_run.specs.Reading.{IsGood, verdict_of};
+ghost use Rattle.rec_run.specs.Run.{IsReadOut, RanOut, StopsUnwritten, told};
 ghost use Rattle.rec_run.specs.GivenTerms.{
-  HoldsGiven,
   IsReadAs,
   IsReadFor,
   IsReadFrom,
+  IsReady,
   IsRefusal,
   finish_of_run,
   list_refused,
@@ -24,11 +24,11 @@ ghost use Rattle.rec_run.specs.GivenTerms.{
 use crate::ending::{Finish, Named, Place, RunFault, Source};
 use crate::given_term::{TermReading, TermRefusal, empty_bank, parse};
 use crate::text::{ReadFault, read_all};
-use crate::verdict::{Reading, judge};
-use rec_sorts::{Checked, Letter, TermsFault, check_terms, term_letters};
-use rx_plain::PlainBank;
+use crate::verdict::{Reading, Refusal, judge};
+use rec_sorts::{Checked, TermsFault, check_terms};
+use rx_shared::SharedBank;
 use rx_term::Term;
-use std::alloc::{AllocError, Global};
+use std::alloc::Global;
 use std::io::Read;
 
 /// Why a text of terms is refused.
@@ -58,23 +58,23 @@ impl TermsRefusal {
     }
 }
 
-/// Given terms that keep the rules: the list of them, the bank that holds it, and the letters of each.
+/// A good specification, and a bank with the list of given terms, where there is one.
 #[derive(Drop)]
-pub(crate) struct GivenTerms {
-    pub(crate) bank: PlainBank,
-    pub(crate) list: Term,
-    pub(crate) letters: Vec<Vec<Letter>>,
+pub(crate) struct Job {
+    pub(crate) checked: Checked,
+    pub(crate) bank: SharedBank,
+    pub(crate) list: Option<Term>,
 }
 
 /// What the texts of a run came to.
 #[derive(Drop)]
 pub(crate) enum RunReading {
-    /// The specification is refused, or no terms are given.
-    Alone(Reading),
+    /// The specification is refused.
+    Spec(Refusal),
     /// The text of terms is refused.
-    Refused(TermsRefusal),
-    /// Both texts are good.
-    Both { checked: Checked, given: GivenTerms },
+    Terms(TermsRefusal),
+    /// All texts are good.
+    Good(Job),
 }
 
 impl RunReading {
@@ -83,12 +83,9 @@ impl RunReading {
         ensures { result ≡ place_of_run self.now }
     {
         match self {
-            RunReading::Alone(reading) => reading.place(),
-            RunReading::Refused(refusal) => refusal.place(),
-            RunReading::Both {
-                checked: _,
-                given: _,
-            } => None,
+            RunReading::Spec(refusal) => refusal.place(),
+            RunReading::Terms(refusal) => refusal.place(),
+            RunReading::Good(_) => None,
         }
     }
 
@@ -97,40 +94,65 @@ impl RunReading {
         ensures { result ≡ finish_of_run self.now }
     {
         match self {
-            RunReading::Alone(reading) => reading.finish(),
-            RunReading::Refused(_) => Finish::Refused,
-            RunReading::Both {
-                checked: _,
-                given: _,
-            } => Finish::Done,
+            RunReading::Spec(_) | RunReading::Terms(_) => Finish::Refused,
+            RunReading::Good(_) => Finish::Done,
+        }
+    }
+}
+
+/// Reads the text of a specification without given terms, and judges it.
+pub(crate) fn read_alone<R: Read>(
+    alloc: Global,
+    spec: &mut R,
+    cells: u32,
+) -> Result<RunReading, RunFault>
+    requires { (0 < cells) × (cells ≤ 1073741824) }
+    ensures due { IfOk result (λ reading. IfSome (told (R.remaining spec.old) (Some None)) (λ texts. IsReadFrom texts reading)) }
+    ensures ready { IfOk result (IsReady cells) }
+    ensures out { OnOk result (IsReadOut (R.remaining spec.old) (R.remaining spec.new)) }
+    ensures fault { IfErr result (StopsUnwritten cells) }
+{
+    let first = read_spec_text(alloc, spec)?;
+    match first {
+        Reading::Refused(refusal) => Ok(RunReading::Spec(refusal)),
+        Reading::Good(checked) => {
+            let bank = empty_bank(alloc, cells)?;
+            Ok(RunReading::Good(Job {
+                checked,
+                bank,
+                list: None,
+            }))
         }
     }
 }
 
 /// Reads the text of a specification and, where it is good, that of the given terms, and judges both.
-pub(crate) fn read_texts<R: Read, T: Read>(
+pub(crate) fn read_both<R: Read, T: Read>(
     alloc: Global,
     spec: &mut R,
-    terms: Option<&mut T>,
+    terms: &mut T,
+    cells: u32,
 ) -> Result<RunReading, RunFault>
-    ensures due { IfOk result (λ reading. IfSome (told (R.remaining spec.old) (told_terms T.remaining terms.entry))
+    requires { (0 < cells) × (cells ≤ 1073741824) }
+    ensures due { IfOk result (λ reading. IfSome (told (R.remaining spec.old) (option_map (λ bytes. Some bytes) (T.remaining terms.old)))
         (λ texts. IsReadFrom texts reading)) }
-    ensures given { IfOk result HoldsGiven }
-    ensures unread { OnOk result (IfSome (R.remaining spec.old)
-        (λ bytes. (v : Verdict) → SpecVerdict bytes v → IsRefusal v → Left (λ f. f.0.now) terms.exit (option_copied_mut terms.entry))) }
-    ensures fault { IfErr result (λ fault. Reports fault []) }
+    ensures ready { IfOk result (IsReady cells) }
+    ensures out { OnOk result (IsReadOut (R.remaining spec.old) (R.remaining spec.new)) }
+    ensures terms_out { OnOk result (IfSome (R.remaining spec.old)
+        (λ bytes. (y : Spec) → SpecVerdict bytes (Good y) → IsReadOut (T.remaining terms.old) (T.remaining terms.new))) }
+    ensures unread { IfSome (R.remaining spec.old)
+        (λ bytes. (v : Verdict) → SpecVerdict bytes v → IsRefusal v → terms.new ≡ terms.old) }
+    ensures fault { IfErr result (StopsUnwritten cells) }
 {
     let first = read_spec_text(alloc, spec)?;
-    match terms {
-        None => Ok(RunReading::Alone(first)),
-        Some(reader) => read_after(alloc, first, reader),
-    }
+    read_after(alloc, first, terms, cells)
 }
 
 /// Reads the text of a specification, and judges it.
 fn read_spec_text<R: Read>(alloc: Global, spec: &mut R) -> Result<Reading, ReadFault>
-    ensures { IfOk result (λ reading. IfSome (R.remaining spec.old)
+    ensures verdict { IfOk result (λ reading. IfSome (R.remaining spec.old)
         (λ bytes. SpecVerdict bytes (verdict_of reading))) }
+    ensures out { OnOk result (IsReadOut (R.remaining spec.old) (R.remaining spec.new)) }
 {
     let text = read_all(alloc, spec)?;
     let reading = judge(alloc, &text)?;
@@ -138,15 +160,22 @@ fn read_spec_text<R: Read>(alloc: Global, spec: &mut R) -> Result<Reading, ReadF
 }
 
 /// Reads the text of terms where the specification is good.
-fn read_after<T: Read>(alloc: Global, first: Reading, terms: &mut T) -> Result<RunReading, RunFault>
+fn read_after<T: Read>(
+    alloc: Global,
+    first: Reading,
+    terms: &mut T,
+    cells: u32,
+) -> Result<RunReading, RunFault>
+    requires { (0 < cells) × (cells ≤ 1073741824) }
     ensures due { IfOk result (λ reading. IfSome (T.remaining terms.old) (λ bytes. IsReadAs (verdict_of first) bytes reading)) }
-    ensures given { IfOk result HoldsGiven }
+    ensures ready { IfOk result (IsReady cells) }
+    ensures out { OnOk result (IsGood first → IsReadOut (T.remaining terms.old) (T.remaining terms.new)) }
     ensures unread { IsRefusal (verdict_of first) → terms.new ≡ terms.old }
-    ensures fault { IfErr result (λ fault. Reports fault []) }
+    ensures fault { IfErr result (StopsUnwritten cells) }
 {
     match first {
-        Reading::Refused(refusal) => Ok(RunReading::Alone(Reading::Refused(refusal))),
-        Reading::Good(checked) => read_terms(alloc, checked, terms),
+        Reading::Refused(refusal) => Ok(RunReading::Spec(refusal)),
+        Reading::Good(checked) => read_terms(alloc, checked, terms, cells),
     }
 }
 
@@ -155,24 +184,34 @@ fn read_terms<T: Read>(
     alloc: Global,
     checked: Checked,
     terms: &mut T,
+    cells: u32,
 ) -> Result<RunReading, RunFault>
+    requires { (0 < cells) × (cells ≤ 1073741824) }
     ensures due { IfOk result (λ reading. IfSome (T.remaining terms.old) (λ bytes. IsReadFor checked.spec bytes reading)) }
-    ensures given { IfOk result HoldsGiven }
-    ensures fault { IfErr result (λ fault. Reports fault []) }
+    ensures ready { IfOk result (IsReady cells) }
+    ensures out { OnOk result (IsReadOut (T.remaining terms.old) (T.remaining terms.new)) }
+    ensures fault { IfErr result (StopsUnwritten cells) }
 {
     let text = read_all(alloc, terms)?;
-    judge_terms(alloc, checked, &text)
+    let reading = judge_terms(alloc, checked, &text, cells)?;
+    Ok(reading)
 }
 
 /// The verdict on a text of terms for a good specification.
-fn judge_terms(alloc: Global, checked: Checked, text: &[u8]) -> Result<RunReading, RunFault>
+fn judge_terms(
+    alloc: Global,
+    checked: Checked,
+    text: &[u8],
+    cells: u32,
+) -> Result<RunReading, RunFault>
+    requires { (0 < cells) × (cells ≤ 1073741824) }
     ensures due { IfOk result (λ reading. IsReadFor checked.spec text.now reading) }
-    ensures given { IfOk result HoldsGiven }
-    ensures fault { IfErr result (λ fault. Reports fault []) }
+    ensures ready { IfOk result (IsReady cells) }
+    ensures fault { IfErr result (RanOut cells) }
 {
-    let mut bank = empty_bank(alloc)?;
+    let mut bank = empty_bank(alloc, cells)?;
     match parse(alloc, text, &mut bank)? {
-        TermReading::Refused(refusal) => Ok(RunReading::Refused(refused_terms(refusal))),
+        TermReading::Refused(refusal) => Ok(RunReading::Terms(refused_terms(refusal))),
         TermReading::Spells(list) => judge_list(alloc, checked, bank, list),
     }
 }
@@ -191,29 +230,23 @@ fn refused_terms(refusal: TermRefusal) -> TermsRefusal
 fn judge_list(
     alloc: Global,
     checked: Checked,
-    bank: PlainBank,
+    bank: SharedBank,
     list: Term,
 ) -> Result<RunReading, RunFault>
-    requires { IsSome (tree_at (store_of bank) list) }
+    requires held { IsSome (tree_at (store_of bank) list) }
+    requires unrooted { (t : ℕ) → (store_of bank).roots t ≡ 0 }
     ensures due { IfOk result (λ reading. IfSome (tree_at (store_of bank) list)
         (λ t. (bytes : List ℕ) → Fits bytes → Spells bytes t → IsReadFor checked.spec bytes reading)) }
-    ensures given { IfOk result HoldsGiven }
-    ensures fault { IfErr result (λ fault. Reports fault []) }
+    ensures ready { IfOk result (IsReady (store_of bank).cap) }
+    ensures fault { IfErr result (λ fault. fault ≡ RunFault.Memory 0) }
 {
     match check_terms(alloc, &checked, &bank, list) {
-        Ok(()) => {}
-        Err(fault) => return refused_list(fault),
-    }
-    match term_letters(alloc, &checked, &bank, list) {
-        Ok(letters) => Ok(RunReading::Both {
+        Ok(()) => Ok(RunReading::Good(Job {
             checked,
-            given: GivenTerms {
-                bank,
-                list,
-                letters,
-            },
-        }),
-        Err(AllocError) => Err(RunFault::Memory { lines: 0 }),
+            bank,
+            list: Some(list),
+        })),
+        Err(fault) => refused_list(fault),
     }
 }
 
@@ -222,7 +255,7 @@ fn refused_list(fault: TermsFault) -> Result<RunReading, RunFault>
     ensures { result ≡ list_refused fault }
 {
     match fault {
-        TermsFault::Rule { number } => Ok(RunReading::Refused(TermsRefusal::Rule { number })),
+        TermsFault::Rule { number } => Ok(RunReading::Terms(TermsRefusal::Rule { number })),
         TermsFault::Memory => Err(RunFault::Memory { lines: 0 }),
     }
 }

@@ -3,9 +3,9 @@
 ghost use Rattle.std.specs.Prelude.{◌≡◌, IfOk, length, ◌≤◌};
 ghost use Rattle.rec_sorts.specs.SpecRules.{SpecVerdict, fault};
 ghost use Rattle.rec_syntax.specs.Grammar.{SpecText};
-ghost use Rattle.rec_run.specs.Reading.{verdict_of, place_of, place_of_refusal, finish_of};
+ghost use Rattle.rec_run.specs.Reading.{verdict_of, place_of_refusal};
 
-use crate::ending::{Finish, Named, Place, Source};
+use crate::ending::{Named, Place, Source};
 use rec_sorts::{Checked, SortFault, check};
 use rec_syntax::{Syntax, SyntaxFault, read_spec};
 use std::alloc::{AllocError, Global};
@@ -23,7 +23,7 @@ pub(crate) enum Refusal {
 
 impl Refusal {
     /// Where the text is refused.
-    fn place(self) -> Option<Place>
+    pub(crate) fn place(self) -> Option<Place>
         ensures { result ≡ place_of_refusal self }
     {
         let (rule, at) = match self {
@@ -44,28 +44,6 @@ impl Refusal {
 pub(crate) enum Reading {
     Refused(Refusal),
     Good(Checked),
-}
-
-impl Reading {
-    /// Where the text is refused.
-    pub(crate) fn place(&self) -> Option<Place>
-        ensures { result ≡ place_of self.now }
-    {
-        match self {
-            Reading::Refused(refusal) => refusal.place(),
-            Reading::Good(_) => None,
-        }
-    }
-
-    /// How a run ends that meets no fault.
-    pub(crate) fn finish(&self) -> Finish
-        ensures { result ≡ finish_of self.now }
-    {
-        match self {
-            Reading::Refused(_) => Finish::Refused,
-            Reading::Good(_) => Finish::Done,
-        }
-    }
 }
 
 /// The verdict on a text.

@@ -30,3 +30,5 @@ pub mod Examining
 pub mod Walked
 pub mod GivenRules
 pub mod GivenLetters
+pub mod Differing
+pub mod LinkLemmas

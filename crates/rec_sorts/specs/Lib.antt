@@ -18,3 +18,4 @@ pub mod TermsFaults
 pub mod Walking
 pub mod ListNodes
 pub mod GivenTerms
+pub mod Linked

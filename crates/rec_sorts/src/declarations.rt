@@ -111,7 +111,7 @@ impl Declared {
         requires { IsDeclaration sorts.now.source.now declaration.now }
         ensures { OnOk result (Adds sorts.now.source.now (given_to sorts.now.names) self.old self.new (added_by_symbol (given_to sorts.now.names) (declaration_of sorts.now.source.now declaration.now))) }
     {
-        let (arguments, unknown) = sorts.find_all(alloc, &declaration.arguments)?;
+        let (arguments, unknown) = sorts.find_all(alloc, declaration.arguments.as_slice())?;
         let (sort, missing) = sorts.find(declaration.sort)?;
         self.unknown = earlier(self.unknown, earlier(unknown, missing));
         self.words.push(declaration.name)?;
@@ -145,7 +145,7 @@ impl Declared {
         self.unknown = earlier(self.unknown, missing);
         self.words.push(group.first)?;
         self.sorts.push(sort)?;
-        for word in &group.others {
+        for word in group.others.as_slice() {
             self.words.push(*word)?;
             self.sorts.push(sort)?;
         }

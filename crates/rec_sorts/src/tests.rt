@@ -2,7 +2,7 @@
 
 use crate::{Checked, Meaning, SortFault, check};
 use rec_syntax::read_spec;
-use std::alloc::Global;
+use std::alloc::{AllocError, Global};
 use std::test::Fail;
 
 const GOOD: &[u8] =
@@ -174,6 +174,45 @@ fn least_place(rt: HostRuntime) -> Result<(), Fail> {
 #[test]
 fn good(rt: HostRuntime) -> Result<(), Fail> {
     assert_eq!(rt; fault(rt.alloc(), GOOD)?, None);
+    Ok(())
+}
+
+const NUMBERS: &[u8] = b"REC-SPEC N SORTS A CONS z : -> A s : A -> A EVAL ";
+
+const LEVELS: usize = 34_000;
+
+/// A text of more than 100,000 bytes, with one term of `LEVELS` words `s` around a word of one byte.
+fn deep(alloc: Global, innermost: u8) -> Result<Vec<u8>, AllocError> {
+    let mut text = Vec::new(alloc);
+    text.extend_from_slice(NUMBERS)?;
+    for _level in 0..LEVELS {
+        text.extend_from_slice(b"s(")?;
+    }
+    text.push(innermost)?;
+    for _level in 0..LEVELS {
+        text.push(b')')?;
+    }
+    text.extend_from_slice(b" END-SPEC")?;
+    Ok(text)
+}
+
+#[test]
+fn a_long_term(rt: HostRuntime) -> Result<(), Fail> {
+    let text = deep(rt.alloc(), b'z')?;
+    assert!(rt; text.len() > 100_000);
+    let checked = check(rt.alloc(), read_spec(rt.alloc(), &text)?)?;
+    let terms = checked.terms();
+    assert_eq!(rt; terms.len(), 1);
+    assert_eq!(rt; terms[0].len(), 34_001);
+    assert_eq!(rt; terms[0][0].meaning, Meaning::Symbol(0));
+    assert_eq!(rt; terms[0][34_000].meaning, Meaning::Symbol(1));
+    Ok(())
+}
+
+#[test]
+fn a_place_far_behind(rt: HostRuntime) -> Result<(), Fail> {
+    let text = deep(rt.alloc(), b'y')?;
+    assert_eq!(rt; fault(rt.alloc(), &text)?, Some((5, 68_049)));
     Ok(())
 }
 

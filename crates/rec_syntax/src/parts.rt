@@ -3,6 +3,10 @@
 ghost use Rattle.std.specs.Prelude.{◌≡◌};
 
 use crate::lexer::Span;
+use smallvec::SmallVec;
+
+/// A list of words, of which there are mostly few.
+pub type Words = SmallVec<Span, 4>;
 
 /// A word of a term, with the number of its arguments.
 #[derive(Clone, Copy, Debug, Drop)]
@@ -46,7 +50,7 @@ pub struct Rule {
 #[derive(Debug, Drop)]
 pub struct Declaration {
     pub name: Span,
-    pub arguments: Vec<Span>,
+    pub arguments: Words,
     pub sort: Span,
 }
 
@@ -54,7 +58,7 @@ pub struct Declaration {
 #[derive(Debug, Drop)]
 pub struct Group {
     pub first: Span,
-    pub others: Vec<Span>,
+    pub others: Words,
     pub sort: Span,
 }
 

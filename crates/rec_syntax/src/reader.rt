@@ -3,6 +3,7 @@
 ghost use Rattle.std.specs.Prelude.{◌≡◌, ◌<◌, ◌≤◌, ◌↔◌, [], length, IfOk, IfErr, IsErrOf};
 ghost use Rattle.rec_syntax.specs.Grammar.{SpecText};
 ghost use Rattle.rec_syntax.specs.Answer.{IsPlaced};
+ghost use Rattle.rec_syntax.specs.Length.{longest};
 ghost use Rattle.rec_syntax.specs.Lexemes.{IsToken};
 ghost use Rattle.rec_syntax.specs.Machine.{start};
 ghost use Rattle.rec_syntax.specs.Reader.{config_of, IsState, IsAt, Steps};
@@ -12,8 +13,9 @@ mod terms;
 
 use crate::fault::SyntaxFault;
 use crate::lexer::{Kind, Part, Span, next};
-use crate::parts::{Node, Rule, Sections, Term};
+use crate::parts::{Node, Rule, Sections, Term, Words};
 use crate::spec::{LONGEST, Syntax};
+use smallvec::SmallVec;
 use std::alloc::{AllocError, AllocFailed, Global};
 
 /// The symbols that a section declares.
@@ -83,7 +85,7 @@ pub struct Reader {
     source: Vec<u8>,
     sections: Sections,
     // the words of the declaration or the group that is read
-    words: Vec<Span>,
+    words: Words,
     role: Role,
     // the open applications, and the nodes of the term that is read
     calls: Vec<Call>,
@@ -108,7 +110,7 @@ impl Reader {
                 rules: Vec::new(alloc),
                 terms: Vec::new(alloc),
             },
-            words: Vec::new(alloc),
+            words: SmallVec::new(alloc),
             role: Role::Left,
             calls: Vec::new(alloc),
             nodes: Vec::new(alloc),
@@ -149,7 +151,7 @@ impl Reader {
 
 // The specification that the text spells.
 fn read(alloc: Global, source: Vec<u8>) -> Result<Syntax, SyntaxFault>
-    requires { length source.items ≤ LONGEST }
+    requires { length source.items ≤ longest }
     ensures source { IfOk result (λ s. s.source ≡ source.items) }
     ensures spelled { IfOk result (λ s. SpecText source.items s.spec) }
     ensures long { ¬ IsErrOf result SyntaxFault.Long }
@@ -180,8 +182,8 @@ fn read(alloc: Global, source: Vec<u8>) -> Result<Syntax, SyntaxFault>
 pub fn read_spec(alloc: Global, bytes: &[u8]) -> Result<Syntax, SyntaxFault>
     ensures source { IfOk result (λ s. s.source ≡ bytes.now) }
     ensures spelled { IfOk result (λ s. SpecText bytes.now s.spec) }
-    ensures short { IfOk result (λ s. length bytes.now ≤ LONGEST) }
-    ensures long { IsErrOf result SyntaxFault.Long ↔ (LONGEST < length bytes.now) }
+    ensures short { IfOk result (λ s. length bytes.now ≤ longest) }
+    ensures long { IsErrOf result SyntaxFault.Long ↔ (longest < length bytes.now) }
     ensures place { IfErr result (IsPlaced bytes.now) }
 {
     if bytes.len() > LONGEST {

@@ -1,6 +1,7 @@
 //! A specification that was read, with its text.
 
 ghost use Rattle.std.specs.Prelude.{◌≡◌, ◌≤◌, length, map, All};
+ghost use Rattle.rec_syntax.specs.Length.{longest};
 ghost use Rattle.rec_syntax.specs.Lexemes.{word_of, Within};
 ghost use Rattle.rec_syntax.specs.Parts.{declaration_of, group_of, rule_of, term_of, spec_of, AreSections, IsDeclaration, IsGroup, IsRule, IsTerm};
 
@@ -35,7 +36,7 @@ impl Model for Syntax {
 
 impl Syntax {
     pub(crate) fn new(source: Vec<u8>, sections: Sections) -> Self
-        requires short { length source.items ≤ LONGEST }
+        requires short { length source.items ≤ longest }
         requires sections { AreSections source.items sections }
         ensures source { result.source ≡ source.items }
         ensures spec { result.spec ≡ spec_of source.items sections }
@@ -46,7 +47,7 @@ impl Syntax {
     /// The text.
     pub fn source(&self) -> &[u8]
         ensures text { result.now ≡ self.now.source }
-        ensures short { length result.now ≤ LONGEST }
+        ensures short { length result.now ≤ longest }
     {
         self.source.as_slice()
     }

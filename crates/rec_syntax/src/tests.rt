@@ -133,7 +133,7 @@ fn a_million_deep(rt: HostRuntime) -> Result<(), Fail> {
 
 #[test]
 fn the_longest(rt: HostRuntime) -> Result<(), Fail> {
-    let mut text = blank(rt.alloc(), LONGEST)?;
+    let mut text = blank(rt.alloc(), 16_777_216)?;
     assert!(rt; read_spec(rt.alloc(), &text).is_ok());
     text.push(b' ')?;
     match read_spec(rt.alloc(), &text) {

@@ -5,6 +5,9 @@ use std::alloc::{AllocError, Global};
 
 pub const MOST_STEPS: u64 = 1_000_000_000_000_000_000;
 
+/// The most cells, and the most new cells between two reclaims.
+pub const MOST_CELLS: u32 = 1_073_741_824;
+
 /// The command without the program's name before its words.
 pub fn command<'a>(alloc: Global) -> Result<Command<'a>, AllocError> {
     Command::new(alloc, "recw")
@@ -36,6 +39,8 @@ fn eval_command<'a>(alloc: Global) -> Result<Command<'a>, AllocError> {
         ))?
         .arg(file(alloc, "TERMS", "File of an ATerm list of further terms"))?
         .arg(steps(alloc))?
+        .arg(cells(alloc))?
+        .arg(reclaim(alloc))?
         .arg(count(alloc))
 }
 
@@ -99,6 +104,24 @@ fn steps<'a>(alloc: Global) -> Arg<'a> {
         .value_parser(value_parser!(u64).range(0..=MOST_STEPS as i64))
         .default_value("1000000")
         .help("Most steps that a term may take, up to 10^18")
+}
+
+fn cells<'a>(alloc: Global) -> Arg<'a> {
+    Arg::new(alloc, "cells")
+        .long("cells")
+        .value_name("C")
+        .value_parser(value_parser!(u32).range(1..=i64::from(MOST_CELLS)))
+        .default_value("16777216")
+        .help("Most cells that terms may take, 1 to 2^30")
+}
+
+fn reclaim<'a>(alloc: Global) -> Arg<'a> {
+    Arg::new(alloc, "reclaim")
+        .long("reclaim")
+        .value_name("K")
+        .value_parser(value_parser!(u32).range(1..=i64::from(MOST_CELLS)))
+        .default_value("262144")
+        .help("New cells between two reclaims, 1 to 2^30")
 }
 
 fn count<'a>(alloc: Global) -> Arg<'a> {

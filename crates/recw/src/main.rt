@@ -7,6 +7,8 @@ mod program;
 mod report;
 mod request;
 #[cfg(test)]
+mod shelf;
+#[cfg(test)]
 mod tests;
 
 use program::program;

@@ -1,5 +1,5 @@
 //! What the standard error says, and the exit statuses.
-ghost use Rattle.std.specs.Prelude.{◌≡◌, ◌≢◌, ◌↔◌, ◌⊎◌, Ok, Err};
+ghost use Rattle.std.specs.Prelude.{◌≡◌, ◌≢◌, ◌↔◌, ◌⊎◌, IsErr, Ok, Err};
 ghost use Rattle.clap.specs.Words.{kind_of};
 
 use clap::error::ErrorKind;
@@ -21,6 +21,7 @@ const STREAMS: u8 = 4;
 pub fn ended<E: Write>(end: Result<Finish, RunFault>, place: Option<Place>, err: &mut E) -> u8
     ensures done { (result ≡ 0) ↔ (end ≡ Ok Finish.Done) }
     ensures refused { (result ≡ 1) ↔ (end ≡ Ok Finish.Refused) }
+    ensures room { (result ≡ 3) ↔ (IsErr end × ((end ≢ Err RunFault.Read) × (end ≢ Err RunFault.Write))) }
     ensures streams { (result ≡ 4) ↔ ((end ≡ Err RunFault.Read) ⊎ (end ≡ Err RunFault.Write)) }
 {
     match end {
@@ -37,6 +38,7 @@ pub fn ended<E: Write>(end: Result<Finish, RunFault>, place: Option<Place>, err:
 
 fn failed<E: Write>(fault: RunFault, err: &mut E) -> u8
     ensures either { (result ≡ 3) ⊎ (result ≡ 4) }
+    ensures room { (result ≡ 3) ↔ ((fault ≢ RunFault.Read) × (fault ≢ RunFault.Write)) }
     ensures streams { (result ≡ 4) ↔ ((fault ≡ RunFault.Read) ⊎ (fault ≡ RunFault.Write)) }
 {
     let _ = writeln!(err, "recw: {fault}");

@@ -1,16 +1,12 @@
 //! What the words ask for.
 
-use crate::command::{self, MOST_STEPS};
+use crate::command::{self, MOST_CELLS, MOST_STEPS};
 use clap::error::ErrorKind;
 use clap::{ArgMatches, Error};
 use rec_run::RunOptions;
 use std::alloc::Global;
 
-const CELLS: u32 = 16_777_216;
-
 const MEMO: u32 = 65_536;
-
-const RECLAIM: u32 = 262_144;
 
 #[derive(Clone, Copy, Debug)]
 pub enum Request<'a> {
@@ -81,9 +77,9 @@ fn request_of<'a>(matches: &ArgMatches<'a>) -> Option<Request<'a>> {
 fn options_of(matches: &ArgMatches<'_>) -> Option<RunOptions> {
     Some(RunOptions {
         steps: matches.get_one::<u64>("steps")?.min(MOST_STEPS),
-        cells: CELLS,
+        cells: matches.get_one::<u32>("cells")?.clamp(1, MOST_CELLS),
         memo: MEMO,
-        reclaim: RECLAIM,
+        reclaim: matches.get_one::<u32>("reclaim")?.clamp(1, MOST_CELLS),
         count: matches.get_flag("count"),
     })
 }

@@ -1,8 +1,12 @@
 //! The words of the command line, the exit statuses and what the two outputs say.
 
 use crate::program::program;
+use crate::report::failed_start;
+use crate::shelf::Shelf;
+use std::alloc::Global;
 use std::io;
-use std::io::Write;
+use std::io::{ErrorKind, Read, Write};
+use std::rt::Files;
 use std::test::Fail;
 
 const ADDITION: &str =
@@ -16,11 +20,18 @@ struct Ran {
 }
 
 fn run(rt: &HostRuntime, words: &[&str], text: &str) -> Result<Ran, Fail> {
-    let alloc = rt.alloc();
+    run_over(rt, rt.alloc(), words, &mut text.as_bytes())
+}
+
+fn run_over<H: Files, R: Read>(
+    files: &H,
+    alloc: Global,
+    words: &[&str],
+    input: &mut R,
+) -> Result<Ran, Fail> {
     let mut out = Vec::new(alloc);
     let mut err = Vec::new(alloc);
-    let mut input = text.as_bytes();
-    let status = program(rt, alloc, words, &mut input, &mut out, &mut err);
+    let status = program(files, alloc, words, input, &mut out, &mut err);
     Ok(Ran {
         status,
         out: String::from_utf8(out)?,
@@ -30,8 +41,32 @@ fn run(rt: &HostRuntime, words: &[&str], text: &str) -> Result<Ran, Fail> {
 
 #[test]
 fn ends_with_its_status(rt: HostRuntime) -> Result<(), Fail> {
-    let rows: [(&[&str], &str, u8, &str, &str); 12] = [
+    let rows: [(&[&str], &str, u8, &str, &str); 18] = [
         (&["eval"], ADDITION, 0, "s(s(s(z)))\n", ""),
+        (&["eval", "--reclaim", "1"], ADDITION, 0, "s(s(s(z)))\n", ""),
+        (&["eval", "--cells", "64"], ADDITION, 0, "s(s(s(z)))\n", ""),
+        (
+            &["eval", "--cells", "3"],
+            ADDITION,
+            3,
+            "",
+            "recw: out of cells\n",
+        ),
+        (
+            &["eval", "--cells", "7"],
+            ADDITION,
+            3,
+            "",
+            "recw: out of cells\n",
+        ),
+        (&["eval", "--cells", "1"], "REC-SPEC E END-SPEC", 0, "", ""),
+        (
+            &["eval", "--cells", "1073741824", "--reclaim", "1073741824"],
+            ADDITION,
+            0,
+            "s(s(s(z)))\n",
+            "",
+        ),
         (&["eval", "--steps", "2"], ADDITION, 0, "!limit 2\n", ""),
         (
             &["eval", "--steps=1000000000000000000", "--count"],
@@ -238,7 +273,14 @@ fn matches_and_makes(rt: HostRuntime) -> Result<(), Fail> {
 
 #[test]
 fn refuses_words(rt: HostRuntime) -> Result<(), Fail> {
-    let rows: [&[&str]; 14] = [
+    let rows: [&[&str]; 21] = [
+        &["eval", "--cells", "0"],
+        &["eval", "--cells", "1073741825"],
+        &["eval", "--reclaim", "0"],
+        &["eval", "--reclaim", "1073741825"],
+        &["eval", "--memo", "0"],
+        &["eval", "--steps", "3", "--steps", "4"],
+        &["eval", "--count", "--count"],
         &["eval", "--steps", "1000000000000000001"],
         &["eval", "--steps", "-1"],
         &["eval", "--steps", "x"],
@@ -294,6 +336,160 @@ fn reports_a_full_output(rt: HostRuntime) -> Result<(), Fail> {
     Ok(())
 }
 
+/// A reader that may not be asked.
+#[derive(Drop)]
+struct Unread;
+
+impl Read for Unread {
+    fn read(&mut self, _buf: &mut [u8]) -> io::Result<usize> {
+        Err(io::Error::from(ErrorKind::Other))
+    }
+}
+
+#[test]
+fn reads_its_files(rt: HostRuntime) -> Result<(), Fail> {
+    let files = Shelf {
+        spec: ADDITION,
+        terms: "[plus(z,s(z))]",
+    };
+    let rows: [(&[&str], u8, &str, &str); 8] = [
+        (&["eval", "spec"], 0, "s(s(s(z)))\n", ""),
+        (&["eval", "spec", "terms"], 0, "s(s(s(z)))\ns(z)\n", ""),
+        (
+            &["eval", "terms", "spec"],
+            1,
+            "!spec G\n",
+            "recw: spec G at byte 0\n",
+        ),
+        (
+            &["eval", "spec", "spec"],
+            1,
+            "!terms A\n",
+            "recw: terms A at byte 9\n",
+        ),
+        (&["aterm", "terms"], 0, "[plus(z,s(z))]\n", ""),
+        (&["share", "terms"], 0, "[plus(z,s(z))]\ncells 8\n", ""),
+        (
+            &["match", "[<appl>]", "terms"],
+            0,
+            "yes\nplus(z,s(z))\n",
+            "",
+        ),
+        (&["aterm", "-"], 4, "", "recw: read failed\n"),
+    ];
+    for (words, status, out, err) in rows {
+        let ran = run_over(&files, rt.alloc(), words, &mut Unread)?;
+        assert_eq!(rt; ran.status, status, "{words:?}");
+        assert_eq!(rt; ran.out.as_str(), out, "{words:?}");
+        assert_eq!(rt; ran.err.as_str(), err, "{words:?}");
+    }
+    let ran = run_over(&files, rt.alloc(), &["eval"], &mut Unread)?;
+    assert!(rt; ran.status == 4 && ran.err.as_str() == "recw: read failed\n");
+    Ok(())
+}
+
+const LOOPING: &str =
+    "REC-SPEC L SORTS N CONS z : -> N s : N -> N OPNS f : N -> N g : N -> N VARS X : N RULES f(X) -> f(X) g(X) -> s(g(X)) EVAL f(z) g(z) END-SPEC";
+
+#[test]
+fn has_a_default_budget_and_ends_where_evaluation_does_not(rt: HostRuntime) -> Result<(), Fail> {
+    let ran = run(&rt, &["eval"], LOOPING)?;
+    assert!(rt; ran.status == 0 && ran.err.is_empty());
+    assert_eq!(rt; ran.out.as_str(), "!limit 1000000\n!limit 1000000\n");
+    Ok(())
+}
+
+/// Takes all bytes, but cannot be flushed.
+#[derive(Drop)]
+struct Unflushed;
+
+impl Write for Unflushed {
+    fn write(&mut self, buf: &[u8]) -> io::Result<usize> {
+        Ok(buf.len())
+    }
+
+    fn flush(&mut self) -> io::Result<()> {
+        Err(io::Error::from(ErrorKind::StorageFull))
+    }
+}
+
+#[test]
+fn reports_a_failing_flush(rt: HostRuntime) -> Result<(), Fail> {
+    let rows: [&[&str]; 6] = [
+        &["--help"],
+        &["eval"],
+        &["aterm"],
+        &["share"],
+        &["match", "<term>"],
+        &["make", "<int>", "[1]"],
+    ];
+    for words in rows {
+        let mut err = Vec::new(rt.alloc());
+        let mut input = ADDITION.as_bytes();
+        let status = program(&rt, rt.alloc(), words, &mut input, &mut Unflushed, &mut err);
+        assert_eq!(rt; status, 4, "{words:?}");
+        assert_eq!(rt;
+            err.as_slice(),
+            b"recw: write failed\n".as_slice(),
+            "{words:?}"
+        );
+    }
+    Ok(())
+}
+
+#[test]
+fn tells_why_there_are_no_words(rt: HostRuntime) -> Result<(), Fail> {
+    let rows = [
+        (ErrorKind::OutOfMemory, 3, "recw: out of memory\n"),
+        (
+            ErrorKind::InvalidData,
+            2,
+            "error: an argument is not valid UTF-8\n\nFor more information, try '--help'.\n",
+        ),
+    ];
+    for (kind, status, said) in rows {
+        let mut err = Vec::new(rt.alloc());
+        let got = failed_start(&io::Error::from(kind), &mut err);
+        assert_eq!(rt; got, status, "{said}");
+        assert_eq!(rt; err.as_slice(), said.as_bytes(), "{said}");
+    }
+    Ok(())
+}
+
+const HELP: &str = "Evaluate REC specifications, and read ATerms
+
+Usage: recw [COMMAND]
+
+Commands:
+  eval   Evaluate the terms of a REC specification
+  aterm  Print an ATerm in its shortest form
+  share  Print an ATerm and how many cells it takes with equal parts shared
+  match  Print what a pattern binds in an ATerm, or that it does not match
+  make   Print a pattern with arguments in place of its placeholders
+  help   Print this message or the help of the given subcommand(s)
+
+Options:
+  -h, --help  Print help
+
+With no arguments, recw evaluates the specification on standard input.
+
+Exit status: 0 done, 1 the text was refused, 2 wrong arguments,
+3 out of memory or cells, 4 a read or a write failed.
+";
+
+const SHARE_HELP: &str = "Print an ATerm and how many cells it takes with equal parts shared
+
+Usage: recw share [FILE]
+
+Arguments:
+  [FILE]  File of the ATerm [default: standard input]
+
+Options:
+  -h, --help  Print help
+
+Example: echo 'f(a,a)' | recw share
+";
+
 const EVAL_HELP: &str = "Evaluate the terms of a REC specification
 
 Usage: recw eval [OPTIONS] [SPEC] [TERMS]
@@ -303,9 +499,11 @@ Arguments:
   [TERMS]  File of an ATerm list of further terms
 
 Options:
-      --steps <N>  Most steps that a term may take, up to 10^18 [default: 1000000]
-      --count      Print the steps that each term took behind its value
-  -h, --help       Print help
+      --steps <N>    Most steps that a term may take, up to 10^18 [default: 1000000]
+      --cells <C>    Most cells that terms may take, 1 to 2^30 [default: 16777216]
+      --reclaim <K>  New cells between two reclaims, 1 to 2^30 [default: 262144]
+      --count        Print the steps that each term took behind its value
+  -h, --help         Print help
 
 Example: recw eval --steps 500 add.rec add.trm
 ";
@@ -358,7 +556,12 @@ Example: recw make 'f(<int>,<list>)' '[1,[2,3]]'
 
 #[test]
 fn shows_help(rt: HostRuntime) -> Result<(), Fail> {
-    let rows: [(&[&str], &str); 6] = [
+    let rows: [(&[&str], &str); 11] = [
+        (&["-h"], HELP),
+        (&["--help"], HELP),
+        (&["help"], HELP),
+        (&["share", "-h"], SHARE_HELP),
+        (&["make", "--help"], MAKE_HELP),
         (&["eval", "-h"], EVAL_HELP),
         (&["eval", "--help"], EVAL_HELP),
         (&["help", "eval"], EVAL_HELP),

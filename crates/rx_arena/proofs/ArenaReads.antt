@@ -1,14 +1,14 @@
 -- What an arena's reading calls find.
 use Rattle.std.proofs.Common.{◌≡◌, ℕ, List, [], ◌∷◌, ◌++◌, get_or, Some, None, IfSome, refl, sym, ap, subst, ◌∙◌}
-use Rattle.std.specs.Prelude.{Option, Bool, MatchOption, IsSome}
+use Rattle.std.specs.Prelude.{Option, Bool, MatchOption, IsSome, not, nat_eq, true, false}
 use Rattle.std.specs.Option.{option_map}
 use Rattle.rx_arena.specs.declared.Slot.{Slot}
 use Rattle.rx_arena.specs.declared.CellBody.{CellBody}
-use Rattle.rx_arena.specs.Node.{Node}
+use Rattle.rx_arena.specs.Node.{Node, has_mark}
 use Rattle.rx_arena.specs.Held.{IsHeld}
 use Rattle.rx_arena.specs.Links.{Links, IsChain, Chained, Listed}
-use Rattle.rx_arena.specs.Pool.{PoolState}
-use Rattle.rx_arena.specs.Arena.{taken_at, IsTaken, chain_at, InChain, IsFirst, marked_at, is_marked, roots_at, root_count, IsArena, shown_of, state_of}
+use Rattle.rx_arena.specs.Pool.{PoolState, is_marked_node, is_unmarked_node}
+use Rattle.rx_arena.specs.Arena.{taken_at, IsTaken, chain_at, InChain, IsFirst, marked_at, is_marked, is_unmarked, roots_at, root_count, IsArena, shown_of, state_of}
 use Rattle.rx_arena.proofs.Chains as chains
 use Rattle.rx_arena.proofs.Chains.{ended, popped, chain_after, split_at, some_chain, first_some}
 use Rattle.rx_arena.proofs.Pools.{links_some}
@@ -57,5 +57,20 @@ module _ (p : PoolState) (heads : List (Option ℕ)) (first : Option ℕ) (l : C
   pub roots_of : (s k : ℕ) → IsTaken (state_of p l.0 m.0) s → IfSome (get_or p.cells s None) (λ n. k ≡ n.roots) → k ≡ roots_at (state_of p l.0 m.0) s
   roots_of s k h e = let n = taken_node p heads first l m law s h.0 h.1 in subst (λ z. IfSome z (λ n. k ≡ n.roots)) n.1 e ∙ sym (ap root_count (shown_at p heads first l m law s ∙ ap (option_map shown_of) n.1))
 
-  pub mark_of : (s : ℕ) (y : Bool) → IsTaken (state_of p l.0 m.0) s → IfSome (get_or p.cells s None) (λ n. y ≡ n.marked) → y ≡ marked_at (state_of p l.0 m.0) s
-  mark_of s y h e = let n = taken_node p heads first l m law s h.0 h.1 in subst (λ z. IfSome z (λ n. y ≡ n.marked)) n.1 e ∙ sym (ap is_marked (shown_at p heads first l m law s ∙ ap (option_map shown_of) n.1))
+  pub mark_of : (s : ℕ) (y : Bool) → IsTaken (state_of p l.0 m.0) s → IfSome (get_or p.cells s None) (λ n. y ≡ has_mark n) → y ≡ marked_at (state_of p l.0 m.0) s
+  mark_of s y h e = let n = taken_node p heads first l m law s h.0 h.1 in subst (λ z. IfSome z (λ n. y ≡ has_mark n)) n.1 e ∙ sym (ap is_marked (shown_at p heads first l m law s ∙ ap (option_map shown_of) n.1))
+
+pub shown_unmarked : (o : Option Node) → is_unmarked (option_map shown_of o) ≡ is_unmarked_node o
+shown_unmarked None = refl
+shown_unmarked (Some n) = twice (nat_eq n.mark 0) where
+  twice : (b : Bool) → not (not b) ≡ b
+  twice true = refl
+  twice false = refl
+
+pub shown_none : (o : Option Node) → o ≡ None → option_map shown_of o ≡ None
+shown_none None e = refl
+shown_none (Some n) e = cc
+
+pub shown_marked : (o : Option Node) → is_marked (option_map shown_of o) ≡ is_marked_node o
+shown_marked None = refl
+shown_marked (Some n) = refl

@@ -15,7 +15,7 @@ use Rattle.rx_arena.proofs.Puts.{one_or_two, get_or-put_same, get_or-put_other, 
 use Rattle.rx_arena.proofs.Chains as chains
 use Rattle.rx_arena.proofs.Chains.{one_or_more, chain_agrees, chain_stays, chains_agree, chains_stay, chains-set, pushed, popped, ended, first_some, listed_is, chained_is, chains-length}
 use Rattle.rx_arena.proofs.Pools.{links_some}
-use Rattle.rx_arena.proofs.ArenaLaws.{empty_law, prepend_law, truncate_law, loose_free, push_law, pop_law, altered_law, unmarked_away, gray_law, gray_pop_law, take_law, give_back_law, reserve_law, taken_marked}
+use Rattle.rx_arena.proofs.ArenaLaws.{empty_law, prepend_law, truncate_law, cleared_law, loose_free, push_law, pop_law, altered_law, unmarked_away, gray_law, gray_pop_law, take_law, give_back_law, reserve_law, taken_marked}
 
 abbrev pub chain_links : List (Option Node) → Links
 chain_links cells = links (λ n. n.chain) cells
@@ -42,6 +42,10 @@ module _ (p : PoolState) (heads : List (Option ℕ)) (first : Option ℕ) (b : A
 
   pub step_law : IsArena (state_of p l.0 m.0)
   step_law = subst IsArena (sym step_state) st.law
+
+-- the same step, of heads that are these
+pub with_heads : (p : PoolState) (heads new : List (Option ℕ)) (first : Option ℕ) (b : ArenaState) → ArenaStep p heads first b → new ≡ heads → ArenaStep p new first b
+with_heads p heads new first b st e = subst (λ z. ArenaStep p z first b) (sym e) st
 
 links-put_other : (k : Node → Option ℕ) (xs : List (Option Node)) (s t : ℕ) (v : Option Node) → t ≢ s → get_or (links k (put xs s v)) t None ≡ get_or (links k xs) t None
 links-put_other k xs s t v ne = get_or-map_option k (put xs s v) t ∙ ap (option_map k) (get_or-put_other xs s t v ne) ∙ sym (get_or-map_option k xs t)
@@ -124,6 +128,14 @@ module _ (p : PoolState) (heads : List (Option ℕ)) (first : Option ℕ) (l : C
   pub within_heads : (c : ℕ) → c < length a.chains → c < length heads
   within_heads c lt = omega (arith, lt, heads_length)
 
+  -- a slot that is held is below what stands for none
+  pub held_small : (next : Option ℕ) → IfSome next (IsHeld p.cells) → IfSome next (λ t. t < 4294967295)
+  held_small None h = tt
+  held_small (Some t) h = let below = law.below t (shown_of h.0, shown_at t ∙ ap (option_map shown_of) h.1) in let cap = law.small_cap in omega (arith, below, cap)
+
+  pub taken_small : (s : ℕ) → IsTaken a s → s < 4294967295
+  taken_small s h = let below = law.below s h in let cap = law.small_cap in omega (arith, below, cap)
+
   -- the head of a chain is held, and is not a slot that is in no chain
   pub head_held : (c : ℕ) → IfSome (get_or heads c None) (IsHeld p.cells)
   head_held c = led_held_by p.cells (λ n. n.chain) (chain_at a c) (get_or heads c None) (first_some (chain_links p.cells) (get_or heads c None) (chain_at a c) (chains.chain_at (chain_links p.cells) heads l.0 c l.1))
@@ -184,6 +196,11 @@ module _ (p : PoolState) (heads : List (Option ℕ)) (first : Option ℕ) (l : C
       subst (λ z. IfSome z (λ n. IfSome n.chain (IsHeld p.cells))) (sym front_node.1)
           (subst (λ z. IfSome z (IsHeld p.cells)) (sym front_node.2) (led_held_by p.cells (λ n. n.chain) front.0 front.2 (first_some (chain_links p.cells) front.2 front.0 front.4))),
     )
+
+    pub front_small : (next : Option ℕ) → IfSome (get_or p.cells s None) (λ n. next ≡ n.chain) → IfSome next (λ t. t < 4294967295)
+    front_small next led =
+        let n_is : next ≡ front.2 = subst (λ z. IfSome z (λ n. next ≡ n.chain)) front_node.1 led ∙ front_node.2 in
+        held_small next (subst (λ z. IfSome z (IsHeld p.cells)) (sym n_is) (led_held_by p.cells (λ n. n.chain) front.0 front.2 (first_some (chain_links p.cells) front.2 front.0 front.4)))
 
     pub pop_step : (next : Option ℕ) → c < length a.chains → IfSome (get_or p.cells s None) (λ n. next ≡ n.chain) → ArenaStep p (set heads c next) first (record a { chains = set a.chains c front.0 })
     pop_step next lt led =
@@ -263,7 +280,7 @@ module _ (p : PoolState) (heads : List (Option ℕ)) (first : Option ℕ) (l : C
       (λ f. record { chained = l.1; grayed = m.1; state_is = refl; law = reserve_law a law (spare_of (record p { room = room })) (let count = filled-map shown_of p.cells in omega (arith, f, count)) }) fit
 
 -- a slot is marked, and then goes in front of the gray list
-module _ (p : PoolState) (heads : List (Option ℕ)) (first : Option ℕ) (l : Chained (chain_links p.cells) heads) (m : Listed (gray_links p.cells) first) (law : IsArena (state_of p l.0 m.0)) (q r : PoolState) (s : ℕ) (taken : IsTaken (state_of p l.0 m.0) s) (away : times s m.0 ≡ 0) (e : q ≡ record p { cells = altered s (with_mark true) p.cells }) where
+module _ (p : PoolState) (heads : List (Option ℕ)) (first : Option ℕ) (l : Chained (chain_links p.cells) heads) (m : Listed (gray_links p.cells) first) (law : IsArena (state_of p l.0 m.0)) (q r : PoolState) (s : ℕ) (taken : IsTaken (state_of p l.0 m.0) s) (away : times s m.0 ≡ 0) (e : q ≡ record p { cells = altered s (with_mark 1) p.cells }) where
   abbrev b : ArenaState
   b = state_of p l.0 m.0
 
@@ -271,7 +288,7 @@ module _ (p : PoolState) (heads : List (Option ℕ)) (first : Option ℕ) (l : C
   marked = record b { cells = altered s (with_marking true) b.cells }
 
   abbrev mark_step : ArenaStep q heads first marked
-  mark_step = altered_step p heads first l m law q s (with_mark true) (with_marking true) taken e (λ n. (refl, refl, refl)) (altered_law b law s (with_marking true) taken.0 taken.1 (λ g. refl))
+  mark_step = altered_step p heads first l m law q s (with_mark 1) (with_marking true) taken e (λ n. (refl, refl, refl)) (altered_law b law s (with_marking true) taken.0 taken.1 (λ g. refl))
 
   mark_law : IsArena (state_of q marked.chains marked.gray)
   mark_law = subst IsArena (sym mark_step.state_is) mark_step.law
@@ -354,3 +371,13 @@ pub prepended_few : (heads new : List (Option ℕ)) (n : ℕ) → new ≡ replic
 prepended_few heads new n e lt =
     let none : Option ℕ = None in
     omega (arith, lt, ap length e, length-append (replicate n none) heads, length-replicate n none)
+
+-- n empty chains in place of the chains
+pub cleared_step : (p : PoolState) (heads new : List (Option ℕ)) (first : Option ℕ) (l : Chained (chain_links p.cells) heads) (m : Listed (gray_links p.cells) first) (law : IsArena (state_of p l.0 m.0)) (n : ℕ)
+    → new ≡ replicate n None → n ≤ 2 ^ 30 → ArenaStep p new first (record (state_of p l.0 m.0) { chains = replicate n [] })
+cleared_step p heads new first l m law n e le = record {
+  chained = subst (λ z. AreChains (chain_links p.cells) z (replicate n [])) (sym e) (empty_chains (chain_links p.cells) n);
+  grayed = m.1;
+  state_is = refl;
+  law = cleared_law (state_of p l.0 m.0) law n le;
+}

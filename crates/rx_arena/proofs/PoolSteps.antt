@@ -1,16 +1,28 @@
 -- What each call of a pool makes of the store, the free list and the cells.
-use Rattle.std.proofs.Common.{◌≡◌, ℕ, ◌+◌, ◌-◌, ◌<◌, ◌≤◌, List, [], ◌∷◌, ◌++◌, length, get_or, set, Some, None, IfSome, refl, sym, ap, subst, ◌∙◌, arith}
-use Rattle.std.specs.Prelude.{Option, replicate, ◌^◌, min}
+use Rattle.std.proofs.Common.{◌≡◌, ◌⊎◌, ℕ, zero, suc, ◌+◌, ◌-◌, ◌<◌, ◌≤◌, List, [], ◌∷◌, ◌++◌, length, get_or, set, Some, None, IfSome, inl, inr, refl, sym, ap, subst, ◌∙◌, arith}
+use Rattle.std.specs.Prelude.{Option, Bool, true, false, not, nat_eq, nat_lt, replicate, take, ◌^◌, min}
+use Rattle.std.proofs.lemmas.Bool.{eqb-true}
+use Rattle.std.proofs.lemmas.Bool.Decides.{nat_tests}
 use Rattle.std.specs.Option.{option_map}
-use Rattle.std.proofs.lemmas.List.{get_or-set_same, set-set, set-get_or}
-use Rattle.rx_arena.specs.Node.{Node, with_free, changed}
+use Rattle.std.proofs.lemmas.List.{get_or-set_same, set-set, set-get_or, length-set, get_or-take}
+use Rattle.rx_arena.specs.Node.{Node, has_mark, with_free, with_mark, changed}
 use Rattle.rx_arena.specs.Held.{IsHeld}
 use Rattle.rx_arena.specs.Put.{times, put, filled, one_some, altered}
 use Rattle.rx_arena.specs.Links.{Links, links, IsChain, Listed}
-use Rattle.rx_arena.specs.Pool.{PoolState, IsPool, cells_of}
-use Rattle.rx_arena.proofs.Puts.{within_some, filled-put}
-use Rattle.rx_arena.proofs.Chains.{chain_stays, popped, pushed, listed_is, first_some}
+use Rattle.rx_arena.specs.Pool.{PoolState, IsPool, cells_of, is_given_back, is_marked_node, is_unmarked_node}
+use Rattle.rx_arena.proofs.Puts.{within_some, filled-put, get_or-without_other, get_or-without_same}
+use Rattle.rx_arena.proofs.Chains.{one_or_more, chain_stays, popped, pushed, listed_is, first_some}
 use Rattle.rx_arena.proofs.Pools.{links-set_other, links-set_same, links_some, taken_at, cells-set, pool-set, reused-away, reused-below, reused-was_free, reused-cells, reused-pool, extended-chain, extended-was_free, extended-cells, extended-pool, given_back-cells, given_back-some_taken, given_back-pool, grown-chain, grown-cells, grown-pool}
+
+-- one and zero tell each other
+one_of_two : (k : ℕ) → k ≤ 1 → nat_eq k 1 ≡ not (nat_eq k 0)
+one_of_two zero le = refl
+one_of_two (suc zero) le = refl
+one_of_two (suc (suc k)) le = absurd (omega (arith, le))
+
+pub mark_shown : (o : Option Node) (k : ℕ) → IfSome o (λ n. k ≡ n.mark) → IfSome o (λ n. not (nat_eq k 0) ≡ has_mark n)
+mark_shown None k h = tt
+mark_shown (Some n) k h = ap (λ (z : ℕ). not (nat_eq z 0)) h
 
 -- the free links of the nodes
 abbrev pub frees : List (Option Node) → Links
@@ -71,6 +83,8 @@ new-step cap le = record {
     once = λ s. omega arith;
     held = λ s lt. absurd (omega (arith, lt));
     empty = λ s h. refl;
+    free_known = λ s h. absurd (omega (arith, h));
+    taken_known = λ s n e. absurd (cc);
     free_counted = refl;
     taken_counted = refl;
     room_is = refl;
@@ -86,10 +100,10 @@ module _ (slots : List (Option Node)) (first : Option ℕ) (l : Listed (frees sl
   abbrev cells : List (Option Node)
   cells = cells_of slots l.0 fresh
 
-  pub extended-step : (new : List (Option Node)) (b : Node) → fresh < room → fresh < cap → new ≡ set slots fresh (Some b) → Step new first l.0 (fresh + 1) (taken + 1) room cap (put cells fresh (Some b))
-  extended-step new b lr lc e = step_at (set slots fresh (Some b)) new first l.0 (fresh + 1) (taken + 1) room cap (put cells fresh (Some b)) e (record {
+  pub extended-step : (new : List (Option Node)) (b : Node) → b.mark ≤ 1 → fresh < room → fresh < cap → new ≡ set slots fresh (Some b) → Step new first l.0 (fresh + 1) (taken + 1) room cap (put cells fresh (Some b))
+  extended-step new b small lr lc e = step_at (set slots fresh (Some b)) new first l.0 (fresh + 1) (taken + 1) room cap (put cells fresh (Some b)) e (record {
     chain = extended-chain slots l.0 fresh taken room cap p lr lc first l.1 b;
-    pool = extended-pool slots l.0 fresh taken room cap p lr lc first l.1 b;
+    pool = extended-pool slots l.0 fresh taken room cap p lr lc first l.1 b small;
     cells_is = extended-cells slots l.0 fresh taken room cap p lr lc first l.1 b;
   })
 
@@ -134,14 +148,14 @@ module _ (slots : List (Option Node)) (first : Option ℕ) (l : Listed (frees sl
       subst (λ z. IfSome z (λ n. IfSome (f n) (IsHeld slots))) (sym at) (held_links (f h.0) (subst (λ z. IfSome z (λ n. IfSome (f n) (IsHeld cells))) h.1 k))
 
   -- a change of a taken slot's node that keeps its free link
-  pub kept-step : (new : List (Option Node)) (s : ℕ) (f : Node → Node) → IsHeld cells s → new ≡ changed s f slots → Step new first l.0 fresh taken room cap (altered s f cells)
-  kept-step new s f h e =
+  pub kept-step : (new : List (Option Node)) (s : ℕ) (f : Node → Node) → ((n : Node) → n.mark ≤ 1 → (f n).mark ≤ 1) → IsHeld cells s → new ≡ changed s f slots → Step new first l.0 fresh taken room cap (altered s f cells)
+  kept-step new s f small h e =
       let at = taken_at slots l.0 fresh s h.0 h.1 in
       let is : changed s f slots ≡ set slots s (Some (f h.0)) = ap (λ z. set slots s (option_map f z)) at.at_store in
       let shows : altered s f cells ≡ put cells s (Some (f h.0)) = ap (λ z. put cells s (option_map f z)) h.1 in
       step_at (set slots s (Some (f h.0))) new first l.0 fresh taken room cap (altered s f cells) (e ∙ is) (record {
         chain = chain_stays (frees slots) (frees (set slots s (Some (f h.0)))) s first l.0 at.away (λ t ne. links-set_other (λ n. n.free) slots s t (Some (f h.0)) ne) l.1;
-        pool = pool-set slots l.0 fresh taken room cap p s h.0 (f h.0) h.1;
+        pool = pool-set slots l.0 fresh taken room cap p s h.0 (f h.0) (small h.0 (p.taken_known s h.0 h.1)) h.1;
         cells_is = cells-set slots l.0 fresh s (Some (f h.0)) at.away at.below (omega (arith, p.room_is, p.fresh_in_room)) ∙ sym shows;
       })
 
@@ -160,16 +174,59 @@ module _ (slots : List (Option Node)) (first : Option ℕ) (l : Listed (frees sl
   pub first_within : IfSome first (λ t. t < length slots)
   first_within = within_of first (first_some (frees slots) first l.0 l.1)
 
-  pub given_back-step : (new : List (Option Node)) (s : ℕ) → IsHeld cells s → new ≡ changed s (with_free first) slots → Step new (Some s) (s ∷ l.0) fresh (taken - 1) room cap (put cells s None)
-  given_back-step new s h e =
+  -- a node with another mark is held still
+  marked_at_first : (mid : List (Option Node)) (s : ℕ) (h : IsHeld cells s) → mid ≡ changed s (with_mark 2) slots → mid ≡ set slots s (Some (with_mark 2 h.0))
+  marked_at_first mid s h e = (let at = taken_at slots l.0 fresh s h.0 h.1 in changed_at slots slots mid s h.0 (with_mark 2) at.within (itself_at slots s h.0 at.at_store) e)
+
+  pub remarked_held : (mid : List (Option Node)) (s : ℕ) → IsHeld cells s → mid ≡ changed s (with_mark 2) slots → IsHeld mid s × IfSome first (λ t. t < length mid)
+  remarked_held mid s h e =
+      let is = marked_at_first mid s h e in
+      let len : length mid ≡ length slots = ap length is ∙ length-set slots s (Some (with_mark 2 h.0)) in
+      (held_at slots mid s (with_mark 2 h.0) (taken_at slots l.0 fresh s h.0 h.1).within is, subst (λ n. IfSome first (λ t. t < n)) (sym len) first_within)
+
+  pub given_back-step : (mid new : List (Option Node)) (s : ℕ) → IsHeld cells s → mid ≡ changed s (with_mark 2) slots → new ≡ changed s (with_free first) mid → Step new (Some s) (s ∷ l.0) fresh (taken - 1) room cap (put cells s None)
+  given_back-step mid new s h e f =
       let at = taken_at slots l.0 fresh s h.0 h.1 in
-      let m : Node = with_free first h.0 in
-      let is : changed s (with_free first) slots ≡ set slots s (Some m) = ap (λ z. set slots s (option_map (with_free first) z)) at.at_store in
-      step_at (set slots s (Some m)) new (Some s) (s ∷ l.0) fresh (taken - 1) room cap (put cells s None) (e ∙ is) (record {
+      let m : Node = with_free first (with_mark 2 h.0) in
+      let is : new ≡ set slots s (Some m) = changed_at slots mid new s (with_mark 2 h.0) (with_free first) at.within (marked_at_first mid s h e) f in
+      step_at (set slots s (Some m)) new (Some s) (s ∷ l.0) fresh (taken - 1) room cap (put cells s None) is (record {
         chain = pushed (frees slots) (frees (set slots s (Some m))) s first l.0 at.away (λ t ne. links-set_other (λ n. n.free) slots s t (Some m) ne) (links-set_same (λ n. n.free) slots s (Some m) at.within) l.1;
-        pool = given_back-pool slots l.0 fresh taken room cap p s h.0 h.1 m;
+        pool = given_back-pool slots l.0 fresh taken room cap p s h.0 h.1 m refl;
         cells_is = given_back-cells slots l.0 fresh taken room cap p s h.0 h.1 m;
       })
+
+  -- past the slots that were ever taken none is taken
+  pub past_fresh : (s : ℕ) → fresh ≤ s → get_or cells s None ≡ None
+  past_fresh s le = by_cell (get_or cells s None) refl where
+    by_cell : (o : Option Node) → get_or cells s None ≡ o → get_or cells s None ≡ None
+    by_cell None e = e
+    by_cell (Some n) e = absurd (let lt = (taken_at slots l.0 fresh s n e).below in omega (arith, lt, le))
+
+  -- what lies at a slot that was ever taken: a taken cell, or one that was given back
+  known_at : (s k : ℕ) → s < fresh → IfSome (get_or slots s None) (λ n. k ≡ n.mark) → ((k ≤ 1) × ((n : Node) × (get_or cells s None ≡ Some n) × (k ≡ n.mark))) ⊎ ((k ≡ 2) × (get_or cells s None ≡ None))
+  known_at s k lt read = elim (one_or_more (times s l.0)) [
+    | inl away ↦ (let here : get_or cells s None ≡ Some node.0 = get_or-without_other (take fresh slots) l.0 s away ∙ get_or-take fresh slots s None lt ∙ node.1 in
+        inl (subst (λ z. z ≤ 1) (sym mark) (p.taken_known s node.0 here), (node.0, here, mark)))
+    | inr h ↦ inr (mark ∙ eqb-true node.0.mark 2 (sym (ap is_given_back node.1) ∙ p.free_known s h), get_or-without_same (take fresh slots) l.0 s h)
+  ] where
+    node : (n : Node) × (get_or slots s None ≡ Some n)
+    node = p.held s lt
+
+    mark : k ≡ node.0.mark
+    mark = subst (λ z. IfSome z (λ n. k ≡ n.mark)) node.1 read
+
+  -- a slot is taken and not marked, or taken and marked, as its mark says
+  pub unmarked_held : (s k : ℕ) → s < fresh → IfSome (get_or slots s None) (λ n. k ≡ n.mark) → nat_eq k 0 ≡ is_unmarked_node (get_or cells s None)
+  unmarked_held s k lt read = elim (known_at s k lt read) [
+    | inl h ↦ ap (λ (z : ℕ). nat_eq z 0) h.1.2 ∙ sym (ap is_unmarked_node h.1.1)
+    | inr h ↦ ap (λ (z : ℕ). nat_eq z 0) h.0 ∙ sym (ap is_unmarked_node h.1)
+  ]
+
+  pub marked_held : (s k : ℕ) → s < fresh → IfSome (get_or slots s None) (λ n. k ≡ n.mark) → nat_eq k 1 ≡ is_marked_node (get_or cells s None)
+  marked_held s k lt read = elim (known_at s k lt read) [
+    | inl h ↦ one_of_two k h.0 ∙ ap (λ (z : ℕ). not (nat_eq z 0)) h.1.2 ∙ sym (ap is_marked_node h.1.1)
+    | inr h ↦ ap (λ (z : ℕ). nat_eq z 1) h.0 ∙ sym (ap is_marked_node h.1)
+  ]
 
   pub given_back_some : (s : ℕ) → IsHeld cells s → 0 < taken
   given_back_some s h = given_back-some_taken slots l.0 fresh taken room cap p s h.0 h.1 h.0
@@ -201,12 +258,15 @@ module _ (slots : List (Option Node)) (first : Option ℕ) (l : Listed (frees sl
     pub front_below : s < cap
     front_below = omega (arith, reused-below slots l.0 fresh taken room cap p s front.0 front.1 front_held, p.fresh_in_cap)
 
-    pub reused-step : (new : List (Option Node)) (b : Node) (next : Option ℕ) → IfSome (get_or slots s None) (λ n. next ≡ n.free) → new ≡ set slots s (Some b) → Step new next front.0 fresh (taken + 1) room cap (put cells s (Some b))
-    reused-step new b next led e =
+    pub reused-step : (new : List (Option Node)) (b : Node) (next : Option ℕ) → b.mark ≤ 1 → IfSome (get_or slots s None) (λ n. next ≡ n.free) → new ≡ set slots s (Some b) → Step new next front.0 fresh (taken + 1) room cap (put cells s (Some b))
+    reused-step new b next small led e =
         let n_is : next ≡ front.2 = subst (λ z. IfSome z (λ n. next ≡ n.free)) front_node.1 led ∙ front_node.2 in
         let away = reused-away slots l.0 fresh taken room cap p s front.0 front.1 front_held in
         step_at (set slots s (Some b)) new next front.0 fresh (taken + 1) room cap (put cells s (Some b)) e (record {
           chain = chain_stays (frees slots) (frees (set slots s (Some b))) s next front.0 away (λ t ne. links-set_other (λ n. n.free) slots s t (Some b) ne) (subst (λ z. IsChain (frees slots) z front.0) (sym n_is) front.4);
-          pool = reused-pool slots l.0 fresh taken room cap p s front.0 front.1 front_held b;
+          pool = reused-pool slots l.0 fresh taken room cap p s front.0 front.1 front_held b small;
           cells_is = reused-cells slots l.0 fresh taken room cap p s front.0 front.1 front_held b;
         })
+
+pub not_below : (a b : ℕ) → (a < b → ⊥) → nat_lt a b ≡ false
+not_below a b h = grind (arith, nat_tests, h)

@@ -1,14 +1,14 @@
 -- The store under a pool: what its slots hold as they are taken, given back and changed.
-use Rattle.std.proofs.Common.{◌≡◌, ◌≢◌, ℕ, zero, suc, ◌+◌, ◌-◌, ◌<◌, ◌≤◌, ◌⊎◌, inl, inr, List, [], ◌∷◌, ◌++◌, length, get_or, set, take, Some, None, refl, sym, ap, subst, ◌∙◌, arith}
-use Rattle.std.specs.Prelude.{Option, replicate}
+use Rattle.std.proofs.Common.{◌≡◌, ◌≢◌, ℕ, zero, suc, ◌+◌, ◌-◌, ◌<◌, ◌≤◌, ◌⊎◌, inl, inr, List, [], ◌∷◌, ◌++◌, length, get_or, set, take, true, Some, None, refl, sym, ap, subst, ◌∙◌, arith}
+use Rattle.std.specs.Prelude.{Option, replicate, nat_eq, true}
 use Rattle.std.specs.Option.{option_map}
 use Rattle.std.proofs.lemmas.List.{length-append, length-set, length-take, length-take-le, get_or-set_same, get_or-set_other, get_or-take, get_or_past, take-append-le}
 use Rattle.rx_arena.specs.Node.{Node}
 use Rattle.rx_arena.specs.Held.{IsHeld}
 use Rattle.rx_arena.specs.Put.{times, put, one_some, filled, without}
 use Rattle.rx_arena.specs.Links.{links, IsChain}
-use Rattle.rx_arena.specs.Pool.{IsPool, cells_of}
-use Rattle.rx_arena.proofs.Puts.{one_or_two, one_if-same, put-put, put-set, put_end, within_some, without-put, get_or-without_other, get_or-without_same, some-without, filled-put, filled_some, get_or-map_option}
+use Rattle.rx_arena.specs.Pool.{IsPool, cells_of, is_given_back}
+use Rattle.rx_arena.proofs.Puts.{one_or_two, one_if-same, put-put, put-set, put_end, within_some, without-put, get_or-without_other, get_or-without_same, some-without, filled-put, filled_some, get_or-map_option, get_or-put_same, get_or-put_other}
 use Rattle.rx_arena.proofs.Chains.{chain_agrees, chain_stays, member_some, one_or_more}
 
 pub lt_or_le : (a b : ℕ) → (a < b) ⊎ (b ≤ a)
@@ -70,6 +70,27 @@ cells-set slots free fresh s v away lt le =
     let within : s < length (take fresh slots) = omega (arith, lt, le, length-take-le fresh slots le) in
     ap (λ xs. without xs free) (take-set fresh slots s v ∙ sym (put-set (take fresh slots) s v within)) ∙ without-put (take fresh slots) free s v away
 
+-- a slot of a list is another than one that the list lacks
+free_apart : (ss : List ℕ) (s t : ℕ) → times s ss ≡ 0 → 0 < times t ss → t ≢ s
+free_apart ss s t away h e = (let here : 0 < times s ss = subst (λ z. 0 < times z ss) e h in omega (arith, here, away))
+
+-- no cell of these was given back
+abbrev AreTaken : List (Option Node) → Type 0
+AreTaken xs = (t : ℕ) (n : Node) → get_or xs t None ≡ Some n → n.mark ≤ 1
+
+AreTaken-put : (xs : List (Option Node)) (s : ℕ) (v : Option Node) → AreTaken xs → ((n : Node) → v ≡ Some n → n.mark ≤ 1) → AreTaken (put xs s v)
+AreTaken-put xs s v known here t n e = elim (one_or_two t s) [
+  | inl h ↦ here n (sym (get_or-put_same xs s v) ∙ ap (λ (z : ℕ). get_or (put xs s v) z None) (sym h.1) ∙ e)
+  | inr h ↦ known t n (sym (get_or-put_other xs s t v h.1) ∙ e)
+]
+
+-- these are the cells before, with another at slot s
+taken_after : (ys xs : List (Option Node)) (s : ℕ) (v : Option Node) → ys ≡ put xs s v → AreTaken xs → ((n : Node) → v ≡ Some n → n.mark ≤ 1) → AreTaken ys
+taken_after ys xs s v e known here = subst AreTaken (sym e) (AreTaken-put xs s v known here)
+
+small_mark : (m : Node) → m.mark ≤ 1 → (n : Node) → Some m ≡ Some n → n.mark ≤ 1
+small_mark m le n e = subst (λ (z : Node). z.mark ≤ 1) (let same : m ≡ n = cc in same) le
+
 module _ (slots : List (Option Node)) (free : List ℕ) (fresh taken room cap : ℕ) (p : IsPool slots free fresh taken room cap) where
   in_store : fresh ≤ length slots
   in_store = omega (arith, p.room_is, p.fresh_in_room)
@@ -87,8 +108,8 @@ module _ (slots : List (Option Node)) (free : List ℕ) (fresh taken room cap : 
   empty-set s m ls t le = get_or-set_other slots s t (Some m) None (λ e. absurd (omega (arith, ls, le, e))) ∙ p.empty t le
 
   -- a taken slot gets another node
-  pub pool-set : (s : ℕ) (n m : Node) → get_or (cells_of slots free fresh) s None ≡ Some n → IsPool (set slots s (Some m)) free fresh taken room cap
-  pool-set s n m e =
+  pub pool-set : (s : ℕ) (n m : Node) → m.mark ≤ 1 → get_or (cells_of slots free fresh) s None ≡ Some n → IsPool (set slots s (Some m)) free fresh taken room cap
+  pool-set s n m small e =
       let at = taken_at slots free fresh s n e in
       let put_is = cells-set slots free fresh s (Some m) at.away at.below in_store in
       let count = filled-put (cells_of slots free fresh) s (Some m) in
@@ -98,6 +119,8 @@ module _ (slots : List (Option Node)) (free : List ℕ) (fresh taken room cap : 
         once = p.once;
         held = held-set s m at.below;
         empty = empty-set s m at.below;
+        free_known = λ t h. ap is_given_back (get_or-set_other slots s t (Some m) None (free_apart free s t at.away h)) ∙ p.free_known t h;
+        taken_known = taken_after _ _ s (Some m) put_is p.taken_known (small_mark m small);
         free_counted = p.free_counted;
         taken_counted = omega (arith, now, was, count, p.taken_counted);
         room_is = length-set slots s (Some m) ∙ p.room_is;
@@ -124,8 +147,8 @@ module _ (slots : List (Option Node)) (free : List ℕ) (fresh taken room cap : 
         ∙ sym (put-put (cells_of slots rest fresh) s None (Some m))
         ∙ ap (λ (z : List ℕ). put (cells_of slots z fresh) s (Some m)) (sym split)
 
-    pub reused-pool : (m : Node) → IsPool (set slots s (Some m)) rest fresh (taken + 1) room cap
-    reused-pool m =
+    pub reused-pool : (m : Node) → m.mark ≤ 1 → IsPool (set slots s (Some m)) rest fresh (taken + 1) room cap
+    reused-pool m small =
         let count = filled-put (cells_of slots free fresh) s (Some m) in
         let was : one_some (get_or (cells_of slots free fresh) s None) ≡ 0 = ap one_some reused-was_free in
         let now : filled (cells_of (set slots s (Some m)) rest fresh) ≡ filled (put (cells_of slots free fresh) s (Some m)) = ap filled (reused-cells m) in
@@ -134,6 +157,8 @@ module _ (slots : List (Option Node)) (free : List ℕ) (fresh taken room cap : 
           once = λ t. (let o = subst (λ (z : List ℕ). times t z ≤ 1) split (p.once t) in omega (arith, o));
           held = held-set s m reused-below;
           empty = empty-set s m reused-below;
+          free_known = λ t h. ap is_given_back (get_or-set_other slots s t (Some m) None (free_apart rest s t reused-away h)) ∙ p.free_known t (subst (λ (z : List ℕ). 0 < times t z) (sym split) (omega (arith, h)));
+          taken_known = taken_after _ _ s (Some m) (reused-cells m) p.taken_known (small_mark m small);
           free_counted = omega (arith, len, p.free_counted);
           taken_counted = omega (arith, now, was, count, p.taken_counted);
           room_is = length-set slots s (Some m) ∙ p.room_is;
@@ -172,8 +197,8 @@ module _ (slots : List (Option Node)) (free : List ℕ) (fresh taken room cap : 
           ap (λ xs. without xs free) (take-set_next slots fresh (Some m) extended-within ∙ sym (put_end (take fresh slots) fresh (Some m) (length-take-le fresh slots in_store)))
           ∙ without-put (take fresh slots) free fresh (Some m) extended-away
 
-      pub extended-pool : (m : Node) → IsPool (set slots fresh (Some m)) free (fresh + 1) (taken + 1) room cap
-      extended-pool m =
+      pub extended-pool : (m : Node) → m.mark ≤ 1 → IsPool (set slots fresh (Some m)) free (fresh + 1) (taken + 1) room cap
+      extended-pool m small =
           let count = filled-put (cells_of slots free fresh) fresh (Some m) in
           let was : one_some (get_or (cells_of slots free fresh) fresh None) ≡ 0 = ap one_some extended-was_free in
           let now : filled (cells_of (set slots fresh (Some m)) free (fresh + 1)) ≡ filled (put (cells_of slots free fresh) fresh (Some m)) = ap filled (extended-cells m) in
@@ -184,6 +209,8 @@ module _ (slots : List (Option Node)) (free : List ℕ) (fresh taken room cap : 
               | inr h ↦ (let was_held = p.held t (let ne = h.1 in omega (arith, lt, ne)) in (was_held.0, get_or-set_other slots fresh t (Some m) None h.1 ∙ was_held.1))
             ];
             empty = λ t le. get_or-set_other slots fresh t (Some m) None (λ e. absurd (omega (arith, le, e))) ∙ p.empty t (omega (arith, le));
+            free_known = λ t h. ap is_given_back (get_or-set_other slots fresh t (Some m) None (free_apart free fresh t extended-away h)) ∙ p.free_known t h;
+            taken_known = taken_after _ _ fresh (Some m) (extended-cells m) p.taken_known (small_mark m small);
             free_counted = omega (arith, p.free_counted);
             taken_counted = omega (arith, now, was, count, p.taken_counted);
             room_is = length-set slots fresh (Some m) ∙ p.room_is;
@@ -204,8 +231,8 @@ module _ (slots : List (Option Node)) (free : List ℕ) (fresh taken room cap : 
     pub given_back-some_taken : 0 < taken
     given_back-some_taken = omega (arith, p.taken_counted, filled_some (cells_of slots free fresh) s n e)
 
-    pub given_back-pool : IsPool (set slots s (Some m)) (s ∷ free) fresh (taken - 1) room cap
-    given_back-pool =
+    pub given_back-pool : nat_eq m.mark 2 ≡ true → IsPool (set slots s (Some m)) (s ∷ free) fresh (taken - 1) room cap
+    given_back-pool mark =
         let count = filled-put (cells_of slots free fresh) s None in
         let was : one_some (get_or (cells_of slots free fresh) s None) ≡ 1 = ap one_some e in
         let now : filled (cells_of (set slots s (Some m)) (s ∷ free) fresh) ≡ filled (put (cells_of slots free fresh) s None) = ap filled given_back-cells in
@@ -217,6 +244,11 @@ module _ (slots : List (Option Node)) (free : List ℕ) (fresh taken room cap : 
           ];
           held = held-set s m given_back-at.below;
           empty = empty-set s m given_back-at.below;
+          free_known = λ t h. elim (one_or_two s t) [
+            | inl q ↦ ap (λ z. is_given_back (get_or (set slots s (Some m)) z None)) (sym q.1) ∙ ap is_given_back (get_or-set_same slots s (Some m) None given_back-at.within) ∙ mark
+            | inr q ↦ ap is_given_back (get_or-set_other slots s t (Some m) None (λ e. q.1 (sym e))) ∙ p.free_known t (omega (arith, h, q.0))
+          ];
+          taken_known = taken_after _ _ s None given_back-cells p.taken_known (λ n q. absurd (cc));
           free_counted = omega (arith, some, p.free_counted);
           taken_counted = omega (arith, now, was, count, p.taken_counted);
           room_is = length-set slots s (Some m) ∙ p.room_is;
@@ -241,6 +273,8 @@ module _ (slots : List (Option Node)) (free : List ℕ) (fresh taken room cap : 
       once = p.once;
       held = λ t l. (let was = p.held t l in (was.0, get_or-grown slots 1024 t ∙ was.1));
       empty = λ t le. get_or-grown slots 1024 t ∙ p.empty t le;
+      free_known = λ t h. ap is_given_back (get_or-grown slots 1024 t) ∙ p.free_known t h;
+      taken_known = subst AreTaken (sym grown-cells) p.taken_known;
       free_counted = p.free_counted;
       taken_counted = ap filled grown-cells ∙ p.taken_counted;
       room_is = length-append slots (replicate 1024 None) ∙ ap (λ k. k + 1024) p.room_is;

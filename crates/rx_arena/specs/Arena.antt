@@ -3,7 +3,7 @@ use Rattle.std.specs.Prelude.{◌≡◌, ℕ, ◌+◌, ◌%◌, ◌<◌, ◌≤�
 use Rattle.std.specs.Option.{option_map}
 use Rattle.rx_arena.specs.declared.CellBody.{CellBody}
 use Rattle.rx_arena.specs.declared.Slot.{Slot}
-use Rattle.rx_arena.specs.Node.{Node}
+use Rattle.rx_arena.specs.Node.{Node, has_mark}
 use Rattle.rx_arena.specs.Put.{times, times_in, filled}
 use Rattle.rx_arena.specs.Pool.{PoolState, spare_of}
 
@@ -52,6 +52,11 @@ marked_at a s = is_marked (taken_at a s)
 
 abbrev pub IsMarked : ArenaState → ℕ → Type 0
 IsMarked a s = marked_at a s ≡ true
+
+-- the slot is taken, and not marked
+abbrev pub is_unmarked : Option Taken → Bool
+is_unmarked None = false
+is_unmarked (Some t) = not t.marked
 
 abbrev pub root_count : Option Taken → ℕ
 root_count None = 0
@@ -118,7 +123,7 @@ empty_arena cap chains = record { cells = []; chains = replicate chains []; gray
 
 -- what is shown of a node
 abbrev pub shown_of : Node → Taken
-shown_of n = record { body = n.body; roots = n.roots; marked = n.marked }
+shown_of n = record { body = n.body; roots = n.roots; marked = has_mark n }
 
 -- the arena of a pool, with these lists through its cells
 abbrev pub state_of : PoolState → List (List ℕ) → List ℕ → ArenaState

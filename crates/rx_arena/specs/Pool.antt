@@ -1,6 +1,6 @@
 -- What a pool of slots shows: the slots that are taken, and those that may be.
-use Rattle.std.specs.Prelude.{◌≡◌, ℕ, ◌+◌, ◌-◌, ◌<◌, ◌≤◌, ◌^◌, min, List, take, length, get_or, Option, None}
-use Rattle.rx_arena.specs.Node.{Node}
+use Rattle.std.specs.Prelude.{◌≡◌, ℕ, ◌+◌, ◌-◌, ◌<◌, ◌≤◌, ◌^◌, min, List, take, length, get_or, Option, Some, None, Bool, true, false, nat_eq}
+use Rattle.rx_arena.specs.Node.{Node, has_mark}
 use Rattle.rx_arena.specs.Held.{IsHeld}
 use Rattle.rx_arena.specs.Put.{times, filled, without}
 
@@ -23,11 +23,28 @@ spare_of p = min p.cap p.room - filled p.cells
 abbrev pub cells_of : List (Option Node) → List ℕ → ℕ → List (Option Node)
 cells_of slots free fresh = without (take fresh slots) free
 
--- the free slots, the counts and the store agree
+-- whether a node is there and marked
+abbrev pub is_marked_node : Option Node → Bool
+is_marked_node None = false
+is_marked_node (Some n) = has_mark n
+
+-- whether a node is there and not marked
+abbrev pub is_unmarked_node : Option Node → Bool
+is_unmarked_node None = false
+is_unmarked_node (Some n) = nat_eq n.mark 0
+
+-- whether a node is there and was given back
+abbrev pub is_given_back : Option Node → Bool
+is_given_back None = false
+is_given_back (Some n) = nat_eq n.mark 2
+
+-- the free slots, the counts and the store agree; marks tell the taken cells from those that were given back
 pub record IsPool (slots : List (Option Node)) (free : List ℕ) (fresh taken room cap : ℕ) : Type 0 where
   pub once : (s : ℕ) → times s free ≤ 1
   pub held : (s : ℕ) → s < fresh → IsHeld slots s
   pub empty : (s : ℕ) → fresh ≤ s → get_or slots s None ≡ None
+  pub free_known : (s : ℕ) → 0 < times s free → is_given_back (get_or slots s None) ≡ true
+  pub taken_known : (s : ℕ) (n : Node) → get_or (cells_of slots free fresh) s None ≡ Some n → n.mark ≤ 1
   pub free_counted : taken + length free ≡ fresh
   pub taken_counted : filled (cells_of slots free fresh) ≡ taken
   pub room_is : length slots ≡ room

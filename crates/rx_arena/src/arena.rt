@@ -1,11 +1,12 @@
 //! The arena: slots to take and give back, the chains of a table, and the gray list of a marking.
-ghost use Rattle.std.specs.Prelude.{◌≡◌, ◌≢◌, ◌==◌, if◌then◌else◌, ℕ, ◌+◌, ◌%◌, ◌-◌, ◌<◌, ◌≤◌, ◌^◌, ◌++◌, ◌∷◌, [], List, Bool, true, false, Option, Some, None, Ok, Err, MatchOption, IfSome, IfOk, IfErr, OnOk, OnErr, IfNone, IsSome, get_or, length, slice_set, take, replicate, reverse};
-ghost use Rattle.rx_arena.specs.Put.{times, times_in, put, altered, emptied};
+ghost use Rattle.std.specs.Prelude.{◌≡◌, ◌≢◌, ◌==◌, if◌then◌else◌, ℕ, ◌+◌, ◌%◌, ◌-◌, ◌<◌, ◌≤◌, ◌^◌, ◌++◌, ◌∷◌, [], List, Bool, true, false, Option, Some, None, Ok, Err, MatchOption, IfSome, IfOk, IfErr, OnOk, OnErr, IfNone, IsSome, get_or, length, slice_set, take, replicate, reverse, is_some};
+ghost use Rattle.rx_arena.specs.Put.{times, times_in, total, total-prop, put, altered, emptied};
 ghost use Rattle.rx_arena.specs.Links.{Chained, Chained-prop, Listed, Listed-prop, links};
-ghost use Rattle.rx_arena.specs.Arena.{taken_at, IsTaken, taken_count, chain_at, InChain, IsLoose, marked_at, IsMarked, roots_at, hash_at, IsUnprotected, new_cell, with_count, with_marking, kept_in, dropped_from, IsFirst, times_hashed, IsArena, empty_arena};
+ghost use Rattle.rx_arena.specs.Arena.{taken_at, IsTaken, taken_count, chain_at, InChain, IsLoose, marked_at, IsMarked, roots_at, hash_at, IsUnprotected, new_cell, with_count, with_marking, kept_in, dropped_from, IsFirst, is_unmarked, times_hashed, IsArena, empty_arena};
 
 use crate::fault::ArenaFault;
-use crate::pool::Pool;
+use crate::heads::Heads;
+use crate::pool::{MARKED, Pool, UNMARKED};
 use crate::{CellBody, Slot};
 use std::alloc::Global;
 use std::marker::Model;
@@ -15,10 +16,12 @@ use std::marker::Model;
 pub struct Arena {
     alloc: Global,
     pool: Pool,
-    heads: Vec<Option<u32>>,
+    heads: Heads,
     gray_first: Option<u32>,
-    ghost chained: { Chained (links (λ n. n.chain) pool.cells) heads.items } by { Chained-prop (links (λ n. n.chain) pool.cells) heads.items },
+    linked: u32,
+    ghost chained: { Chained (links (λ n. n.chain) pool.cells) heads } by { Chained-prop (links (λ n. n.chain) pool.cells) heads },
     ghost grayed: { Listed (links (λ n. n.gray) pool.cells) gray_first } by { Listed-prop (links (λ n. n.gray) pool.cells) gray_first },
+    ghost counted: { linked ≡ total chained.0 } by { total-prop linked chained.0 },
 }
 
 impl Model for Arena {
@@ -29,18 +32,6 @@ impl Model for Arena {
     ghost view = { λ a. state_of a.pool a.chained.0 a.grayed.0 };
 
     ghost invariant = { λ a. IsArena (state_of a.pool a.chained.0 a.grayed.0) };
-}
-
-/// The heads of empty chains.
-fn empty_heads(alloc: Global, count: u32) -> Result<Vec<Option<u32>>, ArenaFault>
-    ensures ok { IfOk result (λ v. v.items ≡ replicate count None) }
-    ensures fault { IfErr result (λ e. e ≡ ArenaFault.Memory) }
-{
-    let mut heads = Vec::new(alloc);
-    for i in 0..count {
-        heads.push(None).map_err(|_| ArenaFault::Memory)?;
-    }
-    Ok(heads)
 }
 
 /// The slot of a number.
@@ -59,12 +50,14 @@ impl Arena {
         ensures law { IfOk result IsArena }
         ensures fault { IfErr result (λ e. e ≡ ArenaFault.Memory) }
     {
-        let heads = empty_heads(alloc, chains)?;
+        let heads = Heads::new(alloc, chains)?;
+        let pool = Pool::new(alloc, cap);
         Ok(Arena {
             alloc,
-            pool: Pool::new(alloc, cap),
+            pool,
             heads,
             gray_first: None,
+            linked: 0,
         })
     }
 
@@ -133,6 +126,20 @@ impl Arena {
         self.pool.body(slot.0)
     }
 
+    /// Whether the slot is taken and not marked.
+    pub fn holds_unmarked(&self, slot: Slot) -> bool
+        ensures { result ≡ is_unmarked (taken_at self.now slot.0) }
+    {
+        self.pool.holds_unmarked(slot.0)
+    }
+
+    /// Whether the slot is taken and marked.
+    pub fn holds_marked(&self, slot: Slot) -> bool
+        ensures { result ≡ marked_at self.now slot.0 }
+    {
+        self.pool.holds_marked(slot.0)
+    }
+
     /// How often the cell is protected.
     pub fn roots(&self, slot: Slot) -> u16
         requires { IsTaken self.now slot.0 }
@@ -169,7 +176,7 @@ impl Arena {
         ensures first { IsFirst result (chain_at self.now chain) }
         ensures law { IsArena self.now }
     {
-        slot_of(self.heads[chain as usize])
+        slot_of(self.heads.get(chain))
     }
 
     /// The slot after this one in its chain.
@@ -189,9 +196,9 @@ impl Arena {
         ensures after { self.new ≡ record self.old { chains = slice_set self.old.chains chain (slot.0 ∷ chain_at self.old chain) } }
         ensures law { IsArena self.new }
     {
-        let index = chain as usize;
-        self.pool.set_chain(slot.0, self.heads[index]);
-        self.heads[index] = Some(slot.0);
+        self.pool.set_chain(slot.0, self.heads.get(chain));
+        self.heads.set(chain, Some(slot.0));
+        self.linked += 1;
     }
 
     /// Takes the first slot out of a chain.
@@ -204,10 +211,11 @@ impl Arena {
         ensures rest { self.new ≡ record self.old { chains = slice_set self.old.chains chain (chain_at self.new chain) } }
         ensures law { IsArena self.new }
     {
-        let index = chain as usize;
-        match self.heads[index] {
+        match self.heads.get(chain) {
             Some(slot) => {
-                self.heads[index] = self.pool.chain(slot);
+                let next = self.pool.chain(slot);
+                self.heads.set(chain, next);
+                self.linked -= 1;
                 Some(Slot(slot))
             }
             None => None,
@@ -229,7 +237,7 @@ impl Arena {
         ensures after { self.new ≡ record self.old { cells = altered slot.0 (with_marking true) self.old.cells; gray = slot.0 ∷ self.old.gray } }
         ensures law { IsArena self.new }
     {
-        self.pool.set_marked(slot.0, true);
+        self.pool.set_mark(slot.0, MARKED);
         self.pool.set_gray(slot.0, self.gray_first);
         self.gray_first = Some(slot.0);
     }
@@ -270,7 +278,7 @@ impl Arena {
         ensures after { self.new ≡ record self.old { cells = altered slot.0 (with_marking false) self.old.cells } }
         ensures law { IsArena self.new }
     {
-        self.pool.set_marked(slot.0, false)
+        self.pool.set_mark(slot.0, UNMARKED)
     }
 
     /// Moves the marked slots of a chain to the gray list, and gives back the others.
@@ -308,6 +316,41 @@ impl Arena {
         }
     }
 
+    /// Moves the marked slots of a chain to the gray list, and the others out of it.
+    fn part(&mut self, chain: u32)
+        requires chain { chain < length self.old.chains }
+        requires no_gray { self.old.gray ≡ [] }
+        ensures rest { self.new ≡ record self.old { chains = slice_set self.old.chains chain []; gray = self.new.gray } }
+        ensures gray { reverse self.new.gray ≡ kept_in self.old chain }
+        ensures loose { (s : ℕ) → 0 < times s self.new.gray → IsLoose self.new s }
+        ensures law { IsArena self.new }
+    {
+        while let Some(slot) = self.chain_pop(chain) {
+            if self.marked(slot) {
+                self.gray_return(slot);
+            }
+        }
+    }
+
+    /// Takes the slots of a chain that are not marked out of it. The others keep their order.
+    pub fn chain_keep_marked(&mut self, chain: u32)
+        requires chain { chain < length self.old.chains }
+        requires no_gray { self.old.gray ≡ [] }
+        ensures after { self.new ≡ record self.old { chains = slice_set self.old.chains chain (kept_in self.old chain) } }
+        ensures law { IsArena self.new }
+    {
+        self.part(chain);
+        self.restore(chain);
+    }
+
+    /// How many slots were ever taken: each taken slot's number is below.
+    pub fn slots(&self) -> u32
+        ensures past { (s : ℕ) → result ≤ s → taken_at self.now s ≡ None }
+        ensures law { IsArena self.now }
+    {
+        self.pool.slots()
+    }
+
     /// Gives back the slots of a chain that are not marked. The others keep their order.
     pub fn chain_retain_marked(&mut self, chain: u32)
         requires chain { chain < length self.old.chains }
@@ -334,22 +377,22 @@ impl Arena {
         if total > u32::MAX as usize {
             return Err(ArenaFault::Memory);
         }
-        let mut heads = empty_heads(self.alloc, count)?;
-        match heads.extend_from_slice(&self.heads) {
-            Ok(()) => {
+        match self.heads.prepended(self.alloc, count) {
+            Ok(heads) => {
                 self.heads = heads;
                 Ok(())
             }
-            Err(_) => Err(ArenaFault::Memory),
+            Err(fault) => Err(fault),
         }
     }
 
-    /// Keeps the first chains alone.
+    /// Keeps the first chains alone, where the others are empty.
     fn keep_chains(&mut self, count: u32)
+        requires { (c : ℕ) → count ≤ c → chain_at self.old c ≡ [] }
         ensures after { self.new ≡ record self.old { chains = take count self.old.chains } }
         ensures law { IsArena self.new }
     {
-        self.heads.truncate(count as usize);
+        self.heads.truncate(count);
     }
 
     /// Moves each slot of a chain to the one of the first `count` chains that its hash names.
@@ -369,8 +412,8 @@ impl Arena {
         }
     }
 
-    /// Deals the slots of all chains out to `chains` new ones, by their hashes.
-    pub fn rehash_into(&mut self, chains: u32) -> Result<(), ArenaFault>
+    /// Deals the slots of all chains out to `chains` new ones, chain by chain.
+    fn deal_chains(&mut self, chains: u32) -> Result<(), ArenaFault>
         requires { (1 ≤ chains) × (chains ≤ 2 ^ 30) }
         ensures chains { OnOk result (length self.new.chains ≡ chains) }
         ensures hashed { OnOk result ((c : ℕ) → c < chains → (s : ℕ) → times s (chain_at self.new c) ≡ times_hashed self.old chains c s) }
@@ -386,6 +429,83 @@ impl Arena {
         }
         self.keep_chains(chains);
         Ok(())
+    }
+
+    /// Puts `count` empty chains in place of the chains.
+    fn clear_chains(&mut self, count: u32) -> Result<(), ArenaFault>
+        requires { count ≤ 2 ^ 30 }
+        ensures ok { OnOk result (self.new ≡ record self.old { chains = replicate count [] }) }
+        ensures err { OnErr result (self.new ≡ self.old) }
+        ensures fault { IfErr result (λ e. e ≡ ArenaFault.Memory) }
+        ensures law { IsArena self.new }
+    {
+        let heads = Heads::new(self.alloc, count)?;
+        self.heads = heads;
+        self.linked = 0;
+        Ok(())
+    }
+
+    /// Puts each slot below `end` into the chain that its hash names.
+    fn deal_slots(&mut self, end: u32, chains: u32)
+        requires chains { (1 ≤ chains) × (chains ≡ length self.old.chains) }
+        requires empty { (s : ℕ) → IsLoose self.old s }
+        requires taken { (s : ℕ) → s < end → IsTaken self.old s }
+        requires law { IsArena self.old }
+        ensures dealt { (c : ℕ) → c < chains → (s : ℕ) → s < end → times s (chain_at self.new c) ≡ (if hash_at self.old s % chains == c then 1 else 0) }
+        ensures past { (s : ℕ) → end ≤ s → IsLoose self.new s }
+        ensures count { length self.new.chains ≡ chains }
+        ensures rest { self.new ≡ record self.old { chains = self.new.chains } }
+        ensures law { IsArena self.new }
+    {
+        for slot in 0..end {
+            let chain = (self.read(Slot(slot)).hash % chains as u64) as u32;
+            self.chain_push(chain, Slot(slot));
+        }
+    }
+
+    /// Deals the slots below `end`, which are those in the chains, out to `chains` new ones.
+    fn deal_out(&mut self, end: u32, chains: u32) -> Result<(), ArenaFault>
+        requires chains { (1 ≤ chains) × (chains ≤ 2 ^ 30) }
+        requires inside { (s : ℕ) → s < end → times_in s self.old.chains ≡ 1 }
+        requires past { (s : ℕ) → end ≤ s → IsLoose self.old s }
+        requires law { IsArena self.old }
+        ensures chains { OnOk result (length self.new.chains ≡ chains) }
+        ensures hashed { OnOk result ((c : ℕ) → c < chains → (s : ℕ) → times s (chain_at self.new c) ≡ times_hashed self.old chains c s) }
+        ensures rest { self.new ≡ record self.old { chains = self.new.chains } }
+        ensures err { OnErr result (self.new ≡ self.old) }
+        ensures fault { IfErr result (λ e. e ≡ ArenaFault.Memory) }
+        ensures law { IsArena self.new }
+    {
+        self.clear_chains(chains)?;
+        self.deal_slots(end, chains);
+        Ok(())
+    }
+
+    /// How many slots stand in chains.
+    fn linked(&self) -> u32
+        ensures value { result ≡ total self.now.chains }
+        ensures law { IsArena self.now }
+    {
+        self.linked
+    }
+
+    /// Deals the slots of all chains out to `chains` new ones, by their hashes: in the order of the
+    /// slots, where each that was ever taken stands in a chain.
+    pub fn rehash_into(&mut self, chains: u32) -> Result<(), ArenaFault>
+        requires { (1 ≤ chains) × (chains ≤ 2 ^ 30) }
+        ensures chains { OnOk result (length self.new.chains ≡ chains) }
+        ensures hashed { OnOk result ((c : ℕ) → c < chains → (s : ℕ) → times s (chain_at self.new c) ≡ times_hashed self.old chains c s) }
+        ensures rest { self.new ≡ record self.old { chains = self.new.chains } }
+        ensures err { OnErr result (self.new ≡ self.old) }
+        ensures fault { IfErr result (λ e. e ≡ ArenaFault.Memory) }
+        ensures law { IsArena self.new }
+    {
+        let slots = self.slots();
+        if self.linked() == slots {
+            self.deal_out(slots, chains)
+        } else {
+            self.deal_chains(chains)
+        }
     }
 }
 

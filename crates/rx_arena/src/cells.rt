@@ -5,7 +5,7 @@ ghost use Rattle.std.specs.Prelude.{Option, Some, None, IfSome};
 ghost use denote.RawPtr.{Ptr, InBlock};
 ghost use Rattle.rx_arena.specs.Real.{InBlock-prop, IsLast};
 ghost use Rattle.rx_arena.specs.Node.{Node, node_at, lone, led_to, changed, IsClosed};
-ghost use Rattle.rx_arena.specs.Node.{with_body, with_roots, with_mark, with_chain, with_gray, with_free};
+ghost use Rattle.rx_arena.specs.Node.{with_roots, with_mark, with_chain, with_gray, with_free};
 
 use crate::room::Room;
 use crate::{CellBody, Slot};
@@ -24,7 +24,7 @@ pub struct Cell {
     number: u32,
     pub(crate) roots: u16,
     kind: u8,
-    pub(crate) marked: bool,
+    pub(crate) mark: u8,
 }
 
 const _: () = prove!(size_of::<Cell>() == 64);
@@ -143,7 +143,30 @@ impl Cells {
                 number: at.slot,
                 roots: 0,
                 kind: body.kind,
-                marked: false,
+                mark: 0,
+            })
+        }
+    }
+
+    /// Writes a new node over another one.
+    pub(crate) fn renew(&mut self, place: Place, new: CellBody)
+        requires { IsPlace self.old.blocks place × IsHeld self.old.slots place.slot }
+        ensures blocks { self.new.blocks ≡ self.old.blocks }
+        ensures slots { self.new.slots ≡ slice_set self.old.slots place.slot (Some (lone new)) }
+    {
+        unsafe {
+            place.at.write(Cell {
+                chain: place.at,
+                gray: place.at,
+                free: place.at,
+                a: new.a,
+                b: new.b,
+                hash: new.hash,
+                anns: new.anns,
+                number: place.slot,
+                roots: 0u16,
+                kind: new.kind,
+                mark: 0,
             })
         }
     }
@@ -157,21 +180,6 @@ impl Cells {
         unsafe { &*at.at }
     }
 
-    /// Writes the body, field by field.
-    pub(crate) fn set_body(&mut self, at: Place, body: CellBody)
-        requires { IsPlace self.old.blocks at × IsHeld self.old.slots at.slot }
-        ensures blocks { self.new.blocks ≡ self.old.blocks }
-        ensures slots { self.new.slots ≡ changed at.slot (with_body body) self.old.slots }
-    {
-        unsafe {
-            (*at.at).kind = body.kind;
-            (*at.at).a = body.a;
-            (*at.at).b = body.b;
-            (*at.at).anns = body.anns;
-            (*at.at).hash = body.hash
-        }
-    }
-
     /// Writes the root count.
     pub(crate) fn set_roots(&mut self, at: Place, count: u16)
         requires { IsPlace self.old.blocks at × IsHeld self.old.slots at.slot }
@@ -182,12 +190,12 @@ impl Cells {
     }
 
     /// Writes the mark.
-    pub(crate) fn set_marked(&mut self, at: Place, marked: bool)
+    pub(crate) fn set_mark(&mut self, at: Place, mark: u8)
         requires { IsPlace self.old.blocks at × IsHeld self.old.slots at.slot }
         ensures blocks { self.new.blocks ≡ self.old.blocks }
-        ensures slots { self.new.slots ≡ changed at.slot (with_mark marked) self.old.slots }
+        ensures slots { self.new.slots ≡ changed at.slot (with_mark mark) self.old.slots }
     {
-        unsafe { (*at.at).marked = marked }
+        unsafe { (*at.at).mark = mark }
     }
 
     /// Writes the link to the next cell of the chain.

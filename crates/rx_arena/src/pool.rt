@@ -1,10 +1,10 @@
 //! The slots that are taken, and a list of those that were given back.
-ghost use Rattle.std.specs.Prelude.{◌≡◌, ◌+◌, ◌-◌, ◌<◌, ◌≤◌, ◌^◌, ◌∷◌, [], Option, Some, None, Ok, Err, MatchOption, MatchResult, IfSome, IfOk, IfErr, OnOk, OnErr, OnSome, IfNone, get_or, length, slice_set, min};
+ghost use Rattle.std.specs.Prelude.{◌≡◌, ◌+◌, ◌-◌, ◌<◌, ◌≤◌, ◌^◌, ◌∷◌, [], Option, Some, None, Ok, Err, MatchOption, MatchResult, IfSome, IfOk, IfErr, OnOk, OnErr, OnSome, IfNone, get_or, length, min, ℕ};
 ghost use Rattle.rx_arena.specs.Held.{IsHeld};
-ghost use Rattle.rx_arena.specs.Node.{lone, with_chain, with_gray, with_mark, with_roots};
+ghost use Rattle.rx_arena.specs.Node.{lone, has_mark, with_chain, with_gray, with_mark, with_roots};
 ghost use Rattle.rx_arena.specs.Put.{put, filled, altered};
 ghost use Rattle.rx_arena.specs.Links.{Listed, Listed-prop, links};
-ghost use Rattle.rx_arena.specs.Pool.{spare_of};
+ghost use Rattle.rx_arena.specs.Pool.{spare_of, is_marked_node, is_unmarked_node};
 
 use crate::CellBody;
 use crate::fault::ArenaFault;
@@ -14,6 +14,15 @@ use std::marker::Model;
 
 /// How many slots a block has.
 const BLOCK: u32 = 1024;
+
+/// The mark of a taken cell that is not marked, and of a new one.
+pub(crate) const UNMARKED: u8 = 0;
+
+/// The mark of a taken cell that is marked.
+pub(crate) const MARKED: u8 = 1;
+
+/// The mark of a cell that was given back.
+const GIVEN_BACK: u8 = 2;
 
 /// The slots that are taken. A slot that is given back is the next to be taken.
 #[derive(Drop)]
@@ -35,19 +44,6 @@ impl Model for Pool {
     ghost view = { λ p. record { cells = cells_of p.store p.listed.0 p.fresh; free = p.listed.0; fresh = p.fresh; room = p.room; cap = p.cap } };
 
     ghost invariant = { λ p. IsPool p.store p.listed.0 p.fresh p.taken p.room p.cap };
-}
-
-/// Makes the node at a slot a new one.
-fn renew(store: &mut Store, slot: u32, body: CellBody)
-    requires { IsHeld store.old slot }
-    ensures { store.new ≡ slice_set store.old slot (Some (lone body)) }
-{
-    store.set_body(slot, body);
-    store.set_roots(slot, 0);
-    store.set_marked(slot, false);
-    store.set_chain(slot, None);
-    store.set_gray(slot, None);
-    store.set_free(slot, None);
 }
 
 impl Pool {
@@ -91,7 +87,7 @@ impl Pool {
         match self.free {
             Some(slot) => {
                 self.free = self.store.free(slot);
-                renew(&mut self.store, slot, body);
+                self.store.renew(slot, body);
                 self.taken += 1;
                 Some(slot)
             }
@@ -136,9 +132,31 @@ impl Pool {
         ensures after { self.new ≡ record self.old { cells = put self.old.cells slot None; free = slot ∷ self.old.free } }
         ensures spare { spare_of self.new ≡ spare_of self.old + 1 }
     {
+        self.store.set_mark(slot, GIVEN_BACK);
         self.store.set_free(slot, self.free);
         self.free = Some(slot);
         self.taken -= 1;
+    }
+
+    /// Whether the slot is taken and not marked.
+    pub(crate) fn holds_unmarked(&self, slot: u32) -> bool
+        ensures { result ≡ is_unmarked_node (get_or self.now.cells slot None) }
+    {
+        slot < self.fresh && self.store.mark(slot) == UNMARKED
+    }
+
+    /// Whether the slot is taken and marked.
+    pub(crate) fn holds_marked(&self, slot: u32) -> bool
+        ensures { result ≡ is_marked_node (get_or self.now.cells slot None) }
+    {
+        slot < self.fresh && self.store.mark(slot) == MARKED
+    }
+
+    /// How many slots were ever taken.
+    pub(crate) fn slots(&self) -> u32
+        ensures { (s : ℕ) → result ≤ s → get_or self.now.cells s None ≡ None }
+    {
+        self.fresh
     }
 
     pub(crate) fn body(&self, slot: u32) -> CellBody
@@ -157,9 +175,9 @@ impl Pool {
 
     pub(crate) fn marked(&self, slot: u32) -> bool
         requires { IsHeld self.now.cells slot }
-        ensures { IfSome (get_or self.now.cells slot None) (λ n. result ≡ n.marked) }
+        ensures { IfSome (get_or self.now.cells slot None) (λ n. result ≡ has_mark n) }
     {
-        self.store.marked(slot)
+        self.store.mark(slot) != UNMARKED
     }
 
     pub(crate) fn chain(&self, slot: u32) -> Option<u32>
@@ -183,11 +201,12 @@ impl Pool {
         self.store.set_roots(slot, count)
     }
 
-    pub(crate) fn set_marked(&mut self, slot: u32, marked: bool)
-        requires { IsHeld self.old.cells slot }
-        ensures { self.new ≡ record self.old { cells = altered slot (with_mark marked) self.old.cells } }
+    pub(crate) fn set_mark(&mut self, slot: u32, mark: u8)
+        requires held { IsHeld self.old.cells slot }
+        requires mark { mark ≤ 1 }
+        ensures { self.new ≡ record self.old { cells = altered slot (with_mark mark) self.old.cells } }
     {
-        self.store.set_marked(slot, marked)
+        self.store.set_mark(slot, mark)
     }
 
     pub(crate) fn set_chain(&mut self, slot: u32, next: Option<u32>)

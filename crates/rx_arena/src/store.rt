@@ -2,7 +2,7 @@
 ghost use Rattle.std.specs.Prelude.{◌≡◌, ◌≢◌, ℕ, ◌*◌, ◌<◌, List, [], ◌++◌, length, replicate, slice_set};
 ghost use Rattle.std.specs.Prelude.{Option, Some, None, IfSome, OnOk, OnErr};
 ghost use Rattle.rx_arena.specs.Node.{Node, node_at, lone, changed};
-ghost use Rattle.rx_arena.specs.Node.{with_body, with_roots, with_mark, with_chain, with_gray, with_free};
+ghost use Rattle.rx_arena.specs.Node.{with_roots, with_mark, with_chain, with_gray, with_free};
 ghost use Rattle.rx_arena.specs.Held.{IsHeld};
 ghost use Rattle.rx_arena.specs.Ownership as spec;
 ghost use Rattle.rx_arena.specs.Blocks.{bases};
@@ -111,21 +111,21 @@ impl Store {
         self.cells.fill(at, body)
     }
 
+    /// Makes the node at a slot a new one, with this body and in no list.
+    pub fn renew(&mut self, slot: u32, body: CellBody)
+        requires { IsHeld self.old slot }
+        ensures { self.new ≡ slice_set self.old slot (Some (lone body)) }
+    {
+        let at = place(&self.blocks, slot);
+        self.cells.renew(at, body)
+    }
+
     /// The body.
     pub fn body(&self, slot: u32) -> CellBody
         requires { IsHeld self.now slot }
         ensures { IfSome (node_at self.now slot) (λ n. result ≡ n.body) }
     {
         self.cells.get(place(&self.blocks, slot)).body()
-    }
-
-    /// Replaces the body.
-    pub fn set_body(&mut self, slot: u32, body: CellBody)
-        requires { IsHeld self.old slot }
-        ensures { self.new ≡ changed slot (with_body body) self.old }
-    {
-        let at = place(&self.blocks, slot);
-        self.cells.set_body(at, body)
     }
 
     /// The root count.
@@ -145,21 +145,21 @@ impl Store {
         self.cells.set_roots(at, count)
     }
 
-    /// Whether the cell is marked.
-    pub fn marked(&self, slot: u32) -> bool
+    /// The mark.
+    pub fn mark(&self, slot: u32) -> u8
         requires { IsHeld self.now slot }
-        ensures { IfSome (node_at self.now slot) (λ n. result ≡ n.marked) }
+        ensures { IfSome (node_at self.now slot) (λ n. result ≡ n.mark) }
     {
-        self.cells.get(place(&self.blocks, slot)).marked
+        self.cells.get(place(&self.blocks, slot)).mark
     }
 
-    /// Sets or clears the mark.
-    pub fn set_marked(&mut self, slot: u32, marked: bool)
+    /// Replaces the mark.
+    pub fn set_mark(&mut self, slot: u32, mark: u8)
         requires { IsHeld self.old slot }
-        ensures { self.new ≡ changed slot (with_mark marked) self.old }
+        ensures { self.new ≡ changed slot (with_mark mark) self.old }
     {
         let at = place(&self.blocks, slot);
-        self.cells.set_marked(at, marked)
+        self.cells.set_mark(at, mark)
     }
 
     /// The next slot of the chain.

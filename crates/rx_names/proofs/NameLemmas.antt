@@ -16,7 +16,7 @@ use Rattle.rx_term.specs.Heap.{IsTable, tabulate, put_some}
 use Rattle.rx_term.specs.declared.Symbol.{Symbol}
 use Rattle.rx_term.proofs.HeapLemmas.{lt_or_le, get-tabulate, past-tabulate}
 use Rattle.rx_term.proofs.StoreLemmas.{some-value}
-use Rattle.rx_names.specs.Places.{KeepsPlaces}
+use Rattle.rx_names.specs.Places.{AreApart, KeepsPlaces}
 use Rattle.rx_names.specs.Words.{words_of}
 use Rattle.rx_names.specs.Entries.{signature_in, signature_at, symbols_from, is_allowed_word, AllAllowed}
 use Rattle.rx_names.specs.Names.{symbols_of, Interns, InternsOrRefuses, FindsOrLacks}
@@ -130,9 +130,17 @@ module _ (ws : List (List ℕ)) (es new : List Entry) (e : Entry) (place : ℕ) 
         let z : ⊥ = cc in z)
   ]
 
-  pub Interns-placed : (g : Signature) → signature_in ws e ≡ Some g → Interns (symbols_from ws es) (symbols_from ws new) g (record { 0 = place })
-  Interns-placed g says = record {
-    added = symbols-at ws new place ∙ ap (option_and_then (signature_in ws)) at ∙ says;
+  -- with words and entries apart, another symbol of the signature has the same entry
+  only-placed : (g : Signature) → AreApart ws → AreApart new → Stands ws new place g → (t : ℕ) → map.get (symbols_from ws new) t ≡ Some g → t ≡ place
+  only-placed g words entries here t held =
+      let there = stands ws new t g held in
+      let same : there.entry ≡ here.entry = same_entry there.entry here.entry (words there.entry.word here.entry.word g.name there.word here.word) (there.quoted ∙ sym here.quoted) (there.arity ∙ sym here.arity) in
+      entries t place there.entry there.at (here.at ∙ ap (λ z. Some z) (sym same))
+
+  pub Interns-placed : (g : Signature) → AreApart ws → AreApart new → slice_get ws e.word ≡ Some g.name → e.quoted ≡ g.quoted → e.arity ≡ g.arity → Interns (symbols_from ws es) (symbols_from ws new) g (record { 0 = place })
+  Interns-placed g words entries word quoted arity = record {
+    added = symbols-at ws new place ∙ ap (option_and_then (signature_in ws)) at ∙ says-entry ws e g word quoted arity;
+    only = only-placed g words entries (record { entry = e; at = at; word = word; quoted = quoted; arity = arity });
     others = λ t ne. symbols-at ws new t ∙ ap (option_and_then (signature_in ws)) (others-placed t ne) ∙ sym (symbols-at ws es t);
     there = λ held. ap (symbols_from ws) (there-placed held);
   }

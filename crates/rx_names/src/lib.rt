@@ -2,6 +2,7 @@
 #![tactic(auto)]
 
 pub mod faults;
+pub mod laws;
 pub mod names;
 #[cfg(test)]
 mod tests;

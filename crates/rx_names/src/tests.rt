@@ -1,5 +1,5 @@
 // One symbol for each name, flag and number of arguments.
-use crate::Names;
+use crate::{Names, laws};
 
 #[test]
 fn symbols_differ_by_name_flag_and_arity(rt: HostRuntime) {
@@ -14,6 +14,7 @@ fn symbols_differ_by_name_flag_and_arity(rt: HostRuntime) {
     assert!(rt; first != quoted && first != unary && quoted != unary);
     assert!(rt; names.find(b"a", true, 0) == Some(quoted));
     assert!(rt; names.find(b"b", false, 0).is_none());
+    laws::one_symbol(&names);
     let (name, flag, arity) = names.get(unary);
     assert!(rt; name == b"a".as_slice() && !flag && arity == 1);
 }

@@ -1,5 +1,5 @@
 -- A turn of the loop that matches a pattern.
-use Rattle.std.proofs.Common.{ℕ, ◌+◌, ◌<◌, ◌≡◌, Bool, true, false, ◌&&◌, List, [], ◌∷◌, ◌++◌, Option, Some, None, cond, refl, sym, ap, ◌∙◌, subst, append_assoc, length, map, drop, get_or, inl, inr, add-one}
+use Rattle.std.proofs.Common.{ℕ, ◌+◌, ◌<◌, ◌≡◌, Bool, true, false, ◌&&◌, List, [], ◌∷◌, ◌++◌, Option, Some, None, cond, refl, sym, ap, ◌∙◌, subst, append_assoc, length, map, drop, get_or, add-one}
 use Rattle.std.proofs.Math.Seq.{drop-cons}
 use Rattle.std.specs.Prelude.{bytes_eq, option_to_list}
 use Rattle.std.specs.Bool.{beq}
@@ -11,7 +11,7 @@ use Rattle.rx_term.specs.declared.Term.{Term}
 use Rattle.rx_pattern.specs.Pattern.{Kind, fits}
 use Rattle.rx_pattern.specs.Matching.{matching, matching_all, both, where_true, bound}
 use Rattle.rx_pattern.specs.Code.{Step, Number, Named, Listing, Holding, End, Item, Rest, Piece, One, Several, joined, pieces}
-use Rattle.rx_pattern.specs.Held.{HaveTrees, AddsOnlyLists}
+use Rattle.rx_pattern.specs.Held.{HaveTrees}
 use Rattle.rx_pattern.specs.Nodes.{step_of}
 use Rattle.rx_pattern.specs.declared.nodes.Node.{Node}
 use Rattle.rx_pattern.specs.Subjects.{OnStack, Stands, Suits, Front, front_if, meets, MetOrNot, Answers}
@@ -236,12 +236,6 @@ not_matched w whole out e = rw e tt
 -- the step at a place, and those behind it
 pub next_step : (nodes : List Node) (i : ℕ) (n : Node) → i < length nodes → n ≡ get_or nodes i n → map step_of (drop i nodes) ≡ step_of n ∷ map step_of (drop (i + 1) nodes)
 next_step nodes i n lt e = ap (map step_of) (rw add-one (drop-cons nodes i n lt) ∙ ap (λ (m : Node). m ∷ drop (i + 1) nodes) (sym e))
-
-pub adds_nothing : (w : Store) → AddsOnlyLists w w
-adds_nothing w = record { lists = λ t u e. inl e }
-
-pub adds_more : (a b c : Store) → AddsOnlyLists a b → AddsOnlyLists b c → AddsOnlyLists a c
-adds_more a b c p q = record { lists = λ t u e. elim (q.lists t u e) [ inl h ↦ p.lists t u h | inr h ↦ inr h ] }
 
 pub popped : (before after : List (Option Term)) (o : Option (Option Term)) (x : Option Term) → before ≡ after ++ option_to_list o → o ≡ Some x → before ≡ after ++ x ∷ []
 popped before after o x e f = e ∙ ap (λ (p : Option (Option Term)). after ++ option_to_list p) f

@@ -1,6 +1,6 @@
 -- References and the trees that a bank keeps at them.
 use Rattle.std.specs.Prelude.{◌≡◌, ◌⊎◌, Bool, true, false, List, [], ◌∷◌, Option, Some, None}
-use Rattle.rx_term.specs.Tree.{Tree, Trees, list_of}
+use Rattle.rx_term.specs.Tree.{Tree, Trees, none, Items, list_of}
 use Rattle.rx_term.specs.Store.{Store, tree_at}
 use Rattle.rx_term.specs.declared.Term.{Term}
 
@@ -16,6 +16,11 @@ Binds w (Some bs) out true = HaveTrees w out bs
 Binds w None out false = out ≡ []
 Binds w bs out found = ⊥
 
--- each tree that is new is a list without annotations
+-- the tree is `[]`, or a list of the bank without its annotations
+abbrev pub IsBareList : Store → Tree → Type 0
+IsBareList w u = (u ≡ list_of none) ⊎ ((r : Term) × (ts : Trees) × (anns : Trees) × (tree_at w r ≡ Some (Items ts anns)) × (u ≡ list_of ts))
+
+-- each tree that is new is such a list, and the symbols are as they were
 pub record AddsOnlyLists (old new : Store) : Type 0 where
-  pub lists : (t : Term) (u : Tree) → tree_at new t ≡ Some u → (tree_at old t ≡ Some u) ⊎ ((us : Trees) × (u ≡ list_of us))
+  pub lists : (t : Term) (u : Tree) → tree_at new t ≡ Some u → (tree_at old t ≡ Some u) ⊎ IsBareList old u
+  pub symbols : new.symbols ≡ old.symbols

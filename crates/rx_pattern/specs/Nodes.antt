@@ -1,5 +1,5 @@
 -- The steps that the nodes of a pattern are.
-use Rattle.std.specs.Prelude.{◌≡◌, ◌<◌, ◌^◌, List, [], map, length, Some, IsTrue}
+use Rattle.std.specs.Prelude.{◌≡◌, List, [], map, Some, IsTrue}
 use Rattle.rx_term.specs.Tree.{Tree, is_tree}
 use Rattle.rx_pattern.specs.Pattern.{is_pattern, Kind, AnyTerm, AnyInt, AnyStr, AnyAppl, AnyPlaceholder, AnyList}
 use Rattle.rx_pattern.specs.Code.{code, tree_of_steps, Step, Number, Named, Listing, Holding, End, Item, Rest}

@@ -59,7 +59,8 @@ impl Pattern {
         Ok(Pattern { alloc, nodes })
     }
 
-    /// Whether the pattern matches a term, and references of its bindings, in order. In the bank only lists without annotations are new.
+    /// Whether the pattern matches a term, and references of its bindings, in order. In the bank only `[]` and annotated lists without
+    /// their annotations are new.
     /// `out` is empty after any other answer than true.
     pub fn matches<B: TermBank>(
         &self,

@@ -64,8 +64,10 @@ fn match_application<B: TermBank>(
     if !is_name(bank, symbol, name) {
         return Ok(false);
     }
-    subjects.push(bank.anns(t))?;
-    subjects.push(Some(bank.args(t)))?;
+    let anns = bank.anns(t);
+    let args = Some(bank.args(t));
+    subjects.push(anns)?;
+    subjects.push(args)?;
     Ok(true)
 }
 

@@ -1,5 +1,6 @@
 use crate::{MakeFault, Pattern, PatternFault};
 use rx_plain::PlainBank;
+use rx_shared::SharedBank;
 use rx_term::{Term, TermBank};
 use rx_text::read;
 use std::alloc::Global;
@@ -12,12 +13,12 @@ fn bank_of(rt: &impl Abort, alloc: Global, cap: u32) -> PlainBank {
 }
 
 // The reference of the term that a text spells.
-fn term(rt: &impl Abort, alloc: Global, bank: &mut PlainBank, text: &[u8]) -> Term {
+fn term<B: TermBank>(rt: &impl Abort, alloc: Global, bank: &mut B, text: &[u8]) -> Term {
     read(alloc, text, bank).expect(rt, "a term")
 }
 
 // The pattern that a text spells.
-fn pattern(rt: &impl Abort, alloc: Global, bank: &mut PlainBank, text: &[u8]) -> Pattern {
+fn pattern<B: TermBank>(rt: &impl Abort, alloc: Global, bank: &mut B, text: &[u8]) -> Pattern {
     let t = term(rt, alloc, bank, text);
     assert!(rt; bank.holds(t));
     Pattern::of(alloc, bank, t).expect(rt, "a pattern")
@@ -278,11 +279,11 @@ fn nested(rt: &impl Abort, alloc: Global, levels: u32, inner: &[u8]) -> Vec<u8> 
     text
 }
 
-// A bank that always searches from the front would take minutes.
+// A bank that searches from the front would take minutes.
 #[test]
 fn deep_terms(rt: HostRuntime) {
     let alloc = rt.alloc();
-    let mut bank = PlainBank::with_hints(alloc, 500_000, 1024).expect(&rt, "a bank");
+    let mut bank = SharedBank::new(alloc, 500_000).expect(&rt, "a bank");
     let text = nested(&rt, alloc, 200_000, b"<int>");
     let p = pattern(&rt, alloc, &mut bank, &text);
     let t = term(&rt, alloc, &mut bank, &nested(&rt, alloc, 200_000, b"1"));

@@ -1,5 +1,4 @@
 pub mod SlotLemmas
-pub mod HintLemmas
 pub mod SweepLemmas
 pub mod MarkLemmas
 pub mod Contents

@@ -71,7 +71,7 @@ module _ (b : PlainBank) (marked ys : List Slot) (extra : List Term) (r : Reache
   closed-keep : (t i : ℕ) (x : Cell) → keep t ≡ true → heap_of b.slots.items t ≡ Some x → Contains (links x) i → keep i ≡ true
   closed-keep t i x k e c = r.closed t i x k (ap (λ h. h t) r.heap ∙ e) c
 
-  pub heap-after : heap_of ys ≡ kept_slots keep (heap_of b.slots.items)
+  heap-after : heap_of ys ≡ kept_slots keep (heap_of b.slots.items)
   heap-after = ap heap_of swept ∙ (λ j t. swept-heap marked t j) ∙ ap (kept_slots keep) r.heap
 
   pub reclaimed-len : length ys ≡ length b.slots.items

@@ -4,12 +4,10 @@ ghost use Rattle.std.specs.Prelude.{◌≡◌, ◌<◌, ◌≤◌, ℕ, None, le
 ghost use Rattle.std.specs.FinMap as fin;
 ghost use Rattle.rx_term.specs.Heap.{Least, Least-prop, IsDistinct, is_whole, content_by};
 ghost use Rattle.rx_names.specs.Names.{symbols_of};
-ghost use Rattle.rx_plain.specs.Hints.{AreHinted};
 ghost use Rattle.rx_plain.specs.Slots.{table_of, heap_of, roots_of, cell_of};
 
-use crate::hints::Hints;
 use crate::marks::mark_reached;
-use crate::slots::{Body, Shape, Slot, find, find_free, is_at, sweep};
+use crate::slots::{Body, Shape, Slot, find, find_free, sweep};
 use rx_names::Names;
 use rx_term::{BankFault, Kind, RootsFull, Symbol, Term, TermBank};
 use std::alloc::Global;
@@ -19,7 +17,6 @@ use std::alloc::Global;
 pub struct PlainBank {
     slots: Vec<Slot>,
     names: Names,
-    hints: Hints,
     cap: u32,
     taken: u32,
     ghost limited: { cap ≤ 1073741824 },
@@ -28,12 +25,11 @@ pub struct PlainBank {
     ghost whole: { Least (is_whole (heap_of slots.items) (table_of (symbols_of names)) (length slots.items)) } by { Least-prop (is_whole (heap_of slots.items) (table_of (symbols_of names)) (length slots.items)) },
     ghost unrooted: { (t : ℕ) → heap_of slots.items t ≡ None → roots_of slots.items t ≡ 0 },
     ghost counts: { (t : ℕ) → roots_of slots.items t ≤ 65535 },
-    ghost hinted: { AreHinted hints.last.items (heap_of slots.items) },
     ghost counted: { taken ≡ fin.len (content_by (heap_of slots.items) (table_of (symbols_of names)) (length slots.items) whole) },
 }
 
 impl PlainBank {
-    ghost use Rattle.std.specs.Prelude.{◌≢◌, IsSome, IfOk, IfErr, Some, MatchOption};
+    ghost use Rattle.std.specs.Prelude.{IsSome, IfOk, IfErr, Some};
     ghost use Rattle.rx_term.specs.Store.{tree_at};
     ghost use Rattle.rx_term.specs.Steps.{MakesOrRefuses};
     ghost use Rattle.rx_term.specs.declared.faults.BankFault.TheVariants.{Memory};
@@ -45,52 +41,14 @@ impl PlainBank {
         ensures empty { IfOk result (λ b. IsEmptyStore (store_of b) cap) }
         ensures memory_alone { IfErr result (λ e. e ≡ Memory) }
     {
-        PlainBank::with_hints(alloc, cap, 0)
-    }
-
-    /// An empty bank of at most `cap` terms, from 1 to 2^30, that begins with so many hints, from 0 on, of eight bytes each: it
-    /// answers what any bank does, and searches less. Or memory ran out, and nothing else.
-    pub fn with_hints(alloc: Global, cap: u32, hints: u32) -> Result<PlainBank, BankFault>
-        requires { (0 < cap) × (cap ≤ 1073741824) }
-        ensures empty { IfOk result (λ b. IsEmptyStore (store_of b) cap) }
-        ensures memory_alone { IfErr result (λ e. e ≡ Memory) }
-    {
-        let hints = Hints::new(alloc, hints)?;
         match Names::new(alloc) {
             Ok(names) => Ok(PlainBank {
                 slots: Vec::new(alloc),
                 names,
-                hints,
                 cap,
                 taken: 0,
             }),
             Err(_) => Err(BankFault::Memory),
-        }
-    }
-
-    /// The slot of a body; a hint may say that there is none, or which one to look at first.
-    fn find(&self, body: Body) -> Option<usize>
-        ensures { let xs = self.now.slots.items in MatchOption result
-            ((t : ℕ) → heap_of xs t ≢ Some (cell_of body))
-            (λ i. (i < length xs) × (heap_of xs i ≡ Some (cell_of body))) }
-    {
-        match self.hints.of(body) {
-            Some(None) => None,
-            Some(Some(i)) if is_at(&self.slots, i as usize, body) => Some(i as usize),
-            _ => find(&self.slots, body),
-        }
-    }
-
-    /// The first free slot, unless all are taken.
-    fn find_free(&self) -> Option<usize>
-        ensures { let xs = self.now.slots.items in MatchOption result
-            (self.now.taken ≡ length xs)
-            (λ i. (i < length xs) × (heap_of xs i ≡ None)) }
-    {
-        if self.taken as usize == self.slots.len() {
-            None
-        } else {
-            find_free(&self.slots)
         }
     }
 
@@ -100,7 +58,7 @@ impl PlainBank {
         ensures { let w = store_of self.old in
             MakesOrRefuses w (store_of self.new) (tree_of_body w body) result }
     {
-        if let Some(i) = self.find(body) {
+        if let Some(i) = find(&self.slots, body) {
             return Ok(Term(i as u32));
         }
         let slot = Slot {
@@ -108,10 +66,9 @@ impl PlainBank {
             roots: 0,
             mark: false,
         };
-        if let Some(i) = self.find_free() {
+        if let Some(i) = find_free(&self.slots) {
             self.slots[i] = slot;
             self.taken += 1;
-            self.hints.note(body, i as u32);
             return Ok(Term(i as u32));
         }
         let i = self.slots.len();
@@ -122,8 +79,6 @@ impl PlainBank {
             Err(_) => Err(BankFault::Memory),
             Ok(()) => {
                 self.taken += 1;
-                self.hints.note(body, i as u32);
-                self.hints.grow(&self.slots);
                 Ok(Term(i as u32))
             }
         }

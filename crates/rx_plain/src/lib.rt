@@ -2,7 +2,6 @@
 #![tactic(auto)]
 
 pub mod bank;
-mod hints;
 mod marks;
 mod slots;
 #[cfg(test)]

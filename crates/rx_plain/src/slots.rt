@@ -40,16 +40,6 @@ fn is_of(slot: &Slot, body: Body) -> bool
     }
 }
 
-/// Whether the slot of this number holds this body.
-pub fn is_at(slots: &[Slot], number: usize, body: Body) -> bool
-    ensures { IsTrue result ↔ (heap_of slots.now number ≡ Some (cell_of body)) }
-{
-    match slots.get(number) {
-        Some(slot) => is_of(slot, body),
-        None => false,
-    }
-}
-
 /// The first slot that holds this body.
 pub fn find(slots: &[Slot], body: Body) -> Option<usize>
     ensures { MatchOption result

@@ -11,17 +11,6 @@ fn rows_of_a_bank_hold(rt: HostRuntime) {
     assert!(rt; ten.cells() == 5);
 }
 
-// The rows hold whether a hint tells of one slot, or of all bodies of a remainder.
-#[test]
-fn rows_of_a_bank_with_hints_hold(rt: HostRuntime) {
-    for hints in [1, 2, 64] {
-        let mut five = PlainBank::with_hints(rt.alloc(), 5, hints).expect(&rt, "a bank of cap 5");
-        let mut ten = PlainBank::with_hints(rt.alloc(), 10, hints).expect(&rt, "a bank of cap 10");
-        assert!(rt; rows::hold(&mut five, &mut ten) == Ok(true));
-        assert!(rt; ten.cells() == 5);
-    }
-}
-
 #[test]
 fn equal_terms_are_one_reference(rt: HostRuntime) {
     let mut bank = PlainBank::new(rt.alloc(), 100).expect(&rt, "a bank");

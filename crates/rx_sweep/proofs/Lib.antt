@@ -2,9 +2,12 @@ pub mod Bare
 pub mod MarkSteps
 pub mod Walks
 pub mod RootSteps
+pub mod RootSlots
 pub mod Named
 pub mod Spreading
 pub mod Clearing
+pub mod Homing
 pub mod Sweeps
+pub mod Unlinking
 pub mod Collected
 pub mod Ready

@@ -1,10 +1,66 @@
 //! The sweep: what is not marked goes back, and then no slot is marked any more.
 ghost use Rattle.std.specs.Prelude.{◌≡◌, ℕ, ◌+◌, ◌<◌, List, [], length, false, None, map, filter, if◌then◌else◌};
 ghost use Rattle.rx_arena.specs.Put.{times};
-ghost use Rattle.rx_arena.specs.Arena.{taken_at, IsTaken, taken_count, InChain, roots_at, chain_at, marked_at, IsMarked, IsArena};
+ghost use Rattle.rx_arena.specs.Arena.{taken_at, IsTaken, taken_count, InChain, IsLoose, roots_at, chain_at, marked_at, IsMarked, IsArena};
+ghost use Rattle.rx_sweep.specs.Reach.{IsHomed};
 ghost use Rattle.rx_sweep.specs.Marking.{Clears};
 
+use rx_arena::Slot;
 use rx_arena::arena::Arena;
+
+/// Takes the slots that are not marked out of the chains.
+fn unlink(arena: &mut Arena)
+    requires no_gray { arena.old.gray ≡ [] }
+    ensures chains { arena.new.chains ≡ map (filter (λ s. marked_at arena.old s)) arena.old.chains }
+    ensures rest { arena.new ≡ record arena.old { chains = arena.new.chains } }
+    ensures law { IsArena arena.new }
+{
+    for chain in 0..arena.chains() {
+        arena.chain_keep_marked(chain);
+    }
+}
+
+/// The same slot by slot, where each slot stands in the chain that its hash names.
+fn unlink_by_hash(arena: &mut Arena)
+    requires no_gray { arena.old.gray ≡ [] }
+    requires homed { IsHomed arena.old }
+    requires chained { (s : ℕ) → IsTaken arena.old s → InChain arena.old s }
+    ensures chains { arena.new.chains ≡ map (filter (λ s. marked_at arena.old s)) arena.old.chains }
+    ensures rest { arena.new ≡ record arena.old { chains = arena.new.chains } }
+    ensures law { IsArena arena.new }
+{
+    let chains = u64::from(arena.chains());
+    for number in 0..arena.slots() {
+        let slot = Slot(number);
+        if arena.holds_unmarked(slot) {
+            let chain = (arena.read(slot).hash % chains) as u32;
+            arena.chain_keep_marked(chain);
+        }
+    }
+}
+
+/// Gives back the slots that are not marked, from the last one on, so that the first one is taken next.
+fn give_back_unmarked(arena: &mut Arena)
+    requires no_gray { arena.old.gray ≡ [] }
+    requires loose { (s : ℕ) → marked_at arena.old s ≡ false → IsLoose arena.old s }
+    requires roots { (s : ℕ) → 0 < roots_at arena.old s → IsMarked arena.old s }
+    requires law { IsArena arena.old }
+    ensures cells { (s : ℕ) → taken_at arena.new s ≡ (if marked_at arena.old s then taken_at arena.old s else None) }
+    ensures chains { arena.new.chains ≡ arena.old.chains }
+    ensures no_gray { arena.new.gray ≡ [] }
+    ensures spare { arena.new.spare + taken_count arena.new ≡ arena.old.spare + taken_count arena.old }
+    ensures cap { arena.new.cap ≡ arena.old.cap }
+    ensures law { IsArena arena.new }
+{
+    let mut left = arena.slots();
+    while left > 0 {
+        left -= 1;
+        let slot = Slot(left);
+        if arena.holds_unmarked(slot) {
+            arena.give_back(slot);
+        }
+    }
+}
 
 /// Gives back every slot that is not marked.
 pub(crate) fn sweep(arena: &mut Arena)
@@ -18,32 +74,37 @@ pub(crate) fn sweep(arena: &mut Arena)
     ensures cap { arena.new.cap ≡ arena.old.cap }
     ensures law { IsArena arena.new }
 {
-    for chain in 0..arena.chains() {
-        arena.chain_retain_marked(chain);
-    }
+    unlink(arena);
+    give_back_unmarked(arena);
 }
 
-/// Clears the marks of a chain's slots.
-fn clear_marks_in(arena: &mut Arena, chain: u32)
-    requires chain { chain < length arena.old.chains }
+/// The same, where each slot stands in the chain that its hash names.
+pub(crate) fn sweep_by_hash(arena: &mut Arena)
     requires no_gray { arena.old.gray ≡ [] }
-    ensures clears { Clears arena.old arena.new (λ s. 0 < times s (chain_at arena.old chain)) }
+    requires homed { IsHomed arena.old }
+    requires chained { (s : ℕ) → IsTaken arena.old s → InChain arena.old s }
+    requires roots { (s : ℕ) → 0 < roots_at arena.old s → IsMarked arena.old s }
+    ensures cells { (s : ℕ) → taken_at arena.new s ≡ (if marked_at arena.old s then taken_at arena.old s else None) }
+    ensures chains { arena.new.chains ≡ map (filter (λ s. marked_at arena.old s)) arena.old.chains }
+    ensures no_gray { arena.new.gray ≡ [] }
+    ensures spare { arena.new.spare + taken_count arena.new ≡ arena.old.spare + taken_count arena.old }
+    ensures cap { arena.new.cap ≡ arena.old.cap }
     ensures law { IsArena arena.new }
 {
-    let mut next = arena.chain_first(chain);
-    while let Some(slot) = next {
-        arena.clear_mark(slot);
-        next = arena.chain_next(slot);
-    }
+    unlink_by_hash(arena);
+    give_back_unmarked(arena);
 }
 
-/// Clears the marks of all slots in chains.
+/// Clears all marks.
 pub(crate) fn clear_marks(arena: &mut Arena)
     requires { arena.old.gray ≡ [] }
     ensures clears { Clears arena.old arena.new (λ s. InChain arena.old s) }
     ensures law { IsArena arena.new }
 {
-    for chain in 0..arena.chains() {
-        clear_marks_in(arena, chain);
+    for number in 0..arena.slots() {
+        let slot = Slot(number);
+        if arena.holds_marked(slot) {
+            arena.clear_mark(slot);
+        }
     }
 }

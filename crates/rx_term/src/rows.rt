@@ -2,9 +2,9 @@
 #![tactic(auto, using(crate::proofs::StoreLemmas::bank_steps))]
 
 ghost use Rattle.std.specs.Prelude.{◌≡◌, ℕ, ◌+◌, ◌≤◌, ◌<◌, false, IsTrue, IsSome, IfOk, Some, None, codes};
-ghost use Rattle.rx_term.specs.Tree.{Int, Items, Appl, none, more};
+ghost use Rattle.rx_term.specs.Tree.{Appl, none, more};
 ghost use Rattle.rx_term.specs.Store.{tree_at, signature_of, cells};
-ghost use Rattle.rx_term.specs.Steps.{Grows};
+ghost use Rattle.rx_term.specs.Rows.{HasTree, noted_seven};
 
 use crate::build::constant;
 use crate::{BankFault, Kind, Term, TermBank};
@@ -26,10 +26,13 @@ pub fn pair<B: TermBank>(bank: &mut B) -> Result<(Term, bool), BankFault>
     Ok((r, first == second))
 }
 
-/// Whether the rows hold of two empty banks: of cap 5 and of cap 10. Where they do, the first one is empty again.
+/// Whether the rows hold of two empty banks: of cap 5 and of cap 10. Where they do, the first one is of that cap and
+/// empty again, and the second one has a placeholder of 7 with the annotation 7.
 pub fn hold<B: TermBank>(five: &mut B, ten: &mut B) -> Result<bool, BankFault>
     requires { (t : ℕ) → (B.store five.old).roots t ≡ 0 }
+    ensures limit { IfOk result (λ b. IsTrue b → (B.store five.new).cap ≡ 5) }
     ensures emptied { IfOk result (λ b. IsTrue b → cells (B.store five.new) ≡ 0) }
+    ensures noted { IfOk result (λ b. IsTrue b → HasTree (B.store ten.new) noted_seven) }
 {
     match fills(five)? {
         Some(a) => Ok(reclaims(five, a) && notes(ten)?),
@@ -40,6 +43,7 @@ pub fn hold<B: TermBank>(five: &mut B, ten: &mut B) -> Result<bool, BankFault>
 /// In an empty bank of cap 5: five trees fit, a sixth does not, and a tree that is there is found.
 fn fills<B: TermBank>(bank: &mut B) -> Result<Option<Term>, BankFault>
     ensures held { IfOk result (λ r. (a : _) → r ≡ Some a → IsSome (tree_at (B.store bank.new) a)) }
+    ensures limit { IfOk result (λ r. IsSome r → (B.store bank.new).cap ≡ 5) }
     ensures roots { (B.store bank.new).roots ≡ (B.store bank.old).roots }
 {
     let refused = bank.reserve(6) == Err(BankFault::Full);
@@ -47,9 +51,11 @@ fn fills<B: TermBank>(bank: &mut B) -> Result<Option<Term>, BankFault>
     let roomy = bank.spare() == 5;
     let a = make_five(bank)?;
     let whole = bank.cells() == 5;
-    let full = bank.int(7) == Err(BankFault::Full);
+    let Err(BankFault::Full) = bank.int(7) else {
+        return Ok(None);
+    };
     let again = constant(bank, b"a")?;
-    if refused && roomy && whole && full && again == a {
+    if refused && roomy && whole && again == a {
         Ok(Some(again))
     } else {
         Ok(None)
@@ -59,6 +65,7 @@ fn fills<B: TermBank>(bank: &mut B) -> Result<Option<Term>, BankFault>
 /// Makes `f(a,a)` and what it is made of; the reference of `a`.
 fn make_five<B: TermBank>(bank: &mut B) -> Result<Term, BankFault>
     ensures roots { (B.store bank.new).roots ≡ (B.store bank.old).roots }
+    ensures limit { (B.store bank.new).cap ≡ (B.store bank.old).cap }
 {
     let nil = bank.nil()?;
     let a = constant(bank, b"a")?;
@@ -75,6 +82,7 @@ fn root_fully<B: TermBank>(bank: &mut B, a: Term) -> bool
     requires unrooted { (B.store bank.old).roots a.0 ≡ 0 }
     ensures rooted { (B.store bank.new).roots a.0 ≡ 65535 }
     ensures refused { IsTrue result }
+    ensures limit { (B.store bank.new).cap ≡ (B.store bank.old).cap }
 {
     for _i in 0..65535u32 {
         let _ = bank.protect(a);
@@ -85,7 +93,8 @@ fn root_fully<B: TermBank>(bank: &mut B, a: Term) -> bool
 /// Unroots a term 65,535 times.
 fn unroot<B: TermBank>(bank: &mut B, a: Term)
     requires { (B.store bank.old).roots a.0 ≡ 65535 }
-    ensures { (B.store bank.new).roots a.0 ≡ 0 }
+    ensures roots { (B.store bank.new).roots a.0 ≡ 0 }
+    ensures limit { (B.store bank.new).cap ≡ (B.store bank.old).cap }
 {
     for _i in 0..65535u32 {
         bank.unprotect(a);
@@ -93,7 +102,9 @@ fn unroot<B: TermBank>(bank: &mut B, a: Term)
 }
 
 /// In an empty bank of cap 10: a placeholder of 7 with the annotation list of 7; whether its parts are as they were made.
-fn notes<B: TermBank>(bank: &mut B) -> Result<bool, BankFault> {
+fn notes<B: TermBank>(bank: &mut B) -> Result<bool, BankFault>
+    ensures { IfOk result (λ b. IsTrue b → HasTree (B.store bank.new) noted_seven) }
+{
     let seven = bank.int(7)?;
     let hole = bank.hole(seven)?;
     let nil = bank.nil()?;
@@ -108,6 +119,7 @@ fn notes<B: TermBank>(bank: &mut B) -> Result<bool, BankFault> {
 fn reclaims<B: TermBank>(bank: &mut B, a: Term) -> bool
     requires held { IsSome (tree_at (B.store bank.old) a) }
     requires unrooted { (B.store bank.old).roots a.0 ≡ 0 }
+    ensures limit { (B.store bank.new).cap ≡ (B.store bank.old).cap }
     ensures emptied { IsTrue result → cells (B.store bank.new) ≡ 0 }
 {
     let refused = root_fully(bank, a);

@@ -1,5 +1,6 @@
 use crate::{TextFault, WriteFault, read, write};
 use rx_plain::PlainBank;
+use rx_shared::SharedBank;
 use rx_term::TermBank;
 use std::alloc::{AllocError, Global};
 use std::io;
@@ -93,9 +94,7 @@ fn two_million_brackets(rt: HostRuntime) -> Result<(), Fail> {
 fn two_million_levels(rt: HostRuntime) -> Result<(), Fail> {
     let alloc = rt.alloc();
     let bytes = nested(alloc, 2_000_000).ok().ok_or("memory")?;
-    let mut bank = PlainBank::with_hints(alloc, 2_000_000, 1024)
-        .ok()
-        .ok_or("a bank")?;
+    let mut bank = SharedBank::new(alloc, 2_000_000).ok().ok_or("a bank")?;
     let t = read(alloc, &bytes, &mut bank)
         .ok()
         .ok_or("the bytes are a term")?;

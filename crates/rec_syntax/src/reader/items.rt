@@ -9,6 +9,7 @@ ghost use Rattle.rec_syntax.specs.Reader.{level_of, IsAt, Steps};
 use super::{Due, Reader, Role, Stop, Symbols};
 use crate::lexer::{Kind, Part, Span};
 use crate::parts::{Declaration, Group};
+use smallvec::SmallVec;
 use std::mem;
 
 // Whether the section comes after the open one.
@@ -141,7 +142,7 @@ impl Reader {
     {
         match token {
             Kind::Plain(sort) => {
-                let arguments = mem::replace(&mut self.words, Vec::new(self.alloc));
+                let arguments = mem::replace(&mut self.words, SmallVec::new(self.alloc));
                 let declaration = Declaration {
                     name,
                     arguments,
@@ -188,7 +189,7 @@ impl Reader {
     {
         match token {
             Kind::Plain(sort) => {
-                let others = mem::replace(&mut self.words, Vec::new(self.alloc));
+                let others = mem::replace(&mut self.words, SmallVec::new(self.alloc));
                 self.sections.groups.push(Group {
                     first,
                     others,

@@ -7,7 +7,7 @@ use Rattle.rec_run.specs.TermRuns.{due_of}
 use Rattle.rec_run.specs.PatternRuns.{match_lines}
 use Rattle.rec_run.specs.PatternAnswers.{IsPatternRead, answer_due}
 use Rattle.rec_run.specs.declared.pattern_runs.PatternReading.{PatternReading}
-use Rattle.rec_run.proofs.PatternDue.{good_both, if_ok_map, refused_both}
+use Rattle.rec_run.proofs.PatternDue.{good_both, if_ok_map, no_pattern, refused_both}
 use Rattle.rec_run.proofs.pattern_runs.match_texts.Goals as goal
 
 abbrev after : Tree → Verdict → Due
@@ -23,3 +23,7 @@ returns-in-Good-clause-due g c =
     if_ok_map c.match_input.result _ _
     (λ answer h. good_both after _ c.args.pattern.now c.in-Good.pattern (answer_due (g.B.TermBank.store c.match_input.new.bank) answer) spelt h)
     c.match_input.ensures.due
+
+pub returns-in-Refused-clause-input_read : goal.returns-in-Refused-clause-input_read
+returns-in-Refused-clause-input_read g c = λ p spelt.
+    absurd (no_pattern c.args.pattern.now c.in-Refused.refusal (subst (λ (r : PatternReading). IsPatternRead c.args.pattern.now r) c.in-Refused.is c.in_ok-refusal.ensures.read) p spelt)

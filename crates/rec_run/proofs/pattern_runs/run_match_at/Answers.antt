@@ -1,6 +1,9 @@
-use Rattle.rx_plain.specs.State.{store_of}
+use Rattle.std.proofs.Common.{subst}
+use Rattle.rec_run.specs.Run.{RoomFits}
+use Rattle.rx_shared.specs.State.{store_of}
 use Rattle.rec_run.specs.PatternRuns.{match_due}
 use Rattle.rec_run.specs.PatternAnswers.{answer_due}
+use Rattle.rec_run.proofs.FaultLemmas.{reports_unwritten, room_unwritten}
 use Rattle.rec_run.proofs.Told.{if_err_at}
 use Rattle.rec_run.proofs.PatternDue.{breaks_both, ends_both, placed_both}
 use Rattle.rec_run.specs.PatternRuns.{IsMatchDue}
@@ -17,7 +20,7 @@ pub returns-in_err-answer-clause-fault : goal.returns-in_err-answer-clause-fault
 returns-in_err-answer-clause-fault g c =
     let f = c.in_err-answer.field-0.0 in
     if_err_at c.from_residual-in_err-answer.result _ f c.from_residual-in_err-answer.ensures.1
-    (breaks_unwritten (IsMatchDue c.args.pattern.now) (g.R.Read.remaining c.args.input.now) f _ c.in_err-answer.ensures.fault)
+    (breaks_unwritten (IsMatchDue c.args.pattern.now) (g.R.Read.remaining c.args.input.now) f _ (reports_unwritten (store_of c.in_ok-bank.bank).cap f c.in_err-answer.ensures.fault))
 
 pub returns-clause-output : goal.returns-clause-output
 returns-clause-output g c =
@@ -28,3 +31,9 @@ pub returns-clause-place : goal.returns-clause-place
 returns-clause-place g c =
     let w = store_of c.match_texts.new.bank in
     placed_both match_due (g.R.Read.remaining c.args.input.now) c.args.pattern.now (answer_due w c.in_ok-answer.answer) c.place.result c.in_ok-answer.ensures.due (c.place.ensures w)
+
+pub returns-in_err-answer-clause-room : goal.returns-in_err-answer-clause-room
+returns-in_err-answer-clause-room g c =
+    let f = c.in_err-answer.field-0.0 in
+    if_err_at c.from_residual-in_err-answer.result _ f c.from_residual-in_err-answer.ensures.1
+    (subst (λ cap. RoomFits cap f) c.in_ok-bank.ensures.empty.3 (room_unwritten (store_of c.in_ok-bank.bank).cap f c.in_err-answer.ensures.fault))

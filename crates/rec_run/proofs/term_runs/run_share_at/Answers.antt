@@ -1,5 +1,7 @@
-use Rattle.rx_plain.specs.State.{store_of}
-use Rattle.rec_run.specs.TermRuns.{share_lines}
+use Rattle.rx_shared.specs.State.{store_of}
+use Rattle.rec_run.specs.TermRuns.{IsShareDue, share_lines}
+use Rattle.rec_run.proofs.FaultLemmas.{reports_unwritten}
+use Rattle.rec_run.proofs.PatternLines.{breaks_unwritten}
 use Rattle.rec_run.proofs.Told.{if_err_at}
 use Rattle.rec_run.proofs.TermsDue.{breaks_given, ends_given, placed_given}
 use Rattle.rec_run.proofs.term_runs.run_share_at.Goals as goal
@@ -19,3 +21,9 @@ pub returns-clause-place : goal.returns-clause-place
 returns-clause-place g c =
     let v = c.in_ok-given.ensures.read in
     placed_given share_lines (store_of c.in_ok-given.given.bank) _ c.in_ok-given.given.reading v.0 c.place.result v.1 v.2 c.place.ensures
+
+pub returns-in_err-given-clause-fault : goal.returns-in_err-given-clause-fault
+returns-in_err-given-clause-fault g c =
+    let f = c.in_err-given.field-0.0 in
+    if_err_at c.from_residual.result _ f c.from_residual.ensures.1
+    (breaks_unwritten IsShareDue (g.R.Read.remaining c.args.input.now) f _ (reports_unwritten 1073741824 f c.in_err-given.ensures.fault))

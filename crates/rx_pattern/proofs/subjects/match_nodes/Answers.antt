@@ -7,7 +7,8 @@ use Rattle.rx_pattern.specs.Matching.{matching}
 use Rattle.rx_pattern.specs.Nodes.{step_of, tree_of_nodes}
 use Rattle.rx_pattern.proofs.Spelling.{one_piece, all_spelt}
 use Rattle.rx_pattern.proofs.Stacks.{held_tree}
-use Rattle.rx_pattern.proofs.Matches.{begun, turn_needs, turn_off, turn_on, not_matched, next_step, adds_nothing, adds_more, popped}
+use Rattle.rx_pattern.proofs.Matches.{begun, turn_needs, turn_off, turn_on, not_matched, next_step, popped}
+use Rattle.rx_pattern.proofs.BareLists.{adds_nothing, adds_more}
 use Rattle.rx_pattern.proofs.subjects.match_nodes.Goals as goal
 
 pub loop-node-init : goal.loop-node-init
@@ -59,3 +60,9 @@ loop-node-preserved g c =
       grows = Grows-trans c.loop-node.invariant.grows c.match_node.ensures.grows;
       added = adds_more (g.B.TermBank.store c.args.bank.now) w new c.loop-node.invariant.added c.match_node.ensures.added;
     }
+
+pub returns-in_err-match_node-clause-added : goal.returns-in_err-match_node-clause-added
+returns-in_err-match_node-clause-added g c = adds_more (g.B.TermBank.store c.args.bank.now) (g.B.TermBank.store c.loop-node.bank) (g.B.TermBank.store c.match_node.new.bank) c.loop-node.invariant.added c.match_node.ensures.added
+
+pub returns-then-not-branch-clause-added : goal.returns-then-not-branch-clause-added
+returns-then-not-branch-clause-added g c = adds_more (g.B.TermBank.store c.args.bank.now) (g.B.TermBank.store c.loop-node.bank) (g.B.TermBank.store c.match_node.new.bank) c.loop-node.invariant.added c.match_node.ensures.added

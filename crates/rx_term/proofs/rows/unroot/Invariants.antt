@@ -2,4 +2,4 @@ use Rattle.std.proofs.Common.{◌≡◌, ◌+◌}
 use Rattle.rx_term.proofs.rows.unroot.Given as goal
 
 abbrev pub invariant-loop-i : goal.invariant-loop-i
-invariant-loop-i g l = (g.B.TermBank.store l.bank).roots l.a.0 + l._i ≡ 65535
+invariant-loop-i g l = ((g.B.TermBank.store l.bank).roots l.a.0 + l._i ≡ 65535) × ((g.B.TermBank.store l.bank).cap ≡ (g.B.TermBank.store l.fn.bank).cap)

@@ -5,47 +5,47 @@ use Rattle.rx_arena.proofs.ArenaLaws.{unmarked_away}
 use Rattle.rx_arena.proofs.ArenaSteps.{gray_push_step, gray_push_held, gray_apart, step_law, step_state, held_taken}
 use Rattle.rx_arena.proofs.arena.Arena.gray_push.Goals as goal
 
-pub set_marked-requires : goal.set_marked-requires
-set_marked-requires c =
+pub set_mark-requires-clause-held : goal.set_mark-requires-clause-held
+set_mark-requires-clause-held c =
     let h = subst (λ (v : ArenaState). IsTaken v c.args.slot.0) (sym c.self.view_is) c.requires.taken in
-    held_taken c.self.inside.pool c.self.inside.heads.items c.self.inside.gray_first c.self.inside.chained c.self.inside.grayed c.self.invariant c.args.slot.0 h
+    held_taken c.self.inside.pool c.self.inside.heads c.self.inside.gray_first c.self.inside.chained c.self.inside.grayed c.self.invariant c.args.slot.0 h
 
 pub set_gray-requires-clause-held : goal.set_gray-requires-clause-held
 set_gray-requires-clause-held c =
     let h = subst (λ (v : ArenaState). IsTaken v c.args.slot.0) (sym c.self.view_is) c.requires.taken in
     let unmarked = subst (λ (v : ArenaState). marked_at v c.args.slot.0 ≡ false) (sym c.self.view_is) c.requires.unmarked in
-    gray_push_held c.self.inside.pool c.self.inside.heads.items c.self.inside.gray_first c.self.inside.chained c.self.inside.grayed c.self.invariant c.set_marked.new.self c.set_marked.new.self c.args.slot.0 h (unmarked_away _ c.self.invariant c.args.slot.0 unmarked) c.set_marked.ensures
+    gray_push_held c.self.inside.pool c.self.inside.heads c.self.inside.gray_first c.self.inside.chained c.self.inside.grayed c.self.invariant c.set_mark.new.self c.set_mark.new.self c.args.slot.0 h (unmarked_away _ c.self.invariant c.args.slot.0 unmarked) c.set_mark.ensures
 
 pub set_gray-requires-clause-apart : goal.set_gray-requires-clause-apart
 set_gray-requires-clause-apart c =
     let h = subst (λ (v : ArenaState). IsTaken v c.args.slot.0) (sym c.self.view_is) c.requires.taken in
     let unmarked = subst (λ (v : ArenaState). marked_at v c.args.slot.0 ≡ false) (sym c.self.view_is) c.requires.unmarked in
-    gray_apart c.self.inside.pool c.self.inside.heads.items c.self.inside.gray_first c.self.inside.chained c.self.inside.grayed c.self.invariant c.args.slot.0 (unmarked_away _ c.self.invariant c.args.slot.0 unmarked)
+    gray_apart c.self.inside.pool c.self.inside.heads c.self.inside.gray_first c.self.inside.chained c.self.inside.grayed c.self.invariant c.args.slot.0 (unmarked_away _ c.self.invariant c.args.slot.0 unmarked)
 
 pub invariant_of-self-inside : goal.invariant_of-self-inside
 invariant_of-self-inside c =
     let h = subst (λ (v : ArenaState). IsTaken v c.args.slot.0) (sym c.self.view_is) c.requires.taken in
     let unmarked = subst (λ (v : ArenaState). marked_at v c.args.slot.0 ≡ false) (sym c.self.view_is) c.requires.unmarked in
-    let st = gray_push_step c.self.inside.pool c.self.inside.heads.items c.self.inside.gray_first c.self.inside.chained c.self.inside.grayed c.self.invariant c.set_marked.new.self c.set_gray.new.self c.args.slot.0 h (unmarked_away _ c.self.invariant c.args.slot.0 unmarked) c.set_marked.ensures c.set_gray.ensures in
-    ((c.self.inside.chained.0, st.chained), ((c.args.slot.0 ∷ c.self.inside.grayed.0, st.grayed), tt))
+    let st = gray_push_step c.self.inside.pool c.self.inside.heads c.self.inside.gray_first c.self.inside.chained c.self.inside.grayed c.self.invariant c.set_mark.new.self c.set_gray.new.self c.args.slot.0 h (unmarked_away _ c.self.invariant c.args.slot.0 unmarked) c.set_mark.ensures c.set_gray.ensures in
+    ((c.self.inside.chained.0, st.chained), ((c.args.slot.0 ∷ c.self.inside.grayed.0, st.grayed), (c.self.inside.counted, tt)))
 
 pub invariant_of-self : goal.invariant_of-self
 invariant_of-self c =
     let h = subst (λ (v : ArenaState). IsTaken v c.args.slot.0) (sym c.self.view_is) c.requires.taken in
     let unmarked = subst (λ (v : ArenaState). marked_at v c.args.slot.0 ≡ false) (sym c.self.view_is) c.requires.unmarked in
-    let st = gray_push_step c.self.inside.pool c.self.inside.heads.items c.self.inside.gray_first c.self.inside.chained c.self.inside.grayed c.self.invariant c.set_marked.new.self c.set_gray.new.self c.args.slot.0 h (unmarked_away _ c.self.invariant c.args.slot.0 unmarked) c.set_marked.ensures c.set_gray.ensures in
+    let st = gray_push_step c.self.inside.pool c.self.inside.heads c.self.inside.gray_first c.self.inside.chained c.self.inside.grayed c.self.invariant c.set_mark.new.self c.set_gray.new.self c.args.slot.0 h (unmarked_away _ c.self.invariant c.args.slot.0 unmarked) c.set_mark.ensures c.set_gray.ensures in
     step_law _ _ _ _ st c.self-1.given.0 c.self-1.given.1.0
 
 pub returns-clause-after : goal.returns-clause-after
 returns-clause-after c =
     let h = subst (λ (v : ArenaState). IsTaken v c.args.slot.0) (sym c.self.view_is) c.requires.taken in
     let unmarked = subst (λ (v : ArenaState). marked_at v c.args.slot.0 ≡ false) (sym c.self.view_is) c.requires.unmarked in
-    let st = gray_push_step c.self.inside.pool c.self.inside.heads.items c.self.inside.gray_first c.self.inside.chained c.self.inside.grayed c.self.invariant c.set_marked.new.self c.set_gray.new.self c.args.slot.0 h (unmarked_away _ c.self.invariant c.args.slot.0 unmarked) c.set_marked.ensures c.set_gray.ensures in
+    let st = gray_push_step c.self.inside.pool c.self.inside.heads c.self.inside.gray_first c.self.inside.chained c.self.inside.grayed c.self.invariant c.set_mark.new.self c.set_gray.new.self c.args.slot.0 h (unmarked_away _ c.self.invariant c.args.slot.0 unmarked) c.set_mark.ensures c.set_gray.ensures in
     step_state _ _ _ _ st c.self-1.given.0 c.self-1.given.1.0 ∙ ap (λ (v : ArenaState). record v { cells = altered c.args.slot.0 (with_marking true) v.cells; gray = c.args.slot.0 ∷ v.gray }) c.self.view_is
 
 pub returns-clause-law : goal.returns-clause-law
 returns-clause-law c =
     let h = subst (λ (v : ArenaState). IsTaken v c.args.slot.0) (sym c.self.view_is) c.requires.taken in
     let unmarked = subst (λ (v : ArenaState). marked_at v c.args.slot.0 ≡ false) (sym c.self.view_is) c.requires.unmarked in
-    let st = gray_push_step c.self.inside.pool c.self.inside.heads.items c.self.inside.gray_first c.self.inside.chained c.self.inside.grayed c.self.invariant c.set_marked.new.self c.set_gray.new.self c.args.slot.0 h (unmarked_away _ c.self.invariant c.args.slot.0 unmarked) c.set_marked.ensures c.set_gray.ensures in
+    let st = gray_push_step c.self.inside.pool c.self.inside.heads c.self.inside.gray_first c.self.inside.chained c.self.inside.grayed c.self.invariant c.set_mark.new.self c.set_gray.new.self c.args.slot.0 h (unmarked_away _ c.self.invariant c.args.slot.0 unmarked) c.set_mark.ensures c.set_gray.ensures in
     step_law _ _ _ _ st c.self-1.given.0 c.self-1.given.1.0

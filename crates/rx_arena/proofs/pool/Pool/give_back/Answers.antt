@@ -2,13 +2,18 @@ use Rattle.std.proofs.Common.{◌≡◌, ◌+◌, ◌-◌, ◌∷◌, None, sym,
 use Rattle.rx_arena.specs.Held.{IsHeld}
 use Rattle.rx_arena.specs.Put.{put, filled}
 use Rattle.rx_arena.specs.Pool.{PoolState, spare_of, cells_of}
-use Rattle.rx_arena.proofs.PoolSteps.{pool_room, given_back-step, given_back_some, first_apart, first_within, held_in_store, step_pool, step_free, step_cells, same_pool}
+use Rattle.rx_arena.proofs.PoolSteps.{pool_room, given_back-step, given_back_some, first_apart, remarked_held, held_in_store, step_pool, step_free, step_cells, same_pool}
 use Rattle.rx_arena.proofs.pool.Pool.give_back.Goals as goal
+
+pub set_mark-requires : goal.set_mark-requires
+set_mark-requires c =
+    let h = subst (λ (v : PoolState). IsHeld v.cells c.args.slot) (sym c.self.view_is) c.requires in
+    held_in_store c.self.inside.store c.self.inside.free c.self.inside.listed c.self.inside.fresh c.self.inside.taken c.self.inside.room c.self.inside.cap c.self.invariant c.args.slot h
 
 pub set_free-requires-clause-held : goal.set_free-requires-clause-held
 set_free-requires-clause-held c =
     let h = subst (λ (v : PoolState). IsHeld v.cells c.args.slot) (sym c.self.view_is) c.requires in
-    (held_in_store c.self.inside.store c.self.inside.free c.self.inside.listed c.self.inside.fresh c.self.inside.taken c.self.inside.room c.self.inside.cap c.self.invariant c.args.slot h, first_within c.self.inside.store c.self.inside.free c.self.inside.listed c.self.inside.fresh c.self.inside.taken c.self.inside.room c.self.inside.cap c.self.invariant)
+    remarked_held c.self.inside.store c.self.inside.free c.self.inside.listed c.self.inside.fresh c.self.inside.taken c.self.inside.room c.self.inside.cap c.self.invariant c.set_mark.new.self c.args.slot h c.set_mark.ensures
 
 pub set_free-requires-clause-apart : goal.set_free-requires-clause-apart
 set_free-requires-clause-apart c =
@@ -23,26 +28,26 @@ overflow_sub-self c =
 pub invariant_of-self-inside : goal.invariant_of-self-inside
 invariant_of-self-inside c =
     let h = subst (λ (v : PoolState). IsHeld v.cells c.args.slot) (sym c.self.view_is) c.requires in
-    let st = given_back-step c.self.inside.store c.self.inside.free c.self.inside.listed c.self.inside.fresh c.self.inside.taken c.self.inside.room c.self.inside.cap c.self.invariant c.set_free.new.self c.args.slot h c.set_free.ensures in
+    let st = given_back-step c.self.inside.store c.self.inside.free c.self.inside.listed c.self.inside.fresh c.self.inside.taken c.self.inside.room c.self.inside.cap c.self.invariant c.set_mark.new.self c.set_free.new.self c.args.slot h c.set_mark.ensures c.set_free.ensures in
     ((c.args.slot ∷ c.self.inside.listed.0, st.chain), tt)
 
 pub invariant_of-self : goal.invariant_of-self
 invariant_of-self c =
     let h = subst (λ (v : PoolState). IsHeld v.cells c.args.slot) (sym c.self.view_is) c.requires in
-    let st = given_back-step c.self.inside.store c.self.inside.free c.self.inside.listed c.self.inside.fresh c.self.inside.taken c.self.inside.room c.self.inside.cap c.self.invariant c.set_free.new.self c.args.slot h c.set_free.ensures in
+    let st = given_back-step c.self.inside.store c.self.inside.free c.self.inside.listed c.self.inside.fresh c.self.inside.taken c.self.inside.room c.self.inside.cap c.self.invariant c.set_mark.new.self c.set_free.new.self c.args.slot h c.set_mark.ensures c.set_free.ensures in
     step_pool _ _ _ _ _ _ _ _ st c.self-1.given.0
 
 pub returns-clause-after : goal.returns-clause-after
 returns-clause-after c =
     let h = subst (λ (v : PoolState). IsHeld v.cells c.args.slot) (sym c.self.view_is) c.requires in
-    let st = given_back-step c.self.inside.store c.self.inside.free c.self.inside.listed c.self.inside.fresh c.self.inside.taken c.self.inside.room c.self.inside.cap c.self.invariant c.set_free.new.self c.args.slot h c.set_free.ensures in
+    let st = given_back-step c.self.inside.store c.self.inside.free c.self.inside.listed c.self.inside.fresh c.self.inside.taken c.self.inside.room c.self.inside.cap c.self.invariant c.set_mark.new.self c.set_free.new.self c.args.slot h c.set_mark.ensures c.set_free.ensures in
     same_pool _ _ _ _ _ _ _ (step_cells _ _ _ _ _ _ _ _ st c.self-1.given.0) (step_free _ _ _ _ _ _ _ _ st c.self-1.given.0)
     ∙ ap (λ (v : PoolState). record v { cells = put v.cells c.args.slot None; free = c.args.slot ∷ v.free }) c.self.view_is
 
 pub returns-clause-spare : goal.returns-clause-spare
 returns-clause-spare c =
     let h = subst (λ (v : PoolState). IsHeld v.cells c.args.slot) (sym c.self.view_is) c.requires in
-    let st = given_back-step c.self.inside.store c.self.inside.free c.self.inside.listed c.self.inside.fresh c.self.inside.taken c.self.inside.room c.self.inside.cap c.self.invariant c.set_free.new.self c.args.slot h c.set_free.ensures in
+    let st = given_back-step c.self.inside.store c.self.inside.free c.self.inside.listed c.self.inside.fresh c.self.inside.taken c.self.inside.room c.self.inside.cap c.self.invariant c.set_mark.new.self c.set_free.new.self c.args.slot h c.set_mark.ensures c.set_free.ensures in
     let new = pool_room _ _ _ _ _ _ (step_pool _ _ _ _ _ _ _ _ st c.self-1.given.0) in
     let old = pool_room _ _ _ _ _ _ c.self.invariant in
     let some = given_back_some c.self.inside.store c.self.inside.free c.self.inside.listed c.self.inside.fresh c.self.inside.taken c.self.inside.room c.self.inside.cap c.self.invariant c.args.slot h in

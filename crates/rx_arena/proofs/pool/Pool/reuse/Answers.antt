@@ -1,4 +1,4 @@
-use Rattle.std.proofs.Common.{◌≡◌, ◌+◌, ◌<◌, ◌≤◌, ◌∷◌, List, ℕ, Some, None, get_or, refl, sym, ap, subst, ◌∙◌}
+use Rattle.std.proofs.Common.{◌≡◌, ◌+◌, ◌<◌, ◌≤◌, ◌∷◌, List, ℕ, Some, None, get_or, refl, sym, ap, subst, ◌∙◌, arith}
 use Rattle.rx_arena.specs.Node.{lone}
 use Rattle.rx_arena.specs.Put.{put, filled}
 use Rattle.rx_arena.specs.Pool.{PoolState}
@@ -15,17 +15,17 @@ renew-requires c = front_held c.self.inside.store c.self.inside.free c.self.insi
 
 pub invariant_of-self-inside : goal.invariant_of-self-inside
 invariant_of-self-inside c =
-    let st = reused-step c.self.inside.store c.self.inside.free c.self.inside.listed c.self.inside.fresh c.self.inside.taken c.self.inside.room c.self.inside.cap c.self.invariant c.in-Some.slot c.in-Some.is c.renew.new.store (lone c.args.body) c.free-self-inside.result c.free-self-inside.ensures c.renew.ensures in
+    let st = reused-step c.self.inside.store c.self.inside.free c.self.inside.listed c.self.inside.fresh c.self.inside.taken c.self.inside.room c.self.inside.cap c.self.invariant c.in-Some.slot c.in-Some.is c.renew.new.self (lone c.args.body) c.free-self-inside.result (omega arith) c.free-self-inside.ensures c.renew.ensures in
     (((front c.self.inside.store c.self.inside.free c.self.inside.listed c.self.inside.fresh c.self.inside.taken c.self.inside.room c.self.inside.cap c.self.invariant c.in-Some.slot c.in-Some.is).0, st.chain), tt)
 
 pub invariant_of-self : goal.invariant_of-self
 invariant_of-self c =
-    let st = reused-step c.self.inside.store c.self.inside.free c.self.inside.listed c.self.inside.fresh c.self.inside.taken c.self.inside.room c.self.inside.cap c.self.invariant c.in-Some.slot c.in-Some.is c.renew.new.store (lone c.args.body) c.free-self-inside.result c.free-self-inside.ensures c.renew.ensures in
+    let st = reused-step c.self.inside.store c.self.inside.free c.self.inside.listed c.self.inside.fresh c.self.inside.taken c.self.inside.room c.self.inside.cap c.self.invariant c.in-Some.slot c.in-Some.is c.renew.new.self (lone c.args.body) c.free-self-inside.result (omega arith) c.free-self-inside.ensures c.renew.ensures in
     step_pool _ _ _ _ _ _ _ _ st c.self-1.given.0
 
 pub returns-in-Some-clause-listed : goal.returns-in-Some-clause-listed
 returns-in-Some-clause-listed c =
-    let st = reused-step c.self.inside.store c.self.inside.free c.self.inside.listed c.self.inside.fresh c.self.inside.taken c.self.inside.room c.self.inside.cap c.self.invariant c.in-Some.slot c.in-Some.is c.renew.new.store (lone c.args.body) c.free-self-inside.result c.free-self-inside.ensures c.renew.ensures in
+    let st = reused-step c.self.inside.store c.self.inside.free c.self.inside.listed c.self.inside.fresh c.self.inside.taken c.self.inside.room c.self.inside.cap c.self.invariant c.in-Some.slot c.in-Some.is c.renew.new.self (lone c.args.body) c.free-self-inside.result (omega arith) c.free-self-inside.ensures c.renew.ensures in
     ap (λ (v : PoolState). v.free) (sym c.self.view_is) ∙ front_split c.self.inside.store c.self.inside.free c.self.inside.listed c.self.inside.fresh c.self.inside.taken c.self.inside.room c.self.inside.cap c.self.invariant c.in-Some.slot c.in-Some.is ∙ ap (λ (z : List ℕ). c.in-Some.slot ∷ z) (sym (step_free _ _ _ _ _ _ _ _ st c.self-1.given.0))
 
 pub returns-in-Some-clause-was_free : goal.returns-in-Some-clause-was_free
@@ -36,13 +36,13 @@ returns-in-Some-clause-below c = subst (λ (v : PoolState). c.in-Some.slot < v.c
 
 pub returns-in-Some-clause-some : goal.returns-in-Some-clause-some
 returns-in-Some-clause-some c =
-    let st = reused-step c.self.inside.store c.self.inside.free c.self.inside.listed c.self.inside.fresh c.self.inside.taken c.self.inside.room c.self.inside.cap c.self.invariant c.in-Some.slot c.in-Some.is c.renew.new.store (lone c.args.body) c.free-self-inside.result c.free-self-inside.ensures c.renew.ensures in
+    let st = reused-step c.self.inside.store c.self.inside.free c.self.inside.listed c.self.inside.fresh c.self.inside.taken c.self.inside.room c.self.inside.cap c.self.invariant c.in-Some.slot c.in-Some.is c.renew.new.self (lone c.args.body) c.free-self-inside.result (omega arith) c.free-self-inside.ensures c.renew.ensures in
     same_pool _ _ _ _ _ _ _ (step_cells _ _ _ _ _ _ _ _ st c.self-1.given.0) refl
     ∙ ap (λ (v : PoolState). record v { cells = put v.cells c.in-Some.slot (Some (lone c.args.body)); free = c.self-1.given.0.0 }) c.self.view_is
 
 pub returns-in-Some-clause-fits : goal.returns-in-Some-clause-fits
 returns-in-Some-clause-fits c =
-    let st = reused-step c.self.inside.store c.self.inside.free c.self.inside.listed c.self.inside.fresh c.self.inside.taken c.self.inside.room c.self.inside.cap c.self.invariant c.in-Some.slot c.in-Some.is c.renew.new.store (lone c.args.body) c.free-self-inside.result c.free-self-inside.ensures c.renew.ensures in
+    let st = reused-step c.self.inside.store c.self.inside.free c.self.inside.listed c.self.inside.fresh c.self.inside.taken c.self.inside.room c.self.inside.cap c.self.invariant c.in-Some.slot c.in-Some.is c.renew.new.self (lone c.args.body) c.free-self-inside.result (omega arith) c.free-self-inside.ensures c.renew.ensures in
     pool_fits _ _ _ _ _ _ (step_pool _ _ _ _ _ _ _ _ st c.self-1.given.0)
 
 pub returns-in-None-clause-listed : goal.returns-in-None-clause-listed

@@ -6,7 +6,7 @@ use Rattle.rx_names.specs.Entries.{is_allowed_word, symbols_from}
 use Rattle.rx_names.specs.Names.{Interns}
 use Rattle.rx_names.specs.declared.names.Entry.{Entry}
 use Rattle.rx_names.proofs.PlaceLemmas.{inserted-once, Placed-apart, lacks-itself}
-use Rattle.rx_names.proofs.NameLemmas.{kept-allowed, kept-symbols, Placed-allowed, Interns-placed, says-entry, entry_eq-Decides}
+use Rattle.rx_names.proofs.NameLemmas.{kept-allowed, kept-symbols, Placed-allowed, Interns-placed, entry_eq-Decides}
 use Rattle.rx_names.proofs.names.Names.intern.Goals as goal
 
 pub invariant_of-self : goal.invariant_of-self
@@ -44,7 +44,7 @@ returns-in-Ok-insert_full c =
     let k = c.in-Ok-insert_full.ensures.stored in
     let at : slice_get es place ≡ Some e = k.1 ∙ ap (λ z. Some z) (sym ((entry_eq-Decides e k.0).0 k.2)) in
     subst (λ m. Interns m (symbols_from vs es) g (record { 0 = place })) (kept-symbols (words_of n.words) vs n.entries.keys c.intern.ensures.kept n.allowed)
-    (Interns-placed vs n.entries.keys es e place placed at g (says-entry vs e g c.in-Ok.ensures.stands refl refl))
+    (Interns-placed vs n.entries.keys es e place placed at g c.intern.new.self.apart (Placed-apart n.entries.keys es e placed n.apart) c.in-Ok.ensures.stands refl refl)
 
 pub returns-in-Err-insert_full : goal.returns-in-Err-insert_full
 returns-in-Err-insert_full c =

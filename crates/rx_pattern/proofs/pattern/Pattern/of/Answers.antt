@@ -1,4 +1,3 @@
-use Rattle.std.proofs.Common.{arith}
 use Rattle.rx_pattern.proofs.Wholes.{whole_nodes}
 use Rattle.rx_pattern.proofs.pattern.Pattern.of.Goals as goal
 

@@ -7,16 +7,14 @@ use Rattle.rx_plain.specs.Slots.{heap_of, roots_of, cell_of}
 use Rattle.rx_plain.specs.State.{store_of}
 use Rattle.rx_plain.proofs.SlotLemmas.{Puts, Puts-set, Puts-push, Unrooted-puts}
 use Rattle.rx_plain.specs.Soundness.{table, taken-le}
-use Rattle.rx_plain.proofs.Making.{found, put-whole, put-distinct, put-len-by, put-makes, put-refuses}
-use Rattle.rx_plain.specs.Hints.{AreHinted}
-use Rattle.rx_plain.proofs.HintLemmas.{AreHinted-puts}
+use Rattle.rx_plain.proofs.Making.{found, put-whole, put-distinct, put-len-by, put-makes, put-refuses, all-taken}
 use Rattle.rx_plain.proofs.Contents.{same-whole, same-content}
 use Rattle.std.specs.FinMap as map
 use Rattle.rx_term.specs.Heap.{IsDistinct}
 use Rattle.rx_plain.proofs.bank.PlainBank.make.Goals as goal
 
 pub returns-in-Some : goal.returns-in-Some
-returns-in-Some c = found c.args.self.now c.args.body c.requires c.in-Some.i c.in-Some.ensures.1
+returns-in-Some c = found c.args.self.now c.args.body c.requires c.in-Some.i (subst (λ xs. heap_of xs c.in-Some.i ≡ Some (cell_of c.args.body)) c.deref.ensures.value c.in-Some.ensures.1)
 
 pub overflow_add-self : goal.overflow_add-self
 overflow_add-self c = let b = c.args.self.now in let p = taken-le b in let q = b.bounded in let r = b.limited in omega arith
@@ -25,8 +23,8 @@ pub invariant_of-self : goal.invariant_of-self
 invariant_of-self c =
     let b = c.args.self.now in
     let items = b.slots.items in
-    let nowhere = c.in_default.ensures in
-    let free = c.in-Some-find_free.ensures in
+    let nowhere = subst (λ xs. (t : ℕ) → heap_of xs t ≡ Some (cell_of c.args.body) → ⊥) c.deref.ensures.value c.in_default.ensures in
+    let free = subst (λ xs. (c.in-Some-find_free.i < length xs) × (heap_of xs c.in-Some-find_free.i ≡ None)) c.deref-2.ensures.value c.in-Some-find_free.ensures in
     let slot : Slot = record { body = Some c.args.body; roots = 0; mark = false } in
     let ys = slice_set items c.in-Some-find_free.i slot in
     let puts : Puts items ys c.in-Some-find_free.i (cell_of c.args.body) = Puts-set items c.in-Some-find_free.i slot (cell_of c.args.body) free.0 free.1 b.unrooted (refl, refl) in
@@ -39,7 +37,6 @@ invariant_of-self c =
       bounded = grind (arith, elements);
       distinct = put-distinct b c.args.body c.requires nowhere ys c.in-Some-find_free.i puts;
       whole = whole;
-      hinted = AreHinted-puts b.hints.last.items c.note.new.self.last.items items ys c.in-Some-find_free.i (cell_of c.args.body) puts c.note.ensures.this c.note.ensures.others b.hinted;
       unrooted = Unrooted-puts items ys c.in-Some-find_free.i (cell_of c.args.body) puts b.unrooted;
       counts = λ t. rw (puts.roots t) (b.counts t);
       counted = omega arith;
@@ -49,36 +46,23 @@ pub returns-in-Some-find_free : goal.returns-in-Some-find_free
 returns-in-Some-find_free c =
     let b = c.args.self.now in
     let items = b.slots.items in
-    let nowhere = c.in_default.ensures in
-    let free = c.in-Some-find_free.ensures in
+    let nowhere = subst (λ xs. (t : ℕ) → heap_of xs t ≡ Some (cell_of c.args.body) → ⊥) c.deref.ensures.value c.in_default.ensures in
+    let free = subst (λ xs. (c.in-Some-find_free.i < length xs) × (heap_of xs c.in-Some-find_free.i ≡ None)) c.deref-2.ensures.value c.in-Some-find_free.ensures in
     let slot : Slot = record { body = Some c.args.body; roots = 0; mark = false } in
     let same_room : vec_capacity b.slots ≤ vec_capacity b.slots = omega arith in
     put-makes b c.args.body c.requires nowhere (slice_set items c.in-Some-find_free.i slot) c.in-Some-find_free.i
     (Puts-set items c.in-Some-find_free.i slot (cell_of c.args.body) free.0 free.1 b.unrooted (refl, refl)) _ (vec_capacity b.slots) same_room
 
-pub invariant_of-self-then-i-self : goal.invariant_of-self-then-i-self
-invariant_of-self-then-i-self c =
-    let b = c.args.self.now in
-    record {
-      limited = b.limited;
-      bounded = b.bounded;
-      distinct = b.distinct;
-      whole = b.whole;
-      unrooted = b.unrooted;
-      counts = b.counts;
-      hinted = b.hinted;
-      counted = b.counted;
-    }
-
 pub returns-then-i-self : goal.returns-then-i-self
 returns-then-i-self c =
     let b = c.args.self.now in
-    let nowhere = c.in_default.ensures in
-    let all = c.in_default-find_free.ensures in
+    let nowhere = subst (λ xs. (t : ℕ) → heap_of xs t ≡ Some (cell_of c.args.body) → ⊥) c.deref.ensures.value c.in_default.ensures in
+    let none_free = subst (λ xs. (t : ℕ) → t < length xs → heap_of xs t ≡ None → ⊥) c.deref-2.ensures.value c.in_default-find_free.ensures in
+    let all = all-taken b none_free in
     let len = b.slots.ok.0 in
     let bounded = b.bounded in
     let counted = b.counted in
-    put-refuses b c.args.body c.requires nowhere b.slots.items _ _ (vec_capacity b.slots) refl (omega arith) (omega arith) (omega arith)
+    put-refuses b c.args.body c.requires nowhere b.slots.items _ b.whole (vec_capacity b.slots) refl (omega arith) (omega arith) (omega arith)
 
 pub invariant_of-self-in-Err : goal.invariant_of-self-in-Err
 invariant_of-self-in-Err c =
@@ -95,15 +79,15 @@ invariant_of-self-in-Err c =
       whole = whole;
       unrooted = subst (λ xs. (t : ℕ) → heap_of xs t ≡ None → roots_of xs t ≡ 0) (sym e) b.unrooted;
       counts = subst (λ xs. (t : ℕ) → roots_of xs t ≤ 65535) (sym e) b.counts;
-      hinted = subst (λ xs. AreHinted b.hints.last.items (heap_of xs)) (sym e) b.hinted;
       counted = b.counted ∙ sym (ap map.len content);
     }
 
 pub returns-in-Err : goal.returns-in-Err
 returns-in-Err c =
     let b = c.args.self.now in
-    let nowhere = c.in_default.ensures in
-    let all = c.in_default-find_free.ensures in
+    let nowhere = subst (λ xs. (t : ℕ) → heap_of xs t ≡ Some (cell_of c.args.body) → ⊥) c.deref.ensures.value c.in_default.ensures in
+    let none_free = subst (λ xs. (t : ℕ) → t < length xs → heap_of xs t ≡ None → ⊥) c.deref-2.ensures.value c.in_default-find_free.ensures in
+    let all = all-taken b none_free in
     let len = b.slots.ok.0 in
     let counted = b.counted in
     let full = c.in-Err.ensures.full in
@@ -118,7 +102,7 @@ pub invariant_of-self-in-Ok : goal.invariant_of-self-in-Ok
 invariant_of-self-in-Ok c =
     let b = c.args.self.now in
     let items = b.slots.items in
-    let nowhere = c.in_default.ensures in
+    let nowhere = subst (λ xs. (t : ℕ) → heap_of xs t ≡ Some (cell_of c.args.body) → ⊥) c.deref.ensures.value c.in_default.ensures in
     let slot : Slot = record { body = Some c.args.body; roots = 0; mark = false } in
     let ys = c.push.new.self.items in
     let e : ys ≡ items ++ slot ∷ [] = c.in-Ok.ensures.items in
@@ -128,13 +112,11 @@ invariant_of-self-in-Ok c =
     let counted = b.counted in
     let bounded = b.bounded in
     let size = b.slots.ok.0 in
-    let noted = AreHinted-puts b.hints.last.items c.note-in-Ok.new.self.last.items items ys (length items) (cell_of c.args.body) puts c.note-in-Ok.ensures.this c.note-in-Ok.ensures.others b.hinted in
     record {
       limited = b.limited;
       bounded = rw e (simp length-append (omega arith));
       distinct = put-distinct b c.args.body c.requires nowhere ys (length items) puts;
       whole = whole;
-      hinted = subst (λ xs. AreHinted c.grow.new.self.last.items (heap_of xs)) c.deref.ensures.value (c.grow.ensures (subst (λ xs. AreHinted c.note-in-Ok.new.self.last.items (heap_of xs)) (sym c.deref.ensures.value) noted));
       unrooted = Unrooted-puts items ys (length items) (cell_of c.args.body) puts b.unrooted;
       counts = λ t. rw (puts.roots t) (b.counts t);
       counted = omega arith;
@@ -144,7 +126,7 @@ pub returns-in-Ok : goal.returns-in-Ok
 returns-in-Ok c =
     let b = c.args.self.now in
     let items = b.slots.items in
-    let nowhere = c.in_default.ensures in
+    let nowhere = subst (λ xs. (t : ℕ) → heap_of xs t ≡ Some (cell_of c.args.body) → ⊥) c.deref.ensures.value c.in_default.ensures in
     let slot : Slot = record { body = Some c.args.body; roots = 0; mark = false } in
     let ys = c.push.new.self.items in
     let e : ys ≡ items ++ slot ∷ [] = c.in-Ok.ensures.items in

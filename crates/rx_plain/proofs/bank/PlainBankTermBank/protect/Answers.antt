@@ -3,7 +3,6 @@ use Rattle.std.specs.Prelude.{slice_set}
 use Rattle.std.specs.FinMap as map
 use Rattle.rx_term.specs.Heap.{IsDistinct}
 use Rattle.rx_plain.specs.Slots.{heap_of}
-use Rattle.rx_plain.specs.Hints.{AreHinted}
 use Rattle.rx_plain.specs.State.{store_of}
 use Rattle.rx_plain.specs.Soundness.{table, cell-within}
 use Rattle.rx_plain.proofs.Reading.{held-cell}
@@ -59,7 +58,6 @@ invariant_of-self c =
       whole = whole;
       unrooted = recount-unrooted b.slots.items c.args.t.0 s n lt c.index-slot.ensures (ap is_some x.1) b.unrooted;
       counts = recount-counts b.slots.items c.args.t.0 s n lt c.index-slot.ensures fits b.counts;
-      hinted = subst (AreHinted b.hints.last.items) (sym heap) b.hinted;
       counted = b.counted ∙ sym (ap map.len (content-unique (table b) (heap_of b.slots.items) (heap_of ys) (length b.slots.items) (length ys) heap len b.whole whole));
     }
 

@@ -2,10 +2,9 @@
 use Rattle.std.proofs.Common.{◌≡◌, ◌<◌, ◌≤◌, length, map, sym, ap, ◌∙◌, subst, arith}
 use Rattle.std.specs.Prelude.{count_by}
 use Rattle.rx_plain.specs.Marks.{Reaches, AreLinksWithin}
-use Rattle.rx_plain.specs.Slots.{swept_of, is_taken, heap_of, marks_of}
+use Rattle.rx_plain.specs.Slots.{swept_of, is_taken}
 use Rattle.rx_plain.specs.Soundness.{table}
-use Rattle.rx_plain.proofs.Reclaiming.{written, swept-back, bank-within, held-within, reclaimed-whole, reclaimed-distinct, reclaimed-roots, reclaimed-unrooted, reclaimed-len, heap-after, reclaimed, count-content}
-use Rattle.rx_plain.proofs.HintLemmas.{AreHinted-kept}
+use Rattle.rx_plain.proofs.Reclaiming.{written, swept-back, bank-within, held-within, reclaimed-whole, reclaimed-distinct, reclaimed-roots, reclaimed-unrooted, reclaimed-len, reclaimed, count-content}
 use Rattle.rx_plain.proofs.bank.PlainBankTermBank.reclaim.Goals as goal
 
 pub mark_reached-requires-clause-within : goal.mark_reached-requires-clause-within
@@ -33,7 +32,6 @@ invariant_of-self c =
       whole = whole;
       unrooted = reclaimed-unrooted b marked ys extra r swept c.requires;
       counts = λ t. subst (λ f. f t ≤ 65535) (sym roots) (b.counts t);
-      hinted = AreHinted-kept b.hints.last.items (marks_of marked) (heap_of b.slots.items) (heap_of ys) (heap-after b marked ys extra r swept c.requires) b.hinted;
       counted = c.sweep.ensures.taken ∙ ap (count_by is_taken) (sym both.0) ∙ sym (count-content ys (table b) whole);
     }
 

@@ -3,7 +3,6 @@ use Rattle.std.proofs.Common.{ℕ, ◌≡◌, ◌+◌, ◌≤◌, None, length, 
 use Rattle.std.specs.FinMap as map
 use Rattle.rx_term.specs.Heap.{IsDistinct}
 use Rattle.rx_plain.specs.Slots.{heap_of, roots_of}
-use Rattle.rx_plain.specs.Hints.{AreHinted}
 use Rattle.rx_plain.specs.State.{store_of}
 use Rattle.rx_plain.specs.Soundness.{table, taken-le}
 use Rattle.rx_plain.proofs.Contents.{same-whole, same-content}
@@ -26,7 +25,6 @@ invariant_of-self c =
       whole = whole;
       unrooted = subst (λ xs. (t : ℕ) → heap_of xs t ≡ None → roots_of xs t ≡ 0) (sym e) b.unrooted;
       counts = subst (λ xs. (t : ℕ) → roots_of xs t ≤ 65535) (sym e) b.counts;
-      hinted = subst (λ xs. AreHinted b.hints.last.items (heap_of xs)) (sym e) b.hinted;
       counted = b.counted ∙ sym (ap map.len (same-content (table b) items c.reserve.new.self.items e b.whole whole));
     }
 

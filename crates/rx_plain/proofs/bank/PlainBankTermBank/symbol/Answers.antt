@@ -20,7 +20,6 @@ invariant_of-self c =
       whole = whole;
       unrooted = b.unrooted;
       counts = b.counts;
-      hinted = b.hinted;
       counted = b.counted ∙ sym (ap map.len (renamed-content b c.intern.new.self grows whole));
     }
 

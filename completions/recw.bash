@@ -1,0 +1,62 @@
+# Completions of recw for bash.
+# shellcheck shell=bash
+
+# Each command with the kinds of its words: a file, a command, or a text that bash cannot tell.
+_recw_commands=(
+    'eval file file'
+    'aterm file'
+    'share file'
+    'match text file'
+    'make text text'
+    'help command'
+)
+
+# Each option of eval, with the name of its value where it takes one.
+_recw_eval_options=(
+    '--steps N'
+    '--cells C'
+    '--reclaim K'
+    '--count'
+)
+
+_recw_takes_value() {
+    local option
+    for option in "${_recw_eval_options[@]}"; do
+        [[ $option != *' '* || ${option% *} != "$1" ]] || return 0
+    done
+    return 1
+}
+
+# Prints the kind of the word that is completed.
+_recw_kind() {
+    local entry index kinds=(command)
+    for entry in "${_recw_commands[@]}"; do
+        [[ ${entry%% *} != "$1" ]] || read -ra kinds <<<"$entry"
+    done
+    for ((index = 2; index < COMP_CWORD; index++)); do
+        if _recw_takes_value "${COMP_WORDS[index]}"; then
+            [[ ${COMP_WORDS[index + 1]} != '=' ]] || ((index += 1))
+            ((index += 1))
+        elif [[ ${COMP_WORDS[index]} != -* ]]; then
+            kinds=("${kinds[@]:1}")
+        fi
+    done
+    if ((index > COMP_CWORD)); then echo value; else echo "${kinds[1]-none}"; fi
+}
+
+_recw() {
+    local word=${COMP_WORDS[COMP_CWORD]} command=${COMP_WORDS[1]} kind=command choices=(--help)
+    if ((COMP_CWORD > 1)); then kind=$(_recw_kind "$command"); fi
+    if ((COMP_CWORD > 1)) && [[ $command == eval ]]; then choices+=("${_recw_eval_options[@]%% *}"); fi
+    COMPREPLY=()
+    if [[ $kind != value && $word == -* ]]; then
+        mapfile -t COMPREPLY < <(compgen -W "${choices[*]}" -- "$word")
+    elif [[ $kind == command ]]; then
+        mapfile -t COMPREPLY < <(compgen -W "${_recw_commands[*]%% *}" -- "$word")
+    elif [[ $kind == file ]]; then
+        compopt -o filenames 2>/dev/null
+        mapfile -t COMPREPLY < <(compgen -f -- "$word")
+    fi
+}
+
+complete -F _recw recw

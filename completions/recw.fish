@@ -1,0 +1,20 @@
+# Completions of recw for fish.
+
+complete -c recw -f
+complete -c recw -s h -l help -d 'Print help'
+
+set -l first 'not __fish_seen_subcommand_from eval aterm share match make help'
+set -l help '__fish_seen_subcommand_from help'
+complete -c recw -n "$first; or $help" -a eval -d 'Evaluate the terms of a REC specification'
+complete -c recw -n "$first; or $help" -a aterm -d 'Print an ATerm in its shortest form'
+complete -c recw -n "$first; or $help" -a share -d 'Print an ATerm and how many cells it takes with equal parts shared'
+complete -c recw -n "$first; or $help" -a match -d 'Print what a pattern binds in an ATerm, or that it does not match'
+complete -c recw -n "$first; or $help" -a make -d 'Print a pattern with arguments in place of its placeholders'
+complete -c recw -n "$first; or $help" -a help -d 'Print this message or the help of the given subcommand(s)'
+complete -c recw -n '__fish_seen_subcommand_from eval aterm share match' -F
+
+set -l eval '__fish_seen_subcommand_from eval'
+complete -c recw -n $eval -l steps -x -d 'Most steps that a term may take, up to 10^18'
+complete -c recw -n $eval -l cells -x -d 'Most cells that terms may take, 1 to 2^30'
+complete -c recw -n $eval -l reclaim -x -d 'New cells between two reclaims, 1 to 2^30'
+complete -c recw -n $eval -l count -d 'Print the steps that each term took behind its value'

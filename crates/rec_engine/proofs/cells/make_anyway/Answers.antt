@@ -1,0 +1,22 @@
+use Rattle.std.proofs.Common.{IsSome, subst, sym, ◌∙◌}
+use Rattle.rx_term.specs.Steps.{Refuses}
+use Rattle.rec_engine.specs.Cells.{built}
+use Rattle.rec_engine.proofs.KeptNodes.{kept-built}
+use Rattle.rx_term.proofs.KeepLemmas.{Keeps-after-refusal, exhausted}
+use Rattle.rec_engine.proofs.cells.make_anyway.Goals as goal
+
+pub make_once-requires-in-Err-Full : goal.make_once-requires-in-Err-Full
+make_once-requires-in-Err-Full g c =
+    let k = Keeps-after-refusal c.in-Err-Full.ensures c.reclaim.ensures.reclaims in
+    subst IsSome (sym (kept-built k c.requires.work c.args.node c.requires.parts)) c.requires.node
+
+pub returns-in-Ok-make_once-clause-makes : goal.returns-in-Ok-make_once-clause-makes
+returns-in-Ok-make_once-clause-makes g c =
+    let k = Keeps-after-refusal c.in-Err-Full.ensures c.reclaim.ensures.reclaims in
+    c.in-Ok-make_once.ensures.made ∙ kept-built k c.requires.work c.args.node c.requires.parts
+
+pub returns-in-Err-Full-make_once-clause-makes : goal.returns-in-Err-Full-make_once-clause-makes
+returns-in-Err-Full-make_once-clause-makes g c =
+    let mid = g.B.TermBank.store c.reclaim.new.bank in
+    let new = g.B.TermBank.store c.make_once-in-Err-Full.new.bank in
+    exhausted c.reclaim.ensures.reclaims (subst (λ e. Refuses mid new (built mid c.args.node) e) c.in-Err-Full-make_once.field-0-is c.in-Err-Full-make_once.ensures)

@@ -1,0 +1,12 @@
+use Rattle.std.proofs.Common.{sym, subst, arith}
+use Rattle.std.specs.Prelude.{Vec}
+use Rattle.std.specs.declared.alloc.Global.{Global}
+use Rattle.rec_sorts.specs.declared.letters.Letter.{Letter}
+use Rattle.rec_sorts.specs.Linked.{AreLinked}
+use Rattle.rec_engine.proofs.EngineLemmas.{rows-long}
+use Rattle.rec_engine.proofs.engine.Engine.new.Goals as goal
+
+pub invariant_of-result : goal.invariant_of-result
+invariant_of-result g c =
+    let long = rows-long (λ (v : Vec Letter Global). v.items) c.args.checked.spec c.terms.result.now c.terms.ensures.letters in
+    (omega (arith, long, c.in-Ok.ensures), c.in-Ok-new.ensures.code, subst (AreLinked c.args.checked.spec (g.B.TermBank.store c.make.new.bank)) (sym c.in-Ok-new.ensures.links) c.in-Ok-make.ensures.linked)

@@ -1,0 +1,11 @@
+pub mod Flat
+pub mod Constants
+pub mod Cells
+pub mod Building
+pub mod Machine
+pub mod Compiled
+pub mod Answered
+pub mod Written
+pub mod Engine
+pub mod Given
+pub mod Made

@@ -1,0 +1,127 @@
+//! Makes of nodes that give back what is not needed before they give up.
+
+ghost use Rattle.std.specs.Prelude.{◌≡◌, IsSome, Contains};
+ghost use Rattle.rx_term.specs.Store.{tree_at};
+ghost use Rattle.rx_term.specs.Steps.{MakesOrRefuses, Keeps, Reclaims};
+ghost use Rattle.rx_term.specs.declared.Term.{Term};
+ghost use Rattle.rec_match.specs.Held.{AllHeld};
+ghost use Rattle.rec_engine.specs.Constants.{KeepsKnown};
+ghost use Rattle.rec_engine.specs.Cells.{built, StandsIn, MakesFor};
+
+use crate::constants::Constants;
+use rx_term::{BankFault, Symbol, Term, TermBank};
+use thiserror::Error;
+
+/// A node that is to be made.
+#[derive(Clone, Copy, PartialEq, Eq)]
+pub(crate) enum Node {
+    Nil,
+    Cons(Term, Term),
+    Appl(Symbol, Term),
+    Annotated(Term, Term),
+}
+
+/// Why the engine gave up.
+#[derive(Clone, Copy, PartialEq, Eq, Debug, Drop, Error)]
+pub enum EngineFault {
+    /// A growth was refused.
+    #[error("out of memory")]
+    Memory,
+    /// No cell is left, and nothing can be given back.
+    #[error("out of cells")]
+    Room,
+}
+
+/// After how many new cells a reclaim is due at the latest, how many cells there were after the last one, and what was
+/// made of symbols alone since then.
+#[derive(Drop)]
+pub(crate) struct Pace {
+    pub(crate) every: u32,
+    pub(crate) floor: u32,
+    pub(crate) constants: Constants,
+}
+
+/// Makes a node, once.
+fn make_once<B: TermBank>(bank: &mut B, node: Node) -> Result<Term, BankFault>
+    requires { IsSome (built (B.store bank.old) node) }
+    ensures { MakesOrRefuses (B.store bank.old) (B.store bank.new) (built (B.store bank.old) node) result }
+{
+    match node {
+        Node::Nil => bank.nil(),
+        Node::Cons(head, tail) => bank.cons(head, tail),
+        Node::Appl(f, args) => bank.appl(f, args),
+        Node::Annotated(t, anns) => bank.annotated(t, anns),
+    }
+}
+
+/// Gives back what is not needed; no constant is known any more.
+fn reclaim<B: TermBank>(bank: &mut B, work: &[Term], pace: &mut Pace)
+    requires { AllHeld (B.store bank.old) work.now }
+    ensures reclaims { Reclaims (B.store bank.old) (B.store bank.new) work.now }
+    ensures known { KeepsKnown (B.store bank.old) (B.store bank.new) pace.old.constants pace.new.constants }
+{
+    bank.reclaim(work);
+    pace.floor = bank.cells();
+    pace.constants.clear();
+}
+
+/// Makes a node; where the bank is full, gives back what is not needed, and tries once more.
+pub(crate) fn make_anyway<B: TermBank>(
+    bank: &mut B,
+    work: &[Term],
+    pace: &mut Pace,
+    node: Node,
+) -> Result<Term, EngineFault>
+    requires node { IsSome (built (B.store bank.old) node) }
+    requires work { AllHeld (B.store bank.old) work.now }
+    requires parts { StandsIn work.now node }
+    ensures keeps { Keeps (B.store bank.old) (B.store bank.new) work.now }
+    ensures known { KeepsKnown (B.store bank.old) (B.store bank.new) pace.old.constants pace.new.constants }
+    ensures makes { MakesFor (B.store bank.new) work.now (built (B.store bank.old) node) result }
+{
+    match make_once(bank, node) {
+        Ok(t) => Ok(t),
+        Err(BankFault::Memory) => Err(EngineFault::Memory),
+        Err(BankFault::Full) => {
+            reclaim(bank, work, pace);
+            match make_once(bank, node) {
+                Ok(t) => Ok(t),
+                Err(BankFault::Memory) => Err(EngineFault::Memory),
+                Err(BankFault::Full) => Err(EngineFault::Room),
+            }
+        }
+    }
+}
+
+/// So many new cells are made at least before the next reclaim, however few are needed.
+const FEW: u32 = 16_384;
+
+/// Gives back what is not needed, where enough cells were made since the last time: as many as were left then.
+pub(crate) fn reclaim_if_due<B: TermBank>(bank: &mut B, work: &[Term], pace: &mut Pace)
+    requires { AllHeld (B.store bank.old) work.now }
+    ensures keeps { Keeps (B.store bank.old) (B.store bank.new) work.now }
+    ensures known { KeepsKnown (B.store bank.old) (B.store bank.new) pace.old.constants pace.new.constants }
+{
+    let due = pace.every.min(pace.floor.max(FEW));
+    if bank.cells().saturating_sub(pace.floor) >= due {
+        reclaim(bank, work, pace);
+    }
+}
+
+/// The safe point and the make: all values that are needed stand in the work list.
+pub(crate) fn make<B: TermBank>(
+    bank: &mut B,
+    work: &[Term],
+    pace: &mut Pace,
+    node: Node,
+) -> Result<Term, EngineFault>
+    requires node { IsSome (built (B.store bank.old) node) }
+    requires work { AllHeld (B.store bank.old) work.now }
+    requires parts { StandsIn work.now node }
+    ensures keeps { Keeps (B.store bank.old) (B.store bank.new) work.now }
+    ensures known { KeepsKnown (B.store bank.old) (B.store bank.new) pace.old.constants pace.new.constants }
+    ensures makes { MakesFor (B.store bank.new) work.now (built (B.store bank.old) node) result }
+{
+    reclaim_if_due(bank, work, pace);
+    make_anyway(bank, work, pace, node)
+}

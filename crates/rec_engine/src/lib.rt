@@ -1,0 +1,16 @@
+//! The rewriting engine, over any bank of terms.
+#![tactic(auto)]
+
+mod building;
+mod cells;
+mod code;
+mod compile;
+mod constants;
+mod engine;
+mod evaluation;
+mod given;
+mod machine;
+mod terms;
+
+pub use cells::EngineFault;
+pub use engine::{Engine, Options, Outcome};

@@ -1,0 +1,216 @@
+-- What matching trees in flat form find.
+use Rattle.std.specs.Option.{option_map}
+use Rattle.std.specs.Prelude.{slice_range, ◌≢◌, ◌⊎◌, ℕ, ◌≡◌, ◌+◌, ◌-◌, ◌<◌, ◌≤◌, suc, ◌&&◌, Bool, true, false, List, [], ◌∷◌, ◌++◌, Option, Some, None, length, get_or, nat_eq, nat_le, nat_lt, if◌then◌else◌}
+use Rattle.rx_term.specs.Tree.{Tree, Trees, Items, none, count_of, to_list, from_list, tree_eq}
+use Rattle.rx_term.specs.Store.{Store, tree_at, signature_of}
+use Rattle.rx_term.specs.Walks.{AllHeld}
+use Rattle.rx_term.specs.declared.Term.{Term}
+use Rattle.rec_syntax.specs.Syntax.{Spec}
+use Rattle.rec_sorts.specs.Lookup.{symbols}
+use Rattle.rec_sorts.specs.Binding.{application, next_match, Substitution}
+use Rattle.rec_sorts.specs.Linked.{signature}
+use Rattle.rec_sorts.specs.Numbering.{name_of, arity_of}
+use Rattle.rec_sorts.specs.declared.letters.Meaning.TheVariants.{Symbol}
+use Rattle.rec_match.specs.Walking.{opened}
+use Rattle.rec_match.specs.Rows.{Found, found_of, found_at, or_else, tree_in, values_of}
+use Rattle.rec_match.specs.declared.forest.Forest.{Forest}
+use Rattle.rec_match.specs.declared.forest.Node.{Node}
+use Rattle.rec_match.specs.declared.forest.Node.TheVariants.{Fail, Try, Switch}
+use Rattle.rec_match.specs.Held.{tree_of, trees}
+use Rattle.rec_match.specs.declared.forest.Place.{Place}
+use Rattle.rec_match.specs.declared.forest.Place.TheVariants.{First, Again}
+use Rattle.rec_match.specs.declared.forest.Child.{Child}
+
+-- places are within so many registers, and ask for values that are there already
+abbrev pub ArePlaces : ℕ → ℕ → List Place → Type 0
+ArePlaces n k [] = Unit {0}
+ArePlaces n k (First r ∷ ps) = (r < n) × ArePlaces n (suc k) ps
+ArePlaces n k (Again r v ∷ ps) = (r < n) × (v < k) × ArePlaces n k ps
+
+-- the values at places, after those that there are; none where two that have to be the same are not
+abbrev pub filled : {X : Type 0} → (X → X → Bool) → X → List Place → List X → List X → Option (List X)
+filled eq d [] us vs = Some vs
+filled eq d (First r ∷ ps) us vs = filled eq d ps us (vs ++ get_or us r d ∷ [])
+filled eq d (Again r v ∷ ps) us vs = elim (eq (get_or vs v d) (get_or us r d)) [ true ↦ filled eq d ps us vs | false ↦ None ]
+
+abbrev pub same_term : Term → Term → Bool
+same_term s t = nat_eq s.0 t.0
+
+-- the references at places
+abbrev pub terms_filled : List Place → List Term → List Term → Option (List Term)
+terms_filled ps us vs = filled same_term (record { 0 = 0 }) ps us vs
+
+abbrev pub Fills : List Place → List Term → List Term → Bool → Type 0
+Fills ps us bind true = terms_filled ps us [] ≡ Some bind
+Fills ps us bind false = (terms_filled ps us [] ≡ None) × (bind ≡ [])
+
+-- the tree of a reference is a list of so many
+abbrev pub IsListOf : Store → Term → ℕ → Type 0
+IsListOf w t k = (ts : Trees) × (tree_at w t ≡ Some (Items ts none)) × (count_of ts ≡ k)
+
+-- the items of a list stand behind what was there
+abbrev pub PushesArguments : Store → Term → List Term → List Term → Type 0
+PushesArguments w t old new = (ts : Trees) → tree_at w t ≡ Some (Items ts none) → AllHeld w old → AllHeld w new × (trees w new ≡ trees w old ++ to_list ts)
+
+-- the child of a symbol's number
+abbrev pub no_child : Child
+no_child = record { node = 0; count = 0 }
+
+abbrev pub child_at : List Child → ℕ → ℕ → ℕ → ℕ → Child
+child_at cs low from span q = if nat_le low q && nat_lt (q - low) span then get_or cs (from + (q - low)) no_child else no_child
+
+-- the number of a symbol in a bank
+abbrev pub number_at : List ℕ → ℕ → ℕ
+number_at ns k = get_or ns k 0
+
+-- these are the numbers of a specification's symbols in a bank
+abbrev pub AreNumbers : Spec → Store → List ℕ → Type 0
+AreNumbers y w ns = (k : ℕ) → k < length (symbols y) → signature_of w (record { 0 = number_at ns k }) ≡ Some (signature y k)
+
+-- a child is that of a symbol
+pub record IsChild (y : Spec) (ns : List ℕ) (q : ℕ) (child : Child) : Type 0 where
+  pub symbol : ℕ
+  pub declared : symbol < length (symbols y)
+  pub numbered : number_at ns symbol ≡ q
+  pub counted : child.count ≡ arity_of y symbol
+
+-- the children of a switch
+pub record Cases : Type 0 where
+  pub children : List Child
+  pub low : ℕ
+  pub from : ℕ
+  pub span : ℕ
+
+abbrev pub case_at : Cases → ℕ → Child
+case_at s q = child_at s.children s.low s.from s.span q
+
+abbrev pub AreCases : Spec → List ℕ → Cases → Type 0
+AreCases y ns s = (q : ℕ) → (case_at s q).node ≢ 0 → IsChild y ns q (case_at s q)
+
+-- a tree is no application of a symbol that has a child
+abbrev pub OpensNoCase : Spec → List ℕ → Cases → Tree → Type 0
+OpensNoCase y ns s u = (k : ℕ) → k < length (symbols y) → (case_at s (number_at ns k)).node ≢ 0 → opened (name_of y (Symbol k)) (arity_of y k) u ≡ None
+
+-- a tree is an application of a symbol that has a child
+pub record OpensCase (y : Spec) (ns : List ℕ) (s : Cases) (u : Tree) (args : Trees) (next : ℕ) : Type 0 where
+  pub symbol : ℕ
+  pub declared : symbol < length (symbols y)
+  pub child : (case_at s (number_at ns symbol)).node ≡ next
+  pub there : next ≢ 0
+  pub is : u ≡ application (name_of y (Symbol symbol)) args
+  pub counted : count_of args ≡ arity_of y symbol
+
+-- where a switch leads from a reference
+pub record TurnsIn (y : Spec) (w : Store) (ns : List ℕ) (s : Cases) (u : Term) (old new : List Term) (next : ℕ) : Type 0 where
+  pub args : Trees
+  pub opens : OpensCase y ns s (tree_of w u) args next
+  pub held : AllHeld w new
+  pub registers : trees w new ≡ trees w old ++ to_list args
+
+pub record TurnsAway (y : Spec) (w : Store) (ns : List ℕ) (s : Cases) (other : ℕ) (u : Term) (old new : List Term) (next : ℕ) : Type 0 where
+  pub next_is : next ≡ other
+  pub same : new ≡ old
+  pub opens : OpensNoCase y ns s (tree_of w u)
+
+abbrev pub Turns : Store → Cases → ℕ → Term → List Term → List Term → ℕ → Type 0
+Turns w s other u old new next = (y : Spec) (ns : List ℕ) → AreNumbers y w ns → AreCases y ns s → TurnsIn y w ns s u old new next ⊎ TurnsAway y w ns s other u old new next
+
+-- a switch can be taken
+pub record CanTurn (w : Store) (s : Cases) : Type 0 where
+  pub spec : Spec
+  pub numbers : List ℕ
+  pub linked : AreNumbers spec w numbers
+  pub cases : AreCases spec numbers s
+
+-- what nodes find at or after a number for registers, and how many registers there are at each
+pub record Reading : Type 0 where
+  pub finds : ℕ → ℕ → List Tree → Option Found
+  pub width : ℕ → ℕ
+
+abbrev pub empty : Tree
+empty = Items none none
+
+-- the trees at places
+abbrev pub trees_filled : List Place → List Tree → List Tree → Option (List Tree)
+trees_filled ps us vs = filled tree_eq empty ps us vs
+
+-- a node that comes after another one
+pub record Follows (f : Forest) (m : Reading) (n next : ℕ) : Type 0 where
+  pub later : n < next
+  pub there : next < length f.nodes.items
+
+-- a rule, and what comes after it
+pub record FitsTry (f : Forest) (m : Reading) (n rule from to next : ℕ) : Type 0 where
+  pub follows : Follows f m n next
+  pub width : m.width next ≡ m.width n
+  pub ordered : from ≤ to
+  pub within : to ≤ length f.places.items
+  pub places : ArePlaces (m.width n) 0 (slice_range f.places.items from to)
+  pub finds : (least : ℕ) (us : List Tree) → length us ≡ m.width n → m.finds n least us ≡ or_else (found_at least rule (trees_filled (slice_range f.places.items from to) us [])) (m.finds next least us)
+
+-- a switch
+pub record FitsSwitch (y : Spec) (ns : List ℕ) (f : Forest) (m : Reading) (n register other : ℕ) (s : Cases) : Type 0 where
+  pub register_there : register < m.width n
+  pub within : s.from + s.span ≤ length f.children.items
+  pub cases : AreCases y ns s
+  pub follows : Follows f m n other
+  pub width : m.width other ≡ m.width n
+  pub otherwise : (least : ℕ) (us : List Tree) → length us ≡ m.width n → OpensNoCase y ns s (tree_in us register) → m.finds n least us ≡ m.finds other least us
+  pub follow : (k : ℕ) → k < length (symbols y) → (case_at s (number_at ns k)).node ≢ 0 → Follows f m n (case_at s (number_at ns k)).node
+  pub widths : (k : ℕ) → k < length (symbols y) → (case_at s (number_at ns k)).node ≢ 0 → m.width (case_at s (number_at ns k)).node ≡ m.width n + arity_of y k
+  pub opened : (least : ℕ) (us : List Tree) (args : Trees) (next : ℕ) → length us ≡ m.width n → OpensCase y ns s (tree_in us register) args next → m.finds n least us ≡ m.finds next least (us ++ to_list args)
+
+-- what a node finds
+abbrev pub Fits : Spec → List ℕ → Forest → Reading → ℕ → Node → Type 0
+Fits y ns f m n Fail = (least : ℕ) (us : List Tree) → m.finds n least us ≡ None
+Fits y ns f m n (Try rule from to next) = FitsTry f m n rule from to next
+Fits y ns f m n (Switch register low from span other) = FitsSwitch y ns f m n register other (record { children = f.children.items; low = low; from = from; span = span })
+
+abbrev pub root_at : Forest → ℕ → ℕ
+root_at f k = get_or f.roots.items k 0
+
+-- the tree of a symbol finds the least rule that matches an application of it
+pub record IsRoot (y : Spec) (f : Forest) (m : Reading) (k : ℕ) : Type 0 where
+  pub there : root_at f k < length f.nodes.items
+  pub width : m.width (root_at f k) ≡ arity_of y k
+  pub finds : (least : ℕ) (args : Trees) → count_of args ≡ arity_of y k → m.finds (root_at f k) least (to_list args) ≡ option_map found_of (next_match y least (application (name_of y (Symbol k)) args))
+
+-- the matching trees of a specification, with the numbers of its symbols in a bank; a symbol with root 0 has none
+pub record IsForest (y : Spec) (ns : List ℕ) (f : Forest) : Type 0 where
+  pub reading : Reading
+  pub fits : (n : ℕ) → n < length f.nodes.items → Fits y ns f reading n (get_or f.nodes.items n Fail)
+  pub counted : length f.roots.items ≡ length (symbols y)
+  pub roots : (k : ℕ) → k < length (symbols y) → root_at f k ≢ 0 → IsRoot y f reading k
+
+-- a rule that matches, with its values
+pub record HasFound (y : Spec) (w : Store) (name : List ℕ) (least : ℕ) (args bind : List Term) (i : ℕ) : Type 0 where
+  pub values : Substitution
+  pub first : next_match y least (application name (from_list (trees w args))) ≡ Some (record { number = i; values = values })
+  pub bound : trees w bind ≡ values_of values
+  pub held : AllHeld w bind
+
+-- the least rule at or after a number that matches; or there is none
+abbrev pub Finds : Spec → Store → List ℕ → ℕ → List Term → List Term → Option ℕ → Type 0
+Finds y w name least args bind (Some i) = HasFound y w name least args bind i
+Finds y w name least args bind None = (next_match y least (application name (from_list (trees w args))) ≡ None) × (bind ≡ [])
+
+-- the tree of a symbol can be run for so many arguments
+pub record CanRun (w : Store) (f : Forest) (k count : ℕ) : Type 0 where
+  pub spec : Spec
+  pub numbers : List ℕ
+  pub linked : AreNumbers spec w numbers
+  pub forest : IsForest spec numbers f
+  pub declared : k < length (symbols spec)
+  pub counted : count ≡ arity_of spec k
+  pub grown : root_at f k ≢ 0
+
+abbrev pub Runs : Store → Forest → ℕ → ℕ → List Term → List Term → Option ℕ → Type 0
+Runs w f k least args bind found = (y : Spec) (ns : List ℕ) → AreNumbers y w ns → IsForest y ns f → k < length (symbols y) → length args ≡ arity_of y k → Finds y w (name_of y (Symbol k)) least args bind found
+
+-- where a run stands: what the root finds, the node finds
+pub record Stands (w : Store) (f : Forest) (k least : ℕ) (args : List Term) (y : Spec) (forest_reading : Reading) (at : ℕ) (registers : List Term) : Type 0 where
+  pub width : length registers ≡ forest_reading.width at
+  pub same : forest_reading.finds (root_at f k) least (trees w args) ≡ forest_reading.finds at least (trees w registers)
+
+abbrev pub AllStand : Store → Forest → ℕ → ℕ → List Term → ℕ → List Term → Type 0
+AllStand w f k least args at registers = (y : Spec) (ns : List ℕ) → AreNumbers y w ns → (h : IsForest y ns f) → k < length (symbols y) → length args ≡ arity_of y k → Stands w f k least args y h.reading at registers

@@ -1,0 +1,15 @@
+pub mod Asking
+pub mod Held
+pub mod Matching
+pub mod Chains
+pub mod Placed
+pub mod Built
+pub mod Walking
+pub mod Rows
+pub mod Running
+pub mod Forests
+pub mod Growing
+pub mod Parts
+pub mod Leaves
+pub mod Ordered
+pub mod Next

@@ -1,0 +1,185 @@
+-- What a matcher keeps of left sides, and what it finds.
+use Rattle.std.specs.Prelude.{ℕ, ◌≡◌, ◌<◌, ◌≤◌, List, [], ◌∷◌, ◌++◌, Option, Some, None, All, Contains, map, reverse, length, get_or, drop, zero, suc, ◌+◌, Bool, true, false, nat_eq}
+use Rattle.rx_term.specs.Name.{Signature}
+use Rattle.rx_term.specs.Tree.{Tree, Trees, Items, Appl, none, from_list, count_of, joined}
+use Rattle.rx_term.specs.Store.{Store, signature_of, tree_at}
+use Rattle.rx_term.specs.declared.Term.{Term}
+use Rattle.rx_term.specs.declared.Symbol as bank
+use Rattle.rec_syntax.specs.Syntax as R
+use Rattle.rec_syntax.specs.Syntax.{Spec, Rule}
+use Rattle.rec_sorts.specs.Lookup.{symbols, count}
+use Rattle.rec_sorts.specs.Binding.{Substitution, value_of, application, first_match}
+use Rattle.rec_sorts.specs.Numbering.{named_all, name_of, named_by, IsMeaning, arity_of}
+use Rattle.rec_sorts.specs.Linked.{AreLinked}
+use Rattle.rec_sorts.specs.declared.letters.Letter.{Letter}
+use Rattle.rec_sorts.specs.declared.letters.Meaning.TheVariants.{Symbol, Variable}
+use Rattle.rec_match.specs.Held.{AllHeld, trees, stacked}
+use Rattle.rec_match.specs.Asking.{asked}
+use Rattle.rec_match.specs.Ordered.{AreOrdered}
+use Rattle.rec_sorts.specs.SpecRules.{fault}
+use Rattle.rec_match.specs.declared.matcher.Test.{Test}
+use Rattle.rec_match.specs.declared.matcher.Test.TheVariants.{Open, First, Again}
+use Rattle.rec_match.specs.declared.matcher.LeftSide.{LeftSide}
+use Rattle.rec_match.specs.declared.matcher.Matcher.{Matcher}
+
+-- variables with values
+abbrev pub paired : Spec → List ℕ → List Tree → Substitution
+paired y (v ∷ vs) (t ∷ ts) = (record { name = name_of y (Variable v); value = t }) ∷ paired y vs ts
+paired y _ _ = []
+
+-- two substitutions give each name the same
+abbrev pub SameValues : Substitution → Substitution → Type 0
+SameValues s s' = (name : List ℕ) → value_of s name ≡ value_of s' name
+
+-- the first place of a number
+abbrev pub FirstAt : List ℕ → ℕ → ℕ → Type 0
+FirstAt [] v p = ⊥
+FirstAt (x ∷ xs) v zero = x ≡ v
+FirstAt (x ∷ xs) v (suc p) = (x ≡ v → ⊥) × FirstAt xs v p
+
+-- a test is that of a letter, where these variables have values already, and those afterwards
+abbrev pub IsTest : List bank.Symbol → Letter → List ℕ → Test → List ℕ → Type 0
+IsTest ss l vs (Open f count) more = (k : ℕ) × (l.meaning ≡ Symbol k) × (k < length ss) × (f ≡ get_or ss k f) × (l.count ≡ count) × (more ≡ vs)
+IsTest ss l vs First more = (v : ℕ) × (l.meaning ≡ Variable v) × (Contains vs v → ⊥) × (more ≡ vs ++ v ∷ [])
+IsTest ss l vs (Again k) more = (v : ℕ) × (l.meaning ≡ Variable v) × FirstAt vs v k × (more ≡ vs)
+
+-- tests are those of letters, from the last to the first, where the first of these variables have values already
+abbrev pub AreTests : List bank.Symbol → List Letter → List ℕ → List Test → List ℕ → Type 0
+AreTests ss [] vs [] all = vs ≡ all
+AreTests ss (l ∷ ls) vs (t ∷ ts) all = (more : List ℕ) × IsTest ss l vs t more × AreTests ss ls more ts all
+AreTests ss _ vs _ all = ⊥
+
+-- an application of the symbol without annotations, whose arguments were left on a stack
+pub record Opened (w : Store) (f : bank.Symbol) (count : ℕ) (u : Term) (old new : List Term) : Type 0 where
+  pub args : List Term
+  pub signature : Signature
+  pub symbol : signature_of w f ≡ Some signature
+  pub is : tree_at w u ≡ Some (Appl signature.name signature.quoted (from_list (trees w args)) none)
+  pub counted : length args ≡ count
+  pub split : new ≡ old ++ args
+
+abbrev pub Opens : Store → bank.Symbol → ℕ → Term → List Term → List Term → Bool → Type 0
+Opens w f count u old new true = Opened w f count u old new
+Opens w f count u old new false = (g : Signature) (ts : Trees) → signature_of w f ≡ Some g → g.arity ≡ count_of ts → tree_at w u ≡ Some (Appl g.name g.quoted ts none) → ⊥
+
+-- so many arguments belong to the symbol
+abbrev pub Takes : Store → bank.Symbol → ℕ → Type 0
+Takes w f count = (g : Signature) × (signature_of w f ≡ Some g) × (g.arity ≡ count)
+
+-- what a test answers of a reference, and what it leaves
+abbrev pub Asks : Store → Test → Term → List Term → List Term → List Term → List Term → Bool → Type 0
+Asks w (Open f count) u old new bind bound answer = Opens w f count u old new answer × (bound ≡ bind)
+Asks w First u old new bind bound answer = (answer ≡ true) × (new ≡ old) × (bound ≡ bind ++ u ∷ [])
+Asks w (Again k) u old new bind bound answer = (new ≡ old) × (bound ≡ bind) × (k < length bind → answer ≡ nat_eq (get_or bind k u).0 u.0)
+
+-- between two pieces of an argument list: the first arguments are on the stack
+pub record Opening (w : Store) (u : Term) (count i : ℕ) (old now : List Term) (list : Term) : Type 0 where
+  pub done : List Term
+  pub rest : Trees
+  pub name : List ℕ
+  pub quoted : Bool
+  pub split : now ≡ old ++ done
+  pub is : tree_at w list ≡ Some (Items rest none)
+  pub whole : tree_at w u ≡ Some (Appl name quoted (joined (from_list (trees w done)) rest) none)
+  pub counted : length done ≡ i
+  pub left : count_of rest + i ≡ count
+
+-- letters of symbols have as many arguments as these are declared with
+abbrev pub AreFilled : Spec → List Letter → Type 0
+AreFilled y ls = All (λ (l : Letter). (k : ℕ) → l.meaning ≡ Symbol k → arity_of y k ≡ l.count) ls
+
+-- what the letters of a left side, from the last to the first, give to variables
+abbrev pub AskedAs : Spec → Store → List Letter → List Term → List Term → List ℕ → Bool → Type 0
+AskedAs y w ls args bind all true = (asked y (map (named_by y) ls) (stacked w args) [] ≡ Some (paired y all (trees w bind))) × (length bind ≡ length all)
+AskedAs y w ls args bind all false = asked y (map (named_by y) ls) (stacked w args) [] ≡ None
+
+-- what a test needs of its symbol
+abbrev pub CanAsk : Store → Test → Type 0
+CanAsk w (Open f count) = Takes w f count
+CanAsk w t = Unit {0}
+
+-- from one rule to another no rule matches an application of the name
+abbrev pub Skips : Spec → List ℕ → ℕ → ℕ → Type 0
+Skips y name from at = (vs : Trees) → first_match y from (drop from y.rules) (application name vs) ≡ first_match y at (drop at y.rules) (application name vs)
+
+-- what is kept of a rule's left side, by the rule's number
+abbrev pub symbol_at : Matcher → ℕ → ℕ
+symbol_at m i = get_or (map (λ (s : LeftSide). s.symbol) m.sides.items) i 0
+
+abbrev pub count_at : Matcher → ℕ → ℕ
+count_at m i = get_or (map (λ (s : LeftSide). s.count) m.sides.items) i 0
+
+abbrev pub next_at : Matcher → ℕ → ℕ
+next_at m i = get_or (map (λ (s : LeftSide). s.next) m.sides.items) i 0
+
+abbrev pub tests_at : Matcher → ℕ → List Test
+tests_at m i = get_or (map (λ (s : LeftSide). s.tests.items) m.sides.items) i []
+
+-- the variables of a rule, in the order of their values
+abbrev pub variables_at : Matcher → ℕ → List ℕ
+variables_at m i = get_or (map (λ (s : LeftSide). s.variables.items) m.sides.items) i []
+
+-- the places of these values, in the order in which the variables first occur
+abbrev pub order_at : Matcher → ℕ → List ℕ
+order_at m i = get_or (map (λ (s : LeftSide). s.order.items) m.sides.items) i []
+
+-- the rule of a number, where there is one, has this head
+abbrev pub HeadAt : Matcher → ℕ → ℕ → Type 0
+HeadAt m i k = i < length m.sides.items → symbol_at m i ≡ k
+
+-- a left side is that of a rule
+pub record IsSide (y : Spec) (ss : List bank.Symbol) (m : Matcher) (i : ℕ) (r : Rule) : Type 0 where
+  pub declared : symbol_at m i < length (symbols y)
+  pub head : (R.head r.left).bytes ≡ name_of y (Symbol (symbol_at m i))
+  pub counted : count (R.arguments r.left) ≡ count_at m i
+  pub filled : count_at m i ≡ arity_of y (symbol_at m i)
+  pub letters : List Letter
+  pub meant : All (λ l. IsMeaning y l.meaning) (reverse letters)
+  pub named : map (named_by y) letters ≡ named_all (R.arguments r.left)
+  pub filled_letters : AreFilled y (reverse letters)
+  pub tests : AreTests ss (reverse letters) [] (tests_at m i) (variables_at m i)
+  pub ordered : AreOrdered (variables_at m i) letters (order_at m i)
+  pub later : i < next_at m i
+  pub skips : Skips y (name_of y (Symbol (symbol_at m i))) (suc i) (next_at m i)
+  pub next : HeadAt m (next_at m i) (symbol_at m i)
+
+-- a matcher is that of a specification
+pub record IsMatcher (y : Spec) (ss : List bank.Symbol) (m : Matcher) : Type 0 where
+  pub kept : fault y ≡ None
+  pub linked : m.links ≡ ss
+  pub ruled : length m.sides.items ≡ length y.rules
+  pub sides : (i : ℕ) (r : Rule) → i < length y.rules → IsSide y ss m i (get_or y.rules i r)
+  pub symbols : length m.heads.items ≡ length (symbols y)
+  pub heads : (k : ℕ) (d : ℕ) → k < length m.heads.items → Skips y (name_of y (Symbol k)) 0 (get_or m.heads.items k d) × HeadAt m (get_or m.heads.items k d) k
+
+-- a rule that matches, with the values of its variables
+pub record HasFound (y : Spec) (w : Store) (m : Matcher) (name : List ℕ) (at : ℕ) (args bind : List Term) (i : ℕ) : Type 0 where
+  pub values : Substitution
+  pub first : first_match y at (drop at y.rules) (application name (from_list (trees w args))) ≡ Some (record { number = i; values = values })
+  pub same : SameValues (paired y (variables_at m i) (trees w bind)) values
+  pub counted : length bind ≡ length (variables_at m i)
+  pub head : symbol_at m i ≡ symbol_at m at
+  pub held : AllHeld w bind
+
+-- the least rule at or after a number that matches; or there is none
+abbrev pub Finds : Spec → Store → Matcher → List ℕ → ℕ → List Term → List Term → Option ℕ → Type 0
+Finds y w m name at args bind (Some i) = HasFound y w m name at args bind i
+Finds y w m name at args bind None = first_match y at (drop at y.rules) (application name (from_list (trees w args))) ≡ None
+
+-- the last references of a list are as many as the rule of a number has arguments
+pub record CanFind (w : Store) (m : Matcher) (at : ℕ) (work : List Term) : Type 0 where
+  pub spec : Spec
+  pub symbols : List bank.Symbol
+  pub linked : AreLinked spec w symbols
+  pub matcher : IsMatcher spec symbols m
+  pub counted : at < length m.sides.items → count_at m at ≤ length work
+
+-- what is found among the rules from a number on, for the last references of a list
+abbrev pub FindsFor : Store → Matcher → ℕ → List Term → List Term → Option ℕ → Type 0
+FindsFor w m at work bind found = (y : Spec) (ss : List bank.Symbol) (below args : List Term) (k : ℕ) → AreLinked y w ss → IsMatcher y ss m → k < length (symbols y) → HeadAt m at k
+    → work ≡ below ++ args → (at < length m.sides.items → count_at m at ≡ length args) → Finds y w m (name_of y (Symbol k)) at args bind found
+
+-- what the tests answer of some references: they give the variables what the letters of the left side give them
+abbrev pub Matches : Store → List Test → List Term → List Term → Bool → Type 0
+Matches w tests args bind answer = (y : Spec) (ss : List bank.Symbol) (ls : List Letter) (all : List ℕ) → fault y ≡ None → AreLinked y w ss → AreFilled y ls → All (λ l. IsMeaning y l.meaning) ls → AreTests ss ls [] tests all
+    → AskedAs y w ls args bind all answer

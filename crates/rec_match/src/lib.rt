@@ -1,0 +1,18 @@
+//! Which rule of a specification matches a term.
+#![tactic(auto)]
+
+mod build;
+mod chain;
+mod forest;
+mod leaves;
+mod matcher;
+mod next;
+mod parts;
+mod places;
+#[cfg(test)]
+mod tests;
+
+pub use forest::{Child, Forest, Node, Place};
+pub use matcher::{LeftSide, Matcher, Test};
+pub use parts::{Code, CodeRow, Part, Parts};
+pub use places::Places;

@@ -1,0 +1,158 @@
+//! Which rule of a specification matches: the rules of one head are tried one by one.
+
+ghost use Rattle.std.specs.Prelude.{◌≡◌, ◌++◌, ◌∷◌, ◌-◌, ◌≤◌, [], IfOk, IsSome, All, length, drop};
+ghost use Rattle.rx_term.specs.Store.{tree_at};
+ghost use Rattle.rec_match.specs.Held.{AllHeld};
+ghost use Rattle.rec_match.specs.Matching.{CanFind, FindsFor, Asks, Opens, Takes, CanAsk, Matches};
+
+use rec_sorts::Links;
+use rx_term::{Kind, Symbol, Term, TermBank};
+use std::alloc::{AllocError, Global};
+
+/// What is asked of the next argument, the last one first.
+#[derive(Clone, Copy, PartialEq, Eq)]
+pub enum Test {
+    /// It is an application of the symbol to so many arguments, which are asked next.
+    Open { symbol: Symbol, count: u32 },
+    /// It is the value of a variable that has none so far.
+    First,
+    /// It is the value that a variable has.
+    Again(u32),
+}
+
+/// A rule's left side: its symbol with the number of its arguments, their tests, its variables in
+/// the order of their values, the places of these in the order in which the variables first occur,
+/// and the next rule of the same symbol.
+#[derive(Drop)]
+pub struct LeftSide {
+    pub symbol: u32,
+    pub count: u32,
+    pub tests: Vec<Test>,
+    pub variables: Vec<u32>,
+    pub order: Vec<u32>,
+    pub next: u32,
+}
+
+/// The left sides of a specification's rules, the first rule of each symbol, and the symbols in a bank.
+#[derive(Drop)]
+pub struct Matcher {
+    pub sides: Vec<LeftSide>,
+    pub heads: Vec<u32>,
+    pub links: Links,
+}
+
+impl Matcher {
+    /// The first rule that matches, from one on and among those of its symbol, which is applied to the last of some references; and the values of its variables.
+    pub fn find<B: TermBank>(
+        &self,
+        bank: &B,
+        at: u32,
+        work: &[Term],
+        pending: &mut Vec<Term>,
+        bind: &mut Vec<Term>,
+    ) -> Result<Option<u32>, AllocError>
+        requires held { AllHeld (B.store bank.now) work.now }
+        requires can { CanFind (B.store bank.now) self.now at work.now }
+        ensures { IfOk result (FindsFor (B.store bank.now) self.now at work.now bind.new.items) }
+    {
+        let mut i = at;
+        while (i as usize) < self.sides.len() {
+            let side = &self.sides[i as usize];
+            if matches(bank, &side.tests, work, side.count, pending, bind)? {
+                return Ok(Some(i));
+            }
+            i = side.next;
+        }
+        Ok(None)
+    }
+}
+
+/// Asks a test of an argument.
+fn ask<B: TermBank>(
+    bank: &B,
+    test: Test,
+    u: Term,
+    pending: &mut Vec<Term>,
+    bind: &mut Vec<Term>,
+) -> Result<bool, AllocError>
+    requires held { IsSome (tree_at (B.store bank.now) u) }
+    requires pending { AllHeld (B.store bank.now) pending.old.items }
+    requires bind { AllHeld (B.store bank.now) bind.old.items }
+    requires can { CanAsk (B.store bank.now) test }
+    ensures pending { IfOk result (λ holds. AllHeld (B.store bank.now) pending.new.items) }
+    ensures bind { IfOk result (λ holds. AllHeld (B.store bank.now) bind.new.items) }
+    ensures asks { IfOk result (Asks (B.store bank.now) test u pending.old.items pending.new.items bind.old.items bind.new.items) }
+{
+    match test {
+        Test::Open { symbol, count } => open(bank, symbol, count, u, pending),
+        Test::First => {
+            bind.push(u)?;
+            Ok(true)
+        }
+        Test::Again(k) => match bind.get(k as usize) {
+            Some(v) => Ok(v.0 == u.0),
+            None => Ok(false),
+        },
+    }
+}
+
+/// Leaves the arguments of an application on the stack, the last one on top, where it is one of this symbol.
+fn open<B: TermBank>(
+    bank: &B,
+    symbol: Symbol,
+    count: u32,
+    u: Term,
+    pending: &mut Vec<Term>,
+) -> Result<bool, AllocError>
+    requires held { IsSome (tree_at (B.store bank.now) u) }
+    requires pending { AllHeld (B.store bank.now) pending.old.items }
+    requires takes { Takes (B.store bank.now) symbol count }
+    ensures pending { IfOk result (λ holds. AllHeld (B.store bank.now) pending.new.items) }
+    ensures opens { IfOk result (Opens (B.store bank.now) symbol count u pending.old.items pending.new.items) }
+{
+    let Kind::Appl(head) = bank.kind(u) else {
+        return Ok(false);
+    };
+    if head.0 != symbol.0 {
+        return Ok(false);
+    }
+    if bank.anns(u).is_some() {
+        return Ok(false);
+    }
+    let mut list = bank.args(u);
+    for i in 0..count {
+        pending.push(bank.head(list))?;
+        list = bank.tail(list);
+    }
+    Ok(true)
+}
+
+/// Whether the tests of a left side hold of the last of some references, and the values of its variables then.
+fn matches<B: TermBank>(
+    bank: &B,
+    tests: &[Test],
+    work: &[Term],
+    count: u32,
+    pending: &mut Vec<Term>,
+    bind: &mut Vec<Term>,
+) -> Result<bool, AllocError>
+    requires held { AllHeld (B.store bank.now) work.now }
+    requires count { count ≤ length work.now }
+    requires can { All (CanAsk (B.store bank.now)) tests.now }
+    ensures bind { IfOk result (λ holds. AllHeld (B.store bank.now) bind.new.items) }
+    ensures matches { IfOk result (λ holds. Matches (B.store bank.now) tests.now (drop (length work.now - count) work.now) bind.new.items holds) }
+{
+    pending.clear();
+    bind.clear();
+    let first = work.len() - count as usize;
+    pending.extend_from_slice(&work[first..])?;
+    for test in tests {
+        let Some(u) = pending.pop() else {
+            return Ok(false);
+        };
+        if !ask(bank, *test, u, pending, bind)? {
+            return Ok(false);
+        }
+    }
+    Ok(true)
+}

@@ -1,0 +1,247 @@
+-- From what an engine answers to the lines that are due.
+use Rattle.std.proofs.Common.{◌≡◌, ℕ, ◌+◌, ◌-◌, ◌<◌, ◌^◌, Bool, true, cond, List, [], ◌++◌, Option, Some, None, IsSome, IfSome, Err, get_or, take, length, refl, sym, ap, ap₂, subst, ◌∙◌, arith}
+use Rattle.std.specs.Prelude.{codes, is_some, unwrap_or}
+use Rattle.std.specs.Option.{option_map}
+use Rattle.std.specs.Io.KnownBytes.{Appends}
+use Rattle.std.specs.FinMap as map
+use Rattle.std.proofs.lemmas.Bool.{eq-eqb}
+use Rattle.std.proofs.lemmas.Option.{slice_get-get_or}
+use Rattle.rx_term.specs.Tree.{Tree, none, more, annotations, are_trees, from_list, list_of}
+use Rattle.rx_term.specs.Steps.{IsSound, Keeps, with_count}
+use Rattle.rx_term.proofs.KeepLemmas.{kept-root}
+use Rattle.rx_term.specs.Store.{Store, tree_at}
+use Rattle.rx_term.specs.declared.Term.{Term as Reference}
+use Rattle.rx_text.specs.Canon.{canon}
+use Rattle.rx_text.specs.Written.{AppendsFront, IsFront}
+use Rattle.rx_text.proofs.Cutting.{and_parts}
+use Rattle.rec_syntax.specs.Syntax.{Term, Terms, Apply, Spec, nameless}
+use Rattle.rec_syntax.specs.Syntax as syntax
+use Rattle.rec_sorts.specs.Binding.{application, instances, tree_of}
+use Rattle.rec_sorts.specs.Evaluation.{Caller, Done, Eval, call, evaluate, evaluate_all, evaluate_within, term_of, terms_of, ◌then◌}
+use Rattle.rec_sorts.proofs.Equations.{then_agrees}
+use Rattle.rec_sorts.specs.TermRules.{broken_by_elements, elements}
+use Rattle.rec_sorts.specs.Linked.{HasMoreSymbols}
+use Rattle.rec_engine.specs.Cells.{RoomOnly}
+use Rattle.rec_engine.specs.Engine.{EngineState, IsGiven, IsOutcome, RoomOnlyFor, SameEngine, eval_tree}
+use Rattle.rec_engine.specs.declared.cells.EngineFault.{EngineFault}
+use Rattle.rec_engine.specs.declared.cells.EngineFault.TheVariants as engine
+use Rattle.rec_engine.specs.declared.engine.Outcome.{Outcome}
+use Rattle.rec_engine.specs.declared.engine.Outcome.TheVariants.{Value, Limit}
+use Rattle.rec_run.specs.EvaluatedLines.{FillsBank, HoldsValue, ProtectsTerms, due_before, of_engine, outcome_text, raised_after}
+use Rattle.rec_run.specs.GivenTerms.{HoldsTerms, ReportsAfter, StopsAfter, given_at, given_by, given_text, item_at}
+use Rattle.rec_run.specs.Output.{steps_text}
+use Rattle.rec_run.specs.Reading.{line_text, shown, term_at, text_at}
+use Rattle.rec_run.specs.Run.{HasFullBank, Reports, RoomFits, Stops}
+use Rattle.rec_run.specs.declared.ending.RunFault.{RunFault}
+use Rattle.rec_run.specs.declared.ending.RunFault.TheVariants as run
+use Rattle.rec_run.specs.declared.evaluated_lines.LineFault.{LineFault}
+use Rattle.rec_run.specs.declared.evaluated_lines.LineFault.TheVariants.{Memory, Room, Write}
+use Rattle.rec_run.proofs.GivenLemmas.{all_trees, annotations_trees, notes-newlines}
+use Rattle.rec_run.proofs.GivenLists.{FrontAt}
+use Rattle.rec_run.proofs.LineFronts.{NoEnds, ends_before, front_in_line, front_in_lines, lines_of}
+use Rattle.rec_run.proofs.SpecLines.{given_text-newlines}
+use Rattle.rec_run.proofs.Told.{appends_both, appends_nothing, front_before}
+
+-- ---- what is shown of an outcome
+
+pub holds_value : (y : Spec) (w : Store) (n : ℕ) (u : Tree) (o : Outcome) → IsOutcome y w n u o → HoldsValue w o
+holds_value y w n u (Value r steps) h = ap is_some h.there
+holds_value y w n u Limit h = tt
+
+-- it is the text of the term's line
+pub outcome_text-line : (y : Spec) (w : Store) (counted : Bool) (n : ℕ) (u : Tree) (o : Outcome) → IsOutcome y w n u o → outcome_text w counted n o ≡ given_text y counted n u
+outcome_text-line y w counted n u (Value r steps) h =
+    let spent = h.spent in
+    let back : steps ≡ n - h.left = omega (arith, spent) in
+    ap₂ (λ t k. canon t ++ steps_text counted k) (ap (λ o. unwrap_or o (list_of none)) h.there) back ∙ ap (shown (annotations u) counted n) (sym h.evaluated)
+outcome_text-line y w counted n u Limit h = ap (shown (annotations u) counted n) (sym h)
+
+-- what holds of the tree of a reference that is held
+pub of_held : (o : Option Tree) (P : Tree → Type 0) → IsSome o → IfSome o P → P (unwrap_or o (list_of none))
+of_held None P held h = absurd (cc held)
+of_held (Some u) P held h = h
+
+-- the tree of a reference that is held
+pub given_item : (y : Spec) (w : Store) (t : Reference) (given : IsGiven y w t) → item_at w t ≡ given.tree
+given_item y w t given = ap (λ o. unwrap_or o (list_of none)) given.held
+
+-- what is shown of an answer is the text of the line of the term that was given
+pub answered-line : (y z : Spec) (old new : Store) (counted : Bool) (n : ℕ) (t : Reference) (o : Outcome) → IsGiven y old t → z ≡ y → ((u : Tree) → tree_at old t ≡ Some u → IsOutcome z new n u o)
+    → outcome_text new counted n o ≡ given_text y counted n (item_at old t)
+answered-line y z old new counted n t o given same answered =
+    outcome_text-line z new counted n given.tree o (answered given.tree given.held)
+    ∙ ap (λ x. given_text x counted n given.tree) same ∙ ap (given_text y counted n) (sym (given_item y old t given))
+
+-- the text of the line of the term at the front of a rest
+pub front-line : (y z : Spec) (w : Store) (us : List Tree) (rest r : Reference) (i : ℕ) (counted : Bool) (n : ℕ) (here : FrontAt y w us rest i) → z ≡ y → tree_at w r ≡ Some here.tree
+    → given_text z counted n (item_at w r) ≡ given_text y counted n (get_or us i (list_of none))
+front-line y z w us rest r i counted n here same held =
+    ap (λ x. given_text x counted n (item_at w r)) same ∙ ap (given_text y counted n) (ap (λ o. unwrap_or o (list_of none)) held ∙ sym here.got)
+
+-- ---- a specification's own terms
+
+mutual
+  -- without values for variables the tree of a term evaluates as the term
+  evaluate-tree : (c : Caller) (n : ℕ) (t : Term) → evaluate c n [] (term_of (tree_of t)) ≡ evaluate c n [] t
+  evaluate-tree c n (Apply w ts) = ap (λ o. o then λ vs left. c left (application w.bytes vs)) (evaluate-trees c n ts)
+
+  evaluate-trees : (c : Caller) (n : ℕ) (ts : Terms) → evaluate_all c n [] (terms_of (instances [] ts)) ≡ evaluate_all c n [] ts
+  evaluate-trees c n Terms.none = refl
+  evaluate-trees c n (Terms.more t ts) =
+      then_agrees (evaluate c n [] (term_of (tree_of t))) (evaluate c n [] t)
+      (λ v left. evaluate_all c left [] (terms_of (instances [] ts)) then λ vs rest. Done (more v vs) rest) (λ v left. evaluate_all c left [] ts then λ vs rest. Done (more v vs) rest)
+      (evaluate-tree c n t) (λ v left e. ap (λ o. o then λ vs rest. Done (more v vs) rest) (evaluate-trees c left ts))
+
+eval-tree : (y : Spec) (n : ℕ) (t : Term) → Eval y n [] (term_of (tree_of t)) ≡ Eval y n [] t
+unfolding Eval
+eval-tree y n t = evaluate-tree (call y (λ m r u. evaluate_within y n m r u)) n t
+
+bare_tree : (t : Term) → annotations (tree_of t) ≡ none
+bare_tree (Apply w ts) = refl
+
+-- the line of a term is that of its tree
+tree-line : (y : Spec) (counted : Bool) (n : ℕ) (t : Term) → given_text y counted n (tree_of t) ≡ line_text y counted n t
+tree-line y counted n t = ap₂ (λ notes o. shown notes counted n o) (bare_tree t) (eval-tree y n t)
+
+pub own-line : (y z : Spec) (w : Store) (counted : Bool) (n i : ℕ) (t : Reference) → z ≡ y → i < length y.terms → tree_at w t ≡ eval_tree z i → given_text z counted n (item_at w t) ≡ text_at y counted n i
+own-line y z w counted n i t same low here =
+    let own : tree_at w t ≡ Some (tree_of (term_at y i)) = here ∙ ap (λ x. eval_tree x i) same ∙ ap (option_map tree_of) (slice_get-get_or y.terms i (Apply nameless syntax.none) low) in
+    ap (λ x. given_text x counted n (item_at w t)) same ∙ ap (λ o. given_text y counted n (unwrap_or o (list_of none))) own ∙ tree-line y counted n (term_at y i)
+
+-- ---- faults
+
+-- want of cells comes with a full bank
+pub fills-engine : (w : Store) (work : List Reference) (e : EngineFault) → RoomOnly {A = Outcome} w work (Err e) → FillsBank w (of_engine e)
+fills-engine w work engine.Memory h = tt
+fills-engine w work engine.Room h = h.full
+
+pub fills-eval : (w : Store) (u : Option Tree) (e : EngineFault) → RoomOnlyFor {A = Reference} w u (Err e) → FillsBank w (of_engine e)
+fills-eval w u engine.Memory h = tt
+fills-eval w None engine.Room h = absurd h
+fills-eval w (Some u) engine.Room h = h.full
+
+pub fills-other : (w : Store) (f : LineFault) → (f ≡ Room → ⊥) → FillsBank w f
+fills-other w Memory h = tt
+fills-other w Room h = absurd (h refl)
+fills-other w Write h = tt
+
+pub room_fits : (old new : Store) (f : LineFault) (lines : ℕ) (r : RunFault) → r ≡ raised_after f lines → IsSound new → new.cap ≡ old.cap → FillsBank new f → RoomFits old.cap r
+room_fits old new f lines r e sound same h = subst (RoomFits old.cap) (sym e) (fits f h)
+  where
+    fits : (f : LineFault) → FillsBank new f → RoomFits old.cap (raised_after f lines)
+    fits Memory h = tt
+    fits Room h = record { bank = new; sound = sound; limit = same; full = h ∙ same }
+    fits Write h = tt
+
+pub raised_at : (f : LineFault) (m n : ℕ) (r : RunFault) → r ≡ raised_after f m → m ≡ n → r ≡ raised_after f n
+raised_at f m n r e same = e ∙ ap (raised_after f) same
+
+-- memory ran out before anything was written
+pub stops_unwritten : (text : List ℕ) (old : Option (List ℕ)) → Stops (run.Memory 0) text old old
+stops_unwritten text old = record { written = []; appended = appends_nothing old; front = (text, refl); reported = refl }
+
+-- a front of a line's text is due before any fault of the line
+pub front_due : (f : LineFault) (text : List ℕ) (old new : Option (List ℕ)) → AppendsFront text old new → AppendsFront (due_before f text) old new
+front_due Memory text old new h = h
+front_due Room text old new h = h
+front_due Write text old new h = front_before old new text (codes "\n") h
+
+-- ---- lines
+
+front_of : {X : Type 0} (w : LineFault) (f : X → List ℕ) (items : List X) (i : ℕ) (d : X) (front rest : List ℕ) → i < length items → due_before w (f (get_or items i d)) ≡ front ++ rest → IsFront (lines_of f (take i items) ++ front) (lines_of f items)
+front_of Memory f items i d front rest h e = front_in_lines f items i d front (rest ++ codes "\n") h (front_in_line (f (get_or items i d)) front rest e)
+front_of Room f items i d front rest h e = front_in_lines f items i d front (rest ++ codes "\n") h (front_in_line (f (get_or items i d)) front rest e)
+front_of Write f items i d front rest h e = front_in_lines f items i d front rest h e
+
+report_of : {X : Type 0} (w : LineFault) (f : X → List ℕ) (items : List X) (i : ℕ) (d : X) (front rest : List ℕ) → NoEnds f items → i < length items → due_before w (f (get_or items i d)) ≡ front ++ rest → Reports (raised_after w i) (lines_of f (take i items) ++ front)
+report_of Memory f items i d front rest no_ends h e = ends_before f items i d front rest no_ends h e
+report_of Room f items i d front rest no_ends h e = ends_before f items i d front rest no_ends h e
+report_of Write f items i d front rest no_ends h e = tt
+
+report_after : {X : Type 0} (w : LineFault) (first : ℕ) (f : X → List ℕ) (items : List X) (i : ℕ) (d : X) (front rest : List ℕ) → NoEnds f items → i < length items → due_before w (f (get_or items i d)) ≡ front ++ rest → ReportsAfter first (raised_after w (first + i)) (lines_of f (take i items) ++ front)
+report_after Memory first f items i d front rest no_ends h e = ap (λ n. first + n) (ends_before f items i d front rest no_ends h e)
+report_after Room first f items i d front rest no_ends h e = ap (λ n. first + n) (ends_before f items i d front rest no_ends h e)
+report_after Write first f items i d front rest no_ends h e = tt
+
+-- a line stopped: so did the lines
+pub lines_stopped :
+    {X : Type 0} (w : LineFault) (f : X → List ℕ) (items : List X) (i : ℕ) (d : X) (old between new : Option (List ℕ)) → NoEnds f items → i < length items
+    → Appends old between (lines_of f (take i items))
+    → AppendsFront (due_before w (f (get_or items i d))) between new
+    → Stops (raised_after w i) (lines_of f items) old new
+lines_stopped w f items i d old between new no_ends h so_far (front, appended, (rest, e)) =
+    record {
+      written = lines_of f (take i items) ++ front;
+      appended = appends_both old between new (lines_of f (take i items)) front so_far appended;
+      front = front_of w f items i d front rest h e;
+      reported = report_of w f items i d front rest no_ends h e;
+    }
+
+-- so did the lines behind others
+pub lines_stopped_after :
+    {X : Type 0} (w : LineFault) (first : ℕ) (f : X → List ℕ) (items : List X) (i : ℕ) (d : X) (old between new : Option (List ℕ)) → NoEnds f items → i < length items
+    → Appends old between (lines_of f (take i items))
+    → AppendsFront (due_before w (f (get_or items i d))) between new
+    → StopsAfter first (raised_after w (first + i)) (lines_of f items) old new
+lines_stopped_after w first f items i d old between new no_ends h so_far (front, appended, (rest, e)) =
+    record {
+      written = lines_of f (take i items) ++ front;
+      appended = appends_both old between new (lines_of f (take i items)) front so_far appended;
+      front = front_of w f items i d front rest h e;
+      reported = report_after w first f items i d front rest no_ends h e;
+    }
+
+-- the line of no term of a list has a line end before its own
+pub held_no_ends : (y : Spec) (w : Store) (list : Reference) (counted : Bool) (n : ℕ) → n < 2 ^ 64 → IsSound w → HoldsTerms y w list → NoEnds (given_text y counted n) (given_at w list)
+held_no_ends y w list counted n few sound holds k d low =
+    let us = given_at w list in
+    let valid = (and_parts (are_trees (from_list us)) true (sound.valid list (list_of (from_list us)) holds.held)).0 in
+    given_text-newlines y counted n few (get_or us k d) (notes-newlines (annotations (get_or us k d)) (annotations_trees (get_or us k d) (all_trees us valid k d low)))
+
+-- ---- a protected list
+
+-- what depends on the trees alone
+given-content : (old new : Store) (list : Reference) → new.content ≡ old.content → given_at new list ≡ given_at old list
+given-content old new list e = ap (λ c. unwrap_or (elements (unwrap_or (map.get c list.0) (list_of none))) []) e
+
+pub given_by-content : (old new : Store) (list : Option Reference) → new.content ≡ old.content → given_by new list ≡ given_by old list
+given_by-content old new None e = refl
+given_by-content old new (Some list) e = given-content old new list e
+
+holds-content : (y : Spec) (old new : Store) (list : Reference) → new.content ≡ old.content → HoldsTerms y old list → HoldsTerms y new list
+holds-content y old new list e h =
+    let same = sym (given-content old new list e) in
+    record {
+      held = ap (λ c. map.get c list.0) e ∙ h.held ∙ ap (λ us. Some (list_of (from_list us))) same;
+      kept = ap (broken_by_elements y) (sym same) ∙ h.kept;
+    }
+
+-- terms that are protected once, where symbols are added
+pub protects : (y : Spec) (old mid new : Store) (list : Reference) → HoldsTerms y old list → mid ≡ with_count old list 1 → HasMoreSymbols mid new → ProtectsTerms y new list
+protects y old mid new list h counted grown =
+    let content : new.content ≡ old.content = grown.content ∙ ap (λ (w : Store). w.content) counted in
+    let one : new.roots list.0 ≡ 1 = ap (λ f. f list.0) (grown.roots ∙ ap (λ (w : Store). w.roots) counted) ∙ ap (λ b. cond b 1 (old.roots list.0)) (eq-eqb list.0 list.0 refl) in
+    record { holds = holds-content y old new list content h; protected = omega (arith, one) }
+
+-- it stays so
+pub still_protects : (y : Spec) (old new : Store) (list : Reference) → Keeps old new [] → ProtectsTerms y old list → ProtectsTerms y new list
+still_protects y old new list keeps h =
+    let here : tree_at new list ≡ tree_at old list = kept-root keeps list h.protected (ap is_some h.holds.held) in
+    let same : given_at old list ≡ given_at new list = sym (ap (λ o. unwrap_or (elements (unwrap_or o (list_of none))) []) here) in
+    record {
+      holds = record {
+        held = here ∙ h.holds.held ∙ ap (λ us. Some (list_of (from_list us))) same;
+        kept = ap (broken_by_elements y) (sym same) ∙ h.holds.kept;
+      };
+      protected = subst (λ roots. 0 < roots list.0) (sym keeps.beside.roots) h.protected;
+    }
+
+pub same_terms : (y : Spec) (old new : Store) (list : Reference) → Keeps old new [] → ProtectsTerms y old list → given_at new list ≡ given_at old list
+same_terms y old new list keeps h = ap (λ o. unwrap_or (elements (unwrap_or o (list_of none))) []) (kept-root keeps list h.protected (ap is_some h.holds.held))
+
+-- an engine that did nothing yet
+pub same_engine : {B : Type 0} (e : EngineState B) → SameEngine e e
+same_engine e = record { spec = refl; options = refl }
+
+pub same_engine_both : {B : Type 0} {a b c : EngineState B} → SameEngine a b → SameEngine b c → SameEngine a c
+same_engine_both p q = record { spec = q.spec ∙ p.spec; options = q.options ∙ p.options }

@@ -1,0 +1,63 @@
+-- The lines of terms that an engine evaluates.
+--     outcome_text w counted n o     what is shown of what a term comes to
+--     ProtectsTerms y w list         a list of terms that keep the rules is protected
+--     due_before fault text          of a line with this text, what is due before a fault
+--     raised_after fault lines       the run's fault where a line's came after so many lines
+use Rattle.std.specs.Prelude.{ℕ, ◌≡◌, ◌<◌, Bool, List, [], ◌++◌, Option, Some, None, IsSome, codes, decimal}
+use Rattle.rx_term.specs.Store.{Store, tree_at, cells}
+use Rattle.rx_term.specs.declared.Term.{Term as Reference}
+use Rattle.rx_text.specs.Canon.{canon}
+use Rattle.rx_text.specs.declared.faults.WriteFault.{WriteFault}
+use Rattle.rx_text.specs.declared.faults.WriteFault.TheVariants as text
+use Rattle.rec_syntax.specs.Syntax.{Spec}
+use Rattle.rec_engine.specs.declared.cells.EngineFault.{EngineFault}
+use Rattle.rec_engine.specs.declared.cells.EngineFault.TheVariants as engine
+use Rattle.rec_engine.specs.declared.engine.Outcome.{Outcome}
+use Rattle.rec_engine.specs.declared.engine.Outcome.TheVariants.{Value, Limit}
+use Rattle.rec_run.specs.GivenTerms.{HoldsTerms, item_at}
+use Rattle.rec_run.specs.Output.{steps_text}
+use Rattle.rec_run.specs.declared.ending.RunFault.{RunFault}
+use Rattle.rec_run.specs.declared.ending.RunFault.TheVariants as run
+use Rattle.rec_run.specs.declared.evaluated_lines.LineFault.{LineFault}
+use Rattle.rec_run.specs.declared.evaluated_lines.LineFault.TheVariants.{Memory, Room, Write}
+
+-- what is shown of what a term comes to, without the line end
+abbrev pub outcome_text : Store → Bool → ℕ → Outcome → List ℕ
+outcome_text w counted n (Value r steps) = canon (item_at w r) ++ steps_text counted steps
+outcome_text w counted n Limit = codes "!limit " ++ decimal n
+
+-- a value is held
+abbrev pub HoldsValue : Store → Outcome → Type 0
+HoldsValue w (Value r steps) = IsSome (tree_at w r)
+HoldsValue w Limit = Unit {0}
+
+-- a list of terms that keep the rules is protected
+pub record ProtectsTerms (y : Spec) (w : Store) (list : Reference) : Type 0 where
+  pub holds : HoldsTerms y w list
+  pub protected : 0 < w.roots list.0
+
+-- a line's fault where the engine gave up, and where a text was not written
+abbrev pub of_engine : EngineFault → LineFault
+of_engine engine.Memory = Memory
+of_engine engine.Room = Room
+
+abbrev pub of_text : WriteFault → LineFault
+of_text text.Memory = Memory
+of_text text.Write = Write
+
+-- of a line with this text, what is due before such a fault: the line end meets the writer's refusal alone
+abbrev pub due_before : LineFault → List ℕ → List ℕ
+due_before Memory text = text
+due_before Room text = text
+due_before Write text = text ++ codes "\n"
+
+-- the run's fault where a line's came after so many lines
+abbrev pub raised_after : LineFault → ℕ → RunFault
+raised_after Memory lines = run.Memory lines
+raised_after Room lines = run.Room lines
+raised_after Write lines = run.Write
+
+-- want of cells comes with a full bank
+abbrev pub FillsBank : Store → LineFault → Type 0
+FillsBank w Room = cells w ≡ w.cap
+FillsBank w fault = Unit {0}

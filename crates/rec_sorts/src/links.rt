@@ -1,0 +1,82 @@
+//! The symbols of a specification in a bank.
+
+ghost use Rattle.std.specs.Prelude.{◌≡◌, ◌≢◌, ◌<◌, List, Some, Err, IfOk, length, nat_eq, slice_get};
+ghost use Rattle.indexmap.specs.IndexMap.{get};
+ghost use Rattle.rx_term.specs.declared.Symbol.{Symbol};
+ghost use Rattle.rx_term.specs.declared.faults.BankFault.TheVariants.{Full};
+ghost use Rattle.rec_sorts.specs.Linked.{AreLinked, HasMoreSymbols, NumberOf, NumbersOf};
+
+use crate::checked::Checked;
+use indexmap::IndexMap;
+use rx_term::{BankFault, Symbol, TermBank, plain_name};
+use std::alloc::{AllocError, Global};
+use std::marker::Model;
+
+/// Which symbol of a bank is which symbol of a specification: contracts see the bank's symbols by
+/// the specification's numbers, from 0 in textual order.
+#[derive(Drop)]
+pub struct Links {
+    symbols: Vec<Symbol>,
+    numbers: IndexMap<u64, u32>,
+}
+
+impl Model for Links {
+    ghost Value = { List Symbol };
+
+    ghost view = { λ l. l.symbols.items };
+
+    ghost invariant = { λ l. NumbersOf l.symbols.items (λ s. get nat_eq l.numbers s) };
+}
+
+impl Links {
+    /// The symbols of a specification in a bank, which has them from now on; the only fault is
+    /// want of memory, and nothing else of the bank changes then either.
+    pub fn make<B: TermBank>(
+        alloc: Global,
+        checked: &Checked,
+        bank: &mut B,
+    ) -> Result<Links, BankFault>
+        ensures linked { IfOk result (AreLinked checked.now.spec (B.store bank.new)) }
+        ensures same { HasMoreSymbols (B.store bank.old) (B.store bank.new) }
+        ensures fault { Err Full ≢ result }
+    {
+        let _kept = checked.syntax();
+        let mut symbols = Vec::new(alloc);
+        let mut numbers = IndexMap::new(alloc);
+        for number in 0..checked.symbols() {
+            let name = checked.symbol_name(number);
+            let quoted = !plain_name(name);
+            let symbol = bank.symbol(name, quoted, checked.arity(number))?;
+            symbols.push(symbol).map_err(|_| BankFault::Memory)?;
+            numbers
+                .insert(symbol.0, number)
+                .map_err(|_| BankFault::Memory)?;
+        }
+        Ok(Links { symbols, numbers })
+    }
+
+    /// The bank's symbol of a number.
+    pub fn symbol_of(&self, op: u32) -> Symbol
+        requires { op < length self.now }
+        ensures { slice_get self.now op ≡ Some result }
+    {
+        self.symbols[op as usize]
+    }
+
+    /// The number of a bank's symbol, where it is one of the specification's.
+    pub fn op_of(&self, symbol: Symbol) -> Option<u32>
+        ensures { NumberOf self.now symbol result }
+    {
+        self.numbers.get(&symbol.0).copied()
+    }
+
+    /// The same links once more.
+    pub fn copy(&self, alloc: Global) -> Result<Links, AllocError>
+        ensures { IfOk result (λ l. l ≡ self.now) }
+    {
+        let mut symbols = Vec::new(alloc);
+        symbols.extend_from_slice(&self.symbols)?;
+        let numbers = self.numbers.clone()?;
+        Ok(Links { symbols, numbers })
+    }
+}

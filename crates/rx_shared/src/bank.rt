@@ -1,0 +1,303 @@
+//! The bank.
+
+ghost use Rattle.std.specs.Prelude.{◌≡◌, ◌≤◌, ◌^◌, length};
+ghost use Rattle.rx_term.specs.Heap.{Least, Least-prop, IsDistinct, is_whole};
+ghost use Rattle.rx_names.specs.Names.{symbols_of};
+ghost use Rattle.rx_shared.specs.Tidy.{IsTidy, heap_of, table_of};
+
+use crate::bodies::{EMPTY, INTEGER, body};
+use crate::finding::find;
+use crate::graying::gray_all;
+use rx_arena::arena::Arena;
+use rx_arena::{ArenaFault, CellBody, Slot};
+use rx_names::Names;
+use rx_sweep::collect_by_hash;
+use rx_sweep::kinds::{APPLICATION, LIST, PLACEHOLDER};
+use rx_term::{BankFault, Kind, RootsFull, Symbol, Term, TermBank};
+use std::alloc::Global;
+
+/// The first number of chains is 2 to this power.
+const FIRST_BITS: u32 = 10;
+
+/// The last number of chains is 2 to this power.
+const LAST_BITS: u32 = 30;
+
+/// A bank of at most `cap` terms.
+#[derive(Drop)]
+pub struct SharedBank {
+    arena: Arena,
+    names: Names,
+    bits: u32,
+    cap: u32,
+    ghost limited: { cap ≡ arena.cap },
+    ghost few: { bits ≤ 30 },
+    ghost chained: { length arena.chains ≡ 2 ^ bits },
+    ghost tidy: { IsTidy arena },
+    ghost distinct: { IsDistinct (heap_of arena) },
+    ghost whole: { Least (is_whole (heap_of arena) (table_of (symbols_of names)) arena.cap) } by { Least-prop (is_whole (heap_of arena) (table_of (symbols_of names)) arena.cap) },
+}
+
+impl SharedBank {
+    ghost use Rattle.std.specs.Prelude.{◌≢◌, ◌<◌, ◌%◌, ℕ, IsSome, IfOk, IfErr, Some, MatchOption};
+    ghost use Rattle.rx_term.specs.Store.{tree_at};
+    ghost use Rattle.rx_term.specs.Steps.{MakesOrRefuses, with_count};
+    ghost use Rattle.rx_term.specs.declared.faults.BankFault.TheVariants.{Memory};
+    ghost use Rattle.rx_shared.specs.Bodies.{cell_of, IsWritten};
+    ghost use Rattle.rx_shared.specs.State.{store_of, tree_of_body, IsEmptyStore, IsNotesOf};
+    ghost use Rattle.rx_shared.specs.Mirror.{Mirrors};
+    ghost use Rattle.rx_arena.specs.Arena.{IsArena};
+
+    /// An empty bank of at most `cap` terms, from 1 to 2^30; or memory ran out, and nothing else.
+    pub fn new(alloc: Global, cap: u32) -> Result<SharedBank, BankFault>
+        requires { (0 < cap) × (cap ≤ 1073741824) }
+        ensures empty { IfOk result (λ b. IsEmptyStore (store_of b) cap) }
+        ensures memory_alone { IfErr result (λ e. e ≡ Memory) }
+    {
+        let Ok(arena) = Arena::new(alloc, cap, 1 << FIRST_BITS) else {
+            return Err(BankFault::Memory);
+        };
+        let Ok(names) = Names::new(alloc) else {
+            return Err(BankFault::Memory);
+        };
+        Ok(SharedBank {
+            arena,
+            names,
+            bits: FIRST_BITS,
+            cap,
+        })
+    }
+
+    /// The arena, which holds the bank's trees and nothing else: reference and slot have the same number.
+    pub fn arena(&self) -> &Arena
+        ensures mirrors { Mirrors (store_of self.now) result.now }
+        ensures law { IsArena result.now }
+    {
+        &self.arena
+    }
+
+    /// The chain that a hash names.
+    fn chain_of(&self, hash: u64) -> u32
+        ensures { result ≡ hash % length self.now.arena.chains }
+    {
+        (hash & ((1 << self.bits) - 1)) as u32
+    }
+
+    /// Doubles the chains where there are more cells than chains; without memory for that it leaves
+    /// them.
+    fn widen(&mut self)
+        ensures { store_of self.new ≡ store_of self.old }
+    {
+        if self.bits < LAST_BITS && self.arena.cells() > 1 << self.bits {
+            if let Ok(()) = self.arena.rehash_into(2 << self.bits) {
+                self.bits += 1;
+            }
+        }
+    }
+
+    /// Takes a slot for a body that no slot holds.
+    fn add(&mut self, chain: u32, body: CellBody) -> Result<Term, BankFault>
+        requires chain { chain ≡ body.hash % length self.old.arena.chains }
+        requires written { IsWritten body }
+        requires tree { IsSome (tree_of_body (store_of self.old) body) }
+        requires nowhere { (t : ℕ) → heap_of self.old.arena t ≢ Some (cell_of body) }
+        ensures { let w = store_of self.old in
+            MakesOrRefuses w (store_of self.new) (tree_of_body w body) result }
+    {
+        match self.arena.take(body) {
+            Ok(slot) => {
+                self.arena.chain_push(chain, slot);
+                Ok(Term(slot.0))
+            }
+            Err(ArenaFault::Full) => Err(BankFault::Full),
+            Err(ArenaFault::Memory) => Err(BankFault::Memory),
+        }
+    }
+
+    /// The reference of a body.
+    fn make(&mut self, body: CellBody) -> Result<Term, BankFault>
+        requires written { IsWritten body }
+        requires tree { IsSome (tree_of_body (store_of self.old) body) }
+        ensures { let w = store_of self.old in
+            MakesOrRefuses w (store_of self.new) (tree_of_body w body) result }
+    {
+        let chain = self.chain_of(body.hash);
+        if let Some(slot) = find(&self.arena, chain, body) {
+            return Ok(Term(slot.0));
+        }
+        let made = self.add(chain, body)?;
+        self.widen();
+        Ok(made)
+    }
+
+    /// The body of a held reference.
+    fn body(&self, t: Term) -> CellBody
+        requires { IsSome (tree_at (store_of self.now) t) }
+        ensures holds { heap_of self.now.arena t.0 ≡ Some (cell_of result) }
+        ensures written { IsWritten result }
+    {
+        self.arena.read(Slot(t.0))
+    }
+
+    /// The slot of a list, unless it is empty.
+    fn notes(&self, anns: Term) -> Option<Slot>
+        requires { IsSome (tree_at (store_of self.now) anns) }
+        ensures { IsNotesOf (tree_at (store_of self.now) anns) anns result }
+    {
+        if self.body(anns).kind == LIST {
+            Some(Slot(anns.0))
+        } else {
+            None
+        }
+    }
+
+    /// Replaces the count of a held reference.
+    fn set_roots(&mut self, t: Term, count: u16)
+        requires { IsSome (tree_at (store_of self.old) t) }
+        ensures { store_of self.new ≡ with_count (store_of self.old) t count }
+    {
+        self.arena.set_roots(Slot(t.0), count);
+    }
+
+    /// How often a held reference is protected.
+    fn roots(&self, t: Term) -> u16
+        requires { IsSome (tree_at (store_of self.now) t) }
+        ensures { result ≡ (store_of self.now).roots t.0 }
+    {
+        self.arena.roots(Slot(t.0))
+    }
+}
+
+impl TermBank for SharedBank {
+    ghost use Rattle.rx_shared.specs.State.{store_of};
+    ghost use Rattle.rx_shared.specs.Soundness.{sound as bank_sound};
+
+    ghost store = { store_of };
+
+    fn symbol(&mut self, name: &[u8], quoted: bool, arity: u32) -> Result<Symbol, BankFault> {
+        match self.names.intern(name, quoted, arity) {
+            Ok(symbol) => Ok(symbol),
+            Err(_) => Err(BankFault::Memory),
+        }
+    }
+
+    fn int(&mut self, z: i32) -> Result<Term, BankFault> {
+        self.make(body(INTEGER, u64::from(z.cast_unsigned()), 0, None))
+    }
+
+    fn nil(&mut self) -> Result<Term, BankFault> {
+        self.make(body(EMPTY, 0, 0, None))
+    }
+
+    fn cons(&mut self, head: Term, tail: Term) -> Result<Term, BankFault> {
+        self.make(body(LIST, u64::from(head.0), u64::from(tail.0), None))
+    }
+
+    fn appl(&mut self, sym: Symbol, args: Term) -> Result<Term, BankFault> {
+        self.make(body(APPLICATION, sym.0, u64::from(args.0), None))
+    }
+
+    fn hole(&mut self, inner: Term) -> Result<Term, BankFault> {
+        self.make(body(PLACEHOLDER, u64::from(inner.0), 0, None))
+    }
+
+    fn annotated(&mut self, t: Term, anns: Term) -> Result<Term, BankFault> {
+        let bare = self.body(t);
+        let notes = self.notes(anns);
+        self.make(body(bare.kind, bare.a, bare.b, notes))
+    }
+
+    fn kind(&self, t: Term) -> Kind {
+        let body = self.body(t);
+        if body.kind == APPLICATION {
+            Kind::Appl(Symbol(body.a))
+        } else if body.kind == LIST {
+            Kind::Cons
+        } else if body.kind == EMPTY {
+            Kind::Nil
+        } else if body.kind == INTEGER {
+            Kind::Int((body.a as u32).cast_signed())
+        } else {
+            Kind::Hole
+        }
+    }
+
+    fn head(&self, t: Term) -> Term {
+        Term(self.body(t).a as u32)
+    }
+
+    fn tail(&self, t: Term) -> Term {
+        Term(self.body(t).b as u32)
+    }
+
+    fn args(&self, t: Term) -> Term {
+        Term(self.body(t).b as u32)
+    }
+
+    fn inner(&self, t: Term) -> Term {
+        Term(self.body(t).a as u32)
+    }
+
+    fn anns(&self, t: Term) -> Option<Term> {
+        match self.body(t).anns {
+            Some(slot) => Some(Term(slot.0)),
+            None => None,
+        }
+    }
+
+    fn name_of(&self, sym: Symbol) -> &[u8] {
+        self.names.get(sym).0
+    }
+
+    fn quoted_of(&self, sym: Symbol) -> bool {
+        self.names.get(sym).1
+    }
+
+    fn arity_of(&self, sym: Symbol) -> u32 {
+        self.names.get(sym).2
+    }
+
+    fn protect(&mut self, t: Term) -> Result<(), RootsFull> {
+        let count = self.roots(t);
+        if count == u16::MAX {
+            return Err(RootsFull);
+        }
+        self.set_roots(t, count + 1);
+        Ok(())
+    }
+
+    fn unprotect(&mut self, t: Term) {
+        let count = self.roots(t);
+        self.set_roots(t, count - 1);
+    }
+
+    fn reclaim(&mut self, extra: &[Term]) {
+        gray_all(&mut self.arena, extra);
+        collect_by_hash(&mut self.arena);
+    }
+
+    fn holds(&self, t: Term) -> bool {
+        self.arena.holds_unmarked(Slot(t.0))
+    }
+
+    fn cells(&self) -> u32 {
+        self.arena.cells()
+    }
+
+    fn spare(&self) -> u32 {
+        self.arena.spare()
+    }
+
+    fn cap(&self) -> u32 {
+        self.cap
+    }
+
+    fn reserve(&mut self, k: u32) -> Result<(), BankFault> {
+        match self.arena.reserve(k) {
+            Ok(()) => Ok(()),
+            Err(ArenaFault::Full) => Err(BankFault::Full),
+            Err(ArenaFault::Memory) => Err(BankFault::Memory),
+        }
+    }
+
+    ghost sound = { bank_sound };
+}

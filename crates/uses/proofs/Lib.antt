@@ -1,0 +1,4 @@
+pub mod Kept
+pub mod Steps
+pub mod Same
+pub mod Noted

@@ -1,0 +1,12 @@
+//! Callers of the public crates, as a language workbench writes them, over any bank.
+#![tactic(auto, using(rx_term::proofs::StoreLemmas::bank_steps))]
+
+pub mod faults;
+pub mod keeping;
+pub mod rewriting;
+pub mod texts;
+
+pub use faults::WorkFault;
+
+#[cfg(test)]
+mod tests;

@@ -1,0 +1,195 @@
+#!/usr/bin/env -S python3 -B
+"""Compares the highlighting of Vim and of the TextMate grammar with the tokens of docs/FORMATS.md, on all examples."""
+
+import glob
+import json
+import re
+import shutil
+import tempfile
+
+from common import TOP, done, run, same
+
+SECTIONS = {"REC-SPEC", "SORTS", "CONS", "OPNS", "VARS", "RULES", "EVAL", "END-SPEC"}
+
+# The tokens' table of docs/FORMATS.md, and words of sections within other words.
+TRICKY = """REC-SPEC T % comment: SORTS -> if é
+SORTS A a-CONS CONSX B' -CONS
+CONS a : A B -> A b: ->A OPNS-x : -> A é CONS' :->B
+VARS X Y : A Z:B
+RULES a->b f(X)->if a-b a-1 a'-b if-X and-ifs END-SPECS if' END-SPEC' If rec-spec 0 007 1a x' _
+a--b a-'b a- 'a a-><-b a->/<-b ->-><- -><b ->/<b b%x
+f ( a , g(b) ) and-if ? SORTS-
+EVAL f(a)END-SPEC-
+END-SPEC%
+"""
+
+SORT = ("recSort", "entity.name.type")
+DECLARED = ("recDeclared", "entity.name.function")
+VARIABLE = ("recVariable", "variable.other")
+APPLIED = ("recApplied", "entity.name.function")
+OTHER = ("recWord", "meta.word")
+
+# What some words are, by their lines, from 0, in Vim and in the grammar.
+WORDS = {
+    "add.rec": {
+        0: {"Add": OTHER},
+        1: {"Nat": SORT},
+        3: {"z": DECLARED, "Nat": SORT},
+        4: {"s": DECLARED, "Nat": SORT},
+        6: {"plus": DECLARED, "Nat": SORT},
+        8: {"X": VARIABLE, "Y": VARIABLE, "Nat": SORT},
+        10: {"plus": APPLIED, "z": OTHER, "Y": OTHER},
+    },
+    "tricky": {
+        1: {"A": SORT, "a-CONS": SORT, "B'": SORT},
+        2: {"a": DECLARED, "A": SORT, "B": SORT, "b": DECLARED},
+        3: {"X": VARIABLE, "A": SORT, "Z": VARIABLE, "B": SORT},
+        6: {"f": APPLIED, "a": OTHER, "g": APPLIED, "b": OTHER},
+    },
+}
+
+# The kind of token that each group and scope stands for.
+KINDS = {
+    "": "layout",
+    "recComment": "comment",
+    "recSection": "section",
+    "recConditional": "conditional",
+    "recArrow": "arrow",
+    "recCondition": "condition",
+    "recMark": "mark",
+    "recError": "bad",
+    **dict.fromkeys(["recWord", "recSort", "recDeclared", "recVariable", "recApplied"], "word"),
+    "comment.line.percentage": "comment",
+    "keyword.control.section": "section",
+    "keyword.control.conditional": "conditional",
+    "keyword.operator.arrow": "arrow",
+    "keyword.operator.condition": "condition",
+    "punctuation.separator": "mark",
+    "invalid.illegal": "bad",
+    **dict.fromkeys(["meta.word", "entity.name.type", "entity.name.function", "variable.other"], "word"),
+}
+
+
+def kinds_of(line):
+    """The kind of each character of a line, by the definition of tokens."""
+    kinds = []
+    while len(kinds) < len(line):
+        rest = line[len(kinds) :]
+        word = re.match(r"[A-Za-z0-9_](?:[A-Za-z0-9_']|-(?=[A-Za-z0-9_]))*", rest)
+        mark = re.match(r"->/<-|-><-|->|[:(),]", rest)
+        if rest[0] in " \t\r":
+            kinds += ["layout"]
+        elif rest[0] == "%":
+            kinds += ["comment"] * len(rest)
+        elif word and word[0] in SECTIONS:
+            kinds += ["section"] * len(word[0])
+        elif word and word[0] in ("if", "and-if"):
+            kinds += ["conditional"] * len(word[0])
+        elif word:
+            kinds += ["word"] * len(word[0])
+        elif mark:
+            kind = {"->": "arrow", "-><-": "condition", "->/<-": "condition"}.get(mark[0], "mark")
+            kinds += [kind] * len(mark[0])
+        else:
+            kinds += ["bad"]
+    return kinds
+
+
+def vim_groups(text, room):
+    """The name of the syntax item of each character, line by line."""
+    with open(f"{room}/text.rec", "w", encoding="utf-8") as file:
+        file.write(text)
+    with open(f"{room}/dump.vim", "w", encoding="utf-8") as file:
+        file.write(f"""
+set encoding=utf-8 nocompatible runtimepath^={TOP}/editors/vim
+filetype plugin on
+syntax on
+edit {room}/text.rec
+let s:lines = []
+for s:line in range(1, line('$'))
+  let s:text = getline(s:line)
+  let s:at = map(range(strchars(s:text)), 'byteidx(s:text, v:val) + 1')
+  call add(s:lines, join(map(s:at, 'synIDattr(synID(s:line, v:val, 1), "name")'), ','))
+endfor
+call writefile(s:lines, '{room}/groups')
+qall!
+""")
+    run(["vim", "-es", "-n", "-i", "NONE", "-u", f"{room}/dump.vim"])
+    with open(f"{room}/groups", encoding="utf-8") as file:
+        return [line.split(",") if line else [] for line in file.read().split("\n")[:-1]]
+
+
+class Grammar:
+    """What of TextMate grammars rec.tmLanguage.json uses: match, begin and end with one capture, include."""
+
+    def __init__(self):
+        with open(f"{TOP}/editors/rec.tmLanguage.json", encoding="utf-8") as file:
+            self.whole = json.load(file)
+
+    def flat(self, patterns):
+        for it in patterns:
+            if "include" in it:
+                inner = self.whole["repository"][it["include"][1:]]
+                yield from self.flat([inner] if "match" in inner or "begin" in inner else inner["patterns"])
+            else:
+                yield it
+
+    def scopes(self, text):
+        """The innermost scope of each character, line by line."""
+        stack = [self.whole]
+        return [self.line(line, stack) for line in text.split("\n")[:-1]]
+
+    def line(self, line, stack):
+        scopes, at = [""] * len(line), 0
+        while True:
+            region = stack[-1]
+            # the end of a region comes before what begins at the same place
+            tried = [(region, region["end"])] if len(stack) > 1 else []
+            tried += [(it, it.get("match") or it["begin"]) for it in self.flat(region["patterns"])]
+            found = [(it, re.compile(how).search(line, at)) for it, how in tried]
+            found = [(it, match) for it, match in found if match]
+            if not found:
+                return scopes
+            item, match = min(found, key=lambda it: it[1].start())
+            if item is region:
+                stack.pop()
+                name = item["endCaptures"]["1"]["name"] if match[0] else ""
+            elif "begin" in item:
+                stack.append(item)
+                name = item["beginCaptures"]["1"]["name"]
+            else:
+                name = item["name"]
+            scopes[match.start() : match.end()] = [name.removesuffix(".rec")] * len(match[0])
+            at = match.end()
+
+
+def check(name, text, found, which):
+    wanted = [kinds_of(line) for line in text.split("\n")[:-1]]
+    for at, (line, kinds) in enumerate(zip(text.split("\n"), wanted)):
+        same(f"{which}, {name}, {line!r}", kinds, [KINDS.get(it, it) for it in found[at]])
+    for row, words in WORDS.get(name, {}).items():
+        line = text.split("\n")[row]
+        for word, names in words.items():
+            column = re.search(rf"(?<![\w'-]){re.escape(word)}(?![\w'-])", line).start()
+            index = ["vim", "grammar"].index(which)
+            same(f"{which}, {name}, {line!r}, {word}", names[index], found[row][column])
+
+
+def main():
+    texts = {"tricky": TRICKY}
+    for path in sorted(glob.glob(f"{TOP}/examples/*.rec")):
+        with open(path, encoding="utf-8") as file:
+            texts[path.rpartition("/")[2]] = file.read()
+    grammar = Grammar()
+    has_vim = shutil.which("vim") and "+syntax" in run(["vim", "--version"])
+    if not has_vim:
+        print("not tried: vim with syntax is not here")
+    with tempfile.TemporaryDirectory() as room:
+        for name, text in texts.items():
+            check(name, text, grammar.scopes(text), "grammar")
+            if has_vim:
+                check(name, text, vim_groups(text, room), "vim")
+    done()
+
+
+main()

@@ -1,0 +1,107 @@
+#!/usr/bin/env -S python3 -B
+"""Runs each example of the documents, and compares its output.
+
+The examples are the rows of the table of examples/README.md, the blocks marked `console` of the
+Markdown files, where each line `$ COMMAND` is followed by what it prints, and those of the manual
+page. An example with an option that the program's help does not have is named, and not run.
+"""
+
+import glob
+import os
+import re
+import shlex
+import subprocess
+import tempfile
+
+from common import TOP, done, program, run, same, text_of
+
+# What the table says in words.
+IN_WORDS = {
+    "`h(c1)` to `h(c20)`, twenty lines": "".join(f"h(c{it})\n" for it in range(1, 21)),
+    "`z` in thirty times `s(..)`": "s(" * 30 + "z" + ")" * 30 + "\n",
+}
+# What takes no end of time where results are not remembered.
+NEEDS = {"fast.rec": ["--memo"]}
+
+
+def quoted(cell):
+    return re.findall(r"`([^`]*)`", cell)
+
+
+def rows():
+    """The file words, the options and the output of each row of the table, a row for each list of options."""
+    files = ""
+    for line in text_of("examples/README.md").splitlines():
+        cells = [it.strip() for it in line.split("|")[1:-1]]
+        if len(cells) != 4 or cells[0] == "File" or set(cells[0]) == {"-"}:
+            continue
+        files = quoted(cells[0])[0] if cells[0] else files
+        output = IN_WORDS.get(cells[3]) or "".join(f"{it}\n" for it in quoted(cells[3]))
+        options, *more = quoted(cells[2])
+        for extra in ["", *more]:
+            yield files, f"{options} {extra}".strip(), output.replace("<tab>", "\t")
+
+
+def check_table(known):
+    tried = set()
+    for files, options, output in rows():
+        tried.update(files.split())
+        needed = [it for it in options.split() if it.startswith("--")] + NEEDS.get(files, [])
+        unknown = [it for it in needed if it not in known]
+        if unknown:
+            print(f"not tried: {files} {options}: the program has no {unknown[0]}")
+            continue
+        words = [program(), "eval", *options.split(), *files.split()]
+        how = {"capture_output": True, "text": True, "check": False, "timeout": 60}
+        ran = subprocess.run(words, cwd=f"{TOP}/examples", **how)
+        same(f"examples/README.md: {files} {options}", (0, output, ""), (ran.returncode, ran.stdout, ran.stderr))
+    there = {os.path.basename(it) for it in glob.glob(f"{TOP}/examples/*") if not it.endswith(".md")}
+    same("examples/README.md: files", sorted(there), sorted(tried))
+
+
+def consoles():
+    """Each block of commands of the documents with what they are said to print."""
+    for file in ["README.md", "examples/README.md", *sorted(glob.glob("docs/*.md", root_dir=TOP))]:
+        for block in re.findall(r"^```console\n(.*?)^```$", text_of(file), re.M | re.S):
+            yield file, block
+    page = text_of("recw.1")
+    for block in re.findall(r"^\.Bd -literal.*?\n(.*?)^\.Ed$", page, re.M | re.S):
+        yield "recw.1", block.replace("\\-", "-").replace("\\(aq", "'").replace("\\&", "")
+
+
+def check_consoles(room):
+    # both names that the documents call the program by
+    os.makedirs(f"{room}/bin")
+    for name in ("recw", "bin/recw"):
+        os.symlink(program(), f"{room}/{name}")
+    os.symlink(f"{TOP}/examples", f"{room}/examples")
+    how = {"cwd": room, "env": {**os.environ, "PATH": f"{room}/bin:{os.environ['PATH']}"}}
+    tried = set()
+    for file, block in consoles():
+        for command, output in re.findall(r"^\$ (.*)\n((?:(?!\$ ).*\n)*)", block, re.M):
+            same(f"{file}: {command}", output, run(["sh", "-c", command], **how))
+            tried.add(file)
+    same("documents with commands", True, {"README.md", "recw.1"} <= tried)
+
+
+def check_helps(known, room):
+    """Each `Example: COMMAND` of the help runs."""
+    for file in glob.glob(f"{TOP}/examples/*.*"):
+        os.symlink(file, f"{room}/{os.path.basename(file)}")
+    how = {"cwd": room, "env": {**os.environ, "PATH": f"{room}/bin:{os.environ['PATH']}"}}
+    for command in known:
+        for example in re.findall(r"^Example: (.*)$", run([program(), command, "--help"]), re.M):
+            ran = subprocess.run(["sh", "-c", example], capture_output=True, text=True, check=False, **how)
+            same(f"help: {example}", (0, ""), (ran.returncode, ran.stderr))
+
+
+def main():
+    known = shlex.split(run([program(), "eval", "--help"]).replace("'", ""))
+    with tempfile.TemporaryDirectory() as room:
+        check_table(known)
+        check_consoles(room)
+        check_helps(["eval", "aterm", "share", "match", "make"], room)
+    done()
+
+
+main()

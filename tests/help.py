@@ -1,0 +1,146 @@
+#!/usr/bin/env -S python3 -B
+"""Compares the commands and options of the program's help with the manual page and the completions."""
+
+import re
+import shutil
+from typing import NamedTuple
+
+from common import TOP, done, program, run, same, text_of
+
+
+class Option(NamedTuple):
+    """An option of the help: its value's name and default are empty where it has none."""
+
+    name: str
+    value: str
+    about: str
+    default: str
+
+
+def help_of(*command):
+    return run([program(), *command, "--help"])
+
+
+def commands():
+    """The commands with what the help says about each."""
+    listed = help_of().split("Commands:\n")[1].split("\n\n")[0]
+    return dict(re.findall(r"^  (\S+) +(.*)$", listed, re.M))
+
+
+def options_of(command):
+    """The options of a command, but for the one that prints help."""
+    section = help_of(command).partition("Options:\n")[2].split("\n\n")[0]
+    row = r"^ +(?:-\w, )?(--[\w-]+)(?: <(\w+)>)? +(.*?)(?: \[default: (\S+)\])?$"
+    return [Option(*it) for it in re.findall(row, section, re.M) if it[0] != "--help"]
+
+
+def check_manual(names, options):
+    page = text_of("recw.1")
+    synopsis = page.split(".Sh SYNOPSIS")[1].split(".Sh ")[0]
+    same("manual: commands of the synopsis", names, re.findall(r"^\.Cm (\w+)", synopsis, re.M))
+    same("manual: commands", names, re.findall(r"^\.It Cm (\w+)", page, re.M))
+    row = r"^\.It Fl -([\w-]+)(?: Ar (\w+))? Ta (\S+) Ta ."
+    rows = [(f"--{it[0]}", it[1], it[2]) for it in re.findall(row, page, re.M)]
+    same("manual: options", [(it.name, it.value, it.default or "off") for it in options], rows)
+    if shutil.which("mandoc"):
+        same("manual: mandoc -Tlint", "", run(["mandoc", "-Tlint", f"{TOP}/recw.1"]))
+    else:
+        print("not tried: mandoc is not here")
+
+
+def check_bash(names, options):
+    script = """
+        source "$0/completions/recw.bash"
+        COMP_WORDS=("$@"); COMP_CWORD=$(($# - 1)); _recw; printf '%s\\n' "${COMPREPLY[@]}"
+    """
+
+    def offered(*words):
+        return run(["bash", "-c", script, TOP, *words], cwd=f"{TOP}/examples").split()
+
+    same("bash: commands", sorted(names), sorted(offered("recw", "")))
+    same("bash: commands of help", sorted(names), sorted(offered("recw", "help", "")))
+    same("bash: one command", ["share"], offered("recw", "sh"))
+    for name in names:
+        wanted = ["--help", *[it.name for it in options if name == "eval"]]
+        same(f"bash: options of {name}", sorted(wanted), sorted(offered("recw", name, "-")))
+    for words in (["eval"], ["eval", "q.rec"], ["eval", "--count"], ["aterm"], ["share"], ["match", "x"]):
+        same(f"bash: files behind {words}", ["add.rec", "add.trm"], offered("recw", *words, "add"))
+    for words in (["match"], ["make"], ["make", "x"], ["aterm", "x"], ["eval", "a", "b"]):
+        same(f"bash: no files behind {words}", [], offered("recw", *words, "add"))
+    for option in options:
+        wanted = [] if option.value else ["add.rec", "add.trm"]
+        same(f"bash: behind {option.name}", wanted, offered("recw", "eval", option.name, "add"))
+        if option.value:
+            for value in (["3"], ["=", "3"]):
+                words = ["recw", "eval", option.name, *value]
+                same(f"bash: behind {words}", ["add.rec", "add.trm"], offered(*words, "add"))
+                same(f"bash: third file behind {words}", [], offered(*words, "a", "b", "add"))
+
+
+def check_fish(names, abouts, options):
+    def offered(line):
+        script = 'source $argv[1]/completions/recw.fish; complete -C "$argv[2]"'
+        lines = run(["fish", "--no-config", "-c", script, TOP, line], cwd=f"{TOP}/examples")
+        return sorted(tuple(it.split("\t")) for it in lines.splitlines())
+
+    help_option = ("--help", "Print help")
+    same("fish: commands", sorted(abouts.items()), offered("recw "))
+    same("fish: commands of help", sorted(abouts.items()), offered("recw help "))
+    for name in names:
+        wanted = [(it.name, it.about) for it in options if name == "eval"]
+        same(f"fish: options of {name}", sorted([help_option, *wanted]), offered(f"recw {name} --"))
+    for line in ("eval", "eval --count", "aterm", "share", "match x"):
+        same(f"fish: files behind {line}", [("add.rec",), ("add.trm",)], offered(f"recw {line} add"))
+    for line in ("make", *[f"eval {it.name}" for it in options if it.value]):
+        same(f"fish: no files behind {line}", [], offered(f"recw {line} add"))
+
+
+def check_zsh(abouts, options):
+    script = """
+        _describe() { print -rl -- "${(@P)4}" }
+        _arguments() { print -rl -- "$@" }
+        complete() { source $file }
+        file=$1 words=("${@:2}") CURRENT=$(($# - 1)); complete
+    """
+
+    def offered(*words):
+        file = f"{TOP}/completions/_recw"
+        return run(["zsh", "--no-rcs", "-c", script, "zsh", file, *words]).splitlines()
+
+    helps = ["(- *)-h[Print help]", "(- *)--help[Print help]"]
+    listed = [f"{name}:{about}" for name, about in abouts.items()]
+    same("zsh: commands", [*listed, *helps], offered("recw", ""))
+    same("zsh: commands of help", listed, offered("recw", "help", ""))
+    for name in abouts:
+        own = [
+            f"{it.name}=[{it.about}]:{it.value}: " if it.value else f"{it.name}[{it.about}]"
+            for it in options
+            if name == "eval"
+        ]
+        found = [it for it in offered("recw", name, "-") if "-" in it.partition("[")[0]]
+        same(f"zsh: options of {name}", [*helps, *own] if name != "help" else [], found)
+
+
+def main():
+    abouts = commands()
+    names, options = list(abouts), options_of("eval")
+    same("commands", True, {"eval", "help"} <= set(names))
+    same("options of eval", True, len(options) > 1)
+    for name in names:
+        if name not in ("eval", "help"):
+            same(f"options of {name}", [], options_of(name))
+    check_manual(names, options)
+    shells = {
+        "bash": lambda: check_bash(names, options),
+        "fish": lambda: check_fish(names, abouts, options),
+        "zsh": lambda: check_zsh(abouts, options),
+    }
+    for shell, check in shells.items():
+        if shutil.which(shell):
+            check()
+        else:
+            print(f"not tried: {shell} is not here")
+    done()
+
+
+main()

@@ -1,0 +1,206 @@
+#!/bin/sh
+# Tries the script ./recw on a small tree with a stand-in for rt, so that nothing is proved: what it
+# says, when it builds, and how it ends. Takes some seconds.
+set -eu
+
+top=$(dirname -- "$(dirname -- "$(readlink -f -- "$0")")")
+room=$(mktemp -d)
+trap 'rm -rf -- "$room"' EXIT
+chmod 755 "$room"
+failures=0
+
+# The stand-in counts its runs in the file `runs`, waits as long as the file `slow` says, and ends as
+# the file `status` says.
+make_tree() {
+    tree=$room/$1
+    mkdir -p "$tree/bin" "$tree/crates/low/src" "$tree/crates/recw/src" "$tree/crates/other/src"
+    cp "$top/recw" "$tree/recw"
+    cat >"$tree/crates.txt" <<'END'
+# comment: of no account
+recw opt_level=1: low clap
+other: low
+low: thiserror
+END
+    echo code >"$tree/crates/low/src/lib.rt"
+    echo code >"$tree/crates/recw/src/main.rt"
+    echo code >"$tree/crates/other/src/lib.rt"
+    cat >"$tree/bin/rt" <<END
+#!/bin/sh
+echo "\$(basename "\$PWD") \$*" >>'$tree/runs'
+echo "rt at work"
+[ ! -e '$tree/slow' ] || sleep "\$(cat '$tree/slow')"
+[ ! -e '$tree/status' ] || exit "\$(cat '$tree/status')"
+case \$1 in
+lib) mkdir -p out/rlib && : >out/rlib/stamp ;;
+run) printf '#!/bin/sh\necho "words: \$*"\ncat\nexit 3\n' >out/recw && chmod 755 out/recw ;;
+esac
+END
+    chmod 755 "$tree/bin/rt"
+}
+
+# Runs ./recw of the tree with the words, and leaves `status`, and its two outputs in files.
+start() {
+    start_as "$tree/recw" "$@"
+}
+
+start_as() {
+    status=0
+    echo input | env PATH="$tree/bin:$PATH" "$@" >"$room/out" 2>"$room/err" || status=$?
+}
+
+same() {
+    [ "$2" = "$3" ] || {
+        printf 'FAILED %s\n  want: %s\n  have: %s\n' "$1" "$2" "$3"
+        failures=$((failures + 1))
+    }
+}
+
+program_ran() {
+    same "$1: status" 3 "$status"
+    same "$1: output" "words: $2
+input" "$(cat "$room/out")"
+}
+
+runs() {
+    cat "$tree/runs" 2>/dev/null || :
+    rm -f "$tree/runs"
+}
+
+whole="low lib
+recw run -- --help"
+
+make_tree 'first one'
+start eval 'a  b'
+program_ran 'first start' 'eval a  b'
+log=$tree/crates/recw/out/build.log
+same 'first start: lines' "recw: the program is proved and built first, in about N minutes; the log is $log
+recw: proving low (1 of 2)
+recw: proving recw (2 of 2)" "$(sed 's/about [1-9][0-9]* minutes/about N minutes/' "$room/err")"
+same 'first start: runs of rt' "$whole" "$(runs)"
+
+start
+program_ran 'second start' ''
+same 'second start: lines' '' "$(cat "$room/err")"
+same 'second start: runs of rt' '' "$(runs)"
+
+ln -s "$tree/recw" "$room/link"
+start_as "$room/link" x
+program_ran 'through a link' x
+same 'through a link: lines' '' "$(cat "$room/err")"
+cd "$room"
+start_as ./link x
+program_ran 'from another folder' x
+start_as 'first one/recw' x
+program_ran 'by a path with a blank' x
+cd /
+
+sleep 0.02
+echo edited >"$tree/crates/other/src/lib.rt"
+start
+same 'a crate that is not needed was edited' '' "$(runs)"
+echo edited >"$tree/crates/low/src/lib.rt"
+start
+program_ran 'a source was edited' ''
+same 'a source was edited: runs of rt' "$whole" "$(runs)"
+same 'a source was edited: first line' \
+    "recw: the program is brought up to date first; the log is $log" "$(head -n 1 "$room/err")"
+sleep 0.02
+rm "$tree/crates/low/src/lib.rt"
+start
+same 'a source was removed' "$whole" "$(runs)"
+
+echo 1 >"$tree/status"
+start
+program_ran 'rt is not asked' ''
+sleep 0.02
+echo edited >"$tree/crates/recw/src/main.rt"
+start
+same 'not proved: status' 70 "$status"
+same 'not proved: output' '' "$(cat "$room/out")"
+same 'not proved: last lines' "rt at work
+recw: low was not proved; the whole log is $log" "$(tail -n 2 "$room/err")"
+start
+same 'not proved, again' 70 "$status"
+rm "$tree/status" "$tree/runs"
+start
+program_ran 'proved at last' ''
+
+make_tree large
+head -c 3000000 /dev/zero >"$tree/crates/low/src/lib.rt"
+start
+same 'minutes grow with the sources' 1 "$(head -n 1 "$room/err" | grep -Ec 'in about [2-4][0-9] minutes; the log')"
+
+make_tree twice
+echo 0.7 >"$tree/slow"
+env PATH="$tree/bin:$PATH" "$tree/recw" one >"$room/one" 2>&1 </dev/null &
+sleep 0.3
+start two
+wait "$!" || :
+program_ran 'two at once' two
+same 'two at once: the other' "words: one" "$(grep words "$room/one")"
+same 'two at once: lines' 'recw: another start is building the program, and this one waits for it' "$(cat "$room/err")"
+same 'two at once: runs of rt' "$whole" "$(runs)"
+
+for signal in INT TERM HUP KILL; do
+    make_tree "$signal"
+    echo 0.7 >"$tree/slow"
+    # a shell starts what it puts in the background deaf to INT
+    env --default-signal=INT PATH="$tree/bin:$PATH" "$tree/recw" >"$room/out" 2>"$room/err" </dev/null &
+    sleep 0.3
+    kill -s "$signal" "$!"
+    status=0
+    # some shells say what ended it
+    { wait "$!" || status=$?; } 2>/dev/null
+    same "$signal: status" "$signal" "$(kill -l "$status")"
+    [ "$signal" = KILL ] ||
+        same "$signal: line" 'recw: stopped; what has been proved is kept, and the next start goes on from there' \
+            "$(tail -n 1 "$room/err")"
+    rm -f "$tree/slow" "$tree/runs"
+    start
+    program_ran "after $signal" ''
+done
+
+make_tree broken
+start
+# as where a build broke off behind the program
+touch "$tree/crates/recw/out/build.unfinished"
+runs >/dev/null
+start
+program_ran 'a build that broke off' ''
+same 'a build that broke off: runs of rt' "$whole" "$(runs)"
+
+make_tree bare
+status=0
+mkdir "$room/few"
+for command in sh readlink dirname awk find head wc cat nproc mkdir touch flock; do
+    ln -s "$(command -v "$command")" "$room/few/$command"
+done
+PATH=$room/few "$tree/recw" >"$room/out" 2>"$room/err" </dev/null || status=$?
+same 'no rt: status' 69 "$status"
+same 'no rt: line' 'recw: there is no command rt, by which the program is to be built first' "$(cat "$room/err")"
+
+# Root may write anywhere, so it tries this as nobody.
+start_as_reader() {
+    if [ "$(id -u)" -eq 0 ]; then
+        start_as setpriv --reuid=65534 --regid=65534 --clear-groups "$tree/recw" "$@"
+    else
+        start "$@"
+    fi
+}
+make_tree reader
+find "$tree" -type d -exec chmod a-w {} +
+start_as_reader
+same 'read-only: status' 73 "$status"
+same 'read-only: line' "recw: cannot write to $tree/crates/low/out, where the program is to be built first" \
+    "$(cat "$room/err")"
+find "$tree" -type d -exec chmod u+w {} +
+start
+program_ran 'may be written' ''
+find "$tree" -type d -exec chmod a-w {} +
+start_as_reader y
+program_ran 'read-only, but built' y
+same 'read-only, but built: lines' '' "$(cat "$room/err")"
+find "$tree" -type d -exec chmod u+w {} +
+
+[ "$failures" -eq 0 ] || exit 1
+echo "start.sh: all as wanted"
