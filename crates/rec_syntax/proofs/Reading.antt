@@ -2,6 +2,7 @@
 use Rattle.std.proofs.Common.{◌≡◌, ℕ, Bool, List, [], ◌∷◌, ◌++◌, map, reverse, Some, Result, Vec, Global, refl, sym, ap, subst, ◌∙◌}
 use Rattle.std.proofs.lemmas.List.{map-append}
 use Rattle.std.proofs.lemmas.List.Elements.{All-push, All-nil}
+use Rattle.smallvec.specs.SmallVec.{SmallVec}
 use Rattle.rec_syntax.specs.Tokens.{Word, Rules}
 use Rattle.rec_syntax.specs.Syntax as syntax
 use Rattle.rec_syntax.specs.Syntax.{Apply, none}
@@ -52,7 +53,7 @@ term_pushed bytes s v t e h k = record {
 }
 
 -- one more condition
-pub condition_pushed : (bytes : List ℕ) (r : Rule) (v : Vec Condition Global) (c : Condition) → v.items ≡ r.conditions.items ++ c ∷ [] → IsRule bytes r → IsCondition bytes c → IsRule bytes (record r { conditions = v })
+pub condition_pushed : (bytes : List ℕ) (r : Rule) (v : SmallVec Condition) (c : Condition) → v.items ≡ r.conditions.items ++ c ∷ [] → IsRule bytes r → IsCondition bytes c → IsRule bytes (record r { conditions = v })
 condition_pushed bytes r v c e h k = record {
   left = h.left;
   right = h.right;
@@ -102,7 +103,7 @@ rule_ends : (bytes : List ℕ) (l r : syntax.Term) (cs : List syntax.Condition) 
 rule_ends bytes l r cs x e t y AndIf h = absurd (h refl)
 rule_ends bytes l r cs x e t y k h = refl
 
-pub condition_ends : (bytes : List ℕ) (s : Sections) (rules : Vec Rule Global) (rule : Rule) (v : Vec Condition Global) (c : Condition) (k : Kind) (result : Result Due Stop) (r : Reader) → (k ≡ AndIf → ⊥) → v.items ≡ rule.conditions.items ++ c ∷ [] → rules.items ≡ s.rules.items ++ record rule { conditions = v } ∷ []
+pub condition_ends : (bytes : List ℕ) (s : Sections) (rules : Vec Rule Global) (rule : Rule) (v : SmallVec Condition) (c : Condition) (k : Kind) (result : Result Due Stop) (r : Reader) → (k ≡ AndIf → ⊥) → v.items ≡ rule.conditions.items ++ c ∷ [] → rules.items ≡ s.rules.items ++ record rule { conditions = v } ∷ []
     → Moves bytes (between (In Rules) (spec_of bytes (record s { rules = rules })) (token_of bytes k)) result r
     → Moves bytes (complete (role_of bytes (ConditionRight rule c.left c.equal)) (term_of bytes c.right) (spec_of bytes s) (token_of bytes k)) result r
 condition_ends bytes s rules rule v c k result r h e f m =

@@ -1,9 +1,11 @@
 //! The parts of a specification, their words as spans of its text.
 
-ghost use Rattle.std.specs.Prelude.{◌≡◌};
+ghost use Rattle.std.specs.Prelude.{◌≡◌, []};
 
 use crate::lexer::Span;
 use smallvec::SmallVec;
+use std::alloc::Global;
+use std::default::MadeWith;
 
 /// A list of words, of which there are mostly few.
 pub type Words = SmallVec<Span, 4>;
@@ -38,12 +40,30 @@ pub struct Condition {
     pub equal: bool,
 }
 
+// What stands in the unused place of a short list: two terms without nodes.
+impl MadeWith<Global> for Condition {
+    ghost is_made_with = { λ c. (c.left.nodes.items ≡ []) × (c.right.nodes.items ≡ []) };
+
+    fn made_with(alloc: Global) -> Self {
+        Condition {
+            left: Term {
+                nodes: Vec::new(alloc),
+            },
+            right: Term {
+                nodes: Vec::new(alloc),
+            },
+            equal: true,
+        }
+    }
+}
+
 /// A rewrite rule.
 #[derive(Debug, Drop)]
 pub struct Rule {
     pub left: Term,
     pub right: Term,
-    pub conditions: Vec<Condition>,
+    /// Mostly none, or one.
+    pub conditions: SmallVec<Condition, 1>,
 }
 
 /// A symbol with the sorts of its arguments and its own.

@@ -10,23 +10,23 @@ ghost use Rattle.rx_arena.specs.Blocks.{bases};
 use crate::CellBody;
 use crate::cells::{Base, Cells, Place, Target};
 use crate::room::{BLOCK, Lease, allocate};
-use std::alloc::{AllocError, Global};
+use std::alloc::{AllocError, Allocator, Global};
 use std::marker::Model;
 
 /// A block: where it begins, and the right to give it back.
-pub struct Block {
+pub struct Block<A: Allocator> {
     pub(crate) base: Base,
-    pub(crate) lease: Lease<Global>,
+    pub(crate) lease: Lease<A>,
 }
 
 /// All blocks, seen as one list: what each slot holds, if anything lies there.
-pub struct Store {
-    alloc: Global,
-    blocks: Vec<Block>,
+pub struct Store<A: Allocator + Copy = Global> {
+    alloc: A,
+    blocks: Vec<Block<A>, A>,
     cells: Cells,
 }
 
-impl Model for Store {
+impl<A: Allocator + Copy> Model for Store<A> {
     ghost use Rattle.std.specs.Prelude.{List, Option};
     ghost use Rattle.rx_arena.specs.Node.{Node};
     ghost use Rattle.rx_arena.specs.Blocks.{Agree};
@@ -39,7 +39,7 @@ impl Model for Store {
 }
 
 /// Where the slot lies: a look-up of its block, with no search.
-fn place(blocks: &[Block], slot: u32) -> Place
+fn place<A: Allocator>(blocks: &[Block<A>], slot: u32) -> Place
     requires { slot < 1024 * length blocks.now }
     ensures { (result.slot ≡ slot) × (result.at ≡ spec.place (bases blocks.now) slot) }
 {
@@ -51,7 +51,7 @@ fn place(blocks: &[Block], slot: u32) -> Place
 }
 
 /// What a link of `slot` becomes.
-fn target(blocks: &[Block], slot: u32, next: Option<u32>) -> Target
+fn target<A: Allocator>(blocks: &[Block<A>], slot: u32, next: Option<u32>) -> Target
     requires slot { slot < 1024 * length blocks.now }
     requires next { IfSome next (λ t. t < 1024 * length blocks.now) }
     ensures { (result.slot ≡ next) × (result.to ≡ spec.link (bases blocks.now) slot next) }
@@ -74,9 +74,9 @@ fn other(slot: u32, found: u32) -> Option<u32>
     if found == slot { None } else { Some(found) }
 }
 
-impl Store {
+impl<A: Allocator + Copy> Store<A> {
     /// A store of no cells.
-    pub fn new(alloc: Global) -> Store
+    pub fn new(alloc: A) -> Store<A>
         ensures { result ≡ [] }
     {
         Store {
@@ -223,7 +223,7 @@ impl Store {
     }
 }
 
-impl Drop for Store {
+impl<A: Allocator + Copy> Drop for Store<A> {
     fn drop(self) {
         let Store {
             alloc,
@@ -237,3 +237,6 @@ impl Drop for Store {
         blocks.destroy_empty();
     }
 }
+
+#[cfg(test)]
+mod tests;

@@ -8,6 +8,7 @@ ghost use Rattle.rec_syntax.specs.Reader.{IsAt, Steps, Completes};
 use super::{Call, Due, Reader, Role, Stop};
 use crate::lexer::{Kind, Part, Span};
 use crate::parts::{Condition, Node, Rule, Term};
+use smallvec::SmallVec;
 use std::mem;
 
 impl Reader {
@@ -159,7 +160,7 @@ impl Reader {
         let rule = Rule {
             left,
             right,
-            conditions: Vec::new(self.alloc),
+            conditions: SmallVec::new(self.alloc),
         };
         match token {
             Kind::If => {
