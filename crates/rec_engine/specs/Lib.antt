@@ -1,4 +1,5 @@
 pub mod Flat
+pub mod Entries
 pub mod Constants
 pub mod Cells
 pub mod Building
