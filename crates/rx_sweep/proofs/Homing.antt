@@ -1,19 +1,18 @@
--- Slot by slot, the slots that are not marked leave the chains that their hashes name.
+-- Slot by slot, from the last one down, what is not marked leaves the chain that its hash names, and goes back.
 use Rattle.std.proofs.Common.{◌≡◌, ◌≢◌, ℕ, ◌+◌, ◌%◌, ◌<◌, ◌≤◌, ◌⊎◌, inl, inr, List, [], ◌∷◌, length, get_or, set, map, Some, None, refl, sym, ap, subst, ◌∙◌, arith}
 use Rattle.std.specs.Prelude.{Option, Bool, true, false, not, cond, filter}
-use Rattle.std.specs.Option.{option_map}
 use Rattle.std.proofs.lemmas.List.{length-set, get_or-set_same, get_or-set_other}
 use Rattle.std.proofs.lemmas.Bool.{cases_lt}
 use Rattle.std.proofs.lemmas.Bool.Decides.{eqb_tells}
-use Rattle.rx_arena.specs.Put.{times, times_in}
-use Rattle.rx_arena.specs.Arena.{Taken, ArenaState, taken_at, IsTaken, chain_at, InChain, hash_at, stored_hash, is_marked, is_unmarked, marked_at, kept_in, IsArena}
+use Rattle.rx_arena.specs.Put.{times, times_in, put}
+use Rattle.rx_arena.specs.Arena.{Taken, ArenaState, taken_at, IsTaken, chain_at, InChain, IsLoose, hash_at, stored_hash, is_marked, is_unmarked, marked_at, kept_in, IsArena}
 use Rattle.rx_arena.proofs.Puts.{one_if-same}
-use Rattle.rx_arena.proofs.Chains.{some_chain}
-use Rattle.rx_sweep.specs.Reach.{unmarked, IsHomed}
+use Rattle.rx_arena.proofs.Chains.{some_chain, one_or_more}
+use Rattle.rx_sweep.specs.Reach.{unmarked, home, IsHomed}
 use Rattle.rx_sweep.specs.Marking.{SameButMarks}
 use Rattle.rx_sweep.proofs.Bare.{same_at, same_chain, same_chains}
-use Rattle.rx_sweep.proofs.RootSteps.{below_next}
-use Rattle.rx_sweep.proofs.Sweeps.{lists_same, get_or-map_nil, length-map_lists, true_or_false}
+use Rattle.rx_sweep.proofs.Sweeps.{lists_same, get_or-map_nil, length-map_lists, times-filter_false, true_or_false}
+use Rattle.rx_sweep.proofs.Unlinking.{GivingBack, giving_begins, giving_taken, was_unmarked, giving_on, giving_past}
 use Rattle.rx_sweep.proofs.Walks.{chain_in}
 
 hash-unmarked : (c : Option Taken) → stored_hash (unmarked c) ≡ stored_hash c
@@ -27,10 +26,6 @@ same_homed a b p homed s c h =
     ∙ sym (ap (λ h. h % length b.chains) hash ∙ ap (λ (cs : List (List ℕ)). hash_at a s % length cs) (same_chains a b p)) where
       hash : hash_at b s ≡ hash_at a s
       hash = sym (hash-unmarked (taken_at b s)) ∙ ap stored_hash (same_at a b p s) ∙ hash-unmarked (taken_at a s)
-
--- the chain that the slot's hash names
-abbrev pub home : ArenaState → ℕ → ℕ
-home a s = hash_at a s % length a.chains
 
 filter-in : (p : ℕ → Bool) (t : ℕ) (ts : List ℕ) → p t ≡ true → filter p (t ∷ ts) ≡ t ∷ filter p ts
 filter-in p t ts is = ap (λ y. cond y (t ∷ filter p ts) (filter p ts)) is
@@ -63,98 +58,131 @@ not_white o t white m e = neither t.marked (sym (ap is_marked e) ∙ m) (sym (ap
   neither true p q = cc
   neither false p q = cc
 
--- each chain is what it was, or has its marked slots alone, as have those that slots below k are of that are not marked
-pub record Homing (init : ArenaState) (k : ℕ) (self : ArenaState) : Type 0 where
-  pub law : IsArena self
-  pub rest : self ≡ record init { chains = self.chains }
+-- what is kept where it is marked is marked as before
+kept_marked : (o : Option Taken) → is_marked (cond (is_marked o) o None) ≡ is_marked o
+kept_marked o = elim (true_or_false (is_marked o)) [
+  | inl e ↦ ap (λ b. is_marked (cond b o None)) e
+  | inr e ↦ ap (λ b. is_marked (cond b o None)) e ∙ sym e
+]
+
+-- one chain has its marked slots alone
+module _ (a b : ArenaState) (k : ℕ) (some : 0 < length a.chains) (chains : b.chains ≡ set a.chains (home a k) (kept_in a (home a k))) where
+  pub home_below : home a k < length a.chains
+  home_below = omega (arith, some)
+
+  pub parted_here : chain_at b (home a k) ≡ kept_in a (home a k)
+  parted_here = ap (λ (z : List (List ℕ)). get_or z (home a k) []) chains ∙ get_or-set_same a.chains (home a k) (kept_in a (home a k)) [] home_below
+
+  pub parted_else : (c : ℕ) → c ≢ home a k → chain_at b c ≡ chain_at a c
+  parted_else c ne = ap (λ (z : List (List ℕ)). get_or z c []) chains ∙ get_or-set_other a.chains (home a k) c (kept_in a (home a k)) [] ne
+
+  -- a slot that stands there alone, and is not marked, is in no chain any more
+  pub parted_loose : marked_at a k ≡ false → ((c : ℕ) → 0 < times k (chain_at a c) → c ≡ home a k) → IsLoose b k
+  parted_loose white homed = elim (one_or_more (times_in k b.chains)) [
+    | inl z ↦ z
+    | inr h ↦ (let c = some_chain k b.chains h in elim (eqb_tells c.0 (home a k)) [
+      | inl e ↦ absurd (omega (arith, c.2, ap (times k) (ap (chain_at b) e.1 ∙ parted_here), times-filter_false (λ s. marked_at a s) k (chain_at a (home a k)) white))
+      | inr e ↦ absurd (e.1 (homed c.0 (subst (λ z. 0 < times k z) (parted_else c.0 e.1) c.2)))
+    ])
+  ]
+
+-- the slots from k on are given back where they are not marked; each chain is what it was, or has its marked
+-- slots alone, as have those that the slots that went stood in
+pub record Sweeping (init : ArenaState) (k : ℕ) (self : ArenaState) : Type 0 where
+  pub cells : GivingBack init k self
   pub count : length self.chains ≡ length init.chains
   pub either : (c : ℕ) → (chain_at self c ≡ chain_at init c) ⊎ (chain_at self c ≡ kept_in init c)
-  pub gone : (s : ℕ) → s < k → marked_at init s ≡ false → IsTaken init s → chain_at self (home init s) ≡ kept_in init (home init s)
+  pub gone : (s : ℕ) → k ≤ s → marked_at init s ≡ false → IsTaken init s → chain_at self (home init s) ≡ kept_in init (home init s)
 
-pub homing_begins : (init : ArenaState) → IsArena init → Homing init 0 init
-homing_begins init law = record { law = law; rest = refl; count = refl; either = λ c. inl refl; gone = λ s lt m t. absurd (omega (arith, lt)) }
+pub sweeping_begins : (init : ArenaState) (n : ℕ) → IsArena init → init.gray ≡ [] → ((s : ℕ) → n ≤ s → taken_at init s ≡ None) → Sweeping init n init
+sweeping_begins init n law gray past = record {
+  cells = giving_begins init n law gray past;
+  count = refl;
+  either = λ c. inl refl;
+  gone = λ s le m t. absurd (let none = past s le in let some = t.1 in cc);
+}
 
-module _ (init : ArenaState) (k : ℕ) (self : ArenaState) (inv : Homing init k self) where
-  pub homing_gray : init.gray ≡ [] → self.gray ≡ []
-  homing_gray e = ap (λ (v : ArenaState). v.gray) inv.rest ∙ e
+module _ (init : ArenaState) (k : ℕ) (self : ArenaState) (inv : Sweeping init (k + 1) self) where
+  here : taken_at self k ≡ taken_at init k
+  here = inv.cells.left k (omega arith)
 
-  pub homing_taken : IsTaken self k → IsTaken init k
-  homing_taken t = subst (λ (v : ArenaState). IsTaken v k) inv.rest t
+  same_marks : (s : ℕ) → marked_at self s ≡ marked_at init s
+  same_marks s = elim (cases_lt s (k + 1)) [
+    | inl lt ↦ ap is_marked (inv.cells.left s lt)
+    | inr le ↦ ap is_marked (inv.cells.done s (omega (arith, le))) ∙ kept_marked (taken_at init s)
+  ]
 
-  pub homing_marked : (s : ℕ) → marked_at self s ≡ marked_at init s
-  homing_marked s = ap (λ (v : ArenaState). marked_at v s) inv.rest
+  same_home : home self k ≡ home init k
+  same_home = λ i. stored_hash (here i) % inv.count i
 
-  pub homing_hash : hash_at self k ≡ hash_at init k
-  homing_hash = ap (λ (v : ArenaState). hash_at v k) inv.rest
+  same_kept : (c : ℕ) → kept_in self c ≡ kept_in init c
+  same_kept c = (λ i. filter (λ s. same_marks s i) (chain_at self c)) ∙ elim (inv.either c) [
+    | inl e ↦ ap (filter (λ s. marked_at init s)) e
+    | inr e ↦ ap (filter (λ s. marked_at init s)) e ∙ filter_twice (λ s. marked_at init s) (chain_at init c)
+  ]
 
-  -- there are chains where a slot stands in one
-  pub homing_some : ((s : ℕ) → IsTaken init s → InChain init s) → IsTaken self k → 0 < length init.chains
-  homing_some chained t = let c = some_chain k init.chains (chained k (homing_taken t)) in let lt = c.1 in omega (arith, lt)
-
-  pub homing_past : (marked_at init k ≡ false → IsTaken init k → ⊥) → Homing init (k + 1) self
-  homing_past none = record {
-    law = inv.law;
-    rest = inv.rest;
+  pub sweeping_past : is_unmarked (taken_at self k) ≡ false → Sweeping init k self
+  sweeping_past white = record {
+    cells = giving_past init k self inv.cells white;
     count = inv.count;
     either = inv.either;
-    gone = λ s lt m t. elim (below_next s k lt) [
-      | inl e ↦ inv.gone s e m t
-      | inr e ↦ absurd (none (ap (marked_at init) (sym e) ∙ m) (subst (IsTaken init) e t))
+    gone = λ s le m t. elim (eqb_tells s k) [
+      | inl e ↦ absurd (not_white (taken_at init k) t.0 (sym (ap is_unmarked here) ∙ white) (ap (marked_at init) (sym e.1) ∙ m) (ap (taken_at init) (sym e.1) ∙ t.1))
+      | inr e ↦ inv.gone s (omega (arith, le, e.1)) m t
     ];
   }
 
-  pub homing_white : is_unmarked (taken_at self k) ≡ false → Homing init (k + 1) self
-  homing_white white = homing_past (λ m t. not_white (taken_at init k) t.0 (sym (ap (λ (v : ArenaState). is_unmarked (taken_at v k)) inv.rest) ∙ white) m t.1)
+  module _ (yes : is_unmarked (taken_at self k) ≡ true) where
+    pub sweeping_some : ((s : ℕ) → IsTaken init s → InChain init s) → 0 < length self.chains
+    sweeping_some chained =
+        let t = giving_taken init k self inv.cells yes in
+        let c = some_chain k init.chains (chained k (t.0, sym here ∙ t.1)) in let lt = c.1 in omega (arith, lt, inv.count)
 
-  module _ (to : ℕ) (two : ArenaState) (is : to ≡ home init k) (below : to < length self.chains) (after : two ≡ record self { chains = set self.chains to (kept_in self to) }) where
-    chains : two.chains ≡ set self.chains to (kept_in self to)
-    chains = ap (λ (v : ArenaState). v.chains) after
-
-    other : (c : ℕ) → c ≢ to → chain_at two c ≡ chain_at self c
-    other c ne = ap (λ (z : List (List ℕ)). get_or z c []) chains ∙ get_or-set_other self.chains to c (kept_in self to) [] ne
-
-    kept : kept_in self to ≡ kept_in init to
-    kept = (λ i. filter (λ s. homing_marked s i) (chain_at self to)) ∙ elim (inv.either to) [
-      | inl e ↦ ap (filter (λ s. marked_at init s)) e
-      | inr e ↦ ap (filter (λ s. marked_at init s)) e ∙ filter_twice (λ s. marked_at init s) (chain_at init to)
-    ]
-
-    here : chain_at two to ≡ kept_in init to
-    here = ap (λ (z : List (List ℕ)). get_or z to []) chains ∙ get_or-set_same self.chains to (kept_in self to) [] below ∙ kept
-
-    pub homing_on : IsArena two → Homing init (k + 1) two
-    homing_on law = record {
-      law = law;
-      rest = after ∙ ap (λ (v : ArenaState). record v { chains = set self.chains to (kept_in self to) }) inv.rest ∙ ap (λ z. record init { chains = z }) (sym chains);
-      count = ap length chains ∙ length-set self.chains to (kept_in self to) ∙ inv.count;
-      either = λ c. elim (eqb_tells c to) [
-        | inl e ↦ inr (subst (λ z. chain_at two z ≡ kept_in init z) (sym e.1) here)
-        | inr e ↦ elim (inv.either c) [ inl q ↦ inl (other c e.1 ∙ q) | inr q ↦ inr (other c e.1 ∙ q) ]
-      ];
-      gone = λ s lt m t. elim (eqb_tells (home init s) to) [
-        | inl e ↦ subst (λ z. chain_at two z ≡ kept_in init z) (sym e.1) here
-        | inr e ↦ elim (below_next s k lt) [
-          | inl q ↦ other (home init s) e.1 ∙ inv.gone s q m t
-          | inr q ↦ absurd (e.1 (ap (home init) q ∙ sym is))
-        ]
-      ];
-    }
-
-  module _ (law : IsArena init) (homed : IsHomed init) (past : (s : ℕ) → k ≤ s → taken_at init s ≡ None) where
-    kept_each : (c : ℕ) → chain_at self c ≡ kept_in init c
-    kept_each c = elim (inv.either c) [
-      | inr e ↦ e
-      | inl e ↦ elim (all_or_one (λ s. marked_at init s) (chain_at init c)) [
-        | inl same ↦ e ∙ sym same
-        | inr one ↦ (
-            let t = law.chained_taken one.0 (chain_in init c one.0 one.1) in
-            subst (λ z. chain_at self z ≡ kept_in init z) (sym (homed one.0 c one.1)) (inv.gone one.0 (below one.0 t) one.2 t))
+    pub sweeping_homed : IsHomed init → (c : ℕ) → 0 < times k (chain_at self c) → c ≡ home self k
+    sweeping_homed homed c h = homed k c was ∙ sym same_home where
+      was : 0 < times k (chain_at init c)
+      was = elim (inv.either c) [
+        | inl e ↦ subst (λ z. 0 < times k z) e h
+        | inr e ↦ absurd (omega (arith, h, ap (times k) e, times-filter_false (λ s. marked_at init s) k (chain_at init c) (was_unmarked init k self inv.cells yes)))
       ]
-    ] where
-      below : (s : ℕ) → IsTaken init s → s < k
-      below s t = elim (cases_lt s k) [ inl lt ↦ lt | inr le ↦ absurd (let none = past s (omega (arith, le)) in let some = t.1 in cc) ]
 
-    pub homing_end : self.chains ≡ map (filter (λ s. marked_at init s)) init.chains
-    homing_end = lists_same self.chains (map (filter (λ s. marked_at init s)) init.chains)
-        (inv.count ∙ sym (length-map_lists (filter (λ s. marked_at init s)) init.chains))
-        (λ c h. kept_each c ∙ sym (get_or-map_nil (filter (λ s. marked_at init s)) refl init.chains c))
+    module _ (some : 0 < length self.chains) (two : ArenaState) (after : two ≡ record self { cells = put self.cells k None; chains = set self.chains (home self k) (kept_in self (home self k)); spare = self.spare + 1 }) where
+      chains : two.chains ≡ set self.chains (home self k) (kept_in self (home self k))
+      chains = ap (λ (v : ArenaState). v.chains) after
+
+      at_home : chain_at two (home init k) ≡ kept_in init (home init k)
+      at_home = subst (λ z. chain_at two z ≡ kept_in init z) same_home (parted_here self two k some chains ∙ same_kept (home self k))
+
+      other : (c : ℕ) → c ≢ home init k → chain_at two c ≡ chain_at self c
+      other c ne = parted_else self two k some chains c (λ e. ne (e ∙ same_home))
+
+      pub sweeping_on : IsArena two → Sweeping init k two
+      sweeping_on law = record {
+        cells = giving_on init k self inv.cells yes two (set self.chains (home self k) (kept_in self (home self k))) after law;
+        count = ap length chains ∙ length-set self.chains (home self k) (kept_in self (home self k)) ∙ inv.count;
+        either = λ c. elim (eqb_tells c (home init k)) [
+          | inl e ↦ inr (subst (λ z. chain_at two z ≡ kept_in init z) (sym e.1) at_home)
+          | inr e ↦ elim (inv.either c) [ inl q ↦ inl (other c e.1 ∙ q) | inr q ↦ inr (other c e.1 ∙ q) ]
+        ];
+        gone = λ s le m t. elim (eqb_tells (home init s) (home init k)) [
+          | inl e ↦ subst (λ z. chain_at two z ≡ kept_in init z) (sym e.1) at_home
+          | inr e ↦ other (home init s) e.1 ∙ inv.gone s (elim (eqb_tells s k) [ inl q ↦ absurd (e.1 (ap (home init) q.1)) | inr q ↦ omega (arith, le, q.1) ]) m t
+        ];
+      }
+
+module _ (init : ArenaState) (k : ℕ) (self : ArenaState) (inv : Sweeping init k self) (zero : k ≤ 0) (law : IsArena init) (homed : IsHomed init) where
+  kept_each : (c : ℕ) → chain_at self c ≡ kept_in init c
+  kept_each c = elim (inv.either c) [
+    | inr e ↦ e
+    | inl e ↦ elim (all_or_one (λ s. marked_at init s) (chain_at init c)) [
+      | inl same ↦ e ∙ sym same
+      | inr one ↦ (
+          let t = law.chained_taken one.0 (chain_in init c one.0 one.1) in
+          subst (λ z. chain_at self z ≡ kept_in init z) (sym (homed one.0 c one.1)) (inv.gone one.0 (omega (arith, zero)) one.2 t))
+    ]
+  ]
+
+  pub sweeping_end : self.chains ≡ map (filter (λ s. marked_at init s)) init.chains
+  sweeping_end = lists_same self.chains (map (filter (λ s. marked_at init s)) init.chains)
+      (inv.count ∙ sym (length-map_lists (filter (λ s. marked_at init s)) init.chains))
+      (λ c h. kept_each c ∙ sym (get_or-map_nil (filter (λ s. marked_at init s)) refl init.chains c))

@@ -6,8 +6,8 @@ pub mod RootSlots
 pub mod Named
 pub mod Spreading
 pub mod Clearing
-pub mod Homing
 pub mod Sweeps
 pub mod Unlinking
+pub mod Homing
 pub mod Collected
 pub mod Ready

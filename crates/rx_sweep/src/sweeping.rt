@@ -1,8 +1,8 @@
 //! The sweep: what is not marked goes back, and then no slot is marked any more.
-ghost use Rattle.std.specs.Prelude.{◌≡◌, ℕ, ◌+◌, ◌<◌, List, [], length, false, None, map, filter, if◌then◌else◌};
-ghost use Rattle.rx_arena.specs.Put.{times};
-ghost use Rattle.rx_arena.specs.Arena.{taken_at, IsTaken, taken_count, InChain, IsLoose, roots_at, chain_at, marked_at, IsMarked, IsArena};
-ghost use Rattle.rx_sweep.specs.Reach.{IsHomed};
+ghost use Rattle.std.specs.Prelude.{◌≡◌, ℕ, ◌+◌, ◌<◌, List, [], length, slice_set, false, None, map, filter, if◌then◌else◌};
+ghost use Rattle.rx_arena.specs.Put.{times, put};
+ghost use Rattle.rx_arena.specs.Arena.{taken_at, IsTaken, taken_count, InChain, IsLoose, roots_at, chain_at, kept_in, marked_at, IsMarked, IsArena};
+ghost use Rattle.rx_sweep.specs.Reach.{home, IsHomed};
 ghost use Rattle.rx_sweep.specs.Marking.{Clears};
 
 use rx_arena::Slot;
@@ -20,23 +20,20 @@ fn unlink(arena: &mut Arena)
     }
 }
 
-/// The same slot by slot, where each slot stands in the chain that its hash names.
-fn unlink_by_hash(arena: &mut Arena)
+/// Takes a slot that is not marked out of the chain that its hash names, and gives it back.
+fn drop_slot(arena: &mut Arena, slot: Slot)
     requires no_gray { arena.old.gray ≡ [] }
-    requires homed { IsHomed arena.old }
-    requires chained { (s : ℕ) → IsTaken arena.old s → InChain arena.old s }
-    ensures chains { arena.new.chains ≡ map (filter (λ s. marked_at arena.old s)) arena.old.chains }
-    ensures rest { arena.new ≡ record arena.old { chains = arena.new.chains } }
+    requires some { 0 < length arena.old.chains }
+    requires taken { IsTaken arena.old slot.0 }
+    requires unmarked { marked_at arena.old slot.0 ≡ false }
+    requires unprotected { roots_at arena.old slot.0 ≡ 0 }
+    requires homed { (c : ℕ) → 0 < times slot.0 (chain_at arena.old c) → c ≡ home arena.old slot.0 }
+    ensures after { arena.new ≡ record arena.old { cells = put arena.old.cells slot.0 None; chains = slice_set arena.old.chains (home arena.old slot.0) (kept_in arena.old (home arena.old slot.0)); spare = arena.old.spare + 1 } }
     ensures law { IsArena arena.new }
 {
-    let chains = u64::from(arena.chains());
-    for number in 0..arena.slots() {
-        let slot = Slot(number);
-        if arena.holds_unmarked(slot) {
-            let chain = (arena.read(slot).hash % chains) as u32;
-            arena.chain_keep_marked(chain);
-        }
-    }
+    let chain = (arena.read(slot).hash % u64::from(arena.chains())) as u32;
+    arena.chain_keep_marked(chain);
+    arena.give_back(slot);
 }
 
 /// Gives back the slots that are not marked, from the last one on, so that the first one is taken next.
@@ -78,7 +75,7 @@ pub(crate) fn sweep(arena: &mut Arena)
     give_back_unmarked(arena);
 }
 
-/// The same, where each slot stands in the chain that its hash names.
+/// The same in one go over the slots, where each slot stands in the chain that its hash names.
 pub(crate) fn sweep_by_hash(arena: &mut Arena)
     requires no_gray { arena.old.gray ≡ [] }
     requires homed { IsHomed arena.old }
@@ -91,8 +88,14 @@ pub(crate) fn sweep_by_hash(arena: &mut Arena)
     ensures cap { arena.new.cap ≡ arena.old.cap }
     ensures law { IsArena arena.new }
 {
-    unlink_by_hash(arena);
-    give_back_unmarked(arena);
+    let mut number = arena.slots();
+    while number > 0 {
+        number -= 1;
+        let slot = Slot(number);
+        if arena.holds_unmarked(slot) {
+            drop_slot(arena, slot);
+        }
+    }
 }
 
 /// Clears all marks.
