@@ -1,61 +1,109 @@
 //! The least rule for terms.
 
+ghost use Rattle.std.specs.Prelude.{IfOk, IsSome};
+ghost use Rattle.rx_term.specs.Store.{tree_at};
+ghost use Rattle.rec_sorts.specs.Linked.{HasMoreSymbols};
+ghost use Rattle.rec_match.specs.Next.{AreReady};
+
 use crate::Matcher;
 use rec_sorts::{Links, check};
 use rec_syntax::read_spec;
 use rx_plain::PlainBank;
+use rx_term::{Term, TermBank};
 use rx_text::read;
 use smallvec::SmallVec;
+use std::alloc::Global;
 use std::test::Fail;
 
 const OVL: &[u8] =
     b"REC-SPEC Ovl SORTS N CONS a : -> N b : -> N OPNS f : N N -> N VARS X Y : N RULES f(X,X) -> a f(a,Y) -> b f(X,b) -> a f(X,Y) -> b EVAL f(b,a) END-SPEC";
 
+/// What the matcher says of a term: the rule, and which of its values are the term `a`.
+#[derive(Drop)]
+struct Said {
+    rule: Option<u32>,
+    are_a: Vec<bool>,
+}
+
+/// The matcher of the specification, whose symbols the bank gets.
+fn matcher_of<B: TermBank>(alloc: Global, bank: &mut B) -> Result<Matcher, Fail>
+    ensures ready { IfOk result (AreReady (B.store bank.new)) }
+    ensures same { HasMoreSymbols (B.store bank.old) (B.store bank.new) }
+{
+    let checked = check(alloc, read_spec(alloc, OVL)?)?;
+    let links = Links::make(alloc, &checked, bank)?;
+    Ok(Matcher::build(alloc, &checked, &links)?)
+}
+
+/// Which of these terms are one.
+fn are(alloc: Global, one: Term, terms: &[Term]) -> Result<Vec<bool>, Fail> {
+    let mut same = Vec::new(alloc);
+    for term in terms {
+        same.push(term.0 == one.0)?;
+    }
+    Ok(same)
+}
+
+/// What the matcher says of a term, from a rule on.
+fn answer<B: TermBank>(
+    alloc: Global,
+    bank: &B,
+    matcher: &Matcher,
+    a: Term,
+    u: Term,
+    from: u32,
+) -> Result<Said, Fail>
+    requires held { IsSome (tree_at (B.store bank.now) u) }
+    requires ready { AreReady (B.store bank.now) matcher.now }
+{
+    let mut bind = SmallVec::new(alloc);
+    let rule = matcher.next(bank, u, from, &mut bind)?;
+    Ok(Said {
+        rule,
+        are_a: are(alloc, a, bind.as_slice())?,
+    })
+}
+
+/// What the matcher says of a text's term.
+fn ask_of<B: TermBank>(alloc: Global, bank: &mut B, text: &[u8], from: u32) -> Result<Said, Fail> {
+    let a = read(alloc, b"a", bank)?;
+    let u = read(alloc, text, bank)?;
+    let matcher = matcher_of(alloc, bank)?;
+    answer(alloc, bank, &matcher, a, u, from)
+}
+
 #[test]
 fn overlapping_rules(rt: HostRuntime) -> Result<(), Fail> {
-    let alloc = rt.alloc();
-    let checked = check(alloc, read_spec(alloc, OVL)?)?;
-    let mut bank = PlainBank::new(alloc, 100)?;
-    let links = Links::make(alloc, &checked, &mut bank)?;
-    let matcher = Matcher::build(alloc, &checked, &links)?;
-    let mut bind = SmallVec::new(alloc);
-    let rows: [(&[u8], u32, Option<u32>, &[&[u8]]); 11] = [
-        (b"f(a,a)", 0, Some(0), &[b"a"]),
-        (b"f(a,a)", 1, Some(1), &[b"a"]),
-        (b"f(a,a)", 2, Some(3), &[b"a", b"a"]),
+    let rows: [(&[u8], u32, Option<u32>, &[bool]); 11] = [
+        (b"f(a,a)", 0, Some(0), &[true]),
+        (b"f(a,a)", 1, Some(1), &[true]),
+        (b"f(a,a)", 2, Some(3), &[true, true]),
         (b"f(a,a)", 4, None, &[]),
-        (b"f(a,b)", 0, Some(1), &[b"b"]),
-        (b"f(a,b)", 2, Some(2), &[b"a"]),
-        (b"f(a,b)", 3, Some(3), &[b"a", b"b"]),
-        (b"f(b,a)", 0, Some(3), &[b"b", b"a"]),
-        (b"f(b,b)", 0, Some(0), &[b"b"]),
-        (b"f(b,b)", 1, Some(2), &[b"b"]),
-        (b"f(b,b)", 3, Some(3), &[b"b", b"b"]),
+        (b"f(a,b)", 0, Some(1), &[false]),
+        (b"f(a,b)", 2, Some(2), &[true]),
+        (b"f(a,b)", 3, Some(3), &[true, false]),
+        (b"f(b,a)", 0, Some(3), &[false, true]),
+        (b"f(b,b)", 0, Some(0), &[false]),
+        (b"f(b,b)", 1, Some(2), &[false]),
+        (b"f(b,b)", 3, Some(3), &[false, false]),
     ];
-    for (term, from, rule, values) in rows {
-        let u = read(alloc, term, &mut bank)?;
-        assert_eq!(rt; matcher.next(&bank, u, from, &mut bind)?, rule);
-        assert_eq!(rt; bind.len(), values.len());
-        for (i, value) in values.iter().enumerate() {
-            assert_eq!(rt; bind[i].0, read(alloc, value, &mut bank)?.0);
-        }
+    for (text, from, rule, are_a) in rows {
+        let mut bank = PlainBank::new(rt.alloc(), 100)?;
+        let said = ask_of(rt.alloc(), &mut bank, text, from)?;
+        assert_eq!(rt; said.rule, rule);
+        assert_eq!(rt; said.are_a.as_slice(), are_a);
     }
     Ok(())
 }
 
 #[test]
 fn what_no_rule_matches(rt: HostRuntime) -> Result<(), Fail> {
-    let alloc = rt.alloc();
-    let checked = check(alloc, read_spec(alloc, OVL)?)?;
-    let mut bank = PlainBank::new(alloc, 100)?;
-    let links = Links::make(alloc, &checked, &mut bank)?;
-    let matcher = Matcher::build(alloc, &checked, &links)?;
-    let mut bind = SmallVec::new(alloc);
     let terms: [&[u8]; 6] = [b"a", b"7", b"[a]", b"f(a)", b"f(a,a){b}", b"<f(a,a)>"];
-    for term in terms {
-        let u = read(alloc, term, &mut bank)?;
-        assert_eq!(rt; matcher.next(&bank, u, 0, &mut bind)?, None);
-        assert_eq!(rt; bind.len(), 0);
+    for text in terms {
+        let mut bank = PlainBank::new(rt.alloc(), 100)?;
+        let said = ask_of(rt.alloc(), &mut bank, text, 0)?;
+        assert_eq!(rt; said.rule, None);
+        assert!(rt; said.are_a.is_empty());
     }
     Ok(())
 }
