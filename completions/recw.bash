@@ -46,13 +46,17 @@ _recw_kind() {
 
 _recw() {
     local word=${COMP_WORDS[COMP_CWORD]} command=${COMP_WORDS[1]} kind=command choices=(--help)
+    local commands=("${_recw_commands[@]%% *}")
     if ((COMP_CWORD > 1)); then kind=$(_recw_kind "$command"); fi
+    if ((COMP_CWORD > 1)) && [[ $command != help ]]; then choices+=(--explain); fi
     if ((COMP_CWORD > 1)) && [[ $command == eval ]]; then choices+=("${_recw_eval_options[@]%% *}"); fi
+    if ((COMP_CWORD == 1)); then choices+=(--version); fi
+    if ((COMP_CWORD == 2)) && [[ $command == help ]]; then commands+=(refusals); fi
     COMPREPLY=()
     if [[ $kind != value && $word == -* ]]; then
         mapfile -t COMPREPLY < <(compgen -W "${choices[*]}" -- "$word")
     elif [[ $kind == command ]]; then
-        mapfile -t COMPREPLY < <(compgen -W "${_recw_commands[*]%% *}" -- "$word")
+        mapfile -t COMPREPLY < <(compgen -W "${commands[*]}" -- "$word")
     elif [[ $kind == file ]]; then
         compopt -o filenames 2>/dev/null
         mapfile -t COMPREPLY < <(compgen -f -- "$word")

@@ -2,6 +2,7 @@
 
 complete -c recw -f
 complete -c recw -s h -l help -d 'Print help'
+complete -c recw -n __fish_use_subcommand -s V -l version -d 'Print version'
 
 set -l first 'not __fish_seen_subcommand_from eval aterm share match make help'
 set -l help '__fish_seen_subcommand_from help'
@@ -12,6 +13,8 @@ complete -c recw -n "$first; or $help" -a match -d 'Print what a pattern binds i
 complete -c recw -n "$first; or $help" -a make -d 'Print a pattern with arguments in place of its placeholders'
 complete -c recw -n "$first; or $help" -a help -d 'Print this message or the help of the given subcommand(s)'
 complete -c recw -n '__fish_seen_subcommand_from eval aterm share match' -F
+complete -c recw -n $help -a refusals -d 'Print what each refusal means'
+complete -c recw -n '__fish_seen_subcommand_from eval aterm share match make' -l explain -d 'Say in words why a text is refused, and where'
 
 set -l eval '__fish_seen_subcommand_from eval'
 complete -c recw -n $eval -l steps -x -d 'Most steps that a term may take, up to 10^18'

@@ -34,6 +34,27 @@ def options_of(command):
     return [Option(*it) for it in re.findall(row, section, re.M) if it[0] != "--help"]
 
 
+def check_refusals():
+    """Compares the refusals in words with the tables and lists of the formats."""
+    formats = text_of("docs/FORMATS.md")
+    rows = re.findall(r"^\| `([ST]\d+)` \| ([^|]*?) \|", formats, re.M)
+    rows += re.findall(r"^- `([PTM]\d)`: (.*?)\.(?: |$)", formats, re.M)
+    told = dict(line.split(None, 1) for line in run([program(), "help", "refusals"]).splitlines())
+    named = re.findall(r"`([LGASPTM]\d*)`", formats)
+    same("refusals", {it for it in named if it not in ("S", "T", "P", "M")}, set(told))
+    for name, words in rows:
+        if name in told and name not in ("T1", "P1", "P2"):
+            same(f"refusal {name}", words, told[name])
+
+
+def check_version():
+    """Compares the kit that the program names with the one that is here."""
+    told = run([program(), "--version"])
+    if shutil.which("rt"):
+        kit, *_, logic = run(["rt", "version"]).split()
+        same("version", f"recw 0.1.0, proved with {kit} (logic {logic})\n", told)
+
+
 def check_manual(names, options):
     page = text_of("recw.1")
     synopsis = page.split(".Sh SYNOPSIS")[1].split(".Sh ")[0]
@@ -58,16 +79,16 @@ def check_bash(names, options):
         return run(["bash", "-c", script, TOP, *words], cwd=f"{TOP}/examples").split()
 
     same("bash: commands", sorted(names), sorted(offered("recw", "")))
-    same("bash: commands of help", sorted(names), sorted(offered("recw", "help", "")))
+    same("bash: commands of help", sorted([*names, "refusals"]), sorted(offered("recw", "help", "")))
     same("bash: one command", ["share"], offered("recw", "sh"))
     for name in names:
-        wanted = ["--help", *[it.name for it in options if name == "eval"]]
+        wanted = ["--help", *[it.name for it in options[name]]]
         same(f"bash: options of {name}", sorted(wanted), sorted(offered("recw", name, "-")))
     for words in (["eval"], ["eval", "q.rec"], ["eval", "--count"], ["aterm"], ["share"], ["match", "x"]):
         same(f"bash: files behind {words}", ["add.rec", "add.trm"], offered("recw", *words, "add"))
     for words in (["match"], ["make"], ["make", "x"], ["aterm", "x"], ["eval", "a", "b"]):
         same(f"bash: no files behind {words}", [], offered("recw", *words, "add"))
-    for option in options:
+    for option in options["eval"]:
         wanted = [] if option.value else ["add.rec", "add.trm"]
         same(f"bash: behind {option.name}", wanted, offered("recw", "eval", option.name, "add"))
         if option.value:
@@ -85,13 +106,14 @@ def check_fish(names, abouts, options):
 
     help_option = ("--help", "Print help")
     same("fish: commands", sorted(abouts.items()), offered("recw "))
-    same("fish: commands of help", sorted(abouts.items()), offered("recw help "))
+    refusals = ("refusals", "Print what each refusal means")
+    same("fish: commands of help", sorted([*abouts.items(), refusals]), offered("recw help "))
     for name in names:
-        wanted = [(it.name, it.about) for it in options if name == "eval"]
+        wanted = [(it.name, it.about) for it in options[name]]
         same(f"fish: options of {name}", sorted([help_option, *wanted]), offered(f"recw {name} --"))
     for line in ("eval", "eval --count", "aterm", "share", "match x"):
         same(f"fish: files behind {line}", [("add.rec",), ("add.trm",)], offered(f"recw {line} add"))
-    for line in ("make", *[f"eval {it.name}" for it in options if it.value]):
+    for line in ("make", *[f"eval {it.name}" for it in options["eval"] if it.value]):
         same(f"fish: no files behind {line}", [], offered(f"recw {line} add"))
 
 
@@ -109,13 +131,14 @@ def check_zsh(abouts, options):
 
     helps = ["(- *)-h[Print help]", "(- *)--help[Print help]"]
     listed = [f"{name}:{about}" for name, about in abouts.items()]
-    same("zsh: commands", [*listed, *helps], offered("recw", ""))
-    same("zsh: commands of help", listed, offered("recw", "help", ""))
+    versions = ["(- *)-V[Print version]", "(- *)--version[Print version]"]
+    same("zsh: commands", [*listed, *helps, *versions], offered("recw", ""))
+    refusals = "refusals:Print what each refusal means"
+    same("zsh: commands of help", [*listed, refusals], offered("recw", "help", ""))
     for name in abouts:
         own = [
             f"{it.name}=[{it.about}]:{it.value}: " if it.value else f"{it.name}[{it.about}]"
-            for it in options
-            if name == "eval"
+            for it in options[name]
         ]
         found = [it for it in offered("recw", name, "-") if "-" in it.partition("[")[0]]
         same(f"zsh: options of {name}", [*helps, *own] if name != "help" else [], found)
@@ -123,13 +146,17 @@ def check_zsh(abouts, options):
 
 def main():
     abouts = commands()
-    names, options = list(abouts), options_of("eval")
+    names = list(abouts)
     same("commands", True, {"eval", "help"} <= set(names))
-    same("options of eval", True, len(options) > 1)
+    options = {name: options_of(name) if name != "help" else [] for name in names}
+    same("options of eval", True, len(options["eval"]) > 1)
+    shared = [it for it in options["eval"] if it.name == "--explain"]
     for name in names:
         if name not in ("eval", "help"):
-            same(f"options of {name}", [], options_of(name))
-    check_manual(names, options)
+            same(f"options of {name}", shared, options[name])
+    check_refusals()
+    check_version()
+    check_manual(names, options["eval"])
     shells = {
         "bash": lambda: check_bash(names, options),
         "fish": lambda: check_fish(names, abouts, options),

@@ -8,18 +8,23 @@ pub const MOST_STEPS: u64 = 1_000_000_000_000_000_000;
 /// The most cells, and the most new cells between two reclaims.
 pub const MOST_CELLS: u32 = 1_073_741_824;
 
+/// The version, with the kit by which the program is proved.
+const VERSION: &str = "0.1.0, proved with rattle-kit-13b (logic dac8208d650f15bf)\n";
+
 /// The command without the program's name before its words.
 pub fn command<'a>(alloc: Global) -> Result<Command<'a>, AllocError> {
     Command::new(alloc, "recw")
         .no_binary_name(true)
         .bin_name("recw")?
+        .version(VERSION)
         .subcommand_required(true)
         .override_usage("recw [COMMAND]")
         .about("Evaluate REC specifications, and read ATerms")
         .after_help(
             "With no arguments, recw evaluates the specification on standard input.\n\n\
              Exit status: 0 done, 1 the text was refused, 2 wrong arguments,\n\
-             3 out of memory or cells, 4 a read or a write failed.",
+             3 out of memory or cells, 4 a read or a write failed.\n\n\
+             recw help refusals says what each refusal means; --explain shows where it stands.",
         )
         .subcommand(eval_command(alloc)?)?
         .subcommand(aterm_command(alloc)?)?
@@ -41,21 +46,24 @@ fn eval_command<'a>(alloc: Global) -> Result<Command<'a>, AllocError> {
         .arg(steps(alloc))?
         .arg(cells(alloc))?
         .arg(reclaim(alloc))?
-        .arg(count(alloc))
+        .arg(count(alloc))?
+        .arg(explain(alloc))
 }
 
 fn aterm_command<'a>(alloc: Global) -> Result<Command<'a>, AllocError> {
     Command::new(alloc, "aterm")
         .about("Print an ATerm in its shortest form")
         .after_help("Example: echo 'f ( a , [ 1 , -007 ] )' | recw aterm")
-        .arg(term_file(alloc))
+        .arg(term_file(alloc))?
+        .arg(explain(alloc))
 }
 
 fn share_command<'a>(alloc: Global) -> Result<Command<'a>, AllocError> {
     Command::new(alloc, "share")
         .about("Print an ATerm and how many cells it takes with equal parts shared")
         .after_help("Example: echo 'f(a,a)' | recw share")
-        .arg(term_file(alloc))
+        .arg(term_file(alloc))?
+        .arg(explain(alloc))
 }
 
 fn match_command<'a>(alloc: Global) -> Result<Command<'a>, AllocError> {
@@ -67,7 +75,8 @@ fn match_command<'a>(alloc: Global) -> Result<Command<'a>, AllocError> {
              Example: echo 'f(1,2,3)' | recw match 'f(<int>,<list>)'",
         )
         .arg(text(alloc, "PATTERN", "ATerm with placeholders"))?
-        .arg(term_file(alloc))
+        .arg(term_file(alloc))?
+        .arg(explain(alloc))
 }
 
 fn make_command<'a>(alloc: Global) -> Result<Command<'a>, AllocError> {
@@ -82,7 +91,8 @@ fn make_command<'a>(alloc: Global) -> Result<Command<'a>, AllocError> {
             alloc,
             "ARGS",
             "List with an ATerm for each placeholder, in order",
-        ))
+        ))?
+        .arg(explain(alloc))
 }
 
 fn text<'a>(alloc: Global, name: &'a str, help: &'a str) -> Arg<'a> {
@@ -122,6 +132,13 @@ fn reclaim<'a>(alloc: Global) -> Arg<'a> {
         .value_parser(value_parser!(u32).range(1..=i64::from(MOST_CELLS)))
         .default_value("262144")
         .help("New cells between two reclaims, 1 to 2^30")
+}
+
+fn explain<'a>(alloc: Global) -> Arg<'a> {
+    Arg::new(alloc, "explain")
+        .long("explain")
+        .action(ArgAction::SetTrue)
+        .help("Say in words why a text is refused, and where")
 }
 
 fn count<'a>(alloc: Global) -> Arg<'a> {

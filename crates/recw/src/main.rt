@@ -2,14 +2,18 @@
 #![tactic(auto)]
 
 mod command;
+mod explain;
 mod opened;
 mod program;
+mod recorded;
+mod refusals;
 mod report;
 mod request;
 #[cfg(test)]
 mod shelf;
 #[cfg(test)]
 mod tests;
+mod told;
 
 use program::program;
 use std::alloc::Global;

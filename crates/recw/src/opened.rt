@@ -1,5 +1,4 @@
 //! What a run reads.
-use rec_run::RunFault;
 use std::fs::File;
 use std::io;
 use std::io::Read;
@@ -26,24 +25,17 @@ pub fn open<'a, H: Files, R: Read>(
     rt: &H,
     path: Option<&str>,
     input: &'a mut R,
-) -> Result<Opened<'a, R, H::File>, RunFault> {
+) -> io::Result<Opened<'a, R, H::File>> {
     match path {
         None => Ok(Opened::Input(input)),
-        Some(path) => Ok(Opened::File(open_file(rt, path)?)),
+        Some(path) => Ok(Opened::File(File::open(rt, path)?)),
     }
 }
 
 /// The file at `path`, where there is one.
-pub fn open_given<H: Files>(rt: &H, path: Option<&str>) -> Result<Option<H::File>, RunFault> {
+pub fn open_given<H: Files>(rt: &H, path: Option<&str>) -> io::Result<Option<H::File>> {
     match path {
         None => Ok(None),
-        Some(path) => Ok(Some(open_file(rt, path)?)),
-    }
-}
-
-fn open_file<H: Files>(rt: &H, path: &str) -> Result<H::File, RunFault> {
-    match File::open(rt, path) {
-        Ok(file) => Ok(file),
-        Err(_) => Err(RunFault::Read),
+        Some(path) => Ok(Some(File::open(rt, path)?)),
     }
 }

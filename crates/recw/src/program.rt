@@ -1,10 +1,13 @@
 //! Does what the words ask.
 
 use crate::opened::{open, open_given};
-use crate::report;
-use crate::request::{Request, read_words};
+use crate::recorded::{Recorded, Watched};
+use crate::request::{Asked, Request, read_words};
+use crate::told::{Told, name_of};
+use crate::{refusals, report};
+use clap::error::ErrorKind;
 use rec_run::{
-    Finish, Place, RunFault, run_at, run_aterm_at, run_make_at, run_match_at, run_share_at,
+    Finish, Place, RunFault, Source, run_at, run_aterm_at, run_make_at, run_match_at, run_share_at,
 };
 use std::alloc::Global;
 use std::io::{Read, Write};
@@ -21,61 +24,124 @@ pub fn program<H: Files, R: Read, W: Write, E: Write>(
     err: &mut E,
 ) -> u8 {
     if words.is_empty() {
-        return obey(rt, alloc, read_words(alloc, &["eval"]), input, out, err);
+        return obey(rt, alloc, &["eval"], input, out, err);
     }
-    obey(rt, alloc, read_words(alloc, words), input, out, err)
+    if words == ["help", "refusals"].as_slice() {
+        return report::shown(refusals::write_all(out), err);
+    }
+    obey(rt, alloc, words, input, out, err)
 }
 
 fn obey<H: Files, R: Read, W: Write, E: Write>(
     rt: &H,
     alloc: Global,
-    asked: Result<Request<'_>, clap::Error>,
+    words: &[&str],
     input: &mut R,
     out: &mut W,
     err: &mut E,
 ) -> u8 {
-    match asked {
-        Ok(request) => {
-            let mut place = None;
-            let end = perform(rt, alloc, request, input, out, &mut place);
-            report::ended(end, place, err)
+    match read_words(alloc, words) {
+        Ok(asked) => {
+            let mut told = Told::new(alloc);
+            let end = perform(rt, alloc, asked, input, out, &mut told);
+            let status = report::ended(end, told.place, err);
+            if asked.explain {
+                let _ = told.explain(asked.request, end, err);
+            }
+            status
         }
-        Err(error) => report::refused_words(&error, out, err),
+        Err(error) => {
+            let status = report::refused_words(&error, out, err);
+            if error.kind() == ErrorKind::InvalidSubcommand {
+                report::advise(words, err);
+            }
+            status
+        }
     }
 }
 
-fn perform<H: Files, R: Read, W: Write>(
+fn perform<'a, H: Files, R: Read, W: Write>(
     rt: &H,
     alloc: Global,
-    request: Request<'_>,
+    asked: Asked<'a>,
     input: &mut R,
     out: &mut W,
-    place: &mut Option<Place>,
+    told: &mut Told<'a>,
 ) -> Result<Finish, RunFault> {
+    let mut out = Watched::new(alloc, out);
+    let end = perform_over(rt, alloc, asked, input, &mut out, told);
+    told.line = out.finish();
+    end
+}
+
+fn perform_over<'a, H: Files, R: Read, W: Write>(
+    rt: &H,
+    alloc: Global,
+    asked: Asked<'a>,
+    input: &mut R,
+    out: &mut W,
+    told: &mut Told<'a>,
+) -> Result<Finish, RunFault> {
+    let Asked { request, explain } = asked;
     match request {
         Request::Eval {
             options,
             spec,
             terms,
         } => {
-            let mut spec = open(rt, spec, input)?;
-            let mut terms = open_given(rt, terms)?;
-            run_at(alloc, &mut spec, terms.as_mut(), out, options, place)
-        }
-        Request::Aterm { file } => {
-            let mut input = open(rt, file, input)?;
-            run_aterm_at(alloc, &mut input, out, place)
-        }
-        Request::Share { file } => {
-            let mut input = open(rt, file, input)?;
-            run_share_at(alloc, &mut input, out, place)
-        }
-        Request::Match { pattern, file } => {
-            let mut input = open(rt, file, input)?;
-            run_match_at(alloc, pattern.as_bytes(), &mut input, out, place)
+            let files = told.opened(open(rt, spec, input), name_of(request, Source::Spec))?;
+            let given = told.opened(open_given(rt, terms), name_of(request, Source::Terms))?;
+            let mut spec = Recorded::new(alloc, files, explain);
+            let mut terms = match given {
+                Some(file) => Some(Recorded::new(alloc, file, explain)),
+                None => None,
+            };
+            let end = run_at(
+                alloc,
+                &mut spec,
+                terms.as_mut(),
+                out,
+                options,
+                &mut told.place,
+            );
+            told.first = told.read(spec.finish(), name_of(request, Source::Spec));
+            if let Some(terms) = terms {
+                told.second = told.read(terms.finish(), name_of(request, Source::Terms));
+            }
+            end
         }
         Request::Make { pattern, args } => {
-            run_make_at(alloc, pattern.as_bytes(), args.as_bytes(), out, place)
+            run_make_at(
+                alloc,
+                pattern.as_bytes(),
+                args.as_bytes(),
+                out,
+                &mut told.place,
+            )
         }
+        Request::Aterm { file } | Request::Share { file } | Request::Match { file, .. } => {
+            let name = name_of(request, Source::Term);
+            let file = told.opened(open(rt, file, input), name)?;
+            let mut term = Recorded::new(alloc, file, explain);
+            let end = run_on_term(alloc, request, &mut term, out, &mut told.place);
+            told.first = told.read(term.finish(), name);
+            end
+        }
+    }
+}
+
+fn run_on_term<R: Read, W: Write>(
+    alloc: Global,
+    request: Request<'_>,
+    term: &mut R,
+    out: &mut W,
+    place: &mut Option<Place>,
+) -> Result<Finish, RunFault> {
+    match request {
+        Request::Share { .. } => run_share_at(alloc, term, out, place),
+        Request::Match { pattern, .. } => {
+            run_match_at(alloc, pattern.as_bytes(), term, out, place)
+        }
+        _ => run_aterm_at(alloc, term, out, place),
     }
 }

@@ -48,6 +48,16 @@ fn failed<E: Write>(fault: RunFault, err: &mut E) -> u8
     }
 }
 
+/// The status of a help that was written, or not.
+pub fn shown<E: Write>(written: io::Result<()>, err: &mut E) -> u8
+    ensures { (result ≡ 0) ⊎ (result ≡ 4) }
+{
+    match written {
+        Ok(()) => DONE,
+        Err(_) => failed(RunFault::Write, err),
+    }
+}
+
 /// Shows the help, or what is wrong with the words.
 pub fn refused_words<W: Write, E: Write>(error: &clap::Error, out: &mut W, err: &mut E) -> u8
     ensures memory { kind_of error.now ≡ ErrorKind.OutOfMemory → result ≡ 3 }
@@ -67,6 +77,18 @@ pub fn refused_words<W: Write, E: Write>(error: &clap::Error, out: &mut W, err: 
             let _ = write!(err, "{error}");
             COMMAND_LINE
         }
+    }
+}
+
+/// Names the command for a file, where one stands in a command's place.
+pub fn advise<E: Write>(words: &[&str], err: &mut E) {
+    if let Some(word) = words.first()
+        && word.contains(['.', '/'].as_slice())
+    {
+        let _ = writeln!(
+            err,
+            "\nTo evaluate the specification in that file: recw eval {word}"
+        );
     }
 }
 

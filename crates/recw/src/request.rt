@@ -37,19 +37,33 @@ pub enum Request<'a> {
     },
 }
 
+/// What is asked for, and whether a refusal is to be explained.
+#[derive(Clone, Copy, Debug)]
+pub struct Asked<'a> {
+    pub request: Request<'a>,
+    pub explain: bool,
+}
+
 /// What the words after the program's name ask for.
-pub fn read_words<'a>(alloc: Global, words: &'a [&str]) -> Result<Request<'a>, Error> {
+pub fn read_words<'a>(alloc: Global, words: &'a [&str]) -> Result<Asked<'a>, Error> {
     let mut command = command::command(alloc)?;
     let matches = command.try_get_matches_from_mut(words)?;
-    match request_of(&matches) {
-        Some(request) => Ok(request),
+    match asked_of(&matches) {
+        Some(asked) => Ok(asked),
         None => Err(command.error(ErrorKind::MissingSubcommand, "a subcommand is missing")?),
     }
 }
 
 /// `None` where a word is missing, which the command rules out.
-fn request_of<'a>(matches: &ArgMatches<'a>) -> Option<Request<'a>> {
+fn asked_of<'a>(matches: &ArgMatches<'a>) -> Option<Asked<'a>> {
     let (name, inner) = matches.subcommand()?;
+    Some(Asked {
+        request: request_of(name, inner)?,
+        explain: inner.get_flag("explain"),
+    })
+}
+
+fn request_of<'a>(name: &str, inner: &ArgMatches<'a>) -> Option<Request<'a>> {
     match name {
         "eval" => Some(Request::Eval {
             options: options_of(inner)?,

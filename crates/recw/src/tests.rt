@@ -469,23 +469,27 @@ Commands:
   help   Print this message or the help of the given subcommand(s)
 
 Options:
-  -h, --help  Print help
+  -h, --help     Print help
+  -V, --version  Print version
 
 With no arguments, recw evaluates the specification on standard input.
 
 Exit status: 0 done, 1 the text was refused, 2 wrong arguments,
 3 out of memory or cells, 4 a read or a write failed.
+
+recw help refusals says what each refusal means; --explain shows where it stands.
 ";
 
 const SHARE_HELP: &str = "Print an ATerm and how many cells it takes with equal parts shared
 
-Usage: recw share [FILE]
+Usage: recw share [OPTIONS] [FILE]
 
 Arguments:
   [FILE]  File of the ATerm [default: standard input]
 
 Options:
-  -h, --help  Print help
+      --explain  Say in words why a text is refused, and where
+  -h, --help     Print help
 
 Example: echo 'f(a,a)' | recw share
 ";
@@ -503,6 +507,7 @@ Options:
       --cells <C>    Most cells that terms may take, 1 to 2^30 [default: 16777216]
       --reclaim <K>  New cells between two reclaims, 1 to 2^30 [default: 262144]
       --count        Print the steps that each term took behind its value
+      --explain      Say in words why a text is refused, and where
   -h, --help         Print help
 
 Example: recw eval --steps 500 add.rec add.trm
@@ -510,27 +515,29 @@ Example: recw eval --steps 500 add.rec add.trm
 
 const ATERM_HELP: &str = "Print an ATerm in its shortest form
 
-Usage: recw aterm [FILE]
+Usage: recw aterm [OPTIONS] [FILE]
 
 Arguments:
   [FILE]  File of the ATerm [default: standard input]
 
 Options:
-  -h, --help  Print help
+      --explain  Say in words why a text is refused, and where
+  -h, --help     Print help
 
 Example: echo 'f ( a , [ 1 , -007 ] )' | recw aterm
 ";
 
 const MATCH_HELP: &str = "Print what a pattern binds in an ATerm, or that it does not match
 
-Usage: recw match <PATTERN> [FILE]
+Usage: recw match [OPTIONS] <PATTERN> [FILE]
 
 Arguments:
   <PATTERN>  ATerm with placeholders
   [FILE]     File of the ATerm [default: standard input]
 
 Options:
-  -h, --help  Print help
+      --explain  Say in words why a text is refused, and where
+  -h, --help     Print help
 
 Placeholders: <term>, <int>, <str>, <appl>, <placeholder>, <list>.
 Give a pattern that begins with - a blank before it: ' -7'.
@@ -540,14 +547,15 @@ Example: echo 'f(1,2,3)' | recw match 'f(<int>,<list>)'
 
 const MAKE_HELP: &str = "Print a pattern with arguments in place of its placeholders
 
-Usage: recw make <PATTERN> <ARGS>
+Usage: recw make [OPTIONS] <PATTERN> <ARGS>
 
 Arguments:
   <PATTERN>  ATerm with placeholders
   <ARGS>     List with an ATerm for each placeholder, in order
 
 Options:
-  -h, --help  Print help
+      --explain  Say in words why a text is refused, and where
+  -h, --help     Print help
 
 Give a pattern that begins with - a blank before it: ' -7'.
 
@@ -575,5 +583,85 @@ fn shows_help(rt: HostRuntime) -> Result<(), Fail> {
         assert_eq!(rt; out.as_str(), help, "{words:?}");
         assert_eq!(rt; err.as_str(), "", "{words:?}");
     }
+    Ok(())
+}
+
+#[test]
+fn explains_refusals(rt: HostRuntime) -> Result<(), Fail> {
+    let files = Shelf {
+        spec: "REC-SPEC E\nSORTS N\r\nCONS a : -> N\n\tb: -> M\nEND-SPEC",
+        terms: "[a,\"\u{e9}\",f(1",
+    };
+    let rows: [(&[&str], u8, &str); 7] = [
+        (
+            &["eval", "--explain", "spec"],
+            1,
+            "recw: spec S4 at byte 41\n\
+             spec:4:8: S4: a sort that stands in CONS, OPNS or VARS is not declared\n    \
+             \tb: -> M\n    \t      ^\n",
+        ),
+        (
+            &["aterm", "terms", "--explain"],
+            1,
+            "recw: term A at byte 11\n\
+             terms:1:12: A: no annotated term has this here\n    \
+             [a,\"\\xc3\\xa9\",f(1\n                     ^\n",
+        ),
+        (
+            &["match", "--explain", "<foo>"],
+            1,
+            "PATTERN: P1: a placeholder is not <term>, <int>, <str>, <appl>, <placeholder> or <list>\n",
+        ),
+        (
+            &["make", "--explain", "<int>", "[a]"],
+            1,
+            "ARGS: M2: a given tree is not one that its placeholder matches\n",
+        ),
+        (
+            &["make", "--explain", "<int", "[a]"],
+            1,
+            "recw: pattern A at byte 4\n\
+             PATTERN:1:5: A: no annotated term has this here\n    <int\n        ^\n",
+        ),
+        (
+            &["share", "--explain", "none"],
+            4,
+            "recw: read failed\nnone: entity not found\n",
+        ),
+        (
+            &["aterm", "--explain"],
+            4,
+            "recw: read failed\n<stdin>: other error\n",
+        ),
+    ];
+    for (words, status, said) in rows {
+        let ran = run_over(&files, rt.alloc(), words, &mut Unread)?;
+        assert_eq!(rt; ran.status, status, "{words:?}");
+        assert_eq!(rt; ran.err.as_str(), said, "{words:?}");
+    }
+    let ran = run(&rt, &["eval", "--explain", "--cells", "3"], ADDITION)?;
+    assert_eq!(rt;
+        ran.err.as_str(),
+        "recw: out of cells\n--cells raises the limit, which is 3 cells\n"
+    );
+    Ok(())
+}
+
+#[test]
+fn shows_its_version_and_the_refusals(rt: HostRuntime) -> Result<(), Fail> {
+    let ran = run(&rt, &["--version"], "")?;
+    assert!(rt; ran.status == 0 && ran.err.is_empty());
+    assert!(rt; ran.out.as_str().starts_with("recw 0.1.0, proved with "));
+    let ran = run(&rt, &["help", "refusals"], "")?;
+    assert!(rt; ran.status == 0 && ran.err.is_empty());
+    assert_eq!(rt; ran.out.as_str().lines().count(), 24);
+    assert!(rt;
+        ran.out
+            .as_str()
+            .contains("\nS11 a variable occurs in a term of EVAL\n")
+    );
+    let ran = run(&rt, &["sort.rec"], "")?;
+    assert!(rt; ran.status == 2 && ran.out.is_empty());
+    assert!(rt; ran.err.as_str().ends_with(": recw eval sort.rec\n"));
     Ok(())
 }
