@@ -4,10 +4,11 @@ use Rattle.std.specs.Prelude.{Option, Bool, MatchOption, IsSome, not, nat_eq, tr
 use Rattle.std.specs.Option.{option_map}
 use Rattle.rx_arena.specs.declared.Slot.{Slot}
 use Rattle.rx_arena.specs.declared.CellBody.{CellBody}
+use Rattle.rx_arena.specs.Node as node
 use Rattle.rx_arena.specs.Node.{Node, has_mark}
 use Rattle.rx_arena.specs.Held.{IsHeld}
 use Rattle.rx_arena.specs.Links.{Links, IsChain, Chained, Listed}
-use Rattle.rx_arena.specs.Pool.{PoolState, is_marked_node, is_unmarked_node}
+use Rattle.rx_arena.specs.Pool.{PoolState, is_unmarked_node}
 use Rattle.rx_arena.specs.Arena.{taken_at, IsTaken, chain_at, InChain, IsFirst, marked_at, is_marked, is_unmarked, roots_at, root_count, IsArena, shown_of, state_of}
 use Rattle.rx_arena.proofs.Chains as chains
 use Rattle.rx_arena.proofs.Chains.{ended, popped, chain_after, split_at, some_chain, first_some}
@@ -20,9 +21,9 @@ first_of ls None result ss c e = subst (λ z. IsFirst z ss) (sym e) (ended ls No
 first_of ls (Some n) (Some s) ss c e = let p = popped ls (Some n) n ss c refl in (p.0, p.1 ∙ ap (λ (z : ℕ). z ∷ p.0) (sym e.0))
 first_of ls (Some n) None ss c e = absurd (cc (e.1))
 
-body-shown : (c : Option Node) (b : CellBody) → IfSome c (λ n. b ≡ n.body) → IfSome (option_map shown_of c) (λ t. b ≡ t.body)
-body-shown None b e = tt
-body-shown (Some n) b e = e
+body-shown : (turned : Bool) (c : Option Node) (b : CellBody) → IfSome c (λ n. b ≡ n.body) → IfSome (option_map (shown_of turned) c) (λ t. b ≡ t.body)
+body-shown turned None b e = tt
+body-shown turned (Some n) b e = e
 
 module _ (p : PoolState) (heads : List (Option ℕ)) (first : Option ℕ) (l : Chained (chain_links p.cells) heads) (m : Listed (gray_links p.cells) first) (law : IsArena (state_of p l.0 m.0)) where
   -- the node of a slot in a chain, with what comes after the slot
@@ -52,25 +53,21 @@ module _ (p : PoolState) (heads : List (Option ℕ)) (first : Option ℕ) (l : C
   chain_first_of c number result is e = first_of (chain_links p.cells) number result (get_or l.0 c []) (subst (λ z. IsChain (chain_links p.cells) z (get_or l.0 c [])) (sym is) (chains.chain_at (chain_links p.cells) heads l.0 c l.1)) e
 
   pub read_of : (s : ℕ) (b : CellBody) → IfSome (get_or p.cells s None) (λ n. b ≡ n.body) → IfSome (taken_at (state_of p l.0 m.0) s) (λ t. b ≡ t.body)
-  read_of s b e = subst (λ z. IfSome z (λ t. b ≡ t.body)) (sym (shown_at p heads first l m law s)) (body-shown (get_or p.cells s None) b e)
+  read_of s b e = subst (λ z. IfSome z (λ t. b ≡ t.body)) (sym (shown_at p heads first l m law s)) (body-shown p.turned (get_or p.cells s None) b e)
 
   pub roots_of : (s k : ℕ) → IsTaken (state_of p l.0 m.0) s → IfSome (get_or p.cells s None) (λ n. k ≡ n.roots) → k ≡ roots_at (state_of p l.0 m.0) s
-  roots_of s k h e = let n = taken_node p heads first l m law s h.0 h.1 in subst (λ z. IfSome z (λ n. k ≡ n.roots)) n.1 e ∙ sym (ap root_count (shown_at p heads first l m law s ∙ ap (option_map shown_of) n.1))
+  roots_of s k h e = let n = taken_node p heads first l m law s h.0 h.1 in subst (λ z. IfSome z (λ n. k ≡ n.roots)) n.1 e ∙ sym (ap root_count (shown_at p heads first l m law s ∙ ap (option_map (shown_of p.turned)) n.1))
 
-  pub mark_of : (s : ℕ) (y : Bool) → IsTaken (state_of p l.0 m.0) s → IfSome (get_or p.cells s None) (λ n. y ≡ has_mark n) → y ≡ marked_at (state_of p l.0 m.0) s
-  mark_of s y h e = let n = taken_node p heads first l m law s h.0 h.1 in subst (λ z. IfSome z (λ n. y ≡ has_mark n)) n.1 e ∙ sym (ap is_marked (shown_at p heads first l m law s ∙ ap (option_map shown_of) n.1))
+  pub mark_of : (s : ℕ) (y : Bool) → IsTaken (state_of p l.0 m.0) s → IfSome (get_or p.cells s None) (λ n. y ≡ has_mark p.turned n) → y ≡ marked_at (state_of p l.0 m.0) s
+  mark_of s y h e = let n = taken_node p heads first l m law s h.0 h.1 in subst (λ z. IfSome z (λ n. y ≡ has_mark p.turned n)) n.1 e ∙ sym (ap is_marked (shown_at p heads first l m law s ∙ ap (option_map (shown_of p.turned)) n.1))
 
-pub shown_unmarked : (o : Option Node) → is_unmarked (option_map shown_of o) ≡ is_unmarked_node o
-shown_unmarked None = refl
-shown_unmarked (Some n) = twice (nat_eq n.mark 0) where
+pub shown_unmarked : (turned : Bool) (o : Option Node) → is_unmarked (option_map (shown_of turned) o) ≡ is_unmarked_node turned o
+shown_unmarked turned None = refl
+shown_unmarked turned (Some n) = twice (nat_eq n.mark (node.mark_of turned false)) where
   twice : (b : Bool) → not (not b) ≡ b
   twice true = refl
   twice false = refl
 
-pub shown_none : (o : Option Node) → o ≡ None → option_map shown_of o ≡ None
-shown_none None e = refl
-shown_none (Some n) e = cc
-
-pub shown_marked : (o : Option Node) → is_marked (option_map shown_of o) ≡ is_marked_node o
-shown_marked None = refl
-shown_marked (Some n) = refl
+pub shown_none : (turned : Bool) (o : Option Node) → o ≡ None → option_map (shown_of turned) o ≡ None
+shown_none turned None e = refl
+shown_none turned (Some n) e = cc

@@ -1,11 +1,11 @@
 -- What each call of an arena makes of the pool, the heads and the lists.
 use Rattle.std.proofs.Common.{◌≡◌, ◌≢◌, ℕ, zero, suc, ◌+◌, ◌-◌, ◌<◌, ◌≤◌, inl, inr, List, [], ◌∷◌, ◌++◌, length, get_or, set, map, Some, None, IfSome, refl, sym, ap, subst, ◌∙◌, arith}
-use Rattle.std.specs.Prelude.{Option, true, min, take, replicate, ◌^◌, Result, Ok, Err, IfOk, OnErr}
+use Rattle.std.specs.Prelude.{Option, Bool, true, false, not, nat_eq, min, take, replicate, ◌^◌, Result, Ok, Err, IfOk, OnErr}
 use Rattle.rx_arena.specs.declared.fault.ArenaFault.{ArenaFault}
 use Rattle.std.specs.Option.{option_map}
 use Rattle.std.proofs.lemmas.List.{length-append, length-replicate}
 use Rattle.rx_arena.specs.declared.CellBody.{CellBody}
-use Rattle.rx_arena.specs.Node.{Node, lone, with_chain, with_gray, with_mark}
+use Rattle.rx_arena.specs.Node.{Node, mark_of, has_mark, lone, with_chain, with_gray, with_mark}
 use Rattle.rx_arena.specs.Held.{IsHeld}
 use Rattle.rx_arena.specs.Put.{times, put, one_some, filled, altered}
 use Rattle.rx_arena.specs.Links.{Links, links, IsChain, Listed, AreChains, Chained}
@@ -15,7 +15,7 @@ use Rattle.rx_arena.proofs.Puts.{one_or_two, get_or-put_same, get_or-put_other, 
 use Rattle.rx_arena.proofs.Chains as chains
 use Rattle.rx_arena.proofs.Chains.{one_or_more, chain_agrees, chain_stays, chains_agree, chains_stay, chains-set, pushed, popped, ended, first_some, listed_is, chained_is, chains-length}
 use Rattle.rx_arena.proofs.Pools.{links_some}
-use Rattle.rx_arena.proofs.ArenaLaws.{empty_law, prepend_law, truncate_law, cleared_law, loose_free, push_law, pop_law, altered_law, unmarked_away, gray_law, gray_pop_law, take_law, give_back_law, reserve_law, taken_marked}
+use Rattle.rx_arena.proofs.ArenaLaws.{empty_law, prepend_law, truncate_law, cleared_law, loose_free, push_law, pop_law, altered_law, unmarked_away, gray_law, gray_pop_law, take_law, give_back_law, reserve_law, turn_law, taken_marked}
 
 abbrev pub chain_links : List (Option Node) → Links
 chain_links cells = links (λ n. n.chain) cells
@@ -62,9 +62,20 @@ links-kept k xs s n m e same t =
       | inr h ↦ links-put_other k xs s t (Some m) h.1
     ]
 
-shown-node : (c : Option Node) (t : Taken) → option_map shown_of c ≡ Some t → (n : Node) × (c ≡ Some n) × (shown_of n ≡ t)
-shown-node None t e = cc
-shown-node (Some n) t e = (n, refl, cc)
+shown-node : (turned : Bool) (c : Option Node) (t : Taken) → option_map (shown_of turned) c ≡ Some t → (n : Node) × (c ≡ Some n) × (shown_of turned n ≡ t)
+shown-node turned None t e = cc
+shown-node turned (Some n) t e = (n, refl, cc)
+
+-- what is shown of a new node, and of one with another mark
+shown-lone : (turned : Bool) (b : CellBody) → shown_of turned (lone (mark_of turned false) b) ≡ new_cell b
+shown-lone false b = refl
+shown-lone true b = refl
+
+pub shown-marked : (turned marked : Bool) (n : Node) → shown_of turned (with_mark (mark_of turned marked) n) ≡ with_marking marked (shown_of turned n)
+shown-marked false false n = refl
+shown-marked false true n = refl
+shown-marked true false n = refl
+shown-marked true true n = refl
 
 altered-at : {X : Type 0} (xs : List (Option X)) (s : ℕ) (f : X → X) (x : X) → get_or xs s None ≡ Some x → altered s f xs ≡ put xs s (Some (f x))
 altered-at xs s f x e = ap (λ z. put xs s (option_map f z)) e
@@ -79,19 +90,43 @@ module _ (cells : List (Option Node)) (k : Node → Option ℕ) (ss : List ℕ) 
   led_apart_by None h s away = tt
   led_apart_by (Some t) h s away = λ e. (let here : 0 < times s ss = subst (λ z. 0 < times z ss) e h.0 in absurd (omega (arith, here, away)))
 
+-- what is shown of marked nodes where the marks are turned
+unmarked_by : (turned : Bool) (n : Node) → n.mark ≤ 1 → has_mark turned n ≡ true → shown_of (not turned) n ≡ with_marking false (shown_of turned n)
+unmarked_by turned n le e = ap (λ y. record { body = n.body; roots = n.roots; marked = y }) (off turned n.mark le e) where
+  off : (turned : Bool) (k : ℕ) → k ≤ 1 → not (nat_eq k (mark_of turned false)) ≡ true → not (nat_eq k (mark_of (not turned) false)) ≡ false
+  off false zero le e = absurd (cc)
+  off false (suc zero) le e = refl
+  off true zero le e = refl
+  off true (suc zero) le e = absurd (cc)
+  off false (suc (suc k)) le e = absurd (omega (arith, le))
+  off true (suc (suc k)) le e = absurd (omega (arith, le))
+
+turned_cells : (turned : Bool) (xs : List (Option Node)) → ((s : ℕ) (n : Node) → get_or xs s None ≡ Some n → shown_of (not turned) n ≡ with_marking false (shown_of turned n))
+    → map (option_map (shown_of (not turned))) xs ≡ map (option_map (with_marking false)) (map (option_map (shown_of turned)) xs)
+turned_cells turned [] h = refl
+turned_cells turned (None ∷ xs) h = ap (λ zs. None ∷ zs) (turned_cells turned xs (λ s. h (suc s)))
+turned_cells turned (Some n ∷ xs) h = λ i. Some (h 0 n refl i) ∷ turned_cells turned xs (λ s. h (suc s)) i
+
+-- what is shown where one more slot is taken
+pub shown_taken : (p q : PoolState) (s : ℕ) (b : CellBody) → q.cells ≡ put p.cells s (Some (lone (mark_of p.turned false) b)) → q.turned ≡ p.turned
+    → map (option_map (shown_of q.turned)) q.cells ≡ put (map (option_map (shown_of p.turned)) p.cells) s (Some (new_cell b))
+shown_taken p q s b e et =
+    (λ i. map (option_map (shown_of (et i))) (e i)) ∙ map-put (shown_of p.turned) p.cells s (Some (lone (mark_of p.turned false) b))
+    ∙ ap (λ z. put (map (option_map (shown_of p.turned)) p.cells) s (Some z)) (shown-lone p.turned b)
+
 module _ (p : PoolState) (heads : List (Option ℕ)) (first : Option ℕ) (l : Chained (chain_links p.cells) heads) (m : Listed (gray_links p.cells) first) (law : IsArena (state_of p l.0 m.0)) where
   abbrev a : ArenaState
   a = state_of p l.0 m.0
 
   -- the node of a taken slot
-  pub taken_node : (s : ℕ) (t : Taken) → taken_at a s ≡ Some t → (n : Node) × (get_or p.cells s None ≡ Some n) × (shown_of n ≡ t)
-  taken_node s t e = shown-node (get_or p.cells s None) t (sym (get_or-map_option shown_of p.cells s) ∙ e)
+  pub taken_node : (s : ℕ) (t : Taken) → taken_at a s ≡ Some t → (n : Node) × (get_or p.cells s None ≡ Some n) × (shown_of p.turned n ≡ t)
+  taken_node s t e = shown-node p.turned (get_or p.cells s None) t (sym (get_or-map_option (shown_of p.turned) p.cells s) ∙ e)
 
   pub held_taken : (s : ℕ) → IsTaken a s → IsHeld p.cells s
   held_taken s h = let n = taken_node s h.0 h.1 in (n.0, n.1)
 
-  pub shown_at : (s : ℕ) → taken_at a s ≡ option_map shown_of (get_or p.cells s None)
-  shown_at s = get_or-map_option shown_of p.cells s
+  pub shown_at : (s : ℕ) → taken_at a s ≡ option_map (shown_of p.turned) (get_or p.cells s None)
+  shown_at s = get_or-map_option (shown_of p.turned) p.cells s
 
   put_count : (s : ℕ) (n k : Node) → get_or p.cells s None ≡ Some n → filled (put p.cells s (Some k)) ≡ filled p.cells
   put_count s n k e = let was : one_some (get_or p.cells s None) ≡ 1 = ap one_some e in omega (arith, filled-put p.cells s (Some k), was)
@@ -99,18 +134,18 @@ module _ (p : PoolState) (heads : List (Option ℕ)) (first : Option ℕ) (l : C
   same_spare : (s : ℕ) (n k : Node) → get_or p.cells s None ≡ Some n → spare_of (record p { cells = put p.cells s (Some k) }) ≡ spare_of p
   same_spare s n k e = ap (λ c. min p.cap p.room - c) (put_count s n k e)
 
-  shown-put : (s : ℕ) (k : Node) → map (option_map shown_of) (put p.cells s (Some k)) ≡ put a.cells s (Some (shown_of k))
-  shown-put s k = map-put shown_of p.cells s (Some k)
+  shown-put : (s : ℕ) (k : Node) → map (option_map (shown_of p.turned)) (put p.cells s (Some k)) ≡ put a.cells s (Some (shown_of p.turned k))
+  shown-put s k = map-put (shown_of p.turned) p.cells s (Some k)
 
   -- a change that shows no link
   pub altered_step : (q : PoolState) (s : ℕ) (f : Node → Node) (g : Taken → Taken) → IsTaken a s → q ≡ record p { cells = altered s f p.cells }
-      → ((n : Node) → (shown_of (f n) ≡ g (shown_of n)) × ((f n).chain ≡ n.chain) × ((f n).gray ≡ n.gray))
+      → ((n : Node) → (shown_of p.turned (f n) ≡ g (shown_of p.turned n)) × ((f n).chain ≡ n.chain) × ((f n).gray ≡ n.gray))
       → IsArena (record a { cells = altered s g a.cells }) → ArenaStep q heads first (record a { cells = altered s g a.cells })
   altered_step q s f g taken e like law' =
       let n = taken_node s taken.0 taken.1 in
       let is : altered s f p.cells ≡ put p.cells s (Some (f n.0)) = altered-at p.cells s f n.0 n.1 in
-      let shows : put a.cells s (Some (shown_of (f n.0))) ≡ altered s g a.cells =
-      ap (λ z. put a.cells s (Some z)) (like n.0).0 ∙ sym (altered-at a.cells s g (shown_of n.0) (shown_at s ∙ ap (option_map shown_of) n.1)) in
+      let shows : put a.cells s (Some (shown_of p.turned (f n.0))) ≡ altered s g a.cells =
+      ap (λ z. put a.cells s (Some z)) (like n.0).0 ∙ sym (altered-at a.cells s g (shown_of p.turned n.0) (shown_at s ∙ ap (option_map (shown_of p.turned)) n.1)) in
       subst (λ z. ArenaStep z heads first (record a { cells = altered s g a.cells })) (sym (e ∙ ap (λ z. record p { cells = z }) is)) (record {
         chained = chains_agree (chain_links p.cells) (chain_links (put p.cells s (Some (f n.0)))) heads l.0 (λ t _. links-kept (λ n. n.chain) p.cells s n.0 (f n.0) n.1 (like n.0).1 t) l.1;
         grayed = chain_agrees (gray_links p.cells) (gray_links (put p.cells s (Some (f n.0)))) first m.0 (λ t _. links-kept (λ n. n.gray) p.cells s n.0 (f n.0) n.1 (like n.0).2 t) m.1;
@@ -119,8 +154,8 @@ module _ (p : PoolState) (heads : List (Option ℕ)) (first : Option ℕ) (l : C
       })
 
   -- a change of links alone
-  unshown : (s : ℕ) (n k : Node) → get_or p.cells s None ≡ Some n → shown_of k ≡ shown_of n → put a.cells s (Some (shown_of k)) ≡ a.cells
-  unshown s n k e same = ap (λ z. put a.cells s (Some z)) same ∙ put-get_or a.cells s (shown_of n) (shown_at s ∙ ap (option_map shown_of) e)
+  unshown : (s : ℕ) (n k : Node) → get_or p.cells s None ≡ Some n → shown_of p.turned k ≡ shown_of p.turned n → put a.cells s (Some (shown_of p.turned k)) ≡ a.cells
+  unshown s n k e same = ap (λ z. put a.cells s (Some z)) same ∙ put-get_or a.cells s (shown_of p.turned n) (shown_at s ∙ ap (option_map (shown_of p.turned)) e)
 
   pub heads_length : length heads ≡ length a.chains
   heads_length = chains-length (chain_links p.cells) heads l.0 l.1
@@ -131,7 +166,7 @@ module _ (p : PoolState) (heads : List (Option ℕ)) (first : Option ℕ) (l : C
   -- a slot that is held is below what stands for none
   pub held_small : (next : Option ℕ) → IfSome next (IsHeld p.cells) → IfSome next (λ t. t < 4294967295)
   held_small None h = tt
-  held_small (Some t) h = let below = law.below t (shown_of h.0, shown_at t ∙ ap (option_map shown_of) h.1) in let cap = law.small_cap in omega (arith, below, cap)
+  held_small (Some t) h = let below = law.below t (shown_of p.turned h.0, shown_at t ∙ ap (option_map (shown_of p.turned)) h.1) in let cap = law.small_cap in omega (arith, below, cap)
 
   pub taken_small : (s : ℕ) → IsTaken a s → s < 4294967295
   taken_small s h = let below = law.below s h in let cap = law.small_cap in omega (arith, below, cap)
@@ -244,16 +279,16 @@ module _ (p : PoolState) (heads : List (Option ℕ)) (first : Option ℕ) (l : C
   gray_free : (s : ℕ) → taken_at a s ≡ None → times s a.gray ≡ 0
   gray_free s none = unmarked_away a law s (ap is_marked none)
 
-  pub take_step : (q : PoolState) (s : ℕ) (b : CellBody) → get_or p.cells s None ≡ None → s < p.cap → q.cells ≡ put p.cells s (Some (lone b)) → q.cap ≡ p.cap → spare_of q + filled q.cells ≤ q.cap
+  pub take_step : (q : PoolState) (s : ℕ) (b : CellBody) → get_or p.cells s None ≡ None → s < p.cap → q.cells ≡ put p.cells s (Some (lone (mark_of p.turned false) b)) → q.cap ≡ p.cap → q.turned ≡ p.turned → spare_of q + filled q.cells ≤ q.cap
       → ArenaStep q heads first (record a { cells = put a.cells s (Some (new_cell b)); spare = spare_of q })
-  take_step q s b none lt e ec fit =
-      let free : taken_at a s ≡ None = shown_at s ∙ ap (option_map shown_of) none in
+  take_step q s b none lt e ec et fit =
+      let free : taken_at a s ≡ None = shown_at s ∙ ap (option_map (shown_of p.turned)) none in
       let loose = loose_free a law s free in
-      let shows : map (option_map shown_of) q.cells ≡ put a.cells s (Some (new_cell b)) = ap (map (option_map shown_of)) e ∙ map-put shown_of p.cells s (Some (lone b)) in
-      let count : filled (put a.cells s (Some (new_cell b))) ≡ filled q.cells = ap filled (sym shows) ∙ filled-map shown_of q.cells in
+      let shows : map (option_map (shown_of q.turned)) q.cells ≡ put a.cells s (Some (new_cell b)) = shown_taken p q s b e et in
+      let count : filled (put a.cells s (Some (new_cell b))) ≡ filled q.cells = ap filled (sym shows) ∙ filled-map (shown_of q.turned) q.cells in
       record {
-        chained = subst (λ z. AreChains (chain_links z) heads l.0) (sym e) (chains_stay (chain_links p.cells) (chain_links (put p.cells s (Some (lone b)))) s heads l.0 loose (λ t ne. free_links (λ n. n.chain) s (Some (lone b)) t ne) l.1);
-        grayed = subst (λ z. IsChain (gray_links z) first m.0) (sym e) (chain_stays (gray_links p.cells) (gray_links (put p.cells s (Some (lone b)))) s first m.0 (gray_free s free) (λ t ne. free_links (λ n. n.gray) s (Some (lone b)) t ne) m.1);
+        chained = subst (λ z. AreChains (chain_links z) heads l.0) (sym e) (chains_stay (chain_links p.cells) (chain_links (put p.cells s (Some (lone (mark_of p.turned false) b)))) s heads l.0 loose (λ t ne. free_links (λ n. n.chain) s (Some (lone (mark_of p.turned false) b)) t ne) l.1);
+        grayed = subst (λ z. IsChain (gray_links z) first m.0) (sym e) (chain_stays (gray_links p.cells) (gray_links (put p.cells s (Some (lone (mark_of p.turned false) b)))) s first m.0 (gray_free s free) (λ t ne. free_links (λ n. n.gray) s (Some (lone (mark_of p.turned false) b)) t ne) m.1);
         state_is = λ i. record { cells = shows i; chains = l.0; gray = m.0; spare = spare_of q; cap = ec i };
         law = take_law a law s (new_cell b) (spare_of q) free lt (omega (arith, fit, count, ec));
       }
@@ -269,7 +304,7 @@ module _ (p : PoolState) (heads : List (Option ℕ)) (first : Option ℕ) (l : C
       (λ spare. record {
         chained = chains_stay (chain_links p.cells) (chain_links (put p.cells s None)) s heads l.0 loose (λ t ne. free_links (λ n. n.chain) s None t ne) l.1;
         grayed = chain_stays (gray_links p.cells) (gray_links (put p.cells s None)) s first m.0 away (λ t ne. free_links (λ n. n.gray) s None t ne) m.1;
-        state_is = λ i. record { cells = map-put shown_of p.cells s None i; chains = l.0; gray = m.0; spare = spare i; cap = p.cap };
+        state_is = λ i. record { cells = map-put (shown_of p.turned) p.cells s None i; chains = l.0; gray = m.0; spare = spare i; cap = p.cap };
         law = give_back_law a law s taken loose away;
       }) es
 
@@ -277,10 +312,25 @@ module _ (p : PoolState) (heads : List (Option ℕ)) (first : Option ℕ) (l : C
   reserve_step q e fit =
       let room = q.room in
       subst (λ z. spare_of z + filled z.cells ≤ z.cap → ArenaStep z heads first (record a { spare = spare_of z })) (sym e)
-      (λ f. record { chained = l.1; grayed = m.1; state_is = refl; law = reserve_law a law (spare_of (record p { room = room })) (let count = filled-map shown_of p.cells in omega (arith, f, count)) }) fit
+      (λ f. record { chained = l.1; grayed = m.1; state_is = refl; law = reserve_law a law (spare_of (record p { room = room })) (let count = filled-map (shown_of p.turned) p.cells in omega (arith, f, count)) }) fit
+
+  turned_shown : ((s : ℕ) (n : Node) → get_or p.cells s None ≡ Some n → n.mark ≤ 1) → ((s : ℕ) → IsTaken a s → IsMarked a s) → (s : ℕ) (n : Node) → get_or p.cells s None ≡ Some n → shown_of (not p.turned) n ≡ with_marking false (shown_of p.turned n)
+  turned_shown two all s n h =
+      let here : taken_at a s ≡ Some (shown_of p.turned n) = shown_at s ∙ ap (option_map (shown_of p.turned)) h in
+      unmarked_by p.turned n (two s n h) (sym (ap is_marked here) ∙ all s (shown_of p.turned n, here))
+
+  -- the marks are turned
+  pub turn_step : (q : PoolState) → q ≡ record p { turned = not p.turned } → ((s : ℕ) (n : Node) → get_or p.cells s None ≡ Some n → n.mark ≤ 1) → ((s : ℕ) → IsTaken a s → IsMarked a s) → a.gray ≡ []
+      → ArenaStep q heads first (record a { cells = map (option_map (with_marking false)) a.cells })
+  turn_step q e two all none = subst (λ z. ArenaStep z heads first (record a { cells = map (option_map (with_marking false)) a.cells })) (sym e) (record {
+    chained = l.1;
+    grayed = m.1;
+    state_is = λ i. record a { cells = turned_cells p.turned p.cells (turned_shown two all) i };
+    law = turn_law a law none;
+  })
 
 -- a slot is marked, and then goes in front of the gray list
-module _ (p : PoolState) (heads : List (Option ℕ)) (first : Option ℕ) (l : Chained (chain_links p.cells) heads) (m : Listed (gray_links p.cells) first) (law : IsArena (state_of p l.0 m.0)) (q r : PoolState) (s : ℕ) (taken : IsTaken (state_of p l.0 m.0) s) (away : times s m.0 ≡ 0) (e : q ≡ record p { cells = altered s (with_mark 1) p.cells }) where
+module _ (p : PoolState) (heads : List (Option ℕ)) (first : Option ℕ) (l : Chained (chain_links p.cells) heads) (m : Listed (gray_links p.cells) first) (law : IsArena (state_of p l.0 m.0)) (q r : PoolState) (s : ℕ) (taken : IsTaken (state_of p l.0 m.0) s) (away : times s m.0 ≡ 0) (e : q ≡ record p { cells = altered s (with_mark (mark_of p.turned true)) p.cells }) where
   abbrev b : ArenaState
   b = state_of p l.0 m.0
 
@@ -288,7 +338,7 @@ module _ (p : PoolState) (heads : List (Option ℕ)) (first : Option ℕ) (l : C
   marked = record b { cells = altered s (with_marking true) b.cells }
 
   abbrev mark_step : ArenaStep q heads first marked
-  mark_step = altered_step p heads first l m law q s (with_mark 1) (with_marking true) taken e (λ n. (refl, refl, refl)) (altered_law b law s (with_marking true) taken.0 taken.1 (λ g. refl))
+  mark_step = altered_step p heads first l m law q s (with_mark (mark_of p.turned true)) (with_marking true) taken e (λ n. (shown-marked p.turned true n, refl, refl)) (altered_law b law s (with_marking true) taken.0 taken.1 (λ g. refl))
 
   mark_law : IsArena (state_of q marked.chains marked.gray)
   mark_law = subst IsArena (sym mark_step.state_is) mark_step.law
@@ -312,22 +362,22 @@ module _ (p : PoolState) (heads : List (Option ℕ)) (first : Option ℕ) (l : C
 
 -- a slot is taken, or there is none
 pub take_result_step : (p : PoolState) (heads : List (Option ℕ)) (first : Option ℕ) (l : Chained (chain_links p.cells) heads) (m : Listed (gray_links p.cells) first) (law : IsArena (state_of p l.0 m.0)) (q : PoolState) (b : CellBody) (r : Result ℕ ArenaFault)
-    → IfOk r (λ s. get_or p.cells s None ≡ None) → IfOk r (λ s. s < p.cap) → IfOk r (λ s. q.cells ≡ put p.cells s (Some (lone b))) → q.cap ≡ p.cap → spare_of q + filled q.cells ≤ q.cap → OnErr r (q ≡ p)
-    → ArenaStep q heads first (record (state_of p l.0 m.0) { cells = map (option_map shown_of) q.cells; spare = spare_of q })
-take_result_step p heads first l m law q b (Ok s) none lt e ec fit err =
-    let shows : map (option_map shown_of) q.cells ≡ put (map (option_map shown_of) p.cells) s (Some (new_cell b)) = ap (map (option_map shown_of)) e ∙ map-put shown_of p.cells s (Some (lone b)) in
-    subst (λ z. ArenaStep q heads first (record (state_of p l.0 m.0) { cells = z; spare = spare_of q })) (sym shows) (take_step p heads first l m law q s b none lt e ec fit)
-take_result_step p heads first l m law q b (Err f) none lt e ec fit err =
-    subst (λ z. ArenaStep z heads first (record (state_of p l.0 m.0) { cells = map (option_map shown_of) z.cells; spare = spare_of z })) (sym err) (same_step p heads first l m law p refl)
+    → IfOk r (λ s. get_or p.cells s None ≡ None) → IfOk r (λ s. s < p.cap) → IfOk r (λ s. q.cells ≡ put p.cells s (Some (lone (mark_of p.turned false) b))) → q.cap ≡ p.cap → q.turned ≡ p.turned → spare_of q + filled q.cells ≤ q.cap → OnErr r (q ≡ p)
+    → ArenaStep q heads first (record (state_of p l.0 m.0) { cells = map (option_map (shown_of q.turned)) q.cells; spare = spare_of q })
+take_result_step p heads first l m law q b (Ok s) none lt e ec et fit err =
+    let shows = shown_taken p q s b e et in
+    subst (λ z. ArenaStep q heads first (record (state_of p l.0 m.0) { cells = z; spare = spare_of q })) (sym shows) (take_step p heads first l m law q s b none lt e ec et fit)
+take_result_step p heads first l m law q b (Err f) none lt e ec et fit err =
+    subst (λ z. ArenaStep z heads first (record (state_of p l.0 m.0) { cells = map (option_map (shown_of z.turned)) z.cells; spare = spare_of z })) (sym err) (same_step p heads first l m law p refl)
 
 empty_chains : (ls : Links) (n : ℕ) → AreChains ls (replicate n None) (replicate n [])
 empty_chains ls zero = tt
 empty_chains ls (suc n) = (tt, empty_chains ls n)
 
 -- an arena of empty chains
-pub new_step : (p : PoolState) (heads : List (Option ℕ)) (cap chains : ℕ) → cap ≤ 2 ^ 30 → chains ≤ 2 ^ 30 → p ≡ record { cells = []; free = []; fresh = 0; room = 0; cap = cap } → heads ≡ replicate chains None → ArenaStep p heads None (empty_arena cap chains)
+pub new_step : (p : PoolState) (heads : List (Option ℕ)) (cap chains : ℕ) → cap ≤ 2 ^ 30 → chains ≤ 2 ^ 30 → p ≡ record { cells = []; free = []; fresh = 0; room = 0; cap = cap; turned = false } → heads ≡ replicate chains None → ArenaStep p heads None (empty_arena cap chains)
 new_step p heads cap chains lc lk e eh =
-    subst (λ z. ArenaStep z heads None (empty_arena cap chains)) (sym e) (subst (λ h. ArenaStep (record { cells = []; free = []; fresh = 0; room = 0; cap = cap }) h None (empty_arena cap chains)) (sym eh) (record {
+    subst (λ z. ArenaStep z heads None (empty_arena cap chains)) (sym e) (subst (λ h. ArenaStep (record { cells = []; free = []; fresh = 0; room = 0; cap = cap; turned = false }) h None (empty_arena cap chains)) (sym eh) (record {
       chained = empty_chains [] chains;
       grayed = tt;
       state_is = (let none : min cap 0 - 0 ≡ 0 = omega arith in λ i. record { cells = []; chains = replicate chains []; gray = []; spare = none i; cap = cap });

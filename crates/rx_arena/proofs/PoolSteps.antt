@@ -1,28 +1,34 @@
 -- What each call of a pool makes of the store, the free list and the cells.
-use Rattle.std.proofs.Common.{◌≡◌, ◌⊎◌, ℕ, zero, suc, ◌+◌, ◌-◌, ◌<◌, ◌≤◌, List, [], ◌∷◌, ◌++◌, length, get_or, set, Some, None, IfSome, inl, inr, refl, sym, ap, subst, ◌∙◌, arith}
+use Rattle.std.proofs.Common.{◌≡◌, ◌⊎◌, ℕ, ◌+◌, ◌-◌, ◌<◌, ◌≤◌, List, [], ◌∷◌, ◌++◌, length, get_or, set, Some, None, IfSome, inl, inr, refl, sym, ap, subst, ◌∙◌, arith}
 use Rattle.std.specs.Prelude.{Option, Bool, true, false, not, nat_eq, nat_lt, replicate, take, ◌^◌, min}
 use Rattle.std.proofs.lemmas.Bool.{eqb-true}
 use Rattle.std.proofs.lemmas.Bool.Decides.{nat_tests}
 use Rattle.std.specs.Option.{option_map}
 use Rattle.std.proofs.lemmas.List.{get_or-set_same, set-set, set-get_or, length-set, get_or-take}
-use Rattle.rx_arena.specs.Node.{Node, has_mark, with_free, with_mark, changed}
+use Rattle.rx_arena.specs.Node.{Node, mark_of, has_mark, with_free, with_mark, changed}
 use Rattle.rx_arena.specs.Held.{IsHeld}
 use Rattle.rx_arena.specs.Put.{times, put, filled, one_some, altered}
 use Rattle.rx_arena.specs.Links.{Links, links, IsChain, Listed}
-use Rattle.rx_arena.specs.Pool.{PoolState, IsPool, cells_of, is_given_back, is_marked_node, is_unmarked_node}
+use Rattle.rx_arena.specs.Pool.{PoolState, IsPool, cells_of, is_given_back, is_unmarked_node}
 use Rattle.rx_arena.proofs.Puts.{within_some, filled-put, get_or-without_other, get_or-without_same}
 use Rattle.rx_arena.proofs.Chains.{one_or_more, chain_stays, popped, pushed, listed_is, first_some}
 use Rattle.rx_arena.proofs.Pools.{links-set_other, links-set_same, links_some, taken_at, cells-set, pool-set, reused-away, reused-below, reused-was_free, reused-cells, reused-pool, extended-chain, extended-was_free, extended-cells, extended-pool, given_back-cells, given_back-some_taken, given_back-pool, grown-chain, grown-cells, grown-pool}
 
--- one and zero tell each other
-one_of_two : (k : ℕ) → k ≤ 1 → nat_eq k 1 ≡ not (nat_eq k 0)
-one_of_two zero le = refl
-one_of_two (suc zero) le = refl
-one_of_two (suc (suc k)) le = absurd (omega (arith, le))
+-- the two marks of taken cells
+pub mark_of_small : (turned marked : Bool) → mark_of turned marked ≤ 1
+mark_of_small false false = omega arith
+mark_of_small false true = omega arith
+mark_of_small true false = omega arith
+mark_of_small true true = omega arith
 
-pub mark_shown : (o : Option Node) (k : ℕ) → IfSome o (λ n. k ≡ n.mark) → IfSome o (λ n. not (nat_eq k 0) ≡ has_mark n)
-mark_shown None k h = tt
-mark_shown (Some n) k h = ap (λ (z : ℕ). not (nat_eq z 0)) h
+-- neither is that of a cell that was given back
+two_apart : (turned : Bool) → nat_eq 2 (mark_of turned false) ≡ false
+two_apart false = refl
+two_apart true = refl
+
+pub mark_shown : (turned : Bool) (o : Option Node) (k w : ℕ) → w ≡ mark_of turned false → IfSome o (λ n. k ≡ n.mark) → IfSome o (λ n. not (nat_eq k w) ≡ has_mark turned n)
+mark_shown turned None k w e h = tt
+mark_shown turned (Some n) k w e h = λ i. not (nat_eq (h i) (e i))
 
 -- the free links of the nodes
 abbrev pub frees : List (Option Node) → Links
@@ -68,9 +74,9 @@ pub itself_at : (base : List (Option Node)) (s : ℕ) (n : Node) → get_or base
 itself_at base s n e = sym (set-get_or base s None) ∙ ap (λ z. set base s z) e
 
 -- two states that differ in no part
-pub same_pool : (cells cells' : List (Option Node)) (free free' : List ℕ) (fresh room cap : ℕ) → cells ≡ cells' → free ≡ free'
-    → ◌≡◌ {A = PoolState} (record { cells = cells; free = free; fresh = fresh; room = room; cap = cap }) (record { cells = cells'; free = free'; fresh = fresh; room = room; cap = cap })
-same_pool cells cells' free free' fresh room cap e f = λ i. record { cells = e i; free = f i; fresh = fresh; room = room; cap = cap }
+pub same_pool : (cells cells' : List (Option Node)) (free free' : List ℕ) (fresh room cap : ℕ) (turned : Bool) → cells ≡ cells' → free ≡ free'
+    → ◌≡◌ {A = PoolState} (record { cells = cells; free = free; fresh = fresh; room = room; cap = cap; turned = turned }) (record { cells = cells'; free = free'; fresh = fresh; room = room; cap = cap; turned = turned })
+same_pool cells cells' free free' fresh room cap turned e f = λ i. record { cells = e i; free = f i; fresh = fresh; room = room; cap = cap; turned = turned }
 
 -- a step over an equal store
 step_at : (slots new : List (Option Node)) (first : Option ℕ) (free : List ℕ) (fresh taken room cap : ℕ) (cells : List (Option Node)) → new ≡ slots → Step slots first free fresh taken room cap cells → Step new first free fresh taken room cap cells
@@ -215,18 +221,16 @@ module _ (slots : List (Option Node)) (first : Option ℕ) (l : Listed (frees sl
     mark : k ≡ node.0.mark
     mark = subst (λ z. IfSome z (λ n. k ≡ n.mark)) node.1 read
 
-  -- a slot is taken and not marked, or taken and marked, as its mark says
-  pub unmarked_held : (s k : ℕ) → s < fresh → IfSome (get_or slots s None) (λ n. k ≡ n.mark) → nat_eq k 0 ≡ is_unmarked_node (get_or cells s None)
-  unmarked_held s k lt read = elim (known_at s k lt read) [
-    | inl h ↦ ap (λ (z : ℕ). nat_eq z 0) h.1.2 ∙ sym (ap is_unmarked_node h.1.1)
-    | inr h ↦ ap (λ (z : ℕ). nat_eq z 0) h.0 ∙ sym (ap is_unmarked_node h.1)
+  -- a slot is taken and not marked, as its mark says
+  pub unmarked_held : (turned : Bool) (s k : ℕ) → s < fresh → IfSome (get_or slots s None) (λ n. k ≡ n.mark) → nat_eq k (mark_of turned false) ≡ is_unmarked_node turned (get_or cells s None)
+  unmarked_held turned s k lt read = elim (known_at s k lt read) [
+    | inl h ↦ ap (λ (z : ℕ). nat_eq z (mark_of turned false)) h.1.2 ∙ sym (ap (is_unmarked_node turned) h.1.1)
+    | inr h ↦ ap (λ (z : ℕ). nat_eq z (mark_of turned false)) h.0 ∙ two_apart turned ∙ sym (ap (is_unmarked_node turned) h.1)
   ]
 
-  pub marked_held : (s k : ℕ) → s < fresh → IfSome (get_or slots s None) (λ n. k ≡ n.mark) → nat_eq k 1 ≡ is_marked_node (get_or cells s None)
-  marked_held s k lt read = elim (known_at s k lt read) [
-    | inl h ↦ one_of_two k h.0 ∙ ap (λ (z : ℕ). not (nat_eq z 0)) h.1.2 ∙ sym (ap is_marked_node h.1.1)
-    | inr h ↦ ap (λ (z : ℕ). nat_eq z 1) h.0 ∙ sym (ap is_marked_node h.1)
-  ]
+  -- each taken slot has one of the two marks
+  pub taken_marks : (s : ℕ) (n : Node) → get_or cells s None ≡ Some n → n.mark ≤ 1
+  taken_marks = p.taken_known
 
   pub given_back_some : (s : ℕ) → IsHeld cells s → 0 < taken
   given_back_some s h = given_back-some_taken slots l.0 fresh taken room cap p s h.0 h.1 h.0

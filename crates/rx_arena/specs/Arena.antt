@@ -121,10 +121,10 @@ pub record IsArena (a : ArenaState) : Type 0 where
 abbrev pub empty_arena : ℕ → ℕ → ArenaState
 empty_arena cap chains = record { cells = []; chains = replicate chains []; gray = []; spare = 0; cap = cap }
 
--- what is shown of a node
-abbrev pub shown_of : Node → Taken
-shown_of n = record { body = n.body; roots = n.roots; marked = has_mark n }
+-- what is shown of a node, by whether the marks are turned
+abbrev pub shown_of : Bool → Node → Taken
+shown_of turned n = record { body = n.body; roots = n.roots; marked = has_mark turned n }
 
 -- the arena of a pool, with these lists through its cells
 abbrev pub state_of : PoolState → List (List ℕ) → List ℕ → ArenaState
-state_of p chains gray = record { cells = map (option_map shown_of) p.cells; chains = chains; gray = gray; spare = spare_of p; cap = p.cap }
+state_of p chains gray = record { cells = map (option_map (shown_of p.turned)) p.cells; chains = chains; gray = gray; spare = spare_of p; cap = p.cap }

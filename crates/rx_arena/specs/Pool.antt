@@ -1,6 +1,6 @@
 -- What a pool of slots shows: the slots that are taken, and those that may be.
 use Rattle.std.specs.Prelude.{◌≡◌, ℕ, ◌+◌, ◌-◌, ◌<◌, ◌≤◌, ◌^◌, min, List, take, length, get_or, Option, Some, None, Bool, true, false, nat_eq}
-use Rattle.rx_arena.specs.Node.{Node, has_mark}
+use Rattle.rx_arena.specs.Node.{Node, mark_of}
 use Rattle.rx_arena.specs.Held.{IsHeld}
 use Rattle.rx_arena.specs.Put.{times, filled, without}
 
@@ -14,6 +14,8 @@ pub record PoolState : Type 0 where
   -- the slots of all blocks
   pub room : ℕ
   pub cap : ℕ
+  -- whether the two marks of taken cells have changed their meanings
+  pub turned : Bool
 
 -- how many slots can be taken with no more memory
 abbrev pub spare_of : PoolState → ℕ
@@ -23,15 +25,10 @@ spare_of p = min p.cap p.room - filled p.cells
 abbrev pub cells_of : List (Option Node) → List ℕ → ℕ → List (Option Node)
 cells_of slots free fresh = without (take fresh slots) free
 
--- whether a node is there and marked
-abbrev pub is_marked_node : Option Node → Bool
-is_marked_node None = false
-is_marked_node (Some n) = has_mark n
-
--- whether a node is there and not marked
-abbrev pub is_unmarked_node : Option Node → Bool
-is_unmarked_node None = false
-is_unmarked_node (Some n) = nat_eq n.mark 0
+-- whether a node is there and not marked, by whether the marks are turned
+abbrev pub is_unmarked_node : Bool → Option Node → Bool
+is_unmarked_node turned None = false
+is_unmarked_node turned (Some n) = nat_eq n.mark (mark_of turned false)
 
 -- whether a node is there and was given back
 abbrev pub is_given_back : Option Node → Bool

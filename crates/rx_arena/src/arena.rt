@@ -1,12 +1,13 @@
 //! The arena: slots to take and give back, the chains of a table, and the gray list of a marking.
-ghost use Rattle.std.specs.Prelude.{◌≡◌, ◌≢◌, ◌==◌, if◌then◌else◌, ℕ, ◌+◌, ◌%◌, ◌-◌, ◌<◌, ◌≤◌, ◌^◌, ◌++◌, ◌∷◌, [], List, Bool, true, false, Option, Some, None, Ok, Err, MatchOption, IfSome, IfOk, IfErr, OnOk, OnErr, IfNone, IsSome, get_or, length, slice_set, take, replicate, reverse, is_some};
+ghost use Rattle.std.specs.Prelude.{◌≡◌, ◌≢◌, ◌==◌, if◌then◌else◌, ℕ, ◌+◌, ◌%◌, ◌-◌, ◌<◌, ◌≤◌, ◌^◌, ◌++◌, ◌∷◌, [], List, Bool, true, false, Option, Some, None, Ok, Err, MatchOption, IfSome, IfOk, IfErr, OnOk, OnErr, IfNone, IsSome, get_or, length, slice_set, take, replicate, reverse, is_some, map};
+ghost use Rattle.std.specs.Option.{option_map};
 ghost use Rattle.rx_arena.specs.Put.{times, times_in, total, total-prop, put, altered, emptied};
 ghost use Rattle.rx_arena.specs.Links.{Chained, Chained-prop, Listed, Listed-prop, links};
 ghost use Rattle.rx_arena.specs.Arena.{taken_at, IsTaken, taken_count, chain_at, InChain, IsLoose, marked_at, IsMarked, roots_at, hash_at, IsUnprotected, new_cell, with_count, with_marking, kept_in, dropped_from, IsFirst, is_unmarked, times_hashed, IsArena, empty_arena};
 
 use crate::fault::ArenaFault;
 use crate::heads::Heads;
-use crate::pool::{MARKED, Pool, UNMARKED};
+use crate::pool::Pool;
 use crate::{CellBody, Slot};
 use std::alloc::Global;
 use std::marker::Model;
@@ -133,13 +134,6 @@ impl Arena {
         self.pool.holds_unmarked(slot.0)
     }
 
-    /// Whether the slot is taken and marked.
-    pub fn holds_marked(&self, slot: Slot) -> bool
-        ensures { result ≡ marked_at self.now slot.0 }
-    {
-        self.pool.holds_marked(slot.0)
-    }
-
     /// How often the cell is protected.
     pub fn roots(&self, slot: Slot) -> u16
         requires { IsTaken self.now slot.0 }
@@ -237,7 +231,7 @@ impl Arena {
         ensures after { self.new ≡ record self.old { cells = altered slot.0 (with_marking true) self.old.cells; gray = slot.0 ∷ self.old.gray } }
         ensures law { IsArena self.new }
     {
-        self.pool.set_mark(slot.0, MARKED);
+        self.pool.set_mark(slot.0, true);
         self.pool.set_gray(slot.0, self.gray_first);
         self.gray_first = Some(slot.0);
     }
@@ -278,7 +272,17 @@ impl Arena {
         ensures after { self.new ≡ record self.old { cells = altered slot.0 (with_marking false) self.old.cells } }
         ensures law { IsArena self.new }
     {
-        self.pool.set_mark(slot.0, UNMARKED)
+        self.pool.set_mark(slot.0, false)
+    }
+
+    /// Forgets all marks, where each taken slot has one: what said that it is marked says now that it is not.
+    pub fn turn_marks(&mut self)
+        requires marked { (s : ℕ) → IsTaken self.old s → IsMarked self.old s }
+        requires no_gray { self.old.gray ≡ [] }
+        ensures after { self.new ≡ record self.old { cells = map (option_map (with_marking false)) self.old.cells } }
+        ensures law { IsArena self.new }
+    {
+        self.pool.turn()
     }
 
     /// Moves the marked slots of a chain to the gray list, and gives back the others.

@@ -124,12 +124,12 @@ impl Cells {
     }
 
     /// Writes a node into an empty slot.
-    pub(crate) fn fill(&mut self, at: Place, body: CellBody)
+    pub(crate) fn fill(&mut self, at: Place, body: CellBody, mark: u8)
         requires { IsPlace self.old.blocks at
             × (at.slot < length self.old.slots)
             × (node_at self.old.slots at.slot ≡ None) }
         ensures blocks { self.new.blocks ≡ self.old.blocks }
-        ensures slots { self.new.slots ≡ slice_set self.old.slots at.slot (Some (lone body)) }
+        ensures slots { self.new.slots ≡ slice_set self.old.slots at.slot (Some (lone mark body)) }
     {
         unsafe {
             at.at.write(Cell {
@@ -143,16 +143,16 @@ impl Cells {
                 number: at.slot,
                 roots: 0,
                 kind: body.kind,
-                mark: 0,
+                mark,
             })
         }
     }
 
     /// Writes a new node over another one.
-    pub(crate) fn renew(&mut self, place: Place, new: CellBody)
+    pub(crate) fn renew(&mut self, place: Place, new: CellBody, mark: u8)
         requires { IsPlace self.old.blocks place × IsHeld self.old.slots place.slot }
         ensures blocks { self.new.blocks ≡ self.old.blocks }
-        ensures slots { self.new.slots ≡ slice_set self.old.slots place.slot (Some (lone new)) }
+        ensures slots { self.new.slots ≡ slice_set self.old.slots place.slot (Some (lone mark new)) }
     {
         unsafe {
             place.at.write(Cell {
@@ -166,7 +166,7 @@ impl Cells {
                 number: place.slot,
                 roots: 0u16,
                 kind: new.kind,
-                mark: 0,
+                mark,
             })
         }
     }

@@ -1,10 +1,11 @@
 //! The slots that are taken, and a list of those that were given back.
-ghost use Rattle.std.specs.Prelude.{◌≡◌, ◌+◌, ◌-◌, ◌<◌, ◌≤◌, ◌^◌, ◌∷◌, [], Option, Some, None, Ok, Err, MatchOption, MatchResult, IfSome, IfOk, IfErr, OnOk, OnErr, OnSome, IfNone, get_or, length, min, ℕ};
+ghost use Rattle.std.specs.Prelude.{◌≡◌, ◌+◌, ◌-◌, ◌<◌, ◌≤◌, ◌^◌, ◌∷◌, [], Option, Some, None, Ok, Err, MatchOption, MatchResult, IfSome, IfOk, IfErr, OnOk, OnErr, OnSome, IfNone, get_or, length, min, ℕ, false, not};
 ghost use Rattle.rx_arena.specs.Held.{IsHeld};
-ghost use Rattle.rx_arena.specs.Node.{lone, has_mark, with_chain, with_gray, with_mark, with_roots};
+ghost use Rattle.rx_arena.specs.Node as spec;
+ghost use Rattle.rx_arena.specs.Node.{Node, lone, has_mark, with_chain, with_gray, with_mark, with_roots};
 ghost use Rattle.rx_arena.specs.Put.{put, filled, altered};
 ghost use Rattle.rx_arena.specs.Links.{Listed, Listed-prop, links};
-ghost use Rattle.rx_arena.specs.Pool.{spare_of, is_marked_node, is_unmarked_node};
+ghost use Rattle.rx_arena.specs.Pool.{spare_of, is_unmarked_node};
 
 use crate::CellBody;
 use crate::fault::ArenaFault;
@@ -15,14 +16,21 @@ use std::marker::Model;
 /// How many slots a block has.
 const BLOCK: u32 = 1024;
 
-/// The mark of a taken cell that is not marked, and of a new one.
-pub(crate) const UNMARKED: u8 = 0;
+/// One mark of taken cells. Whether it says that a cell is marked changes with each turn.
+const LOW: u8 = 0;
 
-/// The mark of a taken cell that is marked.
-pub(crate) const MARKED: u8 = 1;
+/// The other mark of taken cells.
+const HIGH: u8 = 1;
 
 /// The mark of a cell that was given back.
 const GIVEN_BACK: u8 = 2;
+
+/// The mark of a taken cell, by whether the marks are turned and whether the cell is marked.
+fn mark_of(turned: bool, marked: bool) -> u8
+    ensures { result ≡ spec.mark_of turned marked }
+{
+    if turned == marked { LOW } else { HIGH }
+}
 
 /// The slots that are taken. A slot that is given back is the next to be taken.
 #[derive(Drop)]
@@ -33,6 +41,7 @@ pub(crate) struct Pool {
     taken: u32,
     room: u32,
     cap: u32,
+    turned: bool,
     ghost listed: { Listed (links (λ n. n.free) store) free } by { Listed-prop (links (λ n. n.free) store) free },
 }
 
@@ -41,7 +50,7 @@ impl Model for Pool {
 
     ghost Value = { PoolState };
 
-    ghost view = { λ p. record { cells = cells_of p.store p.listed.0 p.fresh; free = p.listed.0; fresh = p.fresh; room = p.room; cap = p.cap } };
+    ghost view = { λ p. record { cells = cells_of p.store p.listed.0 p.fresh; free = p.listed.0; fresh = p.fresh; room = p.room; cap = p.cap; turned = p.turned } };
 
     ghost invariant = { λ p. IsPool p.store p.listed.0 p.fresh p.taken p.room p.cap };
 }
@@ -49,7 +58,7 @@ impl Model for Pool {
 impl Pool {
     pub(crate) fn new(alloc: Global, cap: u32) -> Pool
         requires { cap ≤ 2 ^ 30 }
-        ensures { result ≡ record { cells = []; free = []; fresh = 0; room = 0; cap = cap } }
+        ensures { result ≡ record { cells = []; free = []; fresh = 0; room = 0; cap = cap; turned = false } }
     {
         Pool {
             store: Store::new(alloc),
@@ -58,6 +67,7 @@ impl Pool {
             taken: 0,
             room: 0,
             cap,
+            turned: false,
         }
     }
 
@@ -80,14 +90,14 @@ impl Pool {
         ensures listed { MatchOption result (self.old.free ≡ []) (λ s. self.old.free ≡ s ∷ self.new.free) }
         ensures was_free { IfSome result (λ s. get_or self.old.cells s None ≡ None) }
         ensures below { IfSome result (λ s. s < self.old.cap) }
-        ensures some { IfSome result (λ s. self.new ≡ record self.old { cells = put self.old.cells s (Some (lone body)); free = self.new.free }) }
+        ensures some { IfSome result (λ s. self.new ≡ record self.old { cells = put self.old.cells s (Some (lone (spec.mark_of self.old.turned false) body)); free = self.new.free }) }
         ensures none { IfNone result (self.new ≡ self.old) }
         ensures fits { spare_of self.new + filled self.new.cells ≤ self.new.cap }
     {
         match self.free {
             Some(slot) => {
                 self.free = self.store.free(slot);
-                self.store.renew(slot, body);
+                self.store.renew(slot, body, mark_of(self.turned, false));
                 self.taken += 1;
                 Some(slot)
             }
@@ -100,11 +110,11 @@ impl Pool {
         requires { (self.old.fresh < self.old.room) × (self.old.fresh < self.old.cap) }
         ensures slot { result ≡ self.old.fresh }
         ensures was_free { get_or self.old.cells result None ≡ None }
-        ensures after { self.new ≡ record self.old { cells = put self.old.cells result (Some (lone body)); fresh = self.old.fresh + 1 } }
+        ensures after { self.new ≡ record self.old { cells = put self.old.cells result (Some (lone (spec.mark_of self.old.turned false) body)); fresh = self.old.fresh + 1 } }
         ensures fits { spare_of self.new + filled self.new.cells ≤ self.new.cap }
     {
         let slot = self.fresh;
-        self.store.fill(slot, body);
+        self.store.fill(slot, body, mark_of(self.turned, false));
         self.fresh += 1;
         self.taken += 1;
         slot
@@ -140,16 +150,9 @@ impl Pool {
 
     /// Whether the slot is taken and not marked.
     pub(crate) fn holds_unmarked(&self, slot: u32) -> bool
-        ensures { result ≡ is_unmarked_node (get_or self.now.cells slot None) }
+        ensures { result ≡ is_unmarked_node self.now.turned (get_or self.now.cells slot None) }
     {
-        slot < self.fresh && self.store.mark(slot) == UNMARKED
-    }
-
-    /// Whether the slot is taken and marked.
-    pub(crate) fn holds_marked(&self, slot: u32) -> bool
-        ensures { result ≡ is_marked_node (get_or self.now.cells slot None) }
-    {
-        slot < self.fresh && self.store.mark(slot) == MARKED
+        slot < self.fresh && self.store.mark(slot) == mark_of(self.turned, false)
     }
 
     /// How many slots were ever taken.
@@ -175,9 +178,9 @@ impl Pool {
 
     pub(crate) fn marked(&self, slot: u32) -> bool
         requires { IsHeld self.now.cells slot }
-        ensures { IfSome (get_or self.now.cells slot None) (λ n. result ≡ has_mark n) }
+        ensures { IfSome (get_or self.now.cells slot None) (λ n. result ≡ has_mark self.now.turned n) }
     {
-        self.store.mark(slot) != UNMARKED
+        self.store.mark(slot) != mark_of(self.turned, false)
     }
 
     pub(crate) fn chain(&self, slot: u32) -> Option<u32>
@@ -201,12 +204,20 @@ impl Pool {
         self.store.set_roots(slot, count)
     }
 
-    pub(crate) fn set_mark(&mut self, slot: u32, mark: u8)
-        requires held { IsHeld self.old.cells slot }
-        requires mark { mark ≤ 1 }
-        ensures { self.new ≡ record self.old { cells = altered slot (with_mark mark) self.old.cells } }
+    /// Marks a taken slot, or takes the mark off.
+    pub(crate) fn set_mark(&mut self, slot: u32, marked: bool)
+        requires { IsHeld self.old.cells slot }
+        ensures { self.new ≡ record self.old { cells = altered slot (with_mark (spec.mark_of self.old.turned marked)) self.old.cells } }
     {
-        self.store.set_mark(slot, mark)
+        self.store.set_mark(slot, mark_of(self.turned, marked))
+    }
+
+    /// Changes which mark says that a cell is marked.
+    pub(crate) fn turn(&mut self)
+        ensures after { self.new ≡ record self.old { turned = not self.old.turned } }
+        ensures two { (s : ℕ) (n : Node) → get_or self.old.cells s None ≡ Some n → n.mark ≤ 1 }
+    {
+        self.turned = !self.turned;
     }
 
     pub(crate) fn set_chain(&mut self, slot: u32, next: Option<u32>)
@@ -229,8 +240,9 @@ impl Pool {
     pub(crate) fn take(&mut self, body: CellBody) -> Result<u32, ArenaFault>
         ensures free { IfOk result (λ s. get_or self.old.cells s None ≡ None) }
         ensures below { IfOk result (λ s. s < self.old.cap) }
-        ensures cells { IfOk result (λ s. self.new.cells ≡ put self.old.cells s (Some (lone body))) }
+        ensures cells { IfOk result (λ s. self.new.cells ≡ put self.old.cells s (Some (lone (spec.mark_of self.old.turned false) body))) }
         ensures cap { self.new.cap ≡ self.old.cap }
+        ensures turned { self.new.turned ≡ self.old.turned }
         ensures spare { spare_of self.old ≤ spare_of self.new + 1 }
         ensures fits { spare_of self.new + filled self.new.cells ≤ self.new.cap }
         ensures err { OnErr result (self.new ≡ self.old) }

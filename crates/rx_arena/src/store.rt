@@ -102,22 +102,22 @@ impl<A: Allocator + Copy> Store<A> {
         }
     }
 
-    /// Puts a node with this body, in no list, where nothing lies.
-    pub fn fill(&mut self, slot: u32, body: CellBody)
+    /// Puts a node with this body and mark, in no list, where nothing lies.
+    pub fn fill(&mut self, slot: u32, body: CellBody, mark: u8)
         requires { (slot < length self.old) × (node_at self.old slot ≡ None) }
-        ensures { self.new ≡ slice_set self.old slot (Some (lone body)) }
+        ensures { self.new ≡ slice_set self.old slot (Some (lone mark body)) }
     {
         let at = place(&self.blocks, slot);
-        self.cells.fill(at, body)
+        self.cells.fill(at, body, mark)
     }
 
-    /// Makes the node at a slot a new one, with this body and in no list.
-    pub fn renew(&mut self, slot: u32, body: CellBody)
+    /// Makes the node at a slot a new one, with this body and mark and in no list.
+    pub fn renew(&mut self, slot: u32, body: CellBody, mark: u8)
         requires { IsHeld self.old slot }
-        ensures { self.new ≡ slice_set self.old slot (Some (lone body)) }
+        ensures { self.new ≡ slice_set self.old slot (Some (lone mark body)) }
     {
         let at = place(&self.blocks, slot);
-        self.cells.renew(at, body)
+        self.cells.renew(at, body, mark)
     }
 
     /// The body.

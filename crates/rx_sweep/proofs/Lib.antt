@@ -5,7 +5,6 @@ pub mod RootSteps
 pub mod RootSlots
 pub mod Named
 pub mod Spreading
-pub mod Clearing
 pub mod Sweeps
 pub mod Unlinking
 pub mod Homing

@@ -1,9 +1,8 @@
-//! The sweep: what is not marked goes back, and then no slot is marked any more.
+//! The sweep: what is not marked goes back.
 ghost use Rattle.std.specs.Prelude.{◌≡◌, ℕ, ◌+◌, ◌<◌, List, [], length, slice_set, false, None, map, filter, if◌then◌else◌};
 ghost use Rattle.rx_arena.specs.Put.{times, put};
 ghost use Rattle.rx_arena.specs.Arena.{taken_at, IsTaken, taken_count, InChain, IsLoose, roots_at, chain_at, kept_in, marked_at, IsMarked, IsArena};
 ghost use Rattle.rx_sweep.specs.Reach.{home, IsHomed};
-ghost use Rattle.rx_sweep.specs.Marking.{Clears};
 
 use rx_arena::Slot;
 use rx_arena::arena::Arena;
@@ -94,20 +93,6 @@ pub(crate) fn sweep_by_hash(arena: &mut Arena)
         let slot = Slot(number);
         if arena.holds_unmarked(slot) {
             drop_slot(arena, slot);
-        }
-    }
-}
-
-/// Clears all marks.
-pub(crate) fn clear_marks(arena: &mut Arena)
-    requires { arena.old.gray ≡ [] }
-    ensures clears { Clears arena.old arena.new (λ s. InChain arena.old s) }
-    ensures law { IsArena arena.new }
-{
-    for number in 0..arena.slots() {
-        let slot = Slot(number);
-        if arena.holds_marked(slot) {
-            arena.clear_mark(slot);
         }
     }
 }

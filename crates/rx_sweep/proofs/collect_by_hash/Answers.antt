@@ -1,4 +1,4 @@
-use Rattle.rx_sweep.proofs.Collected.{closed_one, gray_one, chained_two, roots_two, Collected, collected, same_two}
+use Rattle.rx_sweep.proofs.Collected.{closed_one, gray_one, chained_two, roots_two, all_marked, Collected, collected, same_two}
 use Rattle.rx_sweep.proofs.Homing.{same_homed}
 use Rattle.rx_sweep.proofs.collect_by_hash.Goals as goal
 
@@ -26,13 +26,19 @@ sweep_by_hash-requires-clause-homed c =
     let m = c.mark_on.ensures in
     same_homed c.args.arena.now c.mark_on.new.arena (same_two c.args.arena.now r.old_law c.requires.can c.mark_roots.new.arena r.marks r.law c.mark_on.new.arena m.same m.stay m.reached m.closed) c.requires.homed
 
-whole : (c : goal.After-clear_marks) → Collected c.args.arena.now c.clear_marks.new.arena
+pub turn_marks-requires-clause-marked : goal.turn_marks-requires-clause-marked
+turn_marks-requires-clause-marked c =
+    let r = c.mark_roots.ensures in
+    let m = c.mark_on.ensures in
+    all_marked c.args.arena.now r.old_law c.requires.can c.mark_roots.new.arena r.marks r.law c.mark_on.new.arena m.same m.stay m.reached m.closed c.sweep_by_hash.new.arena c.sweep_by_hash.ensures.cells
+
+whole : (c : goal.After-turn_marks) → Collected c.args.arena.now c.turn_marks.new.self
 whole c =
     let r = c.mark_roots.ensures in
     let m = c.mark_on.ensures in
     let s = c.sweep_by_hash.ensures in
     collected c.args.arena.now r.old_law c.requires.can c.mark_roots.new.arena r.marks r.law c.mark_on.new.arena m.same m.stay m.reached m.closed
-    c.sweep_by_hash.new.arena s.cells s.chains c.clear_marks.new.arena s.law c.clear_marks.ensures.clears s.spare
+    c.sweep_by_hash.new.arena s.cells s.chains c.turn_marks.new.self c.turn_marks.ensures.after s.spare
 
 pub returns-clause-taken : goal.returns-clause-taken
 returns-clause-taken c = (whole c).taken

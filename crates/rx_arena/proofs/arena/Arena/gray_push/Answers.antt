@@ -5,8 +5,8 @@ use Rattle.rx_arena.proofs.ArenaLaws.{unmarked_away}
 use Rattle.rx_arena.proofs.ArenaSteps.{gray_push_step, gray_push_held, gray_apart, step_law, step_state, held_taken}
 use Rattle.rx_arena.proofs.arena.Arena.gray_push.Goals as goal
 
-pub set_mark-requires-clause-held : goal.set_mark-requires-clause-held
-set_mark-requires-clause-held c =
+pub set_mark-requires : goal.set_mark-requires
+set_mark-requires c =
     let h = subst (λ (v : ArenaState). IsTaken v c.args.slot.0) (sym c.self.view_is) c.requires.taken in
     held_taken c.self.inside.pool c.self.inside.heads c.self.inside.gray_first c.self.inside.chained c.self.inside.grayed c.self.invariant c.args.slot.0 h
 

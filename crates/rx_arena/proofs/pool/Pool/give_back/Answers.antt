@@ -41,7 +41,7 @@ pub returns-clause-after : goal.returns-clause-after
 returns-clause-after c =
     let h = subst (λ (v : PoolState). IsHeld v.cells c.args.slot) (sym c.self.view_is) c.requires in
     let st = given_back-step c.self.inside.store c.self.inside.free c.self.inside.listed c.self.inside.fresh c.self.inside.taken c.self.inside.room c.self.inside.cap c.self.invariant c.set_mark.new.self c.set_free.new.self c.args.slot h c.set_mark.ensures c.set_free.ensures in
-    same_pool _ _ _ _ _ _ _ (step_cells _ _ _ _ _ _ _ _ st c.self-1.given.0) (step_free _ _ _ _ _ _ _ _ st c.self-1.given.0)
+    same_pool _ _ _ _ _ _ _ _ (step_cells _ _ _ _ _ _ _ _ st c.self-1.given.0) (step_free _ _ _ _ _ _ _ _ st c.self-1.given.0)
     ∙ ap (λ (v : PoolState). record v { cells = put v.cells c.args.slot None; free = c.args.slot ∷ v.free }) c.self.view_is
 
 pub returns-clause-spare : goal.returns-clause-spare
