@@ -228,10 +228,6 @@ module _ (slots : List (Option Node)) (first : Option ℕ) (l : Listed (frees sl
     | inr h ↦ ap (λ (z : ℕ). nat_eq z (mark_of turned false)) h.0 ∙ two_apart turned ∙ sym (ap (is_unmarked_node turned) h.1)
   ]
 
-  -- each taken slot has one of the two marks
-  pub taken_marks : (s : ℕ) (n : Node) → get_or cells s None ≡ Some n → n.mark ≤ 1
-  taken_marks = p.taken_known
-
   pub given_back_some : (s : ℕ) → IsHeld cells s → 0 < taken
   given_back_some s h = given_back-some_taken slots l.0 fresh taken room cap p s h.0 h.1 h.0
 
