@@ -11,6 +11,8 @@ mod evaluation;
 mod given;
 mod machine;
 mod terms;
+#[cfg(test)]
+mod tests;
 
 pub use cells::EngineFault;
 pub use engine::{Engine, Options, Outcome};
