@@ -25,3 +25,6 @@ pub mod KeyLemmas
 pub mod OrderLemmas
 pub mod NextLemmas
 pub mod AnswerLemmas
+pub mod LeftLemmas
+pub mod TaskLemmas
+pub mod BranchLemmas

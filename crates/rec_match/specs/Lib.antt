@@ -13,3 +13,4 @@ pub mod Parts
 pub mod Leaves
 pub mod Ordered
 pub mod Next
+pub mod Tasks

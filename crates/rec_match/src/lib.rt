@@ -4,6 +4,7 @@
 mod build;
 mod chain;
 mod forest;
+mod grow;
 mod leaves;
 mod matcher;
 mod next;
@@ -13,6 +14,7 @@ mod places;
 mod tests;
 
 pub use forest::{Child, Forest, Node, Place};
+pub use grow::Pending;
 pub use matcher::{LeftSide, Matcher, Test};
 pub use parts::{Code, CodeRow, Part, Parts};
 pub use places::Places;
