@@ -28,3 +28,5 @@ pub mod AnswerLemmas
 pub mod LeftLemmas
 pub mod TaskLemmas
 pub mod BranchLemmas
+pub mod TreeLemmas
+pub mod GroundLemmas

@@ -153,3 +153,19 @@ StepsOrStays y ns ps f ts g us false = f ≡ g
 abbrev pub GrowsOut : Spec → List ℕ → Parts → Forest → List Task → Forest → Bool → Type 0
 GrowsOut y ns ps f ts g true = Steps y ns ps f ts g []
 GrowsOut y ns ps f ts g false = (us : List Task) × Steps y ns ps f ts g us
+
+-- nodes have grown on, and a root that is there stands for all rows
+pub record TreeGoesOn (y : Spec) (ns : List ℕ) (ps : Parts) (f : Forest) (s : ℕ → State) (width : ℕ) (rows : List Row) (g : Forest) (root : ℕ) : Type 0 where
+  pub goes : GoesOn y ns ps f [] s g []
+  pub stands : root ≢ 0 → (root < length g.nodes.items) × (goes.states root ≡ record { width = width; rows = rows })
+
+-- a tree has grown at a root, or there is none
+abbrev pub HasTree : Spec → List ℕ → Parts → Forest → ℕ → List Coded → Forest → ℕ → Type 0
+HasTree y ns ps f width coded g root = (s : ℕ → State) (rows : List Row) → Growing y ns ps f [] s → AreLeft y ps width coded rows → TreeGoesOn y ns ps f s width rows g root
+
+-- rows can get a tree
+pub record CanGrow (y : Spec) (ns : List ℕ) (ps : Parts) (f : Forest) (width : ℕ) (coded : List Coded) : Type 0 where
+  pub states : ℕ → State
+  pub rows : List Row
+  pub growing : Growing y ns ps f [] states
+  pub left : AreLeft y ps width coded rows

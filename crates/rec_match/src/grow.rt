@@ -18,6 +18,8 @@ ghost use Rattle.rec_match.specs.Tasks.{
   TriesFirst,
   StepsOrStays,
   GrowsOut,
+  HasTree,
+  CanGrow,
 };
 
 use crate::forest::{Child, Forest, Node, Place};
@@ -372,13 +374,15 @@ fn cost(rows: &[CodeRow], symbols: u32) -> u64 {
     cost
 }
 
-/// Steps until no node waits; it is given up where they would cost more than so much.
+/// Steps until no node waits; it is given up where they would cost more than so much, or where
+/// there are more than so many nodes.
 pub fn grow(
     alloc: Global,
     checked: &Checked,
     links: &Links,
     parts: &Parts,
     limit: u64,
+    most: usize,
     forest: &mut Forest,
     work: &mut Vec<Pending>,
 ) -> Result<bool, AllocError>
@@ -390,7 +394,7 @@ pub fn grow(
     let mut fuel = limit;
     while let Some(pending) = work.pop() {
         let cost = cost(&pending.rows, checked.symbols());
-        if fuel <= cost {
+        if fuel <= cost || forest.nodes.len() > most {
             return Ok(false);
         }
         fuel -= cost + 1;
@@ -402,4 +406,40 @@ pub fn grow(
         }
     }
     Ok(true)
+}
+
+/// The most nodes that a symbol's tree may have.
+const MOST_NODES: usize = 65_536;
+
+/// A tree that grows from rows: its root, or 0 where it would have too many nodes or would cost
+/// more than so much; nothing is left of it then.
+pub fn tree(
+    alloc: Global,
+    checked: &Checked,
+    links: &Links,
+    parts: &Parts,
+    limit: u64,
+    width: u32,
+    rows: Vec<CodeRow>,
+    forest: &mut Forest,
+) -> Result<u32, AllocError>
+    requires linked { length links.now ≡ length (symbols checked.now.spec) }
+    requires ground { IsGround checked.now.spec (numbers_of links.now) parts.now }
+    requires some { 0 < length forest.old.nodes.items }
+    requires can { CanGrow checked.now.spec (numbers_of links.now) parts.now forest.old width (map coded_of rows.items) }
+    ensures { IfOk result (HasTree checked.now.spec (numbers_of links.now) parts.now forest.old width (map coded_of rows.items) forest.new) }
+{
+    let nodes = forest.nodes.len();
+    let places = forest.places.len();
+    let children = forest.children.len();
+    let mut work = Vec::new(alloc);
+    let root = add(forest, &mut work, width, rows)?;
+    let most = nodes.saturating_add(MOST_NODES);
+    if grow(alloc, checked, links, parts, limit, most, forest, &mut work)? {
+        return Ok(root);
+    }
+    forest.nodes.truncate(nodes);
+    forest.places.truncate(places);
+    forest.children.truncate(children);
+    Ok(0)
 }
