@@ -26,12 +26,12 @@ abbrev EverySome : {X : Type 0} → (X → Type 0) → Option (List X) → Type 
 EverySome P (Some xs) = Every P xs
 EverySome P None = Unit {0}
 
-every_take : {X : Type 0} (P : X → Type 0) (n : ℕ) (xs : List X) → Every P xs → Every P (take n xs)
+pub every_take : {X : Type 0} (P : X → Type 0) (n : ℕ) (xs : List X) → Every P xs → Every P (take n xs)
 every_take P zero xs h = tt
 every_take P (suc n) [] h = tt
 every_take P (suc n) (x ∷ xs) h = (h.0, every_take P n xs h.1)
 
-every_drop : {X : Type 0} (P : X → Type 0) (n : ℕ) (xs : List X) → Every P xs → Every P (drop n xs)
+pub every_drop : {X : Type 0} (P : X → Type 0) (n : ℕ) (xs : List X) → Every P xs → Every P (drop n xs)
 every_drop P zero xs h = h
 every_drop P (suc n) [] h = tt
 every_drop P (suc n) (x ∷ xs) h = every_drop P n xs h.1

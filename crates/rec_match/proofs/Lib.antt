@@ -30,3 +30,4 @@ pub mod TaskLemmas
 pub mod BranchLemmas
 pub mod TreeLemmas
 pub mod GroundLemmas
+pub mod PushLemmas

@@ -14,3 +14,4 @@ pub mod Leaves
 pub mod Ordered
 pub mod Next
 pub mod Tasks
+pub mod Pushed

@@ -10,6 +10,7 @@ mod matcher;
 mod next;
 mod parts;
 mod places;
+mod push;
 #[cfg(test)]
 mod tests;
 
