@@ -31,3 +31,4 @@ pub mod BranchLemmas
 pub mod TreeLemmas
 pub mod GroundLemmas
 pub mod PushLemmas
+pub mod RuleLemmas

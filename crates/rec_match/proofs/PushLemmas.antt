@@ -36,7 +36,7 @@ split_named y (l ∷ ls) (x ∷ xs) zs e =
     let s = split_named y ls xs zs rest in
     record { front = l ∷ s.front; back = s.back; is = ap (λ ms. l ∷ ms) s.is; front_is = cc (first, s.front_is); back_is = s.back_is }
 
-more_long : (ps qs : Parts) → MoreParts ps qs → length ps.parts.items ≤ length qs.parts.items
+pub more_long : (ps qs : Parts) → MoreParts ps qs → length ps.parts.items ≤ length qs.parts.items
 more_long ps qs m = let l = ap length m.parts ∙ length-append ps.parts.items m.new_parts in omega (arith, l)
 
 more_none : (ps : Parts) → MoreParts ps ps
@@ -68,7 +68,7 @@ module _ (y : Spec) where
         every_take (λ (a : ℕ). a < length ps.parts.items) (p.to - p.from) (drop p.from ps.arguments.items) (every_drop (λ (a : ℕ). a < length ps.parts.items) p.from ps.arguments.items whole.arguments)
 
     mutual
-      part_later : (t : Term) (n : ℕ) → n < length ps.parts.items → IsPart y ps n t → IsPart y qs n t
+      pub part_later : (t : Term) (n : ℕ) → n < length ps.parts.items → IsPart y ps n t → IsPart y qs n t
       part_later (Apply w ts) n lt h =
           (subst (λ (p : Part). IsHead y p.meaning w.bytes (count ts)) (sym (same_part n lt)) h.0, subst (λ ks. AreParts y qs ks ts) (sym (same_arguments n lt)) (parts_later ts (arguments_at ps n) (arguments_there n) h.1))
 

@@ -1,6 +1,6 @@
 -- The parts of letters, each of which takes its arguments' parts from a stack.
-use Rattle.std.specs.Prelude.{ℕ, ◌≡◌, ◌-◌, ◌<◌, ◌≤◌, suc, List, [], ◌∷◌, ◌++◌, length, map}
-use Rattle.rec_syntax.specs.Syntax.{Term, Terms, Spec}
+use Rattle.std.specs.Prelude.{ℕ, ◌≡◌, ◌-◌, ◌<◌, ◌≤◌, suc, List, [], ◌∷◌, ◌++◌, length, map, get_or}
+use Rattle.rec_syntax.specs.Syntax.{Term, Terms, Rule, Spec}
 use Rattle.rec_sorts.specs.Lookup.{count}
 use Rattle.rec_sorts.specs.Laws.{Every}
 use Rattle.rec_sorts.specs.Numbering.{name_of}
@@ -47,3 +47,9 @@ pub record PushesTerms (y : Spec) (ps : Parts) (ts : Terms) (qs : Parts) (ks : L
   pub long : length ks ≡ count ts
   pub whole : IsWhole qs
   pub more : MoreParts ps qs
+
+-- the parts of the left sides of the first rules
+pub record AreLeftParts (y : Spec) (ps : Parts) (numbers : List ℕ) (n : ℕ) : Type 0 where
+  pub whole : IsWhole ps
+  pub long : length numbers ≡ n
+  pub each : (i : ℕ) (r : Rule) → i < n → (get_or numbers i 0 < length ps.parts.items) × IsPart y ps (get_or numbers i 0) (get_or y.rules i r).left
