@@ -25,3 +25,10 @@ pub mod KeyLemmas
 pub mod OrderLemmas
 pub mod NextLemmas
 pub mod AnswerLemmas
+pub mod LeftLemmas
+pub mod TaskLemmas
+pub mod BranchLemmas
+pub mod TreeLemmas
+pub mod GroundLemmas
+pub mod PushLemmas
+pub mod RuleLemmas

@@ -13,3 +13,5 @@ pub mod Parts
 pub mod Leaves
 pub mod Ordered
 pub mod Next
+pub mod Tasks
+pub mod Pushed

@@ -4,15 +4,18 @@
 mod build;
 mod chain;
 mod forest;
+mod grow;
 mod leaves;
 mod matcher;
 mod next;
 mod parts;
 mod places;
+mod push;
 #[cfg(test)]
 mod tests;
 
 pub use forest::{Child, Forest, Node, Place};
+pub use grow::Pending;
 pub use matcher::{LeftSide, Matcher, Test};
 pub use parts::{Code, CodeRow, Part, Parts};
 pub use places::Places;
