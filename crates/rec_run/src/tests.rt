@@ -170,6 +170,17 @@ fn narrow(steps: u32, cells: u32) -> RunOptions {
     }
 }
 
+/// No steps and a bank of sixteen cells, with a reclaim as seldom as by default.
+fn sixteen_cells() -> RunOptions {
+    RunOptions {
+        steps: 0,
+        cells: 16,
+        memo: 0,
+        reclaim: 262_144,
+        count: false,
+    }
+}
+
 /// What a run came to.
 #[derive(Debug, Drop)]
 struct Ran {
@@ -279,10 +290,7 @@ fn cells_of_earlier_terms(rt: HostRuntime) -> Result<(), Fail> {
         due.push_str(format!(in alloc; "h(c{i})\n")?.as_str())?;
     }
     text.push_str(" END-SPEC")?;
-    let mut few = options(0, false);
-    few.cells = 16;
-    for reclaim in [1, 262_144] {
-        few.reclaim = reclaim;
+    for few in [narrow(0, 16), sixteen_cells()] {
         let ran = run_on(alloc, text.as_bytes(), few);
         assert_eq!(rt; ran.result, Ok(Finish::Done));
         assert_eq!(rt; ran.written.as_slice(), due.as_bytes());
