@@ -1,9 +1,13 @@
 //! The symbols of specifications in a bank.
 
-use crate::{Links, check};
+ghost use Rattle.std.specs.Prelude.{◌≡◌, IfOk, length};
+ghost use Rattle.rec_sorts.specs.Lookup.{symbols};
+
+use crate::{Checked, Links, check};
 use rec_syntax::read_spec;
 use rx_plain::PlainBank;
-use rx_term::TermBank;
+use rx_term::{Symbol, TermBank};
+use std::alloc::Global;
 use std::test::Fail;
 
 const ADD: &[u8] =
@@ -11,47 +15,62 @@ const ADD: &[u8] =
 
 const PRIMED: &[u8] = b"REC-SPEC P SORTS A CONS x' : -> A EVAL x' END-SPEC";
 
+/// A specification, and its symbols in a bank.
+#[derive(Drop)]
+struct Linked {
+    checked: Checked,
+    links: Links,
+}
+
+/// The specification of a text, whose symbols the bank gets.
+fn link<B: TermBank>(alloc: Global, text: &[u8], bank: &mut B) -> Result<Linked, Fail>
+    ensures { IfOk result (λ l. length l.links ≡ length (symbols l.checked.spec)) }
+{
+    let checked = check(alloc, read_spec(alloc, text)?)?;
+    let links = Links::make(alloc, &checked, bank)?;
+    Ok(Linked { checked, links })
+}
+
+/// Whether the symbol of a number is this one, and that of this one is the number.
+fn is_symbol_of(linked: &Linked, number: u32, symbol: Symbol) -> bool
+    requires { length linked.now.links ≡ length (symbols linked.now.checked.spec) }
+{
+    number < linked.checked.symbols()
+        && linked.links.symbol_of(number).0 == symbol.0
+        && linked.links.op_of(symbol) == Some(number)
+}
+
 #[test]
 fn addition(rt: HostRuntime) -> Result<(), Fail> {
-    let checked = check(rt.alloc(), read_spec(rt.alloc(), ADD)?)?;
     let mut bank = PlainBank::new(rt.alloc(), 10)?;
-    let links = Links::make(rt.alloc(), &checked, &mut bank)?;
-    assert_eq!(rt; checked.symbols(), 3);
-    for (op, name) in [b"z".as_slice(), b"s".as_slice(), b"plus".as_slice()]
-        .iter()
-        .enumerate()
-    {
-        let symbol = links.symbol_of(op as u32);
-        assert_eq!(rt; bank.name_of(symbol), *name);
-        assert!(rt; !bank.quoted_of(symbol));
-        assert_eq!(rt; bank.arity_of(symbol), op as u32);
-        assert_eq!(rt; links.op_of(symbol), Some(op as u32));
-    }
+    let linked = link(rt.alloc(), ADD, &mut bank)?;
+    let z = bank.symbol(b"z", false, 0)?;
+    let s = bank.symbol(b"s", false, 1)?;
+    let plus = bank.symbol(b"plus", false, 2)?;
+    assert!(rt; is_symbol_of(&linked, 0, z));
+    assert!(rt; is_symbol_of(&linked, 1, s));
+    assert!(rt; is_symbol_of(&linked, 2, plus));
+    assert_eq!(rt; linked.checked.symbols(), 3);
     assert_eq!(rt; bank.cells(), 0);
     Ok(())
 }
 
 #[test]
 fn quoted_where_no_plain_name(rt: HostRuntime) -> Result<(), Fail> {
-    let checked = check(rt.alloc(), read_spec(rt.alloc(), PRIMED)?)?;
     let mut bank = PlainBank::new(rt.alloc(), 10)?;
-    let links = Links::make(rt.alloc(), &checked, &mut bank)?;
-    let symbol = links.symbol_of(0);
-    assert_eq!(rt; bank.name_of(symbol), b"x'".as_slice());
-    assert!(rt; bank.quoted_of(symbol));
-    assert_eq!(rt; bank.arity_of(symbol), 0);
-    assert_eq!(rt; links.op_of(symbol), Some(0));
+    let linked = link(rt.alloc(), PRIMED, &mut bank)?;
+    let primed = bank.symbol(b"x'", true, 0)?;
+    assert!(rt; is_symbol_of(&linked, 0, primed));
     Ok(())
 }
 
 #[test]
 fn foreign_symbols_have_no_number(rt: HostRuntime) -> Result<(), Fail> {
-    let checked = check(rt.alloc(), read_spec(rt.alloc(), ADD)?)?;
     let mut bank = PlainBank::new(rt.alloc(), 10)?;
     let unary = bank.symbol(b"plus", false, 1)?;
-    let links = Links::make(rt.alloc(), &checked, &mut bank)?;
+    let linked = link(rt.alloc(), ADD, &mut bank)?;
     let quoted = bank.symbol(b"z", true, 0)?;
-    assert_eq!(rt; links.op_of(unary), None);
-    assert_eq!(rt; links.op_of(quoted), None);
+    assert_eq!(rt; linked.links.op_of(unary), None);
+    assert_eq!(rt; linked.links.op_of(quoted), None);
     Ok(())
 }
