@@ -9,7 +9,7 @@ pub const MOST_STEPS: u64 = 1_000_000_000_000_000_000;
 pub const MOST_CELLS: u32 = 1_073_741_824;
 
 /// The version, with the kit by which the program is proved.
-const VERSION: &str = "0.1.0, proved with rattle-kit-13b (logic dac8208d650f15bf)\n";
+const VERSION: &str = "0.1.0, proved with rattle-kit-13b (logic dac8208d650f15bf)";
 
 /// The command without the program's name before its words.
 pub fn command<'a>(alloc: Global) -> Result<Command<'a>, AllocError> {

@@ -3,7 +3,7 @@
 use std::io;
 use std::io::Write;
 
-/// Each refusal's name, the text that it is about where its name has several meanings, and what is wrong.
+/// Each refusal's name, and what is wrong.
 pub const REFUSALS: [(&str, &str); 24] = [
     ("L1", "the text has more than 16777216 bytes"),
     ("G", "no specification has this here"),

@@ -40,7 +40,7 @@ impl<'a> Told<'a> {
         }
     }
 
-    /// What was opened, or why it could not be.
+    /// What was opened under this name. Where it could not be, that is kept, with the reason.
     pub fn opened<T>(&mut self, opened: io::Result<T>, name: &'a str) -> Result<T, RunFault> {
         match opened {
             Ok(file) => Ok(file),
@@ -51,7 +51,7 @@ impl<'a> Told<'a> {
         }
     }
 
-    /// The text that was read of this name, where a read may have failed.
+    /// The text that was read under this name. Where a read failed, that is what could not be read.
     pub fn read(&mut self, end: (Vec<u8>, Option<ErrorKind>), name: &'a str) -> Vec<u8> {
         let (text, trouble) = end;
         if let Some(kind) = trouble {
