@@ -7,7 +7,8 @@ use crate::told::{Told, name_of};
 use crate::{refusals, report};
 use clap::error::ErrorKind;
 use rec_run::{
-    Finish, Place, RunFault, Source, run_at, run_aterm_at, run_make_at, run_match_at, run_share_at,
+    Finish, Place, RunFault, RunOptions, Source, run_at, run_aterm_at, run_make_at, run_match_at,
+    run_share_at,
 };
 use std::alloc::Global;
 use std::io::{Read, Write};
@@ -82,52 +83,63 @@ fn perform_over<'a, H: Files, R: Read, W: Write>(
     out: &mut W,
     told: &mut Told<'a>,
 ) -> Result<Finish, RunFault> {
-    let Asked { request, explain } = asked;
+    let request = asked.request;
     match request {
         Request::Eval {
             options,
             spec,
             terms,
         } => {
-            let files = told.opened(open(rt, spec, input), name_of(request, Source::Spec))?;
-            let given = told.opened(open_given(rt, terms), name_of(request, Source::Terms))?;
-            let mut spec = Recorded::new(alloc, files, explain);
-            let mut terms = match given {
-                Some(file) => Some(Recorded::new(alloc, file, explain)),
-                None => None,
-            };
-            let end = run_at(
-                alloc,
-                &mut spec,
-                terms.as_mut(),
-                out,
-                options,
-                &mut told.place,
-            );
-            told.first = told.read(spec.finish(), name_of(request, Source::Spec));
-            if let Some(terms) = terms {
-                told.second = told.read(terms.finish(), name_of(request, Source::Terms));
-            }
-            end
+            let spec = told.opened(open(rt, spec, input), name_of(request, Source::Spec))?;
+            let terms = told.opened(open_given(rt, terms), name_of(request, Source::Terms))?;
+            evaluate(alloc, asked, options, spec, terms, out, told)
         }
-        Request::Make { pattern, args } => {
-            run_make_at(
-                alloc,
-                pattern.as_bytes(),
-                args.as_bytes(),
-                out,
-                &mut told.place,
-            )
-        }
+        Request::Make { pattern, args } => run_make_at(
+            alloc,
+            pattern.as_bytes(),
+            args.as_bytes(),
+            out,
+            &mut told.place,
+        ),
         Request::Aterm { file } | Request::Share { file } | Request::Match { file, .. } => {
             let name = name_of(request, Source::Term);
             let file = told.opened(open(rt, file, input), name)?;
-            let mut term = Recorded::new(alloc, file, explain);
+            let mut term = Recorded::new(alloc, file, asked.explain);
             let end = run_on_term(alloc, request, &mut term, out, &mut told.place);
             told.first = told.read(term.finish(), name);
             end
         }
     }
+}
+
+fn evaluate<'a, R: Read + Drop, T: Read + Drop, W: Write>(
+    alloc: Global,
+    asked: Asked<'a>,
+    options: RunOptions,
+    spec: R,
+    terms: Option<T>,
+    out: &mut W,
+    told: &mut Told<'a>,
+) -> Result<Finish, RunFault> {
+    let Asked { request, explain } = asked;
+    let mut spec = Recorded::new(alloc, spec, explain);
+    let mut terms = match terms {
+        Some(file) => Some(Recorded::new(alloc, file, explain)),
+        None => None,
+    };
+    let end = run_at(
+        alloc,
+        &mut spec,
+        terms.as_mut(),
+        out,
+        options,
+        &mut told.place,
+    );
+    told.first = told.read(spec.finish(), name_of(request, Source::Spec));
+    if let Some(terms) = terms {
+        told.second = told.read(terms.finish(), name_of(request, Source::Terms));
+    }
+    end
 }
 
 fn run_on_term<R: Read, W: Write>(
