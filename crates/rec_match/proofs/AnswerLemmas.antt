@@ -1,8 +1,7 @@
 -- What a matcher answers for a term of a bank.
-use Rattle.std.proofs.Common.{refl, sym, ap, subst, arith, ◌∙◌, inl, inr, drop, length, reverse, is_some}
-use Rattle.std.specs.Prelude.{ℕ, ℤ, zero, suc, ◌≡◌, ◌<◌, ◌+◌, ◌-◌, Bool, true, false, not, List, [], ◌∷◌, Option, Some, None, IsSome, All, map, get_or}
-use Rattle.std.proofs.lemmas.List.{length-map, reverse-reverse}
-use Rattle.std.proofs.lemmas.List.Elements.{All-head, All-tail}
+use Rattle.std.proofs.Common.{refl, sym, ap, subst, arith, ◌∙◌, inl, inr, drop, length, is_some}
+use Rattle.std.specs.Prelude.{ℕ, ℤ, zero, suc, ◌≡◌, ◌<◌, ◌+◌, ◌-◌, Bool, true, false, not, List, [], Option, Some, None, IsSome, get_or}
+use Rattle.std.proofs.lemmas.List.{length-map}
 use Rattle.rx_term.specs.Name.{Signature, plain_name}
 use Rattle.rx_term.specs.Tree.{Tree, Trees, Appl, Items, none, more, count_of, to_list, from_list}
 use Rattle.rx_term.specs.Store.{Store, tree_at, signature_of, part_at, anns_of}
@@ -16,30 +15,21 @@ use Rattle.rx_term.specs.declared.Term.{Term}
 use Rattle.rx_term.specs.declared.Symbol as bank
 use Rattle.rec_syntax.specs.Syntax.{Spec, Rule, Apply}
 use Rattle.rec_syntax.specs.Syntax as X
-use Rattle.rec_sorts.specs.Lookup.{symbols, count, variable_words, is_variable}
+use Rattle.rec_sorts.specs.Lookup.{symbols, count, is_variable}
 use Rattle.rec_sorts.specs.SpecRules.{fault}
-use Rattle.rec_sorts.specs.Binding.{Substitution, NumberedMatch, value_of, application, binds, first_match, next_match}
+use Rattle.rec_sorts.specs.Binding.{Substitution, NumberedMatch, application, binds, first_match, next_match}
 use Rattle.rec_sorts.specs.Linked.{signature, NumberOf}
-use Rattle.rec_sorts.specs.Numbering.{named, named_all, named_by, name_of, arity_of, IsMeaning}
-use Rattle.rec_sorts.specs.declared.letters.Letter.{Letter}
-use Rattle.rec_sorts.specs.declared.letters.Meaning.TheVariants.{Symbol, Variable}
+use Rattle.rec_sorts.specs.Numbering.{name_of, arity_of}
+use Rattle.rec_sorts.specs.declared.letters.Meaning.TheVariants.{Symbol}
 use Rattle.rec_match.specs.Held.{AllHeld, or_empty, tree_of, trees}
-use Rattle.rec_match.specs.Matching.{SameValues, paired, HasFound, Finds, FindsFor, CanFind, symbol_at, count_at, variables_at, order_at, tests_at}
+use Rattle.rec_match.specs.Matching.{HasFound, Finds, FindsFor, CanFind, symbol_at, count_at}
 use Rattle.rec_match.specs.Next.{IsReady, AreReady, AreLater, Reaches, Matched}
-use Rattle.rec_match.specs.Ordered.{keys, names_in, AreOrdered}
-use Rattle.rec_match.specs.Rows.{values_of}
 use Rattle.rec_match.specs.Walking.{opened, goes_on, walk_all, bound}
 use Rattle.rec_match.specs.declared.matcher.Matcher.{Matcher}
-use Rattle.rec_match.proofs.Facts.{facts, RuleFacts}
-use Rattle.rec_match.proofs.LetterLemmas.{every-at, all-reverse}
-use Rattle.rec_match.proofs.PairedLemmas.{AreVariables, value-paired}
-use Rattle.rec_match.proofs.ApartLemmas.{Apart, tests-variables, apart-first, nothing-apart}
-use Rattle.rec_match.proofs.KeyLemmas.{binds-keys, values-read, names_in-append, last-name, numbers-names}
-use Rattle.rec_match.specs.declared.matcher.LeftSide.{LeftSide}
-use Rattle.rec_match.proofs.FindLemmas.{first-matched, first-passed, side-is}
+use Rattle.rec_match.proofs.Facts.{facts}
+use Rattle.rec_match.proofs.FindLemmas.{first-matched, first-passed}
 use Rattle.rec_match.proofs.WalkLemmas.{walk_binds, opened_is}
-use Rattle.rec_match.proofs.RunLemmas.{tree_here, held_at}
-use Rattle.rec_match.proofs.Walks.{AreBare}
+use Rattle.rec_match.proofs.RunLemmas.{held_at}
 use Rattle.rec_match.proofs.NextLemmas.{which, nothing, later-side}
 
 abbrev pub no_rule : Rule
@@ -187,69 +177,6 @@ found-binds y u n (suc k) e m f = by (binds y (get_or y.rules n no_rule).left u)
         subst (λ j. (j < length y.rules) × (binds y (get_or y.rules j no_rule).left u ≡ Some m.values)) en (lt, q ∙ ap (λ x. let o : Option Substitution = Some x in o) es)
     by None q later = later (sym (first-passed y n u no_rule lt q) ∙ f)
 
-module _ (y : Spec) (kept : fault y ≡ None) (vs : List ℕ) (declared : AreVariables y vs) (apart : Apart vs) (vals : List Tree) (long : length vals ≡ length vs) (s : Substitution) (same : SameValues (paired y vs vals) s) (d : Tree) where
-  read-order : (order : List ℕ) → All (λ p. p < length vs) order
-      → map (λ n. or_empty (value_of s n)) (map (λ x. name_of y (Variable x)) (map (λ p. get_or vs p 0) order)) ≡ map (λ p. get_or vals p d) order
-  read-order [] within = refl
-  read-order (p ∷ order) within =
-      let lt = All-head (λ p. p < length vs) p order within in
-      let here : value_of s (name_of y (Variable (get_or vs p 0))) ≡ Some (get_or vals p d) =
-      sym (same (name_of y (Variable (get_or vs p 0)))) ∙ value-paired y kept vs vals (get_or vs p 0) p d declared (every-at (λ v. v < length (variable_words y.variables)) vs declared p 0 lt) long (apart-first vs apart p lt) in
-      ap (λ o. or_empty o ∷ map (λ n. or_empty (value_of s n)) (map (λ x. name_of y (Variable x)) (map (λ p. get_or vs p 0) order))) here
-      ∙ ap (λ xs. get_or vals p d ∷ xs) (read-order order (All-tail (λ p. p < length vs) p order within))
-
-  -- the values in the order in which the variables first occur
-  pub ordered-values : (letters : List Letter) (order : List ℕ) → AreOrdered vs letters order → All (λ l. IsMeaning y l.meaning) letters → (l : X.Term) (k : ℕ) → k < length (symbols y) → (X.head l).bytes ≡ name_of y (Symbol k)
-      → map (named_by y) letters ≡ named_all (X.arguments l) → AreBare y (named l) → (u : Tree) → binds y l u ≡ Some s → map (λ p. get_or vals p d) order ≡ values_of s
-  ordered-values letters order ordered meant (Apply x ts) k lt e front bare u binding =
-      let keyed = binds-keys y (Apply x ts) u s bare binding in
-      let own : is_variable y x.bytes ≡ false = ap (is_variable y) e ∙ (facts y kept).symbol_is_none k lt in
-      let names : keys s ≡ map (λ v. name_of y (Variable v)) (map (λ p. get_or vs p 0) order) =
-      keyed.1 ∙ names_in-append y [] (named_all ts) (record { name = x.bytes; arguments = count ts } ∷ []) ∙ last-name y (names_in y [] (named_all ts)) (record { name = x.bytes; arguments = count ts }) false own
-      ∙ ap (names_in y []) (sym front) ∙ sym (numbers-names y kept [] letters tt meant) ∙ ap (map (λ v. name_of y (Variable v))) (sym ordered.numbers) in
-      sym (values-read s keyed.0 ∙ ap (map (λ n. or_empty (value_of s n))) names ∙ read-order order ordered.within)
-
-abbrev pub no_term : Term
-no_term = record { 0 = 0 }
-
--- what was found, in order
-pub found-values : (y : Spec) (w : Store) (m : Matcher) → IsReady y w m → (k at : ℕ) (args found : List Term) (i : ℕ) → HasFound y w m (name_of y (Symbol k)) at args found i
-    → (i < length m.sides.items) × All (λ p. p < length found) (order_at m i) × ((values : Substitution) × (first_match y at (drop at y.rules) (application (name_of y (Symbol k)) (from_list (trees w args))) ≡ Some (record { number = i; values = values }))
-    × (trees w (map (λ p. get_or found p (record { 0 = 0 })) (order_at m i)) ≡ values_of values))
-found-values y w m ready k at args found i has =
-    let u = application (name_of y (Symbol k)) (from_list (trees w args)) in
-    let b = found-binds y u at (length y.rules - at) (whole at has.first) (record { number = i; values = has.values }) has.first in
-    let ruled = ready.matcher.ruled in
-    let lt = b.0 in
-    let side = ready.matcher.sides i no_rule lt in
-    let letters = side.letters in
-    let meant : All (λ l. IsMeaning y l.meaning) letters = subst (λ ls. All (λ l. IsMeaning y l.meaning) ls) (reverse-reverse letters) (all-reverse (λ (l : Letter). IsMeaning y l.meaning) (reverse letters) side.meant) in
-    let vars = tests-variables y m.links (reverse letters) [] (tests_at m i) (variables_at m i) side.meant side.tests tt nothing-apart in
-    let bare = (every-at (RuleFacts y) y.rules (facts y ready.matcher.kept).rules i no_rule lt).left in
-    let long = length-map found (tree_of w) ∙ has.counted in
-    let c = has.counted in (
-      omega (arith, lt, ruled),
-      (λ j d q. (let h = side.ordered.within j d q in omega (arith, h, c))),
-      (
-        has.values,
-        has.first,
-        read w found (order_at m i) (λ j d q. (let h = side.ordered.within j d q in omega (arith, h, c)))
-            ∙ ordered-values y ready.matcher.kept (variables_at m i) vars.0 vars.1 (trees w found) long has.values has.same (tree_of w no_term) letters (order_at m i) side.ordered meant (get_or y.rules i no_rule).left (symbol_at m i) side.declared side.head side.named bare u b.1,
-      ),
-    )
-  where
-    whole : (at : ℕ) → first_match y at (drop at y.rules) (application (name_of y (Symbol k)) (from_list (trees w args))) ≡ Some (record { number = i; values = has.values }) → at + (length y.rules - at) ≡ length y.rules
-    whole at e = elim (which (length y.rules) at) [
-      | inl le ↦ absurd (cc (sym (nothing y at (application (name_of y (Symbol k)) (from_list (trees w args))) le) ∙ e))
-      | inr lt ↦ omega (arith, lt)
-    ]
-
-    read : (w : Store) (found : List Term) (order : List ℕ) → All (λ p. p < length found) order → trees w (map (λ p. get_or found p (record { 0 = 0 })) order) ≡ map (λ p. get_or (trees w found) p (tree_of w no_term)) order
-    read w found [] within = refl
-    read w found (p ∷ order) within =
-        ap (λ x. x ∷ trees w (map (λ p. get_or found p (record { 0 = 0 })) order)) (sym (tree_here w found p no_term (tree_of w no_term) (All-head (λ p. p < length found) p order within)))
-        ∙ ap (λ xs. get_or (trees w found) p (tree_of w no_term) ∷ xs) (read w found order (All-tail (λ p. p < length found) p order within))
-
 pub has-annotations : (y : Spec) (w : Store) (t : Term) (s : bank.Symbol) (o : Option Term) → HasAppl w t s → HasAnns w t o → is_some o ≡ true → OpensNothing y (tree_of w t)
 has-annotations y w t s None h anns e = absurd (cc e)
 has-annotations y w t s (Some a) h anns e = no-annotated y w t a s h anns
@@ -287,13 +214,10 @@ module _ (y : Spec) (w : Store) (m : Matcher) (ready : IsReady y w m) (u : Term)
   pub answer-none : (bind : List Term) → FindsFor w m at work bind None → next_match y from (tree_of w u) ≡ None
   answer-none bind h = skipped-to ∙ finds-for bind None h
 
-  pub rule-there : (found : List Term) (i : ℕ) → FindsFor w m at work found (Some i) → (i < length m.sides.items) × All (λ p. p < length found) (order_at m i)
-  rule-there found i h = let f = found-values y w m ready k at work found i (finds-for found (Some i) h) in (f.0, f.1)
-
-  pub answer-some : (found bind : List Term) (i : ℕ) → FindsFor w m at work found (Some i) → bind ≡ map (λ p. get_or found p (record { 0 = 0 })) (order_at m i) → Matched y w u from i bind
-  answer-some found bind i h e =
-      let f = found-values y w m ready k at work found i (finds-for found (Some i) h) in
-      record { values = f.2.0; first = skipped-to ∙ f.2.1; bound = ap (trees w) e ∙ f.2.2 }
+  pub answer-some : (bind found : List Term) (i : ℕ) → FindsFor w m at work found (Some i) → bind ≡ found → Matched y w u from i bind
+  answer-some bind found i h e =
+      let f : HasFound y w m (name_of y (Symbol k)) at work found i = finds-for found (Some i) h in
+      record { values = f.values; first = skipped-to ∙ f.first; bound = ap (trees w) e ∙ f.bound }
 
 pub can-find-there : (w : Store) (m : Matcher) (ready : AreReady w m) (u : Term) (k from at : ℕ) (args : Trees) → IsCall ready.spec w u k args → Reaches m k from at → (work : List Term) → trees w work ≡ to_list args → CanFind w m at work
 can-find-there w m ready u k from at args call reached work are = record {
@@ -303,6 +227,3 @@ can-find-there w m ready u k from at args call reached work are = record {
   matcher = ready.ready.matcher;
   counted = λ lt. (let c = work-counted ready.spec w m ready.ready u k from at args call reached work are lt in omega (arith, c));
 }
-
-pub order-read : (m : Matcher) (i : ℕ) (s : LeftSide) (xs : List ℕ) → i < length m.sides.items → s ≡ get_or m.sides.items i s → xs ≡ s.order.items → xs ≡ order_at m i
-order-read m i s xs lt e ex = ex ∙ side-is (λ (x : LeftSide). x.order.items) m i s [] lt e

@@ -18,7 +18,9 @@ use Rattle.rec_sorts.specs.declared.letters.Meaning.TheVariants.{Symbol}
 use Rattle.rec_match.specs.Asking.{opened, bound, goes_on, stack_on, asked}
 use Rattle.rec_match.specs.Held.{AllHeld, tree_of, trees, stacked}
 use Rattle.rec_sorts.specs.Linked.{signature, AreLinked}
-use Rattle.rec_match.specs.Matching.{AreFilled, SameValues, paired, AreTests, IsTest, CanAsk, Matches, IsMatcher, HeadAt, symbol_at, count_at, next_at, tests_at, variables_at, CanFind, FindsFor}
+use Rattle.rec_match.specs.Matching.{AreFilled, SameValues, paired, AreTests, IsTest, CanAsk, Matches, IsMatcher, IsSide, HasFound, HeadAt, symbol_at, count_at, next_at, tests_at, order_at, CanFind, FindsFor}
+use Rattle.rec_match.specs.Ordered.{in_order}
+use Rattle.rec_match.specs.Rows.{values_of}
 use Rattle.rec_match.specs.declared.matcher.Matcher.{Matcher}
 use Rattle.rec_match.specs.declared.matcher.LeftSide.{LeftSide}
 use Rattle.rec_sorts.specs.Laws.{Every}
@@ -27,6 +29,7 @@ use Rattle.rec_match.specs.declared.matcher.Test.{Test}
 use Rattle.rec_match.specs.declared.matcher.Test.TheVariants.{Open, First, Again}
 use Rattle.rec_match.proofs.Facts.{facts, RuleFacts}
 use Rattle.rec_match.proofs.Walks.{AreBare, AgreeOn, asked_binds, opened_same}
+use Rattle.rec_match.proofs.ValueLemmas.{no_term, order-within, tested-values, side-paired, held-in-order}
 
 -- the symbols of tests have as many arguments as the tests say
 pub askable : (y : Spec) (w : Store) (ss : List bank.Symbol) → AreLinked y w ss → (ls : List Letter) (vs : List ℕ) (ts : List Test) (all : List ℕ) → AreFilled y ls → AreTests ss ls vs ts all → All (CanAsk w) ts
@@ -144,7 +147,7 @@ pub can-ask : (w : Store) (m : Matcher) (i : ℕ) (work : List Term) (s : LeftSi
 can-ask w m i work s tests can lt e et =
     let ruled = can.matcher.ruled in
     let side = can.matcher.sides i no_rule (omega (arith, lt, ruled)) in
-    subst (λ ts. All (CanAsk w) ts) (sym (et ∙ side-is (λ (x : LeftSide). x.tests.items) m i s [] lt e)) (askable can.spec w can.symbols can.linked (reverse side.letters) [] (tests_at m i) (variables_at m i) side.filled_letters side.tests)
+    subst (λ ts. All (CanAsk w) ts) (sym (et ∙ side-is (λ (x : LeftSide). x.tests.items) m i s [] lt e)) (askable can.spec w can.symbols can.linked (reverse side.letters) [] (tests_at m i) side.tests.tested side.filled_letters side.tests.tests)
 
 pub can-next : (w : Store) (m : Matcher) (i : ℕ) (work : List Term) (s : LeftSide) → CanFind w m i work → i < length m.sides.items → s ≡ get_or m.sides.items i s → CanFind w m s.next work
 can-next w m i work s can lt e =
@@ -172,7 +175,7 @@ later-next w m i work s can lt e =
     let l = side.later in
     omega (arith, is, l)
 
-last-args : (work below args : List Term) (n : ℕ) → work ≡ below ++ args → n ≡ length args → drop (length work - n) work ≡ args
+pub last-args : (work below args : List Term) (n : ℕ) → work ≡ below ++ args → n ≡ length args → drop (length work - n) work ≡ args
 last-args work below args n e c =
     let l = ap length e ∙ length-append below args in
     ap (drop (length work - n)) e ∙ front below args (length work - n) (omega (arith, l, c))
@@ -194,7 +197,7 @@ trying-next w m at i work bind ts n s lt e et en h trying y ss below args k link
     let h' : Matches w (tests_at m i) args bind false = subst (λ xs. Matches w xs args bind false) (et ∙ side-is (λ (x : LeftSide). x.tests.items) m i s [] lt e) (subst (λ xs. Matches w ts xs bind false) (last-args work below args n split cs) h) in
     let bare = (every-get (RuleFacts y) y.rules (facts y matcher.kept).rules i no_rule lt').left in
     let no : binds y (get_or y.rules i no_rule).left (application (name_of y (Symbol k)) (from_list (trees w args))) ≡ None =
-    unmatched y w ss matcher.kept linked k ltk (get_or y.rules i no_rule).left (side.head ∙ ap (λ j. name_of y (Symbol j)) symbol) bare side.letters side.named side.filled_letters side.meant (tests_at m i) (variables_at m i) side.tests args bind (sym (t.counted lt) ∙ sym side.counted) h' in
+    unmatched y w ss matcher.kept linked k ltk (get_or y.rules i no_rule).left (side.head ∙ ap (λ j. name_of y (Symbol j)) symbol) bare side.letters side.named side.filled_letters side.meant (tests_at m i) side.tests.tested side.tests.tests args bind (sym (t.counted lt) ∙ sym side.counted) h' in
     record {
       same = t.same ∙ first-passed y i (application (name_of y (Symbol k)) (from_list (trees w args))) no_rule lt' no
           ∙ subst (λ j. first_match y (suc i) (drop (suc i) y.rules) (application (name_of y (Symbol j)) (from_list (trees w args))) ≡ first_match y (next_at m i) (drop (next_at m i) y.rules) (application (name_of y (Symbol j)) (from_list (trees w args)))) symbol (side.skips (from_list (trees w args)))
@@ -207,25 +210,49 @@ trying-next w m at i work bind ts n s lt e et en h trying y ss below args k link
       within = λ q. t.within lt;
     }
 
-pub found-here : (w : Store) (m : Matcher) (at i : ℕ) (work bind : List Term) (ts : List Test) (n : ℕ) (s : LeftSide) → AllHeld w bind → i < length m.sides.items → s ≡ get_or m.sides.items i s → ts ≡ s.tests.items → n ≡ s.count → Matches w ts (drop (length work - n) work) bind true → Trying w m at i work → FindsFor w m at work bind (Some i)
-found-here w m at i work bind ts n s held lt e et en h trying y ss below args k linked matcher ltk head split counted =
+-- the places of a rule's variables are within the values of its tests
+pub order-there : (w : Store) (m : Matcher) (i : ℕ) (work args bind : List Term) (ts : List Test) (s : LeftSide) (places : List ℕ) → CanFind w m i work → i < length m.sides.items → s ≡ get_or m.sides.items i s → ts ≡ s.tests.items → places ≡ s.order.items → Matches w ts args bind true → All (λ p. p < length bind) places
+order-there w m i work args bind ts s places can lt e et ep h =
+    let ruled = can.matcher.ruled in
+    let side = can.matcher.sides i no_rule (omega (arith, lt, ruled)) in
+    let h' : Matches w (tests_at m i) args bind true = subst (λ xs. Matches w xs args bind true) (et ∙ side-is (λ (x : LeftSide). x.tests.items) m i s [] lt e) h in
+    let own = h' can.spec can.symbols (reverse side.letters) side.tests.tested can.matcher.kept can.linked side.filled_letters side.meant side.tests.tests in
+    subst (All (λ p. p < length bind)) (sym (ep ∙ side-is (λ (x : LeftSide). x.order.items) m i s [] lt e)) (order-within can.spec can.matcher.kept can.symbols w m i (get_or can.spec.rules i no_rule) side bind own.1)
+
+-- a rule whose tests hold, with their values put in order
+pub found-here : (w : Store) (m : Matcher) (at i : ℕ) (work tested bind : List Term) (ts : List Test) (n : ℕ) (s : LeftSide) → AllHeld w tested → i < length m.sides.items → s ≡ get_or m.sides.items i s → ts ≡ s.tests.items → n ≡ s.count → bind ≡ in_order no_term tested s.order.items
+    → Matches w ts (drop (length work - n) work) tested true → Trying w m at i work → FindsFor w m at work bind (Some i)
+found-here w m at i work tested bind ts n s held lt e et en eb h trying y ss below args k linked matcher ltk head split counted =
     let t : TriedTo y w m k at i args = trying y ss below args k linked matcher ltk head split counted in
     let ruled = matcher.ruled in
     let lt' : i < length y.rules = omega (arith, lt, ruled) in
     let side = matcher.sides i no_rule lt' in
     let symbol : symbol_at m i ≡ k = t.head lt in
     let cs : n ≡ length args = en ∙ side-is (λ (x : LeftSide). x.count) m i s 0 lt e ∙ t.counted lt in
-    let h' : Matches w (tests_at m i) args bind true = subst (λ xs. Matches w xs args bind true) (et ∙ side-is (λ (x : LeftSide). x.tests.items) m i s [] lt e) (subst (λ xs. Matches w ts xs bind true) (last-args work below args n split cs) h) in
+    let h' : Matches w (tests_at m i) args tested true = subst (λ xs. Matches w xs args tested true) (et ∙ side-is (λ (x : LeftSide). x.tests.items) m i s [] lt e) (subst (λ xs. Matches w ts xs tested true) (last-args work below args n split cs) h) in
     let bare = (every-get (RuleFacts y) y.rules (facts y matcher.kept).rules i no_rule lt').left in
-    let b = matched y w ss matcher.kept linked k ltk (get_or y.rules i no_rule).left (side.head ∙ ap (λ j. name_of y (Symbol j)) symbol) bare side.letters side.named side.filled_letters side.meant (tests_at m i) (variables_at m i) side.tests args bind (sym (t.counted lt) ∙ sym side.counted) h' in
-    record {
-      values = b.0.values;
-      first = t.same ∙ first-matched y i (application (name_of y (Symbol k)) (from_list (trees w args))) no_rule b.0.values lt' b.0.binding;
-      same = b.0.same;
-      counted = b.1;
-      head = symbol ∙ sym (head (t.within lt));
-      held = held;
-    }
+    let u = application (name_of y (Symbol k)) (from_list (trees w args)) in
+    let b = matched y w ss matcher.kept linked k ltk (get_or y.rules i no_rule).left (side.head ∙ ap (λ j. name_of y (Symbol j)) symbol) bare side.letters side.named side.filled_letters side.meant (tests_at m i) side.tests.tested side.tests.tests args tested (sym (t.counted lt) ∙ sym side.counted) h' in
+    let is : bind ≡ in_order no_term tested (order_at m i) = eb ∙ ap (in_order no_term tested) (side-is (λ (x : LeftSide). x.order.items) m i s [] lt e) in
+    by side bare b.0 b.1 is t.same (symbol ∙ sym (head (t.within lt))) lt'
+  where
+    u : Tree
+    u = application (name_of y (Symbol k)) (from_list (trees w args))
+
+    by : (side : IsSide y ss m i (get_or y.rules i no_rule)) → AreBare y (named (get_or y.rules i no_rule).left) → (b : BindsTo y w (get_or y.rules i no_rule).left u side.tests.tested tested) → length tested ≡ length side.tests.tested → bind ≡ in_order no_term tested (order_at m i)
+        → first_match y at (drop at y.rules) u ≡ first_match y i (drop i y.rules) u → symbol_at m i ≡ symbol_at m at → i < length y.rules → HasFound y w m (name_of y (Symbol k)) at args bind i
+    by side bare b long is same own lt' =
+        let bound : trees w bind ≡ values_of b.values = ap (trees w) is ∙ tested-values y matcher.kept ss w m i (get_or y.rules i no_rule) side tested long bare u b.values b.binding b.same in
+        let paired = side-paired y matcher.kept ss w m i (get_or y.rules i no_rule) side bare u b.values b.binding bind bound in
+        record {
+          values = b.values;
+          first = same ∙ first-matched y i u no_rule b.values lt' b.binding;
+          same = paired.same;
+          bound = bound;
+          counted = paired.counted;
+          head = own;
+          held = subst (AllHeld w) (sym is) (held-in-order w tested held (order_at m i) (order-within y matcher.kept ss w m i (get_or y.rules i no_rule) side tested long));
+        }
 
 pub found-none : (w : Store) (m : Matcher) (at i : ℕ) (work bind : List Term) → length m.sides.items ≤ i → Trying w m at i work → FindsFor w m at work bind None
 found-none w m at i work bind le trying y ss below args k linked matcher ltk head split counted =

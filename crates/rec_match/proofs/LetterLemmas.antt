@@ -18,9 +18,8 @@ use Rattle.rec_sorts.specs.declared.letters.Meaning.TheVariants.{Symbol, Variabl
 use Rattle.rec_sorts.proofs.Kept.{all_filled, left_sides_apply, bytes_eq-eq}
 use Rattle.rec_sorts.proofs.Bindings.{bytes_eq-refl}
 use Rattle.rx_term.specs.declared.Symbol as bank
-use Rattle.rec_match.specs.Ordered.{AreOrdered}
 use Rattle.rec_match.specs.declared.matcher.LeftSide.{LeftSide}
-use Rattle.rec_match.specs.Matching.{AreFilled, AreTests}
+use Rattle.rec_match.specs.Matching.{AreFilled, AreTested}
 use Rattle.rec_match.specs.Built.{IsHead, IsWithin, IsBelow, IsLeftSide}
 use Rattle.rec_match.proofs.Facts.{facts, every_append, every_flat, every_named, variable_is_one}
 use Rattle.rec_match.proofs.Walks.{AreBare}
@@ -175,8 +174,8 @@ head-no_variable y kept rules i n v x l r are lt en el is =
 
 -- what is kept of a rule's left side
 pub is-left : (y : Spec) → fault y ≡ None → (ss : List bank.Symbol) (rules : List LetterRule) (i n : ℕ) (x : LetterRule) (l : Letter) (r : Rule) (s : LeftSide) → Pairwise (IsLetterRule y) rules y.rules → i < length rules → n ≡ length (get_or rules i x).left.items - 1
-    → l ≡ get_or (get_or rules i x).left.items n l → IsHead y (get_or y.rules i r) s.symbol → s.count ≡ l.count → AreTests ss (reverse (take n (get_or rules i x).left.items)) [] s.tests.items s.variables.items → AreOrdered s.variables.items (take n (get_or rules i x).left.items) s.order.items → IsLeftSide y ss (get_or y.rules i r) s
-is-left y kept ss rules i n x l r s are lt en el head ec tests ordered =
+    → l ≡ get_or (get_or rules i x).left.items n l → IsHead y (get_or y.rules i r) s.symbol → s.count ≡ l.count → AreTested ss (take n (get_or rules i x).left.items) s.tests.items s.variables.items s.order.items → IsLeftSide y ss (get_or y.rules i r) s
+is-left y kept ss rules i n x l r s are lt en el head ec tests =
     let letters = left-letters y rules i x r are lt in
     let t = (get_or y.rules i r).left in
     let ls = (get_or rules i x).left.items in
@@ -197,7 +196,6 @@ is-left y kept ss rules i n x l r s are lt en el head ec tests ordered =
       named = front;
       filled_letters = all-reverse (λ (l : Letter). (k : ℕ) → l.meaning ≡ Symbol k → arity_of y k ≡ l.count) (take n ls) (letters-filled y (take n ls) meant (subst (λ ms. Every (IsFilledName y) ms) (sym front) halves.0));
       tests = tests;
-      ordered = ordered;
     }
   where
     names-split : (t : Term) → Every (IsFilledName y) (named t) → Every (IsFilledName y) (named_all (X.arguments t)) × IsFilledName y (record { name = (X.head t).bytes; arguments = count (X.arguments t) })

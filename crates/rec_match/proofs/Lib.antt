@@ -32,3 +32,5 @@ pub mod TreeLemmas
 pub mod GroundLemmas
 pub mod PushLemmas
 pub mod RuleLemmas
+pub mod ValueLemmas
+pub mod TreeAnswers

@@ -18,8 +18,9 @@ use Rattle.rec_sorts.proofs.Kept.{bytes_eq-eq}
 use Rattle.rec_match.specs.Asking.{asked, opened, bound, goes_on, stack_on}
 use Rattle.rec_match.specs.Chains.{IsNext, AreChainsFrom}
 use Rattle.rec_match.specs.Built.{AreHeads, IsLeftSide, AreSides}
-use Rattle.rec_match.specs.Matching.{IsMatcher, IsSide, Skips, HeadAt, AreTests, symbol_at, count_at, next_at, tests_at, variables_at, order_at}
-use Rattle.rec_match.specs.Ordered.{AreOrdered}
+use Rattle.rec_match.specs.Matching.{IsMatcher, IsSide, Skips, HeadAt, AreTested, symbol_at, count_at, next_at, tests_at, variables_at, order_at}
+use Rattle.rec_match.specs.Forests.{IsForest}
+use Rattle.rec_match.specs.Tasks.{numbers_of}
 use Rattle.rec_match.specs.declared.matcher.Matcher.{Matcher}
 use Rattle.rec_match.specs.declared.matcher.LeftSide.{LeftSide}
 use Rattle.rec_match.proofs.Facts.{facts, RuleFacts}
@@ -36,7 +37,7 @@ opened-other a b c vs e = ap at e
     at t = elim ((t && beq (not (plain_name a)) (not (plain_name b)) && trees_eq vs vs && trees_eq none none) && nat_eq (count_of vs) c) [ true ↦ Some vs | false ↦ None ]
 
 -- a left side matches no application of another symbol
-other-head : (y : Spec) → fault y ≡ None → (l : X.Term) (j k : ℕ) → j < length (symbols y) → k < length (symbols y) → (head l).bytes ≡ name_of y (Symbol j) → j ≢ k → AreBare y (named l) → (vs : Trees) → binds y l (application (name_of y (Symbol k)) vs) ≡ None
+pub other-head : (y : Spec) → fault y ≡ None → (l : X.Term) (j k : ℕ) → j < length (symbols y) → k < length (symbols y) → (head l).bytes ≡ name_of y (Symbol j) → j ≢ k → AreBare y (named l) → (vs : Trees) → binds y l (application (name_of y (Symbol k)) vs) ≡ None
 other-head y kept (Apply w ts) j k ltj ltk e apart bare vs =
     by (binds y (Apply w ts) (application (name_of y (Symbol k)) vs)) (subst (λ o. AgreeOn o (binds y (Apply w ts) (application (name_of y (Symbol k)) vs))) whole (asked_binds y (Apply w ts) (application (name_of y (Symbol k)) vs) bare))
   where
@@ -90,8 +91,8 @@ some-at [] i lt = absurd (let bad : ⊥ = omega (arith, lt) in bad)
 some-at (x ∷ xs) i lt = x
 
 -- the first sides make the matcher
-pub matcher-built : (y : Spec) → fault y ≡ None → (ss : List bank.Symbol) (fs nexts : List ℕ) (m : Matcher) (n : ℕ) → m.links ≡ ss → AreHeads y fs → AreChainsFrom fs (length (symbols y)) 0 m.heads.items nexts → AreSides y ss fs nexts m.sides.items n → n ≡ length y.rules → IsMatcher y ss m
-matcher-built y kept ss fs nexts m n links heads chains made en = record {
+pub matcher-built : (y : Spec) → fault y ≡ None → (ss : List bank.Symbol) (fs nexts : List ℕ) (m : Matcher) (n : ℕ) → m.links ≡ ss → AreHeads y fs → AreChainsFrom fs (length (symbols y)) 0 m.heads.items nexts → AreSides y ss fs nexts m.sides.items n → n ≡ length y.rules → IsForest y (numbers_of ss) m.forest → IsMatcher y ss m
+matcher-built y kept ss fs nexts m n links heads chains made en forest = record {
   kept = kept;
   linked = links;
   ruled = made.long ∙ en;
@@ -99,6 +100,7 @@ matcher-built y kept ss fs nexts m n links heads chains made en = record {
   symbols = chains.counted;
   heads = λ k d lt. (let l = chains.counted in let ltk : k < length (symbols y) = omega (arith, lt, l) in let next = chains.heads_next k ltk in
       subst (λ at. Skips y (name_of y (Symbol k)) 0 at × HeadAt m at k) (get_or_default m.heads.items k 0 d lt) (skips-next y kept fs heads k 0 (get_or m.heads.items k 0) ltk next, head-at k 0 (get_or m.heads.items k 0) next));
+  forest = forest;
 }
   where
     symbol-is : (i : ℕ) → i < n → symbol_at m i ≡ get_or fs i 0
@@ -138,8 +140,8 @@ matcher-built y kept ss fs nexts m n links heads chains made en = record {
           meant = is.meant;
           named = is.named;
           filled_letters = is.filled_letters;
-          tests = subst (λ ts. AreTests ss (reverse is.letters) [] ts (variables_at m i)) (sym et) (subst (AreTests ss (reverse is.letters) [] s.tests.items) (sym ev) is.tests);
-          ordered = subst (λ o. AreOrdered (variables_at m i) is.letters o) (sym eo) (subst (λ vs. AreOrdered vs is.letters s.order.items) (sym ev) is.ordered);
+          tests = subst (λ ts. AreTested ss is.letters ts (variables_at m i) (order_at m i)) (sym et)
+              (subst (λ vs. AreTested ss is.letters s.tests.items vs (order_at m i)) (sym ev) (subst (AreTested ss is.letters s.tests.items s.variables.items) (sym eo) is.tests));
           later = omega (arith, after);
           skips = skips-next y kept fs heads (symbol_at m i) (suc i) (next_at m i) declared next;
           next = head-at (symbol_at m i) (suc i) (next_at m i) next;

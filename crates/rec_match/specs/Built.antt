@@ -1,5 +1,5 @@
 -- Left sides that are made of letters.
-use Rattle.std.specs.Prelude.{ℕ, ◌≡◌, ◌<◌, List, [], All, map, length, get_or, reverse}
+use Rattle.std.specs.Prelude.{ℕ, ◌≡◌, ◌<◌, List, All, map, length, get_or, reverse}
 use Rattle.rx_term.specs.declared.Symbol as bank
 use Rattle.rec_syntax.specs.Syntax as R
 use Rattle.rec_syntax.specs.Syntax.{Spec, Rule}
@@ -8,8 +8,7 @@ use Rattle.rec_sorts.specs.Numbering.{name_of, named_by, named_all, IsMeaning, a
 use Rattle.rec_sorts.specs.declared.letters.Letter.{Letter}
 use Rattle.rec_sorts.specs.declared.letters.Meaning.{Meaning}
 use Rattle.rec_sorts.specs.declared.letters.Meaning.TheVariants.{Symbol, Variable}
-use Rattle.rec_match.specs.Matching.{AreFilled, AreTests}
-use Rattle.rec_match.specs.Ordered.{AreOrdered}
+use Rattle.rec_match.specs.Matching.{AreFilled, AreTested}
 use Rattle.rec_match.specs.declared.matcher.LeftSide.{LeftSide}
 
 -- a letter's number is below that of symbols, or of variables
@@ -39,8 +38,7 @@ pub record IsLeftSide (y : Spec) (ss : List bank.Symbol) (r : Rule) (s : LeftSid
   pub meant : All (λ l. IsMeaning y l.meaning) (reverse letters)
   pub named : map (named_by y) letters ≡ named_all (R.arguments r.left)
   pub filled_letters : AreFilled y (reverse letters)
-  pub tests : AreTests ss (reverse letters) [] s.tests.items s.variables.items
-  pub ordered : AreOrdered s.variables.items letters s.order.items
+  pub tests : AreTested ss letters s.tests.items s.variables.items s.order.items
 
 -- the left sides of the first rules, with the rules that come next
 pub record AreSides (y : Spec) (ss : List bank.Symbol) (fs nexts : List ℕ) (sides : List LeftSide) (n : ℕ) : Type 0 where

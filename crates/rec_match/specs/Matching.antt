@@ -15,7 +15,10 @@ use Rattle.rec_sorts.specs.declared.letters.Letter.{Letter}
 use Rattle.rec_sorts.specs.declared.letters.Meaning.TheVariants.{Symbol, Variable}
 use Rattle.rec_match.specs.Held.{AllHeld, trees, stacked}
 use Rattle.rec_match.specs.Asking.{asked}
-use Rattle.rec_match.specs.Ordered.{AreOrdered}
+use Rattle.rec_match.specs.Forests.{IsForest}
+use Rattle.rec_match.specs.Ordered.{AreOrdered, numbers_in}
+use Rattle.rec_match.specs.Rows.{values_of}
+use Rattle.rec_match.specs.Tasks.{numbers_of}
 use Rattle.rec_sorts.specs.SpecRules.{fault}
 use Rattle.rec_match.specs.declared.matcher.Test.{Test}
 use Rattle.rec_match.specs.declared.matcher.Test.TheVariants.{Open, First, Again}
@@ -115,17 +118,24 @@ next_at m i = get_or (map (λ (s : LeftSide). s.next) m.sides.items) i 0
 abbrev pub tests_at : Matcher → ℕ → List Test
 tests_at m i = get_or (map (λ (s : LeftSide). s.tests.items) m.sides.items) i []
 
--- the variables of a rule, in the order of their values
+-- the variables of a rule, in the order in which they first occur
 abbrev pub variables_at : Matcher → ℕ → List ℕ
 variables_at m i = get_or (map (λ (s : LeftSide). s.variables.items) m.sides.items) i []
 
--- the places of these values, in the order in which the variables first occur
+-- the places of the variables' values among those that the tests give, in the same order
 abbrev pub order_at : Matcher → ℕ → List ℕ
 order_at m i = get_or (map (λ (s : LeftSide). s.order.items) m.sides.items) i []
 
 -- the rule of a number, where there is one, has this head
 abbrev pub HeadAt : Matcher → ℕ → ℕ → Type 0
 HeadAt m i k = i < length m.sides.items → symbol_at m i ≡ k
+
+-- tests are those of letters, from the last to the first; with the variables in the order in which they first occur, and the places of these among those that the tests give values
+pub record AreTested (ss : List bank.Symbol) (letters : List Letter) (ts : List Test) (vs order : List ℕ) : Type 0 where
+  pub tested : List ℕ
+  pub tests : AreTests ss (reverse letters) [] ts tested
+  pub ordered : AreOrdered tested letters order
+  pub variables : vs ≡ numbers_in [] letters
 
 -- a left side is that of a rule
 pub record IsSide (y : Spec) (ss : List bank.Symbol) (m : Matcher) (i : ℕ) (r : Rule) : Type 0 where
@@ -137,8 +147,7 @@ pub record IsSide (y : Spec) (ss : List bank.Symbol) (m : Matcher) (i : ℕ) (r 
   pub meant : All (λ l. IsMeaning y l.meaning) (reverse letters)
   pub named : map (named_by y) letters ≡ named_all (R.arguments r.left)
   pub filled_letters : AreFilled y (reverse letters)
-  pub tests : AreTests ss (reverse letters) [] (tests_at m i) (variables_at m i)
-  pub ordered : AreOrdered (variables_at m i) letters (order_at m i)
+  pub tests : AreTested ss letters (tests_at m i) (variables_at m i) (order_at m i)
   pub later : i < next_at m i
   pub skips : Skips y (name_of y (Symbol (symbol_at m i))) (suc i) (next_at m i)
   pub next : HeadAt m (next_at m i) (symbol_at m i)
@@ -151,12 +160,14 @@ pub record IsMatcher (y : Spec) (ss : List bank.Symbol) (m : Matcher) : Type 0 w
   pub sides : (i : ℕ) (r : Rule) → i < length y.rules → IsSide y ss m i (get_or y.rules i r)
   pub symbols : length m.heads.items ≡ length (symbols y)
   pub heads : (k : ℕ) (d : ℕ) → k < length m.heads.items → Skips y (name_of y (Symbol k)) 0 (get_or m.heads.items k d) × HeadAt m (get_or m.heads.items k d) k
+  pub forest : IsForest y (numbers_of ss) m.forest
 
--- a rule that matches, with the values of its variables
+-- a rule that matches, with the values of its variables in the order in which they first occur
 pub record HasFound (y : Spec) (w : Store) (m : Matcher) (name : List ℕ) (at : ℕ) (args bind : List Term) (i : ℕ) : Type 0 where
   pub values : Substitution
   pub first : first_match y at (drop at y.rules) (application name (from_list (trees w args))) ≡ Some (record { number = i; values = values })
   pub same : SameValues (paired y (variables_at m i) (trees w bind)) values
+  pub bound : trees w bind ≡ values_of values
   pub counted : length bind ≡ length (variables_at m i)
   pub head : symbol_at m i ≡ symbol_at m at
   pub held : AllHeld w bind

@@ -1,5 +1,5 @@
 -- What a matcher answers for a term of a bank.
-use Rattle.std.specs.Prelude.{ℕ, ◌≡◌, ◌<◌, List, [], Option, Some, None, map, length, get_or}
+use Rattle.std.specs.Prelude.{ℕ, ◌≡◌, ◌<◌, List, [], Option, Some, None, length, get_or}
 use Rattle.rx_term.specs.Store.{Store}
 use Rattle.rx_term.specs.declared.Term.{Term}
 use Rattle.rec_syntax.specs.Syntax.{Spec}
@@ -45,7 +45,3 @@ Reaches m k from at = (y : Spec) (w : Store) → IsReady y w m → k < length (s
 -- the next rule of a symbol comes after a rule
 abbrev pub AreLater : Matcher → Type 0
 AreLater m = (i : ℕ) (s : LeftSide) → i < length m.sides.items → s ≡ get_or m.sides.items i s → i < s.next
-
--- values at places, in the order of these
-abbrev pub in_order : List Term → List ℕ → List Term
-in_order values order = map (λ p. get_or values p (record { 0 = 0 })) order

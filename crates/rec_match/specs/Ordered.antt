@@ -43,10 +43,14 @@ abbrev pub numbers_in : List ℕ → List Letter → List ℕ
 numbers_in vs [] = vs
 numbers_in vs (l ∷ ls) = numbers_in (with_letter vs l.meaning) ls
 
+-- items at places, in the order of these
+abbrev pub in_order : {A : Type 0} → A → List A → List ℕ → List A
+in_order none items places = map (λ p. get_or items p none) places
+
 -- these are the places among variables, in the order in which the variables first occur in letters
 pub record AreOrdered (vs : List ℕ) (ls : List Letter) (order : List ℕ) : Type 0 where
   pub within : All (λ p. p < length vs) order
-  pub numbers : map (λ p. get_or vs p 0) order ≡ numbers_in [] ls
+  pub numbers : in_order 0 vs order ≡ numbers_in [] ls
 
 -- each variable of letters is among these
 abbrev pub AreAllAmong : List ℕ → List Letter → Type 0

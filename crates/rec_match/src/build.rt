@@ -1,22 +1,24 @@
 //! Left sides of rules as tests.
 
-ghost use Rattle.std.specs.Prelude.{◌≡◌, ◌<◌, [], All, IfOk, length, get_or, reverse, None};
+ghost use Rattle.std.specs.Prelude.{◌≡◌, ◌<◌, [], All, IfOk, length, get_or, None};
 ghost use Rattle.rec_sorts.specs.Lookup.{symbols};
 ghost use Rattle.rec_sorts.specs.Numbering.{variable_count, Pairwise, IsLetterRule};
 ghost use Rattle.rec_sorts.specs.SpecRules.{fault};
-ghost use Rattle.rec_match.specs.Matching.{IsTest, AreTests, IsMatcher};
-ghost use Rattle.rec_match.specs.Ordered.{AreAllBelow, AreOrdered};
+ghost use Rattle.rec_match.specs.Forests.{IsForest};
+ghost use Rattle.rec_match.specs.Matching.{IsTest, AreTested, IsMatcher};
+ghost use Rattle.rec_match.specs.Ordered.{AreAllBelow};
 ghost use Rattle.rec_match.specs.Placed.{ArePlaces, FewerPlaces, Orders};
 ghost use Rattle.rec_match.specs.Built.{IsWithin, IsHead, AreHeads, IsLeftSide};
 
 use crate::chain::chain;
+use crate::forest::{Forest, Node};
 use crate::matcher::{LeftSide, Matcher, Test};
-use crate::places::Places;
+use crate::places::{Places, push_at};
 use rec_sorts::{Checked, Letter, LetterRule, Links, Meaning};
 use std::alloc::{AllocError, Global};
 
-/// The tests of a left side, its variables in the order of their values, and the places of these
-/// in the order in which the variables first occur.
+/// The tests of a left side, its variables in the order in which they first occur, and the places
+/// of their values among those that the tests give.
 #[derive(Drop)]
 struct Tests {
     tests: Vec<Test>,
@@ -87,19 +89,20 @@ fn tests_of(
 ) -> Result<Tests, AllocError>
     requires within { All (IsWithin (length links.now) (length places.old.of.items)) letters.now }
     requires places { ArePlaces [] (length places.old.of.items) places.old }
-    ensures tests { IfOk result (λ t. AreTests links.now (reverse letters.now) [] t.tests.items t.variables.items) }
-    ensures order { IfOk result (λ t. AreOrdered t.variables.items letters.now t.order.items) }
+    ensures tests { IfOk result (λ t. AreTested links.now letters.now t.tests.items t.variables.items t.order.items) }
     ensures places { IfOk result (λ t. ArePlaces [] (length places.old.of.items) places.new) }
 {
     let mut tests = Vec::new(alloc);
-    let mut variables = Vec::new(alloc);
+    let mut tested = Vec::new(alloc);
     let mut i = letters.len();
     while i > 0 {
         i -= 1;
-        tests.push(test(links, letters[i], places, &mut variables)?)?;
+        tests.push(test(links, letters[i], places, &mut tested)?)?;
     }
     let order = order(alloc, letters, places)?;
-    places.clear(&variables);
+    places.clear(&tested);
+    let mut variables = Vec::new(alloc);
+    push_at(&tested, &order, &mut variables)?;
     Ok(Tests {
         tests,
         variables,
@@ -169,6 +172,20 @@ fn side(
     })
 }
 
+/// The matching trees of so many symbols of which none has a tree.
+fn forest_without_trees(alloc: Global, count: u32) -> Result<Forest, AllocError>
+    ensures { IfOk result (λ f. (y : _) (ns : _) → length (symbols y) ≡ count → IsForest y ns f) }
+{
+    let mut nodes = Vec::new(alloc);
+    nodes.push(Node::Fail)?;
+    Ok(Forest {
+        nodes,
+        places: Vec::new(alloc),
+        children: Vec::new(alloc),
+        roots: vec![in alloc; 0; count as usize]?,
+    })
+}
+
 impl Matcher {
     /// The left sides of a specification's rules.
     pub fn build(alloc: Global, checked: &Checked, links: &Links) -> Result<Matcher, AllocError>
@@ -179,6 +196,7 @@ impl Matcher {
         let symbols = heads(alloc, checked)?;
         let chains = chain(alloc, &symbols, checked.symbols())?;
         let own = links.copy(alloc)?;
+        let forest = forest_without_trees(alloc, checked.symbols())?;
         let mut places = Places::new(alloc, checked.variables())?;
         let mut sides = Vec::new(alloc);
         for rule in 0..rules.len() {
@@ -197,6 +215,7 @@ impl Matcher {
             sides,
             heads: chains.heads,
             links: own,
+            forest,
         })
     }
 }

@@ -1,13 +1,17 @@
-//! Which rule of a specification matches: the rules of one head are tried one by one.
+//! Which rule of a specification matches: the matching tree of its head says it, or, where there
+//! is no tree, the rules of the head are tried one by one.
 
 ghost use Rattle.std.specs.Prelude.{◌≡◌, ◌++◌, ◌∷◌, ◌-◌, ◌≤◌, [], IfOk, IsSome, All, length, drop};
 ghost use Rattle.rx_term.specs.Store.{tree_at};
 ghost use Rattle.rec_match.specs.Held.{AllHeld};
 ghost use Rattle.rec_match.specs.Matching.{CanFind, FindsFor, Asks, Opens, Takes, CanAsk, Matches};
 
+use crate::forest::Forest;
+use crate::places::push_at;
 use rec_sorts::Links;
 use rx_term::{Kind, Symbol, Term, TermBank};
 use std::alloc::{AllocError, Global};
+use std::mem::swap;
 
 /// What is asked of the next argument, the last one first.
 #[derive(Clone, Copy, PartialEq, Eq)]
@@ -21,8 +25,8 @@ pub enum Test {
 }
 
 /// A rule's left side: its symbol with the number of its arguments, their tests, its variables in
-/// the order of their values, the places of these in the order in which the variables first occur,
-/// and the next rule of the same symbol.
+/// the order in which they first occur, the places of their values among those that the tests
+/// give, and the next rule of the same symbol.
 #[derive(Drop)]
 pub struct LeftSide {
     pub symbol: u32,
@@ -33,17 +37,45 @@ pub struct LeftSide {
     pub next: u32,
 }
 
-/// The left sides of a specification's rules, the first rule of each symbol, and the symbols in a bank.
+/// The left sides of a specification's rules, the first rule of each symbol, the symbols in a bank,
+/// and the matching trees of those symbols that have one.
 #[derive(Drop)]
 pub struct Matcher {
     pub sides: Vec<LeftSide>,
     pub heads: Vec<u32>,
     pub links: Links,
+    pub forest: Forest,
 }
 
 impl Matcher {
-    /// The first rule that matches, from one on and among those of its symbol, which is applied to the last of some references; and the values of its variables.
+    /// The first rule that matches, from one on and among those of its symbol, which is applied to
+    /// the last of some references; and the values of its variables in the order in which they first occur.
     pub fn find<B: TermBank>(
+        &self,
+        bank: &B,
+        at: u32,
+        work: &[Term],
+        pending: &mut Vec<Term>,
+        bind: &mut Vec<Term>,
+    ) -> Result<Option<u32>, AllocError>
+        requires held { AllHeld (B.store bank.now) work.now }
+        requires can { CanFind (B.store bank.now) self.now at work.now }
+        ensures { IfOk result (FindsFor (B.store bank.now) self.now at work.now bind.new.items) }
+    {
+        let Some(side) = self.sides.get(at as usize) else {
+            return Ok(None);
+        };
+        if self.forest.roots[side.symbol as usize] == 0 {
+            return self.find_in_turn(bank, at, work, pending, bind);
+        }
+        let first = work.len() - side.count as usize;
+        self.forest
+            .run(bank, side.symbol, &work[first..], at, pending, bind)
+    }
+
+    /// The same without a tree: the rules of the symbol are tried one by one. The values that a
+    /// rule's tests give are put in order.
+    fn find_in_turn<B: TermBank>(
         &self,
         bank: &B,
         at: u32,
@@ -59,6 +91,9 @@ impl Matcher {
         while (i as usize) < self.sides.len() {
             let side = &self.sides[i as usize];
             if matches(bank, &side.tests, work, side.count, pending, bind)? {
+                swap(pending, bind);
+                bind.clear();
+                push_at(pending, &side.order, bind)?;
                 return Ok(Some(i));
             }
             i = side.next;

@@ -1,34 +1,14 @@
 //! The least rule that matches a term of a bank.
 
-ghost use Rattle.std.specs.Prelude.{◌≡◌, ◌<◌, [], All, length, IfOk, IfErr, OnOk, OnErr, IsSome};
+ghost use Rattle.std.specs.Prelude.{◌≡◌, ◌<◌, [], length, IfOk, IfErr, IsSome};
 ghost use Rattle.rx_term.specs.Store.{tree_at};
-ghost use Rattle.rec_match.specs.Next.{in_order, AreLater, AreReady, Answers, Reaches};
+ghost use Rattle.rec_match.specs.Next.{AreLater, AreReady, Answers, Reaches};
 
 use crate::forest::push_arguments;
 use crate::matcher::Matcher;
 use rx_term::{Kind, Term, TermBank};
 use smallvec::SmallVec;
 use std::alloc::AllocError;
-
-/// The values at these places, in their order; none where memory runs out.
-fn put_in_order(
-    values: &[Term],
-    order: &[u32],
-    bind: &mut SmallVec<Term, 8>,
-) -> Result<(), AllocError>
-    requires order { All (λ p. p < length values.now) order.now }
-    requires empty { bind.old.items ≡ [] }
-    ensures ok { OnOk result (bind.new.items ≡ in_order values.now order.now) }
-    ensures err { OnErr result (bind.new.items ≡ []) }
-{
-    for place in order {
-        if bind.push(values[*place as usize]).is_err() {
-            bind.clear();
-            return Err(AllocError);
-        }
-    }
-    Ok(())
-}
 
 impl Matcher {
     /// The first rule at or after a number among those of a symbol.
@@ -78,7 +58,7 @@ impl Matcher {
         let Some(rule) = self.find(bank, at, &arguments, &mut pending, &mut found)? else {
             return Ok(None);
         };
-        put_in_order(&found, &self.sides[rule as usize].order, bind)?;
+        bind.extend_from_slice(&found)?;
         Ok(Some(rule))
     }
 }

@@ -1,6 +1,7 @@
 //! The places of variables among those of a rule.
 
 ghost use Rattle.std.specs.Prelude.{◌≡◌, ◌<◌, ◌++◌, ◌∷◌, [], All, IfOk, None, length, get_or, set};
+ghost use Rattle.rec_match.specs.Ordered.{in_order};
 ghost use Rattle.rec_match.specs.Placed.{IsPlace, ArePlaces, OnlyPlaced};
 
 use std::alloc::{AllocError, Global};
@@ -9,6 +10,21 @@ use std::alloc::{AllocError, Global};
 #[derive(Drop)]
 pub struct Places {
     pub of: Vec<Option<u32>>,
+}
+
+/// The items at these places, in their order, behind those that were found before.
+pub(crate) fn push_at<T: Copy>(
+    items: &[T],
+    places: &[u32],
+    found: &mut Vec<T>,
+) -> Result<(), AllocError>
+    requires { All (λ p. p < length items.now) places.now }
+    ensures { IfOk result (λ u. (d : T) → found.new.items ≡ found.old.items ++ in_order d items.now places.now) }
+{
+    for place in places {
+        found.push(items[*place as usize])?;
+    }
+    Ok(())
 }
 
 impl Places {

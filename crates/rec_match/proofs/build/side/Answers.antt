@@ -1,13 +1,12 @@
-use Rattle.std.proofs.Common.{arith, sym, subst, ap, refl, ◌∙◌, ◌-◌, length, take, reverse, []}
+use Rattle.std.proofs.Common.{arith, sym, subst, ap, refl, ◌∙◌, ◌-◌, length, take, []}
 use Rattle.std.specs.Prelude.{get_or, All}
 use Rattle.std.proofs.lemmas.List.Elements.{All-take}
 use Rattle.rec_sorts.specs.Numbering.{IsMeaning}
 use Rattle.rec_sorts.specs.declared.letters.Letter.{Letter}
 use Rattle.rec_syntax.specs.Syntax.{Rule, Apply}
 use Rattle.rec_syntax.specs.Syntax as X
-use Rattle.rec_match.specs.Matching.{AreTests}
+use Rattle.rec_match.specs.Matching.{AreTested}
 use Rattle.rec_match.specs.Built.{IsWithin}
-use Rattle.rec_match.specs.Ordered.{AreOrdered}
 use Rattle.rec_match.proofs.LetterLemmas.{left-some, left-letters, letters-within, is-left}
 use Rattle.rec_match.proofs.build.side.Goals as goal
 
@@ -40,5 +39,4 @@ pub returns-clause-side : goal.returns-clause-side
 returns-clause-side c r =
     let l = c.len-size.ensures ∙ (get_or c.args.rules.now c.args.rule c.index-rules-rule.result).left.ok.0 in
     is-left c.args.checked.now.spec c.requires.kept c.args.links.now c.args.rules.now c.args.rule (c.len-size.result - 1) c.index-rules-rule.result c.index.result.now r _ c.requires.letters c.requires.rule (ap (λ n. n - 1) l) c.index.ensures (c.requires.head r) refl
-    (subst (λ xs. AreTests c.args.links.now (reverse (take (c.len-size.result - 1) xs)) [] c.in_ok-tests.tests.tests.items c.in_ok-tests.tests.variables.items) c.deref.ensures.value c.in_ok-tests.ensures.tests)
-    (subst (λ xs. AreOrdered c.in_ok-tests.tests.variables.items (take (c.len-size.result - 1) xs) c.in_ok-tests.tests.order.items) c.deref.ensures.value c.in_ok-tests.ensures.order)
+    (subst (λ xs. AreTested c.args.links.now (take (c.len-size.result - 1) xs) c.in_ok-tests.tests.tests.items c.in_ok-tests.tests.variables.items c.in_ok-tests.tests.order.items) c.deref.ensures.value c.in_ok-tests.ensures.tests)

@@ -7,9 +7,9 @@ use Rattle.rec_match.proofs.build.tests_of.Given as goal
 abbrev pub invariant-loop-i : goal.invariant-loop-i
 invariant-loop-i l = record {
   within : l.i ≤ length l.letters;
-  tests : AreTests l.links (reverse (drop l.i l.letters)) [] l.tests.items l.variables.items;
-  places : ArePlaces l.variables.items (length l.fn.places.of.items) l.places;
-  variables : All (λ v. v < length l.fn.places.of.items) l.variables.items;
+  tests : AreTests l.links (reverse (drop l.i l.letters)) [] l.tests.items l.tested.items;
+  places : ArePlaces l.tested.items (length l.fn.places.of.items) l.places;
+  tested : All (λ v. v < length l.fn.places.of.items) l.tested.items;
 }
 
 abbrev pub decreases-loop-i : goal.decreases-loop-i

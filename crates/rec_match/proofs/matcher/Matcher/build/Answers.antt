@@ -6,6 +6,7 @@ use Rattle.std.specs.Prelude.{[]}
 use Rattle.rec_sorts.specs.Numbering.{IsLetterRule}
 use Rattle.rec_match.specs.Built.{IsHead}
 use Rattle.rec_match.specs.Chains.{AreChainsFrom}
+use Rattle.rec_match.specs.Tasks.{numbers_of}
 use Rattle.std.proofs.lemmas.List.{get_or_default}
 use Rattle.rec_match.proofs.LetterLemmas.{pair-long}
 use Rattle.rec_match.proofs.SkipLemmas.{matcher-built, sides-next}
@@ -74,3 +75,4 @@ returns c =
     (subst (λ n. AreChainsFrom c.in_ok-symbols.symbols.items n 0 c.in_ok-chains.chains.heads.items c.in_ok-chains.chains.nexts.items) c.symbols.ensures
     (subst (λ xs. AreChainsFrom xs c.symbols.result 0 c.in_ok-chains.chains.heads.items c.in_ok-chains.chains.nexts.items) c.deref.ensures.value c.in_ok-chains.ensures))
     c.loop-rule.invariant.sides (omega (arith, t, q, l))
+    (c.in_ok-forest.ensures y (numbers_of c.args.links.now) (sym c.symbols-2.ensures))

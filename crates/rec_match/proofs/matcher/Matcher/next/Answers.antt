@@ -1,13 +1,11 @@
-use Rattle.std.proofs.Common.{sym, ap, subst, arith, rules, ◌∙◌, ◌≡◌, ◌<◌, ◌++◌, length, Some, None}
-use Rattle.std.specs.Prelude.{All}
-use Rattle.rec_match.specs.Next.{in_order}
+use Rattle.std.proofs.Common.{sym, ap, subst, rules, ◌∙◌, ◌≡◌, ◌++◌, Some, None}
 use Rattle.rx_term.specs.Tree.{to_list}
 use Rattle.rec_match.specs.Held.{AllHeld, trees}
 use Rattle.rec_match.specs.Matching.{CanFind, FindsFor}
 use Rattle.rec_sorts.specs.Linked.{NumberOf}
 use Rattle.rec_match.proofs.OpenLemmas.{bare-of}
 use Rattle.rec_match.proofs.TurnLemmas.{argument_list}
-use Rattle.rec_match.proofs.AnswerLemmas.{no-symbol, none-next, no-number, has-annotations, declared-number, all-later, contains-held, is-call, can-find-there, answer-none, rule-there, answer-some, order-read}
+use Rattle.rec_match.proofs.AnswerLemmas.{no-symbol, none-next, no-number, has-annotations, declared-number, all-later, contains-held, is-call, can-find-there, answer-none, answer-some}
 use Rattle.rec_match.proofs.matcher.Matcher.next.Goals as goal
 
 pub returns-in_default : goal.returns-in_default
@@ -70,37 +68,6 @@ returns-in_default-2-clause-answers g c = λ y ready. (
   c.clear.ensures.items,
 )
 
-pub index-requires : goal.index-requires
-index-requires g c =
-    let w = g.B.TermBank.store c.args.bank.now in
-    let m = c.args.self.now in
-    let h = c.in-Appl.ensures in
-    let pushed = c.in_ok-push_arguments.ensures h.args (argument_list w c.args.u c.args-2.result c.in-Appl.symbol h c.args-2.ensures) (search rules) in
-    let are : trees w c.push_arguments.new.registers.items ≡ to_list h.args = pushed.1 ∙ ap (λ xs. trees w xs ++ to_list h.args) c.new-arguments.ensures.items in
-    let y = c.requires.ready.spec in
-    let call = is-call y w m c.requires.ready.ready c.args.u c.in-Appl.symbol c.in-Some.number h c.in-Some.ensures (bare-of w c.args.u c.anns.result c.anns.ensures (sym c.is_some.ensures ∙ c.if-is_some.false)) in
-    let there =
-    rule-there y w m c.requires.ready.ready c.args.u c.in-Some.number c.args.from c.first_from-at.result h.args call c.first_from-at.ensures c.push_arguments.new.registers.items are c.find.new.bind.items c.in-Some-2.rule
-    (subst (λ xs. FindsFor w m c.first_from-at.result xs c.find.new.bind.items (Some c.in-Some-2.rule)) c.deref.ensures.value (subst (FindsFor w m c.first_from-at.result c.deref.result.now c.find.new.bind.items) c.in-Some-2.is c.in_ok-rule.ensures)) in
-    let lt = there.0 in
-    let l = m.sides.ok.0 in
-    omega (arith, lt, l)
-
-pub put_in_order-requires-clause-order : goal.put_in_order-requires-clause-order
-put_in_order-requires-clause-order g c =
-    let w = g.B.TermBank.store c.args.bank.now in
-    let m = c.args.self.now in
-    let h = c.in-Appl.ensures in
-    let pushed = c.in_ok-push_arguments.ensures h.args (argument_list w c.args.u c.args-2.result c.in-Appl.symbol h c.args-2.ensures) (search rules) in
-    let are : trees w c.push_arguments.new.registers.items ≡ to_list h.args = pushed.1 ∙ ap (λ xs. trees w xs ++ to_list h.args) c.new-arguments.ensures.items in
-    let y = c.requires.ready.spec in
-    let call = is-call y w m c.requires.ready.ready c.args.u c.in-Appl.symbol c.in-Some.number h c.in-Some.ensures (bare-of w c.args.u c.anns.result c.anns.ensures (sym c.is_some.ensures ∙ c.if-is_some.false)) in
-    let there =
-    rule-there y w m c.requires.ready.ready c.args.u c.in-Some.number c.args.from c.first_from-at.result h.args call c.first_from-at.ensures c.push_arguments.new.registers.items are c.find.new.bind.items c.in-Some-2.rule
-    (subst (λ xs. FindsFor w m c.first_from-at.result xs c.find.new.bind.items (Some c.in-Some-2.rule)) c.deref.ensures.value (subst (FindsFor w m c.first_from-at.result c.deref.result.now c.find.new.bind.items) c.in-Some-2.is c.in_ok-rule.ensures)) in
-    subst (λ vs. All (λ p. p < length vs) c.deref-3.result.now) (sym c.deref-2.ensures.value)
-    (subst (λ ps. All (λ p. p < length c.find.new.bind.items) ps) (sym (order-read m c.in-Some-2.rule c.index.result.now c.deref-3.result.now there.0 c.index.ensures c.deref-3.ensures.value)) there.1)
-
 pub returns-clause-answers : goal.returns-clause-answers
 returns-clause-answers g c = λ y ready.
     let w = g.B.TermBank.store c.args.bank.now in
@@ -110,6 +77,5 @@ returns-clause-answers g c = λ y ready.
     let are : trees w c.push_arguments.new.registers.items ≡ to_list h.args = pushed.1 ∙ ap (λ xs. trees w xs ++ to_list h.args) c.new-arguments.ensures.items in
     let call = is-call y w m ready c.args.u c.in-Appl.symbol c.in-Some.number h c.in-Some.ensures (bare-of w c.args.u c.anns.result c.anns.ensures (sym c.is_some.ensures ∙ c.if-is_some.false)) in
     let finds = subst (λ xs. FindsFor w m c.first_from-at.result xs c.find.new.bind.items (Some c.in-Some-2.rule)) c.deref.ensures.value (subst (FindsFor w m c.first_from-at.result c.deref.result.now c.find.new.bind.items) c.in-Some-2.is c.in_ok-rule.ensures) in
-    let there = rule-there y w m ready c.args.u c.in-Some.number c.args.from c.first_from-at.result h.args call c.first_from-at.ensures c.push_arguments.new.registers.items are c.find.new.bind.items c.in-Some-2.rule finds in
-    answer-some y w m ready c.args.u c.in-Some.number c.args.from c.first_from-at.result h.args call c.first_from-at.ensures c.push_arguments.new.registers.items are c.find.new.bind.items c.put_in_order.new.bind.items c.in-Some-2.rule finds
-    (c.in_ok-put_in_order.ensures.ok ∙ ap (λ vs. in_order vs c.deref-3.result.now) c.deref-2.ensures.value ∙ ap (in_order c.find.new.bind.items) (order-read m c.in-Some-2.rule c.index.result.now c.deref-3.result.now there.0 c.index.ensures c.deref-3.ensures.value))
+    answer-some y w m ready c.args.u c.in-Some.number c.args.from c.first_from-at.result h.args call c.first_from-at.ensures c.push_arguments.new.registers.items are c.extend_from_slice.new.self.items c.find.new.bind.items c.in-Some-2.rule finds
+    (c.in_ok-extend_from_slice.ensures.ok ∙ ap (λ xs. xs ++ c.deref-2.result.now) c.clear.ensures.items ∙ c.deref-2.ensures.value)
