@@ -32,3 +32,4 @@ pub mod TreeLemmas
 pub mod GroundLemmas
 pub mod PushLemmas
 pub mod RuleLemmas
+pub mod RootRowLemmas

@@ -11,6 +11,7 @@ mod next;
 mod parts;
 mod places;
 mod push;
+mod rows;
 #[cfg(test)]
 mod tests;
 
