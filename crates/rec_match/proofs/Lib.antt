@@ -33,3 +33,4 @@ pub mod GroundLemmas
 pub mod PushLemmas
 pub mod RuleLemmas
 pub mod RootRowLemmas
+pub mod GrownLemmas

@@ -14,6 +14,7 @@ mod push;
 mod rows;
 #[cfg(test)]
 mod tests;
+mod trees;
 
 pub use forest::{Child, Forest, Node, Place};
 pub use grow::Pending;
