@@ -43,7 +43,7 @@ every_both P (Some xs) None h k = tt
 every_both P (Some xs) (Some ys) h k = every_joined P xs ys h k
 
 module _ (ps : Parts) (whole : IsWhole ps) where
-  numbered_there : (n base : ℕ) (ks : List ℕ) → Every (λ (a : ℕ). a < n) ks → AreThere n (numbered_from base ks)
+  pub numbered_there : (n base : ℕ) (ks : List ℕ) → Every (λ (a : ℕ). a < n) ks → AreThere n (numbered_from base ks)
   numbered_there n base [] h = tt
   numbered_there n base (k ∷ ks) h = (h.0, numbered_there n (suc base) ks h.1)
 
@@ -98,7 +98,7 @@ changed_within n m h each (x ∷ xs) k = by (h x.cells) (each x.cells k.0) (chan
     by None e later = later
     by (Some cs) e later = (e, later)
 
-cells_from_within : (base n : ℕ) (ts : Terms) → base + count ts ≤ n → Within n (cells_from base ts)
+pub cells_from_within : (base n : ℕ) (ts : Terms) → base + count ts ≤ n → Within n (cells_from base ts)
 cells_from_within base n none le = tt
 cells_from_within base n (more t ts) le = ((let lt : base < n = omega (arith, le) in lt), cells_from_within (suc base) n ts (omega (arith, le)))
 

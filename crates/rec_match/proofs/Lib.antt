@@ -34,3 +34,5 @@ pub mod PushLemmas
 pub mod RuleLemmas
 pub mod ValueLemmas
 pub mod TreeAnswers
+pub mod RootRowLemmas
+pub mod GrownLemmas

@@ -15,3 +15,4 @@ pub mod Ordered
 pub mod Next
 pub mod Tasks
 pub mod Pushed
+pub mod Starting

@@ -4,16 +4,15 @@ ghost use Rattle.std.specs.Prelude.{◌≡◌, ◌<◌, [], All, IfOk, length, g
 ghost use Rattle.rec_sorts.specs.Lookup.{symbols};
 ghost use Rattle.rec_sorts.specs.Numbering.{variable_count, Pairwise, IsLetterRule};
 ghost use Rattle.rec_sorts.specs.SpecRules.{fault};
-ghost use Rattle.rec_match.specs.Forests.{IsForest};
 ghost use Rattle.rec_match.specs.Matching.{IsTest, AreTested, IsMatcher};
 ghost use Rattle.rec_match.specs.Ordered.{AreAllBelow};
 ghost use Rattle.rec_match.specs.Placed.{ArePlaces, FewerPlaces, Orders};
 ghost use Rattle.rec_match.specs.Built.{IsWithin, IsHead, AreHeads, IsLeftSide};
 
 use crate::chain::chain;
-use crate::forest::{Forest, Node};
 use crate::matcher::{LeftSide, Matcher, Test};
 use crate::places::{Places, push_at};
+use crate::trees::trees;
 use rec_sorts::{Checked, Letter, LetterRule, Links, Meaning};
 use std::alloc::{AllocError, Global};
 
@@ -125,7 +124,7 @@ fn head(checked: &Checked, rules: &[LetterRule], rule: usize) -> u32
 }
 
 /// The numbers of the rules' symbols.
-fn heads(alloc: Global, checked: &Checked) -> Result<Vec<u32>, AllocError>
+pub(crate) fn heads(alloc: Global, checked: &Checked) -> Result<Vec<u32>, AllocError>
     ensures { IfOk result (λ v. AreHeads checked.now.spec v.items) }
 {
     let rules = checked.rules();
@@ -172,20 +171,6 @@ fn side(
     })
 }
 
-/// The matching trees of so many symbols of which none has a tree.
-fn forest_without_trees(alloc: Global, count: u32) -> Result<Forest, AllocError>
-    ensures { IfOk result (λ f. (y : _) (ns : _) → length (symbols y) ≡ count → IsForest y ns f) }
-{
-    let mut nodes = Vec::new(alloc);
-    nodes.push(Node::Fail)?;
-    Ok(Forest {
-        nodes,
-        places: Vec::new(alloc),
-        children: Vec::new(alloc),
-        roots: vec![in alloc; 0; count as usize]?,
-    })
-}
-
 impl Matcher {
     /// The left sides of a specification's rules.
     pub fn build(alloc: Global, checked: &Checked, links: &Links) -> Result<Matcher, AllocError>
@@ -196,7 +181,7 @@ impl Matcher {
         let symbols = heads(alloc, checked)?;
         let chains = chain(alloc, &symbols, checked.symbols())?;
         let own = links.copy(alloc)?;
-        let forest = forest_without_trees(alloc, checked.symbols())?;
+        let forest = trees(alloc, checked, links, &chains)?;
         let mut places = Places::new(alloc, checked.variables())?;
         let mut sides = Vec::new(alloc);
         for rule in 0..rules.len() {

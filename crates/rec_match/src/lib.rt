@@ -11,8 +11,10 @@ mod next;
 mod parts;
 mod places;
 mod push;
+mod rows;
 #[cfg(test)]
 mod tests;
+mod trees;
 
 pub use forest::{Child, Forest, Node, Place};
 pub use grow::Pending;

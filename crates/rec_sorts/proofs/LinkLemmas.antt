@@ -2,7 +2,7 @@
 use Rattle.std.proofs.Common.{refl, sym, ap, subst, arith, ◌∙◌, length-append, inl, inr}
 use Rattle.std.specs.Prelude.{ℕ, ◌≡◌, ◌≢◌, ◌<◌, ◌≤◌, ◌+◌, ◌⊎◌, Bool, true, false, List, [], ◌∷◌, ◌++◌, Option, Some, None, length, get_or, nat_eq}
 use Rattle.std.proofs.lemmas.Bool.{cases_eq, eqb-true}
-use Rattle.std.proofs.lemmas.List.{length-map, get_or_append_left}
+use Rattle.std.proofs.lemmas.List.{length-map, get_or_append_left, get_or_default}
 use Rattle.std.proofs.Math.Seq.{get_or-append_seam}
 use Rattle.rx_term.specs.Name.{Signature}
 use Rattle.rx_term.specs.Store.{Store, signature_of}
@@ -14,7 +14,7 @@ use Rattle.rec_sorts.specs.Lookup.{names, symbols}
 use Rattle.rec_sorts.specs.SpecRules.{fault, all_rules}
 use Rattle.rec_sorts.specs.Numbering.{name_of}
 use Rattle.rec_sorts.specs.declared.letters.Meaning.TheVariants.{Symbol}
-use Rattle.rec_sorts.specs.Linked.{signature, NumberOf, NumbersOf, HasMoreSymbols}
+use Rattle.rec_sorts.specs.Linked.{signature, AllDiffer, NumberOf, NumbersOf, HasMoreSymbols}
 use Rattle.rec_sorts.proofs.Kept.{all_kept}
 use Rattle.rec_sorts.proofs.Differing.{differ}
 
@@ -122,3 +122,12 @@ linked-next y old now new ss ss' numbers numbers' n g s kept so lt adds is split
             let below : k < n = omega (arith, h, d, long) in
             let counted = so.counted in
             o ∙ (so.numbered t).each k (omega (arith, below, counted)) (sym (front k t below) ∙ f)
+
+-- symbols that have numbers differ
+pub all_differ : (ss : List bank.Symbol) (numbers : ℕ → Option ℕ) → NumbersOf ss numbers → AllDiffer ss
+all_differ ss numbers of i j d hi hj e =
+    let s = get_or ss i d in
+    let one = (of s).each i hi (get_or_default ss i s d hi) in
+    let two = (of s).each j hj (get_or_default ss j s d hj ∙ sym e) in
+    let both : ◌≡◌ {A = Option ℕ} (Some i) (Some j) = sym one ∙ two in
+    cc both

@@ -1,5 +1,5 @@
 -- What the words of the laws say of two worked specifications, and what the laws say at their edges.
-use Rattle.std.proofs.Common.{refl, ap, subst, arith, ◌-◌, ◌<◌}
+use Rattle.std.proofs.Common.{refl, ap, subst, arith, ◌-◌}
 use Rattle.std.specs.Prelude.{ℕ, suc, List, [], ◌∷◌, codes, ◌≡◌, true, false, Some, None}
 use Rattle.rec_syntax.specs.Tokens.{Word}
 use Rattle.rec_syntax.specs.Syntax.{Term, Terms, Apply, Spec}

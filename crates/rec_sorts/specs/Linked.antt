@@ -27,6 +27,10 @@ pub record NumberOf (ss : List bank.Symbol) (s : bank.Symbol) (o : Option ℕ) :
   pub found : (k : ℕ) → o ≡ Some k → (k < length ss) × (get_or ss k s ≡ s)
   pub each : (k : ℕ) → k < length ss → get_or ss k s ≡ s → o ≡ Some k
 
+-- no symbol stands at two places of a list
+abbrev pub AllDiffer : List bank.Symbol → Type 0
+AllDiffer ss = (i j : ℕ) (d : bank.Symbol) → i < length ss → j < length ss → get_or ss i d ≡ get_or ss j d → i ≡ j
+
 -- symbols have these numbers
 abbrev pub NumbersOf : List bank.Symbol → (ℕ → Option ℕ) → Type 0
 NumbersOf ss numbers = (s : bank.Symbol) → NumberOf ss s (numbers s.0)

@@ -4,7 +4,7 @@ ghost use Rattle.std.specs.Prelude.{◌≡◌, ◌≢◌, ◌<◌, List, Some, E
 ghost use Rattle.indexmap.specs.IndexMap.{get};
 ghost use Rattle.rx_term.specs.declared.Symbol.{Symbol};
 ghost use Rattle.rx_term.specs.declared.faults.BankFault.TheVariants.{Full};
-ghost use Rattle.rec_sorts.specs.Linked.{AreLinked, HasMoreSymbols, NumberOf, NumbersOf};
+ghost use Rattle.rec_sorts.specs.Linked.{AreLinked, AllDiffer, HasMoreSymbols, NumberOf, NumbersOf};
 
 use crate::checked::Checked;
 use indexmap::IndexMap;
@@ -61,6 +61,14 @@ impl Links {
         ensures { slice_get self.now op ≡ Some result }
     {
         self.symbols[op as usize]
+    }
+
+    /// The bank's symbols by their numbers.
+    pub fn symbols(&self) -> &[Symbol]
+        ensures same { result.now ≡ self.now }
+        ensures differ { AllDiffer self.now }
+    {
+        &self.symbols
     }
 
     /// The number of a bank's symbol, where it is one of the specification's.

@@ -1,12 +1,14 @@
 use Rattle.std.proofs.Common.{arith, sym, ap, subst, ◌∙◌, ◌<◌, ◌≡◌, length}
-use Rattle.std.specs.Prelude.{get_or, All}
-use Rattle.rec_syntax.specs.Syntax.{Rule, Apply}
+use Rattle.std.specs.Prelude.{ℕ, List, get_or, All}
+use Rattle.rec_syntax.specs.Syntax.{Spec, Rule, Apply}
 use Rattle.rec_syntax.specs.Syntax as X
 use Rattle.std.specs.Prelude.{[]}
 use Rattle.rec_sorts.specs.Numbering.{IsLetterRule}
-use Rattle.rec_match.specs.Built.{IsHead}
-use Rattle.rec_match.specs.Chains.{AreChainsFrom}
-use Rattle.rec_match.specs.Tasks.{numbers_of}
+use Rattle.rec_sorts.specs.Lookup.{symbols}
+use Rattle.rec_match.specs.Built.{IsHead, AreHeads}
+use Rattle.rec_match.specs.Chains.{AreChains, AreChainsFrom}
+use Rattle.rec_match.specs.Starting.{ChainsRules}
+use Rattle.rec_match.specs.declared.chain.Chains.{Chains}
 use Rattle.std.proofs.lemmas.List.{get_or_default}
 use Rattle.rec_match.proofs.LetterLemmas.{pair-long}
 use Rattle.rec_match.proofs.SkipLemmas.{matcher-built, sides-next}
@@ -20,6 +22,17 @@ chain-requires c =
     subst (λ xs. All (λ k. k < c.symbols.result) xs) (sym c.deref.ensures.value)
     (λ k d lt. (let fs = c.in_ok-symbols.symbols.items in let h = c.in_ok-symbols.ensures in let l = h.counted in let e = c.symbols.ensures in
     let b = (h.each k no_rule (omega (arith, lt, l))).declared in let q : get_or fs k d ≡ get_or fs k 0 = get_or_default fs k d 0 lt in omega (arith, b, e, q)))
+
+-- the chains are those of the rules' symbols
+chained : (y : Spec) (fs xs : List ℕ) (n : ℕ) (chains : Chains) → AreHeads y fs → xs ≡ fs → n ≡ length (symbols y) → AreChains xs n chains → ChainsRules y chains
+chained y fs xs n chains heads same counted are = record {
+  symbols_of = fs;
+  heads = heads;
+  chains = subst (λ k. AreChains fs k chains) counted (subst (λ ks. AreChains ks n chains) same are);
+}
+
+pub trees-requires-clause-chains : goal.trees-requires-clause-chains
+trees-requires-clause-chains c = chained c.args.checked.now.spec c.in_ok-symbols.symbols.items c.deref.result.now c.symbols.result c.in_ok-chains.chains c.in_ok-symbols.ensures c.deref.ensures.value c.symbols.ensures c.in_ok-chains.ensures
 
 pub index-requires : goal.index-requires
 index-requires c =
@@ -74,5 +87,4 @@ returns c =
     matcher-built y c.rules-rules.ensures.kept c.args.links.now c.in_ok-symbols.symbols.items c.in_ok-chains.chains.nexts.items _ c.loop-rule.rule c.in_ok-own.ensures c.in_ok-symbols.ensures
     (subst (λ n. AreChainsFrom c.in_ok-symbols.symbols.items n 0 c.in_ok-chains.chains.heads.items c.in_ok-chains.chains.nexts.items) c.symbols.ensures
     (subst (λ xs. AreChainsFrom xs c.symbols.result 0 c.in_ok-chains.chains.heads.items c.in_ok-chains.chains.nexts.items) c.deref.ensures.value c.in_ok-chains.ensures))
-    c.loop-rule.invariant.sides (omega (arith, t, q, l))
-    (c.in_ok-forest.ensures y (numbers_of c.args.links.now) (sym c.symbols-2.ensures))
+    c.loop-rule.invariant.sides (omega (arith, t, q, l)) c.in_ok-forest.ensures

@@ -1,4 +1,4 @@
-use Rattle.std.proofs.Common.{rules, subst, sym, ap, ◌≡◌, ◌∙◌, nat_eq}
+use Rattle.std.proofs.Common.{rules, ◌≡◌, nat_eq}
 use Rattle.indexmap.specs.IndexMap.{get}
 use Rattle.std.proofs.lemmas.Map.Entries.{entries_from_clone}
 use Rattle.rec_sorts.specs.Linked.{NumbersOf}

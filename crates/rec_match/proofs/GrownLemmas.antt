@@ -1,0 +1,128 @@
+-- The trees of symbols, one after the other.
+use Rattle.std.proofs.Common.{refl, sym, ap, subst, arith, ◌∙◌, inl, inr}
+use Rattle.std.proofs.lemmas.Bool.{cases_eq}
+use Rattle.std.proofs.lemmas.List.{append-nil, length-append}
+use Rattle.std.specs.Prelude.{ℕ, zero, suc, ◌+◌, ◌<◌, ◌≡◌, ◌≢◌, ◌⊎◌, List, [], ◌∷◌, ◌++◌, None, length, get_or}
+use Rattle.rx_term.specs.declared.Symbol as bank
+use Rattle.rec_syntax.specs.Syntax.{Spec}
+use Rattle.rec_sorts.specs.Laws.{Every}
+use Rattle.rec_sorts.specs.Linked.{AllDiffer}
+use Rattle.rec_sorts.specs.Lookup.{symbols, is_variable}
+use Rattle.rec_sorts.specs.Numbering.{name_of, arity_of}
+use Rattle.rec_sorts.specs.SpecRules.{fault}
+use Rattle.rec_sorts.specs.declared.letters.Meaning.TheVariants.{Symbol}
+use Rattle.rec_match.specs.Built.{AreHeads}
+use Rattle.rec_match.specs.Forests.{IsForest}
+use Rattle.rec_match.specs.Growing.{State, Grows, Extends}
+use Rattle.rec_match.specs.Running.{root_rows, IsHeaded}
+use Rattle.rec_match.specs.Tasks.{AreApart, Growing, Waits, TreeGoesOn, numbers_of}
+use Rattle.rec_match.specs.declared.forest.Forest.{Forest}
+use Rattle.rec_match.specs.declared.forest.Node.{Node}
+use Rattle.rec_match.specs.declared.forest.Node.TheVariants.{Fail}
+use Rattle.rec_match.specs.declared.parts.Parts.{Parts}
+use Rattle.rec_match.proofs.ExtensionLemmas.{grows_later}
+use Rattle.rec_match.proofs.Facts.{facts}
+use Rattle.rec_match.proofs.GrowthLemmas.{grown_forest}
+use Rattle.rec_match.proofs.Items.{get-front, get-last}
+use Rattle.rec_match.proofs.RootRowLemmas.{no_rule}
+
+-- the rows of all rules of a symbol
+abbrev pub whole_state : Spec → ℕ → State
+whole_state y k = record { width = arity_of y k; rows = root_rows (name_of y (Symbol k)) (arity_of y k) 0 y.rules }
+
+-- the first symbols have trees, or none
+pub record HasTrees (y : Spec) (ns : List ℕ) (ps : Parts) (f : Forest) (roots : List ℕ) (n : ℕ) : Type 0 where
+  pub states : ℕ → State
+  pub growing : Growing y ns ps f [] states
+  pub some : 0 < length f.nodes.items
+  pub counted : length roots ≡ n
+  pub stands : (k : ℕ) → k < n → get_or roots k 0 ≢ 0 → (get_or roots k 0 < length f.nodes.items) × (states (get_or roots k 0) ≡ whole_state y k)
+
+-- one node, to which nothing leads
+pub trees_none : (y : Spec) (ns : List ℕ) (ps : Parts) (f : Forest) (roots : List ℕ) → f.nodes.items ≡ Fail ∷ [] → roots ≡ [] → HasTrees y ns ps f roots 0
+trees_none y ns ps f roots e none = record {
+  states = λ n. record { width = 0; rows = [] };
+  growing = record { tasks = tt; nodes = λ n lt. inr (by n (get_or f.nodes.items n Fail) (ap (λ xs. get_or xs n Fail) e ∙ fail n)) };
+  some = (let l = ap length e in omega (arith, l));
+  counted = ap length none;
+  stands = λ k lt. absurd (let bad : ⊥ = omega (arith, lt) in bad);
+}
+  where
+    fail : (n : ℕ) → get_or (Fail ∷ []) n Fail ≡ Fail
+    fail zero = refl
+    fail (suc n) = refl
+
+    by : (n : ℕ) (node : Node) → node ≡ Fail → Grows y ns f (λ n. record { width = 0; rows = [] }) n node
+    by n node q = subst (Grows y ns f (λ n. record { width = 0; rows = [] }) n) (sym q) refl
+
+-- one symbol more
+pub trees_more : (y : Spec) (ns : List ℕ) (ps : Parts) (f g : Forest) (roots roots' : List ℕ) (n root : ℕ) → (h : HasTrees y ns ps f roots n) → TreeGoesOn y ns ps f h.states (arity_of y n) (root_rows (name_of y (Symbol n)) (arity_of y n) 0 y.rules) g root
+    → roots' ≡ roots ++ root ∷ [] → HasTrees y ns ps g roots' (n + 1)
+trees_more y ns ps f g roots roots' n root h t e = record {
+  states = t.goes.states;
+  growing = t.goes.growing;
+  some = (let a = h.some in let b = t.goes.extends.nodes in omega (arith, a, b));
+  counted = (let l = ap length e ∙ length-append roots (root ∷ []) in let c = h.counted in omega (arith, l, c));
+  stands = λ k lt. by k lt (cases_eq k n);
+}
+  where
+    by : (k : ℕ) → k < n + 1 → (k ≡ n) ⊎ (k ≢ n) → get_or roots' k 0 ≢ 0 → (get_or roots' k 0 < length g.nodes.items) × (t.goes.states (get_or roots' k 0) ≡ whole_state y k)
+    by k lt (inl is) =
+        let at : get_or roots' k 0 ≡ root = ap (λ xs. get_or xs k 0) e ∙ get-last roots root k 0 (is ∙ sym h.counted) in
+        subst (λ r. r ≢ 0 → (r < length g.nodes.items) × (t.goes.states r ≡ whole_state y k)) (sym at) (subst (λ j. root ≢ 0 → (root < length g.nodes.items) × (t.goes.states root ≡ whole_state y j)) (sym is) t.stands)
+    by k lt (inr ne) =
+        let below : k < n = omega (arith, lt, ne) in
+        let c = h.counted in
+        let at : get_or roots' k 0 ≡ get_or roots k 0 = ap (λ xs. get_or xs k 0) e ∙ get-front roots root k 0 (omega (arith, below, c)) in
+        subst (λ r. r ≢ 0 → (r < length g.nodes.items) × (t.goes.states r ≡ whole_state y k)) (sym at)
+        (λ there. (let o = h.stands k below there in let o0 = o.0 in let le = t.goes.extends.nodes in ((let l : get_or roots k 0 < length g.nodes.items = omega (arith, o0, le) in l), t.goes.extends.states (get_or roots k 0) o.0 ∙ o.1)))
+
+-- what holds at each place holds of each element
+every_from : {X : Type 0} (P : X → Type 0) (d : X) (xs : List X) → ((i : ℕ) → i < length xs → P (get_or xs i d)) → Every P xs
+every_from P d [] h = tt
+every_from P d (x ∷ xs) h = (h 0 (omega arith), every_from P d xs (λ i lt. h (suc i) (omega (arith, lt))))
+
+headed : (y : Spec) → fault y ≡ None → (hs : List ℕ) → AreHeads y hs → Every (IsHeaded y) y.rules
+headed y kept hs heads =
+    every_from (IsHeaded y) no_rule y.rules (λ i lt. (let h = heads.each i no_rule lt in ap (is_variable y) h.head ∙ (facts y kept).symbol_is_none (get_or hs i 0) h.declared))
+
+-- all symbols have trees, or none
+pub trees_done : (y : Spec) → fault y ≡ None → (ns : List ℕ) (ps : Parts) (f g : Forest) (roots hs : List ℕ) (n : ℕ) → AreHeads y hs → HasTrees y ns ps f roots n → n ≡ length (symbols y)
+    → g.nodes.items ≡ f.nodes.items → g.places.items ≡ f.places.items → g.children.items ≡ f.children.items → g.roots.items ≡ roots → IsForest y ns g
+trees_done y kept ns ps f g roots hs n heads h e nodes places children is = grown_forest y ns g (record {
+  headed = headed y kept hs heads;
+  states = h.states;
+  nodes = λ m lt. (let l = ap length nodes in let below : m < length f.nodes.items = omega (arith, lt, l) in subst (Grows y ns g h.states m) (sym (ap (λ xs. get_or xs m Fail) nodes)) (grows_later y ns f g h.states h.states same m (get_or f.nodes.items m Fail) below (grown m (h.growing.nodes m below))));
+  counted = ap length is ∙ h.counted ∙ e;
+  there = λ k lt there. (let o = stands k lt there in let o0 = o.0 in let l = ap length nodes in omega (arith, o0, l));
+  roots = λ k lt there. (stands k lt there).1;
+})
+  where
+    same : Extends f h.states g h.states
+    same = record {
+      nodes = (let l = ap length nodes in omega (arith, l));
+      new_places = [];
+      places = places ∙ sym (append-nil f.places.items);
+      new_children = [];
+      children = children ∙ sym (append-nil f.children.items);
+      states = λ m lt. refl;
+    }
+
+    grown : (m : ℕ) → Waits [] m ⊎ Grows y ns f h.states m (get_or f.nodes.items m Fail) → Grows y ns f h.states m (get_or f.nodes.items m Fail)
+    grown m (inl w) = absurd w
+    grown m (inr r) = r
+
+    stands : (k : ℕ) → k < length (symbols y) → get_or g.roots.items k 0 ≢ 0 → (get_or g.roots.items k 0 < length f.nodes.items) × (h.states (get_or g.roots.items k 0) ≡ whole_state y k)
+    stands k lt = subst (λ xs. get_or xs k 0 ≢ 0 → (get_or xs k 0 < length f.nodes.items) × (h.states (get_or xs k 0) ≡ whole_state y k)) (sym is) (h.stands k (omega (arith, lt, e)))
+
+-- symbols that differ have numbers that do
+pub numbers_apart : (y : Spec) (ss : List bank.Symbol) → AllDiffer ss → length ss ≡ length (symbols y) → AreApart y (numbers_of ss)
+numbers_apart y ss differ e i j lti ltj same = differ i j none (omega (arith, lti, e)) (omega (arith, ltj, e)) (ap (λ (n : ℕ). (let s : bank.Symbol = record { 0 = n } in s)) (sym (number ss i) ∙ same ∙ number ss j))
+  where
+    none : bank.Symbol
+    none = record { 0 = 0 }
+
+    number : (ss : List bank.Symbol) (i : ℕ) → get_or (numbers_of ss) i 0 ≡ (get_or ss i none).0
+    number [] i = refl
+    number (s ∷ ss) zero = refl
+    number (s ∷ ss) (suc i) = number ss i

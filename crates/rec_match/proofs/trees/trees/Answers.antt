@@ -1,0 +1,39 @@
+use Rattle.std.proofs.Common.{refl, sym, ap, subst, arith, ◌∙◌, ◌++◌, ◌∷◌, [], map}
+use Rattle.rec_sorts.specs.Numbering.{name_of, arity_of}
+use Rattle.rec_sorts.specs.declared.letters.Meaning.TheVariants.{Symbol}
+use Rattle.rec_match.specs.Parts.{coded_of}
+use Rattle.rec_match.specs.Running.{root_rows}
+use Rattle.rec_match.specs.Tasks.{numbers_of, AreLeft, TreeGoesOn}
+use Rattle.rec_match.specs.declared.forest.Node.TheVariants.{Fail}
+use Rattle.rec_match.proofs.GroundLemmas.{is_ground}
+use Rattle.rec_match.proofs.GrownLemmas.{trees_none, trees_more, trees_done, numbers_apart}
+use Rattle.rec_match.proofs.trees.trees.Goals as goal
+
+pub loop-symbol-init : goal.loop-symbol-init
+loop-symbol-init c =
+    trees_none c.args.checked.now.spec (numbers_of c.args.links.now) c.in_ok-left.left.parts _ c.new-roots.result.items (c.in_ok-push.ensures.items ∙ ap (λ xs. xs ++ Fail ∷ []) c.new.ensures.items) c.new-roots.ensures.items
+
+pub tree-requires-clause-ground : goal.tree-requires-clause-ground
+tree-requires-clause-ground c =
+    is_ground c.args.checked.now.spec c.syntax-kept.ensures.kept (numbers_of c.args.links.now) c.in_ok-left.left.parts (numbers_apart c.args.checked.now.spec c.args.links.now c.symbols-differ.ensures.differ c.requires.linked) c.in_ok-left.ensures.whole
+
+pub loop-symbol-preserved : goal.loop-symbol-preserved
+loop-symbol-preserved c =
+    let y = c.args.checked.now.spec in
+    let ns = numbers_of c.args.links.now in
+    let ps = c.in_ok-left.left.parts in
+    let k = c.loop-symbol.symbol in
+    let rows = root_rows (name_of y (Symbol k)) (arity_of y k) 0 y.rules in
+    let h = c.loop-symbol.invariant in
+    let left = subst (λ w. AreLeft y ps w (map coded_of c.in_ok-rows.rows.items) rows) (sym c.arity-width.ensures) c.in_ok-rows.ensures in
+    trees_more y ns ps c.loop-symbol.forest c.tree.new.forest c.loop-symbol.roots.items c.push-in-loop-symbol.new.self.items k c.in_ok-root.root h
+    (subst (λ w. TreeGoesOn y ns ps c.loop-symbol.forest h.states w rows c.tree.new.forest c.in_ok-root.root) c.arity-width.ensures (c.in_ok-root.ensures h.states rows h.growing left)) c.in_ok-push-2.ensures.items
+
+pub returns : goal.returns
+returns c =
+    let y = c.args.checked.now.spec in
+    let t = c.loop-symbol-test.false in
+    let q = c.loop-symbol.auto.symbol-end in
+    let n = c.symbols-symbol-end.ensures in
+    trees_done y c.syntax-kept.ensures.kept (numbers_of c.args.links.now) c.in_ok-left.left.parts c.loop-symbol.forest _ c.loop-symbol.roots.items c.requires.chains.symbols_of c.loop-symbol.symbol c.requires.chains.heads c.loop-symbol.invariant
+    (omega (arith, t, q, n)) refl refl refl refl
