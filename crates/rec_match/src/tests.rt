@@ -25,12 +25,12 @@ struct Said {
     are_a: Vec<bool>,
 }
 
-/// The matcher of the specification, whose symbols the bank gets.
-fn matcher_of<B: TermBank>(alloc: Global, bank: &mut B) -> Result<Matcher, Fail>
+/// The matcher of a specification, whose symbols the bank gets.
+fn matcher_of<B: TermBank>(alloc: Global, bank: &mut B, spec: &[u8]) -> Result<Matcher, Fail>
     ensures ready { IfOk result (AreReady (B.store bank.new)) }
     ensures same { HasMoreSymbols (B.store bank.old) (B.store bank.new) }
 {
-    let checked = check(alloc, read_spec(alloc, OVL)?)?;
+    let checked = check(alloc, read_spec(alloc, spec)?)?;
     let links = Links::make(alloc, &checked, bank)?;
     Ok(Matcher::build(alloc, &checked, &links)?)
 }
@@ -64,11 +64,17 @@ fn answer<B: TermBank>(
     })
 }
 
-/// What the matcher says of a text's term.
-fn ask_of<B: TermBank>(alloc: Global, bank: &mut B, text: &[u8], from: u32) -> Result<Said, Fail> {
+/// What the matcher of a specification says of a text's term.
+fn ask_of<B: TermBank>(
+    alloc: Global,
+    bank: &mut B,
+    spec: &[u8],
+    text: &[u8],
+    from: u32,
+) -> Result<Said, Fail> {
     let a = read(alloc, b"a", bank)?;
     let u = read(alloc, text, bank)?;
-    let matcher = matcher_of(alloc, bank)?;
+    let matcher = matcher_of(alloc, bank, spec)?;
     answer(alloc, bank, &matcher, a, u, from)
 }
 
@@ -89,7 +95,7 @@ fn overlapping_rules(rt: HostRuntime) -> Result<(), Fail> {
     ];
     for (text, from, rule, are_a) in rows {
         let mut bank = PlainBank::new(rt.alloc(), 100)?;
-        let said = ask_of(rt.alloc(), &mut bank, text, from)?;
+        let said = ask_of(rt.alloc(), &mut bank, OVL, text, from)?;
         assert_eq!(rt; said.rule, rule);
         assert_eq!(rt; said.are_a.as_slice(), are_a);
     }
@@ -101,9 +107,95 @@ fn what_no_rule_matches(rt: HostRuntime) -> Result<(), Fail> {
     let terms: [&[u8]; 6] = [b"a", b"7", b"[a]", b"f(a)", b"f(a,a){b}", b"<f(a,a)>"];
     for text in terms {
         let mut bank = PlainBank::new(rt.alloc(), 100)?;
-        let said = ask_of(rt.alloc(), &mut bank, text, 0)?;
+        let said = ask_of(rt.alloc(), &mut bank, OVL, text, 0)?;
         assert_eq!(rt; said.rule, None);
         assert!(rt; said.are_a.is_empty());
+    }
+    Ok(())
+}
+
+/// A rule of the operator `w`, whose left side has `a` at one place and variables at the others.
+fn push_rule(alloc: Global, text: &mut String, place: u32) -> Result<(), Fail> {
+    for i in 1..=20 {
+        text.push_str(if i == 1 { " w(" } else { "," })?;
+        if i == place {
+            text.push_str("a")?;
+        } else {
+            text.push_str(format!(in alloc; "X{i}")?.as_str())?;
+        }
+    }
+    text.push_str(") -> b")?;
+    Ok(())
+}
+
+/// A specification of an operator `w` with 20 arguments and a rule for each of them.
+fn wide(alloc: Global) -> Result<String, Fail> {
+    let mut text = String::from_str(
+        alloc,
+        "REC-SPEC Wide SORTS N CONS a : -> N b : -> N OPNS w : N N N N N N N N N N N N N N N N N N N N -> N VARS",
+    )?;
+    for i in 1..=20 {
+        text.push_str(format!(in alloc; " X{i}")?.as_str())?;
+    }
+    text.push_str(" : N RULES")?;
+    for place in 1..=20 {
+        push_rule(alloc, &mut text, place)?;
+    }
+    text.push_str(" EVAL a END-SPEC")?;
+    Ok(text)
+}
+
+#[test]
+fn a_rule_for_each_argument(rt: HostRuntime) -> Result<(), Fail> {
+    let spec = wide(rt.alloc())?;
+    let rows: [(&[u8], Option<u32>, &[bool]); 3] = [
+        (
+            b"w(b,b,b,b,b,b,b,b,b,b,b,b,b,b,b,b,b,b,b,a)",
+            Some(19),
+            &[false; 19],
+        ),
+        (b"w(b,b,b,b,b,b,b,b,b,b,b,b,b,b,b,b,b,b,b,b)", None, &[]),
+        (
+            b"w(a,a,a,a,a,a,a,a,a,a,a,a,a,a,a,a,a,a,a,a)",
+            Some(0),
+            &[true; 19],
+        ),
+    ];
+    for (text, rule, are_a) in rows {
+        let mut bank = PlainBank::new(rt.alloc(), 100)?;
+        let said = ask_of(rt.alloc(), &mut bank, spec.as_bytes(), text, 0)?;
+        assert_eq!(rt; said.rule, rule);
+        assert_eq!(rt; said.are_a.as_slice(), are_a);
+    }
+    Ok(())
+}
+
+/// A specification of an operator `k` with a rule for each of 200 constants.
+fn cases(alloc: Global) -> Result<String, Fail> {
+    let mut text = String::from_str(alloc, "REC-SPEC Cases SORTS N CONS a : -> N")?;
+    for i in 1..=200 {
+        text.push_str(format!(in alloc; " c{i} : -> N")?.as_str())?;
+    }
+    text.push_str(" OPNS k : N -> N RULES")?;
+    for i in 1..=200 {
+        text.push_str(format!(in alloc; " k(c{i}) -> a")?.as_str())?;
+    }
+    text.push_str(" EVAL a END-SPEC")?;
+    Ok(text)
+}
+
+#[test]
+fn a_rule_for_each_constant(rt: HostRuntime) -> Result<(), Fail> {
+    let spec = cases(rt.alloc())?;
+    let rows: [(&[u8], Option<u32>); 3] = [
+        (b"k(c1)", Some(0)),
+        (b"k(c200)", Some(199)),
+        (b"k(a)", None),
+    ];
+    for (text, rule) in rows {
+        let mut bank = PlainBank::new(rt.alloc(), 100)?;
+        let said = ask_of(rt.alloc(), &mut bank, spec.as_bytes(), text, 0)?;
+        assert_eq!(rt; said.rule, rule);
     }
     Ok(())
 }
