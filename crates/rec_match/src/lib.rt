@@ -6,6 +6,7 @@ mod chain;
 mod forest;
 mod grow;
 mod leaves;
+mod marks;
 mod matcher;
 mod next;
 mod parts;
@@ -17,7 +18,8 @@ mod tests;
 mod trees;
 
 pub use forest::{Child, Forest, Node, Place};
-pub use grow::Pending;
+pub use grow::{Pending, Work};
+pub use marks::Marks;
 pub use matcher::{LeftSide, Matcher, Test};
 pub use parts::{Code, CodeRow, Part, Parts};
 pub use places::Places;
