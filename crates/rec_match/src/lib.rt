@@ -16,6 +16,8 @@ mod rows;
 #[cfg(test)]
 mod tests;
 mod trees;
+#[cfg(test)]
+mod trees_tests;
 
 pub use forest::{Child, Forest, Node, Place};
 pub use grow::{Pending, Work};
