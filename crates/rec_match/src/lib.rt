@@ -6,6 +6,7 @@ mod chain;
 mod forest;
 mod grow;
 mod leaves;
+mod marks;
 mod matcher;
 mod next;
 mod parts;
@@ -15,9 +16,12 @@ mod rows;
 #[cfg(test)]
 mod tests;
 mod trees;
+#[cfg(test)]
+mod trees_tests;
 
 pub use forest::{Child, Forest, Node, Place};
-pub use grow::Pending;
+pub use grow::{Pending, Work};
+pub use marks::Marks;
 pub use matcher::{LeftSide, Matcher, Test};
 pub use parts::{Code, CodeRow, Part, Parts};
 pub use places::Places;
