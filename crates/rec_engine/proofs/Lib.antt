@@ -5,6 +5,7 @@ pub mod Ends
 pub mod BuildingLemmas
 pub mod MachineLemmas
 pub mod TurnLemmas
+pub mod StayLemmas
 pub mod CodeLemmas
 pub mod EvaluationLemmas
 pub mod WriteLemmas

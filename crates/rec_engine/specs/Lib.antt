@@ -4,6 +4,7 @@ pub mod Constants
 pub mod Cells
 pub mod Building
 pub mod Machine
+pub mod Turn
 pub mod Compiled
 pub mod Answered
 pub mod Written

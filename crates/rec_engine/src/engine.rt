@@ -12,8 +12,7 @@ ghost use Rattle.rec_engine.specs.Engine.{AreInRange, SameEngine, IsGiven, eval_
 use crate::cells::{EngineFault, Pace};
 use crate::code::{Code, Op};
 use crate::constants::Constants;
-use crate::evaluation::normalise;
-use crate::machine::Machine;
+use crate::machine::{Machine, State};
 use crate::terms::make_term;
 use rec_sorts::{Checked, Links};
 use rx_term::{Term, TermBank};
@@ -42,22 +41,17 @@ pub enum Outcome {
 /// terms, and the term that it is given or answers, that one until the next such call.
 #[derive(Drop)]
 pub struct Engine<B: TermBank> {
-    checked: Checked,
-    bank: B,
+    machine: Machine<B>,
     options: Options,
-    code: Code,
-    machine: Machine,
-    /// The ops of a given term's nodes, while they are found.
-    found: Vec<Op>,
     /// How many terms to evaluate there are.
     terms: u32,
-    work: Vec<Term>,
+    /// The ops of a given term's nodes, while they are found.
+    found: Vec<Op>,
 }
 
 impl<B: TermBank> Model for Engine<B> {
     ghost use Rattle.std.specs.Prelude.{◌≡◌, length};
-    ghost use Rattle.rec_sorts.specs.Linked.{AreLinked};
-    ghost use Rattle.rec_engine.specs.Machine.{IsCode};
+    ghost use Rattle.rec_engine.specs.Turn.{IsReady};
     ghost use Rattle.rec_engine.specs.Engine.{EngineState, engine_code};
 
     ghost Value = { EngineState B };
@@ -65,15 +59,13 @@ impl<B: TermBank> Model for Engine<B> {
     ghost coded = { engine_code B.code };
 
     ghost view = { λ e. record {
-      spec = e.checked.spec;
+      spec = e.machine.checked.spec;
       options = e.options;
-      bank = e.bank;
-      work = e.work.items;
+      bank = e.machine.bank;
+      work = e.machine.work.items;
     } };
 
-    ghost invariant = { λ e. (e.terms ≡ length e.checked.spec.terms)
-        × IsCode e.checked.spec e.code
-        × AreLinked e.checked.spec (B.store e.bank) e.code.links };
+    ghost invariant = { λ e. (e.terms ≡ length e.machine.checked.spec.terms) × IsReady B.store e.machine };
 }
 
 impl<B: TermBank + Drop> Engine<B> {
@@ -110,15 +102,18 @@ impl<B: TermBank + Drop> Engine<B> {
             floor: bank.cells(),
             constants,
         };
-        Ok(Engine {
+        let machine = Machine {
             checked,
             bank,
-            options,
             code,
-            machine: Machine::new(alloc, pace),
-            found: Vec::new(alloc),
-            terms,
+            state: State::new(alloc, pace),
             work: Vec::new(alloc),
+        };
+        Ok(Engine {
+            machine,
+            options,
+            terms,
+            found: Vec::new(alloc),
         })
     }
 }
@@ -141,15 +136,15 @@ impl<B: TermBank> Engine<B> {
         ensures kept { IfOk result (Contains self.new.work) }
         ensures room { RoomOnlyFor (B.store self.new.bank) (eval_tree self.new.spec i) result }
     {
-        let checked = &self.checked;
+        let machine = &mut self.machine;
+        let checked = &machine.checked;
         let letters = &checked.terms()[i as usize];
-        let pace = &mut self.machine.pace;
         make_term(
             checked,
-            &mut self.bank,
-            &self.code.links,
-            pace,
-            &mut self.work,
+            &mut machine.bank,
+            &machine.code.links,
+            &mut machine.state.pace,
+            &mut machine.work,
             letters,
         )
     }
@@ -167,22 +162,13 @@ impl<B: TermBank> Engine<B> {
         ensures kept { IfOk result (IsKept self.new.work) }
         ensures room { RoomOnly (B.store self.new.bank) self.new.work result }
     {
-        normalise(
-            &self.checked,
-            &mut self.bank,
-            &mut self.code,
-            &mut self.found,
-            &mut self.machine,
-            &mut self.work,
-            t,
-            n,
-        )
+        self.machine.normalise(&mut self.found, t, n)
     }
 
     /// The bank.
     pub fn bank(&self) -> &B
         ensures { result.now ≡ self.now.bank }
     {
-        &self.bank
+        &self.machine.bank
     }
 }
