@@ -5,7 +5,8 @@ use Rattle.rx_arena.specs.declared.fault.ArenaFault.{ArenaFault}
 use Rattle.std.specs.Option.{option_map}
 use Rattle.std.proofs.lemmas.List.{length-append, length-replicate}
 use Rattle.rx_arena.specs.declared.CellBody.{CellBody}
-use Rattle.rx_arena.specs.Node.{Node, mark_of, has_mark, lone, with_chain, with_gray, with_mark}
+use Rattle.rx_arena.specs.Node.{Node, mark_of, has_mark, lone, with_mark, with_next}
+use Rattle.rx_arena.specs.declared.cells.Link.TheVariants.{Chain, Gray}
 use Rattle.rx_arena.specs.Held.{IsHeld}
 use Rattle.rx_arena.specs.Put.{times, put, one_some, filled, altered}
 use Rattle.rx_arena.specs.Links.{Links, links, IsChain, Listed, AreChains, Chained}
@@ -185,12 +186,12 @@ module _ (p : PoolState) (heads : List (Option ℕ)) (first : Option ℕ) (l : C
   pub gray_apart : (s : ℕ) → times s a.gray ≡ 0 → IfSome first (λ t. ¬ (t ≡ s))
   gray_apart s away = led_apart_by p.cells (λ n. n.gray) m.0 first (first_some (gray_links p.cells) first m.0 m.1) s away
 
-  pub push_step : (q : PoolState) (c s : ℕ) → c < length a.chains → IsTaken a s → IsLoose a s → q ≡ record p { cells = altered s (with_chain (get_or heads c None)) p.cells }
+  pub push_step : (q : PoolState) (c s : ℕ) → c < length a.chains → IsTaken a s → IsLoose a s → q ≡ record p { cells = altered s (with_next Chain (get_or heads c None)) p.cells }
       → ArenaStep q (set heads c (Some s)) first (record a { chains = set a.chains c (s ∷ chain_at a c) })
   push_step q c s lt taken loose e =
       let n = taken_node s taken.0 taken.1 in
-      let k : Node = with_chain (get_or heads c None) n.0 in
-      let is : altered s (with_chain (get_or heads c None)) p.cells ≡ put p.cells s (Some k) = altered-at p.cells s (with_chain (get_or heads c None)) n.0 n.1 in
+      let k : Node = with_next Chain (get_or heads c None) n.0 in
+      let is : altered s (with_next Chain (get_or heads c None)) p.cells ≡ put p.cells s (Some k) = altered-at p.cells s (with_next Chain (get_or heads c None)) n.0 n.1 in
       let b : ArenaState = record a { chains = set a.chains c (s ∷ chain_at a c) } in
       let others : (t : ℕ) → t ≢ s → get_or (chain_links (put p.cells s (Some k))) t None ≡ get_or (chain_links p.cells) t None = λ t ne. links-put_other (λ n. n.chain) p.cells s t (Some k) ne in
       let away : times s (chain_at a c) ≡ 0 = omega (arith, loose, times_in-at s a.chains c) in
@@ -203,12 +204,12 @@ module _ (p : PoolState) (heads : List (Option ℕ)) (first : Option ℕ) (l : C
         law = push_law a law c s lt taken loose;
       })
 
-  pub gray_link_step : (q : PoolState) (s : ℕ) → IsMarked a s → times s a.gray ≡ 0 → q ≡ record p { cells = altered s (with_gray first) p.cells } → ArenaStep q heads (Some s) (record a { gray = s ∷ a.gray })
+  pub gray_link_step : (q : PoolState) (s : ℕ) → IsMarked a s → times s a.gray ≡ 0 → q ≡ record p { cells = altered s (with_next Gray first) p.cells } → ArenaStep q heads (Some s) (record a { gray = s ∷ a.gray })
   gray_link_step q s marked away e =
       let t = taken_marked a s marked in
       let n = taken_node s t.0 t.1 in
-      let k : Node = with_gray first n.0 in
-      let is : altered s (with_gray first) p.cells ≡ put p.cells s (Some k) = altered-at p.cells s (with_gray first) n.0 n.1 in
+      let k : Node = with_next Gray first n.0 in
+      let is : altered s (with_next Gray first) p.cells ≡ put p.cells s (Some k) = altered-at p.cells s (with_next Gray first) n.0 n.1 in
       let others : (t : ℕ) → t ≢ s → get_or (gray_links (put p.cells s (Some k))) t None ≡ get_or (gray_links p.cells) t None = λ t ne. links-put_other (λ n. n.gray) p.cells s t (Some k) ne in
       subst (λ z. ArenaStep z heads (Some s) (record a { gray = s ∷ a.gray })) (sym (e ∙ ap (λ z. record p { cells = z }) is)) (record {
         chained = chains_agree (chain_links p.cells) (chain_links (put p.cells s (Some k))) heads l.0 (λ t _. links-kept (λ n. n.chain) p.cells s n.0 k n.1 refl t) l.1;
@@ -355,7 +356,7 @@ module _ (p : PoolState) (heads : List (Option ℕ)) (first : Option ℕ) (l : C
     gray_held q heads first (l.0, mark_step.chained) (m.0, mark_step.grayed) mark_law,
   )
 
-  pub gray_push_step : r ≡ record q { cells = altered s (with_gray first) q.cells } → ArenaStep r heads (Some s) (record b { cells = altered s (with_marking true) b.cells; gray = s ∷ b.gray })
+  pub gray_push_step : r ≡ record q { cells = altered s (with_next Gray first) q.cells } → ArenaStep r heads (Some s) (record b { cells = altered s (with_marking true) b.cells; gray = s ∷ b.gray })
   gray_push_step f =
       subst (λ z. ArenaStep r heads (Some s) (record z { gray = s ∷ z.gray })) mark_step.state_is
       (gray_link_step q heads first (l.0, mark_step.chained) (m.0, mark_step.grayed) mark_law r s (subst (λ z. IsMarked z s) (sym mark_step.state_is) now_marked) away f)

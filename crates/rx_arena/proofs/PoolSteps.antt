@@ -5,7 +5,9 @@ use Rattle.std.proofs.lemmas.Bool.{eqb-true}
 use Rattle.std.proofs.lemmas.Bool.Decides.{nat_tests}
 use Rattle.std.specs.Option.{option_map}
 use Rattle.std.proofs.lemmas.List.{get_or-set_same, set-set, set-get_or, length-set, get_or-take}
-use Rattle.rx_arena.specs.Node.{Node, mark_of, has_mark, with_free, with_mark, changed}
+use Rattle.rx_arena.specs.Node.{Node, mark_of, has_mark, with_mark, with_next, changed}
+use Rattle.rx_arena.specs.declared.cells.Link.{Link}
+use Rattle.rx_arena.specs.declared.cells.Link.TheVariants.{Chain, Gray, Free}
 use Rattle.rx_arena.specs.Held.{IsHeld}
 use Rattle.rx_arena.specs.Put.{times, put, filled, one_some, altered}
 use Rattle.rx_arena.specs.Links.{Links, links, IsChain, Listed}
@@ -20,6 +22,12 @@ mark_of_small false false = omega arith
 mark_of_small false true = omega arith
 mark_of_small true false = omega arith
 mark_of_small true true = omega arith
+
+-- a link changes no mark
+pub linked_small : (l : Link) (t : Option ℕ) (n : Node) → n.mark ≤ 1 → (with_next l t n).mark ≤ 1
+linked_small Chain t n le = le
+linked_small Gray t n le = le
+linked_small Free t n le = le
 
 -- neither is that of a cell that was given back
 two_apart : (turned : Bool) → nat_eq 2 (mark_of turned false) ≡ false
@@ -190,11 +198,11 @@ module _ (slots : List (Option Node)) (first : Option ℕ) (l : Listed (frees sl
       let len : length mid ≡ length slots = ap length is ∙ length-set slots s (Some (with_mark 2 h.0)) in
       (held_at slots mid s (with_mark 2 h.0) (taken_at slots l.0 fresh s h.0 h.1).within is, subst (λ n. IfSome first (λ t. t < n)) (sym len) first_within)
 
-  pub given_back-step : (mid new : List (Option Node)) (s : ℕ) → IsHeld cells s → mid ≡ changed s (with_mark 2) slots → new ≡ changed s (with_free first) mid → Step new (Some s) (s ∷ l.0) fresh (taken - 1) room cap (put cells s None)
+  pub given_back-step : (mid new : List (Option Node)) (s : ℕ) → IsHeld cells s → mid ≡ changed s (with_mark 2) slots → new ≡ changed s (with_next Free first) mid → Step new (Some s) (s ∷ l.0) fresh (taken - 1) room cap (put cells s None)
   given_back-step mid new s h e f =
       let at = taken_at slots l.0 fresh s h.0 h.1 in
-      let m : Node = with_free first (with_mark 2 h.0) in
-      let is : new ≡ set slots s (Some m) = changed_at slots mid new s (with_mark 2 h.0) (with_free first) at.within (marked_at_first mid s h e) f in
+      let m : Node = with_next Free first (with_mark 2 h.0) in
+      let is : new ≡ set slots s (Some m) = changed_at slots mid new s (with_mark 2 h.0) (with_next Free first) at.within (marked_at_first mid s h e) f in
       step_at (set slots s (Some m)) new (Some s) (s ∷ l.0) fresh (taken - 1) room cap (put cells s None) is (record {
         chain = pushed (frees slots) (frees (set slots s (Some m))) s first l.0 at.away (λ t ne. links-set_other (λ n. n.free) slots s t (Some m) ne) (links-set_same (λ n. n.free) slots s (Some m) at.within) l.1;
         pool = given_back-pool slots l.0 fresh taken room cap p s h.0 h.1 m refl;

@@ -5,6 +5,7 @@ ghost use Rattle.rx_arena.specs.Put.{times, times_in, total, total-prop, put, al
 ghost use Rattle.rx_arena.specs.Links.{Chained, Chained-prop, Listed, Listed-prop, links};
 ghost use Rattle.rx_arena.specs.Arena.{taken_at, IsTaken, taken_count, chain_at, InChain, IsLoose, marked_at, IsMarked, roots_at, hash_at, IsUnprotected, new_cell, with_count, with_marking, kept_in, dropped_from, IsFirst, is_unmarked, times_hashed, IsArena, empty_arena};
 
+use crate::cells::Link;
 use crate::fault::ArenaFault;
 use crate::heads::Heads;
 use crate::pool::Pool;
@@ -179,7 +180,7 @@ impl Arena {
         ensures next { (c : ℕ) (before after : List ℕ) → chain_at self.now c ≡ before ++ slot.0 ∷ after → IsFirst result after }
         ensures law { IsArena self.now }
     {
-        slot_of(self.pool.chain(slot.0))
+        slot_of(self.pool.next(slot.0, Link::Chain))
     }
 
     /// Puts a slot in front of a chain.
@@ -190,7 +191,8 @@ impl Arena {
         ensures after { self.new ≡ record self.old { chains = slice_set self.old.chains chain (slot.0 ∷ chain_at self.old chain) } }
         ensures law { IsArena self.new }
     {
-        self.pool.set_chain(slot.0, self.heads.get(chain));
+        self.pool
+            .set_next(slot.0, Link::Chain, self.heads.get(chain));
         self.heads.set(chain, Some(slot.0));
         self.linked += 1;
     }
@@ -207,7 +209,7 @@ impl Arena {
     {
         match self.heads.get(chain) {
             Some(slot) => {
-                let next = self.pool.chain(slot);
+                let next = self.pool.next(slot, Link::Chain);
                 self.heads.set(chain, next);
                 self.linked -= 1;
                 Some(Slot(slot))
@@ -232,7 +234,7 @@ impl Arena {
         ensures law { IsArena self.new }
     {
         self.pool.set_mark(slot.0, true);
-        self.pool.set_gray(slot.0, self.gray_first);
+        self.pool.set_next(slot.0, Link::Gray, self.gray_first);
         self.gray_first = Some(slot.0);
     }
 
@@ -243,7 +245,7 @@ impl Arena {
         ensures after { self.new ≡ record self.old { gray = slot.0 ∷ self.old.gray } }
         ensures law { IsArena self.new }
     {
-        self.pool.set_gray(slot.0, self.gray_first);
+        self.pool.set_next(slot.0, Link::Gray, self.gray_first);
         self.gray_first = Some(slot.0);
     }
 
@@ -258,7 +260,7 @@ impl Arena {
     {
         match self.gray_first {
             Some(slot) => {
-                self.gray_first = self.pool.gray(slot);
+                self.gray_first = self.pool.next(slot, Link::Gray);
                 Some(Slot(slot))
             }
             None => None,

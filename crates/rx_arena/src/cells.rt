@@ -5,18 +5,32 @@ ghost use Rattle.std.specs.Prelude.{Option, Some, None, IfSome};
 ghost use denote.RawPtr.{Ptr, InBlock};
 ghost use Rattle.rx_arena.specs.Real.{InBlock-prop, IsLast};
 ghost use Rattle.rx_arena.specs.Node.{Node, node_at, lone, led_to, changed, IsClosed};
-ghost use Rattle.rx_arena.specs.Node.{with_roots, with_mark, with_chain, with_gray, with_free};
+ghost use Rattle.rx_arena.specs.Node.{with_roots, with_mark, next_in, with_next};
 
 use crate::room::Room;
 use crate::{CellBody, Slot};
 use std::marker::{Model, PhantomData};
 use std::mem::size_of;
 
-/// A cell. The crate's root says how it lies.
-pub struct Cell {
+/// One of the lists that a cell can stand in.
+#[derive(Clone, Copy)]
+pub enum Link {
+    Chain,
+    Gray,
+    Free,
+}
+
+/// For each list a pointer to the next cell, or to the cell itself at the end.
+#[derive(Clone, Copy)]
+pub struct Links {
     chain: *mut Cell,
     gray: *mut Cell,
     free: *mut Cell,
+}
+
+/// A cell. The crate's root says how it lies.
+pub struct Cell {
+    links: Links,
     a: u64,
     b: u64,
     hash: u64,
@@ -50,6 +64,22 @@ pub struct Target {
     pub(crate) to: *mut Cell,
 }
 
+/// A link of the cell in a slot, and where it leads.
+#[derive(Clone, Copy)]
+pub struct Lead {
+    slot: u32,
+    link: Link,
+    to: *mut Cell,
+}
+
+/// What the links of a cell are to become: one of them leads to the next slot, if there is one.
+#[derive(Clone, Copy)]
+pub struct Relink {
+    link: Link,
+    slot: Option<u32>,
+    links: Links,
+}
+
 /// The owner of the cells' memory. It takes no space.
 pub struct Cells {
     mark: PhantomData<*mut Cell>,
@@ -63,6 +93,47 @@ impl Model for Cells {
     ghost also_owns = { λ c. slots_own c.blocks 0 c.slots };
 
     ghost also_shares = { λ c _ κ. slots_lent c.blocks 0 c.slots κ };
+}
+
+impl Links {
+    ghost use Rattle.rx_arena.specs.Ownership.{pointer_in, with_pointer};
+
+    /// Where a link leads.
+    #[inline(always)]
+    fn get(self, link: Link) -> *mut Cell
+        ensures { result ≡ pointer_in link self }
+    {
+        match link {
+            Link::Chain => self.chain,
+            Link::Gray => self.gray,
+            Link::Free => self.free,
+        }
+    }
+
+    /// The links with one of them to this cell.
+    #[inline(always)]
+    fn with(self, link: Link, to: *mut Cell) -> Links
+        ensures { result ≡ with_pointer link to self }
+    {
+        let Links { chain, gray, free } = self;
+        match link {
+            Link::Chain => Links {
+                chain: to,
+                gray,
+                free,
+            },
+            Link::Gray => Links {
+                chain,
+                gray: to,
+                free,
+            },
+            Link::Free => Links {
+                chain,
+                gray,
+                free: to,
+            },
+        }
+    }
 }
 
 impl Cell {
@@ -83,8 +154,8 @@ impl Cell {
 }
 
 impl Cells {
-    ghost use Rattle.rx_arena.specs.Ownership.{cell_of, link};
-    ghost use Rattle.rx_arena.specs.Held.{IsPlace, IsHeld};
+    ghost use Rattle.rx_arena.specs.Ownership.{cell_of, link_to};
+    ghost use Rattle.rx_arena.specs.Held.{IsPlace, IsHeld, IsLead, IsRelink};
 
     /// An owner of no cells.
     pub(crate) fn new() -> Cells
@@ -133,9 +204,11 @@ impl Cells {
     {
         unsafe {
             at.at.write(Cell {
-                chain: at.at,
-                gray: at.at,
-                free: at.at,
+                links: Links {
+                    chain: at.at,
+                    gray: at.at,
+                    free: at.at,
+                },
                 a: body.a,
                 b: body.b,
                 hash: body.hash,
@@ -156,9 +229,11 @@ impl Cells {
     {
         unsafe {
             place.at.write(Cell {
-                chain: place.at,
-                gray: place.at,
-                free: place.at,
+                links: Links {
+                    chain: place.at,
+                    gray: place.at,
+                    free: place.at,
+                },
                 a: new.a,
                 b: new.b,
                 hash: new.hash,
@@ -198,76 +273,60 @@ impl Cells {
         unsafe { (*at.at).mark = mark }
     }
 
-    /// Writes the link to the next cell of the chain.
-    pub(crate) fn set_chain(&mut self, at: Place, next: Target)
-        requires { IsPlace self.old.blocks at
-            × IsHeld self.old.slots at.slot
-            × (next.to ≡ link self.old.blocks at.slot next.slot) }
+    /// Writes the links.
+    fn set_links(&mut self, at: Place, new: Relink)
+        requires { IsPlace self.old.blocks at × IsRelink self.old.blocks self.old.slots at.slot new }
         ensures blocks { self.new.blocks ≡ self.old.blocks }
-        ensures slots { self.new.slots ≡ changed at.slot (with_chain next.slot) self.old.slots }
+        ensures slots { self.new.slots ≡ changed at.slot (with_next new.link new.slot) self.old.slots }
     {
-        unsafe { (*at.at).chain = next.to }
+        unsafe { (*at.at).links = new.links }
     }
 
-    /// Writes the link to the next cell of the gray list.
-    pub(crate) fn set_gray(&mut self, at: Place, next: Target)
+    /// Writes the link to the next cell of a list.
+    #[inline(always)]
+    pub(crate) fn set_link(&mut self, at: Place, link: Link, next: Target)
         requires { IsPlace self.old.blocks at
             × IsHeld self.old.slots at.slot
-            × (next.to ≡ link self.old.blocks at.slot next.slot) }
+            × (next.to ≡ link_to self.old.blocks at.slot next.slot) }
         ensures blocks { self.new.blocks ≡ self.old.blocks }
-        ensures slots { self.new.slots ≡ changed at.slot (with_gray next.slot) self.old.slots }
+        ensures slots { self.new.slots ≡ changed at.slot (with_next link next.slot) self.old.slots }
     {
-        unsafe { (*at.at).gray = next.to }
+        let links = self.get(at).links.with(link, next.to);
+        self.set_links(
+            at,
+            Relink {
+                link,
+                slot: next.slot,
+                links,
+            },
+        )
     }
 
-    /// Writes the link to the next cell of the free list.
-    pub(crate) fn set_free(&mut self, at: Place, next: Target)
-        requires { IsPlace self.old.blocks at
-            × IsHeld self.old.slots at.slot
-            × (next.to ≡ link self.old.blocks at.slot next.slot) }
-        ensures blocks { self.new.blocks ≡ self.old.blocks }
-        ensures slots { self.new.slots ≡ changed at.slot (with_free next.slot) self.old.slots }
+    /// The number in the cell that a link leads to.
+    fn number(&self, lead: Lead) -> u32
+        requires { IsLead self.now.blocks self.now.slots lead }
+        ensures { IfSome (node_at self.now.slots lead.slot)
+            (λ n. result ≡ led_to lead.slot (next_in lead.link n)) }
     {
-        unsafe { (*at.at).free = next.to }
+        unsafe { (*lead.to).number }
     }
 
-    /// The number of the cell that the chain leads to: the cell's own, where the chain ends.
-    pub(crate) fn chain_of(&self, at: Place) -> u32
+    /// The number of the cell that a link leads to: the cell's own, where the list ends.
+    #[inline(always)]
+    pub(crate) fn link_of(&self, at: Place, link: Link) -> u32
         requires { IsPlace self.now.blocks at
             × IsHeld self.now.slots at.slot
             × IfSome (node_at self.now.slots at.slot)
-            (λ n. IsHeld self.now.slots (led_to at.slot n.chain)) }
+            (λ n. IsHeld self.now.slots (led_to at.slot (next_in link n))) }
         ensures { IfSome (node_at self.now.slots at.slot)
-            (λ n. result ≡ led_to at.slot n.chain) }
+            (λ n. result ≡ led_to at.slot (next_in link n)) }
     {
-        let next = unsafe { (*at.at).chain };
-        unsafe { (*next).number }
-    }
-
-    /// The number of the cell that the gray list leads to: the cell's own, where the list ends.
-    pub(crate) fn gray_of(&self, at: Place) -> u32
-        requires { IsPlace self.now.blocks at
-            × IsHeld self.now.slots at.slot
-            × IfSome (node_at self.now.slots at.slot)
-            (λ n. IsHeld self.now.slots (led_to at.slot n.gray)) }
-        ensures { IfSome (node_at self.now.slots at.slot)
-            (λ n. result ≡ led_to at.slot n.gray) }
-    {
-        let next = unsafe { (*at.at).gray };
-        unsafe { (*next).number }
-    }
-
-    /// The number of the cell that the free list leads to: the cell's own, where the list ends.
-    pub(crate) fn free_of(&self, at: Place) -> u32
-        requires { IsPlace self.now.blocks at
-            × IsHeld self.now.slots at.slot
-            × IfSome (node_at self.now.slots at.slot)
-            (λ n. IsHeld self.now.slots (led_to at.slot n.free)) }
-        ensures { IfSome (node_at self.now.slots at.slot)
-            (λ n. result ≡ led_to at.slot n.free) }
-    {
-        let next = unsafe { (*at.at).free };
-        unsafe { (*next).number }
+        let to = self.get(at).links.get(link);
+        self.number(Lead {
+            slot: at.slot,
+            link,
+            to,
+        })
     }
 }
 

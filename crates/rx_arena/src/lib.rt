@@ -5,7 +5,7 @@
 //!
 //! | Bytes | Field | What it is |
 //! |---|---|---|
-//! | 0 to 23 | `chain`, `gray`, `free` | for each list a pointer to the next cell, or to the cell itself at the end |
+//! | 0 to 23 | `links` | for each list a pointer to the next cell, or to the cell itself at the end |
 //! | 24 to 47 | `a`, `b`, `hash` | two words of the body, and its hash |
 //! | 48 to 55 | `anns` | the slot of the annotations, if there are any |
 //! | 56 to 59 | `number` | the cell's own slot |

@@ -2,12 +2,13 @@
 ghost use Rattle.std.specs.Prelude.{◌≡◌, ◌+◌, ◌-◌, ◌<◌, ◌≤◌, ◌^◌, ◌∷◌, [], Option, Some, None, Ok, Err, MatchOption, MatchResult, IfSome, IfOk, IfErr, OnOk, OnErr, OnSome, IfNone, get_or, length, min, ℕ, false, not};
 ghost use Rattle.rx_arena.specs.Held.{IsHeld};
 ghost use Rattle.rx_arena.specs.Node as spec;
-ghost use Rattle.rx_arena.specs.Node.{Node, lone, has_mark, with_chain, with_gray, with_mark, with_roots};
+ghost use Rattle.rx_arena.specs.Node.{Node, lone, has_mark, next_in, with_mark, with_next, with_roots};
 ghost use Rattle.rx_arena.specs.Put.{put, filled, altered};
 ghost use Rattle.rx_arena.specs.Links.{Listed, Listed-prop, links};
 ghost use Rattle.rx_arena.specs.Pool.{spare_of, is_unmarked_node};
 
 use crate::CellBody;
+use crate::cells::Link;
 use crate::fault::ArenaFault;
 use crate::store::Store;
 use std::alloc::Global;
@@ -96,7 +97,7 @@ impl Pool {
     {
         match self.free {
             Some(slot) => {
-                self.free = self.store.free(slot);
+                self.free = self.store.next(slot, Link::Free);
                 self.store.renew(slot, body, mark_of(self.turned, false));
                 self.taken += 1;
                 Some(slot)
@@ -143,7 +144,7 @@ impl Pool {
         ensures spare { spare_of self.new ≡ spare_of self.old + 1 }
     {
         self.store.set_mark(slot, GIVEN_BACK);
-        self.store.set_free(slot, self.free);
+        self.store.set_next(slot, Link::Free, self.free);
         self.free = Some(slot);
         self.taken -= 1;
     }
@@ -183,18 +184,13 @@ impl Pool {
         self.store.mark(slot) != mark_of(self.turned, false)
     }
 
-    pub(crate) fn chain(&self, slot: u32) -> Option<u32>
-        requires { IsHeld self.now.cells slot × IfSome (get_or self.now.cells slot None) (λ n. IfSome n.chain (IsHeld self.now.cells)) }
-        ensures { IfSome (get_or self.now.cells slot None) (λ n. result ≡ n.chain) }
+    /// The next slot of a list.
+    #[inline(always)]
+    pub(crate) fn next(&self, slot: u32, link: Link) -> Option<u32>
+        requires { IsHeld self.now.cells slot × IfSome (get_or self.now.cells slot None) (λ n. IfSome (next_in link n) (IsHeld self.now.cells)) }
+        ensures { IfSome (get_or self.now.cells slot None) (λ n. result ≡ next_in link n) }
     {
-        self.store.chain(slot)
-    }
-
-    pub(crate) fn gray(&self, slot: u32) -> Option<u32>
-        requires { IsHeld self.now.cells slot × IfSome (get_or self.now.cells slot None) (λ n. IfSome n.gray (IsHeld self.now.cells)) }
-        ensures { IfSome (get_or self.now.cells slot None) (λ n. result ≡ n.gray) }
-    {
-        self.store.gray(slot)
+        self.store.next(slot, link)
     }
 
     pub(crate) fn set_roots(&mut self, slot: u32, count: u16)
@@ -220,20 +216,14 @@ impl Pool {
         self.turned = !self.turned;
     }
 
-    pub(crate) fn set_chain(&mut self, slot: u32, next: Option<u32>)
+    /// Links a taken slot to the next one of a list.
+    #[inline(always)]
+    pub(crate) fn set_next(&mut self, slot: u32, link: Link, next: Option<u32>)
         requires held { IsHeld self.old.cells slot × IfSome next (IsHeld self.old.cells) }
         requires apart { IfSome next (λ t. ¬ (t ≡ slot)) }
-        ensures { self.new ≡ record self.old { cells = altered slot (with_chain next) self.old.cells } }
+        ensures { self.new ≡ record self.old { cells = altered slot (with_next link next) self.old.cells } }
     {
-        self.store.set_chain(slot, next)
-    }
-
-    pub(crate) fn set_gray(&mut self, slot: u32, next: Option<u32>)
-        requires held { IsHeld self.old.cells slot × IfSome next (IsHeld self.old.cells) }
-        requires apart { IfSome next (λ t. ¬ (t ≡ slot)) }
-        ensures { self.new ≡ record self.old { cells = altered slot (with_gray next) self.old.cells } }
-    {
-        self.store.set_gray(slot, next)
+        self.store.set_next(slot, link, next)
     }
 
     /// Takes a slot, one that was given back where there is one.

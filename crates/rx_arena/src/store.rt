@@ -2,13 +2,13 @@
 ghost use Rattle.std.specs.Prelude.{◌≡◌, ◌≢◌, ℕ, ◌*◌, ◌<◌, List, [], ◌++◌, length, replicate, slice_set};
 ghost use Rattle.std.specs.Prelude.{Option, Some, None, IfSome, OnOk, OnErr};
 ghost use Rattle.rx_arena.specs.Node.{Node, node_at, lone, changed};
-ghost use Rattle.rx_arena.specs.Node.{with_roots, with_mark, with_chain, with_gray, with_free};
+ghost use Rattle.rx_arena.specs.Node.{with_roots, with_mark, next_in, with_next};
 ghost use Rattle.rx_arena.specs.Held.{IsHeld};
 ghost use Rattle.rx_arena.specs.Ownership as spec;
 ghost use Rattle.rx_arena.specs.Blocks.{bases};
 
 use crate::CellBody;
-use crate::cells::{Base, Cells, Place, Target};
+use crate::cells::{Base, Cells, Link, Place, Target};
 use crate::room::{BLOCK, Lease, allocate};
 use std::alloc::{AllocError, Allocator, Global};
 use std::marker::Model;
@@ -54,7 +54,7 @@ fn place<A: Allocator>(blocks: &[Block<A>], slot: u32) -> Place
 fn target<A: Allocator>(blocks: &[Block<A>], slot: u32, next: Option<u32>) -> Target
     requires slot { slot < 1024 * length blocks.now }
     requires next { IfSome next (λ t. t < 1024 * length blocks.now) }
-    ensures { (result.slot ≡ next) × (result.to ≡ spec.link (bases blocks.now) slot next) }
+    ensures { (result.slot ≡ next) × (result.to ≡ spec.link_to (bases blocks.now) slot next) }
 {
     let led_to = match next {
         Some(t) => t,
@@ -162,64 +162,26 @@ impl<A: Allocator + Copy> Store<A> {
         self.cells.set_mark(at, mark)
     }
 
-    /// The next slot of the chain.
-    pub fn chain(&self, slot: u32) -> Option<u32>
+    /// The next slot of a list.
+    #[inline(always)]
+    pub fn next(&self, slot: u32, link: Link) -> Option<u32>
         requires { IsHeld self.now slot
-            × IfSome (node_at self.now slot) (λ n. IfSome n.chain (IsHeld self.now)) }
-        ensures { IfSome (node_at self.now slot) (λ n. result ≡ n.chain) }
+            × IfSome (node_at self.now slot) (λ n. IfSome (next_in link n) (IsHeld self.now)) }
+        ensures { IfSome (node_at self.now slot) (λ n. result ≡ next_in link n) }
     {
-        other(slot, self.cells.chain_of(place(&self.blocks, slot)))
+        other(slot, self.cells.link_of(place(&self.blocks, slot), link))
     }
 
-    /// Links the slot to the next one of the chain.
-    pub fn set_chain(&mut self, slot: u32, next: Option<u32>)
+    /// Links the slot to the next one of a list.
+    #[inline(always)]
+    pub fn set_next(&mut self, slot: u32, link: Link, next: Option<u32>)
         requires held { IsHeld self.old slot × IfSome next (λ t. t < length self.old) }
         requires apart { IfSome next (λ t. ¬ (t ≡ slot)) }
-        ensures { self.new ≡ changed slot (with_chain next) self.old }
+        ensures { self.new ≡ changed slot (with_next link next) self.old }
     {
         let at = place(&self.blocks, slot);
         let target = target(&self.blocks, slot, next);
-        self.cells.set_chain(at, target)
-    }
-
-    /// The next slot of the gray list.
-    pub fn gray(&self, slot: u32) -> Option<u32>
-        requires { IsHeld self.now slot
-            × IfSome (node_at self.now slot) (λ n. IfSome n.gray (IsHeld self.now)) }
-        ensures { IfSome (node_at self.now slot) (λ n. result ≡ n.gray) }
-    {
-        other(slot, self.cells.gray_of(place(&self.blocks, slot)))
-    }
-
-    /// Links the slot to the next one of the gray list.
-    pub fn set_gray(&mut self, slot: u32, next: Option<u32>)
-        requires held { IsHeld self.old slot × IfSome next (λ t. t < length self.old) }
-        requires apart { IfSome next (λ t. ¬ (t ≡ slot)) }
-        ensures { self.new ≡ changed slot (with_gray next) self.old }
-    {
-        let at = place(&self.blocks, slot);
-        let target = target(&self.blocks, slot, next);
-        self.cells.set_gray(at, target)
-    }
-
-    /// The next slot of the free list.
-    pub fn free(&self, slot: u32) -> Option<u32>
-        requires { IsHeld self.now slot
-            × IfSome (node_at self.now slot) (λ n. IfSome n.free (IsHeld self.now)) }
-        ensures { IfSome (node_at self.now slot) (λ n. result ≡ n.free) }
-    {
-        other(slot, self.cells.free_of(place(&self.blocks, slot)))
-    }
-
-    /// Links the slot to the next one of the free list.
-    pub fn set_free(&mut self, slot: u32, next: Option<u32>)
-        requires held { IsHeld self.old slot × IfSome next (λ t. t < length self.old) }
-        requires apart { IfSome next (λ t. ¬ (t ≡ slot)) }
-        ensures { self.new ≡ changed slot (with_free next) self.old }
-    {
-        let at = place(&self.blocks, slot);
-        let target = target(&self.blocks, slot, next);
-        self.cells.set_free(at, target)
+        self.cells.set_link(at, link, target)
     }
 }
 

@@ -27,13 +27,14 @@ use Rattle.rx_arena.specs.contracts.cells.Place.{the_row as Pl}
 use Rattle.rx_arena.proofs.cells.Place.TheLaws as place_laws
 use Rattle.rx_arena.proofs.CellBody.TheLaws as body_laws
 use Rattle.rx_arena.proofs.cells.Cell.TheLaws as cell_laws
+use Rattle.rx_arena.proofs.cells.Links.TheLaws as links_laws
 use Rattle.rx_arena.specs.Ownership.{cell_of}
 use Rattle.rx_arena.specs.declared.cells.Cell.{Cell}
 use Rattle.rx_arena.specs.contracts.cells.Cells.{the_row as Cs}
 use Rattle.rx_arena.specs.contracts.cells.Cells.renew as f
 use Rattle.rx_arena.proofs.cells.Cells.renew.Statement.{statement}
 use Rattle.rx_arena.proofs.cells.Cells.renew.Code as code
-use Rattle.rx_arena.proofs.Steps.{param_at, place_val, place_Tells, anns_good, cell_val, cell_is, CellFits}
+use Rattle.rx_arena.proofs.Steps.{param_at, place_val, place_Tells, anns_good, cell_val, cell_is, CellFits, links_val, links_is}
 use Rattle.rx_arena.proofs.Slots.{held_within}
 use Rattle.rx_arena.proofs.Access.{cell_lies, slot_opens, slot_closes}
 
@@ -58,12 +59,13 @@ renew_spec 𝓤 𝓛 𝓜 𝓡 wired =
     enter ! _ _ _ _ _ $ alloc_all ! (λ l. pass_all ! refl ((tt, tt), (good_p, (good_b, ((tt, record { fits = are.1.1.1.0.1 }), tt)))) $
     fsplit3 ! $ move ! (1 ∷ 2 ∷ 3 ∷ []) $ opens ! tt Cs rb ro (λ us. move ! (1 ∷ []) $ fsplit ! $ move ! (1 ∷ []) $
     slot_opens d.blocks d.slots p asked.1.0 ! asked.0 asked.1.1 (λ b o e was.
-    let linked : Ptr → Cell = λ q. record x { chain = q; gray = q; free = q } in
+    let linked : Ptr → Cell = λ q. record x { links = record { chain = q; gray = q; free = q } } in
     let good = ((cell_laws.the_row_laws.lawful 𝓛).typed (linked (block_ptr b o)) (cell_val (linked (block_ptr b o)) ∷ []) (cell_is (linked (block_ptr b o)) fits)).0 in
     -- [the cell; the other slots; ..]
     take_at ! 2 $ rewrite ! 0 (λ (q : Ptr). ‵ (fat full_share (lone Pl.mir) (l 2) 0 (place_val (record p { at = q })))) e refl $ give_at ! 2 $
-    first ! $ blocks ! $ sets ! (of_opd ! (get_in ! (fld ! refl (stop !)) (sub ! 3 refl (whole !)))) refl (anns_good v.anns are.1.1.0.0.1.1.1.0 are.1.1.0.1.1.1.1.1.0) $
-    sets ! (agg ! (and_then ! (get_in ! (fld ! refl (stop !)) (sub ! 1 refl (whole !))) (and_then ! (get_in ! (fld ! refl (stop !)) (sub ! 1 refl (whole !))) (and_then ! (get_in ! (fld ! refl (stop !)) (sub ! 1 refl (whole !))) (and_then ! (get_in ! (fld ! refl (stop !)) (sub ! 1 refl (whole !))) (and_then ! (get_in ! (fld ! refl (stop !)) (sub ! 2 refl (whole !))) (and_then ! (get_in ! (fld ! refl (stop !)) (sub ! 4 refl (whole !))) (and_then ! (get ! refl) (and_then ! (get_in ! (fld ! refl (stop !)) (sub ! 0 refl (whole !))) (and_then ! (lit ! tt) (and_then ! (get_in ! (fld ! refl (stop !)) (sub ! 0 refl (whole !))) (and_then ! (get ! refl) (no_more !))))))))))))) refl good $
+    first ! $ blocks ! $ sets ! (agg ! (and_then ! (get_in ! (fld ! refl (stop !)) (sub ! 1 refl (whole !))) (and_then ! (get_in ! (fld ! refl (stop !)) (sub ! 1 refl (whole !))) (and_then ! (get_in ! (fld ! refl (stop !)) (sub ! 1 refl (whole !))) (no_more !))))) refl ((links_laws.the_row_laws.lawful 𝓛).typed (linked (block_ptr b o)).links (links_val (linked (block_ptr b o)).links ∷ []) (links_is (linked (block_ptr b o)).links)).0 $
+    sets ! (of_opd ! (get_in ! (fld ! refl (stop !)) (sub ! 3 refl (whole !)))) refl (anns_good v.anns are.1.1.0.0.1.1.1.0 are.1.1.0.1.1.1.1.1.0) $
+    sets ! (agg ! (and_then ! (get ! refl) (and_then ! (get_in ! (fld ! refl (stop !)) (sub ! 1 refl (whole !))) (and_then ! (get_in ! (fld ! refl (stop !)) (sub ! 2 refl (whole !))) (and_then ! (get_in ! (fld ! refl (stop !)) (sub ! 4 refl (whole !))) (and_then ! (get ! refl) (and_then ! (get_in ! (fld ! refl (stop !)) (sub ! 0 refl (whole !))) (and_then ! (lit ! tt) (and_then ! (get_in ! (fld ! refl (stop !)) (sub ! 0 refl (whole !))) (and_then ! (get ! refl) (no_more !))))))))))) refl good $
     assigns_last ! (of_opd ! (get ! refl)) (from ! (fld ! refl (hop ! (look_in_at ! 2 (sub ! 1 refl (whole !))) (stop !)))) (store_in ! 0 (whole !) good) $
     exec ! 𝓣.C 𝓣.Λ (env code.Mir.locals l) (after 1 code.function.body) (at_ret _ (W.post y)) $ sets ! (of_opd ! (unit_lit !)) refl (tt, tt) $
     rewrite ! 0 (λ (q : Ptr). ‵ (cell_lies full_share (linked q) b o)) (sym e ∙ asked.0) refl $

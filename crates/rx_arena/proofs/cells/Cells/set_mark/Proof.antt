@@ -60,7 +60,7 @@ set_mark_spec 𝓤 𝓛 𝓜 𝓡 wired =
     -- [the cell; the other slots; ..]
     take_at ! 2 $ rewrite ! 0 (λ (q : Ptr). ‵ (fat full_share (lone Pl.mir) (l 2) 0 (place_val (record p { at = q })))) e refl $ give_at ! 2 $
     first ! $ blocks ! $
-    assigns_last ! (of_opd ! (get ! refl)) (from ! (fld ! refl (hop ! (look_in_at ! 2 (sub ! 1 refl (whole !))) (fld ! refl (stop !))))) (store_in ! 0 (sub ! 10 refl (whole !)) (tt, record { fits = are.1.1.0.1 })) $
+    assigns_last ! (of_opd ! (get ! refl)) (from ! (fld ! refl (hop ! (look_in_at ! 2 (sub ! 1 refl (whole !))) (fld ! refl (stop !))))) (store_in ! 0 (sub ! 8 refl (whole !)) (tt, record { fits = are.1.1.0.1 })) $
     exec ! 𝓣.C 𝓣.Λ (env code.Mir.locals l) (after 1 code.function.body) (at_ret _ (W.post y)) $ sets ! (of_opd ! (unit_lit !)) refl (tt, tt) $
     slot_closes d.blocks d.slots p ! asked.0 (held_within d.slots p.slot n asked.1.1) m (fits.0, fits.1, fits.2, are.1.1.0.1) b o e $
     rewrite ! 0 (λ (z : Option Node). ‵ (slots_own d.blocks 0 (set d.slots p.slot z))) (sym (ap (option_map (with_mark k)) asked.1.1)) refl $

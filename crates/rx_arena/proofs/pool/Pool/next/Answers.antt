@@ -1,0 +1,16 @@
+use Rattle.std.proofs.Common.{◌≡◌, None, IfSome, get_or, sym, subst}
+use Rattle.rx_arena.specs.Node.{next_in}
+use Rattle.rx_arena.specs.Held.{IsHeld}
+use Rattle.rx_arena.specs.Pool.{PoolState}
+use Rattle.rx_arena.proofs.PoolSteps.{held_in_store, shown, link_held}
+use Rattle.rx_arena.proofs.pool.Pool.next.Goals as goal
+
+pub next-requires : goal.next-requires
+next-requires c =
+    let asked = subst (λ (v : PoolState). IsHeld v.cells c.args.slot × IfSome (get_or v.cells c.args.slot None) (λ n. IfSome (next_in c.args.link n) (IsHeld v.cells))) (sym c.self.view_is) c.requires in
+    (held_in_store c.self.inside.store c.self.inside.free c.self.inside.listed c.self.inside.fresh c.self.inside.taken c.self.inside.room c.self.inside.cap c.self.invariant c.args.slot asked.0, link_held c.self.inside.store c.self.inside.free c.self.inside.listed c.self.inside.fresh c.self.inside.taken c.self.inside.room c.self.inside.cap c.self.invariant (next_in c.args.link) c.args.slot asked.0 asked.1)
+
+pub returns : goal.returns
+returns c =
+    let asked = subst (λ (v : PoolState). IsHeld v.cells c.args.slot × IfSome (get_or v.cells c.args.slot None) (λ n. IfSome (next_in c.args.link n) (IsHeld v.cells))) (sym c.self.view_is) c.requires in
+    subst (λ (v : PoolState). IfSome (get_or v.cells c.args.slot None) (λ n. c.next.result ≡ next_in c.args.link n)) c.self.view_is (shown c.self.inside.store c.self.inside.free c.self.inside.listed c.self.inside.fresh c.self.inside.taken c.self.inside.room c.self.inside.cap c.self.invariant (λ n. c.next.result ≡ next_in c.args.link n) c.args.slot asked.0 c.next.ensures)
