@@ -8,6 +8,7 @@ ghost use Rattle.rec_syntax.specs.Lexemes.{IsToken};
 ghost use Rattle.rec_syntax.specs.Machine.{start};
 ghost use Rattle.rec_syntax.specs.Reader.{config_of, IsState, IsAt, Steps};
 
+mod expected;
 mod items;
 mod terms;
 
@@ -15,6 +16,7 @@ use crate::fault::SyntaxFault;
 use crate::lexer::{Kind, Part, Span, next};
 use crate::parts::{Node, Rule, Sections, Term, Words};
 use crate::spec::{LONGEST, Syntax};
+pub use expected::expected_at_fault;
 use smallvec::SmallVec;
 use std::alloc::{AllocError, AllocFailed, Global};
 

@@ -1,3 +1,4 @@
+use crate::TokenKind::*;
 use crate::*;
 use std::alloc::{AllocError, Global};
 use std::test::Fail;
@@ -17,6 +18,110 @@ RULES
 EVAL
   plus(s(s(z)),s(z))
 END-SPEC";
+
+// What may stand behind the beginning of a text, in the sections before the rules.
+const DECLARED: [(&str, &[TokenKind]); 17] = [
+    ("", &[RecSpec]),
+    ("REC-SPEC", &[PlainWord]),
+    (
+        "REC-SPEC E",
+        &[
+            Section(Part::Sorts),
+            Section(Part::Cons),
+            Section(Part::Opns),
+            Section(Part::Vars),
+            Section(Part::Rules),
+            Section(Part::Eval),
+            EndSpec,
+        ],
+    ),
+    (
+        "REC-SPEC E SORTS",
+        &[
+            PlainWord,
+            Section(Part::Cons),
+            Section(Part::Opns),
+            Section(Part::Vars),
+            Section(Part::Rules),
+            Section(Part::Eval),
+            EndSpec,
+        ],
+    ),
+    (
+        "REC-SPEC E SORTS Nat CONS",
+        &[
+            PlainWord,
+            Section(Part::Opns),
+            Section(Part::Vars),
+            Section(Part::Rules),
+            Section(Part::Eval),
+            EndSpec,
+        ],
+    ),
+    (
+        "REC-SPEC E OPNS f : -> Nat",
+        &[
+            PlainWord,
+            Section(Part::Vars),
+            Section(Part::Rules),
+            Section(Part::Eval),
+            EndSpec,
+        ],
+    ),
+    (
+        "REC-SPEC E VARS X : Nat",
+        &[
+            PlainWord,
+            Section(Part::Rules),
+            Section(Part::Eval),
+            EndSpec,
+        ],
+    ),
+    (
+        "REC-SPEC E RULES",
+        &[PlainWord, Section(Part::Eval), EndSpec],
+    ),
+    ("REC-SPEC E EVAL", &[PlainWord, EndSpec]),
+    ("REC-SPEC E CONS s", &[Colon]),
+    ("REC-SPEC E CONS s :", &[PlainWord, Arrow]),
+    ("REC-SPEC E OPNS s : Nat", &[PlainWord, Arrow]),
+    ("REC-SPEC E CONS s : Nat ->", &[PlainWord]),
+    ("REC-SPEC E VARS X", &[PlainWord, Colon]),
+    ("REC-SPEC E VARS X Y", &[PlainWord, Colon]),
+    ("REC-SPEC E VARS X :", &[PlainWord]),
+    ("REC-SPEC E END-SPEC a", &[End]),
+];
+
+// What may stand behind the beginning of a text, in the rules and the terms to evaluate.
+const TERMS: [(&str, &[TokenKind]); 18] = [
+    ("REC-SPEC E RULES f ->", &[PlainWord]),
+    ("REC-SPEC E RULES f -> X if", &[PlainWord]),
+    ("REC-SPEC E RULES f -> X if a -><-", &[PlainWord]),
+    ("REC-SPEC E RULES f -> X if a ->/<-", &[PlainWord]),
+    ("REC-SPEC E RULES f -> X if a -><- a and-if", &[PlainWord]),
+    ("REC-SPEC E EVAL f(a,", &[PlainWord]),
+    ("REC-SPEC E EVAL f(", &[PlainWord, Close]),
+    ("REC-SPEC E RULES f", &[Open, Arrow]),
+    ("REC-SPEC E EVAL f", &[PlainWord, EndSpec, Open]),
+    ("REC-SPEC E EVAL f(a", &[Open, Close, Comma]),
+    ("REC-SPEC E EVAL f(a)", &[PlainWord, EndSpec]),
+    ("REC-SPEC E EVAL f(g(a)", &[Close, Comma]),
+    ("REC-SPEC E RULES f(X)", &[Arrow]),
+    (
+        "REC-SPEC E RULES f -> g(X)",
+        &[PlainWord, Section(Part::Eval), EndSpec, If],
+    ),
+    (
+        "REC-SPEC E RULES f -> X",
+        &[PlainWord, Section(Part::Eval), EndSpec, If, Open],
+    ),
+    ("REC-SPEC E RULES f -> X if g(X)", &[Equal, Unequal]),
+    ("REC-SPEC E RULES f -> X if a", &[Open, Equal, Unequal]),
+    (
+        "REC-SPEC E RULES f -> X if a ->/<- g(X)",
+        &[PlainWord, Section(Part::Eval), EndSpec, AndIf],
+    ),
+];
 
 // The place of a text that is outside the grammar.
 fn place(answer: Result<Syntax, SyntaxFault>) -> Option<u32> {
@@ -95,6 +200,31 @@ fn places(rt: HostRuntime) {
         Some(20)
     );
     assert_eq!(rt; place(read_spec(rt.alloc(), &ADDITION[..184])), Some(184));
+}
+
+#[test]
+fn expected_in_declarations(rt: HostRuntime) -> Result<(), Fail> {
+    for (text, wanted) in DECLARED {
+        let kinds = expected_at_fault(rt.alloc(), text.as_bytes())?;
+        assert_eq!(rt; kinds.as_slice(), wanted);
+    }
+    Ok(())
+}
+
+#[test]
+fn expected_in_terms(rt: HostRuntime) -> Result<(), Fail> {
+    for (text, wanted) in TERMS {
+        let kinds = expected_at_fault(rt.alloc(), text.as_bytes())?;
+        assert_eq!(rt; kinds.as_slice(), wanted);
+    }
+    Ok(())
+}
+
+#[test]
+fn nothing_is_expected_of_a_specification(rt: HostRuntime) -> Result<(), Fail> {
+    let kinds = expected_at_fault(rt.alloc(), ADDITION)?;
+    assert!(rt; kinds.is_empty());
+    Ok(())
 }
 
 #[test]

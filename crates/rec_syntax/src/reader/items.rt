@@ -13,7 +13,7 @@ use smallvec::SmallVec;
 use std::mem;
 
 // Whether the section comes after the open one.
-fn is_later(level: Option<Part>, part: Part) -> bool
+pub(super) fn is_later(level: Option<Part>, part: Part) -> bool
     ensures { result ≡ later (level_of level) (section_of part) }
 {
     match level {

@@ -1,0 +1,68 @@
+-- What may stand at the place of a fault.
+use Rattle.std.specs.Prelude.{◌≡◌, ◌↔◌, ℕ, Bool, List, [], ◌∷◌, ◌++◌, Contains, Option, Some, None, is_some}
+use Rattle.rec_syntax.specs.Tokens as tokens
+use Rattle.rec_syntax.specs.Tokens.{Word, Token, bare}
+use Rattle.rec_syntax.specs.Place.{CanGoOn, IsFaultPlace}
+use Rattle.rec_syntax.specs.Machine.{Config, start, run}
+use Rattle.rec_syntax.specs.Lexemes.{section_of, token_of}
+use Rattle.rec_syntax.specs.Reader.{config_of}
+use Rattle.rec_syntax.specs.declared.lexer.Kind.{Kind}
+use Rattle.rec_syntax.specs.declared.token_kind.TokenKind.{TokenKind}
+use Rattle.rec_syntax.specs.declared.token_kind.TokenKind.TheVariants.{PlainWord, RecSpec, Section, EndSpec, If, AndIf, Colon, Open, Close, Comma, Arrow, Equal, Unequal, End}
+use Rattle.rec_syntax.specs.declared.reader.Due.{Due}
+use Rattle.rec_syntax.specs.declared.reader.Reader.{Reader}
+
+-- the tokens of a kind
+abbrev pub IsOf : TokenKind → Token → Type 0
+IsOf PlainWord t = (w : Word) × (t ≡ tokens.Plain w)
+IsOf RecSpec t = t ≡ tokens.RecSpec
+IsOf (Section p) t = t ≡ tokens.Head (section_of p)
+IsOf EndSpec t = t ≡ tokens.EndSpec
+IsOf If t = t ≡ tokens.If
+IsOf AndIf t = t ≡ tokens.AndIf
+IsOf Colon t = t ≡ tokens.Colon
+IsOf Open t = t ≡ tokens.Open
+IsOf Close t = t ≡ tokens.Close
+IsOf Comma t = t ≡ tokens.Comma
+IsOf Arrow t = t ≡ tokens.Arrow
+IsOf Equal t = t ≡ tokens.Equal
+IsOf Unequal t = t ≡ tokens.Unequal
+IsOf End t = t ≡ tokens.End
+
+-- some text of the grammar has a token of this kind behind these tokens
+abbrev pub MayStand : List Token → TokenKind → Type 0
+MayStand before k = (t : Token) × IsOf k t × CanGoOn (before ++ t ∷ [])
+
+-- these are exactly the kinds of the tokens that some text has at the fault's place, behind the tokens before it
+abbrev pub AreExpected : List ℕ → List TokenKind → Type 0
+AreExpected bytes ks = (at : ℕ) (fault : IsFaultPlace bytes at) (k : TokenKind) → Contains ks k ↔ MayStand (bare fault.before) k
+
+-- a token's kind; a bad token has none
+abbrev pub HasKind : Option TokenKind → Kind → Type 0
+HasKind None t = t ≡ Kind.Bad
+HasKind (Some k) t = (bytes : List ℕ) → IsOf k (token_of bytes t)
+
+-- a token of a kind
+abbrev pub sample : TokenKind → Token
+sample PlainWord = tokens.Plain (record { at = 0; bytes = [] })
+sample RecSpec = tokens.RecSpec
+sample (Section p) = tokens.Head (section_of p)
+sample EndSpec = tokens.EndSpec
+sample If = tokens.If
+sample AndIf = tokens.AndIf
+sample Colon = tokens.Colon
+sample Open = tokens.Open
+sample Close = tokens.Close
+sample Comma = tokens.Comma
+sample Arrow = tokens.Arrow
+sample Equal = tokens.Equal
+sample Unequal = tokens.Unequal
+sample End = tokens.End
+
+-- whether the machine takes a token of this kind
+abbrev pub is_taken : (Token → Option Config) → TokenKind → Bool
+is_taken step k = is_some (step (sample k))
+
+-- the reader's state is the one behind the tokens before the fault
+abbrev pub IsAtFault : List ℕ → Due → Reader → Type 0
+IsAtFault bytes d r = (at : ℕ) (fault : IsFaultPlace bytes at) → run (Some start) (bare fault.before) ≡ Some (config_of bytes d r)

@@ -1,0 +1,140 @@
+//! What may stand at the place of a fault.
+
+ghost use Rattle.std.specs.Prelude.{◌≡◌, ◌↔◌, ℕ, true, List, Contains, IfOk, is_some};
+ghost use Rattle.rec_syntax.specs.Syntax as syntax;
+ghost use Rattle.rec_syntax.specs.Syntax.{Spec};
+ghost use Rattle.rec_syntax.specs.Machine.{between, complete, after, step};
+ghost use Rattle.rec_syntax.specs.Reader.{level_of, role_of, due_of, open_of};
+ghost use Rattle.rec_syntax.specs.Lexemes.{token_of};
+ghost use Rattle.rec_syntax.specs.Expected.{is_taken, AreExpected, IsAtFault};
+
+use super::items::is_later;
+use super::{Due, Reader, Role};
+use crate::lexer::{Kind, Part, next};
+use crate::token_kind::TokenKind;
+use std::alloc::{AllocError, Global};
+
+// Whether a token of this kind may stand behind a whole item.
+fn is_after_item(level: Option<Part>, kind: TokenKind) -> bool
+    ensures { (y : Spec) → result ≡ is_taken (between (level_of level) y) kind }
+{
+    match kind {
+        TokenKind::PlainWord => level.is_some(),
+        TokenKind::Section(part) => is_later(level, part),
+        TokenKind::EndSpec => true,
+        _ => false,
+    }
+}
+
+// Whether a token of this kind may stand behind a whole term that is no argument.
+fn is_after_whole(role: &Role, kind: TokenKind) -> bool
+    ensures { (bytes : List ℕ) (t : syntax.Term) (y : Spec) → result ≡ is_taken (complete (role_of bytes role.now) t y) kind }
+{
+    match role {
+        Role::Left => matches!(kind, TokenKind::Arrow),
+        Role::Right(_) => match kind {
+            TokenKind::If => true,
+            _ => is_after_item(Some(Part::Rules), kind),
+        },
+        Role::ConditionLeft(_) => matches!(kind, TokenKind::Equal | TokenKind::Unequal),
+        Role::ConditionRight(_, _, _) => match kind {
+            TokenKind::AndIf => true,
+            _ => is_after_item(Some(Part::Rules), kind),
+        },
+        Role::InEval => is_after_item(Some(Part::Eval), kind),
+    }
+}
+
+impl Reader {
+    // Whether a token of this kind may stand behind a whole term.
+    fn is_after_term(&self, kind: TokenKind) -> bool
+        ensures { (t : syntax.Term) (y : Spec) (made : List syntax.Term) → result ≡ is_taken (after (role_of self.now.source.items self.now.role) t (open_of self.now.source.items self.now made) y) kind }
+    {
+        if self.calls.is_empty() {
+            is_after_whole(&self.role, kind)
+        } else {
+            matches!(kind, TokenKind::Comma | TokenKind::Close)
+        }
+    }
+
+    // Whether a token of this kind may stand here.
+    fn is_expected(&self, due: Due, kind: TokenKind) -> bool
+        ensures { (y : Spec) → result ≡ is_taken (step (due_of self.now.source.items due self.now) y) kind }
+    {
+        match due {
+            Due::Start => matches!(kind, TokenKind::RecSpec),
+            Due::Title | Due::ResultSort(_, _) | Due::GroupSort(_) | Due::AtTerm => {
+                matches!(kind, TokenKind::PlainWord)
+            }
+            Due::Between(level) => is_after_item(level, kind),
+            Due::Named(_, _) => matches!(kind, TokenKind::Colon),
+            Due::Arguments(_, _) => matches!(kind, TokenKind::PlainWord | TokenKind::Arrow),
+            Due::Grouped(_) => matches!(kind, TokenKind::PlainWord | TokenKind::Colon),
+            Due::Called(_) => match kind {
+                TokenKind::Open => true,
+                _ => self.is_after_term(kind),
+            },
+            Due::First(_) => matches!(kind, TokenKind::PlainWord | TokenKind::Close),
+            Due::After => self.is_after_term(kind),
+            Due::Ended => matches!(kind, TokenKind::End),
+            Due::Done => false,
+        }
+    }
+
+    // The kinds of tokens that may stand here.
+    fn expected(&self, alloc: Global, due: Due) -> Result<Vec<TokenKind>, AllocError>
+        ensures { (y : Spec) → IfOk result (λ kinds. (k : TokenKind) → Contains kinds.items k ↔ (is_taken (step (due_of self.now.source.items due self.now) y) k ≡ true)) }
+    {
+        let mut kinds = Vec::new(alloc);
+        for kind in TokenKind::ALL {
+            if self.is_expected(due, kind) {
+                kinds.push(kind)?;
+            }
+        }
+        Ok(kinds)
+    }
+
+    // Whether this token may stand here.
+    fn may_take(&self, due: Due, token: Kind) -> bool
+        ensures { let bytes = self.now.source.items in (y : Spec) → result ≡ is_some (step (due_of bytes due self.now) y (token_of bytes token)) }
+    {
+        match TokenKind::of(token) {
+            Some(kind) => self.is_expected(due, kind),
+            None => false,
+        }
+    }
+}
+
+// The reader behind the tokens before the fault's place, and what is due there.
+fn read_to_fault(alloc: Global, source: Vec<u8>) -> Result<(Due, Reader), AllocError>
+    ensures same { IfOk result (λ at. at.1.source ≡ source) }
+    ensures reached { IfOk result (λ at. IsAtFault source.items at.0 at.1) }
+{
+    let mut reader = Reader::new(alloc, source);
+    let mut due = Due::Start;
+    let mut from = 0;
+    loop {
+        let lexeme = next(&reader.source, from);
+        if !reader.may_take(due, lexeme.kind) {
+            return Ok((due, reader));
+        }
+        due = match reader.step(due, lexeme.kind) {
+            Ok(due) => due,
+            Err(_) => return Err(AllocError),
+        };
+        if let Kind::End = lexeme.kind {
+            return Ok((due, reader));
+        }
+        from = lexeme.to;
+    }
+}
+
+/// What may stand at the place of the fault of a text that is outside the grammar: each kind of tokens
+/// that some text has there, behind the tokens before it.
+pub fn expected_at_fault(alloc: Global, bytes: &[u8]) -> Result<Vec<TokenKind>, AllocError>
+    ensures { IfOk result (λ kinds. AreExpected bytes.now kinds.items) }
+{
+    let source = Vec::from_slice(alloc, bytes)?;
+    let (due, reader) = read_to_fault(alloc, source)?;
+    reader.expected(alloc, due)
+}
