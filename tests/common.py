@@ -1,11 +1,17 @@
 """What the checks of this folder share: the program that is tried, and the list of what was not as wanted."""
 
 import os
+import re
 import subprocess
 import sys
 
 TOP = os.path.dirname(os.path.dirname(os.path.realpath(__file__)))
 FAILURES = []
+# What the table says in words.
+IN_WORDS = {
+    "`h(c1)` to `h(c20)`, twenty lines": "".join(f"h(c{it})\n" for it in range(1, 21)),
+    "`z` in thirty times `s(..)`": "s(" * 30 + "z" + ")" * 30 + "\n",
+}
 
 
 def program():
@@ -27,6 +33,24 @@ def same(what, wanted, found):
     if wanted != found:
         FAILURES.append(what)
         print(f"FAILED {what}\n  want: {wanted!r}\n  have: {found!r}")
+
+
+def quoted(cell):
+    return re.findall(r"`([^`]*)`", cell)
+
+
+def rows():
+    """The file words, the options and the output of each row of the table, a row for each list of options."""
+    files = ""
+    for line in text_of("examples/README.md").splitlines():
+        cells = [it.strip() for it in line.split("|")[1:-1]]
+        if len(cells) != 4 or cells[0] == "File" or set(cells[0]) == {"-"}:
+            continue
+        files = quoted(cells[0])[0] if cells[0] else files
+        output = IN_WORDS.get(cells[3]) or "".join(f"{it}\n" for it in quoted(cells[3]))
+        options, *more = quoted(cells[2])
+        for extra in ["", *more]:
+            yield files, f"{options} {extra}".strip(), output.replace("<tab>", "\t")
 
 
 def done():

@@ -13,33 +13,10 @@ import shlex
 import subprocess
 import tempfile
 
-from common import TOP, done, program, run, same, text_of
+from common import TOP, done, program, rows, run, same, text_of
 
-# What the table says in words.
-IN_WORDS = {
-    "`h(c1)` to `h(c20)`, twenty lines": "".join(f"h(c{it})\n" for it in range(1, 21)),
-    "`z` in thirty times `s(..)`": "s(" * 30 + "z" + ")" * 30 + "\n",
-}
 # What takes no end of time where results are not remembered.
 NEEDS = {"fast.rec": ["--memo"]}
-
-
-def quoted(cell):
-    return re.findall(r"`([^`]*)`", cell)
-
-
-def rows():
-    """The file words, the options and the output of each row of the table, a row for each list of options."""
-    files = ""
-    for line in text_of("examples/README.md").splitlines():
-        cells = [it.strip() for it in line.split("|")[1:-1]]
-        if len(cells) != 4 or cells[0] == "File" or set(cells[0]) == {"-"}:
-            continue
-        files = quoted(cells[0])[0] if cells[0] else files
-        output = IN_WORDS.get(cells[3]) or "".join(f"{it}\n" for it in quoted(cells[3]))
-        options, *more = quoted(cells[2])
-        for extra in ["", *more]:
-            yield files, f"{options} {extra}".strip(), output.replace("<tab>", "\t")
 
 
 def check_table(known):
