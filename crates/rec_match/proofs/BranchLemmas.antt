@@ -14,6 +14,7 @@ use Rattle.rec_sorts.proofs.Bindings.{bytes_eq-refl}
 use Rattle.rec_match.specs.Rows.{Row, opened_cells, kept_cells, changed}
 use Rattle.rec_match.specs.Forests.{Cases, case_at, child_at, no_child, number_at}
 use Rattle.rec_match.specs.Growing.{State, AllWithin, GrowsSwitch, Extends}
+use Rattle.rec_match.specs.Marking.{AreListed}
 use Rattle.rec_match.specs.Parts.{Coded, AreDistinct, AreMarks, opened_codes, kept_codes, changed_codes}
 use Rattle.rec_match.specs.Tasks.{Task, IsGround, Growing, Steps, IsBranch, Covers, Adds, WritesSwitch, Branched, BranchesOut, numbers_of}
 use Rattle.rec_match.specs.declared.forest.Child.{Child}
@@ -118,12 +119,10 @@ in_window cs window low q some = by (nat_le low q) (nat_lt (q - low) (length win
     by false b ea eb some = absurd (some refl)
 
 module _ (y : Spec) (ns : List ℕ) (ps : Parts) where
-  branch_later : (f g : Forest) (s t : ℕ → State) → Extends f s g t → (n register : ℕ) (marks : List Bool) (number : ℕ) (child : Child) → n < length f.nodes.items → IsBranch y ns f s n register marks number child
-      → IsBranch y ns g t n register marks number child
-  branch_later f g s t x n register marks number child lt h = record {
+  branch_later : (f g : Forest) (s t : ℕ → State) → Extends f s g t → (n register number : ℕ) (child : Child) → n < length f.nodes.items → IsBranch y ns f s n register number child → IsBranch y ns g t n register number child
+  branch_later f g s t x n register number child lt h = record {
     symbol = h.symbol;
     declared = h.declared;
-    marked = h.marked;
     numbered = h.numbered;
     counted = h.counted;
     later = h.later;
@@ -132,40 +131,28 @@ module _ (y : Spec) (ns : List ℕ) (ps : Parts) where
   }
 
   -- no child so far
-  pub branched_none : (f : Forest) (ts : List Task) (s : ℕ → State) (t : Task) (register low : ℕ) (marks : List Bool) (window : List Child) → ((q : ℕ) → (get_or window q no_child).node ≡ 0) → Growing y ns ps f (t ∷ ts) s
-      → Branched y ns ps f ts s t f ts register low marks window 0
-  branched_none f ts s t register low marks window none grow = record {
+  pub branched_none : (f : Forest) (ts : List Task) (s : ℕ → State) (t : Task) (register low : ℕ) (ks : List ℕ) (window : List Child) → ((q : ℕ) → (get_or window q no_child).node ≡ 0) → Growing y ns ps f (t ∷ ts) s
+      → Branched y ns ps f ts s t f ts register low ks window 0
+  branched_none f ts s t register low ks window none grow = record {
     goes = record {
       states = s;
       extends = record { nodes = omega arith; new_places = []; places = sym (append-nil f.places.items); new_children = []; children = sym (append-nil f.children.items); states = λ n lt. refl };
       growing = grow;
       kept = λ n lt away. (away, refl);
     };
-    branches = record { each = λ q lt some. absurd (some (none q)); all = λ j lt e. absurd (let bad : ⊥ = omega (arith, lt) in bad) };
+    branches = record { each = λ q lt some. absurd (some (none q)); all = λ i lt. absurd (let bad : ⊥ = omega (arith, lt) in bad) };
   }
 
-  -- a symbol that is not marked
-  pub branched_skip : (f : Forest) (ts : List Task) (s : ℕ → State) (t : Task) (g : Forest) (us : List Task) (register low : ℕ) (marks : List Bool) (window : List Child) (k : ℕ) → get_or marks k false ≡ false
-      → Branched y ns ps f ts s t g us register low marks window k → Branched y ns ps f ts s t g us register low marks window (k + 1)
-  branched_skip f ts s t g us register low marks window k e x = record {
-    goes = x.goes;
-    branches = record { each = x.branches.each; all = λ j lt m. by j lt m (cases_eq j k) };
-  }
-    where
-      by : (j : ℕ) → j < k + 1 → get_or marks j false ≡ true → (j ≡ k) ⊎ (j ≢ k) → (get_or window (number_at ns j - low) no_child).node ≢ 0
-      by j lt m (inl is) = absurd (cc (sym m ∙ ap (λ i. get_or marks i false) is ∙ e))
-      by j lt m (inr ne) = x.branches.all j (omega (arith, lt, ne)) m
-
-  -- a symbol that is marked
-  pub branched_more : (ground : IsGround y ns ps) (f : Forest) (ts : List Task) (s : ℕ → State) (n width : ℕ) (coded : List Coded) (g h : Forest) (us vs : List Task) (register low : ℕ) (marks : List Bool) (window window' : List Child) (k node : ℕ)
-      → k < length (symbols y) → get_or marks k false ≡ true → low ≤ number_at ns k → number_at ns k - low < length window
-      → Branched y ns ps f ts s (record { node = n; width = width; rows = coded }) g us register low marks window k
+  -- one symbol more
+  pub branched_more : (ground : IsGround y ns ps) (f : Forest) (ts : List Task) (s : ℕ → State) (n width : ℕ) (coded : List Coded) (g h : Forest) (us vs : List Task) (register low : ℕ) (ks : List ℕ) (window window' : List Child) (m k node : ℕ)
+      → k < length (symbols y) → get_or ks m 0 ≡ k → low ≤ number_at ns k → number_at ns k - low < length window
+      → Branched y ns ps f ts s (record { node = n; width = width; rows = coded }) g us register low ks window m
       → Adds g us h vs (width + arity_of y k) (changed_codes (opened_codes ps register k width) coded) node
       → window' ≡ set window (number_at ns k - low) (record { node = node; count = arity_of y k })
-      → Branched y ns ps f ts s (record { node = n; width = width; rows = coded }) h vs register low marks window' (k + 1)
-  branched_more ground f ts s n width coded g h us vs register low marks window window' k node lt mark le within x a e = record {
+      → Branched y ns ps f ts s (record { node = n; width = width; rows = coded }) h vs register low ks window' (m + 1)
+  branched_more ground f ts s n width coded g h us vs register low ks window window' m k node lt is_next le within x a e = record {
     goes = goes_more y ns ps f g h (t ∷ ts) (t ∷ us) (t ∷ vs) s x.goes ad.goes;
-    branches = record { each = λ q l some. each q l some (cases_eq q at); all = λ j l m. all j l m (cases_eq j k) (cases_eq (number_at ns j - low) at) };
+    branches = record { each = λ q l some. each q l some (cases_eq q at); all = λ i l. all i l (cases_eq i m) (cases_eq (number_at ns (get_or ks i 0) - low) at) };
   }
     where
       t : Task
@@ -193,11 +180,10 @@ module _ (y : Spec) (ns : List ℕ) (ps : Parts) where
       there : n < length g.nodes.items
       there = x.goes.growing.tasks.0.there
 
-      own : IsBranch y ns h ad.goes.states n register marks (number_at ns k) child
+      own : IsBranch y ns h ad.goes.states n register (number_at ns k) child
       own = record {
         symbol = k;
         declared = lt;
-        marked = mark;
         numbered = refl;
         counted = refl;
         later = (let is = a.node_is in let l = there in omega (arith, is, l));
@@ -219,30 +205,30 @@ module _ (y : Spec) (ns : List ℕ) (ps : Parts) where
       long : length window' ≡ length window
       long = ap length e ∙ length-set window at child
 
-      each : (q : ℕ) → q < length window' → (get_or window' q no_child).node ≢ 0 → (q ≡ at) ⊎ (q ≢ at) → IsBranch y ns h ad.goes.states n register marks (low + q) (get_or window' q no_child)
+      each : (q : ℕ) → q < length window' → (get_or window' q no_child).node ≢ 0 → (q ≡ at) ⊎ (q ≢ at) → IsBranch y ns h ad.goes.states n register (low + q) (get_or window' q no_child)
       each q l some (inl is) =
           let number : number_at ns k ≡ low + q = omega (arith, is, le) in
-          subst (λ c. IsBranch y ns h ad.goes.states n register marks (low + q) c) (sym (ap (λ i. get_or window' i no_child) is ∙ same)) (subst (λ i. IsBranch y ns h ad.goes.states n register marks i child) number own)
+          subst (λ c. IsBranch y ns h ad.goes.states n register (low + q) c) (sym (ap (λ i. get_or window' i no_child) is ∙ same)) (subst (λ i. IsBranch y ns h ad.goes.states n register i child) number own)
       each q l some (inr ne) =
           let is = other q ne in
           let lw = long in
-          subst (λ c. IsBranch y ns h ad.goes.states n register marks (low + q) c) (sym is)
-          (branch_later g h u ad.goes.states ad.goes.extends n register marks (low + q) (get_or window q no_child) there
+          subst (λ c. IsBranch y ns h ad.goes.states n register (low + q) c) (sym is)
+          (branch_later g h u ad.goes.states ad.goes.extends n register (low + q) (get_or window q no_child) there
           (x.branches.each q (omega (arith, l, lw)) (λ z. some (ap (λ (c : Child). c.node) is ∙ z))))
 
-      all : (j : ℕ) → j < k + 1 → get_or marks j false ≡ true → (j ≡ k) ⊎ (j ≢ k) → (number_at ns j - low ≡ at) ⊎ (number_at ns j - low ≢ at) → (get_or window' (number_at ns j - low) no_child).node ≢ 0
-      all j l m b (inl is) = λ z. some_node (sym (ap (λ (c : Child). c.node) (ap (λ i. get_or window' i no_child) is ∙ same)) ∙ z)
-      all j l m (inl jk) (inr ne) = absurd (ne (ap (λ i. number_at ns i - low) jk))
-      all j l m (inr jne) (inr ne) = λ z. x.branches.all j (omega (arith, l, jne)) m (sym (ap (λ (c : Child). c.node) (other (number_at ns j - low) ne)) ∙ z)
+      all : (i : ℕ) → i < m + 1 → (i ≡ m) ⊎ (i ≢ m) → (number_at ns (get_or ks i 0) - low ≡ at) ⊎ (number_at ns (get_or ks i 0) - low ≢ at) → (get_or window' (number_at ns (get_or ks i 0) - low) no_child).node ≢ 0
+      all i l o (inl is) = λ z. some_node (sym (ap (λ (c : Child). c.node) (ap (λ j. get_or window' j no_child) is ∙ same)) ∙ z)
+      all i l (inl im) (inr ne) = absurd (ne (ap (λ j. number_at ns (get_or ks j 0) - low) im ∙ ap (λ j. number_at ns j - low) is_next))
+      all i l (inr ine) (inr ne) = λ z. x.branches.all i (omega (arith, l, ine)) (sym (ap (λ (c : Child). c.node) (other (number_at ns (get_or ks i 0) - low) ne)) ∙ z)
 
   -- a switch was written, and its children wait
-  pub switch_steps : (ground : IsGround y ns ps) (f g h e : Forest) (ts us vs : List Task) (n width register low : ℕ) (coded : List Coded) (other : ℕ) (marks : List Bool) (window : List Child)
-      → length marks ≡ length (symbols y) → Covers ns marks low (length window) → register < width
+  pub switch_steps : (ground : IsGround y ns ps) (f g h e : Forest) (ts us vs : List Task) (n width register low : ℕ) (coded : List Coded) (other : ℕ) (marks : List Bool) (ks : List ℕ) (window : List Child)
+      → AreListed marks ks → Covers ns ks low (length window) → register < width
       → Adds f ts g us width (changed_codes (kept_codes ps register marks) coded) other
-      → BranchesOut y ns ps g us width coded h vs register low marks window (length marks)
+      → BranchesOut y ns ps g us width coded h vs register low ks window (length ks)
       → WritesSwitch h e n register low window other
       → Steps y ns ps f ((record { node = n; width = width; rows = coded }) ∷ ts) e vs
-  switch_steps ground f g h e ts us vs n width register low coded other marks window counted covers there a out w s grow =
+  switch_steps ground f g h e ts us vs n width register low coded other marks ks window listed covers there a out w s grow =
       goes_more y ns ps f g e (t ∷ ts) (t ∷ us) vs s ad.goes
       (goes_more y ns ps g h e (t ∷ us) (t ∷ vs) vs u b.goes
       (goes_written y ns ps h e v t vs (Switch register low (length h.children.items) (length window) other) b.goes.growing
@@ -268,7 +254,7 @@ module _ (y : Spec) (ns : List ℕ) (ps : Parts) where
       u : ℕ → State
       u = ad.goes.states
 
-      b : Branched y ns ps g us u t h vs register low marks window (length marks)
+      b : Branched y ns ps g us u t h vs register low ks window (length ks)
       b = out n u ad.goes.growing
 
       v : ℕ → State
@@ -292,13 +278,13 @@ module _ (y : Spec) (ns : List ℕ) (ps : Parts) where
       case_is : (q : ℕ) → case_at cases q ≡ child_at (h.children.items ++ window) low (length h.children.items) (length window) q
       case_is q = ap (λ cs. child_at cs low (length h.children.items) (length window) q) w.children
 
-      branch_of : (q : ℕ) → (case_at cases q).node ≢ 0 → IsBranch y ns h v n register marks q (case_at cases q)
+      branch_of : (q : ℕ) → (case_at cases q).node ≢ 0 → IsBranch y ns h v n register q (case_at cases q)
       branch_of q some =
           let i = in_window h.children.items window low q (λ z. some (ap (λ (c : Child). c.node) (case_is q) ∙ z)) in
           let is : case_at cases q ≡ get_or window (q - low) no_child = case_is q ∙ i.is in
           let number : low + (q - low) ≡ q = (let le = i.from_low in omega (arith, le)) in
-          subst (λ k. IsBranch y ns h v n register marks k (case_at cases q)) number
-          (subst (λ c. IsBranch y ns h v n register marks (low + (q - low)) c) (sym is) (b.branches.each (q - low) i.within (λ z. some (ap (λ (c : Child). c.node) is ∙ z))))
+          subst (λ k. IsBranch y ns h v n register k (case_at cases q)) number
+          (subst (λ c. IsBranch y ns h v n register (low + (q - low)) c) (sym is) (b.branches.each (q - low) i.within (λ z. some (ap (λ (c : Child). c.node) is ∙ z))))
 
       switched : GrowsSwitch y ns e v n register other cases
       switched = record {
@@ -313,15 +299,14 @@ module _ (y : Spec) (ns : List ℕ) (ps : Parts) where
         refused = of;
         refuses = λ name k r.
             (let m = is_marked y marks (length (symbols y)) name k r in
-            let below = m.below in
-            let j : m.symbol < length marks = omega (arith, below, counted) in
-            let c = covers m.symbol j m.marked in
-            let c0 = c.0 in
-            let c1 = c.1 in
+            let o = listed m.symbol m.marked in
+            let c = covers o.0 o.1 in
+            let c0 : low ≤ number_at ns m.symbol = subst (λ j. low ≤ number_at ns j) o.2 c.0 in
+            let c1 : number_at ns m.symbol < low + length window = subst (λ j. number_at ns j < low + length window) o.2 c.1 in
             record {
               symbol = m.symbol;
               declared = m.below;
-              child = λ z. b.branches.all m.symbol j m.marked (sym (ap (λ (d : Child). d.node) (case_is (number_at ns m.symbol) ∙ window_in h.children.items window low (number_at ns m.symbol) c0 (omega (arith, c0, c1)))) ∙ z);
+              child = λ z. subst (λ j. (get_or window (number_at ns j - low) no_child).node ≢ 0) o.2 (b.branches.all o.0 o.1) (sym (ap (λ (d : Child). d.node) (case_is (number_at ns m.symbol) ∙ window_in h.children.items window low (number_at ns m.symbol) c0 (omega (arith, c0, c1)))) ∙ z);
               named = m.named;
               counted = m.counted;
             });

@@ -3,16 +3,17 @@ use Rattle.std.proofs.Common.{refl, sym, ap, subst, arith, ◌∙◌, inl, inr}
 use Rattle.std.proofs.lemmas.Bool.{cases_eq}
 use Rattle.std.proofs.lemmas.List.{append-nil, length-append}
 use Rattle.std.specs.Prelude.{ℕ, zero, suc, ◌+◌, ◌<◌, ◌≡◌, ◌≢◌, ◌⊎◌, List, [], ◌∷◌, ◌++◌, None, length, get_or}
+use Rattle.rx_term.specs.Store.{Store, signature_of}
 use Rattle.rx_term.specs.declared.Symbol as bank
 use Rattle.rec_syntax.specs.Syntax.{Spec}
 use Rattle.rec_sorts.specs.Laws.{Every}
-use Rattle.rec_sorts.specs.Linked.{AllDiffer}
+use Rattle.rec_sorts.specs.Linked.{AreLinked, AllDiffer}
 use Rattle.rec_sorts.specs.Lookup.{symbols, is_variable}
 use Rattle.rec_sorts.specs.Numbering.{name_of, arity_of}
 use Rattle.rec_sorts.specs.SpecRules.{fault}
 use Rattle.rec_sorts.specs.declared.letters.Meaning.TheVariants.{Symbol}
 use Rattle.rec_match.specs.Built.{AreHeads}
-use Rattle.rec_match.specs.Forests.{IsForest}
+use Rattle.rec_match.specs.Forests.{AreNumbers, IsForest}
 use Rattle.rec_match.specs.Growing.{State, Grows, Extends}
 use Rattle.rec_match.specs.Running.{root_rows, IsHeaded}
 use Rattle.rec_match.specs.Tasks.{AreApart, Growing, Waits, TreeGoesOn, numbers_of}
@@ -115,14 +116,18 @@ trees_done y kept ns ps f g roots hs n heads h e nodes places children is = grow
     stands : (k : ℕ) → k < length (symbols y) → get_or g.roots.items k 0 ≢ 0 → (get_or g.roots.items k 0 < length f.nodes.items) × (h.states (get_or g.roots.items k 0) ≡ whole_state y k)
     stands k lt = subst (λ xs. get_or xs k 0 ≢ 0 → (get_or xs k 0 < length f.nodes.items) × (h.states (get_or xs k 0) ≡ whole_state y k)) (sym is) (h.stands k (omega (arith, lt, e)))
 
+abbrev no_symbol : bank.Symbol
+no_symbol = record { 0 = 0 }
+
+number_of : (ss : List bank.Symbol) (i : ℕ) → get_or (numbers_of ss) i 0 ≡ (get_or ss i no_symbol).0
+number_of [] i = refl
+number_of (s ∷ ss) zero = refl
+number_of (s ∷ ss) (suc i) = number_of ss i
+
 -- symbols that differ have numbers that do
 pub numbers_apart : (y : Spec) (ss : List bank.Symbol) → AllDiffer ss → length ss ≡ length (symbols y) → AreApart y (numbers_of ss)
-numbers_apart y ss differ e i j lti ltj same = differ i j none (omega (arith, lti, e)) (omega (arith, ltj, e)) (ap (λ (n : ℕ). (let s : bank.Symbol = record { 0 = n } in s)) (sym (number ss i) ∙ same ∙ number ss j))
-  where
-    none : bank.Symbol
-    none = record { 0 = 0 }
+numbers_apart y ss differ e i j lti ltj same = differ i j no_symbol (omega (arith, lti, e)) (omega (arith, ltj, e)) (ap (λ (n : ℕ). (let s : bank.Symbol = record { 0 = n } in s)) (sym (number_of ss i) ∙ same ∙ number_of ss j))
 
-    number : (ss : List bank.Symbol) (i : ℕ) → get_or (numbers_of ss) i 0 ≡ (get_or ss i none).0
-    number [] i = refl
-    number (s ∷ ss) zero = refl
-    number (s ∷ ss) (suc i) = number ss i
+-- the numbers of a specification's symbols in a bank
+pub are_numbers : (y : Spec) (w : Store) (ss : List bank.Symbol) → AreLinked y w ss → AreNumbers y w (numbers_of ss)
+are_numbers y w ss h k lt = ap (λ (n : ℕ). signature_of w (record { 0 = n })) (number_of ss k) ∙ h.linked k no_symbol lt

@@ -16,3 +16,4 @@ pub mod Next
 pub mod Tasks
 pub mod Pushed
 pub mod Starting
+pub mod Marking

@@ -86,25 +86,24 @@ Steps y ns ps f ts g us = (s : ℕ → State) → Growing y ns ps f ts s → Goe
 abbrev pub CanStep : Spec → List ℕ → Parts → Forest → List Task → Type 0
 CanStep y ns ps f ts = (s : ℕ → State) × Growing y ns ps f ts s
 
--- the child of a marked symbol, and what is left of the rows there
-pub record IsBranch (y : Spec) (ns : List ℕ) (f : Forest) (s : ℕ → State) (n register : ℕ) (marks : List Bool) (number : ℕ) (child : Child) : Type 0 where
+-- the child of a symbol, and what is left of the rows there
+pub record IsBranch (y : Spec) (ns : List ℕ) (f : Forest) (s : ℕ → State) (n register number : ℕ) (child : Child) : Type 0 where
   pub symbol : ℕ
   pub declared : symbol < length (symbols y)
-  pub marked : get_or marks symbol false ≡ true
   pub numbered : number_at ns symbol ≡ number
   pub counted : child.count ≡ arity_of y symbol
   pub later : n < child.node
   pub there : child.node < length f.nodes.items
   pub state : s child.node ≡ record { width = (s n).width + arity_of y symbol; rows = changed (opened_cells y register (name_of y (Symbol symbol)) (arity_of y symbol) (s n).width) (s n).rows }
 
--- a window has children of marked symbols, and those of all before a symbol
-pub record Branches (y : Spec) (ns : List ℕ) (f : Forest) (s : ℕ → State) (n register low : ℕ) (marks : List Bool) (window : List Child) (k : ℕ) : Type 0 where
-  pub each : (q : ℕ) → q < length window → (get_or window q no_child).node ≢ 0 → IsBranch y ns f s n register marks (low + q) (get_or window q no_child)
-  pub all : (j : ℕ) → j < k → get_or marks j false ≡ true → (get_or window (number_at ns j - low) no_child).node ≢ 0
+-- a window has children of symbols, and among them those of the first ones of some
+pub record Branches (y : Spec) (ns : List ℕ) (f : Forest) (s : ℕ → State) (n register low : ℕ) (ks : List ℕ) (window : List Child) (m : ℕ) : Type 0 where
+  pub each : (q : ℕ) → q < length window → (get_or window q no_child).node ≢ 0 → IsBranch y ns f s n register (low + q) (get_or window q no_child)
+  pub all : (i : ℕ) → i < m → (get_or window (number_at ns (get_or ks i 0) - low) no_child).node ≢ 0
 
--- the numbers of marked symbols stand in a window
-abbrev pub Covers : List ℕ → List Bool → ℕ → ℕ → Type 0
-Covers ns marks low span = (j : ℕ) → j < length marks → get_or marks j false ≡ true → (low ≤ number_at ns j) × (number_at ns j < low + span)
+-- the numbers of symbols stand in a window
+abbrev pub Covers : List ℕ → List ℕ → ℕ → ℕ → Type 0
+Covers ns ks low span = (i : ℕ) → i < length ks → (low ≤ number_at ns (get_or ks i 0)) × (number_at ns (get_or ks i 0) < low + span)
 
 -- the numbers of a bank's symbols
 abbrev pub numbers_of : List bank.Symbol → List ℕ
@@ -130,14 +129,14 @@ pub record WritesSwitch (f g : Forest) (n register low : ℕ) (window : List Chi
   pub places : g.places.items ≡ f.places.items
   pub children : g.children.items ≡ f.children.items ++ window
 
--- children of the marked symbols before one were added while a node waits
-pub record Branched (y : Spec) (ns : List ℕ) (ps : Parts) (f : Forest) (ts : List Task) (s : ℕ → State) (t : Task) (g : Forest) (us : List Task) (register low : ℕ) (marks : List Bool) (window : List Child) (k : ℕ) : Type 0 where
+-- children of the first ones of some symbols were added while a node waits
+pub record Branched (y : Spec) (ns : List ℕ) (ps : Parts) (f : Forest) (ts : List Task) (s : ℕ → State) (t : Task) (g : Forest) (us : List Task) (register low : ℕ) (ks : List ℕ) (window : List Child) (m : ℕ) : Type 0 where
   pub goes : GoesOn y ns ps f (t ∷ ts) s g (t ∷ us)
-  pub branches : Branches y ns g goes.states t.node register low marks window k
+  pub branches : Branches y ns g goes.states t.node register low ks window m
 
-abbrev pub BranchesOut : Spec → List ℕ → Parts → Forest → List Task → ℕ → List Coded → Forest → List Task → ℕ → ℕ → List Bool → List Child → ℕ → Type 0
-BranchesOut y ns ps f ts width coded g us register low marks window k = (n : ℕ) (s : ℕ → State) → Growing y ns ps f ((record { node = n; width = width; rows = coded }) ∷ ts) s
-    → Branched y ns ps f ts s (record { node = n; width = width; rows = coded }) g us register low marks window k
+abbrev pub BranchesOut : Spec → List ℕ → Parts → Forest → List Task → ℕ → List Coded → Forest → List Task → ℕ → ℕ → List ℕ → List Child → ℕ → Type 0
+BranchesOut y ns ps f ts width coded g us register low ks window m = (n : ℕ) (s : ℕ → State) → Growing y ns ps f ((record { node = n; width = width; rows = coded }) ∷ ts) s
+    → Branched y ns ps f ts s (record { node = n; width = width; rows = coded }) g us register low ks window m
 
 -- the first row has these places, and the other rows wait behind it
 abbrev pub TriesFirst : Forest → List Task → ℕ → ℕ → ℕ → List Place → List Coded → Forest → List Task → Type 0

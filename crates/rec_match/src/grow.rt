@@ -3,6 +3,7 @@
 ghost use Rattle.std.specs.Prelude.{◌≡◌, ◌+◌, ◌<◌, ◌≤◌, ◌^◌, ◌∷◌, [], All, IfOk, IfSome, length, map, get_or, true, false};
 ghost use Rattle.rec_sorts.specs.Lookup.{symbols};
 ghost use Rattle.rec_match.specs.Forests.{no_child, number_at};
+ghost use Rattle.rec_match.specs.Marking.{AreMarked, HasMarks};
 ghost use Rattle.rec_match.specs.Parts.{coded_of, IsCode};
 ghost use Rattle.rec_match.specs.Tasks.{
   task_of,
@@ -23,6 +24,7 @@ ghost use Rattle.rec_match.specs.Tasks.{
 };
 
 use crate::forest::{Child, Forest, Node, Place};
+use crate::marks::Marks;
 use crate::parts::{Code, CodeRow, Parts};
 use rec_sorts::{Checked, Links, Meaning};
 use std::alloc::{AllocError, Global};
@@ -33,6 +35,15 @@ pub struct Pending {
     pub node: u32,
     pub width: u32,
     pub rows: Vec<CodeRow>,
+}
+
+/// What trees are grown with: the nodes that wait, marks of symbols, and how much may still be
+/// done.
+#[derive(Drop)]
+pub struct Work {
+    pub pending: Vec<Pending>,
+    pub marks: Marks,
+    pub fuel: u64,
 }
 
 impl Forest {
@@ -143,53 +154,73 @@ impl Parts {
         None
     }
 
-    /// Marks the symbols that a row asks a register for.
-    fn mark(&self, codes: &[Code], register: u32, marks: &mut Vec<bool>)
-        requires { All (IsCode self.now) codes.now }
-        ensures { length marks.new.items ≡ length marks.old.items }
+    /// Marks the symbols near the first one that a row asks a register for.
+    fn mark(
+        &self,
+        links: &Links,
+        codes: &[Code],
+        register: u32,
+        most: u64,
+        marks: &mut Marks,
+    ) -> Result<(), AllocError>
+        requires codes { All (IsCode self.now) codes.now }
+        requires marked { AreMarked marks.old }
+        ensures { IfOk result (λ u. HasMarks marks.new (length marks.old.marked.items)) }
     {
         for code in codes {
             if code.register == register {
                 if let Meaning::Symbol(number) = self.parts[code.part as usize].meaning {
-                    if (number as usize) < marks.len() {
-                        marks[number as usize] = true;
+                    if is_near(links, &marks.symbols, number, most) {
+                        marks.mark(number)?;
                     }
                 }
             }
         }
+        Ok(())
     }
 
-    /// The symbols, of so many, that rows ask a register for.
+    /// Marks the symbols that rows ask a register for, of which those are left out that are too
+    /// far from the first one.
     fn marks(
         &self,
-        alloc: Global,
+        links: &Links,
         rows: &[CodeRow],
         register: u32,
-        count: u32,
-    ) -> Result<Vec<bool>, AllocError>
-        requires { All (λ row. All (IsCode self.now) row.codes.items) rows.now }
-        ensures { IfOk result (λ m. length m.items ≡ count) }
+        marks: &mut Marks,
+    ) -> Result<(), AllocError>
+        requires codes { All (λ row. All (IsCode self.now) row.codes.items) rows.now }
+        requires marked { AreMarked marks.old }
+        ensures { IfOk result (λ u. HasMarks marks.new (length marks.old.marked.items)) }
     {
-        let mut marks = vec![in alloc; false; count as usize]?;
+        marks.clear();
+        let most = (rows.len() as u64).saturating_mul(4).saturating_add(64);
         for row in rows {
-            self.mark(&row.codes, register, &mut marks);
+            self.mark(links, &row.codes, register, most, marks)?;
         }
-        Ok(marks)
+        Ok(())
     }
 }
 
-/// The least number of a marked symbol in the bank.
-fn least(links: &Links, marks: &[bool], count: u32) -> u64
-    requires linked { length marks.now ≤ length links.now }
-    requires counted { length marks.now ≡ count }
-    ensures { (j : _) → j < length marks.now → get_or marks.now j false ≡ true → result ≤ number_at (numbers_of links.now) j }
+/// Whether a symbol's number in the bank is near that of the first one of some.
+fn is_near(links: &Links, symbols: &[u32], symbol: u32, most: u64) -> bool {
+    let Some(first) = symbols.first() else {
+        return true;
+    };
+    let numbers = links.symbols();
+    let (Some(a), Some(b)) = (numbers.get(*first as usize), numbers.get(symbol as usize)) else {
+        return false;
+    };
+    a.0.abs_diff(b.0) < most
+}
+
+/// The least number of some symbols in the bank.
+fn least(links: &Links, symbols: &[u32]) -> u64
+    requires { All (λ k. k < length links.now) symbols.now }
+    ensures { All (λ k. result ≤ number_at (numbers_of links.now) k) symbols.now }
 {
     let mut low = u64::MAX;
-    for symbol in 0..count {
-        if !marks[symbol as usize] {
-            continue;
-        }
-        low = low.min(links.symbol_of(symbol).0);
+    for symbol in symbols {
+        low = low.min(links.symbol_of(*symbol).0);
     }
     low
 }
@@ -202,18 +233,14 @@ fn greater(a: u64, b: u64) -> u64
     if a < b { b } else { a }
 }
 
-/// The greatest number of a marked symbol in the bank.
-fn greatest(links: &Links, marks: &[bool], count: u32) -> u64
-    requires linked { length marks.now ≤ length links.now }
-    requires counted { length marks.now ≡ count }
-    ensures { (j : _) → j < length marks.now → get_or marks.now j false ≡ true → number_at (numbers_of links.now) j ≤ result }
+/// The greatest number of some symbols in the bank.
+fn greatest(links: &Links, symbols: &[u32]) -> u64
+    requires { All (λ k. k < length links.now) symbols.now }
+    ensures { All (λ k. number_at (numbers_of links.now) k ≤ result) symbols.now }
 {
     let mut high = 0;
-    for symbol in 0..count {
-        if !marks[symbol as usize] {
-            continue;
-        }
-        high = greater(high, links.symbol_of(symbol).0);
+    for symbol in symbols {
+        high = greater(high, links.symbol_of(*symbol).0);
     }
     high
 }
@@ -227,7 +254,7 @@ fn no_children(alloc: Global, span: u32) -> Result<Vec<Child>, AllocError>
     Ok(window)
 }
 
-/// A node for each marked symbol, in a window of the symbols' numbers in the bank.
+/// A node for each of some symbols, in a window of the symbols' numbers in the bank.
 fn branch(
     alloc: Global,
     checked: &Checked,
@@ -236,58 +263,67 @@ fn branch(
     rows: &[CodeRow],
     width: u32,
     register: u32,
-    marks: &[bool],
+    asked: &[u32],
     low: u64,
     span: u32,
     forest: &mut Forest,
     work: &mut Vec<Pending>,
 ) -> Result<Vec<Child>, AllocError>
-    requires counted { length marks.now ≡ length (symbols checked.now.spec) }
+    requires declared { All (λ k. k < length (symbols checked.now.spec)) asked.now }
     requires linked { length links.now ≡ length (symbols checked.now.spec) }
-    requires covers { Covers (numbers_of links.now) marks.now low span }
+    requires covers { Covers (numbers_of links.now) asked.now low span }
     requires codes { All (λ row. All (IsCode parts.now) row.codes.items) rows.now }
     requires room { width + length parts.now.arguments.items < 2 ^ 32 }
     requires ground { IsGround checked.now.spec (numbers_of links.now) parts.now }
     ensures long { IfOk result (λ w. length w.items ≡ span) }
     ensures longer { IfOk result (λ w. length forest.old.nodes.items ≤ length forest.new.nodes.items) }
     ensures branches { IfOk result (λ w. BranchesOut checked.now.spec (numbers_of links.now) parts.now forest.old (map task_of work.old.items) width (map coded_of rows.now)
-        forest.new (map task_of work.new.items) register low marks.now w.items (length marks.now)) }
+        forest.new (map task_of work.new.items) register low asked.now w.items (length asked.now)) }
 {
     let mut window = no_children(alloc, span)?;
-    for symbol in 0..checked.symbols() {
-        if !marks[symbol as usize] {
-            continue;
-        }
-        let left = parts.open_rows(alloc, rows, register, symbol, width)?;
-        let count = checked.arity(symbol);
+    for symbol in asked {
+        let left = parts.open_rows(alloc, rows, register, *symbol, width)?;
+        let count = checked.arity(*symbol);
         if count > u32::MAX - width {
             return Err(AllocError);
         }
         let node = add(forest, work, width + count, left)?;
-        let at = links.symbol_of(symbol).0 - low;
+        let at = links.symbol_of(*symbol).0 - low;
         window[at as usize] = Child { node, count };
     }
     Ok(window)
 }
 
-/// How many numbers there are from the least to the greatest one, unless they are far more than
-/// the symbols.
-fn span(low: u64, high: u64, count: u32) -> Option<u32>
+/// How many numbers there are from the least to the greatest one.
+fn span(low: u64, high: u64) -> Option<u32>
     ensures { IfSome result (λ n. low ≤ high → high < low + n) }
 {
     if high < low {
         return Some(0);
     }
     let numbers = high - low;
-    if numbers >= 8 * count as u64 + 64 || numbers >= u32::MAX as u64 {
+    if numbers >= u32::MAX as u64 {
         return None;
     }
     Some(numbers as u32 + 1)
 }
 
-/// A switch on a register at a node that waits; what is left for each symbol that rows ask it for
-/// waits behind it, and so does what is left for each other tree. Nothing changes where the
-/// symbols' numbers or the registers are too far apart.
+/// What a switch costs: each code and each row that is left is looked at for each symbol and once
+/// more.
+fn cost(rows: &[CodeRow], symbols: usize) -> u64 {
+    let mut cost = 0u64;
+    for row in rows {
+        cost = cost.saturating_add(1 + row.codes.len() as u64);
+    }
+    cost.saturating_mul((symbols as u64).saturating_add(1))
+}
+
+/// The most that a switch may cost.
+const MOST_OF_A_SWITCH: u64 = 1 << 21;
+
+/// A switch on a register at a node that waits; what is left for symbols that rows ask it for
+/// waits behind it, and so does what is left for each other tree. Nothing changes where it would
+/// cost too much.
 fn switch(
     alloc: Global,
     checked: &Checked,
@@ -298,30 +334,48 @@ fn switch(
     width: u32,
     register: u32,
     forest: &mut Forest,
-    work: &mut Vec<Pending>,
+    work: &mut Work,
 ) -> Result<bool, AllocError>
     requires linked { length links.now ≡ length (symbols checked.now.spec) }
     requires there { node < length forest.old.nodes.items }
     requires register { register < width }
     requires codes { All (λ row. All (IsCode parts.now) row.codes.items) rows.now }
     requires ground { IsGround checked.now.spec (numbers_of links.now) parts.now }
-    ensures { IfOk result (StepsOrStays checked.now.spec (numbers_of links.now) parts.now forest.old ((record { node = node; width = width; rows = map coded_of rows.now }) ∷ map task_of work.old.items) forest.new (map task_of work.new.items)) }
+    requires marks { HasMarks work.old.marks (length (symbols checked.now.spec)) }
+    ensures marks { IfOk result (λ goes. HasMarks work.new.marks (length (symbols checked.now.spec))) }
+    ensures fuel { IfOk result (λ goes. work.new.fuel ≤ work.old.fuel) }
+    ensures steps { IfOk result (StepsOrStays checked.now.spec (numbers_of links.now) parts.now forest.old ((record { node = node; width = width; rows = map coded_of rows.now }) ∷ map task_of work.old.pending.items) forest.new (map task_of work.new.pending.items)) }
 {
-    let count = checked.symbols();
-    let marked = parts.marks(alloc, rows, register, count)?;
-    let marks: &[bool] = &marked;
-    let low = least(links, marks, count);
-    let high = greatest(links, marks, count);
-    let Some(span) = span(low, high, count) else {
+    parts.marks(links, rows, register, &mut work.marks)?;
+    let asked: &[u32] = &work.marks.symbols;
+    let marks: &[bool] = &work.marks.marked;
+    let cost = cost(rows, asked.len());
+    if cost > work.fuel || cost > MOST_OF_A_SWITCH {
+        return Ok(false);
+    }
+    work.fuel -= cost;
+    let low = least(links, asked);
+    let Some(span) = span(low, greatest(links, asked)) else {
         return Ok(false);
     };
     if parts.arguments.len() > (u32::MAX - width) as usize {
         return Ok(false);
     }
     let left = parts.keep_rows(alloc, rows, register, marks)?;
-    let other = add(forest, work, width, left)?;
+    let other = add(forest, &mut work.pending, width, left)?;
     let window = branch(
-        alloc, checked, links, parts, rows, width, register, marks, low, span, forest, work,
+        alloc,
+        checked,
+        links,
+        parts,
+        rows,
+        width,
+        register,
+        asked,
+        low,
+        span,
+        forest,
+        &mut work.pending,
     )?;
     forest.write_switch(node, register, low, &window, other)?;
     Ok(true)
@@ -337,12 +391,15 @@ fn step(
     node: u32,
     width: u32,
     forest: &mut Forest,
-    work: &mut Vec<Pending>,
+    work: &mut Work,
 ) -> Result<bool, AllocError>
     requires linked { length links.now ≡ length (symbols checked.now.spec) }
     requires ground { IsGround checked.now.spec (numbers_of links.now) parts.now }
-    requires can { CanStep checked.now.spec (numbers_of links.now) parts.now forest.old ((record { node = node; width = width; rows = map coded_of rows.items }) ∷ map task_of work.old.items) }
-    ensures { IfOk result (StepsOrStays checked.now.spec (numbers_of links.now) parts.now forest.old ((record { node = node; width = width; rows = map coded_of rows.items }) ∷ map task_of work.old.items) forest.new (map task_of work.new.items)) }
+    requires can { CanStep checked.now.spec (numbers_of links.now) parts.now forest.old ((record { node = node; width = width; rows = map coded_of rows.items }) ∷ map task_of work.old.pending.items) }
+    requires marks { HasMarks work.old.marks (length (symbols checked.now.spec)) }
+    ensures marks { IfOk result (λ goes. HasMarks work.new.marks (length (symbols checked.now.spec))) }
+    ensures fuel { IfOk result (λ goes. work.new.fuel ≤ work.old.fuel) }
+    ensures steps { IfOk result (StepsOrStays checked.now.spec (numbers_of links.now) parts.now forest.old ((record { node = node; width = width; rows = map coded_of rows.items }) ∷ map task_of work.old.pending.items) forest.new (map task_of work.new.pending.items)) }
 {
     if rows.is_empty() {
         forest.nodes[node as usize] = Node::Fail;
@@ -354,7 +411,15 @@ fn step(
     let mut places = Vec::new(alloc);
     if parts.place(alloc, &rows[0].codes, &mut places)? {
         let first = rows.remove(0);
-        leaf(forest, work, node, width, first.rule, &places, rows)?;
+        leaf(
+            forest,
+            &mut work.pending,
+            node,
+            width,
+            first.rule,
+            &places,
+            rows,
+        )?;
         return Ok(true);
     }
     let Some(register) = parts.asked_first(&rows[0].codes) else {
@@ -365,39 +430,30 @@ fn step(
     )
 }
 
-/// What a step costs: a look at each symbol and at each code that is left.
-fn cost(rows: &[CodeRow], symbols: u32) -> u64 {
-    let mut cost = symbols as u64;
-    for row in rows {
-        cost = cost.saturating_add(row.codes.len() as u64);
-    }
-    cost
-}
-
-/// Steps until no node waits; it is given up where they would cost more than so much, or where
-/// there are more than so many nodes.
+/// Steps until no node waits; it is given up where they would cost more than there is fuel, or
+/// where there are more than so many nodes.
 pub fn grow(
     alloc: Global,
     checked: &Checked,
     links: &Links,
     parts: &Parts,
-    limit: u64,
     most: usize,
     forest: &mut Forest,
-    work: &mut Vec<Pending>,
+    work: &mut Work,
 ) -> Result<bool, AllocError>
     requires linked { length links.now ≡ length (symbols checked.now.spec) }
     requires ground { IsGround checked.now.spec (numbers_of links.now) parts.now }
-    requires can { CanStep checked.now.spec (numbers_of links.now) parts.now forest.old (map task_of work.old.items) }
-    ensures { IfOk result (GrowsOut checked.now.spec (numbers_of links.now) parts.now forest.old (map task_of work.old.items) forest.new) }
+    requires can { CanStep checked.now.spec (numbers_of links.now) parts.now forest.old (map task_of work.old.pending.items) }
+    requires marks { HasMarks work.old.marks (length (symbols checked.now.spec)) }
+    ensures marks { IfOk result (λ grown. HasMarks work.new.marks (length (symbols checked.now.spec))) }
+    ensures grows { IfOk result (GrowsOut checked.now.spec (numbers_of links.now) parts.now forest.old (map task_of work.old.pending.items) forest.new) }
 {
-    let mut fuel = limit;
-    while let Some(pending) = work.pop() {
-        let cost = cost(&pending.rows, checked.symbols());
-        if fuel <= cost || forest.nodes.len() > most {
+    while let Some(pending) = work.pending.pop() {
+        let cost = pending.rows.len() as u64;
+        if work.fuel <= cost || forest.nodes.len() > most {
             return Ok(false);
         }
-        fuel -= cost + 1;
+        work.fuel -= cost + 1;
         let Pending { node, width, rows } = pending;
         if !step(
             alloc, checked, links, parts, rows, node, width, forest, work,
@@ -412,30 +468,32 @@ pub fn grow(
 const MOST_NODES: usize = 65_536;
 
 /// A tree that grows from rows: its root, or 0 where it would have too many nodes or would cost
-/// more than so much; nothing is left of it then.
+/// more than there is fuel; nothing is left of it then.
 pub fn tree(
     alloc: Global,
     checked: &Checked,
     links: &Links,
     parts: &Parts,
-    limit: u64,
     width: u32,
     rows: Vec<CodeRow>,
     forest: &mut Forest,
+    work: &mut Work,
 ) -> Result<u32, AllocError>
     requires linked { length links.now ≡ length (symbols checked.now.spec) }
     requires ground { IsGround checked.now.spec (numbers_of links.now) parts.now }
     requires some { 0 < length forest.old.nodes.items }
     requires can { CanGrow checked.now.spec (numbers_of links.now) parts.now forest.old width (map coded_of rows.items) }
-    ensures { IfOk result (HasTree checked.now.spec (numbers_of links.now) parts.now forest.old width (map coded_of rows.items) forest.new) }
+    requires marks { HasMarks work.old.marks (length (symbols checked.now.spec)) }
+    ensures marks { IfOk result (λ root. HasMarks work.new.marks (length (symbols checked.now.spec))) }
+    ensures tree { IfOk result (HasTree checked.now.spec (numbers_of links.now) parts.now forest.old width (map coded_of rows.items) forest.new) }
 {
     let nodes = forest.nodes.len();
     let places = forest.places.len();
     let children = forest.children.len();
-    let mut work = Vec::new(alloc);
-    let root = add(forest, &mut work, width, rows)?;
+    work.pending.clear();
+    let root = add(forest, &mut work.pending, width, rows)?;
     let most = nodes.saturating_add(MOST_NODES);
-    if grow(alloc, checked, links, parts, limit, most, forest, &mut work)? {
+    if grow(alloc, checked, links, parts, most, forest, work)? {
         return Ok(root);
     }
     forest.nodes.truncate(nodes);

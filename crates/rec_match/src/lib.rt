@@ -8,6 +8,7 @@ mod counting;
 mod forest;
 mod grow;
 mod leaves;
+mod marks;
 mod matcher;
 mod next;
 mod parts;
@@ -17,9 +18,12 @@ mod rows;
 #[cfg(test)]
 mod tests;
 mod trees;
+#[cfg(test)]
+mod trees_tests;
 
 pub use forest::{Child, Forest, Node, Place};
-pub use grow::Pending;
+pub use grow::{Pending, Work};
+pub use marks::Marks;
 pub use matcher::{LeftSide, Matcher, Test};
 pub use parts::{Code, CodeRow, Part, Parts};
 pub use places::Places;

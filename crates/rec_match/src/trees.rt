@@ -8,10 +8,17 @@ ghost use Rattle.rec_match.specs.Tasks.{numbers_of};
 
 use crate::chain::Chains;
 use crate::forest::{Forest, Node};
-use crate::grow::tree;
+use crate::grow::{Work, tree};
+use crate::marks::Marks;
 use crate::push::left_parts;
 use rec_sorts::{Checked, Links};
 use std::alloc::{AllocError, Global};
+
+/// How much may be done to build the trees of left sides with so many parts: a few times what the
+/// trees of rules that hardly overlap need.
+fn fuel(parts: usize) -> u64 {
+    (parts as u64).saturating_mul(8).saturating_add(1 << 22)
+}
 
 /// The matching trees of a specification's symbols, whose rules stand in chains; a symbol whose
 /// tree would be too large has none.
@@ -35,6 +42,11 @@ pub(crate) fn trees(
         roots: Vec::new(alloc),
     };
     forest.nodes.push(Node::Fail)?;
+    let mut work = Work {
+        pending: Vec::new(alloc),
+        marks: Marks::new(alloc, checked.symbols())?,
+        fuel: fuel(left.parts.parts.len()),
+    };
     let mut roots = Vec::new(alloc);
     for symbol in 0..checked.symbols() {
         let rows = left.rows(alloc, checked, chains, symbol)?;
@@ -44,10 +56,10 @@ pub(crate) fn trees(
             checked,
             links,
             &left.parts,
-            1_000_000,
             width,
             rows,
             &mut forest,
+            &mut work,
         )?;
         roots.push(root)?;
     }

@@ -7,5 +7,5 @@ abbrev pub invariant-loop-symbol : goal.invariant-loop-symbol
 invariant-loop-symbol l = record {
   long : length l.window.items ≡ l.span;
   longer : length l.fn.forest.nodes.items ≤ length l.forest.nodes.items;
-  out : BranchesOut l.checked.spec (numbers_of l.links) l.parts l.fn.forest (map task_of l.fn.work.items) l.width (map coded_of l.rows) l.forest (map task_of l.work.items) l.register l.low l.marks l.window.items l.symbol;
+  out : BranchesOut l.checked.spec (numbers_of l.links) l.parts l.fn.forest (map task_of l.fn.work.items) l.width (map coded_of l.rows) l.forest (map task_of l.work.items) l.register l.low l.asked l.window.items l.symbol-index;
 }

@@ -13,8 +13,8 @@ no_rows : (xs : List CodeRow) → length xs ≡ 0 → xs ≡ []
 no_rows [] e = refl
 no_rows (x ∷ xs) e = absurd (let bad : ⊥ = omega (arith, e) in bad)
 
-pub returns-then-is_empty : goal.returns-then-is_empty
-returns-then-is_empty c =
+pub returns-then-is_empty-clause-steps : goal.returns-then-is_empty-clause-steps
+returns-then-is_empty-clause-steps c =
     let none = eqb-true _ 0 (sym c.is_empty.ensures ∙ c.if-is_empty.true) in
     let v = c.args.rows.ok.0 in
     empty_steps c.args.checked.now.spec (numbers_of c.args.links.now) c.args.parts.now c.args.forest.now _ _ c.args.node c.args.width (map coded_of c.args.rows.items)

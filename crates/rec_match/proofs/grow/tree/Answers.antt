@@ -8,27 +8,27 @@ pub grow-requires-clause-can : goal.grow-requires-clause-can
 grow-requires-clause-can c =
     let k = c.requires.can in
     can_root c.args.checked.now.spec (numbers_of c.args.links.now) c.args.parts.now c.args.forest.now c.add.new.forest (map task_of c.add.new.work.items) c.args.width (map coded_of c.args.rows.items) c.in_ok-root.root k.states k.rows
-    (subst (λ ws. Adds c.args.forest.now (map task_of ws) c.add.new.forest (map task_of c.add.new.work.items) c.args.width (map coded_of c.args.rows.items) c.in_ok-root.root) c.new-work.ensures.items c.in_ok-root.ensures) k.growing k.left
+    (subst (λ ws. Adds c.args.forest.now (map task_of ws) c.add.new.forest (map task_of c.add.new.work.items) c.args.width (map coded_of c.args.rows.items) c.in_ok-root.root) c.clear.ensures.items c.in_ok-root.ensures) k.growing k.left
 
-pub returns-then-branch : goal.returns-then-branch
-returns-then-branch c =
+pub returns-then-branch-clause-tree : goal.returns-then-branch-clause-tree
+returns-then-branch-clause-tree c =
     let y = c.args.checked.now.spec in
     let ns = numbers_of c.args.links.now in
     let ps = c.args.parts.now in
     let us = map task_of c.add.new.work.items in
     tree_grown y ns ps c.args.forest.now c.add.new.forest c.grow.new.forest us c.args.width (map coded_of c.args.rows.items) c.in_ok-root.root c.requires.some
-    (subst (λ ws. Adds c.args.forest.now (map task_of ws) c.add.new.forest us c.args.width (map coded_of c.args.rows.items) c.in_ok-root.root) c.new-work.ensures.items c.in_ok-root.ensures)
-    (subst (GrowsOut y ns ps c.add.new.forest us c.grow.new.forest) c.if-branch.true c.in_ok-grow.ensures)
+    (subst (λ ws. Adds c.args.forest.now (map task_of ws) c.add.new.forest us c.args.width (map coded_of c.args.rows.items) c.in_ok-root.root) c.clear.ensures.items c.in_ok-root.ensures)
+    (subst (GrowsOut y ns ps c.add.new.forest us c.grow.new.forest) c.if-branch.true c.in_ok-grow.ensures.grows)
 
-pub returns : goal.returns
-returns c =
+pub returns-clause-tree : goal.returns-clause-tree
+returns-clause-tree c =
     let y = c.args.checked.now.spec in
     let ns = numbers_of c.args.links.now in
     let ps = c.args.parts.now in
     let us = map task_of c.add.new.work.items in
-    let out = subst (GrowsOut y ns ps c.add.new.forest us c.grow.new.forest) c.if-branch.false c.in_ok-grow.ensures in
+    let out = subst (GrowsOut y ns ps c.add.new.forest us c.grow.new.forest) c.if-branch.false c.in_ok-grow.ensures.grows in
     tree_cut y ns ps c.args.forest.now c.add.new.forest c.grow.new.forest _ us out.0 c.args.width (map coded_of c.args.rows.items) c.in_ok-root.root
-    (subst (λ ws. Adds c.args.forest.now (map task_of ws) c.add.new.forest us c.args.width (map coded_of c.args.rows.items) c.in_ok-root.root) c.new-work.ensures.items c.in_ok-root.ensures)
+    (subst (λ ws. Adds c.args.forest.now (map task_of ws) c.add.new.forest us c.args.width (map coded_of c.args.rows.items) c.in_ok-root.root) c.clear.ensures.items c.in_ok-root.ensures)
     out.1
     (c.truncate.ensures.items ∙ ap (λ k. take k c.grow.new.forest.nodes.items) (let e = c.len-nodes.ensures in let v = c.args.forest.now.nodes.ok.0 in let q : c.len-nodes.result ≡ length c.args.forest.now.nodes.items = omega (arith, e, v) in q))
     (c.truncate-2.ensures.items ∙ ap (λ k. take k c.grow.new.forest.places.items) (let e = c.len-places.ensures in let v = c.args.forest.now.places.ok.0 in let q : c.len-places.result ≡ length c.args.forest.now.places.items = omega (arith, e, v) in q))

@@ -11,7 +11,7 @@ use Rattle.rec_match.proofs.trees.trees.Goals as goal
 
 pub loop-symbol-init : goal.loop-symbol-init
 loop-symbol-init c =
-    trees_none c.args.checked.now.spec (numbers_of c.args.links.now) c.in_ok-left.left.parts _ c.new-roots.result.items (c.in_ok-push.ensures.items ∙ ap (λ xs. xs ++ Fail ∷ []) c.new.ensures.items) c.new-roots.ensures.items
+    record { marks = record { marked = c.in_ok-new.ensures.marked; counted = c.in_ok-new.ensures.counted ∙ c.symbols.ensures }; trees = trees_none c.args.checked.now.spec (numbers_of c.args.links.now) c.in_ok-left.left.parts _ c.new-roots.result.items (c.in_ok-push.ensures.items ∙ ap (λ xs. xs ++ Fail ∷ []) c.new.ensures.items) c.new-roots.ensures.items }
 
 pub tree-requires-clause-ground : goal.tree-requires-clause-ground
 tree-requires-clause-ground c =
@@ -24,10 +24,13 @@ loop-symbol-preserved c =
     let ps = c.in_ok-left.left.parts in
     let k = c.loop-symbol.symbol in
     let rows = root_rows (name_of y (Symbol k)) (arity_of y k) 0 y.rules in
-    let h = c.loop-symbol.invariant in
+    let h = c.loop-symbol.invariant.trees in
     let left = subst (λ w. AreLeft y ps w (map coded_of c.in_ok-rows.rows.items) rows) (sym c.arity-width.ensures) c.in_ok-rows.ensures in
-    trees_more y ns ps c.loop-symbol.forest c.tree.new.forest c.loop-symbol.roots.items c.push-in-loop-symbol.new.self.items k c.in_ok-root.root h
-    (subst (λ w. TreeGoesOn y ns ps c.loop-symbol.forest h.states w rows c.tree.new.forest c.in_ok-root.root) c.arity-width.ensures (c.in_ok-root.ensures h.states rows h.growing left)) c.in_ok-push-2.ensures.items
+    record {
+      marks = c.in_ok-root.ensures.marks;
+      trees = trees_more y ns ps c.loop-symbol.forest c.tree.new.forest c.loop-symbol.roots.items c.push-in-loop-symbol.new.self.items k c.in_ok-root.root h
+          (subst (λ w. TreeGoesOn y ns ps c.loop-symbol.forest h.states w rows c.tree.new.forest c.in_ok-root.root) c.arity-width.ensures (c.in_ok-root.ensures.tree h.states rows h.growing left)) c.in_ok-push-2.ensures.items;
+    }
 
 pub returns : goal.returns
 returns c =
@@ -35,5 +38,5 @@ returns c =
     let t = c.loop-symbol-test.false in
     let q = c.loop-symbol.auto.symbol-end in
     let n = c.symbols-symbol-end.ensures in
-    trees_done y c.syntax-kept.ensures.kept (numbers_of c.args.links.now) c.in_ok-left.left.parts c.loop-symbol.forest _ c.loop-symbol.roots.items c.requires.chains.symbols_of c.loop-symbol.symbol c.requires.chains.heads c.loop-symbol.invariant
+    trees_done y c.syntax-kept.ensures.kept (numbers_of c.args.links.now) c.in_ok-left.left.parts c.loop-symbol.forest _ c.loop-symbol.roots.items c.requires.chains.symbols_of c.loop-symbol.symbol c.requires.chains.heads c.loop-symbol.invariant.trees
     (omega (arith, t, q, n)) refl refl refl refl

@@ -1,6 +1,12 @@
+use Rattle.std.proofs.Common.{length}
+use Rattle.rec_sorts.specs.Lookup.{symbols}
+use Rattle.rec_match.specs.Marking.{HasMarks}
 use Rattle.rec_match.specs.Tasks.{numbers_of}
 use Rattle.rec_match.proofs.GrownLemmas.{HasTrees}
 use Rattle.rec_match.proofs.trees.trees.Given as goal
 
 abbrev pub invariant-loop-symbol : goal.invariant-loop-symbol
-invariant-loop-symbol l = HasTrees l.checked.spec (numbers_of l.links) l.left.parts l.forest l.roots.items l.symbol
+invariant-loop-symbol l = record {
+  marks : HasMarks l.work.marks (length (symbols l.checked.spec));
+  trees : HasTrees l.checked.spec (numbers_of l.links) l.left.parts l.forest l.roots.items l.symbol;
+}
