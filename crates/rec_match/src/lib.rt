@@ -3,6 +3,8 @@
 
 mod build;
 mod chain;
+#[cfg(test)]
+mod counting;
 mod forest;
 mod grow;
 mod leaves;

@@ -6,6 +6,7 @@ ghost use Rattle.rec_sorts.specs.Linked.{HasMoreSymbols};
 ghost use Rattle.rec_match.specs.Next.{AreReady};
 
 use crate::Matcher;
+use crate::counting::Counting;
 use rec_sorts::{Links, check};
 use rec_syntax::read_spec;
 use rx_plain::PlainBank;
@@ -13,6 +14,7 @@ use rx_term::{Term, TermBank};
 use rx_text::read;
 use smallvec::SmallVec;
 use std::alloc::Global;
+use std::cell::Cell;
 use std::test::Fail;
 
 const OVL: &[u8] =
@@ -114,6 +116,14 @@ fn what_no_rule_matches(rt: HostRuntime) -> Result<(), Fail> {
     Ok(())
 }
 
+/// A bank of 100 cells that counts how often its nodes are read.
+fn counting(alloc: Global) -> Result<Counting<PlainBank>, Fail> {
+    Ok(Counting {
+        bank: PlainBank::new(alloc, 100)?,
+        reads: Cell::new(0),
+    })
+}
+
 /// A rule of the operator `w`, whose left side has `a` at one place and variables at the others.
 fn push_rule(alloc: Global, text: &mut String, place: u32) -> Result<(), Fail> {
     for i in 1..=20 {
@@ -162,10 +172,12 @@ fn a_rule_for_each_argument(rt: HostRuntime) -> Result<(), Fail> {
         ),
     ];
     for (text, rule, are_a) in rows {
-        let mut bank = PlainBank::new(rt.alloc(), 100)?;
+        let mut bank = counting(rt.alloc())?;
         let said = ask_of(rt.alloc(), &mut bank, spec.as_bytes(), text, 0)?;
         assert_eq!(rt; said.rule, rule);
         assert_eq!(rt; said.are_a.as_slice(), are_a);
+        let reads = bank.reads.get();
+        assert!(rt; reads < 100, "{reads}");
     }
     Ok(())
 }
@@ -193,9 +205,11 @@ fn a_rule_for_each_constant(rt: HostRuntime) -> Result<(), Fail> {
         (b"k(a)", None),
     ];
     for (text, rule) in rows {
-        let mut bank = PlainBank::new(rt.alloc(), 100)?;
+        let mut bank = counting(rt.alloc())?;
         let said = ask_of(rt.alloc(), &mut bank, spec.as_bytes(), text, 0)?;
         assert_eq!(rt; said.rule, rule);
+        let reads = bank.reads.get();
+        assert!(rt; reads < 100, "{reads}");
     }
     Ok(())
 }
