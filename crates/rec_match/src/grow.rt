@@ -199,6 +199,38 @@ impl Parts {
         }
         Ok(())
     }
+
+    /// Whether a row asks a register for a symbol.
+    fn asks(&self, codes: &[Code], register: u32) -> bool
+        requires { All (IsCode self.now) codes.now }
+    {
+        for code in codes {
+            if code.register == register {
+                if let Meaning::Symbol(_) = self.parts[code.part as usize].meaning {
+                    return true;
+                }
+            }
+        }
+        false
+    }
+
+    /// What a switch costs: a row that does not ask for a symbol is copied for each symbol, and
+    /// one that does is passed over for each other one.
+    fn cost(&self, rows: &[CodeRow], register: u32, symbols: u64) -> u64
+        requires { All (λ row. All (IsCode self.now) row.codes.items) rows.now }
+    {
+        let mut cost = 0u64;
+        for row in rows {
+            let size = 1 + row.codes.len() as u64;
+            let copies = if self.asks(&row.codes, register) {
+                symbols / PASSED_FOR_ONE
+            } else {
+                size.saturating_mul(symbols)
+            };
+            cost = cost.saturating_add(size).saturating_add(copies);
+        }
+        cost
+    }
 }
 
 /// Whether a symbol's number in the bank is near that of the first one of some.
@@ -308,18 +340,14 @@ fn span(low: u64, high: u64) -> Option<u32>
     Some(numbers as u32 + 1)
 }
 
-/// What a switch costs: each code and each row that is left is looked at for each symbol and once
-/// more.
-fn cost(rows: &[CodeRow], symbols: usize) -> u64 {
-    let mut cost = 0u64;
-    for row in rows {
-        cost = cost.saturating_add(1 + row.codes.len() as u64);
-    }
-    cost.saturating_mul((symbols as u64).saturating_add(1))
-}
-
 /// The most that a switch may cost.
 const MOST_OF_A_SWITCH: u64 = 1 << 21;
+
+/// How many rows that ask for other symbols are passed over at the cost of copying one.
+const PASSED_FOR_ONE: u64 = 8;
+
+/// How many pairs of a row's codes are compared at the cost of copying a row.
+const COMPARED_FOR_ONE: u64 = 64;
 
 /// A switch on a register at a node that waits; what is left for symbols that rows ask it for
 /// waits behind it, and so does what is left for each other tree. Nothing changes where it would
@@ -349,7 +377,7 @@ fn switch(
     parts.marks(links, rows, register, &mut work.marks)?;
     let asked: &[u32] = &work.marks.symbols;
     let marks: &[bool] = &work.marks.marked;
-    let cost = cost(rows, asked.len());
+    let cost = parts.cost(rows, register, asked.len() as u64);
     if cost > work.fuel || cost > MOST_OF_A_SWITCH {
         return Ok(false);
     }
@@ -430,6 +458,16 @@ fn step(
     )
 }
 
+/// What a look at the first row costs: the other rows are moved, and each of its variables is
+/// compared with those before it.
+fn look(rows: &[CodeRow]) -> u64 {
+    let codes = match rows.first() {
+        Some(row) => row.codes.len() as u64,
+        None => 0,
+    };
+    (rows.len() as u64).saturating_add(codes.saturating_mul(codes) / COMPARED_FOR_ONE)
+}
+
 /// Steps until no node waits; it is given up where they would cost more than there is fuel, or
 /// where there are more than so many nodes.
 pub fn grow(
@@ -449,7 +487,7 @@ pub fn grow(
     ensures grows { IfOk result (GrowsOut checked.now.spec (numbers_of links.now) parts.now forest.old (map task_of work.old.pending.items) forest.new) }
 {
     while let Some(pending) = work.pending.pop() {
-        let cost = pending.rows.len() as u64;
+        let cost = look(&pending.rows);
         if work.fuel <= cost || forest.nodes.len() > most {
             return Ok(false);
         }
