@@ -44,17 +44,17 @@ takes_byte End from to h a = absurd (h refl)
 takes_byte k from to h a = a
 
 -- the end is read behind a whole term alone
-abbrev IsEnded : State → Type 0
+abbrev pub IsEnded : State → Type 0
 IsEnded s = (t : Tree) × (s ≡ (machine.Done t, []))
 
-some_same : {s r : State} → ◌≡◌ {A = Option State} (Some s) (Some r) → s ≡ r
+pub some_same : {s r : State} → ◌≡◌ {A = Option State} (Some s) (Some r) → s ≡ r
 some_same e = cc e
 
 text_ended : (t : Tree) (fs : List machine.Frame) (s : State) → machine.end_text t fs ≡ Some s → IsEnded s
 text_ended t [] s e = (t, sym (some_same e))
 text_ended t (f ∷ fs) s e = absurd (cc e)
 
-step_ended : (m : Mode) (fs : List machine.Frame) (s : State) → step m fs token.End ≡ Some s → IsEnded s
+pub step_ended : (m : Mode) (fs : List machine.Frame) (s : State) → step m fs token.End ≡ Some s → IsEnded s
 step_ended machine.Due fs s e = absurd (cc e)
 step_ended (machine.First f) fs s e = absurd (cc e)
 step_ended (machine.Named n q) fs s e = text_ended (Appl n q none none) fs s e

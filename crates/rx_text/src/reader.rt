@@ -8,9 +8,12 @@ ghost use Rattle.rx_text.specs.Reader.{made_of, frame_of, held, under, frames_of
 ghost use Rattle.rx_text.specs.Verdict.{longest};
 ghost use Rattle.rx_text.specs.Answer.{AreRead, IsFault};
 
+mod expected;
+
 use crate::faults::TextFault;
 use crate::lexer::{Kind, next};
 use crate::nodes::{Node, Word};
+pub use expected::expected_at_fault;
 use std::alloc::{AllocFailed, Global};
 
 /// What is open.

@@ -1,4 +1,5 @@
-use crate::{TextFault, WriteFault, read, write};
+use crate::TokenKind::*;
+use crate::{TextFault, TokenKind, WriteFault, expected_at_fault, read, write};
 use rx_plain::PlainBank;
 use rx_shared::SharedBank;
 use rx_term::TermBank;
@@ -7,6 +8,33 @@ use std::io;
 use std::io::Write;
 use std::process::Abort;
 use std::test::*;
+
+// What may stand where a term is due.
+const BEGINS: [(&str, &[TokenKind]); 8] = [
+    ("", &[Integer, Name, Open, OpenBracket, Less]),
+    ("<", &[Integer, Name, Open, OpenBracket, Less]),
+    ("f(a,", &[Integer, Name, Open, OpenBracket, Less]),
+    ("[1,", &[Integer, Name, Open, OpenBracket, Less]),
+    ("(", &[Integer, Name, Open, Close, OpenBracket, Less]),
+    ("f(", &[Integer, Name, Open, Close, OpenBracket, Less]),
+    ("[", &[Integer, Name, Open, OpenBracket, CloseBracket, Less]),
+    ("a{", &[Integer, Name, Open, OpenBracket, CloseBrace, Less]),
+];
+
+// What may stand behind a term.
+const BEHIND: [(&str, &[TokenKind]); 11] = [
+    ("a b", &[Open, OpenBrace, End]),
+    ("f(a", &[Open, Close, OpenBrace, Comma]),
+    ("1 b", &[OpenBrace, End]),
+    ("f() b", &[OpenBrace, End]),
+    ("[] b", &[OpenBrace, End]),
+    ("<a> b", &[OpenBrace, End]),
+    ("a{} b", &[End]),
+    ("f(a{}", &[Close, Comma]),
+    ("[a{}", &[CloseBracket, Comma]),
+    ("a{b{}", &[CloseBrace, Comma]),
+    ("<a{}", &[Greater]),
+];
 
 // The offset of the token at which the text leaves the grammar.
 fn place(rt: &impl Abort, alloc: Global, text: &[u8]) -> Option<u32> {
@@ -44,6 +72,31 @@ fn places(rt: HostRuntime) {
     assert_eq!(rt; place(&rt, alloc, b"a'"), Some(1));
     assert_eq!(rt; place(&rt, alloc, b"--1"), Some(0));
     assert_eq!(rt; place(&rt, alloc, b"<a,b>"), Some(2));
+}
+
+#[test]
+fn expected_where_a_term_is_due(rt: HostRuntime) -> Result<(), Fail> {
+    for (text, wanted) in BEGINS {
+        let kinds = expected_at_fault(rt.alloc(), text.as_bytes())?;
+        assert_eq!(rt; kinds.as_slice(), wanted);
+    }
+    Ok(())
+}
+
+#[test]
+fn expected_behind_a_term(rt: HostRuntime) -> Result<(), Fail> {
+    for (text, wanted) in BEHIND {
+        let kinds = expected_at_fault(rt.alloc(), text.as_bytes())?;
+        assert_eq!(rt; kinds.as_slice(), wanted);
+    }
+    Ok(())
+}
+
+#[test]
+fn nothing_is_expected_of_a_term(rt: HostRuntime) -> Result<(), Fail> {
+    let kinds = expected_at_fault(rt.alloc(), b"f(a,[1,2]){b}")?;
+    assert!(rt; kinds.is_empty());
+    Ok(())
 }
 
 #[test]

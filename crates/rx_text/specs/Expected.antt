@@ -1,0 +1,69 @@
+-- What may stand at the place of a fault.
+use Rattle.std.specs.Prelude.{◌≡◌, ◌↔◌, ℕ, ℤ, pos, Bool, false, List, [], ◌∷◌, ◌++◌, map, Contains, Option, Some, None, is_some}
+use Rattle.rx_text.specs.Token as tokens
+use Rattle.rx_text.specs.Token.{Token}
+use Rattle.rx_text.specs.Place.{Begins, IsPlace}
+use Rattle.rx_text.specs.Machine as machine
+use Rattle.rx_text.specs.Machine.{State, run}
+use Rattle.rx_text.specs.Lexemes.{token_of}
+use Rattle.rx_text.specs.Reader.{state_of}
+use Rattle.rx_text.specs.declared.lexer.Kind.{Kind}
+use Rattle.rx_text.specs.declared.token_kind.TokenKind.{TokenKind}
+use Rattle.rx_text.specs.declared.token_kind.TokenKind.TheVariants.{Integer, Name, Open, Close, OpenBracket, CloseBracket, OpenBrace, CloseBrace, Less, Greater, Comma, End}
+use Rattle.rx_text.specs.declared.reader.Due.{Due}
+use Rattle.rx_text.specs.declared.reader.Reader.{Reader}
+
+-- the tokens of a kind
+abbrev pub IsOf : TokenKind → Token → Type 0
+IsOf Integer t = (z : ℤ) × (t ≡ tokens.Integer z)
+IsOf Name t = (name : List ℕ) × (quoted : Bool) × (t ≡ tokens.Name name quoted)
+IsOf Open t = t ≡ tokens.Open
+IsOf Close t = t ≡ tokens.Close
+IsOf OpenBracket t = t ≡ tokens.OpenBracket
+IsOf CloseBracket t = t ≡ tokens.CloseBracket
+IsOf OpenBrace t = t ≡ tokens.OpenBrace
+IsOf CloseBrace t = t ≡ tokens.CloseBrace
+IsOf Less t = t ≡ tokens.Less
+IsOf Greater t = t ≡ tokens.Greater
+IsOf Comma t = t ≡ tokens.Comma
+IsOf End t = t ≡ tokens.End
+
+-- some text of the grammar has a token of this kind behind these tokens
+abbrev pub MayStand : List Token → TokenKind → Type 0
+MayStand before k = (t : Token) × IsOf k t × Begins (before ++ t ∷ [])
+
+-- the tokens before a fault's place
+abbrev pub before : (bytes : List ℕ) (at : ℕ) → IsPlace bytes at → List Token
+before bytes at place = map (λ t. t.1) place.0
+
+-- these are exactly the kinds of the tokens that some text has at the fault's place, behind the tokens before it
+abbrev pub AreExpected : List ℕ → List TokenKind → Type 0
+AreExpected bytes ks = (at : ℕ) (place : IsPlace bytes at) (k : TokenKind) → Contains ks k ↔ MayStand (before bytes at place) k
+
+-- a token's kind; a bad token has none
+abbrev pub HasKind : Option TokenKind → Kind → Type 0
+HasKind None t = t ≡ Kind.Bad
+HasKind (Some k) t = (bytes : List ℕ) → IsOf k (token_of bytes t)
+
+-- a token of a kind
+abbrev pub sample : TokenKind → Token
+sample Integer = tokens.Integer (pos 0)
+sample Name = tokens.Name [] false
+sample Open = tokens.Open
+sample Close = tokens.Close
+sample OpenBracket = tokens.OpenBracket
+sample CloseBracket = tokens.CloseBracket
+sample OpenBrace = tokens.OpenBrace
+sample CloseBrace = tokens.CloseBrace
+sample Less = tokens.Less
+sample Greater = tokens.Greater
+sample Comma = tokens.Comma
+sample End = tokens.End
+
+-- whether the machine takes a token of this kind
+abbrev pub is_taken : (Token → Option State) → TokenKind → Bool
+is_taken step k = is_some (step (sample k))
+
+-- the reader's state is the one behind the tokens before the fault
+abbrev pub IsAtFault : List ℕ → Due → Reader → Type 0
+IsAtFault bytes d r = (at : ℕ) (place : IsPlace bytes at) → run (before bytes at place) machine.Due [] ≡ Some (state_of bytes d r.frames.items r.nodes.items)
