@@ -193,7 +193,7 @@ impl Parts {
         ensures { IfOk result (λ u. HasMarks marks.new (length marks.old.marked.items)) }
     {
         marks.clear();
-        let most = (rows.len() as u64).saturating_mul(4).saturating_add(64);
+        let most = (rows.len() as u64).saturating_mul(4).saturating_add(16);
         for row in rows {
             self.mark(links, &row.codes, register, most, marks)?;
         }
@@ -286,46 +286,6 @@ fn no_children(alloc: Global, span: u32) -> Result<Vec<Child>, AllocError>
     Ok(window)
 }
 
-/// A node for each of some symbols, in a window of the symbols' numbers in the bank.
-fn branch(
-    alloc: Global,
-    checked: &Checked,
-    links: &Links,
-    parts: &Parts,
-    rows: &[CodeRow],
-    width: u32,
-    register: u32,
-    asked: &[u32],
-    low: u64,
-    span: u32,
-    forest: &mut Forest,
-    work: &mut Vec<Pending>,
-) -> Result<Vec<Child>, AllocError>
-    requires declared { All (λ k. k < length (symbols checked.now.spec)) asked.now }
-    requires linked { length links.now ≡ length (symbols checked.now.spec) }
-    requires covers { Covers (numbers_of links.now) asked.now low span }
-    requires codes { All (λ row. All (IsCode parts.now) row.codes.items) rows.now }
-    requires room { width + length parts.now.arguments.items < 2 ^ 32 }
-    requires ground { IsGround checked.now.spec (numbers_of links.now) parts.now }
-    ensures long { IfOk result (λ w. length w.items ≡ span) }
-    ensures longer { IfOk result (λ w. length forest.old.nodes.items ≤ length forest.new.nodes.items) }
-    ensures branches { IfOk result (λ w. BranchesOut checked.now.spec (numbers_of links.now) parts.now forest.old (map task_of work.old.items) width (map coded_of rows.now)
-        forest.new (map task_of work.new.items) register low asked.now w.items (length asked.now)) }
-{
-    let mut window = no_children(alloc, span)?;
-    for symbol in asked {
-        let left = parts.open_rows(alloc, rows, register, *symbol, width)?;
-        let count = checked.arity(*symbol);
-        if count > u32::MAX - width {
-            return Err(AllocError);
-        }
-        let node = add(forest, work, width + count, left)?;
-        let at = links.symbol_of(*symbol).0 - low;
-        window[at as usize] = Child { node, count };
-    }
-    Ok(window)
-}
-
 /// How many numbers there are from the least to the greatest one.
 fn span(low: u64, high: u64) -> Option<u32>
     ensures { IfSome result (λ n. low ≤ high → high < low + n) }
@@ -349,115 +309,6 @@ const PASSED_FOR_ONE: u64 = 8;
 /// How many pairs of a row's codes are compared at the cost of copying a row.
 const COMPARED_FOR_ONE: u64 = 64;
 
-/// A switch on a register at a node that waits; what is left for symbols that rows ask it for
-/// waits behind it, and so does what is left for each other tree. Nothing changes where it would
-/// cost too much.
-fn switch(
-    alloc: Global,
-    checked: &Checked,
-    links: &Links,
-    parts: &Parts,
-    rows: &[CodeRow],
-    node: u32,
-    width: u32,
-    register: u32,
-    forest: &mut Forest,
-    work: &mut Work,
-) -> Result<bool, AllocError>
-    requires linked { length links.now ≡ length (symbols checked.now.spec) }
-    requires there { node < length forest.old.nodes.items }
-    requires register { register < width }
-    requires codes { All (λ row. All (IsCode parts.now) row.codes.items) rows.now }
-    requires ground { IsGround checked.now.spec (numbers_of links.now) parts.now }
-    requires marks { HasMarks work.old.marks (length (symbols checked.now.spec)) }
-    ensures marks { IfOk result (λ goes. HasMarks work.new.marks (length (symbols checked.now.spec))) }
-    ensures fuel { IfOk result (λ goes. work.new.fuel ≤ work.old.fuel) }
-    ensures steps { IfOk result (StepsOrStays checked.now.spec (numbers_of links.now) parts.now forest.old ((record { node = node; width = width; rows = map coded_of rows.now }) ∷ map task_of work.old.pending.items) forest.new (map task_of work.new.pending.items)) }
-{
-    parts.marks(links, rows, register, &mut work.marks)?;
-    let asked: &[u32] = &work.marks.symbols;
-    let marks: &[bool] = &work.marks.marked;
-    let cost = parts.cost(rows, register, asked.len() as u64);
-    if cost > work.fuel || cost > MOST_OF_A_SWITCH {
-        return Ok(false);
-    }
-    work.fuel -= cost;
-    let low = least(links, asked);
-    let Some(span) = span(low, greatest(links, asked)) else {
-        return Ok(false);
-    };
-    if parts.arguments.len() > (u32::MAX - width) as usize {
-        return Ok(false);
-    }
-    let left = parts.keep_rows(alloc, rows, register, marks)?;
-    let other = add(forest, &mut work.pending, width, left)?;
-    let window = branch(
-        alloc,
-        checked,
-        links,
-        parts,
-        rows,
-        width,
-        register,
-        asked,
-        low,
-        span,
-        forest,
-        &mut work.pending,
-    )?;
-    forest.write_switch(node, register, low, &window, other)?;
-    Ok(true)
-}
-
-/// A step at a node that waits: it is written, and the nodes behind it wait.
-fn step(
-    alloc: Global,
-    checked: &Checked,
-    links: &Links,
-    parts: &Parts,
-    mut rows: Vec<CodeRow>,
-    node: u32,
-    width: u32,
-    forest: &mut Forest,
-    work: &mut Work,
-) -> Result<bool, AllocError>
-    requires linked { length links.now ≡ length (symbols checked.now.spec) }
-    requires ground { IsGround checked.now.spec (numbers_of links.now) parts.now }
-    requires can { CanStep checked.now.spec (numbers_of links.now) parts.now forest.old ((record { node = node; width = width; rows = map coded_of rows.items }) ∷ map task_of work.old.pending.items) }
-    requires marks { HasMarks work.old.marks (length (symbols checked.now.spec)) }
-    ensures marks { IfOk result (λ goes. HasMarks work.new.marks (length (symbols checked.now.spec))) }
-    ensures fuel { IfOk result (λ goes. work.new.fuel ≤ work.old.fuel) }
-    ensures steps { IfOk result (StepsOrStays checked.now.spec (numbers_of links.now) parts.now forest.old ((record { node = node; width = width; rows = map coded_of rows.items }) ∷ map task_of work.old.pending.items) forest.new (map task_of work.new.pending.items)) }
-{
-    if rows.is_empty() {
-        forest.nodes[node as usize] = Node::Fail;
-        return Ok(true);
-    }
-    if rows[0].codes.len() > u32::MAX as usize {
-        return Ok(false);
-    }
-    let mut places = Vec::new(alloc);
-    if parts.place(alloc, &rows[0].codes, &mut places)? {
-        let first = rows.remove(0);
-        leaf(
-            forest,
-            &mut work.pending,
-            node,
-            width,
-            first.rule,
-            &places,
-            rows,
-        )?;
-        return Ok(true);
-    }
-    let Some(register) = parts.asked_first(&rows[0].codes) else {
-        return Ok(false);
-    };
-    switch(
-        alloc, checked, links, parts, &rows, node, width, register, forest, work,
-    )
-}
-
 /// What a look at the first row costs: the other rows are moved, and each of its variables is
 /// compared with those before it.
 fn look(rows: &[CodeRow]) -> u64 {
@@ -468,74 +319,214 @@ fn look(rows: &[CodeRow]) -> u64 {
     (rows.len() as u64).saturating_add(codes.saturating_mul(codes) / COMPARED_FOR_ONE)
 }
 
-/// Steps until no node waits; it is given up where they would cost more than there is fuel, or
-/// where there are more than so many nodes.
-pub fn grow(
-    alloc: Global,
-    checked: &Checked,
-    links: &Links,
-    parts: &Parts,
-    most: usize,
-    forest: &mut Forest,
-    work: &mut Work,
-) -> Result<bool, AllocError>
-    requires linked { length links.now ≡ length (symbols checked.now.spec) }
-    requires ground { IsGround checked.now.spec (numbers_of links.now) parts.now }
-    requires can { CanStep checked.now.spec (numbers_of links.now) parts.now forest.old (map task_of work.old.pending.items) }
-    requires marks { HasMarks work.old.marks (length (symbols checked.now.spec)) }
-    ensures marks { IfOk result (λ grown. HasMarks work.new.marks (length (symbols checked.now.spec))) }
-    ensures grows { IfOk result (GrowsOut checked.now.spec (numbers_of links.now) parts.now forest.old (map task_of work.old.pending.items) forest.new) }
-{
-    while let Some(pending) = work.pending.pop() {
-        let cost = look(&pending.rows);
-        if work.fuel <= cost || forest.nodes.len() > most {
-            return Ok(false);
-        }
-        work.fuel -= cost + 1;
-        let Pending { node, width, rows } = pending;
-        if !step(
-            alloc, checked, links, parts, rows, node, width, forest, work,
-        )? {
-            return Ok(false);
-        }
-    }
-    Ok(true)
-}
-
 /// The most nodes that a symbol's tree may have.
 const MOST_NODES: usize = 65_536;
 
-/// A tree that grows from rows: its root, or 0 where it would have too many nodes or would cost
-/// more than there is fuel; nothing is left of it then.
-pub fn tree(
-    alloc: Global,
-    checked: &Checked,
-    links: &Links,
-    parts: &Parts,
-    width: u32,
-    rows: Vec<CodeRow>,
-    forest: &mut Forest,
-    work: &mut Work,
-) -> Result<u32, AllocError>
-    requires linked { length links.now ≡ length (symbols checked.now.spec) }
-    requires ground { IsGround checked.now.spec (numbers_of links.now) parts.now }
-    requires some { 0 < length forest.old.nodes.items }
-    requires can { CanGrow checked.now.spec (numbers_of links.now) parts.now forest.old width (map coded_of rows.items) }
-    requires marks { HasMarks work.old.marks (length (symbols checked.now.spec)) }
-    ensures marks { IfOk result (λ root. HasMarks work.new.marks (length (symbols checked.now.spec))) }
-    ensures tree { IfOk result (HasTree checked.now.spec (numbers_of links.now) parts.now forest.old width (map coded_of rows.items) forest.new) }
-{
-    let nodes = forest.nodes.len();
-    let places = forest.places.len();
-    let children = forest.children.len();
-    work.pending.clear();
-    let root = add(forest, &mut work.pending, width, rows)?;
-    let most = nodes.saturating_add(MOST_NODES);
-    if grow(alloc, checked, links, parts, most, forest, work)? {
-        return Ok(root);
+/// What trees grow from: a specification, its symbols in a bank, and the parts of its left sides.
+#[derive(Clone, Copy)]
+pub struct Grower<'a> {
+    pub alloc: Global,
+    pub checked: &'a Checked,
+    pub links: &'a Links,
+    pub parts: &'a Parts,
+}
+
+impl Grower<'_> {
+    /// A node for each of some symbols, in a window of the symbols' numbers in the bank.
+    fn branch(
+        &self,
+        rows: &[CodeRow],
+        width: u32,
+        register: u32,
+        asked: &[u32],
+        low: u64,
+        span: u32,
+        forest: &mut Forest,
+        work: &mut Vec<Pending>,
+    ) -> Result<Vec<Child>, AllocError>
+        requires declared { All (λ k. k < length (symbols self.now.checked.now.spec)) asked.now }
+        requires linked { length self.now.links.now ≡ length (symbols self.now.checked.now.spec) }
+        requires covers { Covers (numbers_of self.now.links.now) asked.now low span }
+        requires codes { All (λ row. All (IsCode self.now.parts.now) row.codes.items) rows.now }
+        requires room { width + length self.now.parts.now.arguments.items < 2 ^ 32 }
+        requires ground { IsGround self.now.checked.now.spec (numbers_of self.now.links.now) self.now.parts.now }
+        ensures long { IfOk result (λ w. length w.items ≡ span) }
+        ensures longer { IfOk result (λ w. length forest.old.nodes.items ≤ length forest.new.nodes.items) }
+        ensures branches { IfOk result (λ w. BranchesOut self.now.checked.now.spec (numbers_of self.now.links.now) self.now.parts.now forest.old (map task_of work.old.items) width (map coded_of rows.now)
+            forest.new (map task_of work.new.items) register low asked.now w.items (length asked.now)) }
+    {
+        let mut window = no_children(self.alloc, span)?;
+        for symbol in asked {
+            let left = self
+                .parts
+                .open_rows(self.alloc, rows, register, *symbol, width)?;
+            let count = self.checked.arity(*symbol);
+            if count > u32::MAX - width {
+                return Err(AllocError);
+            }
+            let node = add(forest, work, width + count, left)?;
+            let at = self.links.symbol_of(*symbol).0 - low;
+            window[at as usize] = Child { node, count };
+        }
+        Ok(window)
     }
-    forest.nodes.truncate(nodes);
-    forest.places.truncate(places);
-    forest.children.truncate(children);
-    Ok(0)
+
+    /// A switch on a register at a node that waits; what is left for symbols that rows ask it for
+    /// waits behind it, and so does what is left for each other tree. Nothing changes where it
+    /// would cost too much.
+    fn switch(
+        &self,
+        rows: &[CodeRow],
+        node: u32,
+        width: u32,
+        register: u32,
+        forest: &mut Forest,
+        work: &mut Work,
+    ) -> Result<bool, AllocError>
+        requires linked { length self.now.links.now ≡ length (symbols self.now.checked.now.spec) }
+        requires there { node < length forest.old.nodes.items }
+        requires register { register < width }
+        requires codes { All (λ row. All (IsCode self.now.parts.now) row.codes.items) rows.now }
+        requires ground { IsGround self.now.checked.now.spec (numbers_of self.now.links.now) self.now.parts.now }
+        requires marks { HasMarks work.old.marks (length (symbols self.now.checked.now.spec)) }
+        ensures marks { IfOk result (λ goes. HasMarks work.new.marks (length (symbols self.now.checked.now.spec))) }
+        ensures fuel { IfOk result (λ goes. work.new.fuel ≤ work.old.fuel) }
+        ensures steps { IfOk result (StepsOrStays self.now.checked.now.spec (numbers_of self.now.links.now) self.now.parts.now forest.old ((record { node = node; width = width; rows = map coded_of rows.now }) ∷ map task_of work.old.pending.items) forest.new (map task_of work.new.pending.items)) }
+    {
+        self.parts
+            .marks(self.links, rows, register, &mut work.marks)?;
+        let asked: &[u32] = &work.marks.symbols;
+        let marks: &[bool] = &work.marks.marked;
+        let cost = self.parts.cost(rows, register, asked.len() as u64);
+        if cost > work.fuel || cost > MOST_OF_A_SWITCH {
+            return Ok(false);
+        }
+        work.fuel -= cost;
+        let low = least(self.links, asked);
+        let Some(span) = span(low, greatest(self.links, asked)) else {
+            return Ok(false);
+        };
+        if self.parts.arguments.len() > (u32::MAX - width) as usize {
+            return Ok(false);
+        }
+        let left = self.parts.keep_rows(self.alloc, rows, register, marks)?;
+        let other = add(forest, &mut work.pending, width, left)?;
+        let window = self.branch(
+            rows,
+            width,
+            register,
+            asked,
+            low,
+            span,
+            forest,
+            &mut work.pending,
+        )?;
+        forest.write_switch(node, register, low, &window, other)?;
+        Ok(true)
+    }
+
+    /// A step at a node that waits: it is written, and the nodes behind it wait.
+    fn step(
+        &self,
+        mut rows: Vec<CodeRow>,
+        node: u32,
+        width: u32,
+        forest: &mut Forest,
+        work: &mut Work,
+    ) -> Result<bool, AllocError>
+        requires linked { length self.now.links.now ≡ length (symbols self.now.checked.now.spec) }
+        requires ground { IsGround self.now.checked.now.spec (numbers_of self.now.links.now) self.now.parts.now }
+        requires can { CanStep self.now.checked.now.spec (numbers_of self.now.links.now) self.now.parts.now forest.old ((record { node = node; width = width; rows = map coded_of rows.items }) ∷ map task_of work.old.pending.items) }
+        requires marks { HasMarks work.old.marks (length (symbols self.now.checked.now.spec)) }
+        ensures marks { IfOk result (λ goes. HasMarks work.new.marks (length (symbols self.now.checked.now.spec))) }
+        ensures fuel { IfOk result (λ goes. work.new.fuel ≤ work.old.fuel) }
+        ensures steps { IfOk result (StepsOrStays self.now.checked.now.spec (numbers_of self.now.links.now) self.now.parts.now forest.old ((record { node = node; width = width; rows = map coded_of rows.items }) ∷ map task_of work.old.pending.items) forest.new (map task_of work.new.pending.items)) }
+    {
+        if rows.is_empty() {
+            forest.nodes[node as usize] = Node::Fail;
+            return Ok(true);
+        }
+        if rows[0].codes.len() > u32::MAX as usize {
+            return Ok(false);
+        }
+        let mut places = Vec::new(self.alloc);
+        if self.parts.place(self.alloc, &rows[0].codes, &mut places)? {
+            let first = rows.remove(0);
+            leaf(
+                forest,
+                &mut work.pending,
+                node,
+                width,
+                first.rule,
+                &places,
+                rows,
+            )?;
+            return Ok(true);
+        }
+        let Some(register) = self.parts.asked_first(&rows[0].codes) else {
+            return Ok(false);
+        };
+        self.switch(&rows, node, width, register, forest, work)
+    }
+
+    /// Steps until no node waits; it is given up where they would cost more than there is fuel, or
+    /// where there are more than so many nodes.
+    pub fn grow(
+        &self,
+        most: usize,
+        forest: &mut Forest,
+        work: &mut Work,
+    ) -> Result<bool, AllocError>
+        requires linked { length self.now.links.now ≡ length (symbols self.now.checked.now.spec) }
+        requires ground { IsGround self.now.checked.now.spec (numbers_of self.now.links.now) self.now.parts.now }
+        requires can { CanStep self.now.checked.now.spec (numbers_of self.now.links.now) self.now.parts.now forest.old (map task_of work.old.pending.items) }
+        requires marks { HasMarks work.old.marks (length (symbols self.now.checked.now.spec)) }
+        ensures marks { IfOk result (λ grown. HasMarks work.new.marks (length (symbols self.now.checked.now.spec))) }
+        ensures grows { IfOk result (GrowsOut self.now.checked.now.spec (numbers_of self.now.links.now) self.now.parts.now forest.old (map task_of work.old.pending.items) forest.new) }
+    {
+        while let Some(pending) = work.pending.pop() {
+            let cost = look(&pending.rows);
+            if work.fuel <= cost || forest.nodes.len() > most {
+                return Ok(false);
+            }
+            work.fuel -= cost + 1;
+            let Pending { node, width, rows } = pending;
+            if !self.step(rows, node, width, forest, work)? {
+                return Ok(false);
+            }
+        }
+        Ok(true)
+    }
+
+    /// A tree that grows from rows: its root, or 0 where it would have too many nodes or would cost
+    /// more than there is fuel; nothing is left of it then.
+    pub fn tree(
+        &self,
+        width: u32,
+        rows: Vec<CodeRow>,
+        forest: &mut Forest,
+        work: &mut Work,
+    ) -> Result<u32, AllocError>
+        requires linked { length self.now.links.now ≡ length (symbols self.now.checked.now.spec) }
+        requires ground { IsGround self.now.checked.now.spec (numbers_of self.now.links.now) self.now.parts.now }
+        requires some { 0 < length forest.old.nodes.items }
+        requires can { CanGrow self.now.checked.now.spec (numbers_of self.now.links.now) self.now.parts.now forest.old width (map coded_of rows.items) }
+        requires marks { HasMarks work.old.marks (length (symbols self.now.checked.now.spec)) }
+        ensures marks { IfOk result (λ root. HasMarks work.new.marks (length (symbols self.now.checked.now.spec))) }
+        ensures tree { IfOk result (HasTree self.now.checked.now.spec (numbers_of self.now.links.now) self.now.parts.now forest.old width (map coded_of rows.items) forest.new) }
+    {
+        let nodes = forest.nodes.len();
+        let places = forest.places.len();
+        let children = forest.children.len();
+        work.pending.clear();
+        let root = add(forest, &mut work.pending, width, rows)?;
+        let most = nodes.saturating_add(MOST_NODES);
+        if self.grow(most, forest, work)? {
+            return Ok(root);
+        }
+        forest.nodes.truncate(nodes);
+        forest.places.truncate(places);
+        forest.children.truncate(children);
+        Ok(0)
+    }
 }

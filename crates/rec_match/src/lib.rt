@@ -22,7 +22,7 @@ mod trees;
 mod trees_tests;
 
 pub use forest::{Child, Forest, Node, Place};
-pub use grow::{Pending, Work};
+pub use grow::{Grower, Pending, Work};
 pub use marks::Marks;
 pub use matcher::{LeftSide, Matcher, Test};
 pub use parts::{Code, CodeRow, Part, Parts};

@@ -8,7 +8,7 @@ ghost use Rattle.rec_match.specs.Tasks.{numbers_of};
 
 use crate::chain::Chains;
 use crate::forest::{Forest, Node};
-use crate::grow::{Work, tree};
+use crate::grow::{Grower, Work};
 use crate::marks::Marks;
 use crate::push::left_parts;
 use rec_sorts::{Checked, Links};
@@ -35,6 +35,12 @@ pub(crate) fn trees(
     let _differ = links.symbols();
     let _kept = checked.syntax();
     let left = left_parts(alloc, checked)?;
+    let grower = Grower {
+        alloc,
+        checked,
+        links,
+        parts: &left.parts,
+    };
     let mut forest = Forest {
         nodes: Vec::new(alloc),
         places: Vec::new(alloc),
@@ -51,16 +57,7 @@ pub(crate) fn trees(
     for symbol in 0..checked.symbols() {
         let rows = left.rows(alloc, checked, chains, symbol)?;
         let width = checked.arity(symbol);
-        let root = tree(
-            alloc,
-            checked,
-            links,
-            &left.parts,
-            width,
-            rows,
-            &mut forest,
-            &mut work,
-        )?;
+        let root = grower.tree(width, rows, &mut forest, &mut work)?;
         roots.push(root)?;
     }
     forest.roots = roots;

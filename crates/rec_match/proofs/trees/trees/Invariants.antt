@@ -8,5 +8,5 @@ use Rattle.rec_match.proofs.trees.trees.Given as goal
 abbrev pub invariant-loop-symbol : goal.invariant-loop-symbol
 invariant-loop-symbol l = record {
   marks : HasMarks l.work.marks (length (symbols l.checked.spec));
-  trees : HasTrees l.checked.spec (numbers_of l.links) l.left.parts l.forest l.roots.items l.symbol;
+  trees : HasTrees l.checked.spec (numbers_of l.links) l.grower.parts.now l.forest l.roots.items l.symbol;
 }

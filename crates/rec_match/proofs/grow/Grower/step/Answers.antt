@@ -7,7 +7,7 @@ use Rattle.rec_match.specs.declared.parts.Code.{Code}
 use Rattle.rec_match.specs.declared.parts.CodeRow.{CodeRow}
 use Rattle.rec_match.proofs.LeftLemmas.{rows_there, rows_within}
 use Rattle.rec_match.proofs.TaskLemmas.{empty_steps}
-use Rattle.rec_match.proofs.grow.step.Goals as goal
+use Rattle.rec_match.proofs.grow.Grower.step.Goals as goal
 
 no_rows : (xs : List CodeRow) → length xs ≡ 0 → xs ≡ []
 no_rows [] e = refl
@@ -17,7 +17,7 @@ pub returns-then-is_empty-clause-steps : goal.returns-then-is_empty-clause-steps
 returns-then-is_empty-clause-steps c =
     let none = eqb-true _ 0 (sym c.is_empty.ensures ∙ c.if-is_empty.true) in
     let v = c.args.rows.ok.0 in
-    empty_steps c.args.checked.now.spec (numbers_of c.args.links.now) c.args.parts.now c.args.forest.now _ _ c.args.node c.args.width (map coded_of c.args.rows.items)
+    empty_steps c.args.self.now.checked.now.spec (numbers_of c.args.self.now.links.now) c.args.self.now.parts.now c.args.forest.now _ _ c.args.node c.args.width (map coded_of c.args.rows.items)
     (ap (map coded_of) (no_rows c.args.rows.items (omega (arith, none, v)))) refl refl refl
 
 pub switch-requires-clause-register : goal.switch-requires-clause-register
@@ -27,8 +27,8 @@ switch-requires-clause-register c =
     let left = c.requires.can.1.tasks.0.rows in
     c.in-Some.ensures c.args.width
     (subst (λ xs. All (λ (d : Code). d.register < c.args.width) xs) (sym (c.deref-2.ensures.value ∙ ap (λ (r : CodeRow). r.codes.items) c.index-3.ensures))
-    (rows_within c.args.checked.now.spec c.args.parts.now c.args.width c.args.rows.items _ left 0 c.index-3.result.now (omega (arith, some, v))))
+    (rows_within c.args.self.now.checked.now.spec c.args.self.now.parts.now c.args.width c.args.rows.items _ left 0 c.index-3.result.now (omega (arith, some, v))))
 
 pub switch-requires-clause-codes : goal.switch-requires-clause-codes
 switch-requires-clause-codes c =
-    subst (λ xs. All (λ (row : CodeRow). All (IsCode c.args.parts.now) row.codes.items) xs) (sym c.deref-3.ensures.value) (rows_there c.args.parts.now c.requires.ground.whole c.args.rows.items c.requires.can.1.tasks.0.rows.there)
+    subst (λ xs. All (λ (row : CodeRow). All (IsCode c.args.self.now.parts.now) row.codes.items) xs) (sym c.deref-3.ensures.value) (rows_there c.args.self.now.parts.now c.requires.ground.whole c.args.rows.items c.requires.can.1.tasks.0.rows.there)

@@ -2,19 +2,19 @@ use Rattle.std.proofs.Common.{ap, subst, arith, ◌∙◌, ◌≡◌, length, ma
 use Rattle.rec_match.specs.Parts.{coded_of}
 use Rattle.rec_match.specs.Tasks.{task_of, numbers_of, Adds, GrowsOut}
 use Rattle.rec_match.proofs.TreeLemmas.{tree_grown, tree_cut, can_root}
-use Rattle.rec_match.proofs.grow.tree.Goals as goal
+use Rattle.rec_match.proofs.grow.Grower.tree.Goals as goal
 
 pub grow-requires-clause-can : goal.grow-requires-clause-can
 grow-requires-clause-can c =
     let k = c.requires.can in
-    can_root c.args.checked.now.spec (numbers_of c.args.links.now) c.args.parts.now c.args.forest.now c.add.new.forest (map task_of c.add.new.work.items) c.args.width (map coded_of c.args.rows.items) c.in_ok-root.root k.states k.rows
+    can_root c.args.self.now.checked.now.spec (numbers_of c.args.self.now.links.now) c.args.self.now.parts.now c.args.forest.now c.add.new.forest (map task_of c.add.new.work.items) c.args.width (map coded_of c.args.rows.items) c.in_ok-root.root k.states k.rows
     (subst (λ ws. Adds c.args.forest.now (map task_of ws) c.add.new.forest (map task_of c.add.new.work.items) c.args.width (map coded_of c.args.rows.items) c.in_ok-root.root) c.clear.ensures.items c.in_ok-root.ensures) k.growing k.left
 
 pub returns-then-branch-clause-tree : goal.returns-then-branch-clause-tree
 returns-then-branch-clause-tree c =
-    let y = c.args.checked.now.spec in
-    let ns = numbers_of c.args.links.now in
-    let ps = c.args.parts.now in
+    let y = c.args.self.now.checked.now.spec in
+    let ns = numbers_of c.args.self.now.links.now in
+    let ps = c.args.self.now.parts.now in
     let us = map task_of c.add.new.work.items in
     tree_grown y ns ps c.args.forest.now c.add.new.forest c.grow.new.forest us c.args.width (map coded_of c.args.rows.items) c.in_ok-root.root c.requires.some
     (subst (λ ws. Adds c.args.forest.now (map task_of ws) c.add.new.forest us c.args.width (map coded_of c.args.rows.items) c.in_ok-root.root) c.clear.ensures.items c.in_ok-root.ensures)
@@ -22,9 +22,9 @@ returns-then-branch-clause-tree c =
 
 pub returns-clause-tree : goal.returns-clause-tree
 returns-clause-tree c =
-    let y = c.args.checked.now.spec in
-    let ns = numbers_of c.args.links.now in
-    let ps = c.args.parts.now in
+    let y = c.args.self.now.checked.now.spec in
+    let ns = numbers_of c.args.self.now.links.now in
+    let ps = c.args.self.now.parts.now in
     let us = map task_of c.add.new.work.items in
     let out = subst (GrowsOut y ns ps c.add.new.forest us c.grow.new.forest) c.if-branch.false c.in_ok-grow.ensures.grows in
     tree_cut y ns ps c.args.forest.now c.add.new.forest c.grow.new.forest _ us out.0 c.args.width (map coded_of c.args.rows.items) c.in_ok-root.root
