@@ -1,2 +1,3 @@
 pub mod PlaceLemmas
 pub mod NameLemmas
+pub mod Renaming

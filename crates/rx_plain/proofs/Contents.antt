@@ -1,8 +1,8 @@
 -- The content follows from the slots.
-use Rattle.std.proofs.Common.{List, [], length, ℕ, ◌≡◌, refl, sym, ap, subst, arith}
+use Rattle.std.proofs.Common.{List, [], length, ◌≡◌, refl, sym, ap, subst, arith}
 use Rattle.std.specs.FinMap as map
 use Rattle.rx_term.specs.Tree.{Tree}
-use Rattle.rx_term.specs.Heap.{Heap, Table, Least, Least-prop, is_whole, content_of, content_by}
+use Rattle.rx_term.specs.Heap.{Table, Least, Least-prop, is_whole, content_of, content_by}
 use Rattle.std.specs.Ordering.{nat_cmp}
 use Rattle.rx_plain.specs.declared.slots.Slot.{Slot}
 use Rattle.rx_plain.specs.Slots.{heap_of}
@@ -26,10 +26,3 @@ empty-len m = map.len-empty nat_cmp Tree
 pub empty-content : (m : Table) (xs : List Slot) → xs ≡ [] → (w : Least (is_whole (heap_of xs) m (length xs))) → content_by (heap_of xs) m (length xs) w ≡ map.empty
 unfolding content_by
 empty-content m xs e = subst (λ zs. (w : Least (is_whole (heap_of zs) m (length zs))) → content_of (heap_of zs) m (length zs) w.0 ≡ map.empty) (sym e) (λ w. refl)
-
--- equal heaps have one content
-pub content-unique : (m : Table) (h g : Heap) (a b : ℕ) → g ≡ h → b ≡ a → (p : Least (is_whole h m a)) (q : Least (is_whole g m b)) → content_by g m b q ≡ content_by h m a p
-content-unique m h g a b e l p = subst (λ f. (q : Least (is_whole f m b)) → content_by f m b q ≡ content_by h m a p) (sym e) (subst (λ k. (q : Least (is_whole h m k)) → content_by h m k q ≡ content_by h m a p) (sym l) (λ q. ap (λ (w : Least (is_whole h m a)). content_by h m a w) (Least-prop (is_whole h m a) q p)))
-
-pub whole-along : (m : Table) (h g : Heap) (a b : ℕ) → g ≡ h → b ≡ a → Least (is_whole h m a) → Least (is_whole g m b)
-whole-along m h g a b e l p = subst (λ f. Least (is_whole f m b)) (sym e) (subst (λ k. Least (is_whole h m k)) (sym l) p)

@@ -14,7 +14,7 @@ use Rattle.std.specs.Prelude.{slice_set, if◌then◌else◌, ◌==◌}
 use Rattle.std.proofs.lemmas.Grind.{elements}
 use Rattle.rx_plain.specs.declared.bank.PlainBank.{PlainBank}
 use Rattle.rx_plain.specs.Soundness.{table}
-use Rattle.rx_plain.proofs.Contents.{content-unique}
+use Rattle.rx_term.proofs.BankLemmas.{content-unique}
 use Rattle.rx_plain.proofs.Reading.{read-cell}
 
 -- another count in one slot

@@ -4,8 +4,6 @@ pub mod MarkLemmas
 pub mod Contents
 pub mod Reading
 pub mod Making
-pub mod Noting
 pub mod Counting
 pub mod Room
-pub mod Naming
 pub mod Reclaiming

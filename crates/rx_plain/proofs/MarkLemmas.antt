@@ -3,7 +3,6 @@ use Rattle.std.proofs.Common.{List, [], ◌∷◌, ◌++◌, length, get_or, map
 use Rattle.std.specs.Prelude.{slice_set, if◌then◌else◌}
 use Rattle.std.proofs.lemmas.Bool.{ltb-true, lt-ltb}
 use Rattle.std.proofs.lemmas.Bool.Decides.{eqb_tells}
-use Rattle.std.proofs.lemmas.List.{get_or_default}
 use Rattle.std.proofs.lemmas.List.Elements.{Contains-append_left, Contains-append_right, Contains-append_cases}
 use Rattle.rx_term.specs.Heap.{Cell, links, IsLinked, start, along}
 use Rattle.rx_term.proofs.PartsLemmas.{cons_head, cons_tail, cons_cases, no_element}
@@ -146,9 +145,6 @@ body-links xs t s x within e b i c = within t i (cell_of x) (ap cell_at e ∙ ap
 pub pass-smaller : (now next : List Slot) (fresh : Bool) → Passes now next fresh → unmarked next + (if fresh then 1 else 0) < unmarked now + 1
 pass-smaller now next true p = let e = p.progress in omega arith
 pass-smaller now next false p = subst (λ xs. unmarked xs + 0 < unmarked now + 1) (sym p.progress.0) (omega arith)
-
-pub place-in : {X : Type 0} (xs : List X) (k : ℕ) (d : X) → k < length xs → Contains xs (get_or xs k d)
-place-in xs k d lt = (k, lt, get_or_default xs k _ d lt)
 
 take-suc : (ts : List Term) (k : ℕ) (d : Term) → k < length ts → map (λ t. t.0) (take (suc k) ts) ≡ map (λ t. t.0) (take k ts) ++ (get_or ts k d).0 ∷ []
 take-suc [] k d lt = absurd (omega arith)

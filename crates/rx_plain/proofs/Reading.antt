@@ -2,14 +2,15 @@
 use Rattle.std.proofs.Common.{List, length, ℕ, ◌≡◌, ◌<◌, Option, Some, None, IsSome, is_some, refl, sym, ap, ◌∙◌, subst, get_or, ℤ}
 use Rattle.std.specs.FinMap as map
 use Rattle.std.proofs.lemmas.Option.{slice_get-get_or}
-use Rattle.rx_term.specs.Tree.{Tree, Int, Appl, Items, Hole, Trees, none, more, annotated, annotations, is_i32}
+use Rattle.rx_term.specs.Tree.{Tree, Int, Items, Trees, none, more, annotated, annotations, is_i32}
 use Rattle.std.specs.Option.{option_and_then}
 use Rattle.rx_term.specs.Kinds.{HasAnns}
 use Rattle.rx_term.specs.Store.{tree_at, part_at, anns_of, list_unless_empty}
-use Rattle.rx_term.specs.Heap.{Cell, cell_tree, noted_tree, Table, Says, Notes, int_tree, content_by}
+use Rattle.rx_term.specs.Heap.{Cell, cell_tree, noted_tree, Notes, int_tree, content_by}
 use Rattle.rx_term.proofs.HeapLemmas.{if-some, with_notes-parts, said}
 use Rattle.rx_term.proofs.ContentLemmas.{cell-of}
 use Rattle.rx_term.proofs.StoreLemmas.{some-value}
+use Rattle.rx_term.proofs.NoteLemmas.{says-notes, anns-list}
 use Rattle.rx_term.specs.declared.Term.{Term}
 use Rattle.rx_plain.specs.declared.slots.Slot.{Slot}
 use Rattle.rx_plain.specs.Slots.{notes_of, heap_of, cell_in, cell_at}
@@ -49,20 +50,6 @@ int-cell c o (Some a) z e held =
     let p = with_notes-parts (int_tree z) (c a) u.0 (sym e ∙ u.1) in
     let q = if-some (is_i32 z) (Int z none) p.0 p.1.1.1 in
     (more p.1.0 p.1.1.0, u.1 ∙ ap (λ v. let w : Option Tree = Some v in w) (sym p.1.1.3 ∙ ap (λ v. annotated v (more p.1.0 p.1.1.0)) (sym q.1)))
-
--- the annotations of a cell are those of its tree
-says-notes : (c : ℕ → Option Tree) (m : Table) (x : Cell) (u : Tree) → Says c m x u → Notes c x.notes (annotations u)
-says-notes c m x (Int z anns) s = s.2
-says-notes c m x (Items none anns) s = s.1
-says-notes c m x (Items (more v vs) anns) s = s.1.4
-says-notes c m x (Appl name quoted args anns) s = s.1.4
-says-notes c m x (Hole v anns) s = s.3
-
-anns-list : (u : Tree) → anns_of u ≡ list_unless_empty (annotations u)
-anns-list (Int z anns) = refl
-anns-list (Items items anns) = refl
-anns-list (Appl name quoted args anns) = refl
-anns-list (Hole v anns) = refl
 
 pub body-anns : (b : PlainBank) (t : Term) (o : Option Term) (x : Cell) → heap_of b.slots.items t.0 ≡ Some x → x.notes ≡ notes_of o → IsSome (tree_at (store_of b) t) → HasAnns (store_of b) t o
 unfolding content_by

@@ -1,10 +1,7 @@
 -- The heap that a vector of slots is.
 use Rattle.std.specs.Prelude.{ℕ, List, Bool, true, false, Option, Some, None, is_some, slice_get}
-use Rattle.std.specs.Ordering.{nat_cmp}
-use Rattle.std.specs.FinMap as map
-use Rattle.rx_term.specs.Name.{Signature}
 use Rattle.rx_term.specs.declared.Term.{Term}
-use Rattle.rx_term.specs.Heap.{Node, number, empty, pair, application, placeholder, Cell, Heap, Table}
+use Rattle.rx_term.specs.Heap.{Node, number, empty, pair, application, placeholder, Cell, Heap}
 use Rattle.rx_plain.specs.declared.slots.Body.{Body}
 use Rattle.rx_plain.specs.declared.slots.Slot.{Slot}
 use Rattle.rx_plain.specs.declared.slots.Shape.{Shape}
@@ -46,10 +43,6 @@ count_in (Some s) = s.roots
 
 abbrev pub roots_of : List Slot → ℕ → ℕ
 roots_of xs t = count_in (slice_get xs t)
-
--- what symbols stand for, as a function
-abbrev pub table_of : map.FinMap nat_cmp Signature → Table
-table_of symbols s = map.get symbols s
 
 -- the slot after a sweep: kept where it was marked, else free; unmarked
 abbrev pub swept_by : Bool → Slot → Slot

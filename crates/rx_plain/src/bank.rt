@@ -4,7 +4,8 @@ ghost use Rattle.std.specs.Prelude.{◌≡◌, ◌<◌, ◌≤◌, ℕ, None, le
 ghost use Rattle.std.specs.FinMap as fin;
 ghost use Rattle.rx_term.specs.Heap.{Least, Least-prop, IsDistinct, is_whole, content_by};
 ghost use Rattle.rx_names.specs.Names.{symbols_of};
-ghost use Rattle.rx_plain.specs.Slots.{table_of, heap_of, roots_of, cell_of};
+ghost use Rattle.rx_plain.specs.Slots.{heap_of, roots_of, cell_of};
+ghost use Rattle.rx_term.specs.Bank.{table_of};
 
 use crate::marks::mark_reached;
 use crate::slots::{Body, Shape, Slot, find, find_free, sweep};
@@ -33,7 +34,9 @@ impl PlainBank {
     ghost use Rattle.rx_term.specs.Store.{tree_at};
     ghost use Rattle.rx_term.specs.Steps.{MakesOrRefuses};
     ghost use Rattle.rx_term.specs.declared.faults.BankFault.TheVariants.{Memory};
-    ghost use Rattle.rx_plain.specs.State.{store_of, tree_of_body, IsEmptyStore, IsNotesOf};
+    ghost use Rattle.rx_plain.specs.Slots.{notes_of};
+    ghost use Rattle.rx_plain.specs.State.{store_of, tree_of_body};
+    ghost use Rattle.rx_term.specs.Bank.{IsEmptyStore, IsNotesOf};
 
     /// An empty bank of at most `cap` terms, from 1 to 2^30; or memory ran out, and nothing else.
     pub fn new(alloc: Global, cap: u32) -> Result<PlainBank, BankFault>
@@ -96,7 +99,7 @@ impl PlainBank {
     /// The reference of a list, unless it is empty.
     fn notes(&self, anns: Term) -> Option<Term>
         requires { IsSome (tree_at (store_of self.now) anns) }
-        ensures { IsNotesOf (tree_at (store_of self.now) anns) anns result }
+        ensures { IsNotesOf (tree_at (store_of self.now) anns) anns.0 (notes_of result) }
     {
         match self.body(anns).shape {
             Shape::Cons(_, _) => Some(anns),

@@ -1,24 +1,24 @@
 -- A bank's arena mirrors its store.
-use Rattle.std.proofs.Common.{◌≡◌, ◌≢◌, ℕ, zero, suc, [], ◌∷◌, get_or, ◌+◌, ◌%◌, ◌<◌, ◌≤◌, inl, inr, List, length, Option, Some, None, IsSome, is_some, refl, sym, ap, subst, ◌∙◌, arith}
+use Rattle.std.proofs.Common.{◌≡◌, ◌≢◌, ℕ, zero, suc, [], ◌∷◌, get_or, ◌+◌, ◌%◌, ◌≤◌, inl, inr, List, length, Option, Some, None, IsSome, is_some, refl, sym, ap, ◌∙◌, arith}
 use Rattle.std.specs.Prelude.{cond, nat_eq}
 use Rattle.std.proofs.lemmas.Bool.Decides.{eqb_tells}
 use Rattle.rx_term.specs.Tree.{Tree, Trees, Int, Appl, Items, Hole, none, more, annotations}
-use Rattle.rx_term.specs.Store.{tree_at}
 use Rattle.rx_term.specs.Heap.{Says, Notes}
 use Rattle.rx_arena.specs.declared.CellBody.{CellBody}
 use Rattle.rx_arena.specs.declared.Slot.{Slot}
 use Rattle.rx_arena.specs.Put.{times, times_in}
 use Rattle.rx_arena.specs.Arena.{Taken, ArenaState, taken_at, IsTaken, chain_at, stored_hash, hash_at, root_count}
 use Rattle.rx_arena.proofs.Puts.{times_in-at}
-use Rattle.rx_shared.specs.Bodies.{node_of, notes_of, cell_of, IsWritten}
+use Rattle.rx_shared.specs.Bodies.{notes_of, cell_of, IsWritten}
 use Rattle.rx_shared.specs.Tidy.{IsTidy, cell_in}
 use Rattle.rx_shared.specs.State.{store_of}
 use Rattle.rx_sweep.specs.Reach.{IsHomed}
 use Rattle.rx_sweep.proofs.Walks.{chain_in}
 use Rattle.rx_shared.specs.Soundness.{table, cell-held, bank-law}
-use Rattle.rx_shared.specs.Mirror.{HasWords, HasNotes, IsBody, Mirrors}
+use Rattle.rx_shared.specs.Mirror.{HasWords, HasNotes, Mirrors}
 use Rattle.rx_shared.specs.declared.bank.SharedBank.{SharedBank}
-use Rattle.rx_shared.proofs.Reading.{trees, held-taken, body-says, says-notes, kind-is, first-is, second-is}
+use Rattle.rx_term.proofs.NoteLemmas.{says-notes}
+use Rattle.rx_shared.proofs.Reading.{trees, held-taken, body-says, kind-is, first-is, second-is}
 
 module _ (b : SharedBank) (x : CellBody) (written : IsWritten x) where
   words-of : (u : Tree) → Says (trees b) (table b) (cell_of x) u → HasWords (store_of b) u x
@@ -74,7 +74,7 @@ mirrors b = record {
       let heap = ap cell_in q in
       let s = body-says b t.0 x.body u heap e in
       let written = b.tidy.written t.0 x q in
-      record { words = words-of b x.body written u s; notes = notes-of b (annotations u) x.body.anns (says-notes b (cell_of x.body) u s); hash = written.hash });
+      record { words = words-of b x.body written u s; notes = notes-of b (annotations u) x.body.anns (says-notes (trees b) (table b) (cell_of x.body) u s); hash = written.hash });
   chains = λ s c t. one-home b.arena b.tidy s t.0 t.1 c;
   unmarked = b.tidy.unmarked;
   no_gray = b.tidy.no_gray;

@@ -3,7 +3,8 @@
 ghost use Rattle.std.specs.Prelude.{◌≡◌, ◌≤◌, ◌^◌, length};
 ghost use Rattle.rx_term.specs.Heap.{Least, Least-prop, IsDistinct, is_whole};
 ghost use Rattle.rx_names.specs.Names.{symbols_of};
-ghost use Rattle.rx_shared.specs.Tidy.{IsTidy, heap_of, table_of};
+ghost use Rattle.rx_shared.specs.Tidy.{IsTidy, heap_of};
+ghost use Rattle.rx_term.specs.Bank.{table_of};
 
 use crate::bodies::{EMPTY, INTEGER, body};
 use crate::finding::find;
@@ -42,8 +43,9 @@ impl SharedBank {
     ghost use Rattle.rx_term.specs.Store.{tree_at};
     ghost use Rattle.rx_term.specs.Steps.{MakesOrRefuses, with_count};
     ghost use Rattle.rx_term.specs.declared.faults.BankFault.TheVariants.{Memory};
-    ghost use Rattle.rx_shared.specs.Bodies.{cell_of, IsWritten};
-    ghost use Rattle.rx_shared.specs.State.{store_of, tree_of_body, IsEmptyStore, IsNotesOf};
+    ghost use Rattle.rx_shared.specs.Bodies.{cell_of, notes_of, IsWritten};
+    ghost use Rattle.rx_shared.specs.State.{store_of, tree_of_body};
+    ghost use Rattle.rx_term.specs.Bank.{IsEmptyStore, IsNotesOf};
     ghost use Rattle.rx_shared.specs.Mirror.{Mirrors};
     ghost use Rattle.rx_arena.specs.Arena.{IsArena};
 
@@ -141,7 +143,7 @@ impl SharedBank {
     /// The slot of a list, unless it is empty.
     fn notes(&self, anns: Term) -> Option<Slot>
         requires { IsSome (tree_at (store_of self.now) anns) }
-        ensures { IsNotesOf (tree_at (store_of self.now) anns) anns result }
+        ensures { IsNotesOf (tree_at (store_of self.now) anns) anns.0 (notes_of result) }
     {
         if self.body(anns).kind == LIST {
             Some(Slot(anns.0))

@@ -1,7 +1,8 @@
 use Rattle.std.proofs.Common.{get_or, arith, subst, sym}
 use Rattle.rx_term.specs.declared.Term.{Term}
 use Rattle.rx_plain.specs.Marks.{Marks}
-use Rattle.rx_plain.proofs.MarkLemmas.{Marks-trans, within-after, take-one, place-in}
+use Rattle.rx_plain.proofs.MarkLemmas.{Marks-trans, within-after, take-one}
+use Rattle.rx_term.proofs.BankLemmas.{place-in}
 use Rattle.rx_plain.proofs.marks.mark_extra.Goals as goal
 
 pub mark-requires : goal.mark-requires

@@ -2,7 +2,8 @@ use Rattle.std.proofs.Common.{ℕ, ◌≡◌, ◌≤◌, [], arith, refl, sym, a
 use Rattle.std.specs.FinMap as map
 use Rattle.rx_term.specs.Heap.{IsDistinct}
 use Rattle.rx_names.specs.Names.{symbols_of}
-use Rattle.rx_plain.specs.Slots.{heap_of, roots_of, table_of}
+use Rattle.rx_plain.specs.Slots.{heap_of, roots_of}
+use Rattle.rx_term.specs.Bank.{table_of}
 use Rattle.rx_plain.proofs.Contents.{same-whole, same-content, empty-whole, empty-len, empty-content}
 use Rattle.rx_plain.proofs.bank.PlainBank.new.Goals as goal
 

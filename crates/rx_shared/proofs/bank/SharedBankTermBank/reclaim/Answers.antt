@@ -1,5 +1,5 @@
 -- What is reached stays, and all else is given back.
-use Rattle.std.proofs.Common.{◌≡◌, length, sym, ap, subst, ◌∙◌}
+use Rattle.std.proofs.Common.{sym, ◌∙◌}
 use Rattle.rx_shared.specs.Soundness.{bank-law}
 use Rattle.rx_sweep.proofs.Homing.{same_homed}
 use Rattle.rx_shared.proofs.Reading.{held-taken}
