@@ -11,3 +11,4 @@ pub mod Written
 pub mod Engine
 pub mod Given
 pub mod Made
+pub mod Remembered
