@@ -1,6 +1,7 @@
 pub mod Flat
 pub mod Entries
 pub mod Constants
+pub mod Pace
 pub mod Cells
 pub mod Building
 pub mod Machine

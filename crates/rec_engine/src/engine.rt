@@ -14,6 +14,7 @@ use crate::code::{Code, Op};
 use crate::constants::Constants;
 use crate::machine::{Machine, State};
 use crate::terms::make_term;
+use rec_memo::Memo;
 use rec_sorts::{Checked, Links};
 use rx_term::{Term, TermBank};
 use std::alloc::Global;
@@ -97,10 +98,14 @@ impl<B: TermBank + Drop> Engine<B> {
         let Ok(constants) = Constants::new(alloc, checked.symbols()) else {
             return Err(EngineFault::Memory);
         };
+        let Ok(memo) = Memo::new(alloc, options.memo) else {
+            return Err(EngineFault::Memory);
+        };
         let pace = Pace {
             every: options.reclaim_every,
             floor: bank.cells(),
             constants,
+            memo,
         };
         let machine = Machine {
             checked,
