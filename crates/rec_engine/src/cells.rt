@@ -68,7 +68,8 @@ fn reclaim<B: TermBank>(bank: &mut B, work: &[Term], pace: &mut Pace)
     pace.constants.clear();
 }
 
-/// Makes a node; where the bank is full, gives back what is not needed, and tries once more.
+/// Makes a node; where the bank is full, gives back what is not needed, and tries once more. Where there is no room even so,
+/// all results are forgotten.
 pub(crate) fn make_anyway<B: TermBank>(
     bank: &mut B,
     work: &[Term],
@@ -80,7 +81,7 @@ pub(crate) fn make_anyway<B: TermBank>(
     requires parts { StandsIn work.now node }
     ensures keeps { Keeps (B.store bank.old) (B.store bank.new) work.now }
     ensures known { KeepsKnown (B.store bank.old) (B.store bank.new) pace.old pace.new }
-    ensures makes { MakesFor (B.store bank.new) work.now (built (B.store bank.old) node) result }
+    ensures makes { MakesFor (B.store bank.new) work.now pace.new.memo (built (B.store bank.old) node) result }
 {
     match make_once(bank, node) {
         Ok(t) => Ok(t),
@@ -90,7 +91,10 @@ pub(crate) fn make_anyway<B: TermBank>(
             match make_once(bank, node) {
                 Ok(t) => Ok(t),
                 Err(BankFault::Memory) => Err(EngineFault::Memory),
-                Err(BankFault::Full) => Err(EngineFault::Room),
+                Err(BankFault::Full) => {
+                    pace.memo.clear();
+                    Err(EngineFault::Room)
+                }
             }
         }
     }
@@ -123,7 +127,7 @@ pub(crate) fn make<B: TermBank>(
     requires parts { StandsIn work.now node }
     ensures keeps { Keeps (B.store bank.old) (B.store bank.new) work.now }
     ensures known { KeepsKnown (B.store bank.old) (B.store bank.new) pace.old pace.new }
-    ensures makes { MakesFor (B.store bank.new) work.now (built (B.store bank.old) node) result }
+    ensures makes { MakesFor (B.store bank.new) work.now pace.new.memo (built (B.store bank.old) node) result }
 {
     reclaim_if_due(bank, work, pace);
     make_anyway(bank, work, pace, node)

@@ -63,6 +63,7 @@ impl<B: TermBank> Model for Engine<B> {
       spec = e.machine.checked.spec;
       options = e.options;
       bank = e.machine.bank;
+      memo = e.machine.state.pace.memo;
       work = e.machine.work.items;
     } };
 
@@ -139,7 +140,7 @@ impl<B: TermBank> Engine<B> {
         ensures term { IfOk result (λ t. tree_at (B.store self.new.bank) t ≡ eval_tree self.new.spec i) }
         ensures given { IfOk result (IsGiven self.new.spec (B.store self.new.bank)) }
         ensures kept { IfOk result (Contains self.new.work) }
-        ensures room { RoomOnlyFor (B.store self.new.bank) (eval_tree self.new.spec i) result }
+        ensures room { RoomOnlyFor (B.store self.new.bank) self.new.memo (eval_tree self.new.spec i) result }
     {
         let machine = &mut self.machine;
         let checked = &machine.checked;
@@ -165,7 +166,7 @@ impl<B: TermBank> Engine<B> {
         ensures rewriting { IfOk result (λ o. (u : Tree) → tree_at (B.store self.old.bank) t ≡ Some u
             → IsNormalised self.new.spec (B.store self.new.bank) n u o) }
         ensures kept { IfOk result (IsKept self.new.work) }
-        ensures room { RoomOnly (B.store self.new.bank) self.new.work result }
+        ensures room { RoomOnly (B.store self.new.bank) self.new.work self.new.memo result }
     {
         self.machine.normalise(&mut self.found, t, n)
     }
