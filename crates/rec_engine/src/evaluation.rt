@@ -79,7 +79,8 @@ impl<B: TermBank> Machine<B> {
         Ok(noted)
     }
 
-    /// What a ground term comes to within `n` steps, with the term's annotations on its value; its ops go by `found`.
+    /// What a ground term comes to within `n` steps, with the term's annotations on its value; its
+    /// ops go by `found`.
     pub(crate) fn normalise(
         &mut self,
         found: &mut Vec<Op>,
