@@ -21,6 +21,7 @@ use Rattle.rec_sorts.specs.Evaluation.{Caller, Done, Eval, call, evaluate, evalu
 use Rattle.rec_sorts.proofs.Equations.{then_agrees}
 use Rattle.rec_sorts.specs.TermRules.{broken_by_elements, elements}
 use Rattle.rec_sorts.specs.Linked.{HasMoreSymbols}
+use Rattle.rec_memo.specs.Pairs.{Pairs}
 use Rattle.rec_engine.specs.Cells.{RoomOnly}
 use Rattle.rec_engine.specs.Engine.{EngineState, IsGiven, IsOutcome, RoomOnlyFor, SameEngine, eval_tree}
 use Rattle.rec_engine.specs.declared.cells.EngineFault.{EngineFault}
@@ -111,14 +112,14 @@ own-line y z w counted n i t same low here =
 -- ---- faults
 
 -- want of cells comes with a full bank
-pub fills-engine : (w : Store) (work : List Reference) (e : EngineFault) → RoomOnly {A = Outcome} w work (Err e) → FillsBank w (of_engine e)
-fills-engine w work engine.Memory h = tt
-fills-engine w work engine.Room h = h.full
+pub fills-engine : (w : Store) (work : List Reference) (m : Pairs) (e : EngineFault) → RoomOnly {A = Outcome} w work m (Err e) → FillsBank w (of_engine e)
+fills-engine w work m engine.Memory h = tt
+fills-engine w work m engine.Room h = h.exhausted.full
 
-pub fills-eval : (w : Store) (u : Option Tree) (e : EngineFault) → RoomOnlyFor {A = Reference} w u (Err e) → FillsBank w (of_engine e)
-fills-eval w u engine.Memory h = tt
-fills-eval w None engine.Room h = absurd h
-fills-eval w (Some u) engine.Room h = h.full
+pub fills-eval : (w : Store) (m : Pairs) (u : Option Tree) (e : EngineFault) → RoomOnlyFor {A = Reference} w m u (Err e) → FillsBank w (of_engine e)
+fills-eval w m u engine.Memory h = tt
+fills-eval w m None engine.Room h = absurd h
+fills-eval w m (Some u) engine.Room h = h.full
 
 pub fills-other : (w : Store) (f : LineFault) → (f ≡ Room → ⊥) → FillsBank w f
 fills-other w Memory h = tt
