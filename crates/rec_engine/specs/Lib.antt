@@ -1,6 +1,7 @@
 pub mod Flat
 pub mod Entries
 pub mod Constants
+pub mod Pace
 pub mod Cells
 pub mod Building
 pub mod Machine
@@ -11,3 +12,4 @@ pub mod Written
 pub mod Engine
 pub mod Given
 pub mod Made
+pub mod Remembered

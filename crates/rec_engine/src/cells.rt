@@ -5,10 +5,11 @@ ghost use Rattle.rx_term.specs.Store.{tree_at};
 ghost use Rattle.rx_term.specs.Steps.{MakesOrRefuses, Keeps, Reclaims};
 ghost use Rattle.rx_term.specs.declared.Term.{Term};
 ghost use Rattle.rec_match.specs.Held.{AllHeld};
-ghost use Rattle.rec_engine.specs.Constants.{KeepsKnown};
+ghost use Rattle.rec_engine.specs.Pace.{KeepsKnown};
 ghost use Rattle.rec_engine.specs.Cells.{built, StandsIn, MakesFor};
 
 use crate::constants::Constants;
+use rec_memo::Memo;
 use rx_term::{BankFault, Symbol, Term, TermBank};
 use thiserror::Error;
 
@@ -32,13 +33,14 @@ pub enum EngineFault {
     Room,
 }
 
-/// After how many new cells a reclaim is due at the latest, how many cells there were after the last one, and what was
-/// made of symbols alone since then.
+/// After how many new cells a reclaim is due at the latest, how many cells there were after the last one, what was made of
+/// symbols alone since then, and the results that are remembered.
 #[derive(Drop)]
 pub(crate) struct Pace {
     pub(crate) every: u32,
     pub(crate) floor: u32,
     pub(crate) constants: Constants,
+    pub(crate) memo: Memo,
 }
 
 /// Makes a node, once.
@@ -54,18 +56,20 @@ fn make_once<B: TermBank>(bank: &mut B, node: Node) -> Result<Term, BankFault>
     }
 }
 
-/// Gives back what is not needed; no constant is known any more.
+/// Gives back what is not needed; no constant is known any more, and no result of what was given back.
 fn reclaim<B: TermBank>(bank: &mut B, work: &[Term], pace: &mut Pace)
     requires { AllHeld (B.store bank.old) work.now }
     ensures reclaims { Reclaims (B.store bank.old) (B.store bank.new) work.now }
-    ensures known { KeepsKnown (B.store bank.old) (B.store bank.new) pace.old.constants pace.new.constants }
+    ensures known { KeepsKnown (B.store bank.old) (B.store bank.new) pace.old pace.new }
 {
     bank.reclaim(work);
+    pace.memo.retain_held(bank);
     pace.floor = bank.cells();
     pace.constants.clear();
 }
 
-/// Makes a node; where the bank is full, gives back what is not needed, and tries once more.
+/// Makes a node; where the bank is full, gives back what is not needed, and tries once more. Where there is no room even so,
+/// all results are forgotten.
 pub(crate) fn make_anyway<B: TermBank>(
     bank: &mut B,
     work: &[Term],
@@ -76,8 +80,8 @@ pub(crate) fn make_anyway<B: TermBank>(
     requires work { AllHeld (B.store bank.old) work.now }
     requires parts { StandsIn work.now node }
     ensures keeps { Keeps (B.store bank.old) (B.store bank.new) work.now }
-    ensures known { KeepsKnown (B.store bank.old) (B.store bank.new) pace.old.constants pace.new.constants }
-    ensures makes { MakesFor (B.store bank.new) work.now (built (B.store bank.old) node) result }
+    ensures known { KeepsKnown (B.store bank.old) (B.store bank.new) pace.old pace.new }
+    ensures makes { MakesFor (B.store bank.new) work.now pace.new.memo (built (B.store bank.old) node) result }
 {
     match make_once(bank, node) {
         Ok(t) => Ok(t),
@@ -87,7 +91,10 @@ pub(crate) fn make_anyway<B: TermBank>(
             match make_once(bank, node) {
                 Ok(t) => Ok(t),
                 Err(BankFault::Memory) => Err(EngineFault::Memory),
-                Err(BankFault::Full) => Err(EngineFault::Room),
+                Err(BankFault::Full) => {
+                    pace.memo.clear();
+                    Err(EngineFault::Room)
+                }
             }
         }
     }
@@ -100,7 +107,7 @@ const FEW: u32 = 16_384;
 pub(crate) fn reclaim_if_due<B: TermBank>(bank: &mut B, work: &[Term], pace: &mut Pace)
     requires { AllHeld (B.store bank.old) work.now }
     ensures keeps { Keeps (B.store bank.old) (B.store bank.new) work.now }
-    ensures known { KeepsKnown (B.store bank.old) (B.store bank.new) pace.old.constants pace.new.constants }
+    ensures known { KeepsKnown (B.store bank.old) (B.store bank.new) pace.old pace.new }
 {
     let due = pace.every.min(pace.floor.max(FEW));
     if bank.cells().saturating_sub(pace.floor) >= due {
@@ -119,8 +126,8 @@ pub(crate) fn make<B: TermBank>(
     requires work { AllHeld (B.store bank.old) work.now }
     requires parts { StandsIn work.now node }
     ensures keeps { Keeps (B.store bank.old) (B.store bank.new) work.now }
-    ensures known { KeepsKnown (B.store bank.old) (B.store bank.new) pace.old.constants pace.new.constants }
-    ensures makes { MakesFor (B.store bank.new) work.now (built (B.store bank.old) node) result }
+    ensures known { KeepsKnown (B.store bank.old) (B.store bank.new) pace.old pace.new }
+    ensures makes { MakesFor (B.store bank.new) work.now pace.new.memo (built (B.store bank.old) node) result }
 {
     reclaim_if_due(bank, work, pace);
     make_anyway(bank, work, pace, node)

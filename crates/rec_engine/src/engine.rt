@@ -14,6 +14,7 @@ use crate::code::{Code, Op};
 use crate::constants::Constants;
 use crate::machine::{Machine, State};
 use crate::terms::make_term;
+use rec_memo::Memo;
 use rec_sorts::{Checked, Links};
 use rx_term::{Term, TermBank};
 use std::alloc::Global;
@@ -62,6 +63,7 @@ impl<B: TermBank> Model for Engine<B> {
       spec = e.machine.checked.spec;
       options = e.options;
       bank = e.machine.bank;
+      memo = e.machine.state.pace.memo;
       work = e.machine.work.items;
     } };
 
@@ -97,10 +99,14 @@ impl<B: TermBank + Drop> Engine<B> {
         let Ok(constants) = Constants::new(alloc, checked.symbols()) else {
             return Err(EngineFault::Memory);
         };
+        let Ok(memo) = Memo::new(alloc, options.memo) else {
+            return Err(EngineFault::Memory);
+        };
         let pace = Pace {
             every: options.reclaim_every,
             floor: bank.cells(),
             constants,
+            memo,
         };
         let machine = Machine {
             checked,
@@ -134,7 +140,7 @@ impl<B: TermBank> Engine<B> {
         ensures term { IfOk result (λ t. tree_at (B.store self.new.bank) t ≡ eval_tree self.new.spec i) }
         ensures given { IfOk result (IsGiven self.new.spec (B.store self.new.bank)) }
         ensures kept { IfOk result (Contains self.new.work) }
-        ensures room { RoomOnlyFor (B.store self.new.bank) (eval_tree self.new.spec i) result }
+        ensures room { RoomOnlyFor (B.store self.new.bank) self.new.memo (eval_tree self.new.spec i) result }
     {
         let machine = &mut self.machine;
         let checked = &machine.checked;
@@ -160,7 +166,7 @@ impl<B: TermBank> Engine<B> {
         ensures rewriting { IfOk result (λ o. (u : Tree) → tree_at (B.store self.old.bank) t ≡ Some u
             → IsNormalised self.new.spec (B.store self.new.bank) n u o) }
         ensures kept { IfOk result (IsKept self.new.work) }
-        ensures room { RoomOnly (B.store self.new.bank) self.new.work result }
+        ensures room { RoomOnly (B.store self.new.bank) self.new.work self.new.memo result }
     {
         self.machine.normalise(&mut self.found, t, n)
     }

@@ -37,7 +37,7 @@ impl<B: TermBank> Machine<B> {
             → IsAnswer self.old.checked.spec (B.store self.new.bank) n u r) }
         ensures held { IfOk result (λ r. AllHeld (B.store self.new.bank) self.new.work.items) }
         ensures stands { IfOk result (StandsAbove self.new.work.items t) }
-        ensures room { RoomOnly (B.store self.new.bank) self.new.work.items result }
+        ensures room { RoomOnly (B.store self.new.bank) self.new.work.items self.new.state.pace.memo result }
     {
         self.work.clear();
         push(&mut self.work, t)?;
@@ -67,7 +67,7 @@ impl<B: TermBank> Machine<B> {
         ensures stays { StaysFor B.store self.old.work.items self.old self.new }
         ensures annotated { IfOk result (HasNotes (B.store self.old.bank) (B.store self.new.bank) t value) }
         ensures kept { IfOk result (Contains self.new.work.items) }
-        ensures room { RoomOnly (B.store self.new.bank) self.new.work.items result }
+        ensures room { RoomOnly (B.store self.new.bank) self.new.work.items self.new.state.pace.memo result }
     {
         let Some(anns) = self.bank.anns(t) else {
             return Ok(value);
@@ -94,7 +94,7 @@ impl<B: TermBank> Machine<B> {
         ensures outcome { IfOk result (λ o. (u : Tree) → tree_at (B.store self.old.bank) t ≡ Some u
             → IsOutcome self.old.checked.spec (B.store self.new.bank) n u o) }
         ensures kept { IfOk result (IsKept self.new.work.items) }
-        ensures room { RoomOnly (B.store self.new.bank) self.new.work.items result }
+        ensures room { RoomOnly (B.store self.new.bank) self.new.work.items self.new.state.pace.memo result }
     {
         let pc = self.code.ops.len();
         let stack = &mut self.state.pending;

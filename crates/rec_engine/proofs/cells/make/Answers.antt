@@ -15,7 +15,7 @@ pub returns-clause-keeps : goal.returns-clause-keeps
 returns-clause-keeps g c = Keeps-trans c.reclaim_if_due.ensures.keeps c.make_anyway.ensures.keeps
 
 pub returns-clause-makes : goal.returns-clause-makes
-returns-clause-makes g c = subst (λ o. MakesFor (g.B.TermBank.store c.make_anyway.new.bank) c.args.work.now o c.make_anyway.result) (kept-built c.reclaim_if_due.ensures.keeps c.requires.work c.args.node c.requires.parts) c.make_anyway.ensures.makes
+returns-clause-makes g c = subst (λ o. MakesFor (g.B.TermBank.store c.make_anyway.new.bank) c.args.work.now c.make_anyway.new.pace.memo o c.make_anyway.result) (kept-built c.reclaim_if_due.ensures.keeps c.requires.work c.args.node c.requires.parts) c.make_anyway.ensures.makes
 
 pub returns-clause-known : goal.returns-clause-known
 returns-clause-known g c = known-trans c.reclaim_if_due.ensures.known c.make_anyway.ensures.known

@@ -1,6 +1,7 @@
-use Rattle.std.proofs.Common.{IsSome, subst, sym, ◌∙◌}
+use Rattle.std.proofs.Common.{IsSome, refl, subst, sym, ◌∙◌}
 use Rattle.rx_term.specs.Steps.{Refuses}
 use Rattle.rec_engine.specs.Cells.{built}
+use Rattle.rec_engine.proofs.KnownConstants.{known-trans, known-refused, known-forgotten}
 use Rattle.rec_engine.proofs.KeptNodes.{kept-built}
 use Rattle.rx_term.proofs.KeepLemmas.{Keeps-after-refusal, exhausted}
 use Rattle.rec_engine.proofs.cells.make_anyway.Goals as goal
@@ -19,4 +20,11 @@ pub returns-in-Err-Full-make_once-clause-makes : goal.returns-in-Err-Full-make_o
 returns-in-Err-Full-make_once-clause-makes g c =
     let mid = g.B.TermBank.store c.reclaim.new.bank in
     let new = g.B.TermBank.store c.make_once-in-Err-Full.new.bank in
-    exhausted c.reclaim.ensures.reclaims (subst (λ e. Refuses mid new (built mid c.args.node) e) c.in-Err-Full-make_once.field-0-is c.in-Err-Full-make_once.ensures)
+    record {
+      exhausted = exhausted c.reclaim.ensures.reclaims (subst (λ e. Refuses mid new (built mid c.args.node) e) c.in-Err-Full-make_once.field-0-is c.in-Err-Full-make_once.ensures);
+      forgotten = c.clear.ensures.empty;
+    }
+
+pub returns-in-Err-Full-make_once-clause-known : goal.returns-in-Err-Full-make_once-clause-known
+returns-in-Err-Full-make_once-clause-known g c =
+    known-forgotten (known-trans (known-refused c.args.pace.now c.in-Err-Full.ensures) (known-trans c.reclaim.ensures.known (known-refused c.reclaim.new.pace c.in-Err-Full-make_once.ensures))) refl c.clear.ensures.empty

@@ -17,6 +17,7 @@ returns-in-Err-clause-ready g c = record {
   code = code-same c.args.self.now.checked.spec c.args.self.now.code _ refl refl refl c.in-Err.ensures.same c.requires.ready.code;
   linked = c.requires.ready.linked;
   constants = c.requires.ready.constants;
+  results = c.requires.ready.results;
 }
 
 pub evaluate-reached-requires-clause-ready : goal.evaluate-reached-requires-clause-ready
@@ -24,6 +25,7 @@ evaluate-reached-requires-clause-ready g c = record {
   code = code-loaded c.args.self.now.checked.spec (held_tree (g.B.TermBank.store c.args.self.now.bank) c.args.t) c.args.self.now.code _ refl refl refl c.in-Ok.ensures.loads c.requires.ready.code;
   linked = c.requires.ready.linked;
   constants = c.requires.ready.constants;
+  results = c.requires.ready.results;
 }
 
 pub evaluate-reached-requires-clause-own : goal.evaluate-reached-requires-clause-own
