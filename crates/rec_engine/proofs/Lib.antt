@@ -8,6 +8,7 @@ pub mod TurnLemmas
 pub mod StayLemmas
 pub mod RememberedLemmas
 pub mod PutLemmas
+pub mod CallTurn
 pub mod CodeLemmas
 pub mod EvaluationLemmas
 pub mod WriteLemmas
