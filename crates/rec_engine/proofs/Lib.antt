@@ -6,6 +6,9 @@ pub mod BuildingLemmas
 pub mod MachineLemmas
 pub mod TurnLemmas
 pub mod StayLemmas
+pub mod RememberedLemmas
+pub mod PutLemmas
+pub mod CallTurn
 pub mod CodeLemmas
 pub mod EvaluationLemmas
 pub mod WriteLemmas

@@ -12,6 +12,7 @@ ghost use Rattle.rec_engine.specs.Engine.{AreInRange, SameEngine, IsGiven, eval_
 use crate::cells::{EngineFault, Pace};
 use crate::code::{Code, Op};
 use crate::constants::Constants;
+use crate::hints::Hints;
 use crate::machine::{Machine, State};
 use crate::terms::make_term;
 use rec_memo::Memo;
@@ -102,6 +103,9 @@ impl<B: TermBank + Drop> Engine<B> {
         let Ok(memo) = Memo::new(alloc, options.memo) else {
             return Err(EngineFault::Memory);
         };
+        let Ok(hints) = Hints::new(alloc, checked.symbols() as usize, options.memo) else {
+            return Err(EngineFault::Memory);
+        };
         let pace = Pace {
             every: options.reclaim_every,
             floor: bank.cells(),
@@ -112,7 +116,7 @@ impl<B: TermBank + Drop> Engine<B> {
             checked,
             bank,
             code,
-            state: State::new(alloc, pace),
+            state: State::new(alloc, pace, hints),
             work: Vec::new(alloc),
         };
         Ok(Engine {

@@ -9,6 +9,7 @@ mod constants;
 mod engine;
 mod evaluation;
 mod given;
+mod hints;
 mod machine;
 mod terms;
 #[cfg(test)]
