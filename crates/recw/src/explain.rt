@@ -1,6 +1,8 @@
 //! What is told of a refusal beside its line: where it stands, and what is wrong, in words.
 
+use crate::expected::{expected_words, write_expected};
 use crate::refusals::words_of;
+use std::alloc::Global;
 use std::io;
 use std::io::Write;
 
@@ -82,6 +84,7 @@ fn show_line<W: Write>(spot: &Spot<'_>, out: &mut W) -> io::Result<()> {
 
 /// Tells of a refusal at a place of a text.
 pub fn explain_place<W: Write>(
+    alloc: Global,
     name: &str,
     rule: &str,
     text: &[u8],
@@ -92,18 +95,23 @@ pub fn explain_place<W: Write>(
     let Spot { line, column, .. } = spot;
     write!(out, "{name}:{line}:{column}: ")?;
     explain_rule(rule, out)?;
+    if let Some(words) = expected_words(alloc, rule, text, at) {
+        write_expected(words.as_slice(), out)?;
+    }
+    out.write_all(b"\n")?;
     show_line(&spot, out)
 }
 
 /// Tells of a refusal without a place.
 pub fn explain_text<W: Write>(name: &str, rule: &str, out: &mut W) -> io::Result<()> {
     write!(out, "{name}: ")?;
-    explain_rule(rule, out)
+    explain_rule(rule, out)?;
+    out.write_all(b"\n")
 }
 
 fn explain_rule<W: Write>(rule: &str, out: &mut W) -> io::Result<()> {
     match words_of(rule) {
-        Some(words) => writeln!(out, "{rule}: {words}"),
-        None => writeln!(out, "{rule}"),
+        Some(words) => write!(out, "{rule}: {words}"),
+        None => write!(out, "{rule}"),
     }
 }

@@ -2,6 +2,7 @@
 #![tactic(auto)]
 
 mod command;
+mod expected;
 mod explain;
 mod opened;
 mod program;

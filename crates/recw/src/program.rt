@@ -47,7 +47,7 @@ fn obey<H: Files, R: Read, W: Write, E: Write>(
             let end = perform(rt, alloc, asked, input, out, &mut told);
             let status = report::ended(end, told.place, err);
             if asked.explain {
-                let _ = told.explain(asked.request, end, err);
+                let _ = told.explain(alloc, asked.request, end, err);
             }
             status
         }

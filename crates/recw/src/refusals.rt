@@ -1,5 +1,7 @@
-//! The refusals in words.
+//! The refusals in words, and the tokens that a grammar may have.
 
+use rec_syntax::{Part, TokenKind as SpecificationToken};
+use rx_text::TokenKind as TermToken;
 use std::io;
 use std::io::Write;
 
@@ -78,6 +80,49 @@ pub fn words_of(name: &str) -> Option<&'static str> {
         }
     }
     None
+}
+
+/// What a specification's token is called.
+pub fn specification_token(kind: SpecificationToken) -> &'static str {
+    match kind {
+        SpecificationToken::PlainWord => "a plain word",
+        SpecificationToken::RecSpec => "`REC-SPEC`",
+        SpecificationToken::Section(Part::Sorts) => "`SORTS`",
+        SpecificationToken::Section(Part::Cons) => "`CONS`",
+        SpecificationToken::Section(Part::Opns) => "`OPNS`",
+        SpecificationToken::Section(Part::Vars) => "`VARS`",
+        SpecificationToken::Section(Part::Rules) => "`RULES`",
+        SpecificationToken::Section(Part::Eval) => "`EVAL`",
+        SpecificationToken::EndSpec => "`END-SPEC`",
+        SpecificationToken::If => "`if`",
+        SpecificationToken::AndIf => "`and-if`",
+        SpecificationToken::Colon => "`:`",
+        SpecificationToken::Open => "`(`",
+        SpecificationToken::Close => "`)`",
+        SpecificationToken::Comma => "`,`",
+        SpecificationToken::Arrow => "`->`",
+        SpecificationToken::Equal => "`-><-`",
+        SpecificationToken::Unequal => "`->/<-`",
+        SpecificationToken::End => "the end",
+    }
+}
+
+/// What an annotated term's token is called.
+pub fn term_token(kind: TermToken) -> &'static str {
+    match kind {
+        TermToken::Integer => "an integer",
+        TermToken::Name => "a name",
+        TermToken::Open => "`(`",
+        TermToken::Close => "`)`",
+        TermToken::OpenBracket => "`[`",
+        TermToken::CloseBracket => "`]`",
+        TermToken::OpenBrace => "`{`",
+        TermToken::CloseBrace => "`}`",
+        TermToken::Less => "`<`",
+        TermToken::Greater => "`>`",
+        TermToken::Comma => "`,`",
+        TermToken::End => "the end",
+    }
 }
 
 /// Writes the table of all refusals.

@@ -592,7 +592,7 @@ fn explains_refusals(rt: HostRuntime) -> Result<(), Fail> {
         spec: "REC-SPEC E\nSORTS N\r\nCONS a : -> N\n\tb: -> M\nEND-SPEC",
         terms: "[a,\"\u{e9}\",f(1",
     };
-    let rows: [(&[&str], u8, &str); 7] = [
+    let rows: [(&[&str], u8, &str); 9] = [
         (
             &["eval", "--explain", "spec"],
             1,
@@ -601,10 +601,24 @@ fn explains_refusals(rt: HostRuntime) -> Result<(), Fail> {
              \tb: -> M\n    \t      ^\n",
         ),
         (
+            &["eval", "--explain", "terms"],
+            1,
+            "recw: spec G at byte 0\n\
+             terms:1:1: G: no specification has this here; expected `REC-SPEC`\n    \
+             [a,\"\\xc3\\xa9\",f(1\n    ^\n",
+        ),
+        (
+            &["aterm", "spec", "--explain"],
+            1,
+            "recw: term A at byte 9\n\
+             spec:1:10: A: no annotated term has this here; expected `(`, `{` or the end\n    \
+             REC-SPEC E\n             ^\n",
+        ),
+        (
             &["aterm", "terms", "--explain"],
             1,
             "recw: term A at byte 11\n\
-             terms:1:12: A: no annotated term has this here\n    \
+             terms:1:12: A: no annotated term has this here; expected `)`, `{` or `,`\n    \
              [a,\"\\xc3\\xa9\",f(1\n                     ^\n",
         ),
         (
@@ -621,7 +635,8 @@ fn explains_refusals(rt: HostRuntime) -> Result<(), Fail> {
             &["make", "--explain", "<int", "[a]"],
             1,
             "recw: pattern A at byte 4\n\
-             PATTERN:1:5: A: no annotated term has this here\n    <int\n        ^\n",
+             PATTERN:1:5: A: no annotated term has this here; expected `(`, `{` or `>`\n    \
+             <int\n        ^\n",
         ),
         (
             &["share", "--explain", "none"],
@@ -639,6 +654,14 @@ fn explains_refusals(rt: HostRuntime) -> Result<(), Fail> {
         assert_eq!(rt; ran.status, status, "{words:?}");
         assert_eq!(rt; ran.err.as_str(), said, "{words:?}");
     }
+    let text = "REC-SPEC E CONS z : Nat Nat";
+    let ran = run(&rt, &["eval", "--explain"], text)?;
+    assert_eq!(rt;
+        ran.err.as_str(),
+        "recw: spec G at byte 27\n\
+         <stdin>:1:28: G: no specification has this here; expected a plain word or `->`\n    \
+         REC-SPEC E CONS z : Nat Nat\n                               ^\n"
+    );
     let ran = run(&rt, &["eval", "--explain", "--cells", "3"], ADDITION)?;
     assert_eq!(rt;
         ran.err.as_str(),

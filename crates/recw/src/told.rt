@@ -63,19 +63,25 @@ impl<'a> Told<'a> {
     /// Explains how a run ended, where there is more to say than the line that was written.
     pub fn explain<W: Write>(
         &self,
+        alloc: Global,
         request: Request<'_>,
         end: Result<Finish, RunFault>,
         out: &mut W,
     ) -> io::Result<()> {
         match end {
-            Ok(Finish::Refused) => self.explain_refusal(request, out),
+            Ok(Finish::Refused) => self.explain_refusal(alloc, request, out),
             Err(RunFault::Read) => self.explain_trouble(out),
             Err(RunFault::Room { .. }) => explain_room(request, out),
             _ => Ok(()),
         }
     }
 
-    fn explain_refusal<W: Write>(&self, request: Request<'_>, out: &mut W) -> io::Result<()> {
+    fn explain_refusal<W: Write>(
+        &self,
+        alloc: Global,
+        request: Request<'_>,
+        out: &mut W,
+    ) -> io::Result<()> {
         let Some(Refused { source, rule }) = read_line(self.line.as_slice()) else {
             return Ok(());
         };
@@ -83,7 +89,7 @@ impl<'a> Told<'a> {
         match self.place {
             Some(place) => {
                 let text = self.text_of(request, source);
-                explain_place(name, rule, text, place.at as usize, out)
+                explain_place(alloc, name, rule, text, place.at as usize, out)
             }
             None => explain_text(name, rule, out),
         }
