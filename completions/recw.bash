@@ -15,6 +15,7 @@ _recw_commands=(
 _recw_eval_options=(
     '--steps N'
     '--cells C'
+    '--memo M'
     '--reclaim K'
     '--count'
 )

@@ -19,5 +19,6 @@ complete -c recw -n '__fish_seen_subcommand_from eval aterm share match make' -l
 set -l eval '__fish_seen_subcommand_from eval'
 complete -c recw -n $eval -l steps -x -d 'Most steps that a term may take, up to 10^18'
 complete -c recw -n $eval -l cells -x -d 'Most cells that terms may take, 1 to 2^30'
+complete -c recw -n $eval -l memo -x -d 'Most results to remember, up to 2^20'
 complete -c recw -n $eval -l reclaim -x -d 'New cells between two reclaims, 1 to 2^30'
 complete -c recw -n $eval -l count -d 'Print the steps that each term took behind its value'

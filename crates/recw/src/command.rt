@@ -8,6 +8,9 @@ pub const MOST_STEPS: u64 = 1_000_000_000_000_000_000;
 /// The most cells, and the most new cells between two reclaims.
 pub const MOST_CELLS: u32 = 1_073_741_824;
 
+/// The most results that are remembered.
+pub const MOST_RESULTS: u32 = 1_048_576;
+
 /// The version, with the kit by which the program is proved.
 const VERSION: &str = "0.1.0, proved with rattle-kit-13b (logic dac8208d650f15bf)";
 
@@ -45,6 +48,7 @@ fn eval_command<'a>(alloc: Global) -> Result<Command<'a>, AllocError> {
         .arg(file(alloc, "TERMS", "File of an ATerm list of further terms"))?
         .arg(steps(alloc))?
         .arg(cells(alloc))?
+        .arg(memo(alloc))?
         .arg(reclaim(alloc))?
         .arg(count(alloc))?
         .arg(explain(alloc))
@@ -123,6 +127,15 @@ fn cells<'a>(alloc: Global) -> Arg<'a> {
         .value_parser(value_parser!(u32).range(1..=i64::from(MOST_CELLS)))
         .default_value("16777216")
         .help("Most cells that terms may take, 1 to 2^30")
+}
+
+fn memo<'a>(alloc: Global) -> Arg<'a> {
+    Arg::new(alloc, "memo")
+        .long("memo")
+        .value_name("M")
+        .value_parser(value_parser!(u32).range(0..=i64::from(MOST_RESULTS)))
+        .default_value("65536")
+        .help("Most results to remember, up to 2^20")
 }
 
 fn reclaim<'a>(alloc: Global) -> Arg<'a> {

@@ -1,12 +1,10 @@
 //! What the words ask for.
 
-use crate::command::{self, MOST_CELLS, MOST_STEPS};
+use crate::command::{self, MOST_CELLS, MOST_RESULTS, MOST_STEPS};
 use clap::error::ErrorKind;
 use clap::{ArgMatches, Error};
 use rec_run::RunOptions;
 use std::alloc::Global;
-
-const MEMO: u32 = 65_536;
 
 #[derive(Clone, Copy, Debug)]
 pub enum Request<'a> {
@@ -92,7 +90,7 @@ fn options_of(matches: &ArgMatches<'_>) -> Option<RunOptions> {
     Some(RunOptions {
         steps: matches.get_one::<u64>("steps")?.min(MOST_STEPS),
         cells: matches.get_one::<u32>("cells")?.clamp(1, MOST_CELLS),
-        memo: MEMO,
+        memo: matches.get_one::<u32>("memo")?.min(MOST_RESULTS),
         reclaim: matches.get_one::<u32>("reclaim")?.clamp(1, MOST_CELLS),
         count: matches.get_flag("count"),
     })

@@ -41,8 +41,10 @@ fn run_over<H: Files, R: Read>(
 
 #[test]
 fn ends_with_its_status(rt: HostRuntime) -> Result<(), Fail> {
-    let rows: [(&[&str], &str, u8, &str, &str); 18] = [
+    let rows: [(&[&str], &str, u8, &str, &str); 20] = [
         (&["eval"], ADDITION, 0, "s(s(s(z)))\n", ""),
+        (&["eval", "--memo", "0"], ADDITION, 0, "s(s(s(z)))\n", ""),
+        (&["eval", "--memo=1048576"], ADDITION, 0, "s(s(s(z)))\n", ""),
         (&["eval", "--reclaim", "1"], ADDITION, 0, "s(s(s(z)))\n", ""),
         (&["eval", "--cells", "64"], ADDITION, 0, "s(s(s(z)))\n", ""),
         (
@@ -278,7 +280,7 @@ fn refuses_words(rt: HostRuntime) -> Result<(), Fail> {
         &["eval", "--cells", "1073741825"],
         &["eval", "--reclaim", "0"],
         &["eval", "--reclaim", "1073741825"],
-        &["eval", "--memo", "0"],
+        &["eval", "--memo", "1048577"],
         &["eval", "--steps", "3", "--steps", "4"],
         &["eval", "--count", "--count"],
         &["eval", "--steps", "1000000000000000001"],
@@ -505,6 +507,7 @@ Arguments:
 Options:
       --steps <N>    Most steps that a term may take, up to 10^18 [default: 1000000]
       --cells <C>    Most cells that terms may take, 1 to 2^30 [default: 16777216]
+      --memo <M>     Most results to remember, up to 2^20 [default: 65536]
       --reclaim <K>  New cells between two reclaims, 1 to 2^30 [default: 262144]
       --count        Print the steps that each term took behind its value
       --explain      Say in words why a text is refused, and where
