@@ -1,6 +1,6 @@
 //! The engine over both banks.
 
-ghost use Rattle.std.specs.Prelude.{◌≡◌, ◌<◌, IsSome, length};
+ghost use Rattle.std.specs.Prelude.{◌≡◌, ◌<◌, ◌≤◌, IsSome, length};
 ghost use Rattle.rx_term.specs.Store.{tree_at};
 ghost use Rattle.rec_engine.specs.Engine.{AreInRange, IsGiven};
 
@@ -26,6 +26,14 @@ const COND: &[u8] =
 /// Each term is an application of `h` to a constant of its own, which no rule changes.
 const TWENTY: &[u8] =
     b"REC-SPEC Twenty SORTS N CONS c1 : -> N c2 : -> N c3 : -> N c4 : -> N c5 : -> N c6 : -> N c7 : -> N c8 : -> N c9 : -> N c10 : -> N c11 : -> N c12 : -> N c13 : -> N c14 : -> N c15 : -> N c16 : -> N c17 : -> N c18 : -> N c19 : -> N c20 : -> N OPNS h : N -> N EVAL h(c1) h(c2) h(c3) h(c4) h(c5) h(c6) h(c7) h(c8) h(c9) h(c10) h(c11) h(c12) h(c13) h(c14) h(c15) h(c16) h(c17) h(c18) h(c19) h(c20) END-SPEC";
+
+/// `k(s(s(z)))` is called twice, in three steps each.
+const HIT: &[u8] =
+    b"REC-SPEC Hit SORTS Nat Pair CONS z : -> Nat s : Nat -> Nat p : Nat Nat -> Pair OPNS k : Nat -> Nat d : Nat -> Pair VARS X : Nat RULES k(z) -> z k(s(X)) -> k(X) d(X) -> p(k(X),k(X)) EVAL d(s(s(z))) END-SPEC";
+
+/// It comes to `z` in 3 * 2^50 - 2 steps.
+const FAST: &[u8] =
+    b"REC-SPEC Fast SORTS Nat CONS z : -> Nat s : Nat -> Nat OPNS k : Nat -> Nat q : Nat Nat -> Nat VARS X Y : Nat RULES k(z) -> z k(s(X)) -> q(k(X),k(X)) q(X,Y) -> X EVAL k(s(s(s(s(s(s(s(s(s(s(s(s(s(s(s(s(s(s(s(s(s(s(s(s(s(s(s(s(s(s(s(s(s(s(s(s(s(s(s(s(s(s(s(s(s(s(s(s(s(s(z))))))))))))))))))))))))))))))))))))))))))))))))))) END-SPEC";
 
 const OPTIONS: Options = Options {
     memo: 0,
@@ -207,6 +215,53 @@ fn cells_of_twenty<B: TermBank + Drop>(alloc: Global, bank: B) -> Result<(u32, u
     let mut engine = engine_for(alloc, TWENTY, bank, options)?;
     let values = count_values(alloc, &mut engine)?;
     Ok((values, engine.bank().cells()))
+}
+
+/// Whether a call that comes again costs what it cost, where so many results are remembered and
+/// so many cells are made between two reclaims.
+fn repeats_calls<B: TermBank + Drop>(
+    alloc: Global,
+    bank: B,
+    memo: u32,
+    reclaim_every: u32,
+) -> Result<bool, Fail>
+    requires { (memo ≤ 1048576) × (1 ≤ reclaim_every) × (reclaim_every ≤ 1073741824) }
+{
+    let options = Options {
+        memo,
+        reclaim_every,
+    };
+    let mut engine = engine_for(alloc, HIT, bank, options)?;
+    let value = comes_to(alloc, &mut engine, 0, 9, b"p(z,z)", 7)?;
+    Ok(value && is_over(alloc, &mut engine, 0, 6)?)
+}
+
+/// Whether so many steps that only remembered results make them quick are counted one by one.
+fn remembers<B: TermBank + Drop>(alloc: Global, bank: B) -> Result<bool, Fail> {
+    let options = Options {
+        memo: 65_536,
+        reclaim_every: 262_144,
+    };
+    let mut engine = engine_for(alloc, FAST, bank, options)?;
+    let steps = 3_377_699_720_527_870;
+    let value = comes_to(alloc, &mut engine, 0, steps, b"z", steps)?;
+    Ok(value && is_over(alloc, &mut engine, 0, steps - 1)?)
+}
+
+#[test]
+fn repeated_calls(rt: HostRuntime) -> Result<(), Fail> {
+    let alloc = rt.alloc();
+    assert!(rt; repeats_calls(alloc, PlainBank::new(alloc, 100)?, 0, 262_144)?);
+    assert!(rt; repeats_calls(alloc, PlainBank::new(alloc, 100)?, 1, 262_144)?);
+    assert!(rt; repeats_calls(alloc, SharedBank::new(alloc, 100)?, 65_536, 1)?);
+    Ok(())
+}
+
+#[test]
+fn remembered_results(rt: HostRuntime) -> Result<(), Fail> {
+    let alloc = rt.alloc();
+    assert!(rt; remembers(alloc, SharedBank::new(alloc, 10_000)?)?);
+    Ok(())
 }
 
 #[test]
