@@ -308,7 +308,7 @@ const MOST_NODES: usize = 65_536;
 /// How many nodes a symbol's tree may have for each register of each row.
 const NODES_FOR_ONE: usize = 4;
 
-/// The most nodes that the tree of a symbol with so many arguments may have.
+/// The most nodes that the tree of a symbol with these rows and so many arguments may have.
 fn most_nodes(rows: &[CodeRow], width: u32) -> usize {
     let registers = (width as usize).saturating_add(1);
     let places = rows.len().saturating_mul(registers);
