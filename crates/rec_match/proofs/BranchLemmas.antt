@@ -4,7 +4,7 @@ use Rattle.std.proofs.lemmas.Bool.{cases_eq, eqb-true, eq-eqb, ltb-true, leb-tru
 use Rattle.std.proofs.lemmas.List.{append-nil, length-append, length-set, get_or-set_same, get_or-set_other, get_or-append-add, get_or-map}
 use Rattle.std.proofs.lemmas.Option.{get_or_from_slice_get}
 use Rattle.rx_term.specs.declared.Symbol as bank
-use Rattle.std.specs.Prelude.{ℕ, zero, suc, ◌+◌, ◌-◌, ◌<◌, ◌≤◌, ◌≡◌, ◌≢◌, ◌⊎◌, Bool, true, false, ◌&&◌, ◌||◌, List, [], ◌∷◌, ◌++◌, length, get_or, set, nat_eq, nat_le, nat_lt, bytes_eq, if◌then◌else◌, slice_get, Some}
+use Rattle.std.specs.Prelude.{ℕ, zero, suc, ◌+◌, ◌-◌, ◌<◌, ◌≤◌, ◌≡◌, ◌≢◌, ◌⊎◌, Bool, true, false, ◌&&◌, ◌||◌, List, [], ◌∷◌, ◌++◌, All, length, map, take, get_or, set, nat_eq, nat_le, nat_lt, bytes_eq, if◌then◌else◌, slice_get, Some}
 use Rattle.rec_syntax.specs.Syntax.{Spec}
 use Rattle.rec_sorts.specs.Lookup.{symbols}
 use Rattle.rec_sorts.specs.Numbering.{name_of, arity_of}
@@ -15,13 +15,16 @@ use Rattle.rec_match.specs.Rows.{Row, opened_cells, kept_cells, changed}
 use Rattle.rec_match.specs.Forests.{Cases, case_at, child_at, no_child, number_at}
 use Rattle.rec_match.specs.Growing.{State, AllWithin, GrowsSwitch, Extends}
 use Rattle.rec_match.specs.Marking.{AreListed}
-use Rattle.rec_match.specs.Parts.{Coded, AreDistinct, AreMarks, opened_codes, kept_codes, changed_codes}
+use Rattle.rec_match.specs.Parts.{Coded, coded_of, AreDistinct, AreMarks, opened_codes, kept_codes, changed_codes}
+use Rattle.rec_match.specs.Shares.{symbols_of, IsShare, AreShares}
 use Rattle.rec_match.specs.Tasks.{Task, IsGround, Growing, Steps, IsBranch, Covers, Adds, WritesSwitch, Branched, BranchesOut, numbers_of}
 use Rattle.rec_match.specs.declared.forest.Child.{Child}
 use Rattle.rec_match.specs.declared.forest.Forest.{Forest}
 use Rattle.rec_match.specs.declared.forest.Node.TheVariants.{Switch}
 use Rattle.rec_match.specs.declared.parts.Parts.{Parts}
+use Rattle.rec_match.specs.declared.shares.Share.{Share}
 use Rattle.rec_match.proofs.LeftLemmas.{left_opened, left_kept}
+use Rattle.rec_match.proofs.ShareLemmas.{symbol_at, symbols_long, Popped, popped_front}
 use Rattle.rec_match.proofs.TaskLemmas.{Added, added, goes_more, goes_written}
 
 -- a name with a number of arguments is that of a marked symbol before one
@@ -132,7 +135,7 @@ module _ (y : Spec) (ns : List ℕ) (ps : Parts) where
 
   -- no child so far
   pub branched_none : (f : Forest) (ts : List Task) (s : ℕ → State) (t : Task) (register low : ℕ) (ks : List ℕ) (window : List Child) → ((q : ℕ) → (get_or window q no_child).node ≡ 0) → Growing y ns ps f (t ∷ ts) s
-      → Branched y ns ps f ts s t f ts register low ks window 0
+      → Branched y ns ps f ts s t f ts register low ks window (length ks)
   branched_none f ts s t register low ks window none grow = record {
     goes = record {
       states = s;
@@ -140,19 +143,19 @@ module _ (y : Spec) (ns : List ℕ) (ps : Parts) where
       growing = grow;
       kept = λ n lt away. (away, refl);
     };
-    branches = record { each = λ q lt some. absurd (some (none q)); all = λ i lt. absurd (let bad : ⊥ = omega (arith, lt) in bad) };
+    branches = record { each = λ q lt some. absurd (some (none q)); all = λ i le lt. absurd (let bad : ⊥ = omega (arith, le, lt) in bad) };
   }
 
   -- one symbol more
-  pub branched_more : (ground : IsGround y ns ps) (f : Forest) (ts : List Task) (s : ℕ → State) (n width : ℕ) (coded : List Coded) (g h : Forest) (us vs : List Task) (register low : ℕ) (ks : List ℕ) (window window' : List Child) (m k node : ℕ)
-      → k < length (symbols y) → get_or ks m 0 ≡ k → low ≤ number_at ns k → number_at ns k - low < length window
-      → Branched y ns ps f ts s (record { node = n; width = width; rows = coded }) g us register low ks window m
+  pub branched_more : (ground : IsGround y ns ps) (f : Forest) (ts : List Task) (s : ℕ → State) (n width : ℕ) (coded : List Coded) (g h : Forest) (us vs : List Task) (register low : ℕ) (ks : List ℕ) (window window' : List Child) (m next k node : ℕ)
+      → next ≡ m + 1 → k < length (symbols y) → get_or ks m 0 ≡ k → low ≤ number_at ns k → number_at ns k - low < length window
+      → Branched y ns ps f ts s (record { node = n; width = width; rows = coded }) g us register low ks window next
       → Adds g us h vs (width + arity_of y k) (changed_codes (opened_codes ps register k width) coded) node
       → window' ≡ set window (number_at ns k - low) (record { node = node; count = arity_of y k })
-      → Branched y ns ps f ts s (record { node = n; width = width; rows = coded }) h vs register low ks window' (m + 1)
-  branched_more ground f ts s n width coded g h us vs register low ks window window' m k node lt is_next le within x a e = record {
+      → Branched y ns ps f ts s (record { node = n; width = width; rows = coded }) h vs register low ks window' m
+  branched_more ground f ts s n width coded g h us vs register low ks window window' m next k node one lt is_next le within x a e = record {
     goes = goes_more y ns ps f g h (t ∷ ts) (t ∷ us) (t ∷ vs) s x.goes ad.goes;
-    branches = record { each = λ q l some. each q l some (cases_eq q at); all = λ i l. all i l (cases_eq i m) (cases_eq (number_at ns (get_or ks i 0) - low) at) };
+    branches = record { each = λ q l some. each q l some (cases_eq q at); all = λ i from l. all i from l (cases_eq i m) (cases_eq (number_at ns (get_or ks i 0) - low) at) };
   }
     where
       t : Task
@@ -216,16 +219,16 @@ module _ (y : Spec) (ns : List ℕ) (ps : Parts) where
           (branch_later g h u ad.goes.states ad.goes.extends n register (low + q) (get_or window q no_child) there
           (x.branches.each q (omega (arith, l, lw)) (λ z. some (ap (λ (c : Child). c.node) is ∙ z))))
 
-      all : (i : ℕ) → i < m + 1 → (i ≡ m) ⊎ (i ≢ m) → (number_at ns (get_or ks i 0) - low ≡ at) ⊎ (number_at ns (get_or ks i 0) - low ≢ at) → (get_or window' (number_at ns (get_or ks i 0) - low) no_child).node ≢ 0
-      all i l o (inl is) = λ z. some_node (sym (ap (λ (c : Child). c.node) (ap (λ j. get_or window' j no_child) is ∙ same)) ∙ z)
-      all i l (inl im) (inr ne) = absurd (ne (ap (λ j. number_at ns (get_or ks j 0) - low) im ∙ ap (λ j. number_at ns j - low) is_next))
-      all i l (inr ine) (inr ne) = λ z. x.branches.all i (omega (arith, l, ine)) (sym (ap (λ (c : Child). c.node) (other (number_at ns (get_or ks i 0) - low) ne)) ∙ z)
+      all : (i : ℕ) → m ≤ i → i < length ks → (i ≡ m) ⊎ (i ≢ m) → (number_at ns (get_or ks i 0) - low ≡ at) ⊎ (number_at ns (get_or ks i 0) - low ≢ at) → (get_or window' (number_at ns (get_or ks i 0) - low) no_child).node ≢ 0
+      all i from l o (inl is) = λ z. some_node (sym (ap (λ (c : Child). c.node) (ap (λ j. get_or window' j no_child) is ∙ same)) ∙ z)
+      all i from l (inl im) (inr ne) = absurd (ne (ap (λ j. number_at ns (get_or ks j 0) - low) im ∙ ap (λ j. number_at ns j - low) is_next))
+      all i from l (inr ine) (inr ne) = λ z. x.branches.all i (omega (arith, from, ine, one)) l (sym (ap (λ (c : Child). c.node) (other (number_at ns (get_or ks i 0) - low) ne)) ∙ z)
 
   -- a switch was written, and its children wait
   pub switch_steps : (ground : IsGround y ns ps) (f g h e : Forest) (ts us vs : List Task) (n width register low : ℕ) (coded : List Coded) (other : ℕ) (marks : List Bool) (ks : List ℕ) (window : List Child)
       → AreListed marks ks → Covers ns ks low (length window) → register < width
       → Adds f ts g us width (changed_codes (kept_codes ps register marks) coded) other
-      → BranchesOut y ns ps g us width coded h vs register low ks window (length ks)
+      → BranchesOut y ns ps g us width coded h vs register low ks window 0
       → WritesSwitch h e n register low window other
       → Steps y ns ps f ((record { node = n; width = width; rows = coded }) ∷ ts) e vs
   switch_steps ground f g h e ts us vs n width register low coded other marks ks window listed covers there a out w s grow =
@@ -254,7 +257,7 @@ module _ (y : Spec) (ns : List ℕ) (ps : Parts) where
       u : ℕ → State
       u = ad.goes.states
 
-      b : Branched y ns ps g us u t h vs register low ks window (length ks)
+      b : Branched y ns ps g us u t h vs register low ks window 0
       b = out n u ad.goes.growing
 
       v : ℕ → State
@@ -306,7 +309,7 @@ module _ (y : Spec) (ns : List ℕ) (ps : Parts) where
             record {
               symbol = m.symbol;
               declared = m.below;
-              child = λ z. subst (λ j. (get_or window (number_at ns j - low) no_child).node ≢ 0) o.2 (b.branches.all o.0 o.1) (sym (ap (λ (d : Child). d.node) (case_is (number_at ns m.symbol) ∙ window_in h.children.items window low (number_at ns m.symbol) c0 (omega (arith, c0, c1)))) ∙ z);
+              child = λ z. subst (λ j. (get_or window (number_at ns j - low) no_child).node ≢ 0) o.2 (b.branches.all o.0 (let le : 0 ≤ o.0 = omega arith in le) o.1) (sym (ap (λ (d : Child). d.node) (case_is (number_at ns m.symbol) ∙ window_in h.children.items window low (number_at ns m.symbol) c0 (omega (arith, c0, c1)))) ∙ z);
               named = m.named;
               counted = m.counted;
             });
@@ -320,6 +323,35 @@ module _ (y : Spec) (ns : List ℕ) (ps : Parts) where
             let is : c.symbol ≡ k = ground.numbers_differ c.symbol k c.declared lt c.numbered in
             c.state ∙ ap (λ i. opened_state y register i (v n)) is);
       }
+
+-- the last share that is left has a symbol with a place in the window
+pub record IsNextShare (n : ℕ) (ns : List ℕ) (shares rest : List Share) (s : Share) (low span : ℕ) : Type 0 where
+  pub at : get_or (symbols_of shares) (length rest) 0 ≡ s.symbol
+  pub declared : s.symbol < n
+  pub from_low : low ≤ number_at ns s.symbol
+  pub below : number_at ns s.symbol < low + span
+
+pub next_share : (n : ℕ) (ns : List ℕ) (shares old rest : List Share) (s : Share) (low span : ℕ) → take (length old) shares ≡ old → old ≡ rest ++ s ∷ [] → All (λ (k : ℕ). k < n) (symbols_of shares) → Covers ns (symbols_of shares) low span
+    → IsNextShare n ns shares rest s low span
+next_share n ns shares old rest s low span front e declared covers = record {
+  at = at;
+  declared = subst (λ (k : ℕ). k < n) at (declared (length rest) 0 lt);
+  from_low = subst (λ (k : ℕ). low ≤ number_at ns k) at (covers (length rest) lt).0;
+  below = subst (λ (k : ℕ). number_at ns k < low + span) at (covers (length rest) lt).1;
+}
+  where
+    p : Popped shares rest s
+    p = popped_front shares old rest s front e
+
+    lt : length rest < length (symbols_of shares)
+    lt = let l = symbols_long shares in let there = p.there in omega (arith, l, there)
+
+    at : get_or (symbols_of shares) (length rest) 0 ≡ s.symbol
+    at = symbol_at shares (length rest) s p.there ∙ ap (λ (x : Share). x.symbol) (p.last s)
+
+-- what is left for the symbol of a share
+pub share_rows : (ps : Parts) (r base : ℕ) (coded : List Coded) (shares rest : List Share) (s : Share) → AreShares ps r base (symbols_of shares) coded shares → Popped shares rest s → map coded_of s.rows.items ≡ changed_codes (opened_codes ps r s.symbol base) coded
+share_rows ps r base coded shares rest s a p = subst (IsShare ps r base coded) (p.last s) (a.each (length rest) s p.there)
 
 -- the number of a symbol in the bank
 pub number_is : (ss : List bank.Symbol) (k : ℕ) (s : bank.Symbol) → k < length ss → slice_get ss k ≡ Some s → number_at (numbers_of ss) k ≡ s.0

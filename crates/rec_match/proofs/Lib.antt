@@ -36,3 +36,4 @@ pub mod ValueLemmas
 pub mod TreeAnswers
 pub mod RootRowLemmas
 pub mod GrownLemmas
+pub mod ShareLemmas

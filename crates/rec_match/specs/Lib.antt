@@ -17,3 +17,4 @@ pub mod Tasks
 pub mod Pushed
 pub mod Starting
 pub mod Marking
+pub mod Shares

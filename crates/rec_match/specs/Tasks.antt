@@ -96,10 +96,10 @@ pub record IsBranch (y : Spec) (ns : List ℕ) (f : Forest) (s : ℕ → State) 
   pub there : child.node < length f.nodes.items
   pub state : s child.node ≡ record { width = (s n).width + arity_of y symbol; rows = changed (opened_cells y register (name_of y (Symbol symbol)) (arity_of y symbol) (s n).width) (s n).rows }
 
--- a window has children of symbols, and among them those of the first ones of some
+-- a window has children of symbols, and among them those of some from a place on
 pub record Branches (y : Spec) (ns : List ℕ) (f : Forest) (s : ℕ → State) (n register low : ℕ) (ks : List ℕ) (window : List Child) (m : ℕ) : Type 0 where
   pub each : (q : ℕ) → q < length window → (get_or window q no_child).node ≢ 0 → IsBranch y ns f s n register (low + q) (get_or window q no_child)
-  pub all : (i : ℕ) → i < m → (get_or window (number_at ns (get_or ks i 0) - low) no_child).node ≢ 0
+  pub all : (i : ℕ) → m ≤ i → i < length ks → (get_or window (number_at ns (get_or ks i 0) - low) no_child).node ≢ 0
 
 -- the numbers of symbols stand in a window
 abbrev pub Covers : List ℕ → List ℕ → ℕ → ℕ → Type 0
@@ -129,7 +129,7 @@ pub record WritesSwitch (f g : Forest) (n register low : ℕ) (window : List Chi
   pub places : g.places.items ≡ f.places.items
   pub children : g.children.items ≡ f.children.items ++ window
 
--- children of the first ones of some symbols were added while a node waits
+-- children of some symbols from a place on were added while a node waits
 pub record Branched (y : Spec) (ns : List ℕ) (ps : Parts) (f : Forest) (ts : List Task) (s : ℕ → State) (t : Task) (g : Forest) (us : List Task) (register low : ℕ) (ks : List ℕ) (window : List Child) (m : ℕ) : Type 0 where
   pub goes : GoesOn y ns ps f (t ∷ ts) s g (t ∷ us)
   pub branches : Branches y ns g goes.states t.node register low ks window m

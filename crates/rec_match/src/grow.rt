@@ -5,6 +5,7 @@ ghost use Rattle.rec_sorts.specs.Lookup.{symbols};
 ghost use Rattle.rec_match.specs.Forests.{no_child, number_at};
 ghost use Rattle.rec_match.specs.Marking.{AreMarked, HasMarks};
 ghost use Rattle.rec_match.specs.Parts.{coded_of, IsCode};
+ghost use Rattle.rec_match.specs.Shares.{symbols_of, AreShares};
 ghost use Rattle.rec_match.specs.Tasks.{
   task_of,
   numbers_of,
@@ -26,6 +27,7 @@ ghost use Rattle.rec_match.specs.Tasks.{
 use crate::forest::{Child, Forest, Node, Place};
 use crate::marks::Marks;
 use crate::parts::{Code, CodeRow, Parts};
+use crate::shares::Share;
 use rec_sorts::{Checked, Links, Meaning};
 use std::alloc::{AllocError, Global};
 
@@ -200,34 +202,21 @@ impl Parts {
         Ok(())
     }
 
-    /// Whether a row asks a register for a symbol.
-    fn asks(&self, codes: &[Code], register: u32) -> bool
-        requires { All (IsCode self.now) codes.now }
-    {
-        for code in codes {
-            if code.register == register {
-                if let Meaning::Symbol(_) = self.parts[code.part as usize].meaning {
-                    return true;
-                }
-            }
-        }
-        false
-    }
-
-    /// What a switch costs: a row that does not ask for a symbol is copied for each symbol, and
-    /// one that does is passed over for each other one.
+    /// What a switch costs: a row comes into the share of the symbol that it asks for, and one that
+    /// asks for none is copied for each symbol.
     fn cost(&self, rows: &[CodeRow], register: u32, symbols: u64) -> u64
         requires { All (λ row. All (IsCode self.now) row.codes.items) rows.now }
     {
         let mut cost = 0u64;
         for row in rows {
             let size = 1 + row.codes.len() as u64;
-            let copies = if self.asks(&row.codes, register) {
-                symbols / PASSED_FOR_ONE
-            } else {
-                size.saturating_mul(symbols)
+            let copies = match self.asked(&row.codes, register) {
+                Some(_) => 1,
+                None => symbols.saturating_add(1),
             };
-            cost = cost.saturating_add(size).saturating_add(copies);
+            cost = cost
+                .saturating_add(size)
+                .saturating_add(size.saturating_mul(copies));
         }
         cost
     }
@@ -300,12 +289,6 @@ fn span(low: u64, high: u64) -> Option<u32>
     Some(numbers as u32 + 1)
 }
 
-/// The most that a switch may cost.
-const MOST_OF_A_SWITCH: u64 = 1 << 21;
-
-/// How many rows that ask for other symbols are passed over at the cost of copying one.
-const PASSED_FOR_ONE: u64 = 8;
-
 /// How many pairs of a row's codes are compared at the cost of copying a row.
 const COMPARED_FOR_ONE: u64 = 64;
 
@@ -319,8 +302,20 @@ fn look(rows: &[CodeRow]) -> u64 {
     (rows.len() as u64).saturating_add(codes.saturating_mul(codes) / COMPARED_FOR_ONE)
 }
 
-/// The most nodes that a symbol's tree may have.
+/// The most nodes that a symbol's tree may have beside those for its rows.
 const MOST_NODES: usize = 65_536;
+
+/// How many nodes a symbol's tree may have for each register of each row.
+const NODES_FOR_ONE: usize = 4;
+
+/// The most nodes that the tree of a symbol with these rows and so many arguments may have.
+fn most_nodes(rows: &[CodeRow], width: u32) -> usize {
+    let registers = (width as usize).saturating_add(1);
+    let places = rows.len().saturating_mul(registers);
+    places
+        .saturating_mul(NODES_FOR_ONE)
+        .saturating_add(MOST_NODES)
+}
 
 /// What trees grow from: a specification, its symbols in a bank, and the parts of its left sides.
 #[derive(Clone, Copy)]
@@ -332,40 +327,35 @@ pub struct Grower<'a> {
 }
 
 impl Grower<'_> {
-    /// A node for each of some symbols, in a window of the symbols' numbers in the bank.
+    /// A node for the symbol of each share, in a window of the symbols' numbers in the bank.
     fn branch(
         &self,
-        rows: &[CodeRow],
+        mut shares: Vec<Share>,
         width: u32,
-        register: u32,
-        asked: &[u32],
         low: u64,
         span: u32,
         forest: &mut Forest,
         work: &mut Vec<Pending>,
     ) -> Result<Vec<Child>, AllocError>
-        requires declared { All (λ k. k < length (symbols self.now.checked.now.spec)) asked.now }
+        requires declared { All (λ k. k < length (symbols self.now.checked.now.spec)) (symbols_of shares.items) }
         requires linked { length self.now.links.now ≡ length (symbols self.now.checked.now.spec) }
-        requires covers { Covers (numbers_of self.now.links.now) asked.now low span }
-        requires codes { All (λ row. All (IsCode self.now.parts.now) row.codes.items) rows.now }
-        requires room { width + length self.now.parts.now.arguments.items < 2 ^ 32 }
+        requires covers { Covers (numbers_of self.now.links.now) (symbols_of shares.items) low span }
         requires ground { IsGround self.now.checked.now.spec (numbers_of self.now.links.now) self.now.parts.now }
         ensures long { IfOk result (λ w. length w.items ≡ span) }
         ensures longer { IfOk result (λ w. length forest.old.nodes.items ≤ length forest.new.nodes.items) }
-        ensures branches { IfOk result (λ w. BranchesOut self.now.checked.now.spec (numbers_of self.now.links.now) self.now.parts.now forest.old (map task_of work.old.items) width (map coded_of rows.now)
-            forest.new (map task_of work.new.items) register low asked.now w.items (length asked.now)) }
+        ensures branches { IfOk result (λ w. (register : _) (coded : _) → AreShares self.now.parts.now register width (symbols_of shares.items) coded shares.items
+            → BranchesOut self.now.checked.now.spec (numbers_of self.now.links.now) self.now.parts.now forest.old (map task_of work.old.items) width coded
+            forest.new (map task_of work.new.items) register low (symbols_of shares.items) w.items 0) }
     {
         let mut window = no_children(self.alloc, span)?;
-        for symbol in asked {
-            let left = self
-                .parts
-                .open_rows(self.alloc, rows, register, *symbol, width)?;
-            let count = self.checked.arity(*symbol);
+        while let Some(share) = shares.pop() {
+            let Share { symbol, rows } = share;
+            let count = self.checked.arity(symbol);
             if count > u32::MAX - width {
                 return Err(AllocError);
             }
-            let node = add(forest, work, width + count, left)?;
-            let at = self.links.symbol_of(*symbol).0 - low;
+            let node = add(forest, work, width + count, rows)?;
+            let at = self.links.symbol_of(symbol).0 - low;
             window[at as usize] = Child { node, count };
         }
         Ok(window)
@@ -373,13 +363,14 @@ impl Grower<'_> {
 
     /// A switch on a register at a node that waits; what is left for symbols that rows ask it for
     /// waits behind it, and so does what is left for each other tree. Nothing changes where it
-    /// would cost too much.
+    /// would cost more than half of what is left, or where there would be more than so many nodes.
     fn switch(
         &self,
         rows: &[CodeRow],
         node: u32,
         width: u32,
         register: u32,
+        most: usize,
         forest: &mut Forest,
         work: &mut Work,
     ) -> Result<bool, AllocError>
@@ -395,32 +386,28 @@ impl Grower<'_> {
     {
         self.parts
             .marks(self.links, rows, register, &mut work.marks)?;
-        let asked: &[u32] = &work.marks.symbols;
-        let marks: &[bool] = &work.marks.marked;
-        let cost = self.parts.cost(rows, register, asked.len() as u64);
-        if cost > work.fuel || cost > MOST_OF_A_SWITCH {
+        let marks = &work.marks;
+        if marks.symbols.len() > most.saturating_sub(forest.nodes.len()) {
+            return Ok(false);
+        }
+        let cost = self.parts.cost(rows, register, marks.symbols.len() as u64);
+        if cost > work.fuel / 2 {
             return Ok(false);
         }
         work.fuel -= cost;
-        let low = least(self.links, asked);
-        let Some(span) = span(low, greatest(self.links, asked)) else {
+        let low = least(self.links, &marks.symbols);
+        let Some(span) = span(low, greatest(self.links, &marks.symbols)) else {
             return Ok(false);
         };
         if self.parts.arguments.len() > (u32::MAX - width) as usize {
             return Ok(false);
         }
-        let left = self.parts.keep_rows(self.alloc, rows, register, marks)?;
+        let shares = self.parts.deal(self.alloc, rows, register, width, marks)?;
+        let left = self
+            .parts
+            .keep_rows(self.alloc, rows, register, &marks.marked)?;
         let other = add(forest, &mut work.pending, width, left)?;
-        let window = self.branch(
-            rows,
-            width,
-            register,
-            asked,
-            low,
-            span,
-            forest,
-            &mut work.pending,
-        )?;
+        let window = self.branch(shares, width, low, span, forest, &mut work.pending)?;
         forest.write_switch(node, register, low, &window, other)?;
         Ok(true)
     }
@@ -431,6 +418,7 @@ impl Grower<'_> {
         mut rows: Vec<CodeRow>,
         node: u32,
         width: u32,
+        most: usize,
         forest: &mut Forest,
         work: &mut Work,
     ) -> Result<bool, AllocError>
@@ -466,7 +454,7 @@ impl Grower<'_> {
         let Some(register) = self.parts.asked_first(&rows[0].codes) else {
             return Ok(false);
         };
-        self.switch(&rows, node, width, register, forest, work)
+        self.switch(&rows, node, width, register, most, forest, work)
     }
 
     /// Steps until no node waits; it is given up where they would cost more than there is fuel, or
@@ -491,7 +479,7 @@ impl Grower<'_> {
             }
             work.fuel -= cost + 1;
             let Pending { node, width, rows } = pending;
-            if !self.step(rows, node, width, forest, work)? {
+            if !self.step(rows, node, width, most, forest, work)? {
                 return Ok(false);
             }
         }
@@ -519,8 +507,8 @@ impl Grower<'_> {
         let places = forest.places.len();
         let children = forest.children.len();
         work.pending.clear();
+        let most = nodes.saturating_add(most_nodes(&rows, width));
         let root = add(forest, &mut work.pending, width, rows)?;
-        let most = nodes.saturating_add(MOST_NODES);
         if self.grow(most, forest, work)? {
             return Ok(root);
         }

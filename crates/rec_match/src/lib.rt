@@ -15,6 +15,7 @@ mod parts;
 mod places;
 mod push;
 mod rows;
+mod shares;
 #[cfg(test)]
 mod tests;
 mod trees;

@@ -1,15 +1,16 @@
 //! Symbols that are marked.
 
 ghost use Rattle.std.specs.Prelude.{◌≡◌, IfOk, length};
-ghost use Rattle.rec_match.specs.Marking.{AreMarked};
+ghost use Rattle.rec_match.specs.Marking.{AreMarked, IsRank};
 
 use std::alloc::{AllocError, Global};
 
-/// Whether each symbol is marked, and which ones are.
+/// Whether each symbol is marked, which ones are, and the rank of each of these among them.
 #[derive(Drop)]
 pub struct Marks {
     pub marked: Vec<bool>,
     pub symbols: Vec<u32>,
+    pub ranks: Vec<u32>,
 }
 
 impl Marks {
@@ -19,10 +20,28 @@ impl Marks {
         ensures counted { IfOk result (λ m. length m.marked.items ≡ count) }
     {
         let marked = vec![in alloc; false; count as usize]?;
+        let ranks = vec![in alloc; 0; count as usize]?;
         Ok(Marks {
             marked,
             symbols: Vec::new(alloc),
+            ranks,
         })
+    }
+
+    /// The rank of a symbol among those that are marked. What stands for other symbols among the
+    /// ranks is left from former marks.
+    pub(crate) fn rank(&self, symbol: u32) -> Option<u32>
+        requires { AreMarked self.now }
+        ensures { IsRank self.now.symbols.items symbol result }
+    {
+        if symbol as usize >= self.ranks.len() {
+            return None;
+        }
+        let rank = self.ranks[symbol as usize];
+        if rank as usize >= self.symbols.len() || self.symbols[rank as usize] != symbol {
+            return None;
+        }
+        Some(rank)
     }
 
     /// A symbol is marked, if it is one.
@@ -31,12 +50,15 @@ impl Marks {
         ensures marked { IfOk result (λ u. AreMarked self.new) }
         ensures counted { IfOk result (λ u. length self.new.marked.items ≡ length self.old.marked.items) }
     {
-        if (symbol as usize) < self.marked.len() {
-            if !self.marked[symbol as usize] {
-                self.symbols.push(symbol)?;
-                self.marked[symbol as usize] = true;
-            }
+        if symbol as usize >= self.marked.len() || self.rank(symbol).is_some() {
+            return Ok(());
         }
+        let Ok(rank) = u32::try_from(self.symbols.len()) else {
+            return Err(AllocError);
+        };
+        self.symbols.push(symbol)?;
+        self.ranks[symbol as usize] = rank;
+        self.marked[symbol as usize] = true;
         Ok(())
     }
 

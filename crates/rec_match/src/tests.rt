@@ -182,14 +182,14 @@ fn a_rule_for_each_argument(rt: HostRuntime) -> Result<(), Fail> {
     Ok(())
 }
 
-/// A specification of an operator `k` with a rule for each of 200 constants.
-fn cases(alloc: Global) -> Result<String, Fail> {
+/// A specification of an operator `k` with a rule for each of so many constants.
+fn cases(alloc: Global, count: u32) -> Result<String, Fail> {
     let mut text = String::from_str(alloc, "REC-SPEC Cases SORTS N CONS a : -> N")?;
-    for i in 1..=200 {
+    for i in 0..count {
         text.push_str(format!(in alloc; " c{i} : -> N")?.as_str())?;
     }
     text.push_str(" OPNS k : N -> N RULES")?;
-    for i in 1..=200 {
+    for i in 0..count {
         text.push_str(format!(in alloc; " k(c{i}) -> a")?.as_str())?;
     }
     text.push_str(" EVAL a END-SPEC")?;
@@ -198,13 +198,15 @@ fn cases(alloc: Global) -> Result<String, Fail> {
 
 #[test]
 fn a_rule_for_each_constant(rt: HostRuntime) -> Result<(), Fail> {
-    let spec = cases(rt.alloc())?;
-    let rows: [(&[u8], Option<u32>); 3] = [
-        (b"k(c1)", Some(0)),
-        (b"k(c200)", Some(199)),
-        (b"k(a)", None),
+    let rows: [(u32, &[u8], Option<u32>); 5] = [
+        (200, b"k(c0)", Some(0)),
+        (200, b"k(c199)", Some(199)),
+        (200, b"k(a)", None),
+        (5_000, b"k(c4999)", Some(4999)),
+        (5_000, b"k(a)", None),
     ];
-    for (text, rule) in rows {
+    for (count, text, rule) in rows {
+        let spec = cases(rt.alloc(), count)?;
         let mut bank = counting(rt.alloc())?;
         let said = ask_of(rt.alloc(), &mut bank, spec.as_bytes(), text, 0)?;
         assert_eq!(rt; said.rule, rule);

@@ -17,7 +17,7 @@ use std::alloc::{AllocError, Global};
 /// How much may be done to build the trees of left sides with so many parts: a few times what the
 /// trees of rules that hardly overlap need.
 fn fuel(parts: usize) -> u64 {
-    (parts as u64).saturating_mul(8).saturating_add(1 << 22)
+    (parts as u64).saturating_mul(16).saturating_add(1 << 22)
 }
 
 /// The matching trees of a specification's symbols, whose rules stand in chains; a symbol whose

@@ -1,0 +1,141 @@
+//! Rows dealt to the symbols that they ask for.
+
+ghost use Rattle.std.specs.Prelude.{◌≡◌, ◌≢◌, ◌+◌, ◌<◌, ◌^◌, [], All, IfOk, IfSome, None, length, map};
+ghost use Rattle.rec_match.specs.Marking.{AreMarked};
+ghost use Rattle.rec_match.specs.Parts.{coded_of, opened_codes, IsCode};
+ghost use Rattle.rec_match.specs.Shares.{symbols_of, AreShares, AddsRow, DealsRow};
+
+use crate::marks::Marks;
+use crate::parts::{Code, CodeRow, Parts};
+use rec_sorts::Meaning;
+use std::alloc::{AllocError, Global};
+
+/// A symbol, and the rows that are left where a register is known to be an application of it.
+#[derive(Drop)]
+pub(crate) struct Share {
+    pub(crate) symbol: u32,
+    pub(crate) rows: Vec<CodeRow>,
+}
+
+/// A share for each of some symbols, with no row so far.
+fn empty_shares(alloc: Global, symbols: &[u32]) -> Result<Vec<Share>, AllocError>
+    ensures { IfOk result (λ v. (ps : _) (r base : _) → AreShares ps r base symbols.now [] v.items) }
+{
+    let mut shares = Vec::new(alloc);
+    for symbol in symbols {
+        shares.push(Share {
+            symbol: *symbol,
+            rows: Vec::new(alloc),
+        })?;
+    }
+    Ok(shares)
+}
+
+impl Parts {
+    /// The first symbol that codes ask a register for; they are refused where it is an application
+    /// of another one.
+    pub(crate) fn asked(&self, codes: &[Code], register: u32) -> Option<u32>
+        requires { All (IsCode self.now) codes.now }
+        ensures { IfSome result (λ k. (symbol base : _) → k ≢ symbol → opened_codes self.now register symbol base codes.now ≡ None) }
+    {
+        for code in codes {
+            if code.register == register {
+                if let Meaning::Symbol(number) = self.parts[code.part as usize].meaning {
+                    return Some(number);
+                }
+            }
+        }
+        None
+    }
+
+    /// What is left of a row for a share's symbol comes behind the share's rows.
+    fn push_opened(
+        &self,
+        alloc: Global,
+        row: &CodeRow,
+        register: u32,
+        base: u32,
+        share: &mut Share,
+    ) -> Result<(), AllocError>
+        requires codes { All (IsCode self.now) row.now.codes.items }
+        requires room { base + length self.now.arguments.items < 2 ^ 32 }
+        ensures { IfOk result (λ u. AddsRow self.now register base (coded_of row.now) share.old share.new) }
+    {
+        let mut codes = Vec::new(alloc);
+        if self.open(&row.codes, register, share.symbol, base, &mut codes)? {
+            share.rows.push(CodeRow {
+                rule: row.rule,
+                codes,
+            })?;
+        }
+        Ok(())
+    }
+
+    /// A row that asks for no symbol comes into each share.
+    fn push_to_each(
+        &self,
+        alloc: Global,
+        row: &CodeRow,
+        register: u32,
+        base: u32,
+        shares: &mut [Share],
+    ) -> Result<(), AllocError>
+        requires codes { All (IsCode self.now) row.now.codes.items }
+        requires room { base + length self.now.arguments.items < 2 ^ 32 }
+        ensures { IfOk result (λ u. DealsRow self.now register base (coded_of row.now) shares.old shares.new) }
+    {
+        for i in 0..shares.len() {
+            self.push_opened(alloc, row, register, base, &mut shares[i])?;
+        }
+        Ok(())
+    }
+
+    /// A row comes into the share of the symbol that it asks for, if there is one, and into each
+    /// share where it asks for none.
+    fn deal_row(
+        &self,
+        alloc: Global,
+        row: &CodeRow,
+        register: u32,
+        base: u32,
+        marks: &Marks,
+        shares: &mut [Share],
+    ) -> Result<(), AllocError>
+        requires codes { All (IsCode self.now) row.now.codes.items }
+        requires room { base + length self.now.arguments.items < 2 ^ 32 }
+        requires marked { AreMarked marks.now }
+        requires shares { symbols_of shares.old ≡ marks.now.symbols.items }
+        ensures { IfOk result (λ u. DealsRow self.now register base (coded_of row.now) shares.old shares.new) }
+    {
+        let Some(symbol) = self.asked(&row.codes, register) else {
+            return self.push_to_each(alloc, row, register, base, shares);
+        };
+        let Some(rank) = marks.rank(symbol) else {
+            return Ok(());
+        };
+        self.push_opened(alloc, row, register, base, &mut shares[rank as usize])?;
+        Ok(())
+    }
+
+    /// The rows that are left for each symbol that is marked, where a register is known to be an
+    /// application of it, whose arguments stand in the registers from one on.
+    pub(crate) fn deal(
+        &self,
+        alloc: Global,
+        rows: &[CodeRow],
+        register: u32,
+        base: u32,
+        marks: &Marks,
+    ) -> Result<Vec<Share>, AllocError>
+        requires codes { All (λ row. All (IsCode self.now) row.codes.items) rows.now }
+        requires room { base + length self.now.arguments.items < 2 ^ 32 }
+        requires marked { AreMarked marks.now }
+        ensures { IfOk result (λ v. AreShares self.now register base marks.now.symbols.items (map coded_of rows.now) v.items) }
+    {
+        let mut shares = empty_shares(alloc, &marks.symbols)?;
+        for row in rows {
+            self.deal_row(alloc, row, register, base, marks, &mut shares)?;
+        }
+        Ok(shares)
+    }
+}
