@@ -302,20 +302,8 @@ fn look(rows: &[CodeRow]) -> u64 {
     (rows.len() as u64).saturating_add(codes.saturating_mul(codes) / COMPARED_FOR_ONE)
 }
 
-/// The most nodes that a symbol's tree may have beside those for its rows.
+/// The most nodes that a symbol's tree may have.
 const MOST_NODES: usize = 65_536;
-
-/// How many nodes a symbol's tree may have for each register of each row.
-const NODES_FOR_ONE: usize = 4;
-
-/// The most nodes that the tree of a symbol with these rows and so many arguments may have.
-fn most_nodes(rows: &[CodeRow], width: u32) -> usize {
-    let registers = (width as usize).saturating_add(1);
-    let places = rows.len().saturating_mul(registers);
-    places
-        .saturating_mul(NODES_FOR_ONE)
-        .saturating_add(MOST_NODES)
-}
 
 /// What trees grow from: a specification, its symbols in a bank, and the parts of its left sides.
 #[derive(Clone, Copy)]
@@ -507,7 +495,7 @@ impl Grower<'_> {
         let places = forest.places.len();
         let children = forest.children.len();
         work.pending.clear();
-        let most = nodes.saturating_add(most_nodes(&rows, width));
+        let most = nodes.saturating_add(MOST_NODES);
         let root = add(forest, &mut work.pending, width, rows)?;
         if self.grow(most, forest, work)? {
             return Ok(root);
