@@ -21,4 +21,5 @@ mod PatternDue
 mod PatternLines
 mod PatternRows
 mod PatternTerms
+mod RefusedItems
 mod TermsDue

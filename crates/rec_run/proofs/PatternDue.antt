@@ -30,7 +30,7 @@ if_ok_map (Ok x) P Q f h = f x h
 if_ok_map (Err e) P Q f h = tt
 
 -- a text has one verdict at most
-same_verdict : (bytes : List ℕ) (v w : Verdict) → IsVerdict bytes v → IsVerdict bytes w → v ≡ w
+pub same_verdict : (bytes : List ℕ) (v w : Verdict) → IsVerdict bytes v → IsVerdict bytes w → v ≡ w
 same_verdict bytes v w h k = let one = one_verdict bytes in one.2 v h ∙ sym (one.2 w k)
 
 module _ (due : Verdict → Verdict → Due) where

@@ -6,5 +6,6 @@ pub mod Output
 pub mod PatternAnswers
 pub mod PatternRuns
 pub mod Reading
+pub mod RefusedItems
 pub mod Run
 pub mod TermRuns

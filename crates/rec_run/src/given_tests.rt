@@ -2,7 +2,7 @@
 
 use crate::tests::{ADD, Blanks, bytewise, options, taking};
 use crate::text::LIMIT;
-use crate::{Finish, Named, Place, RunFault, RunOptions, Source, run, run_at};
+use crate::{Finish, Named, Place, RunFault, RunOptions, Source, refused_term, run, run_at};
 use std::alloc::Global;
 use std::process::Abort;
 use std::test::Fail;
@@ -230,4 +230,22 @@ fn limit_of_bytes(rt: HostRuntime) -> Result<(), Fail> {
     );
     assert!(rt; result == Ok(Finish::Refused) && out.held.as_slice() == b"!terms L1\n".as_slice());
     Ok(())
+}
+
+#[test]
+fn tells_the_refused_term(rt: HostRuntime) {
+    let rows: [(&str, &str, Option<usize>); 8] = [
+        (Q, "[f(a),3]", Some(1)),
+        (Q, "[a{b},f(a{b})]", Some(1)),
+        (Q, "[f(b),a,c,X]", Some(2)),
+        (Q, "[f(b),f]", Some(1)),
+        (Q, "[f(b)]", Some(0)),
+        (Q, "[a]{a}", None),
+        (Q, "[3", None),
+        (SPOILT, "[3]", None),
+    ];
+    for (spec, terms, wanted) in rows {
+        let found = refused_term(rt.alloc(), spec.as_bytes(), terms.as_bytes());
+        assert_eq!(rt; found, Ok(wanted), "{terms}");
+    }
 }

@@ -13,6 +13,7 @@ mod pattern_lines;
 mod pattern_runs;
 #[cfg(test)]
 mod pattern_tests;
+mod refused_items;
 mod runs;
 mod term_runs;
 #[cfg(test)]
@@ -25,5 +26,6 @@ mod verdict;
 
 pub use ending::{Finish, Named, Place, RunFault, RunOptions, Source};
 pub use pattern_runs::{run_make, run_make_at, run_match, run_match_at};
+pub use refused_items::{Misfit, refused_argument, refused_term};
 pub use runs::{run, run_at};
 pub use term_runs::{run_aterm, run_aterm_at, run_share, run_share_at};

@@ -283,7 +283,7 @@ fn refused_args(reason: Reason) -> Answer
 }
 
 /// References of the elements of a list without annotations; `None` of any other tree.
-fn elements_of<B: TermBank>(
+pub(crate) fn elements_of<B: TermBank>(
     alloc: Global,
     bank: &B,
     t: Term,
@@ -317,7 +317,7 @@ fn items_of<B: TermBank>(alloc: Global, bank: &B, list: Term) -> Result<Vec<Term
 }
 
 /// Reads the text of a pattern.
-fn read_pattern<B: TermBank>(
+pub(crate) fn read_pattern<B: TermBank>(
     alloc: Global,
     text: &[u8],
     bank: &mut B,

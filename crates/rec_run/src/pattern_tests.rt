@@ -2,7 +2,8 @@
 
 use crate::tests::{Blanks, bytewise, taking};
 use crate::{
-    Finish, Named, Place, RunFault, Source, run_make, run_make_at, run_match, run_match_at,
+    Finish, Misfit, Named, Place, RunFault, Source, refused_argument, run_make, run_make_at,
+    run_match, run_match_at,
 };
 use std::alloc::Global;
 use std::io;
@@ -254,4 +255,40 @@ fn streams_that_fail(rt: HostRuntime) {
     out.flush_fails = true;
     let result = run_make(rt.alloc(), b"<int>", b"[1]", &mut out);
     assert!(rt; result == Err(RunFault::Write) && out.held.as_slice() == b"1\n".as_slice());
+}
+
+#[test]
+fn tells_the_refused_argument(rt: HostRuntime) {
+    let rows: [(&str, &str, Option<Misfit>); 8] = [
+        (
+            "f(<int>)",
+            "[]",
+            Some(Misfit::Count {
+                wanted: 1,
+                given: 0,
+            }),
+        ),
+        (
+            "f(<int>,<list>)",
+            "[a,[],1]",
+            Some(Misfit::Count {
+                wanted: 2,
+                given: 3,
+            }),
+        ),
+        ("f(<int>)", "[a]", Some(Misfit::Kind { at: 0 })),
+        (
+            "f(<int>,<list>)",
+            "[1,[a]{b}]",
+            Some(Misfit::Kind { at: 1 }),
+        ),
+        ("f(<int>,<list>)", "[1,[a]]", None),
+        ("f(<int>)", "1", None),
+        ("f(<int>)", "[", None),
+        ("f(<foo>)", "[]", None),
+    ];
+    for (pattern, args, wanted) in rows {
+        let found = refused_argument(rt.alloc(), pattern.as_bytes(), args.as_bytes());
+        assert_eq!(rt; found, Ok(wanted), "{pattern} {args}");
+    }
 }

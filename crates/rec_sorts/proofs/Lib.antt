@@ -29,6 +29,7 @@ pub mod NamesThere
 pub mod Examining
 pub mod Walked
 pub mod GivenRules
+pub mod FirstBroken
 pub mod GivenLetters
 pub mod Differing
 pub mod LinkLemmas

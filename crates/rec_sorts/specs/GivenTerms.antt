@@ -1,12 +1,13 @@
 -- What the nodes of given terms are by the numbers of what is declared.
-use Rattle.std.specs.Prelude.{ℕ, Bool, true, false, not, ◌&&◌, ◌||◌, List, [], ◌∷◌, Option, Some, None, length, nat_eq, is_some, is_none, unwrap_or}
+use Rattle.std.specs.Prelude.{ℕ, Bool, true, false, not, ◌&&◌, ◌||◌, List, [], ◌∷◌, Option, Some, None, flat_map, length, nat_eq, is_some, is_none, unwrap_or}
 use Rattle.std.specs.Bool.{beq}
 use Rattle.std.specs.List.{list_any}
 use Rattle.std.specs.Option.{option_eq}
-use Rattle.rx_term.specs.Tree.{Tree, Trees, Appl, more, count_of}
+use Rattle.rx_term.specs.Tree.{Tree, Trees, Appl, more, count_of, to_list}
 use Rattle.rx_term.specs.Name.{plain_name}
 use Rattle.rec_sorts.specs.TermRules.{arguments, is_no_application, is_annotated, first_passed}
 use Rattle.rec_sorts.specs.Scope.{meaning_of, sort_at, arguments_at}
+use Rattle.rec_sorts.specs.Walking.{unstacked}
 use Rattle.rec_sorts.specs.declared.letters.Letter.{Letter}
 use Rattle.rec_sorts.specs.declared.letters.Meaning.{Meaning}
 use Rattle.rec_sorts.specs.declared.letters.Meaning.TheVariants.{Symbol}
@@ -53,3 +54,11 @@ broken_by_nodes s all inner =
     ∷ list_any (is_misfilled s) all
     ∷ list_any (has_misfit s) all
     ∷ [])
+
+-- the first of the rules 2 to 6 that a given term breaks alone
+abbrev pub broken_alone : Scope → Tree → Option ℕ
+broken_alone s t = broken_by_nodes s (unstacked (t ∷ [])) (unstacked (flat_map (λ u. to_list (arguments u)) (t ∷ [])))
+
+-- a given term breaks this rule alone
+abbrev pub is_broken_alone : Scope → ℕ → Tree → Bool
+is_broken_alone s number t = option_eq nat_eq (broken_alone s t) (Some number)

@@ -1,12 +1,12 @@
 -- What holds of evaluation: its equations, its cost, and the steps of rewriting that it stands for.
-use Rattle.std.specs.Prelude.{ℕ, zero, suc, ◌-◌, ◌≡◌, ◌≤◌, ◌<◌, List, [], ◌∷◌, Option, Some, None, MatchBool, true, not}
+use Rattle.std.specs.Prelude.{ℕ, zero, suc, ◌-◌, ◌≡◌, ◌≤◌, ◌<◌, List, [], ◌∷◌, Option, Some, None, IsSome, MatchBool, true, not}
 use Rattle.rx_term.specs.Tree.{Tree, Trees, Appl, none, more}
 use Rattle.rec_syntax.specs.Syntax.{Term, Terms, Apply, Spec}
 use Rattle.rec_sorts.specs.Lookup.{is_variable, mentions, names}
 use Rattle.rx_term.specs.Name.{plain_name}
 use Rattle.rec_sorts.specs.SpecRules.{fault}
 use Rattle.rec_sorts.specs.Binding.{Substitution, value_of, instance, binds, tree_of}
-use Rattle.rec_sorts.specs.TermRules.{nodes}
+use Rattle.rec_sorts.specs.TermRules.{nodes, elements, broken_by_terms, broken_element}
 use Rattle.rec_sorts.specs.Evaluation.{Done, Over, Evaluator, evaluate, call, first_rule, Eval, term_of}
 
 -- an evaluator meets the equations of evaluation: it evaluates a term's arguments and calls its head, and what the call evaluates is evaluated by itself
@@ -103,3 +103,7 @@ abbrev mutual
 -- for a specification that keeps its rules, a tree built of constructors is its own value, at no cost
 abbrev pub BuiltLaw : Type 0
 BuiltLaw = (y : Spec) → fault y ≡ None → (n : ℕ) (v : Tree) → IsBuilt y v → Eval y n [] (term_of v) ≡ Done v n
+
+-- where the elements of a text of terms break a rule, one of them breaks it alone
+abbrev pub ElementLaw : Type 0
+ElementLaw = (y : Spec) (t : Tree) → IsSome (elements t) → IsSome (broken_by_terms y t) → IsSome (broken_element y t)

@@ -1,7 +1,8 @@
 -- The six rules of a text of terms, each as a test of the whole list, for a specification that keeps all its own rules.
 use Rattle.std.specs.Prelude.{ℕ, Bool, true, false, ◌||◌, not, List, [], ◌∷◌, ◌++◌, Option, Some, None, flat_map, length, nat_eq}
 use Rattle.std.specs.Bool.{beq}
-use Rattle.std.specs.List.{list_any}
+use Rattle.std.specs.List.{list_any, position}
+use Rattle.std.specs.Option.{option_and_then, option_eq}
 use Rattle.rx_term.specs.Tree.{Tree, Trees, Appl, Items, none, more, to_list, annotations}
 use Rattle.rx_term.specs.Name.{plain_name}
 use Rattle.rec_syntax.specs.Tokens.{Word}
@@ -84,3 +85,15 @@ broken_by_elements y ts =
 -- the first rule that a text of terms breaks; 1: it is no list, or has annotations itself
 abbrev pub broken_by_terms : Spec → Tree → Option ℕ
 broken_by_terms y t = elim (elements t) [ None ↦ Some 1 | Some ts ↦ broken_by_elements y ts ]
+
+-- a given term breaks this rule where it is given alone
+abbrev pub breaks_alone : Spec → ℕ → Tree → Bool
+breaks_alone y number t = option_eq nat_eq (broken_by_elements y (t ∷ [])) (Some number)
+
+-- the first given term that alone breaks the rule that all of them break, by how many stand before it
+abbrev pub first_breaking : Spec → List Tree → Option ℕ
+first_breaking y ts = option_and_then (λ number. position (breaks_alone y number) ts) (broken_by_elements y ts)
+
+-- that of a text of terms; none, where it is no list, or has annotations itself
+abbrev pub broken_element : Spec → Tree → Option ℕ
+broken_element y t = option_and_then (first_breaking y) (elements t)

@@ -1,10 +1,10 @@
 //! The rules of given terms, and their letters.
 
 ghost use Rattle.std.specs.Prelude.{◌≡◌, None, Some, List, IsSome, IfSome, IfOk, IfErr, OnOk, is_some, length, map, reverse};
-ghost use Rattle.std.specs.List.{list_any};
+ghost use Rattle.std.specs.List.{list_any, position_from};
 ghost use Rattle.rx_term.specs.Tree.{Tree, count_of};
 ghost use Rattle.rx_term.specs.Store.{tree_at};
-ghost use Rattle.rec_sorts.specs.TermRules.{arguments, elements, is_no_application, is_annotated, broken_by_terms};
+ghost use Rattle.rec_sorts.specs.TermRules.{arguments, elements, is_no_application, is_annotated, broken_by_terms, broken_element};
 ghost use Rattle.rec_sorts.specs.TermsFaults.{IsTermsFault};
 ghost use Rattle.rec_sorts.specs.Evaluation.{term_of};
 ghost use Rattle.rec_sorts.specs.Numbering.{Pairwise, AreLetters};
@@ -16,7 +16,7 @@ use crate::fault::TermsFault;
 use crate::letters::{Letter, Meaning};
 use crate::scope::Scope;
 use crate::symbols::{read_scope, read_sorts};
-use crate::walk::{list_nodes, nodes, push_items};
+use crate::walk::{list_nodes, nodes, nodes_among, push_items};
 use rec_syntax::Syntax;
 use rx_term::{Kind, Term, TermBank, plain_name};
 use std::alloc::{AllocError, Global};
@@ -79,7 +79,7 @@ fn argument_count<B: TermBank>(bank: &B, node: Term) -> u32
 }
 
 impl Scope<'_> {
-    ghost use Rattle.rec_sorts.specs.GivenTerms.{symbol_at, is_nameless, is_misfilled, are_misfits, has_misfit, node_letter, broken_by_nodes};
+    ghost use Rattle.rec_sorts.specs.GivenTerms.{symbol_at, is_nameless, is_misfilled, are_misfits, has_misfit, node_letter, broken_by_nodes, is_broken_alone};
 
     // The symbol that a node stands for: one of its name, which stands unquoted where it may.
     fn symbol<B: TermBank>(&self, bank: &B, node: Term) -> Option<Meaning>
@@ -221,6 +221,42 @@ impl Scope<'_> {
             None
         }
     }
+
+    // Whether a given term breaks this one of the rules 2 to 6 first, where it is given alone.
+    fn breaks_alone<B: TermBank>(
+        &self,
+        alloc: Global,
+        bank: &B,
+        term: Term,
+        number: u8,
+    ) -> Result<bool, AllocError>
+        requires { IsSome (tree_at (B.store bank.now) term) }
+        ensures { IfOk result (λ r. r ≡ is_broken_alone self.now number (held_tree (B.store bank.now) term)) }
+    {
+        let mut terms = Vec::new(alloc);
+        terms.push(term)?;
+        let found = nodes_among(alloc, bank, terms)?;
+        Ok(self.first_broken(bank, &found.all, &found.inner) == Some(number))
+    }
+
+    // The first given term that breaks this rule alone, by how many stand before it.
+    fn first_breaking<B: TermBank>(
+        &self,
+        alloc: Global,
+        bank: &B,
+        terms: &[Term],
+        number: u8,
+    ) -> Result<Option<usize>, AllocError>
+        requires { AreHeld (B.store bank.now) terms.now }
+        ensures { IfOk result (λ r. r ≡ position_from (λ t. is_broken_alone self.now number (held_tree (B.store bank.now) t)) 0 terms.now) }
+    {
+        for (at, term) in terms.iter().enumerate() {
+            if self.breaks_alone(alloc, bank, *term, number)? {
+                return Ok(Some(at));
+            }
+        }
+        Ok(None)
+    }
 }
 
 // The first of the six rules that a list of given terms breaks.
@@ -257,6 +293,29 @@ pub fn check_terms<B: TermBank>(
         Ok(Some(number)) => Err(TermsFault::Rule { number }),
         Err(_) => Err(TermsFault::Memory),
     }
+}
+
+/// The first given term that alone breaks the rule that the list breaks, by how many stand before it; none, where no rule is broken or the term
+/// is no list without annotations.
+pub fn broken_element<B: TermBank>(
+    alloc: Global,
+    checked: &Checked,
+    bank: &B,
+    list: Term,
+) -> Result<Option<usize>, AllocError>
+    requires { IsSome (tree_at (B.store bank.now) list) }
+    ensures { IfOk result (λ r. IfSome (tree_at (B.store bank.now) list) (λ t. r ≡ broken_element checked.now.spec t)) }
+{
+    if !is_plain_list(bank, list) {
+        return Ok(None);
+    }
+    let Some(number) = broken_rule(alloc, checked, bank, list)? else {
+        return Ok(None);
+    };
+    let scope = scope_of(alloc, checked.syntax())?;
+    let mut elements = Vec::new(alloc);
+    push_items(bank, list, &mut elements)?;
+    scope.first_breaking(alloc, bank, &elements, number)
 }
 
 /// The letters of given terms that keep the rules: a vector for each, in their order.

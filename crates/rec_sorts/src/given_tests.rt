@@ -1,6 +1,8 @@
 //! The rules of given terms, row by row, and their letters.
 
-use crate::{Checked, Letter, Meaning, TermsFault, check, check_terms, term_letters};
+use crate::{
+    Checked, Letter, Meaning, TermsFault, broken_element, check, check_terms, term_letters,
+};
 use rec_syntax::read_spec;
 use rx_plain::PlainBank;
 use rx_text::read;
@@ -31,6 +33,14 @@ fn broken(alloc: Global, specified: &[u8], terms: &[u8]) -> Result<Option<u8>, F
         Err(TermsFault::Rule { number }) => Ok(Some(number)),
         Err(TermsFault::Memory) => Err(Fail::from("memory")),
     }
+}
+
+// How many terms stand before the first that alone breaks the rule that they break.
+fn first_broken(alloc: Global, specified: &[u8], terms: &[u8]) -> Result<Option<usize>, Fail> {
+    let checked = specification(alloc, specified)?;
+    let mut bank = PlainBank::new(alloc, 1000)?;
+    let list = read(alloc, terms, &mut bank)?;
+    Ok(broken_element(alloc, &checked, &bank, list)?)
 }
 
 // The letters of terms.
@@ -113,6 +123,21 @@ fn ill_sorted(rt: HostRuntime) -> Result<(), Fail> {
     let alloc = rt.alloc();
     assert_eq!(rt; broken(alloc, Q, b"[f(b)]")?, Some(6));
     assert_eq!(rt; broken(alloc, TWO, b"[g(\"0\",\"0\")]")?, Some(6));
+    Ok(())
+}
+
+#[test]
+fn the_first_that_is_broken(rt: HostRuntime) -> Result<(), Fail> {
+    let alloc = rt.alloc();
+    assert_eq!(rt; first_broken(alloc, Q, b"[f(a),3,4]")?, Some(1));
+    assert_eq!(rt; first_broken(alloc, Q, b"[f(a{b}),c,<a>]")?, Some(2));
+    assert_eq!(rt; first_broken(alloc, Q, b"[f(b),f(a,a),f(a{b})]")?, Some(2));
+    assert_eq!(rt; first_broken(alloc, Q, b"[f(b),c]")?, Some(1));
+    assert_eq!(rt; first_broken(alloc, Q, b"[f(b),f]")?, Some(1));
+    assert_eq!(rt; first_broken(alloc, Q, b"[f(b),a,f(b)]")?, Some(0));
+    assert_eq!(rt; first_broken(alloc, Q, b"[a,f(a)]")?, None);
+    assert_eq!(rt; first_broken(alloc, Q, b"[3]{a}")?, None);
+    assert_eq!(rt; first_broken(alloc, Q, b"3")?, None);
     Ok(())
 }
 

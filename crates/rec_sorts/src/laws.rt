@@ -1,6 +1,6 @@
-//! What holds of binding, evaluation and rewriting, over the definitions alone.
+//! What holds of binding, evaluation, rewriting and the rules of given terms, over the definitions alone.
 
-ghost use Rattle.rec_sorts.specs.Laws.{BindingLaw, OneEvaluator, CostLaw, RewritingLaw, BuiltLaw};
+ghost use Rattle.rec_sorts.specs.Laws.{BindingLaw, OneEvaluator, CostLaw, RewritingLaw, BuiltLaw, ElementLaw};
 
 /// A left side is made a tree by one substitution on its variables, or by none.
 pub fn binding_law()
@@ -25,4 +25,9 @@ pub fn rewriting_law()
 /// A tree built of constructors is its own value, at no cost.
 pub fn built_law()
     ensures { BuiltLaw }
+{}
+
+/// Where given terms break a rule, one of them breaks it alone.
+pub fn element_law()
+    ensures { ElementLaw }
 {}

@@ -85,6 +85,21 @@ pub fn nodes<B: TermBank>(
     Ok(found)
 }
 
+/// The nodes of some terms, and those below them.
+pub fn nodes_among<B: TermBank>(
+    alloc: Global,
+    bank: &B,
+    terms: Vec<Term>,
+) -> Result<ListNodes, AllocError>
+    requires { AreHeld (B.store bank.now) terms.items }
+    ensures { IfOk result (AreNodes (B.store bank.now) (held_trees (B.store bank.now) terms.items)) }
+{
+    let below = arguments(alloc, bank, &terms)?;
+    let inner = nodes(alloc, bank, below)?;
+    let all = nodes(alloc, bank, terms)?;
+    Ok(ListNodes { all, inner })
+}
+
 /// The nodes of a list's items.
 pub fn list_nodes<B: TermBank>(alloc: Global, bank: &B, list: Term) -> Result<ListNodes, AllocError>
     requires { IsSome (tree_at (B.store bank.now) list) }
@@ -92,8 +107,5 @@ pub fn list_nodes<B: TermBank>(alloc: Global, bank: &B, list: Term) -> Result<Li
 {
     let mut items = Vec::new(alloc);
     push_items(bank, list, &mut items)?;
-    let below = arguments(alloc, bank, &items)?;
-    let inner = nodes(alloc, bank, below)?;
-    let all = nodes(alloc, bank, items)?;
-    Ok(ListNodes { all, inner })
+    nodes_among(alloc, bank, items)
 }

@@ -1,6 +1,7 @@
 //! What is told of a refusal beside its line: where it stands, and what is wrong, in words.
 
 use crate::expected::{expected_words, write_expected};
+use crate::item::{Item, write_item};
 use crate::refusals::words_of;
 use std::alloc::Global;
 use std::io;
@@ -102,10 +103,18 @@ pub fn explain_place<W: Write>(
     show_line(&spot, out)
 }
 
-/// Tells of a refusal without a place.
-pub fn explain_text<W: Write>(name: &str, rule: &str, out: &mut W) -> io::Result<()> {
+/// Tells of a refusal without a place, and which item of a list it is about, where that is known.
+pub fn explain_text<W: Write>(
+    name: &str,
+    rule: &str,
+    item: Option<Item>,
+    out: &mut W,
+) -> io::Result<()> {
     write!(out, "{name}: ")?;
     explain_rule(rule, out)?;
+    if let Some(item) = item {
+        write_item(item, out)?;
+    }
     out.write_all(b"\n")
 }
 

@@ -4,6 +4,7 @@
 mod command;
 mod expected;
 mod explain;
+mod item;
 mod opened;
 mod program;
 mod recorded;

@@ -632,7 +632,7 @@ fn explains_refusals(rt: HostRuntime) -> Result<(), Fail> {
         (
             &["make", "--explain", "<int>", "[a]"],
             1,
-            "ARGS: M2: a given tree is not one that its placeholder matches\n",
+            "ARGS: M2: a given tree is not one that its placeholder matches; element 1 of the list\n",
         ),
         (
             &["make", "--explain", "<int", "[a]"],
@@ -670,6 +670,86 @@ fn explains_refusals(rt: HostRuntime) -> Result<(), Fail> {
         ran.err.as_str(),
         "recw: out of cells\n--cells raises the limit, which is 3 cells\n"
     );
+    Ok(())
+}
+
+/// Keeps all rules of specifications.
+const KEPT: &str =
+    "REC-SPEC Q SORTS A B CONS a : -> A b : -> B OPNS f : A -> A VARS X Y : A RULES f(X) -> X EVAL f(a) END-SPEC";
+
+/// What is told of these terms beside the specification that keeps all rules.
+fn told_of(alloc: Global, terms: &'static str) -> Result<String, Fail> {
+    let files = Shelf { spec: KEPT, terms };
+    let words: &[&str] = &["eval", "--explain", "spec", "terms"];
+    let ran = run_over(&files, alloc, words, &mut Unread)?;
+    Ok(ran.err)
+}
+
+#[test]
+fn tells_which_given_term_it_is(rt: HostRuntime) -> Result<(), Fail> {
+    let rows = [
+        ("a", "T1", ""),
+        ("[a]{a}", "T1", ""),
+        ("[f(a),3]", "T2", "; element 2 of the list"),
+        ("[a{a},<a>]", "T2", "; element 2 of the list"),
+        ("[f(a{b}),f(b),[a],c,1]", "T2", "; element 3 of the list"),
+        ("[f(a{b})]", "T3", "; element 1 of the list"),
+        (
+            "[c,a{b},f(f(a{b})),f(a{b})]",
+            "T3",
+            "; element 3 of the list",
+        ),
+        ("[a,b,\"a\",X]", "T4", "; element 3 of the list"),
+        ("[f(a,a),f(b),c]", "T4", "; element 3 of the list"),
+        ("[f(b),f]", "T5", "; element 2 of the list"),
+        ("[a,f(a),f(f(b)),f(b)]", "T6", "; element 3 of the list"),
+    ];
+    for (terms, rule, item) in rows {
+        let said = told_of(rt.alloc(), terms)?;
+        assert!(rt; said.as_str().starts_with("terms: "), "{terms}: {said}");
+        assert!(rt; said.as_str().contains(rule), "{terms}: {said}");
+        assert!(rt; said.as_str().trim_end().ends_with(item), "{terms}: {said}");
+        assert_eq!(rt;
+            said.as_str().contains("element"),
+            !item.is_empty(),
+            "{terms}: {said}"
+        );
+    }
+    Ok(())
+}
+
+#[test]
+fn tells_which_argument_it_is(rt: HostRuntime) -> Result<(), Fail> {
+    let rows: [(&str, &str, &str, &str); 6] = [
+        ("f(<int>)", "[]", "M1", "; expected 1, given 0"),
+        ("f(<int>)", "[a,b]", "M1", "; expected 1, given 2"),
+        ("a", "[a]", "M1", "; expected 0, given 1"),
+        (
+            "f(<int>,<int>,<str>)",
+            "[1,a,b]",
+            "M2",
+            "; element 2 of the list",
+        ),
+        (
+            "f(<int>,<list>)",
+            "[1,[a]{b}]",
+            "M2",
+            "; element 2 of the list",
+        ),
+        (
+            "f(<int>)",
+            "1",
+            "T1",
+            "are not a list, or have annotations themselves",
+        ),
+    ];
+    for (pattern, args, rule, item) in rows {
+        let ran = run(&rt, &["make", "--explain", pattern, args], "")?;
+        let said = ran.err.as_str();
+        assert!(rt; said.starts_with("ARGS: "), "{args}: {said}");
+        assert!(rt; said.contains(rule), "{args}: {said}");
+        assert!(rt; said.trim_end().ends_with(item), "{args}: {said}");
+    }
     Ok(())
 }
 

@@ -1,6 +1,7 @@
 //! What a run leaves to be told.
 
 use crate::explain::{explain_place, explain_text};
+use crate::item::{Item, item_of_args, item_of_terms};
 use crate::request::Request;
 use rec_run::{Finish, Place, RunFault, Source};
 use std::alloc::Global;
@@ -91,7 +92,20 @@ impl<'a> Told<'a> {
                 let text = self.text_of(request, source);
                 explain_place(alloc, name, rule, text, place.at as usize, out)
             }
-            None => explain_text(name, rule, out),
+            None => explain_text(name, rule, self.item_of(alloc, request, source), out),
+        }
+    }
+
+    /// Which item of a list is refused, where the text is one and that can be told.
+    fn item_of(&self, alloc: Global, request: Request<'_>, source: Source) -> Option<Item> {
+        match (source, request) {
+            (Source::Terms, Request::Eval { .. }) => {
+                item_of_terms(alloc, self.first.as_slice(), self.second.as_slice())
+            }
+            (Source::Args, Request::Make { pattern, args }) => {
+                item_of_args(alloc, pattern.as_bytes(), args.as_bytes())
+            }
+            _ => None,
         }
     }
 

@@ -28,8 +28,8 @@ fn is_slot(node: &Node) -> bool
     matches!(node, Node::Placeholder(_) | Node::Rest)
 }
 
-// How many terms the nodes take.
-fn count_slots(nodes: &[Node]) -> usize
+/// How many terms the nodes take.
+pub fn count_slots(nodes: &[Node]) -> usize
     ensures { result ≡ length (slots_of_steps (map step_of nodes.now)) }
 {
     let mut slots = 0;

@@ -1,19 +1,19 @@
 //! Patterns.
 
-ghost use Rattle.std.specs.Prelude.{◌≡◌, ◌↔◌, ℕ, List, [], Some, None, Ok, Err, IsSome, IfSome, IfOk, IfErr, OnErr, IsErrOf};
+ghost use Rattle.std.specs.Prelude.{◌≡◌, ◌↔◌, ℕ, List, [], Some, None, Ok, Err, IsSome, IfSome, IfOk, IfErr, OnErr, IsErrOf, length};
 ghost use Rattle.rx_term.specs.Tree.{Tree};
 ghost use Rattle.rx_term.specs.Store.{tree_at, cells};
 ghost use Rattle.rx_term.specs.Steps.{Grows};
 ghost use Rattle.rx_term.specs.Walks.{AllHeld};
 ghost use Rattle.rx_pattern.specs.Pattern.{unfit, Unknown, Annotated};
 ghost use Rattle.rx_pattern.specs.Matching.{matching};
-ghost use Rattle.rx_pattern.specs.Filling.{filling, Count, Kinds};
+ghost use Rattle.rx_pattern.specs.Filling.{filling, slots, Count, Kinds};
 ghost use Rattle.rx_pattern.specs.Held.{HaveTrees, Binds, AddsOnlyLists};
 ghost use Rattle.rx_pattern.specs.Faults.{IsMatchRefusal, IsOfTerms};
 
 use crate::check::check;
 use crate::faults::{MakeFault, PatternFault};
-use crate::fill::{fill, misfit};
+use crate::fill::{count_slots, fill, misfit};
 use crate::flatten::flatten;
 use crate::nodes::Node;
 use crate::subjects::match_nodes;
@@ -87,6 +87,13 @@ impl Pattern {
             out.clear();
         }
         Ok(found)
+    }
+
+    /// How many placeholders the pattern has.
+    pub fn placeholders(&self) -> usize
+        ensures { result ≡ length (slots self.now) }
+    {
+        count_slots(&self.nodes)
     }
 
     /// The pattern with terms in place of its placeholders, in order. `Count` where there are not as many; else `Kind` with the least

@@ -61,6 +61,20 @@ fn refusal(rt: &impl Abort, alloc: Global, text: &[u8]) -> Option<PatternFault> 
     Pattern::of(alloc, &bank, t).err()
 }
 
+// How many placeholders the pattern has.
+fn placeholders(rt: &impl Abort, alloc: Global, text: &[u8]) -> usize {
+    let mut bank = bank_of(rt, alloc, 1000);
+    pattern(rt, alloc, &mut bank, text).placeholders()
+}
+
+#[test]
+fn placeholders_everywhere(rt: HostRuntime) {
+    let alloc = rt.alloc();
+    assert_eq!(rt; placeholders(&rt, alloc, b"f(a,[1])"), 0);
+    assert_eq!(rt; placeholders(&rt, alloc, b"<term>"), 1);
+    assert_eq!(rt; placeholders(&rt, alloc, b"f(g(<int>){<int>},<list>)"), 3);
+}
+
 #[test]
 fn bindings_in_order(rt: HostRuntime) {
     let alloc = rt.alloc();

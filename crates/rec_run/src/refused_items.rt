@@ -1,0 +1,138 @@
+//! Which item of a list is refused, by a rule that has no place.
+
+ghost use Rattle.std.specs.Prelude.{◌≡◌, List, None, Some, IfOk, IsSome};
+ghost use Rattle.rx_term.specs.Tree.{Tree};
+ghost use Rattle.rx_term.specs.Store.{tree_at};
+ghost use Rattle.rx_term.specs.Walks.{AllHeld};
+ghost use Rattle.rx_text.specs.Verdict.{Verdict, IsVerdict};
+ghost use Rattle.rx_pattern.specs.Held.{HaveTrees};
+ghost use Rattle.rec_syntax.specs.Syntax.{Spec};
+ghost use Rattle.rec_sorts.specs.SpecRules as verdict;
+ghost use Rattle.rec_sorts.specs.SpecRules.{Good, SpecVerdict};
+ghost use Rattle.rec_sorts.specs.TermRules.{elements};
+ghost use Rattle.rec_run.specs.GivenTerms.{IsRefusal};
+ghost use Rattle.rec_run.specs.PatternRuns.{IsNoPattern, SpellsPattern};
+ghost use Rattle.rec_run.specs.RefusedItems.{misfit_among, misfit_in, misfit_of, term_in};
+
+use crate::ending::RunFault;
+use crate::given_term::{MOST_CELLS, TermReading, empty_bank, parse};
+use crate::pattern_runs::{PatternReading, elements_of, read_pattern};
+use crate::verdict::{Reading, judge};
+use rec_sorts::{Checked, broken_element};
+use rx_pattern::{MakeFault, Pattern};
+use rx_term::{Term, TermBank};
+use std::alloc::{AllocError, Global};
+
+/// Why arguments do not go into a pattern.
+#[derive(Clone, Copy, Debug, Drop, PartialEq, Eq)]
+pub enum Misfit {
+    /// There are not as many as placeholders.
+    Count { wanted: usize, given: usize },
+    /// The first that its placeholder does not take has so many before it.
+    Kind { at: usize },
+}
+
+impl From<AllocError> for RunFault {
+    ghost use Rattle.rec_run.specs.declared.ending.RunFault.TheVariants.{Memory};
+
+    ghost from_gives = { λ _ r. r ≡ Memory 0 };
+
+    fn from(_error: AllocError) -> RunFault {
+        RunFault::Memory { lines: 0 }
+    }
+}
+
+/// The first given term that alone breaks the rule by which a text of terms is refused, by how many stand before it.
+/// None where there is no such rule, or it asks for a list.
+pub fn refused_term(alloc: Global, spec: &[u8], terms: &[u8]) -> Result<Option<usize>, RunFault>
+    ensures first { IfOk result (λ found. (y : Spec) (v : Verdict) → SpecVerdict spec.now (Good y) → IsVerdict terms.now v → found ≡ term_in y v) }
+    ensures none { IfOk result (λ found. (v : verdict.Verdict) → SpecVerdict spec.now v → IsRefusal v → found ≡ None) }
+{
+    match judge(alloc, spec)? {
+        Reading::Refused(_) => Ok(None),
+        Reading::Good(checked) => refused_term_for(alloc, &checked, terms),
+    }
+}
+
+/// The same for a good specification.
+fn refused_term_for(
+    alloc: Global,
+    checked: &Checked,
+    terms: &[u8],
+) -> Result<Option<usize>, RunFault>
+    ensures { IfOk result (λ found. (v : Verdict) → IsVerdict terms.now v → found ≡ term_in checked.now.spec v) }
+{
+    let mut bank = empty_bank(alloc, MOST_CELLS)?;
+    match parse(alloc, terms, &mut bank)? {
+        TermReading::Refused(_) => Ok(None),
+        TermReading::Spells(list) => Ok(broken_element(alloc, checked, &bank, list)?),
+    }
+}
+
+/// Why the arguments of a text do not go into a pattern. None where they do, and where another rule refuses one of the texts.
+pub fn refused_argument(
+    alloc: Global,
+    pattern: &[u8],
+    args: &[u8],
+) -> Result<Option<Misfit>, RunFault>
+    ensures first { IfOk result (λ found. (p : Tree) (v : Verdict) → SpellsPattern pattern.now p → IsVerdict args.now v → found ≡ misfit_in p v) }
+    ensures none { IfOk result (λ found. IsNoPattern pattern.now → found ≡ None) }
+{
+    let mut bank = empty_bank(alloc, MOST_CELLS)?;
+    match read_pattern(alloc, pattern, &mut bank)? {
+        PatternReading::Refused(_) => Ok(None),
+        PatternReading::Good(pattern) => misfit_of_text(alloc, &pattern, args, &mut bank),
+    }
+}
+
+/// Why the arguments of a text do not go into a good pattern.
+fn misfit_of_text<B: TermBank>(
+    alloc: Global,
+    pattern: &Pattern,
+    args: &[u8],
+    bank: &mut B,
+) -> Result<Option<Misfit>, RunFault>
+    ensures { IfOk result (λ found. (v : Verdict) → IsVerdict args.now v → found ≡ misfit_in pattern.now v) }
+{
+    match parse(alloc, args, bank)? {
+        TermReading::Refused(_) => Ok(None),
+        TermReading::Spells(t) => misfit_of_term(alloc, pattern, t, bank),
+    }
+}
+
+/// Why the elements of a term of the bank do not go into a pattern.
+fn misfit_of_term<B: TermBank>(
+    alloc: Global,
+    pattern: &Pattern,
+    t: Term,
+    bank: &mut B,
+) -> Result<Option<Misfit>, RunFault>
+    requires { IsSome (tree_at (B.store bank.old) t) }
+    ensures { IfOk result (λ found. (u : Tree) → tree_at (B.store bank.old) t ≡ Some u → found ≡ misfit_among pattern.now (elements u)) }
+{
+    match elements_of(alloc, bank, t)? {
+        None => Ok(None),
+        Some(args) => misfit_of_elements(pattern, &args, bank),
+    }
+}
+
+/// Why terms of the bank do not go into a pattern.
+fn misfit_of_elements<B: TermBank>(
+    pattern: &Pattern,
+    args: &[Term],
+    bank: &mut B,
+) -> Result<Option<Misfit>, RunFault>
+    requires { AllHeld (B.store bank.old) args.now }
+    ensures { IfOk result (λ found. (ts : List Tree) → HaveTrees (B.store bank.old) args.now ts → found ≡ misfit_of pattern.now ts) }
+{
+    match pattern.make(bank, args) {
+        Ok(_) => Ok(None),
+        Err(MakeFault::Count) => Ok(Some(Misfit::Count {
+            wanted: pattern.placeholders(),
+            given: args.len(),
+        })),
+        Err(MakeFault::Kind { at }) => Ok(Some(Misfit::Kind { at })),
+        Err(MakeFault::Memory) => Err(RunFault::Memory { lines: 0 }),
+        Err(MakeFault::Full) => Err(RunFault::Room { lines: 0 }),
+    }
+}
