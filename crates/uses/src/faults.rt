@@ -1,7 +1,10 @@
 //! What a caller of several crates answers where one of them refuses.
 
+use rec_engine::EngineFault;
+use rec_sorts::{SortFault, TermsFault};
+use rec_syntax::SyntaxFault;
 use rx_pattern::{MakeFault, PatternFault};
-use rx_term::BankFault;
+use rx_term::{BankFault, RootsFull};
 use rx_text::{TextFault, WriteFault};
 use thiserror::Error;
 
@@ -23,4 +26,35 @@ pub enum WorkFault {
     /// No term was made.
     #[error("{0}")]
     Make(#[from] MakeFault),
+}
+
+/// Why a text is no specification that keeps its rules.
+#[derive(Debug, Drop, Error)]
+pub enum SpecFault {
+    /// The text was not read.
+    #[error("{0}")]
+    Syntax(#[from] SyntaxFault),
+    /// What it spells breaks a rule.
+    #[error("{0}")]
+    Rules(#[from] SortFault),
+}
+
+/// Why a term was not evaluated.
+#[derive(Debug, Drop, Error)]
+pub enum EvaluationFault {
+    /// It is no term of the specification.
+    #[error("{0}")]
+    Terms(#[from] TermsFault),
+    /// The bank could not grow.
+    #[error("{0}")]
+    Bank(#[from] BankFault),
+    /// It is protected as often as it can be.
+    #[error("{0}")]
+    Roots(#[from] RootsFull),
+    /// The engine gave up.
+    #[error("{0}")]
+    Engine(#[from] EngineFault),
+    /// The value was not printed.
+    #[error("{0}")]
+    Write(#[from] WriteFault),
 }

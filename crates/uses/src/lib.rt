@@ -1,12 +1,13 @@
 //! Callers of the public crates, as a language workbench writes them, over any bank.
 #![tactic(auto, using(rx_term::proofs::StoreLemmas::bank_steps))]
 
+pub mod evaluating;
 pub mod faults;
 pub mod keeping;
 pub mod rewriting;
 pub mod texts;
 
-pub use faults::WorkFault;
+pub use faults::{EvaluationFault, SpecFault, WorkFault};
 
 #[cfg(test)]
 mod tests;

@@ -1,0 +1,130 @@
+//! From a specification's text to the printed values of its terms, and of terms that are given.
+
+ghost use Rattle.std.specs.Prelude.{◌≡◌, ◌<◌, ℕ, [], Some, IsSome, IfOk, IfErr, OnOk, length, option_map};
+ghost use Rattle.rx_term.specs.Tree.{Tree};
+ghost use Rattle.rx_term.specs.Store.{tree_at};
+ghost use Rattle.rx_term.specs.Steps.{Keeps};
+ghost use Rattle.rx_term.specs.declared.Term.{Term};
+ghost use Rattle.rec_sorts.specs.Linked.{HasMoreSymbols};
+ghost use Rattle.rec_sorts.specs.SpecRules.{SpecVerdict, Good};
+ghost use Rattle.rec_engine.specs.Engine.{IsGiven, SameEngine, eval_tree};
+ghost use Rattle.uses.specs.Evaluated.{IsRefused, IsHeld, value_within, value_text};
+
+use crate::texts::{only, printed};
+use crate::{EvaluationFault, SpecFault};
+use rec_engine::{Engine, EngineFault, Options, Outcome};
+use rec_sorts::{Checked, check, check_terms};
+use rec_syntax::read_spec;
+use rx_term::{Term, TermBank};
+use std::alloc::Global;
+
+/// How the engines of this module work.
+const OPTIONS: Options = Options {
+    memo: 65_536,
+    reclaim_every: 262_144,
+};
+
+/// The specification that a text spells, once it is known to keep its rules.
+pub fn checked(alloc: Global, text: &[u8]) -> Result<Checked, SpecFault>
+    ensures good { IfOk result (λ c. SpecVerdict text.now (Good c.spec)) }
+    ensures refused { IfErr result (IsRefused text.now) }
+{
+    let syntax = match read_spec(alloc, text) {
+        Ok(syntax) => syntax,
+        Err(fault) => return Err(SpecFault::Syntax(fault)),
+    };
+    match check(alloc, syntax) {
+        Ok(checked) => Ok(checked),
+        Err(fault) => Err(SpecFault::Rules(fault)),
+    }
+}
+
+/// Protects a term, once it is known to be one that can be evaluated.
+pub fn admit<B: TermBank>(
+    alloc: Global,
+    checked: &Checked,
+    bank: &mut B,
+    t: Term,
+) -> Result<(), EvaluationFault>
+    requires { IsSome (tree_at (B.store bank.old) t) }
+    ensures given { OnOk result (IsGiven checked.now.spec (B.store bank.new) t) }
+    ensures protected { OnOk result (0 < (B.store bank.new).roots t.0) }
+    ensures trees { (s : Term) → (u : Tree) → tree_at (B.store bank.old) s ≡ Some u →
+        tree_at (B.store bank.new) s ≡ Some u }
+{
+    let list = only(bank, t)?;
+    check_terms(alloc, checked, bank, list)?;
+    bank.protect(t)?;
+    Ok(())
+}
+
+/// An engine for a specification over a bank, in which what is to stay is protected.
+pub fn engine_over<B: TermBank + Drop>(
+    alloc: Global,
+    checked: Checked,
+    bank: B,
+) -> Result<Engine<B>, EngineFault>
+    ensures spec { IfOk result (λ e. e.spec ≡ checked.spec) }
+    ensures store { IfOk result (λ e. HasMoreSymbols (B.store bank) (B.store e.bank)) }
+    ensures given { IfOk result (λ e. (t : Term) → IsGiven checked.spec (B.store bank) t →
+        IsGiven e.spec (B.store e.bank) t) }
+{
+    Engine::new(alloc, checked, bank, OPTIONS)
+}
+
+/// The value of a term; `None` where it takes more than `n` steps. It stays until the next term is
+/// evaluated.
+pub fn value_of<B: TermBank>(
+    engine: &mut Engine<B>,
+    t: Term,
+    n: u64,
+) -> Result<Option<Term>, EngineFault>
+    requires { IsGiven engine.old.spec (B.store engine.old.bank) t }
+    ensures value { IfOk result (λ r. (u : Tree) → tree_at (B.store engine.old.bank) t ≡ Some u →
+        IsHeld (B.store engine.new.bank) r (value_within engine.old.spec n u)) }
+    ensures given { tree_at (B.store engine.new.bank) t ≡ tree_at (B.store engine.old.bank) t }
+    ensures same { SameEngine engine.old engine.new }
+    ensures keeps { Keeps (B.store engine.old.bank) (B.store engine.new.bank) [] }
+{
+    match engine.normalise(t, n)? {
+        Outcome::Value { term, steps: _ } => Ok(Some(term)),
+        Outcome::Limit => Ok(None),
+    }
+}
+
+/// The printed text of that value.
+pub fn printed_value<B: TermBank>(
+    alloc: Global,
+    engine: &mut Engine<B>,
+    t: Term,
+    n: u64,
+) -> Result<Option<Vec<u8>>, EvaluationFault>
+    requires { IsGiven engine.old.spec (B.store engine.old.bank) t }
+    ensures text { IfOk result (λ text. (u : Tree) → tree_at (B.store engine.old.bank) t ≡ Some u →
+        option_map (λ v. v.items) text ≡ value_text engine.old.spec n u) }
+    ensures given { tree_at (B.store engine.new.bank) t ≡ tree_at (B.store engine.old.bank) t }
+    ensures same { SameEngine engine.old engine.new }
+    ensures keeps { Keeps (B.store engine.old.bank) (B.store engine.new.bank) [] }
+{
+    let Some(value) = value_of(engine, t, n)? else {
+        return Ok(None);
+    };
+    Ok(Some(printed(alloc, engine.bank(), value)?))
+}
+
+/// The same of the specification's own term of a number, from 0.
+pub fn printed_own_value<B: TermBank>(
+    alloc: Global,
+    engine: &mut Engine<B>,
+    i: u32,
+    n: u64,
+) -> Result<Option<Vec<u8>>, EvaluationFault>
+    requires { i < length engine.old.spec.terms }
+    ensures text { IfOk result (λ text. (u : Tree) → eval_tree engine.old.spec i ≡ Some u →
+        option_map (λ v. v.items) text ≡ value_text engine.old.spec n u) }
+    ensures same { SameEngine engine.old engine.new }
+    ensures keeps { Keeps (B.store engine.old.bank) (B.store engine.new.bank) [] }
+{
+    let t = engine.eval_term(i)?;
+    printed_value(alloc, engine, t, n)
+}
