@@ -1,39 +1,33 @@
 #!/usr/bin/env -S python3 -B
 """Refuses the program what it asks for, each request in its turn: hostile.py PROGRAM [PART..].
 
-The parts are texts (each beginning of a text), cells (each number of them), files (each read and each
-write fails or is interrupted; needs strace) and memory (each request for memory; needs gdb, and takes
-some minutes for each processor's share). The last line is `N passed, M failed`.
+| Part | What is tried |
+|---|---|
+| texts | each beginning of a text |
+| cells | each number of cells up to 64, for each worked specification |
+| rows | each worked specification with other options on the memo, on reclaiming and on the count |
+| files | each read and each write fails, is interrupted, or gives nothing; needs strace |
+| depth | great depth and length, on stacks of 8 MiB and of 256 KiB |
+| program | folders, missing and endless files, full devices, closed pipes, signals |
+| memory | each request for memory of the program; needs gdb |
+| crates | each request for memory of single calls, by the program of crates/hostile; needs gdb |
+
+The last line is `N passed, M failed`. Runs under gdb stand side by side on the processors that this process may use.
 """
 
-import concurrent.futures
-import json
-import os
 import re
 import shutil
-import subprocess
 import sys
-import tempfile
+import time
 
-from common import FAILURES, TOP, program, rows, same, text_of
+from attempts import NO_CELLS, TRIED, check, passed, recw
+from common import FAILURES, rows, text_of
+from depth import try_depth
+from memory import try_crates, try_memory
+from streams import try_files, try_program
 
-EXAMPLES = f"{TOP}/examples"
-NO_MEMORY = (3, "recw: out of memory\n")
-# The calls that read and that write, as the tracer names them, and what is told where one fails.
-FILES = {"read": "recw: read failed\n", "write": "recw: write failed\n"}
-TRIED = []
-
-
-def check(what, wanted, found):
-    TRIED.append(what)
-    same(what, wanted, found)
-
-
-def recw(*words, before=(), **how):
-    """The status and both outputs of the program."""
-    how = {"cwd": EXAMPLES, "capture_output": True, "text": True, "check": False, "timeout": 600, **how}
-    ran = subprocess.run([*before, program(), *words], **how)
-    return ran.returncode, ran.stdout, ran.stderr
+MEMOS = (0, 1, 65536)
+RECLAIMS = (1, 262144)
 
 
 def try_texts():
@@ -48,63 +42,82 @@ def try_texts():
         check(f"the term {beginning!r}", wanted, recw("aterm", input=beginning)[:2])
 
 
+def worked():
+    """The rows of the table but those whose steps only remembered results make few."""
+    return [it for it in rows() if "fast.rec" not in it[0]]
+
+
+def without(options, name):
+    """The options without one of them and its number."""
+    return re.sub(rf"{name} \d+", "", options).split()
+
+
 def try_cells():
     wanted = (0, "s(s(s(z)))\n", "")
-    for cells in range(1, 64):
-        found = recw("eval", "--steps", "3", "--cells", str(cells), "add.rec")
-        check(f"{cells} cells", True, found in (wanted, (3, "", "recw: out of cells\n")))
     check("64 cells", wanted, recw("eval", "--steps", "3", "--cells", "64", "add.rec"))
+    for files, options, output in worked():
+        for cells in range(1, 65):
+            words = [*without(options, "--cells"), "--cells", str(cells), *files.split()]
+            status, lines, told = recw("eval", *words)
+            refused = (status, told) == NO_CELLS and output.startswith(lines)
+            check(" ".join(words), True, refused or (status, lines, told) == (0, output, ""))
 
 
-def traced(room, call, how, number, words):
-    """A run in which the call's request of a number for a file of the room is met in another way."""
-    path = f"{room}/in" if call == "read" else f"{room}/out"
-    before = ["strace", "-qq", "-o", f"{room}/trace", "-P", path, "-e", f"inject={call}:{how}:when={number}"]
-    with open(f"{room}/out", "w", encoding="utf-8") as out:
-        status, _, told = recw(*words, f"{room}/in", before=before, capture_output=False, stdout=out, stderr=subprocess.PIPE)
-    with open(f"{room}/out", encoding="utf-8") as out, open(f"{room}/trace", encoding="utf-8") as trace:
-        return "(INJECTED)" in trace.read(), (status, out.read(), told)
+def known_steps():
+    """The steps of lines whose value comes with a budget and not with one less, by file, budget and line."""
+    outputs = {}
+    for files, options, output in worked():
+        budget = int(re.search(r"--steps (\d+)", options)[1])
+        outputs[files, budget] = [it.split("\t")[0] for it in output.splitlines()]
+    known = {}
+    for (files, budget), lines in outputs.items():
+        fewer = outputs.get((files, budget - 1))
+        for number, line in enumerate(lines):
+            if budget == 0 or (fewer and fewer[number].startswith("!limit") and not line.startswith("!")):
+                known[files, budget, number] = budget
+    return known
 
 
-def try_files():
-    words, wanted = ["eval", "--steps", "3"], (0, "s(s(s(z)))\n", "")
-    for call, told in FILES.items():
-        for how in ("error=EIO", "error=EINTR"):
-            with tempfile.TemporaryDirectory() as room:
-                shutil.copy(f"{EXAMPLES}/add.rec", f"{room}/in")
-                for number in range(1, 100):
-                    met, found = traced(room, call, how, number, words)
-                    if not met:
-                        check(f"the number of calls of {call}", True, number > 1)
-                        break
-                    failed = found[0] == 4 and wanted[1].startswith(found[1]) and found[2] == told
-                    check(f"{call} {number}: {how}", True, failed or (how == "error=EINTR" and found == wanted))
+def is_counted(output, found, steps):
+    """Whether the lines are those without a count, with steps behind each value: the known ones, where they are."""
+    lines = found.splitlines()
+    if [it.split("\t")[0] for it in lines] != output.splitlines():
+        return False
+    for number, line in enumerate(lines):
+        value, _, count = line.partition("\t")
+        if value.startswith("!limit") != (count == "") or (count and int(count) != steps.get(number, int(count))):
+            return False
+    return True
 
 
-def refused(row):
-    """What the program answers where each request for memory is refused in turn, and the row's output."""
-    files, options, output = row
-    words = [program(), "eval", *options.split(), *files.split()]
-    gdb = ["gdb", "-q", "-batch", "-x", f"{TOP}/tests/refuse.py", "--args", *words]
-    ran = subprocess.run(gdb, cwd=EXAMPLES, capture_output=True, text=True, check=False)
-    return row, output, [json.loads(it) for it in re.findall(r"^\{.*\}$", ran.stdout, re.M)]
+def try_rows():
+    known = known_steps()
+    for files, options, output in worked():
+        budget = int(re.search(r"--steps (\d+)", options)[1])
+        steps = {number: it for (file, n, number), it in known.items() if (file, n) == (files, budget)}
+        counted = set()
+        for memo in MEMOS:
+            for reclaim in RECLAIMS:
+                words = [*without(options, "--memo"), "--memo", str(memo), "--reclaim", str(reclaim), *files.split()]
+                check(" ".join(words), (0, output, ""), recw("eval", *words))
+                if "--count" not in options:
+                    counted.add(recw("eval", "--count", *words)[1])
+        if "--count" not in options:
+            found = counted.pop()
+            check(f"{options} {files}: counts", True, not counted and is_counted(output, found, steps))
 
 
-def try_memory():
-    known = recw("eval", "--help")[1]
-    tried = [it for it in rows() if all(word in known for word in re.findall(r"--\w+", it[1])) and "fast.rec" not in it[0]]
-    with concurrent.futures.ThreadPoolExecutor(os.cpu_count()) as pool:
-        for (files, options, _), output, answers in pool.map(refused, tried):
-            check(f"{options} {files}: answers", True, len(answers) > 1)
-            for it in answers:
-                found = (it["status"], it["err"])
-                kept = found == NO_MEMORY and output.startswith(it["out"])
-                what = f"{options} {files}: {it['call']} {it['number']}: {found} {it['out']!r}"
-                check(what, True, kept or (*found, it["out"]) == (0, "", output))
-
-
-PARTS = {"texts": try_texts, "cells": try_cells, "files": try_files, "memory": try_memory}
-NEEDS = {"files": "strace", "memory": "gdb"}
+PARTS = {
+    "texts": try_texts,
+    "cells": try_cells,
+    "rows": try_rows,
+    "files": try_files,
+    "depth": try_depth,
+    "program": try_program,
+    "memory": try_memory,
+    "crates": try_crates,
+}
+NEEDS = {"files": "strace", "memory": "gdb", "crates": "gdb"}
 
 
 def main():
@@ -113,8 +126,10 @@ def main():
         if tool and not shutil.which(tool):
             print(f"not tried: {part}: {tool} is not here")
             continue
+        before, start = len(TRIED), time.monotonic()
         PARTS[part]()
-    print(f"{len(TRIED) - len(FAILURES)} passed, {len(FAILURES)} failed")
+        print(f"{part}: {len(TRIED) - before} tried in {time.monotonic() - start:.0f} s", flush=True)
+    print(f"{passed()} passed, {len(FAILURES)} failed")
     sys.exit(1 if FAILURES else 0)
 
 

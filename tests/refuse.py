@@ -1,14 +1,21 @@
-"""Run by gdb, with the program and its words as its arguments: each request for memory is refused in turn.
+"""Run by gdb, with a program and its words as its arguments: each request for memory is refused in turn.
 
-For each run a line is printed: the call, its number, the exit status, and both outputs, as JSON.
+Where CALL_ALONE is set, only the requests between the first and the second write of the program count. For each run a
+line is printed: the call, its number, the exit status, and both outputs, as JSON. The first line is of a run in which
+nothing is refused, with how often each call was made.
 """
 
 import json
+import os
 import tempfile
 
 import gdb
 
 CALLS = ("malloc", "realloc")
+ALONE = "CALL_ALONE" in os.environ
+# Where the requests begin to count, and where they end.
+FIRST = "write@plt" if ALONE else "main"
+LAST = "write@plt" if ALONE else "_exit"
 
 
 def silent(words):
@@ -16,11 +23,16 @@ def silent(words):
 
 
 def started():
-    """Breakpoints at the calls that ask for memory, of a program that has begun."""
-    start = gdb.Breakpoint("main", internal=True)
+    """A program that has come to where requests begin to count."""
+    start = gdb.Breakpoint(FIRST, internal=True)
     silent("run")
     start.delete()
-    return {call: gdb.Breakpoint(f"{call}@plt", internal=True) for call in CALLS}
+
+
+def at(place, ignored=0):
+    point = gdb.Breakpoint(place, internal=True)
+    point.ignore_count = ignored
+    return point
 
 
 def refuse():
@@ -35,27 +47,34 @@ def bytes_in(room, name):
         return file.read().decode("latin-1")
 
 
-def told(room, call, number):
+def told(room, **which):
     outputs = {name: bytes_in(room, name) for name in ("out", "err")}
     status = int(gdb.parse_and_eval("$_exitcode"))
-    print(json.dumps({"call": call, "number": number, "status": status, **outputs}), flush=True)
+    print(json.dumps({**which, "status": status, **outputs}), flush=True)
 
 
 def counted(room):
     """How often each call is made where nothing is refused."""
-    points = started()
-    for point in points.values():
-        point.ignore_count = 1 << 30
+    started()
+    points = {call: at(f"{call}@plt", 1 << 30) for call in CALLS}
+    end = at(LAST)
     silent("continue")
-    told(room, "none", 0)
     counts = {call: point.hit_count for call, point in points.items()}
-    forget(points)
+    for point in (*points.values(), end):
+        point.delete()
+    silent("continue")
+    told(room, call="none", counts=counts)
     return counts
 
 
-def forget(points):
-    for point in points.values():
-        point.delete()
+def refused(room, call, number):
+    started()
+    point = at(f"{call}@plt", number - 1)
+    silent("continue")
+    refuse()
+    point.delete()
+    silent("continue")
+    told(room, call=call, number=number)
 
 
 def main():
@@ -66,14 +85,7 @@ def main():
         silent(f"set args {words} >{room}/out 2>{room}/err")
         for call, count in counted(room).items():
             for number in range(1, count + 1):
-                points = started()
-                for name, point in points.items():
-                    point.ignore_count = number - 1 if name == call else 1 << 30
-                silent("continue")
-                refuse()
-                forget(points)
-                silent("continue")
-                told(room, call, number)
+                refused(room, call, number)
 
 
 main()

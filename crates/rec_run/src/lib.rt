@@ -6,6 +6,8 @@ mod evaluated_lines;
 mod given_term;
 #[cfg(test)]
 mod given_tests;
+#[cfg(test)]
+mod hostile_tests;
 pub mod laws;
 mod lines;
 mod pattern_answer;

@@ -1,0 +1,133 @@
+//! Makes one call of a library where the watcher of this process may refuse it memory, and tells
+//! what stands then. The two words of the command line name the row.
+#![tactic(auto, using(rx_term::proofs::StoreLemmas::bank_steps))]
+
+mod arenas;
+mod banks;
+mod engines;
+mod patterns;
+mod specifications;
+mod texts;
+mod told;
+
+use crate::banks::Call;
+use anyhow::{Result, bail};
+use rx_plain::PlainBank;
+use rx_shared::SharedBank;
+use rx_term::TermBank;
+use std::alloc::Global;
+use std::env;
+use std::io::Write;
+use std::process::ExitCode;
+
+/// How many cells the banks may have.
+const CELLS: u32 = 4096;
+
+fn main(rt: HostRuntime) -> ExitCode {
+    match try_row(&rt) {
+        Ok(()) => ExitCode::SUCCESS,
+        Err(_) => ExitCode::from(3),
+    }
+}
+
+/// Tries the row that the words name.
+fn try_row(rt: &HostRuntime) -> Result<()> {
+    let alloc = rt.alloc();
+    let words: Vec<String> = env::args(rt)?.skip(1).collect(alloc)?;
+    let mut out = rt.stdout();
+    let (Some(kind), Some(call)) = (words.get(0), words.get(1)) else {
+        bail!("two words are wanted");
+    };
+    match kind.as_str() {
+        "plain" => try_plain(alloc, call.as_str(), &mut out),
+        "shared" => try_shared(alloc, call.as_str(), &mut out),
+        "store" => try_store(alloc, call.as_str(), &mut out),
+        "text" => try_text(alloc, call.as_str(), &mut out),
+        "engine" => try_engine(alloc, call.as_str(), &mut out),
+        _ => bail!("no such kind"),
+    }
+}
+
+/// A call of a plain bank.
+fn try_plain<W: Write>(alloc: Global, call: &str, out: &mut W) -> Result<()> {
+    if call == "new" {
+        return banks::try_new_plain(alloc, out);
+    }
+    try_bank(alloc, call, &mut PlainBank::new(alloc, CELLS)?, out)
+}
+
+/// A call of a shared bank.
+fn try_shared<W: Write>(alloc: Global, call: &str, out: &mut W) -> Result<()> {
+    match call {
+        "new" => banks::try_new_shared(alloc, out),
+        "thousand" => banks::try_thousand(alloc, out),
+        _ => try_bank(alloc, call, &mut SharedBank::new(alloc, CELLS)?, out),
+    }
+}
+
+/// A call of any bank.
+fn try_bank<B: TermBank, W: Write>(
+    alloc: Global,
+    call: &str,
+    bank: &mut B,
+    out: &mut W,
+) -> Result<()> {
+    let call = match call {
+        "int" => Call::Int,
+        "nil" => Call::Nil,
+        "cons" => Call::Cons,
+        "appl" => Call::Appl,
+        "hole" => Call::Hole,
+        "annotated" => Call::Annotated,
+        "symbol" => Call::Symbol,
+        "reserve" => Call::Reserve,
+        "readers" => return banks::try_readers(alloc, bank, out),
+        "reclaim" => return banks::try_reclaim(alloc, bank, out),
+        _ => bail!("no such call"),
+    };
+    banks::try_call(alloc, bank, call, out)
+}
+
+/// A call of the tables and cells that banks stand on.
+fn try_store<W: Write>(alloc: Global, call: &str, out: &mut W) -> Result<()> {
+    match call {
+        "intern" => arenas::try_intern(alloc, out),
+        "arena" => arenas::try_new(alloc, out),
+        "take" => arenas::try_take(alloc, out),
+        "reserve" => arenas::try_reserve(alloc, out),
+        "rehash" => arenas::try_rehash(alloc, out),
+        "collect" => arenas::try_collect(alloc, out),
+        _ => bail!("no such call"),
+    }
+}
+
+/// A call on texts of annotated terms and on patterns, over a shared bank.
+fn try_text<W: Write>(alloc: Global, call: &str, out: &mut W) -> Result<()> {
+    let bank = &mut SharedBank::new(alloc, CELLS)?;
+    match call {
+        "read" => texts::try_read(alloc, bank, out),
+        "write" => texts::try_write(alloc, bank, out),
+        "pattern" => patterns::try_of(alloc, bank, out),
+        "matches" => patterns::try_matches(alloc, bank, out),
+        "make" => patterns::try_make(alloc, bank, out),
+        _ => bail!("no such call"),
+    }
+}
+
+/// A call on specifications.
+fn try_engine<W: Write>(alloc: Global, call: &str, out: &mut W) -> Result<()> {
+    let mut bank = SharedBank::new(alloc, CELLS)?;
+    match call {
+        "read" => specifications::try_read(alloc, out),
+        "check" => specifications::try_check(alloc, out),
+        "terms" => specifications::try_check_terms(alloc, &mut bank, out),
+        "links" => specifications::try_links(alloc, &mut bank, out),
+        "build" => specifications::try_build(alloc, &mut bank, out),
+        "next" => specifications::try_next(alloc, &mut bank, out),
+        "memo" => engines::try_memo(alloc, out),
+        "new" => engines::try_new(alloc, bank, out),
+        "eval_term" => engines::try_eval_term(alloc, bank, out),
+        "normalise" => engines::try_normalise(alloc, bank, out),
+        _ => bail!("no such call"),
+    }
+}

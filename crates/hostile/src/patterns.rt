@@ -1,0 +1,108 @@
+//! Patterns over a bank.
+
+ghost use Rattle.std.specs.Prelude.{IfOk, IsSome};
+ghost use Rattle.rx_term.specs.Store.{tree_at};
+ghost use Rattle.rx_term.specs.Steps.{Grows};
+
+use crate::told::{begin, say, show, tell};
+use anyhow::{Result, bail};
+use rx_pattern::Pattern;
+use rx_term::{Term, TermBank};
+use rx_text::read;
+use std::alloc::Global;
+use std::io::Write;
+
+/// Binds an integer and the rest of a list that has annotations.
+const PATTERN: &[u8] = b"f(<int>,[<list>]{x})";
+
+/// What it matches.
+const SUBJECT: &[u8] = b"f(1,[2,3]{x})";
+
+/// The pattern that a text spells.
+fn pattern<B: TermBank>(alloc: Global, bank: &mut B, text: &[u8]) -> Result<Pattern> {
+    let t = read(alloc, text, bank)?;
+    if !bank.holds(t) {
+        bail!("what was read is not held");
+    }
+    Ok(Pattern::of(alloc, bank, t)?)
+}
+
+/// The pattern of a term is taken.
+pub fn try_of<B: TermBank, W: Write>(alloc: Global, bank: &mut B, out: &mut W) -> Result<()> {
+    let t = read(alloc, PATTERN, bank)?;
+    if !bank.holds(t) {
+        bail!("what was read is not held");
+    }
+    begin(out)?;
+    let answer = Pattern::of(alloc, bank, t);
+    tell(out, &answer)?;
+    let pattern = Pattern::of(alloc, bank, t)?;
+    show_bindings(alloc, bank, &pattern, out)
+}
+
+/// Says what a pattern binds in the subject.
+fn show_bindings<B: TermBank, W: Write>(
+    alloc: Global,
+    bank: &mut B,
+    pattern: &Pattern,
+    out: &mut W,
+) -> Result<()> {
+    let mut bound = Vec::new(alloc);
+    let t = read(alloc, SUBJECT, bank)?;
+    let is_matched = bank.holds(t) && pattern.matches(bank, t, &mut bound)?;
+    say(out, is_matched, "matched")?;
+    for binding in &bound {
+        show(alloc, bank, *binding, out)?;
+    }
+    Ok(())
+}
+
+/// A term is matched.
+pub fn try_matches<B: TermBank, W: Write>(alloc: Global, bank: &mut B, out: &mut W) -> Result<()> {
+    let pattern = pattern(alloc, bank, PATTERN)?;
+    let t = read(alloc, SUBJECT, bank)?;
+    let mut bound: Vec<Term> = Vec::new(alloc);
+    if !bank.holds(t) {
+        bail!("what was read is not held");
+    }
+    begin(out)?;
+    let answer = pattern.matches(bank, t, &mut bound);
+    tell(out, &answer)?;
+    say(
+        out,
+        answer.is_ok() || bound.is_empty(),
+        "without bindings after a fault",
+    )?;
+    show(alloc, bank, t, out)?;
+    show_bindings(alloc, bank, &pattern, out)
+}
+
+/// A term is made.
+pub fn try_make<B: TermBank, W: Write>(alloc: Global, bank: &mut B, out: &mut W) -> Result<()> {
+    let pattern = pattern(alloc, bank, PATTERN)?;
+    let first = read(alloc, b"1", bank)?;
+    let second = read(alloc, b"[2,3]", bank)?;
+    begin_make(alloc, bank, &pattern, [first, second], out)
+}
+
+/// The same, where the given trees are there.
+fn begin_make<B: TermBank, W: Write>(
+    alloc: Global,
+    bank: &mut B,
+    pattern: &Pattern,
+    given: [Term; 2],
+    out: &mut W,
+) -> Result<()> {
+    if !bank.holds(given[0]) || !bank.holds(given[1]) {
+        bail!("what was read is not held");
+    }
+    begin(out)?;
+    let answer = pattern.make(bank, &given);
+    tell(out, &answer)?;
+    show(alloc, bank, given[1], out)?;
+    if !bank.holds(given[0]) || !bank.holds(given[1]) {
+        bail!("a given tree is lost");
+    }
+    let made = pattern.make(bank, &given)?;
+    show(alloc, bank, made, out)
+}

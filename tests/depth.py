@@ -1,0 +1,162 @@
+"""Texts of great depth and of the greatest length, on small stacks: what is due is worked out here."""
+
+import os
+import subprocess
+
+from attempts import at_stack, check, check_long, recw, room, write_file
+from common import program, text_of
+
+# Kilobytes of stack; what is promised needs no more than the second.
+STACKS = (8192, 256)
+LONGEST = 16777216
+LEVELS = 2000000
+# One word of a command line has at most 131072 bytes, and a small stack takes fewer.
+WORD_LEVELS = 30000
+SORTS = "REC-SPEC D SORTS N CONS z : -> N s : N -> N"
+
+
+def tower(levels, inner="z"):
+    return "s(" * levels + inner + ")" * levels
+
+
+def check_run(what, wanted, *words, **how):
+    """The run's status, its output, and nothing on standard error."""
+    check_long(what, (*wanted, ""), recw(*words, **how))
+
+
+def brackets(stack, at):
+    deep = "[" * LEVELS + "]" * LEVELS
+    file = write_file(f"{at}/deep", deep)
+    before = at_stack(stack)
+    what = f"{LEVELS} brackets, {stack} KiB of stack"
+    check_run(f"aterm: {what}", (0, f"{deep}\n"), "aterm", file, before=before)
+    check_run(f"share: {what}", (0, f"{deep}\ncells {LEVELS}\n"), "share", file, before=before)
+    check_run(f"match: {what}", (0, f"yes\n{deep}\n"), "match", "<term>", file, before=before)
+    word = "[" * WORD_LEVELS + "]" * WORD_LEVELS
+    what = f"{WORD_LEVELS} brackets in a word, {stack} KiB of stack"
+    check_run(f"make: {what}", (0, f"[{word}]\n"), "make", "[<term>]", f"[{word}]", before=before)
+    check_run(f"make: {what}, as a pattern", (0, f"{word}\n"), "make", word, "[]", before=before)
+    check_run(f"match: {what}", (0, "no\n"), "match", word, file, before=before)
+
+
+def unended(stack, at):
+    """Deep texts that break off: the place is the end."""
+    for mark in "[(<":
+        file = write_file(f"{at}/unended", mark * LEVELS)
+        wanted = (1, "!term A\n", f"recw: term A at byte {LEVELS}\n")
+        found = recw("aterm", file, before=at_stack(stack))
+        check_long(f"{LEVELS} times {mark}, {stack} KiB of stack", wanted, found)
+
+
+def sums(stack, at):
+    spec = text_of("examples/add.rec")
+    high = tower(100000)
+    terms = write_file(f"{at}/terms", f"[plus({high},z)]")
+    for steps, line in ((100001, high), (100000, "!limit 100000")):
+        words = ("eval", "--steps", str(steps), write_file(f"{at}/spec", spec), terms)
+        what = f"the sum of 100000 and 0 in {steps} steps, {stack} KiB of stack"
+        check_run(what, (0, f"s(s(s(z)))\n{line}\n"), *words, before=at_stack(stack))
+
+
+def left_sides(stack, at):
+    rule = f"f({tower(100000, 'X')}) -> X"
+    spec = f"{SORTS} OPNS f : N -> N VARS X : N RULES {rule} EVAL f({tower(100000)}) END-SPEC"
+    file = write_file(f"{at}/spec", spec)
+    for steps, line in ((1, "z"), (0, "!limit 0")):
+        what = f"a left side of 100000 levels in {steps} steps, {stack} KiB of stack"
+        check_run(what, (0, f"{line}\n"), "eval", "--steps", str(steps), file, before=at_stack(stack))
+
+
+def comparisons(stack, at):
+    """A copy takes a step for each level and one more, and then the rule with the condition takes one."""
+    rules = "d(z) -> z d(s(X)) -> s(d(X)) e(X,Y) -> z if X -><- Y"
+    high = tower(1000000)
+    terms = f"e(d({high}),{high})"
+    spec = f"{SORTS} OPNS d : N -> N e : N N -> N VARS X Y : N RULES {rules} EVAL {terms} END-SPEC"
+    file = write_file(f"{at}/spec", spec)
+    for steps, line in ((1000002, "z"), (1000001, "!limit 1000001")):
+        what = f"values of 1000000 levels, compared in {steps} steps, {stack} KiB of stack"
+        check_run(what, (0, f"{line}\n"), "eval", "--steps", str(steps), file, before=at_stack(stack))
+
+
+def longest_terms():
+    """Each text of the greatest length with the text that is printed: a wide list, a deep term, and one name."""
+    wide = "[" + "0," * 8388606 + "0]"
+    deep = "f(" * 5592404 + "a" + ")" * 5592404
+    name = '"' + "a" * (LONGEST - 2) + '"'
+    for text in (wide, deep, name):
+        yield text.ljust(LONGEST), text
+
+
+def lengths(stack, at):
+    before = at_stack(stack)
+    for number, (text, printed) in enumerate(longest_terms()):
+        what = f"a term of {LONGEST} bytes, number {number}, {stack} KiB of stack"
+        check_run(what, (0, f"{printed}\n"), "aterm", write_file(f"{at}/term", text), before=before)
+    longer = write_file(f"{at}/term", text + " ")
+    for words in (["aterm"], ["match", "<term>"], ["share"]):
+        check_run(f"{words[0]} of one byte more", (1, "!term L1\n"), *words, longer, before=before)
+
+
+def long_specifications(stack, at):
+    before = at_stack(stack)
+    head, end = f"{SORTS} EVAL", " END-SPEC"
+    count = (LONGEST - len(head) - len(end)) // 2
+    text = (head + " z" * count + end).ljust(LONGEST)
+    file = write_file(f"{at}/spec", text)
+    what = f"a specification of {LONGEST} bytes, {stack} KiB of stack"
+    check_run(what, (0, "z\n" * count), "eval", file, before=before)
+    write_file(f"{at}/longer", text + "%")
+    check_run("a specification of one byte more", (1, "!spec L1\n"), "eval", f"{at}/longer", before=before)
+    short = write_file(f"{at}/short", f"{SORTS} EVAL z END-SPEC")
+    terms = write_file(f"{at}/terms", ("[" + "z," * 8388606 + "z]").ljust(LONGEST))
+    what = f"given terms of {LONGEST} bytes, {stack} KiB of stack"
+    check_run(what, (0, "z\n" * 8388608), "eval", short, terms, before=before)
+    write_file(f"{at}/terms", " " * (LONGEST + 1))
+    check_run("given terms of one byte more", (1, "!terms L1\n"), "eval", short, terms, before=before)
+
+
+def peak(stack, *words):
+    """The status, the output, and the most memory in KiB that the run had."""
+    with subprocess.Popen([*at_stack(stack), program(), *words], stdout=subprocess.PIPE, encoding="latin-1") as child:
+        output = child.stdout.read()
+        _, status, used = os.wait4(child.pid, 0)
+        child.returncode = os.waitstatus_to_exitcode(status)
+    return child.returncode, output, used.ru_maxrss
+
+
+def steps_without_end(stack, at):
+    """A hundred million steps need no more memory than a million, beside a tenth and 1 MiB."""
+    rules = "f(z) -> f(s(z)) f(s(X)) -> f(X)"
+    spec = f"{SORTS} OPNS f : N -> N VARS X : N RULES {rules} EVAL f(z) END-SPEC"
+    file = write_file(f"{at}/spec", spec)
+    few = peak(stack, "eval", "--steps", "1000000", file)
+    many = peak(stack, "eval", "--steps", "100000000", file)
+    check(f"10^6 steps, {stack} KiB of stack", (0, "!limit 1000000\n"), few[:2])
+    check(f"10^8 steps, {stack} KiB of stack", (0, "!limit 100000000\n"), many[:2])
+    check(f"memory of 10^8 steps beside 10^6, {many[2]} and {few[2]} KiB", True, many[2] <= 1.1 * few[2] + 1024)
+
+
+def default_budget(stack, _):
+    what = f"a condition that asks for itself, {stack} KiB of stack"
+    check_run(what, (0, "!limit 1000000\n"), "eval", "loop.rec", before=at_stack(stack))
+
+
+GROUPS = (
+    brackets,
+    unended,
+    sums,
+    left_sides,
+    comparisons,
+    lengths,
+    long_specifications,
+    steps_without_end,
+    default_budget,
+)
+
+
+def try_depth():
+    for stack in STACKS:
+        for group in GROUPS:
+            with room() as at:
+                group(stack, at)

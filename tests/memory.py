@@ -1,0 +1,155 @@
+"""Each request for memory is refused in turn: of whole runs of the program, and of single calls of its crates."""
+
+import concurrent.futures
+import json
+import os
+import re
+import subprocess
+
+from attempts import EXAMPLES, NO_MEMORY, check, recw, room, write_file
+from common import TOP, program, rows
+
+# The program that makes one call of a crate.
+CALLER = f"{TOP}/crates/hostile/out/hostile"
+# Runs without a specification: the words, and the output that docs/FORMATS.md gives.
+OTHERS = (
+    (["aterm", "term"], "f ( a , [ 1 , -007 ] ) { b }", "f(a,[1,-7]){b}\n"),
+    (["share", "term"], "f(a,a)", "f(a,a)\ncells 5\n"),
+    (["share", "term"], "[1,[1]]", "[1,[1]]\ncells 5\n"),
+    (["share", "term"], "[a]{b}", "[a]{b}\ncells 5\n"),
+    (["match", "f(<int>,<list>)", "term"], "f(1,2,3)", "yes\n1\n[2,3]\n"),
+    (["match", "f(<int>,<list>)", "term"], "f(1)", "yes\n1\n[]\n"),
+    (["match", "f(<int>,<list>)", "term"], "f(a)", "no\n"),
+    (["make", "f(<int>,<list>)", "[1,[2,3]]"], "", "f(1,2,3)\n"),
+)
+# What a bank has behind a call, where the protected term and its 14 parts alone are left: crates/hostile/src/banks.rt
+# counts them.
+ROOTS = ["65534 protections left", "f(g(a),[1,<7>]){b}", "14 cells kept"]
+# What is due of each call: the lines after a refusal alone, and those at the end.
+BANKS = {
+    "int": (["the same cells"], ["77", *ROOTS]),
+    "nil": (["the same cells"], ["[]", "65534 protections left", "<7>", "2 cells kept"]),
+    "cons": (["the same cells"], ["[1]", *ROOTS]),
+    "appl": (["the same cells"], ["g(b)", *ROOTS]),
+    "hole": (["the same cells"], ["<1>", *ROOTS]),
+    "annotated": (["the same cells"], ["1{b}", *ROOTS]),
+    "symbol": (["the same cells"], ["the same symbol", *ROOTS]),
+    "reserve": (["the same cells"], ["room for as many", *ROOTS]),
+}
+OTHER_CALLS = {
+    "shared new": ([], ["0 cells"]),
+    "shared thousand": ([], ["1100 cells"]),
+    "store intern": (["without the name"], ["the known symbol", "the new symbol"]),
+    "store arena": ([], ["0 cells"]),
+    "store take": (["the same cells"], ["one cell more"]),
+    "store reserve": ([], ["the same cells", "room for as many"]),
+    "store rehash": (["the same chains"], ["the same cells", "64 chains"]),
+    "text read": ([], ["[kept]", "f(g(a),[1,<7>]){b}", "0 cells kept"]),
+    "text write": ([], ["a beginning", "f(g(a),[1,<7>]){b}"]),
+    "text pattern": ([], ["matched", "1", "[2,3]"]),
+    "text matches": ([], ["without bindings after a fault", "f(1,[2,3]{x})", "matched", "1", "[2,3]"]),
+    "text make": ([], ["[2,3]", "f(1,[2,3]{x})"]),
+    "engine read": ([], ["2 terms"]),
+    "engine check": ([], ["2 terms"]),
+    "engine terms": ([], ["accepted"]),
+    "engine links": ([], ["0 cells", "3 symbols"]),
+    "engine build": ([], ["2 left sides"]),
+    "engine next": ([], ["without values after a fault", "the second rule", "2 values"]),
+    "engine memo": ([], ["remembered"]),
+    "engine new": ([], []),
+    "engine eval_term": ([], ["plus(s(s(z)),s(z))"]),
+    "engine normalise": ([], ["s(s(s(z)))", "3 steps"]),
+}
+# Calls that ask for no memory, so that none of their requests can be refused.
+FREE = {
+    "plain new": ["0 cells"],
+    "plain readers": ["5 levels", "filled", *ROOTS],
+    "shared readers": ["5 levels", "filled", *ROOTS],
+    "plain reclaim": ["65534 protections left", "0 protections left", *ROOTS[1:]],
+    "shared reclaim": ["65534 protections left", "0 protections left", *ROOTS[1:]],
+    "store collect": ["1 cells"],
+}
+
+
+def refused(words, **env):
+    """What a program answers where each request for memory is refused in turn, the first time none."""
+    gdb = ["gdb", "-q", "-batch", "-x", f"{TOP}/tests/refuse.py", "--args", *words]
+    how = {"cwd": EXAMPLES, "capture_output": True, "text": True, "check": False}
+    ran = subprocess.run(gdb, env={**os.environ, **env}, **how)
+    return [json.loads(it) for it in re.findall(r"^\{.*\}$", ran.stdout, re.M)]
+
+
+def in_parallel(work, jobs):
+    """Does the work for each job, as many at a time as there are processors for this process."""
+    with concurrent.futures.ThreadPoolExecutor(len(os.sched_getaffinity(0))) as pool:
+        yield from pool.map(work, jobs)
+
+
+def whole_runs(at):
+    """The words of each run, and its output."""
+    known = recw("eval", "--help")[1]
+    for files, options, output in rows():
+        # the sixth of a quintillion steps takes no end of time where each request is refused
+        if "fast.rec" not in files and all(word in known for word in re.findall(r"--\w+", options)):
+            yield ["eval", *options.split(), *files.split()], output
+    for number, (words, text, output) in enumerate(OTHERS):
+        term = write_file(f"{at}/{number}", text)
+        yield [term if it == "term" else it for it in words], output
+
+
+def try_memory():
+    with room() as at:
+        jobs = list(whole_runs(at))
+        for (words, output), answers in zip(jobs, in_parallel(lambda job: refused([program(), *job[0]]), jobs)):
+            line = " ".join(words)
+            check(f"{line}: answers", True, len(answers) > 1)
+            for it in answers:
+                found = (it["status"], it["err"])
+                kept = found == NO_MEMORY and output.startswith(it["out"])
+                what = f"{line}: {it['call']} {it.get('number')}: {found} {it['out']!r}"
+                check(what, True, kept or (*found, it["out"]) == (0, "", output))
+
+
+def calls():
+    """Each row of the caller, the lines that are due after a refusal alone, and those that are due at the end."""
+    for kind in ("plain", "shared"):
+        for call, due in BANKS.items():
+            yield f"{kind} {call}", due
+    yield from OTHER_CALLS.items()
+
+
+def lines(*items):
+    return "".join(f"{it}\n" for it in items)
+
+
+def is_due(row, text, refusal, ending):
+    """Whether a row told that memory was wanting. A shared bank may answer as ever: its chains may stay longer."""
+    if text == lines("ready", "done") + ending:
+        return not row.startswith(("plain", "store", "text"))
+    return text == lines("ready", "memory", *refusal) + ending
+
+
+def refused_calls(due):
+    """Each row with what is due of it, and the answers where each request of the call alone is refused."""
+    answers = in_parallel(lambda it: refused([CALLER, *it[0].split()], CALL_ALONE="1"), due)
+    return zip(due, answers)
+
+
+def try_call(row, refusal, ending, answers):
+    first, *others = answers
+    check(f"{row}: nothing is refused", (0, lines("ready", "done") + ending), (first["status"], first["out"]))
+    check(f"{row}: wants memory", True, any(it["out"].startswith(lines("ready", "memory")) for it in others))
+    for it in others:
+        due = it["status"] == 0 and is_due(row, it["out"], refusal, ending)
+        check(f"{row}: {it['call']} {it['number']}: {it['out']!r}", True, due)
+
+
+def try_crates():
+    if not os.path.exists(CALLER):
+        print(f"not tried: crates: {CALLER} is not there; rt run in crates/hostile builds it")
+        return
+    for (row, (refusal, ending)), answers in refused_calls(list(calls())):
+        try_call(row, refusal, lines(*ending), answers)
+    for (row, ending), answers in refused_calls(list(FREE.items())):
+        free = {"call": "none", "counts": {"malloc": 0, "realloc": 0}, "status": 0, "err": ""}
+        check(f"{row}: asks for no memory", [{**free, "out": lines("ready", "done", *ending)}], answers)

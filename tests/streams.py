@@ -1,0 +1,196 @@
+"""Files, pipes and signals that go wrong: each read and each write fails in turn, and what a system has besides."""
+
+import os
+import shutil
+import signal
+import subprocess
+import time
+
+from attempts import EXAMPLES, NO_READ, NO_WRITE, check, recw, room, write_file
+from common import program, text_of
+
+# More than the program keeps before it writes.
+LONG = f"[{','.join(['1'] * 100000)}]"
+REFUSED = "REC-SPEC E SORTS : END-SPEC"
+DONE = (0, "")
+# What is tried with each read and each write refused: the words, the text of each file that they name, the output, and
+# the end of a run in which nothing is refused.
+RUNS = (
+    ("eval --steps 3 in", {"in": "examples/add.rec"}, "s(s(s(z)))\n", DONE),
+    ("eval --steps 3 in terms", {"in": "examples/add.rec", "terms": "examples/add.trm"}, "s(s(s(z)))\ns(z)\n", DONE),
+    ("aterm in", {"in": "f ( a , [ 1 , -007 ] ) { b }"}, "f(a,[1,-7]){b}\n", DONE),
+    ("share in", {"in": "[a]{b}"}, "[a]{b}\ncells 5\n", DONE),
+    ("match f(<int>,<list>) in", {"in": "f(1,2,3)"}, "yes\n1\n[2,3]\n", DONE),
+    ("aterm in", {"in": LONG}, f"{LONG}\n", DONE),
+    ("eval in", {"in": REFUSED}, "!spec G\n", (1, "recw: spec G at byte 17\n")),
+)
+# The calls, what is answered in place of what was asked for, and what is told then.
+REFUSALS = (
+    ("read", "error=EIO", NO_READ),
+    ("read", "error=EINTR", NO_READ),
+    ("write", "error=EIO", NO_WRITE),
+    ("write", "error=ENOSPC", NO_WRITE),
+    ("write", "error=EINTR", NO_WRITE),
+    ("write", "retval=0", NO_WRITE),
+)
+
+
+def traced(at, path, how, number, words):
+    """A run in which the call's request of a number for a file is met in another way."""
+    before = ["strace", "-qq", "-o", f"{at}/trace", "-P", path, "-e", f"inject={how}:when={number}"]
+    with open(f"{at}/out", "w", encoding="latin-1") as out:
+        how = {"cwd": at, "capture_output": False, "stdout": out, "stderr": subprocess.PIPE}
+        status, _, told = recw(*words, before=before, **how)
+    with open(f"{at}/out", encoding="latin-1") as out, open(f"{at}/trace", encoding="latin-1") as trace:
+        return "(INJECTED)" in trace.read(), out.read(), (status, told)
+
+
+def refuse_in_turn(at, words, path, refusal, output, end):
+    """Each request of the call for the file is refused: of a read nothing is written, of a write a beginning."""
+    call, how, told = refusal
+    for number in range(1, 1000):
+        met, written, ended = traced(at, path, f"{call}:{how}", number, words)
+        if not met:
+            break
+        what = f"{' '.join(words)}: {call} {number} of {os.path.basename(path)}: {how}"
+        kept = "" if call == "read" else output[: len(written)]
+        # the program's buffer may try an interrupted write again
+        again = (call, how) == ("write", "error=EINTR") and (written, ended) == (output, end)
+        check(what, True, (ended == told and written == kept) or again)
+    check(f"{' '.join(words)}: calls of {call} of {os.path.basename(path)}", True, number > 1)
+
+
+def try_files():
+    for line, files, output, end in RUNS:
+        words = line.split()
+        for call, how, told in REFUSALS:
+            for name in files if call == "read" else ["out"]:
+                with room() as at:
+                    for file, text in files.items():
+                        write_file(f"{at}/{file}", text_of(text) if text.startswith("examples/") else text)
+                    refuse_in_turn(at, words, f"{at}/{name}", (call, how, told), output, end)
+
+
+# Each file that the program may be given, as words in which it stands for X, with what is read before it.
+PLACES = ("eval X", "eval add.rec X", "aterm X", "share X", "match <term> X")
+ENDLESS = ("!spec L1\n", "!terms L1\n", "!term L1\n", "!term L1\n", "!term L1\n")
+
+
+def with_file(words, path):
+    return [path if it == "X" else it for it in words.split()]
+
+
+def as_nobody():
+    """The words before a program that is to run without rights, where this one has all of them."""
+    if os.geteuid() != 0:
+        return ()
+    return ("setpriv", "--reuid=65534", "--regid=65534", "--clear-groups")
+
+
+def try_places(at):
+    closed = write_file(f"{at}/closed", "z")
+    os.chmod(closed, 0)
+    open_to_all = shutil.copy(program(), f"{at}/recw")
+    os.chmod(at, 0o755)
+    os.chmod(open_to_all, 0o755)
+    for words, line in zip(PLACES, ENDLESS):
+        check(f"{words}: a folder", (4, "", NO_READ[1]), recw(*with_file(words, at)))
+        check(f"{words}: no file", (4, "", NO_READ[1]), recw(*with_file(words, f"{at}/none")))
+        check(f"{words}: an endless file", (1, line, ""), recw(*with_file(words, "/dev/zero")))
+        how = {"cwd": at, "capture_output": True, "encoding": "latin-1", "check": False}
+        shutil.copy(f"{EXAMPLES}/add.rec", at)
+        ran = subprocess.run([*as_nobody(), open_to_all, *with_file(words, closed)], **how)
+        check(f"{words}: a file that may not be read", (4, "", NO_READ[1]), (ran.returncode, ran.stdout, ran.stderr))
+
+
+def try_input(at):
+    closed = {"before": ("sh", "-c", '"$@" <&-', "sh")}
+    for words, text in (("eval", "spec"), ("aterm", "term"), ("share", "term"), ("match a", "term")):
+        with open("/dev/zero", "rb") as endless:
+            check(f"{words}: an endless input", (1, f"!{text} L1\n", ""), recw(*words.split(), stdin=endless))
+        folder = os.open(at, os.O_RDONLY)
+        check(f"{words}: a folder as input", (4, "", NO_READ[1]), recw(*words.split(), stdin=folder))
+        os.close(folder)
+        check(f"{words}: a closed input", (4, "", NO_READ[1]), recw(*words.split(), **closed))
+
+
+# The words, the text on standard input, and what is due.
+LINES = (
+    ("eval --steps 3", text_of("examples/add.rec"), "s(s(s(z)))\n"),
+    ("eval", REFUSED, "!spec G\n"),
+    ("aterm", "f(a)", "f(a)\n"),
+    ("aterm", LONG, f"{LONG}\n"),
+    ("share", "f(a,a)", "f(a,a)\ncells 5\n"),
+    ("match f(<int>,<list>)", "f(1,2,3)", "yes\n1\n[2,3]\n"),
+    ("make f(<int>) [1]", "", "f(1)\n"),
+    ("make a b", "", "!args T1\n"),
+    ("--help", "", None),
+    ("help refusals", "", None),
+    ("--version", "", None),
+)
+
+
+def try_full(at):
+    """No byte can be written: status 4, also where the text would be refused, and no place is told."""
+    for words, text, _ in LINES:
+        spec = write_file(f"{at}/text", text)
+        with open(spec, "rb") as given, open("/dev/full", "wb") as full:
+            how = {"stdin": given, "stdout": full, "stderr": subprocess.PIPE, "capture_output": False}
+            status, _, told = recw(*words.split(), **how)
+        check(f"{words}: a full device", NO_WRITE, (status, told))
+        with open(spec, "rb") as given:
+            status, _, told = recw(*words.split(), stdin=given, before=("sh", "-c", '"$@" >&-', "sh"))
+        check(f"{words}: a closed output", NO_WRITE, (status, told))
+
+
+def try_pipe(at):
+    """Who reads the output goes away, before the first byte or after it; the signal of that does not end the run."""
+    for words, text, _ in LINES:
+        for taken in (0, 1):
+            with open(write_file(f"{at}/text", text), "rb") as given:
+                ends = os.pipe()
+                how = {"stdin": given, "stdout": ends[1], "stderr": subprocess.PIPE, "cwd": EXAMPLES}
+                if not taken:
+                    os.close(ends[0])
+                with subprocess.Popen([program(), *words.split()], **how) as child:
+                    os.close(ends[1])
+                    if taken:
+                        os.read(ends[0], 1)
+                        os.close(ends[0])
+                    told = child.stderr.read().decode("latin-1")
+            whole = taken and text is not LONG and child.returncode < 2
+            what = f"{words}: a pipe that is closed after {taken} bytes"
+            check(what, True, whole or (child.returncode, told) == NO_WRITE)
+
+
+def try_errors():
+    """A line on standard error that cannot be written is left out, and the status stays."""
+    for words, status, line in (("eval X", 4, ""), ("aterm", 1, "!term A\n"), ("eval --steps x", 2, "")):
+        with open("/dev/full", "wb") as full:
+            how = {"stderr": full, "stdout": subprocess.PIPE, "capture_output": False, "stdin": subprocess.DEVNULL}
+            check(f"{words}: errors to a full device", (status, line), recw(*words.split(), **how)[:2])
+        closed = ("sh", "-c", '"$@" 2>&-', "sh")
+        how = {"before": closed, "stdin": subprocess.DEVNULL}
+        check(f"{words}: closed errors", (status, line), recw(*words.split(), **how)[:2])
+
+
+def try_signals(at):
+    """A run that is interrupted ends by the signal, and leaves no line that is not due."""
+    loop = "REC-SPEC L SORTS N CONS z : -> N OPNS f : N -> N VARS X : N RULES f(X) -> f(X) EVAL z f(z) END-SPEC"
+    file = write_file(f"{at}/loop", loop)
+    for number in (signal.SIGINT, signal.SIGTERM, signal.SIGHUP):
+        how = {"stdout": subprocess.PIPE, "stderr": subprocess.PIPE, "encoding": "latin-1"}
+        with subprocess.Popen([program(), "eval", "--steps", str(10**18), file], **how) as child:
+            time.sleep(0.5)
+            child.send_signal(number)
+            output, told = child.communicate(timeout=10)
+        check(f"{number.name}", (-number, True, ""), (child.returncode, output in ("", "z\n"), told))
+
+
+def try_program():
+    for group in (try_places, try_input, try_full, try_pipe):
+        with room() as at:
+            group(at)
+    try_errors()
+    with room() as at:
+        try_signals(at)
