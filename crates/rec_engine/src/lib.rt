@@ -11,6 +11,7 @@ mod evaluation;
 mod given;
 mod hints;
 mod machine;
+mod runs;
 mod terms;
 #[cfg(test)]
 mod tests;
