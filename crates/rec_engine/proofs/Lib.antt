@@ -5,6 +5,8 @@ pub mod Ends
 pub mod BuildingLemmas
 pub mod MachineLemmas
 pub mod TurnLemmas
+pub mod RunLemmas
+pub mod JoinLemmas
 pub mod StayLemmas
 pub mod RememberedLemmas
 pub mod PutLemmas
@@ -16,6 +18,7 @@ pub mod KnownLemmas
 pub mod RuleLemmas
 pub mod DirectLemmas
 pub mod BuildTurn
+pub mod ConstantTurn
 pub mod ValueTrees
 pub mod GivenLemmas
 pub mod GroundLemmas
@@ -23,3 +26,4 @@ pub mod NormalLemmas
 pub mod EngineLemmas
 pub mod PartLemmas
 pub mod TermLemmas
+pub mod MakingLemmas

@@ -5,6 +5,7 @@ pub mod Pace
 pub mod Cells
 pub mod Building
 pub mod Machine
+pub mod Runs
 pub mod Turn
 pub mod Compiled
 pub mod Answered

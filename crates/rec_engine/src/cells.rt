@@ -33,8 +33,8 @@ pub enum EngineFault {
     Room,
 }
 
-/// After how many new cells a reclaim is due at the latest, how many cells there were after the last one, what was made of
-/// symbols alone since then, and the results that are remembered.
+/// After how many new cells a reclaim is due at the latest, how many cells there were after the last one, which constants
+/// were made since then, and the results that are remembered.
 #[derive(Drop)]
 pub(crate) struct Pace {
     pub(crate) every: u32,

@@ -97,7 +97,7 @@ impl<B: TermBank + Drop> Engine<B> {
             Ok(code) => code,
             Err(_) => return Err(EngineFault::Memory),
         };
-        let Ok(constants) = Constants::new(alloc, checked.symbols()) else {
+        let Ok(constants) = Constants::new(alloc, code.ops.len()) else {
             return Err(EngineFault::Memory);
         };
         let Ok(memo) = Memo::new(alloc, options.memo) else {

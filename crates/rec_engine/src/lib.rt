@@ -12,6 +12,7 @@ mod given;
 mod hints;
 mod machine;
 mod remembering;
+mod runs;
 mod terms;
 #[cfg(test)]
 mod tests;

@@ -35,6 +35,10 @@ const HIT: &[u8] =
 const FAST: &[u8] =
     b"REC-SPEC Fast SORTS Nat CONS z : -> Nat s : Nat -> Nat OPNS k : Nat -> Nat q : Nat Nat -> Nat VARS X Y : Nat RULES k(z) -> z k(s(X)) -> q(k(X),k(X)) q(X,Y) -> X EVAL k(s(s(s(s(s(s(s(s(s(s(s(s(s(s(s(s(s(s(s(s(s(s(s(s(s(s(s(s(s(s(s(s(s(s(s(s(s(s(s(s(s(s(s(s(s(s(s(s(s(s(z))))))))))))))))))))))))))))))))))))))))))))))))))) END-SPEC";
 
+/// The condition of `h` holds, and each right side has a ground term of four symbols, or of two.
+const GROUND: &[u8] =
+    b"REC-SPEC Ground SORTS N CONS z : -> N s : N -> N g : N N -> N OPNS f : N -> N h : N -> N VARS X : N RULES f(X) -> g(g(z,s(z)),X) h(X) -> s(z) if X -><- g(z,s(z)) EVAL f(f(h(g(z,s(z))))) END-SPEC";
+
 const OPTIONS: Options = Options {
     memo: 0,
     reclaim_every: 262_144,
@@ -217,6 +221,24 @@ fn cells_of_twenty<B: TermBank + Drop>(alloc: Global, bank: B) -> Result<(u32, u
     Ok((values, engine.bank().cells()))
 }
 
+/// Whether ground terms of rules are made right at first and afterwards, where so many cells are made between two reclaims.
+fn makes_ground_terms<B: TermBank + Drop>(
+    alloc: Global,
+    bank: B,
+    reclaim_every: u32,
+) -> Result<bool, Fail>
+    requires { (1 ≤ reclaim_every) × (reclaim_every ≤ 1073741824) }
+{
+    let options = Options {
+        memo: 0,
+        reclaim_every,
+    };
+    let mut engine = engine_for(alloc, GROUND, bank, options)?;
+    let wanted = b"g(g(z,s(z)),g(g(z,s(z)),s(z)))";
+    let first = comes_to(alloc, &mut engine, 0, 3, wanted, 3)?;
+    Ok(first && comes_to(alloc, &mut engine, 0, 3, wanted, 3)?)
+}
+
 /// Whether a call that comes again costs what it cost, where so many results are remembered and
 /// so many cells are made between two reclaims.
 fn repeats_calls<B: TermBank + Drop>(
@@ -246,6 +268,14 @@ fn remembers<B: TermBank + Drop>(alloc: Global, bank: B) -> Result<bool, Fail> {
     let steps = 3_377_699_720_527_870;
     let value = comes_to(alloc, &mut engine, 0, steps, b"z", steps)?;
     Ok(value && is_over(alloc, &mut engine, 0, steps - 1)?)
+}
+
+#[test]
+fn ground_terms(rt: HostRuntime) -> Result<(), Fail> {
+    let alloc = rt.alloc();
+    assert!(rt; makes_ground_terms(alloc, PlainBank::new(alloc, 100)?, 262_144)?);
+    assert!(rt; makes_ground_terms(alloc, SharedBank::new(alloc, 100)?, 1)?);
+    Ok(())
 }
 
 #[test]

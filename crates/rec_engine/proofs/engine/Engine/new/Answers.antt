@@ -18,7 +18,7 @@ invariant_of-result g c =
       record {
         code = c.in-Ok-new.ensures.code;
         linked = subst (AreLinked c.args.checked.spec (g.B.TermBank.store c.make.new.bank)) (sym c.in-Ok-new.ensures.links) c.in-Ok-make.ensures.linked;
-        constants = subst (λ p. AreConstants c.args.checked.spec (g.B.TermBank.store c.make.new.bank) p.constants) (sym c.new-5.ensures) (are-none c.args.checked.spec (g.B.TermBank.store c.make.new.bank) c.in-Ok-new-2.constants c.in-Ok-new-2.ensures);
+        constants = subst (λ p. AreConstants c.args.checked.spec c.in-Ok-new.code.ops.items (g.B.TermBank.store c.make.new.bank) p.constants) (sym c.new-5.ensures) (are-none c.args.checked.spec c.in-Ok-new.code.ops.items (g.B.TermBank.store c.make.new.bank) c.in-Ok-new-2.constants c.in-Ok-new-2.ensures);
         results = subst (λ p. IsKnown (IsResult c.args.checked.spec) (g.B.TermBank.store c.make.new.bank) p.memo) (sym c.new-5.ensures) (IsKnown-empty (IsResult c.args.checked.spec) (g.B.TermBank.store c.make.new.bank) c.in-Ok-new-3.memo c.in-Ok-new-3.ensures.1);
       },
     )

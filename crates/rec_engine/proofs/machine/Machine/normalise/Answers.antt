@@ -1,12 +1,13 @@
-use Rattle.std.proofs.Common.{◌∙◌, [], subst, ap, refl, drop, is_some}
+use Rattle.std.proofs.Common.{◌∙◌, [], subst, ap, sym, refl, drop, is_some}
 use Rattle.rec_sorts.specs.Evaluation.{term_of}
 use Rattle.rec_sorts.specs.Walking.{held_tree}
 use Rattle.rec_engine.specs.Answered.{IsTermCode, IsAnswer, StandsAbove}
 use Rattle.rec_sorts.proofs.Walked.{held}
 use Rattle.rx_term.proofs.KeepLemmas.{kept-work}
+use Rattle.rec_engine.specs.Machine.{AreConstants}
 use Rattle.rec_engine.proofs.Ends.{in-here}
 use Rattle.rec_engine.proofs.StayLemmas.{ready-next}
-use Rattle.rec_engine.proofs.NormalLemmas.{given-nodes, code-same, code-loaded, loaded-own, term-stands, value-stands, kept-term, is-value, is-limit, ready-cut}
+use Rattle.rec_engine.proofs.NormalLemmas.{given-nodes, code-same, code-loaded, constants-loaded, loaded-own, term-stands, value-stands, kept-term, is-value, is-limit, ready-cut}
 use Rattle.rec_engine.proofs.machine.Machine.normalise.Goals as goal
 
 pub load-requires-clause-nodes : goal.load-requires-clause-nodes
@@ -16,7 +17,7 @@ pub returns-in-Err-clause-ready : goal.returns-in-Err-clause-ready
 returns-in-Err-clause-ready g c = record {
   code = code-same c.args.self.now.checked.spec c.args.self.now.code _ refl refl refl c.in-Err.ensures.same c.requires.ready.code;
   linked = c.requires.ready.linked;
-  constants = c.requires.ready.constants;
+  constants = subst (λ xs. AreConstants c.args.self.now.checked.spec xs (g.B.TermBank.store c.args.self.now.bank) c.args.self.now.state.pace.constants) (sym c.in-Err.ensures.same) c.requires.ready.constants;
   results = c.requires.ready.results;
 }
 
@@ -24,7 +25,7 @@ pub evaluate-reached-requires-clause-ready : goal.evaluate-reached-requires-clau
 evaluate-reached-requires-clause-ready g c = record {
   code = code-loaded c.args.self.now.checked.spec (held_tree (g.B.TermBank.store c.args.self.now.bank) c.args.t) c.args.self.now.code _ refl refl refl c.in-Ok.ensures.loads c.requires.ready.code;
   linked = c.requires.ready.linked;
-  constants = c.requires.ready.constants;
+  constants = constants-loaded c.args.self.now.checked.spec (held_tree (g.B.TermBank.store c.args.self.now.bank) c.args.t) c.args.self.now.code.ops.items c.load.new.ops.items (g.B.TermBank.store c.args.self.now.bank) c.args.self.now.state.pace.constants c.in-Ok.ensures.loads c.requires.ready.constants;
   results = c.requires.ready.results;
 }
 
