@@ -5,7 +5,7 @@ ghost use Rattle.std.specs.Prelude.{Option, Some, None, IfSome};
 ghost use denote.RawPtr.{Ptr, InBlock};
 ghost use Rattle.rx_arena.specs.Real.{InBlock-prop, IsLast};
 ghost use Rattle.rx_arena.specs.Node.{Node, node_at, lone, led_to, changed, IsClosed};
-ghost use Rattle.rx_arena.specs.Node.{with_roots, with_mark, next_in, with_next};
+ghost use Rattle.rx_arena.specs.Node.{with_roots, next_in, with_next};
 
 use crate::room::Room;
 use crate::{CellBody, Slot};
@@ -262,15 +262,6 @@ impl Cells {
         ensures slots { self.new.slots ≡ changed at.slot (with_roots count) self.old.slots }
     {
         unsafe { (*at.at).roots = count }
-    }
-
-    /// Writes the mark.
-    pub(crate) fn set_mark(&mut self, at: Place, mark: u8)
-        requires { IsPlace self.old.blocks at × IsHeld self.old.slots at.slot }
-        ensures blocks { self.new.blocks ≡ self.old.blocks }
-        ensures slots { self.new.slots ≡ changed at.slot (with_mark mark) self.old.slots }
-    {
-        unsafe { (*at.at).mark = mark }
     }
 
     /// Writes the links.

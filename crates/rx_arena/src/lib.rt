@@ -21,6 +21,7 @@ pub mod arena;
 mod cells;
 mod fault;
 mod heads;
+mod marked;
 mod pool;
 mod room;
 mod store;
