@@ -108,7 +108,7 @@ impl<A: Allocator + Copy> Store<A> {
         ensures { self.new ≡ slice_set self.old slot (Some (lone 0 body)) }
     {
         let at = place(&self.blocks, slot);
-        self.cells.fill(at, body, 0)
+        self.cells.fill(at, body)
     }
 
     /// Makes the node at a slot a new one, with this body and in no list.
@@ -117,7 +117,7 @@ impl<A: Allocator + Copy> Store<A> {
         ensures { self.new ≡ slice_set self.old slot (Some (lone 0 body)) }
     {
         let at = place(&self.blocks, slot);
-        self.cells.renew(at, body, 0)
+        self.cells.renew(at, body)
     }
 
     /// The body.
