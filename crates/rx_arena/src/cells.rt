@@ -5,7 +5,7 @@ ghost use Rattle.std.specs.Prelude.{Option, Some, None, IfSome};
 ghost use denote.RawPtr.{Ptr, InBlock};
 ghost use Rattle.rx_arena.specs.Real.{InBlock-prop, IsLast};
 ghost use Rattle.rx_arena.specs.Node.{Node, node_at, lone, led_to, changed, IsClosed};
-ghost use Rattle.rx_arena.specs.Node.{with_roots, with_mark, next_in, with_next};
+ghost use Rattle.rx_arena.specs.Node.{with_roots, next_in, with_next};
 
 use crate::room::Room;
 use crate::{CellBody, Slot};
@@ -38,7 +38,6 @@ pub struct Cell {
     number: u32,
     pub(crate) roots: u16,
     kind: u8,
-    pub(crate) mark: u8,
 }
 
 const _: () = prove!(size_of::<Cell>() == 64);
@@ -195,12 +194,12 @@ impl Cells {
     }
 
     /// Writes a node into an empty slot.
-    pub(crate) fn fill(&mut self, at: Place, body: CellBody, mark: u8)
+    pub(crate) fn fill(&mut self, at: Place, body: CellBody)
         requires { IsPlace self.old.blocks at
             × (at.slot < length self.old.slots)
             × (node_at self.old.slots at.slot ≡ None) }
         ensures blocks { self.new.blocks ≡ self.old.blocks }
-        ensures slots { self.new.slots ≡ slice_set self.old.slots at.slot (Some (lone mark body)) }
+        ensures slots { self.new.slots ≡ slice_set self.old.slots at.slot (Some (lone 0 body)) }
     {
         unsafe {
             at.at.write(Cell {
@@ -216,16 +215,15 @@ impl Cells {
                 number: at.slot,
                 roots: 0,
                 kind: body.kind,
-                mark,
             })
         }
     }
 
     /// Writes a new node over another one.
-    pub(crate) fn renew(&mut self, place: Place, new: CellBody, mark: u8)
+    pub(crate) fn renew(&mut self, place: Place, new: CellBody)
         requires { IsPlace self.old.blocks place × IsHeld self.old.slots place.slot }
         ensures blocks { self.new.blocks ≡ self.old.blocks }
-        ensures slots { self.new.slots ≡ slice_set self.old.slots place.slot (Some (lone mark new)) }
+        ensures slots { self.new.slots ≡ slice_set self.old.slots place.slot (Some (lone 0 new)) }
     {
         unsafe {
             place.at.write(Cell {
@@ -241,7 +239,6 @@ impl Cells {
                 number: place.slot,
                 roots: 0u16,
                 kind: new.kind,
-                mark,
             })
         }
     }
@@ -262,15 +259,6 @@ impl Cells {
         ensures slots { self.new.slots ≡ changed at.slot (with_roots count) self.old.slots }
     {
         unsafe { (*at.at).roots = count }
-    }
-
-    /// Writes the mark.
-    pub(crate) fn set_mark(&mut self, at: Place, mark: u8)
-        requires { IsPlace self.old.blocks at × IsHeld self.old.slots at.slot }
-        ensures blocks { self.new.blocks ≡ self.old.blocks }
-        ensures slots { self.new.slots ≡ changed at.slot (with_mark mark) self.old.slots }
-    {
-        unsafe { (*at.at).mark = mark }
     }
 
     /// Writes the links.

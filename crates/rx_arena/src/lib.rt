@@ -11,7 +11,11 @@
 //! | 56 to 59 | `number` | the cell's own slot |
 //! | 60 to 61 | `roots` | how often it is protected |
 //! | 62 | `kind` | the body's kind |
-//! | 63 | `mark` | 0 or 1 while it is taken: one of them says that it is marked; 2 once it is given back |
+//! | 63 | | not used |
+//!
+//! Beside the blocks there is a byte for each slot, its mark: 0 or 1 while the slot is taken, where
+//! one of them says that it is marked, and 2 once it is given back. So whether a slot is taken and
+//! marked is read without its cell.
 //!
 //! No pointer is compared, tested against null or turned into a number: a link is known by the `number`
 //! in the cell that it leads to, and a cell's own number means the end.
@@ -21,6 +25,7 @@ pub mod arena;
 mod cells;
 mod fault;
 mod heads;
+mod marked;
 mod pool;
 mod room;
 mod store;

@@ -10,7 +10,7 @@ ghost use Rattle.rx_arena.specs.Pool.{spare_of, is_unmarked_node};
 use crate::CellBody;
 use crate::cells::Link;
 use crate::fault::ArenaFault;
-use crate::store::Store;
+use crate::marked::MarkedStore;
 use std::alloc::Global;
 use std::marker::Model;
 
@@ -36,7 +36,7 @@ fn mark_of(turned: bool, marked: bool) -> u8
 /// The slots that are taken. A slot that is given back is the next to be taken.
 #[derive(Drop)]
 pub(crate) struct Pool {
-    store: Store,
+    store: MarkedStore,
     free: Option<u32>,
     fresh: u32,
     taken: u32,
@@ -62,7 +62,7 @@ impl Pool {
         ensures { result ≡ record { cells = []; free = []; fresh = 0; room = 0; cap = cap; turned = false } }
     {
         Pool {
-            store: Store::new(alloc),
+            store: MarkedStore::new(alloc),
             free: None,
             fresh: 0,
             taken: 0,

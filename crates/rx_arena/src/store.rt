@@ -2,7 +2,7 @@
 ghost use Rattle.std.specs.Prelude.{◌≡◌, ◌≢◌, ℕ, ◌*◌, ◌<◌, List, [], ◌++◌, length, replicate, slice_set};
 ghost use Rattle.std.specs.Prelude.{Option, Some, None, IfSome, OnOk, OnErr};
 ghost use Rattle.rx_arena.specs.Node.{Node, node_at, lone, changed};
-ghost use Rattle.rx_arena.specs.Node.{with_roots, with_mark, next_in, with_next};
+ghost use Rattle.rx_arena.specs.Node.{with_roots, next_in, with_next};
 ghost use Rattle.rx_arena.specs.Held.{IsHeld};
 ghost use Rattle.rx_arena.specs.Ownership as spec;
 ghost use Rattle.rx_arena.specs.Blocks.{bases};
@@ -102,22 +102,22 @@ impl<A: Allocator + Copy> Store<A> {
         }
     }
 
-    /// Puts a node with this body and mark, in no list, where nothing lies.
-    pub fn fill(&mut self, slot: u32, body: CellBody, mark: u8)
+    /// Puts a node with this body, in no list, where nothing lies.
+    pub fn fill(&mut self, slot: u32, body: CellBody)
         requires { (slot < length self.old) × (node_at self.old slot ≡ None) }
-        ensures { self.new ≡ slice_set self.old slot (Some (lone mark body)) }
+        ensures { self.new ≡ slice_set self.old slot (Some (lone 0 body)) }
     {
         let at = place(&self.blocks, slot);
-        self.cells.fill(at, body, mark)
+        self.cells.fill(at, body)
     }
 
-    /// Makes the node at a slot a new one, with this body and mark and in no list.
-    pub fn renew(&mut self, slot: u32, body: CellBody, mark: u8)
+    /// Makes the node at a slot a new one, with this body and in no list.
+    pub fn renew(&mut self, slot: u32, body: CellBody)
         requires { IsHeld self.old slot }
-        ensures { self.new ≡ slice_set self.old slot (Some (lone mark body)) }
+        ensures { self.new ≡ slice_set self.old slot (Some (lone 0 body)) }
     {
         let at = place(&self.blocks, slot);
-        self.cells.renew(at, body, mark)
+        self.cells.renew(at, body)
     }
 
     /// The body.
@@ -143,23 +143,6 @@ impl<A: Allocator + Copy> Store<A> {
     {
         let at = place(&self.blocks, slot);
         self.cells.set_roots(at, count)
-    }
-
-    /// The mark.
-    pub fn mark(&self, slot: u32) -> u8
-        requires { IsHeld self.now slot }
-        ensures { IfSome (node_at self.now slot) (λ n. result ≡ n.mark) }
-    {
-        self.cells.get(place(&self.blocks, slot)).mark
-    }
-
-    /// Replaces the mark.
-    pub fn set_mark(&mut self, slot: u32, mark: u8)
-        requires { IsHeld self.old slot }
-        ensures { self.new ≡ changed slot (with_mark mark) self.old }
-    {
-        let at = place(&self.blocks, slot);
-        self.cells.set_mark(at, mark)
     }
 
     /// The next slot of a list.

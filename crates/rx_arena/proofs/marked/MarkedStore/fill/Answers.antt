@@ -1,0 +1,18 @@
+use Rattle.std.proofs.Common.{◌≡◌, ◌<◌, length, set, Some, None, sym, subst, ap, ◌∙◌, arith}
+use Rattle.rx_arena.specs.Node.{node_at, lone}
+use Rattle.rx_arena.specs.Marks.{with_marks}
+use Rattle.rx_arena.proofs.Marks.{below-marks, none-with_marks, set-with_marks}
+use Rattle.rx_arena.proofs.marked.MarkedStore.fill.Goals as goal
+
+pub fill-requires : goal.fill-requires
+fill-requires c = (below-marks c.self.inside.marks.items c.self.inside.cells c.args.slot c.self.invariant (subst (λ z. c.args.slot < length z) (sym c.self.view_is) c.requires.0), none-with_marks c.self.inside.marks.items c.self.inside.cells c.args.slot c.self.invariant (subst (λ z. node_at z c.args.slot ≡ None) (sym c.self.view_is) c.requires.1))
+
+pub index_mut-requires : goal.index_mut-requires
+index_mut-requires c =
+    let lt = below-marks c.self.inside.marks.items c.self.inside.cells c.args.slot c.self.invariant (subst (λ z. c.args.slot < length z) (sym c.self.view_is) c.requires.0) in
+    let e = c.self.invariant in let l = c.self.inside.marks.ok.0 in omega (arith, lt, e, l)
+
+pub returns : goal.returns
+returns c = let ks = c.self.inside.marks.items in let s = c.args.slot in
+    ap (with_marks (set ks s c.args.mark)) c.fill.ensures ∙ set-with_marks ks c.self.inside.cells s c.args.mark (Some (lone 0 c.args.body)) c.self.invariant
+    ∙ ap (λ z. set z s (Some (lone c.args.mark c.args.body))) c.self.view_is

@@ -1,0 +1,17 @@
+use Rattle.std.proofs.Common.{set, Some, sym, subst, ap, ◌∙◌, arith}
+use Rattle.rx_arena.specs.Node.{lone}
+use Rattle.rx_arena.specs.Held.{IsHeld}
+use Rattle.rx_arena.specs.Marks.{with_marks}
+use Rattle.rx_arena.proofs.Marks.{held-with_marks, within-marks, set-with_marks}
+use Rattle.rx_arena.proofs.marked.MarkedStore.renew.Goals as goal
+
+pub renew-requires : goal.renew-requires
+renew-requires c = held-with_marks c.self.inside.marks.items c.self.inside.cells c.args.slot c.self.invariant (subst (λ z. IsHeld z c.args.slot) (sym c.self.view_is) c.requires)
+
+pub index_mut-requires : goal.index_mut-requires
+index_mut-requires c = let lt = within-marks c.self.inside.marks.items c.self.inside.cells c.args.slot c.self.invariant (subst (λ z. IsHeld z c.args.slot) (sym c.self.view_is) c.requires) in let e = c.self.inside.marks.ok.0 in omega (arith, lt, e)
+
+pub returns : goal.returns
+returns c = let ks = c.self.inside.marks.items in let s = c.args.slot in
+    ap (with_marks (set ks s c.args.mark)) c.renew.ensures ∙ set-with_marks ks c.self.inside.cells s c.args.mark (Some (lone 0 c.args.body)) c.self.invariant
+    ∙ ap (λ z. set z s (Some (lone c.args.mark c.args.body))) c.self.view_is

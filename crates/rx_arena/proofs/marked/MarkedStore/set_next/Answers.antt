@@ -1,0 +1,16 @@
+use Rattle.std.proofs.Common.{◌<◌, length, IfSome, sym, subst, ap, ◌∙◌}
+use Rattle.rx_arena.specs.Node.{changed, with_next}
+use Rattle.rx_arena.specs.Held.{IsHeld}
+use Rattle.rx_arena.specs.Marks.{with_marks}
+use Rattle.rx_arena.proofs.Marks.{held-with_marks, length-with_marks, changed-with_marks, link-marked}
+use Rattle.rx_arena.proofs.marked.MarkedStore.set_next.Goals as goal
+
+pub set_next-requires-clause-held : goal.set_next-requires-clause-held
+set_next-requires-clause-held c =
+    let len = length-with_marks c.self.inside.marks.items c.self.inside.cells c.self.invariant in (
+      held-with_marks c.self.inside.marks.items c.self.inside.cells c.args.slot c.self.invariant (subst (λ z. IsHeld z c.args.slot) (sym c.self.view_is) c.requires.held.0),
+      subst (λ n. IfSome c.args.next (λ t. t < n)) len (subst (λ z. IfSome c.args.next (λ t. t < length z)) (sym c.self.view_is) c.requires.held.1),
+    )
+
+pub returns : goal.returns
+returns c = ap (with_marks c.self.inside.marks.items) c.set_next.ensures ∙ changed-with_marks c.self.inside.marks.items c.self.inside.cells c.args.slot (with_next c.args.link c.args.next) c.self.invariant (link-marked c.args.link c.args.next) ∙ ap (changed c.args.slot (with_next c.args.link c.args.next)) c.self.view_is

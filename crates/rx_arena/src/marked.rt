@@ -1,0 +1,138 @@
+//! The slots with their marks, which lie beside the cells: a mark is read without the cell.
+ghost use Rattle.std.specs.Prelude.{◌≡◌, ◌<◌, [], ◌++◌, length, replicate, slice_set};
+ghost use Rattle.std.specs.Prelude.{Some, None, IfSome, OnOk, OnErr};
+ghost use Rattle.rx_arena.specs.Node.{node_at, lone, changed};
+ghost use Rattle.rx_arena.specs.Node.{with_roots, with_mark, next_in, with_next};
+ghost use Rattle.rx_arena.specs.Held.{IsHeld};
+
+use crate::CellBody;
+use crate::cells::Link;
+use crate::room::BLOCK;
+use crate::store::Store;
+use std::alloc::{AllocError, Global};
+use std::marker::Model;
+
+/// What each slot holds, if anything lies there: the cells, and a byte for each.
+#[derive(Drop)]
+pub(crate) struct MarkedStore {
+    cells: Store,
+    marks: Vec<u8>,
+}
+
+impl Model for MarkedStore {
+    ghost use Rattle.std.specs.Prelude.{List, Option};
+    ghost use Rattle.rx_arena.specs.Node.{Node};
+    ghost use Rattle.rx_arena.specs.Marks.{HasMarks, with_marks};
+
+    ghost Value = { List (Option Node) };
+
+    ghost view = { λ s. with_marks s.marks.items s.cells };
+
+    ghost invariant = { λ s. HasMarks s.marks.items s.cells };
+}
+
+impl MarkedStore {
+    /// A store of no cells.
+    pub(crate) fn new(alloc: Global) -> MarkedStore
+        ensures { result ≡ [] }
+    {
+        MarkedStore {
+            cells: Store::new(alloc),
+            marks: Vec::new(alloc),
+        }
+    }
+
+    /// Adds a block of slots in which nothing lies.
+    pub(crate) fn grow(&mut self) -> Result<(), AllocError>
+        ensures ok { OnOk result (self.new ≡ self.old ++ replicate 1024 None) }
+        ensures err { OnErr result (self.new ≡ self.old) }
+    {
+        let slots = self.marks.len();
+        self.marks.resize(slots + BLOCK, 0)?;
+        match self.cells.grow() {
+            Ok(()) => Ok(()),
+            Err(fault) => {
+                self.marks.truncate(slots);
+                Err(fault)
+            }
+        }
+    }
+
+    /// Puts a node with this body and mark, in no list, where nothing lies.
+    pub(crate) fn fill(&mut self, slot: u32, body: CellBody, mark: u8)
+        requires { (slot < length self.old) × (node_at self.old slot ≡ None) }
+        ensures { self.new ≡ slice_set self.old slot (Some (lone mark body)) }
+    {
+        self.cells.fill(slot, body);
+        self.marks[slot as usize] = mark;
+    }
+
+    /// Makes the node at a slot a new one, with this body and mark and in no list.
+    pub(crate) fn renew(&mut self, slot: u32, body: CellBody, mark: u8)
+        requires { IsHeld self.old slot }
+        ensures { self.new ≡ slice_set self.old slot (Some (lone mark body)) }
+    {
+        self.cells.renew(slot, body);
+        self.marks[slot as usize] = mark;
+    }
+
+    /// The body.
+    pub(crate) fn body(&self, slot: u32) -> CellBody
+        requires { IsHeld self.now slot }
+        ensures { IfSome (node_at self.now slot) (λ n. result ≡ n.body) }
+    {
+        self.cells.body(slot)
+    }
+
+    /// The root count.
+    pub(crate) fn roots(&self, slot: u32) -> u16
+        requires { IsHeld self.now slot }
+        ensures { IfSome (node_at self.now slot) (λ n. result ≡ n.roots) }
+    {
+        self.cells.roots(slot)
+    }
+
+    /// Replaces the root count.
+    pub(crate) fn set_roots(&mut self, slot: u32, count: u16)
+        requires { IsHeld self.old slot }
+        ensures { self.new ≡ changed slot (with_roots count) self.old }
+    {
+        self.cells.set_roots(slot, count)
+    }
+
+    /// The mark.
+    pub(crate) fn mark(&self, slot: u32) -> u8
+        requires { IsHeld self.now slot }
+        ensures { IfSome (node_at self.now slot) (λ n. result ≡ n.mark) }
+    {
+        self.marks[slot as usize]
+    }
+
+    /// Replaces the mark.
+    pub(crate) fn set_mark(&mut self, slot: u32, mark: u8)
+        requires { IsHeld self.old slot }
+        ensures { self.new ≡ changed slot (with_mark mark) self.old }
+    {
+        self.marks[slot as usize] = mark;
+    }
+
+    /// The next slot of a list.
+    #[inline(always)]
+    pub(crate) fn next(&self, slot: u32, link: Link) -> Option<u32>
+        requires { IsHeld self.now slot
+            × IfSome (node_at self.now slot) (λ n. IfSome (next_in link n) (IsHeld self.now)) }
+        ensures { IfSome (node_at self.now slot) (λ n. result ≡ next_in link n) }
+    {
+        self.cells.next(slot, link)
+    }
+
+    /// Links the slot to the next one of a list.
+    #[inline(always)]
+    pub(crate) fn set_next(&mut self, slot: u32, link: Link, next: Option<u32>)
+        requires held { IsHeld self.old slot × IfSome next (λ t. t < length self.old) }
+        requires apart { IfSome next (λ t. ¬ (t ≡ slot)) }
+        ensures { self.new ≡ changed slot (with_next link next) self.old }
+    {
+        self.cells.set_next(slot, link, next)
+    }
+}
