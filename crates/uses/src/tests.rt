@@ -1,11 +1,15 @@
 //! Each caller over the plain bank, with answers that were worked out by hand.
 
+ghost use Rattle.rec_engine.specs.Engine.{IsGiven};
+
 use crate::evaluating::{admit, checked, engine_over, printed_own_value, printed_value};
 use crate::keeping::keep;
 use crate::rewriting::{pattern, rewrite};
 use crate::texts::{located, printed, read_back};
+use rec_engine::Engine;
+use rec_sorts::Checked;
 use rx_plain::PlainBank;
-use rx_term::TermBank;
+use rx_term::{Term, TermBank};
 use rx_text::read;
 use std::alloc::Global;
 use std::test::Fail;
@@ -66,38 +70,76 @@ fn keeps_what_is_needed(rt: HostRuntime) -> Result<(), Fail> {
 #[test]
 fn evaluates_terms(rt: HostRuntime) -> Result<(), Fail> {
     let alloc = rt.alloc();
-    assert!(rt; adds_given_terms(alloc, ADDITION, PlainBank::new(alloc, 1000)?)?);
-    assert!(rt; adds_own_terms(alloc, ADDITION, PlainBank::new(alloc, 1000)?)?);
+    let over = given_sum(alloc, ADDITION, PlainBank::new(alloc, 1000)?, 1)?;
+    let value = given_sum(alloc, ADDITION, PlainBank::new(alloc, 1000)?, 2)?;
+    assert!(rt; over.is_none() && is_text(value, b"s(z){at(3,7)}"));
+    let over = own_sum(alloc, ADDITION, PlainBank::new(alloc, 1000)?, 2)?;
+    let value = own_sum(alloc, ADDITION, PlainBank::new(alloc, 1000)?, 3)?;
+    assert!(rt; over.is_none() && is_text(value, b"s(s(s(z)))"));
+    assert!(rt; refuses_foreign_terms(alloc, ADDITION, PlainBank::new(alloc, 1000)?)?);
     Ok(())
 }
 
-/// Whether a given sum comes to its value with its annotation, in as many steps as its rules take
-/// and in no fewer, and a term of another specification is refused.
-fn adds_given_terms<B: TermBank + Drop>(
+/// What a given sum with an annotation comes to, where that takes so many steps at most.
+fn given_sum<B: TermBank + Drop>(
+    alloc: Global,
+    text: &[u8],
+    mut bank: B,
+    n: u64,
+) -> Result<Option<Vec<u8>>, Fail> {
+    let addition = addition(alloc, text)?;
+    let sum = read(alloc, b"plus(s(z),z){at(3,7)}", &mut bank)?;
+    admit(alloc, &addition, &mut bank, sum)?;
+    value_of_given(alloc, addition, bank, sum, n)
+}
+
+/// The text of a given term's value.
+fn value_of_given<B: TermBank + Drop>(
+    alloc: Global,
+    addition: Checked,
+    bank: B,
+    sum: Term,
+    n: u64,
+) -> Result<Option<Vec<u8>>, Fail>
+    requires { IsGiven addition.spec (B.store bank) sum }
+{
+    let mut engine = engine_over(alloc, addition, bank)?;
+    Ok(printed_value(alloc, &mut engine, sum, n)?)
+}
+
+/// The same of the specification's own sum; nothing where it has none.
+fn own_sum<B: TermBank + Drop>(
+    alloc: Global,
+    text: &[u8],
+    bank: B,
+    n: u64,
+) -> Result<Option<Vec<u8>>, Fail> {
+    let mut engine = engine_of(alloc, text, bank)?;
+    if engine.eval_terms() == 0 {
+        return Ok(None);
+    }
+    Ok(printed_own_value(alloc, &mut engine, 0, n)?)
+}
+
+/// A specification, of which only that it is one is known.
+fn addition(alloc: Global, text: &[u8]) -> Result<Checked, Fail> {
+    Ok(checked(alloc, text)?)
+}
+
+/// An engine for it.
+fn engine_of<B: TermBank + Drop>(alloc: Global, text: &[u8], bank: B) -> Result<Engine<B>, Fail> {
+    Ok(engine_over(alloc, addition(alloc, text)?, bank)?)
+}
+
+/// Whether a term of another specification is refused.
+fn refuses_foreign_terms<B: TermBank + Drop>(
     alloc: Global,
     text: &[u8],
     mut bank: B,
 ) -> Result<bool, Fail> {
-    let addition = checked(alloc, text)?;
-    let sum = read(alloc, b"plus(s(z),z){at(3,7)}", &mut bank)?;
+    let addition = addition(alloc, text)?;
     let other = read(alloc, b"minus(s(z),z)", &mut bank)?;
-    let refused = admit(alloc, &addition, &mut bank, other).is_err();
-    admit(alloc, &addition, &mut bank, sum)?;
-    let mut engine = engine_over(alloc, addition, bank)?;
-    let over = printed_value(alloc, &mut engine, sum, 1)?;
-    let value = printed_value(alloc, &mut engine, sum, 2)?;
-    Ok(refused && over.is_none() && is_text(value, b"s(z){at(3,7)}"))
-}
-
-/// The same of the specification's own sum.
-fn adds_own_terms<B: TermBank + Drop>(alloc: Global, text: &[u8], bank: B) -> Result<bool, Fail> {
-    let mut engine = engine_over(alloc, checked(alloc, text)?, bank)?;
-    if engine.eval_terms() != 1 {
-        return Ok(false);
-    }
-    let over = printed_own_value(alloc, &mut engine, 0, 2)?;
-    let value = printed_own_value(alloc, &mut engine, 0, 3)?;
-    Ok(over.is_none() && is_text(value, b"s(s(s(z)))"))
+    Ok(admit(alloc, &addition, &mut bank, other).is_err())
 }
 
 /// Whether a text is there and is this one.
