@@ -34,9 +34,9 @@ def recw(*words, before=(), **how):
     return ran.returncode, ran.stdout, ran.stderr
 
 
-def at_stack(kib):
-    """The words before a program that is to have so large a stack."""
-    return ("sh", "-c", f'ulimit -s {kib} && exec "$@"', "sh")
+def at_stack(kib, memory="unlimited"):
+    """The words before a program that is to have so large a stack, and so many KiB of memory."""
+    return ("sh", "-c", f'ulimit -s {kib} && ulimit -v {memory} && exec "$@"', "sh")
 
 
 def room():

@@ -1,10 +1,7 @@
 """Texts of great depth and of the greatest length, on small stacks: what is due is worked out here."""
 
-import os
-import subprocess
-
 from attempts import at_stack, check, check_long, recw, room, write_file
-from common import program, text_of
+from common import text_of
 
 # Kilobytes of stack; what is promised needs no more than the second.
 STACKS = (8192, 256)
@@ -12,6 +9,8 @@ LONGEST = 16777216
 LEVELS = 2000000
 # One word of a command line has at most 131072 bytes, and a small stack takes fewer.
 WORD_LEVELS = 30000
+# Kilobytes of all memory, the program's own text among them.
+LITTLE = 32768
 SORTS = "REC-SPEC D SORTS N CONS z : -> N s : N -> N"
 
 
@@ -116,25 +115,14 @@ def long_specifications(stack, at):
     check_run("given terms of one byte more", (1, "!terms L1\n"), "eval", short, terms, before=before)
 
 
-def peak(stack, *words):
-    """The status, the output, and the most memory in KiB that the run had."""
-    with subprocess.Popen([*at_stack(stack), program(), *words], stdout=subprocess.PIPE, encoding="latin-1") as child:
-        output = child.stdout.read()
-        _, status, used = os.wait4(child.pid, 0)
-        child.returncode = os.waitstatus_to_exitcode(status)
-    return child.returncode, output, used.ru_maxrss
-
-
 def steps_without_end(stack, at):
-    """A hundred million steps need no more memory than a million, beside a tenth and 1 MiB."""
+    """A hundred million steps on terms of a few cells, in little memory."""
     rules = "f(z) -> f(s(z)) f(s(X)) -> f(X)"
     spec = f"{SORTS} OPNS f : N -> N VARS X : N RULES {rules} EVAL f(z) END-SPEC"
     file = write_file(f"{at}/spec", spec)
-    few = peak(stack, "eval", "--steps", "1000000", file)
-    many = peak(stack, "eval", "--steps", "100000000", file)
-    check(f"10^6 steps, {stack} KiB of stack", (0, "!limit 1000000\n"), few[:2])
-    check(f"10^8 steps, {stack} KiB of stack", (0, "!limit 100000000\n"), many[:2])
-    check(f"memory of 10^8 steps beside 10^6, {many[2]} and {few[2]} KiB", True, many[2] <= 1.1 * few[2] + 1024)
+    what = f"10^8 steps, {stack} KiB of stack, {LITTLE} KiB of memory"
+    words = ["eval", "--steps", "100000000", file]
+    check_run(what, (0, "!limit 100000000\n"), *words, before=at_stack(stack, LITTLE))
 
 
 def default_budget(stack, _):

@@ -49,16 +49,6 @@ OTHER_CALLS = {
     "text pattern": ([], ["matched", "1", "[2,3]"]),
     "text matches": ([], ["without bindings after a fault", "f(1,[2,3]{x})", "matched", "1", "[2,3]"]),
     "text make": ([], ["[2,3]", "f(1,[2,3]{x})"]),
-    "engine read": ([], ["2 terms"]),
-    "engine check": ([], ["2 terms"]),
-    "engine terms": ([], ["accepted"]),
-    "engine links": ([], ["0 cells", "3 symbols"]),
-    "engine build": ([], ["2 left sides"]),
-    "engine next": ([], ["without values after a fault", "the second rule", "2 values"]),
-    "engine memo": ([], ["remembered"]),
-    "engine new": ([], []),
-    "engine eval_term": ([], ["plus(s(s(z)),s(z))"]),
-    "engine normalise": ([], ["s(s(s(z)))", "3 steps"]),
 }
 # Calls that ask for no memory, so that none of their requests can be refused.
 FREE = {

@@ -4,9 +4,7 @@
 
 mod arenas;
 mod banks;
-mod engines;
 mod patterns;
-mod specifications;
 mod texts;
 mod told;
 
@@ -43,7 +41,6 @@ fn try_row(rt: &HostRuntime) -> Result<()> {
         "shared" => try_shared(alloc, call.as_str(), &mut out),
         "store" => try_store(alloc, call.as_str(), &mut out),
         "text" => try_text(alloc, call.as_str(), &mut out),
-        "engine" => try_engine(alloc, call.as_str(), &mut out),
         _ => bail!("no such kind"),
     }
 }
@@ -110,24 +107,6 @@ fn try_text<W: Write>(alloc: Global, call: &str, out: &mut W) -> Result<()> {
         "pattern" => patterns::try_of(alloc, bank, out),
         "matches" => patterns::try_matches(alloc, bank, out),
         "make" => patterns::try_make(alloc, bank, out),
-        _ => bail!("no such call"),
-    }
-}
-
-/// A call on specifications.
-fn try_engine<W: Write>(alloc: Global, call: &str, out: &mut W) -> Result<()> {
-    let mut bank = SharedBank::new(alloc, CELLS)?;
-    match call {
-        "read" => specifications::try_read(alloc, out),
-        "check" => specifications::try_check(alloc, out),
-        "terms" => specifications::try_check_terms(alloc, &mut bank, out),
-        "links" => specifications::try_links(alloc, &mut bank, out),
-        "build" => specifications::try_build(alloc, &mut bank, out),
-        "next" => specifications::try_next(alloc, &mut bank, out),
-        "memo" => engines::try_memo(alloc, out),
-        "new" => engines::try_new(alloc, bank, out),
-        "eval_term" => engines::try_eval_term(alloc, bank, out),
-        "normalise" => engines::try_normalise(alloc, bank, out),
         _ => bail!("no such call"),
     }
 }
