@@ -3,6 +3,7 @@
 
 Processor time (the least of the repeats, 5 where none are named) and peak memory of the program, of the program
 with --memo 0, and of Maude where it is installed, on each system and size of systems.py. What is printed is Markdown.
+The least memory that the system tells is this script's own, some 12 MB; reading the text counts as time.
 """
 
 import datetime
