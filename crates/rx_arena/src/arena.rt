@@ -7,7 +7,7 @@ ghost use Rattle.rx_arena.specs.Arena.{taken_at, IsTaken, taken_count, chain_at,
 
 use crate::cells::Link;
 use crate::fault::ArenaFault;
-use crate::heads::Heads;
+use crate::heads::{Heads, home};
 use crate::pool::Pool;
 use crate::{CellBody, Slot};
 use std::alloc::Global;
@@ -85,6 +85,16 @@ impl Arena {
         ensures law { IsArena self.now }
     {
         self.heads.len() as u32
+    }
+
+    /// The chain that a hash names.
+    #[inline(always)]
+    pub fn home(&self, hash: u64) -> u32
+        requires some { 0 < length self.now.chains }
+        ensures value { result ≡ hash % length self.now.chains }
+        ensures law { IsArena self.now }
+    {
+        home(hash, self.chains())
     }
 
     /// Takes a slot for this body: unmarked, protected by no root, in no chain.
@@ -413,7 +423,7 @@ impl Arena {
         ensures law { IsArena self.new }
     {
         while let Some(slot) = self.chain_pop(from) {
-            let chain = (self.read(slot).hash % count as u64) as u32;
+            let chain = home(self.read(slot).hash, count);
             self.chain_push(chain, slot);
         }
     }
@@ -464,7 +474,7 @@ impl Arena {
         ensures law { IsArena self.new }
     {
         for slot in 0..end {
-            let chain = (self.read(Slot(slot)).hash % chains as u64) as u32;
+            let chain = home(self.read(Slot(slot)).hash, chains);
             self.chain_push(chain, Slot(slot));
         }
     }

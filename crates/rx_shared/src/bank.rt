@@ -77,13 +77,6 @@ impl SharedBank {
         &self.arena
     }
 
-    /// The chain that a hash names.
-    fn chain_of(&self, hash: u64) -> u32
-        ensures { result ≡ hash % length self.now.arena.chains }
-    {
-        (hash & ((1 << self.bits) - 1)) as u32
-    }
-
     /// Doubles the chains where there are more cells than chains; without memory for that it leaves
     /// them.
     fn widen(&mut self)
@@ -122,7 +115,7 @@ impl SharedBank {
         ensures { let w = store_of self.old in
             MakesOrRefuses w (store_of self.new) (tree_of_body w body) result }
     {
-        let chain = self.chain_of(body.hash);
+        let chain = self.arena.home(body.hash);
         if let Some(slot) = find(&self.arena, chain, body) {
             return Ok(Term(slot.0));
         }

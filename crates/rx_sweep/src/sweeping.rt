@@ -30,7 +30,7 @@ fn drop_slot(arena: &mut Arena, slot: Slot)
     ensures after { arena.new ≡ record arena.old { cells = put arena.old.cells slot.0 None; chains = slice_set arena.old.chains (home arena.old slot.0) (kept_in arena.old (home arena.old slot.0)); spare = arena.old.spare + 1 } }
     ensures law { IsArena arena.new }
 {
-    let chain = (arena.read(slot).hash % u64::from(arena.chains())) as u32;
+    let chain = arena.home(arena.read(slot).hash);
     arena.chain_keep_marked(chain);
     arena.give_back(slot);
 }
