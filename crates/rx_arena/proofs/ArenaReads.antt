@@ -1,11 +1,12 @@
 -- What an arena's reading calls find.
-use Rattle.std.proofs.Common.{◌≡◌, ℕ, List, [], ◌∷◌, ◌++◌, get_or, Some, None, IfSome, refl, sym, ap, subst, ◌∙◌}
-use Rattle.std.specs.Prelude.{Option, Bool, MatchOption, IsSome, not, nat_eq, true, false}
+use Rattle.std.proofs.Common.{◌≡◌, ℕ, ◌<◌, List, [], ◌∷◌, ◌++◌, get_or, Some, None, IfSome, refl, sym, ap, subst, ◌∙◌, arith}
+use Rattle.std.specs.Prelude.{◌↔◌, Option, Bool, MatchOption, IsSome, IsTrue, not, nat_eq, true, false}
 use Rattle.std.specs.Option.{option_map}
+use Rattle.std.proofs.lemmas.Bool.{lt-ltb, ltb-true}
 use Rattle.rx_arena.specs.declared.Slot.{Slot}
 use Rattle.rx_arena.specs.declared.CellBody.{CellBody}
 use Rattle.rx_arena.specs.Node as node
-use Rattle.rx_arena.specs.Node.{Node, has_mark}
+use Rattle.rx_arena.specs.Node.{Node, has_mark, is_protected_node}
 use Rattle.rx_arena.specs.Held.{IsHeld}
 use Rattle.rx_arena.specs.Links.{Links, IsChain, Chained, Listed}
 use Rattle.rx_arena.specs.Pool.{PoolState, is_unmarked_node}
@@ -67,6 +68,10 @@ shown_unmarked turned (Some n) = twice (nat_eq n.mark (node.mark_of turned false
   twice : (b : Bool) → not (not b) ≡ b
   twice true = refl
   twice false = refl
+
+pub shown_protected : (turned : Bool) (o : Option Node) (y : Bool) → y ≡ is_protected_node o → IsTrue y ↔ 0 < root_count (option_map (shown_of turned) o)
+shown_protected turned None y e = (λ h. absurd (let z = sym e ∙ h in cc), λ h. absurd (omega (arith, h)))
+shown_protected turned (Some n) y e = (λ h. ltb-true 0 n.roots (sym e ∙ h), λ h. e ∙ lt-ltb 0 n.roots h)
 
 pub shown_none : (turned : Bool) (o : Option Node) → o ≡ None → option_map (shown_of turned) o ≡ None
 shown_none turned None e = refl

@@ -130,10 +130,10 @@ get_or_any [] s lt d e = absurd (omega (arith, lt))
 get_or_any (k ∷ ks) zero lt d e = refl
 get_or_any (k ∷ ks) (suc s) lt d e = get_or_any ks s (omega (arith, lt)) d e
 
--- the bytes with those of one block more
-pub resized : (ks : List ℕ) (n m : ℕ) → n ≡ length ks → m ≡ length ks → take (n + 1024) ks ++ replicate (n + 1024 - m) 0 ≡ ks ++ replicate 1024 0
-resized ks n m e f = let more : n + 1024 - m ≡ 1024 = omega (arith, e, f) in
-    λ i. take_all (n + 1024) ks (omega (arith, e)) i ++ replicate (more i) 0
+-- a list with what one block adds
+pub resized : {A : Type 0} (xs : List A) (x : A) (n m : ℕ) → n ≡ length xs → m ≡ length xs → take (n + 1024) xs ++ replicate (n + 1024 - m) x ≡ xs ++ replicate 1024 x
+resized xs x n m e f = let more : n + 1024 - m ≡ 1024 = omega (arith, e, f) in
+    λ i. take_all (n + 1024) xs (omega (arith, e)) i ++ replicate (more i) x
 
 pub below-marks : (ks : List ℕ) (cs : List (Option Node)) (s : ℕ) → HasMarks ks cs → s < length (with_marks ks cs) → s < length cs
 below-marks ks cs s e lt = let f = length-with_marks ks cs e in omega (arith, lt, f)

@@ -1,11 +1,11 @@
 -- What each call of a pool makes of the store, the free list and the cells.
 use Rattle.std.proofs.Common.{◌≡◌, ◌⊎◌, ℕ, ◌+◌, ◌-◌, ◌<◌, ◌≤◌, List, [], ◌∷◌, ◌++◌, length, get_or, set, Some, None, IfSome, inl, inr, refl, sym, ap, subst, ◌∙◌, arith}
 use Rattle.std.specs.Prelude.{Option, Bool, true, false, not, nat_eq, nat_lt, replicate, take, ◌^◌, min}
-use Rattle.std.proofs.lemmas.Bool.{eqb-true}
+use Rattle.std.proofs.lemmas.Bool.{eqb-true, ne_eqb}
 use Rattle.std.proofs.lemmas.Bool.Decides.{nat_tests}
 use Rattle.std.specs.Option.{option_map}
 use Rattle.std.proofs.lemmas.List.{get_or-set_same, set-set, set-get_or, length-set, get_or-take}
-use Rattle.rx_arena.specs.Node.{Node, mark_of, has_mark, with_mark, with_next, changed}
+use Rattle.rx_arena.specs.Node.{Node, mark_of, has_mark, with_mark, with_next, changed, is_protected_node}
 use Rattle.rx_arena.specs.declared.cells.Link.{Link}
 use Rattle.rx_arena.specs.declared.cells.Link.TheVariants.{Chain, Gray, Free}
 use Rattle.rx_arena.specs.Held.{IsHeld}
@@ -235,6 +235,20 @@ module _ (slots : List (Option Node)) (first : Option ℕ) (l : Listed (frees sl
     | inl h ↦ ap (λ (z : ℕ). nat_eq z (mark_of turned false)) h.1.2 ∙ sym (ap (is_unmarked_node turned) h.1.1)
     | inr h ↦ ap (λ (z : ℕ). nat_eq z (mark_of turned false)) h.0 ∙ two_apart turned ∙ sym (ap (is_unmarked_node turned) h.1)
   ]
+
+  -- so is a slot taken and protected: by its mark, where its node is protected
+  pub protected_held : (s k : ℕ) → s < fresh → IfSome (get_or slots s None) (λ n. k ≡ n.mark) → is_protected_node (get_or slots s None) ≡ true → not (nat_eq k 2) ≡ is_protected_node (get_or cells s None)
+  protected_held s k lt read is = elim (known_at s k lt read) [
+    | inl h ↦ ap not (ne_eqb k 2 (λ e. (let small = h.0 in absurd (omega (arith, small, e))))) ∙ sym (ap is_protected_node (h.1.1 ∙ sym (taken_at slots l.0 fresh s h.1.0 h.1.1).at_store) ∙ is)
+    | inr h ↦ ap (λ (z : ℕ). not (nat_eq z 2)) h.0 ∙ sym (ap is_protected_node h.1)
+  ]
+
+  -- and not where its node is not
+  pub unprotected_held : (s : ℕ) → is_protected_node (get_or slots s None) ≡ false → is_protected_node (get_or cells s None) ≡ false
+  unprotected_held s is = by_cell (get_or cells s None) refl where
+    by_cell : (o : Option Node) → get_or cells s None ≡ o → is_protected_node (get_or cells s None) ≡ false
+    by_cell None e = ap is_protected_node e
+    by_cell (Some n) e = ap is_protected_node (e ∙ sym (taken_at slots l.0 fresh s n e).at_store) ∙ is
 
   pub given_back_some : (s : ℕ) → IsHeld cells s → 0 < taken
   given_back_some s h = given_back-some_taken slots l.0 fresh taken room cap p s h.0 h.1 h.0

@@ -1,5 +1,5 @@
 //! The arena: slots to take and give back, the chains of a table, and the gray list of a marking.
-ghost use Rattle.std.specs.Prelude.{◌≡◌, ◌≢◌, ◌==◌, if◌then◌else◌, ℕ, ◌+◌, ◌%◌, ◌-◌, ◌<◌, ◌≤◌, ◌^◌, ◌++◌, ◌∷◌, [], List, Bool, true, false, Option, Some, None, Ok, Err, MatchOption, IfSome, IfOk, IfErr, OnOk, OnErr, IfNone, IsSome, get_or, length, slice_set, take, replicate, reverse, is_some, map};
+ghost use Rattle.std.specs.Prelude.{◌≡◌, ◌≢◌, ◌==◌, ◌↔◌, IsTrue, if◌then◌else◌, ℕ, ◌+◌, ◌%◌, ◌-◌, ◌<◌, ◌≤◌, ◌^◌, ◌++◌, ◌∷◌, [], List, Bool, true, false, Option, Some, None, Ok, Err, MatchOption, IfSome, IfOk, IfErr, OnOk, OnErr, IfNone, IsSome, get_or, length, slice_set, take, replicate, reverse, is_some, map};
 ghost use Rattle.std.specs.Option.{option_map};
 ghost use Rattle.rx_arena.specs.Put.{times, times_in, total, total-prop, put, altered, emptied};
 ghost use Rattle.rx_arena.specs.Links.{Chained, Chained-prop, Listed, Listed-prop, links};
@@ -151,6 +151,13 @@ impl Arena {
         ensures { result ≡ roots_at self.now slot.0 }
     {
         self.pool.roots(slot.0)
+    }
+
+    /// Whether the slot is taken and protected, as is told without its cell.
+    pub fn is_protected(&self, slot: Slot) -> bool
+        ensures { IsTrue result ↔ 0 < roots_at self.now slot.0 }
+    {
+        self.pool.is_protected(slot.0)
     }
 
     /// Replaces how often the cell is protected.

@@ -13,9 +13,9 @@
 //! | 62 | `kind` | the body's kind |
 //! | 63 | | not used |
 //!
-//! Beside the blocks there is a byte for each slot, its mark: 0 or 1 while the slot is taken, where
-//! one of them says that it is marked, and 2 once it is given back. So whether a slot is taken and
-//! marked is read without its cell.
+//! Beside the blocks there are two bytes for each slot. One is its mark: 0 or 1 while the slot is
+//! taken, where one of them says that it is marked, and 2 once it is given back. The other says
+//! whether it is protected. So whether a slot is taken, marked or protected is read without its cell.
 //!
 //! No pointer is compared, tested against null or turned into a number: a link is known by the `number`
 //! in the cell that it leads to, and a cell's own number means the end.

@@ -1,7 +1,7 @@
-//! The slots with their marks, which lie beside the cells: a mark is read without the cell.
-ghost use Rattle.std.specs.Prelude.{◌≡◌, ◌<◌, [], ◌++◌, length, replicate, slice_set};
+//! The slots with what lies beside their cells: the marks, and which slots are protected.
+ghost use Rattle.std.specs.Prelude.{◌≡◌, ◌<◌, [], ◌++◌, length, map, replicate, slice_set};
 ghost use Rattle.std.specs.Prelude.{Some, None, IfSome, OnOk, OnErr};
-ghost use Rattle.rx_arena.specs.Node.{node_at, lone, changed};
+ghost use Rattle.rx_arena.specs.Node.{node_at, lone, changed, is_protected_node};
 ghost use Rattle.rx_arena.specs.Node.{with_roots, with_mark, next_in, with_next};
 ghost use Rattle.rx_arena.specs.Held.{IsHeld};
 
@@ -12,11 +12,14 @@ use crate::store::Store;
 use std::alloc::{AllocError, Global};
 use std::marker::Model;
 
-/// What each slot holds, if anything lies there: the cells, and a byte for each.
+/// What each slot holds, if anything lies there: the cells, and for each its mark and whether its
+/// root count is above 0.
 #[derive(Drop)]
 pub(crate) struct MarkedStore {
     cells: Store,
     marks: Vec<u8>,
+    protected: Vec<bool>,
+    ghost told: { protected.items ≡ map is_protected_node cells },
 }
 
 impl Model for MarkedStore {
@@ -39,6 +42,7 @@ impl MarkedStore {
         MarkedStore {
             cells: Store::new(alloc),
             marks: Vec::new(alloc),
+            protected: Vec::new(alloc),
         }
     }
 
@@ -49,10 +53,15 @@ impl MarkedStore {
     {
         let slots = self.marks.len();
         self.marks.resize(slots + BLOCK, 0)?;
+        if let Err(fault) = self.protected.resize(slots + BLOCK, false) {
+            self.marks.truncate(slots);
+            return Err(fault);
+        }
         match self.cells.grow() {
             Ok(()) => Ok(()),
             Err(fault) => {
                 self.marks.truncate(slots);
+                self.protected.truncate(slots);
                 Err(fault)
             }
         }
@@ -65,6 +74,7 @@ impl MarkedStore {
     {
         self.cells.fill(slot, body);
         self.marks[slot as usize] = mark;
+        self.protected[slot as usize] = false;
     }
 
     /// Makes the node at a slot a new one, with this body and mark and in no list.
@@ -74,6 +84,7 @@ impl MarkedStore {
     {
         self.cells.renew(slot, body);
         self.marks[slot as usize] = mark;
+        self.protected[slot as usize] = false;
     }
 
     /// The body.
@@ -97,7 +108,16 @@ impl MarkedStore {
         requires { IsHeld self.old slot }
         ensures { self.new ≡ changed slot (with_roots count) self.old }
     {
-        self.cells.set_roots(slot, count)
+        self.cells.set_roots(slot, count);
+        self.protected[slot as usize] = count > 0;
+    }
+
+    /// Whether the root count is above 0.
+    pub(crate) fn is_protected(&self, slot: u32) -> bool
+        requires { IsHeld self.now slot }
+        ensures { result ≡ is_protected_node (node_at self.now slot) }
+    {
+        self.protected[slot as usize]
     }
 
     /// The mark.

@@ -2,7 +2,7 @@
 ghost use Rattle.std.specs.Prelude.{◌≡◌, ◌+◌, ◌-◌, ◌<◌, ◌≤◌, ◌^◌, ◌∷◌, [], Option, Some, None, Ok, Err, MatchOption, MatchResult, IfSome, IfOk, IfErr, OnOk, OnErr, OnSome, IfNone, get_or, length, min, ℕ, false, not};
 ghost use Rattle.rx_arena.specs.Held.{IsHeld};
 ghost use Rattle.rx_arena.specs.Node as spec;
-ghost use Rattle.rx_arena.specs.Node.{Node, lone, has_mark, next_in, with_mark, with_next, with_roots};
+ghost use Rattle.rx_arena.specs.Node.{Node, lone, has_mark, is_protected_node, next_in, with_mark, with_next, with_roots};
 ghost use Rattle.rx_arena.specs.Put.{put, filled, altered};
 ghost use Rattle.rx_arena.specs.Links.{Listed, Listed-prop, links};
 ghost use Rattle.rx_arena.specs.Pool.{spare_of, is_unmarked_node};
@@ -154,6 +154,13 @@ impl Pool {
         ensures { result ≡ is_unmarked_node self.now.turned (get_or self.now.cells slot None) }
     {
         slot < self.fresh && self.store.mark(slot) == mark_of(self.turned, false)
+    }
+
+    /// Whether the slot is taken and protected.
+    pub(crate) fn is_protected(&self, slot: u32) -> bool
+        ensures { result ≡ is_protected_node (get_or self.now.cells slot None) }
+    {
+        slot < self.fresh && self.store.is_protected(slot) && self.store.mark(slot) != GIVEN_BACK
     }
 
     /// How many slots were ever taken.

@@ -1,8 +1,10 @@
-use Rattle.std.proofs.Common.{set, Some, sym, subst, ap, ◌∙◌, arith}
+use Rattle.std.proofs.Common.{set, Some, sym, subst, ap, ◌∙◌, arith, map}
 use Rattle.rx_arena.specs.Node.{lone}
 use Rattle.rx_arena.specs.Held.{IsHeld}
 use Rattle.rx_arena.specs.Marks.{with_marks}
 use Rattle.rx_arena.proofs.Marks.{held-with_marks, within-marks, set-with_marks}
+use Rattle.rx_arena.specs.Node.{is_protected_node}
+use Rattle.rx_arena.proofs.Protected.{told-within, told-set}
 use Rattle.rx_arena.proofs.marked.MarkedStore.renew.Goals as goal
 
 pub renew-requires : goal.renew-requires
@@ -15,3 +17,12 @@ pub returns : goal.returns
 returns c = let ks = c.self.inside.marks.items in let s = c.args.slot in
     ap (with_marks (set ks s c.args.mark)) c.renew.ensures ∙ set-with_marks ks c.self.inside.cells s c.args.mark (Some (lone 0 c.args.body)) c.self.invariant
     ∙ ap (λ z. set z s (Some (lone c.args.mark c.args.body))) c.self.view_is
+
+pub index_mut-requires-2 : goal.index_mut-requires-2
+index_mut-requires-2 c =
+    let lt = told-within c.self.inside.protected.items c.self.inside.cells c.self.inside.told c.args.slot (held-with_marks c.self.inside.marks.items c.self.inside.cells c.args.slot c.self.invariant (subst (λ z. IsHeld z c.args.slot) (sym c.self.view_is) c.requires)) in
+    let len = c.self.inside.protected.ok.0 in
+    omega (arith, lt, len)
+
+pub invariant_of-self-inside : goal.invariant_of-self-inside
+invariant_of-self-inside c = (told-set c.self.inside.protected.items c.self.inside.cells c.self.inside.told c.args.slot (Some (lone 0 c.args.body)) ∙ ap (map is_protected_node) (sym c.renew.ensures), tt)

@@ -1,8 +1,10 @@
-use Rattle.std.proofs.Common.{◌<◌, length, IfSome, sym, subst, ap, ◌∙◌}
+use Rattle.std.proofs.Common.{◌<◌, length, IfSome, sym, subst, ap, ◌∙◌, map}
 use Rattle.rx_arena.specs.Node.{changed, with_next}
 use Rattle.rx_arena.specs.Held.{IsHeld}
 use Rattle.rx_arena.specs.Marks.{with_marks}
 use Rattle.rx_arena.proofs.Marks.{held-with_marks, length-with_marks, changed-with_marks, link-marked}
+use Rattle.rx_arena.specs.Node.{is_protected_node}
+use Rattle.rx_arena.proofs.Protected.{linked-roots, told-changed}
 use Rattle.rx_arena.proofs.marked.MarkedStore.set_next.Goals as goal
 
 pub set_next-requires-clause-held : goal.set_next-requires-clause-held
@@ -14,3 +16,6 @@ set_next-requires-clause-held c =
 
 pub returns : goal.returns
 returns c = ap (with_marks c.self.inside.marks.items) c.set_next.ensures ∙ changed-with_marks c.self.inside.marks.items c.self.inside.cells c.args.slot (with_next c.args.link c.args.next) c.self.invariant (link-marked c.args.link c.args.next) ∙ ap (changed c.args.slot (with_next c.args.link c.args.next)) c.self.view_is
+
+pub invariant_of-self-inside : goal.invariant_of-self-inside
+invariant_of-self-inside c = (told-changed c.self.inside.protected.items c.self.inside.cells c.self.inside.told c.args.slot (with_next c.args.link c.args.next) (linked-roots c.args.link c.args.next) ∙ ap (map is_protected_node) (sym c.set_next.ensures), tt)

@@ -1,8 +1,10 @@
-use Rattle.std.proofs.Common.{refl, sym, subst, ap, ◌∙◌}
+use Rattle.std.proofs.Common.{refl, sym, subst, ap, ◌∙◌, map, arith}
 use Rattle.rx_arena.specs.Node.{changed, with_roots}
 use Rattle.rx_arena.specs.Held.{IsHeld}
 use Rattle.rx_arena.specs.Marks.{with_marks}
 use Rattle.rx_arena.proofs.Marks.{held-with_marks, changed-with_marks}
+use Rattle.rx_arena.specs.Node.{is_protected_node}
+use Rattle.rx_arena.proofs.Protected.{told-within, told-roots}
 use Rattle.rx_arena.proofs.marked.MarkedStore.set_roots.Goals as goal
 
 pub set_roots-requires : goal.set_roots-requires
@@ -10,3 +12,12 @@ set_roots-requires c = held-with_marks c.self.inside.marks.items c.self.inside.c
 
 pub returns : goal.returns
 returns c = ap (with_marks c.self.inside.marks.items) c.set_roots.ensures ∙ changed-with_marks c.self.inside.marks.items c.self.inside.cells c.args.slot (with_roots c.args.count) c.self.invariant (λ k n. refl) ∙ ap (changed c.args.slot (with_roots c.args.count)) c.self.view_is
+
+pub index_mut-requires : goal.index_mut-requires
+index_mut-requires c =
+    let lt = told-within c.self.inside.protected.items c.self.inside.cells c.self.inside.told c.args.slot (held-with_marks c.self.inside.marks.items c.self.inside.cells c.args.slot c.self.invariant (subst (λ z. IsHeld z c.args.slot) (sym c.self.view_is) c.requires)) in
+    let len = c.self.inside.protected.ok.0 in
+    omega (arith, lt, len)
+
+pub invariant_of-self-inside : goal.invariant_of-self-inside
+invariant_of-self-inside c = (told-roots c.self.inside.protected.items c.self.inside.cells c.self.inside.told c.args.slot c.args.count (held-with_marks c.self.inside.marks.items c.self.inside.cells c.args.slot c.self.invariant (subst (λ z. IsHeld z c.args.slot) (sym c.self.view_is) c.requires)) ∙ ap (map is_protected_node) (sym c.set_roots.ensures), tt)
