@@ -127,8 +127,9 @@ def main():
             print(f"not tried: {part}: {tool} is not here")
             continue
         before, start = len(TRIED), time.monotonic()
-        PARTS[part]()
-        print(f"{part}: {len(TRIED) - before} tried in {time.monotonic() - start:.0f} s", flush=True)
+        refused = PARTS[part]()
+        told = f"{refused} requests refused, " if refused else ""
+        print(f"{part}: {told}{len(TRIED) - before} tried in {time.monotonic() - start:.0f} s", flush=True)
     print(f"{passed()} passed, {len(FAILURES)} failed")
     sys.exit(1 if FAILURES else 0)
 

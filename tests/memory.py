@@ -9,6 +9,8 @@ import subprocess
 from attempts import EXAMPLES, NO_MEMORY, check, recw, room, write_file
 from common import TOP, program, rows
 
+# How many requests one process of gdb refuses.
+SHARE = 16
 # The program that makes one call of a crate.
 CALLER = f"{TOP}/crates/hostile/out/hostile"
 # Runs without a specification: the words, and the output that docs/FORMATS.md gives.
@@ -49,6 +51,16 @@ OTHER_CALLS = {
     "text pattern": ([], ["matched", "1", "[2,3]"]),
     "text matches": ([], ["without bindings after a fault", "f(1,[2,3]{x})", "matched", "1", "[2,3]"]),
     "text make": ([], ["[2,3]", "f(1,[2,3]{x})"]),
+    "specification read": ([], ["the text", "4 rules", "2 terms"]),
+    "specification check": ([], ["4 symbols", "the text", "4 rules", "2 terms"]),
+    "specification terms": ([], ["accepted"]),
+    "specification links": ([], ["the same cells", "4 symbols", *ROOTS]),
+    "specification build": ([], ["4 left sides"]),
+    "specification next": ([], ["without values after a fault", "the second rule", "2 values"]),
+    "engine memo": ([], ["remembered"]),
+    "engine new": ([], ["2 terms"]),
+    "engine eval_term": ([], ["[kept]", "twice(s(s(z)))"]),
+    "engine normalise": ([], ["[kept]", "s(s(s(s(z))))", "4 steps"]),
 }
 # Calls that ask for no memory, so that none of their requests can be refused.
 FREE = {
@@ -61,18 +73,41 @@ FREE = {
 }
 
 
-def refused(words, **env):
-    """What a program answers where each request for memory is refused in turn, the first time none."""
+def under_gdb(words, **env):
+    """What a program answers in each run that tests/refuse.py makes of it."""
     gdb = ["gdb", "-q", "-batch", "-x", f"{TOP}/tests/refuse.py", "--args", *words]
     how = {"cwd": EXAMPLES, "capture_output": True, "text": True, "check": False}
     ran = subprocess.run(gdb, env={**os.environ, **env}, **how)
     return [json.loads(it) for it in re.findall(r"^\{.*\}$", ran.stdout, re.M)]
 
 
-def in_parallel(work, jobs):
-    """Does the work for each job, as many at a time as there are processors for this process."""
+def shares(counts):
+    """All requests, in shares for one process of gdb each."""
+    for call, count in counts.items():
+        for first in range(1, count + 1, SHARE):
+            yield f"{call} {first} {min(first + SHARE - 1, count)}"
+
+
+def refused(programs, **env):
+    """What each program answers where nothing is refused, and then where each request is refused in turn.
+
+    As many processes of gdb stand side by side as there are processors for this one.
+    """
     with concurrent.futures.ThreadPoolExecutor(len(os.sched_getaffinity(0))) as pool:
-        yield from pool.map(work, jobs)
+        ample = [pool.submit(under_gdb, words, **env) for words in programs]
+        wanting = []
+        for words, run in zip(programs, ample):
+            requests = [share for answer in run.result() for share in shares(answer["counts"])]
+            wanting.append([pool.submit(under_gdb, words, REQUESTS=it, **env) for it in requests])
+        for run, others in zip(ample, wanting):
+            yield [*run.result(), *(answer for other in others for answer in other.result())]
+
+
+def count_refused(what, answers):
+    """How many requests were refused, of which each has its answer."""
+    count = sum(answers[0]["counts"].values()) if answers else 0
+    check(f"{what}: answers", 1 + count, len(answers))
+    return count
 
 
 def whole_runs(at):
@@ -87,17 +122,24 @@ def whole_runs(at):
         yield [term if it == "term" else it for it in words], output
 
 
+def try_whole_run(words, output, answers):
+    line = " ".join(words)
+    for it in answers:
+        found = (it["status"], it["err"])
+        kept = found == NO_MEMORY and output.startswith(it["out"])
+        what = f"{line}: {it['call']} {it.get('number')}: {found} {it['out']!r}"
+        check(what, True, kept or (*found, it["out"]) == (0, "", output))
+    return count_refused(line, answers)
+
+
 def try_memory():
+    """How many requests were refused."""
+    count = 0
     with room() as at:
-        jobs = list(whole_runs(at))
-        for (words, output), answers in zip(jobs, in_parallel(lambda job: refused([program(), *job[0]]), jobs)):
-            line = " ".join(words)
-            check(f"{line}: answers", True, len(answers) > 1)
-            for it in answers:
-                found = (it["status"], it["err"])
-                kept = found == NO_MEMORY and output.startswith(it["out"])
-                what = f"{line}: {it['call']} {it.get('number')}: {found} {it['out']!r}"
-                check(what, True, kept or (*found, it["out"]) == (0, "", output))
+        runs = list(whole_runs(at))
+        for (words, output), answers in zip(runs, refused([[program(), *words] for words, _ in runs])):
+            count += try_whole_run(words, output, answers)
+    return count
 
 
 def calls():
@@ -115,14 +157,13 @@ def lines(*items):
 def is_due(row, text, refusal, ending):
     """Whether a row told that memory was wanting. A shared bank may answer as ever: its chains may stay longer."""
     if text == lines("ready", "done") + ending:
-        return not row.startswith(("plain", "store", "text"))
+        return not row.startswith(("plain", "store", "text", "specification"))
     return text == lines("ready", "memory", *refusal) + ending
 
 
 def refused_calls(due):
     """Each row with what is due of it, and the answers where each request of the call alone is refused."""
-    answers = in_parallel(lambda it: refused([CALLER, *it[0].split()], CALL_ALONE="1"), due)
-    return zip(due, answers)
+    return zip(due, refused([[CALLER, *row.split()] for row, _ in due], CALL_ALONE="1"))
 
 
 def try_call(row, refusal, ending, answers):
@@ -132,14 +173,18 @@ def try_call(row, refusal, ending, answers):
     for it in others:
         due = it["status"] == 0 and is_due(row, it["out"], refusal, ending)
         check(f"{row}: {it['call']} {it['number']}: {it['out']!r}", True, due)
+    return count_refused(row, answers)
 
 
 def try_crates():
+    """How many requests were refused."""
     if not os.path.exists(CALLER):
         print(f"not tried: crates: {CALLER} is not there; rt run in crates/hostile builds it")
-        return
+        return 0
+    count = 0
     for (row, (refusal, ending)), answers in refused_calls(list(calls())):
-        try_call(row, refusal, lines(*ending), answers)
+        count += try_call(row, refusal, lines(*ending), answers)
     for (row, ending), answers in refused_calls(list(FREE.items())):
         free = {"call": "none", "counts": {"malloc": 0, "realloc": 0}, "status": 0, "err": ""}
         check(f"{row}: asks for no memory", [{**free, "out": lines("ready", "done", *ending)}], answers)
+    return count

@@ -1,8 +1,9 @@
-"""Run by gdb, with a program and its words as its arguments: each request for memory is refused in turn.
+"""Run by gdb, with a program and its words as its arguments: requests for memory are refused, each in a run of its own.
 
-Where CALL_ALONE is set, only the requests between the first and the second write of the program count. For each run a
-line is printed: the call, its number, the exit status, and both outputs, as JSON. The first line is of a run in which
-nothing is refused, with how often each call was made.
+REQUESTS says which: the name of a call, and the numbers of the first and of the last time that it is refused. Where it
+is not set, there is one run in which nothing is refused, with how often each call was made. Where CALL_ALONE is set,
+only the requests between the first and the second write of the program count. For each run a line is printed: the
+call, its number, the exit status, and both outputs, as JSON.
 """
 
 import json
@@ -53,8 +54,8 @@ def told(room, **which):
     print(json.dumps({**which, "status": status, **outputs}), flush=True)
 
 
-def counted(room):
-    """How often each call is made where nothing is refused."""
+def count(room):
+    """Nothing is refused."""
     started()
     points = {call: at(f"{call}@plt", 1 << 30) for call in CALLS}
     end = at(LAST)
@@ -64,10 +65,9 @@ def counted(room):
         point.delete()
     silent("continue")
     told(room, call="none", counts=counts)
-    return counts
 
 
-def refused(room, call, number):
+def refuse_one(room, call, number):
     started()
     point = at(f"{call}@plt", number - 1)
     silent("continue")
@@ -83,9 +83,12 @@ def main():
     with tempfile.TemporaryDirectory() as room:
         words = gdb.execute("show args", to_string=True).split('"', 1)[1].rsplit('"', 1)[0]
         silent(f"set args {words} >{room}/out 2>{room}/err")
-        for call, count in counted(room).items():
-            for number in range(1, count + 1):
-                refused(room, call, number)
+        if "REQUESTS" not in os.environ:
+            count(room)
+            return
+        call, first, last = os.environ["REQUESTS"].split()
+        for number in range(int(first), int(last) + 1):
+            refuse_one(room, call, number)
 
 
 main()

@@ -44,7 +44,7 @@ const KEPT: &[u8] = b"f(g(a),[1,<7>]){b}";
 const WITHOUT_LISTS: &[u8] = b"<7>";
 
 /// Makes a term, protects it once, and fills the cells that need no memory.
-fn set_up<B: TermBank>(alloc: Global, bank: &mut B, call: Call) -> Result<Term> {
+pub fn set_up<B: TermBank>(alloc: Global, bank: &mut B, call: Call) -> Result<Term> {
     let text = if call == Call::Nil {
         WITHOUT_LISTS
     } else {
@@ -71,7 +71,7 @@ fn fill<B: TermBank>(bank: &mut B) -> Result<(), BankFault> {
 }
 
 /// The text of each cell, by its number.
-fn content<B: TermBank>(alloc: Global, bank: &B) -> Result<Vec<u8>> {
+pub fn content<B: TermBank>(alloc: Global, bank: &B) -> Result<Vec<u8>> {
     let mut text = Vec::new(alloc);
     let mut found = 0u32;
     for number in 0..CELLS {
@@ -172,7 +172,7 @@ fn protections_left<B: TermBank>(bank: &mut B, t: Term) -> u64 {
 }
 
 /// Gives up all but what is protected, and says how much is left.
-fn show_roots<B: TermBank, W: Write>(
+pub fn show_roots<B: TermBank, W: Write>(
     alloc: Global,
     bank: &mut B,
     kept: Term,

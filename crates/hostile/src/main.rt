@@ -4,7 +4,9 @@
 
 mod arenas;
 mod banks;
+mod engines;
 mod patterns;
+mod specifications;
 mod texts;
 mod told;
 
@@ -41,6 +43,8 @@ fn try_row(rt: &HostRuntime) -> Result<()> {
         "shared" => try_shared(alloc, call.as_str(), &mut out),
         "store" => try_store(alloc, call.as_str(), &mut out),
         "text" => try_text(alloc, call.as_str(), &mut out),
+        "specification" => try_specification(alloc, call.as_str(), &mut out),
+        "engine" => try_engine(alloc, call.as_str(), &mut out),
         _ => bail!("no such kind"),
     }
 }
@@ -107,6 +111,32 @@ fn try_text<W: Write>(alloc: Global, call: &str, out: &mut W) -> Result<()> {
         "pattern" => patterns::try_of(alloc, bank, out),
         "matches" => patterns::try_matches(alloc, bank, out),
         "make" => patterns::try_make(alloc, bank, out),
+        _ => bail!("no such call"),
+    }
+}
+
+/// A call on specifications, over a shared bank.
+fn try_specification<W: Write>(alloc: Global, call: &str, out: &mut W) -> Result<()> {
+    let bank = &mut SharedBank::new(alloc, CELLS)?;
+    match call {
+        "read" => specifications::try_read(alloc, out),
+        "check" => specifications::try_check(alloc, out),
+        "terms" => specifications::try_check_terms(alloc, bank, out),
+        "links" => specifications::try_links(alloc, bank, out),
+        "build" => specifications::try_build(alloc, bank, out),
+        "next" => specifications::try_next(alloc, bank, out),
+        _ => bail!("no such call"),
+    }
+}
+
+/// A call of the engine over a shared bank, and of its memo.
+fn try_engine<W: Write>(alloc: Global, call: &str, out: &mut W) -> Result<()> {
+    let bank = SharedBank::new(alloc, CELLS)?;
+    match call {
+        "memo" => engines::try_memo(alloc, out),
+        "new" => engines::try_new(alloc, bank, SharedBank::new(alloc, CELLS)?, out),
+        "eval_term" => engines::try_eval_term(alloc, bank, out),
+        "normalise" => engines::try_normalise(alloc, bank, out),
         _ => bail!("no such call"),
     }
 }

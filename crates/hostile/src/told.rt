@@ -2,6 +2,9 @@
 //! the process knows where the call begins and ends.
 
 use anyhow::Result;
+use rec_engine::EngineFault;
+use rec_sorts::{SortFault, TermsFault};
+use rec_syntax::SyntaxFault;
 use rx_arena::ArenaFault;
 use rx_names::NamesFault;
 use rx_pattern::{MakeFault, PatternFault};
@@ -62,6 +65,30 @@ impl Fault for PatternFault {
 impl Fault for MakeFault {
     fn lacks_memory(&self) -> bool {
         matches!(self, MakeFault::Memory)
+    }
+}
+
+impl Fault for SyntaxFault {
+    fn lacks_memory(&self) -> bool {
+        matches!(self, SyntaxFault::Memory)
+    }
+}
+
+impl Fault for SortFault {
+    fn lacks_memory(&self) -> bool {
+        matches!(self, SortFault::Memory)
+    }
+}
+
+impl Fault for TermsFault {
+    fn lacks_memory(&self) -> bool {
+        matches!(self, TermsFault::Memory)
+    }
+}
+
+impl Fault for EngineFault {
+    fn lacks_memory(&self) -> bool {
+        matches!(self, EngineFault::Memory)
     }
 }
 

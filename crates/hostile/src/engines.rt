@@ -1,0 +1,193 @@
+//! The memo and the engine. What a call of the engine asks for is handed on by small functions, of
+//! which each makes one such call.
+#![tactic(auto)]
+
+ghost use Rattle.std.specs.Prelude.{IfOk};
+ghost use Rattle.rec_engine.specs.Engine.{IsGiven};
+
+use crate::specifications::checked;
+use crate::told::{begin, count, say, show, tell};
+use anyhow::{Result, bail};
+use rec_engine::{Engine, Options, Outcome};
+use rec_memo::Memo;
+use rec_sorts::Checked;
+use rx_term::{Term, TermBank};
+use rx_text::read;
+use std::alloc::Global;
+use std::io;
+use std::io::Write;
+
+/// A small memo, and a reclaim as often as can be, so that a refused growth meets both.
+const OPTIONS: Options = Options {
+    memo: 16,
+    reclaim_every: 1,
+};
+
+/// As many steps as the specification's first term takes.
+const STEPS: u64 = 4;
+
+/// A memo is made.
+pub fn try_memo<W: Write>(alloc: Global, out: &mut W) -> Result<()> {
+    begin(out)?;
+    let answer = Memo::new(alloc, 16);
+    tell(out, &answer)?;
+    let mut memo = Memo::new(alloc, 16)?;
+    memo.put(Term(1), Term(2), 3);
+    let found = memo.get(Term(1)) == Some((Term(2), 3));
+    Ok(say(out, found, "remembered")?)
+}
+
+/// An engine over a bank.
+fn engine_over<B: TermBank + Drop>(alloc: Global, bank: B) -> Result<Engine<B>> {
+    let checked = checked(alloc)?;
+    Ok(Engine::new(alloc, checked, bank, OPTIONS)?)
+}
+
+/// Makes an engine where memory may be refused. It takes the bank and the specification.
+fn make_once<B: TermBank + Drop, W: Write>(
+    alloc: Global,
+    checked: Checked,
+    bank: B,
+    out: &mut W,
+) -> io::Result<()> {
+    begin(out)?;
+    let answer = Engine::new(alloc, checked, bank, OPTIONS);
+    tell(out, &answer)
+}
+
+/// How many terms to evaluate an engine over a bank has.
+fn count_terms<B: TermBank + Drop>(alloc: Global, bank: B) -> Result<u32> {
+    let engine = engine_over(alloc, bank)?;
+    Ok(engine.eval_terms())
+}
+
+/// An engine is made, and then one over another bank.
+pub fn try_new<B: TermBank + Drop, W: Write>(
+    alloc: Global,
+    bank: B,
+    another: B,
+    out: &mut W,
+) -> Result<()> {
+    let checked = checked(alloc)?;
+    make_once(alloc, checked, bank, out)?;
+    let terms = count_terms(alloc, another)?;
+    count(alloc, out, u64::from(terms), "terms")
+}
+
+/// Reads a term that has to stay, and protects it.
+fn keep<B: TermBank>(alloc: Global, bank: &mut B) -> Result<Term> {
+    let kept = read(alloc, b"[kept]", bank)?;
+    if !bank.holds(kept) {
+        bail!("what was read is not held");
+    }
+    bank.protect(kept)?;
+    Ok(kept)
+}
+
+/// The specification's first term.
+fn own_term<B: TermBank>(engine: &mut Engine<B>) -> Result<Term>
+    ensures { IfOk result (IsGiven engine.new.spec (B.store engine.new.bank)) }
+{
+    if engine.eval_terms() == 0 {
+        bail!("there is no term");
+    }
+    Ok(engine.eval_term(0)?)
+}
+
+/// Makes that term where memory may be refused.
+fn make_term<B: TermBank, W: Write>(engine: &mut Engine<B>, out: &mut W) -> Result<()> {
+    if engine.eval_terms() == 0 {
+        bail!("there is no term");
+    }
+    begin(out)?;
+    let answer = engine.eval_term(0);
+    Ok(tell(out, &answer)?)
+}
+
+/// A term of the specification is made.
+pub fn try_eval_term<B: TermBank + Drop, W: Write>(
+    alloc: Global,
+    mut bank: B,
+    out: &mut W,
+) -> Result<()> {
+    let kept = keep(alloc, &mut bank)?;
+    let mut engine = engine_over(alloc, bank)?;
+    make_twice(alloc, &mut engine, kept, out)
+}
+
+/// Makes it twice; memory may be refused the first time.
+fn make_twice<B: TermBank, W: Write>(
+    alloc: Global,
+    engine: &mut Engine<B>,
+    kept: Term,
+    out: &mut W,
+) -> Result<()> {
+    make_term(engine, out)?;
+    show(alloc, engine.bank(), kept, out)?;
+    let t = own_term(engine)?;
+    show(alloc, engine.bank(), t, out)
+}
+
+/// Evaluates a term where memory may be refused. It can be evaluated again.
+fn evaluate<B: TermBank, W: Write>(engine: &mut Engine<B>, t: Term, out: &mut W) -> Result<()>
+    requires { IsGiven engine.old.spec (B.store engine.old.bank) t }
+    ensures { IsGiven engine.new.spec (B.store engine.new.bank) t }
+{
+    begin(out)?;
+    let answer = engine.normalise(t, STEPS);
+    Ok(tell(out, &answer)?)
+}
+
+/// Says what a term comes to.
+fn show_outcome<B: TermBank, W: Write>(
+    alloc: Global,
+    bank: &B,
+    outcome: Outcome,
+    out: &mut W,
+) -> Result<()> {
+    match outcome {
+        Outcome::Limit => Ok(say(out, false, "a value")?),
+        Outcome::Value { term, steps } => {
+            show(alloc, bank, term, out)?;
+            count(alloc, out, steps, "steps")
+        }
+    }
+}
+
+/// Evaluates a term where there is memory, and says what it comes to.
+fn show_value<B: TermBank, W: Write>(
+    alloc: Global,
+    engine: &mut Engine<B>,
+    t: Term,
+    out: &mut W,
+) -> Result<()>
+    requires { IsGiven engine.old.spec (B.store engine.old.bank) t }
+{
+    let outcome = engine.normalise(t, STEPS)?;
+    show_outcome(alloc, engine.bank(), outcome, out)
+}
+
+/// A term is evaluated. Where that was refused, the same engine gives the value when it is asked
+/// again.
+pub fn try_normalise<B: TermBank + Drop, W: Write>(
+    alloc: Global,
+    mut bank: B,
+    out: &mut W,
+) -> Result<()> {
+    let kept = keep(alloc, &mut bank)?;
+    let mut engine = engine_over(alloc, bank)?;
+    evaluate_twice(alloc, &mut engine, kept, out)
+}
+
+/// Evaluates it twice; memory may be refused the first time.
+fn evaluate_twice<B: TermBank, W: Write>(
+    alloc: Global,
+    engine: &mut Engine<B>,
+    kept: Term,
+    out: &mut W,
+) -> Result<()> {
+    let t = own_term(engine)?;
+    evaluate(engine, t, out)?;
+    show(alloc, engine.bank(), kept, out)?;
+    show_value(alloc, engine, t, out)
+}
