@@ -24,33 +24,81 @@ fn pattern<B: TermBank>(rt: &impl Abort, alloc: Global, bank: &mut B, text: &[u8
     Pattern::of(alloc, bank, t).expect(rt, "a pattern")
 }
 
-// Whether the pattern binds just these terms in the subject.
-fn binds(rt: &impl Abort, alloc: Global, text: &[u8], subject: &[u8], bindings: &[&[u8]]) -> bool {
-    let mut bank = bank_of(rt, alloc, 1000);
-    let p = pattern(rt, alloc, &mut bank, text);
-    let t = term(rt, alloc, &mut bank, subject);
-    assert!(rt; bank.holds(t));
+// A list of one reference.
+fn only(rt: &impl Abort, alloc: Global, t: Term) -> Vec<Term> {
     let mut out = Vec::new(alloc);
     assert!(rt; out.push(t).is_ok());
-    assert!(rt; p.matches(&mut bank, t, &mut out) == Ok(true));
-    assert!(rt; out.len() == bindings.len());
-    for (binding, text) in out.iter().zip(bindings) {
-        if *binding != term(rt, alloc, &mut bank, text) {
+    out
+}
+
+// What the pattern answers for a term of the bank.
+fn answer<B: TermBank>(
+    rt: &impl Abort,
+    bank: &mut B,
+    p: &Pattern,
+    t: Term,
+    out: &mut Vec<Term>,
+) -> Result<bool, PatternFault> {
+    assert!(rt; bank.holds(t));
+    p.matches(bank, t, out)
+}
+
+// What the pattern makes of a term of the bank.
+fn made_of<B: TermBank>(
+    rt: &impl Abort,
+    bank: &mut B,
+    p: &Pattern,
+    arg: Term,
+) -> Result<Term, MakeFault> {
+    assert!(rt; bank.holds(arg));
+    p.make(bank, &[arg])
+}
+
+// Whether these are the references of the terms that the texts spell.
+fn are_spelt(
+    rt: &impl Abort,
+    alloc: Global,
+    bank: &mut PlainBank,
+    terms: &[Term],
+    texts: &[&[u8]],
+) -> bool {
+    assert!(rt; terms.len() == texts.len());
+    for (t, text) in terms.iter().zip(texts) {
+        if *t != term(rt, alloc, bank, text) {
             return false;
         }
     }
     true
 }
 
+// What the pattern answers for a subject, where `out` has that already.
+fn answer_of(
+    rt: &impl Abort,
+    alloc: Global,
+    bank: &mut PlainBank,
+    text: &[u8],
+    subject: &[u8],
+    out: &mut Vec<Term>,
+) -> Result<bool, PatternFault> {
+    let p = pattern(rt, alloc, bank, text);
+    let t = term(rt, alloc, bank, subject);
+    assert!(rt; out.push(t).is_ok());
+    answer(rt, bank, &p, t, out)
+}
+
+// Whether the pattern binds just these terms in the subject.
+fn binds(rt: &impl Abort, alloc: Global, text: &[u8], subject: &[u8], bindings: &[&[u8]]) -> bool {
+    let mut bank = bank_of(rt, alloc, 1000);
+    let mut out = Vec::new(alloc);
+    assert!(rt; answer_of(rt, alloc, &mut bank, text, subject, &mut out) == Ok(true));
+    are_spelt(rt, alloc, &mut bank, &out, bindings)
+}
+
 // Whether the pattern doesn't match the subject, and nothing is left of what `out` had.
 fn fails(rt: &impl Abort, alloc: Global, text: &[u8], subject: &[u8]) -> bool {
     let mut bank = bank_of(rt, alloc, 1000);
-    let p = pattern(rt, alloc, &mut bank, text);
-    let t = term(rt, alloc, &mut bank, subject);
-    assert!(rt; bank.holds(t));
     let mut out = Vec::new(alloc);
-    assert!(rt; out.push(t).is_ok());
-    p.matches(&mut bank, t, &mut out) == Ok(false) && out.is_empty()
+    answer_of(rt, alloc, &mut bank, text, subject, &mut out) == Ok(false) && out.is_empty()
 }
 
 // Why the term is no pattern.
@@ -191,8 +239,7 @@ fn of_one(
 ) -> Result<Term, MakeFault> {
     let p = pattern(rt, alloc, bank, text);
     let a = term(rt, alloc, bank, first);
-    assert!(rt; bank.holds(a));
-    p.make(bank, &[a])
+    made_of(rt, bank, &p, a)
 }
 
 // What is made of two terms.
@@ -212,84 +259,128 @@ fn of_two(
     p.make(bank, &[a, b])
 }
 
+// Whether the two terms make the whole.
+fn two_make(
+    rt: &impl Abort,
+    alloc: Global,
+    bank: &mut PlainBank,
+    text: &[u8],
+    terms: (&[u8], &[u8]),
+    whole: &[u8],
+) -> bool {
+    let t = term(rt, alloc, bank, whole);
+    of_two(rt, alloc, bank, text, terms.0, terms.1) == Ok(t)
+}
+
+// Whether no terms are too few for the pattern.
+fn none_are_too_few(rt: &impl Abort, alloc: Global, bank: &mut PlainBank, text: &[u8]) -> bool {
+    let p = pattern(rt, alloc, bank, text);
+    p.make(bank, &[]) == Err(MakeFault::Count)
+}
+
 #[test]
 fn terms_in_their_places(rt: HostRuntime) {
     let alloc = rt.alloc();
     let mut bank = bank_of(&rt, alloc, 1000);
-    let f = term(&rt, alloc, &mut bank, b"f(1,2,3)");
-    assert!(rt; of_two(&rt, alloc, &mut bank, b"f(<int>,<list>)", b"1", b"[2,3]") == Ok(f));
-    let g = term(&rt, alloc, &mut bank, b"f(1)");
-    assert!(rt; of_two(&rt, alloc, &mut bank, b"f(<int>,<list>)", b"1", b"[]") == Ok(g));
-    let listed = term(&rt, alloc, &mut bank, b"[[1]{x},7]{a}");
+    take_terms(&rt, alloc, &mut bank);
+    refuse_terms(&rt, alloc, &mut bank);
+}
+
+fn take_terms(rt: &impl Abort, alloc: Global, bank: &mut PlainBank) {
     assert!(rt;
-        of_two(
-            &rt,
+        two_make(
+            rt,
             alloc,
-            &mut bank,
+            bank,
+            b"f(<int>,<list>)",
+            (b"1", b"[2,3]"),
+            b"f(1,2,3)"
+        )
+    );
+    assert!(rt; two_make(rt, alloc, bank, b"f(<int>,<list>)", (b"1", b"[]"), b"f(1)"));
+    assert!(rt;
+        two_make(
+            rt,
+            alloc,
+            bank,
             b"[<list>,7]{<term>}",
-            b"[1]{x}",
-            b"a"
-        ) == Ok(listed)
+            (b"[1]{x}", b"a"),
+            b"[[1]{x},7]{a}"
+        )
     );
-    let noted = term(&rt, alloc, &mut bank, b"a{1,2}");
-    assert!(rt; of_one(&rt, alloc, &mut bank, b"a{<list>}", b"[1,2]") == Ok(noted));
-    let p = pattern(&rt, alloc, &mut bank, b"f(<int>)");
-    assert!(rt; p.make(&mut bank, &[]) == Err(MakeFault::Count));
-    assert!(rt; of_one(&rt, alloc, &mut bank, b"f(<int>)", b"a") == Err(MakeFault::Kind { at: 0 }));
+    let noted = term(rt, alloc, bank, b"a{1,2}");
+    assert!(rt; of_one(rt, alloc, bank, b"a{<list>}", b"[1,2]") == Ok(noted));
+}
+
+fn refuse_terms(rt: &impl Abort, alloc: Global, bank: &mut PlainBank) {
+    assert!(rt; none_are_too_few(rt, alloc, bank, b"f(<int>)"));
+    assert!(rt; of_one(rt, alloc, bank, b"f(<int>)", b"a") == Err(MakeFault::Kind { at: 0 }));
     assert!(rt;
-        of_two(&rt, alloc, &mut bank, b"f(<int>,<int>)", b"a", b"b")
-            == Err(MakeFault::Kind { at: 0 })
-    );
-    assert!(rt;
-        of_two(&rt, alloc, &mut bank, b"f(<int>,<int>)", b"1", b"b")
-            == Err(MakeFault::Kind { at: 1 })
+        of_two(rt, alloc, bank, b"f(<int>,<int>)", b"a", b"b") == Err(MakeFault::Kind { at: 0 })
     );
     assert!(rt;
-        of_one(&rt, alloc, &mut bank, b"f(<list>)", b"[a]{b}") == Err(MakeFault::Kind { at: 0 })
+        of_two(rt, alloc, bank, b"f(<int>,<int>)", b"1", b"b") == Err(MakeFault::Kind { at: 1 })
     );
+    assert!(rt; of_one(rt, alloc, bank, b"f(<list>)", b"[a]{b}") == Err(MakeFault::Kind { at: 0 }));
+}
+
+// The pattern that a text spells, in a bank that then keeps nothing.
+fn lone_pattern(rt: &impl Abort, alloc: Global, bank: &mut PlainBank, text: &[u8]) -> Pattern {
+    let p = pattern(rt, alloc, bank, text);
+    bank.reclaim(&[]);
+    p
+}
+
+// Leaves the bank the term alone.
+fn keep(rt: &impl Abort, bank: &mut PlainBank, t: Term) {
+    assert!(rt; bank.holds(t));
+    bank.reclaim(&[t]);
 }
 
 #[test]
 fn a_full_bank(rt: HostRuntime) {
     let alloc = rt.alloc();
     let mut bank = bank_of(&rt, alloc, 8);
-    let open = pattern(&rt, alloc, &mut bank, b"[<list>]{x}");
-    bank.reclaim(&[]);
-    let single = pattern(&rt, alloc, &mut bank, b"[<int>]");
-    bank.reclaim(&[]);
+    let open = lone_pattern(&rt, alloc, &mut bank, b"[<list>]{x}");
+    let single = lone_pattern(&rt, alloc, &mut bank, b"[<int>]");
     let t = term(&rt, alloc, &mut bank, b"[1,2]{x}");
-    assert!(rt; bank.holds(t));
-    bank.reclaim(&[t]);
+    keep(&rt, &mut bank, t);
     assert!(rt; bank.cells() == 7);
-    let nine = term(&rt, alloc, &mut bank, b"9");
+    find_no_room(&rt, alloc, &mut bank, (&open, &single), t);
+}
+
+// Calls that fail for want of cells, and what goes on after a reclaim.
+fn find_no_room(
+    rt: &impl Abort,
+    alloc: Global,
+    bank: &mut PlainBank,
+    (open, single): (&Pattern, &Pattern),
+    t: Term,
+) {
+    let nine = term(rt, alloc, bank, b"9");
     assert!(rt; bank.cells() == 8);
-    let mut out = Vec::new(alloc);
-    assert!(rt; out.push(nine).is_ok());
-    assert!(rt; bank.holds(t));
-    assert!(rt; open.matches(&mut bank, t, &mut out) == Err(PatternFault::Full));
+    let mut out = only(rt, alloc, nine);
+    assert!(rt; answer(rt, bank, open, t, &mut out) == Err(PatternFault::Full));
     assert!(rt; out.is_empty());
-    assert!(rt; bank.holds(nine));
-    assert!(rt; single.make(&mut bank, &[nine]) == Err(MakeFault::Full));
-    assert!(rt; bank.holds(t));
-    bank.reclaim(&[t]);
-    assert!(rt; bank.holds(t));
-    assert!(rt; open.matches(&mut bank, t, &mut out) == Ok(true));
-    let items = term(&rt, alloc, &mut bank, b"[1,2]");
-    assert!(rt; out.as_slice() == [items].as_slice());
+    assert!(rt; made_of(rt, bank, single, nine) == Err(MakeFault::Full));
+    keep(rt, bank, t);
+    assert!(rt; answer(rt, bank, open, t, &mut out) == Ok(true));
+    assert!(rt; are_spelt(rt, alloc, bank, &out, &[b"[1,2]".as_slice()]));
+}
+
+// Adds a byte so many times.
+fn repeat(rt: &impl Abort, text: &mut Vec<u8>, byte: u8, count: u32) {
+    for _ in 0..count {
+        assert!(rt; text.push(byte).is_ok());
+    }
 }
 
 // A list within a list, so many times, around a text.
 fn nested(rt: &impl Abort, alloc: Global, levels: u32, inner: &[u8]) -> Vec<u8> {
     let mut text = Vec::new(alloc);
-    for _level in 0..levels {
-        assert!(rt; text.push(b'[').is_ok());
-    }
-    for byte in inner {
-        assert!(rt; text.push(*byte).is_ok());
-    }
-    for _level in 0..levels {
-        assert!(rt; text.push(b']').is_ok());
-    }
+    repeat(rt, &mut text, b'[', levels);
+    assert!(rt; text.extend_from_slice(inner).is_ok());
+    repeat(rt, &mut text, b']', levels);
     text
 }
 
@@ -299,17 +390,32 @@ fn deep_terms(rt: HostRuntime) {
     let alloc = rt.alloc();
     let mut bank = SharedBank::new(alloc, 500_000).expect(&rt, "a bank");
     let text = nested(&rt, alloc, 200_000, b"<int>");
-    let p = pattern(&rt, alloc, &mut bank, &text);
-    let t = term(&rt, alloc, &mut bank, &nested(&rt, alloc, 200_000, b"1"));
-    assert!(rt; bank.holds(t));
+    let subject = nested(&rt, alloc, 200_000, b"1");
+    match_deep(&rt, alloc, &mut bank, &text, &subject);
+}
+
+// The pattern that the text spells matches the subject, and not its own text.
+fn match_deep(rt: &impl Abort, alloc: Global, bank: &mut SharedBank, text: &[u8], subject: &[u8]) {
+    let p = pattern(rt, alloc, bank, text);
     let mut out = Vec::new(alloc);
-    assert!(rt; p.matches(&mut bank, t, &mut out) == Ok(true));
-    let one = term(&rt, alloc, &mut bank, b"1");
-    assert!(rt; out.as_slice() == [one].as_slice());
-    assert!(rt; bank.holds(one));
-    assert!(rt; p.make(&mut bank, &[one]) == Ok(t));
-    let other = term(&rt, alloc, &mut bank, &text);
-    assert!(rt; bank.holds(other));
-    assert!(rt; p.matches(&mut bank, other, &mut out) == Ok(false));
+    match_subject(rt, alloc, bank, &p, subject, &mut out);
+    let other = term(rt, alloc, bank, text);
+    assert!(rt; answer(rt, bank, &p, other, &mut out) == Ok(false));
     assert!(rt; out.is_empty());
+}
+
+// The pattern matches the subject, and makes it of the 1 that it finds there.
+fn match_subject(
+    rt: &impl Abort,
+    alloc: Global,
+    bank: &mut SharedBank,
+    p: &Pattern,
+    subject: &[u8],
+    out: &mut Vec<Term>,
+) {
+    let t = term(rt, alloc, bank, subject);
+    assert!(rt; answer(rt, bank, p, t, out) == Ok(true));
+    let one = term(rt, alloc, bank, b"1");
+    assert!(rt; out.as_slice() == [one].as_slice());
+    assert!(rt; made_of(rt, bank, p, one) == Ok(t));
 }
