@@ -5,8 +5,10 @@ use crate::{
 };
 use rec_syntax::read_spec;
 use rx_plain::PlainBank;
+use rx_term::TermBank;
 use rx_text::read;
 use std::alloc::{AllocError, Global};
+use std::process::Abort;
 use std::test::Fail;
 
 const Q: &[u8] =
@@ -23,33 +25,78 @@ fn specification(alloc: Global, text: &[u8]) -> Result<Checked, Fail> {
     Ok(check(alloc, read_spec(alloc, text)?)?)
 }
 
-// The number of the rule that terms break.
-fn broken(alloc: Global, specified: &[u8], terms: &[u8]) -> Result<Option<u8>, Fail> {
-    let checked = specification(alloc, specified)?;
-    let mut bank = PlainBank::new(alloc, 10_000)?;
-    let list = read(alloc, terms, &mut bank)?;
-    match check_terms(alloc, &checked, &bank, list) {
+// The number of the rule that terms break, read into this bank.
+fn broken_in<B: TermBank>(
+    alloc: Global,
+    checked: &Checked,
+    bank: &mut B,
+    terms: &[u8],
+) -> Result<Option<u8>, Fail> {
+    let list = read(alloc, terms, bank)?;
+    match check_terms(alloc, checked, bank, list) {
         Ok(()) => Ok(None),
         Err(TermsFault::Rule { number }) => Ok(Some(number)),
         Err(TermsFault::Memory) => Err(Fail::from("memory")),
     }
 }
 
+// The number of the rule that terms break.
+fn broken_by(alloc: Global, checked: &Checked, terms: &[u8]) -> Result<Option<u8>, Fail> {
+    let mut bank = PlainBank::new(alloc, 10_000)?;
+    broken_in(alloc, checked, &mut bank, terms)
+}
+
+// The same of the terms beside the text of a specification.
+fn broken(alloc: Global, specified: &[u8], terms: &[u8]) -> Result<Option<u8>, Fail> {
+    let checked = specification(alloc, specified)?;
+    broken_by(alloc, &checked, terms)
+}
+
+// How many terms stand before the first that alone breaks the rule that they break, read into this bank.
+fn first_broken_in<B: TermBank>(
+    alloc: Global,
+    checked: &Checked,
+    bank: &mut B,
+    terms: &[u8],
+) -> Result<Option<usize>, Fail> {
+    let list = read(alloc, terms, bank)?;
+    Ok(broken_element(alloc, checked, bank, list)?)
+}
+
 // How many terms stand before the first that alone breaks the rule that they break.
+fn first_broken_by(alloc: Global, checked: &Checked, terms: &[u8]) -> Result<Option<usize>, Fail> {
+    let mut bank = PlainBank::new(alloc, 1000)?;
+    first_broken_in(alloc, checked, &mut bank, terms)
+}
+
+// The same of the terms beside the text of a specification.
 fn first_broken(alloc: Global, specified: &[u8], terms: &[u8]) -> Result<Option<usize>, Fail> {
     let checked = specification(alloc, specified)?;
-    let mut bank = PlainBank::new(alloc, 1000)?;
-    let list = read(alloc, terms, &mut bank)?;
-    Ok(broken_element(alloc, &checked, &bank, list)?)
+    first_broken_by(alloc, &checked, terms)
+}
+
+// The letters of terms, read into this bank.
+fn letters_in<B: TermBank>(
+    alloc: Global,
+    checked: &Checked,
+    bank: &mut B,
+    terms: &[u8],
+) -> Result<Vec<Vec<Letter>>, Fail> {
+    let list = read(alloc, terms, bank)?;
+    check_terms(alloc, checked, bank, list)?;
+    Ok(term_letters(alloc, checked, bank, list)?)
 }
 
 // The letters of terms.
+fn letters_by(alloc: Global, checked: &Checked, terms: &[u8]) -> Result<Vec<Vec<Letter>>, Fail> {
+    let mut bank = PlainBank::new(alloc, 1000)?;
+    letters_in(alloc, checked, &mut bank, terms)
+}
+
+// The same of the terms beside the text of a specification.
 fn letters(alloc: Global, specified: &[u8], terms: &[u8]) -> Result<Vec<Vec<Letter>>, Fail> {
     let checked = specification(alloc, specified)?;
-    let mut bank = PlainBank::new(alloc, 1000)?;
-    let list = read(alloc, terms, &mut bank)?;
-    check_terms(alloc, &checked, &bank, list)?;
-    Ok(term_letters(alloc, &checked, &bank, list)?)
+    letters_by(alloc, &checked, terms)
 }
 
 fn symbol(number: u32, count: u32) -> Letter {
@@ -74,103 +121,154 @@ fn nested(alloc: Global, depth: u32) -> Result<Vec<u8>, AllocError> {
     Ok(bytes)
 }
 
+// Whether terms break this rule.
+fn check_row(
+    rt: &impl Abort,
+    alloc: Global,
+    specified: &[u8],
+    terms: &[u8],
+    wanted: Option<u8>,
+) -> Result<(), Fail> {
+    assert_eq!(rt; broken(alloc, specified, terms)?, wanted);
+    Ok(())
+}
+
+// Whether this many terms stand before the first that is broken.
+fn check_first(
+    rt: &impl Abort,
+    alloc: Global,
+    specified: &[u8],
+    terms: &[u8],
+    wanted: Option<usize>,
+) -> Result<(), Fail> {
+    assert_eq!(rt; first_broken(alloc, specified, terms)?, wanted);
+    Ok(())
+}
+
 #[test]
 fn no_list(rt: HostRuntime) -> Result<(), Fail> {
-    let alloc = rt.alloc();
-    assert_eq!(rt; broken(alloc, Q, b"a")?, Some(1));
-    assert_eq!(rt; broken(alloc, Q, b"[a]{a}")?, Some(1));
+    let rows: [(&[u8], &[u8], Option<u8>); 2] = [(Q, b"a", Some(1)), (Q, b"[a]{a}", Some(1))];
+    for (specified, terms, wanted) in rows {
+        check_row(&rt, rt.alloc(), specified, terms, wanted)?;
+    }
     Ok(())
 }
 
 #[test]
 fn no_application(rt: HostRuntime) -> Result<(), Fail> {
-    let alloc = rt.alloc();
-    assert_eq!(rt; broken(alloc, Q, b"[f(a),3]")?, Some(2));
-    assert_eq!(rt; broken(alloc, Q, b"[a{a},<a>]")?, Some(2));
-    assert_eq!(rt; broken(alloc, Q, b"[g(1)]")?, Some(2));
-    assert_eq!(rt; broken(alloc, ADD, b"[plus(s(z),z),3]")?, Some(2));
-    assert_eq!(rt; broken(alloc, TWO, b"[0]")?, Some(2));
+    let rows: [(&[u8], &[u8], Option<u8>); 5] = [
+        (Q, b"[f(a),3]", Some(2)),
+        (Q, b"[a{a},<a>]", Some(2)),
+        (Q, b"[g(1)]", Some(2)),
+        (ADD, b"[plus(s(z),z),3]", Some(2)),
+        (TWO, b"[0]", Some(2)),
+    ];
+    for (specified, terms, wanted) in rows {
+        check_row(&rt, rt.alloc(), specified, terms, wanted)?;
+    }
     Ok(())
 }
 
 #[test]
 fn annotations_inside(rt: HostRuntime) -> Result<(), Fail> {
-    let alloc = rt.alloc();
-    assert_eq!(rt; broken(alloc, Q, b"[f(a{b})]")?, Some(3));
-    assert_eq!(rt; broken(alloc, Q, b"[a{b},f(a{b})]")?, Some(3));
+    let rows: [(&[u8], &[u8], Option<u8>); 2] = [
+        (Q, b"[f(a{b})]", Some(3)),
+        (Q, b"[a{b},f(a{b})]", Some(3)),
+    ];
+    for (specified, terms, wanted) in rows {
+        check_row(&rt, rt.alloc(), specified, terms, wanted)?;
+    }
     Ok(())
 }
 
 #[test]
 fn undeclared(rt: HostRuntime) -> Result<(), Fail> {
-    let alloc = rt.alloc();
-    assert_eq!(rt; broken(alloc, Q, b"[\"a\"]")?, Some(4));
-    assert_eq!(rt; broken(alloc, Q, b"[X]")?, Some(4));
-    assert_eq!(rt; broken(alloc, Q, b"[\"a-b\"]")?, Some(4));
+    let rows: [(&[u8], &[u8], Option<u8>); 3] = [
+        (Q, b"[\"a\"]", Some(4)),
+        (Q, b"[X]", Some(4)),
+        (Q, b"[\"a-b\"]", Some(4)),
+    ];
+    for (specified, terms, wanted) in rows {
+        check_row(&rt, rt.alloc(), specified, terms, wanted)?;
+    }
     Ok(())
 }
 
 #[test]
 fn ill_filled(rt: HostRuntime) -> Result<(), Fail> {
-    let alloc = rt.alloc();
-    assert_eq!(rt; broken(alloc, Q, b"[f(a,a)]")?, Some(5));
-    assert_eq!(rt; broken(alloc, Q, b"[f]")?, Some(5));
+    let rows: [(&[u8], &[u8], Option<u8>); 2] = [(Q, b"[f(a,a)]", Some(5)), (Q, b"[f]", Some(5))];
+    for (specified, terms, wanted) in rows {
+        check_row(&rt, rt.alloc(), specified, terms, wanted)?;
+    }
     Ok(())
 }
 
 #[test]
 fn ill_sorted(rt: HostRuntime) -> Result<(), Fail> {
-    let alloc = rt.alloc();
-    assert_eq!(rt; broken(alloc, Q, b"[f(b)]")?, Some(6));
-    assert_eq!(rt; broken(alloc, TWO, b"[g(\"0\",\"0\")]")?, Some(6));
+    let rows: [(&[u8], &[u8], Option<u8>); 2] = [
+        (Q, b"[f(b)]", Some(6)),
+        (TWO, b"[g(\"0\",\"0\")]", Some(6)),
+    ];
+    for (specified, terms, wanted) in rows {
+        check_row(&rt, rt.alloc(), specified, terms, wanted)?;
+    }
     Ok(())
 }
 
 #[test]
 fn the_first_that_is_broken(rt: HostRuntime) -> Result<(), Fail> {
-    let alloc = rt.alloc();
-    assert_eq!(rt; first_broken(alloc, Q, b"[f(a),3,4]")?, Some(1));
-    assert_eq!(rt; first_broken(alloc, Q, b"[f(a{b}),c,<a>]")?, Some(2));
-    assert_eq!(rt; first_broken(alloc, Q, b"[f(b),f(a,a),f(a{b})]")?, Some(2));
-    assert_eq!(rt; first_broken(alloc, Q, b"[f(b),c]")?, Some(1));
-    assert_eq!(rt; first_broken(alloc, Q, b"[f(b),f]")?, Some(1));
-    assert_eq!(rt; first_broken(alloc, Q, b"[f(b),a,f(b)]")?, Some(0));
-    assert_eq!(rt; first_broken(alloc, Q, b"[a,f(a)]")?, None);
-    assert_eq!(rt; first_broken(alloc, Q, b"[3]{a}")?, None);
-    assert_eq!(rt; first_broken(alloc, Q, b"3")?, None);
+    let rows: [(&[u8], &[u8], Option<usize>); 9] = [
+        (Q, b"[f(a),3,4]", Some(1)),
+        (Q, b"[f(a{b}),c,<a>]", Some(2)),
+        (Q, b"[f(b),f(a,a),f(a{b})]", Some(2)),
+        (Q, b"[f(b),c]", Some(1)),
+        (Q, b"[f(b),f]", Some(1)),
+        (Q, b"[f(b),a,f(b)]", Some(0)),
+        (Q, b"[a,f(a)]", None),
+        (Q, b"[3]{a}", None),
+        (Q, b"3", None),
+    ];
+    for (specified, terms, wanted) in rows {
+        check_first(&rt, rt.alloc(), specified, terms, wanted)?;
+    }
     Ok(())
 }
 
 #[test]
 fn kept(rt: HostRuntime) -> Result<(), Fail> {
-    let alloc = rt.alloc();
-    assert_eq!(rt; broken(alloc, Q, b"[f(a){a}]")?, None);
-    assert_eq!(rt; broken(alloc, Q, b"[a{3}]")?, None);
-    assert_eq!(rt; broken(alloc, Q, b"[f(a){b,[3]},a{f(a)}]")?, None);
-    assert_eq!(rt; broken(alloc, Q, b"[ b , f(f(a)) ]")?, None);
-    assert_eq!(rt; broken(alloc, Q, b"[]")?, None);
-    assert_eq!(rt; broken(alloc, TWO, b"[\"0\"]")?, None);
-    assert_eq!(rt; broken(alloc, TWO, b"[g(\"0\",b)]")?, None);
+    let rows: [(&[u8], &[u8], Option<u8>); 7] = [
+        (Q, b"[f(a){a}]", None),
+        (Q, b"[a{3}]", None),
+        (Q, b"[f(a){b,[3]},a{f(a)}]", None),
+        (Q, b"[ b , f(f(a)) ]", None),
+        (Q, b"[]", None),
+        (TWO, b"[\"0\"]", None),
+        (TWO, b"[g(\"0\",b)]", None),
+    ];
+    for (specified, terms, wanted) in rows {
+        check_row(&rt, rt.alloc(), specified, terms, wanted)?;
+    }
     Ok(())
 }
 
 #[test]
 fn deep(rt: HostRuntime) -> Result<(), Fail> {
-    let alloc = rt.alloc();
-    let terms = nested(alloc, 2000)?;
-    assert_eq!(rt; broken(alloc, Q, &terms)?, None);
-    Ok(())
+    let terms = nested(rt.alloc(), 2000)?;
+    check_row(&rt, rt.alloc(), Q, &terms, None)
 }
 
-#[test]
-fn letters_in_order(rt: HostRuntime) -> Result<(), Fail> {
-    let alloc = rt.alloc();
-    let terms = letters(alloc, ADD, b"[plus(s(z),z),z{3}]")?;
+fn check_letters(rt: &impl Abort, terms: &[Vec<Letter>]) {
     assert_eq!(rt; terms.len(), 2);
     assert_eq!(rt;
         terms[0].as_slice(),
         [symbol(0, 0), symbol(1, 1), symbol(0, 0), symbol(2, 2)].as_slice()
     );
     assert_eq!(rt; terms[1].as_slice(), [symbol(0, 0)].as_slice());
+}
+
+#[test]
+fn letters_in_order(rt: HostRuntime) -> Result<(), Fail> {
+    let terms = letters(rt.alloc(), ADD, b"[plus(s(z),z),z{3}]")?;
+    check_letters(&rt, &terms);
     Ok(())
 }

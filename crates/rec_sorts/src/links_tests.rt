@@ -8,6 +8,7 @@ use rec_syntax::read_spec;
 use rx_plain::PlainBank;
 use rx_term::{Symbol, TermBank};
 use std::alloc::Global;
+use std::process::Abort;
 use std::test::Fail;
 
 const ADD: &[u8] =
@@ -40,37 +41,70 @@ fn is_symbol_of(linked: &Linked, number: u32, symbol: Symbol) -> bool
         && linked.links.op_of(symbol) == Some(number)
 }
 
-#[test]
-fn addition(rt: HostRuntime) -> Result<(), Fail> {
-    let mut bank = PlainBank::new(rt.alloc(), 10)?;
-    let linked = link(rt.alloc(), ADD, &mut bank)?;
+fn check_addition(rt: &impl Abort, linked: &Linked, bank: &mut PlainBank) -> Result<(), Fail>
+    requires { length linked.now.links ≡ length (symbols linked.now.checked.spec) }
+{
     let z = bank.symbol(b"z", false, 0)?;
     let s = bank.symbol(b"s", false, 1)?;
     let plus = bank.symbol(b"plus", false, 2)?;
-    assert!(rt; is_symbol_of(&linked, 0, z));
-    assert!(rt; is_symbol_of(&linked, 1, s));
-    assert!(rt; is_symbol_of(&linked, 2, plus));
+    assert!(rt; is_symbol_of(linked, 0, z));
+    assert!(rt; is_symbol_of(linked, 1, s));
+    assert!(rt; is_symbol_of(linked, 2, plus));
     assert_eq!(rt; linked.checked.symbols(), 3);
     assert_eq!(rt; bank.cells(), 0);
     Ok(())
 }
 
+fn check_linked_addition(rt: &impl Abort, alloc: Global, bank: &mut PlainBank) -> Result<(), Fail> {
+    let linked = link(alloc, ADD, bank)?;
+    check_addition(rt, &linked, bank)
+}
+
+#[test]
+fn addition(rt: HostRuntime) -> Result<(), Fail> {
+    let mut bank = PlainBank::new(rt.alloc(), 10)?;
+    check_linked_addition(&rt, rt.alloc(), &mut bank)
+}
+
+fn check_primed(rt: &impl Abort, linked: &Linked, bank: &mut PlainBank) -> Result<(), Fail>
+    requires { length linked.now.links ≡ length (symbols linked.now.checked.spec) }
+{
+    let primed = bank.symbol(b"x'", true, 0)?;
+    assert!(rt; is_symbol_of(linked, 0, primed));
+    Ok(())
+}
+
+fn check_linked_primed(rt: &impl Abort, alloc: Global, bank: &mut PlainBank) -> Result<(), Fail> {
+    let linked = link(alloc, PRIMED, bank)?;
+    check_primed(rt, &linked, bank)
+}
+
 #[test]
 fn quoted_where_no_plain_name(rt: HostRuntime) -> Result<(), Fail> {
     let mut bank = PlainBank::new(rt.alloc(), 10)?;
-    let linked = link(rt.alloc(), PRIMED, &mut bank)?;
-    let primed = bank.symbol(b"x'", true, 0)?;
-    assert!(rt; is_symbol_of(&linked, 0, primed));
+    check_linked_primed(&rt, rt.alloc(), &mut bank)
+}
+
+fn check_foreign(
+    rt: &impl Abort,
+    linked: &Linked,
+    bank: &mut PlainBank,
+    unary: Symbol,
+) -> Result<(), Fail> {
+    let quoted = bank.symbol(b"z", true, 0)?;
+    assert_eq!(rt; linked.links.op_of(unary), None);
+    assert_eq!(rt; linked.links.op_of(quoted), None);
     Ok(())
+}
+
+fn check_linked_foreign(rt: &impl Abort, alloc: Global, bank: &mut PlainBank) -> Result<(), Fail> {
+    let unary = bank.symbol(b"plus", false, 1)?;
+    let linked = link(alloc, ADD, bank)?;
+    check_foreign(rt, &linked, bank, unary)
 }
 
 #[test]
 fn foreign_symbols_have_no_number(rt: HostRuntime) -> Result<(), Fail> {
     let mut bank = PlainBank::new(rt.alloc(), 10)?;
-    let unary = bank.symbol(b"plus", false, 1)?;
-    let linked = link(rt.alloc(), ADD, &mut bank)?;
-    let quoted = bank.symbol(b"z", true, 0)?;
-    assert_eq!(rt; linked.links.op_of(unary), None);
-    assert_eq!(rt; linked.links.op_of(quoted), None);
-    Ok(())
+    check_linked_foreign(&rt, rt.alloc(), &mut bank)
 }
