@@ -25,7 +25,7 @@ fn specification(alloc: Global, text: &[u8]) -> Result<Checked, Fail> {
     Ok(check(alloc, read_spec(alloc, text)?)?)
 }
 
-// The number of the rule that terms break, read into this bank.
+// The number of the rule that terms break, in this bank.
 fn broken_in<B: TermBank>(
     alloc: Global,
     checked: &Checked,
@@ -52,7 +52,7 @@ fn broken(alloc: Global, specified: &[u8], terms: &[u8]) -> Result<Option<u8>, F
     broken_by(alloc, &checked, terms)
 }
 
-// How many terms stand before the first that alone breaks the rule that they break, read into this bank.
+// How many terms stand before the first that alone breaks the rule that they break, in this bank.
 fn first_broken_in<B: TermBank>(
     alloc: Global,
     checked: &Checked,
@@ -75,7 +75,7 @@ fn first_broken(alloc: Global, specified: &[u8], terms: &[u8]) -> Result<Option<
     first_broken_by(alloc, &checked, terms)
 }
 
-// The letters of terms, read into this bank.
+// The letters of terms, in this bank.
 fn letters_in<B: TermBank>(
     alloc: Global,
     checked: &Checked,
@@ -121,140 +121,134 @@ fn nested(alloc: Global, depth: u32) -> Result<Vec<u8>, AllocError> {
     Ok(bytes)
 }
 
-// Whether terms break this rule.
-fn check_row(
+// Whether terms break the rule that their row has.
+fn check_rows(
     rt: &impl Abort,
     alloc: Global,
-    specified: &[u8],
-    terms: &[u8],
-    wanted: Option<u8>,
+    rows: &[(&[u8], &[u8], Option<u8>)],
 ) -> Result<(), Fail> {
-    assert_eq!(rt; broken(alloc, specified, terms)?, wanted);
+    for (specified, terms, wanted) in rows {
+        assert_eq!(rt; broken(alloc, specified, terms)?, *wanted);
+    }
     Ok(())
 }
 
-// Whether this many terms stand before the first that is broken.
+// Whether so many terms as their row has stand before the first that is broken.
 fn check_first(
     rt: &impl Abort,
     alloc: Global,
-    specified: &[u8],
-    terms: &[u8],
-    wanted: Option<usize>,
+    rows: &[(&[u8], &[u8], Option<usize>)],
 ) -> Result<(), Fail> {
-    assert_eq!(rt; first_broken(alloc, specified, terms)?, wanted);
+    for (specified, terms, wanted) in rows {
+        assert_eq!(rt; first_broken(alloc, specified, terms)?, *wanted);
+    }
     Ok(())
 }
 
 #[test]
 fn no_list(rt: HostRuntime) -> Result<(), Fail> {
-    let rows: [(&[u8], &[u8], Option<u8>); 2] = [(Q, b"a", Some(1)), (Q, b"[a]{a}", Some(1))];
-    for (specified, terms, wanted) in rows {
-        check_row(&rt, rt.alloc(), specified, terms, wanted)?;
-    }
-    Ok(())
+    check_rows(
+        &rt,
+        rt.alloc(),
+        &[(Q, b"a", Some(1)), (Q, b"[a]{a}", Some(1))],
+    )
 }
 
 #[test]
 fn no_application(rt: HostRuntime) -> Result<(), Fail> {
-    let rows: [(&[u8], &[u8], Option<u8>); 5] = [
-        (Q, b"[f(a),3]", Some(2)),
-        (Q, b"[a{a},<a>]", Some(2)),
-        (Q, b"[g(1)]", Some(2)),
-        (ADD, b"[plus(s(z),z),3]", Some(2)),
-        (TWO, b"[0]", Some(2)),
-    ];
-    for (specified, terms, wanted) in rows {
-        check_row(&rt, rt.alloc(), specified, terms, wanted)?;
-    }
-    Ok(())
+    check_rows(
+        &rt,
+        rt.alloc(),
+        &[
+            (Q, b"[f(a),3]", Some(2)),
+            (Q, b"[a{a},<a>]", Some(2)),
+            (Q, b"[g(1)]", Some(2)),
+            (ADD, b"[plus(s(z),z),3]", Some(2)),
+            (TWO, b"[0]", Some(2)),
+        ],
+    )
 }
 
 #[test]
 fn annotations_inside(rt: HostRuntime) -> Result<(), Fail> {
-    let rows: [(&[u8], &[u8], Option<u8>); 2] = [
-        (Q, b"[f(a{b})]", Some(3)),
-        (Q, b"[a{b},f(a{b})]", Some(3)),
-    ];
-    for (specified, terms, wanted) in rows {
-        check_row(&rt, rt.alloc(), specified, terms, wanted)?;
-    }
-    Ok(())
+    check_rows(
+        &rt,
+        rt.alloc(),
+        &[(Q, b"[f(a{b})]", Some(3)), (Q, b"[a{b},f(a{b})]", Some(3))],
+    )
 }
 
 #[test]
 fn undeclared(rt: HostRuntime) -> Result<(), Fail> {
-    let rows: [(&[u8], &[u8], Option<u8>); 3] = [
-        (Q, b"[\"a\"]", Some(4)),
-        (Q, b"[X]", Some(4)),
-        (Q, b"[\"a-b\"]", Some(4)),
-    ];
-    for (specified, terms, wanted) in rows {
-        check_row(&rt, rt.alloc(), specified, terms, wanted)?;
-    }
-    Ok(())
+    check_rows(
+        &rt,
+        rt.alloc(),
+        &[
+            (Q, b"[\"a\"]", Some(4)),
+            (Q, b"[X]", Some(4)),
+            (Q, b"[\"a-b\"]", Some(4)),
+        ],
+    )
 }
 
 #[test]
 fn ill_filled(rt: HostRuntime) -> Result<(), Fail> {
-    let rows: [(&[u8], &[u8], Option<u8>); 2] = [(Q, b"[f(a,a)]", Some(5)), (Q, b"[f]", Some(5))];
-    for (specified, terms, wanted) in rows {
-        check_row(&rt, rt.alloc(), specified, terms, wanted)?;
-    }
-    Ok(())
+    check_rows(
+        &rt,
+        rt.alloc(),
+        &[(Q, b"[f(a,a)]", Some(5)), (Q, b"[f]", Some(5))],
+    )
 }
 
 #[test]
 fn ill_sorted(rt: HostRuntime) -> Result<(), Fail> {
-    let rows: [(&[u8], &[u8], Option<u8>); 2] = [
-        (Q, b"[f(b)]", Some(6)),
-        (TWO, b"[g(\"0\",\"0\")]", Some(6)),
-    ];
-    for (specified, terms, wanted) in rows {
-        check_row(&rt, rt.alloc(), specified, terms, wanted)?;
-    }
-    Ok(())
+    check_rows(
+        &rt,
+        rt.alloc(),
+        &[(Q, b"[f(b)]", Some(6)), (TWO, b"[g(\"0\",\"0\")]", Some(6))],
+    )
 }
 
 #[test]
 fn the_first_that_is_broken(rt: HostRuntime) -> Result<(), Fail> {
-    let rows: [(&[u8], &[u8], Option<usize>); 9] = [
-        (Q, b"[f(a),3,4]", Some(1)),
-        (Q, b"[f(a{b}),c,<a>]", Some(2)),
-        (Q, b"[f(b),f(a,a),f(a{b})]", Some(2)),
-        (Q, b"[f(b),c]", Some(1)),
-        (Q, b"[f(b),f]", Some(1)),
-        (Q, b"[f(b),a,f(b)]", Some(0)),
-        (Q, b"[a,f(a)]", None),
-        (Q, b"[3]{a}", None),
-        (Q, b"3", None),
-    ];
-    for (specified, terms, wanted) in rows {
-        check_first(&rt, rt.alloc(), specified, terms, wanted)?;
-    }
-    Ok(())
+    check_first(
+        &rt,
+        rt.alloc(),
+        &[
+            (Q, b"[f(a),3,4]", Some(1)),
+            (Q, b"[f(a{b}),c,<a>]", Some(2)),
+            (Q, b"[f(b),f(a,a),f(a{b})]", Some(2)),
+            (Q, b"[f(b),c]", Some(1)),
+            (Q, b"[f(b),f]", Some(1)),
+            (Q, b"[f(b),a,f(b)]", Some(0)),
+            (Q, b"[a,f(a)]", None),
+            (Q, b"[3]{a}", None),
+            (Q, b"3", None),
+        ],
+    )
 }
 
 #[test]
 fn kept(rt: HostRuntime) -> Result<(), Fail> {
-    let rows: [(&[u8], &[u8], Option<u8>); 7] = [
-        (Q, b"[f(a){a}]", None),
-        (Q, b"[a{3}]", None),
-        (Q, b"[f(a){b,[3]},a{f(a)}]", None),
-        (Q, b"[ b , f(f(a)) ]", None),
-        (Q, b"[]", None),
-        (TWO, b"[\"0\"]", None),
-        (TWO, b"[g(\"0\",b)]", None),
-    ];
-    for (specified, terms, wanted) in rows {
-        check_row(&rt, rt.alloc(), specified, terms, wanted)?;
-    }
-    Ok(())
+    check_rows(
+        &rt,
+        rt.alloc(),
+        &[
+            (Q, b"[f(a){a}]", None),
+            (Q, b"[a{3}]", None),
+            (Q, b"[f(a){b,[3]},a{f(a)}]", None),
+            (Q, b"[ b , f(f(a)) ]", None),
+            (Q, b"[]", None),
+            (TWO, b"[\"0\"]", None),
+            (TWO, b"[g(\"0\",b)]", None),
+        ],
+    )
 }
 
 #[test]
 fn deep(rt: HostRuntime) -> Result<(), Fail> {
     let terms = nested(rt.alloc(), 2000)?;
-    check_row(&rt, rt.alloc(), Q, &terms, None)
+    check_rows(&rt, rt.alloc(), &[(Q, &terms, None)])
 }
 
 fn check_letters(rt: &impl Abort, terms: &[Vec<Letter>]) {
