@@ -7,7 +7,7 @@ ghost use Rattle.rec_match.specs.Next.{AreReady};
 
 use crate::Matcher;
 use crate::counting::Counting;
-use rec_sorts::{Links, check};
+use rec_sorts::{Checked, Links, check};
 use rec_syntax::read_spec;
 use rx_plain::PlainBank;
 use rx_term::{Term, TermBank};
@@ -15,16 +15,89 @@ use rx_text::read;
 use smallvec::SmallVec;
 use std::alloc::Global;
 use std::cell::Cell;
+use std::process::Abort;
 use std::test::Fail;
 
 const OVL: &[u8] =
     b"REC-SPEC Ovl SORTS N CONS a : -> N b : -> N OPNS f : N N -> N VARS X Y : N RULES f(X,X) -> a f(a,Y) -> b f(X,b) -> a f(X,Y) -> b EVAL f(b,a) END-SPEC";
 
+/// A term's text, the least rule that may be told, the rule that is, and which of its values are
+/// the term `a`.
+pub(crate) type Row = (&'static [u8], u32, Option<u32>, &'static [bool]);
+
+const OVERLAPPING: [Row; 11] = [
+    (b"f(a,a)", 0, Some(0), &[true]),
+    (b"f(a,a)", 1, Some(1), &[true]),
+    (b"f(a,a)", 2, Some(3), &[true, true]),
+    (b"f(a,a)", 4, None, &[]),
+    (b"f(a,b)", 0, Some(1), &[false]),
+    (b"f(a,b)", 2, Some(2), &[true]),
+    (b"f(a,b)", 3, Some(3), &[true, false]),
+    (b"f(b,a)", 0, Some(3), &[false, true]),
+    (b"f(b,b)", 0, Some(0), &[false]),
+    (b"f(b,b)", 1, Some(2), &[false]),
+    (b"f(b,b)", 3, Some(3), &[false, false]),
+];
+
+const UNMATCHED: [Row; 6] = [
+    (b"a", 0, None, &[]),
+    (b"7", 0, None, &[]),
+    (b"[a]", 0, None, &[]),
+    (b"f(a)", 0, None, &[]),
+    (b"f(a,a){b}", 0, None, &[]),
+    (b"<f(a,a)>", 0, None, &[]),
+];
+
+const WIDE: [Row; 3] = [
+    (
+        b"w(b,b,b,b,b,b,b,b,b,b,b,b,b,b,b,b,b,b,b,a)",
+        0,
+        Some(19),
+        &[false; 19],
+    ),
+    (b"w(b,b,b,b,b,b,b,b,b,b,b,b,b,b,b,b,b,b,b,b)", 0, None, &[]),
+    (
+        b"w(a,a,a,a,a,a,a,a,a,a,a,a,a,a,a,a,a,a,a,a)",
+        0,
+        Some(0),
+        &[true; 19],
+    ),
+];
+
+/// How many constants there are, a term's text, and the rule that is told.
+const CASES: [(u32, &[u8], Option<u32>); 5] = [
+    (200, b"k(c0)", Some(0)),
+    (200, b"k(c199)", Some(199)),
+    (200, b"k(a)", None),
+    (5_000, b"k(c4999)", Some(4999)),
+    (5_000, b"k(a)", None),
+];
+
 /// What the matcher says of a term: the rule, and which of its values are the term `a`.
 #[derive(Drop)]
-struct Said {
-    rule: Option<u32>,
-    are_a: Vec<bool>,
+pub(crate) struct Said {
+    pub(crate) rule: Option<u32>,
+    pub(crate) are_a: Vec<bool>,
+}
+
+/// Asserts that this is said.
+pub(crate) fn assert_said(rt: &impl Abort, said: &Said, rule: Option<u32>, are_a: &[bool]) {
+    assert_eq!(rt; said.rule, rule);
+    assert_eq!(rt; said.are_a.as_slice(), are_a);
+}
+
+/// The checked specification of a text.
+pub(crate) fn checked(alloc: Global, spec: &[u8]) -> Result<Checked, Fail> {
+    Ok(check(alloc, read_spec(alloc, spec)?)?)
+}
+
+/// The matcher of a checked specification, whose symbols the bank gets.
+fn build<B: TermBank>(alloc: Global, bank: &mut B, checked: &Checked) -> Result<Matcher, Fail>
+    ensures ready { IfOk result (AreReady (B.store bank.new)) }
+    ensures same { HasMoreSymbols (B.store bank.old) (B.store bank.new) }
+{
+    let links = Links::make(alloc, checked, bank)?;
+    Ok(Matcher::build(alloc, checked, &links)?)
 }
 
 /// The matcher of a specification, whose symbols the bank gets.
@@ -32,13 +105,12 @@ fn matcher_of<B: TermBank>(alloc: Global, bank: &mut B, spec: &[u8]) -> Result<M
     ensures ready { IfOk result (AreReady (B.store bank.new)) }
     ensures same { HasMoreSymbols (B.store bank.old) (B.store bank.new) }
 {
-    let checked = check(alloc, read_spec(alloc, spec)?)?;
-    let links = Links::make(alloc, &checked, bank)?;
-    Ok(Matcher::build(alloc, &checked, &links)?)
+    let checked = checked(alloc, spec)?;
+    build(alloc, bank, &checked)
 }
 
 /// Which of these terms are one.
-fn are(alloc: Global, one: Term, terms: &[Term]) -> Result<Vec<bool>, Fail> {
+pub(crate) fn are(alloc: Global, one: Term, terms: &[Term]) -> Result<Vec<bool>, Fail> {
     let mut same = Vec::new(alloc);
     for term in terms {
         same.push(term.0 == one.0)?;
@@ -80,38 +152,32 @@ fn ask_of<B: TermBank>(
     answer(alloc, bank, &matcher, a, u, from)
 }
 
+/// What the matcher of the overlapping rules says of a text's term.
+fn overlapping(alloc: Global, text: &[u8], from: u32) -> Result<Said, Fail> {
+    let mut bank = PlainBank::new(alloc, 100)?;
+    ask_of(alloc, &mut bank, OVL, text, from)
+}
+
+/// Asserts what it says of a row's term.
+fn assert_row(rt: &impl Abort, alloc: Global, row: Row) -> Result<(), Fail> {
+    let (text, from, rule, are_a) = row;
+    let said = overlapping(alloc, text, from)?;
+    assert_said(rt, &said, rule, are_a);
+    Ok(())
+}
+
 #[test]
 fn overlapping_rules(rt: HostRuntime) -> Result<(), Fail> {
-    let rows: [(&[u8], u32, Option<u32>, &[bool]); 11] = [
-        (b"f(a,a)", 0, Some(0), &[true]),
-        (b"f(a,a)", 1, Some(1), &[true]),
-        (b"f(a,a)", 2, Some(3), &[true, true]),
-        (b"f(a,a)", 4, None, &[]),
-        (b"f(a,b)", 0, Some(1), &[false]),
-        (b"f(a,b)", 2, Some(2), &[true]),
-        (b"f(a,b)", 3, Some(3), &[true, false]),
-        (b"f(b,a)", 0, Some(3), &[false, true]),
-        (b"f(b,b)", 0, Some(0), &[false]),
-        (b"f(b,b)", 1, Some(2), &[false]),
-        (b"f(b,b)", 3, Some(3), &[false, false]),
-    ];
-    for (text, from, rule, are_a) in rows {
-        let mut bank = PlainBank::new(rt.alloc(), 100)?;
-        let said = ask_of(rt.alloc(), &mut bank, OVL, text, from)?;
-        assert_eq!(rt; said.rule, rule);
-        assert_eq!(rt; said.are_a.as_slice(), are_a);
+    for row in OVERLAPPING {
+        assert_row(&rt, rt.alloc(), row)?;
     }
     Ok(())
 }
 
 #[test]
 fn what_no_rule_matches(rt: HostRuntime) -> Result<(), Fail> {
-    let terms: [&[u8]; 6] = [b"a", b"7", b"[a]", b"f(a)", b"f(a,a){b}", b"<f(a,a)>"];
-    for text in terms {
-        let mut bank = PlainBank::new(rt.alloc(), 100)?;
-        let said = ask_of(rt.alloc(), &mut bank, OVL, text, 0)?;
-        assert_eq!(rt; said.rule, None);
-        assert!(rt; said.are_a.is_empty());
+    for row in UNMATCHED {
+        assert_row(&rt, rt.alloc(), row)?;
     }
     Ok(())
 }
@@ -124,17 +190,60 @@ fn counting(alloc: Global) -> Result<Counting<PlainBank>, Fail> {
     })
 }
 
+/// What the matcher of a specification says of a text's term, where few nodes are read for it.
+fn ask_counting(
+    rt: &impl Abort,
+    alloc: Global,
+    spec: &[u8],
+    text: &[u8],
+    from: u32,
+) -> Result<Said, Fail> {
+    let mut bank = counting(alloc)?;
+    let said = ask_of(alloc, &mut bank, spec, text, from)?;
+    assert_few(rt, bank.reads.get());
+    Ok(said)
+}
+
+/// Asserts that these are few reads.
+fn assert_few(rt: &impl Abort, reads: u32) {
+    assert!(rt; reads < 100, "{reads}");
+}
+
+/// A text's end.
+fn push(text: &mut String, end: String) -> Result<(), Fail> {
+    text.push_str(end.as_str())?;
+    Ok(())
+}
+
+/// An argument of the operator `w`: the variable of its place, or `a`.
+fn push_argument(alloc: Global, text: &mut String, i: u32, place: u32) -> Result<(), Fail> {
+    if i == place {
+        text.push_str("a")?;
+        return Ok(());
+    }
+    push(text, format!(in alloc; "X{i}")?)
+}
+
 /// A rule of the operator `w`, whose left side has `a` at one place and variables at the others.
 fn push_rule(alloc: Global, text: &mut String, place: u32) -> Result<(), Fail> {
     for i in 1..=20 {
         text.push_str(if i == 1 { " w(" } else { "," })?;
-        if i == place {
-            text.push_str("a")?;
-        } else {
-            text.push_str(format!(in alloc; "X{i}")?.as_str())?;
-        }
+        push_argument(alloc, text, i, place)?;
     }
     text.push_str(") -> b")?;
+    Ok(())
+}
+
+/// The variables and the rules of the operator `w`.
+fn push_rules(alloc: Global, text: &mut String) -> Result<(), Fail> {
+    for i in 1..=20 {
+        push(text, format!(in alloc; " X{i}")?)?;
+    }
+    text.push_str(" : N RULES")?;
+    for place in 1..=20 {
+        push_rule(alloc, text, place)?;
+    }
+    text.push_str(" EVAL a END-SPEC")?;
     Ok(())
 }
 
@@ -144,74 +253,59 @@ fn wide(alloc: Global) -> Result<String, Fail> {
         alloc,
         "REC-SPEC Wide SORTS N CONS a : -> N b : -> N OPNS w : N N N N N N N N N N N N N N N N N N N N -> N VARS",
     )?;
-    for i in 1..=20 {
-        text.push_str(format!(in alloc; " X{i}")?.as_str())?;
-    }
-    text.push_str(" : N RULES")?;
-    for place in 1..=20 {
-        push_rule(alloc, &mut text, place)?;
-    }
-    text.push_str(" EVAL a END-SPEC")?;
+    push_rules(alloc, &mut text)?;
     Ok(text)
+}
+
+/// Asserts what the matcher of a specification says of a row's term.
+fn assert_wide(rt: &impl Abort, alloc: Global, spec: &[u8], row: Row) -> Result<(), Fail> {
+    let (text, from, rule, are_a) = row;
+    let said = ask_counting(rt, alloc, spec, text, from)?;
+    assert_said(rt, &said, rule, are_a);
+    Ok(())
 }
 
 #[test]
 fn a_rule_for_each_argument(rt: HostRuntime) -> Result<(), Fail> {
     let spec = wide(rt.alloc())?;
-    let rows: [(&[u8], Option<u32>, &[bool]); 3] = [
-        (
-            b"w(b,b,b,b,b,b,b,b,b,b,b,b,b,b,b,b,b,b,b,a)",
-            Some(19),
-            &[false; 19],
-        ),
-        (b"w(b,b,b,b,b,b,b,b,b,b,b,b,b,b,b,b,b,b,b,b)", None, &[]),
-        (
-            b"w(a,a,a,a,a,a,a,a,a,a,a,a,a,a,a,a,a,a,a,a)",
-            Some(0),
-            &[true; 19],
-        ),
-    ];
-    for (text, rule, are_a) in rows {
-        let mut bank = counting(rt.alloc())?;
-        let said = ask_of(rt.alloc(), &mut bank, spec.as_bytes(), text, 0)?;
-        assert_eq!(rt; said.rule, rule);
-        assert_eq!(rt; said.are_a.as_slice(), are_a);
-        let reads = bank.reads.get();
-        assert!(rt; reads < 100, "{reads}");
+    for row in WIDE {
+        assert_wide(&rt, rt.alloc(), spec.as_bytes(), row)?;
     }
+    Ok(())
+}
+
+/// So many constants, and a rule of the operator `k` for each of them.
+fn push_cases(alloc: Global, text: &mut String, count: u32) -> Result<(), Fail> {
+    for i in 0..count {
+        push(text, format!(in alloc; " c{i} : -> N")?)?;
+    }
+    text.push_str(" OPNS k : N -> N RULES")?;
+    for i in 0..count {
+        push(text, format!(in alloc; " k(c{i}) -> a")?)?;
+    }
+    text.push_str(" EVAL a END-SPEC")?;
     Ok(())
 }
 
 /// A specification of an operator `k` with a rule for each of so many constants.
 fn cases(alloc: Global, count: u32) -> Result<String, Fail> {
     let mut text = String::from_str(alloc, "REC-SPEC Cases SORTS N CONS a : -> N")?;
-    for i in 0..count {
-        text.push_str(format!(in alloc; " c{i} : -> N")?.as_str())?;
-    }
-    text.push_str(" OPNS k : N -> N RULES")?;
-    for i in 0..count {
-        text.push_str(format!(in alloc; " k(c{i}) -> a")?.as_str())?;
-    }
-    text.push_str(" EVAL a END-SPEC")?;
+    push_cases(alloc, &mut text, count)?;
     Ok(text)
+}
+
+/// The rule that the matcher of such a specification tells of a text's term.
+fn case_of(rt: &impl Abort, alloc: Global, count: u32, text: &[u8]) -> Result<Option<u32>, Fail> {
+    let spec = cases(alloc, count)?;
+    let said = ask_counting(rt, alloc, spec.as_bytes(), text, 0)?;
+    Ok(said.rule)
 }
 
 #[test]
 fn a_rule_for_each_constant(rt: HostRuntime) -> Result<(), Fail> {
-    let rows: [(u32, &[u8], Option<u32>); 5] = [
-        (200, b"k(c0)", Some(0)),
-        (200, b"k(c199)", Some(199)),
-        (200, b"k(a)", None),
-        (5_000, b"k(c4999)", Some(4999)),
-        (5_000, b"k(a)", None),
-    ];
-    for (count, text, rule) in rows {
-        let spec = cases(rt.alloc(), count)?;
-        let mut bank = counting(rt.alloc())?;
-        let said = ask_of(rt.alloc(), &mut bank, spec.as_bytes(), text, 0)?;
-        assert_eq!(rt; said.rule, rule);
-        let reads = bank.reads.get();
-        assert!(rt; reads < 100, "{reads}");
+    for (count, text, rule) in CASES {
+        let told = case_of(&rt, rt.alloc(), count, text)?;
+        assert_eq!(rt; told, rule);
     }
     Ok(())
 }
