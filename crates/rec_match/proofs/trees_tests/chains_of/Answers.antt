@@ -1,6 +1,5 @@
 use Rattle.std.proofs.Common.{sym, subst, arith, ◌≡◌, ◌<◌, get_or, All}
 use Rattle.std.proofs.lemmas.List.{get_or_default}
-use Rattle.rec_match.specs.Chains.{AreChains}
 use Rattle.rec_match.proofs.RootRowLemmas.{no_rule}
 use Rattle.rec_match.proofs.trees_tests.chains_of.Goals as goal
 
