@@ -9,10 +9,11 @@
 | files | each read and each write fails, is interrupted, or gives nothing; needs strace |
 | depth | great depth and length, on stacks of 8 MiB and of 256 KiB |
 | program | folders, missing and endless files, full devices, closed pipes, signals |
-| memory | each request for memory of the program; needs gdb |
-| crates | each request for memory of single calls, by the program of crates/hostile; needs gdb |
+| memory | each request for memory of the program |
+| crates | each request for memory of single calls, by the program of crates/hostile |
 
-The last line is `N passed, M failed`. Runs under gdb stand side by side on the processors that this process may use.
+The last line is `N passed, M failed`. The last two parts trace the program, for which they need Linux on x86-64; their
+runs stand side by side on the processors that this process may use.
 """
 
 import re
@@ -24,6 +25,7 @@ from attempts import NO_CELLS, TRIED, check, passed, recw
 from common import FAILURES, rows, text_of
 from depth import try_depth
 from memory import try_crates, try_memory
+from refuse import is_allowed
 from streams import try_files, try_program
 
 MEMOS = (0, 1, 65536)
@@ -117,14 +119,22 @@ PARTS = {
     "memory": try_memory,
     "crates": try_crates,
 }
-NEEDS = {"files": "strace", "memory": "gdb", "crates": "gdb"}
+
+
+def lacks(part):
+    """What a part needs and does not have here, if anything."""
+    if part == "files" and not shutil.which("strace"):
+        return "strace is not here"
+    if part in ("memory", "crates") and not is_allowed():
+        return "no program can be traced here"
+    return None
 
 
 def main():
     for part in sys.argv[2:] or PARTS:
-        tool = NEEDS.get(part)
-        if tool and not shutil.which(tool):
-            print(f"not tried: {part}: {tool} is not here")
+        lack = lacks(part)
+        if lack:
+            print(f"not tried: {part}: {lack}")
             continue
         before, start = len(TRIED), time.monotonic()
         refused = PARTS[part]()

@@ -1,15 +1,15 @@
 """Each request for memory is refused in turn: of whole runs of the program, and of single calls of its crates."""
 
 import concurrent.futures
-import json
 import os
 import re
-import subprocess
+from functools import partial
 
 from attempts import EXAMPLES, NO_MEMORY, check, recw, room, write_file
 from common import TOP, program, rows
+from refuse import REQUESTS, answer
 
-# How many requests one process of gdb refuses.
+# How many requests one process refuses before it asks for more.
 SHARE = 16
 # The program that makes one call of a crate.
 CALLER = f"{TOP}/crates/hostile/out/hostile"
@@ -76,34 +76,20 @@ FREE = {
 }
 
 
-def under_gdb(words, **env):
-    """What a program answers in each run that tests/refuse.py makes of it."""
-    gdb = ["gdb", "-q", "-batch", "-x", f"{TOP}/tests/refuse.py", "--args", *words]
-    how = {"cwd": EXAMPLES, "capture_output": True, "text": True, "check": False}
-    ran = subprocess.run(gdb, env={**os.environ, **env}, **how)
-    return [json.loads(it) for it in re.findall(r"^\{.*\}$", ran.stdout, re.M)]
-
-
-def shares(counts):
-    """All requests, in shares for one process of gdb each."""
-    for call, count in counts.items():
-        for first in range(1, count + 1, SHARE):
-            yield f"{call} {first} {min(first + SHARE - 1, count)}"
-
-
-def refused(programs, **env):
+def refused(programs, **how):
     """What each program answers where nothing is refused, and then where each request is refused in turn.
 
-    As many processes of gdb stand side by side as there are processors for this one.
+    As many programs run side by side as there are processors for this process.
     """
-    with concurrent.futures.ThreadPoolExecutor(len(os.sched_getaffinity(0))) as pool:
-        ample = [pool.submit(under_gdb, words, **env) for words in programs]
+    with concurrent.futures.ProcessPoolExecutor(len(os.sched_getaffinity(0))) as pool:
+        ample = [pool.submit(answer, words, EXAMPLES, **how) for words in programs]
         wanting = []
         for words, run in zip(programs, ample):
-            requests = [share for answer in run.result() for share in shares(answer["counts"])]
-            wanting.append([pool.submit(under_gdb, words, REQUESTS=it, **env) for it in requests])
+            counts = run.result()["counts"].items()
+            requests = [(name, number) for name, count in counts for number in range(1, count + 1)]
+            wanting.append(pool.map(partial(answer, words, EXAMPLES, **how), requests, chunksize=SHARE))
         for run, others in zip(ample, wanting):
-            yield [*run.result(), *(answer for other in others for answer in other.result())]
+            yield [run.result(), *others]
 
 
 def count_refused(what, answers):
@@ -130,7 +116,7 @@ def try_whole_run(words, output, answers):
     for it in answers:
         found = (it["status"], it["err"])
         kept = found == NO_MEMORY and output.startswith(it["out"])
-        what = f"{line}: {it['call']} {it.get('number')}: {found} {it['out']!r}"
+        what = f"{line}: {it['refused']}: {found} {it['out']!r}"
         check(what, True, kept or (*found, it["out"]) == (0, "", output))
     return count_refused(line, answers)
 
@@ -166,7 +152,7 @@ def is_due(row, text, refusal, ending):
 
 def refused_calls(due):
     """Each row with what is due of it, and the answers where each request of the call alone is refused."""
-    return zip(due, refused([[CALLER, *row.split()] for row, _ in due], CALL_ALONE="1"))
+    return zip(due, refused([[CALLER, *row.split()] for row, _ in due], alone=True))
 
 
 def try_call(row, refusal, ending, answers):
@@ -175,7 +161,7 @@ def try_call(row, refusal, ending, answers):
     check(f"{row}: wants memory", True, any(it["out"].startswith(lines("ready", "memory")) for it in others))
     for it in others:
         due = it["status"] == 0 and is_due(row, it["out"], refusal, ending)
-        check(f"{row}: {it['call']} {it['number']}: {it['out']!r}", True, due)
+        check(f"{row}: {it['refused']}: {it['out']!r}", True, due)
     return count_refused(row, answers)
 
 
@@ -188,6 +174,6 @@ def try_crates():
     for (row, (refusal, ending)), answers in refused_calls(list(calls())):
         count += try_call(row, refusal, lines(*ending), answers)
     for (row, ending), answers in refused_calls(list(FREE.items())):
-        free = {"call": "none", "counts": {"malloc": 0, "realloc": 0}, "status": 0, "err": ""}
+        free = {"refused": None, "counts": dict.fromkeys(REQUESTS, 0), "status": 0, "err": ""}
         check(f"{row}: asks for no memory", [{**free, "out": lines("ready", "done", *ending)}], answers)
     return count

@@ -1,94 +1,188 @@
-"""Run by gdb, with a program and its words as its arguments: requests for memory are refused, each in a run of its own.
+"""Runs of a program in which one request for memory is refused. Linux on x86-64 alone.
 
-REQUESTS says which: the name of a call, and the numbers of the first and of the last time that it is refused. Where it
-is not set, there is one run in which nothing is refused, with how often each call was made. Where CALL_ALONE is set,
-only the requests between the first and the second write of the program count. For each run a line is printed: the
-call, its number, the exit status, and both outputs, as JSON.
+The program is traced. In its table of the functions that it calls of the C library, other addresses stand for those
+that are looked for, at which no code lies: so it stops at each call of them, and nowhere else.
 """
 
-import json
+import ctypes
 import os
+import resource
+import signal
+import struct
 import tempfile
 
-import gdb
+REQUESTS = ("malloc", "realloc")
+# The first write of a program under `alone` begins what counts, and its second ends it.
+CAUGHT = {name: 8 * (1 + number) for number, name in enumerate((*REQUESTS, "write"))}
+NAMES = {address: name for name, address in CAUGHT.items()}
+# Seconds of processor time, for a program that does not end.
+LONGEST = 120
 
-CALLS = ("malloc", "realloc")
-ALONE = "CALL_ALONE" in os.environ
-# Where the requests begin to count, and where they end.
-FIRST = "write@plt" if ALONE else "main"
-LAST = "write@plt" if ALONE else "_exit"
-
-
-def silent(words):
-    gdb.execute(words, to_string=True)
-
-
-def started():
-    """A program that has come to where requests begin to count."""
-    start = gdb.Breakpoint(FIRST, internal=True)
-    silent("run")
-    start.delete()
+LIBC = ctypes.CDLL(None, use_errno=True)
+LIBC.ptrace.argtypes = [ctypes.c_long, ctypes.c_long, ctypes.c_void_p, ctypes.c_void_p]
+LIBC.ptrace.restype = ctypes.c_long
+TRACE_ME, CONTINUE, GET_REGISTERS, SET_REGISTERS, SET_OPTIONS = 0, 7, 12, 13, 0x4200
+ENDS_WITH_TRACER = 0x100000
+RAX, RIP, RSP = 10, 16, 19
+# Of an auxiliary vector: where the program begins. Of a section: that it says what is to be linked.
+ENTRY, RELOCATIONS = 9, 4
+BREAKPOINT = b"\xcc"
 
 
-def at(place, ignored=0):
-    point = gdb.Breakpoint(place, internal=True)
-    point.ignore_count = ignored
-    return point
+def ptrace(request, pid, where=0, what=0):
+    if LIBC.ptrace(request, pid, where, what) == -1:
+        raise OSError(ctypes.get_errno(), "ptrace")
 
 
-def refuse():
-    """The call at which the program stands answers that there is no memory."""
-    silent("set $rax = 0")
-    silent("set $rip = *(long *) $rsp")
-    silent("set $rsp = $rsp + 8")
+def word(data, at):
+    return struct.unpack_from("<Q", data, at)[0]
 
 
-def bytes_in(room, name):
-    with open(f"{room}/{name}", "rb") as file:
-        return file.read().decode("latin-1")
+def sections_of(data):
+    size, count = struct.unpack_from("<HH", data, 58)
+    return [struct.unpack_from("<IIQQQQIIQQ", data, word(data, 40) + size * it) for it in range(count)]
 
 
-def told(room, **which):
-    outputs = {name: bytes_in(room, name) for name in ("out", "err")}
-    status = int(gdb.parse_and_eval("$_exitcode"))
-    print(json.dumps({**which, "status": status, **outputs}), flush=True)
+def places_of(data):
+    """Where an ELF program, before it is moved, has the address of each function that is caught."""
+    sections, places = sections_of(data), {}
+    for _, kind, _, _, start, length, symbols, *_ in sections:
+        if kind != RELOCATIONS:
+            continue
+        names = sections[sections[symbols][6]][4]
+        for place, which, _ in struct.iter_unpack("<QQq", data[start : start + length]):
+            name = names + struct.unpack_from("<I", data, sections[symbols][4] + 24 * (which >> 32))[0]
+            places[data[name : data.index(b"\0", name)].decode()] = place
+    return {name: places[name] for name in CAUGHT if name in places}
 
 
-def count(room):
-    """Nothing is refused."""
-    started()
-    points = {call: at(f"{call}@plt", 1 << 30) for call in CALLS}
-    end = at(LAST)
-    silent("continue")
-    counts = {call: point.hit_count for call, point in points.items()}
-    for point in (*points.values(), end):
-        point.delete()
-    silent("continue")
-    told(room, call="none", counts=counts)
+class Run:
+    """A traced program, which stands at its beginning."""
+
+    def __init__(self, words, cwd, out, err):
+        self.pid = os.fork()
+        if self.pid == 0:
+            begin(words, cwd, out, err)
+        self.registers = (ctypes.c_ulonglong * 27)()
+        self.wait()
+        ptrace(SET_OPTIONS, self.pid, 0, ENDS_WITH_TRACER)
+        self.memory = os.open(f"/proc/{self.pid}/mem", os.O_RDWR)
+        with open(words[0], "rb") as file:
+            data = file.read()
+        moved = self.go_to_entry() - word(data, 24)
+        self.places = {name: moved + place for name, place in places_of(data).items()}
+        self.functions = {name: self.read(place) for name, place in self.places.items()}
+
+    def go_to_entry(self):
+        """By then the linker has filled the table."""
+        with open(f"/proc/{self.pid}/auxv", "rb") as file:
+            entry = dict(struct.iter_unpack("<QQ", file.read()))[ENTRY]
+        first = os.pread(self.memory, 1, entry)
+        os.pwrite(self.memory, BREAKPOINT, entry)
+        self.go_on()
+        os.pwrite(self.memory, first, entry)
+        self.change({RIP: entry})
+        return entry
+
+    def read(self, place):
+        return word(os.pread(self.memory, 8, place), 0)
+
+    def change(self, registers):
+        for number, value in registers.items():
+            self.registers[number] = value
+        ptrace(SET_REGISTERS, self.pid, 0, ctypes.addressof(self.registers))
+
+    def catch(self, names):
+        """The program stops at each call of these functions, and of no others."""
+        for name, place in self.places.items():
+            address = CAUGHT[name] if name in names else self.functions[name]
+            os.pwrite(self.memory, struct.pack("<Q", address), place)
+
+    def wait(self):
+        self.stop = os.waitpid(self.pid, 0)[1]
+        if os.WIFSTOPPED(self.stop):
+            ptrace(GET_REGISTERS, self.pid, 0, ctypes.addressof(self.registers))
+
+    def go_on(self, received=0):
+        ptrace(CONTINUE, self.pid, 0, received)
+        self.wait()
+
+    def caught(self):
+        """Goes on to the next call that is caught, and names it; None at the end of the program."""
+        self.go_on()
+        while os.WIFSTOPPED(self.stop):
+            name = NAMES.get(self.registers[RIP])
+            if name:
+                return name
+            self.go_on(os.WSTOPSIG(self.stop))
+        return None
+
+    def call(self, name):
+        self.change({RIP: self.functions[name]})
+
+    def refuse(self):
+        """The call answers that there is no memory."""
+        top = self.registers[RSP]
+        self.change({RAX: 0, RIP: self.read(top), RSP: top + 8})
+
+    def status(self):
+        os.close(self.memory)
+        ended = os.waitstatus_to_exitcode(self.stop)
+        return ended if ended >= 0 else 128 - ended
 
 
-def refuse_one(room, call, number):
-    started()
-    point = at(f"{call}@plt", number - 1)
-    silent("continue")
-    refuse()
-    point.delete()
-    silent("continue")
-    told(room, call=call, number=number)
+def begin(words, cwd, out, err):
+    """The rest of a new process."""
+    try:
+        empty = os.open(os.devnull, os.O_RDONLY)
+        for number, file in enumerate((empty, out.fileno(), err.fileno())):
+            os.dup2(file, number)
+        os.chdir(cwd)
+        resource.setrlimit(resource.RLIMIT_CPU, (LONGEST, LONGEST))
+        ptrace(TRACE_ME, 0)
+        os.execve(words[0], words, {**os.environ, "LD_BIND_NOW": "1"})
+    finally:
+        os.kill(os.getpid(), signal.SIGKILL)
 
 
-def main():
-    for setting in ("pagination off", "confirm off", "debuginfod enabled off", "auto-solib-add off"):
-        silent(f"set {setting}")
-    with tempfile.TemporaryDirectory() as room:
-        words = gdb.execute("show args", to_string=True).split('"', 1)[1].rsplit('"', 1)[0]
-        silent(f"set args {words} >{room}/out 2>{room}/err")
-        if "REQUESTS" not in os.environ:
-            count(room)
-            return
-        call, first, last = os.environ["REQUESTS"].split()
-        for number in range(int(first), int(last) + 1):
-            refuse_one(room, call, number)
+def is_allowed():
+    """Whether this process may trace a program."""
+    try:
+        return answer(["/bin/true"], "/")["status"] == 0
+    except OSError:
+        return False
 
 
-main()
+def count_requests(run, alone, refused):
+    """Lets the program run to its end, or until it was refused what is to be refused; how often it made each request."""
+    counts = dict.fromkeys(REQUESTS, 0)
+    run.catch(("write",) if alone else REQUESTS)
+    writes = 0
+    while name := run.caught():
+        if name == "write":
+            writes += 1
+            run.catch((*REQUESTS, "write") if writes == 1 else ())
+            run.call(name)
+            continue
+        counts[name] += 1
+        if (name, counts[name]) == refused:
+            run.catch(())
+            run.refuse()
+        else:
+            run.call(name)
+    return counts
+
+
+def answer(words, cwd, refused=None, alone=False):
+    """The exit status, both outputs, and how often each request was made, until one was refused: its name and number.
+
+    Where only the requests alone count, these are those between the first and the second write.
+    """
+    with tempfile.TemporaryFile() as out, tempfile.TemporaryFile() as err:
+        run = Run(words, cwd, out, err)
+        counts = count_requests(run, alone, refused)
+        outputs = []
+        for file in (out, err):
+            file.seek(0)
+            outputs.append(file.read().decode("latin-1"))
+        return {"refused": refused, "counts": counts, "status": run.status(), "out": outputs[0], "err": outputs[1]}
