@@ -46,7 +46,10 @@ def traced(at, path, how, number, words):
 
 
 def refuse_in_turn(at, words, path, refusal, output, end):
-    """Each request of the call for the file is refused: of a read nothing is written, of a write a beginning."""
+    """Each request of the call for the file is refused: of a read nothing is written, of a write a beginning.
+
+    How many requests were refused.
+    """
     call, how, told = refusal
     for number in range(1, 1000):
         met, written, ended = traced(at, path, f"{call}:{how}", number, words)
@@ -58,9 +61,12 @@ def refuse_in_turn(at, words, path, refusal, output, end):
         again = (call, how) == ("write", "error=EINTR") and (written, ended) == (output, end)
         check(what, True, (ended == told and written == kept) or again)
     check(f"{' '.join(words)}: calls of {call} of {os.path.basename(path)}", True, number > 1)
+    return number - 1
 
 
 def try_files():
+    """How many reads and writes were refused."""
+    count = 0
     for line, files, output, end in RUNS:
         words = line.split()
         for call, how, told in REFUSALS:
@@ -68,7 +74,8 @@ def try_files():
                 with room() as at:
                     for file, text in files.items():
                         write_file(f"{at}/{file}", text_of(text) if text.startswith("examples/") else text)
-                    refuse_in_turn(at, words, f"{at}/{name}", (call, how, told), output, end)
+                    count += refuse_in_turn(at, words, f"{at}/{name}", (call, how, told), output, end)
+    return count
 
 
 # Each file that the program may be given, as words in which it stands for X, with what is read before it.
