@@ -154,7 +154,7 @@ def is_allowed():
 
 
 def count_requests(run, alone, refused):
-    """Lets the program run to its end, or until it was refused what is to be refused; how often it made each request."""
+    """Lets the program run to its end, or until it was refused once; how often it made each request."""
     counts = dict.fromkeys(REQUESTS, 0)
     run.catch(("write",) if alone else REQUESTS)
     writes = 0
