@@ -25,10 +25,10 @@ def nested(opening, inner, closing, size):
     return opening * levels + inner + closing * levels
 
 
-def few_parts(mebibytes):
+def few_parts(size):
     """A term `f(x,x)` of as many levels as the size allows."""
     text = "a"
-    while 2 * len(text) + 4 <= mebibytes << 20:
+    while 2 * len(text) + 4 <= size:
         text = f"f({text},{text})"
     return text
 
@@ -40,7 +40,7 @@ SHAPES = {
     "a deep list `[[..]]`": lambda size: nested("[", "", "]", size),
     "annotations of annotations `a{a{..}}`": lambda size: nested("a{", "a", "}", size),
     "1,000 levels of a name of 1, 4, 16 KiB": lambda size: nested(f"{'n' * (size // 1000 - 2)}(", "a", ")", size),
-    "a term `f(x,x)` of few parts": lambda size: few_parts(size >> 20),
+    "a term `f(x,x)` of few parts": few_parts,
 }
 COMMANDS = (("aterm",), ("share",), ("match", "<term>"))
 INTEGERS = (40_000, 153_000, 1_500_000)

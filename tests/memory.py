@@ -103,8 +103,7 @@ def whole_runs(at):
     """The words of each run, and its output."""
     known = recw("eval", "--help")[1]
     for files, options, output in rows():
-        # the sixth of a quintillion steps takes no end of time where each request is refused
-        if "fast.rec" not in files and all(word in known for word in re.findall(r"--\w+", options)):
+        if all(word in known for word in re.findall(r"--\w+", options)):
             yield ["eval", *options.split(), *files.split()], output
     for number, (words, text, output) in enumerate(OTHERS):
         term = write_file(f"{at}/{number}", text)
@@ -113,6 +112,7 @@ def whole_runs(at):
 
 def try_whole_run(words, output, answers):
     line = " ".join(words)
+    check(f"{line}: wants memory", True, any((it["status"], it["err"]) == NO_MEMORY for it in answers))
     for it in answers:
         found = (it["status"], it["err"])
         kept = found == NO_MEMORY and output.startswith(it["out"])
