@@ -1,18 +1,14 @@
 //! The engine over both banks.
 
-ghost use Rattle.std.specs.Prelude.{◌≡◌, ◌<◌, ◌≤◌, IsSome, length};
-ghost use Rattle.rx_term.specs.Store.{tree_at};
-ghost use Rattle.rec_engine.specs.Engine.{AreInRange, IsGiven};
-
 use crate::{Engine, EngineFault, Options, Outcome};
-use rec_sorts::check;
+use rec_sorts::{Checked, check};
 use rec_syntax::read_spec;
 use rx_plain::PlainBank;
 use rx_shared::SharedBank;
 use rx_term::{Term, TermBank};
 use rx_text::write;
 use std::alloc::Global;
-use std::test::Fail;
+use std::process::Abort;
 
 /// The first term is of eight parts: itself, `[s(s(z)),s(z)]`, `s(s(z))`, `[s(z)]`, `s(z)`, `[z]`,
 /// `z` and `[]`.
@@ -39,301 +35,290 @@ const FAST: &[u8] =
 const GROUND: &[u8] =
     b"REC-SPEC Ground SORTS N CONS z : -> N s : N -> N g : N N -> N OPNS f : N -> N h : N -> N VARS X : N RULES f(X) -> g(g(z,s(z)),X) h(X) -> s(z) if X -><- g(z,s(z)) EVAL f(f(h(g(z,s(z))))) END-SPEC";
 
+/// What the first term of the addition comes to.
+const SUM: &[u8] = b"s(s(s(z)))";
+
+const ONE: &[u8] = b"s(z)";
+
+const TWO: &[u8] = b"s(s(z))";
+
+const ZERO: &[u8] = b"z";
+
+const PAIR: &[u8] = b"p(z,z)";
+
+const GROUND_VALUE: &[u8] = b"g(g(z,s(z)),g(g(z,s(z)),s(z)))";
+
 const OPTIONS: Options = Options {
     memo: 0,
     reclaim_every: 262_144,
 };
 
+/// The specification of a text.
+fn checked_of(rt: &impl Abort, alloc: Global, spec: &[u8]) -> Checked {
+    let syntax = read_spec(alloc, spec).expect(rt, "a specification");
+    check(alloc, syntax).expect(rt, "a checked specification")
+}
+
 /// An engine for a specification over a bank.
 fn engine_for<B: TermBank + Drop>(
+    rt: &impl Abort,
     alloc: Global,
     spec: &[u8],
     bank: B,
     options: Options,
-) -> Result<Engine<B>, Fail>
-    requires { AreInRange options }
-{
-    let checked = check(alloc, read_spec(alloc, spec)?)?;
-    Ok(Engine::new(alloc, checked, bank, options)?)
+) -> Engine<B> {
+    assert!(rt; options.memo <= 1_048_576);
+    assert!(rt; options.reclaim_every >= 1);
+    assert!(rt; options.reclaim_every <= 1_073_741_824);
+    let checked = checked_of(rt, alloc, spec);
+    Engine::new(alloc, checked, bank, options).expect(rt, "an engine")
 }
 
-/// The text of a term.
-fn text_of<B: TermBank>(alloc: Global, bank: &B, t: Term) -> Result<Vec<u8>, EngineFault>
-    requires { IsSome (tree_at (B.store bank.now) t) }
-{
+/// What the specification's term of a number comes to within `n` steps.
+fn outcome_of<B: TermBank>(rt: &impl Abort, engine: &mut Engine<B>, i: u32, n: u64) -> Outcome {
+    assert!(rt; i < engine.eval_terms());
+    let t = engine.eval_term(i).expect(rt, "a term");
+    engine.normalise(t, n).expect(rt, "an outcome")
+}
+
+/// The value and its steps; nothing at the limit.
+fn value_of(outcome: Outcome) -> Option<(Term, u64)> {
+    match outcome {
+        Outcome::Value { term, steps } => Some((term, steps)),
+        Outcome::Limit => None,
+    }
+}
+
+/// Stops where a term has another text.
+fn expect_text<B: TermBank>(rt: &impl Abort, alloc: Global, bank: &B, t: Term, wanted: &[u8]) {
+    assert!(rt; bank.holds(t));
     let mut text = Vec::new(alloc);
-    match write(alloc, bank, t, &mut text) {
-        Ok(()) => Ok(text),
-        Err(_) => Err(EngineFault::Memory),
-    }
+    assert!(rt; write(alloc, bank, t, &mut text).is_ok());
+    assert!(rt; text.as_slice() == wanted);
 }
 
-/// The text of what a term comes to, and its steps; nothing at the limit.
-fn normalise<B: TermBank>(
-    alloc: Global,
-    engine: &mut Engine<B>,
-    t: Term,
-    n: u64,
-) -> Result<Option<(Vec<u8>, u64)>, EngineFault>
-    requires { IsGiven engine.old.spec (B.store engine.old.bank) t }
-    ensures { engine.new.spec ≡ engine.old.spec }
-{
-    match engine.normalise(t, n)? {
-        Outcome::Limit => Ok(None),
-        Outcome::Value { term, steps } => {
-            let text = text_of(alloc, engine.bank(), term)?;
-            Ok(Some((text, steps)))
-        }
-    }
-}
-
-/// The same of the specification's term of a number.
-fn evaluate<B: TermBank>(
-    alloc: Global,
-    engine: &mut Engine<B>,
-    i: u32,
-    n: u64,
-) -> Result<Option<(Vec<u8>, u64)>, EngineFault>
-    requires { i < length engine.old.spec.terms }
-    ensures { length engine.new.spec.terms ≡ length engine.old.spec.terms }
-{
-    let t = engine.eval_term(i)?;
-    normalise(alloc, engine, t, n)
-}
-
-/// Whether it is a value of this text, in so many steps.
-fn is_value(found: Option<(Vec<u8>, u64)>, wanted: &[u8], steps: u64) -> bool {
-    match found {
-        Some((text, spent)) => text.as_slice() == wanted && spent == steps,
-        None => false,
-    }
-}
-
-/// Whether the term of a number, where there is one, comes to a value of this text within `n`
-/// steps, and takes so many of them.
-fn comes_to<B: TermBank>(
+/// Stops where the term of a number doesn't come to a value of this text within `n` steps, or takes
+/// another number of them.
+fn expect_value<B: TermBank>(
+    rt: &impl Abort,
     alloc: Global,
     engine: &mut Engine<B>,
     i: u32,
     n: u64,
     wanted: &[u8],
     steps: u64,
-) -> Result<bool, EngineFault> {
-    if i >= engine.eval_terms() {
-        return Ok(false);
-    }
-    let found = evaluate(alloc, engine, i, n)?;
-    Ok(is_value(found, wanted, steps))
+) {
+    let outcome = outcome_of(rt, engine, i, n);
+    let (term, spent) = value_of(outcome).expect(rt, "a value");
+    assert!(rt; spent == steps);
+    expect_text(rt, alloc, engine.bank(), term, wanted);
 }
 
-/// Whether the term of a number, where there is one, is over the limit of `n` steps.
-fn is_over<B: TermBank>(
-    alloc: Global,
-    engine: &mut Engine<B>,
-    i: u32,
-    n: u64,
-) -> Result<bool, EngineFault> {
-    if i >= engine.eval_terms() {
-        return Ok(false);
-    }
-    Ok(evaluate(alloc, engine, i, n)?.is_none())
+/// Whether the term of a number is over the limit of `n` steps.
+fn is_over<B: TermBank>(rt: &impl Abort, engine: &mut Engine<B>, i: u32, n: u64) -> bool {
+    matches!(outcome_of(rt, engine, i, n), Outcome::Limit)
+}
+
+/// Whether it is that there is no room.
+fn is_room(fault: Option<EngineFault>) -> bool {
+    matches!(fault, Some(EngineFault::Room))
 }
 
 /// Whether there is no room for the first term.
-fn has_no_room<B: TermBank>(engine: &mut Engine<B>) -> bool {
-    if engine.eval_terms() == 0 {
-        return false;
-    }
-    engine.eval_term(0).err() == Some(EngineFault::Room)
+fn has_no_room<B: TermBank>(rt: &impl Abort, engine: &mut Engine<B>) -> bool {
+    assert!(rt; engine.eval_terms() > 0);
+    is_room(engine.eval_term(0).err())
 }
 
 /// Whether the first term is there and takes so many cells, and there is no room for its value.
 fn has_no_room_for_value<B: TermBank>(
+    rt: &impl Abort,
     engine: &mut Engine<B>,
     cells: u32,
     n: u64,
-) -> Result<bool, EngineFault> {
-    if engine.eval_terms() == 0 {
-        return Ok(false);
-    }
-    let t = engine.eval_term(0)?;
-    if engine.bank().cells() != cells {
-        return Ok(false);
-    }
-    Ok(engine.normalise(t, n).err() == Some(EngineFault::Room))
+) -> bool {
+    assert!(rt; engine.eval_terms() > 0);
+    let t = engine.eval_term(0).expect(rt, "a term");
+    assert!(rt; engine.bank().cells() == cells);
+    is_room(engine.normalise(t, n).err())
 }
 
 /// Evaluates all terms in turn without a step: how many of them are values.
-fn count_values<B: TermBank>(alloc: Global, engine: &mut Engine<B>) -> Result<u32, EngineFault> {
+fn count_values<B: TermBank>(rt: &impl Abort, engine: &mut Engine<B>) -> u32 {
     let mut values: u32 = 0;
     for i in 0..engine.eval_terms() {
-        if !is_over(alloc, engine, i, 0)? {
+        if !is_over(rt, engine, i, 0) {
             values = values.saturating_add(1);
         }
     }
-    Ok(values)
+    values
 }
 
-/// Whether the terms of an addition come to their values in their steps.
-fn adds<B: TermBank + Drop>(alloc: Global, bank: B) -> Result<bool, Fail> {
-    let mut engine = engine_for(alloc, ADD, bank, OPTIONS)?;
-    let sum = comes_to(alloc, &mut engine, 0, 5, b"s(s(s(z)))", 3)?;
-    Ok(sum && comes_to(alloc, &mut engine, 1, 0, b"s(z)", 0)?)
+/// Stops unless the terms of an addition come to their values in their steps.
+fn adds<B: TermBank + Drop>(rt: &impl Abort, alloc: Global, bank: B) {
+    let mut engine = engine_for(rt, alloc, ADD, bank, OPTIONS);
+    expect_value(rt, alloc, &mut engine, 0, 5, SUM, 3);
+    expect_value(rt, alloc, &mut engine, 1, 0, ONE, 0);
 }
 
-/// Whether conditions that fail and conditions that hold cost their steps.
-fn tries_conditions<B: TermBank + Drop>(alloc: Global, bank: B) -> Result<bool, Fail> {
-    let mut engine = engine_for(alloc, COND, bank, OPTIONS)?;
-    let fails = comes_to(alloc, &mut engine, 0, 9, b"s(s(z))", 5)?;
-    Ok(fails && comes_to(alloc, &mut engine, 1, 9, b"s(z)", 2)?)
+/// Stops unless conditions that fail and conditions that hold cost their steps.
+fn tries_conditions<B: TermBank + Drop>(rt: &impl Abort, alloc: Global, bank: B) {
+    let mut engine = engine_for(rt, alloc, COND, bank, OPTIONS);
+    expect_value(rt, alloc, &mut engine, 0, 9, TWO, 5);
+    expect_value(rt, alloc, &mut engine, 1, 9, ONE, 2);
 }
 
-/// Whether a sum is over the limit that is one step too low, and is there at the next call.
-fn stops_at_limit<B: TermBank + Drop>(alloc: Global, bank: B) -> Result<bool, Fail> {
-    let mut engine = engine_for(alloc, ADD, bank, OPTIONS)?;
-    let over = is_over(alloc, &mut engine, 0, 2)?;
-    Ok(over && comes_to(alloc, &mut engine, 0, 3, b"s(s(s(z)))", 3)?)
+/// Stops unless a sum is over the limit that is one step too low, and is there at the next call.
+fn stops_at_limit<B: TermBank + Drop>(rt: &impl Abort, alloc: Global, bank: B) {
+    let mut engine = engine_for(rt, alloc, ADD, bank, OPTIONS);
+    assert!(rt; is_over(rt, &mut engine, 0, 2));
+    expect_value(rt, alloc, &mut engine, 0, 3, SUM, 3);
 }
 
-/// Whether there is no room for the first term, and there is for the second one afterwards.
-fn refuses_term<B: TermBank + Drop>(alloc: Global, bank: B) -> Result<bool, Fail> {
-    let mut engine = engine_for(alloc, ADD, bank, OPTIONS)?;
-    let refused = has_no_room(&mut engine);
-    Ok(refused && comes_to(alloc, &mut engine, 1, 0, b"s(z)", 0)?)
+/// Stops unless there is no room for the first term, and there is for the second one afterwards.
+fn refuses_term<B: TermBank + Drop>(rt: &impl Abort, alloc: Global, bank: B) {
+    let mut engine = engine_for(rt, alloc, ADD, bank, OPTIONS);
+    assert!(rt; has_no_room(rt, &mut engine));
+    expect_value(rt, alloc, &mut engine, 1, 0, ONE, 0);
 }
 
-/// Whether there is room for the first term, not for its value, and for the second term afterwards.
-fn refuses_value<B: TermBank + Drop>(alloc: Global, bank: B) -> Result<bool, Fail> {
-    let mut engine = engine_for(alloc, ADD, bank, OPTIONS)?;
-    let refused = has_no_room_for_value(&mut engine, 8, 3)?;
-    Ok(refused && comes_to(alloc, &mut engine, 1, 0, b"s(z)", 0)?)
+/// Stops unless there is room for the first term, not for its value, and for the second term
+/// afterwards.
+fn refuses_value<B: TermBank + Drop>(rt: &impl Abort, alloc: Global, bank: B) {
+    let mut engine = engine_for(rt, alloc, ADD, bank, OPTIONS);
+    assert!(rt; has_no_room_for_value(rt, &mut engine, 8, 3));
+    expect_value(rt, alloc, &mut engine, 1, 0, ONE, 0);
 }
 
-/// Evaluates twenty terms, with a reclaim as soon as a cell is new: how many of them are values, and
-/// how many cells are in use then.
-fn cells_of_twenty<B: TermBank + Drop>(alloc: Global, bank: B) -> Result<(u32, u32), Fail> {
+/// Evaluates twenty terms, with a reclaim as soon as a cell is new, and stops unless all of them
+/// are values, and at most so many cells are in use then.
+fn reclaims_earlier_terms<B: TermBank + Drop>(
+    rt: &impl Abort,
+    alloc: Global,
+    bank: B,
+    at_most: u32,
+) {
     let options = Options {
         memo: 0,
         reclaim_every: 1,
     };
-    let mut engine = engine_for(alloc, TWENTY, bank, options)?;
-    let values = count_values(alloc, &mut engine)?;
-    Ok((values, engine.bank().cells()))
+    let mut engine = engine_for(rt, alloc, TWENTY, bank, options);
+    assert!(rt; count_values(rt, &mut engine) == 20);
+    assert!(rt; engine.bank().cells() <= at_most);
 }
 
-/// Whether ground terms of rules are made right at first and afterwards, where so many cells are made between two reclaims.
+/// Stops unless ground terms of rules are made right at first and afterwards, where so many cells
+/// are made between two reclaims.
 fn makes_ground_terms<B: TermBank + Drop>(
+    rt: &impl Abort,
     alloc: Global,
     bank: B,
     reclaim_every: u32,
-) -> Result<bool, Fail>
-    requires { (1 ≤ reclaim_every) × (reclaim_every ≤ 1073741824) }
-{
+) {
     let options = Options {
         memo: 0,
         reclaim_every,
     };
-    let mut engine = engine_for(alloc, GROUND, bank, options)?;
-    let wanted = b"g(g(z,s(z)),g(g(z,s(z)),s(z)))";
-    let first = comes_to(alloc, &mut engine, 0, 3, wanted, 3)?;
-    Ok(first && comes_to(alloc, &mut engine, 0, 3, wanted, 3)?)
+    let mut engine = engine_for(rt, alloc, GROUND, bank, options);
+    expect_value(rt, alloc, &mut engine, 0, 3, GROUND_VALUE, 3);
+    expect_value(rt, alloc, &mut engine, 0, 3, GROUND_VALUE, 3);
 }
 
-/// Whether a call that comes again costs what it cost, where so many results are remembered and
-/// so many cells are made between two reclaims.
+/// Stops unless a call that comes again costs what it cost, where so many results are remembered
+/// and so many cells are made between two reclaims.
 fn repeats_calls<B: TermBank + Drop>(
+    rt: &impl Abort,
     alloc: Global,
     bank: B,
     memo: u32,
     reclaim_every: u32,
-) -> Result<bool, Fail>
-    requires { (memo ≤ 1048576) × (1 ≤ reclaim_every) × (reclaim_every ≤ 1073741824) }
-{
+) {
     let options = Options {
         memo,
         reclaim_every,
     };
-    let mut engine = engine_for(alloc, HIT, bank, options)?;
-    let value = comes_to(alloc, &mut engine, 0, 9, b"p(z,z)", 7)?;
-    Ok(value && is_over(alloc, &mut engine, 0, 6)?)
+    let mut engine = engine_for(rt, alloc, HIT, bank, options);
+    expect_value(rt, alloc, &mut engine, 0, 9, PAIR, 7);
+    assert!(rt; is_over(rt, &mut engine, 0, 6));
 }
 
-/// Whether so many steps that only remembered results make them quick are counted one by one.
-fn remembers<B: TermBank + Drop>(alloc: Global, bank: B) -> Result<bool, Fail> {
+/// Stops unless so many steps that only remembered results make them quick are counted one by one.
+fn remembers<B: TermBank + Drop>(rt: &impl Abort, alloc: Global, bank: B) {
     let options = Options {
         memo: 65_536,
         reclaim_every: 262_144,
     };
-    let mut engine = engine_for(alloc, FAST, bank, options)?;
+    let mut engine = engine_for(rt, alloc, FAST, bank, options);
     let steps = 3_377_699_720_527_870;
-    let value = comes_to(alloc, &mut engine, 0, steps, b"z", steps)?;
-    Ok(value && is_over(alloc, &mut engine, 0, steps - 1)?)
+    expect_value(rt, alloc, &mut engine, 0, steps, ZERO, steps);
+    assert!(rt; is_over(rt, &mut engine, 0, steps - 1));
+}
+
+/// A bank of no terms, which shares none.
+fn plain_bank(rt: &impl Abort, alloc: Global, cap: u32) -> PlainBank {
+    assert!(rt; cap > 0 && cap <= 10_000);
+    PlainBank::new(alloc, cap).expect(rt, "a bank")
+}
+
+/// A bank of no terms, which shares all.
+fn shared_bank(rt: &impl Abort, alloc: Global, cap: u32) -> SharedBank {
+    assert!(rt; cap > 0 && cap <= 10_000);
+    SharedBank::new(alloc, cap).expect(rt, "a bank")
 }
 
 #[test]
-fn ground_terms(rt: HostRuntime) -> Result<(), Fail> {
+fn ground_terms(rt: HostRuntime) {
     let alloc = rt.alloc();
-    assert!(rt; makes_ground_terms(alloc, PlainBank::new(alloc, 100)?, 262_144)?);
-    assert!(rt; makes_ground_terms(alloc, SharedBank::new(alloc, 100)?, 1)?);
-    Ok(())
+    makes_ground_terms(&rt, alloc, plain_bank(&rt, alloc, 100), 262_144);
+    makes_ground_terms(&rt, alloc, shared_bank(&rt, alloc, 100), 1);
 }
 
 #[test]
-fn repeated_calls(rt: HostRuntime) -> Result<(), Fail> {
+fn repeated_calls(rt: HostRuntime) {
     let alloc = rt.alloc();
-    assert!(rt; repeats_calls(alloc, PlainBank::new(alloc, 100)?, 0, 262_144)?);
-    assert!(rt; repeats_calls(alloc, PlainBank::new(alloc, 100)?, 1, 262_144)?);
-    assert!(rt; repeats_calls(alloc, SharedBank::new(alloc, 100)?, 65_536, 1)?);
-    Ok(())
+    repeats_calls(&rt, alloc, plain_bank(&rt, alloc, 100), 0, 262_144);
+    repeats_calls(&rt, alloc, plain_bank(&rt, alloc, 100), 1, 262_144);
+    repeats_calls(&rt, alloc, shared_bank(&rt, alloc, 100), 65_536, 1);
 }
 
 #[test]
-fn remembered_results(rt: HostRuntime) -> Result<(), Fail> {
+fn remembered_results(rt: HostRuntime) {
     let alloc = rt.alloc();
-    assert!(rt; remembers(alloc, SharedBank::new(alloc, 10_000)?)?);
-    Ok(())
+    remembers(&rt, alloc, shared_bank(&rt, alloc, 10_000));
 }
 
 #[test]
-fn values(rt: HostRuntime) -> Result<(), Fail> {
+fn values(rt: HostRuntime) {
     let alloc = rt.alloc();
-    assert!(rt; adds(alloc, PlainBank::new(alloc, 100)?)?);
-    Ok(())
+    adds(&rt, alloc, plain_bank(&rt, alloc, 100));
 }
 
 #[test]
-fn conditions(rt: HostRuntime) -> Result<(), Fail> {
+fn conditions(rt: HostRuntime) {
     let alloc = rt.alloc();
-    assert!(rt; tries_conditions(alloc, PlainBank::new(alloc, 100)?)?);
-    Ok(())
+    tries_conditions(&rt, alloc, plain_bank(&rt, alloc, 100));
 }
 
 #[test]
-fn limits(rt: HostRuntime) -> Result<(), Fail> {
+fn limits(rt: HostRuntime) {
     let alloc = rt.alloc();
-    assert!(rt; stops_at_limit(alloc, PlainBank::new(alloc, 100)?)?);
-    Ok(())
+    stops_at_limit(&rt, alloc, plain_bank(&rt, alloc, 100));
 }
 
 #[test]
-fn cells_of_a_term(rt: HostRuntime) -> Result<(), Fail> {
+fn cells_of_a_term(rt: HostRuntime) {
     let alloc = rt.alloc();
-    assert!(rt; refuses_term(alloc, PlainBank::new(alloc, 7)?)?);
-    Ok(())
+    refuses_term(&rt, alloc, plain_bank(&rt, alloc, 7));
 }
 
 #[test]
-fn cells_of_a_value(rt: HostRuntime) -> Result<(), Fail> {
+fn cells_of_a_value(rt: HostRuntime) {
     let alloc = rt.alloc();
-    assert!(rt; refuses_value(alloc, PlainBank::new(alloc, 8)?)?);
-    Ok(())
+    refuses_value(&rt, alloc, plain_bank(&rt, alloc, 8));
 }
 
 #[test]
-fn earlier_terms_are_reclaimed(rt: HostRuntime) -> Result<(), Fail> {
+fn earlier_terms_are_reclaimed(rt: HostRuntime) {
     let alloc = rt.alloc();
-    let (values, cells) = cells_of_twenty(alloc, SharedBank::new(alloc, 100)?)?;
-    assert_eq!(rt; values, 20);
-    assert!(rt; cells <= 30);
-    Ok(())
+    reclaims_earlier_terms(&rt, alloc, shared_bank(&rt, alloc, 100), 30);
 }
