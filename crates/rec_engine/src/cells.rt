@@ -33,8 +33,8 @@ pub enum EngineFault {
     Room,
 }
 
-/// After how many new cells a reclaim is due at the latest, how many cells there were after the last one, which constants
-/// were made since then, and the results that are remembered.
+/// After how many new cells a reclaim is due at the latest, how many cells there were after the
+/// last one, which constants were made since then, and the results that are remembered.
 #[derive(Drop)]
 pub(crate) struct Pace {
     pub(crate) every: u32,
@@ -46,7 +46,8 @@ pub(crate) struct Pace {
 /// Makes a node, once.
 fn make_once<B: TermBank>(bank: &mut B, node: Node) -> Result<Term, BankFault>
     requires { IsSome (built (B.store bank.old) node) }
-    ensures { MakesOrRefuses (B.store bank.old) (B.store bank.new) (built (B.store bank.old) node) result }
+    ensures { MakesOrRefuses (B.store bank.old) (B.store bank.new)
+        (built (B.store bank.old) node) result }
 {
     match node {
         Node::Nil => bank.nil(),
@@ -56,7 +57,8 @@ fn make_once<B: TermBank>(bank: &mut B, node: Node) -> Result<Term, BankFault>
     }
 }
 
-/// Gives back what is not needed; no constant is known any more, and no result of what was given back.
+/// Gives back what is not needed; no constant is known any more, and no result of what was given
+/// back.
 fn reclaim<B: TermBank>(bank: &mut B, work: &[Term], pace: &mut Pace)
     requires { AllHeld (B.store bank.old) work.now }
     ensures reclaims { Reclaims (B.store bank.old) (B.store bank.new) work.now }
@@ -68,8 +70,8 @@ fn reclaim<B: TermBank>(bank: &mut B, work: &[Term], pace: &mut Pace)
     pace.constants.clear();
 }
 
-/// Makes a node; where the bank is full, gives back what is not needed, and tries once more. Where there is no room even so,
-/// all results are forgotten.
+/// Makes a node; where the bank is full, gives back what is not needed, and tries once more. Where
+/// there is no room even so, all results are forgotten.
 pub(crate) fn make_anyway<B: TermBank>(
     bank: &mut B,
     work: &[Term],
@@ -81,7 +83,8 @@ pub(crate) fn make_anyway<B: TermBank>(
     requires parts { StandsIn work.now node }
     ensures keeps { Keeps (B.store bank.old) (B.store bank.new) work.now }
     ensures known { KeepsKnown (B.store bank.old) (B.store bank.new) pace.old pace.new }
-    ensures makes { MakesFor (B.store bank.new) work.now pace.new.memo (built (B.store bank.old) node) result }
+    ensures makes { MakesFor (B.store bank.new) work.now pace.new.memo
+        (built (B.store bank.old) node) result }
 {
     match make_once(bank, node) {
         Ok(t) => Ok(t),
@@ -103,7 +106,8 @@ pub(crate) fn make_anyway<B: TermBank>(
 /// So many new cells are made at least before the next reclaim, however few are needed.
 const FEW: u32 = 16_384;
 
-/// Gives back what is not needed, where enough cells were made since the last time: as many as were left then.
+/// Gives back what is not needed, where enough cells were made since the last time: as many as were
+/// left then.
 pub(crate) fn reclaim_if_due<B: TermBank>(bank: &mut B, work: &[Term], pace: &mut Pace)
     requires { AllHeld (B.store bank.old) work.now }
     ensures keeps { Keeps (B.store bank.old) (B.store bank.new) work.now }
@@ -127,7 +131,8 @@ pub(crate) fn make<B: TermBank>(
     requires parts { StandsIn work.now node }
     ensures keeps { Keeps (B.store bank.old) (B.store bank.new) work.now }
     ensures known { KeepsKnown (B.store bank.old) (B.store bank.new) pace.old pace.new }
-    ensures makes { MakesFor (B.store bank.new) work.now pace.new.memo (built (B.store bank.old) node) result }
+    ensures makes { MakesFor (B.store bank.new) work.now pace.new.memo
+        (built (B.store bank.old) node) result }
 {
     reclaim_if_due(bank, work, pace);
     make_anyway(bank, work, pace, node)

@@ -7,7 +7,8 @@ ghost use Rattle.rx_term.specs.Steps.{Keeps};
 ghost use Rattle.rec_sorts.specs.Linked.{HasMoreSymbols};
 ghost use Rattle.rec_engine.specs.declared.cells.EngineFault.TheVariants.{Room};
 ghost use Rattle.rec_engine.specs.Cells.{RoomOnly};
-ghost use Rattle.rec_engine.specs.Engine.{AreInRange, SameEngine, IsGiven, eval_tree, IsOutcome, IsNormalised, IsKept, RoomOnlyFor};
+ghost use Rattle.rec_engine.specs.Engine.{AreInRange, SameEngine, IsGiven, eval_tree, IsOutcome};
+ghost use Rattle.rec_engine.specs.Engine.{IsNormalised, IsKept, RoomOnlyFor};
 
 use crate::cells::{EngineFault, Pace};
 use crate::code::{Code, Op};
@@ -39,8 +40,9 @@ pub enum Outcome {
     Limit,
 }
 
-/// Terms of one specification are evaluated over one bank. Each call of `eval_term` or `normalise` may reclaim: it keeps protected
-/// terms, and the term that it is given or answers, that one until the next such call.
+/// Terms of one specification are evaluated over one bank. Each call of `eval_term` or `normalise`
+/// may reclaim: it keeps protected terms, and the term that it is given or answers, that one until
+/// the next such call.
 #[derive(Drop)]
 pub struct Engine<B: TermBank> {
     machine: Machine<B>,
@@ -68,7 +70,8 @@ impl<B: TermBank> Model for Engine<B> {
       work = e.machine.work.items;
     } };
 
-    ghost invariant = { λ e. (e.terms ≡ length e.machine.checked.spec.terms) × IsReady B.store e.machine };
+    ghost invariant = { λ e. (e.terms ≡ length e.machine.checked.spec.terms)
+        × IsReady B.store e.machine };
 }
 
 impl<B: TermBank + Drop> Engine<B> {
@@ -141,10 +144,12 @@ impl<B: TermBank> Engine<B> {
         requires { i < length self.old.spec.terms }
         ensures same { SameEngine self.old self.new }
         ensures keeps { Keeps (B.store self.old.bank) (B.store self.new.bank) [] }
-        ensures term { IfOk result (λ t. tree_at (B.store self.new.bank) t ≡ eval_tree self.new.spec i) }
+        ensures term { IfOk result
+            (λ t. tree_at (B.store self.new.bank) t ≡ eval_tree self.new.spec i) }
         ensures given { IfOk result (IsGiven self.new.spec (B.store self.new.bank)) }
         ensures kept { IfOk result (Contains self.new.work) }
-        ensures room { RoomOnlyFor (B.store self.new.bank) self.new.memo (eval_tree self.new.spec i) result }
+        ensures room { RoomOnlyFor (B.store self.new.bank) self.new.memo
+            (eval_tree self.new.spec i) result }
     {
         let machine = &mut self.machine;
         let checked = &machine.checked;
@@ -167,7 +172,8 @@ impl<B: TermBank> Engine<B> {
         ensures given { tree_at (B.store self.new.bank) t ≡ tree_at (B.store self.old.bank) t }
         ensures outcome { IfOk result (λ o. (u : Tree) → tree_at (B.store self.old.bank) t ≡ Some u
             → IsOutcome self.new.spec (B.store self.new.bank) n u o) }
-        ensures rewriting { IfOk result (λ o. (u : Tree) → tree_at (B.store self.old.bank) t ≡ Some u
+        ensures rewriting { IfOk result
+            (λ o. (u : Tree) → tree_at (B.store self.old.bank) t ≡ Some u
             → IsNormalised self.new.spec (B.store self.new.bank) n u o) }
         ensures kept { IfOk result (IsKept self.new.work) }
         ensures room { RoomOnly (B.store self.new.bank) self.new.work self.new.memo result }

@@ -31,13 +31,16 @@ impl<B: TermBank> Machine<B> {
     fn evaluate(&mut self, pc: usize, t: Term, n: u64) -> Result<Reached, EngineFault>
         requires ready { IsReady B.store self.old }
         requires held { IsSome (tree_at (B.store self.old.bank) t) }
-        requires own { (u : Syntax.Term) × IsTermCode self.old.checked.spec u (drop pc self.old.code.ops.items) }
+        requires own { (u : Syntax.Term)
+            × IsTermCode self.old.checked.spec u (drop pc self.old.code.ops.items) }
         ensures stays { StaysFor B.store (t ∷ []) self.old self.new }
-        ensures exact { IfOk result (λ r. (u : Syntax.Term) → IsTermCode self.old.checked.spec u (drop pc self.old.code.ops.items)
+        ensures exact { IfOk result (λ r. (u : Syntax.Term)
+            → IsTermCode self.old.checked.spec u (drop pc self.old.code.ops.items)
             → IsAnswer self.old.checked.spec (B.store self.new.bank) n u r) }
         ensures held { IfOk result (λ r. AllHeld (B.store self.new.bank) self.new.work.items) }
         ensures stands { IfOk result (StandsAbove self.new.work.items t) }
-        ensures room { RoomOnly (B.store self.new.bank) self.new.work.items self.new.state.pace.memo result }
+        ensures room { RoomOnly (B.store self.new.bank) self.new.work.items
+            self.new.state.pace.memo result }
     {
         self.work.clear();
         push(&mut self.work, t)?;
@@ -65,9 +68,11 @@ impl<B: TermBank> Machine<B> {
         requires term { Contains self.old.work.items t }
         requires value { Contains self.old.work.items value }
         ensures stays { StaysFor B.store self.old.work.items self.old self.new }
-        ensures annotated { IfOk result (HasNotes (B.store self.old.bank) (B.store self.new.bank) t value) }
+        ensures annotated { IfOk result
+            (HasNotes (B.store self.old.bank) (B.store self.new.bank) t value) }
         ensures kept { IfOk result (Contains self.new.work.items) }
-        ensures room { RoomOnly (B.store self.new.bank) self.new.work.items self.new.state.pace.memo result }
+        ensures room { RoomOnly (B.store self.new.bank) self.new.work.items
+            self.new.state.pace.memo result }
     {
         let Some(anns) = self.bank.anns(t) else {
             return Ok(value);
@@ -95,7 +100,8 @@ impl<B: TermBank> Machine<B> {
         ensures outcome { IfOk result (λ o. (u : Tree) → tree_at (B.store self.old.bank) t ≡ Some u
             → IsOutcome self.old.checked.spec (B.store self.new.bank) n u o) }
         ensures kept { IfOk result (IsKept self.new.work.items) }
-        ensures room { RoomOnly (B.store self.new.bank) self.new.work.items self.new.state.pace.memo result }
+        ensures room { RoomOnly (B.store self.new.bank) self.new.work.items
+            self.new.state.pace.memo result }
     {
         let pc = self.code.ops.len();
         let stack = &mut self.state.pending;

@@ -1,4 +1,5 @@
-//! For which calls it pays to ask the memo. Whatever a hint answers is right, so no clause speaks of them.
+//! For which calls it pays to ask the memo. Whatever a hint answers is right, so no clause speaks
+//! of them.
 
 ghost use Rattle.std.specs.Prelude.{◌≤◌};
 

@@ -54,9 +54,12 @@ fn test(
     requires within { IsWithin (length links.now) (length places.old.of.items) letter }
     requires places { ArePlaces variables.old.items (length places.old.of.items) places.old }
     requires variables { All (λ v. v < length places.old.of.items) variables.old.items }
-    ensures test { IfOk result (λ t. IsTest links.now letter variables.old.items t variables.new.items) }
-    ensures places { IfOk result (λ t. ArePlaces variables.new.items (length places.old.of.items) places.new) }
-    ensures variables { IfOk result (λ t. All (λ v. v < length places.old.of.items) variables.new.items) }
+    ensures test { IfOk result
+        (λ t. IsTest links.now letter variables.old.items t variables.new.items) }
+    ensures places { IfOk result
+        (λ t. ArePlaces variables.new.items (length places.old.of.items) places.new) }
+    ensures variables { IfOk result
+        (λ t. All (λ v. v < length places.old.of.items) variables.new.items) }
 {
     match letter.meaning {
         Meaning::Symbol(k) => Ok(Test::Open {
@@ -88,7 +91,8 @@ fn tests_of(
 ) -> Result<Tests, AllocError>
     requires within { All (IsWithin (length links.now) (length places.old.of.items)) letters.now }
     requires places { ArePlaces [] (length places.old.of.items) places.old }
-    ensures tests { IfOk result (λ t. AreTested links.now letters.now t.tests.items t.variables.items t.order.items) }
+    ensures tests { IfOk result
+        (λ t. AreTested links.now letters.now t.tests.items t.variables.items t.order.items) }
     ensures places { IfOk result (λ t. ArePlaces [] (length places.old.of.items) places.new) }
 {
     let mut tests = Vec::new(alloc);
@@ -151,8 +155,10 @@ fn side(
     requires letters { Pairwise (IsLetterRule checked.now.spec) rules.now checked.now.spec.rules }
     requires links { length links.now ≡ length (symbols checked.now.spec) }
     requires places { ArePlaces [] (variable_count checked.now.spec) places.old }
-    requires head { (r : _) → IsHead checked.now.spec (get_or checked.now.spec.rules rule r) symbol }
-    ensures side { IfOk result (λ s. (r : _) → IsLeftSide checked.now.spec links.now (get_or checked.now.spec.rules rule r) s) }
+    requires head { (r : _)
+        → IsHead checked.now.spec (get_or checked.now.spec.rules rule r) symbol }
+    ensures side { IfOk result (λ s. (r : _)
+        → IsLeftSide checked.now.spec links.now (get_or checked.now.spec.rules rule r) s) }
     ensures symbol { IfOk result (λ s. s.symbol ≡ symbol) }
     ensures next { IfOk result (λ s. s.next ≡ next) }
     ensures places { IfOk result (λ s. ArePlaces [] (variable_count checked.now.spec) places.new) }

@@ -1,6 +1,7 @@
 //! How matching trees grow: each node that waits is written, and the nodes behind it wait then.
 
-ghost use Rattle.std.specs.Prelude.{◌≡◌, ◌+◌, ◌<◌, ◌≤◌, ◌^◌, ◌∷◌, [], All, IfOk, IfSome, length, map, get_or, true, false};
+ghost use Rattle.std.specs.Prelude.{◌≡◌, ◌+◌, ◌<◌, ◌≤◌, ◌^◌, ◌∷◌, [], All, IfOk, IfSome, length};
+ghost use Rattle.std.specs.Prelude.{map, get_or, true, false};
 ghost use Rattle.rec_sorts.specs.Lookup.{symbols};
 ghost use Rattle.rec_match.specs.Forests.{no_child, number_at};
 ghost use Rattle.rec_match.specs.Marking.{AreMarked, HasMarks};
@@ -86,7 +87,8 @@ impl Forest {
         other: u32,
     ) -> Result<(), AllocError>
         requires { node < length self.old.nodes.items }
-        ensures { IfOk result (λ u. WritesSwitch self.old self.new node register low window.now other) }
+        ensures { IfOk result
+            (λ u. WritesSwitch self.old self.new node register low window.now other) }
     {
         let Ok(from) = u32::try_from(self.children.len()) else {
             return Err(AllocError);
@@ -113,7 +115,8 @@ fn add(
     width: u32,
     rows: Vec<CodeRow>,
 ) -> Result<u32, AllocError>
-    ensures { IfOk result (Adds forest.old (map task_of work.old.items) forest.new (map task_of work.new.items) width (map coded_of rows.items)) }
+    ensures { IfOk result (Adds forest.old (map task_of work.old.items) forest.new
+        (map task_of work.new.items) width (map coded_of rows.items)) }
 {
     let Ok(node) = u32::try_from(forest.nodes.len()) else {
         return Err(AllocError);
@@ -135,7 +138,8 @@ fn leaf(
     rest: Vec<CodeRow>,
 ) -> Result<(), AllocError>
     requires { node < length forest.old.nodes.items }
-    ensures { IfOk result (λ u. TriesFirst forest.old (map task_of work.old.items) node width rule places.now (map coded_of rest.items) forest.new (map task_of work.new.items)) }
+    ensures { IfOk result (λ u. TriesFirst forest.old (map task_of work.old.items) node width rule
+        places.now (map coded_of rest.items) forest.new (map task_of work.new.items)) }
 {
     let next = add(forest, work, width, rest)?;
     forest.write_try(node, rule, places, next)?;
@@ -325,15 +329,22 @@ impl Grower<'_> {
         forest: &mut Forest,
         work: &mut Vec<Pending>,
     ) -> Result<Vec<Child>, AllocError>
-        requires declared { All (λ k. k < length (symbols self.now.checked.now.spec)) (symbols_of shares.items) }
+        requires declared { All
+            (λ k. k < length (symbols self.now.checked.now.spec)) (symbols_of shares.items) }
         requires linked { length self.now.links.now ≡ length (symbols self.now.checked.now.spec) }
-        requires covers { Covers (numbers_of self.now.links.now) (symbols_of shares.items) low span }
-        requires ground { IsGround self.now.checked.now.spec (numbers_of self.now.links.now) self.now.parts.now }
+        requires covers { Covers (numbers_of self.now.links.now)
+            (symbols_of shares.items) low span }
+        requires ground { IsGround self.now.checked.now.spec (numbers_of self.now.links.now)
+            self.now.parts.now }
         ensures long { IfOk result (λ w. length w.items ≡ span) }
-        ensures longer { IfOk result (λ w. length forest.old.nodes.items ≤ length forest.new.nodes.items) }
-        ensures branches { IfOk result (λ w. (register : _) (coded : _) → AreShares self.now.parts.now register width (symbols_of shares.items) coded shares.items
-            → BranchesOut self.now.checked.now.spec (numbers_of self.now.links.now) self.now.parts.now forest.old (map task_of work.old.items) width coded
-            forest.new (map task_of work.new.items) register low (symbols_of shares.items) w.items 0) }
+        ensures longer { IfOk result
+            (λ w. length forest.old.nodes.items ≤ length forest.new.nodes.items) }
+        ensures branches { IfOk result (λ w. (register : _) (coded : _) → AreShares
+            self.now.parts.now register width (symbols_of shares.items) coded shares.items
+            → BranchesOut self.now.checked.now.spec (numbers_of self.now.links.now)
+            self.now.parts.now forest.old (map task_of work.old.items) width coded
+            forest.new (map task_of work.new.items) register low
+            (symbols_of shares.items) w.items 0) }
     {
         let mut window = no_children(self.alloc, span)?;
         while let Some(share) = shares.pop() {
@@ -366,11 +377,16 @@ impl Grower<'_> {
         requires there { node < length forest.old.nodes.items }
         requires register { register < width }
         requires codes { All (λ row. All (IsCode self.now.parts.now) row.codes.items) rows.now }
-        requires ground { IsGround self.now.checked.now.spec (numbers_of self.now.links.now) self.now.parts.now }
+        requires ground { IsGround self.now.checked.now.spec (numbers_of self.now.links.now)
+            self.now.parts.now }
         requires marks { HasMarks work.old.marks (length (symbols self.now.checked.now.spec)) }
-        ensures marks { IfOk result (λ goes. HasMarks work.new.marks (length (symbols self.now.checked.now.spec))) }
+        ensures marks { IfOk result
+            (λ goes. HasMarks work.new.marks (length (symbols self.now.checked.now.spec))) }
         ensures fuel { IfOk result (λ goes. work.new.fuel ≤ work.old.fuel) }
-        ensures steps { IfOk result (StepsOrStays self.now.checked.now.spec (numbers_of self.now.links.now) self.now.parts.now forest.old ((record { node = node; width = width; rows = map coded_of rows.now }) ∷ map task_of work.old.pending.items) forest.new (map task_of work.new.pending.items)) }
+        ensures steps { IfOk result (StepsOrStays self.now.checked.now.spec
+            (numbers_of self.now.links.now) self.now.parts.now forest.old
+            ((record { node = node; width = width; rows = map coded_of rows.now }) ∷ map task_of
+            work.old.pending.items) forest.new (map task_of work.new.pending.items)) }
     {
         self.parts
             .marks(self.links, rows, register, &mut work.marks)?;
@@ -411,12 +427,19 @@ impl Grower<'_> {
         work: &mut Work,
     ) -> Result<bool, AllocError>
         requires linked { length self.now.links.now ≡ length (symbols self.now.checked.now.spec) }
-        requires ground { IsGround self.now.checked.now.spec (numbers_of self.now.links.now) self.now.parts.now }
-        requires can { CanStep self.now.checked.now.spec (numbers_of self.now.links.now) self.now.parts.now forest.old ((record { node = node; width = width; rows = map coded_of rows.items }) ∷ map task_of work.old.pending.items) }
+        requires ground { IsGround self.now.checked.now.spec (numbers_of self.now.links.now)
+            self.now.parts.now }
+        requires can { CanStep self.now.checked.now.spec (numbers_of self.now.links.now)
+            self.now.parts.now forest.old ((record { node = node; width = width;
+            rows = map coded_of rows.items }) ∷ map task_of work.old.pending.items) }
         requires marks { HasMarks work.old.marks (length (symbols self.now.checked.now.spec)) }
-        ensures marks { IfOk result (λ goes. HasMarks work.new.marks (length (symbols self.now.checked.now.spec))) }
+        ensures marks { IfOk result
+            (λ goes. HasMarks work.new.marks (length (symbols self.now.checked.now.spec))) }
         ensures fuel { IfOk result (λ goes. work.new.fuel ≤ work.old.fuel) }
-        ensures steps { IfOk result (StepsOrStays self.now.checked.now.spec (numbers_of self.now.links.now) self.now.parts.now forest.old ((record { node = node; width = width; rows = map coded_of rows.items }) ∷ map task_of work.old.pending.items) forest.new (map task_of work.new.pending.items)) }
+        ensures steps { IfOk result (StepsOrStays self.now.checked.now.spec
+            (numbers_of self.now.links.now) self.now.parts.now forest.old
+            ((record { node = node; width = width; rows = map coded_of rows.items }) ∷ map task_of
+            work.old.pending.items) forest.new (map task_of work.new.pending.items)) }
     {
         if rows.is_empty() {
             forest.nodes[node as usize] = Node::Fail;
@@ -454,11 +477,16 @@ impl Grower<'_> {
         work: &mut Work,
     ) -> Result<bool, AllocError>
         requires linked { length self.now.links.now ≡ length (symbols self.now.checked.now.spec) }
-        requires ground { IsGround self.now.checked.now.spec (numbers_of self.now.links.now) self.now.parts.now }
-        requires can { CanStep self.now.checked.now.spec (numbers_of self.now.links.now) self.now.parts.now forest.old (map task_of work.old.pending.items) }
+        requires ground { IsGround self.now.checked.now.spec (numbers_of self.now.links.now)
+            self.now.parts.now }
+        requires can { CanStep self.now.checked.now.spec (numbers_of self.now.links.now)
+            self.now.parts.now forest.old (map task_of work.old.pending.items) }
         requires marks { HasMarks work.old.marks (length (symbols self.now.checked.now.spec)) }
-        ensures marks { IfOk result (λ grown. HasMarks work.new.marks (length (symbols self.now.checked.now.spec))) }
-        ensures grows { IfOk result (GrowsOut self.now.checked.now.spec (numbers_of self.now.links.now) self.now.parts.now forest.old (map task_of work.old.pending.items) forest.new) }
+        ensures marks { IfOk result
+            (λ grown. HasMarks work.new.marks (length (symbols self.now.checked.now.spec))) }
+        ensures grows { IfOk result (GrowsOut self.now.checked.now.spec
+            (numbers_of self.now.links.now) self.now.parts.now forest.old
+            (map task_of work.old.pending.items) forest.new) }
     {
         while let Some(pending) = work.pending.pop() {
             let cost = look(&pending.rows);
@@ -484,12 +512,17 @@ impl Grower<'_> {
         work: &mut Work,
     ) -> Result<u32, AllocError>
         requires linked { length self.now.links.now ≡ length (symbols self.now.checked.now.spec) }
-        requires ground { IsGround self.now.checked.now.spec (numbers_of self.now.links.now) self.now.parts.now }
+        requires ground { IsGround self.now.checked.now.spec (numbers_of self.now.links.now)
+            self.now.parts.now }
         requires some { 0 < length forest.old.nodes.items }
-        requires can { CanGrow self.now.checked.now.spec (numbers_of self.now.links.now) self.now.parts.now forest.old width (map coded_of rows.items) }
+        requires can { CanGrow self.now.checked.now.spec (numbers_of self.now.links.now)
+            self.now.parts.now forest.old width (map coded_of rows.items) }
         requires marks { HasMarks work.old.marks (length (symbols self.now.checked.now.spec)) }
-        ensures marks { IfOk result (λ root. HasMarks work.new.marks (length (symbols self.now.checked.now.spec))) }
-        ensures tree { IfOk result (HasTree self.now.checked.now.spec (numbers_of self.now.links.now) self.now.parts.now forest.old width (map coded_of rows.items) forest.new) }
+        ensures marks { IfOk result
+            (λ root. HasMarks work.new.marks (length (symbols self.now.checked.now.spec))) }
+        ensures tree { IfOk result (HasTree self.now.checked.now.spec
+            (numbers_of self.now.links.now) self.now.parts.now forest.old width
+            (map coded_of rows.items) forest.new) }
     {
         let nodes = forest.nodes.len();
         let places = forest.places.len();

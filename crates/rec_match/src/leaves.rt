@@ -33,7 +33,8 @@ impl Parts {
     ) -> Result<bool, AllocError>
         requires codes { All (IsCode self.now) codes.now }
         requires few { length codes.now < 2 ^ 32 }
-        ensures { IfOk result (ArePlaced (code_places self.now [] codes.now) places.old.items places.new.items) }
+        ensures { IfOk result
+            (ArePlaced (code_places self.now [] codes.now) places.old.items places.new.items) }
     {
         let mut variables: Vec<u32> = Vec::new(alloc);
         for code in codes {

@@ -48,7 +48,8 @@ impl Marks {
     pub(crate) fn mark(&mut self, symbol: u32) -> Result<(), AllocError>
         requires { AreMarked self.old }
         ensures marked { IfOk result (λ u. AreMarked self.new) }
-        ensures counted { IfOk result (λ u. length self.new.marked.items ≡ length self.old.marked.items) }
+        ensures counted { IfOk result
+            (λ u. length self.new.marked.items ≡ length self.old.marked.items) }
     {
         if symbol as usize >= self.marked.len() || self.rank(symbol).is_some() {
             return Ok(());

@@ -49,7 +49,8 @@ pub struct Matcher {
 
 impl Matcher {
     /// The first rule that matches, from one on and among those of its symbol, which is applied to
-    /// the last of some references; and the values of its variables in the order in which they first occur.
+    /// the last of some references; and the values of its variables in the order in which they
+    /// first occur.
     pub fn find<B: TermBank>(
         &self,
         bank: &B,
@@ -116,7 +117,8 @@ fn ask<B: TermBank>(
     requires can { CanAsk (B.store bank.now) test }
     ensures pending { IfOk result (λ holds. AllHeld (B.store bank.now) pending.new.items) }
     ensures bind { IfOk result (λ holds. AllHeld (B.store bank.now) bind.new.items) }
-    ensures asks { IfOk result (Asks (B.store bank.now) test u pending.old.items pending.new.items bind.old.items bind.new.items) }
+    ensures asks { IfOk result (Asks (B.store bank.now) test u pending.old.items pending.new.items
+        bind.old.items bind.new.items) }
 {
     match test {
         Test::Open { symbol, count } => open(bank, symbol, count, u, pending),
@@ -131,7 +133,8 @@ fn ask<B: TermBank>(
     }
 }
 
-/// Leaves the arguments of an application on the stack, the last one on top, where it is one of this symbol.
+/// Leaves the arguments of an application on the stack, the last one on top, where it is one of
+/// this symbol.
 fn open<B: TermBank>(
     bank: &B,
     symbol: Symbol,
@@ -143,7 +146,8 @@ fn open<B: TermBank>(
     requires pending { AllHeld (B.store bank.now) pending.old.items }
     requires takes { Takes (B.store bank.now) symbol count }
     ensures pending { IfOk result (λ holds. AllHeld (B.store bank.now) pending.new.items) }
-    ensures opens { IfOk result (Opens (B.store bank.now) symbol count u pending.old.items pending.new.items) }
+    ensures opens { IfOk result
+        (Opens (B.store bank.now) symbol count u pending.old.items pending.new.items) }
 {
     let Kind::Appl(head) = bank.kind(u) else {
         return Ok(false);
@@ -162,7 +166,8 @@ fn open<B: TermBank>(
     Ok(true)
 }
 
-/// Whether the tests of a left side hold of the last of some references, and the values of its variables then.
+/// Whether the tests of a left side hold of the last of some references, and the values of its
+/// variables then.
 fn matches<B: TermBank>(
     bank: &B,
     tests: &[Test],
@@ -175,7 +180,8 @@ fn matches<B: TermBank>(
     requires count { count ≤ length work.now }
     requires can { All (CanAsk (B.store bank.now)) tests.now }
     ensures bind { IfOk result (λ holds. AllHeld (B.store bank.now) bind.new.items) }
-    ensures matches { IfOk result (λ holds. Matches (B.store bank.now) tests.now (drop (length work.now - count) work.now) bind.new.items holds) }
+    ensures matches { IfOk result (λ holds. Matches (B.store bank.now) tests.now
+        (drop (length work.now - count) work.now) bind.new.items holds) }
 {
     pending.clear();
     bind.clear();

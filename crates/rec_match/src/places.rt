@@ -19,7 +19,8 @@ pub(crate) fn push_at<T: Copy>(
     found: &mut Vec<T>,
 ) -> Result<(), AllocError>
     requires { All (λ p. p < length items.now) places.now }
-    ensures { IfOk result (λ u. (d : T) → found.new.items ≡ found.old.items ++ in_order d items.now places.now) }
+    ensures { IfOk result
+        (λ u. (d : T) → found.new.items ≡ found.old.items ++ in_order d items.now places.now) }
 {
     for place in places {
         found.push(items[*place as usize])?;
@@ -39,7 +40,8 @@ impl Places {
     /// The place of a variable.
     pub fn place(&self, variable: u32) -> Option<u32>
         requires { variable < length self.now.of.items }
-        ensures { (vs : _) → ArePlaces vs (length self.now.of.items) self.now → IsPlace vs variable result }
+        ensures { (vs : _) → ArePlaces vs (length self.now.of.items) self.now
+            → IsPlace vs variable result }
     {
         self.of[variable as usize]
     }
@@ -47,7 +49,9 @@ impl Places {
     /// A variable that has no place comes behind the others.
     pub fn give(&mut self, variable: u32, place: u32)
         requires { variable < length self.old.of.items }
-        ensures { (vs : _) → ArePlaces vs (length self.old.of.items) self.old → IsPlace vs variable None → place ≡ length vs → ArePlaces (vs ++ variable ∷ []) (length self.old.of.items) self.new }
+        ensures { (vs : _) → ArePlaces vs (length self.old.of.items) self.old
+            → IsPlace vs variable None → place ≡ length vs
+            → ArePlaces (vs ++ variable ∷ []) (length self.old.of.items) self.new }
     {
         self.of[variable as usize] = Some(place);
     }

@@ -16,7 +16,8 @@ impl Parts {
         stack: &mut Vec<u32>,
     ) -> Result<(), AllocError>
         requires { CanPush (length stack.old.items) (counts_of letters.now) }
-        ensures { IfOk result (λ u. Pushed self.old stack.old.items letters.now self.new stack.new.items) }
+        ensures { IfOk result
+            (λ u. Pushed self.old stack.old.items letters.now self.new stack.new.items) }
     {
         for letter in letters {
             if self.arguments.len() + stack.len() > u32::MAX as usize
@@ -39,7 +40,8 @@ pub struct LeftParts {
 
 /// The parts of the left sides of a specification's rules.
 pub fn left_parts(alloc: Global, checked: &Checked) -> Result<LeftParts, AllocError>
-    ensures { IfOk result (λ l. AreLeftParts checked.now.spec l.parts l.numbers.items (length checked.now.spec.rules)) }
+    ensures { IfOk result (λ l.
+        AreLeftParts checked.now.spec l.parts l.numbers.items (length checked.now.spec.rules)) }
 {
     let rules = checked.rules();
     let mut parts = Parts {

@@ -41,9 +41,13 @@ impl LeftParts {
         symbol: u32,
     ) -> Result<Vec<CodeRow>, AllocError>
         requires symbol { symbol < length (symbols checked.now.spec) }
-        requires parts { AreLeftParts checked.now.spec self.now.parts self.now.numbers.items (length checked.now.spec.rules) }
+        requires parts { AreLeftParts checked.now.spec self.now.parts self.now.numbers.items
+            (length checked.now.spec.rules) }
         requires chains { ChainsRules checked.now.spec chains.now }
-        ensures { IfOk result (λ v. AreLeft checked.now.spec self.now.parts (arity_of checked.now.spec symbol) (map coded_of v.items) (root_rows (name_of checked.now.spec (Symbol symbol)) (arity_of checked.now.spec symbol) 0 checked.now.spec.rules)) }
+        ensures { IfOk result (λ v. AreLeft checked.now.spec self.now.parts
+            (arity_of checked.now.spec symbol) (map coded_of v.items)
+            (root_rows (name_of checked.now.spec (Symbol symbol)) (arity_of checked.now.spec symbol)
+            0 checked.now.spec.rules)) }
     {
         let count = checked.rules().len();
         let mut rows = Vec::new(alloc);

@@ -1,6 +1,7 @@
 //! Rows dealt to the symbols that they ask for.
 
-ghost use Rattle.std.specs.Prelude.{◌≡◌, ◌≢◌, ◌+◌, ◌<◌, ◌^◌, [], All, IfOk, IfSome, None, length, map};
+ghost use Rattle.std.specs.Prelude.{◌≡◌, ◌≢◌, ◌+◌, ◌<◌, ◌^◌, [], All, IfOk, IfSome, None, length};
+ghost use Rattle.std.specs.Prelude.{map};
 ghost use Rattle.rec_match.specs.Marking.{AreMarked};
 ghost use Rattle.rec_match.specs.Parts.{coded_of, opened_codes, IsCode};
 ghost use Rattle.rec_match.specs.Shares.{symbols_of, AreShares, AddsRow, DealsRow};
@@ -19,7 +20,8 @@ pub(crate) struct Share {
 
 /// A share for each of some symbols, with no row so far.
 fn empty_shares(alloc: Global, symbols: &[u32]) -> Result<Vec<Share>, AllocError>
-    ensures { IfOk result (λ v. (ps : _) (r base : _) → AreShares ps r base symbols.now [] v.items) }
+    ensures { IfOk result
+        (λ v. (ps : _) (r base : _) → AreShares ps r base symbols.now [] v.items) }
 {
     let mut shares = Vec::new(alloc);
     for symbol in symbols {
@@ -36,7 +38,8 @@ impl Parts {
     /// of another one.
     pub(crate) fn asked(&self, codes: &[Code], register: u32) -> Option<u32>
         requires { All (IsCode self.now) codes.now }
-        ensures { IfSome result (λ k. (symbol base : _) → k ≢ symbol → opened_codes self.now register symbol base codes.now ≡ None) }
+        ensures { IfSome result (λ k. (symbol base : _) → k ≢ symbol
+            → opened_codes self.now register symbol base codes.now ≡ None) }
     {
         for code in codes {
             if code.register == register {
@@ -59,7 +62,8 @@ impl Parts {
     ) -> Result<(), AllocError>
         requires codes { All (IsCode self.now) row.now.codes.items }
         requires room { base + length self.now.arguments.items < 2 ^ 32 }
-        ensures { IfOk result (λ u. AddsRow self.now register base (coded_of row.now) share.old share.new) }
+        ensures { IfOk result
+            (λ u. AddsRow self.now register base (coded_of row.now) share.old share.new) }
     {
         let mut codes = Vec::new(alloc);
         if self.open(&row.codes, register, share.symbol, base, &mut codes)? {
@@ -82,7 +86,8 @@ impl Parts {
     ) -> Result<(), AllocError>
         requires codes { All (IsCode self.now) row.now.codes.items }
         requires room { base + length self.now.arguments.items < 2 ^ 32 }
-        ensures { IfOk result (λ u. DealsRow self.now register base (coded_of row.now) shares.old shares.new) }
+        ensures { IfOk result
+            (λ u. DealsRow self.now register base (coded_of row.now) shares.old shares.new) }
     {
         for i in 0..shares.len() {
             self.push_opened(alloc, row, register, base, &mut shares[i])?;
@@ -105,7 +110,8 @@ impl Parts {
         requires room { base + length self.now.arguments.items < 2 ^ 32 }
         requires marked { AreMarked marks.now }
         requires shares { symbols_of shares.old ≡ marks.now.symbols.items }
-        ensures { IfOk result (λ u. DealsRow self.now register base (coded_of row.now) shares.old shares.new) }
+        ensures { IfOk result
+            (λ u. DealsRow self.now register base (coded_of row.now) shares.old shares.new) }
     {
         let Some(symbol) = self.asked(&row.codes, register) else {
             return self.push_to_each(alloc, row, register, base, shares);
@@ -130,7 +136,8 @@ impl Parts {
         requires codes { All (λ row. All (IsCode self.now) row.codes.items) rows.now }
         requires room { base + length self.now.arguments.items < 2 ^ 32 }
         requires marked { AreMarked marks.now }
-        ensures { IfOk result (λ v. AreShares self.now register base marks.now.symbols.items (map coded_of rows.now) v.items) }
+        ensures { IfOk result (λ v. AreShares self.now register base marks.now.symbols.items
+            (map coded_of rows.now) v.items) }
     {
         let mut shares = empty_shares(alloc, &marks.symbols)?;
         for row in rows {

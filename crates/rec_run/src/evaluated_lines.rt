@@ -1,6 +1,7 @@
 //! The lines of terms that an engine evaluates.
 
-ghost use Rattle.std.specs.Prelude.{◌≡◌, ◌≢◌, ◌<◌, ◌++◌, ℕ, Err, IfErr, IfOk, IsSome, OnErr, OnOk, [], codes, length};
+ghost use Rattle.std.specs.Prelude.{◌≡◌, ◌≢◌, ◌<◌, ◌++◌, ℕ, Err, IfErr, IfOk, IsSome, OnErr, OnOk};
+ghost use Rattle.std.specs.Prelude.{[], codes, length};
 ghost use Rattle.std.specs.Option.{ForSome};
 ghost use Rattle.std.specs.Io.KnownBytes.{Appends};
 ghost use Rattle.rx_term.specs.Steps.{Keeps, with_count};
@@ -132,8 +133,10 @@ fn engine_over<B: TermBank + Drop>(
     requires unrooted { (t : ℕ) → (B.store bank).roots t ≡ 0 }
     requires given { ForSome list (HoldsTerms checked.spec (B.store bank)) }
     ensures spec { IfOk result (λ e. e.spec ≡ checked.spec) }
-    ensures protected { IfOk result (λ e. ForSome list (ProtectsTerms checked.spec (B.store e.bank))) }
-    ensures terms { IfOk result (λ e. given_by (B.store e.bank) list ≡ given_by (B.store bank) list) }
+    ensures protected { IfOk result
+        (λ e. ForSome list (ProtectsTerms checked.spec (B.store e.bank))) }
+    ensures terms { IfOk result
+        (λ e. given_by (B.store e.bank) list ≡ given_by (B.store bank) list) }
     ensures cap { IfOk result (λ e. (B.store e.bank).cap ≡ (B.store bank).cap) }
     ensures fault { IfErr result (λ fault. fault ≡ RunFault.Memory 0) }
 {
@@ -173,9 +176,11 @@ fn write_all<B: TermBank, W: Write>(
 ) -> Result<(), RunFault>
     requires { ForSome list (ProtectsTerms engine.old.spec (B.store engine.old.bank)) }
     ensures ok { OnOk result (Appends (W.contents out.old) (W.contents out.new)
-        (lines engine.old.spec (given_by (B.store engine.old.bank) list) options.count options.steps)) }
+        (lines engine.old.spec (given_by (B.store engine.old.bank) list) options.count
+        options.steps)) }
     ensures err { IfErr result (λ fault. Stops fault
-        (lines engine.old.spec (given_by (B.store engine.old.bank) list) options.count options.steps)
+        (lines engine.old.spec (given_by (B.store engine.old.bank) list)
+        options.count options.steps)
         (W.contents out.old) (W.contents out.new)) }
     ensures room { IfErr result (RoomFits (B.store engine.old.bank).cap) }
 {
@@ -197,7 +202,8 @@ fn write_own_lines<B: TermBank, W: Write>(
     ensures keeps { Keeps (B.store engine.old.bank) (B.store engine.new.bank) [] }
     ensures ok { OnOk result (Appends (W.contents out.old) (W.contents out.new)
         (lines engine.old.spec [] options.count options.steps)) }
-    ensures err { IfErr result (λ fault. Stops fault (lines engine.old.spec [] options.count options.steps)
+    ensures err { IfErr result
+        (λ fault. Stops fault (lines engine.old.spec [] options.count options.steps)
         (W.contents out.old) (W.contents out.new)) }
     ensures room { IfErr result (RoomFits (B.store engine.old.bank).cap) }
 {
@@ -242,9 +248,11 @@ fn write_given_lines<B: TermBank, W: Write>(
 ) -> Result<(), RunFault>
     requires { ProtectsTerms engine.old.spec (B.store engine.old.bank) list }
     ensures ok { OnOk result (Appends (W.contents out.old) (W.contents out.new)
-        (given_lines engine.old.spec options.count options.steps (given_at (B.store engine.old.bank) list))) }
+        (given_lines engine.old.spec options.count options.steps
+        (given_at (B.store engine.old.bank) list))) }
     ensures err { IfErr result (λ fault. StopsAfter (length engine.old.spec.terms) fault
-        (given_lines engine.old.spec options.count options.steps (given_at (B.store engine.old.bank) list))
+        (given_lines engine.old.spec options.count options.steps
+        (given_at (B.store engine.old.bank) list))
         (W.contents out.old) (W.contents out.new)) }
     ensures room { IfErr result (RoomFits (B.store engine.old.bank).cap) }
 {
@@ -277,9 +285,11 @@ fn write_line<B: TermBank, W: Write>(
     ensures same { SameEngine engine.old engine.new }
     ensures keeps { Keeps (B.store engine.old.bank) (B.store engine.new.bank) [] }
     ensures ok { OnOk result (Appends (W.contents out.old) (W.contents out.new)
-        (given_text engine.old.spec options.count options.steps (item_at (B.store engine.old.bank) t) ++ codes "\n")) }
+        (given_text engine.old.spec options.count options.steps
+        (item_at (B.store engine.old.bank) t) ++ codes "\n")) }
     ensures err { IfErr result (λ fault. AppendsFront
-        (due_before fault (given_text engine.old.spec options.count options.steps (item_at (B.store engine.old.bank) t)))
+        (due_before fault (given_text engine.old.spec options.count options.steps
+        (item_at (B.store engine.old.bank) t)))
         (W.contents out.old) (W.contents out.new)) }
     ensures room { IfErr result (FillsBank (B.store engine.new.bank)) }
 {
@@ -300,7 +310,8 @@ fn write_outcome<B: TermBank, W: Write>(
     requires { HoldsValue (B.store bank.now) outcome }
     ensures ok { OnOk result (Appends (W.contents out.old) (W.contents out.new)
         (outcome_text (B.store bank.now) options.count options.steps outcome)) }
-    ensures err { OnErr result (AppendsFront (outcome_text (B.store bank.now) options.count options.steps outcome)
+    ensures err { OnErr result
+        (AppendsFront (outcome_text (B.store bank.now) options.count options.steps outcome)
         (W.contents out.old) (W.contents out.new)) }
     ensures no_room { Err LineFault.Room ≢ result }
 {

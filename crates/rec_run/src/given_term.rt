@@ -70,7 +70,8 @@ pub(crate) struct GivenTerm {
 
 /// Reads the text of a term into a bank of its own.
 pub(crate) fn read_term<R: Read>(alloc: Global, input: &mut R) -> Result<GivenTerm, RunFault>
-    ensures read { IfOk result (λ given. IsGiven (R.remaining input.old) (store_of given.bank) given.reading) }
+    ensures read { IfOk result
+        (λ given. IsGiven (R.remaining input.old) (store_of given.bank) given.reading) }
     ensures unrooted { IfOk result (λ given. (t : ℕ) → (store_of given.bank).roots t ≡ 0) }
     ensures out { OnOk result (IsReadOut (R.remaining input.old) (R.remaining input.new)) }
     ensures fault { IfErr result (StopsUnwritten 1073741824) }
@@ -99,7 +100,8 @@ pub(crate) fn parse<B: TermBank>(
     text: &[u8],
     bank: &mut B,
 ) -> Result<TermReading, RunFault>
-    ensures read { IfOk result (λ reading. (v : Verdict) × IsReadingOf (B.store bank.new) reading v × IsVerdict text.now v) }
+    ensures read { IfOk result (λ reading. (v : Verdict) × IsReadingOf (B.store bank.new) reading v
+        × IsVerdict text.now v) }
     ensures grows { Grows (B.store bank.old) (B.store bank.new) }
     ensures fault { IfErr result (RanOut (B.store bank.old).cap) }
 {

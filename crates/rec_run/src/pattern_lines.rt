@@ -1,6 +1,7 @@
 //! The lines of a run with a pattern.
 
-ghost use Rattle.std.specs.Prelude.{◌≡◌, ◌+◌, ◌++◌, ◌<◌, ◌^◌, IfErr, IfOk, IsSome, OnErr, OnOk, codes, flat_map};
+ghost use Rattle.std.specs.Prelude.{◌≡◌, ◌+◌, ◌++◌, ◌<◌, ◌^◌, IfErr, IfOk, IsSome, OnErr, OnOk};
+ghost use Rattle.std.specs.Prelude.{codes, flat_map};
 ghost use Rattle.std.specs.Io.KnownBytes.{Appends};
 ghost use Rattle.rx_term.specs.Store.{tree_at};
 ghost use Rattle.rx_term.specs.Walks.{AllHeld};
@@ -33,7 +34,8 @@ pub(crate) fn write_answer<B: TermBank, W: Write>(
     out: &mut W,
 ) -> Result<(), RunFault>
     requires { IsAnswerHeld (B.store bank.now) answer.now }
-    ensures ok { OnOk result (Appends (W.contents out.old) (W.contents out.new) (answer_due (B.store bank.now) answer.now).text) }
+    ensures ok { OnOk result (Appends (W.contents out.old) (W.contents out.new)
+        (answer_due (B.store bank.now) answer.now).text) }
     ensures err { IfErr result (λ fault. Stops fault (answer_due (B.store bank.now) answer.now).text
         (W.contents out.old) (W.contents out.new)) }
     ensures writing { IfErr result StopsWriting }
@@ -51,7 +53,8 @@ fn write_lines<B: TermBank, W: Write>(
     out: &mut W,
 ) -> Result<(), RunFault>
     requires { IsAnswerHeld (B.store bank.now) answer.now }
-    ensures ok { OnOk result (Appends (W.contents out.old) (W.contents out.new) (answer_due (B.store bank.now) answer.now).text) }
+    ensures ok { OnOk result (Appends (W.contents out.old) (W.contents out.new)
+        (answer_due (B.store bank.now) answer.now).text) }
     ensures err { IfErr result (λ fault. Stops fault (answer_due (B.store bank.now) answer.now).text
         (W.contents out.old) (W.contents out.new)) }
     ensures writing { IfErr result StopsWriting }
@@ -75,7 +78,8 @@ fn write_bindings<B: TermBank, W: Write>(
     requires { AllHeld (B.store bank.now) bindings.now }
     ensures ok { OnOk result (Appends (W.contents out.old) (W.contents out.new)
         (codes "yes\n" ++ flat_map (line_at (B.store bank.now)) bindings.now)) }
-    ensures err { IfErr result (λ fault. Stops fault (codes "yes\n" ++ flat_map (line_at (B.store bank.now)) bindings.now)
+    ensures err { IfErr result
+        (λ fault. Stops fault (codes "yes\n" ++ flat_map (line_at (B.store bank.now)) bindings.now)
         (W.contents out.old) (W.contents out.new)) }
     ensures writing { IfErr result StopsWriting }
 {
@@ -95,7 +99,8 @@ fn write_line<B: TermBank, W: Write>(
     out: &mut W,
 ) -> Result<(), RunFault>
     requires { IsSome (tree_at (B.store bank.now) t) }
-    ensures ok { OnOk result (Appends (W.contents out.old) (W.contents out.new) (line_at (B.store bank.now) t)) }
+    ensures ok { OnOk result
+        (Appends (W.contents out.old) (W.contents out.new) (line_at (B.store bank.now) t)) }
     ensures err { IfErr result (λ fault. StopsAfter lines fault (line_at (B.store bank.now) t)
         (W.contents out.old) (W.contents out.new)) }
     ensures writing { IfErr result StopsWriting }
@@ -111,8 +116,10 @@ fn write_line<B: TermBank, W: Write>(
 
 /// Writes the line of a refusal.
 fn write_refusal<W: Write>(refusal: Refusal, out: &mut W) -> Result<(), Stopped>
-    ensures ok { OnOk result (Appends (W.contents out.old) (W.contents out.new) (refusal_due refusal).text) }
-    ensures err { OnErr result (AppendsFront (refusal_due refusal).text (W.contents out.old) (W.contents out.new)) }
+    ensures ok { OnOk result
+        (Appends (W.contents out.old) (W.contents out.new) (refusal_due refusal).text) }
+    ensures err { OnErr result
+        (AppendsFront (refusal_due refusal).text (W.contents out.old) (W.contents out.new)) }
 {
     write_word(refusal.text, out)?;
     write_name(refusal.reason, out)?;
@@ -123,7 +130,8 @@ fn write_refusal<W: Write>(refusal: Refusal, out: &mut W) -> Result<(), Stopped>
 /// Writes how the line of a refusal begins.
 fn write_word<W: Write>(text: Source, out: &mut W) -> Result<(), Stopped>
     ensures ok { OnOk result (Appends (W.contents out.old) (W.contents out.new) (word_of text)) }
-    ensures err { OnErr result (AppendsFront (word_of text) (W.contents out.old) (W.contents out.new)) }
+    ensures err { OnErr result
+        (AppendsFront (word_of text) (W.contents out.old) (W.contents out.new)) }
 {
     match text {
         Source::Spec => put(out, b"!spec "),
@@ -137,7 +145,8 @@ fn write_word<W: Write>(text: Source, out: &mut W) -> Result<(), Stopped>
 /// Writes the name of a refusal.
 fn write_name<W: Write>(reason: Reason, out: &mut W) -> Result<(), Stopped>
     ensures ok { OnOk result (Appends (W.contents out.old) (W.contents out.new) (name_of reason)) }
-    ensures err { OnErr result (AppendsFront (name_of reason) (W.contents out.old) (W.contents out.new)) }
+    ensures err { OnErr result
+        (AppendsFront (name_of reason) (W.contents out.old) (W.contents out.new)) }
 {
     match reason {
         Reason::Long => put(out, b"L1"),

@@ -1,6 +1,7 @@
 //! Runs with a pattern: matching it with a term, and making a term from it.
 
-ghost use Rattle.std.specs.Prelude.{◌≡◌, ◌≢◌, List, option_map, Some, None, IfErr, IfOk, IfSome, IsSome, OnErr, OnOk};
+ghost use Rattle.std.specs.Prelude.{◌≡◌, ◌≢◌, List, option_map, Some, None, IfErr, IfOk, IfSome};
+ghost use Rattle.std.specs.Prelude.{IsSome, OnErr, OnOk};
 ghost use Rattle.std.specs.Option.{option_and_then};
 ghost use Rattle.rx_term.specs.Tree.{Tree, Trees, list_of, to_list};
 ghost use Rattle.rx_term.specs.Store.{tree_at};
@@ -49,8 +50,9 @@ pub(crate) enum PatternReading {
     Good(Pattern),
 }
 
-/// Reads a pattern and then the text of a term, writes `yes` and a line for each binding, or `no`, and flushes; or the line of a refusal.
-/// Where the pattern is refused nothing of the input is read; else what a fault leaves of the reader is open.
+/// Reads a pattern and then the text of a term, writes `yes` and a line for each binding, or `no`,
+/// and flushes; or the line of a refusal. Where the pattern is refused nothing of the input is
+/// read; else what a fault leaves of the reader is open.
 pub fn run_match<R: Read, W: Write>(
     alloc: Global,
     pattern: &[u8],
@@ -58,11 +60,14 @@ pub fn run_match<R: Read, W: Write>(
     out: &mut W,
 ) -> Result<Finish, RunFault>
     ensures output { IfOk result (λ finish. IfSome (R.remaining input.old)
-        (λ bytes. Ends (IsMatchDue pattern.now bytes) finish (W.contents out.old) (W.contents out.new))) }
+        (λ bytes. Ends (IsMatchDue pattern.now bytes) finish (W.contents out.old)
+        (W.contents out.new))) }
     ensures fault { IfErr result (λ fault. IfSome (R.remaining input.old)
-        (λ bytes. Breaks (IsMatchDue pattern.now bytes) fault (W.contents out.old) (W.contents out.new))) }
+        (λ bytes. Breaks (IsMatchDue pattern.now bytes) fault (W.contents out.old)
+        (W.contents out.new))) }
     ensures room { IfErr result (RoomFits 1073741824) }
-    ensures input_read { OnOk result ((p : Tree) → SpellsPattern pattern.now p → IsReadOut (R.remaining input.old) (R.remaining input.new)) }
+    ensures input_read { OnOk result ((p : Tree) → SpellsPattern pattern.now p
+        → IsReadOut (R.remaining input.old) (R.remaining input.new)) }
     ensures unread { IsNoPattern pattern.now → input.new ≡ input.old }
 {
     let mut place = None;
@@ -78,13 +83,17 @@ pub fn run_match_at<R: Read, W: Write>(
     place: &mut Option<Place>,
 ) -> Result<Finish, RunFault>
     ensures output { IfOk result (λ finish. IfSome (R.remaining input.old)
-        (λ bytes. Ends (IsMatchDue pattern.now bytes) finish (W.contents out.old) (W.contents out.new))) }
-    ensures place { OnOk result (IfSome (R.remaining input.old) (λ bytes. IsPlaced (IsMatchDue pattern.now bytes) place.new)) }
+        (λ bytes. Ends (IsMatchDue pattern.now bytes) finish (W.contents out.old)
+        (W.contents out.new))) }
+    ensures place { OnOk result (IfSome (R.remaining input.old)
+        (λ bytes. IsPlaced (IsMatchDue pattern.now bytes) place.new)) }
     ensures fault { IfErr result (λ fault. IfSome (R.remaining input.old)
-        (λ bytes. Breaks (IsMatchDue pattern.now bytes) fault (W.contents out.old) (W.contents out.new))) }
+        (λ bytes. Breaks (IsMatchDue pattern.now bytes) fault (W.contents out.old)
+        (W.contents out.new))) }
     ensures no_place { OnErr result (place.new ≡ None) }
     ensures room { IfErr result (RoomFits 1073741824) }
-    ensures input_read { OnOk result ((p : Tree) → SpellsPattern pattern.now p → IsReadOut (R.remaining input.old) (R.remaining input.new)) }
+    ensures input_read { OnOk result ((p : Tree) → SpellsPattern pattern.now p
+        → IsReadOut (R.remaining input.old) (R.remaining input.new)) }
     ensures unread { IsNoPattern pattern.now → input.new ≡ input.old }
 {
     *place = None;
@@ -95,16 +104,18 @@ pub fn run_match_at<R: Read, W: Write>(
     Ok(answer.finish())
 }
 
-/// Makes a tree from the texts of a pattern and of its arguments, writes its printed text and a line end, and flushes; or the line of a
-/// refusal.
+/// Makes a tree from the texts of a pattern and of its arguments, writes its printed text and a
+/// line end, and flushes; or the line of a refusal.
 pub fn run_make<W: Write>(
     alloc: Global,
     pattern: &[u8],
     args: &[u8],
     out: &mut W,
 ) -> Result<Finish, RunFault>
-    ensures output { IfOk result (λ finish. Ends (IsMakeDue pattern.now args.now) finish (W.contents out.old) (W.contents out.new)) }
-    ensures fault { IfErr result (λ fault. Breaks (IsMakeDue pattern.now args.now) fault (W.contents out.old) (W.contents out.new)) }
+    ensures output { IfOk result (λ finish.
+        Ends (IsMakeDue pattern.now args.now) finish (W.contents out.old) (W.contents out.new)) }
+    ensures fault { IfErr result (λ fault.
+        Breaks (IsMakeDue pattern.now args.now) fault (W.contents out.old) (W.contents out.new)) }
     ensures room { IfErr result (RoomFits 1073741824) }
     ensures no_reader { IfErr result (λ fault. fault ≢ RunFault.Read) }
 {
@@ -120,9 +131,11 @@ pub fn run_make_at<W: Write>(
     out: &mut W,
     place: &mut Option<Place>,
 ) -> Result<Finish, RunFault>
-    ensures output { IfOk result (λ finish. Ends (IsMakeDue pattern.now args.now) finish (W.contents out.old) (W.contents out.new)) }
+    ensures output { IfOk result (λ finish.
+        Ends (IsMakeDue pattern.now args.now) finish (W.contents out.old) (W.contents out.new)) }
     ensures place { OnOk result (IsPlaced (IsMakeDue pattern.now args.now) place.new) }
-    ensures fault { IfErr result (λ fault. Breaks (IsMakeDue pattern.now args.now) fault (W.contents out.old) (W.contents out.new)) }
+    ensures fault { IfErr result (λ fault.
+        Breaks (IsMakeDue pattern.now args.now) fault (W.contents out.old) (W.contents out.new)) }
     ensures no_place { OnErr result (place.new ≡ None) }
     ensures room { IfErr result (RoomFits 1073741824) }
     ensures no_reader { IfErr result (λ fault. fault ≢ RunFault.Read) }
@@ -146,7 +159,8 @@ fn match_texts<B: TermBank, R: Read>(
         (λ bytes. IsMatchDue pattern.now bytes (answer_due (B.store bank.new) answer))) }
     ensures held { IfOk result (λ answer. IsAnswerHeld (B.store bank.new) answer) }
     ensures fault { IfErr result (StopsUnwritten (B.store bank.old).cap) }
-    ensures input_read { OnOk result ((p : Tree) → SpellsPattern pattern.now p → IsReadOut (R.remaining input.old) (R.remaining input.new)) }
+    ensures input_read { OnOk result ((p : Tree) → SpellsPattern pattern.now p
+        → IsReadOut (R.remaining input.old) (R.remaining input.new)) }
     ensures unread { IsNoPattern pattern.now → input.new ≡ input.old }
 {
     match read_pattern(alloc, pattern, bank)? {
@@ -163,7 +177,8 @@ fn match_input<B: TermBank, R: Read>(
     bank: &mut B,
 ) -> Result<Answer, RunFault>
     ensures due { IfOk result (λ answer. IfSome (R.remaining input.old) (λ bytes. (v : Verdict) ×
-        (IsVerdict bytes v × (answer_due (B.store bank.new) answer ≡ due_of (λ t. match_lines (matching pattern.now t)) v)))) }
+        (IsVerdict bytes v × (answer_due (B.store bank.new) answer ≡ due_of
+        (λ t. match_lines (matching pattern.now t)) v)))) }
     ensures input_read { OnOk result (IsReadOut (R.remaining input.old) (R.remaining input.new)) }
     ensures held { IfOk result (λ answer. IsAnswerHeld (B.store bank.new) answer) }
     ensures fault { IfErr result (StopsUnwritten (B.store bank.old).cap) }
@@ -204,7 +219,8 @@ fn make_of_texts<B: TermBank>(
     args: &[u8],
     bank: &mut B,
 ) -> Result<Answer, RunFault>
-    ensures due { IfOk result (λ answer. IsMakeDue pattern.now args.now (answer_due (B.store bank.new) answer)) }
+    ensures due { IfOk result
+        (λ answer. IsMakeDue pattern.now args.now (answer_due (B.store bank.new) answer)) }
     ensures held { IfOk result (λ answer. IsAnswerHeld (B.store bank.new) answer) }
     ensures fault { IfErr result (RanOut (B.store bank.old).cap) }
 {
@@ -221,7 +237,8 @@ fn make_of_text<B: TermBank>(
     args: &[u8],
     bank: &mut B,
 ) -> Result<Answer, RunFault>
-    ensures due { IfOk result (λ answer. (v : Verdict) × (IsVerdict args.now v × (answer_due (B.store bank.new) answer ≡ due_of_args pattern.now v))) }
+    ensures due { IfOk result (λ answer. (v : Verdict) × (IsVerdict args.now v
+        × (answer_due (B.store bank.new) answer ≡ due_of_args pattern.now v))) }
     ensures held { IfOk result (λ answer. IsAnswerHeld (B.store bank.new) answer) }
     ensures fault { IfErr result (RanOut (B.store bank.old).cap) }
 {
@@ -258,7 +275,8 @@ fn make_of_elements<B: TermBank>(
     bank: &mut B,
 ) -> Result<Answer, RunFault>
     requires { AllHeld (B.store bank.old) args.now }
-    ensures due { IfOk result (λ answer. (ts : List Tree) → HaveTrees (B.store bank.old) args.now ts →
+    ensures due { IfOk result
+        (λ answer. (ts : List Tree) → HaveTrees (B.store bank.old) args.now ts →
         answer_due (B.store bank.new) answer ≡ made_due (filling pattern.now ts)) }
     ensures held { IfOk result (λ answer. IsAnswerHeld (B.store bank.new) answer) }
     ensures fault { IfErr result (RanOut (B.store bank.old).cap) }
@@ -289,7 +307,8 @@ pub(crate) fn elements_of<B: TermBank>(
     t: Term,
 ) -> Result<Option<Vec<Term>>, AllocError>
     requires { IsSome (tree_at (B.store bank.now) t) }
-    ensures { IfOk result (λ found. HasElements (B.store bank.now) (option_and_then elements (tree_at (B.store bank.now) t))
+    ensures { IfOk result (λ found.
+        HasElements (B.store bank.now) (option_and_then elements (tree_at (B.store bank.now) t))
         (option_map (λ v. v.items) found)) }
 {
     if bank.anns(t).is_some() {
@@ -304,7 +323,8 @@ pub(crate) fn elements_of<B: TermBank>(
 /// References of the items of a list without annotations.
 fn items_of<B: TermBank>(alloc: Global, bank: &B, list: Term) -> Result<Vec<Term>, AllocError>
     requires { (ts : Trees) × (tree_at (B.store bank.now) list ≡ Some (list_of ts)) }
-    ensures { IfOk result (λ found. (ts : Trees) → tree_at (B.store bank.now) list ≡ Some (list_of ts) →
+    ensures { IfOk result
+        (λ found. (ts : Trees) → tree_at (B.store bank.now) list ≡ Some (list_of ts) →
         HaveTrees (B.store bank.now) found.items (to_list ts)) }
 {
     let mut found = Vec::new(alloc);
@@ -338,7 +358,8 @@ pub(crate) fn read_pattern<B: TermBank>(
 /// The pattern that a term of the bank is.
 fn pattern_of<B: TermBank>(alloc: Global, bank: &B, t: Term) -> Result<PatternReading, RunFault>
     requires { IsSome (tree_at (B.store bank.now) t) }
-    ensures read { IfOk result (λ reading. (u : Tree) → tree_at (B.store bank.now) t ≡ Some u → IsPatternOf u reading) }
+    ensures read { IfOk result
+        (λ reading. (u : Tree) → tree_at (B.store bank.now) t ≡ Some u → IsPatternOf u reading) }
     ensures fault { IfErr result (λ fault. fault ≡ RunFault.Memory 0) }
 {
     let reason = match Pattern::of(alloc, bank, t) {

@@ -42,11 +42,13 @@ impl From<AllocError> for RunFault {
     }
 }
 
-/// The first given term that alone breaks the rule by which a text of terms is refused, by how many stand before it.
-/// None where there is no such rule, or it asks for a list.
+/// The first given term that alone breaks the rule by which a text of terms is refused, by how many
+/// stand before it. None where there is no such rule, or it asks for a list.
 pub fn refused_term(alloc: Global, spec: &[u8], terms: &[u8]) -> Result<Option<usize>, RunFault>
-    ensures first { IfOk result (λ found. (y : Spec) (v : Verdict) → SpecVerdict spec.now (Good y) → IsVerdict terms.now v → found ≡ term_in y v) }
-    ensures none { IfOk result (λ found. (v : verdict.Verdict) → SpecVerdict spec.now v → IsRefusal v → found ≡ None) }
+    ensures first { IfOk result (λ found. (y : Spec) (v : Verdict) → SpecVerdict spec.now (Good y)
+        → IsVerdict terms.now v → found ≡ term_in y v) }
+    ensures none { IfOk result
+        (λ found. (v : verdict.Verdict) → SpecVerdict spec.now v → IsRefusal v → found ≡ None) }
 {
     match judge(alloc, spec)? {
         Reading::Refused(_) => Ok(None),
@@ -60,7 +62,8 @@ fn refused_term_for(
     checked: &Checked,
     terms: &[u8],
 ) -> Result<Option<usize>, RunFault>
-    ensures { IfOk result (λ found. (v : Verdict) → IsVerdict terms.now v → found ≡ term_in checked.now.spec v) }
+    ensures { IfOk result
+        (λ found. (v : Verdict) → IsVerdict terms.now v → found ≡ term_in checked.now.spec v) }
 {
     let mut bank = empty_bank(alloc, MOST_CELLS)?;
     match parse(alloc, terms, &mut bank)? {
@@ -69,13 +72,15 @@ fn refused_term_for(
     }
 }
 
-/// Why the arguments of a text do not go into a pattern. None where they do, and where another rule refuses one of the texts.
+/// Why the arguments of a text do not go into a pattern. None where they do, and where another rule
+/// refuses one of the texts.
 pub fn refused_argument(
     alloc: Global,
     pattern: &[u8],
     args: &[u8],
 ) -> Result<Option<Misfit>, RunFault>
-    ensures first { IfOk result (λ found. (p : Tree) (v : Verdict) → SpellsPattern pattern.now p → IsVerdict args.now v → found ≡ misfit_in p v) }
+    ensures first { IfOk result (λ found. (p : Tree) (v : Verdict) → SpellsPattern pattern.now p
+        → IsVerdict args.now v → found ≡ misfit_in p v) }
     ensures none { IfOk result (λ found. IsNoPattern pattern.now → found ≡ None) }
 {
     let mut bank = empty_bank(alloc, MOST_CELLS)?;
@@ -92,7 +97,8 @@ fn misfit_of_text<B: TermBank>(
     args: &[u8],
     bank: &mut B,
 ) -> Result<Option<Misfit>, RunFault>
-    ensures { IfOk result (λ found. (v : Verdict) → IsVerdict args.now v → found ≡ misfit_in pattern.now v) }
+    ensures { IfOk result
+        (λ found. (v : Verdict) → IsVerdict args.now v → found ≡ misfit_in pattern.now v) }
 {
     match parse(alloc, args, bank)? {
         TermReading::Refused(_) => Ok(None),
@@ -108,7 +114,8 @@ fn misfit_of_term<B: TermBank>(
     bank: &mut B,
 ) -> Result<Option<Misfit>, RunFault>
     requires { IsSome (tree_at (B.store bank.old) t) }
-    ensures { IfOk result (λ found. (u : Tree) → tree_at (B.store bank.old) t ≡ Some u → found ≡ misfit_among pattern.now (elements u)) }
+    ensures { IfOk result (λ found. (u : Tree) → tree_at (B.store bank.old) t ≡ Some u
+        → found ≡ misfit_among pattern.now (elements u)) }
 {
     match elements_of(alloc, bank, t)? {
         None => Ok(None),
@@ -123,7 +130,8 @@ fn misfit_of_elements<B: TermBank>(
     bank: &mut B,
 ) -> Result<Option<Misfit>, RunFault>
     requires { AllHeld (B.store bank.old) args.now }
-    ensures { IfOk result (λ found. (ts : List Tree) → HaveTrees (B.store bank.old) args.now ts → found ≡ misfit_of pattern.now ts) }
+    ensures { IfOk result (λ found. (ts : List Tree) → HaveTrees (B.store bank.old) args.now ts
+        → found ≡ misfit_of pattern.now ts) }
 {
     match pattern.make(bank, args) {
         Ok(_) => Ok(None),

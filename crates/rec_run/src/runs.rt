@@ -51,8 +51,9 @@ impl From<Stopped> for RunFault {
     }
 }
 
-/// Reads a specification and, where it is good and terms are given, their text; writes a line for each term of both, and flushes; or the line of a refusal.
-/// A fault while a text is read has written nothing. What a fault leaves of the readers is open.
+/// Reads a specification and, where it is good and terms are given, their text; writes a line for
+/// each term of both, and flushes; or the line of a refusal. A fault while a text is read has
+/// written nothing. What a fault leaves of the readers is open.
 pub fn run<R: Read, T: Read, W: Write>(
     alloc: Global,
     spec: &mut R,
@@ -60,15 +61,22 @@ pub fn run<R: Read, T: Read, W: Write>(
     out: &mut W,
     options: RunOptions,
 ) -> Result<Finish, RunFault>
-    ensures output { IfOk result (λ finish. IfSome (told (R.remaining spec.old) (told_terms T.remaining terms.entry))
-        (λ texts. Gives texts.spec texts.terms options.count options.steps finish (W.contents out.old) (W.contents out.new))) }
-    ensures fault { IfErr result (λ fault. IfSome (told (R.remaining spec.old) (told_terms T.remaining terms.entry))
-        (λ texts. Leaves texts.spec texts.terms options.count options.steps fault (W.contents out.old) (W.contents out.new))) }
+    ensures output { IfOk result
+        (λ finish. IfSome (told (R.remaining spec.old) (told_terms T.remaining terms.entry))
+        (λ texts. Gives texts.spec texts.terms options.count options.steps finish
+        (W.contents out.old) (W.contents out.new))) }
+    ensures fault { IfErr result
+        (λ fault. IfSome (told (R.remaining spec.old) (told_terms T.remaining terms.entry))
+        (λ texts. Leaves texts.spec texts.terms options.count options.steps fault
+        (W.contents out.old) (W.contents out.new))) }
     ensures room { IfErr result (RoomFits options.cells) }
     ensures spec_read { OnOk result (IsReadOut (R.remaining spec.old) (R.remaining spec.new)) }
-    ensures terms_read { OnOk result (IfSome (R.remaining spec.old) (λ bytes. (y : Spec) → SpecVerdict bytes (Good y) →
-        Leads (λ old new. IsReadOut (T.remaining old) (T.remaining new)) (λ f. f.0.now) terms.exit (option_copied_mut terms.entry))) }
-    ensures unread { IfSome (R.remaining spec.old) (λ bytes. (v : Verdict) → SpecVerdict bytes v → IsRefusal v →
+    ensures terms_read { OnOk result
+        (IfSome (R.remaining spec.old) (λ bytes. (y : Spec) → SpecVerdict bytes (Good y) →
+        Leads (λ old new. IsReadOut (T.remaining old) (T.remaining new))
+        (λ f. f.0.now) terms.exit (option_copied_mut terms.entry))) }
+    ensures unread { IfSome (R.remaining spec.old)
+        (λ bytes. (v : Verdict) → SpecVerdict bytes v → IsRefusal v →
         Stays (λ f. f.0.now) terms.exit (option_copied_mut terms.entry)) }
 {
     let mut place = None;
@@ -87,18 +95,26 @@ pub fn run_at<R: Read, T: Read, W: Write>(
     options: RunOptions,
     place: &mut Option<Place>,
 ) -> Result<Finish, RunFault>
-    ensures output { IfOk result (λ finish. IfSome (told (R.remaining spec.old) (told_terms T.remaining terms.entry))
-        (λ texts. Gives texts.spec texts.terms options.count options.steps finish (W.contents out.old) (W.contents out.new))) }
-    ensures place { OnOk result (IfSome (told (R.remaining spec.old) (told_terms T.remaining terms.entry))
+    ensures output { IfOk result
+        (λ finish. IfSome (told (R.remaining spec.old) (told_terms T.remaining terms.entry))
+        (λ texts. Gives texts.spec texts.terms options.count options.steps finish
+        (W.contents out.old) (W.contents out.new))) }
+    ensures place { OnOk result
+        (IfSome (told (R.remaining spec.old) (told_terms T.remaining terms.entry))
         (λ texts. HasPlace texts.spec texts.terms options.count options.steps place.new)) }
-    ensures fault { IfErr result (λ fault. IfSome (told (R.remaining spec.old) (told_terms T.remaining terms.entry))
-        (λ texts. Leaves texts.spec texts.terms options.count options.steps fault (W.contents out.old) (W.contents out.new))) }
+    ensures fault { IfErr result
+        (λ fault. IfSome (told (R.remaining spec.old) (told_terms T.remaining terms.entry))
+        (λ texts. Leaves texts.spec texts.terms options.count options.steps fault
+        (W.contents out.old) (W.contents out.new))) }
     ensures room { IfErr result (RoomFits options.cells) }
     ensures no_place { OnErr result (place.new ≡ None) }
     ensures spec_read { OnOk result (IsReadOut (R.remaining spec.old) (R.remaining spec.new)) }
-    ensures terms_read { OnOk result (IfSome (R.remaining spec.old) (λ bytes. (y : Spec) → SpecVerdict bytes (Good y) →
-        Leads (λ old new. IsReadOut (T.remaining old) (T.remaining new)) (λ f. f.0.now) terms.exit (option_copied_mut terms.entry))) }
-    ensures unread { IfSome (R.remaining spec.old) (λ bytes. (v : Verdict) → SpecVerdict bytes v → IsRefusal v →
+    ensures terms_read { OnOk result
+        (IfSome (R.remaining spec.old) (λ bytes. (y : Spec) → SpecVerdict bytes (Good y) →
+        Leads (λ old new. IsReadOut (T.remaining old) (T.remaining new))
+        (λ f. f.0.now) terms.exit (option_copied_mut terms.entry))) }
+    ensures unread { IfSome (R.remaining spec.old)
+        (λ bytes. (v : Verdict) → SpecVerdict bytes v → IsRefusal v →
         Stays (λ f. f.0.now) terms.exit (option_copied_mut terms.entry)) }
 {
     match terms {
@@ -116,11 +132,13 @@ fn run_alone<R: Read, W: Write>(
     place: &mut Option<Place>,
 ) -> Result<Finish, RunFault>
     ensures output { IfOk result (λ finish. IfSome (told (R.remaining spec.old) (Some None))
-        (λ texts. Gives texts.spec texts.terms options.count options.steps finish (W.contents out.old) (W.contents out.new))) }
+        (λ texts. Gives texts.spec texts.terms options.count options.steps finish
+        (W.contents out.old) (W.contents out.new))) }
     ensures place { OnOk result (IfSome (told (R.remaining spec.old) (Some None))
         (λ texts. HasPlace texts.spec texts.terms options.count options.steps place.new)) }
     ensures fault { IfErr result (λ fault. IfSome (told (R.remaining spec.old) (Some None))
-        (λ texts. Leaves texts.spec texts.terms options.count options.steps fault (W.contents out.old) (W.contents out.new))) }
+        (λ texts. Leaves texts.spec texts.terms options.count options.steps fault
+        (W.contents out.old) (W.contents out.new))) }
     ensures room { IfErr result (RoomFits options.cells) }
     ensures no_place { OnErr result (place.new ≡ None) }
     ensures spec_read { OnOk result (IsReadOut (R.remaining spec.old) (R.remaining spec.new)) }
@@ -143,17 +161,23 @@ fn run_beside<R: Read, T: Read, W: Write>(
     options: RunOptions,
     place: &mut Option<Place>,
 ) -> Result<Finish, RunFault>
-    ensures output { IfOk result (λ finish. IfSome (told (R.remaining spec.old) (option_map (λ bytes. Some bytes) (T.remaining terms.old)))
-        (λ texts. Gives texts.spec texts.terms options.count options.steps finish (W.contents out.old) (W.contents out.new))) }
-    ensures place { OnOk result (IfSome (told (R.remaining spec.old) (option_map (λ bytes. Some bytes) (T.remaining terms.old)))
+    ensures output { IfOk result (λ finish. IfSome
+        (told (R.remaining spec.old) (option_map (λ bytes. Some bytes) (T.remaining terms.old)))
+        (λ texts. Gives texts.spec texts.terms options.count options.steps finish
+        (W.contents out.old) (W.contents out.new))) }
+    ensures place { OnOk result (IfSome
+        (told (R.remaining spec.old) (option_map (λ bytes. Some bytes) (T.remaining terms.old)))
         (λ texts. HasPlace texts.spec texts.terms options.count options.steps place.new)) }
-    ensures fault { IfErr result (λ fault. IfSome (told (R.remaining spec.old) (option_map (λ bytes. Some bytes) (T.remaining terms.old)))
-        (λ texts. Leaves texts.spec texts.terms options.count options.steps fault (W.contents out.old) (W.contents out.new))) }
+    ensures fault { IfErr result (λ fault. IfSome
+        (told (R.remaining spec.old) (option_map (λ bytes. Some bytes) (T.remaining terms.old)))
+        (λ texts. Leaves texts.spec texts.terms options.count options.steps fault
+        (W.contents out.old) (W.contents out.new))) }
     ensures room { IfErr result (RoomFits options.cells) }
     ensures no_place { OnErr result (place.new ≡ None) }
     ensures spec_read { OnOk result (IsReadOut (R.remaining spec.old) (R.remaining spec.new)) }
     ensures terms_read { OnOk result (IfSome (R.remaining spec.old)
-        (λ bytes. (y : Spec) → SpecVerdict bytes (Good y) → IsReadOut (T.remaining terms.old) (T.remaining terms.new))) }
+        (λ bytes. (y : Spec) → SpecVerdict bytes (Good y)
+        → IsReadOut (T.remaining terms.old) (T.remaining terms.new))) }
     ensures unread { IfSome (R.remaining spec.old)
         (λ bytes. (v : Verdict) → SpecVerdict bytes v → IsRefusal v → terms.new ≡ terms.old) }
 {
@@ -176,7 +200,8 @@ fn write_due<W: Write>(
     requires { IsReady options.cells reading }
     ensures ok { OnOk result (Appends (W.contents out.old) (W.contents out.new)
         (run_due options.count options.steps reading).text) }
-    ensures err { IfErr result (λ fault. Stops fault (run_due options.count options.steps reading).text
+    ensures err { IfErr result
+        (λ fault. Stops fault (run_due options.count options.steps reading).text
         (W.contents out.old) (W.contents out.new)) }
     ensures room { IfErr result (RoomFits options.cells) }
 {
@@ -195,7 +220,8 @@ fn write_reading<W: Write>(
     requires { IsReady options.cells reading }
     ensures ok { OnOk result (Appends (W.contents out.old) (W.contents out.new)
         (run_due options.count options.steps reading).text) }
-    ensures err { IfErr result (λ fault. Stops fault (run_due options.count options.steps reading).text
+    ensures err { IfErr result
+        (λ fault. Stops fault (run_due options.count options.steps reading).text
         (W.contents out.old) (W.contents out.new)) }
     ensures room { IfErr result (RoomFits options.cells) }
 {

@@ -1,6 +1,7 @@
 //! Runs on the text of one term: printing it, and counting its different parts.
 
-ghost use Rattle.std.specs.Prelude.{◌≡◌, ℕ, ◌++◌, None, IfErr, IfOk, IfSome, IsSome, OnErr, OnOk, decimal, codes};
+ghost use Rattle.std.specs.Prelude.{◌≡◌, ℕ, ◌++◌, None, IfErr, IfOk, IfSome, IsSome, OnErr, OnOk};
+ghost use Rattle.std.specs.Prelude.{decimal, codes};
 ghost use Rattle.std.specs.Io.KnownBytes.{Appends, Keeps};
 ghost use Rattle.rx_term.specs.Parts.{part_count};
 ghost use Rattle.rx_term.specs.Store.{tree_at};
@@ -30,7 +31,8 @@ use rx_text::WriteFault;
 use std::alloc::Global;
 use std::io::{Read, Write};
 
-/// Reads the text of a term, writes its printed text and a line end, and flushes; or the line of its refusal. What a fault leaves of the reader is open.
+/// Reads the text of a term, writes its printed text and a line end, and flushes; or the line of
+/// its refusal. What a fault leaves of the reader is open.
 pub fn run_aterm<R: Read, W: Write>(
     alloc: Global,
     input: &mut R,
@@ -56,7 +58,8 @@ pub fn run_aterm_at<R: Read, W: Write>(
 ) -> Result<Finish, RunFault>
     ensures output { IfOk result (λ finish. IfSome (R.remaining input.old)
         (λ bytes. Ends (IsTermDue bytes) finish (W.contents out.old) (W.contents out.new))) }
-    ensures place { OnOk result (IfSome (R.remaining input.old) (λ bytes. IsPlaced (IsTermDue bytes) place.new)) }
+    ensures place { OnOk result
+        (IfSome (R.remaining input.old) (λ bytes. IsPlaced (IsTermDue bytes) place.new)) }
     ensures fault { IfErr result (λ fault. IfSome (R.remaining input.old)
         (λ bytes. Breaks (IsTermDue bytes) fault (W.contents out.old) (W.contents out.new))) }
     ensures no_place { OnErr result (place.new ≡ None) }
@@ -70,7 +73,8 @@ pub fn run_aterm_at<R: Read, W: Write>(
     Ok(given.reading.finish())
 }
 
-/// Reads the text of a term, writes its printed text and how many cells it takes, each with a line end, and flushes; or the line of its refusal. What a fault leaves of the reader is open.
+/// Reads the text of a term, writes its printed text and how many cells it takes, each with a line
+/// end, and flushes; or the line of its refusal. What a fault leaves of the reader is open.
 pub fn run_share<R: Read, W: Write>(
     alloc: Global,
     input: &mut R,
@@ -96,7 +100,8 @@ pub fn run_share_at<R: Read, W: Write>(
 ) -> Result<Finish, RunFault>
     ensures output { IfOk result (λ finish. IfSome (R.remaining input.old)
         (λ bytes. Ends (IsShareDue bytes) finish (W.contents out.old) (W.contents out.new))) }
-    ensures place { OnOk result (IfSome (R.remaining input.old) (λ bytes. IsPlaced (IsShareDue bytes) place.new)) }
+    ensures place { OnOk result
+        (IfSome (R.remaining input.old) (λ bytes. IsPlaced (IsShareDue bytes) place.new)) }
     ensures fault { IfErr result (λ fault. IfSome (R.remaining input.old)
         (λ bytes. Breaks (IsShareDue bytes) fault (W.contents out.old) (W.contents out.new))) }
     ensures no_place { OnErr result (place.new ≡ None) }
@@ -121,7 +126,8 @@ fn write_term<B: TermBank, W: Write>(
     ensures ok { (v : Verdict) → IsReadingOf (B.store bank.now) reading v →
         OnOk result (Appends (W.contents out.old) (W.contents out.new) (due_of term_line v).text) }
     ensures err { (v : Verdict) → IsReadingOf (B.store bank.now) reading v →
-        IfErr result (λ fault. Stops fault (due_of term_line v).text (W.contents out.old) (W.contents out.new)) }
+        IfErr result (λ fault.
+        Stops fault (due_of term_line v).text (W.contents out.old) (W.contents out.new)) }
     ensures writing { IfErr result StopsWriting }
 {
     match reading {
@@ -142,9 +148,11 @@ fn write_share<B: TermBank, W: Write>(
     requires read { (v : Verdict) × IsReadingOf (B.store bank.old) reading v }
     requires unrooted { (t : ℕ) → (B.store bank.old).roots t ≡ 0 }
     ensures ok { (v : Verdict) → IsReadingOf (B.store bank.old) reading v →
-        OnOk result (Appends (W.contents out.old) (W.contents out.new) (due_of share_lines v).text) }
+        OnOk result (Appends (W.contents out.old) (W.contents out.new)
+        (due_of share_lines v).text) }
     ensures err { (v : Verdict) → IsReadingOf (B.store bank.old) reading v →
-        IfErr result (λ fault. Stops fault (due_of share_lines v).text (W.contents out.old) (W.contents out.new)) }
+        IfErr result (λ fault.
+        Stops fault (due_of share_lines v).text (W.contents out.old) (W.contents out.new)) }
     ensures writing { IfErr result StopsWriting }
 {
     match reading {
@@ -212,8 +220,10 @@ fn keep_alone<B: TermBank>(bank: &mut B, t: Term) -> u32
 
 /// Writes how many cells there are, and a line end.
 fn write_cells<W: Write>(cells: u32, out: &mut W) -> Result<(), Stopped>
-    ensures ok { OnOk result (Appends (W.contents out.old) (W.contents out.new) (cells_line cells)) }
-    ensures err { OnErr result (AppendsFront (cells_line cells) (W.contents out.old) (W.contents out.new)) }
+    ensures ok { OnOk result
+        (Appends (W.contents out.old) (W.contents out.new) (cells_line cells)) }
+    ensures err { OnErr result
+        (AppendsFront (cells_line cells) (W.contents out.old) (W.contents out.new)) }
 {
     put_numbered(out, b"cells ", u64::from(cells))?;
     put(out, b"\n")?;
@@ -222,8 +232,10 @@ fn write_cells<W: Write>(cells: u32, out: &mut W) -> Result<(), Stopped>
 
 /// Writes the line of a refusal.
 fn write_refusal<W: Write>(refusal: TermRefusal, out: &mut W) -> Result<(), Stopped>
-    ensures ok { OnOk result (Appends (W.contents out.old) (W.contents out.new) (refusal_line refusal)) }
-    ensures err { OnErr result (AppendsFront (refusal_line refusal) (W.contents out.old) (W.contents out.new)) }
+    ensures ok { OnOk result
+        (Appends (W.contents out.old) (W.contents out.new) (refusal_line refusal)) }
+    ensures err { OnErr result
+        (AppendsFront (refusal_line refusal) (W.contents out.old) (W.contents out.new)) }
 {
     match refusal {
         TermRefusal::Long => put(out, b"!term L1\n"),

@@ -1,6 +1,7 @@
 //! Texts from readers and to writers.
 
-ghost use Rattle.std.specs.Prelude.{◌≡◌, ◌+◌, ◌-◌, ◌≤◌, ◌<◌, ◌^◌, List, ℕ, IfOk, OnOk, OnErr, IfSome, take, vec_len, length};
+ghost use Rattle.std.specs.Prelude.{◌≡◌, ◌+◌, ◌-◌, ◌≤◌, ◌<◌, ◌^◌, List, ℕ, IfOk, OnOk, OnErr};
+ghost use Rattle.std.specs.Prelude.{IfSome, take, vec_len, length};
 ghost use Rattle.std.specs.Io.{ReadsAtMost};
 ghost use Rattle.std.specs.Io.KnownBytes.{Appends, Consumes, ReadConsumes};
 ghost use Rattle.rx_text.specs.Written.{AppendsFront};
@@ -50,7 +51,8 @@ impl From<AllocError> for ReadFault {
 /// One read. Each error of the reader ends the text, also an interruption.
 fn read_piece<R: Read>(reader: &mut R, buffer: &mut [u8]) -> Result<usize, Unreadable>
     ensures bound { ReadsAtMost result buffer.new }
-    ensures bytes { ReadConsumes (R.remaining reader.old) (R.remaining reader.new) result buffer.new }
+    ensures bytes { ReadConsumes (R.remaining reader.old) (R.remaining reader.new)
+        result buffer.new }
 {
     match reader.read(buffer) {
         Ok(count) => Ok(count),
@@ -61,10 +63,12 @@ fn read_piece<R: Read>(reader: &mut R, buffer: &mut [u8]) -> Result<usize, Unrea
 /// Reads to the end, or one byte past the limit. Of a fault no more is said than that the bytes
 /// that the reader lost stood at its front.
 pub fn read_all<R: Read>(alloc: Global, reader: &mut R) -> Result<Vec<u8>, ReadFault>
-    ensures text { IfOk result (λ text. IfSome (R.remaining reader.old) (λ bytes. text.items ≡ take (LIMIT + 1) bytes)) }
+    ensures text { IfOk result
+        (λ text. IfSome (R.remaining reader.old) (λ bytes. text.items ≡ take (LIMIT + 1) bytes)) }
     ensures out { OnOk result (IsReadOut (R.remaining reader.old) (R.remaining reader.new)) }
     ensures within { IfOk result (λ text. vec_len text ≤ LIMIT + 1) }
-    ensures lost { OnErr result ((bytes : List ℕ) × Consumes (R.remaining reader.old) (R.remaining reader.new) bytes) }
+    ensures lost { OnErr result
+        ((bytes : List ℕ) × Consumes (R.remaining reader.old) (R.remaining reader.new) bytes) }
 {
     let mut text = Vec::new(alloc);
     let mut buffer = [0u8; 4096];

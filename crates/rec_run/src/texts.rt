@@ -1,6 +1,7 @@
 //! The texts of a run: a specification, and given terms.
 
-ghost use Rattle.std.specs.Prelude.{◌≡◌, ◌<◌, ◌≤◌, ℕ, List, IfOk, IfErr, IfSome, IsSome, None, OnOk, Some, option_map};
+ghost use Rattle.std.specs.Prelude.{◌≡◌, ◌<◌, ◌≤◌, ℕ, List, IfOk, IfErr, IfSome, IsSome, None};
+ghost use Rattle.std.specs.Prelude.{OnOk, Some, option_map};
 ghost use Rattle.rx_term.specs.Store.{tree_at};
 ghost use Rattle.rx_text.specs.Grammar.{Spells};
 ghost use Rattle.rx_shared.specs.State.{store_of};
@@ -107,7 +108,8 @@ pub(crate) fn read_alone<R: Read>(
     cells: u32,
 ) -> Result<RunReading, RunFault>
     requires { (0 < cells) × (cells ≤ 1073741824) }
-    ensures due { IfOk result (λ reading. IfSome (told (R.remaining spec.old) (Some None)) (λ texts. IsReadFrom texts reading)) }
+    ensures due { IfOk result (λ reading. IfSome (told (R.remaining spec.old) (Some None))
+        (λ texts. IsReadFrom texts reading)) }
     ensures ready { IfOk result (IsReady cells) }
     ensures out { OnOk result (IsReadOut (R.remaining spec.old) (R.remaining spec.new)) }
     ensures fault { IfErr result (StopsUnwritten cells) }
@@ -126,7 +128,8 @@ pub(crate) fn read_alone<R: Read>(
     }
 }
 
-/// Reads the text of a specification and, where it is good, that of the given terms, and judges both.
+/// Reads the text of a specification and, where it is good, that of the given terms, and judges
+/// both.
 pub(crate) fn read_both<R: Read, T: Read>(
     alloc: Global,
     spec: &mut R,
@@ -134,12 +137,14 @@ pub(crate) fn read_both<R: Read, T: Read>(
     cells: u32,
 ) -> Result<RunReading, RunFault>
     requires { (0 < cells) × (cells ≤ 1073741824) }
-    ensures due { IfOk result (λ reading. IfSome (told (R.remaining spec.old) (option_map (λ bytes. Some bytes) (T.remaining terms.old)))
+    ensures due { IfOk result (λ reading. IfSome
+        (told (R.remaining spec.old) (option_map (λ bytes. Some bytes) (T.remaining terms.old)))
         (λ texts. IsReadFrom texts reading)) }
     ensures ready { IfOk result (IsReady cells) }
     ensures out { OnOk result (IsReadOut (R.remaining spec.old) (R.remaining spec.new)) }
     ensures terms_out { OnOk result (IfSome (R.remaining spec.old)
-        (λ bytes. (y : Spec) → SpecVerdict bytes (Good y) → IsReadOut (T.remaining terms.old) (T.remaining terms.new))) }
+        (λ bytes. (y : Spec) → SpecVerdict bytes (Good y)
+        → IsReadOut (T.remaining terms.old) (T.remaining terms.new))) }
     ensures unread { IfSome (R.remaining spec.old)
         (λ bytes. (v : Verdict) → SpecVerdict bytes v → IsRefusal v → terms.new ≡ terms.old) }
     ensures fault { IfErr result (StopsUnwritten cells) }
@@ -167,9 +172,11 @@ fn read_after<T: Read>(
     cells: u32,
 ) -> Result<RunReading, RunFault>
     requires { (0 < cells) × (cells ≤ 1073741824) }
-    ensures due { IfOk result (λ reading. IfSome (T.remaining terms.old) (λ bytes. IsReadAs (verdict_of first) bytes reading)) }
+    ensures due { IfOk result (λ reading. IfSome (T.remaining terms.old)
+        (λ bytes. IsReadAs (verdict_of first) bytes reading)) }
     ensures ready { IfOk result (IsReady cells) }
-    ensures out { OnOk result (IsGood first → IsReadOut (T.remaining terms.old) (T.remaining terms.new)) }
+    ensures out { OnOk result
+        (IsGood first → IsReadOut (T.remaining terms.old) (T.remaining terms.new)) }
     ensures unread { IsRefusal (verdict_of first) → terms.new ≡ terms.old }
     ensures fault { IfErr result (StopsUnwritten cells) }
 {
@@ -187,7 +194,8 @@ fn read_terms<T: Read>(
     cells: u32,
 ) -> Result<RunReading, RunFault>
     requires { (0 < cells) × (cells ≤ 1073741824) }
-    ensures due { IfOk result (λ reading. IfSome (T.remaining terms.old) (λ bytes. IsReadFor checked.spec bytes reading)) }
+    ensures due { IfOk result (λ reading. IfSome (T.remaining terms.old)
+        (λ bytes. IsReadFor checked.spec bytes reading)) }
     ensures ready { IfOk result (IsReady cells) }
     ensures out { OnOk result (IsReadOut (T.remaining terms.old) (T.remaining terms.new)) }
     ensures fault { IfErr result (StopsUnwritten cells) }
@@ -236,7 +244,8 @@ fn judge_list(
     requires held { IsSome (tree_at (store_of bank) list) }
     requires unrooted { (t : ℕ) → (store_of bank).roots t ≡ 0 }
     ensures due { IfOk result (λ reading. IfSome (tree_at (store_of bank) list)
-        (λ t. (bytes : List ℕ) → Fits bytes → Spells bytes t → IsReadFor checked.spec bytes reading)) }
+        (λ t. (bytes : List ℕ) → Fits bytes → Spells bytes t
+        → IsReadFor checked.spec bytes reading)) }
     ensures ready { IfOk result (IsReady (store_of bank).cap) }
     ensures fault { IfErr result (λ fault. fault ≡ RunFault.Memory 0) }
 {

@@ -5,7 +5,8 @@ ghost use Rattle.rec_syntax.specs.Parts.{IsDeclaration, declaration_of};
 ghost use Rattle.rec_sorts.specs.Lookup.{symbols, names};
 ghost use Rattle.rec_sorts.specs.SpecRules.{fault};
 ghost use Rattle.rec_sorts.specs.SortFaults.{IsFault, first_place};
-ghost use Rattle.rec_sorts.specs.Numbering.{Pairwise, IsLetterRule, AreLetters, bytes_at, name_of, arity_of, variable_count};
+ghost use Rattle.rec_sorts.specs.Numbering.{Pairwise, IsLetterRule, AreLetters, bytes_at, name_of};
+ghost use Rattle.rec_sorts.specs.Numbering.{arity_of, variable_count};
 ghost use Rattle.rec_sorts.specs.declared.letters.Meaning.TheVariants.{Symbol};
 
 use crate::fault::SortFault;
@@ -112,7 +113,8 @@ impl Checked {
     /// The letters of the terms to evaluate.
     pub fn terms(&self) -> &[Vec<Letter>]
         ensures kept { fault self.now.spec ≡ None }
-        ensures letters { Pairwise (λ v t. AreLetters self.now.spec v.items t) result.now self.now.spec.terms }
+        ensures letters { Pairwise
+            (λ v t. AreLetters self.now.spec v.items t) result.now self.now.spec.terms }
     {
         &self.terms
     }
@@ -122,13 +124,15 @@ impl Checked {
 fn name_in<'a>(source: &'a [u8], declarations: &[Declaration], number: usize) -> &'a [u8]
     requires within { All (IsDeclaration source.now) declarations.now }
     requires number { number < length declarations.now }
-    ensures { result.now ≡ bytes_at (names (map (declaration_of source.now) declarations.now)) number }
+    ensures { result.now ≡ bytes_at
+        (names (map (declaration_of source.now) declarations.now)) number }
 {
     let name = declarations[number].name;
     &source[name.from..name.to]
 }
 
-// The least place at which each rule is broken, in their order, and the letters of the rules and terms.
+// The least place at which each rule is broken, in their order, and the letters of the rules and
+// terms.
 #[derive(Drop)]
 struct Examined {
     places: [Option<u32>; 11],
@@ -157,9 +161,12 @@ fn examine(alloc: Global, syntax: &Syntax) -> Result<Examined, AllocError>
     ensures constructors { IfOk result (λ e. e.constructors ≡ length syntax.now.spec.constructors) }
     ensures symbols { IfOk result (λ e. e.symbols ≡ length (symbols syntax.now.spec)) }
     ensures variables { IfOk result (λ e. e.variables ≡ variable_count syntax.now.spec) }
-    ensures arities { IfOk result (λ e. e.arities.items ≡ map (λ d. length d.arguments) (symbols syntax.now.spec)) }
-    ensures rules { IfOk result (λ e. fault syntax.now.spec ≡ None → Pairwise (IsLetterRule syntax.now.spec) e.rules.items syntax.now.spec.rules) }
-    ensures terms { IfOk result (λ e. fault syntax.now.spec ≡ None → Pairwise (λ v t. AreLetters syntax.now.spec v.items t) e.terms.items syntax.now.spec.terms) }
+    ensures arities { IfOk result
+        (λ e. e.arities.items ≡ map (λ d. length d.arguments) (symbols syntax.now.spec)) }
+    ensures rules { IfOk result (λ e. fault syntax.now.spec ≡ None
+        → Pairwise (IsLetterRule syntax.now.spec) e.rules.items syntax.now.spec.rules) }
+    ensures terms { IfOk result (λ e. fault syntax.now.spec ≡ None → Pairwise
+        (λ v t. AreLetters syntax.now.spec v.items t) e.terms.items syntax.now.spec.terms) }
 {
     let sorts = read_sorts(alloc, syntax)?;
     let declared = read_scope(alloc, syntax, &sorts.sorts)?;

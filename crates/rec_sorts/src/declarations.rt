@@ -1,7 +1,8 @@
 //! The declarations of a specification, and the four rules on them.
 
 ghost use Rattle.std.specs.Prelude.{◌≡◌, ◌+◌, ◌^◌, ◌<◌, [], All, IfOk, OnOk, None, length, map};
-ghost use Rattle.rec_syntax.specs.Parts.{Within, IsDeclaration, IsGroup, words_of, declaration_of, group_of};
+ghost use Rattle.rec_syntax.specs.Parts.{Within, IsDeclaration, IsGroup, words_of, declaration_of};
+ghost use Rattle.rec_syntax.specs.Parts.{group_of};
 ghost use Rattle.rec_syntax.specs.Lexemes.{word_of};
 ghost use Rattle.rec_sorts.specs.Names.{given_to, numbers_after, least_repeated};
 
@@ -36,8 +37,10 @@ pub fn number_words<'a>(
 ) -> Result<Option<u32>, AllocError>
     requires within { All (Within source.now) words.now }
     requires fits { first + length words.now < 2 ^ 64 }
-    ensures numbers { OnOk result (given_to names.new ≡ numbers_after (given_to names.old) first (words_of source.now words.now)) }
-    ensures repeated { IfOk result (λ r. r ≡ least_repeated (given_to names.old) first (words_of source.now words.now)) }
+    ensures numbers { OnOk result (given_to names.new ≡ numbers_after (given_to names.old) first
+        (words_of source.now words.now)) }
+    ensures repeated { IfOk result
+        (λ r. r ≡ least_repeated (given_to names.old) first (words_of source.now words.now)) }
 {
     let mut repeated = None;
     for (i, word) in words.iter().enumerate() {
@@ -54,8 +57,10 @@ impl<'a> Sorts<'a> {
     // The number of a sort, and the place of the word where there is none.
     fn find(&self, word: Span) -> Result<(Option<u32>, Option<u32>), AllocError>
         requires { Within self.now.source.now word }
-        ensures sort { IfOk result (λ r. r.0 ≡ given_to self.now.names (word_of self.now.source.now word).bytes) }
-        ensures missing { IfOk result (λ r. r.1 ≡ unnumbered (given_to self.now.names) (word_of self.now.source.now word)) }
+        ensures sort { IfOk result
+            (λ r. r.0 ≡ given_to self.now.names (word_of self.now.source.now word).bytes) }
+        ensures missing { IfOk result
+            (λ r. r.1 ≡ unnumbered (given_to self.now.names) (word_of self.now.source.now word)) }
     {
         let at = number(word.from)?;
         let sort = self.names.number(&self.source[word.from..word.to]);
@@ -69,8 +74,10 @@ impl<'a> Sorts<'a> {
         words: &[Span],
     ) -> Result<(Vec<Option<u32>>, Option<u32>), AllocError>
         requires { All (Within self.now.source.now) words.now }
-        ensures sorts { IfOk result (λ r. r.0.items ≡ sort_numbers (given_to self.now.names) (words_of self.now.source.now words.now)) }
-        ensures missing { IfOk result (λ r. r.1 ≡ least_unnumbered (given_to self.now.names) (words_of self.now.source.now words.now)) }
+        ensures sorts { IfOk result (λ r. r.0.items ≡ sort_numbers (given_to self.now.names)
+            (words_of self.now.source.now words.now)) }
+        ensures missing { IfOk result (λ r. r.1 ≡ least_unnumbered (given_to self.now.names)
+            (words_of self.now.source.now words.now)) }
     {
         let mut sorts = Vec::new(alloc);
         let mut unknown = None;
@@ -84,7 +91,8 @@ impl<'a> Sorts<'a> {
 }
 
 impl Declared {
-    ghost use Rattle.rec_sorts.specs.Declaring.{Adds, added_by_symbol, added_by_symbols, added_by_group, added_by_groups};
+    ghost use Rattle.rec_sorts.specs.Declaring.{Adds, added_by_symbol, added_by_symbols};
+    ghost use Rattle.rec_sorts.specs.Declaring.{added_by_group, added_by_groups};
 
     /// Nothing is declared.
     pub fn new(alloc: Global) -> Self
@@ -109,7 +117,9 @@ impl Declared {
         declaration: &Declaration,
     ) -> Result<(), AllocError>
         requires { IsDeclaration sorts.now.source.now declaration.now }
-        ensures { OnOk result (Adds sorts.now.source.now (given_to sorts.now.names) self.old self.new (added_by_symbol (given_to sorts.now.names) (declaration_of sorts.now.source.now declaration.now))) }
+        ensures { OnOk result (Adds sorts.now.source.now (given_to sorts.now.names) self.old
+            self.new (added_by_symbol (given_to sorts.now.names)
+            (declaration_of sorts.now.source.now declaration.now))) }
     {
         let (arguments, unknown) = sorts.find_all(alloc, declaration.arguments.as_slice())?;
         let (sort, missing) = sorts.find(declaration.sort)?;
@@ -128,7 +138,9 @@ impl Declared {
         declarations: &[Declaration],
     ) -> Result<(), AllocError>
         requires { All (IsDeclaration sorts.now.source.now) declarations.now }
-        ensures { OnOk result (Adds sorts.now.source.now (given_to sorts.now.names) self.old self.new (added_by_symbols (given_to sorts.now.names) (map (declaration_of sorts.now.source.now) declarations.now))) }
+        ensures { OnOk result (Adds sorts.now.source.now (given_to sorts.now.names) self.old
+            self.new (added_by_symbols (given_to sorts.now.names)
+            (map (declaration_of sorts.now.source.now) declarations.now))) }
     {
         for declaration in declarations {
             self.symbol(alloc, sorts, declaration)?;
@@ -139,7 +151,9 @@ impl Declared {
     // Variables of one sort.
     fn group(&mut self, sorts: &Sorts, group: &Group) -> Result<(), AllocError>
         requires { IsGroup sorts.now.source.now group.now }
-        ensures { OnOk result (Adds sorts.now.source.now (given_to sorts.now.names) self.old self.new (added_by_group (given_to sorts.now.names) (group_of sorts.now.source.now group.now))) }
+        ensures { OnOk result (Adds sorts.now.source.now (given_to sorts.now.names) self.old
+            self.new (added_by_group (given_to sorts.now.names)
+            (group_of sorts.now.source.now group.now))) }
     {
         let (sort, missing) = sorts.find(group.sort)?;
         self.unknown = earlier(self.unknown, missing);
@@ -155,7 +169,9 @@ impl Declared {
     /// Variables.
     pub fn groups(&mut self, sorts: &Sorts, groups: &[Group]) -> Result<(), AllocError>
         requires { All (IsGroup sorts.now.source.now) groups.now }
-        ensures { OnOk result (Adds sorts.now.source.now (given_to sorts.now.names) self.old self.new (added_by_groups (given_to sorts.now.names) (map (group_of sorts.now.source.now) groups.now))) }
+        ensures { OnOk result (Adds sorts.now.source.now (given_to sorts.now.names) self.old
+            self.new (added_by_groups (given_to sorts.now.names)
+            (map (group_of sorts.now.source.now) groups.now))) }
     {
         for group in groups {
             self.group(sorts, group)?;

@@ -5,7 +5,8 @@ use thiserror::Error;
 /// Why a specification is not accepted.
 #[derive(Debug, Drop, Error)]
 pub enum SortFault {
-    /// The first of the rules that is broken, by its number from 1, with the least place at which it is.
+    /// The first of the rules that is broken, by its number from 1, with the least place at which
+    /// it is.
     #[error("rule {number} is broken at {at}")]
     Rule { number: u8, at: u32 },
     #[error("out of memory")]

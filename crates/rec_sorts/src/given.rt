@@ -1,10 +1,12 @@
 //! The rules of given terms, and their letters.
 
-ghost use Rattle.std.specs.Prelude.{◌≡◌, None, Some, List, IsSome, IfSome, IfOk, IfErr, OnOk, is_some, length, map, reverse};
+ghost use Rattle.std.specs.Prelude.{◌≡◌, None, Some, List, IsSome, IfSome, IfOk, IfErr, OnOk};
+ghost use Rattle.std.specs.Prelude.{is_some, length, map, reverse};
 ghost use Rattle.std.specs.List.{list_any, position_from};
 ghost use Rattle.rx_term.specs.Tree.{Tree, count_of};
 ghost use Rattle.rx_term.specs.Store.{tree_at};
-ghost use Rattle.rec_sorts.specs.TermRules.{arguments, elements, is_no_application, is_annotated, broken_by_terms, broken_element};
+ghost use Rattle.rec_sorts.specs.TermRules.{arguments, elements, is_no_application, is_annotated};
+ghost use Rattle.rec_sorts.specs.TermRules.{broken_by_terms, broken_element};
 ghost use Rattle.rec_sorts.specs.TermsFaults.{IsTermsFault};
 ghost use Rattle.rec_sorts.specs.Evaluation.{term_of};
 ghost use Rattle.rec_sorts.specs.Numbering.{Pairwise, AreLetters};
@@ -44,7 +46,8 @@ fn is_plain_list<B: TermBank>(bank: &B, term: Term) -> bool
 // Whether some of these nodes is no application.
 fn any_no_application<B: TermBank>(bank: &B, nodes: &[Term]) -> bool
     requires { AreHeld (B.store bank.now) nodes.now }
-    ensures { result ≡ list_any (λ r. is_no_application (held_tree (B.store bank.now) r)) nodes.now }
+    ensures { result ≡ list_any
+        (λ r. is_no_application (held_tree (B.store bank.now) r)) nodes.now }
 {
     for node in nodes {
         let Kind::Appl(_) = bank.kind(*node) else {
@@ -79,7 +82,9 @@ fn argument_count<B: TermBank>(bank: &B, node: Term) -> u32
 }
 
 impl Scope<'_> {
-    ghost use Rattle.rec_sorts.specs.GivenTerms.{symbol_at, is_nameless, is_misfilled, are_misfits, has_misfit, node_letter, broken_by_nodes, is_broken_alone};
+    ghost use Rattle.rec_sorts.specs.GivenTerms.{symbol_at, is_nameless, is_misfilled, are_misfits};
+    ghost use Rattle.rec_sorts.specs.GivenTerms.{has_misfit, node_letter, broken_by_nodes};
+    ghost use Rattle.rec_sorts.specs.GivenTerms.{is_broken_alone};
 
     // The symbol that a node stands for: one of its name, which stands unquoted where it may.
     fn symbol<B: TermBank>(&self, bank: &B, node: Term) -> Option<Meaning>
@@ -102,7 +107,8 @@ impl Scope<'_> {
     // Whether some of these nodes stands for no symbol.
     fn any_nameless<B: TermBank>(&self, bank: &B, nodes: &[Term]) -> bool
         requires { AreHeld (B.store bank.now) nodes.now }
-        ensures { result ≡ list_any (λ r. is_nameless self.now (held_tree (B.store bank.now) r)) nodes.now }
+        ensures { result ≡ list_any
+            (λ r. is_nameless self.now (held_tree (B.store bank.now) r)) nodes.now }
     {
         for node in nodes {
             if self.symbol(bank, *node).is_none() {
@@ -125,7 +131,8 @@ impl Scope<'_> {
     // Whether some of these nodes has.
     fn any_misfilled<B: TermBank>(&self, bank: &B, nodes: &[Term]) -> bool
         requires { AreHeld (B.store bank.now) nodes.now }
-        ensures { result ≡ list_any (λ r. is_misfilled self.now (held_tree (B.store bank.now) r)) nodes.now }
+        ensures { result ≡ list_any
+            (λ r. is_misfilled self.now (held_tree (B.store bank.now) r)) nodes.now }
     {
         for node in nodes {
             if self.is_misfilled(bank, *node) {
@@ -159,7 +166,8 @@ impl Scope<'_> {
     // Whether some of these nodes has such an argument.
     fn any_misfit<B: TermBank>(&self, bank: &B, nodes: &[Term]) -> bool
         requires { AreHeld (B.store bank.now) nodes.now }
-        ensures { result ≡ list_any (λ r. has_misfit self.now (held_tree (B.store bank.now) r)) nodes.now }
+        ensures { result ≡ list_any
+            (λ r. has_misfit self.now (held_tree (B.store bank.now) r)) nodes.now }
     {
         for node in nodes {
             if self.has_misfit(bank, *node) {
@@ -188,7 +196,8 @@ impl Scope<'_> {
         term: Term,
     ) -> Result<Vec<Letter>, AllocError>
         requires { IsSome (tree_at (B.store bank.now) term) }
-        ensures { IfOk result (λ v. v.items ≡ reverse (map (node_letter self.now) (backwards (held_tree (B.store bank.now) term)))) }
+        ensures { IfOk result (λ v. v.items ≡ reverse
+            (map (node_letter self.now) (backwards (held_tree (B.store bank.now) term)))) }
     {
         let mut stack = Vec::new(alloc);
         stack.push(term)?;
@@ -201,11 +210,13 @@ impl Scope<'_> {
         Ok(letters)
     }
 
-    // The first of the rules 2 to 6 that some nodes break, of which the inner ones may not have annotations.
+    // The first of the rules 2 to 6 that some nodes break, of which the inner ones may not have
+    // annotations.
     fn first_broken<B: TermBank>(&self, bank: &B, all: &[Term], inner: &[Term]) -> Option<u8>
         requires all { AreHeld (B.store bank.now) all.now }
         requires inner { AreHeld (B.store bank.now) inner.now }
-        ensures { result ≡ broken_by_nodes self.now (held_trees (B.store bank.now) all.now) (held_trees (B.store bank.now) inner.now) }
+        ensures { result ≡ broken_by_nodes self.now (held_trees (B.store bank.now) all.now)
+            (held_trees (B.store bank.now) inner.now) }
     {
         if any_no_application(bank, all) {
             Some(2)
@@ -231,7 +242,8 @@ impl Scope<'_> {
         number: u8,
     ) -> Result<bool, AllocError>
         requires { IsSome (tree_at (B.store bank.now) term) }
-        ensures { IfOk result (λ r. r ≡ is_broken_alone self.now number (held_tree (B.store bank.now) term)) }
+        ensures { IfOk result
+            (λ r. r ≡ is_broken_alone self.now number (held_tree (B.store bank.now) term)) }
     {
         let mut terms = Vec::new(alloc);
         terms.push(term)?;
@@ -248,7 +260,8 @@ impl Scope<'_> {
         number: u8,
     ) -> Result<Option<usize>, AllocError>
         requires { AreHeld (B.store bank.now) terms.now }
-        ensures { IfOk result (λ r. r ≡ position_from (λ t. is_broken_alone self.now number (held_tree (B.store bank.now) t)) 0 terms.now) }
+        ensures { IfOk result (λ r. r ≡ position_from
+            (λ t. is_broken_alone self.now number (held_tree (B.store bank.now) t)) 0 terms.now) }
     {
         for (at, term) in terms.iter().enumerate() {
             if self.breaks_alone(alloc, bank, *term, number)? {
@@ -267,7 +280,8 @@ fn broken_rule<B: TermBank>(
     list: Term,
 ) -> Result<Option<u8>, AllocError>
     requires { IsSome (tree_at (B.store bank.now) list) }
-    ensures { IfOk result (λ r. r ≡ broken_by_terms checked.now.spec (held_tree (B.store bank.now) list)) }
+    ensures { IfOk result
+        (λ r. r ≡ broken_by_terms checked.now.spec (held_tree (B.store bank.now) list)) }
 {
     if !is_plain_list(bank, list) {
         return Ok(Some(1));
@@ -277,7 +291,8 @@ fn broken_rule<B: TermBank>(
     Ok(scope.first_broken(bank, &found.all, &found.inner))
 }
 
-/// Asks the six rules of a list of given terms. A fault names the first one that is broken, or says that memory ran out.
+/// Asks the six rules of a list of given terms. A fault names the first one that is broken, or says
+/// that memory ran out.
 pub fn check_terms<B: TermBank>(
     alloc: Global,
     checked: &Checked,
@@ -285,8 +300,10 @@ pub fn check_terms<B: TermBank>(
     list: Term,
 ) -> Result<(), TermsFault>
     requires { IsSome (tree_at (B.store bank.now) list) }
-    ensures kept { OnOk result (IfSome (tree_at (B.store bank.now) list) (λ t. broken_by_terms checked.now.spec t ≡ None)) }
-    ensures broken { IfErr result (λ fault. IfSome (tree_at (B.store bank.now) list) (λ t. IsTermsFault (broken_by_terms checked.now.spec t) fault)) }
+    ensures kept { OnOk result (IfSome (tree_at (B.store bank.now) list)
+        (λ t. broken_by_terms checked.now.spec t ≡ None)) }
+    ensures broken { IfErr result (λ fault. IfSome (tree_at (B.store bank.now) list)
+        (λ t. IsTermsFault (broken_by_terms checked.now.spec t) fault)) }
 {
     match broken_rule(alloc, checked, bank, list) {
         Ok(None) => Ok(()),
@@ -295,8 +312,8 @@ pub fn check_terms<B: TermBank>(
     }
 }
 
-/// The first given term that alone breaks the rule that the list breaks, by how many stand before it; none, where no rule is broken or the term
-/// is no list without annotations.
+/// The first given term that alone breaks the rule that the list breaks, by how many stand before
+/// it; none, where no rule is broken or the term is no list without annotations.
 pub fn broken_element<B: TermBank>(
     alloc: Global,
     checked: &Checked,
@@ -304,7 +321,8 @@ pub fn broken_element<B: TermBank>(
     list: Term,
 ) -> Result<Option<usize>, AllocError>
     requires { IsSome (tree_at (B.store bank.now) list) }
-    ensures { IfOk result (λ r. IfSome (tree_at (B.store bank.now) list) (λ t. r ≡ broken_element checked.now.spec t)) }
+    ensures { IfOk result (λ r. IfSome (tree_at (B.store bank.now) list)
+        (λ t. r ≡ broken_element checked.now.spec t)) }
 {
     if !is_plain_list(bank, list) {
         return Ok(None);
@@ -326,8 +344,10 @@ pub fn term_letters<B: TermBank>(
     list: Term,
 ) -> Result<Vec<Vec<Letter>>, AllocError>
     requires held { IsSome (tree_at (B.store bank.now) list) }
-    requires kept { IfSome (tree_at (B.store bank.now) list) (λ t. broken_by_terms checked.now.spec t ≡ None) }
-    ensures letters { IfOk result (λ v. (t : Tree) (ts : List Tree) → tree_at (B.store bank.now) list ≡ Some t → elements t ≡ Some ts →
+    requires kept { IfSome (tree_at (B.store bank.now) list)
+        (λ t. broken_by_terms checked.now.spec t ≡ None) }
+    ensures letters { IfOk result (λ v. (t : Tree) (ts : List Tree)
+        → tree_at (B.store bank.now) list ≡ Some t → elements t ≡ Some ts →
         Pairwise (λ ls u. AreLetters checked.now.spec ls.items (term_of u)) v.items ts) }
 {
     let scope = scope_of(alloc, checked.syntax())?;

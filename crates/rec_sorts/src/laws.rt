@@ -1,6 +1,8 @@
-//! What holds of binding, evaluation, rewriting and the rules of given terms, over the definitions alone.
+//! What holds of binding, evaluation, rewriting and the rules of given terms, over the definitions
+//! alone.
 
-ghost use Rattle.rec_sorts.specs.Laws.{BindingLaw, OneEvaluator, CostLaw, RewritingLaw, BuiltLaw, ElementLaw};
+ghost use Rattle.rec_sorts.specs.Laws.{BindingLaw, OneEvaluator, CostLaw, RewritingLaw, BuiltLaw};
+ghost use Rattle.rec_sorts.specs.Laws.{ElementLaw};
 
 /// A left side is made a tree by one substitution on its variables, or by none.
 pub fn binding_law()

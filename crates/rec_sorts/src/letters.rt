@@ -1,7 +1,7 @@
 //! Terms of a checked specification, with a number in place of each word.
 
-/// What a word of a term stands for: a symbol or a variable, by its number. Symbols are numbered from 0 in textual order, those of CONS and
-/// then those of OPNS; so are variables.
+/// What a word of a term stands for: a symbol or a variable, by its number. Symbols are numbered
+/// from 0 in textual order, those of CONS and then those of OPNS; so are variables.
 #[derive(Clone, Copy, Debug, Drop, PartialEq, Eq)]
 pub enum Meaning {
     Symbol(u32),
@@ -15,7 +15,8 @@ pub struct Letter {
     pub count: u32,
 }
 
-/// A condition's two terms, each as its letters: those of the arguments from left to right, and then the head's.
+/// A condition's two terms, each as its letters: those of the arguments from left to right, and
+/// then the head's.
 #[derive(Debug, Drop)]
 pub struct LetterCondition {
     pub left: Vec<Letter>,

@@ -1,6 +1,7 @@
 //! The symbols of a specification in a bank.
 
-ghost use Rattle.std.specs.Prelude.{◌≡◌, ◌≢◌, ◌<◌, List, Some, Err, IfOk, length, nat_eq, slice_get};
+ghost use Rattle.std.specs.Prelude.{◌≡◌, ◌≢◌, ◌<◌, List, Some, Err, IfOk, length, nat_eq};
+ghost use Rattle.std.specs.Prelude.{slice_get};
 ghost use Rattle.indexmap.specs.IndexMap.{get};
 ghost use Rattle.rx_term.specs.declared.Symbol.{Symbol};
 ghost use Rattle.rx_term.specs.declared.faults.BankFault.TheVariants.{Full};

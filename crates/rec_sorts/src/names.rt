@@ -33,7 +33,8 @@ impl<'a> Names<'a> {
     /// Gives a name this number, unless it has one already; answers whether it had none.
     pub fn give(&mut self, name: &'a [u8], number: u32) -> Result<bool, AllocError>
         ensures fresh { IfOk result (λ fresh. fresh ≡ is_none (given_to self.old name.entry.now)) }
-        ensures given { OnOk result (given_to self.new ≡ given_first (given_to self.old) name.entry.now number) }
+        ensures given { OnOk result
+            (given_to self.new ≡ given_first (given_to self.old) name.entry.now number) }
     {
         if self.number(name).is_some() {
             return Ok(false);

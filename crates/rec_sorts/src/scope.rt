@@ -8,7 +8,8 @@ use crate::letters::Meaning;
 use crate::names::Names;
 use rec_syntax::Span;
 
-/// The symbols and variables that a specification declares. A sort that is not declared has no number.
+/// The symbols and variables that a specification declares. A sort that is not declared has no
+/// number.
 #[derive(Drop)]
 pub struct Scope<'a> {
     pub source: &'a [u8],

@@ -2,7 +2,8 @@
 
 ghost use Rattle.std.specs.Prelude.{◌≡◌, ℕ, All, IfOk, false, map, nat_eq};
 ghost use Rattle.std.specs.HashSet.{contains};
-ghost use Rattle.rec_syntax.specs.Parts.{IsTerm, IsRule, IsCondition, term_of, condition_of, rule_of};
+ghost use Rattle.rec_syntax.specs.Parts.{IsTerm, IsRule, IsCondition, term_of, condition_of};
+ghost use Rattle.rec_syntax.specs.Parts.{rule_of};
 ghost use Rattle.rec_sorts.specs.Numbering.{Pairwise};
 ghost use Rattle.rec_sorts.specs.Reading.{binds_variable, is_unbound, unbound_among};
 
@@ -77,7 +78,10 @@ fn first_variable(letters: &[Placed]) -> Option<u32>
 }
 
 impl Scope<'_> {
-    ghost use Rattle.rec_sorts.specs.Reading.{ill_headed_at, unlike_at, condition_places, conditions_places, rule_places, rules_places, open_terms_places, SpellsTerm, SpellsCondition, SpellsRule};
+    ghost use Rattle.rec_sorts.specs.Reading.{ill_headed_at, unlike_at, condition_places};
+    ghost use Rattle.rec_sorts.specs.Reading.{conditions_places, rule_places, rules_places};
+    ghost use Rattle.rec_sorts.specs.Reading.{open_terms_places, SpellsTerm, SpellsCondition};
+    ghost use Rattle.rec_sorts.specs.Reading.{SpellsRule};
 
     // The place of a term's first word, where this is no operator.
     fn ill_headed(&self, letters: &[Placed]) -> Option<u32>
@@ -105,8 +109,10 @@ impl Scope<'_> {
         bound: &HashSet<u32>,
     ) -> Result<Read<LetterCondition>, AllocError>
         requires { IsCondition self.now.source.now condition.now }
-        ensures letters { IfOk result (λ r. SpellsCondition self.now r.letters (condition_of self.now.source.now condition.now)) }
-        ensures places { IfOk result (λ r. r.places ≡ condition_places self.now (contains nat_eq bound.now) (condition_of self.now.source.now condition.now)) }
+        ensures letters { IfOk result (λ r.
+            SpellsCondition self.now r.letters (condition_of self.now.source.now condition.now)) }
+        ensures places { IfOk result (λ r. r.places ≡ condition_places self.now
+            (contains nat_eq bound.now) (condition_of self.now.source.now condition.now)) }
     {
         let left = self.term(alloc, &condition.left)?;
         let right = self.term(alloc, &condition.right)?;
@@ -136,8 +142,10 @@ impl Scope<'_> {
         bound: &HashSet<u32>,
     ) -> Result<Read<Vec<LetterCondition>>, AllocError>
         requires { All (IsCondition self.now.source.now) conditions.now }
-        ensures letters { IfOk result (λ r. Pairwise (SpellsCondition self.now) r.letters.items (map (condition_of self.now.source.now) conditions.now)) }
-        ensures places { IfOk result (λ r. r.places ≡ conditions_places self.now (contains nat_eq bound.now) (map (condition_of self.now.source.now) conditions.now)) }
+        ensures letters { IfOk result (λ r. Pairwise (SpellsCondition self.now) r.letters.items
+            (map (condition_of self.now.source.now) conditions.now)) }
+        ensures places { IfOk result (λ r. r.places ≡ conditions_places self.now
+            (contains nat_eq bound.now) (map (condition_of self.now.source.now) conditions.now)) }
     {
         let mut letters = Vec::new(alloc);
         let mut places = TermPlaces::NONE;
@@ -152,8 +160,10 @@ impl Scope<'_> {
     // A rule.
     fn rule(&self, alloc: Global, rule: &Rule) -> Result<Read<LetterRule>, AllocError>
         requires { IsRule self.now.source.now rule.now }
-        ensures letters { IfOk result (λ r. SpellsRule self.now r.letters (rule_of self.now.source.now rule.now)) }
-        ensures places { IfOk result (λ r. r.places ≡ rule_places self.now (rule_of self.now.source.now rule.now)) }
+        ensures letters { IfOk result
+            (λ r. SpellsRule self.now r.letters (rule_of self.now.source.now rule.now)) }
+        ensures places { IfOk result
+            (λ r. r.places ≡ rule_places self.now (rule_of self.now.source.now rule.now)) }
     {
         let left = self.term(alloc, &rule.left)?;
         let right = self.term(alloc, &rule.right)?;
@@ -182,8 +192,10 @@ impl Scope<'_> {
     /// The rules.
     pub fn rules(&self, alloc: Global, rules: &[Rule]) -> Result<Read<Vec<LetterRule>>, AllocError>
         requires { All (IsRule self.now.source.now) rules.now }
-        ensures letters { IfOk result (λ r. Pairwise (SpellsRule self.now) r.letters.items (map (rule_of self.now.source.now) rules.now)) }
-        ensures places { IfOk result (λ r. r.places ≡ rules_places self.now (map (rule_of self.now.source.now) rules.now)) }
+        ensures letters { IfOk result (λ r. Pairwise (SpellsRule self.now) r.letters.items
+            (map (rule_of self.now.source.now) rules.now)) }
+        ensures places { IfOk result
+            (λ r. r.places ≡ rules_places self.now (map (rule_of self.now.source.now) rules.now)) }
     {
         let mut letters = Vec::new(alloc);
         let mut places = TermPlaces::NONE;
@@ -198,8 +210,10 @@ impl Scope<'_> {
     /// The terms to evaluate.
     pub fn terms(&self, alloc: Global, terms: &[Term]) -> Result<Read<Vec<Vec<Letter>>>, AllocError>
         requires { All (IsTerm self.now.source.now) terms.now }
-        ensures letters { IfOk result (λ r. Pairwise (λ v t. SpellsTerm self.now v.items t) r.letters.items (map (term_of self.now.source.now) terms.now)) }
-        ensures places { IfOk result (λ r. r.places ≡ open_terms_places self.now (map (term_of self.now.source.now) terms.now)) }
+        ensures letters { IfOk result (λ r. Pairwise (λ v t. SpellsTerm self.now v.items t)
+            r.letters.items (map (term_of self.now.source.now) terms.now)) }
+        ensures places { IfOk result (λ r.
+            r.places ≡ open_terms_places self.now (map (term_of self.now.source.now) terms.now)) }
     {
         let mut letters = Vec::new(alloc);
         let mut places = TermPlaces::NONE;

@@ -2,7 +2,8 @@
 
 ghost use Rattle.std.specs.Prelude.{◌≡◌, IfOk};
 ghost use Rattle.rec_sorts.specs.Lookup.{symbols};
-ghost use Rattle.rec_sorts.specs.SpecRules.{repeated_sorts, repeated_symbols, taken_variables, unknown_sorts};
+ghost use Rattle.rec_sorts.specs.SpecRules.{repeated_sorts, repeated_symbols, taken_variables};
+ghost use Rattle.rec_sorts.specs.SpecRules.{unknown_sorts};
 ghost use Rattle.rec_sorts.specs.Least.{least_place};
 ghost use Rattle.rec_sorts.specs.Names.{given_to, first_at};
 ghost use Rattle.rec_sorts.specs.Agreeing.{IsScope, IsDeclared};
@@ -21,7 +22,8 @@ pub struct ReadSorts<'a> {
     pub repeated: Option<u32>,
 }
 
-/// The symbols and variables of a specification, and the least places at which their declarations break a rule.
+/// The symbols and variables of a specification, and the least places at which their declarations
+/// break a rule.
 #[derive(Drop)]
 pub struct ReadScope<'a> {
     pub scope: Scope<'a>,
@@ -34,7 +36,8 @@ pub struct ReadScope<'a> {
 pub fn read_sorts(alloc: Global, syntax: &Syntax) -> Result<ReadSorts<'_>, AllocError>
     ensures source { IfOk result (λ r. r.sorts.source.now ≡ syntax.now.source) }
     ensures names { IfOk result (λ r. given_to r.sorts.names ≡ first_at syntax.now.spec.sorts) }
-    ensures repeated { IfOk result (λ r. r.repeated ≡ least_place (repeated_sorts syntax.now.spec)) }
+    ensures repeated { IfOk result
+        (λ r. r.repeated ≡ least_place (repeated_sorts syntax.now.spec)) }
 {
     let source = syntax.source();
     let mut names = Names::new(alloc);
@@ -73,9 +76,12 @@ pub fn read_scope<'a>(
     requires names { given_to sorts.now.names ≡ first_at syntax.now.spec.sorts }
     ensures source { IfOk result (λ r. r.scope.source.now ≡ syntax.now.source) }
     ensures scope { IfOk result (λ r. IsScope syntax.now.spec r.scope) }
-    ensures repeated { IfOk result (λ r. r.repeated_symbol ≡ least_place (repeated_symbols syntax.now.spec)) }
-    ensures taken { IfOk result (λ r. r.taken_variable ≡ least_place (taken_variables syntax.now.spec)) }
-    ensures unknown { IfOk result (λ r. r.unknown_sort ≡ least_place (unknown_sorts syntax.now.spec)) }
+    ensures repeated { IfOk result
+        (λ r. r.repeated_symbol ≡ least_place (repeated_symbols syntax.now.spec)) }
+    ensures taken { IfOk result
+        (λ r. r.taken_variable ≡ least_place (taken_variables syntax.now.spec)) }
+    ensures unknown { IfOk result
+        (λ r. r.unknown_sort ≡ least_place (unknown_sorts syntax.now.spec)) }
 {
     let source = syntax.source();
     let (declared, symbols) = read_declared(alloc, syntax, sorts)?;

@@ -10,7 +10,8 @@ use crate::scope::Scope;
 use rec_syntax::{Node, Term};
 use std::alloc::{AllocError, Global};
 
-/// A word of a term: what it stands for, where it is declared, the number of its arguments, and its place.
+/// A word of a term: what it stands for, where it is declared, the number of its arguments, and its
+/// place.
 #[derive(Clone, Copy, Debug)]
 pub struct Placed {
     pub meaning: Option<Meaning>,
@@ -50,13 +51,15 @@ fn unknown(letters: &[Placed]) -> Option<u32>
 }
 
 impl Scope<'_> {
-    ghost use Rattle.rec_sorts.specs.Letters.{placed_by, ill_filled_among, misplaced, ill_sorted_among};
+    ghost use Rattle.rec_sorts.specs.Letters.{placed_by, ill_filled_among, misplaced};
+    ghost use Rattle.rec_sorts.specs.Letters.{ill_sorted_among};
     ghost use Rattle.rec_sorts.specs.Reading.{IsReadTerm};
 
     // The letters of a term's words.
     fn letters(&self, alloc: Global, nodes: &[Node]) -> Result<Vec<Placed>, AllocError>
         requires { All (λ n. Within self.now.source.now n.word) nodes.now }
-        ensures { IfOk result (λ v. v.items ≡ map (placed_by self.now) (map (node_of self.now.source.now) nodes.now)) }
+        ensures { IfOk result (λ v.
+            v.items ≡ map (placed_by self.now) (map (node_of self.now.source.now) nodes.now)) }
     {
         let mut letters = Vec::new(alloc);
         for node in nodes {
@@ -93,7 +96,8 @@ impl Scope<'_> {
         least
     }
 
-    // The least place of an argument with another sort than declared, by a stack of the heads of the terms so far.
+    // The least place of an argument with another sort than declared, by a stack of the heads of
+    // the terms so far.
     fn ill_sorted(&self, alloc: Global, letters: &[Placed]) -> Result<Option<u32>, AllocError>
         ensures { IfOk result (λ least. least ≡ ill_sorted_among self.now [] letters.now) }
     {

@@ -26,7 +26,8 @@ pub fn push_items<B: TermBank>(
     requires list { IsSome (tree_at (B.store bank.now) list) }
     requires stack { AreHeld (B.store bank.now) stack.old.items }
     ensures held { OnOk result (AreHeld (B.store bank.now) stack.new.items) }
-    ensures trees { OnOk result (held_trees (B.store bank.now) stack.new.items ≡ held_trees (B.store bank.now) stack.old.items ++ to_list (items_of (held_tree (B.store bank.now) list))) }
+    ensures trees { OnOk result (held_trees (B.store bank.now) stack.new.items ≡ held_trees (B.store
+        bank.now) stack.old.items ++ to_list (items_of (held_tree (B.store bank.now) list))) }
 {
     let mut rest = list;
     while let Kind::Cons = bank.kind(rest) {
@@ -45,7 +46,8 @@ fn push_arguments<B: TermBank>(
     requires term { IsSome (tree_at (B.store bank.now) term) }
     requires stack { AreHeld (B.store bank.now) stack.old.items }
     ensures held { OnOk result (AreHeld (B.store bank.now) stack.new.items) }
-    ensures trees { OnOk result (held_trees (B.store bank.now) stack.new.items ≡ held_trees (B.store bank.now) stack.old.items ++ to_list (arguments (held_tree (B.store bank.now) term))) }
+    ensures trees { OnOk result (held_trees (B.store bank.now) stack.new.items ≡ held_trees (B.store
+        bank.now) stack.old.items ++ to_list (arguments (held_tree (B.store bank.now) term))) }
 {
     if let Kind::Appl(_) = bank.kind(term) {
         push_items(bank, bank.args(term), stack)
@@ -58,7 +60,8 @@ fn push_arguments<B: TermBank>(
 fn arguments<B: TermBank>(alloc: Global, bank: &B, terms: &[Term]) -> Result<Vec<Term>, AllocError>
     requires { AreHeld (B.store bank.now) terms.now }
     ensures held { IfOk result (λ v. AreHeld (B.store bank.now) v.items) }
-    ensures trees { IfOk result (λ v. held_trees (B.store bank.now) v.items ≡ flat_map (λ t. to_list (arguments t)) (held_trees (B.store bank.now) terms.now)) }
+    ensures trees { IfOk result (λ v. held_trees (B.store bank.now) v.items ≡ flat_map
+        (λ t. to_list (arguments t)) (held_trees (B.store bank.now) terms.now)) }
 {
     let mut found = Vec::new(alloc);
     for term in terms {
@@ -67,7 +70,8 @@ fn arguments<B: TermBank>(alloc: Global, bank: &B, terms: &[Term]) -> Result<Vec
     Ok(found)
 }
 
-/// The nodes of the terms on a stack, from the last of the last one to the first of the first; a node stands before its arguments.
+/// The nodes of the terms on a stack, from the last of the last one to the first of the first; a
+/// node stands before its arguments.
 pub fn nodes<B: TermBank>(
     alloc: Global,
     bank: &B,
@@ -75,7 +79,8 @@ pub fn nodes<B: TermBank>(
 ) -> Result<Vec<Term>, AllocError>
     requires { AreHeld (B.store bank.now) stack.items }
     ensures held { IfOk result (λ v. AreHeld (B.store bank.now) v.items) }
-    ensures trees { IfOk result (λ v. held_trees (B.store bank.now) v.items ≡ unstacked (held_trees (B.store bank.now) stack.items)) }
+    ensures trees { IfOk result (λ v. held_trees (B.store bank.now) v.items ≡ unstacked
+        (held_trees (B.store bank.now) stack.items)) }
 {
     let mut found = Vec::new(alloc);
     while let Some(node) = stack.pop() {
@@ -92,7 +97,8 @@ pub fn nodes_among<B: TermBank>(
     terms: Vec<Term>,
 ) -> Result<ListNodes, AllocError>
     requires { AreHeld (B.store bank.now) terms.items }
-    ensures { IfOk result (AreNodes (B.store bank.now) (held_trees (B.store bank.now) terms.items)) }
+    ensures { IfOk result
+        (AreNodes (B.store bank.now) (held_trees (B.store bank.now) terms.items)) }
 {
     let below = arguments(alloc, bank, &terms)?;
     let inner = nodes(alloc, bank, below)?;
@@ -103,7 +109,8 @@ pub fn nodes_among<B: TermBank>(
 /// The nodes of a list's items.
 pub fn list_nodes<B: TermBank>(alloc: Global, bank: &B, list: Term) -> Result<ListNodes, AllocError>
     requires { IsSome (tree_at (B.store bank.now) list) }
-    ensures { IfOk result (AreNodes (B.store bank.now) (to_list (items_of (held_tree (B.store bank.now) list)))) }
+    ensures { IfOk result
+        (AreNodes (B.store bank.now) (to_list (items_of (held_tree (B.store bank.now) list)))) }
 {
     let mut items = Vec::new(alloc);
     push_items(bank, list, &mut items)?;

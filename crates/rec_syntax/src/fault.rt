@@ -8,7 +8,8 @@ pub enum SyntaxFault {
     /// The text has more than 16,777,216 bytes.
     #[error("the text is too long")]
     Long,
-    /// The text is outside the grammar; the place is that of the first token that no text has there.
+    /// The text is outside the grammar; the place is that of the first token that no text has
+    /// there.
     #[error("the text is outside the grammar at {at}")]
     Grammar { at: u32 },
     /// Memory ran out.

@@ -180,7 +180,8 @@ fn read(alloc: Global, source: Vec<u8>) -> Result<Syntax, SyntaxFault>
     }
 }
 
-/// The specification that the bytes spell. A text that is too long is refused before memory is asked for.
+/// The specification that the bytes spell. A text that is too long is refused before memory is
+/// asked for.
 pub fn read_spec(alloc: Global, bytes: &[u8]) -> Result<Syntax, SyntaxFault>
     ensures source { IfOk result (λ s. s.source ≡ bytes.now) }
     ensures spelled { IfOk result (λ s. SpecText bytes.now s.spec) }

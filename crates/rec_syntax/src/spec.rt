@@ -3,7 +3,8 @@
 ghost use Rattle.std.specs.Prelude.{◌≡◌, ◌≤◌, length, map, All};
 ghost use Rattle.rec_syntax.specs.Length.{longest};
 ghost use Rattle.rec_syntax.specs.Lexemes.{word_of, Within};
-ghost use Rattle.rec_syntax.specs.Parts.{declaration_of, group_of, rule_of, term_of, spec_of, AreSections, IsDeclaration, IsGroup, IsRule, IsTerm};
+ghost use Rattle.rec_syntax.specs.Parts.{declaration_of, group_of, rule_of, term_of, spec_of};
+ghost use Rattle.rec_syntax.specs.Parts.{AreSections, IsDeclaration, IsGroup, IsRule, IsTerm};
 
 use crate::lexer::Span;
 use crate::parts::{Declaration, Group, Rule, Sections, Term};
@@ -78,7 +79,8 @@ impl Syntax {
 
     /// The constructors.
     pub fn constructors(&self) -> &[Declaration]
-        ensures constructors { map (declaration_of self.now.source) result.now ≡ self.now.spec.constructors }
+        ensures constructors { map (declaration_of self.now.source)
+            result.now ≡ self.now.spec.constructors }
         ensures sound { All (IsDeclaration self.now.source) result.now }
     {
         &self.sections.constructors
@@ -86,7 +88,8 @@ impl Syntax {
 
     /// The operators.
     pub fn operators(&self) -> &[Declaration]
-        ensures operators { map (declaration_of self.now.source) result.now ≡ self.now.spec.operators }
+        ensures operators { map (declaration_of self.now.source)
+            result.now ≡ self.now.spec.operators }
         ensures sound { All (IsDeclaration self.now.source) result.now }
     {
         &self.sections.operators

@@ -1,9 +1,16 @@
 //! The arena: slots to take and give back, the chains of a table, and the gray list of a marking.
-ghost use Rattle.std.specs.Prelude.{◌≡◌, ◌≢◌, ◌==◌, ◌↔◌, IsTrue, if◌then◌else◌, ℕ, ◌+◌, ◌%◌, ◌-◌, ◌<◌, ◌≤◌, ◌^◌, ◌++◌, ◌∷◌, [], List, Bool, true, false, Option, Some, None, Ok, Err, MatchOption, IfSome, IfOk, IfErr, OnOk, OnErr, IfNone, IsSome, get_or, length, slice_set, take, replicate, reverse, is_some, map};
+ghost use Rattle.std.specs.Prelude.{◌≡◌, ◌≢◌, ◌==◌, ◌↔◌, IsTrue, if◌then◌else◌, ℕ, ◌+◌, ◌%◌, ◌-◌};
+ghost use Rattle.std.specs.Prelude.{◌<◌, ◌≤◌, ◌^◌, ◌++◌, ◌∷◌, [], List, Bool, true, false, Option};
+ghost use Rattle.std.specs.Prelude.{Some, None, Ok, Err, MatchOption, IfSome, IfOk, IfErr, OnOk};
+ghost use Rattle.std.specs.Prelude.{OnErr, IfNone, IsSome, get_or, length, slice_set, take};
+ghost use Rattle.std.specs.Prelude.{replicate, reverse, is_some, map};
 ghost use Rattle.std.specs.Option.{option_map};
 ghost use Rattle.rx_arena.specs.Put.{times, times_in, total, total-prop, put, altered, emptied};
 ghost use Rattle.rx_arena.specs.Links.{Chained, Chained-prop, Listed, Listed-prop, links};
-ghost use Rattle.rx_arena.specs.Arena.{taken_at, IsTaken, taken_count, chain_at, InChain, IsLoose, marked_at, IsMarked, roots_at, hash_at, IsUnprotected, new_cell, with_count, with_marking, kept_in, dropped_from, IsFirst, is_unmarked, times_hashed, IsArena, empty_arena};
+ghost use Rattle.rx_arena.specs.Arena.{taken_at, IsTaken, taken_count, chain_at, InChain, IsLoose};
+ghost use Rattle.rx_arena.specs.Arena.{marked_at, IsMarked, roots_at, hash_at, IsUnprotected};
+ghost use Rattle.rx_arena.specs.Arena.{new_cell, with_count, with_marking, kept_in, dropped_from};
+ghost use Rattle.rx_arena.specs.Arena.{IsFirst, is_unmarked, times_hashed, IsArena, empty_arena};
 
 use crate::cells::Link;
 use crate::fault::ArenaFault;
@@ -21,8 +28,10 @@ pub struct Arena {
     heads: Heads,
     gray_first: Option<u32>,
     linked: u32,
-    ghost chained: { Chained (links (λ n. n.chain) pool.cells) heads } by { Chained-prop (links (λ n. n.chain) pool.cells) heads },
-    ghost grayed: { Listed (links (λ n. n.gray) pool.cells) gray_first } by { Listed-prop (links (λ n. n.gray) pool.cells) gray_first },
+    ghost chained: { Chained (links (λ n. n.chain) pool.cells) heads } by
+        { Chained-prop (links (λ n. n.chain) pool.cells) heads },
+    ghost grayed: { Listed (links (λ n. n.gray) pool.cells) gray_first } by
+        { Listed-prop (links (λ n. n.gray) pool.cells) gray_first },
     ghost counted: { linked ≡ total chained.0 } by { total-prop linked chained.0 },
 }
 
@@ -38,7 +47,8 @@ impl Model for Arena {
 
 /// The slot of a number.
 fn slot_of(number: Option<u32>) -> Option<Slot>
-    ensures { MatchOption number (result ≡ None) (λ n. IfSome result (λ s. s.0 ≡ n) × IsSome result) }
+    ensures { MatchOption number (result ≡ None)
+        (λ n. IfSome result (λ s. s.0 ≡ n) × IsSome result) }
 {
     number.map(Slot)
 }
@@ -101,9 +111,11 @@ impl Arena {
     pub fn take(&mut self, body: CellBody) -> Result<Slot, ArenaFault>
         ensures free { IfOk result (λ s. taken_at self.old s.0 ≡ None) }
         ensures below { IfOk result (λ s. s.0 < self.old.cap) }
-        ensures cells { IfOk result (λ s. self.new.cells ≡ put self.old.cells s.0 (Some (new_cell body))) }
+        ensures cells { IfOk result
+            (λ s. self.new.cells ≡ put self.old.cells s.0 (Some (new_cell body))) }
         ensures loose { IfOk result (λ s. IsLoose self.new s.0) }
-        ensures rest { self.new ≡ record self.old { cells = self.new.cells; spare = self.new.spare } }
+        ensures rest { self.new ≡ record self.old
+            { cells = self.new.cells; spare = self.new.spare } }
         ensures spare { self.old.spare ≤ self.new.spare + 1 }
         ensures law { IsArena self.new }
         ensures err { OnErr result (self.new ≡ self.old) }
@@ -124,7 +136,8 @@ impl Arena {
         requires not_gray { times slot.0 self.old.gray ≡ 0 }
         requires unmarked { marked_at self.old slot.0 ≡ false }
         requires unprotected { roots_at self.old slot.0 ≡ 0 }
-        ensures after { self.new ≡ record self.old { cells = put self.old.cells slot.0 None; spare = self.old.spare + 1 } }
+        ensures after { self.new ≡ record self.old
+            { cells = put self.old.cells slot.0 None; spare = self.old.spare + 1 } }
         ensures law { IsArena self.new }
     {
         self.pool.give_back(slot.0)
@@ -163,7 +176,8 @@ impl Arena {
     /// Replaces how often the cell is protected.
     pub fn set_roots(&mut self, slot: Slot, count: u16)
         requires { IsTaken self.old slot.0 }
-        ensures after { self.new ≡ record self.old { cells = altered slot.0 (with_count count) self.old.cells } }
+        ensures after { self.new ≡ record self.old
+            { cells = altered slot.0 (with_count count) self.old.cells } }
         ensures law { IsArena self.new }
     {
         self.pool.set_roots(slot.0, count)
@@ -176,7 +190,8 @@ impl Arena {
         ensures law { IsArena self.new }
         ensures ok { OnOk result (count ≤ self.new.spare) }
         ensures full { result ≡ Err ArenaFault.Full → self.old.cap < taken_count self.old + count }
-        ensures memory { result ≡ Err ArenaFault.Memory → taken_count self.old + count ≤ self.old.cap }
+        ensures memory { result ≡ Err ArenaFault.Memory
+            → taken_count self.old + count ≤ self.old.cap }
         ensures too_few { OnErr result (self.old.spare < count) }
     {
         self.pool.reserve(count)
@@ -194,7 +209,8 @@ impl Arena {
     /// The slot after this one in its chain.
     pub fn chain_next(&self, slot: Slot) -> Option<Slot>
         requires { InChain self.now slot.0 }
-        ensures next { (c : ℕ) (before after : List ℕ) → chain_at self.now c ≡ before ++ slot.0 ∷ after → IsFirst result after }
+        ensures next { (c : ℕ) (before after : List ℕ)
+            → chain_at self.now c ≡ before ++ slot.0 ∷ after → IsFirst result after }
         ensures law { IsArena self.now }
     {
         slot_of(self.pool.next(slot.0, Link::Chain))
@@ -205,7 +221,8 @@ impl Arena {
         requires chain { chain < length self.old.chains }
         requires taken { IsTaken self.old slot.0 }
         requires loose { IsLoose self.old slot.0 }
-        ensures after { self.new ≡ record self.old { chains = slice_set self.old.chains chain (slot.0 ∷ chain_at self.old chain) } }
+        ensures after { self.new ≡ record self.old
+            { chains = slice_set self.old.chains chain (slot.0 ∷ chain_at self.old chain) } }
         ensures law { IsArena self.new }
     {
         self.pool
@@ -217,11 +234,13 @@ impl Arena {
     /// Takes the first slot out of a chain.
     fn chain_pop(&mut self, chain: u32) -> Option<Slot>
         requires { chain < length self.old.chains }
-        ensures first { MatchOption result (chain_at self.old chain ≡ []) (λ s. chain_at self.old chain ≡ s.0 ∷ chain_at self.new chain) }
+        ensures first { MatchOption result (chain_at self.old chain ≡ [])
+            (λ s. chain_at self.old chain ≡ s.0 ∷ chain_at self.new chain) }
         ensures taken { IfSome result (λ s. IsTaken self.new s.0) }
         ensures loose { IfSome result (λ s. IsLoose self.new s.0) }
         ensures none { IfNone result (self.new ≡ self.old) }
-        ensures rest { self.new ≡ record self.old { chains = slice_set self.old.chains chain (chain_at self.new chain) } }
+        ensures rest { self.new ≡ record self.old
+            { chains = slice_set self.old.chains chain (chain_at self.new chain) } }
         ensures law { IsArena self.new }
     {
         match self.heads.get(chain) {
@@ -247,7 +266,8 @@ impl Arena {
     pub fn gray_push(&mut self, slot: Slot)
         requires taken { IsTaken self.old slot.0 }
         requires unmarked { marked_at self.old slot.0 ≡ false }
-        ensures after { self.new ≡ record self.old { cells = altered slot.0 (with_marking true) self.old.cells; gray = slot.0 ∷ self.old.gray } }
+        ensures after { self.new ≡ record self.old { cells = altered slot.0 (with_marking true)
+            self.old.cells; gray = slot.0 ∷ self.old.gray } }
         ensures law { IsArena self.new }
     {
         self.pool.set_mark(slot.0, true);
@@ -268,7 +288,8 @@ impl Arena {
 
     /// Takes the first slot out of the gray list. It stays marked.
     pub fn gray_pop(&mut self) -> Option<Slot>
-        ensures first { MatchOption result (self.old.gray ≡ []) (λ s. self.old.gray ≡ s.0 ∷ self.new.gray) }
+        ensures first { MatchOption result (self.old.gray ≡ [])
+            (λ s. self.old.gray ≡ s.0 ∷ self.new.gray) }
         ensures marked { IfSome result (λ s. IsMarked self.new s.0) }
         ensures not_gray { IfSome result (λ s. times s.0 self.new.gray ≡ 0) }
         ensures none { IfNone result (self.new ≡ self.old) }
@@ -288,17 +309,20 @@ impl Arena {
     pub fn clear_mark(&mut self, slot: Slot)
         requires taken { IsTaken self.old slot.0 }
         requires not_gray { times slot.0 self.old.gray ≡ 0 }
-        ensures after { self.new ≡ record self.old { cells = altered slot.0 (with_marking false) self.old.cells } }
+        ensures after { self.new ≡ record self.old
+            { cells = altered slot.0 (with_marking false) self.old.cells } }
         ensures law { IsArena self.new }
     {
         self.pool.set_mark(slot.0, false)
     }
 
-    /// Forgets all marks, where each taken slot has one: what said that it is marked says now that it is not.
+    /// Forgets all marks, where each taken slot has one: what said that it is marked says now that
+    /// it is not.
     pub fn turn_marks(&mut self)
         requires marked { (s : ℕ) → IsTaken self.old s → IsMarked self.old s }
         requires no_gray { self.old.gray ≡ [] }
-        ensures after { self.new ≡ record self.old { cells = map (option_map (with_marking false)) self.old.cells } }
+        ensures after { self.new ≡ record self.old
+            { cells = map (option_map (with_marking false)) self.old.cells } }
         ensures law { IsArena self.new }
     {
         self.pool.turn()
@@ -331,7 +355,8 @@ impl Arena {
         requires chain { chain < length self.old.chains }
         requires empty { chain_at self.old chain ≡ [] }
         requires loose { (s : ℕ) → 0 < times s self.old.gray → IsLoose self.old s }
-        ensures after { self.new ≡ record self.old { chains = slice_set self.old.chains chain (reverse self.old.gray); gray = [] } }
+        ensures after { self.new ≡ record self.old
+            { chains = slice_set self.old.chains chain (reverse self.old.gray); gray = [] } }
         ensures law { IsArena self.new }
     {
         while let Some(slot) = self.gray_pop() {
@@ -343,7 +368,8 @@ impl Arena {
     fn part(&mut self, chain: u32)
         requires chain { chain < length self.old.chains }
         requires no_gray { self.old.gray ≡ [] }
-        ensures rest { self.new ≡ record self.old { chains = slice_set self.old.chains chain []; gray = self.new.gray } }
+        ensures rest { self.new ≡ record self.old
+            { chains = slice_set self.old.chains chain []; gray = self.new.gray } }
         ensures gray { reverse self.new.gray ≡ kept_in self.old chain }
         ensures loose { (s : ℕ) → 0 < times s self.new.gray → IsLoose self.new s }
         ensures law { IsArena self.new }
@@ -359,7 +385,8 @@ impl Arena {
     pub fn chain_keep_marked(&mut self, chain: u32)
         requires chain { chain < length self.old.chains }
         requires no_gray { self.old.gray ≡ [] }
-        ensures after { self.new ≡ record self.old { chains = slice_set self.old.chains chain (kept_in self.old chain) } }
+        ensures after { self.new ≡ record self.old
+            { chains = slice_set self.old.chains chain (kept_in self.old chain) } }
         ensures law { IsArena self.new }
     {
         self.part(chain);
@@ -380,9 +407,11 @@ impl Arena {
         requires no_gray { self.old.gray ≡ [] }
         requires unprotected { IsUnprotected self.old chain }
         ensures cells { self.new.cells ≡ emptied self.old.cells (dropped_from self.old chain) }
-        ensures chains { self.new.chains ≡ slice_set self.old.chains chain (kept_in self.old chain) }
+        ensures chains { self.new.chains ≡ slice_set self.old.chains chain
+            (kept_in self.old chain) }
         ensures spare { self.new.spare ≡ self.old.spare + length (dropped_from self.old chain) }
-        ensures rest { self.new ≡ record self.old { cells = self.new.cells; chains = self.new.chains; spare = self.new.spare } }
+        ensures rest { self.new ≡ record self.old
+            { cells = self.new.cells; chains = self.new.chains; spare = self.new.spare } }
         ensures law { IsArena self.new }
     {
         self.sort_out(chain);
@@ -391,7 +420,8 @@ impl Arena {
 
     /// Puts empty chains before the others.
     fn add_chains(&mut self, count: u32) -> Result<(), ArenaFault>
-        ensures ok { OnOk result (self.new ≡ record self.old { chains = replicate count [] ++ self.old.chains }) }
+        ensures ok { OnOk result
+            (self.new ≡ record self.old { chains = replicate count [] ++ self.old.chains }) }
         ensures err { OnErr result (self.new ≡ self.old) }
         ensures fault { IfErr result (λ e. e ≡ ArenaFault.Memory) }
         ensures law { IsArena self.new }
@@ -422,9 +452,12 @@ impl Arena {
     fn move_chain(&mut self, from: u32, count: u32)
         requires count { (0 < count) × (count ≤ from) }
         requires from { from < length self.old.chains }
-        ensures moved { (c : ℕ) → c < count → (s : ℕ) → times s (chain_at self.new c) ≡ times s (chain_at self.old c) + (if hash_at self.old s % count == c then times s (chain_at self.old from) else 0) }
+        ensures moved { (c : ℕ) → c < count → (s : ℕ)
+            → times s (chain_at self.new c) ≡ times s (chain_at self.old c)
+            + (if hash_at self.old s % count == c then times s (chain_at self.old from) else 0) }
         ensures empty { chain_at self.new from ≡ [] }
-        ensures others { (c : ℕ) → count ≤ c → c ≢ from → chain_at self.new c ≡ chain_at self.old c }
+        ensures others { (c : ℕ) → count ≤ c → c ≢ from
+            → chain_at self.new c ≡ chain_at self.old c }
         ensures chains { length self.new.chains ≡ length self.old.chains }
         ensures rest { self.new ≡ record self.old { chains = self.new.chains } }
         ensures law { IsArena self.new }
@@ -439,7 +472,8 @@ impl Arena {
     fn deal_chains(&mut self, chains: u32) -> Result<(), ArenaFault>
         requires { (1 ≤ chains) × (chains ≤ 2 ^ 30) }
         ensures chains { OnOk result (length self.new.chains ≡ chains) }
-        ensures hashed { OnOk result ((c : ℕ) → c < chains → (s : ℕ) → times s (chain_at self.new c) ≡ times_hashed self.old chains c s) }
+        ensures hashed { OnOk result ((c : ℕ) → c < chains → (s : ℕ)
+            → times s (chain_at self.new c) ≡ times_hashed self.old chains c s) }
         ensures rest { self.new ≡ record self.old { chains = self.new.chains } }
         ensures err { OnErr result (self.new ≡ self.old) }
         ensures fault { IfErr result (λ e. e ≡ ArenaFault.Memory) }
@@ -474,7 +508,8 @@ impl Arena {
         requires empty { (s : ℕ) → IsLoose self.old s }
         requires taken { (s : ℕ) → s < end → IsTaken self.old s }
         requires law { IsArena self.old }
-        ensures dealt { (c : ℕ) → c < chains → (s : ℕ) → s < end → times s (chain_at self.new c) ≡ (if hash_at self.old s % chains == c then 1 else 0) }
+        ensures dealt { (c : ℕ) → c < chains → (s : ℕ) → s < end
+            → times s (chain_at self.new c) ≡ (if hash_at self.old s % chains == c then 1 else 0) }
         ensures past { (s : ℕ) → end ≤ s → IsLoose self.new s }
         ensures count { length self.new.chains ≡ chains }
         ensures rest { self.new ≡ record self.old { chains = self.new.chains } }
@@ -493,7 +528,8 @@ impl Arena {
         requires past { (s : ℕ) → end ≤ s → IsLoose self.old s }
         requires law { IsArena self.old }
         ensures chains { OnOk result (length self.new.chains ≡ chains) }
-        ensures hashed { OnOk result ((c : ℕ) → c < chains → (s : ℕ) → times s (chain_at self.new c) ≡ times_hashed self.old chains c s) }
+        ensures hashed { OnOk result ((c : ℕ) → c < chains → (s : ℕ)
+            → times s (chain_at self.new c) ≡ times_hashed self.old chains c s) }
         ensures rest { self.new ≡ record self.old { chains = self.new.chains } }
         ensures err { OnErr result (self.new ≡ self.old) }
         ensures fault { IfErr result (λ e. e ≡ ArenaFault.Memory) }
@@ -517,7 +553,8 @@ impl Arena {
     pub fn rehash_into(&mut self, chains: u32) -> Result<(), ArenaFault>
         requires { (1 ≤ chains) × (chains ≤ 2 ^ 30) }
         ensures chains { OnOk result (length self.new.chains ≡ chains) }
-        ensures hashed { OnOk result ((c : ℕ) → c < chains → (s : ℕ) → times s (chain_at self.new c) ≡ times_hashed self.old chains c s) }
+        ensures hashed { OnOk result ((c : ℕ) → c < chains → (s : ℕ)
+            → times s (chain_at self.new c) ≡ times_hashed self.old chains c s) }
         ensures rest { self.new ≡ record self.old { chains = self.new.chains } }
         ensures err { OnErr result (self.new ≡ self.old) }
         ensures fault { IfErr result (λ e. e ≡ ArenaFault.Memory) }

@@ -1,6 +1,7 @@
-//! Cells in memory. Only this file and `room.rt` hold pointers. Each function here works on the cell at
-//! one place, and one that follows a link reads the number in the cell behind it too.
-ghost use Rattle.std.specs.Prelude.{◌≡◌, ℕ, ◌*◌, ◌<◌, List, [], ◌∷◌, ◌++◌, length, replicate, slice_set};
+//! Cells in memory. Only this file and `room.rt` hold pointers. Each function here works on the
+//! cell at one place, and one that follows a link reads the number in the cell behind it too.
+ghost use Rattle.std.specs.Prelude.{◌≡◌, ℕ, ◌*◌, ◌<◌, List, [], ◌∷◌, ◌++◌, length, replicate};
+ghost use Rattle.std.specs.Prelude.{slice_set};
 ghost use Rattle.std.specs.Prelude.{Option, Some, None, IfSome};
 ghost use denote.RawPtr.{Ptr, InBlock};
 ghost use Rattle.rx_arena.specs.Real.{InBlock-prop, IsLast};
@@ -263,9 +264,11 @@ impl Cells {
 
     /// Writes the links.
     fn set_links(&mut self, at: Place, new: Relink)
-        requires { IsPlace self.old.blocks at × IsRelink self.old.blocks self.old.slots at.slot new }
+        requires { IsPlace self.old.blocks at
+            × IsRelink self.old.blocks self.old.slots at.slot new }
         ensures blocks { self.new.blocks ≡ self.old.blocks }
-        ensures slots { self.new.slots ≡ changed at.slot (with_next new.link new.slot) self.old.slots }
+        ensures slots { self.new.slots ≡ changed at.slot (with_next new.link new.slot)
+            self.old.slots }
     {
         unsafe { (*at.at).links = new.links }
     }

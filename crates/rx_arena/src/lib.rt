@@ -1,11 +1,12 @@
-//! The cells of terms, in raw blocks of 1,024, linked by raw pointers and known by the numbers of their
-//! slots.
+//! The cells of terms, in raw blocks of 1,024, linked by raw pointers and known by the numbers of
+//! their slots.
 //!
 //! A cell takes 64 bytes, the size of a cache line, in this order:
 //!
 //! | Bytes | Field | What it is |
 //! |---|---|---|
-//! | 0 to 23 | `links` | for each list a pointer to the next cell, or to the cell itself at the end |
+//! | 0 to 23 | `links` | for each list a pointer to the next cell, or to the cell itself at the end
+//! |
 //! | 24 to 47 | `a`, `b`, `hash` | two words of the body, and its hash |
 //! | 48 to 55 | `anns` | the slot of the annotations, if there are any |
 //! | 56 to 59 | `number` | the cell's own slot |
@@ -15,10 +16,11 @@
 //!
 //! Beside the blocks there are two bytes for each slot. One is its mark: 0 or 1 while the slot is
 //! taken, where one of them says that it is marked, and 2 once it is given back. The other says
-//! whether it is protected. So whether a slot is taken, marked or protected is read without its cell.
+//! whether it is protected. So whether a slot is taken, marked or protected is read without its
+//! cell.
 //!
-//! No pointer is compared, tested against null or turned into a number: a link is known by the `number`
-//! in the cell that it leads to, and a cell's own number means the end.
+//! No pointer is compared, tested against null or turned into a number: a link is known by the
+//! `number` in the cell that it leads to, and a cell's own number means the end.
 #![tactic(auto)]
 
 pub mod arena;

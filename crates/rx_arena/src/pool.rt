@@ -1,8 +1,11 @@
 //! The slots that are taken, and a list of those that were given back.
-ghost use Rattle.std.specs.Prelude.{◌≡◌, ◌+◌, ◌-◌, ◌<◌, ◌≤◌, ◌^◌, ◌∷◌, [], Option, Some, None, Ok, Err, MatchOption, MatchResult, IfSome, IfOk, IfErr, OnOk, OnErr, OnSome, IfNone, get_or, length, min, ℕ, false, not};
+ghost use Rattle.std.specs.Prelude.{◌≡◌, ◌+◌, ◌-◌, ◌<◌, ◌≤◌, ◌^◌, ◌∷◌, [], Option, Some, None, Ok};
+ghost use Rattle.std.specs.Prelude.{Err, MatchOption, MatchResult, IfSome, IfOk, IfErr, OnOk};
+ghost use Rattle.std.specs.Prelude.{OnErr, OnSome, IfNone, get_or, length, min, ℕ, false, not};
 ghost use Rattle.rx_arena.specs.Held.{IsHeld};
 ghost use Rattle.rx_arena.specs.Node as spec;
-ghost use Rattle.rx_arena.specs.Node.{Node, lone, has_mark, is_protected_node, next_in, with_mark, with_next, with_roots};
+ghost use Rattle.rx_arena.specs.Node.{Node, lone, has_mark, is_protected_node, next_in, with_mark};
+ghost use Rattle.rx_arena.specs.Node.{with_next, with_roots};
 ghost use Rattle.rx_arena.specs.Put.{put, filled, altered};
 ghost use Rattle.rx_arena.specs.Links.{Listed, Listed-prop, links};
 ghost use Rattle.rx_arena.specs.Pool.{spare_of, is_unmarked_node};
@@ -43,7 +46,8 @@ pub(crate) struct Pool {
     room: u32,
     cap: u32,
     turned: bool,
-    ghost listed: { Listed (links (λ n. n.free) store) free } by { Listed-prop (links (λ n. n.free) store) free },
+    ghost listed: { Listed (links (λ n. n.free) store) free } by
+        { Listed-prop (links (λ n. n.free) store) free },
 }
 
 impl Model for Pool {
@@ -51,7 +55,8 @@ impl Model for Pool {
 
     ghost Value = { PoolState };
 
-    ghost view = { λ p. record { cells = cells_of p.store p.listed.0 p.fresh; free = p.listed.0; fresh = p.fresh; room = p.room; cap = p.cap; turned = p.turned } };
+    ghost view = { λ p. record { cells = cells_of p.store p.listed.0 p.fresh; free = p.listed.0;
+        fresh = p.fresh; room = p.room; cap = p.cap; turned = p.turned } };
 
     ghost invariant = { λ p. IsPool p.store p.listed.0 p.fresh p.taken p.room p.cap };
 }
@@ -59,7 +64,8 @@ impl Model for Pool {
 impl Pool {
     pub(crate) fn new(alloc: Global, cap: u32) -> Pool
         requires { cap ≤ 2 ^ 30 }
-        ensures { result ≡ record { cells = []; free = []; fresh = 0; room = 0; cap = cap; turned = false } }
+        ensures { result ≡ record { cells = []; free = []; fresh = 0; room = 0; cap = cap;
+            turned = false } }
     {
         Pool {
             store: MarkedStore::new(alloc),
@@ -88,10 +94,12 @@ impl Pool {
 
     /// Takes the slot that was given back last.
     fn reuse(&mut self, body: CellBody) -> Option<u32>
-        ensures listed { MatchOption result (self.old.free ≡ []) (λ s. self.old.free ≡ s ∷ self.new.free) }
+        ensures listed { MatchOption result (self.old.free ≡ [])
+            (λ s. self.old.free ≡ s ∷ self.new.free) }
         ensures was_free { IfSome result (λ s. get_or self.old.cells s None ≡ None) }
         ensures below { IfSome result (λ s. s < self.old.cap) }
-        ensures some { IfSome result (λ s. self.new ≡ record self.old { cells = put self.old.cells s (Some (lone (spec.mark_of self.old.turned false) body)); free = self.new.free }) }
+        ensures some { IfSome result (λ s. self.new ≡ record self.old { cells = put self.old.cells s
+            (Some (lone (spec.mark_of self.old.turned false) body)); free = self.new.free }) }
         ensures none { IfNone result (self.new ≡ self.old) }
         ensures fits { spare_of self.new + filled self.new.cells ≤ self.new.cap }
     {
@@ -111,7 +119,8 @@ impl Pool {
         requires { (self.old.fresh < self.old.room) × (self.old.fresh < self.old.cap) }
         ensures slot { result ≡ self.old.fresh }
         ensures was_free { get_or self.old.cells result None ≡ None }
-        ensures after { self.new ≡ record self.old { cells = put self.old.cells result (Some (lone (spec.mark_of self.old.turned false) body)); fresh = self.old.fresh + 1 } }
+        ensures after { self.new ≡ record self.old { cells = put self.old.cells result
+            (Some (lone (spec.mark_of self.old.turned false) body)); fresh = self.old.fresh + 1 } }
         ensures fits { spare_of self.new + filled self.new.cells ≤ self.new.cap }
     {
         let slot = self.fresh;
@@ -140,7 +149,8 @@ impl Pool {
     /// Gives a slot back.
     pub(crate) fn give_back(&mut self, slot: u32)
         requires { IsHeld self.old.cells slot }
-        ensures after { self.new ≡ record self.old { cells = put self.old.cells slot None; free = slot ∷ self.old.free } }
+        ensures after { self.new ≡ record self.old
+            { cells = put self.old.cells slot None; free = slot ∷ self.old.free } }
         ensures spare { spare_of self.new ≡ spare_of self.old + 1 }
     {
         self.store.set_mark(slot, GIVEN_BACK);
@@ -186,7 +196,8 @@ impl Pool {
 
     pub(crate) fn marked(&self, slot: u32) -> bool
         requires { IsHeld self.now.cells slot }
-        ensures { IfSome (get_or self.now.cells slot None) (λ n. result ≡ has_mark self.now.turned n) }
+        ensures { IfSome (get_or self.now.cells slot None)
+            (λ n. result ≡ has_mark self.now.turned n) }
     {
         self.store.mark(slot) != mark_of(self.turned, false)
     }
@@ -194,7 +205,8 @@ impl Pool {
     /// The next slot of a list.
     #[inline(always)]
     pub(crate) fn next(&self, slot: u32, link: Link) -> Option<u32>
-        requires { IsHeld self.now.cells slot × IfSome (get_or self.now.cells slot None) (λ n. IfSome (next_in link n) (IsHeld self.now.cells)) }
+        requires { IsHeld self.now.cells slot × IfSome (get_or self.now.cells slot None)
+            (λ n. IfSome (next_in link n) (IsHeld self.now.cells)) }
         ensures { IfSome (get_or self.now.cells slot None) (λ n. result ≡ next_in link n) }
     {
         self.store.next(slot, link)
@@ -202,7 +214,8 @@ impl Pool {
 
     pub(crate) fn set_roots(&mut self, slot: u32, count: u16)
         requires { IsHeld self.old.cells slot }
-        ensures { self.new ≡ record self.old { cells = altered slot (with_roots count) self.old.cells } }
+        ensures { self.new ≡ record self.old
+            { cells = altered slot (with_roots count) self.old.cells } }
     {
         self.store.set_roots(slot, count)
     }
@@ -210,7 +223,8 @@ impl Pool {
     /// Marks a taken slot, or takes the mark off.
     pub(crate) fn set_mark(&mut self, slot: u32, marked: bool)
         requires { IsHeld self.old.cells slot }
-        ensures { self.new ≡ record self.old { cells = altered slot (with_mark (spec.mark_of self.old.turned marked)) self.old.cells } }
+        ensures { self.new ≡ record self.old { cells = altered slot
+            (with_mark (spec.mark_of self.old.turned marked)) self.old.cells } }
     {
         self.store.set_mark(slot, mark_of(self.turned, marked))
     }
@@ -228,7 +242,8 @@ impl Pool {
     pub(crate) fn set_next(&mut self, slot: u32, link: Link, next: Option<u32>)
         requires held { IsHeld self.old.cells slot × IfSome next (IsHeld self.old.cells) }
         requires apart { IfSome next (λ t. ¬ (t ≡ slot)) }
-        ensures { self.new ≡ record self.old { cells = altered slot (with_next link next) self.old.cells } }
+        ensures { self.new ≡ record self.old
+            { cells = altered slot (with_next link next) self.old.cells } }
     {
         self.store.set_next(slot, link, next)
     }
@@ -237,7 +252,8 @@ impl Pool {
     pub(crate) fn take(&mut self, body: CellBody) -> Result<u32, ArenaFault>
         ensures free { IfOk result (λ s. get_or self.old.cells s None ≡ None) }
         ensures below { IfOk result (λ s. s < self.old.cap) }
-        ensures cells { IfOk result (λ s. self.new.cells ≡ put self.old.cells s (Some (lone (spec.mark_of self.old.turned false) body))) }
+        ensures cells { IfOk result (λ s. self.new.cells ≡ put self.old.cells s
+            (Some (lone (spec.mark_of self.old.turned false) body))) }
         ensures cap { self.new.cap ≡ self.old.cap }
         ensures turned { self.new.turned ≡ self.old.turned }
         ensures spare { spare_of self.old ≤ spare_of self.new + 1 }
@@ -266,7 +282,8 @@ impl Pool {
         ensures fits { spare_of self.new + filled self.new.cells ≤ self.new.cap }
         ensures ok { OnOk result (count ≤ spare_of self.new) }
         ensures full { result ≡ Err ArenaFault.Full → self.old.cap < filled self.old.cells + count }
-        ensures memory { result ≡ Err ArenaFault.Memory → filled self.old.cells + count ≤ self.old.cap }
+        ensures memory { result ≡ Err ArenaFault.Memory
+            → filled self.old.cells + count ≤ self.old.cap }
         ensures too_few { OnErr result (spare_of self.old < count) }
     {
         if count > self.cap - self.taken {

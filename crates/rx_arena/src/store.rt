@@ -1,5 +1,6 @@
 //! The blocks, and the cells in them by their slots' numbers.
-ghost use Rattle.std.specs.Prelude.{◌≡◌, ◌≢◌, ℕ, ◌*◌, ◌<◌, List, [], ◌++◌, length, replicate, slice_set};
+ghost use Rattle.std.specs.Prelude.{◌≡◌, ◌≢◌, ℕ, ◌*◌, ◌<◌, List, [], ◌++◌, length, replicate};
+ghost use Rattle.std.specs.Prelude.{slice_set};
 ghost use Rattle.std.specs.Prelude.{Option, Some, None, IfSome, OnOk, OnErr};
 ghost use Rattle.rx_arena.specs.Node.{Node, node_at, lone, changed};
 ghost use Rattle.rx_arena.specs.Node.{with_roots, next_in, with_next};

@@ -1,6 +1,7 @@
 //! The table of names: a symbol for each name, quoted flag and number of arguments.
 
-ghost use Rattle.std.specs.Prelude.{◌≡◌, ◌≢◌, ◌<◌, ℕ, MatchOption, IsSome, IfOk, Some, length, slice_get};
+ghost use Rattle.std.specs.Prelude.{◌≡◌, ◌≢◌, ◌<◌, ℕ, MatchOption, IsSome, IfOk, Some, length};
+ghost use Rattle.std.specs.Prelude.{slice_get};
 ghost use Rattle.rx_names.specs.Places.{AreApart};
 ghost use Rattle.rx_names.specs.Words.{words_of};
 ghost use Rattle.rx_names.specs.Entries.{AllAllowed};

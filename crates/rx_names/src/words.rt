@@ -1,6 +1,7 @@
 //! Names without their flags, each kept once, in order of first sight.
 
-ghost use Rattle.std.specs.Prelude.{◌≡◌, ◌≢◌, ◌<◌, ℕ, true, IfOk, IsSome, Some, MatchOption, map, nat_lt, slice_get, length};
+ghost use Rattle.std.specs.Prelude.{◌≡◌, ◌≢◌, ◌<◌, ℕ, true, IfOk, IsSome, Some, MatchOption, map};
+ghost use Rattle.std.specs.Prelude.{nat_lt, slice_get, length};
 ghost use Rattle.std.specs.List.{list_all};
 ghost use Rattle.rx_names.specs.Places.{AreApart, AllBytes};
 

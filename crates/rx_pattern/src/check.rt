@@ -36,7 +36,8 @@ fn is_plain<B: TermBank>(bank: &B, t: Term) -> bool
 // Pushes what is looked at below a tree.
 fn push_below<B: TermBank>(bank: &B, t: Term, stack: &mut Vec<Term>) -> Result<(), AllocError>
     requires { IsSome (tree_at (B.store bank.now) t) }
-    ensures { OnOk result ((u : Tree) → tree_at (B.store bank.now) t ≡ Some u → PushesTrees (B.store bank.now) (below u) stack.old.items stack.new.items) }
+    ensures { OnOk result ((u : Tree) → tree_at (B.store bank.now) t ≡ Some u
+        → PushesTrees (B.store bank.now) (below u) stack.old.items stack.new.items) }
 {
     if let Some(anns) = bank.anns(t) {
         stack.push(anns)?;
@@ -55,8 +56,10 @@ fn push_below<B: TermBank>(bank: &B, t: Term, stack: &mut Vec<Term>) -> Result<(
 /// Refuses what is no pattern.
 pub fn check<B: TermBank>(alloc: Global, bank: &B, t: Term) -> Result<(), PatternFault>
     requires { IsSome (tree_at (B.store bank.now) t) }
-    ensures fit { OnOk result ((u : Tree) → tree_at (B.store bank.now) t ≡ Some u → unfit u ≡ None) }
-    ensures unfit { IfErr result (λ fault. (u : Tree) → tree_at (B.store bank.now) t ≡ Some u → IsWhy fault (unfit u)) }
+    ensures fit { OnOk result
+        ((u : Tree) → tree_at (B.store bank.now) t ≡ Some u → unfit u ≡ None) }
+    ensures unfit { IfErr result
+        (λ fault. (u : Tree) → tree_at (B.store bank.now) t ≡ Some u → IsWhy fault (unfit u)) }
 {
     let mut plain = true;
     let mut stack = Vec::new(alloc);

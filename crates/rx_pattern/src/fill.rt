@@ -1,8 +1,10 @@
 //! Making a term of the nodes of a pattern.
 
-ghost use Rattle.std.specs.Prelude.{◌≡◌, ◌<◌, ◌^◌, ◌∷◌, List, map, length, IsSome, IfOk, IfErr, OnOk, Some, None};
+ghost use Rattle.std.specs.Prelude.{◌≡◌, ◌<◌, ◌^◌, ◌∷◌, List, map, length, IsSome, IfOk, IfErr};
+ghost use Rattle.std.specs.Prelude.{OnOk, Some, None};
 ghost use Rattle.rx_term.specs.Name.{IsAllowed};
-ghost use Rattle.rx_term.specs.Tree.{Tree, Trees, Int, Appl, Items, none, more, annotated, annotations};
+ghost use Rattle.rx_term.specs.Tree.{Tree, Trees, Int, Appl, Items, none, more, annotated};
+ghost use Rattle.rx_term.specs.Tree.{annotations};
 ghost use Rattle.rx_term.specs.Store.{tree_at};
 ghost use Rattle.rx_term.specs.Steps.{Grows};
 ghost use Rattle.rx_term.specs.Walks.{AllHeld};
@@ -11,7 +13,8 @@ ghost use Rattle.rx_pattern.specs.Code.{Piece, One, Several, joined};
 ghost use Rattle.rx_pattern.specs.Nodes.{step_of, tree_of_nodes, AreNodes};
 ghost use Rattle.rx_pattern.specs.Held.{HaveTrees};
 ghost use Rattle.rx_pattern.specs.Subjects.{OnStack, IsListed, Stands};
-ghost use Rattle.rx_pattern.specs.Making.{is_slot as is_slot_step, takes_as, slots_of_steps, IsMisfit, HasParts, IsValid};
+ghost use Rattle.rx_pattern.specs.Making.{is_slot as is_slot_step, takes_as, slots_of_steps};
+ghost use Rattle.rx_pattern.specs.Making.{IsMisfit, HasParts, IsValid};
 ghost use Rattle.rx_pattern.specs.Faults.{IsBankRefusal, IsMakeRefusal};
 
 use crate::faults::MakeFault;
@@ -52,7 +55,8 @@ fn is_plain_list<B: TermBank>(bank: &B, t: Term) -> bool
 // Whether a node takes a term, if it takes any.
 fn takes<B: TermBank>(bank: &B, node: &Node, t: Term) -> bool
     requires { IsSome (tree_at (B.store bank.now) t) }
-    ensures { (u : Tree) → tree_at (B.store bank.now) t ≡ Some u → result ≡ takes_as (step_of node.now) u }
+    ensures { (u : Tree) → tree_at (B.store bank.now) t ≡ Some u
+        → result ≡ takes_as (step_of node.now) u }
 {
     match node {
         Node::Placeholder(class) => fits(bank, *class, t),
@@ -64,7 +68,8 @@ fn takes<B: TermBank>(bank: &B, node: &Node, t: Term) -> bool
 /// Why the terms do not go into the nodes, if they do not.
 pub fn misfit<B: TermBank>(nodes: &[Node], bank: &B, args: &[Term]) -> Option<MakeFault>
     requires { AllHeld (B.store bank.now) args.now }
-    ensures { (bs : List Tree) → HaveTrees (B.store bank.now) args.now bs → IsMisfit result (slots_of_steps (map step_of nodes.now)) bs }
+    ensures { (bs : List Tree) → HaveTrees (B.store bank.now) args.now bs
+        → IsMisfit result (slots_of_steps (map step_of nodes.now)) bs }
 {
     if count_slots(nodes) != args.len() {
         return Some(MakeFault::Count);
@@ -85,7 +90,8 @@ pub fn misfit<B: TermBank>(nodes: &[Node], bank: &B, args: &[Term]) -> Option<Ma
 fn apply<B: TermBank>(bank: &mut B, name: &Name, args: Option<Term>) -> Result<Term, BankFault>
     requires list { (ts : Trees) × IsListed (B.store bank.old) args ts }
     requires allowed { IsAllowed name.now.bytes.items name.now.quoted }
-    ensures made { IfOk result (λ r. (ts : Trees) → IsListed (B.store bank.old) args ts → tree_at (B.store bank.new) r ≡ Some (Appl name.now.bytes.items name.now.quoted ts none)) }
+    ensures made { IfOk result (λ r. (ts : Trees) → IsListed (B.store bank.old) args ts
+        → tree_at (B.store bank.new) r ≡ Some (Appl name.now.bytes.items name.now.quoted ts none)) }
     ensures refused { IfErr result (IsBankRefusal (B.store bank.new)) }
     ensures grows { Grows (B.store bank.old) (B.store bank.new) }
 {
@@ -102,8 +108,12 @@ fn push_noted<B: TermBank>(
     made: &mut Vec<Option<Term>>,
 ) -> Result<(), MakeFault>
     requires bare { (u : Tree) × (tree_at (B.store bank.old) t ≡ Some u) × (annotations u ≡ none) }
-    requires newest { (anns : Trees) × ((ps : List Piece) × OnStack (Stands (B.store bank.old)) made.old.items (Several anns ∷ ps)) }
-    ensures made { OnOk result ((u : Tree) (anns : Trees) (ps : List Piece) → tree_at (B.store bank.old) t ≡ Some u → OnStack (Stands (B.store bank.old)) made.old.items (Several anns ∷ ps) → OnStack (Stands (B.store bank.new)) made.new.items (One (annotated u anns) ∷ ps)) }
+    requires newest { (anns : Trees) × ((ps : List Piece)
+        × OnStack (Stands (B.store bank.old)) made.old.items (Several anns ∷ ps)) }
+    ensures made { OnOk result ((u : Tree) (anns : Trees) (ps : List Piece)
+        → tree_at (B.store bank.old) t ≡ Some u
+        → OnStack (Stands (B.store bank.old)) made.old.items (Several anns ∷ ps)
+        → OnStack (Stands (B.store bank.new)) made.new.items (One (annotated u anns) ∷ ps)) }
     ensures refused { IfErr result (IsMakeRefusal (B.store bank.new)) }
     ensures grows { Grows (B.store bank.old) (B.store bank.new) }
 {
@@ -119,8 +129,11 @@ fn push_integer<B: TermBank>(
     value: i32,
     made: &mut Vec<Option<Term>>,
 ) -> Result<(), MakeFault>
-    requires { (anns : Trees) × ((ps : List Piece) × OnStack (Stands (B.store bank.old)) made.old.items (Several anns ∷ ps)) }
-    ensures made { OnOk result ((anns : Trees) (ps : List Piece) → OnStack (Stands (B.store bank.old)) made.old.items (Several anns ∷ ps) → OnStack (Stands (B.store bank.new)) made.new.items (One (Int value anns) ∷ ps)) }
+    requires { (anns : Trees) × ((ps : List Piece)
+        × OnStack (Stands (B.store bank.old)) made.old.items (Several anns ∷ ps)) }
+    ensures made { OnOk result ((anns : Trees) (ps : List Piece)
+        → OnStack (Stands (B.store bank.old)) made.old.items (Several anns ∷ ps)
+        → OnStack (Stands (B.store bank.new)) made.new.items (One (Int value anns) ∷ ps)) }
     ensures refused { IfErr result (IsMakeRefusal (B.store bank.new)) }
     ensures grows { Grows (B.store bank.old) (B.store bank.new) }
 {
@@ -134,9 +147,13 @@ fn push_application<B: TermBank>(
     name: &Name,
     made: &mut Vec<Option<Term>>,
 ) -> Result<(), MakeFault>
-    requires newest { (args : Trees) × ((anns : Trees) × ((ps : List Piece) × OnStack (Stands (B.store bank.old)) made.old.items (Several args ∷ Several anns ∷ ps))) }
+    requires newest { (args : Trees) × ((anns : Trees) × ((ps : List Piece)
+        × OnStack (Stands (B.store bank.old)) made.old.items (Several args ∷ Several anns ∷ ps))) }
     requires allowed { IsAllowed name.now.bytes.items name.now.quoted }
-    ensures made { OnOk result ((args anns : Trees) (ps : List Piece) → OnStack (Stands (B.store bank.old)) made.old.items (Several args ∷ Several anns ∷ ps) → OnStack (Stands (B.store bank.new)) made.new.items (One (Appl name.now.bytes.items name.now.quoted args anns) ∷ ps)) }
+    ensures made { OnOk result ((args anns : Trees) (ps : List Piece)
+        → OnStack (Stands (B.store bank.old)) made.old.items (Several args ∷ Several anns ∷ ps)
+        → OnStack (Stands (B.store bank.new)) made.new.items
+        (One (Appl name.now.bytes.items name.now.quoted args anns) ∷ ps)) }
     ensures refused { IfErr result (IsMakeRefusal (B.store bank.new)) }
     ensures grows { Grows (B.store bank.old) (B.store bank.new) }
 {
@@ -147,8 +164,11 @@ fn push_application<B: TermBank>(
 
 // Pushes the list of the newest of what was made.
 fn push_list<B: TermBank>(bank: &mut B, made: &mut Vec<Option<Term>>) -> Result<(), MakeFault>
-    requires { (items : Trees) × ((anns : Trees) × ((ps : List Piece) × OnStack (Stands (B.store bank.old)) made.old.items (Several items ∷ Several anns ∷ ps))) }
-    ensures made { OnOk result ((items anns : Trees) (ps : List Piece) → OnStack (Stands (B.store bank.old)) made.old.items (Several items ∷ Several anns ∷ ps) → OnStack (Stands (B.store bank.new)) made.new.items (One (Items items anns) ∷ ps)) }
+    requires { (items : Trees) × ((anns : Trees) × ((ps : List Piece)
+        × OnStack (Stands (B.store bank.old)) made.old.items (Several items ∷ Several anns ∷ ps))) }
+    ensures made { OnOk result ((items anns : Trees) (ps : List Piece)
+        → OnStack (Stands (B.store bank.old)) made.old.items (Several items ∷ Several anns ∷ ps)
+        → OnStack (Stands (B.store bank.new)) made.new.items (One (Items items anns) ∷ ps)) }
     ensures refused { IfErr result (IsMakeRefusal (B.store bank.new)) }
     ensures grows { Grows (B.store bank.old) (B.store bank.new) }
 {
@@ -159,8 +179,11 @@ fn push_list<B: TermBank>(bank: &mut B, made: &mut Vec<Option<Term>>) -> Result<
 
 // Pushes the newest tree in front of the list below it.
 fn push_item<B: TermBank>(bank: &mut B, made: &mut Vec<Option<Term>>) -> Result<(), MakeFault>
-    requires { (t : Tree) × ((ts : Trees) × ((ps : List Piece) × OnStack (Stands (B.store bank.old)) made.old.items (One t ∷ Several ts ∷ ps))) }
-    ensures made { OnOk result ((t : Tree) (ts : Trees) (ps : List Piece) → OnStack (Stands (B.store bank.old)) made.old.items (One t ∷ Several ts ∷ ps) → OnStack (Stands (B.store bank.new)) made.new.items (Several (more t ts) ∷ ps)) }
+    requires { (t : Tree) × ((ts : Trees) × ((ps : List Piece)
+        × OnStack (Stands (B.store bank.old)) made.old.items (One t ∷ Several ts ∷ ps))) }
+    ensures made { OnOk result ((t : Tree) (ts : Trees) (ps : List Piece)
+        → OnStack (Stands (B.store bank.old)) made.old.items (One t ∷ Several ts ∷ ps)
+        → OnStack (Stands (B.store bank.new)) made.new.items (Several (more t ts) ∷ ps)) }
     ensures refused { IfErr result (IsMakeRefusal (B.store bank.new)) }
     ensures grows { Grows (B.store bank.old) (B.store bank.new) }
 {
@@ -178,9 +201,12 @@ fn join<B: TermBank>(
     node: &Node,
     made: &mut Vec<Option<Term>>,
 ) -> Result<(), MakeFault>
-    requires parts { (ps : List Piece) × OnStack (Stands (B.store bank.old)) made.old.items ps × HasParts (step_of node.now) ps }
+    requires parts { (ps : List Piece) × OnStack (Stands (B.store bank.old)) made.old.items ps
+        × HasParts (step_of node.now) ps }
     requires valid { IsValid (step_of node.now) }
-    ensures made { OnOk result ((ps : List Piece) → OnStack (Stands (B.store bank.old)) made.old.items ps → HasParts (step_of node.now) ps → OnStack (Stands (B.store bank.new)) made.new.items (joined (step_of node.now) ps)) }
+    ensures made { OnOk result ((ps : List Piece)
+        → OnStack (Stands (B.store bank.old)) made.old.items ps → HasParts (step_of node.now) ps
+        → OnStack (Stands (B.store bank.new)) made.new.items (joined (step_of node.now) ps)) }
     ensures refused { IfErr result (IsMakeRefusal (B.store bank.new)) }
     ensures grows { Grows (B.store bank.old) (B.store bank.new) }
 {
@@ -204,8 +230,10 @@ pub fn fill<B: TermBank>(
     args: &[Term],
 ) -> Result<Term, MakeFault>
     requires nodes { AreNodes nodes.now }
-    requires fitting { (bs : List Tree) × HaveTrees (B.store bank.old) args.now bs × IsMisfit None (slots_of_steps (map step_of nodes.now)) bs }
-    ensures made { IfOk result (λ r. (bs : List Tree) → HaveTrees (B.store bank.old) args.now bs → tree_at (B.store bank.new) r ≡ Some (filled (tree_of_nodes nodes.now) bs).0) }
+    requires fitting { (bs : List Tree) × HaveTrees (B.store bank.old) args.now bs
+        × IsMisfit None (slots_of_steps (map step_of nodes.now)) bs }
+    ensures made { IfOk result (λ r. (bs : List Tree) → HaveTrees (B.store bank.old) args.now bs
+        → tree_at (B.store bank.new) r ≡ Some (filled (tree_of_nodes nodes.now) bs).0) }
     ensures refused { IfErr result (IsMakeRefusal (B.store bank.new)) }
     ensures grows { Grows (B.store bank.old) (B.store bank.new) }
 {

@@ -28,7 +28,8 @@ pub enum Job {
 // The node of a symbol.
 fn application<B: TermBank>(alloc: Global, bank: &B, symbol: Symbol) -> Result<Node, AllocError>
     requires { IsSome (signature_of (B.store bank.now) symbol) }
-    ensures { IfOk result (λ node. (s : Signature) → signature_of (B.store bank.now) symbol ≡ Some s → step_of node ≡ Named s.name s.quoted) }
+    ensures { IfOk result (λ node. (s : Signature) → signature_of (B.store bank.now) symbol ≡ Some s
+        → step_of node ≡ Named s.name s.quoted) }
 {
     let bytes = bank.name_of(symbol).to_vec(alloc)?;
     let quoted = bank.quoted_of(symbol);
@@ -42,8 +43,10 @@ fn tree_node<B: TermBank>(
     t: Term,
     jobs: &mut Vec<Job>,
 ) -> Result<Node, AllocError>
-    requires { (u : Tree) × (tree_at (B.store bank.now) t ≡ Some u) × (knows_placeholders u ≡ true) }
-    ensures { IfOk result (λ node. (u : Tree) → tree_at (B.store bank.now) t ≡ Some u → Opens (B.store bank.now) (One u) (step_of node) jobs.old.items jobs.new.items) }
+    requires { (u : Tree) × (tree_at (B.store bank.now) t ≡ Some u)
+        × (knows_placeholders u ≡ true) }
+    ensures { IfOk result (λ node. (u : Tree) → tree_at (B.store bank.now) t ≡ Some u
+        → Opens (B.store bank.now) (One u) (step_of node) jobs.old.items jobs.new.items) }
 {
     let anns = bank.anns(t);
     match bank.kind(t) {
@@ -86,7 +89,8 @@ fn items_node<B: TermBank>(
     jobs: &mut Vec<Job>,
 ) -> Result<Node, AllocError>
     requires { (ts : Trees) × IsListed (B.store bank.now) list ts }
-    ensures { IfOk result (λ node. (ts : Trees) → IsListed (B.store bank.now) list ts → Opens (B.store bank.now) (Several ts) (step_of node) jobs.old.items jobs.new.items) }
+    ensures { IfOk result (λ node. (ts : Trees) → IsListed (B.store bank.now) list ts
+        → Opens (B.store bank.now) (Several ts) (step_of node) jobs.old.items jobs.new.items) }
 {
     if is_empty(bank, list) {
         return Ok(Node::End);
@@ -110,7 +114,8 @@ fn next_node<B: TermBank>(
     jobs: &mut Vec<Job>,
 ) -> Result<Node, AllocError>
     requires { (v : Piece) × IsFor (B.store bank.now) job v × IsOfPattern v }
-    ensures { IfOk result (λ node. (v : Piece) → IsFor (B.store bank.now) job v → Opens (B.store bank.now) v (step_of node) jobs.old.items jobs.new.items) }
+    ensures { IfOk result (λ node. (v : Piece) → IsFor (B.store bank.now) job v
+        → Opens (B.store bank.now) v (step_of node) jobs.old.items jobs.new.items) }
 {
     match job {
         Job::Tree(t) => tree_node(alloc, bank, t, jobs),
@@ -121,7 +126,8 @@ fn next_node<B: TermBank>(
 /// The nodes of a pattern.
 pub fn flatten<B: TermBank>(alloc: Global, bank: &B, t: Term) -> Result<Vec<Node>, AllocError>
     requires { (u : Tree) × (tree_at (B.store bank.now) t ≡ Some u) × IsTrue (is_pattern u) }
-    ensures { IfOk result (λ nodes. (u : Tree) → tree_at (B.store bank.now) t ≡ Some u → map step_of nodes.items ≡ code u []) }
+    ensures { IfOk result (λ nodes. (u : Tree) → tree_at (B.store bank.now) t ≡ Some u
+        → map step_of nodes.items ≡ code u []) }
 {
     let mut nodes = Vec::new(alloc);
     let mut jobs = Vec::new(alloc);

@@ -1,7 +1,9 @@
-//! Lists without annotations of their own. A list may be given by no reference, which stands for no items.
+//! Lists without annotations of their own. A list may be given by no reference, which stands for no
+//! items.
 
 ghost use Rattle.std.specs.Prelude.{◌≡◌, ◌<◌, ◌^◌, IsSome, IfOk, IfErr, Some, None};
-ghost use Rattle.rx_term.specs.Tree.{Tree, Trees, none, annotated, annotations, list_of, is_none, count_of};
+ghost use Rattle.rx_term.specs.Tree.{Tree, Trees, none, annotated, annotations, list_of, is_none};
+ghost use Rattle.rx_term.specs.Tree.{count_of};
 ghost use Rattle.rx_term.specs.Store.{tree_at};
 ghost use Rattle.rx_term.specs.Steps.{Grows};
 ghost use Rattle.rx_pattern.specs.Held.{AddsOnlyLists};
@@ -24,7 +26,8 @@ pub fn is_empty<B: TermBank>(bank: &B, list: Option<Term>) -> bool
 /// The items as a list without annotations.
 pub fn plain<B: TermBank>(bank: &mut B, list: Option<Term>) -> Result<Term, BankFault>
     requires { (ts : Trees) × IsListed (B.store bank.old) list ts }
-    ensures list { IfOk result (λ r. (ts : Trees) → IsListed (B.store bank.old) list ts → tree_at (B.store bank.new) r ≡ Some (list_of ts)) }
+    ensures list { IfOk result (λ r. (ts : Trees) → IsListed (B.store bank.old) list ts
+        → tree_at (B.store bank.new) r ≡ Some (list_of ts)) }
     ensures refused { IfErr result (IsBankRefusal (B.store bank.new)) }
     ensures grows { Grows (B.store bank.old) (B.store bank.new) }
     ensures added { AddsOnlyLists (B.store bank.old) (B.store bank.new) }
@@ -43,7 +46,9 @@ pub fn plain<B: TermBank>(bank: &mut B, list: Option<Term>) -> Result<Term, Bank
 pub fn noted<B: TermBank>(bank: &mut B, t: Term, anns: Option<Term>) -> Result<Term, BankFault>
     requires bare { (u : Tree) × (tree_at (B.store bank.old) t ≡ Some u) × (annotations u ≡ none) }
     requires list { (as' : Trees) × IsListed (B.store bank.old) anns as' }
-    ensures noted { IfOk result (λ r. (u : Tree) (as' : Trees) → tree_at (B.store bank.old) t ≡ Some u → IsListed (B.store bank.old) anns as' → tree_at (B.store bank.new) r ≡ Some (annotated u as')) }
+    ensures noted { IfOk result (λ r. (u : Tree) (as' : Trees)
+        → tree_at (B.store bank.old) t ≡ Some u → IsListed (B.store bank.old) anns as'
+        → tree_at (B.store bank.new) r ≡ Some (annotated u as')) }
     ensures refused { IfErr result (IsBankRefusal (B.store bank.new)) }
     ensures grows { Grows (B.store bank.old) (B.store bank.new) }
 {
@@ -57,7 +62,8 @@ pub fn noted<B: TermBank>(bank: &mut B, t: Term, anns: Option<Term>) -> Result<T
 /// How many items a list has.
 pub fn count<B: TermBank>(bank: &B, list: Term) -> u32
     requires { (ts : Trees) × (tree_at (B.store bank.now) list ≡ Some (list_of ts)) }
-    ensures { (ts : Trees) → tree_at (B.store bank.now) list ≡ Some (list_of ts) → result ≡ count_of ts }
+    ensures { (ts : Trees) → tree_at (B.store bank.now) list ≡ Some (list_of ts)
+        → result ≡ count_of ts }
 {
     let mut rest = list;
     // each tail of a list has a cell of its own

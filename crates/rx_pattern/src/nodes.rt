@@ -24,8 +24,9 @@ pub struct Name {
     pub quoted: bool,
 }
 
-/// A tree is its own node, then the arguments or elements, then the annotations; but a placeholder is one node.
-/// A list is an `Item` before each tree in it, and an `End` or, for a last `<list>`, a `Rest`.
+/// A tree is its own node, then the arguments or elements, then the annotations; but a placeholder
+/// is one node. A list is an `Item` before each tree in it, and an `End` or, for a last `<list>`, a
+/// `Rest`.
 #[derive(Drop)]
 pub enum Node {
     /// The integer.

@@ -1,6 +1,7 @@
 //! Patterns.
 
-ghost use Rattle.std.specs.Prelude.{◌≡◌, ◌↔◌, ℕ, List, [], Some, None, Ok, Err, IsSome, IfSome, IfOk, IfErr, OnErr, IsErrOf, length};
+ghost use Rattle.std.specs.Prelude.{◌≡◌, ◌↔◌, ℕ, List, [], Some, None, Ok, Err, IsSome, IfSome};
+ghost use Rattle.std.specs.Prelude.{IfOk, IfErr, OnErr, IsErrOf, length};
 ghost use Rattle.rx_term.specs.Tree.{Tree};
 ghost use Rattle.rx_term.specs.Store.{tree_at, cells};
 ghost use Rattle.rx_term.specs.Steps.{Grows};
@@ -44,14 +45,16 @@ impl Model for Pattern {
 }
 
 impl Pattern {
-    /// The pattern that a term of the bank is. `Unknown` where a placeholder is not one of the six, else `Annotated` where one has
-    /// annotations.
+    /// The pattern that a term of the bank is. `Unknown` where a placeholder is not one of the six,
+    /// else `Annotated` where one has annotations.
     pub fn of<B: TermBank>(alloc: Global, bank: &B, t: Term) -> Result<Pattern, PatternFault>
         requires { IsSome (tree_at (B.store bank.now) t) }
         ensures made { IfOk result (λ p. tree_at (B.store bank.now) t ≡ Some p) }
         ensures fit { IfOk result (λ p. unfit p ≡ None) }
-        ensures unknown { IsErrOf result PatternFault.Unknown → IfSome (tree_at (B.store bank.now) t) (λ u. unfit u ≡ Some Unknown) }
-        ensures annotated { IsErrOf result PatternFault.Annotated → IfSome (tree_at (B.store bank.now) t) (λ u. unfit u ≡ Some Annotated) }
+        ensures unknown { IsErrOf result PatternFault.Unknown
+            → IfSome (tree_at (B.store bank.now) t) (λ u. unfit u ≡ Some Unknown) }
+        ensures annotated { IsErrOf result PatternFault.Annotated
+            → IfSome (tree_at (B.store bank.now) t) (λ u. unfit u ≡ Some Annotated) }
         ensures never_full { IsErrOf result PatternFault.Full → ⊥ }
     {
         check(alloc, bank, t)?;
@@ -59,9 +62,9 @@ impl Pattern {
         Ok(Pattern { alloc, nodes })
     }
 
-    /// Whether the pattern matches a term, and references of its bindings, in order. In the bank only `[]` and annotated lists without
-    /// their annotations are new.
-    /// `out` is empty after any other answer than true.
+    /// Whether the pattern matches a term, and references of its bindings, in order. In the bank
+    /// only `[]` and annotated lists without their annotations are new. `out` is empty after any
+    /// other answer than true.
     pub fn matches<B: TermBank>(
         &self,
         bank: &mut B,
@@ -69,7 +72,8 @@ impl Pattern {
         out: &mut Vec<Term>,
     ) -> Result<bool, PatternFault>
         requires { IsSome (tree_at (B.store bank.old) t) }
-        ensures answer { IfOk result (λ found. (u : Tree) → tree_at (B.store bank.old) t ≡ Some u → Binds (B.store bank.new) (matching self.now u) out.new.items found) }
+        ensures answer { IfOk result (λ found. (u : Tree) → tree_at (B.store bank.old) t ≡ Some u
+            → Binds (B.store bank.new) (matching self.now u) out.new.items found) }
         ensures refused { IfErr result (IsMatchRefusal (B.store bank.new)) }
         ensures emptied { OnErr result (out.new.items ≡ []) }
         ensures grows { Grows (B.store bank.old) (B.store bank.new) }
@@ -96,15 +100,21 @@ impl Pattern {
         count_slots(&self.nodes)
     }
 
-    /// The pattern with terms in place of its placeholders, in order. `Count` where there are not as many; else `Kind` with the least
-    /// place of a term that its placeholder does not take; then nothing changed.
+    /// The pattern with terms in place of its placeholders, in order. `Count` where there are not
+    /// as many; else `Kind` with the least place of a term that its placeholder does not take; then
+    /// nothing changed.
     pub fn make<B: TermBank>(&self, bank: &mut B, args: &[Term]) -> Result<Term, MakeFault>
         requires { AllHeld (B.store bank.old) args.now }
-        ensures made { IfOk result (λ r. (bs : List Tree) → HaveTrees (B.store bank.old) args.now bs → (u : Tree) × (filling self.now bs ≡ Ok u) × (tree_at (B.store bank.new) r ≡ Some u)) }
-        ensures count { (bs : List Tree) → HaveTrees (B.store bank.old) args.now bs → (IsErrOf result MakeFault.Count ↔ (filling self.now bs ≡ Err Count)) }
-        ensures kind { (bs : List Tree) → HaveTrees (B.store bank.old) args.now bs → (at : ℕ) → (IsErrOf result (MakeFault.Kind at) ↔ (filling self.now bs ≡ Err (Kinds at))) }
-        ensures unchanged { IfErr result (λ fault. IsOfTerms fault → B.store bank.new ≡ B.store bank.old) }
-        ensures full { IsErrOf result MakeFault.Full → cells (B.store bank.new) ≡ (B.store bank.new).cap }
+        ensures made { IfOk result (λ r. (bs : List Tree) → HaveTrees (B.store bank.old) args.now bs
+            → (u : Tree) × (filling self.now bs ≡ Ok u) × (tree_at (B.store bank.new) r ≡ Some u)) }
+        ensures count { (bs : List Tree) → HaveTrees (B.store bank.old) args.now bs
+            → (IsErrOf result MakeFault.Count ↔ (filling self.now bs ≡ Err Count)) }
+        ensures kind { (bs : List Tree) → HaveTrees (B.store bank.old) args.now bs → (at : ℕ)
+            → (IsErrOf result (MakeFault.Kind at) ↔ (filling self.now bs ≡ Err (Kinds at))) }
+        ensures unchanged { IfErr result
+            (λ fault. IsOfTerms fault → B.store bank.new ≡ B.store bank.old) }
+        ensures full { IsErrOf result MakeFault.Full
+            → cells (B.store bank.new) ≡ (B.store bank.new).cap }
         ensures grows { Grows (B.store bank.old) (B.store bank.new) }
     {
         if let Some(fault) = misfit(&self.nodes, bank, args) {

@@ -28,7 +28,9 @@ fn match_integer<B: TermBank>(
     subjects: &mut Vec<Option<Term>>,
 ) -> Result<bool, AllocError>
     requires { IsSome (tree_at (B.store bank.now) t) }
-    ensures { IfOk result (λ matched. (u : Tree) → tree_at (B.store bank.now) t ≡ Some u → Met (B.store bank.now) (meets (Number value) (One u)) subjects.old.items subjects.new.items matched) }
+    ensures { IfOk result (λ matched. (u : Tree) → tree_at (B.store bank.now) t ≡ Some u
+        → Met (B.store bank.now) (meets (Number value) (One u)) subjects.old.items
+        subjects.new.items matched) }
 {
     let Kind::Int(other) = bank.kind(t) else {
         return Ok(false);
@@ -43,12 +45,14 @@ fn match_integer<B: TermBank>(
 // Whether the symbol has the name.
 fn is_name<B: TermBank>(bank: &B, symbol: Symbol, name: &Name) -> bool
     requires { IsSome (signature_of (B.store bank.now) symbol) }
-    ensures { (g : Signature) → signature_of (B.store bank.now) symbol ≡ Some g → result ≡ (bytes_eq name.now.bytes.items g.name && beq name.now.quoted g.quoted) }
+    ensures { (g : Signature) → signature_of (B.store bank.now) symbol ≡ Some g
+        → result ≡ (bytes_eq name.now.bytes.items g.name && beq name.now.quoted g.quoted) }
 {
     name.bytes.as_slice() == bank.name_of(symbol) && name.quoted == bank.quoted_of(symbol)
 }
 
-// Whether the tree is an application of this name; its arguments are left, and then its annotations.
+// Whether the tree is an application of this name; its arguments are left, and then its
+// annotations.
 fn match_application<B: TermBank>(
     bank: &B,
     name: &Name,
@@ -56,7 +60,9 @@ fn match_application<B: TermBank>(
     subjects: &mut Vec<Option<Term>>,
 ) -> Result<bool, AllocError>
     requires { IsSome (tree_at (B.store bank.now) t) }
-    ensures { IfOk result (λ matched. (u : Tree) → tree_at (B.store bank.now) t ≡ Some u → Met (B.store bank.now) (meets (Named name.now.bytes.items name.now.quoted) (One u)) subjects.old.items subjects.new.items matched) }
+    ensures { IfOk result (λ matched. (u : Tree) → tree_at (B.store bank.now) t ≡ Some u
+        → Met (B.store bank.now) (meets (Named name.now.bytes.items name.now.quoted) (One u))
+        subjects.old.items subjects.new.items matched) }
 {
     let Kind::Appl(symbol) = bank.kind(t) else {
         return Ok(false);
@@ -78,7 +84,9 @@ fn match_list<B: TermBank>(
     subjects: &mut Vec<Option<Term>>,
 ) -> Result<bool, AllocError>
     requires { IsSome (tree_at (B.store bank.now) t) }
-    ensures { IfOk result (λ matched. (u : Tree) → tree_at (B.store bank.now) t ≡ Some u → Met (B.store bank.now) (meets (Listing) (One u)) subjects.old.items subjects.new.items matched) }
+    ensures { IfOk result (λ matched. (u : Tree) → tree_at (B.store bank.now) t ≡ Some u
+        → Met (B.store bank.now) (meets (Listing) (One u)) subjects.old.items
+        subjects.new.items matched) }
 {
     if !fits(bank, Class::List, t) {
         return Ok(false);
@@ -95,7 +103,9 @@ fn match_item<B: TermBank>(
     subjects: &mut Vec<Option<Term>>,
 ) -> Result<bool, AllocError>
     requires { (ts : Trees) × IsListed (B.store bank.now) list ts }
-    ensures { IfOk result (λ matched. (ts : Trees) → IsListed (B.store bank.now) list ts → Met (B.store bank.now) (meets Item (Several ts)) subjects.old.items subjects.new.items matched) }
+    ensures { IfOk result (λ matched. (ts : Trees) → IsListed (B.store bank.now) list ts
+        → Met (B.store bank.now) (meets Item (Several ts)) subjects.old.items
+        subjects.new.items matched) }
 {
     if is_empty(bank, list) {
         return Ok(false);
@@ -115,7 +125,10 @@ fn match_node<B: TermBank>(
     out: &mut Vec<Term>,
 ) -> Result<bool, PatternFault>
     requires { (v : Piece) × Stands (B.store bank.old) subject v × Suits (step_of node.now) v }
-    ensures met { IfOk result (λ matched. (v : Piece) → Stands (B.store bank.old) subject v → Suits (step_of node.now) v → MetOrNot (B.store bank.old) (B.store bank.new) (meets (step_of node.now) v) subjects.old.items subjects.new.items out.old.items out.new.items matched) }
+    ensures met { IfOk result (λ matched. (v : Piece) → Stands (B.store bank.old) subject v
+        → Suits (step_of node.now) v → MetOrNot (B.store bank.old) (B.store bank.new)
+        (meets (step_of node.now) v) subjects.old.items subjects.new.items out.old.items
+        out.new.items matched) }
     ensures refused { IfErr result (IsMatchRefusal (B.store bank.new)) }
     ensures grows { Grows (B.store bank.old) (B.store bank.new) }
     ensures added { AddsOnlyLists (B.store bank.old) (B.store bank.new) }
@@ -153,7 +166,8 @@ pub fn match_nodes<B: TermBank>(
     requires nodes { AreNodes nodes.now }
     requires held { IsSome (tree_at (B.store bank.old) t) }
     requires empty { out.old.items ≡ [] }
-    ensures answer { IfOk result (λ found. (u : Tree) → tree_at (B.store bank.old) t ≡ Some u → Answers (B.store bank.new) (matching (tree_of_nodes nodes.now) u) out.new.items found) }
+    ensures answer { IfOk result (λ found. (u : Tree) → tree_at (B.store bank.old) t ≡ Some u
+        → Answers (B.store bank.new) (matching (tree_of_nodes nodes.now) u) out.new.items found) }
     ensures refused { IfErr result (IsMatchRefusal (B.store bank.new)) }
     ensures grows { Grows (B.store bank.old) (B.store bank.new) }
     ensures added { AddsOnlyLists (B.store bank.old) (B.store bank.new) }

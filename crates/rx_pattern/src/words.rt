@@ -33,7 +33,8 @@ pub fn class_named(word: &[u8]) -> Option<Class>
 /// What a placeholder with this inside stands for, where it is one of the six.
 pub fn class_of<B: TermBank>(bank: &B, inner: Term) -> Option<Class>
     requires { IsSome (tree_at (B.store bank.now) inner) }
-    ensures { (u : Tree) → tree_at (B.store bank.now) inner ≡ Some u → option_map kind_of_class result ≡ kind_of u }
+    ensures { (u : Tree) → tree_at (B.store bank.now) inner ≡ Some u
+        → option_map kind_of_class result ≡ kind_of u }
 {
     let Kind::Appl(symbol) = bank.kind(inner) else {
         return None;
@@ -47,7 +48,8 @@ pub fn class_of<B: TermBank>(bank: &B, inner: Term) -> Option<Class>
 /// Whether a placeholder stands for the tree.
 pub fn fits<B: TermBank>(bank: &B, class: Class, t: Term) -> bool
     requires { IsSome (tree_at (B.store bank.now) t) }
-    ensures { (u : Tree) → tree_at (B.store bank.now) t ≡ Some u → result ≡ fits (kind_of_class class) u }
+    ensures { (u : Tree) → tree_at (B.store bank.now) t ≡ Some u
+        → result ≡ fits (kind_of_class class) u }
 {
     match class {
         Class::Term => true,

@@ -4,7 +4,8 @@ ghost use Rattle.std.specs.Prelude.{◌≡◌, ◌<◌, ℕ, ◌∷◌, [], leng
 ghost use Rattle.rx_term.specs.declared.Term.{Term};
 ghost use Rattle.rx_term.specs.Heap.{links, node_links, notes_links};
 ghost use Rattle.rx_plain.specs.Slots.{cell_of, node_of, notes_of};
-ghost use Rattle.rx_plain.specs.Marks.{Marks, Fresh, AreLinksWithin, links_below, Passes, Spreads, Reaches, root_marked};
+ghost use Rattle.rx_plain.specs.Marks.{Marks, Fresh, AreLinksWithin, links_below, Passes, Spreads};
+ghost use Rattle.rx_plain.specs.Marks.{Reaches, root_marked};
 
 use crate::slots::{Body, Shape, Slot};
 use rx_term::Term;

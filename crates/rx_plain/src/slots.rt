@@ -1,6 +1,7 @@
 //! Slots: what each holds, and the first that holds a body or nothing.
 
-ghost use Rattle.std.specs.Prelude.{◌≡◌, ◌≢◌, ◌<◌, ◌↔◌, ℕ, IsTrue, Some, None, length, map, count_by, MatchOption};
+ghost use Rattle.std.specs.Prelude.{◌≡◌, ◌≢◌, ◌<◌, ◌↔◌, ℕ, IsTrue, Some, None, length, map};
+ghost use Rattle.std.specs.Prelude.{count_by, MatchOption};
 ghost use Rattle.rx_plain.specs.Slots.{swept_of, is_taken, heap_of, cell_of, cell_in};
 
 use rx_term::{Symbol, Term};

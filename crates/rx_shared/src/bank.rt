@@ -35,7 +35,8 @@ pub struct SharedBank {
     ghost chained: { length arena.chains ≡ 2 ^ bits },
     ghost tidy: { IsTidy arena },
     ghost distinct: { IsDistinct (heap_of arena) },
-    ghost whole: { Least (is_whole (heap_of arena) (table_of (symbols_of names)) arena.cap) } by { Least-prop (is_whole (heap_of arena) (table_of (symbols_of names)) arena.cap) },
+    ghost whole: { Least (is_whole (heap_of arena) (table_of (symbols_of names)) arena.cap) } by
+        { Least-prop (is_whole (heap_of arena) (table_of (symbols_of names)) arena.cap) },
 }
 
 impl SharedBank {
@@ -69,7 +70,8 @@ impl SharedBank {
         })
     }
 
-    /// The arena, which holds the bank's trees and nothing else: reference and slot have the same number.
+    /// The arena, which holds the bank's trees and nothing else: reference and slot have the same
+    /// number.
     pub fn arena(&self) -> &Arena
         ensures mirrors { Mirrors (store_of self.now) result.now }
         ensures law { IsArena result.now }

@@ -1,7 +1,9 @@
 //! The sweep: what is not marked goes back.
-ghost use Rattle.std.specs.Prelude.{◌≡◌, ℕ, ◌+◌, ◌<◌, List, [], length, slice_set, false, None, map, filter, if◌then◌else◌};
+ghost use Rattle.std.specs.Prelude.{◌≡◌, ℕ, ◌+◌, ◌<◌, List, [], length, slice_set, false, None};
+ghost use Rattle.std.specs.Prelude.{map, filter, if◌then◌else◌};
 ghost use Rattle.rx_arena.specs.Put.{times, put};
-ghost use Rattle.rx_arena.specs.Arena.{taken_at, IsTaken, taken_count, InChain, IsLoose, roots_at, chain_at, kept_in, marked_at, IsMarked, IsArena};
+ghost use Rattle.rx_arena.specs.Arena.{taken_at, IsTaken, taken_count, InChain, IsLoose, roots_at};
+ghost use Rattle.rx_arena.specs.Arena.{chain_at, kept_in, marked_at, IsMarked, IsArena};
 ghost use Rattle.rx_sweep.specs.Reach.{home, IsHomed};
 
 use rx_arena::Slot;
@@ -27,7 +29,10 @@ fn drop_slot(arena: &mut Arena, slot: Slot)
     requires unmarked { marked_at arena.old slot.0 ≡ false }
     requires unprotected { roots_at arena.old slot.0 ≡ 0 }
     requires homed { (c : ℕ) → 0 < times slot.0 (chain_at arena.old c) → c ≡ home arena.old slot.0 }
-    ensures after { arena.new ≡ record arena.old { cells = put arena.old.cells slot.0 None; chains = slice_set arena.old.chains (home arena.old slot.0) (kept_in arena.old (home arena.old slot.0)); spare = arena.old.spare + 1 } }
+    ensures after { arena.new ≡ record arena.old
+        { cells = put arena.old.cells slot.0 None;
+        chains = slice_set arena.old.chains (home arena.old slot.0)
+        (kept_in arena.old (home arena.old slot.0)); spare = arena.old.spare + 1 } }
     ensures law { IsArena arena.new }
 {
     let chain = arena.home(arena.read(slot).hash);
@@ -35,16 +40,19 @@ fn drop_slot(arena: &mut Arena, slot: Slot)
     arena.give_back(slot);
 }
 
-/// Gives back the slots that are not marked, from the last one on, so that the first one is taken next.
+/// Gives back the slots that are not marked, from the last one on, so that the first one is taken
+/// next.
 fn give_back_unmarked(arena: &mut Arena)
     requires no_gray { arena.old.gray ≡ [] }
     requires loose { (s : ℕ) → marked_at arena.old s ≡ false → IsLoose arena.old s }
     requires roots { (s : ℕ) → 0 < roots_at arena.old s → IsMarked arena.old s }
     requires law { IsArena arena.old }
-    ensures cells { (s : ℕ) → taken_at arena.new s ≡ (if marked_at arena.old s then taken_at arena.old s else None) }
+    ensures cells { (s : ℕ)
+        → taken_at arena.new s ≡ (if marked_at arena.old s then taken_at arena.old s else None) }
     ensures chains { arena.new.chains ≡ arena.old.chains }
     ensures no_gray { arena.new.gray ≡ [] }
-    ensures spare { arena.new.spare + taken_count arena.new ≡ arena.old.spare + taken_count arena.old }
+    ensures spare { arena.new.spare + taken_count
+        arena.new ≡ arena.old.spare + taken_count arena.old }
     ensures cap { arena.new.cap ≡ arena.old.cap }
     ensures law { IsArena arena.new }
 {
@@ -63,10 +71,12 @@ pub(crate) fn sweep(arena: &mut Arena)
     requires no_gray { arena.old.gray ≡ [] }
     requires chained { (s : ℕ) → IsTaken arena.old s → InChain arena.old s }
     requires roots { (s : ℕ) → 0 < roots_at arena.old s → IsMarked arena.old s }
-    ensures cells { (s : ℕ) → taken_at arena.new s ≡ (if marked_at arena.old s then taken_at arena.old s else None) }
+    ensures cells { (s : ℕ)
+        → taken_at arena.new s ≡ (if marked_at arena.old s then taken_at arena.old s else None) }
     ensures chains { arena.new.chains ≡ map (filter (λ s. marked_at arena.old s)) arena.old.chains }
     ensures no_gray { arena.new.gray ≡ [] }
-    ensures spare { arena.new.spare + taken_count arena.new ≡ arena.old.spare + taken_count arena.old }
+    ensures spare { arena.new.spare + taken_count
+        arena.new ≡ arena.old.spare + taken_count arena.old }
     ensures cap { arena.new.cap ≡ arena.old.cap }
     ensures law { IsArena arena.new }
 {
@@ -80,10 +90,12 @@ pub(crate) fn sweep_by_hash(arena: &mut Arena)
     requires homed { IsHomed arena.old }
     requires chained { (s : ℕ) → IsTaken arena.old s → InChain arena.old s }
     requires roots { (s : ℕ) → 0 < roots_at arena.old s → IsMarked arena.old s }
-    ensures cells { (s : ℕ) → taken_at arena.new s ≡ (if marked_at arena.old s then taken_at arena.old s else None) }
+    ensures cells { (s : ℕ)
+        → taken_at arena.new s ≡ (if marked_at arena.old s then taken_at arena.old s else None) }
     ensures chains { arena.new.chains ≡ map (filter (λ s. marked_at arena.old s)) arena.old.chains }
     ensures no_gray { arena.new.gray ≡ [] }
-    ensures spare { arena.new.spare + taken_count arena.new ≡ arena.old.spare + taken_count arena.old }
+    ensures spare { arena.new.spare + taken_count
+        arena.new ≡ arena.old.spare + taken_count arena.old }
     ensures cap { arena.new.cap ≡ arena.old.cap }
     ensures law { IsArena arena.new }
 {

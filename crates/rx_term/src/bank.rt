@@ -59,7 +59,8 @@ pub trait TermBank {
 
     /// The reference of the empty list.
     fn nil(&mut self) -> Result<Term, BankFault>
-        ensures { MakesOrRefuses (store self.old) (store self.new) (Some (Items none none)) result };
+        ensures { MakesOrRefuses (store self.old) (store self.new)
+            (Some (Items none none)) result };
 
     /// The reference of a list with one item more in front.
     fn cons(&mut self, head: Term, tail: Term) -> Result<Term, BankFault>
@@ -69,9 +70,11 @@ pub trait TermBank {
 
     /// The reference of an application of a symbol to a list of as many arguments as it takes.
     fn appl(&mut self, sym: Symbol, args: Term) -> Result<Term, BankFault>
-        requires { let w = store self.old in IsSome (applied (signature_of w sym) (tree_at w args)) }
+        requires { let w = store self.old in
+            IsSome (applied (signature_of w sym) (tree_at w args)) }
         ensures { let w = store self.old in
-            MakesOrRefuses w (store self.new) (applied (signature_of w sym) (tree_at w args)) result };
+            MakesOrRefuses w (store self.new)
+            (applied (signature_of w sym) (tree_at w args)) result };
 
     /// The reference of a placeholder.
     fn hole(&mut self, inner: Term) -> Result<Term, BankFault>

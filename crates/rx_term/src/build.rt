@@ -14,7 +14,8 @@ use crate::{BankFault, Term, TermBank};
 pub fn constant<B: TermBank>(bank: &mut B, name: &[u8]) -> Result<Term, BankFault>
     requires { IsAllowed name.now false }
     ensures grows { Grows (B.store bank.old) (B.store bank.new) }
-    ensures made { IfOk result (λ r. tree_at (B.store bank.new) r ≡ Some (Appl name.now false none none)) }
+    ensures made { IfOk result
+        (λ r. tree_at (B.store bank.new) r ≡ Some (Appl name.now false none none)) }
 {
     let sym = bank.symbol(name, false, 0)?;
     let nil = bank.nil()?;
@@ -25,7 +26,8 @@ pub fn constant<B: TermBank>(bank: &mut B, name: &[u8]) -> Result<Term, BankFaul
 pub fn list<B: TermBank>(bank: &mut B, items: &[Term]) -> Result<Term, BankFault>
     requires { (t : Term) → Contains items.now t → IsSome (tree_at (B.store bank.old) t) }
     ensures grows { Grows (B.store bank.old) (B.store bank.new) }
-    ensures made { IfOk result (λ r. Lists (B.store bank.old) items.now (tree_at (B.store bank.new) r)) }
+    ensures made { IfOk result
+        (λ r. Lists (B.store bank.old) items.now (tree_at (B.store bank.new) r)) }
 {
     let mut list = bank.nil()?;
     let mut left = items.len();

@@ -1,7 +1,8 @@
 //! Rows that any bank gives, as calls for the tests of each bank.
 #![tactic(auto, using(crate::proofs::StoreLemmas::bank_steps))]
 
-ghost use Rattle.std.specs.Prelude.{◌≡◌, ℕ, ◌+◌, ◌≤◌, ◌<◌, false, IsTrue, IsSome, IfOk, Some, None, codes};
+ghost use Rattle.std.specs.Prelude.{◌≡◌, ℕ, ◌+◌, ◌≤◌, ◌<◌, false, IsTrue, IsSome, IfOk, Some, None};
+ghost use Rattle.std.specs.Prelude.{codes};
 ghost use Rattle.rx_term.specs.Tree.{Appl, none, more};
 ghost use Rattle.rx_term.specs.Store.{tree_at, signature_of, cells};
 ghost use Rattle.rx_term.specs.Rows.{HasTree, noted_seven};
@@ -13,7 +14,8 @@ use crate::{BankFault, Kind, Term, TermBank};
 pub fn pair<B: TermBank>(bank: &mut B) -> Result<(Term, bool), BankFault>
     ensures tree { IfOk result (λ r. tree_at (B.store bank.new) r.0 ≡
         Some (Appl (codes "f") false
-        (more (Appl (codes "a") false none none) (more (Appl (codes "a") false none none) none)) none)) }
+        (more (Appl (codes "a") false none none)
+        (more (Appl (codes "a") false none none) none)) none)) }
     ensures shared { IfOk result (λ r. IsTrue r.1) }
 {
     let first = constant(bank, b"a")?;
@@ -26,8 +28,8 @@ pub fn pair<B: TermBank>(bank: &mut B) -> Result<(Term, bool), BankFault>
     Ok((r, first == second))
 }
 
-/// Whether the rows hold of two empty banks: of cap 5 and of cap 10. Where they do, the first one is of that cap and
-/// empty again, and the second one has a placeholder of 7 with the annotation 7.
+/// Whether the rows hold of two empty banks: of cap 5 and of cap 10. Where they do, the first one
+/// is of that cap and empty again, and the second one has a placeholder of 7 with the annotation 7.
 pub fn hold<B: TermBank>(five: &mut B, ten: &mut B) -> Result<bool, BankFault>
     requires { (t : ℕ) → (B.store five.old).roots t ≡ 0 }
     ensures limit { IfOk result (λ b. IsTrue b → (B.store five.new).cap ≡ 5) }
@@ -101,7 +103,8 @@ fn unroot<B: TermBank>(bank: &mut B, a: Term)
     }
 }
 
-/// In an empty bank of cap 10: a placeholder of 7 with the annotation list of 7; whether its parts are as they were made.
+/// In an empty bank of cap 10: a placeholder of 7 with the annotation list of 7; whether its parts
+/// are as they were made.
 fn notes<B: TermBank>(bank: &mut B) -> Result<bool, BankFault>
     ensures { IfOk result (λ b. IsTrue b → HasTree (B.store bank.new) noted_seven) }
 {
@@ -115,7 +118,8 @@ fn notes<B: TermBank>(bank: &mut B) -> Result<bool, BankFault>
     Ok(named && listed && bank.kind(noted) == Kind::Hole && bank.kind(seven) == Kind::Int(7))
 }
 
-/// Of a bank with `a` and what it is made of: what stays while `a` is rooted as often as it can be, and after.
+/// Of a bank with `a` and what it is made of: what stays while `a` is rooted as often as it can be,
+/// and after.
 fn reclaims<B: TermBank>(bank: &mut B, a: Term) -> bool
     requires held { IsSome (tree_at (B.store bank.old) a) }
     requires unrooted { (B.store bank.old).roots a.0 ≡ 0 }

@@ -10,11 +10,13 @@ ghost use Rattle.rx_term.specs.Walks.{PushesInside, PushesAnns};
 use crate::{Kind, Term, TermBank};
 use std::alloc::{AllocError, Global};
 
-/// How many nodes a tree has, each counted as often as it occurs; the largest number where there are more.
+/// How many nodes a tree has, each counted as often as it occurs; the largest number where there
+/// are more.
 pub fn count_nodes<B: TermBank>(alloc: Global, bank: &B, t: Term) -> Result<u64, AllocError>
     requires { IsSome (tree_at (B.store bank.now) t) }
     ensures { IfOk result (λ n. Some n ≡
-        option_and_then (λ u. Some (min (length (parts u)) u64.MAX)) (tree_at (B.store bank.now) t)) }
+        option_and_then (λ u. Some (min (length (parts u)) u64.MAX))
+        (tree_at (B.store bank.now) t)) }
 {
     let mut stack = Vec::new(alloc);
     stack.push(t)?;

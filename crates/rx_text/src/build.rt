@@ -18,9 +18,12 @@ use std::alloc::Global;
 
 // The list of the last so many references, which it takes away.
 fn take_list<B: TermBank>(made: &mut Vec<Term>, count: u32, bank: &mut B) -> Result<Term, BankFault>
-    requires held { (trees : List Tree) × Holds (B.store bank.old) made.old.items trees × (count ≤ length trees) }
-    ensures list { IfOk result (λ r. (trees : List Tree) → Holds (B.store bank.old) made.old.items trees → tree_at (B.store bank.new) r ≡ Some (list_of (newest count trees))) }
-    ensures left { IfOk result (λ r. (trees : List Tree) → Holds (B.store bank.old) made.old.items trees → Holds (B.store bank.new) made.new.items (drop count trees)) }
+    requires held { (trees : List Tree) × Holds (B.store bank.old) made.old.items trees
+        × (count ≤ length trees) }
+    ensures list { IfOk result (λ r. (trees : List Tree) → Holds (B.store bank.old) made.old.items
+        trees → tree_at (B.store bank.new) r ≡ Some (list_of (newest count trees))) }
+    ensures left { IfOk result (λ r. (trees : List Tree) → Holds (B.store bank.old) made.old.items
+        trees → Holds (B.store bank.new) made.new.items (drop count trees)) }
     ensures refused { IfErr result (IsBankRefusal (B.store bank.new)) }
     ensures grows { Grows (B.store bank.old) (B.store bank.new) }
 {
@@ -41,7 +44,8 @@ fn symbol_of<B: TermBank>(
     bank: &mut B,
 ) -> Result<Symbol, TextFault>
     requires { IsWord bytes.now word }
-    ensures symbol { IfOk result (λ s. signature_of (B.store bank.new) s ≡ Some (record { name = name_of bytes.now word; quoted = word.quoted; arity = count })) }
+    ensures symbol { IfOk result (λ s. signature_of (B.store bank.new) s ≡ Some
+        (record { name = name_of bytes.now word; quoted = word.quoted; arity = count })) }
     ensures refused { IfErr result (IsRefusal (B.store bank.new)) }
     ensures grows { Grows (B.store bank.old) (B.store bank.new) }
 {
@@ -63,9 +67,12 @@ fn make<B: TermBank>(
     made: &mut Vec<Term>,
     bank: &mut B,
 ) -> Result<Term, TextFault>
-    requires held { (trees : List Tree) × Holds (B.store bank.old) made.old.items trees × (needed (node_of bytes.now node) ≤ length trees) }
+    requires held { (trees : List Tree) × Holds (B.store bank.old) made.old.items trees
+        × (needed (node_of bytes.now node) ≤ length trees) }
     requires name { IsNode bytes.now node }
-    ensures made { IfOk result (λ r. (trees : List Tree) → Holds (B.store bank.old) made.old.items trees → Holds (B.store bank.new) (made.new.items ++ r ∷ []) (joined (node_of bytes.now node) trees)) }
+    ensures made { IfOk result (λ r. (trees : List Tree)
+        → Holds (B.store bank.old) made.old.items trees → Holds (B.store bank.new)
+        (made.new.items ++ r ∷ []) (joined (node_of bytes.now node) trees)) }
     ensures refused { IfErr result (IsRefusal (B.store bank.new)) }
     ensures grows { Grows (B.store bank.old) (B.store bank.new) }
 {
@@ -97,7 +104,8 @@ pub fn build<B: TermBank>(
     bank: &mut B,
 ) -> Result<Term, TextFault>
     requires { (t : Tree) × AreNodesOf bytes.now nodes.now t }
-    ensures made { IfOk result (λ r. (t : Tree) → AreNodesOf bytes.now nodes.now t → tree_at (B.store bank.new) r ≡ Some t) }
+    ensures made { IfOk result (λ r. (t : Tree) → AreNodesOf bytes.now nodes.now t
+        → tree_at (B.store bank.new) r ≡ Some t) }
     ensures refused { IfErr result (IsRefusal (B.store bank.new)) }
     ensures grows { Grows (B.store bank.old) (B.store bank.new) }
 {

@@ -1,11 +1,14 @@
 //! The tokens of a text.
 
-ghost use Rattle.std.specs.Prelude.{◌≡◌, ℕ, ◌+◌, ◌-◌, ◌<◌, ◌≤◌, ◌^◌, ◌∷◌, List, Bool, true, false, cond, length, drop, min, slice_index, pos, neg_ℤ};
+ghost use Rattle.std.specs.Prelude.{◌≡◌, ℕ, ◌+◌, ◌-◌, ◌<◌, ◌≤◌, ◌^◌, ◌∷◌, List, Bool, true, false};
+ghost use Rattle.std.specs.Prelude.{cond, length, drop, min, slice_index, pos, neg_ℤ};
 ghost use Rattle.std.specs.List.{prefix_len};
 ghost use Rattle.std.specs.Str.Parse.{digits_value};
 ghost use Rattle.rx_term.specs.Name.{continues_name, is_digit};
-ghost use Rattle.rx_text.specs.Token.{token_at, quoted, quoted_token, is_layout, integer_token, mark};
-ghost use Rattle.rx_text.specs.Lexemes.{token_of, tokens_after, behind, Advances, IsToken, IsMark, IsInner, AreDigits};
+ghost use Rattle.rx_text.specs.Token.{token_at, quoted, quoted_token, is_layout, integer_token};
+ghost use Rattle.rx_text.specs.Token.{mark};
+ghost use Rattle.rx_text.specs.Lexemes.{token_of, tokens_after, behind, Advances, IsToken, IsMark};
+ghost use Rattle.rx_text.specs.Lexemes.{IsInner, AreDigits};
 ghost use Rattle.rx_text.specs.Verdict.{longest};
 
 use crate::nodes::Word;
@@ -110,7 +113,8 @@ fn magnitude(digits: &[u8]) -> u32
 
 // The integer of a sign and a magnitude, or a bad token where it is none of 32 bits.
 fn integer(magnitude: u32, negative: bool) -> Kind
-    ensures token { (bytes : List ℕ) → token_of bytes result ≡ integer_token (cond negative (neg_ℤ (pos magnitude)) (pos magnitude)) }
+    ensures token { (bytes : List ℕ) → token_of bytes result ≡ integer_token
+        (cond negative (neg_ℤ (pos magnitude)) (pos magnitude)) }
     ensures kind { IsMark result }
 {
     let value = if negative {
@@ -128,7 +132,8 @@ fn integer(magnitude: u32, negative: bool) -> Kind
 fn quoted_word(bytes: &[u8], from: usize) -> (Kind, usize)
     requires from { from ≤ length bytes.now }
     requires short { length bytes.now ≤ longest }
-    ensures token { token_of bytes.now result.0 ≡ (quoted_token (quoted 0 (drop from bytes.now))).0 }
+    ensures token { token_of bytes.now
+        result.0 ≡ (quoted_token (quoted 0 (drop from bytes.now))).0 }
     ensures end { result.1 ≡ from + (quoted_token (quoted 0 (drop from bytes.now))).1 }
     ensures within { result.1 ≤ length bytes.now }
     ensures inner { IsInner result.0 }
@@ -170,8 +175,10 @@ fn mark_of(byte: u8) -> Kind
 fn token(bytes: &[u8], at: usize) -> (Kind, usize)
     requires at { at < length bytes.now }
     requires short { length bytes.now ≤ longest }
-    ensures token { token_of bytes.now result.0 ≡ (token_at (slice_index bytes.now at) (drop (at + 1) bytes.now)).0 }
-    ensures end { result.1 ≡ at + 1 + (token_at (slice_index bytes.now at) (drop (at + 1) bytes.now)).1 }
+    ensures token { token_of bytes.now
+        result.0 ≡ (token_at (slice_index bytes.now at) (drop (at + 1) bytes.now)).0 }
+    ensures end { result.1 ≡ at + 1
+        + (token_at (slice_index bytes.now at) (drop (at + 1) bytes.now)).1 }
     ensures within { result.1 ≤ length bytes.now }
     ensures inner { IsInner result.0 }
     ensures kind { IsToken bytes.now result.0 }
@@ -206,7 +213,8 @@ pub fn next(bytes: &[u8], from: usize) -> Lexeme
     ensures within { result.to ≤ length bytes.now }
     ensures advances { Advances result.kind from result.to }
     ensures kind { IsToken bytes.now result.kind }
-    ensures first { tokens_after bytes.now from ≡ (result.at, token_of bytes.now result.kind) ∷ behind bytes.now result.kind result.to }
+    ensures first { tokens_after bytes.now from ≡ (result.at, token_of bytes.now result.kind)
+        ∷ behind bytes.now result.kind result.to }
 {
     let at = after_layout(bytes, from);
     if at == bytes.len() {

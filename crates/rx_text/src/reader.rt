@@ -2,9 +2,11 @@
 
 ghost use Rattle.std.specs.Prelude.{◌≡◌, ◌+◌, ◌<◌, ◌≤◌, length, reverse, IfOk, MatchResult};
 ghost use Rattle.rx_text.specs.Lexemes.{name_of, token_of, IsToken};
-ghost use Rattle.rx_text.specs.Machine.{start, close, first, end_item, next_item, end_hole, whole, body, after_name, step};
+ghost use Rattle.rx_text.specs.Machine.{start, close, first, end_item, next_item, end_hole, whole};
+ghost use Rattle.rx_text.specs.Machine.{body, after_name, step};
 ghost use Rattle.rx_text.specs.Nodes.{top, rest};
-ghost use Rattle.rx_text.specs.Reader.{made_of, frame_of, held, under, frames_of, mode_of, owned, pending, IsStack, IsState, IsOpening, Moves};
+ghost use Rattle.rx_text.specs.Reader.{made_of, frame_of, held, under, frames_of, mode_of, owned};
+ghost use Rattle.rx_text.specs.Reader.{pending, IsStack, IsState, IsOpening, Moves};
 ghost use Rattle.rx_text.specs.Verdict.{longest};
 ghost use Rattle.rx_text.specs.Answer.{AreRead, IsFault};
 
@@ -32,7 +34,8 @@ pub struct Frame {
     count: u32,
 }
 
-/// What is due next: a term; a term or the end of what was just opened; what follows a name, a body or a term; nothing.
+/// What is due next: a term; a term or the end of what was just opened; what follows a name, a body
+/// or a term; nothing.
 #[derive(Clone, Copy, Debug, Drop)]
 pub enum Due {
     Term,
@@ -71,12 +74,17 @@ pub struct Reader<'a> {
 impl<'a> Reader<'a> {
     // Where a term is due.
     fn start(&mut self, token: Kind) -> Result<Due, Stop>
-        requires state { IsState self.old.bytes.now Due.Term self.old.frames.items self.old.nodes.items }
+        requires state { IsState self.old.bytes.now Due.Term self.old.frames.items
+            self.old.nodes.items }
         requires token { IsToken self.old.bytes.now token }
         requires few { length self.old.nodes.items ≤ longest }
-        ensures moves { let made = made_of self.old.bytes.now self.old.nodes.items in Moves self.old.bytes.now (start (frames_of self.old.bytes.now (reverse self.old.frames.items) made) (token_of self.old.bytes.now token)) result self.new.frames.items self.new.nodes.items }
+        ensures moves { let made = made_of self.old.bytes.now self.old.nodes.items in
+            Moves self.old.bytes.now (start
+            (frames_of self.old.bytes.now (reverse self.old.frames.items) made)
+            (token_of self.old.bytes.now token)) result self.new.frames.items self.new.nodes.items }
         ensures same { self.new.bytes.now ≡ self.old.bytes.now }
-        ensures few { IfOk result (λ d. length self.new.nodes.items + pending d ≤ length self.old.nodes.items + 1) }
+        ensures few { IfOk result
+            (λ d. length self.new.nodes.items + pending d ≤ length self.old.nodes.items + 1) }
     {
         match token {
             Kind::Integer(value) => {
@@ -99,12 +107,19 @@ impl<'a> Reader<'a> {
 
     // What was open, and is no longer on the stack, ends at its mark.
     fn close(&mut self, frame: Frame, token: Kind) -> Result<Due, Stop>
-        requires stack { IsStack self.old.bytes.now (held frame.opening frame.count) self.old.frames.items self.old.nodes.items }
+        requires stack { IsStack self.old.bytes.now (held frame.opening frame.count)
+            self.old.frames.items self.old.nodes.items }
         requires opening { IsOpening self.old.bytes.now frame.opening }
         requires few { length self.old.nodes.items ≤ longest }
-        ensures moves { let made = made_of self.old.bytes.now self.old.nodes.items in Moves self.old.bytes.now (close (frame_of self.old.bytes.now frame.opening frame.count made) (frames_of self.old.bytes.now (reverse self.old.frames.items) (under frame.opening frame.count made)) (token_of self.old.bytes.now token)) result self.new.frames.items self.new.nodes.items }
+        ensures moves { let made = made_of self.old.bytes.now self.old.nodes.items in
+            Moves self.old.bytes.now (close
+            (frame_of self.old.bytes.now frame.opening frame.count made)
+            (frames_of self.old.bytes.now (reverse self.old.frames.items)
+            (under frame.opening frame.count made)) (token_of self.old.bytes.now token)) result
+            self.new.frames.items self.new.nodes.items }
         ensures same { self.new.bytes.now ≡ self.old.bytes.now }
-        ensures few { IfOk result (λ d. length self.new.nodes.items + pending d ≤ length self.old.nodes.items + 1) }
+        ensures few { IfOk result
+            (λ d. length self.new.nodes.items + pending d ≤ length self.old.nodes.items + 1) }
     {
         match frame.opening {
             Opening::Arguments(word) => match token {
@@ -134,12 +149,17 @@ impl<'a> Reader<'a> {
 
     // Behind the mark that opened something: its end, or its first item.
     fn first(&mut self, opening: Opening, token: Kind) -> Result<Due, Stop>
-        requires state { IsState self.old.bytes.now (Due.First opening) self.old.frames.items self.old.nodes.items }
+        requires state { IsState self.old.bytes.now (Due.First opening) self.old.frames.items
+            self.old.nodes.items }
         requires token { IsToken self.old.bytes.now token }
         requires few { length self.old.nodes.items ≤ longest }
-        ensures moves { let made = made_of self.old.bytes.now self.old.nodes.items in Moves self.old.bytes.now (first (frame_of self.old.bytes.now opening 0 made) (frames_of self.old.bytes.now (reverse self.old.frames.items) (under opening 0 made)) (token_of self.old.bytes.now token)) result self.new.frames.items self.new.nodes.items }
+        ensures moves { let made = made_of self.old.bytes.now self.old.nodes.items in
+            Moves self.old.bytes.now (first (frame_of self.old.bytes.now opening 0 made)
+            (frames_of self.old.bytes.now (reverse self.old.frames.items) (under opening 0 made))
+            (token_of self.old.bytes.now token)) result self.new.frames.items self.new.nodes.items }
         ensures same { self.new.bytes.now ≡ self.old.bytes.now }
-        ensures few { IfOk result (λ d. length self.new.nodes.items + pending d ≤ length self.old.nodes.items + 1) }
+        ensures few { IfOk result
+            (λ d. length self.new.nodes.items + pending d ≤ length self.old.nodes.items + 1) }
     {
         let frame = Frame { opening, count: 0 };
         match token {
@@ -155,11 +175,15 @@ impl<'a> Reader<'a> {
 
     // One more item of what is open, and a comma.
     fn next_item(&mut self) -> Result<Due, Stop>
-        requires state { IsState self.old.bytes.now Due.Whole self.old.frames.items self.old.nodes.items }
+        requires state { IsState self.old.bytes.now Due.Whole self.old.frames.items
+            self.old.nodes.items }
         requires few { length self.old.nodes.items ≤ longest }
-        ensures moves { let made = made_of self.old.bytes.now self.old.nodes.items in Moves self.old.bytes.now (next_item (top made) (frames_of self.old.bytes.now (reverse self.old.frames.items) (rest made))) result self.new.frames.items self.new.nodes.items }
+        ensures moves { let made = made_of self.old.bytes.now self.old.nodes.items in
+            Moves self.old.bytes.now (next_item (top made) (frames_of self.old.bytes.now (reverse
+            self.old.frames.items) (rest made))) result self.new.frames.items self.new.nodes.items }
         ensures same { self.new.bytes.now ≡ self.old.bytes.now }
-        ensures few { IfOk result (λ d. length self.new.nodes.items + pending d ≤ length self.old.nodes.items + 1) }
+        ensures few { IfOk result
+            (λ d. length self.new.nodes.items + pending d ≤ length self.old.nodes.items + 1) }
     {
         let Some(frame) = self.frames.pop() else {
             return Err(Stop::Refused);
@@ -176,11 +200,16 @@ impl<'a> Reader<'a> {
 
     // One more item of what is open, and a mark that ends it.
     fn end_item(&mut self, token: Kind) -> Result<Due, Stop>
-        requires state { IsState self.old.bytes.now Due.Whole self.old.frames.items self.old.nodes.items }
+        requires state { IsState self.old.bytes.now Due.Whole self.old.frames.items
+            self.old.nodes.items }
         requires few { length self.old.nodes.items ≤ longest }
-        ensures moves { let made = made_of self.old.bytes.now self.old.nodes.items in Moves self.old.bytes.now (end_item (top made) (frames_of self.old.bytes.now (reverse self.old.frames.items) (rest made)) (token_of self.old.bytes.now token)) result self.new.frames.items self.new.nodes.items }
+        ensures moves { let made = made_of self.old.bytes.now self.old.nodes.items in
+            Moves self.old.bytes.now (end_item (top made)
+            (frames_of self.old.bytes.now (reverse self.old.frames.items) (rest made))
+            (token_of self.old.bytes.now token)) result self.new.frames.items self.new.nodes.items }
         ensures same { self.new.bytes.now ≡ self.old.bytes.now }
-        ensures few { IfOk result (λ d. length self.new.nodes.items + pending d ≤ length self.old.nodes.items + 1) }
+        ensures few { IfOk result
+            (λ d. length self.new.nodes.items + pending d ≤ length self.old.nodes.items + 1) }
     {
         let Some(frame) = self.frames.pop() else {
             return Err(Stop::Refused);
@@ -197,11 +226,15 @@ impl<'a> Reader<'a> {
 
     // The end of a placeholder.
     fn end_placeholder(&mut self) -> Result<Due, Stop>
-        requires state { IsState self.old.bytes.now Due.Whole self.old.frames.items self.old.nodes.items }
+        requires state { IsState self.old.bytes.now Due.Whole self.old.frames.items
+            self.old.nodes.items }
         requires few { length self.old.nodes.items ≤ longest }
-        ensures moves { let made = made_of self.old.bytes.now self.old.nodes.items in Moves self.old.bytes.now (end_hole (top made) (frames_of self.old.bytes.now (reverse self.old.frames.items) (rest made))) result self.new.frames.items self.new.nodes.items }
+        ensures moves { let made = made_of self.old.bytes.now self.old.nodes.items in
+            Moves self.old.bytes.now (end_hole (top made) (frames_of self.old.bytes.now (reverse
+            self.old.frames.items) (rest made))) result self.new.frames.items self.new.nodes.items }
         ensures same { self.new.bytes.now ≡ self.old.bytes.now }
-        ensures few { IfOk result (λ d. length self.new.nodes.items + pending d ≤ length self.old.nodes.items + 1) }
+        ensures few { IfOk result
+            (λ d. length self.new.nodes.items + pending d ≤ length self.old.nodes.items + 1) }
     {
         let Some(frame) = self.frames.pop() else {
             return Err(Stop::Refused);
@@ -215,12 +248,17 @@ impl<'a> Reader<'a> {
 
     // Behind a term with its annotations.
     fn whole(&mut self, token: Kind) -> Result<Due, Stop>
-        requires state { IsState self.old.bytes.now Due.Whole self.old.frames.items self.old.nodes.items }
+        requires state { IsState self.old.bytes.now Due.Whole self.old.frames.items
+            self.old.nodes.items }
         requires token { IsToken self.old.bytes.now token }
         requires few { length self.old.nodes.items ≤ longest }
-        ensures moves { let made = made_of self.old.bytes.now self.old.nodes.items in Moves self.old.bytes.now (whole (top made) (frames_of self.old.bytes.now (reverse self.old.frames.items) (rest made)) (token_of self.old.bytes.now token)) result self.new.frames.items self.new.nodes.items }
+        ensures moves { let made = made_of self.old.bytes.now self.old.nodes.items in
+            Moves self.old.bytes.now (whole (top made)
+            (frames_of self.old.bytes.now (reverse self.old.frames.items) (rest made))
+            (token_of self.old.bytes.now token)) result self.new.frames.items self.new.nodes.items }
         ensures same { self.new.bytes.now ≡ self.old.bytes.now }
-        ensures few { IfOk result (λ d. length self.new.nodes.items + pending d ≤ length self.old.nodes.items + 1) }
+        ensures few { IfOk result
+            (λ d. length self.new.nodes.items + pending d ≤ length self.old.nodes.items + 1) }
     {
         match token {
             Kind::Comma => self.next_item(),
@@ -241,12 +279,17 @@ impl<'a> Reader<'a> {
 
     // Behind a term to which annotations may come.
     fn body(&mut self, token: Kind) -> Result<Due, Stop>
-        requires state { IsState self.old.bytes.now Due.Body self.old.frames.items self.old.nodes.items }
+        requires state { IsState self.old.bytes.now Due.Body self.old.frames.items
+            self.old.nodes.items }
         requires token { IsToken self.old.bytes.now token }
         requires few { length self.old.nodes.items ≤ longest }
-        ensures moves { let made = made_of self.old.bytes.now self.old.nodes.items in Moves self.old.bytes.now (body (top made) (frames_of self.old.bytes.now (reverse self.old.frames.items) (rest made)) (token_of self.old.bytes.now token)) result self.new.frames.items self.new.nodes.items }
+        ensures moves { let made = made_of self.old.bytes.now self.old.nodes.items in
+            Moves self.old.bytes.now (body (top made)
+            (frames_of self.old.bytes.now (reverse self.old.frames.items) (rest made))
+            (token_of self.old.bytes.now token)) result self.new.frames.items self.new.nodes.items }
         ensures same { self.new.bytes.now ≡ self.old.bytes.now }
-        ensures few { IfOk result (λ d. length self.new.nodes.items + pending d ≤ length self.old.nodes.items + 1) }
+        ensures few { IfOk result
+            (λ d. length self.new.nodes.items + pending d ≤ length self.old.nodes.items + 1) }
     {
         match token {
             Kind::OpenBrace => Ok(Due::First(Opening::Annotations)),
@@ -256,12 +299,17 @@ impl<'a> Reader<'a> {
 
     // Behind a name.
     fn named(&mut self, word: Word, token: Kind) -> Result<Due, Stop>
-        requires state { IsState self.old.bytes.now (Due.Named word) self.old.frames.items self.old.nodes.items }
+        requires state { IsState self.old.bytes.now (Due.Named word) self.old.frames.items
+            self.old.nodes.items }
         requires token { IsToken self.old.bytes.now token }
         requires few { length self.old.nodes.items + 1 ≤ longest }
-        ensures moves { let made = made_of self.old.bytes.now self.old.nodes.items in Moves self.old.bytes.now (after_name (name_of self.old.bytes.now word) word.quoted (frames_of self.old.bytes.now (reverse self.old.frames.items) made) (token_of self.old.bytes.now token)) result self.new.frames.items self.new.nodes.items }
+        ensures moves { let made = made_of self.old.bytes.now self.old.nodes.items in
+            Moves self.old.bytes.now (after_name (name_of self.old.bytes.now word) word.quoted
+            (frames_of self.old.bytes.now (reverse self.old.frames.items) made)
+            (token_of self.old.bytes.now token)) result self.new.frames.items self.new.nodes.items }
         ensures same { self.new.bytes.now ≡ self.old.bytes.now }
-        ensures few { IfOk result (λ d. length self.new.nodes.items + pending d ≤ length self.old.nodes.items + 1 + 1) }
+        ensures few { IfOk result
+            (λ d. length self.new.nodes.items + pending d ≤ length self.old.nodes.items + 1 + 1) }
     {
         match token {
             Kind::Open => Ok(Due::First(Opening::Arguments(word))),
@@ -277,9 +325,13 @@ impl<'a> Reader<'a> {
         requires state { IsState self.old.bytes.now due self.old.frames.items self.old.nodes.items }
         requires token { IsToken self.old.bytes.now token }
         requires few { length self.old.nodes.items + pending due ≤ longest }
-        ensures moves { let made = made_of self.old.bytes.now self.old.nodes.items in Moves self.old.bytes.now (step (mode_of self.old.bytes.now due made) (frames_of self.old.bytes.now (reverse self.old.frames.items) (owned due made)) (token_of self.old.bytes.now token)) result self.new.frames.items self.new.nodes.items }
+        ensures moves { let made = made_of self.old.bytes.now self.old.nodes.items in
+            Moves self.old.bytes.now (step (mode_of self.old.bytes.now due made)
+            (frames_of self.old.bytes.now (reverse self.old.frames.items) (owned due made))
+            (token_of self.old.bytes.now token)) result self.new.frames.items self.new.nodes.items }
         ensures same { self.new.bytes.now ≡ self.old.bytes.now }
-        ensures few { IfOk result (λ d. length self.new.nodes.items + pending d ≤ length self.old.nodes.items + pending due + 1) }
+        ensures few { IfOk result (λ d. length self.new.nodes.items + pending d ≤ length
+            self.old.nodes.items + pending due + 1) }
     {
         match due {
             Due::Term => self.start(token),

@@ -18,11 +18,15 @@ pub const LONGEST: usize = 16_777_216;
 
 /// Makes the tree that the bytes spell in the bank.
 pub fn read<B: TermBank>(alloc: Global, bytes: &[u8], bank: &mut B) -> Result<Term, TextFault>
-    ensures spelt { IfOk result (λ t. (u : Tree) × (tree_at (B.store bank.new) t ≡ Some u) × IsVerdict bytes.now (Spelt u)) }
+    ensures spelt { IfOk result (λ t. (u : Tree) × (tree_at (B.store bank.new) t ≡ Some u)
+        × IsVerdict bytes.now (Spelt u)) }
     ensures long { IsErrOf result TextFault.Long ↔ IsVerdict bytes.now TooLong }
-    ensures outside { (at : ℕ) → IsErrOf result (TextFault.Grammar at) → IsVerdict bytes.now (Outside at) }
-    ensures unchanged { IfErr result (λ fault. IsOfText fault → B.store bank.new ≡ B.store bank.old) }
-    ensures full { IsErrOf result TextFault.Full → cells (B.store bank.new) ≡ (B.store bank.new).cap }
+    ensures outside { (at : ℕ) → IsErrOf result (TextFault.Grammar at)
+        → IsVerdict bytes.now (Outside at) }
+    ensures unchanged { IfErr result
+        (λ fault. IsOfText fault → B.store bank.new ≡ B.store bank.old) }
+    ensures full { IsErrOf result TextFault.Full
+        → cells (B.store bank.new) ≡ (B.store bank.new).cap }
     ensures grows { Grows (B.store bank.old) (B.store bank.new) }
 {
     if bytes.len() > LONGEST {

@@ -8,7 +8,8 @@ ghost use Rattle.rx_term.specs.Store.{tree_at, part_at, args_of};
 ghost use Rattle.rx_term.specs.Kinds.{HasAppl};
 ghost use Rattle.rx_text.specs.Canon.{canon, octal_text, quoted_byte, name_text};
 ghost use Rattle.rx_text.specs.Written.{AppendsFront};
-ghost use Rattle.rx_text.specs.Jobs.{seen, body_text, body_size, job_text, job_size, IsJob, Adds, Leaves};
+ghost use Rattle.rx_text.specs.Jobs.{seen, body_text, body_size, job_text, job_size, IsJob, Adds};
+ghost use Rattle.rx_text.specs.Jobs.{Leaves};
 
 use crate::faults::WriteFault;
 use itoa::Buffer;
@@ -34,7 +35,8 @@ pub enum Job {
 // Writes all of a text, by as many writes as the writer needs.
 fn put<W: Write>(out: &mut W, text: &[u8]) -> Result<(), WriteFault>
     ensures written { OnOk result (Appends (W.contents out.old) (W.contents out.new) (text.now)) }
-    ensures front { OnErr result (AppendsFront (text.now) (W.contents out.old) (W.contents out.new)) }
+    ensures front { OnErr result
+        (AppendsFront (text.now) (W.contents out.old) (W.contents out.new)) }
 {
     let mut at = 0;
     while at < text.len() {
@@ -48,8 +50,10 @@ fn put<W: Write>(out: &mut W, text: &[u8]) -> Result<(), WriteFault>
 
 // Writes a backslash and three octal digits.
 fn put_octal<W: Write>(out: &mut W, byte: u8) -> Result<(), WriteFault>
-    ensures written { OnOk result (Appends (W.contents out.old) (W.contents out.new) (octal_text byte)) }
-    ensures front { OnErr result (AppendsFront (octal_text byte) (W.contents out.old) (W.contents out.new)) }
+    ensures written { OnOk result
+        (Appends (W.contents out.old) (W.contents out.new) (octal_text byte)) }
+    ensures front { OnErr result
+        (AppendsFront (octal_text byte) (W.contents out.old) (W.contents out.new)) }
 {
     let digits = [
         b'\\',
@@ -62,8 +66,10 @@ fn put_octal<W: Write>(out: &mut W, byte: u8) -> Result<(), WriteFault>
 
 // Writes one byte of a quoted name.
 fn put_quoted_byte<W: Write>(out: &mut W, byte: u8) -> Result<(), WriteFault>
-    ensures written { OnOk result (Appends (W.contents out.old) (W.contents out.new) (quoted_byte byte)) }
-    ensures front { OnErr result (AppendsFront (quoted_byte byte) (W.contents out.old) (W.contents out.new)) }
+    ensures written { OnOk result
+        (Appends (W.contents out.old) (W.contents out.new) (quoted_byte byte)) }
+    ensures front { OnErr result
+        (AppendsFront (quoted_byte byte) (W.contents out.old) (W.contents out.new)) }
 {
     if byte == b'"' || byte == b'\\' {
         put(out, &[b'\\', byte])
@@ -82,8 +88,10 @@ fn put_quoted_byte<W: Write>(out: &mut W, byte: u8) -> Result<(), WriteFault>
 
 // Writes a name, between quotes where it is quoted.
 fn put_name<W: Write>(out: &mut W, name: &[u8], quoted: bool) -> Result<(), WriteFault>
-    ensures written { OnOk result (Appends (W.contents out.old) (W.contents out.new) (name_text name.now quoted)) }
-    ensures front { OnErr result (AppendsFront (name_text name.now quoted) (W.contents out.old) (W.contents out.new)) }
+    ensures written { OnOk result
+        (Appends (W.contents out.old) (W.contents out.new) (name_text name.now quoted)) }
+    ensures front { OnErr result
+        (AppendsFront (name_text name.now quoted) (W.contents out.old) (W.contents out.new)) }
 {
     if !quoted {
         return put(out, name);
@@ -97,8 +105,10 @@ fn put_name<W: Write>(out: &mut W, name: &[u8], quoted: bool) -> Result<(), Writ
 
 // Writes an integer.
 fn put_integer<W: Write>(out: &mut W, value: i32) -> Result<(), WriteFault>
-    ensures written { OnOk result (Appends (W.contents out.old) (W.contents out.new) (signed_decimal value)) }
-    ensures front { OnErr result (AppendsFront (signed_decimal value) (W.contents out.old) (W.contents out.new)) }
+    ensures written { OnOk result
+        (Appends (W.contents out.old) (W.contents out.new) (signed_decimal value)) }
+    ensures front { OnErr result
+        (AppendsFront (signed_decimal value) (W.contents out.old) (W.contents out.new)) }
 {
     let mut buffer = Buffer::new();
     put(out, buffer.format(value).as_bytes())
@@ -122,8 +132,11 @@ fn write_application<B: TermBank, W: Write>(
     out: &mut W,
 ) -> Result<(), WriteFault>
     requires { HasAppl (B.store bank.now) term symbol }
-    ensures written { OnOk result (Leaves (B.store bank.now) (seen [] body_text (tree_at (B.store bank.now) term)) (seen 1 body_size (tree_at (B.store bank.now) term)) (W.contents out.old) (W.contents out.new) jobs.old.items jobs.new.items) }
-    ensures front { OnErr result (AppendsFront (seen [] body_text (tree_at (B.store bank.now) term)) (W.contents out.old) (W.contents out.new)) }
+    ensures written { OnOk result (Leaves (B.store bank.now)
+        (seen [] body_text (tree_at (B.store bank.now) term)) (seen 1 body_size (tree_at (B.store
+        bank.now) term)) (W.contents out.old) (W.contents out.new) jobs.old.items jobs.new.items) }
+    ensures front { OnErr result (AppendsFront (seen [] body_text (tree_at (B.store bank.now) term))
+        (W.contents out.old) (W.contents out.new)) }
 {
     let name = bank.name_of(symbol);
     let quoted = bank.quoted_of(symbol);
@@ -147,8 +160,11 @@ fn write_body<B: TermBank, W: Write>(
     out: &mut W,
 ) -> Result<(), WriteFault>
     requires { IsSome (tree_at (B.store bank.now) term) }
-    ensures written { OnOk result (Leaves (B.store bank.now) (seen [] body_text (tree_at (B.store bank.now) term)) (seen 1 body_size (tree_at (B.store bank.now) term)) (W.contents out.old) (W.contents out.new) jobs.old.items jobs.new.items) }
-    ensures front { OnErr result (AppendsFront (seen [] body_text (tree_at (B.store bank.now) term)) (W.contents out.old) (W.contents out.new)) }
+    ensures written { OnOk result (Leaves (B.store bank.now)
+        (seen [] body_text (tree_at (B.store bank.now) term)) (seen 1 body_size (tree_at (B.store
+        bank.now) term)) (W.contents out.old) (W.contents out.new) jobs.old.items jobs.new.items) }
+    ensures front { OnErr result (AppendsFront (seen [] body_text (tree_at (B.store bank.now) term))
+        (W.contents out.old) (W.contents out.new)) }
 {
     match bank.kind(term) {
         Kind::Int(value) => put_integer(out, value),
@@ -173,8 +189,11 @@ fn write_tree<B: TermBank, W: Write>(
     out: &mut W,
 ) -> Result<(), WriteFault>
     requires { IsJob (B.store bank.now) (Job.Tree term) }
-    ensures written { OnOk result (Leaves (B.store bank.now) (job_text (B.store bank.now) (Job.Tree term)) (job_size (B.store bank.now) (Job.Tree term)) (W.contents out.old) (W.contents out.new) jobs.old.items jobs.new.items) }
-    ensures front { OnErr result (AppendsFront (job_text (B.store bank.now) (Job.Tree term)) (W.contents out.old) (W.contents out.new)) }
+    ensures written { OnOk result (Leaves (B.store bank.now)
+        (job_text (B.store bank.now) (Job.Tree term)) (job_size (B.store bank.now) (Job.Tree term))
+        (W.contents out.old) (W.contents out.new) jobs.old.items jobs.new.items) }
+    ensures front { OnErr result (AppendsFront (job_text (B.store bank.now) (Job.Tree term))
+        (W.contents out.old) (W.contents out.new)) }
 {
     jobs.push(Job::Notes(term))?;
     write_body(bank, term, jobs, out)
@@ -188,8 +207,11 @@ fn write_notes<B: TermBank, W: Write>(
     out: &mut W,
 ) -> Result<(), WriteFault>
     requires { IsJob (B.store bank.now) (Job.Notes term) }
-    ensures written { OnOk result (Leaves (B.store bank.now) (job_text (B.store bank.now) (Job.Notes term)) (job_size (B.store bank.now) (Job.Notes term)) (W.contents out.old) (W.contents out.new) jobs.old.items jobs.new.items) }
-    ensures front { OnErr result (AppendsFront (job_text (B.store bank.now) (Job.Notes term)) (W.contents out.old) (W.contents out.new)) }
+    ensures written { OnOk result (Leaves (B.store bank.now)
+        (job_text (B.store bank.now) (Job.Notes term)) (job_size (B.store bank.now)
+        (Job.Notes term)) (W.contents out.old) (W.contents out.new) jobs.old.items jobs.new.items) }
+    ensures front { OnErr result (AppendsFront (job_text (B.store bank.now) (Job.Notes term))
+        (W.contents out.old) (W.contents out.new)) }
 {
     let Some(anns) = bank.anns(term) else {
         return Ok(());
@@ -201,7 +223,8 @@ fn write_notes<B: TermBank, W: Write>(
 // Leaves the items of a list to do.
 fn leave_items<B: TermBank>(bank: &B, list: Term, jobs: &mut Vec<Job>) -> Result<(), WriteFault>
     requires { IsJob (B.store bank.now) (Job.Items list) }
-    ensures { OnOk result (Adds (B.store bank.now) (job_text (B.store bank.now) (Job.Items list)) (job_size (B.store bank.now) (Job.Items list)) jobs.old.items jobs.new.items) }
+    ensures { OnOk result (Adds (B.store bank.now) (job_text (B.store bank.now) (Job.Items list))
+        (job_size (B.store bank.now) (Job.Items list)) jobs.old.items jobs.new.items) }
 {
     if let Kind::Cons = bank.kind(list) {
         leave(
@@ -222,8 +245,11 @@ fn write_others<B: TermBank, W: Write>(
     out: &mut W,
 ) -> Result<(), WriteFault>
     requires { IsJob (B.store bank.now) (Job.Others list) }
-    ensures written { OnOk result (Leaves (B.store bank.now) (job_text (B.store bank.now) (Job.Others list)) (job_size (B.store bank.now) (Job.Others list)) (W.contents out.old) (W.contents out.new) jobs.old.items jobs.new.items) }
-    ensures front { OnErr result (AppendsFront (job_text (B.store bank.now) (Job.Others list)) (W.contents out.old) (W.contents out.new)) }
+    ensures written { OnOk result (Leaves (B.store bank.now)
+        (job_text (B.store bank.now) (Job.Others list)) (job_size (B.store bank.now) (Job.Others
+        list)) (W.contents out.old) (W.contents out.new) jobs.old.items jobs.new.items) }
+    ensures front { OnErr result (AppendsFront (job_text (B.store bank.now) (Job.Others list))
+        (W.contents out.old) (W.contents out.new)) }
 {
     if let Kind::Cons = bank.kind(list) {
         leave(
@@ -245,8 +271,11 @@ fn write_job<B: TermBank, W: Write>(
     out: &mut W,
 ) -> Result<(), WriteFault>
     requires { IsJob (B.store bank.now) (job) }
-    ensures written { OnOk result (Leaves (B.store bank.now) (job_text (B.store bank.now) (job)) (job_size (B.store bank.now) (job)) (W.contents out.old) (W.contents out.new) jobs.old.items jobs.new.items) }
-    ensures front { OnErr result (AppendsFront (job_text (B.store bank.now) (job)) (W.contents out.old) (W.contents out.new)) }
+    ensures written { OnOk result (Leaves (B.store bank.now) (job_text (B.store bank.now) (job))
+        (job_size (B.store bank.now) (job)) (W.contents out.old) (W.contents out.new) jobs.old.items
+        jobs.new.items) }
+    ensures front { OnErr result (AppendsFront (job_text (B.store bank.now) (job))
+        (W.contents out.old) (W.contents out.new)) }
 {
     match job {
         Job::Byte(byte) => put(out, &[byte]),
@@ -265,8 +294,10 @@ pub fn write<B: TermBank, W: Write>(
     out: &mut W,
 ) -> Result<(), WriteFault>
     requires { IsSome (tree_at (B.store bank.now) t) }
-    ensures written { OnOk result (IfSome (tree_at (B.store bank.now) t) (λ u. Appends (W.contents out.old) (W.contents out.new) (canon u))) }
-    ensures front { OnErr result (IfSome (tree_at (B.store bank.now) t) (λ u. AppendsFront (canon u) (W.contents out.old) (W.contents out.new))) }
+    ensures written { OnOk result (IfSome (tree_at (B.store bank.now) t)
+        (λ u. Appends (W.contents out.old) (W.contents out.new) (canon u))) }
+    ensures front { OnErr result (IfSome (tree_at (B.store bank.now) t)
+        (λ u. AppendsFront (canon u) (W.contents out.old) (W.contents out.new))) }
 {
     let mut jobs = Vec::new(alloc);
     jobs.push(Job::Tree(t))?;

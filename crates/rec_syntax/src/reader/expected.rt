@@ -28,7 +28,8 @@ fn is_after_item(level: Option<Part>, kind: TokenKind) -> bool
 
 // Whether a token of this kind may stand behind a whole term that is no argument.
 fn is_after_whole(role: &Role, kind: TokenKind) -> bool
-    ensures { (bytes : List ℕ) (t : syntax.Term) (y : Spec) → result ≡ is_taken (complete (role_of bytes role.now) t y) kind }
+    ensures { (bytes : List ℕ) (t : syntax.Term) (y : Spec)
+        → result ≡ is_taken (complete (role_of bytes role.now) t y) kind }
 {
     match role {
         Role::Left => matches!(kind, TokenKind::Arrow),
@@ -48,7 +49,9 @@ fn is_after_whole(role: &Role, kind: TokenKind) -> bool
 impl Reader {
     // Whether a token of this kind may stand behind a whole term.
     fn is_after_term(&self, kind: TokenKind) -> bool
-        ensures { (t : syntax.Term) (y : Spec) (made : List syntax.Term) → result ≡ is_taken (after (role_of self.now.source.items self.now.role) t (open_of self.now.source.items self.now made) y) kind }
+        ensures { (t : syntax.Term) (y : Spec) (made : List syntax.Term)
+            → result ≡ is_taken (after (role_of self.now.source.items self.now.role) t
+            (open_of self.now.source.items self.now made) y) kind }
     {
         if self.calls.is_empty() {
             is_after_whole(&self.role, kind)
@@ -59,7 +62,8 @@ impl Reader {
 
     // Whether a token of this kind may stand here.
     fn is_expected(&self, due: Due, kind: TokenKind) -> bool
-        ensures { (y : Spec) → result ≡ is_taken (step (due_of self.now.source.items due self.now) y) kind }
+        ensures { (y : Spec)
+            → result ≡ is_taken (step (due_of self.now.source.items due self.now) y) kind }
     {
         match due {
             Due::Start => matches!(kind, TokenKind::RecSpec),
@@ -83,7 +87,8 @@ impl Reader {
 
     // The kinds of tokens that may stand here.
     fn expected(&self, alloc: Global, due: Due) -> Result<Vec<TokenKind>, AllocError>
-        ensures { (y : Spec) → IfOk result (λ kinds. (k : TokenKind) → Contains kinds.items k ↔ (is_taken (step (due_of self.now.source.items due self.now) y) k ≡ true)) }
+        ensures { (y : Spec) → IfOk result (λ kinds. (k : TokenKind) → Contains kinds.items k
+            ↔ (is_taken (step (due_of self.now.source.items due self.now) y) k ≡ true)) }
     {
         let mut kinds = Vec::new(alloc);
         for kind in TokenKind::ALL {
@@ -96,7 +101,8 @@ impl Reader {
 
     // Whether this token may stand here.
     fn may_take(&self, due: Due, token: Kind) -> bool
-        ensures { let bytes = self.now.source.items in (y : Spec) → result ≡ is_some (step (due_of bytes due self.now) y (token_of bytes token)) }
+        ensures { let bytes = self.now.source.items in (y : Spec)
+            → result ≡ is_some (step (due_of bytes due self.now) y (token_of bytes token)) }
     {
         match TokenKind::of(token) {
             Some(kind) => self.is_expected(due, kind),
@@ -129,8 +135,8 @@ fn read_to_fault(alloc: Global, source: Vec<u8>) -> Result<(Due, Reader), AllocE
     }
 }
 
-/// What may stand at the place of the fault of a text that is outside the grammar: each kind of tokens
-/// that some text has there, behind the tokens before it.
+/// What may stand at the place of the fault of a text that is outside the grammar: each kind of
+/// tokens that some text has there, behind the tokens before it.
 pub fn expected_at_fault(alloc: Global, bytes: &[u8]) -> Result<Vec<TokenKind>, AllocError>
     ensures { IfOk result (λ kinds. AreExpected bytes.now kinds.items) }
 {

@@ -108,7 +108,8 @@ impl Reader {
         requires state { IsAt Due.After self.old }
         requires alone { self.old.calls.items ≡ [] }
         requires token { IsToken self.old.source.items token }
-        ensures moves { Completes self.old.role (record { nodes = self.old.nodes }) self.old token result self.new }
+        ensures moves { Completes self.old.role (record { nodes = self.old.nodes }) self.old token
+            result self.new }
         ensures same { self.new.source ≡ self.old.source }
     {
         let nodes = mem::replace(&mut self.nodes, Vec::new(self.alloc));
@@ -206,7 +207,8 @@ impl Reader {
         requires rule { IsRule self.old.source.items rule }
         requires condition { IsCondition self.old.source.items condition }
         requires token { IsToken self.old.source.items token }
-        ensures moves { Completes (Role.ConditionRight rule condition.left condition.equal) condition.right self.old token result self.new }
+        ensures moves { Completes (Role.ConditionRight rule condition.left condition.equal)
+            condition.right self.old token result self.new }
         ensures same { self.new.source ≡ self.old.source }
     {
         rule.conditions.push(condition)?;

@@ -1,6 +1,7 @@
 //! What may stand at the place of a fault.
 
-ghost use Rattle.std.specs.Prelude.{◌≡◌, ◌≤◌, ◌<◌, ◌↔◌, ◌∷◌, ℕ, true, List, Contains, IfOk, IsErrOf, is_some, length, reverse};
+ghost use Rattle.std.specs.Prelude.{◌≡◌, ◌≤◌, ◌<◌, ◌↔◌, ◌∷◌, ℕ, true, List, Contains, IfOk};
+ghost use Rattle.std.specs.Prelude.{IsErrOf, is_some, length, reverse};
 ghost use Rattle.rx_term.specs.Tree.{Tree};
 ghost use Rattle.rx_text.specs.Machine as machine;
 ghost use Rattle.rx_text.specs.Machine.{start, close, first, whole, step};
@@ -32,7 +33,8 @@ fn begins_term(kind: TokenKind) -> bool
 
 // Whether this is the mark that closes what is open.
 fn closes(opening: Opening, kind: TokenKind) -> bool
-    ensures { (bytes : List ℕ) (n : ℕ) (made : List Tree) (fs : List machine.Frame) → result ≡ is_taken (close (frame_of bytes opening n made) fs) kind }
+    ensures { (bytes : List ℕ) (n : ℕ) (made : List Tree) (fs : List machine.Frame)
+        → result ≡ is_taken (close (frame_of bytes opening n made) fs) kind }
 {
     match opening {
         Opening::Arguments(_) => matches!(kind, TokenKind::Close),
@@ -44,7 +46,8 @@ fn closes(opening: Opening, kind: TokenKind) -> bool
 
 // Whether a token of this kind may stand behind the mark that opened something.
 fn is_first(opening: Opening, kind: TokenKind) -> bool
-    ensures { (bytes : List ℕ) (n : ℕ) (made : List Tree) (fs : List machine.Frame) → result ≡ is_taken (first (frame_of bytes opening n made) fs) kind }
+    ensures { (bytes : List ℕ) (n : ℕ) (made : List Tree) (fs : List machine.Frame)
+        → result ≡ is_taken (first (frame_of bytes opening n made) fs) kind }
 {
     match kind {
         TokenKind::Close | TokenKind::CloseBracket | TokenKind::CloseBrace => closes(opening, kind),
@@ -54,7 +57,8 @@ fn is_first(opening: Opening, kind: TokenKind) -> bool
 
 // Whether a token of this kind may stand behind a whole item of what is open.
 fn is_after_item(opening: Opening, kind: TokenKind) -> bool
-    ensures { (bytes : List ℕ) (u : Tree) (n : ℕ) (made : List Tree) (fs : List machine.Frame) → result ≡ is_taken (whole u (frame_of bytes opening n made ∷ fs)) kind }
+    ensures { (bytes : List ℕ) (u : Tree) (n : ℕ) (made : List Tree) (fs : List machine.Frame)
+        → result ≡ is_taken (whole u (frame_of bytes opening n made ∷ fs)) kind }
 {
     match opening {
         Opening::Placeholder => matches!(kind, TokenKind::Greater),
@@ -68,7 +72,8 @@ fn is_after_item(opening: Opening, kind: TokenKind) -> bool
 impl<'a> Reader<'a> {
     // Whether a token of this kind may stand behind a term with its annotations.
     fn is_after_whole(&self, kind: TokenKind) -> bool
-        ensures { (u : Tree) (made : List Tree) → result ≡ is_taken (whole u (frames_of self.now.bytes.now (reverse self.now.frames.items) made)) kind }
+        ensures { (u : Tree) (made : List Tree) → result ≡ is_taken
+            (whole u (frames_of self.now.bytes.now (reverse self.now.frames.items) made)) kind }
     {
         match self.frames.last() {
             None => matches!(kind, TokenKind::End),
@@ -78,7 +83,8 @@ impl<'a> Reader<'a> {
 
     // Whether a token of this kind may stand here.
     fn is_expected(&self, due: Due, kind: TokenKind) -> bool
-        ensures { (made : List Tree) → result ≡ is_taken (step (mode_of self.now.bytes.now due made) (frames_of self.now.bytes.now (reverse self.now.frames.items) (owned due made))) kind }
+        ensures { (made : List Tree) → result ≡ is_taken (step (mode_of self.now.bytes.now due made)
+            (frames_of self.now.bytes.now (reverse self.now.frames.items) (owned due made))) kind }
     {
         match due {
             Due::Term => begins_term(kind),
@@ -98,7 +104,10 @@ impl<'a> Reader<'a> {
 
     // The kinds of tokens that may stand here.
     fn expected(&self, alloc: Global, due: Due) -> Result<Vec<TokenKind>, AllocError>
-        ensures { (made : List Tree) → IfOk result (λ kinds. (k : TokenKind) → Contains kinds.items k ↔ (is_taken (step (mode_of self.now.bytes.now due made) (frames_of self.now.bytes.now (reverse self.now.frames.items) (owned due made))) k ≡ true)) }
+        ensures { (made : List Tree) → IfOk result
+            (λ kinds. (k : TokenKind) → Contains kinds.items k
+            ↔ (is_taken (step (mode_of self.now.bytes.now due made) (frames_of self.now.bytes.now
+            (reverse self.now.frames.items) (owned due made))) k ≡ true)) }
     {
         let mut kinds = Vec::new(alloc);
         for kind in TokenKind::ALL {
@@ -111,7 +120,9 @@ impl<'a> Reader<'a> {
 
     // Whether this token may stand here.
     fn may_take(&self, due: Due, token: Kind) -> bool
-        ensures { (made : List Tree) → result ≡ is_some (step (mode_of self.now.bytes.now due made) (frames_of self.now.bytes.now (reverse self.now.frames.items) (owned due made)) (token_of self.now.bytes.now token)) }
+        ensures { (made : List Tree) → result ≡ is_some
+            (step (mode_of self.now.bytes.now due made) (frames_of self.now.bytes.now
+            (reverse self.now.frames.items) (owned due made)) (token_of self.now.bytes.now token)) }
     {
         match TokenKind::of(token) {
             Some(kind) => self.is_expected(due, kind),
@@ -149,8 +160,8 @@ fn read_to_fault(alloc: Global, bytes: &[u8]) -> Result<(Due, Reader<'_>), Alloc
     }
 }
 
-/// What may stand at the place of the fault of a text that is outside the grammar: each kind of tokens
-/// that some text has there, behind the tokens before it.
+/// What may stand at the place of the fault of a text that is outside the grammar: each kind of
+/// tokens that some text has there, behind the tokens before it.
 pub fn expected_at_fault(alloc: Global, bytes: &[u8]) -> Result<Vec<TokenKind>, TextFault>
     ensures expected { IfOk result (λ kinds. AreExpected bytes.now kinds.items) }
     ensures long { IsErrOf result TextFault.Long ↔ (longest < length bytes.now) }
