@@ -1,9 +1,9 @@
 //! Symbols: one number for each name, quoted flag and number of arguments.
 #![tactic(auto)]
 
-pub mod faults;
+mod faults;
 pub mod laws;
-pub mod names;
+mod names;
 #[cfg(test)]
 mod tests;
 mod words;

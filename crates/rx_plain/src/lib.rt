@@ -1,7 +1,7 @@
 //! A bank of terms as a vector of slots, searched from the front.
 #![tactic(auto)]
 
-pub mod bank;
+mod bank;
 mod marks;
 mod slots;
 #[cfg(test)]
