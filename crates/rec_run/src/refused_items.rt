@@ -12,6 +12,7 @@ ghost use Rattle.rec_sorts.specs.SpecRules.{Good, SpecVerdict};
 ghost use Rattle.rec_sorts.specs.TermRules.{elements};
 ghost use Rattle.rec_run.specs.GivenTerms.{IsRefusal};
 ghost use Rattle.rec_run.specs.PatternRuns.{IsNoPattern, SpellsPattern};
+ghost use Rattle.rec_run.specs.Reading.{verdict_of};
 ghost use Rattle.rec_run.specs.RefusedItems.{misfit_among, misfit_in, misfit_of, term_in};
 
 use crate::ending::RunFault;
@@ -42,6 +43,14 @@ impl From<AllocError> for RunFault {
     }
 }
 
+/// The verdict on a copy of a text.
+fn judge_copy(alloc: Global, text: &[u8]) -> Result<Reading, AllocError>
+    ensures { IfOk result (λ reading. SpecVerdict text.now (verdict_of reading)) }
+{
+    let copy = Vec::from_slice(alloc, text)?;
+    judge(alloc, copy)
+}
+
 /// The first given term that alone breaks the rule by which a text of terms is refused, by how many
 /// stand before it. None where there is no such rule, or it asks for a list.
 pub fn refused_term(alloc: Global, spec: &[u8], terms: &[u8]) -> Result<Option<usize>, RunFault>
@@ -50,7 +59,7 @@ pub fn refused_term(alloc: Global, spec: &[u8], terms: &[u8]) -> Result<Option<u
     ensures none { IfOk result
         (λ found. (v : verdict.Verdict) → SpecVerdict spec.now v → IsRefusal v → found ≡ None) }
 {
-    match judge(alloc, spec)? {
+    match judge_copy(alloc, spec)? {
         Reading::Refused(_) => Ok(None),
         Reading::Good(checked) => refused_term_for(alloc, &checked, terms),
     }

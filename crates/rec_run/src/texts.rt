@@ -160,7 +160,7 @@ fn read_spec_text<R: Read>(alloc: Global, spec: &mut R) -> Result<Reading, ReadF
     ensures out { OnOk result (IsReadOut (R.remaining spec.old) (R.remaining spec.new)) }
 {
     let text = read_all(alloc, spec)?;
-    let reading = judge(alloc, &text)?;
+    let reading = judge(alloc, text)?;
     Ok(reading)
 }
 

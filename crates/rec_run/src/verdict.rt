@@ -7,7 +7,7 @@ ghost use Rattle.rec_run.specs.Reading.{verdict_of, place_of_refusal};
 
 use crate::ending::{Named, Place, Source};
 use rec_sorts::{Checked, SortFault, check};
-use rec_syntax::{Syntax, SyntaxFault, read_spec};
+use rec_syntax::{Syntax, SyntaxFault, read_owned};
 use std::alloc::{AllocError, Global};
 
 /// Why a specification is refused.
@@ -46,11 +46,11 @@ pub(crate) enum Reading {
     Good(Checked),
 }
 
-/// The verdict on a text.
-pub(crate) fn judge(alloc: Global, text: &[u8]) -> Result<Reading, AllocError>
-    ensures { IfOk result (λ reading. SpecVerdict text.now (verdict_of reading)) }
+/// The verdict on a text, which a good specification keeps.
+pub(crate) fn judge(alloc: Global, text: Vec<u8>) -> Result<Reading, AllocError>
+    ensures { IfOk result (λ reading. SpecVerdict text.items (verdict_of reading)) }
 {
-    let refusal = match read_spec(alloc, text) {
+    let refusal = match read_owned(alloc, text) {
         Ok(syntax) => return judge_rules(alloc, syntax),
         Err(SyntaxFault::Long) => Refusal::Long,
         Err(SyntaxFault::Grammar { at }) => Refusal::Grammar { at },

@@ -180,6 +180,20 @@ fn read(alloc: Global, source: Vec<u8>) -> Result<Syntax, SyntaxFault>
     }
 }
 
+/// The specification that a text spells, which keeps the text: no byte of it is copied.
+pub fn read_owned(alloc: Global, text: Vec<u8>) -> Result<Syntax, SyntaxFault>
+    ensures source { IfOk result (λ s. s.source ≡ text.items) }
+    ensures spelled { IfOk result (λ s. SpecText text.items s.spec) }
+    ensures short { IfOk result (λ s. length text.items ≤ longest) }
+    ensures long { IsErrOf result SyntaxFault.Long ↔ (longest < length text.items) }
+    ensures place { IfErr result (IsPlaced text.items) }
+{
+    if text.len() > LONGEST {
+        return Err(SyntaxFault::Long);
+    }
+    read(alloc, text)
+}
+
 /// The specification that the bytes spell. A text that is too long is refused before memory is
 /// asked for.
 pub fn read_spec(alloc: Global, bytes: &[u8]) -> Result<Syntax, SyntaxFault>

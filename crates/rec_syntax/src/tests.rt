@@ -228,6 +228,17 @@ fn nothing_is_expected_of_a_specification(rt: HostRuntime) -> Result<(), Fail> {
 }
 
 #[test]
+fn a_text_that_is_kept(rt: HostRuntime) -> Result<(), Fail> {
+    let alloc = rt.alloc();
+    let spec = read_owned(alloc, Vec::from_slice(alloc, ADDITION)?)?;
+    assert!(rt; spec.source() == ADDITION.as_slice());
+    assert_eq!(rt; spec.rules().len(), 2);
+    let cut = Vec::from_slice(alloc, &ADDITION[..184])?;
+    assert_eq!(rt; place(read_owned(alloc, cut)), Some(184));
+    Ok(())
+}
+
+#[test]
 fn the_least_one(rt: HostRuntime) -> Result<(), Fail> {
     let spec = read_spec(rt.alloc(), b"REC-SPEC E END-SPEC")?;
     assert_eq!(rt; spec.source().len(), 19);
