@@ -16,7 +16,17 @@ const VERSION: &str = "0.1.0, proved with rattle-kit-13b (logic dac8208d650f15bf
 
 /// The command without the program's name before its words.
 pub fn command<'a>(alloc: Global) -> Result<Command<'a>, AllocError> {
-    Command::new(alloc, "recw")
+    let command = described(alloc)?;
+    let command = with(command, eval_command(alloc))?;
+    let command = with(command, aterm_command(alloc))?;
+    let command = with(command, share_command(alloc))?;
+    let command = with(command, match_command(alloc))?;
+    with(command, make_command(alloc))
+}
+
+/// The command without its subcommands.
+fn described<'a>(alloc: Global) -> Result<Command<'a>, AllocError> {
+    let command = Command::new(alloc, "recw")
         .no_binary_name(true)
         .bin_name("recw")?
         .version(VERSION)
@@ -28,16 +38,20 @@ pub fn command<'a>(alloc: Global) -> Result<Command<'a>, AllocError> {
              Exit status: 0 done, 1 the text was refused, 2 wrong arguments,\n\
              3 out of memory or cells, 4 a read or a write failed.\n\n\
              recw help refusals says what each refusal means; --explain shows where it stands.",
-        )
-        .subcommand(eval_command(alloc)?)?
-        .subcommand(aterm_command(alloc)?)?
-        .subcommand(share_command(alloc)?)?
-        .subcommand(match_command(alloc)?)?
-        .subcommand(make_command(alloc)?)
+        );
+    Ok(command)
+}
+
+/// The command with a subcommand, where there is memory for both.
+fn with<'a>(
+    command: Command<'a>,
+    subcommand: Result<Command<'a>, AllocError>,
+) -> Result<Command<'a>, AllocError> {
+    command.subcommand(subcommand?)
 }
 
 fn eval_command<'a>(alloc: Global) -> Result<Command<'a>, AllocError> {
-    Command::new(alloc, "eval")
+    let command = Command::new(alloc, "eval")
         .about("Evaluate the terms of a REC specification")
         .after_help("Example: recw eval --steps 500 add.rec add.trm")
         .arg(file(
@@ -45,13 +59,19 @@ fn eval_command<'a>(alloc: Global) -> Result<Command<'a>, AllocError> {
             "SPEC",
             "File of the specification [default: standard input]",
         ))?
-        .arg(file(alloc, "TERMS", "File of an ATerm list of further terms"))?
+        .arg(file(alloc, "TERMS", "File of an ATerm list of further terms"))?;
+    with_limits(alloc, command)?
+        .arg(count(alloc))?
+        .arg(explain(alloc))
+}
+
+/// The command with the options that limit an evaluation.
+fn with_limits<'a>(alloc: Global, command: Command<'a>) -> Result<Command<'a>, AllocError> {
+    command
         .arg(steps(alloc))?
         .arg(cells(alloc))?
         .arg(memo(alloc))?
-        .arg(reclaim(alloc))?
-        .arg(count(alloc))?
-        .arg(explain(alloc))
+        .arg(reclaim(alloc))
 }
 
 fn aterm_command<'a>(alloc: Global) -> Result<Command<'a>, AllocError> {
