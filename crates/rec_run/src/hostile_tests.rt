@@ -1,10 +1,9 @@
 //! Each run over readers and writers that give or take one byte a call, where one call fails.
 
-use crate::tests::{ADD, options};
+use crate::tests::{ADD, Sink, Slow, bytewise, failing, failing_at, options, taking, unflushed};
 use crate::{Finish, RunFault, run, run_aterm, run_make, run_match, run_share};
 use std::alloc::Global;
-use std::io;
-use std::io::{ErrorKind, Read, Write};
+use std::io::ErrorKind;
 use std::process::Abort;
 
 const Q: &str =
@@ -118,91 +117,17 @@ const ROWS: [Row; 11] = [
     },
 ];
 
-/// Gives one byte a read; the read of a number fails, and the next one succeeds again.
-#[derive(Drop)]
-struct Trickle {
-    bytes: &'static [u8],
-    reads: usize,
-    fails_at: usize,
-    kind: ErrorKind,
-}
-
-fn trickle_of(text: &'static str) -> Trickle {
-    Trickle {
-        bytes: text.as_bytes(),
-        reads: 0,
-        fails_at: 0,
-        kind: ErrorKind::Other,
-    }
-}
-
-impl Read for Trickle {
-    fn read(&mut self, buf: &mut [u8]) -> io::Result<usize> {
-        self.reads = self.reads.wrapping_add(1);
-        if self.reads == self.fails_at {
-            return Err(io::Error::from(self.kind));
-        }
-        let count = buf.len().min(self.bytes.len()).min(1);
-        buf[..count].copy_from_slice(&self.bytes[..count]);
-        self.bytes = &self.bytes[count..];
-        Ok(count)
-    }
-}
-
-/// Takes one byte a write. The write of a number fails, or takes nothing where there is no error to
-/// answer, and the next one succeeds again; flushing may fail.
-#[derive(Drop)]
-struct Drip {
-    held: Vec<u8>,
-    writes: usize,
-    fails_at: usize,
-    error: Option<ErrorKind>,
-    flush_error: Option<ErrorKind>,
-}
-
-fn empty_drip(alloc: Global) -> Drip {
-    Drip {
-        held: Vec::new(alloc),
-        writes: 0,
-        fails_at: 0,
-        error: None,
-        flush_error: None,
-    }
-}
-
-impl Write for Drip {
-    fn write(&mut self, buf: &[u8]) -> io::Result<usize> {
-        self.writes = self.writes.wrapping_add(1);
-        if self.writes == self.fails_at {
-            return match self.error {
-                Some(kind) => Err(io::Error::from(kind)),
-                None => Ok(0),
-            };
-        }
-        let count = buf.len().min(1);
-        self.held.extend_from_slice(&buf[..count])?;
-        Ok(count)
-    }
-
-    fn flush(&mut self) -> io::Result<()> {
-        match self.flush_error {
-            Some(kind) => Err(io::Error::from(kind)),
-            None => Ok(()),
-        }
-    }
-}
-
 /// Does the run of a row, evaluations with three steps.
 fn perform(
     alloc: Global,
     job: Job,
-    first: &mut Trickle,
-    second: &mut Trickle,
+    first: &mut Slow<'_>,
+    second: &mut Slow<'_>,
     args: &[u8],
-    out: &mut Drip,
+    out: &mut Sink,
 ) -> Result<Finish, RunFault> {
     match job {
-        Job::Alone => run(alloc, first, None::<&mut Trickle>, out, options(3, false)),
+        Job::Alone => run(alloc, first, None::<&mut Slow<'_>>, out, options(3, false)),
         Job::Beside => run(alloc, first, Some(second), out, options(3, false)),
         Job::Print => run_aterm(alloc, first, out),
         Job::Share => run_share(alloc, first, out),
@@ -212,61 +137,83 @@ fn perform(
 }
 
 /// The same with readers that do not fail.
-fn perform_into(alloc: Global, row: Row, out: &mut Drip) -> Result<Finish, RunFault> {
-    let mut first = trickle_of(row.first);
-    let mut second = trickle_of(row.second);
+fn perform_into(alloc: Global, row: Row, out: &mut Sink) -> Result<Finish, RunFault> {
     perform(
         alloc,
         row.job,
-        &mut first,
-        &mut second,
+        &mut bytewise(row.first),
+        &mut bytewise(row.second),
         row.first.as_bytes(),
         out,
     )
 }
 
+/// Asserts how a row's run ended, and what its writer holds.
+fn assert_held(
+    rt: &impl Abort,
+    ended: Result<Finish, RunFault>,
+    due: Result<Finish, RunFault>,
+    out: &Sink,
+    held: &[u8],
+    row: Row,
+) {
+    assert_eq!(rt; ended, due, "{row:?}");
+    assert_eq!(rt; out.held.as_slice(), held, "{row:?}");
+}
+
+/// Asserts that a row's run ends as it says, and writes its lines.
+fn assert_row(rt: &impl Abort, alloc: Global, row: Row) {
+    let mut out = taking(alloc);
+    let result = perform_into(alloc, row, &mut out);
+    assert_held(rt, result, Ok(row.finish), &out, row.lines.as_bytes(), row);
+}
+
 #[test]
 fn one_byte_a_call(rt: HostRuntime) {
     for row in ROWS {
-        let mut out = empty_drip(rt.alloc());
-        let result = perform_into(rt.alloc(), row, &mut out);
-        assert_eq!(rt; result, Ok(row.finish), "{row:?}");
-        assert_eq!(rt; out.held.as_slice(), row.lines.as_bytes(), "{row:?}");
+        assert_row(&rt, rt.alloc(), row);
     }
 }
 
-/// A reader whose read of a number fails.
-fn failing(text: &'static str, fails_at: usize, kind: ErrorKind) -> Trickle {
-    Trickle {
-        bytes: text.as_bytes(),
-        reads: 0,
-        fails_at,
-        kind,
-    }
-}
-
-/// Where a read of the first text or, in its turn, of the second fails, the run ends there and
-/// nothing is written.
-fn fails_reading(
+/// Asserts that where a read of the first text or, in its turn, of the second fails, the run ends
+/// there and nothing is written.
+fn assert_unread(
     rt: &impl Abort,
     alloc: Global,
     row: Row,
-    fails_at: (usize, usize),
-    kind: ErrorKind,
+    first: &mut Slow<'_>,
+    second: &mut Slow<'_>,
 ) {
-    let mut first = failing(row.first, fails_at.0, kind);
-    let mut second = failing(row.second, fails_at.1, kind);
-    let mut out = empty_drip(alloc);
-    let result = perform(alloc, row.job, &mut first, &mut second, &[], &mut out);
-    assert_eq!(rt; result, Err(RunFault::Read), "{row:?}: {fails_at:?}");
-    assert!(rt; out.held.is_empty(), "{row:?}: {fails_at:?}");
-    if fails_at.0 > 0 {
-        assert!(rt;
-            first.reads == fails_at.0 && second.reads == 0,
-            "{row:?}: {fails_at:?}"
-        );
-    } else {
-        assert!(rt; second.reads == fails_at.1, "{row:?}: {fails_at:?}");
+    let mut out = taking(alloc);
+    let result = perform(alloc, row.job, first, second, &[], &mut out);
+    assert_held(rt, result, Err(RunFault::Read), &out, &[], row);
+}
+
+/// Where a read of the first text fails.
+fn fails_first(rt: &impl Abort, alloc: Global, row: Row, k: usize, kind: ErrorKind) {
+    let mut first = failing(row.first, k, kind);
+    let mut second = bytewise(row.second);
+    assert_unread(rt, alloc, row, &mut first, &mut second);
+    assert!(rt; first.reads == k && second.reads == 0, "{row:?}: {k}");
+}
+
+/// Where a read of the second text fails.
+fn fails_second(rt: &impl Abort, alloc: Global, row: Row, k: usize, kind: ErrorKind) {
+    let mut first = bytewise(row.first);
+    let mut second = failing(row.second, k, kind);
+    assert_unread(rt, alloc, row, &mut first, &mut second);
+    assert!(rt; second.reads == k, "{row:?}: {k}");
+}
+
+/// Each read of a row's texts fails in its turn.
+fn fails_each(rt: &impl Abort, alloc: Global, row: Row, kind: ErrorKind) {
+    for k in 1..=row.first.len().saturating_add(1) {
+        fails_first(rt, alloc, row, k, kind);
+    }
+    if matches!(row.job, Job::Beside) {
+        for k in 1..=row.second.len().saturating_add(1) {
+            fails_second(rt, alloc, row, k, kind);
+        }
     }
 }
 
@@ -277,25 +224,21 @@ fn reads_fail(rt: HostRuntime) {
             continue;
         }
         for kind in KINDS {
-            for k in 1..=row.first.len().saturating_add(1) {
-                fails_reading(&rt, rt.alloc(), row, (k, 0), kind);
-            }
-            if matches!(row.job, Job::Beside) {
-                for k in 1..=row.second.len().saturating_add(1) {
-                    fails_reading(&rt, rt.alloc(), row, (0, k), kind);
-                }
-            }
+            fails_each(&rt, rt.alloc(), row, kind);
         }
     }
 }
 
 /// Where the write of a number fails, the bytes before it were written.
 fn fails_writing(rt: &impl Abort, alloc: Global, row: Row, k: usize, error: Option<ErrorKind>) {
-    let mut out = empty_drip(alloc);
-    out.fails_at = k;
-    out.error = error;
+    let mut out = failing_at(alloc, k, error);
     let result = perform_into(alloc, row, &mut out);
-    assert_eq!(rt; result, Err(RunFault::Write), "{row:?}: write {k}");
+    assert_cut(rt, result, &out, row, k);
+}
+
+/// Asserts it.
+fn assert_cut(rt: &impl Abort, ended: Result<Finish, RunFault>, out: &Sink, row: Row, k: usize) {
+    assert_eq!(rt; ended, Err(RunFault::Write), "{row:?}: write {k}");
     assert!(rt;
         out.writes == k && out.held.len().wrapping_add(1) == k,
         "{row:?}: write {k}"
@@ -306,28 +249,42 @@ fn fails_writing(rt: &impl Abort, alloc: Global, row: Row, k: usize, error: Opti
     );
 }
 
+/// Each write of a row fails in its turn.
+fn fails_each_write(rt: &impl Abort, alloc: Global, row: Row, error: Option<ErrorKind>) {
+    for before in 0..row.lines.len() {
+        fails_writing(rt, alloc, row, before.saturating_add(1), error);
+    }
+}
+
 #[test]
 fn writes_fail(rt: HostRuntime) {
     for row in ROWS {
-        for before in 0..row.lines.len() {
-            let k = before.saturating_add(1);
-            fails_writing(&rt, rt.alloc(), row, k, None);
-            for kind in KINDS {
-                fails_writing(&rt, rt.alloc(), row, k, Some(kind));
-            }
+        fails_each_write(&rt, rt.alloc(), row, None);
+        for kind in KINDS {
+            fails_each_write(&rt, rt.alloc(), row, Some(kind));
         }
     }
+}
+
+/// Where flushing fails, the lines were written.
+fn fails_flushing(rt: &impl Abort, alloc: Global, row: Row, kind: ErrorKind) {
+    let mut out = unflushed(alloc, kind);
+    let result = perform_into(alloc, row, &mut out);
+    assert_held(
+        rt,
+        result,
+        Err(RunFault::Write),
+        &out,
+        row.lines.as_bytes(),
+        row,
+    );
 }
 
 #[test]
 fn flushes_fail(rt: HostRuntime) {
     for row in ROWS {
         for kind in KINDS {
-            let mut out = empty_drip(rt.alloc());
-            out.flush_error = Some(kind);
-            let result = perform_into(rt.alloc(), row, &mut out);
-            assert_eq!(rt; result, Err(RunFault::Write), "{row:?}");
-            assert_eq!(rt; out.held.as_slice(), row.lines.as_bytes(), "{row:?}");
+            fails_flushing(&rt, rt.alloc(), row, kind);
         }
     }
 }

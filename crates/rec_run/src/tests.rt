@@ -131,6 +131,90 @@ const SECTIONS: [&str; 6] = [
     "EVAL f(a)",
 ];
 
+/// A specification, the most steps of a term, whether they are counted, and the lines.
+type Value = (&'static str, u32, bool, &'static str);
+
+const VALUES: [Value; 22] = [
+    (ADD, 3, false, "s(s(s(z)))\n"),
+    (ADD, 2, false, "!limit 2\n"),
+    (ADD, 3, true, "s(s(s(z)))\t3\n"),
+    (SUCCESSOR, 0, false, "s(z)\n"),
+    (DUP, 3, false, "p(z,z)\n"),
+    (DUP, 2, false, "!limit 2\n"),
+    (DUP, 3, true, "p(z,z)\t3\n"),
+    (COND, 3, false, "s(z)\n"),
+    (COND, 2, false, "!limit 2\n"),
+    (LOOP, 50, false, "!limit 50\n"),
+    (LOOP, 50, true, "!limit 50\n"),
+    (EQ, 1, false, "true\nfalse\n"),
+    (EQ, 0, false, "!limit 0\n!limit 0\n"),
+    (NEQ, 2, false, "z\ns(z)\n"),
+    (NEQ, 1, false, "z\n!limit 1\n"),
+    (ZERO, 0, false, "s(\"0\")\n\"x'\"\n"),
+    (IRR, 0, false, "h(z)\n"),
+    (HIT, 7, false, "p(z,z)\n"),
+    (HIT, 6, false, "!limit 6\n"),
+    (IDLE, 4, false, "z\np(z,z)\n"),
+    (IDLE, 3, false, "z\n!limit 3\n"),
+    (TITLE, 0, false, ""),
+];
+
+/// The section that is changed, what it becomes, the line of the refusal, and its place.
+type ChangedSection = (usize, &'static str, &'static str, Named, u32);
+
+const CHANGED_SECTIONS: [ChangedSection; 16] = [
+    (0, "SORTS A B A", "!spec S1\n", Named::S(1), 21),
+    (2, "OPNS f : A -> A a : -> A", "!spec S2\n", Named::S(2), 61),
+    (3, "VARS X Y X : A", "!spec S3\n", Named::S(3), 70),
+    (3, "VARS X a : A", "!spec S3\n", Named::S(3), 68),
+    (3, "VARS X Y : C", "!spec S4\n", Named::S(4), 72),
+    (5, "EVAL f(c)", "!spec S5\n", Named::S(5), 97),
+    (5, "EVAL f(a,a)", "!spec S6\n", Named::S(6), 95),
+    (4, "RULES f(X(a)) -> X", "!spec S6\n", Named::S(6), 82),
+    (5, "EVAL f(b)", "!spec S7\n", Named::S(7), 97),
+    (4, "RULES a -> a", "!spec S8\n", Named::S(8), 80),
+    (4, "RULES f(X) -> b", "!spec S9\n", Named::S(9), 80),
+    (
+        4,
+        "RULES f(X) -> X if a -><- b",
+        "!spec S9\n",
+        Named::S(9),
+        93,
+    ),
+    (4, "RULES f(X) -> Y", "!spec S10\n", Named::S(10), 88),
+    (5, "EVAL f(X)", "!spec S11\n", Named::S(11), 97),
+    (
+        4,
+        "RULES f(X) -> X and-if a -><- a",
+        "!spec G\n",
+        Named::G,
+        90,
+    ),
+    (5, "EVAL f()", "!spec S6\n", Named::S(6), 95),
+];
+
+/// A specification, the line of its refusal, and the place.
+type RefusedText = (&'static str, &'static str, Named, u32);
+
+const REFUSED_TEXTS: [RefusedText; 6] = [
+    (
+        "REC-SPEC W SORTS Nat Nat OPNS f : Nat -> Nat VARS X : Nat RULES f(X) -> g(X) END-SPEC",
+        "!spec S1\n",
+        Named::S(1),
+        21,
+    ),
+    (
+        "REC-SPEC V SORTS Nat CONS z : -> Nat OPNS f : Nat -> Nat VARS X Y : Nat RULES f(X) -> Y EVAL k END-SPEC",
+        "!spec S5\n",
+        Named::S(5),
+        93,
+    ),
+    ("REC-SPEC E SORTS : END-SPEC", "!spec G\n", Named::G, 17),
+    ("REC-SPEC E", "!spec G\n", Named::G, 10),
+    ("REC-SPEC if END-SPEC", "!spec G\n", Named::G, 9),
+    ("REC-SPEC E OPNS CONS END-SPEC", "!spec G\n", Named::G, 16),
+];
+
 /// The specification with one section changed, and with a text after it.
 fn with_section(
     alloc: Global,
@@ -139,13 +223,19 @@ fn with_section(
     after: &str,
 ) -> Result<String, AllocError> {
     let mut text = String::from_str(alloc, "REC-SPEC Q ")?;
+    push_sections(&mut text, changed, section)?;
+    text.push_str("END-SPEC\n")?;
+    text.push_str(after)?;
+    Ok(text)
+}
+
+/// The sections, each on a line, with one changed.
+fn push_sections(text: &mut String, changed: usize, section: &str) -> Result<(), AllocError> {
     for (i, kept) in SECTIONS.iter().enumerate() {
         text.push_str(if i == changed { section } else { kept })?;
         text.push_str("\n")?;
     }
-    text.push_str("END-SPEC\n")?;
-    text.push_str(after)?;
-    Ok(text)
+    Ok(())
 }
 
 pub(crate) fn options(steps: u32, count: bool) -> RunOptions {
@@ -156,6 +246,13 @@ pub(crate) fn options(steps: u32, count: bool) -> RunOptions {
         reclaim: 262_144,
         count,
     }
+}
+
+/// The same with a reclaim after each new cell.
+fn often(steps: u32, count: bool) -> RunOptions {
+    let mut often = options(steps, count);
+    often.reclaim = 1;
+    often
 }
 
 /// The same with a bank of so many cells, at least one and at most a million, and a reclaim after
@@ -181,12 +278,33 @@ fn sixteen_cells() -> RunOptions {
     }
 }
 
+/// Sixty steps and a bank of two hundred cells.
+fn two_hundred_cells() -> RunOptions {
+    let mut few = options(60, false);
+    few.cells = 200;
+    few
+}
+
 /// What a run came to.
-#[derive(Debug, Drop)]
-struct Ran {
-    result: Result<Finish, RunFault>,
+#[derive(Drop)]
+pub(crate) struct Ran {
+    pub(crate) result: Result<Finish, RunFault>,
+    pub(crate) place: Option<Place>,
+    pub(crate) written: Vec<u8>,
+}
+
+/// Asserts how a run ended, and what it wrote.
+pub(crate) fn assert_ran(
+    rt: &impl Abort,
+    ran: &Ran,
+    finish: Finish,
     place: Option<Place>,
-    written: Vec<u8>,
+    lines: &str,
+    about: &str,
+) {
+    assert_eq!(rt; ran.result, Ok(finish), "{about}");
+    assert_eq!(rt; ran.place, place, "{about}");
+    assert_eq!(rt; ran.written.as_slice(), lines.as_bytes(), "{about}");
 }
 
 fn run_on(alloc: Global, mut text: &[u8], options: RunOptions) -> Ran {
@@ -207,234 +325,225 @@ fn run_on(alloc: Global, mut text: &[u8], options: RunOptions) -> Ran {
     }
 }
 
+/// Asserts that a specification is good, and which lines a run on it writes.
+fn assert_lines(
+    rt: &impl Abort,
+    alloc: Global,
+    text: &str,
+    options: RunOptions,
+    lines: &str,
+    about: &str,
+) {
+    let ran = run_on(alloc, text.as_bytes(), options);
+    assert_ran(rt, &ran, Finish::Done, None, lines, about);
+}
+
 #[test]
 fn values(rt: HostRuntime) {
-    let rows = [
-        (ADD, 3, false, "s(s(s(z)))\n"),
-        (ADD, 2, false, "!limit 2\n"),
-        (ADD, 3, true, "s(s(s(z)))\t3\n"),
-        (SUCCESSOR, 0, false, "s(z)\n"),
-        (DUP, 3, false, "p(z,z)\n"),
-        (DUP, 2, false, "!limit 2\n"),
-        (DUP, 3, true, "p(z,z)\t3\n"),
-        (COND, 3, false, "s(z)\n"),
-        (COND, 2, false, "!limit 2\n"),
-        (LOOP, 50, false, "!limit 50\n"),
-        (LOOP, 50, true, "!limit 50\n"),
-        (EQ, 1, false, "true\nfalse\n"),
-        (EQ, 0, false, "!limit 0\n!limit 0\n"),
-        (NEQ, 2, false, "z\ns(z)\n"),
-        (NEQ, 1, false, "z\n!limit 1\n"),
-        (ZERO, 0, false, "s(\"0\")\n\"x'\"\n"),
-        (IRR, 0, false, "h(z)\n"),
-        (HIT, 7, false, "p(z,z)\n"),
-        (HIT, 6, false, "!limit 6\n"),
-        (IDLE, 4, false, "z\np(z,z)\n"),
-        (IDLE, 3, false, "z\n!limit 3\n"),
-        (TITLE, 0, false, ""),
-    ];
-    for (text, steps, count, lines) in rows {
-        let Ran {
-            result,
-            place,
-            written,
-        } = run_on(rt.alloc(), text.as_bytes(), options(steps, count));
-        assert!(rt; result == Ok(Finish::Done) && place == None, "{text}");
-        assert_eq!(rt; written.as_slice(), lines.as_bytes(), "{text}");
-        let mut often = options(steps, count);
-        often.reclaim = 1;
-        let ran = run_on(rt.alloc(), text.as_bytes(), often);
-        assert_eq!(rt;
-            ran.written.as_slice(),
-            lines.as_bytes(),
-            "{text}, reclaim 1"
-        );
+    for (text, steps, count, lines) in VALUES {
+        assert_lines(&rt, rt.alloc(), text, options(steps, count), lines, text);
+        assert_lines(&rt, rt.alloc(), text, often(steps, count), lines, text);
     }
+}
+
+/// Asserts that the cells ran out before the first line, or that there were enough.
+fn assert_few(rt: &impl Abort, ran: &Ran, cells: u32) {
+    match ran.result {
+        Ok(Finish::Done) => assert_eq!(rt; ran.written.as_slice(), SUM, "{cells}"),
+        Err(RunFault::Room { lines: 0 }) => {
+            assert!(rt; ran.written.is_empty() && cells < 64, "{cells}");
+        }
+        other => assert!(rt; false, "{cells}: {other:?}"),
+    }
+}
+
+/// The line of the sum's value.
+const SUM: &[u8] = b"s(s(s(z)))\n";
+
+/// Asserts what the sum comes to over a bank of so many cells.
+fn assert_sum(rt: &impl Abort, alloc: Global, cells: u32) {
+    let ran = run_on(alloc, ADD.as_bytes(), narrow(3, cells));
+    if cells < 10 {
+        assert_eq!(rt; ran.result, Err(RunFault::Room { lines: 0 }), "{cells}");
+    }
+    assert_few(rt, &ran, cells);
 }
 
 #[test]
 fn few_cells(rt: HostRuntime) {
-    let alloc = rt.alloc();
     for cells in 1..=64 {
-        let ran = run_on(alloc, ADD.as_bytes(), narrow(3, cells));
-        if cells < 10 {
-            assert_eq!(rt; ran.result, Err(RunFault::Room { lines: 0 }), "{cells}");
-        }
-        match ran.result {
-            Ok(Finish::Done) => {
-                assert_eq!(rt;
-                    ran.written.as_slice(),
-                    b"s(s(s(z)))\n".as_slice(),
-                    "{cells}"
-                );
-            }
-            Err(RunFault::Room { lines: 0 }) => {
-                assert!(rt; ran.written.is_empty() && cells < 64, "{cells}");
-            }
-            other => assert!(rt; false, "{cells}: {other:?}"),
-        }
+        assert_sum(&rt, rt.alloc(), cells);
     }
 }
 
-#[test]
-fn cells_of_earlier_terms(rt: HostRuntime) -> Result<(), Fail> {
-    let alloc = rt.alloc();
-    let mut text = String::from_str(alloc, "REC-SPEC K SORTS N CONS")?;
+/// A number between two texts.
+fn push_number(
+    alloc: Global,
+    text: &mut String,
+    front: &str,
+    i: u32,
+    back: &str,
+) -> Result<(), AllocError> {
+    let item = format!(in alloc; "{front}{i}{back}")?;
+    text.push_str(item.as_str())
+}
+
+/// The numbers from 1 to 20, each between two texts.
+fn push_numbers(
+    alloc: Global,
+    text: &mut String,
+    front: &str,
+    back: &str,
+) -> Result<(), AllocError> {
     for i in 1..=20 {
-        text.push_str(format!(in alloc; " c{i} : -> N")?.as_str())?;
-    }
-    text.push_str(" OPNS h : N -> N EVAL")?;
-    let mut due = String::new(alloc);
-    for i in 1..=20 {
-        text.push_str(format!(in alloc; " h(c{i})")?.as_str())?;
-        due.push_str(format!(in alloc; "h(c{i})\n")?.as_str())?;
-    }
-    text.push_str(" END-SPEC")?;
-    for few in [narrow(0, 16), sixteen_cells()] {
-        let ran = run_on(alloc, text.as_bytes(), few);
-        assert_eq!(rt; ran.result, Ok(Finish::Done));
-        assert_eq!(rt; ran.written.as_slice(), due.as_bytes());
+        push_number(alloc, text, front, i, back)?;
     }
     Ok(())
 }
 
-/// A tree of a symbol so often about `z`.
-fn about_z(alloc: Global, front: &str, back: &str, times: usize) -> Result<String, AllocError> {
-    let mut tree = String::new(alloc);
-    for _ in 0..times {
-        tree.push_str(front)?;
-    }
-    tree.push_str("z")?;
-    for _ in 0..times {
-        tree.push_str(back)?;
-    }
-    Ok(tree)
+/// A specification of twenty constants, with a term of each.
+fn terms_of_constants(alloc: Global) -> Result<String, AllocError> {
+    let mut text = String::from_str(alloc, "REC-SPEC K SORTS N CONS")?;
+    push_numbers(alloc, &mut text, " c", " : -> N")?;
+    text.push_str(" OPNS h : N -> N EVAL")?;
+    push_numbers(alloc, &mut text, " h(c", ")")?;
+    text.push_str(" END-SPEC")?;
+    Ok(text)
+}
+
+/// The lines of its terms, to which no rule applies.
+fn lines_of_constants(alloc: Global) -> Result<String, AllocError> {
+    let mut due = String::new(alloc);
+    push_numbers(alloc, &mut due, "h(c", ")\n")?;
+    Ok(due)
 }
 
 #[test]
-fn cells_of_a_nested_term(rt: HostRuntime) -> Result<(), Fail> {
-    let alloc = rt.alloc();
+fn cells_of_earlier_terms(rt: HostRuntime) -> Result<(), AllocError> {
+    let text = terms_of_constants(rt.alloc())?;
+    let due = lines_of_constants(rt.alloc())?;
+    for few in [narrow(0, 16), sixteen_cells()] {
+        assert_lines(&rt, rt.alloc(), text.as_str(), few, due.as_str(), "");
+    }
+    Ok(())
+}
+
+/// A text so often.
+fn push_often(text: &mut String, part: &str, times: u32) -> Result<(), AllocError> {
+    for _ in 0..times {
+        text.push_str(part)?;
+    }
+    Ok(())
+}
+
+/// A specification whose one term is a tree of thirty times two symbols about `z`.
+fn nested(alloc: Global) -> Result<String, AllocError> {
     let mut text = String::from_str(
         alloc,
         "REC-SPEC K SORTS N CONS z : -> N s : N -> N q : N -> N OPNS t : N -> N e : N -> N VARS X : N RULES t(X) -> e(q(X)) e(q(X)) -> X EVAL ",
     )?;
-    text.push_str(about_z(alloc, "t(s(", "))", 30)?.as_str())?;
+    push_often(&mut text, "t(s(", 30)?;
+    text.push_str("z")?;
+    push_often(&mut text, "))", 30)?;
     text.push_str(" END-SPEC")?;
-    let mut due = about_z(alloc, "s(", ")", 30)?;
+    Ok(text)
+}
+
+/// The line of its value.
+fn nested_line(alloc: Global) -> Result<String, AllocError> {
+    let mut due = String::new(alloc);
+    push_often(&mut due, "s(", 30)?;
+    due.push_str("z")?;
+    push_often(&mut due, ")", 30)?;
     due.push_str("\n")?;
-    let mut few = options(60, false);
-    few.cells = 200;
-    let ran = run_on(alloc, text.as_bytes(), few);
-    assert_eq!(rt; ran.result, Ok(Finish::Done));
-    assert_eq!(rt; ran.written.as_slice(), due.as_bytes());
-    Ok(())
+    Ok(due)
 }
 
 #[test]
-fn refusals(rt: HostRuntime) -> Result<(), Fail> {
-    let alloc = rt.alloc();
-    let sections = [
-        (0, "SORTS A B A", "!spec S1\n", Named::S(1), 21),
-        (2, "OPNS f : A -> A a : -> A", "!spec S2\n", Named::S(2), 61),
-        (3, "VARS X Y X : A", "!spec S3\n", Named::S(3), 70),
-        (3, "VARS X a : A", "!spec S3\n", Named::S(3), 68),
-        (3, "VARS X Y : C", "!spec S4\n", Named::S(4), 72),
-        (5, "EVAL f(c)", "!spec S5\n", Named::S(5), 97),
-        (5, "EVAL f(a,a)", "!spec S6\n", Named::S(6), 95),
-        (4, "RULES f(X(a)) -> X", "!spec S6\n", Named::S(6), 82),
-        (5, "EVAL f(b)", "!spec S7\n", Named::S(7), 97),
-        (4, "RULES a -> a", "!spec S8\n", Named::S(8), 80),
-        (4, "RULES f(X) -> b", "!spec S9\n", Named::S(9), 80),
-        (
-            4,
-            "RULES f(X) -> X if a -><- b",
-            "!spec S9\n",
-            Named::S(9),
-            93,
-        ),
-        (4, "RULES f(X) -> Y", "!spec S10\n", Named::S(10), 88),
-        (5, "EVAL f(X)", "!spec S11\n", Named::S(11), 97),
-        (
-            4,
-            "RULES f(X) -> X and-if a -><- a",
-            "!spec G\n",
-            Named::G,
-            90,
-        ),
-        (5, "EVAL f()", "!spec S6\n", Named::S(6), 95),
-    ];
-    for (changed, section, line, rule, at) in sections {
-        let text = with_section(alloc, changed, section, "")?;
-        is_refused(&rt, alloc, text.as_str(), line, rule, at);
-    }
-    let texts = [
-        (
-            "REC-SPEC W SORTS Nat Nat OPNS f : Nat -> Nat VARS X : Nat RULES f(X) -> g(X) END-SPEC",
-            "!spec S1\n",
-            Named::S(1),
-            21,
-        ),
-        (
-            "REC-SPEC V SORTS Nat CONS z : -> Nat OPNS f : Nat -> Nat VARS X Y : Nat RULES f(X) -> Y EVAL k END-SPEC",
-            "!spec S5\n",
-            Named::S(5),
-            93,
-        ),
-        ("REC-SPEC E SORTS : END-SPEC", "!spec G\n", Named::G, 17),
-        ("REC-SPEC E", "!spec G\n", Named::G, 10),
-        ("REC-SPEC if END-SPEC", "!spec G\n", Named::G, 9),
-        ("REC-SPEC E OPNS CONS END-SPEC", "!spec G\n", Named::G, 16),
-    ];
-    for (text, line, rule, at) in texts {
-        is_refused(&rt, alloc, text, line, rule, at);
-    }
-    let text = with_section(alloc, 0, SECTIONS[0], "a")?;
-    is_refused(&rt, alloc, text.as_str(), "!spec G\n", Named::G, 109);
-    let unended = ADD.strip_suffix("END-SPEC\n").ok_or("no end")?;
-    is_refused(&rt, alloc, unended, "!spec G\n", Named::G, 184);
-    let text = with_section(alloc, 0, SECTIONS[0], "")?;
-    let Ran {
-        result,
-        written,
-        ..
-    } = run_on(alloc, text.as_bytes(), options(1, false));
-    assert!(rt; result == Ok(Finish::Done) && written.as_slice() == b"a\n".as_slice());
+fn cells_of_a_nested_term(rt: HostRuntime) -> Result<(), AllocError> {
+    let text = nested(rt.alloc())?;
+    let due = nested_line(rt.alloc())?;
+    assert_lines(
+        &rt,
+        rt.alloc(),
+        text.as_str(),
+        two_hundred_cells(),
+        due.as_str(),
+        "",
+    );
     Ok(())
 }
 
-fn is_refused(rt: &impl Abort, alloc: Global, text: &str, line: &str, rule: Named, at: u32) {
-    let Ran {
-        result,
-        place,
-        written,
-    } = run_on(alloc, text.as_bytes(), options(0, false));
+/// Asserts that a specification is refused, by which line and at which place.
+fn assert_refused(rt: &impl Abort, alloc: Global, text: &str, line: &str, rule: Named, at: u32) {
+    let ran = run_on(alloc, text.as_bytes(), options(0, false));
     let due = Place {
         text: Source::Spec,
         rule,
         at,
     };
-    assert_eq!(rt; result, Ok(Finish::Refused), "{text}");
-    assert_eq!(rt; place, Some(due), "{text}");
-    assert_eq!(rt; written.as_slice(), line.as_bytes(), "{text}");
+    assert_ran(rt, &ran, Finish::Refused, Some(due), line, text);
 }
 
-/// Gives at most `step` bytes a read, and fails at one read.
+/// Asserts that the specification with one section changed is refused.
+fn assert_section(rt: &impl Abort, alloc: Global, row: ChangedSection) -> Result<(), AllocError> {
+    let (changed, section, line, rule, at) = row;
+    let text = with_section(alloc, changed, section, "")?;
+    assert_refused(rt, alloc, text.as_str(), line, rule, at);
+    Ok(())
+}
+
+/// Asserts that the specification as it is comes to its one line, and with a text after it is
+/// refused.
+fn assert_unchanged(rt: &impl Abort, alloc: Global) -> Result<(), AllocError> {
+    let text = with_section(alloc, 0, SECTIONS[0], "")?;
+    assert_lines(
+        rt,
+        alloc,
+        text.as_str(),
+        options(1, false),
+        "a\n",
+        "unchanged",
+    );
+    let text = with_section(alloc, 0, SECTIONS[0], "a")?;
+    assert_refused(rt, alloc, text.as_str(), "!spec G\n", Named::G, 109);
+    Ok(())
+}
+
+#[test]
+fn refusals(rt: HostRuntime) -> Result<(), Fail> {
+    for row in CHANGED_SECTIONS {
+        assert_section(&rt, rt.alloc(), row)?;
+    }
+    for (text, line, rule, at) in REFUSED_TEXTS {
+        assert_refused(&rt, rt.alloc(), text, line, rule, at);
+    }
+    assert_unchanged(&rt, rt.alloc())?;
+    let unended = ADD.strip_suffix("END-SPEC\n").ok_or("no end")?;
+    assert_refused(&rt, rt.alloc(), unended, "!spec G\n", Named::G, 184);
+    Ok(())
+}
+
+/// Gives one byte a read; the read of a number fails, and the next one succeeds again.
 #[derive(Drop)]
 pub(crate) struct Slow<'a> {
     bytes: &'a [u8],
-    step: usize,
-    pub(crate) reads: u64,
-    pub(crate) fails_at: u64,
+    pub(crate) reads: usize,
+    fails_at: usize,
     kind: ErrorKind,
 }
 
+/// A reader of which no read fails.
 pub(crate) fn bytewise(text: &str) -> Slow<'_> {
+    failing(text, 0, ErrorKind::Other)
+}
+
+pub(crate) fn failing(text: &str, fails_at: usize, kind: ErrorKind) -> Slow<'_> {
     Slow {
         bytes: text.as_bytes(),
-        step: 1,
         reads: 0,
-        fails_at: 0,
-        kind: ErrorKind::Other,
+        fails_at,
+        kind,
     }
 }
 
@@ -444,10 +553,8 @@ impl Read for Slow<'_> {
         if self.reads == self.fails_at {
             return Err(io::Error::from(self.kind));
         }
-        let count = self.step.min(buf.len()).min(self.bytes.len());
-        buf[..count].copy_from_slice(&self.bytes[..count]);
-        self.bytes = &self.bytes[count..];
-        Ok(count)
+        let count = buf.len().min(1);
+        self.bytes.read(&mut buf[..count])
     }
 }
 
@@ -462,65 +569,98 @@ impl Read for Blanks {
     }
 }
 
-/// Takes one byte a write; one write fails and the next one succeeds again, one takes nothing, and
-/// the flush may fail.
+/// Takes one byte a write. The write of a number fails, or takes nothing where there is no error to
+/// answer, and the next one succeeds again; flushing may fail.
 #[derive(Drop)]
 pub(crate) struct Sink {
     pub(crate) held: Vec<u8>,
-    writes: u64,
-    pub(crate) fails_at: u64,
-    kind: ErrorKind,
-    stops_at: u64,
-    pub(crate) flush_fails: bool,
+    pub(crate) writes: usize,
+    pub(crate) fails_at: usize,
+    pub(crate) error: Option<ErrorKind>,
+    pub(crate) flush_error: Option<ErrorKind>,
 }
 
 pub(crate) fn taking(alloc: Global) -> Sink {
+    failing_at(alloc, 0, None)
+}
+
+pub(crate) fn failing_at(alloc: Global, fails_at: usize, error: Option<ErrorKind>) -> Sink {
     Sink {
         held: Vec::new(alloc),
         writes: 0,
-        fails_at: 0,
-        kind: ErrorKind::Other,
-        stops_at: 0,
-        flush_fails: false,
+        fails_at,
+        error,
+        flush_error: None,
     }
+}
+
+/// A writer of which flushing fails alone.
+pub(crate) fn unflushed(alloc: Global, error: ErrorKind) -> Sink {
+    let mut out = taking(alloc);
+    out.flush_error = Some(error);
+    out
 }
 
 impl Write for Sink {
     fn write(&mut self, buf: &[u8]) -> io::Result<usize> {
         self.writes = self.writes.wrapping_add(1);
         if self.writes == self.fails_at {
-            return Err(io::Error::from(self.kind));
-        }
-        if self.writes == self.stops_at {
-            return Ok(0);
+            return match self.error {
+                Some(kind) => Err(io::Error::from(kind)),
+                None => Ok(0),
+            };
         }
         let count = buf.len().min(1);
-        self.held.extend_from_slice(&buf[..count])?;
-        Ok(count)
+        self.held.write(&buf[..count])
     }
 
     fn flush(&mut self) -> io::Result<()> {
-        if self.flush_fails {
-            return Err(io::Error::from(ErrorKind::Other));
+        match self.flush_error {
+            Some(kind) => Err(io::Error::from(kind)),
+            None => Ok(()),
         }
-        Ok(())
     }
+}
+
+/// Asserts how a run ended, and what its writer holds.
+pub(crate) fn assert_held(
+    rt: &impl Abort,
+    ended: Result<Finish, RunFault>,
+    due: Result<Finish, RunFault>,
+    out: &Sink,
+    held: &[u8],
+    about: usize,
+) {
+    assert_eq!(rt; ended, due, "call {about}");
+    assert_eq!(rt; out.held.as_slice(), held, "call {about}");
+}
+
+/// A run on a specification alone, of which no fact is handed on.
+fn alone<R: Read, W: Write>(
+    alloc: Global,
+    spec: &mut R,
+    out: &mut W,
+    steps: u32,
+) -> Result<Finish, RunFault> {
+    run(alloc, spec, None::<&mut &[u8]>, out, options(steps, false))
 }
 
 const TWO_LINES: &[u8] = b"z\ns(z)\n";
 
 #[test]
 fn one_byte_a_call(rt: HostRuntime) {
-    let mut spec = bytewise(NEQ);
     let mut out = taking(rt.alloc());
-    let result = run(
-        rt.alloc(),
-        &mut spec,
-        None::<&mut &[u8]>,
-        &mut out,
-        options(2, false),
-    );
-    assert!(rt; result == Ok(Finish::Done) && out.held.as_slice() == TWO_LINES);
+    let result = alone(rt.alloc(), &mut bytewise(NEQ), &mut out, 2);
+    assert_held(&rt, result, Ok(Finish::Done), &out, TWO_LINES, 0);
+}
+
+/// Asserts that the run ends at the read that fails, and that nothing is written.
+fn assert_unread(rt: &impl Abort, alloc: Global, kind: ErrorKind, k: usize) {
+    let mut spec = failing(NEQ, k, kind);
+    let mut out = taking(alloc);
+    let result = alone(alloc, &mut spec, &mut out, 2);
+    assert_held(rt, result, Err(RunFault::Read), &out, &[], k);
+    assert!(rt; spec.reads == k, "read {k}");
 }
 
 #[test]
@@ -530,137 +670,130 @@ fn reads_fail(rt: HostRuntime) {
         ErrorKind::Interrupted,
         ErrorKind::OutOfMemory,
     ] {
-        for k in 1..=NEQ.len() as u64 + 1 {
-            let mut spec = bytewise(NEQ);
-            spec.fails_at = k;
-            spec.kind = kind;
-            let mut out = taking(rt.alloc());
-            let result = run(
-                rt.alloc(),
-                &mut spec,
-                None::<&mut &[u8]>,
-                &mut out,
-                options(2, false),
-            );
-            assert!(rt;
-                result == Err(RunFault::Read) && out.held.is_empty() && spec.reads == k,
-                "read {k}"
-            );
+        for k in 1..=NEQ.len().saturating_add(1) {
+            assert_unread(&rt, rt.alloc(), kind, k);
         }
     }
+}
+
+/// Asserts that the run ends at the write that fails, or takes nothing, after the bytes before it.
+fn assert_unwritten(rt: &impl Abort, alloc: Global, error: Option<ErrorKind>, held: &[u8]) {
+    let k = held.len().wrapping_add(1);
+    let mut out = failing_at(alloc, k, error);
+    let result = alone(alloc, &mut bytewise(NEQ), &mut out, 2);
+    assert_held(rt, result, Err(RunFault::Write), &out, held, k);
+    assert!(rt; out.writes == k, "write {k}");
 }
 
 #[test]
 fn writes_fail(rt: HostRuntime) {
-    let mut k = 0u64;
     for written in 0..TWO_LINES.len() {
-        k = k.wrapping_add(1);
-        for kind in [None, Some(ErrorKind::Other), Some(ErrorKind::Interrupted)] {
-            let mut spec = bytewise(NEQ);
-            let mut out = taking(rt.alloc());
-            match kind {
-                None => out.stops_at = k,
-                Some(kind) => {
-                    out.fails_at = k;
-                    out.kind = kind;
-                }
-            }
-            let result = run(
-                rt.alloc(),
-                &mut spec,
-                None::<&mut &[u8]>,
-                &mut out,
-                options(2, false),
-            );
-            assert!(rt;
-                result == Err(RunFault::Write) && out.writes == k,
-                "write {k}"
-            );
-            assert!(rt; out.held.as_slice() == &TWO_LINES[..written], "write {k}");
+        for error in [None, Some(ErrorKind::Other), Some(ErrorKind::Interrupted)] {
+            assert_unwritten(&rt, rt.alloc(), error, &TWO_LINES[..written]);
         }
     }
-    let mut spec = bytewise(NEQ);
-    let mut out = taking(rt.alloc());
-    out.flush_fails = true;
-    let result = run(
-        rt.alloc(),
-        &mut spec,
-        None::<&mut &[u8]>,
-        &mut out,
-        options(2, false),
-    );
-    assert!(rt; result == Err(RunFault::Write) && out.held.as_slice() == TWO_LINES);
+    let mut out = unflushed(rt.alloc(), ErrorKind::Other);
+    let result = alone(rt.alloc(), &mut bytewise(NEQ), &mut out, 2);
+    assert_held(&rt, result, Err(RunFault::Write), &out, TWO_LINES, 0);
 }
 
-#[test]
-fn limit_of_bytes(rt: HostRuntime) -> Result<(), Fail> {
-    let alloc = rt.alloc();
-    let mut text = Vec::from_slice(alloc, TITLE.as_bytes())?;
-    text.resize(LIMIT, b' ')?;
-    let Ran {
-        result,
-        written,
-        ..
-    } = run_on(alloc, &text, options(0, false));
-    assert!(rt; result == Ok(Finish::Done) && written.is_empty());
-    text.push(b' ')?;
-    let Ran {
-        result,
-        place,
-        written,
-    } = run_on(alloc, &text, options(0, false));
-    assert!(rt; result == Ok(Finish::Refused) && place == None);
-    assert!(rt; written.as_slice() == b"!spec L1\n".as_slice());
-    text.extend_from_slice(b"ab")?;
-    let mut rest = text.as_slice();
-    let result = run(
-        alloc,
-        &mut rest,
-        None::<&mut &[u8]>,
-        &mut Vec::new(alloc),
-        options(0, false),
-    );
-    assert!(rt; result == Ok(Finish::Refused) && rest == b"ab".as_slice());
-    let mut out = taking(alloc);
-    let result = run(
-        alloc,
-        &mut Blanks,
-        None::<&mut &[u8]>,
-        &mut out,
-        options(0, false),
-    );
-    assert!(rt; result == Ok(Finish::Refused) && out.held.as_slice() == b"!spec L1\n".as_slice());
+/// A text with blanks up to a length.
+pub(crate) fn padded(alloc: Global, text: &[u8], length: usize) -> Result<Vec<u8>, AllocError> {
+    let mut padded = Vec::from_slice(alloc, text)?;
+    padded.resize(length, b' ')?;
+    Ok(padded)
+}
+
+/// One byte more than a text may have.
+const PAST: usize = LIMIT + 1;
+
+const LONG_SPEC: &str = "!spec L1\n";
+
+/// Asserts what an empty specification with blanks up to a length comes to.
+fn assert_padded(
+    rt: &impl Abort,
+    alloc: Global,
+    length: usize,
+    finish: Finish,
+    lines: &str,
+) -> Result<(), AllocError> {
+    let text = padded(alloc, TITLE.as_bytes(), length)?;
+    let ran = run_on(alloc, &text, options(0, false));
+    assert_ran(rt, &ran, finish, None, lines, "");
     Ok(())
 }
 
+/// Asserts that no byte is read past the one that is too much.
+fn assert_left(rt: &impl Abort, alloc: Global) -> Result<(), AllocError> {
+    let mut text = padded(alloc, TITLE.as_bytes(), PAST)?;
+    text.extend_from_slice(REST)?;
+    let mut left = text.as_slice();
+    let result = alone(alloc, &mut left, &mut Vec::new(alloc), 0);
+    assert!(rt; result == Ok(Finish::Refused) && left == REST);
+    Ok(())
+}
+
+const REST: &[u8] = b"ab";
+
+#[test]
+fn limit_of_bytes(rt: HostRuntime) -> Result<(), AllocError> {
+    assert_padded(&rt, rt.alloc(), LIMIT, Finish::Done, "")?;
+    assert_padded(&rt, rt.alloc(), PAST, Finish::Refused, LONG_SPEC)?;
+    assert_left(&rt, rt.alloc())?;
+    let mut out = taking(rt.alloc());
+    let result = alone(rt.alloc(), &mut Blanks, &mut out, 0);
+    assert_held(
+        &rt,
+        result,
+        Ok(Finish::Refused),
+        &out,
+        LONG_SPEC.as_bytes(),
+        0,
+    );
+    Ok(())
+}
+
+/// The tree of `p` over a tree twice.
+fn pair(alloc: Global, part: &str) -> Result<String, AllocError> {
+    let mut tree = String::from_str(alloc, "p(")?;
+    tree.push_str(part)?;
+    tree.push_str(",")?;
+    tree.push_str(part)?;
+    tree.push_str(")")?;
+    Ok(tree)
+}
+
 /// A tree of `p` over `z` with so many levels below its root.
-fn balanced(alloc: Global, levels: usize) -> Result<String, AllocError> {
+fn balanced(alloc: Global, levels: u32) -> Result<String, AllocError> {
     let mut tree = String::from_str(alloc, "z")?;
     for _ in 0..levels {
-        let part = tree;
-        tree = String::from_str(alloc, "p(")?;
-        tree.push_str(part.as_str())?;
-        tree.push_str(",")?;
-        tree.push_str(part.as_str())?;
-        tree.push_str(")")?;
+        tree = pair(alloc, tree.as_str())?;
     }
     Ok(tree)
 }
 
-#[test]
-fn long_specification(rt: HostRuntime) -> Result<(), Fail> {
-    let alloc = rt.alloc();
-    let tree = balanced(alloc, 15)?;
+/// A specification that gives a tree back.
+fn wide(alloc: Global, tree: &str) -> Result<String, AllocError> {
     let mut text = String::from_str(
         alloc,
         "REC-SPEC Wide SORTS N CONS z : -> N p : N N -> N OPNS f : N -> N VARS X : N RULES f(X) -> X EVAL f(",
     )?;
-    text.push_str(tree.as_str())?;
+    text.push_str(tree)?;
     text.push_str(") END-SPEC")?;
+    Ok(text)
+}
+
+/// Asserts that a long specification comes to its line.
+fn assert_wide(rt: &impl Abort, alloc: Global, text: &str, due: &str) {
     assert!(rt; text.len() > 100_000);
-    let mut due = tree;
-    due.push_str("\n")?;
-    let ran = run_on(alloc, text.as_bytes(), options(1, false));
-    assert!(rt; ran.result == Ok(Finish::Done) && ran.written.as_slice() == due.as_bytes());
+    assert_lines(rt, alloc, text, options(1, false), due, "");
+}
+
+#[test]
+fn long_specification(rt: HostRuntime) -> Result<(), AllocError> {
+    let mut tree = balanced(rt.alloc(), 15)?;
+    let text = wide(rt.alloc(), tree.as_str())?;
+    tree.push_str("\n")?;
+    assert_wide(&rt, rt.alloc(), text.as_str(), tree.as_str());
     Ok(())
 }
