@@ -24,7 +24,7 @@ const SPOILT: &str = "REC-SPEC E SORTS : END-SPEC";
 /// lines.
 type Value = (&'static str, &'static str, u32, bool, &'static str);
 
-const VALUES: [Value; 9] = [
+static VALUES: [Value; 9] = [
     (ADD, "[]", 3, false, "s(s(s(z)))\n"),
     (ADD, "[plus(z,s(z))]", 3, false, "s(s(s(z)))\ns(z)\n"),
     (SUMS, "[plus(s(z),z),z]", 2, true, "s(z)\t2\nz\t0\n"),
@@ -45,7 +45,7 @@ const VALUES: [Value; 9] = [
 /// A specification, the text of terms, and the line of its refusal.
 type Refused = (&'static str, &'static str, &'static str);
 
-const REFUSED: [Refused; 11] = [
+static REFUSED: [Refused; 11] = [
     (ADD, "[plus(s(z),z),3]", "!terms T2\n"),
     (Q, "a", "!terms T1\n"),
     (Q, "[a]{a}", "!terms T1\n"),
@@ -62,7 +62,7 @@ const REFUSED: [Refused; 11] = [
 /// A specification, the text of terms, and which of them is refused.
 type Told = (&'static str, &'static str, Option<usize>);
 
-const TOLD: [Told; 8] = [
+static TOLD: [Told; 8] = [
     (Q, "[f(a),3]", Some(1)),
     (Q, "[a{b},f(a{b})]", Some(1)),
     (Q, "[f(b),a,c,X]", Some(2)),
@@ -105,8 +105,8 @@ fn assert_value(rt: &impl Abort, alloc: Global, row: Value) {
 
 #[test]
 fn values(rt: HostRuntime) {
-    for row in VALUES {
-        assert_value(&rt, rt.alloc(), row);
+    for row in &VALUES {
+        assert_value(&rt, rt.alloc(), *row);
     }
 }
 
@@ -119,8 +119,8 @@ fn assert_refused(rt: &impl Abort, alloc: Global, row: Refused, place: Option<Pl
 
 #[test]
 fn refusals(rt: HostRuntime) {
-    for row in REFUSED {
-        assert_refused(&rt, rt.alloc(), row, None);
+    for row in &REFUSED {
+        assert_refused(&rt, rt.alloc(), *row, None);
     }
     let outside = Place {
         text: Source::Terms,
@@ -243,7 +243,7 @@ fn told(alloc: Global, spec: &str, terms: &str) -> Result<Option<usize>, RunFaul
 
 #[test]
 fn tells_the_refused_term(rt: HostRuntime) {
-    for (spec, terms, wanted) in TOLD {
-        assert_eq!(rt; told(rt.alloc(), spec, terms), Ok(wanted), "{terms}");
+    for (spec, terms, wanted) in &TOLD {
+        assert_eq!(rt; told(rt.alloc(), spec, terms), Ok(*wanted), "{terms}");
     }
 }

@@ -37,7 +37,7 @@ struct Row {
     lines: &'static str,
 }
 
-const ROWS: [Row; 11] = [
+static ROWS: [Row; 11] = [
     Row {
         job: Job::Alone,
         first: ADD,
@@ -170,8 +170,8 @@ fn assert_row(rt: &impl Abort, alloc: Global, row: Row) {
 
 #[test]
 fn one_byte_a_call(rt: HostRuntime) {
-    for row in ROWS {
-        assert_row(&rt, rt.alloc(), row);
+    for row in &ROWS {
+        assert_row(&rt, rt.alloc(), *row);
     }
 }
 
@@ -219,12 +219,12 @@ fn fails_each(rt: &impl Abort, alloc: Global, row: Row, kind: ErrorKind) {
 
 #[test]
 fn reads_fail(rt: HostRuntime) {
-    for row in ROWS {
+    for row in &ROWS {
         if matches!(row.job, Job::Make(_)) {
             continue;
         }
         for kind in KINDS {
-            fails_each(&rt, rt.alloc(), row, kind);
+            fails_each(&rt, rt.alloc(), *row, kind);
         }
     }
 }
@@ -258,10 +258,10 @@ fn fails_each_write(rt: &impl Abort, alloc: Global, row: Row, error: Option<Erro
 
 #[test]
 fn writes_fail(rt: HostRuntime) {
-    for row in ROWS {
-        fails_each_write(&rt, rt.alloc(), row, None);
+    for row in &ROWS {
+        fails_each_write(&rt, rt.alloc(), *row, None);
         for kind in KINDS {
-            fails_each_write(&rt, rt.alloc(), row, Some(kind));
+            fails_each_write(&rt, rt.alloc(), *row, Some(kind));
         }
     }
 }
@@ -282,9 +282,9 @@ fn fails_flushing(rt: &impl Abort, alloc: Global, row: Row, kind: ErrorKind) {
 
 #[test]
 fn flushes_fail(rt: HostRuntime) {
-    for row in ROWS {
+    for row in &ROWS {
         for kind in KINDS {
-            fails_flushing(&rt, rt.alloc(), row, kind);
+            fails_flushing(&rt, rt.alloc(), *row, kind);
         }
     }
 }

@@ -16,7 +16,7 @@ use std::process::Abort;
 /// A pattern, the text of a term or of arguments, and the lines.
 type Row = (&'static str, &'static str, &'static str);
 
-const MATCHES: [Row; 12] = [
+static MATCHES: [Row; 12] = [
     ("f(<int>,<list>)", "f(1,2,3)", "yes\n1\n[2,3]\n"),
     ("f(<int>,<list>)", "f(1)", "yes\n1\n[]\n"),
     ("f(<int>,<list>)", "f(a)", "no\n"),
@@ -31,7 +31,7 @@ const MATCHES: [Row; 12] = [
     ("a", "a{b}", "no\n"),
 ];
 
-const MAKES: [Row; 4] = [
+static MAKES: [Row; 4] = [
     ("f(<int>,<list>)", "[1,[2,3]]", "f(1,2,3)\n"),
     ("f(<int>,<list>)", "[1,[]]", "f(1)\n"),
     ("a", "[]{}", "a\n"),
@@ -44,7 +44,7 @@ type Outside = Option<(Source, u32)>;
 /// A pattern, the text of a term or of arguments, the line of the refusal, and the place.
 type Refused = (&'static str, &'static str, &'static str, Outside);
 
-const REFUSED_MATCHES: [Refused; 8] = [
+static REFUSED_MATCHES: [Refused; 8] = [
     ("<foo>", "a", "!pattern P1\n", None),
     ("<int>{a}", "1", "!pattern P2\n", None),
     ("<int>{<foo>}", "1", "!pattern P1\n", None),
@@ -55,7 +55,7 @@ const REFUSED_MATCHES: [Refused; 8] = [
     ("a", "", "!term A\n", Some((Source::Term, 0))),
 ];
 
-const REFUSED_MAKES: [Refused; 12] = [
+static REFUSED_MAKES: [Refused; 12] = [
     ("f(<int>)", "[]", "!args M1\n", None),
     ("f(<int>)", "[1,2]", "!args M1\n", None),
     ("f(<int>)", "[a]", "!args M2\n", None),
@@ -73,7 +73,7 @@ const REFUSED_MAKES: [Refused; 12] = [
 /// A pattern, the text of arguments, and which of them does not fit.
 type Told = (&'static str, &'static str, Option<Misfit>);
 
-const TOLD: [Told; 8] = [
+static TOLD: [Told; 8] = [
     (
         "f(<int>)",
         "[]",
@@ -139,8 +139,8 @@ fn assert_match(rt: &impl Abort, alloc: Global, row: Row) {
 
 #[test]
 fn matches(rt: HostRuntime) {
-    for row in MATCHES {
-        assert_match(&rt, rt.alloc(), row);
+    for row in &MATCHES {
+        assert_match(&rt, rt.alloc(), *row);
     }
 }
 
@@ -153,8 +153,8 @@ fn assert_make(rt: &impl Abort, alloc: Global, row: Row) {
 
 #[test]
 fn makes(rt: HostRuntime) {
-    for row in MAKES {
-        assert_make(&rt, rt.alloc(), row);
+    for row in &MAKES {
+        assert_make(&rt, rt.alloc(), *row);
     }
 }
 
@@ -179,8 +179,8 @@ fn assert_unmatched(rt: &impl Abort, alloc: Global, row: Refused) {
 
 #[test]
 fn refused_matches(rt: HostRuntime) {
-    for row in REFUSED_MATCHES {
-        assert_unmatched(&rt, rt.alloc(), row);
+    for row in &REFUSED_MATCHES {
+        assert_unmatched(&rt, rt.alloc(), *row);
     }
 }
 
@@ -193,8 +193,8 @@ fn assert_unmade(rt: &impl Abort, alloc: Global, row: Refused) {
 
 #[test]
 fn refused_makes(rt: HostRuntime) {
-    for row in REFUSED_MAKES {
-        assert_unmade(&rt, rt.alloc(), row);
+    for row in &REFUSED_MAKES {
+        assert_unmade(&rt, rt.alloc(), *row);
     }
 }
 
@@ -316,10 +316,10 @@ fn told(alloc: Global, pattern: &str, args: &str) -> Result<Option<Misfit>, RunF
 
 #[test]
 fn tells_the_refused_argument(rt: HostRuntime) {
-    for (pattern, args, wanted) in TOLD {
+    for (pattern, args, wanted) in &TOLD {
         assert_eq!(rt;
             told(rt.alloc(), pattern, args),
-            Ok(wanted),
+            Ok(*wanted),
             "{pattern} {args}"
         );
     }

@@ -13,7 +13,7 @@ use std::process::Abort;
 /// A text of a term, and what it is printed as.
 type Line = (&'static str, &'static str);
 
-const PRINTED: [Line; 10] = [
+static PRINTED: [Line; 10] = [
     ("f ( a , [ 1 , -007 ] ) { b }", "f(a,[1,-7]){b}\n"),
     ("f()", "f\n"),
     ("()", "()\n"),
@@ -26,7 +26,7 @@ const PRINTED: [Line; 10] = [
     ("<7>{7}", "<7>{7}\n"),
 ];
 
-const COUNTED: [Line; 4] = [
+static COUNTED: [Line; 4] = [
     ("f(a,a)", "f(a,a)\ncells 5\n"),
     ("[1,[1]]", "[1,[1]]\ncells 5\n"),
     ("a{b}", "a{b}\ncells 4\n"),
@@ -34,7 +34,7 @@ const COUNTED: [Line; 4] = [
 ];
 
 /// Texts outside the grammar, with their places.
-const OUTSIDE: [(&str, u32); 9] = [
+static OUTSIDE: [(&str, u32); 9] = [
     ("", 0),
     ("2147483648", 0),
     ("1.5", 1),
@@ -78,7 +78,7 @@ fn assert_printed(rt: &impl Abort, alloc: Global, text: &str, line: &str) {
 
 #[test]
 fn printed(rt: HostRuntime) {
-    for (text, line) in PRINTED {
+    for (text, line) in &PRINTED {
         assert_printed(&rt, rt.alloc(), text, line);
     }
 }
@@ -107,9 +107,9 @@ fn assert_uncounted(rt: &impl Abort, alloc: Global, text: &str, at: u32) {
 
 #[test]
 fn outside(rt: HostRuntime) {
-    for (text, at) in OUTSIDE {
-        assert_unprinted(&rt, rt.alloc(), text, at);
-        assert_uncounted(&rt, rt.alloc(), text, at);
+    for (text, at) in &OUTSIDE {
+        assert_unprinted(&rt, rt.alloc(), text, *at);
+        assert_uncounted(&rt, rt.alloc(), text, *at);
     }
 }
 
@@ -121,7 +121,7 @@ fn assert_counted(rt: &impl Abort, alloc: Global, text: &str, lines: &str) {
 
 #[test]
 fn counted(rt: HostRuntime) {
-    for (text, lines) in COUNTED {
+    for (text, lines) in &COUNTED {
         assert_counted(&rt, rt.alloc(), text, lines);
     }
 }

@@ -134,7 +134,7 @@ const SECTIONS: [&str; 6] = [
 /// A specification, the most steps of a term, whether they are counted, and the lines.
 type Value = (&'static str, u32, bool, &'static str);
 
-const VALUES: [Value; 22] = [
+static VALUES: [Value; 22] = [
     (ADD, 3, false, "s(s(s(z)))\n"),
     (ADD, 2, false, "!limit 2\n"),
     (ADD, 3, true, "s(s(s(z)))\t3\n"),
@@ -162,7 +162,7 @@ const VALUES: [Value; 22] = [
 /// The section that is changed, what it becomes, the line of the refusal, and its place.
 type ChangedSection = (usize, &'static str, &'static str, Named, u32);
 
-const CHANGED_SECTIONS: [ChangedSection; 16] = [
+static CHANGED_SECTIONS: [ChangedSection; 16] = [
     (0, "SORTS A B A", "!spec S1\n", Named::S(1), 21),
     (2, "OPNS f : A -> A a : -> A", "!spec S2\n", Named::S(2), 61),
     (3, "VARS X Y X : A", "!spec S3\n", Named::S(3), 70),
@@ -196,7 +196,7 @@ const CHANGED_SECTIONS: [ChangedSection; 16] = [
 /// A specification, the line of its refusal, and the place.
 type RefusedText = (&'static str, &'static str, Named, u32);
 
-const REFUSED_TEXTS: [RefusedText; 6] = [
+static REFUSED_TEXTS: [RefusedText; 6] = [
     (
         "REC-SPEC W SORTS Nat Nat OPNS f : Nat -> Nat VARS X : Nat RULES f(X) -> g(X) END-SPEC",
         "!spec S1\n",
@@ -340,9 +340,9 @@ fn assert_lines(
 
 #[test]
 fn values(rt: HostRuntime) {
-    for (text, steps, count, lines) in VALUES {
-        assert_lines(&rt, rt.alloc(), text, options(steps, count), lines, text);
-        assert_lines(&rt, rt.alloc(), text, often(steps, count), lines, text);
+    for (text, steps, count, lines) in &VALUES {
+        assert_lines(&rt, rt.alloc(), text, options(*steps, *count), lines, text);
+        assert_lines(&rt, rt.alloc(), text, often(*steps, *count), lines, text);
     }
 }
 
@@ -512,11 +512,11 @@ fn assert_unchanged(rt: &impl Abort, alloc: Global) -> Result<(), AllocError> {
 
 #[test]
 fn refusals(rt: HostRuntime) -> Result<(), Fail> {
-    for row in CHANGED_SECTIONS {
-        assert_section(&rt, rt.alloc(), row)?;
+    for row in &CHANGED_SECTIONS {
+        assert_section(&rt, rt.alloc(), *row)?;
     }
-    for (text, line, rule, at) in REFUSED_TEXTS {
-        assert_refused(&rt, rt.alloc(), text, line, rule, at);
+    for (text, line, rule, at) in &REFUSED_TEXTS {
+        assert_refused(&rt, rt.alloc(), text, line, *rule, *at);
     }
     assert_unchanged(&rt, rt.alloc())?;
     let unended = ADD.strip_suffix("END-SPEC\n").ok_or("no end")?;
