@@ -4,7 +4,6 @@ use crate::tests::{
     Blanks, Ran, Sink, Slow, assert_held, assert_ran, bytewise, failing, failing_at, padded,
     taking, unflushed,
 };
-use crate::text::LIMIT;
 use crate::{
     Finish, Misfit, Named, Place, RunFault, Source, refused_argument, run_make, run_make_at,
     run_match, run_match_at,
@@ -235,7 +234,7 @@ fn unread_inputs(rt: HostRuntime) {
 }
 
 /// One byte more than a text may have.
-const PAST: usize = LIMIT + 1;
+const PAST: usize = 16_777_217;
 
 const LONG_PATTERN: &[u8] = b"!pattern L1\n";
 

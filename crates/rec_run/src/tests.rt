@@ -122,7 +122,7 @@ const IDLE: &str =
 const TITLE: &str = "REC-SPEC E END-SPEC";
 
 /// The sections of a specification, between its title and its end.
-const SECTIONS: [&str; 6] = [
+static SECTIONS: [&str; 6] = [
     "SORTS A B",
     "CONS a : -> A  b : -> B",
     "OPNS f : A -> A",
@@ -346,6 +346,9 @@ fn values(rt: HostRuntime) {
     }
 }
 
+/// The line of the sum's value.
+const SUM: &[u8] = b"s(s(s(z)))\n";
+
 /// Asserts that the cells ran out before the first line, or that there were enough.
 fn assert_few(rt: &impl Abort, ran: &Ran, cells: u32) {
     match ran.result {
@@ -356,9 +359,6 @@ fn assert_few(rt: &impl Abort, ran: &Ran, cells: u32) {
         other => assert!(rt; false, "{cells}: {other:?}"),
     }
 }
-
-/// The line of the sum's value.
-const SUM: &[u8] = b"s(s(s(z)))\n";
 
 /// Asserts what the sum comes to over a bank of so many cells.
 fn assert_sum(rt: &impl Abort, alloc: Global, cells: u32) {
@@ -707,6 +707,7 @@ pub(crate) fn padded(alloc: Global, text: &[u8], length: usize) -> Result<Vec<u8
 /// One byte more than a text may have.
 const PAST: usize = LIMIT + 1;
 
+/// The line of a specification that is too long.
 const LONG_SPEC: &str = "!spec L1\n";
 
 /// Asserts what an empty specification with blanks up to a length comes to.
@@ -723,6 +724,9 @@ fn assert_padded(
     Ok(())
 }
 
+/// What stands past it.
+const REST: &[u8] = b"ab";
+
 /// Asserts that no byte is read past the one that is too much.
 fn assert_left(rt: &impl Abort, alloc: Global) -> Result<(), AllocError> {
     let mut text = padded(alloc, TITLE.as_bytes(), PAST)?;
@@ -732,8 +736,6 @@ fn assert_left(rt: &impl Abort, alloc: Global) -> Result<(), AllocError> {
     assert!(rt; result == Ok(Finish::Refused) && left == REST);
     Ok(())
 }
-
-const REST: &[u8] = b"ab";
 
 #[test]
 fn limit_of_bytes(rt: HostRuntime) -> Result<(), AllocError> {
