@@ -229,30 +229,20 @@ fn reads_fail(rt: HostRuntime) {
     }
 }
 
-/// Where the write of a number fails, the bytes before it were written.
-fn fails_writing(rt: &impl Abort, alloc: Global, row: Row, k: usize, error: Option<ErrorKind>) {
+/// Where the write after these bytes fails, they were written, and no more.
+fn fails_writing(rt: &impl Abort, alloc: Global, row: Row, held: &[u8], error: Option<ErrorKind>) {
+    let k = held.len().wrapping_add(1);
     let mut out = failing_at(alloc, k, error);
     let result = perform_into(alloc, row, &mut out);
-    assert_cut(rt, result, &out, row, k);
-}
-
-/// Asserts it.
-fn assert_cut(rt: &impl Abort, ended: Result<Finish, RunFault>, out: &Sink, row: Row, k: usize) {
-    assert_eq!(rt; ended, Err(RunFault::Write), "{row:?}: write {k}");
-    assert!(rt;
-        out.writes == k && out.held.len().wrapping_add(1) == k,
-        "{row:?}: write {k}"
-    );
-    assert!(rt;
-        row.lines.as_bytes().starts_with(&out.held),
-        "{row:?}: write {k}"
-    );
+    assert_held(rt, result, Err(RunFault::Write), &out, held, row);
+    assert!(rt; out.writes == k, "{row:?}: write {k}");
 }
 
 /// Each write of a row fails in its turn.
 fn fails_each_write(rt: &impl Abort, alloc: Global, row: Row, error: Option<ErrorKind>) {
-    for before in 0..row.lines.len() {
-        fails_writing(rt, alloc, row, before.saturating_add(1), error);
+    let lines = row.lines.as_bytes();
+    for before in 0..lines.len() {
+        fails_writing(rt, alloc, row, &lines[..before], error);
     }
 }
 
