@@ -32,7 +32,7 @@ use Rattle.rec_run.specs.EvaluatedLines.{FillsBank, HoldsValue, ProtectsTerms, d
 use Rattle.rec_run.specs.GivenTerms.{HoldsTerms, ReportsAfter, StopsAfter, given_at, given_by, given_text, item_at}
 use Rattle.rec_run.specs.Output.{steps_text}
 use Rattle.rec_run.specs.Reading.{line_text, shown, term_at, text_at}
-use Rattle.rec_run.specs.Run.{HasFullBank, Reports, RoomFits, Stops}
+use Rattle.rec_run.specs.Run.{Reports, RoomFits, Stops}
 use Rattle.rec_run.specs.declared.ending.RunFault.{RunFault}
 use Rattle.rec_run.specs.declared.ending.RunFault.TheVariants as run
 use Rattle.rec_run.specs.declared.evaluated_lines.LineFault.{LineFault}

@@ -1,6 +1,6 @@
 -- What faults tell, from one step of a run to the next.
-use Rattle.std.proofs.Common.{◌≡◌, ◌≢◌, ◌∙◌, ℕ, List, [], refl}
-use Rattle.rx_term.specs.Steps.{Grows, IsSound}
+use Rattle.std.proofs.Common.{◌≡◌, ◌≢◌, ◌∙◌, ℕ, [], refl}
+use Rattle.rx_term.specs.Steps.{IsSound}
 use Rattle.rx_term.specs.Store.{Store, cells}
 use Rattle.rec_run.specs.Run.{HasFullBank, RanOut, Reports, RoomFits, StopsUnwritten, StopsWriting}
 use Rattle.rec_run.specs.declared.ending.RunFault.{RunFault}

@@ -1,5 +1,5 @@
 -- From what was read of the text of terms to what is due for it.
-use Rattle.std.proofs.Common.{◌≡◌, ℕ, ◌+◌, Bool, List, [], Option, Some, None, Result, Ok, Err, IfErr, IfOk, IfSome, IsSome, OnOk, Vec, Global, take, refl, sym, ap, subst, ◌∙◌, arith}
+use Rattle.std.proofs.Common.{◌≡◌, ℕ, ◌+◌, Bool, List, Option, Some, None, Result, Ok, Err, IfErr, IfOk, IfSome, IsSome, OnOk, take, refl, sym, ap, subst, ◌∙◌, arith}
 use Rattle.std.specs.Prelude.{option_map}
 use Rattle.std.proofs.lemmas.List.{length-take}
 use Rattle.rx_term.specs.Tree.{Tree}
@@ -10,7 +10,7 @@ use Rattle.rx_text.specs.Verdict.{IsVerdict, Spelt}
 use Rattle.rx_text.specs.Verdict as text
 use Rattle.rec_syntax.specs.Syntax.{Spec}
 use Rattle.rec_sorts.specs.SpecRules.{Fits, Good, SpecVerdict, Verdict}
-use Rattle.rec_sorts.specs.TermRules.{broken_by_terms, elements}
+use Rattle.rec_sorts.specs.TermRules.{broken_by_terms}
 use Rattle.rec_sorts.specs.TermsFaults.{IsTermsFault}
 use Rattle.rec_sorts.specs.declared.fault.TermsFault.{TermsFault}
 use Rattle.rec_sorts.specs.declared.fault.TermsFault.TheVariants as rule

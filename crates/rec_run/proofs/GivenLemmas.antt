@@ -1,21 +1,18 @@
 -- What holds of given terms that keep the rules, and of the list that a bank holds of them.
-use Rattle.std.proofs.Common.{◌≡◌, ℕ, zero, suc, ◌+◌, ◌<◌, ◌^◌, Bool, true, false, ◌||◌, ◌&&◌, not, List, [], ◌∷◌, ◌++◌, Option, Some, None, Vec, Global, get_or, drop, length, refl, sym, ap, subst, ◌∙◌, arith}
-use Rattle.std.specs.Prelude.{All, flat_map, is_some, unwrap_or}
-use Rattle.std.specs.Option.{option_and_then}
-use Rattle.std.specs.Bool.{beq}
+use Rattle.std.proofs.Common.{◌≡◌, ℕ, zero, suc, ◌<◌, Bool, true, false, ◌||◌, ◌&&◌, List, [], ◌∷◌, ◌++◌, Option, Some, None, get_or, drop, length, refl, sym, ap, ◌∙◌, arith}
+use Rattle.std.specs.Prelude.{All, unwrap_or}
 use Rattle.std.specs.List.{list_any}
 use Rattle.std.proofs.lemmas.List.Folds.{list_any-append}
 use Rattle.rx_term.specs.Tree.{Tree, Trees, Int, Appl, Items, Hole, none, more, annotations, is_i32, is_tree, are_trees, from_list, to_list, list_of}
-use Rattle.rx_term.specs.Name.{plain_name, is_name}
-use Rattle.rx_term.specs.Store.{Store, tree_at, part_at, head_of, tail_of}
+use Rattle.rx_term.specs.Name.{is_name}
+use Rattle.rx_term.specs.Store.{Store, tree_at}
 use Rattle.rx_term.specs.declared.Term.{Term as Reference}
 use Rattle.rx_term.proofs.TreeLemmas.{from_to_list}
 use Rattle.rx_text.specs.Canon.{canon, canon_all}
 use Rattle.rx_text.proofs.Cutting.{and_parts}
 use Rattle.rx_text.proofs.InLine.{stays_in_line}
-use Rattle.rec_syntax.specs.Syntax.{Declaration, Spec}
-use Rattle.rec_sorts.specs.TermRules.{nodes, nodes_all, elements, first_passed, arguments, is_no_application, is_annotated, is_undeclared, is_ill_filled, is_ill_sorted, broken_by_elements, broken_by_terms}
-use Rattle.rec_sorts.specs.Evaluation.{term_of, terms_of}
+use Rattle.rec_syntax.specs.Syntax.{Spec}
+use Rattle.rec_sorts.specs.TermRules.{elements, first_passed, broken_by_elements, broken_by_terms}
 use Rattle.rec_run.specs.Bytes.{newlines}
 use Rattle.rec_run.specs.GivenTerms.{HoldsTerms, given_at, notes_text}
 use Rattle.rec_run.proofs.LineEnds.{newlines-append}

@@ -3,7 +3,7 @@
 --     ProtectsTerms y w list         a list of terms that keep the rules is protected
 --     due_before fault text          of a line with this text, what is due before a fault
 --     raised_after fault lines       the run's fault where a line's came after so many lines
-use Rattle.std.specs.Prelude.{ℕ, ◌≡◌, ◌<◌, Bool, List, [], ◌++◌, Option, Some, None, IsSome, codes, decimal}
+use Rattle.std.specs.Prelude.{ℕ, ◌≡◌, ◌<◌, Bool, List, ◌++◌, IsSome, codes, decimal}
 use Rattle.rx_term.specs.Store.{Store, tree_at, cells}
 use Rattle.rx_term.specs.declared.Term.{Term as Reference}
 use Rattle.rx_text.specs.Canon.{canon}

@@ -10,7 +10,7 @@ use Rattle.rx_term.specs.Tree.{Tree, Trees, Items, none, annotations, from_list,
 use Rattle.rx_term.specs.Store.{Store, tree_at}
 use Rattle.rx_term.specs.declared.Term.{Term as Reference}
 use Rattle.rx_shared.specs.State.{store_of}
-use Rattle.rx_text.specs.Canon.{canon, canon_all, enclosed}
+use Rattle.rx_text.specs.Canon.{canon_all, enclosed}
 use Rattle.rec_syntax.specs.Syntax as syntax
 use Rattle.rec_sorts.specs.SpecRules as verdict
 use Rattle.rec_sorts.specs.SpecRules.{Verdict}

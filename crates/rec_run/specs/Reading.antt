@@ -1,5 +1,5 @@
 -- What the text of a specification comes to, and what is written for it.
-use Rattle.std.specs.Prelude.{ℕ, ◌-◌, List, [], ◌++◌, Bool, Option, None, get_or, codes, decimal}
+use Rattle.std.specs.Prelude.{ℕ, ◌-◌, List, [], ◌++◌, Bool, Option, get_or, codes, decimal}
 use Rattle.rx_term.specs.Tree.{Tree, Trees, annotated, none}
 use Rattle.rx_text.specs.Canon.{canon}
 use Rattle.rec_syntax.specs.Syntax.{Term, Apply, Spec, nameless}
@@ -8,7 +8,7 @@ use Rattle.rec_sorts.specs.SpecRules as verdict
 use Rattle.rec_sorts.specs.SpecRules.{Verdict}
 use Rattle.rec_sorts.specs.Evaluation as evaluation
 use Rattle.rec_sorts.specs.Evaluation.{Eval}
-use Rattle.rec_run.specs.Output.{Due, due_of_spec, steps_text}
+use Rattle.rec_run.specs.Output.{due_of_spec, steps_text}
 use Rattle.rec_run.specs.declared.ending.Place.{Place}
 use Rattle.rec_run.specs.declared.ending.RunFault.{RunFault}
 use Rattle.rec_run.specs.declared.ending.RunFault.TheVariants as fault

@@ -1,5 +1,5 @@
 use Rattle.std.proofs.Common.{◌≡◌, ◌+◌, ◌++◌, ◌<◌, ◌≤◌, ◌^◌, IsSome, Some, ap, arith, drop, get_or, length, subst, sym, take, take_all, ◌∙◌}
-use Rattle.std.specs.Prelude.{codes, is_some, unwrap_or}
+use Rattle.std.specs.Prelude.{codes, is_some}
 use Rattle.std.specs.Option.{option_and_then}
 use Rattle.std.specs.Io.KnownBytes.{Appends}
 use Rattle.rx_term.specs.Kinds.{HasKind}
@@ -9,7 +9,6 @@ use Rattle.rx_term.specs.declared.Kind.TheVariants.{Cons}
 use Rattle.rx_term.proofs.KeepLemmas.{Keeps-trans}
 use Rattle.rx_text.specs.Written.{AppendsFront}
 use Rattle.rec_engine.specs.Engine.{IsGround}
-use Rattle.rec_run.specs.Run.{RoomFits}
 use Rattle.rec_run.specs.EvaluatedLines.{due_before, raised_after}
 use Rattle.rec_run.specs.GivenTerms.{StopsAfter, given_at, given_text, item_at}
 use Rattle.rec_run.proofs.EvaluatedLemmas.{front-line, held_no_ends, lines_stopped_after, raised_at, room_fits, same_engine_both}

@@ -8,7 +8,7 @@ use Rattle.rec_syntax.specs.Syntax as syntax
 use Rattle.rec_run.specs.EvaluatedLines.{due_before, raised_after}
 use Rattle.rec_run.specs.Output.{lines}
 use Rattle.rec_run.specs.Reading.{line_text, term_at, text_at}
-use Rattle.rec_run.specs.Run.{RoomFits, Stops}
+use Rattle.rec_run.specs.Run.{Stops}
 use Rattle.rec_run.proofs.EvaluatedLemmas.{lines_stopped, raised_at, room_fits, same_engine_both}
 use Rattle.rec_run.proofs.LineFronts.{lines_of, lines_of-more}
 use Rattle.rec_run.proofs.SpecLines.{line_text-newlines, lines-own}

@@ -1,4 +1,4 @@
-use Rattle.std.proofs.Common.{◌≡◌, ◌+◌, IfSome, length, rules, take}
+use Rattle.std.proofs.Common.{◌≡◌, ◌+◌, length, rules}
 use Rattle.std.specs.Io.KnownBytes.{Consumes}
 use Rattle.rec_run.proofs.Told.{reads_all, reads_front, reads_out, consumes_both, on_err}
 use Rattle.rec_run.specs.declared.text.TheConstants.{LIMIT}

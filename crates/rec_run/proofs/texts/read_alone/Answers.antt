@@ -1,8 +1,8 @@
-use Rattle.std.proofs.Common.{IfSome, None, refl, subst}
+use Rattle.std.proofs.Common.{IfSome, subst}
 use Rattle.rec_sorts.specs.SpecRules.{SpecVerdict}
 use Rattle.rec_run.specs.Reading.{verdict_of}
 use Rattle.rec_run.specs.declared.verdict.Reading.{Reading}
-use Rattle.rec_run.proofs.WholeRuns.{read_good, read_refused}
+use Rattle.rec_run.proofs.WholeRuns.{read_refused}
 use Rattle.rec_run.proofs.texts.read_alone.Goals as goal
 
 pub returns-in-Refused-clause-due : goal.returns-in-Refused-clause-due
