@@ -75,7 +75,8 @@ fn run<B: TermBank>(
 ) -> Result<Option<u32>, Fail>
     requires held { AllHeld (B.store bank.now) args.now }
     requires linked { AreLinked grown.checked.now.spec (B.store bank.now) grown.links.now }
-    requires forest { IsForest grown.checked.now.spec (numbers_of grown.links.now) grown.forest.now }
+    requires forest { IsForest grown.checked.now.spec (numbers_of grown.links.now)
+        grown.forest.now }
 {
     let g = 3;
     if g >= grown.checked.symbols()
@@ -99,7 +100,8 @@ fn answer<B: TermBank>(
 ) -> Result<Said, Fail>
     requires held { IsSome (tree_at (B.store bank.now) u) }
     requires linked { AreLinked grown.checked.now.spec (B.store bank.now) grown.links.now }
-    requires forest { IsForest grown.checked.now.spec (numbers_of grown.links.now) grown.forest.now }
+    requires forest { IsForest grown.checked.now.spec (numbers_of grown.links.now)
+        grown.forest.now }
 {
     let mut bind = Vec::new(alloc);
     let rule = run(alloc, bank, grown, &[u], from, &mut bind)?;

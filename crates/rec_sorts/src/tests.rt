@@ -177,7 +177,8 @@ const NUMBERS: &[u8] = b"REC-SPEC N SORTS A CONS z : -> A s : A -> A EVAL ";
 
 const LEVELS: usize = 34_000;
 
-/// A text of more than 100,000 bytes, with one term of `LEVELS` words `s` around a word of one byte.
+/// A text of more than 100,000 bytes, with one term of `LEVELS` words `s` around a word of one
+/// byte.
 fn deep(alloc: Global, innermost: u8) -> Result<Vec<u8>, AllocError> {
     let mut text = Vec::new(alloc);
     text.extend_from_slice(NUMBERS)?;

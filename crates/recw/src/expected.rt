@@ -5,8 +5,8 @@ use std::alloc::Global;
 use std::io;
 use std::io::Write;
 
-/// What may stand where a rule of a grammar refuses the text; nothing of other rules, and where there is
-/// no memory to tell. A text that was not kept ends before its place.
+/// What may stand where a rule of a grammar refuses the text; nothing of other rules, and where
+/// there is no memory to tell. A text that was not kept ends before its place.
 pub fn expected_words(
     alloc: Global,
     rule: &str,

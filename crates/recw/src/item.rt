@@ -14,8 +14,8 @@ pub enum Item {
     Count { wanted: usize, given: usize },
 }
 
-/// The given term that breaks a rule, where one of the rules 2 to 6 is broken; nothing where there is no memory to
-/// tell.
+/// The given term that breaks a rule, where one of the rules 2 to 6 is broken; nothing where there
+/// is no memory to tell.
 pub fn item_of_terms(alloc: Global, spec: &[u8], terms: &[u8]) -> Option<Item> {
     let at = refused_term(alloc, spec, terms).ok()??;
     Some(Item::Element { at })

@@ -21,7 +21,8 @@ const STREAMS: u8 = 4;
 pub fn ended<E: Write>(end: Result<Finish, RunFault>, place: Option<Place>, err: &mut E) -> u8
     ensures done { (result ≡ 0) ↔ (end ≡ Ok Finish.Done) }
     ensures refused { (result ≡ 1) ↔ (end ≡ Ok Finish.Refused) }
-    ensures room { (result ≡ 3) ↔ (IsErr end × ((end ≢ Err RunFault.Read) × (end ≢ Err RunFault.Write))) }
+    ensures room { (result ≡ 3)
+        ↔ (IsErr end × ((end ≢ Err RunFault.Read) × (end ≢ Err RunFault.Write))) }
     ensures streams { (result ≡ 4) ↔ ((end ≡ Err RunFault.Read) ⊎ (end ≡ Err RunFault.Write)) }
 {
     match end {
@@ -63,7 +64,8 @@ pub fn refused_words<W: Write, E: Write>(error: &clap::Error, out: &mut W, err: 
     ensures memory { kind_of error.now ≡ ErrorKind.OutOfMemory → result ≡ 3 }
     ensures help { kind_of error.now ≡ ErrorKind.DisplayHelp → (result ≡ 0) ⊎ (result ≡ 4) }
     ensures wrong { (result ≡ 2) ↔ ((kind_of error.now ≢ ErrorKind.OutOfMemory)
-        × ((kind_of error.now ≢ ErrorKind.DisplayHelp) × (kind_of error.now ≢ ErrorKind.DisplayVersion))) }
+        × ((kind_of error.now ≢ ErrorKind.DisplayHelp)
+        × (kind_of error.now ≢ ErrorKind.DisplayVersion))) }
 {
     match error.kind() {
         ErrorKind::OutOfMemory => failed(RunFault::Memory { lines: 0 }, err),

@@ -8,12 +8,13 @@ ghost use Rattle.rx_term.specs.declared.Term.{Term};
 
 use rx_term::{RootsFull, Term, TermBank};
 
-/// Gives up what neither `t` nor a protected term needs, and counts what is left. Nothing changes where `t`
-/// is protected as often as it can be.
+/// Gives up what neither `t` nor a protected term needs, and counts what is left. Nothing changes
+/// where `t` is protected as often as it can be.
 pub fn keep<B: TermBank>(bank: &mut B, t: Term) -> Result<u32, RootsFull>
     requires { IsSome (tree_at (B.store bank.old) t) }
     ensures kept { tree_at (B.store bank.new) t ≡ tree_at (B.store bank.old) t }
-    ensures only { IfOk result (λ _. (s : Term) → (u : Tree) → tree_at (B.store bank.new) s ≡ Some u →
+    ensures only { IfOk result
+        (λ _. (s : Term) → (u : Tree) → tree_at (B.store bank.new) s ≡ Some u →
         IsReached (B.store bank.old) (t ∷ []) u) }
     ensures roots { (k : ℕ) → (B.store bank.new).roots k ≡ (B.store bank.old).roots k }
     ensures counted { IfOk result (λ n. n ≡ cells (B.store bank.new)) }

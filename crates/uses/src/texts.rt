@@ -22,7 +22,8 @@ pub fn located<B: TermBank>(
 ) -> Result<Term, BankFault>
     requires { IsAllowed name.now false }
     ensures tree { IfOk result (λ r. tree_at (B.store bank.new) r ≡ Some (Appl name.now false none
-        (more (Appl (codes "at") false (more (Int line none) (more (Int column none) none)) none) none))) }
+        (more (Appl (codes "at") false (more (Int line none) (more (Int column none) none)) none)
+        none))) }
     ensures grows { Grows (B.store bank.old) (B.store bank.new) }
 {
     let plain = constant(bank, name)?;
@@ -68,7 +69,8 @@ pub fn only<B: TermBank>(bank: &mut B, t: Term) -> Result<Term, BankFault>
 /// The printed text of a term.
 pub fn printed<B: TermBank>(alloc: Global, bank: &B, t: Term) -> Result<Vec<u8>, WriteFault>
     requires { IsSome (tree_at (B.store bank.now) t) }
-    ensures { IfOk result (λ text. (u : Tree) → tree_at (B.store bank.now) t ≡ Some u → text.items ≡ canon u) }
+    ensures { IfOk result
+        (λ text. (u : Tree) → tree_at (B.store bank.now) t ≡ Some u → text.items ≡ canon u) }
 {
     let mut text = Vec::new(alloc);
     write(alloc, bank, t, &mut text)?;
