@@ -13,29 +13,40 @@ use rx_arena::{ArenaFault, CellBody, Slot};
 use rx_names::Names;
 use rx_sweep::collect;
 use std::alloc::Global;
+use std::io;
 use std::io::Write;
+
+/// A name that is there before.
+const KNOWN: &[u8] = b"a";
+
+/// A name that is given its symbol.
+const NEW: &[u8] = b"b";
 
 /// A name is given its symbol.
 pub fn try_intern<W: Write>(alloc: Global, out: &mut W) -> Result<()> {
     let mut names = Names::new(alloc)?;
-    let known = names.intern(b"a", true, 0)?;
+    intern_twice(&mut names, out)
+}
+
+/// Gives it twice, beside a known one; memory may be refused the first time.
+fn intern_twice<W: Write>(names: &mut Names, out: &mut W) -> Result<()> {
+    let known = names.intern(KNOWN, true, 0)?;
+    intern_once(names, out)?;
+    let made = names.intern(NEW, true, 0)?;
+    let is_known = names.find(KNOWN, true, 0) == Some(known);
+    say(out, is_known, "the known symbol")?;
+    let is_made = names.find(NEW, true, 0) == Some(made);
+    Ok(say(out, is_made, "the new symbol")?)
+}
+
+/// Gives it where memory may be refused.
+fn intern_once<W: Write>(names: &mut Names, out: &mut W) -> io::Result<()> {
     begin(out)?;
-    let answer = names.intern(b"b", true, 0);
+    let answer = names.intern(NEW, true, 0);
     tell(out, &answer)?;
     if answer.is_err() {
-        say(out, names.find(b"b", true, 0).is_none(), "without the name")?;
+        say(out, names.find(NEW, true, 0).is_none(), "without the name")?;
     }
-    let made = names.intern(b"b", true, 0)?;
-    say(
-        out,
-        names.find(b"a", true, 0) == Some(known),
-        "the known symbol",
-    )?;
-    say(
-        out,
-        names.find(b"b", true, 0) == Some(made),
-        "the new symbol",
-    )?;
     Ok(())
 }
 
@@ -92,49 +103,92 @@ pub fn try_new<W: Write>(alloc: Global, out: &mut W) -> Result<()> {
     count(alloc, out, u64::from(arena.cells()), "cells")
 }
 
+/// Says whether the cells are those from before.
+fn compare<W: Write>(
+    alloc: Global,
+    arena: &Arena,
+    before: &Vec<(u64, u16)>,
+    out: &mut W,
+) -> Result<()> {
+    let now = content(alloc, arena)?;
+    let is_same = now == *before;
+    Ok(say(out, is_same, "the same cells")?)
+}
+
 /// A cell is taken that needs memory.
 pub fn try_take<W: Write>(alloc: Global, out: &mut W) -> Result<()> {
     let mut arena = filled(alloc)?;
     let before = content(alloc, &arena)?;
+    take_twice(alloc, &mut arena, &before, out)
+}
+
+/// Takes it, and once more where memory was refused.
+fn take_twice<W: Write>(
+    alloc: Global,
+    arena: &mut Arena,
+    before: &Vec<(u64, u16)>,
+    out: &mut W,
+) -> Result<()> {
+    if !take_once(arena, out)? {
+        compare(alloc, arena, before, out)?;
+        arena.take(body(CELLS))?;
+    }
+    let is_more = arena.cells() as usize == before.len() + 1;
+    Ok(say(out, is_more, "one cell more")?)
+}
+
+/// Takes it where memory may be refused, and returns whether that was done.
+fn take_once<W: Write>(arena: &mut Arena, out: &mut W) -> io::Result<bool> {
     begin(out)?;
     let answer = arena.take(body(CELLS));
     tell(out, &answer)?;
-    if answer.is_err() {
-        say(out, content(alloc, &arena)? == before, "the same cells")?;
-        arena.take(body(CELLS))?;
-    }
-    say(
-        out,
-        arena.cells() as usize == before.len() + 1,
-        "one cell more",
-    )?;
-    Ok(())
+    Ok(answer.is_ok())
 }
 
 /// Room is made for cells.
 pub fn try_reserve<W: Write>(alloc: Global, out: &mut W) -> Result<()> {
     let mut arena = filled(alloc)?;
     let before = content(alloc, &arena)?;
+    reserve_once(&mut arena, out)?;
+    compare(alloc, &arena, &before, out)?;
+    reserve_again(&mut arena, out)
+}
+
+/// Makes it where memory may be refused.
+fn reserve_once<W: Write>(arena: &mut Arena, out: &mut W) -> io::Result<()> {
     begin(out)?;
     let answer = arena.reserve(CELLS / 2);
-    tell(out, &answer)?;
-    say(out, content(alloc, &arena)? == before, "the same cells")?;
+    tell(out, &answer)
+}
+
+/// Makes it where there is memory.
+fn reserve_again<W: Write>(arena: &mut Arena, out: &mut W) -> Result<()> {
     arena.reserve(CELLS / 2)?;
-    say(out, arena.spare() >= CELLS / 2, "room for as many")?;
-    Ok(())
+    Ok(say(out, arena.spare() >= CELLS / 2, "room for as many")?)
 }
 
 /// The cells are dealt out to more chains.
 pub fn try_rehash<W: Write>(alloc: Global, out: &mut W) -> Result<()> {
     let mut arena = filled(alloc)?;
     let before = content(alloc, &arena)?;
+    rehash_once(&mut arena, out)?;
+    compare(alloc, &arena, &before, out)?;
+    rehash_again(alloc, &mut arena, out)
+}
+
+/// Deals them out where memory may be refused.
+fn rehash_once<W: Write>(arena: &mut Arena, out: &mut W) -> io::Result<()> {
     begin(out)?;
     let answer = arena.rehash_into(64);
     tell(out, &answer)?;
     if answer.is_err() {
         say(out, arena.chains() == 4, "the same chains")?;
     }
-    say(out, content(alloc, &arena)? == before, "the same cells")?;
+    Ok(())
+}
+
+/// Deals them out where there is memory.
+fn rehash_again<W: Write>(alloc: Global, arena: &mut Arena, out: &mut W) -> Result<()> {
     arena.rehash_into(64)?;
     count(alloc, out, u64::from(arena.chains()), "chains")
 }

@@ -1,9 +1,5 @@
 //! Makes of a bank, of which each growth may be refused; and its calls that ask for no memory.
 
-ghost use Rattle.std.specs.Prelude.{IfOk, IsSome};
-ghost use Rattle.rx_term.specs.Store.{tree_at};
-ghost use Rattle.rx_term.specs.Steps.{Grows};
-
 use crate::CELLS;
 use crate::told::{begin, count, say, show, tell};
 use anyhow::{Result, bail};
@@ -13,6 +9,7 @@ use rx_term::build::constant;
 use rx_term::{BankFault, Kind, Symbol, Term, TermBank};
 use rx_text::{read, write};
 use std::alloc::Global;
+use std::io;
 use std::io::Write;
 
 /// A call that may want memory.
@@ -114,15 +111,6 @@ fn list_of_one<B: TermBank>(bank: &mut B) -> Result<Term, BankFault> {
     bank.cons(one, nil)
 }
 
-/// `[b]`.
-fn list_of_b<B: TermBank>(bank: &mut B) -> Result<Term, BankFault>
-    ensures grows { Grows (B.store bank.old) (B.store bank.new) }
-{
-    let b = constant(bank, b"b")?;
-    let nil = bank.nil()?;
-    bank.cons(b, nil)
-}
-
 /// `g(b)`.
 fn applied<B: TermBank>(bank: &mut B) -> Result<Term, BankFault> {
     let b = constant(bank, b"b")?;
@@ -184,6 +172,18 @@ pub fn show_roots<B: TermBank, W: Write>(
     count(alloc, out, u64::from(bank.cells()), "cells kept")
 }
 
+/// Says whether the cells are those from before.
+pub fn compare<B: TermBank, W: Write>(
+    alloc: Global,
+    bank: &B,
+    before: &Vec<u8>,
+    out: &mut W,
+) -> Result<()> {
+    let now = content(alloc, bank)?;
+    let is_same = now == *before;
+    Ok(say(out, is_same, "the same cells")?)
+}
+
 /// A call that may be refused, what stands then, and the same call again.
 pub fn try_call<B: TermBank, W: Write>(
     alloc: Global,
@@ -192,34 +192,65 @@ pub fn try_call<B: TermBank, W: Write>(
     out: &mut W,
 ) -> Result<()> {
     let kept = set_up(alloc, bank, call)?;
-    let before = content(alloc, bank)?;
-    begin(out)?;
-    let answer = attempt(bank, call);
-    tell(out, &answer)?;
-    if answer.is_err() {
-        say(out, content(alloc, bank)? == before, "the same cells")?;
-    }
+    call_once(alloc, bank, call, out)?;
     let made = attempt(bank, call)?;
     show_made(alloc, bank, made, out)?;
     show_roots(alloc, bank, kept, out)
 }
 
+/// Makes the call where it may be refused, and says what stands then.
+fn call_once<B: TermBank, W: Write>(
+    alloc: Global,
+    bank: &mut B,
+    call: Call,
+    out: &mut W,
+) -> Result<()> {
+    let before = content(alloc, bank)?;
+    if !is_done(bank, call, out)? {
+        compare(alloc, bank, &before, out)?;
+    }
+    Ok(())
+}
+
+/// Makes the call where it may be refused, and returns whether it was done.
+fn is_done<B: TermBank, W: Write>(bank: &mut B, call: Call, out: &mut W) -> io::Result<bool> {
+    begin(out)?;
+    let answer = attempt(bank, call);
+    tell(out, &answer)?;
+    Ok(answer.is_ok())
+}
+
+/// Says how many cells there are.
+fn count_cells<B: TermBank, W: Write>(alloc: Global, bank: &B, out: &mut W) -> Result<()> {
+    count(alloc, out, u64::from(bank.cells()), "cells")
+}
+
 /// A plain bank is made.
 pub fn try_new_plain<W: Write>(alloc: Global, out: &mut W) -> Result<()> {
+    new_plain_once(alloc, out)?;
+    let bank = PlainBank::new(alloc, CELLS)?;
+    count_cells(alloc, &bank, out)
+}
+
+/// Makes it where memory may be refused.
+fn new_plain_once<W: Write>(alloc: Global, out: &mut W) -> io::Result<()> {
     begin(out)?;
     let answer = PlainBank::new(alloc, CELLS);
-    tell(out, &answer)?;
-    let bank = PlainBank::new(alloc, CELLS)?;
-    count(alloc, out, u64::from(bank.cells()), "cells")
+    tell(out, &answer)
 }
 
 /// A shared bank is made.
 pub fn try_new_shared<W: Write>(alloc: Global, out: &mut W) -> Result<()> {
+    new_shared_once(alloc, out)?;
+    let bank = SharedBank::new(alloc, CELLS)?;
+    count_cells(alloc, &bank, out)
+}
+
+/// Makes it where memory may be refused.
+fn new_shared_once<W: Write>(alloc: Global, out: &mut W) -> io::Result<()> {
     begin(out)?;
     let answer = SharedBank::new(alloc, CELLS);
-    tell(out, &answer)?;
-    let bank = SharedBank::new(alloc, CELLS)?;
-    count(alloc, out, u64::from(bank.cells()), "cells")
+    tell(out, &answer)
 }
 
 /// Makes the integers from 0 to 1099.
@@ -233,11 +264,20 @@ fn make_integers<B: TermBank>(bank: &mut B) -> Result<(), BankFault> {
 /// Eleven hundred integers, more than a shared bank has chains at first.
 pub fn try_thousand<W: Write>(alloc: Global, out: &mut W) -> Result<()> {
     let mut bank = SharedBank::new(alloc, 2000)?;
+    make_integers_twice(alloc, &mut bank, out)
+}
+
+/// Makes them twice; memory may be refused the first time.
+fn make_integers_twice<B: TermBank, W: Write>(
+    alloc: Global,
+    bank: &mut B,
+    out: &mut W,
+) -> Result<()> {
     begin(out)?;
-    let answer = make_integers(&mut bank);
+    let answer = make_integers(bank);
     tell(out, &answer)?;
-    make_integers(&mut bank)?;
-    count(alloc, out, u64::from(bank.cells()), "cells")
+    make_integers(bank)?;
+    count_cells(alloc, bank, out)
 }
 
 /// Reads each part of a tree, down its first items, arguments and inner trees.

@@ -26,15 +26,32 @@ const OPTIONS: Options = Options {
 /// As many steps as the specification's first term takes.
 const STEPS: u64 = 4;
 
+/// The text of a term that has to stay.
+const KEPT: &[u8] = b"[kept]";
+
+/// What an engine is asked for.
+#[derive(Clone, Copy)]
+pub enum Asked {
+    /// A term of the specification.
+    Term,
+    /// What that term comes to.
+    Value,
+}
+
 /// A memo is made.
 pub fn try_memo<W: Write>(alloc: Global, out: &mut W) -> Result<()> {
-    begin(out)?;
-    let answer = Memo::new(alloc, 16);
-    tell(out, &answer)?;
+    make_memo_once(alloc, out)?;
     let mut memo = Memo::new(alloc, 16)?;
     memo.put(Term(1), Term(2), 3);
     let found = memo.get(Term(1)) == Some((Term(2), 3));
     Ok(say(out, found, "remembered")?)
+}
+
+/// Makes it where memory may be refused.
+fn make_memo_once<W: Write>(alloc: Global, out: &mut W) -> io::Result<()> {
+    begin(out)?;
+    let answer = Memo::new(alloc, 16);
+    tell(out, &answer)
 }
 
 /// An engine over a bank.
@@ -76,7 +93,7 @@ pub fn try_new<B: TermBank + Drop, W: Write>(
 
 /// Reads a term that has to stay, and protects it.
 fn keep<B: TermBank>(alloc: Global, bank: &mut B) -> Result<Term> {
-    let kept = read(alloc, b"[kept]", bank)?;
+    let kept = read(alloc, KEPT, bank)?;
     if !bank.holds(kept) {
         bail!("what was read is not held");
     }
@@ -104,18 +121,23 @@ fn make_term<B: TermBank, W: Write>(engine: &mut Engine<B>, out: &mut W) -> Resu
     Ok(tell(out, &answer)?)
 }
 
-/// A term of the specification is made.
-pub fn try_eval_term<B: TermBank + Drop, W: Write>(
+/// An engine is asked where memory may be refused. Where that was refused, the same engine gives
+/// the answer when it is asked again.
+pub fn try_ask<B: TermBank + Drop, W: Write>(
     alloc: Global,
     mut bank: B,
+    asked: Asked,
     out: &mut W,
 ) -> Result<()> {
     let kept = keep(alloc, &mut bank)?;
     let mut engine = engine_over(alloc, bank)?;
-    make_twice(alloc, &mut engine, kept, out)
+    match asked {
+        Asked::Term => make_twice(alloc, &mut engine, kept, out),
+        Asked::Value => evaluate_twice(alloc, &mut engine, kept, out),
+    }
 }
 
-/// Makes it twice; memory may be refused the first time.
+/// Makes the specification's first term twice; memory may be refused the first time.
 fn make_twice<B: TermBank, W: Write>(
     alloc: Global,
     engine: &mut Engine<B>,
@@ -167,19 +189,7 @@ fn show_value<B: TermBank, W: Write>(
     show_outcome(alloc, engine.bank(), outcome, out)
 }
 
-/// A term is evaluated. Where that was refused, the same engine gives the value when it is asked
-/// again.
-pub fn try_normalise<B: TermBank + Drop, W: Write>(
-    alloc: Global,
-    mut bank: B,
-    out: &mut W,
-) -> Result<()> {
-    let kept = keep(alloc, &mut bank)?;
-    let mut engine = engine_over(alloc, bank)?;
-    evaluate_twice(alloc, &mut engine, kept, out)
-}
-
-/// Evaluates it twice; memory may be refused the first time.
+/// Evaluates that term twice; memory may be refused the first time.
 fn evaluate_twice<B: TermBank, W: Write>(
     alloc: Global,
     engine: &mut Engine<B>,

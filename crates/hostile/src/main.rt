@@ -11,6 +11,7 @@ mod texts;
 mod told;
 
 use crate::banks::Call;
+use crate::engines::Asked;
 use anyhow::{Result, bail};
 use rx_plain::PlainBank;
 use rx_shared::SharedBank;
@@ -54,7 +55,8 @@ fn try_plain<W: Write>(alloc: Global, call: &str, out: &mut W) -> Result<()> {
     if call == "new" {
         return banks::try_new_plain(alloc, out);
     }
-    try_bank(alloc, call, &mut PlainBank::new(alloc, CELLS)?, out)
+    let mut bank = PlainBank::new(alloc, CELLS)?;
+    try_bank(alloc, call, &mut bank, out)
 }
 
 /// A call of a shared bank.
@@ -62,8 +64,14 @@ fn try_shared<W: Write>(alloc: Global, call: &str, out: &mut W) -> Result<()> {
     match call {
         "new" => banks::try_new_shared(alloc, out),
         "thousand" => banks::try_thousand(alloc, out),
-        _ => try_bank(alloc, call, &mut SharedBank::new(alloc, CELLS)?, out),
+        _ => try_shared_bank(alloc, call, out),
     }
+}
+
+/// A call of a shared bank that is there.
+fn try_shared_bank<W: Write>(alloc: Global, call: &str, out: &mut W) -> Result<()> {
+    let mut bank = SharedBank::new(alloc, CELLS)?;
+    try_bank(alloc, call, &mut bank, out)
 }
 
 /// A call of any bank.
@@ -104,7 +112,17 @@ fn try_store<W: Write>(alloc: Global, call: &str, out: &mut W) -> Result<()> {
 
 /// A call on texts of annotated terms and on patterns, over a shared bank.
 fn try_text<W: Write>(alloc: Global, call: &str, out: &mut W) -> Result<()> {
-    let bank = &mut SharedBank::new(alloc, CELLS)?;
+    let mut bank = SharedBank::new(alloc, CELLS)?;
+    try_text_over(alloc, call, &mut bank, out)
+}
+
+/// The same over any bank.
+fn try_text_over<B: TermBank, W: Write>(
+    alloc: Global,
+    call: &str,
+    bank: &mut B,
+    out: &mut W,
+) -> Result<()> {
     match call {
         "read" => texts::try_read(alloc, bank, out),
         "write" => texts::try_write(alloc, bank, out),
@@ -117,7 +135,17 @@ fn try_text<W: Write>(alloc: Global, call: &str, out: &mut W) -> Result<()> {
 
 /// A call on specifications, over a shared bank.
 fn try_specification<W: Write>(alloc: Global, call: &str, out: &mut W) -> Result<()> {
-    let bank = &mut SharedBank::new(alloc, CELLS)?;
+    let mut bank = SharedBank::new(alloc, CELLS)?;
+    try_specification_over(alloc, call, &mut bank, out)
+}
+
+/// The same over any bank.
+fn try_specification_over<B: TermBank, W: Write>(
+    alloc: Global,
+    call: &str,
+    bank: &mut B,
+    out: &mut W,
+) -> Result<()> {
     match call {
         "read" => specifications::try_read(alloc, out),
         "check" => specifications::try_check(alloc, out),
@@ -133,10 +161,29 @@ fn try_specification<W: Write>(alloc: Global, call: &str, out: &mut W) -> Result
 fn try_engine<W: Write>(alloc: Global, call: &str, out: &mut W) -> Result<()> {
     let bank = SharedBank::new(alloc, CELLS)?;
     match call {
-        "memo" => engines::try_memo(alloc, out),
-        "new" => engines::try_new(alloc, bank, SharedBank::new(alloc, CELLS)?, out),
-        "eval_term" => engines::try_eval_term(alloc, bank, out),
-        "normalise" => engines::try_normalise(alloc, bank, out),
-        _ => bail!("no such call"),
+        "new" => try_engine_over_two(alloc, bank, out),
+        _ => try_engine_over(alloc, call, bank, out),
     }
+}
+
+/// An engine over a bank, and one over another.
+fn try_engine_over_two<W: Write>(alloc: Global, bank: SharedBank, out: &mut W) -> Result<()> {
+    let another = SharedBank::new(alloc, CELLS)?;
+    engines::try_new(alloc, bank, another, out)
+}
+
+/// Another call of the engine over any bank.
+fn try_engine_over<B: TermBank + Drop, W: Write>(
+    alloc: Global,
+    call: &str,
+    bank: B,
+    out: &mut W,
+) -> Result<()> {
+    let asked = match call {
+        "memo" => return engines::try_memo(alloc, out),
+        "eval_term" => Asked::Term,
+        "normalise" => Asked::Value,
+        _ => bail!("no such call"),
+    };
+    engines::try_ask(alloc, bank, asked, out)
 }

@@ -2,7 +2,6 @@
 
 ghost use Rattle.std.specs.Prelude.{IfOk, IsSome};
 ghost use Rattle.rx_term.specs.Store.{tree_at};
-ghost use Rattle.rx_term.specs.Steps.{Grows};
 
 use crate::told::{begin, say, show, tell};
 use anyhow::{Result, bail};
@@ -17,6 +16,9 @@ const PATTERN: &[u8] = b"f(<int>,[<list>]{x})";
 
 /// What it matches.
 const SUBJECT: &[u8] = b"f(1,[2,3]{x})";
+
+/// What it is made with.
+const GIVEN: [&[u8]; 2] = [b"1", b"[2,3]"];
 
 /// The pattern that a text spells.
 fn pattern<B: TermBank>(alloc: Global, bank: &mut B, text: &[u8]) -> Result<Pattern> {
@@ -60,29 +62,57 @@ fn show_bindings<B: TermBank, W: Write>(
 /// A term is matched.
 pub fn try_matches<B: TermBank, W: Write>(alloc: Global, bank: &mut B, out: &mut W) -> Result<()> {
     let pattern = pattern(alloc, bank, PATTERN)?;
+    match_twice(alloc, bank, &pattern, out)
+}
+
+/// Matches it twice; memory may be refused the first time.
+fn match_twice<B: TermBank, W: Write>(
+    alloc: Global,
+    bank: &mut B,
+    pattern: &Pattern,
+    out: &mut W,
+) -> Result<()> {
     let t = read(alloc, SUBJECT, bank)?;
-    let mut bound: Vec<Term> = Vec::new(alloc);
+    match_once(alloc, bank, pattern, t, out)?;
+    show(alloc, bank, t, out)?;
+    show_bindings(alloc, bank, pattern, out)
+}
+
+/// Matches it where memory may be refused.
+fn match_once<B: TermBank, W: Write>(
+    alloc: Global,
+    bank: &mut B,
+    pattern: &Pattern,
+    t: Term,
+    out: &mut W,
+) -> Result<()> {
     if !bank.holds(t) {
         bail!("what was read is not held");
     }
     begin(out)?;
+    let mut bound: Vec<Term> = Vec::new(alloc);
     let answer = pattern.matches(bank, t, &mut bound);
     tell(out, &answer)?;
-    say(
-        out,
-        answer.is_ok() || bound.is_empty(),
-        "without bindings after a fault",
-    )?;
-    show(alloc, bank, t, out)?;
-    show_bindings(alloc, bank, &pattern, out)
+    let is_empty = answer.is_ok() || bound.is_empty();
+    Ok(say(out, is_empty, "without bindings after a fault")?)
 }
 
 /// A term is made.
 pub fn try_make<B: TermBank, W: Write>(alloc: Global, bank: &mut B, out: &mut W) -> Result<()> {
     let pattern = pattern(alloc, bank, PATTERN)?;
-    let first = read(alloc, b"1", bank)?;
-    let second = read(alloc, b"[2,3]", bank)?;
-    begin_make(alloc, bank, &pattern, [first, second], out)
+    make_read(alloc, bank, &pattern, out)
+}
+
+/// Reads what it is made with, and makes it twice; memory may be refused the first time.
+fn make_read<B: TermBank, W: Write>(
+    alloc: Global,
+    bank: &mut B,
+    pattern: &Pattern,
+    out: &mut W,
+) -> Result<()> {
+    let first = read(alloc, GIVEN[0], bank)?;
+    let second = read(alloc, GIVEN[1], bank)?;
+    begin_make(alloc, bank, pattern, [first, second], out)
 }
 
 /// The same, where the given trees are there.

@@ -7,7 +7,7 @@ ghost use Rattle.rx_term.specs.Store.{tree_at};
 ghost use Rattle.rec_sorts.specs.Lookup.{symbols};
 ghost use Rattle.rec_match.specs.Next.{AreReady};
 
-use crate::banks::{Call, content, set_up, show_roots};
+use crate::banks::{Call, compare, content, set_up, show_roots};
 use crate::told::{begin, count, say, tell};
 use anyhow::{Result, bail};
 use rec_match::Matcher;
@@ -30,6 +30,9 @@ const DOUBLING: &[u8] = b"REC-SPEC Doubling SORTS N CONS z : -> N s : N -> N
 
 /// Given terms that keep the six rules.
 const TERMS: &[u8] = b"[plus(z,s(z)),z{a}]";
+
+/// The term that a rule is looked for.
+const SUM: &[u8] = b"plus(s(z),s(s(z)))";
 
 /// The specification after its check.
 pub fn checked(alloc: Global) -> Result<Checked> {
@@ -125,8 +128,7 @@ fn link_twice<B: TermBank, W: Write>(
 ) -> Result<()> {
     let before = content(alloc, bank)?;
     link_once(alloc, checked, bank, out)?;
-    let is_same = content(alloc, bank)? == before;
-    say(out, is_same, "the same cells")?;
+    compare(alloc, bank, &before, out)?;
     let symbols = count_symbols(alloc, checked, bank)?;
     count(alloc, out, symbols as u64, "symbols")
 }
@@ -212,7 +214,7 @@ fn matcher_for<B: TermBank>(alloc: Global, bank: &mut B) -> Result<Matcher>
 
 /// The least rule for a term is looked for.
 pub fn try_next<B: TermBank, W: Write>(alloc: Global, bank: &mut B, out: &mut W) -> Result<()> {
-    let t = read(alloc, b"plus(s(z),s(s(z)))", bank)?;
+    let t = read(alloc, SUM, bank)?;
     let matcher = matcher_for(alloc, bank)?;
     if !bank.holds(t) {
         bail!("what was read is not held");

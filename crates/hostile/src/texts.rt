@@ -2,7 +2,7 @@
 
 use crate::told::{begin, count, say, show, tell};
 use anyhow::{Result, bail};
-use rx_term::TermBank;
+use rx_term::{Term, TermBank};
 use rx_text::{read, write};
 use std::alloc::Global;
 use std::io::Write;
@@ -10,9 +10,12 @@ use std::io::Write;
 /// A text with each kind of node, whose 14 parts are counted in `banks`.
 const TEXT: &[u8] = b"f(g(a),[1,<7>]){b}";
 
+/// The text of a term that has to stay.
+const KEPT: &[u8] = b"[kept]";
+
 /// A text is read. What was there before is there after a refusal.
 pub fn try_read<B: TermBank, W: Write>(alloc: Global, bank: &mut B, out: &mut W) -> Result<()> {
-    let kept = read(alloc, b"[kept]", bank)?;
+    let kept = read(alloc, KEPT, bank)?;
     begin(out)?;
     let answer = read(alloc, TEXT, bank);
     tell(out, &answer)?;
@@ -26,6 +29,12 @@ pub fn try_read<B: TermBank, W: Write>(alloc: Global, bank: &mut B, out: &mut W)
 /// A term is written to a writer that needs no memory.
 pub fn try_write<B: TermBank, W: Write>(alloc: Global, bank: &mut B, out: &mut W) -> Result<()> {
     let t = read(alloc, TEXT, bank)?;
+    write_once(alloc, bank, t, out)?;
+    show(alloc, bank, t, out)
+}
+
+/// Writes it where memory may be refused.
+fn write_once<B: TermBank, W: Write>(alloc: Global, bank: &B, t: Term, out: &mut W) -> Result<()> {
     let mut text = Vec::with_capacity(alloc, 1000)?;
     if !bank.holds(t) {
         bail!("what was read is not held");
@@ -33,6 +42,5 @@ pub fn try_write<B: TermBank, W: Write>(alloc: Global, bank: &mut B, out: &mut W
     begin(out)?;
     let answer = write(alloc, bank, t, &mut text);
     tell(out, &answer)?;
-    say(out, TEXT.starts_with(&text), "a beginning")?;
-    show(alloc, bank, t, out)
+    Ok(say(out, TEXT.starts_with(&text), "a beginning")?)
 }
