@@ -60,6 +60,13 @@ fn engine_over<B: TermBank + Drop>(alloc: Global, bank: B) -> Result<Engine<B>> 
     Ok(Engine::new(alloc, checked, bank, OPTIONS)?)
 }
 
+/// The specification after its check, behind which the call comes next.
+fn begin_checked<W: Write>(alloc: Global, out: &mut W) -> Result<Checked> {
+    let checked = checked(alloc)?;
+    begin(out)?;
+    Ok(checked)
+}
+
 /// Makes an engine where memory may be refused. It takes the bank and the specification.
 fn make_once<B: TermBank + Drop, W: Write>(
     alloc: Global,
@@ -67,7 +74,6 @@ fn make_once<B: TermBank + Drop, W: Write>(
     bank: B,
     out: &mut W,
 ) -> io::Result<()> {
-    begin(out)?;
     let answer = Engine::new(alloc, checked, bank, OPTIONS);
     tell(out, &answer)
 }
@@ -85,7 +91,7 @@ pub fn try_new<B: TermBank + Drop, W: Write>(
     another: B,
     out: &mut W,
 ) -> Result<()> {
-    let checked = checked(alloc)?;
+    let checked = begin_checked(alloc, out)?;
     make_once(alloc, checked, bank, out)?;
     let terms = count_terms(alloc, another)?;
     count(alloc, out, u64::from(terms), "terms")
@@ -131,9 +137,20 @@ pub fn try_ask<B: TermBank + Drop, W: Write>(
 ) -> Result<()> {
     let kept = keep(alloc, &mut bank)?;
     let mut engine = engine_over(alloc, bank)?;
+    ask_twice(alloc, &mut engine, asked, kept, out)
+}
+
+/// Asks it twice; memory may be refused the first time.
+fn ask_twice<B: TermBank, W: Write>(
+    alloc: Global,
+    engine: &mut Engine<B>,
+    asked: Asked,
+    kept: Term,
+    out: &mut W,
+) -> Result<()> {
     match asked {
-        Asked::Term => make_twice(alloc, &mut engine, kept, out),
-        Asked::Value => evaluate_twice(alloc, &mut engine, kept, out),
+        Asked::Term => make_twice(alloc, engine, kept, out),
+        Asked::Value => evaluate_twice(alloc, engine, kept, out),
     }
 }
 
