@@ -430,8 +430,11 @@ impl Grower<'_> {
         requires ground { IsGround self.now.checked.now.spec (numbers_of self.now.links.now)
             self.now.parts.now }
         requires can { CanStep self.now.checked.now.spec (numbers_of self.now.links.now)
-            self.now.parts.now forest.old ((record { node = node; width = width;
-            rows = map coded_of rows.items }) ∷ map task_of work.old.pending.items) }
+            self.now.parts.now forest.old ((record {
+              node = node;
+              width = width;
+              rows = map coded_of rows.items;
+            }) ∷ map task_of work.old.pending.items) }
         requires marks { HasMarks work.old.marks (length (symbols self.now.checked.now.spec)) }
         ensures marks { IfOk result
             (λ goes. HasMarks work.new.marks (length (symbols self.now.checked.now.spec))) }

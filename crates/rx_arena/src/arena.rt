@@ -28,10 +28,8 @@ pub struct Arena {
     heads: Heads,
     gray_first: Option<u32>,
     linked: u32,
-    ghost chained: { Chained (links (λ n. n.chain) pool.cells) heads } by
-        { Chained-prop (links (λ n. n.chain) pool.cells) heads },
-    ghost grayed: { Listed (links (λ n. n.gray) pool.cells) gray_first } by
-        { Listed-prop (links (λ n. n.gray) pool.cells) gray_first },
+    ghost chained: { Chained (links (λ n. n.chain) pool.cells) heads } by { Chained-prop (links (λ n. n.chain) pool.cells) heads },
+    ghost grayed: { Listed (links (λ n. n.gray) pool.cells) gray_first } by { Listed-prop (links (λ n. n.gray) pool.cells) gray_first },
     ghost counted: { linked ≡ total chained.0 } by { total-prop linked chained.0 },
 }
 
@@ -266,8 +264,11 @@ impl Arena {
     pub fn gray_push(&mut self, slot: Slot)
         requires taken { IsTaken self.old slot.0 }
         requires unmarked { marked_at self.old slot.0 ≡ false }
-        ensures after { self.new ≡ record self.old { cells = altered slot.0 (with_marking true)
-            self.old.cells; gray = slot.0 ∷ self.old.gray } }
+        ensures after { self.new ≡ record self.old {
+          cells = altered slot.0 (with_marking true)
+              self.old.cells;
+          gray = slot.0 ∷ self.old.gray;
+        } }
         ensures law { IsArena self.new }
     {
         self.pool.set_mark(slot.0, true);

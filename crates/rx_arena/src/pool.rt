@@ -46,8 +46,7 @@ pub(crate) struct Pool {
     room: u32,
     cap: u32,
     turned: bool,
-    ghost listed: { Listed (links (λ n. n.free) store) free } by
-        { Listed-prop (links (λ n. n.free) store) free },
+    ghost listed: { Listed (links (λ n. n.free) store) free } by { Listed-prop (links (λ n. n.free) store) free },
 }
 
 impl Model for Pool {
@@ -55,8 +54,14 @@ impl Model for Pool {
 
     ghost Value = { PoolState };
 
-    ghost view = { λ p. record { cells = cells_of p.store p.listed.0 p.fresh; free = p.listed.0;
-        fresh = p.fresh; room = p.room; cap = p.cap; turned = p.turned } };
+    ghost view = { λ p. record {
+      cells = cells_of p.store p.listed.0 p.fresh;
+      free = p.listed.0;
+      fresh = p.fresh;
+      room = p.room;
+      cap = p.cap;
+      turned = p.turned;
+    } };
 
     ghost invariant = { λ p. IsPool p.store p.listed.0 p.fresh p.taken p.room p.cap };
 }
@@ -64,8 +69,14 @@ impl Model for Pool {
 impl Pool {
     pub(crate) fn new(alloc: Global, cap: u32) -> Pool
         requires { cap ≤ 2 ^ 30 }
-        ensures { result ≡ record { cells = []; free = []; fresh = 0; room = 0; cap = cap;
-            turned = false } }
+        ensures { result ≡ record {
+          cells = [];
+          free = [];
+          fresh = 0;
+          room = 0;
+          cap = cap;
+          turned = false;
+        } }
     {
         Pool {
             store: MarkedStore::new(alloc),
@@ -98,8 +109,11 @@ impl Pool {
             (λ s. self.old.free ≡ s ∷ self.new.free) }
         ensures was_free { IfSome result (λ s. get_or self.old.cells s None ≡ None) }
         ensures below { IfSome result (λ s. s < self.old.cap) }
-        ensures some { IfSome result (λ s. self.new ≡ record self.old { cells = put self.old.cells s
-            (Some (lone (spec.mark_of self.old.turned false) body)); free = self.new.free }) }
+        ensures some { IfSome result (λ s. self.new ≡ record self.old {
+          cells = put self.old.cells s
+              (Some (lone (spec.mark_of self.old.turned false) body));
+          free = self.new.free;
+        }) }
         ensures none { IfNone result (self.new ≡ self.old) }
         ensures fits { spare_of self.new + filled self.new.cells ≤ self.new.cap }
     {
@@ -119,8 +133,11 @@ impl Pool {
         requires { (self.old.fresh < self.old.room) × (self.old.fresh < self.old.cap) }
         ensures slot { result ≡ self.old.fresh }
         ensures was_free { get_or self.old.cells result None ≡ None }
-        ensures after { self.new ≡ record self.old { cells = put self.old.cells result
-            (Some (lone (spec.mark_of self.old.turned false) body)); fresh = self.old.fresh + 1 } }
+        ensures after { self.new ≡ record self.old {
+          cells = put self.old.cells result
+              (Some (lone (spec.mark_of self.old.turned false) body));
+          fresh = self.old.fresh + 1;
+        } }
         ensures fits { spare_of self.new + filled self.new.cells ≤ self.new.cap }
     {
         let slot = self.fresh;
@@ -223,8 +240,10 @@ impl Pool {
     /// Marks a taken slot, or takes the mark off.
     pub(crate) fn set_mark(&mut self, slot: u32, marked: bool)
         requires { IsHeld self.old.cells slot }
-        ensures { self.new ≡ record self.old { cells = altered slot
-            (with_mark (spec.mark_of self.old.turned marked)) self.old.cells } }
+        ensures { self.new ≡ record self.old {
+          cells = altered slot
+              (with_mark (spec.mark_of self.old.turned marked)) self.old.cells;
+        } }
     {
         self.store.set_mark(slot, mark_of(self.turned, marked))
     }

@@ -25,7 +25,7 @@ pub struct PlainBank {
     ghost distinct: { IsDistinct (heap_of slots.items) },
     ghost whole: { Least (is_whole (heap_of slots.items) (table_of (symbols_of names))
         (length slots.items)) } by { Least-prop
-        (is_whole (heap_of slots.items) (table_of (symbols_of names)) (length slots.items)) },
+            (is_whole (heap_of slots.items) (table_of (symbols_of names)) (length slots.items)) },
     ghost unrooted: { (t : ℕ) → heap_of slots.items t ≡ None → roots_of slots.items t ≡ 0 },
     ghost counts: { (t : ℕ) → roots_of slots.items t ≤ 65535 },
     ghost counted: { taken ≡ fin.len (content_by (heap_of slots.items) (table_of (symbols_of names))

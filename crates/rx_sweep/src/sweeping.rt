@@ -29,10 +29,12 @@ fn drop_slot(arena: &mut Arena, slot: Slot)
     requires unmarked { marked_at arena.old slot.0 ≡ false }
     requires unprotected { roots_at arena.old slot.0 ≡ 0 }
     requires homed { (c : ℕ) → 0 < times slot.0 (chain_at arena.old c) → c ≡ home arena.old slot.0 }
-    ensures after { arena.new ≡ record arena.old
-        { cells = put arena.old.cells slot.0 None;
-        chains = slice_set arena.old.chains (home arena.old slot.0)
-        (kept_in arena.old (home arena.old slot.0)); spare = arena.old.spare + 1 } }
+    ensures after { arena.new ≡ record arena.old {
+      cells = put arena.old.cells slot.0 None;
+      chains = slice_set arena.old.chains (home arena.old slot.0)
+          (kept_in arena.old (home arena.old slot.0));
+      spare = arena.old.spare + 1;
+    } }
     ensures law { IsArena arena.new }
 {
     let chain = arena.home(arena.read(slot).hash);
