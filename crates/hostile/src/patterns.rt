@@ -1,8 +1,5 @@
 //! Patterns over a bank.
 
-ghost use Rattle.std.specs.Prelude.{IfOk, IsSome};
-ghost use Rattle.rx_term.specs.Store.{tree_at};
-
 use crate::told::{begin, say, show, tell};
 use anyhow::{Result, bail};
 use rx_pattern::Pattern;
