@@ -1,6 +1,6 @@
 //! Runs with a pattern: matching it with a term, and making a term from it.
 
-ghost use Rattle.std.specs.Prelude.{◌≡◌, ◌≢◌, List, option_map, Some, None, IfErr, IfOk, IfSome};
+ghost use Rattle.std.specs.Prelude.{◌≡◌, ◌≢◌, List, ℕ, option_map, Some, None, IfErr, IfOk, IfSome};
 ghost use Rattle.std.specs.Prelude.{IsSome, OnErr, OnOk};
 ghost use Rattle.std.specs.Option.{option_and_then};
 ghost use Rattle.rx_term.specs.Tree.{Tree, Trees, list_of, to_list};
@@ -97,8 +97,9 @@ pub fn run_match_at<R: Read, W: Write>(
     ensures unread { IsNoPattern pattern.now → input.new ≡ input.old }
 {
     *place = None;
+    let reading = read_pattern(alloc, pattern)?;
     let mut bank = empty_bank(alloc, MOST_CELLS)?;
-    let answer = match_texts(alloc, pattern, input, &mut bank)?;
+    let answer = match_reading(alloc, reading, input, &mut bank)?;
     write_answer(alloc, &bank, &answer, out)?;
     *place = answer.place();
     Ok(answer.finish())
@@ -141,29 +142,32 @@ pub fn run_make_at<W: Write>(
     ensures no_reader { IfErr result (λ fault. fault ≢ RunFault.Read) }
 {
     *place = None;
+    let reading = read_pattern(alloc, pattern)?;
     let mut bank = empty_bank(alloc, MOST_CELLS)?;
-    let answer = make_of_texts(alloc, pattern, args, &mut bank)?;
+    let answer = make_of_reading(alloc, reading, args, &mut bank)?;
     write_answer(alloc, &bank, &answer, out)?;
     *place = answer.place();
     Ok(answer.finish())
 }
 
-/// Reads the pattern, then the input, and matches the one with the other.
-fn match_texts<B: TermBank, R: Read>(
+/// Reads the input where a pattern was read, and matches the one with the other.
+fn match_reading<B: TermBank, R: Read>(
     alloc: Global,
-    pattern: &[u8],
+    reading: PatternReading,
     input: &mut R,
     bank: &mut B,
 ) -> Result<Answer, RunFault>
-    ensures due { IfOk result (λ answer. IfSome (R.remaining input.old)
-        (λ bytes. IsMatchDue pattern.now bytes (answer_due (B.store bank.new) answer))) }
+    ensures due { IfOk result (λ answer. (text : List ℕ) → IsPatternRead text reading
+        → IfSome (R.remaining input.old)
+        (λ bytes. IsMatchDue text bytes (answer_due (B.store bank.new) answer))) }
     ensures held { IfOk result (λ answer. IsAnswerHeld (B.store bank.new) answer) }
     ensures fault { IfErr result (StopsUnwritten (B.store bank.old).cap) }
-    ensures input_read { OnOk result ((p : Tree) → SpellsPattern pattern.now p
-        → IsReadOut (R.remaining input.old) (R.remaining input.new)) }
-    ensures unread { IsNoPattern pattern.now → input.new ≡ input.old }
+    ensures input_read { OnOk result ((text : List ℕ) (p : Tree) → IsPatternRead text reading
+        → SpellsPattern text p → IsReadOut (R.remaining input.old) (R.remaining input.new)) }
+    ensures unread { (text : List ℕ) → IsPatternRead text reading → IsNoPattern text
+        → input.new ≡ input.old }
 {
-    match read_pattern(alloc, pattern, bank)? {
+    match reading {
         PatternReading::Refused(refusal) => Ok(Answer::Refused(refusal)),
         PatternReading::Good(pattern) => match_input(alloc, &pattern, input, bank),
     }
@@ -212,19 +216,19 @@ fn match_term<B: TermBank>(
     }
 }
 
-/// Reads the pattern, then the arguments, and makes a tree from them.
-fn make_of_texts<B: TermBank>(
+/// Reads the arguments where a pattern was read, and makes a tree from them.
+fn make_of_reading<B: TermBank>(
     alloc: Global,
-    pattern: &[u8],
+    reading: PatternReading,
     args: &[u8],
     bank: &mut B,
 ) -> Result<Answer, RunFault>
-    ensures due { IfOk result
-        (λ answer. IsMakeDue pattern.now args.now (answer_due (B.store bank.new) answer)) }
+    ensures due { IfOk result (λ answer. (text : List ℕ) → IsPatternRead text reading
+        → IsMakeDue text args.now (answer_due (B.store bank.new) answer)) }
     ensures held { IfOk result (λ answer. IsAnswerHeld (B.store bank.new) answer) }
     ensures fault { IfErr result (RanOut (B.store bank.old).cap) }
 {
-    match read_pattern(alloc, pattern, bank)? {
+    match reading {
         PatternReading::Refused(refusal) => Ok(Answer::Refused(refusal)),
         PatternReading::Good(pattern) => make_of_text(alloc, &pattern, args, bank),
     }
@@ -336,14 +340,22 @@ fn items_of<B: TermBank>(alloc: Global, bank: &B, list: Term) -> Result<Vec<Term
     Ok(found)
 }
 
-/// Reads the text of a pattern.
-pub(crate) fn read_pattern<B: TermBank>(
+/// Reads the text of a pattern, in a bank of its own.
+pub(crate) fn read_pattern(alloc: Global, text: &[u8]) -> Result<PatternReading, RunFault>
+    ensures read { IfOk result (λ reading. IsPatternRead text.now reading) }
+    ensures fault { IfErr result (RanOut 1073741824) }
+{
+    let mut bank = empty_bank(alloc, MOST_CELLS)?;
+    read_pattern_into(alloc, text, &mut bank)
+}
+
+/// Reads the text of a pattern into a bank.
+fn read_pattern_into<B: TermBank>(
     alloc: Global,
     text: &[u8],
     bank: &mut B,
 ) -> Result<PatternReading, RunFault>
     ensures read { IfOk result (λ reading. IsPatternRead text.now reading) }
-    ensures cap { (B.store bank.new).cap ≡ (B.store bank.old).cap }
     ensures fault { IfErr result (RanOut (B.store bank.old).cap) }
 {
     match parse(alloc, text, bank)? {

@@ -92,10 +92,12 @@ pub fn refused_argument(
         → IsVerdict args.now v → found ≡ misfit_in p v) }
     ensures none { IfOk result (λ found. IsNoPattern pattern.now → found ≡ None) }
 {
-    let mut bank = empty_bank(alloc, MOST_CELLS)?;
-    match read_pattern(alloc, pattern, &mut bank)? {
+    match read_pattern(alloc, pattern)? {
         PatternReading::Refused(_) => Ok(None),
-        PatternReading::Good(pattern) => misfit_of_text(alloc, &pattern, args, &mut bank),
+        PatternReading::Good(pattern) => {
+            let mut bank = empty_bank(alloc, MOST_CELLS)?;
+            misfit_of_text(alloc, &pattern, args, &mut bank)
+        }
     }
 }
 

@@ -3,7 +3,7 @@ use Rattle.rx_text.specs.Verdict.{Verdict, IsVerdict}
 use Rattle.rec_run.specs.TermRuns.{IsReadingOf}
 use Rattle.rec_run.specs.declared.given_term.TermReading.{TermReading}
 use Rattle.rec_run.proofs.PatternDue.{if_ok_map, spelt_pattern}
-use Rattle.rec_run.proofs.pattern_runs.read_pattern.Goals as goal
+use Rattle.rec_run.proofs.pattern_runs.read_pattern_into.Goals as goal
 
 pub returns-in-Spells-clause-read : goal.returns-in-Spells-clause-read
 returns-in-Spells-clause-read g c =
