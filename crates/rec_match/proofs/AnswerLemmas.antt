@@ -13,6 +13,7 @@ use Rattle.rx_term.specs.declared.Kind.{Kind}
 use Rattle.rx_term.specs.declared.Kind.TheVariants as kind
 use Rattle.rx_term.specs.declared.Term.{Term}
 use Rattle.rx_term.specs.declared.Symbol as bank
+use Rattle.rx_term.specs.Walks.{held_tree, held_trees}
 use Rattle.rec_syntax.specs.Syntax.{Spec, Rule, Apply}
 use Rattle.rec_syntax.specs.Syntax as X
 use Rattle.rec_sorts.specs.Lookup.{symbols, count, is_variable}
@@ -21,7 +22,7 @@ use Rattle.rec_sorts.specs.Binding.{Substitution, NumberedMatch, application, bi
 use Rattle.rec_sorts.specs.Linked.{signature, NumberOf}
 use Rattle.rec_sorts.specs.Numbering.{name_of, arity_of}
 use Rattle.rec_sorts.specs.declared.letters.Meaning.TheVariants.{Symbol}
-use Rattle.rec_match.specs.Held.{AllHeld, or_empty, tree_of, trees}
+use Rattle.rec_match.specs.Held.{AllHeld, or_empty}
 use Rattle.rec_match.specs.Matching.{HasFound, Finds, FindsFor, CanFind, symbol_at, count_at}
 use Rattle.rec_match.specs.Next.{IsReady, AreReady, AreLater, Reaches, Matched}
 use Rattle.rec_match.specs.Walking.{opened, goes_on, walk_all, bound}
@@ -74,19 +75,19 @@ none-next y w m ready u other from = elim (which (length y.rules) from) [
 ]
 
 -- trees without a symbol
-no-int : (y : Spec) (w : Store) (t : Term) (z : ℤ) → HasInt w t z → OpensNothing y (tree_of w t)
+no-int : (y : Spec) (w : Store) (t : Term) (z : ℤ) → HasInt w t z → OpensNothing y (held_tree w t)
 no-int y w t z h j lt us e c = absurd (cc (e ∙ ap or_empty h.here))
 
-no-nil : (y : Spec) (w : Store) (t : Term) → HasNil w t → OpensNothing y (tree_of w t)
+no-nil : (y : Spec) (w : Store) (t : Term) → HasNil w t → OpensNothing y (held_tree w t)
 no-nil y w t h j lt us e c = absurd (cc (e ∙ ap or_empty h.here))
 
-no-cons : (y : Spec) (w : Store) (t : Term) → HasCons w t → OpensNothing y (tree_of w t)
+no-cons : (y : Spec) (w : Store) (t : Term) → HasCons w t → OpensNothing y (held_tree w t)
 no-cons y w t h j lt us e c = absurd (cc (e ∙ ap or_empty h.here))
 
-no-hole : (y : Spec) (w : Store) (t : Term) → HasHole w t → OpensNothing y (tree_of w t)
+no-hole : (y : Spec) (w : Store) (t : Term) → HasHole w t → OpensNothing y (held_tree w t)
 no-hole y w t h j lt us e c = absurd (cc (e ∙ ap or_empty h.here))
 
-pub no-symbol : (y : Spec) (w : Store) (t : Term) (k : Kind) → HasKind w t k → ((s : bank.Symbol) → k ≡ kind.Appl s → ⊥) → OpensNothing y (tree_of w t)
+pub no-symbol : (y : Spec) (w : Store) (t : Term) (k : Kind) → HasKind w t k → ((s : bank.Symbol) → k ≡ kind.Appl s → ⊥) → OpensNothing y (held_tree w t)
 no-symbol y w t (kind.Int z) h not_appl = no-int y w t z h
 no-symbol y w t kind.Nil h not_appl = no-nil y w t h
 no-symbol y w t kind.Cons h not_appl = no-cons y w t h
@@ -97,7 +98,7 @@ anns-none : (name : List ℕ) (quoted : Bool) (args anns : Trees) (b : List ℕ)
 anns-none name quoted args anns b us e = (cc e, cc e, cc e, cc e)
 
 -- an annotated tree
-pub no-annotated : (y : Spec) (w : Store) (t a : Term) (s : bank.Symbol) → HasAppl w t s → HasAnns w t (Some a) → OpensNothing y (tree_of w t)
+pub no-annotated : (y : Spec) (w : Store) (t a : Term) (s : bank.Symbol) → HasAppl w t s → HasAnns w t (Some a) → OpensNothing y (held_tree w t)
 no-annotated y w t a s h anns j lt us e c =
     let q = anns-none h.name h.quoted h.args h.anns (name_of y (Symbol j)) us (e ∙ ap or_empty h.here) in
     let here : tree_at w t ≡ Some (Appl h.name h.quoted h.args none) = h.here ∙ ap (λ x. Some (Appl h.name h.quoted h.args x)) q.3 in
@@ -108,7 +109,7 @@ no-annotated y w t a s h anns j lt us e c =
     by (Some t) e h = cc e
 
 -- an application of another symbol
-pub no-number : (y : Spec) (w : Store) → IsSound w → (m : Matcher) → IsReady y w m → (t : Term) (s : bank.Symbol) → HasAppl w t s → NumberOf m.links s None → OpensNothing y (tree_of w t)
+pub no-number : (y : Spec) (w : Store) → IsSound w → (m : Matcher) → IsReady y w m → (t : Term) (s : bank.Symbol) → HasAppl w t s → NumberOf m.links s None → OpensNothing y (held_tree w t)
 no-number y w sound m ready t s h number j lt us e c =
     let q = anns-none h.name h.quoted h.args h.anns (name_of y (Symbol j)) us (e ∙ ap or_empty h.here) in
     let own : signature_of w s ≡ Some (signature y j) = h.symbol ∙ ap (λ g. let o : Option Signature = Some g in o) (is h.name h.quoted h.args us q.0 q.1 q.2 c) in
@@ -130,7 +131,7 @@ plain-anns w t name quoted args (more a as') e h = absurd (let x : Some (Items (
 -- an application of a symbol of the specification
 pub record IsCall (y : Spec) (w : Store) (t : Term) (k : ℕ) (args : Trees) : Type 0 where
   pub declared : k < length (symbols y)
-  pub is : tree_of w t ≡ application (name_of y (Symbol k)) args
+  pub is : held_tree w t ≡ application (name_of y (Symbol k)) args
   pub counted : count_of args ≡ arity_of y k
 
 pub is-call : (y : Spec) (w : Store) (m : Matcher) → IsReady y w m → (t : Term) (s : bank.Symbol) (k : ℕ) → (h : HasAppl w t s) → NumberOf m.links s (Some k) → part_at anns_of w t ≡ None → IsCall y w t k h.args
@@ -177,7 +178,7 @@ found-binds y u n (suc k) e m f = by (binds y (get_or y.rules n no_rule).left u)
         subst (λ j. (j < length y.rules) × (binds y (get_or y.rules j no_rule).left u ≡ Some m.values)) en (lt, q ∙ ap (λ x. let o : Option Substitution = Some x in o) es)
     by None q later = later (sym (first-passed y n u no_rule lt q) ∙ f)
 
-pub has-annotations : (y : Spec) (w : Store) (t : Term) (s : bank.Symbol) (o : Option Term) → HasAppl w t s → HasAnns w t o → is_some o ≡ true → OpensNothing y (tree_of w t)
+pub has-annotations : (y : Spec) (w : Store) (t : Term) (s : bank.Symbol) (o : Option Term) → HasAppl w t s → HasAnns w t o → is_some o ≡ true → OpensNothing y (held_tree w t)
 has-annotations y w t s None h anns e = absurd (cc e)
 has-annotations y w t s (Some a) h anns e = no-annotated y w t a s h anns
 
@@ -195,31 +196,31 @@ declared-number w m s k ready number =
 pub all-later : (w : Store) (m : Matcher) → AreReady w m → AreLater m
 all-later w m ready i s lt e = later-side m 0 0 i s lt e ready.spec w ready.ready
 
-module _ (y : Spec) (w : Store) (m : Matcher) (ready : IsReady y w m) (u : Term) (k from at : ℕ) (args : Trees) (call : IsCall y w u k args) (reached : Reaches m k from at) (work : List Term) (are : trees w work ≡ to_list args) where
+module _ (y : Spec) (w : Store) (m : Matcher) (ready : IsReady y w m) (u : Term) (k from at : ℕ) (args : Trees) (call : IsCall y w u k args) (reached : Reaches m k from at) (work : List Term) (are : held_trees w work ≡ to_list args) where
   work-counted : at < length m.sides.items → count_at m at ≡ length work
   work-counted lt =
       let ruled = ready.matcher.ruled in
       let side = ready.matcher.sides at no_rule (omega (arith, lt, ruled)) in
-      side.filled ∙ ap (arity_of y) ((reached y w ready call.declared).1 lt) ∙ sym call.counted ∙ sym (length-to_list args) ∙ ap length (sym are) ∙ length-map work (tree_of w)
+      side.filled ∙ ap (arity_of y) ((reached y w ready call.declared).1 lt) ∙ sym call.counted ∙ sym (length-to_list args) ∙ ap length (sym are) ∙ length-map work (held_tree w)
 
-  tree-is : application (name_of y (Symbol k)) (from_list (trees w work)) ≡ tree_of w u
+  tree-is : application (name_of y (Symbol k)) (from_list (held_trees w work)) ≡ held_tree w u
   tree-is = ap (λ ts. application (name_of y (Symbol k)) (from_list ts)) are ∙ ap (application (name_of y (Symbol k))) (from_to_list args) ∙ sym call.is
 
   finds-for : (bind : List Term) (found : Option ℕ) → FindsFor w m at work bind found → Finds y w m (name_of y (Symbol k)) at work bind found
   finds-for bind found h = h y m.links [] work k ready.linked ready.matcher call.declared (reached y w ready call.declared).1 refl work-counted
 
-  skipped-to : next_match y from (tree_of w u) ≡ first_match y at (drop at y.rules) (application (name_of y (Symbol k)) (from_list (trees w work)))
-  skipped-to = ap (λ t. first_match y from (drop from y.rules) t) (sym tree-is) ∙ (reached y w ready call.declared).0 (from_list (trees w work))
+  skipped-to : next_match y from (held_tree w u) ≡ first_match y at (drop at y.rules) (application (name_of y (Symbol k)) (from_list (held_trees w work)))
+  skipped-to = ap (λ t. first_match y from (drop from y.rules) t) (sym tree-is) ∙ (reached y w ready call.declared).0 (from_list (held_trees w work))
 
-  pub answer-none : (bind : List Term) → FindsFor w m at work bind None → next_match y from (tree_of w u) ≡ None
+  pub answer-none : (bind : List Term) → FindsFor w m at work bind None → next_match y from (held_tree w u) ≡ None
   answer-none bind h = skipped-to ∙ finds-for bind None h
 
   pub answer-some : (bind found : List Term) (i : ℕ) → FindsFor w m at work found (Some i) → bind ≡ found → Matched y w u from i bind
   answer-some bind found i h e =
       let f : HasFound y w m (name_of y (Symbol k)) at work found i = finds-for found (Some i) h in
-      record { values = f.values; first = skipped-to ∙ f.first; bound = ap (trees w) e ∙ f.bound }
+      record { values = f.values; first = skipped-to ∙ f.first; bound = ap (held_trees w) e ∙ f.bound }
 
-pub can-find-there : (w : Store) (m : Matcher) (ready : AreReady w m) (u : Term) (k from at : ℕ) (args : Trees) → IsCall ready.spec w u k args → Reaches m k from at → (work : List Term) → trees w work ≡ to_list args → CanFind w m at work
+pub can-find-there : (w : Store) (m : Matcher) (ready : AreReady w m) (u : Term) (k from at : ℕ) (args : Trees) → IsCall ready.spec w u k args → Reaches m k from at → (work : List Term) → held_trees w work ≡ to_list args → CanFind w m at work
 can-find-there w m ready u k from at args call reached work are = record {
   spec = ready.spec;
   symbols = m.links;

@@ -16,7 +16,7 @@ use Rattle.rec_sorts.specs.Numbering.{named, named_all, name_of, named_by, IsMea
 use Rattle.rec_sorts.specs.declared.letters.Letter.{Letter}
 use Rattle.rec_sorts.specs.declared.letters.Meaning.TheVariants.{Symbol}
 use Rattle.rec_match.specs.Asking.{opened, bound, goes_on, stack_on, asked}
-use Rattle.rec_match.specs.Held.{AllHeld, tree_of, trees, stacked}
+use Rattle.rec_match.specs.Held.{AllHeld, stacked}
 use Rattle.rec_sorts.specs.Linked.{signature, AreLinked}
 use Rattle.rec_match.specs.Matching.{AreFilled, SameValues, paired, AreTests, IsTest, CanAsk, Matches, IsMatcher, IsSide, HasFound, HeadAt, symbol_at, count_at, next_at, tests_at, order_at, CanFind, FindsFor}
 use Rattle.rec_match.specs.Ordered.{in_order}
@@ -25,6 +25,7 @@ use Rattle.rec_match.specs.declared.matcher.Matcher.{Matcher}
 use Rattle.rec_match.specs.declared.matcher.LeftSide.{LeftSide}
 use Rattle.rec_sorts.specs.Laws.{Every}
 use Rattle.std.proofs.Math.ListN.{drop_of_length-le}
+use Rattle.rx_term.specs.Walks.{held_tree, held_trees}
 use Rattle.rec_match.specs.declared.matcher.Test.{Test}
 use Rattle.rec_match.specs.declared.matcher.Test.TheVariants.{Open, First, Again}
 use Rattle.rec_match.proofs.Facts.{facts, RuleFacts}
@@ -79,27 +80,27 @@ asked-arguments y kept k lt (Apply x zs) e ts many =
 pub record BindsTo (y : Spec) (w : Store) (l : X.Term) (u : Tree) (all : List ℕ) (bind : List Term) : Type 0 where
   pub values : Substitution
   pub binding : binds y l u ≡ Some values
-  pub same : SameValues (paired y all (trees w bind)) values
+  pub same : SameValues (paired y all (held_trees w bind)) values
 
 pub matched : (y : Spec) (w : Store) (ss : List bank.Symbol) → fault y ≡ None → AreLinked y w ss → (k : ℕ) → k < length (symbols y) → (l : X.Term) → (head l).bytes ≡ name_of y (Symbol k) → AreBare y (named l) → (ls : List Letter) → map (named_by y) ls ≡ named_all (arguments l) → AreFilled y (reverse ls) → All (λ l. IsMeaning y l.meaning) (reverse ls)
-    → (tests : List Test) (all : List ℕ) → AreTests ss (reverse ls) [] tests all → (args bind : List Term) → length args ≡ count (arguments l) → Matches w tests args bind true → BindsTo y w l (application (name_of y (Symbol k)) (from_list (trees w args))) all bind × (length bind ≡ length all)
+    → (tests : List Test) (all : List ℕ) → AreTests ss (reverse ls) [] tests all → (args bind : List Term) → length args ≡ count (arguments l) → Matches w tests args bind true → BindsTo y w l (application (name_of y (Symbol k)) (from_list (held_trees w args))) all bind × (length bind ≡ length all)
 matched y w ss kept linked k lt l e bare ls names filled meant tests all t args bind many h =
     let m = h y ss (reverse ls) all kept linked filled meant t in
-    let whole : asked y (reverse (named l)) (application (name_of y (Symbol k)) (from_list (trees w args)) ∷ []) [] ≡ Some (paired y all (trees w bind)) =
-    asked-arguments y kept k lt l e (trees w args) (length-map args (tree_of w) ∙ many) ∙ ap (λ ms. asked y ms (stacked w args) []) (sym (map-reverse (named_by y) ls ∙ ap reverse names)) ∙ m.0 in
-    (by (binds y l (application (name_of y (Symbol k)) (from_list (trees w args)))) refl (subst (λ o. AgreeOn o (binds y l (application (name_of y (Symbol k)) (from_list (trees w args))))) whole (asked_binds y l (application (name_of y (Symbol k)) (from_list (trees w args))) bare)), m.1)
+    let whole : asked y (reverse (named l)) (application (name_of y (Symbol k)) (from_list (held_trees w args)) ∷ []) [] ≡ Some (paired y all (held_trees w bind)) =
+    asked-arguments y kept k lt l e (held_trees w args) (length-map args (held_tree w) ∙ many) ∙ ap (λ ms. asked y ms (stacked w args) []) (sym (map-reverse (named_by y) ls ∙ ap reverse names)) ∙ m.0 in
+    (by (binds y l (application (name_of y (Symbol k)) (from_list (held_trees w args)))) refl (subst (λ o. AgreeOn o (binds y l (application (name_of y (Symbol k)) (from_list (held_trees w args))))) whole (asked_binds y l (application (name_of y (Symbol k)) (from_list (held_trees w args))) bare)), m.1)
   where
-    by : (o : Option Substitution) → binds y l (application (name_of y (Symbol k)) (from_list (trees w args))) ≡ o → AgreeOn (Some (paired y all (trees w bind))) o → BindsTo y w l (application (name_of y (Symbol k)) (from_list (trees w args))) all bind
+    by : (o : Option Substitution) → binds y l (application (name_of y (Symbol k)) (from_list (held_trees w args))) ≡ o → AgreeOn (Some (paired y all (held_trees w bind))) o → BindsTo y w l (application (name_of y (Symbol k)) (from_list (held_trees w args))) all bind
     by None q a = absurd a
     by (Some s) q a = record { values = s; binding = q; same = a }
 
 pub unmatched : (y : Spec) (w : Store) (ss : List bank.Symbol) → fault y ≡ None → AreLinked y w ss → (k : ℕ) → k < length (symbols y) → (l : X.Term) → (head l).bytes ≡ name_of y (Symbol k) → AreBare y (named l) → (ls : List Letter) → map (named_by y) ls ≡ named_all (arguments l) → AreFilled y (reverse ls) → All (λ l. IsMeaning y l.meaning) (reverse ls)
-    → (tests : List Test) (all : List ℕ) → AreTests ss (reverse ls) [] tests all → (args bind : List Term) → length args ≡ count (arguments l) → Matches w tests args bind false → binds y l (application (name_of y (Symbol k)) (from_list (trees w args))) ≡ None
+    → (tests : List Test) (all : List ℕ) → AreTests ss (reverse ls) [] tests all → (args bind : List Term) → length args ≡ count (arguments l) → Matches w tests args bind false → binds y l (application (name_of y (Symbol k)) (from_list (held_trees w args))) ≡ None
 unmatched y w ss kept linked k lt l e bare ls names filled meant tests all t args bind many h =
     let m = h y ss (reverse ls) all kept linked filled meant t in
-    let whole : asked y (reverse (named l)) (application (name_of y (Symbol k)) (from_list (trees w args)) ∷ []) [] ≡ None =
-    asked-arguments y kept k lt l e (trees w args) (length-map args (tree_of w) ∙ many) ∙ ap (λ ms. asked y ms (stacked w args) []) (sym (map-reverse (named_by y) ls ∙ ap reverse names)) ∙ m in
-    by (binds y l (application (name_of y (Symbol k)) (from_list (trees w args)))) (subst (λ o. AgreeOn o (binds y l (application (name_of y (Symbol k)) (from_list (trees w args))))) whole (asked_binds y l (application (name_of y (Symbol k)) (from_list (trees w args))) bare))
+    let whole : asked y (reverse (named l)) (application (name_of y (Symbol k)) (from_list (held_trees w args)) ∷ []) [] ≡ None =
+    asked-arguments y kept k lt l e (held_trees w args) (length-map args (held_tree w) ∙ many) ∙ ap (λ ms. asked y ms (stacked w args) []) (sym (map-reverse (named_by y) ls ∙ ap reverse names)) ∙ m in
+    by (binds y l (application (name_of y (Symbol k)) (from_list (held_trees w args)))) (subst (λ o. AgreeOn o (binds y l (application (name_of y (Symbol k)) (from_list (held_trees w args))))) whole (asked_binds y l (application (name_of y (Symbol k)) (from_list (held_trees w args))) bare))
   where
     by : (o : Option Substitution) → AgreeOn None o → o ≡ None
     by None a = refl
@@ -128,7 +129,7 @@ no_rule = record { left = Apply (record { at = 0; bytes = [] }) X.none; right = 
 
 -- where the rules up to one were tried
 pub record TriedTo (y : Spec) (w : Store) (m : Matcher) (k at i : ℕ) (args : List Term) : Type 0 where
-  pub same : first_match y at (drop at y.rules) (application (name_of y (Symbol k)) (from_list (trees w args))) ≡ first_match y i (drop i y.rules) (application (name_of y (Symbol k)) (from_list (trees w args)))
+  pub same : first_match y at (drop at y.rules) (application (name_of y (Symbol k)) (from_list (held_trees w args))) ≡ first_match y i (drop i y.rules) (application (name_of y (Symbol k)) (from_list (held_trees w args)))
   pub head : HeadAt m i k
   pub counted : i < length m.sides.items → count_at m i ≡ length args
   pub within : i < length m.sides.items → at < length m.sides.items
@@ -196,12 +197,12 @@ trying-next w m at i work bind ts n s lt e et en h trying y ss below args k link
     let cs : n ≡ length args = en ∙ side-is (λ (x : LeftSide). x.count) m i s 0 lt e ∙ t.counted lt in
     let h' : Matches w (tests_at m i) args bind false = subst (λ xs. Matches w xs args bind false) (et ∙ side-is (λ (x : LeftSide). x.tests.items) m i s [] lt e) (subst (λ xs. Matches w ts xs bind false) (last-args work below args n split cs) h) in
     let bare = (every-get (RuleFacts y) y.rules (facts y matcher.kept).rules i no_rule lt').left in
-    let no : binds y (get_or y.rules i no_rule).left (application (name_of y (Symbol k)) (from_list (trees w args))) ≡ None =
+    let no : binds y (get_or y.rules i no_rule).left (application (name_of y (Symbol k)) (from_list (held_trees w args))) ≡ None =
     unmatched y w ss matcher.kept linked k ltk (get_or y.rules i no_rule).left (side.head ∙ ap (λ j. name_of y (Symbol j)) symbol) bare side.letters side.named side.filled_letters side.meant (tests_at m i) side.tests.tested side.tests.tests args bind (sym (t.counted lt) ∙ sym side.counted) h' in
     record {
-      same = t.same ∙ first-passed y i (application (name_of y (Symbol k)) (from_list (trees w args))) no_rule lt' no
-          ∙ subst (λ j. first_match y (suc i) (drop (suc i) y.rules) (application (name_of y (Symbol j)) (from_list (trees w args))) ≡ first_match y (next_at m i) (drop (next_at m i) y.rules) (application (name_of y (Symbol j)) (from_list (trees w args)))) symbol (side.skips (from_list (trees w args)))
-          ∙ ap (λ j. first_match y j (drop j y.rules) (application (name_of y (Symbol k)) (from_list (trees w args)))) (sym is);
+      same = t.same ∙ first-passed y i (application (name_of y (Symbol k)) (from_list (held_trees w args))) no_rule lt' no
+          ∙ subst (λ j. first_match y (suc i) (drop (suc i) y.rules) (application (name_of y (Symbol j)) (from_list (held_trees w args))) ≡ first_match y (next_at m i) (drop (next_at m i) y.rules) (application (name_of y (Symbol j)) (from_list (held_trees w args)))) symbol (side.skips (from_list (held_trees w args)))
+          ∙ ap (λ j. first_match y j (drop j y.rules) (application (name_of y (Symbol k)) (from_list (held_trees w args)))) (sym is);
       head = λ q. ap (symbol_at m) is ∙ side.next (subst (λ j. j < length m.sides.items) is q) ∙ symbol;
       counted = λ q.
           let q' : next_at m i < length m.sides.items = subst (λ j. j < length m.sides.items) is q in
@@ -231,18 +232,18 @@ found-here w m at i work tested bind ts n s held lt e et en eb h trying y ss bel
     let cs : n ≡ length args = en ∙ side-is (λ (x : LeftSide). x.count) m i s 0 lt e ∙ t.counted lt in
     let h' : Matches w (tests_at m i) args tested true = subst (λ xs. Matches w xs args tested true) (et ∙ side-is (λ (x : LeftSide). x.tests.items) m i s [] lt e) (subst (λ xs. Matches w ts xs tested true) (last-args work below args n split cs) h) in
     let bare = (every-get (RuleFacts y) y.rules (facts y matcher.kept).rules i no_rule lt').left in
-    let u = application (name_of y (Symbol k)) (from_list (trees w args)) in
+    let u = application (name_of y (Symbol k)) (from_list (held_trees w args)) in
     let b = matched y w ss matcher.kept linked k ltk (get_or y.rules i no_rule).left (side.head ∙ ap (λ j. name_of y (Symbol j)) symbol) bare side.letters side.named side.filled_letters side.meant (tests_at m i) side.tests.tested side.tests.tests args tested (sym (t.counted lt) ∙ sym side.counted) h' in
     let is : bind ≡ in_order no_term tested (order_at m i) = eb ∙ ap (in_order no_term tested) (side-is (λ (x : LeftSide). x.order.items) m i s [] lt e) in
     by side bare b.0 b.1 is t.same (symbol ∙ sym (head (t.within lt))) lt'
   where
     u : Tree
-    u = application (name_of y (Symbol k)) (from_list (trees w args))
+    u = application (name_of y (Symbol k)) (from_list (held_trees w args))
 
     by : (side : IsSide y ss m i (get_or y.rules i no_rule)) → AreBare y (named (get_or y.rules i no_rule).left) → (b : BindsTo y w (get_or y.rules i no_rule).left u side.tests.tested tested) → length tested ≡ length side.tests.tested → bind ≡ in_order no_term tested (order_at m i)
         → first_match y at (drop at y.rules) u ≡ first_match y i (drop i y.rules) u → symbol_at m i ≡ symbol_at m at → i < length y.rules → HasFound y w m (name_of y (Symbol k)) at args bind i
     by side bare b long is same own lt' =
-        let bound : trees w bind ≡ values_of b.values = ap (trees w) is ∙ tested-values y matcher.kept ss w m i (get_or y.rules i no_rule) side tested long bare u b.values b.binding b.same in
+        let bound : held_trees w bind ≡ values_of b.values = ap (held_trees w) is ∙ tested-values y matcher.kept ss w m i (get_or y.rules i no_rule) side tested long bare u b.values b.binding b.same in
         let paired = side-paired y matcher.kept ss w m i (get_or y.rules i no_rule) side bare u b.values b.binding bind bound in
         record {
           values = b.values;
@@ -258,4 +259,4 @@ pub found-none : (w : Store) (m : Matcher) (at i : ℕ) (work bind : List Term) 
 found-none w m at i work bind le trying y ss below args k linked matcher ltk head split counted =
     let t : TriedTo y w m k at i args = trying y ss below args k linked matcher ltk head split counted in
     let ruled = matcher.ruled in
-    t.same ∙ ap (λ rs. first_match y i rs (application (name_of y (Symbol k)) (from_list (trees w args)))) (drop_of_length-le y.rules (let q : length y.rules ≤ i = omega (arith, le, ruled) in q))
+    t.same ∙ ap (λ rs. first_match y i rs (application (name_of y (Symbol k)) (from_list (held_trees w args)))) (drop_of_length-le y.rules (let q : length y.rules ≤ i = omega (arith, le, ruled) in q))

@@ -8,6 +8,7 @@ use Rattle.rx_term.specs.Store.{Store, signature_of}
 use Rattle.rx_term.specs.Walks as walks
 use Rattle.rx_term.specs.declared.Term.{Term}
 use Rattle.rx_term.specs.declared.Symbol as bank
+use Rattle.rx_term.specs.Walks.{held_trees}
 use Rattle.rec_syntax.specs.Syntax.{Spec}
 use Rattle.rec_sorts.specs.Lookup.{symbols}
 use Rattle.rec_sorts.specs.Binding.{Substitution, application, binds, first_match}
@@ -15,9 +16,9 @@ use Rattle.rec_sorts.specs.Linked.{AreLinked}
 use Rattle.rec_sorts.specs.Numbering.{name_of, arity_of}
 use Rattle.rec_sorts.specs.declared.letters.Meaning.TheVariants.{Symbol}
 use Rattle.rec_match.specs.Forests as forests
-use Rattle.rec_match.specs.Forests.{AreNumbers, CanRun, Runs, number_at, root_at}
-use Rattle.rec_match.specs.Held.{AllHeld, trees}
-use Rattle.rec_match.specs.Matching.{IsMatcher, IsSide, HeadAt, HasFound, CanFind, FindsFor, symbol_at, count_at}
+use Rattle.rec_match.specs.Forests.{AreNumbers, CanRun, Runs, root_at}
+use Rattle.rec_match.specs.Held.{AllHeld}
+use Rattle.rec_match.specs.Matching.{IsMatcher, IsSide, CanFind, FindsFor, symbol_at, count_at}
 use Rattle.rec_match.specs.Tasks.{numbers_of}
 use Rattle.rec_match.specs.declared.matcher.LeftSide.{LeftSide}
 use Rattle.rec_match.specs.declared.matcher.Matcher.{Matcher}
@@ -110,10 +111,10 @@ tree-finds w m at work args bind s found lt e ea runs y ss below own k linked ma
     same = r.symbol ∙ head lt
 
     u : Tree
-    u = application (name_of y (Symbol k)) (from_list (trees w own))
+    u = application (name_of y (Symbol k)) (from_list (held_trees w own))
 
-    here : application (name_of y (Symbol s.symbol)) (from_list (trees w args)) ≡ u
-    here = ap (λ j. application (name_of y (Symbol j)) (from_list (trees w args))) same ∙ ap (λ xs. application (name_of y (Symbol k)) (from_list (trees w xs))) is
+    here : application (name_of y (Symbol s.symbol)) (from_list (held_trees w args)) ≡ u
+    here = ap (λ j. application (name_of y (Symbol j)) (from_list (held_trees w args))) same ∙ ap (λ xs. application (name_of y (Symbol k)) (from_list (held_trees w xs))) is
 
     whole : at + (length y.rules - at) ≡ length y.rules
     whole = let l = matcher.ruled in omega (arith, lt, l)
@@ -130,7 +131,7 @@ tree-finds w m at work args bind s found lt e ea runs y ss below own k linked ma
           same = paired.same;
           bound = h.bound;
           counted = paired.counted;
-          head = own-rule y ss m matcher k i ltk b.0 (trees w own) h.values b.1 ∙ sym (head lt);
+          head = own-rule y ss m matcher k i ltk b.0 (held_trees w own) h.values b.1 ∙ sym (head lt);
           held = contains-held w bind h.held;
         }
 

@@ -7,6 +7,7 @@ use Rattle.rx_term.specs.Tree.{Tree}
 use Rattle.rx_term.specs.Store.{Store}
 use Rattle.rx_term.specs.declared.Term.{Term}
 use Rattle.rx_term.specs.declared.Symbol as bank
+use Rattle.rx_term.specs.Walks.{held_tree, held_trees}
 use Rattle.rec_syntax.specs.Syntax.{Spec, Rule, Apply}
 use Rattle.rec_syntax.specs.Syntax as X
 use Rattle.rec_sorts.specs.Lookup.{symbols, count, variable_words, is_variable}
@@ -15,7 +16,7 @@ use Rattle.rec_sorts.specs.Binding.{Substitution, Bound, value_of, binds}
 use Rattle.rec_sorts.specs.Numbering.{named, named_all, named_by, name_of, IsMeaning}
 use Rattle.rec_sorts.specs.declared.letters.Letter.{Letter}
 use Rattle.rec_sorts.specs.declared.letters.Meaning.TheVariants.{Symbol, Variable}
-use Rattle.rec_match.specs.Held.{AllHeld, or_empty, tree_of, trees}
+use Rattle.rec_match.specs.Held.{AllHeld, or_empty}
 use Rattle.rec_match.specs.Matching.{IsSide, SameValues, paired, symbol_at, tests_at, variables_at, order_at}
 use Rattle.rec_match.specs.Ordered.{keys, names_in, numbers_in, in_order, AreOrdered}
 use Rattle.rec_match.specs.Rows.{values_of}
@@ -60,17 +61,17 @@ side-meant y ss m i r side = subst (λ ls. All (λ l. IsMeaning y l.meaning) ls)
 
 -- what a left side binds, with values in the order in which its variables first occur
 pub record Paired (y : Spec) (w : Store) (m : Matcher) (i : ℕ) (bind : List Term) (s : Substitution) : Type 0 where
-  pub same : SameValues (paired y (variables_at m i) (trees w bind)) s
+  pub same : SameValues (paired y (variables_at m i) (held_trees w bind)) s
   pub counted : length bind ≡ length (variables_at m i)
 
-pub side-paired : (y : Spec) → fault y ≡ None → (ss : List bank.Symbol) (w : Store) (m : Matcher) (i : ℕ) (r : Rule) → IsSide y ss m i r → AreBare y (named r.left) → (u : Tree) (s : Substitution) → binds y r.left u ≡ Some s → (bind : List Term) → trees w bind ≡ values_of s
+pub side-paired : (y : Spec) → fault y ≡ None → (ss : List bank.Symbol) (w : Store) (m : Matcher) (i : ℕ) (r : Rule) → IsSide y ss m i r → AreBare y (named r.left) → (u : Tree) (s : Substitution) → binds y r.left u ≡ Some s → (bind : List Term) → held_trees w bind ≡ values_of s
     → Paired y w m i bind s
 side-paired y kept ss w m i r side bare u s binding bind bound =
     let names : keys s ≡ map (λ v. name_of y (Variable v)) (variables_at m i) =
     (left-keys y kept side.letters (side-meant y ss m i r side) r.left (symbol_at m i) side.declared side.head side.named bare u s binding).1 ∙ ap (map (λ v. name_of y (Variable v))) (sym side.tests.variables) in
     record {
       same = λ name. ap (λ r. value_of r name) (ap (paired y (variables_at m i)) bound ∙ paired-values y (variables_at m i) s names);
-      counted = sym (length-map bind (tree_of w)) ∙ ap length bound ∙ length-map s (λ b. b.value) ∙ sym (length-map s (λ b. b.name)) ∙ ap length names ∙ length-map (variables_at m i) (λ v. name_of y (Variable v));
+      counted = sym (length-map bind (held_tree w)) ∙ ap length bound ∙ length-map s (λ b. b.value) ∙ sym (length-map s (λ b. b.name)) ∙ ap length names ∙ length-map (variables_at m i) (λ v. name_of y (Variable v));
     }
 
 module _ (y : Spec) (kept : fault y ≡ None) (vs : List ℕ) (declared : AreVariables y vs) (apart : Apart vs) (vals : List Tree) (long : length vals ≡ length vs) (s : Substitution) (same : SameValues (paired y vs vals) s) (d : Tree) where
@@ -93,11 +94,11 @@ abbrev pub no_term : Term
 no_term = record { 0 = 0 }
 
 -- references at places
-pub trees-in-order : (w : Store) (found : List Term) (order : List ℕ) → All (λ p. p < length found) order → trees w (in_order no_term found order) ≡ map (λ p. get_or (trees w found) p (tree_of w no_term)) order
+pub trees-in-order : (w : Store) (found : List Term) (order : List ℕ) → All (λ p. p < length found) order → held_trees w (in_order no_term found order) ≡ map (λ p. get_or (held_trees w found) p (held_tree w no_term)) order
 trees-in-order w found [] within = refl
 trees-in-order w found (p ∷ order) within =
-    ap (λ x. x ∷ trees w (in_order no_term found order)) (sym (tree_here w found p no_term (tree_of w no_term) (All-head (λ p. p < length found) p order within)))
-    ∙ ap (λ xs. get_or (trees w found) p (tree_of w no_term) ∷ xs) (trees-in-order w found order (All-tail (λ p. p < length found) p order within))
+    ap (λ x. x ∷ held_trees w (in_order no_term found order)) (sym (tree_here w found p no_term (held_tree w no_term) (All-head (λ p. p < length found) p order within)))
+    ∙ ap (λ xs. get_or (held_trees w found) p (held_tree w no_term) ∷ xs) (trees-in-order w found order (All-tail (λ p. p < length found) p order within))
 
 pub held-in-order : (w : Store) (found : List Term) → AllHeld w found → (order : List ℕ) → All (λ p. p < length found) order → AllHeld w (in_order no_term found order)
 held-in-order w found held [] within t (k, lt, e) = absurd (let no : ⊥ = omega (arith, lt) in no)
@@ -111,9 +112,9 @@ module _ (y : Spec) (kept : fault y ≡ None) (ss : List bank.Symbol) (w : Store
   pub order-within : All (λ p. p < length bind) (order_at m i)
   order-within j d lt = let h = side.tests.ordered.within j d lt in omega (arith, h, counted)
 
-  pub tested-values : AreBare y (named r.left) → (u : Tree) (s : Substitution) → binds y r.left u ≡ Some s → SameValues (paired y side.tests.tested (trees w bind)) s → trees w (in_order no_term bind (order_at m i)) ≡ values_of s
+  pub tested-values : AreBare y (named r.left) → (u : Tree) (s : Substitution) → binds y r.left u ≡ Some s → SameValues (paired y side.tests.tested (held_trees w bind)) s → held_trees w (in_order no_term bind (order_at m i)) ≡ values_of s
   tested-values bare u s binding same =
       let vars = tests-variables y ss (reverse side.letters) [] (tests_at m i) side.tests.tested side.meant side.tests.tests tt nothing-apart in
       let names = left-keys y kept side.letters (side-meant y ss m i r side) r.left (symbol_at m i) side.declared side.head side.named bare u s binding in
       trees-in-order w bind (order_at m i) order-within
-      ∙ ordered-values y kept side.tests.tested vars.0 vars.1 (trees w bind) (length-map bind (tree_of w) ∙ counted) s same (tree_of w no_term) side.letters (order_at m i) side.tests.ordered names.0 names.1
+      ∙ ordered-values y kept side.tests.tested vars.0 vars.1 (held_trees w bind) (length-map bind (held_tree w) ∙ counted) s same (held_tree w no_term) side.letters (order_at m i) side.tests.ordered names.0 names.1

@@ -3,7 +3,7 @@ use Rattle.std.specs.Option.{option_map}
 use Rattle.std.specs.Prelude.{slice_range, ◌≢◌, ◌⊎◌, ℕ, ◌≡◌, ◌+◌, ◌-◌, ◌<◌, ◌≤◌, suc, ◌&&◌, Bool, true, false, List, [], ◌∷◌, ◌++◌, Option, Some, None, length, get_or, nat_eq, nat_le, nat_lt, if◌then◌else◌}
 use Rattle.rx_term.specs.Tree.{Tree, Trees, Items, none, count_of, to_list, from_list, tree_eq}
 use Rattle.rx_term.specs.Store.{Store, tree_at, signature_of}
-use Rattle.rx_term.specs.Walks.{AllHeld}
+use Rattle.rx_term.specs.Walks.{AllHeld, held_tree, held_trees}
 use Rattle.rx_term.specs.declared.Term.{Term}
 use Rattle.rec_syntax.specs.Syntax.{Spec}
 use Rattle.rec_sorts.specs.Lookup.{symbols}
@@ -16,7 +16,6 @@ use Rattle.rec_match.specs.Rows.{Found, found_of, found_at, or_else, tree_in, va
 use Rattle.rec_match.specs.declared.forest.Forest.{Forest}
 use Rattle.rec_match.specs.declared.forest.Node.{Node}
 use Rattle.rec_match.specs.declared.forest.Node.TheVariants.{Fail, Try, Switch}
-use Rattle.rec_match.specs.Held.{tree_of, trees}
 use Rattle.rec_match.specs.declared.forest.Place.{Place}
 use Rattle.rec_match.specs.declared.forest.Place.TheVariants.{First, Again}
 use Rattle.rec_match.specs.declared.forest.Child.{Child}
@@ -50,7 +49,7 @@ IsListOf w t k = (ts : Trees) × (tree_at w t ≡ Some (Items ts none)) × (coun
 
 -- the items of a list stand behind what was there
 abbrev pub PushesArguments : Store → Term → List Term → List Term → Type 0
-PushesArguments w t old new = (ts : Trees) → tree_at w t ≡ Some (Items ts none) → AllHeld w old → AllHeld w new × (trees w new ≡ trees w old ++ to_list ts)
+PushesArguments w t old new = (ts : Trees) → tree_at w t ≡ Some (Items ts none) → AllHeld w old → AllHeld w new × (held_trees w new ≡ held_trees w old ++ to_list ts)
 
 -- the child of a symbol's number
 abbrev pub no_child : Child
@@ -103,14 +102,14 @@ pub record OpensCase (y : Spec) (ns : List ℕ) (s : Cases) (u : Tree) (args : T
 -- where a switch leads from a reference
 pub record TurnsIn (y : Spec) (w : Store) (ns : List ℕ) (s : Cases) (u : Term) (old new : List Term) (next : ℕ) : Type 0 where
   pub args : Trees
-  pub opens : OpensCase y ns s (tree_of w u) args next
+  pub opens : OpensCase y ns s (held_tree w u) args next
   pub held : AllHeld w new
-  pub registers : trees w new ≡ trees w old ++ to_list args
+  pub registers : held_trees w new ≡ held_trees w old ++ to_list args
 
 pub record TurnsAway (y : Spec) (w : Store) (ns : List ℕ) (s : Cases) (other : ℕ) (u : Term) (old new : List Term) (next : ℕ) : Type 0 where
   pub next_is : next ≡ other
   pub same : new ≡ old
-  pub opens : OpensNoCase y ns s (tree_of w u)
+  pub opens : OpensNoCase y ns s (held_tree w u)
 
 abbrev pub Turns : Store → Cases → ℕ → Term → List Term → List Term → ℕ → Type 0
 Turns w s other u old new next = (y : Spec) (ns : List ℕ) → AreNumbers y w ns → AreCases y ns s → TurnsIn y w ns s u old new next ⊎ TurnsAway y w ns s other u old new next
@@ -185,14 +184,14 @@ pub record IsForest (y : Spec) (ns : List ℕ) (f : Forest) : Type 0 where
 -- a rule that matches, with its values
 pub record HasFound (y : Spec) (w : Store) (name : List ℕ) (least : ℕ) (args bind : List Term) (i : ℕ) : Type 0 where
   pub values : Substitution
-  pub first : next_match y least (application name (from_list (trees w args))) ≡ Some (record { number = i; values = values })
-  pub bound : trees w bind ≡ values_of values
+  pub first : next_match y least (application name (from_list (held_trees w args))) ≡ Some (record { number = i; values = values })
+  pub bound : held_trees w bind ≡ values_of values
   pub held : AllHeld w bind
 
 -- the least rule at or after a number that matches; or there is none
 abbrev pub Finds : Spec → Store → List ℕ → ℕ → List Term → List Term → Option ℕ → Type 0
 Finds y w name least args bind (Some i) = HasFound y w name least args bind i
-Finds y w name least args bind None = (next_match y least (application name (from_list (trees w args))) ≡ None) × (bind ≡ [])
+Finds y w name least args bind None = (next_match y least (application name (from_list (held_trees w args))) ≡ None) × (bind ≡ [])
 
 -- the tree of a symbol can be run for so many arguments
 pub record CanRun (w : Store) (f : Forest) (k count : ℕ) : Type 0 where
@@ -210,7 +209,7 @@ Runs w f k least args bind found = (y : Spec) (ns : List ℕ) → AreNumbers y w
 -- where a run stands: what the root finds, the node finds
 pub record Stands (w : Store) (f : Forest) (k least : ℕ) (args : List Term) (y : Spec) (forest_reading : Reading) (at : ℕ) (registers : List Term) : Type 0 where
   pub width : length registers ≡ forest_reading.width at
-  pub same : forest_reading.finds (root_at f k) least (trees w args) ≡ forest_reading.finds at least (trees w registers)
+  pub same : forest_reading.finds (root_at f k) least (held_trees w args) ≡ forest_reading.finds at least (held_trees w registers)
 
 abbrev pub AllStand : Store → Forest → ℕ → ℕ → List Term → ℕ → List Term → Type 0
 AllStand w f k least args at registers = (y : Spec) (ns : List ℕ) → AreNumbers y w ns → (h : IsForest y ns f) → k < length (symbols y) → length args ≡ arity_of y k → Stands w f k least args y h.reading at registers

@@ -5,6 +5,7 @@ use Rattle.rx_term.specs.Tree.{Tree, Trees, Items, Appl, none, from_list, count_
 use Rattle.rx_term.specs.Store.{Store, signature_of, tree_at}
 use Rattle.rx_term.specs.declared.Term.{Term}
 use Rattle.rx_term.specs.declared.Symbol as bank
+use Rattle.rx_term.specs.Walks.{held_trees}
 use Rattle.rec_syntax.specs.Syntax as R
 use Rattle.rec_syntax.specs.Syntax.{Spec, Rule}
 use Rattle.rec_sorts.specs.Lookup.{symbols, count}
@@ -13,7 +14,7 @@ use Rattle.rec_sorts.specs.Numbering.{named_all, name_of, named_by, IsMeaning, a
 use Rattle.rec_sorts.specs.Linked.{AreLinked}
 use Rattle.rec_sorts.specs.declared.letters.Letter.{Letter}
 use Rattle.rec_sorts.specs.declared.letters.Meaning.TheVariants.{Symbol, Variable}
-use Rattle.rec_match.specs.Held.{AllHeld, trees, stacked}
+use Rattle.rec_match.specs.Held.{AllHeld, stacked}
 use Rattle.rec_match.specs.Asking.{asked}
 use Rattle.rec_match.specs.Forests.{IsForest}
 use Rattle.rec_match.specs.Ordered.{AreOrdered, numbers_in}
@@ -57,7 +58,7 @@ pub record Opened (w : Store) (f : bank.Symbol) (count : ℕ) (u : Term) (old ne
   pub args : List Term
   pub signature : Signature
   pub symbol : signature_of w f ≡ Some signature
-  pub is : tree_at w u ≡ Some (Appl signature.name signature.quoted (from_list (trees w args)) none)
+  pub is : tree_at w u ≡ Some (Appl signature.name signature.quoted (from_list (held_trees w args)) none)
   pub counted : length args ≡ count
   pub split : new ≡ old ++ args
 
@@ -83,7 +84,7 @@ pub record Opening (w : Store) (u : Term) (count i : ℕ) (old now : List Term) 
   pub quoted : Bool
   pub split : now ≡ old ++ done
   pub is : tree_at w list ≡ Some (Items rest none)
-  pub whole : tree_at w u ≡ Some (Appl name quoted (joined (from_list (trees w done)) rest) none)
+  pub whole : tree_at w u ≡ Some (Appl name quoted (joined (from_list (held_trees w done)) rest) none)
   pub counted : length done ≡ i
   pub left : count_of rest + i ≡ count
 
@@ -93,7 +94,7 @@ AreFilled y ls = All (λ (l : Letter). (k : ℕ) → l.meaning ≡ Symbol k → 
 
 -- what the letters of a left side, from the last to the first, give to variables
 abbrev pub AskedAs : Spec → Store → List Letter → List Term → List Term → List ℕ → Bool → Type 0
-AskedAs y w ls args bind all true = (asked y (map (named_by y) ls) (stacked w args) [] ≡ Some (paired y all (trees w bind))) × (length bind ≡ length all)
+AskedAs y w ls args bind all true = (asked y (map (named_by y) ls) (stacked w args) [] ≡ Some (paired y all (held_trees w bind))) × (length bind ≡ length all)
 AskedAs y w ls args bind all false = asked y (map (named_by y) ls) (stacked w args) [] ≡ None
 
 -- what a test needs of its symbol
@@ -165,9 +166,9 @@ pub record IsMatcher (y : Spec) (ss : List bank.Symbol) (m : Matcher) : Type 0 w
 -- a rule that matches, with the values of its variables in the order in which they first occur
 pub record HasFound (y : Spec) (w : Store) (m : Matcher) (name : List ℕ) (at : ℕ) (args bind : List Term) (i : ℕ) : Type 0 where
   pub values : Substitution
-  pub first : first_match y at (drop at y.rules) (application name (from_list (trees w args))) ≡ Some (record { number = i; values = values })
-  pub same : SameValues (paired y (variables_at m i) (trees w bind)) values
-  pub bound : trees w bind ≡ values_of values
+  pub first : first_match y at (drop at y.rules) (application name (from_list (held_trees w args))) ≡ Some (record { number = i; values = values })
+  pub same : SameValues (paired y (variables_at m i) (held_trees w bind)) values
+  pub bound : held_trees w bind ≡ values_of values
   pub counted : length bind ≡ length (variables_at m i)
   pub head : symbol_at m i ≡ symbol_at m at
   pub held : AllHeld w bind
@@ -175,7 +176,7 @@ pub record HasFound (y : Spec) (w : Store) (m : Matcher) (name : List ℕ) (at :
 -- the least rule at or after a number that matches; or there is none
 abbrev pub Finds : Spec → Store → Matcher → List ℕ → ℕ → List Term → List Term → Option ℕ → Type 0
 Finds y w m name at args bind (Some i) = HasFound y w m name at args bind i
-Finds y w m name at args bind None = first_match y at (drop at y.rules) (application name (from_list (trees w args))) ≡ None
+Finds y w m name at args bind None = first_match y at (drop at y.rules) (application name (from_list (held_trees w args))) ≡ None
 
 -- the last references of a list are as many as the rule of a number has arguments
 pub record CanFind (w : Store) (m : Matcher) (at : ℕ) (work : List Term) : Type 0 where

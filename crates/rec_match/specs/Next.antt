@@ -2,13 +2,13 @@
 use Rattle.std.specs.Prelude.{ℕ, ◌≡◌, ◌<◌, List, [], Option, Some, None, length, get_or}
 use Rattle.rx_term.specs.Store.{Store}
 use Rattle.rx_term.specs.declared.Term.{Term}
+use Rattle.rx_term.specs.Walks.{held_tree, held_trees}
 use Rattle.rec_syntax.specs.Syntax.{Spec}
 use Rattle.rec_sorts.specs.Lookup.{symbols}
 use Rattle.rec_sorts.specs.Binding.{Substitution, next_match}
 use Rattle.rec_sorts.specs.Linked.{AreLinked}
 use Rattle.rec_sorts.specs.Numbering.{name_of}
 use Rattle.rec_sorts.specs.declared.letters.Meaning.TheVariants.{Symbol}
-use Rattle.rec_match.specs.Held.{tree_of, trees}
 use Rattle.rec_match.specs.Matching.{IsMatcher, Skips, HeadAt}
 use Rattle.rec_match.specs.Rows.{values_of}
 use Rattle.rec_match.specs.declared.matcher.LeftSide.{LeftSide}
@@ -27,13 +27,13 @@ pub record AreReady (w : Store) (m : Matcher) : Type 0 where
 -- the least rule at or after a number whose left side matches a term, with its values in the order in which the variables first occur
 pub record Matched (y : Spec) (w : Store) (u : Term) (from i : ℕ) (bind : List Term) : Type 0 where
   pub values : Substitution
-  pub first : next_match y from (tree_of w u) ≡ Some (record { number = i; values = values })
-  pub bound : trees w bind ≡ values_of values
+  pub first : next_match y from (held_tree w u) ≡ Some (record { number = i; values = values })
+  pub bound : held_trees w bind ≡ values_of values
 
 -- that rule, or none
 abbrev pub IsAnswer : Spec → Store → Term → ℕ → List Term → Option ℕ → Type 0
 IsAnswer y w u from bind (Some i) = Matched y w u from i bind
-IsAnswer y w u from bind None = (next_match y from (tree_of w u) ≡ None) × (bind ≡ [])
+IsAnswer y w u from bind None = (next_match y from (held_tree w u) ≡ None) × (bind ≡ [])
 
 abbrev pub Answers : Store → Matcher → Term → ℕ → List Term → Option ℕ → Type 0
 Answers w m u from bind found = (y : Spec) → IsReady y w m → IsAnswer y w u from bind found

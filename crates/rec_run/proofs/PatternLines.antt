@@ -7,11 +7,11 @@ use Rattle.std.specs.Io.KnownBytes.{Appends, Keeps}
 use Rattle.rx_term.specs.Tree.{Tree}
 use Rattle.rx_term.specs.Steps.{IsSound}
 use Rattle.rx_term.specs.Store.{Store, tree_at}
-use Rattle.rx_term.specs.Walks.{AllHeld}
+use Rattle.rx_term.specs.Walks.{AllHeld, HaveTrees}
 use Rattle.rx_term.specs.declared.Term.{Term}
 use Rattle.rx_text.specs.Canon.{canon}
 use Rattle.rx_text.proofs.InLine.{stays_in_line}
-use Rattle.rx_pattern.specs.Held.{HaveTrees, Binds}
+use Rattle.rx_pattern.specs.Held.{Binds}
 use Rattle.rx_text.specs.Written.{AppendsFront}
 use Rattle.rec_run.specs.Bytes.{newlines}
 use Rattle.rec_run.specs.Output.{Due, done}

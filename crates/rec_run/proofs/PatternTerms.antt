@@ -7,9 +7,8 @@ use Rattle.rx_term.specs.Kinds.{HasAnns, HasCons, HasKind, HasNil}
 use Rattle.rx_term.specs.declared.Term.{Term}
 use Rattle.rx_term.specs.declared.Kind.{Kind}
 use Rattle.rx_term.specs.declared.Kind.TheVariants as kind
-use Rattle.rx_term.specs.Walks.{AllHeld}
+use Rattle.rx_term.specs.Walks.{AllHeld, HaveTrees}
 use Rattle.rx_term.proofs.StoreLemmas.{some-value}
-use Rattle.rx_pattern.specs.Held.{HaveTrees}
 use Rattle.rx_pattern.specs.Filling.{Fault, filling}
 use Rattle.rec_sorts.specs.TermRules.{elements}
 use Rattle.rec_run.specs.Output.{Due, done}

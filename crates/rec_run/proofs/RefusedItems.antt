@@ -3,8 +3,8 @@ use Rattle.std.proofs.Common.{◌≡◌, ℕ, List, Option, Some, None, Result, 
 use Rattle.rx_term.specs.Tree.{Tree}
 use Rattle.rx_term.specs.Store.{Store, tree_at}
 use Rattle.rx_term.specs.declared.Term.{Term}
+use Rattle.rx_term.specs.Walks.{HaveTrees}
 use Rattle.rx_text.specs.Verdict.{Verdict, TooLong, Outside, Spelt, IsVerdict}
-use Rattle.rx_pattern.specs.Held.{HaveTrees}
 use Rattle.rx_pattern.specs.Filling as filling
 use Rattle.rx_pattern.specs.Filling.{Fault, Kinds, filling, slots}
 use Rattle.rx_pattern.proofs.Fitting.{HaveTrees-length}

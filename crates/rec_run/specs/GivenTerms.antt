@@ -6,7 +6,7 @@
 use Rattle.std.specs.Prelude.{ℕ, ◌+◌, ◌≡◌, Bool, List, [], ◌++◌, Option, Some, None, Result, Ok, Err, codes, decimal, flat_map, unwrap_or}
 use Rattle.std.specs.Option.{ForSome}
 use Rattle.std.specs.Io.KnownBytes.{Appends}
-use Rattle.rx_term.specs.Tree.{Tree, Trees, Items, none, annotations, from_list, list_of}
+use Rattle.rx_term.specs.Tree.{Tree, Trees, none, annotations, from_list, list_of}
 use Rattle.rx_term.specs.Store.{Store, tree_at}
 use Rattle.rx_term.specs.declared.Term.{Term as Reference}
 use Rattle.rx_shared.specs.State.{store_of}
@@ -41,11 +41,6 @@ use Rattle.rec_run.specs.declared.texts.TermsRefusal.TheVariants as terms
 -- the tree of a reference; the empty list, where there is none
 abbrev pub item_at : Store → Reference → Tree
 item_at w r = unwrap_or (tree_at w r) (list_of none)
-
--- the items of a list; none, where a tree is no list
-abbrev pub items_of : Tree → Trees
-items_of (Items items anns) = items
-items_of t = none
 
 -- the items of the list of a reference; none, where it is no list without annotations
 abbrev pub given_at : Store → Reference → List Tree

@@ -4,11 +4,10 @@ use Rattle.std.specs.Option.{option_map_or}
 use Rattle.std.specs.Io.KnownBytes.{Appends}
 use Rattle.rx_term.specs.Tree.{Tree}
 use Rattle.rx_term.specs.Store.{Store, tree_at}
-use Rattle.rx_term.specs.Walks.{AllHeld}
+use Rattle.rx_term.specs.Walks.{AllHeld, HaveTrees}
 use Rattle.rx_term.specs.declared.Term.{Term}
 use Rattle.rx_text.specs.Verdict.{Verdict, IsVerdict}
 use Rattle.rx_pattern.specs.Pattern.{unfit}
-use Rattle.rx_pattern.specs.Held.{HaveTrees}
 use Rattle.rec_run.specs.Bytes.{newlines}
 use Rattle.rec_run.specs.Output.{Due, done, refused}
 use Rattle.rec_run.specs.Run.{Stops}

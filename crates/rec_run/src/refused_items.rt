@@ -3,9 +3,8 @@
 ghost use Rattle.std.specs.Prelude.{◌≡◌, List, None, Some, IfOk, IsSome};
 ghost use Rattle.rx_term.specs.Tree.{Tree};
 ghost use Rattle.rx_term.specs.Store.{tree_at};
-ghost use Rattle.rx_term.specs.Walks.{AllHeld};
+ghost use Rattle.rx_term.specs.Walks.{AllHeld, HaveTrees};
 ghost use Rattle.rx_text.specs.Verdict.{Verdict, IsVerdict};
-ghost use Rattle.rx_pattern.specs.Held.{HaveTrees};
 ghost use Rattle.rec_syntax.specs.Syntax.{Spec};
 ghost use Rattle.rec_sorts.specs.SpecRules as verdict;
 ghost use Rattle.rec_sorts.specs.SpecRules.{Good, SpecVerdict};

@@ -6,14 +6,14 @@ use Rattle.std.specs.declared.alloc.AllocError.{AllocError}
 use Rattle.std.specs.List.{list_any, position, position_from}
 use Rattle.std.proofs.lemmas.List.Folds.{list_any-append}
 use Rattle.std.specs.Option.{option_and_then, option_eq}
-use Rattle.rx_term.specs.Tree.{Tree, Int, Appl, Items, Hole, none, more, to_list}
+use Rattle.rx_term.specs.Tree.{Tree, Int, Appl, Items, Hole, none, more, to_list, items_of}
 use Rattle.rx_term.specs.Store.{Store, tree_at}
 use Rattle.rx_term.specs.declared.Term.{Term}
+use Rattle.rx_term.specs.Walks.{held_tree, held_trees}
 use Rattle.rec_syntax.specs.Syntax.{Spec}
 use Rattle.rec_sorts.specs.SpecRules.{fault}
 use Rattle.rec_sorts.specs.TermRules.{elements, broken_by_elements, broken_by_terms, first_passed, nodes, nodes_all, arguments, is_no_application, is_annotated, is_undeclared, is_ill_filled, is_ill_sorted, breaks_alone, first_breaking, broken_element}
 use Rattle.rec_sorts.specs.Agreeing.{IsScope}
-use Rattle.rec_sorts.specs.Walking.{held_tree, held_trees, items_of}
 use Rattle.rec_sorts.specs.GivenTerms.{is_broken_alone}
 use Rattle.rec_sorts.specs.declared.scope.Scope.{Scope}
 use Rattle.rec_sorts.specs.Laws.{ElementLaw}

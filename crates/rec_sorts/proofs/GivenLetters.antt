@@ -6,9 +6,10 @@ use Rattle.std.proofs.lemmas.List.Elements.{All-nil, All-cons, All-push}
 use Rattle.std.specs.Prelude.{ℕ, ◌≡◌, ◌||◌, is_none, Bool, true, false, List, [], ◌∷◌, ◌++◌, Option, Some, None, All, IfSome, ◌≤◌, length, map, take, flat_map, reverse, unwrap_or}
 use Rattle.std.specs.List.{list_any}
 use Rattle.std.proofs.lemmas.List.Folds.{list_any-append}
-use Rattle.rx_term.specs.Tree.{Tree, Trees, Int, Appl, Items, Hole, none, more, count_of, to_list}
+use Rattle.rx_term.specs.Tree.{Tree, Trees, Int, Appl, Items, Hole, none, more, count_of, to_list, items_of}
 use Rattle.rx_term.specs.Store.{Store, tree_at}
 use Rattle.rx_term.specs.declared.Term.{Term}
+use Rattle.rx_term.specs.Walks.{held_tree, held_trees}
 use Rattle.rec_syntax.specs.Syntax.{Declaration, Spec}
 use Rattle.rec_sorts.specs.Lookup.{count}
 use Rattle.rec_sorts.specs.Laws.{Every}
@@ -16,7 +17,7 @@ use Rattle.rec_sorts.specs.TermRules.{nodes, arguments, tree_symbol, is_undeclar
 use Rattle.rec_sorts.specs.Evaluation.{term_of, terms_of}
 use Rattle.rec_sorts.specs.Numbering.{IsMeaning, name_of, Named, named, named_all, named_by, AreLetters, Pairwise}
 use Rattle.rec_sorts.specs.Agreeing.{IsScope}
-use Rattle.rec_sorts.specs.Walking.{held_tree, held_trees, items_of, backwards, backwards_all, unstacked}
+use Rattle.rec_sorts.specs.Walking.{backwards, backwards_all, unstacked}
 use Rattle.rec_sorts.specs.GivenTerms.{symbol_at, node_letter}
 use Rattle.rec_sorts.specs.declared.letters.Letter.{Letter}
 use Rattle.rec_sorts.specs.declared.letters.Meaning.{Meaning}

@@ -5,7 +5,7 @@ use Rattle.std.specs.Prelude.{ℕ, ◌≡◌, ◌<◌, ◌&&◌, ◌||◌, Bool,
 use Rattle.std.specs.Bool.{beq}
 use Rattle.std.specs.List.{list_any}
 use Rattle.std.specs.Option.{option_eq, option_map, option_and_then}
-use Rattle.rx_term.specs.Tree.{Tree, Trees, Int, Appl, Items, Hole, none, more, list_of, to_list, count_of}
+use Rattle.rx_term.specs.Tree.{Tree, Trees, Int, Appl, Items, Hole, none, more, list_of, to_list, count_of, items_of}
 use Rattle.rx_term.specs.Name.{plain_name}
 use Rattle.rec_syntax.specs.Tokens.{Word}
 use Rattle.rec_syntax.specs.Syntax.{Declaration, Spec}
@@ -17,7 +17,7 @@ use Rattle.rec_sorts.specs.Names.{first_at}
 use Rattle.rec_sorts.specs.Declaring.{sort_numbers}
 use Rattle.rec_sorts.specs.Scope.{meaning_of, sort_at, arguments_at}
 use Rattle.rec_sorts.specs.Agreeing.{IsScope}
-use Rattle.rec_sorts.specs.Walking.{items_of, unstacked}
+use Rattle.rec_sorts.specs.Walking.{unstacked}
 use Rattle.rec_sorts.specs.GivenTerms.{symbol_alone, symbol_at, is_nameless, is_misfilled, are_misfits, has_misfit, broken_by_nodes}
 use Rattle.rec_sorts.specs.declared.letters.Meaning.{Meaning}
 use Rattle.rec_sorts.specs.declared.letters.Meaning.TheVariants.{Symbol, Variable}

@@ -5,17 +5,18 @@ use Rattle.std.specs.Prelude.{ℕ, ◌≡◌, ◌<◌, ◌||◌, Bool, true, fal
 use Rattle.std.specs.List.{list_any}
 use Rattle.std.specs.Option.{option_and_then}
 use Rattle.std.proofs.lemmas.List.Folds.{list_any-append}
-use Rattle.rx_term.specs.Tree.{Tree, Trees, Int, Appl, Items, Hole, none, more, to_list, list_of}
+use Rattle.rx_term.specs.Tree.{Tree, Trees, Int, Appl, Items, Hole, none, more, to_list, list_of, items_of}
 use Rattle.rx_term.specs.Store.{Store, tree_at, part_at, head_of, tail_of, args_of, anns_of}
 use Rattle.rx_term.specs.Kinds.{HasKind, HasCons, HasAppl, HasAnns}
 use Rattle.rx_term.specs.declared.Term.{Term}
 use Rattle.rx_term.specs.declared.Symbol.{Symbol}
 use Rattle.rx_term.specs.declared.Kind.{Kind}
 use Rattle.rx_term.specs.declared.Kind.TheVariants as kind
+use Rattle.rx_term.specs.Walks.{held_tree, held_trees}
 use Rattle.rec_sorts.specs.TermRules.{nodes, nodes_all, arguments, elements, is_no_application, is_annotated, first_passed}
 use Rattle.rec_sorts.specs.GivenTerms.{is_nameless, is_misfilled, are_misfits, has_misfit, broken_by_nodes}
 use Rattle.rec_sorts.specs.declared.scope.Scope.{Scope}
-use Rattle.rec_sorts.specs.Walking.{held_tree, held_trees, items_of, backwards, backwards_all, unstacked}
+use Rattle.rec_sorts.specs.Walking.{backwards, backwards_all, unstacked}
 
 pub held : (w : Store) (r : Term) (t : Tree) → tree_at w r ≡ Some t → held_tree w r ≡ t
 held w r t e = rw e refl

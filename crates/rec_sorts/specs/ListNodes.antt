@@ -2,8 +2,9 @@
 use Rattle.std.specs.Prelude.{◌≡◌, List, flat_map}
 use Rattle.rx_term.specs.Tree.{Tree, to_list}
 use Rattle.rx_term.specs.Store.{Store}
+use Rattle.rx_term.specs.Walks.{held_trees}
 use Rattle.rec_sorts.specs.TermRules.{arguments}
-use Rattle.rec_sorts.specs.Walking.{held_trees, AreHeld, unstacked}
+use Rattle.rec_sorts.specs.Walking.{AreHeld, unstacked}
 use Rattle.rec_sorts.specs.declared.walk.ListNodes.{ListNodes}
 
 -- they are the nodes of these terms, and those of the terms' arguments

@@ -1,24 +1,12 @@
 -- The trees of references, and the order in which a walk finds the nodes of terms.
-use Rattle.std.specs.Prelude.{List, [], ◌∷◌, ◌++◌, All, IsSome, map, unwrap_or}
-use Rattle.rx_term.specs.Tree.{Tree, Trees, Appl, Items, none, more, list_of}
+use Rattle.std.specs.Prelude.{List, [], ◌∷◌, ◌++◌, All, IsSome}
+use Rattle.rx_term.specs.Tree.{Tree, Trees, Appl, none, more}
 use Rattle.rx_term.specs.Store.{Store, tree_at}
 use Rattle.rx_term.specs.declared.Term.{Term}
-
--- the tree of a reference; the empty list, where there is none
-abbrev pub held_tree : Store → Term → Tree
-held_tree w r = unwrap_or (tree_at w r) (list_of none)
-
-abbrev pub held_trees : Store → List Term → List Tree
-held_trees w rs = map (held_tree w) rs
 
 -- each of these references has a tree
 abbrev pub AreHeld : Store → List Term → Type 0
 AreHeld w rs = All (λ r. IsSome (tree_at w r)) rs
-
--- the items of a list; nothing, where a tree is no list
-abbrev pub items_of : Tree → Trees
-items_of (Items items anns) = items
-items_of t = none
 
 abbrev mutual
   -- the nodes of a term, those of its arguments from right to left, each before its own arguments

@@ -5,13 +5,14 @@ ghost use Rattle.std.specs.Prelude.{is_some, length, map, reverse};
 ghost use Rattle.std.specs.List.{list_any, position_from};
 ghost use Rattle.rx_term.specs.Tree.{Tree, count_of};
 ghost use Rattle.rx_term.specs.Store.{tree_at};
+ghost use Rattle.rx_term.specs.Walks.{held_tree, held_trees};
 ghost use Rattle.rec_sorts.specs.TermRules.{arguments, elements, is_no_application, is_annotated};
 ghost use Rattle.rec_sorts.specs.TermRules.{broken_by_terms, broken_element};
 ghost use Rattle.rec_sorts.specs.TermsFaults.{IsTermsFault};
 ghost use Rattle.rec_sorts.specs.Evaluation.{term_of};
 ghost use Rattle.rec_sorts.specs.Numbering.{Pairwise, AreLetters};
 ghost use Rattle.rec_sorts.specs.Agreeing.{IsScope};
-ghost use Rattle.rec_sorts.specs.Walking.{held_tree, held_trees, AreHeld, backwards};
+ghost use Rattle.rec_sorts.specs.Walking.{AreHeld, backwards};
 
 use crate::checked::Checked;
 use crate::fault::TermsFault;

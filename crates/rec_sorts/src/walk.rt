@@ -1,11 +1,12 @@
 //! Walks over terms of a bank, by a stack of references.
 
 ghost use Rattle.std.specs.Prelude.{◌≡◌, ◌++◌, IsSome, IfOk, OnOk, flat_map};
-ghost use Rattle.rx_term.specs.Tree.{to_list};
+ghost use Rattle.rx_term.specs.Tree.{to_list, items_of};
 ghost use Rattle.rx_term.specs.Store.{tree_at};
+ghost use Rattle.rx_term.specs.Walks.{held_tree, held_trees};
 ghost use Rattle.rec_sorts.specs.TermRules.{arguments};
 ghost use Rattle.rec_sorts.specs.ListNodes.{AreNodes};
-ghost use Rattle.rec_sorts.specs.Walking.{held_tree, held_trees, AreHeld, items_of, unstacked};
+ghost use Rattle.rec_sorts.specs.Walking.{AreHeld, unstacked};
 
 use rx_term::{Kind, Term, TermBank};
 use std::alloc::{AllocError, Global};

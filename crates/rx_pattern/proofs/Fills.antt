@@ -2,18 +2,18 @@
 use Rattle.std.proofs.Common.{ℕ, suc, zero, ◌+◌, ◌-◌, ◌<◌, ◌≤◌, ◌≡◌, Bool, true, false, List, [], ◌∷◌, ◌++◌, Option, Some, None, IsSome, length, map, drop, get_or, refl, sym, ap, ◌∙◌, subst, arith, eq-eqb, inl, inr, ◌⊎◌}
 use Rattle.std.specs.Prelude.{unwrap_or}
 use Rattle.rx_term.specs.Name.{is_allowed}
-use Rattle.rx_term.specs.Tree.{Tree, Trees, none, more, Int, Appl, Items, Hole, is_tree, are_trees}
+use Rattle.rx_term.specs.Tree.{Tree, Trees, none, more, Int, Appl, Items, Hole, is_tree, are_trees, items_of}
 use Rattle.rx_term.specs.Store.{Store, tree_at}
 use Rattle.rx_term.specs.Steps.{Grows}
 use Rattle.rx_term.specs.declared.Term.{Term}
 use Rattle.rx_term.proofs.StoreLemmas.{Grows-refl, Grows-trans}
 use Rattle.rx_term.proofs.TreeLemmas.{both_parts}
+use Rattle.rx_term.specs.Walks.{HaveTrees}
 use Rattle.rx_pattern.specs.Pattern.{Kind, kind_of, is_rest}
 use Rattle.rx_pattern.specs.Filling as filling
-use Rattle.rx_pattern.specs.Filling.{Slot, slots, slots_of_all, slot_of, filled, filled_all, items_of, takes, misfit, made}
+use Rattle.rx_pattern.specs.Filling.{Slot, slots, slots_of_all, slot_of, filled, filled_all, takes, made}
 use Rattle.rx_pattern.specs.Code.{Step, Number, Named, Listing, Holding, End, Item, Rest, code, code_of_all, Piece, One, Several, joined, pieces}
 use Rattle.rx_pattern.specs.Nodes.{step_of, tree_of_nodes, AreNodes}
-use Rattle.rx_pattern.specs.Held.{HaveTrees}
 use Rattle.rx_pattern.specs.Subjects.{OnStack, Stands}
 use Rattle.rx_pattern.specs.Making.{is_slot, takes_as, slots_of_step, slots_of_steps, IsMisfit, HasParts, IsValid}
 use Rattle.rx_pattern.specs.declared.nodes.Node.{Node}

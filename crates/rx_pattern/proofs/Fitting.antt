@@ -4,14 +4,13 @@ use Rattle.std.specs.Prelude.{option_map, is_some}
 use Rattle.rx_term.specs.Tree.{Tree, Trees, none, more, Int, Appl, Items, Hole, annotations}
 use Rattle.rx_term.specs.Store.{Store, tree_at, list_unless_empty}
 use Rattle.rx_term.specs.Kinds.{HasAnns}
-use Rattle.rx_term.specs.Walks.{AllHeld}
+use Rattle.rx_term.specs.Walks.{AllHeld, HaveTrees}
 use Rattle.rx_term.specs.declared.Term.{Term}
 use Rattle.rx_pattern.specs.Pattern.{fits, AnyList}
 use Rattle.rx_pattern.proofs.Stacks.{listed_notes}
 use Rattle.rx_pattern.specs.Filling as filling
 use Rattle.rx_pattern.specs.Filling.{Slot, misfit, takes}
 use Rattle.rx_pattern.specs.Code.{Step, Number, Named, Listing, Holding, End, Item, Rest}
-use Rattle.rx_pattern.specs.Held.{HaveTrees}
 use Rattle.rx_pattern.specs.Making.{is_slot, takes_as, slots_of_step}
 
 -- the first misfit of all slots, by those that are left

@@ -7,8 +7,8 @@ use Rattle.rx_term.specs.Store.{Store, tree_at, list_unless_empty}
 use Rattle.rx_term.specs.Steps.{Grows}
 use Rattle.rx_term.specs.Kinds.{HasAnns}
 use Rattle.rx_term.specs.declared.Term.{Term}
+use Rattle.rx_term.specs.Walks.{HaveTrees}
 use Rattle.rx_pattern.specs.Code.{Piece, One, Several}
-use Rattle.rx_pattern.specs.Held.{HaveTrees}
 use Rattle.rx_pattern.specs.Subjects.{AreEach, OnStack, IsListed, Stands, Adds}
 
 -- what is held has a tree

@@ -5,7 +5,7 @@ use Rattle.std.proofs.lemmas.Bool.Decides.{Decides-eqb}
 use Rattle.rx_term.specs.Tree.{Tree, is_tree}
 use Rattle.rx_term.specs.Store.{Store, tree_at}
 use Rattle.rx_term.specs.Steps.{IsSound}
-use Rattle.rx_term.specs.Walks.{AllHeld}
+use Rattle.rx_term.specs.Walks.{AllHeld, HaveTrees}
 use Rattle.rx_term.specs.declared.Term.{Term}
 use Rattle.rx_term.proofs.TreeLemmas.{both_parts}
 use Rattle.rx_term.proofs.StoreLemmas.{some-value}
@@ -13,7 +13,7 @@ use Rattle.rx_pattern.specs.Pattern.{Unfit, is_pattern, unfit, knows_placeholder
 use Rattle.rx_pattern.specs.Filling as fault
 use Rattle.rx_pattern.specs.Filling.{Slot, slots, misfit, filled, filling}
 use Rattle.rx_pattern.specs.Matching.{matching}
-use Rattle.rx_pattern.specs.Held.{HaveTrees, Binds}
+use Rattle.rx_pattern.specs.Held.{Binds}
 use Rattle.rx_pattern.specs.Subjects.{Answers}
 use Rattle.rx_pattern.specs.Making.{slots_of_steps, IsMisfit}
 use Rattle.rx_pattern.specs.Faults.{IsMakeRefusal}

@@ -16,12 +16,7 @@ abbrev pub make_fault : BankFault → MakeFault
 make_fault bank.Memory = make.Memory
 make_fault bank.Full = make.Full
 
--- a bank that is full has as many cells as it may have
-abbrev pub IsBankRefusal : Store → BankFault → Type 0
-IsBankRefusal w bank.Memory = Unit {0}
-IsBankRefusal w bank.Full = cells w ≡ w.cap
-
--- the same of a match, which refuses for nothing else
+-- a bank that is full has as many cells as it may have; a match refuses for nothing else
 abbrev pub IsMatchRefusal : Store → PatternFault → Type 0
 IsMatchRefusal w pattern.Unknown = ⊥
 IsMatchRefusal w pattern.Annotated = ⊥

@@ -1,14 +1,9 @@
--- References and the trees that a bank keeps at them.
-use Rattle.std.specs.Prelude.{◌≡◌, ◌⊎◌, Bool, true, false, List, [], ◌∷◌, Option, Some, None}
+-- What matches and makes leave in a bank.
+use Rattle.std.specs.Prelude.{◌≡◌, ◌⊎◌, Bool, true, false, List, [], Option, Some, None}
 use Rattle.rx_term.specs.Tree.{Tree, Trees, none, Items, list_of}
 use Rattle.rx_term.specs.Store.{Store, tree_at}
+use Rattle.rx_term.specs.Walks.{HaveTrees}
 use Rattle.rx_term.specs.declared.Term.{Term}
-
--- each reference has the tree at its place
-abbrev pub HaveTrees : Store → List Term → List Tree → Type 0
-HaveTrees w [] [] = Unit {0}
-HaveTrees w (r ∷ rs) (t ∷ ts) = (tree_at w r ≡ Some t) × HaveTrees w rs ts
-HaveTrees w rs ts = ⊥
 
 -- what a match answers: whether there are bindings, and references of them
 abbrev pub Binds : Store → Option (List Tree) → List Term → Bool → Type 0

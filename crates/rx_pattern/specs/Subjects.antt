@@ -8,8 +8,8 @@ use Rattle.std.specs.Ordering.{int_eq}
 use Rattle.rx_term.specs.Tree.{Tree, Trees, Int, Appl, Items, none, more, list_of}
 use Rattle.rx_term.specs.Store.{Store, tree_at}
 use Rattle.rx_term.specs.declared.Term.{Term}
+use Rattle.rx_term.specs.Walks.{HaveTrees}
 use Rattle.rx_pattern.specs.Pattern.{fits}
-use Rattle.rx_pattern.specs.Held.{HaveTrees}
 use Rattle.rx_pattern.specs.Code.{Step, Number, Named, Listing, Holding, End, Item, Rest, Piece, One, Several}
 
 abbrev pub AreEach : {A B : Type 0} → (A → B → Type 0) → List A → List B → Type 0

@@ -5,10 +5,9 @@ ghost use Rattle.std.specs.Prelude.{◌≡◌, ◌<◌, ◌^◌, IsSome, IfOk, I
 ghost use Rattle.rx_term.specs.Tree.{Tree, Trees, none, annotated, annotations, list_of, is_none};
 ghost use Rattle.rx_term.specs.Tree.{count_of};
 ghost use Rattle.rx_term.specs.Store.{tree_at};
-ghost use Rattle.rx_term.specs.Steps.{Grows};
+ghost use Rattle.rx_term.specs.Steps.{Grows, IsBankRefusal};
 ghost use Rattle.rx_pattern.specs.Held.{AddsOnlyLists};
 ghost use Rattle.rx_pattern.specs.Subjects.{IsListed};
-ghost use Rattle.rx_pattern.specs.Faults.{IsBankRefusal};
 
 use rx_term::{BankFault, Kind, Term, TermBank};
 

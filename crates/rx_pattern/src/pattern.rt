@@ -5,11 +5,11 @@ ghost use Rattle.std.specs.Prelude.{IfOk, IfErr, OnErr, IsErrOf, length};
 ghost use Rattle.rx_term.specs.Tree.{Tree};
 ghost use Rattle.rx_term.specs.Store.{tree_at, cells};
 ghost use Rattle.rx_term.specs.Steps.{Grows};
-ghost use Rattle.rx_term.specs.Walks.{AllHeld};
+ghost use Rattle.rx_term.specs.Walks.{AllHeld, HaveTrees};
 ghost use Rattle.rx_pattern.specs.Pattern.{unfit, Unknown, Annotated};
 ghost use Rattle.rx_pattern.specs.Matching.{matching};
 ghost use Rattle.rx_pattern.specs.Filling.{filling, slots, Count, Kinds};
-ghost use Rattle.rx_pattern.specs.Held.{HaveTrees, Binds, AddsOnlyLists};
+ghost use Rattle.rx_pattern.specs.Held.{Binds, AddsOnlyLists};
 ghost use Rattle.rx_pattern.specs.Faults.{IsMatchRefusal, IsOfTerms};
 
 use crate::check::check;

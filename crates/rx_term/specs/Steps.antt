@@ -29,6 +29,11 @@ abbrev pub FaultFits : Store → BankFault → Type 0
 FaultFits w Memory = cells w < w.cap
 FaultFits w Full = cells w ≡ w.cap
 
+-- a bank that is full has as many cells as it may have
+abbrev pub IsBankRefusal : Store → BankFault → Type 0
+IsBankRefusal w Memory = Unit {0}
+IsBankRefusal w Full = cells w ≡ w.cap
+
 -- whether k cells more would pass the limit when a reserve answers this
 abbrev pub ReserveFits : Store → ℕ → BankFault → Type 0
 ReserveFits w k Memory = cells w + k ≤ w.cap

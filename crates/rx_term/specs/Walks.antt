@@ -1,9 +1,23 @@
 -- What those who build and walk trees through a bank promise.
-use Rattle.std.specs.Prelude.{◌≡◌, List, [], ◌∷◌, ◌++◌, Option, Some, None, IsSome}
+use Rattle.std.specs.Prelude.{◌≡◌, List, [], ◌∷◌, ◌++◌, Option, Some, None, IsSome, map, unwrap_or}
 use Rattle.rx_term.specs.Parts.{parts, annotation_parts}
-use Rattle.rx_term.specs.Tree.{Tree, Trees, Items, none, more, annotations}
+use Rattle.rx_term.specs.Tree.{Tree, Trees, Items, none, more, list_of, annotations}
 use Rattle.rx_term.specs.Store.{Store, tree_at}
 use Rattle.rx_term.specs.declared.Term.{Term}
+
+-- the tree of a reference; the empty list, where there is none
+abbrev pub held_tree : Store → Term → Tree
+held_tree w r = unwrap_or (tree_at w r) (list_of none)
+
+-- the same of references, in order
+abbrev pub held_trees : Store → List Term → List Tree
+held_trees w rs = map (held_tree w) rs
+
+-- each reference has the tree at its place
+abbrev pub HaveTrees : Store → List Term → List Tree → Type 0
+HaveTrees w [] [] = Unit {0}
+HaveTrees w (r ∷ rs) (t ∷ ts) = (tree_at w r ≡ Some t) × HaveTrees w rs ts
+HaveTrees w rs ts = ⊥
 
 -- the trees of these references, in order
 abbrev pub TreesAt : Store → List Term → Trees → Type 0

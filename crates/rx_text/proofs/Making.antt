@@ -10,13 +10,14 @@ use Rattle.rx_term.specs.declared.Term.{Term}
 use Rattle.rx_term.specs.declared.Symbol.{Symbol}
 use Rattle.std.proofs.Math.Seq.{drop-cons}
 use Rattle.std.specs.List.{AllByRecursion}
+use Rattle.rx_term.specs.Walks.{HaveTrees}
 use Rattle.rx_text.specs.Machine.{onto}
 use Rattle.rx_text.specs.Nodes.{taken, newest, top, rest, needed, joined, trees_of, Enough}
 use Rattle.rx_text.specs.Reader.{node_of, made_of, IsNode}
 use Rattle.rx_text.specs.Answer.{AreNodesOf}
 use Rattle.rx_text.specs.declared.nodes.Node.{Node}
 use Rattle.rx_text.specs.declared.nodes.Node.TheVariants as node
-use Rattle.rx_text.specs.Held.{HaveTrees, Holds}
+use Rattle.rx_text.specs.Held.{Holds}
 use Rattle.rx_text.proofs.Stepping.{in_word}
 
 -- ---- trees of references

@@ -3,7 +3,7 @@ use Rattle.std.specs.Prelude.{◌≡◌, ℕ, ◌+◌, ◌<◌, List, [], ◌∷
 use Rattle.std.specs.List.{AllByRecursion}
 use Rattle.std.specs.Fmt.{signed_decimal}
 use Rattle.std.specs.Io.KnownBytes.{Appends}
-use Rattle.rx_term.specs.Tree.{Tree, Trees, none, more, Int, Appl, Items, Hole, annotations}
+use Rattle.rx_term.specs.Tree.{Tree, Trees, none, more, Int, Appl, Items, Hole, annotations, items_of}
 use Rattle.rx_term.specs.Store.{Store, tree_at}
 use Rattle.rx_text.specs.Canon.{canon, canon_all, canon_others, enclosed, name_text, no_arguments}
 use Rattle.rx_text.specs.declared.writer.Job.{Job}
@@ -13,12 +13,7 @@ use Rattle.rx_text.specs.declared.writer.Job.TheVariants as job
 abbrev pub notes_text : Trees → List ℕ
 notes_text anns = enclosed 123 anns (canon_all anns) 125 []
 
--- a tree's own items, where it is a list
-abbrev pub items_of : Tree → Trees
-items_of (Items items anns) = items
-items_of t = none
-
--- the same of the tree of a reference
+-- what a reference's tree gives; x, where it has none
 abbrev pub seen : {X : Type 0} → X → (Tree → X) → Option Tree → X
 seen x of None = x
 seen x of (Some t) = of t

@@ -3,12 +3,12 @@
 ghost use Rattle.std.specs.Prelude.{◌≡◌, ◌≤◌, ◌++◌, ◌∷◌, [], List, length, drop, Some, IfOk, IfErr};
 ghost use Rattle.rx_term.specs.Tree.{Tree, list_of};
 ghost use Rattle.rx_term.specs.Store.{tree_at, signature_of};
-ghost use Rattle.rx_term.specs.Steps.{Grows};
+ghost use Rattle.rx_term.specs.Steps.{Grows, IsBankRefusal};
 ghost use Rattle.rx_text.specs.Lexemes.{name_of, IsWord};
 ghost use Rattle.rx_text.specs.Nodes.{newest, needed, joined};
 ghost use Rattle.rx_text.specs.Reader.{node_of, IsNode};
 ghost use Rattle.rx_text.specs.Answer.{AreNodesOf};
-ghost use Rattle.rx_text.specs.Held.{Holds, IsBankRefusal, IsRefusal};
+ghost use Rattle.rx_text.specs.Held.{Holds, IsRefusal};
 
 use crate::faults::TextFault;
 use crate::nodes::{Node, Word};

@@ -2,12 +2,12 @@
 use Rattle.std.proofs.Common.{◌≡◌, Bool, true, false, List, [], ◌∷◌, Option, Some, None, Ok, IsSome, refl}
 use Rattle.rx_term.specs.Tree.{Tree}
 use Rattle.rx_term.specs.Store.{Store, tree_at}
-use Rattle.rx_term.specs.Walks.{AllHeld}
+use Rattle.rx_term.specs.Walks.{AllHeld, HaveTrees}
 use Rattle.rx_term.specs.declared.Term.{Term}
 use Rattle.rx_term.proofs.StoreLemmas.{some-value}
 use Rattle.rx_pattern.specs.Matching.{matching}
 use Rattle.rx_pattern.specs.Filling.{filling}
-use Rattle.rx_pattern.specs.Held.{HaveTrees, Binds}
+use Rattle.rx_pattern.specs.Held.{Binds}
 use Rattle.uses.specs.Step.{IsStep}
 
 -- a match that was found has bindings

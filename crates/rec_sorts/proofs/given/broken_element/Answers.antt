@@ -1,7 +1,7 @@
 use Rattle.std.proofs.Common.{◌∙◌, ◌++◌, sym, ap, subst}
-use Rattle.rx_term.specs.Tree.{to_list}
+use Rattle.rx_term.specs.Tree.{to_list, items_of}
+use Rattle.rx_term.specs.Walks.{held_tree, held_trees}
 use Rattle.rec_sorts.specs.Agreeing.{IsScope}
-use Rattle.rec_sorts.specs.Walking.{held_tree, held_trees, items_of}
 use Rattle.rec_sorts.proofs.FirstBroken.{element-found}
 use Rattle.rec_sorts.proofs.given.broken_element.Goals as goal
 

@@ -1,6 +1,6 @@
 use Rattle.std.proofs.Common.{◌∙◌, sym, ap, subst}
+use Rattle.rx_term.specs.Walks.{held_tree, held_trees}
 use Rattle.rec_sorts.specs.Agreeing.{IsScope}
-use Rattle.rec_sorts.specs.Walking.{held_tree, held_trees}
 use Rattle.rec_sorts.proofs.GivenRules.{broken-list}
 use Rattle.rec_sorts.proofs.given.broken_rule.Goals as goal
 

@@ -1,6 +1,7 @@
 use Rattle.std.proofs.Common.{◌≡◌, map, take}
 use Rattle.std.specs.Prelude.{reverse}
-use Rattle.rec_sorts.specs.Walking.{held_tree, backwards}
+use Rattle.rx_term.specs.Walks.{held_tree}
+use Rattle.rec_sorts.specs.Walking.{backwards}
 use Rattle.rec_sorts.specs.GivenTerms.{node_letter}
 use Rattle.rec_sorts.proofs.given.term_letters.Given as goal
 

@@ -1,7 +1,8 @@
 use Rattle.std.proofs.Common.{◌≡◌, take, flat_map}
 use Rattle.rx_term.specs.Tree.{to_list}
+use Rattle.rx_term.specs.Walks.{held_trees}
 use Rattle.rec_sorts.specs.TermRules.{arguments}
-use Rattle.rec_sorts.specs.Walking.{held_trees, AreHeld}
+use Rattle.rec_sorts.specs.Walking.{AreHeld}
 use Rattle.rec_sorts.proofs.walk.arguments.Given as goal
 
 abbrev pub invariant-loop-term : goal.invariant-loop-term

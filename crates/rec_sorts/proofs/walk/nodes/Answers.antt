@@ -3,7 +3,8 @@ use Rattle.std.proofs.lemmas.List.Elements.{All-push, All-pop, All-same}
 use Rattle.std.specs.Prelude.{Some}
 use Rattle.rx_term.specs.Store.{tree_at}
 use Rattle.rx_term.specs.declared.Term.{Term}
-use Rattle.rec_sorts.specs.Walking.{held_trees, unstacked}
+use Rattle.rx_term.specs.Walks.{held_trees}
+use Rattle.rec_sorts.specs.Walking.{unstacked}
 use Rattle.rec_sorts.proofs.Walked.{node_turn, node_less, found_turn}
 use Rattle.rec_sorts.proofs.walk.nodes.Goals as goal
 

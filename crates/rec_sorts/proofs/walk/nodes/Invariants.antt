@@ -1,5 +1,6 @@
 use Rattle.std.proofs.Common.{◌≡◌, ◌++◌, length}
-use Rattle.rec_sorts.specs.Walking.{held_trees, AreHeld, unstacked}
+use Rattle.rx_term.specs.Walks.{held_trees}
+use Rattle.rec_sorts.specs.Walking.{AreHeld, unstacked}
 use Rattle.rec_sorts.proofs.walk.nodes.Given as goal
 
 abbrev pub invariant-loop-node : goal.invariant-loop-node

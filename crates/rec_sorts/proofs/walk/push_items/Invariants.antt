@@ -1,7 +1,8 @@
 use Rattle.std.proofs.Common.{◌≡◌, ◌++◌, IsSome}
-use Rattle.rx_term.specs.Tree.{to_list, count_of}
+use Rattle.rx_term.specs.Tree.{to_list, count_of, items_of}
 use Rattle.rx_term.specs.Store.{tree_at}
-use Rattle.rec_sorts.specs.Walking.{held_tree, held_trees, AreHeld, items_of}
+use Rattle.rx_term.specs.Walks.{held_tree, held_trees}
+use Rattle.rec_sorts.specs.Walking.{AreHeld}
 use Rattle.rec_sorts.proofs.walk.push_items.Given as goal
 
 abbrev pub invariant-loop-stack : goal.invariant-loop-stack

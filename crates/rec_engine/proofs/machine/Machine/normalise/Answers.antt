@@ -1,9 +1,9 @@
 use Rattle.std.proofs.Common.{◌∙◌, [], subst, ap, sym, refl, drop, is_some}
 use Rattle.rec_sorts.specs.Evaluation.{term_of}
-use Rattle.rec_sorts.specs.Walking.{held_tree}
 use Rattle.rec_engine.specs.Answered.{IsTermCode, IsAnswer, StandsAbove}
 use Rattle.rec_sorts.proofs.Walked.{held}
 use Rattle.rx_term.proofs.KeepLemmas.{kept-work}
+use Rattle.rx_term.specs.Walks.{held_tree}
 use Rattle.rec_engine.specs.Machine.{AreConstants}
 use Rattle.rec_engine.proofs.Ends.{in-here}
 use Rattle.rec_engine.proofs.StayLemmas.{ready-next}

@@ -1,6 +1,7 @@
 use Rattle.std.proofs.Common.{sym, ap, subst, rules, ◌∙◌, ◌≡◌, ◌++◌, Some, None}
 use Rattle.rx_term.specs.Tree.{to_list}
-use Rattle.rec_match.specs.Held.{AllHeld, trees}
+use Rattle.rx_term.specs.Walks.{held_trees}
+use Rattle.rec_match.specs.Held.{AllHeld}
 use Rattle.rec_match.specs.Matching.{CanFind, FindsFor}
 use Rattle.rec_sorts.specs.Linked.{NumberOf}
 use Rattle.rec_match.proofs.OpenLemmas.{bare-of}
@@ -49,7 +50,7 @@ find-requires-clause-can g c =
     let m = c.args.self.now in
     let h = c.in-Appl.ensures in
     let pushed = c.in_ok-push_arguments.ensures h.args (argument_list w c.args.u c.args-2.result c.in-Appl.symbol h c.args-2.ensures) (search rules) in
-    let are : trees w c.push_arguments.new.registers.items ≡ to_list h.args = pushed.1 ∙ ap (λ xs. trees w xs ++ to_list h.args) c.new-arguments.ensures.items in
+    let are : held_trees w c.push_arguments.new.registers.items ≡ to_list h.args = pushed.1 ∙ ap (λ xs. held_trees w xs ++ to_list h.args) c.new-arguments.ensures.items in
     let call = is-call c.requires.ready.spec w m c.requires.ready.ready c.args.u c.in-Appl.symbol c.in-Some.number h c.in-Some.ensures (bare-of w c.args.u c.anns.result c.anns.ensures (sym c.is_some.ensures ∙ c.if-is_some.false)) in
     subst (CanFind w m c.first_from-at.result) (sym c.deref.ensures.value) (can-find-there w m c.requires.ready c.args.u c.in-Some.number c.args.from c.first_from-at.result h.args call c.first_from-at.ensures c.push_arguments.new.registers.items are)
 
@@ -60,7 +61,7 @@ returns-in_default-2-clause-answers g c = λ y ready. (
       let m = c.args.self.now in
       let h = c.in-Appl.ensures in
       let pushed = c.in_ok-push_arguments.ensures h.args (argument_list w c.args.u c.args-2.result c.in-Appl.symbol h c.args-2.ensures) (search rules) in
-      let are : trees w c.push_arguments.new.registers.items ≡ to_list h.args = pushed.1 ∙ ap (λ xs. trees w xs ++ to_list h.args) c.new-arguments.ensures.items in
+      let are : held_trees w c.push_arguments.new.registers.items ≡ to_list h.args = pushed.1 ∙ ap (λ xs. held_trees w xs ++ to_list h.args) c.new-arguments.ensures.items in
       let call = is-call y w m ready c.args.u c.in-Appl.symbol c.in-Some.number h c.in-Some.ensures (bare-of w c.args.u c.anns.result c.anns.ensures (sym c.is_some.ensures ∙ c.if-is_some.false)) in
       answer-none y w m ready c.args.u c.in-Some.number c.args.from c.first_from-at.result h.args call c.first_from-at.ensures c.push_arguments.new.registers.items are c.find.new.bind.items
       (subst (λ xs. FindsFor w m c.first_from-at.result xs c.find.new.bind.items None) c.deref.ensures.value (subst (FindsFor w m c.first_from-at.result c.deref.result.now c.find.new.bind.items) c.in_default-2.is c.in_ok-rule.ensures))
@@ -74,7 +75,7 @@ returns-clause-answers g c = λ y ready.
     let m = c.args.self.now in
     let h = c.in-Appl.ensures in
     let pushed = c.in_ok-push_arguments.ensures h.args (argument_list w c.args.u c.args-2.result c.in-Appl.symbol h c.args-2.ensures) (search rules) in
-    let are : trees w c.push_arguments.new.registers.items ≡ to_list h.args = pushed.1 ∙ ap (λ xs. trees w xs ++ to_list h.args) c.new-arguments.ensures.items in
+    let are : held_trees w c.push_arguments.new.registers.items ≡ to_list h.args = pushed.1 ∙ ap (λ xs. held_trees w xs ++ to_list h.args) c.new-arguments.ensures.items in
     let call = is-call y w m ready c.args.u c.in-Appl.symbol c.in-Some.number h c.in-Some.ensures (bare-of w c.args.u c.anns.result c.anns.ensures (sym c.is_some.ensures ∙ c.if-is_some.false)) in
     let finds = subst (λ xs. FindsFor w m c.first_from-at.result xs c.find.new.bind.items (Some c.in-Some-2.rule)) c.deref.ensures.value (subst (FindsFor w m c.first_from-at.result c.deref.result.now c.find.new.bind.items) c.in-Some-2.is c.in_ok-rule.ensures) in
     answer-some y w m ready c.args.u c.in-Some.number c.args.from c.first_from-at.result h.args call c.first_from-at.ensures c.push_arguments.new.registers.items are c.extend_from_slice.new.self.items c.find.new.bind.items c.in-Some-2.rule finds

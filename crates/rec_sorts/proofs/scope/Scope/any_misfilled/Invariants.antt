@@ -1,7 +1,7 @@
 use Rattle.std.proofs.Common.{◌≡◌, false, take}
 use Rattle.std.specs.List.{list_any}
+use Rattle.rx_term.specs.Walks.{held_tree}
 use Rattle.rec_sorts.specs.GivenTerms.{is_misfilled}
-use Rattle.rec_sorts.specs.Walking.{held_tree}
 use Rattle.rec_sorts.proofs.scope.Scope.any_misfilled.Given as goal
 
 abbrev pub invariant-loop-node : goal.invariant-loop-node

@@ -1,5 +1,5 @@
 use Rattle.std.proofs.Common.{◌≡◌, map, take}
-use Rattle.rec_sorts.specs.Walking.{held_tree}
+use Rattle.rx_term.specs.Walks.{held_tree}
 use Rattle.rec_sorts.specs.GivenTerms.{node_letter}
 use Rattle.rec_sorts.proofs.scope.Scope.letters_of.Given as goal
 
