@@ -24,6 +24,7 @@ use std::process::ExitCode;
 /// How many cells the banks may have.
 const CELLS: u32 = 4096;
 
+/// The program as it is started.
 fn main(rt: HostRuntime) -> ExitCode {
     match try_row(&rt) {
         Ok(()) => ExitCode::SUCCESS,

@@ -120,7 +120,7 @@ impl Checked {
     }
 }
 
-// The name of a declaration.
+/// The name of a declaration.
 fn name_in<'a>(source: &'a [u8], declarations: &[Declaration], number: usize) -> &'a [u8]
     requires within { All (IsDeclaration source.now) declarations.now }
     requires number { number < length declarations.now }
@@ -131,8 +131,8 @@ fn name_in<'a>(source: &'a [u8], declarations: &[Declaration], number: usize) ->
     &source[name.from..name.to]
 }
 
-// The least place at which each rule is broken, in their order, and the letters of the rules and
-// terms.
+/// The least place at which each rule is broken, in their order, and the letters of the rules and
+/// terms.
 #[derive(Drop)]
 struct Examined {
     places: [Option<u32>; 11],
@@ -144,7 +144,7 @@ struct Examined {
     terms: Vec<Vec<Letter>>,
 }
 
-// How many items each of some vectors has.
+/// How many items each of some vectors has.
 fn lengths(alloc: Global, vectors: &[Vec<Option<u32>>]) -> Result<Vec<u32>, AllocError>
     ensures { IfOk result (λ v. v.items ≡ map (λ sorts. length sorts.items) vectors.now) }
 {
@@ -155,7 +155,7 @@ fn lengths(alloc: Global, vectors: &[Vec<Option<u32>>]) -> Result<Vec<u32>, Allo
     Ok(lengths)
 }
 
-// The rules are asked all of them, and the words numbered.
+/// The rules are asked all of them, and the words numbered.
 fn examine(alloc: Global, syntax: &Syntax) -> Result<Examined, AllocError>
     ensures first { IfOk result (λ e. first_place 1 e.places ≡ fault syntax.now.spec) }
     ensures constructors { IfOk result (λ e. e.constructors ≡ length syntax.now.spec.constructors) }
@@ -199,7 +199,7 @@ fn examine(alloc: Global, syntax: &Syntax) -> Result<Examined, AllocError>
     })
 }
 
-// The first rule that is broken, where the places are those of the rules in their order.
+/// The first rule that is broken, where the places are those of the rules in their order.
 fn first_broken(places: &[Option<u32>; 11]) -> Result<(), SortFault>
     ensures kept { OnOk result (first_place 1 places.now ≡ None) }
     ensures broken { IfErr result (IsFault (first_place 1 places.now)) }

@@ -54,7 +54,7 @@ pub fn number_words<'a>(
 impl<'a> Sorts<'a> {
     ghost use Rattle.rec_sorts.specs.Declaring.{sort_numbers, unnumbered, least_unnumbered};
 
-    // The number of a sort, and the place of the word where there is none.
+    /// The number of a sort, and the place of the word where there is none.
     fn find(&self, word: Span) -> Result<(Option<u32>, Option<u32>), AllocError>
         requires { Within self.now.source.now word }
         ensures sort { IfOk result
@@ -67,7 +67,7 @@ impl<'a> Sorts<'a> {
         Ok((sort, place_where(sort.is_none(), at)))
     }
 
-    // The numbers of some sorts, and the least place of one that has none.
+    /// The numbers of some sorts, and the least place of one that has none.
     fn find_all(
         &self,
         alloc: Global,
@@ -109,7 +109,7 @@ impl Declared {
         }
     }
 
-    // A symbol.
+    /// A symbol.
     fn symbol(
         &mut self,
         alloc: Global,
@@ -148,7 +148,7 @@ impl Declared {
         Ok(())
     }
 
-    // Variables of one sort.
+    /// Variables of one sort.
     fn group(&mut self, sorts: &Sorts, group: &Group) -> Result<(), AllocError>
         requires { IsGroup sorts.now.source.now group.now }
         ensures { OnOk result (Adds sorts.now.source.now (given_to sorts.now.names) self.old

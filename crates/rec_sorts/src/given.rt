@@ -24,7 +24,7 @@ use rec_syntax::Syntax;
 use rx_term::{Kind, Term, TermBank, plain_name};
 use std::alloc::{AllocError, Global};
 
-// What a specification declares.
+/// What a specification declares.
 fn scope_of(alloc: Global, syntax: &Syntax) -> Result<Scope<'_>, AllocError>
     ensures { IfOk result (IsScope syntax.now.spec) }
 {
@@ -33,7 +33,7 @@ fn scope_of(alloc: Global, syntax: &Syntax) -> Result<Scope<'_>, AllocError>
     Ok(declared.scope)
 }
 
-// Whether a term is a list without annotations.
+/// Whether a term is a list without annotations.
 fn is_plain_list<B: TermBank>(bank: &B, term: Term) -> bool
     requires { IsSome (tree_at (B.store bank.now) term) }
     ensures { result ≡ is_some (elements (held_tree (B.store bank.now) term)) }
@@ -44,7 +44,7 @@ fn is_plain_list<B: TermBank>(bank: &B, term: Term) -> bool
     }
 }
 
-// Whether some of these nodes is no application.
+/// Whether some of these nodes is no application.
 fn any_no_application<B: TermBank>(bank: &B, nodes: &[Term]) -> bool
     requires { AreHeld (B.store bank.now) nodes.now }
     ensures { result ≡ list_any
@@ -58,7 +58,7 @@ fn any_no_application<B: TermBank>(bank: &B, nodes: &[Term]) -> bool
     false
 }
 
-// Whether some of these nodes has annotations.
+/// Whether some of these nodes has annotations.
 fn any_annotated<B: TermBank>(bank: &B, nodes: &[Term]) -> bool
     requires { AreHeld (B.store bank.now) nodes.now }
     ensures { result ≡ list_any (λ r. is_annotated (held_tree (B.store bank.now) r)) nodes.now }
@@ -71,7 +71,7 @@ fn any_annotated<B: TermBank>(bank: &B, nodes: &[Term]) -> bool
     false
 }
 
-// How many arguments a node has.
+/// How many arguments a node has.
 fn argument_count<B: TermBank>(bank: &B, node: Term) -> u32
     requires { IsSome (tree_at (B.store bank.now) node) }
     ensures { result ≡ count_of (arguments (held_tree (B.store bank.now) node)) }
@@ -87,7 +87,7 @@ impl Scope<'_> {
     ghost use Rattle.rec_sorts.specs.GivenTerms.{has_misfit, node_letter, broken_by_nodes};
     ghost use Rattle.rec_sorts.specs.GivenTerms.{is_broken_alone};
 
-    // The symbol that a node stands for: one of its name, which stands unquoted where it may.
+    /// The symbol that a node stands for: one of its name, which stands unquoted where it may.
     fn symbol<B: TermBank>(&self, bank: &B, node: Term) -> Option<Meaning>
         requires { IsSome (tree_at (B.store bank.now) node) }
         ensures { result ≡ symbol_at self.now (held_tree (B.store bank.now) node) }
@@ -105,7 +105,7 @@ impl Scope<'_> {
         }
     }
 
-    // Whether some of these nodes stands for no symbol.
+    /// Whether some of these nodes stands for no symbol.
     fn any_nameless<B: TermBank>(&self, bank: &B, nodes: &[Term]) -> bool
         requires { AreHeld (B.store bank.now) nodes.now }
         ensures { result ≡ list_any
@@ -119,7 +119,7 @@ impl Scope<'_> {
         false
     }
 
-    // Whether a node has another number of arguments than its symbol is declared with.
+    /// Whether a node has another number of arguments than its symbol is declared with.
     fn is_misfilled<B: TermBank>(&self, bank: &B, node: Term) -> bool
         requires { IsSome (tree_at (B.store bank.now) node) }
         ensures { result ≡ is_misfilled self.now (held_tree (B.store bank.now) node) }
@@ -129,7 +129,7 @@ impl Scope<'_> {
         symbol.is_some() && count as usize != self.arguments(symbol).len()
     }
 
-    // Whether some of these nodes has.
+    /// Whether some of these nodes has.
     fn any_misfilled<B: TermBank>(&self, bank: &B, nodes: &[Term]) -> bool
         requires { AreHeld (B.store bank.now) nodes.now }
         ensures { result ≡ list_any
@@ -143,7 +143,7 @@ impl Scope<'_> {
         false
     }
 
-    // Whether an argument of a node has another sort than declared for its place.
+    /// Whether an argument of a node has another sort than declared for its place.
     fn has_misfit<B: TermBank>(&self, bank: &B, node: Term) -> bool
         requires { IsSome (tree_at (B.store bank.now) node) }
         ensures { result ≡ has_misfit self.now (held_tree (B.store bank.now) node) }
@@ -164,7 +164,7 @@ impl Scope<'_> {
         false
     }
 
-    // Whether some of these nodes has such an argument.
+    /// Whether some of these nodes has such an argument.
     fn any_misfit<B: TermBank>(&self, bank: &B, nodes: &[Term]) -> bool
         requires { AreHeld (B.store bank.now) nodes.now }
         ensures { result ≡ list_any
@@ -178,7 +178,7 @@ impl Scope<'_> {
         false
     }
 
-    // The letter of a node that stands for a symbol.
+    /// The letter of a node that stands for a symbol.
     fn node_letter<B: TermBank>(&self, bank: &B, node: Term) -> Letter
         requires { IsSome (tree_at (B.store bank.now) node) }
         ensures { result ≡ node_letter self.now (held_tree (B.store bank.now) node) }
@@ -189,7 +189,7 @@ impl Scope<'_> {
         }
     }
 
-    // The letters of a term.
+    /// The letters of a term.
     fn letters_of<B: TermBank>(
         &self,
         alloc: Global,
@@ -211,8 +211,8 @@ impl Scope<'_> {
         Ok(letters)
     }
 
-    // The first of the rules 2 to 6 that some nodes break, of which the inner ones may not have
-    // annotations.
+    /// The first of the rules 2 to 6 that some nodes break, of which the inner ones may not have
+    /// annotations.
     fn first_broken<B: TermBank>(&self, bank: &B, all: &[Term], inner: &[Term]) -> Option<u8>
         requires all { AreHeld (B.store bank.now) all.now }
         requires inner { AreHeld (B.store bank.now) inner.now }
@@ -234,7 +234,7 @@ impl Scope<'_> {
         }
     }
 
-    // Whether a given term breaks this one of the rules 2 to 6 first, where it is given alone.
+    /// Whether a given term breaks this one of the rules 2 to 6 first, where it is given alone.
     fn breaks_alone<B: TermBank>(
         &self,
         alloc: Global,
@@ -252,7 +252,7 @@ impl Scope<'_> {
         Ok(self.first_broken(bank, &found.all, &found.inner) == Some(number))
     }
 
-    // The first given term that breaks this rule alone, by how many stand before it.
+    /// The first given term that breaks this rule alone, by how many stand before it.
     fn first_breaking<B: TermBank>(
         &self,
         alloc: Global,
@@ -273,7 +273,7 @@ impl Scope<'_> {
     }
 }
 
-// The first of the six rules that a list of given terms breaks.
+/// The first of the six rules that a list of given terms breaks.
 fn broken_rule<B: TermBank>(
     alloc: Global,
     checked: &Checked,

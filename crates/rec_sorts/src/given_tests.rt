@@ -17,7 +17,7 @@ const Q: &[u8] =
 const ADD: &[u8] =
     b"REC-SPEC Add SORTS Nat CONS z : -> Nat s : Nat -> Nat OPNS plus : Nat Nat -> Nat VARS X Y : Nat RULES plus(z,Y) -> Y plus(s(X),Y) -> s(plus(X,Y)) EVAL plus(s(s(z)),s(z)) END-SPEC";
 
-// A constant whose name is quoted in terms, and an operator with arguments of two sorts.
+/// A constant whose name is quoted in terms, and an operator with arguments of two sorts.
 const TWO: &[u8] =
     b"REC-SPEC Two SORTS A B CONS 0 : -> A b : -> B OPNS g : A B -> A EVAL 0 END-SPEC";
 
@@ -25,7 +25,7 @@ fn specification(alloc: Global, text: &[u8]) -> Result<Checked, Fail> {
     Ok(check(alloc, read_spec(alloc, text)?)?)
 }
 
-// The number of the rule that terms break, in this bank.
+/// The number of the rule that terms break, in this bank.
 fn broken_in<B: TermBank>(
     alloc: Global,
     checked: &Checked,
@@ -40,19 +40,19 @@ fn broken_in<B: TermBank>(
     }
 }
 
-// The number of the rule that terms break.
+/// The number of the rule that terms break.
 fn broken_by(alloc: Global, checked: &Checked, terms: &[u8]) -> Result<Option<u8>, Fail> {
     let mut bank = PlainBank::new(alloc, 10_000)?;
     broken_in(alloc, checked, &mut bank, terms)
 }
 
-// The same of the terms beside the text of a specification.
+/// The same of the terms beside the text of a specification.
 fn broken(alloc: Global, specified: &[u8], terms: &[u8]) -> Result<Option<u8>, Fail> {
     let checked = specification(alloc, specified)?;
     broken_by(alloc, &checked, terms)
 }
 
-// How many terms stand before the first that alone breaks the rule that they break, in this bank.
+/// How many terms stand before the first that alone breaks the rule that they break, in this bank.
 fn first_broken_in<B: TermBank>(
     alloc: Global,
     checked: &Checked,
@@ -63,19 +63,19 @@ fn first_broken_in<B: TermBank>(
     Ok(broken_element(alloc, checked, bank, list)?)
 }
 
-// How many terms stand before the first that alone breaks the rule that they break.
+/// How many terms stand before the first that alone breaks the rule that they break.
 fn first_broken_by(alloc: Global, checked: &Checked, terms: &[u8]) -> Result<Option<usize>, Fail> {
     let mut bank = PlainBank::new(alloc, 1000)?;
     first_broken_in(alloc, checked, &mut bank, terms)
 }
 
-// The same of the terms beside the text of a specification.
+/// The same of the terms beside the text of a specification.
 fn first_broken(alloc: Global, specified: &[u8], terms: &[u8]) -> Result<Option<usize>, Fail> {
     let checked = specification(alloc, specified)?;
     first_broken_by(alloc, &checked, terms)
 }
 
-// The letters of terms, in this bank.
+/// The letters of terms, in this bank.
 fn letters_in<B: TermBank>(
     alloc: Global,
     checked: &Checked,
@@ -87,13 +87,13 @@ fn letters_in<B: TermBank>(
     Ok(term_letters(alloc, checked, bank, list)?)
 }
 
-// The letters of terms.
+/// The letters of terms.
 fn letters_by(alloc: Global, checked: &Checked, terms: &[u8]) -> Result<Vec<Vec<Letter>>, Fail> {
     let mut bank = PlainBank::new(alloc, 1000)?;
     letters_in(alloc, checked, &mut bank, terms)
 }
 
-// The same of the terms beside the text of a specification.
+/// The same of the terms beside the text of a specification.
 fn letters(alloc: Global, specified: &[u8], terms: &[u8]) -> Result<Vec<Vec<Letter>>, Fail> {
     let checked = specification(alloc, specified)?;
     letters_by(alloc, &checked, terms)
@@ -106,7 +106,7 @@ fn symbol(number: u32, count: u32) -> Letter {
     }
 }
 
-// A list of one term, `f` of `f` of and so on.
+/// A list of one term, `f` of `f` of and so on.
 fn nested(alloc: Global, depth: u32) -> Result<Vec<u8>, AllocError> {
     let mut bytes = Vec::new(alloc);
     bytes.push(b'[')?;
@@ -121,7 +121,7 @@ fn nested(alloc: Global, depth: u32) -> Result<Vec<u8>, AllocError> {
     Ok(bytes)
 }
 
-// Whether terms break the rule that their row has.
+/// Whether terms break the rule that their row has.
 fn check_rows(
     rt: &impl Abort,
     alloc: Global,
@@ -133,7 +133,7 @@ fn check_rows(
     Ok(())
 }
 
-// Whether so many terms as their row has stand before the first that is broken.
+/// Whether so many terms as their row has stand before the first that is broken.
 fn check_first(
     rt: &impl Abort,
     alloc: Global,

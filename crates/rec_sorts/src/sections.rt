@@ -22,7 +22,7 @@ pub struct Read<T> {
     pub places: TermPlaces,
 }
 
-// The variables among some letters.
+/// The variables among some letters.
 fn variables(alloc: Global, letters: &[Placed]) -> Result<HashSet<u32>, AllocError>
     ensures { IfOk result (λ set. (v : ℕ) → contains nat_eq set v ≡ binds_variable letters.now v) }
 {
@@ -35,7 +35,7 @@ fn variables(alloc: Global, letters: &[Placed]) -> Result<HashSet<u32>, AllocErr
     Ok(variables)
 }
 
-// Whether a word is a variable that is not bound.
+/// Whether a word is a variable that is not bound.
 fn is_unbound(meaning: Option<Meaning>, bound: &HashSet<u32>) -> bool
     ensures { result ≡ is_unbound (contains nat_eq bound.now) meaning }
 {
@@ -45,7 +45,7 @@ fn is_unbound(meaning: Option<Meaning>, bound: &HashSet<u32>) -> bool
     }
 }
 
-// The least place of a variable that is not bound.
+/// The least place of a variable that is not bound.
 fn unbound(letters: &[Placed], bound: &HashSet<u32>) -> Option<u32>
     ensures { result ≡ unbound_among (contains nat_eq bound.now) letters.now }
 {
@@ -59,14 +59,14 @@ fn unbound(letters: &[Placed], bound: &HashSet<u32>) -> Option<u32>
     least
 }
 
-// Whether a word is a variable.
+/// Whether a word is a variable.
 fn is_variable(meaning: Option<Meaning>) -> bool
     ensures { result ≡ is_unbound (λ _. false) meaning }
 {
     matches!(meaning, Some(Meaning::Variable(_)))
 }
 
-// The least place of a variable.
+/// The least place of a variable.
 fn first_variable(letters: &[Placed]) -> Option<u32>
     ensures { result ≡ unbound_among (λ _. false) letters.now }
 {
@@ -83,7 +83,7 @@ impl Scope<'_> {
     ghost use Rattle.rec_sorts.specs.Reading.{open_terms_places, SpellsTerm, SpellsCondition};
     ghost use Rattle.rec_sorts.specs.Reading.{SpellsRule};
 
-    // The place of a term's first word, where this is no operator.
+    /// The place of a term's first word, where this is no operator.
     fn ill_headed(&self, letters: &[Placed]) -> Option<u32>
         ensures { result ≡ ill_headed_at self.now letters.now }
     {
@@ -91,7 +91,7 @@ impl Scope<'_> {
         place_where(!self.is_operator(head.meaning), head.at)
     }
 
-    // The place of the left one of two terms, where their sorts differ.
+    /// The place of the left one of two terms, where their sorts differ.
     fn unlike(&self, left: &[Placed], right: &[Placed]) -> Option<u32>
         ensures { result ≡ unlike_at self.now left.now right.now }
     {
@@ -101,7 +101,7 @@ impl Scope<'_> {
         place_where(!alike, left.at)
     }
 
-    // A condition of a rule that binds these variables.
+    /// A condition of a rule that binds these variables.
     fn condition(
         &self,
         alloc: Global,
@@ -134,7 +134,7 @@ impl Scope<'_> {
         })
     }
 
-    // The conditions of such a rule.
+    /// The conditions of such a rule.
     fn conditions(
         &self,
         alloc: Global,
@@ -157,7 +157,7 @@ impl Scope<'_> {
         Ok(Read { letters, places })
     }
 
-    // A rule.
+    /// A rule.
     fn rule(&self, alloc: Global, rule: &Rule) -> Result<Read<LetterRule>, AllocError>
         requires { IsRule self.now.source.now rule.now }
         ensures letters { IfOk result

@@ -48,7 +48,7 @@ pub fn read_sorts(alloc: Global, syntax: &Syntax) -> Result<ReadSorts<'_>, Alloc
     })
 }
 
-// The declarations of a specification with these sorts, and how many of the words are symbols.
+/// The declarations of a specification with these sorts, and how many of the words are symbols.
 fn read_declared(
     alloc: Global,
     syntax: &Syntax,

@@ -39,7 +39,7 @@ pub fn bare_letters(alloc: Global, letters: &[Placed]) -> Result<Vec<Letter>, Al
         .collect(alloc)
 }
 
-// The least place of a word that is not declared.
+/// The least place of a word that is not declared.
 fn unknown(letters: &[Placed]) -> Option<u32>
     ensures { result ≡ unknown_among letters.now }
 {
@@ -55,7 +55,7 @@ impl Scope<'_> {
     ghost use Rattle.rec_sorts.specs.Letters.{ill_sorted_among};
     ghost use Rattle.rec_sorts.specs.Reading.{IsReadTerm};
 
-    // The letters of a term's words.
+    /// The letters of a term's words.
     fn letters(&self, alloc: Global, nodes: &[Node]) -> Result<Vec<Placed>, AllocError>
         requires { All (λ n. Within self.now.source.now n.word) nodes.now }
         ensures { IfOk result (λ v.
@@ -72,7 +72,7 @@ impl Scope<'_> {
         Ok(letters)
     }
 
-    // The least place of a word with another number of arguments than declared.
+    /// The least place of a word with another number of arguments than declared.
     fn ill_filled(&self, letters: &[Placed]) -> Option<u32>
         ensures { result ≡ ill_filled_among self.now letters.now }
     {
@@ -84,7 +84,7 @@ impl Scope<'_> {
         least
     }
 
-    // The least place of an argument with another sort than the one for it.
+    /// The least place of an argument with another sort than the one for it.
     fn misplaced(&self, arguments: &[Placed], sorts: &[Option<u32>]) -> Option<u32>
         ensures { result ≡ misplaced self.now arguments.now sorts.now }
     {
@@ -96,8 +96,8 @@ impl Scope<'_> {
         least
     }
 
-    // The least place of an argument with another sort than declared, by a stack of the heads of
-    // the terms so far.
+    /// The least place of an argument with another sort than declared, by a stack of the heads of
+    /// the terms so far.
     fn ill_sorted(&self, alloc: Global, letters: &[Placed]) -> Result<Option<u32>, AllocError>
         ensures { IfOk result (λ least. least ≡ ill_sorted_among self.now [] letters.now) }
     {

@@ -38,7 +38,7 @@ pub fn push_items<B: TermBank>(
     Ok(())
 }
 
-// Pushes the arguments of a term, from left to right; nothing, where it is no application.
+/// Pushes the arguments of a term, from left to right; nothing, where it is no application.
 fn push_arguments<B: TermBank>(
     bank: &B,
     term: Term,
@@ -57,7 +57,7 @@ fn push_arguments<B: TermBank>(
     }
 }
 
-// The arguments of some terms, from left to right.
+/// The arguments of some terms, from left to right.
 fn arguments<B: TermBank>(alloc: Global, bank: &B, terms: &[Term]) -> Result<Vec<Term>, AllocError>
     requires { AreHeld (B.store bank.now) terms.now }
     ensures held { IfOk result (λ v. AreHeld (B.store bank.now) v.items) }

@@ -86,15 +86,16 @@ pub struct Reader {
     alloc: Global,
     source: Vec<u8>,
     sections: Sections,
-    // the words of the declaration or the group that is read
+    /// the words of the declaration or the group that is read
     words: Words,
     role: Role,
-    // the open applications, and the nodes of the term that is read
+    /// the open applications, and the nodes of the term that is read
     calls: Vec<Call>,
     nodes: Vec<Node>,
 }
 
 impl Reader {
+    /// A reader before the first token.
     fn new(alloc: Global, source: Vec<u8>) -> Self
         ensures source { result.source ≡ source }
         ensures start { config_of source.items Due.Start result ≡ start }
@@ -119,7 +120,7 @@ impl Reader {
         }
     }
 
-    // The next token.
+    /// The next token.
     fn step(&mut self, due: Due, token: Kind) -> Result<Due, Stop>
         requires state { IsAt due self.old }
         requires token { IsToken self.old.source.items token }
@@ -151,7 +152,7 @@ impl Reader {
     }
 }
 
-// The specification that the text spells.
+/// The specification that the text spells.
 fn read(alloc: Global, source: Vec<u8>) -> Result<Syntax, SyntaxFault>
     requires { length source.items ≤ longest }
     ensures source { IfOk result (λ s. s.source ≡ source.items) }

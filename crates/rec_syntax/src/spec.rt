@@ -36,6 +36,7 @@ impl Model for Syntax {
 }
 
 impl Syntax {
+    /// The specification with these sections of its text.
     pub(crate) fn new(source: Vec<u8>, sections: Sections) -> Self
         requires short { length source.items ≤ longest }
         requires sections { AreSections source.items sections }

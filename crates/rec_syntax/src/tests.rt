@@ -19,7 +19,7 @@ EVAL
   plus(s(s(z)),s(z))
 END-SPEC";
 
-// What may stand behind the beginning of a text, in the sections before the rules.
+/// What may stand behind the beginning of a text, in the sections before the rules.
 const DECLARED: [(&str, &[TokenKind]); 17] = [
     ("", &[RecSpec]),
     ("REC-SPEC", &[PlainWord]),
@@ -92,7 +92,7 @@ const DECLARED: [(&str, &[TokenKind]); 17] = [
     ("REC-SPEC E END-SPEC a", &[End]),
 ];
 
-// What may stand behind the beginning of a text, in the rules and the terms to evaluate.
+/// What may stand behind the beginning of a text, in the rules and the terms to evaluate.
 const TERMS: [(&str, &[TokenKind]); 18] = [
     ("REC-SPEC E RULES f ->", &[PlainWord]),
     ("REC-SPEC E RULES f -> X if", &[PlainWord]),
@@ -123,7 +123,7 @@ const TERMS: [(&str, &[TokenKind]); 18] = [
     ),
 ];
 
-// The place of a text that is outside the grammar.
+/// The place of a text that is outside the grammar.
 fn place(answer: Result<Syntax, SyntaxFault>) -> Option<u32> {
     match answer {
         Err(SyntaxFault::Grammar { at }) => Some(at),
@@ -131,7 +131,7 @@ fn place(answer: Result<Syntax, SyntaxFault>) -> Option<u32> {
     }
 }
 
-// A specification with a word inside `depth` others, as a term to evaluate.
+/// A specification with a word inside `depth` others, as a term to evaluate.
 fn nested(alloc: Global, depth: u32) -> Result<Vec<u8>, AllocError> {
     let mut text = Vec::from_slice(alloc, b"REC-SPEC E EVAL ")?;
     for _ in 0..depth {
@@ -145,7 +145,7 @@ fn nested(alloc: Global, depth: u32) -> Result<Vec<u8>, AllocError> {
     Ok(text)
 }
 
-// A specification of this many bytes, most of them blanks.
+/// A specification of this many bytes, most of them blanks.
 fn blank(alloc: Global, length: usize) -> Result<Vec<u8>, AllocError> {
     let mut text = Vec::from_slice(alloc, b"REC-SPEC E END-SPEC")?;
     for _ in 19..length {

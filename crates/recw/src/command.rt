@@ -3,6 +3,7 @@
 use clap::{Arg, ArgAction, Command, value_parser};
 use std::alloc::{AllocError, Global};
 
+/// The most steps that may be asked for.
 pub const MOST_STEPS: u64 = 1_000_000_000_000_000_000;
 
 /// The most cells, and the most new cells between two reclaims.
@@ -50,6 +51,7 @@ fn with<'a>(
     command.subcommand(subcommand?)
 }
 
+/// The subcommand `eval`.
 fn eval_command<'a>(alloc: Global) -> Result<Command<'a>, AllocError> {
     let command = Command::new(alloc, "eval")
         .about("Evaluate the terms of a REC specification")
@@ -74,6 +76,7 @@ fn with_limits<'a>(alloc: Global, command: Command<'a>) -> Result<Command<'a>, A
         .arg(reclaim(alloc))
 }
 
+/// The subcommand `aterm`.
 fn aterm_command<'a>(alloc: Global) -> Result<Command<'a>, AllocError> {
     Command::new(alloc, "aterm")
         .about("Print an ATerm in its shortest form")
@@ -82,6 +85,7 @@ fn aterm_command<'a>(alloc: Global) -> Result<Command<'a>, AllocError> {
         .arg(explain(alloc))
 }
 
+/// The subcommand `share`.
 fn share_command<'a>(alloc: Global) -> Result<Command<'a>, AllocError> {
     Command::new(alloc, "share")
         .about("Print an ATerm and how many cells it takes with equal parts shared")
@@ -90,6 +94,7 @@ fn share_command<'a>(alloc: Global) -> Result<Command<'a>, AllocError> {
         .arg(explain(alloc))
 }
 
+/// The subcommand `match`.
 fn match_command<'a>(alloc: Global) -> Result<Command<'a>, AllocError> {
     Command::new(alloc, "match")
         .about("Print what a pattern binds in an ATerm, or that it does not match")
@@ -103,6 +108,7 @@ fn match_command<'a>(alloc: Global) -> Result<Command<'a>, AllocError> {
         .arg(explain(alloc))
 }
 
+/// The subcommand `make`.
 fn make_command<'a>(alloc: Global) -> Result<Command<'a>, AllocError> {
     Command::new(alloc, "make")
         .about("Print a pattern with arguments in place of its placeholders")
@@ -119,18 +125,22 @@ fn make_command<'a>(alloc: Global) -> Result<Command<'a>, AllocError> {
         .arg(explain(alloc))
 }
 
+/// A text that must be given.
 fn text<'a>(alloc: Global, name: &'a str, help: &'a str) -> Arg<'a> {
     Arg::new(alloc, name).help(help).required(true)
 }
 
+/// The file of a term, which may be left out.
 fn term_file<'a>(alloc: Global) -> Arg<'a> {
     file(alloc, "FILE", "File of the ATerm [default: standard input]")
 }
 
+/// A file, which may be left out.
 fn file<'a>(alloc: Global, name: &'a str, help: &'a str) -> Arg<'a> {
     Arg::new(alloc, name).help(help)
 }
 
+/// The option `--steps`.
 fn steps<'a>(alloc: Global) -> Arg<'a> {
     Arg::new(alloc, "steps")
         .long("steps")
@@ -140,6 +150,7 @@ fn steps<'a>(alloc: Global) -> Arg<'a> {
         .help("Most steps that a term may take, up to 10^18")
 }
 
+/// The option `--cells`.
 fn cells<'a>(alloc: Global) -> Arg<'a> {
     Arg::new(alloc, "cells")
         .long("cells")
@@ -149,6 +160,7 @@ fn cells<'a>(alloc: Global) -> Arg<'a> {
         .help("Most cells that terms may take, 1 to 2^30")
 }
 
+/// The option `--memo`.
 fn memo<'a>(alloc: Global) -> Arg<'a> {
     Arg::new(alloc, "memo")
         .long("memo")
@@ -158,6 +170,7 @@ fn memo<'a>(alloc: Global) -> Arg<'a> {
         .help("Most results to remember, up to 2^20")
 }
 
+/// The option `--reclaim`.
 fn reclaim<'a>(alloc: Global) -> Arg<'a> {
     Arg::new(alloc, "reclaim")
         .long("reclaim")
@@ -167,6 +180,7 @@ fn reclaim<'a>(alloc: Global) -> Arg<'a> {
         .help("New cells between two reclaims, 1 to 2^30")
 }
 
+/// The option `--explain`.
 fn explain<'a>(alloc: Global) -> Arg<'a> {
     Arg::new(alloc, "explain")
         .long("explain")
@@ -174,6 +188,7 @@ fn explain<'a>(alloc: Global) -> Arg<'a> {
         .help("Say in words why a text is refused, and where")
 }
 
+/// The option `--count`.
 fn count<'a>(alloc: Global) -> Arg<'a> {
     Arg::new(alloc, "count")
         .long("count")

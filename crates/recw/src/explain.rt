@@ -7,9 +7,10 @@ use std::alloc::Global;
 use std::io;
 use std::io::Write;
 
-/// How many bytes of a line are shown before a place, and from it on.
+/// How many bytes of a line are shown before a place.
 const BEFORE: usize = 60;
 
+/// How many are shown from it on.
 const BEHIND: usize = 40;
 
 /// The byte that ends a line.
@@ -118,6 +119,7 @@ pub fn explain_text<W: Write>(
     out.write_all(b"\n")
 }
 
+/// Says what a rule asks for, where it is known.
 fn explain_rule<W: Write>(rule: &str, out: &mut W) -> io::Result<()> {
     match words_of(rule) {
         Some(words) => write!(out, "{rule}: {words}"),

@@ -23,8 +23,10 @@ use std::env;
 use std::io::{self, BufWriter};
 use std::process::ExitCode;
 
+/// How many bytes of output are written at once.
 const OUT_CAPACITY: usize = 65_536;
 
+/// The program as it is started.
 fn main(rt: HostRuntime) -> ExitCode {
     let status = match start(&rt, rt.alloc()) {
         Ok(status) => status,

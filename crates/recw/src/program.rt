@@ -33,6 +33,7 @@ pub fn program<H: Files, R: Read, W: Write, E: Write>(
     obey(rt, alloc, words, input, out, err)
 }
 
+/// Does what the words ask for, and tells of its end.
 fn obey<H: Files, R: Read, W: Write, E: Write>(
     rt: &H,
     alloc: Global,
@@ -61,6 +62,7 @@ fn obey<H: Files, R: Read, W: Write, E: Write>(
     }
 }
 
+/// Does what is asked for, and keeps the first bytes that it writes.
 fn perform<'a, H: Files, R: Read, W: Write>(
     rt: &H,
     alloc: Global,
@@ -75,6 +77,7 @@ fn perform<'a, H: Files, R: Read, W: Write>(
     end
 }
 
+/// Does what is asked for, on the files that it names.
 fn perform_over<'a, H: Files, R: Read, W: Write>(
     rt: &H,
     alloc: Global,
@@ -112,6 +115,7 @@ fn perform_over<'a, H: Files, R: Read, W: Write>(
     }
 }
 
+/// Evaluates a specification and given terms, and keeps their texts for an explanation.
 fn evaluate<'a, R: Read + Drop, T: Read + Drop, W: Write>(
     alloc: Global,
     asked: Asked<'a>,
@@ -142,6 +146,7 @@ fn evaluate<'a, R: Read + Drop, T: Read + Drop, W: Write>(
     end
 }
 
+/// The run over the text of one term that is asked for.
 fn run_on_term<R: Read, W: Write>(
     alloc: Global,
     request: Request<'_>,

@@ -17,6 +17,7 @@ pub struct Recorded<R> {
 }
 
 impl<R: Read> Recorded<R> {
+    /// A reader of which nothing was read; the text is kept where `is_kept`.
     pub fn new(alloc: Global, input: R, is_kept: bool) -> Recorded<R> {
         Recorded {
             input,
@@ -26,6 +27,7 @@ impl<R: Read> Recorded<R> {
         }
     }
 
+    /// Keeps bytes that were read.
     fn keep(&mut self, bytes: &[u8]) {
         if self.is_kept && self.text.extend_from_slice(bytes).is_err() {
             self.is_kept = false;
@@ -64,6 +66,7 @@ pub struct Watched<'a, W> {
 }
 
 impl<'a, W: Write> Watched<'a, W> {
+    /// A writer to which nothing was written.
     pub fn new(alloc: Global, output: &'a mut W) -> Watched<'a, W> {
         Watched {
             output,

@@ -7,14 +7,19 @@ use rec_run::{Finish, Place, RunFault};
 use std::io;
 use std::io::Write;
 
+/// The exit status where all was done,
 const DONE: u8 = 0;
 
+/// where a text was refused,
 const REFUSED: u8 = 1;
 
+/// where the words were not understood,
 const COMMAND_LINE: u8 = 2;
 
+/// where memory or cells ran out,
 const OUT_OF_ROOM: u8 = 3;
 
+/// and where a stream failed.
 const STREAMS: u8 = 4;
 
 /// Tells of a run's end and gives its status. A line that cannot be written is left out.
@@ -37,6 +42,7 @@ pub fn ended<E: Write>(end: Result<Finish, RunFault>, place: Option<Place>, err:
     }
 }
 
+/// Tells of a fault and gives its status.
 fn failed<E: Write>(fault: RunFault, err: &mut E) -> u8
     ensures either { (result ≡ 3) ⊎ (result ≡ 4) }
     ensures room { (result ≡ 3) ↔ ((fault ≢ RunFault.Read) × (fault ≢ RunFault.Write)) }

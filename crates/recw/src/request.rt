@@ -6,6 +6,7 @@ use clap::{ArgMatches, Error};
 use rec_run::RunOptions;
 use std::alloc::Global;
 
+/// What a subcommand is asked to do.
 #[derive(Clone, Copy, Debug)]
 pub enum Request<'a> {
     /// Evaluate a specification, which stands in a file or on the standard input, and given terms,
@@ -61,6 +62,7 @@ fn asked_of<'a>(matches: &ArgMatches<'a>) -> Option<Asked<'a>> {
     })
 }
 
+/// `None` where a word is missing, or no subcommand has this name.
 fn request_of<'a>(name: &str, inner: &ArgMatches<'a>) -> Option<Request<'a>> {
     match name {
         "eval" => Some(Request::Eval {
@@ -86,6 +88,7 @@ fn request_of<'a>(name: &str, inner: &ArgMatches<'a>) -> Option<Request<'a>> {
     }
 }
 
+/// The options of a run, each in its range.
 fn options_of(matches: &ArgMatches<'_>) -> Option<RunOptions> {
     Some(RunOptions {
         steps: matches.get_one::<u64>("steps")?.min(MOST_STEPS),

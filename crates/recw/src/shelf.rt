@@ -14,6 +14,7 @@ pub struct Shelf {
 }
 
 impl Shelf {
+    /// The text of a file of this name.
     fn text_of(&self, path: &str) -> io::Result<&'static str> {
         match path {
             "spec" => Ok(self.spec),

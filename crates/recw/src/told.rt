@@ -77,6 +77,7 @@ impl<'a> Told<'a> {
         }
     }
 
+    /// Says what the refusal means, and where it stands.
     fn explain_refusal<W: Write>(
         &self,
         alloc: Global,
@@ -109,6 +110,7 @@ impl<'a> Told<'a> {
         }
     }
 
+    /// Says which file could not be read, and why.
     fn explain_trouble<W: Write>(&self, out: &mut W) -> io::Result<()> {
         match self.trouble {
             Some((name, kind)) => writeln!(out, "{name}: {kind}"),
@@ -116,6 +118,7 @@ impl<'a> Told<'a> {
         }
     }
 
+    /// The text that was refused.
     fn text_of<'t>(&'t self, request: Request<'t>, source: Source) -> &'t [u8] {
         match (source, request) {
             (Source::Pattern, Request::Match { pattern, .. } | Request::Make { pattern, .. }) => {
@@ -157,6 +160,7 @@ pub fn name_of<'a>(request: Request<'a>, source: Source) -> &'a str {
     path.unwrap_or("<stdin>")
 }
 
+/// Names the option that raises the limit on cells.
 fn explain_room<W: Write>(request: Request<'_>, out: &mut W) -> io::Result<()> {
     match request {
         Request::Eval { options, .. } => {

@@ -67,6 +67,7 @@ impl Model for Pool {
 }
 
 impl Pool {
+    /// A pool without slots, for at most `cap`.
     pub(crate) fn new(alloc: Global, cap: u32) -> Pool
         requires { cap ≤ 2 ^ 30 }
         ensures { result ≡ record {
@@ -89,6 +90,7 @@ impl Pool {
         }
     }
 
+    /// How many slots are taken.
     pub(crate) fn taken(&self) -> u32
         ensures value { result ≡ filled self.now.cells }
         ensures fits { result ≤ self.now.cap }
@@ -96,6 +98,7 @@ impl Pool {
         self.taken
     }
 
+    /// How many slots can be taken without memory.
     pub(crate) fn spare(&self) -> u32
         ensures value { result ≡ spare_of self.now }
         ensures fits { result + filled self.now.cells ≤ self.now.cap }
@@ -197,6 +200,7 @@ impl Pool {
         self.fresh
     }
 
+    /// What a taken slot holds.
     pub(crate) fn body(&self, slot: u32) -> CellBody
         requires { IsHeld self.now.cells slot }
         ensures { IfSome (get_or self.now.cells slot None) (λ n. result ≡ n.body) }
@@ -204,6 +208,7 @@ impl Pool {
         self.store.body(slot)
     }
 
+    /// How often a taken slot is rooted.
     pub(crate) fn roots(&self, slot: u32) -> u16
         requires { IsHeld self.now.cells slot }
         ensures { IfSome (get_or self.now.cells slot None) (λ n. result ≡ n.roots) }
@@ -211,6 +216,7 @@ impl Pool {
         self.store.roots(slot)
     }
 
+    /// Whether a taken slot is marked.
     pub(crate) fn marked(&self, slot: u32) -> bool
         requires { IsHeld self.now.cells slot }
         ensures { IfSome (get_or self.now.cells slot None)
@@ -229,6 +235,7 @@ impl Pool {
         self.store.next(slot, link)
     }
 
+    /// Sets how often a taken slot is rooted.
     pub(crate) fn set_roots(&mut self, slot: u32, count: u16)
         requires { IsHeld self.old.cells slot }
         ensures { self.new ≡ record self.old

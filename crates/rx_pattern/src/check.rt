@@ -11,7 +11,7 @@ use crate::words::class_of;
 use rx_term::{Kind, Term, TermBank};
 use std::alloc::{AllocError, Global};
 
-// Whether the tree, if it is a placeholder, is one of the six.
+/// Whether the tree, if it is a placeholder, is one of the six.
 fn is_known<B: TermBank>(bank: &B, t: Term) -> bool
     requires { IsSome (tree_at (B.store bank.now) t) }
     ensures { (u : Tree) → tree_at (B.store bank.now) t ≡ Some u → result ≡ own_known u }
@@ -22,7 +22,7 @@ fn is_known<B: TermBank>(bank: &B, t: Term) -> bool
     }
 }
 
-// Whether the tree, if it is a placeholder, has no annotations.
+/// Whether the tree, if it is a placeholder, has no annotations.
 fn is_plain<B: TermBank>(bank: &B, t: Term) -> bool
     requires { IsSome (tree_at (B.store bank.now) t) }
     ensures { (u : Tree) → tree_at (B.store bank.now) t ≡ Some u → result ≡ own_plain u }
@@ -33,7 +33,7 @@ fn is_plain<B: TermBank>(bank: &B, t: Term) -> bool
     }
 }
 
-// Pushes what is looked at below a tree.
+/// Pushes what is looked at below a tree.
 fn push_below<B: TermBank>(bank: &B, t: Term, stack: &mut Vec<Term>) -> Result<(), AllocError>
     requires { IsSome (tree_at (B.store bank.now) t) }
     ensures { OnOk result ((u : Tree) → tree_at (B.store bank.now) t ≡ Some u

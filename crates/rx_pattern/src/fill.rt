@@ -23,7 +23,7 @@ use crate::words::fits;
 use rx_term::{BankFault, Term, TermBank};
 use std::alloc::Global;
 
-// Whether the node takes a term.
+/// Whether the node takes a term.
 fn is_slot(node: &Node) -> bool
     ensures { result ≡ is_slot_step (step_of node.now) }
 {
@@ -43,7 +43,7 @@ pub fn count_slots(nodes: &[Node]) -> usize
     slots
 }
 
-// Whether a tree is a list without annotations.
+/// Whether a tree is a list without annotations.
 fn is_plain_list<B: TermBank>(bank: &B, t: Term) -> bool
     requires { IsSome (tree_at (B.store bank.now) t) }
     ensures { (u : Tree) → tree_at (B.store bank.now) t ≡ Some u → result ≡ takes_rest RestSlot u }
@@ -51,7 +51,7 @@ fn is_plain_list<B: TermBank>(bank: &B, t: Term) -> bool
     fits(bank, Class::List, t) && bank.anns(t).is_none()
 }
 
-// Whether a node takes a term, if it takes any.
+/// Whether a node takes a term, if it takes any.
 fn takes<B: TermBank>(bank: &B, node: &Node, t: Term) -> bool
     requires { IsSome (tree_at (B.store bank.now) t) }
     ensures { (u : Tree) → tree_at (B.store bank.now) t ≡ Some u
@@ -85,7 +85,7 @@ pub fn misfit<B: TermBank>(nodes: &[Node], bank: &B, args: &[Term]) -> Option<Ma
     None
 }
 
-// The application of a name to the items of a list.
+/// The application of a name to the items of a list.
 fn apply<B: TermBank>(bank: &mut B, name: &Name, args: Option<Term>) -> Result<Term, BankFault>
     requires list { (ts : Trees) × IsListed (B.store bank.old) args ts }
     requires allowed { IsAllowed name.now.bytes.items name.now.quoted }
@@ -100,7 +100,7 @@ fn apply<B: TermBank>(bank: &mut B, name: &Name, args: Option<Term>) -> Result<T
     bank.appl(symbol, args)
 }
 
-// Pushes the tree with the newest of what was made as its annotations.
+/// Pushes the tree with the newest of what was made as its annotations.
 fn push_noted<B: TermBank>(
     bank: &mut B,
     t: Term,
@@ -122,7 +122,7 @@ fn push_noted<B: TermBank>(
     Ok(())
 }
 
-// Pushes the integer.
+/// Pushes the integer.
 fn push_integer<B: TermBank>(
     bank: &mut B,
     value: i32,
@@ -140,7 +140,7 @@ fn push_integer<B: TermBank>(
     push_noted(bank, t, made)
 }
 
-// Pushes the application of a name to the newest of what was made.
+/// Pushes the application of a name to the newest of what was made.
 fn push_application<B: TermBank>(
     bank: &mut B,
     name: &Name,
@@ -161,7 +161,7 @@ fn push_application<B: TermBank>(
     push_noted(bank, t, made)
 }
 
-// Pushes the list of the newest of what was made.
+/// Pushes the list of the newest of what was made.
 fn push_list<B: TermBank>(bank: &mut B, made: &mut Vec<Option<Term>>) -> Result<(), MakeFault>
     requires { (items : Trees) × ((anns : Trees) × ((ps : List Piece)
         × OnStack (Stands (B.store bank.old)) made.old.items (Several items ∷ Several anns ∷ ps))) }
@@ -176,7 +176,7 @@ fn push_list<B: TermBank>(bank: &mut B, made: &mut Vec<Option<Term>>) -> Result<
     push_noted(bank, t, made)
 }
 
-// Pushes the newest tree in front of the list below it.
+/// Pushes the newest tree in front of the list below it.
 fn push_item<B: TermBank>(bank: &mut B, made: &mut Vec<Option<Term>>) -> Result<(), MakeFault>
     requires { (t : Tree) × ((ts : Trees) × ((ps : List Piece)
         × OnStack (Stands (B.store bank.old)) made.old.items (One t ∷ Several ts ∷ ps))) }
@@ -194,7 +194,7 @@ fn push_item<B: TermBank>(bank: &mut B, made: &mut Vec<Option<Term>>) -> Result<
     Ok(())
 }
 
-// Takes the newest of what was made, and leaves what the node makes of it.
+/// Takes the newest of what was made, and leaves what the node makes of it.
 fn join<B: TermBank>(
     bank: &mut B,
     node: &Node,

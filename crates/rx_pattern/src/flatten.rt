@@ -25,7 +25,7 @@ pub enum Job {
     Items(Option<Term>),
 }
 
-// The node of a symbol.
+/// The node of a symbol.
 fn application<B: TermBank>(alloc: Global, bank: &B, symbol: Symbol) -> Result<Node, AllocError>
     requires { IsSome (signature_of (B.store bank.now) symbol) }
     ensures { IfOk result (λ node. (s : Signature) → signature_of (B.store bank.now) symbol ≡ Some s
@@ -36,7 +36,7 @@ fn application<B: TermBank>(alloc: Global, bank: &B, symbol: Symbol) -> Result<N
     Ok(Node::Application(Name { bytes, quoted }))
 }
 
-// The first node of a tree; what is behind it is left to do.
+/// The first node of a tree; what is behind it is left to do.
 fn tree_node<B: TermBank>(
     alloc: Global,
     bank: &B,
@@ -71,7 +71,7 @@ fn tree_node<B: TermBank>(
     }
 }
 
-// Whether the tree is a placeholder `<list>`.
+/// Whether the tree is a placeholder `<list>`.
 fn is_list_placeholder<B: TermBank>(bank: &B, t: Term) -> bool
     requires { IsSome (tree_at (B.store bank.now) t) }
     ensures { (u : Tree) → tree_at (B.store bank.now) t ≡ Some u → result ≡ is_list_placeholder u }
@@ -82,7 +82,7 @@ fn is_list_placeholder<B: TermBank>(bank: &B, t: Term) -> bool
     }
 }
 
-// The first node of the items of a list; what is behind it is left to do.
+/// The first node of the items of a list; what is behind it is left to do.
 fn items_node<B: TermBank>(
     bank: &B,
     list: Option<Term>,
@@ -106,7 +106,7 @@ fn items_node<B: TermBank>(
     Ok(Node::Item)
 }
 
-// The first node of a job; what is behind it is left to do.
+/// The first node of a job; what is behind it is left to do.
 fn next_node<B: TermBank>(
     alloc: Global,
     bank: &B,

@@ -20,7 +20,7 @@ use crate::words::fits;
 use rx_term::{Kind, Symbol, Term, TermBank};
 use std::alloc::{AllocError, Global};
 
-// Whether the tree is this integer; its annotations are left.
+/// Whether the tree is this integer; its annotations are left.
 fn match_integer<B: TermBank>(
     bank: &B,
     value: i32,
@@ -42,7 +42,7 @@ fn match_integer<B: TermBank>(
     Ok(true)
 }
 
-// Whether the symbol has the name.
+/// Whether the symbol has the name.
 fn is_name<B: TermBank>(bank: &B, symbol: Symbol, name: &Name) -> bool
     requires { IsSome (signature_of (B.store bank.now) symbol) }
     ensures { (g : Signature) → signature_of (B.store bank.now) symbol ≡ Some g
@@ -51,8 +51,8 @@ fn is_name<B: TermBank>(bank: &B, symbol: Symbol, name: &Name) -> bool
     name.bytes.as_slice() == bank.name_of(symbol) && name.quoted == bank.quoted_of(symbol)
 }
 
-// Whether the tree is an application of this name; its arguments are left, and then its
-// annotations.
+/// Whether the tree is an application of this name; its arguments are left, and then its
+/// annotations.
 fn match_application<B: TermBank>(
     bank: &B,
     name: &Name,
@@ -77,7 +77,7 @@ fn match_application<B: TermBank>(
     Ok(true)
 }
 
-// Whether the tree is a list; its items are left, and then its annotations.
+/// Whether the tree is a list; its items are left, and then its annotations.
 fn match_list<B: TermBank>(
     bank: &B,
     t: Term,
@@ -96,7 +96,7 @@ fn match_list<B: TermBank>(
     Ok(true)
 }
 
-// Whether there is an item; it is left, and then the others.
+/// Whether there is an item; it is left, and then the others.
 fn match_item<B: TermBank>(
     bank: &B,
     list: Option<Term>,
@@ -116,7 +116,7 @@ fn match_item<B: TermBank>(
     Ok(true)
 }
 
-// Whether the node matches the front of its subject; the rest of it is left.
+/// Whether the node matches the front of its subject; the rest of it is left.
 fn match_node<B: TermBank>(
     bank: &mut B,
     node: &Node,

@@ -6,32 +6,32 @@ use rx_text::read;
 use std::alloc::Global;
 use std::process::Abort;
 
-// A bank of no terms.
+/// A bank of no terms.
 fn bank_of(rt: &impl Abort, alloc: Global, cap: u32) -> PlainBank {
     assert!(rt; cap > 0 && cap <= 100_000);
     PlainBank::new(alloc, cap).expect(rt, "a bank")
 }
 
-// The reference of the term that a text spells.
+/// The reference of the term that a text spells.
 fn term<B: TermBank>(rt: &impl Abort, alloc: Global, bank: &mut B, text: &[u8]) -> Term {
     read(alloc, text, bank).expect(rt, "a term")
 }
 
-// The pattern that a text spells.
+/// The pattern that a text spells.
 fn pattern<B: TermBank>(rt: &impl Abort, alloc: Global, bank: &mut B, text: &[u8]) -> Pattern {
     let t = term(rt, alloc, bank, text);
     assert!(rt; bank.holds(t));
     Pattern::of(alloc, bank, t).expect(rt, "a pattern")
 }
 
-// A list of one reference.
+/// A list of one reference.
 fn only(rt: &impl Abort, alloc: Global, t: Term) -> Vec<Term> {
     let mut out = Vec::new(alloc);
     assert!(rt; out.push(t).is_ok());
     out
 }
 
-// What the pattern answers for a term of the bank.
+/// What the pattern answers for a term of the bank.
 fn answer<B: TermBank>(
     rt: &impl Abort,
     bank: &mut B,
@@ -43,7 +43,7 @@ fn answer<B: TermBank>(
     p.matches(bank, t, out)
 }
 
-// What the pattern makes of a term of the bank.
+/// What the pattern makes of a term of the bank.
 fn made_of<B: TermBank>(
     rt: &impl Abort,
     bank: &mut B,
@@ -54,7 +54,7 @@ fn made_of<B: TermBank>(
     p.make(bank, &[arg])
 }
 
-// Whether these are the references of the terms that the texts spell.
+/// Whether these are the references of the terms that the texts spell.
 fn are_spelt(
     rt: &impl Abort,
     alloc: Global,
@@ -71,7 +71,7 @@ fn are_spelt(
     true
 }
 
-// What the pattern answers for a subject, where `out` has that already.
+/// What the pattern answers for a subject, where `out` has that already.
 fn answer_of(
     rt: &impl Abort,
     alloc: Global,
@@ -86,7 +86,7 @@ fn answer_of(
     answer(rt, bank, &p, t, out)
 }
 
-// Whether the pattern binds just these terms in the subject.
+/// Whether the pattern binds just these terms in the subject.
 fn binds(rt: &impl Abort, alloc: Global, text: &[u8], subject: &[u8], bindings: &[&[u8]]) -> bool {
     let mut bank = bank_of(rt, alloc, 1000);
     let mut out = Vec::new(alloc);
@@ -94,14 +94,14 @@ fn binds(rt: &impl Abort, alloc: Global, text: &[u8], subject: &[u8], bindings: 
     are_spelt(rt, alloc, &mut bank, &out, bindings)
 }
 
-// Whether the pattern doesn't match the subject, and nothing is left of what `out` had.
+/// Whether the pattern doesn't match the subject, and nothing is left of what `out` had.
 fn fails(rt: &impl Abort, alloc: Global, text: &[u8], subject: &[u8]) -> bool {
     let mut bank = bank_of(rt, alloc, 1000);
     let mut out = Vec::new(alloc);
     answer_of(rt, alloc, &mut bank, text, subject, &mut out) == Ok(false) && out.is_empty()
 }
 
-// Why the term is no pattern.
+/// Why the term is no pattern.
 fn refusal(rt: &impl Abort, alloc: Global, text: &[u8]) -> Option<PatternFault> {
     let mut bank = bank_of(rt, alloc, 1000);
     let t = term(rt, alloc, &mut bank, text);
@@ -109,7 +109,7 @@ fn refusal(rt: &impl Abort, alloc: Global, text: &[u8]) -> Option<PatternFault> 
     Pattern::of(alloc, &bank, t).err()
 }
 
-// How many placeholders the pattern has.
+/// How many placeholders the pattern has.
 fn placeholders(rt: &impl Abort, alloc: Global, text: &[u8]) -> usize {
     let mut bank = bank_of(rt, alloc, 1000);
     pattern(rt, alloc, &mut bank, text).placeholders()
@@ -229,7 +229,7 @@ fn what_is_no_pattern(rt: HostRuntime) {
     assert!(rt; refusal(&rt, alloc, b"<int()>").is_none());
 }
 
-// What is made of one term.
+/// What is made of one term.
 fn of_one(
     rt: &impl Abort,
     alloc: Global,
@@ -242,7 +242,7 @@ fn of_one(
     made_of(rt, bank, &p, a)
 }
 
-// What is made of two terms.
+/// What is made of two terms.
 fn of_two(
     rt: &impl Abort,
     alloc: Global,
@@ -259,7 +259,7 @@ fn of_two(
     p.make(bank, &[a, b])
 }
 
-// Whether the two terms make the whole.
+/// Whether the two terms make the whole.
 fn two_make(
     rt: &impl Abort,
     alloc: Global,
@@ -272,7 +272,7 @@ fn two_make(
     of_two(rt, alloc, bank, text, terms.0, terms.1) == Ok(t)
 }
 
-// Whether no terms are too few for the pattern.
+/// Whether no terms are too few for the pattern.
 fn none_are_too_few(rt: &impl Abort, alloc: Global, bank: &mut PlainBank, text: &[u8]) -> bool {
     let p = pattern(rt, alloc, bank, text);
     p.make(bank, &[]) == Err(MakeFault::Count)
@@ -324,14 +324,14 @@ fn refuse_terms(rt: &impl Abort, alloc: Global, bank: &mut PlainBank) {
     assert!(rt; of_one(rt, alloc, bank, b"f(<list>)", b"[a]{b}") == Err(MakeFault::Kind { at: 0 }));
 }
 
-// The pattern that a text spells, in a bank that then keeps nothing.
+/// The pattern that a text spells, in a bank that then keeps nothing.
 fn lone_pattern(rt: &impl Abort, alloc: Global, bank: &mut PlainBank, text: &[u8]) -> Pattern {
     let p = pattern(rt, alloc, bank, text);
     bank.reclaim(&[]);
     p
 }
 
-// Leaves the bank the term alone.
+/// Leaves the bank the term alone.
 fn keep(rt: &impl Abort, bank: &mut PlainBank, t: Term) {
     assert!(rt; bank.holds(t));
     bank.reclaim(&[t]);
@@ -349,7 +349,7 @@ fn a_full_bank(rt: HostRuntime) {
     find_no_room(&rt, alloc, &mut bank, (&open, &single), t);
 }
 
-// Calls that fail for want of cells, and what goes on after a reclaim.
+/// Calls that fail for want of cells, and what goes on after a reclaim.
 fn find_no_room(
     rt: &impl Abort,
     alloc: Global,
@@ -368,14 +368,14 @@ fn find_no_room(
     assert!(rt; are_spelt(rt, alloc, bank, &out, &[b"[1,2]".as_slice()]));
 }
 
-// Adds a byte so many times.
+/// Adds a byte so many times.
 fn repeat(rt: &impl Abort, text: &mut Vec<u8>, byte: u8, count: u32) {
     for _ in 0..count {
         assert!(rt; text.push(byte).is_ok());
     }
 }
 
-// A list within a list, so many times, around a text.
+/// A list within a list, so many times, around a text.
 fn nested(rt: &impl Abort, alloc: Global, levels: u32, inner: &[u8]) -> Vec<u8> {
     let mut text = Vec::new(alloc);
     repeat(rt, &mut text, b'[', levels);
@@ -384,7 +384,7 @@ fn nested(rt: &impl Abort, alloc: Global, levels: u32, inner: &[u8]) -> Vec<u8> 
     text
 }
 
-// A bank that searches from the front would take minutes.
+/// A bank that searches from the front would take minutes.
 #[test]
 fn deep_terms(rt: HostRuntime) {
     let alloc = rt.alloc();
@@ -394,7 +394,7 @@ fn deep_terms(rt: HostRuntime) {
     match_deep(&rt, alloc, &mut bank, &text, &subject);
 }
 
-// The pattern that the text spells matches the subject, and not its own text.
+/// The pattern that the text spells matches the subject, and not its own text.
 fn match_deep(rt: &impl Abort, alloc: Global, bank: &mut SharedBank, text: &[u8], subject: &[u8]) {
     let p = pattern(rt, alloc, bank, text);
     let mut out = Vec::new(alloc);
@@ -404,7 +404,7 @@ fn match_deep(rt: &impl Abort, alloc: Global, bank: &mut SharedBank, text: &[u8]
     assert!(rt; out.is_empty());
 }
 
-// The pattern matches the subject, and makes it of the 1 that it finds there.
+/// The pattern matches the subject, and makes it of the 1 that it finds there.
 fn match_subject(
     rt: &impl Abort,
     alloc: Global,

@@ -80,7 +80,7 @@ fn chains_are_doubled_when_cells_pass_their_number(rt: HostRuntime) {
     assert!(rt; bank.arena().chains() == 4096);
 }
 
-// What a reclaim leaves is there still, and what it drops may be made again.
+/// What a reclaim leaves is there still, and what it drops may be made again.
 #[test]
 fn a_reclaim_keeps_what_is_handed_in(rt: HostRuntime) {
     let mut bank = SharedBank::new(rt.alloc(), 5000).expect(&rt, "a bank");

@@ -16,7 +16,7 @@ use crate::quoted_name::read_quoted;
 use rx_term::{BankFault, Symbol, Term, TermBank};
 use std::alloc::Global;
 
-// The list of the last so many references, which it takes away.
+/// The list of the last so many references, which it takes away.
 fn take_list<B: TermBank>(made: &mut Vec<Term>, count: u32, bank: &mut B) -> Result<Term, BankFault>
     requires held { (trees : List Tree) × Holds (B.store bank.old) made.old.items trees
         × (count ≤ length trees) }
@@ -35,7 +35,7 @@ fn take_list<B: TermBank>(made: &mut Vec<Term>, count: u32, bank: &mut B) -> Res
     Ok(list)
 }
 
-// The symbol of a name and a number of arguments.
+/// The symbol of a name and a number of arguments.
 fn symbol_of<B: TermBank>(
     alloc: Global,
     bytes: &[u8],
@@ -59,7 +59,7 @@ fn symbol_of<B: TermBank>(
     }
 }
 
-// The tree of a node, whose parts are the last references.
+/// The tree of a node, whose parts are the last references.
 fn make<B: TermBank>(
     alloc: Global,
     bytes: &[u8],

@@ -41,20 +41,21 @@ pub struct Lexeme {
     pub to: usize,
 }
 
+/// Whether the byte stands between tokens.
 fn is_blank(byte: u8) -> bool
     ensures { result ≡ is_layout byte }
 {
     byte == b' ' || byte == b'\t' || byte == b'\n' || byte == b'\r'
 }
 
-// Whether the byte is an ASCII digit.
+/// Whether the byte is an ASCII digit.
 fn is_decimal(byte: u8) -> bool
     ensures { result ≡ is_digit byte }
 {
     byte >= b'0' && byte <= b'9'
 }
 
-// The first offset from `from` on at which no layout stands.
+/// The first offset from `from` on at which no layout stands.
 fn after_layout(bytes: &[u8], from: usize) -> usize
     requires { from ≤ length bytes.now }
     ensures above { from ≤ result }
@@ -69,7 +70,7 @@ fn after_layout(bytes: &[u8], from: usize) -> usize
     at
 }
 
-// The end of the digits that stand from `from` on.
+/// The end of the digits that stand from `from` on.
 fn digits_end(bytes: &[u8], from: usize) -> usize
     requires { from ≤ length bytes.now }
     ensures above { from ≤ result }
@@ -83,7 +84,7 @@ fn digits_end(bytes: &[u8], from: usize) -> usize
     end
 }
 
-// The end of the bytes that go on a name from `from` on.
+/// The end of the bytes that go on a name from `from` on.
 fn name_end(bytes: &[u8], from: usize) -> usize
     requires { from ≤ length bytes.now }
     ensures above { from ≤ result }
@@ -97,7 +98,7 @@ fn name_end(bytes: &[u8], from: usize) -> usize
     end
 }
 
-// The number that the digits write, or the greatest number where that is greater.
+/// The number that the digits write, or the greatest number where that is greater.
 fn magnitude(digits: &[u8]) -> u32
     requires { AreDigits digits.now }
     ensures { result ≡ min (digits_value 10 digits.now) (2 ^ 32 - 1) }
@@ -111,7 +112,7 @@ fn magnitude(digits: &[u8]) -> u32
     value
 }
 
-// The integer of a sign and a magnitude, or a bad token where it is none of 32 bits.
+/// The integer of a sign and a magnitude, or a bad token where it is none of 32 bits.
 fn integer(magnitude: u32, negative: bool) -> Kind
     ensures token { (bytes : List ℕ) → token_of bytes result ≡ integer_token
         (cond negative (neg_ℤ (pos magnitude)) (pos magnitude)) }
@@ -128,7 +129,7 @@ fn integer(magnitude: u32, negative: bool) -> Kind
     }
 }
 
-// The name between quotes whose first quote stands before `from`, or a bad token.
+/// The name between quotes whose first quote stands before `from`, or a bad token.
 fn quoted_word(bytes: &[u8], from: usize) -> (Kind, usize)
     requires from { from ≤ length bytes.now }
     requires short { length bytes.now ≤ longest }
@@ -152,7 +153,7 @@ fn quoted_word(bytes: &[u8], from: usize) -> (Kind, usize)
     }
 }
 
-// The mark that a byte is, or a bad token.
+/// The mark that a byte is, or a bad token.
 fn mark_of(byte: u8) -> Kind
     ensures token { (bytes : List ℕ) → token_of bytes result ≡ mark byte }
     ensures kind { IsMark result }
@@ -171,7 +172,7 @@ fn mark_of(byte: u8) -> Kind
     }
 }
 
-// The token that begins at `at`, and its end.
+/// The token that begins at `at`, and its end.
 fn token(bytes: &[u8], at: usize) -> (Kind, usize)
     requires at { at < length bytes.now }
     requires short { length bytes.now ≤ longest }

@@ -72,7 +72,7 @@ pub struct Reader<'a> {
 }
 
 impl<'a> Reader<'a> {
-    // Where a term is due.
+    /// Where a term is due.
     fn start(&mut self, token: Kind) -> Result<Due, Stop>
         requires state { IsState self.old.bytes.now Due.Term self.old.frames.items
             self.old.nodes.items }
@@ -105,7 +105,7 @@ impl<'a> Reader<'a> {
         }
     }
 
-    // What was open, and is no longer on the stack, ends at its mark.
+    /// What was open, and is no longer on the stack, ends at its mark.
     fn close(&mut self, frame: Frame, token: Kind) -> Result<Due, Stop>
         requires stack { IsStack self.old.bytes.now (held frame.opening frame.count)
             self.old.frames.items self.old.nodes.items }
@@ -147,7 +147,7 @@ impl<'a> Reader<'a> {
         }
     }
 
-    // Behind the mark that opened something: its end, or its first item.
+    /// Behind the mark that opened something: its end, or its first item.
     fn first(&mut self, opening: Opening, token: Kind) -> Result<Due, Stop>
         requires state { IsState self.old.bytes.now (Due.First opening) self.old.frames.items
             self.old.nodes.items }
@@ -173,7 +173,7 @@ impl<'a> Reader<'a> {
         }
     }
 
-    // One more item of what is open, and a comma.
+    /// One more item of what is open, and a comma.
     fn next_item(&mut self) -> Result<Due, Stop>
         requires state { IsState self.old.bytes.now Due.Whole self.old.frames.items
             self.old.nodes.items }
@@ -198,7 +198,7 @@ impl<'a> Reader<'a> {
         Ok(Due::Term)
     }
 
-    // One more item of what is open, and a mark that ends it.
+    /// One more item of what is open, and a mark that ends it.
     fn end_item(&mut self, token: Kind) -> Result<Due, Stop>
         requires state { IsState self.old.bytes.now Due.Whole self.old.frames.items
             self.old.nodes.items }
@@ -224,7 +224,7 @@ impl<'a> Reader<'a> {
         self.close(longer, token)
     }
 
-    // The end of a placeholder.
+    /// The end of a placeholder.
     fn end_placeholder(&mut self) -> Result<Due, Stop>
         requires state { IsState self.old.bytes.now Due.Whole self.old.frames.items
             self.old.nodes.items }
@@ -246,7 +246,7 @@ impl<'a> Reader<'a> {
         Ok(Due::Body)
     }
 
-    // Behind a term with its annotations.
+    /// Behind a term with its annotations.
     fn whole(&mut self, token: Kind) -> Result<Due, Stop>
         requires state { IsState self.old.bytes.now Due.Whole self.old.frames.items
             self.old.nodes.items }
@@ -277,7 +277,7 @@ impl<'a> Reader<'a> {
         }
     }
 
-    // Behind a term to which annotations may come.
+    /// Behind a term to which annotations may come.
     fn body(&mut self, token: Kind) -> Result<Due, Stop>
         requires state { IsState self.old.bytes.now Due.Body self.old.frames.items
             self.old.nodes.items }
@@ -297,7 +297,7 @@ impl<'a> Reader<'a> {
         }
     }
 
-    // Behind a name.
+    /// Behind a name.
     fn named(&mut self, word: Word, token: Kind) -> Result<Due, Stop>
         requires state { IsState self.old.bytes.now (Due.Named word) self.old.frames.items
             self.old.nodes.items }
@@ -320,7 +320,7 @@ impl<'a> Reader<'a> {
         }
     }
 
-    // The next token.
+    /// The next token.
     fn step(&mut self, due: Due, token: Kind) -> Result<Due, Stop>
         requires state { IsState self.old.bytes.now due self.old.frames.items self.old.nodes.items }
         requires token { IsToken self.old.bytes.now token }

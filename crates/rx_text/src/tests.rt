@@ -9,7 +9,7 @@ use std::io::Write;
 use std::process::Abort;
 use std::test::*;
 
-// What may stand where a term is due.
+/// What may stand where a term is due.
 const BEGINS: [(&str, &[TokenKind]); 8] = [
     ("", &[Integer, Name, Open, OpenBracket, Less]),
     ("<", &[Integer, Name, Open, OpenBracket, Less]),
@@ -21,7 +21,7 @@ const BEGINS: [(&str, &[TokenKind]); 8] = [
     ("a{", &[Integer, Name, Open, OpenBracket, CloseBrace, Less]),
 ];
 
-// What may stand behind a term.
+/// What may stand behind a term.
 const BEHIND: [(&str, &[TokenKind]); 11] = [
     ("a b", &[Open, OpenBrace, End]),
     ("f(a", &[Open, Close, OpenBrace, Comma]),
@@ -36,7 +36,7 @@ const BEHIND: [(&str, &[TokenKind]); 11] = [
     ("<a{}", &[Greater]),
 ];
 
-// The offset of the token at which the text leaves the grammar.
+/// The offset of the token at which the text leaves the grammar.
 fn place(rt: &impl Abort, alloc: Global, text: &[u8]) -> Option<u32> {
     let mut bank = PlainBank::new(alloc, 10).expect(rt, "a bank");
     match read(alloc, text, &mut bank) {
@@ -45,7 +45,7 @@ fn place(rt: &impl Abort, alloc: Global, text: &[u8]) -> Option<u32> {
     }
 }
 
-// Whether the tree that the first text spells is printed as the second.
+/// Whether the tree that the first text spells is printed as the second.
 fn prints(rt: &impl Abort, alloc: Global, text: &[u8], printed: &[u8]) -> bool {
     let mut bank = PlainBank::new(alloc, 1000).expect(rt, "a bank");
     let mut out = Vec::new(alloc);
@@ -121,7 +121,7 @@ fn printed_texts(rt: HostRuntime) {
     assert!(rt; prints(&rt, alloc, b"<7>{7}", b"<7>{7}"));
 }
 
-// So many opening brackets, and as many closing ones.
+/// So many opening brackets, and as many closing ones.
 fn nested(alloc: Global, depth: u32) -> Result<Vec<u8>, AllocError> {
     let mut bytes = Vec::new(alloc);
     for _ in 0..depth {
@@ -133,7 +133,7 @@ fn nested(alloc: Global, depth: u32) -> Result<Vec<u8>, AllocError> {
     Ok(bytes)
 }
 
-// The brackets are read before a bank without room for their lists is asked.
+/// The brackets are read before a bank without room for their lists is asked.
 #[test]
 fn two_million_brackets(rt: HostRuntime) -> Result<(), Fail> {
     let alloc = rt.alloc();
@@ -157,7 +157,7 @@ fn two_million_levels(rt: HostRuntime) -> Result<(), Fail> {
     Ok(())
 }
 
-// A full bank answers that; a text with a fault is answered first.
+/// A full bank answers that; a text with a fault is answered first.
 #[test]
 fn a_full_bank(rt: HostRuntime) -> Result<(), Fail> {
     let alloc = rt.alloc();
@@ -168,7 +168,7 @@ fn a_full_bank(rt: HostRuntime) -> Result<(), Fail> {
     Ok(())
 }
 
-// A writer with room for so many bytes.
+/// A writer with room for so many bytes.
 #[derive(Drop)]
 struct Small {
     left: usize,

@@ -32,7 +32,7 @@ pub enum Job {
     Others(Term),
 }
 
-// Writes all of a text, by as many writes as the writer needs.
+/// Writes all of a text, by as many writes as the writer needs.
 fn put<W: Write>(out: &mut W, text: &[u8]) -> Result<(), WriteFault>
     ensures written { OnOk result (Appends (W.contents out.old) (W.contents out.new) (text.now)) }
     ensures front { OnErr result
@@ -48,7 +48,7 @@ fn put<W: Write>(out: &mut W, text: &[u8]) -> Result<(), WriteFault>
     Ok(())
 }
 
-// Writes a backslash and three octal digits.
+/// Writes a backslash and three octal digits.
 fn put_octal<W: Write>(out: &mut W, byte: u8) -> Result<(), WriteFault>
     ensures written { OnOk result
         (Appends (W.contents out.old) (W.contents out.new) (octal_text byte)) }
@@ -64,7 +64,7 @@ fn put_octal<W: Write>(out: &mut W, byte: u8) -> Result<(), WriteFault>
     put(out, &digits)
 }
 
-// Writes one byte of a quoted name.
+/// Writes one byte of a quoted name.
 fn put_quoted_byte<W: Write>(out: &mut W, byte: u8) -> Result<(), WriteFault>
     ensures written { OnOk result
         (Appends (W.contents out.old) (W.contents out.new) (quoted_byte byte)) }
@@ -86,7 +86,7 @@ fn put_quoted_byte<W: Write>(out: &mut W, byte: u8) -> Result<(), WriteFault>
     }
 }
 
-// Writes a name, between quotes where it is quoted.
+/// Writes a name, between quotes where it is quoted.
 fn put_name<W: Write>(out: &mut W, name: &[u8], quoted: bool) -> Result<(), WriteFault>
     ensures written { OnOk result
         (Appends (W.contents out.old) (W.contents out.new) (name_text name.now quoted)) }
@@ -103,7 +103,7 @@ fn put_name<W: Write>(out: &mut W, name: &[u8], quoted: bool) -> Result<(), Writ
     put(out, b"\"")
 }
 
-// Writes an integer.
+/// Writes an integer.
 fn put_integer<W: Write>(out: &mut W, value: i32) -> Result<(), WriteFault>
     ensures written { OnOk result
         (Appends (W.contents out.old) (W.contents out.new) (signed_decimal value)) }
@@ -114,7 +114,7 @@ fn put_integer<W: Write>(out: &mut W, value: i32) -> Result<(), WriteFault>
     put(out, buffer.format(value).as_bytes())
 }
 
-// Adds two jobs, of which the second is done first.
+/// Adds two jobs, of which the second is done first.
 fn leave(jobs: &mut Vec<Job>, later: Job, first: Job) -> Result<(), WriteFault>
     ensures { OnOk result (jobs.new.items ≡ jobs.old.items ++ later ∷ first ∷ []) }
 {
@@ -123,7 +123,7 @@ fn leave(jobs: &mut Vec<Job>, later: Job, first: Job) -> Result<(), WriteFault>
     Ok(())
 }
 
-// Writes the front of an application without its annotations.
+/// Writes the front of an application without its annotations.
 fn write_application<B: TermBank, W: Write>(
     bank: &B,
     term: Term,
@@ -152,7 +152,7 @@ fn write_application<B: TermBank, W: Write>(
     }
 }
 
-// Writes the front of a tree without its annotations.
+/// Writes the front of a tree without its annotations.
 fn write_body<B: TermBank, W: Write>(
     bank: &B,
     term: Term,
@@ -181,7 +181,7 @@ fn write_body<B: TermBank, W: Write>(
     }
 }
 
-// Writes the front of a tree.
+/// Writes the front of a tree.
 fn write_tree<B: TermBank, W: Write>(
     bank: &B,
     term: Term,
@@ -199,7 +199,7 @@ fn write_tree<B: TermBank, W: Write>(
     write_body(bank, term, jobs, out)
 }
 
-// Writes the brace before the annotations of a tree.
+/// Writes the brace before the annotations of a tree.
 fn write_notes<B: TermBank, W: Write>(
     bank: &B,
     term: Term,
@@ -220,7 +220,7 @@ fn write_notes<B: TermBank, W: Write>(
     put(out, b"{")
 }
 
-// Leaves the items of a list to do.
+/// Leaves the items of a list to do.
 fn leave_items<B: TermBank>(bank: &B, list: Term, jobs: &mut Vec<Job>) -> Result<(), WriteFault>
     requires { IsJob (B.store bank.now) (Job.Items list) }
     ensures { OnOk result (Adds (B.store bank.now) (job_text (B.store bank.now) (Job.Items list))
@@ -237,7 +237,7 @@ fn leave_items<B: TermBank>(bank: &B, list: Term, jobs: &mut Vec<Job>) -> Result
     }
 }
 
-// Writes the comma before the first item of a list.
+/// Writes the comma before the first item of a list.
 fn write_others<B: TermBank, W: Write>(
     bank: &B,
     list: Term,
@@ -263,7 +263,7 @@ fn write_others<B: TermBank, W: Write>(
     }
 }
 
-// Does the front of a job; the rest of it is left to do.
+/// Does the front of a job; the rest of it is left to do.
 fn write_job<B: TermBank, W: Write>(
     bank: &B,
     job: Job,

@@ -14,7 +14,7 @@ use crate::lexer::{Kind, Part, next};
 use crate::token_kind::TokenKind;
 use std::alloc::{AllocError, Global};
 
-// Whether a token of this kind may stand behind a whole item.
+/// Whether a token of this kind may stand behind a whole item.
 fn is_after_item(level: Option<Part>, kind: TokenKind) -> bool
     ensures { (y : Spec) → result ≡ is_taken (between (level_of level) y) kind }
 {
@@ -26,7 +26,7 @@ fn is_after_item(level: Option<Part>, kind: TokenKind) -> bool
     }
 }
 
-// Whether a token of this kind may stand behind a whole term that is no argument.
+/// Whether a token of this kind may stand behind a whole term that is no argument.
 fn is_after_whole(role: &Role, kind: TokenKind) -> bool
     ensures { (bytes : List ℕ) (t : syntax.Term) (y : Spec)
         → result ≡ is_taken (complete (role_of bytes role.now) t y) kind }
@@ -47,7 +47,7 @@ fn is_after_whole(role: &Role, kind: TokenKind) -> bool
 }
 
 impl Reader {
-    // Whether a token of this kind may stand behind a whole term.
+    /// Whether a token of this kind may stand behind a whole term.
     fn is_after_term(&self, kind: TokenKind) -> bool
         ensures { (t : syntax.Term) (y : Spec) (made : List syntax.Term)
             → result ≡ is_taken (after (role_of self.now.source.items self.now.role) t
@@ -60,7 +60,7 @@ impl Reader {
         }
     }
 
-    // Whether a token of this kind may stand here.
+    /// Whether a token of this kind may stand here.
     fn is_expected(&self, due: Due, kind: TokenKind) -> bool
         ensures { (y : Spec)
             → result ≡ is_taken (step (due_of self.now.source.items due self.now) y) kind }
@@ -85,7 +85,7 @@ impl Reader {
         }
     }
 
-    // The kinds of tokens that may stand here.
+    /// The kinds of tokens that may stand here.
     fn expected(&self, alloc: Global, due: Due) -> Result<Vec<TokenKind>, AllocError>
         ensures { (y : Spec) → IfOk result (λ kinds. (k : TokenKind) → Contains kinds.items k
             ↔ (is_taken (step (due_of self.now.source.items due self.now) y) k ≡ true)) }
@@ -99,7 +99,7 @@ impl Reader {
         Ok(kinds)
     }
 
-    // Whether this token may stand here.
+    /// Whether this token may stand here.
     fn may_take(&self, due: Due, token: Kind) -> bool
         ensures { let bytes = self.now.source.items in (y : Spec)
             → result ≡ is_some (step (due_of bytes due self.now) y (token_of bytes token)) }
@@ -111,7 +111,7 @@ impl Reader {
     }
 }
 
-// The reader behind the tokens before the fault's place, and what is due there.
+/// The reader behind the tokens before the fault's place, and what is due there.
 fn read_to_fault(alloc: Global, source: Vec<u8>) -> Result<(Due, Reader), AllocError>
     ensures same { IfOk result (λ at. at.1.source ≡ source) }
     ensures reached { IfOk result (λ at. IsAtFault source.items at.0 at.1) }

@@ -12,7 +12,7 @@ use crate::parts::{Declaration, Group};
 use smallvec::SmallVec;
 use std::mem;
 
-// Whether the section comes after the open one.
+/// Whether the section comes after the open one.
 pub(super) fn is_later(level: Option<Part>, part: Part) -> bool
     ensures { result ≡ later (level_of level) (section_of part) }
 {
@@ -23,7 +23,7 @@ pub(super) fn is_later(level: Option<Part>, part: Part) -> bool
 }
 
 impl Reader {
-    // After REC-SPEC: the name.
+    /// After REC-SPEC: the name.
     pub(super) fn title(&mut self, token: Kind) -> Result<Due, Stop>
         requires state { IsAt Due.Title self.old }
         requires token { IsToken self.old.source.items token }
@@ -39,7 +39,7 @@ impl Reader {
         }
     }
 
-    // An item of the open section begins with this word.
+    /// An item of the open section begins with this word.
     fn item(&mut self, level: Option<Part>, word: Span) -> Result<Due, Stop>
         requires sections { AreSections self.old.source.items self.old.sections }
         requires word { Within self.old.source.items word }
@@ -69,7 +69,7 @@ impl Reader {
         }
     }
 
-    // After a whole item: another one, a later section, or the end.
+    /// After a whole item: another one, a later section, or the end.
     pub(super) fn between(&mut self, level: Option<Part>, token: Kind) -> Result<Due, Stop>
         requires sections { AreSections self.old.source.items self.old.sections }
         requires token { IsToken self.old.source.items token }
@@ -90,7 +90,7 @@ impl Reader {
         }
     }
 
-    // After a declaration's word: the colon.
+    /// After a declaration's word: the colon.
     pub(super) fn named(&mut self, symbols: Symbols, name: Span, token: Kind) -> Result<Due, Stop>
         requires state { IsAt (Due.Named symbols name) self.old }
         requires token { IsToken self.old.source.items token }
@@ -106,7 +106,7 @@ impl Reader {
         }
     }
 
-    // After the colon: the sorts of the arguments, and the arrow.
+    /// After the colon: the sorts of the arguments, and the arrow.
     pub(super) fn arguments(
         &mut self,
         symbols: Symbols,
@@ -128,7 +128,7 @@ impl Reader {
         }
     }
 
-    // After the arrow: the sort.
+    /// After the arrow: the sort.
     pub(super) fn result_sort(
         &mut self,
         symbols: Symbols,
@@ -163,7 +163,7 @@ impl Reader {
         }
     }
 
-    // After a group's first word: the others, and the colon.
+    /// After a group's first word: the others, and the colon.
     pub(super) fn grouped(&mut self, first: Span, token: Kind) -> Result<Due, Stop>
         requires state { IsAt (Due.Grouped first) self.old }
         requires token { IsToken self.old.source.items token }
@@ -180,7 +180,7 @@ impl Reader {
         }
     }
 
-    // After a group's colon: the sort.
+    /// After a group's colon: the sort.
     pub(super) fn group_sort(&mut self, first: Span, token: Kind) -> Result<Due, Stop>
         requires state { IsAt (Due.GroupSort first) self.old }
         requires token { IsToken self.old.source.items token }

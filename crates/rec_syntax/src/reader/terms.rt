@@ -12,7 +12,7 @@ use smallvec::SmallVec;
 use std::mem;
 
 impl Reader {
-    // Nothing is read of the next term.
+    /// Nothing is read of the next term.
     pub(super) fn begin(&mut self, role: Role)
         ensures role { self.new.role ≡ role }
         ensures calls { self.new.calls.items ≡ [] }
@@ -25,7 +25,7 @@ impl Reader {
         self.nodes.clear();
     }
 
-    // A term's word.
+    /// A term's word.
     pub(super) fn at_term(&mut self, token: Kind) -> Result<Due, Stop>
         requires state { IsAt Due.AtTerm self.old }
         requires token { IsToken self.old.source.items token }
@@ -38,7 +38,7 @@ impl Reader {
         }
     }
 
-    // After a term's word: an opening parenthesis, or what follows a term.
+    /// After a term's word: an opening parenthesis, or what follows a term.
     pub(super) fn called(&mut self, word: Span, token: Kind) -> Result<Due, Stop>
         requires state { IsAt (Due.Called word) self.old }
         requires token { IsToken self.old.source.items token }
@@ -54,7 +54,7 @@ impl Reader {
         }
     }
 
-    // After an opening parenthesis: the first argument, or the closing one.
+    /// After an opening parenthesis: the first argument, or the closing one.
     pub(super) fn first(&mut self, word: Span, token: Kind) -> Result<Due, Stop>
         requires state { IsAt (Due.First word) self.old }
         requires token { IsToken self.old.source.items token }
@@ -74,7 +74,7 @@ impl Reader {
         }
     }
 
-    // After a whole term.
+    /// After a whole term.
     pub(super) fn after(&mut self, token: Kind) -> Result<Due, Stop>
         requires state { IsAt Due.After self.old }
         requires token { IsToken self.old.source.items token }
@@ -103,7 +103,7 @@ impl Reader {
         }
     }
 
-    // After a whole term that is no argument.
+    /// After a whole term that is no argument.
     fn complete(&mut self, token: Kind) -> Result<Due, Stop>
         requires state { IsAt Due.After self.old }
         requires alone { self.old.calls.items ≡ [] }
@@ -133,7 +133,7 @@ impl Reader {
         }
     }
 
-    // After a rule's left side: the arrow.
+    /// After a rule's left side: the arrow.
     fn after_left(&mut self, left: Term, token: Kind) -> Result<Due, Stop>
         requires sections { AreSections self.old.source.items self.old.sections }
         requires left { IsTerm self.old.source.items left }
@@ -149,7 +149,7 @@ impl Reader {
         }
     }
 
-    // After a rule's right side: a condition, or what follows a rule.
+    /// After a rule's right side: a condition, or what follows a rule.
     fn after_right(&mut self, left: Term, right: Term, token: Kind) -> Result<Due, Stop>
         requires sections { AreSections self.old.source.items self.old.sections }
         requires left { IsTerm self.old.source.items left }
@@ -175,7 +175,7 @@ impl Reader {
         }
     }
 
-    // After a condition's left term: the mark.
+    /// After a condition's left term: the mark.
     fn after_condition_left(&mut self, rule: Rule, left: Term, token: Kind) -> Result<Due, Stop>
         requires sections { AreSections self.old.source.items self.old.sections }
         requires rule { IsRule self.old.source.items rule }
@@ -196,7 +196,7 @@ impl Reader {
         }
     }
 
-    // After a whole condition: another one, or what follows a rule.
+    /// After a whole condition: another one, or what follows a rule.
     fn after_condition(
         &mut self,
         mut rule: Rule,

@@ -17,7 +17,7 @@ use crate::reading::LONGEST;
 use crate::token_kind::TokenKind;
 use std::alloc::{AllocError, Global};
 
-// Whether a term may begin with a token of this kind.
+/// Whether a term may begin with a token of this kind.
 fn begins_term(kind: TokenKind) -> bool
     ensures { (fs : List machine.Frame) → result ≡ is_taken (start fs) kind }
 {
@@ -31,7 +31,7 @@ fn begins_term(kind: TokenKind) -> bool
     )
 }
 
-// Whether this is the mark that closes what is open.
+/// Whether this is the mark that closes what is open.
 fn closes(opening: Opening, kind: TokenKind) -> bool
     ensures { (bytes : List ℕ) (n : ℕ) (made : List Tree) (fs : List machine.Frame)
         → result ≡ is_taken (close (frame_of bytes opening n made) fs) kind }
@@ -44,7 +44,7 @@ fn closes(opening: Opening, kind: TokenKind) -> bool
     }
 }
 
-// Whether a token of this kind may stand behind the mark that opened something.
+/// Whether a token of this kind may stand behind the mark that opened something.
 fn is_first(opening: Opening, kind: TokenKind) -> bool
     ensures { (bytes : List ℕ) (n : ℕ) (made : List Tree) (fs : List machine.Frame)
         → result ≡ is_taken (first (frame_of bytes opening n made) fs) kind }
@@ -55,7 +55,7 @@ fn is_first(opening: Opening, kind: TokenKind) -> bool
     }
 }
 
-// Whether a token of this kind may stand behind a whole item of what is open.
+/// Whether a token of this kind may stand behind a whole item of what is open.
 fn is_after_item(opening: Opening, kind: TokenKind) -> bool
     ensures { (bytes : List ℕ) (u : Tree) (n : ℕ) (made : List Tree) (fs : List machine.Frame)
         → result ≡ is_taken (whole u (frame_of bytes opening n made ∷ fs)) kind }
@@ -70,7 +70,7 @@ fn is_after_item(opening: Opening, kind: TokenKind) -> bool
 }
 
 impl<'a> Reader<'a> {
-    // Whether a token of this kind may stand behind a term with its annotations.
+    /// Whether a token of this kind may stand behind a term with its annotations.
     fn is_after_whole(&self, kind: TokenKind) -> bool
         ensures { (u : Tree) (made : List Tree) → result ≡ is_taken
             (whole u (frames_of self.now.bytes.now (reverse self.now.frames.items) made)) kind }
@@ -81,7 +81,7 @@ impl<'a> Reader<'a> {
         }
     }
 
-    // Whether a token of this kind may stand here.
+    /// Whether a token of this kind may stand here.
     fn is_expected(&self, due: Due, kind: TokenKind) -> bool
         ensures { (made : List Tree) → result ≡ is_taken (step (mode_of self.now.bytes.now due made)
             (frames_of self.now.bytes.now (reverse self.now.frames.items) (owned due made))) kind }
@@ -102,7 +102,7 @@ impl<'a> Reader<'a> {
         }
     }
 
-    // The kinds of tokens that may stand here.
+    /// The kinds of tokens that may stand here.
     fn expected(&self, alloc: Global, due: Due) -> Result<Vec<TokenKind>, AllocError>
         ensures { (made : List Tree) → IfOk result
             (λ kinds. (k : TokenKind) → Contains kinds.items k
@@ -118,7 +118,7 @@ impl<'a> Reader<'a> {
         Ok(kinds)
     }
 
-    // Whether this token may stand here.
+    /// Whether this token may stand here.
     fn may_take(&self, due: Due, token: Kind) -> bool
         ensures { (made : List Tree) → result ≡ is_some
             (step (mode_of self.now.bytes.now due made) (frames_of self.now.bytes.now
@@ -131,7 +131,7 @@ impl<'a> Reader<'a> {
     }
 }
 
-// The reader behind the tokens before the fault's place, and what is due there.
+/// The reader behind the tokens before the fault's place, and what is due there.
 fn read_to_fault(alloc: Global, bytes: &[u8]) -> Result<(Due, Reader<'_>), AllocError>
     requires { length bytes.now ≤ longest }
     ensures same { IfOk result (λ at. at.1.bytes.now ≡ bytes.now) }
