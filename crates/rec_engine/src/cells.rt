@@ -44,6 +44,7 @@ pub(crate) struct Pace {
 }
 
 /// Makes a node, once.
+#[inline(always)]
 fn make_once<B: TermBank>(bank: &mut B, node: Node) -> Result<Term, BankFault>
     requires { IsSome (built (B.store bank.old) node) }
     ensures { MakesOrRefuses (B.store bank.old) (B.store bank.new)
@@ -59,6 +60,7 @@ fn make_once<B: TermBank>(bank: &mut B, node: Node) -> Result<Term, BankFault>
 
 /// Gives back what is not needed; no constant is known any more, and no result of what was given
 /// back.
+#[inline(never)]
 fn reclaim<B: TermBank>(bank: &mut B, work: &[Term], pace: &mut Pace)
     requires { AllHeld (B.store bank.old) work.now }
     ensures reclaims { Reclaims (B.store bank.old) (B.store bank.new) work.now }
@@ -72,6 +74,7 @@ fn reclaim<B: TermBank>(bank: &mut B, work: &[Term], pace: &mut Pace)
 
 /// Makes a node; where the bank is full, gives back what is not needed, and tries once more. Where
 /// there is no room even so, all results are forgotten.
+#[inline(always)]
 pub(crate) fn make_anyway<B: TermBank>(
     bank: &mut B,
     work: &[Term],

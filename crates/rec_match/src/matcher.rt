@@ -7,7 +7,7 @@ ghost use Rattle.rec_match.specs.Held.{AllHeld};
 ghost use Rattle.rec_match.specs.Matching.{CanFind, FindsFor, Asks, Opens, Takes, CanAsk, Matches};
 
 use crate::forest::Forest;
-use crate::places::push_at;
+use crate::places::{push_all, push_at};
 use rec_sorts::Links;
 use rx_term::{Kind, Symbol, Term, TermBank};
 use std::alloc::{AllocError, Global};
@@ -186,7 +186,7 @@ fn matches<B: TermBank>(
     pending.clear();
     bind.clear();
     let first = work.len() - count as usize;
-    pending.extend_from_slice(&work[first..])?;
+    push_all(&work[first..], pending)?;
     for test in tests {
         let Some(u) = pending.pop() else {
             return Ok(false);

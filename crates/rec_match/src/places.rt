@@ -28,6 +28,18 @@ pub(crate) fn push_at<T: Copy>(
     Ok(())
 }
 
+/// All items, behind those that were found before: few at a time, for which a loop is faster than
+/// a copy.
+#[inline(always)]
+pub(crate) fn push_all<T: Copy>(items: &[T], found: &mut Vec<T>) -> Result<(), AllocError>
+    ensures { IfOk result (λ u. found.new.items ≡ found.old.items ++ items.now) }
+{
+    for item in items {
+        found.push(*item)?;
+    }
+    Ok(())
+}
+
 impl Places {
     /// No variable has a place, of so many.
     pub fn new(alloc: Global, count: u32) -> Result<Places, AllocError>

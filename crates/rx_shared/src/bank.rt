@@ -80,6 +80,7 @@ impl SharedBank {
 
     /// Doubles the chains where there are more cells than chains; without memory for that it leaves
     /// them.
+    #[inline(never)]
     fn widen(&mut self)
         ensures { store_of self.new ≡ store_of self.old }
     {
@@ -91,6 +92,7 @@ impl SharedBank {
     }
 
     /// Takes a slot for a body that no slot holds.
+    #[inline(never)]
     fn add(&mut self, chain: u32, body: CellBody) -> Result<Term, BankFault>
         requires chain { chain ≡ body.hash % length self.old.arena.chains }
         requires written { IsWritten body }
@@ -110,6 +112,7 @@ impl SharedBank {
     }
 
     /// The reference of a body.
+    #[inline(always)]
     fn make(&mut self, body: CellBody) -> Result<Term, BankFault>
         requires written { IsWritten body }
         requires tree { IsSome (tree_of_body (store_of self.old) body) }
