@@ -1,28 +1,25 @@
 -- From the verdicts on a pattern and on a second text to what is due.
 use Rattle.std.proofs.Common.{◌≡◌, ℕ, List, [], Option, Some, None, IfSome, IfOk, Result, Ok, Err, refl, sym, ap, subst, ◌∙◌}
-use Rattle.std.specs.Io.KnownBytes.{Appends}
 use Rattle.rx_term.specs.Tree.{Tree}
 use Rattle.rx_term.specs.Store.{Store, tree_at}
 use Rattle.rx_term.specs.declared.Term.{Term}
-use Rattle.rx_text.specs.Verdict.{Verdict, Spelt, IsVerdict}
+use Rattle.rx_text.specs.Verdict.{Verdict, TooLong, Outside, Spelt, IsVerdict}
 use Rattle.rx_text.proofs.Verdicts.{one_verdict}
 use Rattle.rx_pattern.specs.Pattern.{unfit}
 use Rattle.rec_run.specs.Output.{Due, done}
-use Rattle.rec_run.specs.Run.{Stops}
-use Rattle.rec_run.specs.TermRuns.{Ends, IsPlaced, Breaks, IsReadingOf, due_of}
+use Rattle.rec_run.specs.Refusals.{finish_of, place_of, refusal_due, refused_text}
+use Rattle.rec_run.specs.TermRuns.{IsReadingOf}
 use Rattle.rec_run.specs.PatternRuns.{IsDueOfBoth, OneDueOfBoth, SpellsPattern, due_of_pattern, unless_unfit, due_of_args}
-use Rattle.rec_run.specs.PatternAnswers.{IsPatternOf, IsPatternRead, refusal_due, text_refusal}
+use Rattle.rec_run.specs.PatternAnswers.{IsPatternOf, IsPatternRead, answer_due}
 use Rattle.rec_run.specs.declared.ending.Finish.{Finish}
 use Rattle.rec_run.specs.declared.ending.Finish.TheVariants as finish
-use Rattle.rec_run.specs.declared.ending.Place.{Place}
-use Rattle.rec_run.specs.declared.ending.RunFault.{RunFault}
+use Rattle.rec_run.specs.declared.ending.Source.{Source}
 use Rattle.rec_run.specs.declared.ending.Source.TheVariants as source
-use Rattle.rec_run.specs.declared.given_term.TermRefusal.{TermRefusal}
-use Rattle.rec_run.specs.declared.given_term.TermRefusal.TheVariants as term
-use Rattle.rec_run.specs.declared.given_term.TermReading.TheVariants as given
-use Rattle.rec_run.specs.declared.pattern_answer.Refusal.{Refusal}
-use Rattle.rec_run.specs.declared.pattern_runs.PatternReading.{PatternReading}
-use Rattle.rec_run.specs.declared.pattern_runs.PatternReading.TheVariants as reading
+use Rattle.rec_run.specs.declared.pattern_answer.Answer.{Answer}
+use Rattle.rec_run.specs.declared.refusal.Reading.{Reading}
+use Rattle.rec_run.specs.declared.refusal.Reading.TheVariants.{Refused, Good}
+use Rattle.rec_run.specs.declared.refusal.Refusal.{Refusal}
+use Rattle.rec_run.proofs.WholeRuns.{same_refusal}
 
 -- of what a call gives
 pub if_ok_map : {X E : Type 0} (r : Result X E) (P Q : X → Type 0) → ((x : X) → P x → Q x) → IfOk r P → IfOk r Q
@@ -34,7 +31,7 @@ pub same_verdict : (bytes : List ℕ) (v w : Verdict) → IsVerdict bytes v → 
 same_verdict bytes v w h k = let one = one_verdict bytes in one.2 v h ∙ sym (one.2 w k)
 
 module _ (due : Verdict → Verdict → Due) where
-  same_due : (first second : List ℕ) (d e : Due) → IsDueOfBoth due first second d → IsDueOfBoth due first second e → d ≡ e
+  pub same_due : (first second : List ℕ) (d e : Due) → IsDueOfBoth due first second d → IsDueOfBoth due first second e → d ≡ e
   same_due first second d e h k =
       h.due_is ∙ ap (λ v. due v h.on_second) (same_verdict first h.on_first k.on_first h.first_is k.first_is)
       ∙ ap (due k.on_first) (same_verdict second h.on_second k.on_second h.second_is k.second_is) ∙ sym k.due_is
@@ -47,28 +44,13 @@ module _ (due : Verdict → Verdict → Due) where
   pub one_due_of_both : OneDueOfBoth due
   one_due_of_both = record { some = some_due; one = same_due }
 
-  pub ends_both : (told : Option (List ℕ)) (first : List ℕ) (a : Due) (finish : Finish) (old new : Option (List ℕ)) → IfSome told (λ bytes. IsDueOfBoth due first bytes a) → a.finish ≡ finish → Appends old new a.text
-      → IfSome told (λ bytes. Ends (IsDueOfBoth due first bytes) finish old new)
-  ends_both None first a finish old new h e w = tt
-  ends_both (Some bytes) first a finish old new h e w = record { due = a; is_due = h; ends = e; written = w }
-
-  pub placed_both : (told : Option (List ℕ)) (first : List ℕ) (a : Due) (place : Option Place) → IfSome told (λ bytes. IsDueOfBoth due first bytes a) → a.place ≡ place
-      → IfSome told (λ bytes. IsPlaced (IsDueOfBoth due first bytes) place)
-  placed_both None first a place h e = tt
-  placed_both (Some bytes) first a place h e = record { due = a; is_due = h; placed = e }
-
-  pub breaks_both : (told : Option (List ℕ)) (first : List ℕ) (a : Due) (fault : RunFault) (old new : Option (List ℕ)) → IfSome told (λ bytes. IsDueOfBoth due first bytes a) → Stops fault a.text old new
-      → IfSome told (λ bytes. Breaks (IsDueOfBoth due first bytes) fault old new)
-  breaks_both None first a fault old new h s = tt
-  breaks_both (Some bytes) first a fault old new h s = λ d is. subst (λ (e : Due). Stops fault e.text old new) (same_due first bytes a d h is) s
-
 -- what comes after a pattern, by the verdict on the second text
 module _ (after : Tree → Verdict → Due) where
   abbrev both : Verdict → Verdict → Due
   both pattern second = due_of_pattern (λ p. after p second) pattern
 
   -- the pattern is refused, whatever the second text is
-  pub refused_both : (told : Option (List ℕ)) (text : List ℕ) (r : Refusal) → IsPatternRead text (reading.Refused r) → IfSome told (λ bytes. IsDueOfBoth both text bytes (refusal_due r))
+  pub refused_both : (told : Option (List ℕ)) (text : List ℕ) (r : Refusal) → IsPatternRead text (Refused r) → IfSome told (λ bytes. IsDueOfBoth both text bytes (refusal_due r))
   refused_both None text r h = tt
   refused_both (Some bytes) text r (v, (is, e)) =
       let w = one_verdict bytes in
@@ -81,14 +63,15 @@ module _ (after : Tree → Verdict → Due) where
       record { on_first = Spelt p; on_second = v; first_is = s.spelt; second_is = is; due_is = e ∙ sym (ap (λ o. unless_unfit o (after p v)) s.fit) }
 
 -- a pattern's text that spells no tree
-pub unspelt_pattern : (w : Store) (text : List ℕ) (r : TermRefusal) (v : Verdict) → IsReadingOf w (given.Refused r) v → IsVerdict text v → IsPatternRead text (reading.Refused (text_refusal source.Pattern r))
-unspelt_pattern w text term.Long v e h = (v, (h, λ next. ap (due_of_pattern next) e))
-unspelt_pattern w text (term.Outside at) v e h = (v, (h, λ next. ap (due_of_pattern next) e))
+pub unspelt_pattern : (text : List ℕ) (r : Refusal) (v : Verdict) → refused_text source.Pattern v ≡ Some r → IsVerdict text v → IsPatternRead text (Refused r)
+unspelt_pattern text r TooLong e h = (TooLong, (h, λ next. sym (ap refusal_due (same_refusal e))))
+unspelt_pattern text r (Outside at) e h = (Outside at, (h, λ next. sym (ap refusal_due (same_refusal e))))
+unspelt_pattern text r (Spelt t) e h = absurd (cc e)
 
 -- a pattern's text that spells a tree
-pub spelt_pattern : (w : Store) (text : List ℕ) (t : Term) (v : Verdict) (r : PatternReading) → IsReadingOf w (given.Spells t) v → IsVerdict text v → ((u : Tree) → tree_at w t ≡ Some u → IsPatternOf u r) → IsPatternRead text r
-spelt_pattern w text t v (reading.Refused r) (u, here, e) h of = (v, (h, λ next. ap (due_of_pattern next) e ∙ of u here (next u)))
-spelt_pattern w text t v (reading.Good p) (u, here, e) h of =
+pub spelt_pattern : (from : Source) (w : Store) (text : List ℕ) (t : Term) (v : Verdict) (r : Reading Tree) → IsReadingOf from w (Good t) v → IsVerdict text v → ((u : Tree) → tree_at w t ≡ Some u → IsPatternOf u r) → IsPatternRead text r
+spelt_pattern from w text t v (Refused r) (u, here, e) h of = (v, (h, λ next. ap (due_of_pattern next) e ∙ of u here (next u)))
+spelt_pattern from w text t v (Good p) (u, here, e) h of =
     let k = of u here in
     record {
       spelt = subst (IsVerdict text) (e ∙ ap Spelt (sym k.0)) h;
@@ -96,28 +79,33 @@ spelt_pattern w text t v (reading.Good p) (u, here, e) h of =
     }
 
 -- a text that spells a tree, by what is due after its verdict
-pub spelt_due : (after : Verdict → Due) (w : Store) (t : Term) (v : Verdict) → IsReadingOf w (given.Spells t) v → (a : Due) → ((u : Tree) → tree_at w t ≡ Some u → a ≡ after (Spelt u)) → a ≡ after v
-spelt_due after w t v (u, here, e) a of = of u here ∙ sym (ap after e)
-
--- the input of a match that spells no tree
-pub unspelt_input : (lines : Tree → List ℕ) (w : Store) (r : TermRefusal) (v : Verdict) → IsReadingOf w (given.Refused r) v → refusal_due (text_refusal source.Term r) ≡ due_of lines v
-unspelt_input lines w term.Long v e = sym (ap (due_of lines) e)
-unspelt_input lines w (term.Outside at) v e = sym (ap (due_of lines) e)
+pub spelt_due : (after : Verdict → Due) (from : Source) (w : Store) (t : Term) (v : Verdict) → IsReadingOf from w (Good t) v → (a : Due) → ((u : Tree) → tree_at w t ≡ Some u → a ≡ after (Spelt u)) → a ≡ after v
+spelt_due after from w t v (u, here, e) a of = of u here ∙ sym (ap after e)
 
 -- arguments that spell no tree
-pub unspelt_args : (p : Tree) (w : Store) (r : TermRefusal) (v : Verdict) → IsReadingOf w (given.Refused r) v → refusal_due (text_refusal source.Args r) ≡ due_of_args p v
-unspelt_args p w term.Long v e = sym (ap (due_of_args p) e)
-unspelt_args p w (term.Outside at) v e = sym (ap (due_of_args p) e)
+pub unspelt_args : (p : Tree) (r : Refusal) (v : Verdict) → refused_text source.Args v ≡ Some r → refusal_due r ≡ due_of_args p v
+unspelt_args p r TooLong e = ap refusal_due (same_refusal e)
+unspelt_args p r (Outside at) e = ap refusal_due (same_refusal e)
+unspelt_args p r (Spelt t) e = absurd (cc e)
 
 -- what is due by the verdict on what was read is so by that on the text
-pub told_due : (told : Option (List ℕ)) (a : Due) (after : Verdict → Due) (v : Verdict) → IfSome told (λ bytes. IsVerdict bytes v) → a ≡ after v → IfSome told (λ bytes. (w : Verdict) × (IsVerdict bytes w × (a ≡ after w)))
-told_due None a after v h e = tt
-told_due (Some bytes) a after v h e = (v, (h, e))
+pub due_read : (told : Option (List ℕ)) (a : Due) (after : Verdict → Due) (v : Verdict) → IfSome told (λ bytes. IsVerdict bytes v) → a ≡ after v → IfSome told (λ bytes. (w : Verdict) × (IsVerdict bytes w × (a ≡ after w)))
+due_read None a after v h e = tt
+due_read (Some bytes) a after v h e = (v, (h, e))
 
 -- a text that is refused as a pattern spells none
-pub no_pattern : (text : List ℕ) (r : Refusal) → IsPatternRead text (reading.Refused r) → (p : Tree) → SpellsPattern text p → ⊥
+pub no_pattern : (text : List ℕ) (r : Refusal) → IsPatternRead text (Refused r) → (p : Tree) → SpellsPattern text p → ⊥
 no_pattern text r (v, (is, due)) p spelt =
     let none : unless_unfit (unfit p) (done []) ≡ refusal_due r = subst (λ z. due_of_pattern (λ q. done []) z ≡ refusal_due r) (same_verdict text v (Spelt p) is spelt.spelt) (due (λ q. done [])) in
     let fit : unless_unfit None (done []) ≡ refusal_due r = subst (λ z. unless_unfit z (done []) ≡ refusal_due r) spelt.fit none in
     let ends : finish.Done ≡ finish.Refused = ap (λ (d : Due). d.finish) fit in
     cc
+
+-- how a run ends, and the place of a refusal
+pub finish-answer_due : (w : Store) (r : Reading Answer) → (answer_due w r).finish ≡ finish_of r
+finish-answer_due w (Refused r) = refl
+finish-answer_due w (Good a) = refl
+
+pub place-answer_due : (w : Store) (r : Reading Answer) → (answer_due w r).place ≡ place_of r
+place-answer_due w (Refused r) = refl
+place-answer_due w (Good a) = refl

@@ -14,11 +14,11 @@ use Rattle.rx_text.proofs.InLine.{stays_in_line}
 use Rattle.rx_pattern.specs.Held.{Binds}
 use Rattle.rx_text.specs.Written.{AppendsFront}
 use Rattle.rec_run.specs.Bytes.{newlines}
-use Rattle.rec_run.specs.Output.{Due, done}
-use Rattle.rec_run.specs.Run.{Reports, Stops}
-use Rattle.rec_run.specs.TermRuns.{Breaks, term_line}
+use Rattle.rec_run.specs.Output.{done}
+use Rattle.rec_run.specs.Run.{Stops}
+use Rattle.rec_run.specs.TermRuns.{line_at, term_line}
 use Rattle.rec_run.specs.PatternRuns.{match_lines}
-use Rattle.rec_run.specs.PatternAnswers.{StopsAfter, line_at}
+use Rattle.rec_run.specs.PatternAnswers.{StopsAfter}
 use Rattle.rec_run.specs.declared.ending.RunFault.{RunFault}
 use Rattle.rec_run.specs.declared.ending.RunFault.TheVariants as fault
 use Rattle.rec_run.proofs.Told.{appends_both, appends_none, front_after}
@@ -144,11 +144,6 @@ flush_refused text old mid new a k =
       front = ([], sym (append-nil (text ++ []) ∙ append-nil text));
       reported = tt;
     }
-
--- nothing was written
-pub breaks_unwritten : (IsDue : List ℕ → Due → Type 0) (told : Option (List ℕ)) (f : RunFault) (old : Option (List ℕ)) → Reports f [] → IfSome told (λ bytes. Breaks (IsDue bytes) f old old)
-breaks_unwritten IsDue None f old r = tt
-breaks_unwritten IsDue (Some bytes) f old r = λ d is. record { written = []; appended = appends_none old old (kept old); front = (d.text, refl); reported = r }
 
 -- a fault within the first of two texts
 pub stops_before : (f : RunFault) (text more : List ℕ) (old new : Option (List ℕ)) → Stops f text old new → Stops f (text ++ more) old new

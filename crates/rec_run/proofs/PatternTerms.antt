@@ -13,7 +13,8 @@ use Rattle.rx_pattern.specs.Filling.{Fault, filling}
 use Rattle.rec_sorts.specs.TermRules.{elements}
 use Rattle.rec_run.specs.Output.{Due, done}
 use Rattle.rec_run.specs.PatternRuns.{filled_due, made_due}
-use Rattle.rec_run.specs.PatternAnswers.{HasElements, line_at}
+use Rattle.rec_run.specs.PatternAnswers.{HasElements}
+use Rattle.rec_run.specs.TermRuns.{line_at}
 use Rattle.rec_run.proofs.PatternLines.{held_trees}
 
 have-more : (w : Store) (rs : List Term) (ts : List Tree) (r : Term) (t : Tree) → HaveTrees w rs ts → tree_at w r ≡ Some t → HaveTrees w (rs ++ r ∷ []) (ts ++ t ∷ [])

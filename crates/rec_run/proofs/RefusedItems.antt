@@ -8,31 +8,36 @@ use Rattle.rx_text.specs.Verdict.{Verdict, TooLong, Outside, Spelt, IsVerdict}
 use Rattle.rx_pattern.specs.Filling as filling
 use Rattle.rx_pattern.specs.Filling.{Fault, Kinds, filling, slots}
 use Rattle.rx_pattern.proofs.Fitting.{HaveTrees-length}
-use Rattle.rec_syntax.specs.Syntax.{Spec}
+use Rattle.rec_syntax.specs.Syntax.{Sourced, Spec}
 use Rattle.rec_sorts.specs.SpecRules as verdict
 use Rattle.rec_sorts.specs.SpecRules.{Good, SpecVerdict}
 use Rattle.rec_run.specs.GivenTerms.{IsRefusal}
 use Rattle.rec_run.specs.PatternRuns.{SpellsPattern}
-use Rattle.rec_run.specs.Reading.{verdict_of_refusal}
+use Rattle.rec_run.specs.Reading.{IsSpecRead}
 use Rattle.rec_run.specs.RefusedItems.{misfit_of}
+use Rattle.rec_run.specs.Refusals.{refused_spec, refused_text}
 use Rattle.rec_run.specs.TermRuns.{IsReadingOf}
-use Rattle.rec_run.specs.declared.given_term.TermRefusal.{TermRefusal}
-use Rattle.rec_run.specs.declared.given_term.TermRefusal.TheVariants as term
-use Rattle.rec_run.specs.declared.given_term.TermReading.TheVariants as given
+use Rattle.rec_run.specs.declared.ending.Source.{Source}
+use Rattle.rec_run.specs.declared.refusal.Reading.TheVariants as reading
+use Rattle.rec_run.specs.declared.refusal.Reading.TheVariants.{Refused}
+use Rattle.rec_run.specs.declared.refusal.Refusal.{Refusal}
 use Rattle.rec_run.specs.declared.refused_items.Misfit.{Misfit}
 use Rattle.rec_run.specs.declared.refused_items.Misfit.TheVariants.{Count, Kind}
-use Rattle.rec_run.specs.declared.verdict.Refusal.{Refusal}
-use Rattle.rec_run.specs.declared.verdict.Refusal.TheVariants as refusal
 use Rattle.rec_run.proofs.OneDue.{one_verdict}
 use Rattle.rec_run.proofs.PatternDue.{same_verdict}
 
 -- ---- a specification
 
 -- a text that is refused spells no good specification
-pub never_good : (bytes : List ℕ) (r : Refusal) (y : Spec) → SpecVerdict bytes (verdict_of_refusal r) → SpecVerdict bytes (Good y) → ⊥
-never_good bytes refusal.Long y h k = let e = one_verdict bytes verdict.Long (Good y) h k in cc
-never_good bytes (refusal.Grammar at) y h k = let e = one_verdict bytes (verdict.Grammar at) (Good y) h k in cc
-never_good bytes (refusal.Rule number at) y h k = let e = one_verdict bytes (verdict.Breaks (record { number = number; at = at })) (Good y) h k in cc
+pub never_good : (bytes : List ℕ) (r : Refusal) (y : Spec) → IsSpecRead bytes (Refused r) → SpecVerdict bytes (Good y) → ⊥
+never_good bytes r y (v, h, is) k = refuses (one_verdict bytes v (Good y) h k) is
+  where
+    refuses : {v : verdict.Verdict} → v ≡ Good y → refused_spec v ≡ Some r → ⊥
+    refuses e is = cc (e, is)
+
+-- a text that was read as a good one is one
+pub read_good : (bytes : List ℕ) (checked : Sourced) → IsSpecRead bytes (reading.Good checked) → SpecVerdict bytes (Good checked.spec)
+read_good bytes checked (v, h, is) = subst (SpecVerdict bytes) is h
 
 -- and a good one is not refused
 pub never_refused : (bytes : List ℕ) (y : Spec) (v : verdict.Verdict) → SpecVerdict bytes (Good y) → SpecVerdict bytes v → IsRefusal v → ⊥
@@ -50,13 +55,14 @@ one_pattern bytes p q h k = let e = same_verdict bytes (Spelt p) (Spelt q) h.spe
 
 module _ {X : Type 0} (after : Verdict → Option X) where
   -- a text that spells no tree
-  pub unspelt_item : (w : Store) (text : List ℕ) (r : TermRefusal) (v : Verdict) → after TooLong ≡ None → ((at : ℕ) → after (Outside at) ≡ None) → IsReadingOf w (given.Refused r) v → IsVerdict text v → (u : Verdict) → IsVerdict text u → None ≡ after u
-  unspelt_item w text term.Long v long outside e h u k = sym long ∙ ap after (sym e ∙ same_verdict text v u h k)
-  unspelt_item w text (term.Outside at) v long outside e h u k = sym (outside at) ∙ ap after (sym e ∙ same_verdict text v u h k)
+  pub unspelt_item : (from : Source) (text : List ℕ) (r : Refusal) (v : Verdict) → after TooLong ≡ None → ((at : ℕ) → after (Outside at) ≡ None) → refused_text from v ≡ Some r → IsVerdict text v → (u : Verdict) → IsVerdict text u → None ≡ after u
+  unspelt_item from text r TooLong long outside e h u k = sym long ∙ ap after (same_verdict text TooLong u h k)
+  unspelt_item from text r (Outside at) long outside e h u k = sym (outside at) ∙ ap after (same_verdict text (Outside at) u h k)
+  unspelt_item from text r (Spelt t) long outside e h u k = absurd (cc e)
 
   -- a text that spells a tree
-  pub spelt_item : (w : Store) (text : List ℕ) (t : Term) (v : Verdict) (o : Option X) → IsReadingOf w (given.Spells t) v → IsVerdict text v → ((s : Tree) → tree_at w t ≡ Some s → o ≡ after (Spelt s)) → (u : Verdict) → IsVerdict text u → o ≡ after u
-  spelt_item w text t v o (s, here, e) h is u k = is s here ∙ ap after (sym e ∙ same_verdict text v u h k)
+  pub spelt_item : (from : Source) (w : Store) (text : List ℕ) (t : Term) (v : Verdict) (o : Option X) → IsReadingOf from w (reading.Good t) v → IsVerdict text v → ((s : Tree) → tree_at w t ≡ Some s → o ≡ after (Spelt s)) → (u : Verdict) → IsVerdict text u → o ≡ after u
+  spelt_item from w text t v o (s, here, e) h is u k = is s here ∙ ap after (sym e ∙ same_verdict text v u h k)
 
 -- ---- arguments
 

@@ -1,33 +1,26 @@
 -- From what was read of a term's text to what is due.
-use Rattle.std.proofs.Common.{◌≡◌, ◌≢◌, ℕ, suc, ◌+◌, ◌≤◌, List, [], ◌∷◌, ◌++◌, Option, Some, None, IfSome, length, take, take_all, refl, sym, ap, subst, ◌∙◌, arith, append_assoc}
-use Rattle.std.specs.Prelude.{codes, All}
+use Rattle.std.proofs.Common.{◌≡◌, ◌≢◌, ℕ, suc, ◌+◌, ◌≤◌, List, [], ◌∷◌, ◌++◌, Option, Some, None, IfSome, IsSome, is_some, length, take, take_all, refl, sym, ap, subst, ◌∙◌, arith}
+use Rattle.std.specs.Prelude.{All}
+use Rattle.std.specs.Option.{option_map_or}
 use Rattle.std.proofs.lemmas.Bool.Decides.{nat_tests}
 use Rattle.std.proofs.lemmas.List.{length-take}
-use Rattle.std.specs.Io.KnownBytes.{Appends}
 use Rattle.rx_term.specs.Tree.{Tree}
 use Rattle.rx_term.specs.Parts.{part_count}
-use Rattle.rx_term.specs.Steps.{IsSound}
 use Rattle.rx_term.specs.Store.{Store, tree_at}
 use Rattle.rx_term.specs.declared.Term.{Term}
-use Rattle.rx_text.specs.Canon.{canon}
-use Rattle.rx_text.proofs.InLine.{stays_in_line}
 use Rattle.rx_text.specs.Verdict.{Verdict, TooLong, Outside, Spelt, IsVerdict}
 use Rattle.rx_text.proofs.Verdicts.{one_verdict}
-use Rattle.rx_text.specs.Written.{AppendsFront}
 use Rattle.rec_run.specs.Bytes.{newlines}
-use Rattle.rec_run.specs.Output.{Due}
-use Rattle.rec_run.specs.Run.{Stops}
-use Rattle.rec_run.specs.TermRuns.{due_of, term_line, cells_line, share_lines, place_of, finish_of, IsReadingOf, Ends, IsPlaced, Breaks}
-use Rattle.rec_run.specs.declared.ending.Finish.{Finish}
-use Rattle.rec_run.specs.declared.ending.Place.{Place}
-use Rattle.rec_run.specs.declared.ending.RunFault.{RunFault}
-use Rattle.rec_run.specs.declared.ending.RunFault.TheVariants as fault
-use Rattle.rec_run.specs.declared.text.TheConstants.{LIMIT}
-use Rattle.rec_run.specs.declared.given_term.TermRefusal.TheVariants as refusal
-use Rattle.rec_run.specs.declared.given_term.TermReading.{TermReading}
-use Rattle.rec_run.specs.declared.given_term.TermReading.TheVariants as reading
-use Rattle.rec_run.proofs.Told.{front_after}
+use Rattle.rec_run.specs.Output.{Due, done}
+use Rattle.rec_run.specs.Refusals.{finish_of, place_of, refusal_due, refused_text}
+use Rattle.rec_run.specs.TermRuns.{IsGiven, IsReadingOf, IsShareDue, IsTermDue, IsTermHeld, cells_line, due_of, line_at, share_due, share_lines, share_lines_at, term_due, term_line}
+use Rattle.rec_run.specs.declared.ending.Source.TheVariants as source
+use Rattle.rec_run.specs.declared.refusal.Reading.{Reading}
+use Rattle.rec_run.specs.declared.refusal.Reading.TheVariants.{Refused, Good}
+use Rattle.rec_run.specs.declared.refusal.Refusal.{Refusal}
+use Rattle.rec_run.specs.declared.streams.TheConstants.{LIMIT}
 use Rattle.rec_run.proofs.LineEnds.{newlines-append}
+use Rattle.rec_run.proofs.WholeRuns.{same_refusal}
 
 -- a front within the limit is the whole text
 short_front : (bytes : List ℕ) → length (take (LIMIT + 1) bytes) ≤ LIMIT → take (LIMIT + 1) bytes ≡ bytes
@@ -44,38 +37,59 @@ pub verdict_given : (told : Option (List ℕ)) (text : List ℕ) (v : Verdict) �
 verdict_given None text v e h = tt
 verdict_given (Some bytes) text v e h = verdict_front bytes v (subst (λ t. IsVerdict t v) e h)
 
-module _ (lines : Tree → List ℕ) (w : Store) where
-  finish-due_of : (r : TermReading) (v : Verdict) → IsReadingOf w r v → (due_of lines v).finish ≡ finish_of r
-  finish-due_of (reading.Refused refusal.Long) v e = ap (λ z. (due_of lines z).finish) e
-  finish-due_of (reading.Refused (refusal.Outside at)) v e = ap (λ z. (due_of lines z).finish) e
-  finish-due_of (reading.Spells t) v (u, here, e) = ap (λ z. (due_of lines z).finish) e
+-- what is due after the verdict on a text that is refused is its refusal
+pub refused_due : (lines : Tree → List ℕ) (r : Refusal) (v : Verdict) → refused_text source.Term v ≡ Some r → refusal_due r ≡ due_of lines v
+refused_due lines r TooLong e = ap refusal_due (same_refusal e)
+refused_due lines r (Outside at) e = ap refusal_due (same_refusal e)
+refused_due lines r (Spelt t) e = absurd (cc e)
 
-  place-due_of : (r : TermReading) (v : Verdict) → IsReadingOf w r v → (due_of lines v).place ≡ place_of r
-  place-due_of (reading.Refused refusal.Long) v e = ap (λ z. (due_of lines z).place) e
-  place-due_of (reading.Refused (refusal.Outside at)) v e = ap (λ z. (due_of lines z).place) e
-  place-due_of (reading.Spells t) v (u, here, e) = ap (λ z. (due_of lines z).place) e
+-- what is due for what a text came to is so after the verdict on it
+term_due_of : (w : Store) (r : Reading Term) (v : Verdict) → IsReadingOf source.Term w r v → term_due w r ≡ due_of term_line v
+term_due_of w (Refused r) v e = refused_due term_line r v e
+term_due_of w (Good t) v (u, here, e) = ap (λ o. done (option_map_or term_line o [])) here ∙ sym (ap (due_of term_line) e)
 
-  -- what is due for a text
-  abbrev IsTextDue : List ℕ → Due → Type 0
-  IsTextDue bytes d = (v : Verdict) × IsVerdict bytes v × (d ≡ due_of lines v)
+share_due_of : (w : Store) (r : Reading Term) (v : Verdict) → IsReadingOf source.Term w r v → share_due w r ≡ due_of share_lines v
+share_due_of w (Refused r) v e = refused_due share_lines r v e
+share_due_of w (Good t) v (u, here, e) = ap (λ o. done (option_map_or share_lines o [])) here ∙ sym (ap (due_of share_lines) e)
 
-  pub ends_given : (told : Option (List ℕ)) (r : TermReading) (v : Verdict) (finish : Finish) (old new : Option (List ℕ)) → IsReadingOf w r v → IfSome told (λ bytes. IsVerdict bytes v) → finish ≡ finish_of r → Appends old new (due_of lines v).text
-      → IfSome told (λ bytes. Ends (IsTextDue bytes) finish old new)
-  ends_given None r v finish old new is h e a = tt
-  ends_given (Some bytes) r v finish old new is h e a = record { due = due_of lines v; is_due = (v, h, refl); ends = finish-due_of r v is ∙ sym e; written = a }
+pub term_is_due : (known : Option (List ℕ)) (w : Store) (r : Reading Term) → IsGiven known w r → IfSome known (λ bytes. IsTermDue bytes (term_due w r))
+term_is_due None w r g = tt
+term_is_due (Some bytes) w r (v, is, h) = (v, h, term_due_of w r v is)
 
-  pub placed_given : (told : Option (List ℕ)) (r : TermReading) (v : Verdict) (place : Option Place) → IsReadingOf w r v → IfSome told (λ bytes. IsVerdict bytes v) → place ≡ place_of r
-      → IfSome told (λ bytes. IsPlaced (IsTextDue bytes) place)
-  placed_given None r v place is h e = tt
-  placed_given (Some bytes) r v place is h e = record { due = due_of lines v; is_due = (v, h, refl); placed = place-due_of r v is ∙ sym e }
+pub share_is_due : (known : Option (List ℕ)) (w : Store) (r : Reading Term) → IsGiven known w r → IfSome known (λ bytes. IsShareDue bytes (share_due w r))
+share_is_due None w r g = tt
+share_is_due (Some bytes) w r (v, is, h) = (v, h, share_due_of w r v is)
 
-  pub breaks_given : (told : Option (List ℕ)) (v : Verdict) (f : RunFault) (old new : Option (List ℕ)) → IfSome told (λ bytes. IsVerdict bytes v) → Stops f (due_of lines v).text old new
-      → IfSome told (λ bytes. Breaks (IsTextDue bytes) f old new)
-  breaks_given None v f old new h s = tt
-  breaks_given (Some bytes) v f old new h s = λ d is.
-      let one = one_verdict bytes in
-      let same : v ≡ is.0 = one.2 v h ∙ sym (one.2 is.0 is.1) in
-      subst (λ (e : Due). Stops f e.text old new) (ap (due_of lines) same ∙ sym is.2) s
+pub given_held : (known : Option (List ℕ)) (w : Store) (r : Reading Term) → IsGiven known w r → IsTermHeld w r
+given_held known w (Refused r) g = tt
+given_held known w (Good t) (v, (u, here, e), h) = ap is_some here
+
+-- one thing is due for a text
+one_due_of : (lines : Tree → List ℕ) (bytes : List ℕ) (v w : Verdict) → IsVerdict bytes v → IsVerdict bytes w → due_of lines v ≡ due_of lines w
+one_due_of lines bytes v w h k = let one = one_verdict bytes in ap (due_of lines) (one.2 v h ∙ sym (one.2 w k))
+
+pub one_term_due : (bytes : List ℕ) (d e : Due) → IsTermDue bytes d → IsTermDue bytes e → d ≡ e
+one_term_due bytes d e (v, h, is) (w, k, same) = is ∙ one_due_of term_line bytes v w h k ∙ sym same
+
+pub one_share_due : (bytes : List ℕ) (d e : Due) → IsShareDue bytes d → IsShareDue bytes e → d ≡ e
+one_share_due bytes d e (v, h, is) (w, k, same) = is ∙ one_due_of share_lines bytes v w h k ∙ sym same
+
+-- how a run ends, and the place of a refusal
+pub finish-term_due : (w : Store) (r : Reading Term) → (term_due w r).finish ≡ finish_of r
+finish-term_due w (Refused r) = refl
+finish-term_due w (Good t) = refl
+
+pub place-term_due : (w : Store) (r : Reading Term) → (term_due w r).place ≡ place_of r
+place-term_due w (Refused r) = refl
+place-term_due w (Good t) = refl
+
+pub finish-share_due : (w : Store) (r : Reading Term) → (share_due w r).finish ≡ finish_of r
+finish-share_due w (Refused r) = refl
+finish-share_due w (Good t) = refl
+
+pub place-share_due : (w : Store) (r : Reading Term) → (share_due w r).place ≡ place_of r
+place-share_due w (Refused r) = refl
+place-share_due w (Good t) = refl
 
 -- a front of a text without line ends has none
 pub no_ends_front : (front rest : List ℕ) → newlines (front ++ rest) ≡ 0 → newlines front ≡ 0
@@ -89,29 +103,10 @@ pub no_ends : (bs : List ℕ) → All (λ b. (b ≢ 10) × (b ≢ 9)) bs → new
 no_ends [] h = refl
 no_ends (b ∷ bs) h = other_byte b bs (h 0 0 (omega arith)).0 (no_ends bs (λ k d lt. h (suc k) d (omega arith)))
 
--- the writer refused within a text
-stops_writing : (text : List ℕ) (old new : Option (List ℕ)) → AppendsFront text old new → Stops fault.Write text old new
-stops_writing text old new (front, a, f) = record { written = front; appended = a; front = f; reported = tt }
-
--- memory ran out within the printed text of a tree: no line was written whole
-pub stops_for_memory : (w : Store) (t : Term) (old new : Option (List ℕ)) → IsSound w → IfSome (tree_at w t) (λ u. AppendsFront (canon u) old new) → IfSome (tree_at w t) (λ u. Stops (fault.Memory 0) (term_line u) old new)
-stops_for_memory w t old new sound h = by (tree_at w t) refl h
+-- the lines of a term whose parts are counted
+pub share_lines-at : (w v : Store) (t : Term) (n : ℕ) → IsSome (tree_at w t) → tree_at v t ≡ tree_at w t → IfSome (tree_at w t) (λ u. n ≡ part_count u) → share_lines_at w t ≡ line_at v t ++ cells_line n
+share_lines-at w v t n held same counted = by (tree_at w t) refl held counted
   where
-    by : (o : Option Tree) → tree_at w t ≡ o → IfSome o (λ u. AppendsFront (canon u) old new) → IfSome o (λ u. Stops (fault.Memory 0) (term_line u) old new)
-    by None e k = tt
-    by (Some u) e (front, a, (rest, same)) =
-        let none = no_ends_front front rest (ap newlines (sym same) ∙ no_ends (canon u) (stays_in_line u (sound.valid t u e)).0) in
-        record { written = front; appended = a; front = (rest ++ codes "\n", ap (λ z. z ++ codes "\n") same ∙ append_assoc front rest (codes "\n")); reported = sym none }
-
--- the writer refused the line end
-pub line_end_refused : (o : Option Tree) (old mid new : Option (List ℕ)) → IfSome o (λ u. Appends old mid (canon u)) → AppendsFront (codes "\n") mid new → IfSome o (λ u. Stops fault.Write (term_line u) old new)
-line_end_refused None old mid new h f = tt
-line_end_refused (Some u) old mid new h f = stops_writing (term_line u) old new (front_after old mid new (canon u) (codes "\n") h f)
-
--- the writer refused the line of the cells
-pub cells_refused : (o p : Option Tree) (n : ℕ) (old mid new : Option (List ℕ)) → p ≡ o → IfSome o (λ u. n ≡ part_count u) → IfSome p (λ u. Appends old mid (term_line u)) → AppendsFront (cells_line n) mid new → IfSome o (λ u. Stops fault.Write (share_lines u) old new)
-cells_refused None p n old mid new e c h f = tt
-cells_refused (Some u) p n old mid new e c h f =
-    let line : Appends old mid (term_line u) = subst (λ z. IfSome z (λ u. Appends old mid (term_line u))) e h in
-    let count : AppendsFront (cells_line (part_count u)) mid new = subst (λ k. AppendsFront (cells_line k) mid new) c f in
-    stops_writing (share_lines u) old new (front_after old mid new (term_line u) (cells_line (part_count u)) line count)
+    by : (o : Option Tree) → tree_at w t ≡ o → IsSome o → IfSome o (λ u. n ≡ part_count u) → share_lines_at w t ≡ line_at v t ++ cells_line n
+    by None e h c = absurd (cc h)
+    by (Some u) e h c = rw (same, e) (ap (λ k. term_line u ++ cells_line k) (sym c))

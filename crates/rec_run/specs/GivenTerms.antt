@@ -20,23 +20,17 @@ use Rattle.rec_sorts.specs.declared.fault.TermsFault.{TermsFault}
 use Rattle.rec_sorts.specs.declared.fault.TermsFault.TheVariants as rule
 use Rattle.rx_text.specs.Written.{IsFront}
 use Rattle.rec_run.specs.Bytes.{newlines}
-use Rattle.rec_run.specs.Output.{Due, IsDue, IsDueAfter, done, due_of_spec, refused, lines}
-use Rattle.rec_run.specs.Reading.{place_of_refusal, shown, verdict_of_refusal}
-use Rattle.rec_run.specs.Run.{Texts}
-use Rattle.rec_run.specs.declared.ending.Finish.{Finish}
-use Rattle.rec_run.specs.declared.ending.Finish.TheVariants as finish
-use Rattle.rec_run.specs.declared.ending.Named.TheVariants as named
-use Rattle.rec_run.specs.declared.ending.Place.{Place}
+use Rattle.rec_run.specs.Output.{Due, IsDueAfter, done, lines}
+use Rattle.rec_run.specs.Reading.{shown}
+use Rattle.rec_run.specs.Refusals.{reading_due}
+use Rattle.rec_run.specs.Run.{IsDueFor, Texts}
 use Rattle.rec_run.specs.declared.ending.RunFault.{RunFault}
 use Rattle.rec_run.specs.declared.ending.RunFault.TheVariants as fault
 use Rattle.rec_run.specs.declared.ending.Source.TheVariants as source
-use Rattle.rec_run.specs.declared.given_term.TermRefusal.{TermRefusal}
-use Rattle.rec_run.specs.declared.given_term.TermRefusal.TheVariants as refusal
-use Rattle.rec_run.specs.declared.texts.RunReading.{RunReading}
+use Rattle.rec_run.specs.declared.refusal.Reading.{Reading}
+use Rattle.rec_run.specs.declared.refusal.Reading.TheVariants as reading
+use Rattle.rec_run.specs.declared.refusal.Reason.TheVariants as reason
 use Rattle.rec_run.specs.declared.texts.Job.{Job}
-use Rattle.rec_run.specs.declared.texts.RunReading.TheVariants.{Spec, Terms, Good}
-use Rattle.rec_run.specs.declared.texts.TermsRefusal.{TermsRefusal}
-use Rattle.rec_run.specs.declared.texts.TermsRefusal.TheVariants as terms
 
 -- the tree of a reference; the empty list, where there is none
 abbrev pub item_at : Store → Reference → Tree
@@ -56,49 +50,14 @@ abbrev pub given_by : Store → Option Reference → List Tree
 given_by w None = []
 given_by w (Some list) = given_at w list
 
--- the refusal of terms whose text is no term's
-abbrev pub terms_refused : TermRefusal → TermsRefusal
-terms_refused refusal.Long = terms.Long
-terms_refused (refusal.Outside at) = terms.Outside at
-
 -- what a text of terms comes to whose list is not accepted
-abbrev pub list_refused : TermsFault → Result RunReading RunFault
-list_refused (rule.Rule number) = Ok (Terms (terms.Rule number))
+abbrev pub list_refused : TermsFault → Result (Reading Job) RunFault
+list_refused (rule.Rule number) = Ok (reading.Refused (record { text = source.Terms; reason = reason.TermsRule number }))
 list_refused rule.Memory = Err (fault.Memory 0)
 
--- the name of a refusal
-abbrev pub name_of_terms : TermsRefusal → List ℕ
-name_of_terms terms.Long = codes "L1"
-name_of_terms (terms.Outside at) = codes "A"
-name_of_terms (terms.Rule number) = codes "T" ++ decimal number
-
--- its place
-abbrev pub place_of_terms : TermsRefusal → Option Place
-place_of_terms terms.Long = None
-place_of_terms (terms.Outside at) = Some (record { text = source.Terms; rule = named.A; at = at })
-place_of_terms (terms.Rule number) = None
-
--- its line
-abbrev pub terms_line : TermsRefusal → List ℕ
-terms_line r = codes "!terms " ++ name_of_terms r ++ codes "\n"
-
 -- what is due for what the texts came to
-abbrev pub run_due : Bool → ℕ → RunReading → Due
-run_due counted n (Spec r) = due_of_spec counted n (verdict_of_refusal r)
-run_due counted n (Terms r) = refused (codes "!terms ") (name_of_terms r) (place_of_terms r)
-run_due counted n (Good job) = done (lines job.checked.spec (given_by (store_of job.bank) job.list) counted n)
-
--- the place of a refusal
-abbrev pub place_of_run : RunReading → Option Place
-place_of_run (Spec r) = place_of_refusal r
-place_of_run (Terms r) = place_of_terms r
-place_of_run (Good job) = None
-
--- how a run ends
-abbrev pub finish_of_run : RunReading → Finish
-finish_of_run (Spec r) = finish.Refused
-finish_of_run (Terms r) = finish.Refused
-finish_of_run (Good job) = finish.Done
+abbrev pub run_due : Bool → ℕ → Reading Job → Due
+run_due counted n r = reading_due (λ job. done (lines job.checked.spec (given_by (store_of job.bank) job.list) counted n)) r
 
 -- the verdict is a refusal
 abbrev pub IsRefusal : Verdict → Type 0
@@ -106,15 +65,15 @@ IsRefusal (verdict.Good y) = ⊥
 IsRefusal v = Unit {0}
 
 -- after this verdict on the specification, what both texts came to says what is due for this text of terms
-abbrev pub IsReadAs : Verdict → List ℕ → RunReading → Type 0
+abbrev pub IsReadAs : Verdict → List ℕ → Reading Job → Type 0
 IsReadAs v bytes r = (counted : Bool) (n : ℕ) → IsDueAfter v (Some bytes) counted n (run_due counted n r)
 
-abbrev pub IsReadFor : syntax.Spec → List ℕ → RunReading → Type 0
+abbrev pub IsReadFor : syntax.Spec → List ℕ → Reading Job → Type 0
 IsReadFor y bytes r = IsReadAs (verdict.Good y) bytes r
 
 -- what both texts came to says what is due for them
-abbrev pub IsReadFrom : Texts → RunReading → Type 0
-IsReadFrom texts r = (counted : Bool) (n : ℕ) → IsDue texts.spec texts.terms counted n (run_due counted n r)
+abbrev pub IsReadFrom : Texts → Reading Job → Type 0
+IsReadFrom texts r = (counted : Bool) (n : ℕ) → IsDueFor counted n texts (run_due counted n r)
 
 -- good texts can be evaluated: given terms keep the rules, nothing is protected yet, and the bank has this limit
 pub record IsReadyJob (cells : ℕ) (job : Job) : Type 0 where
@@ -122,10 +81,9 @@ pub record IsReadyJob (cells : ℕ) (job : Job) : Type 0 where
   pub unrooted : (t : ℕ) → (store_of job.bank).roots t ≡ 0
   pub given : ForSome job.list (HoldsTerms job.checked.spec (store_of job.bank))
 
-abbrev pub IsReady : ℕ → RunReading → Type 0
-IsReady cells (Spec r) = Unit {0}
-IsReady cells (Terms r) = Unit {0}
-IsReady cells (Good job) = IsReadyJob cells job
+abbrev pub IsReady : ℕ → Reading Job → Type 0
+IsReady cells (reading.Refused r) = Unit {0}
+IsReady cells (reading.Good job) = IsReadyJob cells job
 
 -- annotations between braces, where there are any
 abbrev pub notes_text : Trees → List ℕ

@@ -6,6 +6,7 @@ pub mod Output
 pub mod PatternAnswers
 pub mod PatternRuns
 pub mod Reading
+pub mod Refusals
 pub mod RefusedItems
 pub mod Run
 pub mod TermRuns

@@ -1,53 +1,35 @@
 -- What the text of a specification comes to, and what is written for it.
-use Rattle.std.specs.Prelude.{ℕ, ◌-◌, List, [], ◌++◌, Bool, Option, get_or, codes, decimal}
+use Rattle.std.specs.Prelude.{ℕ, ◌≡◌, ◌-◌, List, [], ◌++◌, Bool, Some, get_or, codes, decimal}
 use Rattle.rx_term.specs.Tree.{Tree, Trees, annotated, none}
 use Rattle.rx_text.specs.Canon.{canon}
-use Rattle.rec_syntax.specs.Syntax.{Term, Apply, Spec, nameless}
+use Rattle.rec_syntax.specs.Syntax.{Term, Apply, Sourced, Spec, nameless}
 use Rattle.rec_syntax.specs.Syntax as syntax
 use Rattle.rec_sorts.specs.SpecRules as verdict
-use Rattle.rec_sorts.specs.SpecRules.{Verdict}
+use Rattle.rec_sorts.specs.SpecRules.{SpecVerdict, Verdict}
 use Rattle.rec_sorts.specs.Evaluation as evaluation
 use Rattle.rec_sorts.specs.Evaluation.{Eval}
-use Rattle.rec_run.specs.Output.{due_of_spec, steps_text}
-use Rattle.rec_run.specs.declared.ending.Place.{Place}
+use Rattle.rec_run.specs.Output.{steps_text}
+use Rattle.rec_run.specs.Refusals.{refused_spec}
 use Rattle.rec_run.specs.declared.ending.RunFault.{RunFault}
 use Rattle.rec_run.specs.declared.ending.RunFault.TheVariants as fault
-use Rattle.rec_run.specs.declared.text.ReadFault.{ReadFault}
-use Rattle.rec_run.specs.declared.text.ReadFault.TheVariants as reading
-use Rattle.rec_run.specs.declared.verdict.Refusal.{Refusal}
-use Rattle.rec_run.specs.declared.verdict.Refusal.TheVariants.{Long, Grammar, Rule}
-use Rattle.rec_run.specs.declared.verdict.Reading.{Reading}
-use Rattle.rec_run.specs.declared.verdict.Reading.TheVariants.{Refused, Good}
+use Rattle.rec_run.specs.declared.refusal.Reading.{Reading}
+use Rattle.rec_run.specs.declared.refusal.Reading.TheVariants as reading
+use Rattle.rec_run.specs.declared.streams.ReadFault.{ReadFault}
+use Rattle.rec_run.specs.declared.streams.ReadFault.TheVariants as unreadable
 
--- the verdict that a refusal is
-abbrev pub verdict_of_refusal : Refusal → Verdict
-verdict_of_refusal Long = verdict.Long
-verdict_of_refusal (Grammar at) = verdict.Grammar at
-verdict_of_refusal (Rule number at) = verdict.Breaks (record { number = number; at = at })
+-- what a text came to is this verdict
+abbrev pub IsSpecReading : Reading Sourced → Verdict → Type 0
+IsSpecReading (reading.Refused r) v = refused_spec v ≡ Some r
+IsSpecReading (reading.Good checked) v = v ≡ verdict.Good checked.spec
 
--- the verdict that a text came to
-abbrev pub verdict_of : Reading → Verdict
-verdict_of (Refused refusal) = verdict_of_refusal refusal
-verdict_of (Good checked) = verdict.Good checked.spec
+-- it is the verdict on the text
+abbrev pub IsSpecRead : List ℕ → Reading Sourced → Type 0
+IsSpecRead text r = (v : Verdict) × SpecVerdict text v × IsSpecReading r v
 
 -- the text is a good specification's
-abbrev pub IsGood : Reading → Type 0
-IsGood (Refused refusal) = ⊥
-IsGood (Good checked) = Unit {0}
-
--- a refusal's name
-abbrev pub name_of_refusal : Refusal → List ℕ
-name_of_refusal Long = codes "L1"
-name_of_refusal (Grammar at) = codes "G"
-name_of_refusal (Rule number at) = codes "S" ++ decimal number
-
--- the line of a refusal
-abbrev pub refusal_line : Refusal → List ℕ
-refusal_line refusal = codes "!spec " ++ name_of_refusal refusal ++ codes "\n"
-
--- the place of a refusal
-abbrev pub place_of_refusal : Refusal → Option Place
-place_of_refusal refusal = (due_of_spec Bool.false 0 (verdict_of_refusal refusal)).place
+abbrev pub IsGood : Reading Sourced → Type 0
+IsGood (reading.Refused r) = ⊥
+IsGood (reading.Good checked) = Unit {0}
 
 -- what is shown of an evaluation within n steps, with annotations: the line of its term without the line end
 abbrev pub shown : Trees → Bool → ℕ → evaluation.Outcome Tree → List ℕ
@@ -68,5 +50,5 @@ text_at y counted n i = line_text y counted n (term_at y i)
 
 -- the run's fault where no text was read
 abbrev pub unread : ReadFault → RunFault
-unread reading.Memory = fault.Memory 0
-unread reading.Read = fault.Read
+unread unreadable.Memory = fault.Memory 0
+unread unreadable.Read = fault.Read

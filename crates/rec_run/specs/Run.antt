@@ -1,10 +1,10 @@
--- What a run leaves.
---     Gives spec terms counted n finish old new    it ended as is due, and wrote what is due
---     HasPlace spec terms counted n place          the place is that of what is due
---     Leaves spec terms counted n fault old new    it stopped at a fault, with a front of what is due written
---     RoomFits cap fault                           want of cells comes with a full bank
---     told spec terms                              both texts, where their readers tell them
---     IsReadOut old new                            an input was read to its end, or to one byte behind the most that a text may have
+-- What a run leaves, by what is due for its texts.
+--     EndsFor IsDue texts finish old new      it ended as is due, and wrote what is due
+--     IsPlacedFor IsDue texts place           the place is that of what is due
+--     BreaksFor IsDue texts fault old new     it stopped at a fault, with a front of what is due written
+--     RoomFits cap fault                      want of cells comes with a full bank
+--     both_texts spec terms                   a specification and terms, where their readers tell them
+--     IsReadOut old new                       an input was read to its end, or to one byte behind the most that a text may have
 use Rattle.std.specs.Prelude.{◌≡◌, ◌⊎◌, ℕ, List, [], Bool, Option, Some, None, IfSome, drop, option_map}
 use Rattle.std.proofs.Common.{inl, inr}
 use Rattle.std.specs.Borrow.{MutBor}
@@ -20,16 +20,16 @@ use Rattle.rec_run.specs.declared.ending.RunFault.{RunFault}
 use Rattle.rec_run.specs.declared.ending.RunFault.TheVariants.{Memory, Room, Read, Write}
 
 -- a run that ended: it ended as is due, and what is due was written
-pub record Gives (spec : List ℕ) (terms : Option (List ℕ)) (counted : Bool) (n : ℕ) (finish : Finish) (old new : Option (List ℕ)) : Type 0 where
+pub record Ends (IsDue : Due → Type 0) (finish : Finish) (old new : Option (List ℕ)) : Type 0 where
   pub due : Due
-  pub is_due : IsDue spec terms counted n due
+  pub is_due : IsDue due
   pub ends : due.finish ≡ finish
   pub written : Appends old new due.text
 
 -- the place of a refusal is the one that is due
-pub record HasPlace (spec : List ℕ) (terms : Option (List ℕ)) (counted : Bool) (n : ℕ) (place : Option Place) : Type 0 where
+pub record IsPlaced (IsDue : Due → Type 0) (place : Option Place) : Type 0 where
   pub due : Due
-  pub is_due : IsDue spec terms counted n due
+  pub is_due : IsDue due
   pub placed : due.place ≡ place
 
 -- what a fault tells of what was written before it: how many lines were written whole
@@ -47,24 +47,38 @@ pub record Stops (fault : RunFault) (text : List ℕ) (old new : Option (List �
   pub reported : Reports fault written
 
 -- a run that stopped at a fault: what was written is a front of whatever is due
-abbrev pub Leaves : List ℕ → Option (List ℕ) → Bool → ℕ → RunFault → Option (List ℕ) → Option (List ℕ) → Type 0
-Leaves spec terms counted n fault old new = (d : Due) → IsDue spec terms counted n d → Stops fault d.text old new
+abbrev pub Breaks : (Due → Type 0) → RunFault → Option (List ℕ) → Option (List ℕ) → Type 0
+Breaks IsDue fault old new = (d : Due) → IsDue d → Stops fault d.text old new
+
+-- the same for the texts of a run, where its readers tell them
+abbrev pub EndsFor : {T : Type 0} → (T → Due → Type 0) → Option T → Finish → Option (List ℕ) → Option (List ℕ) → Type 0
+EndsFor IsDue texts finish old new = IfSome texts (λ told. Ends (IsDue told) finish old new)
+
+abbrev pub IsPlacedFor : {T : Type 0} → (T → Due → Type 0) → Option T → Option Place → Type 0
+IsPlacedFor IsDue texts place = IfSome texts (λ told. IsPlaced (IsDue told) place)
+
+abbrev pub BreaksFor : {T : Type 0} → (T → Due → Type 0) → Option T → RunFault → Option (List ℕ) → Option (List ℕ) → Type 0
+BreaksFor IsDue texts fault old new = IfSome texts (λ told. Breaks (IsDue told) fault old new)
 
 -- the texts of a run: the specification, and the terms where some are given
 pub record Texts : Type 0 where
   pub spec : List ℕ
   pub terms : Option (List ℕ)
 
+-- what is due for them
+abbrev pub IsDueFor : Bool → ℕ → Texts → Due → Type 0
+IsDueFor counted n texts d = IsDue texts.spec texts.terms counted n d
+
 -- the text of the terms, where some are given, by what their reader tells
-abbrev pub told_terms : {T : Type 0} → (T → Option (List ℕ)) → Option (MutBor T) → Option (Option (List ℕ))
-told_terms remaining None = Some None
-told_terms remaining (Some reader) = option_map (λ bytes. Some bytes) (remaining reader.now)
+abbrev pub terms_text : {T : Type 0} → (T → Option (List ℕ)) → Option (MutBor T) → Option (Option (List ℕ))
+terms_text remaining None = Some None
+terms_text remaining (Some reader) = option_map (λ bytes. Some bytes) (remaining reader.now)
 
 -- both texts, where their readers tell them
-abbrev pub told : Option (List ℕ) → Option (Option (List ℕ)) → Option Texts
-told None terms = None
-told (Some spec) None = None
-told (Some spec) (Some terms) = Some (record { spec = spec; terms = terms })
+abbrev pub both_texts : Option (List ℕ) → Option (Option (List ℕ)) → Option Texts
+both_texts None terms = None
+both_texts (Some spec) None = None
+both_texts (Some spec) (Some terms) = Some (record { spec = spec; terms = terms })
 
 -- what an optional reference leads to in the end is so related to what it led to at first, where there is one
 abbrev pub Leads : {X F Z T : Type 0} → (T → T → Type 0) → (F → T) → X ⊎ (F ⊎ Z) → Option T → Type 0

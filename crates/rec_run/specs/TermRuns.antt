@@ -1,28 +1,21 @@
--- What a run on the text of one term is to write, and what it leaves.
---     IsTermDue bytes d                what is due where the term is printed
---     IsShareDue bytes d               what is due where its different parts are counted too
---     Ends is_due finish old new       the run ended as is due, and wrote what is due
---     IsPlaced is_due place            the place is that of what is due
---     Breaks is_due fault old new      it stopped at a fault, with a front of what is due written
-use Rattle.std.specs.Prelude.{ℕ, ◌≡◌, List, ◌++◌, Option, Some, None, codes, decimal, IfSome}
-use Rattle.std.specs.Io.KnownBytes.{Appends}
+-- What a run on the text of one term is to write.
+--     IsTermDue bytes d      what is due where the term is printed
+--     IsShareDue bytes d     what is due where its different parts are counted too
+use Rattle.std.specs.Prelude.{ℕ, ◌≡◌, List, [], ◌++◌, Option, Some, None, codes, decimal, IfSome, IsSome}
+use Rattle.std.specs.Option.{option_map_or}
 use Rattle.rx_term.specs.Tree.{Tree}
 use Rattle.rx_term.specs.Parts.{part_count}
 use Rattle.rx_term.specs.Store.{Store, tree_at}
+use Rattle.rx_term.specs.declared.Term.{Term}
 use Rattle.rx_text.specs.Canon.{canon}
 use Rattle.rx_text.specs.Verdict.{Verdict, TooLong, Outside, Spelt, IsVerdict}
 use Rattle.rec_run.specs.Output.{Due, done, refused}
-use Rattle.rec_run.specs.Run.{Stops}
-use Rattle.rec_run.specs.declared.ending.Finish.{Finish}
-use Rattle.rec_run.specs.declared.ending.Finish.TheVariants as finish
+use Rattle.rec_run.specs.Refusals.{reading_due, refused_text}
+use Rattle.rec_run.specs.declared.ending.Source.{Source}
 use Rattle.rec_run.specs.declared.ending.Source.TheVariants as source
 use Rattle.rec_run.specs.declared.ending.Named.TheVariants as named
-use Rattle.rec_run.specs.declared.ending.Place.{Place}
-use Rattle.rec_run.specs.declared.ending.RunFault.{RunFault}
-use Rattle.rec_run.specs.declared.given_term.TermRefusal.{TermRefusal}
-use Rattle.rec_run.specs.declared.given_term.TermRefusal.TheVariants as refusal
-use Rattle.rec_run.specs.declared.given_term.TermReading.{TermReading}
-use Rattle.rec_run.specs.declared.given_term.TermReading.TheVariants as reading
+use Rattle.rec_run.specs.declared.refusal.Reading.{Reading}
+use Rattle.rec_run.specs.declared.refusal.Reading.TheVariants as reading
 
 -- the printed text, and a line end
 abbrev pub term_line : Tree → List ℕ
@@ -49,45 +42,30 @@ IsTermDue bytes d = (v : Verdict) × IsVerdict bytes v × (d ≡ due_of term_lin
 abbrev pub IsShareDue : List ℕ → Due → Type 0
 IsShareDue bytes d = (v : Verdict) × IsVerdict bytes v × (d ≡ due_of share_lines v)
 
--- a run that ended: it ended as is due, and what is due was written
-pub record Ends (IsDue : Due → Type 0) (finish : Finish) (old new : Option (List ℕ)) : Type 0 where
-  pub due : Due
-  pub is_due : IsDue due
-  pub ends : due.finish ≡ finish
-  pub written : Appends old new due.text
+-- the line of a reference, and its lines where its parts are counted too
+abbrev pub line_at : Store → Term → List ℕ
+line_at w t = option_map_or term_line (tree_at w t) []
 
--- the place of a refusal is the one that is due
-pub record IsPlaced (IsDue : Due → Type 0) (place : Option Place) : Type 0 where
-  pub due : Due
-  pub is_due : IsDue due
-  pub placed : due.place ≡ place
+abbrev pub share_lines_at : Store → Term → List ℕ
+share_lines_at w t = option_map_or share_lines (tree_at w t) []
 
--- a run that stopped at a fault: what was written is a front of whatever is due
-abbrev pub Breaks : (Due → Type 0) → RunFault → Option (List ℕ) → Option (List ℕ) → Type 0
-Breaks IsDue fault old new = (d : Due) → IsDue d → Stops fault d.text old new
+-- what is due for what a text came to
+abbrev pub term_due : Store → Reading Term → Due
+term_due w r = reading_due (λ t. done (line_at w t)) r
 
--- the line of a refusal
-abbrev pub refusal_line : TermRefusal → List ℕ
-refusal_line refusal.Long = codes "!term L1\n"
-refusal_line (refusal.Outside at) = codes "!term A\n"
-
--- the place of a refusal
-abbrev pub place_of : TermReading → Option Place
-place_of (reading.Refused refusal.Long) = None
-place_of (reading.Refused (refusal.Outside at)) = Some (record { text = source.Term; rule = named.A; at = at })
-place_of (reading.Spells t) = None
-
--- how a run ends by what its text came to
-abbrev pub finish_of : TermReading → Finish
-finish_of (reading.Refused r) = finish.Refused
-finish_of (reading.Spells t) = finish.Done
+abbrev pub share_due : Store → Reading Term → Due
+share_due w r = reading_due (λ t. done (share_lines_at w t)) r
 
 -- what a text came to is this verdict, by the trees of a bank
-abbrev pub IsReadingOf : Store → TermReading → Verdict → Type 0
-IsReadingOf w (reading.Refused refusal.Long) v = v ≡ TooLong
-IsReadingOf w (reading.Refused (refusal.Outside at)) v = v ≡ Outside at
-IsReadingOf w (reading.Spells t) v = (u : Tree) × (tree_at w t ≡ Some u) × (v ≡ Spelt u)
+abbrev pub IsReadingOf : Source → Store → Reading Term → Verdict → Type 0
+IsReadingOf text w (reading.Refused r) v = refused_text text v ≡ Some r
+IsReadingOf text w (reading.Good t) v = (u : Tree) × (tree_at w t ≡ Some u) × (v ≡ Spelt u)
 
 -- what was read of a text is the verdict on it
-abbrev pub IsGiven : Option (List ℕ) → Store → TermReading → Type 0
-IsGiven told w r = (v : Verdict) × IsReadingOf w r v × IfSome told (λ bytes. IsVerdict bytes v)
+abbrev pub IsGiven : Option (List ℕ) → Store → Reading Term → Type 0
+IsGiven known w r = (v : Verdict) × IsReadingOf source.Term w r v × IfSome known (λ bytes. IsVerdict bytes v)
+
+-- the bank holds the term
+abbrev pub IsTermHeld : Store → Reading Term → Type 0
+IsTermHeld w (reading.Refused r) = Unit {0}
+IsTermHeld w (reading.Good t) = IsSome (tree_at w t)

@@ -1,7 +1,9 @@
 //! How a run ends, and what it may use.
 
-ghost use Rattle.std.specs.Prelude.{◌≤◌, ◌^◌};
+ghost use Rattle.std.specs.Prelude.{◌≡◌, ◌≤◌, ◌^◌};
 
+use crate::streams::{ReadFault, Stopped};
+use std::alloc::AllocError;
 use std::fmt;
 use thiserror::Error;
 
@@ -48,6 +50,39 @@ pub enum RunFault {
     /// The writer answered an error, or took nothing.
     #[error("write failed")]
     Write,
+}
+
+impl From<ReadFault> for RunFault {
+    ghost use Rattle.rec_run.specs.Reading.{unread};
+
+    ghost from_gives = { λ e r. r ≡ unread e };
+
+    fn from(error: ReadFault) -> RunFault {
+        match error {
+            ReadFault::Memory => RunFault::Memory { lines: 0 },
+            ReadFault::Read => RunFault::Read,
+        }
+    }
+}
+
+impl From<Stopped> for RunFault {
+    ghost use Rattle.rec_run.specs.declared.ending.RunFault.TheVariants.{Write};
+
+    ghost from_gives = { λ _ r. r ≡ Write };
+
+    fn from(_error: Stopped) -> RunFault {
+        RunFault::Write
+    }
+}
+
+impl From<AllocError> for RunFault {
+    ghost use Rattle.rec_run.specs.declared.ending.RunFault.TheVariants.{Memory};
+
+    ghost from_gives = { λ _ r. r ≡ Memory 0 };
+
+    fn from(_error: AllocError) -> RunFault {
+        RunFault::Memory { lines: 0 }
+    }
 }
 
 /// A text that a run reads.

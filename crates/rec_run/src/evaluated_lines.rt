@@ -30,8 +30,8 @@ ghost use Rattle.rec_run.specs.EvaluatedLines.{
 };
 
 use crate::ending::{RunFault, RunOptions};
-use crate::lines::{put_numbered, write_steps};
-use crate::text::{Stopped, put};
+use crate::writing::{put_numbered, write_steps};
+use crate::streams::{Stopped, put};
 use rec_engine::{Engine, EngineFault, Options, Outcome};
 use rec_sorts::Checked;
 use rx_term::{Kind, RootsFull, Term, TermBank};

@@ -6,10 +6,11 @@ ghost use Rattle.rx_term.specs.Store.{tree_at};
 ghost use Rattle.rx_text.specs.Verdict.{Verdict, IsVerdict};
 ghost use Rattle.rx_shared.specs.State.{IsEmptyStore, store_of};
 ghost use Rattle.rec_run.specs.Run.{IsReadOut, RanOut, StopsUnwritten};
-ghost use Rattle.rec_run.specs.TermRuns.{IsGiven, IsReadingOf, finish_of, place_of};
+ghost use Rattle.rec_run.specs.TermRuns.{IsGiven, IsReadingOf};
 
-use crate::ending::{Finish, Named, Place, RunFault, Source};
-use crate::text::read_all;
+use crate::ending::{RunFault, Source};
+use crate::refusal::{Reading, Reason};
+use crate::streams::read_all;
 use rx_shared::SharedBank;
 use rx_term::{Term, TermBank};
 use rx_text::TextFault;
@@ -19,53 +20,11 @@ use std::io::Read;
 /// The most cells that a bank may have.
 pub(crate) const MOST_CELLS: u32 = 1_073_741_824;
 
-/// Why a text is refused.
-#[derive(Clone, Copy, Debug)]
-pub(crate) enum TermRefusal {
-    /// The text is too long.
-    Long,
-    /// It leaves the grammar.
-    Outside { at: u32 },
-}
-
-/// What a text came to.
-#[derive(Clone, Copy)]
-pub(crate) enum TermReading {
-    Refused(TermRefusal),
-    Spells(Term),
-}
-
-impl TermReading {
-    /// Where the text is refused.
-    pub(crate) fn place(self) -> Option<Place>
-        ensures { result ≡ place_of self }
-    {
-        match self {
-            TermReading::Refused(TermRefusal::Outside { at }) => Some(Place {
-                text: Source::Term,
-                rule: Named::A,
-                at,
-            }),
-            TermReading::Refused(TermRefusal::Long) | TermReading::Spells(_) => None,
-        }
-    }
-
-    /// How a run ends that meets no fault.
-    pub(crate) fn finish(self) -> Finish
-        ensures { result ≡ finish_of self }
-    {
-        match self {
-            TermReading::Refused(_) => Finish::Refused,
-            TermReading::Spells(_) => Finish::Done,
-        }
-    }
-}
-
 /// What a text came to, and the bank that holds its term.
 #[derive(Drop)]
 pub(crate) struct GivenTerm {
     pub(crate) bank: SharedBank,
-    pub(crate) reading: TermReading,
+    pub(crate) reading: Reading<Term>,
 }
 
 /// Reads the text of a term into a bank of its own.
@@ -78,7 +37,7 @@ pub(crate) fn read_term<R: Read>(alloc: Global, input: &mut R) -> Result<GivenTe
 {
     let text = read_all(alloc, input)?;
     let mut bank = empty_bank(alloc, MOST_CELLS)?;
-    let reading = parse(alloc, &text, &mut bank)?;
+    let reading = parse(alloc, Source::Term, &text, &mut bank)?;
     Ok(GivenTerm { bank, reading })
 }
 
@@ -97,18 +56,19 @@ pub(crate) fn empty_bank(alloc: Global, cells: u32) -> Result<SharedBank, RunFau
 /// The verdict on a text, with its term in the bank.
 pub(crate) fn parse<B: TermBank>(
     alloc: Global,
+    source: Source,
     text: &[u8],
     bank: &mut B,
-) -> Result<TermReading, RunFault>
-    ensures read { IfOk result (λ reading. (v : Verdict) × IsReadingOf (B.store bank.new) reading v
-        × IsVerdict text.now v) }
+) -> Result<Reading<Term>, RunFault>
+    ensures read { IfOk result (λ reading. (v : Verdict) ×
+        IsReadingOf source (B.store bank.new) reading v × IsVerdict text.now v) }
     ensures grows { Grows (B.store bank.old) (B.store bank.new) }
     ensures fault { IfErr result (RanOut (B.store bank.old).cap) }
 {
     match rx_text::read(alloc, text, bank) {
-        Ok(term) => Ok(TermReading::Spells(term)),
-        Err(TextFault::Long) => Ok(TermReading::Refused(TermRefusal::Long)),
-        Err(TextFault::Grammar { at }) => Ok(TermReading::Refused(TermRefusal::Outside { at })),
+        Ok(term) => Ok(Reading::Good(term)),
+        Err(TextFault::Long) => Ok(Reading::refused(source, Reason::Long)),
+        Err(TextFault::Grammar { at }) => Ok(Reading::refused(source, Reason::Outside { at })),
         Err(TextFault::Memory) => Err(RunFault::Memory { lines: 0 }),
         Err(TextFault::Full) => Err(RunFault::Room { lines: 0 }),
     }

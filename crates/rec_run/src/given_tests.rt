@@ -4,7 +4,7 @@ use crate::tests::{
     ADD, Blanks, Ran, Sink, Slow, assert_held, assert_ran, bytewise, failing, failing_at, options,
     padded, taking,
 };
-use crate::text::LIMIT;
+use crate::streams::LIMIT;
 use crate::{Finish, Named, Place, RunFault, RunOptions, Source, refused_term, run, run_at};
 use std::alloc::{AllocError, Global};
 use std::io::{ErrorKind, Read, Write};

@@ -9,22 +9,23 @@ mod given_tests;
 #[cfg(test)]
 mod hostile_tests;
 pub mod laws;
-mod lines;
 mod pattern_answer;
 mod pattern_lines;
 mod pattern_runs;
 #[cfg(test)]
 mod pattern_tests;
+mod refusal;
 mod refused_items;
 mod runs;
+mod streams;
 mod term_runs;
 #[cfg(test)]
 mod term_tests;
 #[cfg(test)]
 mod tests;
-mod text;
 mod texts;
 mod verdict;
+mod writing;
 
 pub use ending::{Finish, Named, Place, RunFault, RunOptions, Source};
 pub use pattern_runs::{run_make, run_make_at, run_match, run_match_at};

@@ -11,8 +11,9 @@ ghost use Rattle.rx_pattern.specs.Matching.{matching};
 ghost use Rattle.rx_pattern.specs.Filling.{filling};
 ghost use Rattle.rec_sorts.specs.TermRules.{elements};
 ghost use Rattle.rec_run.specs.Output.{Due, done};
+ghost use Rattle.rec_run.specs.Run.{Breaks, BreaksFor, Ends, EndsFor, IsPlaced, IsPlacedFor};
 ghost use Rattle.rec_run.specs.Run.{IsReadOut, RanOut, RoomFits, StopsUnwritten};
-ghost use Rattle.rec_run.specs.TermRuns.{Breaks, Ends, IsPlaced, due_of};
+ghost use Rattle.rec_run.specs.TermRuns.{due_of};
 ghost use Rattle.rec_run.specs.PatternRuns.{
   IsMakeDue,
   IsMatchDue,
@@ -29,25 +30,18 @@ ghost use Rattle.rec_run.specs.PatternAnswers.{
   IsPatternOf,
   IsPatternRead,
   answer_due,
-  text_refusal,
 };
 
 use crate::ending::{Finish, Place, RunFault, Source};
-use crate::given_term::{MOST_CELLS, TermReading, TermRefusal, empty_bank, parse};
-use crate::pattern_answer::{Answer, Reason, Refusal};
+use crate::given_term::{MOST_CELLS, empty_bank, parse};
+use crate::pattern_answer::Answer;
 use crate::pattern_lines::write_answer;
-use crate::text::read_all;
+use crate::refusal::{Reading, Reason};
+use crate::streams::read_all;
 use rx_pattern::{MakeFault, Pattern, PatternFault};
 use rx_term::{Kind, Term, TermBank};
 use std::alloc::{AllocError, Global};
 use std::io::{Read, Write};
-
-/// What the text of a pattern came to.
-#[derive(Drop)]
-pub(crate) enum PatternReading {
-    Refused(Refusal),
-    Good(Pattern),
-}
 
 /// Reads a pattern and then the text of a term, writes `yes` and a line for each binding, or `no`,
 /// and flushes; or the line of a refusal. Where the pattern is refused nothing of the input is
@@ -58,12 +52,10 @@ pub fn run_match<R: Read, W: Write>(
     input: &mut R,
     out: &mut W,
 ) -> Result<Finish, RunFault>
-    ensures output { IfOk result (λ finish. IfSome (R.remaining input.old)
-        (λ bytes. Ends (IsMatchDue pattern.now bytes) finish (W.contents out.old)
-        (W.contents out.new))) }
-    ensures fault { IfErr result (λ fault. IfSome (R.remaining input.old)
-        (λ bytes. Breaks (IsMatchDue pattern.now bytes) fault (W.contents out.old)
-        (W.contents out.new))) }
+    ensures output { IfOk result (λ finish. EndsFor (IsMatchDue pattern.now)
+        (R.remaining input.old) finish (W.contents out.old) (W.contents out.new)) }
+    ensures fault { IfErr result (λ fault. BreaksFor (IsMatchDue pattern.now)
+        (R.remaining input.old) fault (W.contents out.old) (W.contents out.new)) }
     ensures room { IfErr result (RoomFits 1073741824) }
     ensures input_read { OnOk result ((p : Tree) → SpellsPattern pattern.now p
         → IsReadOut (R.remaining input.old) (R.remaining input.new)) }
@@ -81,14 +73,12 @@ pub fn run_match_at<R: Read, W: Write>(
     out: &mut W,
     place: &mut Option<Place>,
 ) -> Result<Finish, RunFault>
-    ensures output { IfOk result (λ finish. IfSome (R.remaining input.old)
-        (λ bytes. Ends (IsMatchDue pattern.now bytes) finish (W.contents out.old)
-        (W.contents out.new))) }
-    ensures place { OnOk result (IfSome (R.remaining input.old)
-        (λ bytes. IsPlaced (IsMatchDue pattern.now bytes) place.new)) }
-    ensures fault { IfErr result (λ fault. IfSome (R.remaining input.old)
-        (λ bytes. Breaks (IsMatchDue pattern.now bytes) fault (W.contents out.old)
-        (W.contents out.new))) }
+    ensures output { IfOk result (λ finish. EndsFor (IsMatchDue pattern.now)
+        (R.remaining input.old) finish (W.contents out.old) (W.contents out.new)) }
+    ensures place { OnOk result
+        (IsPlacedFor (IsMatchDue pattern.now) (R.remaining input.old) place.new) }
+    ensures fault { IfErr result (λ fault. BreaksFor (IsMatchDue pattern.now)
+        (R.remaining input.old) fault (W.contents out.old) (W.contents out.new)) }
     ensures no_place { OnErr result (place.new ≡ None) }
     ensures room { IfErr result (RoomFits 1073741824) }
     ensures input_read { OnOk result ((p : Tree) → SpellsPattern pattern.now p
@@ -152,10 +142,10 @@ pub fn run_make_at<W: Write>(
 /// Reads the input where a pattern was read, and matches the one with the other.
 fn match_reading<B: TermBank, R: Read>(
     alloc: Global,
-    reading: PatternReading,
+    reading: Reading<Pattern>,
     input: &mut R,
     bank: &mut B,
-) -> Result<Answer, RunFault>
+) -> Result<Reading<Answer>, RunFault>
     ensures due { IfOk result (λ answer. (text : List ℕ) → IsPatternRead text reading
         → IfSome (R.remaining input.old)
         (λ bytes. IsMatchDue text bytes (answer_due (B.store bank.new) answer))) }
@@ -167,8 +157,8 @@ fn match_reading<B: TermBank, R: Read>(
         → input.new ≡ input.old }
 {
     match reading {
-        PatternReading::Refused(refusal) => Ok(Answer::Refused(refusal)),
-        PatternReading::Good(pattern) => match_input(alloc, &pattern, input, bank),
+        Reading::Refused(refusal) => Ok(Reading::Refused(refusal)),
+        Reading::Good(pattern) => match_input(alloc, &pattern, input, bank),
     }
 }
 
@@ -178,7 +168,7 @@ fn match_input<B: TermBank, R: Read>(
     pattern: &Pattern,
     input: &mut R,
     bank: &mut B,
-) -> Result<Answer, RunFault>
+) -> Result<Reading<Answer>, RunFault>
     ensures due { IfOk result (λ answer. IfSome (R.remaining input.old) (λ bytes. (v : Verdict) ×
         (IsVerdict bytes v × (answer_due (B.store bank.new) answer ≡ due_of
         (λ t. match_lines (matching pattern.now t)) v)))) }
@@ -187,9 +177,9 @@ fn match_input<B: TermBank, R: Read>(
     ensures fault { IfErr result (StopsUnwritten (B.store bank.old).cap) }
 {
     let text = read_all(alloc, input)?;
-    match parse(alloc, &text, bank)? {
-        TermReading::Refused(refusal) => Ok(Answer::Refused(refusal_of(Source::Term, refusal))),
-        TermReading::Spells(t) => match_term(alloc, pattern, t, bank),
+    match parse(alloc, Source::Term, &text, bank)? {
+        Reading::Refused(refusal) => Ok(Reading::Refused(refusal)),
+        Reading::Good(t) => match_term(alloc, pattern, t, bank),
     }
 }
 
@@ -199,7 +189,7 @@ fn match_term<B: TermBank>(
     pattern: &Pattern,
     t: Term,
     bank: &mut B,
-) -> Result<Answer, RunFault>
+) -> Result<Reading<Answer>, RunFault>
     requires { IsSome (tree_at (B.store bank.old) t) }
     ensures due { IfOk result (λ answer. (u : Tree) → tree_at (B.store bank.old) t ≡ Some u →
         answer_due (B.store bank.new) answer ≡ done (match_lines (matching pattern.now u))) }
@@ -208,8 +198,8 @@ fn match_term<B: TermBank>(
 {
     let mut bindings = Vec::new(alloc);
     match pattern.matches(bank, t, &mut bindings) {
-        Ok(true) => Ok(Answer::Yes(bindings)),
-        Ok(false) => Ok(Answer::No),
+        Ok(true) => Ok(Reading::Good(Answer::Yes(bindings))),
+        Ok(false) => Ok(Reading::Good(Answer::No)),
         Err(PatternFault::Full) => Err(RunFault::Room { lines: 0 }),
         Err(_) => Err(RunFault::Memory { lines: 0 }),
     }
@@ -218,18 +208,18 @@ fn match_term<B: TermBank>(
 /// Reads the arguments where a pattern was read, and makes a tree from them.
 fn make_of_reading<B: TermBank>(
     alloc: Global,
-    reading: PatternReading,
+    reading: Reading<Pattern>,
     args: &[u8],
     bank: &mut B,
-) -> Result<Answer, RunFault>
+) -> Result<Reading<Answer>, RunFault>
     ensures due { IfOk result (λ answer. (text : List ℕ) → IsPatternRead text reading
         → IsMakeDue text args.now (answer_due (B.store bank.new) answer)) }
     ensures held { IfOk result (λ answer. IsAnswerHeld (B.store bank.new) answer) }
     ensures fault { IfErr result (RanOut (B.store bank.old).cap) }
 {
     match reading {
-        PatternReading::Refused(refusal) => Ok(Answer::Refused(refusal)),
-        PatternReading::Good(pattern) => make_of_text(alloc, &pattern, args, bank),
+        Reading::Refused(refusal) => Ok(Reading::Refused(refusal)),
+        Reading::Good(pattern) => make_of_text(alloc, &pattern, args, bank),
     }
 }
 
@@ -239,15 +229,15 @@ fn make_of_text<B: TermBank>(
     pattern: &Pattern,
     args: &[u8],
     bank: &mut B,
-) -> Result<Answer, RunFault>
+) -> Result<Reading<Answer>, RunFault>
     ensures due { IfOk result (λ answer. (v : Verdict) × (IsVerdict args.now v
         × (answer_due (B.store bank.new) answer ≡ due_of_args pattern.now v))) }
     ensures held { IfOk result (λ answer. IsAnswerHeld (B.store bank.new) answer) }
     ensures fault { IfErr result (RanOut (B.store bank.old).cap) }
 {
-    match parse(alloc, args, bank)? {
-        TermReading::Refused(refusal) => Ok(Answer::Refused(refusal_of(Source::Args, refusal))),
-        TermReading::Spells(t) => make_of_term(alloc, pattern, t, bank),
+    match parse(alloc, Source::Args, args, bank)? {
+        Reading::Refused(refusal) => Ok(Reading::Refused(refusal)),
+        Reading::Good(t) => make_of_term(alloc, pattern, t, bank),
     }
 }
 
@@ -257,7 +247,7 @@ fn make_of_term<B: TermBank>(
     pattern: &Pattern,
     t: Term,
     bank: &mut B,
-) -> Result<Answer, RunFault>
+) -> Result<Reading<Answer>, RunFault>
     requires { IsSome (tree_at (B.store bank.old) t) }
     ensures due { IfOk result (λ answer. (u : Tree) → tree_at (B.store bank.old) t ≡ Some u →
         answer_due (B.store bank.new) answer ≡ filled_due pattern.now (elements u)) }
@@ -266,7 +256,7 @@ fn make_of_term<B: TermBank>(
 {
     match elements_of(alloc, bank, t) {
         Ok(Some(args)) => make_of_elements(pattern, &args, bank),
-        Ok(None) => Ok(refused_args(Reason::Unlisted)),
+        Ok(None) => Ok(Reading::refused(Source::Args, Reason::Unlisted)),
         Err(_) => Err(RunFault::Memory { lines: 0 }),
     }
 }
@@ -276,7 +266,7 @@ fn make_of_elements<B: TermBank>(
     pattern: &Pattern,
     args: &[Term],
     bank: &mut B,
-) -> Result<Answer, RunFault>
+) -> Result<Reading<Answer>, RunFault>
     requires { AllHeld (B.store bank.old) args.now }
     ensures due { IfOk result
         (λ answer. (ts : List Tree) → HaveTrees (B.store bank.old) args.now ts →
@@ -285,22 +275,12 @@ fn make_of_elements<B: TermBank>(
     ensures fault { IfErr result (RanOut (B.store bank.old).cap) }
 {
     match pattern.make(bank, args) {
-        Ok(t) => Ok(Answer::Made(t)),
-        Err(MakeFault::Count) => Ok(refused_args(Reason::Count)),
-        Err(MakeFault::Kind { at: _ }) => Ok(refused_args(Reason::Kind)),
+        Ok(t) => Ok(Reading::Good(Answer::Made(t))),
+        Err(MakeFault::Count) => Ok(Reading::refused(Source::Args, Reason::Count)),
+        Err(MakeFault::Kind { at: _ }) => Ok(Reading::refused(Source::Args, Reason::Kind)),
         Err(MakeFault::Memory) => Err(RunFault::Memory { lines: 0 }),
         Err(MakeFault::Full) => Err(RunFault::Room { lines: 0 }),
     }
-}
-
-/// That the arguments are refused.
-fn refused_args(reason: Reason) -> Answer
-    ensures { result ≡ Answer.Refused (record { text = Source.Args; reason = reason }) }
-{
-    Answer::Refused(Refusal {
-        text: Source::Args,
-        reason,
-    })
 }
 
 /// References of the elements of a list without annotations; `None` of any other tree.
@@ -340,7 +320,7 @@ fn items_of<B: TermBank>(alloc: Global, bank: &B, list: Term) -> Result<Vec<Term
 }
 
 /// Reads the text of a pattern, in a bank of its own.
-pub(crate) fn read_pattern(alloc: Global, text: &[u8]) -> Result<PatternReading, RunFault>
+pub(crate) fn read_pattern(alloc: Global, text: &[u8]) -> Result<Reading<Pattern>, RunFault>
     ensures read { IfOk result (λ reading. IsPatternRead text.now reading) }
     ensures fault { IfErr result (RanOut 1073741824) }
 {
@@ -353,45 +333,27 @@ fn read_pattern_into<B: TermBank>(
     alloc: Global,
     text: &[u8],
     bank: &mut B,
-) -> Result<PatternReading, RunFault>
+) -> Result<Reading<Pattern>, RunFault>
     ensures read { IfOk result (λ reading. IsPatternRead text.now reading) }
     ensures fault { IfErr result (RanOut (B.store bank.old).cap) }
 {
-    match parse(alloc, text, bank)? {
-        TermReading::Refused(refusal) => Ok(PatternReading::Refused(refusal_of(
-            Source::Pattern,
-            refusal,
-        ))),
-        TermReading::Spells(t) => pattern_of(alloc, bank, t),
+    match parse(alloc, Source::Pattern, text, bank)? {
+        Reading::Refused(refusal) => Ok(Reading::Refused(refusal)),
+        Reading::Good(t) => pattern_of(alloc, bank, t),
     }
 }
 
 /// The pattern that a term of the bank is.
-fn pattern_of<B: TermBank>(alloc: Global, bank: &B, t: Term) -> Result<PatternReading, RunFault>
+fn pattern_of<B: TermBank>(alloc: Global, bank: &B, t: Term) -> Result<Reading<Pattern>, RunFault>
     requires { IsSome (tree_at (B.store bank.now) t) }
     ensures read { IfOk result
         (λ reading. (u : Tree) → tree_at (B.store bank.now) t ≡ Some u → IsPatternOf u reading) }
     ensures fault { IfErr result (λ fault. fault ≡ RunFault.Memory 0) }
 {
-    let reason = match Pattern::of(alloc, bank, t) {
-        Ok(pattern) => return Ok(PatternReading::Good(pattern)),
-        Err(PatternFault::Unknown) => Reason::Unknown,
-        Err(PatternFault::Annotated) => Reason::Annotated,
-        Err(_) => return Err(RunFault::Memory { lines: 0 }),
-    };
-    Ok(PatternReading::Refused(Refusal {
-        text: Source::Pattern,
-        reason,
-    }))
-}
-
-/// The refusal of a text that spells no term.
-fn refusal_of(text: Source, refusal: TermRefusal) -> Refusal
-    ensures { result ≡ text_refusal text refusal }
-{
-    let reason = match refusal {
-        TermRefusal::Long => Reason::Long,
-        TermRefusal::Outside { at } => Reason::Outside { at },
-    };
-    Refusal { text, reason }
+    match Pattern::of(alloc, bank, t) {
+        Ok(pattern) => Ok(Reading::Good(pattern)),
+        Err(PatternFault::Unknown) => Ok(Reading::refused(Source::Pattern, Reason::Unknown)),
+        Err(PatternFault::Annotated) => Ok(Reading::refused(Source::Pattern, Reason::Annotated)),
+        Err(_) => Err(RunFault::Memory { lines: 0 }),
+    }
 }

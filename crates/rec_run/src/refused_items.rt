@@ -11,13 +11,14 @@ ghost use Rattle.rec_sorts.specs.SpecRules.{Good, SpecVerdict};
 ghost use Rattle.rec_sorts.specs.TermRules.{elements};
 ghost use Rattle.rec_run.specs.GivenTerms.{IsRefusal};
 ghost use Rattle.rec_run.specs.PatternRuns.{IsNoPattern, SpellsPattern};
-ghost use Rattle.rec_run.specs.Reading.{verdict_of};
+ghost use Rattle.rec_run.specs.Reading.{IsSpecRead};
 ghost use Rattle.rec_run.specs.RefusedItems.{misfit_among, misfit_in, misfit_of, term_in};
 
-use crate::ending::RunFault;
-use crate::given_term::{MOST_CELLS, TermReading, empty_bank, parse};
-use crate::pattern_runs::{PatternReading, elements_of, read_pattern};
-use crate::verdict::{Reading, judge};
+use crate::ending::{RunFault, Source};
+use crate::given_term::{MOST_CELLS, empty_bank, parse};
+use crate::pattern_runs::{elements_of, read_pattern};
+use crate::refusal::Reading;
+use crate::verdict::judge;
 use rec_sorts::{Checked, broken_element};
 use rx_pattern::{MakeFault, Pattern};
 use rx_term::{Term, TermBank};
@@ -32,19 +33,9 @@ pub enum Misfit {
     Kind { at: usize },
 }
 
-impl From<AllocError> for RunFault {
-    ghost use Rattle.rec_run.specs.declared.ending.RunFault.TheVariants.{Memory};
-
-    ghost from_gives = { λ _ r. r ≡ Memory 0 };
-
-    fn from(_error: AllocError) -> RunFault {
-        RunFault::Memory { lines: 0 }
-    }
-}
-
 /// The verdict on a copy of a text.
-fn judge_copy(alloc: Global, text: &[u8]) -> Result<Reading, AllocError>
-    ensures { IfOk result (λ reading. SpecVerdict text.now (verdict_of reading)) }
+fn judge_copy(alloc: Global, text: &[u8]) -> Result<Reading<Checked>, AllocError>
+    ensures { IfOk result (IsSpecRead text.now) }
 {
     let copy = Vec::from_slice(alloc, text)?;
     judge(alloc, copy)
@@ -74,9 +65,9 @@ fn refused_term_for(
         (λ found. (v : Verdict) → IsVerdict terms.now v → found ≡ term_in checked.now.spec v) }
 {
     let mut bank = empty_bank(alloc, MOST_CELLS)?;
-    match parse(alloc, terms, &mut bank)? {
-        TermReading::Refused(_) => Ok(None),
-        TermReading::Spells(list) => Ok(broken_element(alloc, checked, &bank, list)?),
+    match parse(alloc, Source::Terms, terms, &mut bank)? {
+        Reading::Refused(_) => Ok(None),
+        Reading::Good(list) => Ok(broken_element(alloc, checked, &bank, list)?),
     }
 }
 
@@ -92,8 +83,8 @@ pub fn refused_argument(
     ensures none { IfOk result (λ found. IsNoPattern pattern.now → found ≡ None) }
 {
     match read_pattern(alloc, pattern)? {
-        PatternReading::Refused(_) => Ok(None),
-        PatternReading::Good(pattern) => {
+        Reading::Refused(_) => Ok(None),
+        Reading::Good(pattern) => {
             let mut bank = empty_bank(alloc, MOST_CELLS)?;
             misfit_of_text(alloc, &pattern, args, &mut bank)
         }
@@ -110,9 +101,9 @@ fn misfit_of_text<B: TermBank>(
     ensures { IfOk result
         (λ found. (v : Verdict) → IsVerdict args.now v → found ≡ misfit_in pattern.now v) }
 {
-    match parse(alloc, args, bank)? {
-        TermReading::Refused(_) => Ok(None),
-        TermReading::Spells(t) => misfit_of_term(alloc, pattern, t, bank),
+    match parse(alloc, Source::Args, args, bank)? {
+        Reading::Refused(_) => Ok(None),
+        Reading::Good(t) => misfit_of_term(alloc, pattern, t, bank),
     }
 }
 

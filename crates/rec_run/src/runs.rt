@@ -7,49 +7,27 @@ ghost use Rattle.rec_syntax.specs.Syntax.{Spec};
 ghost use Rattle.rec_sorts.specs.SpecRules.{Good, SpecVerdict, Verdict};
 ghost use Rattle.rec_run.specs.GivenTerms.{IsReady, IsRefusal, run_due};
 ghost use Rattle.rec_run.specs.Run.{
-  Gives,
-  HasPlace,
+  BreaksFor,
+  EndsFor,
+  IsDueFor,
+  IsPlacedFor,
   IsReadOut,
   Leads,
-  Leaves,
   RoomFits,
   Stays,
   Stops,
-  told,
-  told_terms,
+  both_texts,
+  terms_text,
 };
 
 use crate::ending::{Finish, Place, RunFault, RunOptions};
 use crate::evaluated_lines::write_evaluated;
-use crate::lines::{write_refusal, write_terms_refusal};
-use crate::term_runs::flush;
-use crate::text::{ReadFault, Stopped};
-use crate::texts::{Job, RunReading, read_alone, read_both};
+use crate::refusal::Reading;
+use crate::streams::flush;
+use crate::texts::{Job, read_alone, read_both};
+use crate::writing::write_refusal;
 use std::alloc::Global;
 use std::io::{Read, Write};
-
-impl From<ReadFault> for RunFault {
-    ghost use Rattle.rec_run.specs.Reading.{unread};
-
-    ghost from_gives = { λ e r. r ≡ unread e };
-
-    fn from(error: ReadFault) -> RunFault {
-        match error {
-            ReadFault::Memory => RunFault::Memory { lines: 0 },
-            ReadFault::Read => RunFault::Read,
-        }
-    }
-}
-
-impl From<Stopped> for RunFault {
-    ghost use Rattle.rec_run.specs.declared.ending.RunFault.TheVariants.{Write};
-
-    ghost from_gives = { λ _ r. r ≡ Write };
-
-    fn from(_error: Stopped) -> RunFault {
-        RunFault::Write
-    }
-}
 
 /// Reads a specification and, where it is good and terms are given, their text; writes a line for
 /// each term of both, and flushes; or the line of a refusal. A fault while a text is read has
@@ -61,14 +39,12 @@ pub fn run<R: Read, T: Read, W: Write>(
     out: &mut W,
     options: RunOptions,
 ) -> Result<Finish, RunFault>
-    ensures output { IfOk result
-        (λ finish. IfSome (told (R.remaining spec.old) (told_terms T.remaining terms.entry))
-        (λ texts. Gives texts.spec texts.terms options.count options.steps finish
-        (W.contents out.old) (W.contents out.new))) }
-    ensures fault { IfErr result
-        (λ fault. IfSome (told (R.remaining spec.old) (told_terms T.remaining terms.entry))
-        (λ texts. Leaves texts.spec texts.terms options.count options.steps fault
-        (W.contents out.old) (W.contents out.new))) }
+    ensures output { IfOk result (λ finish. EndsFor (IsDueFor options.count options.steps)
+        (both_texts (R.remaining spec.old) (terms_text T.remaining terms.entry))
+        finish (W.contents out.old) (W.contents out.new)) }
+    ensures fault { IfErr result (λ fault. BreaksFor (IsDueFor options.count options.steps)
+        (both_texts (R.remaining spec.old) (terms_text T.remaining terms.entry))
+        fault (W.contents out.old) (W.contents out.new)) }
     ensures room { IfErr result (RoomFits options.cells) }
     ensures spec_read { OnOk result (IsReadOut (R.remaining spec.old) (R.remaining spec.new)) }
     ensures terms_read { OnOk result
@@ -95,17 +71,14 @@ pub fn run_at<R: Read, T: Read, W: Write>(
     options: RunOptions,
     place: &mut Option<Place>,
 ) -> Result<Finish, RunFault>
-    ensures output { IfOk result
-        (λ finish. IfSome (told (R.remaining spec.old) (told_terms T.remaining terms.entry))
-        (λ texts. Gives texts.spec texts.terms options.count options.steps finish
-        (W.contents out.old) (W.contents out.new))) }
-    ensures place { OnOk result
-        (IfSome (told (R.remaining spec.old) (told_terms T.remaining terms.entry))
-        (λ texts. HasPlace texts.spec texts.terms options.count options.steps place.new)) }
-    ensures fault { IfErr result
-        (λ fault. IfSome (told (R.remaining spec.old) (told_terms T.remaining terms.entry))
-        (λ texts. Leaves texts.spec texts.terms options.count options.steps fault
-        (W.contents out.old) (W.contents out.new))) }
+    ensures output { IfOk result (λ finish. EndsFor (IsDueFor options.count options.steps)
+        (both_texts (R.remaining spec.old) (terms_text T.remaining terms.entry))
+        finish (W.contents out.old) (W.contents out.new)) }
+    ensures place { OnOk result (IsPlacedFor (IsDueFor options.count options.steps)
+        (both_texts (R.remaining spec.old) (terms_text T.remaining terms.entry)) place.new) }
+    ensures fault { IfErr result (λ fault. BreaksFor (IsDueFor options.count options.steps)
+        (both_texts (R.remaining spec.old) (terms_text T.remaining terms.entry))
+        fault (W.contents out.old) (W.contents out.new)) }
     ensures room { IfErr result (RoomFits options.cells) }
     ensures no_place { OnErr result (place.new ≡ None) }
     ensures spec_read { OnOk result (IsReadOut (R.remaining spec.old) (R.remaining spec.new)) }
@@ -131,14 +104,14 @@ fn run_alone<R: Read, W: Write>(
     options: RunOptions,
     place: &mut Option<Place>,
 ) -> Result<Finish, RunFault>
-    ensures output { IfOk result (λ finish. IfSome (told (R.remaining spec.old) (Some None))
-        (λ texts. Gives texts.spec texts.terms options.count options.steps finish
-        (W.contents out.old) (W.contents out.new))) }
-    ensures place { OnOk result (IfSome (told (R.remaining spec.old) (Some None))
-        (λ texts. HasPlace texts.spec texts.terms options.count options.steps place.new)) }
-    ensures fault { IfErr result (λ fault. IfSome (told (R.remaining spec.old) (Some None))
-        (λ texts. Leaves texts.spec texts.terms options.count options.steps fault
-        (W.contents out.old) (W.contents out.new))) }
+    ensures output { IfOk result (λ finish. EndsFor (IsDueFor options.count options.steps)
+        (both_texts (R.remaining spec.old) (Some None)) finish (W.contents out.old)
+        (W.contents out.new)) }
+    ensures place { OnOk result (IsPlacedFor (IsDueFor options.count options.steps)
+        (both_texts (R.remaining spec.old) (Some None)) place.new) }
+    ensures fault { IfErr result (λ fault. BreaksFor (IsDueFor options.count options.steps)
+        (both_texts (R.remaining spec.old) (Some None)) fault (W.contents out.old)
+        (W.contents out.new)) }
     ensures room { IfErr result (RoomFits options.cells) }
     ensures no_place { OnErr result (place.new ≡ None) }
     ensures spec_read { OnOk result (IsReadOut (R.remaining spec.old) (R.remaining spec.new)) }
@@ -161,17 +134,15 @@ fn run_beside<R: Read, T: Read, W: Write>(
     options: RunOptions,
     place: &mut Option<Place>,
 ) -> Result<Finish, RunFault>
-    ensures output { IfOk result (λ finish. IfSome
-        (told (R.remaining spec.old) (option_map (λ bytes. Some bytes) (T.remaining terms.old)))
-        (λ texts. Gives texts.spec texts.terms options.count options.steps finish
-        (W.contents out.old) (W.contents out.new))) }
-    ensures place { OnOk result (IfSome
-        (told (R.remaining spec.old) (option_map (λ bytes. Some bytes) (T.remaining terms.old)))
-        (λ texts. HasPlace texts.spec texts.terms options.count options.steps place.new)) }
-    ensures fault { IfErr result (λ fault. IfSome
-        (told (R.remaining spec.old) (option_map (λ bytes. Some bytes) (T.remaining terms.old)))
-        (λ texts. Leaves texts.spec texts.terms options.count options.steps fault
-        (W.contents out.old) (W.contents out.new))) }
+    ensures output { IfOk result (λ finish. EndsFor (IsDueFor options.count options.steps)
+        (both_texts (R.remaining spec.old) (option_map (λ b. Some b) (T.remaining terms.old)))
+        finish (W.contents out.old) (W.contents out.new)) }
+    ensures place { OnOk result (IsPlacedFor (IsDueFor options.count options.steps)
+        (both_texts (R.remaining spec.old) (option_map (λ b. Some b) (T.remaining terms.old)))
+        place.new) }
+    ensures fault { IfErr result (λ fault. BreaksFor (IsDueFor options.count options.steps)
+        (both_texts (R.remaining spec.old) (option_map (λ b. Some b) (T.remaining terms.old)))
+        fault (W.contents out.old) (W.contents out.new)) }
     ensures room { IfErr result (RoomFits options.cells) }
     ensures no_place { OnErr result (place.new ≡ None) }
     ensures spec_read { OnOk result (IsReadOut (R.remaining spec.old) (R.remaining spec.new)) }
@@ -193,7 +164,7 @@ fn run_beside<R: Read, T: Read, W: Write>(
 /// Writes what is due, and flushes.
 fn write_due<W: Write>(
     alloc: Global,
-    reading: RunReading,
+    reading: Reading<Job>,
     out: &mut W,
     options: RunOptions,
 ) -> Result<(), RunFault>
@@ -213,7 +184,7 @@ fn write_due<W: Write>(
 /// Writes what is due.
 fn write_reading<W: Write>(
     alloc: Global,
-    reading: RunReading,
+    reading: Reading<Job>,
     out: &mut W,
     options: RunOptions,
 ) -> Result<(), RunFault>
@@ -226,9 +197,8 @@ fn write_reading<W: Write>(
     ensures room { IfErr result (RoomFits options.cells) }
 {
     match reading {
-        RunReading::Spec(refusal) => write_refusal(refusal, out)?,
-        RunReading::Terms(refusal) => write_terms_refusal(refusal, out)?,
-        RunReading::Good(
+        Reading::Refused(refusal) => write_refusal(refusal, out)?,
+        Reading::Good(
             Job {
                 checked,
                 bank,

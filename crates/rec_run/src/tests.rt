@@ -1,6 +1,6 @@
 //! Worked specifications, and readers and writers that fail, give little, or never end.
 
-use crate::text::LIMIT;
+use crate::streams::LIMIT;
 use crate::{Finish, Named, Place, RunFault, RunOptions, Source, run, run_at};
 use std::alloc::{AllocError, Global};
 use std::io;

@@ -7,57 +7,27 @@ ghost use Rattle.rx_text.specs.Grammar.{Spells};
 ghost use Rattle.rx_shared.specs.State.{store_of};
 ghost use Rattle.rec_syntax.specs.Syntax.{Spec};
 ghost use Rattle.rec_sorts.specs.SpecRules.{Fits, Good, Verdict, SpecVerdict};
-ghost use Rattle.rec_run.specs.Reading.{IsGood, verdict_of};
-ghost use Rattle.rec_run.specs.Run.{IsReadOut, RanOut, StopsUnwritten, told};
+ghost use Rattle.rec_run.specs.Reading.{IsGood, IsSpecRead, IsSpecReading};
+ghost use Rattle.rec_run.specs.Run.{IsReadOut, RanOut, StopsUnwritten, both_texts};
 ghost use Rattle.rec_run.specs.GivenTerms.{
   IsReadAs,
   IsReadFor,
   IsReadFrom,
   IsReady,
   IsRefusal,
-  finish_of_run,
   list_refused,
-  place_of_run,
-  place_of_terms,
-  terms_refused,
 };
 
-use crate::ending::{Finish, Named, Place, RunFault, Source};
-use crate::given_term::{TermReading, TermRefusal, empty_bank, parse};
-use crate::text::{ReadFault, read_all};
-use crate::verdict::{Reading, Refusal, judge};
+use crate::ending::{RunFault, Source};
+use crate::given_term::{empty_bank, parse};
+use crate::refusal::{Reading, Reason};
+use crate::streams::{ReadFault, read_all};
+use crate::verdict::judge;
 use rec_sorts::{Checked, TermsFault, check_terms};
 use rx_shared::SharedBank;
 use rx_term::Term;
 use std::alloc::Global;
 use std::io::Read;
-
-/// Why a text of terms is refused.
-#[derive(Clone, Copy, Debug)]
-pub(crate) enum TermsRefusal {
-    /// The text is too long.
-    Long,
-    /// It leaves the grammar.
-    Outside { at: u32 },
-    /// It breaks a rule.
-    Rule { number: u8 },
-}
-
-impl TermsRefusal {
-    /// Where the text is refused.
-    fn place(self) -> Option<Place>
-        ensures { result ≡ place_of_terms self }
-    {
-        match self {
-            TermsRefusal::Outside { at } => Some(Place {
-                text: Source::Terms,
-                rule: Named::A,
-                at,
-            }),
-            TermsRefusal::Long | TermsRefusal::Rule { number: _ } => None,
-        }
-    }
-}
 
 /// A good specification, and a bank with the list of given terms, where there is one.
 #[derive(Drop)]
@@ -67,48 +37,14 @@ pub(crate) struct Job {
     pub(crate) list: Option<Term>,
 }
 
-/// What the texts of a run came to.
-#[derive(Drop)]
-pub(crate) enum RunReading {
-    /// The specification is refused.
-    Spec(Refusal),
-    /// The text of terms is refused.
-    Terms(TermsRefusal),
-    /// All texts are good.
-    Good(Job),
-}
-
-impl RunReading {
-    /// Where a text is refused.
-    pub(crate) fn place(&self) -> Option<Place>
-        ensures { result ≡ place_of_run self.now }
-    {
-        match self {
-            RunReading::Spec(refusal) => refusal.place(),
-            RunReading::Terms(refusal) => refusal.place(),
-            RunReading::Good(_) => None,
-        }
-    }
-
-    /// How a run ends that meets no fault.
-    pub(crate) fn finish(&self) -> Finish
-        ensures { result ≡ finish_of_run self.now }
-    {
-        match self {
-            RunReading::Spec(_) | RunReading::Terms(_) => Finish::Refused,
-            RunReading::Good(_) => Finish::Done,
-        }
-    }
-}
-
 /// Reads the text of a specification without given terms, and judges it.
 pub(crate) fn read_alone<R: Read>(
     alloc: Global,
     spec: &mut R,
     cells: u32,
-) -> Result<RunReading, RunFault>
+) -> Result<Reading<Job>, RunFault>
     requires { (0 < cells) × (cells ≤ 1073741824) }
-    ensures due { IfOk result (λ reading. IfSome (told (R.remaining spec.old) (Some None))
+    ensures due { IfOk result (λ reading. IfSome (both_texts (R.remaining spec.old) (Some None))
         (λ texts. IsReadFrom texts reading)) }
     ensures ready { IfOk result (IsReady cells) }
     ensures out { OnOk result (IsReadOut (R.remaining spec.old) (R.remaining spec.new)) }
@@ -116,10 +52,10 @@ pub(crate) fn read_alone<R: Read>(
 {
     let first = read_spec_text(alloc, spec)?;
     match first {
-        Reading::Refused(refusal) => Ok(RunReading::Spec(refusal)),
+        Reading::Refused(refusal) => Ok(Reading::Refused(refusal)),
         Reading::Good(checked) => {
             let bank = empty_bank(alloc, cells)?;
-            Ok(RunReading::Good(Job {
+            Ok(Reading::Good(Job {
                 checked,
                 bank,
                 list: None,
@@ -135,10 +71,10 @@ pub(crate) fn read_both<R: Read, T: Read>(
     spec: &mut R,
     terms: &mut T,
     cells: u32,
-) -> Result<RunReading, RunFault>
+) -> Result<Reading<Job>, RunFault>
     requires { (0 < cells) × (cells ≤ 1073741824) }
     ensures due { IfOk result (λ reading. IfSome
-        (told (R.remaining spec.old) (option_map (λ bytes. Some bytes) (T.remaining terms.old)))
+        (both_texts (R.remaining spec.old) (option_map (λ b. Some b) (T.remaining terms.old)))
         (λ texts. IsReadFrom texts reading)) }
     ensures ready { IfOk result (IsReady cells) }
     ensures out { OnOk result (IsReadOut (R.remaining spec.old) (R.remaining spec.new)) }
@@ -154,9 +90,9 @@ pub(crate) fn read_both<R: Read, T: Read>(
 }
 
 /// Reads the text of a specification, and judges it.
-fn read_spec_text<R: Read>(alloc: Global, spec: &mut R) -> Result<Reading, ReadFault>
-    ensures verdict { IfOk result (λ reading. IfSome (R.remaining spec.old)
-        (λ bytes. SpecVerdict bytes (verdict_of reading))) }
+fn read_spec_text<R: Read>(alloc: Global, spec: &mut R) -> Result<Reading<Checked>, ReadFault>
+    ensures verdict { IfOk result
+        (λ reading. IfSome (R.remaining spec.old) (λ bytes. IsSpecRead bytes reading)) }
     ensures out { OnOk result (IsReadOut (R.remaining spec.old) (R.remaining spec.new)) }
 {
     let text = read_all(alloc, spec)?;
@@ -167,21 +103,22 @@ fn read_spec_text<R: Read>(alloc: Global, spec: &mut R) -> Result<Reading, ReadF
 /// Reads the text of terms where the specification is good.
 fn read_after<T: Read>(
     alloc: Global,
-    first: Reading,
+    first: Reading<Checked>,
     terms: &mut T,
     cells: u32,
-) -> Result<RunReading, RunFault>
+) -> Result<Reading<Job>, RunFault>
     requires { (0 < cells) × (cells ≤ 1073741824) }
-    ensures due { IfOk result (λ reading. IfSome (T.remaining terms.old)
-        (λ bytes. IsReadAs (verdict_of first) bytes reading)) }
+    ensures due { IfOk result (λ reading. (v : Verdict) → IsSpecReading first v
+        → IfSome (T.remaining terms.old) (λ bytes. IsReadAs v bytes reading)) }
     ensures ready { IfOk result (IsReady cells) }
     ensures out { OnOk result
         (IsGood first → IsReadOut (T.remaining terms.old) (T.remaining terms.new)) }
-    ensures unread { IsRefusal (verdict_of first) → terms.new ≡ terms.old }
+    ensures unread { (v : Verdict) → IsSpecReading first v → IsRefusal v
+        → terms.new ≡ terms.old }
     ensures fault { IfErr result (StopsUnwritten cells) }
 {
     match first {
-        Reading::Refused(refusal) => Ok(RunReading::Spec(refusal)),
+        Reading::Refused(refusal) => Ok(Reading::Refused(refusal)),
         Reading::Good(checked) => read_terms(alloc, checked, terms, cells),
     }
 }
@@ -192,7 +129,7 @@ fn read_terms<T: Read>(
     checked: Checked,
     terms: &mut T,
     cells: u32,
-) -> Result<RunReading, RunFault>
+) -> Result<Reading<Job>, RunFault>
     requires { (0 < cells) × (cells ≤ 1073741824) }
     ensures due { IfOk result (λ reading. IfSome (T.remaining terms.old)
         (λ bytes. IsReadFor checked.spec bytes reading)) }
@@ -211,26 +148,16 @@ fn judge_terms(
     checked: Checked,
     text: &[u8],
     cells: u32,
-) -> Result<RunReading, RunFault>
+) -> Result<Reading<Job>, RunFault>
     requires { (0 < cells) × (cells ≤ 1073741824) }
     ensures due { IfOk result (λ reading. IsReadFor checked.spec text.now reading) }
     ensures ready { IfOk result (IsReady cells) }
     ensures fault { IfErr result (RanOut cells) }
 {
     let mut bank = empty_bank(alloc, cells)?;
-    match parse(alloc, text, &mut bank)? {
-        TermReading::Refused(refusal) => Ok(RunReading::Terms(refused_terms(refusal))),
-        TermReading::Spells(list) => judge_list(alloc, checked, bank, list),
-    }
-}
-
-/// The refusal of terms whose text is no term's.
-fn refused_terms(refusal: TermRefusal) -> TermsRefusal
-    ensures { result ≡ terms_refused refusal }
-{
-    match refusal {
-        TermRefusal::Long => TermsRefusal::Long,
-        TermRefusal::Outside { at } => TermsRefusal::Outside { at },
+    match parse(alloc, Source::Terms, text, &mut bank)? {
+        Reading::Refused(refusal) => Ok(Reading::Refused(refusal)),
+        Reading::Good(list) => judge_list(alloc, checked, bank, list),
     }
 }
 
@@ -240,7 +167,7 @@ fn judge_list(
     checked: Checked,
     bank: SharedBank,
     list: Term,
-) -> Result<RunReading, RunFault>
+) -> Result<Reading<Job>, RunFault>
     requires held { IsSome (tree_at (store_of bank) list) }
     requires unrooted { (t : ℕ) → (store_of bank).roots t ≡ 0 }
     ensures due { IfOk result (λ reading. IfSome (tree_at (store_of bank) list)
@@ -250,7 +177,7 @@ fn judge_list(
     ensures fault { IfErr result (λ fault. fault ≡ RunFault.Memory 0) }
 {
     match check_terms(alloc, &checked, &bank, list) {
-        Ok(()) => Ok(RunReading::Good(Job {
+        Ok(()) => Ok(Reading::Good(Job {
             checked,
             bank,
             list: Some(list),
@@ -260,11 +187,13 @@ fn judge_list(
 }
 
 /// What a text of terms comes to whose list is not accepted.
-fn refused_list(fault: TermsFault) -> Result<RunReading, RunFault>
+fn refused_list(fault: TermsFault) -> Result<Reading<Job>, RunFault>
     ensures { result ≡ list_refused fault }
 {
     match fault {
-        TermsFault::Rule { number } => Ok(RunReading::Terms(TermsRefusal::Rule { number })),
+        TermsFault::Rule { number } => {
+            Ok(Reading::refused(Source::Terms, Reason::TermsRule { number }))
+        }
         TermsFault::Memory => Err(RunFault::Memory { lines: 0 }),
     }
 }

@@ -7,4 +7,4 @@ use Rattle.rec_run.proofs.pattern_lines.write_answer.Goals as goal
 pub returns-in_err-flush-clause-err : goal.returns-in_err-flush-clause-err
 returns-in_err-flush-clause-err g c =
     if_err_at c.from_residual-in_err-flush.result _ Write c.from_residual-in_err-flush.ensures.1
-    (flush_refused (answer_due (g.B.TermBank.store c.args.bank.now) c.args.answer.now).text _ _ _ c.in_ok-write_lines.ensures.ok c.in_err-flush.ensures)
+    (flush_refused (answer_due (g.B.TermBank.store c.args.bank.now) c.args.answer.now).text _ _ _ c.in_ok-write_reading.ensures.ok c.in_err-flush.ensures)

@@ -1,5 +1,5 @@
 use Rattle.std.specs.Prelude.{codes, flat_map}
-use Rattle.rec_run.specs.PatternAnswers.{line_at}
+use Rattle.rec_run.specs.TermRuns.{line_at}
 use Rattle.rec_run.specs.declared.ending.RunFault.TheVariants.{Write}
 use Rattle.rec_run.proofs.Told.{if_err_at}
 use Rattle.rec_run.proofs.PatternLines.{held_one, stops_before, stops_binding, stops_first, stops_write}

@@ -1,6 +1,7 @@
 use Rattle.std.proofs.Common.{subst, sym}
 use Rattle.rec_run.specs.Run.{Stops}
-use Rattle.rec_run.specs.PatternAnswers.{answer_due, line_at}
+use Rattle.rec_run.specs.PatternAnswers.{answer_lines}
+use Rattle.rec_run.specs.TermRuns.{line_at}
 use Rattle.rec_run.specs.declared.pattern_answer.Answer.{Answer}
 use Rattle.rec_run.proofs.Told.{if_err_at}
 use Rattle.rec_run.proofs.PatternLines.{stops_first}
@@ -11,5 +12,5 @@ returns-in_err-write_line-in-Made-clause-err g c =
     let w = g.B.TermBank.store c.args.bank.now in
     let f = c.in_err-write_line-in-Made.field-0.0 in
     if_err_at c.from_residual-in_err-write_line-in-Made.result _ f c.from_residual-in_err-write_line-in-Made.ensures.1
-    (subst (λ (a : Answer). Stops f (answer_due w a).text (g.W.Write.contents c.args.out.now) (g.W.Write.contents c.write_line.new.out)) (sym c.in-Made.is)
+    (subst (λ (a : Answer). Stops f (answer_lines w a) (g.W.Write.contents c.args.out.now) (g.W.Write.contents c.write_line.new.out)) (sym c.in-Made.is)
     (stops_first f (line_at w c.in-Made.t) _ _ c.in_err-write_line-in-Made.ensures.err))

@@ -20,7 +20,7 @@ returns-in-Ok-clause-held g c =
 pub returns-in-Err-Kind-clause-due : goal.returns-in-Err-Kind-clause-due
 returns-in-Err-Kind-clause-due g c = λ ts h.
     let wrong = (c.in-Err-Kind.ensures.kind ts h c.in-Err-Kind.field-0-0).0 (ap Err c.in-Err-Kind.field-0-is) in
-    ap (answer_due (g.B.TermBank.store c.make.new.bank)) c.refused_args-in-Err-Kind.ensures ∙ ap made_due (sym wrong)
+    ap (answer_due (g.B.TermBank.store c.make.new.bank)) c.refused-in-Err-Kind.ensures ∙ ap made_due (sym wrong)
 
 pub returns-in-Err-Full-clause-fault : goal.returns-in-Err-Full-clause-fault
 returns-in-Err-Full-clause-fault g c =

@@ -1,13 +1,13 @@
-use Rattle.std.proofs.Common.{refl, subst}
+use Rattle.std.proofs.Common.{refl, subst, sym, ◌∙◌}
 use Rattle.rec_run.specs.Run.{RoomFits}
 use Rattle.rx_shared.specs.State.{store_of}
 use Rattle.rec_run.specs.PatternRuns.{match_due}
 use Rattle.rec_run.specs.PatternAnswers.{answer_due}
 use Rattle.rec_run.proofs.FaultLemmas.{reports_ran_out, reports_unwritten, room_unwritten}
 use Rattle.rec_run.proofs.Told.{if_err_at}
-use Rattle.rec_run.proofs.PatternDue.{breaks_both, ends_both, placed_both}
+use Rattle.rec_run.proofs.PatternDue.{finish-answer_due, place-answer_due, same_due}
+use Rattle.rec_run.proofs.WholeRuns.{breaks_due, breaks_unwritten, ends_due, placed_due}
 use Rattle.rec_run.specs.PatternRuns.{IsMatchDue}
-use Rattle.rec_run.proofs.PatternLines.{breaks_unwritten}
 use Rattle.rec_run.proofs.pattern_runs.run_match_at.Goals as goal
 
 pub returns-in_err-reading-clause-fault : goal.returns-in_err-reading-clause-fault
@@ -26,7 +26,7 @@ pub returns-in_err-write_answer-clause-fault : goal.returns-in_err-write_answer-
 returns-in_err-write_answer-clause-fault g c =
     let f = c.in_err-write_answer.field-0.0 in
     if_err_at c.from_residual-in_err-write_answer.result _ f c.from_residual-in_err-write_answer.ensures.1
-    (breaks_both match_due (g.R.Read.remaining c.args.input.now) c.args.pattern.now (answer_due (store_of c.match_reading.new.bank) c.in_ok-answer.answer) f _ _ (c.in_ok-answer.ensures.due c.args.pattern.now c.in_ok-reading.ensures.read) c.in_err-write_answer.ensures.err)
+    (breaks_due (IsMatchDue c.args.pattern.now) (λ x. same_due match_due c.args.pattern.now x) (g.R.Read.remaining c.args.input.now) (answer_due (store_of c.match_reading.new.bank) c.in_ok-answer.answer) f _ _ (c.in_ok-answer.ensures.due c.args.pattern.now c.in_ok-reading.ensures.read) c.in_err-write_answer.ensures.err)
 
 pub returns-in_err-write_answer-clause-unread : goal.returns-in_err-write_answer-clause-unread
 returns-in_err-write_answer-clause-unread g c = c.in_ok-answer.ensures.unread c.args.pattern.now c.in_ok-reading.ensures.read
@@ -43,12 +43,12 @@ returns-in_err-answer-clause-unread g c = c.in_err-answer.ensures.unread c.args.
 pub returns-clause-output : goal.returns-clause-output
 returns-clause-output g c =
     let w = store_of c.match_reading.new.bank in
-    ends_both match_due (g.R.Read.remaining c.args.input.now) c.args.pattern.now (answer_due w c.in_ok-answer.answer) c.finish.result _ _ (c.in_ok-answer.ensures.due c.args.pattern.now c.in_ok-reading.ensures.read) (c.finish.ensures w) c.in_ok-write_answer.ensures.ok
+    ends_due (IsMatchDue c.args.pattern.now) (g.R.Read.remaining c.args.input.now) (answer_due w c.in_ok-answer.answer) c.finish.result _ _ (c.in_ok-answer.ensures.due c.args.pattern.now c.in_ok-reading.ensures.read) (finish-answer_due w c.in_ok-answer.answer ∙ sym c.finish.ensures) c.in_ok-write_answer.ensures.ok
 
 pub returns-clause-place : goal.returns-clause-place
 returns-clause-place g c =
     let w = store_of c.match_reading.new.bank in
-    placed_both match_due (g.R.Read.remaining c.args.input.now) c.args.pattern.now (answer_due w c.in_ok-answer.answer) c.place.result (c.in_ok-answer.ensures.due c.args.pattern.now c.in_ok-reading.ensures.read) (c.place.ensures w)
+    placed_due (IsMatchDue c.args.pattern.now) (g.R.Read.remaining c.args.input.now) (answer_due w c.in_ok-answer.answer) c.place.result (c.in_ok-answer.ensures.due c.args.pattern.now c.in_ok-reading.ensures.read) (place-answer_due w c.in_ok-answer.answer ∙ sym c.place.ensures)
 
 pub returns-clause-input_read : goal.returns-clause-input_read
 returns-clause-input_read g c = λ p. c.in_ok-answer.ensures.input_read c.args.pattern.now p c.in_ok-reading.ensures.read

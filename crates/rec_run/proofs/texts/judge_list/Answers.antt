@@ -1,7 +1,7 @@
 use Rattle.std.proofs.Common.{◌≡◌, Some, refl, subst}
 use Rattle.rec_run.specs.GivenTerms.{HoldsTerms}
 use Rattle.rx_shared.specs.State.{store_of}
-use Rattle.rec_run.specs.declared.texts.RunReading.TheVariants.{Good}
+use Rattle.rec_run.specs.declared.refusal.Reading.TheVariants.{Good}
 use Rattle.rec_run.proofs.GivenDue.{good_list, list_due, list_fault, list_holds, refused_ready}
 use Rattle.rec_run.proofs.texts.judge_list.Goals as goal
 

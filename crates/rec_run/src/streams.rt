@@ -1,9 +1,9 @@
-//! Texts from readers and to writers.
+//! Bytes from readers and to writers.
 
 ghost use Rattle.std.specs.Prelude.{◌≡◌, ◌+◌, ◌-◌, ◌≤◌, ◌<◌, ◌^◌, List, ℕ, IfOk, OnOk, OnErr};
 ghost use Rattle.std.specs.Prelude.{IfSome, take, vec_len, length};
 ghost use Rattle.std.specs.Io.{ReadsAtMost};
-ghost use Rattle.std.specs.Io.KnownBytes.{Appends, Consumes, ReadConsumes};
+ghost use Rattle.std.specs.Io.KnownBytes.{Appends, Consumes, Keeps, ReadConsumes};
 ghost use Rattle.rx_text.specs.Written.{AppendsFront};
 ghost use Rattle.rec_run.specs.Run.{IsReadOut};
 
@@ -29,7 +29,7 @@ struct Unreadable;
 pub struct Stopped;
 
 impl From<Unreadable> for ReadFault {
-    ghost use Rattle.rec_run.specs.declared.text.ReadFault.TheVariants.{Read};
+    ghost use Rattle.rec_run.specs.declared.streams.ReadFault.TheVariants.{Read};
 
     ghost from_gives = { λ _ r. r ≡ Read };
 
@@ -39,7 +39,7 @@ impl From<Unreadable> for ReadFault {
 }
 
 impl From<AllocError> for ReadFault {
-    ghost use Rattle.rec_run.specs.declared.text.ReadFault.TheVariants.{Memory};
+    ghost use Rattle.rec_run.specs.declared.streams.ReadFault.TheVariants.{Memory};
 
     ghost from_gives = { λ _ r. r ≡ Memory };
 
@@ -96,4 +96,14 @@ pub fn put<W: Write>(out: &mut W, text: &[u8]) -> Result<(), Stopped>
         }
     }
     Ok(())
+}
+
+/// Flushes.
+pub(crate) fn flush<W: Write>(out: &mut W) -> Result<(), Stopped>
+    ensures { Keeps (W.contents out.old) (W.contents out.new) }
+{
+    match out.flush() {
+        Ok(()) => Ok(()),
+        Err(_) => Err(Stopped),
+    }
 }

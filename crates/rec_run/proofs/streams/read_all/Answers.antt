@@ -1,8 +1,8 @@
 use Rattle.std.proofs.Common.{◌≡◌, ◌+◌, length, rules}
 use Rattle.std.specs.Io.KnownBytes.{Consumes}
 use Rattle.rec_run.proofs.Told.{reads_all, reads_front, reads_out, consumes_both, on_err}
-use Rattle.rec_run.specs.declared.text.TheConstants.{LIMIT}
-use Rattle.rec_run.proofs.text.read_all.Goals as goal
+use Rattle.rec_run.specs.declared.streams.TheConstants.{LIMIT}
+use Rattle.rec_run.proofs.streams.read_all.Goals as goal
 
 pub returns-then-count-eq0-clause-text : goal.returns-then-count-eq0-clause-text
 returns-then-count-eq0-clause-text g c =

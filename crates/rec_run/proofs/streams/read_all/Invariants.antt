@@ -1,7 +1,7 @@
 use Rattle.std.proofs.Common.{◌≡◌, ◌+◌, ◌-◌, ◌≤◌, vec_len, length}
 use Rattle.std.specs.Io.KnownBytes.{Consumes}
-use Rattle.rec_run.specs.declared.text.TheConstants.{LIMIT}
-use Rattle.rec_run.proofs.text.read_all.Given as goal
+use Rattle.rec_run.specs.declared.streams.TheConstants.{LIMIT}
+use Rattle.rec_run.proofs.streams.read_all.Given as goal
 
 -- what was read so far stood at the reader's front
 abbrev pub invariant-loop-buffer : goal.invariant-loop-buffer

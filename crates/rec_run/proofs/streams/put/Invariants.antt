@@ -1,6 +1,6 @@
 use Rattle.std.proofs.Common.{length, ◌-◌, ◌≤◌, take}
 use Rattle.std.specs.Io.KnownBytes.{Appends}
-use Rattle.rec_run.proofs.text.put.Given as goal
+use Rattle.rec_run.proofs.streams.put.Given as goal
 
 -- the front so far was written
 abbrev pub invariant-loop-at : goal.invariant-loop-at

@@ -1,6 +1,6 @@
 use Rattle.std.proofs.Common.{rules}
 use Rattle.rec_run.proofs.Told.{appends_piece, appends_front, keeps_front}
-use Rattle.rec_run.proofs.text.put.Goals as goal
+use Rattle.rec_run.proofs.streams.put.Goals as goal
 
 pub loop-at-preserved : goal.loop-at-preserved
 loop-at-preserved g c = (

@@ -1,7 +1,7 @@
 use Rattle.rec_run.specs.declared.ending.RunFault.TheVariants.{Write}
 use Rattle.rec_run.proofs.Told.{if_err_at}
 use Rattle.rec_run.proofs.PatternLines.{end_refused, line_written, stops_memory, text_refused}
-use Rattle.rec_run.proofs.pattern_lines.write_line.Goals as goal
+use Rattle.rec_run.proofs.writing.write_line.Goals as goal
 
 pub returns-in-Err-Memory-clause-err : goal.returns-in-Err-Memory-clause-err
 returns-in-Err-Memory-clause-err g c =
