@@ -183,14 +183,17 @@ impl TermBank for SharedBank {
         self.make(body(INTEGER, u64::from(z.cast_unsigned()), 0, None))
     }
 
+    #[inline(always)]
     fn nil(&mut self) -> Result<Term, BankFault> {
         self.make(body(EMPTY, 0, 0, None))
     }
 
+    #[inline(always)]
     fn cons(&mut self, head: Term, tail: Term) -> Result<Term, BankFault> {
         self.make(body(LIST, u64::from(head.0), u64::from(tail.0), None))
     }
 
+    #[inline(always)]
     fn appl(&mut self, sym: Symbol, args: Term) -> Result<Term, BankFault> {
         self.make(body(APPLICATION, sym.0, u64::from(args.0), None))
     }
