@@ -35,8 +35,8 @@ use Rattle.rec_run.specs.Reading.{line_text, shown, term_at, text_at}
 use Rattle.rec_run.specs.Run.{Reports, RoomFits, Stops}
 use Rattle.rec_run.specs.declared.ending.RunFault.{RunFault}
 use Rattle.rec_run.specs.declared.ending.RunFault.TheVariants as run
-use Rattle.rec_run.specs.declared.evaluated_lines.LineFault.{LineFault}
-use Rattle.rec_run.specs.declared.evaluated_lines.LineFault.TheVariants.{Memory, Room, Write}
+use Rattle.rec_run.specs.declared.spec.lines.LineFault.{LineFault}
+use Rattle.rec_run.specs.declared.spec.lines.LineFault.TheVariants.{Memory, Room, Write}
 use Rattle.rec_run.proofs.GivenLemmas.{all_trees, annotations_trees, notes-newlines}
 use Rattle.rec_run.proofs.GivenLists.{FrontAt}
 use Rattle.rec_run.proofs.LineFronts.{NoEnds, ends_before, front_in_line, front_in_lines, lines_of}

@@ -28,7 +28,7 @@ use Rattle.rec_run.specs.declared.refusal.Reading.TheVariants.{Refused as Refuse
 use Rattle.rec_run.specs.declared.refusal.Reason.TheVariants as reason
 use Rattle.rec_run.specs.declared.refusal.Refusal.{Refusal}
 use Rattle.rec_run.specs.declared.streams.TheConstants.{LIMIT}
-use Rattle.rec_run.specs.declared.texts.Job.{Job}
+use Rattle.rec_run.specs.declared.spec.reading.Job.{Job}
 use Rattle.rec_run.proofs.GivenLemmas.{given_elements, holds_terms, kept_elements}
 use Rattle.rec_run.proofs.OneDue.{one_verdict}
 use Rattle.rec_run.proofs.WholeRuns.{after_refusal, same_refusal, short_front}

@@ -15,7 +15,7 @@ use Rattle.rec_run.specs.declared.ending.Finish.{Finish}
 use Rattle.rec_run.specs.declared.ending.Finish.TheVariants as finish
 use Rattle.rec_run.specs.declared.ending.Source.{Source}
 use Rattle.rec_run.specs.declared.ending.Source.TheVariants as source
-use Rattle.rec_run.specs.declared.pattern_answer.Answer.{Answer}
+use Rattle.rec_run.specs.declared.pattern.answer.Answer.{Answer}
 use Rattle.rec_run.specs.declared.refusal.Reading.{Reading}
 use Rattle.rec_run.specs.declared.refusal.Reading.TheVariants.{Refused, Good}
 use Rattle.rec_run.specs.declared.refusal.Refusal.{Refusal}

@@ -18,7 +18,7 @@ use Rattle.rec_run.specs.declared.refusal.Reading.{Reading}
 use Rattle.rec_run.specs.declared.refusal.Reading.TheVariants.{Refused, Good}
 use Rattle.rec_run.specs.declared.refusal.Refusal.{Refusal}
 use Rattle.rec_run.specs.declared.streams.TheConstants.{LIMIT}
-use Rattle.rec_run.specs.declared.texts.Job.{Job}
+use Rattle.rec_run.specs.declared.spec.reading.Job.{Job}
 use Rattle.rec_run.proofs.OneDue.{one_due}
 use Rattle.rec_run.proofs.Told.{appends_none}
 

@@ -18,8 +18,8 @@ use Rattle.rec_run.specs.GivenTerms.{HoldsTerms, item_at}
 use Rattle.rec_run.specs.Output.{steps_text}
 use Rattle.rec_run.specs.declared.ending.RunFault.{RunFault}
 use Rattle.rec_run.specs.declared.ending.RunFault.TheVariants as run
-use Rattle.rec_run.specs.declared.evaluated_lines.LineFault.{LineFault}
-use Rattle.rec_run.specs.declared.evaluated_lines.LineFault.TheVariants.{Memory, Room, Write}
+use Rattle.rec_run.specs.declared.spec.lines.LineFault.{LineFault}
+use Rattle.rec_run.specs.declared.spec.lines.LineFault.TheVariants.{Memory, Room, Write}
 
 -- what is shown of what a term comes to, without the line end
 abbrev pub outcome_text : Store → Bool → ℕ → Outcome → List ℕ

@@ -30,7 +30,7 @@ use Rattle.rec_run.specs.declared.ending.Source.TheVariants as source
 use Rattle.rec_run.specs.declared.refusal.Reading.{Reading}
 use Rattle.rec_run.specs.declared.refusal.Reading.TheVariants as reading
 use Rattle.rec_run.specs.declared.refusal.Reason.TheVariants as reason
-use Rattle.rec_run.specs.declared.texts.Job.{Job}
+use Rattle.rec_run.specs.declared.spec.reading.Job.{Job}
 
 -- the tree of a reference; the empty list, where there is none
 abbrev pub item_at : Store → Reference → Tree

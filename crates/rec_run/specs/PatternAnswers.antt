@@ -14,8 +14,8 @@ use Rattle.rec_run.specs.Run.{Stops}
 use Rattle.rec_run.specs.TermRuns.{line_at}
 use Rattle.rec_run.specs.PatternRuns.{SpellsPattern, due_of_pattern, unless_unfit}
 use Rattle.rec_run.specs.declared.ending.RunFault.{RunFault}
-use Rattle.rec_run.specs.declared.pattern_answer.Answer.{Answer}
-use Rattle.rec_run.specs.declared.pattern_answer.Answer.TheVariants as answer
+use Rattle.rec_run.specs.declared.pattern.answer.Answer.{Answer}
+use Rattle.rec_run.specs.declared.pattern.answer.Answer.TheVariants as answer
 use Rattle.rec_run.specs.declared.refusal.Reading.{Reading}
 use Rattle.rec_run.specs.declared.refusal.Reading.TheVariants as reading
 

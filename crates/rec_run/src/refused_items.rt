@@ -15,10 +15,10 @@ ghost use Rattle.rec_run.specs.Reading.{IsSpecRead};
 ghost use Rattle.rec_run.specs.RefusedItems.{misfit_among, misfit_in, misfit_of, term_in};
 
 use crate::ending::{RunFault, Source};
-use crate::given_term::{MOST_CELLS, empty_bank, parse};
-use crate::pattern_runs::{elements_of, read_pattern};
+use crate::pattern::reading::{elements_of, read_pattern};
 use crate::refusal::Reading;
-use crate::verdict::judge;
+use crate::spec::reading::judge;
+use crate::term::reading::{MOST_CELLS, empty_bank, parse};
 use rec_sorts::{Checked, broken_element};
 use rx_pattern::{MakeFault, Pattern};
 use rx_term::{Term, TermBank};

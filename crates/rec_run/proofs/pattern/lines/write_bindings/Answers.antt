@@ -1,0 +1,22 @@
+use Rattle.std.specs.Prelude.{codes, flat_map}
+use Rattle.rec_run.specs.TermRuns.{line_at}
+use Rattle.rec_run.specs.declared.ending.RunFault.TheVariants.{Write}
+use Rattle.rec_run.proofs.Told.{if_err_at}
+use Rattle.rec_run.proofs.PatternLines.{held_one, stops_before, stops_binding, stops_first, stops_write}
+use Rattle.rec_run.proofs.pattern.lines.write_bindings.Goals as goal
+
+pub returns-in_err-put-clause-err : goal.returns-in_err-put-clause-err
+returns-in_err-put-clause-err g c =
+    let w = g.B.TermBank.store c.args.bank.now in
+    if_err_at c.from_residual.result _ Write c.from_residual.ensures.1
+    (stops_before Write (codes "yes\n") (flat_map (line_at w) c.args.bindings.now) _ _ (stops_first Write (codes "yes\n") _ _ (stops_write 0 (codes "yes\n") _ _ c.in_err-put.ensures.err)))
+
+pub write_line-requires : goal.write_line-requires
+write_line-requires g c = held_one (g.B.TermBank.store c.args.bank.now) c.args.bindings.now c.loop-i.i _ c.requires c.loop-i-test.true
+
+pub returns-in_err-write_line-clause-err : goal.returns-in_err-write_line-clause-err
+returns-in_err-write_line-clause-err g c =
+    let w = g.B.TermBank.store c.args.bank.now in
+    let f = c.in_err-write_line.field-0.0 in
+    if_err_at c.from_residual-in_err-write_line.result _ f c.from_residual-in_err-write_line.ensures.1
+    (stops_binding w c.args.bindings.now c.loop-i.i (record { 0 = 0 }) f _ _ _ (g.met.B.TermBank.sound c.args.bank.now) c.requires c.loop-i-test.true c.loop-i.invariant c.in_err-write_line.ensures.err)

@@ -1,0 +1,18 @@
+use Rattle.std.proofs.Common.{◌≡◌, [], Some, drop, take}
+use Rattle.std.specs.Io.KnownBytes.{Appends}
+use Rattle.rx_term.specs.Steps.{Keeps}
+use Rattle.rx_term.specs.Store.{tree_at}
+use Rattle.rx_term.specs.Tree.{from_list, list_of}
+use Rattle.rec_engine.specs.Engine.{SameEngine}
+use Rattle.rec_run.specs.GivenTerms.{given_at, given_text}
+use Rattle.rec_run.proofs.LineFronts.{lines_of}
+use Rattle.rec_run.proofs.spec.lines.write_given_lines.Given as goal
+
+-- the lines so far were written, and the rest of the list is left
+abbrev pub invariant-loop-i : goal.invariant-loop-i
+invariant-loop-i g l = record {
+  same : SameEngine l.fn.engine l.engine;
+  keeps : Keeps (g.B.TermBank.store l.fn.engine.bank) (g.B.TermBank.store l.engine.bank) [];
+  left : tree_at (g.B.TermBank.store l.engine.bank) l.rest ≡ Some (list_of (from_list (drop l.i (given_at (g.B.TermBank.store l.fn.engine.bank) l.fn.list))));
+  written : Appends (g.W.Write.contents l.fn.out) (g.W.Write.contents l.out) (lines_of (given_text l.fn.engine.spec l.options.count l.options.steps) (take l.i (given_at (g.B.TermBank.store l.fn.engine.bank) l.fn.list)));
+}

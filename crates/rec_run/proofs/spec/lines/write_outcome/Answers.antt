@@ -1,0 +1,31 @@
+use Rattle.std.proofs.Common.{subst, sym}
+use Rattle.std.specs.Io.KnownBytes.{Appends}
+use Rattle.rx_term.specs.Store.{tree_at}
+use Rattle.rx_text.specs.Canon.{canon}
+use Rattle.rx_text.specs.Written.{AppendsFront}
+use Rattle.rec_run.specs.EvaluatedLines.{HoldsValue, outcome_text}
+use Rattle.rec_run.specs.GivenTerms.{item_at}
+use Rattle.rec_run.specs.Output.{steps_text}
+use Rattle.rec_run.proofs.EvaluatedLemmas.{of_held}
+use Rattle.rec_run.proofs.Told.{front_after, front_before, on_err}
+use Rattle.rec_run.proofs.spec.lines.write_outcome.Goals as goal
+
+pub returns-in_err-write-in-Value-clause-err : goal.returns-in_err-write-in-Value-clause-err
+returns-in_err-write-in-Value-clause-err g c =
+    let w = g.B.TermBank.store c.args.bank.now in
+    let held = subst (HoldsValue w) c.in-Value.is c.requires in
+    on_err c.from_residual.result
+    (subst (λ o. AppendsFront (outcome_text w c.args.options.count c.args.options.steps o) (g.W.Write.contents c.args.out.now) (g.W.Write.contents c.write.new.out)) (sym c.in-Value.is)
+    (front_before _ _ (canon (item_at w c.in-Value.term)) (steps_text c.args.options.count c.in-Value.steps)
+    (of_held (tree_at w c.in-Value.term) (λ u. AppendsFront (canon u) (g.W.Write.contents c.args.out.now) (g.W.Write.contents c.write.new.out)) held c.in_err-write-in-Value.ensures.front)))
+
+pub returns-in_err-write_steps-in-Value-clause-err :
+    goal.returns-in_err-write_steps-in-Value-clause-err
+returns-in_err-write_steps-in-Value-clause-err g c =
+    let w = g.B.TermBank.store c.args.bank.now in
+    let held = subst (HoldsValue w) c.in-Value.is c.requires in
+    on_err c.from_residual-in_err-write_steps-in-Value.result
+    (subst (λ o. AppendsFront (outcome_text w c.args.options.count c.args.options.steps o) (g.W.Write.contents c.args.out.now) (g.W.Write.contents c.write_steps.new.out)) (sym c.in-Value.is)
+    (front_after _ _ _ (canon (item_at w c.in-Value.term)) (steps_text c.args.options.count c.in-Value.steps)
+    (of_held (tree_at w c.in-Value.term) (λ u. Appends (g.W.Write.contents c.args.out.now) (g.W.Write.contents c.write.new.out) (canon u)) held c.in_ok-write-in-Value.ensures.written)
+    c.in_err-write_steps-in-Value.ensures.err))

@@ -1,0 +1,61 @@
+use Rattle.std.proofs.Common.{◌≡◌, ◌++◌, ◌<◌, ◌≤◌, ◌^◌, [], ap, arith, length, subst, sym, take, take_all, ◌∙◌}
+use Rattle.std.specs.Prelude.{codes}
+use Rattle.std.specs.Io.KnownBytes.{Appends}
+use Rattle.rx_term.proofs.KeepLemmas.{Keeps-trans}
+use Rattle.rx_text.specs.Written.{AppendsFront}
+use Rattle.rec_syntax.specs.Syntax.{Apply, nameless}
+use Rattle.rec_syntax.specs.Syntax as syntax
+use Rattle.rec_run.specs.EvaluatedLines.{due_before, raised_after}
+use Rattle.rec_run.specs.Output.{lines}
+use Rattle.rec_run.specs.Reading.{line_text, term_at, text_at}
+use Rattle.rec_run.specs.Run.{Stops}
+use Rattle.rec_run.proofs.EvaluatedLemmas.{lines_stopped, raised_at, room_fits, same_engine_both}
+use Rattle.rec_run.proofs.LineFronts.{lines_of, lines_of-more}
+use Rattle.rec_run.proofs.SpecLines.{line_text-newlines, lines-own}
+use Rattle.rec_run.proofs.Told.{appends_both}
+use Rattle.rec_run.proofs.spec.lines.write_own_lines.Goals as goal
+
+pub returns-in-Err-clause-keeps : goal.returns-in-Err-clause-keeps
+returns-in-Err-clause-keeps g c = Keeps-trans c.loop-i.invariant.keeps c.in-Err.ensures.keeps
+
+pub returns-in-Err-clause-err : goal.returns-in-Err-clause-err
+returns-in-Err-clause-err g c =
+    let y = c.args.engine.now.spec in
+    let n = c.args.options.steps in
+    let f = line_text y c.args.options.count n in
+    let old = g.W.Write.contents c.args.out.now in
+    let new = g.W.Write.contents c.write_own_line.new.out in
+    let low : c.loop-i.i < length y.terms = omega arith in
+    let few : n < 2 ^ 64 = omega (arith, c.args.options.steps_in_range) in
+    let fault : c.after.result ≡ raised_after c.in-Err.fault c.loop-i.i = raised_at c.in-Err.fault c.from.result c.loop-i.i c.after.result c.after.ensures (omega arith) in
+    subst (λ stop. Stops stop (lines y [] c.args.options.count n) old new) (sym fault)
+    (subst (λ text. Stops (raised_after c.in-Err.fault c.loop-i.i) text old new) (sym (lines-own y c.args.options.count n))
+    (lines_stopped c.in-Err.fault f y.terms c.loop-i.i (Apply nameless syntax.none) _ _ _ (line_text-newlines y c.args.options.count n few y.terms) low c.loop-i.invariant.written
+    (subst (λ z. AppendsFront (due_before c.in-Err.fault (text_at z c.args.options.count n c.loop-i.i)) (g.W.Write.contents c.loop-i.out) new) c.loop-i.invariant.same.spec c.in-Err.ensures.err)))
+
+pub returns-in-Err-clause-room : goal.returns-in-Err-clause-room
+returns-in-Err-clause-room g c =
+    let old = g.B.TermBank.store c.args.engine.now.bank in
+    let new = g.B.TermBank.store c.write_own_line.new.engine.bank in
+    room_fits old new c.in-Err.fault _ c.after.result c.after.ensures (g.met.B.TermBank.sound c.write_own_line.new.engine.bank) (c.in-Err.ensures.keeps.beside.cap ∙ c.loop-i.invariant.keeps.beside.cap) c.in-Err.ensures.room
+
+pub loop-i-preserved : goal.loop-i-preserved
+loop-i-preserved g c =
+    let y = c.args.engine.now.spec in
+    let n = c.args.options.steps in
+    let f = line_text y c.args.options.count n in
+    let low : c.loop-i.i < length y.terms = omega arith in
+    record {
+      same = same_engine_both c.loop-i.invariant.same c.in-Ok.ensures.same;
+      keeps = Keeps-trans c.loop-i.invariant.keeps c.in-Ok.ensures.keeps;
+      written = subst (λ text. Appends (g.W.Write.contents c.args.out.now) (g.W.Write.contents c.write_own_line.new.out) text) (sym (lines_of-more f y.terms c.loop-i.i (Apply nameless syntax.none) low))
+          (appends_both _ _ _ (lines_of f (take c.loop-i.i y.terms)) (f (term_at y c.loop-i.i) ++ codes "\n") c.loop-i.invariant.written
+          (subst (λ z. Appends (g.W.Write.contents c.loop-i.out) (g.W.Write.contents c.write_own_line.new.out) (text_at z c.args.options.count n c.loop-i.i ++ codes "\n")) c.loop-i.invariant.same.spec c.in-Ok.ensures.ok));
+    }
+
+pub returns-clause-ok : goal.returns-clause-ok
+returns-clause-ok g c =
+    let y = c.args.engine.now.spec in
+    let f = line_text y c.args.options.count c.args.options.steps in
+    let all : length y.terms ≤ c.loop-i.i = omega arith in
+    subst (λ text. Appends (g.W.Write.contents c.args.out.now) (g.W.Write.contents c.loop-i.out) text) (ap (lines_of f) (take_all c.loop-i.i y.terms all) ∙ sym (lines-own y c.args.options.count c.args.options.steps)) c.loop-i.invariant.written

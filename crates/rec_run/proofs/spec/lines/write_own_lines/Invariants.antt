@@ -1,0 +1,15 @@
+use Rattle.std.proofs.Common.{[], take}
+use Rattle.std.specs.Io.KnownBytes.{Appends}
+use Rattle.rx_term.specs.Steps.{Keeps}
+use Rattle.rec_engine.specs.Engine.{SameEngine}
+use Rattle.rec_run.specs.Reading.{line_text}
+use Rattle.rec_run.proofs.LineFronts.{lines_of}
+use Rattle.rec_run.proofs.spec.lines.write_own_lines.Given as goal
+
+-- the lines so far were written
+abbrev pub invariant-loop-i : goal.invariant-loop-i
+invariant-loop-i g l = record {
+  same : SameEngine l.fn.engine l.engine;
+  keeps : Keeps (g.B.TermBank.store l.fn.engine.bank) (g.B.TermBank.store l.engine.bank) [];
+  written : Appends (g.W.Write.contents l.fn.out) (g.W.Write.contents l.out) (lines_of (line_text l.fn.engine.spec l.options.count l.options.steps) (take l.i l.fn.engine.spec.terms));
+}

@@ -1,0 +1,23 @@
+use Rattle.std.proofs.Common.{Option, Some, subst}
+use Rattle.rec_syntax.specs.Syntax.{Sourced}
+use Rattle.rec_sorts.specs.SpecRules.{Verdict}
+use Rattle.rec_run.specs.GivenTerms.{IsRefusal}
+use Rattle.rec_run.specs.Reading.{IsSpecReading}
+use Rattle.rec_run.specs.declared.refusal.Reading.{Reading}
+use Rattle.rec_run.proofs.GivenDue.{read_after_good, read_after_refusal}
+use Rattle.rec_run.proofs.PatternDue.{if_ok_map}
+use Rattle.rec_run.proofs.spec.reading.read_after.Goals as goal
+
+pub returns-in-Refused-clause-due : goal.returns-in-Refused-clause-due
+returns-in-Refused-clause-due g c = λ v is.
+    read_after_refusal c.in-Refused.refusal _ v (subst (λ (r : Reading Sourced). IsSpecReading r v) c.in-Refused.is is)
+
+pub returns-in-Good-clause-due : goal.returns-in-Good-clause-due
+returns-in-Good-clause-due g c =
+    if_ok_map c.read_terms.result _ _
+    (λ r h v is. read_after_good c.in-Good.checked _ r h v (subst (λ (z : Reading Sourced). IsSpecReading z v) c.in-Good.is is))
+    c.read_terms.ensures.due
+
+pub returns-in-Good-clause-unread : goal.returns-in-Good-clause-unread
+returns-in-Good-clause-unread g c = λ v is refused.
+    absurd (subst IsRefusal (subst (λ (z : Reading Sourced). IsSpecReading z v) c.in-Good.is is) refused)

@@ -1,0 +1,6 @@
+//! Runs with a pattern.
+
+pub(crate) mod answer;
+pub(crate) mod lines;
+pub(crate) mod reading;
+pub(crate) mod runs;

@@ -1,0 +1,111 @@
+//! Runs with a pattern: matching it with a term, and making a term from it.
+
+ghost use Rattle.std.specs.Prelude.{◌≡◌, ◌≢◌, None, IfErr, IfOk, OnErr, OnOk};
+ghost use Rattle.rx_term.specs.Tree.{Tree};
+ghost use Rattle.rec_run.specs.Run.{Breaks, BreaksFor, Ends, EndsFor, IsPlaced, IsPlacedFor};
+ghost use Rattle.rec_run.specs.Run.{IsReadOut, RoomFits};
+ghost use Rattle.rec_run.specs.PatternRuns.{IsMakeDue, IsMatchDue, IsNoPattern, SpellsPattern};
+
+use crate::ending::{Finish, Place, RunFault};
+use crate::pattern::answer::{make_of_reading, match_reading};
+use crate::pattern::lines::write_answer;
+use crate::pattern::reading::read_pattern;
+use crate::term::reading::{MOST_CELLS, empty_bank};
+use std::alloc::Global;
+use std::io::{Read, Write};
+
+/// Reads a pattern and then the text of a term, writes `yes` and a line for each binding, or `no`,
+/// and flushes; or the line of a refusal. Where the pattern is refused nothing of the input is
+/// read; else what a fault leaves of the reader is open.
+pub fn run_match<R: Read, W: Write>(
+    alloc: Global,
+    pattern: &[u8],
+    input: &mut R,
+    out: &mut W,
+) -> Result<Finish, RunFault>
+    ensures output { IfOk result (λ finish. EndsFor (IsMatchDue pattern.now)
+        (R.remaining input.old) finish (W.contents out.old) (W.contents out.new)) }
+    ensures fault { IfErr result (λ fault. BreaksFor (IsMatchDue pattern.now)
+        (R.remaining input.old) fault (W.contents out.old) (W.contents out.new)) }
+    ensures room { IfErr result (RoomFits 1073741824) }
+    ensures input_read { OnOk result ((p : Tree) → SpellsPattern pattern.now p
+        → IsReadOut (R.remaining input.old) (R.remaining input.new)) }
+    ensures unread { IsNoPattern pattern.now → input.new ≡ input.old }
+{
+    let mut place = None;
+    run_match_at(alloc, pattern, input, out, &mut place)
+}
+
+/// The same, with the place of the refusal that was written.
+pub fn run_match_at<R: Read, W: Write>(
+    alloc: Global,
+    pattern: &[u8],
+    input: &mut R,
+    out: &mut W,
+    place: &mut Option<Place>,
+) -> Result<Finish, RunFault>
+    ensures output { IfOk result (λ finish. EndsFor (IsMatchDue pattern.now)
+        (R.remaining input.old) finish (W.contents out.old) (W.contents out.new)) }
+    ensures place { OnOk result
+        (IsPlacedFor (IsMatchDue pattern.now) (R.remaining input.old) place.new) }
+    ensures fault { IfErr result (λ fault. BreaksFor (IsMatchDue pattern.now)
+        (R.remaining input.old) fault (W.contents out.old) (W.contents out.new)) }
+    ensures no_place { OnErr result (place.new ≡ None) }
+    ensures room { IfErr result (RoomFits 1073741824) }
+    ensures input_read { OnOk result ((p : Tree) → SpellsPattern pattern.now p
+        → IsReadOut (R.remaining input.old) (R.remaining input.new)) }
+    ensures unread { IsNoPattern pattern.now → input.new ≡ input.old }
+{
+    *place = None;
+    let reading = read_pattern(alloc, pattern)?;
+    let mut bank = empty_bank(alloc, MOST_CELLS)?;
+    let answer = match_reading(alloc, reading, input, &mut bank)?;
+    write_answer(alloc, &bank, &answer, out)?;
+    *place = answer.place();
+    Ok(answer.finish())
+}
+
+/// Makes a tree from the texts of a pattern and of its arguments, writes its printed text and a
+/// line end, and flushes; or the line of a refusal.
+pub fn run_make<W: Write>(
+    alloc: Global,
+    pattern: &[u8],
+    args: &[u8],
+    out: &mut W,
+) -> Result<Finish, RunFault>
+    ensures output { IfOk result (λ finish.
+        Ends (IsMakeDue pattern.now args.now) finish (W.contents out.old) (W.contents out.new)) }
+    ensures fault { IfErr result (λ fault.
+        Breaks (IsMakeDue pattern.now args.now) fault (W.contents out.old) (W.contents out.new)) }
+    ensures room { IfErr result (RoomFits 1073741824) }
+    ensures no_reader { IfErr result (λ fault. fault ≢ RunFault.Read) }
+{
+    let mut place = None;
+    run_make_at(alloc, pattern, args, out, &mut place)
+}
+
+/// The same, with the place of the refusal that was written.
+pub fn run_make_at<W: Write>(
+    alloc: Global,
+    pattern: &[u8],
+    args: &[u8],
+    out: &mut W,
+    place: &mut Option<Place>,
+) -> Result<Finish, RunFault>
+    ensures output { IfOk result (λ finish.
+        Ends (IsMakeDue pattern.now args.now) finish (W.contents out.old) (W.contents out.new)) }
+    ensures place { OnOk result (IsPlaced (IsMakeDue pattern.now args.now) place.new) }
+    ensures fault { IfErr result (λ fault.
+        Breaks (IsMakeDue pattern.now args.now) fault (W.contents out.old) (W.contents out.new)) }
+    ensures no_place { OnErr result (place.new ≡ None) }
+    ensures room { IfErr result (RoomFits 1073741824) }
+    ensures no_reader { IfErr result (λ fault. fault ≢ RunFault.Read) }
+{
+    *place = None;
+    let reading = read_pattern(alloc, pattern)?;
+    let mut bank = empty_bank(alloc, MOST_CELLS)?;
+    let answer = make_of_reading(alloc, reading, args, &mut bank)?;
+    write_answer(alloc, &bank, &answer, out)?;
+    *place = answer.place();
+    Ok(answer.finish())
+}

@@ -1,0 +1,326 @@
+//! The lines of terms that an engine evaluates.
+
+ghost use Rattle.std.specs.Prelude.{◌≡◌, ◌≢◌, ◌<◌, ◌++◌, ℕ, Err, IfErr, IfOk, IsSome, OnErr, OnOk};
+ghost use Rattle.std.specs.Prelude.{[], codes, length};
+ghost use Rattle.std.specs.Option.{ForSome};
+ghost use Rattle.std.specs.Io.KnownBytes.{Appends};
+ghost use Rattle.rx_term.specs.Steps.{Keeps, with_count};
+ghost use Rattle.rx_term.specs.Store.{tree_at};
+ghost use Rattle.rx_text.specs.Written.{AppendsFront};
+ghost use Rattle.rec_engine.specs.Engine.{IsGiven, SameEngine};
+ghost use Rattle.rec_run.specs.GivenTerms.{
+  HoldsTerms,
+  StopsAfter,
+  given_at,
+  given_by,
+  given_lines,
+  given_text,
+  item_at,
+};
+ghost use Rattle.rec_run.specs.Output.{lines};
+ghost use Rattle.rec_run.specs.Reading.{text_at};
+ghost use Rattle.rec_run.specs.Run.{RoomFits, Stops};
+ghost use Rattle.rec_run.specs.EvaluatedLines.{
+  FillsBank,
+  HoldsValue,
+  ProtectsTerms,
+  due_before,
+  outcome_text,
+  raised_after,
+};
+
+use crate::ending::{RunFault, RunOptions};
+use crate::streams::{Stopped, put};
+use crate::writing::{put_numbered, write_steps};
+use rec_engine::{Engine, EngineFault, Options, Outcome};
+use rec_sorts::Checked;
+use rx_term::{Kind, RootsFull, Term, TermBank};
+use rx_text::WriteFault;
+use std::alloc::Global;
+use std::io::Write;
+
+/// Why a line was not written whole.
+#[derive(Clone, Copy, Debug, PartialEq, Eq)]
+pub(crate) enum LineFault {
+    /// A growth was refused.
+    Memory,
+    /// No cell was left.
+    Room,
+    /// The writer refused.
+    Write,
+}
+
+impl LineFault {
+    /// The run's fault where a line's came after so many lines.
+    fn after(self, lines: u64) -> RunFault
+        ensures { result ≡ raised_after self lines }
+    {
+        match self {
+            LineFault::Memory => RunFault::Memory { lines },
+            LineFault::Room => RunFault::Room { lines },
+            LineFault::Write => RunFault::Write,
+        }
+    }
+}
+
+impl From<EngineFault> for LineFault {
+    ghost use Rattle.rec_run.specs.EvaluatedLines.{of_engine};
+
+    ghost from_gives = { λ e r. r ≡ of_engine e };
+
+    fn from(error: EngineFault) -> LineFault {
+        match error {
+            EngineFault::Memory => LineFault::Memory,
+            EngineFault::Room => LineFault::Room,
+        }
+    }
+}
+
+impl From<WriteFault> for LineFault {
+    ghost use Rattle.rec_run.specs.EvaluatedLines.{of_text};
+
+    ghost from_gives = { λ e r. r ≡ of_text e };
+
+    fn from(error: WriteFault) -> LineFault {
+        match error {
+            WriteFault::Memory => LineFault::Memory,
+            WriteFault::Write => LineFault::Write,
+        }
+    }
+}
+
+impl From<Stopped> for LineFault {
+    ghost use Rattle.rec_run.specs.declared.spec.lines.LineFault.TheVariants.{Write};
+
+    ghost from_gives = { λ _ r. r ≡ Write };
+
+    fn from(_stopped: Stopped) -> LineFault {
+        LineFault::Write
+    }
+}
+
+/// Evaluates the terms of a specification and those of a list, where there is one, over the bank
+/// that holds them, and writes a line for each.
+pub(crate) fn write_evaluated<B: TermBank + Drop, W: Write>(
+    alloc: Global,
+    checked: Checked,
+    bank: B,
+    list: Option<Term>,
+    out: &mut W,
+    options: RunOptions,
+) -> Result<(), RunFault>
+    requires unrooted { (t : ℕ) → (B.store bank).roots t ≡ 0 }
+    requires given { ForSome list (HoldsTerms checked.spec (B.store bank)) }
+    ensures ok { OnOk result (Appends (W.contents out.old) (W.contents out.new)
+        (lines checked.spec (given_by (B.store bank) list) options.count options.steps)) }
+    ensures err { IfErr result (λ fault. Stops fault
+        (lines checked.spec (given_by (B.store bank) list) options.count options.steps)
+        (W.contents out.old) (W.contents out.new)) }
+    ensures room { IfErr result (RoomFits (B.store bank).cap) }
+{
+    let mut engine = engine_over(alloc, checked, bank, list, options)?;
+    write_all(alloc, &mut engine, list, out, options)
+}
+
+/// An engine over a bank in which the list is protected, where there is one.
+fn engine_over<B: TermBank + Drop>(
+    alloc: Global,
+    checked: Checked,
+    mut bank: B,
+    list: Option<Term>,
+    options: RunOptions,
+) -> Result<Engine<B>, RunFault>
+    requires unrooted { (t : ℕ) → (B.store bank).roots t ≡ 0 }
+    requires given { ForSome list (HoldsTerms checked.spec (B.store bank)) }
+    ensures spec { IfOk result (λ e. e.spec ≡ checked.spec) }
+    ensures protected { IfOk result
+        (λ e. ForSome list (ProtectsTerms checked.spec (B.store e.bank))) }
+    ensures terms { IfOk result
+        (λ e. given_by (B.store e.bank) list ≡ given_by (B.store bank) list) }
+    ensures cap { IfOk result (λ e. (B.store e.bank).cap ≡ (B.store bank).cap) }
+    ensures fault { IfErr result (λ fault. fault ≡ RunFault.Memory 0) }
+{
+    if let Some(list) = list {
+        protect(&mut bank, list);
+    }
+    let options = Options {
+        memo: options.memo,
+        reclaim_every: options.reclaim,
+    };
+    match Engine::new(alloc, checked, bank, options) {
+        Ok(engine) => Ok(engine),
+        Err(_) => Err(RunFault::Memory { lines: 0 }),
+    }
+}
+
+/// Protects a term that is not protected yet.
+fn protect<B: TermBank>(bank: &mut B, t: Term)
+    requires held { IsSome (tree_at (B.store bank.old) t) }
+    requires unrooted { (B.store bank.old).roots t.0 ≡ 0 }
+    ensures { B.store bank.new ≡ with_count (B.store bank.old) t 1 }
+{
+    match bank.protect(t) {
+        Ok(()) => {}
+        Err(RootsFull) => unreachable!(),
+    }
+}
+
+/// Writes a line for each term of the specification, and then one for each term of the list, where
+/// there is one.
+fn write_all<B: TermBank, W: Write>(
+    alloc: Global,
+    engine: &mut Engine<B>,
+    list: Option<Term>,
+    out: &mut W,
+    options: RunOptions,
+) -> Result<(), RunFault>
+    requires { ForSome list (ProtectsTerms engine.old.spec (B.store engine.old.bank)) }
+    ensures ok { OnOk result (Appends (W.contents out.old) (W.contents out.new)
+        (lines engine.old.spec (given_by (B.store engine.old.bank) list) options.count
+        options.steps)) }
+    ensures err { IfErr result (λ fault. Stops fault
+        (lines engine.old.spec (given_by (B.store engine.old.bank) list)
+        options.count options.steps)
+        (W.contents out.old) (W.contents out.new)) }
+    ensures room { IfErr result (RoomFits (B.store engine.old.bank).cap) }
+{
+    write_own_lines(alloc, engine, out, options)?;
+    match list {
+        None => Ok(()),
+        Some(list) => write_given_lines(alloc, engine, list, out, options),
+    }
+}
+
+/// Writes a line for each term of the specification.
+fn write_own_lines<B: TermBank, W: Write>(
+    alloc: Global,
+    engine: &mut Engine<B>,
+    out: &mut W,
+    options: RunOptions,
+) -> Result<(), RunFault>
+    ensures same { SameEngine engine.old engine.new }
+    ensures keeps { Keeps (B.store engine.old.bank) (B.store engine.new.bank) [] }
+    ensures ok { OnOk result (Appends (W.contents out.old) (W.contents out.new)
+        (lines engine.old.spec [] options.count options.steps)) }
+    ensures err { IfErr result
+        (λ fault. Stops fault (lines engine.old.spec [] options.count options.steps)
+        (W.contents out.old) (W.contents out.new)) }
+    ensures room { IfErr result (RoomFits (B.store engine.old.bank).cap) }
+{
+    for i in 0..engine.eval_terms() {
+        match write_own_line(alloc, engine, i, out, options) {
+            Ok(()) => {}
+            Err(fault) => return Err(fault.after(u64::from(i))),
+        }
+    }
+    Ok(())
+}
+
+/// Writes the line of the specification's term of this number.
+fn write_own_line<B: TermBank, W: Write>(
+    alloc: Global,
+    engine: &mut Engine<B>,
+    i: u32,
+    out: &mut W,
+    options: RunOptions,
+) -> Result<(), LineFault>
+    requires { i < length engine.old.spec.terms }
+    ensures same { SameEngine engine.old engine.new }
+    ensures keeps { Keeps (B.store engine.old.bank) (B.store engine.new.bank) [] }
+    ensures ok { OnOk result (Appends (W.contents out.old) (W.contents out.new)
+        (text_at engine.old.spec options.count options.steps i ++ codes "\n")) }
+    ensures err { IfErr result (λ fault.
+        AppendsFront (due_before fault (text_at engine.old.spec options.count options.steps i))
+        (W.contents out.old) (W.contents out.new)) }
+    ensures room { IfErr result (FillsBank (B.store engine.new.bank)) }
+{
+    let term = engine.eval_term(i)?;
+    write_line(alloc, engine, term, out, options)
+}
+
+/// Writes a line for each term of a list that is protected, behind those of the specification.
+fn write_given_lines<B: TermBank, W: Write>(
+    alloc: Global,
+    engine: &mut Engine<B>,
+    list: Term,
+    out: &mut W,
+    options: RunOptions,
+) -> Result<(), RunFault>
+    requires { ProtectsTerms engine.old.spec (B.store engine.old.bank) list }
+    ensures ok { OnOk result (Appends (W.contents out.old) (W.contents out.new)
+        (given_lines engine.old.spec options.count options.steps
+        (given_at (B.store engine.old.bank) list))) }
+    ensures err { IfErr result (λ fault. StopsAfter (length engine.old.spec.terms) fault
+        (given_lines engine.old.spec options.count options.steps
+        (given_at (B.store engine.old.bank) list))
+        (W.contents out.old) (W.contents out.new)) }
+    ensures room { IfErr result (RoomFits (B.store engine.old.bank).cap) }
+{
+    let first = u64::from(engine.eval_terms());
+    let mut rest = list;
+    // A list has fewer items than its bank has cells.
+    for i in 0..engine.bank().cells() {
+        let Kind::Cons = engine.bank().kind(rest) else {
+            return Ok(());
+        };
+        let term = engine.bank().head(rest);
+        match write_line(alloc, engine, term, out, options) {
+            Ok(()) => {}
+            Err(fault) => return Err(fault.after(first + u64::from(i))),
+        }
+        rest = engine.bank().tail(rest);
+    }
+    Ok(())
+}
+
+/// Evaluates a term, and writes its line.
+fn write_line<B: TermBank, W: Write>(
+    alloc: Global,
+    engine: &mut Engine<B>,
+    t: Term,
+    out: &mut W,
+    options: RunOptions,
+) -> Result<(), LineFault>
+    requires { IsGiven engine.old.spec (B.store engine.old.bank) t }
+    ensures same { SameEngine engine.old engine.new }
+    ensures keeps { Keeps (B.store engine.old.bank) (B.store engine.new.bank) [] }
+    ensures ok { OnOk result (Appends (W.contents out.old) (W.contents out.new)
+        (given_text engine.old.spec options.count options.steps
+        (item_at (B.store engine.old.bank) t) ++ codes "\n")) }
+    ensures err { IfErr result (λ fault. AppendsFront
+        (due_before fault (given_text engine.old.spec options.count options.steps
+        (item_at (B.store engine.old.bank) t)))
+        (W.contents out.old) (W.contents out.new)) }
+    ensures room { IfErr result (FillsBank (B.store engine.new.bank)) }
+{
+    let outcome = engine.normalise(t, options.steps)?;
+    write_outcome(alloc, engine.bank(), outcome, out, options)?;
+    put(out, b"\n")?;
+    Ok(())
+}
+
+/// Writes what is shown of what a term comes to.
+fn write_outcome<B: TermBank, W: Write>(
+    alloc: Global,
+    bank: &B,
+    outcome: Outcome,
+    out: &mut W,
+    options: RunOptions,
+) -> Result<(), LineFault>
+    requires { HoldsValue (B.store bank.now) outcome }
+    ensures ok { OnOk result (Appends (W.contents out.old) (W.contents out.new)
+        (outcome_text (B.store bank.now) options.count options.steps outcome)) }
+    ensures err { OnErr result
+        (AppendsFront (outcome_text (B.store bank.now) options.count options.steps outcome)
+        (W.contents out.old) (W.contents out.new)) }
+    ensures no_room { Err LineFault.Room ≢ result }
+{
+    match outcome {
+        Outcome::Value { term, steps } => {
+            rx_text::write(alloc, bank, term, out)?;
+            write_steps(options.count, steps, out)?;
+        }
+        Outcome::Limit => put_numbered(out, b"!limit ", options.steps)?,
+    }
+    Ok(())
+}

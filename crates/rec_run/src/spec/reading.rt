@@ -1,0 +1,229 @@
+//! The texts of a run: a specification, and given terms.
+
+ghost use Rattle.std.specs.Prelude.{◌≡◌, ◌<◌, ◌≤◌, ℕ, List, IfOk, IfErr, IfSome, IsSome, None};
+ghost use Rattle.std.specs.Prelude.{OnOk, Some, length, option_map};
+ghost use Rattle.rx_term.specs.Store.{tree_at};
+ghost use Rattle.rx_text.specs.Grammar.{Spells};
+ghost use Rattle.rx_shared.specs.State.{store_of};
+ghost use Rattle.rec_syntax.specs.Grammar.{SpecText};
+ghost use Rattle.rec_syntax.specs.Syntax.{Spec};
+ghost use Rattle.rec_sorts.specs.SpecRules.{Fits, Good, Verdict, SpecVerdict};
+ghost use Rattle.rec_run.specs.Reading.{IsGood, IsSpecRead, IsSpecReading};
+ghost use Rattle.rec_run.specs.Run.{IsReadOut, RanOut, StopsUnwritten, both_texts};
+ghost use Rattle.rec_run.specs.GivenTerms.{
+  IsReadAs,
+  IsReadFor,
+  IsReadFrom,
+  IsReady,
+  IsRefusal,
+  list_refused,
+};
+
+use crate::ending::{RunFault, Source};
+use crate::refusal::{Reading, Reason};
+use crate::streams::{ReadFault, read_all};
+use crate::term::reading::{empty_bank, parse};
+use rec_sorts::{Checked, SortFault, TermsFault, check, check_terms};
+use rec_syntax::{Syntax, SyntaxFault, read_owned};
+use rx_shared::SharedBank;
+use rx_term::Term;
+use std::alloc::{AllocError, Global};
+use std::io::Read;
+
+/// A good specification, and a bank with the list of given terms, where there is one.
+#[derive(Drop)]
+pub(crate) struct Job {
+    pub(crate) checked: Checked,
+    pub(crate) bank: SharedBank,
+    pub(crate) list: Option<Term>,
+}
+
+/// The verdict on a text, which a good specification keeps.
+pub(crate) fn judge(alloc: Global, text: Vec<u8>) -> Result<Reading<Checked>, AllocError>
+    ensures { IfOk result (IsSpecRead text.items) }
+{
+    match read_owned(alloc, text) {
+        Ok(syntax) => judge_rules(alloc, syntax),
+        Err(SyntaxFault::Long) => Ok(Reading::refused(Source::Spec, Reason::Long)),
+        Err(SyntaxFault::Grammar { at }) => {
+            Ok(Reading::refused(Source::Spec, Reason::Grammar { at }))
+        }
+        Err(SyntaxFault::Memory) => Err(AllocError),
+    }
+}
+
+/// The verdict on a text that spells a specification.
+fn judge_rules(alloc: Global, syntax: Syntax) -> Result<Reading<Checked>, AllocError>
+    requires short { length syntax.source ≤ 16777216 }
+    requires spelled { SpecText syntax.source syntax.spec }
+    ensures { IfOk result (IsSpecRead syntax.source) }
+{
+    match check(alloc, syntax) {
+        Ok(checked) => Ok(Reading::Good(checked)),
+        Err(SortFault::Rule { number, at }) => {
+            Ok(Reading::refused(Source::Spec, Reason::Rule { number, at }))
+        }
+        Err(SortFault::Memory) => Err(AllocError),
+    }
+}
+
+/// Reads the text of a specification without given terms, and judges it.
+pub(crate) fn read_alone<R: Read>(
+    alloc: Global,
+    spec: &mut R,
+    cells: u32,
+) -> Result<Reading<Job>, RunFault>
+    requires { (0 < cells) × (cells ≤ 1073741824) }
+    ensures due { IfOk result (λ reading. IfSome (both_texts (R.remaining spec.old) (Some None))
+        (λ texts. IsReadFrom texts reading)) }
+    ensures ready { IfOk result (IsReady cells) }
+    ensures out { OnOk result (IsReadOut (R.remaining spec.old) (R.remaining spec.new)) }
+    ensures fault { IfErr result (StopsUnwritten cells) }
+{
+    let first = read_spec_text(alloc, spec)?;
+    match first {
+        Reading::Refused(refusal) => Ok(Reading::Refused(refusal)),
+        Reading::Good(checked) => {
+            let bank = empty_bank(alloc, cells)?;
+            Ok(Reading::Good(Job {
+                checked,
+                bank,
+                list: None,
+            }))
+        }
+    }
+}
+
+/// Reads the text of a specification and, where it is good, that of the given terms, and judges
+/// both.
+pub(crate) fn read_both<R: Read, T: Read>(
+    alloc: Global,
+    spec: &mut R,
+    terms: &mut T,
+    cells: u32,
+) -> Result<Reading<Job>, RunFault>
+    requires { (0 < cells) × (cells ≤ 1073741824) }
+    ensures due { IfOk result (λ reading. IfSome
+        (both_texts (R.remaining spec.old) (option_map (λ b. Some b) (T.remaining terms.old)))
+        (λ texts. IsReadFrom texts reading)) }
+    ensures ready { IfOk result (IsReady cells) }
+    ensures out { OnOk result (IsReadOut (R.remaining spec.old) (R.remaining spec.new)) }
+    ensures terms_out { OnOk result (IfSome (R.remaining spec.old)
+        (λ bytes. (y : Spec) → SpecVerdict bytes (Good y)
+        → IsReadOut (T.remaining terms.old) (T.remaining terms.new))) }
+    ensures unread { IfSome (R.remaining spec.old)
+        (λ bytes. (v : Verdict) → SpecVerdict bytes v → IsRefusal v → terms.new ≡ terms.old) }
+    ensures fault { IfErr result (StopsUnwritten cells) }
+{
+    let first = read_spec_text(alloc, spec)?;
+    read_after(alloc, first, terms, cells)
+}
+
+/// Reads the text of a specification, and judges it.
+fn read_spec_text<R: Read>(alloc: Global, spec: &mut R) -> Result<Reading<Checked>, ReadFault>
+    ensures verdict { IfOk result
+        (λ reading. IfSome (R.remaining spec.old) (λ bytes. IsSpecRead bytes reading)) }
+    ensures out { OnOk result (IsReadOut (R.remaining spec.old) (R.remaining spec.new)) }
+{
+    let text = read_all(alloc, spec)?;
+    let reading = judge(alloc, text)?;
+    Ok(reading)
+}
+
+/// Reads the text of terms where the specification is good.
+fn read_after<T: Read>(
+    alloc: Global,
+    first: Reading<Checked>,
+    terms: &mut T,
+    cells: u32,
+) -> Result<Reading<Job>, RunFault>
+    requires { (0 < cells) × (cells ≤ 1073741824) }
+    ensures due { IfOk result (λ reading. (v : Verdict) → IsSpecReading first v
+        → IfSome (T.remaining terms.old) (λ bytes. IsReadAs v bytes reading)) }
+    ensures ready { IfOk result (IsReady cells) }
+    ensures out { OnOk result
+        (IsGood first → IsReadOut (T.remaining terms.old) (T.remaining terms.new)) }
+    ensures unread { (v : Verdict) → IsSpecReading first v → IsRefusal v
+        → terms.new ≡ terms.old }
+    ensures fault { IfErr result (StopsUnwritten cells) }
+{
+    match first {
+        Reading::Refused(refusal) => Ok(Reading::Refused(refusal)),
+        Reading::Good(checked) => read_terms(alloc, checked, terms, cells),
+    }
+}
+
+/// Reads the text of terms for a good specification, and judges it.
+fn read_terms<T: Read>(
+    alloc: Global,
+    checked: Checked,
+    terms: &mut T,
+    cells: u32,
+) -> Result<Reading<Job>, RunFault>
+    requires { (0 < cells) × (cells ≤ 1073741824) }
+    ensures due { IfOk result (λ reading. IfSome (T.remaining terms.old)
+        (λ bytes. IsReadFor checked.spec bytes reading)) }
+    ensures ready { IfOk result (IsReady cells) }
+    ensures out { OnOk result (IsReadOut (T.remaining terms.old) (T.remaining terms.new)) }
+    ensures fault { IfErr result (StopsUnwritten cells) }
+{
+    let text = read_all(alloc, terms)?;
+    let reading = judge_terms(alloc, checked, &text, cells)?;
+    Ok(reading)
+}
+
+/// The verdict on a text of terms for a good specification.
+fn judge_terms(
+    alloc: Global,
+    checked: Checked,
+    text: &[u8],
+    cells: u32,
+) -> Result<Reading<Job>, RunFault>
+    requires { (0 < cells) × (cells ≤ 1073741824) }
+    ensures due { IfOk result (λ reading. IsReadFor checked.spec text.now reading) }
+    ensures ready { IfOk result (IsReady cells) }
+    ensures fault { IfErr result (RanOut cells) }
+{
+    let mut bank = empty_bank(alloc, cells)?;
+    match parse(alloc, Source::Terms, text, &mut bank)? {
+        Reading::Refused(refusal) => Ok(Reading::Refused(refusal)),
+        Reading::Good(list) => judge_list(alloc, checked, bank, list),
+    }
+}
+
+/// The verdict on a text of terms that spells the term `list`.
+fn judge_list(
+    alloc: Global,
+    checked: Checked,
+    bank: SharedBank,
+    list: Term,
+) -> Result<Reading<Job>, RunFault>
+    requires held { IsSome (tree_at (store_of bank) list) }
+    requires unrooted { (t : ℕ) → (store_of bank).roots t ≡ 0 }
+    ensures due { IfOk result (λ reading. IfSome (tree_at (store_of bank) list)
+        (λ t. (bytes : List ℕ) → Fits bytes → Spells bytes t
+        → IsReadFor checked.spec bytes reading)) }
+    ensures ready { IfOk result (IsReady (store_of bank).cap) }
+    ensures fault { IfErr result (λ fault. fault ≡ RunFault.Memory 0) }
+{
+    match check_terms(alloc, &checked, &bank, list) {
+        Ok(()) => Ok(Reading::Good(Job {
+            checked,
+            bank,
+            list: Some(list),
+        })),
+        Err(fault) => refused_list(fault),
+    }
+}
+
+/// What a text of terms comes to whose list is not accepted.
+fn refused_list(fault: TermsFault) -> Result<Reading<Job>, RunFault>
+    ensures { result ≡ list_refused fault }
+{
+    match fault {
+        TermsFault::Rule { number } => {
+            Ok(Reading::refused(Source::Terms, Reason::TermsRule { number }))
+        }
+        TermsFault::Memory => Err(RunFault::Memory { lines: 0 }),
+    }
+}

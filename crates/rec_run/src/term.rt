@@ -1,0 +1,4 @@
+//! Runs on the text of one term.
+
+pub(crate) mod reading;
+pub(crate) mod runs;

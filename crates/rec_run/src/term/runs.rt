@@ -1,0 +1,235 @@
+//! Runs on the text of one term: printing it, and counting its different parts.
+
+ghost use Rattle.std.specs.Prelude.{◌≡◌, ℕ, None, IfErr, IfOk, IfSome, IsSome, OnErr, OnOk};
+ghost use Rattle.std.specs.Io.KnownBytes.{Appends};
+ghost use Rattle.rx_term.specs.Parts.{part_count};
+ghost use Rattle.rx_term.specs.Store.{tree_at};
+ghost use Rattle.rx_text.specs.Written.{AppendsFront};
+ghost use Rattle.rec_run.specs.Run.{BreaksFor, EndsFor, IsPlacedFor, IsReadOut, RoomFits, Stops};
+ghost use Rattle.rec_run.specs.Run.{StopsWriting};
+ghost use Rattle.rec_run.specs.TermRuns.{
+  IsShareDue,
+  IsTermDue,
+  IsTermHeld,
+  cells_line,
+  share_due,
+  share_lines_at,
+  term_due,
+};
+
+use crate::ending::{Finish, Place, RunFault};
+use crate::refusal::Reading;
+use crate::streams::{Stopped, flush, put};
+use crate::term::reading::read_term;
+use crate::writing::{put_numbered, write_line, write_refusal};
+use rx_term::{Term, TermBank};
+use std::alloc::Global;
+use std::io::{Read, Write};
+
+/// Reads the text of a term, writes its printed text and a line end, and flushes; or the line of
+/// its refusal. What a fault leaves of the reader is open.
+pub fn run_aterm<R: Read, W: Write>(
+    alloc: Global,
+    input: &mut R,
+    out: &mut W,
+) -> Result<Finish, RunFault>
+    ensures output { IfOk result (λ finish. EndsFor IsTermDue (R.remaining input.old)
+        finish (W.contents out.old) (W.contents out.new)) }
+    ensures fault { IfErr result (λ fault. BreaksFor IsTermDue (R.remaining input.old)
+        fault (W.contents out.old) (W.contents out.new)) }
+    ensures room { IfErr result (RoomFits 1073741824) }
+    ensures input_read { OnOk result (IsReadOut (R.remaining input.old) (R.remaining input.new)) }
+{
+    let mut place = None;
+    run_aterm_at(alloc, input, out, &mut place)
+}
+
+/// The same, with the place of the refusal that was written.
+pub fn run_aterm_at<R: Read, W: Write>(
+    alloc: Global,
+    input: &mut R,
+    out: &mut W,
+    place: &mut Option<Place>,
+) -> Result<Finish, RunFault>
+    ensures output { IfOk result (λ finish. EndsFor IsTermDue (R.remaining input.old)
+        finish (W.contents out.old) (W.contents out.new)) }
+    ensures place { OnOk result (IsPlacedFor IsTermDue (R.remaining input.old) place.new) }
+    ensures fault { IfErr result (λ fault. BreaksFor IsTermDue (R.remaining input.old)
+        fault (W.contents out.old) (W.contents out.new)) }
+    ensures no_place { OnErr result (place.new ≡ None) }
+    ensures room { IfErr result (RoomFits 1073741824) }
+    ensures input_read { OnOk result (IsReadOut (R.remaining input.old) (R.remaining input.new)) }
+{
+    *place = None;
+    let given = read_term(alloc, input)?;
+    write_term(alloc, &given.bank, &given.reading, out)?;
+    *place = given.reading.place();
+    Ok(given.reading.finish())
+}
+
+/// Reads the text of a term, writes its printed text and how many cells it takes, each with a line
+/// end, and flushes; or the line of its refusal. What a fault leaves of the reader is open.
+pub fn run_share<R: Read, W: Write>(
+    alloc: Global,
+    input: &mut R,
+    out: &mut W,
+) -> Result<Finish, RunFault>
+    ensures output { IfOk result (λ finish. EndsFor IsShareDue (R.remaining input.old)
+        finish (W.contents out.old) (W.contents out.new)) }
+    ensures fault { IfErr result (λ fault. BreaksFor IsShareDue (R.remaining input.old)
+        fault (W.contents out.old) (W.contents out.new)) }
+    ensures room { IfErr result (RoomFits 1073741824) }
+    ensures input_read { OnOk result (IsReadOut (R.remaining input.old) (R.remaining input.new)) }
+{
+    let mut place = None;
+    run_share_at(alloc, input, out, &mut place)
+}
+
+/// The same, with the place of the refusal that was written.
+pub fn run_share_at<R: Read, W: Write>(
+    alloc: Global,
+    input: &mut R,
+    out: &mut W,
+    place: &mut Option<Place>,
+) -> Result<Finish, RunFault>
+    ensures output { IfOk result (λ finish. EndsFor IsShareDue (R.remaining input.old)
+        finish (W.contents out.old) (W.contents out.new)) }
+    ensures place { OnOk result (IsPlacedFor IsShareDue (R.remaining input.old) place.new) }
+    ensures fault { IfErr result (λ fault. BreaksFor IsShareDue (R.remaining input.old)
+        fault (W.contents out.old) (W.contents out.new)) }
+    ensures no_place { OnErr result (place.new ≡ None) }
+    ensures room { IfErr result (RoomFits 1073741824) }
+    ensures input_read { OnOk result (IsReadOut (R.remaining input.old) (R.remaining input.new)) }
+{
+    *place = None;
+    let mut given = read_term(alloc, input)?;
+    write_share(alloc, &mut given.bank, &given.reading, out)?;
+    *place = given.reading.place();
+    Ok(given.reading.finish())
+}
+
+/// Writes what is due where the term is printed, and flushes.
+fn write_term<B: TermBank, W: Write>(
+    alloc: Global,
+    bank: &B,
+    reading: &Reading<Term>,
+    out: &mut W,
+) -> Result<(), RunFault>
+    requires { IsTermHeld (B.store bank.now) reading.now }
+    ensures ok { OnOk result (Appends (W.contents out.old) (W.contents out.new)
+        (term_due (B.store bank.now) reading.now).text) }
+    ensures err { IfErr result (λ fault. Stops fault (term_due (B.store bank.now) reading.now).text
+        (W.contents out.old) (W.contents out.new)) }
+    ensures writing { IfErr result StopsWriting }
+{
+    write_printed(alloc, bank, reading, out)?;
+    flush(out)?;
+    Ok(())
+}
+
+/// Writes what is due where the term is printed.
+fn write_printed<B: TermBank, W: Write>(
+    alloc: Global,
+    bank: &B,
+    reading: &Reading<Term>,
+    out: &mut W,
+) -> Result<(), RunFault>
+    requires { IsTermHeld (B.store bank.now) reading.now }
+    ensures ok { OnOk result (Appends (W.contents out.old) (W.contents out.new)
+        (term_due (B.store bank.now) reading.now).text) }
+    ensures err { IfErr result (λ fault. Stops fault (term_due (B.store bank.now) reading.now).text
+        (W.contents out.old) (W.contents out.new)) }
+    ensures writing { IfErr result StopsWriting }
+{
+    match reading {
+        Reading::Refused(refusal) => write_refusal(*refusal, out)?,
+        Reading::Good(t) => write_line(alloc, bank, *t, 0, out)?,
+    }
+    Ok(())
+}
+
+/// Writes what is due where the different parts are counted too, and flushes.
+fn write_share<B: TermBank, W: Write>(
+    alloc: Global,
+    bank: &mut B,
+    reading: &Reading<Term>,
+    out: &mut W,
+) -> Result<(), RunFault>
+    requires held { IsTermHeld (B.store bank.old) reading.now }
+    requires unrooted { (t : ℕ) → (B.store bank.old).roots t ≡ 0 }
+    ensures ok { OnOk result (Appends (W.contents out.old) (W.contents out.new)
+        (share_due (B.store bank.old) reading.now).text) }
+    ensures err { IfErr result (λ fault. Stops fault (share_due (B.store bank.old) reading.now).text
+        (W.contents out.old) (W.contents out.new)) }
+    ensures writing { IfErr result StopsWriting }
+{
+    write_shared(alloc, bank, reading, out)?;
+    flush(out)?;
+    Ok(())
+}
+
+/// Writes what is due where the different parts are counted too.
+fn write_shared<B: TermBank, W: Write>(
+    alloc: Global,
+    bank: &mut B,
+    reading: &Reading<Term>,
+    out: &mut W,
+) -> Result<(), RunFault>
+    requires held { IsTermHeld (B.store bank.old) reading.now }
+    requires unrooted { (t : ℕ) → (B.store bank.old).roots t ≡ 0 }
+    ensures ok { OnOk result (Appends (W.contents out.old) (W.contents out.new)
+        (share_due (B.store bank.old) reading.now).text) }
+    ensures err { IfErr result (λ fault. Stops fault (share_due (B.store bank.old) reading.now).text
+        (W.contents out.old) (W.contents out.new)) }
+    ensures writing { IfErr result StopsWriting }
+{
+    match reading {
+        Reading::Refused(refusal) => write_refusal(*refusal, out)?,
+        Reading::Good(t) => write_counted(alloc, bank, *t, out)?,
+    }
+    Ok(())
+}
+
+/// Writes the printed text of a term and how many cells it takes, each with a line end.
+fn write_counted<B: TermBank, W: Write>(
+    alloc: Global,
+    bank: &mut B,
+    t: Term,
+    out: &mut W,
+) -> Result<(), RunFault>
+    requires held { IsSome (tree_at (B.store bank.old) t) }
+    requires unrooted { (r : ℕ) → (B.store bank.old).roots r ≡ 0 }
+    ensures ok { OnOk result
+        (Appends (W.contents out.old) (W.contents out.new) (share_lines_at (B.store bank.old) t)) }
+    ensures err { IfErr result (λ fault. Stops fault (share_lines_at (B.store bank.old) t)
+        (W.contents out.old) (W.contents out.new)) }
+    ensures writing { IfErr result StopsWriting }
+{
+    let cells = keep_alone(bank, t);
+    write_line(alloc, bank, t, 0, out)?;
+    write_cells(cells, out)?;
+    Ok(())
+}
+
+/// Reclaims all but a term; how many cells it takes.
+fn keep_alone<B: TermBank>(bank: &mut B, t: Term) -> u32
+    requires held { IsSome (tree_at (B.store bank.old) t) }
+    requires unrooted { (r : ℕ) → (B.store bank.old).roots r ≡ 0 }
+    ensures kept { tree_at (B.store bank.new) t ≡ tree_at (B.store bank.old) t }
+    ensures counted { IfSome (tree_at (B.store bank.old) t) (λ u. result ≡ part_count u) }
+{
+    bank.reclaim(&[t]);
+    bank.cells()
+}
+
+/// Writes how many cells there are, and a line end.
+fn write_cells<W: Write>(cells: u32, out: &mut W) -> Result<(), Stopped>
+    ensures ok { OnOk result
+        (Appends (W.contents out.old) (W.contents out.new) (cells_line cells)) }
+    ensures err { OnErr result
+        (AppendsFront (cells_line cells) (W.contents out.old) (W.contents out.new)) }
+{
+    put_numbered(out, b"cells ", u64::from(cells))?;
+    put(out, b"\n")?;
+    Ok(())
+}
