@@ -33,11 +33,13 @@ pub enum EngineFault {
     Room,
 }
 
-/// After how many new cells a reclaim is due at the latest, how many cells there were after the
-/// last one, which constants were made since then, and the results that are remembered.
+/// After how many new cells a reclaim is due at the latest, and how many there have to be at the
+/// least, how many cells there were after the last one, which constants were made since then, and
+/// the results that are remembered.
 #[derive(Drop)]
 pub(crate) struct Pace {
     pub(crate) every: u32,
+    pub(crate) least: u32,
     pub(crate) floor: u32,
     pub(crate) constants: Constants,
     pub(crate) memo: Memo,
@@ -106,8 +108,11 @@ pub(crate) fn make_anyway<B: TermBank>(
     }
 }
 
-/// So many new cells are made at least before the next reclaim, however few are needed.
-const FEW: u32 = 16_384;
+/// How many new cells are made at least before the next reclaim, however few are needed, where so
+/// many results are remembered: a reclaim forgets those that nothing else holds.
+pub(crate) fn least_pace(results: u32) -> u32 {
+    if results == 0 { 16_384 } else { 32_768 }
+}
 
 /// Gives back what is not needed, where enough cells were made since the last time: as many as were
 /// left then.
@@ -116,7 +121,7 @@ pub(crate) fn reclaim_if_due<B: TermBank>(bank: &mut B, work: &[Term], pace: &mu
     ensures keeps { Keeps (B.store bank.old) (B.store bank.new) work.now }
     ensures known { KeepsKnown (B.store bank.old) (B.store bank.new) pace.old pace.new }
 {
-    let due = pace.every.min(pace.floor.max(FEW));
+    let due = pace.every.min(pace.floor.max(pace.least));
     if bank.cells().saturating_sub(pace.floor) >= due {
         reclaim(bank, work, pace);
     }

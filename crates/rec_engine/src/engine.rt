@@ -10,7 +10,7 @@ ghost use Rattle.rec_engine.specs.Cells.{RoomOnly};
 ghost use Rattle.rec_engine.specs.Engine.{AreInRange, SameEngine, IsGiven, eval_tree, IsOutcome};
 ghost use Rattle.rec_engine.specs.Engine.{IsNormalised, IsKept, RoomOnlyFor};
 
-use crate::cells::{EngineFault, Pace};
+use crate::cells::{EngineFault, Pace, least_pace};
 use crate::code::{Code, Op};
 use crate::constants::Constants;
 use crate::hints::Hints;
@@ -111,6 +111,7 @@ impl<B: TermBank + Drop> Engine<B> {
         };
         let pace = Pace {
             every: options.reclaim_every,
+            least: least_pace(options.memo),
             floor: bank.cells(),
             constants,
             memo,

@@ -51,11 +51,11 @@ impl Hints {
         }
     }
 
-    /// A result is going to be put.
-    pub(crate) fn put(&mut self, symbol: u32) {
+    /// The memo was asked, and has no result.
+    pub(crate) fn miss(&mut self, symbol: u32) {
         let place = symbol as usize;
         if place < self.tallies.len() {
-            self.tallies[place].put();
+            self.tallies[place].miss();
         }
     }
 }
