@@ -41,7 +41,7 @@ use Rattle.rec_run.proofs.GivenLemmas.{all_trees, annotations_trees, notes-newli
 use Rattle.rec_run.proofs.GivenLists.{FrontAt}
 use Rattle.rec_run.proofs.LineFronts.{NoEnds, ends_before, front_in_line, front_in_lines, lines_of}
 use Rattle.rec_run.proofs.SpecLines.{given_text-newlines}
-use Rattle.rec_run.proofs.Told.{appends_both, appends_nothing, front_before}
+use Rattle.rx_text.proofs.Appending.{appends_both, appends_same, front_before}
 
 -- ---- what is shown of an outcome
 
@@ -139,7 +139,7 @@ raised_at f m n r e same = e ∙ ap (raised_after f) same
 
 -- memory ran out before anything was written
 pub stops_unwritten : (text : List ℕ) (old : Option (List ℕ)) → Stops (run.Memory 0) text old old
-stops_unwritten text old = record { written = []; appended = appends_nothing old; front = (text, refl); reported = refl }
+stops_unwritten text old = record { written = []; appended = appends_same old; front = (text, refl); reported = refl }
 
 -- a front of a line's text is due before any fault of the line
 pub front_due : (f : LineFault) (text : List ℕ) (old new : Option (List ℕ)) → AppendsFront text old new → AppendsFront (due_before f text) old new

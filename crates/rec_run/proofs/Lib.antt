@@ -1,6 +1,6 @@
-pub mod Told
+mod ReadLemmas
+mod ErrorLemmas
 mod OneDue
-mod ValueTrees
 mod LineEnds
 mod LineFronts
 mod SpecLines

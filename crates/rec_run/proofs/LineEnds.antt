@@ -14,7 +14,7 @@ use Rattle.rx_text.specs.Canon.{canon, canon_all, canon_others, enclosed, name_t
 use Rattle.rx_text.proofs.Cutting.{and_parts}
 use Rattle.rx_text.proofs.InLine.{seen, letter_seen, continuing_seen}
 use Rattle.rec_run.specs.Bytes.{newlines}
-use Rattle.rec_run.proofs.ValueTrees.{IsApplied, AreApplied}
+use Rattle.rec_engine.proofs.ValueTrees.{IsApplied, AreApplied}
 
 pub newlines-append : (xs ys : List ℕ) → newlines (xs ++ ys) ≡ newlines xs + newlines ys
 newlines-append xs ys = sum_by-append (λ b. cond (nat_eq b 10) 1 0) xs ys

@@ -11,7 +11,7 @@ use Rattle.rec_run.specs.GivenTerms.{ReportsAfter, StopsAfter}
 use Rattle.rec_run.specs.Run.{Stops, Reports}
 use Rattle.rec_run.specs.declared.ending.RunFault.{RunFault}
 use Rattle.rec_run.specs.declared.ending.RunFault.TheVariants as fault
-use Rattle.rec_run.proofs.Told.{appends_both}
+use Rattle.rx_text.proofs.Appending.{appends_both}
 use Rattle.rec_run.proofs.LineEnds.{newlines-append}
 
 -- a line for each item, with this text

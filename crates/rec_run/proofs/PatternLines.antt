@@ -21,7 +21,7 @@ use Rattle.rec_run.specs.PatternRuns.{match_lines}
 use Rattle.rec_run.specs.PatternAnswers.{StopsAfter}
 use Rattle.rec_run.specs.declared.ending.RunFault.{RunFault}
 use Rattle.rec_run.specs.declared.ending.RunFault.TheVariants as fault
-use Rattle.rec_run.proofs.Told.{appends_both, appends_none, front_after}
+use Rattle.rx_text.proofs.Appending.{appends_both, appends_none, front_after}
 use Rattle.rec_run.proofs.LineEnds.{newlines-append}
 use Rattle.rec_run.proofs.TermsDue.{no_ends, no_ends_front}
 

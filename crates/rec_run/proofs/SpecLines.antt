@@ -10,7 +10,7 @@ use Rattle.rec_run.specs.Bytes.{newlines}
 use Rattle.rec_run.specs.GivenTerms.{given_lines, given_text, notes_text}
 use Rattle.rec_run.specs.Output.{Task, lines, line, steps_text}
 use Rattle.rec_run.specs.Reading.{shown, line_text}
-use Rattle.rec_run.proofs.ValueTrees.{value_is_applied, applied_unannotated}
+use Rattle.rec_engine.proofs.ValueTrees.{value_is_applied, applied_unannotated}
 use Rattle.rec_run.proofs.LineEnds.{no_ends, canon-newlines, decimal-newlines}
 use Rattle.rec_run.proofs.LineFronts.{lines_of, newlines-lines_of, NoEnds}
 

@@ -20,7 +20,7 @@ use Rattle.rec_run.specs.declared.refusal.Refusal.{Refusal}
 use Rattle.rec_run.specs.declared.streams.TheConstants.{LIMIT}
 use Rattle.rec_run.specs.declared.spec.reading.Job.{Job}
 use Rattle.rec_run.proofs.OneDue.{one_due}
-use Rattle.rec_run.proofs.Told.{appends_none}
+use Rattle.rx_text.proofs.Appending.{appends_none}
 
 -- ---- what a run leaves, by what is due
 

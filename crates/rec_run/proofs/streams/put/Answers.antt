@@ -1,5 +1,5 @@
 use Rattle.std.proofs.Common.{rules}
-use Rattle.rec_run.proofs.Told.{appends_piece, appends_front, keeps_front}
+use Rattle.rx_text.proofs.Appending.{appends_piece, appends_front, keeps_front}
 use Rattle.rec_run.proofs.streams.put.Goals as goal
 
 pub loop-at-preserved : goal.loop-at-preserved

@@ -1,5 +1,5 @@
 use Rattle.rec_run.specs.declared.ending.RunFault.TheVariants.{Write}
-use Rattle.rec_run.proofs.Told.{if_err_at}
+use Rattle.rec_run.proofs.ErrorLemmas.{if_err_at}
 use Rattle.rec_run.proofs.PatternLines.{end_refused, line_written, stops_memory, text_refused}
 use Rattle.rec_run.proofs.writing.write_line.Goals as goal
 

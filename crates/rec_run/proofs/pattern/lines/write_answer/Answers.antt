@@ -1,6 +1,6 @@
 use Rattle.rec_run.specs.PatternAnswers.{answer_due}
 use Rattle.rec_run.specs.declared.ending.RunFault.TheVariants.{Write}
-use Rattle.rec_run.proofs.Told.{if_err_at}
+use Rattle.rec_run.proofs.ErrorLemmas.{if_err_at}
 use Rattle.rec_run.proofs.PatternLines.{flush_refused}
 use Rattle.rec_run.proofs.pattern.lines.write_answer.Goals as goal
 

@@ -1,7 +1,7 @@
 use Rattle.std.specs.Prelude.{codes, flat_map}
 use Rattle.rec_run.specs.TermRuns.{line_at}
 use Rattle.rec_run.specs.declared.ending.RunFault.TheVariants.{Write}
-use Rattle.rec_run.proofs.Told.{if_err_at}
+use Rattle.rec_run.proofs.ErrorLemmas.{if_err_at}
 use Rattle.rec_run.proofs.PatternLines.{held_one, stops_before, stops_binding, stops_first, stops_write}
 use Rattle.rec_run.proofs.pattern.lines.write_bindings.Goals as goal
 

@@ -4,7 +4,7 @@ use Rattle.rec_run.specs.PatternRuns.{make_due}
 use Rattle.rec_run.specs.PatternAnswers.{answer_due}
 use Rattle.rec_run.specs.PatternRuns.{IsMakeDue}
 use Rattle.rec_run.proofs.FaultLemmas.{reports_ran_out}
-use Rattle.rec_run.proofs.Told.{if_err_at}
+use Rattle.rec_run.proofs.ErrorLemmas.{if_err_at}
 use Rattle.rec_run.proofs.PatternDue.{finish-answer_due, place-answer_due, same_due}
 use Rattle.rec_run.proofs.WholeRuns.{breaks_due, breaks_unwritten, ends_due, placed_due}
 use Rattle.rec_run.proofs.pattern.runs.run_make_at.Goals as goal

@@ -4,7 +4,7 @@ use Rattle.rx_shared.specs.State.{store_of}
 use Rattle.rec_run.specs.PatternRuns.{match_due}
 use Rattle.rec_run.specs.PatternAnswers.{answer_due}
 use Rattle.rec_run.proofs.FaultLemmas.{reports_ran_out, reports_unwritten, room_unwritten}
-use Rattle.rec_run.proofs.Told.{if_err_at}
+use Rattle.rec_run.proofs.ErrorLemmas.{if_err_at}
 use Rattle.rec_run.proofs.PatternDue.{finish-answer_due, place-answer_due, same_due}
 use Rattle.rec_run.proofs.WholeRuns.{breaks_due, breaks_unwritten, ends_due, placed_due}
 use Rattle.rec_run.specs.PatternRuns.{IsMatchDue}

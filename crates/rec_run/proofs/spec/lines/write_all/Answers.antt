@@ -8,7 +8,8 @@ use Rattle.rec_run.specs.Run.{Stops}
 use Rattle.rec_run.proofs.EvaluatedLemmas.{same_terms, still_protects}
 use Rattle.rec_run.proofs.LineFronts.{stops_behind}
 use Rattle.rec_run.proofs.SpecLines.{lines-both, newlines-own}
-use Rattle.rec_run.proofs.Told.{appends_both, on_ok_of}
+use Rattle.rx_text.proofs.Appending.{appends_both}
+use Rattle.rec_run.proofs.ErrorLemmas.{on_ok_of}
 use Rattle.rec_run.proofs.spec.lines.write_all.Goals as goal
 
 pub write_given_lines-requires : goal.write_given_lines-requires

@@ -4,7 +4,7 @@ use Rattle.rec_run.specs.EvaluatedLines.{ProtectsTerms}
 use Rattle.rec_run.specs.Output.{lines}
 use Rattle.rec_run.specs.Run.{Stops}
 use Rattle.rec_run.proofs.EvaluatedLemmas.{stops_unwritten}
-use Rattle.rec_run.proofs.Told.{if_err_at}
+use Rattle.rec_run.proofs.ErrorLemmas.{if_err_at}
 use Rattle.rec_run.proofs.spec.lines.write_evaluated.Goals as goal
 
 pub returns-in_err-engine-clause-err : goal.returns-in_err-engine-clause-err

@@ -14,7 +14,7 @@ use Rattle.rec_run.specs.GivenTerms.{StopsAfter, given_at, given_text, item_at}
 use Rattle.rec_run.proofs.EvaluatedLemmas.{front-line, held_no_ends, lines_stopped_after, raised_at, room_fits, same_engine_both}
 use Rattle.rec_run.proofs.GivenLists.{fewer_items, front_there, kept_later, no_front}
 use Rattle.rec_run.proofs.LineFronts.{lines_of, lines_of-more}
-use Rattle.rec_run.proofs.Told.{appends_both}
+use Rattle.rx_text.proofs.Appending.{appends_both}
 use Rattle.rec_run.proofs.spec.lines.write_given_lines.Goals as goal
 
 pub returns-in_default : goal.returns-in_default

@@ -12,7 +12,7 @@ use Rattle.rec_run.specs.Run.{Stops}
 use Rattle.rec_run.proofs.EvaluatedLemmas.{lines_stopped, raised_at, room_fits, same_engine_both}
 use Rattle.rec_run.proofs.LineFronts.{lines_of, lines_of-more}
 use Rattle.rec_run.proofs.SpecLines.{line_text-newlines, lines-own}
-use Rattle.rec_run.proofs.Told.{appends_both}
+use Rattle.rx_text.proofs.Appending.{appends_both}
 use Rattle.rec_run.proofs.spec.lines.write_own_lines.Goals as goal
 
 pub returns-in-Err-clause-keeps : goal.returns-in-Err-clause-keeps

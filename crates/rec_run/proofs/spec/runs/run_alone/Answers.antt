@@ -2,7 +2,7 @@ use Rattle.std.proofs.Common.{sym, ◌∙◌}
 use Rattle.rec_run.specs.GivenTerms.{run_due}
 use Rattle.rec_run.specs.Run.{IsDueFor}
 use Rattle.rec_run.proofs.FaultLemmas.{reports_unwritten, room_unwritten}
-use Rattle.rec_run.proofs.Told.{if_err_at}
+use Rattle.rec_run.proofs.ErrorLemmas.{if_err_at}
 use Rattle.rec_run.proofs.WholeRuns.{breaks_due, breaks_unwritten, due_for, ends_due, finish-run_due, one_due_for, place-run_due, placed_due}
 use Rattle.rec_run.proofs.spec.runs.run_alone.Goals as goal
 

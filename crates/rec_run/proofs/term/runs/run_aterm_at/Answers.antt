@@ -2,7 +2,7 @@ use Rattle.std.proofs.Common.{sym, ◌∙◌}
 use Rattle.rx_shared.specs.State.{store_of}
 use Rattle.rec_run.specs.TermRuns.{IsTermDue, term_due}
 use Rattle.rec_run.proofs.FaultLemmas.{reports_unwritten}
-use Rattle.rec_run.proofs.Told.{if_err_at}
+use Rattle.rec_run.proofs.ErrorLemmas.{if_err_at}
 use Rattle.rec_run.proofs.TermsDue.{finish-term_due, given_held, one_term_due, place-term_due, term_is_due}
 use Rattle.rec_run.proofs.WholeRuns.{breaks_due, breaks_unwritten, ends_due, placed_due}
 use Rattle.rec_run.proofs.term.runs.run_aterm_at.Goals as goal

@@ -2,7 +2,7 @@ use Rattle.std.proofs.Common.{sym, ◌∙◌}
 use Rattle.rx_shared.specs.State.{store_of}
 use Rattle.rec_run.specs.TermRuns.{IsShareDue, share_due}
 use Rattle.rec_run.proofs.FaultLemmas.{reports_unwritten}
-use Rattle.rec_run.proofs.Told.{if_err_at}
+use Rattle.rec_run.proofs.ErrorLemmas.{if_err_at}
 use Rattle.rec_run.proofs.TermsDue.{finish-share_due, given_held, one_share_due, place-share_due, share_is_due}
 use Rattle.rec_run.proofs.WholeRuns.{breaks_due, breaks_unwritten, ends_due, placed_due}
 use Rattle.rec_run.proofs.term.runs.run_share_at.Goals as goal

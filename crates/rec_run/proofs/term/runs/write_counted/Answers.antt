@@ -5,7 +5,8 @@ use Rattle.rec_run.specs.TermRuns.{cells_line, line_at}
 use Rattle.rec_run.specs.declared.ending.RunFault.TheVariants.{Write}
 use Rattle.rec_run.proofs.PatternLines.{stops_before, stops_first, stops_write}
 use Rattle.rec_run.proofs.TermsDue.{share_lines-at}
-use Rattle.rec_run.proofs.Told.{appends_both, front_after, if_err_at}
+use Rattle.rx_text.proofs.Appending.{appends_both, front_after}
+use Rattle.rec_run.proofs.ErrorLemmas.{if_err_at}
 use Rattle.rec_run.proofs.term.runs.write_counted.Goals as goal
 
 pub returns-in_err-write_line-clause-err : goal.returns-in_err-write_line-clause-err

@@ -4,7 +4,7 @@ use Rattle.rec_run.specs.Run.{Stops}
 use Rattle.rec_run.specs.TermRuns.{line_at, term_due}
 use Rattle.rec_run.specs.declared.refusal.Reading.{Reading}
 use Rattle.rec_run.proofs.PatternLines.{stops_first}
-use Rattle.rec_run.proofs.Told.{if_err_at}
+use Rattle.rec_run.proofs.ErrorLemmas.{if_err_at}
 use Rattle.rec_run.proofs.term.runs.write_printed.Goals as goal
 
 pub returns-in_err-write_line-in-Good-clause-err : goal.returns-in_err-write_line-in-Good-clause-err

@@ -1,7 +1,7 @@
 use Rattle.rec_run.specs.TermRuns.{term_due}
 use Rattle.rec_run.specs.declared.ending.RunFault.TheVariants.{Write}
 use Rattle.rec_run.proofs.PatternLines.{flush_refused}
-use Rattle.rec_run.proofs.Told.{if_err_at}
+use Rattle.rec_run.proofs.ErrorLemmas.{if_err_at}
 use Rattle.rec_run.proofs.term.runs.write_term.Goals as goal
 
 pub returns-in_err-flush-clause-err : goal.returns-in_err-flush-clause-err
