@@ -14,8 +14,6 @@ mod machine;
 mod remembering;
 mod runs;
 mod terms;
-#[cfg(test)]
-mod tests;
 
 pub use cells::EngineFault;
 pub use engine::{Engine, Options, Outcome};

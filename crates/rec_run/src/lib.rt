@@ -9,8 +9,6 @@ mod refused_items;
 mod spec;
 mod streams;
 mod term;
-#[cfg(test)]
-mod tests;
 mod writing;
 
 pub use ending::{Finish, Named, Place, RunFault, RunOptions, Source};

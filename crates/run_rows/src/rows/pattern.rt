@@ -1,10 +1,10 @@
 //! Runs with a pattern.
 
-use crate::tests::streams::{
+use crate::rows::streams::{
     Blanks, Sink, Slow, assert_held, bytewise, failing, failing_at, padded, taking, unflushed,
 };
-use crate::tests::{Ran, assert_ran};
-use crate::{
+use crate::rows::{Ran, assert_ran};
+use rec_run::{
     Finish, Misfit, Named, Place, RunFault, Source, refused_argument, run_make, run_make_at,
     run_match, run_match_at,
 };

@@ -1,4 +1,4 @@
-use crate::{MakeFault, Pattern, PatternFault};
+use rx_pattern::{MakeFault, Pattern, PatternFault};
 use rx_plain::PlainBank;
 use rx_shared::SharedBank;
 use rx_term::{Term, TermBank};

@@ -1,6 +1,6 @@
 //! The rules of given terms, row by row, and their letters.
 
-use crate::{
+use rec_sorts::{
     Checked, Letter, Meaning, TermsFault, broken_element, check, check_terms, term_letters,
 };
 use rec_syntax::read_spec;

@@ -3,7 +3,7 @@
 ghost use Rattle.std.specs.Prelude.{◌≡◌, IfOk, length};
 ghost use Rattle.rec_sorts.specs.Lookup.{symbols};
 
-use crate::{Checked, Links, check};
+use rec_sorts::{Checked, Links, check};
 use rec_syntax::read_spec;
 use rx_plain::PlainBank;
 use rx_term::{Symbol, TermBank};

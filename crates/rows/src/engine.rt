@@ -1,6 +1,6 @@
 //! The engine over both banks.
 
-use crate::{Engine, EngineFault, Options, Outcome};
+use rec_engine::{Engine, EngineFault, Options, Outcome};
 use rec_sorts::{Checked, check};
 use rec_syntax::read_spec;
 use rx_plain::PlainBank;

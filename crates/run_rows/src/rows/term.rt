@@ -1,10 +1,10 @@
 //! Texts of one term, printed and counted.
 
-use crate::tests::streams::{
+use crate::rows::streams::{
     Blanks, Sink, assert_held, bytewise, failing, failing_at, taking, unflushed,
 };
-use crate::tests::{Ran, assert_ran};
-use crate::{
+use crate::rows::{Ran, assert_ran};
+use rec_run::{
     Finish, Named, Place, RunFault, Source, run_aterm, run_aterm_at, run_share, run_share_at,
 };
 use std::alloc::Global;

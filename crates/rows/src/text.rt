@@ -1,8 +1,8 @@
-use crate::TokenKind::*;
-use crate::{TextFault, TokenKind, WriteFault, expected_at_fault, read, write};
 use rx_plain::PlainBank;
 use rx_shared::SharedBank;
 use rx_term::TermBank;
+use rx_text::TokenKind::*;
+use rx_text::{TextFault, TokenKind, WriteFault, expected_at_fault, read, write};
 use std::alloc::{AllocError, Global};
 use std::io;
 use std::io::Write;
@@ -206,7 +206,7 @@ fn too_long(rt: HostRuntime) -> Result<(), Fail> {
     let alloc = rt.alloc();
     let mut bank = PlainBank::new(alloc, 10).ok().ok_or("a bank")?;
     let mut bytes = Vec::new(alloc);
-    for _ in 0..crate::LONGEST {
+    for _ in 0..16_777_216 {
         bytes.push(b' ').ok().ok_or("memory")?;
     }
     assert!(rt; read(alloc, &bytes, &mut bank) == Err(TextFault::Grammar { at: 16_777_216 }));

@@ -1,8 +1,8 @@
 //! Each run over readers and writers that give or take one byte a call, where one call fails.
 
-use crate::tests::streams::{Sink, Slow, bytewise, failing, failing_at, taking, unflushed};
-use crate::tests::{ADD, options};
-use crate::{Finish, RunFault, run, run_aterm, run_make, run_match, run_share};
+use crate::rows::streams::{Sink, Slow, bytewise, failing, failing_at, taking, unflushed};
+use crate::rows::{ADD, options};
+use rec_run::{Finish, RunFault, run, run_aterm, run_make, run_match, run_share};
 use std::alloc::Global;
 use std::io::ErrorKind;
 use std::process::Abort;

@@ -1,6 +1,6 @@
 //! Readers and writers that fail, give little, or never end.
 
-use crate::{Finish, RunFault};
+use rec_run::{Finish, RunFault};
 use std::alloc::{AllocError, Global};
 use std::io;
 use std::io::{ErrorKind, Read, Write};

@@ -1,6 +1,6 @@
 //! The rules, row by row.
 
-use crate::{Checked, Letter, Meaning, SortFault, check};
+use rec_sorts::{Checked, Letter, Meaning, SortFault, check};
 use rec_syntax::{Syntax, read_spec};
 use std::alloc::{AllocError, Global};
 use std::process::Abort;

@@ -1,5 +1,5 @@
-use crate::TokenKind::*;
-use crate::*;
+use rec_syntax::TokenKind::*;
+use rec_syntax::*;
 use std::alloc::{AllocError, Global};
 use std::test::Fail;
 

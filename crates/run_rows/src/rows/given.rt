@@ -1,11 +1,10 @@
 //! Runs on given terms beside a specification.
 
-use crate::streams::LIMIT;
-use crate::tests::streams::{
+use crate::rows::streams::{
     Blanks, Sink, Slow, assert_held, bytewise, failing, failing_at, padded, taking,
 };
-use crate::tests::{ADD, Ran, assert_ran, options};
-use crate::{Finish, Named, Place, RunFault, RunOptions, Source, refused_term, run, run_at};
+use crate::rows::{ADD, LIMIT, Ran, assert_ran, options};
+use rec_run::{Finish, Named, Place, RunFault, RunOptions, Source, refused_term, run, run_at};
 use std::alloc::{AllocError, Global};
 use std::io::{ErrorKind, Read, Write};
 use std::process::Abort;

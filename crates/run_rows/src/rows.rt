@@ -7,8 +7,11 @@ mod spec;
 mod streams;
 mod term;
 
-use crate::{Finish, Place, RunFault, RunOptions};
+use rec_run::{Finish, Place, RunFault, RunOptions};
 use std::process::Abort;
+
+/// How many bytes a text may have.
+pub(crate) const LIMIT: usize = 16_777_216;
 
 pub(crate) const ADD: &str = "REC-SPEC Add
 SORTS Nat

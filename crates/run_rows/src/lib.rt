@@ -1,0 +1,5 @@
+//! Worked rows of whole runs: what they write for which texts, as tests.
+#![tactic(auto)]
+
+#[cfg(test)]
+mod rows;
