@@ -11,7 +11,6 @@ use Rattle.rec_run.specs.Refusals.{finish_of, place_of, refusal_due, refused_tex
 use Rattle.rec_run.specs.TermRuns.{IsReadingOf}
 use Rattle.rec_run.specs.PatternRuns.{IsDueOfBoth, OneDueOfBoth, SpellsPattern, due_of_pattern, unless_unfit, due_of_args}
 use Rattle.rec_run.specs.PatternAnswers.{IsPatternOf, IsPatternRead, answer_due}
-use Rattle.rec_run.specs.declared.ending.Finish.{Finish}
 use Rattle.rec_run.specs.declared.ending.Finish.TheVariants as finish
 use Rattle.rec_run.specs.declared.ending.Source.{Source}
 use Rattle.rec_run.specs.declared.ending.Source.TheVariants as source

@@ -1,5 +1,5 @@
 -- From what the texts of a run came to to what is due.
-use Rattle.std.proofs.Common.{ap, ◌≡◌, ℕ, ◌+◌, ◌≤◌, Bool, List, [], Option, Some, None, IfSome, length, take, take_all, refl, sym, subst, ◌∙◌, arith}
+use Rattle.std.proofs.Common.{ap, ◌≡◌, ℕ, ◌+◌, ◌≤◌, Bool, List, [], Option, Some, None, IfSome, length, take, take_all, refl, subst, arith}
 use Rattle.std.proofs.lemmas.List.{length-take}
 use Rattle.std.specs.Io.KnownBytes.{Appends, Keeps}
 use Rattle.rec_syntax.specs.Syntax.{Sourced}

@@ -3,7 +3,7 @@
 --     HoldsTerms y w r           they keep the rules
 --     run_due counted n r        what is due for what the texts came to
 --     given_text y counted n u   the line of a given term without the line end
-use Rattle.std.specs.Prelude.{ℕ, ◌+◌, ◌≡◌, Bool, List, [], ◌++◌, Option, Some, None, Result, Ok, Err, codes, decimal, flat_map, unwrap_or}
+use Rattle.std.specs.Prelude.{ℕ, ◌+◌, ◌≡◌, Bool, List, [], ◌++◌, Option, Some, None, Result, Ok, Err, codes, flat_map, unwrap_or}
 use Rattle.std.specs.Option.{ForSome}
 use Rattle.std.specs.Io.KnownBytes.{Appends}
 use Rattle.rx_term.specs.Tree.{Tree, Trees, none, annotations, from_list, list_of}

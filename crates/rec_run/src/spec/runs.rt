@@ -1,11 +1,12 @@
 //! Whole runs.
 
-ghost use Rattle.std.specs.Prelude.{◌≡◌, None, IfErr, IfOk, IfSome, OnErr, OnOk, Some, option_map};
+ghost use Rattle.std.specs.Prelude.{◌≡◌, None, IfErr, IfOk, IfSome, OnErr, OnOk, Option, Some};
+ghost use Rattle.std.specs.Prelude.{option_map};
 ghost use Rattle.std.specs.Io.KnownBytes.{Appends};
 ghost use Rattle.std.specs.Option.{option_copied_mut};
 ghost use Rattle.rec_syntax.specs.Syntax.{Spec};
 ghost use Rattle.rec_sorts.specs.SpecRules.{Good, SpecVerdict, Verdict};
-ghost use Rattle.rec_run.specs.GivenTerms.{IsReady, IsRefusal, run_due};
+ghost use Rattle.rec_run.specs.GivenTerms.{IsReadFrom, IsReady, IsRefusal, run_due};
 ghost use Rattle.rec_run.specs.Run.{
   BreaksFor,
   EndsFor,
@@ -16,6 +17,7 @@ ghost use Rattle.rec_run.specs.Run.{
   RoomFits,
   Stays,
   Stops,
+  Texts,
   both_texts,
   terms_text,
 };
@@ -118,11 +120,7 @@ fn run_alone<R: Read, W: Write>(
 {
     *place = None;
     let reading = read_alone(alloc, spec, options.cells)?;
-    let finish = reading.finish();
-    let refused_at = reading.place();
-    write_due(alloc, reading, out, options)?;
-    *place = refused_at;
-    Ok(finish)
+    answer(alloc, reading, out, options, place)
 }
 
 /// A run with given terms.
@@ -154,6 +152,31 @@ fn run_beside<R: Read, T: Read, W: Write>(
 {
     *place = None;
     let reading = read_both(alloc, spec, terms, options.cells)?;
+    answer(alloc, reading, out, options, place)
+}
+
+/// Writes what is due for the texts that were read, and flushes: how the run ends, and the place of
+/// the refusal that was written.
+fn answer<W: Write>(
+    alloc: Global,
+    reading: Reading<Job>,
+    out: &mut W,
+    options: RunOptions,
+    place: &mut Option<Place>,
+) -> Result<Finish, RunFault>
+    requires ready { IsReady options.cells reading }
+    requires no_place { place.old ≡ None }
+    ensures output { IfOk result (λ finish. (texts : Option Texts) → IfSome texts
+        (λ t. IsReadFrom t reading) → EndsFor (IsDueFor options.count options.steps) texts finish
+        (W.contents out.old) (W.contents out.new)) }
+    ensures place { OnOk result ((texts : Option Texts) → IfSome texts (λ t. IsReadFrom t reading)
+        → IsPlacedFor (IsDueFor options.count options.steps) texts place.new) }
+    ensures fault { IfErr result (λ fault. (texts : Option Texts) → IfSome texts
+        (λ t. IsReadFrom t reading) → BreaksFor (IsDueFor options.count options.steps) texts fault
+        (W.contents out.old) (W.contents out.new)) }
+    ensures room { IfErr result (RoomFits options.cells) }
+    ensures no_place { OnErr result (place.new ≡ None) }
+{
     let finish = reading.finish();
     let refused_at = reading.place();
     write_due(alloc, reading, out, options)?;

@@ -1,4 +1,4 @@
-use Rattle.std.proofs.Common.{◌≡◌, ◌<◌, ◌≤◌, ◌⊎◌, inl, inr, ℕ, length, ap, refl, subst, sym}
+use Rattle.std.proofs.Common.{◌<◌, ◌≤◌, ◌⊎◌, inl, inr, ℕ, length, ap, subst, sym}
 use Rattle.rx_term.proofs.HeapLemmas.{lt_or_le}
 use Rattle.rec_sorts.specs.SpecRules.{Grammar}
 use Rattle.rec_run.specs.Reading.{IsSpecRead}

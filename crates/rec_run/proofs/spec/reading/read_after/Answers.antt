@@ -1,6 +1,5 @@
-use Rattle.std.proofs.Common.{Option, Some, subst}
+use Rattle.std.proofs.Common.{subst}
 use Rattle.rec_syntax.specs.Syntax.{Sourced}
-use Rattle.rec_sorts.specs.SpecRules.{Verdict}
 use Rattle.rec_run.specs.GivenTerms.{IsRefusal}
 use Rattle.rec_run.specs.Reading.{IsSpecReading}
 use Rattle.rec_run.specs.declared.refusal.Reading.{Reading}
