@@ -1,0 +1,199 @@
+//! What standard error says where refusals are to be explained.
+
+use crate::shelf::Shelf;
+use crate::tests::streams::run_on;
+use crate::tests::{ADDITION, run};
+use std::alloc::Global;
+use std::process::Abort;
+use std::rt::Files;
+
+const REFUSED: Shelf = Shelf {
+    spec: "REC-SPEC E\nSORTS N\r\nCONS a : -> N\n\tb: -> M\nEND-SPEC",
+    terms: "[a,\"\u{e9}\",f(1",
+};
+
+const EXPLAINED: [(&[&str], u8, &str); 9] = [
+    (
+        &["eval", "--explain", "spec"],
+        1,
+        "recw: spec S4 at byte 41\n\
+         spec:4:8: S4: a sort that stands in CONS, OPNS or VARS is not declared\n    \
+         \tb: -> M\n    \t      ^\n",
+    ),
+    (
+        &["eval", "--explain", "terms"],
+        1,
+        "recw: spec G at byte 0\n\
+         terms:1:1: G: no specification has this here; expected `REC-SPEC`\n    \
+         [a,\"\\xc3\\xa9\",f(1\n    ^\n",
+    ),
+    (
+        &["aterm", "spec", "--explain"],
+        1,
+        "recw: term A at byte 9\n\
+         spec:1:10: A: no annotated term has this here; expected `(`, `{` or the end\n    \
+         REC-SPEC E\n             ^\n",
+    ),
+    (
+        &["aterm", "terms", "--explain"],
+        1,
+        "recw: term A at byte 11\n\
+         terms:1:12: A: no annotated term has this here; expected `)`, `{` or `,`\n    \
+         [a,\"\\xc3\\xa9\",f(1\n                     ^\n",
+    ),
+    (
+        &["match", "--explain", "<foo>"],
+        1,
+        "PATTERN: P1: a placeholder is not <term>, <int>, <str>, <appl>, <placeholder> or <list>\n",
+    ),
+    (
+        &["make", "--explain", "<int>", "[a]"],
+        1,
+        "ARGS: M2: a given tree is not one that its placeholder matches; element 1 of the list\n",
+    ),
+    (
+        &["make", "--explain", "<int", "[a]"],
+        1,
+        "recw: pattern A at byte 4\n\
+         PATTERN:1:5: A: no annotated term has this here; expected `(`, `{` or `>`\n    \
+         <int\n        ^\n",
+    ),
+    (
+        &["share", "--explain", "none"],
+        4,
+        "recw: read failed\nnone: entity not found\n",
+    ),
+    (
+        &["aterm", "--explain"],
+        4,
+        "recw: read failed\n<stdin>: other error\n",
+    ),
+];
+
+fn explains(rt: &impl Abort, alloc: Global, words: &[&str], status: u8, said: &str) {
+    let ran = run_on(rt, &REFUSED, alloc, words);
+    assert_eq!(rt; ran.status, status, "{words:?}");
+    assert_eq!(rt; ran.err.as_str(), said, "{words:?}");
+}
+
+const CUT_OFF: &str = "REC-SPEC E CONS z : Nat Nat";
+
+const CUT_OFF_THERE: &str = "recw: spec G at byte 27\n\
+     <stdin>:1:28: G: no specification has this here; expected a plain word or `->`\n    \
+     REC-SPEC E CONS z : Nat Nat\n                               ^\n";
+
+const OUT_OF_CELLS: &str = "recw: out of cells\n--cells raises the limit, which is 3 cells\n";
+
+fn explains_input<H: Abort + Files>(rt: &H, alloc: Global, words: &[&str], text: &str, said: &str) {
+    let ran = run(rt, alloc, words, text);
+    assert_eq!(rt; ran.err.as_str(), said);
+}
+
+#[test]
+fn explains_refusals(rt: HostRuntime) {
+    for (words, status, said) in &EXPLAINED {
+        explains(&rt, rt.alloc(), words, *status, said);
+    }
+    explains_input(
+        &rt,
+        rt.alloc(),
+        &["eval", "--explain"],
+        CUT_OFF,
+        CUT_OFF_THERE,
+    );
+    let words: &[&str] = &["eval", "--explain", "--cells", "3"];
+    explains_input(&rt, rt.alloc(), words, ADDITION, OUT_OF_CELLS);
+}
+
+/// Keeps all rules of specifications.
+const KEPT: &str =
+    "REC-SPEC Q SORTS A B CONS a : -> A b : -> B OPNS f : A -> A VARS X Y : A RULES f(X) -> X EVAL f(a) END-SPEC";
+
+/// What is told of these terms beside the specification that keeps all rules.
+fn told_of(rt: &impl Abort, alloc: Global, terms: &'static str) -> String {
+    let files = Shelf { spec: KEPT, terms };
+    run_on(rt, &files, alloc, &["eval", "--explain", "spec", "terms"]).err
+}
+
+const ITEMS: [(&str, &str, &str); 11] = [
+    ("a", "T1", ""),
+    ("[a]{a}", "T1", ""),
+    ("[f(a),3]", "T2", "; element 2 of the list"),
+    ("[a{a},<a>]", "T2", "; element 2 of the list"),
+    ("[f(a{b}),f(b),[a],c,1]", "T2", "; element 3 of the list"),
+    ("[f(a{b})]", "T3", "; element 1 of the list"),
+    (
+        "[c,a{b},f(f(a{b})),f(a{b})]",
+        "T3",
+        "; element 3 of the list",
+    ),
+    ("[a,b,\"a\",X]", "T4", "; element 3 of the list"),
+    ("[f(a,a),f(b),c]", "T4", "; element 3 of the list"),
+    ("[f(b),f]", "T5", "; element 2 of the list"),
+    ("[a,f(a),f(f(b)),f(b)]", "T6", "; element 3 of the list"),
+];
+
+fn tells_the_term(rt: &impl Abort, alloc: Global, terms: &'static str, rule: &str, item: &str) {
+    let said = told_of(rt, alloc, terms);
+    assert!(rt; said.as_str().starts_with("terms: "), "{terms}: {said}");
+    assert!(rt; said.as_str().contains(rule), "{terms}: {said}");
+    assert!(rt; said.as_str().trim_end().ends_with(item), "{terms}: {said}");
+    assert_eq!(rt;
+        said.as_str().contains("element"),
+        !item.is_empty(),
+        "{terms}: {said}"
+    );
+}
+
+#[test]
+fn tells_which_given_term_it_is(rt: HostRuntime) {
+    for (terms, rule, item) in &ITEMS {
+        tells_the_term(&rt, rt.alloc(), terms, rule, item);
+    }
+}
+
+const ARGUMENTS: [(&str, &str, &str, &str); 6] = [
+    ("f(<int>)", "[]", "M1", "; expected 1, given 0"),
+    ("f(<int>)", "[a,b]", "M1", "; expected 1, given 2"),
+    ("a", "[a]", "M1", "; expected 0, given 1"),
+    (
+        "f(<int>,<int>,<str>)",
+        "[1,a,b]",
+        "M2",
+        "; element 2 of the list",
+    ),
+    (
+        "f(<int>,<list>)",
+        "[1,[a]{b}]",
+        "M2",
+        "; element 2 of the list",
+    ),
+    (
+        "f(<int>)",
+        "1",
+        "T1",
+        "are not a list, or have annotations themselves",
+    ),
+];
+
+fn tells_the_argument<H: Abort + Files>(
+    rt: &H,
+    alloc: Global,
+    pattern: &str,
+    args: &str,
+    rule: &str,
+    item: &str,
+) {
+    let ran = run(rt, alloc, &["make", "--explain", pattern, args], "");
+    let said = ran.err.as_str();
+    assert!(rt; said.starts_with("ARGS: "), "{args}: {said}");
+    assert!(rt; said.contains(rule), "{args}: {said}");
+    assert!(rt; said.trim_end().ends_with(item), "{args}: {said}");
+}
+
+#[test]
+fn tells_which_argument_it_is(rt: HostRuntime) {
+    for (pattern, args, rule, item) in &ARGUMENTS {
+        tells_the_argument(&rt, rt.alloc(), pattern, args, rule, item);
+    }
+}

@@ -1,0 +1,169 @@
+//! The texts of help, the version and the list of refusals.
+
+use crate::tests::{answers, run};
+use std::alloc::Global;
+use std::process::Abort;
+use std::rt::Files;
+
+const HELP: &str = "Evaluate REC specifications, and read ATerms
+
+Usage: recw [COMMAND]
+
+Commands:
+  eval   Evaluate the terms of a REC specification
+  aterm  Print an ATerm in its shortest form
+  share  Print an ATerm and how many cells it takes with equal parts shared
+  match  Print what a pattern binds in an ATerm, or that it does not match
+  make   Print a pattern with arguments in place of its placeholders
+  help   Print this message or the help of the given subcommand(s)
+
+Options:
+  -h, --help     Print help
+  -V, --version  Print version
+
+With no arguments, recw evaluates the specification on standard input.
+
+Exit status: 0 done, 1 the text was refused, 2 wrong arguments,
+3 out of memory or cells, 4 a read or a write failed.
+
+recw help refusals says what each refusal means; --explain shows where it stands.
+";
+
+const SHARE_HELP: &str = "Print an ATerm and how many cells it takes with equal parts shared
+
+Usage: recw share [OPTIONS] [FILE]
+
+Arguments:
+  [FILE]  File of the ATerm [default: standard input]
+
+Options:
+      --explain  Say in words why a text is refused, and where
+  -h, --help     Print help
+
+Example: echo 'f(a,a)' | recw share
+";
+
+const EVAL_HELP: &str = "Evaluate the terms of a REC specification
+
+Usage: recw eval [OPTIONS] [SPEC] [TERMS]
+
+Arguments:
+  [SPEC]   File of the specification [default: standard input]
+  [TERMS]  File of an ATerm list of further terms
+
+Options:
+      --steps <N>    Most steps that a term may take, up to 10^18 [default: 1000000]
+      --cells <C>    Most cells that terms may take, 1 to 2^30 [default: 16777216]
+      --memo <M>     Most results to remember, up to 2^20 [default: 65536]
+      --reclaim <K>  New cells between two reclaims, 1 to 2^30 [default: 262144]
+      --count        Print the steps that each term took behind its value
+      --explain      Say in words why a text is refused, and where
+  -h, --help         Print help
+
+Example: recw eval --steps 500 add.rec add.trm
+";
+
+const ATERM_HELP: &str = "Print an ATerm in its shortest form
+
+Usage: recw aterm [OPTIONS] [FILE]
+
+Arguments:
+  [FILE]  File of the ATerm [default: standard input]
+
+Options:
+      --explain  Say in words why a text is refused, and where
+  -h, --help     Print help
+
+Example: echo 'f ( a , [ 1 , -007 ] )' | recw aterm
+";
+
+const MATCH_HELP: &str = "Print what a pattern binds in an ATerm, or that it does not match
+
+Usage: recw match [OPTIONS] <PATTERN> [FILE]
+
+Arguments:
+  <PATTERN>  ATerm with placeholders
+  [FILE]     File of the ATerm [default: standard input]
+
+Options:
+      --explain  Say in words why a text is refused, and where
+  -h, --help     Print help
+
+Placeholders: <term>, <int>, <str>, <appl>, <placeholder>, <list>.
+Give a pattern that begins with - a blank before it: ' -7'.
+
+Example: echo 'f(1,2,3)' | recw match 'f(<int>,<list>)'
+";
+
+const MAKE_HELP: &str = "Print a pattern with arguments in place of its placeholders
+
+Usage: recw make [OPTIONS] <PATTERN> <ARGS>
+
+Arguments:
+  <PATTERN>  ATerm with placeholders
+  <ARGS>     List with an ATerm for each placeholder, in order
+
+Options:
+      --explain  Say in words why a text is refused, and where
+  -h, --help     Print help
+
+Give a pattern that begins with - a blank before it: ' -7'.
+
+Example: recw make 'f(<int>,<list>)' '[1,[2,3]]'
+";
+
+const HELPS: [(&[&str], &str); 11] = [
+    (&["-h"], HELP),
+    (&["--help"], HELP),
+    (&["help"], HELP),
+    (&["share", "-h"], SHARE_HELP),
+    (&["make", "--help"], MAKE_HELP),
+    (&["eval", "-h"], EVAL_HELP),
+    (&["eval", "--help"], EVAL_HELP),
+    (&["help", "eval"], EVAL_HELP),
+    (&["aterm", "-h"], ATERM_HELP),
+    (&["match", "-h"], MATCH_HELP),
+    (&["help", "make"], MAKE_HELP),
+];
+
+fn shows<H: Abort + Files>(rt: &H, alloc: Global, words: &[&str], help: &str) {
+    let ran = run(rt, alloc, words, "");
+    answers(rt, words, &ran, 0, help, "");
+}
+
+#[test]
+fn shows_help(rt: HostRuntime) {
+    for (words, help) in &HELPS {
+        shows(&rt, rt.alloc(), words, help);
+    }
+}
+
+fn shows_its_version<H: Abort + Files>(rt: &H, alloc: Global) {
+    let ran = run(rt, alloc, &["--version"], "");
+    assert!(rt; ran.status == 0 && ran.err.is_empty());
+    assert!(rt; ran.out.as_str().starts_with("recw 0.1.0, proved with "));
+}
+
+fn shows_the_refusals<H: Abort + Files>(rt: &H, alloc: Global) {
+    let ran = run(rt, alloc, &["help", "refusals"], "");
+    assert!(rt; ran.status == 0 && ran.err.is_empty());
+    assert_eq!(rt; ran.out.as_str().lines().count(), 24);
+    assert!(rt;
+        ran.out
+            .as_str()
+            .contains("\nS11 a variable occurs in a term of EVAL\n")
+    );
+}
+
+fn names_the_command<H: Abort + Files>(rt: &H, alloc: Global) {
+    let ran = run(rt, alloc, &["sort.rec"], "");
+    assert!(rt; ran.status == 2 && ran.out.is_empty());
+    assert!(rt; ran.err.as_str().ends_with(": recw eval sort.rec\n"));
+}
+
+#[test]
+fn shows_its_version_and_the_refusals(rt: HostRuntime) {
+    shows_its_version(&rt, rt.alloc());
+    shows_the_refusals(&rt, rt.alloc());
+    names_the_command(&rt, rt.alloc());
+}

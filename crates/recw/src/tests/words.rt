@@ -1,0 +1,265 @@
+//! The words of the command line, the exit statuses and what standard output says.
+
+use crate::tests::{ADDITION, Ran, Row, meets, run};
+use std::alloc::Global;
+use std::process::Abort;
+use std::rt::Files;
+
+const STATUSES: [Row; 20] = [
+    (&["eval"], ADDITION, 0, "s(s(s(z)))\n", ""),
+    (&["eval", "--memo", "0"], ADDITION, 0, "s(s(s(z)))\n", ""),
+    (&["eval", "--memo=1048576"], ADDITION, 0, "s(s(s(z)))\n", ""),
+    (&["eval", "--reclaim", "1"], ADDITION, 0, "s(s(s(z)))\n", ""),
+    (&["eval", "--cells", "64"], ADDITION, 0, "s(s(s(z)))\n", ""),
+    (
+        &["eval", "--cells", "3"],
+        ADDITION,
+        3,
+        "",
+        "recw: out of cells\n",
+    ),
+    (
+        &["eval", "--cells", "7"],
+        ADDITION,
+        3,
+        "",
+        "recw: out of cells\n",
+    ),
+    (&["eval", "--cells", "1"], "REC-SPEC E END-SPEC", 0, "", ""),
+    (
+        &["eval", "--cells", "1073741824", "--reclaim", "1073741824"],
+        ADDITION,
+        0,
+        "s(s(s(z)))\n",
+        "",
+    ),
+    (&["eval", "--steps", "2"], ADDITION, 0, "!limit 2\n", ""),
+    (
+        &["eval", "--steps=1000000000000000000", "--count"],
+        ADDITION,
+        0,
+        "s(s(s(z)))\t3\n",
+        "",
+    ),
+    (&["eval"], "REC-SPEC E END-SPEC", 0, "", ""),
+    (
+        &["eval"],
+        "REC-SPEC E SORTS : END-SPEC",
+        1,
+        "!spec G\n",
+        "recw: spec G at byte 17\n",
+    ),
+    (
+        &["eval"],
+        "REC-SPEC W SORTS Nat Nat OPNS f : Nat -> Nat VARS X : Nat RULES f(X) -> g(X) END-SPEC",
+        1,
+        "!spec S1\n",
+        "recw: spec S1 at byte 21\n",
+    ),
+    (
+        &["eval"],
+        "REC-SPEC T SORTS N OPNS f : N -> N VARS X Y : N RULES f(X) -> Y END-SPEC",
+        1,
+        "!spec S10\n",
+        "recw: spec S10 at byte 62\n",
+    ),
+    (
+        &["eval", "/dev/null"],
+        ADDITION,
+        1,
+        "!spec G\n",
+        "recw: spec G at byte 0\n",
+    ),
+    (
+        &["eval", "no such file"],
+        ADDITION,
+        4,
+        "",
+        "recw: read failed\n",
+    ),
+    (&["eval", "/"], ADDITION, 4, "", "recw: read failed\n"),
+    (
+        &["eval", "/dev/null", "/"],
+        ADDITION,
+        1,
+        "!spec G\n",
+        "recw: spec G at byte 0\n",
+    ),
+    (
+        &["eval", "/dev/null", "no such file"],
+        ADDITION,
+        4,
+        "",
+        "recw: read failed\n",
+    ),
+];
+
+#[test]
+fn ends_with_its_status(rt: HostRuntime) {
+    for row in &STATUSES {
+        meets(&rt, rt.alloc(), row);
+    }
+}
+
+#[test]
+fn evaluates_without_words(rt: HostRuntime) {
+    meets(&rt, rt.alloc(), &(&[], ADDITION, 0, "s(s(s(z)))\n", ""));
+}
+
+const TERMS: [Row; 6] = [
+    (&["aterm"], "f ( a , [ 1 , -007 ] )", 0, "f(a,[1,-7])\n", ""),
+    (
+        &["aterm"],
+        "f(a,)",
+        1,
+        "!term A\n",
+        "recw: term A at byte 4\n",
+    ),
+    (
+        &["aterm", "/dev/null"],
+        "a",
+        1,
+        "!term A\n",
+        "recw: term A at byte 0\n",
+    ),
+    (&["share"], "f(a,a)", 0, "f(a,a)\ncells 5\n", ""),
+    (
+        &["share"],
+        "a b",
+        1,
+        "!term A\n",
+        "recw: term A at byte 2\n",
+    ),
+    (
+        &["share", "no such file"],
+        "a",
+        4,
+        "",
+        "recw: read failed\n",
+    ),
+];
+
+#[test]
+fn prints_terms(rt: HostRuntime) {
+    for row in &TERMS {
+        meets(&rt, rt.alloc(), row);
+    }
+}
+
+const PATTERNS: [Row; 22] = [
+    (
+        &["match", "f(<int>,<list>)"],
+        "f(1,2,3)",
+        0,
+        "yes\n1\n[2,3]\n",
+        "",
+    ),
+    (&["match", "f(<int>,<list>)"], "f(1)", 0, "yes\n1\n[]\n", ""),
+    (&["match", "f(<int>,<list>)"], "f(a)", 0, "no\n", ""),
+    (&["match", "[<list>]{x}"], "[1,2]{x}", 0, "yes\n[1,2]\n", ""),
+    (&["match", "<str>"], "a", 0, "no\n", ""),
+    (&["match", " -7"], "-7", 0, "yes\n", ""),
+    (&["match", "--", "-7"], "-7", 0, "yes\n", ""),
+    (&["match", "<foo>"], "a", 1, "!pattern P1\n", ""),
+    (&["match", "<int>{a}"], "1", 1, "!pattern P2\n", ""),
+    (
+        &["match", ""],
+        "a",
+        1,
+        "!pattern A\n",
+        "recw: pattern A at byte 0\n",
+    ),
+    (
+        &["match", "a"],
+        "f(a",
+        1,
+        "!term A\n",
+        "recw: term A at byte 3\n",
+    ),
+    (
+        &["match", "a", "/dev/null"],
+        "a",
+        1,
+        "!term A\n",
+        "recw: term A at byte 0\n",
+    ),
+    (
+        &["match", "<foo>", "no such file"],
+        "a",
+        4,
+        "",
+        "recw: read failed\n",
+    ),
+    (
+        &["make", "f(<int>,<list>)", "[1,[2,3]]"],
+        "",
+        0,
+        "f(1,2,3)\n",
+        "",
+    ),
+    (&["make", "a", "[]{}"], "", 0, "a\n", ""),
+    (&["make", " -7", "[]"], "", 0, "-7\n", ""),
+    (&["make", "f(<int>)", "[]"], "", 1, "!args M1\n", ""),
+    (&["make", "f(<int>)", "[a]"], "", 1, "!args M2\n", ""),
+    (&["make", "a", "[]{b}"], "", 1, "!args T1\n", ""),
+    (&["make", "<foo>", "("], "", 1, "!pattern P1\n", ""),
+    (
+        &["make", "a", "["],
+        "",
+        1,
+        "!args A\n",
+        "recw: args A at byte 1\n",
+    ),
+    (
+        &["make", "a", ""],
+        "",
+        1,
+        "!args A\n",
+        "recw: args A at byte 0\n",
+    ),
+];
+
+#[test]
+fn matches_and_makes(rt: HostRuntime) {
+    for row in &PATTERNS {
+        meets(&rt, rt.alloc(), row);
+    }
+}
+
+const WRONG_WORDS: [&[&str]; 21] = [
+    &["eval", "--cells", "0"],
+    &["eval", "--cells", "1073741825"],
+    &["eval", "--reclaim", "0"],
+    &["eval", "--reclaim", "1073741825"],
+    &["eval", "--memo", "1048577"],
+    &["eval", "--steps", "3", "--steps", "4"],
+    &["eval", "--count", "--count"],
+    &["eval", "--steps", "1000000000000000001"],
+    &["eval", "--steps", "-1"],
+    &["eval", "--steps", "x"],
+    &["eval", "--steps"],
+    &["eval", "a", "b", "c"],
+    &["--steps", "3"],
+    &["eval", "-7"],
+    &["match"],
+    &["match", "a", "b", "c"],
+    &["match", "-7"],
+    &["make"],
+    &["make", "a"],
+    &["make", "a", "b", "c"],
+    &["share", "a", "b"],
+];
+
+fn refuses<H: Abort + Files>(rt: &H, alloc: Global, words: &[&str]) {
+    let Ran { status, out, err } = run(rt, alloc, words, ADDITION);
+    assert_eq!(rt; status, 2, "{words:?}");
+    assert_eq!(rt; out.as_str(), "", "{words:?}");
+    assert!(rt; err.as_str().starts_with("error: "), "{words:?}: {err}");
+}
+
+#[test]
+fn refuses_words(rt: HostRuntime) {
+    for words in &WRONG_WORDS {
+        refuses(&rt, rt.alloc(), words);
+    }
+}
