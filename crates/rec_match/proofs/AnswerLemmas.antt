@@ -25,11 +25,13 @@ use Rattle.rec_sorts.specs.declared.letters.Meaning.TheVariants.{Symbol}
 use Rattle.rec_match.specs.Held.{AllHeld, or_empty}
 use Rattle.rec_match.specs.Matching.{HasFound, Finds, FindsFor, CanFind, symbol_at, count_at}
 use Rattle.rec_match.specs.Next.{IsReady, AreReady, AreLater, Reaches, Matched}
-use Rattle.rec_match.specs.Walking.{opened, goes_on, walk_all, bound}
+use Rattle.rec_match.specs.Walking.{walk_all}
+use Rattle.rec_match.specs.Bound.{opened, goes_on, bound}
 use Rattle.rec_match.specs.declared.matcher.Matcher.{Matcher}
 use Rattle.rec_match.proofs.Facts.{facts}
 use Rattle.rec_match.proofs.FindLemmas.{first-matched, first-passed}
-use Rattle.rec_match.proofs.WalkLemmas.{walk_binds, opened_is}
+use Rattle.rec_match.proofs.WalkLemmas.{walk_binds}
+use Rattle.rec_match.proofs.BoundLemmas.{opened_is}
 use Rattle.rec_match.proofs.RunLemmas.{held_at}
 use Rattle.rec_match.proofs.NextLemmas.{which, nothing, later-side}
 

@@ -21,14 +21,15 @@ use Rattle.rec_sorts.specs.Binding.{Substitution, value_of, application}
 use Rattle.rec_sorts.specs.Numbering.{Named, name_of, named_by, IsMeaning, arity_of}
 use Rattle.rec_sorts.specs.declared.letters.Letter.{Letter}
 use Rattle.rec_sorts.specs.declared.letters.Meaning.TheVariants.{Symbol, Variable}
-use Rattle.rec_match.specs.Asking.{with_one, opened, bound, goes_on, stack_on, asked}
+use Rattle.rec_match.specs.Asking.{stack_on, asked}
+use Rattle.rec_match.specs.Bound.{with_one, opened, bound, goes_on}
 use Rattle.rec_match.specs.Held.{or_empty, AllHeld, stacked}
 use Rattle.rec_sorts.specs.Linked.{signature, AreLinked}
 use Rattle.rec_match.specs.Matching.{AreFilled, paired, IsTest, AreTests, Opens, Asks, Matches}
 use Rattle.rec_match.specs.declared.matcher.Test.{Test}
 use Rattle.rec_match.specs.declared.matcher.Test.TheVariants.{Open, First, Again}
 use Rattle.rec_match.proofs.Facts.{facts, variable_is_one}
-use Rattle.rec_match.proofs.Walks.{opened_is, opened_same}
+use Rattle.rec_match.proofs.BoundLemmas.{opened_is, opened_same}
 use Rattle.rec_match.proofs.PairedLemmas.{AreVariables, value-paired, first-within, paired-snoc, unpaired, every-snoc}
 
 pub held-is : (w : Store) (t : Term) → IsSome (tree_at w t) → tree_at w t ≡ Some (held_tree w t)

@@ -13,7 +13,7 @@ use Rattle.rec_sorts.specs.Laws.{Every, BindsVariables, BindsVariablesAll}
 use Rattle.rec_sorts.specs.Numbering.{Named, named, named_all, bytes_at}
 use Rattle.rec_sorts.proofs.Kept.{all_kept, bytes_eq-eq, repeated_none, not_before}
 use Rattle.rec_sorts.proofs.Differing.{mentions_at, differ}
-use Rattle.rec_match.proofs.Walks.{AreBare}
+use Rattle.rec_match.proofs.TrialLemmas.{AreBare}
 
 pub filter_none : {X : Type 0} (p : X → Bool) (xs : List X) → filter p xs ≡ [] → Every (λ x. p x ≡ false) xs
 filter_none p [] e = tt

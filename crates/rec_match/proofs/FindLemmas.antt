@@ -15,7 +15,8 @@ use Rattle.rec_sorts.specs.Binding.{Substitution, application, binds, first_matc
 use Rattle.rec_sorts.specs.Numbering.{named, named_all, name_of, named_by, IsMeaning, arity_of}
 use Rattle.rec_sorts.specs.declared.letters.Letter.{Letter}
 use Rattle.rec_sorts.specs.declared.letters.Meaning.TheVariants.{Symbol}
-use Rattle.rec_match.specs.Asking.{opened, bound, goes_on, stack_on, asked}
+use Rattle.rec_match.specs.Asking.{stack_on, asked}
+use Rattle.rec_match.specs.Bound.{opened, bound, goes_on}
 use Rattle.rec_match.specs.Held.{AllHeld, stacked}
 use Rattle.rec_sorts.specs.Linked.{signature, AreLinked}
 use Rattle.rec_match.specs.Matching.{AreFilled, SameValues, paired, AreTests, IsTest, CanAsk, Matches, IsMatcher, IsSide, HasFound, HeadAt, symbol_at, count_at, next_at, tests_at, order_at, CanFind, FindsFor}
@@ -29,7 +30,8 @@ use Rattle.rx_term.specs.Walks.{held_tree, held_trees}
 use Rattle.rec_match.specs.declared.matcher.Test.{Test}
 use Rattle.rec_match.specs.declared.matcher.Test.TheVariants.{Open, First, Again}
 use Rattle.rec_match.proofs.Facts.{facts, RuleFacts}
-use Rattle.rec_match.proofs.Walks.{AreBare, AgreeOn, asked_binds, opened_same}
+use Rattle.rec_match.proofs.TrialLemmas.{AreBare, AgreeOn, asked_binds}
+use Rattle.rec_match.proofs.BoundLemmas.{opened_same}
 use Rattle.rec_match.proofs.ValueLemmas.{no_term, order-within, tested-values, side-paired, held-in-order}
 
 -- the symbols of tests have as many arguments as the tests say

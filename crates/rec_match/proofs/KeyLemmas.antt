@@ -19,11 +19,12 @@ use Rattle.rec_sorts.proofs.Kept.{bytes_eq-eq}
 use Rattle.rec_match.specs.Held.{or_empty}
 use Rattle.rec_match.specs.Ordered.{keys, has, with_name, names_in, among, with_number, with_letter, numbers_in}
 use Rattle.rec_match.specs.Rows.{values_of}
-use Rattle.rec_match.specs.Walking.{with_one, opened, bound, goes_on, walk, walk_all}
+use Rattle.rec_match.specs.Walking.{walk, walk_all}
+use Rattle.rec_match.specs.Bound.{with_one, opened, bound, goes_on}
 use Rattle.rec_match.proofs.Facts.{facts, every_append, every_joined, every_map, variable_is_one}
 use Rattle.rec_match.proofs.PairedLemmas.{AreVariables, every-snoc}
 use Rattle.rec_match.proofs.WalkLemmas.{walk_binds}
-use Rattle.rec_match.proofs.Walks.{AreBare}
+use Rattle.rec_match.proofs.TrialLemmas.{AreBare}
 
 -- each name has its own value
 abbrev pub IsKeyed : Substitution → Type 0

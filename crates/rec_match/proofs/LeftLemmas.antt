@@ -10,7 +10,7 @@ use Rattle.rec_sorts.specs.Laws.{Every}
 use Rattle.rec_sorts.specs.Numbering.{name_of, arity_of}
 use Rattle.rec_sorts.specs.declared.letters.Meaning.{Meaning}
 use Rattle.rec_sorts.specs.declared.letters.Meaning.TheVariants.{Symbol, Variable}
-use Rattle.rec_match.specs.Walking.{goes_on}
+use Rattle.rec_match.specs.Bound.{goes_on}
 use Rattle.rec_match.specs.Rows.{Cell, Row, cells_from, opened_cell, opened_cells, asks_for, kept_cells, changed}
 use Rattle.rec_match.specs.Growing.{Within, AllWithin}
 use Rattle.rec_match.specs.Parts.{part_at, arguments_at, numbered_from, opened_code, opened_codes, AreDistinct, asks_for_marked, kept_codes, Coded, changed_codes, AreMarks, IsCode, AreCells, coded_of}

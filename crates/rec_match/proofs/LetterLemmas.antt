@@ -22,7 +22,7 @@ use Rattle.rec_match.specs.declared.matcher.LeftSide.{LeftSide}
 use Rattle.rec_match.specs.Matching.{AreFilled, AreTested}
 use Rattle.rec_match.specs.Built.{IsHead, IsWithin, IsBelow, IsLeftSide}
 use Rattle.rec_match.proofs.Facts.{facts, every_append, every_flat, every_named, variable_is_one}
-use Rattle.rec_match.proofs.Walks.{AreBare}
+use Rattle.rec_match.proofs.TrialLemmas.{AreBare}
 use Rattle.rec_match.proofs.Items.{get-last}
 
 pub every-at : {A : Type 0} (P : A → Type 0) (xs : List A) → Every P xs → (i : ℕ) (d : A) → i < length xs → P (get_or xs i d)

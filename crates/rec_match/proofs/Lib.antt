@@ -1,4 +1,5 @@
-pub mod Walks
+pub mod BoundLemmas
+pub mod TrialLemmas
 pub mod Facts
 pub mod Congruence
 pub mod OpenLemmas

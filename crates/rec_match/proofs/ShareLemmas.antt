@@ -6,7 +6,7 @@ use Rattle.std.specs.Prelude.{ℕ, zero, suc, ◌+◌, ◌<◌, ◌≡◌, ◌�
 use Rattle.std.specs.Option.{option_map}
 use Rattle.rec_sorts.specs.declared.letters.Meaning.{Meaning}
 use Rattle.rec_sorts.specs.declared.letters.Meaning.TheVariants.{Symbol, Variable}
-use Rattle.rec_match.specs.Walking.{goes_on}
+use Rattle.rec_match.specs.Bound.{goes_on}
 use Rattle.rec_match.specs.Marking.{IsRank}
 use Rattle.rec_match.specs.Parts.{part_at, arguments_at, numbered_from, opened_code, opened_codes, Coded, coded_of, changed_codes}
 use Rattle.rec_match.specs.Shares.{symbols_of, IsShare, AreShares, AddsRow, DealsRow}

@@ -15,7 +15,8 @@ use Rattle.rec_sorts.specs.Binding.{Substitution, application, binds, first_matc
 use Rattle.rec_sorts.specs.Numbering.{named, named_all, name_of, arity_of}
 use Rattle.rec_sorts.specs.declared.letters.Meaning.TheVariants.{Symbol}
 use Rattle.rec_sorts.proofs.Kept.{bytes_eq-eq}
-use Rattle.rec_match.specs.Asking.{asked, opened, bound, goes_on, stack_on}
+use Rattle.rec_match.specs.Asking.{asked, stack_on}
+use Rattle.rec_match.specs.Bound.{opened, bound, goes_on}
 use Rattle.rec_match.specs.Chains.{IsNext, AreChainsFrom}
 use Rattle.rec_match.specs.Built.{AreHeads, IsLeftSide, AreSides}
 use Rattle.rec_match.specs.Matching.{IsMatcher, IsSide, Skips, HeadAt, AreTested, symbol_at, count_at, next_at, tests_at, variables_at, order_at}
@@ -24,7 +25,7 @@ use Rattle.rec_match.specs.Tasks.{numbers_of}
 use Rattle.rec_match.specs.declared.matcher.Matcher.{Matcher}
 use Rattle.rec_match.specs.declared.matcher.LeftSide.{LeftSide}
 use Rattle.rec_match.proofs.Facts.{facts, RuleFacts}
-use Rattle.rec_match.proofs.Walks.{AreBare, AgreeOn, asked_binds}
+use Rattle.rec_match.proofs.TrialLemmas.{AreBare, AgreeOn, asked_binds}
 use Rattle.rec_match.proofs.FindLemmas.{first-passed}
 use Rattle.rec_match.proofs.LetterLemmas.{every-at}
 use Rattle.std.proofs.lemmas.List.{get_or_default}

@@ -15,12 +15,12 @@ use Rattle.rec_syntax.specs.Syntax.{Spec}
 use Rattle.rec_sorts.specs.Binding.{application}
 use Rattle.rec_sorts.specs.Numbering.{name_of, arity_of}
 use Rattle.rec_sorts.specs.declared.letters.Meaning.TheVariants.{Symbol}
-use Rattle.rec_match.specs.Walking.{opened}
+use Rattle.rec_match.specs.Bound.{opened}
 use Rattle.rec_match.specs.Held.{or_empty}
 use Rattle.rec_match.specs.Forests.{number_at, AreNumbers, Cases, case_at, AreCases, IsChild, OpensNoCase, OpensCase}
 use Rattle.rec_sorts.specs.Linked.{signature}
 use Rattle.rec_match.specs.declared.forest.Child.{Child}
-use Rattle.rec_match.proofs.WalkLemmas.{opened_is}
+use Rattle.rec_match.proofs.BoundLemmas.{opened_is}
 
 pub unopened : (name : List ℕ) (k : ℕ) (u : Tree) → ((us : Trees) → application name us ≡ u → count_of us ≡ k → ⊥) → opened name k u ≡ None
 unopened name k u h = by (opened name k u) refl

@@ -27,7 +27,7 @@ use Rattle.rec_match.proofs.KeyLemmas.{IsKeyed, binds-keys, values-read, names_i
 use Rattle.rec_match.proofs.LetterLemmas.{every-at, all-reverse}
 use Rattle.rec_match.proofs.PairedLemmas.{AreVariables, value-paired}
 use Rattle.rec_match.proofs.RunLemmas.{tree_here}
-use Rattle.rec_match.proofs.Walks.{AreBare}
+use Rattle.rec_match.proofs.TrialLemmas.{AreBare}
 
 -- a left side binds the variables of its letters in the order in which they first occur
 pub left-keys : (y : Spec) → fault y ≡ None → (letters : List Letter) → All (λ l. IsMeaning y l.meaning) letters → (l : X.Term) (k : ℕ) → k < length (symbols y) → (X.head l).bytes ≡ name_of y (Symbol k) → map (named_by y) letters ≡ named_all (X.arguments l) → AreBare y (named l)

@@ -11,7 +11,7 @@ use Rattle.rec_sorts.specs.Binding.{application, next_match, Substitution}
 use Rattle.rec_sorts.specs.Linked.{signature}
 use Rattle.rec_sorts.specs.Numbering.{name_of, arity_of}
 use Rattle.rec_sorts.specs.declared.letters.Meaning.TheVariants.{Symbol}
-use Rattle.rec_match.specs.Walking.{opened}
+use Rattle.rec_match.specs.Bound.{opened}
 use Rattle.rec_match.specs.Rows.{Found, found_of, found_at, or_else, tree_in, values_of}
 use Rattle.rec_match.specs.declared.forest.Forest.{Forest}
 use Rattle.rec_match.specs.declared.forest.Node.{Node}

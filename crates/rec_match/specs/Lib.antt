@@ -4,6 +4,7 @@ pub mod Matching
 pub mod Chains
 pub mod Placed
 pub mod Built
+pub mod Bound
 pub mod Walking
 pub mod Rows
 pub mod Running
