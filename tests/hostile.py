@@ -10,7 +10,7 @@
 | depth | great depth and length, on stacks of 8 MiB and of 256 KiB |
 | program | folders, missing and endless files, full devices, closed pipes, signals |
 | memory | each request for memory of the program |
-| crates | each request for memory of single calls, by the program of crates/hostile |
+| crates | each request for memory of single calls, by the program of crates/hostile; that their blocks go back |
 
 The last line is `N passed, M failed`. The last two parts trace the program, for which they need Linux on x86-64; their
 runs stand side by side on the processors that this process may use.

@@ -1,4 +1,7 @@
-"""Each request for memory is refused in turn: of whole runs of the program, and of single calls of its crates."""
+"""Each request for memory is refused in turn: of whole runs of the program, and of single calls of its crates.
+
+Of calls over an arena each block has to go back, too.
+"""
 
 import concurrent.futures
 import os
@@ -7,7 +10,7 @@ from functools import partial
 
 from attempts import EXAMPLES, NO_MEMORY, check, recw, room, write_file
 from common import TOP, program, rows
-from refuse import REQUESTS, answer
+from refuse import REQUESTS, answer, blocks
 
 # How many requests one process refuses before it asks for more.
 SHARE = 16
@@ -74,6 +77,8 @@ FREE = {
     "shared reclaim": ["65534 protections left", "0 protections left", *ROOTS[1:]],
     "store collect": ["1 cells"],
 }
+# Calls over an arena, which ends with them. That of `store reserve` has three blocks of cells.
+ARENAS = ("shared", "store")
 
 
 def refused(programs, **how):
@@ -165,6 +170,15 @@ def try_call(row, refusal, ending, answers):
     return count_refused(row, answers)
 
 
+def try_blocks(row):
+    """Each block that a call in full asks for goes back."""
+    it = blocks([CALLER, *row.split()], EXAMPLES)
+    count = it["counts"]["asked"]
+    wanted = {"status": 0, "err": "", "counts": {"asked": count, "given back": count}}
+    check(f"{row}: asks for blocks", True, count > 0)
+    check(f"{row}: each block goes back", wanted, {name: it[name] for name in wanted})
+
+
 def try_crates():
     """How many requests were refused."""
     if not os.path.exists(CALLER):
@@ -176,4 +190,7 @@ def try_crates():
     for (row, ending), answers in refused_calls(list(FREE.items())):
         free = {"refused": None, "counts": dict.fromkeys(REQUESTS, 0), "status": 0, "err": ""}
         check(f"{row}: asks for no memory", [{**free, "out": lines("ready", "done", *ending)}], answers)
+    for row in [*dict(calls()), *FREE]:
+        if row.startswith(ARENAS):
+            try_blocks(row)
     return count

@@ -1,4 +1,4 @@
-"""Runs of a program in which one request for memory is refused. Linux on x86-64 alone.
+"""Runs of a program in which one request for memory is refused, or its blocks are counted. Linux on x86-64 alone.
 
 The program is traced. In its table of the functions that it calls of the C library, other addresses stand for those
 that are looked for, at which no code lies: so it stops at each call of them, and nowhere else.
@@ -13,7 +13,7 @@ import tempfile
 
 REQUESTS = ("malloc", "realloc")
 # The first write of a program under `alone` begins what counts, and its second ends it.
-CAUGHT = {name: 8 * (1 + number) for number, name in enumerate((*REQUESTS, "write"))}
+CAUGHT = {name: 8 * (1 + number) for number, name in enumerate((*REQUESTS, "free", "write"))}
 NAMES = {address: name for name, address in CAUGHT.items()}
 # Seconds of processor time, for a program that does not end.
 LONGEST = 120
@@ -23,7 +23,7 @@ LIBC.ptrace.argtypes = [ctypes.c_long, ctypes.c_long, ctypes.c_void_p, ctypes.c_
 LIBC.ptrace.restype = ctypes.c_long
 TRACE_ME, CONTINUE, GET_REGISTERS, SET_REGISTERS, SET_OPTIONS = 0, 7, 12, 13, 0x4200
 ENDS_WITH_TRACER = 0x100000
-RAX, RIP, RSP = 10, 16, 19
+RAX, RDI, RIP, RSP = 10, 14, 16, 19
 # Of an auxiliary vector: where the program begins. Of a section: that it says what is to be linked.
 ENTRY, RELOCATIONS = 9, 4
 BREAKPOINT = b"\xcc"
@@ -173,16 +173,41 @@ def count_requests(run, alone, refused):
     return counts
 
 
+def count_blocks(run):
+    """Lets the program run to its end; how many blocks of memory it asked for, and how many it gave back."""
+    run.catch((*REQUESTS, "free"))
+    counts = {"asked": 0, "given back": 0}
+    while name := run.caught():
+        # Of `free` and `realloc` the first argument is a block, or null.
+        is_null = run.registers[RDI] == 0
+        if name == "free":
+            counts["given back"] += not is_null
+        elif name == "malloc" or is_null:
+            counts["asked"] += 1
+        run.call(name)
+    return counts
+
+
+def followed(words, cwd, follow):
+    """The exit status, both outputs, and what was counted on the way."""
+    with tempfile.TemporaryFile() as out, tempfile.TemporaryFile() as err:
+        run = Run(words, cwd, out, err)
+        counts = follow(run)
+        outputs = []
+        for file in (out, err):
+            file.seek(0)
+            outputs.append(file.read().decode("latin-1"))
+        return {"counts": counts, "status": run.status(), "out": outputs[0], "err": outputs[1]}
+
+
 def answer(words, cwd, refused=None, alone=False):
     """The exit status, both outputs, and how often each request was made, until one was refused: its name and number.
 
     Where only the requests alone count, these are those between the first and the second write.
     """
-    with tempfile.TemporaryFile() as out, tempfile.TemporaryFile() as err:
-        run = Run(words, cwd, out, err)
-        counts = count_requests(run, alone, refused)
-        outputs = []
-        for file in (out, err):
-            file.seek(0)
-            outputs.append(file.read().decode("latin-1"))
-        return {"refused": refused, "counts": counts, "status": run.status(), "out": outputs[0], "err": outputs[1]}
+    return {"refused": refused, **followed(words, cwd, lambda run: count_requests(run, alone, refused))}
+
+
+def blocks(words, cwd):
+    """The exit status, both outputs, and how many blocks of memory were asked for and given back."""
+    return followed(words, cwd, count_blocks)

@@ -569,6 +569,3 @@ impl Arena {
         }
     }
 }
-
-#[cfg(test)]
-mod tests;

@@ -183,6 +183,3 @@ impl<A: Allocator + Copy> Drop for Store<A> {
         blocks.destroy_empty();
     }
 }
-
-#[cfg(test)]
-mod tests;

@@ -4,8 +4,6 @@
 mod faults;
 pub mod laws;
 mod names;
-#[cfg(test)]
-mod tests;
 mod words;
 
 pub use faults::NamesFault;

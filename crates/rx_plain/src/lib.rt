@@ -4,7 +4,5 @@
 mod bank;
 mod marks;
 mod slots;
-#[cfg(test)]
-mod tests;
 
 pub use bank::PlainBank;

@@ -1,0 +1,329 @@
+//! What no clause says: that calls succeed where memory is ample, and that a million cells take
+//! seconds.
+ghost use Rattle.std.specs.Prelude.{◌≡◌, ◌≤◌, ◌^◌, ◌∷◌, [], IfSome};
+ghost use Rattle.rx_arena.specs.Arena.{IsTaken, InChain, empty_arena};
+ghost use Rattle.store_rows.specs.Samples.{HasNoRoots};
+
+use rx_arena::arena::Arena;
+use rx_arena::{ArenaFault, CellBody, Slot};
+use std::alloc::Global;
+use std::process::Abort;
+
+/// An integer's body, with this hash.
+fn body(hash: u64) -> CellBody {
+    CellBody {
+        kind: 0,
+        a: 0,
+        b: 0,
+        anns: None,
+        hash,
+    }
+}
+
+/// An arena without cells.
+fn arena_of(rt: &impl Abort, alloc: Global, cap: u32, chains: u32) -> Arena
+    requires cap { (1 ≤ cap) × (cap ≤ 2 ^ 30) }
+    requires chains { (1 ≤ chains) × (chains ≤ 2 ^ 30) }
+    ensures empty { result ≡ empty_arena cap chains }
+    ensures no_roots { HasNoRoots result }
+{
+    Arena::new(alloc, cap, chains).expect(rt, "an arena")
+}
+
+/// Stops where a slot is not taken, or is marked.
+fn expect_taken(rt: &impl Abort, arena: &Arena, slot: Slot)
+    ensures { IsTaken arena.now slot.0 }
+{
+    assert!(rt; arena.holds_unmarked(slot));
+}
+
+/// Whether no slot can be taken.
+fn is_full(arena: &mut Arena) -> bool
+    ensures chains { arena.new.chains ≡ arena.old.chains }
+    ensures gray { arena.new.gray ≡ arena.old.gray }
+{
+    matches!(arena.take(body(2)), Err(ArenaFault::Full))
+}
+
+/// Gives back a slot that is not protected, where there is one chain, which is empty, and nothing
+/// is gray.
+fn give_back(rt: &impl Abort, arena: &mut Arena, slot: Slot)
+    requires chains { arena.old.chains ≡ [] ∷ [] }
+    requires no_gray { arena.old.gray ≡ [] }
+{
+    expect_taken(rt, arena, slot);
+    assert!(rt; !arena.marked(slot));
+    assert!(rt; !arena.is_protected(slot));
+    arena.give_back(slot);
+}
+
+/// Takes two slots, which are all there are, and one of them again.
+fn take_all(rt: &impl Abort, arena: &mut Arena)
+    requires chains { arena.old.chains ≡ [] ∷ [] }
+    requires no_gray { arena.old.gray ≡ [] }
+{
+    let first = arena.take(body(0)).expect(rt, "a first slot");
+    let second = arena.take(body(1)).expect(rt, "a second slot");
+    assert!(rt; first != second);
+    assert!(rt; is_full(arena));
+    give_back(rt, arena, first);
+    assert!(rt; arena.take(body(2)).is_ok());
+}
+
+/// Deals the slots out to so many chains.
+fn rehash(rt: &impl Abort, arena: &mut Arena, chains: u32)
+    requires { (1 ≤ chains) × (chains ≤ 2 ^ 30) }
+{
+    assert!(rt; arena.rehash_into(chains).is_ok());
+    assert_eq!(rt; arena.chains(), chains);
+}
+
+#[test]
+fn takes_up_to_the_limit(rt: HostRuntime) {
+    let mut arena = arena_of(&rt, rt.alloc(), 2, 1);
+    assert!(rt; arena.reserve(1).is_ok());
+    take_all(&rt, &mut arena);
+    rehash(&rt, &mut arena, 2);
+}
+
+/// Stops where a cell has another hash, or is protected another number of times.
+fn expect_cell(rt: &impl Abort, arena: &Arena, slot: Slot, hash: u64, roots: u16) {
+    expect_taken(rt, arena, slot);
+    assert_eq!(rt; arena.read(slot).hash, hash);
+    assert_eq!(rt; arena.roots(slot), roots);
+}
+
+/// Replaces how often a cell is protected.
+fn protect(rt: &impl Abort, arena: &mut Arena, slot: Slot, count: u16) {
+    expect_taken(rt, arena, slot);
+    arena.set_roots(slot, count);
+}
+
+/// Stops where not so many slots can be taken with no more memory.
+fn expect_spare(rt: &impl Abort, arena: &Arena, count: u32) {
+    assert_eq!(rt; arena.spare(), count);
+}
+
+/// Takes one of two spare slots of a new arena, for a cell whose hash is 7.
+fn take_spare(rt: &impl Abort, arena: &mut Arena) -> Slot {
+    expect_spare(rt, arena, 0);
+    assert!(rt; arena.reserve(2).is_ok());
+    expect_spare(rt, arena, 2);
+    let slot = arena.take(body(7)).expect(rt, "a slot");
+    expect_spare(rt, arena, 1);
+    slot
+}
+
+#[test]
+fn counts_what_is_spare_and_protected(rt: HostRuntime) {
+    let mut arena = arena_of(&rt, rt.alloc(), 2, 1);
+    let slot = take_spare(&rt, &mut arena);
+    expect_cell(&rt, &arena, slot, 7, 0);
+    assert!(rt; !arena.is_protected(slot));
+    protect(&rt, &mut arena, slot, 3);
+    expect_cell(&rt, &arena, slot, 7, 3);
+    assert!(rt; arena.is_protected(slot));
+}
+
+/// The chain that a hash names, of so many.
+fn home(rt: &impl Abort, alloc: Global, chains: u32, hash: u64) -> u32
+    requires { (1 ≤ chains) × (chains ≤ 2 ^ 30) }
+{
+    let arena = arena_of(rt, alloc, 1, chains);
+    assert!(rt; arena.chains() > 0);
+    arena.home(hash)
+}
+
+#[test]
+fn a_hash_names_a_chain(rt: HostRuntime) {
+    assert_eq!(rt; home(&rt, rt.alloc(), 8, 21), 5);
+    assert_eq!(rt; home(&rt, rt.alloc(), 3, 22), 1);
+    assert_eq!(rt; home(&rt, rt.alloc(), 1, 22), 0);
+}
+
+/// Takes a slot for a cell of this hash, and puts it in front of a chain.
+fn link(rt: &impl Abort, arena: &mut Arena, chain: u32, hash: u64) -> Slot
+    requires { HasNoRoots arena.old }
+    ensures { HasNoRoots arena.new }
+{
+    let slot = arena.take(body(hash)).expect(rt, "a slot");
+    assert!(rt; chain < arena.chains());
+    arena.chain_push(chain, slot);
+    slot
+}
+
+/// The first slot of a chain.
+fn first_of(rt: &impl Abort, arena: &Arena, chain: u32) -> Option<Slot>
+    ensures chained { IfSome result (λ s. InChain arena.now s.0) }
+    ensures taken { IfSome result (λ s. IsTaken arena.now s.0) }
+{
+    assert!(rt; chain < arena.chains());
+    arena.chain_first(chain)
+}
+
+/// The slot after this one in its chain.
+fn after(arena: &Arena, slot: Slot) -> Option<Slot>
+    requires { InChain arena.now slot.0 }
+    ensures { IfSome result (λ s. InChain arena.now s.0) }
+{
+    arena.chain_next(slot)
+}
+
+/// Stops where a chain is not made of these slots, in order.
+fn expect_chain(rt: &impl Abort, arena: &Arena, chain: u32, slots: &[Slot]) {
+    let mut next = first_of(rt, arena, chain);
+    for &slot in slots {
+        assert!(rt; next == Some(slot));
+        next = after(arena, slot);
+    }
+    assert!(rt; next.is_none());
+}
+
+/// Puts three slots, whose hashes are 0, 1 and 2, in front of chain 0, one after the other.
+fn link_three(rt: &impl Abort, arena: &mut Arena) -> (Slot, Slot, Slot)
+    requires { HasNoRoots arena.old }
+    ensures { HasNoRoots arena.new }
+{
+    let s0 = link(rt, arena, 0, 0);
+    let s1 = link(rt, arena, 0, 1);
+    let s2 = link(rt, arena, 0, 2);
+    (s0, s1, s2)
+}
+
+/// Stops where a chain is not made of these two slots, in either order.
+fn expect_pair(rt: &impl Abort, arena: &Arena, chain: u32, one: Slot, other: Slot) {
+    let pair = if first_of(rt, arena, chain) == Some(one) {
+        [one, other]
+    } else {
+        [other, one]
+    };
+    expect_chain(rt, arena, chain, &pair);
+}
+
+/// Deals the three slots of chain 0 out to two chains.
+fn rehash_three(rt: &impl Abort, arena: &mut Arena, s0: Slot, s1: Slot, s2: Slot) {
+    expect_chain(rt, arena, 0, &[s2, s1, s0]);
+    rehash(rt, arena, 2);
+    expect_chain(rt, arena, 1, &[s1]);
+    expect_pair(rt, arena, 0, s0, s2);
+}
+
+#[test]
+fn rehashes_by_the_stored_hash(rt: HostRuntime) {
+    let mut arena = arena_of(&rt, rt.alloc(), 10, 1);
+    let (s0, s1, s2) = link_three(&rt, &mut arena);
+    rehash_three(&rt, &mut arena, s0, s1, s2);
+}
+
+/// Marks a cell, and puts it in front of the gray list.
+fn mark(rt: &impl Abort, arena: &mut Arena, slot: Slot)
+    requires { HasNoRoots arena.old }
+    ensures { HasNoRoots arena.new }
+{
+    expect_taken(rt, arena, slot);
+    assert!(rt; !arena.marked(slot));
+    arena.gray_push(slot);
+}
+
+/// Empties the gray list. Its slots stay marked.
+fn drain_gray(arena: &mut Arena)
+    ensures { arena.new ≡ record arena.old { gray = [] } }
+{
+    while let Some(_slot) = arena.gray_pop() {}
+}
+
+/// Gives back what is not marked, in a chain.
+fn retain_marked(rt: &impl Abort, arena: &mut Arena, chain: u32)
+    requires no_gray { arena.old.gray ≡ [] }
+    requires no_roots { HasNoRoots arena.old }
+    ensures no_gray { arena.new.gray ≡ [] }
+    ensures no_roots { HasNoRoots arena.new }
+{
+    assert!(rt; chain < arena.chains());
+    arena.chain_retain_marked(chain);
+}
+
+/// Clears the mark of the first slot of a chain, which has one.
+fn unmark_first(rt: &impl Abort, arena: &mut Arena, chain: u32)
+    requires { arena.old.gray ≡ [] }
+{
+    let slot = first_of(rt, arena, chain).expect(rt, "a slot");
+    assert!(rt; arena.marked(slot));
+    arena.clear_mark(slot);
+    expect_taken(rt, arena, slot);
+    assert!(rt; !arena.marked(slot));
+}
+
+#[test]
+fn keeps_the_marked(rt: HostRuntime) {
+    let mut arena = arena_of(&rt, rt.alloc(), 10, 1);
+    let (_, s1, _) = link_three(&rt, &mut arena);
+    mark(&rt, &mut arena, s1);
+    assert_eq!(rt; arena.gray_pop(), Some(s1));
+    drain_gray(&mut arena);
+    retain_marked(&rt, &mut arena, 0);
+    expect_chain(&rt, &arena, 0, &[s1]);
+    assert_eq!(rt; arena.cells(), 1);
+    unmark_first(&rt, &mut arena, 0);
+}
+
+/// How many cells the large arena takes.
+const CELLS: u32 = 1_000_000;
+
+/// Into how many chains they are linked.
+const CHAINS: u32 = 1 << 16;
+
+/// Takes the cells, with their numbers for hashes, links each into the chain of its hash, and marks
+/// each second one.
+fn fill(rt: &impl Abort, arena: &mut Arena)
+    requires { HasNoRoots arena.old }
+    ensures { HasNoRoots arena.new }
+{
+    for i in 0..CELLS {
+        let slot = link(rt, arena, i % CHAINS, u64::from(i));
+        if i % 2 == 0 {
+            mark(rt, arena, slot);
+        }
+    }
+}
+
+/// Gives back what is not marked, in all chains.
+fn sweep(rt: &impl Abort, arena: &mut Arena)
+    requires no_gray { arena.old.gray ≡ [] }
+    requires no_roots { HasNoRoots arena.old }
+{
+    for chain in 0..CHAINS {
+        retain_marked(rt, arena, chain);
+    }
+}
+
+/// The hash of the first cell of a chain.
+fn first_hash(rt: &impl Abort, arena: &Arena, chain: u32) -> u64 {
+    let slot = first_of(rt, arena, chain).expect(rt, "a slot");
+    arena.read(slot).hash
+}
+
+/// Stops where there are not so many cells in so many chains.
+fn expect_counts(rt: &impl Abort, arena: &Arena, cells: u32, chains: u32) {
+    assert_eq!(rt; arena.cells(), cells);
+    assert_eq!(rt; arena.chains(), chains);
+}
+
+/// Deals the cells that are left out to twice as many chains.
+fn rehash_the_rest(rt: &impl Abort, arena: &mut Arena) {
+    expect_counts(rt, arena, CELLS / 2, CHAINS);
+    rehash(rt, arena, 2 * CHAINS);
+    expect_counts(rt, arena, CELLS / 2, 2 * CHAINS);
+    assert_eq!(rt; first_hash(rt, arena, 6) % u64::from(2 * CHAINS), 6);
+    expect_chain(rt, arena, 7, &[]);
+}
+
+#[test]
+fn takes_links_marks_sweeps_and_rehashes_a_million(rt: HostRuntime) {
+    let mut arena = arena_of(&rt, rt.alloc(), 1 << 20, CHAINS);
+    fill(&rt, &mut arena);
+    assert_eq!(rt; arena.cells(), CELLS);
+    drain_gray(&mut arena);
+    sweep(&rt, &mut arena);
+    rehash_the_rest(&rt, &mut arena);
+}

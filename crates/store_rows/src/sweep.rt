@@ -1,0 +1,269 @@
+//! That a collection of a small graph keeps what it should, and that a long one needs no stack.
+ghost use Rattle.std.specs.Prelude.{◌<◌, ◌≤◌, ◌^◌, ℕ, length, OnOk, IfSome};
+ghost use Rattle.rx_arena.specs.Put.{times};
+ghost use Rattle.rx_arena.specs.Arena.{IsTaken};
+ghost use Rattle.rx_sweep.specs.Reach.{names, CanCollect};
+
+use rx_arena::arena::Arena;
+use rx_arena::{ArenaFault, CellBody, Slot};
+use rx_sweep::collect;
+use rx_sweep::kinds::{APPLICATION, LIST};
+use std::alloc::{AllocError, Global};
+use std::process::Abort;
+
+/// The kind of a cell that names no slot.
+const LEAF: u8 = 0;
+
+/// An arena without cells.
+fn arena_of(rt: &impl Abort, alloc: Global, cap: u32, chains: u32) -> Arena
+    requires cap { (1 ≤ cap) × (cap ≤ 2 ^ 30) }
+    requires chains { (1 ≤ chains) × (chains ≤ 2 ^ 30) }
+    ensures { CanCollect result }
+{
+    Arena::new(alloc, cap, chains).expect(rt, "an arena")
+}
+
+/// Takes a slot for a cell whose parts are there, and links it into a chain.
+fn link(arena: &mut Arena, chain: u32, body: CellBody) -> Result<Slot, ArenaFault>
+    requires ready { CanCollect arena.old }
+    requires chain { chain < length arena.old.chains }
+    requires parts { (s : ℕ) → 0 < times s (names body) → IsTaken arena.old s }
+    ensures { OnOk result (CanCollect arena.new) }
+{
+    let slot = arena.take(body)?;
+    arena.chain_push(chain, slot);
+    Ok(slot)
+}
+
+/// The same, where the chain and a free slot are there.
+fn linked(rt: &impl Abort, arena: &mut Arena, chain: u32, body: CellBody) -> Slot
+    requires ready { CanCollect arena.old }
+    requires parts { (s : ℕ) → 0 < times s (names body) → IsTaken arena.old s }
+    ensures { CanCollect arena.new }
+{
+    assert!(rt; chain < arena.chains());
+    link(arena, chain, body).expect(rt, "a free slot")
+}
+
+/// A cell without parts, linked into a chain.
+fn leaf(rt: &impl Abort, arena: &mut Arena, chain: u32) -> Slot
+    requires { CanCollect arena.old }
+    ensures { CanCollect arena.new }
+{
+    let body = CellBody {
+        kind: LEAF,
+        a: 0,
+        b: 0,
+        anns: None,
+        hash: u64::from(chain),
+    };
+    linked(rt, arena, chain, body)
+}
+
+/// Stops where a slot is not taken, or is marked.
+fn expect_taken(rt: &impl Abort, arena: &Arena, slot: Slot)
+    ensures { IsTaken arena.now slot.0 }
+{
+    assert!(rt; arena.holds_unmarked(slot));
+}
+
+/// Stops where there are annotations whose slot is not taken, or is marked.
+fn expect_anns_taken(rt: &impl Abort, arena: &Arena, anns: Option<Slot>)
+    ensures { IfSome anns (λ s. IsTaken arena.now s.0) }
+{
+    if let Some(slot) = anns {
+        expect_taken(rt, arena, slot);
+    }
+}
+
+/// A cell with these parts, linked into a chain.
+fn node(
+    rt: &impl Abort,
+    arena: &mut Arena,
+    chain: u32,
+    kind: u8,
+    parts: (Slot, Slot),
+    anns: Option<Slot>,
+) -> Slot
+    requires { CanCollect arena.old }
+    ensures { CanCollect arena.new }
+{
+    expect_taken(rt, arena, parts.0);
+    expect_taken(rt, arena, parts.1);
+    expect_anns_taken(rt, arena, anns);
+    let body = CellBody {
+        kind,
+        a: u64::from(parts.0.0),
+        b: u64::from(parts.1.0),
+        anns,
+        hash: u64::from(chain),
+    };
+    linked(rt, arena, chain, body)
+}
+
+/// Replaces how often a cell is protected.
+fn protect(rt: &impl Abort, arena: &mut Arena, slot: Slot, count: u16)
+    requires { CanCollect arena.old }
+    ensures { CanCollect arena.new }
+{
+    expect_taken(rt, arena, slot);
+    arena.set_roots(slot, count);
+}
+
+/// Puts a cell, which is not marked, on the gray list.
+fn make_gray(rt: &impl Abort, arena: &mut Arena, slot: Slot)
+    requires { CanCollect arena.old }
+    ensures { CanCollect arena.new }
+{
+    expect_taken(rt, arena, slot);
+    assert!(rt; !arena.marked(slot));
+    arena.gray_push(slot);
+}
+
+/// The slots of a chain, in order; each has to be unmarked.
+fn unmarked_chain<R: Abort>(
+    rt: &R,
+    alloc: Global,
+    arena: &Arena,
+    chain: u32,
+) -> Result<Vec<Slot>, AllocError>
+    requires { chain < length arena.now.chains }
+{
+    let mut slots = Vec::new(alloc);
+    let mut next = arena.chain_first(chain);
+    while let Some(slot) = next {
+        assert!(rt; !arena.marked(slot), "slot {} is marked", slot.0);
+        slots.push(slot)?;
+        next = arena.chain_next(slot);
+    }
+    Ok(slots)
+}
+
+/// Stops where a chain is not made of these slots, in order, or one of them is marked.
+fn expect_chain(rt: &impl Abort, alloc: Global, arena: &Arena, chain: u32, slots: &[Slot]) {
+    assert!(rt; chain < arena.chains());
+    let found = unmarked_chain(rt, alloc, arena, chain).expect(rt, "memory");
+    assert_eq!(rt; found.as_slice(), slots);
+}
+
+/// The cells of a graph that its call leads to.
+#[derive(Clone, Copy)]
+struct Reached {
+    empty: Slot,
+    one: Slot,
+    ones: Slot,
+    notes: Slot,
+    call: Slot,
+}
+
+/// A graph of eight cells in three chains.
+fn graph(rt: &impl Abort, arena: &mut Arena) -> Reached
+    requires { CanCollect arena.old }
+    ensures { CanCollect arena.new }
+{
+    let empty = leaf(rt, arena, 0);
+    let one = leaf(rt, arena, 1);
+    let two = leaf(rt, arena, 2);
+    let ones = node(rt, arena, 0, LIST, (one, empty), None);
+    let _twos = node(rt, arena, 1, LIST, (two, ones), None);
+    let notes = node(rt, arena, 0, LIST, (empty, empty), None);
+    let call = node(rt, arena, 2, APPLICATION, (two, ones), Some(notes));
+    let _other = node(rt, arena, 2, APPLICATION, (one, ones), None);
+    Reached {
+        empty,
+        one,
+        ones,
+        notes,
+        call,
+    }
+}
+
+#[test]
+fn keeps_what_is_reached(rt: HostRuntime) {
+    let mut arena = arena_of(&rt, rt.alloc(), 100, 3);
+    let made = graph(&rt, &mut arena);
+    protect(&rt, &mut arena, made.call, 1);
+    collect(&mut arena);
+    assert_eq!(rt; arena.cells(), 5);
+    expect_chain(
+        &rt,
+        rt.alloc(),
+        &arena,
+        0,
+        &[made.notes, made.ones, made.empty],
+    );
+    expect_chain(&rt, rt.alloc(), &arena, 1, &[made.one]);
+    expect_chain(&rt, rt.alloc(), &arena, 2, &[made.call]);
+    assert_eq!(rt; arena.gray_pop(), None);
+}
+
+#[test]
+fn a_gray_slot_keeps_its_parts(rt: HostRuntime) {
+    let mut arena = arena_of(&rt, rt.alloc(), 100, 2);
+    let empty = leaf(&rt, &mut arena, 0);
+    let one = leaf(&rt, &mut arena, 1);
+    let ones = node(&rt, &mut arena, 0, LIST, (one, empty), None);
+    let _lost = node(&rt, &mut arena, 1, LIST, (one, ones), None);
+    make_gray(&rt, &mut arena, ones);
+    collect(&mut arena);
+    assert_eq!(rt; arena.cells(), 3);
+    expect_chain(&rt, rt.alloc(), &arena, 0, &[ones, empty]);
+    expect_chain(&rt, rt.alloc(), &arena, 1, &[one]);
+    assert_eq!(rt; arena.gray_pop(), None);
+}
+
+/// Makes a cell that nothing needs, and collects.
+fn lose_one(rt: &impl Abort, arena: &mut Arena, chain: u32)
+    requires { CanCollect arena.old }
+    ensures { CanCollect arena.new }
+{
+    leaf(rt, arena, chain);
+    collect(arena);
+}
+
+/// What one collection leaves is not marked for the next one.
+#[test]
+fn collections_follow_one_another(rt: HostRuntime) {
+    let mut arena = arena_of(&rt, rt.alloc(), 100, 2);
+    let kept = leaf(&rt, &mut arena, 0);
+    protect(&rt, &mut arena, kept, 1);
+    lose_one(&rt, &mut arena, 1);
+    assert_eq!(rt; arena.cells(), 1);
+    expect_chain(&rt, rt.alloc(), &arena, 0, &[kept]);
+    lose_one(&rt, &mut arena, 0);
+    assert_eq!(rt; arena.cells(), 1);
+    expect_chain(&rt, rt.alloc(), &arena, 0, &[kept]);
+    lose_one(&rt, &mut arena, 0);
+    assert_eq!(rt; arena.cells(), 1);
+}
+
+/// How many nodes the long list has.
+const NODES: u32 = 100_000;
+
+/// In how many chains they are linked.
+const CHAINS: u32 = 1 << 12;
+
+/// The first node of a long list, whose elements are all one leaf.
+fn long_list(rt: &impl Abort, arena: &mut Arena) -> Slot
+    requires { CanCollect arena.old }
+    ensures { CanCollect arena.new }
+{
+    let empty = leaf(rt, arena, 0);
+    let mut list = empty;
+    for i in 0..NODES {
+        list = node(rt, arena, i % CHAINS, LIST, (empty, list), None);
+    }
+    list
+}
+
+#[test]
+fn a_long_list_is_collected(rt: HostRuntime) {
+    let mut arena = arena_of(&rt, rt.alloc(), 1 << 17, CHAINS);
+    let list = long_list(&rt, &mut arena);
+    protect(&rt, &mut arena, list, 1);
+    collect(&mut arena);
+    assert_eq!(rt; arena.cells(), NODES + 1);
+    protect(&rt, &mut arena, list, 0);
+    collect(&mut arena);
+    assert_eq!(rt; arena.cells(), 0);
+}
