@@ -3,17 +3,16 @@ use Rattle.std.proofs.Common.{refl, sym, ap, subst, arith, ◌∙◌, inl, inr}
 use Rattle.std.proofs.lemmas.Bool.{cases_eq}
 use Rattle.std.proofs.lemmas.List.{append-nil, length-append}
 use Rattle.std.specs.Prelude.{ℕ, zero, suc, ◌+◌, ◌<◌, ◌≡◌, ◌≢◌, ◌⊎◌, List, [], ◌∷◌, ◌++◌, None, length, get_or}
-use Rattle.rx_term.specs.Store.{Store, signature_of}
 use Rattle.rx_term.specs.declared.Symbol as bank
 use Rattle.rec_syntax.specs.Syntax.{Spec}
 use Rattle.rec_sorts.specs.Laws.{Every}
-use Rattle.rec_sorts.specs.Linked.{AreLinked, AllDiffer}
+use Rattle.rec_sorts.specs.Linked.{AllDiffer}
 use Rattle.rec_sorts.specs.Lookup.{symbols, is_variable}
 use Rattle.rec_sorts.specs.Numbering.{name_of, arity_of}
 use Rattle.rec_sorts.specs.SpecRules.{fault}
 use Rattle.rec_sorts.specs.declared.letters.Meaning.TheVariants.{Symbol}
 use Rattle.rec_match.specs.Built.{AreHeads}
-use Rattle.rec_match.specs.Forests.{AreNumbers, IsForest}
+use Rattle.rec_match.specs.Forests.{IsForest}
 use Rattle.rec_match.specs.Growing.{State, Grows, Extends}
 use Rattle.rec_match.specs.Running.{root_rows, IsHeaded}
 use Rattle.rec_match.specs.Tasks.{AreApart, Growing, Waits, TreeGoesOn, numbers_of}
@@ -127,7 +126,3 @@ number_of (s ∷ ss) (suc i) = number_of ss i
 -- symbols that differ have numbers that do
 pub numbers_apart : (y : Spec) (ss : List bank.Symbol) → AllDiffer ss → length ss ≡ length (symbols y) → AreApart y (numbers_of ss)
 numbers_apart y ss differ e i j lti ltj same = differ i j no_symbol (omega (arith, lti, e)) (omega (arith, ltj, e)) (ap (λ (n : ℕ). (let s : bank.Symbol = record { 0 = n } in s)) (sym (number_of ss i) ∙ same ∙ number_of ss j))
-
--- the numbers of a specification's symbols in a bank
-pub are_numbers : (y : Spec) (w : Store) (ss : List bank.Symbol) → AreLinked y w ss → AreNumbers y w (numbers_of ss)
-are_numbers y w ss h k lt = ap (λ (n : ℕ). signature_of w (record { 0 = n })) (number_of ss k) ∙ h.linked k no_symbol lt

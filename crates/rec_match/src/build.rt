@@ -128,7 +128,7 @@ fn head(checked: &Checked, rules: &[LetterRule], rule: usize) -> u32
 }
 
 /// The numbers of the rules' symbols.
-pub(crate) fn heads(alloc: Global, checked: &Checked) -> Result<Vec<u32>, AllocError>
+fn heads(alloc: Global, checked: &Checked) -> Result<Vec<u32>, AllocError>
     ensures { IfOk result (λ v. AreHeads checked.now.spec v.items) }
 {
     let rules = checked.rules();

@@ -3,8 +3,6 @@
 
 mod build;
 mod chain;
-#[cfg(test)]
-mod counting;
 mod forest;
 mod grow;
 mod leaves;
@@ -16,11 +14,7 @@ mod places;
 mod push;
 mod rows;
 mod shares;
-#[cfg(test)]
-mod tests;
 mod trees;
-#[cfg(test)]
-mod trees_tests;
 
 pub use forest::{Child, Forest, Node, Place};
 pub use grow::{Grower, Pending, Work};

@@ -2,11 +2,15 @@
 #![tactic(auto)]
 
 #[cfg(test)]
+mod counting;
+#[cfg(test)]
 mod engine;
 #[cfg(test)]
 mod given;
 #[cfg(test)]
 mod links;
+#[cfg(test)]
+mod matcher;
 #[cfg(test)]
 mod memo;
 #[cfg(test)]

@@ -5,8 +5,8 @@ ghost use Rattle.rx_term.specs.Store.{tree_at};
 ghost use Rattle.rec_sorts.specs.Linked.{HasMoreSymbols};
 ghost use Rattle.rec_match.specs.Next.{AreReady};
 
-use crate::Matcher;
 use crate::counting::Counting;
+use rec_match::Matcher;
 use rec_sorts::{Checked, Links, check};
 use rec_syntax::read_spec;
 use rx_plain::PlainBank;
@@ -21,9 +21,14 @@ use std::test::Fail;
 const OVL: &[u8] =
     b"REC-SPEC Ovl SORTS N CONS a : -> N b : -> N OPNS f : N N -> N VARS X Y : N RULES f(X,X) -> a f(a,Y) -> b f(X,b) -> a f(X,Y) -> b EVAL f(b,a) END-SPEC";
 
+/// The symbol `g` has number 3. Its argument is a pair in each left side but the last, where it is
+/// a variable.
+const PAIRS: &[u8] =
+    b"REC-SPEC Pairs SORTS N CONS a : -> N b : -> N p : N N -> N OPNS g : N -> N VARS X Y : N RULES g(p(X,X)) -> a g(p(a,Y)) -> b g(p(X,b)) -> a g(p(Y,X)) -> b g(X) -> a EVAL g(b) END-SPEC";
+
 /// A term's text, the least rule that may be told, the rule that is, and which of its values are
 /// the term `a`.
-pub(crate) type Row = (&'static [u8], u32, Option<u32>, &'static [bool]);
+type Row = (&'static [u8], u32, Option<u32>, &'static [bool]);
 
 const OVERLAPPING: [Row; 11] = [
     (b"f(a,a)", 0, Some(0), &[true]),
@@ -37,6 +42,20 @@ const OVERLAPPING: [Row; 11] = [
     (b"f(b,b)", 0, Some(0), &[false]),
     (b"f(b,b)", 1, Some(2), &[false]),
     (b"f(b,b)", 3, Some(3), &[false, false]),
+];
+
+const OVERLAPPING_PAIRS: [Row; 11] = [
+    (b"g(p(a,a))", 0, Some(0), &[true]),
+    (b"g(p(a,a))", 1, Some(1), &[true]),
+    (b"g(p(a,a))", 2, Some(3), &[true, true]),
+    (b"g(p(a,b))", 0, Some(1), &[false]),
+    (b"g(p(a,b))", 2, Some(2), &[true]),
+    (b"g(p(b,b))", 1, Some(2), &[false]),
+    (b"g(p(b,a))", 0, Some(3), &[false, true]),
+    (b"g(p(b,a))", 4, Some(4), &[false]),
+    (b"g(p(b,a))", 5, None, &[]),
+    (b"g(a)", 0, Some(4), &[true]),
+    (b"g(p(a,b){b})", 0, Some(4), &[false]),
 ];
 
 const UNMATCHED: [Row; 6] = [
@@ -75,19 +94,19 @@ const CASES: [(u32, &[u8], Option<u32>); 5] = [
 
 /// What the matcher says of a term: the rule, and which of its values are the term `a`.
 #[derive(Drop)]
-pub(crate) struct Said {
-    pub(crate) rule: Option<u32>,
-    pub(crate) are_a: Vec<bool>,
+struct Said {
+    rule: Option<u32>,
+    are_a: Vec<bool>,
 }
 
 /// Asserts that this is said.
-pub(crate) fn assert_said(rt: &impl Abort, said: &Said, rule: Option<u32>, are_a: &[bool]) {
+fn assert_said(rt: &impl Abort, said: &Said, rule: Option<u32>, are_a: &[bool]) {
     assert_eq!(rt; said.rule, rule);
     assert_eq!(rt; said.are_a.as_slice(), are_a);
 }
 
 /// The checked specification of a text.
-pub(crate) fn checked(alloc: Global, spec: &[u8]) -> Result<Checked, Fail> {
+fn checked(alloc: Global, spec: &[u8]) -> Result<Checked, Fail> {
     Ok(check(alloc, read_spec(alloc, spec)?)?)
 }
 
@@ -110,7 +129,7 @@ fn matcher_of<B: TermBank>(alloc: Global, bank: &mut B, spec: &[u8]) -> Result<M
 }
 
 /// Which of these terms are one.
-pub(crate) fn are(alloc: Global, one: Term, terms: &[Term]) -> Result<Vec<bool>, Fail> {
+fn are(alloc: Global, one: Term, terms: &[Term]) -> Result<Vec<bool>, Fail> {
     let mut same = Vec::new(alloc);
     for term in terms {
         same.push(term.0 == one.0)?;
@@ -152,34 +171,54 @@ fn ask_of<B: TermBank>(
     answer(alloc, bank, &matcher, a, u, from)
 }
 
-/// What the matcher of the overlapping rules says of a text's term.
-fn overlapping(alloc: Global, text: &[u8], from: u32) -> Result<Said, Fail> {
+/// The same, in a bank of its own.
+fn ask(alloc: Global, spec: &[u8], text: &[u8], from: u32) -> Result<Said, Fail> {
     let mut bank = PlainBank::new(alloc, 100)?;
-    ask_of(alloc, &mut bank, OVL, text, from)
+    ask_of(alloc, &mut bank, spec, text, from)
 }
 
-/// Asserts what it says of a row's term.
-fn assert_row(rt: &impl Abort, alloc: Global, row: Row) -> Result<(), Fail> {
+/// Asserts what the matcher of a specification says of a row's term.
+fn assert_row(rt: &impl Abort, alloc: Global, spec: &[u8], row: Row) -> Result<(), Fail> {
     let (text, from, rule, are_a) = row;
-    let said = overlapping(alloc, text, from)?;
+    let said = ask(alloc, spec, text, from)?;
     assert_said(rt, &said, rule, are_a);
+    Ok(())
+}
+
+/// The same of each row.
+fn assert_rows(rt: &impl Abort, alloc: Global, spec: &[u8], rows: &[Row]) -> Result<(), Fail> {
+    for row in rows {
+        assert_row(rt, alloc, spec, *row)?;
+    }
     Ok(())
 }
 
 #[test]
 fn overlapping_rules(rt: HostRuntime) -> Result<(), Fail> {
-    for row in OVERLAPPING {
-        assert_row(&rt, rt.alloc(), row)?;
-    }
+    assert_rows(&rt, rt.alloc(), OVL, &OVERLAPPING)
+}
+
+#[test]
+fn overlapping_rules_of_pairs(rt: HostRuntime) -> Result<(), Fail> {
+    assert_rows(&rt, rt.alloc(), PAIRS, &OVERLAPPING_PAIRS)
+}
+
+/// Whether the matcher of a specification has a tree for the symbol of a number.
+fn has_tree(alloc: Global, spec: &[u8], number: usize) -> Result<bool, Fail> {
+    let mut bank = PlainBank::new(alloc, 10)?;
+    let matcher = matcher_of(alloc, &mut bank, spec)?;
+    Ok(!matches!(matcher.forest.roots.get(number), None | Some(0)))
+}
+
+#[test]
+fn the_rules_of_pairs_have_a_tree(rt: HostRuntime) -> Result<(), Fail> {
+    assert!(rt; has_tree(rt.alloc(), PAIRS, 3)?);
     Ok(())
 }
 
 #[test]
 fn what_no_rule_matches(rt: HostRuntime) -> Result<(), Fail> {
-    for row in UNMATCHED {
-        assert_row(&rt, rt.alloc(), row)?;
-    }
-    Ok(())
+    assert_rows(&rt, rt.alloc(), OVL, &UNMATCHED)
 }
 
 /// A bank of 100 cells that counts how often its nodes are read.
