@@ -1,8 +1,8 @@
 -- What a symbol's tree finds is what the trial of its rules finds.
-use Rattle.std.proofs.Common.{refl, sym, ap, subst, arith, ◌∙◌, inl, inr, drop, take, length}
+use Rattle.std.proofs.Common.{refl, sym, ap, subst, arith, ◌∙◌, inl, inr, drop, length}
 use Rattle.std.specs.Prelude.{ℕ, zero, suc, ◌≡◌, ◌≢◌, ◌<◌, ◌-◌, ◌+◌, ◌⊎◌, List, [], ◌∷◌, Option, Some, None, Result, Ok, Err, IfOk, get_or}
 use Rattle.std.proofs.lemmas.Bool.{cases_eq}
-use Rattle.std.proofs.lemmas.List.{length-drop, take_all, get_or-map}
+use Rattle.std.proofs.lemmas.List.{get_or-map}
 use Rattle.rx_term.specs.Tree.{Tree, from_list}
 use Rattle.rx_term.specs.Store.{Store, signature_of}
 use Rattle.rx_term.specs.Walks as walks
@@ -40,17 +40,6 @@ linked-numbers y w ss linked k lt =
 pub held-all : (w : Store) (xs : List Term) → AllHeld w xs → walks.AllHeld w xs
 held-all w [] held = tt
 held-all w (x ∷ xs) held = (held x (zero, omega arith, refl), held-all w xs (λ t c. held t (suc c.0, (let l = c.1 in omega (arith, l)), c.2)))
-
--- the last of some references
-pub held-last : (w : Store) (xs : List Term) (n : ℕ) → walks.AllHeld w xs → walks.AllHeld w (drop n xs)
-held-last w [] zero held = held
-held-last w [] (suc n) held = held
-held-last w (x ∷ xs) zero held = held
-held-last w (x ∷ xs) (suc n) held = held-last w xs n held.1
-
--- as many of the last references as there are
-pub whole-last : (work : List Term) (n : ℕ) → take (length work - (length work - n)) (drop (length work - n) work) ≡ drop (length work - n) work
-whole-last work n = take_all (length work - (length work - n)) (drop (length work - n) work) (let l = length-drop (length work - n) work in omega (arith, l))
 
 -- what is kept of the side that is read
 pub record IsReadSide (y : Spec) (m : Matcher) (at : ℕ) (s : LeftSide) : Type 0 where

@@ -47,6 +47,10 @@ Fills ps us bind false = (terms_filled ps us [] ≡ None) × (bind ≡ [])
 abbrev pub IsListOf : Store → Term → ℕ → Type 0
 IsListOf w t k = (ts : Trees) × (tree_at w t ≡ Some (Items ts none)) × (count_of ts ≡ k)
 
+-- more references stand behind what was there
+abbrev pub Extends : List Term → List Term → Type 0
+Extends old new = (more : List Term) × (new ≡ old ++ more)
+
 -- the items of a list stand behind what was there
 abbrev pub PushesArguments : Store → Term → List Term → List Term → Type 0
 PushesArguments w t old new = (ts : Trees) → tree_at w t ≡ Some (Items ts none) → AllHeld w old → AllHeld w new × (held_trees w new ≡ held_trees w old ++ to_list ts)

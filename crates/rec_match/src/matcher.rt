@@ -50,18 +50,20 @@ pub struct Matcher {
 impl Matcher {
     /// The first rule that matches, from one on and among those of its symbol, which is applied to
     /// the last of some references; and the values of its variables in the order in which they
-    /// first occur.
+    /// first occur. The references are as before.
     pub fn find<B: TermBank>(
         &self,
         bank: &B,
         at: u32,
-        work: &[Term],
+        work: &mut Vec<Term>,
         pending: &mut Vec<Term>,
         bind: &mut Vec<Term>,
     ) -> Result<Option<u32>, AllocError>
-        requires held { AllHeld (B.store bank.now) work.now }
-        requires can { CanFind (B.store bank.now) self.now at work.now }
-        ensures { IfOk result (FindsFor (B.store bank.now) self.now at work.now bind.new.items) }
+        requires held { AllHeld (B.store bank.now) work.old.items }
+        requires can { CanFind (B.store bank.now) self.now at work.old.items }
+        ensures finds { IfOk result
+            (FindsFor (B.store bank.now) self.now at work.old.items bind.new.items) }
+        ensures same { work.new.items ≡ work.old.items }
     {
         let Some(side) = self.sides.get(at as usize) else {
             return Ok(None);
@@ -70,8 +72,7 @@ impl Matcher {
             return self.find_in_turn(bank, at, work, pending, bind);
         }
         let first = work.len() - side.count as usize;
-        self.forest
-            .run(bank, side.symbol, &work[first..], at, pending, bind)
+        self.forest.run(bank, side.symbol, first, at, work, bind)
     }
 
     /// The same without a tree: the rules of the symbol are tried one by one. The values that a

@@ -55,7 +55,7 @@ impl Matcher {
         let mut pending = Vec::new(alloc);
         let mut found = Vec::new(alloc);
         let at = self.first_from(number, from);
-        let Some(rule) = self.find(bank, at, &arguments, &mut pending, &mut found)? else {
+        let Some(rule) = self.find(bank, at, &mut arguments, &mut pending, &mut found)? else {
             return Ok(None);
         };
         bind.extend_from_slice(&found)?;

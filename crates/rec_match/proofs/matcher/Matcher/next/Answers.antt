@@ -1,8 +1,7 @@
-use Rattle.std.proofs.Common.{sym, ap, subst, rules, ◌∙◌, ◌≡◌, ◌++◌, Some, None}
+use Rattle.std.proofs.Common.{sym, ap, subst, rules, ◌∙◌, ◌≡◌, ◌++◌}
 use Rattle.rx_term.specs.Tree.{to_list}
 use Rattle.rx_term.specs.Walks.{held_trees}
-use Rattle.rec_match.specs.Held.{AllHeld}
-use Rattle.rec_match.specs.Matching.{CanFind, FindsFor}
+use Rattle.rec_match.specs.Matching.{FindsFor}
 use Rattle.rec_sorts.specs.Linked.{NumberOf}
 use Rattle.rec_match.proofs.OpenLemmas.{bare-of}
 use Rattle.rec_match.proofs.TurnLemmas.{argument_list}
@@ -41,18 +40,18 @@ first_from-at-requires-clause-later g c = all-later (g.B.TermBank.store c.args.b
 pub find-requires-clause-held : goal.find-requires-clause-held
 find-requires-clause-held g c =
     let w = g.B.TermBank.store c.args.bank.now in
-    let pushed = c.in_ok-push_arguments.ensures c.in-Appl.ensures.args (argument_list w c.args.u c.args-2.result c.in-Appl.symbol c.in-Appl.ensures c.args-2.ensures) (search rules) in
-    subst (AllHeld w) (sym c.deref.ensures.value) (contains-held w c.push_arguments.new.registers.items pushed.0)
+    let pushed = c.in_ok-push_arguments.ensures.pushes c.in-Appl.ensures.args (argument_list w c.args.u c.args-2.result c.in-Appl.symbol c.in-Appl.ensures c.args-2.ensures) (search rules) in
+    contains-held w c.push_arguments.new.registers.items pushed.0
 
 pub find-requires-clause-can : goal.find-requires-clause-can
 find-requires-clause-can g c =
     let w = g.B.TermBank.store c.args.bank.now in
     let m = c.args.self.now in
     let h = c.in-Appl.ensures in
-    let pushed = c.in_ok-push_arguments.ensures h.args (argument_list w c.args.u c.args-2.result c.in-Appl.symbol h c.args-2.ensures) (search rules) in
+    let pushed = c.in_ok-push_arguments.ensures.pushes h.args (argument_list w c.args.u c.args-2.result c.in-Appl.symbol h c.args-2.ensures) (search rules) in
     let are : held_trees w c.push_arguments.new.registers.items ≡ to_list h.args = pushed.1 ∙ ap (λ xs. held_trees w xs ++ to_list h.args) c.new-arguments.ensures.items in
     let call = is-call c.requires.ready.spec w m c.requires.ready.ready c.args.u c.in-Appl.symbol c.in-Some.number h c.in-Some.ensures (bare-of w c.args.u c.anns.result c.anns.ensures (sym c.is_some.ensures ∙ c.if-is_some.false)) in
-    subst (CanFind w m c.first_from-at.result) (sym c.deref.ensures.value) (can-find-there w m c.requires.ready c.args.u c.in-Some.number c.args.from c.first_from-at.result h.args call c.first_from-at.ensures c.push_arguments.new.registers.items are)
+    can-find-there w m c.requires.ready c.args.u c.in-Some.number c.args.from c.first_from-at.result h.args call c.first_from-at.ensures c.push_arguments.new.registers.items are
 
 pub returns-in_default-2-clause-answers : goal.returns-in_default-2-clause-answers
 returns-in_default-2-clause-answers g c = λ y ready. (
@@ -60,11 +59,11 @@ returns-in_default-2-clause-answers g c = λ y ready. (
       let w = g.B.TermBank.store c.args.bank.now in
       let m = c.args.self.now in
       let h = c.in-Appl.ensures in
-      let pushed = c.in_ok-push_arguments.ensures h.args (argument_list w c.args.u c.args-2.result c.in-Appl.symbol h c.args-2.ensures) (search rules) in
+      let pushed = c.in_ok-push_arguments.ensures.pushes h.args (argument_list w c.args.u c.args-2.result c.in-Appl.symbol h c.args-2.ensures) (search rules) in
       let are : held_trees w c.push_arguments.new.registers.items ≡ to_list h.args = pushed.1 ∙ ap (λ xs. held_trees w xs ++ to_list h.args) c.new-arguments.ensures.items in
       let call = is-call y w m ready c.args.u c.in-Appl.symbol c.in-Some.number h c.in-Some.ensures (bare-of w c.args.u c.anns.result c.anns.ensures (sym c.is_some.ensures ∙ c.if-is_some.false)) in
       answer-none y w m ready c.args.u c.in-Some.number c.args.from c.first_from-at.result h.args call c.first_from-at.ensures c.push_arguments.new.registers.items are c.find.new.bind.items
-      (subst (λ xs. FindsFor w m c.first_from-at.result xs c.find.new.bind.items None) c.deref.ensures.value (subst (FindsFor w m c.first_from-at.result c.deref.result.now c.find.new.bind.items) c.in_default-2.is c.in_ok-rule.ensures))
+      (subst (FindsFor w m c.first_from-at.result c.push_arguments.new.registers.items c.find.new.bind.items) c.in_default-2.is c.in_ok-rule.ensures.finds)
       ),
   c.clear.ensures.items,
 )
@@ -74,9 +73,9 @@ returns-clause-answers g c = λ y ready.
     let w = g.B.TermBank.store c.args.bank.now in
     let m = c.args.self.now in
     let h = c.in-Appl.ensures in
-    let pushed = c.in_ok-push_arguments.ensures h.args (argument_list w c.args.u c.args-2.result c.in-Appl.symbol h c.args-2.ensures) (search rules) in
+    let pushed = c.in_ok-push_arguments.ensures.pushes h.args (argument_list w c.args.u c.args-2.result c.in-Appl.symbol h c.args-2.ensures) (search rules) in
     let are : held_trees w c.push_arguments.new.registers.items ≡ to_list h.args = pushed.1 ∙ ap (λ xs. held_trees w xs ++ to_list h.args) c.new-arguments.ensures.items in
     let call = is-call y w m ready c.args.u c.in-Appl.symbol c.in-Some.number h c.in-Some.ensures (bare-of w c.args.u c.anns.result c.anns.ensures (sym c.is_some.ensures ∙ c.if-is_some.false)) in
-    let finds = subst (λ xs. FindsFor w m c.first_from-at.result xs c.find.new.bind.items (Some c.in-Some-2.rule)) c.deref.ensures.value (subst (FindsFor w m c.first_from-at.result c.deref.result.now c.find.new.bind.items) c.in-Some-2.is c.in_ok-rule.ensures) in
+    let finds = subst (FindsFor w m c.first_from-at.result c.push_arguments.new.registers.items c.find.new.bind.items) c.in-Some-2.is c.in_ok-rule.ensures.finds in
     answer-some y w m ready c.args.u c.in-Some.number c.args.from c.first_from-at.result h.args call c.first_from-at.ensures c.push_arguments.new.registers.items are c.extend_from_slice.new.self.items c.find.new.bind.items c.in-Some-2.rule finds
-    (c.in_ok-extend_from_slice.ensures.ok ∙ ap (λ xs. xs ++ c.deref-2.result.now) c.clear.ensures.items ∙ c.deref-2.ensures.value)
+    (c.in_ok-extend_from_slice.ensures.ok ∙ ap (λ xs. xs ++ c.deref.result.now) c.clear.ensures.items ∙ c.deref.ensures.value)
