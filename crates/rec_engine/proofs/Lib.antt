@@ -18,6 +18,7 @@ pub mod KnownLemmas
 pub mod RuleLemmas
 pub mod DirectLemmas
 pub mod BuildTurn
+pub mod ValueTurn
 pub mod ConstantTurn
 pub mod ValueTrees
 pub mod GivenLemmas
