@@ -1,10 +1,11 @@
 -- What a matcher answers for a term of a bank.
 use Rattle.std.proofs.Common.{refl, sym, ap, subst, arith, ◌∙◌, inl, inr, drop, length, is_some}
+use Rattle.std.specs.Option.{option_and_then}
 use Rattle.std.specs.Prelude.{ℕ, ℤ, zero, suc, ◌≡◌, ◌<◌, ◌+◌, ◌-◌, Bool, true, false, not, List, [], Option, Some, None, IsSome, get_or}
 use Rattle.std.proofs.lemmas.List.{length-map}
 use Rattle.rx_term.specs.Name.{Signature, plain_name}
 use Rattle.rx_term.specs.Tree.{Tree, Trees, Appl, Items, none, more, count_of, to_list, from_list}
-use Rattle.rx_term.specs.Store.{Store, tree_at, signature_of, part_at, anns_of}
+use Rattle.rx_term.specs.Store.{Store, tree_at, signature_of, arity_at, part_at, anns_of}
 use Rattle.rx_term.specs.Steps.{IsSound}
 use Rattle.rx_term.specs.Walks as walks
 use Rattle.rx_term.proofs.TreeLemmas.{from_to_list, length-to_list}
@@ -198,6 +199,10 @@ declared-number w m s k ready number =
 pub all-later : (w : Store) (m : Matcher) → AreReady w m → AreLater m
 all-later w m ready i s lt e = later-side m 0 0 i s lt e ready.spec w ready.ready
 
+-- how many arguments an application has
+pub arity-is : (w : Store) (t : Term) (s : bank.Symbol) (h : HasAppl w t s) (n : ℕ) → arity_at w s ≡ Some n → count_of h.args ≡ n
+arity-is w t s h n e = let r : Some (count_of h.args) ≡ Some n = sym (ap (option_and_then (λ (g : Signature). Some g.arity)) h.symbol) ∙ e in cc r
+
 module _ (y : Spec) (w : Store) (m : Matcher) (ready : IsReady y w m) (u : Term) (k from at : ℕ) (args : Trees) (call : IsCall y w u k args) (reached : Reaches m k from at) (work : List Term) (are : held_trees w work ≡ to_list args) where
   work-counted : at < length m.sides.items → count_at m at ≡ length work
   work-counted lt =
@@ -222,11 +227,16 @@ module _ (y : Spec) (w : Store) (m : Matcher) (ready : IsReady y w m) (u : Term)
       let f : HasFound y w m (name_of y (Symbol k)) at work found i = finds-for found (Some i) h in
       record { values = f.values; first = skipped-to ∙ f.first; bound = ap (held_trees w) e ∙ f.bound }
 
-pub can-find-there : (w : Store) (m : Matcher) (ready : AreReady w m) (u : Term) (k from at : ℕ) (args : Trees) → IsCall ready.spec w u k args → Reaches m k from at → (work : List Term) → held_trees w work ≡ to_list args → CanFind w m at work
-can-find-there w m ready u k from at args call reached work are = record {
+pub can-find-there : (w : Store) (m : Matcher) (ready : AreReady w m) (u : Term) (k n from at : ℕ) (args : Trees) → IsCall ready.spec w u k args → count_of args ≡ n → Reaches m k from at → (work : List Term) → held_trees w work ≡ to_list args → CanFind w m k n at work
+can-find-there w m ready u k n from at args call en reached work are = record {
   spec = ready.spec;
   symbols = m.links;
   linked = ready.ready.linked;
   matcher = ready.ready.matcher;
-  counted = λ lt. (let c = work-counted ready.spec w m ready.ready u k from at args call reached work are lt in omega (arith, c));
+  declared = call.declared;
+  head = (reached ready.spec w ready.ready call.declared).1;
+  counted = sym en ∙ call.counted;
+  long =
+      let c : n ≡ length work = sym en ∙ sym (length-to_list args) ∙ ap length (sym are) ∙ length-map work (held_tree w) in
+      omega (arith, c);
 }

@@ -146,14 +146,14 @@ trying-first w m at work y ss below args k linked matcher lt head split counted 
 pub side-is : {A : Type 0} (f : LeftSide → A) (m : Matcher) (i : ℕ) (s : LeftSide) (d : A) → i < length m.sides.items → s ≡ get_or m.sides.items i s → f s ≡ get_or (map f m.sides.items) i d
 side-is f m i s d lt e = ap f e ∙ sym (get_or-map f m.sides.items i s d lt)
 
-pub can-ask : (w : Store) (m : Matcher) (i : ℕ) (work : List Term) (s : LeftSide) (tests : List Test) → CanFind w m i work → i < length m.sides.items → s ≡ get_or m.sides.items i s → tests ≡ s.tests.items → All (CanAsk w) tests
-can-ask w m i work s tests can lt e et =
+pub can-ask : (w : Store) (m : Matcher) (k n i : ℕ) (work : List Term) (s : LeftSide) (tests : List Test) → CanFind w m k n i work → i < length m.sides.items → s ≡ get_or m.sides.items i s → tests ≡ s.tests.items → All (CanAsk w) tests
+can-ask w m k n i work s tests can lt e et =
     let ruled = can.matcher.ruled in
     let side = can.matcher.sides i no_rule (omega (arith, lt, ruled)) in
     subst (λ ts. All (CanAsk w) ts) (sym (et ∙ side-is (λ (x : LeftSide). x.tests.items) m i s [] lt e)) (askable can.spec w can.symbols can.linked (reverse side.letters) [] (tests_at m i) side.tests.tested side.filled_letters side.tests.tests)
 
-pub can-next : (w : Store) (m : Matcher) (i : ℕ) (work : List Term) (s : LeftSide) → CanFind w m i work → i < length m.sides.items → s ≡ get_or m.sides.items i s → CanFind w m s.next work
-can-next w m i work s can lt e =
+pub can-next : (w : Store) (m : Matcher) (k n i : ℕ) (work : List Term) (s : LeftSide) → CanFind w m k n i work → i < length m.sides.items → s ≡ get_or m.sides.items i s → CanFind w m k n s.next work
+can-next w m k n i work s can lt e =
     let ruled = can.matcher.ruled in
     let side = can.matcher.sides i no_rule (omega (arith, lt, ruled)) in
     let is : s.next ≡ next_at m i = side-is (λ (x : LeftSide). x.next) m i s 0 lt e in
@@ -162,16 +162,24 @@ can-next w m i work s can lt e =
       symbols = can.symbols;
       linked = can.linked;
       matcher = can.matcher;
-      counted = λ h.
-          let h' : next_at m i < length m.sides.items = subst (λ n. n < length m.sides.items) is h in
-          let after = can.matcher.sides (next_at m i) no_rule (omega (arith, h', ruled)) in
-          let same : count_at m s.next ≡ count_at m i = ap (count_at m) is ∙ after.filled ∙ ap (arity_of can.spec) (side.next h') ∙ sym side.filled in
-          let le = can.counted lt in
-          omega (arith, le, same);
+      declared = can.declared;
+      counted = can.counted;
+      long = can.long;
+      head = λ h. ap (symbol_at m) is ∙ side.next (subst (λ j. j < length m.sides.items) is h) ∙ can.head lt;
     }
 
-pub later-next : (w : Store) (m : Matcher) (i : ℕ) (work : List Term) (s : LeftSide) → CanFind w m i work → i < length m.sides.items → s ≡ get_or m.sides.items i s → i < s.next
-later-next w m i work s can lt e =
+-- a rule of the symbol has as many arguments as the symbol
+pub own-count : (w : Store) (m : Matcher) (k n i : ℕ) (work : List Term) → CanFind w m k n i work → i < length m.sides.items → count_at m i ≡ n
+own-count w m k n i work can lt =
+    let ruled = can.matcher.ruled in
+    let side = can.matcher.sides i no_rule (omega (arith, lt, ruled)) in
+    side.filled ∙ ap (arity_of can.spec) (can.head lt) ∙ sym can.counted
+
+pub side-count : (w : Store) (m : Matcher) (k n i : ℕ) (work : List Term) (s : LeftSide) → CanFind w m k n i work → i < length m.sides.items → s ≡ get_or m.sides.items i s → n ≡ s.count
+side-count w m k n i work s can lt e = sym (side-is (λ (x : LeftSide). x.count) m i s 0 lt e ∙ own-count w m k n i work can lt)
+
+pub later-next : (w : Store) (m : Matcher) (k n i : ℕ) (work : List Term) (s : LeftSide) → CanFind w m k n i work → i < length m.sides.items → s ≡ get_or m.sides.items i s → i < s.next
+later-next w m k n i work s can lt e =
     let ruled = can.matcher.ruled in
     let side = can.matcher.sides i no_rule (omega (arith, lt, ruled)) in
     let is : s.next ≡ next_at m i = side-is (λ (x : LeftSide). x.next) m i s 0 lt e in
@@ -214,8 +222,8 @@ trying-next w m at i work bind ts n s lt e et en h trying y ss below args k link
     }
 
 -- the places of a rule's variables are within the values of its tests
-pub order-there : (w : Store) (m : Matcher) (i : ℕ) (work args bind : List Term) (ts : List Test) (s : LeftSide) (places : List ℕ) → CanFind w m i work → i < length m.sides.items → s ≡ get_or m.sides.items i s → ts ≡ s.tests.items → places ≡ s.order.items → Matches w ts args bind true → All (λ p. p < length bind) places
-order-there w m i work args bind ts s places can lt e et ep h =
+pub order-there : (w : Store) (m : Matcher) (k n i : ℕ) (work args bind : List Term) (ts : List Test) (s : LeftSide) (places : List ℕ) → CanFind w m k n i work → i < length m.sides.items → s ≡ get_or m.sides.items i s → ts ≡ s.tests.items → places ≡ s.order.items → Matches w ts args bind true → All (λ p. p < length bind) places
+order-there w m k n i work args bind ts s places can lt e et ep h =
     let ruled = can.matcher.ruled in
     let side = can.matcher.sides i no_rule (omega (arith, lt, ruled)) in
     let h' : Matches w (tests_at m i) args bind true = subst (λ xs. Matches w xs args bind true) (et ∙ side-is (λ (x : LeftSide). x.tests.items) m i s [] lt e) h in

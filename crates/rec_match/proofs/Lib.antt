@@ -5,6 +5,7 @@ pub mod Congruence
 pub mod OpenLemmas
 pub mod PairedLemmas
 pub mod AskLemmas
+pub mod FillLemmas
 pub mod FindLemmas
 pub mod Items
 pub mod PlaceLemmas
@@ -22,6 +23,7 @@ pub mod GrowthLemmas
 pub mod PartLemmas
 pub mod ExtensionLemmas
 pub mod LeafLemmas
+pub mod HitLemmas
 pub mod KeyLemmas
 pub mod OrderLemmas
 pub mod NextLemmas

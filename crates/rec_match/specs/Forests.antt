@@ -1,6 +1,6 @@
 -- What matching trees in flat form find.
 use Rattle.std.specs.Option.{option_map}
-use Rattle.std.specs.Prelude.{slice_range, ◌≢◌, ◌⊎◌, ℕ, ◌≡◌, ◌+◌, ◌-◌, ◌<◌, ◌≤◌, suc, ◌&&◌, Bool, true, false, List, [], ◌∷◌, ◌++◌, Option, Some, None, length, get_or, nat_eq, nat_le, nat_lt, if◌then◌else◌}
+use Rattle.std.specs.Prelude.{slice_range, ◌≢◌, ◌⊎◌, ℕ, ◌≡◌, ◌+◌, ◌-◌, ◌<◌, ◌≤◌, suc, ◌&&◌, Bool, true, false, List, [], ◌∷◌, ◌++◌, Option, Some, None, length, drop, get_or, nat_eq, nat_le, nat_lt, if◌then◌else◌}
 use Rattle.rx_term.specs.Tree.{Tree, Trees, Items, none, count_of, to_list, from_list, tree_eq}
 use Rattle.rx_term.specs.Store.{Store, tree_at, signature_of}
 use Rattle.rx_term.specs.Walks.{AllHeld, held_tree, held_trees}
@@ -14,6 +14,7 @@ use Rattle.rec_sorts.specs.declared.letters.Meaning.TheVariants.{Symbol}
 use Rattle.rec_match.specs.Bound.{opened}
 use Rattle.rec_match.specs.Rows.{Found, found_of, found_at, or_else, tree_in, values_of}
 use Rattle.rec_match.specs.declared.forest.Forest.{Forest}
+use Rattle.rec_match.specs.declared.forest.Hit.{Hit}
 use Rattle.rec_match.specs.declared.forest.Node.{Node}
 use Rattle.rec_match.specs.declared.forest.Node.TheVariants.{Fail, Try, Switch}
 use Rattle.rec_match.specs.declared.forest.Place.{Place}
@@ -209,6 +210,11 @@ pub record CanRun (w : Store) (f : Forest) (k count : ℕ) : Type 0 where
 
 abbrev pub Runs : Store → Forest → ℕ → ℕ → List Term → List Term → Option ℕ → Type 0
 Runs w f k least args bind found = (y : Spec) (ns : List ℕ) → AreNumbers y w ns → IsForest y ns f → k < length (symbols y) → length args ≡ arity_of y k → Finds y w (name_of y (Symbol k)) least args bind found
+
+-- what a run finds for the references from one on, and leaves on top
+abbrev pub RunsOn : Store → Forest → ℕ → ℕ → ℕ → List Term → List Term → Option Hit → Type 0
+RunsOn w f k least first old new (Some found) = (length old ≤ found.values) × (found.values ≤ length new) × Runs w f k least (drop first old) (drop found.values new) (Some found.rule)
+RunsOn w f k least first old new None = Runs w f k least (drop first old) [] None
 
 -- where a run stands: what the root finds, the node finds
 pub record Stands (w : Store) (f : Forest) (k least : ℕ) (args : List Term) (y : Spec) (forest_reading : Reading) (at : ℕ) (registers : List Term) : Type 0 where

@@ -9,6 +9,7 @@ use Rattle.rx_term.specs.Walks.{held_trees}
 use Rattle.rec_syntax.specs.Syntax as R
 use Rattle.rec_syntax.specs.Syntax.{Spec, Rule}
 use Rattle.rec_sorts.specs.Lookup.{symbols, count}
+use Rattle.rec_sorts.specs.Lookup as lookup
 use Rattle.rec_sorts.specs.Binding.{Substitution, value_of, application, first_match}
 use Rattle.rec_sorts.specs.Numbering.{named_all, name_of, named_by, IsMeaning, arity_of}
 use Rattle.rec_sorts.specs.Linked.{AreLinked}
@@ -21,6 +22,7 @@ use Rattle.rec_match.specs.Ordered.{AreOrdered, numbers_in}
 use Rattle.rec_match.specs.Rows.{values_of}
 use Rattle.rec_match.specs.Tasks.{numbers_of}
 use Rattle.rec_sorts.specs.SpecRules.{fault}
+use Rattle.rec_match.specs.declared.forest.Hit.{Hit}
 use Rattle.rec_match.specs.declared.matcher.Test.{Test}
 use Rattle.rec_match.specs.declared.matcher.Test.TheVariants.{Open, First, Again}
 use Rattle.rec_match.specs.declared.matcher.LeftSide.{LeftSide}
@@ -178,18 +180,26 @@ abbrev pub Finds : Spec → Store → Matcher → List ℕ → ℕ → List Term
 Finds y w m name at args bind (Some i) = HasFound y w m name at args bind i
 Finds y w m name at args bind None = first_match y at (drop at y.rules) (application name (from_list (held_trees w args))) ≡ None
 
--- the last references of a list are as many as the rule of a number has arguments
-pub record CanFind (w : Store) (m : Matcher) (at : ℕ) (work : List Term) : Type 0 where
+-- a symbol, a rule of it from which on to look, and its arguments as the last of some references
+pub record CanFind (w : Store) (m : Matcher) (symbol count at : ℕ) (work : List Term) : Type 0 where
   pub spec : Spec
   pub symbols : List bank.Symbol
   pub linked : AreLinked spec w symbols
   pub matcher : IsMatcher spec symbols m
-  pub counted : at < length m.sides.items → count_at m at ≤ length work
+  pub declared : symbol < length (lookup.symbols spec)
+  pub head : HeadAt m at symbol
+  pub counted : count ≡ arity_of spec symbol
+  pub long : count ≤ length work
 
 -- what is found among the rules from a number on, for the last references of a list
 abbrev pub FindsFor : Store → Matcher → ℕ → List Term → List Term → Option ℕ → Type 0
 FindsFor w m at work bind found = (y : Spec) (ss : List bank.Symbol) (below args : List Term) (k : ℕ) → AreLinked y w ss → IsMatcher y ss m → k < length (symbols y) → HeadAt m at k
     → work ≡ below ++ args → (at < length m.sides.items → count_at m at ≡ length args) → Finds y w m (name_of y (Symbol k)) at args bind found
+
+-- what is found for the last of some references, and what is left of the list then
+abbrev pub FindsOn : Store → Matcher → ℕ → List Term → List Term → Option Hit → Type 0
+FindsOn w m at old new (Some found) = (length old ≤ found.values) × (found.values ≤ length new) × FindsFor w m at old (drop found.values new) (Some found.rule)
+FindsOn w m at old new None = FindsFor w m at old [] None × (new ≡ old)
 
 -- what the tests answer of some references: they give the variables what the letters of the left side give them
 abbrev pub Matches : Store → List Test → List Term → List Term → Bool → Type 0

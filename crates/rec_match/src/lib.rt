@@ -16,7 +16,7 @@ mod rows;
 mod shares;
 mod trees;
 
-pub use forest::{Child, Forest, Node, Place};
+pub use forest::{Child, Forest, Hit, Node, Place};
 pub use grow::{Grower, Pending, Work};
 pub use marks::Marks;
 pub use matcher::{LeftSide, Matcher, Test};

@@ -4,14 +4,14 @@
 ghost use Rattle.std.specs.Prelude.{◌≡◌, ◌++◌, ◌∷◌, ◌-◌, ◌≤◌, [], IfOk, IsSome, All, length, drop};
 ghost use Rattle.rx_term.specs.Store.{tree_at};
 ghost use Rattle.rec_match.specs.Held.{AllHeld};
-ghost use Rattle.rec_match.specs.Matching.{CanFind, FindsFor, Asks, Opens, Takes, CanAsk, Matches};
+ghost use Rattle.rec_match.specs.Forests.{Extends};
+ghost use Rattle.rec_match.specs.Matching.{CanFind, FindsOn, Asks, Opens, Takes, CanAsk, Matches};
 
-use crate::forest::Forest;
+use crate::forest::{Forest, Hit};
 use crate::places::{push_all, push_at};
 use rec_sorts::Links;
 use rx_term::{Kind, Symbol, Term, TermBank};
 use std::alloc::{AllocError, Global};
-use std::mem::swap;
 
 /// What is asked of the next argument, the last one first.
 #[derive(Clone, Copy, PartialEq, Eq)]
@@ -48,55 +48,62 @@ pub struct Matcher {
 }
 
 impl Matcher {
-    /// The first rule that matches, from one on and among those of its symbol, which is applied to
-    /// the last of some references; and the values of its variables in the order in which they
-    /// first occur. The references are as before.
+    /// The first rule that matches, from one on and among those of a symbol, which is applied to
+    /// the last of some references, so many. The values of its variables are left on top of these,
+    /// in the order in which the variables first occur; registers of what was looked at may stand
+    /// between. Where there is no such rule, the references are as before.
+    #[inline(always)]
     pub fn find<B: TermBank>(
         &self,
         bank: &B,
+        symbol: u32,
+        count: u32,
         at: u32,
         work: &mut Vec<Term>,
         pending: &mut Vec<Term>,
         bind: &mut Vec<Term>,
-    ) -> Result<Option<u32>, AllocError>
+    ) -> Result<Option<Hit>, AllocError>
         requires held { AllHeld (B.store bank.now) work.old.items }
-        requires can { CanFind (B.store bank.now) self.now at work.old.items }
+        requires can { CanFind (B.store bank.now) self.now symbol count at work.old.items }
         ensures finds { IfOk result
-            (FindsFor (B.store bank.now) self.now at work.old.items bind.new.items) }
-        ensures same { work.new.items ≡ work.old.items }
+            (FindsOn (B.store bank.now) self.now at work.old.items work.new.items) }
+        ensures held { IfOk result (λ found. AllHeld (B.store bank.now) work.new.items) }
+        ensures behind { Extends work.old.items work.new.items }
     {
-        let Some(side) = self.sides.get(at as usize) else {
-            return Ok(None);
-        };
-        if self.forest.roots[side.symbol as usize] == 0 {
-            return self.find_in_turn(bank, at, work, pending, bind);
+        if self.forest.roots[symbol as usize] == 0 {
+            return self.find_in_turn(bank, symbol, count, at, work, pending, bind);
         }
-        let first = work.len() - side.count as usize;
-        self.forest.run(bank, side.symbol, first, at, work, bind)
+        let first = work.len() - count as usize;
+        self.forest.run(bank, symbol, first, at, work)
     }
 
     /// The same without a tree: the rules of the symbol are tried one by one. The values that a
     /// rule's tests give are put in order.
+    #[inline(never)]
     fn find_in_turn<B: TermBank>(
         &self,
         bank: &B,
+        symbol: u32,
+        count: u32,
         at: u32,
-        work: &[Term],
+        work: &mut Vec<Term>,
         pending: &mut Vec<Term>,
         bind: &mut Vec<Term>,
-    ) -> Result<Option<u32>, AllocError>
-        requires held { AllHeld (B.store bank.now) work.now }
-        requires can { CanFind (B.store bank.now) self.now at work.now }
-        ensures { IfOk result (FindsFor (B.store bank.now) self.now at work.now bind.new.items) }
+    ) -> Result<Option<Hit>, AllocError>
+        requires held { AllHeld (B.store bank.now) work.old.items }
+        requires can { CanFind (B.store bank.now) self.now symbol count at work.old.items }
+        ensures finds { IfOk result
+            (FindsOn (B.store bank.now) self.now at work.old.items work.new.items) }
+        ensures held { IfOk result (λ found. AllHeld (B.store bank.now) work.new.items) }
+        ensures behind { Extends work.old.items work.new.items }
     {
         let mut i = at;
         while (i as usize) < self.sides.len() {
             let side = &self.sides[i as usize];
-            if matches(bank, &side.tests, work, side.count, pending, bind)? {
-                swap(pending, bind);
-                bind.clear();
-                push_at(pending, &side.order, bind)?;
-                return Ok(Some(i));
+            if matches(bank, &side.tests, work, count, pending, bind)? {
+                let values = work.len();
+                push_at(bind, &side.order, work)?;
+                return Ok(Some(Hit { rule: i, values }));
             }
             i = side.next;
         }

@@ -50,15 +50,25 @@ impl Matcher {
             return Ok(None);
         }
         let alloc = *bind.allocator();
-        let mut arguments = Vec::new(alloc);
-        push_arguments(bank, bank.args(u), bank.arity_of(symbol), &mut arguments)?;
+        let mut work = Vec::new(alloc);
+        let count = bank.arity_of(symbol);
+        push_arguments(bank, bank.args(u), count, &mut work)?;
         let mut pending = Vec::new(alloc);
-        let mut found = Vec::new(alloc);
+        let mut tested = Vec::new(alloc);
         let at = self.first_from(number, from);
-        let Some(rule) = self.find(bank, at, &mut arguments, &mut pending, &mut found)? else {
+        let found = self.find(
+            bank,
+            number,
+            count,
+            at,
+            &mut work,
+            &mut pending,
+            &mut tested,
+        )?;
+        let Some(hit) = found else {
             return Ok(None);
         };
-        bind.extend_from_slice(&found)?;
-        Ok(Some(rule))
+        bind.extend_from_slice(&work[hit.values..])?;
+        Ok(Some(hit.rule))
     }
 }

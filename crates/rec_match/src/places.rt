@@ -1,6 +1,6 @@
 //! The places of variables among those of a rule.
 
-ghost use Rattle.std.specs.Prelude.{◌≡◌, ◌<◌, ◌++◌, ◌∷◌, [], All, IfOk, None, length, get_or, set};
+ghost use Rattle.std.specs.Prelude.{◌≡◌, ◌<◌, ◌++◌, ◌∷◌, [], List, All, IfOk, None, length, get_or, set};
 ghost use Rattle.rec_match.specs.Ordered.{in_order};
 ghost use Rattle.rec_match.specs.Placed.{IsPlace, ArePlaces, OnlyPlaced};
 
@@ -19,8 +19,9 @@ pub(crate) fn push_at<T: Copy>(
     found: &mut Vec<T>,
 ) -> Result<(), AllocError>
     requires { All (λ p. p < length items.now) places.now }
-    ensures { IfOk result
+    ensures pushes { IfOk result
         (λ u. (d : T) → found.new.items ≡ found.old.items ++ in_order d items.now places.now) }
+    ensures behind { (more : List T) × (found.new.items ≡ found.old.items ++ more) }
 {
     for place in places {
         found.push(items[*place as usize])?;

@@ -33,7 +33,7 @@ returns-clause-tests c =
     let ordered = c.in_ok-order.ensures.order c.loop-i.tested.items (subst (λ n. ArePlacesIn c.loop-i.tested.items n c.loop-i.places.of.items) (sym i.places.counted) i.places)
     (all-among c.args.links.now c.args.letters.now c.loop-i.i c.loop-i.tests.items c.loop-i.tested.items (omega (arith, t)) i.tests) in
     are-tested c.args.links.now c.args.letters.now c.loop-i.i c.loop-i.tests.items c.loop-i.tested.items c.in_ok-order.order.items c.push_at.new.found.items (omega (arith, t)) i.tests ordered
-    (c.in_ok-push_at.ensures 0 ∙ ap (λ xs. xs ++ in_order 0 c.deref-2.result.now c.deref-3.result.now) c.new-variables.ensures.items ∙ ap (λ xs. in_order 0 xs c.deref-3.result.now) c.deref-2.ensures.value ∙ ap (in_order 0 c.loop-i.tested.items) c.deref-3.ensures.value)
+    (c.in_ok-push_at.ensures.pushes 0 ∙ ap (λ xs. xs ++ in_order 0 c.deref-2.result.now c.deref-3.result.now) c.new-variables.ensures.items ∙ ap (λ xs. in_order 0 xs c.deref-3.result.now) c.deref-2.ensures.value ∙ ap (in_order 0 c.loop-i.tested.items) c.deref-3.ensures.value)
 
 pub loop-i-preserved : goal.loop-i-preserved
 loop-i-preserved c =

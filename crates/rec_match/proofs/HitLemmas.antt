@@ -1,0 +1,48 @@
+-- What is found, with its values on top of some references.
+use Rattle.std.proofs.Common.{refl, sym, ap, subst, arith, ◌∙◌, drop, length, take, Contains}
+use Rattle.std.proofs.Math.Seq.{drop-append_seam}
+use Rattle.std.proofs.lemmas.List.{length-append, take-append-drop}
+use Rattle.std.proofs.lemmas.List.Elements.{Contains-append_cases}
+use Rattle.std.specs.Prelude.{ℕ, ◌≡◌, ◌-◌, ◌⊎◌, List, ◌++◌, [], ◌+◌, Some, None, IsSome, Option, Result, Ok, Err, IfOk}
+use mathlib.Core.Logic.{inl, inr}
+use Rattle.rx_term.specs.Store.{Store, tree_at}
+use Rattle.rx_term.specs.declared.Term.{Term}
+use Rattle.rx_term.specs.Walks as walks
+use Rattle.rec_match.specs.Forests.{RunsOn}
+use Rattle.rec_match.specs.Held.{AllHeld}
+use Rattle.rec_match.specs.Matching.{CanFind, FindsFor, FindsOn}
+use Rattle.rec_match.specs.declared.forest.Hit.{Hit}
+use Rattle.rec_match.specs.declared.matcher.Matcher.{Matcher}
+use Rattle.rec_match.proofs.AnswerLemmas.{contains-held}
+use Rattle.rec_match.proofs.FindLemmas.{own-count}
+use Rattle.rec_match.proofs.TreeAnswers.{args-long, tree-finds}
+
+-- the values are those that were put on top
+pub found-on : (w : Store) (m : Matcher) (at : ℕ) (old bind new : List Term) (rule values : ℕ) → FindsFor w m at old bind (Some rule) → values ≡ length old → new ≡ old ++ bind → FindsOn w m at old new (Some (record { rule = rule; values = values }))
+found-on w m at old bind new rule values h ev en =
+    let long : length new ≡ length old + length bind = ap length en ∙ length-append old bind in
+    let is : drop values new ≡ bind = ap (λ n. drop n new) ev ∙ ap (drop (length old)) en ∙ drop-append_seam old bind in
+    (omega (arith, ev), omega (arith, ev, long), subst (λ xs. FindsFor w m at old xs (Some rule)) (sym is) h)
+
+-- values that are found are held
+pub found-held : (w : Store) (m : Matcher) (k n at : ℕ) (work bind : List Term) (rule : ℕ) → CanFind w m k n at work → FindsFor w m at work bind (Some rule) → AllHeld w bind
+found-held w m k n at work bind rule can h =
+    let f = h can.spec can.symbols (take (length work - n) work) (drop (length work - n) work) k can.linked can.matcher can.declared can.head (sym (take-append-drop (length work - n) work)) (λ lt. own-count w m k n at work can lt ∙ sym (args-long w m k n at work (drop (length work - n) work) can refl)) in
+    f.held
+
+pub held-both : (w : Store) (xs ys zs : List Term) → zs ≡ xs ++ ys → AllHeld w xs → AllHeld w ys → AllHeld w zs
+held-both w xs ys zs e hx hy t c = by (Contains-append_cases xs ys t (subst (λ (ts : List Term). Contains ts t) e c))
+  where
+    by : (Contains xs t ⊎ Contains ys t) → IsSome (tree_at w t)
+    by (inl h) = hx t h
+    by (inr h) = hy t h
+
+-- what the tree of a symbol finds
+pub run-finds : (w : Store) (m : Matcher) (k n at : ℕ) (old new : List Term) (first : ℕ) {E : Type 0} (r : Result (Option Hit) E) → CanFind w m k n at old → first ≡ length old - n → IfOk r (RunsOn w m.forest k at first old new) → IfOk r (λ found. found ≡ None → new ≡ old) → IfOk r (FindsOn w m at old new)
+run-finds w m k n at old new first (Err e) can ef runs same = tt
+run-finds w m k n at old new first (Ok None) can ef runs same = (tree-finds w m k n at old (drop first old) [] None can (ap (λ j. drop j old) ef) runs, same refl)
+run-finds w m k n at old new first (Ok (Some hit)) can ef runs same = (runs.0, runs.1, tree-finds w m k n at old (drop first old) (drop hit.values new) (Some hit.rule) can (ap (λ j. drop j old) ef) runs.2)
+
+pub run-held : (w : Store) (xs : List Term) {A E : Type 0} (r : Result A E) → IfOk r (λ a. walks.AllHeld w xs) → IfOk r (λ a. AllHeld w xs)
+run-held w xs (Err e) h = tt
+run-held w xs (Ok a) h = contains-held w xs h
