@@ -2,7 +2,8 @@
 
 ghost use Rattle.std.specs.Prelude.{◌≡◌, ◌≤◌, ◌^◌};
 
-use crate::streams::{ReadFault, Stopped};
+use crate::streams::ReadFault;
+use rx_text::RefusedWrite;
 use std::alloc::AllocError;
 use std::fmt;
 use thiserror::Error;
@@ -65,12 +66,12 @@ impl From<ReadFault> for RunFault {
     }
 }
 
-impl From<Stopped> for RunFault {
+impl From<RefusedWrite> for RunFault {
     ghost use Rattle.rec_run.specs.declared.ending.RunFault.TheVariants.{Write};
 
     ghost from_gives = { λ _ r. r ≡ Write };
 
-    fn from(_error: Stopped) -> RunFault {
+    fn from(_error: RefusedWrite) -> RunFault {
         RunFault::Write
     }
 }

@@ -1,14 +1,13 @@
-//! Bytes from readers and to writers.
+//! Bytes from readers.
 
 ghost use Rattle.std.specs.Prelude.{◌≡◌, ◌+◌, ◌-◌, ◌≤◌, ◌<◌, ◌^◌, List, ℕ, IfOk, OnOk, OnErr};
 ghost use Rattle.std.specs.Prelude.{IfSome, take, vec_len, length};
 ghost use Rattle.std.specs.Io.{ReadsAtMost};
-ghost use Rattle.std.specs.Io.KnownBytes.{Appends, Consumes, Keeps, ReadConsumes};
-ghost use Rattle.rx_text.specs.Written.{AppendsFront};
+ghost use Rattle.std.specs.Io.KnownBytes.{Consumes, ReadConsumes};
 ghost use Rattle.rec_run.specs.Run.{IsReadOut};
 
 use std::alloc::{AllocError, Global};
-use std::io::{Read, Write};
+use std::io::Read;
 
 /// The most bytes of a text.
 pub const LIMIT: usize = 16_777_216;
@@ -23,10 +22,6 @@ pub enum ReadFault {
 /// The reader refused.
 #[derive(Clone, Copy, Debug)]
 struct Unreadable;
-
-/// The writer refused.
-#[derive(Clone, Copy, Debug)]
-pub struct Stopped;
 
 impl From<Unreadable> for ReadFault {
     ghost use Rattle.rec_run.specs.declared.streams.ReadFault.TheVariants.{Read};
@@ -81,29 +76,4 @@ pub fn read_all<R: Read>(alloc: Global, reader: &mut R) -> Result<Vec<u8>, ReadF
         text.extend_from_slice(&buffer[..count])?;
     }
     Ok(text)
-}
-
-/// Writes all of a text, by as many writes as the writer needs.
-pub fn put<W: Write>(out: &mut W, text: &[u8]) -> Result<(), Stopped>
-    ensures ok { OnOk result (Appends (W.contents out.old) (W.contents out.new) text.now) }
-    ensures err { OnErr result (AppendsFront text.now (W.contents out.old) (W.contents out.new)) }
-{
-    let mut at = 0;
-    while at < text.len() {
-        match out.write(&text[at..]) {
-            Ok(count) if count > 0 => at += count,
-            _ => return Err(Stopped),
-        }
-    }
-    Ok(())
-}
-
-/// Flushes.
-pub(crate) fn flush<W: Write>(out: &mut W) -> Result<(), Stopped>
-    ensures { Keeps (W.contents out.old) (W.contents out.new) }
-{
-    match out.flush() {
-        Ok(()) => Ok(()),
-        Err(_) => Err(Stopped),
-    }
 }

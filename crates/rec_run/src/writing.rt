@@ -1,7 +1,7 @@
-//! The lines of refusals and of terms, and numbers behind texts.
+//! The lines of refusals and of terms, numbers behind texts, and the flush.
 
 ghost use Rattle.std.specs.Prelude.{◌++◌, IfErr, IsSome, OnErr, OnOk, decimal};
-ghost use Rattle.std.specs.Io.KnownBytes.{Appends};
+ghost use Rattle.std.specs.Io.KnownBytes.{Appends, Keeps};
 ghost use Rattle.rx_term.specs.Store.{tree_at};
 ghost use Rattle.rx_text.specs.Written.{AppendsFront};
 ghost use Rattle.rec_run.specs.Output.{steps_text};
@@ -12,15 +12,14 @@ ghost use Rattle.rec_run.specs.TermRuns.{line_at};
 
 use crate::ending::{RunFault, Source};
 use crate::refusal::{Reason, Refusal};
-use crate::streams::{Stopped, put};
 use itoa::Buffer;
 use rx_term::{Term, TermBank};
-use rx_text::WriteFault;
+use rx_text::{RefusedWrite, WriteFault, put};
 use std::alloc::Global;
 use std::io::Write;
 
 /// Writes the line of a refusal.
-pub(crate) fn write_refusal<W: Write>(refusal: Refusal, out: &mut W) -> Result<(), Stopped>
+pub(crate) fn write_refusal<W: Write>(refusal: Refusal, out: &mut W) -> Result<(), RefusedWrite>
     ensures ok { OnOk result
         (Appends (W.contents out.old) (W.contents out.new) (refusal_due refusal).text) }
     ensures err { OnErr result
@@ -33,7 +32,7 @@ pub(crate) fn write_refusal<W: Write>(refusal: Refusal, out: &mut W) -> Result<(
 }
 
 /// Writes how the line of a refusal begins.
-fn write_word<W: Write>(text: Source, out: &mut W) -> Result<(), Stopped>
+fn write_word<W: Write>(text: Source, out: &mut W) -> Result<(), RefusedWrite>
     ensures ok { OnOk result (Appends (W.contents out.old) (W.contents out.new) (word_of text)) }
     ensures err { OnErr result
         (AppendsFront (word_of text) (W.contents out.old) (W.contents out.new)) }
@@ -48,7 +47,7 @@ fn write_word<W: Write>(text: Source, out: &mut W) -> Result<(), Stopped>
 }
 
 /// Writes the name of a refusal.
-fn write_name<W: Write>(reason: Reason, out: &mut W) -> Result<(), Stopped>
+fn write_name<W: Write>(reason: Reason, out: &mut W) -> Result<(), RefusedWrite>
     ensures ok { OnOk result (Appends (W.contents out.old) (W.contents out.new) (name_of reason)) }
     ensures err { OnErr result
         (AppendsFront (name_of reason) (W.contents out.old) (W.contents out.new)) }
@@ -92,7 +91,7 @@ pub(crate) fn write_line<B: TermBank, W: Write>(
 }
 
 /// Writes a text and then a number.
-pub(crate) fn put_numbered<W: Write>(out: &mut W, text: &[u8], n: u64) -> Result<(), Stopped>
+pub(crate) fn put_numbered<W: Write>(out: &mut W, text: &[u8], n: u64) -> Result<(), RefusedWrite>
     ensures ok { OnOk result
         (Appends (W.contents out.old) (W.contents out.new) (text.now ++ decimal n)) }
     ensures err { OnErr result
@@ -104,7 +103,11 @@ pub(crate) fn put_numbered<W: Write>(out: &mut W, text: &[u8], n: u64) -> Result
 }
 
 /// Writes the steps that a value took, where they are asked for.
-pub(crate) fn write_steps<W: Write>(counted: bool, steps: u64, out: &mut W) -> Result<(), Stopped>
+pub(crate) fn write_steps<W: Write>(
+    counted: bool,
+    steps: u64,
+    out: &mut W,
+) -> Result<(), RefusedWrite>
     ensures ok { OnOk result
         (Appends (W.contents out.old) (W.contents out.new) (steps_text counted steps)) }
     ensures err { OnErr result
@@ -114,5 +117,15 @@ pub(crate) fn write_steps<W: Write>(counted: bool, steps: u64, out: &mut W) -> R
         put_numbered(out, b"\t", steps)
     } else {
         Ok(())
+    }
+}
+
+/// Flushes.
+pub(crate) fn flush<W: Write>(out: &mut W) -> Result<(), RefusedWrite>
+    ensures { Keeps (W.contents out.old) (W.contents out.new) }
+{
+    match out.flush() {
+        Ok(()) => Ok(()),
+        Err(_) => Err(RefusedWrite),
     }
 }

@@ -124,10 +124,9 @@ module _ (w : Store) (t : Term) (s : Symbol) (h : HasAppl w t s) (name : List �
     pub arguments_job : IsJob w (job.Items args)
     arguments_job = is_list w args (more some.first some.rest) some.anns some.here
 
-    pub application_leaves : (r : Result (Unit {0}) WriteFault) (old between new : Option (List ℕ)) (before after : List Job) → after ≡ before ++ job.Byte 41 ∷ job.Items args ∷ [] → Appends old between (name_text name quoted) → OnOk r (Appends between new (40 ∷ []))
-        → OnOk r (Leaves w (seen [] body_text (tree_at w t)) (seen 1 body_size (tree_at w t)) old new before after)
-    application_leaves (Err e) old between new before after grown a b = tt
-    application_leaves (Ok u) old between new before after grown a b =
+    pub application_leaves : (old between new : Option (List ℕ)) (before after : List Job) → after ≡ before ++ job.Byte 41 ∷ job.Items args ∷ [] → Appends old between (name_text name quoted) → Appends between new (40 ∷ [])
+        → Leaves w (seen [] body_text (tree_at w t)) (seen 1 body_size (tree_at w t)) old new before after
+    application_leaves old between new before after grown a b =
         leaves_two w (seen [] body_text (tree_at w t)) (name_text name quoted ++ 40 ∷ []) (seen 1 body_size (tree_at w t)) old new before after (job.Byte 41) (job.Items args) grown tt arguments_job
         (application_text ∙ sym (append_assoc (name_text name quoted) (40 ∷ []) (job_text w (job.Items args) ++ job_text w (job.Byte 41)))) application_less (appends_both old between new (name_text name quoted) (40 ∷ []) a b)
 
@@ -196,10 +195,6 @@ tree_leaves (Err e) w t old new before between after grown h l = tt
 tree_leaves (Ok u) w t old new before between after grown h l =
     let p = parts_in (tree_at w t) h in
     leaves_after w (job_text w (job.Tree t)) (seen [] body_text (tree_at w t)) (job_size w (job.Tree t)) (seen 1 body_size (tree_at w t)) old new before between after (job.Notes t) grown h p.0 p.1 l
-
-pub items_leave : (r : Result (Unit {0}) WriteFault) (w : Store) (whole : List ℕ) (room : ℕ) (old : Option (List ℕ)) (before after : List Job) → OnOk r (Adds w whole room before after) → OnOk r (Leaves w whole room old old before after)
-items_leave (Err e) w whole room old before after h = tt
-items_leave (Ok u) w whole room old before after h = adds_leaves w whole room old old before after h (appends_same old)
 
 -- ---- all jobs
 

@@ -56,6 +56,11 @@ impl From<BankFault> for TextFault {
     }
 }
 
+/// The writer refused a text, or took nothing of it.
+#[derive(Clone, Copy, PartialEq, Eq, Debug, Drop, Error)]
+#[error("the text was not written")]
+pub struct RefusedWrite;
+
 /// Why a tree was not printed.
 #[derive(Clone, Copy, PartialEq, Eq, Debug, Drop, Error)]
 pub enum WriteFault {
@@ -74,5 +79,15 @@ impl<T: Drop> From<AllocFailed<T>> for WriteFault {
 
     fn from(_error: AllocFailed<T>) -> Self {
         WriteFault::Memory
+    }
+}
+
+impl From<RefusedWrite> for WriteFault {
+    ghost use Rattle.rx_text.specs.declared.faults.WriteFault.TheVariants.{Write};
+
+    ghost from_gives = { λ _ e. e ≡ Write };
+
+    fn from(_error: RefusedWrite) -> Self {
+        WriteFault::Write
     }
 }

@@ -11,7 +11,7 @@ ghost use Rattle.rx_text.specs.Written.{AppendsFront};
 ghost use Rattle.rx_text.specs.Jobs.{seen, body_text, body_size, job_text, job_size, IsJob, Adds};
 ghost use Rattle.rx_text.specs.Jobs.{Leaves};
 
-use crate::faults::WriteFault;
+use crate::faults::{RefusedWrite, WriteFault};
 use itoa::Buffer;
 use rx_term::{Kind, Symbol, Term, TermBank};
 use std::alloc::Global;
@@ -33,23 +33,22 @@ pub enum Job {
 }
 
 /// Writes all of a text, by as many writes as the writer needs.
-fn put<W: Write>(out: &mut W, text: &[u8]) -> Result<(), WriteFault>
-    ensures written { OnOk result (Appends (W.contents out.old) (W.contents out.new) (text.now)) }
-    ensures front { OnErr result
-        (AppendsFront (text.now) (W.contents out.old) (W.contents out.new)) }
+pub fn put<W: Write>(out: &mut W, text: &[u8]) -> Result<(), RefusedWrite>
+    ensures written { OnOk result (Appends (W.contents out.old) (W.contents out.new) text.now) }
+    ensures front { OnErr result (AppendsFront text.now (W.contents out.old) (W.contents out.new)) }
 {
     let mut at = 0;
     while at < text.len() {
         match out.write(&text[at..]) {
             Ok(count) if count > 0 => at += count,
-            _ => return Err(WriteFault::Write),
+            _ => return Err(RefusedWrite),
         }
     }
     Ok(())
 }
 
 /// Writes a backslash and three octal digits.
-fn put_octal<W: Write>(out: &mut W, byte: u8) -> Result<(), WriteFault>
+fn put_octal<W: Write>(out: &mut W, byte: u8) -> Result<(), RefusedWrite>
     ensures written { OnOk result
         (Appends (W.contents out.old) (W.contents out.new) (octal_text byte)) }
     ensures front { OnErr result
@@ -65,7 +64,7 @@ fn put_octal<W: Write>(out: &mut W, byte: u8) -> Result<(), WriteFault>
 }
 
 /// Writes one byte of a quoted name.
-fn put_quoted_byte<W: Write>(out: &mut W, byte: u8) -> Result<(), WriteFault>
+fn put_quoted_byte<W: Write>(out: &mut W, byte: u8) -> Result<(), RefusedWrite>
     ensures written { OnOk result
         (Appends (W.contents out.old) (W.contents out.new) (quoted_byte byte)) }
     ensures front { OnErr result
@@ -87,7 +86,7 @@ fn put_quoted_byte<W: Write>(out: &mut W, byte: u8) -> Result<(), WriteFault>
 }
 
 /// Writes a name, between quotes where it is quoted.
-fn put_name<W: Write>(out: &mut W, name: &[u8], quoted: bool) -> Result<(), WriteFault>
+fn put_name<W: Write>(out: &mut W, name: &[u8], quoted: bool) -> Result<(), RefusedWrite>
     ensures written { OnOk result
         (Appends (W.contents out.old) (W.contents out.new) (name_text name.now quoted)) }
     ensures front { OnErr result
@@ -104,7 +103,7 @@ fn put_name<W: Write>(out: &mut W, name: &[u8], quoted: bool) -> Result<(), Writ
 }
 
 /// Writes an integer.
-fn put_integer<W: Write>(out: &mut W, value: i32) -> Result<(), WriteFault>
+fn put_integer<W: Write>(out: &mut W, value: i32) -> Result<(), RefusedWrite>
     ensures written { OnOk result
         (Appends (W.contents out.old) (W.contents out.new) (signed_decimal value)) }
     ensures front { OnErr result
@@ -144,12 +143,13 @@ fn write_application<B: TermBank, W: Write>(
     if let Kind::Cons = bank.kind(args) {
         leave(jobs, Job::Byte(b')'), Job::Items(args))?;
         put_name(out, name, quoted)?;
-        put(out, b"(")
+        put(out, b"(")?;
     } else if name.is_empty() && !quoted {
-        put(out, b"()")
+        put(out, b"()")?;
     } else {
-        put_name(out, name, quoted)
+        put_name(out, name, quoted)?;
     }
+    Ok(())
 }
 
 /// Writes the front of a tree without its annotations.
@@ -167,18 +167,19 @@ fn write_body<B: TermBank, W: Write>(
         (W.contents out.old) (W.contents out.new)) }
 {
     match bank.kind(term) {
-        Kind::Int(value) => put_integer(out, value),
-        Kind::Nil => put(out, b"[]"),
+        Kind::Int(value) => put_integer(out, value)?,
+        Kind::Nil => put(out, b"[]")?,
         Kind::Cons => {
             leave(jobs, Job::Byte(b']'), Job::Items(term))?;
-            put(out, b"[")
+            put(out, b"[")?;
         }
-        Kind::Appl(symbol) => write_application(bank, term, symbol, jobs, out),
+        Kind::Appl(symbol) => write_application(bank, term, symbol, jobs, out)?,
         Kind::Hole => {
             leave(jobs, Job::Byte(b'>'), Job::Tree(bank.inner(term)))?;
-            put(out, b"<")
+            put(out, b"<")?;
         }
     }
+    Ok(())
 }
 
 /// Writes the front of a tree.
@@ -217,7 +218,8 @@ fn write_notes<B: TermBank, W: Write>(
         return Ok(());
     };
     leave(jobs, Job::Byte(b'}'), Job::Items(anns))?;
-    put(out, b"{")
+    put(out, b"{")?;
+    Ok(())
 }
 
 /// Leaves the items of a list to do.
@@ -257,10 +259,9 @@ fn write_others<B: TermBank, W: Write>(
             Job::Others(bank.tail(list)),
             Job::Tree(bank.head(list)),
         )?;
-        put(out, b",")
-    } else {
-        Ok(())
+        put(out, b",")?;
     }
+    Ok(())
 }
 
 /// Does the front of a job; the rest of it is left to do.
@@ -278,12 +279,13 @@ fn write_job<B: TermBank, W: Write>(
         (W.contents out.old) (W.contents out.new)) }
 {
     match job {
-        Job::Byte(byte) => put(out, &[byte]),
-        Job::Tree(term) => write_tree(bank, term, jobs, out),
-        Job::Notes(term) => write_notes(bank, term, jobs, out),
-        Job::Items(list) => leave_items(bank, list, jobs),
-        Job::Others(list) => write_others(bank, list, jobs, out),
+        Job::Byte(byte) => put(out, &[byte])?,
+        Job::Tree(term) => write_tree(bank, term, jobs, out)?,
+        Job::Notes(term) => write_notes(bank, term, jobs, out)?,
+        Job::Items(list) => leave_items(bank, list, jobs)?,
+        Job::Others(list) => write_others(bank, list, jobs, out)?,
     }
+    Ok(())
 }
 
 /// Prints the tree of a reference.

@@ -10,9 +10,9 @@ ghost use Rattle.rec_run.specs.TermRuns.{line_at};
 use crate::ending::RunFault;
 use crate::pattern::answer::Answer;
 use crate::refusal::Reading;
-use crate::streams::{flush, put};
-use crate::writing::{write_line, write_refusal};
+use crate::writing::{flush, write_line, write_refusal};
 use rx_term::{Term, TermBank};
+use rx_text::put;
 use std::alloc::Global;
 use std::io::Write;
 

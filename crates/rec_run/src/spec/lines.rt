@@ -30,12 +30,11 @@ ghost use Rattle.rec_run.specs.EvaluatedLines.{
 };
 
 use crate::ending::{RunFault, RunOptions};
-use crate::streams::{Stopped, put};
 use crate::writing::{put_numbered, write_steps};
 use rec_engine::{Engine, EngineFault, Options, Outcome};
 use rec_sorts::Checked;
 use rx_term::{Kind, RootsFull, Term, TermBank};
-use rx_text::WriteFault;
+use rx_text::{RefusedWrite, WriteFault, put};
 use std::alloc::Global;
 use std::io::Write;
 
@@ -89,12 +88,12 @@ impl From<WriteFault> for LineFault {
     }
 }
 
-impl From<Stopped> for LineFault {
+impl From<RefusedWrite> for LineFault {
     ghost use Rattle.rec_run.specs.declared.spec.lines.LineFault.TheVariants.{Write};
 
     ghost from_gives = { λ _ r. r ≡ Write };
 
-    fn from(_stopped: Stopped) -> LineFault {
+    fn from(_error: RefusedWrite) -> LineFault {
         LineFault::Write
     }
 }

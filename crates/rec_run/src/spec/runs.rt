@@ -26,8 +26,7 @@ use crate::ending::{Finish, Place, RunFault, RunOptions};
 use crate::refusal::Reading;
 use crate::spec::lines::write_evaluated;
 use crate::spec::reading::{Job, read_alone, read_both};
-use crate::streams::flush;
-use crate::writing::write_refusal;
+use crate::writing::{flush, write_refusal};
 use std::alloc::Global;
 use std::io::{Read, Write};
 

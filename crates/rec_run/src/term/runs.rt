@@ -19,10 +19,10 @@ ghost use Rattle.rec_run.specs.TermRuns.{
 
 use crate::ending::{Finish, Place, RunFault};
 use crate::refusal::Reading;
-use crate::streams::{Stopped, flush, put};
 use crate::term::reading::read_term;
-use crate::writing::{put_numbered, write_line, write_refusal};
+use crate::writing::{flush, put_numbered, write_line, write_refusal};
 use rx_term::{Term, TermBank};
+use rx_text::{RefusedWrite, put};
 use std::alloc::Global;
 use std::io::{Read, Write};
 
@@ -223,7 +223,7 @@ fn keep_alone<B: TermBank>(bank: &mut B, t: Term) -> u32
 }
 
 /// Writes how many cells there are, and a line end.
-fn write_cells<W: Write>(cells: u32, out: &mut W) -> Result<(), Stopped>
+fn write_cells<W: Write>(cells: u32, out: &mut W) -> Result<(), RefusedWrite>
     ensures ok { OnOk result
         (Appends (W.contents out.old) (W.contents out.new) (cells_line cells)) }
     ensures err { OnErr result

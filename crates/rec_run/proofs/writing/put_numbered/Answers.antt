@@ -6,10 +6,10 @@ use Rattle.rec_run.proofs.writing.put_numbered.Goals as goal
 
 pub returns-in_err-put-clause-err : goal.returns-in_err-put-clause-err
 returns-in_err-put-clause-err g c =
-    on_err c.from_residual.result (front_before _ _ c.args.text.now (decimal c.args.n) c.in_err-put.ensures.err)
+    on_err c.from_residual.result (front_before _ _ c.args.text.now (decimal c.args.n) c.in_err-put.ensures.front)
 
 pub returns-in_err-put-2-clause-err : goal.returns-in_err-put-2-clause-err
 returns-in_err-put-2-clause-err g c =
     on_err c.from_residual-in_err-put-2.result
-    (front_after _ _ _ c.args.text.now (decimal c.args.n) c.in_ok-put.ensures.ok
-    (subst (λ text. AppendsFront text (g.W.Write.contents c.put.new.out) (g.W.Write.contents c.put-2.new.out)) (c.as_bytes.ensures.value ∙ c.format.ensures.text) c.in_err-put-2.ensures.err))
+    (front_after _ _ _ c.args.text.now (decimal c.args.n) c.in_ok-put.ensures.written
+    (subst (λ text. AppendsFront text (g.W.Write.contents c.put.new.out) (g.W.Write.contents c.put-2.new.out)) (c.as_bytes.ensures.value ∙ c.format.ensures.text) c.in_err-put-2.ensures.front))

@@ -14,8 +14,8 @@ returns-in-Err-Write-clause-err g c =
 pub returns-in_err-put-clause-err : goal.returns-in_err-put-clause-err
 returns-in_err-put-clause-err g c =
     if_err_at c.from_residual.result _ Write c.from_residual.ensures.1
-    (end_refused (g.B.TermBank.store c.args.bank.now) c.args.t c.args.lines _ _ _ c.requires c.in-Ok.ensures.written c.in_err-put.ensures.err)
+    (end_refused (g.B.TermBank.store c.args.bank.now) c.args.t c.args.lines _ _ _ c.requires c.in-Ok.ensures.written c.in_err-put.ensures.front)
 
 pub returns-clause-ok : goal.returns-clause-ok
 returns-clause-ok g c =
-    line_written (g.B.TermBank.store c.args.bank.now) c.args.t _ _ _ c.requires c.in-Ok.ensures.written c.in_ok-put.ensures.ok
+    line_written (g.B.TermBank.store c.args.bank.now) c.args.t _ _ _ c.requires c.in-Ok.ensures.written c.in_ok-put.ensures.written

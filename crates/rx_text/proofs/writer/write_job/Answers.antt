@@ -1,10 +1,12 @@
 use Rattle.rx_text.specs.Jobs.{job_text, job_size}
 use Rattle.rx_text.specs.declared.writer.Job.TheVariants as job
-use Rattle.rx_text.proofs.Leaving.{items_leave}
+use Rattle.rx_text.proofs.Appending.{appends_same}
+use Rattle.rx_text.proofs.Leaving.{adds_leaves}
 use Rattle.rx_text.proofs.writer.write_job.Goals as goal
 
-pub returns-in-Items-clause-written : goal.returns-in-Items-clause-written
-returns-in-Items-clause-written g c =
+pub returns-in_ok-leave_items-in-Items-clause-written : goal.returns-in_ok-leave_items-in-Items-clause-written
+returns-in_ok-leave_items-in-Items-clause-written g c =
     let w = g.B.TermBank.store c.args.bank.now in
     let j = job.Items c.in-Items.list in
-    rw c.in-Items.is (items_leave c.leave_items.result w (job_text w j) (job_size w j) (g.W.Write.contents c.args.out.now) c.args.jobs.now.items c.leave_items.new.jobs.items c.leave_items.ensures)
+    let old = g.W.Write.contents c.args.out.now in
+    rw c.in-Items.is (adds_leaves w (job_text w j) (job_size w j) old old c.args.jobs.now.items c.leave_items.new.jobs.items c.in_ok-leave_items-in-Items.ensures (appends_same old))

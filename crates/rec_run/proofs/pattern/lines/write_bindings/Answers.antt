@@ -9,7 +9,7 @@ pub returns-in_err-put-clause-err : goal.returns-in_err-put-clause-err
 returns-in_err-put-clause-err g c =
     let w = g.B.TermBank.store c.args.bank.now in
     if_err_at c.from_residual.result _ Write c.from_residual.ensures.1
-    (stops_before Write (codes "yes\n") (flat_map (line_at w) c.args.bindings.now) _ _ (stops_first Write (codes "yes\n") _ _ (stops_write 0 (codes "yes\n") _ _ c.in_err-put.ensures.err)))
+    (stops_before Write (codes "yes\n") (flat_map (line_at w) c.args.bindings.now) _ _ (stops_first Write (codes "yes\n") _ _ (stops_write 0 (codes "yes\n") _ _ c.in_err-put.ensures.front)))
 
 pub write_line-requires : goal.write_line-requires
 write_line-requires g c = held_one (g.B.TermBank.store c.args.bank.now) c.args.bindings.now c.loop-i.i _ c.requires c.loop-i-test.true

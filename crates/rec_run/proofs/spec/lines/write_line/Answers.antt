@@ -32,7 +32,7 @@ returns-in_err-put-clause-err g c =
     ∙ answered-line y c.normalise.new.self.spec (g.B.TermBank.store c.args.engine.now.bank) (g.B.TermBank.store c.normalise.new.self.bank) c.args.options.count n c.args.t c.in_ok-outcome.outcome c.requires c.in_ok-outcome.ensures.same.spec c.in_ok-outcome.ensures.outcome in
     if_err_at c.from_residual-in_err-put.result _ Write c.from_residual-in_err-put.ensures.1
     (front_after _ _ _ text (codes "\n")
-    (subst (λ t. Appends (g.W.Write.contents c.args.out.now) (g.W.Write.contents c.write_outcome.new.out) t) e c.in_ok-write_outcome.ensures.ok) c.in_err-put.ensures.err)
+    (subst (λ t. Appends (g.W.Write.contents c.args.out.now) (g.W.Write.contents c.write_outcome.new.out) t) e c.in_ok-write_outcome.ensures.ok) c.in_err-put.ensures.front)
 
 pub returns-clause-ok : goal.returns-clause-ok
 returns-clause-ok g c =
@@ -43,4 +43,4 @@ returns-clause-ok g c =
     ap (λ b. outcome_text (g.B.TermBank.store b) c.args.options.count n c.in_ok-outcome.outcome) c.bank.ensures
     ∙ answered-line y c.normalise.new.self.spec (g.B.TermBank.store c.args.engine.now.bank) (g.B.TermBank.store c.normalise.new.self.bank) c.args.options.count n c.args.t c.in_ok-outcome.outcome c.requires c.in_ok-outcome.ensures.same.spec c.in_ok-outcome.ensures.outcome in
     appends_both _ _ _ text (codes "\n")
-    (subst (λ t. Appends (g.W.Write.contents c.args.out.now) (g.W.Write.contents c.write_outcome.new.out) t) e c.in_ok-write_outcome.ensures.ok) c.in_ok-put.ensures.ok
+    (subst (λ t. Appends (g.W.Write.contents c.args.out.now) (g.W.Write.contents c.write_outcome.new.out) t) e c.in_ok-write_outcome.ensures.ok) c.in_ok-put.ensures.written

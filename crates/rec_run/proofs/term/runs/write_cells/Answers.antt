@@ -16,4 +16,4 @@ returns-in_err-put-clause-err g c =
     on_err c.from_residual-in_err-put.result
     (front_after _ _ _ (codes "cells " ++ decimal c.args.cells) (codes "\n")
     (subst (λ n. Appends (g.W.Write.contents c.args.out.now) (g.W.Write.contents c.put_numbered.new.out) (codes "cells " ++ decimal n)) c.from.ensures c.in_ok-put_numbered.ensures.ok)
-    c.in_err-put.ensures.err)
+    c.in_err-put.ensures.front)
