@@ -6,7 +6,7 @@ ghost use Rattle.rx_arena.specs.Put.{times};
 ghost use Rattle.rx_sweep.specs.Reach.{CanCollect, names};
 
 use crate::CELLS;
-use crate::told::{begin, count, say, tell};
+use crate::report::{begin, count, say, tell};
 use anyhow::Result;
 use rx_arena::arena::Arena;
 use rx_arena::{ArenaFault, CellBody, Slot};

@@ -1,7 +1,7 @@
 //! Makes of a bank, of which each growth may be refused; and its calls that ask for no memory.
 
 use crate::CELLS;
-use crate::told::{begin, count, say, show, tell};
+use crate::report::{begin, count, say, show, tell};
 use anyhow::{Result, bail};
 use rx_plain::PlainBank;
 use rx_shared::SharedBank;

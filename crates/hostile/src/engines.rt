@@ -5,8 +5,8 @@
 ghost use Rattle.std.specs.Prelude.{IfOk};
 ghost use Rattle.rec_engine.specs.Engine.{IsGiven};
 
+use crate::report::{begin, count, say, show, tell};
 use crate::specifications::checked;
-use crate::told::{begin, count, say, show, tell};
 use anyhow::{Result, bail};
 use rec_engine::{Engine, Options, Outcome};
 use rec_memo::Memo;

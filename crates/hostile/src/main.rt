@@ -6,9 +6,9 @@ mod arenas;
 mod banks;
 mod engines;
 mod patterns;
+mod report;
 mod specifications;
 mod texts;
-mod told;
 
 use crate::banks::Call;
 use crate::engines::Asked;

@@ -1,6 +1,6 @@
 //! Patterns over a bank.
 
-use crate::told::{begin, say, show, tell};
+use crate::report::{begin, say, show, tell};
 use anyhow::{Result, bail};
 use rx_pattern::Pattern;
 use rx_term::{Term, TermBank};

@@ -8,7 +8,7 @@ ghost use Rattle.rec_sorts.specs.Lookup.{symbols};
 ghost use Rattle.rec_match.specs.Next.{AreReady};
 
 use crate::banks::{Call, compare, content, set_up, show_roots};
-use crate::told::{begin, count, say, tell};
+use crate::report::{begin, count, say, tell};
 use anyhow::{Result, bail};
 use rec_match::Matcher;
 use rec_sorts::{Checked, Links, check, check_terms};

@@ -1,6 +1,6 @@
 //! Texts of annotated terms.
 
-use crate::told::{begin, count, say, show, tell};
+use crate::report::{begin, count, say, show, tell};
 use anyhow::{Result, bail};
 use rx_term::{Term, TermBank};
 use rx_text::{read, write};

@@ -2,10 +2,11 @@
 #![tactic(auto)]
 
 mod command;
+mod evidence;
 mod expected;
 mod explain;
+mod input;
 mod item;
-mod opened;
 mod program;
 mod recorded;
 mod refusals;
@@ -15,7 +16,6 @@ mod request;
 mod shelf;
 #[cfg(test)]
 mod tests;
-mod told;
 
 use program::program;
 use std::alloc::Global;

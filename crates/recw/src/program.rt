@@ -1,9 +1,9 @@
 //! Does what the words ask.
 
-use crate::opened::{open, open_given};
+use crate::evidence::{Evidence, name_of};
+use crate::input::{open, open_given};
 use crate::recorded::{Recorded, Watched};
-use crate::request::{Asked, Request, read_words};
-use crate::told::{Told, name_of};
+use crate::request::{Invocation, Request, read_words};
 use crate::{refusals, report};
 use clap::error::ErrorKind;
 use rec_run::{
@@ -43,12 +43,12 @@ fn obey<H: Files, R: Read, W: Write, E: Write>(
     err: &mut E,
 ) -> u8 {
     match read_words(alloc, words) {
-        Ok(asked) => {
-            let mut told = Told::new(alloc);
-            let end = perform(rt, alloc, asked, input, out, &mut told);
-            let status = report::ended(end, told.place, err);
-            if asked.explain {
-                let _ = told.explain(alloc, asked.request, end, err);
+        Ok(invocation) => {
+            let mut evidence = Evidence::new(alloc);
+            let end = perform(rt, alloc, invocation, input, out, &mut evidence);
+            let status = report::ended(end, evidence.place, err);
+            if invocation.explain {
+                let _ = evidence.explain(alloc, invocation.request, end, err);
             }
             status
         }
@@ -66,14 +66,14 @@ fn obey<H: Files, R: Read, W: Write, E: Write>(
 fn perform<'a, H: Files, R: Read, W: Write>(
     rt: &H,
     alloc: Global,
-    asked: Asked<'a>,
+    invocation: Invocation<'a>,
     input: &mut R,
     out: &mut W,
-    told: &mut Told<'a>,
+    evidence: &mut Evidence<'a>,
 ) -> Result<Finish, RunFault> {
     let mut out = Watched::new(alloc, out);
-    let end = perform_over(rt, alloc, asked, input, &mut out, told);
-    told.line = out.finish();
+    let end = perform_over(rt, alloc, invocation, input, &mut out, evidence);
+    evidence.line = out.finish();
     end
 }
 
@@ -81,35 +81,35 @@ fn perform<'a, H: Files, R: Read, W: Write>(
 fn perform_over<'a, H: Files, R: Read, W: Write>(
     rt: &H,
     alloc: Global,
-    asked: Asked<'a>,
+    invocation: Invocation<'a>,
     input: &mut R,
     out: &mut W,
-    told: &mut Told<'a>,
+    evidence: &mut Evidence<'a>,
 ) -> Result<Finish, RunFault> {
-    let request = asked.request;
+    let request = invocation.request;
     match request {
         Request::Eval {
             options,
             spec,
             terms,
         } => {
-            let spec = told.opened(open(rt, spec, input), name_of(request, Source::Spec))?;
-            let terms = told.opened(open_given(rt, terms), name_of(request, Source::Terms))?;
-            evaluate(alloc, asked, options, spec, terms, out, told)
+            let spec = evidence.note_open(open(rt, spec, input), name_of(request, Source::Spec))?;
+            let terms = evidence.note_open(open_given(rt, terms), name_of(request, Source::Terms))?;
+            evaluate(alloc, invocation, options, spec, terms, out, evidence)
         }
         Request::Make { pattern, args } => run_make_at(
             alloc,
             pattern.as_bytes(),
             args.as_bytes(),
             out,
-            &mut told.place,
+            &mut evidence.place,
         ),
         Request::Aterm { file } | Request::Share { file } | Request::Match { file, .. } => {
             let name = name_of(request, Source::Term);
-            let file = told.opened(open(rt, file, input), name)?;
-            let mut term = Recorded::new(alloc, file, asked.explain);
-            let end = run_on_term(alloc, request, &mut term, out, &mut told.place);
-            told.first = told.read(term.finish(), name);
+            let file = evidence.note_open(open(rt, file, input), name)?;
+            let mut term = Recorded::new(alloc, file, invocation.explain);
+            let end = run_on_term(alloc, request, &mut term, out, &mut evidence.place);
+            evidence.first = evidence.note_read(term.finish(), name);
             end
         }
     }
@@ -118,14 +118,14 @@ fn perform_over<'a, H: Files, R: Read, W: Write>(
 /// Evaluates a specification and given terms, and keeps their texts for an explanation.
 fn evaluate<'a, R: Read + Drop, T: Read + Drop, W: Write>(
     alloc: Global,
-    asked: Asked<'a>,
+    invocation: Invocation<'a>,
     options: RunOptions,
     spec: R,
     terms: Option<T>,
     out: &mut W,
-    told: &mut Told<'a>,
+    evidence: &mut Evidence<'a>,
 ) -> Result<Finish, RunFault> {
-    let Asked { request, explain } = asked;
+    let Invocation { request, explain } = invocation;
     let mut spec = Recorded::new(alloc, spec, explain);
     let mut terms = match terms {
         Some(file) => Some(Recorded::new(alloc, file, explain)),
@@ -137,11 +137,11 @@ fn evaluate<'a, R: Read + Drop, T: Read + Drop, W: Write>(
         terms.as_mut(),
         out,
         options,
-        &mut told.place,
+        &mut evidence.place,
     );
-    told.first = told.read(spec.finish(), name_of(request, Source::Spec));
+    evidence.first = evidence.note_read(spec.finish(), name_of(request, Source::Spec));
     if let Some(terms) = terms {
-        told.second = told.read(terms.finish(), name_of(request, Source::Terms));
+        evidence.second = evidence.note_read(terms.finish(), name_of(request, Source::Terms));
     }
     end
 }

@@ -38,25 +38,25 @@ pub enum Request<'a> {
 
 /// What is asked for, and whether a refusal is to be explained.
 #[derive(Clone, Copy, Debug)]
-pub struct Asked<'a> {
+pub struct Invocation<'a> {
     pub request: Request<'a>,
     pub explain: bool,
 }
 
 /// What the words after the program's name ask for.
-pub fn read_words<'a>(alloc: Global, words: &'a [&str]) -> Result<Asked<'a>, Error> {
+pub fn read_words<'a>(alloc: Global, words: &'a [&str]) -> Result<Invocation<'a>, Error> {
     let mut command = command::command(alloc)?;
     let matches = command.try_get_matches_from_mut(words)?;
-    match asked_of(&matches) {
-        Some(asked) => Ok(asked),
+    match invocation_of(&matches) {
+        Some(invocation) => Ok(invocation),
         None => Err(command.error(ErrorKind::MissingSubcommand, "a subcommand is missing")?),
     }
 }
 
 /// `None` where a word is missing, which the command rules out.
-fn asked_of<'a>(matches: &ArgMatches<'a>) -> Option<Asked<'a>> {
+fn invocation_of<'a>(matches: &ArgMatches<'a>) -> Option<Invocation<'a>> {
     let (name, inner) = matches.subcommand()?;
-    Some(Asked {
+    Some(Invocation {
         request: request_of(name, inner)?,
         explain: inner.get_flag("explain"),
     })

@@ -1,4 +1,4 @@
-//! What a run leaves to be told.
+//! What a run leaves for its explanation.
 
 use crate::explain::{explain_place, explain_text};
 use crate::item::{Item, item_of_args, item_of_terms};
@@ -9,14 +9,14 @@ use std::io;
 use std::io::{ErrorKind, Write};
 
 /// What a refusal's line is made of.
-struct Refused<'a> {
+struct RefusalLine<'a> {
     source: Source,
     rule: &'a str,
 }
 
 /// What a run leaves: the texts that it read, and what came of them.
 #[derive(Drop)]
-pub struct Told<'a> {
+pub struct Evidence<'a> {
     /// Where the text was refused.
     pub place: Option<Place>,
     /// The text of the specification, or of the term.
@@ -29,10 +29,10 @@ pub struct Told<'a> {
     pub trouble: Option<(&'a str, ErrorKind)>,
 }
 
-impl<'a> Told<'a> {
+impl<'a> Evidence<'a> {
     /// Nothing so far.
-    pub fn new(alloc: Global) -> Told<'a> {
-        Told {
+    pub fn new(alloc: Global) -> Evidence<'a> {
+        Evidence {
             place: None,
             first: Vec::new(alloc),
             second: Vec::new(alloc),
@@ -42,8 +42,8 @@ impl<'a> Told<'a> {
     }
 
     /// What was opened under this name. Where it could not be, that is kept, with the reason.
-    pub fn opened<T>(&mut self, opened: io::Result<T>, name: &'a str) -> Result<T, RunFault> {
-        match opened {
+    pub fn note_open<T>(&mut self, opening: io::Result<T>, name: &'a str) -> Result<T, RunFault> {
+        match opening {
             Ok(file) => Ok(file),
             Err(error) => {
                 self.trouble = Some((name, error.kind()));
@@ -53,7 +53,7 @@ impl<'a> Told<'a> {
     }
 
     /// The text that was read under this name. Where a read failed, that is what could not be read.
-    pub fn read(&mut self, end: (Vec<u8>, Option<ErrorKind>), name: &'a str) -> Vec<u8> {
+    pub fn note_read(&mut self, end: (Vec<u8>, Option<ErrorKind>), name: &'a str) -> Vec<u8> {
         let (text, trouble) = end;
         if let Some(kind) = trouble {
             self.trouble = Some((name, kind));
@@ -84,7 +84,7 @@ impl<'a> Told<'a> {
         request: Request<'_>,
         out: &mut W,
     ) -> io::Result<()> {
-        let Some(Refused { source, rule }) = read_line(self.line.as_slice()) else {
+        let Some(RefusalLine { source, rule }) = read_line(self.line.as_slice()) else {
             return Ok(());
         };
         let name = name_of(request, source);
@@ -132,7 +132,7 @@ impl<'a> Told<'a> {
 }
 
 /// The refusal that a line like `!spec S5` tells.
-fn read_line(line: &[u8]) -> Option<Refused<'_>> {
+fn read_line(line: &[u8]) -> Option<RefusalLine<'_>> {
     let line = str::from_utf8(line).ok()?;
     let (text, rule) = line.strip_prefix('!')?.trim_end().split_once(' ')?;
     let source = match text {
@@ -143,7 +143,7 @@ fn read_line(line: &[u8]) -> Option<Refused<'_>> {
         "args" => Source::Args,
         _ => return None,
     };
-    Some(Refused { source, rule })
+    Some(RefusalLine { source, rule })
 }
 
 /// What the text is called where it is read.

@@ -6,16 +6,16 @@ use std::rt::Files;
 
 /// The standard input, or a file.
 #[derive(Drop)]
-pub enum Opened<'a, R, F> {
-    Input(&'a mut R),
+pub enum Input<'a, R, F> {
+    Standard(&'a mut R),
     File(F),
 }
 
-impl<R: Read, F: Read> Read for Opened<'_, R, F> {
+impl<R: Read, F: Read> Read for Input<'_, R, F> {
     fn read(&mut self, buf: &mut [u8]) -> io::Result<usize> {
         match self {
-            Opened::Input(input) => input.read(buf),
-            Opened::File(file) => file.read(buf),
+            Input::Standard(input) => input.read(buf),
+            Input::File(file) => file.read(buf),
         }
     }
 }
@@ -25,10 +25,10 @@ pub fn open<'a, H: Files, R: Read>(
     rt: &H,
     path: Option<&str>,
     input: &'a mut R,
-) -> io::Result<Opened<'a, R, H::File>> {
+) -> io::Result<Input<'a, R, H::File>> {
     match path {
-        None => Ok(Opened::Input(input)),
-        Some(path) => Ok(Opened::File(File::open(rt, path)?)),
+        None => Ok(Input::Standard(input)),
+        Some(path) => Ok(Input::File(File::open(rt, path)?)),
     }
 }
 
