@@ -1,7 +1,10 @@
 -- What may stand at the place of a fault is what the machine takes there.
-use Rattle.std.proofs.Common.{◌≡◌, ◌↔◌, ℕ, Bool, true, false, List, [], ◌∷◌, ◌++◌, Option, Some, None, is_some, refl, sym, ap, subst, ◌∙◌, append_assoc, drop, length, reverse, arith, ◌⊎◌, inl, inr}
+use Rattle.std.proofs.Common.{◌≡◌, ◌↔◌, ℕ, Bool, true, false, List, [], ◌∷◌, ◌++◌, Option, Some, None, is_some, refl, sym, ap, subst, ◌∙◌, append_assoc, drop, length, reverse, arith, Contains, not, ◌⊎◌, inl, inr}
 use Rattle.std.proofs.lemmas.List.{append-nil, length-reverse}
-use Rattle.std.proofs.lemmas.Bool.{eqb-false}
+use Rattle.std.specs.List.{filter}
+use Rattle.std.proofs.lemmas.Bool.{eqb-false, not-true}
+use Rattle.std.proofs.lemmas.List.Elements.{All-contains, Contains-append_cases, filter_passes}
+use Rattle.std.proofs.lemmas.List.Sorted.{Contains-permutation, IsPermutation-filter_both}
 use Rattle.std.specs.Prelude.{◌==◌}
 use Rattle.rec_syntax.specs.Tokens as tokens
 use Rattle.rec_syntax.specs.Tokens.{Word, Token, Placed, placed_tokens, bare}
@@ -16,7 +19,6 @@ use Rattle.rec_syntax.specs.declared.lexer.Part.TheVariants.{Sorts, Cons, Opns, 
 use Rattle.rec_syntax.specs.Expected.{IsOf, MayStand, sample, is_taken}
 use Rattle.rec_syntax.specs.declared.token_kind.TokenKind.{TokenKind}
 use Rattle.rec_syntax.specs.declared.token_kind.TokenKind.TheVariants.{PlainWord, RecSpec, Section, EndSpec, If, AndIf, Colon, Open, Close, Comma, Arrow, Equal, Unequal, End}
-use Rattle.rec_syntax.proofs.Kept.{Stands}
 use Rattle.rec_syntax.proofs.Answering.{placed}
 use Rattle.rec_syntax.proofs.Deciding.{Over, step_over}
 use Rattle.rec_syntax.proofs.Places.{bare-append, same_before, not_both}
@@ -227,7 +229,7 @@ is_going_on k (inr e) = rw e refl
 abbrev pub all_kinds : List TokenKind
 all_kinds = PlainWord ∷ RecSpec ∷ Section Sorts ∷ Section Cons ∷ Section Opns ∷ Section Vars ∷ Section Rules ∷ Section Eval ∷ EndSpec ∷ If ∷ AndIf ∷ Colon ∷ Open ∷ Close ∷ Comma ∷ Arrow ∷ Equal ∷ Unequal ∷ End ∷ []
 
-pub listed : (k : TokenKind) → Stands all_kinds PlainWord 19 k
+listed : (k : TokenKind) → Contains all_kinds k
 listed PlainWord = (0, omega arith, refl)
 listed RecSpec = (1, omega arith, refl)
 listed (Section Sorts) = (2, omega arith, refl)
@@ -247,3 +249,16 @@ listed Arrow = (15, omega arith, refl)
 listed Equal = (16, omega arith, refl)
 listed Unequal = (17, omega arith, refl)
 listed End = (18, omega arith, refl)
+
+-- of all kinds those are kept that pass
+pub kinds_passing : (p : TokenKind → Bool) (k : TokenKind) → Contains (filter p all_kinds) k ↔ (p k ≡ true)
+kinds_passing p k = (
+  All-contains (λ x. p x ≡ true) (filter p all_kinds) k (filter_passes p all_kinds),
+  λ e. elim (Contains-append_cases (filter p all_kinds) (filter q all_kinds) k (Contains-permutation all_kinds _ k (IsPermutation-filter_both p q (λ x. refl) all_kinds) (listed k))) [
+    | inl c ↦ c
+    | inr c ↦ let fails = not-true (p k) (All-contains (λ x. q x ≡ true) (filter q all_kinds) k (filter_passes q all_kinds) c) in absurd (cc (fails, e))
+  ],
+)
+  where
+    q : TokenKind → Bool
+    q x = not (p x)

@@ -1,6 +1,10 @@
 -- What may stand at the place of a fault is what the machine takes there.
-use Rattle.std.proofs.Common.{◌≡◌, ◌↔◌, ℕ, ℤ, pos, Bool, true, false, List, [], ◌∷◌, ◌++◌, map, reverse, length, Option, Some, None, is_some, refl, sym, ap, ◌∙◌, append_assoc, ◌<◌, ◌-◌, get_or, arith}
+use Rattle.std.proofs.Common.{◌≡◌, ◌↔◌, ℕ, ℤ, pos, Bool, true, false, List, [], ◌∷◌, ◌++◌, map, reverse, length, Option, Some, None, is_some, refl, sym, ap, ◌∙◌, append_assoc, ◌<◌, ◌-◌, get_or, Contains, not, inl, inr, arith}
 use Rattle.std.proofs.lemmas.List.{append-nil, map-append, length-reverse, get_or-reverse}
+use Rattle.std.specs.List.{filter}
+use Rattle.std.proofs.lemmas.Bool.{not-true}
+use Rattle.std.proofs.lemmas.List.Elements.{All-contains, Contains-append_cases, filter_passes}
+use Rattle.std.proofs.lemmas.List.Sorted.{Contains-permutation, IsPermutation-filter_both}
 use Rattle.rx_term.specs.Tree.{Tree, none, Appl, annotated}
 use Rattle.rx_text.specs.Token as tokens
 use Rattle.rx_text.specs.Token.{Token, kinds}
@@ -15,7 +19,6 @@ use Rattle.rx_text.specs.declared.reader.Opening.{Opening}
 use Rattle.rx_text.specs.declared.reader.Opening.TheVariants as opening
 use Rattle.rx_text.proofs.Deciding.{step_ended, some_same}
 use Rattle.rx_text.proofs.FaultLemmas.{not_both}
-use Rattle.rx_text.proofs.Kept.{Stands}
 use Rattle.rx_text.proofs.Machine.{begins_run, run_begins, read_spelled}
 use Rattle.rx_text.proofs.Places.{same_before}
 
@@ -193,7 +196,7 @@ none_since (Some s) h = absurd (cc h)
 abbrev pub all_kinds : List TokenKind
 all_kinds = Integer ∷ Name ∷ Open ∷ Close ∷ OpenBracket ∷ CloseBracket ∷ OpenBrace ∷ CloseBrace ∷ Less ∷ Greater ∷ Comma ∷ End ∷ []
 
-pub listed : (k : TokenKind) → Stands all_kinds Integer 12 k
+listed : (k : TokenKind) → Contains all_kinds k
 listed Integer = (0, omega arith, refl)
 listed Name = (1, omega arith, refl)
 listed Open = (2, omega arith, refl)
@@ -206,6 +209,19 @@ listed Less = (8, omega arith, refl)
 listed Greater = (9, omega arith, refl)
 listed Comma = (10, omega arith, refl)
 listed End = (11, omega arith, refl)
+
+-- of all kinds those are kept that pass
+pub kinds_passing : (p : TokenKind → Bool) (k : TokenKind) → Contains (filter p all_kinds) k ↔ (p k ≡ true)
+kinds_passing p k = (
+  All-contains (λ x. p x ≡ true) (filter p all_kinds) k (filter_passes p all_kinds),
+  λ e. elim (Contains-append_cases (filter p all_kinds) (filter q all_kinds) k (Contains-permutation all_kinds _ k (IsPermutation-filter_both p q (λ x. refl) all_kinds) (listed k))) [
+    | inl c ↦ c
+    | inr c ↦ let fails = not-true (p k) (All-contains (λ x. q x ≡ true) (filter q all_kinds) k (filter_passes q all_kinds) c) in absurd (cc (fails, e))
+  ],
+)
+  where
+    q : TokenKind → Bool
+    q x = not (p x)
 
 head_is : {X : Type 0} → (ys : List X) (y : X) → 0 < length ys → get_or ys 0 y ≡ y → (rest : List X) × (ys ≡ y ∷ rest)
 head_is [] y h e = absurd (omega (arith, h))
