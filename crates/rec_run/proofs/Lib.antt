@@ -5,6 +5,7 @@ mod LineEnds
 mod LineFronts
 mod SpecLines
 mod WholeRuns
+mod ReadDue
 mod GivenDue
 mod GivenLemmas
 mod GivenLists

@@ -7,27 +7,23 @@ use Rattle.rx_text.specs.Verdict.{Verdict, TooLong, Outside, Spelt, IsVerdict}
 use Rattle.rx_text.proofs.Verdicts.{one_verdict}
 use Rattle.rx_pattern.specs.Pattern.{unfit}
 use Rattle.rec_run.specs.Output.{Due, done}
-use Rattle.rec_run.specs.Refusals.{finish_of, place_of, refusal_due, refused_text}
+use Rattle.rec_run.specs.Refusals.{refusal_due, refused_text}
 use Rattle.rec_run.specs.TermRuns.{IsReadingOf}
 use Rattle.rec_run.specs.PatternRuns.{IsDueOfBoth, OneDueOfBoth, SpellsPattern, due_of_pattern, unless_unfit, due_of_args}
-use Rattle.rec_run.specs.PatternAnswers.{IsPatternOf, IsPatternRead, answer_due}
+use Rattle.rec_run.specs.PatternAnswers.{IsPatternOf, IsPatternRead}
 use Rattle.rec_run.specs.declared.ending.Finish.TheVariants as finish
 use Rattle.rec_run.specs.declared.ending.Source.{Source}
 use Rattle.rec_run.specs.declared.ending.Source.TheVariants as source
-use Rattle.rec_run.specs.declared.pattern.answer.Answer.{Answer}
 use Rattle.rec_run.specs.declared.refusal.Reading.{Reading}
 use Rattle.rec_run.specs.declared.refusal.Reading.TheVariants.{Refused, Good}
 use Rattle.rec_run.specs.declared.refusal.Refusal.{Refusal}
+use Rattle.rec_run.proofs.TermsDue.{same_verdict}
 use Rattle.rec_run.proofs.WholeRuns.{same_refusal}
 
 -- of what a call gives
 pub if_ok_map : {X E : Type 0} (r : Result X E) (P Q : X → Type 0) → ((x : X) → P x → Q x) → IfOk r P → IfOk r Q
 if_ok_map (Ok x) P Q f h = f x h
 if_ok_map (Err e) P Q f h = tt
-
--- a text has one verdict at most
-pub same_verdict : (bytes : List ℕ) (v w : Verdict) → IsVerdict bytes v → IsVerdict bytes w → v ≡ w
-same_verdict bytes v w h k = let one = one_verdict bytes in one.2 v h ∙ sym (one.2 w k)
 
 module _ (due : Verdict → Verdict → Due) where
   pub same_due : (first second : List ℕ) (d e : Due) → IsDueOfBoth due first second d → IsDueOfBoth due first second e → d ≡ e
@@ -99,12 +95,3 @@ no_pattern text r (v, (is, due)) p spelt =
     let fit : unless_unfit None (done []) ≡ refusal_due r = subst (λ z. unless_unfit z (done []) ≡ refusal_due r) spelt.fit none in
     let ends : finish.Done ≡ finish.Refused = ap (λ (d : Due). d.finish) fit in
     cc
-
--- how a run ends, and the place of a refusal
-pub finish-answer_due : (w : Store) (r : Reading Answer) → (answer_due w r).finish ≡ finish_of r
-finish-answer_due w (Refused r) = refl
-finish-answer_due w (Good a) = refl
-
-pub place-answer_due : (w : Store) (r : Reading Answer) → (answer_due w r).place ≡ place_of r
-place-answer_due w (Refused r) = refl
-place-answer_due w (Good a) = refl

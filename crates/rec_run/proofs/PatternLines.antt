@@ -3,7 +3,7 @@ use Rattle.std.proofs.Common.{◌≡◌, ℕ, zero, suc, ◌+◌, ◌<◌, List,
 use Rattle.std.specs.Prelude.{codes, flat_map}
 use Rattle.std.proofs.lemmas.List.{take_more, length-take}
 use Rattle.std.proofs.lemmas.List.Concat.{flat_map-append}
-use Rattle.std.specs.Io.KnownBytes.{Appends, Keeps}
+use Rattle.std.specs.Io.KnownBytes.{Appends}
 use Rattle.rx_term.specs.Tree.{Tree}
 use Rattle.rx_term.specs.Steps.{IsSound}
 use Rattle.rx_term.specs.Store.{Store, tree_at}
@@ -21,7 +21,7 @@ use Rattle.rec_run.specs.PatternRuns.{match_lines}
 use Rattle.rec_run.specs.PatternAnswers.{StopsAfter}
 use Rattle.rec_run.specs.declared.ending.RunFault.{RunFault}
 use Rattle.rec_run.specs.declared.ending.RunFault.TheVariants as fault
-use Rattle.rx_text.proofs.Appending.{appends_both, appends_none, front_after}
+use Rattle.rx_text.proofs.Appending.{appends_both, appends_same, front_after}
 use Rattle.rec_run.proofs.LineEnds.{newlines-append}
 use Rattle.rec_run.proofs.TermsDue.{no_ends, no_ends_front}
 
@@ -127,23 +127,9 @@ line_written w t old mid new held h k = by (tree_at w t) refl held h
     by None e i a = absurd (cc i)
     by (Some u) e i a = rw e (appends_both old mid new (canon u) (codes "\n") a k)
 
-kept : (o : Option (List ℕ)) → Keeps o o
-kept None = tt
-kept (Some a) = refl
-
 -- a fault after no line
 pub stops_first : (f : RunFault) (text : List ℕ) (old new : Option (List ℕ)) → StopsAfter 0 f text old new → Stops f text old new
-stops_first f text old new s = s [] old refl (appends_none old old (kept old))
-
--- the writer refused the flush
-pub flush_refused : (text : List ℕ) (old mid new : Option (List ℕ)) → Appends old mid text → Keeps mid new → Stops fault.Write text old new
-flush_refused text old mid new a k =
-    record {
-      written = text ++ [];
-      appended = appends_both old mid new text [] a (appends_none mid new k);
-      front = ([], sym (append-nil (text ++ []) ∙ append-nil text));
-      reported = tt;
-    }
+stops_first f text old new s = s [] old refl (appends_same old)
 
 -- a fault within the first of two texts
 pub stops_before : (f : RunFault) (text more : List ℕ) (old new : Option (List ℕ)) → Stops f text old new → Stops f (text ++ more) old new

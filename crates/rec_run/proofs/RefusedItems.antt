@@ -24,7 +24,7 @@ use Rattle.rec_run.specs.declared.refusal.Refusal.{Refusal}
 use Rattle.rec_run.specs.declared.refused_items.Misfit.{Misfit}
 use Rattle.rec_run.specs.declared.refused_items.Misfit.TheVariants.{Count, Kind}
 use Rattle.rec_run.proofs.OneDue.{one_verdict}
-use Rattle.rec_run.proofs.PatternDue.{same_verdict}
+use Rattle.rec_run.proofs.TermsDue.{same_verdict}
 
 -- ---- a specification
 

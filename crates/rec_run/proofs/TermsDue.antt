@@ -12,8 +12,8 @@ use Rattle.rx_text.specs.Verdict.{Verdict, TooLong, Outside, Spelt, IsVerdict}
 use Rattle.rx_text.proofs.Verdicts.{one_verdict}
 use Rattle.rec_run.specs.Bytes.{newlines}
 use Rattle.rec_run.specs.Output.{Due, done}
-use Rattle.rec_run.specs.Refusals.{finish_of, place_of, refusal_due, refused_text}
-use Rattle.rec_run.specs.TermRuns.{IsGiven, IsReadingOf, IsShareDue, IsTermDue, IsTermHeld, cells_line, due_of, line_at, share_due, share_lines, share_lines_at, term_due, term_line}
+use Rattle.rec_run.specs.Refusals.{refusal_due, refused_text}
+use Rattle.rec_run.specs.TermRuns.{IsDueOf, IsGiven, IsReadingOf, IsTermHeld, cells_line, due_at, due_of, line_at, share_lines_at, term_line}
 use Rattle.rec_run.specs.declared.ending.Source.TheVariants as source
 use Rattle.rec_run.specs.declared.refusal.Reading.{Reading}
 use Rattle.rec_run.specs.declared.refusal.Reading.TheVariants.{Refused, Good}
@@ -44,52 +44,25 @@ refused_due lines r (Outside at) e = ap refusal_due (same_refusal e)
 refused_due lines r (Spelt t) e = absurd (cc e)
 
 -- what is due for what a text came to is so after the verdict on it
-term_due_of : (w : Store) (r : Reading Term) (v : Verdict) → IsReadingOf source.Term w r v → term_due w r ≡ due_of term_line v
-term_due_of w (Refused r) v e = refused_due term_line r v e
-term_due_of w (Good t) v (u, here, e) = ap (λ o. done (option_map_or term_line o [])) here ∙ sym (ap (due_of term_line) e)
+due_after : (lines : Tree → List ℕ) (w : Store) (r : Reading Term) (v : Verdict) → IsReadingOf source.Term w r v → due_at lines w r ≡ due_of lines v
+due_after lines w (Refused r) v e = refused_due lines r v e
+due_after lines w (Good t) v (u, here, e) = ap (λ o. done (option_map_or lines o [])) here ∙ sym (ap (due_of lines) e)
 
-share_due_of : (w : Store) (r : Reading Term) (v : Verdict) → IsReadingOf source.Term w r v → share_due w r ≡ due_of share_lines v
-share_due_of w (Refused r) v e = refused_due share_lines r v e
-share_due_of w (Good t) v (u, here, e) = ap (λ o. done (option_map_or share_lines o [])) here ∙ sym (ap (due_of share_lines) e)
-
-pub term_is_due : (known : Option (List ℕ)) (w : Store) (r : Reading Term) → IsGiven known w r → IfSome known (λ bytes. IsTermDue bytes (term_due w r))
-term_is_due None w r g = tt
-term_is_due (Some bytes) w r (v, is, h) = (v, h, term_due_of w r v is)
-
-pub share_is_due : (known : Option (List ℕ)) (w : Store) (r : Reading Term) → IsGiven known w r → IfSome known (λ bytes. IsShareDue bytes (share_due w r))
-share_is_due None w r g = tt
-share_is_due (Some bytes) w r (v, is, h) = (v, h, share_due_of w r v is)
+pub given_due : (lines : Tree → List ℕ) (known : Option (List ℕ)) (w : Store) (r : Reading Term) → IsGiven known w r → IfSome known (λ bytes. IsDueOf lines bytes (due_at lines w r))
+given_due lines None w r g = tt
+given_due lines (Some bytes) w r (v, is, h) = (v, h, due_after lines w r v is)
 
 pub given_held : (known : Option (List ℕ)) (w : Store) (r : Reading Term) → IsGiven known w r → IsTermHeld w r
 given_held known w (Refused r) g = tt
 given_held known w (Good t) (v, (u, here, e), h) = ap is_some here
 
+-- a text has one verdict at most
+pub same_verdict : (bytes : List ℕ) (v w : Verdict) → IsVerdict bytes v → IsVerdict bytes w → v ≡ w
+same_verdict bytes v w h k = let one = one_verdict bytes in one.2 v h ∙ sym (one.2 w k)
+
 -- one thing is due for a text
-one_due_of : (lines : Tree → List ℕ) (bytes : List ℕ) (v w : Verdict) → IsVerdict bytes v → IsVerdict bytes w → due_of lines v ≡ due_of lines w
-one_due_of lines bytes v w h k = let one = one_verdict bytes in ap (due_of lines) (one.2 v h ∙ sym (one.2 w k))
-
-pub one_term_due : (bytes : List ℕ) (d e : Due) → IsTermDue bytes d → IsTermDue bytes e → d ≡ e
-one_term_due bytes d e (v, h, is) (w, k, same) = is ∙ one_due_of term_line bytes v w h k ∙ sym same
-
-pub one_share_due : (bytes : List ℕ) (d e : Due) → IsShareDue bytes d → IsShareDue bytes e → d ≡ e
-one_share_due bytes d e (v, h, is) (w, k, same) = is ∙ one_due_of share_lines bytes v w h k ∙ sym same
-
--- how a run ends, and the place of a refusal
-pub finish-term_due : (w : Store) (r : Reading Term) → (term_due w r).finish ≡ finish_of r
-finish-term_due w (Refused r) = refl
-finish-term_due w (Good t) = refl
-
-pub place-term_due : (w : Store) (r : Reading Term) → (term_due w r).place ≡ place_of r
-place-term_due w (Refused r) = refl
-place-term_due w (Good t) = refl
-
-pub finish-share_due : (w : Store) (r : Reading Term) → (share_due w r).finish ≡ finish_of r
-finish-share_due w (Refused r) = refl
-finish-share_due w (Good t) = refl
-
-pub place-share_due : (w : Store) (r : Reading Term) → (share_due w r).place ≡ place_of r
-place-share_due w (Refused r) = refl
-place-share_due w (Good t) = refl
+pub one_due_of : (lines : Tree → List ℕ) (bytes : List ℕ) (d e : Due) → IsDueOf lines bytes d → IsDueOf lines bytes e → d ≡ e
+one_due_of lines bytes d e (v, h, is) (w, k, same) = is ∙ ap (due_of lines) (same_verdict bytes v w h k) ∙ sym same
 
 -- a front of a text without line ends has none
 pub no_ends_front : (front rest : List ℕ) → newlines (front ++ rest) ≡ 0 → newlines front ≡ 0

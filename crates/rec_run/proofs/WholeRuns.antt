@@ -1,7 +1,7 @@
 -- From what the texts of a run came to to what is due.
 use Rattle.std.proofs.Common.{ap, ◌≡◌, ℕ, ◌+◌, ◌≤◌, Bool, List, [], Option, Some, None, IfSome, length, take, take_all, refl, subst, arith}
 use Rattle.std.proofs.lemmas.List.{length-take}
-use Rattle.std.specs.Io.KnownBytes.{Appends, Keeps}
+use Rattle.std.specs.Io.KnownBytes.{Appends}
 use Rattle.rec_syntax.specs.Syntax.{Sourced}
 use Rattle.rec_sorts.specs.SpecRules as verdict
 use Rattle.rec_sorts.specs.SpecRules.{Verdict, SpecVerdict}
@@ -9,7 +9,7 @@ use Rattle.rx_shared.specs.State.{store_of}
 use Rattle.rec_run.specs.Output.{Due, IsDueAfter, done, due_of_spec, lines}
 use Rattle.rec_run.specs.GivenTerms.{IsReadFrom, given_by, run_due}
 use Rattle.rec_run.specs.Reading.{IsSpecRead}
-use Rattle.rec_run.specs.Refusals.{finish_of, place_of, refusal_due, refused_spec}
+use Rattle.rec_run.specs.Refusals.{refusal_due, refused_spec}
 use Rattle.rec_run.specs.Run.{BreaksFor, EndsFor, IsDueFor, IsPlacedFor, Reports, Stops, Texts, both_texts}
 use Rattle.rec_run.specs.declared.ending.Finish.{Finish}
 use Rattle.rec_run.specs.declared.ending.Place.{Place}
@@ -20,7 +20,7 @@ use Rattle.rec_run.specs.declared.refusal.Refusal.{Refusal}
 use Rattle.rec_run.specs.declared.streams.TheConstants.{LIMIT}
 use Rattle.rec_run.specs.declared.spec.reading.Job.{Job}
 use Rattle.rec_run.proofs.OneDue.{one_due}
-use Rattle.rx_text.proofs.Appending.{appends_none}
+use Rattle.rx_text.proofs.Appending.{appends_same}
 
 -- ---- what a run leaves, by what is due
 
@@ -41,11 +41,7 @@ module _ {T : Type 0} (IsDue : T → Due → Type 0) where
   -- nothing was written
   pub breaks_unwritten : (texts : Option T) (fault : RunFault) (old : Option (List ℕ)) → Reports fault [] → BreaksFor IsDue texts fault old old
   breaks_unwritten None fault old r = tt
-  breaks_unwritten (Some x) fault old r = λ d is. record { written = []; appended = appends_none old old (kept old); front = (d.text, refl); reported = r }
-    where
-      kept : (o : Option (List ℕ)) → Keeps o o
-      kept None = tt
-      kept (Some a) = refl
+  breaks_unwritten (Some x) fault old r = λ d is. record { written = []; appended = appends_same old; front = (d.text, refl); reported = r }
 
 -- one thing is due for the texts of a run
 pub one_due_for : (counted : Bool) (n : ℕ) (texts : Texts) (d e : Due) → IsDueFor counted n texts d → IsDueFor counted n texts e → d ≡ e
@@ -91,15 +87,6 @@ after_spec counted n verdict.Long = refl
 after_spec counted n (verdict.Grammar at) = refl
 after_spec counted n (verdict.Breaks f) = refl
 after_spec counted n (verdict.Good y) = refl
-
--- how a run ends, and the place of a refusal, by what the texts came to
-pub finish-run_due : (counted : Bool) (n : ℕ) (r : Reading Job) → (run_due counted n r).finish ≡ finish_of r
-finish-run_due counted n (Refused r) = refl
-finish-run_due counted n (Good job) = refl
-
-pub place-run_due : (counted : Bool) (n : ℕ) (r : Reading Job) → (run_due counted n r).place ≡ place_of r
-place-run_due counted n (Refused r) = refl
-place-run_due counted n (Good job) = refl
 
 -- a specification without given terms
 pub read_refused : (known : Option (List ℕ)) (r : Refusal) → IfSome known (λ bytes. IsSpecRead bytes (Refused r)) → IfSome (both_texts known (Some None)) (λ texts. IsReadFrom texts (Refused r))

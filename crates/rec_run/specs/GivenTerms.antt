@@ -55,9 +55,13 @@ abbrev pub list_refused : TermsFault → Result (Reading Job) RunFault
 list_refused (rule.Rule number) = Ok (reading.Refused (record { text = source.Terms; reason = reason.TermsRule number }))
 list_refused rule.Memory = Err (fault.Memory 0)
 
+-- the lines of good texts
+abbrev pub job_lines : Bool → ℕ → Job → List ℕ
+job_lines counted n job = lines job.checked.spec (given_by (store_of job.bank) job.list) counted n
+
 -- what is due for what the texts came to
 abbrev pub run_due : Bool → ℕ → Reading Job → Due
-run_due counted n r = reading_due (λ job. done (lines job.checked.spec (given_by (store_of job.bank) job.list) counted n)) r
+run_due counted n r = reading_due (λ job. done (job_lines counted n job)) r
 
 -- the verdict is a refusal
 abbrev pub IsRefusal : Verdict → Type 0

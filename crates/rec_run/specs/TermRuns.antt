@@ -35,26 +35,35 @@ due_of lines TooLong = refused (codes "!term ") (codes "L1") None
 due_of lines (Outside at) = refused (codes "!term ") (codes "A") (Some (record { text = source.Term; rule = named.A; at = at }))
 due_of lines (Spelt t) = done (lines t)
 
--- what is due for a text
+-- what is due for a text, where so much is to be written of a term
+abbrev pub IsDueOf : (Tree → List ℕ) → List ℕ → Due → Type 0
+IsDueOf lines bytes d = (v : Verdict) × IsVerdict bytes v × (d ≡ due_of lines v)
+
 abbrev pub IsTermDue : List ℕ → Due → Type 0
-IsTermDue bytes d = (v : Verdict) × IsVerdict bytes v × (d ≡ due_of term_line v)
+IsTermDue bytes d = IsDueOf term_line bytes d
 
 abbrev pub IsShareDue : List ℕ → Due → Type 0
-IsShareDue bytes d = (v : Verdict) × IsVerdict bytes v × (d ≡ due_of share_lines v)
+IsShareDue bytes d = IsDueOf share_lines bytes d
 
--- the line of a reference, and its lines where its parts are counted too
+-- so much of the tree of a reference
+abbrev pub shown_at : (Tree → List ℕ) → Store → Term → List ℕ
+shown_at lines w t = option_map_or lines (tree_at w t) []
+
 abbrev pub line_at : Store → Term → List ℕ
-line_at w t = option_map_or term_line (tree_at w t) []
+line_at w t = shown_at term_line w t
 
 abbrev pub share_lines_at : Store → Term → List ℕ
-share_lines_at w t = option_map_or share_lines (tree_at w t) []
+share_lines_at w t = shown_at share_lines w t
 
 -- what is due for what a text came to
+abbrev pub due_at : (Tree → List ℕ) → Store → Reading Term → Due
+due_at lines w r = reading_due (λ t. done (shown_at lines w t)) r
+
 abbrev pub term_due : Store → Reading Term → Due
-term_due w r = reading_due (λ t. done (line_at w t)) r
+term_due w r = due_at term_line w r
 
 abbrev pub share_due : Store → Reading Term → Due
-share_due w r = reading_due (λ t. done (share_lines_at w t)) r
+share_due w r = due_at share_lines w r
 
 -- what a text came to is this verdict, by the trees of a bank
 abbrev pub IsReadingOf : Source → Store → Reading Term → Verdict → Type 0

@@ -10,33 +10,14 @@ ghost use Rattle.rec_run.specs.TermRuns.{line_at};
 use crate::ending::RunFault;
 use crate::pattern::answer::Answer;
 use crate::refusal::Reading;
-use crate::writing::{flush, write_line, write_refusal};
+use crate::writing::{write_line, write_refusal};
 use rx_term::{Term, TermBank};
 use rx_text::put;
 use std::alloc::Global;
 use std::io::Write;
 
-/// Writes what is due for what the texts came to, and flushes.
-pub(crate) fn write_answer<B: TermBank, W: Write>(
-    alloc: Global,
-    bank: &B,
-    answer: &Reading<Answer>,
-    out: &mut W,
-) -> Result<(), RunFault>
-    requires { IsAnswerHeld (B.store bank.now) answer.now }
-    ensures ok { OnOk result (Appends (W.contents out.old) (W.contents out.new)
-        (answer_due (B.store bank.now) answer.now).text) }
-    ensures err { IfErr result (λ fault. Stops fault (answer_due (B.store bank.now) answer.now).text
-        (W.contents out.old) (W.contents out.new)) }
-    ensures writing { IfErr result StopsWriting }
-{
-    write_reading(alloc, bank, answer, out)?;
-    flush(out)?;
-    Ok(())
-}
-
 /// Writes what is due for what the texts came to.
-fn write_reading<B: TermBank, W: Write>(
+pub(crate) fn write_answer<B: TermBank, W: Write>(
     alloc: Global,
     bank: &B,
     answer: &Reading<Answer>,

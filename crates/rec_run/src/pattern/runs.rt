@@ -11,6 +11,7 @@ use crate::pattern::answer::{make_of_reading, match_reading};
 use crate::pattern::lines::write_answer;
 use crate::pattern::reading::read_pattern;
 use crate::term::reading::{MOST_CELLS, empty_bank};
+use crate::writing::flush;
 use std::alloc::Global;
 use std::io::{Read, Write};
 
@@ -61,6 +62,7 @@ pub fn run_match_at<R: Read, W: Write>(
     let mut bank = empty_bank(alloc, MOST_CELLS)?;
     let answer = match_reading(alloc, reading, input, &mut bank)?;
     write_answer(alloc, &bank, &answer, out)?;
+    flush(out)?;
     *place = answer.place();
     Ok(answer.finish())
 }
@@ -106,6 +108,7 @@ pub fn run_make_at<W: Write>(
     let mut bank = empty_bank(alloc, MOST_CELLS)?;
     let answer = make_of_reading(alloc, reading, args, &mut bank)?;
     write_answer(alloc, &bank, &answer, out)?;
+    flush(out)?;
     *place = answer.place();
     Ok(answer.finish())
 }

@@ -179,32 +179,13 @@ fn answer<W: Write>(
     let finish = reading.finish();
     let refused_at = reading.place();
     write_due(alloc, reading, out, options)?;
+    flush(out)?;
     *place = refused_at;
     Ok(finish)
 }
 
-/// Writes what is due, and flushes.
-fn write_due<W: Write>(
-    alloc: Global,
-    reading: Reading<Job>,
-    out: &mut W,
-    options: RunOptions,
-) -> Result<(), RunFault>
-    requires { IsReady options.cells reading }
-    ensures ok { OnOk result (Appends (W.contents out.old) (W.contents out.new)
-        (run_due options.count options.steps reading).text) }
-    ensures err { IfErr result
-        (λ fault. Stops fault (run_due options.count options.steps reading).text
-        (W.contents out.old) (W.contents out.new)) }
-    ensures room { IfErr result (RoomFits options.cells) }
-{
-    write_reading(alloc, reading, out, options)?;
-    flush(out)?;
-    Ok(())
-}
-
 /// Writes what is due.
-fn write_reading<W: Write>(
+fn write_due<W: Write>(
     alloc: Global,
     reading: Reading<Job>,
     out: &mut W,

@@ -63,6 +63,7 @@ pub fn run_aterm_at<R: Read, W: Write>(
     *place = None;
     let given = read_term(alloc, input)?;
     write_term(alloc, &given.bank, &given.reading, out)?;
+    flush(out)?;
     *place = given.reading.place();
     Ok(given.reading.finish())
 }
@@ -104,31 +105,13 @@ pub fn run_share_at<R: Read, W: Write>(
     *place = None;
     let mut given = read_term(alloc, input)?;
     write_share(alloc, &mut given.bank, &given.reading, out)?;
+    flush(out)?;
     *place = given.reading.place();
     Ok(given.reading.finish())
 }
 
-/// Writes what is due where the term is printed, and flushes.
-fn write_term<B: TermBank, W: Write>(
-    alloc: Global,
-    bank: &B,
-    reading: &Reading<Term>,
-    out: &mut W,
-) -> Result<(), RunFault>
-    requires { IsTermHeld (B.store bank.now) reading.now }
-    ensures ok { OnOk result (Appends (W.contents out.old) (W.contents out.new)
-        (term_due (B.store bank.now) reading.now).text) }
-    ensures err { IfErr result (λ fault. Stops fault (term_due (B.store bank.now) reading.now).text
-        (W.contents out.old) (W.contents out.new)) }
-    ensures writing { IfErr result StopsWriting }
-{
-    write_printed(alloc, bank, reading, out)?;
-    flush(out)?;
-    Ok(())
-}
-
 /// Writes what is due where the term is printed.
-fn write_printed<B: TermBank, W: Write>(
+fn write_term<B: TermBank, W: Write>(
     alloc: Global,
     bank: &B,
     reading: &Reading<Term>,
@@ -148,28 +131,8 @@ fn write_printed<B: TermBank, W: Write>(
     Ok(())
 }
 
-/// Writes what is due where the different parts are counted too, and flushes.
-fn write_share<B: TermBank, W: Write>(
-    alloc: Global,
-    bank: &mut B,
-    reading: &Reading<Term>,
-    out: &mut W,
-) -> Result<(), RunFault>
-    requires held { IsTermHeld (B.store bank.old) reading.now }
-    requires unrooted { (t : ℕ) → (B.store bank.old).roots t ≡ 0 }
-    ensures ok { OnOk result (Appends (W.contents out.old) (W.contents out.new)
-        (share_due (B.store bank.old) reading.now).text) }
-    ensures err { IfErr result (λ fault. Stops fault (share_due (B.store bank.old) reading.now).text
-        (W.contents out.old) (W.contents out.new)) }
-    ensures writing { IfErr result StopsWriting }
-{
-    write_shared(alloc, bank, reading, out)?;
-    flush(out)?;
-    Ok(())
-}
-
 /// Writes what is due where the different parts are counted too.
-fn write_shared<B: TermBank, W: Write>(
+fn write_share<B: TermBank, W: Write>(
     alloc: Global,
     bank: &mut B,
     reading: &Reading<Term>,
