@@ -1,8 +1,8 @@
 -- What is due for a text, or for two, by the machines that read them and by the rules.
 use Rattle.std.proofs.Common.{◌≡◌, ℕ, Bool, true, List, Option, Some, None, length, refl, subst}
-use Rattle.std.specs.Prelude.{nat_le, option_map, []}
+use Rattle.std.specs.Prelude.{nat_le, option_map, [], ◌∷◌, ◌&&◌, map}
 use Rattle.std.specs.Option.{option_and_then}
-use Rattle.std.proofs.lemmas.Bool.{leb-true}
+use Rattle.std.proofs.lemmas.Bool.{and_parts, leb-true}
 use Rattle.rx_term.specs.Tree.{Tree}
 use Rattle.rx_text.specs.Token.{tokens, kinds}
 use Rattle.rx_text.specs.Grammar.{Spells}
@@ -96,3 +96,37 @@ due_of_texts spec terms counted n d fits short e = by_verdict (verdict_by (comes
     by_verdict : (o : Option Verdict) → ((v : Verdict) → o ≡ Some v → SpecVerdict spec v) → option_and_then (due_by terms counted n) o ≡ Some d → IsDue spec (Some terms) counted n d
     by_verdict None h e = absurd (cc e)
     by_verdict (Some v) h e = (v, h v refl, due_after terms counted n d (leb-true (length terms) 16777216 short) v e)
+
+-- a worked run: its texts, whether it counts steps, how many a term may take, and what is due
+pub record Row : Type 0 where
+  pub spec : List ℕ
+  pub terms : Option (List ℕ)
+  pub counted : Bool
+  pub steps : ℕ
+  pub due : Due
+
+-- each is due
+abbrev pub AreDue : List Row → Type 0
+AreDue [] = Unit {0}
+AreDue (r ∷ rs) = IsDue r.spec r.terms r.counted r.steps r.due × AreDue rs
+
+-- the texts are not too long
+abbrev pub are_short : List ℕ → Option (List ℕ) → Bool
+are_short spec None = nat_le (length spec) 16777216
+are_short spec (Some terms) = nat_le (length spec) 16777216 && nat_le (length terms) 16777216
+
+-- what is due for them
+abbrev pub due_for : List ℕ → Option (List ℕ) → Bool → ℕ → Option Due
+due_for spec None counted n = option_map (due_of_spec counted n) (verdict_by (comes_of spec))
+due_for spec (Some terms) counted n = option_and_then (due_by terms counted n) (verdict_by (comes_of spec))
+
+row_due : (spec : List ℕ) (terms : Option (List ℕ)) (counted : Bool) (n : ℕ) (d : Due) → are_short spec terms ≡ true → due_for spec terms counted n ≡ Some d → IsDue spec terms counted n d
+row_due spec None counted n d fits e = due_of_text spec counted n d fits e
+row_due spec (Some terms) counted n d fits e =
+    let both = and_parts (nat_le (length spec) 16777216) (nat_le (length terms) 16777216) fits in
+    due_of_texts spec terms counted n d both.0 both.1 e
+
+-- so is each row that is computed to be
+pub rows_due : (rs : List Row) → map (λ r. are_short r.spec r.terms) rs ≡ map (λ r. true) rs → map (λ r. due_for r.spec r.terms r.counted r.steps) rs ≡ map (λ r. Some r.due) rs → AreDue rs
+rows_due [] fits e = tt
+rows_due (r ∷ rs) fits e = (row_due r.spec r.terms r.counted r.steps r.due (cc fits) (cc e), rows_due rs (cc fits) (cc e))
