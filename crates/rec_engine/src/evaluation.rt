@@ -5,7 +5,7 @@ ghost use Rattle.rx_term.specs.Tree.{Tree};
 ghost use Rattle.rx_term.specs.Store.{tree_at};
 ghost use Rattle.rx_term.specs.Steps.{Keeps};
 ghost use Rattle.rec_syntax.specs.Syntax as Syntax;
-ghost use Rattle.rec_match.specs.Held.{AllHeld};
+ghost use Rattle.rx_term.specs.Walks.{AllHeld};
 ghost use Rattle.rec_engine.specs.Cells.{RoomOnly};
 ghost use Rattle.rec_engine.specs.Answered.{IsTermCode, IsAnswer, StandsAbove, HasNotes};
 ghost use Rattle.rec_engine.specs.Engine.{IsGiven, IsOutcome, IsKept};

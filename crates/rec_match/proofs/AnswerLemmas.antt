@@ -7,14 +7,13 @@ use Rattle.rx_term.specs.Name.{Signature, plain_name}
 use Rattle.rx_term.specs.Tree.{Tree, Trees, Appl, Items, none, more, count_of, to_list, from_list}
 use Rattle.rx_term.specs.Store.{Store, tree_at, signature_of, arity_at, part_at, anns_of}
 use Rattle.rx_term.specs.Steps.{IsSound}
-use Rattle.rx_term.specs.Walks as walks
 use Rattle.rx_term.proofs.TreeLemmas.{from_to_list, length-to_list}
 use Rattle.rx_term.specs.Kinds.{HasInt, HasNil, HasCons, HasHole, HasAppl, HasAnns, HasKind}
 use Rattle.rx_term.specs.declared.Kind.{Kind}
 use Rattle.rx_term.specs.declared.Kind.TheVariants as kind
 use Rattle.rx_term.specs.declared.Term.{Term}
 use Rattle.rx_term.specs.declared.Symbol as bank
-use Rattle.rx_term.specs.Walks.{held_tree, held_trees}
+use Rattle.rx_term.specs.Walks.{AllHeld, held_tree, held_trees}
 use Rattle.rec_syntax.specs.Syntax.{Spec, Rule, Apply}
 use Rattle.rec_syntax.specs.Syntax as X
 use Rattle.rec_sorts.specs.Lookup.{symbols, count, is_variable}
@@ -23,7 +22,7 @@ use Rattle.rec_sorts.specs.Binding.{Substitution, NumberedMatch, application, bi
 use Rattle.rec_sorts.specs.Linked.{signature, NumberOf}
 use Rattle.rec_sorts.specs.Numbering.{name_of, arity_of}
 use Rattle.rec_sorts.specs.declared.letters.Meaning.TheVariants.{Symbol}
-use Rattle.rec_match.specs.Held.{AllHeld, or_empty}
+use Rattle.rec_match.specs.Held.{or_empty}
 use Rattle.rec_match.specs.Matching.{HasFound, Finds, FindsFor, CanFind, symbol_at, count_at}
 use Rattle.rec_match.specs.Next.{IsReady, AreReady, AreLater, Reaches, Matched}
 use Rattle.rec_match.specs.Walking.{walk_all}
@@ -33,7 +32,6 @@ use Rattle.rec_match.proofs.Facts.{facts}
 use Rattle.rec_match.proofs.FindLemmas.{first-matched, first-passed}
 use Rattle.rec_match.proofs.WalkLemmas.{walk_binds}
 use Rattle.rec_match.proofs.BoundLemmas.{opened_is}
-use Rattle.rec_match.proofs.RunLemmas.{held_at}
 use Rattle.rec_match.proofs.NextLemmas.{which, nothing, later-side}
 
 abbrev pub no_rule : Rule
@@ -184,9 +182,6 @@ found-binds y u n (suc k) e m f = by (binds y (get_or y.rules n no_rule).left u)
 pub has-annotations : (y : Spec) (w : Store) (t : Term) (s : bank.Symbol) (o : Option Term) → HasAppl w t s → HasAnns w t o → is_some o ≡ true → OpensNothing y (held_tree w t)
 has-annotations y w t s None h anns e = absurd (cc e)
 has-annotations y w t s (Some a) h anns e = no-annotated y w t a s h anns
-
-pub contains-held : (w : Store) (xs : List Term) → walks.AllHeld w xs → AllHeld w xs
-contains-held w xs h t (k, lt, e) = subst (λ x. IsSome (tree_at w x)) e (held_at w xs k t h lt)
 
 pub declared-number : (w : Store) (m : Matcher) (s : bank.Symbol) (k : ℕ) → (ready : AreReady w m) → NumberOf m.links s (Some k) → k < length m.heads.items
 declared-number w m s k ready number =

@@ -13,7 +13,7 @@ use Rattle.rx_term.specs.declared.Term.{Term}
 use Rattle.rx_term.specs.declared.Symbol as bank
 use Rattle.rx_term.proofs.StoreLemmas.{some-value}
 use Rattle.rx_term.proofs.TreeLemmas.{same_tree, tree_eq_same}
-use Rattle.rx_term.specs.Walks.{held_tree, held_trees}
+use Rattle.rx_term.specs.Walks.{AllHeld, held_tree, held_trees}
 use Rattle.rec_syntax.specs.Syntax.{Spec}
 use Rattle.rec_sorts.specs.Lookup.{symbols, variable_words}
 use Rattle.rec_sorts.specs.SpecRules.{fault}
@@ -23,7 +23,7 @@ use Rattle.rec_sorts.specs.declared.letters.Letter.{Letter}
 use Rattle.rec_sorts.specs.declared.letters.Meaning.TheVariants.{Symbol, Variable}
 use Rattle.rec_match.specs.Asking.{stack_on, asked}
 use Rattle.rec_match.specs.Bound.{with_one, opened, bound, goes_on}
-use Rattle.rec_match.specs.Held.{or_empty, AllHeld, stacked}
+use Rattle.rec_match.specs.Held.{or_empty, stacked}
 use Rattle.rec_sorts.specs.Linked.{signature, AreLinked}
 use Rattle.rec_match.specs.Matching.{AreFilled, paired, IsTest, AreTests, Opens, Asks, Matches}
 use Rattle.rec_match.specs.declared.matcher.Test.{Test}

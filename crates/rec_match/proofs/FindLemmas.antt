@@ -17,7 +17,7 @@ use Rattle.rec_sorts.specs.declared.letters.Letter.{Letter}
 use Rattle.rec_sorts.specs.declared.letters.Meaning.TheVariants.{Symbol}
 use Rattle.rec_match.specs.Asking.{stack_on, asked}
 use Rattle.rec_match.specs.Bound.{opened, bound, goes_on}
-use Rattle.rec_match.specs.Held.{AllHeld, stacked}
+use Rattle.rec_match.specs.Held.{stacked}
 use Rattle.rec_sorts.specs.Linked.{signature, AreLinked}
 use Rattle.rec_match.specs.Matching.{AreFilled, SameValues, paired, AreTests, IsTest, CanAsk, Matches, IsMatcher, IsSide, HasFound, HeadAt, symbol_at, count_at, next_at, tests_at, order_at, CanFind, FindsFor}
 use Rattle.rec_match.specs.Ordered.{in_order}
@@ -26,7 +26,7 @@ use Rattle.rec_match.specs.declared.matcher.Matcher.{Matcher}
 use Rattle.rec_match.specs.declared.matcher.LeftSide.{LeftSide}
 use Rattle.rec_sorts.specs.Laws.{Every}
 use Rattle.std.proofs.Math.ListN.{drop_of_length-le}
-use Rattle.rx_term.specs.Walks.{held_tree, held_trees}
+use Rattle.rx_term.specs.Walks.{AllHeld, held_tree, held_trees}
 use Rattle.rec_match.specs.declared.matcher.Test.{Test}
 use Rattle.rec_match.specs.declared.matcher.Test.TheVariants.{Open, First, Again}
 use Rattle.rec_match.proofs.Facts.{facts, RuleFacts}

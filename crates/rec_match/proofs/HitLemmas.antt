@@ -7,13 +7,11 @@ use Rattle.std.specs.Prelude.{ℕ, ◌≡◌, ◌-◌, ◌⊎◌, List, ◌++◌
 use mathlib.Core.Logic.{inl, inr}
 use Rattle.rx_term.specs.Store.{Store, tree_at}
 use Rattle.rx_term.specs.declared.Term.{Term}
-use Rattle.rx_term.specs.Walks as walks
 use Rattle.rec_match.specs.Forests.{RunsOn}
-use Rattle.rec_match.specs.Held.{AllHeld}
+use Rattle.rx_term.specs.Walks.{AllHeld}
 use Rattle.rec_match.specs.Matching.{CanFind, FindsFor, FindsOn}
 use Rattle.rec_match.specs.declared.forest.Hit.{Hit}
 use Rattle.rec_match.specs.declared.matcher.Matcher.{Matcher}
-use Rattle.rec_match.proofs.AnswerLemmas.{contains-held}
 use Rattle.rec_match.proofs.FindLemmas.{own-count}
 use Rattle.rec_match.proofs.TreeAnswers.{args-long, tree-finds}
 
@@ -42,7 +40,3 @@ pub run-finds : (w : Store) (m : Matcher) (k n at : ℕ) (old new : List Term) (
 run-finds w m k n at old new first (Err e) can ef runs same = tt
 run-finds w m k n at old new first (Ok None) can ef runs same = (tree-finds w m k n at old (drop first old) [] None can (ap (λ j. drop j old) ef) runs, same refl)
 run-finds w m k n at old new first (Ok (Some hit)) can ef runs same = (runs.0, runs.1, tree-finds w m k n at old (drop first old) (drop hit.values new) (Some hit.rule) can (ap (λ j. drop j old) ef) runs.2)
-
-pub run-held : (w : Store) (xs : List Term) {A E : Type 0} (r : Result A E) → IfOk r (λ a. walks.AllHeld w xs) → IfOk r (λ a. AllHeld w xs)
-run-held w xs (Err e) h = tt
-run-held w xs (Ok a) h = contains-held w xs h

@@ -5,7 +5,6 @@ use Rattle.std.proofs.lemmas.Bool.{cases_eq}
 use Rattle.std.proofs.lemmas.List.{get_or-map, length-drop}
 use Rattle.rx_term.specs.Tree.{Tree, from_list}
 use Rattle.rx_term.specs.Store.{Store, signature_of}
-use Rattle.rx_term.specs.Walks as walks
 use Rattle.rx_term.specs.declared.Term.{Term}
 use Rattle.rx_term.specs.declared.Symbol as bank
 use Rattle.rx_term.specs.Walks.{held_trees}
@@ -17,11 +16,10 @@ use Rattle.rec_sorts.specs.Numbering.{name_of, arity_of}
 use Rattle.rec_sorts.specs.declared.letters.Meaning.TheVariants.{Symbol}
 use Rattle.rec_match.specs.Forests as forests
 use Rattle.rec_match.specs.Forests.{AreNumbers, CanRun, Runs, root_at}
-use Rattle.rec_match.specs.Held.{AllHeld}
 use Rattle.rec_match.specs.Matching.{IsMatcher, IsSide, CanFind, FindsFor, symbol_at}
 use Rattle.rec_match.specs.Tasks.{numbers_of}
 use Rattle.rec_match.specs.declared.matcher.Matcher.{Matcher}
-use Rattle.rec_match.proofs.AnswerLemmas.{contains-held, found-binds, no_rule}
+use Rattle.rec_match.proofs.AnswerLemmas.{found-binds, no_rule}
 use Rattle.rec_match.proofs.Facts.{facts, RuleFacts}
 use Rattle.rec_match.proofs.FindLemmas.{last-args, own-count}
 use Rattle.rec_match.proofs.LetterLemmas.{every-at}
@@ -35,11 +33,6 @@ linked-numbers y w ss linked k lt =
     let long = linked.counted in
     let d : bank.Symbol = record { 0 = 0 } in
     ap (λ n. let s : bank.Symbol = record { 0 = n } in signature_of w s) (get_or-map (λ (s : bank.Symbol). s.0) ss k d 0 (omega (arith, lt, long))) ∙ linked.linked k d lt
-
--- references of which each is held
-pub held-all : (w : Store) (xs : List Term) → AllHeld w xs → walks.AllHeld w xs
-held-all w [] held = tt
-held-all w (x ∷ xs) held = (held x (zero, omega arith, refl), held-all w xs (λ t c. held t (suc c.0, (let l = c.1 in omega (arith, l)), c.2)))
 
 -- the last of some references
 pub args-long : (w : Store) (m : Matcher) (k n at : ℕ) (work args : List Term) → CanFind w m k n at work → args ≡ drop (length work - n) work → length args ≡ n
@@ -118,7 +111,7 @@ module _ (w : Store) (m : Matcher) (k n at : ℕ) (work args bind : List Term) (
             bound = h.bound;
             counted = paired.counted;
             head = own-rule y ss m matcher j i ltj b.0 (held_trees w own) h.values b.1 ∙ sym (head lt);
-            held = contains-held w bind h.held;
+            held = h.held;
           }
 
   -- what the tree finds

@@ -7,7 +7,7 @@ use Rattle.rx_term.specs.Tree.{Tree}
 use Rattle.rx_term.specs.Store.{Store}
 use Rattle.rx_term.specs.declared.Term.{Term}
 use Rattle.rx_term.specs.declared.Symbol as bank
-use Rattle.rx_term.specs.Walks.{held_tree, held_trees}
+use Rattle.rx_term.specs.Walks.{AllHeld, held_tree, held_trees}
 use Rattle.rec_syntax.specs.Syntax.{Spec, Rule, Apply}
 use Rattle.rec_syntax.specs.Syntax as X
 use Rattle.rec_sorts.specs.Lookup.{symbols, count, variable_words, is_variable}
@@ -16,7 +16,7 @@ use Rattle.rec_sorts.specs.Binding.{Substitution, Bound, value_of, binds}
 use Rattle.rec_sorts.specs.Numbering.{named, named_all, named_by, name_of, IsMeaning}
 use Rattle.rec_sorts.specs.declared.letters.Letter.{Letter}
 use Rattle.rec_sorts.specs.declared.letters.Meaning.TheVariants.{Symbol, Variable}
-use Rattle.rec_match.specs.Held.{AllHeld, or_empty}
+use Rattle.rec_match.specs.Held.{or_empty}
 use Rattle.rec_match.specs.Matching.{IsSide, SameValues, paired, symbol_at, tests_at, variables_at, order_at}
 use Rattle.rec_match.specs.Ordered.{keys, names_in, numbers_in, in_order, AreOrdered}
 use Rattle.rec_match.specs.Rows.{values_of}

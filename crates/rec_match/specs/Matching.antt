@@ -5,7 +5,7 @@ use Rattle.rx_term.specs.Tree.{Tree, Trees, Items, Appl, none, from_list, count_
 use Rattle.rx_term.specs.Store.{Store, signature_of, tree_at}
 use Rattle.rx_term.specs.declared.Term.{Term}
 use Rattle.rx_term.specs.declared.Symbol as bank
-use Rattle.rx_term.specs.Walks.{held_trees}
+use Rattle.rx_term.specs.Walks.{AllHeld, held_trees}
 use Rattle.rec_syntax.specs.Syntax as R
 use Rattle.rec_syntax.specs.Syntax.{Spec, Rule}
 use Rattle.rec_sorts.specs.Lookup.{symbols, count}
@@ -15,7 +15,7 @@ use Rattle.rec_sorts.specs.Numbering.{named_all, name_of, named_by, IsMeaning, a
 use Rattle.rec_sorts.specs.Linked.{AreLinked}
 use Rattle.rec_sorts.specs.declared.letters.Letter.{Letter}
 use Rattle.rec_sorts.specs.declared.letters.Meaning.TheVariants.{Symbol, Variable}
-use Rattle.rec_match.specs.Held.{AllHeld, stacked}
+use Rattle.rec_match.specs.Held.{stacked}
 use Rattle.rec_match.specs.Asking.{asked}
 use Rattle.rec_match.specs.Forests.{IsForest}
 use Rattle.rec_match.specs.Ordered.{AreOrdered, numbers_in}

@@ -3,7 +3,7 @@
 
 ghost use Rattle.std.specs.Prelude.{◌≡◌, ◌++◌, ◌∷◌, ◌-◌, ◌≤◌, [], IfOk, IsSome, All, length, drop};
 ghost use Rattle.rx_term.specs.Store.{tree_at};
-ghost use Rattle.rec_match.specs.Held.{AllHeld};
+ghost use Rattle.rx_term.specs.Walks.{AllHeld};
 ghost use Rattle.rec_match.specs.Forests.{Extends};
 ghost use Rattle.rec_match.specs.Matching.{CanFind, FindsOn, Asks, Opens, Takes, CanAsk, Matches};
 

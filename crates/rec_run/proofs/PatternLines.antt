@@ -1,5 +1,5 @@
 -- The lines of an answer: which are due, and what is left where writing them stops.
-use Rattle.std.proofs.Common.{◌≡◌, ℕ, zero, suc, ◌+◌, ◌<◌, List, [], ◌∷◌, ◌++◌, Option, Some, None, true, false, IfSome, IsSome, is_some, length, take, drop, get_or, refl, sym, ap, subst, ◌∙◌, arith, append_assoc, append-nil, take-append-drop}
+use Rattle.std.proofs.Common.{◌≡◌, ℕ, ◌+◌, ◌<◌, List, [], ◌∷◌, ◌++◌, Option, Some, None, true, false, IfSome, IsSome, length, take, drop, get_or, refl, sym, ap, subst, ◌∙◌, arith, append_assoc, append-nil, take-append-drop}
 use Rattle.std.specs.Prelude.{codes, flat_map}
 use Rattle.std.proofs.lemmas.List.{take_more, length-take}
 use Rattle.std.proofs.lemmas.List.Concat.{flat_map-append}
@@ -9,6 +9,7 @@ use Rattle.rx_term.specs.Steps.{IsSound}
 use Rattle.rx_term.specs.Store.{Store, tree_at}
 use Rattle.rx_term.specs.Walks.{AllHeld, HaveTrees}
 use Rattle.rx_term.specs.declared.Term.{Term}
+use Rattle.rx_term.proofs.WalkLemmas.{AllHeld-first, AllHeld-rest, AllHeld-take, AllHeld-from_trees}
 use Rattle.rx_text.specs.Canon.{canon}
 use Rattle.rx_text.proofs.InLine.{stays_in_line}
 use Rattle.rx_pattern.specs.Held.{Binds}
@@ -24,12 +25,6 @@ use Rattle.rec_run.specs.declared.ending.RunFault.TheVariants as fault
 use Rattle.rx_text.proofs.Appending.{appends_both, appends_same, front_after}
 use Rattle.rec_run.proofs.LineEnds.{newlines-append}
 use Rattle.rec_run.proofs.TermsDue.{no_ends, no_ends_front}
-
--- references of trees are held
-pub held_trees : (w : Store) (rs : List Term) (ts : List Tree) → HaveTrees w rs ts → AllHeld w rs
-held_trees w [] ts h = tt
-held_trees w (r ∷ rs) [] h = absurd h
-held_trees w (r ∷ rs) (t ∷ ts) (e, h) = (ap is_some e, held_trees w rs ts h)
 
 -- their lines are those of the trees
 pub lines_at : (w : Store) (rs : List Term) (ts : List Tree) → HaveTrees w rs ts → flat_map (line_at w) rs ≡ flat_map term_line ts
@@ -49,13 +44,7 @@ no_due w (Some bs) rs h = absurd h
 
 pub bound_held : (w : Store) (o : Option (List Tree)) (rs : List Term) → Binds w o rs true → AllHeld w rs
 bound_held w None rs h = absurd h
-bound_held w (Some bs) rs h = held_trees w rs bs h
-
--- one of references that are held
-pub held_one : (w : Store) (rs : List Term) (i : ℕ) (d : Term) → AllHeld w rs → i < length rs → IsSome (tree_at w (get_or rs i d))
-held_one w [] i d h lt = absurd (omega arith)
-held_one w (r ∷ rs) zero d h lt = h.0
-held_one w (r ∷ rs) (suc i) d h lt = held_one w rs i d h.1 (omega arith)
+bound_held w (Some bs) rs h = AllHeld-from_trees w rs bs h
 
 -- the line of a reference has one line end
 one_end : (w : Store) (t : Term) → IsSound w → IsSome (tree_at w t) → newlines (line_at w t) ≡ 1
@@ -73,10 +62,10 @@ one_end w t sound h = by (tree_at w t) refl h
 -- as many line ends as references
 pub ends_of_lines : (w : Store) (rs : List Term) → IsSound w → AllHeld w rs → newlines (flat_map (line_at w) rs) ≡ length rs
 ends_of_lines w [] sound h = refl
-ends_of_lines w (r ∷ rs) sound (here, h) =
+ends_of_lines w (r ∷ rs) sound h =
     let both = newlines-append (line_at w r) (flat_map (line_at w) rs) in
-    let one = one_end w r sound here in
-    let others = ends_of_lines w rs sound h in
+    let one = one_end w r sound (AllHeld-first w r rs h) in
+    let others = ends_of_lines w rs sound (AllHeld-rest w r rs h) in
     omega (arith, both, one, others)
 
 -- the writer refused within a text
@@ -156,16 +145,11 @@ yes_lines-front : (w : Store) (rs : List Term) (i : ℕ) → yes_lines w rs ≡ 
 yes_lines-front w rs i =
     ap (λ z. codes "yes\n" ++ z) (ap (flat_map (line_at w)) (sym (take-append-drop i rs)) ∙ flat_map-append (line_at w) (take i rs) (drop i rs))
 
-held_take : (w : Store) (rs : List Term) (i : ℕ) → AllHeld w rs → AllHeld w (take i rs)
-held_take w rs zero h = tt
-held_take w [] (suc i) h = tt
-held_take w (r ∷ rs) (suc i) h = (h.0, held_take w rs i h.1)
-
 -- the line of a binding stopped: so did the lines
 pub stops_binding : (w : Store) (rs : List Term) (i : ℕ) (d : Term) (f : RunFault) (old between new : Option (List ℕ)) → IsSound w → AllHeld w rs → i < length rs → Appends old between (yes_lines w (take i rs)) → StopsAfter (i + 1) f (line_at w (get_or rs i d)) between new → Stops f (yes_lines w rs) old new
 stops_binding w rs i d f old between new sound held low wrote stops =
     let long = length-take i rs in
-    let ends = ends_of_lines w (take i rs) sound (held_take w rs i held) in
+    let ends = ends_of_lines w (take i rs) sound (AllHeld-take w rs i held) in
     let both = newlines-append (codes "yes\n") (flat_map (line_at w) (take i rs)) in
     let first : newlines (codes "yes\n") ≡ 1 = refl in
     let count : newlines (yes_lines w (take i rs)) ≡ i + 1 = omega (arith, long, ends, both, first, low) in

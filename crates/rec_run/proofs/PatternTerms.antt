@@ -8,27 +8,19 @@ use Rattle.rx_term.specs.declared.Term.{Term}
 use Rattle.rx_term.specs.declared.Kind.{Kind}
 use Rattle.rx_term.specs.declared.Kind.TheVariants as kind
 use Rattle.rx_term.specs.Walks.{AllHeld, HaveTrees}
-use Rattle.rx_term.proofs.StoreLemmas.{some-value}
+use Rattle.rx_term.proofs.WalkLemmas.{AllHeld-from_trees}
 use Rattle.rx_pattern.specs.Filling.{Fault, filling}
 use Rattle.rec_sorts.specs.TermRules.{elements}
 use Rattle.rec_run.specs.Output.{Due, done}
 use Rattle.rec_run.specs.PatternRuns.{filled_due, made_due}
 use Rattle.rec_run.specs.PatternAnswers.{HasElements}
 use Rattle.rec_run.specs.TermRuns.{line_at}
-use Rattle.rec_run.proofs.PatternLines.{held_trees}
 
 have-more : (w : Store) (rs : List Term) (ts : List Tree) (r : Term) (t : Tree) → HaveTrees w rs ts → tree_at w r ≡ Some t → HaveTrees w (rs ++ r ∷ []) (ts ++ t ∷ [])
 have-more w [] [] r t h e = (e, tt)
 have-more w [] (u ∷ us) r t h e = absurd h
 have-more w (s ∷ ss) [] r t h e = absurd h
 have-more w (s ∷ ss) (u ∷ us) r t (i, h) e = (i, have-more w ss us r t h e)
-
--- references that are held have trees
-pub some_trees : (w : Store) (rs : List Term) → AllHeld w rs → (ts : List Tree) × HaveTrees w rs ts
-some_trees w [] h = ([], tt)
-some_trees w (r ∷ rs) (i, h) =
-    let t = some-value (tree_at w r) i in let ts = some_trees w rs h in
-    (t.0 ∷ ts.0, (t.1, ts.1))
 
 -- what is due of a tree that is made
 pub made_here : (w : Store) (t : Term) (u : Tree) (r : Result Tree Fault) → r ≡ Ok u → tree_at w t ≡ Some u → done (line_at w t) ≡ made_due r
@@ -52,7 +44,7 @@ no_elements_due w p o a h of u e = by (elements u) (subst (λ (z : Option Tree).
 -- elements are held
 pub elements_held : (w : Store) (ts : Option (List Tree)) (rs : List Term) → HasElements w ts (Some rs) → AllHeld w rs
 elements_held w None rs h = absurd h
-elements_held w (Some ts) rs h = held_trees w rs ts h
+elements_held w (Some ts) rs h = AllHeld-from_trees w rs ts h
 
 -- the items of a list were found up to what is left of it
 pub record IsPartWay (w : Store) (list : Term) (found : List Term) (rest : Term) : Type 0 where

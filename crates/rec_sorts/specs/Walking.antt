@@ -1,12 +1,6 @@
--- The trees of references, and the order in which a walk finds the nodes of terms.
-use Rattle.std.specs.Prelude.{List, [], ◌∷◌, ◌++◌, All, IsSome}
+-- The order in which a walk finds the nodes of terms.
+use Rattle.std.specs.Prelude.{List, [], ◌∷◌, ◌++◌}
 use Rattle.rx_term.specs.Tree.{Tree, Trees, Appl, none, more}
-use Rattle.rx_term.specs.Store.{Store, tree_at}
-use Rattle.rx_term.specs.declared.Term.{Term}
-
--- each of these references has a tree
-abbrev pub AreHeld : Store → List Term → Type 0
-AreHeld w rs = All (λ r. IsSome (tree_at w r)) rs
 
 abbrev mutual
   -- the nodes of a term, those of its arguments from right to left, each before its own arguments

@@ -5,14 +5,14 @@ ghost use Rattle.std.specs.Prelude.{is_some, length, map, reverse};
 ghost use Rattle.std.specs.List.{list_any, position_from};
 ghost use Rattle.rx_term.specs.Tree.{Tree, count_of};
 ghost use Rattle.rx_term.specs.Store.{tree_at};
-ghost use Rattle.rx_term.specs.Walks.{held_tree, held_trees};
+ghost use Rattle.rx_term.specs.Walks.{AllHeld, held_tree, held_trees};
 ghost use Rattle.rec_sorts.specs.TermRules.{arguments, elements, is_no_application, is_annotated};
 ghost use Rattle.rec_sorts.specs.TermRules.{broken_by_terms, broken_element};
 ghost use Rattle.rec_sorts.specs.TermsFaults.{IsTermsFault};
 ghost use Rattle.rec_sorts.specs.Evaluation.{term_of};
 ghost use Rattle.rec_sorts.specs.Numbering.{Pairwise, AreLetters};
 ghost use Rattle.rec_sorts.specs.Agreeing.{IsScope};
-ghost use Rattle.rec_sorts.specs.Walking.{AreHeld, backwards};
+ghost use Rattle.rec_sorts.specs.Walking.{backwards};
 
 use crate::checked::Checked;
 use crate::fault::TermsFault;
@@ -46,7 +46,7 @@ fn is_plain_list<B: TermBank>(bank: &B, term: Term) -> bool
 
 /// Whether some of these nodes is no application.
 fn any_no_application<B: TermBank>(bank: &B, nodes: &[Term]) -> bool
-    requires { AreHeld (B.store bank.now) nodes.now }
+    requires { AllHeld (B.store bank.now) nodes.now }
     ensures { result ≡ list_any
         (λ r. is_no_application (held_tree (B.store bank.now) r)) nodes.now }
 {
@@ -60,7 +60,7 @@ fn any_no_application<B: TermBank>(bank: &B, nodes: &[Term]) -> bool
 
 /// Whether some of these nodes has annotations.
 fn any_annotated<B: TermBank>(bank: &B, nodes: &[Term]) -> bool
-    requires { AreHeld (B.store bank.now) nodes.now }
+    requires { AllHeld (B.store bank.now) nodes.now }
     ensures { result ≡ list_any (λ r. is_annotated (held_tree (B.store bank.now) r)) nodes.now }
 {
     for node in nodes {
@@ -107,7 +107,7 @@ impl Scope<'_> {
 
     /// Whether some of these nodes stands for no symbol.
     fn any_nameless<B: TermBank>(&self, bank: &B, nodes: &[Term]) -> bool
-        requires { AreHeld (B.store bank.now) nodes.now }
+        requires { AllHeld (B.store bank.now) nodes.now }
         ensures { result ≡ list_any
             (λ r. is_nameless self.now (held_tree (B.store bank.now) r)) nodes.now }
     {
@@ -131,7 +131,7 @@ impl Scope<'_> {
 
     /// Whether some of these nodes has.
     fn any_misfilled<B: TermBank>(&self, bank: &B, nodes: &[Term]) -> bool
-        requires { AreHeld (B.store bank.now) nodes.now }
+        requires { AllHeld (B.store bank.now) nodes.now }
         ensures { result ≡ list_any
             (λ r. is_misfilled self.now (held_tree (B.store bank.now) r)) nodes.now }
     {
@@ -166,7 +166,7 @@ impl Scope<'_> {
 
     /// Whether some of these nodes has such an argument.
     fn any_misfit<B: TermBank>(&self, bank: &B, nodes: &[Term]) -> bool
-        requires { AreHeld (B.store bank.now) nodes.now }
+        requires { AllHeld (B.store bank.now) nodes.now }
         ensures { result ≡ list_any
             (λ r. has_misfit self.now (held_tree (B.store bank.now) r)) nodes.now }
     {
@@ -214,8 +214,8 @@ impl Scope<'_> {
     /// The first of the rules 2 to 6 that some nodes break, of which the inner ones may not have
     /// annotations.
     fn first_broken<B: TermBank>(&self, bank: &B, all: &[Term], inner: &[Term]) -> Option<u8>
-        requires all { AreHeld (B.store bank.now) all.now }
-        requires inner { AreHeld (B.store bank.now) inner.now }
+        requires all { AllHeld (B.store bank.now) all.now }
+        requires inner { AllHeld (B.store bank.now) inner.now }
         ensures { result ≡ broken_by_nodes self.now (held_trees (B.store bank.now) all.now)
             (held_trees (B.store bank.now) inner.now) }
     {
@@ -260,7 +260,7 @@ impl Scope<'_> {
         terms: &[Term],
         number: u8,
     ) -> Result<Option<usize>, AllocError>
-        requires { AreHeld (B.store bank.now) terms.now }
+        requires { AllHeld (B.store bank.now) terms.now }
         ensures { IfOk result (λ r. r ≡ position_from
             (λ t. is_broken_alone self.now number (held_tree (B.store bank.now) t)) 0 terms.now) }
     {

@@ -3,10 +3,10 @@
 ghost use Rattle.std.specs.Prelude.{◌≡◌, ◌++◌, IsSome, IfOk, OnOk, flat_map};
 ghost use Rattle.rx_term.specs.Tree.{to_list, items_of};
 ghost use Rattle.rx_term.specs.Store.{tree_at};
-ghost use Rattle.rx_term.specs.Walks.{held_tree, held_trees};
+ghost use Rattle.rx_term.specs.Walks.{AllHeld, held_tree, held_trees};
 ghost use Rattle.rec_sorts.specs.TermRules.{arguments};
 ghost use Rattle.rec_sorts.specs.ListNodes.{AreNodes};
-ghost use Rattle.rec_sorts.specs.Walking.{AreHeld, unstacked};
+ghost use Rattle.rec_sorts.specs.Walking.{unstacked};
 
 use rx_term::{Kind, Term, TermBank};
 use std::alloc::{AllocError, Global};
@@ -25,8 +25,8 @@ pub fn push_items<B: TermBank>(
     stack: &mut Vec<Term>,
 ) -> Result<(), AllocError>
     requires list { IsSome (tree_at (B.store bank.now) list) }
-    requires stack { AreHeld (B.store bank.now) stack.old.items }
-    ensures held { OnOk result (AreHeld (B.store bank.now) stack.new.items) }
+    requires stack { AllHeld (B.store bank.now) stack.old.items }
+    ensures held { OnOk result (AllHeld (B.store bank.now) stack.new.items) }
     ensures trees { OnOk result (held_trees (B.store bank.now) stack.new.items ≡ held_trees (B.store
         bank.now) stack.old.items ++ to_list (items_of (held_tree (B.store bank.now) list))) }
 {
@@ -45,8 +45,8 @@ fn push_arguments<B: TermBank>(
     stack: &mut Vec<Term>,
 ) -> Result<(), AllocError>
     requires term { IsSome (tree_at (B.store bank.now) term) }
-    requires stack { AreHeld (B.store bank.now) stack.old.items }
-    ensures held { OnOk result (AreHeld (B.store bank.now) stack.new.items) }
+    requires stack { AllHeld (B.store bank.now) stack.old.items }
+    ensures held { OnOk result (AllHeld (B.store bank.now) stack.new.items) }
     ensures trees { OnOk result (held_trees (B.store bank.now) stack.new.items ≡ held_trees (B.store
         bank.now) stack.old.items ++ to_list (arguments (held_tree (B.store bank.now) term))) }
 {
@@ -59,8 +59,8 @@ fn push_arguments<B: TermBank>(
 
 /// The arguments of some terms, from left to right.
 fn arguments<B: TermBank>(alloc: Global, bank: &B, terms: &[Term]) -> Result<Vec<Term>, AllocError>
-    requires { AreHeld (B.store bank.now) terms.now }
-    ensures held { IfOk result (λ v. AreHeld (B.store bank.now) v.items) }
+    requires { AllHeld (B.store bank.now) terms.now }
+    ensures held { IfOk result (λ v. AllHeld (B.store bank.now) v.items) }
     ensures trees { IfOk result (λ v. held_trees (B.store bank.now) v.items ≡ flat_map
         (λ t. to_list (arguments t)) (held_trees (B.store bank.now) terms.now)) }
 {
@@ -78,8 +78,8 @@ pub fn nodes<B: TermBank>(
     bank: &B,
     mut stack: Vec<Term>,
 ) -> Result<Vec<Term>, AllocError>
-    requires { AreHeld (B.store bank.now) stack.items }
-    ensures held { IfOk result (λ v. AreHeld (B.store bank.now) v.items) }
+    requires { AllHeld (B.store bank.now) stack.items }
+    ensures held { IfOk result (λ v. AllHeld (B.store bank.now) v.items) }
     ensures trees { IfOk result (λ v. held_trees (B.store bank.now) v.items ≡ unstacked
         (held_trees (B.store bank.now) stack.items)) }
 {
@@ -97,7 +97,7 @@ pub fn nodes_among<B: TermBank>(
     bank: &B,
     terms: Vec<Term>,
 ) -> Result<ListNodes, AllocError>
-    requires { AreHeld (B.store bank.now) terms.items }
+    requires { AllHeld (B.store bank.now) terms.items }
     ensures { IfOk result
         (AreNodes (B.store bank.now) (held_trees (B.store bank.now) terms.items)) }
 {

@@ -4,7 +4,7 @@ use Rattle.std.specs.Prelude.{option_map, is_some}
 use Rattle.rx_term.specs.Tree.{Tree, Trees, none, more, Int, Appl, Items, Hole, annotations}
 use Rattle.rx_term.specs.Store.{Store, tree_at, list_unless_empty}
 use Rattle.rx_term.specs.Kinds.{HasAnns}
-use Rattle.rx_term.specs.Walks.{AllHeld, HaveTrees}
+use Rattle.rx_term.specs.Walks.{HaveTrees}
 use Rattle.rx_term.specs.declared.Term.{Term}
 use Rattle.rx_pattern.specs.Pattern.{fits, AnyList}
 use Rattle.rx_pattern.proofs.Stacks.{listed_notes}
@@ -129,11 +129,6 @@ takes_no_rest (Appl name quoted args anns) c f n = n
 takes_no_rest (Hole inner anns) c f n = n
 
 -- ---- the loop
-
-pub tree_held : (w : Store) (args : List Term) (k : ℕ) (d : Term) → AllHeld w args → k < length args → IsSome (tree_at w (get_or args k d))
-tree_held w [] k d h lt = absurd (omega arith)
-tree_held w (r ∷ rs) zero d h lt = h.0
-tree_held w (r ∷ rs) (suc k) d h lt = tree_held w rs k d h.1 (omega arith)
 
 pub same_at : (xs : List Term) (k : ℕ) (d e : Term) → k < length xs → get_or xs k d ≡ get_or xs k e
 same_at [] k d e h = absurd (omega arith)

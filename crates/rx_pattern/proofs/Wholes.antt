@@ -5,7 +5,7 @@ use Rattle.std.proofs.lemmas.Bool.Decides.{Decides-eqb}
 use Rattle.rx_term.specs.Tree.{Tree, is_tree}
 use Rattle.rx_term.specs.Store.{Store, tree_at}
 use Rattle.rx_term.specs.Steps.{IsSound}
-use Rattle.rx_term.specs.Walks.{AllHeld, HaveTrees}
+use Rattle.rx_term.specs.Walks.{HaveTrees}
 use Rattle.rx_term.specs.declared.Term.{Term}
 use Rattle.rx_term.proofs.TreeLemmas.{both_parts}
 use Rattle.rx_term.proofs.StoreLemmas.{some-value}
@@ -72,11 +72,6 @@ pub bound_all : (w : Store) (nodes : List Node) (p u : Tree) (out : List Term) (
 bound_all w nodes p u out found e h y = rw y (binds_all w (matching p u) out (rw (e, y) at h))
 
 -- ---- making
-
--- terms that are held have trees
-pub have_some : (w : Store) (rs : List Term) → AllHeld w rs → (bs : List Tree) × HaveTrees w rs bs
-have_some w [] h = ([], tt)
-have_some w (r ∷ rs) h = let v = some-value (tree_at w r) h.0 in let others = have_some w rs h.1 in (v.0 ∷ others.0, (v.1, others.1))
 
 -- the slots of a pattern's nodes are those of its tree
 pub misfit_of : (nodes : List Node) (p : Tree) (f : Option MakeFault) (bs : List Tree) → AreNodes nodes → tree_of_nodes nodes ≡ p → IsMisfit f (slots_of_steps (map step_of nodes)) bs → IsMisfit f (slots p) bs

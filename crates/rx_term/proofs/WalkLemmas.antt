@@ -1,10 +1,11 @@
 -- One more item in front of a list that is under way.
 use Rattle.std.proofs.lemmas.List.{get_or_default}
-use Rattle.std.proofs.Common.{suc, ℕ, ◌≡◌, ◌-◌, ◌<◌, ◌≤◌, List, [], ◌∷◌, length, drop, get_or, Option, Some, None, IsSome, refl, sym, ap, ◌∙◌, subst, arith, Contains, drop-cons}
+use Rattle.std.proofs.Common.{suc, ℕ, ◌≡◌, ◌⊎◌, inl, inr, ◌-◌, ◌<◌, ◌≤◌, List, [], ◌∷◌, length, take, drop, get_or, Option, Some, None, IsSome, refl, sym, ap, ◌∙◌, subst, arith, Contains, drop-cons, take-append-drop}
 use Rattle.std.proofs.lemmas.List.{append-nil}
-use Rattle.rx_term.proofs.PartsLemmas.{list_parts-parts}
+use Rattle.std.proofs.lemmas.List.Elements.{Contains-append_left, Contains-append_right, Contains-append_cases, Contains-push}
+use Rattle.rx_term.proofs.PartsLemmas.{list_parts-parts, cons_head, cons_tail, cons_cases}
 use Rattle.rx_term.specs.Parts.{parts, annotation_parts}
-use Rattle.rx_term.specs.Walks.{all_parts, parts_of, AllHeld, PushesInside, PushesAnns}
+use Rattle.rx_term.specs.Walks.{all_parts, parts_of, AllHeld, HaveTrees, PushesInside, PushesAnns}
 use Rattle.std.specs.Option.{option_and_then}
 use Rattle.std.proofs.Common.{append_assoc, length-append, ◌++◌, Bool, is_some, ◌+◌, zero-add, min}
 use Rattle.rx_term.specs.Tree.{Tree, Trees, Appl, Items, none, more, annotations}
@@ -47,13 +48,61 @@ pub all_parts-append : (w : Store) (xs ys : List Term) → all_parts w (xs ++ ys
 all_parts-append w [] ys = refl
 all_parts-append w (x ∷ xs) ys = ap (λ ps. parts_of (tree_at w x) ++ ps) (all_parts-append w xs ys) ∙ sym (append_assoc (parts_of (tree_at w x)) (all_parts w xs) (all_parts w ys))
 
+-- ---- references that are held
+
+pub AllHeld-nil : (w : Store) → AllHeld w []
+AllHeld-nil w t c = absurd (let lt = c.1 in omega (arith, lt))
+
+pub AllHeld-cons : (w : Store) (r : Term) (rs : List Term) → IsSome (tree_at w r) → AllHeld w rs → AllHeld w (r ∷ rs)
+AllHeld-cons w r rs here held t c = by (cons_cases r rs t c) where
+  by : (r ≡ t) ⊎ Contains rs t → IsSome (tree_at w t)
+  by (inl e) = subst (λ x. IsSome (tree_at w x)) e here
+  by (inr d) = held t d
+
+pub AllHeld-one : (w : Store) (r : Term) → IsSome (tree_at w r) → AllHeld w (r ∷ [])
+AllHeld-one w r here = AllHeld-cons w r [] here (AllHeld-nil w)
+
+pub AllHeld-first : (w : Store) (r : Term) (rs : List Term) → AllHeld w (r ∷ rs) → IsSome (tree_at w r)
+AllHeld-first w r rs held = held r (cons_head r rs)
+
+pub AllHeld-rest : (w : Store) (r : Term) (rs : List Term) → AllHeld w (r ∷ rs) → AllHeld w rs
+AllHeld-rest w r rs held t c = held t (cons_tail r rs t c)
+
+-- so is the one at a place
+pub AllHeld-at : (w : Store) (rs : List Term) (k : ℕ) (d : Term) → AllHeld w rs → k < length rs → IsSome (tree_at w (get_or rs k d))
+AllHeld-at w rs k d held lt = held (get_or rs k d) (item-in rs k d lt)
+
 pub AllHeld-append : (w : Store) (xs ys : List Term) → AllHeld w xs → AllHeld w ys → AllHeld w (xs ++ ys)
-AllHeld-append w [] ys p q = q
-AllHeld-append w (x ∷ xs) ys p q = (p.0, AllHeld-append w xs ys p.1 q)
+AllHeld-append w xs ys p q t c = by (Contains-append_cases xs ys t c) where
+  by : Contains xs t ⊎ Contains ys t → IsSome (tree_at w t)
+  by (inl d) = p t d
+  by (inr d) = q t d
+
+pub AllHeld-push : (w : Store) (rs : List Term) (r : Term) → AllHeld w rs → IsSome (tree_at w r) → AllHeld w (rs ++ r ∷ [])
+AllHeld-push w rs r held here = AllHeld-append w rs (r ∷ []) held (AllHeld-one w r here)
 
 pub AllHeld-split : (w : Store) (xs : List Term) (u : Term) → AllHeld w (xs ++ u ∷ []) → AllHeld w xs × IsSome (tree_at w u)
-AllHeld-split w [] u p = (tt, p.0)
-AllHeld-split w (x ∷ xs) u p = let r = AllHeld-split w xs u p.1 in ((p.0, r.0), r.1)
+AllHeld-split w xs u held = ((λ t c. held t (Contains-append_left xs (u ∷ []) t c)), held u (Contains-push xs u))
+
+-- so are the first and the last of them
+pub AllHeld-take : (w : Store) (rs : List Term) (n : ℕ) → AllHeld w rs → AllHeld w (take n rs)
+AllHeld-take w rs n held t c = held t (subst (λ xs. Contains xs t) (take-append-drop n rs) (Contains-append_left (take n rs) (drop n rs) t c))
+
+pub AllHeld-drop : (w : Store) (rs : List Term) (n : ℕ) → AllHeld w rs → AllHeld w (drop n rs)
+AllHeld-drop w rs n held t c = held t (subst (λ xs. Contains xs t) (take-append-drop n rs) (Contains-append_right (take n rs) (drop n rs) t c))
+
+-- between references that are held and those that have trees
+pub AllHeld-from_trees : (w : Store) (rs : List Term) (ts : List Tree) → HaveTrees w rs ts → AllHeld w rs
+AllHeld-from_trees w [] ts h = AllHeld-nil w
+AllHeld-from_trees w (r ∷ rs) [] h = absurd h
+AllHeld-from_trees w (r ∷ rs) (t ∷ ts) h = AllHeld-cons w r rs (some-here h.0) (AllHeld-from_trees w rs ts h.1)
+
+pub trees_from-AllHeld : (w : Store) (rs : List Term) → AllHeld w rs → (ts : List Tree) × HaveTrees w rs ts
+trees_from-AllHeld w [] held = ([], tt)
+trees_from-AllHeld w (r ∷ rs) held =
+    let x = some-tree (tree_at w r) (AllHeld-first w r rs held) in
+    let xs = trees_from-AllHeld w rs (AllHeld-rest w r rs held) in
+    (x.0 ∷ xs.0, (x.1, xs.1))
 
 -- the parts with one reference more on top
 pub top-parts : (w : Store) (rest : List Term) (u : Term) (tree : Tree) → tree_at w u ≡ Some tree → all_parts w (rest ++ u ∷ []) ≡ all_parts w rest ++ parts tree

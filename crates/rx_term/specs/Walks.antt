@@ -1,5 +1,5 @@
 -- What those who build and walk trees through a bank promise.
-use Rattle.std.specs.Prelude.{◌≡◌, List, [], ◌∷◌, ◌++◌, Option, Some, None, IsSome, map, unwrap_or}
+use Rattle.std.specs.Prelude.{◌≡◌, List, [], ◌∷◌, ◌++◌, Option, Some, None, IsSome, Contains, map, unwrap_or}
 use Rattle.rx_term.specs.Parts.{parts, annotation_parts}
 use Rattle.rx_term.specs.Tree.{Tree, Trees, Items, none, more, list_of, annotations}
 use Rattle.rx_term.specs.Store.{Store, tree_at}
@@ -41,8 +41,7 @@ all_parts w (r ∷ rs) = parts_of (tree_at w r) ++ all_parts w rs
 
 -- each of them is held
 abbrev pub AllHeld : Store → List Term → Type 0
-AllHeld w [] = Unit {0}
-AllHeld w (r ∷ rs) = IsSome (tree_at w r) × AllHeld w rs
+AllHeld w rs = (t : Term) → Contains rs t → IsSome (tree_at w t)
 
 -- what stands below a node, but for its annotations, was pushed: kids are the references of these parts
 pub record PushesInside (w : Store) (u : Term) (old new : List Term) : Type 0 where

@@ -1,14 +1,14 @@
 use Rattle.std.proofs.Common.{◌≡◌, ◌++◌, length}
-use Rattle.rx_term.specs.Walks.{held_trees}
-use Rattle.rec_sorts.specs.Walking.{AreHeld, unstacked}
+use Rattle.rx_term.specs.Walks.{AllHeld, held_trees}
+use Rattle.rec_sorts.specs.Walking.{unstacked}
 use Rattle.rec_sorts.proofs.walk.nodes.Given as goal
 
 abbrev pub invariant-loop-node : goal.invariant-loop-node
 invariant-loop-node g l =
     let w = g.B.TermBank.store l.bank in
     record {
-      stacked : AreHeld w l.stack.items;
-      held : AreHeld w l.found.items;
+      stacked : AllHeld w l.stack.items;
+      held : AllHeld w l.found.items;
       trees : held_trees w l.found.items ++ unstacked (held_trees w l.stack.items) ≡ unstacked (held_trees w l.fn.stack.items);
     }
 

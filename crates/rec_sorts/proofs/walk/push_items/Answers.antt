@@ -1,8 +1,7 @@
-use Rattle.std.proofs.Common.{IsSome, [], ◌∷◌, ◌++◌, ap, arith, is_some}
-use Rattle.std.proofs.lemmas.List.Elements.{All-push, All-same}
-use Rattle.rx_term.specs.Store.{tree_at}
+use Rattle.std.proofs.Common.{ap, arith, is_some, subst, sym}
 use Rattle.rx_term.specs.Tree.{count_of}
-use Rattle.rx_term.specs.declared.Term.{Term}
+use Rattle.rx_term.specs.Walks.{AllHeld}
+use Rattle.rx_term.proofs.WalkLemmas.{AllHeld-push}
 use Rattle.rec_sorts.proofs.Walked.{first_there, rest_there, items_of-cons, items_turn}
 use Rattle.rec_sorts.proofs.walk.push_items.Goals as goal
 
@@ -17,9 +16,8 @@ loop-stack-preserved g c =
     let w = g.B.TermBank.store c.args.bank.now in
     let r = c.loop-stack.rest in
     let h = c.in-Cons.ensures in
-    let IsHeld = λ (r : Term). IsSome (tree_at w r) in
     record {
       rest = ap is_some (rest_there w r c.head.result c.tail-rest.result h c.head.ensures c.tail-rest.ensures);
-      held = All-same IsHeld c.push.new.self.items (c.loop-stack.stack.items ++ c.head.result ∷ []) c.in_ok-push.ensures.items (All-push IsHeld c.loop-stack.stack.items c.head.result c.loop-stack.invariant.held (ap is_some (first_there w r c.head.result c.tail-rest.result h c.head.ensures c.tail-rest.ensures)));
+      held = subst (AllHeld w) (sym c.in_ok-push.ensures.items) (AllHeld-push w c.loop-stack.stack.items c.head.result c.loop-stack.invariant.held (ap is_some (first_there w r c.head.result c.tail-rest.result h c.head.ensures c.tail-rest.ensures)));
       trees = items_turn w c.loop-stack.stack.items c.push.new.self.items c.args.stack.now.items r c.head.result c.tail-rest.result c.args.list c.in_ok-push.ensures.items (items_of-cons w r c.head.result c.tail-rest.result h c.head.ensures c.tail-rest.ensures) c.loop-stack.invariant.trees;
     }

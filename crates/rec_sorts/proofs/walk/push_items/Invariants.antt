@@ -1,8 +1,7 @@
 use Rattle.std.proofs.Common.{◌≡◌, ◌++◌, IsSome}
 use Rattle.rx_term.specs.Tree.{to_list, count_of, items_of}
 use Rattle.rx_term.specs.Store.{tree_at}
-use Rattle.rx_term.specs.Walks.{held_tree, held_trees}
-use Rattle.rec_sorts.specs.Walking.{AreHeld}
+use Rattle.rx_term.specs.Walks.{AllHeld, held_tree, held_trees}
 use Rattle.rec_sorts.proofs.walk.push_items.Given as goal
 
 abbrev pub invariant-loop-stack : goal.invariant-loop-stack
@@ -10,7 +9,7 @@ invariant-loop-stack g l =
     let w = g.B.TermBank.store l.bank in
     record {
       rest : IsSome (tree_at w l.rest);
-      held : AreHeld w l.stack.items;
+      held : AllHeld w l.stack.items;
       trees : held_trees w l.stack.items ++ to_list (items_of (held_tree w l.rest)) ≡ held_trees w l.fn.stack.items ++ to_list (items_of (held_tree w l.fn.list));
     }
 

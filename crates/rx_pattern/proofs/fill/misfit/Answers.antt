@@ -2,7 +2,8 @@ use Rattle.std.proofs.Common.{◌+◌, ◌∙◌, sym, ap, map, drop}
 use Rattle.rx_term.specs.declared.Term.{Term}
 use Rattle.rx_pattern.specs.Nodes.{step_of}
 use Rattle.rx_pattern.specs.Making.{slots_of_steps}
-use Rattle.rx_pattern.proofs.Fitting.{HaveTrees-length, tree_held, at_place, turn_taken, turn_refused, turn_other, started, all_fit, as_many, drop-past}
+use Rattle.rx_term.proofs.WalkLemmas.{AllHeld-at}
+use Rattle.rx_pattern.proofs.Fitting.{HaveTrees-length, at_place, turn_taken, turn_refused, turn_other, started, all_fit, as_many, drop-past}
 use Rattle.rx_pattern.proofs.Matches.{next_step}
 use Rattle.rx_pattern.proofs.fill.misfit.Goals as goal
 use Rattle.rx_pattern.proofs.fill.misfit.Goals.{then-is_slot+else-not-takes, else-is_slot}
@@ -31,7 +32,7 @@ takes-requires g c =
     let nodes = c.args.nodes.now in
     let i = c.loop-node.node-index in
     let n = c.node-item.result in
-    tree_held w c.args.args.now c.loop-node.at no_term c.requires (at_place w (slots_of_steps (map step_of nodes)) (slots_of_steps (map step_of (drop i nodes))) (slots_of_steps (map step_of (drop (i + 1) nodes))) (step_of n) c.args.args.now c.loop-node.at i (ap slots_of_steps (next_step nodes i n c.loop-node-test.true c.node-item.is)) c.loop-node.invariant (sym c.is_slot.ensures ∙ c.if-is_slot.true))
+    AllHeld-at w c.args.args.now c.loop-node.at no_term c.requires (at_place w (slots_of_steps (map step_of nodes)) (slots_of_steps (map step_of (drop i nodes))) (slots_of_steps (map step_of (drop (i + 1) nodes))) (step_of n) c.args.args.now c.loop-node.at i (ap slots_of_steps (next_step nodes i n c.loop-node-test.true c.node-item.is)) c.loop-node.invariant (sym c.is_slot.ensures ∙ c.if-is_slot.true))
 
 pub returns-then-not-takes : goal.returns-then-not-takes
 returns-then-not-takes g c = λ bs held.

@@ -1,7 +1,7 @@
 use Rattle.std.proofs.Common.{refl, true, false, sym, ap, ◌∙◌, subst, arith, ◌++◌, ◌<◌, ◌≤◌, ◌-◌, ◌≡◌, List, [], length, drop, append-nil}
 use Rattle.std.specs.Prelude.{All}
 use Rattle.rx_term.specs.declared.Term.{Term}
-use Rattle.rec_match.specs.Held.{AllHeld}
+use Rattle.rx_term.specs.Walks.{AllHeld}
 use Rattle.rec_match.specs.Matching.{Matches}
 use Rattle.rec_match.specs.Ordered.{in_order}
 use Rattle.rec_match.proofs.FindLemmas.{trying-next, can-ask, can-next, later-next, side-count, order-there, found-here, found-none}

@@ -2,7 +2,8 @@ use Rattle.std.proofs.Common.{refl, Err, ap, is_some, sym, ◌∙◌}
 use Rattle.rx_pattern.specs.Filling.{filling}
 use Rattle.rec_run.specs.PatternRuns.{made_due}
 use Rattle.rec_run.specs.PatternAnswers.{answer_due}
-use Rattle.rec_run.proofs.PatternTerms.{made_here, some_trees}
+use Rattle.rx_term.proofs.WalkLemmas.{trees_from-AllHeld}
+use Rattle.rec_run.proofs.PatternTerms.{made_here}
 use Rattle.rec_run.proofs.FaultLemmas.{full_bank}
 use Rattle.rec_run.proofs.pattern.answer.make_of_elements.Goals as goal
 
@@ -13,7 +14,7 @@ returns-in-Ok-clause-due g c = λ ts h.
 
 pub returns-in-Ok-clause-held : goal.returns-in-Ok-clause-held
 returns-in-Ok-clause-held g c =
-    let ts = some_trees (g.B.TermBank.store c.args.bank.now) c.args.args.now c.requires in
+    let ts = trees_from-AllHeld (g.B.TermBank.store c.args.bank.now) c.args.args.now c.requires in
     let u = c.in-Ok.ensures.made ts.0 ts.1 in
     ap is_some u.2
 

@@ -2,7 +2,8 @@ use Rattle.std.specs.Prelude.{codes, flat_map}
 use Rattle.rec_run.specs.TermRuns.{line_at}
 use Rattle.rec_run.specs.declared.ending.RunFault.TheVariants.{Write}
 use Rattle.rec_run.proofs.ErrorLemmas.{if_err_at}
-use Rattle.rec_run.proofs.PatternLines.{held_one, stops_before, stops_binding, stops_first, stops_write}
+use Rattle.rx_term.proofs.WalkLemmas.{AllHeld-at}
+use Rattle.rec_run.proofs.PatternLines.{stops_before, stops_binding, stops_first, stops_write}
 use Rattle.rec_run.proofs.pattern.lines.write_bindings.Goals as goal
 
 pub returns-in_err-put-clause-err : goal.returns-in_err-put-clause-err
@@ -12,7 +13,7 @@ returns-in_err-put-clause-err g c =
     (stops_before Write (codes "yes\n") (flat_map (line_at w) c.args.bindings.now) _ _ (stops_first Write (codes "yes\n") _ _ (stops_write 0 (codes "yes\n") _ _ c.in_err-put.ensures.front)))
 
 pub write_line-requires : goal.write_line-requires
-write_line-requires g c = held_one (g.B.TermBank.store c.args.bank.now) c.args.bindings.now c.loop-i.i _ c.requires c.loop-i-test.true
+write_line-requires g c = AllHeld-at (g.B.TermBank.store c.args.bank.now) c.args.bindings.now c.loop-i.i _ c.requires c.loop-i-test.true
 
 pub returns-in_err-write_line-clause-err : goal.returns-in_err-write_line-clause-err
 returns-in_err-write_line-clause-err g c =

@@ -1,6 +1,7 @@
 use Rattle.std.proofs.Common.{◌∙◌, ap, Some, None}
 use Rattle.rx_pattern.specs.Nodes.{tree_of_nodes}
-use Rattle.rx_pattern.proofs.Wholes.{have_some, misfit_of, told_count, told_kind, not_full, never_count, never_kind, made_ok}
+use Rattle.rx_term.proofs.WalkLemmas.{trees_from-AllHeld}
+use Rattle.rx_pattern.proofs.Wholes.{misfit_of, told_count, told_kind, not_full, never_count, never_kind, made_ok}
 use Rattle.rx_pattern.proofs.pattern.Pattern.make.Goals as goal
 
 pub returns-in-Some-clause-count : goal.returns-in-Some-clause-count
@@ -13,12 +14,12 @@ returns-in-Some-clause-kind g c = λ bs held at.
 
 pub returns-in-Some-clause-full : goal.returns-in-Some-clause-full
 returns-in-Some-clause-full g c = λ e.
-    let some = have_some (g.B.TermBank.store c.args.bank.now) c.args.args.now c.requires in
+    let some = trees_from-AllHeld (g.B.TermBank.store c.args.bank.now) c.args.args.now c.requires in
     absurd (not_full c.in-Some.fault c.args.self.now some.0 (misfit_of c.self.inside.nodes.items c.args.self.now (Some c.in-Some.fault) some.0 c.self.invariant c.self.view_is (rw c.deref.ensures.value at (c.in-Some.ensures some.0 some.1))) e)
 
 pub fill-requires-clause-fitting : goal.fill-requires-clause-fitting
 fill-requires-clause-fitting g c =
-    let some = have_some (g.B.TermBank.store c.args.bank.now) c.args.args.now c.requires in
+    let some = trees_from-AllHeld (g.B.TermBank.store c.args.bank.now) c.args.args.now c.requires in
     (some.0, some.1, rw c.deref-2.ensures.value (rw c.deref.ensures.value at (c.in_default.ensures some.0 some.1)))
 
 pub returns-clause-made : goal.returns-clause-made
