@@ -14,13 +14,12 @@ pub struct Names<'a> {
 impl<'a> Names<'a> {
     ghost use Rattle.rec_sorts.specs.Names.{given_to, given_first};
 
-    /// No name has a number.
-    pub fn new(alloc: Global) -> Self
-        ensures { given_to result ≡ (λ _. None) }
+    /// No name has a number; there is room for so many.
+    pub fn with_capacity(alloc: Global, count: usize) -> Result<Self, AllocError>
+        ensures { IfOk result (λ names. given_to names ≡ (λ _. None)) }
     {
-        Names {
-            numbers: IndexMap::new(alloc),
-        }
+        let numbers = IndexMap::with_capacity(alloc, count)?;
+        Ok(Names { numbers })
     }
 
     /// The number of a name.

@@ -197,7 +197,7 @@ impl Scope<'_> {
         ensures places { IfOk result
             (λ r. r.places ≡ rules_places self.now (map (rule_of self.now.source.now) rules.now)) }
     {
-        let mut letters = Vec::new(alloc);
+        let mut letters = Vec::with_capacity(alloc, rules.len())?;
         let mut places = TermPlaces::NONE;
         for rule in rules {
             let read = self.rule(alloc, rule)?;
@@ -215,7 +215,7 @@ impl Scope<'_> {
         ensures places { IfOk result (λ r.
             r.places ≡ open_terms_places self.now (map (term_of self.now.source.now) terms.now)) }
     {
-        let mut letters = Vec::new(alloc);
+        let mut letters = Vec::with_capacity(alloc, terms.len())?;
         let mut places = TermPlaces::NONE;
         for term in terms {
             let read = self.term(alloc, term)?;

@@ -40,7 +40,7 @@ pub fn read_sorts(alloc: Global, syntax: &Syntax) -> Result<ReadSorts<'_>, Alloc
         (λ r. r.repeated ≡ least_place (repeated_sorts syntax.now.spec)) }
 {
     let source = syntax.source();
-    let mut names = Names::new(alloc);
+    let mut names = Names::with_capacity(alloc, syntax.sorts().len())?;
     let repeated = number_words(&mut names, source, syntax.sorts(), 0)?;
     Ok(ReadSorts {
         sorts: Sorts { source, names },
@@ -85,7 +85,7 @@ pub fn read_scope<'a>(
 {
     let source = syntax.source();
     let (declared, symbols) = read_declared(alloc, syntax, sorts)?;
-    let mut words = Names::new(alloc);
+    let mut words = Names::with_capacity(alloc, declared.words.len())?;
     let parts = declared.words.split_at(symbols);
     let repeated_symbol = number_words(&mut words, source, parts.0, 0)?;
     let taken_variable = number_words(&mut words, source, parts.1, symbols)?;

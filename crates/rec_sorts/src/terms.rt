@@ -61,7 +61,7 @@ impl Scope<'_> {
         ensures { IfOk result (λ v.
             v.items ≡ map (placed_by self.now) (map (node_of self.now.source.now) nodes.now)) }
     {
-        let mut letters = Vec::new(alloc);
+        let mut letters = Vec::with_capacity(alloc, nodes.len())?;
         for node in nodes {
             letters.push(Placed {
                 meaning: self.meaning(self.word(node.word)),

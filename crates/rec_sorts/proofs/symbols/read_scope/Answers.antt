@@ -20,7 +20,7 @@ returns-clause-scope c =
     let second : back ≡ variable_words y.variables =
     ap (λ t. words_of t c.split_at-parts.result.1.now) c.source-source.ensures.text ∙ ap (words_of source) (c.split_at-parts.ensures.back ∙ ap (drop n) c.deref.ensures.value) ∙ other_words source y d.words.items n read.words_read read.symbols_read in
     record {
-      words_numbered = words_all-numbered y n read.symbols_read front back first second (given_to c.new-words.result) (given_to c.number_words.new.names) (given_to c.number_words-2.new.names) c.new-words.ensures c.in_ok-repeated_symbol.ensures.numbers c.in_ok-taken_variable.ensures.numbers;
+      words_numbered = words_all-numbered y n read.symbols_read front back first second (given_to c.in_ok-words.words) (given_to c.number_words.new.names) (given_to c.number_words-2.new.names) c.in_ok-words.ensures c.in_ok-repeated_symbol.ensures.numbers c.in_ok-taken_variable.ensures.numbers;
       sorts_listed = read.sorts_read;
       arguments_listed = read.arguments_read;
       constructors_counted = c.in_ok-constructors.ensures ∙ sym (length-map c.constructors.result.now (declaration_of source)) ∙ ap length c.constructors.ensures.constructors;
@@ -40,7 +40,7 @@ returns-clause-repeated c =
     ap (λ t. words_of t c.split_at-parts.result.0.now) c.source-source.ensures.text ∙ ap (words_of source) (c.split_at-parts.ensures.front ∙ ap (take n) c.deref.ensures.value) ∙ first_words source y d.words.items n read.words_read read.symbols_read in
     let second : back ≡ variable_words y.variables =
     ap (λ t. words_of t c.split_at-parts.result.1.now) c.source-source.ensures.text ∙ ap (words_of source) (c.split_at-parts.ensures.back ∙ ap (drop n) c.deref.ensures.value) ∙ other_words source y d.words.items n read.words_read read.symbols_read in
-    c.in_ok-repeated_symbol.ensures.repeated ∙ symbols_repeated y n read.symbols_read front back first second (given_to c.new-words.result) (given_to c.number_words.new.names) (given_to c.number_words-2.new.names) c.new-words.ensures c.in_ok-repeated_symbol.ensures.numbers c.in_ok-taken_variable.ensures.numbers
+    c.in_ok-repeated_symbol.ensures.repeated ∙ symbols_repeated y n read.symbols_read front back first second (given_to c.in_ok-words.words) (given_to c.number_words.new.names) (given_to c.number_words-2.new.names) c.in_ok-words.ensures c.in_ok-repeated_symbol.ensures.numbers c.in_ok-taken_variable.ensures.numbers
 
 pub returns-clause-taken : goal.returns-clause-taken
 returns-clause-taken c =
@@ -55,4 +55,4 @@ returns-clause-taken c =
     ap (λ t. words_of t c.split_at-parts.result.0.now) c.source-source.ensures.text ∙ ap (words_of source) (c.split_at-parts.ensures.front ∙ ap (take n) c.deref.ensures.value) ∙ first_words source y d.words.items n read.words_read read.symbols_read in
     let second : back ≡ variable_words y.variables =
     ap (λ t. words_of t c.split_at-parts.result.1.now) c.source-source.ensures.text ∙ ap (words_of source) (c.split_at-parts.ensures.back ∙ ap (drop n) c.deref.ensures.value) ∙ other_words source y d.words.items n read.words_read read.symbols_read in
-    c.in_ok-taken_variable.ensures.repeated ∙ variables_repeated y n read.symbols_read front back first second (given_to c.new-words.result) (given_to c.number_words.new.names) (given_to c.number_words-2.new.names) c.new-words.ensures c.in_ok-repeated_symbol.ensures.numbers c.in_ok-taken_variable.ensures.numbers
+    c.in_ok-taken_variable.ensures.repeated ∙ variables_repeated y n read.symbols_read front back first second (given_to c.in_ok-words.words) (given_to c.number_words.new.names) (given_to c.number_words-2.new.names) c.in_ok-words.ensures c.in_ok-repeated_symbol.ensures.numbers c.in_ok-taken_variable.ensures.numbers
