@@ -29,6 +29,7 @@ pub mod OrderLemmas
 pub mod NextLemmas
 pub mod AnswerLemmas
 pub mod LeftLemmas
+pub mod StepLemmas
 pub mod TaskLemmas
 pub mod BranchLemmas
 pub mod TreeLemmas

@@ -7,13 +7,14 @@ use Rattle.rx_term.specs.Tree.{Tree, Trees, none, more, count_of}
 use Rattle.rec_syntax.specs.Tokens.{Word}
 use Rattle.rec_syntax.specs.Syntax.{Term, Terms, Apply, Spec}
 use Rattle.rec_sorts.specs.Lookup.{is_variable, count}
-use Rattle.rec_sorts.specs.Binding.{Substitution, value_of, application, instance, instances, binds}
+use Rattle.rec_sorts.specs.Binding.{Substitution, value_of, instance, instances, binds}
 use Rattle.rec_sorts.specs.Laws.{BindsVariables, BindsVariablesAll, IsPartOf, Every}
 use Rattle.rec_sorts.specs.Numbering.{Named, named, named_all}
 use Rattle.rec_match.specs.Bound.{opened, bound, goes_on}
 use Rattle.rec_match.specs.Asking.{stack_on, asked}
 use Rattle.rec_sorts.proofs.Bindings.{binding_law}
-use Rattle.rec_match.proofs.BoundLemmas.{BindsOnly, Comes, Walked, WalkedAll, binding_at, binds_variables, bound_comes, counted, grown_all, instance_by, opened_is, opened_same, unbound, walked_bound}
+use Rattle.rec_match.proofs.BoundLemmas.{BindsOnly, Comes, Walked, WalkedAll, binds_variables, grown_all, opened_is}
+use Rattle.rec_match.proofs.StepLemmas.{stepped, step_comes}
 
 abbrev mutual
   pub walk : Spec → Term → Tree → Substitution → Option Substitution
@@ -27,25 +28,7 @@ abbrev mutual
 
 mutual
   walked : (y : Spec) (t : Term) (u : Tree) (s s' : Substitution) → BindsOnly y s → walk y t u s ≡ Some s' → Walked y t u s s'
-  walked y (Apply w ts) u s s' only e =
-      let k = by (is_variable y w.bytes) refl e (λ us g. walked_all y ts us s s' only g) in
-      record { part = k.0; only = k.1; binding = k.2; is = k.3 }
-    where
-      by_opened : is_variable y w.bytes ≡ false → (o : Option Trees) → opened w.bytes (count ts) u ≡ o → goes_on o (λ us. walk_all y ts us s) ≡ Some s' → ((us : Trees) → walk_all y ts us s ≡ Some s' → WalkedAll y ts us s s')
-          → IsPartOf s s' × BindsOnly y s' × ((value_of s' w.bytes ≡ None) × BindsVariablesAll y s' ts) × (instance s' (Apply w ts) ≡ u)
-      by_opened symbol None h e later = absurd (cc e)
-      by_opened symbol (Some us) h e later =
-          let k : WalkedAll y ts us s s' = later us e in
-          let no : value_of s' w.bytes ≡ None = unbound y s' k.only w.bytes symbol in
-          (k.part, k.only, (no, k.binding), ap (instance_by s' w ts) no ∙ ap (application w.bytes) k.is ∙ (opened_is w.bytes (count ts) u us h).0)
-
-      by : (b : Bool) → is_variable y w.bytes ≡ b → ◌≡◌ {A = Option Substitution} (elim b [ true ↦ bound s w.bytes u | false ↦ goes_on (opened w.bytes (count ts) u) (λ us. walk_all y ts us s) ]) (Some s')
-          → ((us : Trees) → walk_all y ts us s ≡ Some s' → WalkedAll y ts us s s')
-          → IsPartOf s s' × BindsOnly y s' × binding_at y s' w ts b × (instance s' (Apply w ts) ≡ u)
-      by true variable e later =
-          let k = walked_bound y w ts u s s' variable only e in
-          (k.0, k.1, (u, k.2), ap (instance_by s' w ts) k.2)
-      by false symbol e later = by_opened symbol (opened w.bytes (count ts) u) refl e later
+  walked y (Apply w ts) u s s' only e = stepped y w ts s (λ us. walk_all y ts us s) u s' only e (λ us g. walked_all y ts us s s' only g)
 
   walked_all : (y : Spec) (ts : Terms) (us : Trees) (s s' : Substitution) → BindsOnly y s → walk_all y ts us s ≡ Some s' → WalkedAll y ts us s s'
   walked_all y Terms.none none s s' only e =
@@ -73,15 +56,7 @@ mutual
 mutual
   -- where a substitution makes the term a tree, the walk over the tree comes to a part of it
   comes : (y : Spec) (g : Substitution) (t : Term) → BindsVariables y g t → (s : Substitution) → IsPartOf s g → Comes (walk y t (instance g t) s) g
-  comes y g (Apply w ts) h s part = by (is_variable y w.bytes) h (λ k. comes_all y g ts k s part)
-    where
-      by : (b : Bool) → binding_at y g w ts b → (BindsVariablesAll y g ts → Comes (walk_all y ts (instances g ts) s) g)
-          → Comes (elim b [ true ↦ bound s w.bytes (instance g (Apply w ts)) | false ↦ goes_on (opened w.bytes (count ts) (instance g (Apply w ts))) (λ us. walk_all y ts us s) ]) g
-      by true h later = subst (λ u. Comes (bound s w.bytes u) g) (sym (ap (instance_by g w ts) h.1)) (bound_comes s g w.bytes h.0 part h.1)
-      by false h later =
-          let is : instance g (Apply w ts) ≡ application w.bytes (instances g ts) = ap (instance_by g w ts) h.0 in
-          let open_it : opened w.bytes (count ts) (instance g (Apply w ts)) ≡ Some (instances g ts) = ap (opened w.bytes (count ts)) is ∙ opened_same w.bytes (count ts) (instances g ts) (counted g ts) in
-          subst (λ o. Comes (goes_on o (λ us. walk_all y ts us s)) g) (sym open_it) (later h.1)
+  comes y g (Apply w ts) h s part = step_comes y w ts s (λ us. walk_all y ts us s) g h part (λ k. comes_all y g ts k s part)
 
   comes_all : (y : Spec) (g : Substitution) (ts : Terms) → BindsVariablesAll y g ts → (s : Substitution) → IsPartOf s g → Comes (walk_all y ts (instances g ts) s) g
   comes_all y g Terms.none h s part = (s, refl, part)
