@@ -17,10 +17,10 @@ use Rattle.rec_sorts.specs.Laws.{Every}
 use Rattle.rec_sorts.specs.TermRules.{nodes, nodes_all, arguments, tree_symbol, is_no_application, is_annotated, is_undeclared, is_ill_filled, tree_sort, are_ill_sorted, is_ill_sorted, first_passed, broken_by_elements}
 use Rattle.rec_sorts.specs.Binding.{instances, tree_of, application}
 use Rattle.rec_sorts.specs.Walking.{backwards}
-use Rattle.rec_sorts.proofs.Kept.{all_kept, all_filled, missing_none, no_free_variable, bytes_eq-eq}
-use Rattle.rec_sorts.proofs.Walked.{any-backwards}
-use Rattle.rec_sorts.proofs.GivenRules.{length-to_list, declared_by}
-use Rattle.rec_match.proofs.Facts.{every_append, every_joined, every_flat, every_map, filter_none}
+use Rattle.rec_sorts.proofs.KeptLemmas.{all_kept, all_filled, missing_none, no_free_variable, bytes_eq-eq}
+use Rattle.rec_sorts.proofs.WalkedLemmas.{any-backwards}
+use Rattle.rec_sorts.proofs.GivenRuleLemmas.{length-to_list, declared_by}
+use Rattle.rec_match.proofs.FactLemmas.{every_append, every_joined, every_flat, every_map, filter_none}
 use Rattle.rec_engine.specs.Engine.{IsGround}
 use Rattle.rec_engine.specs.Given.{IsNode}
 

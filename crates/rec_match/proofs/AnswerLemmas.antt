@@ -28,7 +28,7 @@ use Rattle.rec_match.specs.Next.{IsReady, AreReady, AreLater, Reaches, Matched}
 use Rattle.rec_match.specs.Walking.{walk_all}
 use Rattle.rec_match.specs.Bound.{opened, goes_on, bound}
 use Rattle.rec_match.specs.declared.matcher.Matcher.{Matcher}
-use Rattle.rec_match.proofs.Facts.{facts}
+use Rattle.rec_match.proofs.FactLemmas.{facts}
 use Rattle.rec_match.proofs.FindLemmas.{first-matched, first-passed}
 use Rattle.rec_match.proofs.WalkLemmas.{walk_binds}
 use Rattle.rec_match.proofs.BoundLemmas.{opened_is}

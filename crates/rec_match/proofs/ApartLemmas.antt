@@ -14,7 +14,7 @@ use Rattle.rec_match.specs.Matching.{AreTests, IsTest, FirstAt}
 use Rattle.rec_match.specs.Ordered.{among, with_letter, numbers_in}
 use Rattle.rec_match.specs.declared.matcher.Test.{Test}
 use Rattle.rec_match.specs.declared.matcher.Test.TheVariants.{Open, First, Again}
-use Rattle.rec_match.proofs.Items.{get-front, get-last}
+use Rattle.rec_match.proofs.ItemLemmas.{get-front, get-last}
 use Rattle.rec_match.proofs.PlaceLemmas.{first-more, first-last}
 use Rattle.rec_match.proofs.PairedLemmas.{AreVariables, every-snoc}
 

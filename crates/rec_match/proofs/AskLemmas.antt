@@ -28,7 +28,7 @@ use Rattle.rec_sorts.specs.Linked.{signature, AreLinked}
 use Rattle.rec_match.specs.Matching.{AreFilled, paired, IsTest, AreTests, Opens, Asks, Matches}
 use Rattle.rec_match.specs.declared.matcher.Test.{Test}
 use Rattle.rec_match.specs.declared.matcher.Test.TheVariants.{Open, First, Again}
-use Rattle.rec_match.proofs.Facts.{facts, variable_is_one}
+use Rattle.rec_match.proofs.FactLemmas.{facts, variable_is_one}
 use Rattle.rec_match.proofs.BoundLemmas.{opened_is, opened_same}
 use Rattle.rec_match.proofs.PairedLemmas.{AreVariables, value-paired, first-within, paired-snoc, unpaired, every-snoc}
 

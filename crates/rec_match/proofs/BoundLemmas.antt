@@ -11,7 +11,7 @@ use Rattle.rec_sorts.specs.TermRules.{arguments}
 use Rattle.rec_sorts.specs.Binding.{Substitution, value_of, application, instance, instances, binds, bind_first, parts_at_variables, parts_at_variables_all}
 use Rattle.rec_sorts.specs.Laws.{BindsVariables, BindsVariablesAll, IsPartOf}
 use Rattle.rec_match.specs.Bound.{with_one, opened, bound}
-use Rattle.rec_sorts.proofs.Bindings.{append_keeps, append_finds, append_is, bind_first_binds, is_bound}
+use Rattle.rec_sorts.proofs.BindingLemmas.{append_keeps, append_finds, append_is, bind_first_binds, is_bound}
 
 -- only variables are bound
 abbrev pub BindsOnly : Spec → Substitution → Type 0

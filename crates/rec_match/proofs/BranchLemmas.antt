@@ -9,8 +9,8 @@ use Rattle.rec_syntax.specs.Syntax.{Spec}
 use Rattle.rec_sorts.specs.Lookup.{symbols}
 use Rattle.rec_sorts.specs.Numbering.{name_of, arity_of}
 use Rattle.rec_sorts.specs.declared.letters.Meaning.TheVariants.{Symbol}
-use Rattle.rec_sorts.proofs.Kept.{bytes_eq-eq}
-use Rattle.rec_sorts.proofs.Bindings.{bytes_eq-refl}
+use Rattle.rec_sorts.proofs.KeptLemmas.{bytes_eq-eq}
+use Rattle.rec_sorts.proofs.BindingLemmas.{bytes_eq-refl}
 use Rattle.rec_match.specs.Rows.{Row, opened_cells, kept_cells, changed}
 use Rattle.rec_match.specs.Forests.{Cases, case_at, child_at, no_child, number_at}
 use Rattle.rec_match.specs.Growing.{State, AllWithin, GrowsSwitch, Extends}

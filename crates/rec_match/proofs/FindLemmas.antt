@@ -29,7 +29,7 @@ use Rattle.std.proofs.Math.ListN.{drop_of_length-le}
 use Rattle.rx_term.specs.Walks.{AllHeld, held_tree, held_trees}
 use Rattle.rec_match.specs.declared.matcher.Test.{Test}
 use Rattle.rec_match.specs.declared.matcher.Test.TheVariants.{Open, First, Again}
-use Rattle.rec_match.proofs.Facts.{facts, RuleFacts}
+use Rattle.rec_match.proofs.FactLemmas.{facts, RuleFacts}
 use Rattle.rec_match.proofs.TrialLemmas.{AreBare, AgreeOn, asked_binds}
 use Rattle.rec_match.proofs.BoundLemmas.{opened_same}
 use Rattle.rec_match.proofs.ValueLemmas.{no_term, order-within, tested-values, side-paired, held-in-order}

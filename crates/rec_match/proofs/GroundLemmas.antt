@@ -4,7 +4,7 @@ use Rattle.rec_syntax.specs.Syntax.{Spec}
 use Rattle.rec_sorts.specs.SpecRules.{fault}
 use Rattle.rec_match.specs.Tasks.{AreApart, IsWhole, IsGround}
 use Rattle.rec_match.specs.declared.parts.Parts.{Parts}
-use Rattle.rec_match.proofs.Facts.{facts}
+use Rattle.rec_match.proofs.FactLemmas.{facts}
 
 pub is_ground : (y : Spec) → fault y ≡ None → (ns : List ℕ) (ps : Parts) → AreApart y ns → IsWhole ps → IsGround y ns ps
 is_ground y kept ns ps apart whole = record {

@@ -21,9 +21,9 @@ use Rattle.rec_match.specs.declared.forest.Node.{Node}
 use Rattle.rec_match.specs.declared.forest.Node.TheVariants.{Fail}
 use Rattle.rec_match.specs.declared.parts.Parts.{Parts}
 use Rattle.rec_match.proofs.ExtensionLemmas.{grows_later}
-use Rattle.rec_match.proofs.Facts.{facts}
+use Rattle.rec_match.proofs.FactLemmas.{facts}
 use Rattle.rec_match.proofs.GrowthLemmas.{grown_forest}
-use Rattle.rec_match.proofs.Items.{get-front, get-last}
+use Rattle.rec_match.proofs.ItemLemmas.{get-front, get-last}
 use Rattle.rec_match.proofs.RootRowLemmas.{no_rule}
 
 -- the rows of all rules of a symbol

@@ -13,7 +13,7 @@ use Rattle.rec_match.specs.Matching.{CanFind, FindsFor, FindsOn}
 use Rattle.rec_match.specs.declared.forest.Hit.{Hit}
 use Rattle.rec_match.specs.declared.matcher.Matcher.{Matcher}
 use Rattle.rec_match.proofs.FindLemmas.{own-count}
-use Rattle.rec_match.proofs.TreeAnswers.{args-long, tree-finds}
+use Rattle.rec_match.proofs.TreeAnswerLemmas.{args-long, tree-finds}
 
 -- the values are those that were put on top
 pub found-on : (w : Store) (m : Matcher) (at : ℕ) (old bind new : List Term) (rule values : ℕ) → FindsFor w m at old bind (Some rule) → values ≡ length old → new ≡ old ++ bind → FindsOn w m at old new (Some (record { rule = rule; values = values }))

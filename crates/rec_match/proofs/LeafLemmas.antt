@@ -19,8 +19,8 @@ use Rattle.rec_match.specs.declared.parts.Code.{Code}
 use Rattle.rec_match.specs.declared.parts.Parts.{Parts}
 use Rattle.rec_match.specs.Parts.{part_at, IsHead, IsPart, IsCell, AreCells, AreDistinctVariables}
 use Rattle.rec_match.specs.Leaves.{number_position, code_places}
-use Rattle.rec_sorts.proofs.Kept.{bytes_eq-eq}
-use Rattle.rec_sorts.proofs.Bindings.{bytes_eq-refl}
+use Rattle.rec_sorts.proofs.KeptLemmas.{bytes_eq-eq}
+use Rattle.rec_sorts.proofs.BindingLemmas.{bytes_eq-refl}
 
 module _ (y : Spec) (distinct : AreDistinctVariables y) where
   abbrev name : ℕ → List ℕ

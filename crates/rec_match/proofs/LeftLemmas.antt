@@ -18,7 +18,7 @@ use Rattle.rec_match.specs.Tasks.{IsWhole, AreThere, AreLeft}
 use Rattle.rec_match.specs.declared.parts.Code.{Code}
 use Rattle.rec_match.specs.declared.parts.CodeRow.{CodeRow}
 use Rattle.rec_match.specs.declared.parts.Parts.{Parts}
-use Rattle.rec_match.proofs.Facts.{every_joined}
+use Rattle.rec_match.proofs.FactLemmas.{every_joined}
 use Rattle.rec_match.proofs.PartLemmas.{opened_codes_are, kept_codes_are, changed_rows_are}
 
 -- it holds of each element of a list that may be there

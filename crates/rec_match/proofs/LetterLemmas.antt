@@ -15,15 +15,15 @@ use Rattle.rec_sorts.specs.declared.letters.Letter.{Letter}
 use Rattle.rec_sorts.specs.declared.letters.LetterRule.{LetterRule}
 use Rattle.rec_sorts.specs.declared.letters.Meaning.{Meaning}
 use Rattle.rec_sorts.specs.declared.letters.Meaning.TheVariants.{Symbol, Variable}
-use Rattle.rec_sorts.proofs.Kept.{all_filled, left_sides_apply, bytes_eq-eq}
-use Rattle.rec_sorts.proofs.Bindings.{bytes_eq-refl}
+use Rattle.rec_sorts.proofs.KeptLemmas.{all_filled, left_sides_apply, bytes_eq-eq}
+use Rattle.rec_sorts.proofs.BindingLemmas.{bytes_eq-refl}
 use Rattle.rx_term.specs.declared.Symbol as bank
 use Rattle.rec_match.specs.declared.matcher.LeftSide.{LeftSide}
 use Rattle.rec_match.specs.Matching.{AreFilled, AreTested}
 use Rattle.rec_match.specs.Built.{IsHead, IsWithin, IsBelow, IsLeftSide}
-use Rattle.rec_match.proofs.Facts.{facts, every_append, every_flat, every_named, variable_is_one}
+use Rattle.rec_match.proofs.FactLemmas.{facts, every_append, every_flat, every_named, variable_is_one}
 use Rattle.rec_match.proofs.TrialLemmas.{AreBare}
-use Rattle.rec_match.proofs.Items.{get-last}
+use Rattle.rec_match.proofs.ItemLemmas.{get-last}
 
 pub every-at : {A : Type 0} (P : A → Type 0) (xs : List A) → Every P xs → (i : ℕ) (d : A) → i < length xs → P (get_or xs i d)
 every-at P [] h i d lt = absurd (let none : ⊥ = omega (arith, lt) in none)

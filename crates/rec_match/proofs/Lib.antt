@@ -1,13 +1,13 @@
 pub mod BoundLemmas
 pub mod TrialLemmas
-pub mod Facts
-pub mod Congruence
+pub mod FactLemmas
+pub mod CongruenceLemmas
 pub mod OpenLemmas
 pub mod PairedLemmas
 pub mod AskLemmas
 pub mod FillLemmas
 pub mod FindLemmas
-pub mod Items
+pub mod ItemLemmas
 pub mod PlaceLemmas
 pub mod BuildLemmas
 pub mod LetterLemmas
@@ -37,7 +37,7 @@ pub mod GroundLemmas
 pub mod PushLemmas
 pub mod RuleLemmas
 pub mod ValueLemmas
-pub mod TreeAnswers
+pub mod TreeAnswerLemmas
 pub mod RootRowLemmas
 pub mod GrownLemmas
 pub mod ShareLemmas

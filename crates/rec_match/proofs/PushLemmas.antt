@@ -14,8 +14,8 @@ use Rattle.rec_match.specs.Pushed.{CanPush, Pushed, counts_of, IsFilled, MorePar
 use Rattle.rec_match.specs.declared.parts.Part.{Part}
 use Rattle.rec_match.specs.declared.parts.Parts.{Parts}
 use Rattle.rec_match.proofs.ExtensionLemmas.{slice_within}
-use Rattle.rec_match.proofs.Facts.{every_append, every_joined, every_map}
-use Rattle.rec_match.proofs.Items.{get-last}
+use Rattle.rec_match.proofs.FactLemmas.{every_append, every_joined, every_map}
+use Rattle.rec_match.proofs.ItemLemmas.{get-last}
 use Rattle.rec_match.proofs.LeftLemmas.{every_take, every_drop}
 use Rattle.rec_match.proofs.TaskLemmas.{slice_seam}
 

@@ -10,8 +10,8 @@ use Rattle.rec_sorts.specs.SpecRules.{fault}
 use Rattle.rec_sorts.specs.Numbering.{name_of, arity_of}
 use Rattle.rec_sorts.specs.declared.letters.Meaning.{Meaning}
 use Rattle.rec_sorts.specs.declared.letters.Meaning.TheVariants.{Symbol, Variable}
-use Rattle.rec_sorts.proofs.Kept.{bytes_eq-eq}
-use Rattle.rec_sorts.proofs.Bindings.{bytes_eq-refl}
+use Rattle.rec_sorts.proofs.KeptLemmas.{bytes_eq-eq}
+use Rattle.rec_sorts.proofs.BindingLemmas.{bytes_eq-refl}
 use Rattle.std.proofs.lemmas.Bool.{eq-eqb}
 use Rattle.rec_match.specs.Built.{IsHead, AreHeads}
 use Rattle.rec_match.specs.Chains.{IsNext, AreChainsFrom}
@@ -23,7 +23,7 @@ use Rattle.rec_match.specs.Rows.{Row, cells_from}
 use Rattle.rec_match.specs.Running.{is_of, root_rows}
 use Rattle.rec_match.specs.Tasks.{IsWhole, AreThere, AreLeft}
 use Rattle.rec_match.specs.declared.parts.Parts.{Parts}
-use Rattle.rec_match.proofs.Facts.{facts, every_joined}
+use Rattle.rec_match.proofs.FactLemmas.{facts, every_joined}
 use Rattle.rec_match.proofs.LeftLemmas.{every_take, every_drop, numbered_there, cells_from_within}
 use Rattle.rec_match.proofs.PartLemmas.{numbered_cells}
 

@@ -17,8 +17,8 @@ use Rattle.rec_match.specs.Parts.{IsHead, IsPart}
 use Rattle.rec_match.specs.Pushed.{IsFilled, Pushed, CanPush, counts_of, PushesTerm, AreLeftParts}
 use Rattle.rec_match.specs.Tasks.{IsWhole}
 use Rattle.rec_match.specs.declared.parts.Parts.{Parts}
-use Rattle.rec_match.proofs.Facts.{facts, variable_is_one}
-use Rattle.rec_match.proofs.Items.{get-front, get-last}
+use Rattle.rec_match.proofs.FactLemmas.{facts, variable_is_one}
+use Rattle.rec_match.proofs.ItemLemmas.{get-front, get-last}
 use Rattle.rec_match.proofs.LetterLemmas.{left-letters, filled-rule, letters-filled, pair-long}
 use Rattle.rec_match.proofs.PushLemmas.{part_pushed, can_push, part_later, more_long}
 

@@ -14,7 +14,7 @@ use Rattle.rec_sorts.specs.SpecRules.{fault}
 use Rattle.rec_sorts.specs.Binding.{Substitution, application, binds, first_match}
 use Rattle.rec_sorts.specs.Numbering.{named, named_all, name_of, arity_of}
 use Rattle.rec_sorts.specs.declared.letters.Meaning.TheVariants.{Symbol}
-use Rattle.rec_sorts.proofs.Kept.{bytes_eq-eq}
+use Rattle.rec_sorts.proofs.KeptLemmas.{bytes_eq-eq}
 use Rattle.rec_match.specs.Asking.{asked, stack_on}
 use Rattle.rec_match.specs.Bound.{opened, bound, goes_on}
 use Rattle.rec_match.specs.Chains.{IsNext, AreChainsFrom}
@@ -24,12 +24,12 @@ use Rattle.rec_match.specs.Forests.{IsForest}
 use Rattle.rec_match.specs.Tasks.{numbers_of}
 use Rattle.rec_match.specs.declared.matcher.Matcher.{Matcher}
 use Rattle.rec_match.specs.declared.matcher.LeftSide.{LeftSide}
-use Rattle.rec_match.proofs.Facts.{facts, RuleFacts}
+use Rattle.rec_match.proofs.FactLemmas.{facts, RuleFacts}
 use Rattle.rec_match.proofs.TrialLemmas.{AreBare, AgreeOn, asked_binds}
 use Rattle.rec_match.proofs.FindLemmas.{first-passed}
 use Rattle.rec_match.proofs.LetterLemmas.{every-at}
 use Rattle.std.proofs.lemmas.List.{get_or_default}
-use Rattle.rec_match.proofs.Items.{get-front, get-last}
+use Rattle.rec_match.proofs.ItemLemmas.{get-front, get-last}
 
 opened-other : (a b : List ℕ) (c : ℕ) (vs : Trees) → bytes_eq a b ≡ false → opened a c (application b vs) ≡ None
 opened-other a b c vs e = ap at e

@@ -17,8 +17,8 @@ use Rattle.rec_match.specs.declared.forest.Node.TheVariants.{Fail, Try}
 use Rattle.rec_match.specs.declared.parts.Code.{Code}
 use Rattle.rec_match.specs.declared.parts.Parts.{Parts}
 use Rattle.rec_match.proofs.ExtensionLemmas.{grows_later}
-use Rattle.rec_match.proofs.Facts.{every_append, every_joined, every_map}
-use Rattle.rec_match.proofs.Items.{get-front}
+use Rattle.rec_match.proofs.FactLemmas.{every_append, every_joined, every_map}
+use Rattle.rec_match.proofs.ItemLemmas.{get-front}
 use Rattle.rec_match.proofs.LeafLemmas.{code_places_are}
 
 -- states with one more

@@ -12,7 +12,7 @@ use Rattle.rec_sorts.specs.Laws.{BindsVariables, BindsVariablesAll, IsPartOf, Ev
 use Rattle.rec_sorts.specs.Numbering.{Named, named, named_all}
 use Rattle.rec_match.specs.Bound.{opened, bound, goes_on}
 use Rattle.rec_match.specs.Asking.{stack_on, asked}
-use Rattle.rec_sorts.proofs.Bindings.{binding_law}
+use Rattle.rec_sorts.proofs.BindingLemmas.{binding_law}
 use Rattle.rec_match.proofs.BoundLemmas.{BindsOnly, Comes, Walked, WalkedAll, binds_variables, grown_all, opened_is}
 use Rattle.rec_match.proofs.StepLemmas.{stepped, step_comes}
 

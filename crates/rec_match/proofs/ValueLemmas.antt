@@ -22,7 +22,7 @@ use Rattle.rec_match.specs.Ordered.{keys, names_in, numbers_in, in_order, AreOrd
 use Rattle.rec_match.specs.Rows.{values_of}
 use Rattle.rec_match.specs.declared.matcher.Matcher.{Matcher}
 use Rattle.rec_match.proofs.ApartLemmas.{Apart, apart-first, nothing-apart, tests-variables}
-use Rattle.rec_match.proofs.Facts.{facts}
+use Rattle.rec_match.proofs.FactLemmas.{facts}
 use Rattle.rec_match.proofs.KeyLemmas.{IsKeyed, binds-keys, values-read, names_in-append, last-name, numbers-names}
 use Rattle.rec_match.proofs.LetterLemmas.{every-at, all-reverse}
 use Rattle.rec_match.proofs.PairedLemmas.{AreVariables, value-paired}

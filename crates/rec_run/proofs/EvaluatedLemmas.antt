@@ -13,12 +13,12 @@ use Rattle.rx_term.specs.Store.{Store, tree_at}
 use Rattle.rx_term.specs.declared.Term.{Term as Reference}
 use Rattle.rx_text.specs.Canon.{canon}
 use Rattle.rx_text.specs.Written.{AppendsFront, IsFront}
-use Rattle.rx_text.proofs.Cutting.{and_parts}
+use Rattle.rx_text.proofs.CuttingLemmas.{and_parts}
 use Rattle.rec_syntax.specs.Syntax.{Term, Terms, Apply, Spec, nameless}
 use Rattle.rec_syntax.specs.Syntax as syntax
 use Rattle.rec_sorts.specs.Binding.{application, instances, tree_of}
 use Rattle.rec_sorts.specs.Evaluation.{Caller, Done, Eval, call, evaluate, evaluate_all, evaluate_within, term_of, terms_of, ◌then◌}
-use Rattle.rec_sorts.proofs.Equations.{then_agrees}
+use Rattle.rec_sorts.proofs.EquationLemmas.{then_agrees}
 use Rattle.rec_sorts.specs.TermRules.{broken_by_elements, elements}
 use Rattle.rec_sorts.specs.Linked.{HasMoreSymbols}
 use Rattle.rec_memo.specs.Pairs.{Pairs}
@@ -38,10 +38,10 @@ use Rattle.rec_run.specs.declared.ending.RunFault.TheVariants as run
 use Rattle.rec_run.specs.declared.spec.lines.LineFault.{LineFault}
 use Rattle.rec_run.specs.declared.spec.lines.LineFault.TheVariants.{Memory, Room, Write}
 use Rattle.rec_run.proofs.GivenLemmas.{all_trees, annotations_trees, notes-newlines}
-use Rattle.rec_run.proofs.GivenLists.{FrontAt}
-use Rattle.rec_run.proofs.LineFronts.{NoEnds, ends_before, front_in_line, front_in_lines, lines_of}
-use Rattle.rec_run.proofs.SpecLines.{given_text-newlines}
-use Rattle.rx_text.proofs.Appending.{appends_both, appends_same, front_before}
+use Rattle.rec_run.proofs.GivenListLemmas.{FrontAt}
+use Rattle.rec_run.proofs.LineFrontLemmas.{NoEnds, ends_before, front_in_line, front_in_lines, lines_of}
+use Rattle.rec_run.proofs.SpecLineLemmas.{given_text-newlines}
+use Rattle.rx_text.proofs.AppendingLemmas.{appends_both, appends_same, front_before}
 
 -- ---- what is shown of an outcome
 

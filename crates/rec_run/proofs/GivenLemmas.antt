@@ -9,14 +9,14 @@ use Rattle.rx_term.specs.Store.{Store, tree_at}
 use Rattle.rx_term.specs.declared.Term.{Term as Reference}
 use Rattle.rx_term.proofs.TreeLemmas.{from_to_list}
 use Rattle.rx_text.specs.Canon.{canon, canon_all}
-use Rattle.rx_text.proofs.Cutting.{and_parts}
-use Rattle.rx_text.proofs.InLine.{stays_in_line}
+use Rattle.rx_text.proofs.CuttingLemmas.{and_parts}
+use Rattle.rx_text.proofs.InLineLemmas.{stays_in_line}
 use Rattle.rec_syntax.specs.Syntax.{Spec}
 use Rattle.rec_sorts.specs.TermRules.{elements, first_passed, broken_by_elements, broken_by_terms}
 use Rattle.rec_run.specs.Bytes.{newlines}
 use Rattle.rec_run.specs.GivenTerms.{HoldsTerms, given_at, notes_text}
-use Rattle.rec_run.proofs.LineEnds.{newlines-append}
-use Rattle.rec_run.proofs.TermsDue as due
+use Rattle.rec_run.proofs.LineEndLemmas.{newlines-append}
+use Rattle.rec_run.proofs.TermsDueLemmas as due
 
 either_false : (a b : Bool) → a || b ≡ false → (a ≡ false) × (b ≡ false)
 either_false true b e = absurd (cc e)

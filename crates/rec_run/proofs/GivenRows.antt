@@ -8,7 +8,7 @@ use Rattle.rec_run.specs.declared.ending.Finish.TheVariants.{Done, Refused}
 use Rattle.rec_run.specs.declared.ending.Named.TheVariants.{A, S}
 use Rattle.rec_run.specs.declared.ending.Place.{Place}
 use Rattle.rec_run.specs.declared.ending.Source.TheVariants.{Spec, Terms}
-use Rattle.rec_run.proofs.DueOfText.{AreDue, Row, rows_due}
+use Rattle.rec_run.proofs.DueOfTextLemmas.{AreDue, Row, rows_due}
 
 -- these lines are due
 abbrev lines : List ℕ → Due

@@ -4,7 +4,7 @@ use Rattle.std.specs.Prelude.{ℕ, List, [], ◌∷◌, codes, true, false, None
 use Rattle.std.specs.Fmt.{digits}
 use Rattle.rec_sorts.specs.Evaluation.{Eval}
 use Rattle.rec_run.specs.Output.{done}
-use Rattle.rec_run.proofs.DueOfText.{AreDue, Row, rows_due}
+use Rattle.rec_run.proofs.DueOfTextLemmas.{AreDue, Row, rows_due}
 
 -- a specification within so many steps, and its lines
 abbrev plain : ℕ → List ℕ → List ℕ → Row

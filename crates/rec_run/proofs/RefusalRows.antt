@@ -6,7 +6,7 @@ use Rattle.rec_run.specs.Output.{refused}
 use Rattle.rec_run.specs.declared.ending.Named.{Named}
 use Rattle.rec_run.specs.declared.ending.Named.TheVariants.{G, S}
 use Rattle.rec_run.specs.declared.ending.Source.TheVariants.{Spec}
-use Rattle.rec_run.proofs.DueOfText.{AreDue, Row, rows_due}
+use Rattle.rec_run.proofs.DueOfTextLemmas.{AreDue, Row, rows_due}
 
 -- a text that is refused by this name and rule, at a place
 abbrev refusal : List ℕ → Named → ℕ → List ℕ → Row

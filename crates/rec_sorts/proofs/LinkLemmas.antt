@@ -15,8 +15,8 @@ use Rattle.rec_sorts.specs.SpecRules.{fault, all_rules}
 use Rattle.rec_sorts.specs.Numbering.{name_of}
 use Rattle.rec_sorts.specs.declared.letters.Meaning.TheVariants.{Symbol}
 use Rattle.rec_sorts.specs.Linked.{signature, AllDiffer, NumberOf, NumbersOf, HasMoreSymbols}
-use Rattle.rec_sorts.proofs.Kept.{all_kept}
-use Rattle.rec_sorts.proofs.Differing.{differ}
+use Rattle.rec_sorts.proofs.KeptLemmas.{all_kept}
+use Rattle.rec_sorts.proofs.DifferingLemmas.{differ}
 
 -- the first of a specification's symbols in a bank, with their numbers
 pub record LinkedSoFar (y : Spec) (old now : Store) (ss : List bank.Symbol) (numbers : ℕ → Option ℕ) (n : ℕ) : Type 0 where

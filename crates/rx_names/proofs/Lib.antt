@@ -1,3 +1,3 @@
 pub mod PlaceLemmas
 pub mod NameLemmas
-pub mod Renaming
+pub mod RenamingLemmas

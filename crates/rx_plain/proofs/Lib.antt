@@ -1,9 +1,9 @@
 pub mod SlotLemmas
 pub mod SweepLemmas
 pub mod MarkLemmas
-pub mod Contents
-pub mod Reading
-pub mod Making
-pub mod Counting
-pub mod Room
-pub mod Reclaiming
+pub mod ContentLemmas
+pub mod ReadingLemmas
+pub mod MakingLemmas
+pub mod CountingLemmas
+pub mod RoomLemmas
+pub mod ReclaimingLemmas

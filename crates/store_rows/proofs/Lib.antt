@@ -1,1 +1,1 @@
-pub mod Unrooted
+pub mod UnrootedLemmas

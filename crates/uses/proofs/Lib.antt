@@ -1,5 +1,5 @@
-pub mod Kept
-pub mod Steps
-pub mod Same
-pub mod Noted
-pub mod Valued
+pub mod KeptLemmas
+pub mod StepLemmas
+pub mod SameLemmas
+pub mod NotedLemmas
+pub mod ValuedLemmas

@@ -1,5 +1,5 @@
-use Rattle.rx_sweep.proofs.Collected.{closed_one, gray_one, chained_two, roots_two, all_marked, Collected, collected, same_two}
-use Rattle.rx_sweep.proofs.Homing.{same_homed}
+use Rattle.rx_sweep.proofs.CollectedLemmas.{closed_one, gray_one, chained_two, roots_two, all_marked, Collected, collected, same_two}
+use Rattle.rx_sweep.proofs.HomingLemmas.{same_homed}
 use Rattle.rx_sweep.proofs.collect_by_hash.Goals as goal
 
 pub mark_on-requires-clause-closed : goal.mark_on-requires-clause-closed

@@ -1,7 +1,7 @@
 use Rattle.std.proofs.Common.{◌<◌, length, sym, subst}
 use Rattle.rx_arena.specs.Arena.{ArenaState, new_cell}
-use Rattle.rx_arena.proofs.ArenaCalls.{just_taken}
-use Rattle.rx_sweep.proofs.Ready.{linked_ready, linked_taken}
+use Rattle.rx_arena.proofs.ArenaCallLemmas.{just_taken}
+use Rattle.rx_sweep.proofs.ReadyLemmas.{linked_ready, linked_taken}
 use Rattle.hostile.proofs.arenas.link_first.Goals as goal
 
 pub chain_push-requires-clause-taken : goal.chain_push-requires-clause-taken

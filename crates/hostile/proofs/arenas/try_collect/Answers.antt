@@ -1,4 +1,4 @@
-use Rattle.rx_sweep.proofs.Ready.{rooted_ready}
+use Rattle.rx_sweep.proofs.ReadyLemmas.{rooted_ready}
 use Rattle.hostile.proofs.arenas.try_collect.Goals as goal
 
 pub collect-requires : goal.collect-requires

@@ -1,4 +1,4 @@
-use Rattle.hostile.proofs.Given.{given_still}
+use Rattle.hostile.proofs.GivenLemmas.{given_still}
 use Rattle.hostile.proofs.engines.evaluate.Goals as goal
 
 pub returns-in_err-tell : goal.returns-in_err-tell

@@ -1,7 +1,7 @@
 use Rattle.std.proofs.Common.{IsSome, subst, sym}
 use Rattle.rec_engine.specs.Cells.{MakesFor}
-use Rattle.rec_engine.proofs.KnownConstants.{known-trans}
-use Rattle.rec_engine.proofs.KeptNodes.{kept-built}
+use Rattle.rec_engine.proofs.KnownConstantLemmas.{known-trans}
+use Rattle.rec_engine.proofs.KeptNodeLemmas.{kept-built}
 use Rattle.rx_term.proofs.KeepLemmas.{still-held, Keeps-trans}
 use Rattle.rec_engine.proofs.cells.make.Goals as goal
 

@@ -1,8 +1,8 @@
 use Rattle.std.proofs.Common.{IsSome, refl, subst, sym, ◌∙◌}
 use Rattle.rx_term.specs.Steps.{Refuses}
 use Rattle.rec_engine.specs.Cells.{built}
-use Rattle.rec_engine.proofs.KnownConstants.{known-trans, known-refused, known-forgotten}
-use Rattle.rec_engine.proofs.KeptNodes.{kept-built}
+use Rattle.rec_engine.proofs.KnownConstantLemmas.{known-trans, known-refused, known-forgotten}
+use Rattle.rec_engine.proofs.KeptNodeLemmas.{kept-built}
 use Rattle.rx_term.proofs.KeepLemmas.{Keeps-after-refusal, exhausted}
 use Rattle.rec_engine.proofs.cells.make_anyway.Goals as goal
 

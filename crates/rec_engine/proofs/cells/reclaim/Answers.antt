@@ -1,4 +1,4 @@
-use Rattle.rec_engine.proofs.KnownConstants.{known-reclaimed}
+use Rattle.rec_engine.proofs.KnownConstantLemmas.{known-reclaimed}
 use Rattle.rec_engine.proofs.cells.reclaim.Goals as goal
 
 pub returns-clause-known : goal.returns-clause-known

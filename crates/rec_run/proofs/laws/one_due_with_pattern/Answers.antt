@@ -1,5 +1,5 @@
 use Rattle.rec_run.specs.PatternRuns.{make_due, match_due}
-use Rattle.rec_run.proofs.PatternDue.{one_due_of_both}
+use Rattle.rec_run.proofs.PatternDueLemmas.{one_due_of_both}
 use Rattle.rec_run.proofs.laws.one_due_with_pattern.Goals as goal
 
 pub returns-clause-of_match : goal.returns-clause-of_match

@@ -1,5 +1,5 @@
 use Rattle.std.proofs.Common.{Err, ap, length, refl}
-use Rattle.rec_run.proofs.RefusedItems.{misfit_count, misfit_kind}
+use Rattle.rec_run.proofs.RefusedItemLemmas.{misfit_count, misfit_kind}
 use Rattle.rec_run.proofs.refused_items.misfit_of_elements.Goals as goal
 
 pub returns-in-Err-Count : goal.returns-in-Err-Count

@@ -4,8 +4,8 @@ use Rattle.rec_run.specs.RefusedItems.{misfit_in}
 use Rattle.rec_run.specs.TermRuns.{IsReadingOf}
 use Rattle.rec_run.specs.declared.ending.Source.TheVariants as source
 use Rattle.rec_run.specs.declared.refusal.Reading.{Reading}
-use Rattle.rec_run.proofs.PatternDue.{if_ok_map}
-use Rattle.rec_run.proofs.RefusedItems.{spelt_item, unspelt_item}
+use Rattle.rec_run.proofs.PatternDueLemmas.{if_ok_map}
+use Rattle.rec_run.proofs.RefusedItemLemmas.{spelt_item, unspelt_item}
 use Rattle.rec_run.proofs.refused_items.misfit_of_text.Goals as goal
 
 pub returns-in-Refused : goal.returns-in-Refused

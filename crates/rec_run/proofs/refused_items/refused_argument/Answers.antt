@@ -3,8 +3,8 @@ use Rattle.rx_term.specs.Tree.{Tree}
 use Rattle.rec_run.specs.PatternAnswers.{IsPatternRead}
 use Rattle.rec_run.specs.RefusedItems.{misfit_in}
 use Rattle.rec_run.specs.declared.refusal.Reading.{Reading}
-use Rattle.rec_run.proofs.PatternDue.{if_ok_map, no_pattern}
-use Rattle.rec_run.proofs.RefusedItems.{one_pattern}
+use Rattle.rec_run.proofs.PatternDueLemmas.{if_ok_map, no_pattern}
+use Rattle.rec_run.proofs.RefusedItemLemmas.{one_pattern}
 use Rattle.rec_run.proofs.refused_items.refused_argument.Goals as goal
 
 pub returns-in-Refused-clause-first : goal.returns-in-Refused-clause-first

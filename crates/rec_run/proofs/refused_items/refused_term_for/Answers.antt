@@ -7,7 +7,7 @@ use Rattle.rec_run.specs.RefusedItems.{term_in}
 use Rattle.rec_run.specs.TermRuns.{IsReadingOf}
 use Rattle.rec_run.specs.declared.ending.Source.TheVariants as source
 use Rattle.rec_run.specs.declared.refusal.Reading.{Reading}
-use Rattle.rec_run.proofs.RefusedItems.{spelt_item, unspelt_item}
+use Rattle.rec_run.proofs.RefusedItemLemmas.{spelt_item, unspelt_item}
 use Rattle.rec_run.proofs.refused_items.refused_term_for.Goals as goal
 
 pub returns-in-Refused : goal.returns-in-Refused

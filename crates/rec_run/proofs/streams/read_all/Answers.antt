@@ -1,6 +1,6 @@
 use Rattle.std.proofs.Common.{◌≡◌, ◌+◌, length, rules}
 use Rattle.std.specs.Io.KnownBytes.{Consumes}
-use Rattle.rx_text.proofs.Appending.{on_err}
+use Rattle.rx_text.proofs.AppendingLemmas.{on_err}
 use Rattle.rec_run.proofs.ReadLemmas.{reads_all, reads_front, reads_out, consumes_both}
 use Rattle.rec_run.specs.declared.streams.TheConstants.{LIMIT}
 use Rattle.rec_run.proofs.streams.read_all.Goals as goal

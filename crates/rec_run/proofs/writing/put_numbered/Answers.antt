@@ -1,7 +1,7 @@
 use Rattle.std.proofs.Common.{subst, ◌∙◌}
 use Rattle.std.specs.Prelude.{decimal}
 use Rattle.rx_text.specs.Written.{AppendsFront}
-use Rattle.rx_text.proofs.Appending.{front_after, front_before, on_err}
+use Rattle.rx_text.proofs.AppendingLemmas.{front_after, front_before, on_err}
 use Rattle.rec_run.proofs.writing.put_numbered.Goals as goal
 
 pub returns-in_err-put-clause-err : goal.returns-in_err-put-clause-err

@@ -1,6 +1,6 @@
 use Rattle.rec_run.specs.declared.ending.RunFault.TheVariants.{Write}
 use Rattle.rec_run.proofs.ErrorLemmas.{if_err_at}
-use Rattle.rec_run.proofs.PatternLines.{end_refused, line_written, stops_memory, text_refused}
+use Rattle.rec_run.proofs.PatternLineLemmas.{end_refused, line_written, stops_memory, text_refused}
 use Rattle.rec_run.proofs.writing.write_line.Goals as goal
 
 pub returns-in-Err-Memory-clause-err : goal.returns-in-Err-Memory-clause-err

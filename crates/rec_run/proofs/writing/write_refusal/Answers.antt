@@ -1,7 +1,7 @@
 use Rattle.std.proofs.Common.{◌++◌}
 use Rattle.std.specs.Prelude.{codes}
 use Rattle.rec_run.specs.Refusals.{name_of, word_of}
-use Rattle.rx_text.proofs.Appending.{appends_both, front_after, front_before, on_err}
+use Rattle.rx_text.proofs.AppendingLemmas.{appends_both, front_after, front_before, on_err}
 use Rattle.rec_run.proofs.writing.write_refusal.Goals as goal
 
 pub returns-in_err-write_word-clause-err : goal.returns-in_err-write_word-clause-err

@@ -5,9 +5,9 @@ use Rattle.rec_sorts.specs.Numbering.{Pairwise}
 use Rattle.rec_sorts.specs.Reading.{rules_places, open_terms_places, SpellsRule, SpellsTerm}
 use Rattle.rec_sorts.specs.SortFaults.{first_place}
 use Rattle.rec_sorts.specs.declared.places.TermPlaces.{TermPlaces}
-use Rattle.rec_sorts.proofs.Conclusion.{found, first_place-found}
-use Rattle.rec_sorts.proofs.Lettering.{rules-lettered, terms-lettered}
-use Rattle.rec_sorts.proofs.Examining.{variables-counted, arities-listed}
+use Rattle.rec_sorts.proofs.ConclusionLemmas.{found, first_place-found}
+use Rattle.rec_sorts.proofs.LetteringLemmas.{rules-lettered, terms-lettered}
+use Rattle.rec_sorts.proofs.ExaminingLemmas.{variables-counted, arities-listed}
 use Rattle.rec_sorts.proofs.checked.examine.Goals as goal
 
 pub returns-clause-first : goal.returns-clause-first

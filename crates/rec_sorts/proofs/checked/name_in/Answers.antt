@@ -1,4 +1,4 @@
-use Rattle.rec_sorts.proofs.NamesThere.{bytes_at-declaration}
+use Rattle.rec_sorts.proofs.NamesThereLemmas.{bytes_at-declaration}
 use Rattle.rec_sorts.proofs.checked.name_in.Goals as goal
 
 pub returns : goal.returns

@@ -2,7 +2,7 @@ use Rattle.std.proofs.Common.{◌∙◌, ◌++◌, sym, ap, subst}
 use Rattle.rx_term.specs.Tree.{to_list, items_of}
 use Rattle.rx_term.specs.Walks.{held_tree, held_trees}
 use Rattle.rec_sorts.specs.Agreeing.{IsScope}
-use Rattle.rec_sorts.proofs.FirstBroken.{element-found}
+use Rattle.rec_sorts.proofs.FirstBrokenLemmas.{element-found}
 use Rattle.rec_sorts.proofs.given.broken_element.Goals as goal
 
 pub returns : goal.returns

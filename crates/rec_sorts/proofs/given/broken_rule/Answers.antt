@@ -1,7 +1,7 @@
 use Rattle.std.proofs.Common.{◌∙◌, sym, ap, subst}
 use Rattle.rx_term.specs.Walks.{held_tree, held_trees}
 use Rattle.rec_sorts.specs.Agreeing.{IsScope}
-use Rattle.rec_sorts.proofs.GivenRules.{broken-list}
+use Rattle.rec_sorts.proofs.GivenRuleLemmas.{broken-list}
 use Rattle.rec_sorts.proofs.given.broken_rule.Goals as goal
 
 pub returns : goal.returns

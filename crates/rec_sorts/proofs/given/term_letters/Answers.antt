@@ -2,7 +2,7 @@ use Rattle.std.proofs.Common.{◌∙◌, ◌++◌, ap, subst}
 use Rattle.rx_term.specs.Tree.{to_list, items_of}
 use Rattle.rx_term.specs.Walks.{held_tree, held_trees}
 use Rattle.rec_sorts.specs.Agreeing.{IsScope}
-use Rattle.rec_sorts.proofs.GivenLetters.{letters-listed}
+use Rattle.rec_sorts.proofs.GivenLetterLemmas.{letters-listed}
 use Rattle.rec_sorts.proofs.given.term_letters.Goals as goal
 
 pub returns : goal.returns

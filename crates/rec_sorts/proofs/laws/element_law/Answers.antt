@@ -1,5 +1,5 @@
 -- The law is proved over the definitions.
-use Rattle.rec_sorts.proofs.FirstBroken as F
+use Rattle.rec_sorts.proofs.FirstBrokenLemmas as F
 use Rattle.rec_sorts.proofs.laws.element_law.Goals as goal
 
 pub returns : goal.returns

@@ -1,6 +1,6 @@
 use Rattle.std.proofs.Common.{arith}
 use Rattle.rec_sorts.specs.Names.{given_to}
-use Rattle.rec_sorts.proofs.Declaring.{declared-read, symbols_of, groups_of}
+use Rattle.rec_sorts.proofs.DeclaringLemmas.{declared-read, symbols_of, groups_of}
 use Rattle.rec_sorts.proofs.symbols.read_declared.Goals as goal
 
 pub returns : goal.returns

@@ -3,7 +3,7 @@ use Rattle.std.proofs.lemmas.List.{length-map}
 use Rattle.rec_syntax.specs.Parts.{words_of, declaration_of}
 use Rattle.rec_sorts.specs.Lookup.{symbols, names, variable_words}
 use Rattle.rec_sorts.specs.Names.{given_to}
-use Rattle.rec_sorts.proofs.Declaring.{first_words, other_words, words_all-numbered, symbols_repeated, variables_repeated}
+use Rattle.rec_sorts.proofs.DeclaringLemmas.{first_words, other_words, words_all-numbered, symbols_repeated, variables_repeated}
 use Rattle.rec_sorts.proofs.symbols.read_scope.Goals as goal
 
 pub returns-clause-scope : goal.returns-clause-scope

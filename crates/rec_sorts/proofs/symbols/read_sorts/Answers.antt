@@ -1,7 +1,7 @@
 use Rattle.std.proofs.Common.{ap, ◌∙◌}
 use Rattle.rec_syntax.specs.Parts.{words_of}
 use Rattle.rec_sorts.specs.Names.{given_to}
-use Rattle.rec_sorts.proofs.Declaring.{sorts_numbered, sorts_repeated}
+use Rattle.rec_sorts.proofs.DeclaringLemmas.{sorts_numbered, sorts_repeated}
 use Rattle.rec_sorts.proofs.symbols.read_sorts.Goals as goal
 
 pub returns-clause-names : goal.returns-clause-names

@@ -2,7 +2,7 @@ use Rattle.std.proofs.Common.{subst, sym}
 use Rattle.rx_term.specs.Walks.{AllHeld, held_trees}
 use Rattle.rx_term.proofs.WalkLemmas.{AllHeld-push, AllHeld-split}
 use Rattle.rec_sorts.specs.Walking.{unstacked}
-use Rattle.rec_sorts.proofs.Walked.{node_turn, node_less, found_turn}
+use Rattle.rec_sorts.proofs.WalkedLemmas.{node_turn, node_less, found_turn}
 use Rattle.rec_sorts.proofs.walk.nodes.Goals as goal
 
 pub push_arguments-requires-clause-stack : goal.push_arguments-requires-clause-stack

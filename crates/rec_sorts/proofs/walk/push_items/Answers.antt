@@ -2,7 +2,7 @@ use Rattle.std.proofs.Common.{ap, arith, is_some, subst, sym}
 use Rattle.rx_term.specs.Tree.{count_of}
 use Rattle.rx_term.specs.Walks.{AllHeld}
 use Rattle.rx_term.proofs.WalkLemmas.{AllHeld-push}
-use Rattle.rec_sorts.proofs.Walked.{first_there, rest_there, items_of-cons, items_turn}
+use Rattle.rec_sorts.proofs.WalkedLemmas.{first_there, rest_there, items_of-cons, items_turn}
 use Rattle.rec_sorts.proofs.walk.push_items.Goals as goal
 
 pub loop-stack-smaller : goal.loop-stack-smaller

@@ -5,8 +5,8 @@ use Rattle.rec_syntax.specs.Tokens.{Placed}
 use Rattle.rec_syntax.specs.Machine.{Config, outcome}
 use Rattle.rec_syntax.specs.Lexemes.{tokens_from, token_of, behind}
 use Rattle.rec_syntax.specs.Reader.{config_of}
-use Rattle.rec_syntax.proofs.Answering.{placed, refused_at, spelled, turn, behind_is}
-use Rattle.rec_syntax.proofs.Reading.{moved}
+use Rattle.rec_syntax.proofs.AnsweringLemmas.{placed, refused_at, spelled, turn, behind_is}
+use Rattle.rec_syntax.proofs.ReadingLemmas.{moved}
 use Rattle.rec_syntax.specs.declared.reader.Stop.TheVariants.{Refused}
 use Rattle.rec_syntax.proofs.reader.read.Goals as goal
 

@@ -1,7 +1,7 @@
 use Rattle.std.proofs.Common.{◌≡◌, ◌-◌, ◌≤◌, length}
 use Rattle.rec_syntax.specs.Lexemes.{tokens_from}
 use Rattle.rec_syntax.specs.Reader.{IsState, config_of}
-use Rattle.rec_syntax.proofs.Answering.{Decides}
+use Rattle.rec_syntax.proofs.AnsweringLemmas.{Decides}
 use Rattle.rec_syntax.proofs.reader.read.Given as goal
 
 abbrev pub invariant-loop-due : goal.invariant-loop-due

@@ -2,8 +2,8 @@ use Rattle.std.proofs.Common.{◌∙◌, ap, arith, refl, List, [], ◌∷◌, �
 use Rattle.rx_term.specs.Tree.{Items, none}
 use Rattle.rx_term.specs.Store.{tree_at}
 use Rattle.rx_term.specs.declared.Term.{Term}
-use Rattle.rx_pattern.proofs.Stacks.{held_tree}
-use Rattle.rx_pattern.proofs.Checks.{begun, turn_unknown, turn_on, turn_less}
+use Rattle.rx_pattern.proofs.StackLemmas.{held_tree}
+use Rattle.rx_pattern.proofs.CheckLemmas.{begun, turn_unknown, turn_on, turn_less}
 use Rattle.rx_pattern.proofs.check.check.Goals as goal
 
 pub loop-u-init : goal.loop-u-init

@@ -1,7 +1,7 @@
 use Rattle.std.proofs.Common.{reverse, unwrap_or}
 use Rattle.rx_term.specs.Tree.{Items, none}
 use Rattle.rx_term.specs.Store.{tree_at}
-use Rattle.rx_pattern.proofs.Checks.{Looking, weight_of}
+use Rattle.rx_pattern.proofs.CheckLemmas.{Looking, weight_of}
 use Rattle.rx_pattern.proofs.check.check.Given as goal
 
 abbrev pub invariant-loop-u : goal.invariant-loop-u

@@ -1,7 +1,7 @@
 use Rattle.std.proofs.Common.{◌-◌, get_or, sym, ◌∙◌, arith, rules}
-use Rattle.rx_pattern.proofs.Fitting.{same_at}
-use Rattle.rx_pattern.proofs.Matches.{popped}
-use Rattle.rx_pattern.proofs.Fills.{fits_all, begun, back, left_some, parts_there, valid_there, slot_on, join_on, all_filled, made_tree, some_made, stack_there}
+use Rattle.rx_pattern.proofs.FittingLemmas.{same_at}
+use Rattle.rx_pattern.proofs.MatchLemmas.{popped}
+use Rattle.rx_pattern.proofs.FillLemmas.{fits_all, begun, back, left_some, parts_there, valid_there, slot_on, join_on, all_filled, made_tree, some_made, stack_there}
 use Rattle.rx_pattern.proofs.fill.fill.Goals as goal
 
 pub loop-at-init : goal.loop-at-init

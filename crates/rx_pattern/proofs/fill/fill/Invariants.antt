@@ -1,4 +1,4 @@
-use Rattle.rx_pattern.proofs.Fills.{Filling}
+use Rattle.rx_pattern.proofs.FillLemmas.{Filling}
 use Rattle.rx_pattern.proofs.fill.fill.Given as goal
 
 abbrev pub invariant-loop-at : goal.invariant-loop-at

@@ -1,4 +1,4 @@
-use Rattle.rx_pattern.proofs.Fitting.{takes_rest, takes_no_rest}
+use Rattle.rx_pattern.proofs.FittingLemmas.{takes_rest, takes_no_rest}
 use Rattle.rx_pattern.proofs.fill.is_plain_list.Goals as goal
 
 pub returns-then-fits : goal.returns-then-fits

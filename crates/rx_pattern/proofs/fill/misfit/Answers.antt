@@ -3,8 +3,8 @@ use Rattle.rx_term.specs.declared.Term.{Term}
 use Rattle.rx_pattern.specs.Nodes.{step_of}
 use Rattle.rx_pattern.specs.Making.{slots_of_steps}
 use Rattle.rx_term.proofs.WalkLemmas.{AllHeld-at}
-use Rattle.rx_pattern.proofs.Fitting.{HaveTrees-length, at_place, turn_taken, turn_refused, turn_other, started, all_fit, as_many, drop-past}
-use Rattle.rx_pattern.proofs.Matches.{next_step}
+use Rattle.rx_pattern.proofs.FittingLemmas.{HaveTrees-length, at_place, turn_taken, turn_refused, turn_other, started, all_fit, as_many, drop-past}
+use Rattle.rx_pattern.proofs.MatchLemmas.{next_step}
 use Rattle.rx_pattern.proofs.fill.misfit.Goals as goal
 use Rattle.rx_pattern.proofs.fill.misfit.Goals.{then-is_slot+else-not-takes, else-is_slot}
 

@@ -1,7 +1,7 @@
 use Rattle.std.proofs.Common.{map, drop}
 use Rattle.rx_pattern.specs.Nodes.{step_of}
 use Rattle.rx_pattern.specs.Making.{slots_of_steps}
-use Rattle.rx_pattern.proofs.Fitting.{Checking}
+use Rattle.rx_pattern.proofs.FittingLemmas.{Checking}
 use Rattle.rx_pattern.proofs.fill.misfit.Given as goal
 
 abbrev pub invariant-loop-node : goal.invariant-loop-node

@@ -1,6 +1,6 @@
 use Rattle.rx_term.specs.Tree.{Appl, none}
-use Rattle.rx_pattern.proofs.Matches.{popped}
-use Rattle.rx_pattern.proofs.Joining.{on_ok, newest_below}
+use Rattle.rx_pattern.proofs.MatchLemmas.{popped}
+use Rattle.rx_pattern.proofs.JoiningLemmas.{on_ok, newest_below}
 use Rattle.rx_pattern.proofs.fill.push_application.Goals as goal
 
 pub push_noted-requires-clause-newest : goal.push_noted-requires-clause-newest

@@ -3,8 +3,8 @@ use Rattle.std.proofs.lemmas.Int.{to_z-of_z}
 use Rattle.rx_term.specs.Tree.{Tree, Int, none}
 use Rattle.rx_term.proofs.StoreLemmas.{Grows-Makes}
 use Rattle.rx_pattern.specs.Code.{Several}
-use Rattle.rx_pattern.proofs.Stacks.{still_on}
-use Rattle.rx_pattern.proofs.Joining.{on_ok}
+use Rattle.rx_pattern.proofs.StackLemmas.{still_on}
+use Rattle.rx_pattern.proofs.JoiningLemmas.{on_ok}
 use Rattle.rx_pattern.proofs.fill.push_integer.Goals as goal
 
 pub push_noted-requires-clause-newest : goal.push_noted-requires-clause-newest

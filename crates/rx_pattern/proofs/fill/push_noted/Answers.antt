@@ -1,5 +1,5 @@
-use Rattle.rx_pattern.proofs.Matches.{popped}
-use Rattle.rx_pattern.proofs.Joining.{noted_on}
+use Rattle.rx_pattern.proofs.MatchLemmas.{popped}
+use Rattle.rx_pattern.proofs.JoiningLemmas.{noted_on}
 use Rattle.rx_pattern.proofs.fill.push_noted.Goals as goal
 
 pub returns-clause-made : goal.returns-clause-made

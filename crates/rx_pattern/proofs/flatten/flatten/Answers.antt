@@ -4,8 +4,8 @@ use Rattle.rx_term.specs.Store.{tree_at}
 use Rattle.rx_pattern.specs.Pattern.{is_pattern}
 use Rattle.rx_pattern.specs.declared.flatten.Job.{Job}
 use Rattle.rx_pattern.specs.declared.flatten.Job.TheVariants as job
-use Rattle.rx_pattern.proofs.Stacks.{held_at}
-use Rattle.rx_pattern.proofs.Flattening.{begun, turn_on}
+use Rattle.rx_pattern.proofs.StackLemmas.{held_at}
+use Rattle.rx_pattern.proofs.FlatteningLemmas.{begun, turn_on}
 use Rattle.rx_pattern.proofs.flatten.flatten.Goals as goal
 
 pub loop-job-init : goal.loop-job-init

@@ -2,7 +2,7 @@ use Rattle.std.proofs.Common.{◌-◌, [], length, unwrap_or}
 use Rattle.rx_term.specs.Tree.{Items, none}
 use Rattle.rx_term.specs.Store.{tree_at}
 use Rattle.rx_pattern.specs.Code.{code}
-use Rattle.rx_pattern.proofs.Flattening.{Underway}
+use Rattle.rx_pattern.proofs.FlatteningLemmas.{Underway}
 use Rattle.rx_pattern.proofs.flatten.flatten.Given as goal
 
 abbrev pub invariant-loop-job : goal.invariant-loop-job

@@ -1,5 +1,5 @@
 use Rattle.std.proofs.Common.{arith}
-use Rattle.rx_pattern.proofs.Tails.{count-cells}
+use Rattle.rx_pattern.proofs.TailLemmas.{count-cells}
 use Rattle.rx_pattern.proofs.lists.count.Goals as goal
 
 pub returns : goal.returns

@@ -1,4 +1,4 @@
-use Rattle.rx_pattern.proofs.Meeting.{met_none, other_application, application_met}
+use Rattle.rx_pattern.proofs.MeetingLemmas.{met_none, other_application, application_met}
 use Rattle.rx_pattern.proofs.subjects.match_application.Goals as goal
 
 pub returns-then-not-is_name : goal.returns-then-not-is_name

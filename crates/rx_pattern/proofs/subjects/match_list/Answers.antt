@@ -1,5 +1,5 @@
 use Rattle.std.proofs.Common.{sym, ◌∙◌}
-use Rattle.rx_pattern.proofs.Meeting.{met_none, not_list, list_met}
+use Rattle.rx_pattern.proofs.MeetingLemmas.{met_none, not_list, list_met}
 use Rattle.rx_pattern.proofs.subjects.match_list.Goals as goal
 
 pub returns-then-not-fits : goal.returns-then-not-fits

@@ -1,4 +1,4 @@
-use Rattle.rx_pattern.proofs.Meeting.{placeholder_arm, rest_arm}
+use Rattle.rx_pattern.proofs.MeetingLemmas.{placeholder_arm, rest_arm}
 use Rattle.rx_pattern.proofs.subjects.match_node.Goals as goal
 
 pub returns-in_ok-push-in-Placeholder-clause-met : goal.returns-in_ok-push-in-Placeholder-clause-met

@@ -5,10 +5,10 @@ use Rattle.rx_term.specs.declared.Term.{Term}
 use Rattle.rx_term.proofs.StoreLemmas.{Grows-refl, Grows-trans}
 use Rattle.rx_pattern.specs.Matching.{matching}
 use Rattle.rx_pattern.specs.Nodes.{step_of, tree_of_nodes}
-use Rattle.rx_pattern.proofs.Spelling.{one_piece, all_spelt}
-use Rattle.rx_pattern.proofs.Stacks.{held_tree}
-use Rattle.rx_pattern.proofs.Matches.{begun, turn_needs, turn_off, turn_on, not_matched, next_step, popped}
-use Rattle.rx_pattern.proofs.BareLists.{adds_nothing, adds_more}
+use Rattle.rx_pattern.proofs.SpellingLemmas.{one_piece, all_spelt}
+use Rattle.rx_pattern.proofs.StackLemmas.{held_tree}
+use Rattle.rx_pattern.proofs.MatchLemmas.{begun, turn_needs, turn_off, turn_on, not_matched, next_step, popped}
+use Rattle.rx_pattern.proofs.BareListLemmas.{adds_nothing, adds_more}
 use Rattle.rx_pattern.proofs.subjects.match_nodes.Goals as goal
 
 pub loop-node-init : goal.loop-node-init

@@ -5,7 +5,7 @@ use Rattle.rx_term.specs.Steps.{Grows}
 use Rattle.rx_pattern.specs.Matching.{matching}
 use Rattle.rx_pattern.specs.Nodes.{step_of, tree_of_nodes}
 use Rattle.rx_pattern.specs.Held.{AddsOnlyLists}
-use Rattle.rx_pattern.proofs.Matches.{Underway}
+use Rattle.rx_pattern.proofs.MatchLemmas.{Underway}
 use Rattle.rx_pattern.proofs.subjects.match_nodes.Given as goal
 
 abbrev pub invariant-loop-node : goal.invariant-loop-node

@@ -2,9 +2,9 @@ use Rattle.std.proofs.Common.{◌≡◌, ◌+◌, ◌%◌, ℕ, length, set, Non
 use Rattle.rx_arena.specs.Put.{put}
 use Rattle.rx_arena.specs.declared.CellBody.{CellBody}
 use Rattle.rx_arena.specs.Arena.{ArenaState, taken_at, IsTaken, kept_in}
-use Rattle.rx_arena.proofs.Dealing.{hash_of}
+use Rattle.rx_arena.proofs.DealingLemmas.{hash_of}
 use Rattle.rx_sweep.specs.Reach.{home}
-use Rattle.rx_sweep.proofs.Homing.{parted_loose}
+use Rattle.rx_sweep.proofs.HomingLemmas.{parted_loose}
 use Rattle.rx_sweep.proofs.sweeping.drop_slot.Goals as goal
 
 -- the chain that is parted is the slot's own

@@ -1,5 +1,5 @@
 use Rattle.std.proofs.Common.{◌≡◌, ◌+◌, ◌-◌, ◌≤◌, sym, subst, ◌∙◌, arith}
-use Rattle.rx_sweep.proofs.Homing.{Sweeping, sweeping_some, sweeping_homed, sweeping_on, sweeping_end}
+use Rattle.rx_sweep.proofs.HomingLemmas.{Sweeping, sweeping_some, sweeping_homed, sweeping_on, sweeping_end}
 use Rattle.rx_sweep.proofs.sweeping.sweep_by_hash.Goals as goal
 
 pub drop_slot-requires-clause-some : goal.drop_slot-requires-clause-some

@@ -1,4 +1,4 @@
-use Rattle.rx_sweep.proofs.Homing.{Sweeping}
+use Rattle.rx_sweep.proofs.HomingLemmas.{Sweeping}
 use Rattle.rx_sweep.proofs.sweeping.sweep_by_hash.Given as goal
 
 abbrev pub invariant-loop-number : goal.invariant-loop-number

@@ -1,6 +1,6 @@
 use Rattle.std.proofs.Common.{[], ◌∷◌, get_or, arith}
 use Rattle.rx_term.proofs.StoreLemmas.{Grows-refl, Grows-trans}
-use Rattle.rx_text.proofs.Making.{begun, turn, turn_needs, ended, only_one, held_length, drop-past, no_node, next_node}
+use Rattle.rx_text.proofs.MakingLemmas.{begun, turn, turn_needs, ended, only_one, held_length, drop-past, no_node, next_node}
 use Rattle.rx_text.proofs.build.build.Goals as goal
 
 pub loop-node-init : goal.loop-node-init

@@ -1,6 +1,6 @@
 use Rattle.std.proofs.Common.{drop}
 use Rattle.rx_term.specs.Steps.{Grows}
-use Rattle.rx_text.proofs.Making.{UnderWay}
+use Rattle.rx_text.proofs.MakingLemmas.{UnderWay}
 use Rattle.rx_text.proofs.build.build.Given as goal
 
 abbrev pub invariant-loop-node : goal.invariant-loop-node

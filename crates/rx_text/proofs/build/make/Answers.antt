@@ -1,7 +1,7 @@
 use Rattle.std.proofs.Common.{◌≡◌, ◌≤◌, ◌++◌, ◌∷◌, [], length, ap, ◌∙◌, arith, refl}
 use Rattle.std.specs.Prelude.{option_to_list}
 use Rattle.rx_text.specs.Lexemes.{name_of}
-use Rattle.rx_text.proofs.Making.{as_many, applied_there, integer_made, application_made, placeholder_made, annotations_made}
+use Rattle.rx_text.proofs.MakingLemmas.{as_many, applied_there, integer_made, application_made, placeholder_made, annotations_made}
 use Rattle.rx_text.proofs.build.make.Goals as goal
 
 pub appl-requires : goal.appl-requires

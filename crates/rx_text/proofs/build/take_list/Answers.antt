@@ -3,7 +3,7 @@ use Rattle.std.specs.Prelude.{option_to_list}
 use Rattle.rx_term.specs.Tree.{Tree}
 use Rattle.rx_term.proofs.StoreLemmas.{Grows-Makes, Grows-trans}
 use Rattle.rx_text.specs.Held.{Holds}
-use Rattle.rx_text.proofs.Making.{still_holds, as_many, item_on}
+use Rattle.rx_text.proofs.MakingLemmas.{still_holds, as_many, item_on}
 use Rattle.rx_text.proofs.build.take_list.Goals as goal
 
 pub loop-index-init : goal.loop-index-init

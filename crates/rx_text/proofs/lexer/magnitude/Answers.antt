@@ -1,4 +1,4 @@
-use Rattle.rx_text.proofs.Lexing.{magnitude_on}
+use Rattle.rx_text.proofs.LexingLemmas.{magnitude_on}
 use Rattle.rx_text.proofs.lexer.magnitude.Goals as goal
 
 pub loop-digit-preserved : goal.loop-digit-preserved

@@ -1,5 +1,5 @@
 use Rattle.std.proofs.Common.{◌<◌, ◌∙◌, get_or, length, arith}
-use Rattle.rx_text.proofs.Lexing.{next_byte, token_first}
+use Rattle.rx_text.proofs.LexingLemmas.{next_byte, token_first}
 use Rattle.rx_text.proofs.lexer.next.Goals as goal
 
 pub returns-clause-first : goal.returns-clause-first

@@ -1,6 +1,6 @@
 use Rattle.std.proofs.Common.{rules, pos, neg_ℤ, ◌≡◌, true, sym, ◌∙◌, get_or}
 use Rattle.rx_term.specs.Name.{is_digit, starts_name}
-use Rattle.rx_text.proofs.Lexing.{number_is_token, next_byte, digits_from, digits_behind, number_token, negative_token, digit_next, name_token, name_allowed}
+use Rattle.rx_text.proofs.LexingLemmas.{number_is_token, next_byte, digits_from, digits_behind, number_token, negative_token, digit_next, name_token, name_allowed}
 use Rattle.rx_text.proofs.lexer.token.Goals as goal
 
 pub magnitude-requires : goal.magnitude-requires

@@ -1,5 +1,5 @@
 use Rattle.std.proofs.Common.{◌++◌, ◌∷◌, []}
-use Rattle.rx_text.proofs.Quoting.{reading_on}
+use Rattle.rx_text.proofs.QuotingLemmas.{reading_on}
 use Rattle.rx_text.proofs.quoted_name.quoted_length.Goals as goal
 
 pub loop-first-preserved : goal.loop-first-preserved

@@ -1,5 +1,5 @@
 use Rattle.std.proofs.Common.{ℕ, List, length}
-use Rattle.rx_text.proofs.Quoting.{IsReading}
+use Rattle.rx_text.proofs.QuotingLemmas.{IsReading}
 use Rattle.rx_text.proofs.quoted_name.quoted_length.Given as goal
 
 -- the bytes so far stand for some name

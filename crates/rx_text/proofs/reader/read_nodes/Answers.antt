@@ -2,7 +2,7 @@ use Rattle.std.proofs.Common.{◌≡◌, ◌<◌, ℕ, ◌∙◌, ap, List, ◌�
 use Rattle.rx_text.specs.Token.{Token}
 use Rattle.rx_text.specs.Lexemes.{tokens_after, token_of, behind}
 use Rattle.rx_text.specs.Reader.{state_of}
-use Rattle.rx_text.proofs.Deciding.{goes_on, takes_byte, refused_at, behind_is, is_read}
+use Rattle.rx_text.proofs.DecidingLemmas.{goes_on, takes_byte, refused_at, behind_is, is_read}
 use Rattle.rx_text.proofs.reader.read_nodes.Goals as goal
 
 pub returns-in-Err-Refused : goal.returns-in-Err-Refused

@@ -1,7 +1,7 @@
 use Rattle.std.proofs.Common.{◌≡◌, ◌+◌, ◌-◌, ◌≤◌, length}
 use Rattle.rx_text.specs.Lexemes.{tokens_after}
 use Rattle.rx_text.specs.Reader.{IsState, state_of, pending}
-use Rattle.rx_text.proofs.Deciding.{Decides}
+use Rattle.rx_text.proofs.DecidingLemmas.{Decides}
 use Rattle.rx_text.proofs.reader.read_nodes.Given as goal
 
 abbrev pub invariant-loop-due : goal.invariant-loop-due

@@ -1,5 +1,5 @@
 use Rattle.std.proofs.Common.{rules}
-use Rattle.rx_text.proofs.Appending.{appends_piece, appends_front, keeps_front}
+use Rattle.rx_text.proofs.AppendingLemmas.{appends_piece, appends_front, keeps_front}
 use Rattle.rx_text.proofs.writer.put.Goals as goal
 
 pub loop-at-preserved : goal.loop-at-preserved

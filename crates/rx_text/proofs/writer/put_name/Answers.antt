@@ -1,8 +1,8 @@
 use Rattle.std.proofs.Common.{[], ◌∷◌}
 use Rattle.std.specs.Prelude.{true}
 use Rattle.rx_text.specs.Canon.{name_text}
-use Rattle.rx_text.proofs.Appending.{on_err, err_within}
-use Rattle.rx_text.proofs.PrintedNames.{begun_name, byte_front, quote_front, name_ends}
+use Rattle.rx_text.proofs.AppendingLemmas.{on_err, err_within}
+use Rattle.rx_text.proofs.PrintedNameLemmas.{begun_name, byte_front, quote_front, name_ends}
 use Rattle.rx_text.proofs.writer.put_name.Goals as goal
 
 pub returns-in_err-put-clause-front : goal.returns-in_err-put-clause-front

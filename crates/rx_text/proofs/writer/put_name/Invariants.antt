@@ -1,5 +1,5 @@
 use Rattle.std.specs.Io.KnownBytes.{Appends}
-use Rattle.rx_text.proofs.PrintedNames.{begun_name}
+use Rattle.rx_text.proofs.PrintedNameLemmas.{begun_name}
 use Rattle.rx_text.proofs.writer.put_name.Given as goal
 
 abbrev pub invariant-loop-byte : goal.invariant-loop-byte

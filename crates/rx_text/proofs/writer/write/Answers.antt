@@ -2,8 +2,8 @@ use Rattle.std.proofs.Common.{[]}
 use Rattle.rx_term.specs.Store.{tree_at}
 use Rattle.rx_text.specs.Canon.{canon}
 use Rattle.rx_text.specs.Jobs.{seen}
-use Rattle.rx_text.proofs.Appending.{on_err}
-use Rattle.rx_text.proofs.Leaving.{writing_on, writing_stopped, less_left, if_front}
+use Rattle.rx_text.proofs.AppendingLemmas.{on_err}
+use Rattle.rx_text.proofs.LeavingLemmas.{writing_on, writing_stopped, less_left, if_front}
 use Rattle.rx_text.proofs.writer.write.Goals as goal
 
 pub loop-job-smaller : goal.loop-job-smaller

@@ -2,7 +2,7 @@ use Rattle.std.proofs.Common.{[]}
 use Rattle.rx_term.specs.Store.{tree_at}
 use Rattle.rx_text.specs.Canon.{canon}
 use Rattle.rx_text.specs.Jobs.{seen, jobs_size}
-use Rattle.rx_text.proofs.Leaving.{Writing}
+use Rattle.rx_text.proofs.LeavingLemmas.{Writing}
 use Rattle.rx_text.proofs.writer.write.Given as goal
 
 abbrev pub invariant-loop-job : goal.invariant-loop-job

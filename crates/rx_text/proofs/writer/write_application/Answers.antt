@@ -3,8 +3,8 @@ use Rattle.rx_text.specs.Canon.{canon_all, enclosed, name_text, no_arguments}
 use Rattle.rx_text.specs.Jobs.{seen, body_text, job_text}
 use Rattle.rx_term.specs.Store.{tree_at}
 use Rattle.rx_text.specs.declared.writer.Job.TheVariants as job
-use Rattle.rx_text.proofs.Appending.{on_err, front_of, front_within}
-use Rattle.rx_text.proofs.Leaving.{application_front, application_text, application_leaves}
+use Rattle.rx_text.proofs.AppendingLemmas.{on_err, front_of, front_within}
+use Rattle.rx_text.proofs.LeavingLemmas.{application_front, application_text, application_leaves}
 use Rattle.rx_text.proofs.writer.write_application.Goals as goal
 
 pub returns-in_err-put_name-clause-front : goal.returns-in_err-put_name-clause-front

@@ -3,8 +3,8 @@ use Rattle.rx_term.specs.Store.{tree_at}
 use Rattle.rx_term.specs.Tree.{more}
 use Rattle.rx_text.specs.Canon.{canon, canon_all}
 use Rattle.rx_text.specs.Jobs.{seen, body_text}
-use Rattle.rx_text.proofs.Appending.{front_of, on_err}
-use Rattle.rx_text.proofs.Leaving.{list_front, hole_front}
+use Rattle.rx_text.proofs.AppendingLemmas.{front_of, on_err}
+use Rattle.rx_text.proofs.LeavingLemmas.{list_front, hole_front}
 use Rattle.rx_text.proofs.writer.write_body.Goals as goal
 
 pub returns-in_err-put-in-Cons-clause-front : goal.returns-in_err-put-in-Cons-clause-front

@@ -1,7 +1,7 @@
 use Rattle.rx_text.specs.Jobs.{job_text, job_size}
 use Rattle.rx_text.specs.declared.writer.Job.TheVariants as job
-use Rattle.rx_text.proofs.Appending.{appends_same}
-use Rattle.rx_text.proofs.Leaving.{adds_leaves}
+use Rattle.rx_text.proofs.AppendingLemmas.{appends_same}
+use Rattle.rx_text.proofs.LeavingLemmas.{adds_leaves}
 use Rattle.rx_text.proofs.writer.write_job.Goals as goal
 
 pub returns-in_ok-leave_items-in-Items-clause-written : goal.returns-in_ok-leave_items-in-Items-clause-written

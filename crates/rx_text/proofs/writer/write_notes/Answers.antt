@@ -1,8 +1,8 @@
 use Rattle.std.proofs.Common.{◌∷◌, []}
 use Rattle.rx_text.specs.Jobs.{job_text}
 use Rattle.rx_text.specs.declared.writer.Job.TheVariants as job
-use Rattle.rx_text.proofs.Appending.{front_of, on_err}
-use Rattle.rx_text.proofs.Leaving.{no_notes, notes_front}
+use Rattle.rx_text.proofs.AppendingLemmas.{front_of, on_err}
+use Rattle.rx_text.proofs.LeavingLemmas.{no_notes, notes_front}
 use Rattle.rx_text.proofs.writer.write_notes.Goals as goal
 
 pub returns-in_default-clause-written : goal.returns-in_default-clause-written

@@ -1,8 +1,8 @@
 use Rattle.std.proofs.Common.{◌++◌, ◌∷◌, []}
 use Rattle.rx_text.specs.Jobs.{job_text}
 use Rattle.rx_text.specs.declared.writer.Job.TheVariants as job
-use Rattle.rx_text.proofs.Appending.{front_of, on_err}
-use Rattle.rx_text.proofs.Leaving.{others_text, nothing_left}
+use Rattle.rx_text.proofs.AppendingLemmas.{front_of, on_err}
+use Rattle.rx_text.proofs.LeavingLemmas.{others_text, nothing_left}
 use Rattle.rx_text.proofs.writer.write_others.Goals as goal
 
 pub returns-in_err-put-clause-front : goal.returns-in_err-put-clause-front

@@ -2,8 +2,8 @@ use Rattle.std.proofs.Common.{[]}
 use Rattle.rx_term.specs.Store.{tree_at}
 use Rattle.rx_text.specs.Jobs.{seen, body_text, job_text}
 use Rattle.rx_text.specs.declared.writer.Job.TheVariants as job
-use Rattle.rx_text.proofs.Appending.{err_front}
-use Rattle.rx_text.proofs.Leaving.{tree_text, tree_leaves}
+use Rattle.rx_text.proofs.AppendingLemmas.{err_front}
+use Rattle.rx_text.proofs.LeavingLemmas.{tree_text, tree_leaves}
 use Rattle.rx_text.proofs.writer.write_tree.Goals as goal
 
 pub returns-clause-written : goal.returns-clause-written

@@ -1,4 +1,4 @@
-use Rattle.rx_arena.proofs.ArenaCalls.{next_chained}
+use Rattle.rx_arena.proofs.ArenaCallLemmas.{next_chained}
 use Rattle.store_rows.proofs.arena.after.Goals as goal
 
 pub returns : goal.returns

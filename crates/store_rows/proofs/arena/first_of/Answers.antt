@@ -1,4 +1,4 @@
-use Rattle.rx_arena.proofs.ArenaCalls.{first_chained, first_taken}
+use Rattle.rx_arena.proofs.ArenaCallLemmas.{first_chained, first_taken}
 use Rattle.store_rows.proofs.arena.first_of.Goals as goal
 
 pub returns-clause-chained : goal.returns-clause-chained

@@ -4,8 +4,8 @@ use Rattle.rx_arena.specs.declared.fault.ArenaFault.{ArenaFault}
 use Rattle.rx_arena.specs.declared.Slot.{Slot}
 use Rattle.rx_arena.specs.Put.{put}
 use Rattle.rx_arena.specs.Arena.{ArenaState, new_cell}
-use Rattle.rx_arena.proofs.ArenaCalls.{just_taken}
-use Rattle.store_rows.proofs.Unrooted.{no_roots_taken, no_roots_same}
+use Rattle.rx_arena.proofs.ArenaCallLemmas.{just_taken}
+use Rattle.store_rows.proofs.UnrootedLemmas.{no_roots_taken, no_roots_same}
 use Rattle.store_rows.proofs.arena.link.Goals as goal
 
 pub chain_push-requires-clause-taken : goal.chain_push-requires-clause-taken

@@ -1,6 +1,6 @@
 use Rattle.std.proofs.Common.{ap}
 use Rattle.rx_arena.specs.Arena.{ArenaState}
-use Rattle.store_rows.proofs.Unrooted.{no_roots_marked}
+use Rattle.store_rows.proofs.UnrootedLemmas.{no_roots_marked}
 use Rattle.store_rows.proofs.arena.mark.Goals as goal
 
 pub returns : goal.returns

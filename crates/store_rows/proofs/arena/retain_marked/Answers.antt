@@ -1,5 +1,5 @@
 use Rattle.rx_arena.specs.Arena.{dropped_from}
-use Rattle.store_rows.proofs.Unrooted.{no_roots_swept}
+use Rattle.store_rows.proofs.UnrootedLemmas.{no_roots_swept}
 use Rattle.store_rows.proofs.arena.retain_marked.Goals as goal
 
 pub returns-clause-no_roots : goal.returns-clause-no_roots

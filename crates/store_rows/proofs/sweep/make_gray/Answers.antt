@@ -1,4 +1,4 @@
-use Rattle.rx_sweep.proofs.Ready.{grayed_ready}
+use Rattle.rx_sweep.proofs.ReadyLemmas.{grayed_ready}
 use Rattle.store_rows.proofs.sweep.make_gray.Goals as goal
 
 pub returns : goal.returns

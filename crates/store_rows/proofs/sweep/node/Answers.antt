@@ -1,6 +1,6 @@
 use Rattle.std.proofs.Common.{sym, subst}
 use Rattle.rx_arena.specs.Arena.{IsTaken}
-use Rattle.rx_sweep.proofs.Ready.{named_in}
+use Rattle.rx_sweep.proofs.ReadyLemmas.{named_in}
 use Rattle.store_rows.proofs.sweep.node.Goals as goal
 
 pub linked-requires-clause-parts : goal.linked-requires-clause-parts

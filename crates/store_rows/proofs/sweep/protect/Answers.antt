@@ -1,4 +1,4 @@
-use Rattle.rx_sweep.proofs.Ready.{rooted_ready}
+use Rattle.rx_sweep.proofs.ReadyLemmas.{rooted_ready}
 use Rattle.store_rows.proofs.sweep.protect.Goals as goal
 
 pub returns : goal.returns

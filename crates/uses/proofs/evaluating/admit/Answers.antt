@@ -1,7 +1,7 @@
 use Rattle.std.proofs.Common.{ap, refl}
 use Rattle.rx_term.specs.Store.{Store, tree_at}
 use Rattle.rx_term.proofs.StoreLemmas.{some-value}
-use Rattle.uses.proofs.Valued.{given_alone, given_still}
+use Rattle.uses.proofs.ValuedLemmas.{given_alone, given_still}
 use Rattle.uses.proofs.evaluating.admit.Goals as goal
 
 pub returns-clause-given : goal.returns-clause-given

@@ -1,4 +1,4 @@
-use Rattle.uses.proofs.Valued.{given_in_engine}
+use Rattle.uses.proofs.ValuedLemmas.{given_in_engine}
 use Rattle.uses.proofs.evaluating.engine_over.Goals as goal
 
 pub returns-clause-given : goal.returns-clause-given

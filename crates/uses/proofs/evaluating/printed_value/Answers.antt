@@ -1,5 +1,5 @@
 use Rattle.uses.specs.Evaluated.{value_within}
-use Rattle.uses.proofs.Valued.{value_there}
+use Rattle.uses.proofs.ValuedLemmas.{value_there}
 use Rattle.uses.proofs.evaluating.printed_value.Goals as goal
 
 pub printed-requires : goal.printed-requires

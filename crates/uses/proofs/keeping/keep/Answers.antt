@@ -1,5 +1,5 @@
 use Rattle.std.proofs.Common.{◌+◌}
-use Rattle.uses.proofs.Kept.{only_reached}
+use Rattle.uses.proofs.KeptLemmas.{only_reached}
 use Rattle.uses.proofs.keeping.keep.Goals as goal
 
 -- src/keeping.rt:13:1

@@ -1,5 +1,5 @@
 use Rattle.rx_term.proofs.StoreLemmas.{Grows-trans}
-use Rattle.uses.proofs.Steps.{bound_held, is_step}
+use Rattle.uses.proofs.StepLemmas.{bound_held, is_step}
 use Rattle.uses.proofs.rewriting.rewrite.Goals as goal
 
 -- src/rewriting.rt:44:16

@@ -2,7 +2,7 @@ use Rattle.std.proofs.Common.{false}
 use Rattle.std.specs.Prelude.{codes}
 use Rattle.rx_term.specs.Tree.{Tree, Int, Appl, none, more}
 use Rattle.rx_term.proofs.StoreLemmas.{Grows-made, Grows-trans}
-use Rattle.uses.proofs.Noted.{noted_made, noted_there, in_word}
+use Rattle.uses.proofs.NotedLemmas.{noted_made, noted_there, in_word}
 use Rattle.uses.proofs.texts.located.Goals as goal
 
 pub returns-clause-tree : goal.returns-clause-tree

@@ -1,7 +1,7 @@
 use Rattle.std.proofs.Common.{◌∙◌}
 use Rattle.rx_term.specs.Store.{tree_at}
 use Rattle.rx_term.proofs.StoreLemmas.{some-value}
-use Rattle.uses.proofs.Same.{same_reference}
+use Rattle.uses.proofs.SameLemmas.{same_reference}
 use Rattle.uses.proofs.texts.read_back.Goals as goal
 
 -- src/texts.rt:51:1

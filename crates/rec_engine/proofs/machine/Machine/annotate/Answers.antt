@@ -1,7 +1,7 @@
 use Rattle.std.proofs.Common.{◌∙◌, ◌∷◌, [], subst, sym, Contains, List}
 use Rattle.rx_term.specs.Steps.{Keeps}
 use Rattle.rx_term.specs.declared.Term.{Term}
-use Rattle.rec_engine.proofs.Ends.{in-end, in-here}
+use Rattle.rec_engine.proofs.EndLemmas.{in-end, in-here}
 use Rattle.rec_engine.proofs.EvaluationLemmas.{kept-front}
 use Rattle.rec_engine.proofs.StayLemmas.{stays-kept}
 use Rattle.rec_engine.proofs.machine.Machine.annotate.Goals as goal

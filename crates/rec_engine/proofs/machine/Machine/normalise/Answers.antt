@@ -1,11 +1,11 @@
 use Rattle.std.proofs.Common.{◌∙◌, [], subst, ap, sym, refl, drop, is_some}
 use Rattle.rec_sorts.specs.Evaluation.{term_of}
 use Rattle.rec_engine.specs.Answered.{IsTermCode, IsAnswer, StandsAbove}
-use Rattle.rec_sorts.proofs.Walked.{held}
+use Rattle.rec_sorts.proofs.WalkedLemmas.{held}
 use Rattle.rx_term.proofs.KeepLemmas.{kept-work}
 use Rattle.rx_term.specs.Walks.{held_tree}
 use Rattle.rec_engine.specs.Machine.{AreConstants}
-use Rattle.rec_engine.proofs.Ends.{in-here}
+use Rattle.rec_engine.proofs.EndLemmas.{in-here}
 use Rattle.rec_engine.proofs.StayLemmas.{ready-next}
 use Rattle.rec_engine.proofs.NormalLemmas.{given-nodes, code-same, code-loaded, constants-loaded, loaded-own, term-stands, value-stands, kept-term, is-value, is-limit, ready-cut}
 use Rattle.rec_engine.proofs.machine.Machine.normalise.Goals as goal

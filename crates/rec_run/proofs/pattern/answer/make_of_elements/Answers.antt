@@ -3,7 +3,7 @@ use Rattle.rx_pattern.specs.Filling.{filling}
 use Rattle.rec_run.specs.PatternRuns.{made_due}
 use Rattle.rec_run.specs.PatternAnswers.{answer_due}
 use Rattle.rx_term.proofs.WalkLemmas.{trees_from-AllHeld}
-use Rattle.rec_run.proofs.PatternTerms.{made_here}
+use Rattle.rec_run.proofs.PatternTermLemmas.{made_here}
 use Rattle.rec_run.proofs.FaultLemmas.{full_bank}
 use Rattle.rec_run.proofs.pattern.answer.make_of_elements.Goals as goal
 

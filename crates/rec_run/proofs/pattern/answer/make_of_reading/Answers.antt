@@ -3,7 +3,7 @@ use Rattle.rx_term.specs.Tree.{Tree}
 use Rattle.rec_run.specs.PatternRuns.{due_of_args}
 use Rattle.rec_run.specs.PatternAnswers.{IsPatternRead, answer_due}
 use Rattle.rec_run.specs.declared.refusal.Reading.{Reading}
-use Rattle.rec_run.proofs.PatternDue.{good_both, if_ok_map, refused_both}
+use Rattle.rec_run.proofs.PatternDueLemmas.{good_both, if_ok_map, refused_both}
 use Rattle.rec_run.proofs.pattern.answer.make_of_reading.Goals as goal
 
 pub returns-in-Refused-clause-due : goal.returns-in-Refused-clause-due

@@ -3,7 +3,7 @@ use Rattle.std.specs.Option.{option_and_then}
 use Rattle.rx_term.specs.Store.{tree_at}
 use Rattle.rx_term.specs.Walks.{AllHeld}
 use Rattle.rec_sorts.specs.TermRules.{elements}
-use Rattle.rec_run.proofs.PatternTerms.{elements_held}
+use Rattle.rec_run.proofs.PatternTermLemmas.{elements_held}
 use Rattle.rec_run.proofs.pattern.answer.make_of_term.Goals as goal
 
 pub make_of_elements-requires : goal.make_of_elements-requires

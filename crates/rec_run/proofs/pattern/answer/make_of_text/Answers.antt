@@ -7,7 +7,7 @@ use Rattle.rec_run.specs.PatternAnswers.{answer_due}
 use Rattle.rec_run.specs.Refusals.{refusal_due}
 use Rattle.rec_run.specs.declared.ending.Source.TheVariants as source
 use Rattle.rec_run.specs.declared.refusal.Reading.{Reading}
-use Rattle.rec_run.proofs.PatternDue.{due_read, if_ok_map, spelt_due, unspelt_args}
+use Rattle.rec_run.proofs.PatternDueLemmas.{due_read, if_ok_map, spelt_due, unspelt_args}
 use Rattle.rec_run.proofs.pattern.answer.make_of_text.Goals as goal
 
 pub returns-in-Refused-clause-due : goal.returns-in-Refused-clause-due

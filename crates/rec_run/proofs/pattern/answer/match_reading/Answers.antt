@@ -7,7 +7,7 @@ use Rattle.rec_run.specs.TermRuns.{due_of}
 use Rattle.rec_run.specs.PatternRuns.{match_lines}
 use Rattle.rec_run.specs.PatternAnswers.{IsPatternRead, answer_due}
 use Rattle.rec_run.specs.declared.refusal.Reading.{Reading}
-use Rattle.rec_run.proofs.PatternDue.{good_both, if_ok_map, no_pattern, refused_both}
+use Rattle.rec_run.proofs.PatternDueLemmas.{good_both, if_ok_map, no_pattern, refused_both}
 use Rattle.rec_run.proofs.pattern.answer.match_reading.Goals as goal
 
 abbrev after : Tree → Verdict → Due

@@ -3,7 +3,7 @@ use Rattle.rx_term.specs.Store.{tree_at}
 use Rattle.rx_term.proofs.StoreLemmas.{some-value}
 use Rattle.rx_pattern.specs.Held.{Binds}
 use Rattle.rx_pattern.specs.Matching.{matching}
-use Rattle.rec_run.proofs.PatternLines.{bound_held, no_due, yes_due}
+use Rattle.rec_run.proofs.PatternLineLemmas.{bound_held, no_due, yes_due}
 use Rattle.rec_run.proofs.FaultLemmas.{full_bank}
 use Rattle.rec_run.proofs.pattern.answer.match_term.Goals as goal
 

@@ -3,7 +3,7 @@ use Rattle.rec_run.specs.TermRuns.{line_at}
 use Rattle.rec_run.specs.declared.ending.RunFault.TheVariants.{Write}
 use Rattle.rec_run.proofs.ErrorLemmas.{if_err_at}
 use Rattle.rx_term.proofs.WalkLemmas.{AllHeld-at}
-use Rattle.rec_run.proofs.PatternLines.{stops_before, stops_binding, stops_first, stops_write}
+use Rattle.rec_run.proofs.PatternLineLemmas.{stops_before, stops_binding, stops_first, stops_write}
 use Rattle.rec_run.proofs.pattern.lines.write_bindings.Goals as goal
 
 pub returns-in_err-put-clause-err : goal.returns-in_err-put-clause-err

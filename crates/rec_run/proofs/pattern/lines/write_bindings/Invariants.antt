@@ -1,6 +1,6 @@
 use Rattle.std.proofs.Common.{take}
 use Rattle.std.specs.Io.KnownBytes.{Appends}
-use Rattle.rec_run.proofs.PatternLines.{yes_lines}
+use Rattle.rec_run.proofs.PatternLineLemmas.{yes_lines}
 use Rattle.rec_run.proofs.pattern.lines.write_bindings.Given as goal
 
 -- the lines so far were written

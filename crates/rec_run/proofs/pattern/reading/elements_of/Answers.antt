@@ -1,5 +1,5 @@
 use Rattle.std.proofs.Common.{sym}
-use Rattle.rec_run.proofs.PatternTerms.{found_elements, listed}
+use Rattle.rec_run.proofs.PatternTermLemmas.{found_elements, listed}
 use Rattle.rec_run.proofs.pattern.reading.elements_of.Goals as goal
 
 pub returns-in_ok-items_of-in-Nil : goal.returns-in_ok-items_of-in-Nil

@@ -1,6 +1,6 @@
 use Rattle.std.proofs.Common.{◌≡◌, List, [], ◌∷◌, ◌++◌, subst, sym}
 use Rattle.rx_term.specs.declared.Term.{Term}
-use Rattle.rec_run.proofs.PatternTerms.{IsPartWay, part_way_first, takes_one}
+use Rattle.rec_run.proofs.PatternTermLemmas.{IsPartWay, part_way_first, takes_one}
 use Rattle.rec_run.proofs.pattern.reading.items_of.Goals as goal
 
 pub loop-found-init : goal.loop-found-init

@@ -1,4 +1,4 @@
-use Rattle.rec_run.proofs.PatternTerms.{IsPartWay, left_at}
+use Rattle.rec_run.proofs.PatternTermLemmas.{IsPartWay, left_at}
 use Rattle.rec_run.proofs.pattern.reading.items_of.Given as goal
 
 -- the items before what is left were found

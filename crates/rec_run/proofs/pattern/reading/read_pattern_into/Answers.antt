@@ -4,7 +4,7 @@ use Rattle.rx_text.specs.Verdict.{Verdict, IsVerdict}
 use Rattle.rec_run.specs.TermRuns.{IsReadingOf}
 use Rattle.rec_run.specs.declared.ending.Source.TheVariants as source
 use Rattle.rec_run.specs.declared.refusal.Reading.{Reading}
-use Rattle.rec_run.proofs.PatternDue.{if_ok_map, spelt_pattern, unspelt_pattern}
+use Rattle.rec_run.proofs.PatternDueLemmas.{if_ok_map, spelt_pattern, unspelt_pattern}
 use Rattle.rec_run.proofs.pattern.reading.read_pattern_into.Goals as goal
 
 pub returns-in-Refused-clause-read : goal.returns-in-Refused-clause-read

@@ -6,9 +6,9 @@ use Rattle.rec_run.specs.PatternRuns.{IsMakeDue}
 use Rattle.rec_run.specs.declared.ending.RunFault.TheVariants.{Write}
 use Rattle.rec_run.proofs.FaultLemmas.{reports_ran_out}
 use Rattle.rec_run.proofs.ErrorLemmas.{if_err_at}
-use Rattle.rec_run.proofs.PatternDue.{same_due}
-use Rattle.rec_run.proofs.ReadDue.{breaks_flush, breaks_read, ends_read, placed_read}
-use Rattle.rec_run.proofs.WholeRuns.{breaks_unwritten}
+use Rattle.rec_run.proofs.PatternDueLemmas.{same_due}
+use Rattle.rec_run.proofs.ReadDueLemmas.{breaks_flush, breaks_read, ends_read, placed_read}
+use Rattle.rec_run.proofs.WholeRunLemmas.{breaks_unwritten}
 use Rattle.rec_run.proofs.pattern.runs.run_make_at.Goals as goal
 
 pub returns-in_err-reading-clause-fault : goal.returns-in_err-reading-clause-fault

@@ -6,9 +6,9 @@ use Rattle.rec_run.specs.GivenTerms.{given_at, given_by, given_lines}
 use Rattle.rec_run.specs.Output.{lines}
 use Rattle.rec_run.specs.Run.{Stops}
 use Rattle.rec_run.proofs.EvaluatedLemmas.{same_terms, still_protects}
-use Rattle.rec_run.proofs.LineFronts.{stops_behind}
-use Rattle.rec_run.proofs.SpecLines.{lines-both, newlines-own}
-use Rattle.rx_text.proofs.Appending.{appends_both}
+use Rattle.rec_run.proofs.LineFrontLemmas.{stops_behind}
+use Rattle.rec_run.proofs.SpecLineLemmas.{lines-both, newlines-own}
+use Rattle.rx_text.proofs.AppendingLemmas.{appends_both}
 use Rattle.rec_run.proofs.ErrorLemmas.{on_ok_of}
 use Rattle.rec_run.proofs.spec.lines.write_all.Goals as goal
 

@@ -12,9 +12,9 @@ use Rattle.rec_engine.specs.Engine.{IsGround}
 use Rattle.rec_run.specs.EvaluatedLines.{due_before, raised_after}
 use Rattle.rec_run.specs.GivenTerms.{StopsAfter, given_at, given_text, item_at}
 use Rattle.rec_run.proofs.EvaluatedLemmas.{front-line, held_no_ends, lines_stopped_after, raised_at, room_fits, same_engine_both}
-use Rattle.rec_run.proofs.GivenLists.{fewer_items, front_there, kept_later, no_front}
-use Rattle.rec_run.proofs.LineFronts.{lines_of, lines_of-more}
-use Rattle.rx_text.proofs.Appending.{appends_both}
+use Rattle.rec_run.proofs.GivenListLemmas.{fewer_items, front_there, kept_later, no_front}
+use Rattle.rec_run.proofs.LineFrontLemmas.{lines_of, lines_of-more}
+use Rattle.rx_text.proofs.AppendingLemmas.{appends_both}
 use Rattle.rec_run.proofs.spec.lines.write_given_lines.Goals as goal
 
 pub returns-in_default : goal.returns-in_default

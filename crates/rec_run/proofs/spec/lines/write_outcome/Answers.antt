@@ -7,7 +7,7 @@ use Rattle.rec_run.specs.EvaluatedLines.{HoldsValue, outcome_text}
 use Rattle.rec_run.specs.GivenTerms.{item_at}
 use Rattle.rec_run.specs.Output.{steps_text}
 use Rattle.rec_run.proofs.EvaluatedLemmas.{of_held}
-use Rattle.rx_text.proofs.Appending.{front_after, front_before, on_err}
+use Rattle.rx_text.proofs.AppendingLemmas.{front_after, front_before, on_err}
 use Rattle.rec_run.proofs.spec.lines.write_outcome.Goals as goal
 
 pub returns-in_err-write-in-Value-clause-err : goal.returns-in_err-write-in-Value-clause-err

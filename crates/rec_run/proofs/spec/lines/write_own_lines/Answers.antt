@@ -10,9 +10,9 @@ use Rattle.rec_run.specs.Output.{lines}
 use Rattle.rec_run.specs.Reading.{line_text, term_at, text_at}
 use Rattle.rec_run.specs.Run.{Stops}
 use Rattle.rec_run.proofs.EvaluatedLemmas.{lines_stopped, raised_at, room_fits, same_engine_both}
-use Rattle.rec_run.proofs.LineFronts.{lines_of, lines_of-more}
-use Rattle.rec_run.proofs.SpecLines.{line_text-newlines, lines-own}
-use Rattle.rx_text.proofs.Appending.{appends_both}
+use Rattle.rec_run.proofs.LineFrontLemmas.{lines_of, lines_of-more}
+use Rattle.rec_run.proofs.SpecLineLemmas.{line_text-newlines, lines-own}
+use Rattle.rx_text.proofs.AppendingLemmas.{appends_both}
 use Rattle.rec_run.proofs.spec.lines.write_own_lines.Goals as goal
 
 pub returns-in-Err-clause-keeps : goal.returns-in-Err-clause-keeps

@@ -2,7 +2,7 @@ use Rattle.std.proofs.Common.{◌≡◌, Some, refl, subst}
 use Rattle.rec_run.specs.GivenTerms.{HoldsTerms}
 use Rattle.rx_shared.specs.State.{store_of}
 use Rattle.rec_run.specs.declared.refusal.Reading.TheVariants.{Good}
-use Rattle.rec_run.proofs.GivenDue.{good_list, list_due, list_fault, list_holds, refused_ready}
+use Rattle.rec_run.proofs.GivenDueLemmas.{good_list, list_due, list_fault, list_holds, refused_ready}
 use Rattle.rec_run.proofs.spec.reading.judge_list.Goals as goal
 
 pub returns-in-Err-clause-due : goal.returns-in-Err-clause-due

@@ -5,7 +5,7 @@ use Rattle.rec_run.specs.GivenTerms.{IsReady}
 use Rattle.rec_run.specs.TermRuns.{IsReadingOf}
 use Rattle.rec_run.specs.declared.ending.Source.TheVariants as source
 use Rattle.rec_run.specs.declared.refusal.Reading.{Reading}
-use Rattle.rec_run.proofs.GivenDue.{no_term}
+use Rattle.rec_run.proofs.GivenDueLemmas.{no_term}
 use Rattle.rec_run.proofs.spec.reading.judge_terms.Goals as goal
 
 pub returns-in-Refused-clause-due : goal.returns-in-Refused-clause-due

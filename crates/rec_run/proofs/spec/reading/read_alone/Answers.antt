@@ -2,7 +2,7 @@ use Rattle.std.proofs.Common.{IfSome, None, refl, subst}
 use Rattle.rec_syntax.specs.Syntax.{Sourced}
 use Rattle.rec_run.specs.Reading.{IsSpecRead}
 use Rattle.rec_run.specs.declared.refusal.Reading.{Reading}
-use Rattle.rec_run.proofs.WholeRuns.{read_good, read_refused}
+use Rattle.rec_run.proofs.WholeRunLemmas.{read_good, read_refused}
 use Rattle.rec_run.proofs.spec.reading.read_alone.Goals as goal
 
 pub returns-in-Refused-clause-due : goal.returns-in-Refused-clause-due

@@ -1,4 +1,4 @@
-use Rattle.rec_run.proofs.GivenDue.{read_with, terms_out, unread_both}
+use Rattle.rec_run.proofs.GivenDueLemmas.{read_with, terms_out, unread_both}
 use Rattle.rec_run.proofs.spec.reading.read_both.Goals as goal
 
 pub returns-clause-due : goal.returns-clause-due

@@ -1,4 +1,4 @@
-use Rattle.rec_run.proofs.WholeRuns.{spec_read}
+use Rattle.rec_run.proofs.WholeRunLemmas.{spec_read}
 use Rattle.rec_run.proofs.spec.reading.read_spec_text.Goals as goal
 
 pub returns-clause-verdict : goal.returns-clause-verdict

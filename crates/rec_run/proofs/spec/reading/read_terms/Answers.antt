@@ -1,5 +1,5 @@
 use Rattle.std.proofs.Common.{Ok}
-use Rattle.rec_run.proofs.GivenDue.{read_due}
+use Rattle.rec_run.proofs.GivenDueLemmas.{read_due}
 use Rattle.rec_run.proofs.spec.reading.read_terms.Goals as goal
 
 pub returns-clause-due : goal.returns-clause-due

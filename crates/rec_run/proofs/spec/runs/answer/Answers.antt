@@ -2,8 +2,8 @@ use Rattle.rec_run.specs.GivenTerms.{job_lines}
 use Rattle.rec_run.specs.Run.{IsDueFor}
 use Rattle.rec_run.specs.declared.ending.RunFault.TheVariants.{Write}
 use Rattle.rec_run.proofs.ErrorLemmas.{if_err_at}
-use Rattle.rec_run.proofs.ReadDue.{breaks_flush, breaks_read, ends_read, placed_read}
-use Rattle.rec_run.proofs.WholeRuns.{due_for, one_due_for}
+use Rattle.rec_run.proofs.ReadDueLemmas.{breaks_flush, breaks_read, ends_read, placed_read}
+use Rattle.rec_run.proofs.WholeRunLemmas.{due_for, one_due_for}
 use Rattle.rec_run.proofs.spec.runs.answer.Goals as goal
 
 pub returns-in_err-write_due-clause-fault : goal.returns-in_err-write_due-clause-fault

@@ -1,7 +1,7 @@
 use Rattle.rec_run.specs.Run.{IsDueFor}
 use Rattle.rec_run.proofs.FaultLemmas.{reports_unwritten, room_unwritten}
 use Rattle.rec_run.proofs.ErrorLemmas.{if_err_at}
-use Rattle.rec_run.proofs.WholeRuns.{breaks_unwritten}
+use Rattle.rec_run.proofs.WholeRunLemmas.{breaks_unwritten}
 use Rattle.rec_run.proofs.spec.runs.run_beside.Goals as goal
 
 pub returns-in_err-reading-clause-fault : goal.returns-in_err-reading-clause-fault

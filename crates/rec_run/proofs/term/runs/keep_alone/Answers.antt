@@ -1,4 +1,4 @@
-use Rattle.rec_run.proofs.CountedParts.{counted_held, kept_alone}
+use Rattle.rec_run.proofs.CountedPartLemmas.{counted_held, kept_alone}
 use Rattle.rec_run.proofs.term.runs.keep_alone.Goals as goal
 
 pub returns-clause-kept : goal.returns-clause-kept

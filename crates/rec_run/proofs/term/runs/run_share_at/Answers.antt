@@ -3,9 +3,9 @@ use Rattle.rec_run.specs.TermRuns.{IsShareDue, share_lines, share_lines_at}
 use Rattle.rec_run.specs.declared.ending.RunFault.TheVariants.{Write}
 use Rattle.rec_run.proofs.FaultLemmas.{reports_unwritten}
 use Rattle.rec_run.proofs.ErrorLemmas.{if_err_at}
-use Rattle.rec_run.proofs.ReadDue.{breaks_flush, breaks_read, ends_read, placed_read}
-use Rattle.rec_run.proofs.TermsDue.{given_due, given_held, one_due_of}
-use Rattle.rec_run.proofs.WholeRuns.{breaks_unwritten}
+use Rattle.rec_run.proofs.ReadDueLemmas.{breaks_flush, breaks_read, ends_read, placed_read}
+use Rattle.rec_run.proofs.TermsDueLemmas.{given_due, given_held, one_due_of}
+use Rattle.rec_run.proofs.WholeRunLemmas.{breaks_unwritten}
 use Rattle.rec_run.proofs.term.runs.run_share_at.Goals as goal
 
 pub write_share-requires-clause-held : goal.write_share-requires-clause-held

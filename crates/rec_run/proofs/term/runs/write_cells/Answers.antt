@@ -2,7 +2,7 @@ use Rattle.std.proofs.Common.{◌++◌, subst}
 use Rattle.std.specs.Prelude.{codes, decimal}
 use Rattle.std.specs.Io.KnownBytes.{Appends}
 use Rattle.rx_text.specs.Written.{AppendsFront}
-use Rattle.rx_text.proofs.Appending.{front_after, front_before, on_err}
+use Rattle.rx_text.proofs.AppendingLemmas.{front_after, front_before, on_err}
 use Rattle.rec_run.proofs.term.runs.write_cells.Goals as goal
 
 pub returns-in_err-put_numbered-clause-err : goal.returns-in_err-put_numbered-clause-err

@@ -3,9 +3,9 @@ use Rattle.std.specs.Io.KnownBytes.{Appends}
 use Rattle.rec_run.specs.Run.{Stops}
 use Rattle.rec_run.specs.TermRuns.{cells_line, line_at}
 use Rattle.rec_run.specs.declared.ending.RunFault.TheVariants.{Write}
-use Rattle.rec_run.proofs.PatternLines.{stops_before, stops_first, stops_write}
-use Rattle.rec_run.proofs.TermsDue.{share_lines-at}
-use Rattle.rx_text.proofs.Appending.{appends_both, front_after}
+use Rattle.rec_run.proofs.PatternLineLemmas.{stops_before, stops_first, stops_write}
+use Rattle.rec_run.proofs.TermsDueLemmas.{share_lines-at}
+use Rattle.rx_text.proofs.AppendingLemmas.{appends_both, front_after}
 use Rattle.rec_run.proofs.ErrorLemmas.{if_err_at}
 use Rattle.rec_run.proofs.term.runs.write_counted.Goals as goal
 

@@ -3,7 +3,7 @@ use Rattle.rx_term.specs.declared.Term.{Term}
 use Rattle.rec_run.specs.Run.{Stops}
 use Rattle.rec_run.specs.TermRuns.{line_at, term_due}
 use Rattle.rec_run.specs.declared.refusal.Reading.{Reading}
-use Rattle.rec_run.proofs.PatternLines.{stops_first}
+use Rattle.rec_run.proofs.PatternLineLemmas.{stops_first}
 use Rattle.rec_run.proofs.ErrorLemmas.{if_err_at}
 use Rattle.rec_run.proofs.term.runs.write_term.Goals as goal
 

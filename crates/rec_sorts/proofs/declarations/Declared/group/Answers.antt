@@ -2,8 +2,8 @@ use Rattle.std.proofs.Common.{arith, ap, length, sym, ◌∙◌}
 use Rattle.std.proofs.lemmas.List.{append-nil}
 use Rattle.rec_syntax.specs.Lexemes.{word_of}
 use Rattle.rec_sorts.specs.Least.{earlier}
-use Rattle.rec_sorts.proofs.LeastPlaces.{earlier_none}
-use Rattle.rec_sorts.proofs.Additions.{words_pushed, sorts_pushed, all_within_pushed, lists}
+use Rattle.rec_sorts.proofs.LeastPlaceLemmas.{earlier_none}
+use Rattle.rec_sorts.proofs.AdditionLemmas.{words_pushed, sorts_pushed, all_within_pushed, lists}
 use Rattle.rec_sorts.proofs.declarations.Declared.group.Goals as goal
 
 pub returns : goal.returns

@@ -1,6 +1,6 @@
 use Rattle.std.proofs.Common.{arith}
 use Rattle.rec_sorts.specs.Names.{given_to}
-use Rattle.rec_sorts.proofs.Additions.{groups_turn}
+use Rattle.rec_sorts.proofs.AdditionLemmas.{groups_turn}
 use Rattle.rec_sorts.proofs.declarations.Declared.groups.Goals as goal
 
 pub loop-group-preserved : goal.loop-group-preserved

@@ -3,8 +3,8 @@ use Rattle.rec_syntax.specs.Lexemes.{word_of}
 use Rattle.rec_syntax.specs.Parts.{words_of}
 use Rattle.rec_sorts.specs.Names.{given_to}
 use Rattle.rec_sorts.specs.Declaring.{sort_numbers, least_unnumbered}
-use Rattle.rec_sorts.proofs.Stacks.{map-append}
-use Rattle.rec_sorts.proofs.Additions.{list_pushed, within_pushed, unknown_pushed}
+use Rattle.rec_sorts.proofs.StackLemmas.{map-append}
+use Rattle.rec_sorts.proofs.AdditionLemmas.{list_pushed, within_pushed, unknown_pushed}
 use Rattle.rec_sorts.proofs.declarations.Declared.symbol.Goals as goal
 
 pub returns : goal.returns

@@ -1,6 +1,6 @@
 use Rattle.std.proofs.Common.{arith}
 use Rattle.rec_sorts.specs.Names.{given_to}
-use Rattle.rec_sorts.proofs.Additions.{symbols_turn}
+use Rattle.rec_sorts.proofs.AdditionLemmas.{symbols_turn}
 use Rattle.rec_sorts.proofs.declarations.Declared.symbols.Goals as goal
 
 pub loop-declaration-preserved : goal.loop-declaration-preserved

@@ -1,8 +1,8 @@
 use Rattle.std.proofs.Common.{◌≡◌, None, ◌∙◌, rules}
 use Rattle.std.proofs.lemmas.Map.Text.{hash_map_updates_str}
 use Rattle.rec_sorts.specs.Names.{given_to}
-use Rattle.rec_sorts.proofs.Tables.{same_function, none_from_test}
-use Rattle.rec_sorts.proofs.RuleParts.{given_first-new}
+use Rattle.rec_sorts.proofs.TableLemmas.{same_function, none_from_test}
+use Rattle.rec_sorts.proofs.RulePartLemmas.{given_first-new}
 use Rattle.rec_sorts.proofs.names.Names.give.Goals as goal
 
 pub returns-clause-given : goal.returns-clause-given

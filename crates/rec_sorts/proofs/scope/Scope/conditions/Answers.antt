@@ -3,7 +3,7 @@ use Rattle.std.specs.Prelude.{nat_eq}
 use Rattle.std.specs.HashSet.{contains}
 use Rattle.rec_syntax.specs.Parts.{condition_of}
 use Rattle.rec_sorts.specs.Reading.{SpellsCondition, condition_places, conditions_places}
-use Rattle.rec_sorts.proofs.Turns.{Pairwise_turn, places_turn}
+use Rattle.rec_sorts.proofs.TurnLemmas.{Pairwise_turn, places_turn}
 use Rattle.rec_sorts.proofs.scope.Scope.conditions.Goals as goal
 
 pub loop-condition-preserved : goal.loop-condition-preserved

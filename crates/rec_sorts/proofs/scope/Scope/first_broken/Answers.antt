@@ -1,5 +1,5 @@
 use Rattle.std.proofs.Common.{◌∙◌, sym, refl, true, false}
-use Rattle.rec_sorts.proofs.Walked.{broken_is}
+use Rattle.rec_sorts.proofs.WalkedLemmas.{broken_is}
 use Rattle.rec_sorts.proofs.scope.Scope.first_broken.Goals as goal
 
 pub returns-then-any_no_application : goal.returns-then-any_no_application

@@ -1,6 +1,6 @@
 use Rattle.std.proofs.Common.{◌∙◌, sym, ap, drop}
 use Rattle.rec_sorts.specs.GivenTerms.{are_misfits}
-use Rattle.rec_sorts.proofs.Walked.{items_of-none, misfits-none}
+use Rattle.rec_sorts.proofs.WalkedLemmas.{items_of-none, misfits-none}
 use Rattle.rec_sorts.proofs.scope.Scope.has_misfit.Goals as goal
 
 pub returns-in_default-kind : goal.returns-in_default-kind

@@ -1,6 +1,6 @@
 use Rattle.std.proofs.Common.{◌∙◌, ◌∷◌, [], ◌++◌, ap}
 use Rattle.std.specs.Prelude.{reverse}
-use Rattle.rec_sorts.proofs.GivenLetters.{letters-walked}
+use Rattle.rec_sorts.proofs.GivenLetterLemmas.{letters-walked}
 use Rattle.rec_sorts.proofs.scope.Scope.letters_of.Goals as goal
 
 pub returns : goal.returns

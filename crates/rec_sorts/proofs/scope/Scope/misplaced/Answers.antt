@@ -1,6 +1,6 @@
 use Rattle.std.proofs.Common.{◌≡◌, length, min, rules}
 use Rattle.std.proofs.lemmas.Slice.Zip.{zip_end}
-use Rattle.rec_sorts.proofs.Turns.{misplaced_end}
+use Rattle.rec_sorts.proofs.TurnLemmas.{misplaced_end}
 use Rattle.rec_sorts.proofs.scope.Scope.misplaced.Goals as goal
 
 pub returns : goal.returns

@@ -3,8 +3,8 @@ use Rattle.std.specs.Prelude.{nat_eq}
 use Rattle.std.specs.HashSet.{contains}
 use Rattle.rec_syntax.specs.Parts.{term_of, condition_of}
 use Rattle.rec_sorts.specs.Reading.{binds_variable, ill_headed_at, unlike_at, unbound_among, conditions_places}
-use Rattle.rec_sorts.proofs.Tables.{same_function}
-use Rattle.rec_sorts.proofs.RuleParts.{rule_places-parts}
+use Rattle.rec_sorts.proofs.TableLemmas.{same_function}
+use Rattle.rec_sorts.proofs.RulePartLemmas.{rule_places-parts}
 use Rattle.rec_sorts.proofs.scope.Scope.rule.Goals as goal
 
 pub returns-clause-places : goal.returns-clause-places

@@ -1,7 +1,7 @@
 use Rattle.std.proofs.Common.{arith, refl}
 use Rattle.rec_syntax.specs.Parts.{rule_of}
 use Rattle.rec_sorts.specs.Reading.{SpellsRule, rule_places, rules_places}
-use Rattle.rec_sorts.proofs.Turns.{Pairwise_turn, places_turn}
+use Rattle.rec_sorts.proofs.TurnLemmas.{Pairwise_turn, places_turn}
 use Rattle.rec_sorts.proofs.scope.Scope.rules.Goals as goal
 
 pub loop-rule-preserved : goal.loop-rule-preserved

@@ -3,9 +3,9 @@ use Rattle.rec_syntax.specs.Parts.{term_of}
 use Rattle.rec_sorts.specs.Least.{joined}
 use Rattle.rec_sorts.specs.Letters.{bare}
 use Rattle.rec_sorts.specs.Reading.{nowhere, SpellsTerm, unbound_among, open_term_places, open_terms_places}
-use Rattle.rec_sorts.proofs.LeastPlaces.{joined_assoc}
-use Rattle.rec_sorts.proofs.Turns.{Pairwise_turn, places_turn}
-use Rattle.rec_sorts.proofs.RuleParts.{open_term_places-parts}
+use Rattle.rec_sorts.proofs.LeastPlaceLemmas.{joined_assoc}
+use Rattle.rec_sorts.proofs.TurnLemmas.{Pairwise_turn, places_turn}
+use Rattle.rec_sorts.proofs.RulePartLemmas.{open_term_places-parts}
 use Rattle.rec_sorts.proofs.scope.Scope.terms.Goals as goal
 
 pub loop-term-preserved : goal.loop-term-preserved

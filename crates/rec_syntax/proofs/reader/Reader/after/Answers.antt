@@ -1,7 +1,7 @@
 use Rattle.std.proofs.Common.{◌≤◌, ◌+◌, length, refl, arith}
 use Rattle.rec_syntax.specs.Parts.{spec_of}
 use Rattle.rec_syntax.specs.Reader.{role_of}
-use Rattle.rec_syntax.proofs.TermStack.{closes, goes_on, count_fits}
+use Rattle.rec_syntax.proofs.TermStackLemmas.{closes, goes_on, count_fits}
 use Rattle.rec_syntax.proofs.reader.Reader.after.Goals as goal
 
 pub overflow_add-call : goal.overflow_add-call

@@ -1,4 +1,4 @@
-use Rattle.rec_syntax.proofs.Reading.{rule_pushed, condition_pushed, conditions_are, condition_ends, begun}
+use Rattle.rec_syntax.proofs.ReadingLemmas.{rule_pushed, condition_pushed, conditions_are, condition_ends, begun}
 use Rattle.rec_syntax.proofs.reader.Reader.after_condition.Goals as goal
 
 pub between-requires-clause-sections : goal.between-requires-clause-sections

@@ -1,6 +1,6 @@
 use Rattle.std.proofs.lemmas.List.Elements.{All-nil}
 use Rattle.rec_syntax.specs.Parts.{IsCondition}
-use Rattle.rec_syntax.proofs.Reading.{rule_pushed}
+use Rattle.rec_syntax.proofs.ReadingLemmas.{rule_pushed}
 use Rattle.rec_syntax.proofs.reader.Reader.after_right.Goals as goal
 
 pub between-requires-clause-sections : goal.between-requires-clause-sections

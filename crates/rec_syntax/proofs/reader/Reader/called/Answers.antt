@@ -1,7 +1,7 @@
 use Rattle.rec_syntax.specs.Parts.{spec_of}
 use Rattle.rec_syntax.specs.Reader.{role_of}
-use Rattle.rec_syntax.proofs.TermStack.{leaf}
-use Rattle.rec_syntax.proofs.Reading.{called_moves}
+use Rattle.rec_syntax.proofs.TermStackLemmas.{leaf}
+use Rattle.rec_syntax.proofs.ReadingLemmas.{called_moves}
 use Rattle.rec_syntax.proofs.reader.Reader.called.Goals as goal
 
 pub after-requires : goal.after-requires

@@ -1,7 +1,7 @@
 use Rattle.std.proofs.Common.{Vec, Global, ap}
 use Rattle.rec_syntax.specs.declared.parts.Node.{Node}
-use Rattle.rec_syntax.proofs.TermStack.{whole_term}
-use Rattle.rec_syntax.proofs.Reading.{term_pushed}
+use Rattle.rec_syntax.proofs.TermStackLemmas.{whole_term}
+use Rattle.rec_syntax.proofs.ReadingLemmas.{term_pushed}
 use Rattle.rec_syntax.proofs.reader.Reader.complete.Goals as goal
 
 pub after_left-requires-clause-left : goal.after_left-requires-clause-left

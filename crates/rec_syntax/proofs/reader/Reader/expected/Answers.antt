@@ -6,7 +6,7 @@ use Rattle.rec_syntax.specs.Machine.{step}
 use Rattle.rec_syntax.specs.Reader.{due_of}
 use Rattle.rec_syntax.specs.Expected.{is_taken}
 use Rattle.rec_syntax.specs.declared.token_kind.TokenKind.TheVariants.{PlainWord}
-use Rattle.rec_syntax.proofs.Expecting.{all_kinds, kinds_passing}
+use Rattle.rec_syntax.proofs.ExpectingLemmas.{all_kinds, kinds_passing}
 use Rattle.rec_syntax.proofs.reader.Reader.expected.Goals as goal
 use Rattle.rec_syntax.proofs.reader.Reader.expected.Goals.{then-is_expected+in_ok-push, else-is_expected}
 

@@ -1,5 +1,5 @@
 use Rattle.std.proofs.Common.{refl}
-use Rattle.rec_syntax.proofs.TermStack.{leaf}
+use Rattle.rec_syntax.proofs.TermStackLemmas.{leaf}
 use Rattle.rec_syntax.proofs.reader.Reader.first.Goals as goal
 
 pub returns-in_ok-push-in-Close-clause-moves : goal.returns-in_ok-push-in-Close-clause-moves

@@ -1,7 +1,7 @@
 use Rattle.std.proofs.Common.{◌∙◌, sym}
 use Rattle.rec_syntax.specs.Lexemes.{token_of}
 use Rattle.rec_syntax.specs.Reader.{due_of}
-use Rattle.rec_syntax.proofs.Expecting.{by_kind}
+use Rattle.rec_syntax.proofs.ExpectingLemmas.{by_kind}
 use Rattle.rec_syntax.proofs.reader.Reader.may_take.Goals as goal
 
 pub returns-in-Some : goal.returns-in-Some

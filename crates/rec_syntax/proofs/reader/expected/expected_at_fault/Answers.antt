@@ -7,7 +7,7 @@ use Rattle.rec_syntax.specs.Expected.{is_taken, AreExpected, IsAtFault}
 use Rattle.rec_syntax.specs.declared.token_kind.TokenKind.{TokenKind}
 use Rattle.rec_syntax.specs.declared.reader.Due.{Due}
 use Rattle.rec_syntax.specs.declared.reader.Reader.{Reader}
-use Rattle.rec_syntax.proofs.Expecting.{may_stand}
+use Rattle.rec_syntax.proofs.ExpectingLemmas.{may_stand}
 use Rattle.rec_syntax.proofs.reader.expected.expected_at_fault.Goals as goal
 
 -- just the kinds that the state takes

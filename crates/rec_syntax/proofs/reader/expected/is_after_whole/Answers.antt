@@ -1,7 +1,7 @@
 use Rattle.std.proofs.Common.{◌∙◌, [], ◌∷◌, ◌++◌, map, sym}
 use Rattle.rec_syntax.specs.Machine.{with_rule}
 use Rattle.rec_syntax.specs.Parts.{term_of, condition_of}
-use Rattle.rec_syntax.proofs.Expecting.{rule_ends, conditions_end}
+use Rattle.rec_syntax.proofs.ExpectingLemmas.{rule_ends, conditions_end}
 use Rattle.rec_syntax.proofs.reader.expected.is_after_whole.Goals as goal
 
 pub returns-in_default-kind : goal.returns-in_default-kind

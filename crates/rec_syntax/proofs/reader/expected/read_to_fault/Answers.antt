@@ -4,9 +4,9 @@ use Rattle.rec_syntax.specs.Machine.{step}
 use Rattle.rec_syntax.specs.Parts.{spec_of}
 use Rattle.rec_syntax.specs.Lexemes.{tokens_from, token_of, behind}
 use Rattle.rec_syntax.specs.Reader.{config_of, due_of}
-use Rattle.rec_syntax.proofs.Answering.{placed, behind_is}
-use Rattle.rec_syntax.proofs.Reading.{moved}
-use Rattle.rec_syntax.proofs.Expecting.{none_since, refused_state, ended_state, reached_next}
+use Rattle.rec_syntax.proofs.AnsweringLemmas.{placed, behind_is}
+use Rattle.rec_syntax.proofs.ReadingLemmas.{moved}
+use Rattle.rec_syntax.proofs.ExpectingLemmas.{none_since, refused_state, ended_state, reached_next}
 use Rattle.rec_syntax.proofs.reader.expected.read_to_fault.Goals as goal
 
 pub returns-then-not-may_take-clause-reached : goal.returns-then-not-may_take-clause-reached

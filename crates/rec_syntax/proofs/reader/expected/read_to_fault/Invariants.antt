@@ -1,7 +1,7 @@
 use Rattle.std.proofs.Common.{◌≡◌, ◌-◌, ◌≤◌, length}
 use Rattle.rec_syntax.specs.Lexemes.{tokens_from}
 use Rattle.rec_syntax.specs.Reader.{IsState, config_of}
-use Rattle.rec_syntax.proofs.Expecting.{Reached}
+use Rattle.rec_syntax.proofs.ExpectingLemmas.{Reached}
 use Rattle.rec_syntax.proofs.reader.expected.read_to_fault.Given as goal
 
 abbrev pub invariant-loop-lexeme : goal.invariant-loop-lexeme

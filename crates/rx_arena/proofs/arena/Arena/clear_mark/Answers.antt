@@ -2,8 +2,8 @@ use Rattle.std.proofs.Common.{◌≡◌, refl, sym, ap, subst, ◌∙◌, arith,
 use Rattle.rx_arena.specs.Node.{mark_of, with_mark}
 use Rattle.rx_arena.specs.Put.{times, altered}
 use Rattle.rx_arena.specs.Arena.{ArenaState, IsTaken, with_marking}
-use Rattle.rx_arena.proofs.ArenaLaws.{altered_law}
-use Rattle.rx_arena.proofs.ArenaSteps.{shown-marked, altered_step, step_law, step_state, held_taken}
+use Rattle.rx_arena.proofs.ArenaLawLemmas.{altered_law}
+use Rattle.rx_arena.proofs.ArenaStepLemmas.{shown-marked, altered_step, step_law, step_state, held_taken}
 use Rattle.rx_arena.proofs.arena.Arena.clear_mark.Goals as goal
 
 pub set_mark-requires : goal.set_mark-requires

@@ -1,8 +1,8 @@
 use Rattle.std.proofs.Common.{◌≡◌, ◌∷◌, sym, ap, subst, ◌∙◌, true, false}
 use Rattle.rx_arena.specs.Put.{altered}
 use Rattle.rx_arena.specs.Arena.{ArenaState, IsTaken, marked_at, with_marking}
-use Rattle.rx_arena.proofs.ArenaLaws.{unmarked_away}
-use Rattle.rx_arena.proofs.ArenaSteps.{gray_push_step, gray_push_held, gray_apart, step_law, step_state, held_taken}
+use Rattle.rx_arena.proofs.ArenaLawLemmas.{unmarked_away}
+use Rattle.rx_arena.proofs.ArenaStepLemmas.{gray_push_step, gray_push_held, gray_apart, step_law, step_state, held_taken}
 use Rattle.rx_arena.proofs.arena.Arena.gray_push.Goals as goal
 
 pub set_mark-requires : goal.set_mark-requires

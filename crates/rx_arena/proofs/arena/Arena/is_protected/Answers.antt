@@ -1,8 +1,8 @@
 use Rattle.std.proofs.Common.{◌<◌, None, get_or, sym, subst}
 use Rattle.std.specs.Prelude.{◌↔◌, IsTrue}
 use Rattle.rx_arena.specs.Arena.{ArenaState, roots_at, root_count}
-use Rattle.rx_arena.proofs.ArenaReads.{shown_protected}
-use Rattle.rx_arena.proofs.ArenaSteps.{shown_at}
+use Rattle.rx_arena.proofs.ArenaReadLemmas.{shown_protected}
+use Rattle.rx_arena.proofs.ArenaStepLemmas.{shown_at}
 use Rattle.rx_arena.proofs.arena.Arena.is_protected.Goals as goal
 
 pub returns : goal.returns

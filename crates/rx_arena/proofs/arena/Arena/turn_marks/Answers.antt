@@ -1,7 +1,7 @@
 use Rattle.std.proofs.Common.{◌≡◌, ℕ, [], map, false, sym, ap, subst, ◌∙◌}
 use Rattle.std.specs.Option.{option_map}
 use Rattle.rx_arena.specs.Arena.{ArenaState, IsTaken, IsMarked, with_marking}
-use Rattle.rx_arena.proofs.ArenaSteps.{turn_step, step_law, step_state}
+use Rattle.rx_arena.proofs.ArenaStepLemmas.{turn_step, step_law, step_state}
 use Rattle.rx_arena.proofs.arena.Arena.turn_marks.Goals as goal
 
 pub invariant_of-self-inside : goal.invariant_of-self-inside

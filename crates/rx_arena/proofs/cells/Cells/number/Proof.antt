@@ -30,8 +30,8 @@ use Rattle.rx_arena.specs.contracts.cells.Cells.{the_row as Cs}
 use Rattle.rx_arena.specs.contracts.cells.Cells.number as f
 use Rattle.rx_arena.proofs.cells.Cells.number.Statement.{statement}
 use Rattle.rx_arena.proofs.cells.Cells.number.Code as code
-use Rattle.rx_arena.proofs.Steps.{param_at, lead_val, lead_Tells, LeadGood}
-use Rattle.rx_arena.proofs.Access.{slot_looks, cell_seen, cell_shut}
+use Rattle.rx_arena.proofs.StepLemmas.{param_at, lead_val, lead_Tells, LeadGood}
+use Rattle.rx_arena.proofs.AccessLemmas.{slot_looks, cell_seen, cell_shut}
 
 abbrev stayed : Stays f.ended.signature.params f.ended.kept
 stayed = (stay_dropped (param_at f.ended.signature.params 0) f.ended.kept.0, (stay_dropped (param_at f.ended.signature.params 1) f.ended.kept.1.0, tt))

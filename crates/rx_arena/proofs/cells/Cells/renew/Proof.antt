@@ -33,9 +33,9 @@ use Rattle.rx_arena.specs.contracts.cells.Cells.{the_row as Cs}
 use Rattle.rx_arena.specs.contracts.cells.Cells.renew as f
 use Rattle.rx_arena.proofs.cells.Cells.renew.Statement.{statement}
 use Rattle.rx_arena.proofs.cells.Cells.renew.Code as code
-use Rattle.rx_arena.proofs.Steps.{param_at, place_val, place_Tells, anns_good, cell_val, cell_is, CellFits, links_val, links_is}
-use Rattle.rx_arena.proofs.Slots.{held_within}
-use Rattle.rx_arena.proofs.Access.{cell_lies, slot_opens, slot_closes}
+use Rattle.rx_arena.proofs.StepLemmas.{param_at, place_val, place_Tells, anns_good, cell_val, cell_is, CellFits, links_val, links_is}
+use Rattle.rx_arena.proofs.SlotLemmas.{held_within}
+use Rattle.rx_arena.proofs.AccessLemmas.{cell_lies, slot_opens, slot_closes}
 
 abbrev stayed : Stays f.ended.signature.params f.ended.kept
 stayed = (stay_ref (0 ∷ []) tt (plain (λ _. Cs)), (stay_dropped (param_at f.ended.signature.params 1) f.ended.kept.1.0, (stay_dropped (param_at f.ended.signature.params 2) f.ended.kept.1.1.0, tt)))

@@ -1,9 +1,9 @@
 use Rattle.std.proofs.Common.{◌≡◌, ◌<◌, length, set, Some, None, sym, subst, ap, ◌∙◌, arith, map}
 use Rattle.rx_arena.specs.Node.{node_at, lone}
 use Rattle.rx_arena.specs.Marks.{with_marks}
-use Rattle.rx_arena.proofs.Marks.{below-marks, none-with_marks, set-with_marks}
+use Rattle.rx_arena.proofs.MarkLemmas.{below-marks, none-with_marks, set-with_marks}
 use Rattle.rx_arena.specs.Node.{is_protected_node}
-use Rattle.rx_arena.proofs.Protected.{told-length, told-set}
+use Rattle.rx_arena.proofs.ProtectedLemmas.{told-length, told-set}
 use Rattle.rx_arena.proofs.marked.MarkedStore.fill.Goals as goal
 
 pub fill-requires : goal.fill-requires

@@ -1,9 +1,9 @@
 use Rattle.std.proofs.Common.{◌≡◌, ◌++◌, length, map, None, false, sym, ap, ◌∙◌}
 use Rattle.std.specs.Prelude.{replicate}
 use Rattle.rx_arena.specs.Marks.{with_marks}
-use Rattle.rx_arena.proofs.Marks.{resized, grown-with_marks}
+use Rattle.rx_arena.proofs.MarkLemmas.{resized, grown-with_marks}
 use Rattle.rx_arena.specs.Node.{is_protected_node}
-use Rattle.rx_arena.proofs.Protected.{told-length, told-grown}
+use Rattle.rx_arena.proofs.ProtectedLemmas.{told-length, told-grown}
 use Rattle.rx_arena.proofs.marked.MarkedStore.grow.Goals as goal
 
 pub returns-in-Ok-clause-ok : goal.returns-in-Ok-clause-ok

@@ -2,9 +2,9 @@ use Rattle.std.proofs.Common.{set, Some, sym, subst, ap, ◌∙◌, arith, map}
 use Rattle.rx_arena.specs.Node.{lone}
 use Rattle.rx_arena.specs.Held.{IsHeld}
 use Rattle.rx_arena.specs.Marks.{with_marks}
-use Rattle.rx_arena.proofs.Marks.{held-with_marks, within-marks, set-with_marks}
+use Rattle.rx_arena.proofs.MarkLemmas.{held-with_marks, within-marks, set-with_marks}
 use Rattle.rx_arena.specs.Node.{is_protected_node}
-use Rattle.rx_arena.proofs.Protected.{told-within, told-set}
+use Rattle.rx_arena.proofs.ProtectedLemmas.{told-within, told-set}
 use Rattle.rx_arena.proofs.marked.MarkedStore.renew.Goals as goal
 
 pub renew-requires : goal.renew-requires

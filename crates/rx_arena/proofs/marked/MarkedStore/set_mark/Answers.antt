@@ -1,7 +1,7 @@
 use Rattle.std.proofs.Common.{sym, subst, ap, ◌∙◌, arith}
 use Rattle.rx_arena.specs.Node.{changed, with_mark}
 use Rattle.rx_arena.specs.Held.{IsHeld}
-use Rattle.rx_arena.proofs.Marks.{within-marks, mark-with_marks}
+use Rattle.rx_arena.proofs.MarkLemmas.{within-marks, mark-with_marks}
 use Rattle.rx_arena.proofs.marked.MarkedStore.set_mark.Goals as goal
 
 pub index_mut-requires : goal.index_mut-requires

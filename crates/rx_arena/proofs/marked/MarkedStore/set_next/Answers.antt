@@ -2,9 +2,9 @@ use Rattle.std.proofs.Common.{◌<◌, length, IfSome, sym, subst, ap, ◌∙◌
 use Rattle.rx_arena.specs.Node.{changed, with_next}
 use Rattle.rx_arena.specs.Held.{IsHeld}
 use Rattle.rx_arena.specs.Marks.{with_marks}
-use Rattle.rx_arena.proofs.Marks.{held-with_marks, length-with_marks, changed-with_marks, link-marked}
+use Rattle.rx_arena.proofs.MarkLemmas.{held-with_marks, length-with_marks, changed-with_marks, link-marked}
 use Rattle.rx_arena.specs.Node.{is_protected_node}
-use Rattle.rx_arena.proofs.Protected.{linked-roots, told-changed}
+use Rattle.rx_arena.proofs.ProtectedLemmas.{linked-roots, told-changed}
 use Rattle.rx_arena.proofs.marked.MarkedStore.set_next.Goals as goal
 
 pub set_next-requires-clause-held : goal.set_next-requires-clause-held

@@ -2,9 +2,9 @@ use Rattle.std.proofs.Common.{refl, sym, subst, ap, ◌∙◌, map, arith}
 use Rattle.rx_arena.specs.Node.{changed, with_roots}
 use Rattle.rx_arena.specs.Held.{IsHeld}
 use Rattle.rx_arena.specs.Marks.{with_marks}
-use Rattle.rx_arena.proofs.Marks.{held-with_marks, changed-with_marks}
+use Rattle.rx_arena.proofs.MarkLemmas.{held-with_marks, changed-with_marks}
 use Rattle.rx_arena.specs.Node.{is_protected_node}
-use Rattle.rx_arena.proofs.Protected.{told-within, told-roots}
+use Rattle.rx_arena.proofs.ProtectedLemmas.{told-within, told-roots}
 use Rattle.rx_arena.proofs.marked.MarkedStore.set_roots.Goals as goal
 
 pub set_roots-requires : goal.set_roots-requires

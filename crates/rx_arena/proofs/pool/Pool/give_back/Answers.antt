@@ -2,7 +2,7 @@ use Rattle.std.proofs.Common.{◌≡◌, ◌+◌, ◌-◌, ◌∷◌, None, sym,
 use Rattle.rx_arena.specs.Held.{IsHeld}
 use Rattle.rx_arena.specs.Put.{put, filled}
 use Rattle.rx_arena.specs.Pool.{PoolState, spare_of, cells_of}
-use Rattle.rx_arena.proofs.PoolSteps.{pool_room, given_back-step, given_back_some, first_apart, remarked_held, held_in_store, step_pool, step_free, step_cells, same_pool}
+use Rattle.rx_arena.proofs.PoolStepLemmas.{pool_room, given_back-step, given_back_some, first_apart, remarked_held, held_in_store, step_pool, step_free, step_cells, same_pool}
 use Rattle.rx_arena.proofs.pool.Pool.give_back.Goals as goal
 
 pub set_mark-requires : goal.set_mark-requires

@@ -2,7 +2,7 @@ use Rattle.std.proofs.Common.{◌≡◌, false, None, get_or, sym, ap, subst, �
 use Rattle.std.specs.Prelude.{nat_eq}
 use Rattle.rx_arena.specs.Node.{mark_of}
 use Rattle.rx_arena.specs.Pool.{PoolState, is_unmarked_node}
-use Rattle.rx_arena.proofs.PoolSteps.{past_fresh, unmarked_held, not_below}
+use Rattle.rx_arena.proofs.PoolStepLemmas.{past_fresh, unmarked_held, not_below}
 use Rattle.rx_arena.proofs.pool.Pool.holds_unmarked.Goals as goal
 
 pub returns-then-slot-self : goal.returns-then-slot-self

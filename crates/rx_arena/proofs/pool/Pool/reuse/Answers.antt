@@ -3,8 +3,8 @@ use Rattle.rx_arena.specs.Node.{mark_of, lone}
 use Rattle.rx_arena.specs.Put.{put, filled}
 use Rattle.rx_arena.specs.Pool.{PoolState}
 use Rattle.rx_arena.specs.Pool.{spare_of}
-use Rattle.rx_arena.proofs.Chains.{ended}
-use Rattle.rx_arena.proofs.PoolSteps.{mark_of_small, reused-step, step_pool, step_free, step_cells, same_pool, front, front_held, front_link, front_split, front_free, front_below, pool_fits}
+use Rattle.rx_arena.proofs.ChainLemmas.{ended}
+use Rattle.rx_arena.proofs.PoolStepLemmas.{mark_of_small, reused-step, step_pool, step_free, step_cells, same_pool, front, front_held, front_link, front_split, front_free, front_below, pool_fits}
 use Rattle.rx_arena.proofs.pool.Pool.reuse.Goals as goal
 
 pub next-self-inside-requires : goal.next-self-inside-requires

@@ -3,7 +3,7 @@ use Rattle.rx_arena.specs.Node.{mark_of, with_mark, changed}
 use Rattle.rx_arena.specs.Held.{IsHeld}
 use Rattle.rx_arena.specs.Put.{altered}
 use Rattle.rx_arena.specs.Pool.{PoolState}
-use Rattle.rx_arena.proofs.PoolSteps.{mark_of_small, kept-step, step_pool, step_free, step_cells, same_pool, held_in_store}
+use Rattle.rx_arena.proofs.PoolStepLemmas.{mark_of_small, kept-step, step_pool, step_free, step_cells, same_pool, held_in_store}
 use Rattle.rx_arena.proofs.pool.Pool.set_mark.Goals as goal
 
 pub set_mark-requires : goal.set_mark-requires

@@ -1,6 +1,6 @@
 use Rattle.std.proofs.Common.{not, refl, ap, ◌∙◌}
 use Rattle.rx_arena.specs.Pool.{PoolState}
-use Rattle.rx_arena.proofs.PoolSteps.{same-step, step_pool, step_free, step_cells, same_pool}
+use Rattle.rx_arena.proofs.PoolStepLemmas.{same-step, step_pool, step_free, step_cells, same_pool}
 use Rattle.rx_arena.proofs.pool.Pool.turn.Goals as goal
 
 pub invariant_of-self : goal.invariant_of-self

@@ -1,5 +1,5 @@
 use Rattle.rx_arena.specs.Node.{next_in}
-use Rattle.rx_arena.proofs.Agrees.{named_at, link_in}
+use Rattle.rx_arena.proofs.AgreesLemmas.{named_at, link_in}
 use Rattle.rx_arena.proofs.store.Store.next.Goals as goal
 
 pub returns : goal.returns

@@ -1,7 +1,7 @@
 use Rattle.std.proofs.Common.{◌∙◌, ap, Some, None}
 use Rattle.rx_pattern.specs.Nodes.{tree_of_nodes}
 use Rattle.rx_term.proofs.WalkLemmas.{trees_from-AllHeld}
-use Rattle.rx_pattern.proofs.Wholes.{misfit_of, told_count, told_kind, not_full, never_count, never_kind, made_ok}
+use Rattle.rx_pattern.proofs.WholeLemmas.{misfit_of, told_count, told_kind, not_full, never_count, never_kind, made_ok}
 use Rattle.rx_pattern.proofs.pattern.Pattern.make.Goals as goal
 
 pub returns-in-Some-clause-count : goal.returns-in-Some-clause-count

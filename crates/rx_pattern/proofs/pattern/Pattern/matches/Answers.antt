@@ -1,6 +1,6 @@
 use Rattle.std.proofs.Common.{◌∙◌, ap}
 use Rattle.rx_pattern.specs.Nodes.{tree_of_nodes}
-use Rattle.rx_pattern.proofs.Wholes.{bound_none, bound_all}
+use Rattle.rx_pattern.proofs.WholeLemmas.{bound_none, bound_all}
 use Rattle.rx_pattern.proofs.pattern.Pattern.matches.Goals as goal
 
 pub returns-then-not-found-clause-answer : goal.returns-then-not-found-clause-answer

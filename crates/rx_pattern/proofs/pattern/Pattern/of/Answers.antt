@@ -1,4 +1,4 @@
-use Rattle.rx_pattern.proofs.Wholes.{whole_nodes}
+use Rattle.rx_pattern.proofs.WholeLemmas.{whole_nodes}
 use Rattle.rx_pattern.proofs.pattern.Pattern.of.Goals as goal
 
 pub invariant_of-result : goal.invariant_of-result

@@ -2,7 +2,7 @@ use Rattle.std.proofs.Common.{◌∙◌, ap, length, map}
 use Rattle.rx_pattern.specs.Filling.{slots}
 use Rattle.rx_pattern.specs.Making.{slots_of_steps}
 use Rattle.rx_pattern.specs.Nodes.{step_of}
-use Rattle.rx_pattern.proofs.Fills.{slots-nodes}
+use Rattle.rx_pattern.proofs.FillLemmas.{slots-nodes}
 use Rattle.rx_pattern.proofs.pattern.Pattern.placeholders.Goals as goal
 
 pub returns : goal.returns

@@ -1,6 +1,6 @@
 use Rattle.std.proofs.Common.{◌≡◌, Some, is_some, arith, sym, ap, ◌∙◌}
 use Rattle.rx_plain.specs.Slots.{heap_of, cell_of, cell_in}
-use Rattle.rx_plain.proofs.Reading.{held-cell, read-cell, body-there}
+use Rattle.rx_plain.proofs.ReadingLemmas.{held-cell, read-cell, body-there}
 use Rattle.rx_plain.specs.Soundness.{cell-within}
 use Rattle.rx_plain.proofs.bank.PlainBank.body.Goals as goal
 

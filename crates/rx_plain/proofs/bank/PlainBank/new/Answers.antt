@@ -4,7 +4,7 @@ use Rattle.rx_term.specs.Heap.{IsDistinct}
 use Rattle.rx_names.specs.Names.{symbols_of}
 use Rattle.rx_plain.specs.Slots.{heap_of, roots_of}
 use Rattle.rx_term.specs.Bank.{table_of}
-use Rattle.rx_plain.proofs.Contents.{same-whole, same-content, empty-whole, empty-len, empty-content}
+use Rattle.rx_plain.proofs.ContentLemmas.{same-whole, same-content, empty-whole, empty-len, empty-content}
 use Rattle.rx_plain.proofs.bank.PlainBank.new.Goals as goal
 
 pub invariant_of-result : goal.invariant_of-result

@@ -1,6 +1,6 @@
 use Rattle.std.proofs.Common.{refl}
 use Rattle.rx_plain.specs.Slots.{cell_of}
-use Rattle.rx_plain.proofs.Reading.{body-anns}
+use Rattle.rx_plain.proofs.ReadingLemmas.{body-anns}
 use Rattle.rx_plain.proofs.bank.PlainBankTermBank.anns.Goals as goal
 
 pub returns : goal.returns

@@ -4,7 +4,7 @@ use Rattle.rx_term.specs.Heap.{noted_tree, node_tree, int_tree}
 use Rattle.rx_term.specs.Store.{tree_at}
 use Rattle.rx_plain.specs.Slots.{node_of, notes_of}
 use Rattle.rx_plain.specs.State.{store_of}
-use Rattle.rx_plain.proofs.Reading.{int-cell}
+use Rattle.rx_plain.proofs.ReadingLemmas.{int-cell}
 use Rattle.std.proofs.Common.{Option, ap, ◌∙◌, ℕ, ◌≡◌, arith}
 use Rattle.std.proofs.lemmas.Int.{to_z-of_z}
 use Rattle.rx_plain.proofs.bank.PlainBankTermBank.kind.Goals as goal

@@ -5,8 +5,8 @@ use Rattle.rx_term.specs.Heap.{IsDistinct}
 use Rattle.rx_plain.specs.Slots.{heap_of}
 use Rattle.rx_plain.specs.State.{store_of}
 use Rattle.rx_plain.specs.Soundness.{table, cell-within}
-use Rattle.rx_plain.proofs.Reading.{held-cell}
-use Rattle.rx_plain.proofs.Counting.{recounted, recount-heap, recount-roots, recount-len, recount-store, read-roots, recount-unrooted, recount-counts}
+use Rattle.rx_plain.proofs.ReadingLemmas.{held-cell}
+use Rattle.rx_plain.proofs.CountingLemmas.{recounted, recount-heap, recount-roots, recount-len, recount-store, read-roots, recount-unrooted, recount-counts}
 use Rattle.rx_term.proofs.BankLemmas.{whole-along, content-unique}
 use Rattle.rx_term.specs.Steps.{with_count}
 use Rattle.rx_plain.proofs.bank.PlainBankTermBank.protect.Goals as goal

@@ -5,8 +5,8 @@ use Rattle.rx_term.specs.Heap.{IsDistinct}
 use Rattle.rx_plain.specs.Slots.{heap_of, roots_of}
 use Rattle.rx_plain.specs.State.{store_of}
 use Rattle.rx_plain.specs.Soundness.{table, taken-le}
-use Rattle.rx_plain.proofs.Contents.{same-whole, same-content}
-use Rattle.rx_plain.proofs.Room.{same-slots-reserve, same-slots-refused}
+use Rattle.rx_plain.proofs.ContentLemmas.{same-whole, same-content}
+use Rattle.rx_plain.proofs.RoomLemmas.{same-slots-reserve, same-slots-refused}
 use Rattle.rx_plain.proofs.bank.PlainBankTermBank.reserve.Goals as goal
 
 pub overflow_sub-self : goal.overflow_sub-self

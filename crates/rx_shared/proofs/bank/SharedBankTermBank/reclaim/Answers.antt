@@ -1,10 +1,10 @@
 -- What is reached stays, and all else is given back.
 use Rattle.std.proofs.Common.{sym, ◌∙◌}
 use Rattle.rx_shared.specs.Soundness.{bank-law}
-use Rattle.rx_sweep.proofs.Homing.{same_homed}
-use Rattle.rx_shared.proofs.Reading.{held-taken}
-use Rattle.rx_shared.proofs.Mirroring.{bank-homed}
-use Rattle.rx_shared.proofs.Reclaiming.{can_collect, collected-cap, collected-chains, collected-tidy, collected-distinct, collected-whole, collected-reclaims}
+use Rattle.rx_sweep.proofs.HomingLemmas.{same_homed}
+use Rattle.rx_shared.proofs.ReadingLemmas.{held-taken}
+use Rattle.rx_shared.proofs.MirroringLemmas.{bank-homed}
+use Rattle.rx_shared.proofs.ReclaimingLemmas.{can_collect, collected-cap, collected-chains, collected-tidy, collected-distinct, collected-whole, collected-reclaims}
 use Rattle.rx_shared.proofs.bank.SharedBankTermBank.reclaim.Goals as goal
 
 pub gray_all-requires-clause-taken : goal.gray_all-requires-clause-taken

@@ -1,4 +1,4 @@
-use Rattle.rx_text.proofs.Stepping.{arguments_move, list_moves, annotations_move}
+use Rattle.rx_text.proofs.SteppingLemmas.{arguments_move, list_moves, annotations_move}
 use Rattle.rx_text.proofs.reader.Reader.close.Goals as goal
 
 pub returns-in_ok-push-in-Close-clause-moves : goal.returns-in_ok-push-in-Close-clause-moves

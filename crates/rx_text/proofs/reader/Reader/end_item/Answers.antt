@@ -1,6 +1,6 @@
 use Rattle.std.proofs.Common.{◌≤◌, ◌+◌, length, arith}
 use Rattle.rx_text.specs.Lexemes.{token_of}
-use Rattle.rx_text.proofs.Stepping.{count_fits, end_requires, end_moves}
+use Rattle.rx_text.proofs.SteppingLemmas.{count_fits, end_requires, end_moves}
 use Rattle.rx_text.proofs.reader.Reader.end_item.Goals as goal
 
 pub overflow_add-longer : goal.overflow_add-longer

@@ -1,4 +1,4 @@
-use Rattle.rx_text.proofs.Stepping.{placeholder_moves}
+use Rattle.rx_text.proofs.SteppingLemmas.{placeholder_moves}
 use Rattle.rx_text.proofs.reader.Reader.end_placeholder.Goals as goal
 
 pub returns-clause-moves : goal.returns-clause-moves

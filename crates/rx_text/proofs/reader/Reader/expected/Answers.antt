@@ -6,7 +6,7 @@ use Rattle.rx_text.specs.Machine.{step}
 use Rattle.rx_text.specs.Reader.{mode_of, frames_of, owned}
 use Rattle.rx_text.specs.Expected.{is_taken}
 use Rattle.rx_text.specs.declared.token_kind.TokenKind.TheVariants.{Integer}
-use Rattle.rx_text.proofs.Expecting.{all_kinds, kinds_passing}
+use Rattle.rx_text.proofs.ExpectingLemmas.{all_kinds, kinds_passing}
 use Rattle.rx_text.proofs.reader.Reader.expected.Goals as goal
 use Rattle.rx_text.proofs.reader.Reader.expected.Goals.{then-is_expected+in_ok-push, else-is_expected}
 

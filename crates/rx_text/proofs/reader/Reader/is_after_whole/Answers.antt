@@ -1,5 +1,5 @@
 use Rattle.rx_text.specs.Reader.{frames_of, under}
-use Rattle.rx_text.proofs.Expecting.{last_first}
+use Rattle.rx_text.proofs.ExpectingLemmas.{last_first}
 use Rattle.rx_text.proofs.reader.Reader.is_after_whole.Goals as goal
 
 pub returns-in-Some : goal.returns-in-Some

@@ -3,7 +3,7 @@ use Rattle.rx_term.specs.Tree.{none, Appl, annotated}
 use Rattle.rx_text.specs.Lexemes.{name_of}
 use Rattle.rx_text.specs.Nodes.{top, rest}
 use Rattle.rx_text.specs.Reader.{frames_of}
-use Rattle.rx_text.proofs.Expecting.{name_ends, body_ends}
+use Rattle.rx_text.proofs.ExpectingLemmas.{name_ends, body_ends}
 use Rattle.rx_text.proofs.reader.Reader.is_expected.Goals as goal
 
 pub returns-in_default : goal.returns-in_default

@@ -1,7 +1,7 @@
 use Rattle.std.proofs.Common.{◌∙◌, sym, reverse}
 use Rattle.rx_text.specs.Lexemes.{token_of}
 use Rattle.rx_text.specs.Reader.{mode_of, frames_of, owned}
-use Rattle.rx_text.proofs.Expecting.{by_kind}
+use Rattle.rx_text.proofs.ExpectingLemmas.{by_kind}
 use Rattle.rx_text.proofs.reader.Reader.may_take.Goals as goal
 
 pub returns-in-Some : goal.returns-in-Some

@@ -1,5 +1,5 @@
 use Rattle.std.proofs.Common.{◌≤◌, ◌+◌, length, refl, arith}
-use Rattle.rx_text.proofs.Stepping.{count_fits, next_moves}
+use Rattle.rx_text.proofs.SteppingLemmas.{count_fits, next_moves}
 use Rattle.rx_text.proofs.reader.Reader.next_item.Goals as goal
 
 pub overflow_add-frame : goal.overflow_add-frame

@@ -1,4 +1,4 @@
-use Rattle.rx_text.proofs.Stepping.{integer_moves}
+use Rattle.rx_text.proofs.SteppingLemmas.{integer_moves}
 use Rattle.rx_text.proofs.reader.Reader.start.Goals as goal
 
 pub returns-in_ok-push-in-Integer-clause-moves : goal.returns-in_ok-push-in-Integer-clause-moves

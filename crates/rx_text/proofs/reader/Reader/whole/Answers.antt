@@ -1,7 +1,7 @@
 use Rattle.std.proofs.Common.{◌≢◌, sym, ◌∙◌, arith}
 use Rattle.std.specs.Prelude.{vec_len}
 use Rattle.std.proofs.lemmas.Bool.{eqb-false}
-use Rattle.rx_text.proofs.Stepping.{text_refused}
+use Rattle.rx_text.proofs.SteppingLemmas.{text_refused}
 use Rattle.rx_text.proofs.reader.Reader.whole.Goals as goal
 
 pub returns-else-is_empty-clause-moves : goal.returns-else-is_empty-clause-moves

@@ -2,7 +2,7 @@ use Rattle.std.proofs.Common.{◌≡◌, ◌↔◌, ℕ, true, List, Contains, r
 use Rattle.rx_text.specs.Machine.{step}
 use Rattle.rx_text.specs.Reader.{made_of, mode_of, frames_of, owned, state_of}
 use Rattle.rx_text.specs.Expected.{is_taken, before}
-use Rattle.rx_text.proofs.Expecting.{may_stand}
+use Rattle.rx_text.proofs.ExpectingLemmas.{may_stand}
 use Rattle.rx_text.proofs.reader.expected.expected_at_fault.Goals as goal
 
 pub returns-clause-expected : goal.returns-clause-expected

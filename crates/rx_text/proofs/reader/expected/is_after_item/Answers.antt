@@ -1,5 +1,5 @@
 use Rattle.std.proofs.Common.{◌∙◌, sym}
-use Rattle.rx_text.proofs.Expecting.{item_ends}
+use Rattle.rx_text.proofs.ExpectingLemmas.{item_ends}
 use Rattle.rx_text.proofs.reader.expected.is_after_item.Goals as goal
 
 pub returns-in_default-kind : goal.returns-in_default-kind

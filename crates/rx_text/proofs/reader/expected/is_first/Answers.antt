@@ -1,6 +1,6 @@
 use Rattle.std.proofs.Common.{◌∙◌, ◌∷◌, sym}
 use Rattle.rx_text.specs.Reader.{frame_of}
-use Rattle.rx_text.proofs.Expecting.{item_begins}
+use Rattle.rx_text.proofs.ExpectingLemmas.{item_begins}
 use Rattle.rx_text.proofs.reader.expected.is_first.Goals as goal
 
 pub returns-in_default : goal.returns-in_default

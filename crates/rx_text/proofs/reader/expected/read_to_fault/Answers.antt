@@ -3,8 +3,8 @@ use Rattle.rx_text.specs.Token.{Token}
 use Rattle.rx_text.specs.Machine.{step}
 use Rattle.rx_text.specs.Lexemes.{tokens_after, token_of, behind}
 use Rattle.rx_text.specs.Reader.{made_of, mode_of, frames_of, owned, state_of, IsState}
-use Rattle.rx_text.proofs.Deciding.{takes_byte, behind_is}
-use Rattle.rx_text.proofs.Expecting.{none_since, refused_state, ended_state, reached_next}
+use Rattle.rx_text.proofs.DecidingLemmas.{takes_byte, behind_is}
+use Rattle.rx_text.proofs.ExpectingLemmas.{none_since, refused_state, ended_state, reached_next}
 use Rattle.rx_text.proofs.reader.expected.read_to_fault.Goals as goal
 
 pub step-requires-clause-state : goal.step-requires-clause-state

@@ -1,7 +1,7 @@
 use Rattle.std.proofs.Common.{◌≡◌, ◌+◌, ◌-◌, ◌≤◌, length}
 use Rattle.rx_text.specs.Lexemes.{tokens_after}
 use Rattle.rx_text.specs.Reader.{IsState, state_of, pending}
-use Rattle.rx_text.proofs.Expecting.{Reached}
+use Rattle.rx_text.proofs.ExpectingLemmas.{Reached}
 use Rattle.rx_text.proofs.reader.expected.read_to_fault.Given as goal
 
 abbrev pub invariant-loop-lexeme : goal.invariant-loop-lexeme

@@ -1,0 +1,143 @@
+-- From what was read of the text of terms to what is due for it.
+use Rattle.std.proofs.Common.{◌≡◌, ℕ, ◌+◌, Bool, List, Option, Some, None, Result, Ok, Err, IfErr, IfOk, IfSome, IsSome, OnOk, take, refl, sym, ap, subst, ◌∙◌, arith}
+use Rattle.std.specs.Prelude.{option_map}
+use Rattle.std.proofs.lemmas.List.{length-take}
+use Rattle.rx_term.specs.Tree.{Tree}
+use Rattle.rx_term.specs.Store.{Store, tree_at}
+use Rattle.rx_term.specs.declared.Term.{Term as Reference}
+use Rattle.rx_text.specs.Grammar.{Spells}
+use Rattle.rx_text.specs.Verdict.{IsVerdict, Spelt}
+use Rattle.rx_text.specs.Verdict as text
+use Rattle.rec_syntax.specs.Syntax.{Sourced, Spec}
+use Rattle.rec_sorts.specs.SpecRules.{Fits, Good, SpecVerdict, Verdict}
+use Rattle.rec_sorts.specs.TermRules.{broken_by_terms}
+use Rattle.rec_sorts.specs.TermsFaults.{IsTermsFault}
+use Rattle.rec_sorts.specs.declared.fault.TermsFault.{TermsFault}
+use Rattle.rec_sorts.specs.declared.fault.TermsFault.TheVariants as rule
+use Rattle.rec_run.specs.GivenTerms.{HoldsTerms, IsReadAs, IsReadFor, IsReadFrom, IsReady, IsRefusal, given_at, list_refused, run_due}
+use Rattle.rec_run.specs.Output.{GoodTerms, BreaksTerms, TooLong, Outside, TermsVerdict, IsTermsVerdict, done, lines}
+use Rattle.rec_run.specs.Reading.{IsGood, IsSpecRead, IsSpecReading}
+use Rattle.rec_run.specs.Refusals.{refusal_due, refused_spec, refused_text}
+use Rattle.rec_run.specs.Run.{both_texts}
+use Rattle.rec_run.specs.declared.ending.RunFault.{RunFault}
+use Rattle.rec_run.specs.declared.ending.RunFault.TheVariants as fault
+use Rattle.rec_run.specs.declared.ending.Source.TheVariants as source
+use Rattle.rec_run.specs.declared.refusal.Reading.{Reading}
+use Rattle.rec_run.specs.declared.refusal.Reading.TheVariants.{Good as GoodSpec, Refused as RefusedSpec}
+use Rattle.rec_run.specs.declared.refusal.Reading.TheVariants.{Refused as RefusedRun}
+use Rattle.rec_run.specs.declared.refusal.Reason.TheVariants as reason
+use Rattle.rec_run.specs.declared.refusal.Refusal.{Refusal}
+use Rattle.rec_run.specs.declared.streams.TheConstants.{LIMIT}
+use Rattle.rec_run.specs.declared.spec.reading.Job.{Job}
+use Rattle.rec_run.proofs.GivenLemmas.{given_elements, holds_terms, kept_elements}
+use Rattle.rec_run.proofs.OneDueLemmas.{one_verdict}
+use Rattle.rec_run.proofs.WholeRunLemmas.{after_refusal, same_refusal, short_front}
+
+-- one byte past the limit is enough for the verdict
+terms_front : (y : Spec) (bytes : List ℕ) (v : TermsVerdict) → IsTermsVerdict y (take (LIMIT + 1) bytes) v → IsTermsVerdict y bytes v
+terms_front y bytes TooLong h = let e = length-take (LIMIT + 1) bytes in omega (arith, e, h)
+terms_front y bytes (Outside at) h = subst (λ text. IsTermsVerdict y text (Outside at)) (short_front bytes h.0) h
+terms_front y bytes (BreaksTerms number) h = subst (λ text. IsTermsVerdict y text (BreaksTerms number)) (short_front bytes h.0) h
+terms_front y bytes (GoodTerms us) h = subst (λ text. IsTermsVerdict y text (GoodTerms us)) (short_front bytes h.0) h
+
+read_front : (told : Option (List ℕ)) (text : List ℕ) (y : Spec) (r : Reading Job) → IfSome told (λ bytes. text ≡ take (LIMIT + 1) bytes) → IsReadFor y text r → IfSome told (λ bytes. IsReadFor y bytes r)
+read_front None text y r e h = tt
+read_front (Some bytes) text y r e h = λ counted n. let k = h counted n in (k.0, terms_front y bytes k.0 (subst (λ t. IsTermsVerdict y t k.0) e k.1), k.2)
+
+-- what was read of a text of terms says what is due for it
+pub read_due : (result : Result (Reading Job) RunFault) (told : Option (List ℕ)) (text given : List ℕ) (y : Spec) → IfSome told (λ bytes. text ≡ take (LIMIT + 1) bytes) → given ≡ text → IfOk result (λ r. IsReadFor y given r)
+    → IfOk result (λ r. IfSome told (λ bytes. IsReadFor y bytes r))
+read_due (Err e) told text given y h same k = tt
+read_due (Ok r) told text given y h same k = read_front told text y r h (subst (λ t. IsReadFor y t r) same k)
+
+-- a text of terms that is no term's
+pub no_term : (y : Spec) (bytes : List ℕ) (r : Refusal) (v : text.Verdict) → refused_text source.Terms v ≡ Some r → IsVerdict bytes v → IsReadFor y bytes (RefusedRun r)
+no_term y bytes r text.TooLong e h = λ counted n. (TooLong, h, ap refusal_due (same_refusal e))
+no_term y bytes r (text.Outside at) e h = λ counted n. (Outside at, h, ap refusal_due (same_refusal e))
+no_term y bytes r (Spelt t) e h = absurd (cc e)
+
+-- a list that is not accepted: the rule that it breaks is due
+broken_list : (o : Option Tree) (y : Spec) (number : ℕ) → IfSome o (λ t. broken_by_terms y t ≡ Some number) → IfSome o (λ t. (bytes : List ℕ) → Fits bytes → Spells bytes t → IsReadFor y bytes (RefusedRun (record { text = source.Terms; reason = reason.TermsRule number })))
+broken_list None y number h = tt
+broken_list (Some t) y number h = λ bytes fits spells counted n. (BreaksTerms number, (fits, (t, spells, h)), refl)
+
+due_refused : (o : Option Tree) (y : Spec) (e : TermsFault) → IfSome o (λ t. IsTermsFault (broken_by_terms y t) e) → IfOk (list_refused e) (λ r. IfSome o (λ t. (bytes : List ℕ) → Fits bytes → Spells bytes t → IsReadFor y bytes r))
+due_refused o y (rule.Rule number) h = broken_list o y number h
+due_refused o y rule.Memory h = tt
+
+pub list_due : (result : Result (Reading Job) RunFault) (o : Option Tree) (y : Spec) (e : TermsFault) → result ≡ list_refused e → IfSome o (λ t. IsTermsFault (broken_by_terms y t) e)
+    → IfOk result (λ r. IfSome o (λ t. (bytes : List ℕ) → Fits bytes → Spells bytes t → IsReadFor y bytes r))
+list_due result o y e same h = subst (λ z. IfOk z (λ r. IfSome o (λ t. (bytes : List ℕ) → Fits bytes → Spells bytes t → IsReadFor y bytes r))) (sym same) (due_refused o y e h)
+
+list_ready : (cap : ℕ) (e : TermsFault) → IfOk (list_refused e) (IsReady cap)
+list_ready cap (rule.Rule number) = tt
+list_ready cap rule.Memory = tt
+
+pub refused_ready : (cap : ℕ) (result : Result (Reading Job) RunFault) (e : TermsFault) → result ≡ list_refused e → IfOk result (IsReady cap)
+refused_ready cap result e same = subst (λ z. IfOk z (IsReady cap)) (sym same) (list_ready cap e)
+
+list_memory : (e : TermsFault) → IfErr (list_refused e) (λ f. f ≡ fault.Memory 0)
+list_memory (rule.Rule number) = tt
+list_memory rule.Memory = refl
+
+pub list_fault : (result : Result (Reading Job) RunFault) (e : TermsFault) → result ≡ list_refused e → IfErr result (λ f. f ≡ fault.Memory 0)
+list_fault result e same = subst (λ z. IfErr z (λ f. f ≡ fault.Memory 0)) (sym same) (list_memory e)
+
+-- and one that keeps them
+pub good_list : (w : Store) (y : Spec) (list : Reference) (r : Reading Job) → ((counted : Bool) (n : ℕ) → run_due counted n r ≡ done (lines y (given_at w list) counted n)) → IfSome (tree_at w list) (λ t. broken_by_terms y t ≡ None)
+    → IfSome (tree_at w list) (λ t. (bytes : List ℕ) → Fits bytes → Spells bytes t → IsReadFor y bytes r)
+good_list w y list r is h = by (tree_at w list) refl h
+  where
+    by : (o : Option Tree) → tree_at w list ≡ o → IfSome o (λ t. broken_by_terms y t ≡ None) → IfSome o (λ t. (bytes : List ℕ) → Fits bytes → Spells bytes t → IsReadFor y bytes r)
+    by None here kept = tt
+    by (Some t) here kept = λ bytes fits spells counted n.
+        let found = kept_elements y t kept in
+        (GoodTerms found.0, (fits, (t, spells, kept, found.1)), is counted n ∙ ap (λ us. done (lines y us counted n)) (given_elements w list t found.0 here found.1))
+
+-- its terms keep the rules
+pub list_holds : (w : Store) (y : Spec) (list : Reference) → IsSome (tree_at w list) → IfSome (tree_at w list) (λ t. broken_by_terms y t ≡ None) → HoldsTerms y w list
+list_holds w y list there h = by (tree_at w list) refl there h
+  where
+    by : (o : Option Tree) → tree_at w list ≡ o → IsSome o → IfSome o (λ t. broken_by_terms y t ≡ None) → HoldsTerms y w list
+    by None here there kept = absurd (cc there)
+    by (Some t) here there kept = holds_terms y w list t here kept
+
+-- what both texts came to, where terms are given
+read_both : (bytes given : Option (List ℕ)) (first : Reading Sourced) (r : Reading Job) → IfSome bytes (λ b. IsSpecRead b first) → ((v : Verdict) → IsSpecReading first v → IfSome given (λ b. IsReadAs v b r))
+    → IfSome (both_texts bytes (option_map (λ b. Some b) given)) (λ texts. IsReadFrom texts r)
+read_both None given first r h k = tt
+read_both (Some b) None first r h k = tt
+read_both (Some b) (Some t) first r (v, h, is) k = λ counted n. (v, h, k v is counted n)
+
+pub read_with : (result : Result (Reading Job) RunFault) (bytes given : Option (List ℕ)) (first : Reading Sourced) → IfSome bytes (λ b. IsSpecRead b first) → IfOk result (λ r. (v : Verdict) → IsSpecReading first v → IfSome given (λ b. IsReadAs v b r))
+    → IfOk result (λ r. IfSome (both_texts bytes (option_map (λ b. Some b) given)) (λ texts. IsReadFrom texts r))
+read_with (Err e) bytes given first h k = tt
+read_with (Ok r) bytes given first h k = read_both bytes given first r h k
+
+-- a refused specification leaves the reader of the terms
+pub unread_both : {T : Type 0} (bytes : Option (List ℕ)) (first : Reading Sourced) (old new : T) → IfSome bytes (λ b. IsSpecRead b first) → ((v : Verdict) → IsSpecReading first v → IsRefusal v → new ≡ old)
+    → IfSome bytes (λ b. (v : Verdict) → SpecVerdict b v → IsRefusal v → new ≡ old)
+unread_both None first old new h k = tt
+unread_both (Some b) first old new (u, h, came) k = λ v is refused. k u came (subst IsRefusal (one_verdict b v u is h) refused)
+
+-- what was read of a good specification is one
+good_reading : (first : Reading Sourced) (v : Verdict) (y : Spec) → IsSpecReading first v → v ≡ Good y → IsGood first
+good_reading (RefusedSpec r) v y is e = cc (is, e)
+good_reading (GoodSpec checked) v y is e = tt
+
+-- beside a good specification the text of terms is read
+pub terms_out : {X E : Type 0} (P : Type 0) (result : Result X E) (bytes : Option (List ℕ)) (first : Reading Sourced) → IfSome bytes (λ b. IsSpecRead b first) → OnOk result (IsGood first → P)
+    → OnOk result (IfSome bytes (λ b. (y : Spec) → SpecVerdict b (Good y) → P))
+terms_out P (Err e) bytes first h k = tt
+terms_out P (Ok x) None first h k = tt
+terms_out P (Ok x) (Some b) first (v, h, came) k = λ y is. k (good_reading first v y came (one_verdict b v (Good y) h is))
+
+-- where a specification is refused
+pub read_after_refusal : (r : Refusal) (given : Option (List ℕ)) (v : Verdict) → refused_spec v ≡ Some r → IfSome given (λ b. IsReadAs v b (RefusedRun r))
+read_after_refusal r None v e = tt
+read_after_refusal r (Some b) v e = λ counted n. after_refusal v r (Some b) counted n e
+
+-- where it is good
+pub read_after_good : (checked : Sourced) (given : Option (List ℕ)) (r : Reading Job) → IfSome given (λ b. IsReadFor checked.spec b r) → (v : Verdict) → v ≡ Good checked.spec → IfSome given (λ b. IsReadAs v b r)
+read_after_good checked None r h v e = tt
+read_after_good checked (Some b) r h v e = subst (λ z. IsReadAs z b r) (sym e) h

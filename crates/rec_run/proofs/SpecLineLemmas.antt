@@ -1,0 +1,82 @@
+-- The lines of a specification's terms and of given ones.
+use Rattle.std.proofs.Common.{get_or, length, ap₂, append_assoc, ◌≡◌, ℕ, ◌-◌, ◌<◌, ◌^◌, Bool, true, false, List, [], ◌∷◌, ◌++◌, refl, sym, ap, ◌∙◌, append-nil, arith}
+use Rattle.std.specs.Prelude.{flat_map, map, codes, decimal}
+use Rattle.std.specs.Fmt.{signed_decimal}
+use Rattle.rx_term.specs.Tree.{Tree, Trees, Int, Appl, Items, Hole, annotated, annotations, none}
+use Rattle.rx_text.specs.Canon.{canon, canon_all, enclosed, name_text, no_arguments}
+use Rattle.rec_syntax.specs.Syntax.{Term, Spec}
+use Rattle.rec_sorts.specs.Evaluation.{Outcome, Done, Over, Eval, term_of}
+use Rattle.rec_run.specs.Bytes.{newlines}
+use Rattle.rec_run.specs.GivenTerms.{given_lines, given_text, notes_text}
+use Rattle.rec_run.specs.Output.{Task, lines, line, steps_text}
+use Rattle.rec_run.specs.Reading.{shown, line_text}
+use Rattle.rec_engine.proofs.ValueTreeLemmas.{value_is_applied, applied_unannotated}
+use Rattle.rec_run.proofs.LineEndLemmas.{no_ends, canon-newlines, decimal-newlines}
+use Rattle.rec_run.proofs.LineFrontLemmas.{lines_of, newlines-lines_of, NoEnds}
+
+-- a line is its text and a line end
+abbrev own : Term → Task
+own t = record { term = t; notes = none }
+
+abbrev given : Tree → Task
+given u = record { term = term_of u; notes = annotations u }
+
+line-shown : (notes : Trees) (counted : Bool) (n : ℕ) (o : Outcome Tree) → ◌≡◌ {A = List ℕ} (elim o [
+  | Done v left ↦ canon (annotated v notes) ++ steps_text counted (n - left) ++ codes "\n"
+  | Over ↦ codes "!limit " ++ decimal n ++ codes "\n"
+]) (shown notes counted n o ++ codes "\n")
+line-shown notes counted n (Done v left) = refl
+line-shown notes counted n Over = refl
+
+own_lines : (y : Spec) (counted : Bool) (n : ℕ) (ts : List Term) (more : List Task) → flat_map (λ l. l) (map (line y counted n) (map own ts ++ more)) ≡ lines_of (line_text y counted n) ts ++ flat_map (λ l. l) (map (line y counted n) more)
+own_lines y counted n [] more = refl
+own_lines y counted n (t ∷ ts) more =
+    ap₂ (λ l ls. l ++ ls) (line-shown none counted n (Eval y n [] t)) (own_lines y counted n ts more)
+    ∙ sym (append_assoc (line_text y counted n t ++ codes "\n") (lines_of (line_text y counted n) ts) (flat_map (λ l. l) (map (line y counted n) more)))
+
+given_lines_of : (y : Spec) (counted : Bool) (n : ℕ) (us : List Tree) → flat_map (λ l. l) (map (line y counted n) (map given us)) ≡ lines_of (given_text y counted n) us
+given_lines_of y counted n [] = refl
+given_lines_of y counted n (u ∷ us) = ap₂ (λ l ls. l ++ ls) (line-shown (annotations u) counted n (Eval y n [] (term_of u))) (given_lines_of y counted n us)
+
+-- the lines of a specification without given terms
+pub lines-own : (y : Spec) (counted : Bool) (n : ℕ) → lines y [] counted n ≡ lines_of (line_text y counted n) y.terms
+lines-own y counted n = own_lines y counted n y.terms [] ∙ append-nil (lines_of (line_text y counted n) y.terms)
+
+-- those of given terms stand behind them
+pub lines-both : (y : Spec) (us : List Tree) (counted : Bool) (n : ℕ) → lines y us counted n ≡ lines y [] counted n ++ given_lines y counted n us
+lines-both y us counted n =
+    own_lines y counted n y.terms (map given us)
+    ∙ ap₂ (λ l ls. l ++ ls) (sym (lines-own y counted n)) (given_lines_of y counted n us)
+
+steps-newlines : (counted : Bool) (steps : ℕ) → steps < 2 ^ 64 → newlines (steps_text counted steps) ≡ 0
+steps-newlines false steps h = refl
+steps-newlines true steps h = no_ends (codes "\t") (decimal steps) refl (decimal-newlines steps h)
+
+-- annotations stand behind a text without annotations
+pub canon_annotated : (v : Tree) (notes : Trees) → annotations v ≡ none → canon (annotated v notes) ≡ canon v ++ notes_text notes
+canon_annotated (Int z anns) notes e = sym (ap (λ a. canon (Int z a) ++ notes_text notes) e ∙ ap (λ x. x ++ notes_text notes) (append-nil (signed_decimal z)))
+canon_annotated (Appl name quoted args anns) notes e =
+    let text = name_text name quoted ++ enclosed 40 args (canon_all args) 41 (no_arguments name quoted) in
+    sym (ap (λ a. canon (Appl name quoted args a) ++ notes_text notes) e ∙ ap (λ x. x ++ notes_text notes) (append-nil text))
+canon_annotated (Items items anns) notes e = sym (ap (λ a. canon (Items items a) ++ notes_text notes) e ∙ append_assoc (91 ∷ canon_all items) (93 ∷ []) (notes_text notes))
+canon_annotated (Hole inner anns) notes e = sym (ap (λ a. canon (Hole inner a) ++ notes_text notes) e ∙ append_assoc (60 ∷ canon inner) (62 ∷ []) (notes_text notes))
+
+shown-newlines : (y : Spec) (notes : Trees) (counted : Bool) (n : ℕ) (t : Term) (o : Outcome Tree) → newlines (notes_text notes) ≡ 0 → n < 2 ^ 64 → Eval y n [] t ≡ o → newlines (shown notes counted n o) ≡ 0
+shown-newlines y notes counted n t (Done v left) k h e =
+    let a = value_is_applied y n t v left e in
+    no_ends (canon (annotated v notes)) (steps_text counted (n - left))
+    (ap newlines (canon_annotated v notes (applied_unannotated v a)) ∙ no_ends (canon v) (notes_text notes) (canon-newlines v a) k)
+    (steps-newlines counted (n - left) (omega (arith, h)))
+shown-newlines y notes counted n t Over k h e = no_ends (codes "!limit ") (decimal n) refl (decimal-newlines n h)
+
+-- a line's text has no line end
+pub line_text-newlines : (y : Spec) (counted : Bool) (n : ℕ) → n < 2 ^ 64 → (ts : List Term) → NoEnds (line_text y counted n) ts
+line_text-newlines y counted n h ts k d low = shown-newlines y none counted n (get_or ts k d) (Eval y n [] (get_or ts k d)) refl h refl
+
+-- so the lines of a specification without given terms are as many as its terms
+pub newlines-own : (y : Spec) (counted : Bool) (n : ℕ) → n < 2 ^ 64 → newlines (lines y [] counted n) ≡ length y.terms
+newlines-own y counted n h = ap newlines (lines-own y counted n) ∙ newlines-lines_of (line_text y counted n) y.terms (line_text-newlines y counted n h y.terms)
+
+-- nor has that of a given term whose annotations have none
+pub given_text-newlines : (y : Spec) (counted : Bool) (n : ℕ) → n < 2 ^ 64 → (u : Tree) → newlines (notes_text (annotations u)) ≡ 0 → newlines (given_text y counted n u) ≡ 0
+given_text-newlines y counted n h u k = shown-newlines y (annotations u) counted n (term_of u) (Eval y n [] (term_of u)) k h refl

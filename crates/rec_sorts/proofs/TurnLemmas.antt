@@ -1,0 +1,82 @@
+-- A loop's turn, where it collects the least place, places or items.
+use Rattle.std.proofs.Common.{refl, sym, ap, ◌∙◌, arith, add-one, drop-cons}
+use Rattle.std.proofs.Common.{inl, inr}
+use Rattle.std.proofs.lemmas.Bool.{cases_lt}
+use Rattle.std.proofs.Common.{subst}
+use Rattle.std.proofs.lemmas.List.{drop_all, take_more}
+use Rattle.std.specs.Prelude.{ℕ, ◌≡◌, ◌⊎◌, ◌+◌, ◌<◌, ◌≤◌, List, [], ◌∷◌, ◌++◌, Option, None, length, map, take, drop, get_or, min}
+use Rattle.rec_sorts.specs.Letters.{misplaced}
+use Rattle.rec_sorts.specs.declared.scope.Scope.{Scope}
+use Rattle.rec_sorts.specs.declared.terms.Placed.{Placed}
+use Rattle.rec_sorts.specs.Least.{earlier, least_of, joined}
+use Rattle.rec_sorts.specs.Numbering.{Pairwise}
+use Rattle.rec_sorts.specs.declared.places.TermPlaces.{TermPlaces}
+use Rattle.rec_sorts.proofs.LeastPlaceLemmas.{earlier_assoc, earlier_none, joined_assoc}
+use Rattle.rec_sorts.proofs.StackLemmas.{map-append}
+
+-- the rest of a list begins with the item at the index
+pub drop-turn : {X : Type 0} (xs : List X) (i : ℕ) (d : X) → i < length xs → drop i xs ≡ get_or xs i d ∷ drop (i + 1) xs
+drop-turn xs i d h = rw (add-one i) (drop-cons xs i d h)
+
+-- one more place is collected
+pub least_turn : {X : Type 0} (f : X → Option ℕ) (xs : List X) (i : ℕ) (d : X) (least all : Option ℕ) → i < length xs → earlier least (least_of f (drop i xs)) ≡ all
+    → earlier (earlier least (f (get_or xs i d))) (least_of f (drop (i + 1) xs)) ≡ all
+least_turn f xs i d least all h e =
+    earlier_assoc least (f (get_or xs i d)) (least_of f (drop (i + 1) xs))
+    ∙ ap (λ ys. earlier least (least_of f ys)) (sym (drop-turn xs i d h))
+    ∙ e
+
+-- one more pair
+pub Pairwise-push : {X Y : Type 0} (P : X → Y → Type 0) (xs : List X) (ys : List Y) (x : X) (y : Y) → Pairwise P xs ys → P x y → Pairwise P (xs ++ x ∷ []) (ys ++ y ∷ [])
+Pairwise-push P [] [] x y h p = (p, tt)
+Pairwise-push P (v ∷ xs) (w ∷ ys) x y h p = (h.0, Pairwise-push P xs ys x y h.1 p)
+Pairwise-push P [] (w ∷ ys) x y h p = absurd h
+Pairwise-push P (v ∷ xs) [] x y h p = absurd h
+
+-- one more item's image
+pub map-take_turn : {X Y : Type 0} (f : X → Y) (xs : List X) (i : ℕ) (d : X) → i < length xs → d ≡ get_or xs i d → map f (take (i + 1) xs) ≡ map f (take i xs) ++ f d ∷ []
+map-take_turn f xs i d h e =
+    ap (map f) (take_more xs i d h)
+    ∙ map-append f (take i xs) (get_or xs i d ∷ [])
+    ∙ ap (λ x. map f (take i xs) ++ f x ∷ []) (sym e)
+
+-- one more item is read
+pub Pairwise_turn : {X Y Z : Type 0} (P : X → Y → Type 0) (f : Z → Y) (cs : List Z) (i : ℕ) (d : Z) (xs zs : List X) (x : X) → i < length cs → d ≡ get_or cs i d → zs ≡ xs ++ x ∷ []
+    → Pairwise P xs (map f (take i cs)) → P x (f d) → Pairwise P zs (map f (take (i + 1) cs))
+Pairwise_turn P f cs i d xs zs x h e grown all one =
+    subst (λ us. Pairwise P us (map f (take (i + 1) cs))) (sym grown)
+    (subst (λ vs. Pairwise P (xs ++ x ∷ []) vs) (sym (map-take_turn f cs i d h e)) (Pairwise-push P xs (map f (take i cs)) x (f d) all one))
+
+-- one more item's places are collected
+pub joined_turn : {X : Type 0} (all_of : List X → TermPlaces) (one : X → TermPlaces) → ((x : X) (xs : List X) → all_of (x ∷ xs) ≡ joined (one x) (all_of xs))
+    → (xs : List X) (i : ℕ) (d : X) (places all : TermPlaces) → i < length xs → joined places (all_of (drop i xs)) ≡ all
+    → joined (joined places (one (get_or xs i d))) (all_of (drop (i + 1) xs)) ≡ all
+joined_turn all_of one unfold_one xs i d places all h e =
+    joined_assoc places (one (get_or xs i d)) (all_of (drop (i + 1) xs))
+    ∙ ap (joined places) (sym (unfold_one (get_or xs i d) (drop (i + 1) xs)))
+    ∙ ap (λ ys. joined places (all_of ys)) (sym (drop-turn xs i d h))
+    ∙ e
+
+pub misplaced-nothing : (s : Scope) (ps : List Placed) → misplaced s ps [] ≡ None
+misplaced-nothing s [] = refl
+misplaced-nothing s (p ∷ ps) = refl
+
+misplaced-done : (s : Scope) (ps : List Placed) (ss : List (Option ℕ)) (n : ℕ) → n ≡ min (length ps) (length ss) → misplaced s (drop n ps) (drop n ss) ≡ None
+misplaced-done s ps ss n e = by_end (cases_lt (length ps) (length ss))
+  where
+    by_end : (length ps < length ss) ⊎ (length ss ≤ length ps) → misplaced s (drop n ps) (drop n ss) ≡ None
+    by_end (inl h) = ap (λ qs. misplaced s qs (drop n ss)) (drop_all n ps (omega arith))
+    by_end (inr h) = ap (λ ts. misplaced s (drop n ps) ts) (drop_all n ss (omega arith)) ∙ misplaced-nothing s (drop n ps)
+
+-- all arguments that have a sort for them are compared
+pub misplaced_end : (s : Scope) (ps : List Placed) (ss : List (Option ℕ)) (n : ℕ) (least all : Option ℕ) → n ≡ min (length ps) (length ss)
+    → earlier least (misplaced s (drop n ps) (drop n ss)) ≡ all → least ≡ all
+misplaced_end s ps ss n least all e h = sym (earlier_none least) ∙ ap (earlier least) (sym (misplaced-done s ps ss n e)) ∙ h
+
+-- the same, where the item's places were found
+pub places_turn : {X Y : Type 0} (f : X → Y) (all_of : List Y → TermPlaces) (one : Y → TermPlaces) → ((y : Y) (ys : List Y) → all_of (y ∷ ys) ≡ joined (one y) (all_of ys))
+    → (xs : List X) (i : ℕ) (d : X) (places read new all : TermPlaces) → i < length xs → d ≡ get_or xs i d → new ≡ joined places read → read ≡ one (f d)
+    → joined places (all_of (map f (drop i xs))) ≡ all → joined new (all_of (map f (drop (i + 1) xs))) ≡ all
+places_turn f all_of one unfold_one xs i d places read new all h e grown found before =
+    ap (λ p. joined p (all_of (map f (drop (i + 1) xs)))) (grown ∙ ap (joined places) (found ∙ ap (λ x. one (f x)) e))
+    ∙ joined_turn (λ ys. all_of (map f ys)) (λ x. one (f x)) (λ x ys. unfold_one (f x) (map f ys)) xs i d places all h before

@@ -1,0 +1,193 @@
+-- The slots of the chains are dealt out to new chains, by their hashes.
+use Rattle.std.proofs.Common.{◌≡◌, ◌≢◌, ℕ, zero, suc, ◌+◌, ◌-◌, ◌%◌, ◌<◌, ◌≤◌, inl, inr, List, [], ◌∷◌, ◌++◌, length, get_or, set, take, IfSome, refl, sym, ap, subst, ◌∙◌, arith}
+use Rattle.std.specs.Prelude.{Bool, true, false, cond, nat_eq, replicate}
+use Rattle.std.proofs.lemmas.List.{length-append, length-replicate, length-set, length-take-le, get_or-set_same, get_or-set_other, get_or-take, get_or_append_left, get_or-append_right, get_or-replicate, take_all, take_more}
+use Rattle.std.proofs.lemmas.Bool.{eq-eqb, ne_eqb}
+use Rattle.rx_arena.specs.declared.CellBody.{CellBody}
+use Rattle.rx_arena.specs.Put.{one_if, times, times_in}
+use Rattle.rx_arena.specs.Arena.{ArenaState, taken_at, IsTaken, chain_at, hash_at, stored_hash, times_hashed}
+use Rattle.rx_arena.proofs.PutLemmas.{one_or_two}
+use Rattle.rx_arena.proofs.ArenaLawLemmas.{times_in-append}
+use Rattle.rx_arena.proofs.TotalLemmas.{less_or_not}
+
+cond-zero : (b : Bool) → ◌≡◌ {A = ℕ} (cond b 0 0) 0
+cond-zero true = refl
+cond-zero false = refl
+
+cond-plus : (b : Bool) (x y : ℕ) → cond b (x + y) 0 ≡ cond b x 0 + cond b y 0
+cond-plus true x y = refl
+cond-plus false x y = omega arith
+
+-- what a read of a taken slot says of its hash
+pub hash_of : (a : ArenaState) (s : ℕ) (b : CellBody) → IsTaken a s → IfSome (taken_at a s) (λ t. b ≡ t.body) → b.hash ≡ hash_at a s
+hash_of a s b h e = ap (λ (z : CellBody). z.hash) (subst (λ z. IfSome z (λ t. b ≡ t.body)) h.1 e) ∙ sym (ap stored_hash h.1)
+
+-- a chain is moved down to what is left of it
+pub record Moving (init : ArenaState) (from n : ℕ) (self : ArenaState) : Type 0 where
+  pub within : from < length self.chains
+  pub lens : length self.chains ≡ length init.chains
+  pub same : self ≡ record init { chains = self.chains }
+  pub others : (k : ℕ) → n ≤ k → k ≢ from → chain_at self k ≡ chain_at init k
+  pub moved : (k : ℕ) → k < n → (t : ℕ) → times t (chain_at self k) + cond (nat_eq (hash_at init t % n) k) (times t (chain_at self from)) 0 ≡ times t (chain_at init k) + cond (nat_eq (hash_at init t % n) k) (times t (chain_at init from)) 0
+
+pub moving_begins : (init : ArenaState) (from n : ℕ) → from < length init.chains → Moving init from n init
+moving_begins init from n lt = record { within = lt; lens = refl; same = refl; others = λ k le ne. refl; moved = λ k l t. refl }
+
+module _ (init : ArenaState) (from n : ℕ) (self : ArenaState) (inv : Moving init from n self) (le : n ≤ from) (s : ℕ) (one : ArenaState) (split : chain_at self from ≡ s ∷ chain_at one from) (rest : one ≡ record self { chains = set self.chains from (chain_at one from) }) where
+  one_chains : one.chains ≡ set self.chains from (chain_at one from)
+  one_chains = ap (λ (v : ArenaState). v.chains) rest
+
+  one_at : (k : ℕ) → k ≢ from → chain_at one k ≡ chain_at self k
+  one_at k ne = ap (λ (z : List (List ℕ)). get_or z k []) one_chains ∙ get_or-set_other self.chains from k (chain_at one from) [] ne
+
+  one_length : length one.chains ≡ length self.chains
+  one_length = ap length one_chains ∙ length-set self.chains from (chain_at one from)
+
+  pub one_hash : hash_at one s ≡ hash_at init s
+  one_hash = ap (λ (v : ArenaState). hash_at v s) rest ∙ ap (λ (v : ArenaState). hash_at v s) inv.same
+
+  pub move_within : (k : ℕ) → k < n → k < length one.chains
+  move_within k lt = omega (arith, lt, le, inv.within, one_length)
+
+  module _ (to : ℕ) (two : ArenaState) (below : to < n) (to_is : to ≡ hash_at init s % n) (put_there : two ≡ record one { chains = set one.chains to (s ∷ chain_at one to) }) where
+    two_chains : two.chains ≡ set one.chains to (s ∷ chain_at one to)
+    two_chains = ap (λ (v : ArenaState). v.chains) put_there
+
+    two_other : (k : ℕ) → k ≢ to → chain_at two k ≡ chain_at one k
+    two_other k ne = ap (λ (z : List (List ℕ)). get_or z k []) two_chains ∙ get_or-set_other one.chains to k (s ∷ chain_at one to) [] ne
+
+    two_to : chain_at two to ≡ s ∷ chain_at one to
+    two_to = ap (λ (z : List (List ℕ)). get_or z to []) two_chains ∙ get_or-set_same one.chains to (s ∷ chain_at one to) [] (move_within to below)
+
+    from_left : chain_at two from ≡ chain_at one from
+    from_left = two_other from (λ e. absurd (omega (arith, e, below, le)))
+
+    pub move_smaller : length (chain_at two from) < length (chain_at self from)
+    move_smaller = let a = ap length from_left in let b = ap length split in omega (arith, a, b)
+
+    -- what slot t gains in chain k
+    gains : (k : ℕ) → k < n → (t : ℕ) → times t (chain_at two k) ≡ times t (chain_at self k) + cond (nat_eq (hash_at init t % n) k) (one_if s t) 0
+    gains k lt t =
+        let ne_from : k ≢ from = λ e. absurd (omega (arith, e, lt, le)) in
+        elim (one_or_two s t) [
+          | inl st ↦ elim (one_or_two k to) [
+            | inl kt ↦ (let hit : nat_eq (hash_at init t % n) k ≡ true = eq-eqb (hash_at init t % n) k (ap (λ z. hash_at init z % n) (sym st.1) ∙ sym to_is ∙ sym kt.1) in
+                let there : times t (chain_at two k) ≡ one_if s t + times t (chain_at one k) = subst (λ z. times t (chain_at two z) ≡ one_if s t + times t (chain_at one z)) (sym kt.1) (ap (times t) two_to) in
+                let old = ap (times t) (one_at k ne_from) in
+                let gain : cond (nat_eq (hash_at init t % n) k) (one_if s t) 0 ≡ one_if s t = ap (λ b. cond b (one_if s t) 0) hit in
+                omega (arith, there, old, gain))
+            | inr kt ↦ (let miss : nat_eq (hash_at init t % n) k ≡ false = ne_eqb (hash_at init t % n) k (λ e. kt.1 (sym e ∙ ap (λ z. hash_at init z % n) (sym st.1) ∙ sym to_is)) in
+                let there = ap (times t) (two_other k kt.1 ∙ one_at k ne_from) in
+                let gain : cond (nat_eq (hash_at init t % n) k) (one_if s t) 0 ≡ 0 = ap (λ b. cond b (one_if s t) 0) miss in
+                omega (arith, there, gain))
+          ]
+          | inr st ↦ (let gain : cond (nat_eq (hash_at init t % n) k) (one_if s t) 0 ≡ 0 = ap (λ z. cond (nat_eq (hash_at init t % n) k) z 0) st.0 ∙ cond-zero (nat_eq (hash_at init t % n) k) in
+              elim (one_or_two k to) [
+                | inl kt ↦ (let there : times t (chain_at two k) ≡ one_if s t + times t (chain_at one k) = subst (λ z. times t (chain_at two z) ≡ one_if s t + times t (chain_at one z)) (sym kt.1) (ap (times t) two_to) in
+                    let old = ap (times t) (one_at k ne_from) in
+                    omega (arith, there, old, gain, st.0))
+                | inr kt ↦ (let there = ap (times t) (two_other k kt.1 ∙ one_at k ne_from) in omega (arith, there, gain))
+              ])
+        ]
+
+    pub moved_on : Moving init from n two
+    moved_on = record {
+      within = omega (arith, inv.within, one_length, ap length two_chains, length-set one.chains to (s ∷ chain_at one to));
+      lens = ap length two_chains ∙ length-set one.chains to (s ∷ chain_at one to) ∙ one_length ∙ inv.lens;
+      same = put_there ∙ ap (λ (v : ArenaState). record v { chains = set one.chains to (s ∷ chain_at one to) }) (rest ∙ ap (λ (v : ArenaState). record v { chains = set self.chains from (chain_at one from) }) inv.same) ∙ ap (λ z. record init { chains = z }) (sym two_chains);
+      others = λ k l ne. two_other k (λ e. absurd (omega (arith, e, below, l))) ∙ one_at k ne ∙ inv.others k l ne;
+      moved = λ k l t.
+          (let b = nat_eq (hash_at init t % n) k in
+          let left : cond (nat_eq (hash_at init t % n) k) (times t (chain_at two from)) 0 ≡ cond (nat_eq (hash_at init t % n) k) (times t (chain_at one from)) 0 = ap (λ z. cond (nat_eq (hash_at init t % n) k) (times t z) 0) from_left in
+          let was : cond (nat_eq (hash_at init t % n) k) (times t (chain_at self from)) 0 ≡ cond (nat_eq (hash_at init t % n) k) (one_if s t) 0 + cond (nat_eq (hash_at init t % n) k) (times t (chain_at one from)) 0 =
+          ap (λ z. cond (nat_eq (hash_at init t % n) k) (times t z) 0) split ∙ cond-plus (nat_eq (hash_at init t % n) k) (one_if s t) (times t (chain_at one from)) in
+          let old = inv.moved k l t in
+          let gain = gains k l t in
+          omega (arith, left, was, old, gain));
+    }
+
+pub moved_all : (init : ArenaState) (from n : ℕ) (self : ArenaState) → Moving init from n self → chain_at self from ≡ [] → (k : ℕ) → k < n → (t : ℕ) → times t (chain_at self k) ≡ times t (chain_at init k) + cond (nat_eq (hash_at init t % n) k) (times t (chain_at init from)) 0
+moved_all init from n self inv none k lt t =
+    let nothing : cond (nat_eq (hash_at init t % n) k) (times t (chain_at self from)) 0 ≡ 0 = ap (λ z. cond (nat_eq (hash_at init t % n) k) (times t z) 0) none ∙ cond-zero (nat_eq (hash_at init t % n) k) in
+    let is = inv.moved k lt t in
+    omega (arith, nothing, is)
+
+-- the chains before the i-th are dealt out
+pub record Dealing (init : ArenaState) (n i : ℕ) (self : ArenaState) : Type 0 where
+  pub lens : length self.chains ≡ n + length init.chains
+  pub same : self ≡ record init { chains = self.chains }
+  pub left : (k : ℕ) → i ≤ k → chain_at self k ≡ get_or init.chains (k - n) []
+  pub gone : (k : ℕ) → n ≤ k → k < i → chain_at self k ≡ []
+  pub dealt : (k : ℕ) → k < n → (t : ℕ) → times t (chain_at self k) ≡ cond (nat_eq (hash_at init t % n) k) (times_in t (take (i - n) init.chains)) 0
+
+pub dealing_begins : (init : ArenaState) (n : ℕ) (self : ArenaState) → self ≡ record init { chains = replicate n [] ++ init.chains } → Dealing init n n self
+dealing_begins init n self e =
+    let count : length (replicate n (let z : List ℕ = [] in z)) ≡ n = length-replicate n [] in
+    subst (Dealing init n n) (sym e) (record {
+      lens = length-append (replicate n []) init.chains ∙ ap (λ z. z + length init.chains) count;
+      same = refl;
+      left = λ k le. get_or-append_right (replicate n []) init.chains n k [] count le;
+      gone = λ k le lt. absurd (omega (arith, le, lt));
+      dealt = λ k lt t.
+          (let here : get_or (replicate n [] ++ init.chains) k [] ≡ [] = get_or_append_left (replicate n []) init.chains [] k (omega (arith, count, lt)) ∙ get_or-replicate n k [] [] lt in
+          let start : n - n ≡ 0 = omega arith in
+          ap (times t) here ∙ sym (ap (λ z. cond (nat_eq (hash_at init t % n) k) (times_in t (take z init.chains)) 0) start ∙ cond-zero (nat_eq (hash_at init t % n) k)));
+    })
+
+times_in-take_more : (t j : ℕ) (css : List (List ℕ)) → j < length css → times_in t (take (j + 1) css) ≡ times_in t (take j css) + times t (get_or css j [])
+times_in-take_more t j css lt = ap (times_in t) (take_more css j [] lt) ∙ times_in-append t (take j css) (get_or css j [] ∷ []) ∙ (omega arith)
+
+module _ (init : ArenaState) (n i : ℕ) (self : ArenaState) (inv : Dealing init n i self) (low : n ≤ i) (high : i < n + length init.chains) where
+  pub deal_within : i < length self.chains
+  deal_within = omega (arith, high, inv.lens)
+
+  pub dealt_on : (two : ArenaState) → length two.chains ≡ length self.chains → two ≡ record self { chains = two.chains } → ((k : ℕ) → n ≤ k → k ≢ i → chain_at two k ≡ chain_at self k)
+      → ((k : ℕ) → k < n → (t : ℕ) → times t (chain_at two k) ≡ times t (chain_at self k) + cond (nat_eq (hash_at self t % n) k) (times t (chain_at self i)) 0)
+      → chain_at two i ≡ [] → Dealing init n (i + 1) two
+  dealt_on two lens same others moved empty = record {
+    lens = lens ∙ inv.lens;
+    same = same ∙ ap (λ (v : ArenaState). record v { chains = two.chains }) inv.same;
+    left = λ k le. others k (omega (arith, le, low)) (λ e. absurd (omega (arith, e, le))) ∙ inv.left k (omega (arith, le));
+    gone = λ k le lt. elim (one_or_two k i) [
+      | inl h ↦ subst (λ z. chain_at two z ≡ []) (sym h.1) empty
+      | inr h ↦ (let ne = h.1 in others k le h.1 ∙ inv.gone k le (omega (arith, lt, ne)))
+    ];
+    dealt = λ k lt t.
+        (let hash : hash_at self t ≡ hash_at init t = ap (λ (v : ArenaState). hash_at v t) inv.same in
+        let next : (i + 1) - n ≡ (i - n) + 1 = omega (arith, low) in
+        let chain : times t (chain_at self i) ≡ times t (get_or init.chains (i - n) []) = ap (times t) (inv.left i (omega arith)) in
+        let more : times_in t (take (i - n) init.chains) + times t (chain_at self i) ≡ times_in t (take ((i + 1) - n) init.chains) =
+        ap (λ z. times_in t (take (i - n) init.chains) + z) chain ∙ sym (ap (λ z. times_in t (take z init.chains)) next ∙ times_in-take_more t (i - n) init.chains (omega (arith, low, high))) in
+        moved k lt t ∙ (λ j. inv.dealt k lt t j + cond (nat_eq (hash j % n) k) (times t (chain_at self i)) 0)
+        ∙ sym (cond-plus (nat_eq (hash_at init t % n) k) (times_in t (take (i - n) init.chains)) (times t (chain_at self i)))
+        ∙ ap (λ z. cond (nat_eq (hash_at init t % n) k) z 0) more);
+  }
+
+get_or_past : (css : List (List ℕ)) (k : ℕ) → length css ≤ k → get_or css k [] ≡ []
+get_or_past [] k le = refl
+get_or_past (c ∷ cs) zero le = absurd (omega (arith, le))
+get_or_past (c ∷ cs) (suc k) le = get_or_past cs k (omega (arith, le))
+
+-- all chains are dealt out, and so the old ones are empty
+pub dealt_gone : (init : ArenaState) (n i : ℕ) (self : ArenaState) → Dealing init n i self → n + length init.chains ≤ i → (k : ℕ) → n ≤ k → chain_at self k ≡ []
+dealt_gone init n i self inv all k le = elim (less_or_not k i) [
+  | inl lt ↦ inv.gone k le lt
+  | inr past ↦ inv.left k past ∙ get_or_past init.chains (k - n) (omega (arith, all, past))
+]
+
+-- all chains are dealt out, and the new ones stay
+module _ (init : ArenaState) (n i : ℕ) (self : ArenaState) (inv : Dealing init n i self) (all : i ≡ n + length init.chains) (kept : ArenaState) (e : kept ≡ record self { chains = take n self.chains }) where
+  kept_chains : kept.chains ≡ take n self.chains
+  kept_chains = ap (λ (v : ArenaState). v.chains) e
+
+  pub dealt_length : length kept.chains ≡ n
+  dealt_length = ap length kept_chains ∙ length-take-le n self.chains (omega (arith, inv.lens))
+
+  pub dealt_same : kept ≡ record init { chains = kept.chains }
+  dealt_same = e ∙ ap (λ (v : ArenaState). record v { chains = take n self.chains }) inv.same ∙ ap (λ z. record init { chains = z }) (sym kept_chains)
+
+  pub dealt_hashed : (k : ℕ) → k < n → (t : ℕ) → times t (chain_at kept k) ≡ times_hashed init n k t
+  dealt_hashed k lt t =
+      let whole : take (i - n) init.chains ≡ init.chains = take_all (i - n) init.chains (omega (arith, all)) in
+      ap (times t) (ap (λ (z : List (List ℕ)). get_or z k []) kept_chains ∙ get_or-take n self.chains k [] lt)
+      ∙ inv.dealt k lt t ∙ ap (λ z. cond (nat_eq (hash_at init t % n) k) (times_in t z) 0) whole
