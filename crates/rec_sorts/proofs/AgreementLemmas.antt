@@ -27,7 +27,7 @@ use Rattle.rec_sorts.proofs.KeptLemmas.{bytes_eq-eq}
 use Rattle.rec_sorts.proofs.TableLemmas.{is_some-first_at}
 use Rattle.rec_sorts.proofs.TurnLemmas.{misplaced-nothing}
 use Rattle.rec_sorts.proofs.SubtermLemmas.{least_of-map, least_of-flat, least_of-same}
-use Rattle.rec_sorts.proofs.StackLemmas.{map-append, head_of, heads_of, misplaced_in, ill_sorted_among-term}
+use Rattle.rec_sorts.proofs.StackLemmas.{map-append, head_placed, heads_of, misplaced_in, ill_sorted_among-term}
 use Rattle.rec_sorts.proofs.MeaningLemmas.{meaning-symbol, meaning-variable, arguments_by, sort_at-name, arguments_at-name, is_none-name, first_at-one}
 use Rattle.rec_sorts.proofs.KeptNameLemmas.{is_operator-name, no_variable, IsKnown, AreKnown, option_eq-numbers, arguments_known, sort_known}
 
@@ -40,16 +40,16 @@ last-push ps p =
     ∙ ap (λ (q : Placed). Some q) (get_or-append_seam ps p [] p)
 
 -- a term's own letter is its last
-pub last_letter-letters : (s : Scope) (t : Term) → last_letter (letters_of s t) ≡ Some (head_of s t)
+pub last_letter-letters : (s : Scope) (t : Term) → last_letter (letters_of s t) ≡ Some (head_placed s t)
 last_letter-letters s (Apply w ts) =
     ap last_letter (map-append (placed_by s) (flat_all ts) (record { word = w; count = term_count ts } ∷ []))
-    ∙ last-push (map (placed_by s) (flat_all ts)) (head_of s (Apply w ts))
+    ∙ last-push (map (placed_by s) (flat_all ts)) (head_placed s (Apply w ts))
 
-head_of-at : (s : Scope) (t : Term) → (head_of s t).at ≡ (head t).at
-head_of-at s (Apply w ts) = refl
+head_placed-at : (s : Scope) (t : Term) → (head_placed s t).at ≡ (head t).at
+head_placed-at s (Apply w ts) = refl
 
-head_of-meaning : (s : Scope) (t : Term) → (head_of s t).meaning ≡ meaning_of s (head t).bytes
-head_of-meaning s (Apply w ts) = refl
+head_placed-meaning : (s : Scope) (t : Term) → (head_placed s t).meaning ≡ meaning_of s (head t).bytes
+head_placed-meaning s (Apply w ts) = refl
 
 module _ (y : Spec) (s : Scope) (h : IsScope y s) where
   -- the words that are not declared
@@ -75,8 +75,8 @@ module _ (y : Spec) (s : Scope) (h : IsScope y s) where
       ∙ least_of-same (subterms t) filled-at
 
   -- the sort of a term's head, by its number
-  head-sort : (t : Term) → sort_at s (head_of s t).meaning ≡ option_and_then (first_at y.sorts) (sort_of y t)
-  head-sort t = ap (sort_at s) (head_of-meaning s t) ∙ sort_at-name y s h (head t).bytes
+  head-sort : (t : Term) → sort_at s (head_placed s t).meaning ≡ option_and_then (first_at y.sorts) (sort_of y t)
+  head-sort t = ap (sort_at s) (head_placed-meaning s t) ∙ sort_at-name y s h (head t).bytes
 
   module _ (sorts_kept : unknown_sorts y ≡ []) where
     sort_of-known : (t : Term) → IsKnown y.sorts (sort_of y t)
@@ -86,9 +86,9 @@ module _ (y : Spec) (s : Scope) (h : IsScope y s) where
     placed-at [] ts k = misplaced-nothing s (heads_of s ts)
     placed-at (v ∷ ss) none k = refl
     placed-at (v ∷ ss) (more t ts) k =
-        ap (λ b. earlier (place_where (not b) (head_of s t).at) (misplaced s (heads_of s ts) (sort_numbers (first_at y.sorts) ss)))
+        ap (λ b. earlier (place_where (not b) (head_placed s t).at) (misplaced s (heads_of s ts) (sort_numbers (first_at y.sorts) ss)))
         (ap (λ (o : Option ℕ). option_eq nat_eq o (first_at y.sorts v.bytes)) (head-sort t) ∙ option_eq-numbers y.sorts (sort_of y t) (Some v.bytes) (sort_of-known t) k.0)
-        ∙ ap (λ (n : ℕ). earlier (place_where (not (same_sort (sort_of y t) (Some v.bytes))) n) (misplaced s (heads_of s ts) (sort_numbers (first_at y.sorts) ss))) (head_of-at s t)
+        ∙ ap (λ (n : ℕ). earlier (place_where (not (same_sort (sort_of y t) (Some v.bytes))) n) (misplaced s (heads_of s ts) (sort_numbers (first_at y.sorts) ss))) (head_placed-at s t)
         ∙ ap (earlier (place_where (not (same_sort (sort_of y t) (Some v.bytes))) (head t).at)) (placed-at ss ts k.1)
         ∙ by_test (same_sort (sort_of y t) (Some v.bytes)) (ill_placed y ss ts)
       where
@@ -111,12 +111,12 @@ module _ (y : Spec) (s : Scope) (h : IsScope y s) where
     pub unlike-terms : (l r : Term) → unlike_at s (letters_of s l) (letters_of s r) ≡ least_place (heads (unlike y l r))
     unlike-terms l r =
         ap (λ o. by_left o (last_letter (letters_of s r))) (last_letter-letters s l)
-        ∙ ap (by_left (Some (head_of s l))) (last_letter-letters s r)
-        ∙ ap (λ b. place_where (not b) (head_of s l).at)
-        (ap (λ (o : Option ℕ). option_eq nat_eq o (sort_at s (head_of s r).meaning)) (head-sort l)
+        ∙ ap (by_left (Some (head_placed s l))) (last_letter-letters s r)
+        ∙ ap (λ b. place_where (not b) (head_placed s l).at)
+        (ap (λ (o : Option ℕ). option_eq nat_eq o (sort_at s (head_placed s r).meaning)) (head-sort l)
         ∙ ap (option_eq nat_eq (option_and_then (first_at y.sorts) (sort_of y l))) (head-sort r)
         ∙ option_eq-numbers y.sorts (sort_of y l) (sort_of y r) (sort_of-known l) (sort_of-known r))
-        ∙ ap (place_where (not (same_sort (sort_of y l) (sort_of y r)))) (head_of-at s l)
+        ∙ ap (place_where (not (same_sort (sort_of y l) (sort_of y r)))) (head_placed-at s l)
         ∙ by_test (same_sort (sort_of y l) (sort_of y r))
       where
         by_right : Placed → Option Placed → Option ℕ
@@ -133,8 +133,8 @@ module _ (y : Spec) (s : Scope) (h : IsScope y s) where
   pub headed-term : repeated_symbols y ≡ [] → (t : Term) → ill_headed_at s (letters_of s t) ≡ place_where (not (mentions (names y.operators) (head t).bytes)) (head t).at
   headed-term kept t =
       ap by_last (last_letter-letters s t)
-      ∙ ap (λ b. place_where (not b) (head_of s t).at) (ap (is_operator s) (head_of-meaning s t) ∙ is_operator-name y s h kept (head t).bytes)
-      ∙ ap (place_where (not (mentions (names y.operators) (head t).bytes))) (head_of-at s t)
+      ∙ ap (λ b. place_where (not b) (head_placed s t).at) (ap (is_operator s) (head_placed-meaning s t) ∙ is_operator-name y s h kept (head t).bytes)
+      ∙ ap (place_where (not (mentions (names y.operators) (head t).bytes))) (head_placed-at s t)
     where
       by_last : Option Placed → Option ℕ
       by_last o = elim o [ None ↦ None | Some p ↦ place_where (not (is_operator s p.meaning)) p.at ]

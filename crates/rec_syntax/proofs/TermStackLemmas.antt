@@ -7,7 +7,7 @@ use Rattle.rec_syntax.specs.Tokens as token
 use Rattle.rec_syntax.specs.Syntax as syntax
 use Rattle.rec_syntax.specs.Syntax.{Terms, Apply, none, more}
 use Rattle.rec_syntax.specs.Nodes as nodes
-use Rattle.rec_syntax.specs.Nodes.{term_count, flat, flat_all, newest, joined, made_by, newest_term, spelled_by}
+use Rattle.rec_syntax.specs.Nodes.{term_count, flat, flat_all, newest, assembled, made_by, newest_term, spelled_by}
 use Rattle.rec_syntax.specs.Machine as machine
 use Rattle.rec_syntax.specs.Machine.{Role, snoc, to}
 use Rattle.rec_syntax.specs.Lexemes.{word_of}
@@ -23,20 +23,20 @@ newest-snoc zero made ts t = refl
 newest-snoc (suc k) [] ts t = refl
 newest-snoc (suc k) (x ∷ made) ts t = newest-snoc k made (more x ts) t
 
-made_by-push : (made : List syntax.Term) (ns : List nodes.Node) (n : nodes.Node) → made_by made (ns ++ n ∷ []) ≡ joined n (made_by made ns)
+made_by-push : (made : List syntax.Term) (ns : List nodes.Node) (n : nodes.Node) → made_by made (ns ++ n ∷ []) ≡ assembled n (made_by made ns)
 made_by-push made [] n = refl
-made_by-push made (m ∷ ns) n = made_by-push (joined m made) ns n
+made_by-push made (m ∷ ns) n = made_by-push (assembled m made) ns n
 
 Enough-push : (made : List syntax.Term) (ns : List nodes.Node) (n : nodes.Node) → Enough made ns → n.count ≤ length (made_by made ns) → Enough made (ns ++ n ∷ [])
 Enough-push made [] n h le = (le, tt)
-Enough-push made (m ∷ ns) n h le = (h.0, Enough-push (joined m made) ns n h.1 le)
+Enough-push made (m ∷ ns) n h le = (h.0, Enough-push (assembled m made) ns n h.1 le)
 
-length-joined : (n : nodes.Node) (made : List syntax.Term) → length (joined n made) ≡ length made - n.count + 1
+length-joined : (n : nodes.Node) (made : List syntax.Term) → length (assembled n made) ≡ length made - n.count + 1
 length-joined n made = omega (arith, length-drop n.count made)
 
 length-made_by : (made : List syntax.Term) (ns : List nodes.Node) → length (made_by made ns) ≤ length made + length ns
 length-made_by made [] = omega arith
-length-made_by made (n ∷ ns) = omega (arith, length-made_by (joined n made) ns, length-joined n made)
+length-made_by made (n ∷ ns) = omega (arith, length-made_by (assembled n made) ns, length-joined n made)
 
 nodes-push : (bytes : List ℕ) (ns : List Node) (n : Node) → map (node_of bytes) (ns ++ n ∷ []) ≡ map (node_of bytes) ns ++ node_of bytes n ∷ []
 nodes-push bytes [] n = refl
@@ -47,7 +47,7 @@ length-nodes bytes [] = refl
 length-nodes bytes (n ∷ ns) = ap suc (length-nodes bytes ns)
 
 -- one more node joins the newest terms
-pub made-push : (bytes : List ℕ) (ns : List Node) (n : Node) → made_of bytes (ns ++ n ∷ []) ≡ joined (node_of bytes n) (made_of bytes ns)
+pub made-push : (bytes : List ℕ) (ns : List Node) (n : Node) → made_of bytes (ns ++ n ∷ []) ≡ assembled (node_of bytes n) (made_of bytes ns)
 made-push bytes ns n = rw nodes-push (made_by-push [] (map (node_of bytes) ns) (node_of bytes n))
 
 enough-push : (bytes : List ℕ) (ns : List Node) (n : Node) → Enough [] (map (node_of bytes) ns) → n.count ≤ length (made_of bytes ns) → Enough [] (map (node_of bytes) (ns ++ n ∷ []))
@@ -74,7 +74,7 @@ leaf bytes w calls ns after e word s =
     (rw (e, made-push bytes ns n) refl, rw e (node_stack bytes 0 calls calls n ns s.calls word s (omega (arith, s.counted))))
 
 close_core : (bytes : List ℕ) (p : Role) (y : syntax.Spec) (cs : List Call) (c : Call) (made : List syntax.Term) (n : nodes.Node) → 0 < length made → n ≡ record { word = word_of bytes c.word; count = c.count + 1 }
-    → machine.after p (newest_term made) (frames_of bytes (c ∷ cs) (rest made)) y token.Close ≡ to (machine.After p (newest_term (joined n made)) (frames_of bytes cs (rest (joined n made)))) y
+    → machine.after p (newest_term made) (frames_of bytes (c ∷ cs) (rest made)) y token.Close ≡ to (machine.After p (newest_term (assembled n made)) (frames_of bytes cs (rest (assembled n made)))) y
 close_core bytes p y cs c [] n h e = absurd (omega arith)
 close_core bytes p y cs c (t ∷ made) n h e = rw (e, add-one, newest-snoc c.count made none t) refl
 
@@ -138,7 +138,7 @@ flat-newest zero made ts h = refl
 flat-newest (suc k) [] ts h = absurd (omega arith)
 flat-newest (suc k) (t ∷ made) ts h = flat-newest k made (more t ts) (omega arith) ∙ sym (append_assoc (flat_made made) (flat t) (flat_all ts))
 
-flat-joined : (n : nodes.Node) (made : List syntax.Term) → n.count ≤ length made → flat_made (joined n made) ≡ flat_made made ++ n ∷ []
+flat-joined : (n : nodes.Node) (made : List syntax.Term) → n.count ≤ length made → flat_made (assembled n made) ≡ flat_made made ++ n ∷ []
 flat-joined n made h =
     let args : term_count (newest n.count made none) ≡ n.count = omega (arith, count-newest n.count made none h) in
     let front : flat_made (drop n.count made) ++ flat_all (newest n.count made none) ≡ flat_made made = flat-newest n.count made none h ∙ append-nil (flat_made made) in
@@ -147,7 +147,7 @@ flat-joined n made h =
 flat-made_by : (made : List syntax.Term) (ns : List nodes.Node) → Enough made ns → flat_made (made_by made ns) ≡ flat_made made ++ ns
 flat-made_by made [] h = sym (append-nil (flat_made made))
 flat-made_by made (n ∷ ns) h =
-    flat-made_by (joined n made) ns h.1 ∙ ap (λ (ms : List nodes.Node). ms ++ ns) (flat-joined n made h.0) ∙ append_assoc (flat_made made) (n ∷ []) ns
+    flat-made_by (assembled n made) ns h.1 ∙ ap (λ (ms : List nodes.Node). ms ++ ns) (flat-joined n made h.0) ∙ append_assoc (flat_made made) (n ∷ []) ns
 
 alone : (made : List syntax.Term) → length made ≡ 1 → made ≡ newest_term made ∷ []
 alone [] h = absurd (omega arith)

@@ -30,13 +30,13 @@ newest (suc count) [] ts = ts
 newest (suc count) (t ∷ made) ts = newest count made (more t ts)
 
 -- a node takes the newest terms as its arguments
-abbrev pub joined : Node → List Term → List Term
-joined n made = Apply n.word (newest n.count made none) ∷ drop n.count made
+abbrev pub assembled : Node → List Term → List Term
+assembled n made = Apply n.word (newest n.count made none) ∷ drop n.count made
 
 -- the terms that the nodes make, the newest first
 abbrev pub made_by : List Term → List Node → List Term
 made_by made [] = made
-made_by made (n ∷ nodes) = made_by (joined n made) nodes
+made_by made (n ∷ nodes) = made_by (assembled n made) nodes
 
 -- the newest term
 abbrev pub newest_term : List Term → Term

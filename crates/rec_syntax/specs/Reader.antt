@@ -3,7 +3,7 @@ use Rattle.std.specs.Prelude.{◌≡◌, ℕ, ◌+◌, ◌≤◌, Bool, true, fa
 use Rattle.rec_syntax.specs.Syntax as syntax
 use Rattle.rec_syntax.specs.Syntax.{none}
 use Rattle.rec_syntax.specs.Nodes as nodes
-use Rattle.rec_syntax.specs.Nodes.{newest, joined, made_by, newest_term}
+use Rattle.rec_syntax.specs.Nodes.{newest, assembled, made_by, newest_term}
 use Rattle.rec_syntax.specs.Machine as machine
 use Rattle.rec_syntax.specs.Machine.{Frame, Config}
 use Rattle.rec_syntax.specs.Lexemes.{word_of, section_of, token_of, Within}
@@ -90,7 +90,7 @@ total (c ∷ cs) = c.count + total cs
 -- each node has its arguments before it
 abbrev pub Enough : List syntax.Term → List nodes.Node → Type 0
 Enough made [] = Unit {0}
-Enough made (n ∷ ns) = (n.count ≤ length made) × Enough (joined n made) ns
+Enough made (n ∷ ns) = (n.count ≤ length made) × Enough (assembled n made) ns
 
 -- every term belongs to one open application, but `loose` ones; all words lie within the text
 pub record IsStack (bytes : List ℕ) (loose : ℕ) (cs : List Call) (ns : List Node) : Type 0 where

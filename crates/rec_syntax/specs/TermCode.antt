@@ -5,7 +5,7 @@ use Rattle.std.proofs.lemmas.List.{append-nil}
 use Rattle.std.specs.Coded.{Coded, code_by, coded×, coded_ℕ, coded_bool, coded_list}
 use Rattle.rec_syntax.specs.Tokens.{Word}
 use Rattle.rec_syntax.specs.Syntax.{Term, Terms, Apply, none, more, Declaration, Variables, Condition, Rule, Spec, Sourced}
-use Rattle.rec_syntax.specs.Nodes.{Node, term_count, flat, flat_all, newest, joined, made_by, newest_term, spelled_by}
+use Rattle.rec_syntax.specs.Nodes.{Node, term_count, flat, flat_all, newest, assembled, made_by, newest_term, spelled_by}
 
 -- terms in front of others, the newest first
 abbrev pub onto : Terms → List Term → List Term
@@ -36,8 +36,8 @@ abbrev node : Word → ℕ → Node
 node w k = record { word = w; count = k }
 
 -- a node takes its arguments, where they are the newest terms
-pub joined-onto : (w : Word) (ts : Terms) (made : List Term) → joined (record { word = w; count = term_count ts }) (onto ts made) ≡ Apply w ts ∷ made
-joined-onto w ts made =
+pub assembled-onto : (w : Word) (ts : Terms) (made : List Term) → assembled (record { word = w; count = term_count ts }) (onto ts made) ≡ Apply w ts ∷ made
+assembled-onto w ts made =
     let args : newest (term_count ts) (onto ts made) none ≡ ts = ap (λ (k : ℕ). newest k (onto ts made) none) (sym (add-zero (term_count ts))) ∙ newest-onto ts made 0 none ∙ joins-none ts in
     let others : drop (term_count ts) (onto ts made) ≡ made = ap (λ (k : ℕ). drop k (onto ts made)) (sym (add-zero (term_count ts))) ∙ drop-onto ts made 0 in
     rw (args, others) refl
@@ -47,7 +47,7 @@ mutual
   pub made_by-flat : (t : Term) (made : List Term) (rest : List Node) → made_by made (flat t ++ rest) ≡ made_by (t ∷ made) rest
   made_by-flat (Apply w ts) made rest =
       rw (append_assoc (flat_all ts) (node w (term_count ts) ∷ []) rest)
-      (made_by-flat_all ts made (node w (term_count ts) ∷ rest) ∙ ap (λ (ms : List Term). made_by ms rest) (joined-onto w ts made))
+      (made_by-flat_all ts made (node w (term_count ts) ∷ rest) ∙ ap (λ (ms : List Term). made_by ms rest) (assembled-onto w ts made))
 
   pub made_by-flat_all : (ts : Terms) (made : List Term) (rest : List Node) → made_by made (flat_all ts ++ rest) ≡ made_by (onto ts made) rest
   made_by-flat_all none made rest = refl

@@ -12,7 +12,7 @@ use Rattle.rx_term.specs.Walks.{HaveTrees}
 use Rattle.rx_pattern.specs.Pattern.{Kind, kind_of, is_rest}
 use Rattle.rx_pattern.specs.Filling as filling
 use Rattle.rx_pattern.specs.Filling.{Slot, slots, slots_of_all, slot_of, filled, filled_all, takes, made}
-use Rattle.rx_pattern.specs.Code.{Step, Number, Named, Listing, Holding, End, Item, Rest, code, code_of_all, Piece, One, Several, joined, pieces}
+use Rattle.rx_pattern.specs.Code.{Step, Number, Named, Listing, Holding, End, Item, Rest, code, code_of_all, Piece, One, Several, assembled, pieces}
 use Rattle.rx_pattern.specs.Nodes.{step_of, tree_of_nodes, AreNodes}
 use Rattle.rx_pattern.specs.Subjects.{OnStack, Stands}
 use Rattle.rx_pattern.specs.Making.{is_slot, takes_as, slots_of_step, slots_of_steps, IsMisfit, HasParts, IsValid}
@@ -30,7 +30,7 @@ filled_pieces (One p ∷ ps) bs = let f = filled p bs in One f.0 ∷ filled_piec
 filled_pieces (Several ts ∷ ps) bs = let f = filled_all ts bs in Several f.0 ∷ filled_pieces ps f.1
 
 -- a step that is no slot joins what is filled
-fills-joined : (s : Step) (qs : List Piece) (bs : List Tree) → CanJoin s qs → is_slot s ≡ false → (filled_pieces (joined s qs) bs ≡ joined s (filled_pieces qs bs)) × HasParts s (filled_pieces qs bs)
+fills-joined : (s : Step) (qs : List Piece) (bs : List Tree) → CanJoin s qs → is_slot s ≡ false → (filled_pieces (assembled s qs) bs ≡ assembled s (filled_pieces qs bs)) × HasParts s (filled_pieces qs bs)
 fills-joined (Number z) (Several anns ∷ ps) bs c e = (refl, tt)
 fills-joined (Named name quoted) (Several args ∷ Several anns ∷ ps) bs c e = (refl, tt)
 fills-joined Listing (Several items ∷ Several anns ∷ ps) bs c e = (refl, tt)
@@ -62,7 +62,7 @@ rest_stands (Appl name quoted args anns) e w r h = absurd (let z : ⊥ = cc in z
 rest_stands (Hole inner anns) e w r h = absurd (let z : ⊥ = cc in z)
 
 -- a slot takes its tree
-fills-slot : (s : Step) (qs : List Piece) (b : Tree) (bs : List Tree) → is_slot s ≡ true → takes_as s b ≡ true → (v : Piece) × (filled_pieces (joined s qs) (b ∷ bs) ≡ v ∷ filled_pieces qs bs) × ((w : Store) (r : Term) → tree_at w r ≡ Some b → Stands w (Some r) v)
+fills-slot : (s : Step) (qs : List Piece) (b : Tree) (bs : List Tree) → is_slot s ≡ true → takes_as s b ≡ true → (v : Piece) × (filled_pieces (assembled s qs) (b ∷ bs) ≡ v ∷ filled_pieces qs bs) × ((w : Store) (r : Term) → tree_at w r ≡ Some b → Stands w (Some r) v)
 fills-slot (Holding (Some kind)) qs b bs e t = (One b, refl, λ w r h. h)
 fills-slot Rest qs b bs e t = (Several (items_of b), refl, rest_stands b t)
 fills-slot (Holding None) qs b bs e t = absurd (let z : ⊥ = cc in z)
@@ -230,11 +230,11 @@ module _ (nodes : List Node) (are : AreNodes nodes) (at : ℕ) (n : Node) (lt : 
       pub turn_parts : (ps : List Piece) × OnStack (Stands w) stack ps × HasParts (step_of n) ps
       turn_parts = (filled_pieces (pieces others) (drop left all), on, (fills-joined (step_of n) (pieces others) (drop left all) joins bare).1)
 
-      pub turn_join : (new : Store) (after : List (Option Term)) → ((ps : List Piece) → OnStack (Stands w) stack ps → HasParts (step_of n) ps → OnStack (Stands new) after (joined (step_of n) ps)) → OnStack (Stands new) after (filled_pieces (pieces (map step_of (drop at nodes))) (drop left all))
+      pub turn_join : (new : Store) (after : List (Option Term)) → ((ps : List Piece) → OnStack (Stands w) stack ps → HasParts (step_of n) ps → OnStack (Stands new) after (assembled (step_of n) ps)) → OnStack (Stands new) after (filled_pieces (pieces (map step_of (drop at nodes))) (drop left all))
       turn_join new after made =
           let f = fills-joined (step_of n) (pieces others) (drop left all) joins bare in
           let m = made (filled_pieces (pieces others) (drop left all)) on f.1 in
-          let e : filled_pieces (pieces (map step_of (drop at nodes))) (drop left all) ≡ joined (step_of n) (filled_pieces (pieces others) (drop left all)) = ap (λ (ss : List Step). filled_pieces (pieces ss) (drop left all)) steps ∙ f.0 in
+          let e : filled_pieces (pieces (map step_of (drop at nodes))) (drop left all) ≡ assembled (step_of n) (filled_pieces (pieces others) (drop left all)) = ap (λ (ss : List Step). filled_pieces (pieces ss) (drop left all)) steps ∙ f.0 in
           subst (OnStack (Stands new) after) (sym e) m
 
       pub still_counted : left + length (slots_of_steps (map step_of (drop at nodes))) ≡ length all
@@ -276,7 +276,7 @@ module _ (nodes : List Node) (are : AreNodes nodes) (at : ℕ) (n : Node) (lt : 
           let f = fills-slot (step_of n) (pieces others) t.0 (drop left all) yes' takes_it in
           let rest : drop (left - 1) all ≡ t.0 ∷ drop left all = ap (λ (j : ℕ). drop j all) k ∙ t.2 ∙ ap (λ (j : ℕ). t.0 ∷ drop j all) (sym here) in
           let e : filled_pieces (pieces (map step_of (drop at nodes))) (drop (left - 1) all) ≡ f.0 ∷ filled_pieces (pieces others) (drop left all)
-          = ap (λ (ss : List Step). filled_pieces (pieces ss) (drop (left - 1) all)) steps ∙ ap (λ (bs : List Tree). filled_pieces (joined (step_of n) (pieces others)) bs) rest ∙ f.1 in
+          = ap (λ (ss : List Step). filled_pieces (pieces ss) (drop (left - 1) all)) steps ∙ ap (λ (bs : List Tree). filled_pieces (assembled (step_of n) (pieces others)) bs) rest ∙ f.1 in
           subst (OnStack (Stands w) after) (sym e) (push (Stands w) stack after (Some r) f.0 (filled_pieces (pieces others) (drop left all)) grown (f.2 w r (g.trees r t.0 t.1)) on)
 
 -- the terms that are left to the left, and what the nodes from here on make of the others
@@ -332,7 +332,7 @@ module _ (old w : Store) (nodes : List Node) (args : List Term) (stack : List (O
     grows = h.grows;
   }
 
-  pub join_on : is_slot (step_of n) ≡ false → (new : Store) (after : List (Option Term)) → Grows w new → ((ps : List Piece) → OnStack (Stands w) stack ps → HasParts (step_of n) ps → OnStack (Stands new) after (joined (step_of n) ps)) → Filling old new nodes args after at left
+  pub join_on : is_slot (step_of n) ≡ false → (new : Store) (after : List (Option Term)) → Grows w new → ((ps : List Piece) → OnStack (Stands w) stack ps → HasParts (step_of n) ps → OnStack (Stands new) after (assembled (step_of n) ps)) → Filling old new nodes args after at left
   join_on e new after g made = record {
     within = let e = h.within in omega arith;
     left_within = h.left_within;

@@ -11,7 +11,7 @@ use Rattle.rx_term.specs.declared.Term.{Term}
 use Rattle.rx_term.specs.Walks.{HaveTrees}
 use Rattle.rx_pattern.specs.Pattern.{Kind, fits}
 use Rattle.rx_pattern.specs.Matching.{matching, matching_all, both, where_true, bound}
-use Rattle.rx_pattern.specs.Code.{Step, Number, Named, Listing, Holding, End, Item, Rest, Piece, One, Several, joined, pieces}
+use Rattle.rx_pattern.specs.Code.{Step, Number, Named, Listing, Holding, End, Item, Rest, Piece, One, Several, assembled, pieces}
 use Rattle.rx_pattern.specs.Nodes.{step_of}
 use Rattle.rx_pattern.specs.declared.nodes.Node.{Node}
 use Rattle.rx_pattern.specs.Subjects.{OnStack, Stands, Suits, Front, front_if, meets, MetOrNot, Answers}
@@ -69,7 +69,7 @@ tested_shapes true bs left qs vs h = h
 tested_shapes false bs left qs vs h = tt
 
 -- a step meets its subject as the pattern matches it
-meets_as : (s : Step) (qs : List Piece) (v : Piece) (vs : List Piece) → CanJoin s qs → Shapes (joined s qs) (v ∷ vs) → (match_pieces (joined s qs) (v ∷ vs) ≡ onward (meets s v) qs vs) × AllShapes (meets s v) qs vs × Suits s v
+meets_as : (s : Step) (qs : List Piece) (v : Piece) (vs : List Piece) → CanJoin s qs → Shapes (assembled s qs) (v ∷ vs) → (match_pieces (assembled s qs) (v ∷ vs) ≡ onward (meets s v) qs vs) × AllShapes (meets s v) qs vs × Suits s v
 meets_as (Number z) (Several anns ∷ ps) (One (Int y bnns)) vs c h = (tested (int_eq z y) (matching_all anns bnns) (match_pieces ps vs) (Several anns ∷ ps) vs (Several bnns ∷ []) refl, tested_shapes (int_eq z y) [] (Several bnns ∷ []) (Several anns ∷ ps) vs h, tt)
 meets_as (Number z) (Several anns ∷ ps) (One (Appl name quoted args bnns)) vs c h = (refl, tt, tt)
 meets_as (Number z) (Several anns ∷ ps) (One (Items items bnns)) vs c h = (refl, tt, tt)
@@ -147,7 +147,7 @@ begun w steps p u t stack out s one there e f = record {
   both_end (Some xs) = ap (λ (l : List Tree). let o : Option (List Tree) = Some l in o) (append-nil xs)
 
 -- the first subject
-top : (s : Step) (qs vs : List Piece) → CanJoin s qs → Shapes (joined s qs) vs → (v : Piece) × ((rest : List Piece) × (vs ≡ v ∷ rest))
+top : (s : Step) (qs vs : List Piece) → CanJoin s qs → Shapes (assembled s qs) vs → (v : Piece) × ((rest : List Piece) × (vs ≡ v ∷ rest))
 top s qs (v ∷ vs) c h = (v, (vs, refl))
 top (Number z) (Several anns ∷ ps) [] c h = absurd h
 top (Named name quoted) (Several args ∷ Several anns ∷ ps) [] c h = absurd h
@@ -176,14 +176,14 @@ module _ (w : Store) (s : Step) (ns : List Step) (whole : Option (List Tree)) (s
   first : (v : Piece) × ((rest : List Piece) × (h.subjects ≡ v ∷ rest))
   first = top s (pieces ns) h.subjects (can_join s ns h.spelt) h.shapes
 
-  shaped : Shapes (joined s (pieces ns)) (first.0 ∷ first.1.0)
-  shaped = subst (λ (vs : List Piece). Shapes (joined s (pieces ns)) vs) first.1.1 h.shapes
+  shaped : Shapes (assembled s (pieces ns)) (first.0 ∷ first.1.0)
+  shaped = subst (λ (vs : List Piece). Shapes (assembled s (pieces ns)) vs) first.1.1 h.shapes
 
-  agrees : (match_pieces (joined s (pieces ns)) (first.0 ∷ first.1.0) ≡ onward (meets s first.0) (pieces ns) first.1.0) × AllShapes (meets s first.0) (pieces ns) first.1.0 × Suits s first.0
+  agrees : (match_pieces (assembled s (pieces ns)) (first.0 ∷ first.1.0) ≡ onward (meets s first.0) (pieces ns) first.1.0) × AllShapes (meets s first.0) (pieces ns) first.1.0 × Suits s first.0
   agrees = meets_as s (pieces ns) first.0 first.1.0 (can_join s ns h.spelt) shaped
 
   bound_so_far : whole ≡ both (Some h.bindings) (onward (meets s first.0) (pieces ns) first.1.0)
-  bound_so_far = h.same ∙ ap (λ (vs : List Piece). both (Some h.bindings) (match_pieces (joined s (pieces ns)) vs)) first.1.1 ∙ ap (λ (x : Option (List Tree)). both (Some h.bindings) x) agrees.0
+  bound_so_far = h.same ∙ ap (λ (vs : List Piece). both (Some h.bindings) (match_pieces (assembled s (pieces ns)) vs)) first.1.1 ∙ ap (λ (x : Option (List Tree)). both (Some h.bindings) x) agrees.0
 
   on_stack : OnStack (Stands w) stack (first.0 ∷ first.1.0)
   on_stack = subst (λ (vs : List Piece). OnStack (Stands w) stack vs) first.1.1 h.stands

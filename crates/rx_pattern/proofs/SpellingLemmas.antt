@@ -5,7 +5,7 @@ use Rattle.std.proofs.lemmas.Slice.Eq.{bytes_eq-Decides}
 use Rattle.rx_term.specs.Tree.{Tree, Trees, none, more, Int, Appl, Items, Hole, is_none}
 use Rattle.rx_term.proofs.TreeLemmas.{both_parts}
 use Rattle.rx_pattern.specs.Pattern.{Kind, AnyTerm, AnyInt, AnyStr, AnyAppl, AnyPlaceholder, AnyList, kind_named, kind_of, is_rest, is_list_kind, knows_placeholders, all_known, has_plain_placeholders, all_plain}
-use Rattle.rx_pattern.specs.Code.{Step, Number, Named, Listing, Holding, End, Item, Rest, code, code_of_all, Piece, One, Several, word_of, placeholder, joined, pieces}
+use Rattle.rx_pattern.specs.Code.{Step, Number, Named, Listing, Holding, End, Item, Rest, code, code_of_all, Piece, One, Several, word_of, placeholder, assembled, pieces}
 use Rattle.rx_pattern.specs.Nodes.{step_of, tree_of_nodes, AreNodes}
 use Rattle.rx_pattern.specs.declared.nodes.Node.{Node}
 
@@ -100,11 +100,11 @@ mutual
   pieces-code (Appl name quoted args anns) rest k h =
       let kk = both_parts _ _ k in
       let hh = both_parts _ _ h in
-      ap (joined (Named name quoted)) (pieces-code_of_all args (code_of_all anns rest) kk.0 hh.0 ∙ ap (λ (ps : List Piece). Several args ∷ ps) (pieces-code_of_all anns rest kk.1 hh.1))
+      ap (assembled (Named name quoted)) (pieces-code_of_all args (code_of_all anns rest) kk.0 hh.0 ∙ ap (λ (ps : List Piece). Several args ∷ ps) (pieces-code_of_all anns rest kk.1 hh.1))
   pieces-code (Items items anns) rest k h =
       let kk = both_parts _ _ k in
       let hh = both_parts _ _ h in
-      ap (joined Listing) (pieces-code_of_all items (code_of_all anns rest) kk.0 hh.0 ∙ ap (λ (ps : List Piece). Several items ∷ ps) (pieces-code_of_all anns rest kk.1 hh.1))
+      ap (assembled Listing) (pieces-code_of_all items (code_of_all anns rest) kk.0 hh.0 ∙ ap (λ (ps : List Piece). Several items ∷ ps) (pieces-code_of_all anns rest kk.1 hh.1))
   pieces-code (Hole inner anns) rest k h =
       let kk = both_parts _ _ k in
       let kind = some_kind (kind_of inner) kk.0 in
@@ -117,7 +117,7 @@ mutual
       let hh = both_parts _ _ h in
       elim (test_of (is_rest p ps)) [
         | inl r ↦ (let is = rest_is p ps r hh.0 in rw r (ap (λ (ts : Trees). Several ts ∷ pieces rest) (λ i. more (sym is.0 i) (sym is.1 i))))
-        | inr r ↦ rw r (ap (joined Item) (pieces-code p (code_of_all ps rest) kk.0 hh.0 ∙ ap (λ (qs : List Piece). One p ∷ qs) (pieces-code_of_all ps rest kk.1 hh.1)))
+        | inr r ↦ rw r (ap (assembled Item) (pieces-code p (code_of_all ps rest) kk.0 hh.0 ∙ ap (λ (qs : List Piece). One p ∷ qs) (pieces-code_of_all ps rest kk.1 hh.1)))
       ]
 
 -- ---- what is left
@@ -157,7 +157,7 @@ next_item t ts ps ns false r e = ((first_same e).1, r)
 nothing : {s : Step} {ns : List Step} → [] ≡ s ∷ ns → ⊥
 nothing e = cc
 
-next : (s : Step) (qs : List Piece) (ns : List Step) → spell (joined s qs) ≡ s ∷ ns → Next s qs ns
+next : (s : Step) (qs : List Piece) (ns : List Step) → spell (assembled s qs) ≡ s ∷ ns → Next s qs ns
 next (Number y) (Several anns ∷ ps) ns e = ((first_same e).1, tt)
 next (Named name quoted) (Several args ∷ Several anns ∷ ps) ns e = ((first_same e).1, tt)
 next Listing (Several items ∷ Several anns ∷ ps) ns e = ((first_same e).1, tt)

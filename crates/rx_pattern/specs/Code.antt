@@ -47,19 +47,19 @@ abbrev pub placeholder : Kind → Tree
 placeholder kind = Hole (Appl (word_of kind) false none none) none
 
 -- what a step makes of the pieces behind it
-abbrev pub joined : Step → List Piece → List Piece
-joined (Number z) (Several anns ∷ ps) = One (Int z anns) ∷ ps
-joined (Named name quoted) (Several args ∷ Several anns ∷ ps) = One (Appl name quoted args anns) ∷ ps
-joined Listing (Several items ∷ Several anns ∷ ps) = One (Items items anns) ∷ ps
-joined (Holding (Some kind)) ps = One (placeholder kind) ∷ ps
-joined End ps = Several none ∷ ps
-joined Item (One t ∷ Several ts ∷ ps) = Several (more t ts) ∷ ps
-joined Rest ps = Several (more (placeholder AnyList) none) ∷ ps
-joined _ ps = []
+abbrev pub assembled : Step → List Piece → List Piece
+assembled (Number z) (Several anns ∷ ps) = One (Int z anns) ∷ ps
+assembled (Named name quoted) (Several args ∷ Several anns ∷ ps) = One (Appl name quoted args anns) ∷ ps
+assembled Listing (Several items ∷ Several anns ∷ ps) = One (Items items anns) ∷ ps
+assembled (Holding (Some kind)) ps = One (placeholder kind) ∷ ps
+assembled End ps = Several none ∷ ps
+assembled Item (One t ∷ Several ts ∷ ps) = Several (more t ts) ∷ ps
+assembled Rest ps = Several (more (placeholder AnyList) none) ∷ ps
+assembled _ ps = []
 
 abbrev pub pieces : List Step → List Piece
 pieces [] = []
-pieces (s ∷ steps) = joined s (pieces steps)
+pieces (s ∷ steps) = assembled s (pieces steps)
 
 -- the tree, where there is just one
 abbrev pub only_tree : List Piece → Tree

@@ -9,7 +9,7 @@ ghost use Rattle.rx_term.specs.Store.{tree_at};
 ghost use Rattle.rx_term.specs.Steps.{Grows, IsBankRefusal};
 ghost use Rattle.rx_term.specs.Walks.{AllHeld, HaveTrees};
 ghost use Rattle.rx_pattern.specs.Filling.{filled, takes as takes_rest, Rest as RestSlot};
-ghost use Rattle.rx_pattern.specs.Code.{Piece, One, Several, joined};
+ghost use Rattle.rx_pattern.specs.Code.{Piece, One, Several, assembled};
 ghost use Rattle.rx_pattern.specs.Nodes.{step_of, tree_of_nodes, AreNodes};
 ghost use Rattle.rx_pattern.specs.Subjects.{OnStack, IsListed, Stands};
 ghost use Rattle.rx_pattern.specs.Making.{is_slot as is_slot_step, takes_as, slots_of_steps};
@@ -205,7 +205,7 @@ fn join<B: TermBank>(
     requires valid { IsValid (step_of node.now) }
     ensures made { OnOk result ((ps : List Piece)
         → OnStack (Stands (B.store bank.old)) made.old.items ps → HasParts (step_of node.now) ps
-        → OnStack (Stands (B.store bank.new)) made.new.items (joined (step_of node.now) ps)) }
+        → OnStack (Stands (B.store bank.new)) made.new.items (assembled (step_of node.now) ps)) }
     ensures refused { IfErr result (IsMakeRefusal (B.store bank.new)) }
     ensures grows { Grows (B.store bank.old) (B.store bank.new) }
 {

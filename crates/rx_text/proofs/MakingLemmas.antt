@@ -12,7 +12,7 @@ use Rattle.std.proofs.Math.Seq.{drop-cons}
 use Rattle.std.specs.List.{AllByRecursion}
 use Rattle.rx_term.specs.Walks.{HaveTrees}
 use Rattle.rx_text.specs.Machine.{onto}
-use Rattle.rx_text.specs.Nodes.{taken, newest, top, rest, needed, joined, trees_of, Enough}
+use Rattle.rx_text.specs.Nodes.{taken, newest, top, rest, needed, assembled, trees_of, Enough}
 use Rattle.rx_text.specs.Reader.{node_of, made_of, IsNode}
 use Rattle.rx_text.specs.Answer.{AreNodesOf}
 use Rattle.rx_text.specs.declared.nodes.Node.{Node}
@@ -148,11 +148,11 @@ pub begun : (w : Store) (bytes : List ℕ) (rs : List Term) (all : List Node) (t
 begun w bytes rs all t e a = record { trees = []; held = rw e tt; same = refl; enough = a.enough; names = a.names }
 
 -- one node more
-pub turn : (w v : Store) (bytes : List ℕ) (rs after : List Term) (all left others : List Node) (n : Node) → left ≡ n ∷ others → UnderWay w bytes rs all left → ((trees : List Tree) → Holds w rs trees → Holds v after (joined (node_of bytes n) trees)) → UnderWay v bytes after all others
+pub turn : (w v : Store) (bytes : List ℕ) (rs after : List Term) (all left others : List Node) (n : Node) → left ≡ n ∷ others → UnderWay w bytes rs all left → ((trees : List Tree) → Holds w rs trees → Holds v after (assembled (node_of bytes n) trees)) → UnderWay v bytes after all others
 turn w v bytes rs after all left others n e u made =
     let enough = rw e at u.enough in
     let names = rw e at u.names in
-    record { trees = joined (node_of bytes n) u.trees; held = made u.trees u.held; same = rw e at u.same; enough = enough.1; names = names.1 }
+    record { trees = assembled (node_of bytes n) u.trees; held = made u.trees u.held; same = rw e at u.same; enough = enough.1; names = names.1 }
 
 pub turn_needs : (w : Store) (bytes : List ℕ) (rs : List Term) (all left others : List Node) (n : Node) → left ≡ n ∷ others → UnderWay w bytes rs all left → ((trees : List Tree) × Holds w rs trees × (needed (node_of bytes n) ≤ length trees)) × IsNode bytes n
 turn_needs w bytes rs all left others n e u =

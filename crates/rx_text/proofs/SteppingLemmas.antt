@@ -6,7 +6,7 @@ use Rattle.std.proofs.lemmas.Int.{to_z-of_z}
 use Rattle.std.proofs.lemmas.Bool.Decides.{nat_tests}
 use Rattle.rx_term.specs.Tree.{Tree, none, Int, Appl, annotated, is_i32}
 use Rattle.rx_text.specs.Nodes as nodes
-use Rattle.rx_text.specs.Nodes.{Number, Application, Listing, Holding, Annotating, taken, newest, top, rest, needed, joined, trees_of, Enough}
+use Rattle.rx_text.specs.Nodes.{Number, Application, Listing, Holding, Annotating, taken, newest, top, rest, needed, assembled, trees_of, Enough}
 use Rattle.rx_text.specs.Machine as machine
 use Rattle.rx_text.specs.Machine.{State, onto}
 use Rattle.rx_text.specs.Token as token
@@ -25,13 +25,13 @@ use Rattle.rx_text.specs.declared.reader.Due.TheVariants.{Term, Named, Body, Who
 
 -- ---- nodes
 
-trees-push : (made : List Tree) (ns : List nodes.Node) (n : nodes.Node) → trees_of made (ns ++ n ∷ []) ≡ joined n (trees_of made ns)
+trees-push : (made : List Tree) (ns : List nodes.Node) (n : nodes.Node) → trees_of made (ns ++ n ∷ []) ≡ assembled n (trees_of made ns)
 trees-push made [] n = refl
-trees-push made (m ∷ ns) n = trees-push (joined m made) ns n
+trees-push made (m ∷ ns) n = trees-push (assembled m made) ns n
 
 Enough-push : (made : List Tree) (ns : List nodes.Node) (n : nodes.Node) → Enough made ns → needed n ≤ length (trees_of made ns) → Enough made (ns ++ n ∷ [])
 Enough-push made [] n h le = (le, tt)
-Enough-push made (m ∷ ns) n h le = (h.0, Enough-push (joined m made) ns n h.1 le)
+Enough-push made (m ∷ ns) n h le = (h.0, Enough-push (assembled m made) ns n h.1 le)
 
 nodes-push : (bytes : List ℕ) (ns : List Node) (n : Node) → map (node_of bytes) (ns ++ n ∷ []) ≡ map (node_of bytes) ns ++ node_of bytes n ∷ []
 nodes-push bytes [] n = refl
@@ -45,7 +45,7 @@ length-rest : (made : List Tree) → length (rest made) ≡ length made - 1
 length-rest [] = refl
 length-rest (t ∷ made) = omega arith
 
-pub length-joined : (n : nodes.Node) (made : List Tree) → needed n ≤ length made → length (joined n made) + needed n ≡ length made + 1
+pub length-joined : (n : nodes.Node) (made : List Tree) → needed n ≤ length made → length (assembled n made) + needed n ≡ length made + 1
 length-joined (Number z) made h = omega arith
 length-joined (Application name quoted k) made h = omega (arith, length-drop k made)
 length-joined (Listing k) made h = omega (arith, length-drop k made)
@@ -53,7 +53,7 @@ length-joined Holding made h = omega (arith, length-rest made)
 length-joined (Annotating k) made h = omega (arith, length-drop k made, length-rest (drop k made))
 
 -- each node makes one tree at most
-length-one : (n : nodes.Node) (made : List Tree) → length (joined n made) ≤ length made + 1
+length-one : (n : nodes.Node) (made : List Tree) → length (assembled n made) ≤ length made + 1
 length-one (Number z) made = omega arith
 length-one (Application name quoted k) made = omega (arith, length-drop k made)
 length-one (Listing k) made = omega (arith, length-drop k made)
@@ -62,7 +62,7 @@ length-one (Annotating k) made = omega (arith, length-drop k made, length-rest (
 
 length-trees : (made : List Tree) (ns : List nodes.Node) → length (trees_of made ns) ≤ length made + length ns
 length-trees made [] = omega arith
-length-trees made (n ∷ ns) = omega (arith, length-trees (joined n made) ns, length-one n made)
+length-trees made (n ∷ ns) = omega (arith, length-trees (assembled n made) ns, length-one n made)
 
 pub All-push : {X : Type 0} (P : X → Type 0) (xs : List X) (x : X) → AllByRecursion P xs → P x → AllByRecursion P (xs ++ x ∷ [])
 All-push P [] x h p = (p, tt)
@@ -72,16 +72,16 @@ All-front : {X : Type 0} (P : X → Type 0) (xs : List X) (x : X) → AllByRecur
 All-front P [] x h = (tt, h.0)
 All-front P (y ∷ ys) x h = let k = All-front P ys x h.1 in ((h.0, k.0), k.1)
 
-made-push : (bytes : List ℕ) (ns : List Node) (n : Node) → made_of bytes (ns ++ n ∷ []) ≡ joined (node_of bytes n) (made_of bytes ns)
+made-push : (bytes : List ℕ) (ns : List Node) (n : Node) → made_of bytes (ns ++ n ∷ []) ≡ assembled (node_of bytes n) (made_of bytes ns)
 made-push bytes ns n = rw nodes-push (trees-push [] (map (node_of bytes) ns) (node_of bytes n))
 
 -- a node more, with the trees that it takes before it
 pub add_node : (bytes : List ℕ) (k l : ℕ) (frames : List Frame) (ns after : List Node) (n : Node) → after ≡ ns ++ n ∷ [] → IsStack bytes k frames ns → IsNode bytes n → needed (node_of bytes n) ≤ k → l + needed (node_of bytes n) ≡ k + 1
-    → (made_of bytes after ≡ joined (node_of bytes n) (made_of bytes ns)) × IsStack bytes l frames after
+    → (made_of bytes after ≡ assembled (node_of bytes n) (made_of bytes ns)) × IsStack bytes l frames after
 add_node bytes k l frames ns after n e s name takes left =
     let count = s.counted in
     let fits : needed (node_of bytes n) ≤ length (made_of bytes ns) = omega (arith, count) in
-    let made : made_of bytes after ≡ joined (node_of bytes n) (made_of bytes ns) = rw e (made-push bytes ns n) in (
+    let made : made_of bytes after ≡ assembled (node_of bytes n) (made_of bytes ns) = rw e (made-push bytes ns n) in (
       made,
       record {
         enough = rw (e, nodes-push) (Enough-push [] (map (node_of bytes) ns) (node_of bytes n) s.enough fits);

@@ -40,17 +40,17 @@ needed Holding = 1
 needed (Annotating k) = k + 1
 
 -- the tree that a node makes, in place of those that it takes
-abbrev pub joined : Node → List Tree → List Tree
-joined (Number z) made = Int z none ∷ made
-joined (Application name quoted k) made = Appl name quoted (newest k made) none ∷ drop k made
-joined (Listing k) made = Items (newest k made) none ∷ drop k made
-joined Holding made = Hole (top made) none ∷ rest made
-joined (Annotating k) made = annotated (top (drop k made)) (newest k made) ∷ rest (drop k made)
+abbrev pub assembled : Node → List Tree → List Tree
+assembled (Number z) made = Int z none ∷ made
+assembled (Application name quoted k) made = Appl name quoted (newest k made) none ∷ drop k made
+assembled (Listing k) made = Items (newest k made) none ∷ drop k made
+assembled Holding made = Hole (top made) none ∷ rest made
+assembled (Annotating k) made = annotated (top (drop k made)) (newest k made) ∷ rest (drop k made)
 
 abbrev pub trees_of : List Tree → List Node → List Tree
 trees_of made [] = made
-trees_of made (n ∷ ns) = trees_of (joined n made) ns
+trees_of made (n ∷ ns) = trees_of (assembled n made) ns
 
 abbrev pub Enough : List Tree → List Node → Type 0
 Enough made [] = Unit {0}
-Enough made (n ∷ ns) = (needed n ≤ length made) × Enough (joined n made) ns
+Enough made (n ∷ ns) = (needed n ≤ length made) × Enough (assembled n made) ns

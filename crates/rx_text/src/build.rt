@@ -5,7 +5,7 @@ ghost use Rattle.rx_term.specs.Tree.{Tree, list_of};
 ghost use Rattle.rx_term.specs.Store.{tree_at, signature_of};
 ghost use Rattle.rx_term.specs.Steps.{Grows, IsBankRefusal};
 ghost use Rattle.rx_text.specs.Lexemes.{name_of, IsWord};
-ghost use Rattle.rx_text.specs.Nodes.{newest, needed, joined};
+ghost use Rattle.rx_text.specs.Nodes.{newest, needed, assembled};
 ghost use Rattle.rx_text.specs.Reader.{node_of, IsNode};
 ghost use Rattle.rx_text.specs.Answer.{AreNodesOf};
 ghost use Rattle.rx_text.specs.Held.{Holds, IsRefusal};
@@ -72,7 +72,7 @@ fn make<B: TermBank>(
     requires name { IsNode bytes.now node }
     ensures made { IfOk result (λ r. (trees : List Tree)
         → Holds (B.store bank.old) made.old.items trees → Holds (B.store bank.new)
-        (made.new.items ++ r ∷ []) (joined (node_of bytes.now node) trees)) }
+        (made.new.items ++ r ∷ []) (assembled (node_of bytes.now node) trees)) }
     ensures refused { IfErr result (IsRefusal (B.store bank.new)) }
     ensures grows { Grows (B.store bank.old) (B.store bank.new) }
 {
