@@ -17,6 +17,7 @@ pub mod WriteLemmas
 pub mod KnownLemmas
 pub mod RuleLemmas
 pub mod DirectLemmas
+pub mod MarkLemmas
 pub mod BuildTurnLemmas
 pub mod ValueTurnLemmas
 pub mod ConstantTurnLemmas

@@ -4,6 +4,7 @@ use Rattle.rec_engine.specs.declared.code.Code.{Code}
 use Rattle.rec_engine.specs.Written.{IsDirect}
 use Rattle.rec_engine.proofs.DirectLemmas.{code-direct}
 use Rattle.rec_engine.proofs.JoinLemmas.{direct-joined}
+use Rattle.rec_engine.proofs.MarkLemmas.{code-marked}
 use Rattle.rec_match.specs.Placed.{ArePlaces}
 use Rattle.rec_engine.proofs.RuleLemmas.{can-compile, rows-first, rows-next, rows-code}
 use Rattle.rec_engine.proofs.code.Code.new.Goals as goal
@@ -28,8 +29,10 @@ returns-clause-code c =
     let made : Code = record { matcher = c.in_ok-matcher.matcher; links = c.args.links; starts = c.loop-rule.starts; ops = c.loop-rule.written } in
     let are = subst (λ xs. Pairwise (IsDirect c.in_ok-matcher.matcher) xs c.in_ok-ops.ops.items) c.deref.ensures.value c.in_ok-ops.ensures.direct in
     let joins = c.in_ok-join_runs.ensures in
-    code-direct c.args.checked.now.spec made _ refl refl refl (direct-joined c.in_ok-matcher.matcher made.ops.items c.in_ok-ops.ops.items c.join_runs.new.ops.items are joins.like) (joins.runs c.in_ok-ops.ensures.runs)
-    (rows-code c.args.checked.now.spec c.rules-rules.ensures.kept made c.rules-rules.result.now c.loop-rule.rule c.in_ok-matcher.ensures c.rules-rules.ensures.letters c.loop-rule.invariant.rows (omega (arith, t, e)))
+    let joined : Code = record { matcher = c.in_ok-matcher.matcher; links = c.args.links; starts = c.loop-rule.starts; ops = c.join_runs.new.ops } in
+    code-marked c.args.checked.now.spec joined _ refl refl refl c.mark_last_calls.ensures
+    (code-direct c.args.checked.now.spec made joined refl refl refl (direct-joined c.in_ok-matcher.matcher made.ops.items c.in_ok-ops.ops.items c.join_runs.new.ops.items are joins.like) (joins.runs c.in_ok-ops.ensures.runs)
+    (rows-code c.args.checked.now.spec c.rules-rules.ensures.kept made c.rules-rules.result.now c.loop-rule.rule c.in_ok-matcher.ensures c.rules-rules.ensures.letters c.loop-rule.invariant.rows (omega (arith, t, e))))
 
 pub loop-rule-init : goal.loop-rule-init
 loop-rule-init c = record {
