@@ -33,6 +33,17 @@ given_first-new g name number other e = by_bytes (bytes_eq name other) refl (g o
     by_bytes false is (Some k) at = refl
     by_bytes false is None at = refl
 
+-- a name that had a number keeps it, where a map puts another one in its place and then its own
+pub given_first-again : (g : Numbers) (name : List ℕ) (number first : ℕ) (other : List ℕ) → g name ≡ Some first → cond (bytes_eq name other) (Some first) (cond (bytes_eq name other) (Some number) (g other)) ≡ given_first g name number other
+given_first-again g name number first other e = by_bytes (bytes_eq name other) refl (g other) refl
+  where
+    by_bytes : (b : Bool) → bytes_eq name other ≡ b → (o : Option ℕ) → g other ≡ o
+        → ◌≡◌ {A = Option ℕ} (cond b (Some first) (cond b (Some number) o)) (elim o [ Some k ↦ Some k | None ↦ elim b [ true ↦ Some number | false ↦ None ] ])
+    by_bytes true is (Some k) at = sym e ∙ ap g (bytes_eq-eq name other is) ∙ at
+    by_bytes true is None at = absurd (cc (sym at ∙ ap g (sym (bytes_eq-eq name other is)) ∙ e))
+    by_bytes false is (Some k) at = refl
+    by_bytes false is None at = refl
+
 -- the parts of a term to evaluate make its places
 pub open_term_places-parts : (s : Scope) (t : Term) (p : TermPlaces) (free : Option ℕ) → p ≡ term_places s t → free ≡ unbound_among (λ _. false) (letters_of s t) → joined p (record nowhere { free = free }) ≡ open_term_places s t
 open_term_places-parts s t p free ep ef = λ i. joined (ep i) (record nowhere { free = ef i })

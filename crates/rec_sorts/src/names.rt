@@ -35,10 +35,12 @@ impl<'a> Names<'a> {
         ensures given { OnOk result
             (given_to self.new ≡ given_first (given_to self.old) name.entry.now number) }
     {
-        if self.number(name).is_some() {
-            return Ok(false);
+        match self.numbers.insert(name, number)? {
+            None => Ok(true),
+            Some(first) => {
+                self.numbers.insert(name, first)?;
+                Ok(false)
+            }
         }
-        self.numbers.insert(name, number)?;
-        Ok(true)
     }
 }
