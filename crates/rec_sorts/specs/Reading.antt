@@ -16,7 +16,6 @@ use Rattle.rec_sorts.specs.declared.letters.Meaning.TheVariants.{Variable}
 use Rattle.rec_sorts.specs.declared.places.TermPlaces.{TermPlaces}
 use Rattle.rec_sorts.specs.declared.scope.Scope.{Scope}
 use Rattle.rec_sorts.specs.declared.terms.Placed.{Placed}
-use Rattle.rec_sorts.specs.declared.terms.ReadTerm.{ReadTerm}
 
 -- the letters of a term
 abbrev pub letters_of : Scope → Term → List Placed
@@ -34,10 +33,10 @@ term_places s t = record nowhere {
   ill_sorted = ill_sorted_among s [] (letters_of s t);
 }
 
--- a term was read
-pub record IsReadTerm (s : Scope) (t : Term) (r : ReadTerm) : Type 0 where
-  pub letters_read : r.letters.items ≡ letters_of s t
-  pub places_read : r.places ≡ term_places s t
+-- a term was read: these are its letters, and where it breaks a rule by itself
+pub record IsReadTerm (s : Scope) (t : Term) (ls : List Placed) (p : TermPlaces) : Type 0 where
+  pub letters_read : ls ≡ letters_of s t
+  pub places_read : p ≡ term_places s t
 
 -- the last of some letters
 abbrev pub last_letter : List Placed → Option Placed

@@ -1,19 +1,18 @@
 //! The rules and terms of a specification: heads, sides and variables.
 
-ghost use Rattle.std.specs.Prelude.{◌≡◌, ℕ, All, IfOk, false, map, nat_eq};
-ghost use Rattle.std.specs.HashSet.{contains};
+ghost use Rattle.std.specs.Prelude.{◌≡◌, All, IfOk, false, map};
 ghost use Rattle.rec_syntax.specs.Parts.{IsTerm, IsRule, IsCondition, term_of, condition_of};
 ghost use Rattle.rec_syntax.specs.Parts.{rule_of};
 ghost use Rattle.rec_sorts.specs.Numbering.{Pairwise};
 ghost use Rattle.rec_sorts.specs.Reading.{binds_variable, is_unbound, unbound_among};
 
+use crate::bound::Bound;
 use crate::letters::{Letter, LetterCondition, LetterRule, Meaning};
 use crate::places::{TermPlaces, earlier, place_where};
 use crate::scope::Scope;
-use crate::terms::{Placed, bare_letters};
+use crate::terms::{Placed, Room, bare_letters};
 use rec_syntax::{Condition, Rule, Term};
 use std::alloc::{AllocError, Global};
-use std::collections::HashSet;
 
 /// The letters of rules or terms, and the least places at which they break rules.
 #[derive(Drop)]
@@ -22,39 +21,13 @@ pub struct Read<T> {
     pub places: TermPlaces,
 }
 
-/// The variables among some letters.
-fn variables(alloc: Global, letters: &[Placed]) -> Result<HashSet<u32>, AllocError>
-    ensures { IfOk result (λ set. (v : ℕ) → contains nat_eq set v ≡ binds_variable letters.now v) }
-{
-    let mut variables = HashSet::new(alloc);
-    for placed in letters {
-        if let Some(Meaning::Variable(number)) = placed.meaning {
-            variables.insert(number)?;
-        }
-    }
-    Ok(variables)
-}
-
-/// Whether a word is a variable that is not bound.
-fn is_unbound(meaning: Option<Meaning>, bound: &HashSet<u32>) -> bool
-    ensures { result ≡ is_unbound (contains nat_eq bound.now) meaning }
-{
-    match meaning {
-        Some(Meaning::Variable(number)) => !bound.contains(&number),
-        _ => false,
-    }
-}
-
 /// The least place of a variable that is not bound.
-fn unbound(letters: &[Placed], bound: &HashSet<u32>) -> Option<u32>
-    ensures { result ≡ unbound_among (contains nat_eq bound.now) letters.now }
+fn unbound(letters: &[Placed], bound: &Bound) -> Option<u32>
+    ensures { result ≡ unbound_among (binds_variable bound.now.letters.now) letters.now }
 {
     let mut least = None;
     for placed in letters {
-        least = earlier(
-            least,
-            place_where(is_unbound(placed.meaning, bound), placed.at),
-        );
+        least = earlier(least, place_where(bound.lacks(placed.meaning), placed.at));
     }
     least
 }
@@ -106,31 +79,30 @@ impl Scope<'_> {
         &self,
         alloc: Global,
         condition: &Condition,
-        bound: &HashSet<u32>,
+        bound: &Bound,
+        room: &mut Room,
     ) -> Result<Read<LetterCondition>, AllocError>
         requires { IsCondition self.now.source.now condition.now }
         ensures letters { IfOk result (λ r.
             SpellsCondition self.now r.letters (condition_of self.now.source.now condition.now)) }
         ensures places { IfOk result (λ r. r.places ≡ condition_places self.now
-            (contains nat_eq bound.now) (condition_of self.now.source.now condition.now)) }
+            (binds_variable bound.now.letters.now)
+            (condition_of self.now.source.now condition.now)) }
     {
-        let left = self.term(alloc, &condition.left)?;
-        let right = self.term(alloc, &condition.right)?;
+        let left = self.term(&condition.left, &mut room.left, &mut room.heads)?;
+        let right = self.term(&condition.right, &mut room.right, &mut room.heads)?;
         let own = TermPlaces {
-            unlike: self.unlike(&left.letters, &right.letters),
-            unbound: earlier(
-                unbound(&left.letters, bound),
-                unbound(&right.letters, bound),
-            ),
+            unlike: self.unlike(&room.left, &room.right),
+            unbound: earlier(unbound(&room.left, bound), unbound(&room.right, bound)),
             ..TermPlaces::NONE
         };
         Ok(Read {
             letters: LetterCondition {
-                left: bare_letters(alloc, &left.letters)?,
-                right: bare_letters(alloc, &right.letters)?,
+                left: bare_letters(alloc, &room.left)?,
+                right: bare_letters(alloc, &room.right)?,
                 equal: condition.equal,
             },
-            places: left.places.join(right.places).join(own),
+            places: left.join(right).join(own),
         })
     }
 
@@ -139,53 +111,59 @@ impl Scope<'_> {
         &self,
         alloc: Global,
         conditions: &[Condition],
-        bound: &HashSet<u32>,
+        bound: &Bound,
+        room: &mut Room,
     ) -> Result<Read<Vec<LetterCondition>>, AllocError>
         requires { All (IsCondition self.now.source.now) conditions.now }
         ensures letters { IfOk result (λ r. Pairwise (SpellsCondition self.now) r.letters.items
             (map (condition_of self.now.source.now) conditions.now)) }
         ensures places { IfOk result (λ r. r.places ≡ conditions_places self.now
-            (contains nat_eq bound.now) (map (condition_of self.now.source.now) conditions.now)) }
+            (binds_variable bound.now.letters.now)
+            (map (condition_of self.now.source.now) conditions.now)) }
     {
         let mut letters = Vec::new(alloc);
         let mut places = TermPlaces::NONE;
         for condition in conditions {
-            let read = self.condition(alloc, condition, bound)?;
+            let read = self.condition(alloc, condition, bound, room)?;
             letters.push(read.letters)?;
             places = places.join(read.places);
         }
         Ok(Read { letters, places })
     }
 
-    /// A rule.
-    fn rule(&self, alloc: Global, rule: &Rule) -> Result<Read<LetterRule>, AllocError>
+    /// A rule, whose left side's letters take the place of what `left` held.
+    fn rule(
+        &self,
+        alloc: Global,
+        rule: &Rule,
+        left: &mut Vec<Placed>,
+        room: &mut Room,
+    ) -> Result<Read<LetterRule>, AllocError>
         requires { IsRule self.now.source.now rule.now }
         ensures letters { IfOk result
             (λ r. SpellsRule self.now r.letters (rule_of self.now.source.now rule.now)) }
         ensures places { IfOk result
             (λ r. r.places ≡ rule_places self.now (rule_of self.now.source.now rule.now)) }
     {
-        let left = self.term(alloc, &rule.left)?;
-        let right = self.term(alloc, &rule.right)?;
-        let bound = variables(alloc, &left.letters)?;
-        let conditions = self.conditions(alloc, &rule.conditions, &bound)?;
+        let of_left = self.term(&rule.left, left, &mut room.heads)?;
+        let of_right = self.term(&rule.right, &mut room.right, &mut room.heads)?;
+        let left = left.as_slice();
+        let bound = Bound::by(alloc, left)?;
         let own = TermPlaces {
-            ill_headed: self.ill_headed(&left.letters),
-            unlike: self.unlike(&left.letters, &right.letters),
-            unbound: unbound(&right.letters, &bound),
+            ill_headed: self.ill_headed(left),
+            unlike: self.unlike(left, &room.right),
+            unbound: unbound(&room.right, &bound),
             ..TermPlaces::NONE
         };
+        let right = bare_letters(alloc, &room.right)?;
+        let conditions = self.conditions(alloc, &rule.conditions, &bound, room)?;
         Ok(Read {
             letters: LetterRule {
-                left: bare_letters(alloc, &left.letters)?,
-                right: bare_letters(alloc, &right.letters)?,
+                left: bare_letters(alloc, left)?,
+                right,
                 conditions: conditions.letters,
             },
-            places: left
-                .places
-                .join(right.places)
-                .join(own)
-                .join(conditions.places),
+            places: of_left.join(of_right).join(own).join(conditions.places),
         })
     }
 
@@ -199,8 +177,10 @@ impl Scope<'_> {
     {
         let mut letters = Vec::with_capacity(alloc, rules.len())?;
         let mut places = TermPlaces::NONE;
+        let mut left = Vec::new(alloc);
+        let mut room = Room::new(alloc);
         for rule in rules {
-            let read = self.rule(alloc, rule)?;
+            let read = self.rule(alloc, rule, &mut left, &mut room)?;
             letters.push(read.letters)?;
             places = places.join(read.places);
         }
@@ -217,14 +197,15 @@ impl Scope<'_> {
     {
         let mut letters = Vec::with_capacity(alloc, terms.len())?;
         let mut places = TermPlaces::NONE;
+        let mut room = Room::new(alloc);
         for term in terms {
-            let read = self.term(alloc, term)?;
+            let read = self.term(term, &mut room.left, &mut room.heads)?;
             let own = TermPlaces {
-                free: first_variable(&read.letters),
+                free: first_variable(&room.left),
                 ..TermPlaces::NONE
             };
-            letters.push(bare_letters(alloc, &read.letters)?)?;
-            places = places.join(read.places).join(own);
+            letters.push(bare_letters(alloc, &room.left)?)?;
+            places = places.join(read).join(own);
         }
         Ok(Read { letters, places })
     }

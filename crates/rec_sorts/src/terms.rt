@@ -1,6 +1,6 @@
 //! The words of a term: what they stand for, how many arguments they have, and the sorts of these.
 
-ghost use Rattle.std.specs.Prelude.{◌≡◌, [], IfOk, All, map};
+ghost use Rattle.std.specs.Prelude.{◌≡◌, [], IfOk, OnOk, All, map};
 ghost use Rattle.rec_syntax.specs.Parts.{Within, IsTerm, node_of, term_of};
 ghost use Rattle.rec_sorts.specs.Letters.{bare, unknown_among};
 
@@ -19,11 +19,24 @@ pub struct Placed {
     pub at: u32,
 }
 
-/// A term's letters, those of its arguments before its own, and where it breaks a rule.
+/// Room for the letters of two terms and for the heads of a term's arguments, which is used again
+/// for each term.
 #[derive(Drop)]
-pub struct ReadTerm {
-    pub letters: Vec<Placed>,
-    pub places: TermPlaces,
+pub struct Room {
+    pub left: Vec<Placed>,
+    pub right: Vec<Placed>,
+    pub heads: Vec<Placed>,
+}
+
+impl Room {
+    /// Room that holds nothing yet.
+    pub fn new(alloc: Global) -> Room {
+        Room {
+            left: Vec::new(alloc),
+            right: Vec::new(alloc),
+            heads: Vec::new(alloc),
+        }
+    }
 }
 
 /// The letters without their places; a word that is not declared becomes the symbol 0.
@@ -55,13 +68,13 @@ impl Scope<'_> {
     ghost use Rattle.rec_sorts.specs.Letters.{ill_sorted_among};
     ghost use Rattle.rec_sorts.specs.Reading.{IsReadTerm};
 
-    /// The letters of a term's words.
-    fn letters(&self, alloc: Global, nodes: &[Node]) -> Result<Vec<Placed>, AllocError>
+    /// The letters of a term's words, in place of what the vector held.
+    fn letters(&self, nodes: &[Node], letters: &mut Vec<Placed>) -> Result<(), AllocError>
         requires { All (λ n. Within self.now.source.now n.word) nodes.now }
-        ensures { IfOk result (λ v.
-            v.items ≡ map (placed_by self.now) (map (node_of self.now.source.now) nodes.now)) }
+        ensures { OnOk result (letters.new.items
+            ≡ map (placed_by self.now) (map (node_of self.now.source.now) nodes.now)) }
     {
-        let mut letters = Vec::with_capacity(alloc, nodes.len())?;
+        letters.clear();
         for node in nodes {
             letters.push(Placed {
                 meaning: self.meaning(self.word(node.word)),
@@ -69,7 +82,7 @@ impl Scope<'_> {
                 at: number(node.word.from)?,
             })?;
         }
-        Ok(letters)
+        Ok(())
     }
 
     /// The least place of a word with another number of arguments than declared.
@@ -98,10 +111,14 @@ impl Scope<'_> {
 
     /// The least place of an argument with another sort than declared, by a stack of the heads of
     /// the terms so far.
-    fn ill_sorted(&self, alloc: Global, letters: &[Placed]) -> Result<Option<u32>, AllocError>
+    fn ill_sorted(
+        &self,
+        letters: &[Placed],
+        heads: &mut Vec<Placed>,
+    ) -> Result<Option<u32>, AllocError>
         ensures { IfOk result (λ least. least ≡ ill_sorted_among self.now [] letters.now) }
     {
-        let mut heads: Vec<Placed> = Vec::new(alloc);
+        heads.clear();
         let mut least = None;
         for placed in letters {
             let base = heads.len().saturating_sub(placed.count as usize);
@@ -113,21 +130,24 @@ impl Scope<'_> {
         Ok(least)
     }
 
-    /// The letters of a term, and where it breaks a rule by itself.
-    pub fn term(&self, alloc: Global, term: &Term) -> Result<ReadTerm, AllocError>
+    /// The letters of a term, in place of what the vector held, and where it breaks a rule by
+    /// itself.
+    pub fn term(
+        &self,
+        term: &Term,
+        letters: &mut Vec<Placed>,
+        heads: &mut Vec<Placed>,
+    ) -> Result<TermPlaces, AllocError>
         requires { IsTerm self.now.source.now term.now }
-        ensures { IfOk result (IsReadTerm self.now (term_of self.now.source.now term.now)) }
+        ensures { IfOk result (IsReadTerm self.now (term_of self.now.source.now term.now)
+            letters.new.items) }
     {
-        let letters = self.letters(alloc, term.nodes())?;
-        let unknown = unknown(&letters);
-        let ill_filled = self.ill_filled(&letters);
-        let ill_sorted = self.ill_sorted(alloc, &letters)?;
-        let places = TermPlaces {
-            unknown,
-            ill_filled,
-            ill_sorted,
+        self.letters(term.nodes(), letters)?;
+        Ok(TermPlaces {
+            unknown: unknown(letters),
+            ill_filled: self.ill_filled(letters),
+            ill_sorted: self.ill_sorted(letters, heads)?,
             ..TermPlaces::NONE
-        };
-        Ok(ReadTerm { letters, places })
+        })
     }
 }

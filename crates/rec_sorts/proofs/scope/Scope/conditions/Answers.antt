@@ -1,15 +1,13 @@
 use Rattle.std.proofs.Common.{arith, refl}
-use Rattle.std.specs.Prelude.{nat_eq}
-use Rattle.std.specs.HashSet.{contains}
 use Rattle.rec_syntax.specs.Parts.{condition_of}
-use Rattle.rec_sorts.specs.Reading.{SpellsCondition, condition_places, conditions_places}
+use Rattle.rec_sorts.specs.Reading.{binds_variable, SpellsCondition, condition_places, conditions_places}
 use Rattle.rec_sorts.proofs.TurnLemmas.{Pairwise_turn, places_turn}
 use Rattle.rec_sorts.proofs.scope.Scope.conditions.Goals as goal
 
 pub loop-condition-preserved : goal.loop-condition-preserved
 loop-condition-preserved c =
     let s = c.args.self.now in
-    let bound = contains nat_eq c.args.bound.now in
+    let bound = binds_variable c.args.bound.now.letters.now in
     record {
       letters = Pairwise_turn (SpellsCondition s) (condition_of s.source.now) c.args.conditions.now c.loop-condition.condition-index c.condition-item.result c.loop-condition.letters.items c.push.new.self.items c.in_ok-read.read.letters
           (omega arith) c.condition-item.is c.in_ok-push.ensures.items c.loop-condition.invariant.letters c.in_ok-read.ensures.letters;

@@ -16,8 +16,8 @@ loop-term-preserved c =
     record {
       letters = Pairwise_turn (λ v t. SpellsTerm s v.items t) (term_of s.source.now) c.args.terms.now c.loop-term.term-index c.term-item.result c.loop-term.letters.items c.push.new.self.items c.in_ok-bare_letters.field-0
           (omega arith) c.term-item.is c.in_ok-push.ensures.items c.loop-term.invariant.letters (c.in_ok-bare_letters.ensures ∙ ap bare (c.deref-in-loop-term.ensures.value ∙ c.in_ok-read.ensures.letters_read));
-      places = places_turn (term_of s.source.now) (open_terms_places s) (open_term_places s) (λ y ys. refl) c.args.terms.now c.loop-term.term-index c.term-item.result c.loop-term.places (joined read.places own) c.join-places.result _
-          (omega arith) c.term-item.is (c.join-places.ensures ∙ ap (λ p. joined p own) c.join.ensures ∙ joined_assoc c.loop-term.places read.places own)
-          (open_term_places-parts s (term_of s.source.now c.term-item.result) read.places c.first_variable.result c.in_ok-read.ensures.places_read (c.first_variable.ensures ∙ ap (unbound_among (λ _. false)) (c.deref.ensures.value ∙ c.in_ok-read.ensures.letters_read)))
+      places = places_turn (term_of s.source.now) (open_terms_places s) (open_term_places s) (λ y ys. refl) c.args.terms.now c.loop-term.term-index c.term-item.result c.loop-term.places (joined read own) c.join-places.result _
+          (omega arith) c.term-item.is (c.join-places.ensures ∙ ap (λ p. joined p own) c.join.ensures ∙ joined_assoc c.loop-term.places read own)
+          (open_term_places-parts s (term_of s.source.now c.term-item.result) read c.first_variable.result c.in_ok-read.ensures.places_read (c.first_variable.ensures ∙ ap (unbound_among (λ _. false)) (c.deref.ensures.value ∙ c.in_ok-read.ensures.letters_read)))
           c.loop-term.invariant.places;
     }
