@@ -73,6 +73,16 @@ impl<T: Drop> From<AllocFailed<T>> for Stop {
     }
 }
 
+impl From<AllocError> for Stop {
+    ghost use Rattle.rec_syntax.specs.declared.reader.Stop.TheVariants.{Memory};
+
+    ghost from_gives = { λ _ e. e ≡ Memory };
+
+    fn from(_e: AllocError) -> Stop {
+        Stop::Memory
+    }
+}
+
 /// An open application, and how many arguments are read.
 #[derive(Drop)]
 pub struct Call {

@@ -3,7 +3,7 @@
 ghost use Rattle.std.specs.Prelude.{◌≡◌, []};
 ghost use Rattle.rec_syntax.specs.Lexemes.{IsToken};
 ghost use Rattle.rec_syntax.specs.Parts.{IsTerm, IsCondition, IsRule, AreSections};
-ghost use Rattle.rec_syntax.specs.Reader.{IsAt, Steps, Completes};
+ghost use Rattle.rec_syntax.specs.Reader.{IsAt, IsRole, Steps, Completes};
 
 use super::{Call, Due, Reader, Role, Stop};
 use crate::lexer::{Kind, Part, Span};
@@ -103,7 +103,8 @@ impl Reader {
         }
     }
 
-    /// After a whole term that is no argument.
+    /// After a whole term that is no argument: its nodes are copied, into as much room as they take,
+    /// so that the reader's own room serves the next term.
     fn complete(&mut self, token: Kind) -> Result<Due, Stop>
         requires state { IsAt Due.After self.old }
         requires alone { self.old.calls.items ≡ [] }
@@ -112,8 +113,19 @@ impl Reader {
             result self.new }
         ensures same { self.new.source ≡ self.old.source }
     {
-        let nodes = mem::replace(&mut self.nodes, Vec::new(self.alloc));
-        let term = Term { nodes };
+        let nodes = Vec::from_slice(self.alloc, &self.nodes)?;
+        self.completed(Term { nodes }, token)
+    }
+
+    /// After such a term, which is this one.
+    fn completed(&mut self, term: Term, token: Kind) -> Result<Due, Stop>
+        requires sections { AreSections self.old.source.items self.old.sections }
+        requires role { IsRole self.old.source.items self.old.role }
+        requires term { IsTerm self.old.source.items term }
+        requires token { IsToken self.old.source.items token }
+        ensures moves { Completes self.old.role term self.old token result self.new }
+        ensures same { self.new.source ≡ self.old.source }
+    {
         match mem::replace(&mut self.role, Role::Left) {
             Role::Left => self.after_left(term, token),
             Role::Right(left) => self.after_right(left, term, token),
