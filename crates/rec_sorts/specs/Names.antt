@@ -12,7 +12,7 @@ Numbers = List ℕ → Option ℕ
 
 -- the numbers that names are given
 abbrev pub given_to : Names → Numbers
-given_to names name = get_by (λ k. bytes_eq name k.now) names.numbers
+given_to names name = get_by (λ k. bytes_eq name k.bytes.now) names.numbers
 
 -- a name gets a number, unless it has one
 abbrev pub given_first : Numbers → List ℕ → ℕ → Numbers

@@ -1,14 +1,49 @@
 //! Names by their numbers.
 
-ghost use Rattle.std.specs.Prelude.{◌≡◌, None, IfOk, OnOk, is_none};
+ghost use Rattle.std.specs.Prelude.{◌≡◌, ◌∷◌, [], None, IfOk, OnOk, is_none, bytes_eq};
+ghost use Rattle.std.specs.Cmp.{on_per, on_equiv, partial_equiv_from_equiv};
+ghost use Rattle.std.specs.Cmp.Lexicographic.{bytes_decides, nat_list_eq_equiv};
+ghost use Rattle.std.proofs.Common.{ap};
 
 use indexmap::IndexMap;
 use std::alloc::{AllocError, Global};
+use std::hash::{Hash, Hasher};
+
+/// A name as a key: its bytes are hashed in one call, and not each by itself.
+#[derive(Clone, Copy, Drop)]
+pub struct Key<'a> {
+    bytes: &'a [u8],
+}
+
+impl PartialEq for Key<'_> {
+    ghost eq = { λ x y. bytes_eq x.bytes.now y.bytes.now };
+
+    ghost laws = { on_per (λ k. k.bytes.now) (partial_equiv_from_equiv nat_list_eq_equiv) };
+
+    fn eq(&self, other: &Self) -> bool {
+        self.bytes == other.bytes
+    }
+}
+
+impl Eq for Key<'_> {
+    ghost laws = { on_equiv (λ k. k.bytes.now) nat_list_eq_equiv };
+}
+
+impl Hash for Key<'_> {
+    ghost hash_input = { λ k. k.bytes.now ∷ [] };
+
+    ghost respects_eq = { λ x y same.
+        ap (λ bytes. bytes ∷ []) ((bytes_decides x.bytes.now y.bytes.now).0 same) };
+
+    fn hash<H: Hasher>(&self, state: &mut H) {
+        state.write(self.bytes);
+    }
+}
 
 /// The names that have a number.
 #[derive(Drop)]
 pub struct Names<'a> {
-    numbers: IndexMap<&'a [u8], u32>,
+    numbers: IndexMap<Key<'a>, u32>,
 }
 
 impl<'a> Names<'a> {
@@ -26,7 +61,7 @@ impl<'a> Names<'a> {
     pub fn number(&self, name: &[u8]) -> Option<u32>
         ensures { result ≡ given_to self.now name.now }
     {
-        self.numbers.get(name).copied()
+        self.numbers.get(&Key { bytes: name }).copied()
     }
 
     /// Gives a name this number, unless it has one already; answers whether it had none.
@@ -35,10 +70,11 @@ impl<'a> Names<'a> {
         ensures given { OnOk result
             (given_to self.new ≡ given_first (given_to self.old) name.entry.now number) }
     {
-        match self.numbers.insert(name, number)? {
+        let key = Key { bytes: name };
+        match self.numbers.insert(key, number)? {
             None => Ok(true),
             Some(first) => {
-                self.numbers.insert(name, first)?;
+                self.numbers.insert(key, first)?;
                 Ok(false)
             }
         }
