@@ -1,10 +1,10 @@
 -- Least places: their laws, and the first rule with a place.
 use Rattle.std.proofs.Common.{refl, sym, ap, ◌∙◌, arith}
-use Rattle.std.specs.Prelude.{ℕ, ◌≡◌, List, [], ◌∷◌, ◌++◌, Option, Some, None, min, suc}
+use Rattle.std.specs.Prelude.{ℕ, ◌≡◌, ◌&&◌, Bool, true, false, is_none, List, [], ◌∷◌, ◌++◌, Option, Some, None, min, suc}
 use Rattle.rec_syntax.specs.Tokens.{Word}
 use Rattle.rec_sorts.specs.Lookup.{places}
 use Rattle.rec_sorts.specs.SpecRules.{Broken, Fault, first_broken, least}
-use Rattle.rec_sorts.specs.Least.{earlier, least_place, joined}
+use Rattle.rec_sorts.specs.Least.{earlier, least_place, is_nowhere, joined}
 use Rattle.rec_sorts.specs.SortFaults.{first_place}
 use Rattle.rec_sorts.specs.Reading.{nowhere}
 use Rattle.rec_sorts.specs.declared.places.TermPlaces.{TermPlaces}
@@ -95,3 +95,32 @@ first_place-Agree number (b ∷ bs) (p ∷ ps) n a = by_words b.words refl (λ h
         ∙ ap first_of (sym e)
 first_place-Agree number [] (p ∷ ps) n a = absurd a
 first_place-Agree number (b ∷ bs) [] n a = absurd a
+
+both_true : (a b : Bool) → a && b ≡ true → (a ≡ true) × (b ≡ true)
+both_true true b e = (refl, e)
+both_true false b e = absurd (cc e)
+
+earlier_kept : (p o : Option ℕ) → is_none o ≡ true → earlier p o ≡ p
+earlier_kept p None e = earlier_none p
+earlier_kept p (Some k) e = absurd (cc e)
+
+-- places stay, where the others are none
+pub joined_kept : (p q : TermPlaces) → is_nowhere q ≡ true → joined p q ≡ p
+joined_kept p q e =
+    let two = is_none q.unknown && is_none q.ill_filled in
+    let four = two && is_none q.ill_sorted && is_none q.ill_headed in
+    let free = both_true (four && is_none q.unlike && is_none q.unbound) (is_none q.free) e in
+    let unbound = both_true (four && is_none q.unlike) (is_none q.unbound) free.0 in
+    let unlike = both_true four (is_none q.unlike) unbound.0 in
+    let headed = both_true (two && is_none q.ill_sorted) (is_none q.ill_headed) unlike.0 in
+    let sorted = both_true two (is_none q.ill_sorted) headed.0 in
+    let filled = both_true (is_none q.unknown) (is_none q.ill_filled) sorted.0 in
+    λ i. record {
+      unknown = earlier_kept p.unknown q.unknown filled.0 i;
+      ill_filled = earlier_kept p.ill_filled q.ill_filled filled.1 i;
+      ill_sorted = earlier_kept p.ill_sorted q.ill_sorted sorted.1 i;
+      ill_headed = earlier_kept p.ill_headed q.ill_headed headed.1 i;
+      unlike = earlier_kept p.unlike q.unlike unlike.1 i;
+      unbound = earlier_kept p.unbound q.unbound unbound.1 i;
+      free = earlier_kept p.free q.free free.1 i;
+    }

@@ -1,5 +1,5 @@
 -- The least of some places, none where there is no place.
-use Rattle.std.specs.Prelude.{ℕ, Bool, true, false, List, [], ◌∷◌, Option, Some, None, min}
+use Rattle.std.specs.Prelude.{ℕ, Bool, true, false, ◌&&◌, List, [], ◌∷◌, Option, Some, None, min, is_none}
 use Rattle.rec_syntax.specs.Tokens.{Word}
 use Rattle.rec_sorts.specs.declared.places.TermPlaces.{TermPlaces}
 
@@ -22,6 +22,10 @@ least_place ws = least_of (λ w. Some w.at) ws
 abbrev pub place_where : Bool → ℕ → Option ℕ
 place_where true at = Some at
 place_where false at = None
+
+-- no rule is broken
+abbrev pub is_nowhere : TermPlaces → Bool
+is_nowhere p = is_none p.unknown && is_none p.ill_filled && is_none p.ill_sorted && is_none p.ill_headed && is_none p.unlike && is_none p.unbound && is_none p.free
 
 -- the lesser place for each rule
 abbrev pub joined : TermPlaces → TermPlaces → TermPlaces

@@ -1,7 +1,7 @@
 //! The least places at which rules are broken.
 
 ghost use Rattle.std.specs.Prelude.{◌≡◌, IfOk};
-ghost use Rattle.rec_sorts.specs.Least.{earlier, place_where, joined};
+ghost use Rattle.rec_sorts.specs.Least.{earlier, place_where, is_nowhere, joined};
 
 use std::alloc::AllocError;
 
@@ -47,10 +47,26 @@ impl TermPlaces {
         free: None,
     };
 
-    /// The lesser place for each rule.
+    /// Whether no rule is broken.
+    fn is_nowhere(&self) -> bool
+        ensures { result ≡ is_nowhere self.now }
+    {
+        self.unknown.is_none()
+            && self.ill_filled.is_none()
+            && self.ill_sorted.is_none()
+            && self.ill_headed.is_none()
+            && self.unlike.is_none()
+            && self.unbound.is_none()
+            && self.free.is_none()
+    }
+
+    /// The lesser place for each rule; mostly the other has none.
     pub fn join(self, other: TermPlaces) -> TermPlaces
         ensures { result ≡ joined self other }
     {
+        if other.is_nowhere() {
+            return self;
+        }
         TermPlaces {
             unknown: earlier(self.unknown, other.unknown),
             ill_filled: earlier(self.ill_filled, other.ill_filled),

@@ -43,13 +43,14 @@ impl Room {
 pub fn bare_letters(alloc: Global, letters: &[Placed]) -> Result<Vec<Letter>, AllocError>
     ensures { IfOk result (λ v. v.items ≡ bare letters.now) }
 {
-    letters
-        .iter()
-        .map(|placed| Letter {
+    let mut kept = Vec::with_capacity(alloc, letters.len())?;
+    for placed in letters {
+        kept.push(Letter {
             meaning: placed.meaning.unwrap_or(Meaning::Symbol(0)),
             count: placed.count,
-        })
-        .collect(alloc)
+        })?;
+    }
+    Ok(kept)
 }
 
 /// The least place of a word that is not declared.
