@@ -1,6 +1,7 @@
 //! The places of variables among those of a rule.
 
-ghost use Rattle.std.specs.Prelude.{◌≡◌, ◌<◌, ◌++◌, ◌∷◌, [], List, All, IfOk, None, length, get_or, set};
+ghost use Rattle.std.specs.Prelude.{◌≡◌, ◌<◌, ◌++◌, ◌∷◌, [], List, All, IfOk, None};
+ghost use Rattle.std.specs.Prelude.{length, get_or, set};
 ghost use Rattle.rec_match.specs.Ordered.{in_order};
 ghost use Rattle.rec_match.specs.Placed.{IsPlace, ArePlaces, OnlyPlaced};
 

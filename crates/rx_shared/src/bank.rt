@@ -35,7 +35,9 @@ pub struct SharedBank {
     ghost chained: { length arena.chains ≡ 2 ^ bits },
     ghost tidy: { IsTidy arena },
     ghost distinct: { IsDistinct (heap_of arena) },
-    ghost whole: { Least (is_whole (heap_of arena) (table_of (symbols_of names)) arena.cap) } by { Least-prop (is_whole (heap_of arena) (table_of (symbols_of names)) arena.cap) },
+    ghost whole: { Least
+        (is_whole (heap_of arena) (table_of (symbols_of names)) arena.cap) } by { Least-prop
+            (is_whole (heap_of arena) (table_of (symbols_of names)) arena.cap) },
 }
 
 impl SharedBank {
