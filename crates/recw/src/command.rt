@@ -13,7 +13,7 @@ pub const MOST_CELLS: u32 = 1_073_741_824;
 pub const MOST_RESULTS: u32 = 1_048_576;
 
 /// The version, with the kit by which the program is proved.
-const VERSION: &str = "0.1.0, proved with rattle-kit-13b (logic dac8208d650f15bf)";
+const VERSION: &str = "0.1.0, proved with rattle-kit-13f (logic dac8208d650f15bf)";
 
 /// The command without the program's name before its words.
 pub fn command<'a>(alloc: Global) -> Result<Command<'a>, AllocError> {
