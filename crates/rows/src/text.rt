@@ -2,7 +2,9 @@ use rx_plain::PlainBank;
 use rx_shared::SharedBank;
 use rx_term::TermBank;
 use rx_text::TokenKind::*;
-use rx_text::{TextFault, TokenKind, WriteFault, expected_at_fault, read, write};
+use rx_text::{
+    RefusedWrite, TextFault, TokenKind, WriteFault, expected_at_fault, put, read, write,
+};
 use std::alloc::{AllocError, Global};
 use std::io;
 use std::io::Write;
@@ -199,6 +201,16 @@ fn a_writer_that_stops(rt: HostRuntime) -> Result<(), Fail> {
     let mut out = Small { left: 8 };
     assert!(rt; write(alloc, &bank, t, &mut out).is_ok());
     Ok(())
+}
+
+/// What has no room is refused; the empty text needs none.
+#[test]
+fn a_text_beyond_the_room(rt: HostRuntime) {
+    let mut out = Small { left: 3 };
+    assert!(rt; put(&mut out, b"abc").is_ok());
+    assert_eq!(rt; out.left, 0);
+    assert!(rt; put(&mut out, b"d") == Err(RefusedWrite));
+    assert!(rt; put(&mut out, b"").is_ok());
 }
 
 #[test]
