@@ -5,7 +5,6 @@ use Rattle.std.specs.Bool.{beq}
 use Rattle.std.specs.List.{list_any}
 use Rattle.std.proofs.lemmas.Bool.{eqb-true}
 use Rattle.std.proofs.lemmas.List.{append-nil}
-use Rattle.std.proofs.lemmas.List.Folds.{list_any-append}
 use Rattle.rx_term.specs.Name.{plain_name}
 use Rattle.rx_term.specs.Tree.{Tree, Trees, Appl, Int, Items, Hole, to_list, count_of}
 use Rattle.rec_syntax.specs.Tokens.{Word}
@@ -57,25 +56,6 @@ unbroken y ts h = λ i. first_passed 2 (h.applications i ∷ h.unannotated i ∷
 or_false : (a b : Bool) → a || b ≡ false → (a ≡ false) × (b ≡ false)
 or_false false b e = (refl, e)
 or_false true b e = absurd (cc e)
-
-any-parts : (p : Tree → Bool) (f : Tree → List Tree) (t : Tree) (ts : List Tree) → list_any p (flat_map f (t ∷ ts)) ≡ false → (list_any p (flat_map f (t ∷ [])) ≡ false) × (list_any p (flat_map f ts) ≡ false)
-any-parts p f t ts e =
-    let k = or_false (list_any p (f t)) (list_any p (flat_map f ts)) (sym (list_any-append p (f t) (flat_map f ts)) ∙ e) in
-    (ap (list_any p) (append-nil (f t)) ∙ k.0, k.1)
-
--- each element of a list of given terms that keeps the rules is ground
-pub elements-ground : (y : Spec) (ts : List Tree) → broken_by_elements y ts ≡ None → Every (IsGround y) ts
-elements-ground y [] e = tt
-elements-ground y (t ∷ ts) e =
-    let h = pass-none y (t ∷ ts) e in
-    let a = any-parts is_no_application nodes t ts h.applications in
-    let b = any-parts is_annotated (λ t. nodes_all (arguments t)) t ts h.unannotated in
-    let c = any-parts (is_undeclared y) nodes t ts h.declared in
-    let d = any-parts (is_ill_filled y) nodes t ts h.filled in
-    let s = any-parts (is_ill_sorted y) nodes t ts h.sorted in (
-      unbroken y (t ∷ []) (record { applications = a.0; unannotated = b.0; declared = c.0; filled = d.0; sorted = s.0 }),
-      elements-ground y ts (unbroken y ts (record { applications = a.1; unannotated = b.1; declared = c.1; filled = d.1; sorted = s.1 })),
-    )
 
 -- ---- the nodes of a ground tree
 

@@ -1,7 +1,7 @@
 -- Values are built of applications: each name is quoted just where it must be, and nothing has annotations.
-use Rattle.std.proofs.Common.{refl, sym, ap, subst}
+use Rattle.std.proofs.Common.{refl, subst}
 use Rattle.std.specs.Prelude.{ℕ, ◌≡◌, Bool, true, false, not, List, [], ◌∷◌, ◌++◌, Option, Some, None, bytes_eq}
-use Rattle.rx_term.specs.Tree.{Tree, Trees, Appl, Int, Items, Hole, none, more, tree_eq, annotated, annotations}
+use Rattle.rx_term.specs.Tree.{Tree, Trees, Appl, Int, Items, Hole, none, more, tree_eq, annotations}
 use Rattle.rx_term.specs.Name.{plain_name}
 use Rattle.rec_syntax.specs.Syntax.{Term, Terms, Apply, Spec, Rule}
 use Rattle.rec_sorts.specs.Lookup.{is_variable}
@@ -109,10 +109,3 @@ applied_unannotated (Appl name quoted args anns) h = h.1
 applied_unannotated (Int z anns) h = absurd h
 applied_unannotated (Items ts anns) h = absurd h
 applied_unannotated (Hole t anns) h = absurd h
-
--- such a tree has no annotations of its own to be replaced
-pub annotated-none : (t : Tree) → IsApplied t → annotated t none ≡ t
-annotated-none (Appl name quoted args anns) h = ap (Appl name quoted args) (sym h.1)
-annotated-none (Int z anns) h = absurd h
-annotated-none (Items ts anns) h = absurd h
-annotated-none (Hole t anns) h = absurd h

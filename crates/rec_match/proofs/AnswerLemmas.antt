@@ -13,7 +13,7 @@ use Rattle.rx_term.specs.declared.Kind.{Kind}
 use Rattle.rx_term.specs.declared.Kind.TheVariants as kind
 use Rattle.rx_term.specs.declared.Term.{Term}
 use Rattle.rx_term.specs.declared.Symbol as bank
-use Rattle.rx_term.specs.Walks.{AllHeld, held_tree, held_trees}
+use Rattle.rx_term.specs.Walks.{held_tree, held_trees}
 use Rattle.rec_syntax.specs.Syntax.{Spec, Rule, Apply}
 use Rattle.rec_syntax.specs.Syntax as X
 use Rattle.rec_sorts.specs.Lookup.{symbols, count, is_variable}

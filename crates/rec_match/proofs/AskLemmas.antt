@@ -1,7 +1,6 @@
 -- A test of a reference answers as its letter does of the reference's tree.
 use Rattle.std.proofs.Math.ListN.{drop_of_length-le}
 use Rattle.std.specs.Prelude.{All}
-use Rattle.std.proofs.lemmas.List.Elements.{Contains-append_left}
 use Rattle.std.proofs.Common.{drop-cons, drop, zero, suc, ℕ, ◌+◌, ◌<◌, ◌≤◌, length, get_or, arith, ◌≡◌, List, [], ◌∷◌, ◌++◌, Option, Some, None, IsSome, Contains, refl, sym, ap, ◌∙◌, subst, append_assoc, length-append, map, reverse, Bool, true, false, nat_eq}
 use Rattle.std.proofs.lemmas.List.{map-append, reverse-append, length-map, get_or-map}
 use Rattle.std.proofs.lemmas.Bool.{eqb-true, eq-eqb}
@@ -193,15 +192,6 @@ abbrev pub Asking : Store → List Test → List Term → ℕ → List Term → 
 Asking w tests args i pending bind = (y : Spec) (ss : List bank.Symbol) (ls : List Letter) (all : List ℕ) → fault y ≡ None → AreLinked y w ss → AreFilled y ls → All (λ l. IsMeaning y l.meaning) ls → AreTests ss ls [] tests all
     → AskedSoFar y ss w ls tests all args i pending bind
 
-pub asking-first : (w : Store) (tests : List Test) (args pending bind : List Term) → pending ≡ args → bind ≡ [] → Asking w tests args 0 pending bind
-asking-first w tests args pending bind ep eb y ss ls all kept linked filled meant t = record {
-  vars = [];
-  tests_left = t;
-  counted = ap length eb;
-  known = tt;
-  same = ap (λ xs. asked y (map (named_by y) ls) (stacked w xs) []) ep;
-}
-
 after-drop : {A : Type 0} (xs : List A) (i : ℕ) (x : A) (zs : List A) → drop i xs ≡ x ∷ zs → (zs ≡ drop (suc i) xs) × (i < length xs) × ((d : A) → get_or xs i d ≡ x)
 after-drop [] zero x zs e = absurd (cc e)
 after-drop [] (suc i) x zs e = absurd (cc e)
@@ -296,6 +286,3 @@ empty-at w tests args i d pending bind out lt e asking = asking-empty w tests ar
 pub no-length : {A : Type 0} (xs : List A) → length xs ≡ 0 → xs ≡ []
 no-length [] e = refl
 no-length (x ∷ xs) e = absurd (let no : ⊥ = omega (arith, e) in no)
-
-pub held-rest : (w : Store) (before old : List Term) (u : Term) → before ≡ old ++ u ∷ [] → AllHeld w before → AllHeld w old
-held-rest w before old u e h t c = h t (subst (λ (xs : List Term). Contains xs t) (sym e) (Contains-append_left old (u ∷ []) t c))

@@ -213,14 +213,6 @@ facts y e =
         by false e = e
         by true e = absurd (cc (sym (mentions_at (names (symbols y)) k h) ∙ apart y taken (bytes_at (names (symbols y)) k) e))
 
--- a declared symbol is no variable
-pub symbol_no_variable : (y : Spec) → fault y ≡ None → (name : List ℕ) (d : Declaration) → symbol y name ≡ Some d → is_variable y name ≡ false
-symbol_no_variable y kept name d e = by (is_variable y name) refl
-  where
-    by : (b : Bool) → is_variable y name ≡ b → b ≡ false
-    by false h = refl
-    by true h = absurd (cc (sym (undeclared (symbols y) name (apart y (all_kept (all_rules y) kept).1.1.0 name h)) ∙ e))
-
 -- the words of a term's subterms
 heads_append : (ts us : List Term) → heads (ts ++ us) ≡ heads ts ++ heads us
 heads_append [] us = refl

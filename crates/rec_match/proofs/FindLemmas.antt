@@ -139,9 +139,6 @@ pub record TriedTo (y : Spec) (w : Store) (m : Matcher) (k at i : ℕ) (args : L
 abbrev pub Trying : Store → Matcher → ℕ → ℕ → List Term → Type 0
 Trying w m at i work = (y : Spec) (ss : List bank.Symbol) (below args : List Term) (k : ℕ) → AreLinked y w ss → IsMatcher y ss m → k < length (symbols y) → HeadAt m at k → work ≡ below ++ args → (at < length m.sides.items → count_at m at ≡ length args) → TriedTo y w m k at i args
 
-pub trying-first : (w : Store) (m : Matcher) (at : ℕ) (work : List Term) → Trying w m at at work
-trying-first w m at work y ss below args k linked matcher lt head split counted = record { same = refl; head = head; counted = counted; within = λ h. h }
-
 -- the side that is read
 pub side-is : {A : Type 0} (f : LeftSide → A) (m : Matcher) (i : ℕ) (s : LeftSide) (d : A) → i < length m.sides.items → s ≡ get_or m.sides.items i s → f s ≡ get_or (map f m.sides.items) i d
 side-is f m i s d lt e = ap f e ∙ sym (get_or-map f m.sides.items i s d lt)

@@ -1,11 +1,9 @@
 -- What is found, with its values on top of some references.
-use Rattle.std.proofs.Common.{refl, sym, ap, subst, arith, ◌∙◌, drop, length, take, Contains}
+use Rattle.std.proofs.Common.{refl, sym, ap, subst, arith, ◌∙◌, drop, length, take}
 use Rattle.std.proofs.Math.Seq.{drop-append_seam}
 use Rattle.std.proofs.lemmas.List.{length-append, take-append-drop}
-use Rattle.std.proofs.lemmas.List.Elements.{Contains-append_cases}
-use Rattle.std.specs.Prelude.{ℕ, ◌≡◌, ◌-◌, ◌⊎◌, List, ◌++◌, [], ◌+◌, Some, None, IsSome, Option, Result, Ok, Err, IfOk}
-use mathlib.Core.Logic.{inl, inr}
-use Rattle.rx_term.specs.Store.{Store, tree_at}
+use Rattle.std.specs.Prelude.{ℕ, ◌≡◌, ◌-◌, List, ◌++◌, [], ◌+◌, Some, None, Option, Result, Ok, Err, IfOk}
+use Rattle.rx_term.specs.Store.{Store}
 use Rattle.rx_term.specs.declared.Term.{Term}
 use Rattle.rec_match.specs.Forests.{RunsOn}
 use Rattle.rx_term.specs.Walks.{AllHeld}
@@ -27,13 +25,6 @@ pub found-held : (w : Store) (m : Matcher) (k n at : ℕ) (work bind : List Term
 found-held w m k n at work bind rule can h =
     let f = h can.spec can.symbols (take (length work - n) work) (drop (length work - n) work) k can.linked can.matcher can.declared can.head (sym (take-append-drop (length work - n) work)) (λ lt. own-count w m k n at work can lt ∙ sym (args-long w m k n at work (drop (length work - n) work) can refl)) in
     f.held
-
-pub held-both : (w : Store) (xs ys zs : List Term) → zs ≡ xs ++ ys → AllHeld w xs → AllHeld w ys → AllHeld w zs
-held-both w xs ys zs e hx hy t c = by (Contains-append_cases xs ys t (subst (λ (ts : List Term). Contains ts t) e c))
-  where
-    by : (Contains xs t ⊎ Contains ys t) → IsSome (tree_at w t)
-    by (inl h) = hx t h
-    by (inr h) = hy t h
 
 -- what the tree of a symbol finds
 pub run-finds : (w : Store) (m : Matcher) (k n at : ℕ) (old new : List Term) (first : ℕ) {E : Type 0} (r : Result (Option Hit) E) → CanFind w m k n at old → first ≡ length old - n → IfOk r (RunsOn w m.forest k at first old new) → IfOk r (λ found. found ≡ None → new ≡ old) → IfOk r (FindsOn w m at old new)

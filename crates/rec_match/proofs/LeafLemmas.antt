@@ -4,7 +4,7 @@ use Rattle.std.proofs.lemmas.Bool.{eqb-true, eq-eqb}
 use Rattle.std.proofs.lemmas.List.{map-append}
 use Rattle.std.specs.Prelude.{ℕ, suc, ◌<◌, ◌≡◌, Bool, true, false, List, [], ◌∷◌, ◌++◌, Option, Some, None, map, nat_eq, bytes_eq}
 use Rattle.std.specs.Option.{option_map}
-use Rattle.rec_syntax.specs.Syntax.{Term, Terms, Apply, Spec}
+use Rattle.rec_syntax.specs.Syntax.{Term, Apply, Spec}
 use Rattle.rec_syntax.specs.Syntax as R
 use Rattle.rec_sorts.specs.Lookup.{is_variable, count}
 use Rattle.rec_sorts.specs.Laws.{Every}

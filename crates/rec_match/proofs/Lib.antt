@@ -1,7 +1,6 @@
 pub mod BoundLemmas
 pub mod TrialLemmas
 pub mod FactLemmas
-pub mod CongruenceLemmas
 pub mod OpenLemmas
 pub mod PairedLemmas
 pub mod AskLemmas

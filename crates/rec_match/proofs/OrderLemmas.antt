@@ -78,14 +78,6 @@ pub record Taking (vs : List ℕ) (n : ℕ) (done : List Letter) (ps : List (Opt
   pub taken : (v : ℕ) → v < n → among (numbers_in [] done) v ≡ true → get_or ps v None ≡ None
   pub left : (v : ℕ) → v < n → among (numbers_in [] done) v ≡ false → IsPlace vs v (get_or ps v None)
 
-pub taking-first : (vs : List ℕ) (n : ℕ) (ps : List (Option ℕ)) → ArePlacesIn vs n ps → Taking vs n [] ps []
-taking-first vs n ps are = record {
-  counted = are.counted;
-  ordered = record { within = All-nil (λ p. p < length vs); numbers = refl };
-  taken = λ v lt e. absurd (cc e);
-  left = λ v lt e. are.each v lt;
-}
-
 pub taking-symbol : (vs : List ℕ) (n : ℕ) (done : List Letter) (ps : List (Option ℕ)) (order : List ℕ) (l : Letter) (k : ℕ) → l.meaning ≡ Symbol k → Taking vs n done ps order → Taking vs n (done ++ l ∷ []) ps order
 taking-symbol vs n done ps order l k e t =
     let same : numbers_in [] (done ++ l ∷ []) ≡ numbers_in [] done = numbers-snoc [] done l ∙ ap (with_letter (numbers_in [] done)) e in

@@ -17,7 +17,7 @@ use Rattle.rec_match.specs.Built.{IsHead, AreHeads}
 use Rattle.rec_match.specs.Chains.{IsNext, AreChainsFrom}
 use Rattle.rec_match.specs.Growing.{Within}
 use Rattle.rec_match.specs.Parts as P
-use Rattle.rec_match.specs.Parts.{part_at, arguments_at, numbered_from, Coded, IsPart, IsRow, AreRows}
+use Rattle.rec_match.specs.Parts.{part_at, arguments_at, numbered_from, Coded, IsPart, AreRows}
 use Rattle.rec_match.specs.Pushed.{AreLeftParts}
 use Rattle.rec_match.specs.Rows.{Row, cells_from}
 use Rattle.rec_match.specs.Running.{is_of, root_rows}

@@ -7,7 +7,7 @@ use Rattle.std.specs.Prelude.{ℕ, ◌+◌, ◌<◌, ◌≡◌, ◌≢◌, ◌�
 use Rattle.rec_syntax.specs.Syntax.{Spec, Rule, Term}
 use Rattle.rec_sorts.specs.SpecRules.{fault}
 use Rattle.rec_sorts.specs.Laws.{Every}
-use Rattle.rec_sorts.specs.Numbering.{name_of, named_by, AreLetters, IsMeaning, IsLetterRule, Pairwise}
+use Rattle.rec_sorts.specs.Numbering.{name_of, IsMeaning, IsLetterRule, Pairwise}
 use Rattle.rec_sorts.specs.declared.letters.Letter.{Letter}
 use Rattle.rec_sorts.specs.declared.letters.LetterRule.{LetterRule}
 use Rattle.rec_sorts.specs.declared.letters.Meaning.{Meaning}
@@ -96,18 +96,3 @@ left_can y rules i x n are lt = can_push y (get_or y.rules i no_rule).left (get_
   where
     no_rule : Rule
     no_rule = record { left = Rattle.rec_syntax.specs.Syntax.Apply (record { at = 0; bytes = [] }) Rattle.rec_syntax.specs.Syntax.none; right = Rattle.rec_syntax.specs.Syntax.Apply (record { at = 0; bytes = [] }) Rattle.rec_syntax.specs.Syntax.none; conditions = [] }
-
--- no part so far
-pub left_parts_none : (y : Spec) (ps : Parts) → ps.parts.items ≡ [] → ps.arguments.items ≡ [] → AreLeftParts y ps [] 0
-left_parts_none y ps p a = record {
-  whole = record {
-    ordered = λ k lt. absurd (none k lt);
-    within = λ k lt. absurd (none k lt);
-    arguments = subst (λ xs. Every (λ (k : ℕ). k < length ps.parts.items) xs) (sym a) tt;
-  };
-  long = refl;
-  each = λ i r lt. absurd (let bad : ⊥ = omega (arith, lt) in bad);
-}
-  where
-    none : (k : ℕ) → k < length ps.parts.items → ⊥
-    none k lt = let l = ap length p in let bad : ⊥ = omega (arith, lt, l) in bad

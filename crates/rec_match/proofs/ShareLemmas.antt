@@ -31,15 +31,6 @@ changed_append h (x ∷ xs) ys = by (h x.codes) (changed_append h xs ys)
 one_left : Coded → Option (List Code) → List Coded
 one_left row o = elim o [ Some cs ↦ (record { number = row.number; codes = cs }) ∷ [] | None ↦ [] ]
 
--- what is left of a row comes behind others
-pub adds_opened : (h : List Code → Option (List Code)) (row : Coded) (old new : List CodeRow) (x : CodeRow) → new ≡ old ++ x ∷ [] → x.rule ≡ row.number → h row.codes ≡ Some x.codes.items
-    → map coded_of new ≡ map coded_of old ++ changed_codes h (row ∷ [])
-unfolding one_left
-adds_opened h row old new x e number opened =
-    ap (map coded_of) e ∙ map-append coded_of old (x ∷ [])
-    ∙ ap (λ n. map coded_of old ++ (let c : Coded = record { number = n; codes = x.codes.items } in c) ∷ []) number
-    ∙ ap (λ o. map coded_of old ++ one_left row o) (sym opened)
-
 -- nothing is left of a row
 pub adds_nothing : (h : List Code → Option (List Code)) (row : Coded) (rows : List CodeRow) → h row.codes ≡ None → map coded_of rows ≡ map coded_of rows ++ changed_codes h (row ∷ [])
 unfolding one_left

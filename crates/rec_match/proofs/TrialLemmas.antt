@@ -118,10 +118,6 @@ no_count : (ts : Terms) → count ts ≡ 0 → ts ≡ Terms.none
 no_count Terms.none e = refl
 no_count (Terms.more t ts) e = absurd (cc e)
 
-goes_on_twice : {A : Type 0} (o : Option A) (f : A → Option Substitution) (g : Substitution → Option Substitution) → goes_on (goes_on o f) g ≡ goes_on o (λ a. goes_on (f a) g)
-goes_on_twice None f g = refl
-goes_on_twice (Some a) f g = refl
-
 mutual
   -- asking a term's names is walking over it
   pub asked_walk : (y : Spec) (t : Term) (ms : List Named) (u : Tree) (st : List Tree) (s : Substitution) → AreBare y (named t)

@@ -1,5 +1,5 @@
 -- From what an engine answers to the lines that are due.
-use Rattle.std.proofs.Common.{◌≡◌, ℕ, ◌+◌, ◌-◌, ◌<◌, ◌^◌, Bool, true, cond, List, [], ◌++◌, Option, Some, None, IsSome, IfSome, Err, get_or, take, length, refl, sym, ap, ap₂, subst, ◌∙◌, arith}
+use Rattle.std.proofs.Common.{◌≡◌, ℕ, ◌+◌, ◌-◌, ◌<◌, ◌^◌, Bool, true, cond, List, [], ◌++◌, Option, Some, None, IsSome, IfSome, get_or, take, length, refl, sym, ap, ap₂, subst, ◌∙◌, arith}
 use Rattle.std.specs.Prelude.{codes, is_some, unwrap_or}
 use Rattle.std.specs.Option.{option_map}
 use Rattle.std.specs.Io.KnownBytes.{Appends}
@@ -21,15 +21,12 @@ use Rattle.rec_sorts.specs.Evaluation.{Caller, Done, Eval, call, evaluate, evalu
 use Rattle.rec_sorts.proofs.EquationLemmas.{then_agrees}
 use Rattle.rec_sorts.specs.TermRules.{broken_by_elements, elements}
 use Rattle.rec_sorts.specs.Linked.{HasMoreSymbols}
-use Rattle.rec_memo.specs.Pairs.{Pairs}
-use Rattle.rec_engine.specs.Cells.{RoomOnly}
-use Rattle.rec_engine.specs.Engine.{EngineState, IsGiven, IsOutcome, RoomOnlyFor, SameEngine, eval_tree}
-use Rattle.rec_engine.specs.declared.cells.EngineFault.{EngineFault}
+use Rattle.rec_engine.specs.Engine.{EngineState, IsGiven, IsOutcome, SameEngine, eval_tree}
 use Rattle.rec_engine.specs.declared.cells.EngineFault.TheVariants as engine
 use Rattle.rec_engine.specs.declared.engine.Outcome.{Outcome}
 use Rattle.rec_engine.specs.declared.engine.Outcome.TheVariants.{Value, Limit}
-use Rattle.rec_run.specs.EvaluatedLines.{FillsBank, HoldsValue, ProtectsTerms, due_before, of_engine, outcome_text, raised_after}
-use Rattle.rec_run.specs.GivenTerms.{HoldsTerms, ReportsAfter, StopsAfter, given_at, given_by, given_text, item_at}
+use Rattle.rec_run.specs.EvaluatedLines.{FillsBank, ProtectsTerms, due_before, outcome_text, raised_after}
+use Rattle.rec_run.specs.GivenTerms.{HoldsTerms, ReportsAfter, StopsAfter, given_at, given_text, item_at}
 use Rattle.rec_run.specs.Output.{steps_text}
 use Rattle.rec_run.specs.Reading.{line_text, shown, term_at, text_at}
 use Rattle.rec_run.specs.Run.{Reports, RoomFits, Stops}
@@ -44,10 +41,6 @@ use Rattle.rec_run.proofs.SpecLineLemmas.{given_text-newlines}
 use Rattle.rx_text.proofs.AppendingLemmas.{appends_both, appends_same, front_before}
 
 -- ---- what is shown of an outcome
-
-pub holds_value : (y : Spec) (w : Store) (n : ℕ) (u : Tree) (o : Outcome) → IsOutcome y w n u o → HoldsValue w o
-holds_value y w n u (Value r steps) h = ap is_some h.there
-holds_value y w n u Limit h = tt
 
 -- it is the text of the term's line
 pub outcome_text-line : (y : Spec) (w : Store) (counted : Bool) (n : ℕ) (u : Tree) (o : Outcome) → IsOutcome y w n u o → outcome_text w counted n o ≡ given_text y counted n u
@@ -110,21 +103,6 @@ own-line y z w counted n i t same low here =
     ap (λ x. given_text x counted n (item_at w t)) same ∙ ap (λ o. given_text y counted n (unwrap_or o (list_of none))) own ∙ tree-line y counted n (term_at y i)
 
 -- ---- faults
-
--- want of cells comes with a full bank
-pub fills-engine : (w : Store) (work : List Reference) (m : Pairs) (e : EngineFault) → RoomOnly {A = Outcome} w work m (Err e) → FillsBank w (of_engine e)
-fills-engine w work m engine.Memory h = tt
-fills-engine w work m engine.Room h = h.exhausted.full
-
-pub fills-eval : (w : Store) (m : Pairs) (u : Option Tree) (e : EngineFault) → RoomOnlyFor {A = Reference} w m u (Err e) → FillsBank w (of_engine e)
-fills-eval w m u engine.Memory h = tt
-fills-eval w m None engine.Room h = absurd h
-fills-eval w m (Some u) engine.Room h = h.full
-
-pub fills-other : (w : Store) (f : LineFault) → (f ≡ Room → ⊥) → FillsBank w f
-fills-other w Memory h = tt
-fills-other w Room h = absurd (h refl)
-fills-other w Write h = tt
 
 pub room_fits : (old new : Store) (f : LineFault) (lines : ℕ) (r : RunFault) → r ≡ raised_after f lines → IsSound new → new.cap ≡ old.cap → FillsBank new f → RoomFits old.cap r
 room_fits old new f lines r e sound same h = subst (RoomFits old.cap) (sym e) (fits f h)
@@ -205,10 +183,6 @@ held_no_ends y w list counted n few sound holds k d low =
 given-content : (old new : Store) (list : Reference) → new.content ≡ old.content → given_at new list ≡ given_at old list
 given-content old new list e = ap (λ c. unwrap_or (elements (unwrap_or (map.get c list.0) (list_of none))) []) e
 
-pub given_by-content : (old new : Store) (list : Option Reference) → new.content ≡ old.content → given_by new list ≡ given_by old list
-given_by-content old new None e = refl
-given_by-content old new (Some list) e = given-content old new list e
-
 holds-content : (y : Spec) (old new : Store) (list : Reference) → new.content ≡ old.content → HoldsTerms y old list → HoldsTerms y new list
 holds-content y old new list e h =
     let same = sym (given-content old new list e) in
@@ -239,10 +213,6 @@ still_protects y old new list keeps h =
 
 pub same_terms : (y : Spec) (old new : Store) (list : Reference) → Keeps old new [] → ProtectsTerms y old list → given_at new list ≡ given_at old list
 same_terms y old new list keeps h = ap (λ o. unwrap_or (elements (unwrap_or o (list_of none))) []) (kept-root keeps list h.protected (ap is_some h.holds.held))
-
--- an engine that did nothing yet
-pub same_engine : {B : Type 0} (e : EngineState B) → SameEngine e e
-same_engine e = record { spec = refl; options = refl }
 
 pub same_engine_both : {B : Type 0} {a b c : EngineState B} → SameEngine a b → SameEngine b c → SameEngine a c
 same_engine_both p q = record { spec = q.spec ∙ p.spec; options = q.options ∙ p.options }

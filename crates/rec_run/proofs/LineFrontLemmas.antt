@@ -37,11 +37,6 @@ newlines-lines_of f (x ∷ items) none =
 newlines-front : (front rest : List ℕ) → newlines (front ++ rest) ≡ 0 → newlines front ≡ 0
 newlines-front front rest h = let e = newlines-append front rest in omega (arith, e, h)
 
--- no line so far
-pub lines_of-none : {X : Type 0} (f : X → List ℕ) (items : List X) → lines_of f (take 0 items) ≡ []
-lines_of-none f [] = refl
-lines_of-none f (x ∷ items) = refl
-
 -- the lines up to an item, and its own
 pub lines_of-more : {X : Type 0} (f : X → List ℕ) (items : List X) (i : ℕ) (d : X) → i < length items → lines_of f (take (i + 1) items) ≡ lines_of f (take i items) ++ (f (get_or items i d) ++ codes "\n")
 lines_of-more f items i d h =

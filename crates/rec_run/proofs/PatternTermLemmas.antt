@@ -1,5 +1,5 @@
 -- References of the elements of a list that a bank holds.
-use Rattle.std.proofs.Common.{◌≡◌, ◌≢◌, ◌⊎◌, inl, inr, ℕ, ◌+◌, ◌<◌, List, [], ◌∷◌, ◌++◌, Option, Some, None, Result, Ok, IsSome, is_some, false, refl, sym, ap, ◌∙◌, arith, append_assoc, append-nil, subst}
+use Rattle.std.proofs.Common.{◌≡◌, ◌≢◌, ◌⊎◌, inl, inr, ℕ, ◌+◌, ◌<◌, List, [], ◌∷◌, ◌++◌, Option, Some, None, Result, Ok, is_some, false, refl, sym, ap, ◌∙◌, arith, append_assoc, append-nil, subst}
 use Rattle.std.specs.Option.{option_and_then, option_map_or}
 use Rattle.rx_term.specs.Tree.{Tree, Trees, none, more, Int, Appl, Items, Hole, list_of, to_list, count_of}
 use Rattle.rx_term.specs.Store.{Store, tree_at, part_at, head_of, tail_of, anns_of}
@@ -9,10 +9,10 @@ use Rattle.rx_term.specs.declared.Kind.{Kind}
 use Rattle.rx_term.specs.declared.Kind.TheVariants as kind
 use Rattle.rx_term.specs.Walks.{AllHeld, HaveTrees}
 use Rattle.rx_term.proofs.WalkLemmas.{AllHeld-from_trees}
-use Rattle.rx_pattern.specs.Filling.{Fault, filling}
+use Rattle.rx_pattern.specs.Filling.{Fault}
 use Rattle.rec_sorts.specs.TermRules.{elements}
-use Rattle.rec_run.specs.Output.{Due, done}
-use Rattle.rec_run.specs.PatternRuns.{filled_due, made_due}
+use Rattle.rec_run.specs.Output.{done}
+use Rattle.rec_run.specs.PatternRuns.{made_due}
 use Rattle.rec_run.specs.PatternAnswers.{HasElements}
 use Rattle.rec_run.specs.TermRuns.{line_at}
 
@@ -25,21 +25,6 @@ have-more w (s ∷ ss) (u ∷ us) r t (i, h) e = (i, have-more w ss us r t h e)
 -- what is due of a tree that is made
 pub made_here : (w : Store) (t : Term) (u : Tree) (r : Result Tree Fault) → r ≡ Ok u → tree_at w t ≡ Some u → done (line_at w t) ≡ made_due r
 made_here w t u r e f = rw (e, f) refl
-
--- what is due of the elements of a tree
-pub elements_due : (w : Store) (p : Tree) (o : Option Tree) (rs : List Term) (a : Due) → HasElements w (option_and_then elements o) (Some rs) → ((ts : List Tree) → HaveTrees w rs ts → a ≡ made_due (filling p ts)) → (u : Tree) → o ≡ Some u → a ≡ filled_due p (elements u)
-elements_due w p o rs a h of u e = by (elements u) (subst (λ (z : Option Tree). HasElements w (option_and_then elements z) (Some rs)) e h)
-  where
-    by : (ts : Option (List Tree)) → HasElements w ts (Some rs) → a ≡ filled_due p ts
-    by None k = absurd k
-    by (Some ts) k = of ts k
-
-pub no_elements_due : (w : Store) (p : Tree) (o : Option Tree) (a : Due) → HasElements w (option_and_then elements o) None → a ≡ filled_due p None → (u : Tree) → o ≡ Some u → a ≡ filled_due p (elements u)
-no_elements_due w p o a h of u e = by (elements u) (subst (λ (z : Option Tree). HasElements w (option_and_then elements z) None) e h)
-  where
-    by : (ts : Option (List Tree)) → HasElements w ts None → a ≡ filled_due p ts
-    by None k = of
-    by (Some ts) k = absurd k
 
 -- elements are held
 pub elements_held : (w : Store) (ts : Option (List Tree)) (rs : List Term) → HasElements w ts (Some rs) → AllHeld w rs
@@ -114,30 +99,6 @@ all_found w list found rest k p h n ts e = by ts (same (p.whole) e) p.left (noth
     by us i left l s =
         let whole : to_list us ≡ p.done = ap to_list i ∙ s ∙ ap (λ z. p.done ++ to_list z) l ∙ append-nil p.done in
         subst (HaveTrees w found) (sym whole) p.had
-
--- a tree with annotations is no list without annotations
-noted_elements : (u : Tree) → IsSome (anns_of u) → elements u ≡ None
-noted_elements (Int z anns) h = refl
-noted_elements (Appl name quoted args anns) h = refl
-noted_elements (Hole inner anns) h = refl
-noted_elements (Items items none) h = absurd (cc h)
-noted_elements (Items items (more t ts)) h = refl
-
-pub no_elements : (w : Store) (t : Term) (anns : Option Term) → HasAnns w t anns → IsSome anns → option_and_then elements (tree_at w t) ≡ None
-no_elements w t None h k = absurd (cc k)
-no_elements w t (Some a) h k = by (tree_at w t) h.0
-  where
-    by : (o : Option Tree) → IsSome (option_and_then anns_of o) → option_and_then elements o ≡ None
-    by None i = refl
-    by (Some u) i = noted_elements u i
-
--- no list has elements
-pub elements_of_other : (w : Store) (t : Term) (k : Kind) → HasKind w t k → k ≢ kind.Nil → k ≢ kind.Cons → option_and_then elements (tree_at w t) ≡ None
-elements_of_other w t (kind.Int z) h n m = ap (option_and_then elements) h.here
-elements_of_other w t kind.Nil h n m = absurd (n refl)
-elements_of_other w t kind.Cons h n m = absurd (m refl)
-elements_of_other w t (kind.Appl s) h n m = ap (option_and_then elements) h.here
-elements_of_other w t kind.Hole h n m = ap (option_and_then elements) h.here
 
 -- a list that has no annotations
 plain_list : (items anns : Trees) → anns_of (Items items anns) ≡ None → Items items anns ≡ list_of items

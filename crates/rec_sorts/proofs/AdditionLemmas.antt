@@ -22,16 +22,6 @@ use Rattle.rec_sorts.proofs.SubtermLemmas.{least_of-append}
 use Rattle.rec_sorts.proofs.StackLemmas.{map-append}
 use Rattle.rec_sorts.proofs.TurnLemmas.{map-take_turn}
 
--- nothing is added
-pub Adds-nothing : (source : List ℕ) (numbers : Numbers) (d : Declared) → Adds source numbers d d nothing_added
-Adds-nothing source numbers d = record {
-  words_added = sym (append-nil (words_of source d.words.items));
-  sorts_added = sym (append-nil d.sorts.items);
-  arguments_added = sym (append-nil (map (λ v. v.items) d.arguments.items));
-  within_added = λ a. a;
-  unknown_added = sym (earlier_none d.unknown);
-}
-
 -- something is added, and then more
 pub Adds-both : (source : List ℕ) (numbers : Numbers) (c d e : Declared) (a b : Additions) → Adds source numbers c d a → Adds source numbers d e b → Adds source numbers c e (both a b)
 Adds-both source numbers c d e a b h k = record {

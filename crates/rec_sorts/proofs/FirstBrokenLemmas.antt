@@ -46,22 +46,6 @@ element-first y t ts number listed broken =
     let here : broken_by_elements y ts ≡ Some number = sym (ap (broken_in y) listed) ∙ sym broken in
     sym (ap (option_and_then (first_breaking y)) listed ∙ ap (option_and_then (λ n. position (breaks_alone y n) ts)) here)
 
--- no rule is broken
-pub element-kept : (y : Spec) (t : Tree) → None ≡ broken_by_terms y t → None ≡ broken_element y t
-element-kept y t kept = by_elements (elements t) kept
-  where
-    by_elements : (o : Option (List Tree)) → None ≡ broken_in y o → None ≡ option_and_then (first_breaking y) o
-    by_elements None e = absurd (cc e)
-    by_elements (Some ts) e = ap (option_and_then (λ n. position (breaks_alone y n) ts)) e
-
--- the tree is no list
-pub element-unlisted : (y : Spec) (t : Tree) → is_some (elements t) ≡ false → None ≡ broken_element y t
-element-unlisted y t e = by_elements (elements t) e
-  where
-    by_elements : (o : Option (List Tree)) → is_some o ≡ false → None ≡ option_and_then (first_breaking y) o
-    by_elements None e = refl
-    by_elements (Some ts) e = absurd (cc e)
-
 -- the elements of a list without annotations are its items
 elements-listed : (t : Tree) → is_some (elements t) ≡ true → elements t ≡ Some (to_list (items_of t))
 elements-listed (Items items none) e = refl

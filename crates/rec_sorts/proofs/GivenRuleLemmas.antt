@@ -190,14 +190,6 @@ module _ (y : Spec) (s : Scope) (h : IsScope y s) where
   broken-list kept (Appl name quoted args anns) all inner e p q = absurd (cc e)
   broken-list kept (Hole held anns) all inner e p q = absurd (cc e)
 
--- a tree that is no list without annotations breaks the first rule
-pub broken-first : (y : Spec) (t : Tree) → is_some (elements t) ≡ false → Some 1 ≡ broken_by_terms y t
-broken-first y (Items items none) e = absurd (cc e)
-broken-first y (Items items (more a as')) e = refl
-broken-first y (Int z anns) e = refl
-broken-first y (Appl name quoted args anns) e = refl
-broken-first y (Hole held anns) e = refl
-
 -- what holds of the tree of a reference
 pub if_held : (P : Tree → Type 0) (o : Option Tree) → P (unwrap_or o (list_of none)) → IfSome o P
 if_held P None h = tt

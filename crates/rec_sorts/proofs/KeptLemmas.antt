@@ -2,7 +2,7 @@
 use Rattle.std.proofs.Common.{refl, sym, ap, subst, ◌∙◌, arith}
 use Rattle.std.proofs.lemmas.List.{length-map}
 use Rattle.std.proofs.lemmas.Slice.Eq.{bytes_eq-Decides}
-use Rattle.std.specs.Prelude.{ℕ, ◌≡◌, ◌<◌, zero, suc, length, filter, flat_map, Bool, true, false, ◌&&◌, ◌||◌, not, cond, List, [], ◌∷◌, ◌++◌, Option, Some, None, map, bytes_eq}
+use Rattle.std.specs.Prelude.{ℕ, ◌≡◌, ◌<◌, zero, suc, length, filter, flat_map, Bool, true, false, ◌||◌, not, cond, List, [], ◌∷◌, ◌++◌, Option, Some, None, map, bytes_eq}
 use Rattle.rec_syntax.specs.Tokens.{Word}
 use Rattle.rec_syntax.specs.Syntax.{Term, Declaration, Rule, Spec, head, subterms}
 use Rattle.rec_sorts.specs.Lookup.{mentions, repeated, names, symbols, variable_words, is_variable, places, condition_terms}
@@ -22,14 +22,6 @@ all_kept (b ∷ bs) e = by_words b.words refl (λ h. all_kept bs h)
     by_words : (ws : List Word) → b.words ≡ ws → (first_broken bs ≡ None → Every (λ b. b.words ≡ []) bs) → Every (λ b. b.words ≡ []) (b ∷ bs)
     by_words [] h later = (h, later (ap (λ ws. by_places b.number bs (places ws)) (sym h) ∙ e))
     by_words (w ∷ ws) h later = absurd (cc (ap (λ ws. by_places b.number bs (places ws)) (sym h) ∙ e))
-
-and_left : (a b : Bool) → a && b ≡ true → a ≡ true
-and_left true b e = refl
-and_left false b e = absurd (cc e)
-
-and_right : (a b : Bool) → a && b ≡ true → b ≡ true
-and_right true b e = e
-and_right false b e = absurd (cc e)
 
 pub bytes_eq-eq : (xs ns : List ℕ) → bytes_eq xs ns ≡ true → xs ≡ ns
 bytes_eq-eq xs ns e = (bytes_eq-Decides xs ns).0 e

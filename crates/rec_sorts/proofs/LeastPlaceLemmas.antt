@@ -1,12 +1,11 @@
 -- Least places: their laws, and the first rule with a place.
 use Rattle.std.proofs.Common.{refl, sym, ap, ◌∙◌, arith}
-use Rattle.std.specs.Prelude.{ℕ, ◌≡◌, ◌&&◌, Bool, true, false, is_none, List, [], ◌∷◌, ◌++◌, Option, Some, None, min, suc}
+use Rattle.std.specs.Prelude.{ℕ, ◌≡◌, ◌&&◌, Bool, true, false, is_none, List, [], ◌∷◌, Option, Some, None, min, suc}
 use Rattle.rec_syntax.specs.Tokens.{Word}
 use Rattle.rec_sorts.specs.Lookup.{places}
 use Rattle.rec_sorts.specs.SpecRules.{Broken, Fault, first_broken, least}
 use Rattle.rec_sorts.specs.Least.{earlier, least_place, is_nowhere, joined}
 use Rattle.rec_sorts.specs.SortFaults.{first_place}
-use Rattle.rec_sorts.specs.Reading.{nowhere}
 use Rattle.rec_sorts.specs.declared.places.TermPlaces.{TermPlaces}
 
 pub earlier_none : (p : Option ℕ) → earlier p None ≡ p
@@ -25,17 +24,6 @@ earlier_comm None (Some q) = refl
 earlier_comm (Some p) None = refl
 earlier_comm (Some p) (Some q) = ap (λ (k : ℕ). Some k) (omega arith)
 
--- the second and third of four change places
-pub earlier_swap : (p q r s : Option ℕ) → earlier (earlier p q) (earlier r s) ≡ earlier (earlier p r) (earlier q s)
-earlier_swap p q r s =
-    earlier_assoc p q (earlier r s)
-    ∙ ap (earlier p) (sym (earlier_assoc q r s) ∙ ap (λ x. earlier x s) (earlier_comm q r) ∙ earlier_assoc r q s)
-    ∙ sym (earlier_assoc p r (earlier q s))
-
-pub least_place-append : (vs ws : List Word) → least_place (vs ++ ws) ≡ earlier (least_place vs) (least_place ws)
-least_place-append [] ws = refl
-least_place-append (v ∷ vs) ws = ap (earlier (Some v.at)) (least_place-append vs ws) ∙ sym (earlier_assoc (Some v.at) (least_place vs) (least_place ws))
-
 pub joined_assoc : (p q r : TermPlaces) → joined (joined p q) r ≡ joined p (joined q r)
 joined_assoc p q r = λ i. record {
   unknown = earlier_assoc p.unknown q.unknown r.unknown i;
@@ -46,20 +34,6 @@ joined_assoc p q r = λ i. record {
   unbound = earlier_assoc p.unbound q.unbound r.unbound i;
   free = earlier_assoc p.free q.free r.free i;
 }
-
-pub joined_nowhere : (p : TermPlaces) → joined p nowhere ≡ p
-joined_nowhere p = λ i. record {
-  unknown = earlier_none p.unknown i;
-  ill_filled = earlier_none p.ill_filled i;
-  ill_sorted = earlier_none p.ill_sorted i;
-  ill_headed = earlier_none p.ill_headed i;
-  unlike = earlier_none p.unlike i;
-  unbound = earlier_none p.unbound i;
-  free = earlier_none p.free i;
-}
-
-pub nowhere_joined : (p : TermPlaces) → joined nowhere p ≡ p
-nowhere_joined p = refl
 
 least-places : (p : ℕ) (ws : List Word) → Some (least p (places ws)) ≡ earlier (Some p) (least_place ws)
 least-places p [] = refl

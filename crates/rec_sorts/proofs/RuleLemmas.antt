@@ -8,7 +8,7 @@ use Rattle.rec_syntax.specs.Syntax.{Term, Terms, Apply, Condition, Rule, Spec}
 use Rattle.rec_sorts.specs.Binding.{Substitution, value_of, application, binds}
 use Rattle.rec_sorts.specs.Evaluation.{Outcome, Done, Over, ◌then◌, spend, holds, first_rule, Eval, EvalAll, Call, Try, Holds}
 use Rattle.rec_sorts.proofs.EquationLemmas.{meets, left_le, steady_Eval}
-use Rattle.rec_sorts.proofs.SteadyLemmas.{steady_holds, steady_call, steady_evaluate_all}
+use Rattle.rec_sorts.proofs.SteadyLemmas.{steady_call, steady_evaluate_all}
 
 -- what a word gives, by its value
 abbrev pub at_word : Spec → ℕ → Substitution → Word → Terms → Option Tree → Outcome Tree
@@ -146,7 +146,3 @@ eval_left y n s t v left e = left_le (λ n. Eval y n s t) (steady_Eval y s t) n 
 pub all_left : (y : Spec) (n : ℕ) (s : Substitution) (ts : Terms) (vs : Trees) (left : ℕ) → EvalAll y n s ts ≡ Done vs left → left ≤ n
 unfolding EvalAll Call
 all_left y n s ts vs left e = left_le (λ n. EvalAll y n s ts) (steady_evaluate_all (Call y) (steady_call y (Eval y) (steady_Eval y)) s ts) n vs left e
-
-pub holds_left : (y : Spec) (n : ℕ) (s : Substitution) (cs : List Condition) (b : Bool) (left : ℕ) → Holds y n s cs ≡ Done b left → left ≤ n
-unfolding Holds
-holds_left y n s cs b left e = left_le (λ n. Holds y n s cs) (steady_holds (Eval y) (steady_Eval y) s cs) n b left e

@@ -7,7 +7,7 @@ use Rattle.rec_syntax.specs.Nodes.{flat, flat_all, term_count}
 use Rattle.rec_sorts.specs.Lookup.{count, rule_terms, condition_terms}
 use Rattle.rec_sorts.specs.SpecRules.{heads}
 use Rattle.rec_sorts.specs.Least.{earlier, least_of, least_place, place_where}
-use Rattle.rec_sorts.proofs.LeastPlaceLemmas.{earlier_none, earlier_assoc, earlier_comm, earlier_swap}
+use Rattle.rec_sorts.proofs.LeastPlaceLemmas.{earlier_none, earlier_assoc, earlier_comm}
 use Rattle.rec_sorts.proofs.TableLemmas.{same_function}
 
 pub least_of-append : {X : Type 0} (f : X → Option ℕ) (xs ys : List X) → least_of f (xs ++ ys) ≡ earlier (least_of f xs) (least_of f ys)
@@ -29,10 +29,6 @@ least_of-filter f p (x ∷ xs) = by_test (p x) ∙ ap (earlier (cond (p x) (f x)
     by_test : (b : Bool) → least_of f (cond b (x ∷ filter p xs) (filter p xs)) ≡ earlier (cond b (f x) None) (least_of f (filter p xs))
     by_test true = refl
     by_test false = refl
-
-pub least_of-both : {X : Type 0} (f g : X → Option ℕ) (xs : List X) → least_of (λ x. earlier (f x) (g x)) xs ≡ earlier (least_of f xs) (least_of g xs)
-least_of-both f g [] = refl
-least_of-both f g (x ∷ xs) = ap (earlier (earlier (f x) (g x))) (least_of-both f g xs) ∙ earlier_swap (f x) (g x) (least_of f xs) (least_of g xs)
 
 pub least_of-same : {X : Type 0} {f g : X → Option ℕ} (xs : List X) → ((x : X) → f x ≡ g x) → least_of f xs ≡ least_of g xs
 least_of-same xs h = ap (λ k. least_of k xs) (same_function h)

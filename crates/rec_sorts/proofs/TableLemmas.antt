@@ -80,8 +80,3 @@ least_repeated-repeated g next before (w ∷ ws) same =
     by_test true e later =
         ap (earlier (Some w.at)) (later before (λ name. grown name ∙ or_true (bytes_eq w.bytes name) (mentions before name) (λ b. subst (λ n. mentions before n ≡ true) (bytes_eq-eq w.bytes name b) e)))
     by_test false e later = later (w ∷ before) grown
-
--- no number, where the test says so
-pub none_from_test : (o : Option ℕ) → is_some o ≡ false → o ≡ None
-none_from_test None e = refl
-none_from_test (Some k) e = absurd (cc e)

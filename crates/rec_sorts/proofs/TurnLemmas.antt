@@ -8,23 +8,15 @@ use Rattle.std.specs.Prelude.{ℕ, ◌≡◌, ◌⊎◌, ◌+◌, ◌<◌, ◌�
 use Rattle.rec_sorts.specs.Letters.{misplaced}
 use Rattle.rec_sorts.specs.declared.scope.Scope.{Scope}
 use Rattle.rec_sorts.specs.declared.terms.Placed.{Placed}
-use Rattle.rec_sorts.specs.Least.{earlier, least_of, joined}
+use Rattle.rec_sorts.specs.Least.{earlier, joined}
 use Rattle.rec_sorts.specs.Numbering.{Pairwise}
 use Rattle.rec_sorts.specs.declared.places.TermPlaces.{TermPlaces}
-use Rattle.rec_sorts.proofs.LeastPlaceLemmas.{earlier_assoc, earlier_none, joined_assoc}
+use Rattle.rec_sorts.proofs.LeastPlaceLemmas.{earlier_none, joined_assoc}
 use Rattle.rec_sorts.proofs.StackLemmas.{map-append}
 
 -- the rest of a list begins with the item at the index
 pub drop-turn : {X : Type 0} (xs : List X) (i : ℕ) (d : X) → i < length xs → drop i xs ≡ get_or xs i d ∷ drop (i + 1) xs
 drop-turn xs i d h = rw (add-one i) (drop-cons xs i d h)
-
--- one more place is collected
-pub least_turn : {X : Type 0} (f : X → Option ℕ) (xs : List X) (i : ℕ) (d : X) (least all : Option ℕ) → i < length xs → earlier least (least_of f (drop i xs)) ≡ all
-    → earlier (earlier least (f (get_or xs i d))) (least_of f (drop (i + 1) xs)) ≡ all
-least_turn f xs i d least all h e =
-    earlier_assoc least (f (get_or xs i d)) (least_of f (drop (i + 1) xs))
-    ∙ ap (λ ys. earlier least (least_of f ys)) (sym (drop-turn xs i d h))
-    ∙ e
 
 -- one more pair
 pub Pairwise-push : {X Y : Type 0} (P : X → Y → Type 0) (xs : List X) (ys : List Y) (x : X) (y : Y) → Pairwise P xs ys → P x y → Pairwise P (xs ++ x ∷ []) (ys ++ y ∷ [])

@@ -1,19 +1,19 @@
 -- A turn of a walk over terms, and what it has found at its end.
-use Rattle.std.proofs.Common.{refl, sym, ap, subst, ◌∙◌, arith, append_assoc, append-nil}
+use Rattle.std.proofs.Common.{refl, sym, ap, ◌∙◌, arith, append_assoc, append-nil}
 use Rattle.std.proofs.lemmas.List.{map-append}
-use Rattle.std.specs.Prelude.{ℕ, ◌≡◌, ◌<◌, ◌||◌, Bool, true, false, not, List, [], ◌∷◌, ◌++◌, Option, Some, None, IsSome, is_some, length, flat_map}
+use Rattle.std.specs.Prelude.{ℕ, ◌≡◌, ◌<◌, ◌||◌, Bool, true, false, List, [], ◌∷◌, ◌++◌, Option, Some, length, flat_map}
 use Rattle.std.specs.List.{list_any}
 use Rattle.std.specs.Option.{option_and_then}
 use Rattle.std.proofs.lemmas.List.Folds.{list_any-append}
 use Rattle.rx_term.specs.Tree.{Tree, Trees, Int, Appl, Items, Hole, none, more, to_list, list_of, items_of}
-use Rattle.rx_term.specs.Store.{Store, tree_at, part_at, head_of, tail_of, args_of, anns_of}
-use Rattle.rx_term.specs.Kinds.{HasKind, HasCons, HasAppl, HasAnns}
+use Rattle.rx_term.specs.Store.{Store, tree_at, part_at, head_of, tail_of, args_of}
+use Rattle.rx_term.specs.Kinds.{HasKind, HasCons, HasAppl}
 use Rattle.rx_term.specs.declared.Term.{Term}
 use Rattle.rx_term.specs.declared.Symbol.{Symbol}
 use Rattle.rx_term.specs.declared.Kind.{Kind}
 use Rattle.rx_term.specs.declared.Kind.TheVariants as kind
 use Rattle.rx_term.specs.Walks.{held_tree, held_trees}
-use Rattle.rec_sorts.specs.TermRules.{nodes, nodes_all, arguments, elements, is_no_application, is_annotated, first_passed}
+use Rattle.rec_sorts.specs.TermRules.{nodes, nodes_all, arguments, is_no_application, is_annotated, first_passed}
 use Rattle.rec_sorts.specs.GivenTerms.{is_nameless, is_misfilled, are_misfits, has_misfit, broken_by_nodes}
 use Rattle.rec_sorts.specs.declared.scope.Scope.{Scope}
 use Rattle.rec_sorts.specs.Walking.{backwards, backwards_all, unstacked}
@@ -66,14 +66,6 @@ module _ (w : Store) (r args : Term) (s : Symbol) (h : HasAppl w r s) (at_args :
   -- the arguments of an application are the items of its argument list
   pub items_of-args : items_of (held_tree w args) ≡ arguments (held_tree w r)
   items_of-args = let here = h.here in let there = args_there in rw (here, there) refl
-
--- another node has no arguments
-pub arguments-none : (w : Store) (r : Term) (k : Kind) → HasKind w r k → ((s : Symbol) → k ≡ kind.Appl s → ⊥) → (arguments (held_tree w r) ≡ none) × (is_no_application (held_tree w r) ≡ true)
-arguments-none w r (kind.Int z) h n = let here = h.here in rw here (refl, refl)
-arguments-none w r kind.Nil h n = let here = h.here in rw here (refl, refl)
-arguments-none w r kind.Cons h n = let here = h.here in rw here (refl, refl)
-arguments-none w r (kind.Appl s) h n = absurd (n s refl)
-arguments-none w r kind.Hole h n = let here = h.here in rw here (refl, refl)
 
 -- ---- nodes
 
@@ -174,43 +166,7 @@ module _ (p : Tree → Bool) where
 
 -- ---- annotations
 
-some-annotated : (t : Tree) → IsSome (anns_of t) → is_annotated t ≡ true
-some-annotated (Int z none) e = absurd (cc e)
-some-annotated (Int z (more a as')) e = refl
-some-annotated (Appl name quoted args none) e = absurd (cc e)
-some-annotated (Appl name quoted args (more a as')) e = refl
-some-annotated (Items items none) e = absurd (cc e)
-some-annotated (Items items (more a as')) e = refl
-some-annotated (Hole inner none) e = absurd (cc e)
-some-annotated (Hole inner (more a as')) e = refl
-
-none-annotated : (t : Tree) → anns_of t ≡ None → is_annotated t ≡ false
-none-annotated (Int z none) e = refl
-none-annotated (Int z (more a as')) e = absurd (cc e)
-none-annotated (Appl name quoted args none) e = refl
-none-annotated (Appl name quoted args (more a as')) e = absurd (cc e)
-none-annotated (Items items none) e = refl
-none-annotated (Items items (more a as')) e = absurd (cc e)
-none-annotated (Hole inner none) e = refl
-none-annotated (Hole inner (more a as')) e = absurd (cc e)
-
--- what is answered for the annotations of a reference tells whether there are any
-pub is_some-anns : (w : Store) (r : Term) (answer : Option Term) → IsSome (tree_at w r) → HasAnns w r answer → is_some answer ≡ is_annotated (held_tree w r)
-is_some-anns w r answer there h = by_tree (tree_at w r) refl there
-  where
-    by_answer : (t : Tree) (answer : Option Term) → tree_at w r ≡ Some t → HasAnns w r answer → is_some answer ≡ is_annotated t
-    by_answer t None e a = sym (none-annotated t (sym (ap (option_and_then anns_of) e) ∙ a))
-    by_answer t (Some x) e a = sym (some-annotated t (subst IsSome (ap (option_and_then anns_of) e) a.0))
-
-    by_tree : (o : Option Tree) → tree_at w r ≡ o → IsSome o → is_some answer ≡ is_annotated (held_tree w r)
-    by_tree None e s = absurd (cc s)
-    by_tree (Some t) e s = by_answer t answer e h ∙ ap is_annotated (sym (held w r t e))
-
 -- ---- lists without annotations
-
-pub elements-items : (items anns : Trees) → is_some (elements (Items items anns)) ≡ not (is_annotated (Items items anns))
-elements-items items none = refl
-elements-items items (more a as') = refl
 
 -- ---- rules
 

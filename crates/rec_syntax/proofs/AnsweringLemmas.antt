@@ -5,7 +5,7 @@ use Rattle.rec_syntax.specs.Tokens.{Token, Placed}
 use Rattle.rec_syntax.specs.Grammar.{SpecText}
 use Rattle.rec_syntax.specs.Place.{IsFaultPlace}
 use Rattle.rec_syntax.specs.Machine as machine
-use Rattle.rec_syntax.specs.Machine.{Config, step, Read, stopped, outcome}
+use Rattle.rec_syntax.specs.Machine.{Config, step, stopped, outcome}
 use Rattle.rec_syntax.specs.Lexemes.{tokens_from, behind}
 use Rattle.rec_syntax.specs.declared.lexer.Kind.{Kind}
 use Rattle.rec_syntax.specs.declared.lexer.Kind.TheVariants.{End}

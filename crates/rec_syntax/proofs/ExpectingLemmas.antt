@@ -93,11 +93,6 @@ pub conditions_end : (l r : Term) (cs : List Condition) (x : Term) (e : Bool) (t
 conditions_end l r cs x e t y AndIf h = absurd (h refl)
 conditions_end l r cs x e t y k h = refl
 
--- a word that is not called is a whole term
-pub word_ends : (p : Role) (w : Word) (fs : List Frame) (y : Spec) (k : TokenKind) → (k ≡ Open → ⊥) → is_taken (step (Called p w fs) y) k ≡ is_taken (after p (Apply w none) fs y) k
-word_ends p w fs y Open h = absurd (h refl)
-word_ends p w fs y k h = refl
-
 -- behind a whole argument
 abbrev goes_on : TokenKind → Bool
 goes_on Comma = true

@@ -7,7 +7,7 @@ use Rattle.rec_syntax.specs.Tokens as token
 use Rattle.rec_syntax.specs.Syntax as syntax
 use Rattle.rec_syntax.specs.Syntax.{Terms, Apply, none, more}
 use Rattle.rec_syntax.specs.Nodes as nodes
-use Rattle.rec_syntax.specs.Nodes.{term_count, flat, flat_all, newest, assembled, made_by, newest_term, spelled_by}
+use Rattle.rec_syntax.specs.Nodes.{term_count, flat, flat_all, newest, assembled, made_by, newest_term}
 use Rattle.rec_syntax.specs.Machine as machine
 use Rattle.rec_syntax.specs.Machine.{Role, snoc, to}
 use Rattle.rec_syntax.specs.Lexemes.{word_of}

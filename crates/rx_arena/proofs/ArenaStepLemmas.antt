@@ -14,7 +14,7 @@ use Rattle.rx_arena.specs.Pool.{PoolState, spare_of}
 use Rattle.rx_arena.specs.Arena.{Taken, ArenaState, taken_at, IsTaken, chain_at, IsLoose, is_marked, IsMarked, IsArena, empty_arena, new_cell, with_marking, shown_of, state_of}
 use Rattle.rx_arena.proofs.PutLemmas.{one_or_two, get_or-put_same, get_or-put_other, put-get_or, map-put, get_or-map_option, filled-put, filled-map, times_in-at}
 use Rattle.rx_arena.proofs.ChainLemmas as chains
-use Rattle.rx_arena.proofs.ChainLemmas.{one_or_more, chain_agrees, chain_stays, chains_agree, chains_stay, chains-set, pushed, popped, ended, first_some, listed_is, chained_is, chains-length}
+use Rattle.rx_arena.proofs.ChainLemmas.{chain_agrees, chain_stays, chains_agree, chains_stay, chains-set, pushed, popped, first_some, listed_is, chained_is, chains-length}
 use Rattle.rx_arena.proofs.PoolLemmas.{links_some}
 use Rattle.rx_arena.proofs.ArenaLawLemmas.{empty_law, prepend_law, truncate_law, cleared_law, loose_free, push_law, pop_law, altered_law, unmarked_away, gray_law, gray_pop_law, take_law, give_back_law, reserve_law, turn_law, taken_marked}
 

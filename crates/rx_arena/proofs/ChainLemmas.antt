@@ -108,13 +108,6 @@ pub one_or_more : (n : ℕ) → (n ≡ 0) ⊎ (0 < n)
 one_or_more zero = inl refl
 one_or_more (suc n) = inr (omega arith)
 
--- something lies at each slot of the chains
-pub chained_some : (ls : Links) (hs : List (Option ℕ)) (css : List (List ℕ)) (t : ℕ) → AreChains ls hs css → 0 < times_in t css → (next : Option ℕ) × (get_or ls t None ≡ Some next)
-chained_some ls [] [] t a lt = absurd (omega (arith, lt))
-chained_some ls [] (c ∷ cs) t a lt = absurd a
-chained_some ls (h ∷ hs) [] t a lt = absurd a
-chained_some ls (h ∷ hs) (c ∷ cs) t a lt = elim (one_or_more (times t c)) [ inl z ↦ chained_some ls hs cs t a.1 (omega (arith, lt, z)) | inr p ↦ member_some ls h c t a.0 p ]
-
 -- where chain t holds the slot it can be split there
 pub split_at : (s : ℕ) (ss : List ℕ) → 0 < times s ss → (before : List ℕ) × ((after : List ℕ) × (ss ≡ before ++ s ∷ after))
 split_at s [] lt = absurd (omega (arith, lt))

@@ -1,7 +1,7 @@
 -- The slots of the chains are dealt out to new chains, by their hashes.
-use Rattle.std.proofs.Common.{◌≡◌, ◌≢◌, ℕ, zero, suc, ◌+◌, ◌-◌, ◌%◌, ◌<◌, ◌≤◌, inl, inr, List, [], ◌∷◌, ◌++◌, length, get_or, set, take, IfSome, refl, sym, ap, subst, ◌∙◌, arith}
-use Rattle.std.specs.Prelude.{Bool, true, false, cond, nat_eq, replicate}
-use Rattle.std.proofs.lemmas.List.{length-append, length-replicate, length-set, length-take-le, get_or-set_same, get_or-set_other, get_or-take, get_or_append_left, get_or-append_right, get_or-replicate, take_all, take_more}
+use Rattle.std.proofs.Common.{◌≡◌, ◌≢◌, ℕ, zero, suc, ◌+◌, ◌-◌, ◌%◌, ◌<◌, ◌≤◌, inl, inr, List, [], ◌∷◌, length, get_or, set, take, IfSome, refl, sym, ap, subst, ◌∙◌, arith}
+use Rattle.std.specs.Prelude.{Bool, true, false, cond, nat_eq}
+use Rattle.std.proofs.lemmas.List.{length-set, length-take-le, get_or-set_same, get_or-set_other, get_or-take, take_all, take_more}
 use Rattle.std.proofs.lemmas.Bool.{eq-eqb, ne_eqb}
 use Rattle.rx_arena.specs.declared.CellBody.{CellBody}
 use Rattle.rx_arena.specs.Put.{one_if, times, times_in}
@@ -119,20 +119,6 @@ pub record Dealing (init : ArenaState) (n i : ℕ) (self : ArenaState) : Type 0 
   pub left : (k : ℕ) → i ≤ k → chain_at self k ≡ get_or init.chains (k - n) []
   pub gone : (k : ℕ) → n ≤ k → k < i → chain_at self k ≡ []
   pub dealt : (k : ℕ) → k < n → (t : ℕ) → times t (chain_at self k) ≡ cond (nat_eq (hash_at init t % n) k) (times_in t (take (i - n) init.chains)) 0
-
-pub dealing_begins : (init : ArenaState) (n : ℕ) (self : ArenaState) → self ≡ record init { chains = replicate n [] ++ init.chains } → Dealing init n n self
-dealing_begins init n self e =
-    let count : length (replicate n (let z : List ℕ = [] in z)) ≡ n = length-replicate n [] in
-    subst (Dealing init n n) (sym e) (record {
-      lens = length-append (replicate n []) init.chains ∙ ap (λ z. z + length init.chains) count;
-      same = refl;
-      left = λ k le. get_or-append_right (replicate n []) init.chains n k [] count le;
-      gone = λ k le lt. absurd (omega (arith, le, lt));
-      dealt = λ k lt t.
-          (let here : get_or (replicate n [] ++ init.chains) k [] ≡ [] = get_or_append_left (replicate n []) init.chains [] k (omega (arith, count, lt)) ∙ get_or-replicate n k [] [] lt in
-          let start : n - n ≡ 0 = omega arith in
-          ap (times t) here ∙ sym (ap (λ z. cond (nat_eq (hash_at init t % n) k) (times_in t (take z init.chains)) 0) start ∙ cond-zero (nat_eq (hash_at init t % n) k)));
-    })
 
 times_in-take_more : (t j : ℕ) (css : List (List ℕ)) → j < length css → times_in t (take (j + 1) css) ≡ times_in t (take j css) + times t (get_or css j [])
 times_in-take_more t j css lt = ap (times_in t) (take_more css j [] lt) ∙ times_in-append t (take j css) (get_or css j [] ∷ []) ∙ (omega arith)

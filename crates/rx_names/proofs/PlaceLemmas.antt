@@ -6,10 +6,6 @@ use Rattle.std.proofs.lemmas.Option.{slice_get-get_or}
 use Rattle.std.proofs.lemmas.List.Quantifiers.{position-Some}
 use Rattle.rx_names.specs.Places.{AreApart, AllBytes, KeepsPlaces}
 
-pub push-same : {X : Type 0} (xs : List X) (x : X) → slice_get (xs ++ x ∷ []) (length xs) ≡ Some x
-push-same [] x = refl
-push-same (y ∷ ys) x = push-same ys x
-
 pub push-kept : {X : Type 0} (xs : List X) (x : X) → KeepsPlaces xs (xs ++ x ∷ [])
 push-kept [] x i y e = cc
 push-kept (z ∷ zs) x zero y e = e

@@ -1,5 +1,5 @@
 -- The nodes of a whole pattern.
-use Rattle.std.proofs.Common.{ℕ, ◌==◌, eq-eqb, ◌≡◌, ◌≢◌, ◌&&◌, Bool, true, false, List, [], ◌∷◌, Option, Some, None, IsSome, cond, length, map, refl, sym, ap, ◌∙◌, subst}
+use Rattle.std.proofs.Common.{ℕ, ◌==◌, eq-eqb, ◌≡◌, ◌≢◌, ◌&&◌, Bool, true, false, List, [], Option, Some, None, IsSome, cond, length, map, refl, sym, ap, ◌∙◌, subst}
 use Rattle.std.specs.Prelude.{IsTrue, Result, Ok, Err, IfOk, IfErr, IsErrOf}
 use Rattle.std.proofs.lemmas.Bool.Decides.{Decides-eqb}
 use Rattle.rx_term.specs.Tree.{Tree, is_tree}

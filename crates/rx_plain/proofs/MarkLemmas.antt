@@ -30,9 +30,6 @@ Keeps-refl xs = record { heap = refl; roots = refl; len = refl; grows = λ t e. 
 pub Keeps-trans : {a b c : List Slot} → Keeps a b → Keeps b c → Keeps a c
 Keeps-trans p q = record { heap = q.heap ∙ p.heap; roots = q.roots ∙ p.roots; len = q.len ∙ p.len; grows = λ t e. q.grows t (p.grows t e) }
 
-pub Marks-none : (xs : List Slot) → Marks xs xs []
-Marks-none xs = record { keeps = Keeps-refl xs; all = λ t h. absurd (no_element t h); only = λ t e. inl e }
-
 pub Marks-trans : {a b c : List Slot} {is js : List ℕ} → Marks a b is → Marks b c js → Marks a c (is ++ js)
 Marks-trans {is = is} {js = js} p q = record {
   keeps = Keeps-trans p.keeps q.keeps;
@@ -132,19 +129,8 @@ settled old new p = (p.progress.0, subst IsClosed (sym p.progress.0) (closed-all
 pub below-marked : (xs : List Slot) (t : ℕ) (s : Slot) (x : Body) → slice_get xs t ≡ Some s → s.mark ≡ true → s.body ≡ Some x → links (cell_of x) ≡ links_below (slice_get xs t)
 below-marked xs t s x e m b = rw (e, m, b) refl
 
-pub below-unmarked : (xs : List Slot) (t : ℕ) (s : Slot) → slice_get xs t ≡ Some s → s.mark ≡ false → [] ≡ links_below (slice_get xs t)
-below-unmarked xs t s e m = rw (e, m) refl
-
-pub below-free : (xs : List Slot) (t : ℕ) (s : Slot) → slice_get xs t ≡ Some s → s.mark ≡ true → s.body ≡ None → [] ≡ links_below (slice_get xs t)
-below-free xs t s e m b = rw (e, m, b) refl
-
 pub body-links : (xs : List Slot) (t : ℕ) (s : Slot) (x : Body) → AreLinksWithin xs → slice_get xs t ≡ Some s → s.body ≡ Some x → (i : ℕ) → Contains (links (cell_of x)) i → i < length xs
 body-links xs t s x within e b i c = within t i (cell_of x) (ap cell_at e ∙ ap cell_in b) c
-
--- a pass with new marks leaves fewer slots unmarked; after one without, no pass follows
-pub pass-smaller : (now next : List Slot) (fresh : Bool) → Passes now next fresh → unmarked next + (if fresh then 1 else 0) < unmarked now + 1
-pass-smaller now next true p = let e = p.progress in omega arith
-pass-smaller now next false p = subst (λ xs. unmarked xs + 0 < unmarked now + 1) (sym p.progress.0) (omega arith)
 
 take-suc : (ts : List Term) (k : ℕ) (d : Term) → k < length ts → map (λ t. t.0) (take (suc k) ts) ≡ map (λ t. t.0) (take k ts) ++ (get_or ts k d).0 ∷ []
 take-suc [] k d lt = absurd (omega arith)

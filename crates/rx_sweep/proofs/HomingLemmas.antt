@@ -12,7 +12,7 @@ use Rattle.rx_sweep.specs.Reach.{unmarked, home, IsHomed}
 use Rattle.rx_sweep.specs.Marking.{SameButMarks}
 use Rattle.rx_sweep.proofs.BareLemmas.{same_at, same_chain, same_chains}
 use Rattle.rx_sweep.proofs.SweepLemmas.{lists_same, get_or-map_nil, length-map_lists, times-filter_false, true_or_false}
-use Rattle.rx_sweep.proofs.UnlinkingLemmas.{GivingBack, giving_begins, giving_taken, was_unmarked, giving_on, giving_past}
+use Rattle.rx_sweep.proofs.UnlinkingLemmas.{GivingBack, giving_taken, was_unmarked, giving_on, giving_past}
 use Rattle.rx_sweep.proofs.WalkLemmas.{chain_in}
 
 hash-unmarked : (c : Option Taken) → stored_hash (unmarked c) ≡ stored_hash c
@@ -93,14 +93,6 @@ pub record Sweeping (init : ArenaState) (k : ℕ) (self : ArenaState) : Type 0 w
   pub count : length self.chains ≡ length init.chains
   pub either : (c : ℕ) → (chain_at self c ≡ chain_at init c) ⊎ (chain_at self c ≡ kept_in init c)
   pub gone : (s : ℕ) → k ≤ s → marked_at init s ≡ false → IsTaken init s → chain_at self (home init s) ≡ kept_in init (home init s)
-
-pub sweeping_begins : (init : ArenaState) (n : ℕ) → IsArena init → init.gray ≡ [] → ((s : ℕ) → n ≤ s → taken_at init s ≡ None) → Sweeping init n init
-sweeping_begins init n law gray past = record {
-  cells = giving_begins init n law gray past;
-  count = refl;
-  either = λ c. inl refl;
-  gone = λ s le m t. absurd (let none = past s le in let some = t.1 in cc);
-}
 
 module _ (init : ArenaState) (k : ℕ) (self : ArenaState) (inv : Sweeping init (k + 1) self) where
   here : taken_at self k ≡ taken_at init k

@@ -1,7 +1,6 @@
 -- The slots that a body names, one by one.
-use Rattle.std.proofs.Common.{◌≡◌, ◌≢◌, ℕ, ◌<◌, ◌^◌, ◌⊎◌, inl, inr, List, [], ◌∷◌, ◌++◌, refl, sym, ap, subst, arith}
-use Rattle.std.specs.Prelude.{Option, cond}
-use Rattle.std.proofs.lemmas.Bool.{ne_eqb}
+use Rattle.std.proofs.Common.{◌≡◌, ℕ, ◌<◌, ◌^◌, ◌⊎◌, inl, inr, List, [], ◌∷◌, ◌++◌, sym, ap, subst, arith}
+use Rattle.std.specs.Prelude.{Option}
 use Rattle.std.proofs.lemmas.Bool.Decides.{eqb_tells}
 use Rattle.rx_arena.specs.declared.Slot.{Slot}
 use Rattle.rx_arena.specs.Put.{times}
@@ -22,10 +21,6 @@ words-application kind a b e = words-is 3 a b kind e
 
 pub words-placeholder : (kind a b : ℕ) → kind ≡ 4 → words kind a b ≡ a ∷ []
 words-placeholder kind a b e = words-is 4 a b kind e
-
-pub words-other : (kind a b : ℕ) → kind ≢ 2 → kind ≢ 3 → kind ≢ 4 → words kind a b ≡ []
-words-other kind a b n2 n3 n4 =
-    (λ i. cond (ne_eqb kind 2 n2 i) (a ∷ b ∷ []) (cond (ne_eqb kind 3 n3 i) (b ∷ []) (cond (ne_eqb kind 4 n4 i) (a ∷ []) [])))
 
 -- a taken slot's number fits a link
 pub taken_small : (a : ArenaState) (s : ℕ) → IsArena a → IsTaken a s → s < 2 ^ 32
@@ -58,12 +53,6 @@ marks_append a b c xs ys m n =
   where
     some_or_none : (n : ℕ) → (0 < n) ⊎ (n ≡ 0)
     some_or_none n = elim (eqb_tells n 0) [ inl h ↦ inr h.1 | inr h ↦ inl (omega (arith, h.1)) ]
-
--- the slots of a list of two
-pub marks_list_two : (a b c : ArenaState) (s t : ℕ) (ss : List ℕ) → ss ≡ s ∷ t ∷ [] → Marks a b (λ k. k ≡ s) → Marks b c (λ k. k ≡ t) → Marks a c (λ k. 0 < times k ss)
-marks_list_two a b c s t ss e m n =
-    subst (λ z. Marks a c (λ k. 0 < times k z)) (sym e)
-    (marks_append a b c (s ∷ []) (t ∷ []) (marks_list_one a b s (s ∷ []) refl m) (marks_list_one b c t (t ∷ []) refl n))
 
 pub marks_list_none : (a : ArenaState) (ss : List ℕ) → ss ≡ [] → Marks a a (λ k. 0 < times k ss)
 marks_list_none a ss e = marks_none a (λ k. 0 < times k ss) (λ k h. let none = subst (λ z. 0 < times k z) e h in absurd (omega (arith, none)))

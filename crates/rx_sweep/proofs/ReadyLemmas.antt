@@ -5,18 +5,11 @@ use Rattle.std.specs.Option.{option_map}
 use Rattle.rx_arena.specs.declared.CellBody.{CellBody}
 use Rattle.rx_arena.specs.declared.Slot.{Slot}
 use Rattle.rx_arena.specs.Put.{one_if, times, times_in, put, altered}
-use Rattle.rx_arena.specs.Arena.{Taken, ArenaState, taken_at, IsTaken, chain_at, IsLoose, root_count, roots_at, is_marked, marked_at, new_cell, with_count, with_marking, empty_arena}
+use Rattle.rx_arena.specs.Arena.{Taken, ArenaState, taken_at, IsTaken, chain_at, IsLoose, is_marked, marked_at, new_cell, with_count, with_marking}
 use Rattle.rx_arena.proofs.PutLemmas.{one_or_two, get_or-put_same, get_or-put_other, times_in-set, times-append}
 use Rattle.rx_arena.proofs.ChainLemmas.{one_or_more}
 use Rattle.rx_arena.proofs.ArenaCallLemmas.{two_slots, just_taken, taken_else}
 use Rattle.rx_sweep.specs.Reach.{annotations, words, names, cell_names, named_at, CanCollect}
-
-pub ready_empty : (cap chains : ℕ) (a : ArenaState) → a ≡ empty_arena cap chains → CanCollect a
-ready_empty cap chains a e = subst CanCollect (sym e) (record {
-  chained = λ s h. absurd (let some = h.1 in cc);
-  closed = λ s t h. absurd (omega (arith, h));
-  marked_gray = λ s h. absurd (cc);
-})
 
 part_in : (a s : ℕ) (ts : List ℕ) (P : ℕ → Type 0) → P a → (0 < times s ts → P s) → 0 < times s (a ∷ ts) → P s
 part_in a s ts P here there h = elim (one_or_two a s) [ inl e ↦ subst P e.1 here | inr e ↦ there (omega (arith, h, e.0)) ]
@@ -142,10 +135,6 @@ rooted_ready old new k n e can =
         | inr i ↦ sym (ap is_marked (changed_else (with_count n) (λ t. refl) old new k cells s i.1)) ∙ h
       ]));
     }
-
--- what was set is there
-pub roots_set : (old new : ArenaState) (k n : ℕ) → new ≡ record old { cells = altered k (with_count n) old.cells } → IsTaken old k → roots_at new k ≡ n
-roots_set old new k n e h = ap root_count (changed_here (with_count n) (λ t. refl) old new k (ap (λ (v : ArenaState). v.cells) e) ∙ ap (option_map (with_count n)) h.1)
 
 pub grayed_ready : (old new : ArenaState) (k : ℕ) → new ≡ record old { cells = altered k (with_marking true) old.cells; gray = k ∷ old.gray } → CanCollect old → CanCollect new
 grayed_ready old new k e can =

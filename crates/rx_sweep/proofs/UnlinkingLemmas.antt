@@ -67,20 +67,6 @@ pub record GivingBack (init : ArenaState) (k : ℕ) (self : ArenaState) : Type 0
   pub done : (s : ℕ) → k ≤ s → taken_at self s ≡ cond (marked_at init s) (taken_at init s) None
   pub left : (s : ℕ) → s < k → taken_at self s ≡ taken_at init s
 
-none_kept : (b : Bool) (o : Option Taken) → o ≡ None → o ≡ cond b o None
-none_kept true o e = refl
-none_kept false o e = e
-
-pub giving_begins : (init : ArenaState) (n : ℕ) → IsArena init → init.gray ≡ [] → ((s : ℕ) → n ≤ s → taken_at init s ≡ None) → GivingBack init n init
-giving_begins init n law gray past = record {
-  law = law;
-  gray = gray;
-  cap = refl;
-  spare = refl;
-  done = λ s le. none_kept (marked_at init s) (taken_at init s) (past s le);
-  left = λ s lt. refl;
-}
-
 unmarked_some : (o : Option Taken) → is_unmarked o ≡ true → (t : Taken) × (o ≡ Some t) × (is_marked o ≡ false)
 unmarked_some None e = absurd (cc)
 unmarked_some (Some t) e = (t, refl, unmark t.marked e) where

@@ -1,14 +1,14 @@
 -- What makes and reclaims keep.
-use Rattle.std.proofs.Common.{◌≡◌, ◌<◌, inl, inr, List, Option, Some, Result, Ok, Err, IsSome, Contains, refl, sym, ap, ◌∙◌, subst, ℕ}
+use Rattle.std.proofs.Common.{◌≡◌, ◌<◌, inl, inr, List, Option, Some, IsSome, Contains, refl, sym, ap, ◌∙◌, subst}
 use Rattle.std.specs.FinMap as map
 use Rattle.rx_term.specs.Tree.{Tree}
 use Rattle.rx_term.specs.Store.{Store, tree_at}
-use Rattle.rx_term.specs.Steps.{SameBesideContent, IsReached, IsKeptRoot, Reclaims, Makes, Refuses, MakesOrRefuses, ReservesOrRefuses, Keeps, IsExhausted}
+use Rattle.rx_term.specs.Steps.{SameBesideContent, IsReached, IsKeptRoot, Reclaims, Refuses, Keeps, IsExhausted}
 use Rattle.rx_term.specs.declared.Term.{Term}
 use Rattle.rx_term.specs.declared.faults.BankFault.{BankFault}
 use Rattle.rx_term.specs.declared.faults.BankFault.TheVariants.{Full}
 use Rattle.rx_term.proofs.PartsLemmas.{parts-self}
-use Rattle.rx_term.proofs.StoreLemmas.{kept-Makes, some-value}
+use Rattle.rx_term.proofs.StoreLemmas.{some-value}
 
 pub Keeps-refl : (w : Store) (work : List Term) → Keeps w w work
 Keeps-refl w work = record { trees = λ t u e h. e; beside = record { symbols = refl; roots = refl; cap = refl } }
@@ -30,19 +30,8 @@ Keeps-trans p q = record { trees = λ t u e h. q.trees t u (p.trees t u e h) (st
 same-trees : {old new : Store} (work : List Term) → new.content ≡ old.content → SameBesideContent old new → Keeps old new work
 same-trees work e beside = record { trees = λ t u q h. ap (λ c. map.get c t.0) e ∙ q; beside = beside }
 
-pub Keeps-Makes : {old new : Store} {tree : Option Tree} {r : Term} (work : List Term) → Makes old new tree r → Keeps old new work
-Keeps-Makes work m = record { trees = λ t u e h. kept-Makes m t u e; beside = m.beside }
-
 pub Keeps-Refuses : {old new : Store} {tree : Option Tree} {e : BankFault} (work : List Term) → Refuses old new tree e → Keeps old new work
 Keeps-Refuses work m = same-trees work m.content m.beside
-
-pub Keeps-made : (old new : Store) (tree : Option Tree) (work : List Term) (x : Result Term BankFault) → MakesOrRefuses old new tree x → Keeps old new work
-Keeps-made old new tree work (Ok r) m = Keeps-Makes work m
-Keeps-made old new tree work (Err e) m = Keeps-Refuses work m
-
-pub Keeps-reserved : (old new : Store) (k : ℕ) (work : List Term) (x : Result (Unit {0}) BankFault) → ReservesOrRefuses old new k x → Keeps old new work
-Keeps-reserved old new k work (Ok u) m = same-trees work m.content m.beside
-Keeps-reserved old new k work (Err e) m = same-trees work m.content m.beside
 
 pub Keeps-Reclaims : {old new : Store} {work : List Term} → Reclaims old new work → Keeps old new work
 Keeps-Reclaims m = record { trees = m.kept; beside = m.beside }

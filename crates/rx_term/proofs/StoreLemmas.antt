@@ -7,8 +7,8 @@ use Rattle.std.specs.FinMap as map
 use Rattle.std.specs.FinMap.{gets}
 use Rattle.rx_term.specs.Tree.{Tree}
 use Rattle.rx_term.specs.Name.{Signature}
-use Rattle.rx_term.specs.Store.{Store, tree_at, signature_of, cells}
-use Rattle.rx_term.specs.Steps.{Grows, MakesOrRefuses, AddsOrRefuses, Makes, Refuses, Adds, IsSound}
+use Rattle.rx_term.specs.Store.{Store, tree_at, signature_of}
+use Rattle.rx_term.specs.Steps.{Grows, MakesOrRefuses, AddsOrRefuses, Makes, Refuses, Adds}
 use Rattle.rx_term.specs.declared.Term.{Term}
 use Rattle.rx_term.specs.declared.Symbol.{Symbol}
 use Rattle.rx_term.specs.declared.faults.BankFault.{BankFault}
@@ -52,23 +52,6 @@ kept-Adds {old = old} {s = s} m t v h =
       | inl e ↦ (let there : IsSome (signature_of old s) = some_of (subst (λ x. signature_of old x ≡ Some v) e h) in ap (λ w. signature_of w t) (m.there there) ∙ h)
       | inr n ↦ m.others t n ∙ h
     ]
-
--- a make of a tree that is there gives its reference, and changes nothing
-pub found-Makes : {old new : Store} {u : Tree} {r : Term} → IsSound new → Makes old new (Some u) r → (t : Term) → tree_at old t ≡ Some u → (t ≡ r) × (new ≡ old)
-found-Makes {old = old} {new = new} {u = u} {r = r} s m t h =
-    let e : t ≡ r = s.one_to_one t r u (kept-Makes m t u h) m.made in
-    (e, m.there (some_of (subst (λ x. tree_at old x ≡ Some u) e h)))
-
--- a make puts its tree in, and nothing else
-pub made-content : {old new : Store} {u : Tree} {r : Term} → Makes old new (Some u) r → new.content ≡ map.insert old.content r.0 u
-made-content {old = old} {new = new} {u = u} {r = r} m = map.same_map nat_cmp_total map.nat_cmp-IsAntisymmetric _ _ (λ q. elim (eqb_tells q r.0) [
-  | inl p ↦ subst (λ j. map.get new.content j ≡ map.get (map.insert old.content r.0 u) j) (sym p.1) (m.made ∙ sym (inserted old.content r.0 u))
-  | inr p ↦ (let t : Term = record { 0 = q } in m.others t (λ e. p.1 (ap (λ x. x.0) e)) ∙ sym (not_inserted old.content r.0 q u p.1))
-])
-
--- a make of a tree that is not there adds one cell
-pub made-cells : {old new : Store} {u : Tree} {r : Term} → Makes old new (Some u) r → tree_at old r ≡ None → cells new ≡ cells old + 1
-made-cells {old = old} {u = u} {r = r} m e = ap map.len (made-content m) ∙ len-insert-new old.content r.0 u e
 
 pub Grows-Makes : {old new : Store} {u : Option Tree} {r : Term} → Makes old new u r → Grows old new
 Grows-Makes {old = old} {new = new} m = record {

@@ -6,9 +6,8 @@ use Rattle.std.proofs.lemmas.Int.{to_z-of_z}
 use Rattle.std.proofs.lemmas.Bool.Decides.{nat_tests}
 use Rattle.rx_term.specs.Tree.{Tree, none, Int, Appl, annotated, is_i32}
 use Rattle.rx_text.specs.Nodes as nodes
-use Rattle.rx_text.specs.Nodes.{Number, Application, Listing, Holding, Annotating, taken, newest, top, rest, needed, assembled, trees_of, Enough}
+use Rattle.rx_text.specs.Nodes.{Number, Application, Listing, Holding, Annotating, newest, top, rest, needed, assembled, trees_of, Enough}
 use Rattle.rx_text.specs.Machine as machine
-use Rattle.rx_text.specs.Machine.{State, onto}
 use Rattle.rx_text.specs.Token as token
 use Rattle.rx_text.specs.Token.{Token}
 use Rattle.rx_text.specs.Lexemes.{name_of, IsWord, token_of}

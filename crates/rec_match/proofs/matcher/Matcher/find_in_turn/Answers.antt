@@ -2,10 +2,11 @@ use Rattle.std.proofs.Common.{refl, true, false, sym, ap, ◌∙◌, subst, arit
 use Rattle.std.specs.Prelude.{All}
 use Rattle.rx_term.specs.declared.Term.{Term}
 use Rattle.rx_term.specs.Walks.{AllHeld}
+use Rattle.rx_term.proofs.WalkLemmas.{AllHeld-append}
 use Rattle.rec_match.specs.Matching.{Matches}
 use Rattle.rec_match.specs.Ordered.{in_order}
 use Rattle.rec_match.proofs.FindLemmas.{trying-next, can-ask, can-next, later-next, side-count, order-there, found-here, found-none}
-use Rattle.rec_match.proofs.HitLemmas.{found-on, found-held, held-both}
+use Rattle.rec_match.proofs.HitLemmas.{found-on, found-held}
 use Rattle.rec_match.proofs.ValueLemmas.{no_term}
 use Rattle.rec_match.proofs.matcher.Matcher.find_in_turn.Goals as goal
 
@@ -49,7 +50,7 @@ returns-then-branch g c =
     ∙ ap (λ xs. old ++ in_order no_term xs c.deref-then-branch-2.result.now) c.deref-then-branch.ensures.value ∙ ap (λ xs. old ++ in_order no_term tested xs) c.deref-then-branch-2.ensures.value in
     record {
       finds = found-on w m c.args.at old values new i c.len-values.result finds (c.len-values.ensures ∙ c.loop-i.work.ok.0 ∙ ap (λ (xs : List Term). length xs) same) pushed;
-      held = held-both w old values new pushed c.requires.held (found-held w m c.args.symbol c.args.count c.args.at old values i c.requires.can finds);
+      held = subst (AllHeld w) (sym pushed) (AllHeld-append w old values c.requires.held (found-held w m c.args.symbol c.args.count c.args.at old values i c.requires.can finds));
       behind = (values, pushed);
     }
 
