@@ -10,7 +10,11 @@ with_one s name u = s ++ (record { name = name; value = u } ∷ [])
 
 -- the arguments of a tree, where it is this name applied to so many
 abbrev pub opened : List ℕ → ℕ → Tree → Option Trees
-opened name k u = elim (tree_eq (application name (arguments u)) u && nat_eq (count_of (arguments u)) k) [ true ↦ Some (arguments u) | false ↦ None ]
+opened name k u =
+    elim (tree_eq (application name (arguments u)) u && nat_eq (count_of (arguments u)) k) [
+      | true ↦ Some (arguments u)
+      | false ↦ None
+    ]
 
 -- a name is given a value, or has it already
 abbrev pub bound : Substitution → List ℕ → Tree → Option Substitution

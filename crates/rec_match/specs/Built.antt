@@ -41,8 +41,10 @@ pub record IsLeftSide (y : Spec) (ss : List bank.Symbol) (r : Rule) (s : LeftSid
   pub tests : AreTested ss letters s.tests.items s.variables.items s.order.items
 
 -- the left sides of the first rules, with the rules that come next
-pub record AreSides (y : Spec) (ss : List bank.Symbol) (fs nexts : List ℕ) (sides : List LeftSide) (n : ℕ) : Type 0 where
+pub record AreSides (y : Spec) (ss : List bank.Symbol) (fs nexts : List ℕ) (sides : List LeftSide)
+    (n : ℕ) : Type 0 where
   pub long : length sides ≡ n
-  pub each : (i : ℕ) (r : Rule) (s : LeftSide) → i < n → IsLeftSide y ss (get_or y.rules i r) (get_or sides i s)
+  pub each : (i : ℕ) (r : Rule) (s : LeftSide) → i < n
+      → IsLeftSide y ss (get_or y.rules i r) (get_or sides i s)
   pub symbols_of : (i : ℕ) (s : LeftSide) → i < n → (get_or sides i s).symbol ≡ get_or fs i 0
   pub nexts_of : (i : ℕ) (s : LeftSide) → i < n → (get_or sides i s).next ≡ get_or nexts i 0

@@ -28,10 +28,12 @@ ArePlaces n k (First r ∷ ps) = (r < n) × ArePlaces n (suc k) ps
 ArePlaces n k (Again r v ∷ ps) = (r < n) × (v < k) × ArePlaces n k ps
 
 -- the values at places, after those that there are; none where two that have to be the same are not
-abbrev pub filled : {X : Type 0} → (X → X → Bool) → X → List Place → List X → List X → Option (List X)
+abbrev pub filled : {X : Type 0} → (X → X → Bool) → X → List Place → List X → List X
+    → Option (List X)
 filled eq d [] us vs = Some vs
 filled eq d (First r ∷ ps) us vs = filled eq d ps us (vs ++ get_or us r d ∷ [])
-filled eq d (Again r v ∷ ps) us vs = elim (eq (get_or vs v d) (get_or us r d)) [ true ↦ filled eq d ps us vs | false ↦ None ]
+filled eq d (Again r v ∷ ps) us vs =
+    elim (eq (get_or vs v d) (get_or us r d)) [ true ↦ filled eq d ps us vs | false ↦ None ]
 
 abbrev pub same_term : Term → Term → Bool
 same_term s t = nat_eq s.0 t.0
@@ -54,14 +56,18 @@ Extends old new = (more : List Term) × (new ≡ old ++ more)
 
 -- the items of a list stand behind what was there
 abbrev pub PushesArguments : Store → Term → List Term → List Term → Type 0
-PushesArguments w t old new = (ts : Trees) → tree_at w t ≡ Some (Items ts none) → AllHeld w old → AllHeld w new × (held_trees w new ≡ held_trees w old ++ to_list ts)
+PushesArguments w t old new = (ts : Trees) → tree_at w t ≡ Some (Items ts none) → AllHeld w old
+    → AllHeld w new × (held_trees w new ≡ held_trees w old ++ to_list ts)
 
 -- the child of a symbol's number
 abbrev pub no_child : Child
 no_child = record { node = 0; count = 0 }
 
 abbrev pub child_at : List Child → ℕ → ℕ → ℕ → ℕ → Child
-child_at cs low from span q = if nat_le low q && nat_lt (q - low) span then get_or cs (from + (q - low)) no_child else no_child
+child_at cs low from span q =
+    if nat_le low q && nat_lt (q - low) span
+    then get_or cs (from + (q - low)) no_child
+    else no_child
 
 -- the number of a symbol in a bank
 abbrev pub number_at : List ℕ → ℕ → ℕ
@@ -69,7 +75,8 @@ number_at ns k = get_or ns k 0
 
 -- these are the numbers of a specification's symbols in a bank
 abbrev pub AreNumbers : Spec → Store → List ℕ → Type 0
-AreNumbers y w ns = (k : ℕ) → k < length (symbols y) → signature_of w (record { 0 = number_at ns k }) ≡ Some (signature y k)
+AreNumbers y w ns = (k : ℕ) → k < length (symbols y)
+    → signature_of w (record { 0 = number_at ns k }) ≡ Some (signature y k)
 
 -- a child is that of a symbol
 pub record IsChild (y : Spec) (ns : List ℕ) (q : ℕ) (child : Child) : Type 0 where
@@ -93,10 +100,12 @@ AreCases y ns s = (q : ℕ) → (case_at s q).node ≢ 0 → IsChild y ns q (cas
 
 -- a tree is no application of a symbol that has a child
 abbrev pub OpensNoCase : Spec → List ℕ → Cases → Tree → Type 0
-OpensNoCase y ns s u = (k : ℕ) → k < length (symbols y) → (case_at s (number_at ns k)).node ≢ 0 → opened (name_of y (Symbol k)) (arity_of y k) u ≡ None
+OpensNoCase y ns s u = (k : ℕ) → k < length (symbols y) → (case_at s (number_at ns k)).node ≢ 0
+    → opened (name_of y (Symbol k)) (arity_of y k) u ≡ None
 
 -- a tree is an application of a symbol that has a child
-pub record OpensCase (y : Spec) (ns : List ℕ) (s : Cases) (u : Tree) (args : Trees) (next : ℕ) : Type 0 where
+pub record OpensCase (y : Spec) (ns : List ℕ) (s : Cases) (u : Tree) (args : Trees) (next : ℕ)
+    : Type 0 where
   pub symbol : ℕ
   pub declared : symbol < length (symbols y)
   pub child : (case_at s (number_at ns symbol)).node ≡ next
@@ -105,19 +114,22 @@ pub record OpensCase (y : Spec) (ns : List ℕ) (s : Cases) (u : Tree) (args : T
   pub counted : count_of args ≡ arity_of y symbol
 
 -- where a switch leads from a reference
-pub record TurnsIn (y : Spec) (w : Store) (ns : List ℕ) (s : Cases) (u : Term) (old new : List Term) (next : ℕ) : Type 0 where
+pub record TurnsIn (y : Spec) (w : Store) (ns : List ℕ) (s : Cases) (u : Term) (old new : List Term)
+    (next : ℕ) : Type 0 where
   pub args : Trees
   pub opens : OpensCase y ns s (held_tree w u) args next
   pub held : AllHeld w new
   pub registers : held_trees w new ≡ held_trees w old ++ to_list args
 
-pub record TurnsAway (y : Spec) (w : Store) (ns : List ℕ) (s : Cases) (other : ℕ) (u : Term) (old new : List Term) (next : ℕ) : Type 0 where
+pub record TurnsAway (y : Spec) (w : Store) (ns : List ℕ) (s : Cases) (other : ℕ) (u : Term)
+    (old new : List Term) (next : ℕ) : Type 0 where
   pub next_is : next ≡ other
   pub same : new ≡ old
   pub opens : OpensNoCase y ns s (held_tree w u)
 
 abbrev pub Turns : Store → Cases → ℕ → Term → List Term → List Term → ℕ → Type 0
-Turns w s other u old new next = (y : Spec) (ns : List ℕ) → AreNumbers y w ns → AreCases y ns s → TurnsIn y w ns s u old new next ⊎ TurnsAway y w ns s other u old new next
+Turns w s other u old new next = (y : Spec) (ns : List ℕ) → AreNumbers y w ns → AreCases y ns s
+    → TurnsIn y w ns s u old new next ⊎ TurnsAway y w ns s other u old new next
 
 -- a switch can be taken
 pub record CanTurn (w : Store) (s : Cases) : Type 0 where
@@ -150,25 +162,35 @@ pub record FitsTry (f : Forest) (m : Reading) (n rule from to next : ℕ) : Type
   pub ordered : from ≤ to
   pub within : to ≤ length f.places.items
   pub places : ArePlaces (m.width n) 0 (slice_range f.places.items from to)
-  pub finds : (least : ℕ) (us : List Tree) → length us ≡ m.width n → m.finds n least us ≡ or_else (found_at least rule (trees_filled (slice_range f.places.items from to) us [])) (m.finds next least us)
+  pub finds : (least : ℕ) (us : List Tree) → length us ≡ m.width n
+      → m.finds n least us
+      ≡ or_else (found_at least rule (trees_filled (slice_range f.places.items from to) us []))
+      (m.finds next least us)
 
 -- a switch
-pub record FitsSwitch (y : Spec) (ns : List ℕ) (f : Forest) (m : Reading) (n register other : ℕ) (s : Cases) : Type 0 where
+pub record FitsSwitch (y : Spec) (ns : List ℕ) (f : Forest) (m : Reading) (n register other : ℕ)
+    (s : Cases) : Type 0 where
   pub register_there : register < m.width n
   pub within : s.from + s.span ≤ length f.children.items
   pub cases : AreCases y ns s
   pub follows : Follows f m n other
   pub width : m.width other ≡ m.width n
-  pub otherwise : (least : ℕ) (us : List Tree) → length us ≡ m.width n → OpensNoCase y ns s (tree_in us register) → m.finds n least us ≡ m.finds other least us
-  pub follow : (k : ℕ) → k < length (symbols y) → (case_at s (number_at ns k)).node ≢ 0 → Follows f m n (case_at s (number_at ns k)).node
-  pub widths : (k : ℕ) → k < length (symbols y) → (case_at s (number_at ns k)).node ≢ 0 → m.width (case_at s (number_at ns k)).node ≡ m.width n + arity_of y k
-  pub opened : (least : ℕ) (us : List Tree) (args : Trees) (next : ℕ) → length us ≡ m.width n → OpensCase y ns s (tree_in us register) args next → m.finds n least us ≡ m.finds next least (us ++ to_list args)
+  pub otherwise : (least : ℕ) (us : List Tree) → length us ≡ m.width n
+      → OpensNoCase y ns s (tree_in us register) → m.finds n least us ≡ m.finds other least us
+  pub follow : (k : ℕ) → k < length (symbols y) → (case_at s (number_at ns k)).node ≢ 0
+      → Follows f m n (case_at s (number_at ns k)).node
+  pub widths : (k : ℕ) → k < length (symbols y) → (case_at s (number_at ns k)).node ≢ 0
+      → m.width (case_at s (number_at ns k)).node ≡ m.width n + arity_of y k
+  pub opened : (least : ℕ) (us : List Tree) (args : Trees) (next : ℕ) → length us ≡ m.width n
+      → OpensCase y ns s (tree_in us register) args next
+      → m.finds n least us ≡ m.finds next least (us ++ to_list args)
 
 -- what a node finds
 abbrev pub Fits : Spec → List ℕ → Forest → Reading → ℕ → Node → Type 0
 Fits y ns f m n Fail = (least : ℕ) (us : List Tree) → m.finds n least us ≡ None
 Fits y ns f m n (Try rule from to next) = FitsTry f m n rule from to next
-Fits y ns f m n (Switch register low from span other) = FitsSwitch y ns f m n register other (record { children = f.children.items; low = low; from = from; span = span })
+Fits y ns f m n (Switch register low from span other) = FitsSwitch y ns f m n register other
+    (record { children = f.children.items; low = low; from = from; span = span })
 
 abbrev pub root_at : Forest → ℕ → ℕ
 root_at f k = get_or f.roots.items k 0
@@ -177,26 +199,33 @@ root_at f k = get_or f.roots.items k 0
 pub record IsRoot (y : Spec) (f : Forest) (m : Reading) (k : ℕ) : Type 0 where
   pub there : root_at f k < length f.nodes.items
   pub width : m.width (root_at f k) ≡ arity_of y k
-  pub finds : (least : ℕ) (args : Trees) → count_of args ≡ arity_of y k → m.finds (root_at f k) least (to_list args) ≡ option_map found_of (next_match y least (application (name_of y (Symbol k)) args))
+  pub finds : (least : ℕ) (args : Trees) → count_of args ≡ arity_of y k
+      → m.finds (root_at f k) least (to_list args)
+      ≡ option_map found_of (next_match y least (application (name_of y (Symbol k)) args))
 
--- the matching trees of a specification, with the numbers of its symbols in a bank; a symbol with root 0 has none
+-- the matching trees of a specification, with the numbers of its symbols in a bank; a symbol with
+-- root 0 has none
 pub record IsForest (y : Spec) (ns : List ℕ) (f : Forest) : Type 0 where
   pub reading : Reading
-  pub fits : (n : ℕ) → n < length f.nodes.items → Fits y ns f reading n (get_or f.nodes.items n Fail)
+  pub fits : (n : ℕ) → n < length f.nodes.items
+      → Fits y ns f reading n (get_or f.nodes.items n Fail)
   pub counted : length f.roots.items ≡ length (symbols y)
   pub roots : (k : ℕ) → k < length (symbols y) → root_at f k ≢ 0 → IsRoot y f reading k
 
 -- a rule that matches, with its values
-pub record HasFound (y : Spec) (w : Store) (name : List ℕ) (least : ℕ) (args bind : List Term) (i : ℕ) : Type 0 where
+pub record HasFound (y : Spec) (w : Store) (name : List ℕ) (least : ℕ) (args bind : List Term)
+    (i : ℕ) : Type 0 where
   pub values : Substitution
-  pub first : next_match y least (application name (from_list (held_trees w args))) ≡ Some (record { number = i; values = values })
+  pub first : next_match y least (application name (from_list (held_trees w args)))
+      ≡ Some (record { number = i; values = values })
   pub bound : held_trees w bind ≡ values_of values
   pub held : AllHeld w bind
 
 -- the least rule at or after a number that matches; or there is none
 abbrev pub Finds : Spec → Store → List ℕ → ℕ → List Term → List Term → Option ℕ → Type 0
 Finds y w name least args bind (Some i) = HasFound y w name least args bind i
-Finds y w name least args bind None = (next_match y least (application name (from_list (held_trees w args))) ≡ None) × (bind ≡ [])
+Finds y w name least args bind None =
+    (next_match y least (application name (from_list (held_trees w args))) ≡ None) × (bind ≡ [])
 
 -- the tree of a symbol can be run for so many arguments
 pub record CanRun (w : Store) (f : Forest) (k count : ℕ) : Type 0 where
@@ -209,17 +238,25 @@ pub record CanRun (w : Store) (f : Forest) (k count : ℕ) : Type 0 where
   pub grown : root_at f k ≢ 0
 
 abbrev pub Runs : Store → Forest → ℕ → ℕ → List Term → List Term → Option ℕ → Type 0
-Runs w f k least args bind found = (y : Spec) (ns : List ℕ) → AreNumbers y w ns → IsForest y ns f → k < length (symbols y) → length args ≡ arity_of y k → Finds y w (name_of y (Symbol k)) least args bind found
+Runs w f k least args bind found = (y : Spec) (ns : List ℕ) → AreNumbers y w ns → IsForest y ns f
+    → k < length (symbols y) → length args ≡ arity_of y k
+    → Finds y w (name_of y (Symbol k)) least args bind found
 
 -- what a run finds for the references from one on, and leaves on top
 abbrev pub RunsOn : Store → Forest → ℕ → ℕ → ℕ → List Term → List Term → Option Hit → Type 0
-RunsOn w f k least first old new (Some found) = (length old ≤ found.values) × (found.values ≤ length new) × Runs w f k least (drop first old) (drop found.values new) (Some found.rule)
+RunsOn w f k least first old new (Some found) = (length old ≤ found.values)
+    × (found.values ≤ length new)
+    × Runs w f k least (drop first old) (drop found.values new) (Some found.rule)
 RunsOn w f k least first old new None = Runs w f k least (drop first old) [] None
 
 -- where a run stands: what the root finds, the node finds
-pub record Stands (w : Store) (f : Forest) (k least : ℕ) (args : List Term) (y : Spec) (forest_reading : Reading) (at : ℕ) (registers : List Term) : Type 0 where
+pub record Stands (w : Store) (f : Forest) (k least : ℕ) (args : List Term) (y : Spec)
+    (forest_reading : Reading) (at : ℕ) (registers : List Term) : Type 0 where
   pub width : length registers ≡ forest_reading.width at
-  pub same : forest_reading.finds (root_at f k) least (held_trees w args) ≡ forest_reading.finds at least (held_trees w registers)
+  pub same : forest_reading.finds (root_at f k) least (held_trees w args)
+      ≡ forest_reading.finds at least (held_trees w registers)
 
 abbrev pub AllStand : Store → Forest → ℕ → ℕ → List Term → ℕ → List Term → Type 0
-AllStand w f k least args at registers = (y : Spec) (ns : List ℕ) → AreNumbers y w ns → (h : IsForest y ns f) → k < length (symbols y) → length args ≡ arity_of y k → Stands w f k least args y h.reading at registers
+AllStand w f k least args at registers = (y : Spec) (ns : List ℕ) → AreNumbers y w ns
+    → (h : IsForest y ns f) → k < length (symbols y) → length args ≡ arity_of y k
+    → Stands w f k least args y h.reading at registers

@@ -45,48 +45,60 @@ FirstAt (x ∷ xs) v (suc p) = (x ≡ v → ⊥) × FirstAt xs v p
 
 -- a test is that of a letter, where these variables have values already, and those afterwards
 abbrev pub IsTest : List bank.Symbol → Letter → List ℕ → Test → List ℕ → Type 0
-IsTest ss l vs (Open f count) more = (k : ℕ) × (l.meaning ≡ Symbol k) × (k < length ss) × (f ≡ get_or ss k f) × (l.count ≡ count) × (more ≡ vs)
-IsTest ss l vs First more = (v : ℕ) × (l.meaning ≡ Variable v) × (Contains vs v → ⊥) × (more ≡ vs ++ v ∷ [])
+IsTest ss l vs (Open f count) more = (k : ℕ) × (l.meaning ≡ Symbol k) × (k < length ss)
+    × (f ≡ get_or ss k f) × (l.count ≡ count) × (more ≡ vs)
+IsTest ss l vs First more = (v : ℕ) × (l.meaning ≡ Variable v) × (Contains vs v → ⊥)
+    × (more ≡ vs ++ v ∷ [])
 IsTest ss l vs (Again k) more = (v : ℕ) × (l.meaning ≡ Variable v) × FirstAt vs v k × (more ≡ vs)
 
--- tests are those of letters, from the last to the first, where the first of these variables have values already
+-- tests are those of letters, from the last to the first, where the first of these variables have
+-- values already
 abbrev pub AreTests : List bank.Symbol → List Letter → List ℕ → List Test → List ℕ → Type 0
 AreTests ss [] vs [] all = vs ≡ all
-AreTests ss (l ∷ ls) vs (t ∷ ts) all = (more : List ℕ) × IsTest ss l vs t more × AreTests ss ls more ts all
+AreTests ss (l ∷ ls) vs (t ∷ ts) all = (more : List ℕ) × IsTest ss l vs t more
+    × AreTests ss ls more ts all
 AreTests ss _ vs _ all = ⊥
 
 -- an application of the symbol without annotations, whose arguments were left on a stack
-pub record Opened (w : Store) (f : bank.Symbol) (count : ℕ) (u : Term) (old new : List Term) : Type 0 where
+pub record Opened (w : Store) (f : bank.Symbol) (count : ℕ) (u : Term) (old new : List Term)
+    : Type 0 where
   pub args : List Term
   pub signature : Signature
   pub symbol : signature_of w f ≡ Some signature
-  pub is : tree_at w u ≡ Some (Appl signature.name signature.quoted (from_list (held_trees w args)) none)
+  pub is : tree_at w u
+      ≡ Some (Appl signature.name signature.quoted (from_list (held_trees w args)) none)
   pub counted : length args ≡ count
   pub split : new ≡ old ++ args
 
 abbrev pub Opens : Store → bank.Symbol → ℕ → Term → List Term → List Term → Bool → Type 0
 Opens w f count u old new true = Opened w f count u old new
-Opens w f count u old new false = (g : Signature) (ts : Trees) → signature_of w f ≡ Some g → g.arity ≡ count_of ts → tree_at w u ≡ Some (Appl g.name g.quoted ts none) → ⊥
+Opens w f count u old new false = (g : Signature) (ts : Trees) → signature_of w f ≡ Some g
+    → g.arity ≡ count_of ts → tree_at w u ≡ Some (Appl g.name g.quoted ts none) → ⊥
 
 -- so many arguments belong to the symbol
 abbrev pub Takes : Store → bank.Symbol → ℕ → Type 0
 Takes w f count = (g : Signature) × (signature_of w f ≡ Some g) × (g.arity ≡ count)
 
 -- what a test answers of a reference, and what it leaves
-abbrev pub Asks : Store → Test → Term → List Term → List Term → List Term → List Term → Bool → Type 0
-Asks w (Open f count) u old new bind bound answer = Opens w f count u old new answer × (bound ≡ bind)
+abbrev pub Asks : Store → Test → Term → List Term → List Term → List Term → List Term → Bool
+    → Type 0
+Asks w (Open f count) u old new bind bound answer = Opens w f count u old new answer
+    × (bound ≡ bind)
 Asks w First u old new bind bound answer = (answer ≡ true) × (new ≡ old) × (bound ≡ bind ++ u ∷ [])
-Asks w (Again k) u old new bind bound answer = (new ≡ old) × (bound ≡ bind) × (k < length bind → answer ≡ nat_eq (get_or bind k u).0 u.0)
+Asks w (Again k) u old new bind bound answer = (new ≡ old) × (bound ≡ bind)
+    × (k < length bind → answer ≡ nat_eq (get_or bind k u).0 u.0)
 
 -- between two pieces of an argument list: the first arguments are on the stack
-pub record Opening (w : Store) (u : Term) (count i : ℕ) (old now : List Term) (list : Term) : Type 0 where
+pub record Opening (w : Store) (u : Term) (count i : ℕ) (old now : List Term) (list : Term)
+    : Type 0 where
   pub done : List Term
   pub rest : Trees
   pub name : List ℕ
   pub quoted : Bool
   pub split : now ≡ old ++ done
   pub is : tree_at w list ≡ Some (Items rest none)
-  pub whole : tree_at w u ≡ Some (Appl name quoted (joined (from_list (held_trees w done)) rest) none)
+  pub whole : tree_at w u
+      ≡ Some (Appl name quoted (joined (from_list (held_trees w done)) rest) none)
   pub counted : length done ≡ i
   pub left : count_of rest + i ≡ count
 
@@ -96,7 +108,8 @@ AreFilled y ls = All (λ (l : Letter). (k : ℕ) → l.meaning ≡ Symbol k → 
 
 -- what the letters of a left side, from the last to the first, give to variables
 abbrev pub AskedAs : Spec → Store → List Letter → List Term → List Term → List ℕ → Bool → Type 0
-AskedAs y w ls args bind all true = (asked y (map (named_by y) ls) (stacked w args) [] ≡ Some (paired y all (held_trees w bind))) × (length bind ≡ length all)
+AskedAs y w ls args bind all true = (asked y (map (named_by y) ls) (stacked w args) []
+    ≡ Some (paired y all (held_trees w bind))) × (length bind ≡ length all)
 AskedAs y w ls args bind all false = asked y (map (named_by y) ls) (stacked w args) [] ≡ None
 
 -- what a test needs of its symbol
@@ -106,7 +119,9 @@ CanAsk w t = Unit {0}
 
 -- from one rule to another no rule matches an application of the name
 abbrev pub Skips : Spec → List ℕ → ℕ → ℕ → Type 0
-Skips y name from at = (vs : Trees) → first_match y from (drop from y.rules) (application name vs) ≡ first_match y at (drop at y.rules) (application name vs)
+Skips y name from at = (vs : Trees)
+    → first_match y from (drop from y.rules) (application name vs)
+    ≡ first_match y at (drop at y.rules) (application name vs)
 
 -- what is kept of a rule's left side, by the rule's number
 abbrev pub symbol_at : Matcher → ℕ → ℕ
@@ -133,8 +148,10 @@ order_at m i = get_or (map (λ (s : LeftSide). s.order.items) m.sides.items) i [
 abbrev pub HeadAt : Matcher → ℕ → ℕ → Type 0
 HeadAt m i k = i < length m.sides.items → symbol_at m i ≡ k
 
--- tests are those of letters, from the last to the first; with the variables in the order in which they first occur, and the places of these among those that the tests give values
-pub record AreTested (ss : List bank.Symbol) (letters : List Letter) (ts : List Test) (vs order : List ℕ) : Type 0 where
+-- tests are those of letters, from the last to the first; with the variables in the order in which
+-- they first occur, and the places of these among those that the tests give values
+pub record AreTested (ss : List bank.Symbol) (letters : List Letter) (ts : List Test)
+    (vs order : List ℕ) : Type 0 where
   pub tested : List ℕ
   pub tests : AreTests ss (reverse letters) [] ts tested
   pub ordered : AreOrdered tested letters order
@@ -162,13 +179,17 @@ pub record IsMatcher (y : Spec) (ss : List bank.Symbol) (m : Matcher) : Type 0 w
   pub ruled : length m.sides.items ≡ length y.rules
   pub sides : (i : ℕ) (r : Rule) → i < length y.rules → IsSide y ss m i (get_or y.rules i r)
   pub symbols : length m.heads.items ≡ length (symbols y)
-  pub heads : (k : ℕ) (d : ℕ) → k < length m.heads.items → Skips y (name_of y (Symbol k)) 0 (get_or m.heads.items k d) × HeadAt m (get_or m.heads.items k d) k
+  pub heads : (k : ℕ) (d : ℕ) → k < length m.heads.items
+      → Skips y (name_of y (Symbol k)) 0 (get_or m.heads.items k d)
+      × HeadAt m (get_or m.heads.items k d) k
   pub forest : IsForest y (numbers_of ss) m.forest
 
 -- a rule that matches, with the values of its variables in the order in which they first occur
-pub record HasFound (y : Spec) (w : Store) (m : Matcher) (name : List ℕ) (at : ℕ) (args bind : List Term) (i : ℕ) : Type 0 where
+pub record HasFound (y : Spec) (w : Store) (m : Matcher) (name : List ℕ) (at : ℕ)
+    (args bind : List Term) (i : ℕ) : Type 0 where
   pub values : Substitution
-  pub first : first_match y at (drop at y.rules) (application name (from_list (held_trees w args))) ≡ Some (record { number = i; values = values })
+  pub first : first_match y at (drop at y.rules) (application name (from_list (held_trees w args)))
+      ≡ Some (record { number = i; values = values })
   pub same : SameValues (paired y (variables_at m i) (held_trees w bind)) values
   pub bound : held_trees w bind ≡ values_of values
   pub counted : length bind ≡ length (variables_at m i)
@@ -178,7 +199,8 @@ pub record HasFound (y : Spec) (w : Store) (m : Matcher) (name : List ℕ) (at :
 -- the least rule at or after a number that matches; or there is none
 abbrev pub Finds : Spec → Store → Matcher → List ℕ → ℕ → List Term → List Term → Option ℕ → Type 0
 Finds y w m name at args bind (Some i) = HasFound y w m name at args bind i
-Finds y w m name at args bind None = first_match y at (drop at y.rules) (application name (from_list (held_trees w args))) ≡ None
+Finds y w m name at args bind None =
+    first_match y at (drop at y.rules) (application name (from_list (held_trees w args))) ≡ None
 
 -- a symbol, a rule of it from which on to look, and its arguments as the last of some references
 pub record CanFind (w : Store) (m : Matcher) (symbol count at : ℕ) (work : List Term) : Type 0 where
@@ -193,15 +215,21 @@ pub record CanFind (w : Store) (m : Matcher) (symbol count at : ℕ) (work : Lis
 
 -- what is found among the rules from a number on, for the last references of a list
 abbrev pub FindsFor : Store → Matcher → ℕ → List Term → List Term → Option ℕ → Type 0
-FindsFor w m at work bind found = (y : Spec) (ss : List bank.Symbol) (below args : List Term) (k : ℕ) → AreLinked y w ss → IsMatcher y ss m → k < length (symbols y) → HeadAt m at k
-    → work ≡ below ++ args → (at < length m.sides.items → count_at m at ≡ length args) → Finds y w m (name_of y (Symbol k)) at args bind found
+FindsFor w m at work bind found = (y : Spec) (ss : List bank.Symbol) (below args : List Term)
+    (k : ℕ) → AreLinked y w ss → IsMatcher y ss m → k < length (symbols y) → HeadAt m at k
+    → work ≡ below ++ args → (at < length m.sides.items → count_at m at ≡ length args)
+    → Finds y w m (name_of y (Symbol k)) at args bind found
 
 -- what is found for the last of some references, and what is left of the list then
 abbrev pub FindsOn : Store → Matcher → ℕ → List Term → List Term → Option Hit → Type 0
-FindsOn w m at old new (Some found) = (length old ≤ found.values) × (found.values ≤ length new) × FindsFor w m at old (drop found.values new) (Some found.rule)
+FindsOn w m at old new (Some found) = (length old ≤ found.values) × (found.values ≤ length new)
+    × FindsFor w m at old (drop found.values new) (Some found.rule)
 FindsOn w m at old new None = FindsFor w m at old [] None × (new ≡ old)
 
--- what the tests answer of some references: they give the variables what the letters of the left side give them
+-- what the tests answer of some references: they give the variables what the letters of the left
+-- side give them
 abbrev pub Matches : Store → List Test → List Term → List Term → Bool → Type 0
-Matches w tests args bind answer = (y : Spec) (ss : List bank.Symbol) (ls : List Letter) (all : List ℕ) → fault y ≡ None → AreLinked y w ss → AreFilled y ls → All (λ l. IsMeaning y l.meaning) ls → AreTests ss ls [] tests all
+Matches w tests args bind answer = (y : Spec) (ss : List bank.Symbol) (ls : List Letter)
+    (all : List ℕ) → fault y ≡ None → AreLinked y w ss → AreFilled y ls
+    → All (λ l. IsMeaning y l.meaning) ls → AreTests ss ls [] tests all
     → AskedAs y w ls args bind all answer

@@ -24,7 +24,8 @@ pub record AreReady (w : Store) (m : Matcher) : Type 0 where
   pub spec : Spec
   pub ready : IsReady spec w m
 
--- the least rule at or after a number whose left side matches a term, with its values in the order in which the variables first occur
+-- the least rule at or after a number whose left side matches a term, with its values in the order
+-- in which the variables first occur
 pub record Matched (y : Spec) (w : Store) (u : Term) (from i : ℕ) (bind : List Term) : Type 0 where
   pub values : Substitution
   pub first : next_match y from (held_tree w u) ≡ Some (record { number = i; values = values })
@@ -38,10 +39,13 @@ IsAnswer y w u from bind None = (next_match y from (held_tree w u) ≡ None) × 
 abbrev pub Answers : Store → Matcher → Term → ℕ → List Term → Option ℕ → Type 0
 Answers w m u from bind found = (y : Spec) → IsReady y w m → IsAnswer y w u from bind found
 
--- from a number on no rule before this one matches an application of a symbol, and this one is one of the symbol's
+-- from a number on no rule before this one matches an application of a symbol, and this one is one
+-- of the symbol's
 abbrev pub Reaches : Matcher → ℕ → ℕ → ℕ → Type 0
-Reaches m k from at = (y : Spec) (w : Store) → IsReady y w m → k < length (symbols y) → Skips y (name_of y (Symbol k)) from at × HeadAt m at k
+Reaches m k from at = (y : Spec) (w : Store) → IsReady y w m → k < length (symbols y)
+    → Skips y (name_of y (Symbol k)) from at × HeadAt m at k
 
 -- the next rule of a symbol comes after a rule
 abbrev pub AreLater : Matcher → Type 0
-AreLater m = (i : ℕ) (s : LeftSide) → i < length m.sides.items → s ≡ get_or m.sides.items i s → i < s.next
+AreLater m = (i : ℕ) (s : LeftSide) → i < length m.sides.items → s ≡ get_or m.sides.items i s
+    → i < s.next

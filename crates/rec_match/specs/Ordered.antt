@@ -24,7 +24,8 @@ with_name ns name = elim (has ns name) [ true ↦ ns | false ↦ ns ++ name ∷ 
 -- the variables among names, behind others, in the order in which they first occur
 abbrev pub names_in : Spec → List (List ℕ) → List Named → List (List ℕ)
 names_in y ns [] = ns
-names_in y ns (m ∷ ms) = names_in y (elim (is_variable y m.name) [ true ↦ with_name ns m.name | false ↦ ns ]) ms
+names_in y ns (m ∷ ms) = names_in y
+    (elim (is_variable y m.name) [ true ↦ with_name ns m.name | false ↦ ns ]) ms
 
 -- a number is among some
 abbrev pub among : List ℕ → ℕ → Bool

@@ -25,7 +25,8 @@ pub record OnlyPlaced (vs : List ℕ) (n : ℕ) (ps : List (Option ℕ)) : Type 
 
 -- what places of variables give for letters
 abbrev pub Orders : List (Option ℕ) → List Letter → List ℕ → Type 0
-Orders ps ls order = (vs : List ℕ) → ArePlacesIn vs (length ps) ps → AreAllAmong vs ls → AreOrdered vs ls order
+Orders ps ls order = (vs : List ℕ) → ArePlacesIn vs (length ps) ps → AreAllAmong vs ls
+    → AreOrdered vs ls order
 
 -- no variable has a place that had none
 pub record FewerPlaces (old new : List (Option ℕ)) : Type 0 where

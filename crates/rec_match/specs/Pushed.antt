@@ -10,7 +10,8 @@ use Rattle.rec_match.specs.Tasks.{IsWhole}
 use Rattle.rec_match.specs.declared.parts.Part.{Part}
 use Rattle.rec_match.specs.declared.parts.Parts.{Parts}
 
--- a stack of so many has the arguments of letters with these counts, each of which then stands there instead
+-- a stack of so many has the arguments of letters with these counts, each of which then stands
+-- there instead
 abbrev pub CanPush : ℕ → List ℕ → Type 0
 CanPush n [] = Unit {0}
 CanPush n (k ∷ ks) = (k ≤ n) × CanPush (suc (n - k)) ks
@@ -21,7 +22,8 @@ counts_of ls = map (λ (l : Letter). l.count) ls
 -- the parts of letters, one after the other
 abbrev pub Pushed : Parts → List ℕ → List Letter → Parts → List ℕ → Type 0
 Pushed ps st [] qs out = (ps ≡ qs) × (st ≡ out)
-Pushed ps st (l ∷ ls) qs out = (mid : Parts) × (ms : List ℕ) × PushesLetter ps mid l st ms × Pushed mid ms ls qs out
+Pushed ps st (l ∷ ls) qs out = (mid : Parts) × (ms : List ℕ) × PushesLetter ps mid l st ms
+    × Pushed mid ms ls qs out
 
 -- a letter has as many arguments as it is declared with
 abbrev pub IsFilled : Spec → Letter → Type 0
@@ -41,7 +43,8 @@ pub record PushesTerm (y : Spec) (ps : Parts) (t : Term) (qs : Parts) (n : ℕ) 
   pub whole : IsWhole qs
   pub more : MoreParts ps qs
 
-pub record PushesTerms (y : Spec) (ps : Parts) (ts : Terms) (qs : Parts) (ks : List ℕ) : Type 0 where
+pub record PushesTerms (y : Spec) (ps : Parts) (ts : Terms) (qs : Parts) (ks : List ℕ)
+    : Type 0 where
   pub are : AreParts y qs ks ts
   pub there : Every (λ (a : ℕ). a < length qs.parts.items) ks
   pub long : length ks ≡ count ts
@@ -52,4 +55,6 @@ pub record PushesTerms (y : Spec) (ps : Parts) (ts : Terms) (qs : Parts) (ks : L
 pub record AreLeftParts (y : Spec) (ps : Parts) (numbers : List ℕ) (n : ℕ) : Type 0 where
   pub whole : IsWhole ps
   pub long : length numbers ≡ n
-  pub each : (i : ℕ) (r : Rule) → i < n → (get_or numbers i 0 < length ps.parts.items) × IsPart y ps (get_or numbers i 0) (get_or y.rules i r).left
+  pub each : (i : ℕ) (r : Rule) → i < n
+      → (get_or numbers i 0 < length ps.parts.items)
+      × IsPart y ps (get_or numbers i 0) (get_or y.rules i r).left

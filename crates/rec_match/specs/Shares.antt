@@ -10,19 +10,23 @@ symbols_of shares = map (λ (s : Share). s.symbol) shares
 
 -- a share has what is left of rows for its symbol
 abbrev pub IsShare : Parts → ℕ → ℕ → List Coded → Share → Type 0
-IsShare ps r base coded s = map coded_of s.rows.items ≡ changed_codes (opened_codes ps r s.symbol base) coded
+IsShare ps r base coded s = map coded_of s.rows.items
+    ≡ changed_codes (opened_codes ps r s.symbol base) coded
 
 -- each of these symbols has its share of rows
-pub record AreShares (ps : Parts) (r base : ℕ) (ks : List ℕ) (coded : List Coded) (shares : List Share) : Type 0 where
+pub record AreShares (ps : Parts) (r base : ℕ) (ks : List ℕ) (coded : List Coded)
+    (shares : List Share) : Type 0 where
   pub symbols : symbols_of shares ≡ ks
   pub each : All (IsShare ps r base coded) shares
 
 -- a share has what is left of one row more
 pub record AddsRow (ps : Parts) (r base : ℕ) (row : Coded) (old new : Share) : Type 0 where
   pub symbol : new.symbol ≡ old.symbol
-  pub rows : map coded_of new.rows.items ≡ map coded_of old.rows.items ++ changed_codes (opened_codes ps r old.symbol base) (row ∷ [])
+  pub rows : map coded_of new.rows.items
+      ≡ map coded_of old.rows.items ++ changed_codes (opened_codes ps r old.symbol base) (row ∷ [])
 
 -- so does each of some shares
 pub record DealsRow (ps : Parts) (r base : ℕ) (row : Coded) (old new : List Share) : Type 0 where
   pub counted : length new ≡ length old
-  pub each : (i : ℕ) (d : Share) → i < length old → AddsRow ps r base row (get_or old i d) (get_or new i d)
+  pub each : (i : ℕ) (d : Share) → i < length old
+      → AddsRow ps r base row (get_or old i d) (get_or new i d)

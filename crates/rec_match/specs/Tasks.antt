@@ -36,7 +36,8 @@ pub record IsWhole (ps : Parts) : Type 0 where
 
 -- no two symbols have one number in a bank
 abbrev pub AreApart : Spec → List ℕ → Type 0
-AreApart y ns = (i j : ℕ) → i < length (symbols y) → j < length (symbols y) → number_at ns i ≡ number_at ns j → i ≡ j
+AreApart y ns = (i j : ℕ) → i < length (symbols y) → j < length (symbols y)
+    → number_at ns i ≡ number_at ns j → i ≡ j
 
 -- what the building of trees stands on
 pub record IsGround (y : Spec) (ns : List ℕ) (ps : Parts) : Type 0 where
@@ -50,7 +51,8 @@ abbrev pub AreThere : ℕ → List Code → Type 0
 AreThere n cs = Every (λ (c : Code). c.part < n) cs
 
 -- codes are what is left of rows, and their parts and registers are there
-pub record AreLeft (y : Spec) (ps : Parts) (width : ℕ) (coded : List Coded) (rows : List Row) : Type 0 where
+pub record AreLeft (y : Spec) (ps : Parts) (width : ℕ) (coded : List Coded) (rows : List Row)
+    : Type 0 where
   pub are : AreRows y ps coded rows
   pub there : Every (λ (r : Coded). AreThere (length ps.parts.items) r.codes) coded
   pub registers : AllWithin width rows
@@ -67,16 +69,20 @@ Waits [] n = ⊥
 Waits (t ∷ ts) n = (t.node ≡ n) ⊎ Waits ts n
 
 -- each node waits, or it has grown
-pub record Growing (y : Spec) (ns : List ℕ) (ps : Parts) (f : Forest) (ts : List Task) (s : ℕ → State) : Type 0 where
+pub record Growing (y : Spec) (ns : List ℕ) (ps : Parts) (f : Forest) (ts : List Task)
+    (s : ℕ → State) : Type 0 where
   pub tasks : Every (IsTask y ps f s) ts
-  pub nodes : (n : ℕ) → n < length f.nodes.items → Waits ts n ⊎ Grows y ns f s n (get_or f.nodes.items n Fail)
+  pub nodes : (n : ℕ) → n < length f.nodes.items
+      → Waits ts n ⊎ Grows y ns f s n (get_or f.nodes.items n Fail)
 
 -- what has grown stays, each node waits or has grown, and nodes that did not wait are as they were
-pub record GoesOn (y : Spec) (ns : List ℕ) (ps : Parts) (f : Forest) (ts : List Task) (s : ℕ → State) (g : Forest) (us : List Task) : Type 0 where
+pub record GoesOn (y : Spec) (ns : List ℕ) (ps : Parts) (f : Forest) (ts : List Task)
+    (s : ℕ → State) (g : Forest) (us : List Task) : Type 0 where
   pub states : ℕ → State
   pub extends : Extends f s g states
   pub growing : Growing y ns ps g us states
-  pub kept : (n : ℕ) → n < length f.nodes.items → (Waits ts n → ⊥) → (Waits us n → ⊥) × (get_or g.nodes.items n Fail ≡ get_or f.nodes.items n Fail)
+  pub kept : (n : ℕ) → n < length f.nodes.items → (Waits ts n → ⊥)
+      → (Waits us n → ⊥) × (get_or g.nodes.items n Fail ≡ get_or f.nodes.items n Fail)
 
 -- a step of the building: whatever nodes stand for, they go on to stand for it
 abbrev pub Steps : Spec → List ℕ → Parts → Forest → List Task → Forest → List Task → Type 0
@@ -87,30 +93,42 @@ abbrev pub CanStep : Spec → List ℕ → Parts → Forest → List Task → Ty
 CanStep y ns ps f ts = (s : ℕ → State) × Growing y ns ps f ts s
 
 -- the child of a symbol, and what is left of the rows there
-pub record IsBranch (y : Spec) (ns : List ℕ) (f : Forest) (s : ℕ → State) (n register number : ℕ) (child : Child) : Type 0 where
+pub record IsBranch (y : Spec) (ns : List ℕ) (f : Forest) (s : ℕ → State) (n register number : ℕ)
+    (child : Child) : Type 0 where
   pub symbol : ℕ
   pub declared : symbol < length (symbols y)
   pub numbered : number_at ns symbol ≡ number
   pub counted : child.count ≡ arity_of y symbol
   pub later : n < child.node
   pub there : child.node < length f.nodes.items
-  pub state : s child.node ≡ record { width = (s n).width + arity_of y symbol; rows = changed (opened_cells y register (name_of y (Symbol symbol)) (arity_of y symbol) (s n).width) (s n).rows }
+  pub state : s child.node
+      ≡ record {
+        width = (s n).width + arity_of y symbol;
+        rows = changed
+            (opened_cells y register (name_of y (Symbol symbol)) (arity_of y symbol) (s n).width)
+            (s n).rows;
+      }
 
 -- a window has children of symbols, and among them those of some from a place on
-pub record Branches (y : Spec) (ns : List ℕ) (f : Forest) (s : ℕ → State) (n register low : ℕ) (ks : List ℕ) (window : List Child) (m : ℕ) : Type 0 where
-  pub each : (q : ℕ) → q < length window → (get_or window q no_child).node ≢ 0 → IsBranch y ns f s n register (low + q) (get_or window q no_child)
-  pub all : (i : ℕ) → m ≤ i → i < length ks → (get_or window (number_at ns (get_or ks i 0) - low) no_child).node ≢ 0
+pub record Branches (y : Spec) (ns : List ℕ) (f : Forest) (s : ℕ → State) (n register low : ℕ)
+    (ks : List ℕ) (window : List Child) (m : ℕ) : Type 0 where
+  pub each : (q : ℕ) → q < length window → (get_or window q no_child).node ≢ 0
+      → IsBranch y ns f s n register (low + q) (get_or window q no_child)
+  pub all : (i : ℕ) → m ≤ i → i < length ks
+      → (get_or window (number_at ns (get_or ks i 0) - low) no_child).node ≢ 0
 
 -- the numbers of symbols stand in a window
 abbrev pub Covers : List ℕ → List ℕ → ℕ → ℕ → Type 0
-Covers ns ks low span = (i : ℕ) → i < length ks → (low ≤ number_at ns (get_or ks i 0)) × (number_at ns (get_or ks i 0) < low + span)
+Covers ns ks low span = (i : ℕ) → i < length ks
+    → (low ≤ number_at ns (get_or ks i 0)) × (number_at ns (get_or ks i 0) < low + span)
 
 -- the numbers of a bank's symbols
 abbrev pub numbers_of : List bank.Symbol → List ℕ
 numbers_of ss = map (λ (s : bank.Symbol). s.0) ss
 
 -- one node more, which waits
-pub record Adds (f : Forest) (ts : List Task) (g : Forest) (us : List Task) (width : ℕ) (coded : List Coded) (node : ℕ) : Type 0 where
+pub record Adds (f : Forest) (ts : List Task) (g : Forest) (us : List Task) (width : ℕ)
+    (coded : List Coded) (node : ℕ) : Type 0 where
   pub node_is : node ≡ length f.nodes.items
   pub nodes : g.nodes.items ≡ f.nodes.items ++ Fail ∷ []
   pub places : g.places.items ≡ f.places.items
@@ -119,32 +137,46 @@ pub record Adds (f : Forest) (ts : List Task) (g : Forest) (us : List Task) (wid
 
 -- a rule stands at a node, with places
 pub record WritesTry (f g : Forest) (n rule : ℕ) (pl : List Place) (next : ℕ) : Type 0 where
-  pub nodes : g.nodes.items ≡ set f.nodes.items n (Try rule (length f.places.items) (length f.places.items + length pl) next)
+  pub nodes : g.nodes.items
+      ≡ set f.nodes.items n
+      (Try rule (length f.places.items) (length f.places.items + length pl) next)
   pub places : g.places.items ≡ f.places.items ++ pl
   pub children : g.children.items ≡ f.children.items
 
 -- a switch stands at a node, with a window of children
-pub record WritesSwitch (f g : Forest) (n register low : ℕ) (window : List Child) (other : ℕ) : Type 0 where
-  pub nodes : g.nodes.items ≡ set f.nodes.items n (Switch register low (length f.children.items) (length window) other)
+pub record WritesSwitch (f g : Forest) (n register low : ℕ) (window : List Child) (other : ℕ)
+    : Type 0 where
+  pub nodes : g.nodes.items
+      ≡ set f.nodes.items n (Switch register low (length f.children.items) (length window) other)
   pub places : g.places.items ≡ f.places.items
   pub children : g.children.items ≡ f.children.items ++ window
 
 -- children of some symbols from a place on were added while a node waits
-pub record Branched (y : Spec) (ns : List ℕ) (ps : Parts) (f : Forest) (ts : List Task) (s : ℕ → State) (t : Task) (g : Forest) (us : List Task) (register low : ℕ) (ks : List ℕ) (window : List Child) (m : ℕ) : Type 0 where
+pub record Branched (y : Spec) (ns : List ℕ) (ps : Parts) (f : Forest) (ts : List Task)
+    (s : ℕ → State) (t : Task) (g : Forest) (us : List Task) (register low : ℕ) (ks : List ℕ)
+    (window : List Child) (m : ℕ) : Type 0 where
   pub goes : GoesOn y ns ps f (t ∷ ts) s g (t ∷ us)
   pub branches : Branches y ns g goes.states t.node register low ks window m
 
-abbrev pub BranchesOut : Spec → List ℕ → Parts → Forest → List Task → ℕ → List Coded → Forest → List Task → ℕ → ℕ → List ℕ → List Child → ℕ → Type 0
-BranchesOut y ns ps f ts width coded g us register low ks window m = (n : ℕ) (s : ℕ → State) → Growing y ns ps f ((record { node = n; width = width; rows = coded }) ∷ ts) s
-    → Branched y ns ps f ts s (record { node = n; width = width; rows = coded }) g us register low ks window m
+abbrev pub BranchesOut : Spec → List ℕ → Parts → Forest → List Task → ℕ → List Coded → Forest
+    → List Task → ℕ → ℕ → List ℕ → List Child → ℕ → Type 0
+BranchesOut y ns ps f ts width coded g us register low ks window m = (n : ℕ) (s : ℕ → State)
+    → Growing y ns ps f ((record { node = n; width = width; rows = coded }) ∷ ts) s
+    → Branched y ns ps f ts s (record { node = n; width = width; rows = coded }) g us register low
+    ks window m
 
 -- the first row has these places, and the other rows wait behind it
-abbrev pub TriesFirst : Forest → List Task → ℕ → ℕ → ℕ → List Place → List Coded → Forest → List Task → Type 0
-TriesFirst f ts n width rule pl rest g us = (y : Spec) (ns : List ℕ) (ps : Parts) (cs : List Code) → IsGround y ns ps → code_places ps [] cs ≡ Some pl
-    → Steps y ns ps f ((record { node = n; width = width; rows = (record { number = rule; codes = cs }) ∷ rest }) ∷ ts) g us
+abbrev pub TriesFirst : Forest → List Task → ℕ → ℕ → ℕ → List Place → List Coded → Forest
+    → List Task → Type 0
+TriesFirst f ts n width rule pl rest g us = (y : Spec) (ns : List ℕ) (ps : Parts) (cs : List Code)
+    → IsGround y ns ps → code_places ps [] cs ≡ Some pl
+    → Steps y ns ps f
+    ((record { node = n; width = width; rows = (record { number = rule; codes = cs }) ∷ rest })
+    ∷ ts) g us
 
 -- a step was made, or nothing changed
-abbrev pub StepsOrStays : Spec → List ℕ → Parts → Forest → List Task → Forest → List Task → Bool → Type 0
+abbrev pub StepsOrStays : Spec → List ℕ → Parts → Forest → List Task → Forest → List Task → Bool
+    → Type 0
 StepsOrStays y ns ps f ts g us true = Steps y ns ps f ts g us
 StepsOrStays y ns ps f ts g us false = f ≡ g
 
@@ -154,16 +186,20 @@ GrowsOut y ns ps f ts g true = Steps y ns ps f ts g []
 GrowsOut y ns ps f ts g false = (us : List Task) × Steps y ns ps f ts g us
 
 -- nodes have grown on, and a root that is there stands for all rows
-pub record TreeGoesOn (y : Spec) (ns : List ℕ) (ps : Parts) (f : Forest) (s : ℕ → State) (width : ℕ) (rows : List Row) (g : Forest) (root : ℕ) : Type 0 where
+pub record TreeGoesOn (y : Spec) (ns : List ℕ) (ps : Parts) (f : Forest) (s : ℕ → State) (width : ℕ)
+    (rows : List Row) (g : Forest) (root : ℕ) : Type 0 where
   pub goes : GoesOn y ns ps f [] s g []
-  pub stands : root ≢ 0 → (root < length g.nodes.items) × (goes.states root ≡ record { width = width; rows = rows })
+  pub stands : root ≢ 0
+      → (root < length g.nodes.items) × (goes.states root ≡ record { width = width; rows = rows })
 
 -- a tree has grown at a root, or there is none
 abbrev pub HasTree : Spec → List ℕ → Parts → Forest → ℕ → List Coded → Forest → ℕ → Type 0
-HasTree y ns ps f width coded g root = (s : ℕ → State) (rows : List Row) → Growing y ns ps f [] s → AreLeft y ps width coded rows → TreeGoesOn y ns ps f s width rows g root
+HasTree y ns ps f width coded g root = (s : ℕ → State) (rows : List Row) → Growing y ns ps f [] s
+    → AreLeft y ps width coded rows → TreeGoesOn y ns ps f s width rows g root
 
 -- rows can get a tree
-pub record CanGrow (y : Spec) (ns : List ℕ) (ps : Parts) (f : Forest) (width : ℕ) (coded : List Coded) : Type 0 where
+pub record CanGrow (y : Spec) (ns : List ℕ) (ps : Parts) (f : Forest) (width : ℕ)
+    (coded : List Coded) : Type 0 where
   pub states : ℕ → State
   pub rows : List Row
   pub growing : Growing y ns ps f [] states

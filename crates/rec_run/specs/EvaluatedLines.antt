@@ -45,7 +45,8 @@ abbrev pub of_text : WriteFault → LineFault
 of_text text.Memory = Memory
 of_text text.Write = Write
 
--- of a line with this text, what is due before such a fault: the line end meets the writer's refusal alone
+-- of a line with this text, what is due before such a fault: the line end meets the writer's
+-- refusal alone
 abbrev pub due_before : LineFault → List ℕ → List ℕ
 due_before Memory text = text
 due_before Room text = text

@@ -1,4 +1,5 @@
--- Given terms: what both texts of a run come to, what is due for that, and what is written of a given term.
+-- Given terms: what both texts of a run come to, what is due for that, and what is written of a
+-- given term.
 --     given_at w r               the items of the list of a reference
 --     HoldsTerms y w r           they keep the rules
 --     run_due counted n r        what is due for what the texts came to
@@ -52,7 +53,8 @@ given_by w (Some list) = given_at w list
 
 -- what a text of terms comes to whose list is not accepted
 abbrev pub list_refused : TermsFault → Result (Reading Job) RunFault
-list_refused (rule.Rule number) = Ok (reading.Refused (record { text = source.Terms; reason = reason.TermsRule number }))
+list_refused (rule.Rule number) = Ok
+    (reading.Refused (record { text = source.Terms; reason = reason.TermsRule number }))
 list_refused rule.Memory = Err (fault.Memory 0)
 
 -- the lines of good texts
@@ -68,9 +70,11 @@ abbrev pub IsRefusal : Verdict → Type 0
 IsRefusal (verdict.Good y) = ⊥
 IsRefusal v = Unit {0}
 
--- after this verdict on the specification, what both texts came to says what is due for this text of terms
+-- after this verdict on the specification, what both texts came to says what is due for this text
+-- of terms
 abbrev pub IsReadAs : Verdict → List ℕ → Reading Job → Type 0
-IsReadAs v bytes r = (counted : Bool) (n : ℕ) → IsDueAfter v (Some bytes) counted n (run_due counted n r)
+IsReadAs v bytes r = (counted : Bool) (n : ℕ)
+    → IsDueAfter v (Some bytes) counted n (run_due counted n r)
 
 abbrev pub IsReadFor : syntax.Spec → List ℕ → Reading Job → Type 0
 IsReadFor y bytes r = IsReadAs (verdict.Good y) bytes r
@@ -79,7 +83,8 @@ IsReadFor y bytes r = IsReadAs (verdict.Good y) bytes r
 abbrev pub IsReadFrom : Texts → Reading Job → Type 0
 IsReadFrom texts r = (counted : Bool) (n : ℕ) → IsDueFor counted n texts (run_due counted n r)
 
--- good texts can be evaluated: given terms keep the rules, nothing is protected yet, and the bank has this limit
+-- good texts can be evaluated: given terms keep the rules, nothing is protected yet, and the bank
+-- has this limit
 pub record IsReadyJob (cells : ℕ) (job : Job) : Type 0 where
   pub limit : (store_of job.bank).cap ≡ cells
   pub unrooted : (t : ℕ) → (store_of job.bank).roots t ≡ 0
@@ -109,7 +114,8 @@ ReportsAfter first fault.Read written = ⊥
 ReportsAfter first fault.Write written = Unit {0}
 
 -- what was written after the first lines is a front of a text, and is as the fault tells
-pub record StopsAfter (first : ℕ) (stop : RunFault) (text : List ℕ) (old new : Option (List ℕ)) : Type 0 where
+pub record StopsAfter (first : ℕ) (stop : RunFault) (text : List ℕ) (old new : Option (List ℕ))
+    : Type 0 where
   pub written : List ℕ
   pub appended : Appends old new written
   pub front : IsFront written text

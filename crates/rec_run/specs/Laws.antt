@@ -4,4 +4,5 @@ use Rattle.rec_run.specs.Output.{Due, IsDue}
 
 -- for a text of a specification, and a text of terms where there is one, one thing is due at most
 abbrev pub OneDue : Type 0
-OneDue = (spec : List ℕ) (terms : Option (List ℕ)) (counted : Bool) (n : ℕ) (d e : Due) → IsDue spec terms counted n d → IsDue spec terms counted n e → d ≡ e
+OneDue = (spec : List ℕ) (terms : Option (List ℕ)) (counted : Bool) (n : ℕ) (d e : Due)
+    → IsDue spec terms counted n d → IsDue spec terms counted n e → d ≡ e

@@ -1,5 +1,6 @@
 -- What a run of a specification is to write, how it ends, and which place a refusal has.
---     line y counted n task         the line of a term within n steps, with the steps spent where they are counted
+--     line y counted n task         the line of a term within n steps, with the steps spent where
+--                                   they are counted
 --     lines y given counted n       the lines of a specification's own terms and of given ones
 --     IsTermsVerdict y bytes v      the verdict on a text of terms
 --     IsDue spec terms counted n d  what is due for the two texts
@@ -28,7 +29,8 @@ abbrev pub steps_text : Bool → ℕ → List ℕ
 steps_text false steps = []
 steps_text true steps = codes "\t" ++ decimal steps
 
--- the line of a term: the text of its value with the term's annotations, or that the limit was passed
+-- the line of a term: the text of its value with the term's annotations, or that the limit was
+-- passed
 abbrev pub line : Spec → Bool → ℕ → Task → List ℕ
 line y counted n task = elim (Eval y n [] task.term) [
   | Done v left ↦ canon (annotated v task.notes) ++ steps_text counted (n - left) ++ codes "\n"
@@ -37,7 +39,8 @@ line y counted n task = elim (Eval y n [] task.term) [
 
 -- the specification's own terms, and then the given ones
 abbrev pub tasks : Spec → List Tree → List Task
-tasks y given = map (λ t. record { term = t; notes = none }) y.terms ++ map (λ t. record { term = term_of t; notes = annotations t }) given
+tasks y given = map (λ t. record { term = t; notes = none }) y.terms
+    ++ map (λ t. record { term = term_of t; notes = annotations t }) given
 
 -- their lines, each with the whole budget
 abbrev pub each_line : Spec → List Tree → Bool → ℕ → List (List ℕ)
@@ -47,7 +50,8 @@ each_line y given counted n = map (line y counted n) (tasks y given)
 abbrev pub lines : Spec → List Tree → Bool → ℕ → List ℕ
 lines y given counted n = flat_map (λ l. l) (each_line y given counted n)
 
--- a text of terms is too long, or leaves the grammar at a place, or breaks a rule, or is good with these terms
+-- a text of terms is too long, or leaves the grammar at a place, or breaks a rule, or is good with
+-- these terms
 pub data TermsVerdict : Type 0 where
   TooLong : TermsVerdict
   Outside : (at : ℕ) → TermsVerdict
@@ -58,8 +62,10 @@ pub data TermsVerdict : Type 0 where
 abbrev pub IsTermsVerdict : Spec → List ℕ → TermsVerdict → Type 0
 IsTermsVerdict y bytes TooLong = 16777216 < length bytes
 IsTermsVerdict y bytes (Outside at) = Fits bytes × IsPlace bytes at
-IsTermsVerdict y bytes (BreaksTerms number) = Fits bytes × ((t : Tree) × Spells bytes t × (broken_by_terms y t ≡ Some number))
-IsTermsVerdict y bytes (GoodTerms ts) = Fits bytes × ((t : Tree) × Spells bytes t × (broken_by_terms y t ≡ None) × (elements t ≡ Some ts))
+IsTermsVerdict y bytes (BreaksTerms number) = Fits bytes
+    × ((t : Tree) × Spells bytes t × (broken_by_terms y t ≡ Some number))
+IsTermsVerdict y bytes (GoodTerms ts) = Fits bytes
+    × ((t : Tree) × Spells bytes t × (broken_by_terms y t ≡ None) × (elements t ≡ Some ts))
 
 -- what is due: how the run ends, what it writes, and the place of a refusal that has one
 pub record Due : Type 0 where
@@ -73,25 +79,31 @@ done text = record { finish = finish.Done; text = text; place = None }
 
 -- a refusal line is due: the word of the text, and the name of the refusal
 abbrev pub refused : List ℕ → List ℕ → Option Place → Due
-refused word name place = record { finish = finish.Refused; text = word ++ name ++ codes "\n"; place = place }
+refused word name place =
+    record { finish = finish.Refused; text = word ++ name ++ codes "\n"; place = place }
 
 -- what is due after the verdict on the specification alone
 abbrev pub due_of_spec : Bool → ℕ → Verdict → Due
 due_of_spec counted n Long = refused (codes "!spec ") (codes "L1") None
-due_of_spec counted n (Grammar at) = refused (codes "!spec ") (codes "G") (Some (record { text = source.Spec; rule = named.G; at = at }))
-due_of_spec counted n (Breaks f) = refused (codes "!spec ") (codes "S" ++ decimal f.number) (Some (record { text = source.Spec; rule = named.S f.number; at = f.at }))
+due_of_spec counted n (Grammar at) = refused (codes "!spec ") (codes "G")
+    (Some (record { text = source.Spec; rule = named.G; at = at }))
+due_of_spec counted n (Breaks f) = refused (codes "!spec ") (codes "S" ++ decimal f.number)
+    (Some (record { text = source.Spec; rule = named.S f.number; at = f.at }))
 due_of_spec counted n (Good y) = done (lines y [] counted n)
 
 -- what is due after the verdict on the terms
 abbrev pub due_of_terms : Spec → Bool → ℕ → TermsVerdict → Due
 due_of_terms y counted n TooLong = refused (codes "!terms ") (codes "L1") None
-due_of_terms y counted n (Outside at) = refused (codes "!terms ") (codes "A") (Some (record { text = source.Terms; rule = named.A; at = at }))
-due_of_terms y counted n (BreaksTerms number) = refused (codes "!terms ") (codes "T" ++ decimal number) None
+due_of_terms y counted n (Outside at) = refused (codes "!terms ") (codes "A")
+    (Some (record { text = source.Terms; rule = named.A; at = at }))
+due_of_terms y counted n (BreaksTerms number) = refused (codes "!terms ")
+    (codes "T" ++ decimal number) None
 due_of_terms y counted n (GoodTerms ts) = done (lines y ts counted n)
 
 -- what is due after the verdict on the specification: the terms are asked only of a good one
 abbrev pub IsDueAfter : Verdict → Option (List ℕ) → Bool → ℕ → Due → Type 0
-IsDueAfter (Good y) (Some terms) counted n d = (v : TermsVerdict) × IsTermsVerdict y terms v × (d ≡ due_of_terms y counted n v)
+IsDueAfter (Good y) (Some terms) counted n d = (v : TermsVerdict) × IsTermsVerdict y terms v
+    × (d ≡ due_of_terms y counted n v)
 IsDueAfter v terms counted n d = d ≡ due_of_spec counted n v
 
 -- what is due for the text of a specification and, where there is one, a text of terms

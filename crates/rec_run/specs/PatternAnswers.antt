@@ -41,7 +41,8 @@ IsAnswerHeld w (reading.Good a) = HoldsAnswer w a
 
 -- what the text of a pattern came to
 abbrev pub IsPatternRead : List ℕ → Reading Tree → Type 0
-IsPatternRead text (reading.Refused r) = (v : Verdict) × (IsVerdict text v × ((next : Tree → Due) → due_of_pattern next v ≡ refusal_due r))
+IsPatternRead text (reading.Refused r) = (v : Verdict)
+    × (IsVerdict text v × ((next : Tree → Due) → due_of_pattern next v ≡ refusal_due r))
 IsPatternRead text (reading.Good p) = SpellsPattern text p
 
 -- what a tree came to, where a pattern is due
@@ -57,4 +58,5 @@ HasElements w _ _ = ⊥
 
 -- a fault after so many lines, whichever these were, stopped them and the text after them
 abbrev pub StopsAfter : ℕ → RunFault → List ℕ → Option (List ℕ) → Option (List ℕ) → Type 0
-StopsAfter lines fault text between new = (before : List ℕ) (old : Option (List ℕ)) → newlines before ≡ lines → Appends old between before → Stops fault (before ++ text) old new
+StopsAfter lines fault text between new = (before : List ℕ) (old : Option (List ℕ))
+    → newlines before ≡ lines → Appends old between before → Stops fault (before ++ text) old new

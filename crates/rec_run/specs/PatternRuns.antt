@@ -30,7 +30,8 @@ unless_unfit None next = next
 -- what is due after the verdict on the pattern's text, where so much is due for a pattern
 abbrev pub due_of_pattern : (Tree → Due) → Verdict → Due
 due_of_pattern next TooLong = refused (codes "!pattern ") (codes "L1") None
-due_of_pattern next (Outside at) = refused (codes "!pattern ") (codes "A") (outside_at source.Pattern at)
+due_of_pattern next (Outside at) = refused (codes "!pattern ") (codes "A")
+    (outside_at source.Pattern at)
 due_of_pattern next (Spelt p) = unless_unfit (unfit p) (next p)
 
 -- the lines of a match: a line for each binding
@@ -40,7 +41,8 @@ match_lines None = codes "no\n"
 
 -- what is due of a match after the verdicts on both texts
 abbrev pub match_due : Verdict → Verdict → Due
-match_due pattern input = due_of_pattern (λ p. due_of (λ t. match_lines (matching p t)) input) pattern
+match_due pattern input = due_of_pattern (λ p. due_of (λ t. match_lines (matching p t)) input)
+    pattern
 
 -- what is due of a tree that is made, or of what the arguments lack
 abbrev pub made_due : Result Tree Fault → Due
@@ -64,7 +66,8 @@ abbrev pub make_due : Verdict → Verdict → Due
 make_due pattern args = due_of_pattern (λ p. due_of_args p args) pattern
 
 -- what is due for two texts, where this is due after their verdicts
-pub record IsDueOfBoth (due : Verdict → Verdict → Due) (first second : List ℕ) (d : Due) : Type 0 where
+pub record IsDueOfBoth (due : Verdict → Verdict → Due) (first second : List ℕ) (d : Due)
+    : Type 0 where
   pub on_first : Verdict
   pub on_second : Verdict
   pub first_is : IsVerdict first on_first
@@ -89,4 +92,5 @@ IsNoPattern text = (p : Tree) → SpellsPattern text p → ⊥
 -- the law of these runs: one thing is due for two texts, and no more
 pub record OneDueOfBoth (due : Verdict → Verdict → Due) : Type 0 where
   pub some : (first second : List ℕ) → (d : Due) × IsDueOfBoth due first second d
-  pub one : (first second : List ℕ) (d e : Due) → IsDueOfBoth due first second d → IsDueOfBoth due first second e → d ≡ e
+  pub one : (first second : List ℕ) (d e : Due) → IsDueOfBoth due first second d
+      → IsDueOfBoth due first second e → d ≡ e

@@ -31,9 +31,11 @@ abbrev pub IsGood : Reading Sourced → Type 0
 IsGood (reading.Refused r) = ⊥
 IsGood (reading.Good checked) = Unit {0}
 
--- what is shown of an evaluation within n steps, with annotations: the line of its term without the line end
+-- what is shown of an evaluation within n steps, with annotations: the line of its term without the
+-- line end
 abbrev pub shown : Trees → Bool → ℕ → evaluation.Outcome Tree → List ℕ
-shown notes counted n (evaluation.Done v left) = canon (annotated v notes) ++ steps_text counted (n - left)
+shown notes counted n (evaluation.Done v left) = canon (annotated v notes)
+    ++ steps_text counted (n - left)
 shown notes counted n evaluation.Over = codes "!limit " ++ decimal n
 
 -- the text of a term's line

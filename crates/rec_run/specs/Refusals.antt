@@ -1,6 +1,7 @@
 -- Refused texts: the line of each, and its place.
 --     refusal_due r              what is due for a refusal
---     reading_due next r         what is due for what a text came to, where this is due for a good one
+--     reading_due next r         what is due for what a text came to, where this is due for a good
+--                                one
 --     refused_text source v      the refusal of a text of a term, by its verdict
 --     refused_spec v             the refusal of a specification, by its verdict
 use Rattle.std.specs.Prelude.{ℕ, List, ◌++◌, Option, Some, None, codes, decimal}
@@ -43,7 +44,8 @@ name_of reason.Kind = codes "M2"
 -- the place of a refusal
 abbrev pub place_by : Source → Reason → Option Place
 place_by text (reason.Grammar at) = Some (record { text = text; rule = named.G; at = at })
-place_by text (reason.Rule number at) = Some (record { text = text; rule = named.S number; at = at })
+place_by text (reason.Rule number at) =
+    Some (record { text = text; rule = named.S number; at = at })
 place_by text (reason.Outside at) = Some (record { text = text; rule = named.A; at = at })
 place_by text _ = None
 
@@ -76,5 +78,6 @@ refused_text text (term.Spelt t) = None
 abbrev pub refused_spec : spec.Verdict → Option Refusal
 refused_spec spec.Long = Some (record { text = source.Spec; reason = reason.Long })
 refused_spec (spec.Grammar at) = Some (record { text = source.Spec; reason = reason.Grammar at })
-refused_spec (spec.Breaks f) = Some (record { text = source.Spec; reason = reason.Rule f.number f.at })
+refused_spec (spec.Breaks f) =
+    Some (record { text = source.Spec; reason = reason.Rule f.number f.at })
 refused_spec (spec.Good y) = None

@@ -17,9 +17,14 @@ abbrev pub term_in : Spec → Verdict → Option ℕ
 term_in y (Spelt t) = broken_element y t
 term_in y v = None
 
--- why these trees do not go into a pattern: their number, or the first that its placeholder does not take
+-- why these trees do not go into a pattern: their number, or the first that its placeholder does
+-- not take
 abbrev pub misfit_of : Tree → List Tree → Option Misfit
-misfit_of p ts = elim (filling p ts) [ Ok t ↦ None | Err filling.Count ↦ Some (Count (length (slots p)) (length ts)) | Err (Kinds at) ↦ Some (Kind at) ]
+misfit_of p ts = elim (filling p ts) [
+  | Ok t ↦ None
+  | Err filling.Count ↦ Some (Count (length (slots p)) (length ts))
+  | Err (Kinds at) ↦ Some (Kind at)
+]
 
 -- the same of elements, where there are any
 abbrev pub misfit_among : Tree → Option (List Tree) → Option Misfit

@@ -1,10 +1,13 @@
 -- What a run leaves, by what is due for its texts.
 --     EndsFor IsDue texts finish old new      it ended as is due, and wrote what is due
 --     IsPlacedFor IsDue texts place           the place is that of what is due
---     BreaksFor IsDue texts fault old new     it stopped at a fault, with a front of what is due written
+--     BreaksFor IsDue texts fault old new     it stopped at a fault, with a front of what is due
+--                                             written
 --     RoomFits cap fault                      want of cells comes with a full bank
---     both_texts spec terms                   a specification and terms, where their readers tell them
---     IsReadOut old new                       an input was read to its end, or to one byte behind the most that a text may have
+--     both_texts spec terms                   a specification and terms, where their readers tell
+--                                             them
+--     IsReadOut old new                       an input was read to its end, or to one byte behind
+--                                             the most that a text may have
 use Rattle.std.specs.Prelude.{◌≡◌, ◌⊎◌, ℕ, List, [], Bool, Option, Some, None, IfSome, drop, option_map}
 use Rattle.std.proofs.Common.{inl, inr}
 use Rattle.std.specs.Borrow.{MutBor}
@@ -51,13 +54,15 @@ abbrev pub Breaks : (Due → Type 0) → RunFault → Option (List ℕ) → Opti
 Breaks IsDue fault old new = (d : Due) → IsDue d → Stops fault d.text old new
 
 -- the same for the texts of a run, where its readers tell them
-abbrev pub EndsFor : {T : Type 0} → (T → Due → Type 0) → Option T → Finish → Option (List ℕ) → Option (List ℕ) → Type 0
+abbrev pub EndsFor : {T : Type 0} → (T → Due → Type 0) → Option T → Finish → Option (List ℕ)
+    → Option (List ℕ) → Type 0
 EndsFor IsDue texts finish old new = IfSome texts (λ told. Ends (IsDue told) finish old new)
 
 abbrev pub IsPlacedFor : {T : Type 0} → (T → Due → Type 0) → Option T → Option Place → Type 0
 IsPlacedFor IsDue texts place = IfSome texts (λ told. IsPlaced (IsDue told) place)
 
-abbrev pub BreaksFor : {T : Type 0} → (T → Due → Type 0) → Option T → RunFault → Option (List ℕ) → Option (List ℕ) → Type 0
+abbrev pub BreaksFor : {T : Type 0} → (T → Due → Type 0) → Option T → RunFault → Option (List ℕ)
+    → Option (List ℕ) → Type 0
 BreaksFor IsDue texts fault old new = IfSome texts (λ told. Breaks (IsDue told) fault old new)
 
 -- the texts of a run: the specification, and the terms where some are given
@@ -70,7 +75,8 @@ abbrev pub IsDueFor : Bool → ℕ → Texts → Due → Type 0
 IsDueFor counted n texts d = IsDue texts.spec texts.terms counted n d
 
 -- the text of the terms, where some are given, by what their reader tells
-abbrev pub terms_text : {T : Type 0} → (T → Option (List ℕ)) → Option (MutBor T) → Option (Option (List ℕ))
+abbrev pub terms_text : {T : Type 0} → (T → Option (List ℕ)) → Option (MutBor T)
+    → Option (Option (List ℕ))
 terms_text remaining None = Some None
 terms_text remaining (Some reader) = option_map (λ bytes. Some bytes) (remaining reader.now)
 
@@ -80,7 +86,8 @@ both_texts None terms = None
 both_texts (Some spec) None = None
 both_texts (Some spec) (Some terms) = Some (record { spec = spec; terms = terms })
 
--- what an optional reference leads to in the end is so related to what it led to at first, where there is one
+-- what an optional reference leads to in the end is so related to what it led to at first, where
+-- there is one
 abbrev pub Leads : {X F Z T : Type 0} → (T → T → Type 0) → (F → T) → X ⊎ (F ⊎ Z) → Option T → Type 0
 Leads Related now (inl none) first = Unit {0}
 Leads Related now (inr (inl some)) first = IfSome first (λ old. Related old (now some))

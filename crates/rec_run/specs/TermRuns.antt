@@ -32,7 +32,8 @@ share_lines t = term_line t ++ cells_line (part_count t)
 -- what is due after the verdict on a text, where so much is to be written of a term
 abbrev pub due_of : (Tree → List ℕ) → Verdict → Due
 due_of lines TooLong = refused (codes "!term ") (codes "L1") None
-due_of lines (Outside at) = refused (codes "!term ") (codes "A") (Some (record { text = source.Term; rule = named.A; at = at }))
+due_of lines (Outside at) = refused (codes "!term ") (codes "A")
+    (Some (record { text = source.Term; rule = named.A; at = at }))
 due_of lines (Spelt t) = done (lines t)
 
 -- what is due for a text, where so much is to be written of a term
@@ -72,7 +73,8 @@ IsReadingOf text w (reading.Good t) v = (u : Tree) × (tree_at w t ≡ Some u) �
 
 -- what was read of a text is the verdict on it
 abbrev pub IsGiven : Option (List ℕ) → Store → Reading Term → Type 0
-IsGiven known w r = (v : Verdict) × IsReadingOf source.Term w r v × IfSome known (λ bytes. IsVerdict bytes v)
+IsGiven known w r = (v : Verdict) × IsReadingOf source.Term w r v
+    × IfSome known (λ bytes. IsVerdict bytes v)
 
 -- the bank holds the term
 abbrev pub IsTermHeld : Store → Reading Term → Type 0

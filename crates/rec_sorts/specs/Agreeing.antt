@@ -17,8 +17,11 @@ variable_sorts numbers vs = flat_map (λ v. map (λ _. numbers v.sort.bytes) (v.
 -- the declarations are those of a specification, of whose words the first n are symbols
 pub record IsDeclared (y : Spec) (source : List ℕ) (d : Declared) (n : ℕ) : Type 0 where
   pub words_read : words_of source d.words.items ≡ names (symbols y) ++ variable_words y.variables
-  pub sorts_read : d.sorts.items ≡ map (λ c. first_at y.sorts c.sort.bytes) (symbols y) ++ variable_sorts (first_at y.sorts) y.variables
-  pub arguments_read : map (λ v. v.items) d.arguments.items ≡ map (λ c. sort_numbers (first_at y.sorts) c.arguments) (symbols y)
+  pub sorts_read : d.sorts.items
+      ≡ map (λ c. first_at y.sorts c.sort.bytes) (symbols y)
+      ++ variable_sorts (first_at y.sorts) y.variables
+  pub arguments_read : map (λ v. v.items) d.arguments.items
+      ≡ map (λ c. sort_numbers (first_at y.sorts) c.arguments) (symbols y)
   pub unknown_read : d.unknown ≡ least_place (unknown_sorts y)
   pub within_read : All (Within source) d.words.items
   pub symbols_read : n ≡ length (symbols y)
@@ -27,7 +30,10 @@ pub record IsDeclared (y : Spec) (source : List ℕ) (d : Declared) (n : ℕ) : 
 -- the numbers are those of what a specification declares
 pub record IsScope (y : Spec) (s : Scope) : Type 0 where
   pub words_numbered : given_to s.words ≡ first_at (names (symbols y) ++ variable_words y.variables)
-  pub sorts_listed : s.sorts.items ≡ map (λ d. first_at y.sorts d.sort.bytes) (symbols y) ++ variable_sorts (first_at y.sorts) y.variables
-  pub arguments_listed : map (λ v. v.items) s.arguments.items ≡ map (λ d. sort_numbers (first_at y.sorts) d.arguments) (symbols y)
+  pub sorts_listed : s.sorts.items
+      ≡ map (λ d. first_at y.sorts d.sort.bytes) (symbols y)
+      ++ variable_sorts (first_at y.sorts) y.variables
+  pub arguments_listed : map (λ v. v.items) s.arguments.items
+      ≡ map (λ d. sort_numbers (first_at y.sorts) d.arguments) (symbols y)
   pub constructors_counted : s.constructors ≡ length y.constructors
   pub symbols_counted : s.symbols ≡ length (symbols y)

@@ -18,7 +18,8 @@ Substitution = List Bound
 -- the value of a name; none, where the name is not bound
 abbrev pub value_of : Substitution → List ℕ → Option Tree
 value_of [] name = None
-value_of (b ∷ bs) name = elim (bytes_eq b.name name) [ true ↦ Some b.value | false ↦ value_of bs name ]
+value_of (b ∷ bs) name =
+    elim (bytes_eq b.name name) [ true ↦ Some b.value | false ↦ value_of bs name ]
 
 -- a symbol of this name applied: its name stands unquoted where it may
 abbrev pub application : List ℕ → Trees → Tree
@@ -27,7 +28,8 @@ application name ts = Appl name (not (plain_name name)) ts none
 -- a term with the values of its bound variables, as a tree
 abbrev mutual
   pub instance : Substitution → Term → Tree
-  instance s (Apply w ts) = elim (value_of s w.bytes) [ Some v ↦ v | None ↦ application w.bytes (instances s ts) ]
+  instance s (Apply w ts) =
+      elim (value_of s w.bytes) [ Some v ↦ v | None ↦ application w.bytes (instances s ts) ]
 
   pub instances : Substitution → Terms → Trees
   instances s Terms.none = none
@@ -39,15 +41,20 @@ tree_of t = instance [] t
 
 -- a name is bound to a value at the end, unless it is bound before
 abbrev pub bind_first : Substitution → List ℕ → Tree → Substitution
-bind_first s name v = elim (value_of s name) [ Some u ↦ s | None ↦ s ++ (record { name = name; value = v } ∷ []) ]
+bind_first s name v =
+    elim (value_of s name) [ Some u ↦ s | None ↦ s ++ (record { name = name; value = v } ∷ []) ]
 
 -- each variable of a left side with the part of the tree at its first place
 abbrev mutual
   pub parts_at_variables : Spec → Substitution → Term → Tree → Substitution
-  parts_at_variables y s (Apply w ts) u = elim (is_variable y w.bytes) [ true ↦ bind_first s w.bytes u | false ↦ parts_at_variables_all y s ts (arguments u) ]
+  parts_at_variables y s (Apply w ts) u = elim (is_variable y w.bytes) [
+    | true ↦ bind_first s w.bytes u
+    | false ↦ parts_at_variables_all y s ts (arguments u)
+  ]
 
   pub parts_at_variables_all : Spec → Substitution → Terms → Trees → Substitution
-  parts_at_variables_all y s (Terms.more t ts) (more u us) = parts_at_variables_all y (parts_at_variables y s t u) ts us
+  parts_at_variables_all y s (Terms.more t ts) (more u us) = parts_at_variables_all y
+      (parts_at_variables y s t u) ts us
   parts_at_variables_all y s _ _ = s
 
 -- the substitution under which a left side is the tree; none, where there is none
@@ -56,7 +63,8 @@ binds y l u =
     let s = parts_at_variables y [] l u in
     elim (tree_eq (instance s l) u) [ true ↦ Some s | false ↦ None ]
 
--- a rule by its number, from 0 in textual order, and the values under which its left side is the tree
+-- a rule by its number, from 0 in textual order, and the values under which its left side is the
+-- tree
 pub record NumberedMatch : Type 0 where
   pub number : ℕ
   pub values : Substitution

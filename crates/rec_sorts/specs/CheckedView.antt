@@ -17,4 +17,5 @@ pub record IsChecked (a : Inside) : Type 0 where
   pub variables_counted : a.variables ≡ variable_count a.syntax.spec
   pub arities_listed : a.arities.items ≡ map (λ d. length d.arguments) (symbols a.syntax.spec)
   pub rules_lettered : Pairwise (IsLetterRule a.syntax.spec) a.rules.items a.syntax.spec.rules
-  pub terms_lettered : Pairwise (λ v t. AreLetters a.syntax.spec v.items t) a.terms.items a.syntax.spec.terms
+  pub terms_lettered : Pairwise (λ v t. AreLetters a.syntax.spec v.items t) a.terms.items
+      a.syntax.spec.terms

@@ -29,7 +29,12 @@ pub record Additions : Type 0 where
 
 -- some additions, and then others
 abbrev pub both : Additions → Additions → Additions
-both a b = record { words = a.words ++ b.words; sorts = a.sorts ++ b.sorts; arguments = a.arguments ++ b.arguments; named = a.named ++ b.named }
+both a b = record {
+  words = a.words ++ b.words;
+  sorts = a.sorts ++ b.sorts;
+  arguments = a.arguments ++ b.arguments;
+  named = a.named ++ b.named;
+}
 
 abbrev pub nothing_added : Additions
 nothing_added = record { words = []; sorts = []; arguments = []; named = [] }
@@ -59,9 +64,11 @@ added_by_groups numbers [] = nothing_added
 added_by_groups numbers (v ∷ vs) = both (added_by_group numbers v) (added_by_groups numbers vs)
 
 -- the new declarations are the old ones and these
-pub record Adds (source : List ℕ) (numbers : Numbers) (old new : Declared) (a : Additions) : Type 0 where
+pub record Adds (source : List ℕ) (numbers : Numbers) (old new : Declared) (a : Additions)
+    : Type 0 where
   pub words_added : words_of source new.words.items ≡ words_of source old.words.items ++ a.words
   pub sorts_added : new.sorts.items ≡ old.sorts.items ++ a.sorts
-  pub arguments_added : map (λ v. v.items) new.arguments.items ≡ map (λ v. v.items) old.arguments.items ++ a.arguments
+  pub arguments_added : map (λ v. v.items) new.arguments.items
+      ≡ map (λ v. v.items) old.arguments.items ++ a.arguments
   pub within_added : All (Within source) old.words.items → All (Within source) new.words.items
   pub unknown_added : new.unknown ≡ earlier old.unknown (least_unnumbered numbers a.named)

@@ -20,7 +20,10 @@ symbol_alone m = None
 
 -- the symbol that a tree's name with its quoted flag stands for
 abbrev pub symbol_at : Scope → Tree → Option Meaning
-symbol_at s (Appl name quoted args anns) = elim (beq quoted (not (plain_name name))) [ true ↦ symbol_alone (meaning_of s name) | false ↦ None ]
+symbol_at s (Appl name quoted args anns) = elim (beq quoted (not (plain_name name))) [
+  | true ↦ symbol_alone (meaning_of s name)
+  | false ↦ None
+]
 symbol_at s t = None
 
 -- a tree stands for no symbol
@@ -29,11 +32,13 @@ is_nameless s t = is_none (symbol_at s t)
 
 -- a tree that stands for a symbol has another number of arguments
 abbrev pub is_misfilled : Scope → Tree → Bool
-is_misfilled s t = is_some (symbol_at s t) && not (nat_eq (count_of (arguments t)) (length (arguments_at s (symbol_at s t))))
+is_misfilled s t = is_some (symbol_at s t)
+    && not (nat_eq (count_of (arguments t)) (length (arguments_at s (symbol_at s t))))
 
 -- a tree has another sort than the one for its place
 abbrev pub are_misfits : Scope → List (Option ℕ) → Trees → Bool
-are_misfits s (sort ∷ sorts) (more t ts) = not (option_eq nat_eq (sort_at s (symbol_at s t)) sort) || are_misfits s sorts ts
+are_misfits s (sort ∷ sorts) (more t ts) = not (option_eq nat_eq (sort_at s (symbol_at s t)) sort)
+    || are_misfits s sorts ts
 are_misfits s _ _ = false
 
 -- an argument of a tree has another sort than that of its place
@@ -42,7 +47,8 @@ has_misfit s t = are_misfits s (arguments_at s (symbol_at s t)) (arguments t)
 
 -- the letter of a node
 abbrev pub node_letter : Scope → Tree → Letter
-node_letter s t = record { meaning = unwrap_or (symbol_at s t) (Symbol 0); count = count_of (arguments t) }
+node_letter s t =
+    record { meaning = unwrap_or (symbol_at s t) (Symbol 0); count = count_of (arguments t) }
 
 -- the first of the rules 2 to 6 that nodes break, of which some must not have annotations
 abbrev pub broken_by_nodes : Scope → List Tree → List Tree → Option ℕ
@@ -57,7 +63,8 @@ broken_by_nodes s all inner =
 
 -- the first of the rules 2 to 6 that a given term breaks alone
 abbrev pub broken_alone : Scope → Tree → Option ℕ
-broken_alone s t = broken_by_nodes s (unstacked (t ∷ [])) (unstacked (flat_map (λ u. to_list (arguments u)) (t ∷ [])))
+broken_alone s t = broken_by_nodes s (unstacked (t ∷ []))
+    (unstacked (flat_map (λ u. to_list (arguments u)) (t ∷ [])))
 
 -- a given term breaks this rule alone
 abbrev pub is_broken_alone : Scope → ℕ → Tree → Bool

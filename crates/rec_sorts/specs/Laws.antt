@@ -9,18 +9,23 @@ use Rattle.rec_sorts.specs.Binding.{Substitution, value_of, instance, binds, tre
 use Rattle.rec_sorts.specs.TermRules.{nodes, elements, broken_by_terms, broken_element}
 use Rattle.rec_sorts.specs.Evaluation.{Done, Over, Evaluator, evaluate, call, first_rule, Eval, term_of}
 
--- an evaluator meets the equations of evaluation: it evaluates a term's arguments and calls its head, and what the call evaluates is evaluated by itself
+-- an evaluator meets the equations of evaluation: it evaluates a term's arguments and calls its
+-- head, and what the call evaluates is evaluated by itself
 abbrev pub MeetsEquations : Spec → Evaluator → Type 0
-MeetsEquations y eval = (n : ℕ) (s : Substitution) (t : Term) → eval n s t ≡ evaluate (call y eval) n s t
+MeetsEquations y eval = (n : ℕ) (s : Substitution) (t : Term)
+    → eval n s t ≡ evaluate (call y eval) n s t
 
 -- evaluation meets its equations, and nothing else does
 abbrev pub OneEvaluator : Type 0
 OneEvaluator = (y : Spec) → MeetsEquations y (Eval y)
-    × ((eval : Evaluator) → MeetsEquations y eval → (n : ℕ) (s : Substitution) (t : Term) → eval n s t ≡ Eval y n s t)
+    × ((eval : Evaluator) → MeetsEquations y eval → (n : ℕ) (s : Substitution) (t : Term)
+    → eval n s t ≡ Eval y n s t)
 
--- the cost of a value: with enough left the same value is reached at the same cost, and with less the limit is passed
+-- the cost of a value: with enough left the same value is reached at the same cost, and with less
+-- the limit is passed
 abbrev pub CostLaw : Type 0
-CostLaw = (y : Spec) (n : ℕ) (s : Substitution) (t : Term) (v : Tree) (left : ℕ) → Eval y n s t ≡ Done v left →
+CostLaw = (y : Spec) (n : ℕ) (s : Substitution) (t : Term) (v : Tree) (left : ℕ)
+    → Eval y n s t ≡ Done v left →
     (left ≤ n)
     × ((m : ℕ) → n - left ≤ m → Eval y m s t ≡ Done v (m - (n - left)))
     × ((m : ℕ) → m < n - left → Eval y m s t ≡ Over)
@@ -62,9 +67,11 @@ Every P (x ∷ xs) = P x × Every P xs
 abbrev pub Unconditional : Spec → Type 0
 Unconditional y = Every (λ r. r.conditions ≡ []) y.rules
 
--- for a specification that keeps its rules, what evaluation reaches is reached by rewriting, and is a normal form
+-- for a specification that keeps its rules, what evaluation reaches is reached by rewriting, and is
+-- a normal form
 abbrev pub RewritingLaw : Type 0
-RewritingLaw = (y : Spec) → fault y ≡ None → (n : ℕ) (t : Term) (v : Tree) (left : ℕ) → Eval y n [] t ≡ Done v left →
+RewritingLaw = (y : Spec) → fault y ≡ None → (n : ℕ) (t : Term) (v : Tree) (left : ℕ)
+    → Eval y n [] t ≡ Done v left →
     ((k : ℕ) × (k ≤ n - left) × Steps y n k (tree_of t) v × (Unconditional y → k ≡ n - left))
     × ((m : ℕ) → Every (λ u. fired y m u ≡ None) (nodes v))
     × (Unconditional y → Every (λ u. Every (λ r. binds y r.left u ≡ None) y.rules) (nodes v))
@@ -84,26 +91,32 @@ abbrev mutual
 abbrev pub IsPartOf : Substitution → Substitution → Type 0
 IsPartOf s s' = (name : List ℕ) (v : Tree) → value_of s name ≡ Some v → value_of s' name ≡ Some v
 
--- the substitution that is found makes the left side the tree; and where some substitution does, one is found, as a part of it
+-- the substitution that is found makes the left side the tree; and where some substitution does,
+-- one is found, as a part of it
 abbrev pub BindingLaw : Type 0
 BindingLaw = (y : Spec) (l : Term) (u : Tree) →
     ((s : Substitution) → binds y l u ≡ Some s → instance s l ≡ u)
-    × ((s' : Substitution) → BindsVariables y s' l → instance s' l ≡ u → (s : Substitution) × (binds y l u ≡ Some s) × IsPartOf s s')
+    × ((s' : Substitution) → BindsVariables y s' l → instance s' l ≡ u
+    → (s : Substitution) × (binds y l u ≡ Some s) × IsPartOf s s')
 
 -- a tree is built of constructors alone
 abbrev mutual
   pub IsBuilt : Spec → Tree → Type 0
-  IsBuilt y (Appl name quoted args anns) = (mentions (names y.constructors) name ≡ true) × (quoted ≡ not (plain_name name)) × (anns ≡ none) × AreBuilt y args
+  IsBuilt y (Appl name quoted args anns) = (mentions (names y.constructors) name ≡ true)
+      × (quoted ≡ not (plain_name name)) × (anns ≡ none) × AreBuilt y args
   IsBuilt y t = ⊥
 
   pub AreBuilt : Spec → Trees → Type 0
   AreBuilt y none = Unit {0}
   AreBuilt y (more t ts) = IsBuilt y t × AreBuilt y ts
 
--- for a specification that keeps its rules, a tree built of constructors is its own value, at no cost
+-- for a specification that keeps its rules, a tree built of constructors is its own value, at no
+-- cost
 abbrev pub BuiltLaw : Type 0
-BuiltLaw = (y : Spec) → fault y ≡ None → (n : ℕ) (v : Tree) → IsBuilt y v → Eval y n [] (term_of v) ≡ Done v n
+BuiltLaw = (y : Spec) → fault y ≡ None → (n : ℕ) (v : Tree) → IsBuilt y v
+    → Eval y n [] (term_of v) ≡ Done v n
 
 -- where the elements of a text of terms break a rule, one of them breaks it alone
 abbrev pub ElementLaw : Type 0
-ElementLaw = (y : Spec) (t : Tree) → IsSome (elements t) → IsSome (broken_by_terms y t) → IsSome (broken_element y t)
+ElementLaw = (y : Spec) (t : Tree) → IsSome (elements t) → IsSome (broken_by_terms y t)
+    → IsSome (broken_element y t)

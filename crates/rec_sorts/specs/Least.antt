@@ -25,7 +25,8 @@ place_where false at = None
 
 -- no rule is broken
 abbrev pub is_nowhere : TermPlaces → Bool
-is_nowhere p = is_none p.unknown && is_none p.ill_filled && is_none p.ill_sorted && is_none p.ill_headed && is_none p.unlike && is_none p.unbound && is_none p.free
+is_nowhere p = is_none p.unknown && is_none p.ill_filled && is_none p.ill_sorted
+    && is_none p.ill_headed && is_none p.unlike && is_none p.unbound && is_none p.free
 
 -- the lesser place for each rule
 abbrev pub joined : TermPlaces → TermPlaces → TermPlaces

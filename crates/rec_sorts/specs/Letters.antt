@@ -26,11 +26,13 @@ unknown_among ps = least_of (λ p. place_where (is_none p.meaning) p.at) ps
 
 -- the least place of a word with another number of arguments than declared
 abbrev pub ill_filled_among : Scope → List Placed → Option ℕ
-ill_filled_among s ps = least_of (λ p. place_where (not (nat_eq p.count (length (arguments_at s p.meaning)))) p.at) ps
+ill_filled_among s ps = least_of
+    (λ p. place_where (not (nat_eq p.count (length (arguments_at s p.meaning)))) p.at) ps
 
 -- the least place of a word of another sort than the one for it
 abbrev pub misplaced : Scope → List Placed → List (Option ℕ) → Option ℕ
-misplaced s (p ∷ ps) (sort ∷ sorts) = earlier (place_where (not (option_eq nat_eq (sort_at s p.meaning) sort)) p.at) (misplaced s ps sorts)
+misplaced s (p ∷ ps) (sort ∷ sorts) = earlier
+    (place_where (not (option_eq nat_eq (sort_at s p.meaning) sort)) p.at) (misplaced s ps sorts)
 misplaced s _ _ = None
 
 -- the least place of an argument of another sort than declared, after terms with these heads
@@ -38,4 +40,5 @@ abbrev pub ill_sorted_among : Scope → List Placed → List Placed → Option �
 ill_sorted_among s heads [] = None
 ill_sorted_among s heads (p ∷ ps) =
     let base = length heads - p.count in
-    earlier (misplaced s (drop base heads) (arguments_at s p.meaning)) (ill_sorted_among s (take base heads ++ p ∷ []) ps)
+    earlier (misplaced s (drop base heads) (arguments_at s p.meaning))
+    (ill_sorted_among s (take base heads ++ p ∷ []) ps)

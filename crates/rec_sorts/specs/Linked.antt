@@ -29,7 +29,8 @@ pub record NumberOf (ss : List bank.Symbol) (s : bank.Symbol) (o : Option ℕ) :
 
 -- no symbol stands at two places of a list
 abbrev pub AllDiffer : List bank.Symbol → Type 0
-AllDiffer ss = (i j : ℕ) (d : bank.Symbol) → i < length ss → j < length ss → get_or ss i d ≡ get_or ss j d → i ≡ j
+AllDiffer ss = (i j : ℕ) (d : bank.Symbol) → i < length ss → j < length ss
+    → get_or ss i d ≡ get_or ss j d → i ≡ j
 
 -- symbols have these numbers
 abbrev pub NumbersOf : List bank.Symbol → (ℕ → Option ℕ) → Type 0
@@ -41,4 +42,5 @@ pub record HasMoreSymbols (old new : Store) : Type 0 where
   pub roots : new.roots ≡ old.roots
   pub cap : new.cap ≡ old.cap
   pub spare : new.spare ≡ old.spare
-  pub symbols : (s : bank.Symbol) (g : Signature) → signature_of old s ≡ Some g → signature_of new s ≡ Some g
+  pub symbols : (s : bank.Symbol) (g : Signature) → signature_of old s ≡ Some g
+      → signature_of new s ≡ Some g

@@ -12,4 +12,5 @@ pub record AreNodes (w : Store) (ts : List Tree) (n : ListNodes) : Type 0 where
   pub all_held : AllHeld w n.all.items
   pub inner_held : AllHeld w n.inner.items
   pub all_found : held_trees w n.all.items ≡ unstacked ts
-  pub inner_found : held_trees w n.inner.items ≡ unstacked (flat_map (λ t. to_list (arguments t)) ts)
+  pub inner_found : held_trees w n.inner.items
+      ≡ unstacked (flat_map (λ t. to_list (arguments t)) ts)

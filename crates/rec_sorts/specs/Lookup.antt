@@ -11,7 +11,10 @@ mentions (w ∷ ws) name = bytes_eq w.bytes name || mentions ws name
 -- the words that have the bytes of one before them
 abbrev pub repeated : List Word → List Word → List Word
 repeated before [] = []
-repeated before (w ∷ ws) = elim (mentions before w.bytes) [ true ↦ w ∷ repeated before ws | false ↦ repeated (w ∷ before) ws ]
+repeated before (w ∷ ws) = elim (mentions before w.bytes) [
+  | true ↦ w ∷ repeated before ws
+  | false ↦ repeated (w ∷ before) ws
+]
 
 -- the places of words
 abbrev pub places : List Word → List ℕ
@@ -32,7 +35,8 @@ variable_words vs = flat_map (λ v. v.first ∷ v.others) vs
 -- the first declaration of a symbol of this name
 abbrev pub declared : List Declaration → List ℕ → Option Declaration
 declared [] name = None
-declared (d ∷ ds) name = elim (bytes_eq d.name.bytes name) [ true ↦ Some d | false ↦ declared ds name ]
+declared (d ∷ ds) name =
+    elim (bytes_eq d.name.bytes name) [ true ↦ Some d | false ↦ declared ds name ]
 
 abbrev pub symbol : Spec → List ℕ → Option Declaration
 symbol y name = declared (symbols y) name
@@ -44,11 +48,17 @@ is_variable y name = mentions (variable_words y.variables) name
 -- the sort of the first variable of this name
 abbrev pub variable_sort : List Variables → List ℕ → Option (List ℕ)
 variable_sort [] name = None
-variable_sort (v ∷ vs) name = elim (mentions (v.first ∷ v.others) name) [ true ↦ Some v.sort.bytes | false ↦ variable_sort vs name ]
+variable_sort (v ∷ vs) name = elim (mentions (v.first ∷ v.others) name) [
+  | true ↦ Some v.sort.bytes
+  | false ↦ variable_sort vs name
+]
 
 -- the sort of a term, which its first word has
 abbrev pub sort_of : Spec → Term → Option (List ℕ)
-sort_of y t = elim (symbol y (head t).bytes) [ Some d ↦ Some d.sort.bytes | None ↦ variable_sort y.variables (head t).bytes ]
+sort_of y t = elim (symbol y (head t).bytes) [
+  | Some d ↦ Some d.sort.bytes
+  | None ↦ variable_sort y.variables (head t).bytes
+]
 
 -- two sorts are equal
 abbrev pub same_sort : Option (List ℕ) → Option (List ℕ) → Bool

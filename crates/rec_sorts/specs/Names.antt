@@ -16,7 +16,10 @@ given_to names name = get_by (λ k. bytes_eq name k.bytes.now) names.numbers
 
 -- a name gets a number, unless it has one
 abbrev pub given_first : Numbers → List ℕ → ℕ → Numbers
-given_first numbers name number other = elim (numbers other) [ Some k ↦ Some k | None ↦ elim (bytes_eq name other) [ true ↦ Some number | false ↦ None ] ]
+given_first numbers name number other = elim (numbers other) [
+  | Some k ↦ Some k
+  | None ↦ elim (bytes_eq name other) [ true ↦ Some number | false ↦ None ]
+]
 
 -- words get numbers in turn, from this one on
 abbrev pub numbers_after : Numbers → ℕ → List Word → Numbers
@@ -26,9 +29,11 @@ numbers_after numbers next (w ∷ ws) = numbers_after (given_first numbers w.byt
 -- the least place of a word that has a number when its turn comes
 abbrev pub least_repeated : Numbers → ℕ → List Word → Option ℕ
 least_repeated numbers next [] = None
-least_repeated numbers next (w ∷ ws) = earlier (place_where (is_some (numbers w.bytes)) w.at) (least_repeated (given_first numbers w.bytes next) (suc next) ws)
+least_repeated numbers next (w ∷ ws) = earlier (place_where (is_some (numbers w.bytes)) w.at)
+    (least_repeated (given_first numbers w.bytes next) (suc next) ws)
 
 -- the place of the first word with these bytes
 abbrev pub first_at : List Word → Numbers
 first_at [] name = None
-first_at (w ∷ ws) name = elim (bytes_eq w.bytes name) [ true ↦ Some 0 | false ↦ option_map suc (first_at ws name) ]
+first_at (w ∷ ws) name =
+    elim (bytes_eq w.bytes name) [ true ↦ Some 0 | false ↦ option_map suc (first_at ws name) ]

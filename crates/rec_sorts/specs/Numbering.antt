@@ -1,6 +1,7 @@
 -- What numbered words of a specification's terms stand for.
 --     name_of y m            the name of the symbol or variable that a number stands for
---     AreLetters y ls t      the letters of a term: those of its arguments from left to right, and then its head's
+--     AreLetters y ls t      the letters of a term: those of its arguments from left to right, and
+--                            then its head's
 use Rattle.std.specs.Prelude.{ℕ, ◌≡◌, ◌<◌, ◌∷◌, ◌++◌, List, [], All, map, length, get_or}
 use Rattle.rec_syntax.specs.Tokens.{Word}
 use Rattle.rec_syntax.specs.Syntax.{Term, Terms, Apply, none, more, Condition, Rule, Spec}
@@ -54,10 +55,12 @@ Pairwise P (x ∷ xs) (y ∷ ys) = P x y × Pairwise P xs ys
 Pairwise P _ _ = ⊥
 
 abbrev pub IsLetterCondition : Spec → LetterCondition → Condition → Type 0
-IsLetterCondition y l c = AreLetters y l.left.items c.left × AreLetters y l.right.items c.right × (l.equal ≡ c.equal)
+IsLetterCondition y l c = AreLetters y l.left.items c.left × AreLetters y l.right.items c.right
+    × (l.equal ≡ c.equal)
 
 abbrev pub IsLetterRule : Spec → LetterRule → Rule → Type 0
-IsLetterRule y l r = AreLetters y l.left.items r.left × AreLetters y l.right.items r.right × Pairwise (IsLetterCondition y) l.conditions.items r.conditions
+IsLetterRule y l r = AreLetters y l.left.items r.left × AreLetters y l.right.items r.right
+    × Pairwise (IsLetterCondition y) l.conditions.items r.conditions
 
 -- the number of arguments that a symbol is declared with
 abbrev pub arity_of : Spec → ℕ → ℕ

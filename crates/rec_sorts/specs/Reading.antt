@@ -23,7 +23,15 @@ letters_of s t = map (placed_by s) (flat t)
 
 -- no rule is broken
 abbrev pub nowhere : TermPlaces
-nowhere = record { unknown = None; ill_filled = None; ill_sorted = None; ill_headed = None; unlike = None; unbound = None; free = None }
+nowhere = record {
+  unknown = None;
+  ill_filled = None;
+  ill_sorted = None;
+  ill_headed = None;
+  unlike = None;
+  unbound = None;
+  free = None;
+}
 
 -- where a term breaks a rule by itself
 abbrev pub term_places : Scope → Term → TermPlaces
@@ -44,11 +52,21 @@ last_letter ps = slice_get ps (length ps - 1)
 
 -- the place of the head, where it is no operator
 abbrev pub ill_headed_at : Scope → List Placed → Option ℕ
-ill_headed_at s ps = elim (last_letter ps) [ None ↦ None | Some p ↦ place_where (not (is_operator s p.meaning)) p.at ]
+ill_headed_at s ps = elim (last_letter ps) [
+  | None ↦ None
+  | Some p ↦ place_where (not (is_operator s p.meaning)) p.at
+]
 
 -- the place of the left one of two heads of different sorts
 abbrev pub unlike_at : Scope → List Placed → List Placed → Option ℕ
-unlike_at s ls rs = elim (last_letter ls) [ None ↦ None | Some l ↦ elim (last_letter rs) [ None ↦ None | Some r ↦ place_where (not (option_eq nat_eq (sort_at s l.meaning) (sort_at s r.meaning))) l.at ] ]
+unlike_at s ls rs = elim (last_letter ls) [
+  | None ↦ None
+  | Some l ↦ elim (last_letter rs) [
+    | None ↦ None
+    | Some r ↦ place_where
+        (not (option_eq nat_eq (sort_at s l.meaning) (sort_at s r.meaning))) l.at
+  ]
+]
 
 -- the letter is the variable of this number
 abbrev pub is_the_variable : ℕ → Option Meaning → Bool
@@ -73,12 +91,14 @@ abbrev pub condition_places : Scope → (ℕ → Bool) → Condition → TermPla
 condition_places s bound c =
     joined (joined (term_places s c.left) (term_places s c.right)) (record nowhere {
       unlike = unlike_at s (letters_of s c.left) (letters_of s c.right);
-      unbound = earlier (unbound_among bound (letters_of s c.left)) (unbound_among bound (letters_of s c.right));
+      unbound = earlier (unbound_among bound (letters_of s c.left))
+          (unbound_among bound (letters_of s c.right));
     })
 
 abbrev pub conditions_places : Scope → (ℕ → Bool) → List Condition → TermPlaces
 conditions_places s bound [] = nowhere
-conditions_places s bound (c ∷ cs) = joined (condition_places s bound c) (conditions_places s bound cs)
+conditions_places s bound (c ∷ cs) = joined (condition_places s bound c)
+    (conditions_places s bound cs)
 
 -- where a rule breaks a rule
 abbrev pub rule_places : Scope → Rule → TermPlaces
@@ -96,7 +116,8 @@ rules_places s (r ∷ rs) = joined (rule_places s r) (rules_places s rs)
 
 -- where a term to evaluate breaks a rule
 abbrev pub open_term_places : Scope → Term → TermPlaces
-open_term_places s t = joined (term_places s t) (record nowhere { free = unbound_among (λ _. false) (letters_of s t) })
+open_term_places s t =
+    joined (term_places s t) (record nowhere { free = unbound_among (λ _. false) (letters_of s t) })
 
 abbrev pub open_terms_places : Scope → List Term → TermPlaces
 open_terms_places s [] = nowhere
@@ -107,7 +128,9 @@ abbrev pub SpellsTerm : Scope → List Letter → Term → Type 0
 SpellsTerm s ls t = ls ≡ bare (letters_of s t)
 
 abbrev pub SpellsCondition : Scope → LetterCondition → Condition → Type 0
-SpellsCondition s l c = SpellsTerm s l.left.items c.left × SpellsTerm s l.right.items c.right × (l.equal ≡ c.equal)
+SpellsCondition s l c = SpellsTerm s l.left.items c.left × SpellsTerm s l.right.items c.right
+    × (l.equal ≡ c.equal)
 
 abbrev pub SpellsRule : Scope → LetterRule → Rule → Type 0
-SpellsRule s l r = SpellsTerm s l.left.items r.left × SpellsTerm s l.right.items r.right × Pairwise (SpellsCondition s) l.conditions.items r.conditions
+SpellsRule s l r = SpellsTerm s l.left.items r.left × SpellsTerm s l.right.items r.right
+    × Pairwise (SpellsCondition s) l.conditions.items r.conditions

@@ -8,7 +8,8 @@ use Rattle.rec_sorts.specs.declared.scope.Scope.{Scope}
 
 -- the symbol or variable with this number, of which the first ones are symbols
 abbrev pub numbered : ℕ → ℕ → Meaning
-numbered symbols number = if nat_lt number symbols then Symbol number else Variable (number - symbols)
+numbered symbols number =
+    if nat_lt number symbols then Symbol number else Variable (number - symbols)
 
 -- what a name stands for
 abbrev pub meaning_of : Scope → List ℕ → Option Meaning

@@ -1,4 +1,5 @@
--- The eleven rules of a specification, each as the list of the places at which it is broken, and the verdict.
+-- The eleven rules of a specification, each as the list of the places at which it is broken, and
+-- the verdict.
 use Rattle.std.specs.Prelude.{ℕ, ◌≡◌, ◌≤◌, ◌<◌, Bool, true, false, not, List, [], ◌∷◌, ◌++◌, Option, Some, None, map, flat_map, filter, length, nat_eq, min}
 use Rattle.rec_syntax.specs.Tokens.{Word}
 use Rattle.rec_syntax.specs.Syntax.{Term, Terms, Apply, none, more, Declaration, Spec, head, subterms}
@@ -52,7 +53,10 @@ unknown_words y = missing (names (symbols y) ++ variable_words y.variables) (hea
 
 -- a term has the number of arguments that its symbol is declared with; a variable has none
 abbrev pub is_filled : Spec → Term → Bool
-is_filled y (Apply w ts) = elim (symbol y w.bytes) [ Some d ↦ nat_eq (count ts) (length d.arguments) | None ↦ nat_eq (count ts) 0 ]
+is_filled y (Apply w ts) = elim (symbol y w.bytes) [
+  | Some d ↦ nat_eq (count ts) (length d.arguments)
+  | None ↦ nat_eq (count ts) 0
+]
 
 -- 6: a symbol has another number of arguments than declared, or a variable has arguments
 abbrev pub ill_filled : Spec → List Word
@@ -62,11 +66,15 @@ ill_filled y = heads (filter (λ t. not (is_filled y t)) (all_terms y))
 abbrev pub ill_placed : Spec → List Word → Terms → List Term
 ill_placed y [] ts = []
 ill_placed y (s ∷ ss) none = []
-ill_placed y (s ∷ ss) (more t ts) = elim (same_sort (sort_of y t) (Some s.bytes)) [ true ↦ ill_placed y ss ts | false ↦ t ∷ ill_placed y ss ts ]
+ill_placed y (s ∷ ss) (more t ts) = elim (same_sort (sort_of y t) (Some s.bytes)) [
+  | true ↦ ill_placed y ss ts
+  | false ↦ t ∷ ill_placed y ss ts
+]
 
 -- the arguments of a term that have another sort than declared
 abbrev pub ill_sorted_in : Spec → Term → List Term
-ill_sorted_in y (Apply w ts) = elim (symbol y w.bytes) [ Some d ↦ ill_placed y d.arguments ts | None ↦ [] ]
+ill_sorted_in y (Apply w ts) =
+    elim (symbol y w.bytes) [ Some d ↦ ill_placed y d.arguments ts | None ↦ [] ]
 
 -- 7: an argument has another sort than declared
 abbrev pub ill_sorted : Spec → List Word
@@ -82,11 +90,15 @@ unlike y l r = elim (same_sort (sort_of y l) (sort_of y r)) [ true ↦ [] | fals
 
 -- 9: the two sides of a rule or of a condition have different sorts
 abbrev pub unlike_sides : Spec → List Word
-unlike_sides y = heads (flat_map (λ r. unlike y r.left r.right ++ flat_map (λ c. unlike y c.left c.right) r.conditions) y.rules)
+unlike_sides y = heads
+    (flat_map (λ r. unlike y r.left r.right ++ flat_map (λ c. unlike y c.left c.right) r.conditions)
+    y.rules)
 
 -- 10: a variable of a right side or of a condition does not occur in the left side
 abbrev pub unbound : Spec → List Word
-unbound y = flat_map (λ r. missing (heads (subterms r.left)) (variables_among y (heads (everywhere (r.right ∷ condition_terms r.conditions))))) y.rules
+unbound y = flat_map
+    (λ r. missing (heads (subterms r.left))
+    (variables_among y (heads (everywhere (r.right ∷ condition_terms r.conditions))))) y.rules
 
 -- 11: a variable occurs in the list of terms
 abbrev pub open_terms : Spec → List Word
@@ -123,10 +135,14 @@ abbrev pub least : ℕ → List ℕ → ℕ
 least p [] = p
 least p (q ∷ qs) = least (min p q) qs
 
--- the first rule that is broken, with the least place: so a rule is asked only where those before it are kept
+-- the first rule that is broken, with the least place: so a rule is asked only where those before
+-- it are kept
 abbrev pub first_broken : List Broken → Option Fault
 first_broken [] = None
-first_broken (b ∷ bs) = elim (places b.words) [ [] ↦ first_broken bs | p ∷ ps ↦ Some (record { number = b.number; at = least p ps }) ]
+first_broken (b ∷ bs) = elim (places b.words) [
+  | [] ↦ first_broken bs
+  | p ∷ ps ↦ Some (record { number = b.number; at = least p ps })
+]
 
 -- the first of all rules that a specification breaks, with its place
 abbrev pub fault : Spec → Option Fault

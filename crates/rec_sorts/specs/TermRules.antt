@@ -1,4 +1,5 @@
--- The six rules of a text of terms, each as a test of the whole list, for a specification that keeps all its own rules.
+-- The six rules of a text of terms, each as a test of the whole list, for a specification that
+-- keeps all its own rules.
 use Rattle.std.specs.Prelude.{ℕ, Bool, true, false, ◌||◌, not, List, [], ◌∷◌, ◌++◌, Option, Some, None, flat_map, length, nat_eq}
 use Rattle.std.specs.Bool.{beq}
 use Rattle.std.specs.List.{list_any, position}
@@ -40,7 +41,8 @@ is_annotated t = elim (annotations t) [ none ↦ false | more a as' ↦ true ]
 
 -- the declaration of the symbol that a tree's name with its quoted flag stands for
 abbrev pub tree_symbol : Spec → Tree → Option Declaration
-tree_symbol y (Appl name quoted args anns) = elim (beq quoted (not (plain_name name))) [ true ↦ symbol y name | false ↦ None ]
+tree_symbol y (Appl name quoted args anns) =
+    elim (beq quoted (not (plain_name name))) [ true ↦ symbol y name | false ↦ None ]
 tree_symbol y t = None
 
 -- a tree's name is not that of a declared symbol
@@ -49,7 +51,10 @@ is_undeclared y t = elim (tree_symbol y t) [ Some d ↦ false | None ↦ true ]
 
 -- a tree has another number of arguments than declared
 abbrev pub is_ill_filled : Spec → Tree → Bool
-is_ill_filled y t = elim (tree_symbol y t) [ Some d ↦ not (nat_eq (length (to_list (arguments t))) (length d.arguments)) | None ↦ false ]
+is_ill_filled y t = elim (tree_symbol y t) [
+  | Some d ↦ not (nat_eq (length (to_list (arguments t))) (length d.arguments))
+  | None ↦ false
+]
 
 -- the sort of a tree, which its name has
 abbrev pub tree_sort : Spec → Tree → Option (List ℕ)
@@ -57,19 +62,23 @@ tree_sort y t = elim (tree_symbol y t) [ Some d ↦ Some d.sort.bytes | None ↦
 
 -- a tree has another sort than the one for its place
 abbrev pub are_ill_sorted : Spec → List Word → Trees → Bool
-are_ill_sorted y (s ∷ ss) (more t ts) = not (same_sort (tree_sort y t) (Some s.bytes)) || are_ill_sorted y ss ts
+are_ill_sorted y (s ∷ ss) (more t ts) = not (same_sort (tree_sort y t) (Some s.bytes))
+    || are_ill_sorted y ss ts
 are_ill_sorted y _ _ = false
 
 -- an argument of a tree has another sort than declared
 abbrev pub is_ill_sorted : Spec → Tree → Bool
-is_ill_sorted y t = elim (tree_symbol y t) [ Some d ↦ are_ill_sorted y d.arguments (arguments t) | None ↦ false ]
+is_ill_sorted y t =
+    elim (tree_symbol y t) [ Some d ↦ are_ill_sorted y d.arguments (arguments t) | None ↦ false ]
 
 -- the first of these tests that passes, by its number, from this number on
 abbrev pub first_passed : ℕ → List Bool → Option ℕ
 first_passed number [] = None
-first_passed number (b ∷ bs) = elim b [ true ↦ Some number | false ↦ first_passed (ℕ.suc number) bs ]
+first_passed number (b ∷ bs) =
+    elim b [ true ↦ Some number | false ↦ first_passed (ℕ.suc number) bs ]
 
--- the rules 2 to 6, asked of the nodes of all elements; only a node that is no element itself may have no annotations
+-- the rules 2 to 6, asked of the nodes of all elements; only a node that is no element itself may
+-- have no annotations
 abbrev pub broken_by_elements : Spec → List Tree → Option ℕ
 broken_by_elements y ts =
     let all = flat_map nodes ts in
@@ -90,9 +99,11 @@ broken_by_terms y t = elim (elements t) [ None ↦ Some 1 | Some ts ↦ broken_b
 abbrev pub breaks_alone : Spec → ℕ → Tree → Bool
 breaks_alone y number t = option_eq nat_eq (broken_by_elements y (t ∷ [])) (Some number)
 
--- the first given term that alone breaks the rule that all of them break, by how many stand before it
+-- the first given term that alone breaks the rule that all of them break, by how many stand before
+-- it
 abbrev pub first_breaking : Spec → List Tree → Option ℕ
-first_breaking y ts = option_and_then (λ number. position (breaks_alone y number) ts) (broken_by_elements y ts)
+first_breaking y ts = option_and_then (λ number. position (breaks_alone y number) ts)
+    (broken_by_elements y ts)
 
 -- that of a text of terms; none, where it is no list, or has annotations itself
 abbrev pub broken_element : Spec → Tree → Option ℕ

@@ -33,9 +33,11 @@ IsOf End t = t ≡ tokens.End
 abbrev pub MayStand : List Token → TokenKind → Type 0
 MayStand before k = (t : Token) × IsOf k t × CanGoOn (before ++ t ∷ [])
 
--- these are exactly the kinds of the tokens that some text has at the fault's place, behind the tokens before it
+-- these are exactly the kinds of the tokens that some text has at the fault's place, behind the
+-- tokens before it
 abbrev pub AreExpected : List ℕ → List TokenKind → Type 0
-AreExpected bytes ks = (at : ℕ) (fault : IsFaultPlace bytes at) (k : TokenKind) → Contains ks k ↔ MayStand (bare fault.before) k
+AreExpected bytes ks = (at : ℕ) (fault : IsFaultPlace bytes at) (k : TokenKind)
+    → Contains ks k ↔ MayStand (bare fault.before) k
 
 -- a token's kind; a bad token has none
 abbrev pub HasKind : Option TokenKind → Kind → Type 0
@@ -65,4 +67,5 @@ is_taken step k = is_some (step (sample k))
 
 -- the reader's state is the one behind the tokens before the fault
 abbrev pub IsAtFault : List ℕ → Due → Reader → Type 0
-IsAtFault bytes d r = (at : ℕ) (fault : IsFaultPlace bytes at) → run (Some start) (bare fault.before) ≡ Some (config_of bytes d r)
+IsAtFault bytes d r = (at : ℕ) (fault : IsFaultPlace bytes at)
+    → run (Some start) (bare fault.before) ≡ Some (config_of bytes d r)

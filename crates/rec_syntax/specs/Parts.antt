@@ -27,16 +27,29 @@ abbrev pub term_of : List ℕ → Term → syntax.Term
 term_of source t = spelled_by (map (node_of source) t.nodes.items)
 
 abbrev pub condition_of : List ℕ → Condition → syntax.Condition
-condition_of source c = record { left = term_of source c.left; right = term_of source c.right; equal = c.equal }
+condition_of source c =
+    record { left = term_of source c.left; right = term_of source c.right; equal = c.equal }
 
 abbrev pub rule_of : List ℕ → Rule → syntax.Rule
-rule_of source r = record { left = term_of source r.left; right = term_of source r.right; conditions = map (condition_of source) r.conditions.items }
+rule_of source r = record {
+  left = term_of source r.left;
+  right = term_of source r.right;
+  conditions = map (condition_of source) r.conditions.items;
+}
 
 abbrev pub declaration_of : List ℕ → Declaration → syntax.Declaration
-declaration_of source d = record { name = word_of source d.name; arguments = words_of source d.arguments.items; sort = word_of source d.sort }
+declaration_of source d = record {
+  name = word_of source d.name;
+  arguments = words_of source d.arguments.items;
+  sort = word_of source d.sort;
+}
 
 abbrev pub group_of : List ℕ → Group → syntax.Variables
-group_of source g = record { first = word_of source g.first; others = words_of source g.others.items; sort = word_of source g.sort }
+group_of source g = record {
+  first = word_of source g.first;
+  others = words_of source g.others.items;
+  sort = word_of source g.sort;
+}
 
 abbrev pub spec_of : List ℕ → Sections → syntax.Spec
 spec_of source s = record {

@@ -37,8 +37,10 @@ flag_of Operators = false
 abbrev pub role_of : List ℕ → Role → machine.Role
 role_of bytes Left = machine.Left
 role_of bytes (Right l) = machine.Right (term_of bytes l)
-role_of bytes (ConditionLeft r) = machine.CondLeft (term_of bytes r.left) (term_of bytes r.right) (map (condition_of bytes) r.conditions.items)
-role_of bytes (ConditionRight r x e) = machine.CondRight (term_of bytes r.left) (term_of bytes r.right) (map (condition_of bytes) r.conditions.items) (term_of bytes x) e
+role_of bytes (ConditionLeft r) = machine.CondLeft (term_of bytes r.left) (term_of bytes r.right)
+    (map (condition_of bytes) r.conditions.items)
+role_of bytes (ConditionRight r x e) = machine.CondRight (term_of bytes r.left)
+    (term_of bytes r.right) (map (condition_of bytes) r.conditions.items) (term_of bytes x) e
 role_of bytes InEval = machine.InEval
 
 -- the terms that are read, the newest first
@@ -48,7 +50,9 @@ made_of bytes ns = made_by [] (map (node_of bytes) ns)
 -- the open applications, the innermost first, each with its newest terms
 abbrev pub frames_of : List ℕ → List Call → List syntax.Term → List Frame
 frames_of bytes [] made = []
-frames_of bytes (c ∷ cs) made = record { word = word_of bytes c.word; arguments = newest c.count made none } ∷ frames_of bytes cs (drop c.count made)
+frames_of bytes (c ∷ cs) made =
+    record { word = word_of bytes c.word; arguments = newest c.count made none }
+    ∷ frames_of bytes cs (drop c.count made)
 
 -- the terms but the newest
 abbrev pub rest : List syntax.Term → List syntax.Term
@@ -64,14 +68,21 @@ due_of bytes Start r = machine.Start
 due_of bytes Title r = machine.Title
 due_of bytes (Between l) r = machine.Between (level_of l)
 due_of bytes (Named k w) r = machine.Named (flag_of k) (word_of bytes w)
-due_of bytes (Arguments k w) r = machine.Args (flag_of k) (word_of bytes w) (words_of bytes r.words.items)
-due_of bytes (ResultSort k w) r = machine.Result (flag_of k) (word_of bytes w) (words_of bytes r.words.items)
+due_of bytes (Arguments k w) r = machine.Args (flag_of k) (word_of bytes w)
+    (words_of bytes r.words.items)
+due_of bytes (ResultSort k w) r = machine.Result (flag_of k) (word_of bytes w)
+    (words_of bytes r.words.items)
 due_of bytes (Grouped w) r = machine.Grouped (word_of bytes w) (words_of bytes r.words.items)
 due_of bytes (GroupSort w) r = machine.GroupSort (word_of bytes w) (words_of bytes r.words.items)
-due_of bytes AtTerm r = machine.AtTerm (role_of bytes r.role) (open_of bytes r (made_of bytes r.nodes.items))
-due_of bytes (Called w) r = machine.Called (role_of bytes r.role) (word_of bytes w) (open_of bytes r (made_of bytes r.nodes.items))
-due_of bytes (First w) r = machine.First (role_of bytes r.role) (word_of bytes w) (open_of bytes r (made_of bytes r.nodes.items))
-due_of bytes After r = machine.After (role_of bytes r.role) (newest_term (made_of bytes r.nodes.items)) (open_of bytes r (rest (made_of bytes r.nodes.items)))
+due_of bytes AtTerm r = machine.AtTerm (role_of bytes r.role)
+    (open_of bytes r (made_of bytes r.nodes.items))
+due_of bytes (Called w) r = machine.Called (role_of bytes r.role) (word_of bytes w)
+    (open_of bytes r (made_of bytes r.nodes.items))
+due_of bytes (First w) r = machine.First (role_of bytes r.role) (word_of bytes w)
+    (open_of bytes r (made_of bytes r.nodes.items))
+due_of bytes After r = machine.After (role_of bytes r.role)
+    (newest_term (made_of bytes r.nodes.items))
+    (open_of bytes r (rest (made_of bytes r.nodes.items)))
 due_of bytes Ended r = machine.Ended
 due_of bytes Done r = machine.Done
 
@@ -151,4 +162,6 @@ Steps d r k result after = Moves r.source.items (advance r.source.items d r k) r
 
 -- behind a whole term in this role, a token leads to where the machine goes
 abbrev pub Completes : Role → Term → Reader → Kind → Result Due Stop → Reader → Type 0
-Completes p t r k result after = Moves r.source.items (machine.complete (role_of r.source.items p) (term_of r.source.items t) (spec_of r.source.items r.sections) (token_of r.source.items k)) result after
+Completes p t r k result after = Moves r.source.items
+    (machine.complete (role_of r.source.items p) (term_of r.source.items t)
+    (spec_of r.source.items r.sections) (token_of r.source.items k)) result after

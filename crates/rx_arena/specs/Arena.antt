@@ -119,7 +119,8 @@ pub record IsArena (a : ArenaState) : Type 0 where
 
 -- no slot taken, and all chains empty
 abbrev pub empty_arena : ℕ → ℕ → ArenaState
-empty_arena cap chains = record { cells = []; chains = replicate chains []; gray = []; spare = 0; cap = cap }
+empty_arena cap chains =
+    record { cells = []; chains = replicate chains []; gray = []; spare = 0; cap = cap }
 
 -- what is shown of a node, by whether the marks are turned
 abbrev pub shown_of : Bool → Node → Taken
@@ -127,4 +128,10 @@ shown_of turned n = record { body = n.body; roots = n.roots; marked = has_mark t
 
 -- the arena of a pool, with these lists through its cells
 abbrev pub state_of : PoolState → List (List ℕ) → List ℕ → ArenaState
-state_of p chains gray = record { cells = map (option_map (shown_of p.turned)) p.cells; chains = chains; gray = gray; spare = spare_of p; cap = p.cap }
+state_of p chains gray = record {
+  cells = map (option_map (shown_of p.turned)) p.cells;
+  chains = chains;
+  gray = gray;
+  spare = spare_of p;
+  cap = p.cap;
+}

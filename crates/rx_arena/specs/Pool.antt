@@ -35,13 +35,16 @@ abbrev pub is_given_back : Option Node → Bool
 is_given_back None = false
 is_given_back (Some n) = nat_eq n.mark 2
 
--- the free slots, the counts and the store agree; marks tell the taken cells from those that were given back
-pub record IsPool (slots : List (Option Node)) (free : List ℕ) (fresh taken room cap : ℕ) : Type 0 where
+-- the free slots, the counts and the store agree; marks tell the taken cells from those that were
+-- given back
+pub record IsPool (slots : List (Option Node)) (free : List ℕ) (fresh taken room cap : ℕ)
+    : Type 0 where
   pub once : (s : ℕ) → times s free ≤ 1
   pub held : (s : ℕ) → s < fresh → IsHeld slots s
   pub empty : (s : ℕ) → fresh ≤ s → get_or slots s None ≡ None
   pub free_known : (s : ℕ) → 0 < times s free → is_given_back (get_or slots s None) ≡ true
-  pub taken_known : (s : ℕ) (n : Node) → get_or (cells_of slots free fresh) s None ≡ Some n → n.mark ≤ 1
+  pub taken_known : (s : ℕ) (n : Node) → get_or (cells_of slots free fresh) s None ≡ Some n
+      → n.mark ≤ 1
   pub free_counted : taken + length free ≡ fresh
   pub taken_counted : filled (cells_of slots free fresh) ≡ taken
   pub room_is : length slots ≡ room

@@ -9,7 +9,8 @@ use Rattle.rx_names.specs.declared.names.Entry.{Entry}
 
 -- its word with its flag and its number of arguments
 abbrev pub signature_in : List (List ℕ) → Entry → Option Signature
-signature_in words e = option_map (λ w. record { name = w; quoted = e.quoted; arity = e.arity }) (slice_get words e.word)
+signature_in words e = option_map (λ w. record { name = w; quoted = e.quoted; arity = e.arity })
+    (slice_get words e.word)
 
 -- what the symbol with this number stands for
 abbrev pub signature_at : List (List ℕ) → List Entry → ℕ → Option Signature
@@ -26,4 +27,5 @@ is_allowed_word (Some w) quoted = is_allowed w quoted
 
 -- so it is for each entry
 abbrev pub AllAllowed : List (List ℕ) → List Entry → Type 0
-AllAllowed words entries = (i : ℕ) (e : Entry) → slice_get entries i ≡ Some e → is_allowed_word (slice_get words e.word) e.quoted ≡ true
+AllAllowed words entries = (i : ℕ) (e : Entry) → slice_get entries i ≡ Some e
+    → is_allowed_word (slice_get words e.word) e.quoted ≡ true

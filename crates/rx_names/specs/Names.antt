@@ -20,16 +20,20 @@ FindsOrLacks symbols g (Some s) = map.get symbols s.0 ≡ Some g
 
 -- no two symbols stand for one signature
 abbrev pub IsOneToOne : map.FinMap nat_cmp Signature → Type 0
-IsOneToOne symbols = (s t : ℕ) (g : Signature) → map.get symbols s ≡ Some g → map.get symbols t ≡ Some g → s ≡ t
+IsOneToOne symbols = (s t : ℕ) (g : Signature) → map.get symbols s ≡ Some g
+    → map.get symbols t ≡ Some g → s ≡ t
 
--- s stands for the signature afterwards and is the only symbol that does, no other symbol changes, and nothing at all changes where s was there before
-pub record Interns (old new : map.FinMap nat_cmp Signature) (g : Signature) (s : Symbol) : Type 0 where
+-- s stands for the signature afterwards and is the only symbol that does, no other symbol changes,
+-- and nothing at all changes where s was there before
+pub record Interns (old new : map.FinMap nat_cmp Signature) (g : Signature) (s : Symbol)
+    : Type 0 where
   pub added : map.get new s.0 ≡ Some g
   pub only : (t : ℕ) → map.get new t ≡ Some g → t ≡ s.0
   pub others : (t : ℕ) → t ≢ s.0 → map.get new t ≡ map.get old t
   pub there : IsSome (map.get old s.0) → new ≡ old
 
 -- the symbol, or that memory ran out and nothing changed
-abbrev pub InternsOrRefuses : map.FinMap nat_cmp Signature → map.FinMap nat_cmp Signature → Signature → Result Symbol NamesFault → Type 0
+abbrev pub InternsOrRefuses : map.FinMap nat_cmp Signature → map.FinMap nat_cmp Signature
+    → Signature → Result Symbol NamesFault → Type 0
 InternsOrRefuses old new g (Ok s) = Interns old new g s
 InternsOrRefuses old new g (Err e) = new ≡ old

@@ -44,4 +44,5 @@ HasTree w r t = tree_at w r ≡ Some t
 
 -- references of these trees were pushed, the last one's first
 abbrev pub PushesTrees : Store → List Tree → List Term → List Term → Type 0
-PushesTrees w left before after = (us : List Tree) → OnStack (HasTree w) before us → OnStack (HasTree w) after (left ++ us)
+PushesTrees w left before after = (us : List Tree) → OnStack (HasTree w) before us
+    → OnStack (HasTree w) after (left ++ us)

@@ -6,7 +6,8 @@ use Rattle.std.specs.Prelude.{ℕ, Bool, false, ℤ, List, [], ◌∷◌, codes,
 use Rattle.rx_term.specs.Tree.{Tree, Trees, none, more, Int, Appl, Items, Hole}
 use Rattle.rx_pattern.specs.Pattern.{Kind, AnyTerm, AnyInt, AnyStr, AnyAppl, AnyPlaceholder, AnyList, kind_of, is_rest}
 
--- an integer, a name, a list or a placeholder; the end of a list, one item more of it, or the rest of it, whatever that is
+-- an integer, a name, a list or a placeholder; the end of a list, one item more of it, or the rest
+-- of it, whatever that is
 pub data Step : Type 0 where
   Number : ℤ → Step
   Named : List ℕ → Bool → Step
@@ -20,14 +21,16 @@ abbrev mutual
   -- the node, then elements or arguments, then annotations
   pub code : Tree → List Step → List Step
   code (Int z anns) rest = Number z ∷ code_of_all anns rest
-  code (Appl name quoted args anns) rest = Named name quoted ∷ code_of_all args (code_of_all anns rest)
+  code (Appl name quoted args anns) rest = Named name quoted
+      ∷ code_of_all args (code_of_all anns rest)
   code (Items items anns) rest = Listing ∷ code_of_all items (code_of_all anns rest)
   code (Hole inner anns) rest = Holding (kind_of inner) ∷ rest
 
   -- `Item` before each tree, and an `End`; a last `<list>` is a `Rest`
   pub code_of_all : Trees → List Step → List Step
   code_of_all none rest = End ∷ rest
-  code_of_all (more p ps) rest = if is_rest p ps then Rest ∷ rest else Item ∷ code p (code_of_all ps rest)
+  code_of_all (more p ps) rest =
+      if is_rest p ps then Rest ∷ rest else Item ∷ code p (code_of_all ps rest)
 
 -- a tree, or the trees of a list
 pub data Piece : Type 0 where
@@ -49,7 +52,8 @@ placeholder kind = Hole (Appl (word_of kind) false none none) none
 -- what a step makes of the pieces behind it
 abbrev pub assembled : Step → List Piece → List Piece
 assembled (Number z) (Several anns ∷ ps) = One (Int z anns) ∷ ps
-assembled (Named name quoted) (Several args ∷ Several anns ∷ ps) = One (Appl name quoted args anns) ∷ ps
+assembled (Named name quoted) (Several args ∷ Several anns ∷ ps) = One (Appl name quoted args anns)
+    ∷ ps
 assembled Listing (Several items ∷ Several anns ∷ ps) = One (Items items anns) ∷ ps
 assembled (Holding (Some kind)) ps = One (placeholder kind) ∷ ps
 assembled End ps = Several none ∷ ps

@@ -13,9 +13,12 @@ Binds w bs out found = ⊥
 
 -- the tree is `[]`, or a list of the bank without its annotations
 abbrev pub IsBareList : Store → Tree → Type 0
-IsBareList w u = (u ≡ list_of none) ⊎ ((r : Term) × (ts : Trees) × (anns : Trees) × (tree_at w r ≡ Some (Items ts anns)) × (u ≡ list_of ts))
+IsBareList w u = (u ≡ list_of none)
+    ⊎ ((r : Term) × (ts : Trees) × (anns : Trees) × (tree_at w r ≡ Some (Items ts anns))
+    × (u ≡ list_of ts))
 
 -- each tree that is new is such a list, and the symbols are as they were
 pub record AddsOnlyLists (old new : Store) : Type 0 where
-  pub lists : (t : Term) (u : Tree) → tree_at new t ≡ Some u → (tree_at old t ≡ Some u) ⊎ IsBareList old u
+  pub lists : (t : Term) (u : Tree) → tree_at new t ≡ Some u
+      → (tree_at old t ≡ Some u) ⊎ IsBareList old u
   pub symbols : new.symbols ≡ old.symbols

@@ -30,7 +30,8 @@ opens (Several (more p ps)) = if is_rest p ps then (Rest, []) else (Item, One p 
 
 -- jobs for these pieces were pushed, the last one's first
 abbrev pub PushesJobs : Store → List Piece → List Job → List Job → Type 0
-PushesJobs w left before after = (vs : List Piece) → OnStack (IsFor w) before vs → OnStack (IsFor w) after (left ++ vs)
+PushesJobs w left before after = (vs : List Piece) → OnStack (IsFor w) before vs
+    → OnStack (IsFor w) after (left ++ vs)
 
 -- the step is the first of the piece, and jobs for the rest were pushed
 abbrev pub Opens : Store → Piece → Step → List Job → List Job → Type 0

@@ -29,7 +29,8 @@ step_of node.Rest = Rest
 abbrev pub tree_of_nodes : List Node → Tree
 tree_of_nodes nodes = tree_of_steps (map step_of nodes)
 
--- nodes that are those of their tree, which is a pattern whose integers fit and whose names are names
+-- nodes that are those of their tree, which is a pattern whose integers fit and whose names are
+-- names
 pub record AreNodes (nodes : List Node) : Type 0 where
   pub code : map step_of nodes ≡ code (tree_of_nodes nodes) []
   pub pattern : IsTrue (is_pattern (tree_of_nodes nodes))

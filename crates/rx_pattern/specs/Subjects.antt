@@ -1,7 +1,8 @@
 -- Stacks of references, and what they stand for.
 --     AreEach R xs ys       R holds of the first of each, the second of each, and so on
 --     OnStack R xs ys       the same, where the last of xs goes with the first of ys
---     meets s v             what a step of a pattern binds of a subject, and what is left of it, where it matches the front of it
+--     meets s v             what a step of a pattern binds of a subject, and what is left of it,
+--                           where it matches the front of it
 use Rattle.std.specs.Prelude.{◌≡◌, ◌&&◌, Bool, true, false, List, [], ◌∷◌, ◌++◌, reverse, bytes_eq, Option, Some, None}
 use Rattle.std.specs.Bool.{beq}
 use Rattle.std.specs.Ordering.{int_eq}
@@ -20,7 +21,8 @@ AreEach R xs ys = ⊥
 abbrev pub OnStack : {A B : Type 0} → (A → B → Type 0) → List A → List B → Type 0
 OnStack R xs ys = AreEach R (reverse xs) ys
 
--- the trees are the items of the list of the reference, whatever its annotations; where there is no reference there are none
+-- the trees are the items of the list of the reference, whatever its annotations; where there is no
+-- reference there are none
 abbrev pub IsListed : Store → Option Term → Trees → Type 0
 IsListed w None ts = ts ≡ none
 IsListed w (Some r) ts = (anns : Trees) × (tree_at w r ≡ Some (Items ts anns))
@@ -33,7 +35,8 @@ Stands w l (Several ts) = IsListed w l ts
 
 -- references of these pieces were pushed, the last one's first
 abbrev pub Pushes : Store → Store → List Piece → List (Option Term) → List (Option Term) → Type 0
-Pushes old new left before after = (vs : List Piece) → OnStack (Stands old) before vs → OnStack (Stands new) after (left ++ vs)
+Pushes old new left before after = (vs : List Piece) → OnStack (Stands old) before vs
+    → OnStack (Stands new) after (left ++ vs)
 
 -- the step is one of a tree, or of a list
 abbrev pub Suits : Step → Piece → Type 0
@@ -56,7 +59,8 @@ front_if false front = None
 
 abbrev pub meets : Step → Piece → Option Front
 meets (Number z) (One (Int y bnns)) = front_if (int_eq z y) ([], Several bnns ∷ [])
-meets (Named name quoted) (One (Appl other flag brgs bnns)) = front_if (bytes_eq name other && beq quoted flag) ([], Several brgs ∷ Several bnns ∷ [])
+meets (Named name quoted) (One (Appl other flag brgs bnns)) = front_if
+    (bytes_eq name other && beq quoted flag) ([], Several brgs ∷ Several bnns ∷ [])
 meets Listing (One (Items jtems bnns)) = Some ([], Several jtems ∷ Several bnns ∷ [])
 meets (Holding (Some kind)) (One u) = front_if (fits kind u) (u ∷ [], [])
 meets End (Several none) = Some ([], [])
@@ -72,11 +76,14 @@ Met w front before after matched = ⊥
 
 -- references of the bindings were added
 abbrev pub Adds : Store → Store → List Tree → List Term → List Term → Type 0
-Adds old new bs before after = (cs : List Tree) → HaveTrees old before cs → HaveTrees new after (cs ++ bs)
+Adds old new bs before after = (cs : List Tree) → HaveTrees old before cs
+    → HaveTrees new after (cs ++ bs)
 
 -- the same of any step
-abbrev pub MetOrNot : Store → Store → Option Front → List (Option Term) → List (Option Term) → List Term → List Term → Bool → Type 0
-MetOrNot old new (Some front) before after out more_out true = Pushes old new front.1 before after × Adds old new front.0 out more_out
+abbrev pub MetOrNot : Store → Store → Option Front → List (Option Term) → List (Option Term)
+    → List Term → List Term → Bool → Type 0
+MetOrNot old new (Some front) before after out more_out true = Pushes old new front.1 before after
+    × Adds old new front.0 out more_out
 MetOrNot old new None before after out more_out false = Unit {0}
 MetOrNot old new front before after out more_out matched = ⊥
 

@@ -44,11 +44,13 @@ links_below (Some s) = if s.mark then cell_links (cell_in s.body) else []
 
 -- cells name slots of the vector alone
 abbrev pub AreLinksWithin : List Slot → Type 0
-AreLinksWithin xs = (t i : ℕ) (x : Cell) → heap_of xs t ≡ Some x → Contains (links x) i → i < length xs
+AreLinksWithin xs = (t i : ℕ) (x : Cell) → heap_of xs t ≡ Some x → Contains (links x) i
+    → i < length xs
 
 -- what this slot names is marked where it is
 abbrev pub IsClosedAt : List Slot → ℕ → Type 0
-IsClosedAt xs t = (i : ℕ) (x : Cell) → marks_of xs t ≡ true → heap_of xs t ≡ Some x → Contains (links x) i → marks_of xs i ≡ true
+IsClosedAt xs t = (i : ℕ) (x : Cell) → marks_of xs t ≡ true → heap_of xs t ≡ Some x
+    → Contains (links x) i → marks_of xs i ≡ true
 
 -- what marked slots name is marked
 abbrev pub IsClosed : List Slot → Type 0
@@ -56,7 +58,8 @@ IsClosed xs = (t : ℕ) → IsClosedAt xs t
 
 -- each mark is on a slot that is linked from those that were marked
 abbrev pub OnlyLinked : List Slot → List Slot → Type 0
-OnlyLinked old new = (t : ℕ) → marks_of new t ≡ true → IsLinked (heap_of old) (λ s. marks_of old s ≡ true) t
+OnlyLinked old new = (t : ℕ) → marks_of new t ≡ true
+    → IsLinked (heap_of old) (λ s. marks_of old s ≡ true) t
 
 -- no new mark, and what the first slots name is marked; or there are new marks
 abbrev pub Progress : Bool → List Slot → List Slot → ℕ → Type 0

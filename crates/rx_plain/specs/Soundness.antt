@@ -27,7 +27,8 @@ cell-within xs t x e = elim (lt_or_le t (length xs)) [
 ]
 
 -- a bank's slots are a heap
-pub bank-heap : (b : PlainBank) → IsHeap (heap_of b.slots.items) (table b) (length b.slots.items) b.whole.0
+pub bank-heap : (b : PlainBank)
+    → IsHeap (heap_of b.slots.items) (table b) (length b.slots.items) b.whole.0
 bank-heap b = record {
   bounded = λ t le. ap cell_at (slice_get_past b.slots.items t le);
   distinct = b.distinct;
@@ -37,18 +38,27 @@ bank-heap b = record {
 
 pub taken-le : (b : PlainBank) → b.taken ≤ length b.slots.items
 unfolding content_by
-taken-le b = let e = b.counted in let f = len-tabulate-le (length b.slots.items) (tree_of (heap_of b.slots.items) (table b) b.whole.0) in omega arith
+taken-le b =
+    let n = length b.slots.items in
+    let counted = b.counted in
+    let most = len-tabulate-le n (tree_of (heap_of b.slots.items) (table b) b.whole.0) in
+    omega (arith, counted, most)
 
 -- a reference with a cell is held
-pub cell-held : (b : PlainBank) (t : ℕ) → is_some (map.get (store_of b).content t) ≡ is_some (heap_of b.slots.items t)
-cell-held b = heaps.cell-held (heap_of b.slots.items) (table b) (length b.slots.items) b.whole (bank-heap b)
+pub cell-held : (b : PlainBank) (t : ℕ)
+    → is_some (map.get (store_of b).content t) ≡ is_some (heap_of b.slots.items t)
+cell-held b = heaps.cell-held (heap_of b.slots.items) (table b) (length b.slots.items) b.whole
+    (bank-heap b)
 
 -- every bank is sound
 pub sound : (b : PlainBank) → IsSound (store_of b)
 unfolding content_by
-sound b = heap-sound (symbols_of b.names) (heap_of b.slots.items) (length b.slots.items) b.whole (bank-heap b) (roots_of b.slots.items) b.cap (store_of b).spare
+sound b = heap-sound (symbols_of b.names) (heap_of b.slots.items) (length b.slots.items) b.whole
+    (bank-heap b) (roots_of b.slots.items) b.cap (store_of b).spare
     (λ t pos. taken_if_rooted t (heap_of b.slots.items t) refl pos) b.counts
-    (let p = b.counted in let q = taken-le b in let r : length b.slots.items ≤ b.cap = b.bounded in omega arith) where
-      taken_if_rooted : (t : ℕ) (o : Option Cell) → heap_of b.slots.items t ≡ o → 0 < roots_of b.slots.items t → is_some o ≡ true
+    (let p = b.counted in
+    let q = taken-le b in let r : length b.slots.items ≤ b.cap = b.bounded in omega arith) where
+      taken_if_rooted : (t : ℕ) (o : Option Cell) → heap_of b.slots.items t ≡ o
+          → 0 < roots_of b.slots.items t → is_some o ≡ true
       taken_if_rooted t None e pos = let z = b.unrooted t e in absurd (omega arith)
       taken_if_rooted t (Some x) e pos = refl

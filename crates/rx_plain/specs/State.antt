@@ -15,12 +15,15 @@ use Rattle.rx_plain.specs.declared.slots.Slot.{Slot}
 use Rattle.rx_plain.specs.declared.bank.PlainBank.{PlainBank}
 
 -- the store of these symbols and slots, with this limit, so many slots taken, and room for so many
-abbrev pub store_from : (symbols : map.FinMap nat_cmp Signature) (xs : List Slot) → Least (is_whole (heap_of xs) (table_of symbols) (length xs)) → ℕ → ℕ → ℕ → Store
-store_from symbols xs w cap taken room = heap_store symbols (heap_of xs) (length xs) w (roots_of xs) cap (min room cap - taken)
+abbrev pub store_from : (symbols : map.FinMap nat_cmp Signature) (xs : List Slot)
+    → Least (is_whole (heap_of xs) (table_of symbols) (length xs)) → ℕ → ℕ → ℕ → Store
+store_from symbols xs w cap taken room = heap_store symbols (heap_of xs) (length xs) w (roots_of xs)
+    cap (min room cap - taken)
 
 -- what a bank is seen as
 abbrev pub store_of : PlainBank → Store
-store_of b = store_from (symbols_of b.names) b.slots.items b.whole b.cap b.taken (vec_capacity b.slots)
+store_of b = store_from (symbols_of b.names) b.slots.items b.whole b.cap b.taken
+    (vec_capacity b.slots)
 
 -- the tree of a body, where the trees of references are known
 abbrev pub tree_of_body : Store → Body → Option Tree

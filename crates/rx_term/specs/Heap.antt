@@ -1,4 +1,5 @@
--- How cells that name one another stand for trees. A cell may name any other, before or after it, as long as none leads back to itself.
+-- How cells that name one another stand for trees. A cell may name any other, before or after it,
+-- as long as none leads back to itself.
 use Rattle.std.specs.Prelude.{ℕ, ◌≡◌, ◌<◌, ◌≤◌, Bool, true, false, ◌||◌, ◌&&◌, not, if◌then◌else◌, List, [], ◌∷◌, ◌++◌, ℤ, Option, Some, None, IsSome, is_some, IsTrue, Contains}
 use Rattle.std.proofs.Common.{zero, suc, arith}
 use Rattle.std.proofs.Math.Bool.{Bool-set}
@@ -70,9 +71,15 @@ Notes c l (more v vs) = (i : ℕ) × (l ≡ Some i) × (c i ≡ Some (Items (mor
 abbrev pub Says : (ℕ → Option Tree) → Table → Cell → Tree → Type 0
 Says c m x (Int z anns) = (x.node ≡ number z) × IsTrue (is_i32 z) × Notes c x.notes anns
 Says c m x (Items none anns) = (x.node ≡ empty) × Notes c x.notes anns
-Says c m x (Items (more v vs) anns) = (i : ℕ) × ((j : ℕ) × (x.node ≡ pair i j) × (c i ≡ Some v) × (c j ≡ Some (Items vs none)) × Notes c x.notes anns)
-Says c m x (Appl name quoted args anns) = (s : ℕ) × ((j : ℕ) × (x.node ≡ application s j) × (m s ≡ Some (record { name = name; quoted = quoted; arity = count_of args })) × (c j ≡ Some (Items args none)) × Notes c x.notes anns)
-Says c m x (Hole v anns) = (i : ℕ) × (x.node ≡ placeholder i) × (c i ≡ Some v) × Notes c x.notes anns
+Says c m x (Items (more v vs) anns) = (i : ℕ)
+    × ((j : ℕ) × (x.node ≡ pair i j) × (c i ≡ Some v) × (c j ≡ Some (Items vs none))
+    × Notes c x.notes anns)
+Says c m x (Appl name quoted args anns) = (s : ℕ)
+    × ((j : ℕ) × (x.node ≡ application s j)
+    × (m s ≡ Some (record { name = name; quoted = quoted; arity = count_of args }))
+    × (c j ≡ Some (Items args none)) × Notes c x.notes anns)
+Says c m x (Hole v anns) = (i : ℕ) × (x.node ≡ placeholder i) × (c i ≡ Some v)
+    × Notes c x.notes anns
 
 -- no two taken slots hold the same
 abbrev pub IsDistinct : Heap → Type 0
@@ -96,10 +103,12 @@ IsLeast-prop : (p : ℕ → Bool) (n : ℕ) → IsProp (IsLeast p n)
 IsLeast-prop p n = hlevel Bool-set
 
 none_before : (p : ℕ → Bool) (x y : Least p) → x.0 < y.0 → ⊥
-none_before p x y lt = let a : p x.0 ≡ false = y.1.none_below x.0 lt in let b : p x.0 ≡ true = x.1.passes in cc
+none_before p x y lt = let a : p x.0 ≡ false = y.1.none_below x.0 lt in
+    let b : p x.0 ≡ true = x.1.passes in cc
 
 pub Least-prop : (p : ℕ → Bool) → IsProp (Least p)
-Least-prop p x y = let same : x.0 ≡ y.0 = omega (arith, none_before p x y, none_before p y x) in Σ_prop_path (IsLeast-prop p) same
+Least-prop p x y = let same : x.0 ≡ y.0 = omega (arith, none_before p x y, none_before p y x) in
+    Σ_prop_path (IsLeast-prop p) same
 
 -- a map of the slots below `len` that have a value
 abbrev pub put_some : {X : Type 0} → map.FinMap nat_cmp X → ℕ → Option X → map.FinMap nat_cmp X
@@ -127,7 +136,8 @@ pub record IsHeap (h : Heap) (m : Table) (len n : ℕ) : Type 0 where
   pub symbols : IsTable m
 
 -- the trees of all slots below `len`, where each taken slot has one
-unfoldable pub content_by : (h : Heap) (m : Table) (len : ℕ) → Least (is_whole h m len) → map.FinMap nat_cmp Tree
+unfoldable pub content_by : (h : Heap) (m : Table) (len : ℕ) → Least (is_whole h m len)
+    → map.FinMap nat_cmp Tree
 content_by h m len w = content_of h m len w.0
 
 -- the slots that a cell names
@@ -152,4 +162,5 @@ kept_slots keep h t = if keep t then h t else None
 -- the slot is one of those to begin with, or a slot that is reached names it
 pub data IsLinked (h : Heap) (from : ℕ → Type 0) : ℕ → Type 0 where
   start : {t : ℕ} → from t → IsLinked h from t
-  along : {t i : ℕ} {x : Cell} → IsLinked h from t → h t ≡ Some x → Contains (links x) i → IsLinked h from i
+  along : {t i : ℕ} {x : Cell} → IsLinked h from t → h t ≡ Some x → Contains (links x) i
+      → IsLinked h from i

@@ -30,7 +30,8 @@ pub record HasAppl (w : Store) (t : Term) (s : Symbol) : Type 0 where
   pub quoted : Bool
   pub args : Trees
   pub anns : Trees
-  pub symbol : signature_of w s ≡ Some (record { name = name; quoted = quoted; arity = count_of args })
+  pub symbol : signature_of w s
+      ≡ Some (record { name = name; quoted = quoted; arity = count_of args })
   pub here : tree_at w t ≡ Some (Appl name quoted args anns)
 
 -- it is a placeholder

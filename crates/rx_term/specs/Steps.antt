@@ -16,7 +16,8 @@ pub record SameBesideContent (old new : Store) : Type 0 where
   pub roots : new.roots ≡ old.roots
   pub cap : new.cap ≡ old.cap
 
--- r has the tree afterwards, no other reference changes, and nothing at all changes where r was there before
+-- r has the tree afterwards, no other reference changes, and nothing at all changes where r was
+-- there before
 pub record Makes (old new : Store) (tree : Option Tree) (r : Term) : Type 0 where
   pub made : tree_at new r ≡ tree
   pub others : (t : Term) → t ≢ r → tree_at new t ≡ tree_at old t
@@ -39,7 +40,8 @@ abbrev pub ReserveFits : Store → ℕ → BankFault → Type 0
 ReserveFits w k Memory = cells w + k ≤ w.cap
 ReserveFits w k Full = w.cap < cells w + k
 
--- a make that was refused: the tree was not there and there was no room for it, and no tree or count changed
+-- a make that was refused: the tree was not there and there was no room for it, and no tree or
+-- count changed
 pub record Refuses (old new : Store) (tree : Option Tree) (e : BankFault) : Type 0 where
   pub content : new.content ≡ old.content
   pub beside : SameBesideContent old new
@@ -54,12 +56,16 @@ IsKeptRoot w extra r = (0 < w.roots r.0) ⊎ Contains extra r
 
 -- the tree is a part of the tree of such a reference
 abbrev pub IsReached : Store → List Term → Tree → Type 0
-IsReached w extra u = (r : Term) × ((v : Tree) × IsKeptRoot w extra r × (tree_at w r ≡ Some v) × Contains (parts v) u)
+IsReached w extra u = (r : Term)
+    × ((v : Tree) × IsKeptRoot w extra r × (tree_at w r ≡ Some v) × Contains (parts v) u)
 
--- exactly the references of reached trees stay, with their trees; each other one gives its cell to `spare`
+-- exactly the references of reached trees stay, with their trees; each other one gives its cell to
+-- `spare`
 pub record Reclaims (old new : Store) (extra : List Term) : Type 0 where
-  pub kept : (t : Term) (u : Tree) → tree_at old t ≡ Some u → IsReached old extra u → tree_at new t ≡ Some u
-  pub only : (t : Term) (u : Tree) → tree_at new t ≡ Some u → (tree_at old t ≡ Some u) × IsReached old extra u
+  pub kept : (t : Term) (u : Tree) → tree_at old t ≡ Some u → IsReached old extra u
+      → tree_at new t ≡ Some u
+  pub only : (t : Term) (u : Tree) → tree_at new t ≡ Some u
+      → (tree_at old t ≡ Some u) × IsReached old extra u
   pub beside : SameBesideContent old new
   pub room : new.spare + cells new ≡ old.spare + cells old
 
@@ -67,7 +73,8 @@ pub record Reclaims (old new : Store) (extra : List Term) : Type 0 where
 abbrev pub with_count : Store → Term → ℕ → Store
 with_count w t n = record w { roots = λ k. if k == t.0 then n else w.roots k }
 
--- s stands for the signature afterwards, no other symbol changes, and nothing at all changes where s was there before
+-- s stands for the signature afterwards, no other symbol changes, and nothing at all changes where
+-- s was there before
 pub record Adds (old new : Store) (g : Signature) (s : Symbol) : Type 0 where
   pub added : signature_of new s ≡ Some g
   pub others : (t : Symbol) → t ≢ s → signature_of new t ≡ signature_of old t
@@ -84,7 +91,8 @@ pub record Reserves (old new : Store) (k : ℕ) : Type 0 where
   pub room : old.spare ≤ new.spare
   pub reserved : k ≤ new.spare
 
--- a reserve that was refused: Full exactly where k cells more would pass the limit, and nothing changed but room
+-- a reserve that was refused: Full exactly where k cells more would pass the limit, and nothing
+-- changed but room
 pub record RefusesReserve (old new : Store) (k : ℕ) (e : BankFault) : Type 0 where
   pub content : new.content ≡ old.content
   pub beside : SameBesideContent old new
@@ -108,20 +116,25 @@ ReservesOrRefuses old new k (Err e) = RefusesReserve old new k e
 
 -- the count of t is one higher, or is the highest that there is
 abbrev pub ProtectsOrRefuses : Store → Store → Term → Result (Unit {0}) RootsFull → Type 0
-ProtectsOrRefuses old new t (Ok u) = (old.roots t.0 < 65535) × (new ≡ with_count old t (old.roots t.0 + 1))
+ProtectsOrRefuses old new t (Ok u) = (old.roots t.0 < 65535)
+    × (new ≡ with_count old t (old.roots t.0 + 1))
 ProtectsOrRefuses old new t (Err e) = (old.roots t.0 ≡ 65535) × (new ≡ old)
 
--- what makes, refused makes, new symbols and reserves have in common: every tree and every symbol stays, and so do roots and limit
+-- what makes, refused makes, new symbols and reserves have in common: every tree and every symbol
+-- stays, and so do roots and limit
 pub record Grows (old new : Store) : Type 0 where
   pub trees : (t : Term) (u : Tree) → tree_at old t ≡ Some u → tree_at new t ≡ Some u
-  pub symbols : (s : Symbol) (g : Signature) → signature_of old s ≡ Some g → signature_of new s ≡ Some g
+  pub symbols : (s : Symbol) (g : Signature) → signature_of old s ≡ Some g
+      → signature_of new s ≡ Some g
   pub roots : new.roots ≡ old.roots
   pub cap : new.cap ≡ old.cap
   pub room : old.spare + cells old ≤ new.spare + cells new
 
--- what makes, refusals and reclaims have in common: what is reached from the roots or from a work list keeps its tree; symbols, roots and limit stay
+-- what makes, refusals and reclaims have in common: what is reached from the roots or from a work
+-- list keeps its tree; symbols, roots and limit stay
 pub record Keeps (old new : Store) (work : List Term) : Type 0 where
-  pub trees : (t : Term) (u : Tree) → tree_at old t ≡ Some u → IsReached old work u → tree_at new t ≡ Some u
+  pub trees : (t : Term) (u : Tree) → tree_at old t ≡ Some u → IsReached old work u
+      → tree_at new t ≡ Some u
   pub beside : SameBesideContent old new
 
 -- no cell is left, and each tree that is held is reached from the roots or from a work list
@@ -129,15 +142,22 @@ pub record IsExhausted (w : Store) (work : List Term) : Type 0 where
   pub full : cells w ≡ w.cap
   pub needed : (t : Term) (u : Tree) → tree_at w t ≡ Some u → IsReached w work u
 
--- what holds of every bank: one reference for each tree, one symbol for each signature, parts and symbols are there, all of it valid,
+-- what holds of every bank: one reference for each tree, one symbol for each signature, parts and
+-- symbols are there, all of it valid,
 -- and what is rooted is there
 pub record IsSound (w : Store) : Type 0 where
   pub one_to_one : (s t : Term) (u : Tree) → tree_at w s ≡ Some u → tree_at w t ≡ Some u → s ≡ t
-  pub closed : (t : Term) (u v : Tree) → tree_at w t ≡ Some u → Contains (parts u) v → (s : Term) × (tree_at w s ≡ Some v)
+  pub closed : (t : Term) (u v : Tree) → tree_at w t ≡ Some u → Contains (parts u) v
+      → (s : Term) × (tree_at w s ≡ Some v)
   pub valid : (t : Term) (u : Tree) → tree_at w t ≡ Some u → IsTrue (is_tree u)
-  pub named : (t : Term) (name : List ℕ) (quoted : Bool) (args anns : Trees) → tree_at w t ≡ Some (Appl name quoted args anns) → (s : Symbol) × (signature_of w s ≡ Some (record { name = name; quoted = quoted; arity = count_of args }))
-  pub valid_names : (s : Symbol) (g : Signature) → signature_of w s ≡ Some g → IsTrue (is_name g.name g.quoted)
-  pub symbols_one_to_one : (s t : Symbol) (g : Signature) → signature_of w s ≡ Some g → signature_of w t ≡ Some g → s ≡ t
+  pub named : (t : Term) (name : List ℕ) (quoted : Bool) (args anns : Trees)
+      → tree_at w t ≡ Some (Appl name quoted args anns)
+      → (s : Symbol)
+      × (signature_of w s ≡ Some (record { name = name; quoted = quoted; arity = count_of args }))
+  pub valid_names : (s : Symbol) (g : Signature) → signature_of w s ≡ Some g
+      → IsTrue (is_name g.name g.quoted)
+  pub symbols_one_to_one : (s t : Symbol) (g : Signature) → signature_of w s ≡ Some g
+      → signature_of w t ≡ Some g → s ≡ t
   pub rooted_held : (t : Term) → 0 < w.roots t.0 → IsSome (tree_at w t)
   pub counted : (t : Term) → w.roots t.0 ≤ 65535
   pub room : w.spare + cells w ≤ w.cap

@@ -1,4 +1,5 @@
--- What a bank of terms is seen as: which reference has which tree, which symbol has which name, and how often each reference is rooted.
+-- What a bank of terms is seen as: which reference has which tree, which symbol has which name, and
+-- how often each reference is rooted.
 use Rattle.std.specs.Prelude.{ℕ, ◌==◌, Bool, List, Option, Some, None, if◌then◌else◌}
 use Rattle.std.specs.Ordering.{nat_cmp}
 use Rattle.std.specs.Option.{option_and_then}
@@ -65,9 +66,11 @@ abbrev pub longer : Option Tree → Option Tree → Option Tree
 longer (Some x) (Some (Items xs none)) = Some (list_of (more x xs))
 longer x xs = None
 
--- the application of a symbol to a list without annotations that has as many items as the symbol takes
+-- the application of a symbol to a list without annotations that has as many items as the symbol
+-- takes
 abbrev pub applied : Option Signature → Option Tree → Option Tree
-applied (Some s) (Some (Items args none)) = if count_of args == s.arity then Some (Appl s.name s.quoted args none) else None
+applied (Some s) (Some (Items args none)) =
+    if count_of args == s.arity then Some (Appl s.name s.quoted args none) else None
 applied s args = None
 
 -- the placeholder of a tree

@@ -43,7 +43,8 @@ all_parts w (r ∷ rs) = parts_of (tree_at w r) ++ all_parts w rs
 abbrev pub AllHeld : Store → List Term → Type 0
 AllHeld w rs = (t : Term) → Contains rs t → IsSome (tree_at w t)
 
--- what stands below a node, but for its annotations, was pushed: kids are the references of these parts
+-- what stands below a node, but for its annotations, was pushed: kids are the references of these
+-- parts
 pub record PushesInside (w : Store) (u : Term) (old new : List Term) : Type 0 where
   pub tree : Tree
   pub kids : List Term

@@ -36,9 +36,11 @@ MayStand before k = (t : Token) × IsOf k t × Begins (before ++ t ∷ [])
 abbrev pub before : (bytes : List ℕ) (at : ℕ) → IsPlace bytes at → List Token
 before bytes at place = map (λ t. t.1) place.0
 
--- these are exactly the kinds of the tokens that some text has at the fault's place, behind the tokens before it
+-- these are exactly the kinds of the tokens that some text has at the fault's place, behind the
+-- tokens before it
 abbrev pub AreExpected : List ℕ → List TokenKind → Type 0
-AreExpected bytes ks = (at : ℕ) (place : IsPlace bytes at) (k : TokenKind) → Contains ks k ↔ MayStand (before bytes at place) k
+AreExpected bytes ks = (at : ℕ) (place : IsPlace bytes at) (k : TokenKind)
+    → Contains ks k ↔ MayStand (before bytes at place) k
 
 -- a token's kind; a bad token has none
 abbrev pub HasKind : Option TokenKind → Kind → Type 0
@@ -66,4 +68,6 @@ is_taken step k = is_some (step (sample k))
 
 -- the reader's state is the one behind the tokens before the fault
 abbrev pub IsAtFault : List ℕ → Due → Reader → Type 0
-IsAtFault bytes d r = (at : ℕ) (place : IsPlace bytes at) → run (before bytes at place) machine.Due [] ≡ Some (state_of bytes d r.frames.items r.nodes.items)
+IsAtFault bytes d r = (at : ℕ) (place : IsPlace bytes at)
+    → run (before bytes at place) machine.Due []
+    ≡ Some (state_of bytes d r.frames.items r.nodes.items)

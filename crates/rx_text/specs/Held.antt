@@ -11,7 +11,8 @@ use Rattle.rx_text.specs.declared.faults.TextFault.TheVariants.{Long, Grammar, M
 abbrev pub Holds : Store → List Term → List Tree → Type 0
 Holds w rs ts = HaveTrees w (reverse rs) ts
 
--- a bank that is full has as many cells as it may have; the reader's second pass refuses for nothing else
+-- a bank that is full has as many cells as it may have; the reader's second pass refuses for
+-- nothing else
 abbrev pub IsRefusal : Store → TextFault → Type 0
 IsRefusal w Long = ⊥
 IsRefusal w (Grammar at) = ⊥

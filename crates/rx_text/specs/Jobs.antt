@@ -21,7 +21,8 @@ seen x of (Some t) = of t
 -- a tree without its annotations
 abbrev pub body_text : Tree → List ℕ
 body_text (Int z anns) = signed_decimal z
-body_text (Appl name quoted args anns) = name_text name quoted ++ enclosed 40 args (canon_all args) 41 (no_arguments name quoted)
+body_text (Appl name quoted args anns) = name_text name quoted
+    ++ enclosed 40 args (canon_all args) 41 (no_arguments name quoted)
 body_text (Items items anns) = 91 ∷ canon_all items ++ 93 ∷ []
 body_text (Hole inner anns) = 60 ∷ canon inner ++ 62 ∷ []
 
@@ -91,7 +92,8 @@ pub record Adds (w : Store) (whole : List ℕ) (room : ℕ) (before after : List
   pub less : jobs_size w added < room
 
 -- a front of the text was written, and the jobs that were added are the rest of it
-pub record Leaves (w : Store) (whole : List ℕ) (room : ℕ) (old new : Option (List ℕ)) (before after : List Job) : Type 0 where
+pub record Leaves (w : Store) (whole : List ℕ) (room : ℕ) (old new : Option (List ℕ))
+    (before after : List Job) : Type 0 where
   pub front : List ℕ
   pub added : List Job
   pub grown : after ≡ before ++ added

@@ -24,7 +24,8 @@ name_of bytes w = name_between bytes w.from w.to w.quoted
 
 -- a name stands there
 abbrev pub IsNameBetween : List ℕ → ℕ → ℕ → Bool → Type 0
-IsNameBetween bytes from to false = (from ≤ to) × (to ≤ length bytes) × IsTrue (is_allowed (slice_range bytes from to) false)
+IsNameBetween bytes from to false = (from ≤ to) × (to ≤ length bytes)
+    × IsTrue (is_allowed (slice_range bytes from to) false)
 IsNameBetween bytes from to true = (from ≤ length bytes) × IsSome (quoted 0 (drop from bytes))
 
 abbrev pub IsWord : List ℕ → Word → Type 0

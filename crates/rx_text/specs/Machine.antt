@@ -10,7 +10,8 @@ pub data Frame : Type 0 where
   InHole : Frame
   InAnnotations : Tree → Trees → Frame
 
--- a term is due; a term or the end of what was just opened; a name was read; a body; a term with its annotations; the end
+-- a term is due; a term or the end of what was just opened; a name was read; a body; a term with
+-- its annotations; the end
 pub data Mode : Type 0 where
   Due : Mode
   First : Frame → Mode

@@ -5,7 +5,8 @@ use Rattle.std.specs.Prelude.{ℕ, zero, suc, ◌+◌, ◌≤◌, Bool, List, []
 use Rattle.rx_term.specs.Tree.{Tree, Trees, none, more, Int, Appl, Items, Hole, annotated}
 use Rattle.rx_text.specs.Machine.{onto}
 
--- an integer; an application to so many trees; a list of so many; a placeholder of one; so many as the annotations of the tree below them
+-- an integer; an application to so many trees; a list of so many; a placeholder of one; so many as
+-- the annotations of the tree below them
 pub data Node : Type 0 where
   Number : ℤ → Node
   Application : List ℕ → Bool → ℕ → Node

@@ -36,7 +36,8 @@ made_of bytes ns = trees_of [] (map (node_of bytes) ns)
 
 -- the frame of what is open, with its newest trees
 abbrev pub frame_of : List ℕ → Opening → ℕ → List Tree → machine.Frame
-frame_of bytes (opening.Arguments w) k made = machine.InArguments (name_of bytes w) w.quoted (taken k made)
+frame_of bytes (opening.Arguments w) k made = machine.InArguments (name_of bytes w) w.quoted
+    (taken k made)
 frame_of bytes opening.List k made = machine.InList (taken k made)
 frame_of bytes opening.Placeholder k made = machine.InHole
 frame_of bytes opening.Annotations k made = machine.InAnnotations (top (drop k made)) (taken k made)
@@ -63,7 +64,8 @@ IsOpening bytes o = Unit {0}
 -- what is open, the innermost first
 abbrev pub frames_of : List ℕ → List Frame → List Tree → List machine.Frame
 frames_of bytes [] made = []
-frames_of bytes (f ∷ fs) made = frame_of bytes f.opening f.count made ∷ frames_of bytes fs (under f.opening f.count made)
+frames_of bytes (f ∷ fs) made = frame_of bytes f.opening f.count made
+    ∷ frames_of bytes fs (under f.opening f.count made)
 
 abbrev pub mode_of : List ℕ → Due → List Tree → machine.Mode
 mode_of bytes Term made = machine.Due
@@ -92,7 +94,10 @@ loose Whole = 1
 loose Done = 1
 
 abbrev pub state_of : List ℕ → Due → List Frame → List Node → State
-state_of bytes d frames ns = (mode_of bytes d (made_of bytes ns), frames_of bytes (reverse frames) (owned d (made_of bytes ns)))
+state_of bytes d frames ns = (
+  mode_of bytes d (made_of bytes ns),
+  frames_of bytes (reverse frames) (owned d (made_of bytes ns)),
+)
 
 -- how many trees belong to the frames
 abbrev pub total : List Frame → ℕ
@@ -128,6 +133,7 @@ pub record IsState (bytes : List ℕ) (d : Due) (frames : List Frame) (ns : List
 
 -- a step of the machine, unless memory ran out
 abbrev pub Moves : List ℕ → Option State → Result Due Stop → List Frame → List Node → Type 0
-Moves bytes moved (Ok d) frames ns = (moved ≡ Some (state_of bytes d frames ns)) × IsState bytes d frames ns
+Moves bytes moved (Ok d) frames ns = (moved ≡ Some (state_of bytes d frames ns))
+    × IsState bytes d frames ns
 Moves bytes moved (Err stop.Refused) frames ns = moved ≡ None
 Moves bytes moved (Err stop.Memory) frames ns = Unit {0}

@@ -18,12 +18,17 @@ abbrev pub IsRefused : List ℕ → SpecFault → Type 0
 IsRefused bytes (Syntax syntax.Long) = SpecVerdict bytes verdict.Long
 IsRefused bytes (Syntax (syntax.Grammar at)) = SpecVerdict bytes (verdict.Grammar at)
 IsRefused bytes (Syntax syntax.Memory) = Unit {0}
-IsRefused bytes (Rules (sort.Rule number at)) = SpecVerdict bytes (verdict.Breaks (record { number = number; at = at }))
+IsRefused bytes (Rules (sort.Rule number at)) = SpecVerdict bytes
+    (verdict.Breaks (record { number = number; at = at }))
 IsRefused bytes (Rules sort.Memory) = Unit {0}
 
--- the value of a tree, with the tree's annotations; none, where evaluation takes more than so many steps
+-- the value of a tree, with the tree's annotations; none, where evaluation takes more than so many
+-- steps
 abbrev pub value_within : Spec → ℕ → Tree → Option Tree
-value_within y n u = elim (Eval y n [] (term_of u)) [ Done v left ↦ Some (annotated v (annotations u)) | Over ↦ None ]
+value_within y n u = elim (Eval y n [] (term_of u)) [
+  | Done v left ↦ Some (annotated v (annotations u))
+  | Over ↦ None
+]
 
 -- the printed text of that value
 abbrev pub value_text : Spec → ℕ → Tree → Option (List ℕ)

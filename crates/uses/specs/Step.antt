@@ -6,7 +6,9 @@ use Rattle.rx_term.specs.declared.Term.{Term}
 use Rattle.rx_pattern.specs.Matching.{matching}
 use Rattle.rx_pattern.specs.Filling.{filling}
 
--- nothing, where the left pattern does not match the tree; else the tree that the right one makes of the bindings
+-- nothing, where the left pattern does not match the tree; else the tree that the right one makes
+-- of the bindings
 abbrev pub IsStep : Store → Tree → Tree → Tree → Option Term → Type 0
 IsStep w left right u None = matching left u ≡ None
-IsStep w left right u (Some r) = (bs : List Tree) × (v : Tree) × (matching left u ≡ Some bs) × (filling right bs ≡ Ok v) × (tree_at w r ≡ Some v)
+IsStep w left right u (Some r) = (bs : List Tree) × (v : Tree) × (matching left u ≡ Some bs)
+    × (filling right bs ≡ Ok v) × (tree_at w r ≡ Some v)
