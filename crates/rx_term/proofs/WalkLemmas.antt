@@ -5,21 +5,20 @@ use Rattle.std.proofs.lemmas.List.{append-nil}
 use Rattle.std.proofs.lemmas.List.Elements.{Contains-append_left, Contains-append_right, Contains-append_cases, Contains-push}
 use Rattle.rx_term.proofs.PartsLemmas.{list_parts-parts, cons_head, cons_tail, cons_cases}
 use Rattle.rx_term.specs.Parts.{parts, annotation_parts}
-use Rattle.rx_term.specs.Walks.{all_parts, parts_of, AllHeld, HaveTrees, PushesInside, PushesAnns}
+use Rattle.rx_term.specs.Walks.{all_parts, parts_of, AllHeld, HaveTrees, PushesInside, PushesAnns, Lists}
 use Rattle.std.specs.Option.{option_and_then}
 use Rattle.std.proofs.Common.{append_assoc, length-append, ◌++◌, Bool, is_some, ◌+◌, zero-add, min}
-use Rattle.rx_term.specs.Tree.{Tree, Trees, Appl, Items, none, more, annotations}
+use Rattle.rx_term.specs.Tree.{Tree, Trees, Appl, Items, none, more, annotations, to_list}
 use Rattle.rx_term.specs.Store.{Store, tree_at, longer}
 use Rattle.rx_term.specs.Steps.{Grows}
 use Rattle.rx_term.specs.declared.Term.{Term}
-use Rattle.rx_term.specs.Walks.{TreesAt, Lists}
 
 some-tree : (o : Option Tree) → IsSome o → (x : Tree) × (o ≡ Some x)
 some-tree None e = cc
 some-tree (Some x) e = (x, refl)
 
 -- the next item and the list have trees that make a longer one
-pub next : (old now : Store) (rs : List Term) (r list : Term) → Grows old now → IsSome (tree_at old r) → Lists old rs (tree_at now list) → (x : Tree) × ((xs : Trees) × (tree_at now r ≡ Some x) × (tree_at now list ≡ Some (Items xs none)) × TreesAt old (r ∷ rs) (more x xs))
+pub next : (old now : Store) (rs : List Term) (r list : Term) → Grows old now → IsSome (tree_at old r) → Lists old rs (tree_at now list) → (x : Tree) × ((xs : Trees) × (tree_at now r ≡ Some x) × (tree_at now list ≡ Some (Items xs none)) × HaveTrees old (r ∷ rs) (to_list (more x xs)))
 next old now rs r list grows held (xs, each, e) =
     let x = some-tree (tree_at old r) held in
     (x.0, (xs, grows.trees r x.0 x.1, e, (x.1, each)))

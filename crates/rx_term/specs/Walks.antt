@@ -1,7 +1,7 @@
 -- What those who build and walk trees through a bank promise.
 use Rattle.std.specs.Prelude.{◌≡◌, List, [], ◌∷◌, ◌++◌, Option, Some, None, IsSome, Contains, map, unwrap_or}
 use Rattle.rx_term.specs.Parts.{parts, annotation_parts}
-use Rattle.rx_term.specs.Tree.{Tree, Trees, Items, none, more, list_of, annotations}
+use Rattle.rx_term.specs.Tree.{Tree, Trees, Items, none, list_of, annotations, to_list}
 use Rattle.rx_term.specs.Store.{Store, tree_at}
 use Rattle.rx_term.specs.declared.Term.{Term}
 
@@ -19,15 +19,9 @@ HaveTrees w [] [] = Unit {0}
 HaveTrees w (r ∷ rs) (t ∷ ts) = (tree_at w r ≡ Some t) × HaveTrees w rs ts
 HaveTrees w rs ts = ⊥
 
--- the trees of these references, in order
-abbrev pub TreesAt : Store → List Term → Trees → Type 0
-TreesAt w [] ts = ts ≡ none
-TreesAt w (r ∷ rs) none = ⊥
-TreesAt w (r ∷ rs) (more t ts) = (tree_at w r ≡ Some t) × TreesAt w rs ts
-
 -- the tree is the list of the trees of these references
 abbrev pub Lists : Store → List Term → Option Tree → Type 0
-Lists w rs tree = (ts : Trees) × TreesAt w rs ts × (tree ≡ Some (Items ts none))
+Lists w rs tree = (ts : Trees) × HaveTrees w rs (to_list ts) × (tree ≡ Some (Items ts none))
 
 -- the parts of the tree of a reference
 abbrev pub parts_of : Option Tree → List Tree

@@ -1,8 +1,8 @@
 use Rattle.std.proofs.Common.{◌-◌, drop, get_or, is_some, sym, ap, ◌∙◌, subst, arith}
-use Rattle.rx_term.specs.Tree.{more}
+use Rattle.rx_term.specs.Tree.{more, to_list}
 use Rattle.rx_term.specs.declared.Term.{Term}
 use Rattle.rx_term.proofs.StoreLemmas.{Grows-Makes, Grows-trans}
-use Rattle.rx_term.specs.Walks.{TreesAt}
+use Rattle.rx_term.specs.Walks.{HaveTrees}
 use Rattle.rx_term.proofs.WalkLemmas.{next, is_longer, dropped, item-in}
 use Rattle.rx_term.proofs.build.list.Goals as goal
 
@@ -28,7 +28,7 @@ loop-left-preserved g c =
       grows = Grows-trans c.loop-left.invariant.grows (Grows-Makes c.in_ok-list-2.ensures);
       lists = (
         more n.0 n.1.0,
-        subst (λ rs. TreesAt old rs (more n.0 n.1.0)) (sym (dropped c.args.items.now c.loop-left.left d (omega arith) (omega arith))) n.1.3,
+        subst (λ rs. HaveTrees old rs (to_list (more n.0 n.1.0))) (sym (dropped c.args.items.now c.loop-left.left d (omega arith) (omega arith))) n.1.3,
         made ∙ is_longer _ _ n.0 n.1.0 n.1.1 n.1.2,
       );
     }
