@@ -95,8 +95,8 @@ abbrev pub OccursIn : Spec → Term → Term → Type 0
 OccursIn y l t = Every (λ (m : Named). is_variable y m.name ≡ true → mentions (heads (subterms l)) m.name ≡ true) (named t)
 
 -- a term has no variables
-abbrev pub IsClosed : Spec → Term → Type 0
-IsClosed y t = Every (λ (m : Named). is_variable y m.name ≡ false) (named t)
+abbrev pub HasNoVariables : Spec → Term → Type 0
+HasNoVariables y t = Every (λ (m : Named). is_variable y m.name ≡ false) (named t)
 
 -- the variables of a term have no arguments, and occur in a left side
 pub record IsRead (y : Spec) (l t : Term) : Type 0 where
@@ -114,7 +114,7 @@ pub record Facts (y : Spec) : Type 0 where
   pub variables_differ : (k j : ℕ) → k < length (variable_words y.variables) → j < length (variable_words y.variables) → bytes_at (variable_words y.variables) k ≡ bytes_at (variable_words y.variables) j → k ≡ j
   pub symbol_is_none : (k : ℕ) → k < length (symbols y) → is_variable y (bytes_at (names (symbols y)) k) ≡ false
   pub rules : Every (RuleFacts y) y.rules
-  pub terms : Every (λ t. AreBare y (named t) × IsClosed y t) y.terms
+  pub terms : Every (λ t. AreBare y (named t) × HasNoVariables y t) y.terms
 
 pub variable_is_one : (y : Spec) (k : ℕ) → k < length (variable_words y.variables) → is_variable y (bytes_at (variable_words y.variables) k) ≡ true
 variable_is_one y k h = mentions_at (variable_words y.variables) k h
@@ -173,7 +173,7 @@ each_rule y taken [] h k = tt
 each_rule y taken (r ∷ rs) h k = (rule_facts y taken r h.0 k.0, each_rule y taken rs h.1 k.1)
 
 each_term : (y : Spec) → taken_variables y ≡ [] → (ts : List Term) → Every (λ t. Every (λ u. not (is_filled y u) ≡ false) (subterms t)) ts
-    → Every (λ t. Every (λ u. is_variable y (head u).bytes ≡ false) (subterms t)) ts → Every (λ t. AreBare y (named t) × IsClosed y t) ts
+    → Every (λ t. Every (λ u. is_variable y (head u).bytes ≡ false) (subterms t)) ts → Every (λ t. AreBare y (named t) × HasNoVariables y t) ts
 each_term y taken [] h k = tt
 each_term y taken (t ∷ ts) h k = (
   (

@@ -6,7 +6,7 @@ use Rattle.rx_term.specs.declared.Term.{Term}
 use Rattle.rx_term.specs.Walks.{HaveTrees}
 use Rattle.rx_text.specs.Verdict.{Verdict, TooLong, Outside, Spelt, IsVerdict}
 use Rattle.rx_pattern.specs.Filling as filling
-use Rattle.rx_pattern.specs.Filling.{Fault, Kinds, filling, slots}
+use Rattle.rx_pattern.specs.Filling.{Fault, Kinds, filling, blanks}
 use Rattle.rx_pattern.proofs.FittingLemmas.{HaveTrees-length}
 use Rattle.rec_syntax.specs.Syntax.{Sourced, Spec}
 use Rattle.rec_sorts.specs.SpecRules as verdict
@@ -67,17 +67,17 @@ module _ {X : Type 0} (after : Verdict → Option X) where
 -- ---- arguments
 
 abbrev misfit_by : Tree → List Tree → Result Tree Fault → Option Misfit
-misfit_by p ts r = elim r [ Ok t ↦ None | Err filling.Count ↦ Some (Count (length (slots p)) (length ts)) | Err (Kinds at) ↦ Some (Kind at) ]
+misfit_by p ts r = elim r [ Ok t ↦ None | Err filling.Count ↦ Some (Count (length (blanks p)) (length ts)) | Err (Kinds at) ↦ Some (Kind at) ]
 
 -- trees that go into the pattern
 pub misfit_none : (p : Tree) (ts : List Tree) (t : Tree) → filling p ts ≡ Ok t → None ≡ misfit_of p ts
 misfit_none p ts t e = sym (ap (misfit_by p ts) e)
 
 -- trees of another number
-pub misfit_count : (w : Store) (p : Tree) (rs : List Term) (ts : List Tree) (wanted given : ℕ) → wanted ≡ length (slots p) → given ≡ length rs → HaveTrees w rs ts → filling p ts ≡ Err filling.Count → Some (Count wanted given) ≡ misfit_of p ts
+pub misfit_count : (w : Store) (p : Tree) (rs : List Term) (ts : List Tree) (wanted given : ℕ) → wanted ≡ length (blanks p) → given ≡ length rs → HaveTrees w rs ts → filling p ts ≡ Err filling.Count → Some (Count wanted given) ≡ misfit_of p ts
 misfit_count w p rs ts wanted given is n held e =
     ap (λ k. Some (Count k given)) is
-    ∙ ap (λ k. Some (Count (length (slots p)) k)) (n ∙ HaveTrees-length w rs ts held)
+    ∙ ap (λ k. Some (Count (length (blanks p)) k)) (n ∙ HaveTrees-length w rs ts held)
     ∙ sym (ap (misfit_by p ts) e)
 
 -- the first that is not taken

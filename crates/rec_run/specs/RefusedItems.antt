@@ -6,7 +6,7 @@ use Rattle.std.specs.Option.{option_and_then}
 use Rattle.rx_term.specs.Tree.{Tree}
 use Rattle.rx_text.specs.Verdict.{Verdict, Spelt}
 use Rattle.rx_pattern.specs.Filling as filling
-use Rattle.rx_pattern.specs.Filling.{Kinds, filling, slots}
+use Rattle.rx_pattern.specs.Filling.{Kinds, filling, blanks}
 use Rattle.rec_syntax.specs.Syntax.{Spec}
 use Rattle.rec_sorts.specs.TermRules.{broken_element, elements}
 use Rattle.rec_run.specs.declared.refused_items.Misfit.{Misfit}
@@ -22,7 +22,7 @@ term_in y v = None
 abbrev pub misfit_of : Tree → List Tree → Option Misfit
 misfit_of p ts = elim (filling p ts) [
   | Ok t ↦ None
-  | Err filling.Count ↦ Some (Count (length (slots p)) (length ts))
+  | Err filling.Count ↦ Some (Count (length (blanks p)) (length ts))
   | Err (Kinds at) ↦ Some (Kind at)
 ]
 

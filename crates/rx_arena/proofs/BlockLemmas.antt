@@ -12,7 +12,7 @@ use types.Kit.{‵, ◌⊛◌, ◌$◌, ◌∵◌, !, qed, by, move, keep, drop,
 use denote.Memory.{lone}
 use denote.Steps.{nothing}
 use denote.RawPtr.{Ptr, null_ptr, block_ptr, lies_at, room_at, room_for, in_a_block, ◌+ₚ◌}
-use Rattle.rx_arena.specs.Node.{Node, IsLink, HasLinks, IsClosed}
+use Rattle.rx_arena.specs.Node.{Node, IsLink, HasLinks, HaveLinks}
 use Rattle.rx_arena.specs.declared.cells.Cell.{Cell}
 use Rattle.rx_arena.specs.Ownership.{place, link_to, cell_of, slot_owns, slots_own}
 use Rattle.rx_arena.specs.contracts.cells.Cell as C
@@ -52,7 +52,7 @@ module _ {M : Type 1} {𝓤 : Ura M} (𝓛 : Logic 𝓤) where
       qed 𝓛 (‵ (slot_owns bs s (Some n)) ∷ []) ∵ rewrite ! 0 (λ (p : Ptr). ‵ (lies_at C.the_row full_share p (cell_of bs s n))) (sym (place-old bs qs s lt)) refl $
       rewrite ! 0 (λ (x : Cell). ‵ (lies_at C.the_row full_share (place (bs ++ qs) s) x)) (sym same) refl $ done !
 
-  slots-grow : (bs qs : List Ptr) (s : ℕ) (cs : List (Option Node)) → s + length cs ≤ 1024 * length bs → IsClosed (1024 * length bs) s cs → ent 𝓤 (sem 𝓛 (slots_own bs s cs)) (sem 𝓛 (slots_own (bs ++ qs) s cs))
+  slots-grow : (bs qs : List Ptr) (s : ℕ) (cs : List (Option Node)) → s + length cs ≤ 1024 * length bs → HaveLinks (1024 * length bs) s cs → ent 𝓤 (sem 𝓛 (slots_own bs s cs)) (sem 𝓛 (slots_own (bs ++ qs) s cs))
   slots-grow bs qs s [] le h = qed 𝓛 (‵ ftrue ∷ []) ∵ done !
   slots-grow bs qs s (c ∷ cs) le h = qed 𝓛 (‵ (slots_own bs s (c ∷ cs)) ∷ []) ∵ fsplit ! $ use1 𝓛 (‵ (slot_owns (bs ++ qs) s c)) (slot-grow bs qs s c (omega (arith, le)) h.0) $ move ! (1 ∷ []) $
       use1 𝓛 (‵ (slots_own (bs ++ qs) (suc s) cs)) (slots-grow bs qs (suc s) cs (omega (arith, le)) h.1) $ move ! (1 ∷ 0 ∷ []) $ fjoin ! $ done !
@@ -76,7 +76,7 @@ module _ {M : Type 1} {𝓤 : Ura M} (𝓛 : Logic 𝓤) where
       rewrite ! 0 (λ (p : Ptr). ‵ (room_for cell_type p)) (sym (place-end bs (block_ptr b o) i (omega (arith, le)))) refl $ fjoin ! $ done !
 
   -- a new block adds empty slots
-  pub block-added : (bs : List Ptr) (cs : List (Option Node)) (b o : ℕ) → length cs ≡ 1024 * length bs → IsClosed (1024 * length bs) 0 cs
+  pub block-added : (bs : List Ptr) (cs : List (Option Node)) (b o : ℕ) → length cs ≡ 1024 * length bs → HaveLinks (1024 * length bs) 0 cs
       → ent 𝓤 (sep 𝓤 (H.room (ty_array cell_type 1024) b o) (sem 𝓛 (slots_own bs 0 cs))) (sem 𝓛 (slots_own (bs ++ block_ptr b o ∷ []) 0 (cs ++ replicate 1024 None)))
   block-added bs cs b o e h = qed 𝓛 (‵ (froom (ty_array cell_type 1024) b o) ∷ ‵ (slots_own bs 0 cs) ∷ []) ∵
       rewrite ! 0 (λ (x : ℕ). ‵ (froom (ty_array cell_type 1024) b x)) {x = o + 0 * 64} (omega arith) refl $

@@ -5,7 +5,7 @@ ghost use Rattle.std.specs.Prelude.{slice_set};
 ghost use Rattle.std.specs.Prelude.{Option, Some, None, IfSome};
 ghost use denote.RawPtr.{Ptr, InBlock};
 ghost use Rattle.rx_arena.specs.Real.{InBlock-prop, IsLast};
-ghost use Rattle.rx_arena.specs.Node.{Node, node_at, lone, led_to, changed, IsClosed};
+ghost use Rattle.rx_arena.specs.Node.{Node, node_at, lone, led_to, changed, HaveLinks};
 ghost use Rattle.rx_arena.specs.Node.{with_roots, next_in, with_next};
 
 use crate::room::Room;
@@ -167,7 +167,7 @@ impl Cells {
     /// Adds a block of empty slots.
     pub(crate) fn add(&mut self, room: Room) -> Base
         requires { (length self.old.slots ≡ 1024 * length self.old.blocks)
-            × IsClosed (length self.old.slots) 0 self.old.slots }
+            × HaveLinks (length self.old.slots) 0 self.old.slots }
         ensures blocks { self.new.blocks ≡ self.old.blocks ++ result.at ∷ [] }
         ensures slots { self.new.slots ≡ self.old.slots ++ replicate 1024 None }
         ensures place { result.at ≡ room.at }

@@ -1,4 +1,4 @@
--- Whether terms go into the slots of nodes.
+-- Whether terms go into the blanks of nodes.
 use Rattle.std.proofs.Common.{ℕ, suc, zero, ◌+◌, ◌<◌, ◌≤◌, ◌≡◌, Bool, true, false, not, List, [], ◌∷◌, ◌++◌, Option, Some, None, IsSome, length, drop, get_or, refl, sym, ap, ◌∙◌, subst, arith, add-one}
 use Rattle.std.specs.Prelude.{option_map, is_some}
 use Rattle.rx_term.specs.Tree.{Tree, Trees, none, more, Int, Appl, Items, Hole, annotations}
@@ -9,15 +9,15 @@ use Rattle.rx_term.specs.declared.Term.{Term}
 use Rattle.rx_pattern.specs.Pattern.{fits, AnyList}
 use Rattle.rx_pattern.proofs.StackLemmas.{listed_notes}
 use Rattle.rx_pattern.specs.Filling as filling
-use Rattle.rx_pattern.specs.Filling.{Slot, misfit, takes}
+use Rattle.rx_pattern.specs.Filling.{Blank, misfit, takes}
 use Rattle.rx_pattern.specs.Code.{Step, Number, Named, Listing, Holding, End, Item, Rest}
-use Rattle.rx_pattern.specs.Making.{is_slot, takes_as, slots_of_step}
+use Rattle.rx_pattern.specs.Making.{is_blank, takes_as, blanks_of_step}
 
--- the first misfit of all slots, by those that are left
+-- the first misfit of all blanks, by those that are left
 abbrev moved : ℕ → Option ℕ → Option ℕ
 moved n o = option_map (λ k. n + k) o
 
-pub record Looking (all left : List Slot) (at : ℕ) (bs : List Tree) : Type 0 where
+pub record Looking (all left : List Blank) (at : ℕ) (bs : List Tree) : Type 0 where
   pub same : misfit all bs ≡ moved at (misfit left (drop at bs))
 
 moved_zero : (o : Option ℕ) → o ≡ moved 0 o
@@ -28,29 +28,29 @@ moved_more : (at : ℕ) (o : Option ℕ) → moved at (moved 1 o) ≡ moved (at 
 moved_more at None = refl
 moved_more at (Some k) = ap (λ (n : ℕ). let o : Option ℕ = Some n in o) (omega arith)
 
-pub begun : (slots : List Slot) (bs : List Tree) → Looking slots slots 0 bs
-begun slots bs = record { same = moved_zero (misfit slots bs) }
+pub begun : (blanks : List Blank) (bs : List Tree) → Looking blanks blanks 0 bs
+begun blanks bs = record { same = moved_zero (misfit blanks bs) }
 
--- a slot, by the test
-pub one_slot : (s : Step) → is_slot s ≡ true → (x : Slot) × (slots_of_step s ≡ x ∷ []) × ((t : Tree) → takes_as s t ≡ takes x t)
-one_slot (Holding (Some kind)) e = (_, refl, λ t. refl)
-one_slot Rest e = (_, refl, λ t. refl)
-one_slot (Holding None) e = absurd (let z : ⊥ = cc in z)
-one_slot (Number z) e = absurd (let y : ⊥ = cc in y)
-one_slot (Named name quoted) e = absurd (let z : ⊥ = cc in z)
-one_slot Listing e = absurd (let z : ⊥ = cc in z)
-one_slot End e = absurd (let z : ⊥ = cc in z)
-one_slot Item e = absurd (let z : ⊥ = cc in z)
+-- a blank, by the test
+pub one_blank : (s : Step) → is_blank s ≡ true → (x : Blank) × (blanks_of_step s ≡ x ∷ []) × ((t : Tree) → takes_as s t ≡ takes x t)
+one_blank (Holding (Some kind)) e = (_, refl, λ t. refl)
+one_blank Rest e = (_, refl, λ t. refl)
+one_blank (Holding None) e = absurd (let z : ⊥ = cc in z)
+one_blank (Number z) e = absurd (let y : ⊥ = cc in y)
+one_blank (Named name quoted) e = absurd (let z : ⊥ = cc in z)
+one_blank Listing e = absurd (let z : ⊥ = cc in z)
+one_blank End e = absurd (let z : ⊥ = cc in z)
+one_blank Item e = absurd (let z : ⊥ = cc in z)
 
-pub no_slot : (s : Step) → is_slot s ≡ false → slots_of_step s ≡ []
-no_slot (Holding (Some kind)) e = absurd (let z : ⊥ = cc in z)
-no_slot Rest e = absurd (let z : ⊥ = cc in z)
-no_slot (Holding None) e = refl
-no_slot (Number z) e = refl
-no_slot (Named name quoted) e = refl
-no_slot Listing e = refl
-no_slot End e = refl
-no_slot Item e = refl
+pub no_blank : (s : Step) → is_blank s ≡ false → blanks_of_step s ≡ []
+no_blank (Holding (Some kind)) e = absurd (let z : ⊥ = cc in z)
+no_blank Rest e = absurd (let z : ⊥ = cc in z)
+no_blank (Holding None) e = refl
+no_blank (Number z) e = refl
+no_blank (Named name quoted) e = refl
+no_blank Listing e = refl
+no_blank End e = refl
+no_blank Item e = refl
 
 -- references and their trees
 pub HaveTrees-length : (w : Store) (rs : List Term) (bs : List Tree) → HaveTrees w rs bs → length rs ≡ length bs
@@ -66,17 +66,17 @@ tree_there w [] [] k r h lt e = absurd (omega arith)
 tree_there w [] (b ∷ bs) k r h lt e = absurd h
 tree_there w (x ∷ rs) [] k r h lt e = absurd h
 
--- one slot more was looked at
-first_takes : (x : Slot) (slots : List Slot) (b : Tree) (bs : List Tree) → takes x b ≡ true → misfit (x ∷ slots) (b ∷ bs) ≡ moved 1 (misfit slots bs)
-first_takes x slots b bs e = rw e refl
+-- one blank more was looked at
+first_takes : (x : Blank) (blanks : List Blank) (b : Tree) (bs : List Tree) → takes x b ≡ true → misfit (x ∷ blanks) (b ∷ bs) ≡ moved 1 (misfit blanks bs)
+first_takes x blanks b bs e = rw e refl
 
-first_misfit : (x : Slot) (slots : List Slot) (b : Tree) (bs : List Tree) → takes x b ≡ false → misfit (x ∷ slots) (b ∷ bs) ≡ Some 0
-first_misfit x slots b bs e = rw e refl
+first_misfit : (x : Blank) (blanks : List Blank) (b : Tree) (bs : List Tree) → takes x b ≡ false → misfit (x ∷ blanks) (b ∷ bs) ≡ Some 0
+first_misfit x blanks b bs e = rw e refl
 
-module _ (w : Store) (all left : List Slot) (s : Step) (at : ℕ) (args : List Term) (r : Term) (bs : List Tree) (slot : is_slot s ≡ true) (held : HaveTrees w args bs) (lt : at < length args) (is : r ≡ get_or args at r)
-    (h : Looking all (slots_of_step s ++ left) at bs) (b : Bool) (test : (u : Tree) → tree_at w r ≡ Some u → b ≡ takes_as s u) where
-  x : (x : Slot) × (slots_of_step s ≡ x ∷ []) × ((t : Tree) → takes_as s t ≡ takes x t)
-  x = one_slot s slot
+module _ (w : Store) (all left : List Blank) (s : Step) (at : ℕ) (args : List Term) (r : Term) (bs : List Tree) (blank : is_blank s ≡ true) (held : HaveTrees w args bs) (lt : at < length args) (is : r ≡ get_or args at r)
+    (h : Looking all (blanks_of_step s ++ left) at bs) (b : Bool) (test : (u : Tree) → tree_at w r ≡ Some u → b ≡ takes_as s u) where
+  x : (x : Blank) × (blanks_of_step s ≡ x ∷ []) × ((t : Tree) → takes_as s t ≡ takes x t)
+  x = one_blank s blank
 
   there : (u : Tree) × (tree_at w r ≡ Some u) × (drop at bs ≡ u ∷ drop (at + 1) bs)
   there = let t = tree_there w args bs at r held lt is in (t.0, t.1, t.2 ∙ ap (λ (n : ℕ). t.0 ∷ drop n bs) (sym (add-one at)))
@@ -85,18 +85,18 @@ module _ (w : Store) (all left : List Slot) (s : Step) (at : ℕ) (args : List T
   taken = sym (x.2 there.0) ∙ sym (test there.0 there.1)
 
   so_far : misfit all bs ≡ moved at (misfit (x.0 ∷ left) (there.0 ∷ drop (at + 1) bs))
-  so_far = h.same ∙ ap (λ (ss : List Slot). moved at (misfit (ss ++ left) (drop at bs))) x.1 ∙ ap (λ (cs : List Tree). moved at (misfit (x.0 ∷ left) cs)) there.2
+  so_far = h.same ∙ ap (λ (ss : List Blank). moved at (misfit (ss ++ left) (drop at bs))) x.1 ∙ ap (λ (cs : List Tree). moved at (misfit (x.0 ∷ left) cs)) there.2
 
-  pub slot_on : b ≡ true → Looking all left (at + 1) bs
-  slot_on e = record { same = so_far ∙ ap (moved at) (first_takes x.0 left there.0 (drop (at + 1) bs) (taken ∙ e)) ∙ moved_more at (misfit left (drop (at + 1) bs)) }
+  pub blank_on : b ≡ true → Looking all left (at + 1) bs
+  blank_on e = record { same = so_far ∙ ap (moved at) (first_takes x.0 left there.0 (drop (at + 1) bs) (taken ∙ e)) ∙ moved_more at (misfit left (drop (at + 1) bs)) }
 
-  pub slot_off : b ≡ false → misfit all bs ≡ Some at
-  slot_off e = so_far ∙ ap (moved at) (first_misfit x.0 left there.0 (drop (at + 1) bs) (taken ∙ e)) ∙ ap (λ (n : ℕ). let o : Option ℕ = Some n in o) (omega arith)
+  pub blank_off : b ≡ false → misfit all bs ≡ Some at
+  blank_off e = so_far ∙ ap (moved at) (first_misfit x.0 left there.0 (drop (at + 1) bs) (taken ∙ e)) ∙ ap (λ (n : ℕ). let o : Option ℕ = Some n in o) (omega arith)
 
-pub other_on : (all left : List Slot) (s : Step) (at : ℕ) (bs : List Tree) → is_slot s ≡ false → Looking all (slots_of_step s ++ left) at bs → Looking all left at bs
-other_on all left s at bs e h = record { same = h.same ∙ ap (λ (ss : List Slot). moved at (misfit (ss ++ left) (drop at bs))) (no_slot s e) }
+pub other_on : (all left : List Blank) (s : Step) (at : ℕ) (bs : List Tree) → is_blank s ≡ false → Looking all (blanks_of_step s ++ left) at bs → Looking all left at bs
+other_on all left s at bs e h = record { same = h.same ∙ ap (λ (ss : List Blank). moved at (misfit (ss ++ left) (drop at bs))) (no_blank s e) }
 
-pub ended : (all : List Slot) (at : ℕ) (bs : List Tree) → Looking all [] at bs → misfit all bs ≡ None
+pub ended : (all : List Blank) (at : ℕ) (bs : List Tree) → Looking all [] at bs → misfit all bs ≡ None
 ended all at bs h = h.same
 
 -- a list without annotations
@@ -135,29 +135,29 @@ same_at [] k d e h = absurd (omega arith)
 same_at (x ∷ xs) zero d e h = refl
 same_at (x ∷ xs) (suc k) d e h = same_at xs k d e (omega arith)
 
-pub place_slot : (at n : ℕ) (s : Step) (left here : List Slot) → here ≡ slots_of_step s ++ left → is_slot s ≡ true → at + length here ≡ n → (at < n) × (at + 1 + length left ≡ n)
-place_slot at n s left here e y counted =
-    let x = one_slot s y in
-    let f : here ≡ x.0 ∷ left = e ∙ ap (λ (ss : List Slot). ss ++ left) x.1 in
+pub place_blank : (at n : ℕ) (s : Step) (left here : List Blank) → here ≡ blanks_of_step s ++ left → is_blank s ≡ true → at + length here ≡ n → (at < n) × (at + 1 + length left ≡ n)
+place_blank at n s left here e y counted =
+    let x = one_blank s y in
+    let f : here ≡ x.0 ∷ left = e ∙ ap (λ (ss : List Blank). ss ++ left) x.1 in
     let k = ap length f in
     (omega arith, omega arith)
 
-pub place_other : (at n : ℕ) (s : Step) (left here : List Slot) → here ≡ slots_of_step s ++ left → is_slot s ≡ false → at + length here ≡ n → at + length left ≡ n
-place_other at n s left here e other counted = let k = ap length (e ∙ ap (λ (ss : List Slot). ss ++ left) (no_slot s other)) in omega arith
+pub place_other : (at n : ℕ) (s : Step) (left here : List Blank) → here ≡ blanks_of_step s ++ left → is_blank s ≡ false → at + length here ≡ n → at + length left ≡ n
+place_other at n s left here e other counted = let k = ap length (e ∙ ap (λ (ss : List Blank). ss ++ left) (no_blank s other)) in omega arith
 
 -- the invariant of the loop
-pub record Checking (w : Store) (all left : List Slot) (args : List Term) (at i : ℕ) : Type 0 where
+pub record Checking (w : Store) (all left : List Blank) (args : List Term) (at i : ℕ) : Type 0 where
   pub within : at ≤ i
   pub counted : at + length left ≡ length args
   pub fits : (bs : List Tree) → HaveTrees w args bs → Looking all left at bs
 
-module _ (w : Store) (all here left : List Slot) (s : Step) (args : List Term) (at i : ℕ) (steps : here ≡ slots_of_step s ++ left) (h : Checking w all here args at i) where
-  looking : (bs : List Tree) → HaveTrees w args bs → Looking all (slots_of_step s ++ left) at bs
-  looking bs held = subst (λ (ss : List Slot). Looking all ss at bs) steps (h.fits bs held)
+module _ (w : Store) (all here left : List Blank) (s : Step) (args : List Term) (at i : ℕ) (steps : here ≡ blanks_of_step s ++ left) (h : Checking w all here args at i) where
+  looking : (bs : List Tree) → HaveTrees w args bs → Looking all (blanks_of_step s ++ left) at bs
+  looking bs held = subst (λ (ss : List Blank). Looking all ss at bs) steps (h.fits bs held)
 
-  module _ (slot : is_slot s ≡ true) where
+  module _ (blank : is_blank s ≡ true) where
     pub at_place : at < length args
-    at_place = (place_slot at (length args) s left here steps slot h.counted).0
+    at_place = (place_blank at (length args) s left here steps blank h.counted).0
 
     module _ (d : Term) (b : Bool) (test : (u : Tree) → tree_at w (get_or args at d) ≡ Some u → b ≡ takes_as s u) where
       is : get_or args at d ≡ get_or args at (get_or args at d)
@@ -166,28 +166,28 @@ module _ (w : Store) (all here left : List Slot) (s : Step) (args : List Term) (
       pub turn_taken : b ≡ true → Checking w all left args (at + 1) (i + 1)
       turn_taken y = record {
         within = let e = h.within in omega arith;
-        counted = (place_slot at (length args) s left here steps slot h.counted).1;
-        fits = λ bs held. slot_on w all left s at args (get_or args at d) bs slot held at_place is (looking bs held) b test y;
+        counted = (place_blank at (length args) s left here steps blank h.counted).1;
+        fits = λ bs held. blank_on w all left s at args (get_or args at d) bs blank held at_place is (looking bs held) b test y;
       }
 
       pub turn_refused : b ≡ false → (bs : List Tree) → HaveTrees w args bs → misfit all bs ≡ Some at
-      turn_refused n bs held = slot_off w all left s at args (get_or args at d) bs slot held at_place is (looking bs held) b test n
+      turn_refused n bs held = blank_off w all left s at args (get_or args at d) bs blank held at_place is (looking bs held) b test n
 
-  pub turn_other : is_slot s ≡ false → Checking w all left args at (i + 1)
+  pub turn_other : is_blank s ≡ false → Checking w all left args at (i + 1)
   turn_other e = record {
     within = let f = h.within in omega arith;
     counted = place_other at (length args) s left here steps e h.counted;
     fits = λ bs held. other_on all left s at bs e (looking bs held);
   }
 
-pub started : (w : Store) (all : List Slot) (args : List Term) → length all ≡ length args → Checking w all all args 0 0
+pub started : (w : Store) (all : List Blank) (args : List Term) → length all ≡ length args → Checking w all all args 0 0
 started w all args e = record { within = omega arith; counted = omega arith; fits = λ bs held. begun all bs }
 
-pub all_fit : (w : Store) (all left : List Slot) (args : List Term) (at i : ℕ) → left ≡ [] → Checking w all left args at i → (bs : List Tree) → HaveTrees w args bs → misfit all bs ≡ None
-all_fit w all left args at i e h bs held = ended all at bs (subst (λ (ss : List Slot). Looking all ss at bs) e (h.fits bs held))
+pub all_fit : (w : Store) (all left : List Blank) (args : List Term) (at i : ℕ) → left ≡ [] → Checking w all left args at i → (bs : List Tree) → HaveTrees w args bs → misfit all bs ≡ None
+all_fit w all left args at i e h bs held = ended all at bs (subst (λ (ss : List Blank). Looking all ss at bs) e (h.fits bs held))
 
-pub as_many : (w : Store) (args : List Term) (bs : List Tree) (slots : List Slot) (n : ℕ) → HaveTrees w args bs → n ≡ length slots → n ≡ length args → length bs ≡ length slots
-as_many w args bs slots n h e f = let k = HaveTrees-length w args bs h in omega arith
+pub as_many : (w : Store) (args : List Term) (bs : List Tree) (blanks : List Blank) (n : ℕ) → HaveTrees w args bs → n ≡ length blanks → n ≡ length args → length bs ≡ length blanks
+as_many w args bs blanks n h e f = let k = HaveTrees-length w args bs h in omega arith
 
 pub drop-past : {A : Type 0} (xs : List A) (i : ℕ) → length xs ≤ i → drop i xs ≡ []
 drop-past [] zero h = refl

@@ -9,7 +9,7 @@ use Rattle.rx_term.specs.Tree.{Tree, none, more, Int, Appl, Items, Hole}
 use Rattle.rx_term.specs.Store.{Store, tree_at}
 use Rattle.rx_term.specs.declared.Term.{Term}
 use Rattle.rx_term.specs.Walks.{HaveTrees}
-use Rattle.rx_pattern.specs.Pattern.{Kind, fits}
+use Rattle.rx_pattern.specs.Pattern.{PlaceholderKind, fits}
 use Rattle.rx_pattern.specs.Matching.{matching, matching_all, both, where_true, bound}
 use Rattle.rx_pattern.specs.Code.{Step, Number, Named, Listing, Holding, End, Item, Rest, Piece, One, Several, assembled, pieces}
 use Rattle.rx_pattern.specs.Nodes.{step_of}
@@ -89,7 +89,7 @@ meets_as Listing (Several items ∷ Several anns ∷ ps) (One (Int y bnns)) vs c
 meets_as Listing (Several items ∷ Several anns ∷ ps) (One (Appl name quoted args bnns)) vs c h = (refl, tt, tt)
 meets_as Listing (Several items ∷ Several anns ∷ ps) (One (Hole inner bnns)) vs c h = (refl, tt, tt)
 meets_as (Holding (Some kind)) qs (One u) vs c h =
-    (ap (λ (k : Option Kind). both (bound k u) (match_pieces qs vs)) (kind_word kind) ∙ tested_bound (fits kind u) u qs vs, tested_shapes (fits kind u) (u ∷ []) [] qs vs h, tt)
+    (ap (λ (k : Option PlaceholderKind). both (bound k u) (match_pieces qs vs)) (kind_word kind) ∙ tested_bound (fits kind u) u qs vs, tested_shapes (fits kind u) (u ∷ []) [] qs vs h, tt)
 meets_as End qs (Several none) vs c h = (refl, h, tt)
 meets_as End qs (Several (more t ts)) vs c h = (refl, tt, tt)
 meets_as Item (One p ∷ Several ps ∷ qs) (Several none) vs c h = (rw c refl, tt, tt)

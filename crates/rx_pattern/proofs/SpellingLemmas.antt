@@ -4,7 +4,7 @@ use Rattle.std.specs.Prelude.{bytes_eq, codes, is_some, map}
 use Rattle.std.proofs.lemmas.Slice.Eq.{bytes_eq-Decides}
 use Rattle.rx_term.specs.Tree.{Tree, Trees, none, more, Int, Appl, Items, Hole, is_none}
 use Rattle.rx_term.proofs.TreeLemmas.{both_parts}
-use Rattle.rx_pattern.specs.Pattern.{Kind, AnyTerm, AnyInt, AnyStr, AnyAppl, AnyPlaceholder, AnyList, kind_named, kind_of, is_rest, is_list_kind, knows_placeholders, all_known, has_plain_placeholders, all_plain}
+use Rattle.rx_pattern.specs.Pattern.{PlaceholderKind, AnyTerm, AnyInt, AnyStr, AnyAppl, AnyPlaceholder, AnyList, kind_named, kind_of, is_rest, is_list_kind, knows_placeholders, all_known, has_plain_placeholders, all_plain}
 use Rattle.rx_pattern.specs.Code.{Step, Number, Named, Listing, Holding, End, Item, Rest, code, code_of_all, Piece, One, Several, word_of, placeholder, assembled, pieces}
 use Rattle.rx_pattern.specs.Nodes.{step_of, tree_of_nodes, AreNodes}
 use Rattle.rx_pattern.specs.declared.nodes.Node.{Node}
@@ -12,16 +12,16 @@ use Rattle.rx_pattern.specs.declared.nodes.Node.{Node}
 -- ---- words
 
 -- a choice by a test of a word
-named_or : (word : List ℕ) (text : List ℕ) (kind : Kind) (others : Option Kind) (k : Kind) → cond (bytes_eq word text) (Some kind) others ≡ Some k → ((word ≡ text) × (kind ≡ k)) ⊎ (others ≡ Some k)
+named_or : (word : List ℕ) (text : List ℕ) (kind : PlaceholderKind) (others : Option PlaceholderKind) (k : PlaceholderKind) → cond (bytes_eq word text) (Some kind) others ≡ Some k → ((word ≡ text) × (kind ≡ k)) ⊎ (others ≡ Some k)
 named_or word text kind others k e = by_test (bytes_eq word text) refl e where
   by_test : (b : Bool) → bytes_eq word text ≡ b → cond b (Some kind) others ≡ Some k → ((word ≡ text) × (kind ≡ k)) ⊎ (others ≡ Some k)
   by_test true q f = inl ((bytes_eq-Decides word text).0 q, cc)
   by_test false q f = inr f
 
-chosen : (word : List ℕ) (text : List ℕ) (kind k : Kind) → text ≡ word_of kind → (word ≡ text) × (kind ≡ k) → word ≡ word_of k
+chosen : (word : List ℕ) (text : List ℕ) (kind k : PlaceholderKind) → text ≡ word_of kind → (word ≡ text) × (kind ≡ k) → word ≡ word_of k
 chosen word text kind k e h = h.0 ∙ e ∙ ap word_of h.1
 
-pub named_word : (word : List ℕ) (k : Kind) → kind_named word ≡ Some k → word ≡ word_of k
+pub named_word : (word : List ℕ) (k : PlaceholderKind) → kind_named word ≡ Some k → word ≡ word_of k
 named_word word k e =
     elim (named_or word (codes "term") AnyTerm _ k e) [
       | inl h ↦ chosen word _ AnyTerm k refl h
@@ -45,7 +45,7 @@ named_word word k e =
           ]
     ]
 
-inside_is : (inner : Tree) (k : Kind) → kind_of inner ≡ Some k → inner ≡ Appl (word_of k) false none none
+inside_is : (inner : Tree) (k : PlaceholderKind) → kind_of inner ≡ Some k → inner ≡ Appl (word_of k) false none none
 inside_is (Appl word false none none) k e = ap (λ (n : List ℕ). Appl n false none none) (named_word word k e)
 inside_is (Appl word true args anns) k e = absurd (let z : ⊥ = cc in z)
 inside_is (Appl word false (more t ts) anns) k e = absurd (let z : ⊥ = cc in z)
@@ -55,11 +55,11 @@ inside_is (Items items anns) k e = absurd (let z : ⊥ = cc in z)
 inside_is (Hole inner anns) k e = absurd (let z : ⊥ = cc in z)
 
 -- a known placeholder without annotations is that of its kind
-pub placeholder_is : (inner : Tree) (k : Kind) (anns : Trees) → kind_of inner ≡ Some k → is_none anns ≡ true → Hole inner anns ≡ placeholder k
+pub placeholder_is : (inner : Tree) (k : PlaceholderKind) (anns : Trees) → kind_of inner ≡ Some k → is_none anns ≡ true → Hole inner anns ≡ placeholder k
 placeholder_is inner k none e n = ap (λ (t : Tree). Hole t none) (inside_is inner k e)
 placeholder_is inner k (more t ts) e n = absurd (let z : ⊥ = cc in z)
 
-pub kind_word : (k : Kind) → kind_of (Appl (word_of k) false none none) ≡ Some k
+pub kind_word : (k : PlaceholderKind) → kind_of (Appl (word_of k) false none none) ≡ Some k
 kind_word AnyTerm = refl
 kind_word AnyInt = refl
 kind_word AnyStr = refl
@@ -67,11 +67,11 @@ kind_word AnyAppl = refl
 kind_word AnyPlaceholder = refl
 kind_word AnyList = refl
 
-some_kind : (o : Option Kind) → is_some o ≡ true → (k : Kind) × (o ≡ Some k)
+some_kind : (o : Option PlaceholderKind) → is_some o ≡ true → (k : PlaceholderKind) × (o ≡ Some k)
 some_kind None e = absurd (let z : ⊥ = cc in z)
 some_kind (Some k) e = (k, refl)
 
-list_kind : (o : Option Kind) → is_list_kind o ≡ true → o ≡ Some AnyList
+list_kind : (o : Option PlaceholderKind) → is_list_kind o ≡ true → o ≡ Some AnyList
 list_kind (Some AnyList) e = refl
 list_kind None e = absurd (let z : ⊥ = cc in z)
 list_kind (Some AnyTerm) e = absurd (let z : ⊥ = cc in z)

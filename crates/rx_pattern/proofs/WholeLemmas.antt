@@ -11,15 +11,15 @@ use Rattle.rx_term.proofs.TreeLemmas.{both_parts}
 use Rattle.rx_term.proofs.StoreLemmas.{some-value}
 use Rattle.rx_pattern.specs.Pattern.{Unfit, is_pattern, unfit, knows_placeholders, has_plain_placeholders}
 use Rattle.rx_pattern.specs.Filling as fault
-use Rattle.rx_pattern.specs.Filling.{Slot, slots, misfit, filled, filling}
+use Rattle.rx_pattern.specs.Filling.{Blank, blanks, misfit, filled, filling}
 use Rattle.rx_pattern.specs.Matching.{matching}
 use Rattle.rx_pattern.specs.Held.{Binds}
 use Rattle.rx_pattern.specs.Subjects.{Answers}
-use Rattle.rx_pattern.specs.Making.{slots_of_steps, IsMisfit}
+use Rattle.rx_pattern.specs.Making.{blanks_of_steps, IsMisfit}
 use Rattle.rx_pattern.specs.Faults.{IsMakeRefusal}
 use Rattle.rx_pattern.specs.declared.faults.MakeFault.{MakeFault}
 use Rattle.rx_pattern.specs.declared.faults.MakeFault.TheVariants as make
-use Rattle.rx_pattern.proofs.FillLemmas.{slots-nodes}
+use Rattle.rx_pattern.proofs.FillLemmas.{blanks-nodes}
 use Rattle.rx_pattern.specs.Code.{code, only_tree, tree_of_steps}
 use Rattle.rx_pattern.specs.Nodes.{step_of, tree_of_nodes, AreNodes}
 use Rattle.rx_pattern.specs.declared.nodes.Node.{Node}
@@ -73,9 +73,9 @@ bound_all w nodes p u out found e h y = rw y (binds_all w (matching p u) out (rw
 
 -- ---- making
 
--- the slots of a pattern's nodes are those of its tree
-pub misfit_of : (nodes : List Node) (p : Tree) (f : Option MakeFault) (bs : List Tree) → AreNodes nodes → tree_of_nodes nodes ≡ p → IsMisfit f (slots_of_steps (map step_of nodes)) bs → IsMisfit f (slots p) bs
-misfit_of nodes p f bs h e m = subst (λ (ss : List Slot). IsMisfit f ss bs) (slots-nodes nodes h ∙ ap slots e) m
+-- the blanks of a pattern's nodes are those of its tree
+pub misfit_of : (nodes : List Node) (p : Tree) (f : Option MakeFault) (bs : List Tree) → AreNodes nodes → tree_of_nodes nodes ≡ p → IsMisfit f (blanks_of_steps (map step_of nodes)) bs → IsMisfit f (blanks p) bs
+misfit_of nodes p f bs h e m = subst (λ (ss : List Blank). IsMisfit f ss bs) (blanks-nodes nodes h ∙ ap blanks e) m
 
 other_length : (a b : ℕ) → (a ≡ b → ⊥) → (a == b) ≡ false
 other_length a b n = by_test (a == b) refl where
@@ -83,22 +83,22 @@ other_length a b n = by_test (a == b) refl where
   by_test true e = absurd (n ((Decides-eqb a b).0 e))
   by_test false e = e
 
-pub counted_wrong : (p : Tree) (bs : List Tree) → (length bs ≡ length (slots p) → ⊥) → filling p bs ≡ Err fault.Count
-counted_wrong p bs n = let e = other_length (length bs) (length (slots p)) n in rw e refl
+pub counted_wrong : (p : Tree) (bs : List Tree) → (length bs ≡ length (blanks p) → ⊥) → filling p bs ≡ Err fault.Count
+counted_wrong p bs n = let e = other_length (length bs) (length (blanks p)) n in rw e refl
 
-pub told_place : (p : Tree) (bs : List Tree) (at : ℕ) → length bs ≡ length (slots p) → misfit (slots p) bs ≡ Some at → filling p bs ≡ Err (fault.Kinds at)
-told_place p bs at e m = let f = eq-eqb (length bs) (length (slots p)) e in rw (f, m) refl
+pub told_place : (p : Tree) (bs : List Tree) (at : ℕ) → length bs ≡ length (blanks p) → misfit (blanks p) bs ≡ Some at → filling p bs ≡ Err (fault.Kinds at)
+told_place p bs at e m = let f = eq-eqb (length bs) (length (blanks p)) e in rw (f, m) refl
 
-pub filled_ok : (p : Tree) (bs : List Tree) → IsMisfit None (slots p) bs → filling p bs ≡ Ok (filled p bs).0
-filled_ok p bs h = let f = eq-eqb (length bs) (length (slots p)) h.0 in let m = h.1 in rw (f, m) refl
+pub filled_ok : (p : Tree) (bs : List Tree) → IsMisfit None (blanks p) bs → filling p bs ≡ Ok (filled p bs).0
+filled_ok p bs h = let f = eq-eqb (length bs) (length (blanks p)) h.0 in let m = h.1 in rw (f, m) refl
 
-pub told_count : (f : MakeFault) (p : Tree) (bs : List Tree) → IsMisfit (Some f) (slots p) bs → let r : Result Term MakeFault = Err f in (IsErrOf r make.Count → filling p bs ≡ Err fault.Count) × (filling p bs ≡ Err fault.Count → IsErrOf r make.Count)
+pub told_count : (f : MakeFault) (p : Tree) (bs : List Tree) → IsMisfit (Some f) (blanks p) bs → let r : Result Term MakeFault = Err f in (IsErrOf r make.Count → filling p bs ≡ Err fault.Count) × (filling p bs ≡ Err fault.Count → IsErrOf r make.Count)
 told_count make.Count p bs m = (λ e. counted_wrong p bs m, λ e. refl)
 told_count (make.Kind at) p bs m = (λ e. absurd (let z : ⊥ = cc in z), λ e. absurd (let k = told_place p bs at m.0 m.1 in let z : ⊥ = cc in z))
 told_count make.Memory p bs m = absurd m
 told_count make.Full p bs m = absurd m
 
-pub told_kind : (f : MakeFault) (p : Tree) (bs : List Tree) (at : ℕ) → IsMisfit (Some f) (slots p) bs → let r : Result Term MakeFault = Err f in (IsErrOf r (make.Kind at) → filling p bs ≡ Err (fault.Kinds at)) × (filling p bs ≡ Err (fault.Kinds at) → IsErrOf r (make.Kind at))
+pub told_kind : (f : MakeFault) (p : Tree) (bs : List Tree) (at : ℕ) → IsMisfit (Some f) (blanks p) bs → let r : Result Term MakeFault = Err f in (IsErrOf r (make.Kind at) → filling p bs ≡ Err (fault.Kinds at)) × (filling p bs ≡ Err (fault.Kinds at) → IsErrOf r (make.Kind at))
 told_kind make.Count p bs at m = (λ e. absurd (let z : ⊥ = cc in z), λ e. absurd (let k = counted_wrong p bs m in let z : ⊥ = cc in z))
 told_kind (make.Kind i) p bs at m = let k = told_place p bs i m.0 m.1 in (
   λ e. let same : i ≡ at = cc in k ∙ ap (λ (n : ℕ). let r : Result Tree fault.Fault = Err (fault.Kinds n) in r) same,
@@ -107,14 +107,14 @@ told_kind (make.Kind i) p bs at m = let k = told_place p bs i m.0 m.1 in (
 told_kind make.Memory p bs at m = absurd m
 told_kind make.Full p bs at m = absurd m
 
-pub not_full : (f : MakeFault) (p : Tree) (bs : List Tree) → IsMisfit (Some f) (slots p) bs → let r : Result Term MakeFault = Err f in IsErrOf r make.Full → ⊥
+pub not_full : (f : MakeFault) (p : Tree) (bs : List Tree) → IsMisfit (Some f) (blanks p) bs → let r : Result Term MakeFault = Err f in IsErrOf r make.Full → ⊥
 not_full make.Count p bs m e = cc
 not_full (make.Kind at) p bs m e = cc
 not_full make.Memory p bs m e = absurd m
 not_full make.Full p bs m e = absurd m
 
 -- once the terms fit, they are no reason
-pub never_count : (w : Store) (r : Result Term MakeFault) (p : Tree) (bs : List Tree) → IfErr r (IsMakeRefusal w) → IsMisfit None (slots p) bs → (IsErrOf r make.Count → filling p bs ≡ Err fault.Count) × (filling p bs ≡ Err fault.Count → IsErrOf r make.Count)
+pub never_count : (w : Store) (r : Result Term MakeFault) (p : Tree) (bs : List Tree) → IfErr r (IsMakeRefusal w) → IsMisfit None (blanks p) bs → (IsErrOf r make.Count → filling p bs ≡ Err fault.Count) × (filling p bs ≡ Err fault.Count → IsErrOf r make.Count)
 never_count w r p bs h m = (λ e. absurd (no_count r h e), λ e. absurd (let k = filled_ok p bs m in let z : ⊥ = cc in z)) where
   no_count : (r : Result Term MakeFault) → IfErr r (IsMakeRefusal w) → IsErrOf r make.Count → ⊥
   no_count (Ok t) h e = cc
@@ -123,7 +123,7 @@ never_count w r p bs h m = (λ e. absurd (no_count r h e), λ e. absurd (let k =
   no_count (Err make.Memory) h e = cc
   no_count (Err make.Full) h e = cc
 
-pub never_kind : (w : Store) (r : Result Term MakeFault) (p : Tree) (bs : List Tree) (at : ℕ) → IfErr r (IsMakeRefusal w) → IsMisfit None (slots p) bs → (IsErrOf r (make.Kind at) → filling p bs ≡ Err (fault.Kinds at)) × (filling p bs ≡ Err (fault.Kinds at) → IsErrOf r (make.Kind at))
+pub never_kind : (w : Store) (r : Result Term MakeFault) (p : Tree) (bs : List Tree) (at : ℕ) → IfErr r (IsMakeRefusal w) → IsMisfit None (blanks p) bs → (IsErrOf r (make.Kind at) → filling p bs ≡ Err (fault.Kinds at)) × (filling p bs ≡ Err (fault.Kinds at) → IsErrOf r (make.Kind at))
 never_kind w r p bs at h m = (λ e. absurd (no_kind r h e), λ e. absurd (let k = filled_ok p bs m in let z : ⊥ = cc in z)) where
   no_kind : (r : Result Term MakeFault) → IfErr r (IsMakeRefusal w) → IsErrOf r (make.Kind at) → ⊥
   no_kind (Ok t) h e = cc
@@ -132,7 +132,7 @@ never_kind w r p bs at h m = (λ e. absurd (no_kind r h e), λ e. absurd (let k 
   no_kind (Err make.Memory) h e = cc
   no_kind (Err make.Full) h e = cc
 
-pub made_ok : (old new : Store) (r : Result Term MakeFault) (nodes : List Node) (p : Tree) (args : List Term) → tree_of_nodes nodes ≡ p → ((bs : List Tree) → HaveTrees old args bs → IsMisfit None (slots p) bs)
+pub made_ok : (old new : Store) (r : Result Term MakeFault) (nodes : List Node) (p : Tree) (args : List Term) → tree_of_nodes nodes ≡ p → ((bs : List Tree) → HaveTrees old args bs → IsMisfit None (blanks p) bs)
     → IfOk r (λ t. (bs : List Tree) → HaveTrees old args bs → tree_at new t ≡ Some (filled (tree_of_nodes nodes) bs).0) → IfOk r (λ t. (bs : List Tree) → HaveTrees old args bs → (u : Tree) × (filling p bs ≡ Ok u) × (tree_at new t ≡ Some u))
 made_ok old new (Err f) nodes p args e m h = tt
 made_ok old new (Ok t) nodes p args e m h = λ bs held. ((filled p bs).0, filled_ok p bs (m bs held), h bs held ∙ ap (λ (q : Tree). let o : Option Tree = Some (filled q bs).0 in o) e)

@@ -4,7 +4,7 @@
 --     tree_of_steps steps   the one tree that they spell
 use Rattle.std.specs.Prelude.{ℕ, Bool, false, ℤ, List, [], ◌∷◌, codes, Option, Some, if◌then◌else◌}
 use Rattle.rx_term.specs.Tree.{Tree, Trees, none, more, Int, Appl, Items, Hole}
-use Rattle.rx_pattern.specs.Pattern.{Kind, AnyTerm, AnyInt, AnyStr, AnyAppl, AnyPlaceholder, AnyList, kind_of, is_rest}
+use Rattle.rx_pattern.specs.Pattern.{PlaceholderKind, AnyTerm, AnyInt, AnyStr, AnyAppl, AnyPlaceholder, AnyList, kind_of, is_rest}
 
 -- an integer, a name, a list or a placeholder; the end of a list, one item more of it, or the rest
 -- of it, whatever that is
@@ -12,7 +12,7 @@ pub data Step : Type 0 where
   Number : ℤ → Step
   Named : List ℕ → Bool → Step
   Listing : Step
-  Holding : Option Kind → Step
+  Holding : Option PlaceholderKind → Step
   End : Step
   Item : Step
   Rest : Step
@@ -37,7 +37,7 @@ pub data Piece : Type 0 where
   One : Tree → Piece
   Several : Trees → Piece
 
-abbrev pub word_of : Kind → List ℕ
+abbrev pub word_of : PlaceholderKind → List ℕ
 word_of AnyTerm = codes "term"
 word_of AnyInt = codes "int"
 word_of AnyStr = codes "str"
@@ -46,7 +46,7 @@ word_of AnyPlaceholder = codes "placeholder"
 word_of AnyList = codes "list"
 
 -- the placeholder of a kind
-abbrev pub placeholder : Kind → Tree
+abbrev pub placeholder : PlaceholderKind → Tree
 placeholder kind = Hole (Appl (word_of kind) false none none) none
 
 -- what a step makes of the pieces behind it

@@ -4,16 +4,16 @@ use Rattle.rx_term.specs.Name.{IsAllowed}
 use Rattle.rx_term.specs.Tree.{Tree}
 use Rattle.rx_pattern.specs.Pattern.{fits}
 use Rattle.rx_pattern.specs.Filling as filling
-use Rattle.rx_pattern.specs.Filling.{Slot, misfit, takes}
+use Rattle.rx_pattern.specs.Filling.{Blank, misfit, takes}
 use Rattle.rx_pattern.specs.Code.{Step, Number, Named, Listing, Holding, End, Item, Rest, Piece, One, Several}
 use Rattle.rx_pattern.specs.declared.faults.MakeFault.{MakeFault}
 use Rattle.rx_pattern.specs.declared.faults.MakeFault.TheVariants.{Count, Kind, Memory, Full}
 
 -- whether a step takes a tree
-abbrev pub is_slot : Step → Bool
-is_slot (Holding (Some kind)) = true
-is_slot Rest = true
-is_slot s = false
+abbrev pub is_blank : Step → Bool
+is_blank (Holding (Some kind)) = true
+is_blank Rest = true
+is_blank s = false
 
 -- which trees it takes, if any
 abbrev pub takes_as : Step → Tree → Bool
@@ -21,25 +21,25 @@ takes_as (Holding (Some kind)) t = fits kind t
 takes_as Rest t = takes filling.Rest t
 takes_as s t = true
 
-abbrev pub slots_of_step : Step → List Slot
-slots_of_step (Holding (Some kind)) = filling.One kind ∷ []
-slots_of_step Rest = filling.Rest ∷ []
-slots_of_step s = []
+abbrev pub blanks_of_step : Step → List Blank
+blanks_of_step (Holding (Some kind)) = filling.One kind ∷ []
+blanks_of_step Rest = filling.Rest ∷ []
+blanks_of_step s = []
 
--- the slots of steps, in order
-abbrev pub slots_of_steps : List Step → List Slot
-slots_of_steps [] = []
-slots_of_steps (s ∷ steps) = slots_of_step s ++ slots_of_steps steps
+-- the blanks of steps, in order
+abbrev pub blanks_of_steps : List Step → List Blank
+blanks_of_steps [] = []
+blanks_of_steps (s ∷ steps) = blanks_of_step s ++ blanks_of_steps steps
 
--- why the trees do not go into the slots, if they do not
-abbrev pub IsMisfit : Option MakeFault → List Slot → List Tree → Type 0
-IsMisfit None slots bs = (length bs ≡ length slots) × (misfit slots bs ≡ None)
-IsMisfit (Some Count) slots bs = length bs ≡ length slots → ⊥
-IsMisfit (Some (Kind at)) slots bs = (length bs ≡ length slots) × (misfit slots bs ≡ Some at)
-IsMisfit (Some Memory) slots bs = ⊥
-IsMisfit (Some Full) slots bs = ⊥
+-- why the trees do not go into the blanks, if they do not
+abbrev pub IsMisfit : Option MakeFault → List Blank → List Tree → Type 0
+IsMisfit None blanks bs = (length bs ≡ length blanks) × (misfit blanks bs ≡ None)
+IsMisfit (Some Count) blanks bs = length bs ≡ length blanks → ⊥
+IsMisfit (Some (Kind at)) blanks bs = (length bs ≡ length blanks) × (misfit blanks bs ≡ Some at)
+IsMisfit (Some Memory) blanks bs = ⊥
+IsMisfit (Some Full) blanks bs = ⊥
 
--- the step is no slot, and what it joins is there
+-- the step is no blank, and what it joins is there
 abbrev pub HasParts : Step → List Piece → Type 0
 HasParts (Number z) (Several anns ∷ ps) = Unit {0}
 HasParts (Named name quoted) (Several args ∷ Several anns ∷ ps) = Unit {0}

@@ -8,11 +8,11 @@ ghost use Rattle.rx_term.specs.Tree.{annotations};
 ghost use Rattle.rx_term.specs.Store.{tree_at};
 ghost use Rattle.rx_term.specs.Steps.{Grows, IsBankRefusal};
 ghost use Rattle.rx_term.specs.Walks.{AllHeld, HaveTrees};
-ghost use Rattle.rx_pattern.specs.Filling.{filled, takes as takes_rest, Rest as RestSlot};
+ghost use Rattle.rx_pattern.specs.Filling.{filled, takes as takes_rest, Rest as RestBlank};
 ghost use Rattle.rx_pattern.specs.Code.{Piece, One, Several, assembled};
 ghost use Rattle.rx_pattern.specs.Nodes.{step_of, tree_of_nodes, AreNodes};
 ghost use Rattle.rx_pattern.specs.Subjects.{OnStack, IsListed, Stands};
-ghost use Rattle.rx_pattern.specs.Making.{is_slot as is_slot_step, takes_as, slots_of_steps};
+ghost use Rattle.rx_pattern.specs.Making.{is_blank as is_blank_step, takes_as, blanks_of_steps};
 ghost use Rattle.rx_pattern.specs.Making.{IsMisfit, HasParts, IsValid};
 ghost use Rattle.rx_pattern.specs.Faults.{IsMakeRefusal};
 
@@ -24,29 +24,29 @@ use rx_term::{BankFault, Term, TermBank};
 use std::alloc::Global;
 
 /// Whether the node takes a term.
-fn is_slot(node: &Node) -> bool
-    ensures { result ≡ is_slot_step (step_of node.now) }
+fn is_blank(node: &Node) -> bool
+    ensures { result ≡ is_blank_step (step_of node.now) }
 {
     matches!(node, Node::Placeholder(_) | Node::Rest)
 }
 
 /// How many terms the nodes take.
-pub fn count_slots(nodes: &[Node]) -> usize
-    ensures { result ≡ length (slots_of_steps (map step_of nodes.now)) }
+pub fn count_blanks(nodes: &[Node]) -> usize
+    ensures { result ≡ length (blanks_of_steps (map step_of nodes.now)) }
 {
-    let mut slots = 0;
+    let mut blanks = 0;
     for node in nodes {
-        if is_slot(node) {
-            slots += 1;
+        if is_blank(node) {
+            blanks += 1;
         }
     }
-    slots
+    blanks
 }
 
 /// Whether a tree is a list without annotations.
 fn is_plain_list<B: TermBank>(bank: &B, t: Term) -> bool
     requires { IsSome (tree_at (B.store bank.now) t) }
-    ensures { (u : Tree) → tree_at (B.store bank.now) t ≡ Some u → result ≡ takes_rest RestSlot u }
+    ensures { (u : Tree) → tree_at (B.store bank.now) t ≡ Some u → result ≡ takes_rest RestBlank u }
 {
     fits(bank, Class::List, t) && bank.anns(t).is_none()
 }
@@ -68,14 +68,14 @@ fn takes<B: TermBank>(bank: &B, node: &Node, t: Term) -> bool
 pub fn misfit<B: TermBank>(nodes: &[Node], bank: &B, args: &[Term]) -> Option<MakeFault>
     requires { AllHeld (B.store bank.now) args.now }
     ensures { (bs : List Tree) → HaveTrees (B.store bank.now) args.now bs
-        → IsMisfit result (slots_of_steps (map step_of nodes.now)) bs }
+        → IsMisfit result (blanks_of_steps (map step_of nodes.now)) bs }
 {
-    if count_slots(nodes) != args.len() {
+    if count_blanks(nodes) != args.len() {
         return Some(MakeFault::Count);
     }
     let mut at = 0;
     for node in nodes {
-        if is_slot(node) {
+        if is_blank(node) {
             if !takes(bank, node, args[at]) {
                 return Some(MakeFault::Kind { at });
             }
@@ -230,7 +230,7 @@ pub fn fill<B: TermBank>(
 ) -> Result<Term, MakeFault>
     requires nodes { AreNodes nodes.now }
     requires fitting { (bs : List Tree) × HaveTrees (B.store bank.old) args.now bs
-        × IsMisfit None (slots_of_steps (map step_of nodes.now)) bs }
+        × IsMisfit None (blanks_of_steps (map step_of nodes.now)) bs }
     ensures made { IfOk result (λ r. (bs : List Tree) → HaveTrees (B.store bank.old) args.now bs
         → tree_at (B.store bank.new) r ≡ Some (filled (tree_of_nodes nodes.now) bs).0) }
     ensures refused { IfErr result (IsMakeRefusal (B.store bank.new)) }
@@ -242,7 +242,7 @@ pub fn fill<B: TermBank>(
     while at > 0 {
         at -= 1;
         let node = &nodes[at];
-        if is_slot(node) {
+        if is_blank(node) {
             left -= 1;
             made.push(Some(args[left]))?;
         } else {

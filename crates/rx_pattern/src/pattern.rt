@@ -8,13 +8,13 @@ ghost use Rattle.rx_term.specs.Steps.{Grows};
 ghost use Rattle.rx_term.specs.Walks.{AllHeld, HaveTrees};
 ghost use Rattle.rx_pattern.specs.Pattern.{unfit, Unknown, Annotated};
 ghost use Rattle.rx_pattern.specs.Matching.{matching};
-ghost use Rattle.rx_pattern.specs.Filling.{filling, slots, Count, Kinds};
+ghost use Rattle.rx_pattern.specs.Filling.{filling, blanks, Count, Kinds};
 ghost use Rattle.rx_pattern.specs.Held.{Binds, AddsOnlyLists};
 ghost use Rattle.rx_pattern.specs.Faults.{IsMatchRefusal, IsOfTerms};
 
 use crate::check::check;
 use crate::faults::{MakeFault, PatternFault};
-use crate::fill::{count_slots, fill, misfit};
+use crate::fill::{count_blanks, fill, misfit};
 use crate::flatten::flatten;
 use crate::nodes::Node;
 use crate::subjects::match_nodes;
@@ -95,9 +95,9 @@ impl Pattern {
 
     /// How many placeholders the pattern has.
     pub fn placeholders(&self) -> usize
-        ensures { result ≡ length (slots self.now) }
+        ensures { result ≡ length (blanks self.now) }
     {
-        count_slots(&self.nodes)
+        count_blanks(&self.nodes)
     }
 
     /// The pattern with terms in place of its placeholders, in order. `Count` where there are not

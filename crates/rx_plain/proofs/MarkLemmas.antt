@@ -10,7 +10,7 @@ use Rattle.rx_term.proofs.ReclaimLemmas.{IsLinked-trans}
 use Rattle.rx_term.proofs.HeapLemmas.{lt_or_le}
 use Rattle.rx_term.specs.declared.Term.{Term}
 use Rattle.rx_plain.specs.Slots.{heap_of, roots_of, marks_of, mark_in, cell_at, cell_in, cell_of}
-use Rattle.rx_plain.specs.Marks.{unmarked, count_unless, Keeps, Marks, Fresh, cell_links, links_below, AreLinksWithin, IsClosedAt, IsClosed, OnlyLinked, Progress, Passes, Spreads, IsStart, Reaches, root_marked}
+use Rattle.rx_plain.specs.Marks.{unmarked, count_unless, Keeps, Marks, Fresh, cell_links, links_below, AreLinksWithin, IsMarkClosedAt, MarksAreClosed, OnlyLinked, Progress, Passes, Spreads, IsStart, Reaches, root_marked}
 use Rattle.rx_plain.specs.declared.slots.Slot.{Slot}
 use Rattle.rx_plain.specs.declared.slots.Body.{Body}
 
@@ -85,12 +85,12 @@ OnlyLinked-below xs ys t m s e = elim (m.only s e) [
   | inr p ↦ (let r = below-links xs t s p in along (start r.1) r.2 r.3)
 ]
 
-closed-here : (xs : List Slot) (t : ℕ) → Marks xs xs (links_below (slice_get xs t)) → IsClosedAt xs t
+closed-here : (xs : List Slot) (t : ℕ) → Marks xs xs (links_below (slice_get xs t)) → IsMarkClosedAt xs t
 closed-here xs t m i x p e c = m.all i (below-from xs t i x p e c)
 
-closed-until : (xs : List Slot) (k : ℕ) → ((t : ℕ) → t < k → IsClosedAt xs t) → IsClosedAt xs k → (t : ℕ) → t < k + 1 → IsClosedAt xs t
+closed-until : (xs : List Slot) (k : ℕ) → ((t : ℕ) → t < k → IsMarkClosedAt xs t) → IsMarkClosedAt xs k → (t : ℕ) → t < k + 1 → IsMarkClosedAt xs t
 closed-until xs k below here t lt = elim (eqb_tells t k) [
-  | inl p ↦ subst (IsClosedAt xs) (sym p.1) here
+  | inl p ↦ subst (IsMarkClosedAt xs) (sym p.1) here
   | inr p ↦ below t (omega (arith, p.1))
 ]
 
@@ -111,7 +111,7 @@ Progress-step old now next k false false p m f = (
 )
 
 -- a cell has its links within the vector from where no slot stands
-closed-all : (xs : List Slot) → ((t : ℕ) → t < length xs → IsClosedAt xs t) → IsClosed xs
+closed-all : (xs : List Slot) → ((t : ℕ) → t < length xs → IsMarkClosedAt xs t) → MarksAreClosed xs
 closed-all xs each t i x m e c = elim (lt_or_le t (length xs)) [
   | inl lt ↦ each t lt i x m e c
   | inr le ↦ absurd (past xs t le e)
@@ -122,8 +122,8 @@ closed-all xs each t i x m e c = elim (lt_or_le t (length xs)) [
   past (y ∷ ys) (suc s) le q = past ys s (omega arith) q
 
 -- after a pass with no new mark all is closed, else fewer slots are unmarked
-pub settled : (old new : List Slot) → Passes old new false → (new ≡ old) × IsClosed new
-settled old new p = (p.progress.0, subst IsClosed (sym p.progress.0) (closed-all old p.progress.1))
+pub settled : (old new : List Slot) → Passes old new false → (new ≡ old) × MarksAreClosed new
+settled old new p = (p.progress.0, subst MarksAreClosed (sym p.progress.0) (closed-all old p.progress.1))
 
 -- what a slot names, by cases
 pub below-marked : (xs : List Slot) (t : ℕ) (s : Slot) (x : Body) → slice_get xs t ≡ Some s → s.mark ≡ true → s.body ≡ Some x → links (cell_of x) ≡ links_below (slice_get xs t)

@@ -48,13 +48,13 @@ AreLinksWithin xs = (t i : ℕ) (x : Cell) → heap_of xs t ≡ Some x → Conta
     → i < length xs
 
 -- what this slot names is marked where it is
-abbrev pub IsClosedAt : List Slot → ℕ → Type 0
-IsClosedAt xs t = (i : ℕ) (x : Cell) → marks_of xs t ≡ true → heap_of xs t ≡ Some x
+abbrev pub IsMarkClosedAt : List Slot → ℕ → Type 0
+IsMarkClosedAt xs t = (i : ℕ) (x : Cell) → marks_of xs t ≡ true → heap_of xs t ≡ Some x
     → Contains (links x) i → marks_of xs i ≡ true
 
 -- what marked slots name is marked
-abbrev pub IsClosed : List Slot → Type 0
-IsClosed xs = (t : ℕ) → IsClosedAt xs t
+abbrev pub MarksAreClosed : List Slot → Type 0
+MarksAreClosed xs = (t : ℕ) → IsMarkClosedAt xs t
 
 -- each mark is on a slot that is linked from those that were marked
 abbrev pub OnlyLinked : List Slot → List Slot → Type 0
@@ -63,7 +63,7 @@ OnlyLinked old new = (t : ℕ) → marks_of new t ≡ true
 
 -- no new mark, and what the first slots name is marked; or there are new marks
 abbrev pub Progress : Bool → List Slot → List Slot → ℕ → Type 0
-Progress false old new k = (new ≡ old) × ((t : ℕ) → t < k → IsClosedAt old t)
+Progress false old new k = (new ≡ old) × ((t : ℕ) → t < k → IsMarkClosedAt old t)
 Progress true old new k = unmarked new < unmarked old
 
 -- one pass: no new mark where all that marked slots name was marked, else fewer slots are unmarked
@@ -76,7 +76,7 @@ pub record Passes (old new : List Slot) (fresh : Bool) : Type 0 where
 pub record Spreads (old new : List Slot) : Type 0 where
   pub keeps : Keeps old new
   pub only : OnlyLinked old new
-  pub closed : IsClosed new
+  pub closed : MarksAreClosed new
 
 -- the slot is rooted, or handed in
 abbrev pub IsStart : List Slot → List Term → ℕ → Type 0
@@ -88,7 +88,7 @@ pub record Reaches (old new : List Slot) (extra : List Term) : Type 0 where
   pub roots : roots_of new ≡ roots_of old
   pub len : length new ≡ length old
   pub started : (t : ℕ) → IsStart old extra t → marks_of new t ≡ true
-  pub closed : IsClosed new
+  pub closed : MarksAreClosed new
   pub only : (t : ℕ) → marks_of new t ≡ true → IsLinked (heap_of old) (IsStart old extra) t
 
 -- the slot with a mark exactly where it is rooted

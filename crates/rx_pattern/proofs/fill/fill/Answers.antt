@@ -1,7 +1,7 @@
 use Rattle.std.proofs.Common.{◌-◌, get_or, sym, ◌∙◌, arith, rules}
 use Rattle.rx_pattern.proofs.FittingLemmas.{same_at}
 use Rattle.rx_pattern.proofs.MatchLemmas.{popped}
-use Rattle.rx_pattern.proofs.FillLemmas.{fits_all, begun, back, left_some, parts_there, valid_there, slot_on, join_on, all_filled, made_tree, some_made, stack_there}
+use Rattle.rx_pattern.proofs.FillLemmas.{fits_all, begun, back, left_some, parts_there, valid_there, blank_on, join_on, all_filled, made_tree, some_made, stack_there}
 use Rattle.rx_pattern.proofs.fill.fill.Goals as goal
 
 pub loop-at-init : goal.loop-at-init
@@ -16,7 +16,7 @@ overflow_sub-left g c =
     let w = g.B.TermBank.store c.loop-at.bank in
     let f = fits_all old c.args.nodes.now c.args.args.now c.requires.fitting.0 c.requires.fitting.1 c.requires.fitting.2 in
     let h = back old w c.args.nodes.now c.args.args.now c.loop-at.made.items c.loop-at.at c.loop-at.left (omega arith) c.loop-at.invariant in
-    let some = left_some old w c.args.nodes.now c.args.args.now c.loop-at.made.items (c.loop-at.at - 1) c.loop-at.left c.index-nodes-at.result c.requires.nodes f h c.index-nodes-at.is (sym c.is_slot.ensures ∙ c.if-is_slot.true) in
+    let some = left_some old w c.args.nodes.now c.args.args.now c.loop-at.made.items (c.loop-at.at - 1) c.loop-at.left c.index-nodes-at.result c.requires.nodes f h c.index-nodes-at.is (sym c.is_blank.ensures ∙ c.if-is_blank.true) in
     omega (arith, some)
 
 pub bounds-args-left : goal.bounds-args-left
@@ -25,7 +25,7 @@ bounds-args-left g c =
     let w = g.B.TermBank.store c.loop-at.bank in
     let f = fits_all old c.args.nodes.now c.args.args.now c.requires.fitting.0 c.requires.fitting.1 c.requires.fitting.2 in
     let h = back old w c.args.nodes.now c.args.args.now c.loop-at.made.items c.loop-at.at c.loop-at.left (omega arith) c.loop-at.invariant in
-    let some = left_some old w c.args.nodes.now c.args.args.now c.loop-at.made.items (c.loop-at.at - 1) c.loop-at.left c.index-nodes-at.result c.requires.nodes f h c.index-nodes-at.is (sym c.is_slot.ensures ∙ c.if-is_slot.true) in
+    let some = left_some old w c.args.nodes.now c.args.args.now c.loop-at.made.items (c.loop-at.at - 1) c.loop-at.left c.index-nodes-at.result c.requires.nodes f h c.index-nodes-at.is (sym c.is_blank.ensures ∙ c.if-is_blank.true) in
     let most = c.loop-at.invariant.left_within in
     omega (arith, some, most)
 
@@ -35,9 +35,9 @@ loop-at-preserved-in-Continue-1 g c =
     let w = g.B.TermBank.store c.loop-at.bank in
     let f = fits_all old c.args.nodes.now c.args.args.now c.requires.fitting.0 c.requires.fitting.1 c.requires.fitting.2 in
     let h = back old w c.args.nodes.now c.args.args.now c.loop-at.made.items c.loop-at.at c.loop-at.left (omega arith) c.loop-at.invariant in
-    let some = left_some old w c.args.nodes.now c.args.args.now c.loop-at.made.items (c.loop-at.at - 1) c.loop-at.left c.index-nodes-at.result c.requires.nodes f h c.index-nodes-at.is (sym c.is_slot.ensures ∙ c.if-is_slot.true) in
+    let some = left_some old w c.args.nodes.now c.args.args.now c.loop-at.made.items (c.loop-at.at - 1) c.loop-at.left c.index-nodes-at.result c.requires.nodes f h c.index-nodes-at.is (sym c.is_blank.ensures ∙ c.if-is_blank.true) in
     let most = c.loop-at.invariant.left_within in
-    slot_on old w c.args.nodes.now c.args.args.now c.loop-at.made.items (c.loop-at.at - 1) c.loop-at.left c.index-nodes-at.result c.requires.nodes f h c.index-nodes-at.is (sym c.is_slot.ensures ∙ c.if-is_slot.true) (get_or c.args.args.now (c.loop-at.left - 1) (record { 0 = 0 })) c.push.new.self.items
+    blank_on old w c.args.nodes.now c.args.args.now c.loop-at.made.items (c.loop-at.at - 1) c.loop-at.left c.index-nodes-at.result c.requires.nodes f h c.index-nodes-at.is (sym c.is_blank.ensures ∙ c.if-is_blank.true) (get_or c.args.args.now (c.loop-at.left - 1) (record { 0 = 0 })) c.push.new.self.items
     (same_at c.args.args.now (c.loop-at.left - 1) (record { 0 = 0 }) (get_or c.args.args.now (c.loop-at.left - 1) (record { 0 = 0 })) (omega (arith, some, most))) c.in_ok-push.ensures.items
 
 pub join-requires-clause-parts : goal.join-requires-clause-parts
@@ -46,7 +46,7 @@ join-requires-clause-parts g c =
     let w = g.B.TermBank.store c.loop-at.bank in
     let f = fits_all old c.args.nodes.now c.args.args.now c.requires.fitting.0 c.requires.fitting.1 c.requires.fitting.2 in
     let h = back old w c.args.nodes.now c.args.args.now c.loop-at.made.items c.loop-at.at c.loop-at.left (omega arith) c.loop-at.invariant in
-    parts_there old w c.args.nodes.now c.args.args.now c.loop-at.made.items (c.loop-at.at - 1) c.loop-at.left c.index-nodes-at.result c.requires.nodes f h c.index-nodes-at.is (sym c.is_slot.ensures ∙ c.if-is_slot.false)
+    parts_there old w c.args.nodes.now c.args.args.now c.loop-at.made.items (c.loop-at.at - 1) c.loop-at.left c.index-nodes-at.result c.requires.nodes f h c.index-nodes-at.is (sym c.is_blank.ensures ∙ c.if-is_blank.false)
 
 pub join-requires-clause-valid : goal.join-requires-clause-valid
 join-requires-clause-valid g c =
@@ -62,7 +62,7 @@ loop-at-preserved g c =
     let w = g.B.TermBank.store c.loop-at.bank in
     let f = fits_all old c.args.nodes.now c.args.args.now c.requires.fitting.0 c.requires.fitting.1 c.requires.fitting.2 in
     let h = back old w c.args.nodes.now c.args.args.now c.loop-at.made.items c.loop-at.at c.loop-at.left (omega arith) c.loop-at.invariant in
-    join_on old w c.args.nodes.now c.args.args.now c.loop-at.made.items (c.loop-at.at - 1) c.loop-at.left c.index-nodes-at.result c.requires.nodes f h c.index-nodes-at.is (sym c.is_slot.ensures ∙ c.if-is_slot.false)
+    join_on old w c.args.nodes.now c.args.args.now c.loop-at.made.items (c.loop-at.at - 1) c.loop-at.left c.index-nodes-at.result c.requires.nodes f h c.index-nodes-at.is (sym c.is_blank.ensures ∙ c.if-is_blank.false)
     (g.B.TermBank.store c.join.new.bank) c.join.new.made.items c.join.ensures.grows c.in_ok-join.ensures.made
 
 pub unwrap-requires : goal.unwrap-requires

@@ -1,22 +1,22 @@
 use Rattle.std.proofs.Common.{◌+◌, ◌∙◌, sym, ap, map, drop}
 use Rattle.rx_term.specs.declared.Term.{Term}
 use Rattle.rx_pattern.specs.Nodes.{step_of}
-use Rattle.rx_pattern.specs.Making.{slots_of_steps}
+use Rattle.rx_pattern.specs.Making.{blanks_of_steps}
 use Rattle.rx_term.proofs.WalkLemmas.{AllHeld-at}
 use Rattle.rx_pattern.proofs.FittingLemmas.{HaveTrees-length, at_place, turn_taken, turn_refused, turn_other, started, all_fit, as_many, drop-past}
 use Rattle.rx_pattern.proofs.MatchLemmas.{next_step}
 use Rattle.rx_pattern.proofs.fill.misfit.Goals as goal
-use Rattle.rx_pattern.proofs.fill.misfit.Goals.{then-is_slot+else-not-takes, else-is_slot}
+use Rattle.rx_pattern.proofs.fill.misfit.Goals.{then-is_blank+else-not-takes, else-is_blank}
 
 abbrev no_term : Term
 no_term = record { 0 = 0 }
 
 pub loop-node-init : goal.loop-node-init
-loop-node-init g c = started (g.B.TermBank.store c.args.bank.now) (slots_of_steps (map step_of c.args.nodes.now)) c.args.args.now (sym c.count_slots.ensures ∙ c.if-count_slots-args.false)
+loop-node-init g c = started (g.B.TermBank.store c.args.bank.now) (blanks_of_steps (map step_of c.args.nodes.now)) c.args.args.now (sym c.count_blanks.ensures ∙ c.if-count_blanks-args.false)
 
-pub returns-then-count_slots-args : goal.returns-then-count_slots-args
-returns-then-count_slots-args g c = λ bs held same.
-    c.if-count_slots-args.true (c.count_slots.ensures ∙ sym same ∙ sym (HaveTrees-length (g.B.TermBank.store c.args.bank.now) c.args.args.now bs held))
+pub returns-then-count_blanks-args : goal.returns-then-count_blanks-args
+returns-then-count_blanks-args g c = λ bs held same.
+    c.if-count_blanks-args.true (c.count_blanks.ensures ∙ sym same ∙ sym (HaveTrees-length (g.B.TermBank.store c.args.bank.now) c.args.args.now bs held))
 
 pub bounds-args-at : goal.bounds-args-at
 bounds-args-at g c =
@@ -24,7 +24,7 @@ bounds-args-at g c =
     let nodes = c.args.nodes.now in
     let i = c.loop-node.node-index in
     let n = c.node-item.result in
-    at_place w (slots_of_steps (map step_of nodes)) (slots_of_steps (map step_of (drop i nodes))) (slots_of_steps (map step_of (drop (i + 1) nodes))) (step_of n) c.args.args.now c.loop-node.at i (ap slots_of_steps (next_step nodes i n c.loop-node-test.true c.node-item.is)) c.loop-node.invariant (sym c.is_slot.ensures ∙ c.if-is_slot.true)
+    at_place w (blanks_of_steps (map step_of nodes)) (blanks_of_steps (map step_of (drop i nodes))) (blanks_of_steps (map step_of (drop (i + 1) nodes))) (step_of n) c.args.args.now c.loop-node.at i (ap blanks_of_steps (next_step nodes i n c.loop-node-test.true c.node-item.is)) c.loop-node.invariant (sym c.is_blank.ensures ∙ c.if-is_blank.true)
 
 pub takes-requires : goal.takes-requires
 takes-requires g c =
@@ -32,7 +32,7 @@ takes-requires g c =
     let nodes = c.args.nodes.now in
     let i = c.loop-node.node-index in
     let n = c.node-item.result in
-    AllHeld-at w c.args.args.now c.loop-node.at no_term c.requires (at_place w (slots_of_steps (map step_of nodes)) (slots_of_steps (map step_of (drop i nodes))) (slots_of_steps (map step_of (drop (i + 1) nodes))) (step_of n) c.args.args.now c.loop-node.at i (ap slots_of_steps (next_step nodes i n c.loop-node-test.true c.node-item.is)) c.loop-node.invariant (sym c.is_slot.ensures ∙ c.if-is_slot.true))
+    AllHeld-at w c.args.args.now c.loop-node.at no_term c.requires (at_place w (blanks_of_steps (map step_of nodes)) (blanks_of_steps (map step_of (drop i nodes))) (blanks_of_steps (map step_of (drop (i + 1) nodes))) (step_of n) c.args.args.now c.loop-node.at i (ap blanks_of_steps (next_step nodes i n c.loop-node-test.true c.node-item.is)) c.loop-node.invariant (sym c.is_blank.ensures ∙ c.if-is_blank.true))
 
 pub returns-then-not-takes : goal.returns-then-not-takes
 returns-then-not-takes g c = λ bs held.
@@ -40,8 +40,8 @@ returns-then-not-takes g c = λ bs held.
     let nodes = c.args.nodes.now in
     let i = c.loop-node.node-index in
     let n = c.node-item.result in (
-      as_many w c.args.args.now bs (slots_of_steps (map step_of nodes)) c.count_slots.result held c.count_slots.ensures c.if-count_slots-args.false,
-      turn_refused w (slots_of_steps (map step_of nodes)) (slots_of_steps (map step_of (drop i nodes))) (slots_of_steps (map step_of (drop (i + 1) nodes))) (step_of n) c.args.args.now c.loop-node.at i (ap slots_of_steps (next_step nodes i n c.loop-node-test.true c.node-item.is)) c.loop-node.invariant (sym c.is_slot.ensures ∙ c.if-is_slot.true)
+      as_many w c.args.args.now bs (blanks_of_steps (map step_of nodes)) c.count_blanks.result held c.count_blanks.ensures c.if-count_blanks-args.false,
+      turn_refused w (blanks_of_steps (map step_of nodes)) (blanks_of_steps (map step_of (drop i nodes))) (blanks_of_steps (map step_of (drop (i + 1) nodes))) (step_of n) c.args.args.now c.loop-node.at i (ap blanks_of_steps (next_step nodes i n c.loop-node-test.true c.node-item.is)) c.loop-node.invariant (sym c.is_blank.ensures ∙ c.if-is_blank.true)
           no_term c.takes.result c.takes.ensures c.if-not-takes.true bs held,
     )
 
@@ -51,19 +51,19 @@ loop-node-preserved g c =
     let nodes = c.args.nodes.now in
     let i = c.loop-node.node-index in
     let n = c.node-item.result in
-    let all = slots_of_steps (map step_of nodes) in
-    let here = slots_of_steps (map step_of (drop i nodes)) in
-    let left = slots_of_steps (map step_of (drop (i + 1) nodes)) in
-    let steps = ap slots_of_steps (next_step nodes i n c.loop-node-test.true c.node-item.is) in
-    elim c.if-is_slot.branch [
-      | then-is_slot+else-not-takes w ↦ rw w.at-is (turn_taken bank all here left (step_of n) c.args.args.now c.loop-node.at i steps c.loop-node.invariant (sym c.is_slot.ensures ∙ w.if-is_slot.true) no_term w.takes.result w.takes.ensures w.if-not-takes.false)
-      | else-is_slot w ↦ rw w.at-is (turn_other bank all here left (step_of n) c.args.args.now c.loop-node.at i steps c.loop-node.invariant (sym c.is_slot.ensures ∙ w.if-is_slot.false))
+    let all = blanks_of_steps (map step_of nodes) in
+    let here = blanks_of_steps (map step_of (drop i nodes)) in
+    let left = blanks_of_steps (map step_of (drop (i + 1) nodes)) in
+    let steps = ap blanks_of_steps (next_step nodes i n c.loop-node-test.true c.node-item.is) in
+    elim c.if-is_blank.branch [
+      | then-is_blank+else-not-takes w ↦ rw w.at-is (turn_taken bank all here left (step_of n) c.args.args.now c.loop-node.at i steps c.loop-node.invariant (sym c.is_blank.ensures ∙ w.if-is_blank.true) no_term w.takes.result w.takes.ensures w.if-not-takes.false)
+      | else-is_blank w ↦ rw w.at-is (turn_other bank all here left (step_of n) c.args.args.now c.loop-node.at i steps c.loop-node.invariant (sym c.is_blank.ensures ∙ w.if-is_blank.false))
     ]
 
 pub returns : goal.returns
 returns g c = λ bs held.
     let w = g.B.TermBank.store c.args.bank.now in
     let nodes = c.args.nodes.now in (
-      as_many w c.args.args.now bs (slots_of_steps (map step_of nodes)) c.count_slots.result held c.count_slots.ensures c.if-count_slots-args.false,
-      all_fit w (slots_of_steps (map step_of nodes)) (slots_of_steps (map step_of (drop c.loop-node.node-index nodes))) c.args.args.now c.loop-node.at c.loop-node.node-index (ap (λ ns. slots_of_steps (map step_of ns)) (drop-past nodes c.loop-node.node-index c.loop-node-test.false)) c.loop-node.invariant bs held,
+      as_many w c.args.args.now bs (blanks_of_steps (map step_of nodes)) c.count_blanks.result held c.count_blanks.ensures c.if-count_blanks-args.false,
+      all_fit w (blanks_of_steps (map step_of nodes)) (blanks_of_steps (map step_of (drop c.loop-node.node-index nodes))) c.args.args.now c.loop-node.at c.loop-node.node-index (ap (λ ns. blanks_of_steps (map step_of ns)) (drop-past nodes c.loop-node.node-index c.loop-node-test.false)) c.loop-node.invariant bs held,
     )
