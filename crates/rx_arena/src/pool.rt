@@ -46,7 +46,8 @@ pub(crate) struct Pool {
     room: u32,
     cap: u32,
     turned: bool,
-    ghost listed: { Listed (links (λ n. n.free) store) free } by { Listed-prop (links (λ n. n.free) store) free },
+    ghost listed: { Listed (links (λ n. n.free) store)
+        free } by { Listed-prop (links (λ n. n.free) store) free },
 }
 
 impl Model for Pool {
