@@ -124,7 +124,7 @@ impl Pool {
         match self.free {
             Some(slot) => {
                 self.free = self.store.next(slot, Link::Free);
-                self.store.renew(slot, body, mark_of(self.turned, false));
+                self.store.fill(slot, body, mark_of(self.turned, false));
                 self.taken += 1;
                 Some(slot)
             }
