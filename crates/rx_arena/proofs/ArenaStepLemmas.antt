@@ -36,7 +36,7 @@ pub record ArenaStep (p : PoolState) (heads : List (Option ℕ)) (first : Option
   pub state_is : state_of p b.chains b.gray ≡ b
   pub law : IsArena b
 
-module _ (p : PoolState) (heads : List (Option ℕ)) (first : Option ℕ) (b : ArenaState) (st : ArenaStep p heads first b) (l : Chained (chain_links p.cells) heads) (m : Listed (gray_links p.cells) first) where
+module _ {p : PoolState} {heads : List (Option ℕ)} {first : Option ℕ} {b : ArenaState} (st : ArenaStep p heads first b) (l : Chained (chain_links p.cells) heads) (m : Listed (gray_links p.cells) first) where
   pub step_chains : l.0 ≡ b.chains
   step_chains = chained_is (chain_links p.cells) heads l b.chains st.chained
 
@@ -50,8 +50,8 @@ module _ (p : PoolState) (heads : List (Option ℕ)) (first : Option ℕ) (b : A
   step_law = subst IsArena (sym step_state) st.law
 
 -- the same step, of heads that are these
-pub with_heads : (p : PoolState) (heads new : List (Option ℕ)) (first : Option ℕ) (b : ArenaState) → ArenaStep p heads first b → new ≡ heads → ArenaStep p new first b
-with_heads p heads new first b st e = subst (λ z. ArenaStep p z first b) (sym e) st
+pub with_heads : {p : PoolState} {heads new : List (Option ℕ)} {first : Option ℕ} {b : ArenaState} → ArenaStep p heads first b → new ≡ heads → ArenaStep p new first b
+with_heads {p = p} {first = first} {b = b} st e = subst (λ z. ArenaStep p z first b) (sym e) st
 
 links-put_other : (k : Node → Option ℕ) (xs : List (Option Node)) (s t : ℕ) (v : Option Node) → t ≢ s → get_or (links k (put xs s v)) t None ≡ get_or (links k xs) t None
 links-put_other k xs s t v ne = get_or-map_option k (put xs s v) t ∙ ap (option_map k) (get_or-put_other xs s t v ne) ∙ sym (get_or-map_option k xs t)

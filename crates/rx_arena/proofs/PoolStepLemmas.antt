@@ -54,7 +54,7 @@ pub record Step (slots : List (Option Node)) (first : Option ℕ) (free : List �
   pub pool : IsPool slots free fresh taken room cap
   pub cells_is : cells_of slots free fresh ≡ cells
 
-module _ (slots : List (Option Node)) (first : Option ℕ) (free : List ℕ) (fresh taken room cap : ℕ) (cells : List (Option Node)) (st : Step slots first free fresh taken room cap cells) (l : Listed (frees slots) first) where
+module _ {slots : List (Option Node)} {first : Option ℕ} {free : List ℕ} {fresh taken room cap : ℕ} {cells : List (Option Node)} (st : Step slots first free fresh taken room cap cells) (l : Listed (frees slots) first) where
   pub step_pool : IsPool slots l.0 fresh taken room cap
   step_pool = subst (λ z. IsPool slots z fresh taken room cap) (sym (listed_is (frees slots) first l free st.chain)) st.pool
 
@@ -68,12 +68,12 @@ module _ (slots : List (Option Node)) (first : Option ℕ) (free : List ℕ) (fr
   step_state turned = same_pool _ _ _ _ fresh room cap turned step_cells step_free
 
 -- what is taken and what is spare fit
-pub pool_fits : (slots : List (Option Node)) (free : List ℕ) (fresh taken room cap : ℕ) → IsPool slots free fresh taken room cap → (min cap room - filled (cells_of slots free fresh)) + filled (cells_of slots free fresh) ≤ cap
-pool_fits slots free fresh taken room cap p = omega (arith, p.taken_counted, p.free_counted, p.fresh_in_cap)
+pub pool_fits : {slots : List (Option Node)} {free : List ℕ} {fresh taken room cap : ℕ} → IsPool slots free fresh taken room cap → (min cap room - filled (cells_of slots free fresh)) + filled (cells_of slots free fresh) ≤ cap
+pool_fits p = omega (arith, p.taken_counted, p.free_counted, p.fresh_in_cap)
 
 -- the taken slots are below the room and the limit
-pub pool_room : (slots : List (Option Node)) (free : List ℕ) (fresh taken room cap : ℕ) → IsPool slots free fresh taken room cap → (filled (cells_of slots free fresh) ≡ taken) × (taken ≤ room) × (taken ≤ cap)
-pool_room slots free fresh taken room cap p = (p.taken_counted, omega (arith, p.free_counted, p.fresh_in_room), omega (arith, p.free_counted, p.fresh_in_cap))
+pub pool_room : {slots : List (Option Node)} {free : List ℕ} {fresh taken room cap : ℕ} → IsPool slots free fresh taken room cap → (filled (cells_of slots free fresh) ≡ taken) × (taken ≤ room) × (taken ≤ cap)
+pool_room p = (p.taken_counted, omega (arith, p.free_counted, p.fresh_in_room), omega (arith, p.free_counted, p.fresh_in_cap))
 
 -- one more is taken
 pub filled-taken : (cells : List (Option Node)) (s : ℕ) (b : Node) → get_or cells s None ≡ None → filled (put cells s (Some b)) ≡ filled cells + 1

@@ -23,18 +23,18 @@ invariant_of-self c =
     let h = subst (λ (v : ArenaState). IsTaken v c.args.slot.0) (sym c.self.view_is) c.requires.taken in
     let away = subst (λ (v : ArenaState). times c.args.slot.0 v.gray ≡ 0) (sym c.self.view_is) c.requires.not_gray in
     let st = altered_step c.self.inside c.self.invariant c.set_mark.new.self c.args.slot.0 (with_mark (mark_of c.self.inside.pool.turned false)) (with_marking false) h c.set_mark.ensures (λ n. (shown-marked c.self.inside.pool.turned false n, refl, refl)) (altered_law _ c.self.invariant c.args.slot.0 (with_marking false) h.0 h.1 (λ g. absurd (omega (arith, g, away)))) in
-    step_law _ _ _ _ st c.self-1.given.0 c.self-1.given.1.0
+    step_law st c.self-1.given.0 c.self-1.given.1.0
 
 pub returns-clause-after : goal.returns-clause-after
 returns-clause-after c =
     let h = subst (λ (v : ArenaState). IsTaken v c.args.slot.0) (sym c.self.view_is) c.requires.taken in
     let away = subst (λ (v : ArenaState). times c.args.slot.0 v.gray ≡ 0) (sym c.self.view_is) c.requires.not_gray in
     let st = altered_step c.self.inside c.self.invariant c.set_mark.new.self c.args.slot.0 (with_mark (mark_of c.self.inside.pool.turned false)) (with_marking false) h c.set_mark.ensures (λ n. (shown-marked c.self.inside.pool.turned false n, refl, refl)) (altered_law _ c.self.invariant c.args.slot.0 (with_marking false) h.0 h.1 (λ g. absurd (omega (arith, g, away)))) in
-    step_state _ _ _ _ st c.self-1.given.0 c.self-1.given.1.0 ∙ ap (λ (v : ArenaState). record v { cells = altered c.args.slot.0 (with_marking false) v.cells }) c.self.view_is
+    step_state st c.self-1.given.0 c.self-1.given.1.0 ∙ ap (λ (v : ArenaState). record v { cells = altered c.args.slot.0 (with_marking false) v.cells }) c.self.view_is
 
 pub returns-clause-law : goal.returns-clause-law
 returns-clause-law c =
     let h = subst (λ (v : ArenaState). IsTaken v c.args.slot.0) (sym c.self.view_is) c.requires.taken in
     let away = subst (λ (v : ArenaState). times c.args.slot.0 v.gray ≡ 0) (sym c.self.view_is) c.requires.not_gray in
     let st = altered_step c.self.inside c.self.invariant c.set_mark.new.self c.args.slot.0 (with_mark (mark_of c.self.inside.pool.turned false)) (with_marking false) h c.set_mark.ensures (λ n. (shown-marked c.self.inside.pool.turned false n, refl, refl)) (altered_law _ c.self.invariant c.args.slot.0 (with_marking false) h.0 h.1 (λ g. absurd (omega (arith, g, away)))) in
-    step_law _ _ _ _ st c.self-1.given.0 c.self-1.given.1.0
+    step_law st c.self-1.given.0 c.self-1.given.1.0

@@ -34,18 +34,18 @@ invariant_of-self c =
     let h = subst (λ (v : ArenaState). IsTaken v c.args.slot.0) (sym c.self.view_is) c.requires.taken in
     let unmarked = subst (λ (v : ArenaState). marked_at v c.args.slot.0 ≡ false) (sym c.self.view_is) c.requires.unmarked in
     let st = gray_push_step c.self.inside c.self.invariant c.set_mark.new.self c.set_next.new.self c.args.slot.0 h (unmarked_away _ c.self.invariant c.args.slot.0 unmarked) c.set_mark.ensures c.set_next.ensures in
-    step_law _ _ _ _ st c.self-1.given.0 c.self-1.given.1.0
+    step_law st c.self-1.given.0 c.self-1.given.1.0
 
 pub returns-clause-after : goal.returns-clause-after
 returns-clause-after c =
     let h = subst (λ (v : ArenaState). IsTaken v c.args.slot.0) (sym c.self.view_is) c.requires.taken in
     let unmarked = subst (λ (v : ArenaState). marked_at v c.args.slot.0 ≡ false) (sym c.self.view_is) c.requires.unmarked in
     let st = gray_push_step c.self.inside c.self.invariant c.set_mark.new.self c.set_next.new.self c.args.slot.0 h (unmarked_away _ c.self.invariant c.args.slot.0 unmarked) c.set_mark.ensures c.set_next.ensures in
-    step_state _ _ _ _ st c.self-1.given.0 c.self-1.given.1.0 ∙ ap (λ (v : ArenaState). record v { cells = altered c.args.slot.0 (with_marking true) v.cells; gray = c.args.slot.0 ∷ v.gray }) c.self.view_is
+    step_state st c.self-1.given.0 c.self-1.given.1.0 ∙ ap (λ (v : ArenaState). record v { cells = altered c.args.slot.0 (with_marking true) v.cells; gray = c.args.slot.0 ∷ v.gray }) c.self.view_is
 
 pub returns-clause-law : goal.returns-clause-law
 returns-clause-law c =
     let h = subst (λ (v : ArenaState). IsTaken v c.args.slot.0) (sym c.self.view_is) c.requires.taken in
     let unmarked = subst (λ (v : ArenaState). marked_at v c.args.slot.0 ≡ false) (sym c.self.view_is) c.requires.unmarked in
     let st = gray_push_step c.self.inside c.self.invariant c.set_mark.new.self c.set_next.new.self c.args.slot.0 h (unmarked_away _ c.self.invariant c.args.slot.0 unmarked) c.set_mark.ensures c.set_next.ensures in
-    step_law _ _ _ _ st c.self-1.given.0 c.self-1.given.1.0
+    step_law st c.self-1.given.0 c.self-1.given.1.0

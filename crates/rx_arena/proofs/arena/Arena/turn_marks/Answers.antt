@@ -16,18 +16,18 @@ invariant_of-self c =
     let all = subst (λ (v : ArenaState). (s : ℕ) → IsTaken v s → IsMarked v s) (sym c.self.view_is) c.requires.marked in
     let none = subst (λ (v : ArenaState). v.gray ≡ []) (sym c.self.view_is) c.requires.no_gray in
     let st = turn_step c.self.inside c.self.invariant c.turn.new.self c.turn.ensures.after c.turn.ensures.two all none in
-    step_law _ _ _ _ st c.self-1.given.0 c.self-1.given.1.0
+    step_law st c.self-1.given.0 c.self-1.given.1.0
 
 pub returns-clause-after : goal.returns-clause-after
 returns-clause-after c =
     let all = subst (λ (v : ArenaState). (s : ℕ) → IsTaken v s → IsMarked v s) (sym c.self.view_is) c.requires.marked in
     let none = subst (λ (v : ArenaState). v.gray ≡ []) (sym c.self.view_is) c.requires.no_gray in
     let st = turn_step c.self.inside c.self.invariant c.turn.new.self c.turn.ensures.after c.turn.ensures.two all none in
-    step_state _ _ _ _ st c.self-1.given.0 c.self-1.given.1.0 ∙ ap (λ (v : ArenaState). record v { cells = map (option_map (with_marking false)) v.cells }) c.self.view_is
+    step_state st c.self-1.given.0 c.self-1.given.1.0 ∙ ap (λ (v : ArenaState). record v { cells = map (option_map (with_marking false)) v.cells }) c.self.view_is
 
 pub returns-clause-law : goal.returns-clause-law
 returns-clause-law c =
     let all = subst (λ (v : ArenaState). (s : ℕ) → IsTaken v s → IsMarked v s) (sym c.self.view_is) c.requires.marked in
     let none = subst (λ (v : ArenaState). v.gray ≡ []) (sym c.self.view_is) c.requires.no_gray in
     let st = turn_step c.self.inside c.self.invariant c.turn.new.self c.turn.ensures.after c.turn.ensures.two all none in
-    step_law _ _ _ _ st c.self-1.given.0 c.self-1.given.1.0
+    step_law st c.self-1.given.0 c.self-1.given.1.0

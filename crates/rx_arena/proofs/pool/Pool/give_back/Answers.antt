@@ -35,20 +35,20 @@ pub invariant_of-self : goal.invariant_of-self
 invariant_of-self c =
     let h = subst (λ (v : PoolState). IsHeld v.cells c.args.slot) (sym c.self.view_is) c.requires in
     let st = given_back-step c.self.inside c.self.invariant c.set_mark.new.self c.set_next.new.self c.args.slot h c.set_mark.ensures c.set_next.ensures in
-    step_pool _ _ _ _ _ _ _ _ st c.self-1.given.0
+    step_pool st c.self-1.given.0
 
 pub returns-clause-after : goal.returns-clause-after
 returns-clause-after c =
     let h = subst (λ (v : PoolState). IsHeld v.cells c.args.slot) (sym c.self.view_is) c.requires in
     let st = given_back-step c.self.inside c.self.invariant c.set_mark.new.self c.set_next.new.self c.args.slot h c.set_mark.ensures c.set_next.ensures in
-    step_state _ _ _ _ _ _ _ _ st c.self-1.given.0 _
+    step_state st c.self-1.given.0 _
     ∙ ap (λ (v : PoolState). record v { cells = put v.cells c.args.slot None; free = c.args.slot ∷ v.free }) c.self.view_is
 
 pub returns-clause-spare : goal.returns-clause-spare
 returns-clause-spare c =
     let h = subst (λ (v : PoolState). IsHeld v.cells c.args.slot) (sym c.self.view_is) c.requires in
     let st = given_back-step c.self.inside c.self.invariant c.set_mark.new.self c.set_next.new.self c.args.slot h c.set_mark.ensures c.set_next.ensures in
-    let new = pool_room _ _ _ _ _ _ (step_pool _ _ _ _ _ _ _ _ st c.self-1.given.0) in
-    let old = pool_room _ _ _ _ _ _ c.self.invariant in
+    let new = pool_room (step_pool st c.self-1.given.0) in
+    let old = pool_room c.self.invariant in
     let some = given_back_some c.self.inside c.self.invariant c.args.slot h in
     subst (λ (v : PoolState). (min c.self.inside.cap c.self.inside.room - filled (cells_of c.set_next.new.self c.self-1.given.0.0 c.self.inside.fresh)) ≡ spare_of v + 1) c.self.view_is (omega (arith, new, old, some))

@@ -22,12 +22,12 @@ invariant_of-self-inside c =
 pub invariant_of-self : goal.invariant_of-self
 invariant_of-self c =
     let st = reused-step c.self.inside c.self.invariant c.in-Some.slot c.in-Some.is c.fill.new.self (lone (mark_of c.self.inside.turned false) c.args.body) c.next-self-inside.result (mark_of_small c.self.inside.turned false) c.next-self-inside.ensures (c.fill.ensures ∙ ap (λ k. set c.self.inside.store c.in-Some.slot (Some (lone k c.args.body))) c.mark_of.ensures) in
-    step_pool _ _ _ _ _ _ _ _ st c.self-1.given.0
+    step_pool st c.self-1.given.0
 
 pub returns-in-Some-clause-listed : goal.returns-in-Some-clause-listed
 returns-in-Some-clause-listed c =
     let st = reused-step c.self.inside c.self.invariant c.in-Some.slot c.in-Some.is c.fill.new.self (lone (mark_of c.self.inside.turned false) c.args.body) c.next-self-inside.result (mark_of_small c.self.inside.turned false) c.next-self-inside.ensures (c.fill.ensures ∙ ap (λ k. set c.self.inside.store c.in-Some.slot (Some (lone k c.args.body))) c.mark_of.ensures) in
-    ap (λ (v : PoolState). v.free) (sym c.self.view_is) ∙ front_split c.self.inside c.self.invariant c.in-Some.slot c.in-Some.is ∙ ap (λ (z : List ℕ). c.in-Some.slot ∷ z) (sym (step_free _ _ _ _ _ _ _ _ st c.self-1.given.0))
+    ap (λ (v : PoolState). v.free) (sym c.self.view_is) ∙ front_split c.self.inside c.self.invariant c.in-Some.slot c.in-Some.is ∙ ap (λ (z : List ℕ). c.in-Some.slot ∷ z) (sym (step_free st c.self-1.given.0))
 
 pub returns-in-Some-clause-was_free : goal.returns-in-Some-clause-was_free
 returns-in-Some-clause-was_free c = subst (λ (v : PoolState). get_or v.cells c.in-Some.slot None ≡ None) c.self.view_is (front_free c.self.inside c.self.invariant c.in-Some.slot c.in-Some.is)
@@ -38,16 +38,16 @@ returns-in-Some-clause-below c = subst (λ (v : PoolState). c.in-Some.slot < v.c
 pub returns-in-Some-clause-some : goal.returns-in-Some-clause-some
 returns-in-Some-clause-some c =
     let st = reused-step c.self.inside c.self.invariant c.in-Some.slot c.in-Some.is c.fill.new.self (lone (mark_of c.self.inside.turned false) c.args.body) c.next-self-inside.result (mark_of_small c.self.inside.turned false) c.next-self-inside.ensures (c.fill.ensures ∙ ap (λ k. set c.self.inside.store c.in-Some.slot (Some (lone k c.args.body))) c.mark_of.ensures) in
-    same_pool _ _ _ _ _ _ _ _ (step_cells _ _ _ _ _ _ _ _ st c.self-1.given.0) refl
+    same_pool _ _ _ _ _ _ _ _ (step_cells st c.self-1.given.0) refl
     ∙ ap (λ (v : PoolState). record v { cells = put v.cells c.in-Some.slot (Some (lone (mark_of v.turned false) c.args.body)); free = c.self-1.given.0.0 }) c.self.view_is
 
 pub returns-in-Some-clause-fits : goal.returns-in-Some-clause-fits
 returns-in-Some-clause-fits c =
     let st = reused-step c.self.inside c.self.invariant c.in-Some.slot c.in-Some.is c.fill.new.self (lone (mark_of c.self.inside.turned false) c.args.body) c.next-self-inside.result (mark_of_small c.self.inside.turned false) c.next-self-inside.ensures (c.fill.ensures ∙ ap (λ k. set c.self.inside.store c.in-Some.slot (Some (lone k c.args.body))) c.mark_of.ensures) in
-    pool_fits _ _ _ _ _ _ (step_pool _ _ _ _ _ _ _ _ st c.self-1.given.0)
+    pool_fits (step_pool st c.self-1.given.0)
 
 pub returns-in-None-clause-listed : goal.returns-in-None-clause-listed
 returns-in-None-clause-listed c = ap (λ (v : PoolState). v.free) (sym c.self.view_is) ∙ ended _ _ _ c.self.inside.listed.1 c.in-None.is
 
 pub returns-in-None-clause-fits : goal.returns-in-None-clause-fits
-returns-in-None-clause-fits c = subst (λ (v : PoolState). spare_of v + filled v.cells ≤ v.cap) c.self.view_is (pool_fits _ _ _ _ _ _ c.self.invariant)
+returns-in-None-clause-fits c = subst (λ (v : PoolState). spare_of v + filled v.cells ≤ v.cap) c.self.view_is (pool_fits c.self.invariant)

@@ -21,11 +21,11 @@ pub invariant_of-self : goal.invariant_of-self
 invariant_of-self c =
     let h = subst (λ (v : PoolState). IsHeld v.cells c.args.slot) (sym c.self.view_is) c.requires in
     let st = kept-step c.self.inside c.self.invariant c.set_mark.new.self c.args.slot (with_mark (mark_of c.self.inside.turned c.args.marked)) (λ n le. mark_of_small c.self.inside.turned c.args.marked) h (c.set_mark.ensures ∙ ap (λ k. changed c.args.slot (with_mark k) c.self.inside.store) c.mark_of.ensures) in
-    step_pool _ _ _ _ _ _ _ _ st c.self-1.given.0
+    step_pool st c.self-1.given.0
 
 pub returns : goal.returns
 returns c =
     let h = subst (λ (v : PoolState). IsHeld v.cells c.args.slot) (sym c.self.view_is) c.requires in
     let st = kept-step c.self.inside c.self.invariant c.set_mark.new.self c.args.slot (with_mark (mark_of c.self.inside.turned c.args.marked)) (λ n le. mark_of_small c.self.inside.turned c.args.marked) h (c.set_mark.ensures ∙ ap (λ k. changed c.args.slot (with_mark k) c.self.inside.store) c.mark_of.ensures) in
-    step_state _ _ _ _ _ _ _ _ st c.self-1.given.0 _
+    step_state st c.self-1.given.0 _
     ∙ ap (λ (v : PoolState). record v { cells = altered c.args.slot (with_mark (mark_of v.turned c.args.marked)) v.cells }) c.self.view_is
