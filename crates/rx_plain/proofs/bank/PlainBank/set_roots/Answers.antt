@@ -3,27 +3,17 @@ use Rattle.std.specs.Prelude.{slice_set}
 use Rattle.std.specs.FinMap as map
 use Rattle.rx_term.specs.Heap.{IsDistinct}
 use Rattle.rx_plain.specs.Slots.{heap_of}
-use Rattle.rx_plain.specs.Soundness.{table, cell-within}
-use Rattle.rx_plain.proofs.ReadingLemmas.{held-cell}
+use Rattle.rx_plain.specs.Soundness.{table}
+use Rattle.rx_plain.proofs.ReadingLemmas.{held-cell, held-within, held-index}
 use Rattle.rx_plain.proofs.CountingLemmas.{recounted, recount-heap, recount-len, recount-store, recount-unrooted, recount-counts}
 use Rattle.rx_term.proofs.BankLemmas.{whole-along, content-unique}
 use Rattle.rx_plain.proofs.bank.PlainBank.set_roots.Goals as goal
 
 pub index-slot-requires : goal.index-slot-requires
-index-slot-requires c =
-    let b = c.args.self.now in
-    let x = held-cell b c.args.t.0 c.requires in
-    let lt = cell-within b.slots.items c.args.t.0 x.0 x.1 in
-    let size = b.slots.ok.0 in
-    omega arith
+index-slot-requires c = held-index c.args.self.now c.args.t c.requires
 
 pub index_mut-requires : goal.index_mut-requires
-index_mut-requires c =
-    let b = c.args.self.now in
-    let x = held-cell b c.args.t.0 c.requires in
-    let lt = cell-within b.slots.items c.args.t.0 x.0 x.1 in
-    let size = b.slots.ok.0 in
-    omega arith
+index_mut-requires c = held-index c.args.self.now c.args.t c.requires
 
 pub invariant_of-self : goal.invariant_of-self
 invariant_of-self c =
@@ -31,7 +21,7 @@ invariant_of-self c =
     let s = c.index-slot.result.now in
     let n = c.args.count in
     let x = held-cell b c.args.t.0 c.requires in
-    let lt = cell-within b.slots.items c.args.t.0 x.0 x.1 in
+    let lt = held-within b c.args.t c.requires in
     let ys = slice_set b.slots.items c.args.t.0 (recounted s n) in
     let heap = recount-heap b.slots.items c.args.t.0 s n lt c.index-slot.ensures in
     let len = recount-len b.slots.items c.args.t.0 s n lt c.index-slot.ensures in
@@ -51,5 +41,4 @@ invariant_of-self c =
 pub returns : goal.returns
 returns c =
     let b = c.args.self.now in
-    let x = held-cell b c.args.t.0 c.requires in
-    recount-store b c.args.t c.index-slot.result.now c.args.count (cell-within b.slots.items c.args.t.0 x.0 x.1) c.index-slot.ensures _
+    recount-store b c.args.t c.index-slot.result.now c.args.count (held-within b c.args.t c.requires) c.index-slot.ensures _
