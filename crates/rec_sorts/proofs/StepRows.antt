@@ -1,40 +1,60 @@
 -- What the words of the laws say of two worked specifications, and what the laws say at their edges.
 use Rattle.std.proofs.Common.{refl, ap, subst, arith, ◌-◌}
 use Rattle.std.specs.Prelude.{ℕ, suc, List, [], ◌∷◌, codes, ◌≡◌, true, false, Some, None}
-use Rattle.rec_syntax.specs.Tokens.{Word}
-use Rattle.rec_syntax.specs.Syntax.{Term, Terms, Apply, Spec}
+use Rattle.rec_syntax.specs.Syntax.{Term, Spec}
+use Rattle.rec_syntax.proofs.RowWords.{w, symbol, group, term, condition, rule}
 use Rattle.rx_term.specs.Tree.{Tree, Appl, none, more, tree_eq}
 use Rattle.rec_sorts.specs.SpecRules.{fault}
 use Rattle.rec_sorts.specs.Binding.{Substitution, tree_of}
 use Rattle.rec_sorts.specs.Evaluation.{Done, Over, Eval}
 use Rattle.rec_sorts.specs.Laws.{CostLaw, RewritingLaw, fired, step, Steps, Unconditional, BindsVariables, IsPartOf, IsBuilt}
 
--- a word at a place
-abbrev w : ℕ → List ℕ → Word
-w at bytes = record { at = at; bytes = bytes }
-
 -- REC-SPEC Add SORTS Nat CONS z : -> Nat s : Nat -> Nat OPNS plus : Nat Nat -> Nat VARS X Y : Nat RULES plus(z,Y) -> Y plus(s(X),Y) -> s(plus(X,Y)) EVAL plus(s(s(z)),s(z)) END-SPEC
 abbrev addition : Spec
 addition = record {
-  name = (w 9 (codes "Add"));
-  sorts = ((w 19 (codes "Nat")) ∷ []);
-  constructors = ((record { name = (w 28 (codes "z")); arguments = ([]); sort = (w 35 (codes "Nat")) }) ∷ (record { name = (w 39 (codes "s")); arguments = ((w 43 (codes "Nat")) ∷ []); sort = (w 50 (codes "Nat")) }) ∷ []);
-  operators = ((record { name = (w 59 (codes "plus")); arguments = ((w 66 (codes "Nat")) ∷ (w 70 (codes "Nat")) ∷ []); sort = (w 77 (codes "Nat")) }) ∷ []);
-  variables = ((record { first = (w 86 (codes "X")); others = ((w 88 (codes "Y")) ∷ []); sort = (w 92 (codes "Nat")) }) ∷ []);
-  rules = ((record { left = (Apply (w 102 (codes "plus")) (Terms.more (Apply (w 107 (codes "z")) Terms.none) (Terms.more (Apply (w 109 (codes "Y")) Terms.none) Terms.none))); right = (Apply (w 115 (codes "Y")) Terms.none); conditions = ([]) }) ∷ (record { left = (Apply (w 117 (codes "plus")) (Terms.more (Apply (w 122 (codes "s")) (Terms.more (Apply (w 124 (codes "X")) Terms.none) Terms.none)) (Terms.more (Apply (w 127 (codes "Y")) Terms.none) Terms.none))); right = (Apply (w 133 (codes "s")) (Terms.more (Apply (w 135 (codes "plus")) (Terms.more (Apply (w 140 (codes "X")) Terms.none) (Terms.more (Apply (w 142 (codes "Y")) Terms.none) Terms.none))) Terms.none)); conditions = ([]) }) ∷ []);
-  terms = ((Apply (w 151 (codes "plus")) (Terms.more (Apply (w 156 (codes "s")) (Terms.more (Apply (w 158 (codes "s")) (Terms.more (Apply (w 160 (codes "z")) Terms.none) Terms.none)) Terms.none)) (Terms.more (Apply (w 164 (codes "s")) (Terms.more (Apply (w 166 (codes "z")) Terms.none) Terms.none)) Terms.none))) ∷ []);
+  name = w 9 "Add";
+  sorts = w 19 "Nat" ∷ [];
+  constructors =
+      symbol (w 28 "z") [] (w 35 "Nat")
+      ∷ symbol (w 39 "s") (w 43 "Nat" ∷ []) (w 50 "Nat")
+      ∷ [];
+  operators = symbol (w 59 "plus") (w 66 "Nat" ∷ w 70 "Nat" ∷ []) (w 77 "Nat") ∷ [];
+  variables = group (w 86 "X") (w 88 "Y" ∷ []) (w 92 "Nat") ∷ [];
+  rules =
+      rule (term 102 "plus" (term 107 "z" [] ∷ term 109 "Y" [] ∷ [])) (term 115 "Y" []) []
+      ∷ rule
+      (term 117 "plus" (term 122 "s" (term 124 "X" [] ∷ []) ∷ term 127 "Y" [] ∷ []))
+      (term 133 "s" (term 135 "plus" (term 140 "X" [] ∷ term 142 "Y" [] ∷ []) ∷ []))
+      []
+      ∷ [];
+  terms =
+      term 151 "plus" (term 156 "s" (term 158 "s" (term 160 "z" [] ∷ []) ∷ []) ∷ term 164 "s" (term 166 "z" [] ∷ []) ∷ [])
+      ∷ [];
 }
 
 -- REC-SPEC Cond SORTS Nat CONS z : -> Nat s : Nat -> Nat OPNS f : Nat -> Nat g : Nat -> Nat VARS X : Nat RULES f(X) -> z if g(X) -><- z f(X) -> s(z) g(z) -> s(z) EVAL f(z) END-SPEC
-abbrev condition : Spec
-condition = record {
-  name = (w 9 (codes "Cond"));
-  sorts = ((w 20 (codes "Nat")) ∷ []);
-  constructors = ((record { name = (w 29 (codes "z")); arguments = ([]); sort = (w 36 (codes "Nat")) }) ∷ (record { name = (w 40 (codes "s")); arguments = ((w 44 (codes "Nat")) ∷ []); sort = (w 51 (codes "Nat")) }) ∷ []);
-  operators = ((record { name = (w 60 (codes "f")); arguments = ((w 64 (codes "Nat")) ∷ []); sort = (w 71 (codes "Nat")) }) ∷ (record { name = (w 75 (codes "g")); arguments = ((w 79 (codes "Nat")) ∷ []); sort = (w 86 (codes "Nat")) }) ∷ []);
-  variables = ((record { first = (w 95 (codes "X")); others = ([]); sort = (w 99 (codes "Nat")) }) ∷ []);
-  rules = ((record { left = (Apply (w 109 (codes "f")) (Terms.more (Apply (w 111 (codes "X")) Terms.none) Terms.none)); right = (Apply (w 117 (codes "z")) Terms.none); conditions = ((record { left = (Apply (w 122 (codes "g")) (Terms.more (Apply (w 124 (codes "X")) Terms.none) Terms.none)); right = (Apply (w 132 (codes "z")) Terms.none); equal = true }) ∷ []) }) ∷ (record { left = (Apply (w 134 (codes "f")) (Terms.more (Apply (w 136 (codes "X")) Terms.none) Terms.none)); right = (Apply (w 142 (codes "s")) (Terms.more (Apply (w 144 (codes "z")) Terms.none) Terms.none)); conditions = ([]) }) ∷ (record { left = (Apply (w 147 (codes "g")) (Terms.more (Apply (w 149 (codes "z")) Terms.none) Terms.none)); right = (Apply (w 155 (codes "s")) (Terms.more (Apply (w 157 (codes "z")) Terms.none) Terms.none)); conditions = ([]) }) ∷ []);
-  terms = ((Apply (w 165 (codes "f")) (Terms.more (Apply (w 167 (codes "z")) Terms.none) Terms.none)) ∷ []);
+abbrev conditional : Spec
+conditional = record {
+  name = w 9 "Cond";
+  sorts = w 20 "Nat" ∷ [];
+  constructors =
+      symbol (w 29 "z") [] (w 36 "Nat")
+      ∷ symbol (w 40 "s") (w 44 "Nat" ∷ []) (w 51 "Nat")
+      ∷ [];
+  operators =
+      symbol (w 60 "f") (w 64 "Nat" ∷ []) (w 71 "Nat")
+      ∷ symbol (w 75 "g") (w 79 "Nat" ∷ []) (w 86 "Nat")
+      ∷ [];
+  variables = group (w 95 "X") [] (w 99 "Nat") ∷ [];
+  rules =
+      rule
+      (term 109 "f" (term 111 "X" [] ∷ []))
+      (term 117 "z" [])
+      (condition (term 122 "g" (term 124 "X" [] ∷ [])) (term 132 "z" []) true ∷ [])
+      ∷ rule (term 134 "f" (term 136 "X" [] ∷ [])) (term 142 "s" (term 144 "z" [] ∷ [])) []
+      ∷ rule (term 147 "g" (term 149 "z" [] ∷ [])) (term 155 "s" (term 157 "z" [] ∷ [])) []
+      ∷ [];
+  terms = term 165 "f" (term 167 "z" [] ∷ []) ∷ [];
 }
 
 abbrev z : Tree
@@ -80,11 +100,11 @@ unfolding Eval
 no_budget = refl
 
 -- the condition of the first rule fails, after one step for the rule and one within the condition
-second_rule : fired condition 3 (Appl (codes "f") false (more z none) none) ≡ Some (s z)
+second_rule : fired conditional 3 (Appl (codes "f") false (more z none) none) ≡ Some (s z)
 unfolding Eval
 second_rule = refl
 
-second_rule_over : fired condition 2 (Appl (codes "f") false (more z none) none) ≡ None
+second_rule_over : fired conditional 2 (Appl (codes "f") false (more z none) none) ≡ None
 unfolding Eval
 second_rule_over = refl
 
@@ -99,16 +119,16 @@ no_steps e = let different : true ≡ false = ap (λ t. tree_eq t z) e in absurd
 no_conditions : Unconditional addition
 no_conditions = (refl, (refl, tt))
 
-a_condition : Unconditional condition → ⊥
+a_condition : Unconditional conditional → ⊥
 a_condition h = absurd (cc h.0)
 
-binds_a_variable : BindsVariables addition (record { name = codes "X"; value = z } ∷ []) (Apply (w 0 (codes "s")) (Terms.more (Apply (w 2 (codes "X")) Terms.none) Terms.none))
+binds_a_variable : BindsVariables addition (record { name = codes "X"; value = z } ∷ []) (term 0 "s" (term 2 "X" [] ∷ []))
 binds_a_variable = (refl, ((z, refl), tt))
 
-binds_no_variable : BindsVariables addition [] (Apply (w 0 (codes "s")) (Terms.more (Apply (w 2 (codes "X")) Terms.none) Terms.none)) → ⊥
+binds_no_variable : BindsVariables addition [] (term 0 "s" (term 2 "X" [] ∷ [])) → ⊥
 binds_no_variable h = absurd (cc h.1.0.1)
 
-binds_a_symbol : BindsVariables addition (record { name = codes "z"; value = z } ∷ []) (Apply (w 0 (codes "z")) Terms.none) → ⊥
+binds_a_symbol : BindsVariables addition (record { name = codes "z"; value = z } ∷ []) (term 0 "z" []) → ⊥
 binds_a_symbol h = absurd (cc h.0)
 
 nothing_is_part : (t : Substitution) → IsPartOf [] t
