@@ -2,60 +2,13 @@
 use Rattle.std.proofs.Common.{refl, ap, subst, arith, ◌-◌}
 use Rattle.std.specs.Prelude.{ℕ, suc, List, [], ◌∷◌, codes, ◌≡◌, true, false, Some, None}
 use Rattle.rec_syntax.specs.Syntax.{Term, Spec}
-use Rattle.rec_syntax.proofs.RowWords.{w, symbol, group, term, condition, rule}
+use Rattle.rec_syntax.proofs.RowWords.{term}
+use Rattle.rec_syntax.proofs.SpecRows.{add, conditional}
 use Rattle.rx_term.specs.Tree.{Tree, Appl, none, more, tree_eq}
 use Rattle.rec_sorts.specs.SpecRules.{fault}
 use Rattle.rec_sorts.specs.Binding.{Substitution, tree_of}
 use Rattle.rec_sorts.specs.Evaluation.{Done, Over, Eval}
 use Rattle.rec_sorts.specs.Laws.{CostLaw, RewritingLaw, fired, step, Steps, Unconditional, BindsVariables, IsPartOf, IsBuilt}
-
--- REC-SPEC Add SORTS Nat CONS z : -> Nat s : Nat -> Nat OPNS plus : Nat Nat -> Nat VARS X Y : Nat RULES plus(z,Y) -> Y plus(s(X),Y) -> s(plus(X,Y)) EVAL plus(s(s(z)),s(z)) END-SPEC
-abbrev addition : Spec
-addition = record {
-  name = w 9 "Add";
-  sorts = w 19 "Nat" ∷ [];
-  constructors =
-      symbol (w 28 "z") [] (w 35 "Nat")
-      ∷ symbol (w 39 "s") (w 43 "Nat" ∷ []) (w 50 "Nat")
-      ∷ [];
-  operators = symbol (w 59 "plus") (w 66 "Nat" ∷ w 70 "Nat" ∷ []) (w 77 "Nat") ∷ [];
-  variables = group (w 86 "X") (w 88 "Y" ∷ []) (w 92 "Nat") ∷ [];
-  rules =
-      rule (term 102 "plus" (term 107 "z" [] ∷ term 109 "Y" [] ∷ [])) (term 115 "Y" []) []
-      ∷ rule
-      (term 117 "plus" (term 122 "s" (term 124 "X" [] ∷ []) ∷ term 127 "Y" [] ∷ []))
-      (term 133 "s" (term 135 "plus" (term 140 "X" [] ∷ term 142 "Y" [] ∷ []) ∷ []))
-      []
-      ∷ [];
-  terms =
-      term 151 "plus" (term 156 "s" (term 158 "s" (term 160 "z" [] ∷ []) ∷ []) ∷ term 164 "s" (term 166 "z" [] ∷ []) ∷ [])
-      ∷ [];
-}
-
--- REC-SPEC Cond SORTS Nat CONS z : -> Nat s : Nat -> Nat OPNS f : Nat -> Nat g : Nat -> Nat VARS X : Nat RULES f(X) -> z if g(X) -><- z f(X) -> s(z) g(z) -> s(z) EVAL f(z) END-SPEC
-abbrev conditional : Spec
-conditional = record {
-  name = w 9 "Cond";
-  sorts = w 20 "Nat" ∷ [];
-  constructors =
-      symbol (w 29 "z") [] (w 36 "Nat")
-      ∷ symbol (w 40 "s") (w 44 "Nat" ∷ []) (w 51 "Nat")
-      ∷ [];
-  operators =
-      symbol (w 60 "f") (w 64 "Nat" ∷ []) (w 71 "Nat")
-      ∷ symbol (w 75 "g") (w 79 "Nat" ∷ []) (w 86 "Nat")
-      ∷ [];
-  variables = group (w 95 "X") [] (w 99 "Nat") ∷ [];
-  rules =
-      rule
-      (term 109 "f" (term 111 "X" [] ∷ []))
-      (term 117 "z" [])
-      (condition (term 122 "g" (term 124 "X" [] ∷ [])) (term 132 "z" []) true ∷ [])
-      ∷ rule (term 134 "f" (term 136 "X" [] ∷ [])) (term 142 "s" (term 144 "z" [] ∷ [])) []
-      ∷ rule (term 147 "g" (term 149 "z" [] ∷ [])) (term 155 "s" (term 157 "z" [] ∷ [])) []
-      ∷ [];
-  terms = term 165 "f" (term 167 "z" [] ∷ []) ∷ [];
-}
 
 abbrev z : Tree
 z = Appl (codes "z") false none none
@@ -67,35 +20,35 @@ abbrev plus : Tree → Tree → Tree
 plus t u = Appl (codes "plus") false (more t (more u none)) none
 
 -- of two arguments that can be rewritten the left one is
-left_argument_first : step addition 1 (plus (plus z z) (plus z (s z))) ≡ Some (plus z (plus z (s z)))
+left_argument_first : step add 1 (plus (plus z z) (plus z (s z))) ≡ Some (plus z (plus z (s z)))
 unfolding Eval
 left_argument_first = refl
 
 -- an argument is rewritten before the head
-argument_before_head : step addition 1 (plus (s z) (plus z z)) ≡ Some (plus (s z) z)
+argument_before_head : step add 1 (plus (s z) (plus z z)) ≡ Some (plus (s z) z)
 unfolding Eval
 argument_before_head = refl
 
-right_argument : step addition 1 (plus z (plus z (s z))) ≡ Some (plus z (s z))
+right_argument : step add 1 (plus z (plus z (s z))) ≡ Some (plus z (s z))
 unfolding Eval
 right_argument = refl
 
 -- below a constructor too
-below_a_constructor : step addition 1 (s (s (plus z z))) ≡ Some (s (s z))
+below_a_constructor : step add 1 (s (s (plus z z))) ≡ Some (s (s z))
 unfolding Eval
 below_a_constructor = refl
 
 -- annotations stay
-annotations_stay : step addition 1 (Appl (codes "s") false (more (plus z z) none) (more z none)) ≡ Some (Appl (codes "s") false (more z none) (more z none))
+annotations_stay : step add 1 (Appl (codes "s") false (more (plus z z) none) (more z none)) ≡ Some (Appl (codes "s") false (more z none) (more z none))
 unfolding Eval
 annotations_stay = refl
 
-no_step : step addition 1 (s (s z)) ≡ None
+no_step : step add 1 (s (s z)) ≡ None
 unfolding Eval
 no_step = refl
 
 -- a rule that fires spends a step
-no_budget : step addition 0 (plus z z) ≡ None
+no_budget : step add 0 (plus z z) ≡ None
 unfolding Eval
 no_budget = refl
 
@@ -108,27 +61,27 @@ second_rule_over : fired conditional 2 (Appl (codes "f") false (more z none) non
 unfolding Eval
 second_rule_over = refl
 
-three_steps : Steps addition 1 3 (plus (s (s z)) (s z)) (s (s (s z)))
+three_steps : Steps add 1 3 (plus (s (s z)) (s z)) (s (s (s z)))
 unfolding Eval
 three_steps = (s (plus (s z) (s z)), refl, (s (s (plus z (s z))), refl, (s (s (s z)), refl, refl)))
 
 -- without a step nothing changes
-no_steps : Steps addition 1 0 z (s z) → ⊥
+no_steps : Steps add 1 0 z (s z) → ⊥
 no_steps e = let different : true ≡ false = ap (λ t. tree_eq t z) e in absurd (cc different)
 
-no_conditions : Unconditional addition
+no_conditions : Unconditional add
 no_conditions = (refl, (refl, tt))
 
 a_condition : Unconditional conditional → ⊥
 a_condition h = absurd (cc h.0)
 
-binds_a_variable : BindsVariables addition (record { name = codes "X"; value = z } ∷ []) (term 0 "s" (term 2 "X" [] ∷ []))
+binds_a_variable : BindsVariables add (record { name = codes "X"; value = z } ∷ []) (term 0 "s" (term 2 "X" [] ∷ []))
 binds_a_variable = (refl, ((z, refl), tt))
 
-binds_no_variable : BindsVariables addition [] (term 0 "s" (term 2 "X" [] ∷ [])) → ⊥
+binds_no_variable : BindsVariables add [] (term 0 "s" (term 2 "X" [] ∷ [])) → ⊥
 binds_no_variable h = absurd (cc h.1.0.1)
 
-binds_a_symbol : BindsVariables addition (record { name = codes "z"; value = z } ∷ []) (term 0 "z" []) → ⊥
+binds_a_symbol : BindsVariables add (record { name = codes "z"; value = z } ∷ []) (term 0 "z" []) → ⊥
 binds_a_symbol h = absurd (cc h.0)
 
 nothing_is_part : (t : Substitution) → IsPartOf [] t
@@ -137,19 +90,19 @@ nothing_is_part t name v e = absurd (cc e)
 not_part_of_nothing : IsPartOf (record { name = codes "X"; value = z } ∷ []) [] → ⊥
 not_part_of_nothing h = absurd (cc (h (codes "X") z refl))
 
-built_of_constructors : IsBuilt addition (s z)
+built_of_constructors : IsBuilt add (s z)
 built_of_constructors = (refl, refl, refl, ((refl, refl, refl, tt), tt))
 
-not_of_operators : IsBuilt addition (plus z z) → ⊥
+not_of_operators : IsBuilt add (plus z z) → ⊥
 not_of_operators h = absurd (cc h.0)
 
-not_of_operators_below : IsBuilt addition (s (plus z z)) → ⊥
+not_of_operators_below : IsBuilt add (s (plus z z)) → ⊥
 not_of_operators_below h = absurd (cc h.3.0.0)
 
-not_quoted : IsBuilt addition (Appl (codes "z") true none none) → ⊥
+not_quoted : IsBuilt add (Appl (codes "z") true none none) → ⊥
 not_quoted h = absurd (cc h.1)
 
-not_annotated : IsBuilt addition (Appl (codes "z") false none (more z none)) → ⊥
+not_annotated : IsBuilt add (Appl (codes "z") false none (more z none)) → ⊥
 not_annotated h = absurd (cc h.2)
 
 -- a budget of the cost is enough, and one less is not
