@@ -26,10 +26,10 @@ use Rattle.rec_engine.specs.declared.cells.EngineFault.TheVariants as engine
 use Rattle.rec_engine.specs.declared.engine.Outcome.{Outcome}
 use Rattle.rec_engine.specs.declared.engine.Outcome.TheVariants.{Value, Limit}
 use Rattle.rec_run.specs.EvaluatedLines.{FillsBank, ProtectsTerms, due_before, outcome_text, raised_after}
-use Rattle.rec_run.specs.GivenTerms.{HoldsTerms, ReportsAfter, StopsAfter, given_at, given_text, item_at}
+use Rattle.rec_run.specs.GivenTerms.{HoldsTerms, given_at, given_text, item_at}
 use Rattle.rec_run.specs.Output.{steps_text}
 use Rattle.rec_run.specs.Reading.{line_text, shown, term_at, text_at}
-use Rattle.rec_run.specs.Run.{Reports, RoomFits, Stops}
+use Rattle.rec_run.specs.Run.{Reports, ReportsAfter, RoomFits, Stops, StopsAfter}
 use Rattle.rec_run.specs.declared.ending.RunFault.{RunFault}
 use Rattle.rec_run.specs.declared.ending.RunFault.TheVariants as run
 use Rattle.rec_run.specs.declared.spec.lines.LineFault.{LineFault}

@@ -7,8 +7,7 @@ use Rattle.std.proofs.lemmas.List.Concat.{flat_map-append}
 use Rattle.std.specs.Io.KnownBytes.{Appends}
 use Rattle.rx_text.specs.Written.{AppendsFront, IsFront}
 use Rattle.rec_run.specs.Bytes.{newlines}
-use Rattle.rec_run.specs.GivenTerms.{ReportsAfter, StopsAfter}
-use Rattle.rec_run.specs.Run.{Stops, Reports}
+use Rattle.rec_run.specs.Run.{Reports, ReportsAfter, Stops, StopsAfter}
 use Rattle.rec_run.specs.declared.ending.RunFault.{RunFault}
 use Rattle.rec_run.specs.declared.ending.RunFault.TheVariants as fault
 use Rattle.rx_text.proofs.AppendingLemmas.{appends_both}
@@ -34,7 +33,7 @@ newlines-lines_of f (x ∷ items) none =
     omega (arith, both, line, one, text, others)
 
 -- a front of a text without line ends has none
-newlines-front : (front rest : List ℕ) → newlines (front ++ rest) ≡ 0 → newlines front ≡ 0
+pub newlines-front : (front rest : List ℕ) → newlines (front ++ rest) ≡ 0 → newlines front ≡ 0
 newlines-front front rest h = let e = newlines-append front rest in omega (arith, e, h)
 
 -- the lines up to an item, and its own

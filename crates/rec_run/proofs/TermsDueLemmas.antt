@@ -1,5 +1,5 @@
 -- From what was read of a term's text to what is due.
-use Rattle.std.proofs.Common.{◌≡◌, ◌≢◌, ℕ, suc, ◌+◌, ◌≤◌, List, [], ◌∷◌, ◌++◌, Option, Some, None, IfSome, IsSome, is_some, length, take, take_all, refl, sym, ap, subst, ◌∙◌, arith}
+use Rattle.std.proofs.Common.{◌≡◌, ◌≢◌, ℕ, suc, ◌+◌, ◌≤◌, List, [], ◌∷◌, ◌++◌, Option, Some, None, IfSome, IsSome, is_some, take, refl, sym, ap, subst, ◌∙◌, arith}
 use Rattle.std.specs.Prelude.{All}
 use Rattle.std.specs.Option.{option_map_or}
 use Rattle.std.proofs.lemmas.Bool.Decides.{nat_tests}
@@ -19,12 +19,7 @@ use Rattle.rec_run.specs.declared.refusal.Reading.{Reading}
 use Rattle.rec_run.specs.declared.refusal.Reading.TheVariants.{Refused, Good}
 use Rattle.rec_run.specs.declared.refusal.Refusal.{Refusal}
 use Rattle.rec_run.specs.declared.streams.TheConstants.{LIMIT}
-use Rattle.rec_run.proofs.LineEndLemmas.{newlines-append}
-use Rattle.rec_run.proofs.WholeRunLemmas.{same_refusal}
-
--- a front within the limit is the whole text
-short_front : (bytes : List ℕ) → length (take (LIMIT + 1) bytes) ≤ LIMIT → take (LIMIT + 1) bytes ≡ bytes
-short_front bytes h = take_all (LIMIT + 1) bytes (let e = length-take (LIMIT + 1) bytes in omega (arith, e, h))
+use Rattle.rec_run.proofs.WholeRunLemmas.{same_refusal, short_front}
 
 -- one byte past the limit is enough for the verdict
 verdict_front : (bytes : List ℕ) (v : Verdict) → IsVerdict (take (LIMIT + 1) bytes) v → IsVerdict bytes v
@@ -64,17 +59,14 @@ same_verdict bytes v w h k = let one = one_verdict bytes in one.2 v h ∙ sym (o
 pub one_due_of : (lines : Tree → List ℕ) (bytes : List ℕ) (d e : Due) → IsDueOf lines bytes d → IsDueOf lines bytes e → d ≡ e
 one_due_of lines bytes d e (v, h, is) (w, k, same) = is ∙ ap (due_of lines) (same_verdict bytes v w h k) ∙ sym same
 
--- a front of a text without line ends has none
-pub no_ends_front : (front rest : List ℕ) → newlines (front ++ rest) ≡ 0 → newlines front ≡ 0
-no_ends_front front rest h = let e = newlines-append front rest in omega (arith, e, h)
-
 -- a byte that is no line end adds none
 other_byte : (b : ℕ) (bs : List ℕ) → b ≢ 10 → newlines bs ≡ 0 → newlines (b ∷ bs) ≡ 0
 other_byte b bs h k = grind (arith, nat_tests, h, k)
 
-pub no_ends : (bs : List ℕ) → All (λ b. (b ≢ 10) × (b ≢ 9)) bs → newlines bs ≡ 0
-no_ends [] h = refl
-no_ends (b ∷ bs) h = other_byte b bs (h 0 0 (omega arith)).0 (no_ends bs (λ k d lt. h (suc k) d (omega arith)))
+-- a text that stays in its line has none
+pub in_line-newlines : (bs : List ℕ) → All (λ b. (b ≢ 10) × (b ≢ 9)) bs → newlines bs ≡ 0
+in_line-newlines [] h = refl
+in_line-newlines (b ∷ bs) h = other_byte b bs (h 0 0 (omega arith)).0 (in_line-newlines bs (λ k d lt. h (suc k) d (omega arith)))
 
 -- the lines of a term whose parts are counted
 pub share_lines-at : (w v : Store) (t : Term) (n : ℕ) → IsSome (tree_at w t) → tree_at v t ≡ tree_at w t → IfSome (tree_at w t) (λ u. n ≡ part_count u) → share_lines_at w t ≡ line_at v t ++ cells_line n

@@ -3,9 +3,8 @@
 --     HoldsTerms y w r           they keep the rules
 --     run_due counted n r        what is due for what the texts came to
 --     given_text y counted n u   the line of a given term without the line end
-use Rattle.std.specs.Prelude.{ℕ, ◌+◌, ◌≡◌, Bool, List, [], ◌++◌, Option, Some, None, Result, Ok, Err, codes, flat_map, unwrap_or}
+use Rattle.std.specs.Prelude.{ℕ, ◌≡◌, Bool, List, [], ◌++◌, Option, Some, None, Result, Ok, Err, codes, flat_map, unwrap_or}
 use Rattle.std.specs.Option.{ForSome}
-use Rattle.std.specs.Io.KnownBytes.{Appends}
 use Rattle.rx_term.specs.Tree.{Tree, Trees, none, annotations, from_list, list_of}
 use Rattle.rx_term.specs.Store.{Store, tree_at}
 use Rattle.rx_term.specs.declared.Term.{Term as Reference}
@@ -18,8 +17,6 @@ use Rattle.rec_sorts.specs.TermRules.{broken_by_elements, elements}
 use Rattle.rec_sorts.specs.Evaluation.{Eval, term_of}
 use Rattle.rec_sorts.specs.declared.fault.TermsFault.{TermsFault}
 use Rattle.rec_sorts.specs.declared.fault.TermsFault.TheVariants as rule
-use Rattle.rx_text.specs.Written.{IsFront}
-use Rattle.rec_run.specs.Bytes.{newlines}
 use Rattle.rec_run.specs.Output.{Due, IsDueAfter, done, lines}
 use Rattle.rec_run.specs.Reading.{shown}
 use Rattle.rec_run.specs.Refusals.{reading_due}
@@ -100,17 +97,3 @@ given_text y counted n u = shown (annotations u) counted n (Eval y n [] (term_of
 -- the lines of given terms
 abbrev pub given_lines : syntax.Spec → Bool → ℕ → List Tree → List ℕ
 given_lines y counted n ts = flat_map (λ u. given_text y counted n u ++ codes "\n") ts
-
--- what a fault tells of what was written before it, where other lines were written first
-abbrev pub ReportsAfter : ℕ → RunFault → List ℕ → Type 0
-ReportsAfter first (fault.Memory lines) written = lines ≡ first + newlines written
-ReportsAfter first (fault.Room lines) written = lines ≡ first + newlines written
-ReportsAfter first fault.Read written = ⊥
-ReportsAfter first fault.Write written = Unit {0}
-
--- what was written after the first lines is a front of a text, and is as the fault tells
-pub record StopsAfter (first : ℕ) (stop : RunFault) (text : List ℕ) (old new : Option (List ℕ)) : Type 0 where
-  pub written : List ℕ
-  pub appended : Appends old new written
-  pub front : IsFront written text
-  pub reported : ReportsAfter first stop written

@@ -5,7 +5,7 @@
 --     RoomFits cap fault                      want of cells comes with a full bank
 --     both_texts spec terms                   a specification and terms, where their readers tell them
 --     IsReadOut old new                       an input was read to its end, or to one byte behind the most that a text may have
-use Rattle.std.specs.Prelude.{◌≡◌, ◌⊎◌, ℕ, List, [], Bool, Option, Some, None, IfSome, drop, option_map}
+use Rattle.std.specs.Prelude.{◌≡◌, ◌+◌, ◌⊎◌, ℕ, List, [], Bool, Option, Some, None, IfSome, drop, option_map}
 use Rattle.std.proofs.Common.{inl, inr}
 use Rattle.std.specs.Borrow.{MutBor}
 use Rattle.std.specs.Io.KnownBytes.{Appends}
@@ -45,6 +45,19 @@ pub record Stops (fault : RunFault) (text : List ℕ) (old new : Option (List �
   pub appended : Appends old new written
   pub front : IsFront written text
   pub reported : Reports fault written
+
+-- the same where so many lines were written first
+abbrev pub ReportsAfter : ℕ → RunFault → List ℕ → Type 0
+ReportsAfter first (Memory lines) written = lines ≡ first + newlines written
+ReportsAfter first (Room lines) written = lines ≡ first + newlines written
+ReportsAfter first Read written = ⊥
+ReportsAfter first Write written = Unit {0}
+
+pub record StopsAfter (first : ℕ) (fault : RunFault) (text : List ℕ) (old new : Option (List ℕ)) : Type 0 where
+  pub written : List ℕ
+  pub appended : Appends old new written
+  pub front : IsFront written text
+  pub reported : ReportsAfter first fault written
 
 -- a run that stopped at a fault: what was written is a front of whatever is due
 abbrev pub Breaks : (Due → Type 0) → RunFault → Option (List ℕ) → Option (List ℕ) → Type 0

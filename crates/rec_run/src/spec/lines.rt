@@ -10,7 +10,6 @@ ghost use Rattle.rx_text.specs.Written.{AppendsFront};
 ghost use Rattle.rec_engine.specs.Engine.{IsGiven, SameEngine};
 ghost use Rattle.rec_run.specs.GivenTerms.{
   HoldsTerms,
-  StopsAfter,
   given_at,
   given_by,
   given_lines,
@@ -19,7 +18,7 @@ ghost use Rattle.rec_run.specs.GivenTerms.{
 };
 ghost use Rattle.rec_run.specs.Output.{lines};
 ghost use Rattle.rec_run.specs.Reading.{text_at};
-ghost use Rattle.rec_run.specs.Run.{RoomFits, Stops};
+ghost use Rattle.rec_run.specs.Run.{RoomFits, Stops, StopsAfter};
 ghost use Rattle.rec_run.specs.EvaluatedLines.{
   FillsBank,
   HoldsValue,

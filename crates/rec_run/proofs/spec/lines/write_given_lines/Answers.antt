@@ -10,7 +10,8 @@ use Rattle.rx_term.proofs.KeepLemmas.{Keeps-trans}
 use Rattle.rx_text.specs.Written.{AppendsFront}
 use Rattle.rec_engine.specs.Engine.{IsGround}
 use Rattle.rec_run.specs.EvaluatedLines.{due_before, raised_after}
-use Rattle.rec_run.specs.GivenTerms.{StopsAfter, given_at, given_text, item_at}
+use Rattle.rec_run.specs.Run.{StopsAfter}
+use Rattle.rec_run.specs.GivenTerms.{given_at, given_text, item_at}
 use Rattle.rec_run.proofs.EvaluatedLemmas.{front-line, held_no_ends, lines_stopped_after, raised_at, room_fits, same_engine_both}
 use Rattle.rec_run.proofs.GivenListLemmas.{fewer_items, front_there, kept_later, no_front}
 use Rattle.rec_run.proofs.LineFrontLemmas.{lines_of, lines_of-more}
