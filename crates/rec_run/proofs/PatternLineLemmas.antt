@@ -27,16 +27,16 @@ use Rattle.rec_run.proofs.LineFrontLemmas.{front_in_line, newlines-front, stops_
 use Rattle.rec_run.proofs.TermsDueLemmas.{in_line-newlines}
 
 -- their lines are those of the trees
-pub lines_at : (w : Store) (rs : List Term) (ts : List Tree) → HaveTrees w rs ts → flat_map (line_at w) rs ≡ flat_map term_line ts
-lines_at w [] [] h = refl
-lines_at w [] (t ∷ ts) h = absurd h
-lines_at w (r ∷ rs) [] h = absurd h
-lines_at w (r ∷ rs) (t ∷ ts) (e, h) = rw (e, lines_at w rs ts h) refl
+pub lines-trees : (w : Store) (rs : List Term) (ts : List Tree) → HaveTrees w rs ts → flat_map (line_at w) rs ≡ flat_map term_line ts
+lines-trees w [] [] h = refl
+lines-trees w [] (t ∷ ts) h = absurd h
+lines-trees w (r ∷ rs) [] h = absurd h
+lines-trees w (r ∷ rs) (t ∷ ts) (e, h) = rw (e, lines-trees w rs ts h) refl
 
 -- what is due of a match
 pub yes_due : (w : Store) (o : Option (List Tree)) (rs : List Term) → Binds w o rs true → done (codes "yes\n" ++ flat_map (line_at w) rs) ≡ done (match_lines o)
 yes_due w None rs h = absurd h
-yes_due w (Some bs) rs h = ap (λ text. done (codes "yes\n" ++ text)) (lines_at w rs bs h)
+yes_due w (Some bs) rs h = ap (λ text. done (codes "yes\n" ++ text)) (lines-trees w rs bs h)
 
 pub no_due : (w : Store) (o : Option (List Tree)) (rs : List Term) → Binds w o rs false → done (codes "no\n") ≡ done (match_lines o)
 no_due w None rs h = refl

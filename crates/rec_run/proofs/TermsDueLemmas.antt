@@ -13,7 +13,7 @@ use Rattle.rx_text.proofs.VerdictLemmas.{one_verdict}
 use Rattle.rec_run.specs.Bytes.{newlines}
 use Rattle.rec_run.specs.Output.{Due, done}
 use Rattle.rec_run.specs.Refusals.{refusal_due, refused_text}
-use Rattle.rec_run.specs.TermRuns.{IsDueOf, IsGiven, IsReadingOf, IsTermHeld, cells_line, due_at, due_of, line_at, share_lines_at, term_line}
+use Rattle.rec_run.specs.TermRuns.{IsDueOf, IsGiven, IsReadingOf, IsTermHeld, cells_line, due_at, due_of, line_at, lines_at, share_lines, term_line}
 use Rattle.rec_run.specs.declared.ending.Source.TheVariants as source
 use Rattle.rec_run.specs.declared.refusal.Reading.{Reading}
 use Rattle.rec_run.specs.declared.refusal.Reading.TheVariants.{Refused, Good}
@@ -69,9 +69,9 @@ in_line-newlines [] h = refl
 in_line-newlines (b ∷ bs) h = other_byte b bs (h 0 0 (omega arith)).0 (in_line-newlines bs (λ k d lt. h (suc k) d (omega arith)))
 
 -- the lines of a term whose parts are counted
-pub share_lines-at : (w v : Store) (t : Term) (n : ℕ) → IsSome (tree_at w t) → tree_at v t ≡ tree_at w t → IfSome (tree_at w t) (λ u. n ≡ part_count u) → share_lines_at w t ≡ line_at v t ++ cells_line n
+pub share_lines-at : (w v : Store) (t : Term) (n : ℕ) → IsSome (tree_at w t) → tree_at v t ≡ tree_at w t → IfSome (tree_at w t) (λ u. n ≡ part_count u) → lines_at share_lines w t ≡ line_at v t ++ cells_line n
 share_lines-at w v t n held same counted = by (tree_at w t) refl held counted
   where
-    by : (o : Option Tree) → tree_at w t ≡ o → IsSome o → IfSome o (λ u. n ≡ part_count u) → share_lines_at w t ≡ line_at v t ++ cells_line n
+    by : (o : Option Tree) → tree_at w t ≡ o → IsSome o → IfSome o (λ u. n ≡ part_count u) → lines_at share_lines w t ≡ line_at v t ++ cells_line n
     by None e h c = absurd (cc h)
     by (Some u) e h c = rw (same, e) (ap (λ k. term_line u ++ cells_line k) (sym c))
