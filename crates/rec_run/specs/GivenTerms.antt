@@ -3,7 +3,7 @@
 --     HoldsTerms y w r           they keep the rules
 --     run_due counted n r        what is due for what the texts came to
 --     given_text y counted n u   the line of a given term without the line end
-use Rattle.std.specs.Prelude.{ℕ, ◌≡◌, Bool, List, [], ◌++◌, Option, Some, None, Result, Ok, Err, codes, flat_map, unwrap_or}
+use Rattle.std.specs.Prelude.{ℕ, ◌≡◌, Bool, List, [], ◌++◌, Option, Some, None, IfSome, Result, Ok, Err, codes, flat_map, unwrap_or}
 use Rattle.std.specs.Option.{ForSome}
 use Rattle.rx_term.specs.Tree.{Tree, Trees, none, annotations, from_list, list_of}
 use Rattle.rx_term.specs.Store.{Store, tree_at}
@@ -64,6 +64,13 @@ run_due counted n r = reading_due (λ job. done (job_lines counted n job)) r
 abbrev pub IsRefusal : Verdict → Type 0
 IsRefusal (verdict.Good y) = ⊥
 IsRefusal v = Unit {0}
+
+-- a fact where the text of a specification is good, and one where it is refused, if its reader tells it
+abbrev pub OnGoodSpec : Option (List ℕ) → Type 0 → Type 0
+OnGoodSpec text P = IfSome text (λ bytes. (y : syntax.Spec) → verdict.SpecVerdict bytes (verdict.Good y) → P)
+
+abbrev pub OnRefusedSpec : Option (List ℕ) → Type 0 → Type 0
+OnRefusedSpec text P = IfSome text (λ bytes. (v : Verdict) → verdict.SpecVerdict bytes v → IsRefusal v → P)
 
 -- after this verdict on the specification, what both texts came to says what is due for this text of terms
 abbrev pub IsReadAs : Verdict → List ℕ → Reading Job → Type 0
