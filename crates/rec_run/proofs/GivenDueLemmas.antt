@@ -40,15 +40,15 @@ terms_front y bytes (Outside at) h = subst (λ text. IsTermsVerdict y text (Outs
 terms_front y bytes (BreaksTerms number) h = subst (λ text. IsTermsVerdict y text (BreaksTerms number)) (short_front bytes h.0) h
 terms_front y bytes (GoodTerms us) h = subst (λ text. IsTermsVerdict y text (GoodTerms us)) (short_front bytes h.0) h
 
-read_front : (told : Option (List ℕ)) (text : List ℕ) (y : Spec) (r : Reading Job) → IfSome told (λ bytes. text ≡ take (LIMIT + 1) bytes) → IsReadFor y text r → IfSome told (λ bytes. IsReadFor y bytes r)
+read_front : (known : Option (List ℕ)) (text : List ℕ) (y : Spec) (r : Reading Job) → IfSome known (λ bytes. text ≡ take (LIMIT + 1) bytes) → IsReadFor y text r → IfSome known (λ bytes. IsReadFor y bytes r)
 read_front None text y r e h = tt
 read_front (Some bytes) text y r e h = λ counted n. let k = h counted n in (k.0, terms_front y bytes k.0 (subst (λ t. IsTermsVerdict y t k.0) e k.1), k.2)
 
 -- what was read of a text of terms says what is due for it
-pub read_due : (result : Result (Reading Job) RunFault) (told : Option (List ℕ)) (text given : List ℕ) (y : Spec) → IfSome told (λ bytes. text ≡ take (LIMIT + 1) bytes) → given ≡ text → IfOk result (λ r. IsReadFor y given r)
-    → IfOk result (λ r. IfSome told (λ bytes. IsReadFor y bytes r))
-read_due (Err e) told text given y h same k = tt
-read_due (Ok r) told text given y h same k = read_front told text y r h (subst (λ t. IsReadFor y t r) same k)
+pub read_due : (result : Result (Reading Job) RunFault) (known : Option (List ℕ)) (text given : List ℕ) (y : Spec) → IfSome known (λ bytes. text ≡ take (LIMIT + 1) bytes) → given ≡ text → IfOk result (λ r. IsReadFor y given r)
+    → IfOk result (λ r. IfSome known (λ bytes. IsReadFor y bytes r))
+read_due (Err e) known text given y h same k = tt
+read_due (Ok r) known text given y h same k = read_front known text y r h (subst (λ t. IsReadFor y t r) same k)
 
 -- a text of terms that is no term's
 pub no_term : (y : Spec) (bytes : List ℕ) (r : Refusal) (v : text.Verdict) → refused_text source.Terms v ≡ Some r → IsVerdict bytes v → IsReadFor y bytes (RefusedRun r)

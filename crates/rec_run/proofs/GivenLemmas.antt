@@ -16,7 +16,7 @@ use Rattle.rec_sorts.specs.TermRules.{elements, first_passed, broken_by_elements
 use Rattle.rec_run.specs.Bytes.{newlines}
 use Rattle.rec_run.specs.GivenTerms.{HoldsTerms, given_at, notes_text}
 use Rattle.rec_run.proofs.LineEndLemmas.{newlines-append}
-use Rattle.rec_run.proofs.TermsDueLemmas as due
+use Rattle.rec_run.proofs.TermDueLemmas as due
 
 either_false : (a b : Bool) → a || b ≡ false → (a ≡ false) × (b ≡ false)
 either_false true b e = absurd (cc e)

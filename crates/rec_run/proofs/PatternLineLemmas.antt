@@ -24,7 +24,7 @@ use Rattle.rec_run.specs.declared.ending.RunFault.TheVariants as fault
 use Rattle.rx_text.proofs.AppendingLemmas.{appends_both, appends_same, front_after}
 use Rattle.rec_run.proofs.LineEndLemmas.{newlines-append}
 use Rattle.rec_run.proofs.LineFrontLemmas.{front_in_line, newlines-front, stops_before, stops_behind}
-use Rattle.rec_run.proofs.TermsDueLemmas.{in_line-newlines}
+use Rattle.rec_run.proofs.TermDueLemmas.{in_line-newlines}
 
 -- their lines are those of the trees
 pub lines-trees : (w : Store) (rs : List Term) (ts : List Tree) → HaveTrees w rs ts → flat_map (line_at w) rs ≡ flat_map term_line ts

@@ -18,7 +18,7 @@ use Rattle.rec_sorts.specs.Evaluation.{Eval, term_of}
 use Rattle.rec_sorts.specs.declared.fault.TermsFault.{TermsFault}
 use Rattle.rec_sorts.specs.declared.fault.TermsFault.TheVariants as rule
 use Rattle.rec_run.specs.Output.{Due, IsDueAfter, done, lines}
-use Rattle.rec_run.specs.Reading.{shown}
+use Rattle.rec_run.specs.Reading.{evaluation_text}
 use Rattle.rec_run.specs.Refusals.{reading_due}
 use Rattle.rec_run.specs.Run.{IsDueFor, Texts}
 use Rattle.rec_run.specs.declared.ending.RunFault.{RunFault}
@@ -99,7 +99,7 @@ notes_text notes = enclosed 123 notes (canon_all notes) 125 []
 
 -- the line of a given term without the line end
 abbrev pub given_text : syntax.Spec → Bool → ℕ → Tree → List ℕ
-given_text y counted n u = shown (annotations u) counted n (Eval y n [] (term_of u))
+given_text y counted n u = evaluation_text (annotations u) counted n (Eval y n [] (term_of u))
 
 -- the lines of given terms
 abbrev pub given_lines : syntax.Spec → Bool → ℕ → List Tree → List ℕ

@@ -65,13 +65,13 @@ Breaks IsDue fault old new = (d : Due) → IsDue d → Stops fault d.text old ne
 
 -- the same for the texts of a run, where its readers tell them
 abbrev pub EndsFor : {T : Type 0} → (T → Due → Type 0) → Option T → Finish → Option (List ℕ) → Option (List ℕ) → Type 0
-EndsFor IsDue texts finish old new = IfSome texts (λ told. Ends (IsDue told) finish old new)
+EndsFor IsDue texts finish old new = IfSome texts (λ known. Ends (IsDue known) finish old new)
 
 abbrev pub IsPlacedFor : {T : Type 0} → (T → Due → Type 0) → Option T → Option Place → Type 0
-IsPlacedFor IsDue texts place = IfSome texts (λ told. IsPlaced (IsDue told) place)
+IsPlacedFor IsDue texts place = IfSome texts (λ known. IsPlaced (IsDue known) place)
 
 abbrev pub BreaksFor : {T : Type 0} → (T → Due → Type 0) → Option T → RunFault → Option (List ℕ) → Option (List ℕ) → Type 0
-BreaksFor IsDue texts fault old new = IfSome texts (λ told. Breaks (IsDue told) fault old new)
+BreaksFor IsDue texts fault old new = IfSome texts (λ known. Breaks (IsDue known) fault old new)
 
 -- the texts of a run: the specification, and the terms where some are given
 pub record Texts : Type 0 where

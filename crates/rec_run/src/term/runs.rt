@@ -132,14 +132,14 @@ fn run_on_term<R: Read, W: Write>(
 {
     *place = None;
     let mut given = read_term(alloc, input)?;
-    write_reading(alloc, &mut given.bank, &given.reading, lines, out)?;
+    write_due(alloc, &mut given.bank, &given.reading, lines, out)?;
     flush(out)?;
     *place = given.reading.place();
     Ok(given.reading.finish())
 }
 
 /// Writes what is due for what a text came to.
-fn write_reading<B: TermBank, W: Write>(
+fn write_due<B: TermBank, W: Write>(
     alloc: Global,
     bank: &mut B,
     reading: &Reading<Term>,
@@ -157,13 +157,13 @@ fn write_reading<B: TermBank, W: Write>(
 {
     match reading {
         Reading::Refused(refusal) => write_refusal(*refusal, out)?,
-        Reading::Good(t) => write_lines(alloc, bank, *t, lines, out)?,
+        Reading::Good(t) => write_term_lines(alloc, bank, *t, lines, out)?,
     }
     Ok(())
 }
 
 /// Writes the lines of a term that are asked for.
-fn write_lines<B: TermBank, W: Write>(
+fn write_term_lines<B: TermBank, W: Write>(
     alloc: Global,
     bank: &mut B,
     t: Term,

@@ -5,7 +5,7 @@ use Rattle.rec_run.specs.TermRuns.{cells_line, line_at}
 use Rattle.rec_run.specs.declared.ending.RunFault.TheVariants.{Write}
 use Rattle.rec_run.proofs.LineFrontLemmas.{stops_before, stops_write}
 use Rattle.rec_run.proofs.PatternLineLemmas.{stops_first}
-use Rattle.rec_run.proofs.TermsDueLemmas.{share_lines-at}
+use Rattle.rec_run.proofs.TermDueLemmas.{share_lines-at}
 use Rattle.rx_text.proofs.AppendingLemmas.{appends_both, front_after}
 use Rattle.rec_run.proofs.ErrorLemmas.{if_err_at}
 use Rattle.rec_run.proofs.term.runs.write_counted.Goals as goal

@@ -4,7 +4,7 @@ use Rattle.rec_run.specs.Run.{Stops}
 use Rattle.rec_run.specs.TermRuns.{line_at, lines_at, lines_for}
 use Rattle.rec_run.specs.declared.term.runs.TermLines.{TermLines}
 use Rattle.rec_run.proofs.PatternLineLemmas.{stops_first}
-use Rattle.rec_run.proofs.term.runs.write_lines.Goals as goal
+use Rattle.rec_run.proofs.term.runs.write_term_lines.Goals as goal
 
 pub returns-in-Text-clause-err : goal.returns-in-Text-clause-err
 returns-in-Text-clause-err g c =

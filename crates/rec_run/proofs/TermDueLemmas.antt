@@ -28,7 +28,7 @@ verdict_front bytes (Outside at) h = subst (λ text. IsVerdict text (Outside at)
 verdict_front bytes (Spelt t) h = subst (λ text. IsVerdict text (Spelt t)) (short_front bytes h.0) h
 
 -- the verdict on what was read is that on the text
-pub verdict_given : (told : Option (List ℕ)) (text : List ℕ) (v : Verdict) → IfSome told (λ bytes. text ≡ take (LIMIT + 1) bytes) → IsVerdict text v → IfSome told (λ bytes. IsVerdict bytes v)
+pub verdict_given : (known : Option (List ℕ)) (text : List ℕ) (v : Verdict) → IfSome known (λ bytes. text ≡ take (LIMIT + 1) bytes) → IsVerdict text v → IfSome known (λ bytes. IsVerdict bytes v)
 verdict_given None text v e h = tt
 verdict_given (Some bytes) text v e h = verdict_front bytes v (subst (λ t. IsVerdict t v) e h)
 
