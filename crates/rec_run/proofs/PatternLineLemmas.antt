@@ -21,7 +21,7 @@ use Rattle.rec_run.specs.TermRuns.{line_at, term_line}
 use Rattle.rec_run.specs.PatternRuns.{match_lines}
 use Rattle.rec_run.specs.declared.ending.RunFault.{RunFault}
 use Rattle.rec_run.specs.declared.ending.RunFault.TheVariants as fault
-use Rattle.rx_text.proofs.AppendingLemmas.{appends_both, appends_same, front_after}
+use Rattle.rx_text.proofs.AppendingLemmas.{appends_both, appends_same, front_after, front_before}
 use Rattle.rec_run.proofs.LineEndLemmas.{newlines-append}
 use Rattle.rec_run.proofs.LineFrontLemmas.{front_in_line, newlines-front, stops_before, stops_behind}
 use Rattle.rec_run.proofs.TermDueLemmas.{in_line-newlines}
@@ -83,35 +83,33 @@ stops_memory_in lines u between new none (front, a, (rest, e)) =
       reported = omega (arith, no);
     }
 
-pub stops_memory : (w : Store) (t : Term) (lines : ℕ) (between new : Option (List ℕ)) → IsSound w → IsSome (tree_at w t) → IfSome (tree_at w t) (λ u. AppendsFront (canon u) between new) → StopsAfter lines (fault.Memory lines) (line_at w t) between new
-stops_memory w t lines between new sound held h = by (tree_at w t) refl held h
+-- what holds of the line of a reference that is held, by what holds of its tree
+line_held : (w : Store) (t : Term) (P : Tree → Type 0) (Q : List ℕ → Type 0) → IsSome (tree_at w t) → IfSome (tree_at w t) P → ((u : Tree) → tree_at w t ≡ Some u → P u → Q (term_line u)) → Q (line_at w t)
+line_held w t P Q held h so = by (tree_at w t) refl held h
   where
-    by : (o : Option Tree) → tree_at w t ≡ o → IsSome o → IfSome o (λ u. AppendsFront (canon u) between new) → StopsAfter lines (fault.Memory lines) (line_at w t) between new
-    by None e k f = absurd (cc k)
-    by (Some u) e k f = rw e (stops_memory_in lines u between new (in_line-newlines (canon u) (stays_in_line u (sound.valid t u e)).0) f)
+    by : (o : Option Tree) → tree_at w t ≡ o → IsSome o → IfSome o P → Q (line_at w t)
+    by None e k p = absurd (cc k)
+    by (Some u) e k p = rw e (so u e p)
+
+pub stops_memory : (w : Store) (t : Term) (lines : ℕ) (between new : Option (List ℕ)) → IsSound w → IsSome (tree_at w t) → IfSome (tree_at w t) (λ u. AppendsFront (canon u) between new) → StopsAfter lines (fault.Memory lines) (line_at w t) between new
+stops_memory w t lines between new sound held h =
+    line_held w t (λ u. AppendsFront (canon u) between new) (λ text. StopsAfter lines (fault.Memory lines) text between new) held h
+    (λ u e f. stops_memory_in lines u between new (in_line-newlines (canon u) (stays_in_line u (sound.valid t u e)).0) f)
 
 -- the writer refused the printed text, or the line end
 pub text_refused : (w : Store) (t : Term) (lines : ℕ) (between new : Option (List ℕ)) → IsSome (tree_at w t) → IfSome (tree_at w t) (λ u. AppendsFront (canon u) between new) → StopsAfter lines fault.Write (line_at w t) between new
-text_refused w t lines between new held h = by (tree_at w t) refl held h
-  where
-    by : (o : Option Tree) → tree_at w t ≡ o → IsSome o → IfSome o (λ u. AppendsFront (canon u) between new) → StopsAfter lines fault.Write (line_at w t) between new
-    by None e k f = absurd (cc k)
-    by (Some u) e k (front, a, (rest, s)) =
-        rw e (refused_within lines (term_line u) between new (front, a, (rest ++ codes "\n", front_in_line (canon u) front rest s)))
+text_refused w t lines between new held h =
+    line_held w t (λ u. AppendsFront (canon u) between new) (λ text. StopsAfter lines fault.Write text between new) held h
+    (λ u e f. refused_within lines (term_line u) between new (front_before between new (canon u) (codes "\n") f))
 
 pub end_refused : (w : Store) (t : Term) (lines : ℕ) (between mid new : Option (List ℕ)) → IsSome (tree_at w t) → IfSome (tree_at w t) (λ u. Appends between mid (canon u)) → AppendsFront (codes "\n") mid new → StopsAfter lines fault.Write (line_at w t) between new
-end_refused w t lines between mid new held h f = by (tree_at w t) refl held h
-  where
-    by : (o : Option Tree) → tree_at w t ≡ o → IsSome o → IfSome o (λ u. Appends between mid (canon u)) → StopsAfter lines fault.Write (line_at w t) between new
-    by None e k a = absurd (cc k)
-    by (Some u) e k a = rw e (refused_within lines (term_line u) between new (front_after between mid new (canon u) (codes "\n") a f))
+end_refused w t lines between mid new held h f =
+    line_held w t (λ u. Appends between mid (canon u)) (λ text. StopsAfter lines fault.Write text between new) held h
+    (λ u e a. refused_within lines (term_line u) between new (front_after between mid new (canon u) (codes "\n") a f))
 
 pub line_written : (w : Store) (t : Term) (old mid new : Option (List ℕ)) → IsSome (tree_at w t) → IfSome (tree_at w t) (λ u. Appends old mid (canon u)) → Appends mid new (codes "\n") → Appends old new (line_at w t)
-line_written w t old mid new held h k = by (tree_at w t) refl held h
-  where
-    by : (o : Option Tree) → tree_at w t ≡ o → IsSome o → IfSome o (λ u. Appends old mid (canon u)) → Appends old new (line_at w t)
-    by None e i a = absurd (cc i)
-    by (Some u) e i a = rw e (appends_both old mid new (canon u) (codes "\n") a k)
+line_written w t old mid new held h k =
+    line_held w t (λ u. Appends old mid (canon u)) (λ text. Appends old new text) held h (λ u e a. appends_both old mid new (canon u) (codes "\n") a k)
 
 -- a fault after no line
 pub stops_first : (f : RunFault) (text : List ℕ) (old new : Option (List ℕ)) → StopsAfter 0 f text old new → Stops f text old new
