@@ -5,6 +5,15 @@ pub mod EndLemmas
 pub mod BuildingLemmas
 pub mod MachineLemmas
 pub mod TurnLemmas
+pub mod TriedRuleLemmas
+pub mod RuleMoveLemmas
+pub mod BeginTurnLemmas
+pub mod FindTurnLemmas
+pub mod EndTurnLemmas
+pub mod InvokeTurnLemmas
+pub mod ReturnTurnLemmas
+pub mod EnterTurnLemmas
+pub mod CompareTurnLemmas
 pub mod RunLemmas
 pub mod JoinLemmas
 pub mod StayLemmas

@@ -6,10 +6,9 @@ ghost use Rattle.rx_term.specs.Store.{tree_at};
 ghost use Rattle.rx_term.specs.Steps.{Keeps};
 ghost use Rattle.rec_syntax.specs.Syntax as Syntax;
 ghost use Rattle.rx_term.specs.Walks.{AllHeld};
-ghost use Rattle.rec_engine.specs.Cells.{RoomOnly};
 ghost use Rattle.rec_engine.specs.Answered.{IsTermCode, IsAnswer, StandsAbove, HasNotes};
 ghost use Rattle.rec_engine.specs.Engine.{IsGiven, IsOutcome, IsKept};
-ghost use Rattle.rec_engine.specs.Turn.{IsReady, StaysFor};
+ghost use Rattle.rec_engine.specs.Turn.{IsReady, StaysFor, RoomOnlyIn};
 
 use crate::building::push;
 use crate::cells::{EngineFault, Node, make};
@@ -39,8 +38,7 @@ impl<B: TermBank> Machine<B> {
             → IsAnswer self.old.checked.spec (B.store self.new.bank) n u r) }
         ensures held { IfOk result (λ r. AllHeld (B.store self.new.bank) self.new.work.items) }
         ensures stands { IfOk result (StandsAbove self.new.work.items t) }
-        ensures room { RoomOnly (B.store self.new.bank) self.new.work.items
-            self.new.state.pace.memo result }
+        ensures room { RoomOnlyIn B.store self.new result }
     {
         self.work.clear();
         push(&mut self.work, t)?;
@@ -71,8 +69,7 @@ impl<B: TermBank> Machine<B> {
         ensures annotated { IfOk result
             (HasNotes (B.store self.old.bank) (B.store self.new.bank) t value) }
         ensures kept { IfOk result (Contains self.new.work.items) }
-        ensures room { RoomOnly (B.store self.new.bank) self.new.work.items
-            self.new.state.pace.memo result }
+        ensures room { RoomOnlyIn B.store self.new result }
     {
         let Some(anns) = self.bank.anns(t) else {
             return Ok(value);
@@ -100,8 +97,7 @@ impl<B: TermBank> Machine<B> {
         ensures outcome { IfOk result (λ o. (u : Tree) → tree_at (B.store self.old.bank) t ≡ Some u
             → IsOutcome self.old.checked.spec (B.store self.new.bank) n u o) }
         ensures kept { IfOk result (IsKept self.new.work.items) }
-        ensures room { RoomOnly (B.store self.new.bank) self.new.work.items
-            self.new.state.pace.memo result }
+        ensures room { RoomOnlyIn B.store self.new result }
     {
         let pc = self.code.ops.len();
         let stack = &mut self.state.pending;

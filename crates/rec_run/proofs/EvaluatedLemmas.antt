@@ -25,11 +25,11 @@ use Rattle.rec_engine.specs.Engine.{EngineState, IsGiven, IsOutcome, SameEngine,
 use Rattle.rec_engine.specs.declared.cells.EngineFault.TheVariants as engine
 use Rattle.rec_engine.specs.declared.engine.Outcome.{Outcome}
 use Rattle.rec_engine.specs.declared.engine.Outcome.TheVariants.{Value, Limit}
-use Rattle.rec_run.specs.EvaluatedLines.{FillsBank, ProtectsTerms, due_before, outcome_text, raised_after}
-use Rattle.rec_run.specs.GivenTerms.{HoldsTerms, ReportsAfter, StopsAfter, given_at, given_text, item_at}
+use Rattle.rec_run.specs.EvaluatedLines.{FillsBank, ProtectsTerms, due_before, outcome_text, fault_after}
+use Rattle.rec_run.specs.GivenTerms.{HoldsTerms, given_at, given_text, item_at}
 use Rattle.rec_run.specs.Output.{steps_text}
-use Rattle.rec_run.specs.Reading.{line_text, shown, term_at, text_at}
-use Rattle.rec_run.specs.Run.{Reports, RoomFits, Stops}
+use Rattle.rec_run.specs.Reading.{line_text, evaluation_text, term_at, text_at}
+use Rattle.rec_run.specs.Run.{Reports, ReportsAfter, RoomFits, Stops, StopsAfter}
 use Rattle.rec_run.specs.declared.ending.RunFault.{RunFault}
 use Rattle.rec_run.specs.declared.ending.RunFault.TheVariants as run
 use Rattle.rec_run.specs.declared.spec.lines.LineFault.{LineFault}
@@ -47,8 +47,8 @@ pub outcome_text-line : (y : Spec) (w : Store) (counted : Bool) (n : ℕ) (u : T
 outcome_text-line y w counted n u (Value r steps) h =
     let spent = h.spent in
     let back : steps ≡ n - h.left = omega (arith, spent) in
-    ap₂ (λ t k. canon t ++ steps_text counted k) (ap (λ o. unwrap_or o (list_of none)) h.there) back ∙ ap (shown (annotations u) counted n) (sym h.evaluated)
-outcome_text-line y w counted n u Limit h = ap (shown (annotations u) counted n) (sym h)
+    ap₂ (λ t k. canon t ++ steps_text counted k) (ap (λ o. unwrap_or o (list_of none)) h.there) back ∙ ap (evaluation_text (annotations u) counted n) (sym h.evaluated)
+outcome_text-line y w counted n u Limit h = ap (evaluation_text (annotations u) counted n) (sym h)
 
 -- what holds of the tree of a reference that is held
 pub of_held : (o : Option Tree) (P : Tree → Type 0) → IsSome o → IfSome o P → P (unwrap_or o (list_of none))
@@ -59,11 +59,12 @@ of_held (Some u) P held h = h
 pub given_item : (y : Spec) (w : Store) (t : Reference) (given : IsGiven y w t) → item_at w t ≡ given.tree
 given_item y w t given = ap (λ o. unwrap_or o (list_of none)) given.held
 
--- what is shown of an answer is the text of the line of the term that was given
-pub answered-line : (y z : Spec) (old new : Store) (counted : Bool) (n : ℕ) (t : Reference) (o : Outcome) → IsGiven y old t → z ≡ y → ((u : Tree) → tree_at old t ≡ Some u → IsOutcome z new n u o)
-    → outcome_text new counted n o ≡ given_text y counted n (item_at old t)
-answered-line y z old new counted n t o given same answered =
-    outcome_text-line z new counted n given.tree o (answered given.tree given.held)
+-- what is shown of an answer, by the bank that an engine gives, is the text of the line of the term that was given
+pub answered-line : {B : Type 0} (store : B → Store) (y z : Spec) (old : Store) (asked new : B) (counted : Bool) (n : ℕ) (t : Reference) (o : Outcome) → asked ≡ new → IsGiven y old t → z ≡ y → ((u : Tree) → tree_at old t ≡ Some u → IsOutcome z (store new) n u o)
+    → outcome_text (store asked) counted n o ≡ given_text y counted n (item_at old t)
+answered-line store y z old asked new counted n t o one given same answered =
+    ap (λ b. outcome_text (store b) counted n o) one
+    ∙ outcome_text-line z (store new) counted n given.tree o (answered given.tree given.held)
     ∙ ap (λ x. given_text x counted n given.tree) same ∙ ap (given_text y counted n) (sym (given_item y old t given))
 
 -- the text of the line of the term at the front of a rest
@@ -95,7 +96,7 @@ bare_tree (Apply w ts) = refl
 
 -- the line of a term is that of its tree
 tree-line : (y : Spec) (counted : Bool) (n : ℕ) (t : Term) → given_text y counted n (tree_of t) ≡ line_text y counted n t
-tree-line y counted n t = ap₂ (λ notes o. shown notes counted n o) (bare_tree t) (eval-tree y n t)
+tree-line y counted n t = ap₂ (λ notes o. evaluation_text notes counted n o) (bare_tree t) (eval-tree y n t)
 
 pub own-line : (y z : Spec) (w : Store) (counted : Bool) (n i : ℕ) (t : Reference) → z ≡ y → i < length y.terms → tree_at w t ≡ eval_tree z i → given_text z counted n (item_at w t) ≡ text_at y counted n i
 own-line y z w counted n i t same low here =
@@ -104,16 +105,16 @@ own-line y z w counted n i t same low here =
 
 -- ---- faults
 
-pub room_fits : (old new : Store) (f : LineFault) (lines : ℕ) (r : RunFault) → r ≡ raised_after f lines → IsSound new → new.cap ≡ old.cap → FillsBank new f → RoomFits old.cap r
+pub room_fits : (old new : Store) (f : LineFault) (lines : ℕ) (r : RunFault) → r ≡ fault_after f lines → IsSound new → new.cap ≡ old.cap → FillsBank new f → RoomFits old.cap r
 room_fits old new f lines r e sound same h = subst (RoomFits old.cap) (sym e) (fits f h)
   where
-    fits : (f : LineFault) → FillsBank new f → RoomFits old.cap (raised_after f lines)
+    fits : (f : LineFault) → FillsBank new f → RoomFits old.cap (fault_after f lines)
     fits Memory h = tt
     fits Room h = record { bank = new; sound = sound; limit = same; full = h ∙ same }
     fits Write h = tt
 
-pub raised_at : (f : LineFault) (m n : ℕ) (r : RunFault) → r ≡ raised_after f m → m ≡ n → r ≡ raised_after f n
-raised_at f m n r e same = e ∙ ap (raised_after f) same
+pub fault_after-same : (f : LineFault) (m n : ℕ) (r : RunFault) → r ≡ fault_after f m → m ≡ n → r ≡ fault_after f n
+fault_after-same f m n r e same = e ∙ ap (fault_after f) same
 
 -- memory ran out before anything was written
 pub stops_unwritten : (text : List ℕ) (old : Option (List ℕ)) → Stops (run.Memory 0) text old old
@@ -132,12 +133,12 @@ front_of Memory f items i d front rest h e = front_in_lines f items i d front (r
 front_of Room f items i d front rest h e = front_in_lines f items i d front (rest ++ codes "\n") h (front_in_line (f (get_or items i d)) front rest e)
 front_of Write f items i d front rest h e = front_in_lines f items i d front rest h e
 
-report_of : {X : Type 0} (w : LineFault) (f : X → List ℕ) (items : List X) (i : ℕ) (d : X) (front rest : List ℕ) → NoEnds f items → i < length items → due_before w (f (get_or items i d)) ≡ front ++ rest → Reports (raised_after w i) (lines_of f (take i items) ++ front)
+report_of : {X : Type 0} (w : LineFault) (f : X → List ℕ) (items : List X) (i : ℕ) (d : X) (front rest : List ℕ) → NoEnds f items → i < length items → due_before w (f (get_or items i d)) ≡ front ++ rest → Reports (fault_after w i) (lines_of f (take i items) ++ front)
 report_of Memory f items i d front rest no_ends h e = ends_before f items i d front rest no_ends h e
 report_of Room f items i d front rest no_ends h e = ends_before f items i d front rest no_ends h e
 report_of Write f items i d front rest no_ends h e = tt
 
-report_after : {X : Type 0} (w : LineFault) (first : ℕ) (f : X → List ℕ) (items : List X) (i : ℕ) (d : X) (front rest : List ℕ) → NoEnds f items → i < length items → due_before w (f (get_or items i d)) ≡ front ++ rest → ReportsAfter first (raised_after w (first + i)) (lines_of f (take i items) ++ front)
+report_after : {X : Type 0} (w : LineFault) (first : ℕ) (f : X → List ℕ) (items : List X) (i : ℕ) (d : X) (front rest : List ℕ) → NoEnds f items → i < length items → due_before w (f (get_or items i d)) ≡ front ++ rest → ReportsAfter first (fault_after w (first + i)) (lines_of f (take i items) ++ front)
 report_after Memory first f items i d front rest no_ends h e = ap (λ n. first + n) (ends_before f items i d front rest no_ends h e)
 report_after Room first f items i d front rest no_ends h e = ap (λ n. first + n) (ends_before f items i d front rest no_ends h e)
 report_after Write first f items i d front rest no_ends h e = tt
@@ -147,7 +148,7 @@ pub lines_stopped :
     {X : Type 0} (w : LineFault) (f : X → List ℕ) (items : List X) (i : ℕ) (d : X) (old between new : Option (List ℕ)) → NoEnds f items → i < length items
     → Appends old between (lines_of f (take i items))
     → AppendsFront (due_before w (f (get_or items i d))) between new
-    → Stops (raised_after w i) (lines_of f items) old new
+    → Stops (fault_after w i) (lines_of f items) old new
 lines_stopped w f items i d old between new no_ends h so_far (front, appended, (rest, e)) =
     record {
       written = lines_of f (take i items) ++ front;
@@ -161,7 +162,7 @@ pub lines_stopped_after :
     {X : Type 0} (w : LineFault) (first : ℕ) (f : X → List ℕ) (items : List X) (i : ℕ) (d : X) (old between new : Option (List ℕ)) → NoEnds f items → i < length items
     → Appends old between (lines_of f (take i items))
     → AppendsFront (due_before w (f (get_or items i d))) between new
-    → StopsAfter first (raised_after w (first + i)) (lines_of f items) old new
+    → StopsAfter first (fault_after w (first + i)) (lines_of f items) old new
 lines_stopped_after w first f items i d old between new no_ends h so_far (front, appended, (rest, e)) =
     record {
       written = lines_of f (take i items) ++ front;

@@ -9,12 +9,12 @@ use Rattle.rx_text.specs.Grammar.{Spells}
 use Rattle.rx_text.specs.Verdict.{IsVerdict, Spelt}
 use Rattle.rx_text.specs.Verdict as text
 use Rattle.rec_syntax.specs.Syntax.{Sourced, Spec}
-use Rattle.rec_sorts.specs.SpecRules.{Fits, Good, SpecVerdict, Verdict}
+use Rattle.rec_sorts.specs.SpecRules.{Fits, Good, Verdict}
 use Rattle.rec_sorts.specs.TermRules.{broken_by_terms}
 use Rattle.rec_sorts.specs.TermsFaults.{IsTermsFault}
 use Rattle.rec_sorts.specs.declared.fault.TermsFault.{TermsFault}
 use Rattle.rec_sorts.specs.declared.fault.TermsFault.TheVariants as rule
-use Rattle.rec_run.specs.GivenTerms.{HoldsTerms, IsReadAs, IsReadFor, IsReadFrom, IsReady, IsRefusal, given_at, list_refused, run_due}
+use Rattle.rec_run.specs.GivenTerms.{HoldsTerms, IsReadAs, IsReadFor, IsReadFrom, IsReady, IsRefusal, OnGoodSpec, OnRefusedSpec, given_at, list_refused, run_due}
 use Rattle.rec_run.specs.Output.{GoodTerms, BreaksTerms, TooLong, Outside, TermsVerdict, IsTermsVerdict, done, lines}
 use Rattle.rec_run.specs.Reading.{IsGood, IsSpecRead, IsSpecReading}
 use Rattle.rec_run.specs.Refusals.{refusal_due, refused_spec, refused_text}
@@ -40,15 +40,15 @@ terms_front y bytes (Outside at) h = subst (λ text. IsTermsVerdict y text (Outs
 terms_front y bytes (BreaksTerms number) h = subst (λ text. IsTermsVerdict y text (BreaksTerms number)) (short_front bytes h.0) h
 terms_front y bytes (GoodTerms us) h = subst (λ text. IsTermsVerdict y text (GoodTerms us)) (short_front bytes h.0) h
 
-read_front : (told : Option (List ℕ)) (text : List ℕ) (y : Spec) (r : Reading Job) → IfSome told (λ bytes. text ≡ take (LIMIT + 1) bytes) → IsReadFor y text r → IfSome told (λ bytes. IsReadFor y bytes r)
+read_front : (known : Option (List ℕ)) (text : List ℕ) (y : Spec) (r : Reading Job) → IfSome known (λ bytes. text ≡ take (LIMIT + 1) bytes) → IsReadFor y text r → IfSome known (λ bytes. IsReadFor y bytes r)
 read_front None text y r e h = tt
 read_front (Some bytes) text y r e h = λ counted n. let k = h counted n in (k.0, terms_front y bytes k.0 (subst (λ t. IsTermsVerdict y t k.0) e k.1), k.2)
 
 -- what was read of a text of terms says what is due for it
-pub read_due : (result : Result (Reading Job) RunFault) (told : Option (List ℕ)) (text given : List ℕ) (y : Spec) → IfSome told (λ bytes. text ≡ take (LIMIT + 1) bytes) → given ≡ text → IfOk result (λ r. IsReadFor y given r)
-    → IfOk result (λ r. IfSome told (λ bytes. IsReadFor y bytes r))
-read_due (Err e) told text given y h same k = tt
-read_due (Ok r) told text given y h same k = read_front told text y r h (subst (λ t. IsReadFor y t r) same k)
+pub read_due : (result : Result (Reading Job) RunFault) (known : Option (List ℕ)) (text given : List ℕ) (y : Spec) → IfSome known (λ bytes. text ≡ take (LIMIT + 1) bytes) → given ≡ text → IfOk result (λ r. IsReadFor y given r)
+    → IfOk result (λ r. IfSome known (λ bytes. IsReadFor y bytes r))
+read_due (Err e) known text given y h same k = tt
+read_due (Ok r) known text given y h same k = read_front known text y r h (subst (λ t. IsReadFor y t r) same k)
 
 -- a text of terms that is no term's
 pub no_term : (y : Spec) (bytes : List ℕ) (r : Refusal) (v : text.Verdict) → refused_text source.Terms v ≡ Some r → IsVerdict bytes v → IsReadFor y bytes (RefusedRun r)
@@ -116,7 +116,7 @@ read_with (Ok r) bytes given first h k = read_both bytes given first r h k
 
 -- a refused specification leaves the reader of the terms
 pub unread_both : {T : Type 0} (bytes : Option (List ℕ)) (first : Reading Sourced) (old new : T) → IfSome bytes (λ b. IsSpecRead b first) → ((v : Verdict) → IsSpecReading first v → IsRefusal v → new ≡ old)
-    → IfSome bytes (λ b. (v : Verdict) → SpecVerdict b v → IsRefusal v → new ≡ old)
+    → OnRefusedSpec bytes (new ≡ old)
 unread_both None first old new h k = tt
 unread_both (Some b) first old new (u, h, came) k = λ v is refused. k u came (subst IsRefusal (one_verdict b v u is h) refused)
 
@@ -127,7 +127,7 @@ good_reading (GoodSpec checked) v y is e = tt
 
 -- beside a good specification the text of terms is read
 pub terms_out : {X E : Type 0} (P : Type 0) (result : Result X E) (bytes : Option (List ℕ)) (first : Reading Sourced) → IfSome bytes (λ b. IsSpecRead b first) → OnOk result (IsGood first → P)
-    → OnOk result (IfSome bytes (λ b. (y : Spec) → SpecVerdict b (Good y) → P))
+    → OnOk result (OnGoodSpec bytes P)
 terms_out P (Err e) bytes first h k = tt
 terms_out P (Ok x) None first h k = tt
 terms_out P (Ok x) (Some b) first (v, h, came) k = λ y is. k (good_reading first v y came (one_verdict b v (Good y) h is))

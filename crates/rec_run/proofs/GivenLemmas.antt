@@ -16,7 +16,7 @@ use Rattle.rec_sorts.specs.TermRules.{elements, first_passed, broken_by_elements
 use Rattle.rec_run.specs.Bytes.{newlines}
 use Rattle.rec_run.specs.GivenTerms.{HoldsTerms, given_at, notes_text}
 use Rattle.rec_run.proofs.LineEndLemmas.{newlines-append}
-use Rattle.rec_run.proofs.TermsDueLemmas as due
+use Rattle.rec_run.proofs.TermDueLemmas as due
 
 either_false : (a b : Bool) → a || b ≡ false → (a ≡ false) × (b ≡ false)
 either_false true b e = absurd (cc e)
@@ -54,7 +54,7 @@ notes-newlines none h = refl
 notes-newlines (more t ts) h =
     let text = canon_all (more t ts) in
     let valid : is_tree (list_of (more t ts)) ≡ true = ap (λ b. b && true) h in
-    let whole : newlines (canon (list_of (more t ts))) ≡ 0 = due.no_ends (canon (list_of (more t ts))) (stays_in_line (list_of (more t ts)) valid).0 in
+    let whole : newlines (canon (list_of (more t ts))) ≡ 0 = due.in_line-newlines (canon (list_of (more t ts))) (stays_in_line (list_of (more t ts)) valid).0 in
     let front = newlines-append (91 ∷ []) (text ++ 93 ∷ []) in
     let back = newlines-append text (93 ∷ []) in
     let braces = newlines-append (123 ∷ text) (125 ∷ []) in

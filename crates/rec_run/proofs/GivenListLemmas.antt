@@ -105,7 +105,7 @@ kept_rest old new list rest us i keeps held protected here =
     keeps.trees rest (list_of (from_list (drop i us))) here (list, (list_of (from_list us), inl protected, held, rest_part us i))
 
 -- also where the list was protected before
-pub kept_later : (first old new : Store) (list rest : Reference) (us : List Tree) (i : ℕ) → Keeps first old [] → Keeps old new [] → tree_at first list ≡ Some (list_of (from_list us)) → 0 < first.roots list.0
+kept_later : (first old new : Store) (list rest : Reference) (us : List Tree) (i : ℕ) → Keeps first old [] → Keeps old new [] → tree_at first list ≡ Some (list_of (from_list us)) → 0 < first.roots list.0
     → tree_at old rest ≡ Some (list_of (from_list (drop i us))) → tree_at new rest ≡ Some (list_of (from_list (drop i us)))
 kept_later first old new list rest us i before keeps held protected here =
     kept_rest old new list rest us i keeps (kept-root before list protected (ap is_some held) ∙ held) (subst (λ roots. 0 < roots list.0) (sym before.beside.roots) protected) here
@@ -141,6 +141,12 @@ front_there y w us rest i kept here cons = by (drop i us) refl
           others = ap (option_and_then tail_of) there ∙ ap (λ ts. Some (list_of (from_list ts))) (sym (further us i v vs e));
           is_ground = each_ground y us kept i v vs e;
         }
+
+-- behind it the other items are left, also later
+pub others_later : (y : Spec) (first old new : Store) (list rest : Reference) (us : List Tree) (i : ℕ) → Keeps first old [] → Keeps old new [] → tree_at first list ≡ Some (list_of (from_list us)) → 0 < first.roots list.0
+    → tree_at old rest ≡ Some (list_of (from_list (drop i us))) → FrontAt y old us rest i → part_at tail_of new rest ≡ Some (list_of (from_list (drop (i + 1) us)))
+others_later y first old new list rest us i before keeps held protected here front =
+    ap (option_and_then tail_of) (kept_later first old new list rest us i before keeps held protected here ∙ sym here) ∙ front.others
 
 -- where a rest is no list with a first item, no item is left
 pub no_front : (w : Store) (us : List Tree) (rest : Reference) (i : ℕ) (k : Kind) → tree_at w rest ≡ Some (list_of (from_list (drop i us))) → HasKind w rest k → (k ≡ kind.Cons → ⊥) → length us ≤ i

@@ -23,4 +23,4 @@ mod PatternLineLemmas
 mod PatternRows
 mod PatternTermLemmas
 mod RefusedItemLemmas
-mod TermsDueLemmas
+mod TermDueLemmas

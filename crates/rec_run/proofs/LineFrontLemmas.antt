@@ -1,5 +1,5 @@
 -- Texts that are made of lines: their fronts, and how many line ends these have.
-use Rattle.std.proofs.Common.{suc, ◌≡◌, ℕ, ◌+◌, ◌<◌, List, [], ◌∷◌, ◌++◌, Option, take, drop, get_or, length, length-take-le, refl, sym, ap, ◌∙◌, append_assoc, append-nil, take-append-drop, arith}
+use Rattle.std.proofs.Common.{suc, ◌≡◌, ℕ, ◌+◌, ◌<◌, ◌≤◌, List, [], ◌∷◌, ◌++◌, Option, take, drop, get_or, length, length-take-le, refl, sym, ap, subst, ◌∙◌, append_assoc, append-nil, take_all, take-append-drop, arith}
 use Rattle.std.specs.Prelude.{All, flat_map, codes}
 use Rattle.std.proofs.lemmas.List.Elements.{All-take}
 use Rattle.std.proofs.lemmas.List.{take_more}
@@ -7,8 +7,7 @@ use Rattle.std.proofs.lemmas.List.Concat.{flat_map-append}
 use Rattle.std.specs.Io.KnownBytes.{Appends}
 use Rattle.rx_text.specs.Written.{AppendsFront, IsFront}
 use Rattle.rec_run.specs.Bytes.{newlines}
-use Rattle.rec_run.specs.GivenTerms.{ReportsAfter, StopsAfter}
-use Rattle.rec_run.specs.Run.{Stops, Reports}
+use Rattle.rec_run.specs.Run.{Reports, ReportsAfter, Stops, StopsAfter}
 use Rattle.rec_run.specs.declared.ending.RunFault.{RunFault}
 use Rattle.rec_run.specs.declared.ending.RunFault.TheVariants as fault
 use Rattle.rx_text.proofs.AppendingLemmas.{appends_both}
@@ -34,14 +33,22 @@ newlines-lines_of f (x ∷ items) none =
     omega (arith, both, line, one, text, others)
 
 -- a front of a text without line ends has none
-newlines-front : (front rest : List ℕ) → newlines (front ++ rest) ≡ 0 → newlines front ≡ 0
+pub newlines-front : (front rest : List ℕ) → newlines (front ++ rest) ≡ 0 → newlines front ≡ 0
 newlines-front front rest h = let e = newlines-append front rest in omega (arith, e, h)
 
 -- the lines up to an item, and its own
-pub lines_of-more : {X : Type 0} (f : X → List ℕ) (items : List X) (i : ℕ) (d : X) → i < length items → lines_of f (take (i + 1) items) ≡ lines_of f (take i items) ++ (f (get_or items i d) ++ codes "\n")
+lines_of-more : {X : Type 0} (f : X → List ℕ) (items : List X) (i : ℕ) (d : X) → i < length items → lines_of f (take (i + 1) items) ≡ lines_of f (take i items) ++ (f (get_or items i d) ++ codes "\n")
 lines_of-more f items i d h =
     ap (lines_of f) (take_more items i d h) ∙ flat_map-append (λ x. f x ++ codes "\n") (take i items) (get_or items i d ∷ [])
     ∙ ap (λ z. lines_of f (take i items) ++ z) (append-nil (f (get_or items i d) ++ codes "\n"))
+
+pub appends_more : {X : Type 0} (f : X → List ℕ) (items : List X) (i : ℕ) (d : X) (old between new : Option (List ℕ)) → i < length items → Appends old between (lines_of f (take i items)) → Appends between new (f (get_or items i d) ++ codes "\n") → Appends old new (lines_of f (take (i + 1) items))
+appends_more f items i d old between new low before line =
+    subst (λ text. Appends old new text) (sym (lines_of-more f items i d low)) (appends_both old between new (lines_of f (take i items)) (f (get_or items i d) ++ codes "\n") before line)
+
+-- the lines of all items
+pub appends_all : {X : Type 0} (f : X → List ℕ) (items : List X) (i : ℕ) (old new : Option (List ℕ)) → length items ≤ i → Appends old new (lines_of f (take i items)) → Appends old new (lines_of f items)
+appends_all f items i old new all h = subst (λ text. Appends old new text) (ap (lines_of f) (take_all i items all)) h
 
 -- the lines up to an item begin all lines
 lines_of-front : {X : Type 0} (f : X → List ℕ) (items : List X) (i : ℕ) (d : X) → i < length items → (rest : List ℕ) × (lines_of f items ≡ lines_of f (take i items) ++ (f (get_or items i d) ++ codes "\n" ++ rest))

@@ -17,7 +17,7 @@ use Rattle.rec_run.specs.declared.ending.Source.TheVariants as source
 use Rattle.rec_run.specs.declared.refusal.Reading.{Reading}
 use Rattle.rec_run.specs.declared.refusal.Reading.TheVariants.{Refused, Good}
 use Rattle.rec_run.specs.declared.refusal.Refusal.{Refusal}
-use Rattle.rec_run.proofs.TermsDueLemmas.{same_verdict}
+use Rattle.rec_run.proofs.TermDueLemmas.{same_verdict}
 use Rattle.rec_run.proofs.WholeRunLemmas.{same_refusal}
 
 -- of what a call gives
@@ -45,14 +45,14 @@ module _ (after : Tree → Verdict → Due) where
   both pattern second = due_of_pattern (λ p. after p second) pattern
 
   -- the pattern is refused, whatever the second text is
-  pub refused_both : (told : Option (List ℕ)) (text : List ℕ) (r : Refusal) → IsPatternRead text (Refused r) → IfSome told (λ bytes. IsDueOfBoth both text bytes (refusal_due r))
+  pub refused_both : (known : Option (List ℕ)) (text : List ℕ) (r : Refusal) → IsPatternRead text (Refused r) → IfSome known (λ bytes. IsDueOfBoth both text bytes (refusal_due r))
   refused_both None text r h = tt
   refused_both (Some bytes) text r (v, (is, e)) =
       let w = one_verdict bytes in
       record { on_first = v; on_second = w.0; first_is = is; second_is = w.1; due_is = sym (e (λ p. after p w.0)) }
 
   -- the pattern is good
-  pub good_both : (told : Option (List ℕ)) (text : List ℕ) (p : Tree) (a : Due) → SpellsPattern text p → IfSome told (λ bytes. (v : Verdict) × (IsVerdict bytes v × (a ≡ after p v))) → IfSome told (λ bytes. IsDueOfBoth both text bytes a)
+  pub good_both : (known : Option (List ℕ)) (text : List ℕ) (p : Tree) (a : Due) → SpellsPattern text p → IfSome known (λ bytes. (v : Verdict) × (IsVerdict bytes v × (a ≡ after p v))) → IfSome known (λ bytes. IsDueOfBoth both text bytes a)
   good_both None text p a s h = tt
   good_both (Some bytes) text p a s (v, (is, e)) =
       record { on_first = Spelt p; on_second = v; first_is = s.spelt; second_is = is; due_is = e ∙ sym (ap (λ o. unless_unfit o (after p v)) s.fit) }
@@ -84,7 +84,7 @@ unspelt_args p r (Outside at) e = ap refusal_due (same_refusal e)
 unspelt_args p r (Spelt t) e = absurd (cc e)
 
 -- what is due by the verdict on what was read is so by that on the text
-pub due_read : (told : Option (List ℕ)) (a : Due) (after : Verdict → Due) (v : Verdict) → IfSome told (λ bytes. IsVerdict bytes v) → a ≡ after v → IfSome told (λ bytes. (w : Verdict) × (IsVerdict bytes w × (a ≡ after w)))
+pub due_read : (known : Option (List ℕ)) (a : Due) (after : Verdict → Due) (v : Verdict) → IfSome known (λ bytes. IsVerdict bytes v) → a ≡ after v → IfSome known (λ bytes. (w : Verdict) × (IsVerdict bytes w × (a ≡ after w)))
 due_read None a after v h e = tt
 due_read (Some bytes) a after v h e = (v, (h, e))
 

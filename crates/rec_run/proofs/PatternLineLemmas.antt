@@ -1,5 +1,5 @@
 -- The lines of an answer: which are due, and what is left where writing them stops.
-use Rattle.std.proofs.Common.{◌≡◌, ℕ, ◌+◌, ◌<◌, List, [], ◌∷◌, ◌++◌, Option, Some, None, true, false, IfSome, IsSome, length, take, drop, get_or, refl, sym, ap, subst, ◌∙◌, arith, append_assoc, append-nil, take-append-drop}
+use Rattle.std.proofs.Common.{◌≡◌, ℕ, ◌+◌, ◌<◌, List, [], ◌∷◌, ◌++◌, Option, Some, None, true, false, IfSome, IsSome, length, take, drop, get_or, refl, sym, ap, subst, ◌∙◌, arith, append-nil, take-append-drop}
 use Rattle.std.specs.Prelude.{codes, flat_map}
 use Rattle.std.proofs.lemmas.List.{take_more, length-take}
 use Rattle.std.proofs.lemmas.List.Concat.{flat_map-append}
@@ -16,27 +16,27 @@ use Rattle.rx_pattern.specs.Held.{Binds}
 use Rattle.rx_text.specs.Written.{AppendsFront}
 use Rattle.rec_run.specs.Bytes.{newlines}
 use Rattle.rec_run.specs.Output.{done}
-use Rattle.rec_run.specs.Run.{Stops}
+use Rattle.rec_run.specs.Run.{Stops, StopsAfter}
 use Rattle.rec_run.specs.TermRuns.{line_at, term_line}
 use Rattle.rec_run.specs.PatternRuns.{match_lines}
-use Rattle.rec_run.specs.PatternAnswers.{StopsAfter}
 use Rattle.rec_run.specs.declared.ending.RunFault.{RunFault}
 use Rattle.rec_run.specs.declared.ending.RunFault.TheVariants as fault
-use Rattle.rx_text.proofs.AppendingLemmas.{appends_both, appends_same, front_after}
+use Rattle.rx_text.proofs.AppendingLemmas.{appends_both, appends_same, front_after, front_before}
 use Rattle.rec_run.proofs.LineEndLemmas.{newlines-append}
-use Rattle.rec_run.proofs.TermsDueLemmas.{no_ends, no_ends_front}
+use Rattle.rec_run.proofs.LineFrontLemmas.{front_in_line, newlines-front, stops_before, stops_behind}
+use Rattle.rec_run.proofs.TermDueLemmas.{in_line-newlines}
 
 -- their lines are those of the trees
-pub lines_at : (w : Store) (rs : List Term) (ts : List Tree) → HaveTrees w rs ts → flat_map (line_at w) rs ≡ flat_map term_line ts
-lines_at w [] [] h = refl
-lines_at w [] (t ∷ ts) h = absurd h
-lines_at w (r ∷ rs) [] h = absurd h
-lines_at w (r ∷ rs) (t ∷ ts) (e, h) = rw (e, lines_at w rs ts h) refl
+pub lines-trees : (w : Store) (rs : List Term) (ts : List Tree) → HaveTrees w rs ts → flat_map (line_at w) rs ≡ flat_map term_line ts
+lines-trees w [] [] h = refl
+lines-trees w [] (t ∷ ts) h = absurd h
+lines-trees w (r ∷ rs) [] h = absurd h
+lines-trees w (r ∷ rs) (t ∷ ts) (e, h) = rw (e, lines-trees w rs ts h) refl
 
 -- what is due of a match
 pub yes_due : (w : Store) (o : Option (List Tree)) (rs : List Term) → Binds w o rs true → done (codes "yes\n" ++ flat_map (line_at w) rs) ≡ done (match_lines o)
 yes_due w None rs h = absurd h
-yes_due w (Some bs) rs h = ap (λ text. done (codes "yes\n" ++ text)) (lines_at w rs bs h)
+yes_due w (Some bs) rs h = ap (λ text. done (codes "yes\n" ++ text)) (lines-trees w rs bs h)
 
 pub no_due : (w : Store) (o : Option (List Tree)) (rs : List Term) → Binds w o rs false → done (codes "no\n") ≡ done (match_lines o)
 no_due w None rs h = refl
@@ -54,7 +54,7 @@ one_end w t sound h = by (tree_at w t) refl h
     by None e k = absurd (cc k)
     by (Some u) e k =
         let both = newlines-append (canon u) (codes "\n") in
-        let none = no_ends (canon u) (stays_in_line u (sound.valid t u e)).0 in
+        let none = in_line-newlines (canon u) (stays_in_line u (sound.valid t u e)).0 in
         let one : newlines (codes "\n") ≡ 1 = refl in
         let here : newlines (term_line u) ≡ 1 = omega (arith, both, none, one) in
         rw e here
@@ -69,66 +69,51 @@ ends_of_lines w (r ∷ rs) sound h =
     omega (arith, both, one, others)
 
 -- the writer refused within a text
-pub stops_write : (lines : ℕ) (text : List ℕ) (between new : Option (List ℕ)) → AppendsFront text between new → StopsAfter lines fault.Write text between new
-stops_write lines text between new f = λ before old count wrote.
-    let k = front_after old between new before text wrote f in
-    record { written = k.0; appended = k.1; front = k.2; reported = tt }
+refused_within : (lines : ℕ) (text : List ℕ) (between new : Option (List ℕ)) → AppendsFront text between new → StopsAfter lines fault.Write text between new
+refused_within lines text between new (front, a, rest) = record { written = front; appended = a; front = rest; reported = tt }
 
 -- memory ran out within the printed text of a tree
 stops_memory_in : (lines : ℕ) (u : Tree) (between new : Option (List ℕ)) → newlines (canon u) ≡ 0 → AppendsFront (canon u) between new → StopsAfter lines (fault.Memory lines) (term_line u) between new
-stops_memory_in lines u between new none (front, a, (rest, e)) = λ before old count wrote.
-    let no = no_ends_front front rest (ap newlines (sym e) ∙ none) in
-    let both = newlines-append before front in
+stops_memory_in lines u between new none (front, a, (rest, e)) =
+    let no = newlines-front front rest (ap newlines (sym e) ∙ none) in
     record {
-      written = before ++ front;
-      appended = appends_both old between new before front wrote a;
-      front = (rest ++ codes "\n", ap (λ z. before ++ (z ++ codes "\n")) e ∙ ap (λ z. before ++ z) (append_assoc front rest (codes "\n")) ∙ sym (append_assoc before front (rest ++ codes "\n")));
-      reported = omega (arith, count, no, both);
+      written = front;
+      appended = a;
+      front = (rest ++ codes "\n", front_in_line (canon u) front rest e);
+      reported = omega (arith, no);
     }
 
-pub stops_memory : (w : Store) (t : Term) (lines : ℕ) (between new : Option (List ℕ)) → IsSound w → IsSome (tree_at w t) → IfSome (tree_at w t) (λ u. AppendsFront (canon u) between new) → StopsAfter lines (fault.Memory lines) (line_at w t) between new
-stops_memory w t lines between new sound held h = by (tree_at w t) refl held h
+-- what holds of the line of a reference that is held, by what holds of its tree
+line_held : (w : Store) (t : Term) (P : Tree → Type 0) (Q : List ℕ → Type 0) → IsSome (tree_at w t) → IfSome (tree_at w t) P → ((u : Tree) → tree_at w t ≡ Some u → P u → Q (term_line u)) → Q (line_at w t)
+line_held w t P Q held h so = by (tree_at w t) refl held h
   where
-    by : (o : Option Tree) → tree_at w t ≡ o → IsSome o → IfSome o (λ u. AppendsFront (canon u) between new) → StopsAfter lines (fault.Memory lines) (line_at w t) between new
-    by None e k f = absurd (cc k)
-    by (Some u) e k f = rw e (stops_memory_in lines u between new (no_ends (canon u) (stays_in_line u (sound.valid t u e)).0) f)
+    by : (o : Option Tree) → tree_at w t ≡ o → IsSome o → IfSome o P → Q (line_at w t)
+    by None e k p = absurd (cc k)
+    by (Some u) e k p = rw e (so u e p)
+
+pub stops_memory : (w : Store) (t : Term) (lines : ℕ) (between new : Option (List ℕ)) → IsSound w → IsSome (tree_at w t) → IfSome (tree_at w t) (λ u. AppendsFront (canon u) between new) → StopsAfter lines (fault.Memory lines) (line_at w t) between new
+stops_memory w t lines between new sound held h =
+    line_held w t (λ u. AppendsFront (canon u) between new) (λ text. StopsAfter lines (fault.Memory lines) text between new) held h
+    (λ u e f. stops_memory_in lines u between new (in_line-newlines (canon u) (stays_in_line u (sound.valid t u e)).0) f)
 
 -- the writer refused the printed text, or the line end
 pub text_refused : (w : Store) (t : Term) (lines : ℕ) (between new : Option (List ℕ)) → IsSome (tree_at w t) → IfSome (tree_at w t) (λ u. AppendsFront (canon u) between new) → StopsAfter lines fault.Write (line_at w t) between new
-text_refused w t lines between new held h = by (tree_at w t) refl held h
-  where
-    by : (o : Option Tree) → tree_at w t ≡ o → IsSome o → IfSome o (λ u. AppendsFront (canon u) between new) → StopsAfter lines fault.Write (line_at w t) between new
-    by None e k f = absurd (cc k)
-    by (Some u) e k (front, a, (rest, s)) =
-        rw e (stops_write lines (term_line u) between new (front, a, (rest ++ codes "\n", ap (λ z. z ++ codes "\n") s ∙ append_assoc front rest (codes "\n"))))
+text_refused w t lines between new held h =
+    line_held w t (λ u. AppendsFront (canon u) between new) (λ text. StopsAfter lines fault.Write text between new) held h
+    (λ u e f. refused_within lines (term_line u) between new (front_before between new (canon u) (codes "\n") f))
 
 pub end_refused : (w : Store) (t : Term) (lines : ℕ) (between mid new : Option (List ℕ)) → IsSome (tree_at w t) → IfSome (tree_at w t) (λ u. Appends between mid (canon u)) → AppendsFront (codes "\n") mid new → StopsAfter lines fault.Write (line_at w t) between new
-end_refused w t lines between mid new held h f = by (tree_at w t) refl held h
-  where
-    by : (o : Option Tree) → tree_at w t ≡ o → IsSome o → IfSome o (λ u. Appends between mid (canon u)) → StopsAfter lines fault.Write (line_at w t) between new
-    by None e k a = absurd (cc k)
-    by (Some u) e k a = rw e (stops_write lines (term_line u) between new (front_after between mid new (canon u) (codes "\n") a f))
+end_refused w t lines between mid new held h f =
+    line_held w t (λ u. Appends between mid (canon u)) (λ text. StopsAfter lines fault.Write text between new) held h
+    (λ u e a. refused_within lines (term_line u) between new (front_after between mid new (canon u) (codes "\n") a f))
 
 pub line_written : (w : Store) (t : Term) (old mid new : Option (List ℕ)) → IsSome (tree_at w t) → IfSome (tree_at w t) (λ u. Appends old mid (canon u)) → Appends mid new (codes "\n") → Appends old new (line_at w t)
-line_written w t old mid new held h k = by (tree_at w t) refl held h
-  where
-    by : (o : Option Tree) → tree_at w t ≡ o → IsSome o → IfSome o (λ u. Appends old mid (canon u)) → Appends old new (line_at w t)
-    by None e i a = absurd (cc i)
-    by (Some u) e i a = rw e (appends_both old mid new (canon u) (codes "\n") a k)
+line_written w t old mid new held h k =
+    line_held w t (λ u. Appends old mid (canon u)) (λ text. Appends old new text) held h (λ u e a. appends_both old mid new (canon u) (codes "\n") a k)
 
 -- a fault after no line
 pub stops_first : (f : RunFault) (text : List ℕ) (old new : Option (List ℕ)) → StopsAfter 0 f text old new → Stops f text old new
-stops_first f text old new s = s [] old refl (appends_same old)
-
--- a fault within the first of two texts
-pub stops_before : (f : RunFault) (text more : List ℕ) (old new : Option (List ℕ)) → Stops f text old new → Stops f (text ++ more) old new
-stops_before f text more old new s =
-    record {
-      written = s.written;
-      appended = s.appended;
-      front = (s.front.0 ++ more, ap (λ z. z ++ more) s.front.1 ∙ append_assoc s.written s.front.0 more);
-      reported = s.reported;
-    }
+stops_first f text old new s = stops_behind f 0 [] text old old new refl (appends_same old) s
 
 -- `yes` and the lines of these references
 abbrev pub yes_lines : Store → List Term → List ℕ
@@ -153,6 +138,6 @@ stops_binding w rs i d f old between new sound held low wrote stops =
     let both = newlines-append (codes "yes\n") (flat_map (line_at w) (take i rs)) in
     let first : newlines (codes "yes\n") ≡ 1 = refl in
     let count : newlines (yes_lines w (take i rs)) ≡ i + 1 = omega (arith, long, ends, both, first, low) in
-    let s = stops (yes_lines w (take i rs)) old count wrote in
+    let s = stops_behind f (i + 1) (yes_lines w (take i rs)) (line_at w (get_or rs i d)) old between new count wrote stops in
     let so_far : Stops f (yes_lines w (take (i + 1) rs)) old new = subst (λ (text : List ℕ). Stops f text old new) (sym (yes_lines-more w rs i d low)) s in
     subst (λ (text : List ℕ). Stops f text old new) (sym (yes_lines-front w rs (i + 1))) (stops_before f (yes_lines w (take (i + 1) rs)) (flat_map (line_at w) (drop (i + 1) rs)) old new so_far)

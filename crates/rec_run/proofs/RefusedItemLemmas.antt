@@ -24,7 +24,7 @@ use Rattle.rec_run.specs.declared.refusal.Refusal.{Refusal}
 use Rattle.rec_run.specs.declared.refused_items.Misfit.{Misfit}
 use Rattle.rec_run.specs.declared.refused_items.Misfit.TheVariants.{Count, Kind}
 use Rattle.rec_run.proofs.OneDueLemmas.{one_verdict}
-use Rattle.rec_run.proofs.TermsDueLemmas.{same_verdict}
+use Rattle.rec_run.proofs.TermDueLemmas.{same_verdict}
 
 -- ---- a specification
 

@@ -9,7 +9,7 @@ use Rattle.rec_sorts.specs.Evaluation.{Outcome, Done, Over, Eval, term_of}
 use Rattle.rec_run.specs.Bytes.{newlines}
 use Rattle.rec_run.specs.GivenTerms.{given_lines, given_text, notes_text}
 use Rattle.rec_run.specs.Output.{Task, lines, line, steps_text}
-use Rattle.rec_run.specs.Reading.{shown, line_text}
+use Rattle.rec_run.specs.Reading.{evaluation_text, line_text}
 use Rattle.rec_engine.proofs.ValueTreeLemmas.{value_is_applied, applied_unannotated}
 use Rattle.rec_run.proofs.LineEndLemmas.{no_ends, canon-newlines, decimal-newlines}
 use Rattle.rec_run.proofs.LineFrontLemmas.{lines_of, newlines-lines_of, NoEnds}
@@ -21,22 +21,22 @@ own t = record { term = t; notes = none }
 abbrev given : Tree → Task
 given u = record { term = term_of u; notes = annotations u }
 
-line-shown : (notes : Trees) (counted : Bool) (n : ℕ) (o : Outcome Tree) → ◌≡◌ {A = List ℕ} (elim o [
+line-evaluation_text : (notes : Trees) (counted : Bool) (n : ℕ) (o : Outcome Tree) → ◌≡◌ {A = List ℕ} (elim o [
   | Done v left ↦ canon (annotated v notes) ++ steps_text counted (n - left) ++ codes "\n"
   | Over ↦ codes "!limit " ++ decimal n ++ codes "\n"
-]) (shown notes counted n o ++ codes "\n")
-line-shown notes counted n (Done v left) = refl
-line-shown notes counted n Over = refl
+]) (evaluation_text notes counted n o ++ codes "\n")
+line-evaluation_text notes counted n (Done v left) = refl
+line-evaluation_text notes counted n Over = refl
 
 own_lines : (y : Spec) (counted : Bool) (n : ℕ) (ts : List Term) (more : List Task) → flat_map (λ l. l) (map (line y counted n) (map own ts ++ more)) ≡ lines_of (line_text y counted n) ts ++ flat_map (λ l. l) (map (line y counted n) more)
 own_lines y counted n [] more = refl
 own_lines y counted n (t ∷ ts) more =
-    ap₂ (λ l ls. l ++ ls) (line-shown none counted n (Eval y n [] t)) (own_lines y counted n ts more)
+    ap₂ (λ l ls. l ++ ls) (line-evaluation_text none counted n (Eval y n [] t)) (own_lines y counted n ts more)
     ∙ sym (append_assoc (line_text y counted n t ++ codes "\n") (lines_of (line_text y counted n) ts) (flat_map (λ l. l) (map (line y counted n) more)))
 
 given_lines_of : (y : Spec) (counted : Bool) (n : ℕ) (us : List Tree) → flat_map (λ l. l) (map (line y counted n) (map given us)) ≡ lines_of (given_text y counted n) us
 given_lines_of y counted n [] = refl
-given_lines_of y counted n (u ∷ us) = ap₂ (λ l ls. l ++ ls) (line-shown (annotations u) counted n (Eval y n [] (term_of u))) (given_lines_of y counted n us)
+given_lines_of y counted n (u ∷ us) = ap₂ (λ l ls. l ++ ls) (line-evaluation_text (annotations u) counted n (Eval y n [] (term_of u))) (given_lines_of y counted n us)
 
 -- the lines of a specification without given terms
 pub lines-own : (y : Spec) (counted : Bool) (n : ℕ) → lines y [] counted n ≡ lines_of (line_text y counted n) y.terms
@@ -61,17 +61,17 @@ canon_annotated (Appl name quoted args anns) notes e =
 canon_annotated (Items items anns) notes e = sym (ap (λ a. canon (Items items a) ++ notes_text notes) e ∙ append_assoc (91 ∷ canon_all items) (93 ∷ []) (notes_text notes))
 canon_annotated (Hole inner anns) notes e = sym (ap (λ a. canon (Hole inner a) ++ notes_text notes) e ∙ append_assoc (60 ∷ canon inner) (62 ∷ []) (notes_text notes))
 
-shown-newlines : (y : Spec) (notes : Trees) (counted : Bool) (n : ℕ) (t : Term) (o : Outcome Tree) → newlines (notes_text notes) ≡ 0 → n < 2 ^ 64 → Eval y n [] t ≡ o → newlines (shown notes counted n o) ≡ 0
-shown-newlines y notes counted n t (Done v left) k h e =
+evaluation_text-newlines : (y : Spec) (notes : Trees) (counted : Bool) (n : ℕ) (t : Term) (o : Outcome Tree) → newlines (notes_text notes) ≡ 0 → n < 2 ^ 64 → Eval y n [] t ≡ o → newlines (evaluation_text notes counted n o) ≡ 0
+evaluation_text-newlines y notes counted n t (Done v left) k h e =
     let a = value_is_applied y n t v left e in
     no_ends (canon (annotated v notes)) (steps_text counted (n - left))
     (ap newlines (canon_annotated v notes (applied_unannotated v a)) ∙ no_ends (canon v) (notes_text notes) (canon-newlines v a) k)
     (steps-newlines counted (n - left) (omega (arith, h)))
-shown-newlines y notes counted n t Over k h e = no_ends (codes "!limit ") (decimal n) refl (decimal-newlines n h)
+evaluation_text-newlines y notes counted n t Over k h e = no_ends (codes "!limit ") (decimal n) refl (decimal-newlines n h)
 
 -- a line's text has no line end
 pub line_text-newlines : (y : Spec) (counted : Bool) (n : ℕ) → n < 2 ^ 64 → (ts : List Term) → NoEnds (line_text y counted n) ts
-line_text-newlines y counted n h ts k d low = shown-newlines y none counted n (get_or ts k d) (Eval y n [] (get_or ts k d)) refl h refl
+line_text-newlines y counted n h ts k d low = evaluation_text-newlines y none counted n (get_or ts k d) (Eval y n [] (get_or ts k d)) refl h refl
 
 -- so the lines of a specification without given terms are as many as its terms
 pub newlines-own : (y : Spec) (counted : Bool) (n : ℕ) → n < 2 ^ 64 → newlines (lines y [] counted n) ≡ length y.terms
@@ -79,4 +79,4 @@ newlines-own y counted n h = ap newlines (lines-own y counted n) ∙ newlines-li
 
 -- nor has that of a given term whose annotations have none
 pub given_text-newlines : (y : Spec) (counted : Bool) (n : ℕ) → n < 2 ^ 64 → (u : Tree) → newlines (notes_text (annotations u)) ≡ 0 → newlines (given_text y counted n u) ≡ 0
-given_text-newlines y counted n h u k = shown-newlines y (annotations u) counted n (term_of u) (Eval y n [] (term_of u)) k h refl
+given_text-newlines y counted n h u k = evaluation_text-newlines y (annotations u) counted n (term_of u) (Eval y n [] (term_of u)) k h refl

@@ -2,7 +2,7 @@
 --     outcome_text w counted n o     what is shown of what a term comes to
 --     ProtectsTerms y w list         a list of terms that keep the rules is protected
 --     due_before fault text          of a line with this text, what is due before a fault
---     raised_after fault lines       the run's fault where a line's came after so many lines
+--     fault_after fault lines        the run's fault where a line's came after so many lines
 use Rattle.std.specs.Prelude.{ℕ, ◌≡◌, ◌<◌, Bool, List, ◌++◌, IsSome, codes, decimal}
 use Rattle.rx_term.specs.Store.{Store, tree_at, cells}
 use Rattle.rx_term.specs.declared.Term.{Term as Reference}
@@ -53,10 +53,10 @@ due_before Room text = text
 due_before Write text = text ++ codes "\n"
 
 -- the run's fault where a line's came after so many lines
-abbrev pub raised_after : LineFault → ℕ → RunFault
-raised_after Memory lines = run.Memory lines
-raised_after Room lines = run.Room lines
-raised_after Write lines = run.Write
+abbrev pub fault_after : LineFault → ℕ → RunFault
+fault_after Memory lines = run.Memory lines
+fault_after Room lines = run.Room lines
+fault_after Write lines = run.Write
 
 -- want of cells comes with a full bank
 abbrev pub FillsBank : Store → LineFault → Type 0

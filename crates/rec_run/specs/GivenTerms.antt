@@ -4,9 +4,8 @@
 --     HoldsTerms y w r           they keep the rules
 --     run_due counted n r        what is due for what the texts came to
 --     given_text y counted n u   the line of a given term without the line end
-use Rattle.std.specs.Prelude.{ℕ, ◌+◌, ◌≡◌, Bool, List, [], ◌++◌, Option, Some, None, Result, Ok, Err, codes, flat_map, unwrap_or}
+use Rattle.std.specs.Prelude.{ℕ, ◌≡◌, Bool, List, [], ◌++◌, Option, Some, None, IfSome, Result, Ok, Err, codes, flat_map, unwrap_or}
 use Rattle.std.specs.Option.{ForSome}
-use Rattle.std.specs.Io.KnownBytes.{Appends}
 use Rattle.rx_term.specs.Tree.{Tree, Trees, none, annotations, from_list, list_of}
 use Rattle.rx_term.specs.Store.{Store, tree_at}
 use Rattle.rx_term.specs.declared.Term.{Term as Reference}
@@ -19,10 +18,8 @@ use Rattle.rec_sorts.specs.TermRules.{broken_by_elements, elements}
 use Rattle.rec_sorts.specs.Evaluation.{Eval, term_of}
 use Rattle.rec_sorts.specs.declared.fault.TermsFault.{TermsFault}
 use Rattle.rec_sorts.specs.declared.fault.TermsFault.TheVariants as rule
-use Rattle.rx_text.specs.Written.{IsFront}
-use Rattle.rec_run.specs.Bytes.{newlines}
 use Rattle.rec_run.specs.Output.{Due, IsDueAfter, done, lines}
-use Rattle.rec_run.specs.Reading.{shown}
+use Rattle.rec_run.specs.Reading.{evaluation_text}
 use Rattle.rec_run.specs.Refusals.{reading_due}
 use Rattle.rec_run.specs.Run.{IsDueFor, Texts}
 use Rattle.rec_run.specs.declared.ending.RunFault.{RunFault}
@@ -70,6 +67,16 @@ abbrev pub IsRefusal : Verdict → Type 0
 IsRefusal (verdict.Good y) = ⊥
 IsRefusal v = Unit {0}
 
+-- a fact where the text of a specification is good, and one where it is refused, if its reader
+-- tells it
+abbrev pub OnGoodSpec : Option (List ℕ) → Type 0 → Type 0
+OnGoodSpec text P =
+    IfSome text (λ bytes. (y : syntax.Spec) → verdict.SpecVerdict bytes (verdict.Good y) → P)
+
+abbrev pub OnRefusedSpec : Option (List ℕ) → Type 0 → Type 0
+OnRefusedSpec text P =
+    IfSome text (λ bytes. (v : Verdict) → verdict.SpecVerdict bytes v → IsRefusal v → P)
+
 -- after this verdict on the specification, what both texts came to says what is due for this text
 -- of terms
 abbrev pub IsReadAs : Verdict → List ℕ → Reading Job → Type 0
@@ -100,23 +107,8 @@ notes_text notes = enclosed 123 notes (canon_all notes) 125 []
 
 -- the line of a given term without the line end
 abbrev pub given_text : syntax.Spec → Bool → ℕ → Tree → List ℕ
-given_text y counted n u = shown (annotations u) counted n (Eval y n [] (term_of u))
+given_text y counted n u = evaluation_text (annotations u) counted n (Eval y n [] (term_of u))
 
 -- the lines of given terms
 abbrev pub given_lines : syntax.Spec → Bool → ℕ → List Tree → List ℕ
 given_lines y counted n ts = flat_map (λ u. given_text y counted n u ++ codes "\n") ts
-
--- what a fault tells of what was written before it, where other lines were written first
-abbrev pub ReportsAfter : ℕ → RunFault → List ℕ → Type 0
-ReportsAfter first (fault.Memory lines) written = lines ≡ first + newlines written
-ReportsAfter first (fault.Room lines) written = lines ≡ first + newlines written
-ReportsAfter first fault.Read written = ⊥
-ReportsAfter first fault.Write written = Unit {0}
-
--- what was written after the first lines is a front of a text, and is as the fault tells
-pub record StopsAfter (first : ℕ) (stop : RunFault) (text : List ℕ) (old new : Option (List ℕ))
-    : Type 0 where
-  pub written : List ℕ
-  pub appended : Appends old new written
-  pub front : IsFront written text
-  pub reported : ReportsAfter first stop written

@@ -1,19 +1,15 @@
 -- What a run with a pattern came to, and what is due for it.
 use Rattle.std.specs.Prelude.{ℕ, ◌≡◌, List, ◌++◌, Option, Some, None, IsSome, codes, flat_map}
-use Rattle.std.specs.Io.KnownBytes.{Appends}
 use Rattle.rx_term.specs.Tree.{Tree}
 use Rattle.rx_term.specs.Store.{Store, tree_at}
 use Rattle.rx_term.specs.Walks.{AllHeld, HaveTrees}
 use Rattle.rx_term.specs.declared.Term.{Term}
 use Rattle.rx_text.specs.Verdict.{Verdict, IsVerdict}
 use Rattle.rx_pattern.specs.Pattern.{unfit}
-use Rattle.rec_run.specs.Bytes.{newlines}
 use Rattle.rec_run.specs.Output.{Due, done}
 use Rattle.rec_run.specs.Refusals.{reading_due, refusal_due}
-use Rattle.rec_run.specs.Run.{Stops}
 use Rattle.rec_run.specs.TermRuns.{line_at}
 use Rattle.rec_run.specs.PatternRuns.{SpellsPattern, due_of_pattern, unless_unfit}
-use Rattle.rec_run.specs.declared.ending.RunFault.{RunFault}
 use Rattle.rec_run.specs.declared.pattern.answer.Answer.{Answer}
 use Rattle.rec_run.specs.declared.pattern.answer.Answer.TheVariants as answer
 use Rattle.rec_run.specs.declared.refusal.Reading.{Reading}
@@ -55,8 +51,3 @@ abbrev pub HasElements : Store → Option (List Tree) → Option (List Term) →
 HasElements w (Some ts) (Some rs) = HaveTrees w rs ts
 HasElements w None None = Unit {0}
 HasElements w _ _ = ⊥
-
--- a fault after so many lines, whichever these were, stopped them and the text after them
-abbrev pub StopsAfter : ℕ → RunFault → List ℕ → Option (List ℕ) → Option (List ℕ) → Type 0
-StopsAfter lines fault text between new = (before : List ℕ) (old : Option (List ℕ))
-    → newlines before ≡ lines → Appends old between before → Stops fault (before ++ text) old new

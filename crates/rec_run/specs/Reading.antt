@@ -33,14 +33,14 @@ IsGood (reading.Good checked) = Unit {0}
 
 -- what is shown of an evaluation within n steps, with annotations: the line of its term without the
 -- line end
-abbrev pub shown : Trees → Bool → ℕ → evaluation.Outcome Tree → List ℕ
-shown notes counted n (evaluation.Done v left) = canon (annotated v notes)
+abbrev pub evaluation_text : Trees → Bool → ℕ → evaluation.Outcome Tree → List ℕ
+evaluation_text notes counted n (evaluation.Done v left) = canon (annotated v notes)
     ++ steps_text counted (n - left)
-shown notes counted n evaluation.Over = codes "!limit " ++ decimal n
+evaluation_text notes counted n evaluation.Over = codes "!limit " ++ decimal n
 
 -- the text of a term's line
 abbrev pub line_text : Spec → Bool → ℕ → Term → List ℕ
-line_text y counted n t = shown none counted n (Eval y n [] t)
+line_text y counted n t = evaluation_text none counted n (Eval y n [] t)
 
 -- the term of the list of terms that has this number
 abbrev pub term_at : Spec → ℕ → Term
@@ -51,6 +51,6 @@ abbrev pub text_at : Spec → Bool → ℕ → ℕ → List ℕ
 text_at y counted n i = line_text y counted n (term_at y i)
 
 -- the run's fault where no text was read
-abbrev pub unread : ReadFault → RunFault
-unread unreadable.Memory = fault.Memory 0
-unread unreadable.Read = fault.Read
+abbrev pub fault_of_read : ReadFault → RunFault
+fault_of_read unreadable.Memory = fault.Memory 0
+fault_of_read unreadable.Read = fault.Read

@@ -8,7 +8,7 @@
 --                                             them
 --     IsReadOut old new                       an input was read to its end, or to one byte behind
 --                                             the most that a text may have
-use Rattle.std.specs.Prelude.{◌≡◌, ◌⊎◌, ℕ, List, [], Bool, Option, Some, None, IfSome, drop, option_map}
+use Rattle.std.specs.Prelude.{◌≡◌, ◌+◌, ◌⊎◌, ℕ, List, [], Bool, Option, Some, None, IfSome, drop, option_map}
 use Rattle.std.proofs.Common.{inl, inr}
 use Rattle.std.specs.Borrow.{MutBor}
 use Rattle.std.specs.Io.KnownBytes.{Appends}
@@ -49,6 +49,20 @@ pub record Stops (fault : RunFault) (text : List ℕ) (old new : Option (List �
   pub front : IsFront written text
   pub reported : Reports fault written
 
+-- the same where so many lines were written first
+abbrev pub ReportsAfter : ℕ → RunFault → List ℕ → Type 0
+ReportsAfter first (Memory lines) written = lines ≡ first + newlines written
+ReportsAfter first (Room lines) written = lines ≡ first + newlines written
+ReportsAfter first Read written = ⊥
+ReportsAfter first Write written = Unit {0}
+
+pub record StopsAfter (first : ℕ) (fault : RunFault) (text : List ℕ) (old new : Option (List ℕ))
+    : Type 0 where
+  pub written : List ℕ
+  pub appended : Appends old new written
+  pub front : IsFront written text
+  pub reported : ReportsAfter first fault written
+
 -- a run that stopped at a fault: what was written is a front of whatever is due
 abbrev pub Breaks : (Due → Type 0) → RunFault → Option (List ℕ) → Option (List ℕ) → Type 0
 Breaks IsDue fault old new = (d : Due) → IsDue d → Stops fault d.text old new
@@ -56,14 +70,14 @@ Breaks IsDue fault old new = (d : Due) → IsDue d → Stops fault d.text old ne
 -- the same for the texts of a run, where its readers tell them
 abbrev pub EndsFor : {T : Type 0} → (T → Due → Type 0) → Option T → Finish → Option (List ℕ)
     → Option (List ℕ) → Type 0
-EndsFor IsDue texts finish old new = IfSome texts (λ told. Ends (IsDue told) finish old new)
+EndsFor IsDue texts finish old new = IfSome texts (λ known. Ends (IsDue known) finish old new)
 
 abbrev pub IsPlacedFor : {T : Type 0} → (T → Due → Type 0) → Option T → Option Place → Type 0
-IsPlacedFor IsDue texts place = IfSome texts (λ told. IsPlaced (IsDue told) place)
+IsPlacedFor IsDue texts place = IfSome texts (λ known. IsPlaced (IsDue known) place)
 
 abbrev pub BreaksFor : {T : Type 0} → (T → Due → Type 0) → Option T → RunFault → Option (List ℕ)
     → Option (List ℕ) → Type 0
-BreaksFor IsDue texts fault old new = IfSome texts (λ told. Breaks (IsDue told) fault old new)
+BreaksFor IsDue texts fault old new = IfSome texts (λ known. Breaks (IsDue known) fault old new)
 
 -- the texts of a run: the specification, and the terms where some are given
 pub record Texts : Type 0 where

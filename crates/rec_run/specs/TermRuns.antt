@@ -16,6 +16,8 @@ use Rattle.rec_run.specs.declared.ending.Source.TheVariants as source
 use Rattle.rec_run.specs.declared.ending.Named.TheVariants as named
 use Rattle.rec_run.specs.declared.refusal.Reading.{Reading}
 use Rattle.rec_run.specs.declared.refusal.Reading.TheVariants as reading
+use Rattle.rec_run.specs.declared.term.runs.TermLines.{TermLines}
+use Rattle.rec_run.specs.declared.term.runs.TermLines.TheVariants.{Text, TextAndCells}
 
 -- the printed text, and a line end
 abbrev pub term_line : Tree → List ℕ
@@ -36,6 +38,11 @@ due_of lines (Outside at) = refused (codes "!term ") (codes "A")
     (Some (record { text = source.Term; rule = named.A; at = at }))
 due_of lines (Spelt t) = done (lines t)
 
+-- what is written of a term, by which lines are asked for
+abbrev pub lines_for : TermLines → Tree → List ℕ
+lines_for Text = term_line
+lines_for TextAndCells = share_lines
+
 -- what is due for a text, where so much is to be written of a term
 abbrev pub IsDueOf : (Tree → List ℕ) → List ℕ → Due → Type 0
 IsDueOf lines bytes d = (v : Verdict) × IsVerdict bytes v × (d ≡ due_of lines v)
@@ -47,24 +54,15 @@ abbrev pub IsShareDue : List ℕ → Due → Type 0
 IsShareDue bytes d = IsDueOf share_lines bytes d
 
 -- so much of the tree of a reference
-abbrev pub shown_at : (Tree → List ℕ) → Store → Term → List ℕ
-shown_at lines w t = option_map_or lines (tree_at w t) []
+abbrev pub lines_at : (Tree → List ℕ) → Store → Term → List ℕ
+lines_at lines w t = option_map_or lines (tree_at w t) []
 
 abbrev pub line_at : Store → Term → List ℕ
-line_at w t = shown_at term_line w t
-
-abbrev pub share_lines_at : Store → Term → List ℕ
-share_lines_at w t = shown_at share_lines w t
+line_at w t = lines_at term_line w t
 
 -- what is due for what a text came to
 abbrev pub due_at : (Tree → List ℕ) → Store → Reading Term → Due
-due_at lines w r = reading_due (λ t. done (shown_at lines w t)) r
-
-abbrev pub term_due : Store → Reading Term → Due
-term_due w r = due_at term_line w r
-
-abbrev pub share_due : Store → Reading Term → Due
-share_due w r = due_at share_lines w r
+due_at lines w r = reading_due (λ t. done (lines_at lines w t)) r
 
 -- what a text came to is this verdict, by the trees of a bank
 abbrev pub IsReadingOf : Source → Store → Reading Term → Verdict → Type 0

@@ -54,9 +54,9 @@ pub enum RunFault {
 }
 
 impl From<ReadFault> for RunFault {
-    ghost use Rattle.rec_run.specs.Reading.{unread};
+    ghost use Rattle.rec_run.specs.Reading.{fault_of_read};
 
-    ghost from_gives = { λ e r. r ≡ unread e };
+    ghost from_gives = { λ e r. r ≡ fault_of_read e };
 
     fn from(error: ReadFault) -> RunFault {
         match error {

@@ -34,7 +34,9 @@ pub(crate) enum Reason {
 /// A text that is refused, and why.
 #[derive(Clone, Copy, Debug)]
 pub(crate) struct Refusal {
+    /// The text.
     pub(crate) text: Source,
+    /// Why it is refused.
     pub(crate) reason: Reason,
 }
 
@@ -60,7 +62,9 @@ impl Refusal {
 /// What a text, or the texts of a run, came to.
 #[derive(Drop)]
 pub(crate) enum Reading<T> {
+    /// A text is refused.
     Refused(Refusal),
+    /// All are good, and came to this.
     Good(T),
 }
 

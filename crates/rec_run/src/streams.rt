@@ -15,7 +15,9 @@ pub const LIMIT: usize = 16_777_216;
 /// Why a text was not read.
 #[derive(Clone, Copy, Debug)]
 pub enum ReadFault {
+    /// A growth was refused.
     Memory,
+    /// The reader answered an error.
     Read,
 }
 
@@ -61,7 +63,7 @@ pub fn read_all<R: Read>(alloc: Global, reader: &mut R) -> Result<Vec<u8>, ReadF
     ensures text { IfOk result
         (λ text. IfSome (R.remaining reader.old) (λ bytes. text.items ≡ take (LIMIT + 1) bytes)) }
     ensures out { OnOk result (IsReadOut (R.remaining reader.old) (R.remaining reader.new)) }
-    ensures within { IfOk result (λ text. vec_len text ≤ LIMIT + 1) }
+    ensures bound { IfOk result (λ text. vec_len text ≤ LIMIT + 1) }
     ensures lost { OnErr result
         ((bytes : List ℕ) × Consumes (R.remaining reader.old) (R.remaining reader.new) bytes) }
 {

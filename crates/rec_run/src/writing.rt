@@ -5,9 +5,8 @@ ghost use Rattle.std.specs.Io.KnownBytes.{Appends, Keeps};
 ghost use Rattle.rx_term.specs.Store.{tree_at};
 ghost use Rattle.rx_text.specs.Written.{AppendsFront};
 ghost use Rattle.rec_run.specs.Output.{steps_text};
-ghost use Rattle.rec_run.specs.PatternAnswers.{StopsAfter};
 ghost use Rattle.rec_run.specs.Refusals.{name_of, refusal_due, word_of};
-ghost use Rattle.rec_run.specs.Run.{StopsWriting};
+ghost use Rattle.rec_run.specs.Run.{StopsAfter, StopsWriting};
 ghost use Rattle.rec_run.specs.TermRuns.{line_at};
 
 use crate::ending::{RunFault, Source};

@@ -5,16 +5,14 @@ use Rattle.std.proofs.lemmas.List.Elements.{All-push, All-append, All-take}
 use Rattle.std.specs.Prelude.{ℕ, ◌≡◌, ◌+◌, ◌<◌, ◌≤◌, List, [], ◌∷◌, ◌++◌, Option, length, map, flat_map, take, get_or, All}
 use Rattle.rec_syntax.specs.Tokens.{Word}
 use Rattle.rec_syntax.specs.Syntax.{Declaration, Variables}
-use Rattle.rec_syntax.specs.Parts.{words_of, Within, declaration_of, group_of}
+use Rattle.rec_syntax.specs.Parts.{words_of, Within}
 use Rattle.rec_syntax.specs.Lexemes.{word_of}
 use Rattle.rec_syntax.specs.declared.lexer.Span.{Span}
-use Rattle.rec_syntax.specs.declared.parts.Declaration as declared
-use Rattle.rec_syntax.specs.declared.parts.Group as declared_group
 use Rattle.rec_sorts.specs.Lookup.{names, variable_words}
 use Rattle.rec_sorts.specs.SpecRules.{sorts_of}
 use Rattle.rec_sorts.specs.Least.{earlier}
 use Rattle.rec_sorts.specs.Names.{Numbers}
-use Rattle.rec_sorts.specs.Declaring.{sort_numbers, unnumbered, least_unnumbered, Additions, both, nothing_added, added_by_symbol, added_by_symbols, added_by_group, added_by_groups, Adds}
+use Rattle.rec_sorts.specs.Declaring.{sort_numbers, unnumbered, least_unnumbered, Additions, both, nothing_added, added_by, added_by_symbol, added_by_symbols, added_by_group, added_by_groups, Adds}
 use Rattle.rec_sorts.specs.Agreeing.{variable_sorts}
 use Rattle.rec_sorts.specs.declared.declarations.Declared.{Declared}
 use Rattle.rec_sorts.proofs.LeastPlaceLemmas.{earlier_assoc, earlier_none}
@@ -47,23 +45,10 @@ both_assoc a b c = λ i. record {
   named = append_assoc a.named b.named c.named i;
 }
 
-pub added_by_symbols-push : (numbers : Numbers) (ds : List Declaration) (d : Declaration) → added_by_symbols numbers (ds ++ d ∷ []) ≡ both (added_by_symbols numbers ds) (added_by_symbol numbers d)
-added_by_symbols-push numbers [] d = both-nothing (added_by_symbol numbers d)
-added_by_symbols-push numbers (c ∷ ds) d =
-    ap (both (added_by_symbol numbers c)) (added_by_symbols-push numbers ds d)
-    ∙ sym (both_assoc (added_by_symbol numbers c) (added_by_symbols numbers ds) (added_by_symbol numbers d))
-
-pub added_by_groups-push : (numbers : Numbers) (vs : List Variables) (v : Variables) → added_by_groups numbers (vs ++ v ∷ []) ≡ both (added_by_groups numbers vs) (added_by_group numbers v)
-added_by_groups-push numbers [] v = both-nothing (added_by_group numbers v)
-added_by_groups-push numbers (u ∷ vs) v =
-    ap (both (added_by_group numbers u)) (added_by_groups-push numbers vs v)
-    ∙ sym (both_assoc (added_by_group numbers u) (added_by_groups numbers vs) (added_by_group numbers v))
-
-pub added_by_symbols-append : (numbers : Numbers) (ds es : List Declaration) → added_by_symbols numbers (ds ++ es) ≡ both (added_by_symbols numbers ds) (added_by_symbols numbers es)
-added_by_symbols-append numbers [] es = refl
-added_by_symbols-append numbers (d ∷ ds) es =
-    ap (both (added_by_symbol numbers d)) (added_by_symbols-append numbers ds es)
-    ∙ sym (both_assoc (added_by_symbol numbers d) (added_by_symbols numbers ds) (added_by_symbols numbers es))
+-- what some items and then others add
+pub added_by-append : {X : Type 0} (add : X → Additions) (xs ys : List X) → added_by add (xs ++ ys) ≡ both (added_by add xs) (added_by add ys)
+added_by-append add [] ys = refl
+added_by-append add (x ∷ xs) ys = ap (both (add x)) (added_by-append add xs ys) ∙ sym (both_assoc (add x) (added_by add xs) (added_by add ys))
 
 -- what symbols add
 pub added_by_symbols-parts : (numbers : Numbers) (ds : List Declaration)
@@ -127,20 +112,12 @@ unknown_pushed numbers ws w old unknown missing both new eu em eb en =
     ∙ ap (earlier old)
     (eb ∙ ap (λ p. earlier p missing) eu ∙ ap (earlier (least_unnumbered numbers ws)) (em ∙ sym (earlier_none (unnumbered numbers w))) ∙ sym (least_of-append (unnumbered numbers) ws (w ∷ [])))
 
--- one more symbol is added
-pub symbols_turn : (source : List ℕ) (numbers : Numbers) (old mid new : Declared) (ds : List declared.Declaration) (i : ℕ) (d : declared.Declaration) → i < length ds → d ≡ get_or ds i d
-    → Adds source numbers old mid (added_by_symbols numbers (map (declaration_of source) (take i ds))) → Adds source numbers mid new (added_by_symbol numbers (declaration_of source d))
-    → Adds source numbers old new (added_by_symbols numbers (map (declaration_of source) (take (i + 1) ds)))
-symbols_turn source numbers old mid new ds i d h e all one =
+-- one more item is added
+pub added_turn : {X Y : Type 0} (add : Y → Additions) (spell : X → Y) (source : List ℕ) (numbers : Numbers) (old mid new : Declared) (xs : List X) (i : ℕ) (x : X) → i < length xs → x ≡ get_or xs i x
+    → Adds source numbers old mid (added_by add (map spell (take i xs))) → Adds source numbers mid new (add (spell x))
+    → Adds source numbers old new (added_by add (map spell (take (i + 1) xs)))
+added_turn add spell source numbers old mid new xs i x h e all one =
+    let before = map spell (take i xs) in
     subst (Adds source numbers old new)
-    (sym (ap (added_by_symbols numbers) (map-take_turn (declaration_of source) ds i d h e) ∙ added_by_symbols-push numbers (map (declaration_of source) (take i ds)) (declaration_of source d)))
-    (Adds-both source numbers old mid new (added_by_symbols numbers (map (declaration_of source) (take i ds))) (added_by_symbol numbers (declaration_of source d)) all one)
-
--- one more group is added
-pub groups_turn : (source : List ℕ) (numbers : Numbers) (old mid new : Declared) (gs : List declared_group.Group) (i : ℕ) (g : declared_group.Group) → i < length gs → g ≡ get_or gs i g
-    → Adds source numbers old mid (added_by_groups numbers (map (group_of source) (take i gs))) → Adds source numbers mid new (added_by_group numbers (group_of source g))
-    → Adds source numbers old new (added_by_groups numbers (map (group_of source) (take (i + 1) gs)))
-groups_turn source numbers old mid new gs i g h e all one =
-    subst (Adds source numbers old new)
-    (sym (ap (added_by_groups numbers) (map-take_turn (group_of source) gs i g h e) ∙ added_by_groups-push numbers (map (group_of source) (take i gs)) (group_of source g)))
-    (Adds-both source numbers old mid new (added_by_groups numbers (map (group_of source) (take i gs))) (added_by_group numbers (group_of source g)) all one)
+    (sym (ap (added_by add) (map-take_turn spell xs i x h e) ∙ added_by-append add before (spell x ∷ []) ∙ ap (both (added_by add before)) (both-nothing (add (spell x)))))
+    (Adds-both source numbers old mid new (added_by add before) (add (spell x)) all one)

@@ -14,11 +14,11 @@ use Rattle.rec_sorts.specs.Lookup.{mentions, repeated, symbols, names, variable_
 use Rattle.rec_sorts.specs.SpecRules.{sorts_of, missing, repeated_symbols, taken_variables}
 use Rattle.rec_sorts.specs.Least.{earlier, least_place, place_where}
 use Rattle.rec_sorts.specs.Names.{Numbers, numbers_after, least_repeated, first_at}
-use Rattle.rec_sorts.specs.Declaring.{sort_numbers, least_unnumbered, Additions, both, added_by_symbols, added_by_groups, Adds}
+use Rattle.rec_sorts.specs.Declaring.{sort_numbers, least_unnumbered, Additions, both, added_by_symbol, added_by_symbols, added_by_groups, Adds}
 use Rattle.rec_sorts.specs.Agreeing.{variable_sorts, IsDeclared}
 use Rattle.rec_sorts.specs.declared.declarations.Declared.{Declared}
 use Rattle.rec_sorts.proofs.TableLemmas.{numbers_after-first_at, is_some-first_at, least_repeated-repeated}
-use Rattle.rec_sorts.proofs.AdditionLemmas.{Adds-both, added_by_symbols-append, added_by_symbols-parts, added_by_groups-parts, words_longer}
+use Rattle.rec_sorts.proofs.AdditionLemmas.{Adds-both, added_by-append, added_by_symbols-parts, added_by_groups-parts, words_longer}
 use Rattle.rec_sorts.proofs.SubtermLemmas.{least_of-same, least_of-filter, place_where-cond}
 
 -- all that a specification declares
@@ -35,7 +35,7 @@ pub Adds-all : (source : List ℕ) (numbers : Numbers) (y : Spec) (d₀ d₁ d�
     → Adds source numbers d₂ d₃ (added_by_groups numbers y.variables) → Adds source numbers d₀ d₃ (all_added numbers y)
 Adds-all source numbers y d₀ d₁ d₂ d₃ c o g =
     subst (Adds source numbers d₀ d₃)
-    (ap (λ a. both a (added_by_groups numbers y.variables)) (sym (added_by_symbols-append numbers y.constructors y.operators) ∙ added_by_symbols-parts numbers (symbols y))
+    (ap (λ a. both a (added_by_groups numbers y.variables)) (sym (added_by-append (added_by_symbol numbers) y.constructors y.operators) ∙ added_by_symbols-parts numbers (symbols y))
     ∙ ap (both (record { words = names (symbols y); sorts = map (λ d. numbers d.sort.bytes) (symbols y); arguments = map (λ d. sort_numbers numbers d.arguments) (symbols y); named = flat_map sorts_of (symbols y) })) (added_by_groups-parts numbers y.variables))
     (Adds-both source numbers d₀ d₂ d₃ (both (added_by_symbols numbers y.constructors) (added_by_symbols numbers y.operators)) (added_by_groups numbers y.variables)
     (Adds-both source numbers d₀ d₁ d₂ (added_by_symbols numbers y.constructors) (added_by_symbols numbers y.operators) c o) g)
@@ -47,7 +47,7 @@ symbols-read source numbers y d₀ d₁ d₂ empty c o =
     let both_added = Adds-both source numbers d₀ d₁ d₂ (added_by_symbols numbers y.constructors) (added_by_symbols numbers y.operators) c o in
     let all : words_of source d₂.words.items ≡ names (symbols y) =
     both_added.words_added ∙ ap (λ xs. words_of source xs ++ (both (added_by_symbols numbers y.constructors) (added_by_symbols numbers y.operators)).words) empty
-    ∙ ap (λ (a : Additions). a.words) (sym (added_by_symbols-append numbers y.constructors y.operators) ∙ added_by_symbols-parts numbers (symbols y)) in
+    ∙ ap (λ (a : Additions). a.words) (sym (added_by-append (added_by_symbol numbers) y.constructors y.operators) ∙ added_by_symbols-parts numbers (symbols y)) in
     sym (length-map d₂.words.items (word_of source)) ∙ ap length all ∙ length-map (symbols y) (λ d. d.name)
 
 module _ (source : List ℕ) (y : Spec) (words : List Span) (n : ℕ) (all : words_of source words ≡ names (symbols y) ++ variable_words y.variables) (long : n ≡ length (symbols y)) where
@@ -64,32 +64,34 @@ module _ (source : List ℕ) (y : Spec) (words : List Span) (n : ℕ) (all : wor
       sym (drop-map (word_of source) n words) ∙ ap (drop n) all ∙ ap (λ (k : ℕ). drop k (names (symbols y) ++ variable_words y.variables)) long_names
       ∙ drop-append_seam (names (symbols y)) (variable_words y.variables)
 
+-- what numbering the words of symbols and then of variables finds
+pub record NamesRead (y : Spec) (n : ℕ) (front back : List Word) (g₀ g₁ g₂ : Numbers) : Type 0 where
+  pub numbered : g₂ ≡ first_at (names (symbols y) ++ variable_words y.variables)
+  pub symbols_repeated : least_repeated g₀ 0 front ≡ least_place (repeated_symbols y)
+  pub variables_repeated : least_repeated g₁ n back ≡ least_place (taken_variables y)
+
 module _ (y : Spec) (n : ℕ) (long : n ≡ length (symbols y)) (front back : List Word) (first : front ≡ names (symbols y)) (second : back ≡ variable_words y.variables)
     (g₀ g₁ g₂ : Numbers) (start : g₀ ≡ (λ _. None)) (numbered : g₁ ≡ numbers_after g₀ 0 front) (then_numbered : g₂ ≡ numbers_after g₁ n back) where
-  symbols_numbered : g₁ ≡ first_at (names (symbols y))
-  symbols_numbered = numbered ∙ ap (λ (g : Numbers). numbers_after g 0 front) start ∙ ap (numbers_after (first_at []) 0) first ∙ numbers_after-first_at [] (names (symbols y))
+  names_numbered : g₁ ≡ first_at (names (symbols y))
+  names_numbered = numbered ∙ ap (λ (g : Numbers). numbers_after g 0 front) start ∙ ap (numbers_after (first_at []) 0) first ∙ numbers_after-first_at [] (names (symbols y))
 
-  -- the words have the numbers of their places
-  pub words_all-numbered : g₂ ≡ first_at (names (symbols y) ++ variable_words y.variables)
-  words_all-numbered =
-      then_numbered
-      ∙ ap (λ (g : Numbers). numbers_after g n back) symbols_numbered
-      ∙ ap (numbers_after (first_at (names (symbols y))) n) second
-      ∙ ap (λ (k : ℕ). numbers_after (first_at (names (symbols y))) k (variable_words y.variables)) (long ∙ sym (length-map (symbols y) (λ d. d.name)))
-      ∙ numbers_after-first_at (names (symbols y)) (variable_words y.variables)
-
-  -- the symbols that repeat are found
-  pub symbols_repeated : least_repeated g₀ 0 front ≡ least_place (repeated_symbols y)
-  symbols_repeated =
-      ap (λ (g : Numbers). least_repeated g 0 front) start ∙ ap (least_repeated (λ _. None) 0) first
-      ∙ least_repeated-repeated (λ _. None) 0 [] (names (symbols y)) (λ name. refl)
-
-  -- so are the variables
-  pub variables_repeated : least_repeated g₁ n back ≡ least_place (taken_variables y)
-  variables_repeated =
-      ap (λ (g : Numbers). least_repeated g n back) symbols_numbered
-      ∙ ap (least_repeated (first_at (names (symbols y))) n) second
-      ∙ least_repeated-repeated (first_at (names (symbols y))) n (names (symbols y)) (variable_words y.variables) (is_some-first_at (names (symbols y)))
+  -- the words have the numbers of their places, and those that repeat are found
+  pub names_read : NamesRead y n front back g₀ g₁ g₂
+  names_read = record {
+    numbered =
+        then_numbered
+        ∙ ap (λ (g : Numbers). numbers_after g n back) names_numbered
+        ∙ ap (numbers_after (first_at (names (symbols y))) n) second
+        ∙ ap (λ (k : ℕ). numbers_after (first_at (names (symbols y))) k (variable_words y.variables)) (long ∙ sym (length-map (symbols y) (λ d. d.name)))
+        ∙ numbers_after-first_at (names (symbols y)) (variable_words y.variables);
+    symbols_repeated =
+        ap (λ (g : Numbers). least_repeated g 0 front) start ∙ ap (least_repeated (λ _. None) 0) first
+        ∙ least_repeated-repeated (λ _. None) 0 [] (names (symbols y)) (λ name. refl);
+    variables_repeated =
+        ap (λ (g : Numbers). least_repeated g n back) names_numbered
+        ∙ ap (least_repeated (first_at (names (symbols y))) n) second
+        ∙ least_repeated-repeated (first_at (names (symbols y))) n (names (symbols y)) (variable_words y.variables) (is_some-first_at (names (symbols y)));
+  }
 
 none-not : (o : Option ℕ) → is_none o ≡ not (is_some o)
 none-not None = refl

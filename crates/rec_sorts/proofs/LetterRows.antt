@@ -1,11 +1,12 @@
 -- What numbers and letters stand for, in one specification.
 use Rattle.std.proofs.Common.{refl, arith, ◌<◌}
 use Rattle.std.specs.Prelude.{ℕ, List, [], ◌∷◌, codes, ◌≡◌}
-use Rattle.rec_syntax.specs.Syntax.{Terms, Apply, Condition, Spec}
+use Rattle.rec_syntax.specs.Syntax.{Condition, Spec}
+use Rattle.rec_syntax.proofs.RowWords.{term}
 use Rattle.rec_sorts.specs.Numbering.{name_of, IsMeaning, Named, named, AreLetters, Pairwise, IsLetterCondition, arity_of, variable_count}
 use Rattle.rec_sorts.specs.declared.letters.LetterCondition.{LetterCondition}
 use Rattle.rec_sorts.specs.declared.letters.Meaning.TheVariants.{Symbol, Variable}
-use Rattle.rec_sorts.proofs.SpecRows.{w, good}
+use Rattle.rec_sorts.proofs.SpecRows.{good}
 
 -- symbols are numbered from 0, those of CONS and then those of OPNS; so are variables
 first_symbol : name_of good (Symbol 0) ≡ codes "a"
@@ -46,12 +47,12 @@ abbrev n : List ℕ → ℕ → Named
 n name arguments = record { name = name; arguments = arguments }
 
 -- f(g(X),a): the letters of arguments stand before their head's, from left to right
-named_nested : named (Apply (w 0 (codes "f")) (Terms.more (Apply (w 2 (codes "g")) (Terms.more (Apply (w 4 (codes "X")) Terms.none) Terms.none)) (Terms.more (Apply (w 7 (codes "a")) Terms.none) Terms.none)))
+named_nested : named (term 0 "f" (term 2 "g" (term 4 "X" [] ∷ []) ∷ term 7 "a" [] ∷ []))
     ≡ n (codes "X") 0 ∷ n (codes "g") 1 ∷ n (codes "a") 0 ∷ n (codes "f") 2 ∷ []
 named_nested = refl
 
 -- a letter of a number that no symbol has stands for nothing, not even for a word of no bytes
-unmeant : AreLetters good (record { meaning = Symbol 3; count = 0 } ∷ []) (Apply (w 0 []) Terms.none) → ⊥
+unmeant : AreLetters good (record { meaning = Symbol 3; count = 0 } ∷ []) (term 0 "" []) → ⊥
 unmeant h = let meant : 3 < 3 = h.0 0 (record { meaning = Symbol 3; count = 0 }) (omega arith) in omega (arith, meant)
 
 in_pairs : Pairwise {X = ℕ} {Y = ℕ} (λ j k. j ≡ k) (1 ∷ 2 ∷ []) (1 ∷ 2 ∷ [])

@@ -27,7 +27,7 @@ use Rattle.rec_sorts.proofs.KeptLemmas.{all_kept}
 use Rattle.rec_sorts.proofs.SubtermLemmas.{term_count-count}
 use Rattle.rec_sorts.proofs.StackLemmas.{map-append}
 use Rattle.rec_sorts.proofs.MeaningLemmas.{first_at-number, meaning-symbol, meaning-variable}
-use Rattle.rec_sorts.proofs.ConclusionLemmas.{conditions-field, rules-field, terms-field, unknown-found}
+use Rattle.rec_sorts.proofs.ConclusionLemmas.{field-over, unknown-found}
 
 abbrev named_node : Node → Named
 named_node n = record { name = n.word.bytes; arguments = n.count }
@@ -138,7 +138,7 @@ module _ (y : Spec) (s : Scope) (h : IsScope y s) where
       let a = both_none (earlier (earlier (unknown_among (letters_of s r.left)) (unknown_among (letters_of s r.right))) None) (conditions_places s bound r.conditions).unknown known in
       let both = both_none (earlier (unknown_among (letters_of s r.left)) (unknown_among (letters_of s r.right))) None a.0 in
       let b = both_none (unknown_among (letters_of s r.left)) (unknown_among (letters_of s r.right)) both.0 in
-      let c = none_each (λ (c : Condition). (condition_places s bound c).unknown) r.conditions (sym (conditions-field s (λ p. p.unknown) (λ p q. refl) refl bound r.conditions) ∙ a.1) in (
+      let c = none_each (λ (c : Condition). (condition_places s bound c).unknown) r.conditions (sym (field-over (λ p. p.unknown) (λ p q. refl) refl (condition_places s bound) r.conditions) ∙ a.1) in (
         are_letters l.left.items r.left e.0 b.0,
         are_letters l.right.items r.right e.1 b.1,
         pair_each (SpellsCondition s) (IsLetterCondition y) (λ c. (condition_places s bound c).unknown ≡ None) (is_letter_condition bound) l.conditions.items r.conditions e.2 c,
@@ -154,11 +154,11 @@ module _ (y : Spec) (s : Scope) (h : IsScope y s) where
     pub rules-lettered : (ls : List LetterRule) → Pairwise (SpellsRule s) ls y.rules → Pairwise (IsLetterRule y) ls y.rules
     rules-lettered ls spelled =
         pair_each (SpellsRule s) (IsLetterRule y) (λ r. (rule_places s r).unknown ≡ None) is_letter_rule ls y.rules spelled
-        (none_each (λ (r : Rule). (rule_places s r).unknown) y.rules (sym (rules-field s (λ p. p.unknown) (λ p q. refl) refl y.rules) ∙ all_known.0))
+        (none_each (λ (r : Rule). (rule_places s r).unknown) y.rules (sym (field-over (λ p. p.unknown) (λ p q. refl) refl (rule_places s) y.rules) ∙ all_known.0))
 
     -- the letters of the terms to evaluate
     pub terms-lettered : {V : Type 0} (items : V → List Letter) (ls : List V) → Pairwise (λ v t. SpellsTerm s (items v) t) ls y.terms → Pairwise (λ v t. AreLetters y (items v) t) ls y.terms
     terms-lettered items ls spelled =
         pair_each (λ v t. SpellsTerm s (items v) t) (λ v t. AreLetters y (items v) t) (λ t. (open_term_places s t).unknown ≡ None)
         (λ v t e known. are_letters (items v) t e (both_none (unknown_among (letters_of s t)) None known).0) ls y.terms spelled
-        (none_each (λ (t : Term). (open_term_places s t).unknown) y.terms (sym (terms-field s (λ p. p.unknown) (λ p q. refl) refl y.terms) ∙ all_known.1))
+        (none_each (λ (t : Term). (open_term_places s t).unknown) y.terms (sym (field-over (λ p. p.unknown) (λ p q. refl) refl (open_term_places s) y.terms) ∙ all_known.1))

@@ -1,41 +1,14 @@
 -- What the words of the laws say of two worked specifications, and what the laws say at their edges.
 use Rattle.std.proofs.Common.{refl, ap, subst, arith, ◌-◌}
 use Rattle.std.specs.Prelude.{ℕ, suc, List, [], ◌∷◌, codes, ◌≡◌, true, false, Some, None}
-use Rattle.rec_syntax.specs.Tokens.{Word}
-use Rattle.rec_syntax.specs.Syntax.{Term, Terms, Apply, Spec}
+use Rattle.rec_syntax.specs.Syntax.{Term, Spec}
+use Rattle.rec_syntax.proofs.RowWords.{term}
+use Rattle.rec_syntax.proofs.SpecRows.{add, conditional}
 use Rattle.rx_term.specs.Tree.{Tree, Appl, none, more, tree_eq}
 use Rattle.rec_sorts.specs.SpecRules.{fault}
 use Rattle.rec_sorts.specs.Binding.{Substitution, tree_of}
 use Rattle.rec_sorts.specs.Evaluation.{Done, Over, Eval}
 use Rattle.rec_sorts.specs.Laws.{CostLaw, RewritingLaw, fired, step, Steps, Unconditional, BindsVariables, IsPartOf, IsBuilt}
-
--- a word at a place
-abbrev w : ℕ → List ℕ → Word
-w at bytes = record { at = at; bytes = bytes }
-
--- REC-SPEC Add SORTS Nat CONS z : -> Nat s : Nat -> Nat OPNS plus : Nat Nat -> Nat VARS X Y : Nat RULES plus(z,Y) -> Y plus(s(X),Y) -> s(plus(X,Y)) EVAL plus(s(s(z)),s(z)) END-SPEC
-abbrev addition : Spec
-addition = record {
-  name = (w 9 (codes "Add"));
-  sorts = ((w 19 (codes "Nat")) ∷ []);
-  constructors = ((record { name = (w 28 (codes "z")); arguments = ([]); sort = (w 35 (codes "Nat")) }) ∷ (record { name = (w 39 (codes "s")); arguments = ((w 43 (codes "Nat")) ∷ []); sort = (w 50 (codes "Nat")) }) ∷ []);
-  operators = ((record { name = (w 59 (codes "plus")); arguments = ((w 66 (codes "Nat")) ∷ (w 70 (codes "Nat")) ∷ []); sort = (w 77 (codes "Nat")) }) ∷ []);
-  variables = ((record { first = (w 86 (codes "X")); others = ((w 88 (codes "Y")) ∷ []); sort = (w 92 (codes "Nat")) }) ∷ []);
-  rules = ((record { left = (Apply (w 102 (codes "plus")) (Terms.more (Apply (w 107 (codes "z")) Terms.none) (Terms.more (Apply (w 109 (codes "Y")) Terms.none) Terms.none))); right = (Apply (w 115 (codes "Y")) Terms.none); conditions = ([]) }) ∷ (record { left = (Apply (w 117 (codes "plus")) (Terms.more (Apply (w 122 (codes "s")) (Terms.more (Apply (w 124 (codes "X")) Terms.none) Terms.none)) (Terms.more (Apply (w 127 (codes "Y")) Terms.none) Terms.none))); right = (Apply (w 133 (codes "s")) (Terms.more (Apply (w 135 (codes "plus")) (Terms.more (Apply (w 140 (codes "X")) Terms.none) (Terms.more (Apply (w 142 (codes "Y")) Terms.none) Terms.none))) Terms.none)); conditions = ([]) }) ∷ []);
-  terms = ((Apply (w 151 (codes "plus")) (Terms.more (Apply (w 156 (codes "s")) (Terms.more (Apply (w 158 (codes "s")) (Terms.more (Apply (w 160 (codes "z")) Terms.none) Terms.none)) Terms.none)) (Terms.more (Apply (w 164 (codes "s")) (Terms.more (Apply (w 166 (codes "z")) Terms.none) Terms.none)) Terms.none))) ∷ []);
-}
-
--- REC-SPEC Cond SORTS Nat CONS z : -> Nat s : Nat -> Nat OPNS f : Nat -> Nat g : Nat -> Nat VARS X : Nat RULES f(X) -> z if g(X) -><- z f(X) -> s(z) g(z) -> s(z) EVAL f(z) END-SPEC
-abbrev condition : Spec
-condition = record {
-  name = (w 9 (codes "Cond"));
-  sorts = ((w 20 (codes "Nat")) ∷ []);
-  constructors = ((record { name = (w 29 (codes "z")); arguments = ([]); sort = (w 36 (codes "Nat")) }) ∷ (record { name = (w 40 (codes "s")); arguments = ((w 44 (codes "Nat")) ∷ []); sort = (w 51 (codes "Nat")) }) ∷ []);
-  operators = ((record { name = (w 60 (codes "f")); arguments = ((w 64 (codes "Nat")) ∷ []); sort = (w 71 (codes "Nat")) }) ∷ (record { name = (w 75 (codes "g")); arguments = ((w 79 (codes "Nat")) ∷ []); sort = (w 86 (codes "Nat")) }) ∷ []);
-  variables = ((record { first = (w 95 (codes "X")); others = ([]); sort = (w 99 (codes "Nat")) }) ∷ []);
-  rules = ((record { left = (Apply (w 109 (codes "f")) (Terms.more (Apply (w 111 (codes "X")) Terms.none) Terms.none)); right = (Apply (w 117 (codes "z")) Terms.none); conditions = ((record { left = (Apply (w 122 (codes "g")) (Terms.more (Apply (w 124 (codes "X")) Terms.none) Terms.none)); right = (Apply (w 132 (codes "z")) Terms.none); equal = true }) ∷ []) }) ∷ (record { left = (Apply (w 134 (codes "f")) (Terms.more (Apply (w 136 (codes "X")) Terms.none) Terms.none)); right = (Apply (w 142 (codes "s")) (Terms.more (Apply (w 144 (codes "z")) Terms.none) Terms.none)); conditions = ([]) }) ∷ (record { left = (Apply (w 147 (codes "g")) (Terms.more (Apply (w 149 (codes "z")) Terms.none) Terms.none)); right = (Apply (w 155 (codes "s")) (Terms.more (Apply (w 157 (codes "z")) Terms.none) Terms.none)); conditions = ([]) }) ∷ []);
-  terms = ((Apply (w 165 (codes "f")) (Terms.more (Apply (w 167 (codes "z")) Terms.none) Terms.none)) ∷ []);
-}
 
 abbrev z : Tree
 z = Appl (codes "z") false none none
@@ -47,68 +20,68 @@ abbrev plus : Tree → Tree → Tree
 plus t u = Appl (codes "plus") false (more t (more u none)) none
 
 -- of two arguments that can be rewritten the left one is
-left_argument_first : step addition 1 (plus (plus z z) (plus z (s z))) ≡ Some (plus z (plus z (s z)))
+left_argument_first : step add 1 (plus (plus z z) (plus z (s z))) ≡ Some (plus z (plus z (s z)))
 unfolding Eval
 left_argument_first = refl
 
 -- an argument is rewritten before the head
-argument_before_head : step addition 1 (plus (s z) (plus z z)) ≡ Some (plus (s z) z)
+argument_before_head : step add 1 (plus (s z) (plus z z)) ≡ Some (plus (s z) z)
 unfolding Eval
 argument_before_head = refl
 
-right_argument : step addition 1 (plus z (plus z (s z))) ≡ Some (plus z (s z))
+right_argument : step add 1 (plus z (plus z (s z))) ≡ Some (plus z (s z))
 unfolding Eval
 right_argument = refl
 
 -- below a constructor too
-below_a_constructor : step addition 1 (s (s (plus z z))) ≡ Some (s (s z))
+below_a_constructor : step add 1 (s (s (plus z z))) ≡ Some (s (s z))
 unfolding Eval
 below_a_constructor = refl
 
 -- annotations stay
-annotations_stay : step addition 1 (Appl (codes "s") false (more (plus z z) none) (more z none)) ≡ Some (Appl (codes "s") false (more z none) (more z none))
+annotations_stay : step add 1 (Appl (codes "s") false (more (plus z z) none) (more z none)) ≡ Some (Appl (codes "s") false (more z none) (more z none))
 unfolding Eval
 annotations_stay = refl
 
-no_step : step addition 1 (s (s z)) ≡ None
+no_step : step add 1 (s (s z)) ≡ None
 unfolding Eval
 no_step = refl
 
 -- a rule that fires spends a step
-no_budget : step addition 0 (plus z z) ≡ None
+no_budget : step add 0 (plus z z) ≡ None
 unfolding Eval
 no_budget = refl
 
 -- the condition of the first rule fails, after one step for the rule and one within the condition
-second_rule : fired condition 3 (Appl (codes "f") false (more z none) none) ≡ Some (s z)
+second_rule : fired conditional 3 (Appl (codes "f") false (more z none) none) ≡ Some (s z)
 unfolding Eval
 second_rule = refl
 
-second_rule_over : fired condition 2 (Appl (codes "f") false (more z none) none) ≡ None
+second_rule_over : fired conditional 2 (Appl (codes "f") false (more z none) none) ≡ None
 unfolding Eval
 second_rule_over = refl
 
-three_steps : Steps addition 1 3 (plus (s (s z)) (s z)) (s (s (s z)))
+three_steps : Steps add 1 3 (plus (s (s z)) (s z)) (s (s (s z)))
 unfolding Eval
 three_steps = (s (plus (s z) (s z)), refl, (s (s (plus z (s z))), refl, (s (s (s z)), refl, refl)))
 
 -- without a step nothing changes
-no_steps : Steps addition 1 0 z (s z) → ⊥
+no_steps : Steps add 1 0 z (s z) → ⊥
 no_steps e = let different : true ≡ false = ap (λ t. tree_eq t z) e in absurd (cc different)
 
-no_conditions : Unconditional addition
+no_conditions : Unconditional add
 no_conditions = (refl, (refl, tt))
 
-a_condition : Unconditional condition → ⊥
+a_condition : Unconditional conditional → ⊥
 a_condition h = absurd (cc h.0)
 
-binds_a_variable : BindsVariables addition (record { name = codes "X"; value = z } ∷ []) (Apply (w 0 (codes "s")) (Terms.more (Apply (w 2 (codes "X")) Terms.none) Terms.none))
+binds_a_variable : BindsVariables add (record { name = codes "X"; value = z } ∷ []) (term 0 "s" (term 2 "X" [] ∷ []))
 binds_a_variable = (refl, ((z, refl), tt))
 
-binds_no_variable : BindsVariables addition [] (Apply (w 0 (codes "s")) (Terms.more (Apply (w 2 (codes "X")) Terms.none) Terms.none)) → ⊥
+binds_no_variable : BindsVariables add [] (term 0 "s" (term 2 "X" [] ∷ [])) → ⊥
 binds_no_variable h = absurd (cc h.1.0.1)
 
-binds_a_symbol : BindsVariables addition (record { name = codes "z"; value = z } ∷ []) (Apply (w 0 (codes "z")) Terms.none) → ⊥
+binds_a_symbol : BindsVariables add (record { name = codes "z"; value = z } ∷ []) (term 0 "z" []) → ⊥
 binds_a_symbol h = absurd (cc h.0)
 
 nothing_is_part : (t : Substitution) → IsPartOf [] t
@@ -117,19 +90,19 @@ nothing_is_part t name v e = absurd (cc e)
 not_part_of_nothing : IsPartOf (record { name = codes "X"; value = z } ∷ []) [] → ⊥
 not_part_of_nothing h = absurd (cc (h (codes "X") z refl))
 
-built_of_constructors : IsBuilt addition (s z)
+built_of_constructors : IsBuilt add (s z)
 built_of_constructors = (refl, refl, refl, ((refl, refl, refl, tt), tt))
 
-not_of_operators : IsBuilt addition (plus z z) → ⊥
+not_of_operators : IsBuilt add (plus z z) → ⊥
 not_of_operators h = absurd (cc h.0)
 
-not_of_operators_below : IsBuilt addition (s (plus z z)) → ⊥
+not_of_operators_below : IsBuilt add (s (plus z z)) → ⊥
 not_of_operators_below h = absurd (cc h.3.0.0)
 
-not_quoted : IsBuilt addition (Appl (codes "z") true none none) → ⊥
+not_quoted : IsBuilt add (Appl (codes "z") true none none) → ⊥
 not_quoted h = absurd (cc h.1)
 
-not_annotated : IsBuilt addition (Appl (codes "z") false none (more z none)) → ⊥
+not_annotated : IsBuilt add (Appl (codes "z") false none (more z none)) → ⊥
 not_annotated h = absurd (cc h.2)
 
 -- a budget of the cost is enough, and one less is not

@@ -9,6 +9,7 @@ use Rattle.rec_sorts.specs.Letters.{misplaced}
 use Rattle.rec_sorts.specs.declared.scope.Scope.{Scope}
 use Rattle.rec_sorts.specs.declared.terms.Placed.{Placed}
 use Rattle.rec_sorts.specs.Least.{earlier, joined}
+use Rattle.rec_sorts.specs.Reading.{places_over}
 use Rattle.rec_sorts.specs.Numbering.{Pairwise}
 use Rattle.rec_sorts.specs.declared.places.TermPlaces.{TermPlaces}
 use Rattle.rec_sorts.proofs.LeastPlaceLemmas.{earlier_none, joined_assoc}
@@ -40,14 +41,14 @@ Pairwise_turn P f cs i d xs zs x h e grown all one =
     (subst (λ vs. Pairwise P (xs ++ x ∷ []) vs) (sym (map-take_turn f cs i d h e)) (Pairwise-push P xs (map f (take i cs)) x (f d) all one))
 
 -- one more item's places are collected
-pub joined_turn : {X : Type 0} (all_of : List X → TermPlaces) (one : X → TermPlaces) → ((x : X) (xs : List X) → all_of (x ∷ xs) ≡ joined (one x) (all_of xs))
-    → (xs : List X) (i : ℕ) (d : X) (places all : TermPlaces) → i < length xs → joined places (all_of (drop i xs)) ≡ all
-    → joined (joined places (one (get_or xs i d))) (all_of (drop (i + 1) xs)) ≡ all
-joined_turn all_of one unfold_one xs i d places all h e =
-    joined_assoc places (one (get_or xs i d)) (all_of (drop (i + 1) xs))
-    ∙ ap (joined places) (sym (unfold_one (get_or xs i d) (drop (i + 1) xs)))
-    ∙ ap (λ ys. joined places (all_of ys)) (sym (drop-turn xs i d h))
-    ∙ e
+pub places_turn : {X Y : Type 0} (f : X → Y) (one : Y → TermPlaces) (xs : List X) (i : ℕ) (d : X) (places read new all : TermPlaces) → i < length xs → d ≡ get_or xs i d → new ≡ joined places read → read ≡ one (f d)
+    → joined places (places_over one (map f (drop i xs))) ≡ all → joined new (places_over one (map f (drop (i + 1) xs))) ≡ all
+places_turn f one xs i d places read new all h e grown found before =
+    let later = places_over one (map f (drop (i + 1) xs)) in
+    ap (λ p. joined p later) (grown ∙ ap (joined places) (found ∙ ap (λ x. one (f x)) e))
+    ∙ joined_assoc places (one (f (get_or xs i d))) later
+    ∙ ap (λ ys. joined places (places_over one (map f ys))) (sym (drop-turn xs i d h))
+    ∙ before
 
 pub misplaced-nothing : (s : Scope) (ps : List Placed) → misplaced s ps [] ≡ None
 misplaced-nothing s [] = refl
@@ -64,11 +65,3 @@ misplaced-done s ps ss n e = by_end (cases_lt (length ps) (length ss))
 pub misplaced_end : (s : Scope) (ps : List Placed) (ss : List (Option ℕ)) (n : ℕ) (least all : Option ℕ) → n ≡ min (length ps) (length ss)
     → earlier least (misplaced s (drop n ps) (drop n ss)) ≡ all → least ≡ all
 misplaced_end s ps ss n least all e h = sym (earlier_none least) ∙ ap (earlier least) (sym (misplaced-done s ps ss n e)) ∙ h
-
--- the same, where the item's places were found
-pub places_turn : {X Y : Type 0} (f : X → Y) (all_of : List Y → TermPlaces) (one : Y → TermPlaces) → ((y : Y) (ys : List Y) → all_of (y ∷ ys) ≡ joined (one y) (all_of ys))
-    → (xs : List X) (i : ℕ) (d : X) (places read new all : TermPlaces) → i < length xs → d ≡ get_or xs i d → new ≡ joined places read → read ≡ one (f d)
-    → joined places (all_of (map f (drop i xs))) ≡ all → joined new (all_of (map f (drop (i + 1) xs))) ≡ all
-places_turn f all_of one unfold_one xs i d places read new all h e grown found before =
-    ap (λ p. joined p (all_of (map f (drop (i + 1) xs)))) (grown ∙ ap (joined places) (found ∙ ap (λ x. one (f x)) e))
-    ∙ joined_turn (λ ys. all_of (map f ys)) (λ x. one (f x)) (λ x ys. unfold_one (f x) (map f ys)) xs i d places all h before

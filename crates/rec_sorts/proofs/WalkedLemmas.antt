@@ -164,10 +164,6 @@ module _ (p : Tree → Bool) where
   any-held w [] = refl
   any-held w (r ∷ rs) = ap (λ b. p (held_tree w r) || b) (any-held w rs)
 
--- ---- annotations
-
--- ---- lists without annotations
-
 -- ---- rules
 
 -- the first test that passes gives the first rule that nodes break

@@ -39,6 +39,11 @@ both a b = record {
 abbrev pub nothing_added : Additions
 nothing_added = record { words = []; sorts = []; arguments = []; named = [] }
 
+-- what some items add, one after another
+abbrev pub added_by : {X : Type 0} → (X → Additions) → List X → Additions
+added_by add [] = nothing_added
+added_by add (x ∷ xs) = both (add x) (added_by add xs)
+
 abbrev pub added_by_symbol : Numbers → Declaration → Additions
 added_by_symbol numbers d = record {
   words = d.name ∷ [];
@@ -48,8 +53,7 @@ added_by_symbol numbers d = record {
 }
 
 abbrev pub added_by_symbols : Numbers → List Declaration → Additions
-added_by_symbols numbers [] = nothing_added
-added_by_symbols numbers (d ∷ ds) = both (added_by_symbol numbers d) (added_by_symbols numbers ds)
+added_by_symbols numbers ds = added_by (added_by_symbol numbers) ds
 
 abbrev pub added_by_group : Numbers → Variables → Additions
 added_by_group numbers v = record {
@@ -60,8 +64,7 @@ added_by_group numbers v = record {
 }
 
 abbrev pub added_by_groups : Numbers → List Variables → Additions
-added_by_groups numbers [] = nothing_added
-added_by_groups numbers (v ∷ vs) = both (added_by_group numbers v) (added_by_groups numbers vs)
+added_by_groups numbers vs = added_by (added_by_group numbers) vs
 
 -- the new declarations are the old ones and these
 pub record Adds (source : List ℕ) (numbers : Numbers) (old new : Declared) (a : Additions)

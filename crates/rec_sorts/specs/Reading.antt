@@ -33,6 +33,11 @@ nowhere = record {
   free = None;
 }
 
+-- the least place for each rule, over some items
+abbrev pub places_over : {X : Type 0} → (X → TermPlaces) → List X → TermPlaces
+places_over places_of [] = nowhere
+places_over places_of (x ∷ xs) = joined (places_of x) (places_over places_of xs)
+
 -- where a term breaks a rule by itself
 abbrev pub term_places : Scope → Term → TermPlaces
 term_places s t = record nowhere {
@@ -96,9 +101,7 @@ condition_places s bound c =
     })
 
 abbrev pub conditions_places : Scope → (ℕ → Bool) → List Condition → TermPlaces
-conditions_places s bound [] = nowhere
-conditions_places s bound (c ∷ cs) = joined (condition_places s bound c)
-    (conditions_places s bound cs)
+conditions_places s bound cs = places_over (condition_places s bound) cs
 
 -- where a rule breaks a rule
 abbrev pub rule_places : Scope → Rule → TermPlaces
@@ -111,8 +114,7 @@ rule_places s r =
     })) (conditions_places s bound r.conditions)
 
 abbrev pub rules_places : Scope → List Rule → TermPlaces
-rules_places s [] = nowhere
-rules_places s (r ∷ rs) = joined (rule_places s r) (rules_places s rs)
+rules_places s rs = places_over (rule_places s) rs
 
 -- where a term to evaluate breaks a rule
 abbrev pub open_term_places : Scope → Term → TermPlaces
@@ -120,8 +122,7 @@ open_term_places s t =
     joined (term_places s t) (record nowhere { free = unbound_among (λ _. false) (letters_of s t) })
 
 abbrev pub open_terms_places : Scope → List Term → TermPlaces
-open_terms_places s [] = nowhere
-open_terms_places s (t ∷ ts) = joined (open_term_places s t) (open_terms_places s ts)
+open_terms_places s ts = places_over (open_term_places s) ts
 
 -- the letters are those of the term
 abbrev pub SpellsTerm : Scope → List Letter → Term → Type 0

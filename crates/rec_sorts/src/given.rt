@@ -50,12 +50,9 @@ fn any_no_application<B: TermBank>(bank: &B, nodes: &[Term]) -> bool
     ensures { result ≡ list_any
         (λ r. is_no_application (held_tree (B.store bank.now) r)) nodes.now }
 {
-    for node in nodes {
-        let Kind::Appl(_) = bank.kind(*node) else {
-            return true;
-        };
-    }
-    false
+    nodes
+        .iter()
+        .any(|node| !matches!(bank.kind(*node), Kind::Appl(_)))
 }
 
 /// Whether some of these nodes has annotations.
@@ -63,12 +60,7 @@ fn any_annotated<B: TermBank>(bank: &B, nodes: &[Term]) -> bool
     requires { AllHeld (B.store bank.now) nodes.now }
     ensures { result ≡ list_any (λ r. is_annotated (held_tree (B.store bank.now) r)) nodes.now }
 {
-    for node in nodes {
-        if bank.anns(*node).is_some() {
-            return true;
-        }
-    }
-    false
+    nodes.iter().any(|node| bank.anns(*node).is_some())
 }
 
 /// How many arguments a node has.
@@ -111,12 +103,7 @@ impl Scope<'_> {
         ensures { result ≡ list_any
             (λ r. is_nameless self.now (held_tree (B.store bank.now) r)) nodes.now }
     {
-        for node in nodes {
-            if self.symbol(bank, *node).is_none() {
-                return true;
-            }
-        }
-        false
+        nodes.iter().any(|node| self.symbol(bank, *node).is_none())
     }
 
     /// Whether a node has another number of arguments than its symbol is declared with.
@@ -135,12 +122,7 @@ impl Scope<'_> {
         ensures { result ≡ list_any
             (λ r. is_misfilled self.now (held_tree (B.store bank.now) r)) nodes.now }
     {
-        for node in nodes {
-            if self.is_misfilled(bank, *node) {
-                return true;
-            }
-        }
-        false
+        nodes.iter().any(|node| self.is_misfilled(bank, *node))
     }
 
     /// Whether an argument of a node has another sort than declared for its place.
@@ -170,12 +152,7 @@ impl Scope<'_> {
         ensures { result ≡ list_any
             (λ r. has_misfit self.now (held_tree (B.store bank.now) r)) nodes.now }
     {
-        for node in nodes {
-            if self.has_misfit(bank, *node) {
-                return true;
-            }
-        }
-        false
+        nodes.iter().any(|node| self.has_misfit(bank, *node))
     }
 
     /// The letter of a node that stands for a symbol.

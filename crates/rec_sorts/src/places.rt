@@ -61,6 +61,7 @@ impl TermPlaces {
     }
 
     /// The lesser place for each rule; mostly the other has none.
+    #[inline(always)]
     pub fn join(self, other: TermPlaces) -> TermPlaces
         ensures { result ≡ joined self other }
     {

@@ -10,7 +10,9 @@ use std::io::{ErrorKind, Write};
 
 /// What a refusal's line is made of.
 struct RefusalLine<'a> {
+    /// The text that is refused.
     source: Source,
+    /// The refusal's name.
     rule: &'a str,
 }
 

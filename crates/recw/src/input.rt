@@ -7,7 +7,9 @@ use std::rt::Files;
 /// The standard input, or a file.
 #[derive(Drop)]
 pub enum Input<'a, R, F> {
+    /// The standard input.
     Standard(&'a mut R),
+    /// A file.
     File(F),
 }
 

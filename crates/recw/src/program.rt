@@ -33,7 +33,7 @@ pub fn program<H: Files, R: Read, W: Write, E: Write>(
     obey(rt, alloc, words, input, out, err)
 }
 
-/// Does what the words ask for, and tells of its end.
+/// Does what the words ask for, whose first bytes of output are kept, and tells of its end.
 fn obey<H: Files, R: Read, W: Write, E: Write>(
     rt: &H,
     alloc: Global,
@@ -45,7 +45,9 @@ fn obey<H: Files, R: Read, W: Write, E: Write>(
     match read_words(alloc, words) {
         Ok(invocation) => {
             let mut evidence = Evidence::new(alloc);
-            let end = perform(rt, alloc, invocation, input, out, &mut evidence);
+            let mut out = Watched::new(alloc, out);
+            let end = perform(rt, alloc, invocation, input, &mut out, &mut evidence);
+            evidence.line = out.finish();
             let status = report::ended(end, evidence.place, err);
             if invocation.explain {
                 let _ = evidence.explain(alloc, invocation.request, end, err);
@@ -62,23 +64,8 @@ fn obey<H: Files, R: Read, W: Write, E: Write>(
     }
 }
 
-/// Does what is asked for, and keeps the first bytes that it writes.
-fn perform<'a, H: Files, R: Read, W: Write>(
-    rt: &H,
-    alloc: Global,
-    invocation: Invocation<'a>,
-    input: &mut R,
-    out: &mut W,
-    evidence: &mut Evidence<'a>,
-) -> Result<Finish, RunFault> {
-    let mut out = Watched::new(alloc, out);
-    let end = perform_over(rt, alloc, invocation, input, &mut out, evidence);
-    evidence.line = out.finish();
-    end
-}
-
 /// Does what is asked for, on the files that it names.
-fn perform_over<'a, H: Files, R: Read, W: Write>(
+fn perform<'a, H: Files, R: Read, W: Write>(
     rt: &H,
     alloc: Global,
     invocation: Invocation<'a>,

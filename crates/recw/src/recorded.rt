@@ -10,9 +10,13 @@ const KEPT_OUTPUT: usize = 32;
 /// A reader whose text is kept. Where there is no memory for it, nothing is.
 #[derive(Drop)]
 pub struct Recorded<R> {
+    /// The reader that is asked.
     input: R,
+    /// Whether the text is kept.
     is_kept: bool,
+    /// The text so far; nothing where it is not kept.
     text: Vec<u8>,
+    /// Why the last read that failed did.
     trouble: Option<ErrorKind>,
 }
 
@@ -61,7 +65,9 @@ impl<R: Read> Read for Recorded<R> {
 /// A writer whose first bytes are kept.
 #[derive(Drop)]
 pub struct Watched<'a, W> {
+    /// The writer that is asked.
     output: &'a mut W,
+    /// The first bytes that were written.
     text: Vec<u8>,
 }
 

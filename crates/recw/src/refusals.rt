@@ -56,7 +56,8 @@ pub const REFUSALS: [(&str, &str); 24] = [
     ),
     (
         "T4",
-        "no declared symbol has a node's name with its flag: unquoted where the name is plain, else quoted",
+        "no declared symbol has a node's name with its flag: \
+         unquoted where the name is plain, else quoted",
     ),
     ("T5", "a node has another number of arguments than declared"),
     ("T6", "an argument has another sort than declared"),

@@ -39,7 +39,9 @@ pub enum Request<'a> {
 /// What is asked for, and whether a refusal is to be explained.
 #[derive(Clone, Copy, Debug)]
 pub struct Invocation<'a> {
+    /// What is to be done.
     pub request: Request<'a>,
+    /// Whether a refusal is to be explained.
     pub explain: bool,
 }
 

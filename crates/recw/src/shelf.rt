@@ -9,7 +9,9 @@ use std::rt::Files;
 /// Two files, `spec` and `terms`; no other path can be opened.
 #[derive(Drop)]
 pub struct Shelf {
+    /// The text of the file `spec`.
     pub spec: &'static str,
+    /// The text of the file `terms`.
     pub terms: &'static str,
 }
 
@@ -27,6 +29,7 @@ impl Shelf {
 /// What is left of a file in memory.
 #[derive(Drop)]
 pub struct Book {
+    /// What was not read yet.
     rest: &'static [u8],
 }
 

@@ -11,20 +11,29 @@ use std::io::Read;
 use std::process::Abort;
 use std::rt::Files;
 
+/// A specification that adds one and two.
 pub(crate) const ADDITION: &str =
-    "REC-SPEC Add SORTS Nat CONS z : -> Nat s : Nat -> Nat OPNS plus : Nat Nat -> Nat VARS X Y : Nat RULES plus(z,Y) -> Y plus(s(X),Y) -> s(plus(X,Y)) EVAL plus(s(s(z)),s(z)) END-SPEC";
+    "REC-SPEC Add SORTS Nat CONS z : -> Nat s : Nat -> Nat OPNS plus : Nat Nat -> Nat \
+     VARS X Y : Nat RULES plus(z,Y) -> Y plus(s(X),Y) -> s(plus(X,Y)) \
+     EVAL plus(s(s(z)),s(z)) END-SPEC";
 
+/// What the program left.
 #[derive(Drop)]
 pub(crate) struct Ran {
+    /// The exit status.
     pub(crate) status: u8,
+    /// What it wrote on the standard output.
     pub(crate) out: String,
+    /// What it wrote on the standard error.
     pub(crate) err: String,
 }
 
+/// Runs the program with this text as its standard input.
 pub(crate) fn run<H: Abort + Files>(rt: &H, alloc: Global, words: &[&str], text: &str) -> Ran {
     run_over(rt, rt, alloc, words, &mut text.as_bytes())
 }
 
+/// Runs the program on these files and this standard input.
 pub(crate) fn run_over<H: Files, R: Read>(
     rt: &impl Abort,
     files: &H,
@@ -42,6 +51,7 @@ pub(crate) fn run_over<H: Files, R: Read>(
     }
 }
 
+/// An output as a text.
 fn text_of(rt: &impl Abort, bytes: Vec<u8>) -> String {
     String::from_utf8(bytes).expect(rt, "an output in UTF-8")
 }
@@ -55,12 +65,14 @@ pub(crate) type Row = (
     &'static str,
 );
 
+/// The program leaves what the row says.
 pub(crate) fn meets<H: Abort + Files>(rt: &H, alloc: Global, row: &Row) {
     let (words, text, status, out, err) = *row;
     let ran = run(rt, alloc, words, text);
     answers(rt, words, &ran, status, out, err);
 }
 
+/// This is what the program left for these words.
 pub(crate) fn answers(
     rt: &impl Abort,
     words: &[&str],

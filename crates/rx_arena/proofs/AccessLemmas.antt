@@ -3,11 +3,11 @@ use Rattle.std.proofs.Common.{◌≡◌, ℕ, ◌+◌, ◌<◌, List, [], ◌∷
 use Rattle.std.specs.Prelude.{Option}
 use seplogic.Ra.Ura.{Ura}
 use base.Fraction.{full_share}
-use base.Logic.{id⊢, fst∗, never}
+use base.Logic.{ent, id⊢, fst∗, never}
 use base.Fml.{Lft, Share, Fml, fat, froom, flft}
 use mir.Val.{Val}
 use types.Logic.{Logic, sem}
-use types.Kit.{Item, Goal, Seq, Step, Soaks, step, ‵, some, ◌⊛◌, ◌$◌, move, drop, use1, use2, split, pick, rewrite, fsplit}
+use types.Kit.{Item, Goal, Seq, Step, Soaks, step, ‵, some, ◌⊛◌, ◌$◌, ◌∵◌, !, qed, move, drop, use1, use2, split, pick, rewrite, fsplit, done}
 use denote.Laws.{Is, shows}
 use denote.Memory.{lone, cell_at, part_at, shared_of, hidden_shr}
 use denote.Opens.{Shut, hide}
@@ -18,7 +18,7 @@ use denote.Struct.Lending.{lent_at}
 use borrow.Table.OneValue.{part_in, part_out}
 use Rattle.rx_arena.specs.Node.{Node}
 use Rattle.rx_arena.specs.Held.{IsPlace}
-use Rattle.rx_arena.specs.Ownership.{cell_of, slot_owns, slots_own, slot_lent, slots_lent}
+use Rattle.rx_arena.specs.Ownership.{place, cell_of, slot_owns, slots_own, slot_lent, slots_lent}
 use Rattle.rx_arena.specs.declared.cells.Cell.{Cell}
 use Rattle.rx_arena.specs.declared.cells.Place.{Place}
 use Rattle.rx_arena.specs.contracts.cells.Cell as C
@@ -42,14 +42,22 @@ module _ {M : Type 1} {𝓤 : Ura M} {𝓛 : Logic 𝓤} {K : Type 0} {Γ : List
       owned t C.the_row (Is C.the_row) (LL.makes C.the_type cell.the_plain 𝓛) x (cell_val x ∷ []) (cell_is x f) $ move t (1 ∷ 0 ∷ []) $
       use2 𝓛 (‵ (part_at C.the_row full_share x b o)) (part_in 𝓛 C.the_row refl full_share x b o (cell_val x)) $ s)
 
+-- what a slot owns is its room, once what lies there is forgotten
+pub slot_forgotten : {M : Type 1} {𝓤 : Ura M} (𝓛 : Logic 𝓤) (bs : List Ptr) (s : ℕ) (c : Option Node) → ent 𝓤 (sem 𝓛 (slot_owns bs s c)) (sem 𝓛 (slot_owns bs s None))
+slot_forgotten {𝓤 = 𝓤} 𝓛 bs s None = id⊢ 𝓤 _
+slot_forgotten {𝓤 = 𝓤} 𝓛 bs s (Some n) = let x = cell_of bs s n in
+    qed 𝓛 (‵ (slot_owns bs s (Some n)) ∷ []) ∵ in_a_block ! (place bs s) (λ p. lies_at C.the_row full_share p x) (id⊢ 𝓤 (never 𝓤)) (λ b o e. cell_out ! x b o (λ f.
+    use1 𝓛 (‵ (froom (lone C.the_row.mir) b o)) (𝓛.laws.at_room (lone C.the_row.mir) b o (cell_val x)) $ rewrite ! 0 (λ (p : Ptr). ‵ (room_at C.the_row p)) (sym e) refl $ done !))
+
 module _ {M : Type 1} {𝓤 : Ura M} {𝓛 : Logic 𝓤} {K : Type 0} {Γ : List (Item 𝓤)} {G : Goal 𝓤 𝓛.H} (bs : List Ptr) (cs : List (Option Node)) (p : Place) where
-  pub slot_empty : K → IsPlace bs p → p.slot < length cs → get_or cs p.slot None ≡ None
+  -- the room of a slot, whatever lies there
+  pub slot_cleared : K → IsPlace bs p → p.slot < length cs
       → ((b o : ℕ) → p.at ≡ block_ptr b o → Seq K 𝓛 (‵ (froom (lone C.the_row.mir) b o) ∷ ‵ (all_but bs 0 cs p.slot) ∷ Γ) G)
       → Seq K 𝓛 (‵ (slots_own bs 0 cs) ∷ Γ) G
-  slot_empty t placed within none k =
+  slot_cleared t placed within k =
       use1 𝓛 (‵ (slot_owns bs (p.slot + 0) (get_or cs p.slot None)) ⊛ ‵ (all_but bs 0 cs p.slot)) (one_taken 𝓛 bs 0 cs p.slot within) $ split t $
-      rewrite t 0 (λ (j : ℕ). ‵ (slot_owns bs j (get_or cs p.slot None))) {x = p.slot} (omega arith) refl $
-      rewrite t 0 (λ (z : Option Node). ‵ (slot_owns bs p.slot z)) none refl $ rewrite t 0 (λ (q : Ptr). ‵ (room_at C.the_row q)) (sym placed) refl $
+      use1 𝓛 (‵ (slot_owns bs (p.slot + 0) None)) (slot_forgotten 𝓛 bs (p.slot + 0) (get_or cs p.slot None)) $
+      rewrite t 0 (λ (j : ℕ). ‵ (slot_owns bs j None)) {x = p.slot} (omega arith) refl $ rewrite t 0 (λ (q : Ptr). ‵ (room_at C.the_row q)) (sym placed) refl $
       in_a_block t p.at (λ q. room_at C.the_row q) (id⊢ 𝓤 (never 𝓤)) k
 
   pub slot_closes : K → IsPlace bs p → p.slot < length cs → (m : Node) → CellFits (cell_of bs p.slot m) → (b o : ℕ) → p.at ≡ block_ptr b o

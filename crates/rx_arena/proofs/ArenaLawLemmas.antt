@@ -36,6 +36,19 @@ some_of (Some t) e = (t, refl, e)
 pub taken_marked : (a : ArenaState) (s : ℕ) → IsMarked a s → (t : Taken) × (taken_at a s ≡ Some t) × (t.marked ≡ true)
 taken_marked a s e = some_of (taken_at a s) e
 
+-- other chains with the same slots, or some of them
+chains_law : (a : ArenaState) → IsArena a → (css : List (List ℕ)) → ((s : ℕ) → times_in s css ≤ times_in s a.chains) → length css < 2 ^ 32 → IsArena (record a { chains = css })
+chains_law a law css fewer few = record {
+  alone = λ s. omega (arith, fewer s, law.alone s);
+  chained_taken = λ s h. law.chained_taken s (omega (arith, h, fewer s));
+  gray_once = law.gray_once;
+  gray_marked = law.gray_marked;
+  fits = law.fits;
+  below = law.below;
+  few_chains = few;
+  small_cap = law.small_cap;
+}
+
 module _ (a : ArenaState) (law : IsArena a) where
   pub push_law : (c s : ℕ) → c < length a.chains → IsTaken a s → IsLoose a s → IsArena (record a { chains = set a.chains c (s ∷ chain_at a c) })
   push_law c s lt taken loose =
@@ -59,18 +72,7 @@ module _ (a : ArenaState) (law : IsArena a) where
 
   -- a chain that loses some of its slots
   pub shrink_law : (c : ℕ) (d : List ℕ) → c < length a.chains → ((t : ℕ) → times t d ≤ times t (chain_at a c)) → IsArena (record a { chains = set a.chains c d })
-  shrink_law c d lt fewer =
-      let fewer_in : (t : ℕ) → times_in t (set a.chains c d) ≤ times_in t a.chains = λ t. omega (arith, times_in-set t a.chains c d lt, fewer t) in
-      record {
-        alone = λ t. omega (arith, fewer_in t, law.alone t);
-        chained_taken = λ t i. law.chained_taken t (omega (arith, i, fewer_in t));
-        gray_once = law.gray_once;
-        gray_marked = law.gray_marked;
-        fits = law.fits;
-        below = law.below;
-        few_chains = omega (arith, length-set a.chains c d, law.few_chains);
-        small_cap = law.small_cap;
-      }
+  shrink_law c d lt fewer = chains_law a law (set a.chains c d) (λ t. omega (arith, times_in-set t a.chains c d lt, fewer t)) (omega (arith, length-set a.chains c d, law.few_chains))
 
   pub pop_law : (c s : ℕ) (rest : List ℕ) → c < length a.chains → chain_at a c ≡ s ∷ rest → IsArena (record a { chains = set a.chains c rest })
   pop_law c s rest lt e = shrink_law c rest lt (λ t. subst (λ z. times t rest ≤ times t z) (sym e) (omega arith))
@@ -224,19 +226,6 @@ pub times_in-take : (s n : ℕ) (xs : List (List ℕ)) → times_in s (take n xs
 times_in-take s zero xs = omega arith
 times_in-take s (suc n) [] = omega arith
 times_in-take s (suc n) (x ∷ xs) = omega (arith, times_in-take s n xs)
-
--- other chains with the same slots, or some of them
-chains_law : (a : ArenaState) → IsArena a → (css : List (List ℕ)) → ((s : ℕ) → times_in s css ≤ times_in s a.chains) → length css < 2 ^ 32 → IsArena (record a { chains = css })
-chains_law a law css fewer few = record {
-  alone = λ s. omega (arith, fewer s, law.alone s);
-  chained_taken = λ s h. law.chained_taken s (omega (arith, h, fewer s));
-  gray_once = law.gray_once;
-  gray_marked = law.gray_marked;
-  fits = law.fits;
-  below = law.below;
-  few_chains = few;
-  small_cap = law.small_cap;
-}
 
 pub prepend_law : (a : ArenaState) → IsArena a → (n : ℕ) → length (replicate n [] ++ a.chains) < 2 ^ 32 → IsArena (record a { chains = replicate n [] ++ a.chains })
 prepend_law a law n few = chains_law a law (replicate n [] ++ a.chains) (λ s. omega (arith, times_in-append s (replicate n []) a.chains, times_in-replicate s n)) few

@@ -1,6 +1,7 @@
 -- What each call of an arena makes of the pool, the heads and the lists.
 use Rattle.std.proofs.Common.{◌≡◌, ◌≢◌, ℕ, zero, suc, ◌+◌, ◌-◌, ◌<◌, ◌≤◌, inl, inr, List, [], ◌∷◌, ◌++◌, length, get_or, set, map, Some, None, IfSome, refl, sym, ap, subst, ◌∙◌, arith}
 use Rattle.std.specs.Prelude.{Option, Bool, true, false, not, nat_eq, min, take, replicate, ◌^◌, Result, Ok, Err, IfOk, OnErr}
+use Rattle.rx_arena.specs.declared.arena.Arena.TheInside.{Inside}
 use Rattle.rx_arena.specs.declared.fault.ArenaFault.{ArenaFault}
 use Rattle.std.specs.Option.{option_map}
 use Rattle.std.proofs.lemmas.List.{length-append, length-replicate}
@@ -24,6 +25,10 @@ chain_links cells = links (λ n. n.chain) cells
 abbrev pub gray_links : List (Option Node) → Links
 gray_links cells = links (λ n. n.gray) cells
 
+-- what an arena shows
+abbrev pub opened : Inside → ArenaState
+opened x = state_of x.pool x.chained.0 x.grayed.0
+
 -- the pool's cells, with these heads, make up the arena
 pub record ArenaStep (p : PoolState) (heads : List (Option ℕ)) (first : Option ℕ) (b : ArenaState) : Type 0 where
   pub chained : AreChains (chain_links p.cells) heads b.chains
@@ -31,7 +36,7 @@ pub record ArenaStep (p : PoolState) (heads : List (Option ℕ)) (first : Option
   pub state_is : state_of p b.chains b.gray ≡ b
   pub law : IsArena b
 
-module _ (p : PoolState) (heads : List (Option ℕ)) (first : Option ℕ) (b : ArenaState) (st : ArenaStep p heads first b) (l : Chained (chain_links p.cells) heads) (m : Listed (gray_links p.cells) first) where
+module _ {p : PoolState} {heads : List (Option ℕ)} {first : Option ℕ} {b : ArenaState} (st : ArenaStep p heads first b) (l : Chained (chain_links p.cells) heads) (m : Listed (gray_links p.cells) first) where
   pub step_chains : l.0 ≡ b.chains
   step_chains = chained_is (chain_links p.cells) heads l b.chains st.chained
 
@@ -45,8 +50,8 @@ module _ (p : PoolState) (heads : List (Option ℕ)) (first : Option ℕ) (b : A
   step_law = subst IsArena (sym step_state) st.law
 
 -- the same step, of heads that are these
-pub with_heads : (p : PoolState) (heads new : List (Option ℕ)) (first : Option ℕ) (b : ArenaState) → ArenaStep p heads first b → new ≡ heads → ArenaStep p new first b
-with_heads p heads new first b st e = subst (λ z. ArenaStep p z first b) (sym e) st
+pub with_heads : {p : PoolState} {heads new : List (Option ℕ)} {first : Option ℕ} {b : ArenaState} → ArenaStep p heads first b → new ≡ heads → ArenaStep p new first b
+with_heads {p = p} {first = first} {b = b} st e = subst (λ z. ArenaStep p z first b) (sym e) st
 
 links-put_other : (k : Node → Option ℕ) (xs : List (Option Node)) (s t : ℕ) (v : Option Node) → t ≢ s → get_or (links k (put xs s v)) t None ≡ get_or (links k xs) t None
 links-put_other k xs s t v ne = get_or-map_option k (put xs s v) t ∙ ap (option_map k) (get_or-put_other xs s t v ne) ∙ sym (get_or-map_option k xs t)
@@ -115,9 +120,24 @@ shown_taken p q s b e et =
     (λ i. map (option_map (shown_of (et i))) (e i)) ∙ map-put (shown_of p.turned) p.cells s (Some (lone (mark_of p.turned false) b))
     ∙ ap (λ z. put (map (option_map (shown_of p.turned)) p.cells) s (Some z)) (shown-lone p.turned b)
 
-module _ (p : PoolState) (heads : List (Option ℕ)) (first : Option ℕ) (l : Chained (chain_links p.cells) heads) (m : Listed (gray_links p.cells) first) (law : IsArena (state_of p l.0 m.0)) where
+module _ (x : Inside) (law : IsArena (opened x)) where
+  abbrev p : PoolState
+  p = x.pool
+
+  abbrev heads : List (Option ℕ)
+  heads = x.heads
+
+  abbrev first : Option ℕ
+  first = x.gray_first
+
+  abbrev l : Chained (chain_links x.pool.cells) x.heads
+  l = x.chained
+
+  abbrev m : Listed (gray_links x.pool.cells) x.gray_first
+  m = x.grayed
+
   abbrev a : ArenaState
-  a = state_of p l.0 m.0
+  a = opened x
 
   -- the node of a taken slot
   pub taken_node : (s : ℕ) (t : Taken) → taken_at a s ≡ Some t → (n : Node) × (get_or p.cells s None ≡ Some n) × (shown_of p.turned n ≡ t)
@@ -331,17 +351,21 @@ module _ (p : PoolState) (heads : List (Option ℕ)) (first : Option ℕ) (l : C
   })
 
 -- a slot is marked, and then goes in front of the gray list
-module _ (p : PoolState) (heads : List (Option ℕ)) (first : Option ℕ) (l : Chained (chain_links p.cells) heads) (m : Listed (gray_links p.cells) first) (law : IsArena (state_of p l.0 m.0)) (q r : PoolState) (s : ℕ) (taken : IsTaken (state_of p l.0 m.0) s) (away : times s m.0 ≡ 0) (e : q ≡ record p { cells = altered s (with_mark (mark_of p.turned true)) p.cells }) where
+module _ (x : Inside) (law : IsArena (opened x)) (q r : PoolState) (s : ℕ) (taken : IsTaken (opened x) s) (away : times s x.grayed.0 ≡ 0) (e : q ≡ record x.pool { cells = altered s (with_mark (mark_of x.pool.turned true)) x.pool.cells }) where
   abbrev b : ArenaState
-  b = state_of p l.0 m.0
+  b = opened x
 
   abbrev marked : ArenaState
   marked = record b { cells = altered s (with_marking true) b.cells }
 
-  abbrev mark_step : ArenaStep q heads first marked
-  mark_step = altered_step p heads first l m law q s (with_mark (mark_of p.turned true)) (with_marking true) taken e (λ n. (shown-marked p.turned true n, refl, refl)) (altered_law b law s (with_marking true) taken.0 taken.1 (λ g. refl))
+  abbrev mark_step : ArenaStep q x.heads x.gray_first marked
+  mark_step = altered_step x law q s (with_mark (mark_of x.pool.turned true)) (with_marking true) taken e (λ n. (shown-marked x.pool.turned true n, refl, refl)) (altered_law b law s (with_marking true) taken.0 taken.1 (λ g. refl))
 
-  mark_law : IsArena (state_of q marked.chains marked.gray)
+  -- the arena with the mark
+  abbrev y : Inside
+  y = record x { pool = q; chained = (x.chained.0, mark_step.chained); grayed = (x.grayed.0, mark_step.grayed) }
+
+  mark_law : IsArena (opened y)
   mark_law = subst IsArena (sym mark_step.state_is) mark_step.law
 
   now_marked : IsMarked marked s
@@ -350,26 +374,23 @@ module _ (p : PoolState) (heads : List (Option ℕ)) (first : Option ℕ) (l : C
   now_taken : IsTaken marked s
   now_taken = let t = taken_marked marked s now_marked in (t.0, t.1)
 
-  pub gray_push_held : IsHeld q.cells s × IfSome first (IsHeld q.cells)
-  gray_push_held = (
-    held_taken q heads first (l.0, mark_step.chained) (m.0, mark_step.grayed) mark_law s (subst (λ z. IsTaken z s) (sym mark_step.state_is) now_taken),
-    gray_held q heads first (l.0, mark_step.chained) (m.0, mark_step.grayed) mark_law,
-  )
+  pub gray_push_held : IsHeld q.cells s × IfSome x.gray_first (IsHeld q.cells)
+  gray_push_held = (held_taken y mark_law s (subst (λ z. IsTaken z s) (sym mark_step.state_is) now_taken), gray_held y mark_law)
 
-  pub gray_push_step : r ≡ record q { cells = altered s (with_next Gray first) q.cells } → ArenaStep r heads (Some s) (record b { cells = altered s (with_marking true) b.cells; gray = s ∷ b.gray })
+  pub gray_push_step : r ≡ record q { cells = altered s (with_next Gray x.gray_first) q.cells } → ArenaStep r x.heads (Some s) (record b { cells = altered s (with_marking true) b.cells; gray = s ∷ b.gray })
   gray_push_step f =
-      subst (λ z. ArenaStep r heads (Some s) (record z { gray = s ∷ z.gray })) mark_step.state_is
-      (gray_link_step q heads first (l.0, mark_step.chained) (m.0, mark_step.grayed) mark_law r s (subst (λ z. IsMarked z s) (sym mark_step.state_is) now_marked) away f)
+      subst (λ z. ArenaStep r x.heads (Some s) (record z { gray = s ∷ z.gray })) mark_step.state_is
+      (gray_link_step y mark_law r s (subst (λ z. IsMarked z s) (sym mark_step.state_is) now_marked) away f)
 
 -- a slot is taken, or there is none
-pub take_result_step : (p : PoolState) (heads : List (Option ℕ)) (first : Option ℕ) (l : Chained (chain_links p.cells) heads) (m : Listed (gray_links p.cells) first) (law : IsArena (state_of p l.0 m.0)) (q : PoolState) (b : CellBody) (r : Result ℕ ArenaFault)
-    → IfOk r (λ s. get_or p.cells s None ≡ None) → IfOk r (λ s. s < p.cap) → IfOk r (λ s. q.cells ≡ put p.cells s (Some (lone (mark_of p.turned false) b))) → q.cap ≡ p.cap → q.turned ≡ p.turned → spare_of q + filled q.cells ≤ q.cap → OnErr r (q ≡ p)
-    → ArenaStep q heads first (record (state_of p l.0 m.0) { cells = map (option_map (shown_of q.turned)) q.cells; spare = spare_of q })
-take_result_step p heads first l m law q b (Ok s) none lt e ec et fit err =
-    let shows = shown_taken p q s b e et in
-    subst (λ z. ArenaStep q heads first (record (state_of p l.0 m.0) { cells = z; spare = spare_of q })) (sym shows) (take_step p heads first l m law q s b none lt e ec et fit)
-take_result_step p heads first l m law q b (Err f) none lt e ec et fit err =
-    subst (λ z. ArenaStep z heads first (record (state_of p l.0 m.0) { cells = map (option_map (shown_of z.turned)) z.cells; spare = spare_of z })) (sym err) (same_step p heads first l m law p refl)
+pub take_result_step : (x : Inside) (law : IsArena (opened x)) (q : PoolState) (b : CellBody) (r : Result ℕ ArenaFault)
+    → IfOk r (λ s. get_or x.pool.cells s None ≡ None) → IfOk r (λ s. s < x.pool.cap) → IfOk r (λ s. q.cells ≡ put x.pool.cells s (Some (lone (mark_of x.pool.turned false) b))) → q.cap ≡ x.pool.cap → q.turned ≡ x.pool.turned → spare_of q + filled q.cells ≤ q.cap → OnErr r (q ≡ x.pool)
+    → ArenaStep q x.heads x.gray_first (record (opened x) { cells = map (option_map (shown_of q.turned)) q.cells; spare = spare_of q })
+take_result_step x law q b (Ok s) none lt e ec et fit err =
+    let shows = shown_taken x.pool q s b e et in
+    subst (λ z. ArenaStep q x.heads x.gray_first (record (opened x) { cells = z; spare = spare_of q })) (sym shows) (take_step x law q s b none lt e ec et fit)
+take_result_step x law q b (Err f) none lt e ec et fit err =
+    subst (λ z. ArenaStep z x.heads x.gray_first (record (opened x) { cells = map (option_map (shown_of z.turned)) z.cells; spare = spare_of z })) (sym err) (same_step x law x.pool refl)
 
 empty_chains : (ls : Links) (n : ℕ) → AreChains ls (replicate n None) (replicate n [])
 empty_chains ls zero = tt
@@ -397,25 +418,25 @@ truncated ls (suc n) (h ∷ hs) [] a = absurd a
 truncated ls (suc n) (h ∷ hs) (c ∷ cs) a = (a.0, truncated ls n hs cs a.1)
 
 -- empty chains go before the others
-pub prepend_step : (p : PoolState) (heads new : List (Option ℕ)) (first : Option ℕ) (l : Chained (chain_links p.cells) heads) (m : Listed (gray_links p.cells) first) (law : IsArena (state_of p l.0 m.0)) (n : ℕ)
-    → new ≡ replicate n None ++ heads → length new < 2 ^ 32 → ArenaStep p new first (record (state_of p l.0 m.0) { chains = replicate n [] ++ l.0 })
-prepend_step p heads new first l m law n e lt =
-    let at = subst (λ z. AreChains (chain_links p.cells) z (replicate n [] ++ l.0)) (sym e) (prepended (chain_links p.cells) n heads l.0 l.1) in
+pub prepend_step : (x : Inside) (law : IsArena (opened x)) (new : List (Option ℕ)) (n : ℕ)
+    → new ≡ replicate n None ++ x.heads → length new < 2 ^ 32 → ArenaStep x.pool new x.gray_first (record (opened x) { chains = replicate n [] ++ x.chained.0 })
+prepend_step x law new n e lt =
+    let at = subst (λ z. AreChains (chain_links x.pool.cells) z (replicate n [] ++ x.chained.0)) (sym e) (prepended (chain_links x.pool.cells) n x.heads x.chained.0 x.chained.1) in
     record {
       chained = at;
-      grayed = m.1;
+      grayed = x.grayed.1;
       state_is = refl;
-      law = prepend_law (state_of p l.0 m.0) law n (omega (arith, lt, chains-length (chain_links p.cells) new (replicate n [] ++ l.0) at));
+      law = prepend_law (opened x) law n (omega (arith, lt, chains-length (chain_links x.pool.cells) new (replicate n [] ++ x.chained.0) at));
     }
 
 -- the first n chains alone stay
-pub truncate_step : (p : PoolState) (heads new : List (Option ℕ)) (first : Option ℕ) (l : Chained (chain_links p.cells) heads) (m : Listed (gray_links p.cells) first) (law : IsArena (state_of p l.0 m.0)) (n : ℕ)
-    → new ≡ take n heads → ArenaStep p new first (record (state_of p l.0 m.0) { chains = take n l.0 })
-truncate_step p heads new first l m law n e = record {
-  chained = subst (λ z. AreChains (chain_links p.cells) z (take n l.0)) (sym e) (truncated (chain_links p.cells) n heads l.0 l.1);
-  grayed = m.1;
+pub truncate_step : (x : Inside) (law : IsArena (opened x)) (new : List (Option ℕ)) (n : ℕ)
+    → new ≡ take n x.heads → ArenaStep x.pool new x.gray_first (record (opened x) { chains = take n x.chained.0 })
+truncate_step x law new n e = record {
+  chained = subst (λ z. AreChains (chain_links x.pool.cells) z (take n x.chained.0)) (sym e) (truncated (chain_links x.pool.cells) n x.heads x.chained.0 x.chained.1);
+  grayed = x.grayed.1;
   state_is = refl;
-  law = truncate_law (state_of p l.0 m.0) law n;
+  law = truncate_law (opened x) law n;
 }
 
 pub prepended_few : (heads new : List (Option ℕ)) (n : ℕ) → new ≡ replicate n None ++ heads → length heads + n < 2 ^ 32 → length new < 2 ^ 32
@@ -424,11 +445,11 @@ prepended_few heads new n e lt =
     omega (arith, lt, ap length e, length-append (replicate n none) heads, length-replicate n none)
 
 -- n empty chains in place of the chains
-pub cleared_step : (p : PoolState) (heads new : List (Option ℕ)) (first : Option ℕ) (l : Chained (chain_links p.cells) heads) (m : Listed (gray_links p.cells) first) (law : IsArena (state_of p l.0 m.0)) (n : ℕ)
-    → new ≡ replicate n None → n ≤ 2 ^ 30 → ArenaStep p new first (record (state_of p l.0 m.0) { chains = replicate n [] })
-cleared_step p heads new first l m law n e le = record {
-  chained = subst (λ z. AreChains (chain_links p.cells) z (replicate n [])) (sym e) (empty_chains (chain_links p.cells) n);
-  grayed = m.1;
+pub cleared_step : (x : Inside) (law : IsArena (opened x)) (new : List (Option ℕ)) (n : ℕ)
+    → new ≡ replicate n None → n ≤ 2 ^ 30 → ArenaStep x.pool new x.gray_first (record (opened x) { chains = replicate n [] })
+cleared_step x law new n e le = record {
+  chained = subst (λ z. AreChains (chain_links x.pool.cells) z (replicate n [])) (sym e) (empty_chains (chain_links x.pool.cells) n);
+  grayed = x.grayed.1;
   state_is = refl;
-  law = cleared_law (state_of p l.0 m.0) law n le;
+  law = cleared_law (opened x) law n le;
 }

@@ -4,20 +4,19 @@ use Rattle.std.proofs.lemmas.List.{length-append}
 use Rattle.std.specs.Prelude.{Option, replicate}
 use seplogic.Ra.Ura.{Ura}
 use base.Fraction.{full_share}
-use base.Logic.{ent, sep, id⊢, never}
+use base.Logic.{ent, sep, id⊢}
 use base.Fml.{ftrue, froom}
 use mir.Syntax.{Ty, ty_array}
 use types.Logic.{Logic, sem}
 use types.Kit.{‵, ◌⊛◌, ◌$◌, ◌∵◌, !, qed, by, move, keep, drop, use1, use2, split, fsplit, fjoin, rewrite, done}
 use denote.Memory.{lone}
 use denote.Steps.{nothing}
-use denote.RawPtr.{Ptr, null_ptr, block_ptr, lies_at, room_at, room_for, in_a_block, ◌+ₚ◌}
+use denote.RawPtr.{Ptr, null_ptr, block_ptr, lies_at, room_at, room_for, ◌+ₚ◌}
 use Rattle.rx_arena.specs.Node.{Node, IsLink, HasLinks, HaveLinks}
 use Rattle.rx_arena.specs.declared.cells.Cell.{Cell}
 use Rattle.rx_arena.specs.Ownership.{place, link_to, cell_of, slot_owns, slots_own}
 use Rattle.rx_arena.specs.contracts.cells.Cell as C
-use Rattle.rx_arena.proofs.StepLemmas.{cell_val}
-use Rattle.rx_arena.proofs.AccessLemmas.{cell_out}
+use Rattle.rx_arena.proofs.AccessLemmas.{slot_forgotten}
 
 get_or-old : (bs cs : List Ptr) (i : ℕ) → i < length bs → get_or (bs ++ cs) i null_ptr ≡ get_or bs i null_ptr
 get_or-old [] cs i lt = absurd (omega (arith, lt))
@@ -84,15 +83,9 @@ module _ {M : Type 1} {𝓤 : Ura M} (𝓛 : Logic 𝓤) where
       rewrite ! 0 (λ (x : ℕ). ‵ (slots_own (bs ++ block_ptr b o ∷ []) x (replicate 1024 None))) {x = 0 + length cs} (omega (arith, e)) refl $ move ! (1 ∷ []) $
       use1 𝓛 (‵ (slots_own (bs ++ block_ptr b o ∷ []) 0 cs)) (slots-grow bs (block_ptr b o ∷ []) 0 cs (omega (arith, e)) h) $ by ! (slots-append (bs ++ block_ptr b o ∷ []) 0 cs (replicate 1024 None))
 
-  slot-forget : (bs : List Ptr) (s : ℕ) (c : Option Node) → ent 𝓤 (sem 𝓛 (slot_owns bs s c)) (sem 𝓛 (slot_owns bs s None))
-  slot-forget bs s None = id⊢ 𝓤 _
-  slot-forget bs s (Some n) = let x = cell_of bs s n in
-      qed 𝓛 (‵ (slot_owns bs s (Some n)) ∷ []) ∵ in_a_block ! (place bs s) (λ p. lies_at C.the_row full_share p x) (id⊢ 𝓤 (never 𝓤)) (λ b o e. cell_out ! x b o (λ f.
-      use1 𝓛 (‵ (froom cell_type b o)) (𝓛.laws.at_room cell_type b o (cell_val x)) $ rewrite ! 0 (λ (p : Ptr). ‵ (room_for cell_type p)) (sym e) refl $ done !))
-
   slots-forget : (bs : List Ptr) (s : ℕ) (cs : List (Option Node)) → ent 𝓤 (sem 𝓛 (slots_own bs s cs)) (sem 𝓛 (slots_own bs s (replicate (length cs) None)))
   slots-forget bs s [] = id⊢ 𝓤 _
-  slots-forget bs s (c ∷ cs) = qed 𝓛 (‵ (slots_own bs s (c ∷ cs)) ∷ []) ∵ fsplit ! $ use1 𝓛 (‵ (slot_owns bs s None)) (slot-forget bs s c) $ move ! (1 ∷ []) $
+  slots-forget bs s (c ∷ cs) = qed 𝓛 (‵ (slots_own bs s (c ∷ cs)) ∷ []) ∵ fsplit ! $ use1 𝓛 (‵ (slot_owns bs s None)) (slot_forgotten 𝓛 bs s c) $ move ! (1 ∷ []) $
       use1 𝓛 (‵ (slots_own bs (suc s) (replicate (length cs) None))) (slots-forget bs (suc s) cs) $ move ! (1 ∷ 0 ∷ []) $ fjoin ! $ done !
 
   empties-cut : (bs : List Ptr) (s k m : ℕ) → ent 𝓤 (sem 𝓛 (slots_own bs s (replicate (k + m) None))) (sep 𝓤 (sem 𝓛 (slots_own bs s (replicate k None))) (sem 𝓛 (slots_own bs (s + k) (replicate m None))))

@@ -71,13 +71,6 @@ held_under k (Some m) n e = (m, refl)
 pub held-with_marks : (ks : List ℕ) (cs : List (Option Node)) (s : ℕ) → HasMarks ks cs → IsHeld (with_marks ks cs) s → IsHeld cs s
 held-with_marks ks cs s e h = held_under (get_or ks s 0) (get_or cs s None) h.0 (sym (at-with_marks ks cs s e) ∙ h.1)
 
-none_under : (k : ℕ) (c : Option Node) → option_map (with_mark k) c ≡ None → c ≡ None
-none_under k None e = refl
-none_under k (Some n) e = absurd (cc)
-
-pub none-with_marks : (ks : List ℕ) (cs : List (Option Node)) (s : ℕ) → HasMarks ks cs → get_or (with_marks ks cs) s None ≡ None → get_or cs s None ≡ None
-none-with_marks ks cs s e h = none_under (get_or ks s 0) (get_or cs s None) (sym (at-with_marks ks cs s e) ∙ h)
-
 shown : (k : ℕ) (c : Option Node) (P Q : Node → Type 0) → ((n : Node) → P n → Q (with_mark k n)) → IfSome c P → IfSome (option_map (with_mark k) c) Q
 shown k None P Q h p = tt
 shown k (Some n) P Q h p = h n p

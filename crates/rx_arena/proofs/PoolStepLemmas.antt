@@ -6,6 +6,7 @@ use Rattle.std.proofs.lemmas.Bool.Decides.{nat_tests}
 use Rattle.std.specs.Option.{option_map}
 use Rattle.std.proofs.lemmas.List.{get_or-set_same, set-set, set-get_or, length-set, get_or-take}
 use Rattle.rx_arena.specs.Node.{Node, mark_of, has_mark, with_mark, with_next, changed, is_protected_node}
+use Rattle.rx_arena.specs.declared.pool.Pool.TheInside.{Inside}
 use Rattle.rx_arena.specs.declared.cells.Link.{Link}
 use Rattle.rx_arena.specs.declared.cells.Link.TheVariants.{Chain, Gray, Free}
 use Rattle.rx_arena.specs.Held.{IsHeld}
@@ -38,6 +39,11 @@ pub mark_shown : (turned : Bool) (o : Option Node) (k w : ℕ) → w ≡ mark_of
 mark_shown turned None k w e h = tt
 mark_shown turned (Some n) k w e h = λ i. not (nat_eq (h i) (e i))
 
+-- two states that differ in no part
+pub same_pool : (cells cells' : List (Option Node)) (free free' : List ℕ) (fresh room cap : ℕ) (turned : Bool) → cells ≡ cells' → free ≡ free'
+    → ◌≡◌ {A = PoolState} (record { cells = cells; free = free; fresh = fresh; room = room; cap = cap; turned = turned }) (record { cells = cells'; free = free'; fresh = fresh; room = room; cap = cap; turned = turned })
+same_pool cells cells' free free' fresh room cap turned e f = λ i. record { cells = e i; free = f i; fresh = fresh; room = room; cap = cap; turned = turned }
+
 -- the free links of the nodes
 abbrev pub frees : List (Option Node) → Links
 frees slots = links (λ n. n.free) slots
@@ -48,7 +54,7 @@ pub record Step (slots : List (Option Node)) (first : Option ℕ) (free : List �
   pub pool : IsPool slots free fresh taken room cap
   pub cells_is : cells_of slots free fresh ≡ cells
 
-module _ (slots : List (Option Node)) (first : Option ℕ) (free : List ℕ) (fresh taken room cap : ℕ) (cells : List (Option Node)) (st : Step slots first free fresh taken room cap cells) (l : Listed (frees slots) first) where
+module _ {slots : List (Option Node)} {first : Option ℕ} {free : List ℕ} {fresh taken room cap : ℕ} {cells : List (Option Node)} (st : Step slots first free fresh taken room cap cells) (l : Listed (frees slots) first) where
   pub step_pool : IsPool slots l.0 fresh taken room cap
   step_pool = subst (λ z. IsPool slots z fresh taken room cap) (sym (listed_is (frees slots) first l free st.chain)) st.pool
 
@@ -58,13 +64,16 @@ module _ (slots : List (Option Node)) (first : Option ℕ) (free : List ℕ) (fr
   pub step_cells : cells_of slots l.0 fresh ≡ cells
   step_cells = ap (λ (z : List ℕ). cells_of slots z fresh) (listed_is (frees slots) first l free st.chain) ∙ st.cells_is
 
+  pub step_state : (turned : Bool) → ◌≡◌ {A = PoolState} (record { cells = cells_of slots l.0 fresh; free = l.0; fresh = fresh; room = room; cap = cap; turned = turned }) (record { cells = cells; free = free; fresh = fresh; room = room; cap = cap; turned = turned })
+  step_state turned = same_pool _ _ _ _ fresh room cap turned step_cells step_free
+
 -- what is taken and what is spare fit
-pub pool_fits : (slots : List (Option Node)) (free : List ℕ) (fresh taken room cap : ℕ) → IsPool slots free fresh taken room cap → (min cap room - filled (cells_of slots free fresh)) + filled (cells_of slots free fresh) ≤ cap
-pool_fits slots free fresh taken room cap p = omega (arith, p.taken_counted, p.free_counted, p.fresh_in_cap)
+pub pool_fits : {slots : List (Option Node)} {free : List ℕ} {fresh taken room cap : ℕ} → IsPool slots free fresh taken room cap → (min cap room - filled (cells_of slots free fresh)) + filled (cells_of slots free fresh) ≤ cap
+pool_fits p = omega (arith, p.taken_counted, p.free_counted, p.fresh_in_cap)
 
 -- the taken slots are below the room and the limit
-pub pool_room : (slots : List (Option Node)) (free : List ℕ) (fresh taken room cap : ℕ) → IsPool slots free fresh taken room cap → (filled (cells_of slots free fresh) ≡ taken) × (taken ≤ room) × (taken ≤ cap)
-pool_room slots free fresh taken room cap p = (p.taken_counted, omega (arith, p.free_counted, p.fresh_in_room), omega (arith, p.free_counted, p.fresh_in_cap))
+pub pool_room : {slots : List (Option Node)} {free : List ℕ} {fresh taken room cap : ℕ} → IsPool slots free fresh taken room cap → (filled (cells_of slots free fresh) ≡ taken) × (taken ≤ room) × (taken ≤ cap)
+pool_room p = (p.taken_counted, omega (arith, p.free_counted, p.fresh_in_room), omega (arith, p.free_counted, p.fresh_in_cap))
 
 -- one more is taken
 pub filled-taken : (cells : List (Option Node)) (s : ℕ) (b : Node) → get_or cells s None ≡ None → filled (put cells s (Some b)) ≡ filled cells + 1
@@ -80,11 +89,6 @@ held_at base slots s n lt e = (n, ap (λ (z : List (Option Node)). get_or z s No
 
 pub itself_at : (base : List (Option Node)) (s : ℕ) (n : Node) → get_or base s None ≡ Some n → base ≡ set base s (Some n)
 itself_at base s n e = sym (set-get_or base s None) ∙ ap (λ z. set base s z) e
-
--- two states that differ in no part
-pub same_pool : (cells cells' : List (Option Node)) (free free' : List ℕ) (fresh room cap : ℕ) (turned : Bool) → cells ≡ cells' → free ≡ free'
-    → ◌≡◌ {A = PoolState} (record { cells = cells; free = free; fresh = fresh; room = room; cap = cap; turned = turned }) (record { cells = cells'; free = free'; fresh = fresh; room = room; cap = cap; turned = turned })
-same_pool cells cells' free free' fresh room cap turned e f = λ i. record { cells = e i; free = f i; fresh = fresh; room = room; cap = cap; turned = turned }
 
 -- a step over an equal store
 step_at : (slots new : List (Option Node)) (first : Option ℕ) (free : List ℕ) (fresh taken room cap : ℕ) (cells : List (Option Node)) → new ≡ slots → Step slots first free fresh taken room cap cells → Step new first free fresh taken room cap cells
@@ -110,9 +114,38 @@ new-step cap le = record {
   cells_is = refl;
 }
 
-module _ (slots : List (Option Node)) (first : Option ℕ) (l : Listed (frees slots) first) (fresh taken room cap : ℕ) (p : IsPool slots l.0 fresh taken room cap) where
+-- what a pool shows of its cells
+abbrev pub cells_in : Inside → List (Option Node)
+cells_in x = cells_of x.store x.listed.0 x.fresh
+
+-- the store holds these cells, with the pool's free list and counts
+abbrev pub Keeps : Inside → List (Option Node) → List (Option Node) → Type 0
+Keeps x new cells = Step new x.free x.listed.0 x.fresh x.taken x.room x.cap cells
+
+module _ (x : Inside) (p : IsPool x.store x.listed.0 x.fresh x.taken x.room x.cap) where
+  abbrev slots : List (Option Node)
+  slots = x.store
+
+  abbrev first : Option ℕ
+  first = x.free
+
+  abbrev l : Listed (frees x.store) x.free
+  l = x.listed
+
+  abbrev fresh : ℕ
+  fresh = x.fresh
+
+  abbrev taken : ℕ
+  taken = x.taken
+
+  abbrev room : ℕ
+  room = x.room
+
+  abbrev cap : ℕ
+  cap = x.cap
+
   abbrev cells : List (Option Node)
-  cells = cells_of slots l.0 fresh
+  cells = cells_in x
 
   pub extended-step : (new : List (Option Node)) (b : Node) → b.mark ≤ 1 → fresh < room → fresh < cap → new ≡ set slots fresh (Some b) → Step new first l.0 (fresh + 1) (taken + 1) room cap (put cells fresh (Some b))
   extended-step new b small lr lc e = step_at (set slots fresh (Some b)) new first l.0 (fresh + 1) (taken + 1) room cap (put cells fresh (Some b)) e (record {
@@ -131,7 +164,7 @@ module _ (slots : List (Option Node)) (first : Option ℕ) (l : Listed (frees sl
     cells_is = grown-cells slots l.0 fresh taken room cap p lt;
   })
 
-  pub same-step : (new : List (Option Node)) → new ≡ slots → Step new first l.0 fresh taken room cap cells
+  pub same-step : (new : List (Option Node)) → new ≡ slots → Keeps x new cells
   same-step new e = step_at slots new first l.0 fresh taken room cap cells e (record { chain = l.1; pool = p; cells_is = refl })
 
   -- a taken slot is held in the store, and is not free
@@ -162,7 +195,7 @@ module _ (slots : List (Option Node)) (first : Option ℕ) (l : Listed (frees sl
       subst (λ z. IfSome z (λ n. IfSome (f n) (IsHeld slots))) (sym at) (held_links (f h.0) (subst (λ z. IfSome z (λ n. IfSome (f n) (IsHeld cells))) h.1 k))
 
   -- a change of a taken slot's node that keeps its free link
-  pub kept-step : (new : List (Option Node)) (s : ℕ) (f : Node → Node) → ((n : Node) → n.mark ≤ 1 → (f n).mark ≤ 1) → IsHeld cells s → new ≡ changed s f slots → Step new first l.0 fresh taken room cap (altered s f cells)
+  pub kept-step : (new : List (Option Node)) (s : ℕ) (f : Node → Node) → ((n : Node) → n.mark ≤ 1 → (f n).mark ≤ 1) → IsHeld cells s → new ≡ changed s f slots → Keeps x new (altered s f cells)
   kept-step new s f small h e =
       let at = taken_at slots l.0 fresh s h.0 h.1 in
       let is : changed s f slots ≡ set slots s (Some (f h.0)) = ap (λ z. set slots s (option_map f z)) at.at_store in

@@ -28,8 +28,10 @@ pub struct Arena {
     heads: Heads,
     gray_first: Option<u32>,
     linked: u32,
-    ghost chained: { Chained (links (λ n. n.chain) pool.cells) heads } by { Chained-prop (links (λ n. n.chain) pool.cells) heads },
-    ghost grayed: { Listed (links (λ n. n.gray) pool.cells) gray_first } by { Listed-prop (links (λ n. n.gray) pool.cells) gray_first },
+    ghost chained: { Chained (links (λ n. n.chain) pool.cells)
+        heads } by { Chained-prop (links (λ n. n.chain) pool.cells) heads },
+    ghost grayed: { Listed (links (λ n. n.gray) pool.cells)
+        gray_first } by { Listed-prop (links (λ n. n.gray) pool.cells) gray_first },
     ghost counted: { linked ≡ total chained.0 } by { total-prop linked chained.0 },
 }
 

@@ -194,11 +194,9 @@ impl Cells {
         let Cells { mark: _ } = self;
     }
 
-    /// Writes a node into an empty slot.
+    /// Writes a new node into a slot, over what lies there.
     pub(crate) fn fill(&mut self, at: Place, body: CellBody)
-        requires { IsPlace self.old.blocks at
-            × (at.slot < length self.old.slots)
-            × (node_at self.old.slots at.slot ≡ None) }
+        requires { IsPlace self.old.blocks at × (at.slot < length self.old.slots) }
         ensures blocks { self.new.blocks ≡ self.old.blocks }
         ensures slots { self.new.slots ≡ slice_set self.old.slots at.slot (Some (lone 0 body)) }
     {
@@ -216,30 +214,6 @@ impl Cells {
                 number: at.slot,
                 roots: 0,
                 kind: body.kind,
-            })
-        }
-    }
-
-    /// Writes a new node over another one.
-    pub(crate) fn renew(&mut self, place: Place, new: CellBody)
-        requires { IsPlace self.old.blocks place × IsHeld self.old.slots place.slot }
-        ensures blocks { self.new.blocks ≡ self.old.blocks }
-        ensures slots { self.new.slots ≡ slice_set self.old.slots place.slot (Some (lone 0 new)) }
-    {
-        unsafe {
-            place.at.write(Cell {
-                links: Links {
-                    chain: place.at,
-                    gray: place.at,
-                    free: place.at,
-                },
-                a: new.a,
-                b: new.b,
-                hash: new.hash,
-                anns: new.anns,
-                number: place.slot,
-                roots: 0u16,
-                kind: new.kind,
             })
         }
     }

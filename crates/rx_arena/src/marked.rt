@@ -67,22 +67,12 @@ impl MarkedStore {
         }
     }
 
-    /// Puts a node with this body and mark, in no list, where nothing lies.
+    /// Puts a new node with this body and mark, in no list, over what lies at the slot.
     pub(crate) fn fill(&mut self, slot: u32, body: CellBody, mark: u8)
-        requires { (slot < length self.old) × (node_at self.old slot ≡ None) }
+        requires { slot < length self.old }
         ensures { self.new ≡ slice_set self.old slot (Some (lone mark body)) }
     {
         self.cells.fill(slot, body);
-        self.marks[slot as usize] = mark;
-        self.protected[slot as usize] = false;
-    }
-
-    /// Makes the node at a slot a new one, with this body and mark and in no list.
-    pub(crate) fn renew(&mut self, slot: u32, body: CellBody, mark: u8)
-        requires { IsHeld self.old slot }
-        ensures { self.new ≡ slice_set self.old slot (Some (lone mark body)) }
-    {
-        self.cells.renew(slot, body);
         self.marks[slot as usize] = mark;
         self.protected[slot as usize] = false;
     }

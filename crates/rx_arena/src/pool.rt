@@ -46,7 +46,8 @@ pub(crate) struct Pool {
     room: u32,
     cap: u32,
     turned: bool,
-    ghost listed: { Listed (links (λ n. n.free) store) free } by { Listed-prop (links (λ n. n.free) store) free },
+    ghost listed: { Listed (links (λ n. n.free) store)
+        free } by { Listed-prop (links (λ n. n.free) store) free },
 }
 
 impl Model for Pool {
@@ -123,7 +124,7 @@ impl Pool {
         match self.free {
             Some(slot) => {
                 self.free = self.store.next(slot, Link::Free);
-                self.store.renew(slot, body, mark_of(self.turned, false));
+                self.store.fill(slot, body, mark_of(self.turned, false));
                 self.taken += 1;
                 Some(slot)
             }

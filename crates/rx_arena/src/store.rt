@@ -103,22 +103,13 @@ impl<A: Allocator + Copy> Store<A> {
         }
     }
 
-    /// Puts a node with this body, in no list, where nothing lies.
+    /// Puts a new node with this body, in no list, over what lies at the slot.
     pub fn fill(&mut self, slot: u32, body: CellBody)
-        requires { (slot < length self.old) × (node_at self.old slot ≡ None) }
+        requires { slot < length self.old }
         ensures { self.new ≡ slice_set self.old slot (Some (lone 0 body)) }
     {
         let at = place(&self.blocks, slot);
         self.cells.fill(at, body)
-    }
-
-    /// Makes the node at a slot a new one, with this body and in no list.
-    pub fn renew(&mut self, slot: u32, body: CellBody)
-        requires { IsHeld self.old slot }
-        ensures { self.new ≡ slice_set self.old slot (Some (lone 0 body)) }
-    {
-        let at = place(&self.blocks, slot);
-        self.cells.renew(at, body)
     }
 
     /// The body.

@@ -279,17 +279,6 @@ module _ (nodes : List Node) (are : AreNodes nodes) (at : ℕ) (n : Node) (lt : 
           = ap (λ (ss : List Step). filled_pieces (pieces ss) (drop (left - 1) all)) steps ∙ ap (λ (bs : List Tree). filled_pieces (assembled (step_of n) (pieces others)) bs) rest ∙ f.1 in
           subst (OnStack (Stands w) after) (sym e) (push (Stands w) stack after (Some r) f.0 (filled_pieces (pieces others) (drop left all)) grown (f.2 w r (g.trees r t.0 t.1)) on)
 
--- the terms that are left to the left, and what the nodes from here on make of the others
-pub record Filling (old w : Store) (nodes : List Node) (args : List Term) (stack : List (Option Term)) (at left : ℕ) : Type 0 where
-  pub within : at ≤ length nodes
-  pub left_within : left ≤ length args
-  pub held : OnStack (Stands w) stack (filled_pieces (pieces (map step_of (drop at nodes))) (drop left (trees_of old args)))
-  pub counted : left + length (blanks_of_steps (map step_of (drop at nodes))) ≡ length (trees_of old args)
-  pub grows : Grows old w
-
-pub back : (old w : Store) (nodes : List Node) (args : List Term) (stack : List (Option Term)) (at left : ℕ) → 0 < at → Filling old w nodes args stack at left → Filling old w nodes args stack ((at - 1) + 1) left
-back old w nodes args stack at left pos h = let e : at ≡ (at - 1) + 1 = omega arith in subst (λ (k : ℕ). Filling old w nodes args stack k left) e h
-
 -- the terms are as many as the blanks, and each blank takes its tree
 pub record Fits (old : Store) (nodes : List Node) (args : List Term) : Type 0 where
   pub held : HaveTrees old args (trees_of old args)
@@ -298,6 +287,18 @@ pub record Fits (old : Store) (nodes : List Node) (args : List Term) : Type 0 wh
 
 pub fits_all : (old : Store) (nodes : List Node) (args : List Term) (bs : List Tree) → HaveTrees old args bs → IsMisfit None (blanks_of_steps (map step_of nodes)) bs → Fits old nodes args
 fits_all old nodes args bs h m = let f = fitting old args (blanks_of_steps (map step_of nodes)) bs h m in record { held = f.0; taken = f.1; same = f.2 }
+
+-- the terms that are left to the left, and what the nodes from here on make of the others
+pub record Filling (old w : Store) (nodes : List Node) (args : List Term) (stack : List (Option Term)) (at left : ℕ) : Type 0 where
+  pub within : at ≤ length nodes
+  pub left_within : left ≤ length args
+  pub held : OnStack (Stands w) stack (filled_pieces (pieces (map step_of (drop at nodes))) (drop left (trees_of old args)))
+  pub counted : left + length (blanks_of_steps (map step_of (drop at nodes))) ≡ length (trees_of old args)
+  pub grows : Grows old w
+  pub fits : Fits old nodes args
+
+pub back : (old w : Store) (nodes : List Node) (args : List Term) (stack : List (Option Term)) (at left : ℕ) → 0 < at → Filling old w nodes args stack at left → Filling old w nodes args stack ((at - 1) + 1) left
+back old w nodes args stack at left pos h = let e : at ≡ (at - 1) + 1 = omega arith in subst (λ (k : ℕ). Filling old w nodes args stack k left) e h
 
 pub begun : (old : Store) (nodes : List Node) (args : List Term) (stack : List (Option Term)) → Fits old nodes args → stack ≡ [] → Filling old old nodes args stack (length nodes) (length args)
 begun old nodes args stack f e =
@@ -308,14 +309,15 @@ begun old nodes args stack f e =
       held = subst (λ (ns : List Node). OnStack (Stands old) stack (filled_pieces (pieces (map step_of ns)) (drop (length args) (trees_of old args)))) (sym z) (rw e tt);
       counted = subst (λ (ns : List Node). length args + length (blanks_of_steps (map step_of ns)) ≡ length (trees_of old args)) (sym z) (let n = HaveTrees-length old args (trees_of old args) f.held in omega arith);
       grows = Grows-refl old;
+      fits = f;
     }
 
-module _ (old w : Store) (nodes : List Node) (args : List Term) (stack : List (Option Term)) (at left : ℕ) (n : Node) (are : AreNodes nodes) (f : Fits old nodes args) (h : Filling old w nodes args stack (at + 1) left) (is : n ≡ get_or nodes at n) where
+module _ (old w : Store) (nodes : List Node) (args : List Term) (stack : List (Option Term)) (at left : ℕ) (n : Node) (are : AreNodes nodes) (h : Filling old w nodes args stack (at + 1) left) (is : n ≡ get_or nodes at n) where
   lt : at < length nodes
   lt = let e = h.within in omega arith
 
   pub left_some : is_blank (step_of n) ≡ true → 0 < left
-  left_some y = some_left nodes are at n lt is w stack left (trees_of old args) h.held h.counted y f.taken
+  left_some y = some_left nodes are at n lt is w stack left (trees_of old args) h.held h.counted y h.fits.taken
 
   pub parts_there : is_blank (step_of n) ≡ false → (ps : List Piece) × OnStack (Stands w) stack ps × HasParts (step_of n) ps
   parts_there e = turn_parts nodes are at n lt is w stack left (trees_of old args) h.held h.counted e
@@ -327,9 +329,10 @@ module _ (old w : Store) (nodes : List Node) (args : List Term) (stack : List (O
   blank_on y r after arg grown = record {
     within = let e = h.within in omega arith;
     left_within = let e = h.left_within in omega arith;
-    held = turn_blank nodes are at n lt is w stack left (trees_of old args) h.held h.counted y f.taken old args r after h.grows f.held arg grown;
-    counted = one_counted nodes are at n lt is w stack left (trees_of old args) h.held h.counted y f.taken;
+    held = turn_blank nodes are at n lt is w stack left (trees_of old args) h.held h.counted y h.fits.taken old args r after h.grows h.fits.held arg grown;
+    counted = one_counted nodes are at n lt is w stack left (trees_of old args) h.held h.counted y h.fits.taken;
     grows = h.grows;
+    fits = h.fits;
   }
 
   pub join_on : is_blank (step_of n) ≡ false → (new : Store) (after : List (Option Term)) → Grows w new → ((ps : List Piece) → OnStack (Stands w) stack ps → HasParts (step_of n) ps → OnStack (Stands new) after (assembled (step_of n) ps)) → Filling old new nodes args after at left
@@ -339,6 +342,7 @@ module _ (old w : Store) (nodes : List Node) (args : List Term) (stack : List (O
     held = turn_join nodes are at n lt is w stack left (trees_of old args) h.held h.counted e new after made;
     counted = still_counted nodes are at n lt is w stack left (trees_of old args) h.held h.counted e;
     grows = Grows-trans h.grows g;
+    fits = h.fits;
   }
 
 -- the one tree
@@ -350,21 +354,21 @@ ended w nodes stack left all are counted len on =
     subst (OnStack (Stands w) stack) e on
 
 -- no node is left
-pub all_filled : (old w : Store) (nodes : List Node) (args : List Term) (stack rest : List (Option Term)) (x : Option Term) (at left : ℕ) → AreNodes nodes → Fits old nodes args → at ≡ 0 → Filling old w nodes args stack at left → stack ≡ rest ++ x ∷ []
+pub all_filled : (old w : Store) (nodes : List Node) (args : List Term) (stack rest : List (Option Term)) (x : Option Term) (at left : ℕ) → AreNodes nodes → at ≡ 0 → Filling old w nodes args stack at left → stack ≡ rest ++ x ∷ []
     → Stands w x (One (filled (tree_of_nodes nodes) (trees_of old args)).0)
-all_filled old w nodes args stack rest x at left are f z h e =
+all_filled old w nodes args stack rest x at left are z h e =
     let k = subst (λ (i : ℕ). Filling old w nodes args stack i left) z h in
-    let n = HaveTrees-length old args (trees_of old args) f.held in
-    let s = f.same in
+    let n = HaveTrees-length old args (trees_of old args) h.fits.held in
+    let s = h.fits.same in
     (pop (Stands w) stack rest x (One (filled (tree_of_nodes nodes) (trees_of old args)).0) [] e (ended w nodes stack left (trees_of old args) are k.counted (omega arith) k.held)).0
 
-pub stack_there : (old w : Store) (nodes : List Node) (args : List Term) (stack : List (Option Term)) (at left : ℕ) → AreNodes nodes → Fits old nodes args → at ≡ 0 → Filling old w nodes args stack at left → 0 < length stack
-stack_there old w nodes args [] at left are f z h =
+pub stack_there : (old w : Store) (nodes : List Node) (args : List Term) (stack : List (Option Term)) (at left : ℕ) → AreNodes nodes → at ≡ 0 → Filling old w nodes args stack at left → 0 < length stack
+stack_there old w nodes args [] at left are z h =
     let k = subst (λ (i : ℕ). Filling old w nodes args [] i left) z h in
-    let n = HaveTrees-length old args (trees_of old args) f.held in
-    let s = f.same in
+    let n = HaveTrees-length old args (trees_of old args) h.fits.held in
+    let s = h.fits.same in
     absurd (ended w nodes [] left (trees_of old args) are k.counted (omega arith) k.held)
-stack_there old w nodes args (x ∷ stack) at left are f z h = omega arith
+stack_there old w nodes args (x ∷ stack) at left are z h = omega arith
 
 pub some_made : (w : Store) (x : Option Term) (t : Tree) → Stands w x (One t) → IsSome x
 some_made w None t st = absurd st

@@ -1,5 +1,5 @@
 -- What a read of a slot says of its tree.
-use Rattle.std.proofs.Common.{List, length, ℕ, ◌≡◌, ◌<◌, Option, Some, None, IsSome, is_some, refl, sym, ap, ◌∙◌, subst, get_or, ℤ}
+use Rattle.std.proofs.Common.{List, length, ℕ, ◌≡◌, ◌<◌, Option, Some, None, IsSome, is_some, refl, sym, ap, ◌∙◌, subst, get_or, ℤ, arith}
 use Rattle.std.specs.FinMap as map
 use Rattle.std.proofs.lemmas.Option.{slice_get-get_or}
 use Rattle.rx_term.specs.Tree.{Tree, Int, Items, Trees, none, more, annotated, annotations, is_i32}
@@ -17,7 +17,7 @@ use Rattle.rx_plain.specs.Slots.{notes_of, heap_of, cell_in, cell_at}
 use Rattle.rx_plain.specs.State.{store_of}
 use Rattle.rx_plain.specs.declared.slots.Body.{Body}
 use Rattle.rx_plain.specs.declared.bank.PlainBank.{PlainBank}
-use Rattle.rx_plain.specs.Soundness.{table, bank-heap}
+use Rattle.rx_plain.specs.Soundness.{table, cell-within, bank-heap}
 
 -- a held reference has a cell, which says its tree
 pub held-cell : (b : PlainBank) (t : ℕ) → IsSome (map.get (store_of b).content t) → (x : Cell) × (heap_of b.slots.items t ≡ Some x) × (map.get (store_of b).content t ≡ cell_tree (λ k. map.get (store_of b).content k) (table b) x)
@@ -26,6 +26,14 @@ held-cell b t held =
     let u = some-value (map.get (store_of b).content t) held in
     let x = cell-of (heap_of b.slots.items) (table b) (length b.slots.items) b.whole.0 (bank-heap b) t u.0 u.1 in
     (x.0, x.1, u.1 ∙ sym (said (λ k. map.get (store_of b).content k) (table b) x.0 u.0 x.2))
+
+-- and a slot
+pub held-within : (b : PlainBank) (t : Term) → IsSome (tree_at (store_of b) t) → t.0 < length b.slots.items
+held-within b t h = let x = held-cell b t.0 h in cell-within b.slots.items t.0 x.0 x.1
+
+-- which the bank's vector has
+pub held-index : (b : PlainBank) (t : Term) → IsSome (tree_at (store_of b) t) → t.0 < b.slots.len
+held-index b t h = let lt = held-within b t h in let size = b.slots.ok.0 in omega arith
 
 -- what a read of a slot says of the heap
 pub read-cell : (xs : List Slot) (t : ℕ) (s : Slot) → t < length xs → s ≡ get_or xs t s → heap_of xs t ≡ cell_in s.body

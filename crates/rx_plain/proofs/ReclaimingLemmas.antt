@@ -173,9 +173,6 @@ bank-within b t i x e c =
     let z = held-cell b i (ap is_some w.1) in
     cell-within b.slots.items i z.0 z.1
 
-pub held-within : (b : PlainBank) (t : Term) → IsSome (tree_at (store_of b) t) → t.0 < length b.slots.items
-held-within b t h = let z = held-cell b t.0 h in cell-within b.slots.items t.0 z.0 z.1
-
 -- a vector's slots after a write of them all
 abbrev pub written : ℕ → List Slot → List Slot → List Slot
 written n xs items = take n (xs ++ drop (length xs) items)

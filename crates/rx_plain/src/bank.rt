@@ -35,7 +35,7 @@ pub struct PlainBank {
 impl PlainBank {
     ghost use Rattle.std.specs.Prelude.{IsSome, IfOk, IfErr, Some};
     ghost use Rattle.rx_term.specs.Store.{tree_at};
-    ghost use Rattle.rx_term.specs.Steps.{MakesOrRefuses};
+    ghost use Rattle.rx_term.specs.Steps.{MakesOrRefuses, with_count};
     ghost use Rattle.rx_term.specs.declared.faults.BankFault.TheVariants.{Memory};
     ghost use Rattle.rx_plain.specs.Slots.{notes_of};
     ghost use Rattle.rx_plain.specs.State.{store_of, tree_of_body};
@@ -108,6 +108,27 @@ impl PlainBank {
             Shape::Cons(_, _) => Some(anns),
             _ => None,
         }
+    }
+
+    /// Replaces the count of a held reference.
+    fn set_roots(&mut self, t: Term, count: u16)
+        requires { IsSome (tree_at (store_of self.old) t) }
+        ensures { store_of self.new ≡ with_count (store_of self.old) t count }
+    {
+        let slot = self.slots[t.0 as usize];
+        self.slots[t.0 as usize] = Slot {
+            body: slot.body,
+            roots: count,
+            mark: slot.mark,
+        };
+    }
+
+    /// How often a held reference is protected.
+    fn roots(&self, t: Term) -> u16
+        requires { IsSome (tree_at (store_of self.now) t) }
+        ensures { result ≡ (store_of self.now).roots t.0 }
+    {
+        self.slots[t.0 as usize].roots
     }
 }
 
@@ -223,25 +244,17 @@ impl TermBank for PlainBank {
     }
 
     fn protect(&mut self, t: Term) -> Result<(), RootsFull> {
-        let slot = self.slots[t.0 as usize];
-        if slot.roots == u16::MAX {
+        let count = self.roots(t);
+        if count == u16::MAX {
             return Err(RootsFull);
         }
-        self.slots[t.0 as usize] = Slot {
-            body: slot.body,
-            roots: slot.roots + 1,
-            mark: slot.mark,
-        };
+        self.set_roots(t, count + 1);
         Ok(())
     }
 
     fn unprotect(&mut self, t: Term) {
-        let slot = self.slots[t.0 as usize];
-        self.slots[t.0 as usize] = Slot {
-            body: slot.body,
-            roots: slot.roots - 1,
-            mark: slot.mark,
-        };
+        let count = self.roots(t);
+        self.set_roots(t, count - 1);
     }
 
     fn reclaim(&mut self, extra: &[Term]) {

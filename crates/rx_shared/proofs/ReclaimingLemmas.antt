@@ -1,6 +1,6 @@
 -- What a bank keeps when its arena is collected.
-use Rattle.std.proofs.Common.{◌≡◌, ℕ, zero, suc, ◌+◌, ◌%◌, ◌<◌, ◌≤◌, ◌⊎◌, inl, inr, Bool, true, false, List, [], length, get_or, map, Option, Some, None, IsSome, is_some, refl, sym, ap, subst, ◌∙◌, arith, Contains}
-use Rattle.std.specs.Prelude.{if◌then◌else◌, filter, ◌↔◌}
+use Rattle.std.proofs.Common.{◌≡◌, ℕ, zero, suc, ◌%◌, ◌<◌, ◌≤◌, ◌⊎◌, inl, inr, Bool, true, false, List, [], length, get_or, Option, Some, None, IsSome, is_some, refl, sym, ap, subst, ◌∙◌, arith, Contains}
+use Rattle.std.specs.Prelude.{if◌then◌else◌, filter}
 use Rattle.std.proofs.lemmas.List.{length-map}
 use Rattle.std.proofs.lemmas.List.Elements.{Contains-append_left, Contains-append_right, Contains-append_cases}
 use Rattle.std.specs.FinMap as fin
@@ -17,10 +17,10 @@ use Rattle.rx_names.specs.Names.{symbols_of}
 use Rattle.rx_arena.specs.declared.CellBody.{CellBody}
 use Rattle.rx_arena.specs.declared.Slot.{Slot}
 use Rattle.rx_arena.specs.Put.{times, times_in}
-use Rattle.rx_arena.specs.Arena.{Taken, ArenaState, taken_at, IsTaken, taken_count, chain_at, marked_at, roots_at, root_count, with_marking, IsArena}
+use Rattle.rx_arena.specs.Arena.{Taken, ArenaState, taken_at, IsTaken, chain_at, roots_at, root_count, with_marking, IsArena}
 use Rattle.rx_arena.proofs.ChainLemmas.{one_or_more}
 use Rattle.rx_sweep.specs.Reach as reach
-use Rattle.rx_sweep.specs.Reach.{annotations, words, names, cell_names, named_at, unmarked, is_taken, CanCollect}
+use Rattle.rx_sweep.specs.Reach.{annotations, words, names, cell_names, named_at, unmarked, is_taken, CanCollect, Collected}
 use Rattle.rx_sweep.specs.Reach.IsReached.{rooted, grayed, named}
 use Rattle.rx_sweep.specs.Marking.{Marks}
 use Rattle.rx_sweep.proofs.BareLemmas.{same_taken, taken_same, same_roots, same_names, same_chains, same_at, same_spare, same_count, same_cap}
@@ -140,9 +140,7 @@ module _ (b : SharedBank) (g : ArenaState) (extra : List Term) (m : Marks b.aren
   reached-linked _ (grayed s p) = start (inr (gray_handed s p))
   reached-linked _ (named s t r h) = linked_from s t (reached-linked s r) h
 
-  module _ (z : ArenaState) (taken : (s : ℕ) → IsTaken z s ↔ reach.IsReached g s) (kept : (s : ℕ) → reach.IsReached g s → taken_at z s ≡ unmarked (taken_at g s))
-      (chains : z.chains ≡ map (filter (λ s. is_taken z s)) g.chains) (no_marks : (s : ℕ) → marked_at z s ≡ false) (no_gray : z.gray ≡ [])
-      (spare : z.spare + taken_count z ≡ g.spare + taken_count g) (cap : z.cap ≡ g.cap) (law : IsArena z) where
+  module _ (z : ArenaState) (left : Collected g z) (law : IsArena z) where
     abbrev keep : ℕ → Bool
     keep s = is_taken z s
 
@@ -153,18 +151,18 @@ module _ (b : SharedBank) (g : ArenaState) (extra : List Term) (m : Marks b.aren
     taken-keep s t = ap is_some t.1
 
     start-keep : (s : ℕ) → IsStart b extra s → keep s ≡ true
-    start-keep s h = taken-keep s ((taken s).1 (start-reached s h))
+    start-keep s h = taken-keep s ((left.taken s).1 (start-reached s h))
 
     -- a kept slot's cell is as it was
     kept-was : (s : ℕ) → IsTaken z s → taken_at z s ≡ unmarked (taken_at b.arena s)
-    kept-was s t = kept s ((taken s).0 t) ∙ same_at b.arena g m.same s
+    kept-was s t = left.kept s ((left.taken s).0 t) ∙ same_at b.arena g m.same s
 
     closed-keep : (s i : ℕ) (x : Cell) → keep s ≡ true → heap_of b.arena s ≡ Some x → Contains (links x) i → keep i ≡ true
     closed-keep s i x k e c =
         let y = cell-taken (taken_at b.arena s) x e in
         let in_body : 0 < times i (names y.0.body) = linked-named y.0.body (b.tidy.written s y.0 y.1) i (subst (λ w. Contains (links w) i) (sym y.2) c) in
         let at_s : 0 < times i (named_at g s) = subst (λ ss. 0 < times i ss) (sym (ap cell_names y.1) ∙ sym (same_names b.arena g m.same s)) in_body in
-        taken-keep i ((taken i).1 (named s i ((taken s).0 (keep-taken s k)) at_s))
+        taken-keep i ((left.taken i).1 (named s i ((left.taken s).0 (keep-taken s k)) at_s))
 
     pub collected-heap : heap_of z ≡ kept_slots keep (heap_of b.arena)
     collected-heap = λ j s. at s j where
@@ -176,10 +174,10 @@ module _ (b : SharedBank) (g : ArenaState) (extra : List Term) (m : Marks b.aren
       at s = by_cell s (taken_at z s) refl
 
     pub collected-cap : z.cap ≡ b.arena.cap
-    collected-cap = cap ∙ same_cap b.arena g m.same
+    collected-cap = left.cap ∙ same_cap b.arena g m.same
 
     pub collected-chains : length z.chains ≡ length b.arena.chains
-    collected-chains = ap length chains ∙ length-map g.chains (filter (λ s. is_taken z s)) ∙ ap length (same_chains b.arena g m.same)
+    collected-chains = ap length left.chains ∙ length-map g.chains (filter (λ s. is_taken z s)) ∙ ap length (same_chains b.arena g m.same)
 
     not-rooted : (s : ℕ) → keep s ≡ false → roots_at b.arena s ≡ 0
     not-rooted s k = elim (one_or_more (roots_at b.arena s)) [ inl p ↦ p | inr p ↦ absurd (let q = start-keep s (inl p) in cc) ]
@@ -199,10 +197,10 @@ module _ (b : SharedBank) (g : ArenaState) (extra : List Term) (m : Marks b.aren
         (λ s t e.
         let v = was s t e in
         let home = b.tidy.homed s v.0 v.1 in
-        let c = v.0.body.hash % length b.arena.chains in
-        let same : chain_at z c ≡ filter (λ s. is_taken z s) (chain_at b.arena c) = ap (λ (css : List (List ℕ)). get_or css c []) chains ∙ get_or-map_filter (λ s. is_taken z s) g.chains c ∙ ap (λ (css : List (List ℕ)). filter (λ s. is_taken z s) (get_or css c [])) (same_chains b.arena g m.same) in
-        ap (λ (y : CellBody). times s (chain_at z (y.hash % length z.chains))) (sym v.2) ∙ ap (λ n. times s (chain_at z (v.0.body.hash % n))) collected-chains ∙ ap (times s) same ∙ times-filter_true (λ s. is_taken z s) s (chain_at b.arena c) (taken-keep s (t, e)) ∙ home)
-        no_marks no_gray
+        let k = v.0.body.hash % length b.arena.chains in
+        let same : chain_at z k ≡ filter (λ s. is_taken z s) (chain_at b.arena k) = ap (λ (css : List (List ℕ)). get_or css k []) left.chains ∙ get_or-map_filter (λ s. is_taken z s) g.chains k ∙ ap (λ (css : List (List ℕ)). filter (λ s. is_taken z s) (get_or css k [])) (same_chains b.arena g m.same) in
+        ap (λ (y : CellBody). times s (chain_at z (y.hash % length z.chains))) (sym v.2) ∙ ap (λ n. times s (chain_at z (v.0.body.hash % n))) collected-chains ∙ ap (times s) same ∙ times-filter_true (λ s. is_taken z s) s (chain_at b.arena k) (taken-keep s (t, e)) ∙ home)
+        left.no_marks left.no_gray
         (λ s. subst (λ n. n ≤ 65535) (sym (collected-roots s)) (b.tidy.counted s))
 
     whole_after : is_whole (kept_slots keep (heap_of b.arena)) (table b) b.arena.cap b.whole.0 ≡ true
@@ -244,7 +242,7 @@ module _ (b : SharedBank) (g : ArenaState) (extra : List Term) (m : Marks b.aren
       unfolding content_by
       only-after t u e =
           let o = only-content (heap_of b.arena) (table b) b.arena.cap b.whole.0 (bank-heap b) keep closed-keep least_after.0 least_after.1.passes t.0 u (sym (ap (λ c. fin.get c t.0) content-after) ∙ e) in
-          let l = linked-part (heap_of b.arena) (table b) b.arena.cap b.whole.0 (bank-heap b) (IsStart b extra) start-held t.0 (reached-linked t.0 ((taken t.0).0 (keep-taken t.0 o.0))) in
+          let l = linked-part (heap_of b.arena) (table b) b.arena.cap b.whole.0 (bank-heap b) (IsStart b extra) start-held t.0 (reached-linked t.0 ((left.taken t.0).0 (keep-taken t.0 o.0))) in
           let same : l.1.1.0 ≡ u = (let p = l.1.1.3 in let q = o.1 in cc) in
           (o.1, (record { 0 = l.0 }, (l.1.0, root-kept l.0 l.1.1.1, l.1.1.2, subst (Contains (parts l.1.0)) same l.1.1.4)))
 
@@ -259,5 +257,5 @@ module _ (b : SharedBank) (g : ArenaState) (extra : List Term) (m : Marks b.aren
             let before = cells_taken b in
             let s = same_spare b.arena g m.same in
             let n = same_count b.arena g m.same in
-            omega (arith, after, before, s, n, spare));
+            omega (arith, after, before, s, n, left.spare));
       }

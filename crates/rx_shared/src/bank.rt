@@ -113,6 +113,14 @@ impl SharedBank {
         }
     }
 
+    /// The chain that a hash names: its low bits, as the number of chains is a power of two.
+    #[inline(always)]
+    fn home(&self, hash: u64) -> u32
+        ensures { result ≡ hash % length self.now.arena.chains }
+    {
+        (hash & ((1u64 << self.bits) - 1)) as u32
+    }
+
     /// The reference of a body.
     #[inline(always)]
     fn make(&mut self, body: CellBody) -> Result<Term, BankFault>
@@ -121,7 +129,7 @@ impl SharedBank {
         ensures { let w = store_of self.old in
             MakesOrRefuses w (store_of self.new) (tree_of_body w body) result }
     {
-        let chain = self.arena.home(body.hash);
+        let chain = self.home(body.hash);
         if let Some(slot) = find(&self.arena, chain, body) {
             return Ok(Term(slot.0));
         }

@@ -1,13 +1,13 @@
 -- The steps of a collection together.
-use Rattle.std.proofs.Common.{◌≡◌, ◌↔◌, ℕ, ◌+◌, ◌<◌, inl, inr, List, [], ◌∷◌, map, Some, None, refl, sym, ap, subst, ◌∙◌, arith}
+use Rattle.std.proofs.Common.{◌≡◌, ℕ, ◌+◌, ◌<◌, inl, inr, List, [], ◌∷◌, map, Some, None, refl, sym, ap, subst, ◌∙◌, arith}
 use Rattle.std.specs.Prelude.{Option, true, false, cond, filter, is_some}
 use Rattle.rx_arena.specs.Put.{times, times_in}
-use Rattle.rx_arena.specs.Arena.{Taken, ArenaState, taken_at, IsTaken, taken_count, InChain, is_marked, marked_at, IsMarked, roots_at, with_marking, IsArena}
+use Rattle.rx_arena.specs.Arena.{Taken, ArenaState, taken_at, IsTaken, InChain, is_marked, marked_at, IsMarked, roots_at, with_marking, IsArena}
 use Rattle.rx_arena.proofs.PutLemmas.{get_or-map_option}
-use Rattle.rx_sweep.specs.Reach.{unmarked, is_taken, cell_names, named_at, IsClosed, IsReached, CanCollect}
+use Rattle.rx_sweep.specs.Reach.{unmarked, is_taken, cell_names, named_at, IsClosed, IsReached, CanCollect, Collected}
 use Rattle.rx_sweep.specs.Reach.IsReached.{rooted, grayed, named}
-use Rattle.rx_sweep.specs.Marking.{bare, SameButMarks, Marks}
-use Rattle.rx_sweep.proofs.BareLemmas.{same_trans, same_at, same_names, same_roots, same_chains, same_spare, same_count, same_taken, taken_same, unmarked-clear, names-unmarked}
+use Rattle.rx_sweep.specs.Marking.{bare, SameButMarks, Marks, Swept}
+use Rattle.rx_sweep.proofs.BareLemmas.{same_trans, same_at, same_names, same_roots, same_chains, same_spare, same_cap, same_count, same_taken, taken_same, unmarked-clear, names-unmarked}
 use Rattle.rx_sweep.proofs.SpreadingLemmas.{marked_taken}
 use Rattle.rx_sweep.proofs.SweepLemmas.{true_or_false, times_in-filter_true}
 
@@ -35,16 +35,6 @@ none_unmarked (Some t) h = absurd (cc)
 names_some : (t : ℕ) (c : Option Taken) → 0 < times t (cell_names c) → (u : Taken) × (c ≡ Some u)
 names_some t None h = absurd (omega (arith, h))
 names_some t (Some u) h = (u, refl)
-
--- what a collection leaves
-pub record Collected (old new : ArenaState) : Type 0 where
-  pub taken : (s : ℕ) → IsTaken new s ↔ IsReached old s
-  pub kept : (s : ℕ) → IsReached old s → taken_at new s ≡ unmarked (taken_at old s)
-  pub dropped : (s : ℕ) → ¬ (IsReached old s) → taken_at new s ≡ None
-  pub chains : new.chains ≡ map (filter (λ s. is_taken new s)) old.chains
-  pub clear : (s : ℕ) → marked_at new s ≡ false
-  pub spare : new.spare + taken_count new ≡ old.spare + taken_count old
-  pub ready : CanCollect new
 
 -- after the protected slots are marked
 module _ (old : ArenaState) (law : IsArena old) (can : CanCollect old) (one : ArenaState) (m : Marks old one (λ s. 0 < roots_at old s)) where
@@ -84,12 +74,12 @@ module _ (old : ArenaState) (law : IsArena old) (can : CanCollect old) (one : Ar
         (λ s t h e. closed s t h (subst (λ z. 0 < times t z) (sym (same_names old one m.same s)) e))
 
     -- after the others have gone
-    module _ (three : ArenaState) (cells : (s : ℕ) → taken_at three s ≡ cond (marked_at two s) (taken_at two s) None) where
+    module _ (three : ArenaState) (swept : Swept two three) where
       cell_kept : (s : ℕ) → marked_at two s ≡ true → taken_at three s ≡ taken_at two s
-      cell_kept s e = cells s ∙ ap (λ b. cond b (taken_at two s) None) e
+      cell_kept s e = swept.cells s ∙ ap (λ b. cond b (taken_at two s) None) e
 
       cell_gone : (s : ℕ) → marked_at two s ≡ false → taken_at three s ≡ None
-      cell_gone s e = cells s ∙ ap (λ b. cond b (taken_at two s) None) e
+      cell_gone s e = swept.cells s ∙ ap (λ b. cond b (taken_at two s) None) e
 
       taken_three : (s : ℕ) → IsTaken three s → IsMarked two s
       taken_three s h = elim (true_or_false (marked_at two s)) [
@@ -101,7 +91,7 @@ module _ (old : ArenaState) (law : IsArena old) (can : CanCollect old) (one : Ar
       all_marked s h = let mark = taken_three s h in ap is_marked (cell_kept s mark) ∙ mark
 
       -- after all marks are forgotten
-      module _ (chains : three.chains ≡ map (filter (λ s. marked_at two s)) two.chains) (four : ArenaState) (turned : four ≡ record three { cells = map unmarked three.cells }) where
+      module _ (four : ArenaState) (turned : four ≡ record three { cells = map unmarked three.cells }) where
         same_four : SameButMarks three four
         same_four = record { bare_same = ap bare turned ∙ ap (λ z. record three { cells = z; gray = [] }) (unmarked_twice three.cells) }
 
@@ -137,7 +127,7 @@ module _ (old : ArenaState) (law : IsArena old) (can : CanCollect old) (one : Ar
         ]
 
         chains_four : four.chains ≡ map (filter (λ s. is_taken four s)) old.chains
-        chains_four = same_chains three four same_four ∙ chains ∙ (λ i. map (filter (λ s. test_same s i)) (same_chains old two same_two i))
+        chains_four = same_chains three four same_four ∙ swept.chains ∙ (λ i. map (filter (λ s. test_same s i)) (same_chains old two same_two i))
 
         names_four : (s : ℕ) → IsReached old s → named_at four s ≡ named_at old s
         names_four s r = ap cell_names (kept_four s r) ∙ names-unmarked (taken_at old s)
@@ -152,13 +142,15 @@ module _ (old : ArenaState) (law : IsArena old) (can : CanCollect old) (one : Ar
           marked_gray = λ s h. absurd (let clear = clear_four s in cc);
         }
 
-        pub collected : three.spare + taken_count three ≡ two.spare + taken_count two → Collected old four
-        collected spare = record {
+        pub collected : Collected old four
+        collected = record {
           taken = λ s. (taken_four s, four_taken s);
           kept = kept_four;
           dropped = dropped_four;
           chains = chains_four;
-          clear = clear_four;
-          spare = (λ i. same_spare three four same_four i + same_count three four same_four i) ∙ spare ∙ (λ i. same_spare old two same_two i + same_count old two same_two i);
+          no_marks = clear_four;
+          no_gray = ap (λ (v : ArenaState). v.gray) turned ∙ swept.no_gray;
+          spare = (λ i. same_spare three four same_four i + same_count three four same_four i) ∙ swept.spare ∙ (λ i. same_spare old two same_two i + same_count old two same_two i);
+          cap = same_cap three four same_four ∙ swept.cap ∙ same_cap old two same_two;
           ready = ready_four;
         }

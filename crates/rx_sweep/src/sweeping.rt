@@ -5,6 +5,7 @@ ghost use Rattle.rx_arena.specs.Put.{times, put};
 ghost use Rattle.rx_arena.specs.Arena.{taken_at, IsTaken, taken_count, InChain, IsLoose, roots_at};
 ghost use Rattle.rx_arena.specs.Arena.{chain_at, kept_in, marked_at, IsMarked, IsArena};
 ghost use Rattle.rx_sweep.specs.Reach.{home, IsHomed};
+ghost use Rattle.rx_sweep.specs.Marking.{Swept};
 
 use rx_arena::Slot;
 use rx_arena::arena::Arena;
@@ -73,13 +74,7 @@ pub(crate) fn sweep(arena: &mut Arena)
     requires no_gray { arena.old.gray ≡ [] }
     requires chained { (s : ℕ) → IsTaken arena.old s → InChain arena.old s }
     requires roots { (s : ℕ) → 0 < roots_at arena.old s → IsMarked arena.old s }
-    ensures cells { (s : ℕ)
-        → taken_at arena.new s ≡ (if marked_at arena.old s then taken_at arena.old s else None) }
-    ensures chains { arena.new.chains ≡ map (filter (λ s. marked_at arena.old s)) arena.old.chains }
-    ensures no_gray { arena.new.gray ≡ [] }
-    ensures spare { arena.new.spare + taken_count
-        arena.new ≡ arena.old.spare + taken_count arena.old }
-    ensures cap { arena.new.cap ≡ arena.old.cap }
+    ensures swept { Swept arena.old arena.new }
     ensures law { IsArena arena.new }
 {
     unlink(arena);
@@ -92,13 +87,7 @@ pub(crate) fn sweep_by_hash(arena: &mut Arena)
     requires homed { IsHomed arena.old }
     requires chained { (s : ℕ) → IsTaken arena.old s → InChain arena.old s }
     requires roots { (s : ℕ) → 0 < roots_at arena.old s → IsMarked arena.old s }
-    ensures cells { (s : ℕ)
-        → taken_at arena.new s ≡ (if marked_at arena.old s then taken_at arena.old s else None) }
-    ensures chains { arena.new.chains ≡ map (filter (λ s. marked_at arena.old s)) arena.old.chains }
-    ensures no_gray { arena.new.gray ≡ [] }
-    ensures spare { arena.new.spare + taken_count
-        arena.new ≡ arena.old.spare + taken_count arena.old }
-    ensures cap { arena.new.cap ≡ arena.old.cap }
+    ensures swept { Swept arena.old arena.new }
     ensures law { IsArena arena.new }
 {
     let mut number = arena.slots();

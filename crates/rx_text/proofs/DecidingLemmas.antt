@@ -1,5 +1,5 @@
 -- A turn of the reader's loop, and its end.
-use Rattle.std.proofs.Common.{◌≡◌, ℕ, ◌+◌, ◌<◌, List, [], ◌∷◌, length, map, reverse, Option, Some, None, refl, sym, ap, ◌∙◌, arith}
+use Rattle.std.proofs.Common.{◌≡◌, ℕ, ◌+◌, ◌<◌, ◌≤◌, List, [], ◌∷◌, length, map, reverse, Option, Some, None, Ok, refl, sym, ap, ◌∙◌, arith}
 use Rattle.rx_term.specs.Tree.{Tree, none, Appl, annotated}
 use Rattle.rx_text.specs.Token as token
 use Rattle.rx_text.specs.Token.{Token, tokens, kinds}
@@ -7,13 +7,15 @@ use Rattle.rx_text.specs.Place.{IsPlace}
 use Rattle.rx_text.specs.Machine as machine
 use Rattle.rx_text.specs.Machine.{Mode, State, step, run, read, tree_of, next_state, fault_at}
 use Rattle.rx_text.specs.Nodes.{top}
-use Rattle.rx_text.specs.Lexemes.{tokens_after, behind, Advances}
-use Rattle.rx_text.specs.Reader.{made_of, frames_of, mode_of, state_of, total, IsState}
+use Rattle.rx_text.specs.Lexemes.{tokens_after, token_of, behind, Advances}
+use Rattle.rx_text.specs.Reader.{made_of, frames_of, mode_of, state_of, total, node_count, IsState, Steps}
 use Rattle.rx_text.specs.Answer.{AreRead}
 use Rattle.rx_text.specs.declared.lexer.Kind.{Kind}
 use Rattle.rx_text.specs.declared.lexer.Kind.TheVariants.{End}
+use Rattle.rx_text.specs.declared.lexer.Lexeme.{Lexeme}
 use Rattle.rx_text.specs.declared.nodes.Node.{Node}
 use Rattle.rx_text.specs.declared.reader.Frame.{Frame}
+use Rattle.rx_text.specs.declared.reader.Reader.{Reader}
 use Rattle.rx_text.specs.declared.reader.Due.{Due}
 use Rattle.rx_text.specs.declared.reader.Due.TheVariants as due
 use Rattle.rx_text.proofs.MachineLemmas.{read_spelled}
@@ -42,6 +44,33 @@ behind_is bytes k to h = refl
 pub takes_byte : (k : Kind) (from to : ℕ) → (k ≡ End → ⊥) → Advances k from to → from < to
 takes_byte End from to h a = absurd (h refl)
 takes_byte k from to h a = a
+
+-- the reader stands at an offset, in a state of which P holds with the tokens that are left
+pub record Reads (bytes : List ℕ) (P : State → List (ℕ × Token) → Type 0) (from : ℕ) (d : Due) (r : Reader) : Type 0 where
+  pub within : from ≤ length bytes
+  pub same : r.bytes.now ≡ bytes
+  pub state : IsState bytes d r.frames.items r.nodes.items
+  pub few : node_count d r ≤ from
+  pub follows : P (state_of bytes d r.frames.items r.nodes.items) (tokens_after bytes from)
+
+-- behind a token that is not the end it stands so too
+pub reads_on : (bytes : List ℕ) (P : State → List (ℕ × Token) → Type 0)
+    → ((s r : State) (ps rest : List (ℕ × Token)) (t : Token) (at : ℕ) → P s ps → ps ≡ (at, t) ∷ rest → step s.0 s.1 t ≡ Some r → P r rest)
+    → (from : ℕ) (d e : Due) (r after : Reader) (x : Lexeme) → Reads bytes P from d r → (x.kind ≡ End → ⊥)
+    → x.to ≤ length r.bytes.now → Advances x.kind from x.to → tokens_after r.bytes.now from ≡ (x.at, token_of r.bytes.now x.kind) ∷ behind r.bytes.now x.kind x.to
+    → Steps d r x.kind (Ok e) after → after.bytes.now ≡ r.bytes.now → node_count e after ≤ node_count d r + 1 → Reads bytes P x.to e after
+reads_on bytes P goes from d e r after x h more within advances first moves same few =
+    let m = rw (h.same) at moves in
+    let first_cut = rw (h.same) at first in
+    let cut : tokens_after bytes from ≡ (x.at, token_of bytes x.kind) ∷ tokens_after bytes x.to = first_cut ∙ ap (λ (ps : List (ℕ × Token)). (x.at, token_of bytes x.kind) ∷ ps) (behind_is bytes x.kind x.to more) in
+    let far : from < x.to = takes_byte x.kind from x.to more advances in
+    record {
+      within = rw (h.same) at within;
+      same = same ∙ h.same;
+      state = m.1;
+      few = omega (arith, few, h.few);
+      follows = goes (state_of bytes d r.frames.items r.nodes.items) (state_of bytes e after.frames.items after.nodes.items) (tokens_after bytes from) (tokens_after bytes x.to) (token_of bytes x.kind) x.at h.follows cut m.0;
+    }
 
 -- the end is read behind a whole term alone
 abbrev pub IsEnded : State → Type 0

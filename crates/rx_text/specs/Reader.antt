@@ -6,7 +6,8 @@ use Rattle.rx_text.specs.Nodes as nodes
 use Rattle.rx_text.specs.Nodes.{taken, top, rest, trees_of, Enough}
 use Rattle.rx_text.specs.Machine as machine
 use Rattle.rx_text.specs.Machine.{State}
-use Rattle.rx_text.specs.Lexemes.{name_of, IsWord}
+use Rattle.rx_text.specs.Lexemes.{name_of, token_of, IsWord}
+use Rattle.rx_text.specs.declared.lexer.Kind.{Kind}
 use Rattle.rx_text.specs.declared.nodes.Node.{Node}
 use Rattle.rx_text.specs.declared.nodes.Node.TheVariants as node
 use Rattle.rx_text.specs.declared.reader.Opening.{Opening}
@@ -14,6 +15,7 @@ use Rattle.rx_text.specs.declared.reader.Opening.TheVariants as opening
 use Rattle.rx_text.specs.declared.reader.Frame.{Frame}
 use Rattle.rx_text.specs.declared.reader.Due.{Due}
 use Rattle.rx_text.specs.declared.reader.Due.TheVariants.{Term, First, Named, Body, Whole, Done}
+use Rattle.rx_text.specs.declared.reader.Reader.{Reader}
 use Rattle.rx_text.specs.declared.reader.Stop.{Stop}
 use Rattle.rx_text.specs.declared.reader.Stop.TheVariants as stop
 
@@ -137,3 +139,22 @@ Moves bytes moved (Ok d) frames ns = (moved ≡ Some (state_of bytes d frames ns
     × IsState bytes d frames ns
 Moves bytes moved (Err stop.Refused) frames ns = moved ≡ None
 Moves bytes moved (Err stop.Memory) frames ns = Unit {0}
+
+-- the reader is in a state, with this due
+abbrev pub IsAt : Due → Reader → Type 0
+IsAt d r = IsState r.bytes.now d r.frames.items r.nodes.items
+
+-- how many nodes there are, with a name that is not yet one
+abbrev pub node_count : Due → Reader → ℕ
+node_count d r = length r.nodes.items + pending d
+
+-- the machine's answer to a token, where this is due
+abbrev pub advance : Due → Reader → Kind → Option State
+advance d r k =
+    let s = state_of r.bytes.now d r.frames.items r.nodes.items in
+    machine.step s.0 s.1 (token_of r.bytes.now k)
+
+-- where this is due, a token leads to where the machine goes
+abbrev pub Steps : Due → Reader → Kind → Result Due Stop → Reader → Type 0
+Steps d r k result after =
+    Moves r.bytes.now (advance d r k) result after.frames.items after.nodes.items

@@ -1,12 +1,11 @@
 //! The reader: a stack of what is open, and the nodes of what is read.
 
 ghost use Rattle.std.specs.Prelude.{◌≡◌, ◌+◌, ◌<◌, ◌≤◌, length, reverse, IfOk, MatchResult};
-ghost use Rattle.rx_text.specs.Lexemes.{name_of, token_of, IsToken};
-ghost use Rattle.rx_text.specs.Machine.{start, close, first, end_item, next_item, end_hole, whole};
-ghost use Rattle.rx_text.specs.Machine.{body, after_name, step};
+ghost use Rattle.rx_text.specs.Lexemes.{token_of, IsToken};
+ghost use Rattle.rx_text.specs.Machine.{close, end_item};
 ghost use Rattle.rx_text.specs.Nodes.{top, rest};
-ghost use Rattle.rx_text.specs.Reader.{made_of, frame_of, held, under, frames_of, mode_of, owned};
-ghost use Rattle.rx_text.specs.Reader.{pending, IsStack, IsState, IsOpening, Moves};
+ghost use Rattle.rx_text.specs.Reader.{made_of, frame_of, held, under, frames_of, node_count};
+ghost use Rattle.rx_text.specs.Reader.{IsStack, IsOpening, Moves, IsAt, Steps};
 ghost use Rattle.rx_text.specs.Verdict.{longest};
 ghost use Rattle.rx_text.specs.Answer.{AreRead, IsFault};
 
@@ -74,17 +73,12 @@ pub struct Reader<'a> {
 impl<'a> Reader<'a> {
     /// Where a term is due.
     fn start(&mut self, token: Kind) -> Result<Due, Stop>
-        requires state { IsState self.old.bytes.now Due.Term self.old.frames.items
-            self.old.nodes.items }
+        requires state { IsAt Due.Term self.old }
         requires token { IsToken self.old.bytes.now token }
-        requires few { length self.old.nodes.items ≤ longest }
-        ensures moves { let made = made_of self.old.bytes.now self.old.nodes.items in
-            Moves self.old.bytes.now (start
-            (frames_of self.old.bytes.now (reverse self.old.frames.items) made)
-            (token_of self.old.bytes.now token)) result self.new.frames.items self.new.nodes.items }
+        requires few { node_count Due.Term self.old ≤ longest }
+        ensures moves { Steps Due.Term self.old token result self.new }
         ensures same { self.new.bytes.now ≡ self.old.bytes.now }
-        ensures few { IfOk result
-            (λ d. length self.new.nodes.items + pending d ≤ length self.old.nodes.items + 1) }
+        ensures few { IfOk result (λ d. node_count d self.new ≤ node_count Due.Term self.old + 1) }
     {
         match token {
             Kind::Integer(value) => {
@@ -118,8 +112,7 @@ impl<'a> Reader<'a> {
             (under frame.opening frame.count made)) (token_of self.old.bytes.now token)) result
             self.new.frames.items self.new.nodes.items }
         ensures same { self.new.bytes.now ≡ self.old.bytes.now }
-        ensures few { IfOk result
-            (λ d. length self.new.nodes.items + pending d ≤ length self.old.nodes.items + 1) }
+        ensures few { IfOk result (λ d. node_count d self.new ≤ length self.old.nodes.items + 1) }
     {
         match frame.opening {
             Opening::Arguments(word) => match token {
@@ -149,17 +142,13 @@ impl<'a> Reader<'a> {
 
     /// Behind the mark that opened something: its end, or its first item.
     fn first(&mut self, opening: Opening, token: Kind) -> Result<Due, Stop>
-        requires state { IsState self.old.bytes.now (Due.First opening) self.old.frames.items
-            self.old.nodes.items }
+        requires state { IsAt (Due.First opening) self.old }
         requires token { IsToken self.old.bytes.now token }
-        requires few { length self.old.nodes.items ≤ longest }
-        ensures moves { let made = made_of self.old.bytes.now self.old.nodes.items in
-            Moves self.old.bytes.now (first (frame_of self.old.bytes.now opening 0 made)
-            (frames_of self.old.bytes.now (reverse self.old.frames.items) (under opening 0 made))
-            (token_of self.old.bytes.now token)) result self.new.frames.items self.new.nodes.items }
+        requires few { node_count (Due.First opening) self.old ≤ longest }
+        ensures moves { Steps (Due.First opening) self.old token result self.new }
         ensures same { self.new.bytes.now ≡ self.old.bytes.now }
         ensures few { IfOk result
-            (λ d. length self.new.nodes.items + pending d ≤ length self.old.nodes.items + 1) }
+            (λ d. node_count d self.new ≤ node_count (Due.First opening) self.old + 1) }
     {
         let frame = Frame { opening, count: 0 };
         match token {
@@ -175,15 +164,11 @@ impl<'a> Reader<'a> {
 
     /// One more item of what is open, and a comma.
     fn next_item(&mut self) -> Result<Due, Stop>
-        requires state { IsState self.old.bytes.now Due.Whole self.old.frames.items
-            self.old.nodes.items }
-        requires few { length self.old.nodes.items ≤ longest }
-        ensures moves { let made = made_of self.old.bytes.now self.old.nodes.items in
-            Moves self.old.bytes.now (next_item (top made) (frames_of self.old.bytes.now (reverse
-            self.old.frames.items) (rest made))) result self.new.frames.items self.new.nodes.items }
+        requires state { IsAt Due.Whole self.old }
+        requires few { node_count Due.Whole self.old ≤ longest }
+        ensures moves { Steps Due.Whole self.old Kind.Comma result self.new }
         ensures same { self.new.bytes.now ≡ self.old.bytes.now }
-        ensures few { IfOk result
-            (λ d. length self.new.nodes.items + pending d ≤ length self.old.nodes.items + 1) }
+        ensures few { IfOk result (λ d. node_count d self.new ≤ node_count Due.Whole self.old + 1) }
     {
         let Some(frame) = self.frames.pop() else {
             return Err(Stop::Refused);
@@ -200,16 +185,14 @@ impl<'a> Reader<'a> {
 
     /// One more item of what is open, and a mark that ends it.
     fn end_item(&mut self, token: Kind) -> Result<Due, Stop>
-        requires state { IsState self.old.bytes.now Due.Whole self.old.frames.items
-            self.old.nodes.items }
-        requires few { length self.old.nodes.items ≤ longest }
+        requires state { IsAt Due.Whole self.old }
+        requires few { node_count Due.Whole self.old ≤ longest }
         ensures moves { let made = made_of self.old.bytes.now self.old.nodes.items in
             Moves self.old.bytes.now (end_item (top made)
             (frames_of self.old.bytes.now (reverse self.old.frames.items) (rest made))
             (token_of self.old.bytes.now token)) result self.new.frames.items self.new.nodes.items }
         ensures same { self.new.bytes.now ≡ self.old.bytes.now }
-        ensures few { IfOk result
-            (λ d. length self.new.nodes.items + pending d ≤ length self.old.nodes.items + 1) }
+        ensures few { IfOk result (λ d. node_count d self.new ≤ node_count Due.Whole self.old + 1) }
     {
         let Some(frame) = self.frames.pop() else {
             return Err(Stop::Refused);
@@ -226,15 +209,11 @@ impl<'a> Reader<'a> {
 
     /// The end of a placeholder.
     fn end_placeholder(&mut self) -> Result<Due, Stop>
-        requires state { IsState self.old.bytes.now Due.Whole self.old.frames.items
-            self.old.nodes.items }
-        requires few { length self.old.nodes.items ≤ longest }
-        ensures moves { let made = made_of self.old.bytes.now self.old.nodes.items in
-            Moves self.old.bytes.now (end_hole (top made) (frames_of self.old.bytes.now (reverse
-            self.old.frames.items) (rest made))) result self.new.frames.items self.new.nodes.items }
+        requires state { IsAt Due.Whole self.old }
+        requires few { node_count Due.Whole self.old ≤ longest }
+        ensures moves { Steps Due.Whole self.old Kind.Greater result self.new }
         ensures same { self.new.bytes.now ≡ self.old.bytes.now }
-        ensures few { IfOk result
-            (λ d. length self.new.nodes.items + pending d ≤ length self.old.nodes.items + 1) }
+        ensures few { IfOk result (λ d. node_count d self.new ≤ node_count Due.Whole self.old + 1) }
     {
         let Some(frame) = self.frames.pop() else {
             return Err(Stop::Refused);
@@ -248,17 +227,12 @@ impl<'a> Reader<'a> {
 
     /// Behind a term with its annotations.
     fn whole(&mut self, token: Kind) -> Result<Due, Stop>
-        requires state { IsState self.old.bytes.now Due.Whole self.old.frames.items
-            self.old.nodes.items }
+        requires state { IsAt Due.Whole self.old }
         requires token { IsToken self.old.bytes.now token }
-        requires few { length self.old.nodes.items ≤ longest }
-        ensures moves { let made = made_of self.old.bytes.now self.old.nodes.items in
-            Moves self.old.bytes.now (whole (top made)
-            (frames_of self.old.bytes.now (reverse self.old.frames.items) (rest made))
-            (token_of self.old.bytes.now token)) result self.new.frames.items self.new.nodes.items }
+        requires few { node_count Due.Whole self.old ≤ longest }
+        ensures moves { Steps Due.Whole self.old token result self.new }
         ensures same { self.new.bytes.now ≡ self.old.bytes.now }
-        ensures few { IfOk result
-            (λ d. length self.new.nodes.items + pending d ≤ length self.old.nodes.items + 1) }
+        ensures few { IfOk result (λ d. node_count d self.new ≤ node_count Due.Whole self.old + 1) }
     {
         match token {
             Kind::Comma => self.next_item(),
@@ -279,17 +253,12 @@ impl<'a> Reader<'a> {
 
     /// Behind a term to which annotations may come.
     fn body(&mut self, token: Kind) -> Result<Due, Stop>
-        requires state { IsState self.old.bytes.now Due.Body self.old.frames.items
-            self.old.nodes.items }
+        requires state { IsAt Due.Body self.old }
         requires token { IsToken self.old.bytes.now token }
-        requires few { length self.old.nodes.items ≤ longest }
-        ensures moves { let made = made_of self.old.bytes.now self.old.nodes.items in
-            Moves self.old.bytes.now (body (top made)
-            (frames_of self.old.bytes.now (reverse self.old.frames.items) (rest made))
-            (token_of self.old.bytes.now token)) result self.new.frames.items self.new.nodes.items }
+        requires few { node_count Due.Body self.old ≤ longest }
+        ensures moves { Steps Due.Body self.old token result self.new }
         ensures same { self.new.bytes.now ≡ self.old.bytes.now }
-        ensures few { IfOk result
-            (λ d. length self.new.nodes.items + pending d ≤ length self.old.nodes.items + 1) }
+        ensures few { IfOk result (λ d. node_count d self.new ≤ node_count Due.Body self.old + 1) }
     {
         match token {
             Kind::OpenBrace => Ok(Due::First(Opening::Annotations)),
@@ -299,17 +268,13 @@ impl<'a> Reader<'a> {
 
     /// Behind a name.
     fn named(&mut self, word: Word, token: Kind) -> Result<Due, Stop>
-        requires state { IsState self.old.bytes.now (Due.Named word) self.old.frames.items
-            self.old.nodes.items }
+        requires state { IsAt (Due.Named word) self.old }
         requires token { IsToken self.old.bytes.now token }
-        requires few { length self.old.nodes.items + 1 ≤ longest }
-        ensures moves { let made = made_of self.old.bytes.now self.old.nodes.items in
-            Moves self.old.bytes.now (after_name (name_of self.old.bytes.now word) word.quoted
-            (frames_of self.old.bytes.now (reverse self.old.frames.items) made)
-            (token_of self.old.bytes.now token)) result self.new.frames.items self.new.nodes.items }
+        requires few { node_count (Due.Named word) self.old ≤ longest }
+        ensures moves { Steps (Due.Named word) self.old token result self.new }
         ensures same { self.new.bytes.now ≡ self.old.bytes.now }
         ensures few { IfOk result
-            (λ d. length self.new.nodes.items + pending d ≤ length self.old.nodes.items + 1 + 1) }
+            (λ d. node_count d self.new ≤ node_count (Due.Named word) self.old + 1) }
     {
         match token {
             Kind::Open => Ok(Due::First(Opening::Arguments(word))),
@@ -322,16 +287,12 @@ impl<'a> Reader<'a> {
 
     /// The next token.
     fn step(&mut self, due: Due, token: Kind) -> Result<Due, Stop>
-        requires state { IsState self.old.bytes.now due self.old.frames.items self.old.nodes.items }
+        requires state { IsAt due self.old }
         requires token { IsToken self.old.bytes.now token }
-        requires few { length self.old.nodes.items + pending due ≤ longest }
-        ensures moves { let made = made_of self.old.bytes.now self.old.nodes.items in
-            Moves self.old.bytes.now (step (mode_of self.old.bytes.now due made)
-            (frames_of self.old.bytes.now (reverse self.old.frames.items) (owned due made))
-            (token_of self.old.bytes.now token)) result self.new.frames.items self.new.nodes.items }
+        requires few { node_count due self.old ≤ longest }
+        ensures moves { Steps due self.old token result self.new }
         ensures same { self.new.bytes.now ≡ self.old.bytes.now }
-        ensures few { IfOk result (λ d. length self.new.nodes.items + pending d ≤ length
-            self.old.nodes.items + pending due + 1) }
+        ensures few { IfOk result (λ d. node_count d self.new ≤ node_count due self.old + 1) }
     {
         match due {
             Due::Term => self.start(token),

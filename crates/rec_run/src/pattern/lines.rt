@@ -32,13 +32,13 @@ pub(crate) fn write_answer<B: TermBank, W: Write>(
 {
     match answer {
         Reading::Refused(refusal) => write_refusal(*refusal, out)?,
-        Reading::Good(found) => write_lines(alloc, bank, found, out)?,
+        Reading::Good(found) => write_answer_lines(alloc, bank, found, out)?,
     }
     Ok(())
 }
 
 /// Writes the lines of an answer.
-fn write_lines<B: TermBank, W: Write>(
+fn write_answer_lines<B: TermBank, W: Write>(
     alloc: Global,
     bank: &B,
     answer: &Answer,

@@ -10,7 +10,6 @@ ghost use Rattle.rx_text.specs.Written.{AppendsFront};
 ghost use Rattle.rec_engine.specs.Engine.{IsGiven, SameEngine};
 ghost use Rattle.rec_run.specs.GivenTerms.{
   HoldsTerms,
-  StopsAfter,
   given_at,
   given_by,
   given_lines,
@@ -19,14 +18,14 @@ ghost use Rattle.rec_run.specs.GivenTerms.{
 };
 ghost use Rattle.rec_run.specs.Output.{lines};
 ghost use Rattle.rec_run.specs.Reading.{text_at};
-ghost use Rattle.rec_run.specs.Run.{RoomFits, Stops};
+ghost use Rattle.rec_run.specs.Run.{RoomFits, Stops, StopsAfter};
 ghost use Rattle.rec_run.specs.EvaluatedLines.{
   FillsBank,
   HoldsValue,
   ProtectsTerms,
   due_before,
   outcome_text,
-  raised_after,
+  fault_after,
 };
 
 use crate::ending::{RunFault, RunOptions};
@@ -52,7 +51,7 @@ pub(crate) enum LineFault {
 impl LineFault {
     /// The run's fault where a line's came after so many lines.
     fn after(self, lines: u64) -> RunFault
-        ensures { result ≡ raised_after self lines }
+        ensures { result ≡ fault_after self lines }
     {
         match self {
             LineFault::Memory => RunFault::Memory { lines },
@@ -234,7 +233,7 @@ fn write_own_line<B: TermBank, W: Write>(
     ensures room { IfErr result (FillsBank (B.store engine.new.bank)) }
 {
     let term = engine.eval_term(i)?;
-    write_line(alloc, engine, term, out, options)
+    write_evaluation(alloc, engine, term, out, options)
 }
 
 /// Writes a line for each term of a list that is protected, behind those of the specification.
@@ -263,7 +262,7 @@ fn write_given_lines<B: TermBank, W: Write>(
             return Ok(());
         };
         let term = engine.bank().head(rest);
-        match write_line(alloc, engine, term, out, options) {
+        match write_evaluation(alloc, engine, term, out, options) {
             Ok(()) => {}
             Err(fault) => return Err(fault.after(first + u64::from(i))),
         }
@@ -273,7 +272,7 @@ fn write_given_lines<B: TermBank, W: Write>(
 }
 
 /// Evaluates a term, and writes its line.
-fn write_line<B: TermBank, W: Write>(
+fn write_evaluation<B: TermBank, W: Write>(
     alloc: Global,
     engine: &mut Engine<B>,
     t: Term,

@@ -6,8 +6,7 @@ ghost use Rattle.rx_term.specs.Store.{tree_at};
 ghost use Rattle.rx_text.specs.Grammar.{Spells};
 ghost use Rattle.rx_shared.specs.State.{store_of};
 ghost use Rattle.rec_syntax.specs.Grammar.{SpecText};
-ghost use Rattle.rec_syntax.specs.Syntax.{Spec};
-ghost use Rattle.rec_sorts.specs.SpecRules.{Fits, Good, Verdict, SpecVerdict};
+ghost use Rattle.rec_sorts.specs.SpecRules.{Fits, Verdict};
 ghost use Rattle.rec_run.specs.Reading.{IsGood, IsSpecRead, IsSpecReading};
 ghost use Rattle.rec_run.specs.Run.{IsReadOut, RanOut, StopsUnwritten, both_texts};
 ghost use Rattle.rec_run.specs.GivenTerms.{
@@ -16,6 +15,8 @@ ghost use Rattle.rec_run.specs.GivenTerms.{
   IsReadFrom,
   IsReady,
   IsRefusal,
+  OnGoodSpec,
+  OnRefusedSpec,
   list_refused,
 };
 
@@ -33,8 +34,11 @@ use std::io::Read;
 /// A good specification, and a bank with the list of given terms, where there is one.
 #[derive(Drop)]
 pub(crate) struct Job {
+    /// The specification.
     pub(crate) checked: Checked,
+    /// The bank.
     pub(crate) bank: SharedBank,
+    /// The list of given terms.
     pub(crate) list: Option<Term>,
 }
 
@@ -108,11 +112,9 @@ pub(crate) fn read_both<R: Read, T: Read>(
         (λ texts. IsReadFrom texts reading)) }
     ensures ready { IfOk result (IsReady cells) }
     ensures out { OnOk result (IsReadOut (R.remaining spec.old) (R.remaining spec.new)) }
-    ensures terms_out { OnOk result (IfSome (R.remaining spec.old)
-        (λ bytes. (y : Spec) → SpecVerdict bytes (Good y)
-        → IsReadOut (T.remaining terms.old) (T.remaining terms.new))) }
-    ensures unread { IfSome (R.remaining spec.old)
-        (λ bytes. (v : Verdict) → SpecVerdict bytes v → IsRefusal v → terms.new ≡ terms.old) }
+    ensures terms_out { OnOk result (OnGoodSpec (R.remaining spec.old)
+        (IsReadOut (T.remaining terms.old) (T.remaining terms.new))) }
+    ensures unread { OnRefusedSpec (R.remaining spec.old) (terms.new ≡ terms.old) }
     ensures fault { IfErr result (StopsUnwritten cells) }
 {
     let first = read_spec_text(alloc, spec)?;

@@ -4,9 +4,13 @@ ghost use Rattle.std.specs.Prelude.{◌≡◌, None, IfErr, IfOk, IfSome, OnErr,
 ghost use Rattle.std.specs.Prelude.{option_map};
 ghost use Rattle.std.specs.Io.KnownBytes.{Appends};
 ghost use Rattle.std.specs.Option.{option_copied_mut};
-ghost use Rattle.rec_syntax.specs.Syntax.{Spec};
-ghost use Rattle.rec_sorts.specs.SpecRules.{Good, SpecVerdict, Verdict};
-ghost use Rattle.rec_run.specs.GivenTerms.{IsReadFrom, IsReady, IsRefusal, run_due};
+ghost use Rattle.rec_run.specs.GivenTerms.{
+  IsReadFrom,
+  IsReady,
+  OnGoodSpec,
+  OnRefusedSpec,
+  run_due,
+};
 ghost use Rattle.rec_run.specs.Run.{
   BreaksFor,
   EndsFor,
@@ -48,13 +52,11 @@ pub fn run<R: Read, T: Read, W: Write>(
         fault (W.contents out.old) (W.contents out.new)) }
     ensures room { IfErr result (RoomFits options.cells) }
     ensures spec_read { OnOk result (IsReadOut (R.remaining spec.old) (R.remaining spec.new)) }
-    ensures terms_read { OnOk result
-        (IfSome (R.remaining spec.old) (λ bytes. (y : Spec) → SpecVerdict bytes (Good y) →
-        Leads (λ old new. IsReadOut (T.remaining old) (T.remaining new))
+    ensures terms_read { OnOk result (OnGoodSpec (R.remaining spec.old)
+        (Leads (λ old new. IsReadOut (T.remaining old) (T.remaining new))
         (λ f. f.0.now) terms.exit (option_copied_mut terms.entry))) }
-    ensures unread { IfSome (R.remaining spec.old)
-        (λ bytes. (v : Verdict) → SpecVerdict bytes v → IsRefusal v →
-        Stays (λ f. f.0.now) terms.exit (option_copied_mut terms.entry)) }
+    ensures unread { OnRefusedSpec (R.remaining spec.old)
+        (Stays (λ f. f.0.now) terms.exit (option_copied_mut terms.entry)) }
 {
     let mut place = None;
     match terms {
@@ -83,13 +85,11 @@ pub fn run_at<R: Read, T: Read, W: Write>(
     ensures room { IfErr result (RoomFits options.cells) }
     ensures no_place { OnErr result (place.new ≡ None) }
     ensures spec_read { OnOk result (IsReadOut (R.remaining spec.old) (R.remaining spec.new)) }
-    ensures terms_read { OnOk result
-        (IfSome (R.remaining spec.old) (λ bytes. (y : Spec) → SpecVerdict bytes (Good y) →
-        Leads (λ old new. IsReadOut (T.remaining old) (T.remaining new))
+    ensures terms_read { OnOk result (OnGoodSpec (R.remaining spec.old)
+        (Leads (λ old new. IsReadOut (T.remaining old) (T.remaining new))
         (λ f. f.0.now) terms.exit (option_copied_mut terms.entry))) }
-    ensures unread { IfSome (R.remaining spec.old)
-        (λ bytes. (v : Verdict) → SpecVerdict bytes v → IsRefusal v →
-        Stays (λ f. f.0.now) terms.exit (option_copied_mut terms.entry)) }
+    ensures unread { OnRefusedSpec (R.remaining spec.old)
+        (Stays (λ f. f.0.now) terms.exit (option_copied_mut terms.entry)) }
 {
     match terms {
         None => run_alone(alloc, spec, out, options, place),
@@ -143,11 +143,9 @@ fn run_beside<R: Read, T: Read, W: Write>(
     ensures room { IfErr result (RoomFits options.cells) }
     ensures no_place { OnErr result (place.new ≡ None) }
     ensures spec_read { OnOk result (IsReadOut (R.remaining spec.old) (R.remaining spec.new)) }
-    ensures terms_read { OnOk result (IfSome (R.remaining spec.old)
-        (λ bytes. (y : Spec) → SpecVerdict bytes (Good y)
-        → IsReadOut (T.remaining terms.old) (T.remaining terms.new))) }
-    ensures unread { IfSome (R.remaining spec.old)
-        (λ bytes. (v : Verdict) → SpecVerdict bytes v → IsRefusal v → terms.new ≡ terms.old) }
+    ensures terms_read { OnOk result (OnGoodSpec (R.remaining spec.old)
+        (IsReadOut (T.remaining terms.old) (T.remaining terms.new))) }
+    ensures unread { OnRefusedSpec (R.remaining spec.old) (terms.new ≡ terms.old) }
 {
     *place = None;
     let reading = read_both(alloc, spec, terms, options.cells)?;

@@ -23,7 +23,9 @@ pub(crate) const MOST_CELLS: u32 = 1_073_741_824;
 /// What a text came to, and the bank that holds its term.
 #[derive(Drop)]
 pub(crate) struct GivenTerm {
+    /// The bank.
     pub(crate) bank: SharedBank,
+    /// What the text came to.
     pub(crate) reading: Reading<Term>,
 }
 

@@ -8,13 +8,15 @@ ghost use Rattle.rx_text.specs.Written.{AppendsFront};
 ghost use Rattle.rec_run.specs.Run.{BreaksFor, EndsFor, IsPlacedFor, IsReadOut, RoomFits, Stops};
 ghost use Rattle.rec_run.specs.Run.{StopsWriting};
 ghost use Rattle.rec_run.specs.TermRuns.{
+  IsDueOf,
   IsShareDue,
   IsTermDue,
   IsTermHeld,
   cells_line,
-  share_due,
-  share_lines_at,
-  term_due,
+  due_at,
+  lines_at,
+  lines_for,
+  share_lines,
 };
 
 use crate::ending::{Finish, Place, RunFault};
@@ -25,6 +27,15 @@ use rx_term::{Term, TermBank};
 use rx_text::{RefusedWrite, put};
 use std::alloc::Global;
 use std::io::{Read, Write};
+
+/// The lines of a term that a run is to write.
+#[derive(Clone, Copy, Debug, PartialEq, Eq)]
+enum TermLines {
+    /// Its printed text.
+    Text,
+    /// That, and how many cells it takes.
+    TextAndCells,
+}
 
 /// Reads the text of a term, writes its printed text and a line end, and flushes; or the line of
 /// its refusal. What a fault leaves of the reader is open.
@@ -60,12 +71,7 @@ pub fn run_aterm_at<R: Read, W: Write>(
     ensures room { IfErr result (RoomFits 1073741824) }
     ensures input_read { OnOk result (IsReadOut (R.remaining input.old) (R.remaining input.new)) }
 {
-    *place = None;
-    let given = read_term(alloc, input)?;
-    write_term(alloc, &given.bank, &given.reading, out)?;
-    flush(out)?;
-    *place = given.reading.place();
-    Ok(given.reading.finish())
+    run_on_term(alloc, input, out, TermLines::Text, place)
 }
 
 /// Reads the text of a term, writes its printed text and how many cells it takes, each with a line
@@ -102,55 +108,81 @@ pub fn run_share_at<R: Read, W: Write>(
     ensures room { IfErr result (RoomFits 1073741824) }
     ensures input_read { OnOk result (IsReadOut (R.remaining input.old) (R.remaining input.new)) }
 {
+    run_on_term(alloc, input, out, TermLines::TextAndCells, place)
+}
+
+/// Reads the text of a term, writes the lines that are asked for, and flushes; or the line of its
+/// refusal, whose place it gives.
+fn run_on_term<R: Read, W: Write>(
+    alloc: Global,
+    input: &mut R,
+    out: &mut W,
+    lines: TermLines,
+    place: &mut Option<Place>,
+) -> Result<Finish, RunFault>
+    ensures output { IfOk result (λ finish. EndsFor (IsDueOf (lines_for lines))
+        (R.remaining input.old) finish (W.contents out.old) (W.contents out.new)) }
+    ensures place { OnOk result
+        (IsPlacedFor (IsDueOf (lines_for lines)) (R.remaining input.old) place.new) }
+    ensures fault { IfErr result (λ fault. BreaksFor (IsDueOf (lines_for lines))
+        (R.remaining input.old) fault (W.contents out.old) (W.contents out.new)) }
+    ensures no_place { OnErr result (place.new ≡ None) }
+    ensures room { IfErr result (RoomFits 1073741824) }
+    ensures input_read { OnOk result (IsReadOut (R.remaining input.old) (R.remaining input.new)) }
+{
     *place = None;
     let mut given = read_term(alloc, input)?;
-    write_share(alloc, &mut given.bank, &given.reading, out)?;
+    write_due(alloc, &mut given.bank, &given.reading, lines, out)?;
     flush(out)?;
     *place = given.reading.place();
     Ok(given.reading.finish())
 }
 
-/// Writes what is due where the term is printed.
-fn write_term<B: TermBank, W: Write>(
-    alloc: Global,
-    bank: &B,
-    reading: &Reading<Term>,
-    out: &mut W,
-) -> Result<(), RunFault>
-    requires { IsTermHeld (B.store bank.now) reading.now }
-    ensures ok { OnOk result (Appends (W.contents out.old) (W.contents out.new)
-        (term_due (B.store bank.now) reading.now).text) }
-    ensures err { IfErr result (λ fault. Stops fault (term_due (B.store bank.now) reading.now).text
-        (W.contents out.old) (W.contents out.new)) }
-    ensures writing { IfErr result StopsWriting }
-{
-    match reading {
-        Reading::Refused(refusal) => write_refusal(*refusal, out)?,
-        Reading::Good(t) => write_line(alloc, bank, *t, 0, out)?,
-    }
-    Ok(())
-}
-
-/// Writes what is due where the different parts are counted too.
-fn write_share<B: TermBank, W: Write>(
+/// Writes what is due for what a text came to.
+fn write_due<B: TermBank, W: Write>(
     alloc: Global,
     bank: &mut B,
     reading: &Reading<Term>,
+    lines: TermLines,
     out: &mut W,
 ) -> Result<(), RunFault>
     requires held { IsTermHeld (B.store bank.old) reading.now }
     requires unrooted { (t : ℕ) → (B.store bank.old).roots t ≡ 0 }
     ensures ok { OnOk result (Appends (W.contents out.old) (W.contents out.new)
-        (share_due (B.store bank.old) reading.now).text) }
-    ensures err { IfErr result (λ fault. Stops fault (share_due (B.store bank.old) reading.now).text
+        (due_at (lines_for lines) (B.store bank.old) reading.now).text) }
+    ensures err { IfErr result (λ fault.
+        Stops fault (due_at (lines_for lines) (B.store bank.old) reading.now).text
         (W.contents out.old) (W.contents out.new)) }
     ensures writing { IfErr result StopsWriting }
 {
     match reading {
         Reading::Refused(refusal) => write_refusal(*refusal, out)?,
-        Reading::Good(t) => write_counted(alloc, bank, *t, out)?,
+        Reading::Good(t) => write_term_lines(alloc, bank, *t, lines, out)?,
     }
     Ok(())
+}
+
+/// Writes the lines of a term that are asked for.
+fn write_term_lines<B: TermBank, W: Write>(
+    alloc: Global,
+    bank: &mut B,
+    t: Term,
+    lines: TermLines,
+    out: &mut W,
+) -> Result<(), RunFault>
+    requires held { IsSome (tree_at (B.store bank.old) t) }
+    requires unrooted { (r : ℕ) → (B.store bank.old).roots r ≡ 0 }
+    ensures ok { OnOk result (Appends (W.contents out.old) (W.contents out.new)
+        (lines_at (lines_for lines) (B.store bank.old) t)) }
+    ensures err { IfErr result
+        (λ fault. Stops fault (lines_at (lines_for lines) (B.store bank.old) t)
+        (W.contents out.old) (W.contents out.new)) }
+    ensures writing { IfErr result StopsWriting }
+{
+    match lines {
+        TermLines::Text => write_line(alloc, bank, t, 0, out),
+        TermLines::TextAndCells => write_counted(alloc, bank, t, out),
+    }
 }
 
 /// Writes the printed text of a term and how many cells it takes, each with a line end.
@@ -162,9 +194,9 @@ fn write_counted<B: TermBank, W: Write>(
 ) -> Result<(), RunFault>
     requires held { IsSome (tree_at (B.store bank.old) t) }
     requires unrooted { (r : ℕ) → (B.store bank.old).roots r ≡ 0 }
-    ensures ok { OnOk result
-        (Appends (W.contents out.old) (W.contents out.new) (share_lines_at (B.store bank.old) t)) }
-    ensures err { IfErr result (λ fault. Stops fault (share_lines_at (B.store bank.old) t)
+    ensures ok { OnOk result (Appends (W.contents out.old) (W.contents out.new)
+        (lines_at share_lines (B.store bank.old) t)) }
+    ensures err { IfErr result (λ fault. Stops fault (lines_at share_lines (B.store bank.old) t)
         (W.contents out.old) (W.contents out.new)) }
     ensures writing { IfErr result StopsWriting }
 {

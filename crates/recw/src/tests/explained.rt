@@ -7,11 +7,13 @@ use std::alloc::Global;
 use std::process::Abort;
 use std::rt::Files;
 
+/// Texts that are refused, with line ends, a tab and a byte beyond ASCII before the place.
 const REFUSED: Shelf = Shelf {
     spec: "REC-SPEC E\nSORTS N\r\nCONS a : -> N\n\tb: -> M\nEND-SPEC",
     terms: "[a,\"\u{e9}\",f(1",
 };
 
+/// The words, the status and the standard error, on the texts that are refused.
 const EXPLAINED: [(&[&str], u8, &str); 9] = [
     (
         &["eval", "--explain", "spec"],
@@ -70,20 +72,25 @@ const EXPLAINED: [(&[&str], u8, &str); 9] = [
     ),
 ];
 
+/// The program says this of the texts that are refused.
 fn explains(rt: &impl Abort, alloc: Global, words: &[&str], status: u8, said: &str) {
     let ran = run_on(rt, &REFUSED, alloc, words);
     assert_eq!(rt; ran.status, status, "{words:?}");
     assert_eq!(rt; ran.err.as_str(), said, "{words:?}");
 }
 
+/// A text that ends too soon, on one line.
 const CUT_OFF: &str = "REC-SPEC E CONS z : Nat Nat";
 
+/// What is said of its end.
 const CUT_OFF_THERE: &str = "recw: spec G at byte 27\n\
      <stdin>:1:28: G: no specification has this here; expected a plain word or `->`\n    \
      REC-SPEC E CONS z : Nat Nat\n                               ^\n";
 
+/// What is said where three cells are not enough.
 const OUT_OF_CELLS: &str = "recw: out of cells\n--cells raises the limit, which is 3 cells\n";
 
+/// The program says this of its standard input.
 fn explains_input<H: Abort + Files>(rt: &H, alloc: Global, words: &[&str], text: &str, said: &str) {
     let ran = run(rt, alloc, words, text);
     assert_eq!(rt; ran.err.as_str(), said);
@@ -105,9 +112,9 @@ fn explains_refusals(rt: HostRuntime) {
     explains_input(&rt, rt.alloc(), words, ADDITION, OUT_OF_CELLS);
 }
 
-/// Keeps all rules of specifications.
-const KEPT: &str =
-    "REC-SPEC Q SORTS A B CONS a : -> A b : -> B OPNS f : A -> A VARS X Y : A RULES f(X) -> X EVAL f(a) END-SPEC";
+/// A specification that keeps all rules.
+const KEPT: &str = "REC-SPEC Q SORTS A B CONS a : -> A b : -> B OPNS f : A -> A \
+     VARS X Y : A RULES f(X) -> X EVAL f(a) END-SPEC";
 
 /// What is told of these terms beside the specification that keeps all rules.
 fn told_of(rt: &impl Abort, alloc: Global, terms: &'static str) -> String {
@@ -115,6 +122,7 @@ fn told_of(rt: &impl Abort, alloc: Global, terms: &'static str) -> String {
     run_on(rt, &files, alloc, &["eval", "--explain", "spec", "terms"]).err
 }
 
+/// Given terms, the rule that refuses them, and the end of what is said of them.
 const ITEMS: [(&str, &str, &str); 11] = [
     ("a", "T1", ""),
     ("[a]{a}", "T1", ""),
@@ -133,6 +141,7 @@ const ITEMS: [(&str, &str, &str); 11] = [
     ("[a,f(a),f(f(b)),f(b)]", "T6", "; element 3 of the list"),
 ];
 
+/// The program says of given terms which rule is broken, and by which term.
 fn tells_the_term(rt: &impl Abort, alloc: Global, terms: &'static str, rule: &str, item: &str) {
     let said = told_of(rt, alloc, terms);
     assert!(rt; said.as_str().starts_with("terms: "), "{terms}: {said}");
@@ -152,6 +161,7 @@ fn tells_which_given_term_it_is(rt: HostRuntime) {
     }
 }
 
+/// A pattern, arguments, the rule that refuses them, and the end of what is said of them.
 const ARGUMENTS: [(&str, &str, &str, &str); 6] = [
     ("f(<int>)", "[]", "M1", "; expected 1, given 0"),
     ("f(<int>)", "[a,b]", "M1", "; expected 1, given 2"),
@@ -176,6 +186,7 @@ const ARGUMENTS: [(&str, &str, &str, &str); 6] = [
     ),
 ];
 
+/// The program says of arguments which rule is broken, and by which argument.
 fn tells_the_argument<H: Abort + Files>(
     rt: &H,
     alloc: Global,

@@ -5,6 +5,7 @@ use std::alloc::Global;
 use std::process::Abort;
 use std::rt::Files;
 
+/// The program's help.
 const HELP: &str = "Evaluate REC specifications, and read ATerms
 
 Usage: recw [COMMAND]
@@ -29,6 +30,7 @@ Exit status: 0 done, 1 the text was refused, 2 wrong arguments,
 recw help refusals says what each refusal means; --explain shows where it stands.
 ";
 
+/// The help of `share`.
 const SHARE_HELP: &str = "Print an ATerm and how many cells it takes with equal parts shared
 
 Usage: recw share [OPTIONS] [FILE]
@@ -43,6 +45,7 @@ Options:
 Example: echo 'f(a,a)' | recw share
 ";
 
+/// The help of `eval`.
 const EVAL_HELP: &str = "Evaluate the terms of a REC specification
 
 Usage: recw eval [OPTIONS] [SPEC] [TERMS]
@@ -63,6 +66,7 @@ Options:
 Example: recw eval --steps 500 add.rec add.trm
 ";
 
+/// The help of `aterm`.
 const ATERM_HELP: &str = "Print an ATerm in its shortest form
 
 Usage: recw aterm [OPTIONS] [FILE]
@@ -77,6 +81,7 @@ Options:
 Example: echo 'f ( a , [ 1 , -007 ] )' | recw aterm
 ";
 
+/// The help of `match`.
 const MATCH_HELP: &str = "Print what a pattern binds in an ATerm, or that it does not match
 
 Usage: recw match [OPTIONS] <PATTERN> [FILE]
@@ -95,6 +100,7 @@ Give a pattern that begins with - a blank before it: ' -7'.
 Example: echo 'f(1,2,3)' | recw match 'f(<int>,<list>)'
 ";
 
+/// The help of `make`.
 const MAKE_HELP: &str = "Print a pattern with arguments in place of its placeholders
 
 Usage: recw make [OPTIONS] <PATTERN> <ARGS>
@@ -112,6 +118,7 @@ Give a pattern that begins with - a blank before it: ' -7'.
 Example: recw make 'f(<int>,<list>)' '[1,[2,3]]'
 ";
 
+/// The words that ask for help, and which they get.
 const HELPS: [(&[&str], &str); 11] = [
     (&["-h"], HELP),
     (&["--help"], HELP),
@@ -126,6 +133,7 @@ const HELPS: [(&[&str], &str); 11] = [
     (&["help", "make"], MAKE_HELP),
 ];
 
+/// The program shows this help.
 fn shows<H: Abort + Files>(rt: &H, alloc: Global, words: &[&str], help: &str) {
     let ran = run(rt, alloc, words, "");
     answers(rt, words, &ran, 0, help, "");
@@ -138,12 +146,14 @@ fn shows_help(rt: HostRuntime) {
     }
 }
 
+/// The version names what the program is proved with.
 fn shows_its_version<H: Abort + Files>(rt: &H, alloc: Global) {
     let ran = run(rt, alloc, &["--version"], "");
     assert!(rt; ran.status == 0 && ran.err.is_empty());
     assert!(rt; ran.out.as_str().starts_with("recw 0.1.0, proved with "));
 }
 
+/// The list of refusals has a line for each.
 fn shows_the_refusals<H: Abort + Files>(rt: &H, alloc: Global) {
     let ran = run(rt, alloc, &["help", "refusals"], "");
     assert!(rt; ran.status == 0 && ran.err.is_empty());
@@ -155,6 +165,7 @@ fn shows_the_refusals<H: Abort + Files>(rt: &H, alloc: Global) {
     );
 }
 
+/// A file in a command's place is met with the command for it.
 fn names_the_command<H: Abort + Files>(rt: &H, alloc: Global) {
     let ran = run(rt, alloc, &["sort.rec"], "");
     assert!(rt; ran.status == 2 && ran.out.is_empty());

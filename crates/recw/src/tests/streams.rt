@@ -24,8 +24,10 @@ impl Write for Full {
     }
 }
 
+/// Words that write, and so fail at a full output.
 const FULL: [&[&str]; 2] = [&["--help"], &["eval"]];
 
+/// The program ends as where a write fails.
 fn fails_to_write<H: Abort + Files, W: Write>(rt: &H, alloc: Global, words: &[&str], out: &mut W) {
     let mut err = Vec::new(alloc);
     let mut input = ADDITION.as_bytes();
@@ -55,11 +57,13 @@ impl Read for Unread {
     }
 }
 
+/// A specification and terms for it.
 const FILES: Shelf = Shelf {
     spec: ADDITION,
     terms: "[plus(z,s(z))]",
 };
 
+/// The words, the status and the two outputs, on named files.
 const NAMED: [(&[&str], u8, &str, &str); 8] = [
     (&["eval", "spec"], 0, "s(s(s(z)))\n", ""),
     (&["eval", "spec", "terms"], 0, "s(s(s(z)))\ns(z)\n", ""),
@@ -86,6 +90,7 @@ const NAMED: [(&[&str], u8, &str, &str); 8] = [
     (&["aterm", "-"], 4, "", "recw: read failed\n"),
 ];
 
+/// Runs the program on these files, where the standard input may not be asked.
 pub(crate) fn run_on(rt: &impl Abort, files: &Shelf, alloc: Global, words: &[&str]) -> Ran {
     run_over(rt, files, alloc, words, &mut Unread)
 }
@@ -100,8 +105,9 @@ fn reads_its_files(rt: HostRuntime) {
     assert!(rt; ran.status == 4 && ran.err.as_str() == "recw: read failed\n");
 }
 
-const LOOPING: &str =
-    "REC-SPEC L SORTS N CONS z : -> N s : N -> N OPNS f : N -> N g : N -> N VARS X : N RULES f(X) -> f(X) g(X) -> s(g(X)) EVAL f(z) g(z) END-SPEC";
+/// Two terms whose evaluation has no end: one turns in a circle, one grows.
+const LOOPING: &str = "REC-SPEC L SORTS N CONS z : -> N s : N -> N OPNS f : N -> N g : N -> N \
+     VARS X : N RULES f(X) -> f(X) g(X) -> s(g(X)) EVAL f(z) g(z) END-SPEC";
 
 #[test]
 fn has_a_default_budget_and_ends_where_evaluation_does_not(rt: HostRuntime) {
@@ -124,6 +130,7 @@ impl Write for Unflushed {
     }
 }
 
+/// Words of each kind of run, whose last step is a flush.
 const FLUSHED: [&[&str]; 6] = [
     &["--help"],
     &["eval"],
@@ -140,6 +147,7 @@ fn reports_a_failing_flush(rt: HostRuntime) {
     }
 }
 
+/// Why the words could not be read, the status and the standard error.
 const STARTS: [(ErrorKind, u8, &str); 2] = [
     (ErrorKind::OutOfMemory, 3, "recw: out of memory\n"),
     (
@@ -149,6 +157,7 @@ const STARTS: [(ErrorKind, u8, &str); 2] = [
     ),
 ];
 
+/// The program says why the words could not be read.
 fn tells_of(rt: &impl Abort, alloc: Global, kind: ErrorKind, status: u8, said: &str) {
     let mut err = Vec::new(alloc);
     let got = failed_start(&io::Error::from(kind), &mut err);

@@ -5,6 +5,7 @@ use std::alloc::Global;
 use std::process::Abort;
 use std::rt::Files;
 
+/// Evaluations, at the ends of their options' ranges and for each status.
 const STATUSES: [Row; 20] = [
     (&["eval"], ADDITION, 0, "s(s(s(z)))\n", ""),
     (&["eval", "--memo", "0"], ADDITION, 0, "s(s(s(z)))\n", ""),
@@ -106,6 +107,7 @@ fn evaluates_without_words(rt: HostRuntime) {
     meets(&rt, rt.alloc(), &(&[], ADDITION, 0, "s(s(s(z)))\n", ""));
 }
 
+/// Terms that are printed.
 const TERMS: [Row; 6] = [
     (&["aterm"], "f ( a , [ 1 , -007 ] )", 0, "f(a,[1,-7])\n", ""),
     (
@@ -146,6 +148,7 @@ fn prints_terms(rt: HostRuntime) {
     }
 }
 
+/// Patterns that are matched and filled.
 const PATTERNS: [Row; 22] = [
     (
         &["match", "f(<int>,<list>)"],
@@ -226,6 +229,7 @@ fn matches_and_makes(rt: HostRuntime) {
     }
 }
 
+/// Words that the command line does not have.
 const WRONG_WORDS: [&[&str]; 21] = [
     &["eval", "--cells", "0"],
     &["eval", "--cells", "1073741825"],
@@ -250,6 +254,7 @@ const WRONG_WORDS: [&[&str]; 21] = [
     &["share", "a", "b"],
 ];
 
+/// The program refuses these words, and writes nothing on the standard output.
 fn refuses<H: Abort + Files>(rt: &H, alloc: Global, words: &[&str]) {
     let Ran { status, out, err } = run(rt, alloc, words, ADDITION);
     assert_eq!(rt; status, 2, "{words:?}");

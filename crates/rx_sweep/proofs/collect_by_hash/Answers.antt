@@ -1,4 +1,4 @@
-use Rattle.rx_sweep.proofs.CollectedLemmas.{closed_one, gray_one, chained_two, roots_two, all_marked, Collected, collected, same_two}
+use Rattle.rx_sweep.proofs.CollectedLemmas.{closed_one, gray_one, chained_two, roots_two, all_marked, collected, same_two}
 use Rattle.rx_sweep.proofs.HomingLemmas.{same_homed}
 use Rattle.rx_sweep.proofs.collect_by_hash.Goals as goal
 
@@ -30,33 +30,11 @@ pub turn_marks-requires-clause-marked : goal.turn_marks-requires-clause-marked
 turn_marks-requires-clause-marked c =
     let r = c.mark_roots.ensures in
     let m = c.mark_on.ensures in
-    all_marked c.args.arena.now r.old_law c.requires.can c.mark_roots.new.arena r.marks r.law c.mark_on.new.arena m.same m.stay m.reached m.closed c.sweep_by_hash.new.arena c.sweep_by_hash.ensures.cells
+    all_marked c.args.arena.now r.old_law c.requires.can c.mark_roots.new.arena r.marks r.law c.mark_on.new.arena m.same m.stay m.reached m.closed c.sweep_by_hash.new.arena c.sweep_by_hash.ensures.swept
 
-whole : (c : goal.After-turn_marks) → Collected c.args.arena.now c.turn_marks.new.self
-whole c =
+pub returns-clause-collected : goal.returns-clause-collected
+returns-clause-collected c =
     let r = c.mark_roots.ensures in
     let m = c.mark_on.ensures in
-    let s = c.sweep_by_hash.ensures in
     collected c.args.arena.now r.old_law c.requires.can c.mark_roots.new.arena r.marks r.law c.mark_on.new.arena m.same m.stay m.reached m.closed
-    c.sweep_by_hash.new.arena s.cells s.chains c.turn_marks.new.self c.turn_marks.ensures.after s.spare
-
-pub returns-clause-taken : goal.returns-clause-taken
-returns-clause-taken c = (whole c).taken
-
-pub returns-clause-kept : goal.returns-clause-kept
-returns-clause-kept c = (whole c).kept
-
-pub returns-clause-dropped : goal.returns-clause-dropped
-returns-clause-dropped c = (whole c).dropped
-
-pub returns-clause-chains : goal.returns-clause-chains
-returns-clause-chains c = (whole c).chains
-
-pub returns-clause-no_marks : goal.returns-clause-no_marks
-returns-clause-no_marks c = (whole c).clear
-
-pub returns-clause-spare : goal.returns-clause-spare
-returns-clause-spare c = (whole c).spare
-
-pub returns-clause-ready : goal.returns-clause-ready
-returns-clause-ready c = (whole c).ready
+    c.sweep_by_hash.new.arena c.sweep_by_hash.ensures.swept c.turn_marks.new.self c.turn_marks.ensures.after

@@ -22,7 +22,14 @@ loop-number-preserved-then-holds_unmarked c =
     let some = sweeping_some c.args.arena.now (c.loop-number.number - 1) c.loop-number.arena inv white c.requires.chained in
     sweeping_on c.args.arena.now (c.loop-number.number - 1) c.loop-number.arena inv white some c.drop_slot.new.arena c.drop_slot.ensures.after c.drop_slot.ensures.law
 
-pub returns-clause-chains : goal.returns-clause-chains
-returns-clause-chains c =
+pub returns-clause-swept : goal.returns-clause-swept
+returns-clause-swept c =
+    let inv = c.loop-number.invariant in
     let zero : c.loop-number.number ≤ 0 = let end = c.loop-number-test.false in omega (arith, end) in
-    sweeping_end c.args.arena.now c.loop-number.number c.loop-number.arena c.loop-number.invariant zero c.slots-number.ensures.law c.requires.homed
+    record {
+      cells = λ s. inv.cells.done s (omega (arith, zero));
+      chains = sweeping_end c.args.arena.now c.loop-number.number c.loop-number.arena inv zero c.slots-number.ensures.law c.requires.homed;
+      no_gray = inv.cells.gray;
+      spare = inv.cells.spare;
+      cap = inv.cells.cap;
+    }

@@ -10,7 +10,7 @@ use Rattle.rec_run.specs.Refusals.{refusal_due}
 use Rattle.rec_run.specs.declared.ending.Source.TheVariants as source
 use Rattle.rec_run.specs.declared.refusal.Reading.{Reading}
 use Rattle.rec_run.proofs.PatternDueLemmas.{due_read, if_ok_map, spelt_due}
-use Rattle.rec_run.proofs.TermsDueLemmas.{refused_due, verdict_given}
+use Rattle.rec_run.proofs.TermDueLemmas.{refused_due, verdict_given}
 use Rattle.rec_run.proofs.pattern.answer.match_input.Goals as goal
 
 pub returns-in-Refused-clause-due : goal.returns-in-Refused-clause-due

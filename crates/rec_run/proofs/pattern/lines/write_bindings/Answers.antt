@@ -3,14 +3,15 @@ use Rattle.rec_run.specs.TermRuns.{line_at}
 use Rattle.rec_run.specs.declared.ending.RunFault.TheVariants.{Write}
 use Rattle.rec_run.proofs.ErrorLemmas.{if_err_at}
 use Rattle.rx_term.proofs.WalkLemmas.{AllHeld-at}
-use Rattle.rec_run.proofs.PatternLineLemmas.{stops_before, stops_binding, stops_first, stops_write}
+use Rattle.rec_run.proofs.LineFrontLemmas.{stops_before, stops_write}
+use Rattle.rec_run.proofs.PatternLineLemmas.{stops_binding}
 use Rattle.rec_run.proofs.pattern.lines.write_bindings.Goals as goal
 
 pub returns-in_err-put-clause-err : goal.returns-in_err-put-clause-err
 returns-in_err-put-clause-err g c =
     let w = g.B.TermBank.store c.args.bank.now in
     if_err_at c.from_residual.result _ Write c.from_residual.ensures.1
-    (stops_before Write (codes "yes\n") (flat_map (line_at w) c.args.bindings.now) _ _ (stops_first Write (codes "yes\n") _ _ (stops_write 0 (codes "yes\n") _ _ c.in_err-put.ensures.front)))
+    (stops_before Write (codes "yes\n") (flat_map (line_at w) c.args.bindings.now) _ _ (stops_write (codes "yes\n") _ _ c.in_err-put.ensures.front))
 
 pub write_line-requires : goal.write_line-requires
 write_line-requires g c = AllHeld-at (g.B.TermBank.store c.args.bank.now) c.args.bindings.now c.loop-i.i _ c.requires c.loop-i-test.true

@@ -1,18 +1,17 @@
-use Rattle.std.proofs.Common.{◌≡◌, ◌++◌, ◌<◌, ◌≤◌, ◌^◌, [], ap, arith, length, subst, sym, take, take_all, ◌∙◌}
+use Rattle.std.proofs.Common.{◌≡◌, ◌++◌, ◌<◌, ◌≤◌, ◌^◌, [], arith, length, subst, sym, ◌∙◌}
 use Rattle.std.specs.Prelude.{codes}
 use Rattle.std.specs.Io.KnownBytes.{Appends}
 use Rattle.rx_term.proofs.KeepLemmas.{Keeps-trans}
 use Rattle.rx_text.specs.Written.{AppendsFront}
 use Rattle.rec_syntax.specs.Syntax.{Apply, nameless}
 use Rattle.rec_syntax.specs.Syntax as syntax
-use Rattle.rec_run.specs.EvaluatedLines.{due_before, raised_after}
+use Rattle.rec_run.specs.EvaluatedLines.{due_before, fault_after}
 use Rattle.rec_run.specs.Output.{lines}
-use Rattle.rec_run.specs.Reading.{line_text, term_at, text_at}
+use Rattle.rec_run.specs.Reading.{line_text, text_at}
 use Rattle.rec_run.specs.Run.{Stops}
-use Rattle.rec_run.proofs.EvaluatedLemmas.{lines_stopped, raised_at, room_fits, same_engine_both}
-use Rattle.rec_run.proofs.LineFrontLemmas.{lines_of, lines_of-more}
+use Rattle.rec_run.proofs.EvaluatedLemmas.{lines_stopped, fault_after-same, room_fits, same_engine_both}
+use Rattle.rec_run.proofs.LineFrontLemmas.{appends_all, appends_more}
 use Rattle.rec_run.proofs.SpecLineLemmas.{line_text-newlines, lines-own}
-use Rattle.rx_text.proofs.AppendingLemmas.{appends_both}
 use Rattle.rec_run.proofs.spec.lines.write_own_lines.Goals as goal
 
 pub returns-in-Err-clause-keeps : goal.returns-in-Err-clause-keeps
@@ -27,9 +26,9 @@ returns-in-Err-clause-err g c =
     let new = g.W.Write.contents c.write_own_line.new.out in
     let low : c.loop-i.i < length y.terms = omega arith in
     let few : n < 2 ^ 64 = omega (arith, c.args.options.steps_in_range) in
-    let fault : c.after.result ≡ raised_after c.in-Err.fault c.loop-i.i = raised_at c.in-Err.fault c.from.result c.loop-i.i c.after.result c.after.ensures (omega arith) in
+    let fault : c.after.result ≡ fault_after c.in-Err.fault c.loop-i.i = fault_after-same c.in-Err.fault c.from.result c.loop-i.i c.after.result c.after.ensures (omega arith) in
     subst (λ stop. Stops stop (lines y [] c.args.options.count n) old new) (sym fault)
-    (subst (λ text. Stops (raised_after c.in-Err.fault c.loop-i.i) text old new) (sym (lines-own y c.args.options.count n))
+    (subst (λ text. Stops (fault_after c.in-Err.fault c.loop-i.i) text old new) (sym (lines-own y c.args.options.count n))
     (lines_stopped c.in-Err.fault f y.terms c.loop-i.i (Apply nameless syntax.none) _ _ _ (line_text-newlines y c.args.options.count n few y.terms) low c.loop-i.invariant.written
     (subst (λ z. AppendsFront (due_before c.in-Err.fault (text_at z c.args.options.count n c.loop-i.i)) (g.W.Write.contents c.loop-i.out) new) c.loop-i.invariant.same.spec c.in-Err.ensures.err)))
 
@@ -43,19 +42,17 @@ pub loop-i-preserved : goal.loop-i-preserved
 loop-i-preserved g c =
     let y = c.args.engine.now.spec in
     let n = c.args.options.steps in
-    let f = line_text y c.args.options.count n in
     let low : c.loop-i.i < length y.terms = omega arith in
     record {
       same = same_engine_both c.loop-i.invariant.same c.in-Ok.ensures.same;
       keeps = Keeps-trans c.loop-i.invariant.keeps c.in-Ok.ensures.keeps;
-      written = subst (λ text. Appends (g.W.Write.contents c.args.out.now) (g.W.Write.contents c.write_own_line.new.out) text) (sym (lines_of-more f y.terms c.loop-i.i (Apply nameless syntax.none) low))
-          (appends_both _ _ _ (lines_of f (take c.loop-i.i y.terms)) (f (term_at y c.loop-i.i) ++ codes "\n") c.loop-i.invariant.written
-          (subst (λ z. Appends (g.W.Write.contents c.loop-i.out) (g.W.Write.contents c.write_own_line.new.out) (text_at z c.args.options.count n c.loop-i.i ++ codes "\n")) c.loop-i.invariant.same.spec c.in-Ok.ensures.ok));
+      written = appends_more (line_text y c.args.options.count n) y.terms c.loop-i.i (Apply nameless syntax.none) _ _ _ low c.loop-i.invariant.written
+          (subst (λ z. Appends (g.W.Write.contents c.loop-i.out) (g.W.Write.contents c.write_own_line.new.out) (text_at z c.args.options.count n c.loop-i.i ++ codes "\n")) c.loop-i.invariant.same.spec c.in-Ok.ensures.ok);
     }
 
 pub returns-clause-ok : goal.returns-clause-ok
 returns-clause-ok g c =
     let y = c.args.engine.now.spec in
-    let f = line_text y c.args.options.count c.args.options.steps in
     let all : length y.terms ≤ c.loop-i.i = omega arith in
-    subst (λ text. Appends (g.W.Write.contents c.args.out.now) (g.W.Write.contents c.loop-i.out) text) (ap (lines_of f) (take_all c.loop-i.i y.terms all) ∙ sym (lines-own y c.args.options.count c.args.options.steps)) c.loop-i.invariant.written
+    subst (λ text. Appends (g.W.Write.contents c.args.out.now) (g.W.Write.contents c.loop-i.out) text) (sym (lines-own y c.args.options.count c.args.options.steps))
+    (appends_all (line_text y c.args.options.count c.args.options.steps) y.terms c.loop-i.i _ _ all c.loop-i.invariant.written)

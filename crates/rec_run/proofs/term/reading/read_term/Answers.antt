@@ -1,6 +1,6 @@
 use Rattle.std.proofs.Common.{ap, subst, ◌∙◌}
 use Rattle.rx_text.specs.Verdict.{IsVerdict}
-use Rattle.rec_run.proofs.TermsDueLemmas.{verdict_given}
+use Rattle.rec_run.proofs.TermDueLemmas.{verdict_given}
 use Rattle.rec_run.proofs.term.reading.read_term.Goals as goal
 
 pub returns-clause-read : goal.returns-clause-read

@@ -3,8 +3,9 @@ use Rattle.std.specs.Io.KnownBytes.{Appends}
 use Rattle.rec_run.specs.Run.{Stops}
 use Rattle.rec_run.specs.TermRuns.{cells_line, line_at}
 use Rattle.rec_run.specs.declared.ending.RunFault.TheVariants.{Write}
-use Rattle.rec_run.proofs.PatternLineLemmas.{stops_before, stops_first, stops_write}
-use Rattle.rec_run.proofs.TermsDueLemmas.{share_lines-at}
+use Rattle.rec_run.proofs.LineFrontLemmas.{stops_before, stops_write}
+use Rattle.rec_run.proofs.PatternLineLemmas.{stops_first}
+use Rattle.rec_run.proofs.TermDueLemmas.{share_lines-at}
 use Rattle.rx_text.proofs.AppendingLemmas.{appends_both, front_after}
 use Rattle.rec_run.proofs.ErrorLemmas.{if_err_at}
 use Rattle.rec_run.proofs.term.runs.write_counted.Goals as goal
@@ -26,7 +27,7 @@ returns-in_err-write_cells-clause-err g c =
     let lines = share_lines-at w v c.args.t c.keep_alone-cells.result c.requires.held c.keep_alone-cells.ensures.kept c.keep_alone-cells.ensures.counted in
     if_err_at c.from_residual-in_err-write_cells.result _ Write c.from_residual-in_err-write_cells.ensures.1
     (subst (λ (text : List ℕ). Stops Write text (g.W.Write.contents c.args.out.now) (g.W.Write.contents c.write_cells.new.out)) (sym lines)
-    (stops_first Write _ _ _ (stops_write 0 _ _ _ (front_after _ _ _ (line_at v c.args.t) (cells_line c.keep_alone-cells.result) c.in_ok-write_line.ensures.ok c.in_err-write_cells.ensures.err))))
+    (stops_write _ _ _ (front_after _ _ _ (line_at v c.args.t) (cells_line c.keep_alone-cells.result) c.in_ok-write_line.ensures.ok c.in_err-write_cells.ensures.err)))
 
 pub returns-clause-ok : goal.returns-clause-ok
 returns-clause-ok g c =

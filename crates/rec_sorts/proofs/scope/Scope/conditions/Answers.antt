@@ -1,6 +1,6 @@
-use Rattle.std.proofs.Common.{arith, refl}
+use Rattle.std.proofs.Common.{arith}
 use Rattle.rec_syntax.specs.Parts.{condition_of}
-use Rattle.rec_sorts.specs.Reading.{binds_variable, SpellsCondition, condition_places, conditions_places}
+use Rattle.rec_sorts.specs.Reading.{binds_variable, SpellsCondition, condition_places}
 use Rattle.rec_sorts.proofs.TurnLemmas.{Pairwise_turn, places_turn}
 use Rattle.rec_sorts.proofs.scope.Scope.conditions.Goals as goal
 
@@ -11,6 +11,6 @@ loop-condition-preserved c =
     record {
       letters = Pairwise_turn (SpellsCondition s) (condition_of s.source.now) c.args.conditions.now c.loop-condition.condition-index c.condition-item.result c.loop-condition.letters.items c.push.new.self.items c.in_ok-read.read.letters
           (omega arith) c.condition-item.is c.in_ok-push.ensures.items c.loop-condition.invariant.letters c.in_ok-read.ensures.letters;
-      places = places_turn (condition_of s.source.now) (conditions_places s bound) (condition_places s bound) (λ y ys. refl) c.args.conditions.now c.loop-condition.condition-index c.condition-item.result c.loop-condition.places c.in_ok-read.read.places c.join-places.result _
+      places = places_turn (condition_of s.source.now) (condition_places s bound) c.args.conditions.now c.loop-condition.condition-index c.condition-item.result c.loop-condition.places c.in_ok-read.read.places c.join-places.result _
           (omega arith) c.condition-item.is c.join-places.ensures c.in_ok-read.ensures.places c.loop-condition.invariant.places;
     }

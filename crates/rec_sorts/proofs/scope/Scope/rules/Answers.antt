@@ -1,6 +1,6 @@
-use Rattle.std.proofs.Common.{arith, refl}
+use Rattle.std.proofs.Common.{arith}
 use Rattle.rec_syntax.specs.Parts.{rule_of}
-use Rattle.rec_sorts.specs.Reading.{SpellsRule, rule_places, rules_places}
+use Rattle.rec_sorts.specs.Reading.{SpellsRule, rule_places}
 use Rattle.rec_sorts.proofs.TurnLemmas.{Pairwise_turn, places_turn}
 use Rattle.rec_sorts.proofs.scope.Scope.rules.Goals as goal
 
@@ -10,6 +10,6 @@ loop-rule-preserved c =
     record {
       letters = Pairwise_turn (SpellsRule s) (rule_of s.source.now) c.args.rules.now c.loop-rule.rule-index c.rule-item.result c.loop-rule.letters.items c.push.new.self.items c.in_ok-read.read.letters
           (omega arith) c.rule-item.is c.in_ok-push.ensures.items c.loop-rule.invariant.letters c.in_ok-read.ensures.letters;
-      places = places_turn (rule_of s.source.now) (rules_places s) (rule_places s) (λ y ys. refl) c.args.rules.now c.loop-rule.rule-index c.rule-item.result c.loop-rule.places c.in_ok-read.read.places c.join-places.result _
+      places = places_turn (rule_of s.source.now) (rule_places s) c.args.rules.now c.loop-rule.rule-index c.rule-item.result c.loop-rule.places c.in_ok-read.read.places c.join-places.result _
           (omega arith) c.rule-item.is c.join-places.ensures c.in_ok-read.ensures.places c.loop-rule.invariant.places;
     }

@@ -4,7 +4,8 @@ use Rattle.std.specs.Prelude.{count_by}
 use Rattle.rx_plain.specs.Marks.{Reaches, AreLinksWithin}
 use Rattle.rx_plain.specs.Slots.{swept_of, is_taken}
 use Rattle.rx_plain.specs.Soundness.{table}
-use Rattle.rx_plain.proofs.ReclaimingLemmas.{written, swept-back, bank-within, held-within, reclaimed-whole, reclaimed-distinct, reclaimed-roots, reclaimed-unrooted, reclaimed-len, reclaimed, count-content}
+use Rattle.rx_plain.proofs.ReadingLemmas.{held-within}
+use Rattle.rx_plain.proofs.ReclaimingLemmas.{written, swept-back, bank-within, reclaimed-whole, reclaimed-distinct, reclaimed-roots, reclaimed-unrooted, reclaimed-len, reclaimed, count-content}
 use Rattle.rx_plain.proofs.bank.PlainBankTermBank.reclaim.Goals as goal
 
 pub mark_reached-requires-clause-within : goal.mark_reached-requires-clause-within

@@ -1,74 +1,8 @@
-use Rattle.std.proofs.Common.{◌-◌, ◌≤◌, is_some, length, arith, sym, ap, ◌∙◌, subst}
-use Rattle.std.specs.Prelude.{slice_set}
-use Rattle.std.specs.FinMap as map
-use Rattle.rx_term.specs.Heap.{IsDistinct}
-use Rattle.rx_plain.specs.Slots.{heap_of}
-use Rattle.rx_plain.specs.State.{store_of}
-use Rattle.rx_plain.specs.Soundness.{table, sound, cell-within}
-use Rattle.rx_plain.proofs.ReadingLemmas.{held-cell}
-use Rattle.rx_plain.proofs.CountingLemmas.{recounted, recount-heap, recount-roots, recount-len, recount-store, read-roots, recount-unrooted, recount-counts}
-use Rattle.rx_term.proofs.BankLemmas.{whole-along, content-unique}
-use Rattle.rx_term.specs.Steps.{with_count}
+use Rattle.rx_plain.specs.Soundness.{sound}
 use Rattle.rx_plain.proofs.bank.PlainBankTermBank.unprotect.Goals as goal
 
-pub index-slot-requires : goal.index-slot-requires
-index-slot-requires c =
-    let b = c.args.self.now in
-    let x = held-cell b c.args.t.0 ((sound b).rooted_held c.args.t c.requires) in
-    let lt = cell-within b.slots.items c.args.t.0 x.0 x.1 in
-    let size = b.slots.ok.0 in
-    omega arith
+pub roots-count-requires : goal.roots-count-requires
+roots-count-requires c = (sound c.args.self.now).rooted_held c.args.t c.requires
 
-pub index_mut-requires : goal.index_mut-requires
-index_mut-requires c =
-    let b = c.args.self.now in
-    let x = held-cell b c.args.t.0 ((sound b).rooted_held c.args.t c.requires) in
-    let lt = cell-within b.slots.items c.args.t.0 x.0 x.1 in
-    let size = b.slots.ok.0 in
-    omega arith
-
-pub overflow_sub-slot : goal.overflow_sub-slot
-overflow_sub-slot c =
-    let b = c.args.self.now in
-    let x = held-cell b c.args.t.0 ((sound b).rooted_held c.args.t c.requires) in
-    let lt = cell-within b.slots.items c.args.t.0 x.0 x.1 in
-    let r = read-roots b.slots.items c.args.t.0 c.index-slot.result.now 0 lt c.index-slot.ensures in
-    let pos = c.requires in
-    omega arith
-
-pub invariant_of-self : goal.invariant_of-self
-invariant_of-self c =
-    let b = c.args.self.now in
-    let s = c.index-slot.result.now in
-    let n = s.roots - 1 in
-    let x = held-cell b c.args.t.0 ((sound b).rooted_held c.args.t c.requires) in
-    let lt = cell-within b.slots.items c.args.t.0 x.0 x.1 in
-    let ys = slice_set b.slots.items c.args.t.0 (recounted s n) in
-    let heap = recount-heap b.slots.items c.args.t.0 s n lt c.index-slot.ensures in
-    let len = recount-len b.slots.items c.args.t.0 s n lt c.index-slot.ensures in
-    let roots = recount-roots b.slots.items c.args.t.0 s n lt c.index-slot.ensures in
-    let read = read-roots b.slots.items c.args.t.0 s n lt c.index-slot.ensures in
-    let whole = whole-along (table b) (heap_of b.slots.items) (heap_of ys) (length b.slots.items) (length ys) heap len b.whole in
-    let most = b.counts c.args.t.0 in
-    let pos = c.requires in
-    let fits : n ≤ 65535 = omega arith in
-    record {
-      limited = b.limited;
-      bounded = rw len b.bounded;
-      distinct = subst IsDistinct (sym heap) b.distinct;
-      whole = whole;
-      unrooted = recount-unrooted b.slots.items c.args.t.0 s n lt c.index-slot.ensures (ap is_some x.1) b.unrooted;
-      counts = recount-counts b.slots.items c.args.t.0 s n lt c.index-slot.ensures fits b.counts;
-      counted = b.counted ∙ sym (ap map.len (content-unique (table b) (heap_of b.slots.items) (heap_of ys) (length b.slots.items) (length ys) heap len b.whole whole));
-    }
-
-pub returns : goal.returns
-returns c =
-    let b = c.args.self.now in
-    let s = c.index-slot.result.now in
-    let x = held-cell b c.args.t.0 ((sound b).rooted_held c.args.t c.requires) in
-    let lt = cell-within b.slots.items c.args.t.0 x.0 x.1 in
-    let read = read-roots b.slots.items c.args.t.0 s (s.roots - 1) lt c.index-slot.ensures in
-    let most = b.counts c.args.t.0 in
-    let pos = c.requires in
-    (recount-store b c.args.t s (s.roots - 1) lt c.index-slot.ensures _ ∙ ap (λ k. with_count (store_of b) c.args.t (k - 1)) (sym read))
+pub set_roots-requires : goal.set_roots-requires
+set_roots-requires c = (sound c.args.self.now).rooted_held c.args.t c.requires

@@ -28,12 +28,12 @@ invariant_of-self c =
     let z = c.collect_by_hash.new.arena in
     let r = c.collect_by_hash.ensures in
     record {
-      limited = b.limited ∙ sym (collected-cap b g c.args.extra.now m l z r.taken r.kept r.chains r.no_marks r.no_gray r.spare r.cap r.law);
+      limited = b.limited ∙ sym (collected-cap b g c.args.extra.now m l z r.collected r.law);
       few = b.few;
-      chained = collected-chains b g c.args.extra.now m l z r.taken r.kept r.chains r.no_marks r.no_gray r.spare r.cap r.law ∙ b.chained;
-      tidy = collected-tidy b g c.args.extra.now m l z r.taken r.kept r.chains r.no_marks r.no_gray r.spare r.cap r.law;
-      distinct = collected-distinct b g c.args.extra.now m l z r.taken r.kept r.chains r.no_marks r.no_gray r.spare r.cap r.law;
-      whole = collected-whole b g c.args.extra.now m l z r.taken r.kept r.chains r.no_marks r.no_gray r.spare r.cap r.law;
+      chained = collected-chains b g c.args.extra.now m l z r.collected r.law ∙ b.chained;
+      tidy = collected-tidy b g c.args.extra.now m l z r.collected r.law;
+      distinct = collected-distinct b g c.args.extra.now m l z r.collected r.law;
+      whole = collected-whole b g c.args.extra.now m l z r.collected r.law;
     }
 
 pub returns : goal.returns
@@ -41,4 +41,4 @@ returns c =
     let b = c.args.self.now in
     let g = c.gray_all.new.arena in
     let r = c.collect_by_hash.ensures in
-    collected-reclaims b g c.args.extra.now c.gray_all.ensures.marks c.gray_all.ensures.law c.collect_by_hash.new.arena r.taken r.kept r.chains r.no_marks r.no_gray r.spare r.cap r.law c.requires _
+    collected-reclaims b g c.args.extra.now c.gray_all.ensures.marks c.gray_all.ensures.law c.collect_by_hash.new.arena r.collected r.law c.requires _

@@ -1,10 +1,9 @@
-use Rattle.std.proofs.Common.{◌≡◌, ◌<◌, ℕ, ◌∙◌, ap, sym, subst, false, List, ◌∷◌, reverse, is_some, arith}
-use Rattle.rx_text.specs.Token.{Token}
+use Rattle.std.proofs.Common.{◌≡◌, ℕ, sym, subst, false, List, reverse, is_some}
 use Rattle.rx_text.specs.Machine.{step}
 use Rattle.rx_text.specs.Lexemes.{tokens_after, token_of, behind}
 use Rattle.rx_text.specs.Reader.{made_of, mode_of, frames_of, owned, state_of, IsState}
-use Rattle.rx_text.proofs.DecidingLemmas.{takes_byte, behind_is}
-use Rattle.rx_text.proofs.ExpectingLemmas.{none_since, refused_state, ended_state, reached_next}
+use Rattle.rx_text.proofs.DecidingLemmas.{reads_on}
+use Rattle.rx_text.proofs.ExpectingLemmas.{Reached, none_since, refused_state, ended_state, reached_next}
 use Rattle.rx_text.proofs.reader.expected.read_to_fault.Goals as goal
 
 pub step-requires-clause-state : goal.step-requires-clause-state
@@ -23,29 +22,18 @@ returns-then-not-may_take-clause-reached c =
     let fails : is_some (step (mode_of text l.due made) (frames_of text (reverse l.reader.frames.items) (owned l.due made)) (token_of text x.kind)) ≡ false = cc (took, c.if-not-may_take.true) in
     let here = subst (λ (bs : List ℕ). is_some (step (mode_of bs l.due made) (frames_of bs (reverse l.reader.frames.items) (owned l.due made)) (token_of bs x.kind)) ≡ false) l.invariant.same fails in
     let m = none_since (step (mode_of bytes l.due made) (frames_of bytes (reverse l.reader.frames.items) (owned l.due made)) (token_of bytes x.kind)) here in
-    refused_state bytes (state_of bytes l.due l.reader.frames.items l.reader.nodes.items) (tokens_after bytes l.from) (behind bytes x.kind x.to) (token_of bytes x.kind) x.at l.invariant.reached (rw (l.invariant.same) at c.next-lexeme.ensures.first) m
+    refused_state bytes (state_of bytes l.due l.reader.frames.items l.reader.nodes.items) (tokens_after bytes l.from) (behind bytes x.kind x.to) (token_of bytes x.kind) x.at l.invariant.follows (rw (l.invariant.same) at c.next-lexeme.ensures.first) m
 
 pub returns-in-End-clause-reached : goal.returns-in-End-clause-reached
 returns-in-End-clause-reached c =
     let bytes = c.args.bytes.now in
     let l = c.loop-lexeme in
     let m = rw (l.invariant.same, c.in-End.is) at c.in-Ok.ensures.moves in
-    ended_state bytes (state_of bytes l.due l.reader.frames.items l.reader.nodes.items) (state_of bytes c.in-Ok.due c.step.new.self.frames.items c.step.new.self.nodes.items) (tokens_after bytes l.from) c.next-lexeme.result.at l.invariant.reached (rw (l.invariant.same, c.in-End.is) at c.next-lexeme.ensures.first) m.0
+    ended_state bytes (state_of bytes l.due l.reader.frames.items l.reader.nodes.items) (state_of bytes c.in-Ok.due c.step.new.self.frames.items c.step.new.self.nodes.items) (tokens_after bytes l.from) c.next-lexeme.result.at l.invariant.follows (rw (l.invariant.same, c.in-End.is) at c.next-lexeme.ensures.first) m.0
 
 pub loop-lexeme-preserved : goal.loop-lexeme-preserved
 loop-lexeme-preserved c =
     let bytes = c.args.bytes.now in
     let l = c.loop-lexeme in
-    let x = c.next-lexeme.result in
-    let m = rw (l.invariant.same) at c.in-Ok.ensures.moves in
-    let first = rw (l.invariant.same) at c.next-lexeme.ensures.first in
-    let cut : tokens_after bytes l.from ≡ (x.at, token_of bytes x.kind) ∷ tokens_after bytes x.to = first ∙ ap (λ (ps : List (ℕ × Token)). (x.at, token_of bytes x.kind) ∷ ps) (behind_is bytes x.kind x.to c.in_default.not-End) in
-    let far : l.from < x.to = takes_byte x.kind l.from x.to c.in_default.not-End c.next-lexeme.ensures.advances in
-    let few = c.in-Ok.ensures.few in
-    record {
-      within = rw (l.invariant.same) at c.next-lexeme.ensures.within;
-      same = c.step.ensures.same ∙ l.invariant.same;
-      state = m.1;
-      few = omega (arith, few, l.invariant.few);
-      reached = reached_next bytes (state_of bytes l.due l.reader.frames.items l.reader.nodes.items) (state_of bytes c.in-Ok.due c.step.new.self.frames.items c.step.new.self.nodes.items) (tokens_after bytes l.from) (tokens_after bytes x.to) (token_of bytes x.kind) x.at l.invariant.reached cut m.0;
-    }
+    reads_on bytes (Reached bytes) (reached_next bytes) l.from l.due c.in-Ok.due l.reader c.step.new.self c.next-lexeme.result l.invariant c.in_default.not-End
+    c.next-lexeme.ensures.within c.next-lexeme.ensures.advances c.next-lexeme.ensures.first c.in-Ok.ensures.moves c.step.ensures.same c.in-Ok.ensures.few

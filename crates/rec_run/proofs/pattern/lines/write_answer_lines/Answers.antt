@@ -5,7 +5,7 @@ use Rattle.rec_run.specs.TermRuns.{line_at}
 use Rattle.rec_run.specs.declared.pattern.answer.Answer.{Answer}
 use Rattle.rec_run.proofs.ErrorLemmas.{if_err_at}
 use Rattle.rec_run.proofs.PatternLineLemmas.{stops_first}
-use Rattle.rec_run.proofs.pattern.lines.write_lines.Goals as goal
+use Rattle.rec_run.proofs.pattern.lines.write_answer_lines.Goals as goal
 
 pub returns-in_err-write_line-in-Made-clause-err : goal.returns-in_err-write_line-in-Made-clause-err
 returns-in_err-write_line-in-Made-clause-err g c =

@@ -1,5 +1,5 @@
 -- From what was read of a term's text to what is due.
-use Rattle.std.proofs.Common.{◌≡◌, ◌≢◌, ℕ, suc, ◌+◌, ◌≤◌, List, [], ◌∷◌, ◌++◌, Option, Some, None, IfSome, IsSome, is_some, length, take, take_all, refl, sym, ap, subst, ◌∙◌, arith}
+use Rattle.std.proofs.Common.{◌≡◌, ◌≢◌, ℕ, suc, ◌+◌, ◌≤◌, List, [], ◌∷◌, ◌++◌, Option, Some, None, IfSome, IsSome, is_some, take, refl, sym, ap, subst, ◌∙◌, arith}
 use Rattle.std.specs.Prelude.{All}
 use Rattle.std.specs.Option.{option_map_or}
 use Rattle.std.proofs.lemmas.Bool.Decides.{nat_tests}
@@ -13,18 +13,13 @@ use Rattle.rx_text.proofs.VerdictLemmas.{one_verdict}
 use Rattle.rec_run.specs.Bytes.{newlines}
 use Rattle.rec_run.specs.Output.{Due, done}
 use Rattle.rec_run.specs.Refusals.{refusal_due, refused_text}
-use Rattle.rec_run.specs.TermRuns.{IsDueOf, IsGiven, IsReadingOf, IsTermHeld, cells_line, due_at, due_of, line_at, share_lines_at, term_line}
+use Rattle.rec_run.specs.TermRuns.{IsDueOf, IsGiven, IsReadingOf, IsTermHeld, cells_line, due_at, due_of, line_at, lines_at, share_lines, term_line}
 use Rattle.rec_run.specs.declared.ending.Source.TheVariants as source
 use Rattle.rec_run.specs.declared.refusal.Reading.{Reading}
 use Rattle.rec_run.specs.declared.refusal.Reading.TheVariants.{Refused, Good}
 use Rattle.rec_run.specs.declared.refusal.Refusal.{Refusal}
 use Rattle.rec_run.specs.declared.streams.TheConstants.{LIMIT}
-use Rattle.rec_run.proofs.LineEndLemmas.{newlines-append}
-use Rattle.rec_run.proofs.WholeRunLemmas.{same_refusal}
-
--- a front within the limit is the whole text
-short_front : (bytes : List ℕ) → length (take (LIMIT + 1) bytes) ≤ LIMIT → take (LIMIT + 1) bytes ≡ bytes
-short_front bytes h = take_all (LIMIT + 1) bytes (let e = length-take (LIMIT + 1) bytes in omega (arith, e, h))
+use Rattle.rec_run.proofs.WholeRunLemmas.{same_refusal, short_front}
 
 -- one byte past the limit is enough for the verdict
 verdict_front : (bytes : List ℕ) (v : Verdict) → IsVerdict (take (LIMIT + 1) bytes) v → IsVerdict bytes v
@@ -33,7 +28,7 @@ verdict_front bytes (Outside at) h = subst (λ text. IsVerdict text (Outside at)
 verdict_front bytes (Spelt t) h = subst (λ text. IsVerdict text (Spelt t)) (short_front bytes h.0) h
 
 -- the verdict on what was read is that on the text
-pub verdict_given : (told : Option (List ℕ)) (text : List ℕ) (v : Verdict) → IfSome told (λ bytes. text ≡ take (LIMIT + 1) bytes) → IsVerdict text v → IfSome told (λ bytes. IsVerdict bytes v)
+pub verdict_given : (known : Option (List ℕ)) (text : List ℕ) (v : Verdict) → IfSome known (λ bytes. text ≡ take (LIMIT + 1) bytes) → IsVerdict text v → IfSome known (λ bytes. IsVerdict bytes v)
 verdict_given None text v e h = tt
 verdict_given (Some bytes) text v e h = verdict_front bytes v (subst (λ t. IsVerdict t v) e h)
 
@@ -64,22 +59,19 @@ same_verdict bytes v w h k = let one = one_verdict bytes in one.2 v h ∙ sym (o
 pub one_due_of : (lines : Tree → List ℕ) (bytes : List ℕ) (d e : Due) → IsDueOf lines bytes d → IsDueOf lines bytes e → d ≡ e
 one_due_of lines bytes d e (v, h, is) (w, k, same) = is ∙ ap (due_of lines) (same_verdict bytes v w h k) ∙ sym same
 
--- a front of a text without line ends has none
-pub no_ends_front : (front rest : List ℕ) → newlines (front ++ rest) ≡ 0 → newlines front ≡ 0
-no_ends_front front rest h = let e = newlines-append front rest in omega (arith, e, h)
-
 -- a byte that is no line end adds none
 other_byte : (b : ℕ) (bs : List ℕ) → b ≢ 10 → newlines bs ≡ 0 → newlines (b ∷ bs) ≡ 0
 other_byte b bs h k = grind (arith, nat_tests, h, k)
 
-pub no_ends : (bs : List ℕ) → All (λ b. (b ≢ 10) × (b ≢ 9)) bs → newlines bs ≡ 0
-no_ends [] h = refl
-no_ends (b ∷ bs) h = other_byte b bs (h 0 0 (omega arith)).0 (no_ends bs (λ k d lt. h (suc k) d (omega arith)))
+-- a text that stays in its line has none
+pub in_line-newlines : (bs : List ℕ) → All (λ b. (b ≢ 10) × (b ≢ 9)) bs → newlines bs ≡ 0
+in_line-newlines [] h = refl
+in_line-newlines (b ∷ bs) h = other_byte b bs (h 0 0 (omega arith)).0 (in_line-newlines bs (λ k d lt. h (suc k) d (omega arith)))
 
 -- the lines of a term whose parts are counted
-pub share_lines-at : (w v : Store) (t : Term) (n : ℕ) → IsSome (tree_at w t) → tree_at v t ≡ tree_at w t → IfSome (tree_at w t) (λ u. n ≡ part_count u) → share_lines_at w t ≡ line_at v t ++ cells_line n
+pub share_lines-at : (w v : Store) (t : Term) (n : ℕ) → IsSome (tree_at w t) → tree_at v t ≡ tree_at w t → IfSome (tree_at w t) (λ u. n ≡ part_count u) → lines_at share_lines w t ≡ line_at v t ++ cells_line n
 share_lines-at w v t n held same counted = by (tree_at w t) refl held counted
   where
-    by : (o : Option Tree) → tree_at w t ≡ o → IsSome o → IfSome o (λ u. n ≡ part_count u) → share_lines_at w t ≡ line_at v t ++ cells_line n
+    by : (o : Option Tree) → tree_at w t ≡ o → IsSome o → IfSome o (λ u. n ≡ part_count u) → lines_at share_lines w t ≡ line_at v t ++ cells_line n
     by None e h c = absurd (cc h)
     by (Some u) e h c = rw (same, e) (ap (λ k. term_line u ++ cells_line k) (sym c))

@@ -1,8 +1,0 @@
-use Rattle.std.proofs.Common.{◌≡◌, false, take}
-use Rattle.std.specs.List.{list_any}
-use Rattle.rx_term.specs.Walks.{held_tree}
-use Rattle.rec_sorts.specs.TermRules.{is_no_application}
-use Rattle.rec_sorts.proofs.given.any_no_application.Given as goal
-
-abbrev pub invariant-loop-node : goal.invariant-loop-node
-invariant-loop-node g l = list_any (λ r. is_no_application (held_tree (g.B.TermBank.store l.bank) r)) (take l.node-index l.nodes) ≡ false
