@@ -2,22 +2,4 @@
 #![tactic(auto)]
 
 #[cfg(test)]
-mod counting;
-#[cfg(test)]
-mod engine;
-#[cfg(test)]
-mod given;
-#[cfg(test)]
-mod links;
-#[cfg(test)]
-mod matcher;
-#[cfg(test)]
-mod memo;
-#[cfg(test)]
-mod pattern;
-#[cfg(test)]
-mod syntax;
-#[cfg(test)]
-mod text;
-#[cfg(test)]
-mod verdicts;
+mod rows;

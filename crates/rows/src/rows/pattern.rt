@@ -1,10 +1,68 @@
+use crate::rows::texts::push_nested;
 use rx_pattern::{MakeFault, Pattern, PatternFault};
 use rx_plain::PlainBank;
 use rx_shared::SharedBank;
 use rx_term::{Term, TermBank};
 use rx_text::read;
-use std::alloc::Global;
+use std::alloc::{AllocError, Global};
 use std::process::Abort;
+use std::test::Fail;
+
+/// A pattern, a subject, and the terms that are bound in it.
+type Bound = (&'static str, &'static str, &'static [&'static str]);
+
+const IN_ORDER: [Bound; 7] = [
+    ("f(<int>,<list>)", "f(1,2,3)", &["1", "[2,3]"]),
+    ("f(<int>,<list>)", "f(1)", &["1", "[]"]),
+    ("[<list>]{x}", "[1,2]{x}", &["[1,2]"]),
+    ("a{<list>}", "a", &["[]"]),
+    ("[<list>,<list>]", "[[1]{x},2,3]", &["[1]{x}", "[2,3]"]),
+    ("f(g(<int>){<int>},<int>)", "f(g(1){2},3)", &["1", "2", "3"]),
+    ("<list>", "[1]{x}", &["[1]{x}"]),
+];
+
+const OF_KINDS: [Bound; 7] = [
+    ("<str>", "\"a\"{b}", &["\"a\"{b}"]),
+    ("<int()>", "7{a}", &["7{a}"]),
+    ("<int{}>", "7", &["7"]),
+    ("<appl>", "\"a\"(1)", &["\"a\"(1)"]),
+    ("<appl>", "a", &["a"]),
+    ("<placeholder>", "<a>", &["<a>"]),
+    ("<term>", "[<a>]{1}", &["[<a>]{1}"]),
+];
+
+/// Patterns with subjects that they do not match.
+const UNMATCHED: [(&str, &str); 8] = [
+    ("f(<int>,<list>)", "f(a)"),
+    ("f(<term>,<int>)", "f(1,a)"),
+    ("<str>", "a"),
+    ("<str>", "\"a\"(b)"),
+    ("<int>", "a"),
+    ("a", "a{b}"),
+    ("a", "\"a\""),
+    ("[<term>]", "[1,2]"),
+];
+
+/// Terms, and why they are no patterns.
+const REFUSED: [(&str, Option<PatternFault>); 8] = [
+    ("<foo>", Some(PatternFault::Unknown)),
+    ("<int>{a}", Some(PatternFault::Annotated)),
+    ("<int>{<foo>}", Some(PatternFault::Unknown)),
+    ("<int>{<int>}", Some(PatternFault::Annotated)),
+    ("<<foo>>", Some(PatternFault::Unknown)),
+    ("f([<\"int\">])", Some(PatternFault::Unknown)),
+    ("[<int>{a},<Int>]", Some(PatternFault::Unknown)),
+    ("<int()>", None),
+];
+
+/// A pattern, two terms, and the whole that they make.
+type Made = (&'static str, (&'static str, &'static str), &'static str);
+
+const MADE: [Made; 3] = [
+    ("f(<int>,<list>)", ("1", "[2,3]"), "f(1,2,3)"),
+    ("f(<int>,<list>)", ("1", "[]"), "f(1)"),
+    ("[<list>,7]{<term>}", ("[1]{x}", "a"), "[[1]{x},7]{a}"),
+];
 
 /// A bank of no terms.
 fn bank_of(rt: &impl Abort, alloc: Global, cap: u32) -> PlainBank {
@@ -60,11 +118,11 @@ fn are_spelt(
     alloc: Global,
     bank: &mut PlainBank,
     terms: &[Term],
-    texts: &[&[u8]],
+    texts: &[&str],
 ) -> bool {
     assert!(rt; terms.len() == texts.len());
     for (t, text) in terms.iter().zip(texts) {
-        if *t != term(rt, alloc, bank, text) {
+        if *t != term(rt, alloc, bank, text.as_bytes()) {
             return false;
         }
     }
@@ -87,7 +145,7 @@ fn answer_of(
 }
 
 /// Whether the pattern binds just these terms in the subject.
-fn binds(rt: &impl Abort, alloc: Global, text: &[u8], subject: &[u8], bindings: &[&[u8]]) -> bool {
+fn binds(rt: &impl Abort, alloc: Global, text: &[u8], subject: &[u8], bindings: &[&str]) -> bool {
     let mut bank = bank_of(rt, alloc, 1000);
     let mut out = Vec::new(alloc);
     assert!(rt; answer_of(rt, alloc, &mut bank, text, subject, &mut out) == Ok(true));
@@ -123,110 +181,38 @@ fn placeholders_everywhere(rt: HostRuntime) {
     assert_eq!(rt; placeholders(&rt, alloc, b"f(g(<int>){<int>},<list>)"), 3);
 }
 
+/// Asserts what the patterns of rows bind.
+fn assert_bound(rt: &impl Abort, alloc: Global, rows: &[Bound]) {
+    for (text, subject, bindings) in rows {
+        let is_bound = binds(rt, alloc, text.as_bytes(), subject.as_bytes(), bindings);
+        assert!(rt; is_bound, "{text} {subject}");
+    }
+}
+
 #[test]
 fn bindings_in_order(rt: HostRuntime) {
-    let alloc = rt.alloc();
-    assert!(rt;
-        binds(
-            &rt,
-            alloc,
-            b"f(<int>,<list>)",
-            b"f(1,2,3)",
-            &[b"1".as_slice(), b"[2,3]".as_slice()]
-        )
-    );
-    assert!(rt;
-        binds(
-            &rt,
-            alloc,
-            b"f(<int>,<list>)",
-            b"f(1)",
-            &[b"1".as_slice(), b"[]".as_slice()]
-        )
-    );
-    assert!(rt;
-        binds(
-            &rt,
-            alloc,
-            b"[<list>]{x}",
-            b"[1,2]{x}",
-            &[b"[1,2]".as_slice()]
-        )
-    );
-    assert!(rt; binds(&rt, alloc, b"a{<list>}", b"a", &[b"[]".as_slice()]));
-    assert!(rt;
-        binds(
-            &rt,
-            alloc,
-            b"[<list>,<list>]",
-            b"[[1]{x},2,3]",
-            &[b"[1]{x}".as_slice(), b"[2,3]".as_slice()]
-        )
-    );
-    assert!(rt;
-        binds(
-            &rt,
-            alloc,
-            b"f(g(<int>){<int>},<int>)",
-            b"f(g(1){2},3)",
-            &[b"1".as_slice(), b"2".as_slice(), b"3".as_slice()]
-        )
-    );
-    assert!(rt; binds(&rt, alloc, b"<list>", b"[1]{x}", &[b"[1]{x}".as_slice()]));
+    assert_bound(&rt, rt.alloc(), &IN_ORDER);
 }
 
 #[test]
 fn kinds_of_placeholders(rt: HostRuntime) {
-    let alloc = rt.alloc();
-    assert!(rt; binds(&rt, alloc, b"<str>", b"\"a\"{b}", &[b"\"a\"{b}".as_slice()]));
-    assert!(rt; binds(&rt, alloc, b"<int()>", b"7{a}", &[b"7{a}".as_slice()]));
-    assert!(rt; binds(&rt, alloc, b"<int{}>", b"7", &[b"7".as_slice()]));
-    assert!(rt;
-        binds(
-            &rt,
-            alloc,
-            b"<appl>",
-            b"\"a\"(1)",
-            &[b"\"a\"(1)".as_slice()]
-        )
-    );
-    assert!(rt; binds(&rt, alloc, b"<appl>", b"a", &[b"a".as_slice()]));
-    assert!(rt; binds(&rt, alloc, b"<placeholder>", b"<a>", &[b"<a>".as_slice()]));
-    assert!(rt;
-        binds(
-            &rt,
-            alloc,
-            b"<term>",
-            b"[<a>]{1}",
-            &[b"[<a>]{1}".as_slice()]
-        )
-    );
+    assert_bound(&rt, rt.alloc(), &OF_KINDS);
 }
 
 #[test]
 fn what_is_not_matched(rt: HostRuntime) {
-    let alloc = rt.alloc();
-    assert!(rt; fails(&rt, alloc, b"f(<int>,<list>)", b"f(a)"));
-    assert!(rt; fails(&rt, alloc, b"f(<term>,<int>)", b"f(1,a)"));
-    assert!(rt; fails(&rt, alloc, b"<str>", b"a"));
-    assert!(rt; fails(&rt, alloc, b"<str>", b"\"a\"(b)"));
-    assert!(rt; fails(&rt, alloc, b"<int>", b"a"));
-    assert!(rt; fails(&rt, alloc, b"a", b"a{b}"));
-    assert!(rt; fails(&rt, alloc, b"a", b"\"a\""));
-    assert!(rt; fails(&rt, alloc, b"[<term>]", b"[1,2]"));
+    for (text, subject) in UNMATCHED {
+        let has_failed = fails(&rt, rt.alloc(), text.as_bytes(), subject.as_bytes());
+        assert!(rt; has_failed, "{text} {subject}");
+    }
 }
 
 #[test]
 fn what_is_no_pattern(rt: HostRuntime) {
-    let alloc = rt.alloc();
-    assert!(rt; refusal(&rt, alloc, b"<foo>") == Some(PatternFault::Unknown));
-    assert!(rt; refusal(&rt, alloc, b"<int>{a}") == Some(PatternFault::Annotated));
-    assert!(rt; refusal(&rt, alloc, b"<int>{<foo>}") == Some(PatternFault::Unknown));
-    assert!(rt; refusal(&rt, alloc, b"<int>{<int>}") == Some(PatternFault::Annotated));
-    assert!(rt; refusal(&rt, alloc, b"<<foo>>") == Some(PatternFault::Unknown));
-    assert!(rt; refusal(&rt, alloc, b"f([<\"int\">])") == Some(PatternFault::Unknown));
-    assert!(rt; refusal(&rt, alloc, b"[<int>{a},<Int>]") == Some(PatternFault::Unknown));
-    assert!(rt; refusal(&rt, alloc, b"<int()>").is_none());
+    for (text, wanted) in REFUSED {
+        let found = refusal(&rt, rt.alloc(), text.as_bytes());
+        assert!(rt; found == wanted, "{text}");
+    }
 }
 
 /// What is made of one term.
@@ -259,17 +245,19 @@ fn of_two(
     p.make(bank, &[a, b])
 }
 
-/// Whether the two terms make the whole.
-fn two_make(
-    rt: &impl Abort,
-    alloc: Global,
-    bank: &mut PlainBank,
-    text: &[u8],
-    terms: (&[u8], &[u8]),
-    whole: &[u8],
-) -> bool {
-    let t = term(rt, alloc, bank, whole);
-    of_two(rt, alloc, bank, text, terms.0, terms.1) == Ok(t)
+/// Whether the two terms of a row make the whole.
+fn two_make(rt: &impl Abort, alloc: Global, bank: &mut PlainBank, row: Made) -> bool {
+    let (text, (first, second), whole) = row;
+    let t = term(rt, alloc, bank, whole.as_bytes());
+    let made = of_two(
+        rt,
+        alloc,
+        bank,
+        text.as_bytes(),
+        first.as_bytes(),
+        second.as_bytes(),
+    );
+    made == Ok(t)
 }
 
 /// Whether no terms are too few for the pattern.
@@ -287,27 +275,9 @@ fn terms_in_their_places(rt: HostRuntime) {
 }
 
 fn take_terms(rt: &impl Abort, alloc: Global, bank: &mut PlainBank) {
-    assert!(rt;
-        two_make(
-            rt,
-            alloc,
-            bank,
-            b"f(<int>,<list>)",
-            (b"1", b"[2,3]"),
-            b"f(1,2,3)"
-        )
-    );
-    assert!(rt; two_make(rt, alloc, bank, b"f(<int>,<list>)", (b"1", b"[]"), b"f(1)"));
-    assert!(rt;
-        two_make(
-            rt,
-            alloc,
-            bank,
-            b"[<list>,7]{<term>}",
-            (b"[1]{x}", b"a"),
-            b"[[1]{x},7]{a}"
-        )
-    );
+    for row in MADE {
+        assert!(rt; two_make(rt, alloc, bank, row), "{row:?}");
+    }
     let noted = term(rt, alloc, bank, b"a{1,2}");
     assert!(rt; of_one(rt, alloc, bank, b"a{<list>}", b"[1,2]") == Ok(noted));
 }
@@ -365,33 +335,25 @@ fn find_no_room(
     assert!(rt; made_of(rt, bank, single, nine) == Err(MakeFault::Full));
     keep(rt, bank, t);
     assert!(rt; answer(rt, bank, open, t, &mut out) == Ok(true));
-    assert!(rt; are_spelt(rt, alloc, bank, &out, &[b"[1,2]".as_slice()]));
+    assert!(rt; are_spelt(rt, alloc, bank, &out, &["[1,2]"]));
 }
 
-/// Adds a byte so many times.
-fn repeat(rt: &impl Abort, text: &mut Vec<u8>, byte: u8, count: u32) {
-    for _ in 0..count {
-        assert!(rt; text.push(byte).is_ok());
-    }
-}
-
-/// A list within a list, so many times, around a text.
-fn nested(rt: &impl Abort, alloc: Global, levels: u32, inner: &[u8]) -> Vec<u8> {
+/// A list within a list, 200,000 times, around a text.
+fn nested(alloc: Global, inner: &[u8]) -> Result<Vec<u8>, AllocError> {
     let mut text = Vec::new(alloc);
-    repeat(rt, &mut text, b'[', levels);
-    assert!(rt; text.extend_from_slice(inner).is_ok());
-    repeat(rt, &mut text, b']', levels);
-    text
+    push_nested(&mut text, 200_000, (b"[", b']'), inner)?;
+    Ok(text)
 }
 
 /// A bank that searches from the front would take minutes.
 #[test]
-fn deep_terms(rt: HostRuntime) {
+fn deep_terms(rt: HostRuntime) -> Result<(), Fail> {
     let alloc = rt.alloc();
-    let mut bank = SharedBank::new(alloc, 500_000).expect(&rt, "a bank");
-    let text = nested(&rt, alloc, 200_000, b"<int>");
-    let subject = nested(&rt, alloc, 200_000, b"1");
+    let mut bank = SharedBank::new(alloc, 500_000)?;
+    let text = nested(alloc, b"<int>")?;
+    let subject = nested(alloc, b"1")?;
     match_deep(&rt, alloc, &mut bank, &text, &subject);
+    Ok(())
 }
 
 /// The pattern that the text spells matches the subject, and not its own text.

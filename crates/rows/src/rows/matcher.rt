@@ -5,10 +5,10 @@ ghost use Rattle.rx_term.specs.Store.{tree_at};
 ghost use Rattle.rec_sorts.specs.Linked.{HasMoreSymbols};
 ghost use Rattle.rec_match.specs.Next.{AreReady};
 
-use crate::counting::Counting;
+use crate::rows::counting::Counting;
+use crate::rows::texts::checked;
 use rec_match::Matcher;
-use rec_sorts::{Checked, Links, check};
-use rec_syntax::read_spec;
+use rec_sorts::{Checked, Links};
 use rx_plain::PlainBank;
 use rx_term::{Term, TermBank};
 use rx_text::read;
@@ -18,13 +18,21 @@ use std::cell::Cell;
 use std::process::Abort;
 use std::test::Fail;
 
-const OVL: &[u8] =
-    b"REC-SPEC Ovl SORTS N CONS a : -> N b : -> N OPNS f : N N -> N VARS X Y : N RULES f(X,X) -> a f(a,Y) -> b f(X,b) -> a f(X,Y) -> b EVAL f(b,a) END-SPEC";
+const OVL: &[u8] = b"REC-SPEC Ovl SORTS N \
+    CONS a : -> N b : -> N \
+    OPNS f : N N -> N \
+    VARS X Y : N \
+    RULES f(X,X) -> a f(a,Y) -> b f(X,b) -> a f(X,Y) -> b \
+    EVAL f(b,a) END-SPEC";
 
 /// The symbol `g` has number 3. Its argument is a pair in each left side but the last, where it is
 /// a variable.
-const PAIRS: &[u8] =
-    b"REC-SPEC Pairs SORTS N CONS a : -> N b : -> N p : N N -> N OPNS g : N -> N VARS X Y : N RULES g(p(X,X)) -> a g(p(a,Y)) -> b g(p(X,b)) -> a g(p(Y,X)) -> b g(X) -> a EVAL g(b) END-SPEC";
+const PAIRS: &[u8] = b"REC-SPEC Pairs SORTS N \
+    CONS a : -> N b : -> N p : N N -> N \
+    OPNS g : N -> N \
+    VARS X Y : N \
+    RULES g(p(X,X)) -> a g(p(a,Y)) -> b g(p(X,b)) -> a g(p(Y,X)) -> b g(X) -> a \
+    EVAL g(b) END-SPEC";
 
 /// A term's text, the least rule that may be told, the rule that is, and which of its values are
 /// the term `a`.
@@ -103,11 +111,6 @@ struct Said {
 fn assert_said(rt: &impl Abort, said: &Said, rule: Option<u32>, are_a: &[bool]) {
     assert_eq!(rt; said.rule, rule);
     assert_eq!(rt; said.are_a.as_slice(), are_a);
-}
-
-/// The checked specification of a text.
-fn checked(alloc: Global, spec: &[u8]) -> Result<Checked, Fail> {
-    Ok(check(alloc, read_spec(alloc, spec)?)?)
 }
 
 /// The matcher of a checked specification, whose symbols the bank gets.
@@ -290,7 +293,10 @@ fn push_rules(alloc: Global, text: &mut String) -> Result<(), Fail> {
 fn wide(alloc: Global) -> Result<String, Fail> {
     let mut text = String::from_str(
         alloc,
-        "REC-SPEC Wide SORTS N CONS a : -> N b : -> N OPNS w : N N N N N N N N N N N N N N N N N N N N -> N VARS",
+        "REC-SPEC Wide SORTS N \
+            CONS a : -> N b : -> N \
+            OPNS w : N N N N N N N N N N N N N N N N N N N N -> N \
+            VARS",
     )?;
     push_rules(alloc, &mut text)?;
     Ok(text)

@@ -1,6 +1,8 @@
+use crate::rows::texts::push_nested;
 use rec_syntax::TokenKind::*;
 use rec_syntax::*;
 use std::alloc::{AllocError, Global};
+use std::process::Abort;
 use std::test::Fail;
 
 const ADDITION: &[u8; 192] = b"REC-SPEC Add
@@ -19,68 +21,43 @@ EVAL
   plus(s(s(z)),s(z))
 END-SPEC";
 
+const SORTS: TokenKind = Section(Part::Sorts);
+
+const CONS: TokenKind = Section(Part::Cons);
+
+const OPNS: TokenKind = Section(Part::Opns);
+
+const VARS: TokenKind = Section(Part::Vars);
+
+const RULES: TokenKind = Section(Part::Rules);
+
+const EVAL: TokenKind = Section(Part::Eval);
+
 /// What may stand behind the beginning of a text, in the sections before the rules.
 const DECLARED: [(&str, &[TokenKind]); 17] = [
     ("", &[RecSpec]),
     ("REC-SPEC", &[PlainWord]),
     (
         "REC-SPEC E",
-        &[
-            Section(Part::Sorts),
-            Section(Part::Cons),
-            Section(Part::Opns),
-            Section(Part::Vars),
-            Section(Part::Rules),
-            Section(Part::Eval),
-            EndSpec,
-        ],
+        &[SORTS, CONS, OPNS, VARS, RULES, EVAL, EndSpec],
     ),
     (
         "REC-SPEC E SORTS",
-        &[
-            PlainWord,
-            Section(Part::Cons),
-            Section(Part::Opns),
-            Section(Part::Vars),
-            Section(Part::Rules),
-            Section(Part::Eval),
-            EndSpec,
-        ],
+        &[PlainWord, CONS, OPNS, VARS, RULES, EVAL, EndSpec],
     ),
     (
         "REC-SPEC E SORTS Nat CONS",
-        &[
-            PlainWord,
-            Section(Part::Opns),
-            Section(Part::Vars),
-            Section(Part::Rules),
-            Section(Part::Eval),
-            EndSpec,
-        ],
+        &[PlainWord, OPNS, VARS, RULES, EVAL, EndSpec],
     ),
     (
         "REC-SPEC E OPNS f : -> Nat",
-        &[
-            PlainWord,
-            Section(Part::Vars),
-            Section(Part::Rules),
-            Section(Part::Eval),
-            EndSpec,
-        ],
+        &[PlainWord, VARS, RULES, EVAL, EndSpec],
     ),
     (
         "REC-SPEC E VARS X : Nat",
-        &[
-            PlainWord,
-            Section(Part::Rules),
-            Section(Part::Eval),
-            EndSpec,
-        ],
+        &[PlainWord, RULES, EVAL, EndSpec],
     ),
-    (
-        "REC-SPEC E RULES",
-        &[PlainWord, Section(Part::Eval), EndSpec],
-    ),
+    ("REC-SPEC E RULES", &[PlainWord, EVAL, EndSpec]),
     ("REC-SPEC E EVAL", &[PlainWord, EndSpec]),
     ("REC-SPEC E CONS s", &[Colon]),
     ("REC-SPEC E CONS s :", &[PlainWord, Arrow]),
@@ -109,18 +86,28 @@ const TERMS: [(&str, &[TokenKind]); 18] = [
     ("REC-SPEC E RULES f(X)", &[Arrow]),
     (
         "REC-SPEC E RULES f -> g(X)",
-        &[PlainWord, Section(Part::Eval), EndSpec, If],
+        &[PlainWord, EVAL, EndSpec, If],
     ),
     (
         "REC-SPEC E RULES f -> X",
-        &[PlainWord, Section(Part::Eval), EndSpec, If, Open],
+        &[PlainWord, EVAL, EndSpec, If, Open],
     ),
     ("REC-SPEC E RULES f -> X if g(X)", &[Equal, Unequal]),
     ("REC-SPEC E RULES f -> X if a", &[Open, Equal, Unequal]),
     (
         "REC-SPEC E RULES f -> X if a ->/<- g(X)",
-        &[PlainWord, Section(Part::Eval), EndSpec, AndIf],
+        &[PlainWord, EVAL, EndSpec, AndIf],
     ),
+];
+
+/// Texts outside the grammar, with their places.
+const PLACES: [(&str, u32); 6] = [
+    ("REC-SPEC E SORTS : END-SPEC", 17),
+    ("REC-SPEC E", 10),
+    ("REC-SPEC if END-SPEC", 9),
+    ("REC-SPEC E OPNS CONS END-SPEC", 16),
+    ("REC-SPEC E END-SPEC END-SPEC", 20),
+    ("REC-SPEC E EVAL f(a,) END-SPEC", 20),
 ];
 
 /// The place of a text that is outside the grammar.
@@ -134,13 +121,7 @@ fn place(answer: Result<Syntax, SyntaxFault>) -> Option<u32> {
 /// A specification with a word inside `depth` others, as a term to evaluate.
 fn nested(alloc: Global, depth: u32) -> Result<Vec<u8>, AllocError> {
     let mut text = Vec::from_slice(alloc, b"REC-SPEC E EVAL ")?;
-    for _ in 0..depth {
-        text.extend_from_slice(b"s(")?;
-    }
-    text.push(b'z')?;
-    for _ in 0..depth {
-        text.push(b')')?;
-    }
+    push_nested(&mut text, depth, (b"s(", b')'), b"z")?;
     text.extend_from_slice(b" END-SPEC")?;
     Ok(text)
 }
@@ -178,46 +159,34 @@ fn addition(rt: HostRuntime) -> Result<(), Fail> {
 
 #[test]
 fn places(rt: HostRuntime) {
-    assert_eq!(rt;
-        place(read_spec(rt.alloc(), b"REC-SPEC E SORTS : END-SPEC")),
-        Some(17)
-    );
-    assert_eq!(rt; place(read_spec(rt.alloc(), b"REC-SPEC E")), Some(10));
-    assert_eq!(rt;
-        place(read_spec(rt.alloc(), b"REC-SPEC if END-SPEC")),
-        Some(9)
-    );
-    assert_eq!(rt;
-        place(read_spec(rt.alloc(), b"REC-SPEC E OPNS CONS END-SPEC")),
-        Some(16)
-    );
-    assert_eq!(rt;
-        place(read_spec(rt.alloc(), b"REC-SPEC E END-SPEC END-SPEC")),
-        Some(20)
-    );
-    assert_eq!(rt;
-        place(read_spec(rt.alloc(), b"REC-SPEC E EVAL f(a,) END-SPEC")),
-        Some(20)
-    );
+    for (text, at) in PLACES {
+        let found = place(read_spec(rt.alloc(), text.as_bytes()));
+        assert_eq!(rt; found, Some(at), "{text}");
+    }
     assert_eq!(rt; place(read_spec(rt.alloc(), &ADDITION[..184])), Some(184));
+}
+
+/// Asserts what may stand behind the beginnings of texts.
+fn assert_expected(
+    rt: &impl Abort,
+    alloc: Global,
+    rows: &[(&str, &[TokenKind])],
+) -> Result<(), Fail> {
+    for (text, wanted) in rows {
+        let kinds = expected_at_fault(alloc, text.as_bytes())?;
+        assert_eq!(rt; kinds.as_slice(), *wanted, "{text}");
+    }
+    Ok(())
 }
 
 #[test]
 fn expected_in_declarations(rt: HostRuntime) -> Result<(), Fail> {
-    for (text, wanted) in DECLARED {
-        let kinds = expected_at_fault(rt.alloc(), text.as_bytes())?;
-        assert_eq!(rt; kinds.as_slice(), wanted);
-    }
-    Ok(())
+    assert_expected(&rt, rt.alloc(), &DECLARED)
 }
 
 #[test]
 fn expected_in_terms(rt: HostRuntime) -> Result<(), Fail> {
-    for (text, wanted) in TERMS {
-        let kinds = expected_at_fault(rt.alloc(), text.as_bytes())?;
-        assert_eq!(rt; kinds.as_slice(), wanted);
-    }
-    Ok(())
+    assert_expected(&rt, rt.alloc(), &TERMS)
 }
 
 #[test]

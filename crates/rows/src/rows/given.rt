@@ -1,9 +1,7 @@
 //! The rules of given terms, row by row, and their letters.
 
-use rec_sorts::{
-    Checked, Letter, Meaning, TermsFault, broken_element, check, check_terms, term_letters,
-};
-use rec_syntax::read_spec;
+use crate::rows::texts::{ADD, Q, checked, push_nested};
+use rec_sorts::{Checked, Letter, Meaning, TermsFault, broken_element, check_terms, term_letters};
 use rx_plain::PlainBank;
 use rx_term::TermBank;
 use rx_text::read;
@@ -11,19 +9,8 @@ use std::alloc::{AllocError, Global};
 use std::process::Abort;
 use std::test::Fail;
 
-const Q: &[u8] =
-    b"REC-SPEC Q SORTS A B CONS a : -> A b : -> B OPNS f : A -> A VARS X Y : A RULES f(X) -> X EVAL f(a) END-SPEC";
-
-const ADD: &[u8] =
-    b"REC-SPEC Add SORTS Nat CONS z : -> Nat s : Nat -> Nat OPNS plus : Nat Nat -> Nat VARS X Y : Nat RULES plus(z,Y) -> Y plus(s(X),Y) -> s(plus(X,Y)) EVAL plus(s(s(z)),s(z)) END-SPEC";
-
 /// A constant whose name is quoted in terms, and an operator with arguments of two sorts.
-const TWO: &[u8] =
-    b"REC-SPEC Two SORTS A B CONS 0 : -> A b : -> B OPNS g : A B -> A EVAL 0 END-SPEC";
-
-fn specification(alloc: Global, text: &[u8]) -> Result<Checked, Fail> {
-    Ok(check(alloc, read_spec(alloc, text)?)?)
-}
+const TWO: &str = "REC-SPEC Two SORTS A B CONS 0 : -> A b : -> B OPNS g : A B -> A EVAL 0 END-SPEC";
 
 /// The number of the rule that terms break, in this bank.
 fn broken_in<B: TermBank>(
@@ -47,8 +34,8 @@ fn broken_by(alloc: Global, checked: &Checked, terms: &[u8]) -> Result<Option<u8
 }
 
 /// The same of the terms beside the text of a specification.
-fn broken(alloc: Global, specified: &[u8], terms: &[u8]) -> Result<Option<u8>, Fail> {
-    let checked = specification(alloc, specified)?;
+fn broken(alloc: Global, specified: &str, terms: &[u8]) -> Result<Option<u8>, Fail> {
+    let checked = checked(alloc, specified.as_bytes())?;
     broken_by(alloc, &checked, terms)
 }
 
@@ -70,8 +57,8 @@ fn first_broken_by(alloc: Global, checked: &Checked, terms: &[u8]) -> Result<Opt
 }
 
 /// The same of the terms beside the text of a specification.
-fn first_broken(alloc: Global, specified: &[u8], terms: &[u8]) -> Result<Option<usize>, Fail> {
-    let checked = specification(alloc, specified)?;
+fn first_broken(alloc: Global, specified: &str, terms: &[u8]) -> Result<Option<usize>, Fail> {
+    let checked = checked(alloc, specified.as_bytes())?;
     first_broken_by(alloc, &checked, terms)
 }
 
@@ -94,8 +81,8 @@ fn letters_by(alloc: Global, checked: &Checked, terms: &[u8]) -> Result<Vec<Vec<
 }
 
 /// The same of the terms beside the text of a specification.
-fn letters(alloc: Global, specified: &[u8], terms: &[u8]) -> Result<Vec<Vec<Letter>>, Fail> {
-    let checked = specification(alloc, specified)?;
+fn letters(alloc: Global, specified: &str, terms: &[u8]) -> Result<Vec<Vec<Letter>>, Fail> {
+    let checked = checked(alloc, specified.as_bytes())?;
     letters_by(alloc, &checked, terms)
 }
 
@@ -108,24 +95,17 @@ fn symbol(number: u32, count: u32) -> Letter {
 
 /// A list of one term, `f` of `f` of and so on.
 fn nested(alloc: Global, depth: u32) -> Result<Vec<u8>, AllocError> {
-    let mut bytes = Vec::new(alloc);
-    bytes.push(b'[')?;
-    for _ in 0..depth {
-        bytes.extend_from_slice(b"f(")?;
-    }
-    bytes.push(b'a')?;
-    for _ in 0..depth {
-        bytes.push(b')')?;
-    }
-    bytes.push(b']')?;
-    Ok(bytes)
+    let mut text = Vec::from_slice(alloc, b"[")?;
+    push_nested(&mut text, depth, (b"f(", b')'), b"a")?;
+    text.push(b']')?;
+    Ok(text)
 }
 
 /// Whether terms break the rule that their row has.
 fn check_rows(
     rt: &impl Abort,
     alloc: Global,
-    rows: &[(&[u8], &[u8], Option<u8>)],
+    rows: &[(&str, &[u8], Option<u8>)],
 ) -> Result<(), Fail> {
     for (specified, terms, wanted) in rows {
         assert_eq!(rt; broken(alloc, specified, terms)?, *wanted);
@@ -137,7 +117,7 @@ fn check_rows(
 fn check_first(
     rt: &impl Abort,
     alloc: Global,
-    rows: &[(&[u8], &[u8], Option<usize>)],
+    rows: &[(&str, &[u8], Option<usize>)],
 ) -> Result<(), Fail> {
     for (specified, terms, wanted) in rows {
         assert_eq!(rt; first_broken(alloc, specified, terms)?, *wanted);

@@ -3,18 +3,15 @@
 ghost use Rattle.std.specs.Prelude.{◌≡◌, IfOk, length};
 ghost use Rattle.rec_sorts.specs.Lookup.{symbols};
 
-use rec_sorts::{Checked, Links, check};
-use rec_syntax::read_spec;
+use crate::rows::texts::{ADD, checked};
+use rec_sorts::{Checked, Links};
 use rx_plain::PlainBank;
 use rx_term::{Symbol, TermBank};
 use std::alloc::Global;
 use std::process::Abort;
 use std::test::Fail;
 
-const ADD: &[u8] =
-    b"REC-SPEC Add SORTS Nat CONS z : -> Nat s : Nat -> Nat OPNS plus : Nat Nat -> Nat VARS X Y : Nat RULES plus(z,Y) -> Y plus(s(X),Y) -> s(plus(X,Y)) EVAL plus(s(s(z)),s(z)) END-SPEC";
-
-const PRIMED: &[u8] = b"REC-SPEC P SORTS A CONS x' : -> A EVAL x' END-SPEC";
+const PRIMED: &str = "REC-SPEC P SORTS A CONS x' : -> A EVAL x' END-SPEC";
 
 /// A specification, and its symbols in a bank.
 #[derive(Drop)]
@@ -24,10 +21,10 @@ struct Linked {
 }
 
 /// The specification of a text, whose symbols the bank gets.
-fn link<B: TermBank>(alloc: Global, text: &[u8], bank: &mut B) -> Result<Linked, Fail>
+fn link<B: TermBank>(alloc: Global, text: &str, bank: &mut B) -> Result<Linked, Fail>
     ensures { IfOk result (λ l. length l.links ≡ length (symbols l.checked.spec)) }
 {
-    let checked = check(alloc, read_spec(alloc, text)?)?;
+    let checked = checked(alloc, text.as_bytes())?;
     let links = Links::make(alloc, &checked, bank)?;
     Ok(Linked { checked, links })
 }

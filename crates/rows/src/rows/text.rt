@@ -1,3 +1,4 @@
+use crate::rows::texts::push_nested;
 use rx_plain::PlainBank;
 use rx_shared::SharedBank;
 use rx_term::TermBank;
@@ -38,6 +39,38 @@ const BEHIND: [(&str, &[TokenKind]); 11] = [
     ("<a{}", &[Greater]),
 ];
 
+/// Texts outside the grammar, with their places.
+const PLACES: [(&str, u32); 14] = [
+    ("", 0),
+    ("2147483648", 0),
+    ("-2147483649", 0),
+    ("1.5", 1),
+    ("\"\\8\"", 0),
+    ("f(a", 3),
+    ("a{b}{c}", 4),
+    ("[1,2147483648]", 3),
+    ("f(a,)", 4),
+    ("a b", 2),
+    ("1a", 1),
+    ("a'", 1),
+    ("--1", 0),
+    ("<a,b>", 2),
+];
+
+/// A text of a term, and what the term is printed as.
+const PRINTED: [(&str, &str); 10] = [
+    ("f ( a , [ 1 , -007 ] ) { b }", "f(a,[1,-7]){b}"),
+    ("f()", "f"),
+    ("()", "()"),
+    ("a{}", "a"),
+    ("2147483647", "2147483647"),
+    ("-2147483648", "-2147483648"),
+    ("-0", "0"),
+    ("\"a\\012\\\"\\377\"", "\"a\\n\\\"\\377\""),
+    ("\"\u{e9}\"", "\"\\303\\251\""),
+    ("<7>{7}", "<7>{7}"),
+];
+
 /// The offset of the token at which the text leaves the grammar.
 fn place(rt: &impl Abort, alloc: Global, text: &[u8]) -> Option<u32> {
     let mut bank = PlainBank::new(alloc, 10).expect(rt, "a bank");
@@ -59,39 +92,33 @@ fn prints(rt: &impl Abort, alloc: Global, text: &[u8], printed: &[u8]) -> bool {
 
 #[test]
 fn places(rt: HostRuntime) {
-    let alloc = rt.alloc();
-    assert_eq!(rt; place(&rt, alloc, b""), Some(0));
-    assert_eq!(rt; place(&rt, alloc, b"2147483648"), Some(0));
-    assert_eq!(rt; place(&rt, alloc, b"-2147483649"), Some(0));
-    assert_eq!(rt; place(&rt, alloc, b"1.5"), Some(1));
-    assert_eq!(rt; place(&rt, alloc, b"\"\\8\""), Some(0));
-    assert_eq!(rt; place(&rt, alloc, b"f(a"), Some(3));
-    assert_eq!(rt; place(&rt, alloc, b"a{b}{c}"), Some(4));
-    assert_eq!(rt; place(&rt, alloc, b"[1,2147483648]"), Some(3));
-    assert_eq!(rt; place(&rt, alloc, b"f(a,)"), Some(4));
-    assert_eq!(rt; place(&rt, alloc, b"a b"), Some(2));
-    assert_eq!(rt; place(&rt, alloc, b"1a"), Some(1));
-    assert_eq!(rt; place(&rt, alloc, b"a'"), Some(1));
-    assert_eq!(rt; place(&rt, alloc, b"--1"), Some(0));
-    assert_eq!(rt; place(&rt, alloc, b"<a,b>"), Some(2));
+    for (text, at) in PLACES {
+        let found = place(&rt, rt.alloc(), text.as_bytes());
+        assert_eq!(rt; found, Some(at), "{text}");
+    }
+}
+
+/// Asserts what may stand where the texts leave the grammar.
+fn assert_expected(
+    rt: &impl Abort,
+    alloc: Global,
+    rows: &[(&str, &[TokenKind])],
+) -> Result<(), Fail> {
+    for (text, wanted) in rows {
+        let kinds = expected_at_fault(alloc, text.as_bytes())?;
+        assert_eq!(rt; kinds.as_slice(), *wanted, "{text}");
+    }
+    Ok(())
 }
 
 #[test]
 fn expected_where_a_term_is_due(rt: HostRuntime) -> Result<(), Fail> {
-    for (text, wanted) in BEGINS {
-        let kinds = expected_at_fault(rt.alloc(), text.as_bytes())?;
-        assert_eq!(rt; kinds.as_slice(), wanted);
-    }
-    Ok(())
+    assert_expected(&rt, rt.alloc(), &BEGINS)
 }
 
 #[test]
 fn expected_behind_a_term(rt: HostRuntime) -> Result<(), Fail> {
-    for (text, wanted) in BEHIND {
-        let kinds = expected_at_fault(rt.alloc(), text.as_bytes())?;
-        assert_eq!(rt; kinds.as_slice(), wanted);
-    }
-    Ok(())
+    assert_expected(&rt, rt.alloc(), &BEHIND)
 }
 
 #[test]
@@ -103,36 +130,17 @@ fn nothing_is_expected_of_a_term(rt: HostRuntime) -> Result<(), Fail> {
 
 #[test]
 fn printed_texts(rt: HostRuntime) {
-    let alloc = rt.alloc();
-    assert!(rt;
-        prints(
-            &rt,
-            alloc,
-            b"f ( a , [ 1 , -007 ] ) { b }",
-            b"f(a,[1,-7]){b}"
-        )
-    );
-    assert!(rt; prints(&rt, alloc, b"f()", b"f"));
-    assert!(rt; prints(&rt, alloc, b"()", b"()"));
-    assert!(rt; prints(&rt, alloc, b"a{}", b"a"));
-    assert!(rt; prints(&rt, alloc, b"2147483647", b"2147483647"));
-    assert!(rt; prints(&rt, alloc, b"-2147483648", b"-2147483648"));
-    assert!(rt; prints(&rt, alloc, b"-0", b"0"));
-    assert!(rt; prints(&rt, alloc, b"\"a\\012\\\"\\377\"", b"\"a\\n\\\"\\377\""));
-    assert!(rt; prints(&rt, alloc, b"\"\xc3\xa9\"", b"\"\\303\\251\""));
-    assert!(rt; prints(&rt, alloc, b"<7>{7}", b"<7>{7}"));
+    for (text, printed) in PRINTED {
+        let is_printed = prints(&rt, rt.alloc(), text.as_bytes(), printed.as_bytes());
+        assert!(rt; is_printed, "{text}");
+    }
 }
 
 /// So many opening brackets, and as many closing ones.
 fn nested(alloc: Global, depth: u32) -> Result<Vec<u8>, AllocError> {
-    let mut bytes = Vec::new(alloc);
-    for _ in 0..depth {
-        bytes.push(b'[')?;
-    }
-    for _ in 0..depth {
-        bytes.push(b']')?;
-    }
-    Ok(bytes)
+    let mut text = Vec::new(alloc);
+    push_nested(&mut text, depth, (b"[", b']'), b"")?;
+    Ok(text)
 }
 
 /// The brackets are read before a bank without room for their lists is asked.

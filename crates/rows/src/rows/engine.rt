@@ -12,28 +12,58 @@ use std::process::Abort;
 
 /// The first term is of eight parts: itself, `[s(s(z)),s(z)]`, `s(s(z))`, `[s(z)]`, `s(z)`, `[z]`,
 /// `z` and `[]`.
-const ADD: &[u8] =
-    b"REC-SPEC Add SORTS N CONS z : -> N s : N -> N OPNS add : N N -> N VARS X Y : N RULES add(z,Y) -> Y add(s(X),Y) -> s(add(X,Y)) EVAL add(s(s(z)),s(z)) s(z) END-SPEC";
+const ADD: &[u8] = b"REC-SPEC Add SORTS N \
+    CONS z : -> N s : N -> N \
+    OPNS add : N N -> N \
+    VARS X Y : N \
+    RULES add(z,Y) -> Y add(s(X),Y) -> s(add(X,Y)) \
+    EVAL add(s(s(z)),s(z)) s(z) END-SPEC";
 
 /// The condition of the first rule fails for `z`, after one step; that of the second holds for it.
-const COND: &[u8] =
-    b"REC-SPEC Cond SORTS N CONS z : -> N s : N -> N OPNS f : N -> N g : N -> N VARS X : N RULES f(X) -> X if g(X) -><- X f(X) -> s(g(X)) if g(X) ->/<- X g(z) -> s(z) g(s(X)) -> s(X) EVAL f(z) f(s(z)) END-SPEC";
+const COND: &[u8] = b"REC-SPEC Cond SORTS N \
+    CONS z : -> N s : N -> N \
+    OPNS f : N -> N g : N -> N \
+    VARS X : N \
+    RULES f(X) -> X if g(X) -><- X f(X) -> s(g(X)) if g(X) ->/<- X \
+        g(z) -> s(z) g(s(X)) -> s(X) \
+    EVAL f(z) f(s(z)) END-SPEC";
 
 /// Each term is an application of `h` to a constant of its own, which no rule changes.
-const TWENTY: &[u8] =
-    b"REC-SPEC Twenty SORTS N CONS c1 : -> N c2 : -> N c3 : -> N c4 : -> N c5 : -> N c6 : -> N c7 : -> N c8 : -> N c9 : -> N c10 : -> N c11 : -> N c12 : -> N c13 : -> N c14 : -> N c15 : -> N c16 : -> N c17 : -> N c18 : -> N c19 : -> N c20 : -> N OPNS h : N -> N EVAL h(c1) h(c2) h(c3) h(c4) h(c5) h(c6) h(c7) h(c8) h(c9) h(c10) h(c11) h(c12) h(c13) h(c14) h(c15) h(c16) h(c17) h(c18) h(c19) h(c20) END-SPEC";
+const TWENTY: &[u8] = b"REC-SPEC Twenty SORTS N \
+    CONS c1 : -> N c2 : -> N c3 : -> N c4 : -> N c5 : -> N \
+        c6 : -> N c7 : -> N c8 : -> N c9 : -> N c10 : -> N \
+        c11 : -> N c12 : -> N c13 : -> N c14 : -> N c15 : -> N \
+        c16 : -> N c17 : -> N c18 : -> N c19 : -> N c20 : -> N \
+    OPNS h : N -> N \
+    EVAL h(c1) h(c2) h(c3) h(c4) h(c5) h(c6) h(c7) h(c8) h(c9) h(c10) \
+        h(c11) h(c12) h(c13) h(c14) h(c15) h(c16) h(c17) h(c18) h(c19) h(c20) END-SPEC";
 
 /// `k(s(s(z)))` is called twice, in three steps each.
-const HIT: &[u8] =
-    b"REC-SPEC Hit SORTS Nat Pair CONS z : -> Nat s : Nat -> Nat p : Nat Nat -> Pair OPNS k : Nat -> Nat d : Nat -> Pair VARS X : Nat RULES k(z) -> z k(s(X)) -> k(X) d(X) -> p(k(X),k(X)) EVAL d(s(s(z))) END-SPEC";
+const HIT: &[u8] = b"REC-SPEC Hit SORTS Nat Pair \
+    CONS z : -> Nat s : Nat -> Nat p : Nat Nat -> Pair \
+    OPNS k : Nat -> Nat d : Nat -> Pair \
+    VARS X : Nat \
+    RULES k(z) -> z k(s(X)) -> k(X) d(X) -> p(k(X),k(X)) \
+    EVAL d(s(s(z))) END-SPEC";
 
 /// It comes to `z` in 3 * 2^50 - 2 steps.
-const FAST: &[u8] =
-    b"REC-SPEC Fast SORTS Nat CONS z : -> Nat s : Nat -> Nat OPNS k : Nat -> Nat q : Nat Nat -> Nat VARS X Y : Nat RULES k(z) -> z k(s(X)) -> q(k(X),k(X)) q(X,Y) -> X EVAL k(s(s(s(s(s(s(s(s(s(s(s(s(s(s(s(s(s(s(s(s(s(s(s(s(s(s(s(s(s(s(s(s(s(s(s(s(s(s(s(s(s(s(s(s(s(s(s(s(s(s(z))))))))))))))))))))))))))))))))))))))))))))))))))) END-SPEC";
+const FAST: &[u8] = b"REC-SPEC Fast SORTS Nat \
+    CONS z : -> Nat s : Nat -> Nat \
+    OPNS k : Nat -> Nat q : Nat Nat -> Nat \
+    VARS X Y : Nat \
+    RULES k(z) -> z k(s(X)) -> q(k(X),k(X)) q(X,Y) -> X \
+    EVAL k(\
+        s(s(s(s(s(s(s(s(s(s(s(s(s(s(s(s(s(s(s(s(s(s(s(s(s(\
+        s(s(s(s(s(s(s(s(s(s(s(s(s(s(s(s(s(s(s(s(s(s(s(s(s(\
+        z))))))))))))))))))))))))))))))))))))))))))))))))))) END-SPEC";
 
 /// The condition of `h` holds, and each right side has a ground term of four symbols, or of two.
-const GROUND: &[u8] =
-    b"REC-SPEC Ground SORTS N CONS z : -> N s : N -> N g : N N -> N OPNS f : N -> N h : N -> N VARS X : N RULES f(X) -> g(g(z,s(z)),X) h(X) -> s(z) if X -><- g(z,s(z)) EVAL f(f(h(g(z,s(z))))) END-SPEC";
+const GROUND: &[u8] = b"REC-SPEC Ground SORTS N \
+    CONS z : -> N s : N -> N g : N N -> N \
+    OPNS f : N -> N h : N -> N \
+    VARS X : N \
+    RULES f(X) -> g(g(z,s(z)),X) h(X) -> s(z) if X -><- g(z,s(z)) \
+    EVAL f(f(h(g(z,s(z))))) END-SPEC";
 
 /// What the first term of the addition comes to.
 const SUM: &[u8] = b"s(s(s(z)))";

@@ -1,0 +1,13 @@
+//! Calls on worked texts, layer by layer.
+
+mod counting;
+mod engine;
+mod given;
+mod links;
+mod matcher;
+mod memo;
+mod pattern;
+mod syntax;
+mod text;
+mod texts;
+mod verdicts;
