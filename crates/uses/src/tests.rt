@@ -16,8 +16,12 @@ use std::alloc::Global;
 use std::process::Abort;
 
 /// Its sum takes two steps by the second rule and one by the first.
-const ADDITION: &[u8] =
-    b"REC-SPEC Addition SORTS Nat CONS z : -> Nat s : Nat -> Nat OPNS plus : Nat Nat -> Nat VARS X Y : Nat RULES plus(z,Y) -> Y plus(s(X),Y) -> s(plus(X,Y)) EVAL plus(s(s(z)),s(z)) END-SPEC";
+const ADDITION: &[u8] = b"REC-SPEC Addition SORTS Nat \
+    CONS z : -> Nat s : Nat -> Nat \
+    OPNS plus : Nat Nat -> Nat \
+    VARS X Y : Nat \
+    RULES plus(z,Y) -> Y plus(s(X),Y) -> s(plus(X,Y)) \
+    EVAL plus(s(s(z)),s(z)) END-SPEC";
 
 const X: &[u8] = b"x";
 
