@@ -44,10 +44,8 @@ fn try_row(rt: &HostRuntime) -> Result<()> {
         "plain" => try_plain(alloc, call.as_str(), &mut out),
         "shared" => try_shared(alloc, call.as_str(), &mut out),
         "store" => try_store(alloc, call.as_str(), &mut out),
-        "text" => try_text(alloc, call.as_str(), &mut out),
-        "specification" => try_specification(alloc, call.as_str(), &mut out),
         "engine" => try_engine(alloc, call.as_str(), &mut out),
-        _ => bail!("no such kind"),
+        kind => try_shared_bank(alloc, kind, call.as_str(), &mut out),
     }
 }
 
@@ -65,14 +63,17 @@ fn try_shared<W: Write>(alloc: Global, call: &str, out: &mut W) -> Result<()> {
     match call {
         "new" => banks::try_new_shared(alloc, out),
         "thousand" => banks::try_thousand(alloc, out),
-        _ => try_shared_bank(alloc, call, out),
+        _ => try_shared_bank(alloc, "shared", call, out),
     }
 }
 
-/// A call of a shared bank that is there.
-fn try_shared_bank<W: Write>(alloc: Global, call: &str, out: &mut W) -> Result<()> {
+/// A call of a shared bank that is there, or one of another kind over it.
+fn try_shared_bank<W: Write>(alloc: Global, kind: &str, call: &str, out: &mut W) -> Result<()> {
     let mut bank = SharedBank::new(alloc, CELLS)?;
-    try_bank(alloc, call, &mut bank, out)
+    match kind {
+        "shared" => try_bank(alloc, call, &mut bank, out),
+        _ => try_over(alloc, kind, call, &mut bank, out),
+    }
 }
 
 /// A call of any bank.
@@ -111,49 +112,26 @@ fn try_store<W: Write>(alloc: Global, call: &str, out: &mut W) -> Result<()> {
     }
 }
 
-/// A call on texts of annotated terms and on patterns, over a shared bank.
-fn try_text<W: Write>(alloc: Global, call: &str, out: &mut W) -> Result<()> {
-    let mut bank = SharedBank::new(alloc, CELLS)?;
-    try_text_over(alloc, call, &mut bank, out)
-}
-
-/// The same over any bank.
-fn try_text_over<B: TermBank, W: Write>(
+/// A call on texts of annotated terms, on patterns or on specifications, over any bank.
+fn try_over<B: TermBank, W: Write>(
     alloc: Global,
+    kind: &str,
     call: &str,
     bank: &mut B,
     out: &mut W,
 ) -> Result<()> {
-    match call {
-        "read" => texts::try_read(alloc, bank, out),
-        "write" => texts::try_write(alloc, bank, out),
-        "pattern" => patterns::try_of(alloc, bank, out),
-        "matches" => patterns::try_matches(alloc, bank, out),
-        "make" => patterns::try_make(alloc, bank, out),
-        _ => bail!("no such call"),
-    }
-}
-
-/// A call on specifications, over a shared bank.
-fn try_specification<W: Write>(alloc: Global, call: &str, out: &mut W) -> Result<()> {
-    let mut bank = SharedBank::new(alloc, CELLS)?;
-    try_specification_over(alloc, call, &mut bank, out)
-}
-
-/// The same over any bank.
-fn try_specification_over<B: TermBank, W: Write>(
-    alloc: Global,
-    call: &str,
-    bank: &mut B,
-    out: &mut W,
-) -> Result<()> {
-    match call {
-        "read" => specifications::try_read(alloc, out),
-        "check" => specifications::try_check(alloc, out),
-        "terms" => specifications::try_check_terms(alloc, bank, out),
-        "links" => specifications::try_links(alloc, bank, out),
-        "build" => specifications::try_build(alloc, bank, out),
-        "next" => specifications::try_next(alloc, bank, out),
+    match (kind, call) {
+        ("text", "read") => texts::try_read(alloc, bank, out),
+        ("text", "write") => texts::try_write(alloc, bank, out),
+        ("text", "pattern") => patterns::try_of(alloc, bank, out),
+        ("text", "matches") => patterns::try_matches(alloc, bank, out),
+        ("text", "make") => patterns::try_make(alloc, bank, out),
+        ("specification", "read") => specifications::try_read(alloc, out),
+        ("specification", "check") => specifications::try_check(alloc, out),
+        ("specification", "terms") => specifications::try_check_terms(alloc, bank, out),
+        ("specification", "links") => specifications::try_links(alloc, bank, out),
+        ("specification", "build") => specifications::try_build(alloc, bank, out),
+        ("specification", "next") => specifications::try_next(alloc, bank, out),
         _ => bail!("no such call"),
     }
 }

@@ -97,29 +97,17 @@ fn match_once<B: TermBank, W: Write>(
 /// A term is made.
 pub fn try_make<B: TermBank, W: Write>(alloc: Global, bank: &mut B, out: &mut W) -> Result<()> {
     let pattern = pattern(alloc, bank, PATTERN)?;
-    make_read(alloc, bank, &pattern, out)
+    make_twice(alloc, bank, &pattern, out)
 }
 
-/// Reads what it is made with, and makes it twice; memory may be refused the first time.
-fn make_read<B: TermBank, W: Write>(
+/// Makes it twice of what is read; memory may be refused the first time.
+fn make_twice<B: TermBank, W: Write>(
     alloc: Global,
     bank: &mut B,
     pattern: &Pattern,
     out: &mut W,
 ) -> Result<()> {
-    let first = read(alloc, GIVEN[0], bank)?;
-    let second = read(alloc, GIVEN[1], bank)?;
-    begin_make(alloc, bank, pattern, [first, second], out)
-}
-
-/// The same, where the given trees are there.
-fn begin_make<B: TermBank, W: Write>(
-    alloc: Global,
-    bank: &mut B,
-    pattern: &Pattern,
-    given: [Term; 2],
-    out: &mut W,
-) -> Result<()> {
+    let given = [read(alloc, GIVEN[0], bank)?, read(alloc, GIVEN[1], bank)?];
     if !bank.holds(given[0]) || !bank.holds(given[1]) {
         bail!("what was read is not held");
     }
