@@ -3,18 +3,19 @@
 use crate::rows::streams::{
     Blanks, Sink, Slow, assert_held, bytewise, failing, failing_at, padded, taking,
 };
-use crate::rows::{ADD, LIMIT, Ran, assert_ran, options};
-use rec_run::{Finish, Named, Place, RunFault, RunOptions, Source, refused_term, run, run_at};
+use crate::rows::{ADD, LIMIT, Q, Ran, assert_ran, options, run_on};
+use rec_run::{Finish, Named, Place, RunFault, RunOptions, Source, refused_term, run};
 use std::alloc::{AllocError, Global};
 use std::io::{ErrorKind, Read, Write};
 use std::process::Abort;
 
-const Q: &str =
-    "REC-SPEC Q SORTS A B CONS a : -> A b : -> B OPNS f : A -> A VARS X Y : A RULES f(X) -> X EVAL f(a) END-SPEC";
-
 /// The rules of addition without a term.
-const SUMS: &str =
-    "REC-SPEC Add SORTS Nat CONS z : -> Nat s : Nat -> Nat OPNS plus : Nat Nat -> Nat VARS X Y : Nat RULES plus(z,Y) -> Y plus(s(X),Y) -> s(plus(X,Y)) EVAL END-SPEC";
+const SUMS: &str = "REC-SPEC Add SORTS Nat \
+    CONS z : -> Nat s : Nat -> Nat \
+    OPNS plus : Nat Nat -> Nat \
+    VARS X Y : Nat \
+    RULES plus(z,Y) -> Y plus(s(X),Y) -> s(plus(X,Y)) \
+    EVAL END-SPEC";
 
 /// A specification whose one sort has no name.
 const SPOILT: &str = "REC-SPEC E SORTS : END-SPEC";
@@ -72,28 +73,15 @@ static TOLD: [Told; 8] = [
     (SPOILT, "[3]", None),
 ];
 
-fn run_on(alloc: Global, mut spec: &[u8], mut terms: &[u8], options: RunOptions) -> Ran {
-    let mut place = None;
-    let mut written = Vec::new(alloc);
-    let result = run_at(
-        alloc,
-        &mut spec,
-        Some(&mut terms),
-        &mut written,
-        options,
-        &mut place,
-    );
-    Ran {
-        result,
-        place,
-        written,
-    }
+/// What a run on a specification and the text of terms came to.
+fn run_beside(alloc: Global, spec: &[u8], mut terms: &[u8], options: RunOptions) -> Ran {
+    run_on(alloc, spec, Some(&mut terms), options)
 }
 
 /// Asserts what a row's terms come to.
 fn assert_value(rt: &impl Abort, alloc: Global, row: Value) {
     let (spec, terms, steps, count, lines) = row;
-    let ran = run_on(
+    let ran = run_beside(
         alloc,
         spec.as_bytes(),
         terms.as_bytes(),
@@ -112,7 +100,7 @@ fn values(rt: HostRuntime) {
 /// Asserts that a row's terms are refused, and at which place.
 fn assert_refused(rt: &impl Abort, alloc: Global, row: Refused, place: Option<Place>) {
     let (spec, terms, line) = row;
-    let ran = run_on(alloc, spec.as_bytes(), terms.as_bytes(), options(3, false));
+    let ran = run_beside(alloc, spec.as_bytes(), terms.as_bytes(), options(3, false));
     assert_ran(rt, &ran, Finish::Refused, place, line, terms);
 }
 
@@ -129,29 +117,15 @@ fn refusals(rt: HostRuntime) {
     assert_refused(&rt, rt.alloc(), (Q, "[f(a", "!terms A\n"), Some(outside));
 }
 
-/// What a run on a specification and terms that may not be read came to.
-fn run_with(alloc: Global, mut spec: &[u8], terms: &mut Slow<'_>) -> Ran {
-    let mut place = None;
-    let mut written = Vec::new(alloc);
-    let result = run_at(
-        alloc,
-        &mut spec,
-        Some(terms),
-        &mut written,
-        options(1, false),
-        &mut place,
-    );
-    Ran {
-        result,
-        place,
-        written,
-    }
-}
-
 #[test]
 fn terms_of_a_refused_specification_are_not_read(rt: HostRuntime) {
     let mut terms = bytewise("[a]");
-    let ran = run_with(rt.alloc(), SPOILT.as_bytes(), &mut terms);
+    let ran = run_on(
+        rt.alloc(),
+        SPOILT.as_bytes(),
+        Some(&mut terms),
+        options(1, false),
+    );
     let due = Place {
         text: Source::Spec,
         rule: Named::G,
@@ -184,14 +158,14 @@ const GIVEN_LINES: &[u8] = b"a\na{b,[3]}\na{f(a)}\n";
 fn one_byte_a_call(rt: HostRuntime) {
     let mut out = taking(rt.alloc());
     let result = slowly(rt.alloc(), &mut bytewise(GIVEN), &mut out);
-    assert_held(&rt, result, Ok(Finish::Done), &out, GIVEN_LINES, 0);
+    assert_held(&rt, result, Ok(Finish::Done), &out, GIVEN_LINES, &0);
 }
 
 /// Asserts that nothing is written where a read of the terms fails.
 fn assert_unread(rt: &impl Abort, alloc: Global, k: usize) {
     let mut out = taking(alloc);
     let result = slowly(alloc, &mut failing(GIVEN, k, ErrorKind::Other), &mut out);
-    assert_held(rt, result, Err(RunFault::Read), &out, &[], k);
+    assert_held(rt, result, Err(RunFault::Read), &out, &[], &k);
 }
 
 #[test]
@@ -206,7 +180,7 @@ fn assert_unwritten(rt: &impl Abort, alloc: Global, held: &[u8]) {
     let k = held.len().wrapping_add(1);
     let mut out = failing_at(alloc, k, Some(ErrorKind::Other));
     let result = slowly(alloc, &mut bytewise(GIVEN), &mut out);
-    assert_held(rt, result, Err(RunFault::Write), &out, held, k);
+    assert_held(rt, result, Err(RunFault::Write), &out, held, &k);
 }
 
 #[test]
@@ -219,7 +193,7 @@ fn writes_fail(rt: HostRuntime) {
 /// Asserts what terms with blanks up to the most bytes come to.
 fn assert_padded(rt: &impl Abort, alloc: Global) -> Result<(), AllocError> {
     let terms = padded(alloc, "[a]".as_bytes(), LIMIT)?;
-    let ran = run_on(alloc, Q.as_bytes(), &terms, options(1, false));
+    let ran = run_beside(alloc, Q.as_bytes(), &terms, options(1, false));
     assert_ran(rt, &ran, Finish::Done, None, "a\na\n", "");
     Ok(())
 }
@@ -231,7 +205,7 @@ fn limit_of_bytes(rt: HostRuntime) -> Result<(), AllocError> {
     assert_padded(&rt, rt.alloc())?;
     let mut out = taking(rt.alloc());
     let result = beside(rt.alloc(), &mut Q.as_bytes(), &mut Blanks, &mut out);
-    assert_held(&rt, result, Ok(Finish::Refused), &out, LONG_TERMS, 0);
+    assert_held(&rt, result, Ok(Finish::Refused), &out, LONG_TERMS, &0);
     Ok(())
 }
 

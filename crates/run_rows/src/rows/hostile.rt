@@ -1,14 +1,13 @@
 //! Each run over readers and writers that give or take one byte a call, where one call fails.
 
-use crate::rows::streams::{Sink, Slow, bytewise, failing, failing_at, taking, unflushed};
-use crate::rows::{ADD, options};
+use crate::rows::streams::{
+    Sink, Slow, assert_held, bytewise, failing, failing_at, taking, unflushed,
+};
+use crate::rows::{ADD, Q, options};
 use rec_run::{Finish, RunFault, run, run_aterm, run_make, run_match, run_share};
 use std::alloc::Global;
 use std::io::ErrorKind;
 use std::process::Abort;
-
-const Q: &str =
-    "REC-SPEC Q SORTS A B CONS a : -> A b : -> B OPNS f : A -> A VARS X Y : A RULES f(X) -> X EVAL f(a) END-SPEC";
 
 /// Errors of readers and writers, the one after which another call might succeed among them.
 const KINDS: [ErrorKind; 3] = [
@@ -149,24 +148,11 @@ fn perform_into(alloc: Global, row: Row, out: &mut Sink) -> Result<Finish, RunFa
     )
 }
 
-/// Asserts how a row's run ended, and what its writer holds.
-fn assert_held(
-    rt: &impl Abort,
-    ended: Result<Finish, RunFault>,
-    due: Result<Finish, RunFault>,
-    out: &Sink,
-    held: &[u8],
-    row: Row,
-) {
-    assert_eq!(rt; ended, due, "{row:?}");
-    assert_eq!(rt; out.held.as_slice(), held, "{row:?}");
-}
-
 /// Asserts that a row's run ends as it says, and writes its lines.
 fn assert_row(rt: &impl Abort, alloc: Global, row: Row) {
     let mut out = taking(alloc);
     let result = perform_into(alloc, row, &mut out);
-    assert_held(rt, result, Ok(row.finish), &out, row.lines.as_bytes(), row);
+    assert_held(rt, result, Ok(row.finish), &out, row.lines.as_bytes(), &row);
 }
 
 #[test]
@@ -187,7 +173,7 @@ fn assert_unread(
 ) {
     let mut out = taking(alloc);
     let result = perform(alloc, row.job, first, second, &[], &mut out);
-    assert_held(rt, result, Err(RunFault::Read), &out, &[], row);
+    assert_held(rt, result, Err(RunFault::Read), &out, &[], &row);
 }
 
 /// Where a read of the first text fails.
@@ -235,7 +221,7 @@ fn fails_writing(rt: &impl Abort, alloc: Global, row: Row, held: &[u8], error: O
     let k = held.len().wrapping_add(1);
     let mut out = failing_at(alloc, k, error);
     let result = perform_into(alloc, row, &mut out);
-    assert_held(rt, result, Err(RunFault::Write), &out, held, row);
+    assert_held(rt, result, Err(RunFault::Write), &out, held, &row);
     assert!(rt; out.writes == k, "{row:?}: write {k}");
 }
 
@@ -267,7 +253,7 @@ fn fails_flushing(rt: &impl Abort, alloc: Global, row: Row, kind: ErrorKind) {
         Err(RunFault::Write),
         &out,
         row.lines.as_bytes(),
-        row,
+        &row,
     );
 }
 

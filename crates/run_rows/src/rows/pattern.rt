@@ -3,7 +3,7 @@
 use crate::rows::streams::{
     Blanks, Sink, Slow, assert_held, bytewise, failing, failing_at, padded, taking, unflushed,
 };
-use crate::rows::{Ran, assert_ran};
+use crate::rows::{PAST, Ran, assert_ran};
 use rec_run::{
     Finish, Misfit, Named, Place, RunFault, Source, refused_argument, run_make, run_make_at,
     run_match, run_match_at,
@@ -233,9 +233,6 @@ fn unread_inputs(rt: HostRuntime) {
     assert_reads(&rt, rt.alloc(), "a", Finish::Done, 2);
 }
 
-/// One byte more than a text may have.
-const PAST: usize = 16_777_217;
-
 const LONG_PATTERN: &[u8] = b"!pattern L1\n";
 
 const LONG_TERM: &[u8] = b"!term L1\n";
@@ -247,21 +244,21 @@ fn assert_long_match(rt: &impl Abort, alloc: Global, long: &[u8]) {
     let mut input = "a".as_bytes();
     let mut out = taking(alloc);
     let result = run_match(alloc, long, &mut input, &mut out);
-    assert_held(rt, result, Ok(Finish::Refused), &out, LONG_PATTERN, 0);
+    assert_held(rt, result, Ok(Finish::Refused), &out, LONG_PATTERN, &0);
 }
 
 /// Asserts that a match with blanks without end is refused.
 fn assert_endless(rt: &impl Abort, alloc: Global) {
     let mut out = taking(alloc);
     let result = matching(alloc, "a", &mut Blanks, &mut out);
-    assert_held(rt, result, Ok(Finish::Refused), &out, LONG_TERM, 0);
+    assert_held(rt, result, Ok(Finish::Refused), &out, LONG_TERM, &0);
 }
 
 /// Asserts that making from a long text is refused, by which line.
 fn assert_long_make(rt: &impl Abort, alloc: Global, pattern: &[u8], args: &[u8], line: &[u8]) {
     let mut out = taking(alloc);
     let result = making(alloc, pattern, args, &mut out);
-    assert_held(rt, result, Ok(Finish::Refused), &out, line, 0);
+    assert_held(rt, result, Ok(Finish::Refused), &out, line, &0);
 }
 
 #[test]
@@ -279,7 +276,7 @@ fn assert_unread(rt: &impl Abort, alloc: Global, k: usize) {
     let mut out = taking(alloc);
     let mut text = failing("f(1,2,3)", k, ErrorKind::Other);
     let result = matching(alloc, "f(<list>)", &mut text, &mut out);
-    assert_held(rt, result, Err(RunFault::Read), &out, &[], k);
+    assert_held(rt, result, Err(RunFault::Read), &out, &[], &k);
 }
 
 /// Asserts that the bytes before the write that fails are written, and no more.
@@ -288,7 +285,7 @@ fn assert_unwritten(rt: &impl Abort, alloc: Global, held: &[u8]) {
     let mut out = failing_at(alloc, k, Some(ErrorKind::Other));
     let mut text = bytewise("f(1,2,3)");
     let result = matching(alloc, "f(<int>,<list>)", &mut text, &mut out);
-    assert_held(rt, result, Err(RunFault::Write), &out, held, k);
+    assert_held(rt, result, Err(RunFault::Write), &out, held, &k);
 }
 
 const LINES: &[u8] = b"yes\n1\n[2,3]\n";
@@ -305,7 +302,7 @@ fn streams_that_fail(rt: HostRuntime) {
     }
     let mut out = unflushed(rt.alloc(), ErrorKind::Other);
     let result = making(rt.alloc(), "<int>".as_bytes(), "[1]".as_bytes(), &mut out);
-    assert_held(&rt, result, Err(RunFault::Write), &out, MADE, 0);
+    assert_held(&rt, result, Err(RunFault::Write), &out, MADE, &0);
 }
 
 /// Which argument is told, of which no fact is handed on.

@@ -3,29 +3,14 @@
 use crate::rows::streams::{
     Blanks, Sink, assert_held, bytewise, failing, failing_at, padded, taking, unflushed,
 };
-use crate::rows::{ADD, LIMIT, Ran, assert_ran, options};
-use rec_run::{Finish, Named, Place, RunFault, RunOptions, Source, run, run_at};
+use crate::rows::{ADD, LIMIT, PAST, Ran, addition, assert_ran, options, run_on};
+use rec_run::{Finish, Named, Place, RunFault, RunOptions, Source, run};
 use std::alloc::{AllocError, Global};
 use std::io::{ErrorKind, Read, Write};
 use std::process::Abort;
 use std::test::Fail;
 
-const SUCCESSOR: &str = "REC-SPEC Add
-SORTS Nat
-CONS
-  z : -> Nat
-  s : Nat -> Nat
-OPNS
-  plus : Nat Nat -> Nat
-VARS
-  X Y : Nat
-RULES
-  plus(z,Y) -> Y
-  plus(s(X),Y) -> s(plus(X,Y))
-EVAL
-  s(z)
-END-SPEC
-";
+const SUCCESSOR: &str = addition!("s(z)");
 
 const DUP: &str = "REC-SPEC Dup SORTS Nat Pair
 CONS z : -> Nat  p : Nat Nat -> Pair
@@ -98,11 +83,19 @@ EVAL h(z)
 END-SPEC
 ";
 
-const HIT: &str =
-    "REC-SPEC Hit SORTS Nat Pair CONS z : -> Nat s : Nat -> Nat p : Nat Nat -> Pair OPNS k : Nat -> Nat d : Nat -> Pair VARS X : Nat RULES k(z) -> z k(s(X)) -> k(X) d(X) -> p(k(X),k(X)) EVAL d(s(s(z))) END-SPEC";
+const HIT: &str = "REC-SPEC Hit SORTS Nat Pair \
+    CONS z : -> Nat s : Nat -> Nat p : Nat Nat -> Pair \
+    OPNS k : Nat -> Nat d : Nat -> Pair \
+    VARS X : Nat \
+    RULES k(z) -> z k(s(X)) -> k(X) d(X) -> p(k(X),k(X)) \
+    EVAL d(s(s(z))) END-SPEC";
 
-const IDLE: &str =
-    "REC-SPEC Idle SORTS Nat Pair CONS z : -> Nat s : Nat -> Nat p : Nat Nat -> Pair OPNS h : Nat -> Nat f : Nat -> Nat d : Nat -> Pair VARS X : Nat RULES h(X) -> z if X -><- s(z) f(X) -> z d(X) -> p(f(X),f(X)) EVAL f(h(z)) d(h(z)) END-SPEC";
+const IDLE: &str = "REC-SPEC Idle SORTS Nat Pair \
+    CONS z : -> Nat s : Nat -> Nat p : Nat Nat -> Pair \
+    OPNS h : Nat -> Nat f : Nat -> Nat d : Nat -> Pair \
+    VARS X : Nat \
+    RULES h(X) -> z if X -><- s(z) f(X) -> z d(X) -> p(f(X),f(X)) \
+    EVAL f(h(z)) d(h(z)) END-SPEC";
 
 const TITLE: &str = "REC-SPEC E END-SPEC";
 
@@ -189,7 +182,8 @@ static REFUSED_TEXTS: [RefusedText; 6] = [
         21,
     ),
     (
-        "REC-SPEC V SORTS Nat CONS z : -> Nat OPNS f : Nat -> Nat VARS X Y : Nat RULES f(X) -> Y EVAL k END-SPEC",
+        "REC-SPEC V SORTS Nat CONS z : -> Nat OPNS f : Nat -> Nat VARS X Y : Nat \
+            RULES f(X) -> Y EVAL k END-SPEC",
         "!spec S5\n",
         Named::S(5),
         93,
@@ -260,22 +254,9 @@ fn two_hundred_cells() -> RunOptions {
     few
 }
 
-fn run_on(alloc: Global, mut text: &[u8], options: RunOptions) -> Ran {
-    let mut place = None;
-    let mut written = Vec::new(alloc);
-    let result = run_at(
-        alloc,
-        &mut text,
-        None::<&mut &[u8]>,
-        &mut written,
-        options,
-        &mut place,
-    );
-    Ran {
-        result,
-        place,
-        written,
-    }
+/// What a run on a specification alone came to.
+fn run_alone(alloc: Global, text: &[u8], options: RunOptions) -> Ran {
+    run_on(alloc, text, None::<&mut &[u8]>, options)
 }
 
 /// Asserts that a specification is good, and which lines a run on it writes.
@@ -287,7 +268,7 @@ fn assert_lines(
     lines: &str,
     about: &str,
 ) {
-    let ran = run_on(alloc, text.as_bytes(), options);
+    let ran = run_alone(alloc, text.as_bytes(), options);
     assert_ran(rt, &ran, Finish::Done, None, lines, about);
 }
 
@@ -315,7 +296,7 @@ fn assert_few(rt: &impl Abort, ran: &Ran, cells: u32) {
 
 /// Asserts what the sum comes to over a bank of so many cells.
 fn assert_sum(rt: &impl Abort, alloc: Global, cells: u32) {
-    let ran = run_on(alloc, ADD.as_bytes(), narrow(3, cells));
+    let ran = run_alone(alloc, ADD.as_bytes(), narrow(3, cells));
     if cells < 10 {
         assert_eq!(rt; ran.result, Err(RunFault::Room { lines: 0 }), "{cells}");
     }
@@ -393,7 +374,11 @@ fn push_often(text: &mut String, part: &str, times: u32) -> Result<(), AllocErro
 fn nested(alloc: Global) -> Result<String, AllocError> {
     let mut text = String::from_str(
         alloc,
-        "REC-SPEC K SORTS N CONS z : -> N s : N -> N q : N -> N OPNS t : N -> N e : N -> N VARS X : N RULES t(X) -> e(q(X)) e(q(X)) -> X EVAL ",
+        "REC-SPEC K SORTS N \
+            CONS z : -> N s : N -> N q : N -> N \
+            OPNS t : N -> N e : N -> N \
+            VARS X : N \
+            RULES t(X) -> e(q(X)) e(q(X)) -> X EVAL ",
     )?;
     push_often(&mut text, "t(s(", 30)?;
     text.push_str("z")?;
@@ -429,7 +414,7 @@ fn cells_of_a_nested_term(rt: HostRuntime) -> Result<(), AllocError> {
 
 /// Asserts that a specification is refused, by which line and at which place.
 fn assert_refused(rt: &impl Abort, alloc: Global, text: &str, line: &str, rule: Named, at: u32) {
-    let ran = run_on(alloc, text.as_bytes(), options(0, false));
+    let ran = run_alone(alloc, text.as_bytes(), options(0, false));
     let due = Place {
         text: Source::Spec,
         rule,
@@ -493,7 +478,7 @@ const TWO_LINES: &[u8] = b"z\ns(z)\n";
 fn one_byte_a_call(rt: HostRuntime) {
     let mut out = taking(rt.alloc());
     let result = alone(rt.alloc(), &mut bytewise(NEQ), &mut out, 2);
-    assert_held(&rt, result, Ok(Finish::Done), &out, TWO_LINES, 0);
+    assert_held(&rt, result, Ok(Finish::Done), &out, TWO_LINES, &0);
 }
 
 /// Asserts that the run ends at the read that fails, and that nothing is written.
@@ -501,7 +486,7 @@ fn assert_unread(rt: &impl Abort, alloc: Global, kind: ErrorKind, k: usize) {
     let mut spec = failing(NEQ, k, kind);
     let mut out = taking(alloc);
     let result = alone(alloc, &mut spec, &mut out, 2);
-    assert_held(rt, result, Err(RunFault::Read), &out, &[], k);
+    assert_held(rt, result, Err(RunFault::Read), &out, &[], &k);
     assert!(rt; spec.reads == k, "read {k}");
 }
 
@@ -523,7 +508,7 @@ fn assert_unwritten(rt: &impl Abort, alloc: Global, error: Option<ErrorKind>, he
     let k = held.len().wrapping_add(1);
     let mut out = failing_at(alloc, k, error);
     let result = alone(alloc, &mut bytewise(NEQ), &mut out, 2);
-    assert_held(rt, result, Err(RunFault::Write), &out, held, k);
+    assert_held(rt, result, Err(RunFault::Write), &out, held, &k);
     assert!(rt; out.writes == k, "write {k}");
 }
 
@@ -536,11 +521,8 @@ fn writes_fail(rt: HostRuntime) {
     }
     let mut out = unflushed(rt.alloc(), ErrorKind::Other);
     let result = alone(rt.alloc(), &mut bytewise(NEQ), &mut out, 2);
-    assert_held(&rt, result, Err(RunFault::Write), &out, TWO_LINES, 0);
+    assert_held(&rt, result, Err(RunFault::Write), &out, TWO_LINES, &0);
 }
-
-/// One byte more than a text may have.
-const PAST: usize = LIMIT + 1;
 
 /// The line of a specification that is too long.
 const LONG_SPEC: &str = "!spec L1\n";
@@ -554,7 +536,7 @@ fn assert_padded(
     lines: &str,
 ) -> Result<(), AllocError> {
     let text = padded(alloc, TITLE.as_bytes(), length)?;
-    let ran = run_on(alloc, &text, options(0, false));
+    let ran = run_alone(alloc, &text, options(0, false));
     assert_ran(rt, &ran, finish, None, lines, "");
     Ok(())
 }
@@ -585,7 +567,7 @@ fn limit_of_bytes(rt: HostRuntime) -> Result<(), AllocError> {
         Ok(Finish::Refused),
         &out,
         LONG_SPEC.as_bytes(),
-        0,
+        &0,
     );
     Ok(())
 }
@@ -613,7 +595,12 @@ fn balanced(alloc: Global, levels: u32) -> Result<String, AllocError> {
 fn wide(alloc: Global, tree: &str) -> Result<String, AllocError> {
     let mut text = String::from_str(
         alloc,
-        "REC-SPEC Wide SORTS N CONS z : -> N p : N N -> N OPNS f : N -> N VARS X : N RULES f(X) -> X EVAL f(",
+        "REC-SPEC Wide SORTS N \
+            CONS z : -> N p : N N -> N \
+            OPNS f : N -> N \
+            VARS X : N \
+            RULES f(X) -> X \
+            EVAL f(",
     )?;
     text.push_str(tree)?;
     text.push_str(") END-SPEC")?;

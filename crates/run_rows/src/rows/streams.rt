@@ -2,6 +2,7 @@
 
 use rec_run::{Finish, RunFault};
 use std::alloc::{AllocError, Global};
+use std::fmt::Debug;
 use std::io;
 use std::io::{ErrorKind, Read, Write};
 use std::process::Abort;
@@ -104,17 +105,17 @@ impl Write for Sink {
     }
 }
 
-/// Asserts how a run ended, and what its writer holds.
+/// Asserts how a run ended, and what its writer holds, and tells which run it was.
 pub(crate) fn assert_held(
     rt: &impl Abort,
     ended: Result<Finish, RunFault>,
     due: Result<Finish, RunFault>,
     out: &Sink,
     held: &[u8],
-    about: usize,
+    about: &impl Debug,
 ) {
-    assert_eq!(rt; ended, due, "call {about}");
-    assert_eq!(rt; out.held.as_slice(), held, "call {about}");
+    assert_eq!(rt; ended, due, "{about:?}");
+    assert_eq!(rt; out.held.as_slice(), held, "{about:?}");
 }
 
 /// A text with blanks up to a length.

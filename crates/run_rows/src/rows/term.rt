@@ -182,7 +182,7 @@ fn counting<R: Read, W: Write>(
 fn assert_endless(rt: &impl Abort, alloc: Global) {
     let mut out = taking(alloc);
     let result = printing(alloc, &mut Blanks, &mut out);
-    assert_held(rt, result, Ok(Finish::Refused), &out, LONG_TERM, 0);
+    assert_held(rt, result, Ok(Finish::Refused), &out, LONG_TERM, &0);
 }
 
 #[test]
@@ -190,7 +190,7 @@ fn blanks_without_end(rt: HostRuntime) {
     assert_endless(&rt, rt.alloc());
     let mut out = taking(rt.alloc());
     let result = counting(rt.alloc(), &mut Blanks, &mut out);
-    assert_held(&rt, result, Ok(Finish::Refused), &out, LONG_TERM, 0);
+    assert_held(&rt, result, Ok(Finish::Refused), &out, LONG_TERM, &0);
 }
 
 const TEXT: &str = "a{b}";
@@ -201,13 +201,13 @@ const LINES: &[u8] = b"a{b}\ncells 4\n";
 fn assert_unread(rt: &impl Abort, alloc: Global, k: usize) {
     let mut out = taking(alloc);
     let result = counting(alloc, &mut failing(TEXT, k, ErrorKind::Other), &mut out);
-    assert_held(rt, result, Err(RunFault::Read), &out, &[], k);
+    assert_held(rt, result, Err(RunFault::Read), &out, &[], &k);
 }
 
 /// Asserts that the writer is told to have failed, and holds these lines.
 fn assert_unwritten(rt: &impl Abort, alloc: Global, out: &mut Sink, held: &[u8]) {
     let result = counting(alloc, &mut bytewise(TEXT), out);
-    assert_held(rt, result, Err(RunFault::Write), out, held, held.len());
+    assert_held(rt, result, Err(RunFault::Write), out, held, &held.len());
 }
 
 /// Asserts that the bytes before the write that fails are written, and no more.
