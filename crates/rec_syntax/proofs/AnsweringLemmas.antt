@@ -8,8 +8,8 @@ use Rattle.rec_syntax.specs.Machine as machine
 use Rattle.rec_syntax.specs.Machine.{Config, step, stopped, outcome}
 use Rattle.rec_syntax.specs.Lexemes.{tokens_from, token_of, behind}
 use Rattle.rec_syntax.specs.Reader.{config_of, IsState, Steps}
-use Rattle.rec_syntax.specs.declared.lexer.Kind.{Kind}
-use Rattle.rec_syntax.specs.declared.lexer.Kind.TheVariants.{End}
+use Rattle.rec_syntax.specs.declared.lexer.LexemeKind.{LexemeKind}
+use Rattle.rec_syntax.specs.declared.lexer.LexemeKind.TheVariants.{End}
 use Rattle.rec_syntax.specs.declared.lexer.Lexeme.{Lexeme}
 use Rattle.rec_syntax.specs.declared.reader.Due.{Due}
 use Rattle.rec_syntax.specs.declared.reader.Reader.{Reader}
@@ -46,7 +46,7 @@ spelled bytes c after ps at h cut e =
     read_spells bytes after.read (sym h ∙ first_step c ps [] token.End at (Some after) cut e ∙ ap (λ (d : machine.Due). stopped d after.read) over)
 
 -- behind a token that is not the end, more follows
-pub behind_is : (bytes : List ℕ) (k : Kind) (to : ℕ) → (k ≡ End → ⊥) → behind bytes k to ≡ tokens_from bytes to
+pub behind_is : (bytes : List ℕ) (k : LexemeKind) (to : ℕ) → (k ≡ End → ⊥) → behind bytes k to ≡ tokens_from bytes to
 behind_is bytes End to h = absurd (h refl)
 behind_is bytes k to h = refl
 

@@ -13,8 +13,8 @@ use Rattle.rec_syntax.specs.Lexemes.{word_of, token_of}
 use Rattle.rec_syntax.specs.Parts.{term_of, condition_of, rule_of, spec_of, Within, IsTerm, IsCondition, IsRule, AreSections}
 use Rattle.rec_syntax.specs.Reader.{role_of, made_of, frames_of, rest, config_of, advance, IsRole, IsState, Moves}
 use Rattle.rec_syntax.specs.declared.lexer.Span.{Span}
-use Rattle.rec_syntax.specs.declared.lexer.Kind.{Kind}
-use Rattle.rec_syntax.specs.declared.lexer.Kind.TheVariants.{Open, AndIf}
+use Rattle.rec_syntax.specs.declared.lexer.LexemeKind.{LexemeKind}
+use Rattle.rec_syntax.specs.declared.lexer.LexemeKind.TheVariants.{Open, AndIf}
 use Rattle.rec_syntax.specs.declared.parts.Node.{Node}
 use Rattle.rec_syntax.specs.declared.parts.Term.{Term}
 use Rattle.rec_syntax.specs.declared.parts.Condition.{Condition}
@@ -80,11 +80,11 @@ begun bytes s r p role calls nodes sections h k = (
 )
 
 -- a word that is not called is a term
-called_is_term : (bytes : List ℕ) (p : machine.Role) (w : Word) (fs : List Frame) (y : syntax.Spec) (k : Kind) → (k ≡ Open → ⊥) → machine.step (machine.Called p w fs) y (token_of bytes k) ≡ machine.after p (Apply w none) fs y (token_of bytes k)
+called_is_term : (bytes : List ℕ) (p : machine.Role) (w : Word) (fs : List Frame) (y : syntax.Spec) (k : LexemeKind) → (k ≡ Open → ⊥) → machine.step (machine.Called p w fs) y (token_of bytes k) ≡ machine.after p (Apply w none) fs y (token_of bytes k)
 called_is_term bytes p w fs y Open h = absurd (h refl)
 called_is_term bytes p w fs y k h = refl
 
-pub called_moves : (bytes : List ℕ) (p : machine.Role) (y : syntax.Spec) (w : Span) (k : Kind) (calls : List Call) (ns after : List Node) (result : Result Due Stop) (r : Reader) → (k ≡ Open → ⊥)
+pub called_moves : (bytes : List ℕ) (p : machine.Role) (y : syntax.Spec) (w : Span) (k : LexemeKind) (calls : List Call) (ns after : List Node) (result : Result Due Stop) (r : Reader) → (k ≡ Open → ⊥)
     → made_of bytes after ≡ Apply (word_of bytes w) none ∷ made_of bytes ns
     → Moves bytes (machine.after p (newest_term (made_of bytes after)) (frames_of bytes (reverse calls) (rest (made_of bytes after))) y (token_of bytes k)) result r
     → Moves bytes (machine.step (machine.Called p (word_of bytes w) (frames_of bytes (reverse calls) (made_of bytes ns))) y (token_of bytes k)) result r
@@ -98,12 +98,12 @@ pub conditions_are : (bytes : List ℕ) (cs : List Condition) (c : Condition) (a
 conditions_are bytes cs c after e = rw e (map-append (condition_of bytes) cs (c ∷ []))
 
 -- a rule ends with its last condition
-rule_ends : (bytes : List ℕ) (l r : syntax.Term) (cs : List syntax.Condition) (x : syntax.Term) (e : Bool) (t : syntax.Term) (y : syntax.Spec) (k : Kind) → (k ≡ AndIf → ⊥)
+rule_ends : (bytes : List ℕ) (l r : syntax.Term) (cs : List syntax.Condition) (x : syntax.Term) (e : Bool) (t : syntax.Term) (y : syntax.Spec) (k : LexemeKind) → (k ≡ AndIf → ⊥)
     → complete (machine.CondRight l r cs x e) t y (token_of bytes k) ≡ between (In Rules) (with_rule y (record { left = l; right = r; conditions = cs ++ record { left = x; right = t; equal = e } ∷ [] })) (token_of bytes k)
 rule_ends bytes l r cs x e t y AndIf h = absurd (h refl)
 rule_ends bytes l r cs x e t y k h = refl
 
-pub condition_ends : (bytes : List ℕ) (s : Sections) (rules : Vec Rule Global) (rule : Rule) (v : SmallVec Condition) (c : Condition) (k : Kind) (result : Result Due Stop) (r : Reader) → (k ≡ AndIf → ⊥) → v.items ≡ rule.conditions.items ++ c ∷ [] → rules.items ≡ s.rules.items ++ record rule { conditions = v } ∷ []
+pub condition_ends : (bytes : List ℕ) (s : Sections) (rules : Vec Rule Global) (rule : Rule) (v : SmallVec Condition) (c : Condition) (k : LexemeKind) (result : Result Due Stop) (r : Reader) → (k ≡ AndIf → ⊥) → v.items ≡ rule.conditions.items ++ c ∷ [] → rules.items ≡ s.rules.items ++ record rule { conditions = v } ∷ []
     → Moves bytes (between (In Rules) (spec_of bytes (record s { rules = rules })) (token_of bytes k)) result r
     → Moves bytes (complete (role_of bytes (ConditionRight rule c.left c.equal)) (term_of bytes c.right) (spec_of bytes s) (token_of bytes k)) result r
 condition_ends bytes s rules rule v c k result r h e f m =
@@ -119,5 +119,5 @@ condition_ends bytes s rules rule v c k result r h e f m =
     subst (λ o. Moves bytes o result r) same m
 
 -- a step on a text is one on an equal text
-pub moved : (bytes text : List ℕ) (d : Due) (r after : Reader) (k : Kind) (result : Result Due Stop) → bytes ≡ text → Moves bytes (advance bytes d r k) result after → Moves text (advance text d r k) result after
+pub moved : (bytes text : List ℕ) (d : Due) (r after : Reader) (k : LexemeKind) (result : Result Due Stop) → bytes ≡ text → Moves bytes (advance bytes d r k) result after → Moves text (advance text d r k) result after
 moved bytes text d r after k result e m = subst (λ (bs : List ℕ). Moves bs (advance bs d r k) result after) e m

@@ -6,7 +6,7 @@ use Rattle.rec_syntax.specs.Place.{CanGoOn, IsFaultPlace}
 use Rattle.rec_syntax.specs.Machine.{Config, start, run}
 use Rattle.rec_syntax.specs.Lexemes.{section_of, token_of}
 use Rattle.rec_syntax.specs.Reader.{config_of}
-use Rattle.rec_syntax.specs.declared.lexer.Kind.{Kind}
+use Rattle.rec_syntax.specs.declared.lexer.LexemeKind.{LexemeKind}
 use Rattle.rec_syntax.specs.declared.token_kind.TokenKind.{TokenKind}
 use Rattle.rec_syntax.specs.declared.token_kind.TokenKind.TheVariants.{PlainWord, RecSpec, Section, EndSpec, If, AndIf, Colon, Open, Close, Comma, Arrow, Equal, Unequal, End}
 use Rattle.rec_syntax.specs.declared.reader.Due.{Due}
@@ -40,9 +40,9 @@ AreExpected bytes ks = (at : ℕ) (fault : IsFaultPlace bytes at) (k : TokenKind
     → Contains ks k ↔ MayStand (bare fault.before) k
 
 -- a token's kind; a bad token has none
-abbrev pub HasKind : Option TokenKind → Kind → Type 0
-HasKind None t = t ≡ Kind.Bad
-HasKind (Some k) t = (bytes : List ℕ) → IsOf k (token_of bytes t)
+abbrev pub IsKindOf : Option TokenKind → LexemeKind → Type 0
+IsKindOf None t = t ≡ LexemeKind.Bad
+IsKindOf (Some k) t = (bytes : List ℕ) → IsOf k (token_of bytes t)
 
 -- a token of a kind
 abbrev pub sample : TokenKind → Token

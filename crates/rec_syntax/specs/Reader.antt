@@ -10,7 +10,7 @@ use Rattle.rec_syntax.specs.Lexemes.{word_of, section_of, token_of, Within}
 use Rattle.rec_syntax.specs.Parts.{words_of, node_of, term_of, condition_of, spec_of, IsTerm, IsRule, AreSections}
 use Rattle.rec_syntax.specs.declared.lexer.Span.{Span}
 use Rattle.rec_syntax.specs.declared.lexer.Part.{Part}
-use Rattle.rec_syntax.specs.declared.lexer.Kind.{Kind}
+use Rattle.rec_syntax.specs.declared.lexer.LexemeKind.{LexemeKind}
 use Rattle.rec_syntax.specs.declared.parts.Node.{Node}
 use Rattle.rec_syntax.specs.declared.parts.Term.{Term}
 use Rattle.rec_syntax.specs.declared.reader.Symbols.{Symbols}
@@ -90,7 +90,7 @@ abbrev pub config_of : List ℕ → Due → Reader → Config
 config_of bytes d r = record { due = due_of bytes d r; read = spec_of bytes r.sections }
 
 -- the machine's answer to a token
-abbrev pub advance : List ℕ → Due → Reader → Kind → Option Config
+abbrev pub advance : List ℕ → Due → Reader → LexemeKind → Option Config
 advance bytes d r k = machine.step (due_of bytes d r) (spec_of bytes r.sections) (token_of bytes k)
 
 -- how many arguments the open applications have
@@ -157,11 +157,11 @@ abbrev pub IsAt : Due → Reader → Type 0
 IsAt d r = IsState r.source.items d r
 
 -- where this is due, a token leads to where the machine goes
-abbrev pub Steps : Due → Reader → Kind → Result Due Stop → Reader → Type 0
+abbrev pub Steps : Due → Reader → LexemeKind → Result Due Stop → Reader → Type 0
 Steps d r k result after = Moves r.source.items (advance r.source.items d r k) result after
 
 -- behind a whole term in this role, a token leads to where the machine goes
-abbrev pub Completes : Role → Term → Reader → Kind → Result Due Stop → Reader → Type 0
+abbrev pub Completes : Role → Term → Reader → LexemeKind → Result Due Stop → Reader → Type 0
 Completes p t r k result after = Moves r.source.items
     (machine.complete (role_of r.source.items p) (term_of r.source.items t)
     (spec_of r.source.items r.sections) (token_of r.source.items k)) result after

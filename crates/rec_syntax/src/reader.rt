@@ -13,7 +13,7 @@ mod items;
 mod terms;
 
 use crate::fault::SyntaxFault;
-use crate::lexer::{Kind, Part, Span, next};
+use crate::lexer::{LexemeKind, Part, Span, next};
 use crate::parts::{Node, Rule, Sections, Term, Words};
 use crate::spec::{LONGEST, Syntax};
 pub use expected::expected_at_fault;
@@ -131,7 +131,7 @@ impl Reader {
     }
 
     /// The next token.
-    fn step(&mut self, due: Due, token: Kind) -> Result<Due, Stop>
+    fn step(&mut self, due: Due, token: LexemeKind) -> Result<Due, Stop>
         requires state { IsAt due self.old }
         requires token { IsToken self.old.source.items token }
         ensures moves { Steps due self.old token result self.new }
@@ -139,7 +139,7 @@ impl Reader {
     {
         match due {
             Due::Start => match token {
-                Kind::RecSpec => Ok(Due::Title),
+                LexemeKind::RecSpec => Ok(Due::Title),
                 _ => Err(Stop::Refused),
             },
             Due::Title => self.title(token),
@@ -154,7 +154,7 @@ impl Reader {
             Due::First(word) => self.first(word, token),
             Due::After => self.after(token),
             Due::Ended => match token {
-                Kind::End => Ok(Due::Done),
+                LexemeKind::End => Ok(Due::Done),
                 _ => Err(Stop::Refused),
             },
             Due::Done => Err(Stop::Refused),
@@ -184,7 +184,7 @@ fn read(alloc: Global, source: Vec<u8>) -> Result<Syntax, SyntaxFault>
                 });
             }
         };
-        if let Kind::End = lexeme.kind {
+        if let LexemeKind::End = lexeme.kind {
             return Ok(Syntax::new(reader.source, reader.sections));
         }
         from = lexeme.to;

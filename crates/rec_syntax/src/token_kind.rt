@@ -1,10 +1,10 @@
 //! The kinds of tokens that the grammar has.
 
 ghost use Rattle.std.specs.Prelude.{List};
-ghost use Rattle.rec_syntax.specs.Expected.{HasKind};
+ghost use Rattle.rec_syntax.specs.Expected.{IsKindOf};
 ghost use Rattle.rec_syntax.specs.Lexemes.{token_of};
 
-use crate::lexer::{Kind, Part};
+use crate::lexer::{LexemeKind, Part};
 
 /// A kind of tokens.
 #[derive(Clone, Copy, PartialEq, Eq, Debug, Drop)]
@@ -64,25 +64,25 @@ impl TokenKind {
     ];
 
     /// The kind of a token; a bad one has none.
-    pub(crate) fn of(token: Kind) -> Option<TokenKind>
-        ensures { HasKind result token }
+    pub(crate) fn of(token: LexemeKind) -> Option<TokenKind>
+        ensures { IsKindOf result token }
     {
         match token {
-            Kind::Plain(_) => Some(TokenKind::PlainWord),
-            Kind::RecSpec => Some(TokenKind::RecSpec),
-            Kind::Head(part) => Some(TokenKind::Section(part)),
-            Kind::EndSpec => Some(TokenKind::EndSpec),
-            Kind::If => Some(TokenKind::If),
-            Kind::AndIf => Some(TokenKind::AndIf),
-            Kind::Colon => Some(TokenKind::Colon),
-            Kind::Open => Some(TokenKind::Open),
-            Kind::Close => Some(TokenKind::Close),
-            Kind::Comma => Some(TokenKind::Comma),
-            Kind::Arrow => Some(TokenKind::Arrow),
-            Kind::Equal => Some(TokenKind::Equal),
-            Kind::Unequal => Some(TokenKind::Unequal),
-            Kind::Bad => None,
-            Kind::End => Some(TokenKind::End),
+            LexemeKind::Plain(_) => Some(TokenKind::PlainWord),
+            LexemeKind::RecSpec => Some(TokenKind::RecSpec),
+            LexemeKind::Head(part) => Some(TokenKind::Section(part)),
+            LexemeKind::EndSpec => Some(TokenKind::EndSpec),
+            LexemeKind::If => Some(TokenKind::If),
+            LexemeKind::AndIf => Some(TokenKind::AndIf),
+            LexemeKind::Colon => Some(TokenKind::Colon),
+            LexemeKind::Open => Some(TokenKind::Open),
+            LexemeKind::Close => Some(TokenKind::Close),
+            LexemeKind::Comma => Some(TokenKind::Comma),
+            LexemeKind::Arrow => Some(TokenKind::Arrow),
+            LexemeKind::Equal => Some(TokenKind::Equal),
+            LexemeKind::Unequal => Some(TokenKind::Unequal),
+            LexemeKind::Bad => None,
+            LexemeKind::End => Some(TokenKind::End),
         }
     }
 }

@@ -10,8 +10,8 @@ use Rattle.rx_text.specs.Nodes.{top}
 use Rattle.rx_text.specs.Lexemes.{tokens_after, token_of, behind, Advances}
 use Rattle.rx_text.specs.Reader.{made_of, frames_of, mode_of, state_of, total, node_count, IsState, Steps}
 use Rattle.rx_text.specs.Answer.{AreRead}
-use Rattle.rx_text.specs.declared.lexer.Kind.{Kind}
-use Rattle.rx_text.specs.declared.lexer.Kind.TheVariants.{End}
+use Rattle.rx_text.specs.declared.lexer.LexemeKind.{LexemeKind}
+use Rattle.rx_text.specs.declared.lexer.LexemeKind.TheVariants.{End}
 use Rattle.rx_text.specs.declared.lexer.Lexeme.{Lexeme}
 use Rattle.rx_text.specs.declared.nodes.Node.{Node}
 use Rattle.rx_text.specs.declared.reader.Frame.{Frame}
@@ -37,11 +37,11 @@ refused_at bytes s ps rest t at d cut e =
     let f : fault_at ps s.0 s.1 ≡ Some at = ap (λ qs. fault_at qs s.0 s.1) cut ∙ ap (λ o. next_state (Some at) (λ n gs. fault_at rest n gs) o) e in
     is_place bytes at (sym d.fault ∙ f)
 
-pub behind_is : (bytes : List ℕ) (k : Kind) (to : ℕ) → (k ≡ End → ⊥) → behind bytes k to ≡ tokens_after bytes to
+pub behind_is : (bytes : List ℕ) (k : LexemeKind) (to : ℕ) → (k ≡ End → ⊥) → behind bytes k to ≡ tokens_after bytes to
 behind_is bytes End to h = absurd (h refl)
 behind_is bytes k to h = refl
 
-pub takes_byte : (k : Kind) (from to : ℕ) → (k ≡ End → ⊥) → Advances k from to → from < to
+pub takes_byte : (k : LexemeKind) (from to : ℕ) → (k ≡ End → ⊥) → Advances k from to → from < to
 takes_byte End from to h a = absurd (h refl)
 takes_byte k from to h a = a
 

@@ -13,9 +13,9 @@ use Rattle.rx_term.specs.Name.{is_digit, starts_name, continues_name, is_allowed
 use Rattle.rx_term.specs.Tree.{is_i32}
 use Rattle.rx_text.specs.Token.{Integer, Name, Bad, tokens_from, token_at, is_layout, integer_token, starts_with_digit}
 use Rattle.rx_text.specs.Lexemes.{token_of, tokens_after, behind, IsInner, IsToken, AreDigits}
-use Rattle.rx_text.specs.declared.lexer.Kind.{Kind}
-use Rattle.rx_text.specs.declared.lexer.Kind.TheVariants as kind
-use Rattle.rx_text.specs.declared.lexer.Kind.TheVariants.{End}
+use Rattle.rx_text.specs.declared.lexer.LexemeKind.{LexemeKind}
+use Rattle.rx_text.specs.declared.lexer.LexemeKind.TheVariants as kind
+use Rattle.rx_text.specs.declared.lexer.LexemeKind.TheVariants.{End}
 use Rattle.rx_text.proofs.CuttingLemmas.{and_parts, letter_facts}
 
 pub next_byte : (bytes : List ℕ) (at : ℕ) → at < length bytes → drop at bytes ≡ get_or bytes at 0 ∷ drop (at + 1) bytes
@@ -29,12 +29,12 @@ tokens_skip (suc skip) at (b ∷ bytes) h =
     let e : 1 + at + skip ≡ at + suc skip = omega arith in
     tokens_skip skip (1 + at) bytes (omega arith) ∙ ap (λ (n : ℕ). tokens_from 0 n (drop skip bytes)) e
 
-behind_inner : (bytes : List ℕ) (k : Kind) (to : ℕ) → IsInner k → behind bytes k to ≡ tokens_after bytes to
+behind_inner : (bytes : List ℕ) (k : LexemeKind) (to : ℕ) → IsInner k → behind bytes k to ≡ tokens_after bytes to
 behind_inner bytes End to h = absurd h
 behind_inner bytes k to h = refl
 
 -- a token, and those behind it
-pub token_first : (bytes : List ℕ) (at b to : ℕ) (k : Kind) → drop at bytes ≡ b ∷ drop (at + 1) bytes → is_layout b ≡ false → token_of bytes k ≡ (token_at b (drop (at + 1) bytes)).0
+pub token_first : (bytes : List ℕ) (at b to : ℕ) (k : LexemeKind) → drop at bytes ≡ b ∷ drop (at + 1) bytes → is_layout b ≡ false → token_of bytes k ≡ (token_at b (drop (at + 1) bytes)).0
     → to ≡ at + 1 + (token_at b (drop (at + 1) bytes)).1 → to ≤ length bytes → at < length bytes → IsInner k
     → tokens_after bytes at ≡ (at, token_of bytes k) ∷ behind bytes k to
 token_first bytes at b to k front no_blank token end within below inner =
@@ -121,23 +121,23 @@ magnitude_on digits i v m d r all lt so_far times digit plus =
     omega (arith, more)
 
 -- the token of an integer holds one
-token_in_range : (bytes : List ℕ) (k : Kind) (z : ℤ) (b : Bool) → is_i32 z ≡ b → token_of bytes k ≡ cond b (Integer z) Bad → IsToken bytes k
+token_in_range : (bytes : List ℕ) (k : LexemeKind) (z : ℤ) (b : Bool) → is_i32 z ≡ b → token_of bytes k ≡ cond b (Integer z) Bad → IsToken bytes k
 token_in_range bytes (kind.Integer y) z true e h = let same : y ≡ z = cc h in rw same e
 token_in_range bytes (kind.Integer y) z false e h = absurd (cc h)
 token_in_range bytes (kind.Name w) z true e h = absurd (cc h)
 token_in_range bytes (kind.Name w) z false e h = absurd (cc h)
 token_in_range bytes k z b e h = tt
 
-pub number_is_token : (bytes : List ℕ) (k : Kind) (z : ℤ) → token_of bytes k ≡ integer_token z → IsToken bytes k
+pub number_is_token : (bytes : List ℕ) (k : LexemeKind) (z : ℤ) → token_of bytes k ≡ integer_token z → IsToken bytes k
 number_is_token bytes k z h = token_in_range bytes k z (is_i32 z) refl h
 
-pub number_token : (bytes : List ℕ) (at b to : ℕ) (k : Kind) (m : ℕ) → drop at bytes ≡ b ∷ drop (at + 1) bytes → is_digit b ≡ true → to ≡ at + 1 + prefix_len is_digit (drop (at + 1) bytes)
+pub number_token : (bytes : List ℕ) (at b to : ℕ) (k : LexemeKind) (m : ℕ) → drop at bytes ≡ b ∷ drop (at + 1) bytes → is_digit b ≡ true → to ≡ at + 1 + prefix_len is_digit (drop (at + 1) bytes)
     → m ≡ min (digits_value 10 (take (to - at) (drop at bytes))) largest → token_of bytes k ≡ integer_token (pos m) → token_of bytes k ≡ (token_at b (drop (at + 1) bytes)).0
 number_token bytes at b to k m front digit end value token =
     let text : take (to - at) (drop at bytes) ≡ b ∷ take (prefix_len is_digit (drop (at + 1) bytes)) (drop (at + 1) bytes) = word_slice bytes at b (prefix_len is_digit (drop (at + 1) bytes)) to front end in
     token ∙ ap (λ x. integer_token (pos x)) value ∙ clamped (digits_value 10 (take (to - at) (drop at bytes))) ∙ ap (λ ds. integer_token (pos (digits_value 10 ds))) text ∙ rw digit refl
 
-pub negative_token : (bytes : List ℕ) (at to : ℕ) (k : Kind) (m : ℕ) → starts_with_digit (drop (at + 1) bytes) ≡ true → to ≡ at + 1 + prefix_len is_digit (drop (at + 1) bytes)
+pub negative_token : (bytes : List ℕ) (at to : ℕ) (k : LexemeKind) (m : ℕ) → starts_with_digit (drop (at + 1) bytes) ≡ true → to ≡ at + 1 + prefix_len is_digit (drop (at + 1) bytes)
     → m ≡ min (digits_value 10 (take (to - (at + 1)) (drop (at + 1) bytes))) largest → token_of bytes k ≡ integer_token (neg_ℤ (pos m)) → token_of bytes k ≡ (token_at 45 (drop (at + 1) bytes)).0
 negative_token bytes at to k m digit end value token =
     let text = run_slice bytes (at + 1) (prefix_len is_digit (drop (at + 1) bytes)) to end in

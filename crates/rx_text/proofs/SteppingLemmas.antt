@@ -12,8 +12,8 @@ use Rattle.rx_text.specs.Token as token
 use Rattle.rx_text.specs.Token.{Token}
 use Rattle.rx_text.specs.Lexemes.{name_of, IsWord, token_of}
 use Rattle.rx_text.specs.Reader.{node_of, IsNode, made_of, frame_of, held, under, IsOpening, frames_of, state_of, total, IsStack, IsState}
-use Rattle.rx_text.specs.declared.lexer.Kind.{Kind}
-use Rattle.rx_text.specs.declared.lexer.Kind.TheVariants as kind
+use Rattle.rx_text.specs.declared.lexer.LexemeKind.{LexemeKind}
+use Rattle.rx_text.specs.declared.lexer.LexemeKind.TheVariants as kind
 use Rattle.rx_text.specs.declared.nodes.Word.{Word}
 use Rattle.rx_text.specs.declared.nodes.Node.{Node}
 use Rattle.rx_text.specs.declared.nodes.Node.TheVariants as node
@@ -239,7 +239,7 @@ pub text_refused : (bytes : List ℕ) (frames : List Frame) (t : Tree) (made : L
 text_refused bytes frames t made h = text_core bytes (reverse frames) t made (omega (arith, length-reverse frames))
 
 -- a name that is not called is a body
-pub name_is_body : (bytes : List ℕ) (n : List ℕ) (q : _) (fs : List machine.Frame) (k : Kind) → (k ≡ kind.Open → ⊥) → machine.after_name n q fs (token_of bytes k) ≡ machine.body (Appl n q none none) fs (token_of bytes k)
+pub name_is_body : (bytes : List ℕ) (n : List ℕ) (q : _) (fs : List machine.Frame) (k : LexemeKind) → (k ≡ kind.Open → ⊥) → machine.after_name n q fs (token_of bytes k) ≡ machine.body (Appl n q none none) fs (token_of bytes k)
 name_is_body bytes n q fs kind.Open h = absurd (h refl)
 name_is_body bytes n q fs k h = refl
 

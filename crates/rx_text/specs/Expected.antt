@@ -7,7 +7,7 @@ use Rattle.rx_text.specs.Machine as machine
 use Rattle.rx_text.specs.Machine.{State, run}
 use Rattle.rx_text.specs.Lexemes.{token_of}
 use Rattle.rx_text.specs.Reader.{state_of}
-use Rattle.rx_text.specs.declared.lexer.Kind.{Kind}
+use Rattle.rx_text.specs.declared.lexer.LexemeKind.{LexemeKind}
 use Rattle.rx_text.specs.declared.token_kind.TokenKind.{TokenKind}
 use Rattle.rx_text.specs.declared.token_kind.TokenKind.TheVariants.{Integer, Name, Open, Close, OpenBracket, CloseBracket, OpenBrace, CloseBrace, Less, Greater, Comma, End}
 use Rattle.rx_text.specs.declared.reader.Due.{Due}
@@ -43,9 +43,9 @@ AreExpected bytes ks = (at : ℕ) (place : IsPlace bytes at) (k : TokenKind)
     → Contains ks k ↔ MayStand (before bytes at place) k
 
 -- a token's kind; a bad token has none
-abbrev pub HasKind : Option TokenKind → Kind → Type 0
-HasKind None t = t ≡ Kind.Bad
-HasKind (Some k) t = (bytes : List ℕ) → IsOf k (token_of bytes t)
+abbrev pub IsKindOf : Option TokenKind → LexemeKind → Type 0
+IsKindOf None t = t ≡ LexemeKind.Bad
+IsKindOf (Some k) t = (bytes : List ℕ) → IsOf k (token_of bytes t)
 
 -- a token of a kind
 abbrev pub sample : TokenKind → Token

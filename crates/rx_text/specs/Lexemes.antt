@@ -6,8 +6,8 @@ use Rattle.rx_term.specs.Tree.{is_i32}
 use Rattle.rx_text.specs.Token as token
 use Rattle.rx_text.specs.Token.{Token, tokens_from, quoted}
 use Rattle.rx_text.specs.declared.nodes.Word.{Word}
-use Rattle.rx_text.specs.declared.lexer.Kind.{Kind}
-use Rattle.rx_text.specs.declared.lexer.Kind.TheVariants.{Integer, Name, Open, Close, OpenBracket, CloseBracket, OpenBrace, CloseBrace, Less, Greater, Comma, Bad, End}
+use Rattle.rx_text.specs.declared.lexer.LexemeKind.{LexemeKind}
+use Rattle.rx_text.specs.declared.lexer.LexemeKind.TheVariants.{Integer, Name, Open, Close, OpenBracket, CloseBracket, OpenBrace, CloseBrace, Less, Greater, Comma, Bad, End}
 
 -- the name that was read up to its closing quote
 abbrev pub quoted_name : Option (List ℕ × ℕ) → List ℕ
@@ -31,7 +31,7 @@ IsNameBetween bytes from to true = (from ≤ length bytes) × IsSome (quoted 0 (
 abbrev pub IsWord : List ℕ → Word → Type 0
 IsWord bytes w = IsNameBetween bytes w.from w.to w.quoted
 
-abbrev pub token_of : List ℕ → Kind → Token
+abbrev pub token_of : List ℕ → LexemeKind → Token
 token_of bytes (Integer z) = token.Integer z
 token_of bytes (Name w) = token.Name (name_of bytes w) w.quoted
 token_of bytes Open = token.Open
@@ -51,28 +51,28 @@ abbrev pub tokens_after : List ℕ → ℕ → List (ℕ × Token)
 tokens_after bytes from = tokens_from 0 from (drop from bytes)
 
 -- the tokens behind a token that takes the bytes up to `to`
-abbrev pub behind : List ℕ → Kind → ℕ → List (ℕ × Token)
+abbrev pub behind : List ℕ → LexemeKind → ℕ → List (ℕ × Token)
 behind bytes End to = []
 behind bytes k to = tokens_after bytes to
 
 -- a token that is not the end takes a byte
-abbrev pub Advances : Kind → ℕ → ℕ → Type 0
+abbrev pub Advances : LexemeKind → ℕ → ℕ → Type 0
 Advances End from to = Unit {0}
 Advances k from to = from < to
 
 -- neither a name nor the end
-abbrev pub IsMark : Kind → Type 0
+abbrev pub IsMark : LexemeKind → Type 0
 IsMark (Name w) = ⊥
 IsMark End = ⊥
 IsMark k = Unit {0}
 
 -- not the end
-abbrev pub IsInner : Kind → Type 0
+abbrev pub IsInner : LexemeKind → Type 0
 IsInner End = ⊥
 IsInner k = Unit {0}
 
 -- an integer fits, and a name is one
-abbrev pub IsToken : List ℕ → Kind → Type 0
+abbrev pub IsToken : List ℕ → LexemeKind → Type 0
 IsToken bytes (Integer z) = IsTrue (is_i32 z)
 IsToken bytes (Name w) = IsWord bytes w
 IsToken bytes k = Unit {0}

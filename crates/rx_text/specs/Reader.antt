@@ -7,7 +7,7 @@ use Rattle.rx_text.specs.Nodes.{taken, top, rest, trees_of, Enough}
 use Rattle.rx_text.specs.Machine as machine
 use Rattle.rx_text.specs.Machine.{State}
 use Rattle.rx_text.specs.Lexemes.{name_of, token_of, IsWord}
-use Rattle.rx_text.specs.declared.lexer.Kind.{Kind}
+use Rattle.rx_text.specs.declared.lexer.LexemeKind.{LexemeKind}
 use Rattle.rx_text.specs.declared.nodes.Node.{Node}
 use Rattle.rx_text.specs.declared.nodes.Node.TheVariants as node
 use Rattle.rx_text.specs.declared.reader.Opening.{Opening}
@@ -149,12 +149,12 @@ abbrev pub node_count : Due → Reader → ℕ
 node_count d r = length r.nodes.items + pending d
 
 -- the machine's answer to a token, where this is due
-abbrev pub advance : Due → Reader → Kind → Option State
+abbrev pub advance : Due → Reader → LexemeKind → Option State
 advance d r k =
     let s = state_of r.bytes.now d r.frames.items r.nodes.items in
     machine.step s.0 s.1 (token_of r.bytes.now k)
 
 -- where this is due, a token leads to where the machine goes
-abbrev pub Steps : Due → Reader → Kind → Result Due Stop → Reader → Type 0
+abbrev pub Steps : Due → Reader → LexemeKind → Result Due Stop → Reader → Type 0
 Steps d r k result after =
     Moves r.bytes.now (advance d r k) result after.frames.items after.nodes.items

@@ -17,7 +17,7 @@ use rx_term::naming::{begins_plain_name, continues_plain_name};
 
 /// What a token is.
 #[derive(Clone, Copy, Debug, Drop)]
-pub enum Kind {
+pub enum LexemeKind {
     Integer(i32),
     Name(Word),
     Open,
@@ -36,7 +36,7 @@ pub enum Kind {
 /// A token, the offset at which it begins, and the offset behind it.
 #[derive(Clone, Copy, Debug, Drop)]
 pub struct Lexeme {
-    pub kind: Kind,
+    pub kind: LexemeKind,
     pub at: usize,
     pub to: usize,
 }
@@ -113,7 +113,7 @@ fn magnitude(digits: &[u8]) -> u32
 }
 
 /// The integer of a sign and a magnitude, or a bad token where it is none of 32 bits.
-fn integer(magnitude: u32, negative: bool) -> Kind
+fn integer(magnitude: u32, negative: bool) -> LexemeKind
     ensures token { (bytes : List ℕ) → token_of bytes result ≡ integer_token
         (cond negative (neg_ℤ (pos magnitude)) (pos magnitude)) }
     ensures kind { IsMark result }
@@ -124,13 +124,13 @@ fn integer(magnitude: u32, negative: bool) -> Kind
         i64::from(magnitude)
     };
     match i32::try_from(value) {
-        Ok(value) => Kind::Integer(value),
-        Err(_) => Kind::Bad,
+        Ok(value) => LexemeKind::Integer(value),
+        Err(_) => LexemeKind::Bad,
     }
 }
 
 /// The name between quotes whose first quote stands before `from`, or a bad token.
-fn quoted_word(bytes: &[u8], from: usize) -> (Kind, usize)
+fn quoted_word(bytes: &[u8], from: usize) -> (LexemeKind, usize)
     requires from { from ≤ length bytes.now }
     requires short { length bytes.now ≤ longest }
     ensures token { token_of bytes.now
@@ -147,33 +147,33 @@ fn quoted_word(bytes: &[u8], from: usize) -> (Kind, usize)
                 to: (from + used) as u32,
                 quoted: true,
             };
-            (Kind::Name(word), from + used)
+            (LexemeKind::Name(word), from + used)
         }
-        None => (Kind::Bad, from),
+        None => (LexemeKind::Bad, from),
     }
 }
 
 /// The mark that a byte is, or a bad token.
-fn mark_of(byte: u8) -> Kind
+fn mark_of(byte: u8) -> LexemeKind
     ensures token { (bytes : List ℕ) → token_of bytes result ≡ mark byte }
     ensures kind { IsMark result }
 {
     match byte {
-        b'(' => Kind::Open,
-        b')' => Kind::Close,
-        b'[' => Kind::OpenBracket,
-        b']' => Kind::CloseBracket,
-        b'{' => Kind::OpenBrace,
-        b'}' => Kind::CloseBrace,
-        b'<' => Kind::Less,
-        b'>' => Kind::Greater,
-        b',' => Kind::Comma,
-        _ => Kind::Bad,
+        b'(' => LexemeKind::Open,
+        b')' => LexemeKind::Close,
+        b'[' => LexemeKind::OpenBracket,
+        b']' => LexemeKind::CloseBracket,
+        b'{' => LexemeKind::OpenBrace,
+        b'}' => LexemeKind::CloseBrace,
+        b'<' => LexemeKind::Less,
+        b'>' => LexemeKind::Greater,
+        b',' => LexemeKind::Comma,
+        _ => LexemeKind::Bad,
     }
 }
 
 /// The token that begins at `at`, and its end.
-fn token(bytes: &[u8], at: usize) -> (Kind, usize)
+fn token(bytes: &[u8], at: usize) -> (LexemeKind, usize)
     requires at { at < length bytes.now }
     requires short { length bytes.now ≤ longest }
     ensures token { token_of bytes.now
@@ -198,7 +198,7 @@ fn token(bytes: &[u8], at: usize) -> (Kind, usize)
             to: end as u32,
             quoted: false,
         };
-        (Kind::Name(word), end)
+        (LexemeKind::Name(word), end)
     } else if first == b'"' {
         quoted_word(bytes, at + 1)
     } else {
@@ -220,7 +220,7 @@ pub fn next(bytes: &[u8], from: usize) -> Lexeme
     let at = after_layout(bytes, from);
     if at == bytes.len() {
         return Lexeme {
-            kind: Kind::End,
+            kind: LexemeKind::End,
             at,
             to: at,
         };

@@ -12,7 +12,7 @@ ghost use Rattle.rx_text.specs.Answer.{AreRead, IsFault};
 mod expected;
 
 use crate::faults::TextFault;
-use crate::lexer::{Kind, next};
+use crate::lexer::{LexemeKind, next};
 use crate::nodes::{Node, Word};
 pub use expected::expected_at_fault;
 use std::alloc::{AllocFailed, Global};
@@ -72,7 +72,7 @@ pub struct Reader<'a> {
 
 impl<'a> Reader<'a> {
     /// Where a term is due.
-    fn start(&mut self, token: Kind) -> Result<Due, Stop>
+    fn start(&mut self, token: LexemeKind) -> Result<Due, Stop>
         requires state { IsAt Due.Term self.old }
         requires token { IsToken self.old.bytes.now token }
         requires few { node_count Due.Term self.old ≤ longest }
@@ -81,14 +81,14 @@ impl<'a> Reader<'a> {
         ensures few { IfOk result (λ d. node_count d self.new ≤ node_count Due.Term self.old + 1) }
     {
         match token {
-            Kind::Integer(value) => {
+            LexemeKind::Integer(value) => {
                 self.nodes.push(Node::Integer(value))?;
                 Ok(Due::Body)
             }
-            Kind::Name(word) => Ok(Due::Named(word)),
-            Kind::Open => Ok(Due::First(Opening::Arguments(Word::EMPTY))),
-            Kind::OpenBracket => Ok(Due::First(Opening::List)),
-            Kind::Less => {
+            LexemeKind::Name(word) => Ok(Due::Named(word)),
+            LexemeKind::Open => Ok(Due::First(Opening::Arguments(Word::EMPTY))),
+            LexemeKind::OpenBracket => Ok(Due::First(Opening::List)),
+            LexemeKind::Less => {
                 self.frames.push(Frame {
                     opening: Opening::Placeholder,
                     count: 0,
@@ -100,7 +100,7 @@ impl<'a> Reader<'a> {
     }
 
     /// What was open, and is no longer on the stack, ends at its mark.
-    fn close(&mut self, frame: Frame, token: Kind) -> Result<Due, Stop>
+    fn close(&mut self, frame: Frame, token: LexemeKind) -> Result<Due, Stop>
         requires stack { IsStack self.old.bytes.now (held frame.opening frame.count)
             self.old.frames.items self.old.nodes.items }
         requires opening { IsOpening self.old.bytes.now frame.opening }
@@ -116,21 +116,21 @@ impl<'a> Reader<'a> {
     {
         match frame.opening {
             Opening::Arguments(word) => match token {
-                Kind::Close => {
+                LexemeKind::Close => {
                     self.nodes.push(Node::Application(word, frame.count))?;
                     Ok(Due::Body)
                 }
                 _ => Err(Stop::Refused),
             },
             Opening::List => match token {
-                Kind::CloseBracket => {
+                LexemeKind::CloseBracket => {
                     self.nodes.push(Node::List(frame.count))?;
                     Ok(Due::Body)
                 }
                 _ => Err(Stop::Refused),
             },
             Opening::Annotations => match token {
-                Kind::CloseBrace => {
+                LexemeKind::CloseBrace => {
                     self.nodes.push(Node::Annotations(frame.count))?;
                     Ok(Due::Whole)
                 }
@@ -141,7 +141,7 @@ impl<'a> Reader<'a> {
     }
 
     /// Behind the mark that opened something: its end, or its first item.
-    fn first(&mut self, opening: Opening, token: Kind) -> Result<Due, Stop>
+    fn first(&mut self, opening: Opening, token: LexemeKind) -> Result<Due, Stop>
         requires state { IsAt (Due.First opening) self.old }
         requires token { IsToken self.old.bytes.now token }
         requires few { node_count (Due.First opening) self.old ≤ longest }
@@ -152,9 +152,9 @@ impl<'a> Reader<'a> {
     {
         let frame = Frame { opening, count: 0 };
         match token {
-            Kind::Close => self.close(frame, token),
-            Kind::CloseBracket => self.close(frame, token),
-            Kind::CloseBrace => self.close(frame, token),
+            LexemeKind::Close => self.close(frame, token),
+            LexemeKind::CloseBracket => self.close(frame, token),
+            LexemeKind::CloseBrace => self.close(frame, token),
             _ => {
                 self.frames.push(frame)?;
                 self.start(token)
@@ -166,7 +166,7 @@ impl<'a> Reader<'a> {
     fn next_item(&mut self) -> Result<Due, Stop>
         requires state { IsAt Due.Whole self.old }
         requires few { node_count Due.Whole self.old ≤ longest }
-        ensures moves { Steps Due.Whole self.old Kind.Comma result self.new }
+        ensures moves { Steps Due.Whole self.old LexemeKind.Comma result self.new }
         ensures same { self.new.bytes.now ≡ self.old.bytes.now }
         ensures few { IfOk result (λ d. node_count d self.new ≤ node_count Due.Whole self.old + 1) }
     {
@@ -184,7 +184,7 @@ impl<'a> Reader<'a> {
     }
 
     /// One more item of what is open, and a mark that ends it.
-    fn end_item(&mut self, token: Kind) -> Result<Due, Stop>
+    fn end_item(&mut self, token: LexemeKind) -> Result<Due, Stop>
         requires state { IsAt Due.Whole self.old }
         requires few { node_count Due.Whole self.old ≤ longest }
         ensures moves { let made = made_of self.old.bytes.now self.old.nodes.items in
@@ -211,7 +211,7 @@ impl<'a> Reader<'a> {
     fn end_placeholder(&mut self) -> Result<Due, Stop>
         requires state { IsAt Due.Whole self.old }
         requires few { node_count Due.Whole self.old ≤ longest }
-        ensures moves { Steps Due.Whole self.old Kind.Greater result self.new }
+        ensures moves { Steps Due.Whole self.old LexemeKind.Greater result self.new }
         ensures same { self.new.bytes.now ≡ self.old.bytes.now }
         ensures few { IfOk result (λ d. node_count d self.new ≤ node_count Due.Whole self.old + 1) }
     {
@@ -226,7 +226,7 @@ impl<'a> Reader<'a> {
     }
 
     /// Behind a term with its annotations.
-    fn whole(&mut self, token: Kind) -> Result<Due, Stop>
+    fn whole(&mut self, token: LexemeKind) -> Result<Due, Stop>
         requires state { IsAt Due.Whole self.old }
         requires token { IsToken self.old.bytes.now token }
         requires few { node_count Due.Whole self.old ≤ longest }
@@ -235,12 +235,12 @@ impl<'a> Reader<'a> {
         ensures few { IfOk result (λ d. node_count d self.new ≤ node_count Due.Whole self.old + 1) }
     {
         match token {
-            Kind::Comma => self.next_item(),
-            Kind::Close => self.end_item(token),
-            Kind::CloseBracket => self.end_item(token),
-            Kind::CloseBrace => self.end_item(token),
-            Kind::Greater => self.end_placeholder(),
-            Kind::End => {
+            LexemeKind::Comma => self.next_item(),
+            LexemeKind::Close => self.end_item(token),
+            LexemeKind::CloseBracket => self.end_item(token),
+            LexemeKind::CloseBrace => self.end_item(token),
+            LexemeKind::Greater => self.end_placeholder(),
+            LexemeKind::End => {
                 if self.frames.is_empty() {
                     Ok(Due::Done)
                 } else {
@@ -252,7 +252,7 @@ impl<'a> Reader<'a> {
     }
 
     /// Behind a term to which annotations may come.
-    fn body(&mut self, token: Kind) -> Result<Due, Stop>
+    fn body(&mut self, token: LexemeKind) -> Result<Due, Stop>
         requires state { IsAt Due.Body self.old }
         requires token { IsToken self.old.bytes.now token }
         requires few { node_count Due.Body self.old ≤ longest }
@@ -261,13 +261,13 @@ impl<'a> Reader<'a> {
         ensures few { IfOk result (λ d. node_count d self.new ≤ node_count Due.Body self.old + 1) }
     {
         match token {
-            Kind::OpenBrace => Ok(Due::First(Opening::Annotations)),
+            LexemeKind::OpenBrace => Ok(Due::First(Opening::Annotations)),
             _ => self.whole(token),
         }
     }
 
     /// Behind a name.
-    fn named(&mut self, word: Word, token: Kind) -> Result<Due, Stop>
+    fn named(&mut self, word: Word, token: LexemeKind) -> Result<Due, Stop>
         requires state { IsAt (Due.Named word) self.old }
         requires token { IsToken self.old.bytes.now token }
         requires few { node_count (Due.Named word) self.old ≤ longest }
@@ -277,7 +277,7 @@ impl<'a> Reader<'a> {
             (λ d. node_count d self.new ≤ node_count (Due.Named word) self.old + 1) }
     {
         match token {
-            Kind::Open => Ok(Due::First(Opening::Arguments(word))),
+            LexemeKind::Open => Ok(Due::First(Opening::Arguments(word))),
             _ => {
                 self.nodes.push(Node::Application(word, 0))?;
                 self.body(token)
@@ -286,7 +286,7 @@ impl<'a> Reader<'a> {
     }
 
     /// The next token.
-    fn step(&mut self, due: Due, token: Kind) -> Result<Due, Stop>
+    fn step(&mut self, due: Due, token: LexemeKind) -> Result<Due, Stop>
         requires state { IsAt due self.old }
         requires token { IsToken self.old.bytes.now token }
         requires few { node_count due self.old ≤ longest }
@@ -328,7 +328,7 @@ pub fn read_nodes(alloc: Global, bytes: &[u8]) -> Result<Vec<Node>, TextFault>
                 });
             }
         };
-        if let Kind::End = lexeme.kind {
+        if let LexemeKind::End = lexeme.kind {
             return Ok(reader.nodes);
         }
         from = lexeme.to;

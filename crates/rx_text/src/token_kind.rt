@@ -1,10 +1,10 @@
 //! The kinds of tokens that the grammar has.
 
 ghost use Rattle.std.specs.Prelude.{List};
-ghost use Rattle.rx_text.specs.Expected.{HasKind};
+ghost use Rattle.rx_text.specs.Expected.{IsKindOf};
 ghost use Rattle.rx_text.specs.Lexemes.{token_of};
 
-use crate::lexer::Kind;
+use crate::lexer::LexemeKind;
 
 /// A kind of tokens.
 #[derive(Clone, Copy, PartialEq, Eq, Debug, Drop)]
@@ -53,23 +53,23 @@ impl TokenKind {
     ];
 
     /// The kind of a token; a bad one has none.
-    pub(crate) fn of(token: Kind) -> Option<TokenKind>
-        ensures { HasKind result token }
+    pub(crate) fn of(token: LexemeKind) -> Option<TokenKind>
+        ensures { IsKindOf result token }
     {
         match token {
-            Kind::Integer(_) => Some(TokenKind::Integer),
-            Kind::Name(_) => Some(TokenKind::Name),
-            Kind::Open => Some(TokenKind::Open),
-            Kind::Close => Some(TokenKind::Close),
-            Kind::OpenBracket => Some(TokenKind::OpenBracket),
-            Kind::CloseBracket => Some(TokenKind::CloseBracket),
-            Kind::OpenBrace => Some(TokenKind::OpenBrace),
-            Kind::CloseBrace => Some(TokenKind::CloseBrace),
-            Kind::Less => Some(TokenKind::Less),
-            Kind::Greater => Some(TokenKind::Greater),
-            Kind::Comma => Some(TokenKind::Comma),
-            Kind::Bad => None,
-            Kind::End => Some(TokenKind::End),
+            LexemeKind::Integer(_) => Some(TokenKind::Integer),
+            LexemeKind::Name(_) => Some(TokenKind::Name),
+            LexemeKind::Open => Some(TokenKind::Open),
+            LexemeKind::Close => Some(TokenKind::Close),
+            LexemeKind::OpenBracket => Some(TokenKind::OpenBracket),
+            LexemeKind::CloseBracket => Some(TokenKind::CloseBracket),
+            LexemeKind::OpenBrace => Some(TokenKind::OpenBrace),
+            LexemeKind::CloseBrace => Some(TokenKind::CloseBrace),
+            LexemeKind::Less => Some(TokenKind::Less),
+            LexemeKind::Greater => Some(TokenKind::Greater),
+            LexemeKind::Comma => Some(TokenKind::Comma),
+            LexemeKind::Bad => None,
+            LexemeKind::End => Some(TokenKind::End),
         }
     }
 }

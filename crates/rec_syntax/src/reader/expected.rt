@@ -10,7 +10,7 @@ ghost use Rattle.rec_syntax.specs.Expected.{is_taken, AreExpected, IsAtFault};
 
 use super::items::is_later;
 use super::{Due, Reader, Role};
-use crate::lexer::{Kind, Part, next};
+use crate::lexer::{LexemeKind, Part, next};
 use crate::token_kind::TokenKind;
 use std::alloc::{AllocError, Global};
 
@@ -100,7 +100,7 @@ impl Reader {
     }
 
     /// Whether this token may stand here.
-    fn may_take(&self, due: Due, token: Kind) -> bool
+    fn may_take(&self, due: Due, token: LexemeKind) -> bool
         ensures { let bytes = self.now.source.items in (y : Spec)
             → result ≡ is_some (step (due_of bytes due self.now) y (token_of bytes token)) }
     {
@@ -128,7 +128,7 @@ fn read_to_fault(alloc: Global, source: Vec<u8>) -> Result<(Due, Reader), AllocE
             Ok(due) => due,
             Err(_) => return Err(AllocError),
         };
-        if let Kind::End = lexeme.kind {
+        if let LexemeKind::End = lexeme.kind {
             return Ok((due, reader));
         }
         from = lexeme.to;

@@ -7,7 +7,7 @@ ghost use Rattle.rec_syntax.specs.Parts.{AreSections};
 ghost use Rattle.rec_syntax.specs.Reader.{level_of, IsAt, Steps};
 
 use super::{Due, Reader, Role, Stop, Symbols};
-use crate::lexer::{Kind, Part, Span};
+use crate::lexer::{LexemeKind, Part, Span};
 use crate::parts::{Declaration, Group};
 use smallvec::SmallVec;
 use std::mem;
@@ -24,14 +24,14 @@ pub(super) fn is_later(level: Option<Part>, part: Part) -> bool
 
 impl Reader {
     /// After REC-SPEC: the name.
-    pub(super) fn title(&mut self, token: Kind) -> Result<Due, Stop>
+    pub(super) fn title(&mut self, token: LexemeKind) -> Result<Due, Stop>
         requires state { IsAt Due.Title self.old }
         requires token { IsToken self.old.source.items token }
         ensures moves { Steps Due.Title self.old token result self.new }
         ensures same { self.new.source ≡ self.old.source }
     {
         match token {
-            Kind::Plain(name) => {
+            LexemeKind::Plain(name) => {
                 self.sections.name = name;
                 Ok(Due::Between(None))
             }
@@ -43,7 +43,7 @@ impl Reader {
     fn item(&mut self, level: Option<Part>, word: Span) -> Result<Due, Stop>
         requires sections { AreSections self.old.source.items self.old.sections }
         requires word { Within self.old.source.items word }
-        ensures moves { Steps (Due.Between level) self.old (Kind.Plain word) result self.new }
+        ensures moves { Steps (Due.Between level) self.old (LexemeKind.Plain word) result self.new }
         ensures same { self.new.source ≡ self.old.source }
     {
         match level {
@@ -70,35 +70,40 @@ impl Reader {
     }
 
     /// After a whole item: another one, a later section, or the end.
-    pub(super) fn between(&mut self, level: Option<Part>, token: Kind) -> Result<Due, Stop>
+    pub(super) fn between(&mut self, level: Option<Part>, token: LexemeKind) -> Result<Due, Stop>
         requires sections { AreSections self.old.source.items self.old.sections }
         requires token { IsToken self.old.source.items token }
         ensures moves { Steps (Due.Between level) self.old token result self.new }
         ensures same { self.new.source ≡ self.old.source }
     {
         match token {
-            Kind::Plain(word) => self.item(level, word),
-            Kind::Head(part) => {
+            LexemeKind::Plain(word) => self.item(level, word),
+            LexemeKind::Head(part) => {
                 if is_later(level, part) {
                     Ok(Due::Between(Some(part)))
                 } else {
                     Err(Stop::Refused)
                 }
             }
-            Kind::EndSpec => Ok(Due::Ended),
+            LexemeKind::EndSpec => Ok(Due::Ended),
             _ => Err(Stop::Refused),
         }
     }
 
     /// After a declaration's word: the colon.
-    pub(super) fn named(&mut self, symbols: Symbols, name: Span, token: Kind) -> Result<Due, Stop>
+    pub(super) fn named(
+        &mut self,
+        symbols: Symbols,
+        name: Span,
+        token: LexemeKind,
+    ) -> Result<Due, Stop>
         requires state { IsAt (Due.Named symbols name) self.old }
         requires token { IsToken self.old.source.items token }
         ensures moves { Steps (Due.Named symbols name) self.old token result self.new }
         ensures same { self.new.source ≡ self.old.source }
     {
         match token {
-            Kind::Colon => {
+            LexemeKind::Colon => {
                 self.words.clear();
                 Ok(Due::Arguments(symbols, name))
             }
@@ -111,7 +116,7 @@ impl Reader {
         &mut self,
         symbols: Symbols,
         name: Span,
-        token: Kind,
+        token: LexemeKind,
     ) -> Result<Due, Stop>
         requires state { IsAt (Due.Arguments symbols name) self.old }
         requires token { IsToken self.old.source.items token }
@@ -119,11 +124,11 @@ impl Reader {
         ensures same { self.new.source ≡ self.old.source }
     {
         match token {
-            Kind::Plain(word) => {
+            LexemeKind::Plain(word) => {
                 self.words.push(word)?;
                 Ok(Due::Arguments(symbols, name))
             }
-            Kind::Arrow => Ok(Due::ResultSort(symbols, name)),
+            LexemeKind::Arrow => Ok(Due::ResultSort(symbols, name)),
             _ => Err(Stop::Refused),
         }
     }
@@ -133,7 +138,7 @@ impl Reader {
         &mut self,
         symbols: Symbols,
         name: Span,
-        token: Kind,
+        token: LexemeKind,
     ) -> Result<Due, Stop>
         requires state { IsAt (Due.ResultSort symbols name) self.old }
         requires token { IsToken self.old.source.items token }
@@ -141,7 +146,7 @@ impl Reader {
         ensures same { self.new.source ≡ self.old.source }
     {
         match token {
-            Kind::Plain(sort) => {
+            LexemeKind::Plain(sort) => {
                 let arguments = mem::replace(&mut self.words, SmallVec::new(self.alloc));
                 let declaration = Declaration {
                     name,
@@ -164,31 +169,31 @@ impl Reader {
     }
 
     /// After a group's first word: the others, and the colon.
-    pub(super) fn grouped(&mut self, first: Span, token: Kind) -> Result<Due, Stop>
+    pub(super) fn grouped(&mut self, first: Span, token: LexemeKind) -> Result<Due, Stop>
         requires state { IsAt (Due.Grouped first) self.old }
         requires token { IsToken self.old.source.items token }
         ensures moves { Steps (Due.Grouped first) self.old token result self.new }
         ensures same { self.new.source ≡ self.old.source }
     {
         match token {
-            Kind::Plain(word) => {
+            LexemeKind::Plain(word) => {
                 self.words.push(word)?;
                 Ok(Due::Grouped(first))
             }
-            Kind::Colon => Ok(Due::GroupSort(first)),
+            LexemeKind::Colon => Ok(Due::GroupSort(first)),
             _ => Err(Stop::Refused),
         }
     }
 
     /// After a group's colon: the sort.
-    pub(super) fn group_sort(&mut self, first: Span, token: Kind) -> Result<Due, Stop>
+    pub(super) fn group_sort(&mut self, first: Span, token: LexemeKind) -> Result<Due, Stop>
         requires state { IsAt (Due.GroupSort first) self.old }
         requires token { IsToken self.old.source.items token }
         ensures moves { Steps (Due.GroupSort first) self.old token result self.new }
         ensures same { self.new.source ≡ self.old.source }
     {
         match token {
-            Kind::Plain(sort) => {
+            LexemeKind::Plain(sort) => {
                 let others = mem::replace(&mut self.words, SmallVec::new(self.alloc));
                 self.sections.groups.push(Group {
                     first,

@@ -6,7 +6,7 @@ ghost use Rattle.rec_syntax.specs.Parts.{IsTerm, IsCondition, IsRule, AreSection
 ghost use Rattle.rec_syntax.specs.Reader.{IsAt, IsRole, Steps, Completes};
 
 use super::{Call, Due, Reader, Role, Stop};
-use crate::lexer::{Kind, Part, Span};
+use crate::lexer::{LexemeKind, Part, Span};
 use crate::parts::{Condition, Node, Rule, Term};
 use smallvec::SmallVec;
 use std::mem;
@@ -26,27 +26,27 @@ impl Reader {
     }
 
     /// A term's word.
-    pub(super) fn at_term(&mut self, token: Kind) -> Result<Due, Stop>
+    pub(super) fn at_term(&mut self, token: LexemeKind) -> Result<Due, Stop>
         requires state { IsAt Due.AtTerm self.old }
         requires token { IsToken self.old.source.items token }
         ensures moves { Steps Due.AtTerm self.old token result self.new }
         ensures same { self.new.source ≡ self.old.source }
     {
         match token {
-            Kind::Plain(word) => Ok(Due::Called(word)),
+            LexemeKind::Plain(word) => Ok(Due::Called(word)),
             _ => Err(Stop::Refused),
         }
     }
 
     /// After a term's word: an opening parenthesis, or what follows a term.
-    pub(super) fn called(&mut self, word: Span, token: Kind) -> Result<Due, Stop>
+    pub(super) fn called(&mut self, word: Span, token: LexemeKind) -> Result<Due, Stop>
         requires state { IsAt (Due.Called word) self.old }
         requires token { IsToken self.old.source.items token }
         ensures moves { Steps (Due.Called word) self.old token result self.new }
         ensures same { self.new.source ≡ self.old.source }
     {
         match token {
-            Kind::Open => Ok(Due::First(word)),
+            LexemeKind::Open => Ok(Due::First(word)),
             _ => {
                 self.nodes.push(Node { word, count: 0 })?;
                 self.after(token)
@@ -55,18 +55,18 @@ impl Reader {
     }
 
     /// After an opening parenthesis: the first argument, or the closing one.
-    pub(super) fn first(&mut self, word: Span, token: Kind) -> Result<Due, Stop>
+    pub(super) fn first(&mut self, word: Span, token: LexemeKind) -> Result<Due, Stop>
         requires state { IsAt (Due.First word) self.old }
         requires token { IsToken self.old.source.items token }
         ensures moves { Steps (Due.First word) self.old token result self.new }
         ensures same { self.new.source ≡ self.old.source }
     {
         match token {
-            Kind::Plain(argument) => {
+            LexemeKind::Plain(argument) => {
                 self.calls.push(Call { word, count: 0 })?;
                 Ok(Due::Called(argument))
             }
-            Kind::Close => {
+            LexemeKind::Close => {
                 self.nodes.push(Node { word, count: 0 })?;
                 Ok(Due::After)
             }
@@ -75,7 +75,7 @@ impl Reader {
     }
 
     /// After a whole term.
-    pub(super) fn after(&mut self, token: Kind) -> Result<Due, Stop>
+    pub(super) fn after(&mut self, token: LexemeKind) -> Result<Due, Stop>
         requires state { IsAt Due.After self.old }
         requires token { IsToken self.old.source.items token }
         ensures moves { Steps Due.After self.old token result self.new }
@@ -84,14 +84,14 @@ impl Reader {
         match self.calls.pop() {
             None => self.complete(token),
             Some(call) => match token {
-                Kind::Comma => {
+                LexemeKind::Comma => {
                     self.calls.push(Call {
                         word: call.word,
                         count: call.count + 1,
                     })?;
                     Ok(Due::AtTerm)
                 }
-                Kind::Close => {
+                LexemeKind::Close => {
                     self.nodes.push(Node {
                         word: call.word,
                         count: call.count + 1,
@@ -103,9 +103,9 @@ impl Reader {
         }
     }
 
-    /// After a whole term that is no argument: its nodes are copied, into as much room as they take,
-    /// so that the reader's own room serves the next term.
-    fn complete(&mut self, token: Kind) -> Result<Due, Stop>
+    /// After a whole term that is no argument: its nodes are copied, into as much room as they
+    /// take, so that the reader's own room serves the next term.
+    fn complete(&mut self, token: LexemeKind) -> Result<Due, Stop>
         requires state { IsAt Due.After self.old }
         requires alone { self.old.calls.items ≡ [] }
         requires token { IsToken self.old.source.items token }
@@ -118,7 +118,7 @@ impl Reader {
     }
 
     /// After such a term, which is this one.
-    fn completed(&mut self, term: Term, token: Kind) -> Result<Due, Stop>
+    fn completed(&mut self, term: Term, token: LexemeKind) -> Result<Due, Stop>
         requires sections { AreSections self.old.source.items self.old.sections }
         requires role { IsRole self.old.source.items self.old.role }
         requires term { IsTerm self.old.source.items term }
@@ -146,14 +146,14 @@ impl Reader {
     }
 
     /// After a rule's left side: the arrow.
-    fn after_left(&mut self, left: Term, token: Kind) -> Result<Due, Stop>
+    fn after_left(&mut self, left: Term, token: LexemeKind) -> Result<Due, Stop>
         requires sections { AreSections self.old.source.items self.old.sections }
         requires left { IsTerm self.old.source.items left }
         ensures moves { Completes Role.Left left self.old token result self.new }
         ensures same { self.new.source ≡ self.old.source }
     {
         match token {
-            Kind::Arrow => {
+            LexemeKind::Arrow => {
                 self.begin(Role::Right(left));
                 Ok(Due::AtTerm)
             }
@@ -162,7 +162,7 @@ impl Reader {
     }
 
     /// After a rule's right side: a condition, or what follows a rule.
-    fn after_right(&mut self, left: Term, right: Term, token: Kind) -> Result<Due, Stop>
+    fn after_right(&mut self, left: Term, right: Term, token: LexemeKind) -> Result<Due, Stop>
         requires sections { AreSections self.old.source.items self.old.sections }
         requires left { IsTerm self.old.source.items left }
         requires right { IsTerm self.old.source.items right }
@@ -176,7 +176,7 @@ impl Reader {
             conditions: SmallVec::new(self.alloc),
         };
         match token {
-            Kind::If => {
+            LexemeKind::If => {
                 self.begin(Role::ConditionLeft(rule));
                 Ok(Due::AtTerm)
             }
@@ -188,7 +188,12 @@ impl Reader {
     }
 
     /// After a condition's left term: the mark.
-    fn after_condition_left(&mut self, rule: Rule, left: Term, token: Kind) -> Result<Due, Stop>
+    fn after_condition_left(
+        &mut self,
+        rule: Rule,
+        left: Term,
+        token: LexemeKind,
+    ) -> Result<Due, Stop>
         requires sections { AreSections self.old.source.items self.old.sections }
         requires rule { IsRule self.old.source.items rule }
         requires left { IsTerm self.old.source.items left }
@@ -196,11 +201,11 @@ impl Reader {
         ensures same { self.new.source ≡ self.old.source }
     {
         match token {
-            Kind::Equal => {
+            LexemeKind::Equal => {
                 self.begin(Role::ConditionRight(rule, left, true));
                 Ok(Due::AtTerm)
             }
-            Kind::Unequal => {
+            LexemeKind::Unequal => {
                 self.begin(Role::ConditionRight(rule, left, false));
                 Ok(Due::AtTerm)
             }
@@ -213,7 +218,7 @@ impl Reader {
         &mut self,
         mut rule: Rule,
         condition: Condition,
-        token: Kind,
+        token: LexemeKind,
     ) -> Result<Due, Stop>
         requires sections { AreSections self.old.source.items self.old.sections }
         requires rule { IsRule self.old.source.items rule }
@@ -225,7 +230,7 @@ impl Reader {
     {
         rule.conditions.push(condition)?;
         match token {
-            Kind::AndIf => {
+            LexemeKind::AndIf => {
                 self.begin(Role::ConditionLeft(rule));
                 Ok(Due::AtTerm)
             }

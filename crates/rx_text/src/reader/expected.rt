@@ -12,7 +12,7 @@ ghost use Rattle.rx_text.specs.Expected.{is_taken, AreExpected, IsAtFault};
 
 use super::{Due, Opening, Reader};
 use crate::faults::TextFault;
-use crate::lexer::{Kind, next};
+use crate::lexer::{LexemeKind, next};
 use crate::reading::LONGEST;
 use crate::token_kind::TokenKind;
 use std::alloc::{AllocError, Global};
@@ -119,7 +119,7 @@ impl<'a> Reader<'a> {
     }
 
     /// Whether this token may stand here.
-    fn may_take(&self, due: Due, token: Kind) -> bool
+    fn may_take(&self, due: Due, token: LexemeKind) -> bool
         ensures { (made : List Tree) → result ≡ is_some
             (step (mode_of self.now.bytes.now due made) (frames_of self.now.bytes.now
             (reverse self.now.frames.items) (owned due made)) (token_of self.now.bytes.now token)) }
@@ -153,7 +153,7 @@ fn read_to_fault(alloc: Global, bytes: &[u8]) -> Result<(Due, Reader<'_>), Alloc
             Ok(due) => due,
             Err(_) => return Err(AllocError),
         };
-        if let Kind::End = lexeme.kind {
+        if let LexemeKind::End = lexeme.kind {
             return Ok((due, reader));
         }
         from = lexeme.to;
