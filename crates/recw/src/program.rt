@@ -28,7 +28,7 @@ pub fn program<H: Files, R: Read, W: Write, E: Write>(
         return obey(rt, alloc, &["eval"], input, out, err);
     }
     if words == ["help", "refusals"].as_slice() {
-        return report::shown(refusals::write_all(out), err);
+        return report::help_written(refusals::write_all(out), err);
     }
     obey(rt, alloc, words, input, out, err)
 }

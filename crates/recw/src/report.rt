@@ -56,7 +56,7 @@ fn failed<E: Write>(fault: RunFault, err: &mut E) -> u8
 }
 
 /// The status of a help that was written, or not.
-pub fn shown<E: Write>(written: io::Result<()>, err: &mut E) -> u8
+pub fn help_written<E: Write>(written: io::Result<()>, err: &mut E) -> u8
     ensures { (result ≡ 0) ⊎ (result ≡ 4) }
 {
     match written {

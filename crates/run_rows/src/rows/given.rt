@@ -60,9 +60,9 @@ static REFUSED: [Refused; 11] = [
 ];
 
 /// A specification, the text of terms, and which of them is refused.
-type Told = (&'static str, &'static str, Option<usize>);
+type RefusedTerm = (&'static str, &'static str, Option<usize>);
 
-static TOLD: [Told; 8] = [
+static REFUSED_TERMS: [RefusedTerm; 8] = [
     (Q, "[f(a),3]", Some(1)),
     (Q, "[a{b},f(a{b})]", Some(1)),
     (Q, "[f(b),a,c,X]", Some(2)),
@@ -209,14 +209,18 @@ fn limit_of_bytes(rt: HostRuntime) -> Result<(), AllocError> {
     Ok(())
 }
 
-/// Which term is told, of which no fact is handed on.
-fn told(alloc: Global, spec: &str, terms: &str) -> Result<Option<usize>, RunFault> {
+/// Which term is refused, of which no fact is handed on.
+fn term_refused_in(alloc: Global, spec: &str, terms: &str) -> Result<Option<usize>, RunFault> {
     refused_term(alloc, spec.as_bytes(), terms.as_bytes())
 }
 
 #[test]
 fn tells_the_refused_term(rt: HostRuntime) {
-    for (spec, terms, wanted) in &TOLD {
-        assert_eq!(rt; told(rt.alloc(), spec, terms), Ok(*wanted), "{terms}");
+    for (spec, terms, wanted) in &REFUSED_TERMS {
+        assert_eq!(rt;
+            term_refused_in(rt.alloc(), spec, terms),
+            Ok(*wanted),
+            "{terms}"
+        );
     }
 }

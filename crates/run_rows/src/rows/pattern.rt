@@ -70,9 +70,9 @@ static REFUSED_MAKES: [Refused; 12] = [
 ];
 
 /// A pattern, the text of arguments, and which of them does not fit.
-type Told = (&'static str, &'static str, Option<Misfit>);
+type RefusedArgument = (&'static str, &'static str, Option<Misfit>);
 
-static TOLD: [Told; 8] = [
+static REFUSED_ARGUMENTS: [RefusedArgument; 8] = [
     (
         "f(<int>)",
         "[]",
@@ -305,16 +305,20 @@ fn streams_that_fail(rt: HostRuntime) {
     assert_held(&rt, result, Err(RunFault::Write), &out, MADE, &0);
 }
 
-/// Which argument is told, of which no fact is handed on.
-fn told(alloc: Global, pattern: &str, args: &str) -> Result<Option<Misfit>, RunFault> {
+/// Which argument is refused, of which no fact is handed on.
+fn argument_refused_in(
+    alloc: Global,
+    pattern: &str,
+    args: &str,
+) -> Result<Option<Misfit>, RunFault> {
     refused_argument(alloc, pattern.as_bytes(), args.as_bytes())
 }
 
 #[test]
 fn tells_the_refused_argument(rt: HostRuntime) {
-    for (pattern, args, wanted) in &TOLD {
+    for (pattern, args, wanted) in &REFUSED_ARGUMENTS {
         assert_eq!(rt;
-            told(rt.alloc(), pattern, args),
+            argument_refused_in(rt.alloc(), pattern, args),
             Ok(*wanted),
             "{pattern} {args}"
         );
