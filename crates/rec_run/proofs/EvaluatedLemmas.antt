@@ -22,7 +22,6 @@ use Rattle.rec_sorts.proofs.EquationLemmas.{then_agrees}
 use Rattle.rec_sorts.specs.TermRules.{broken_by_elements, elements}
 use Rattle.rec_sorts.specs.Linked.{HasMoreSymbols}
 use Rattle.rec_engine.specs.Engine.{EngineState, IsGiven, IsOutcome, SameEngine, eval_tree}
-use Rattle.rec_engine.specs.declared.cells.EngineFault.TheVariants as engine
 use Rattle.rec_engine.specs.declared.engine.Outcome.{Outcome}
 use Rattle.rec_engine.specs.declared.engine.Outcome.TheVariants.{Value, Limit}
 use Rattle.rec_run.specs.EvaluatedLines.{FillsBank, ProtectsTerms, due_before, outcome_text, fault_after}

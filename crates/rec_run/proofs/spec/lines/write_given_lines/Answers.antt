@@ -1,4 +1,4 @@
-use Rattle.std.proofs.Common.{◌≡◌, ◌+◌, ◌<◌, ◌≤◌, ◌^◌, ℕ, List, IsSome, None, Some, ap, arith, drop, get_or, length, subst, sym, ◌∙◌}
+use Rattle.std.proofs.Common.{◌≡◌, ◌+◌, ◌<◌, ◌≤◌, ◌^◌, ℕ, List, IsSome, None, Some, ap, arith, drop, length, subst, sym, ◌∙◌}
 use Rattle.std.specs.Prelude.{codes, is_some, ◌++◌}
 use Rattle.std.specs.Io.KnownBytes.{Appends}
 use Rattle.rx_term.specs.Kinds.{HasKind}
