@@ -6,12 +6,13 @@ use Rattle.std.proofs.lemmas.Bool.{lt-ltb, ltb-true}
 use Rattle.rx_arena.specs.declared.arena.Arena.TheInside.{Inside}
 use Rattle.rx_arena.specs.declared.Slot.{Slot}
 use Rattle.rx_arena.specs.declared.CellBody.{CellBody}
+use Rattle.rx_arena.specs.Faces.{word_of}
 use Rattle.rx_arena.specs.Node as node
 use Rattle.rx_arena.specs.Node.{Node, has_mark, is_protected_node}
 use Rattle.rx_arena.specs.Held.{IsHeld}
 use Rattle.rx_arena.specs.Links.{Links, IsChain}
 use Rattle.rx_arena.specs.Pool.{is_unmarked_node}
-use Rattle.rx_arena.specs.Arena.{taken_at, IsTaken, chain_at, InChain, IsFirst, marked_at, is_marked, is_unmarked, roots_at, root_count, IsArena, shown_of}
+use Rattle.rx_arena.specs.Arena.{Taken, taken_at, IsTaken, chain_at, InChain, IsFirst, marked_at, is_marked, is_unmarked, roots_at, root_count, IsArena, shown_of}
 use Rattle.rx_arena.proofs.ChainLemmas as chains
 use Rattle.rx_arena.proofs.ChainLemmas.{ended, popped, chain_after, split_at, some_chain, first_some}
 use Rattle.rx_arena.proofs.PoolLemmas.{links_some}
@@ -26,6 +27,10 @@ first_of ls (Some n) None ss c e = absurd (cc (e.1))
 body-shown : (turned : Bool) (c : Option Node) (b : CellBody) → IfSome c (λ n. b ≡ n.body) → IfSome (option_map (shown_of turned) c) (λ t. b ≡ t.body)
 body-shown turned None b e = tt
 body-shown turned (Some n) b e = e
+
+word-shown : (turned : Bool) (c : Option Node) (w : ℕ) → IfSome c (λ n. w ≡ word_of n.body) → IfSome (option_map (shown_of turned) c) (λ t. w ≡ word_of t.body)
+word-shown turned None w e = tt
+word-shown turned (Some n) w e = e
 
 module _ (x : Inside) (law : IsArena (opened x)) where
   -- the node of a slot in a chain, with what comes after the slot
@@ -56,6 +61,12 @@ module _ (x : Inside) (law : IsArena (opened x)) where
 
   pub read_of : (s : ℕ) (b : CellBody) → IfSome (get_or x.pool.cells s None) (λ n. b ≡ n.body) → IfSome (taken_at (opened x) s) (λ t. b ≡ t.body)
   read_of s b e = subst (λ z. IfSome z (λ t. b ≡ t.body)) (sym (shown_at x law s)) (body-shown x.pool.turned (get_or x.pool.cells s None) b e)
+
+  pub word_at : (s w : ℕ) → IfSome (get_or x.pool.cells s None) (λ n. w ≡ word_of n.body) → IfSome (taken_at (opened x) s) (λ t. w ≡ word_of t.body)
+  word_at s w e = subst (λ z. IfSome z (λ t. w ≡ word_of t.body)) (sym (shown_at x law s)) (word-shown x.pool.turned (get_or x.pool.cells s None) w e)
+
+  pub holder_at : (s w : ℕ) → ((n : Node) × (get_or x.pool.cells s None ≡ Some n) × (w ≡ word_of n.body)) → (t : Taken) × (taken_at (opened x) s ≡ Some t) × (w ≡ word_of t.body)
+  holder_at s w (n, here, is) = (shown_of x.pool.turned n, shown_at x law s ∙ ap (option_map (shown_of x.pool.turned)) here, is)
 
   pub roots_of : (s k : ℕ) → IsTaken (opened x) s → IfSome (get_or x.pool.cells s None) (λ n. k ≡ n.roots) → k ≡ roots_at (opened x) s
   roots_of s k h e = let n = taken_node x law s h.0 h.1 in subst (λ z. IfSome z (λ n. k ≡ n.roots)) n.1 e ∙ sym (ap root_count (shown_at x law s ∙ ap (option_map (shown_of x.pool.turned)) n.1))

@@ -1,6 +1,6 @@
 -- What lies in the slots, each with the mark beside it, after a change of a cell, of a mark, or of both.
 use Rattle.std.proofs.Common.{◌≡◌, ℕ, zero, suc, ◌+◌, ◌-◌, ◌<◌, List, [], ◌∷◌, ◌++◌, length, get_or, set, Some, None, IfSome, refl, sym, ap, subst, ◌∙◌, arith}
-use Rattle.std.proofs.lemmas.List.{set-get_or, take_all}
+use Rattle.std.proofs.lemmas.List.{set-get_or, take_all, take-append-le}
 use Rattle.std.specs.Prelude.{Option, replicate, take}
 use Rattle.std.specs.Option.{option_map}
 use Rattle.rx_arena.specs.Node.{Node, changed, with_mark, next_in, with_next}
@@ -127,6 +127,10 @@ get_or_any (k ∷ ks) (suc s) lt d e = get_or_any ks s (omega (arith, lt)) d e
 pub resized : {A : Type 0} (xs : List A) (x : A) (n m : ℕ) → n ≡ length xs → m ≡ length xs → take (n + 1024) xs ++ replicate (n + 1024 - m) x ≡ xs ++ replicate 1024 x
 resized xs x n m e f = let more : n + 1024 - m ≡ 1024 = omega (arith, e, f) in
     λ i. take_all (n + 1024) xs (omega (arith, e)) i ++ replicate (more i) x
+
+-- a list from which it is taken away again
+pub cut-back : {A : Type 0} (xs mid new : List A) (x : A) (n m : ℕ) → n ≡ length xs → m ≡ length xs → mid ≡ take (n + 1024) xs ++ replicate (n + 1024 - m) x → new ≡ take n mid → new ≡ xs
+cut-back xs mid new x n m e f is cut = cut ∙ ap (take n) (is ∙ resized xs x n m e f) ∙ take-append-le n xs (replicate 1024 x) (omega (arith, e)) ∙ take_all n xs (omega (arith, e))
 
 pub below-marks : (ks : List ℕ) (cs : List (Option Node)) (s : ℕ) → HasMarks ks cs → s < length (with_marks ks cs) → s < length cs
 below-marks ks cs s e lt = let f = length-with_marks ks cs e in omega (arith, lt, f)

@@ -1,5 +1,5 @@
 -- What each call of a pool makes of the store, the free list and the cells.
-use Rattle.std.proofs.Common.{◌≡◌, ◌⊎◌, ℕ, ◌+◌, ◌-◌, ◌<◌, ◌≤◌, List, [], ◌∷◌, ◌++◌, length, get_or, set, Some, None, IfSome, inl, inr, refl, sym, ap, subst, ◌∙◌, arith}
+use Rattle.std.proofs.Common.{◌≡◌, ◌≢◌, ◌⊎◌, ℕ, ◌+◌, ◌-◌, ◌<◌, ◌≤◌, List, [], ◌∷◌, ◌++◌, length, get_or, set, Some, None, IfSome, inl, inr, refl, sym, ap, subst, ◌∙◌, arith}
 use Rattle.std.specs.Prelude.{Option, Bool, true, false, not, nat_eq, nat_lt, replicate, take, ◌^◌, min}
 use Rattle.std.proofs.lemmas.Bool.{eqb-true, ne_eqb}
 use Rattle.std.proofs.lemmas.Bool.Decides.{nat_tests}
@@ -10,12 +10,14 @@ use Rattle.rx_arena.specs.declared.pool.Pool.TheInside.{Inside}
 use Rattle.rx_arena.specs.declared.cells.Link.{Link}
 use Rattle.rx_arena.specs.declared.cells.Link.TheVariants.{Chain, Gray, Free}
 use Rattle.rx_arena.specs.Held.{IsHeld}
+use Rattle.rx_arena.specs.Faces.{ask, word_of, word_beside}
+use Rattle.rx_arena.proofs.FaceLemmas.{word-taken, word-node}
 use Rattle.rx_arena.specs.Put.{times, put, filled, one_some, altered}
 use Rattle.rx_arena.specs.Links.{Links, links, IsChain, Listed}
 use Rattle.rx_arena.specs.Pool.{PoolState, IsPool, cells_of, is_given_back, is_unmarked_node}
 use Rattle.rx_arena.proofs.PutLemmas.{within_some, filled-put, get_or-without_other, get_or-without_same}
 use Rattle.rx_arena.proofs.ChainLemmas.{one_or_more, chain_stays, popped, pushed, listed_is, first_some}
-use Rattle.rx_arena.proofs.PoolLemmas.{links-set_other, links-set_same, links_some, taken_at, cells-set, pool-set, reused-away, reused-below, reused-was_free, reused-cells, reused-pool, extended-chain, extended-was_free, extended-cells, extended-pool, given_back-cells, given_back-some_taken, given_back-pool, grown-chain, grown-cells, grown-pool}
+use Rattle.rx_arena.proofs.PoolLemmas.{lt_or_le, links-set_other, links-set_same, links_some, taken_at, cells-set, pool-set, reused-away, reused-below, reused-was_free, reused-cells, reused-pool, extended-chain, extended-was_free, extended-cells, extended-pool, given_back-cells, given_back-some_taken, given_back-pool, grown-chain, grown-cells, grown-pool}
 
 -- the two marks of taken cells
 pub mark_of_small : (turned marked : Bool) → mark_of turned marked ≤ 1
@@ -268,6 +270,26 @@ module _ (x : Inside) (p : IsPool x.store x.listed.0 x.fresh x.taken x.room x.ca
     | inl h ↦ ap (λ (z : ℕ). nat_eq z (mark_of turned false)) h.1.2 ∙ sym (ap (is_unmarked_node turned) h.1.1)
     | inr h ↦ ap (λ (z : ℕ). nat_eq z (mark_of turned false)) h.0 ∙ two_apart turned ∙ sym (ap (is_unmarked_node turned) h.1)
   ]
+
+  -- a taken slot's mark in the store
+  pub small_there : (s : ℕ) → IsHeld cells s → IfSome (get_or slots s None) (λ n. n.mark ≤ 1)
+  small_there s h = subst (λ z. IfSome z (λ n. n.mark ≤ 1)) (sym (taken_at slots l.0 fresh s h.0 h.1).at_store) (p.taken_known s h.0 h.1)
+
+  -- a taken slot's word
+  pub word_there : (s : ℕ) → IsHeld cells s → (w : ℕ) → w ≡ word_beside (get_or slots s None) → IfSome (get_or cells s None) (λ n. w ≡ word_of n.body)
+  word_there s h w e = subst (λ z. IfSome z (λ n. w ≡ word_of n.body)) (sym h.1) (e ∙ ap word_beside (taken_at slots l.0 fresh s h.0 h.1).at_store ∙ word-taken h.0 (p.taken_known s h.0 h.1))
+
+  -- a slot with a word is taken
+  pub worded_held : (s w : ℕ) → w ≢ ask → w ≡ word_beside (get_or slots s None) → (n : Node) × (get_or cells s None ≡ Some n) × (w ≡ word_of n.body)
+  worded_held s w ne e = elim (lt_or_le s fresh) [
+    | inl lt ↦ elim (known_at s node.0.mark lt (subst (λ o. IfSome o (λ n. node.0.mark ≡ n.mark)) (sym node.1) refl)) [
+      | inl h ↦ (let here = h.1.1 in (h.1.0, here, subst (λ o. IfSome o (λ n. w ≡ word_of n.body)) here (word_there s (h.1.0, here) w e)))
+      | inr h ↦ absurd (node.2 h.0)
+    ]
+    | inr le ↦ absurd (ne (e ∙ ap word_beside (p.empty s le)))
+  ] where
+    node : (n : Node) × (get_or slots s None ≡ Some n) × (n.mark ≢ 2) × (w ≡ word_of n.body)
+    node = word-node (get_or slots s None) w ne e
 
   -- so is a slot taken and protected: by its mark, where its node is protected
   pub protected_held : (s k : ℕ) → s < fresh → IfSome (get_or slots s None) (λ n. k ≡ n.mark) → is_protected_node (get_or slots s None) ≡ true → not (nat_eq k 2) ≡ is_protected_node (get_or cells s None)

@@ -5,18 +5,20 @@ ghost use Rattle.std.specs.Prelude.{Some, None, Ok, Err, MatchOption, IfSome, If
 ghost use Rattle.std.specs.Prelude.{OnErr, IfNone, IsSome, get_or, length, slice_set, take};
 ghost use Rattle.std.specs.Prelude.{replicate, reverse, is_some, map};
 ghost use Rattle.std.specs.Option.{option_map};
+ghost use Rattle.rx_arena.specs.Faces.{ask, face_of, word_of};
 ghost use Rattle.rx_arena.specs.Put.{times, times_in, total, total-prop, put, altered, emptied};
 ghost use Rattle.rx_arena.specs.Links.{Chained, Chained-prop, Listed, Listed-prop, links};
-ghost use Rattle.rx_arena.specs.Arena.{taken_at, IsTaken, taken_count, chain_at, InChain, IsLoose};
+ghost use Rattle.rx_arena.specs.Arena.{Taken, taken_at, IsTaken, taken_count, chain_at, InChain, IsLoose};
 ghost use Rattle.rx_arena.specs.Arena.{marked_at, IsMarked, roots_at, hash_at, IsUnprotected};
 ghost use Rattle.rx_arena.specs.Arena.{new_cell, with_count, with_marking, kept_in, dropped_from};
 ghost use Rattle.rx_arena.specs.Arena.{IsFirst, is_unmarked, times_hashed, IsArena, empty_arena};
 
 use crate::cells::Link;
+use crate::faces::{ASK, first, said, second};
 use crate::fault::ArenaFault;
 use crate::heads::{Heads, home};
 use crate::pool::Pool;
-use crate::{CellBody, Slot};
+use crate::{CellBody, Face, Slot};
 use std::alloc::Global;
 use std::marker::Model;
 
@@ -108,6 +110,7 @@ impl Arena {
     }
 
     /// Takes a slot for this body: unmarked, protected by no root, in no chain.
+    #[inline(always)]
     pub fn take(&mut self, body: CellBody) -> Result<Slot, ArenaFault>
         ensures free { IfOk result (λ s. taken_at self.old s.0 ≡ None) }
         ensures below { IfOk result (λ s. s.0 < self.old.cap) }
@@ -149,6 +152,99 @@ impl Arena {
         ensures { IfSome (taken_at self.now slot.0) (λ t. result ≡ t.body) }
     {
         self.pool.body(slot.0)
+    }
+
+    /// The word of what the cell says. It stands beside the cell, which is not touched.
+    #[inline(always)]
+    pub fn word(&self, slot: Slot) -> u64
+        requires { IsTaken self.now slot.0 }
+        ensures { IfSome (taken_at self.now slot.0) (λ t. result ≡ word_of t.body) }
+    {
+        self.pool.word(slot.0)
+    }
+
+    /// Whether the slot is taken, by a cell of this word.
+    #[inline(always)]
+    pub fn holds_word(&self, slot: Slot, word: u64) -> bool
+        requires { word ≢ ask }
+        ensures { IsTrue result
+            → (t : Taken) × (taken_at self.now slot.0 ≡ Some t) × (word ≡ word_of t.body) }
+    {
+        self.pool.holds_word(slot.0, word)
+    }
+
+    /// What the cell says but for its hash, read there.
+    #[inline(never)]
+    fn face_in_cell(&self, slot: Slot) -> Face
+        requires { IsTaken self.now slot.0 }
+        ensures { IfSome (taken_at self.now slot.0) (λ t. result ≡ face_of t.body) }
+    {
+        let body = self.read(slot);
+        Face {
+            kind: body.kind,
+            a: body.a,
+            b: body.b,
+            anns: body.anns,
+        }
+    }
+
+    /// The first word of the body, read in the cell.
+    #[inline(never)]
+    fn first_in_cell(&self, slot: Slot) -> u64
+        requires { IsTaken self.now slot.0 }
+        ensures { IfSome (taken_at self.now slot.0) (λ t. result ≡ t.body.a) }
+    {
+        self.read(slot).a
+    }
+
+    /// The second word of the body, read in the cell.
+    #[inline(never)]
+    fn second_in_cell(&self, slot: Slot) -> u64
+        requires { IsTaken self.now slot.0 }
+        ensures { IfSome (taken_at self.now slot.0) (λ t. result ≡ t.body.b) }
+    {
+        self.read(slot).b
+    }
+
+    /// What the cell says but for its hash: mostly from the word beside the cell, so that the cell
+    /// is not touched.
+    #[inline(always)]
+    pub fn face(&self, slot: Slot) -> Face
+        requires { IsTaken self.now slot.0 }
+        ensures { IfSome (taken_at self.now slot.0) (λ t. result ≡ face_of t.body) }
+    {
+        match said(self.word(slot)) {
+            Some(face) => face,
+            None => self.face_in_cell(slot),
+        }
+    }
+
+    /// The first word of the body, mostly from the word beside the cell.
+    #[inline(always)]
+    pub fn first(&self, slot: Slot) -> u64
+        requires { IsTaken self.now slot.0 }
+        ensures { IfSome (taken_at self.now slot.0) (λ t. result ≡ t.body.a) }
+    {
+        let word = self.word(slot);
+        if word == ASK {
+            self.first_in_cell(slot)
+        } else {
+            first(word)
+        }
+    }
+
+    /// The second word of the body, mostly from the word beside the cell.
+    #[inline(always)]
+    pub fn second(&self, slot: Slot) -> u64
+        requires { IsTaken self.now slot.0 }
+        ensures { IfSome (taken_at self.now slot.0) (λ t. result ≡ t.body.b) }
+    {
+        let word = self.word(slot);
+        if word == ASK {
+            self.second_in_cell(slot)
+        } else {
+            second(word)
+        }
     }
 
     /// Whether the slot is taken and not marked.
@@ -217,6 +313,7 @@ impl Arena {
     }
 
     /// Puts a slot in front of a chain.
+    #[inline(always)]
     pub fn chain_push(&mut self, chain: u32, slot: Slot)
         requires chain { chain < length self.old.chains }
         requires taken { IsTaken self.old slot.0 }
@@ -306,6 +403,16 @@ impl Arena {
             }
             None => None,
         }
+    }
+
+    /// Marks the cell, and leaves it out of the gray list.
+    pub fn mark(&mut self, slot: Slot)
+        requires { IsTaken self.old slot.0 }
+        ensures after { self.new ≡ record self.old
+            { cells = altered slot.0 (with_marking true) self.old.cells } }
+        ensures law { IsArena self.new }
+    {
+        self.pool.set_mark(slot.0, true)
     }
 
     /// Clears the mark of a cell.

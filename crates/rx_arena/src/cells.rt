@@ -195,6 +195,7 @@ impl Cells {
     }
 
     /// Writes a new node into a slot, over what lies there.
+    #[inline(always)]
     pub(crate) fn fill(&mut self, at: Place, body: CellBody)
         requires { IsPlace self.old.blocks at × (at.slot < length self.old.slots) }
         ensures blocks { self.new.blocks ≡ self.old.blocks }

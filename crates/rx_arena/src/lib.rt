@@ -14,10 +14,11 @@
 //! | 62 | `kind` | the body's kind |
 //! | 63 | | not used |
 //!
-//! Beside the blocks there are two bytes for each slot. One is its mark: 0 or 1 while the slot is
-//! taken, where one of them says that it is marked, and 2 once it is given back. The other says
-//! whether it is protected. So whether a slot is taken, marked or protected is read without its
-//! cell.
+//! Beside the blocks there are two bytes and a word for each slot. One byte is its mark: 0 or 1
+//! while the slot is taken, where one of them says that it is marked, and 2 once it is given back.
+//! The other says whether it is protected. The word says what the cell says but for the hash, where
+//! that fits, there are no annotations and the cell was not given back. So whether a slot is taken,
+//! marked or protected, and mostly what it holds, is read without its cell.
 //!
 //! No pointer is compared, tested against null or turned into a number: a link is known by the
 //! `number` in the cell that it leads to, and a cell's own number means the end.
@@ -25,6 +26,7 @@
 
 pub mod arena;
 mod cells;
+pub mod faces;
 mod fault;
 mod heads;
 mod marked;
@@ -46,4 +48,13 @@ pub struct CellBody {
     pub b: u64,
     pub anns: Option<Slot>,
     pub hash: u64,
+}
+
+/// What a cell says, but for the hash.
+#[derive(Clone, Copy, Debug, PartialEq, Eq)]
+pub struct Face {
+    pub kind: u8,
+    pub a: u64,
+    pub b: u64,
+    pub anns: Option<Slot>,
 }

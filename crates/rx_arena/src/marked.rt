@@ -1,25 +1,34 @@
-//! The slots with what lies beside their cells: the marks, and which slots are protected.
-ghost use Rattle.std.specs.Prelude.{◌≡◌, ◌<◌, [], ◌++◌, length, map, replicate, slice_set};
+//! The slots with what lies beside their cells: the marks, which slots are protected, and words
+//! that say what the cells say.
+ghost use Rattle.std.specs.Prelude.{◌≡◌, ◌<◌, ◌≤◌, [], ◌++◌, length, map, replicate, slice_set};
 ghost use Rattle.std.specs.Prelude.{Some, None, IfSome, OnOk, OnErr};
 ghost use Rattle.rx_arena.specs.Node.{node_at, lone, changed, is_protected_node};
 ghost use Rattle.rx_arena.specs.Node.{with_roots, with_mark, next_in, with_next};
 ghost use Rattle.rx_arena.specs.Held.{IsHeld};
+ghost use Rattle.rx_arena.specs.Faces.{word_beside};
+ghost use Rattle.rx_arena.specs.Marks.{with_marks};
 
 use crate::CellBody;
 use crate::cells::Link;
+use crate::faces::{ASK, word};
 use crate::room::BLOCK;
 use crate::store::Store;
 use std::alloc::{AllocError, Global};
 use std::marker::Model;
 
-/// What each slot holds, if anything lies there: the cells, and for each its mark and whether its
-/// root count is above 0.
+/// The mark of a cell that was given back.
+pub(crate) const GIVEN_BACK: u8 = 2;
+
+/// What each slot holds, if anything lies there: the cells, and for each its mark, whether its root
+/// count is above 0, and the word of its body.
 #[derive(Drop)]
 pub(crate) struct MarkedStore {
     cells: Store,
     marks: Vec<u8>,
     protected: Vec<bool>,
+    words: Vec<u64>,
     ghost told: { protected.items ≡ map is_protected_node cells },
+    ghost said: { words.items ≡ map word_beside (with_marks marks.items cells) },
 }
 
 impl Model for MarkedStore {
@@ -43,6 +52,7 @@ impl MarkedStore {
             cells: Store::new(alloc),
             marks: Vec::new(alloc),
             protected: Vec::new(alloc),
+            words: Vec::new(alloc),
         }
     }
 
@@ -57,24 +67,33 @@ impl MarkedStore {
             self.marks.truncate(slots);
             return Err(fault);
         }
+        if let Err(fault) = self.words.resize(slots + BLOCK, ASK) {
+            self.marks.truncate(slots);
+            self.protected.truncate(slots);
+            return Err(fault);
+        }
         match self.cells.grow() {
             Ok(()) => Ok(()),
             Err(fault) => {
                 self.marks.truncate(slots);
                 self.protected.truncate(slots);
+                self.words.truncate(slots);
                 Err(fault)
             }
         }
     }
 
     /// Puts a new node with this body and mark, in no list, over what lies at the slot.
+    #[inline(always)]
     pub(crate) fn fill(&mut self, slot: u32, body: CellBody, mark: u8)
-        requires { slot < length self.old }
+        requires slot { slot < length self.old }
+        requires mark { mark ≤ 1 }
         ensures { self.new ≡ slice_set self.old slot (Some (lone mark body)) }
     {
         self.cells.fill(slot, body);
         self.marks[slot as usize] = mark;
         self.protected[slot as usize] = false;
+        self.words[slot as usize] = word(body);
     }
 
     /// The body.
@@ -83,6 +102,15 @@ impl MarkedStore {
         ensures { IfSome (node_at self.now slot) (λ n. result ≡ n.body) }
     {
         self.cells.body(slot)
+    }
+
+    /// The word that says what the cell says, where it can, and where it was not given back.
+    #[inline(always)]
+    pub(crate) fn word(&self, slot: u32) -> u64
+        requires { slot < length self.now }
+        ensures { result ≡ word_beside (node_at self.now slot) }
+    {
+        self.words[slot as usize]
     }
 
     /// The root count.
@@ -118,12 +146,23 @@ impl MarkedStore {
         self.marks[slot as usize]
     }
 
-    /// Replaces the mark.
+    /// Replaces the mark of a cell that was not given back.
     pub(crate) fn set_mark(&mut self, slot: u32, mark: u8)
-        requires { IsHeld self.old slot }
+        requires held { IsHeld self.old slot }
+        requires taken { IfSome (node_at self.old slot) (λ n. n.mark ≤ 1) }
+        requires mark { mark ≤ 1 }
         ensures { self.new ≡ changed slot (with_mark mark) self.old }
     {
         self.marks[slot as usize] = mark;
+    }
+
+    /// Marks a cell as one that was given back.
+    pub(crate) fn give_back(&mut self, slot: u32)
+        requires { IsHeld self.old slot }
+        ensures { self.new ≡ changed slot (with_mark 2) self.old }
+    {
+        self.marks[slot as usize] = GIVEN_BACK;
+        self.words[slot as usize] = ASK;
     }
 
     /// The next slot of a list.

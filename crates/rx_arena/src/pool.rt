@@ -1,8 +1,9 @@
 //! The slots that are taken, and a list of those that were given back.
 ghost use Rattle.std.specs.Prelude.{◌≡◌, ◌+◌, ◌-◌, ◌<◌, ◌≤◌, ◌^◌, ◌∷◌, [], Option, Some, None, Ok};
 ghost use Rattle.std.specs.Prelude.{Err, MatchOption, MatchResult, IfSome, IfOk, IfErr, OnOk};
-ghost use Rattle.std.specs.Prelude.{OnErr, OnSome, IfNone, get_or, length, min, ℕ, false, not};
+ghost use Rattle.std.specs.Prelude.{◌≢◌, IsTrue, OnErr, OnSome, IfNone, get_or, length, min, ℕ, false, not};
 ghost use Rattle.rx_arena.specs.Held.{IsHeld};
+ghost use Rattle.rx_arena.specs.Faces.{ask, word_of};
 ghost use Rattle.rx_arena.specs.Node as spec;
 ghost use Rattle.rx_arena.specs.Node.{Node, lone, has_mark, is_protected_node, next_in, with_mark};
 ghost use Rattle.rx_arena.specs.Node.{with_next, with_roots};
@@ -13,7 +14,7 @@ ghost use Rattle.rx_arena.specs.Pool.{spare_of, is_unmarked_node};
 use crate::CellBody;
 use crate::cells::Link;
 use crate::fault::ArenaFault;
-use crate::marked::MarkedStore;
+use crate::marked::{GIVEN_BACK, MarkedStore};
 use std::alloc::Global;
 use std::marker::Model;
 
@@ -25,9 +26,6 @@ const LOW: u8 = 0;
 
 /// The other mark of taken cells.
 const HIGH: u8 = 1;
-
-/// The mark of a cell that was given back.
-const GIVEN_BACK: u8 = 2;
 
 /// The mark of a taken cell, by whether the marks are turned and whether the cell is marked.
 fn mark_of(turned: bool, marked: bool) -> u8
@@ -108,6 +106,7 @@ impl Pool {
     }
 
     /// Takes the slot that was given back last.
+    #[inline(always)]
     fn reuse(&mut self, body: CellBody) -> Option<u32>
         ensures listed { MatchOption result (self.old.free ≡ [])
             (λ s. self.old.free ≡ s ∷ self.new.free) }
@@ -133,6 +132,7 @@ impl Pool {
     }
 
     /// Takes a slot that was never taken.
+    #[inline(always)]
     fn extend(&mut self, body: CellBody) -> u32
         requires { (self.old.fresh < self.old.room) × (self.old.fresh < self.old.cap) }
         ensures slot { result ≡ self.old.fresh }
@@ -152,6 +152,7 @@ impl Pool {
     }
 
     /// Adds a block of slots.
+    #[inline(never)]
     fn grow(&mut self) -> Result<(), ArenaFault>
         requires { self.old.room < self.old.cap }
         ensures ok { OnOk result (self.new ≡ record self.old { room = self.old.room + 1024 }) }
@@ -174,7 +175,7 @@ impl Pool {
             { cells = put self.old.cells slot None; free = slot ∷ self.old.free } }
         ensures spare { spare_of self.new ≡ spare_of self.old + 1 }
     {
-        self.store.set_mark(slot, GIVEN_BACK);
+        self.store.give_back(slot);
         self.store.set_next(slot, Link::Free, self.free);
         self.free = Some(slot);
         self.taken -= 1;
@@ -207,6 +208,25 @@ impl Pool {
         ensures { IfSome (get_or self.now.cells slot None) (λ n. result ≡ n.body) }
     {
         self.store.body(slot)
+    }
+
+    /// The word of what a taken slot holds.
+    #[inline(always)]
+    pub(crate) fn word(&self, slot: u32) -> u64
+        requires { IsHeld self.now.cells slot }
+        ensures { IfSome (get_or self.now.cells slot None) (λ n. result ≡ word_of n.body) }
+    {
+        self.store.word(slot)
+    }
+
+    /// Whether a slot is taken, and its word is this one.
+    #[inline(always)]
+    pub(crate) fn holds_word(&self, slot: u32, word: u64) -> bool
+        requires { word ≢ ask }
+        ensures { IsTrue result
+            → (n : Node) × (get_or self.now.cells slot None ≡ Some n) × (word ≡ word_of n.body) }
+    {
+        slot < self.room && self.store.word(slot) == word
     }
 
     /// How often a taken slot is rooted.
@@ -276,6 +296,7 @@ impl Pool {
     }
 
     /// Takes a slot, one that was given back where there is one.
+    #[inline(always)]
     pub(crate) fn take(&mut self, body: CellBody) -> Result<u32, ArenaFault>
         ensures free { IfOk result (λ s. get_or self.old.cells s None ≡ None) }
         ensures below { IfOk result (λ s. s < self.old.cap) }

@@ -104,6 +104,7 @@ impl<A: Allocator + Copy> Store<A> {
     }
 
     /// Puts a new node with this body, in no list, over what lies at the slot.
+    #[inline(always)]
     pub fn fill(&mut self, slot: u32, body: CellBody)
         requires { slot < length self.old }
         ensures { self.new ≡ slice_set self.old slot (Some (lone 0 body)) }

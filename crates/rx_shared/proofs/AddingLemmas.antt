@@ -1,5 +1,5 @@
 -- A slot that is taken for a body and linked, as a step of the bank.
-use Rattle.std.proofs.Common.{◌≡◌, ℕ, ◌%◌, ◌<◌, ◌∷◌, length, Some, None, sym, ap, subst, arith}
+use Rattle.std.proofs.Common.{◌≡◌, ◌≢◌, ℕ, ◌%◌, ◌<◌, ◌∷◌, length, Some, None, sym, ap, subst, arith}
 use Rattle.std.specs.Prelude.{slice_set}
 use Rattle.std.proofs.lemmas.Nat.{mod_below}
 use Rattle.rx_arena.specs.declared.CellBody.{CellBody}
@@ -38,6 +38,12 @@ module _ (b : SharedBank) (mid new : ArenaState) (k c : ℕ) (body : CellBody) (
 
   pub linked-tidy : IsWritten body → IsTidy new
   linked-tidy = arenas.tidy-added b.arena mid new k c body b.tidy law free cells rest loose lt chain after
+
+  pub linked-here : taken_at new k ≡ Some (new_cell body)
+  linked-here = arenas.added-here b.arena mid new k c body b.tidy law free cells rest loose lt chain after
+
+  pub linked-else : (s : ℕ) → s ≢ k → taken_at new s ≡ taken_at b.arena s
+  linked-else = arenas.added-else b.arena mid new k c body b.tidy law free cells rest loose lt chain after
 
   pub linked-puts : Puts b.arena new k (cell_of body)
   linked-puts = record {

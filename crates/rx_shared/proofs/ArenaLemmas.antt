@@ -103,16 +103,16 @@ module _ (a z : ArenaState) (k n : ℕ) (t : Taken) (here : taken_at a k ≡ Som
     | inr p ↦ rw p.0 (ap root_count (counted-else s p.1))
   ]
 
-  body_was : (s : ℕ) (u : Taken) → taken_at z s ≡ Some u → (v : Taken) × (taken_at a s ≡ Some v) × (v.body ≡ u.body)
-  body_was s u e = elim (eqb_tells s k) [
+  pub counted-was : (s : ℕ) (u : Taken) → taken_at z s ≡ Some u → (v : Taken) × (taken_at a s ≡ Some v) × (v.body ≡ u.body)
+  counted-was s u e = elim (eqb_tells s k) [
     | inl p ↦ (let same : with_count n t ≡ u = (let q : taken_at z s ≡ Some (with_count n t) = ap (taken_at z) p.1 ∙ counted-here in cc) in (t, ap (taken_at a) p.1 ∙ here, ap (λ (v : Taken). v.body) same))
     | inr p ↦ (u, sym (counted-else s p.1) ∙ e, refl)
   ]
 
   pub tidy-counted : n ≤ 65535 → IsTidy z
   tidy-counted fits = tidy-from z law
-      (λ s u e. let v = body_was s u e in subst IsWritten v.2 (tidy.written s v.0 v.1))
-      (λ s u e. let v = body_was s u e in ap (λ (css : List (List ℕ)). times s (get_or css (u.body.hash % length css) [])) same_css ∙ ap (λ (b : CellBody). times s (chain_at a (b.hash % length a.chains))) (sym v.2) ∙ tidy.homed s v.0 v.1)
+      (λ s u e. let v = counted-was s u e in subst IsWritten v.2 (tidy.written s v.0 v.1))
+      (λ s u e. let v = counted-was s u e in ap (λ (css : List (List ℕ)). times s (get_or css (u.body.hash % length css) [])) same_css ∙ ap (λ (b : CellBody). times s (chain_at a (b.hash % length a.chains))) (sym v.2) ∙ tidy.homed s v.0 v.1)
       (λ s. elim (eqb_tells s k) [
         | inl p ↦ ap (marked_at z) p.1 ∙ ap is_marked counted-here ∙ sym (ap is_marked here) ∙ tidy.unmarked k
         | inr p ↦ ap is_marked (counted-else s p.1) ∙ tidy.unmarked s

@@ -188,14 +188,14 @@ module _ (b : SharedBank) (g : ArenaState) (extra : List Term) (m : Marks b.aren
       by_cell None e = ap root_count e ∙ sym (not-rooted s (ap is_some e))
       by_cell (Some t) e = ap root_count (kept-was s (t, e)) ∙ unmarked-roots (taken_at b.arena s)
 
-    was : (s : ℕ) (t : Taken) → taken_at z s ≡ Some t → (v : Taken) × (taken_at b.arena s ≡ Some v) × (v.body ≡ t.body)
-    was s t e = unmarked-body (taken_at b.arena s) t (sym (kept-was s (t, e)) ∙ e)
+    pub collected-was : (s : ℕ) (t : Taken) → taken_at z s ≡ Some t → (v : Taken) × (taken_at b.arena s ≡ Some v) × (v.body ≡ t.body)
+    collected-was s t e = unmarked-body (taken_at b.arena s) t (sym (kept-was s (t, e)) ∙ e)
 
     pub collected-tidy : IsTidy z
     collected-tidy = tidy-from z law
-        (λ s t e. let v = was s t e in subst IsWritten v.2 (b.tidy.written s v.0 v.1))
+        (λ s t e. let v = collected-was s t e in subst IsWritten v.2 (b.tidy.written s v.0 v.1))
         (λ s t e.
-        let v = was s t e in
+        let v = collected-was s t e in
         let home = b.tidy.homed s v.0 v.1 in
         let k = v.0.body.hash % length b.arena.chains in
         let same : chain_at z k ≡ filter (λ s. is_taken z s) (chain_at b.arena k) = ap (λ (css : List (List ℕ)). get_or css k []) left.chains ∙ get_or-map_filter (λ s. is_taken z s) g.chains k ∙ ap (λ (css : List (List ℕ)). filter (λ s. is_taken z s) (get_or css k [])) (same_chains b.arena g m.same) in

@@ -4,13 +4,16 @@ ghost use Rattle.std.specs.Prelude.{◌≡◌, ◌≤◌, ◌^◌, length};
 ghost use Rattle.rx_term.specs.Heap.{Least, Least-prop, IsDistinct, is_whole};
 ghost use Rattle.rx_names.specs.Names.{symbols_of};
 ghost use Rattle.rx_shared.specs.Tidy.{IsTidy, heap_of};
+ghost use Rattle.rx_shared.specs.Hints.{CoversTaken};
 ghost use Rattle.rx_term.specs.Bank.{table_of};
 
 use crate::bodies::{EMPTY, INTEGER, body};
-use crate::finding::find;
+use crate::finding::{find, holds_word};
 use crate::graying::gray_all;
+use crate::hints::Hints;
 use rx_arena::arena::Arena;
-use rx_arena::{ArenaFault, CellBody, Slot};
+use rx_arena::faces::{said, word};
+use rx_arena::{ArenaFault, CellBody, Face, Slot};
 use rx_names::Names;
 use rx_sweep::collect_by_hash;
 use rx_sweep::kinds::{APPLICATION, LIST, PLACEHOLDER};
@@ -28,6 +31,7 @@ const LAST_BITS: u32 = 30;
 pub struct SharedBank {
     arena: Arena,
     names: Names,
+    hints: Hints,
     bits: u32,
     cap: u32,
     ghost limited: { cap ≡ arena.cap },
@@ -38,15 +42,18 @@ pub struct SharedBank {
     ghost whole: { Least
         (is_whole (heap_of arena) (table_of (symbols_of names)) arena.cap) } by { Least-prop
             (is_whole (heap_of arena) (table_of (symbols_of names)) arena.cap) },
+    ghost covered: { CoversTaken hints.last.items arena },
 }
 
 impl SharedBank {
-    ghost use Rattle.std.specs.Prelude.{◌≢◌, ◌<◌, ◌%◌, ℕ, IsSome, IfOk, IfErr, Some, MatchOption};
+    ghost use Rattle.std.specs.Prelude.{◌≢◌, ◌<◌, ◌%◌, ℕ, IsSome, IsTrue, IfSome, IfOk, IfErr, Some, None, MatchOption};
     ghost use Rattle.rx_term.specs.Store.{tree_at};
+    ghost use Rattle.rx_term.specs.Kinds.{HasKind};
     ghost use Rattle.rx_term.specs.Steps.{MakesOrRefuses, with_count};
     ghost use Rattle.rx_term.specs.declared.faults.BankFault.TheVariants.{Memory};
-    ghost use Rattle.rx_shared.specs.Bodies.{cell_of, notes_of, IsWritten};
+    ghost use Rattle.rx_shared.specs.Bodies.{cell_of, body_of, notes_of, whole, IsWritten};
     ghost use Rattle.rx_shared.specs.State.{store_of, tree_of_body};
+    ghost use Rattle.rx_shared.specs.Reading.{HoldsFace, HoldsWritten};
     ghost use Rattle.rx_term.specs.Bank.{IsEmptyStore, IsNotesOf};
     ghost use Rattle.rx_shared.specs.Mirror.{Mirrors};
     ghost use Rattle.rx_arena.specs.Arena.{IsArena};
@@ -66,6 +73,7 @@ impl SharedBank {
         Ok(SharedBank {
             arena,
             names,
+            hints: Hints::new(alloc),
             bits: FIRST_BITS,
             cap,
         })
@@ -93,8 +101,18 @@ impl SharedBank {
         }
     }
 
+    /// The same, where there are more cells than chains.
+    #[inline(always)]
+    fn widen_where_full(&mut self)
+        ensures { store_of self.new ≡ store_of self.old }
+    {
+        if self.arena.cells() > 1 << self.bits {
+            self.widen();
+        }
+    }
+
     /// Takes a slot for a body that no slot holds.
-    #[inline(never)]
+    #[inline(always)]
     fn add(&mut self, chain: u32, body: CellBody) -> Result<Term, BankFault>
         requires chain { chain ≡ body.hash % length self.old.arena.chains }
         requires written { IsWritten body }
@@ -106,6 +124,7 @@ impl SharedBank {
         match self.arena.take(body) {
             Ok(slot) => {
                 self.arena.chain_push(chain, slot);
+                self.hints.cover(body, slot.0);
                 Ok(Term(slot.0))
             }
             Err(ArenaFault::Full) => Err(BankFault::Full),
@@ -121,7 +140,106 @@ impl SharedBank {
         (hash & ((1u64 << self.bits) - 1)) as u32
     }
 
-    /// The reference of a body.
+    /// The reference of a body, searched along its chain unless it is known that no slot holds it.
+    #[inline(always)]
+    fn make_by_hash(&mut self, body: CellBody, is_new: bool) -> Result<Term, BankFault>
+        requires written { IsWritten body }
+        requires tree { IsSome (tree_of_body (store_of self.old) body) }
+        requires nowhere { IsTrue is_new
+            → (t : ℕ) → heap_of self.old.arena t ≢ Some (cell_of body) }
+        ensures { let w = store_of self.old in
+            MakesOrRefuses w (store_of self.new) (tree_of_body w body) result }
+    {
+        let chain = self.home(body.hash);
+        if !is_new {
+            if let Some(slot) = find(&self.arena, chain, body) {
+                self.hints.point(body, slot.0);
+                return Ok(Term(slot.0));
+            }
+        }
+        let made = self.add(chain, body)?;
+        self.widen_where_full();
+        Ok(made)
+    }
+
+    /// The same for a list node of these words.
+    #[inline(never)]
+    fn make_list(&mut self, a: u64, b: u64, is_new: bool) -> Result<Term, BankFault>
+        requires written { IsWritten (body_of 2 a b None) }
+        requires tree { IsSome (tree_of_body (store_of self.old) (body_of 2 a b None)) }
+        requires nowhere { IsTrue is_new
+            → (t : ℕ) → heap_of self.old.arena t ≢ Some (cell_of (body_of 2 a b None)) }
+        ensures { let w = store_of self.old in MakesOrRefuses w (store_of self.new)
+            (tree_of_body w (body_of 2 a b None)) result }
+    {
+        self.make_by_hash(body(LIST, a, b, None), is_new)
+    }
+
+    /// The same for an application of these words.
+    #[inline(never)]
+    fn make_application(&mut self, a: u64, b: u64, is_new: bool) -> Result<Term, BankFault>
+        requires written { IsWritten (body_of 3 a b None) }
+        requires tree { IsSome (tree_of_body (store_of self.old) (body_of 3 a b None)) }
+        requires nowhere { IsTrue is_new
+            → (t : ℕ) → heap_of self.old.arena t ≢ Some (cell_of (body_of 3 a b None)) }
+        ensures { let w = store_of self.old in MakesOrRefuses w (store_of self.new)
+            (tree_of_body w (body_of 3 a b None)) result }
+    {
+        self.make_by_hash(body(APPLICATION, a, b, None), is_new)
+    }
+
+    /// The same for any body of these words.
+    #[inline(never)]
+    fn make_any(
+        &mut self,
+        kind: u8,
+        a: u64,
+        b: u64,
+        anns: Option<Slot>,
+        is_new: bool,
+    ) -> Result<Term, BankFault>
+        requires written { IsWritten (body_of kind a b anns) }
+        requires tree { IsSome (tree_of_body (store_of self.old) (body_of kind a b anns)) }
+        requires nowhere { IsTrue is_new
+            → (t : ℕ) → heap_of self.old.arena t ≢ Some (cell_of (body_of kind a b anns)) }
+        ensures { let w = store_of self.old in MakesOrRefuses w (store_of self.new)
+            (tree_of_body w (body_of kind a b anns)) result }
+    {
+        self.make_by_hash(body(kind, a, b, anns), is_new)
+    }
+
+    /// The same. A body is put together behind a call alone, and in one where its kind is known.
+    #[inline(always)]
+    fn make_slowly(
+        &mut self,
+        kind: u8,
+        a: u64,
+        b: u64,
+        anns: Option<Slot>,
+        is_new: bool,
+    ) -> Result<Term, BankFault>
+        requires written { IsWritten (body_of kind a b anns) }
+        requires tree { IsSome (tree_of_body (store_of self.old) (body_of kind a b anns)) }
+        requires nowhere { IsTrue is_new
+            → (t : ℕ) → heap_of self.old.arena t ≢ Some (cell_of (body_of kind a b anns)) }
+        ensures { let w = store_of self.old in MakesOrRefuses w (store_of self.new)
+            (tree_of_body w (body_of kind a b anns)) result }
+    {
+        match anns {
+            Some(_) => self.make_any(kind, a, b, anns, is_new),
+            None => {
+                if kind == LIST {
+                    self.make_list(a, b, is_new)
+                } else if kind == APPLICATION {
+                    self.make_application(a, b, is_new)
+                } else {
+                    self.make_any(kind, a, b, None, is_new)
+                }
+            }
+        }
+    }
+
+    /// The reference of a body. Most are where the hints say, or new as the hints say.
     #[inline(always)]
     fn make(&mut self, body: CellBody) -> Result<Term, BankFault>
         requires written { IsWritten body }
@@ -129,22 +247,76 @@ impl SharedBank {
         ensures { let w = store_of self.old in
             MakesOrRefuses w (store_of self.new) (tree_of_body w body) result }
     {
-        let chain = self.home(body.hash);
-        if let Some(slot) = find(&self.arena, chain, body) {
-            return Ok(Term(slot.0));
+        let told = self.hints.look(body);
+        if told > 0 && holds_word(&self.arena, Slot(told - 1), word(body)) {
+            return Ok(Term(told - 1));
         }
-        let made = self.add(chain, body)?;
-        self.widen();
-        Ok(made)
+        self.make_slowly(body.kind, body.a, body.b, body.anns, told == 0)
     }
 
-    /// The body of a held reference.
-    fn body(&self, t: Term) -> CellBody
+    /// What the body of a held reference says but for its hash.
+    #[inline(always)]
+    fn face(&self, t: Term) -> Face
         requires { IsSome (tree_at (store_of self.now) t) }
-        ensures holds { heap_of self.now.arena t.0 ≡ Some (cell_of result) }
-        ensures written { IsWritten result }
+        ensures { HoldsFace self.now.arena t.0 result }
     {
-        self.arena.read(Slot(t.0))
+        self.arena.face(Slot(t.0))
+    }
+
+    /// The same, where the word beside the cell says it.
+    #[inline(always)]
+    fn said(&self, t: Term) -> Option<Face>
+        requires { IsSome (tree_at (store_of self.now) t) }
+        ensures { IfSome result (HoldsFace self.now.arena t.0) }
+    {
+        said(self.arena.word(Slot(t.0)))
+    }
+
+    /// The kind of a held reference whose body says this.
+    #[inline(always)]
+    fn kind_of(&self, t: Term, face: Face) -> Kind
+        requires held { IsSome (tree_at (store_of self.now) t) }
+        requires holds { HoldsFace self.now.arena t.0 face }
+        ensures { HasKind (store_of self.now) t result }
+    {
+        if face.kind == APPLICATION {
+            Kind::Appl(Symbol(face.a))
+        } else if face.kind == LIST {
+            Kind::Cons
+        } else if face.kind == EMPTY {
+            Kind::Nil
+        } else if face.kind == INTEGER {
+            Kind::Int((face.a as u32).cast_signed())
+        } else {
+            Kind::Hole
+        }
+    }
+
+    /// The kind of a held reference, from what the cell says, as few words do not say it.
+    #[inline(never)]
+    fn kind_in_cell(&self, t: Term) -> Kind
+        requires { IsSome (tree_at (store_of self.now) t) }
+        ensures { HasKind (store_of self.now) t result }
+    {
+        self.kind_of(t, self.face(t))
+    }
+
+    /// The first word of the body of a held reference.
+    #[inline(always)]
+    fn first(&self, t: Term) -> u64
+        requires { IsSome (tree_at (store_of self.now) t) }
+        ensures { HoldsWritten self.now.arena t.0 (λ b. b.a ≡ result) }
+    {
+        self.arena.first(Slot(t.0))
+    }
+
+    /// The second word of the body of a held reference.
+    #[inline(always)]
+    fn second(&self, t: Term) -> u64
+        requires { IsSome (tree_at (store_of self.now) t) }
+        ensures { HoldsWritten self.now.arena t.0 (λ b. b.b ≡ result) }
+    {
+        self.arena.second(Slot(t.0))
     }
 
     /// The slot of a list, unless it is empty.
@@ -152,7 +324,7 @@ impl SharedBank {
         requires { IsSome (tree_at (store_of self.now) anns) }
         ensures { IsNotesOf (tree_at (store_of self.now) anns) anns.0 (notes_of result) }
     {
-        if self.body(anns).kind == LIST {
+        if self.face(anns).kind == LIST {
             Some(Slot(anns.0))
         } else {
             None
@@ -213,44 +385,37 @@ impl TermBank for SharedBank {
     }
 
     fn annotated(&mut self, t: Term, anns: Term) -> Result<Term, BankFault> {
-        let bare = self.body(t);
+        let bare = self.face(t);
         let notes = self.notes(anns);
         self.make(body(bare.kind, bare.a, bare.b, notes))
     }
 
+    #[inline(always)]
     fn kind(&self, t: Term) -> Kind {
-        let body = self.body(t);
-        if body.kind == APPLICATION {
-            Kind::Appl(Symbol(body.a))
-        } else if body.kind == LIST {
-            Kind::Cons
-        } else if body.kind == EMPTY {
-            Kind::Nil
-        } else if body.kind == INTEGER {
-            Kind::Int((body.a as u32).cast_signed())
-        } else {
-            Kind::Hole
+        match self.said(t) {
+            Some(face) => self.kind_of(t, face),
+            None => self.kind_in_cell(t),
         }
     }
 
     fn head(&self, t: Term) -> Term {
-        Term(self.body(t).a as u32)
+        Term(self.first(t) as u32)
     }
 
     fn tail(&self, t: Term) -> Term {
-        Term(self.body(t).b as u32)
+        Term(self.second(t) as u32)
     }
 
     fn args(&self, t: Term) -> Term {
-        Term(self.body(t).b as u32)
+        Term(self.second(t) as u32)
     }
 
     fn inner(&self, t: Term) -> Term {
-        Term(self.body(t).a as u32)
+        Term(self.first(t) as u32)
     }
 
     fn anns(&self, t: Term) -> Option<Term> {
-        match self.body(t).anns {
+        match self.face(t).anns {
             Some(slot) => Some(Term(slot.0)),
             None => None,
         }

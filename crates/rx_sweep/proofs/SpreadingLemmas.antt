@@ -1,27 +1,27 @@
 -- What the gray slots name is marked, until none is gray.
-use Rattle.std.proofs.Common.{◌≡◌, ℕ, ◌<◌, inl, inr, List, ◌∷◌, length, get_or, Some, None, refl, sym, ap, subst, ◌∙◌, arith}
-use Rattle.std.specs.Prelude.{Option, true, IfSome}
-use Rattle.rx_arena.specs.declared.CellBody.{CellBody}
+use Rattle.std.proofs.Common.{◌≡◌, ℕ, ◌<◌, inl, inr, List, [], ◌∷◌, length, get_or, Some, None, refl, sym, ap, subst, ◌∙◌, arith}
+use Rattle.std.specs.Prelude.{Option, true, IfSome, IfNone}
+use Rattle.rx_arena.specs.declared.Face.{Face}
+use Rattle.rx_arena.specs.declared.Slot.{Slot}
+use Rattle.rx_arena.specs.Faces.{face_of}
 use Rattle.rx_arena.specs.Put.{times}
 use Rattle.rx_arena.specs.Arena.{Taken, ArenaState, taken_at, IsTaken, is_marked, IsMarked, IsArena}
 use Rattle.rx_arena.proofs.ChainLemmas.{one_or_more}
 use Rattle.rx_arena.proofs.PutLemmas.{one_or_two}
-use Rattle.rx_sweep.specs.Reach.{names, cell_names, named_at, IsReached, IsClosed}
+use Rattle.rx_sweep.specs.Reach.{face_names, cell_names, named_at, IsReached, IsClosed}
 use Rattle.rx_sweep.specs.Reach.IsReached.{grayed, named}
-use Rattle.rx_sweep.specs.Marking.{bare, SameButMarks, Marks, work_left, white_count}
+use Rattle.rx_sweep.specs.Marking.{bare, SameButMarks, Marks, work_left, white_count, ahead}
 use Rattle.rx_sweep.proofs.BareLemmas.{same_refl, same_trans, same_names, same_taken}
 
 -- the marked slots are reached, and what those name that are not gray is marked
 pub record Spreading (init self : ArenaState) : Type 0 where
-  pub law : IsArena self
   pub same : SameButMarks init self
   pub stay : (s : ℕ) → IsMarked init s → IsMarked self s
   pub reached : (s : ℕ) → IsMarked self s → IsReached init s
   pub done : (s : ℕ) → IsMarked self s → times s self.gray ≡ 0 → (t : ℕ) → 0 < times t (named_at init s) → IsMarked self t
 
-pub spreading_begins : (init : ArenaState) → IsArena init → ((s : ℕ) → IsMarked init s → 0 < times s init.gray) → Spreading init init
-spreading_begins init law gray = record {
-  law = law;
+pub spreading_begins : (init : ArenaState) → ((s : ℕ) → IsMarked init s → 0 < times s init.gray) → Spreading init init
+spreading_begins init gray = record {
   same = same_refl init;
   stay = λ s m. m;
   reached = λ s m. grayed s (gray s m);
@@ -35,9 +35,9 @@ marked_some (Some t) e = (t, refl)
 pub marked_taken : (a : ArenaState) (s : ℕ) → IsMarked a s → IsTaken a s
 marked_taken a s m = marked_some (taken_at a s) m
 
-names_read : (c : Option Taken) (t : Taken) (body : CellBody) → c ≡ Some t → IfSome c (λ u. body ≡ u.body) → cell_names c ≡ names body
-names_read None t body e h = absurd (cc)
-names_read (Some u) t body e h = ap names (sym h)
+names_read : (c : Option Taken) (t : Taken) (face : Face) → c ≡ Some t → IfSome c (λ u. face ≡ face_of u.body) → cell_names c ≡ face_names face
+names_read None t face e h = absurd (cc)
+names_read (Some u) t face e h = ap face_names (sym h)
 
 -- a slot leaves the gray list, and what it names is marked
 module _ (init self : ArenaState) (inv : Spreading init self) (s : ℕ) (one : ArenaState) (split : self.gray ≡ s ∷ one.gray) (rest : one ≡ record self { gray = one.gray }) (m : IsMarked one s) where
@@ -56,14 +56,14 @@ module _ (init self : ArenaState) (inv : Spreading init self) (s : ℕ) (one : A
   pub spread_taken : IsTaken one s
   spread_taken = marked_taken one s m
 
-  module _ (body : CellBody) (read : IfSome (taken_at one s) (λ t. body ≡ t.body)) where
-    named_is : named_at init s ≡ names body
-    named_is = sym (same_names init one same_one s) ∙ names_read (taken_at one s) spread_taken.0 body spread_taken.1 read
+  module _ (face : Face) (read : IfSome (taken_at one s) (λ t. face ≡ face_of t.body)) where
+    named_is : named_at init s ≡ face_names face
+    named_is = sym (same_names init one same_one s) ∙ names_read (taken_at one s) spread_taken.0 face spread_taken.1 read
 
-    pub spread_named : IsClosed init → (k : ℕ) → 0 < times k (names body) → IsTaken one k
+    pub spread_named : IsClosed init → (k : ℕ) → 0 < times k (face_names face) → IsTaken one k
     spread_named closed k h = same_taken init one same_one k (closed s k (subst (λ z. 0 < times k z) (sym named_is) h))
 
-    module _ (two : ArenaState) (n : Marks one two (λ k. 0 < times k (names body))) where
+    module _ (two : ArenaState) (n : Marks one two (λ k. 0 < times k (face_names face))) where
       pub spread_less : work_left two < work_left self
       spread_less =
           let white = ap white_count cells_are in
@@ -71,9 +71,8 @@ module _ (init self : ArenaState) (inv : Spreading init self) (s : ℕ) (one : A
           let same = n.work in
           omega (arith, white, gray, same)
 
-      pub spread_on : IsArena two → Spreading init two
-      spread_on law = record {
-        law = law;
+      pub spread_on : Spreading init two
+      spread_on = record {
         same = same_trans init one two same_one n.same;
         stay = λ k h. n.marked_stay k (ap is_marked (at k) ∙ inv.stay k h);
         reached = λ k h. elim (n.only k h) [
@@ -90,3 +89,39 @@ module _ (init self : ArenaState) (inv : Spreading init self) (s : ℕ) (one : A
           ]
         ];
       }
+
+-- the same where the marking goes on with a slot that is not gray, if there is one
+pub record Onward (init a : ArenaState) (next : Option Slot) : Type 0 where
+  pub law : IsArena a
+  pub spreading : Spreading init (ahead a next)
+  pub marked : IfSome next (λ s. IsMarked a s.0)
+  pub ended : IfNone next (a.gray ≡ [])
+
+pub onward_begins : (init a : ArenaState) (next : Option Slot) → ((s : ℕ) → IsMarked init s → 0 < times s init.gray) → IsArena a → ahead a next ≡ init → IfSome next (λ s. IsMarked a s.0) → IfNone next (a.gray ≡ []) → Onward init a next
+onward_begins init a next gray law same marked ended = record { law = law; spreading = subst (Spreading init) (sym same) (spreading_begins init gray); marked = marked; ended = ended }
+
+pub onward_ends : (init a : ArenaState) (next : Option Slot) → Onward init a next → next ≡ None → Spreading init a × (a.gray ≡ [])
+onward_ends init a None inv e = (inv.spreading, inv.ended)
+onward_ends init a (Some s) inv e = absurd (cc)
+
+-- what the slot names is marked, and the marking goes on
+module _ (init a : ArenaState) (next : Option Slot) (slot : Slot) (from : Onward init a next) (is : next ≡ Some slot) (face : Face) (read : IfSome (taken_at a slot.0) (λ t. face ≡ face_of t.body)) where
+  inv : Onward init a (Some slot)
+  inv = subst (Onward init a) is from
+
+  pub onward_named : IsClosed init → (k : ℕ) → 0 < times k (face_names face) → IsTaken a k
+  onward_named = spread_named init (ahead a (Some slot)) inv.spreading slot.0 a refl refl inv.marked face read
+
+  module _ (b : ArenaState) (named : Option Slot) (n : Marks a (ahead b named) (λ k. 0 < times k (face_names face))) (c : ArenaState) (after : Option Slot) (same : ahead c after ≡ ahead b named) where
+    pub onward_less : work_left (ahead c after) < work_left (ahead a next)
+    onward_less =
+        let less = spread_less init (ahead a (Some slot)) inv.spreading slot.0 a refl refl inv.marked face read (ahead b named) n in
+        subst (λ z. work_left (ahead c after) < work_left (ahead a z)) (sym is) (subst (λ z. work_left z < work_left (ahead a (Some slot))) (sym same) less)
+
+    pub onward_on : IsArena c → IfSome after (λ s. IsMarked c s.0) → IfNone after (c.gray ≡ []) → Onward init c after
+    onward_on law marked ended = record {
+      law = law;
+      spreading = subst (Spreading init) (sym same) (spread_on init (ahead a (Some slot)) inv.spreading slot.0 a refl refl inv.marked face read (ahead b named) n);
+      marked = marked;
+      ended = ended;
+    }

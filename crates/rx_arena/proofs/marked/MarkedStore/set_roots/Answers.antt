@@ -4,7 +4,9 @@ use Rattle.rx_arena.specs.Held.{IsHeld}
 use Rattle.rx_arena.specs.Marks.{with_marks}
 use Rattle.rx_arena.proofs.MarkLemmas.{held-with_marks, changed-with_marks}
 use Rattle.rx_arena.specs.Node.{is_protected_node}
+use Rattle.rx_arena.specs.Faces.{word_beside}
 use Rattle.rx_arena.proofs.ProtectedLemmas.{told-within, told-roots}
+use Rattle.rx_arena.proofs.FaceLemmas.{said-changed}
 use Rattle.rx_arena.proofs.marked.MarkedStore.set_roots.Goals as goal
 
 pub set_roots-requires : goal.set_roots-requires
@@ -20,4 +22,9 @@ index_mut-requires c =
     omega (arith, lt, len)
 
 pub invariant_of-self-inside : goal.invariant_of-self-inside
-invariant_of-self-inside c = (told-roots c.self.inside.protected.items c.self.inside.cells c.self.inside.told c.args.slot c.args.count (held-with_marks c.self.inside.marks.items c.self.inside.cells c.args.slot c.self.invariant (subst (λ z. IsHeld z c.args.slot) (sym c.self.view_is) c.requires)) ∙ ap (map is_protected_node) (sym c.set_roots.ensures), tt)
+invariant_of-self-inside c =
+    let ks = c.self.inside.marks.items in
+    let seen = ap (with_marks ks) c.set_roots.ensures ∙ changed-with_marks ks c.self.inside.cells c.args.slot (with_roots c.args.count) c.self.invariant (λ k n. refl) in (
+      told-roots c.self.inside.protected.items c.self.inside.cells c.self.inside.told c.args.slot c.args.count (held-with_marks ks c.self.inside.cells c.args.slot c.self.invariant (subst (λ z. IsHeld z c.args.slot) (sym c.self.view_is) c.requires)) ∙ ap (map is_protected_node) (sym c.set_roots.ensures),
+      (said-changed c.self.inside.words.items (with_marks ks c.self.inside.cells) c.self.inside.said c.args.slot (with_roots c.args.count) (λ n. (refl, refl)) ∙ ap (map word_beside) (sym seen), tt),
+    )

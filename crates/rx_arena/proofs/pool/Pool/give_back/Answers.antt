@@ -6,15 +6,15 @@ use Rattle.rx_arena.proofs.PoolStepLemmas.{Step, cells_in, pool_room, given_back
 use Rattle.rx_arena.proofs.pool.Pool.give_back.Goals.{After-set_next}
 use Rattle.rx_arena.proofs.pool.Pool.give_back.Goals as goal
 
-pub set_mark-requires : goal.set_mark-requires
-set_mark-requires c =
+pub give_back-requires : goal.give_back-requires
+give_back-requires c =
     let h = subst (λ (v : PoolState). IsHeld v.cells c.args.slot) (sym c.self.view_is) c.requires in
     held_in_store c.self.inside c.self.invariant c.args.slot h
 
 pub set_next-requires-clause-held : goal.set_next-requires-clause-held
 set_next-requires-clause-held c =
     let h = subst (λ (v : PoolState). IsHeld v.cells c.args.slot) (sym c.self.view_is) c.requires in
-    remarked_held c.self.inside c.self.invariant c.set_mark.new.self c.args.slot h c.set_mark.ensures
+    remarked_held c.self.inside c.self.invariant c.give_back.new.self c.args.slot h c.give_back.ensures
 
 pub set_next-requires-clause-apart : goal.set_next-requires-clause-apart
 set_next-requires-clause-apart c =
@@ -30,7 +30,7 @@ overflow_sub-self c =
 stepped : (c : After-set_next) → Step c.set_next.new.self (Some c.args.slot) (c.args.slot ∷ c.self.inside.listed.0) c.self.inside.fresh (c.self.inside.taken - 1) c.self.inside.room c.self.inside.cap (put (cells_in c.self.inside) c.args.slot None)
 stepped c =
     let h = subst (λ (v : PoolState). IsHeld v.cells c.args.slot) (sym c.self.view_is) c.requires in
-    given_back-step c.self.inside c.self.invariant c.set_mark.new.self c.set_next.new.self c.args.slot h c.set_mark.ensures c.set_next.ensures
+    given_back-step c.self.inside c.self.invariant c.give_back.new.self c.set_next.new.self c.args.slot h c.give_back.ensures c.set_next.ensures
 
 pub invariant_of-self-inside : goal.invariant_of-self-inside
 invariant_of-self-inside c =

@@ -12,8 +12,11 @@ use Rattle.rx_arena.proofs.pool.Pool.reuse.Goals as goal
 pub next-self-inside-requires : goal.next-self-inside-requires
 next-self-inside-requires c = (front_held c.self.inside c.self.invariant c.in-Some.slot c.in-Some.is, front_link c.self.inside c.self.invariant c.in-Some.slot c.in-Some.is)
 
-pub fill-requires : goal.fill-requires
-fill-requires c = let h = front_held c.self.inside c.self.invariant c.in-Some.slot c.in-Some.is in held_within c.self.inside.store c.in-Some.slot h.0 h.1
+pub fill-requires-clause-mark : goal.fill-requires-clause-mark
+fill-requires-clause-mark c = subst (λ k. k ≤ 1) (sym c.mark_of.ensures) (mark_of_small c.self.inside.turned false)
+
+pub fill-requires-clause-slot : goal.fill-requires-clause-slot
+fill-requires-clause-slot c = let h = front_held c.self.inside c.self.invariant c.in-Some.slot c.in-Some.is in held_within c.self.inside.store c.in-Some.slot h.0 h.1
 
 -- what the call makes of the parts
 stepped : (c : After-fill) → Step c.fill.new.self c.next-self-inside.result (front c.self.inside c.self.invariant c.in-Some.slot c.in-Some.is).0 c.self.inside.fresh (c.self.inside.taken + 1) c.self.inside.room c.self.inside.cap (put (cells_in c.self.inside) c.in-Some.slot (Some (lone (mark_of c.self.inside.turned false) c.args.body)))

@@ -1,16 +1,24 @@
-use Rattle.std.proofs.Common.{sym, ap, subst, ◌∙◌}
+use Rattle.std.proofs.Common.{◌≤◌, sym, ap, subst, ◌∙◌}
 use Rattle.rx_arena.specs.Node.{mark_of, with_mark, changed}
 use Rattle.rx_arena.specs.Held.{IsHeld}
 use Rattle.rx_arena.specs.Put.{altered}
 use Rattle.rx_arena.specs.Pool.{PoolState}
-use Rattle.rx_arena.proofs.PoolStepLemmas.{Keeps, cells_in, mark_of_small, kept-step, step_pool, step_state, held_in_store}
+use Rattle.rx_arena.proofs.PoolStepLemmas.{Keeps, cells_in, mark_of_small, kept-step, step_pool, step_state, held_in_store, small_there}
 use Rattle.rx_arena.proofs.pool.Pool.set_mark.Goals.{After-set_mark}
 use Rattle.rx_arena.proofs.pool.Pool.set_mark.Goals as goal
 
-pub set_mark-requires : goal.set_mark-requires
-set_mark-requires c =
+pub set_mark-requires-clause-held : goal.set_mark-requires-clause-held
+set_mark-requires-clause-held c =
     let h = subst (λ (v : PoolState). IsHeld v.cells c.args.slot) (sym c.self.view_is) c.requires in
     held_in_store c.self.inside c.self.invariant c.args.slot h
+
+pub set_mark-requires-clause-taken : goal.set_mark-requires-clause-taken
+set_mark-requires-clause-taken c =
+    let h = subst (λ (v : PoolState). IsHeld v.cells c.args.slot) (sym c.self.view_is) c.requires in
+    small_there c.self.inside c.self.invariant c.args.slot h
+
+pub set_mark-requires-clause-mark : goal.set_mark-requires-clause-mark
+set_mark-requires-clause-mark c = subst (λ k. k ≤ 1) (sym c.mark_of.ensures) (mark_of_small c.self.inside.turned c.args.marked)
 
 -- what the call makes of the parts
 stepped : (c : After-set_mark) → Keeps c.self.inside c.set_mark.new.self (altered c.args.slot (with_mark (mark_of c.self.inside.turned c.args.marked)) (cells_in c.self.inside))

@@ -4,7 +4,8 @@ use Rattle.rx_shared.specs.Soundness.{bank-law}
 use Rattle.rx_sweep.proofs.HomingLemmas.{same_homed}
 use Rattle.rx_shared.proofs.ReadingLemmas.{held-taken}
 use Rattle.rx_shared.proofs.MirroringLemmas.{bank-homed}
-use Rattle.rx_shared.proofs.ReclaimingLemmas.{can_collect, collected-cap, collected-chains, collected-tidy, collected-distinct, collected-whole, collected-reclaims}
+use Rattle.rx_shared.proofs.ReclaimingLemmas.{can_collect, collected-cap, collected-chains, collected-tidy, collected-distinct, collected-whole, collected-was, collected-reclaims}
+use Rattle.rx_shared.proofs.HintLemmas.{covers-along}
 use Rattle.rx_shared.proofs.bank.SharedBankTermBank.reclaim.Goals as goal
 
 pub gray_all-requires-clause-taken : goal.gray_all-requires-clause-taken
@@ -34,6 +35,7 @@ invariant_of-self c =
       tidy = collected-tidy b g c.args.extra.now m l z r.collected r.law;
       distinct = collected-distinct b g c.args.extra.now m l z r.collected r.law;
       whole = collected-whole b g c.args.extra.now m l z r.collected r.law;
+      covered = covers-along b.hints.last.items b.hints.last.items b.arena z (collected-was b g c.args.extra.now m l z r.collected r.law) (λ s h. h) b.covered;
     }
 
 pub returns : goal.returns

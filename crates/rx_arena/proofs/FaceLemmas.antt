@@ -1,0 +1,167 @@
+-- Words that say what cells say.
+use Rattle.std.proofs.Common.{◌≡◌, ◌≢◌, ℕ, zero, suc, ◌+◌, ◌*◌, ◌<◌, ◌≤◌, ◌/◌, ◌%◌, List, ◌∷◌, ◌++◌, length, get_or, set, map, Some, None, refl, sym, ap, ◌∙◌, arith}
+use Rattle.std.specs.Prelude.{Option, Bool, true, false, nat_eq, nat_lt, cond, replicate, IfSome}
+use Rattle.std.specs.Option.{option_map}
+use Rattle.std.proofs.lemmas.Bool.{ltb-true}
+use Rattle.std.proofs.lemmas.List.{length-map, map-set, map-append, get_or-map}
+use Rattle.std.proofs.lemmas.Nat.{div-mul-add, mod-mul-add}
+use Rattle.std.proofs.Math.Seq.{map-set_same}
+use Rattle.rx_arena.specs.declared.CellBody.{CellBody}
+use Rattle.rx_arena.specs.declared.Face.{Face}
+use Rattle.rx_arena.specs.declared.Slot.{Slot}
+use Rattle.rx_arena.specs.declared.cells.Link.{Link}
+use Rattle.rx_arena.specs.declared.cells.Link.TheVariants.{Chain, Gray, Free}
+use Rattle.rx_arena.specs.Node.{Node, node_at, changed, with_mark, with_next}
+use Rattle.rx_arena.specs.Arena.{Taken}
+use Rattle.rx_arena.specs.Faces.{face_of, ask, packed, fits, word_of, word_beside}
+
+pub word-small : (b : CellBody) → fits b.kind b.a b.b b.anns ≡ true → word_of b ≡ packed b.kind b.a b.b
+unfolding word_of
+word-small b h = ap (λ z. cond z (packed b.kind b.a b.b) ask) h
+
+pub word-large : (b : CellBody) → fits b.kind b.a b.b b.anns ≡ false → word_of b ≡ ask
+unfolding word_of
+word-large b h = ap (λ z. cond z (packed b.kind b.a b.b) ask) h
+
+-- the face that a word says
+abbrev pub unpacked : ℕ → Face
+unpacked w = record { kind = w / 4294967296 / 1073741824; a = w % 4294967296; b = w / 4294967296 % 1073741824; anns = None }
+
+all_three : (x y z : Bool) → cond x (cond y z false) false ≡ true → (x ≡ true) × (y ≡ true) × (z ≡ true)
+all_three true true z e = (refl, refl, e)
+all_three true false z e = absurd (cc)
+all_three false y z e = absurd (cc)
+
+unpacked-packed : (k a b : ℕ) → a < 4294967296 → b < 1073741824 → unpacked (packed k a b) ≡ record { kind = k; a = a; b = b; anns = None }
+unpacked-packed k a b la lb =
+    let high : packed k a b / 4294967296 ≡ k * 1073741824 + b = div-mul-add (k * 1073741824 + b) 4294967296 a la in
+    let low : packed k a b % 4294967296 ≡ a = mod-mul-add (k * 1073741824 + b) 4294967296 a la in
+    let top : packed k a b / 4294967296 / 1073741824 ≡ k = ap (λ z. z / 1073741824) high ∙ div-mul-add k 1073741824 b lb in
+    let middle : packed k a b / 4294967296 % 1073741824 ≡ b = ap (λ z. z % 1073741824) high ∙ mod-mul-add k 1073741824 b lb in
+    λ i. record { kind = top i; a = low i; b = middle i; anns = None }
+
+unpacked-fitting : (k a b : ℕ) (o : Option Slot) → fits k a b o ≡ true → unpacked (packed k a b) ≡ record { kind = k; a = a; b = b; anns = o }
+unpacked-fitting k a b (Some s) h = absurd (cc)
+unpacked-fitting k a b None h =
+    let t = all_three (nat_lt k 4) (nat_lt a 4294967296) (nat_lt b 1073741824) h in
+    unpacked-packed k a b (ltb-true a 4294967296 t.1) (ltb-true b 1073741824 t.2)
+
+-- a word that does not say to ask the cell says its body's face
+pub unpacked-word : (w : ℕ) (b : CellBody) → w ≢ ask → w ≡ word_of b → unpacked w ≡ face_of b
+unpacked-word w b ne e = by_fit (fits b.kind b.a b.b b.anns) refl where
+  by_fit : (y : Bool) → fits b.kind b.a b.b b.anns ≡ y → unpacked w ≡ face_of b
+  by_fit true h = ap unpacked (e ∙ word-small b h) ∙ unpacked-fitting b.kind b.a b.b b.anns h
+  by_fit false h = absurd (ne (e ∙ word-large b h))
+
+-- a change that keeps the body and the mark keeps the word
+same_word : (f : Node → Node) (o : Option Node) → ((n : Node) → ((f n).body ≡ n.body) × ((f n).mark ≡ n.mark)) → word_beside (option_map f o) ≡ word_beside o
+same_word f None h = refl
+same_word f (Some n) h = λ i. cond (nat_eq ((h n).1 i) 2) ask (word_of ((h n).0 i))
+
+small_apart : (k : ℕ) → k ≤ 1 → nat_eq k 2 ≡ false
+small_apart zero le = refl
+small_apart (suc zero) le = refl
+small_apart (suc (suc k)) le = absurd (omega (arith, le))
+
+-- the word beside a cell that was not given back
+pub word-taken : (n : Node) → n.mark ≤ 1 → word_beside (Some n) ≡ word_of n.body
+word-taken n le = ap (λ z. cond z ask (word_of n.body)) (small_apart n.mark le)
+
+-- a mark of a cell that was not given back keeps the word
+marked_word : (k : ℕ) (o : Option Node) → k ≤ 1 → IfSome o (λ n. n.mark ≤ 1) → word_beside (option_map (with_mark k) o) ≡ word_beside o
+marked_word k None le h = refl
+marked_word k (Some n) le h = word-taken (with_mark k n) le ∙ sym (word-taken n h)
+
+given_back_word : (o : Option Node) → ask ≡ word_beside (option_map (with_mark 2) o)
+given_back_word None = refl
+given_back_word (Some n) = refl
+
+pub linked-body : (l : Link) (t : Option ℕ) (n : Node) → ((with_next l t n).body ≡ n.body) × ((with_next l t n).mark ≡ n.mark)
+linked-body Chain t n = (refl, refl)
+linked-body Gray t n = (refl, refl)
+linked-body Free t n = (refl, refl)
+
+none-said : (n : ℕ) → map word_beside (replicate n None) ≡ replicate n ask
+none-said zero = refl
+none-said (suc n) = ap (λ z. ask ∷ z) (none-said n)
+
+module _ (ws : List ℕ) (cs : List (Option Node)) (said : ws ≡ map word_beside cs) where
+  pub said-length : length ws ≡ length cs
+  said-length = ap length said ∙ length-map cs word_beside
+
+  -- a cell is replaced
+  pub said-set : (s : ℕ) (c : Option Node) → set ws s (word_beside c) ≡ map word_beside (set cs s c)
+  said-set s c = ap (λ z. set z s (word_beside c)) said ∙ sym (map-set word_beside cs s c)
+
+  kept : (s : ℕ) (f : Node → Node) → word_beside (option_map f (node_at cs s)) ≡ word_beside (node_at cs s) → ws ≡ map word_beside (changed s f cs)
+  kept s f h = said ∙ sym (map-set_same word_beside cs s (option_map f (node_at cs s)) None h)
+
+  -- a cell is changed, but for its body and its mark
+  pub said-changed : (s : ℕ) (f : Node → Node) → ((n : Node) → ((f n).body ≡ n.body) × ((f n).mark ≡ n.mark)) → ws ≡ map word_beside (changed s f cs)
+  said-changed s f h = kept s f (same_word f (node_at cs s) h)
+
+  -- a cell is marked
+  pub said-marked : (s k : ℕ) → k ≤ 1 → IfSome (node_at cs s) (λ n. n.mark ≤ 1) → ws ≡ map word_beside (changed s (with_mark k) cs)
+  said-marked s k le h = kept s (with_mark k) (marked_word k (node_at cs s) le h)
+
+  -- a cell is given back
+  pub said-given_back : (s : ℕ) → set ws s ask ≡ map word_beside (changed s (with_mark 2) cs)
+  said-given_back s = ap (set ws s) (given_back_word (node_at cs s)) ∙ said-set s (option_map (with_mark 2) (node_at cs s))
+
+  -- a block is added
+  pub said-grown : (n : ℕ) → ws ++ replicate n ask ≡ map word_beside (cs ++ replicate n None)
+  said-grown n = (λ i. said i ++ sym (none-said n) i) ∙ sym (map-append word_beside cs (replicate n None))
+
+  -- the word beside a slot
+  pub said-at : (s d : ℕ) → s < length cs → get_or ws s d ≡ word_beside (node_at cs s)
+  said-at s d lt = ap (λ z. get_or z s d) said ∙ get_or-map word_beside cs s None d lt
+
+-- what a word says of its body is so of the cell that it stands beside
+pub first-by_word : (o : Option Taken) (w a : ℕ) → IfSome o (λ t. w ≡ word_of t.body) → ((b : CellBody) → w ≡ word_of b → a ≡ b.a) → IfSome o (λ t. a ≡ t.body.a)
+first-by_word None w a e says = tt
+first-by_word (Some t) w a e says = says t.body e
+
+pub second-by_word : (o : Option Taken) (w b : ℕ) → IfSome o (λ t. w ≡ word_of t.body) → ((x : CellBody) → w ≡ word_of x → b ≡ x.b) → IfSome o (λ t. b ≡ t.body.b)
+second-by_word None w b e says = tt
+second-by_word (Some t) w b e says = says t.body e
+
+pub face-by_word : (o : Option Taken) (w : ℕ) (f : Face) → IfSome o (λ t. w ≡ word_of t.body) → ((b : CellBody) → w ≡ word_of b → f ≡ face_of b) → IfSome o (λ t. f ≡ face_of t.body)
+face-by_word None w f e says = tt
+face-by_word (Some t) w f e says = says t.body e
+
+-- what is read of a body
+pub first-read : (o : Option Taken) (b : CellBody) → IfSome o (λ t. b ≡ t.body) → IfSome o (λ t. b.a ≡ t.body.a)
+first-read None b h = tt
+first-read (Some t) b h = ap (λ (x : CellBody). x.a) h
+
+pub second-read : (o : Option Taken) (b : CellBody) → IfSome o (λ t. b ≡ t.body) → IfSome o (λ t. b.b ≡ t.body.b)
+second-read None b h = tt
+second-read (Some t) b h = ap (λ (x : CellBody). x.b) h
+
+pub face-read : (o : Option Taken) (b : CellBody) → IfSome o (λ t. b ≡ t.body) → IfSome o (λ t. face_of b ≡ face_of t.body)
+face-read None b h = tt
+face-read (Some t) b h = ap face_of h
+
+-- the parts of what a word says
+pub kind-said : (w : ℕ) (b : CellBody) → w ≢ ask → w ≡ word_of b → w / 4294967296 / 1073741824 ≡ b.kind
+kind-said w b ne e = ap (λ (f : Face). f.kind) (unpacked-word w b ne e)
+
+pub first-said : (w : ℕ) (b : CellBody) → w ≢ ask → w ≡ word_of b → w % 4294967296 ≡ b.a
+first-said w b ne e = ap (λ (f : Face). f.a) (unpacked-word w b ne e)
+
+pub second-said : (w : ℕ) (b : CellBody) → w ≢ ask → w ≡ word_of b → w / 4294967296 % 1073741824 ≡ b.b
+second-said w b ne e = ap (λ (f : Face). f.b) (unpacked-word w b ne e)
+
+pub anns-said : (w : ℕ) (b : CellBody) → w ≢ ask → w ≡ word_of b → None ≡ b.anns
+anns-said w b ne e = ap (λ (f : Face). f.anns) (unpacked-word w b ne e)
+
+pub face-parts : (w k x y : ℕ) (b : CellBody) → w ≢ ask → w ≡ word_of b → k ≡ b.kind → x ≡ b.a → y ≡ b.b → record { kind = k; a = x; b = y; anns = None } ≡ face_of b
+face-parts w k x y b ne e ek ea eb = λ i. record { kind = ek i; a = ea i; b = eb i; anns = anns-said w b ne e i }
+
+-- a word that says what a cell says is that of a cell which was not given back
+pub word-node : (o : Option Node) (w : ℕ) → w ≢ ask → w ≡ word_beside o → (n : Node) × (o ≡ Some n) × (n.mark ≢ 2) × (w ≡ word_of n.body)
+word-node None w ne e = absurd (ne e)
+word-node (Some n) w ne e = by_mark (nat_eq n.mark 2) refl where
+  by_mark : (y : Bool) → nat_eq n.mark 2 ≡ y → (m : Node) × (Some n ≡ Some m) × (m.mark ≢ 2) × (w ≡ word_of m.body)
+  by_mark true h = absurd (ne (e ∙ ap (λ z. cond z ask (word_of n.body)) h))
+  by_mark false h = (n, refl, (λ q. absurd (let p = sym (ap (λ z. nat_eq z 2) q) ∙ h in cc)), e ∙ ap (λ z. cond z ask (word_of n.body)) h)

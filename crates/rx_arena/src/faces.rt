@@ -1,0 +1,86 @@
+//! Words that say what cells say, eight bytes each, where that fits: a kind below 4 in the top 2
+//! bits, the second word of the body below 2^30 in the next 30, the first one below 2^32 in the
+//! last 32, and no annotations. One word says to ask the cell.
+ghost use Rattle.std.specs.Prelude.{◌≡◌, ◌≢◌, None, IfSome};
+ghost use Rattle.rx_arena.specs.Faces.{face_of, fits, word_of, ask};
+
+use crate::{CellBody, Face, Slot};
+
+/// The word that says to ask the cell.
+pub const ASK: u64 = u64::MAX;
+
+/// How many kinds a word can say.
+const KINDS: u64 = 4;
+
+/// The second word of a body is below this number, if a word says it.
+const SECONDS: u64 = 1 << 30;
+
+/// The first word of a body is below this number, if a word says it.
+const FIRSTS: u64 = 1 << 32;
+
+/// Whether a word can say this.
+#[inline(always)]
+fn is_small(kind: u8, a: u64, b: u64, anns: Option<Slot>) -> bool
+    ensures { result ≡ fits kind a b anns }
+{
+    match anns {
+        Some(_) => false,
+        None => u64::from(kind) < KINDS && a < FIRSTS && b < SECONDS,
+    }
+}
+
+/// The word of a body.
+#[inline(always)]
+pub fn word(body: CellBody) -> u64
+    ensures { result ≡ word_of body }
+{
+    if is_small(body.kind, body.a, body.b, body.anns) {
+        (u64::from(body.kind) * SECONDS + body.b) * FIRSTS + body.a
+    } else {
+        ASK
+    }
+}
+
+/// The kind of the body that a word says.
+#[inline(always)]
+fn kind(word: u64) -> u8
+    requires { word ≢ ask }
+    ensures { (b : CellBody) → word ≡ word_of b → result ≡ b.kind }
+{
+    (word / FIRSTS / SECONDS) as u8
+}
+
+/// The first word of the body that a word says.
+#[inline(always)]
+pub(crate) fn first(word: u64) -> u64
+    requires { word ≢ ask }
+    ensures { (b : CellBody) → word ≡ word_of b → result ≡ b.a }
+{
+    word % FIRSTS
+}
+
+/// The second word of the body that a word says.
+#[inline(always)]
+pub(crate) fn second(word: u64) -> u64
+    requires { word ≢ ask }
+    ensures { (b : CellBody) → word ≡ word_of b → result ≡ b.b }
+{
+    word / FIRSTS % SECONDS
+}
+
+/// What a word says.
+#[inline(always)]
+pub fn said(word: u64) -> Option<Face>
+    ensures some { (b : CellBody) → word ≡ word_of b → IfSome result (λ f. f ≡ face_of b) }
+    ensures none { result ≡ None → word ≡ ask }
+{
+    if word == ASK {
+        return None;
+    }
+    Some(Face {
+        kind: kind(word),
+        a: first(word),
+        b: second(word),
+        anns: None,
+    })
+}

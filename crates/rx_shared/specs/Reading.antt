@@ -1,0 +1,16 @@
+-- What a held reference's slot holds.
+use Rattle.std.specs.Prelude.{◌≡◌, ℕ, Some}
+use Rattle.rx_arena.specs.declared.CellBody.{CellBody}
+use Rattle.rx_arena.specs.Arena.{ArenaState}
+use Rattle.rx_arena.specs.declared.Face.{Face}
+use Rattle.rx_shared.specs.Bodies.{cell_of, whole, IsWritten}
+use Rattle.rx_shared.specs.Tidy.{heap_of}
+
+-- the slot holds the cell of a body that is written, and of which this is so
+abbrev pub HoldsWritten : ArenaState → ℕ → (CellBody → Type 0) → Type 0
+HoldsWritten a s P = (b : CellBody) × (heap_of a s ≡ Some (cell_of b)) × IsWritten b × P b
+
+-- the slot holds the cell of the body that says this, and it is written
+pub record HoldsFace (a : ArenaState) (s : ℕ) (f : Face) : Type 0 where
+  pub holds : heap_of a s ≡ Some (cell_of (whole f))
+  pub written : IsWritten (whole f)

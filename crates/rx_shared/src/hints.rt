@@ -1,0 +1,177 @@
+//! What was made last over each slot, four bytes a slot: so most bodies are found, or known to be
+//! new, with no search.
+
+ghost use Rattle.std.specs.Prelude.{◌≡◌, ◌≢◌, ℕ, ◌<◌, [], IsTrue};
+ghost use Rattle.rx_sweep.specs.Reach.{annotations, words};
+ghost use Rattle.rx_shared.specs.Hints.{entry, CoversSlots, Covers, Stays};
+
+use crate::bodies::EMPTY;
+use rx_arena::{CellBody, Slot};
+use rx_sweep::kinds::{APPLICATION, LIST, PLACEHOLDER};
+use std::alloc::Global;
+
+/// The entry that says nothing.
+const UNKNOWN: u32 = u32::MAX;
+
+/// For each slot the number of the last cell that was made over it, and 1, or 0 where nothing names
+/// the slot; and the slot of the empty list.
+#[derive(Drop)]
+pub(crate) struct Hints {
+    last: Vec<u32>,
+    empty: u32,
+}
+
+impl Hints {
+    /// Nothing is known.
+    pub(crate) fn new(alloc: Global) -> Hints
+        ensures { result.last.items ≡ [] }
+    {
+        Hints {
+            last: Vec::new(alloc),
+            empty: UNKNOWN,
+        }
+    }
+
+    /// The entry of a slot.
+    #[inline(always)]
+    fn get(&self, slot: u64) -> u32
+        ensures { result ≡ entry self.now.last.items slot }
+    {
+        match self.last.get(slot as usize) {
+            Some(last) => *last,
+            None => UNKNOWN,
+        }
+    }
+
+    /// Replaces the entry of a slot, where it is there.
+    #[inline(always)]
+    fn set(&mut self, slot: u64, last: u32)
+        requires { 0 < last }
+        ensures stays { Stays self.old.last.items self.new.last.items }
+        ensures here { 0 < entry self.new.last.items slot }
+    {
+        if (slot as usize) < self.last.len() {
+            self.last[slot as usize] = last;
+        }
+    }
+
+    /// Adds entries, past this slot's; without memory for that it leaves them.
+    #[inline(never)]
+    fn lengthen(&mut self, slot: u32)
+        ensures { (s : ℕ) → entry self.new.last.items s ≡ entry self.old.last.items s }
+    {
+        if slot as usize >= self.last.len() {
+            let _ = self.last.resize(slot as usize + 1024, UNKNOWN);
+        }
+    }
+
+    /// Says that nothing names this slot.
+    #[inline(always)]
+    fn clear(&mut self, slot: u32)
+        ensures { (s : ℕ) → s ≢ slot → 0 < entry self.old.last.items s
+            → 0 < entry self.new.last.items s }
+    {
+        if slot as usize >= self.last.len() {
+            self.lengthen(slot);
+        }
+        if (slot as usize) < self.last.len() {
+            self.last[slot as usize] = 0;
+        }
+    }
+
+    /// Sets the entries of what a cell's words name: a list's head keeps one where the tail's leads
+    /// to the cell.
+    #[inline(always)]
+    fn cover_words(&mut self, kind: u8, a: u64, b: u64, last: u32)
+        requires { 0 < last }
+        ensures stays { Stays self.old.last.items self.new.last.items }
+        ensures covers { CoversSlots self.new.last.items (words kind a b) }
+    {
+        if kind == LIST {
+            if b == u64::from(self.empty) || self.get(a) == 0 {
+                self.set(a, last);
+            }
+            self.set(b, last);
+        } else if kind == APPLICATION {
+            self.set(b, last);
+        } else if kind == PLACEHOLDER {
+            self.set(a, last);
+        }
+    }
+
+    /// Sets the entry of a cell's annotations.
+    #[inline(always)]
+    fn cover_annotations(&mut self, anns: Option<Slot>, last: u32)
+        requires { 0 < last }
+        ensures stays { Stays self.old.last.items self.new.last.items }
+        ensures covers { CoversSlots self.new.last.items (annotations anns) }
+    {
+        if let Some(slot) = anns {
+            self.set(u64::from(slot.0), last);
+        }
+    }
+
+    /// Sets the entries of all that a new cell names.
+    #[inline(always)]
+    pub(crate) fn cover(&mut self, body: CellBody, slot: u32)
+        requires { slot < 4294967295 }
+        ensures stays { (s : ℕ) → s ≢ slot → 0 < entry self.old.last.items s
+            → 0 < entry self.new.last.items s }
+        ensures covers { Covers self.new.last.items body }
+    {
+        self.clear(slot);
+        self.cover_annotations(body.anns, slot + 1);
+        self.cover_words(body.kind, body.a, body.b, slot + 1);
+    }
+
+    /// 0 where no taken cell has this body, as nothing was made over a slot that it names; or else
+    /// the number of a slot that may hold it, and 1.
+    #[inline(always)]
+    pub(crate) fn look(&self, body: CellBody) -> u32
+        ensures { result ≡ 0 → ¬ (Covers self.now.last.items body) }
+    {
+        if body.kind == LIST {
+            let over_head = self.get(body.a);
+            let over_tail = self.get(body.b);
+            if over_head == 0 || over_tail == 0 {
+                0
+            } else if body.b == u64::from(self.empty) {
+                over_head
+            } else {
+                over_tail
+            }
+        } else if body.kind == APPLICATION {
+            self.get(body.b)
+        } else if body.kind == PLACEHOLDER {
+            self.get(body.a)
+        } else if body.kind == EMPTY && self.empty < UNKNOWN {
+            self.empty + 1
+        } else {
+            UNKNOWN
+        }
+    }
+
+    /// The slot by whose entry a body is looked up: the tail of a list, or the head where the tail
+    /// is empty, or the arguments.
+    #[inline(always)]
+    fn key(&self, body: CellBody) -> u64 {
+        if body.kind == PLACEHOLDER || body.kind == LIST && body.b == u64::from(self.empty) {
+            body.a
+        } else {
+            body.b
+        }
+    }
+
+    /// Remembers where a body lies.
+    #[inline(always)]
+    pub(crate) fn point(&mut self, body: CellBody, slot: u32)
+        requires { slot < 4294967295 }
+        ensures { Stays self.old.last.items self.new.last.items }
+    {
+        if body.kind == EMPTY {
+            self.empty = slot;
+        } else if body.kind >= LIST {
+            self.set(self.key(body), slot + 1);
+        }
+    }
+}
