@@ -1,3 +1,5 @@
+pub mod FirstLinkLemmas
+pub mod FirstTurnLemmas
 pub mod FlatLemmas
 pub mod KnownConstantLemmas
 pub mod KeptNodeLemmas

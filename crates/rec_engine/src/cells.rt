@@ -34,13 +34,13 @@ pub enum EngineFault {
 }
 
 /// After how many new cells a reclaim is due at the latest, and how many there have to be at the
-/// least, how many cells there were after the last one, which constants were made since then, and
+/// least, at how many cells the next one is due, which constants were made since the last one, and
 /// the results that are remembered.
 #[derive(Drop)]
 pub(crate) struct Pace {
     pub(crate) every: u32,
     pub(crate) least: u32,
-    pub(crate) floor: u32,
+    pub(crate) due: u32,
     pub(crate) constants: Constants,
     pub(crate) memo: Memo,
 }
@@ -60,6 +60,16 @@ fn make_once<B: TermBank>(bank: &mut B, node: Node) -> Result<Term, BankFault>
     }
 }
 
+/// The same as a function of its own, for what is hardly ever needed.
+#[inline(never)]
+fn make_apart<B: TermBank>(bank: &mut B, node: Node) -> Result<Term, BankFault>
+    requires { IsSome (built (B.store bank.old) node) }
+    ensures { MakesOrRefuses (B.store bank.old) (B.store bank.new)
+        (built (B.store bank.old) node) result }
+{
+    make_once(bank, node)
+}
+
 /// Gives back what is not needed; no constant is known any more, and no result of what was given
 /// back.
 #[inline(never)]
@@ -70,7 +80,7 @@ fn reclaim<B: TermBank>(bank: &mut B, work: &[Term], pace: &mut Pace)
 {
     bank.reclaim(work);
     pace.memo.retain_held(bank);
-    pace.floor = bank.cells();
+    pace.due = next_due(bank.cells(), pace.every, pace.least);
     pace.constants.clear();
 }
 
@@ -96,7 +106,7 @@ pub(crate) fn make_anyway<B: TermBank>(
         Err(BankFault::Memory) => Err(EngineFault::Memory),
         Err(BankFault::Full) => {
             reclaim(bank, work, pace);
-            match make_once(bank, node) {
+            match make_apart(bank, node) {
                 Ok(t) => Ok(t),
                 Err(BankFault::Memory) => Err(EngineFault::Memory),
                 Err(BankFault::Full) => {
@@ -114,15 +124,20 @@ pub(crate) fn least_pace(results: u32) -> u32 {
     if results == 0 { 16_384 } else { 32_768 }
 }
 
-/// Gives back what is not needed, where enough cells were made since the last time: as many as were
-/// left then.
+/// At how many cells the next reclaim is due, where so many are left: once as many new ones were
+/// made, within these bounds.
+pub(crate) fn next_due(cells: u32, every: u32, least: u32) -> u32 {
+    cells.saturating_add(every.min(cells.max(least)))
+}
+
+/// Gives back what is not needed, where enough cells were made since the last time.
+#[inline(always)]
 pub(crate) fn reclaim_if_due<B: TermBank>(bank: &mut B, work: &[Term], pace: &mut Pace)
     requires { AllHeld (B.store bank.old) work.now }
     ensures keeps { Keeps (B.store bank.old) (B.store bank.new) work.now }
     ensures known { KeepsKnown (B.store bank.old) (B.store bank.new) pace.old pace.new }
 {
-    let due = pace.every.min(pace.floor.max(pace.least));
-    if bank.cells().saturating_sub(pace.floor) >= due {
+    if bank.cells() >= pace.due {
         reclaim(bank, work, pace);
     }
 }

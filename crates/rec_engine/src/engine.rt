@@ -10,7 +10,7 @@ ghost use Rattle.rec_engine.specs.Cells.{RoomOnly};
 ghost use Rattle.rec_engine.specs.Engine.{AreInRange, SameEngine, IsGiven, eval_tree, IsOutcome};
 ghost use Rattle.rec_engine.specs.Engine.{IsNormalised, IsKept, RoomOnlyFor};
 
-use crate::cells::{EngineFault, Pace, least_pace};
+use crate::cells::{EngineFault, Pace, least_pace, next_due};
 use crate::code::{Code, Op};
 use crate::constants::Constants;
 use crate::hints::Hints;
@@ -109,10 +109,12 @@ impl<B: TermBank + Drop> Engine<B> {
         let Ok(hints) = Hints::new(alloc, checked.symbols() as usize, options.memo) else {
             return Err(EngineFault::Memory);
         };
+        let every = options.reclaim_every;
+        let least = least_pace(options.memo);
         let pace = Pace {
-            every: options.reclaim_every,
-            least: least_pace(options.memo),
-            floor: bank.cells(),
+            every,
+            least,
+            due: next_due(bank.cells(), every, least),
             constants,
             memo,
         };

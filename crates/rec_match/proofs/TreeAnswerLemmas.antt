@@ -1,6 +1,6 @@
 -- What a symbol's tree finds is what the trial of its rules finds.
 use Rattle.std.proofs.Common.{sym, ap, subst, arith, ◌∙◌, inl, inr, drop, length}
-use Rattle.std.specs.Prelude.{ℕ, ◌≡◌, ◌≢◌, ◌<◌, ◌≤◌, ◌-◌, ◌+◌, ◌⊎◌, List, [], Option, Some, None, get_or}
+use Rattle.std.specs.Prelude.{ℕ, ◌≡◌, ◌≢◌, ◌<◌, ◌≤◌, ◌-◌, ◌+◌, ◌⊎◌, List, Option, Some, None, get_or}
 use Rattle.std.proofs.lemmas.Bool.{cases_eq}
 use Rattle.std.proofs.lemmas.List.{get_or-map, length-drop}
 use Rattle.rx_term.specs.Tree.{Tree, from_list}

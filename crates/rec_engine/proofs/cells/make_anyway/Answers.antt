@@ -6,25 +6,25 @@ use Rattle.rec_engine.proofs.KeptNodeLemmas.{kept-built}
 use Rattle.rx_term.proofs.KeepLemmas.{Keeps-after-refusal, exhausted}
 use Rattle.rec_engine.proofs.cells.make_anyway.Goals as goal
 
-pub make_once-requires-in-Err-Full : goal.make_once-requires-in-Err-Full
-make_once-requires-in-Err-Full g c =
+pub make_apart-requires : goal.make_apart-requires
+make_apart-requires g c =
     let k = Keeps-after-refusal c.in-Err-Full.ensures c.reclaim.ensures.reclaims in
     subst IsSome (sym (kept-built k c.requires.work c.args.node c.requires.parts)) c.requires.node
 
-pub returns-in-Ok-make_once-clause-makes : goal.returns-in-Ok-make_once-clause-makes
-returns-in-Ok-make_once-clause-makes g c =
+pub returns-in-Ok-make_apart-clause-makes : goal.returns-in-Ok-make_apart-clause-makes
+returns-in-Ok-make_apart-clause-makes g c =
     let k = Keeps-after-refusal c.in-Err-Full.ensures c.reclaim.ensures.reclaims in
-    c.in-Ok-make_once.ensures.made ∙ kept-built k c.requires.work c.args.node c.requires.parts
+    c.in-Ok-make_apart.ensures.made ∙ kept-built k c.requires.work c.args.node c.requires.parts
 
-pub returns-in-Err-Full-make_once-clause-makes : goal.returns-in-Err-Full-make_once-clause-makes
-returns-in-Err-Full-make_once-clause-makes g c =
+pub returns-in-Err-Full-make_apart-clause-makes : goal.returns-in-Err-Full-make_apart-clause-makes
+returns-in-Err-Full-make_apart-clause-makes g c =
     let mid = g.B.TermBank.store c.reclaim.new.bank in
-    let new = g.B.TermBank.store c.make_once-in-Err-Full.new.bank in
+    let new = g.B.TermBank.store c.make_apart.new.bank in
     record {
-      exhausted = exhausted c.reclaim.ensures.reclaims (subst (λ e. Refuses mid new (built mid c.args.node) e) c.in-Err-Full-make_once.field-0-is c.in-Err-Full-make_once.ensures);
+      exhausted = exhausted c.reclaim.ensures.reclaims (subst (λ e. Refuses mid new (built mid c.args.node) e) c.in-Err-Full-make_apart.field-0-is c.in-Err-Full-make_apart.ensures);
       forgotten = c.clear.ensures.empty;
     }
 
-pub returns-in-Err-Full-make_once-clause-known : goal.returns-in-Err-Full-make_once-clause-known
-returns-in-Err-Full-make_once-clause-known g c =
-    known-forgotten (known-trans (known-refused c.args.pace.now c.in-Err-Full.ensures) (known-trans c.reclaim.ensures.known (known-refused c.reclaim.new.pace c.in-Err-Full-make_once.ensures))) refl c.clear.ensures.empty
+pub returns-in-Err-Full-make_apart-clause-known : goal.returns-in-Err-Full-make_apart-clause-known
+returns-in-Err-Full-make_apart-clause-known g c =
+    known-forgotten (known-trans (known-refused c.args.pace.now c.in-Err-Full.ensures) (known-trans c.reclaim.ensures.known (known-refused c.reclaim.new.pace c.in-Err-Full-make_apart.ensures))) refl c.clear.ensures.empty
