@@ -27,11 +27,17 @@ END
     cat >"$tree/bin/rt" <<END
 #!/bin/sh
 echo "\$(basename "\$PWD") \$*" >>'$tree/runs'
-echo "rt at work"
+[ "\$1" = try ] || echo "rt at work"
 [ ! -e '$tree/slow' ] || sleep "\$(cat '$tree/slow')"
 [ ! -e '$tree/status' ] || exit "\$(cat '$tree/status')"
 case \$1 in
 lib) mkdir -p out/rlib && : >out/rlib/stamp ;;
+try)
+    echo "words: \$*"
+    cat
+    printf 'complaint\nchecked: ended status=3\nrun=ended status=3 runners=1 proved=no\n' >&2
+    exit 3
+    ;;
 run) printf '#!/bin/sh\necho "words: \$*"\ncat\nexit 3\n' >out/recw && chmod 755 out/recw ;;
 esac
 END
@@ -62,20 +68,20 @@ input" "$(cat "$room/out")"
 }
 
 runs() {
-    cat "$tree/runs" 2>/dev/null || :
+    sed 's/--jobs [1-4]/--jobs N/' "$tree/runs" 2>/dev/null || :
     rm -f "$tree/runs"
 }
 
-whole="low lib
-recw run -- --help"
+whole="low lib --jobs N
+recw run --jobs N -- --help"
 
 make_tree 'first one'
 start eval 'a  b'
 program_ran 'first start' 'eval a  b'
 log=$tree/crates/recw/out/build.log
 same 'first start: lines' "recw: the program is proved and built first, in about N minutes; the log is $log
-recw: proving low (1 of 2)
-recw: proving recw (2 of 2)" "$(sed 's/about [1-9][0-9]* minutes/about N minutes/' "$room/err")"
+recw: proving low (1 of 2), about N minutes left
+recw: proving recw (2 of 2), about N minutes left" "$(sed 's/about [1-9][0-9]* minutes/about N minutes/' "$room/err")"
 same 'first start: runs of rt' "$whole" "$(runs)"
 
 start
@@ -103,7 +109,8 @@ start
 program_ran 'a source was edited' ''
 same 'a source was edited: runs of rt' "$whole" "$(runs)"
 same 'a source was edited: first line' \
-    "recw: the program is brought up to date first; the log is $log" "$(head -n 1 "$room/err")"
+    "recw: the program is proved and built first, in about N minutes; the log is $log" \
+    "$(head -n 1 "$room/err" | sed 's/about [1-9] minutes/about N minutes/')"
 sleep 0.02
 rm "$tree/crates/low/src/lib.rt"
 start
@@ -126,9 +133,38 @@ start
 program_ran 'proved at last' ''
 
 make_tree large
-head -c 3000000 /dev/zero >"$tree/crates/low/src/lib.rt"
+head -c 1000000 /dev/zero >"$tree/crates/low/src/lib.rt"
 start
 same 'minutes grow with the sources' 1 "$(head -n 1 "$room/err" | grep -Ec 'in about [2-4][0-9] minutes; the log')"
+
+make_tree beside
+mkdir -p "$tree/crates/side/src"
+echo code >"$tree/crates/side/src/lib.rt"
+sed -i 's/^recw.*/recw: low side/' "$tree/crates.txt"
+echo 'side:' >>"$tree/crates.txt"
+head -c 1000 /dev/zero >"$tree/crates/low/src/lib.rt"
+start
+program_ran 'a crate beside the main line' ''
+same 'a crate beside the main line: lines' 2 "$(grep -c proving "$room/err")"
+[ "$(nproc)" -eq 1 ] || same 'a crate beside the main line: runs of rt' "$whole
+side lib --jobs N" "$(runs | sort -u)"
+same 'a crate beside the main line: no copy is left' no "$([ -e "$tree/crates/recw/out/build.copies" ] && echo yes || echo no)"
+
+make_tree unproved
+mkdir "$room/texts"
+touch "$room/texts/a b's.rec" "$room/texts/c.rec"
+cd "$room/texts"
+start_as "$tree/recw" --unproved eval --steps 5 "a b's.rec" "$room/texts/c.rec" none.rec
+cd /
+program_ran 'unproved' "try --data a b's.rec=$room/texts/a b's.rec --data file5/c.rec=$room/texts/c.rec \
+-- eval --steps 5 a b's.rec file5/c.rec none.rec"
+same 'unproved: lines' "complaint
+recw: nothing of this is proved; without --unproved the program is proved first" "$(cat "$room/err")"
+same 'unproved: runs of rt' 1 "$(runs | wc -l)"
+echo 1 >"$tree/status"
+start --unproved eval
+same 'unproved, and refused: status' 70 "$status"
+same 'unproved, and refused: last line' 'recw: the program was not run' "$(tail -n 1 "$room/err")"
 
 make_tree twice
 echo 0.7 >"$tree/slow"
