@@ -1,5 +1,5 @@
 -- One step of a pattern and its subject.
-use Rattle.std.proofs.Common.{ℕ, ◌≡◌, Bool, true, false, ◌&&◌, List, [], ◌∷◌, ◌++◌, Option, Some, None, refl, sym, ap, ◌∙◌}
+use Rattle.std.proofs.Common.{ℕ, ◌≡◌, Bool, true, false, ◌&&◌, List, [], ◌∷◌, ◌++◌, Option, Some, None, Result, Ok, Err, IfOk, refl, sym, ap, ◌∙◌}
 use Rattle.std.specs.Prelude.{bytes_eq}
 use Rattle.std.specs.Bool.{beq}
 use Rattle.std.specs.Option.{option_and_then}
@@ -14,6 +14,7 @@ use Rattle.rx_pattern.specs.Pattern.{fits, AnyList}
 use Rattle.rx_pattern.specs.Code.{Named, Listing, Piece, One, Several}
 use Rattle.rx_pattern.specs.Nodes.{kind_of_class, step_of}
 use Rattle.rx_pattern.specs.Subjects.{IsListed, Stands, Suits, Front, meets, Met, MetOrNot}
+use Rattle.rx_pattern.specs.declared.faults.PatternFault.{PatternFault}
 use Rattle.rx_pattern.specs.declared.nodes.Class.{Class}
 use Rattle.rx_pattern.specs.declared.nodes.Node.{Node}
 use Rattle.rx_pattern.specs.declared.nodes.Node.TheVariants as node
@@ -64,13 +65,25 @@ list_met w t a before between after (Hole inner anns) e f notes grown more_grown
 
 -- ---- bindings
 
-pub placeholder_arm : (w : Store) (n : Node) (class : Class) (subject : Option Term) (t : Term) (before : List (Option Term)) (out after : List Term) (b : Bool) → n ≡ node.Placeholder class → subject ≡ Some t
-    → ((u : Tree) → tree_at w t ≡ Some u → b ≡ fits (kind_of_class class) u) → b ≡ true → after ≡ out ++ t ∷ [] → (v : Piece) → Stands w subject v → Suits (step_of n) v → MetOrNot w w (meets (step_of n) v) before before out after true
-placeholder_arm w n class subject t before out after b e f test y grown (One u) st su =
+-- what the test of a placeholder says
+abbrev TestsClass : Store → Term → Class → Bool → Type 0
+TestsClass w t class b = (u : Tree) → tree_at w t ≡ Some u → b ≡ fits (kind_of_class class) u
+
+placeholder_binds : (w : Store) (n : Node) (class : Class) (subject : Option Term) (t : Term) (before : List (Option Term)) (out after : List Term) (b : Bool) → n ≡ node.Placeholder class → subject ≡ Some t
+    → TestsClass w t class b → (b ≡ true → after ≡ out ++ t ∷ []) → (v : Piece) → Stands w subject v → Suits (step_of n) v → MetOrNot w w (meets (step_of n) v) before before out after b
+placeholder_binds w n class subject t before out after true e f test grown (One u) st su =
     let there : tree_at w t ≡ Some u = rw f at st in
-    let d : fits (kind_of_class class) u ≡ true = sym (test u there) ∙ y in
-    rw (e, d) ((λ vs on. on), adds_one w w (Grows-refl w) out after t u grown there)
-placeholder_arm w n class subject t before out after b e f test y grown (Several ts) st su = absurd (rw e at su)
+    rw (e, sym (test u there)) ((λ vs on. on), adds_one w w (Grows-refl w) out after t u (grown refl) there)
+placeholder_binds w n class subject t before out after false e f test grown (One u) st su =
+    let there : tree_at w t ≡ Some u = rw f at st in
+    rw (e, sym (test u there)) tt
+placeholder_binds w n class subject t before out after b e f test grown (Several ts) st su = absurd (rw e at su)
+
+pub placeholder_arm : (w : Store) (n : Node) (class : Class) (subject : Option Term) (t : Term) (before : List (Option Term)) (out after : List Term) (r : Result Bool PatternFault) → n ≡ node.Placeholder class → subject ≡ Some t
+    → IfOk r (TestsClass w t class) → IfOk r (λ b. b ≡ true → after ≡ out ++ t ∷ [])
+    → IfOk r (λ b. (v : Piece) → Stands w subject v → Suits (step_of n) v → MetOrNot w w (meets (step_of n) v) before before out after b)
+placeholder_arm w n class subject t before out after (Ok b) e f test grown = placeholder_binds w n class subject t before out after b e f test grown
+placeholder_arm w n class subject t before out after (Err fault) e f test grown = tt
 
 pub rest_arm : (w new : Store) (n : Node) (subject : Option Term) (r : Term) (before : List (Option Term)) (out after : List Term) → n ≡ node.Rest → Grows w new
     → ((ts : Trees) → IsListed w subject ts → tree_at new r ≡ Some (list_of ts)) → after ≡ out ++ r ∷ [] → (v : Piece) → Stands w subject v → Suits (step_of n) v → MetOrNot w new (meets (step_of n) v) before before out after true

@@ -1,6 +1,6 @@
 //! The nodes of a pattern.
 
-ghost use Rattle.std.specs.Prelude.{◌≡◌, [], map, true, IsSome, IsTrue, IfOk, Some};
+ghost use Rattle.std.specs.Prelude.{◌≡◌, ◌++◌, ◌∷◌, [], map, true, IsSome, IsTrue, IfOk, OnOk, Some};
 ghost use Rattle.rx_term.specs.Name.{Signature};
 ghost use Rattle.rx_term.specs.Tree.{Tree, Trees};
 ghost use Rattle.rx_term.specs.Store.{tree_at, signature_of};
@@ -36,6 +36,16 @@ fn application<B: TermBank>(alloc: Global, bank: &B, symbol: Symbol) -> Result<N
     Ok(Node::Application(Name { bytes, quoted }))
 }
 
+/// Leaves the items of a list to do, and then the annotations.
+fn leave(jobs: &mut Vec<Job>, anns: Option<Term>, list: Term) -> Result<(), AllocError>
+    ensures { OnOk result (jobs.new.items
+        ≡ jobs.old.items ++ Job.Items anns ∷ Job.Items (Some list) ∷ []) }
+{
+    jobs.push(Job::Items(anns))?;
+    jobs.push(Job::Items(Some(list)))?;
+    Ok(())
+}
+
 /// The first node of a tree; what is behind it is left to do.
 fn tree_node<B: TermBank>(
     alloc: Global,
@@ -55,13 +65,11 @@ fn tree_node<B: TermBank>(
             Ok(Node::Integer(value))
         }
         Kind::Appl(symbol) => {
-            jobs.push(Job::Items(anns))?;
-            jobs.push(Job::Items(Some(bank.args(t))))?;
+            leave(jobs, anns, bank.args(t))?;
             application(alloc, bank, symbol)
         }
         Kind::Nil | Kind::Cons => {
-            jobs.push(Job::Items(anns))?;
-            jobs.push(Job::Items(Some(t)))?;
+            leave(jobs, anns, t)?;
             Ok(Node::List)
         }
         Kind::Hole => {

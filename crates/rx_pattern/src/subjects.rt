@@ -1,14 +1,16 @@
 //! Matching the nodes of a pattern with a term.
 
-ghost use Rattle.std.specs.Prelude.{◌≡◌, ◌&&◌, [], map, bytes_eq, IsSome, IfOk, IfErr, Some};
+ghost use Rattle.std.specs.Prelude.{◌≡◌, ◌&&◌, ◌++◌, ◌∷◌, [], map, bytes_eq};
+ghost use Rattle.std.specs.Prelude.{IsSome, IsTrue, IfOk, IfErr, OnOk, Some};
 ghost use Rattle.std.specs.Bool.{beq};
 ghost use Rattle.rx_term.specs.Name.{Signature};
-ghost use Rattle.rx_term.specs.Tree.{Tree, Trees};
+ghost use Rattle.rx_term.specs.Tree.{Tree, Trees, list_of};
 ghost use Rattle.rx_term.specs.Store.{tree_at, signature_of};
 ghost use Rattle.rx_term.specs.Steps.{Grows};
 ghost use Rattle.rx_pattern.specs.Matching.{matching};
 ghost use Rattle.rx_pattern.specs.Code.{Number, Named, Listing, Item, Piece, One, Several};
-ghost use Rattle.rx_pattern.specs.Nodes.{step_of, tree_of_nodes, AreNodes};
+ghost use Rattle.rx_pattern.specs.Pattern.{fits};
+ghost use Rattle.rx_pattern.specs.Nodes.{kind_of_class, step_of, tree_of_nodes, AreNodes};
 ghost use Rattle.rx_pattern.specs.Subjects.{IsListed, Stands, Suits, meets, Met, MetOrNot, Answers};
 ghost use Rattle.rx_pattern.specs.Held.{AddsOnlyLists};
 ghost use Rattle.rx_pattern.specs.Faults.{IsMatchRefusal};
@@ -18,7 +20,7 @@ use crate::lists::{is_empty, plain};
 use crate::nodes::{Class, Name, Node};
 use crate::words::fits;
 use rx_term::{Kind, Symbol, Term, TermBank};
-use std::alloc::{AllocError, Global};
+use std::alloc::Global;
 
 /// Whether the tree is this integer; its annotations are left.
 fn match_integer<B: TermBank>(
@@ -26,11 +28,12 @@ fn match_integer<B: TermBank>(
     value: i32,
     t: Term,
     subjects: &mut Vec<Option<Term>>,
-) -> Result<bool, AllocError>
+) -> Result<bool, PatternFault>
     requires { IsSome (tree_at (B.store bank.now) t) }
-    ensures { IfOk result (λ matched. (u : Tree) → tree_at (B.store bank.now) t ≡ Some u
+    ensures met { IfOk result (λ matched. (u : Tree) → tree_at (B.store bank.now) t ≡ Some u
         → Met (B.store bank.now) (meets (Number value) (One u)) subjects.old.items
         subjects.new.items matched) }
+    ensures refused { IfErr result (λ fault. fault ≡ PatternFault.Memory) }
 {
     let Kind::Int(other) = bank.kind(t) else {
         return Ok(false);
@@ -58,11 +61,12 @@ fn match_application<B: TermBank>(
     name: &Name,
     t: Term,
     subjects: &mut Vec<Option<Term>>,
-) -> Result<bool, AllocError>
+) -> Result<bool, PatternFault>
     requires { IsSome (tree_at (B.store bank.now) t) }
-    ensures { IfOk result (λ matched. (u : Tree) → tree_at (B.store bank.now) t ≡ Some u
+    ensures met { IfOk result (λ matched. (u : Tree) → tree_at (B.store bank.now) t ≡ Some u
         → Met (B.store bank.now) (meets (Named name.now.bytes.items name.now.quoted) (One u))
         subjects.old.items subjects.new.items matched) }
+    ensures refused { IfErr result (λ fault. fault ≡ PatternFault.Memory) }
 {
     let Kind::Appl(symbol) = bank.kind(t) else {
         return Ok(false);
@@ -82,11 +86,12 @@ fn match_list<B: TermBank>(
     bank: &B,
     t: Term,
     subjects: &mut Vec<Option<Term>>,
-) -> Result<bool, AllocError>
+) -> Result<bool, PatternFault>
     requires { IsSome (tree_at (B.store bank.now) t) }
-    ensures { IfOk result (λ matched. (u : Tree) → tree_at (B.store bank.now) t ≡ Some u
+    ensures met { IfOk result (λ matched. (u : Tree) → tree_at (B.store bank.now) t ≡ Some u
         → Met (B.store bank.now) (meets (Listing) (One u)) subjects.old.items
         subjects.new.items matched) }
+    ensures refused { IfErr result (λ fault. fault ≡ PatternFault.Memory) }
 {
     if !fits(bank, Class::List, t) {
         return Ok(false);
@@ -101,11 +106,12 @@ fn match_item<B: TermBank>(
     bank: &B,
     list: Option<Term>,
     subjects: &mut Vec<Option<Term>>,
-) -> Result<bool, AllocError>
+) -> Result<bool, PatternFault>
     requires { (ts : Trees) × IsListed (B.store bank.now) list ts }
-    ensures { IfOk result (λ matched. (ts : Trees) → IsListed (B.store bank.now) list ts
+    ensures met { IfOk result (λ matched. (ts : Trees) → IsListed (B.store bank.now) list ts
         → Met (B.store bank.now) (meets Item (Several ts)) subjects.old.items
         subjects.new.items matched) }
+    ensures refused { IfErr result (λ fault. fault ≡ PatternFault.Memory) }
 {
     if is_empty(bank, list) {
         return Ok(false);
@@ -114,6 +120,46 @@ fn match_item<B: TermBank>(
     subjects.push(Some(bank.tail(list)))?;
     subjects.push(Some(bank.head(list)))?;
     Ok(true)
+}
+
+/// Whether a placeholder stands for the tree, which is then a binding.
+fn match_placeholder<B: TermBank>(
+    bank: &B,
+    class: Class,
+    t: Term,
+    out: &mut Vec<Term>,
+) -> Result<bool, PatternFault>
+    requires { IsSome (tree_at (B.store bank.now) t) }
+    ensures fits { IfOk result (λ matched. (u : Tree) → tree_at (B.store bank.now) t ≡ Some u
+        → matched ≡ fits (kind_of_class class) u) }
+    ensures bound { IfOk result
+        (λ matched. IsTrue matched → out.new.items ≡ out.old.items ++ t ∷ []) }
+    ensures refused { IfErr result (λ fault. fault ≡ PatternFault.Memory) }
+{
+    if !fits(bank, class, t) {
+        return Ok(false);
+    }
+    out.push(t)?;
+    Ok(true)
+}
+
+/// Binds the items of a list, as a list without annotations.
+fn bind_rest<B: TermBank>(
+    bank: &mut B,
+    list: Option<Term>,
+    out: &mut Vec<Term>,
+) -> Result<(), PatternFault>
+    requires { (ts : Trees) × IsListed (B.store bank.old) list ts }
+    ensures bound { OnOk result ((r : Term) × (out.new.items ≡ out.old.items ++ r ∷ [])
+        × ((ts : Trees) → IsListed (B.store bank.old) list ts
+        → tree_at (B.store bank.new) r ≡ Some (list_of ts))) }
+    ensures refused { IfErr result (IsMatchRefusal (B.store bank.new)) }
+    ensures grows { Grows (B.store bank.old) (B.store bank.new) }
+    ensures added { AddsOnlyLists (B.store bank.old) (B.store bank.new) }
+{
+    let rest = plain(bank, list)?;
+    out.push(rest)?;
+    Ok(())
 }
 
 /// Whether the node matches the front of its subject; the rest of it is left.
@@ -134,22 +180,14 @@ fn match_node<B: TermBank>(
     ensures added { AddsOnlyLists (B.store bank.old) (B.store bank.new) }
 {
     match node {
-        Node::Integer(value) => Ok(match_integer(bank, *value, subject.unwrap(), subjects)?),
-        Node::Application(name) => Ok(match_application(bank, name, subject.unwrap(), subjects)?),
-        Node::List => Ok(match_list(bank, subject.unwrap(), subjects)?),
-        Node::Placeholder(class) => {
-            let t = subject.unwrap();
-            if !fits(bank, *class, t) {
-                return Ok(false);
-            }
-            out.push(t)?;
-            Ok(true)
-        }
+        Node::Integer(value) => match_integer(bank, *value, subject.unwrap(), subjects),
+        Node::Application(name) => match_application(bank, name, subject.unwrap(), subjects),
+        Node::List => match_list(bank, subject.unwrap(), subjects),
+        Node::Placeholder(class) => match_placeholder(bank, *class, subject.unwrap(), out),
         Node::End => Ok(is_empty(bank, subject)),
-        Node::Item => Ok(match_item(bank, subject, subjects)?),
+        Node::Item => match_item(bank, subject, subjects),
         Node::Rest => {
-            let rest = plain(bank, subject)?;
-            out.push(rest)?;
+            bind_rest(bank, subject, out)?;
             Ok(true)
         }
     }
