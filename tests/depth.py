@@ -127,7 +127,7 @@ def steps_without_end(stack, at):
 
 def default_budget(stack, _):
     what = f"a condition that asks for itself, {stack} KiB of stack"
-    check_run(what, (0, "!limit 1000000\n"), "eval", "loop.rec", before=at_stack(stack))
+    check_run(what, (0, "!limit 1000000\n"), "eval", "rows/loop.rec", before=at_stack(stack))
 
 
 GROUPS = (

@@ -177,7 +177,7 @@ def check(name, text, found, which):
 
 def main():
     texts = {"tricky": TRICKY}
-    for path in sorted(glob.glob(f"{TOP}/examples/*.rec")):
+    for path in sorted(glob.glob(f"{TOP}/examples/**/*.rec", recursive=True)):
         with open(path, encoding="utf-8") as file:
             texts[path.rpartition("/")[2]] = file.read()
     grammar = Grammar()

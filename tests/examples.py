@@ -1,9 +1,10 @@
 #!/usr/bin/env -S python3 -B
 """Runs each example of the documents, and compares its output.
 
-The examples are the rows of the table of examples/README.md, the blocks marked `console` of the
-Markdown files, where each line `$ COMMAND` is followed by what it prints, and those of the manual
-page. An example with an option that the program's help does not have is named, and not run.
+The examples are the rows of the table of examples/README.md, the specifications that tests/oracles.py
+works out too, the blocks marked `console` of the Markdown files, where each line `$ COMMAND` is
+followed by what it prints, and those of the manual page. An example with an option that the program's
+help does not have is named, and not run.
 """
 
 import glob
@@ -13,10 +14,11 @@ import shlex
 import subprocess
 import tempfile
 
+import oracles
 from common import TOP, done, program, rows, run, same, text_of
 
 # What takes no end of time where results are not remembered.
-NEEDS = {"fast.rec": ["--memo"]}
+NEEDS = {"rows/fast.rec": ["--memo"]}
 
 
 def check_table(known):
@@ -32,8 +34,18 @@ def check_table(known):
         how = {"capture_output": True, "text": True, "check": False, "timeout": 60}
         ran = subprocess.run(words, cwd=f"{TOP}/examples", **how)
         same(f"examples/README.md: {files} {options}", (0, output, ""), (ran.returncode, ran.stdout, ran.stderr))
-    there = {os.path.basename(it) for it in glob.glob(f"{TOP}/examples/*") if not it.endswith(".md")}
+    for name in oracles.WORKED:
+        tried.update([f"{name}.rec", f"{name}.trm"])
+    there = {it for it in glob.glob("**/*.*", root_dir=f"{TOP}/examples", recursive=True) if not it.endswith(".md")}
     same("examples/README.md: files", sorted(there), sorted(tried))
+
+
+def check_oracles():
+    """What four specifications come to, beside what programs of another kind make of their terms."""
+    for name in oracles.WORKED:
+        words = [program(), "eval", f"{TOP}/examples/{name}.rec", f"{TOP}/examples/{name}.trm"]
+        ran = subprocess.run(words, capture_output=True, text=True, check=False, timeout=60)
+        same(f"examples/{name}.rec", (0, oracles.values(name), ""), (ran.returncode, ran.stdout, ran.stderr))
 
 
 def consoles():
@@ -76,6 +88,7 @@ def main():
     known = shlex.split(run([program(), "eval", "--help"]).replace("'", ""))
     with tempfile.TemporaryDirectory() as room:
         check_table(known)
+        check_oracles()
         check_consoles(room)
         check_helps(["eval", "aterm", "share", "match", "make"], room)
     done()
