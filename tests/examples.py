@@ -37,6 +37,7 @@ def check_table(known):
     for name in oracles.WORKED:
         tried.update([f"{name}.rec", f"{name}.trm"])
     there = {it for it in glob.glob("**/*.*", root_dir=f"{TOP}/examples", recursive=True) if not it.endswith(".md")}
+    there = {it for it in there if not it.startswith("tutorial/")}
     same("examples/README.md: files", sorted(there), sorted(tried))
 
 
@@ -84,11 +85,23 @@ def check_helps(known, room):
             same(f"help: {example}", (0, ""), (ran.returncode, ran.stderr))
 
 
+def check_specifications():
+    """Each specification that a document shows stands in the file that is named before it."""
+    shown = set()
+    for file in glob.glob("docs/*.md", root_dir=TOP):
+        named = r"\(\.\./(examples/\S+\.rec)\):\n\n```rec\n(.*?)^```$"
+        for name, block in re.findall(named, text_of(file), re.M | re.S):
+            same(f"{file}: {name}", text_of(name), block)
+            shown.add(name)
+    same("specifications that documents show", set(glob.glob("examples/tutorial/*.rec", root_dir=TOP)), shown)
+
+
 def main():
     known = shlex.split(run([program(), "eval", "--help"]).replace("'", ""))
     with tempfile.TemporaryDirectory() as room:
         check_table(known)
         check_oracles()
+        check_specifications()
         check_consoles(room)
         check_helps(["eval", "aterm", "share", "match", "make"], room)
     done()
