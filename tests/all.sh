@@ -12,7 +12,7 @@ try() {
 }
 
 if command -v shellcheck >/dev/null; then
-    try shellcheck "$tests/../recw" "$tests"/*.sh "$tests/../completions/recw.bash"
+    try shellcheck "$tests/../recw" "$tests"/*.sh "$tests/../packaging/deb" "$tests/../completions/recw.bash"
 else
     echo "not tried: shellcheck is not here"
 fi
@@ -20,4 +20,5 @@ try "$tests/start.sh"
 try "$tests/help.py" "$program"
 try "$tests/examples.py" "$program"
 try "$tests/editors.py"
+try "$tests/package.sh" "$@"
 [ "$failed" -eq 0 ]
