@@ -84,7 +84,7 @@ fn run_request<H: Files, R: Read, W: Write>(
     }
 }
 
-/// The run over a file or the standard input, whose text is kept for an explanation.
+/// The run over a file or the standard input.
 fn run_on_file<H: Files, R: Read, W: Write>(
     rt: &H,
     input: &mut R,
@@ -94,8 +94,19 @@ fn run_on_file<H: Files, R: Read, W: Write>(
     let path = evidence.invocation.request.path();
     let name = evidence.name_of(Source::Term);
     let file = evidence.note_open(open(rt, path, input), name)?;
+    run_recorded(rt, file, out, evidence)
+}
+
+/// The run over what was opened, whose text is kept for an explanation.
+fn run_recorded<H: Files, R: Read + Drop, W: Write>(
+    rt: &H,
+    file: R,
+    out: &mut W,
+    evidence: &mut Evidence<'_>,
+) -> Result<Finish, RunFault> {
     let mut text = evidence.record(file);
     let end = run_on_text(rt, &mut text, out, evidence);
+    let name = evidence.name_of(Source::Term);
     evidence.first = evidence.note_read(text.finish(), name);
     end
 }
