@@ -1,12 +1,13 @@
 //! What a run leaves for its explanation.
 
-use crate::explain::{explain_place, explain_text};
-use crate::item::{Item, item_of_args, item_of_terms};
-use crate::request::Request;
+use crate::expected::expected_words;
+use crate::item::{item_of_args, item_of_terms};
+use crate::recorded::Recorded;
 use rec_run::{Finish, Place, RunFault, Source};
+use recw_words::{Invocation, Item, Refusal, Request, explain_place, explain_text};
 use std::alloc::Global;
 use std::io;
-use std::io::{ErrorKind, Write};
+use std::io::{ErrorKind, Read, Write};
 
 /// What a refusal's line is made of.
 struct RefusalLine<'a> {
@@ -16,9 +17,13 @@ struct RefusalLine<'a> {
     rule: &'a str,
 }
 
-/// What a run leaves: the texts that it read, and what came of them.
+/// What is asked of a run, and what it leaves: the texts that it read, and what came of them.
 #[derive(Drop)]
 pub struct Evidence<'a> {
+    /// The allocator of the texts.
+    pub alloc: Global,
+    /// What is asked for.
+    pub invocation: Invocation<'a>,
     /// Where the text was refused.
     pub place: Option<Place>,
     /// The text of the specification, or of the term.
@@ -28,13 +33,15 @@ pub struct Evidence<'a> {
     /// The first bytes of the output.
     pub line: Vec<u8>,
     /// What could not be read, and why.
-    pub trouble: Option<(&'a str, ErrorKind)>,
+    trouble: Option<(&'a str, ErrorKind)>,
 }
 
 impl<'a> Evidence<'a> {
     /// Nothing so far.
-    pub fn new(alloc: Global) -> Evidence<'a> {
+    pub fn new(alloc: Global, invocation: Invocation<'a>) -> Evidence<'a> {
         Evidence {
+            alloc,
+            invocation,
             place: None,
             first: Vec::new(alloc),
             second: Vec::new(alloc),
@@ -54,59 +61,82 @@ impl<'a> Evidence<'a> {
         }
     }
 
-    /// The text that was read under this name. Where a read failed, that is what could not be read.
+    /// What the text is called where it is read.
+    pub fn name_of(&self, source: Source) -> &'a str {
+        let request = self.invocation.request;
+        let path = match source {
+            Source::Pattern => Some("PATTERN"),
+            Source::Args => Some("ARGS"),
+            Source::Terms => request.terms_path(),
+            _ => request.path(),
+        };
+        path.unwrap_or("<stdin>")
+    }
+
+    /// A reader whose text is kept where a refusal is to be explained.
+    pub fn record<R: Read>(&self, input: R) -> Recorded<R> {
+        Recorded::new(self.alloc, input, self.invocation.explain)
+    }
+
+    /// The text that was read under this name. Where a read failed, that is what could not be read,
+    /// unless one was noted before: given terms, which are read last, are noted first.
     pub fn note_read(&mut self, end: (Vec<u8>, Option<ErrorKind>), name: &'a str) -> Vec<u8> {
         let (text, trouble) = end;
-        if let Some(kind) = trouble {
+        if let Some(kind) = trouble
+            && self.trouble.is_none()
+        {
             self.trouble = Some((name, kind));
         }
         text
     }
 
     /// Explains how a run ended, where there is more to say than the line that was written.
-    pub fn explain<W: Write>(
-        &self,
-        alloc: Global,
-        request: Request<'_>,
-        end: Result<Finish, RunFault>,
-        out: &mut W,
-    ) -> io::Result<()> {
+    pub fn explain<W: Write>(&self, end: Result<Finish, RunFault>, out: &mut W) -> io::Result<()> {
         match end {
-            Ok(Finish::Refused) => self.explain_refusal(alloc, request, out),
+            Ok(Finish::Refused) => self.explain_refusal(out),
             Err(RunFault::Read) => self.explain_trouble(out),
-            Err(RunFault::Room { .. }) => explain_room(request, out),
+            Err(RunFault::Room { .. }) => explain_room(self.invocation.request, out),
             _ => Ok(()),
         }
     }
 
     /// Says what the refusal means, and where it stands.
-    fn explain_refusal<W: Write>(
-        &self,
-        alloc: Global,
-        request: Request<'_>,
-        out: &mut W,
-    ) -> io::Result<()> {
+    fn explain_refusal<W: Write>(&self, out: &mut W) -> io::Result<()> {
         let Some(RefusalLine { source, rule }) = read_line(self.line.as_slice()) else {
             return Ok(());
         };
-        let name = name_of(request, source);
+        let refusal = Refusal {
+            text: self.name_of(source),
+            rule,
+        };
         match self.place {
-            Some(place) => {
-                let text = self.text_of(request, source);
-                explain_place(alloc, name, rule, text, place.at as usize, out)
-            }
-            None => explain_text(name, rule, self.item_of(alloc, request, source), out),
+            Some(place) => self.explain_at(refusal, self.text_of(source), place.at as usize, out),
+            None => explain_text(refusal, self.item_of(source), out),
+        }
+    }
+
+    /// Says what a refusal at a place of a text means, and what may stand there.
+    fn explain_at<W: Write>(
+        &self,
+        refusal: Refusal<'_>,
+        text: &[u8],
+        at: usize,
+        out: &mut W,
+    ) -> io::Result<()> {
+        match expected_words(self.alloc, refusal.rule, text, at) {
+            Some(expected) => explain_place(refusal, text, at, expected.as_slice(), out),
+            None => explain_place(refusal, text, at, &[], out),
         }
     }
 
     /// Which item of a list is refused, where the text is one and that can be told.
-    fn item_of(&self, alloc: Global, request: Request<'_>, source: Source) -> Option<Item> {
-        match (source, request) {
+    fn item_of(&self, source: Source) -> Option<Item> {
+        match (source, self.invocation.request) {
             (Source::Terms, Request::Eval { .. }) => {
-                item_of_terms(alloc, self.first.as_slice(), self.second.as_slice())
+                item_of_terms(self.alloc, self.first.as_slice(), self.second.as_slice())
             }
             (Source::Args, Request::Make { pattern, args }) => {
-                item_of_args(alloc, pattern.as_bytes(), args.as_bytes())
+                item_of_args(self.alloc, pattern.as_bytes(), args.as_bytes())
             }
             _ => None,
         }
@@ -121,8 +151,8 @@ impl<'a> Evidence<'a> {
     }
 
     /// The text that was refused.
-    fn text_of<'t>(&'t self, request: Request<'t>, source: Source) -> &'t [u8] {
-        match (source, request) {
+    fn text_of(&self, source: Source) -> &[u8] {
+        match (source, self.invocation.request) {
             (Source::Pattern, Request::Match { pattern, .. } | Request::Make { pattern, .. }) => {
                 pattern.as_bytes()
             }
@@ -146,20 +176,6 @@ fn read_line(line: &[u8]) -> Option<RefusalLine<'_>> {
         _ => return None,
     };
     Some(RefusalLine { source, rule })
-}
-
-/// What the text is called where it is read.
-pub fn name_of<'a>(request: Request<'a>, source: Source) -> &'a str {
-    let path = match (source, request) {
-        (Source::Pattern, _) => Some("PATTERN"),
-        (Source::Args, _) => Some("ARGS"),
-        (Source::Terms, Request::Eval { terms, .. }) => terms,
-        (_, Request::Eval { spec, .. }) => spec,
-        (_, Request::Aterm { file } | Request::Share { file } | Request::Match { file, .. }) =>
-            file,
-        (_, Request::Make { .. }) => None,
-    };
-    path.unwrap_or("<stdin>")
 }
 
 /// Names the option that raises the limit on cells.

@@ -1,9 +1,8 @@
 //! What may stand at the place of a refusal, in words.
 
-use crate::refusals::{specification_token, term_token};
+use rec_syntax::{Part, TokenKind as SpecificationToken};
+use rx_text::TokenKind as TermToken;
 use std::alloc::Global;
-use std::io;
-use std::io::Write;
 
 /// What may stand where a rule of a grammar refuses the text; nothing of other rules, and where
 /// there is no memory to tell. A text that was not kept ends before its place.
@@ -31,18 +30,45 @@ pub fn expected_words(
     }
 }
 
-/// Writes what may stand at a place, behind a line's other words.
-pub fn write_expected<W: Write>(words: &[&str], out: &mut W) -> io::Result<()> {
-    let last = words.len().saturating_sub(1);
-    for (i, word) in words.iter().enumerate() {
-        let before = if i == 0 {
-            "; expected "
-        } else if i == last {
-            " or "
-        } else {
-            ", "
-        };
-        write!(out, "{before}{word}")?;
+/// What a specification's token is called.
+pub fn specification_token(kind: SpecificationToken) -> &'static str {
+    match kind {
+        SpecificationToken::PlainWord => "a plain word",
+        SpecificationToken::RecSpec => "`REC-SPEC`",
+        SpecificationToken::Section(Part::Sorts) => "`SORTS`",
+        SpecificationToken::Section(Part::Cons) => "`CONS`",
+        SpecificationToken::Section(Part::Opns) => "`OPNS`",
+        SpecificationToken::Section(Part::Vars) => "`VARS`",
+        SpecificationToken::Section(Part::Rules) => "`RULES`",
+        SpecificationToken::Section(Part::Eval) => "`EVAL`",
+        SpecificationToken::EndSpec => "`END-SPEC`",
+        SpecificationToken::If => "`if`",
+        SpecificationToken::AndIf => "`and-if`",
+        SpecificationToken::Colon => "`:`",
+        SpecificationToken::Open => "`(`",
+        SpecificationToken::Close => "`)`",
+        SpecificationToken::Comma => "`,`",
+        SpecificationToken::Arrow => "`->`",
+        SpecificationToken::Equal => "`-><-`",
+        SpecificationToken::Unequal => "`->/<-`",
+        SpecificationToken::End => "the end",
     }
-    Ok(())
+}
+
+/// What an annotated term's token is called.
+pub fn term_token(kind: TermToken) -> &'static str {
+    match kind {
+        TermToken::Integer => "an integer",
+        TermToken::Name => "a name",
+        TermToken::Open => "`(`",
+        TermToken::Close => "`)`",
+        TermToken::OpenBracket => "`[`",
+        TermToken::CloseBracket => "`]`",
+        TermToken::OpenBrace => "`{`",
+        TermToken::CloseBrace => "`}`",
+        TermToken::Less => "`<`",
+        TermToken::Greater => "`>`",
+        TermToken::Comma => "`,`",
+        TermToken::End => "the end",
+    }
 }

@@ -1,17 +1,13 @@
-//! Reads the words of the command line, does what they ask, and ends with its status.
+//! Does what the words of the command line ask for, and ends with its status.
 #![tactic(auto)]
 
-mod command;
 mod evidence;
 mod expected;
-mod explain;
 mod input;
 mod item;
 mod program;
 mod recorded;
-mod refusals;
 mod report;
-mod request;
 #[cfg(test)]
 mod shelf;
 #[cfg(test)]
@@ -30,7 +26,7 @@ const OUT_CAPACITY: usize = 65_536;
 fn main(rt: HostRuntime) -> ExitCode {
     let status = match start(&rt, rt.alloc()) {
         Ok(status) => status,
-        Err(error) => report::failed_start(&error, &mut rt.stderr()),
+        Err(error) => recw_words::failed_start(&error, &mut rt.stderr()),
     };
     ExitCode::from(status)
 }
@@ -38,6 +34,11 @@ fn main(rt: HostRuntime) -> ExitCode {
 /// Fails where a word is no text, and where there is no memory.
 fn start(rt: &HostRuntime, alloc: Global) -> io::Result<u8> {
     let given: Vec<String> = env::args(rt)?.skip(1).collect(alloc)?;
+    start_with(rt, alloc, given.as_slice())
+}
+
+/// Fails where there is no memory.
+fn start_with(rt: &HostRuntime, alloc: Global, given: &[String]) -> io::Result<u8> {
     let words: Vec<&str> = given.iter().map(|word| word.as_str()).collect(alloc)?;
     let mut out = BufWriter::with_capacity(alloc, OUT_CAPACITY, rt.stdout())?;
     Ok(program(

@@ -1,15 +1,14 @@
 //! Does what the words ask.
 
-use crate::evidence::{Evidence, name_of};
+use crate::evidence::Evidence;
 use crate::input::{open, open_given};
-use crate::recorded::{Recorded, Watched};
-use crate::request::{Invocation, Request, read_words};
-use crate::{refusals, report};
-use clap::error::ErrorKind;
+use crate::recorded::Watched;
+use crate::report;
 use rec_run::{
-    Finish, Place, RunFault, RunOptions, Source, run_at, run_aterm_at, run_make_at, run_match_at,
+    Finish, RunFault, RunOptions, Source, run_at, run_aterm_at, run_make_at, run_match_at,
     run_share_at,
 };
+use recw_words::{Asked, EvalOptions, Invocation, Request, read_words};
 use std::alloc::Global;
 use std::io::{Read, Write};
 use std::rt::Files;
@@ -24,128 +23,160 @@ pub fn program<H: Files, R: Read, W: Write, E: Write>(
     out: &mut W,
     err: &mut E,
 ) -> u8 {
-    if words.is_empty() {
-        return obey(rt, alloc, &["eval"], input, out, err);
+    match read_words(alloc, words, out, err) {
+        Asked::Run(invocation) => obey(rt, alloc, invocation, input, out, err),
+        Asked::End(status) => status,
     }
-    if words == ["help", "refusals"].as_slice() {
-        return report::help_written(refusals::write_all(out), err);
-    }
-    obey(rt, alloc, words, input, out, err)
 }
 
-/// Does what the words ask for, whose first bytes of output are kept, and tells of its end.
+/// Does what is asked for, and tells of its end.
 fn obey<H: Files, R: Read, W: Write, E: Write>(
     rt: &H,
     alloc: Global,
-    words: &[&str],
+    invocation: Invocation<'_>,
     input: &mut R,
     out: &mut W,
     err: &mut E,
 ) -> u8 {
-    match read_words(alloc, words) {
-        Ok(invocation) => {
-            let mut evidence = Evidence::new(alloc);
-            let mut out = Watched::new(alloc, out);
-            let end = perform(rt, alloc, invocation, input, &mut out, &mut evidence);
-            evidence.line = out.finish();
-            let status = report::ended(end, evidence.place, err);
-            if invocation.explain {
-                let _ = evidence.explain(alloc, invocation.request, end, err);
-            }
-            status
-        }
-        Err(error) => {
-            let status = report::refused_words(&error, out, err);
-            if error.kind() == ErrorKind::InvalidSubcommand {
-                report::advise(words, err);
-            }
-            status
-        }
+    let mut evidence = Evidence::new(alloc, invocation);
+    let end = perform(rt, input, out, &mut evidence);
+    conclude(end, &evidence, err)
+}
+
+/// Tells of a run's end, and gives its status.
+fn conclude<E: Write>(end: Result<Finish, RunFault>, evidence: &Evidence<'_>, err: &mut E) -> u8 {
+    let status = report::ended(end, evidence.place, err);
+    if evidence.invocation.explain {
+        let _ = evidence.explain(end, err);
     }
+    status
+}
+
+/// Does what is asked for, and keeps the first bytes of output.
+fn perform<H: Files, R: Read, W: Write>(
+    rt: &H,
+    input: &mut R,
+    out: &mut W,
+    evidence: &mut Evidence<'_>,
+) -> Result<Finish, RunFault> {
+    let mut out = Watched::new(evidence.alloc, out);
+    let end = run_request(rt, input, &mut out, evidence);
+    evidence.line = out.finish();
+    end
 }
 
 /// Does what is asked for, on the files that it names.
-fn perform<'a, H: Files, R: Read, W: Write>(
+fn run_request<H: Files, R: Read, W: Write>(
     rt: &H,
-    alloc: Global,
-    invocation: Invocation<'a>,
     input: &mut R,
     out: &mut W,
-    evidence: &mut Evidence<'a>,
+    evidence: &mut Evidence<'_>,
 ) -> Result<Finish, RunFault> {
-    let request = invocation.request;
-    match request {
-        Request::Eval {
-            options,
-            spec,
-            terms,
-        } => {
-            let spec = evidence.note_open(open(rt, spec, input), name_of(request, Source::Spec))?;
-            let terms = evidence.note_open(open_given(rt, terms), name_of(request, Source::Terms))?;
-            evaluate(alloc, invocation, options, spec, terms, out, evidence)
-        }
+    match evidence.invocation.request {
         Request::Make { pattern, args } => run_make_at(
-            alloc,
+            evidence.alloc,
             pattern.as_bytes(),
             args.as_bytes(),
             out,
             &mut evidence.place,
         ),
-        Request::Aterm { file } | Request::Share { file } | Request::Match { file, .. } => {
-            let name = name_of(request, Source::Term);
-            let file = evidence.note_open(open(rt, file, input), name)?;
-            let mut term = Recorded::new(alloc, file, invocation.explain);
-            let end = run_on_term(alloc, request, &mut term, out, &mut evidence.place);
-            evidence.first = evidence.note_read(term.finish(), name);
-            end
-        }
+        _ => run_on_file(rt, input, out, evidence),
     }
 }
 
-/// Evaluates a specification and given terms, and keeps their texts for an explanation.
-fn evaluate<'a, R: Read + Drop, T: Read + Drop, W: Write>(
-    alloc: Global,
-    invocation: Invocation<'a>,
-    options: RunOptions,
-    spec: R,
+/// The run over a file or the standard input.
+fn run_on_file<H: Files, R: Read, W: Write>(
+    rt: &H,
+    input: &mut R,
+    out: &mut W,
+    evidence: &mut Evidence<'_>,
+) -> Result<Finish, RunFault> {
+    let path = evidence.invocation.request.path();
+    let name = evidence.name_of(Source::Term);
+    let file = evidence.note_open(open(rt, path, input), name)?;
+    run_recorded(rt, file, out, evidence)
+}
+
+/// The run over what was opened, whose text is kept for an explanation.
+fn run_recorded<H: Files, R: Read + Drop, W: Write>(
+    rt: &H,
+    file: R,
+    out: &mut W,
+    evidence: &mut Evidence<'_>,
+) -> Result<Finish, RunFault> {
+    let mut text = evidence.record(file);
+    let end = run_on_text(rt, &mut text, out, evidence);
+    let name = evidence.name_of(Source::Term);
+    evidence.first = evidence.note_read(text.finish(), name);
+    end
+}
+
+/// The run over a text that is asked for.
+fn run_on_text<H: Files, R: Read, W: Write>(
+    rt: &H,
+    text: &mut R,
+    out: &mut W,
+    evidence: &mut Evidence<'_>,
+) -> Result<Finish, RunFault> {
+    let alloc = evidence.alloc;
+    match evidence.invocation.request {
+        Request::Eval { options, .. } => evaluate(rt, options, text, out, evidence),
+        Request::Share { .. } => run_share_at(alloc, text, out, &mut evidence.place),
+        Request::Match { pattern, .. } => {
+            run_match_at(alloc, pattern.as_bytes(), text, out, &mut evidence.place)
+        }
+        _ => run_aterm_at(alloc, text, out, &mut evidence.place),
+    }
+}
+
+/// Evaluates a specification, and the terms that are given beside it.
+fn evaluate<H: Files, R: Read, W: Write>(
+    rt: &H,
+    options: EvalOptions,
+    spec: &mut R,
+    out: &mut W,
+    evidence: &mut Evidence<'_>,
+) -> Result<Finish, RunFault> {
+    let path = evidence.invocation.request.terms_path();
+    let name = evidence.name_of(Source::Terms);
+    let terms = evidence.note_open(open_given(rt, path), name)?;
+    evaluate_with(options, spec, terms, out, evidence)
+}
+
+/// Evaluates a specification and given terms, whose text is kept for an explanation.
+fn evaluate_with<R: Read, T: Read + Drop, W: Write>(
+    options: EvalOptions,
+    spec: &mut R,
     terms: Option<T>,
     out: &mut W,
-    evidence: &mut Evidence<'a>,
+    evidence: &mut Evidence<'_>,
 ) -> Result<Finish, RunFault> {
-    let Invocation { request, explain } = invocation;
-    let mut spec = Recorded::new(alloc, spec, explain);
     let mut terms = match terms {
-        Some(file) => Some(Recorded::new(alloc, file, explain)),
+        Some(file) => Some(evidence.record(file)),
         None => None,
     };
     let end = run_at(
-        alloc,
-        &mut spec,
+        evidence.alloc,
+        spec,
         terms.as_mut(),
         out,
-        options,
+        run_options(options),
         &mut evidence.place,
     );
-    evidence.first = evidence.note_read(spec.finish(), name_of(request, Source::Spec));
     if let Some(terms) = terms {
-        evidence.second = evidence.note_read(terms.finish(), name_of(request, Source::Terms));
+        let name = evidence.name_of(Source::Terms);
+        evidence.second = evidence.note_read(terms.finish(), name);
     }
     end
 }
 
-/// The run over the text of one term that is asked for.
-fn run_on_term<R: Read, W: Write>(
-    alloc: Global,
-    request: Request<'_>,
-    term: &mut R,
-    out: &mut W,
-    place: &mut Option<Place>,
-) -> Result<Finish, RunFault> {
-    match request {
-        Request::Share { .. } => run_share_at(alloc, term, out, place),
-        Request::Match { pattern, .. } => {
-            run_match_at(alloc, pattern.as_bytes(), term, out, place)
-        }
-        _ => run_aterm_at(alloc, term, out, place),
+/// The options of a run that are asked for.
+fn run_options(options: EvalOptions) -> RunOptions {
+    RunOptions {
+        steps: options.steps,
+        cells: options.cells,
+        memo: options.memo,
+        reclaim: options.reclaim,
+        count: options.count,
     }
 }

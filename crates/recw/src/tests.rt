@@ -6,6 +6,7 @@ mod streams;
 mod words;
 
 use crate::program::program;
+use crate::shelf::Shelf;
 use std::alloc::Global;
 use std::io::Read;
 use std::process::Abort;
@@ -21,21 +22,37 @@ pub(crate) const ADDITION: &str =
 #[derive(Drop)]
 pub(crate) struct Ran {
     /// The exit status.
-    pub(crate) status: u8,
+    status: u8,
     /// What it wrote on the standard output.
-    pub(crate) out: String,
+    out: Vec<u8>,
     /// What it wrote on the standard error.
-    pub(crate) err: String,
+    err: Vec<u8>,
+}
+
+impl Ran {
+    /// The standard output as a text.
+    pub(crate) fn out(&self) -> &str {
+        text_of(self.out.as_slice())
+    }
+
+    /// The standard error as a text.
+    pub(crate) fn err(&self) -> &str {
+        text_of(self.err.as_slice())
+    }
+}
+
+/// An output as a text.
+fn text_of(bytes: &[u8]) -> &str {
+    str::from_utf8(bytes).unwrap_or("(not UTF-8)")
 }
 
 /// Runs the program with this text as its standard input.
-pub(crate) fn run<H: Abort + Files>(rt: &H, alloc: Global, words: &[&str], text: &str) -> Ran {
-    run_over(rt, rt, alloc, words, &mut text.as_bytes())
+pub(crate) fn run<H: Files>(rt: &H, alloc: Global, words: &[&str], text: &str) -> Ran {
+    run_over(rt, alloc, words, &mut text.as_bytes())
 }
 
 /// Runs the program on these files and this standard input.
 pub(crate) fn run_over<H: Files, R: Read>(
-    rt: &impl Abort,
     files: &H,
     alloc: Global,
     words: &[&str],
@@ -44,16 +61,7 @@ pub(crate) fn run_over<H: Files, R: Read>(
     let mut out = Vec::new(alloc);
     let mut err = Vec::new(alloc);
     let status = program(files, alloc, words, input, &mut out, &mut err);
-    Ran {
-        status,
-        out: text_of(rt, out),
-        err: text_of(rt, err),
-    }
-}
-
-/// An output as a text.
-fn text_of(rt: &impl Abort, bytes: Vec<u8>) -> String {
-    String::from_utf8(bytes).expect(rt, "an output in UTF-8")
+    Ran { status, out, err }
 }
 
 /// The words, the standard input, the status and the two outputs.
@@ -65,23 +73,52 @@ pub(crate) type Row = (
     &'static str,
 );
 
-/// The program leaves what the row says.
-pub(crate) fn meets<H: Abort + Files>(rt: &H, alloc: Global, row: &Row) {
-    let (words, text, status, out, err) = *row;
-    let ran = run(rt, alloc, words, text);
-    answers(rt, words, &ran, status, out, err);
+/// The program left what the row says.
+pub(crate) fn leaves(rt: &impl Abort, row: &Row, ran: &Ran) {
+    let (words, _, status, out, err) = *row;
+    let as_said = ran.status == status && ran.out() == out && ran.err() == err;
+    assert!(rt; as_said, "{words:?}: {}{}", ran.out(), ran.err());
 }
 
-/// This is what the program left for these words.
-pub(crate) fn answers(
-    rt: &impl Abort,
-    words: &[&str],
-    ran: &Ran,
-    status: u8,
-    out: &str,
-    err: &str,
-) {
-    assert_eq!(rt; ran.status, status, "{words:?}");
-    assert_eq!(rt; ran.out.as_str(), out, "{words:?}");
-    assert_eq!(rt; ran.err.as_str(), err, "{words:?}");
+/// The program leaves what the rows say, with their texts as its standard input.
+fn all_leave<H: Abort + Files>(rt: &H, alloc: Global, rows: &[Row]) {
+    for row in rows {
+        leaves(rt, row, &run(rt, alloc, row.0, row.1));
+    }
+}
+
+/// The rows whose texts come from the standard input.
+const TABLES: [&[Row]; 5] = [
+    help::HELPS,
+    words::STATUSES,
+    words::TERMS,
+    words::PATTERNS,
+    explained::INPUTS,
+];
+
+#[test]
+fn answers_and_writes(rt: HostRuntime) {
+    for rows in &TABLES {
+        all_leave(&rt, rt.alloc(), rows);
+    }
+}
+
+/// The program leaves what the rows say, on these files.
+fn all_leave_on(rt: &impl Abort, alloc: Global, files: &Shelf, rows: &[Row]) {
+    for row in rows {
+        leaves(rt, row, &streams::run_on(files, alloc, row.0));
+    }
+}
+
+/// The rows whose texts come from files.
+const SHELVES: [(Shelf, &[Row]); 2] = [
+    (streams::FILES, streams::NAMED),
+    (explained::REFUSED, explained::EXPLAINED),
+];
+
+#[test]
+fn reads_its_files(rt: HostRuntime) {
+    for (files, rows) in &SHELVES {
+        all_leave_on(&rt, rt.alloc(), files, rows);
+    }
 }

@@ -2,82 +2,93 @@
 
 use crate::shelf::Shelf;
 use crate::tests::streams::run_on;
-use crate::tests::{ADDITION, run};
+use crate::tests::{ADDITION, Row, run};
 use std::alloc::Global;
 use std::process::Abort;
 use std::rt::Files;
 
 /// Texts that are refused, with line ends, a tab and a byte beyond ASCII before the place.
-const REFUSED: Shelf = Shelf {
+pub(crate) const REFUSED: Shelf = Shelf {
     spec: "REC-SPEC E\nSORTS N\r\nCONS a : -> N\n\tb: -> M\nEND-SPEC",
     terms: "[a,\"\u{e9}\",f(1",
 };
 
-/// The words, the status and the standard error, on the texts that are refused.
-const EXPLAINED: [(&[&str], u8, &str); 9] = [
+/// What is said of the texts that are refused.
+pub(crate) const EXPLAINED: &[Row] = &[
     (
         &["eval", "--explain", "spec"],
+        "",
         1,
+        "!spec S4\n",
         "recw: spec S4 at byte 41\n\
          spec:4:8: S4: a sort that stands in CONS, OPNS or VARS is not declared\n    \
          \tb: -> M\n    \t      ^\n",
     ),
     (
         &["eval", "--explain", "terms"],
+        "",
         1,
+        "!spec G\n",
         "recw: spec G at byte 0\n\
          terms:1:1: G: no specification has this here; expected `REC-SPEC`\n    \
          [a,\"\\xc3\\xa9\",f(1\n    ^\n",
     ),
     (
         &["aterm", "spec", "--explain"],
+        "",
         1,
+        "!term A\n",
         "recw: term A at byte 9\n\
          spec:1:10: A: no annotated term has this here; expected `(`, `{` or the end\n    \
          REC-SPEC E\n             ^\n",
     ),
     (
         &["aterm", "terms", "--explain"],
+        "",
         1,
+        "!term A\n",
         "recw: term A at byte 11\n\
          terms:1:12: A: no annotated term has this here; expected `)`, `{` or `,`\n    \
          [a,\"\\xc3\\xa9\",f(1\n                     ^\n",
     ),
     (
         &["match", "--explain", "<foo>"],
+        "",
         1,
+        "!pattern P1\n",
         "PATTERN: P1: a placeholder is not <term>, <int>, <str>, <appl>, <placeholder> or <list>\n",
     ),
     (
         &["make", "--explain", "<int>", "[a]"],
+        "",
         1,
+        "!args M2\n",
         "ARGS: M2: a given tree is not one that its placeholder matches; element 1 of the list\n",
     ),
     (
         &["make", "--explain", "<int", "[a]"],
+        "",
         1,
+        "!pattern A\n",
         "recw: pattern A at byte 4\n\
          PATTERN:1:5: A: no annotated term has this here; expected `(`, `{` or `>`\n    \
          <int\n        ^\n",
     ),
     (
         &["share", "--explain", "none"],
+        "",
         4,
+        "",
         "recw: read failed\nnone: entity not found\n",
     ),
     (
         &["aterm", "--explain"],
+        "",
         4,
+        "",
         "recw: read failed\n<stdin>: other error\n",
     ),
 ];
-
-/// The program says this of the texts that are refused.
-fn explains(rt: &impl Abort, alloc: Global, words: &[&str], status: u8, said: &str) {
-    let ran = run_on(rt, &REFUSED, alloc, words);
-    assert_eq!(rt; ran.status, status, "{words:?}");
-    assert_eq!(rt; ran.err.as_str(), said, "{words:?}");
-}
 
 /// A text that ends too soon, on one line.
 const CUT_OFF: &str = "REC-SPEC E CONS z : Nat Nat";
@@ -90,36 +101,46 @@ const CUT_OFF_THERE: &str = "recw: spec G at byte 27\n\
 /// What is said where three cells are not enough.
 const OUT_OF_CELLS: &str = "recw: out of cells\n--cells raises the limit, which is 3 cells\n";
 
-/// The program says this of its standard input.
-fn explains_input<H: Abort + Files>(rt: &H, alloc: Global, words: &[&str], text: &str, said: &str) {
-    let ran = run(rt, alloc, words, text);
-    assert_eq!(rt; ran.err.as_str(), said);
-}
-
-#[test]
-fn explains_refusals(rt: HostRuntime) {
-    for (words, status, said) in &EXPLAINED {
-        explains(&rt, rt.alloc(), words, *status, said);
-    }
-    explains_input(
-        &rt,
-        rt.alloc(),
+/// What is said of the standard input.
+pub(crate) const INPUTS: &[Row] = &[
+    (
         &["eval", "--explain"],
         CUT_OFF,
+        1,
+        "!spec G\n",
         CUT_OFF_THERE,
-    );
-    let words: &[&str] = &["eval", "--explain", "--cells", "3"];
-    explains_input(&rt, rt.alloc(), words, ADDITION, OUT_OF_CELLS);
-}
+    ),
+    (
+        &["eval", "--explain", "--cells", "3"],
+        ADDITION,
+        3,
+        "",
+        OUT_OF_CELLS,
+    ),
+];
 
 /// A specification that keeps all rules.
 const KEPT: &str = "REC-SPEC Q SORTS A B CONS a : -> A b : -> B OPNS f : A -> A \
      VARS X Y : A RULES f(X) -> X EVAL f(a) END-SPEC";
 
-/// What is told of these terms beside the specification that keeps all rules.
-fn told_of(rt: &impl Abort, alloc: Global, terms: &'static str) -> String {
-    let files = Shelf { spec: KEPT, terms };
-    run_on(rt, &files, alloc, &["eval", "--explain", "spec", "terms"]).err
+/// What is said: of which text, by which rule, and the end.
+#[derive(Clone, Copy)]
+struct Saying<'a> {
+    /// What the text is called.
+    text: &'a str,
+    /// The rule.
+    rule: &'a str,
+    /// The end, which alone may name an element.
+    item: &'a str,
+}
+
+/// The program said which rule is broken, and by which element.
+fn tells(rt: &impl Abort, said: &str, saying: &Saying<'_>) {
+    let Saying { text, rule, item } = *saying;
+    let is_named = said.starts_with(text) && said.contains(rule);
+    let is_told = said.trim_end().ends_with(item);
+    let is_counted = said.contains("element") == item.contains("element");
+    assert!(rt; is_named && is_told && is_counted, "{rule}{item}: {said}");
 }
 
 /// Given terms, the rule that refuses them, and the end of what is said of them.
@@ -143,22 +164,10 @@ const ITEMS: [(&str, &str, &str); 11] = [
 
 /// The program says of given terms which rule is broken, and by which term.
 fn tells_the_term(rt: &impl Abort, alloc: Global, terms: &'static str, rule: &str, item: &str) {
-    let said = told_of(rt, alloc, terms);
-    assert!(rt; said.as_str().starts_with("terms: "), "{terms}: {said}");
-    assert!(rt; said.as_str().contains(rule), "{terms}: {said}");
-    assert!(rt; said.as_str().trim_end().ends_with(item), "{terms}: {said}");
-    assert_eq!(rt;
-        said.as_str().contains("element"),
-        !item.is_empty(),
-        "{terms}: {said}"
-    );
-}
-
-#[test]
-fn tells_which_given_term_it_is(rt: HostRuntime) {
-    for (terms, rule, item) in &ITEMS {
-        tells_the_term(&rt, rt.alloc(), terms, rule, item);
-    }
+    let files = Shelf { spec: KEPT, terms };
+    let ran = run_on(&files, alloc, &["eval", "--explain", "spec", "terms"]);
+    let text = "terms: ";
+    tells(rt, ran.err(), &Saying { text, rule, item });
 }
 
 /// A pattern, arguments, the rule that refuses them, and the end of what is said of them.
@@ -192,19 +201,19 @@ fn tells_the_argument<H: Abort + Files>(
     alloc: Global,
     pattern: &str,
     args: &str,
-    rule: &str,
-    item: &str,
+    saying: &Saying<'_>,
 ) {
     let ran = run(rt, alloc, &["make", "--explain", pattern, args], "");
-    let said = ran.err.as_str();
-    assert!(rt; said.starts_with("ARGS: "), "{args}: {said}");
-    assert!(rt; said.contains(rule), "{args}: {said}");
-    assert!(rt; said.trim_end().ends_with(item), "{args}: {said}");
+    tells(rt, ran.err(), saying);
 }
 
 #[test]
-fn tells_which_argument_it_is(rt: HostRuntime) {
+fn tells_which_element_it_is(rt: HostRuntime) {
+    for (terms, rule, item) in &ITEMS {
+        tells_the_term(&rt, rt.alloc(), terms, rule, item);
+    }
     for (pattern, args, rule, item) in &ARGUMENTS {
-        tells_the_argument(&rt, rt.alloc(), pattern, args, rule, item);
+        let text = "ARGS: ";
+        tells_the_argument(&rt, rt.alloc(), pattern, args, &Saying { text, rule, item });
     }
 }

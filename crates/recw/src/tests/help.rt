@@ -1,6 +1,6 @@
 //! The texts of help, the version and the list of refusals.
 
-use crate::tests::{answers, run};
+use crate::tests::{Row, run};
 use std::alloc::Global;
 use std::process::Abort;
 use std::rt::Files;
@@ -119,57 +119,40 @@ Example: recw make 'f(<int>,<list>)' '[1,[2,3]]'
 ";
 
 /// The words that ask for help, and which they get.
-const HELPS: [(&[&str], &str); 11] = [
-    (&["-h"], HELP),
-    (&["--help"], HELP),
-    (&["help"], HELP),
-    (&["share", "-h"], SHARE_HELP),
-    (&["make", "--help"], MAKE_HELP),
-    (&["eval", "-h"], EVAL_HELP),
-    (&["eval", "--help"], EVAL_HELP),
-    (&["help", "eval"], EVAL_HELP),
-    (&["aterm", "-h"], ATERM_HELP),
-    (&["match", "-h"], MATCH_HELP),
-    (&["help", "make"], MAKE_HELP),
+pub(crate) const HELPS: &[Row] = &[
+    (&["-h"], "", 0, HELP, ""),
+    (&["--help"], "", 0, HELP, ""),
+    (&["help"], "", 0, HELP, ""),
+    (&["share", "-h"], "", 0, SHARE_HELP, ""),
+    (&["make", "--help"], "", 0, MAKE_HELP, ""),
+    (&["eval", "-h"], "", 0, EVAL_HELP, ""),
+    (&["eval", "--help"], "", 0, EVAL_HELP, ""),
+    (&["help", "eval"], "", 0, EVAL_HELP, ""),
+    (&["aterm", "-h"], "", 0, ATERM_HELP, ""),
+    (&["match", "-h"], "", 0, MATCH_HELP, ""),
+    (&["help", "make"], "", 0, MAKE_HELP, ""),
 ];
-
-/// The program shows this help.
-fn shows<H: Abort + Files>(rt: &H, alloc: Global, words: &[&str], help: &str) {
-    let ran = run(rt, alloc, words, "");
-    answers(rt, words, &ran, 0, help, "");
-}
-
-#[test]
-fn shows_help(rt: HostRuntime) {
-    for (words, help) in &HELPS {
-        shows(&rt, rt.alloc(), words, help);
-    }
-}
 
 /// The version names what the program is proved with.
 fn shows_its_version<H: Abort + Files>(rt: &H, alloc: Global) {
     let ran = run(rt, alloc, &["--version"], "");
-    assert!(rt; ran.status == 0 && ran.err.is_empty());
-    assert!(rt; ran.out.as_str().starts_with("recw 0.1.0, proved with "));
+    let is_shown = ran.out().starts_with("recw 0.1.0, proved with ") && ran.err().is_empty();
+    assert!(rt; ran.status == 0 && is_shown);
 }
 
 /// The list of refusals has a line for each.
 fn shows_the_refusals<H: Abort + Files>(rt: &H, alloc: Global) {
     let ran = run(rt, alloc, &["help", "refusals"], "");
-    assert!(rt; ran.status == 0 && ran.err.is_empty());
-    assert_eq!(rt; ran.out.as_str().lines().count(), 24);
-    assert!(rt;
-        ran.out
-            .as_str()
-            .contains("\nS11 a variable occurs in a term of EVAL\n")
-    );
+    let line = "\nS11 a variable occurs in a term of EVAL\n";
+    let is_shown = ran.out().lines().count() == 24 && ran.out().contains(line);
+    assert!(rt; ran.status == 0 && is_shown && ran.err().is_empty());
 }
 
 /// A file in a command's place is met with the command for it.
 fn names_the_command<H: Abort + Files>(rt: &H, alloc: Global) {
     let ran = run(rt, alloc, &["sort.rec"], "");
-    assert!(rt; ran.status == 2 && ran.out.is_empty());
-    assert!(rt; ran.err.as_str().ends_with(": recw eval sort.rec\n"));
+    let is_named = ran.err().ends_with(": recw eval sort.rec\n");
+    assert!(rt; ran.status == 2 && is_named && ran.out().is_empty());
 }
 
 #[test]

@@ -1,12 +1,24 @@
 //! The words of the command line, the exit statuses and what standard output says.
 
-use crate::tests::{ADDITION, Ran, Row, meets, run};
+use crate::tests::{ADDITION, Row, run};
 use std::alloc::Global;
 use std::process::Abort;
 use std::rt::Files;
 
-/// Evaluations, at the ends of their options' ranges and for each status.
-const STATUSES: [Row; 20] = [
+/// Two terms whose evaluation has no end: one turns in a circle, one grows.
+const LOOPING: &str = "REC-SPEC L SORTS N CONS z : -> N s : N -> N OPNS f : N -> N g : N -> N \
+     VARS X : N RULES f(X) -> f(X) g(X) -> s(g(X)) EVAL f(z) g(z) END-SPEC";
+
+/// Evaluations, without words, without an end, at the ends of their options' ranges and for each status.
+pub(crate) const STATUSES: &[Row] = &[
+    (&[], ADDITION, 0, "s(s(s(z)))\n", ""),
+    (
+        &["eval"],
+        LOOPING,
+        0,
+        "!limit 1000000\n!limit 1000000\n",
+        "",
+    ),
     (&["eval"], ADDITION, 0, "s(s(s(z)))\n", ""),
     (&["eval", "--memo", "0"], ADDITION, 0, "s(s(s(z)))\n", ""),
     (&["eval", "--memo=1048576"], ADDITION, 0, "s(s(s(z)))\n", ""),
@@ -95,20 +107,8 @@ const STATUSES: [Row; 20] = [
     ),
 ];
 
-#[test]
-fn ends_with_its_status(rt: HostRuntime) {
-    for row in &STATUSES {
-        meets(&rt, rt.alloc(), row);
-    }
-}
-
-#[test]
-fn evaluates_without_words(rt: HostRuntime) {
-    meets(&rt, rt.alloc(), &(&[], ADDITION, 0, "s(s(s(z)))\n", ""));
-}
-
 /// Terms that are printed.
-const TERMS: [Row; 6] = [
+pub(crate) const TERMS: &[Row] = &[
     (&["aterm"], "f ( a , [ 1 , -007 ] )", 0, "f(a,[1,-7])\n", ""),
     (
         &["aterm"],
@@ -141,15 +141,8 @@ const TERMS: [Row; 6] = [
     ),
 ];
 
-#[test]
-fn prints_terms(rt: HostRuntime) {
-    for row in &TERMS {
-        meets(&rt, rt.alloc(), row);
-    }
-}
-
 /// Patterns that are matched and filled.
-const PATTERNS: [Row; 22] = [
+pub(crate) const PATTERNS: &[Row] = &[
     (
         &["match", "f(<int>,<list>)"],
         "f(1,2,3)",
@@ -222,13 +215,6 @@ const PATTERNS: [Row; 22] = [
     ),
 ];
 
-#[test]
-fn matches_and_makes(rt: HostRuntime) {
-    for row in &PATTERNS {
-        meets(&rt, rt.alloc(), row);
-    }
-}
-
 /// Words that the command line does not have.
 const WRONG_WORDS: [&[&str]; 21] = [
     &["eval", "--cells", "0"],
@@ -256,10 +242,9 @@ const WRONG_WORDS: [&[&str]; 21] = [
 
 /// The program refuses these words, and writes nothing on the standard output.
 fn refuses<H: Abort + Files>(rt: &H, alloc: Global, words: &[&str]) {
-    let Ran { status, out, err } = run(rt, alloc, words, ADDITION);
-    assert_eq!(rt; status, 2, "{words:?}");
-    assert_eq!(rt; out.as_str(), "", "{words:?}");
-    assert!(rt; err.as_str().starts_with("error: "), "{words:?}: {err}");
+    let ran = run(rt, alloc, words, ADDITION);
+    let is_refused = ran.status == 2 && ran.out().is_empty() && ran.err().starts_with("error: ");
+    assert!(rt; is_refused, "{words:?}: {}", ran.err());
 }
 
 #[test]

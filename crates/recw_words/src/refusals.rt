@@ -1,12 +1,10 @@
-//! The refusals in words, and the tokens that a grammar may have.
+//! The refusals in words.
 
-use rec_syntax::{Part, TokenKind as SpecificationToken};
-use rx_text::TokenKind as TermToken;
 use std::io;
 use std::io::Write;
 
 /// Each refusal's name, and what is wrong.
-pub const REFUSALS: [(&str, &str); 24] = [
+const REFUSALS: [(&str, &str); 24] = [
     ("L1", "the text has more than 16777216 bytes"),
     ("G", "no specification has this here"),
     ("S1", "a sort is declared twice"),
@@ -75,60 +73,17 @@ pub const REFUSALS: [(&str, &str); 24] = [
 
 /// The refusal of this name in words.
 pub fn words_of(name: &str) -> Option<&'static str> {
-    for (known, words) in REFUSALS {
-        if known == name {
+    for (known, words) in &REFUSALS {
+        if *known == name {
             return Some(words);
         }
     }
     None
 }
 
-/// What a specification's token is called.
-pub fn specification_token(kind: SpecificationToken) -> &'static str {
-    match kind {
-        SpecificationToken::PlainWord => "a plain word",
-        SpecificationToken::RecSpec => "`REC-SPEC`",
-        SpecificationToken::Section(Part::Sorts) => "`SORTS`",
-        SpecificationToken::Section(Part::Cons) => "`CONS`",
-        SpecificationToken::Section(Part::Opns) => "`OPNS`",
-        SpecificationToken::Section(Part::Vars) => "`VARS`",
-        SpecificationToken::Section(Part::Rules) => "`RULES`",
-        SpecificationToken::Section(Part::Eval) => "`EVAL`",
-        SpecificationToken::EndSpec => "`END-SPEC`",
-        SpecificationToken::If => "`if`",
-        SpecificationToken::AndIf => "`and-if`",
-        SpecificationToken::Colon => "`:`",
-        SpecificationToken::Open => "`(`",
-        SpecificationToken::Close => "`)`",
-        SpecificationToken::Comma => "`,`",
-        SpecificationToken::Arrow => "`->`",
-        SpecificationToken::Equal => "`-><-`",
-        SpecificationToken::Unequal => "`->/<-`",
-        SpecificationToken::End => "the end",
-    }
-}
-
-/// What an annotated term's token is called.
-pub fn term_token(kind: TermToken) -> &'static str {
-    match kind {
-        TermToken::Integer => "an integer",
-        TermToken::Name => "a name",
-        TermToken::Open => "`(`",
-        TermToken::Close => "`)`",
-        TermToken::OpenBracket => "`[`",
-        TermToken::CloseBracket => "`]`",
-        TermToken::OpenBrace => "`{`",
-        TermToken::CloseBrace => "`}`",
-        TermToken::Less => "`<`",
-        TermToken::Greater => "`>`",
-        TermToken::Comma => "`,`",
-        TermToken::End => "the end",
-    }
-}
-
 /// Writes the table of all refusals.
 pub fn write_all<W: Write>(out: &mut W) -> io::Result<()> {
-    for (name, words) in REFUSALS {
+    for (name, words) in &REFUSALS {
         writeln!(out, "{name:<4}{words}")?;
     }
     out.flush()

@@ -1,0 +1,239 @@
+//! The command line, and its help.
+
+use clap::{Arg, ArgAction, Command, value_parser};
+use std::alloc::{AllocError, Global};
+
+/// The most steps that may be asked for.
+pub const MOST_STEPS: u64 = 1_000_000_000_000_000_000;
+
+/// The most cells, and the most new cells between two reclaims.
+pub const MOST_CELLS: u32 = 1_073_741_824;
+
+/// The most results that are remembered.
+pub const MOST_RESULTS: u32 = 1_048_576;
+
+/// The version, with the kit by which the program is proved.
+const VERSION: &str = "0.1.0, proved with rattle-kit-13f (logic dac8208d650f15bf)";
+
+/// The command without the program's name before its words.
+pub fn command<'a>(alloc: Global) -> Result<Command<'a>, AllocError> {
+    let command = bare_command(alloc)?;
+    let command = with(command, eval_command(alloc))?;
+    let command = with(command, aterm_command(alloc))?;
+    let command = with(command, share_command(alloc))?;
+    let command = with(command, match_command(alloc))?;
+    with(command, make_command(alloc))
+}
+
+/// The command with a subcommand, where there is memory for both.
+fn with<'a>(
+    command: Command<'a>,
+    subcommand: Result<Command<'a>, AllocError>,
+) -> Result<Command<'a>, AllocError> {
+    command.subcommand(subcommand?)
+}
+
+/// The command without its subcommands.
+fn bare_command<'a>(alloc: Global) -> Result<Command<'a>, AllocError> {
+    described(
+        alloc,
+        "recw",
+        "Evaluate REC specifications, and read ATerms",
+        "With no arguments, recw evaluates the specification on standard input.\n\n\
+         Exit status: 0 done, 1 the text was refused, 2 wrong arguments,\n\
+         3 out of memory or cells, 4 a read or a write failed.\n\n\
+         recw help refusals says what each refusal means; --explain shows where it stands.",
+    )
+    .no_binary_name(true)
+    .version(VERSION)
+    .subcommand_required(true)
+    .override_usage("recw [COMMAND]")
+    .bin_name("recw")
+}
+
+/// A command with the texts above and below its help.
+fn described<'a>(alloc: Global, name: &'a str, about: &'a str, after_help: &'a str) -> Command<'a> {
+    Command::new(alloc, name)
+        .about(about)
+        .after_help(after_help)
+}
+
+/// The subcommand `eval`.
+fn eval_command<'a>(alloc: Global) -> Result<Command<'a>, AllocError> {
+    let command = described(
+        alloc,
+        "eval",
+        "Evaluate the terms of a REC specification",
+        "Example: recw eval --steps 500 add.rec add.trm",
+    );
+    let command = with_files(alloc, command)?;
+    with_limits(alloc, command)?
+        .arg(flag(
+            alloc,
+            "count",
+            "Print the steps that each term took behind its value",
+        ))?
+        .arg(explain(alloc))
+}
+
+/// The command with the files of an evaluation.
+fn with_files<'a>(alloc: Global, command: Command<'a>) -> Result<Command<'a>, AllocError> {
+    command
+        .arg(file(
+            alloc,
+            "SPEC",
+            "File of the specification [default: standard input]",
+        ))?
+        .arg(file(alloc, "TERMS", "File of an ATerm list of further terms"))
+}
+
+/// The command with the options that limit an evaluation.
+fn with_limits<'a>(alloc: Global, command: Command<'a>) -> Result<Command<'a>, AllocError> {
+    command
+        .arg(steps(alloc))?
+        .arg(cells(alloc))?
+        .arg(memo(alloc))?
+        .arg(reclaim(alloc))
+}
+
+/// The subcommand `aterm`.
+fn aterm_command<'a>(alloc: Global) -> Result<Command<'a>, AllocError> {
+    with_term(
+        alloc,
+        described(
+            alloc,
+            "aterm",
+            "Print an ATerm in its shortest form",
+            "Example: echo 'f ( a , [ 1 , -007 ] )' | recw aterm",
+        ),
+    )
+}
+
+/// The subcommand `share`.
+fn share_command<'a>(alloc: Global) -> Result<Command<'a>, AllocError> {
+    with_term(
+        alloc,
+        described(
+            alloc,
+            "share",
+            "Print an ATerm and how many cells it takes with equal parts shared",
+            "Example: echo 'f(a,a)' | recw share",
+        ),
+    )
+}
+
+/// The subcommand `match`.
+fn match_command<'a>(alloc: Global) -> Result<Command<'a>, AllocError> {
+    let command = described(
+        alloc,
+        "match",
+        "Print what a pattern binds in an ATerm, or that it does not match",
+        "Placeholders: <term>, <int>, <str>, <appl>, <placeholder>, <list>.\n\
+         Give a pattern that begins with - a blank before it: ' -7'.\n\n\
+         Example: echo 'f(1,2,3)' | recw match 'f(<int>,<list>)'",
+    );
+    with_term(alloc, command.arg(pattern(alloc))?)
+}
+
+/// The subcommand `make`.
+fn make_command<'a>(alloc: Global) -> Result<Command<'a>, AllocError> {
+    let command = described(
+        alloc,
+        "make",
+        "Print a pattern with arguments in place of its placeholders",
+        "Give a pattern that begins with - a blank before it: ' -7'.\n\n\
+         Example: recw make 'f(<int>,<list>)' '[1,[2,3]]'",
+    );
+    let args = text(
+        alloc,
+        "ARGS",
+        "List with an ATerm for each placeholder, in order",
+    );
+    command.arg(pattern(alloc))?.arg(args)?.arg(explain(alloc))
+}
+
+/// The command with the file of a term and the option `--explain`.
+fn with_term<'a>(alloc: Global, command: Command<'a>) -> Result<Command<'a>, AllocError> {
+    command
+        .arg(file(alloc, "FILE", "File of the ATerm [default: standard input]"))?
+        .arg(explain(alloc))
+}
+
+/// The pattern that must be given.
+fn pattern<'a>(alloc: Global) -> Arg<'a> {
+    text(alloc, "PATTERN", "ATerm with placeholders")
+}
+
+/// A text that must be given.
+fn text<'a>(alloc: Global, name: &'a str, help: &'a str) -> Arg<'a> {
+    file(alloc, name, help).required(true)
+}
+
+/// A file, which may be left out.
+fn file<'a>(alloc: Global, name: &'a str, help: &'a str) -> Arg<'a> {
+    Arg::new(alloc, name).help(help)
+}
+
+/// The option `--steps`.
+fn steps<'a>(alloc: Global) -> Arg<'a> {
+    let help = "Most steps that a term may take, up to 10^18";
+    number(alloc, "steps", "N", "1000000", help).value_parser(value_parser!(u64).range(
+        0..=MOST_STEPS as i64,
+    ))
+}
+
+/// The option `--cells`.
+fn cells<'a>(alloc: Global) -> Arg<'a> {
+    let help = "Most cells that terms may take, 1 to 2^30";
+    number(alloc, "cells", "C", "16777216", help).value_parser(value_parser!(u32).range(
+        1..=i64::from(MOST_CELLS),
+    ))
+}
+
+/// The option `--memo`.
+fn memo<'a>(alloc: Global) -> Arg<'a> {
+    let help = "Most results to remember, up to 2^20";
+    number(alloc, "memo", "M", "65536", help).value_parser(value_parser!(u32).range(
+        0..=i64::from(MOST_RESULTS),
+    ))
+}
+
+/// The option `--reclaim`.
+fn reclaim<'a>(alloc: Global) -> Arg<'a> {
+    let help = "New cells between two reclaims, 1 to 2^30";
+    number(alloc, "reclaim", "K", "262144", help).value_parser(value_parser!(u32).range(
+        1..=i64::from(MOST_CELLS),
+    ))
+}
+
+/// An option with a number.
+fn number<'a>(
+    alloc: Global,
+    name: &'a str,
+    value_name: &'a str,
+    default: &'a str,
+    help: &'a str,
+) -> Arg<'a> {
+    Arg::new(alloc, name)
+        .long(name)
+        .value_name(value_name)
+        .default_value(default)
+        .help(help)
+}
+
+/// The option `--explain`.
+fn explain<'a>(alloc: Global) -> Arg<'a> {
+    flag(
+        alloc,
+        "explain",
+        "Say in words why a text is refused, and where",
+    )
+}
+
+/// An option without a value.
+fn flag<'a>(alloc: Global, name: &'a str, help: &'a str) -> Arg<'a> {
+    Arg::new(alloc, name)
+        .long(name)
+        .action(ArgAction::SetTrue)
+        .help(help)
+}

@@ -1,0 +1,86 @@
+//! What the standard error says of the words.
+ghost use Rattle.std.specs.Prelude.{◌≡◌, ◌≢◌, ◌↔◌, ◌⊎◌};
+ghost use Rattle.clap.specs.Words.{kind_of};
+
+use crate::status::{COMMAND_LINE, DONE, OUT_OF_ROOM, STREAMS};
+use clap::error::ErrorKind;
+use std::io;
+use std::io::Write;
+
+/// Tells that there is no memory, and gives the status.
+fn out_of_memory<E: Write>(err: &mut E) -> u8
+    ensures { result ≡ 3 }
+{
+    tell("out of memory", err);
+    OUT_OF_ROOM
+}
+
+/// Tells that a write failed, and gives the status.
+fn write_failed<E: Write>(err: &mut E) -> u8
+    ensures { result ≡ 4 }
+{
+    tell("write failed", err);
+    STREAMS
+}
+
+/// Tells of a fault. A line that cannot be written is left out.
+fn tell<E: Write>(fault: &str, err: &mut E) {
+    let _ = writeln!(err, "recw: {fault}");
+}
+
+/// The status of a help that was written, or not.
+pub fn help_written<E: Write>(written: io::Result<()>, err: &mut E) -> u8
+    ensures { (result ≡ 0) ⊎ (result ≡ 4) }
+{
+    match written {
+        Ok(()) => DONE,
+        Err(_) => write_failed(err),
+    }
+}
+
+/// Shows the help, or what is wrong with the words.
+pub fn refused_words<W: Write, E: Write>(error: &clap::Error, out: &mut W, err: &mut E) -> u8
+    ensures memory { kind_of error.now ≡ ErrorKind.OutOfMemory → result ≡ 3 }
+    ensures help { kind_of error.now ≡ ErrorKind.DisplayHelp → (result ≡ 0) ⊎ (result ≡ 4) }
+    ensures wrong { (result ≡ 2) ↔ ((kind_of error.now ≢ ErrorKind.OutOfMemory)
+        × ((kind_of error.now ≢ ErrorKind.DisplayHelp)
+        × (kind_of error.now ≢ ErrorKind.DisplayVersion))) }
+{
+    match error.kind() {
+        ErrorKind::OutOfMemory => out_of_memory(err),
+        ErrorKind::DisplayHelp | ErrorKind::DisplayVersion => help_written(show(error, out), err),
+        _ => {
+            let _ = write!(err, "{error}");
+            COMMAND_LINE
+        }
+    }
+}
+
+/// Writes a help or the version.
+fn show<W: Write>(help: &clap::Error, out: &mut W) -> io::Result<()> {
+    write!(out, "{help}")?;
+    out.flush()
+}
+
+/// Names the command for a file, where one stands in a command's place.
+pub fn advise<E: Write>(words: &[&str], err: &mut E) {
+    if let Some(word) = words.first()
+        && word.contains(['.', '/'].as_slice())
+    {
+        let _ = writeln!(
+            err,
+            "\nTo evaluate the specification in that file: recw eval {word}"
+        );
+    }
+}
+
+/// Tells why there are no words to read.
+pub fn failed_start<E: Write>(error: &io::Error, err: &mut E) -> u8 {
+    if error.kind() == io::ErrorKind::OutOfMemory {
+        return out_of_memory(err);
+    }
+    let _ = err.write_all(
+        b"error: an argument is not valid UTF-8\n\nFor more information, try '--help'.\n",
+    );
+    COMMAND_LINE
+}
