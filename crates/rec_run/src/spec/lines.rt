@@ -119,6 +119,7 @@ pub(crate) fn write_evaluated<B: TermBank + Drop, W: Write>(
     match engine_over(alloc, checked, bank, list, options) {
         Ok(mut engine) => {
             let written = write_all(alloc, &mut engine, list, out, options);
+            // By a call: written out at the end of this function it is long to prove.
             drop(engine);
             written
         }
