@@ -11,6 +11,11 @@ pub if_err_at : {X E : Type 0} (r : Result X E) (P : E → Type 0) (x : E) → I
 if_err_at (Ok y) P x h p = tt
 if_err_at (Err e) P x h p = subst P (sym h) p
 
+-- what holds holds at a value too
+pub on_ok_any : {X E : Type 0} {P : Type 0} (r : Result X E) → P → OnOk r P
+on_ok_any (Ok x) h = h
+on_ok_any (Err e) h = tt
+
 -- what follows from what holds at a value holds there too
 pub on_ok_of : {X E : Type 0} {P Q : Type 0} (r : Result X E) → (P → Q) → OnOk r P → OnOk r Q
 on_ok_of (Ok x) f h = f h

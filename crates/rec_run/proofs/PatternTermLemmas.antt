@@ -1,7 +1,7 @@
 -- References of the elements of a list that a bank holds.
 use Rattle.std.proofs.Common.{◌≡◌, ◌≢◌, ◌⊎◌, inl, inr, ℕ, ◌+◌, ◌<◌, List, [], ◌∷◌, ◌++◌, Option, Some, None, Result, Ok, is_some, false, refl, sym, ap, ◌∙◌, arith, append_assoc, append-nil, subst}
 use Rattle.std.specs.Option.{option_and_then, option_map_or}
-use Rattle.rx_term.specs.Tree.{Tree, Trees, none, more, Int, Appl, Items, Hole, list_of, to_list, count_of}
+use Rattle.rx_term.specs.Tree.{Tree, Trees, none, more, Items, list_of, to_list, count_of}
 use Rattle.rx_term.specs.Store.{Store, tree_at, part_at, head_of, tail_of, anns_of}
 use Rattle.rx_term.specs.Kinds.{HasAnns, HasCons, HasKind, HasNil}
 use Rattle.rx_term.specs.declared.Term.{Term}

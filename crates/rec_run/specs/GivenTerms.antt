@@ -10,8 +10,10 @@ use Rattle.rx_term.specs.Tree.{Tree, Trees, none, annotations, from_list, list_o
 use Rattle.rx_term.specs.Store.{Store, tree_at}
 use Rattle.rx_term.specs.declared.Term.{Term as Reference}
 use Rattle.rx_shared.specs.State.{store_of}
+use Rattle.rx_shared.specs.declared.bank.SharedBank.{SharedBank}
 use Rattle.rx_text.specs.Canon.{canon_all, enclosed}
 use Rattle.rec_syntax.specs.Syntax as syntax
+use Rattle.rec_syntax.specs.Syntax.{Sourced}
 use Rattle.rec_sorts.specs.SpecRules as verdict
 use Rattle.rec_sorts.specs.SpecRules.{Verdict}
 use Rattle.rec_sorts.specs.TermRules.{broken_by_elements, elements}
@@ -28,6 +30,7 @@ use Rattle.rec_run.specs.declared.ending.Source.TheVariants as source
 use Rattle.rec_run.specs.declared.refusal.Reading.{Reading}
 use Rattle.rec_run.specs.declared.refusal.Reading.TheVariants as reading
 use Rattle.rec_run.specs.declared.refusal.Reason.TheVariants as reason
+use Rattle.rec_run.specs.declared.spec.reading.Given.{Given}
 use Rattle.rec_run.specs.declared.spec.reading.Job.{Job}
 
 -- the tree of a reference; the empty list, where there is none
@@ -49,10 +52,16 @@ given_by w None = []
 given_by w (Some list) = given_at w list
 
 -- what a text of terms comes to whose list is not accepted
-abbrev pub list_refused : TermsFault → Result (Reading Job) RunFault
+abbrev pub list_refused : TermsFault → Result (Reading Reference) RunFault
 list_refused (rule.Rule number) = Ok
     (reading.Refused (record { text = source.Terms; reason = reason.TermsRule number }))
 list_refused rule.Memory = Err (fault.Memory 0)
+
+-- what both texts came to, where the specification is good and that of the terms came to this
+abbrev pub job_of : Sourced → Reading (Given SharedBank) → Reading Job
+job_of checked (reading.Refused r) = reading.Refused r
+job_of checked (reading.Good given) =
+    reading.Good (record { checked = checked; bank = given.bank; list = Some given.list })
 
 -- the lines of good texts
 abbrev pub job_lines : Bool → ℕ → Job → List ℕ
@@ -86,9 +95,38 @@ IsReadAs v bytes r = (counted : Bool) (n : ℕ)
 abbrev pub IsReadFor : syntax.Spec → List ℕ → Reading Job → Type 0
 IsReadFor y bytes r = IsReadAs (verdict.Good y) bytes r
 
+-- after a good specification, what a text of terms came to says what is due for it, by the trees of
+-- a bank
+abbrev pub IsListRead : syntax.Spec → Store → List ℕ → Reading Reference → Type 0
+IsListRead y w bytes r = (counted : Bool) (n : ℕ) → IsDueAfter (verdict.Good y) (Some bytes)
+    counted n (reading_due (λ list. done (lines y (given_at w list) counted n)) r)
+
+-- the same by the trees of the bank that comes with it
+abbrev pub IsGivenRead : {B : Type 0} → (B → Store) → syntax.Spec → List ℕ → Reading (Given B)
+    → Type 0
+IsGivenRead store y bytes r = (counted : Bool) (n : ℕ)
+    → IsDueAfter (verdict.Good y) (Some bytes) counted n (reading_due
+    (λ given. done (lines y (given_at (store given.bank) given.list) counted n)) r)
+
 -- what both texts came to says what is due for them
 abbrev pub IsReadFrom : Texts → Reading Job → Type 0
 IsReadFrom texts r = (counted : Bool) (n : ℕ) → IsDueFor counted n texts (run_due counted n r)
+
+-- the terms of a text keep the rules, where it is good
+abbrev pub HoldsList : syntax.Spec → Store → Reading Reference → Type 0
+HoldsList y w (reading.Refused r) = Unit {0}
+HoldsList y w (reading.Good list) = HoldsTerms y w list
+
+-- given terms keep the rules, nothing is protected yet, and the bank has this limit
+pub record IsReadyGiven {B : Type 0} (store : B → Store) (cells : ℕ) (y : syntax.Spec)
+    (given : Given B) : Type 0 where
+  pub limit : (store given.bank).cap ≡ cells
+  pub unrooted : (t : ℕ) → (store given.bank).roots t ≡ 0
+  pub holds : HoldsTerms y (store given.bank) given.list
+
+abbrev pub IsReadyList : {B : Type 0} → (B → Store) → ℕ → syntax.Spec → Reading (Given B) → Type 0
+IsReadyList store cells y (reading.Refused r) = Unit {0}
+IsReadyList store cells y (reading.Good given) = IsReadyGiven store cells y given
 
 -- good texts can be evaluated: given terms keep the rules, nothing is protected yet, and the bank
 -- has this limit

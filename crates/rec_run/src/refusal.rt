@@ -7,7 +7,7 @@ ghost use Rattle.rec_run.specs.Refusals.{finish_of, place_by, place_of};
 use crate::ending::{Finish, Named, Place, Source};
 
 /// Why a text is refused.
-#[derive(Clone, Copy, Debug)]
+#[derive(Clone, Copy)]
 pub(crate) enum Reason {
     /// It is too long.
     Long,
@@ -32,7 +32,7 @@ pub(crate) enum Reason {
 }
 
 /// A text that is refused, and why.
-#[derive(Clone, Copy, Debug)]
+#[derive(Clone, Copy)]
 pub(crate) struct Refusal {
     /// The text.
     pub(crate) text: Source,

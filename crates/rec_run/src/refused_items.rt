@@ -64,7 +64,22 @@ fn refused_term_for(
     ensures { IfOk result
         (λ found. (v : Verdict) → IsVerdict terms.now v → found ≡ term_in checked.now.spec v) }
 {
-    let mut bank = empty_bank(alloc, MOST_CELLS)?;
+    match empty_bank(alloc, MOST_CELLS) {
+        Ok(bank) => refused_term_over(alloc, checked, terms, bank),
+        Err(fault) => Err(fault),
+    }
+}
+
+/// The same over a bank.
+fn refused_term_over<B: TermBank + Drop>(
+    alloc: Global,
+    checked: &Checked,
+    terms: &[u8],
+    mut bank: B,
+) -> Result<Option<usize>, RunFault>
+    ensures { IfOk result
+        (λ found. (v : Verdict) → IsVerdict terms.now v → found ≡ term_in checked.now.spec v) }
+{
     match parse(alloc, Source::Terms, terms, &mut bank)? {
         Reading::Refused(_) => Ok(None),
         Reading::Good(list) => Ok(broken_element(alloc, checked, &bank, list)?),
@@ -84,26 +99,34 @@ pub fn refused_argument(
 {
     match read_pattern(alloc, pattern)? {
         Reading::Refused(_) => Ok(None),
-        Reading::Good(pattern) => {
-            let mut bank = empty_bank(alloc, MOST_CELLS)?;
-            misfit_of_text(alloc, &pattern, args, &mut bank)
-        }
+        Reading::Good(pattern) => misfit_for(alloc, &pattern, args),
+    }
+}
+
+/// The same for a good pattern.
+fn misfit_for(alloc: Global, pattern: &Pattern, args: &[u8]) -> Result<Option<Misfit>, RunFault>
+    ensures { IfOk result
+        (λ found. (v : Verdict) → IsVerdict args.now v → found ≡ misfit_in pattern.now v) }
+{
+    match empty_bank(alloc, MOST_CELLS) {
+        Ok(bank) => misfit_of_text(alloc, pattern, args, bank),
+        Err(fault) => Err(fault),
     }
 }
 
 /// Why the arguments of a text do not go into a good pattern.
-fn misfit_of_text<B: TermBank>(
+fn misfit_of_text<B: TermBank + Drop>(
     alloc: Global,
     pattern: &Pattern,
     args: &[u8],
-    bank: &mut B,
+    mut bank: B,
 ) -> Result<Option<Misfit>, RunFault>
     ensures { IfOk result
         (λ found. (v : Verdict) → IsVerdict args.now v → found ≡ misfit_in pattern.now v) }
 {
-    match parse(alloc, Source::Args, args, bank)? {
+    match parse(alloc, Source::Args, args, &mut bank)? {
         Reading::Refused(_) => Ok(None),
-        Reading::Good(t) => misfit_of_term(alloc, pattern, t, bank),
+        Reading::Good(t) => misfit_of_term(alloc, pattern, t, &mut bank),
     }
 }
 

@@ -13,7 +13,7 @@ use std::io::Read;
 pub const LIMIT: usize = 16_777_216;
 
 /// Why a text was not read.
-#[derive(Clone, Copy, Debug)]
+#[derive(Clone, Copy)]
 pub enum ReadFault {
     /// A growth was refused.
     Memory,
@@ -22,7 +22,7 @@ pub enum ReadFault {
 }
 
 /// The reader refused.
-#[derive(Clone, Copy, Debug)]
+#[derive(Clone, Copy)]
 struct Unreadable;
 
 impl From<Unreadable> for ReadFault {

@@ -26,8 +26,7 @@ ghost use Rattle.rec_run.specs.PatternAnswers.{IsAnswerHeld, IsPatternRead, answ
 use crate::ending::{RunFault, Source};
 use crate::pattern::reading::elements_of;
 use crate::refusal::{Reading, Reason};
-use crate::streams::read_all;
-use crate::term::reading::parse;
+use crate::term::reading::{parse, read_term};
 use rx_pattern::{MakeFault, Pattern, PatternFault};
 use rx_term::{Term, TermBank};
 use std::alloc::Global;
@@ -81,8 +80,7 @@ fn match_input<B: TermBank, R: Read>(
     ensures held { IfOk result (λ answer. IsAnswerHeld (B.store bank.new) answer) }
     ensures fault { IfErr result (StopsUnwritten (B.store bank.old).cap) }
 {
-    let text = read_all(alloc, input)?;
-    match parse(alloc, Source::Term, &text, bank)? {
+    match read_term(alloc, input, bank)? {
         Reading::Refused(refusal) => Ok(Reading::Refused(refusal)),
         Reading::Good(t) => match_term(alloc, pattern, t, bank),
     }

@@ -57,22 +57,24 @@ pub(crate) fn read_pattern(alloc: Global, text: &[u8]) -> Result<Reading<Pattern
     ensures read { IfOk result (λ reading. IsPatternRead text.now reading) }
     ensures fault { IfErr result (RanOut 1073741824) }
 {
-    let mut bank = empty_bank(alloc, MOST_CELLS)?;
-    read_pattern_into(alloc, text, &mut bank)
+    match empty_bank(alloc, MOST_CELLS) {
+        Ok(bank) => read_pattern_over(alloc, text, bank),
+        Err(fault) => Err(fault),
+    }
 }
 
-/// Reads the text of a pattern into a bank.
-fn read_pattern_into<B: TermBank>(
+/// The same over a bank.
+fn read_pattern_over<B: TermBank + Drop>(
     alloc: Global,
     text: &[u8],
-    bank: &mut B,
+    mut bank: B,
 ) -> Result<Reading<Pattern>, RunFault>
     ensures read { IfOk result (λ reading. IsPatternRead text.now reading) }
-    ensures fault { IfErr result (RanOut (B.store bank.old).cap) }
+    ensures fault { IfErr result (RanOut (B.store bank).cap) }
 {
-    match parse(alloc, Source::Pattern, text, bank)? {
+    match parse(alloc, Source::Pattern, text, &mut bank)? {
         Reading::Refused(refusal) => Ok(Reading::Refused(refusal)),
-        Reading::Good(t) => pattern_of(alloc, bank, t),
+        Reading::Good(t) => pattern_of(alloc, &bank, t),
     }
 }
 

@@ -1,17 +1,23 @@
 //! Runs with a pattern: matching it with a term, and making a term from it.
 
 ghost use Rattle.std.specs.Prelude.{◌≡◌, ◌≢◌, None, IfErr, IfOk, OnErr, OnOk};
+ghost use Rattle.std.specs.Io.KnownBytes.{Appends};
 ghost use Rattle.rx_term.specs.Tree.{Tree};
+ghost use Rattle.rx_term.specs.Bank.{IsEmptyStore};
+ghost use Rattle.rec_run.specs.PatternAnswers.{IsAnswerHeld, answer_due};
+ghost use Rattle.rec_run.specs.Refusals.{finish_of, place_of};
 ghost use Rattle.rec_run.specs.Run.{Breaks, BreaksFor, Ends, EndsFor, IsPlaced, IsPlacedFor};
-ghost use Rattle.rec_run.specs.Run.{IsReadOut, RoomFits};
+ghost use Rattle.rec_run.specs.Run.{IsReadOut, RoomFits, Stops, StopsWriting};
 ghost use Rattle.rec_run.specs.PatternRuns.{IsMakeDue, IsMatchDue, IsNoPattern, SpellsPattern};
 
 use crate::ending::{Finish, Place, RunFault};
-use crate::pattern::answer::{make_of_reading, match_reading};
+use crate::pattern::answer::{Answer, make_of_reading, match_reading};
 use crate::pattern::lines::write_answer;
 use crate::pattern::reading::read_pattern;
+use crate::refusal::Reading;
 use crate::term::reading::{MOST_CELLS, empty_bank};
 use crate::writing::flush;
+use rx_term::TermBank;
 use std::alloc::Global;
 use std::io::{Read, Write};
 
@@ -58,13 +64,38 @@ pub fn run_match_at<R: Read, W: Write>(
     ensures unread { IsNoPattern pattern.now → input.new ≡ input.old }
 {
     *place = None;
+    match empty_bank(alloc, MOST_CELLS) {
+        Ok(bank) => match_over(alloc, pattern, input, bank, out, place),
+        Err(fault) => Err(fault),
+    }
+}
+
+/// A match over an empty bank.
+fn match_over<B: TermBank + Drop, R: Read, W: Write>(
+    alloc: Global,
+    pattern: &[u8],
+    input: &mut R,
+    mut bank: B,
+    out: &mut W,
+    place: &mut Option<Place>,
+) -> Result<Finish, RunFault>
+    requires empty { IsEmptyStore (B.store bank) 1073741824 }
+    requires no_place { place.old ≡ None }
+    ensures output { IfOk result (λ finish. EndsFor (IsMatchDue pattern.now)
+        (R.remaining input.old) finish (W.contents out.old) (W.contents out.new)) }
+    ensures place { OnOk result
+        (IsPlacedFor (IsMatchDue pattern.now) (R.remaining input.old) place.new) }
+    ensures fault { IfErr result (λ fault. BreaksFor (IsMatchDue pattern.now)
+        (R.remaining input.old) fault (W.contents out.old) (W.contents out.new)) }
+    ensures no_place { OnErr result (place.new ≡ None) }
+    ensures room { IfErr result (RoomFits 1073741824) }
+    ensures input_read { OnOk result ((p : Tree) → SpellsPattern pattern.now p
+        → IsReadOut (R.remaining input.old) (R.remaining input.new)) }
+    ensures unread { IsNoPattern pattern.now → input.new ≡ input.old }
+{
     let reading = read_pattern(alloc, pattern)?;
-    let mut bank = empty_bank(alloc, MOST_CELLS)?;
     let answer = match_reading(alloc, reading, input, &mut bank)?;
-    write_answer(alloc, &bank, &answer, out)?;
-    flush(out)?;
-    *place = answer.place();
-    Ok(answer.finish())
+    end_answer(alloc, &bank, &answer, out, place)
 }
 
 /// Makes a tree from the texts of a pattern and of its arguments, writes its printed text and a
@@ -104,10 +135,58 @@ pub fn run_make_at<W: Write>(
     ensures no_reader { IfErr result (λ fault. fault ≢ RunFault.Read) }
 {
     *place = None;
+    match empty_bank(alloc, MOST_CELLS) {
+        Ok(bank) => make_over(alloc, pattern, args, bank, out, place),
+        Err(fault) => Err(fault),
+    }
+}
+
+/// A make over an empty bank.
+fn make_over<B: TermBank + Drop, W: Write>(
+    alloc: Global,
+    pattern: &[u8],
+    args: &[u8],
+    mut bank: B,
+    out: &mut W,
+    place: &mut Option<Place>,
+) -> Result<Finish, RunFault>
+    requires empty { IsEmptyStore (B.store bank) 1073741824 }
+    requires no_place { place.old ≡ None }
+    ensures output { IfOk result (λ finish.
+        Ends (IsMakeDue pattern.now args.now) finish (W.contents out.old) (W.contents out.new)) }
+    ensures place { OnOk result (IsPlaced (IsMakeDue pattern.now args.now) place.new) }
+    ensures fault { IfErr result (λ fault.
+        Breaks (IsMakeDue pattern.now args.now) fault (W.contents out.old) (W.contents out.new)) }
+    ensures no_place { OnErr result (place.new ≡ None) }
+    ensures room { IfErr result (RoomFits 1073741824) }
+    ensures no_reader { IfErr result (λ fault. fault ≢ RunFault.Read) }
+{
     let reading = read_pattern(alloc, pattern)?;
-    let mut bank = empty_bank(alloc, MOST_CELLS)?;
     let answer = make_of_reading(alloc, reading, args, &mut bank)?;
-    write_answer(alloc, &bank, &answer, out)?;
+    end_answer(alloc, &bank, &answer, out, place)
+}
+
+/// Writes what is due for what the texts came to, and flushes: how the run ends, and the place of
+/// the refusal that was written.
+fn end_answer<B: TermBank, W: Write>(
+    alloc: Global,
+    bank: &B,
+    answer: &Reading<Answer>,
+    out: &mut W,
+    place: &mut Option<Place>,
+) -> Result<Finish, RunFault>
+    requires held { IsAnswerHeld (B.store bank.now) answer.now }
+    requires no_place { place.old ≡ None }
+    ensures ends { IfOk result (λ finish. finish ≡ finish_of answer.now) }
+    ensures ok { OnOk result (Appends (W.contents out.old) (W.contents out.new)
+        (answer_due (B.store bank.now) answer.now).text) }
+    ensures place { OnOk result (place.new ≡ place_of answer.now) }
+    ensures err { IfErr result (λ fault. Stops fault (answer_due (B.store bank.now) answer.now).text
+        (W.contents out.old) (W.contents out.new)) }
+    ensures no_place { OnErr result (place.new ≡ None) }
+    ensures writing { IfErr result StopsWriting }
+{
+    write_answer(alloc, bank, answer, out)?;
     flush(out)?;
     *place = answer.place();
     Ok(answer.finish())

@@ -38,7 +38,7 @@ use std::alloc::Global;
 use std::io::Write;
 
 /// Why a line was not written whole.
-#[derive(Clone, Copy, Debug, PartialEq, Eq)]
+#[derive(Clone, Copy)]
 pub(crate) enum LineFault {
     /// A growth was refused.
     Memory,
@@ -116,8 +116,15 @@ pub(crate) fn write_evaluated<B: TermBank + Drop, W: Write>(
         (W.contents out.old) (W.contents out.new)) }
     ensures room { IfErr result (RoomFits (B.store bank).cap) }
 {
-    let mut engine = engine_over(alloc, checked, bank, list, options)?;
-    write_all(alloc, &mut engine, list, out, options)
+    match engine_over(alloc, checked, bank, list, options) {
+        Ok(mut engine) => {
+            let written = write_all(alloc, &mut engine, list, out, options);
+            // By a call: written out at the end of this function it is long to prove.
+            drop(engine);
+            written
+        }
+        Err(fault) => Err(fault),
+    }
 }
 
 /// An engine over a bank in which the list is protected, where there is one.

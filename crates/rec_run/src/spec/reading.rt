@@ -2,6 +2,7 @@
 
 ghost use Rattle.std.specs.Prelude.{◌≡◌, ◌<◌, ◌≤◌, ℕ, List, IfOk, IfErr, IfSome, IsSome, None};
 ghost use Rattle.std.specs.Prelude.{OnOk, Some, length, option_map};
+ghost use Rattle.rx_term.specs.Steps.{Grows};
 ghost use Rattle.rx_term.specs.Store.{tree_at};
 ghost use Rattle.rx_text.specs.Grammar.{Spells};
 ghost use Rattle.rx_shared.specs.State.{store_of};
@@ -10,13 +11,18 @@ ghost use Rattle.rec_sorts.specs.SpecRules.{Fits, Verdict};
 ghost use Rattle.rec_run.specs.Reading.{IsGood, IsSpecRead, IsSpecReading};
 ghost use Rattle.rec_run.specs.Run.{IsReadOut, RanOut, StopsUnwritten, both_texts};
 ghost use Rattle.rec_run.specs.GivenTerms.{
+  HoldsList,
+  IsGivenRead,
+  IsListRead,
   IsReadAs,
   IsReadFor,
   IsReadFrom,
   IsReady,
+  IsReadyList,
   IsRefusal,
   OnGoodSpec,
   OnRefusedSpec,
+  job_of,
   list_refused,
 };
 
@@ -27,7 +33,7 @@ use crate::term::reading::{empty_bank, parse};
 use rec_sorts::{Checked, SortFault, TermsFault, check, check_terms};
 use rec_syntax::{Syntax, SyntaxFault, read_owned};
 use rx_shared::SharedBank;
-use rx_term::Term;
+use rx_term::{Term, TermBank};
 use std::alloc::{AllocError, Global};
 use std::io::Read;
 
@@ -40,6 +46,15 @@ pub(crate) struct Job {
     pub(crate) bank: SharedBank,
     /// The list of given terms.
     pub(crate) list: Option<Term>,
+}
+
+/// A list of given terms, and the bank that holds it.
+#[derive(Drop)]
+pub(crate) struct Given<B> {
+    /// The bank.
+    pub(crate) bank: B,
+    /// The list.
+    pub(crate) list: Term,
 }
 
 /// The verdict on a text, which a good specification keeps.
@@ -169,57 +184,106 @@ fn read_terms<T: Read>(
     ensures out { OnOk result (IsReadOut (T.remaining terms.old) (T.remaining terms.new)) }
     ensures fault { IfErr result (StopsUnwritten cells) }
 {
+    let reading = read_given(alloc, &checked, terms, cells)?;
+    Ok(job_from(checked, reading))
+}
+
+/// What both texts came to, where that of the terms came to this.
+fn job_from(checked: Checked, reading: Reading<Given<SharedBank>>) -> Reading<Job>
+    ensures { result ≡ job_of checked reading }
+{
+    match reading {
+        Reading::Refused(refusal) => Reading::Refused(refusal),
+        Reading::Good(Given { bank, list }) => Reading::Good(Job {
+            checked,
+            bank,
+            list: Some(list),
+        }),
+    }
+}
+
+/// Reads the text of terms for a good specification into a bank of its own, and judges it.
+fn read_given<T: Read>(
+    alloc: Global,
+    checked: &Checked,
+    terms: &mut T,
+    cells: u32,
+) -> Result<Reading<Given<SharedBank>>, RunFault>
+    requires { (0 < cells) × (cells ≤ 1073741824) }
+    ensures due { IfOk result (λ reading. IfSome (T.remaining terms.old)
+        (λ bytes. IsGivenRead store_of checked.now.spec bytes reading)) }
+    ensures ready { IfOk result (IsReadyList store_of cells checked.now.spec) }
+    ensures out { OnOk result (IsReadOut (T.remaining terms.old) (T.remaining terms.new)) }
+    ensures fault { IfErr result (StopsUnwritten cells) }
+{
+    match empty_bank(alloc, cells) {
+        Ok(bank) => read_list(alloc, checked, terms, bank),
+        Err(fault) => Err(fault),
+    }
+}
+
+/// The same over an empty bank.
+fn read_list<B: TermBank + Drop, T: Read>(
+    alloc: Global,
+    checked: &Checked,
+    terms: &mut T,
+    mut bank: B,
+) -> Result<Reading<Given<B>>, RunFault>
+    requires { (t : ℕ) → (B.store bank).roots t ≡ 0 }
+    ensures due { IfOk result (λ reading. IfSome (T.remaining terms.old)
+        (λ bytes. IsGivenRead B.store checked.now.spec bytes reading)) }
+    ensures ready { IfOk result (IsReadyList B.store (B.store bank).cap checked.now.spec) }
+    ensures out { OnOk result (IsReadOut (T.remaining terms.old) (T.remaining terms.new)) }
+    ensures fault { IfErr result (StopsUnwritten (B.store bank).cap) }
+{
     let text = read_all(alloc, terms)?;
-    let reading = judge_terms(alloc, checked, &text, cells)?;
-    Ok(reading)
+    let reading = judge_terms(alloc, checked, &text, &mut bank)?;
+    match reading {
+        Reading::Refused(refusal) => Ok(Reading::Refused(refusal)),
+        Reading::Good(list) => Ok(Reading::Good(Given { bank, list })),
+    }
 }
 
 /// The verdict on a text of terms for a good specification.
-fn judge_terms(
+fn judge_terms<B: TermBank>(
     alloc: Global,
-    checked: Checked,
+    checked: &Checked,
     text: &[u8],
-    cells: u32,
-) -> Result<Reading<Job>, RunFault>
-    requires { (0 < cells) × (cells ≤ 1073741824) }
-    ensures due { IfOk result (λ reading. IsReadFor checked.spec text.now reading) }
-    ensures ready { IfOk result (IsReady cells) }
-    ensures fault { IfErr result (RanOut cells) }
+    bank: &mut B,
+) -> Result<Reading<Term>, RunFault>
+    ensures due { IfOk result (IsListRead checked.now.spec (B.store bank.new) text.now) }
+    ensures holds { IfOk result (HoldsList checked.now.spec (B.store bank.new)) }
+    ensures grows { Grows (B.store bank.old) (B.store bank.new) }
+    ensures fault { IfErr result (RanOut (B.store bank.old).cap) }
 {
-    let mut bank = empty_bank(alloc, cells)?;
-    match parse(alloc, Source::Terms, text, &mut bank)? {
+    match parse(alloc, Source::Terms, text, bank)? {
         Reading::Refused(refusal) => Ok(Reading::Refused(refusal)),
         Reading::Good(list) => judge_list(alloc, checked, bank, list),
     }
 }
 
 /// The verdict on a text of terms that spells the term `list`.
-fn judge_list(
+fn judge_list<B: TermBank>(
     alloc: Global,
-    checked: Checked,
-    bank: SharedBank,
+    checked: &Checked,
+    bank: &B,
     list: Term,
-) -> Result<Reading<Job>, RunFault>
-    requires held { IsSome (tree_at (store_of bank) list) }
-    requires unrooted { (t : ℕ) → (store_of bank).roots t ≡ 0 }
-    ensures due { IfOk result (λ reading. IfSome (tree_at (store_of bank) list)
+) -> Result<Reading<Term>, RunFault>
+    requires { IsSome (tree_at (B.store bank.now) list) }
+    ensures due { IfOk result (λ reading. IfSome (tree_at (B.store bank.now) list)
         (λ t. (bytes : List ℕ) → Fits bytes → Spells bytes t
-        → IsReadFor checked.spec bytes reading)) }
-    ensures ready { IfOk result (IsReady (store_of bank).cap) }
+        → IsListRead checked.now.spec (B.store bank.now) bytes reading)) }
+    ensures holds { IfOk result (HoldsList checked.now.spec (B.store bank.now)) }
     ensures fault { IfErr result (λ fault. fault ≡ RunFault.Memory 0) }
 {
-    match check_terms(alloc, &checked, &bank, list) {
-        Ok(()) => Ok(Reading::Good(Job {
-            checked,
-            bank,
-            list: Some(list),
-        })),
+    match check_terms(alloc, checked, bank, list) {
+        Ok(()) => Ok(Reading::Good(list)),
         Err(fault) => refused_list(fault),
     }
 }
 
 /// What a text of terms comes to whose list is not accepted.
-fn refused_list(fault: TermsFault) -> Result<Reading<Job>, RunFault>
+fn refused_list(fault: TermsFault) -> Result<Reading<Term>, RunFault>
     ensures { result ≡ list_refused fault }
 {
     match fault {

@@ -1,8 +1,7 @@
 //! Reading the text of one term.
 
-ghost use Rattle.std.specs.Prelude.{◌≡◌, ◌<◌, ◌≤◌, ℕ, IfOk, IfErr, OnOk, Some};
+ghost use Rattle.std.specs.Prelude.{◌≡◌, ◌<◌, ◌≤◌, IfOk, IfErr, OnOk};
 ghost use Rattle.rx_term.specs.Steps.{Grows};
-ghost use Rattle.rx_term.specs.Store.{tree_at};
 ghost use Rattle.rx_text.specs.Verdict.{Verdict, IsVerdict};
 ghost use Rattle.rx_shared.specs.State.{IsEmptyStore, store_of};
 ghost use Rattle.rec_run.specs.Run.{IsReadOut, RanOut, StopsUnwritten};
@@ -20,27 +19,20 @@ use std::io::Read;
 /// The most cells that a bank may have.
 pub(crate) const MOST_CELLS: u32 = 1_073_741_824;
 
-/// What a text came to, and the bank that holds its term.
-#[derive(Drop)]
-pub(crate) struct GivenTerm {
-    /// The bank.
-    pub(crate) bank: SharedBank,
-    /// What the text came to.
-    pub(crate) reading: Reading<Term>,
-}
-
-/// Reads the text of a term into a bank of its own.
-pub(crate) fn read_term<R: Read>(alloc: Global, input: &mut R) -> Result<GivenTerm, RunFault>
+/// Reads the text of a term into a bank.
+pub(crate) fn read_term<B: TermBank, R: Read>(
+    alloc: Global,
+    input: &mut R,
+    bank: &mut B,
+) -> Result<Reading<Term>, RunFault>
     ensures read { IfOk result
-        (λ given. IsGiven (R.remaining input.old) (store_of given.bank) given.reading) }
-    ensures unrooted { IfOk result (λ given. (t : ℕ) → (store_of given.bank).roots t ≡ 0) }
+        (λ reading. IsGiven (R.remaining input.old) (B.store bank.new) reading) }
+    ensures grows { OnOk result (Grows (B.store bank.old) (B.store bank.new)) }
     ensures out { OnOk result (IsReadOut (R.remaining input.old) (R.remaining input.new)) }
-    ensures fault { IfErr result (StopsUnwritten 1073741824) }
+    ensures fault { IfErr result (StopsUnwritten (B.store bank.old).cap) }
 {
     let text = read_all(alloc, input)?;
-    let mut bank = empty_bank(alloc, MOST_CELLS)?;
-    let reading = parse(alloc, Source::Term, &text, &mut bank)?;
-    Ok(GivenTerm { bank, reading })
+    parse(alloc, Source::Term, &text, bank)
 }
 
 /// An empty bank of at most so many cells.

@@ -2,6 +2,7 @@
 
 ghost use Rattle.std.specs.Prelude.{◌≡◌, ℕ, None, IfErr, IfOk, IfSome, IsSome, OnErr, OnOk};
 ghost use Rattle.std.specs.Io.KnownBytes.{Appends};
+ghost use Rattle.rx_term.specs.Bank.{IsEmptyStore};
 ghost use Rattle.rx_term.specs.Parts.{part_count};
 ghost use Rattle.rx_term.specs.Store.{tree_at};
 ghost use Rattle.rx_text.specs.Written.{AppendsFront};
@@ -21,7 +22,7 @@ ghost use Rattle.rec_run.specs.TermRuns.{
 
 use crate::ending::{Finish, Place, RunFault};
 use crate::refusal::Reading;
-use crate::term::reading::read_term;
+use crate::term::reading::{MOST_CELLS, empty_bank, read_term};
 use crate::writing::{flush, put_numbered, write_line, write_refusal};
 use rx_term::{Term, TermBank};
 use rx_text::{RefusedWrite, put};
@@ -29,7 +30,7 @@ use std::alloc::Global;
 use std::io::{Read, Write};
 
 /// The lines of a term that a run is to write.
-#[derive(Clone, Copy, Debug, PartialEq, Eq)]
+#[derive(Clone, Copy)]
 enum TermLines {
     /// Its printed text.
     Text,
@@ -131,11 +132,38 @@ fn run_on_term<R: Read, W: Write>(
     ensures input_read { OnOk result (IsReadOut (R.remaining input.old) (R.remaining input.new)) }
 {
     *place = None;
-    let mut given = read_term(alloc, input)?;
-    write_due(alloc, &mut given.bank, &given.reading, lines, out)?;
+    match empty_bank(alloc, MOST_CELLS) {
+        Ok(bank) => run_over(alloc, input, bank, out, lines, place),
+        Err(fault) => Err(fault),
+    }
+}
+
+/// The same over an empty bank.
+fn run_over<B: TermBank + Drop, R: Read, W: Write>(
+    alloc: Global,
+    input: &mut R,
+    mut bank: B,
+    out: &mut W,
+    lines: TermLines,
+    place: &mut Option<Place>,
+) -> Result<Finish, RunFault>
+    requires empty { IsEmptyStore (B.store bank) 1073741824 }
+    requires no_place { place.old ≡ None }
+    ensures output { IfOk result (λ finish. EndsFor (IsDueOf (lines_for lines))
+        (R.remaining input.old) finish (W.contents out.old) (W.contents out.new)) }
+    ensures place { OnOk result
+        (IsPlacedFor (IsDueOf (lines_for lines)) (R.remaining input.old) place.new) }
+    ensures fault { IfErr result (λ fault. BreaksFor (IsDueOf (lines_for lines))
+        (R.remaining input.old) fault (W.contents out.old) (W.contents out.new)) }
+    ensures no_place { OnErr result (place.new ≡ None) }
+    ensures room { IfErr result (RoomFits 1073741824) }
+    ensures input_read { OnOk result (IsReadOut (R.remaining input.old) (R.remaining input.new)) }
+{
+    let reading = read_term(alloc, input, &mut bank)?;
+    write_due(alloc, &mut bank, &reading, lines, out)?;
     flush(out)?;
-    *place = given.reading.place();
-    Ok(given.reading.finish())
+    *place = reading.place();
+    Ok(reading.finish())
 }
 
 /// Writes what is due for what a text came to.

@@ -14,8 +14,8 @@ returns-in-Refused g c =
     let v = c.in_ok-parse.ensures.read in
     unspelt_item (misfit_in c.args.pattern.now) source.Args c.args.args.now c.in-Refused.field-0 v.0 refl (λ at. refl) (subst (λ (r : Reading Term). IsReadingOf source.Args w r v.0) c.in-Refused.is v.1) v.2
 
-pub returns-in-Good : goal.returns-in-Good
-returns-in-Good g c =
+pub returns : goal.returns
+returns g c =
     let w = g.B.TermBank.store c.parse.new.bank in
     let v = c.in_ok-parse.ensures.read in
     if_ok_map c.misfit_of_term.result _ _

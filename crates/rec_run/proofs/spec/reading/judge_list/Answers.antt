@@ -1,23 +1,19 @@
-use Rattle.std.proofs.Common.{◌≡◌, Some, refl, subst}
-use Rattle.rec_run.specs.GivenTerms.{HoldsTerms}
-use Rattle.rx_shared.specs.State.{store_of}
-use Rattle.rec_run.specs.declared.refusal.Reading.TheVariants.{Good}
-use Rattle.rec_run.proofs.GivenDueLemmas.{good_list, list_due, list_fault, list_holds, refused_ready}
+use Rattle.rec_run.proofs.GivenDueLemmas.{good_list, list_due, list_fault, list_holds, refused_holds}
 use Rattle.rec_run.proofs.spec.reading.judge_list.Goals as goal
 
 pub returns-in-Err-clause-due : goal.returns-in-Err-clause-due
-returns-in-Err-clause-due c = list_due c.refused_list.result _ c.args.checked.spec c.in-Err.fault c.refused_list.ensures c.in-Err.ensures.broken
+returns-in-Err-clause-due g c =
+    list_due c.refused_list.result _ c.args.checked.now.spec (g.B.TermBank.store c.args.bank.now) c.in-Err.fault c.refused_list.ensures c.in-Err.ensures.broken
 
-pub returns-in-Err-clause-ready : goal.returns-in-Err-clause-ready
-returns-in-Err-clause-ready c = refused_ready (store_of c.args.bank).cap c.refused_list.result c.in-Err.fault c.refused_list.ensures
+pub returns-in-Err-clause-holds : goal.returns-in-Err-clause-holds
+returns-in-Err-clause-holds g c =
+    refused_holds c.args.checked.now.spec (g.B.TermBank.store c.args.bank.now) c.refused_list.result c.in-Err.fault c.refused_list.ensures
 
 pub returns-in-Err-clause-fault : goal.returns-in-Err-clause-fault
-returns-in-Err-clause-fault c = list_fault c.refused_list.result c.in-Err.fault c.refused_list.ensures
+returns-in-Err-clause-fault g c = list_fault c.refused_list.result c.in-Err.fault c.refused_list.ensures
 
 pub returns-in-Ok-clause-due : goal.returns-in-Ok-clause-due
-returns-in-Ok-clause-due c =
-    good_list (store_of c.args.bank) c.args.checked.spec c.args.list (Good (record { checked = c.args.checked; bank = c.args.bank; list = Some c.args.list })) (λ counted n. refl) c.in-Ok.ensures.kept
+returns-in-Ok-clause-due g c = good_list (g.B.TermBank.store c.args.bank.now) c.args.checked.now.spec c.args.list c.in-Ok.ensures.kept
 
-pub returns-in-Ok-clause-ready : goal.returns-in-Ok-clause-ready
-returns-in-Ok-clause-ready c =
-    record { limit = refl; unrooted = c.requires.unrooted; given = λ x e. let same : c.args.list ≡ x = cc in subst (λ r. HoldsTerms c.args.checked.spec (store_of c.args.bank) r) same (list_holds (store_of c.args.bank) c.args.checked.spec c.args.list c.requires.held c.in-Ok.ensures.kept) }
+pub returns-in-Ok-clause-holds : goal.returns-in-Ok-clause-holds
+returns-in-Ok-clause-holds g c = list_holds (g.B.TermBank.store c.args.bank.now) c.args.checked.now.spec c.args.list c.requires c.in-Ok.ensures.kept

@@ -1,6 +1,11 @@
-use Rattle.std.proofs.Common.{Ok}
-use Rattle.rec_run.proofs.GivenDueLemmas.{read_due}
+use Rattle.std.proofs.Common.{subst, sym}
+use Rattle.rec_run.specs.GivenTerms.{IsReady}
+use Rattle.rec_run.proofs.GivenDueLemmas.{job_due, job_ready}
 use Rattle.rec_run.proofs.spec.reading.read_terms.Goals as goal
 
 pub returns-clause-due : goal.returns-clause-due
-returns-clause-due g c = read_due (Ok c.in_ok-reading.reading) _ c.in_ok-text.text.items _ c.args.checked.spec c.in_ok-text.ensures.text c.deref.ensures.value c.in_ok-reading.ensures.due
+returns-clause-due g c = job_due _ c.args.checked c.in_ok-reading.reading _ c.job_from.ensures c.in_ok-reading.ensures.due
+
+pub returns-clause-ready : goal.returns-clause-ready
+returns-clause-ready g c =
+    subst (IsReady c.args.cells) (sym c.job_from.ensures) (job_ready c.args.cells c.args.checked c.in_ok-reading.reading c.in_ok-reading.ensures.ready)

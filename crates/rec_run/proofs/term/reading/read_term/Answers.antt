@@ -1,12 +1,16 @@
-use Rattle.std.proofs.Common.{ap, subst, ◌∙◌}
+use Rattle.std.proofs.Common.{subst}
+use Rattle.std.proofs.lemmas.Result.{IfErr-weaker}
 use Rattle.rx_text.specs.Verdict.{IsVerdict}
+use Rattle.rec_run.proofs.FaultLemmas.{unwritten}
+use Rattle.rec_run.proofs.PatternDueLemmas.{if_ok_map}
 use Rattle.rec_run.proofs.TermDueLemmas.{verdict_given}
 use Rattle.rec_run.proofs.term.reading.read_term.Goals as goal
 
 pub returns-clause-read : goal.returns-clause-read
 returns-clause-read g c =
-    let v = c.in_ok-reading.ensures.read in
-    (v.0, v.1, verdict_given _ c.in_ok-text.text.items v.0 c.in_ok-text.ensures.text (subst (λ text. IsVerdict text v.0) c.deref.ensures.value v.2))
+    if_ok_map c.parse.result _ _
+    (λ reading v. (v.0, v.1, verdict_given _ c.in_ok-text.text.items v.0 c.in_ok-text.ensures.text (subst (λ text. IsVerdict text v.0) c.deref.ensures.value v.2)))
+    c.parse.ensures.read
 
-pub returns-clause-unrooted : goal.returns-clause-unrooted
-returns-clause-unrooted g c = λ t. ap (λ roots. roots t) c.in_ok-reading.ensures.grows.roots ∙ c.in_ok-bank.ensures.empty.2 t
+pub returns-clause-fault : goal.returns-clause-fault
+returns-clause-fault g c = IfErr-weaker c.parse.result _ _ (unwritten (g.B.TermBank.store c.args.bank.now).cap) c.parse.ensures.fault

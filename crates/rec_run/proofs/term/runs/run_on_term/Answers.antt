@@ -1,50 +1,7 @@
-use Rattle.rx_shared.specs.State.{store_of}
-use Rattle.rec_run.specs.TermRuns.{IsDueOf, lines_at, lines_for}
-use Rattle.rec_run.specs.declared.ending.RunFault.TheVariants.{Write}
-use Rattle.rec_run.proofs.FaultLemmas.{reports_unwritten}
-use Rattle.rec_run.proofs.ErrorLemmas.{if_err_at}
-use Rattle.rec_run.proofs.ReadDueLemmas.{breaks_flush, breaks_read, ends_read, placed_read}
-use Rattle.rec_run.proofs.TermDueLemmas.{given_due, given_held, one_due_of}
+use Rattle.std.proofs.Common.{refl}
+use Rattle.rec_run.specs.TermRuns.{IsDueOf, lines_for}
 use Rattle.rec_run.proofs.WholeRunLemmas.{breaks_unwritten}
 use Rattle.rec_run.proofs.term.runs.run_on_term.Goals as goal
 
-pub write_due-requires-clause-held : goal.write_due-requires-clause-held
-write_due-requires-clause-held g c = given_held (g.R.Read.remaining c.args.input.now) (store_of c.in_ok-given.given.bank) c.in_ok-given.given.reading c.in_ok-given.ensures.read
-
-pub returns-in_err-given-clause-fault : goal.returns-in_err-given-clause-fault
-returns-in_err-given-clause-fault g c =
-    let lines = lines_for c.args.lines in
-    let f = c.in_err-given.field-0.0 in
-    if_err_at c.from_residual.result _ f c.from_residual.ensures.1
-    (breaks_unwritten (IsDueOf lines) (g.R.Read.remaining c.args.input.now) f _ (reports_unwritten 1073741824 f c.in_err-given.ensures.fault))
-
-pub returns-in_err-write_due-clause-fault : goal.returns-in_err-write_due-clause-fault
-returns-in_err-write_due-clause-fault g c =
-    let lines = lines_for c.args.lines in
-    let w = store_of c.in_ok-given.given.bank in
-    let r = c.in_ok-given.given.reading in
-    let f = c.in_err-write_due.field-0.0 in
-    if_err_at c.from_residual-in_err-write_due.result _ f c.from_residual-in_err-write_due.ensures.1
-    (breaks_read (IsDueOf lines) (lines_at lines w) (one_due_of lines) _ r f _ _ (given_due lines _ w r c.in_ok-given.ensures.read) c.in_err-write_due.ensures.err)
-
-pub returns-in_err-flush-clause-fault : goal.returns-in_err-flush-clause-fault
-returns-in_err-flush-clause-fault g c =
-    let lines = lines_for c.args.lines in
-    let w = store_of c.in_ok-given.given.bank in
-    let r = c.in_ok-given.given.reading in
-    if_err_at c.from_residual-in_err-flush.result _ Write c.from_residual-in_err-flush.ensures.1
-    (breaks_flush (IsDueOf lines) (lines_at lines w) (one_due_of lines) _ r _ _ _ (given_due lines _ w r c.in_ok-given.ensures.read) c.in_ok-write_due.ensures.ok c.in_err-flush.ensures)
-
-pub returns-clause-output : goal.returns-clause-output
-returns-clause-output g c =
-    let lines = lines_for c.args.lines in
-    let w = store_of c.in_ok-given.given.bank in
-    let r = c.in_ok-given.given.reading in
-    ends_read (IsDueOf lines) (lines_at lines w) _ r _ _ _ _ (given_due lines _ w r c.in_ok-given.ensures.read) c.finish.ensures c.in_ok-write_due.ensures.ok c.in_ok-flush.ensures
-
-pub returns-clause-place : goal.returns-clause-place
-returns-clause-place g c =
-    let lines = lines_for c.args.lines in
-    let w = store_of c.in_ok-given.given.bank in
-    let r = c.in_ok-given.given.reading in
-    placed_read (IsDueOf lines) (lines_at lines w) _ r _ (given_due lines _ w r c.in_ok-given.ensures.read) c.place.ensures
+pub returns-in-Err-clause-fault : goal.returns-in-Err-clause-fault
+returns-in-Err-clause-fault g c = breaks_unwritten (IsDueOf (lines_for c.args.lines)) (g.R.Read.remaining c.args.input.now) c.in-Err.fault _ (rw c.in-Err.ensures.fault refl)

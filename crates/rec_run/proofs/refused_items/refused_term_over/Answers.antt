@@ -1,6 +1,5 @@
 use Rattle.std.proofs.Common.{◌≡◌, refl, subst}
 use Rattle.std.specs.Option.{IfSome}
-use Rattle.rx_shared.specs.State.{store_of}
 use Rattle.rec_sorts.specs.TermRules.{broken_element}
 use Rattle.rx_term.specs.declared.Term.{Term}
 use Rattle.rec_run.specs.RefusedItems.{term_in}
@@ -8,17 +7,17 @@ use Rattle.rec_run.specs.TermRuns.{IsReadingOf}
 use Rattle.rec_run.specs.declared.ending.Source.TheVariants as source
 use Rattle.rec_run.specs.declared.refusal.Reading.{Reading}
 use Rattle.rec_run.proofs.RefusedItemLemmas.{spelt_item, unspelt_item}
-use Rattle.rec_run.proofs.refused_items.refused_term_for.Goals as goal
+use Rattle.rec_run.proofs.refused_items.refused_term_over.Goals as goal
 
 pub returns-in-Refused : goal.returns-in-Refused
-returns-in-Refused c =
-    let w = store_of c.parse.new.bank in
+returns-in-Refused g c =
+    let w = g.B.TermBank.store c.parse.new.bank in
     let v = c.in_ok-parse.ensures.read in
     unspelt_item (term_in c.args.checked.now.spec) source.Terms c.args.terms.now c.in-Refused.field-0 v.0 refl (λ at. refl) (subst (λ (r : Reading Term). IsReadingOf source.Terms w r v.0) c.in-Refused.is v.1) v.2
 
 pub returns : goal.returns
-returns c =
-    let w = store_of c.parse.new.bank in
+returns g c =
+    let w = g.B.TermBank.store c.parse.new.bank in
     let v = c.in_ok-parse.ensures.read in
     let y = c.args.checked.now.spec in
     let found = c.in_ok-broken_element-in-Good.field-0 in
