@@ -26,16 +26,15 @@ position-map p q f same i (y ∷ ys) =
     ap (λ b. cond b (Some i) (position_from q (i + 1) ys)) (same y)
     ∙ ap (λ o. cond (p (f y)) (Some i) o) (position-map p q f same (i + 1) ys)
 
-module _ (y : Spec) (s : Scope) (h : IsScope y s) (kept : fault y ≡ None) where
-  -- by the numbers of what is declared
-  broken-alone : (number : ℕ) (t : Tree) → is_broken_alone s number t ≡ breaks_alone y number t
-  broken-alone number t = ap (λ o. option_eq nat_eq o (Some number)) (broken-nodes y s h kept (t ∷ []) _ _ refl refl)
+-- the place among references
+pub breaking-held : (s : Scope) (w : Store) (number : ℕ) (rs : List Term) → position_from (λ r. is_broken_alone s number (held_tree w r)) 0 rs ≡ position (is_broken_alone s number) (held_trees w rs)
+breaking-held s w number rs =
+    position-map (is_broken_alone s number) (λ r. is_broken_alone s number (held_tree w r)) (held_tree w) (λ r. refl) 0 rs
+    ∙ sym (position_from-zero (is_broken_alone s number) (held_trees w rs))
 
-  -- the place among references
-  pub breaking-held : (w : Store) (number : ℕ) (rs : List Term) → position_from (λ r. is_broken_alone s number (held_tree w r)) 0 rs ≡ position (breaks_alone y number) (held_trees w rs)
-  breaking-held w number rs =
-      position-map (breaks_alone y number) (λ r. is_broken_alone s number (held_tree w r)) (held_tree w) (λ r. broken-alone number (held_tree w r)) 0 rs
-      ∙ sym (position_from-zero (breaks_alone y number) (held_trees w rs))
+-- by the numbers of what is declared
+broken-alone : (y : Spec) (s : Scope) → IsScope y s → fault y ≡ None → (number : ℕ) (t : Tree) → is_broken_alone s number t ≡ breaks_alone y number t
+broken-alone y s h kept number t = ap (λ o. option_eq nat_eq o (Some number)) (broken-nodes y s h kept (t ∷ []) _ _ refl refl)
 
 abbrev broken_in : Spec → Option (List Tree) → Option ℕ
 broken_in y o = elim o [ None ↦ Some 1 | Some ts ↦ broken_by_elements y ts ]
@@ -54,17 +53,17 @@ elements-listed (Int z anns) e = absurd (cc e)
 elements-listed (Appl name quoted args anns) e = absurd (cc e)
 elements-listed (Hole inner anns) e = absurd (cc e)
 
--- what is found among the references of a list's items
-pub element-found : (y : Spec) (s : Scope) → IsScope y s → fault y ≡ None → (w : Store) (list : Term) (rs : List Term) (number : ℕ) (r : Result (Option ℕ) AllocError) → is_some (elements (held_tree w list)) ≡ true → Some number ≡ broken_by_terms y (held_tree w list)
-    → held_trees w rs ≡ to_list (items_of (held_tree w list)) → IfOk r (λ o. o ≡ position_from (λ x. is_broken_alone s number (held_tree w x)) 0 rs) → IfOk r (λ o. IfSome (tree_at w list) (λ t. o ≡ broken_element y t))
-element-found y s h kept w list rs number (Err e) listed broken trees found = tt
-element-found y s h kept w list rs number (Ok o) listed broken trees found =
+-- what is found among a list's items
+pub element-found : (y : Spec) (s : Scope) → IsScope y s → fault y ≡ None → (w : Store) (list : Term) (number : ℕ) (r : Result (Option ℕ) AllocError) → is_some (elements (held_tree w list)) ≡ true → Some number ≡ broken_by_terms y (held_tree w list)
+    → IfOk r (λ o. o ≡ position (is_broken_alone s number) (to_list (items_of (held_tree w list)))) → IfOk r (λ o. IfSome (tree_at w list) (λ t. o ≡ broken_element y t))
+element-found y s h kept w list number (Err e) listed broken found = tt
+element-found y s h kept w list number (Ok o) listed broken found =
     let t : Tree = held_tree w list in
+    let ts : List Tree = to_list (items_of t) in
     if_held (λ u. o ≡ broken_element y u) (tree_at w list) (
     found
-    ∙ breaking-held y s h kept w number rs
-    ∙ ap (position (breaks_alone y number)) trees
-    ∙ element-first y t (to_list (items_of t)) number (elements-listed t listed) broken
+    ∙ (λ i. position (λ u. broken-alone y s h kept number u i) ts)
+    ∙ element-first y t ts number (elements-listed t listed) broken
     )
 
 -- ---- some element is told

@@ -17,7 +17,7 @@ use Rattle.rec_sorts.specs.TermRules.{nodes, arguments, tree_symbol, is_undeclar
 use Rattle.rec_sorts.specs.Evaluation.{term_of, terms_of}
 use Rattle.rec_sorts.specs.Numbering.{IsMeaning, name_of, Named, named, named_all, named_by, AreLetters, Pairwise}
 use Rattle.rec_sorts.specs.Agreeing.{IsScope}
-use Rattle.rec_sorts.specs.Walking.{backwards, backwards_all, unstacked}
+use Rattle.rec_sorts.specs.Walking.{backwards, backwards_all}
 use Rattle.rec_sorts.specs.GivenTerms.{symbol_at, node_letter}
 use Rattle.rec_sorts.specs.declared.letters.Letter.{Letter}
 use Rattle.rec_sorts.specs.declared.letters.Meaning.{Meaning}
@@ -151,13 +151,13 @@ kept-declared y ts e =
     third_failed (list_any is_no_application all) (list_any is_annotated inner) (list_any (is_undeclared y) all) (list_any (is_ill_filled y) all) (list_any (is_ill_sorted y) all) e
 
 -- the letters of the nodes that a walk found
-pub letters-walked : (s : Scope) (w : Store) (found stack items : List Term) (term : Term) (ls : List Letter) (i : ℕ) → ls ≡ map (λ r. node_letter s (held_tree w r)) (take i items) → length items ≤ i → items ≡ found
-    → held_trees w found ≡ unstacked (held_trees w stack) → stack ≡ term ∷ [] → ls ≡ map (node_letter s) (backwards (held_tree w term))
-letters-walked s w found stack items term ls i read past same trees begun =
+pub letters-walked : (s : Scope) (w : Store) (found items : List Term) (term : Term) (ls : List Letter) (i : ℕ) → ls ≡ map (λ r. node_letter s (held_tree w r)) (take i items) → length items ≤ i → items ≡ found
+    → held_trees w found ≡ backwards (held_tree w term) → ls ≡ map (node_letter s) (backwards (held_tree w term))
+letters-walked s w found items term ls i read past same trees =
     read
     ∙ ap (map (λ r. node_letter s (held_tree w r))) (take_all i items past ∙ same)
     ∙ sym (map-map (node_letter s) (held_tree w) found)
-    ∙ ap (map (node_letter s)) (trees ∙ ap (λ rs. unstacked (held_trees w rs)) begun)
+    ∙ ap (map (node_letter s)) trees
 
 -- the elements of a list are its items
 elements-items_of : (t : Tree) (ts : List Tree) → elements t ≡ Some ts → to_list (items_of t) ≡ ts
@@ -174,15 +174,14 @@ broken-listed : (y : Spec) (t : Tree) (ts : List Tree) → elements t ≡ Some t
 broken-listed y t ts e h = sym (ap (broken_in y) e) ∙ h
 
 -- the letters of a list's terms
-pub letters-listed : (y : Spec) (s : Scope) → IsScope y s → (w : Store) (list : Term) {V : Type 0} (letters_of : V → List Letter) (vs : List V) (items : List Term) (i : ℕ) → IfSome (tree_at w list) (λ t. broken_by_terms y t ≡ None)
-    → map letters_of vs ≡ map (λ r. reverse (map (node_letter s) (backwards (held_tree w r)))) (take i items) → length items ≤ i → held_trees w items ≡ to_list (items_of (held_tree w list))
+pub letters-listed : (y : Spec) (s : Scope) → IsScope y s → (w : Store) (list : Term) {V : Type 0} (letters_of : V → List Letter) (vs : List V) (items : List Term) → IfSome (tree_at w list) (λ t. broken_by_terms y t ≡ None)
+    → map letters_of vs ≡ map (λ r. reverse (map (node_letter s) (backwards (held_tree w r)))) items → held_trees w items ≡ to_list (items_of (held_tree w list))
     → (t : Tree) (ts : List Tree) → tree_at w list ≡ Some t → elements t ≡ Some ts → Pairwise (λ v u. AreLetters y (letters_of v) (term_of u)) vs ts
-letters-listed y s h w list letters_of vs items i kept read past trees t ts here is =
+letters-listed y s h w list letters_of vs items kept read trees t ts here is =
     let whole : held_tree w list ≡ t = held w list t here in
     let listed : held_trees w items ≡ ts = trees ∙ ap (λ u. to_list (items_of u)) whole ∙ elements-items_of t ts is in
     let unbroken : broken_by_terms y t ≡ None = subst (λ o. IfSome o (λ u. broken_by_terms y u ≡ None)) here kept in
     letters-terms y s h letters_of vs ts (kept-declared y ts (broken-listed y t ts is unbroken))
     (read
-    ∙ ap (map (λ r. reverse (map (node_letter s) (backwards (held_tree w r))))) (take_all i items past)
     ∙ sym (map-map (λ u. reverse (map (node_letter s) (backwards u))) (held_tree w) items)
     ∙ ap (map (λ u. reverse (map (node_letter s) (backwards u)))) listed)

@@ -1,27 +1,23 @@
 -- The places of a rule, as they are found.
 use Rattle.std.proofs.Common.{refl, sym, ap, ◌∙◌}
 use Rattle.std.specs.Prelude.{ℕ, ◌≡◌, Bool, true, false, cond, List, Option, Some, None, bytes_eq}
-use Rattle.rec_syntax.specs.Syntax.{Term, Condition}
+use Rattle.rec_syntax.specs.Syntax.{Term, Rule}
 use Rattle.rec_sorts.specs.Least.{joined}
 use Rattle.rec_sorts.specs.Names.{Numbers, given_first}
-use Rattle.rec_sorts.specs.Reading.{letters_of, nowhere, term_places, ill_headed_at, unlike_at, binds_variable, unbound_among, conditions_places, rule_places, open_term_places}
+use Rattle.rec_sorts.specs.Reading.{letters_of, nowhere, term_places, binds_variable, unbound_among, conditions_places, both_places, bound_places, rule_places, open_term_places}
 use Rattle.rec_sorts.specs.declared.places.TermPlaces.{TermPlaces}
 use Rattle.rec_sorts.specs.declared.scope.Scope.{Scope}
 use Rattle.rec_sorts.specs.declared.terms.Placed.{Placed}
 use Rattle.rec_sorts.proofs.KeptLemmas.{bytes_eq-eq}
+use Rattle.rec_sorts.proofs.LeastPlaceLemmas.{joined_assoc}
 
 -- the parts of a rule make its places
-pub rule_places-parts : (s : Scope) (l r : Term) (cs : List Condition) (bound : ℕ → Bool) (ls rs : List Placed) (p q c : TermPlaces) (head sides free : Option ℕ)
-    → ls ≡ letters_of s l → rs ≡ letters_of s r → bound ≡ binds_variable ls → p ≡ term_places s l → q ≡ term_places s r → c ≡ conditions_places s bound cs
-    → head ≡ ill_headed_at s ls → sides ≡ unlike_at s ls rs → free ≡ unbound_among bound rs
-    → joined (joined (joined p q) (record nowhere { ill_headed = head; unlike = sides; unbound = free })) c ≡ rule_places s (record { left = l; right = r; conditions = cs })
-rule_places-parts s l r cs bound ls rs p q c head sides free el er eb ep eq ec eh es ef =
-    let b : bound ≡ binds_variable (letters_of s l) = eb ∙ ap binds_variable el in
-    let h : head ≡ ill_headed_at s (letters_of s l) = eh ∙ ap (ill_headed_at s) el in
-    let u : sides ≡ unlike_at s (letters_of s l) (letters_of s r) = es ∙ ap (λ xs. unlike_at s xs rs) el ∙ ap (unlike_at s (letters_of s l)) er in
-    let f : free ≡ unbound_among (binds_variable (letters_of s l)) (letters_of s r) = ef ∙ ap (λ g. unbound_among g rs) b ∙ ap (unbound_among (binds_variable (letters_of s l))) er in
-    let c' : c ≡ conditions_places s (binds_variable (letters_of s l)) cs = ec ∙ ap (λ g. conditions_places s g cs) b in
-    λ i. joined (joined (joined (ep i) (eq i)) (record nowhere { ill_headed = h i; unlike = u i; unbound = f i })) (c' i)
+pub rule_places-parts : (s : Scope) (r : Rule) (ls rs : List Placed) (sides rest : TermPlaces) → ls ≡ letters_of s r.left → rs ≡ letters_of s r.right
+    → sides ≡ joined (term_places s r.left) (term_places s r.right) → rest ≡ bound_places s ls rs r.conditions → joined sides rest ≡ rule_places s r
+rule_places-parts s r ls rs sides rest el er es eb =
+    ap (joined sides) (eb ∙ ap (λ xs. bound_places s xs rs r.conditions) el ∙ ap (λ xs. bound_places s (letters_of s r.left) xs r.conditions) er)
+    ∙ ap (λ p. joined p (bound_places s (letters_of s r.left) (letters_of s r.right) r.conditions)) es
+    ∙ sym (joined_assoc (joined (term_places s r.left) (term_places s r.right)) (both_places s (letters_of s r.left) (letters_of s r.right)) (conditions_places s (binds_variable (letters_of s r.left)) r.conditions))
 
 -- a name that had no number gets one
 pub given_first-new : (g : Numbers) (name : List ℕ) (number : ℕ) (other : List ℕ) → g name ≡ None → cond (bytes_eq name other) (Some number) (g other) ≡ given_first g name number other

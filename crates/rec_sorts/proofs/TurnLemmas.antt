@@ -4,15 +4,16 @@ use Rattle.std.proofs.Common.{inl, inr}
 use Rattle.std.proofs.lemmas.Bool.{cases_lt}
 use Rattle.std.proofs.Common.{subst}
 use Rattle.std.proofs.lemmas.List.{drop_all, take_more}
-use Rattle.std.specs.Prelude.{ℕ, ◌≡◌, ◌⊎◌, ◌+◌, ◌<◌, ◌≤◌, List, [], ◌∷◌, ◌++◌, Option, None, length, map, take, drop, get_or, min}
-use Rattle.rec_sorts.specs.Letters.{misplaced}
+use Rattle.std.specs.Prelude.{ℕ, ◌≡◌, ◌⊎◌, ◌+◌, ◌-◌, ◌<◌, ◌≤◌, List, [], ◌∷◌, ◌++◌, Option, None, length, map, take, drop, get_or, min}
+use Rattle.rec_sorts.specs.Letters.{misplaced, ill_sorted_among}
+use Rattle.rec_sorts.specs.Scope.{arguments_at}
 use Rattle.rec_sorts.specs.declared.scope.Scope.{Scope}
 use Rattle.rec_sorts.specs.declared.terms.Placed.{Placed}
 use Rattle.rec_sorts.specs.Least.{earlier, joined}
 use Rattle.rec_sorts.specs.Reading.{places_over}
 use Rattle.rec_sorts.specs.Numbering.{Pairwise}
 use Rattle.rec_sorts.specs.declared.places.TermPlaces.{TermPlaces}
-use Rattle.rec_sorts.proofs.LeastPlaceLemmas.{earlier_none, joined_assoc}
+use Rattle.rec_sorts.proofs.LeastPlaceLemmas.{earlier_assoc, earlier_none, joined_assoc}
 use Rattle.rec_sorts.proofs.StackLemmas.{map-append}
 
 -- the rest of a list begins with the item at the index
@@ -65,3 +66,17 @@ misplaced-done s ps ss n e = by_end (cases_lt (length ps) (length ss))
 pub misplaced_end : (s : Scope) (ps : List Placed) (ss : List (Option ℕ)) (n : ℕ) (least all : Option ℕ) → n ≡ min (length ps) (length ss)
     → earlier least (misplaced s (drop n ps) (drop n ss)) ≡ all → least ≡ all
 misplaced_end s ps ss n least all e h = sym (earlier_none least) ∙ ap (earlier least) (sym (misplaced-done s ps ss n e)) ∙ h
+
+-- one more letter's arguments are compared, with the heads of the terms before it
+pub ill_sorted_turn : (s : Scope) (letters : List Placed) (i : ℕ) (d : Placed) (heads cut after : List Placed) (base : ℕ) (least found new all : Option ℕ) → i < length letters → d ≡ get_or letters i d → base ≡ length heads - d.count
+    → found ≡ misplaced s (drop base heads) (arguments_at s d.meaning) → new ≡ earlier least found → cut ≡ take base heads → after ≡ cut ++ d ∷ []
+    → earlier least (ill_sorted_among s heads (drop i letters)) ≡ all → earlier new (ill_sorted_among s after (drop (i + 1) letters)) ≡ all
+ill_sorted_turn s letters i d heads cut after base least found new all h is at compared grown kept pushed before =
+    let later : Option ℕ = ill_sorted_among s (take base heads ++ d ∷ []) (drop (i + 1) letters) in
+    ap (λ hs. earlier new (ill_sorted_among s hs (drop (i + 1) letters))) (pushed ∙ ap (λ hs. hs ++ d ∷ []) kept)
+    ∙ ap (λ p. earlier p later) (grown ∙ ap (earlier least) compared)
+    ∙ earlier_assoc least (misplaced s (drop base heads) (arguments_at s d.meaning)) later
+    ∙ ap (λ (n : ℕ). earlier least (earlier (misplaced s (drop n heads) (arguments_at s d.meaning)) (ill_sorted_among s (take n heads ++ d ∷ []) (drop (i + 1) letters)))) at
+    ∙ ap (λ p. earlier least (ill_sorted_among s heads (p ∷ drop (i + 1) letters))) is
+    ∙ ap (λ ps. earlier least (ill_sorted_among s heads ps)) (sym (drop-turn letters i d h))
+    ∙ before

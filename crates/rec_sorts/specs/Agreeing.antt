@@ -3,12 +3,13 @@ use Rattle.std.specs.Prelude.{ℕ, ◌≡◌, List, ◌∷◌, ◌++◌, ◌≤�
 use Rattle.rec_syntax.specs.Syntax.{Variables, Spec}
 use Rattle.rec_sorts.specs.Lookup.{symbols, names, variable_words}
 use Rattle.rec_syntax.specs.Parts.{words_of, Within}
-use Rattle.rec_sorts.specs.SpecRules.{unknown_sorts}
+use Rattle.rec_sorts.specs.SpecRules.{repeated_sorts, repeated_symbols, taken_variables, unknown_sorts}
 use Rattle.rec_sorts.specs.Least.{least_place}
 use Rattle.rec_sorts.specs.declared.declarations.Declared.{Declared}
 use Rattle.rec_sorts.specs.Names.{Numbers, given_to, first_at}
 use Rattle.rec_sorts.specs.Declaring.{sort_numbers}
 use Rattle.rec_sorts.specs.declared.scope.Scope.{Scope}
+use Rattle.rec_sorts.specs.declared.symbols.ReadScope.{ReadScope}
 
 -- the sorts of variables, by their numbers
 abbrev pub variable_sorts : Numbers → List Variables → List (Option ℕ)
@@ -37,3 +38,12 @@ pub record IsScope (y : Spec) (s : Scope) : Type 0 where
       ≡ map (λ d. sort_numbers (first_at y.sorts) d.arguments) (symbols y)
   pub constructors_counted : s.constructors ≡ length y.constructors
   pub symbols_counted : s.symbols ≡ length (symbols y)
+
+-- what a specification declares was read, and where its declarations break a rule
+pub record IsReadScope (y : Spec) (source : List ℕ) (r : ReadScope) : Type 0 where
+  pub source_read : r.scope.source.now ≡ source
+  pub scope_read : IsScope y r.scope
+  pub sorts_repeated : r.repeated_sort ≡ least_place (repeated_sorts y)
+  pub symbols_repeated : r.repeated_symbol ≡ least_place (repeated_symbols y)
+  pub variables_taken : r.taken_variable ≡ least_place (taken_variables y)
+  pub sorts_unknown : r.unknown_sort ≡ least_place (unknown_sorts y)

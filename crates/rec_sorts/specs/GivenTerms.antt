@@ -61,10 +61,14 @@ broken_by_nodes s all inner =
     ∷ list_any (has_misfit s) all
     ∷ [])
 
+-- the first of the rules 2 to 6 that given terms break
+abbrev pub broken_by_all : Scope → List Tree → Option ℕ
+broken_by_all s ts = broken_by_nodes s (unstacked ts)
+    (unstacked (flat_map (λ u. to_list (arguments u)) ts))
+
 -- the first of the rules 2 to 6 that a given term breaks alone
 abbrev pub broken_alone : Scope → Tree → Option ℕ
-broken_alone s t = broken_by_nodes s (unstacked (t ∷ []))
-    (unstacked (flat_map (λ u. to_list (arguments u)) (t ∷ [])))
+broken_alone s t = broken_by_all s (t ∷ [])
 
 -- a given term breaks this rule alone
 abbrev pub is_broken_alone : Scope → ℕ → Tree → Bool

@@ -113,6 +113,19 @@ rule_places s r =
       unbound = unbound_among bound (letters_of s r.right);
     })) (conditions_places s bound r.conditions)
 
+-- where two sides with these letters break a rule together
+abbrev pub both_places : Scope → List Placed → List Placed → TermPlaces
+both_places s ls rs = record nowhere {
+  ill_headed = ill_headed_at s ls;
+  unlike = unlike_at s ls rs;
+  unbound = unbound_among (binds_variable ls) rs;
+}
+
+-- where a rule with these letters and conditions breaks a rule, but for each side by itself
+abbrev pub bound_places : Scope → List Placed → List Placed → List Condition → TermPlaces
+bound_places s ls rs cs =
+    joined (both_places s ls rs) (conditions_places s (binds_variable ls) cs)
+
 abbrev pub rules_places : Scope → List Rule → TermPlaces
 rules_places s rs = places_over (rule_places s) rs
 

@@ -7,12 +7,14 @@ ghost use Rattle.rec_sorts.specs.SpecRules.{fault};
 ghost use Rattle.rec_sorts.specs.SortFaults.{IsFault, first_place};
 ghost use Rattle.rec_sorts.specs.Numbering.{Pairwise, IsLetterRule, AreLetters, bytes_at, name_of};
 ghost use Rattle.rec_sorts.specs.Numbering.{arity_of, variable_count};
+ghost use Rattle.rec_sorts.specs.Agreeing.{IsReadScope};
+ghost use Rattle.rec_sorts.specs.CheckedView.{IsExamined};
 ghost use Rattle.rec_sorts.specs.declared.letters.Meaning.TheVariants.{Symbol};
 
 use crate::fault::SortFault;
 use crate::letters::{Letter, LetterRule};
 use crate::places::number;
-use crate::symbols::{read_scope, read_sorts};
+use crate::symbols::{ReadScope, read_scope};
 use rec_syntax::{Declaration, Syntax};
 use std::alloc::{AllocError, Global};
 use std::marker::Model;
@@ -155,30 +157,23 @@ fn lengths(alloc: Global, vectors: &[Vec<Option<u32>>]) -> Result<Vec<u32>, Allo
     Ok(lengths)
 }
 
-/// The rules are asked all of them, and the words numbered.
-fn examine(alloc: Global, syntax: &Syntax) -> Result<Examined, AllocError>
-    ensures first { IfOk result (λ e. first_place 1 e.places ≡ fault syntax.now.spec) }
-    ensures constructors { IfOk result (λ e. e.constructors ≡ length syntax.now.spec.constructors) }
-    ensures symbols { IfOk result (λ e. e.symbols ≡ length (symbols syntax.now.spec)) }
-    ensures variables { IfOk result (λ e. e.variables ≡ variable_count syntax.now.spec) }
-    ensures arities { IfOk result
-        (λ e. e.arities.items ≡ map (λ d. length d.arguments) (symbols syntax.now.spec)) }
-    ensures rules { IfOk result (λ e. fault syntax.now.spec ≡ None
-        → Pairwise (IsLetterRule syntax.now.spec) e.rules.items syntax.now.spec.rules) }
-    ensures terms { IfOk result (λ e. fault syntax.now.spec ≡ None → Pairwise
-        (λ v t. AreLetters syntax.now.spec v.items t) e.terms.items syntax.now.spec.terms) }
+/// The rules are asked all of them, where this is declared.
+fn examine_declared(
+    alloc: Global,
+    syntax: &Syntax,
+    declared: &ReadScope,
+) -> Result<Examined, AllocError>
+    requires { IsReadScope syntax.now.spec syntax.now.source declared.now }
+    ensures { IfOk result (IsExamined syntax.now.spec) }
 {
-    let sorts = read_sorts(alloc, syntax)?;
-    let declared = read_scope(alloc, syntax, &sorts.sorts)?;
     let scope = &declared.scope;
-    let arities = lengths(alloc, &scope.arguments)?;
     let variables = number(scope.sorts.len().saturating_sub(scope.symbols as usize))?;
-    let rules = scope.rules(alloc, syntax.rules())?;
-    let terms = scope.terms(alloc, syntax.terms())?;
-    let places = rules.places.join(terms.places);
+    let arities = lengths(alloc, &scope.arguments)?;
+    let sections = scope.sections(alloc, syntax)?;
+    let places = &sections.places;
     Ok(Examined {
         places: [
-            sorts.repeated,
+            declared.repeated_sort,
             declared.repeated_symbol,
             declared.taken_variable,
             declared.unknown_sort,
@@ -194,9 +189,17 @@ fn examine(alloc: Global, syntax: &Syntax) -> Result<Examined, AllocError>
         symbols: scope.symbols,
         variables,
         arities,
-        rules: rules.letters,
-        terms: terms.letters,
+        rules: sections.rules,
+        terms: sections.terms,
     })
+}
+
+/// The rules are asked all of them, and the words numbered.
+fn examine(alloc: Global, syntax: &Syntax) -> Result<Examined, AllocError>
+    ensures { IfOk result (IsExamined syntax.now.spec) }
+{
+    let declared = read_scope(alloc, syntax)?;
+    examine_declared(alloc, syntax, &declared)
 }
 
 /// The first rule that is broken, where the places are those of the rules in their order.

@@ -2,8 +2,8 @@
 
 ghost use Rattle.std.specs.Prelude.{◌≡◌, None, Some, List, IsSome, IfSome, IfOk, IfErr, OnOk};
 ghost use Rattle.std.specs.Prelude.{is_some, length, map, reverse};
-ghost use Rattle.std.specs.List.{list_any, position_from};
-ghost use Rattle.rx_term.specs.Tree.{Tree, count_of};
+ghost use Rattle.std.specs.List.{list_any, position, position_from};
+ghost use Rattle.rx_term.specs.Tree.{Tree, count_of, to_list, items_of};
 ghost use Rattle.rx_term.specs.Store.{tree_at};
 ghost use Rattle.rx_term.specs.Walks.{AllHeld, held_tree, held_trees};
 ghost use Rattle.rec_sorts.specs.TermRules.{arguments, elements, is_no_application, is_annotated};
@@ -18,8 +18,8 @@ use crate::checked::Checked;
 use crate::fault::TermsFault;
 use crate::letters::{Letter, Meaning};
 use crate::scope::Scope;
-use crate::symbols::{read_scope, read_sorts};
-use crate::walk::{list_nodes, nodes, nodes_among, push_items};
+use crate::symbols::read_scope;
+use crate::walk::{list_items, list_nodes, nodes_among, term_nodes};
 use rec_syntax::Syntax;
 use rx_term::{Kind, Term, TermBank, plain_name};
 use std::alloc::{AllocError, Global};
@@ -28,8 +28,7 @@ use std::alloc::{AllocError, Global};
 fn scope_of(alloc: Global, syntax: &Syntax) -> Result<Scope<'_>, AllocError>
     ensures { IfOk result (IsScope syntax.now.spec) }
 {
-    let sorts = read_sorts(alloc, syntax)?;
-    let declared = read_scope(alloc, syntax, &sorts.sorts)?;
+    let declared = read_scope(alloc, syntax)?;
     Ok(declared.scope)
 }
 
@@ -77,7 +76,7 @@ fn argument_count<B: TermBank>(bank: &B, node: Term) -> u32
 impl Scope<'_> {
     ghost use Rattle.rec_sorts.specs.GivenTerms.{symbol_at, is_nameless, is_misfilled, are_misfits};
     ghost use Rattle.rec_sorts.specs.GivenTerms.{has_misfit, node_letter, broken_by_nodes};
-    ghost use Rattle.rec_sorts.specs.GivenTerms.{is_broken_alone};
+    ghost use Rattle.rec_sorts.specs.GivenTerms.{broken_by_all, is_broken_alone};
 
     /// The symbol that a node stands for: one of its name, which stands unquoted where it may.
     fn symbol<B: TermBank>(&self, bank: &B, node: Term) -> Option<Meaning>
@@ -177,9 +176,7 @@ impl Scope<'_> {
         ensures { IfOk result (λ v. v.items ≡ reverse
             (map (node_letter self.now) (backwards (held_tree (B.store bank.now) term)))) }
     {
-        let mut stack = Vec::new(alloc);
-        stack.push(term)?;
-        let found = nodes(alloc, bank, stack)?;
+        let found = term_nodes(alloc, bank, term)?;
         let mut letters = Vec::new(alloc);
         for node in &found {
             letters.push(self.node_letter(bank, *node))?;
@@ -209,6 +206,39 @@ impl Scope<'_> {
         } else {
             None
         }
+    }
+
+    /// The letters of some terms: a vector for each, in their order.
+    fn letters_of_all<B: TermBank>(
+        &self,
+        alloc: Global,
+        bank: &B,
+        terms: &[Term],
+    ) -> Result<Vec<Vec<Letter>>, AllocError>
+        requires { AllHeld (B.store bank.now) terms.now }
+        ensures { IfOk result (λ v. map (λ letters. letters.items) v.items ≡ map (λ r. reverse
+            (map (node_letter self.now) (backwards (held_tree (B.store bank.now) r)))) terms.now) }
+    {
+        let mut letters = Vec::new(alloc);
+        for term in terms {
+            letters.push(self.letters_of(alloc, bank, *term)?)?;
+        }
+        Ok(letters)
+    }
+
+    /// The first of the rules 2 to 6 that the items of a list break.
+    fn broken_by_items<B: TermBank>(
+        &self,
+        alloc: Global,
+        bank: &B,
+        list: Term,
+    ) -> Result<Option<u8>, AllocError>
+        requires { IsSome (tree_at (B.store bank.now) list) }
+        ensures { IfOk result (λ r. r ≡ broken_by_all self.now
+            (to_list (items_of (held_tree (B.store bank.now) list)))) }
+    {
+        let found = list_nodes(alloc, bank, list)?;
+        Ok(self.first_broken(bank, &found.all, &found.inner))
     }
 
     /// Whether a given term breaks this one of the rules 2 to 6 first, where it is given alone.
@@ -248,6 +278,22 @@ impl Scope<'_> {
         }
         Ok(None)
     }
+
+    /// The first item of a list that breaks this rule alone, by how many stand before it.
+    fn first_breaking_item<B: TermBank>(
+        &self,
+        alloc: Global,
+        bank: &B,
+        list: Term,
+        number: u8,
+    ) -> Result<Option<usize>, AllocError>
+        requires { IsSome (tree_at (B.store bank.now) list) }
+        ensures { IfOk result (λ r. r ≡ position (is_broken_alone self.now number)
+            (to_list (items_of (held_tree (B.store bank.now) list)))) }
+    {
+        let items = list_items(alloc, bank, list)?;
+        self.first_breaking(alloc, bank, &items, number)
+    }
 }
 
 /// The first of the six rules that a list of given terms breaks.
@@ -265,8 +311,7 @@ fn broken_rule<B: TermBank>(
         return Ok(Some(1));
     }
     let scope = scope_of(alloc, checked.syntax())?;
-    let found = list_nodes(alloc, bank, list)?;
-    Ok(scope.first_broken(bank, &found.all, &found.inner))
+    scope.broken_by_items(alloc, bank, list)
 }
 
 /// Asks the six rules of a list of given terms. A fault names the first one that is broken, or says
@@ -309,9 +354,7 @@ pub fn broken_element<B: TermBank>(
         return Ok(None);
     };
     let scope = scope_of(alloc, checked.syntax())?;
-    let mut elements = Vec::new(alloc);
-    push_items(bank, list, &mut elements)?;
-    scope.first_breaking(alloc, bank, &elements, number)
+    scope.first_breaking_item(alloc, bank, list, number)
 }
 
 /// The letters of given terms that keep the rules: a vector for each, in their order.
@@ -328,12 +371,7 @@ pub fn term_letters<B: TermBank>(
         → tree_at (B.store bank.now) list ≡ Some t → elements t ≡ Some ts →
         Pairwise (λ ls u. AreLetters checked.now.spec ls.items (term_of u)) v.items ts) }
 {
+    let elements = list_items(alloc, bank, list)?;
     let scope = scope_of(alloc, checked.syntax())?;
-    let mut elements = Vec::new(alloc);
-    push_items(bank, list, &mut elements)?;
-    let mut letters = Vec::new(alloc);
-    for element in &elements {
-        letters.push(scope.letters_of(alloc, bank, *element)?)?;
-    }
-    Ok(letters)
+    scope.letters_of_all(alloc, bank, &elements)
 }

@@ -1,6 +1,6 @@
 //! The symbols of a specification in a bank.
 
-ghost use Rattle.std.specs.Prelude.{◌≡◌, ◌≢◌, ◌<◌, List, Some, Err, IfOk, length, nat_eq};
+ghost use Rattle.std.specs.Prelude.{◌≡◌, ◌≢◌, ◌<◌, ◌^◌, List, Some, Err, IfOk, length, nat_eq};
 ghost use Rattle.std.specs.Prelude.{slice_get};
 ghost use Rattle.indexmap.specs.IndexMap.{get};
 ghost use Rattle.rx_term.specs.declared.Symbol.{Symbol};
@@ -29,6 +29,43 @@ impl Model for Links {
     ghost invariant = { λ l. NumbersOf l.symbols.items (λ s. get nat_eq l.numbers s) };
 }
 
+/// The bank's symbols for those of a specification, by the specification's numbers.
+fn linked_symbols<B: TermBank>(
+    alloc: Global,
+    checked: &Checked,
+    bank: &mut B,
+) -> Result<Vec<Symbol>, BankFault>
+    ensures linked { IfOk result (λ v. AreLinked checked.now.spec (B.store bank.new) v.items) }
+    ensures differ { IfOk result (λ v. AllDiffer v.items) }
+    ensures fits { IfOk result (λ v. length v.items < 2 ^ 32) }
+    ensures same { HasMoreSymbols (B.store bank.old) (B.store bank.new) }
+    ensures fault { Err Full ≢ result }
+{
+    let _kept = checked.syntax();
+    let mut symbols = Vec::new(alloc);
+    for number in 0..checked.symbols() {
+        let name = checked.symbol_name(number);
+        let quoted = !plain_name(name);
+        let symbol = bank.symbol(name, quoted, checked.arity(number))?;
+        symbols.push(symbol).map_err(|_| BankFault::Memory)?;
+    }
+    Ok(symbols)
+}
+
+/// The number of each of these symbols.
+fn numbers_of(alloc: Global, symbols: &[Symbol]) -> Result<IndexMap<u64, u32>, AllocError>
+    requires differ { AllDiffer symbols.now }
+    requires fits { length symbols.now < 2 ^ 32 }
+    ensures { IfOk result (λ numbers. NumbersOf symbols.now (λ s. get nat_eq numbers s)) }
+{
+    let mut numbers = IndexMap::with_capacity(alloc, symbols.len())?;
+    for (i, symbol) in symbols.iter().enumerate() {
+        let number = i as u32;
+        numbers.insert(symbol.0, number)?;
+    }
+    Ok(numbers)
+}
+
 impl Links {
     /// The symbols of a specification in a bank, which has them from now on; the only fault is
     /// want of memory, and nothing else of the bank changes then either.
@@ -41,19 +78,11 @@ impl Links {
         ensures same { HasMoreSymbols (B.store bank.old) (B.store bank.new) }
         ensures fault { Err Full ≢ result }
     {
-        let _kept = checked.syntax();
-        let mut symbols = Vec::new(alloc);
-        let mut numbers = IndexMap::new(alloc);
-        for number in 0..checked.symbols() {
-            let name = checked.symbol_name(number);
-            let quoted = !plain_name(name);
-            let symbol = bank.symbol(name, quoted, checked.arity(number))?;
-            symbols.push(symbol).map_err(|_| BankFault::Memory)?;
-            numbers
-                .insert(symbol.0, number)
-                .map_err(|_| BankFault::Memory)?;
+        let symbols = linked_symbols(alloc, checked, bank)?;
+        match numbers_of(alloc, &symbols) {
+            Ok(numbers) => Ok(Links { symbols, numbers }),
+            Err(_) => Err(BankFault::Memory),
         }
-        Ok(Links { symbols, numbers })
     }
 
     /// The bank's symbol of a number.

@@ -1,6 +1,6 @@
 //! The rules and terms of a specification: heads, sides and variables.
 
-ghost use Rattle.std.specs.Prelude.{◌≡◌, All, IfOk, false, map};
+ghost use Rattle.std.specs.Prelude.{◌≡◌, All, IfOk, OnOk, false, map};
 ghost use Rattle.rec_syntax.specs.Parts.{IsTerm, IsRule, IsCondition, term_of, condition_of};
 ghost use Rattle.rec_syntax.specs.Parts.{rule_of};
 ghost use Rattle.rec_sorts.specs.Numbering.{Pairwise};
@@ -11,13 +11,21 @@ use crate::letters::{Letter, LetterCondition, LetterRule, Meaning};
 use crate::places::{TermPlaces, earlier, place_where};
 use crate::scope::Scope;
 use crate::terms::{Placed, Room, bare_letters};
-use rec_syntax::{Condition, Rule, Term};
+use rec_syntax::{Condition, Rule, Syntax, Term};
 use std::alloc::{AllocError, Global};
 
-/// The letters of rules or terms, and the least places at which they break rules.
+/// The letters of a rule, a term or some of them, and the least places at which they break rules.
 #[derive(Drop)]
-pub struct Read<T> {
-    pub letters: T,
+struct Read<T> {
+    letters: T,
+    places: TermPlaces,
+}
+
+/// The letters of all rules and terms, and the least places at which they break rules.
+#[derive(Drop)]
+pub struct Sections {
+    pub rules: Vec<LetterRule>,
+    pub terms: Vec<Vec<Letter>>,
     pub places: TermPlaces,
 }
 
@@ -53,8 +61,11 @@ fn first_variable(letters: &[Placed]) -> Option<u32>
 impl Scope<'_> {
     ghost use Rattle.rec_sorts.specs.Reading.{ill_headed_at, unlike_at, condition_places};
     ghost use Rattle.rec_sorts.specs.Reading.{conditions_places, rule_places, rules_places};
-    ghost use Rattle.rec_sorts.specs.Reading.{open_terms_places, SpellsTerm, SpellsCondition};
-    ghost use Rattle.rec_sorts.specs.Reading.{SpellsRule};
+    ghost use Rattle.rec_sorts.specs.Reading.{open_term_places, open_terms_places, letters_of};
+    ghost use Rattle.rec_sorts.specs.Reading.{term_places, bound_places};
+    ghost use Rattle.rec_sorts.specs.Reading.{SpellsTerm, SpellsCondition, SpellsRule};
+    ghost use Rattle.rec_sorts.specs.Letters.{bare};
+    ghost use Rattle.rec_sorts.specs.Least.{joined};
 
     /// The place of a term's first word, where this is no operator.
     fn ill_headed(&self, letters: &[Placed]) -> Option<u32>
@@ -74,6 +85,34 @@ impl Scope<'_> {
         place_where(!alike, left.at)
     }
 
+    /// The terms of a condition of a rule that binds these variables, in the room, and where the
+    /// condition breaks a rule.
+    #[inline]
+    fn condition_terms(
+        &self,
+        condition: &Condition,
+        bound: &Bound,
+        room: &mut Room,
+    ) -> Result<TermPlaces, AllocError>
+        requires { IsCondition self.now.source.now condition.now }
+        ensures left { OnOk result (room.new.left.items
+            ≡ letters_of self.now (term_of self.now.source.now condition.now.left)) }
+        ensures right { OnOk result (room.new.right.items
+            ≡ letters_of self.now (term_of self.now.source.now condition.now.right)) }
+        ensures places { IfOk result (λ p. p ≡ condition_places self.now
+            (binds_variable bound.now.letters.now)
+            (condition_of self.now.source.now condition.now)) }
+    {
+        let left = self.term(&condition.left, &mut room.left, &mut room.heads)?;
+        let right = self.term(&condition.right, &mut room.right, &mut room.heads)?;
+        let own = TermPlaces {
+            unlike: self.unlike(&room.left, &room.right),
+            unbound: earlier(unbound(&room.left, bound), unbound(&room.right, bound)),
+            ..TermPlaces::NONE
+        };
+        Ok(left.join(right).join(own))
+    }
+
     /// A condition of a rule that binds these variables.
     fn condition(
         &self,
@@ -89,20 +128,16 @@ impl Scope<'_> {
             (binds_variable bound.now.letters.now)
             (condition_of self.now.source.now condition.now)) }
     {
-        let left = self.term(&condition.left, &mut room.left, &mut room.heads)?;
-        let right = self.term(&condition.right, &mut room.right, &mut room.heads)?;
-        let own = TermPlaces {
-            unlike: self.unlike(&room.left, &room.right),
-            unbound: earlier(unbound(&room.left, bound), unbound(&room.right, bound)),
-            ..TermPlaces::NONE
-        };
+        let places = self.condition_terms(condition, bound, room)?;
+        let left = bare_letters(alloc, &room.left)?;
+        let right = bare_letters(alloc, &room.right)?;
         Ok(Read {
             letters: LetterCondition {
-                left: bare_letters(alloc, &room.left)?,
-                right: bare_letters(alloc, &room.right)?,
+                left,
+                right,
                 equal: condition.equal,
             },
-            places: left.join(right).join(own),
+            places,
         })
     }
 
@@ -131,6 +166,66 @@ impl Scope<'_> {
         Ok(Read { letters, places })
     }
 
+    /// The sides of a rule, the left one in place of what `left` held and the right one in the room,
+    /// and where each breaks a rule by itself.
+    #[inline]
+    fn sides(
+        &self,
+        rule: &Rule,
+        left: &mut Vec<Placed>,
+        room: &mut Room,
+    ) -> Result<TermPlaces, AllocError>
+        requires { IsRule self.now.source.now rule.now }
+        ensures left { OnOk result (left.new.items
+            ≡ letters_of self.now (rule_of self.now.source.now rule.now).left) }
+        ensures right { OnOk result (room.new.right.items
+            ≡ letters_of self.now (rule_of self.now.source.now rule.now).right) }
+        ensures places { IfOk result (λ p. p ≡ joined
+            (term_places self.now (rule_of self.now.source.now rule.now).left)
+            (term_places self.now (rule_of self.now.source.now rule.now).right)) }
+    {
+        let of_left = self.term(&rule.left, left, &mut room.heads)?;
+        let of_right = self.term(&rule.right, &mut room.right, &mut room.heads)?;
+        Ok(of_left.join(of_right))
+    }
+
+    /// A rule whose sides were read, with the variables of the left one bound; its places are those
+    /// at which no side breaks a rule by itself.
+    #[inline]
+    fn bound_rule(
+        &self,
+        alloc: Global,
+        rule: &Rule,
+        bound: &Bound,
+        room: &mut Room,
+    ) -> Result<Read<LetterRule>, AllocError>
+        requires { IsRule self.now.source.now rule.now }
+        ensures left { IfOk result (λ r. r.letters.left.items ≡ bare bound.now.letters.now) }
+        ensures right { IfOk result (λ r. r.letters.right.items ≡ bare room.old.right.items) }
+        ensures conditions { IfOk result (λ r. Pairwise (SpellsCondition self.now)
+            r.letters.conditions.items (rule_of self.now.source.now rule.now).conditions) }
+        ensures places { IfOk result (λ r. r.places ≡ bound_places self.now bound.now.letters.now
+            room.old.right.items (rule_of self.now.source.now rule.now).conditions) }
+    {
+        let own = TermPlaces {
+            ill_headed: self.ill_headed(bound.letters),
+            unlike: self.unlike(bound.letters, &room.right),
+            unbound: unbound(&room.right, bound),
+            ..TermPlaces::NONE
+        };
+        let left = bare_letters(alloc, bound.letters)?;
+        let right = bare_letters(alloc, &room.right)?;
+        let conditions = self.conditions(alloc, &rule.conditions, bound, room)?;
+        Ok(Read {
+            letters: LetterRule {
+                left,
+                right,
+                conditions: conditions.letters,
+            },
+            places: own.join(conditions.places),
+        })
+    }
+
     /// A rule, whose left side's letters take the place of what `left` held.
     fn rule(
         &self,
@@ -145,30 +240,22 @@ impl Scope<'_> {
         ensures places { IfOk result
             (λ r. r.places ≡ rule_places self.now (rule_of self.now.source.now rule.now)) }
     {
-        let of_left = self.term(&rule.left, left, &mut room.heads)?;
-        let of_right = self.term(&rule.right, &mut room.right, &mut room.heads)?;
-        let left = left.as_slice();
+        let of_sides = self.sides(rule, left, room)?;
         let bound = Bound::by(alloc, left)?;
-        let own = TermPlaces {
-            ill_headed: self.ill_headed(left),
-            unlike: self.unlike(left, &room.right),
-            unbound: unbound(&room.right, &bound),
-            ..TermPlaces::NONE
-        };
-        let right = bare_letters(alloc, &room.right)?;
-        let conditions = self.conditions(alloc, &rule.conditions, &bound, room)?;
+        let read = self.bound_rule(alloc, rule, &bound, room)?;
         Ok(Read {
-            letters: LetterRule {
-                left: bare_letters(alloc, left)?,
-                right,
-                conditions: conditions.letters,
-            },
-            places: of_left.join(of_right).join(own).join(conditions.places),
+            letters: read.letters,
+            places: of_sides.join(read.places),
         })
     }
 
     /// The rules.
-    pub fn rules(&self, alloc: Global, rules: &[Rule]) -> Result<Read<Vec<LetterRule>>, AllocError>
+    fn rules(
+        &self,
+        alloc: Global,
+        rules: &[Rule],
+        room: &mut Room,
+    ) -> Result<Read<Vec<LetterRule>>, AllocError>
         requires { All (IsRule self.now.source.now) rules.now }
         ensures letters { IfOk result (λ r. Pairwise (SpellsRule self.now) r.letters.items
             (map (rule_of self.now.source.now) rules.now)) }
@@ -178,17 +265,47 @@ impl Scope<'_> {
         let mut letters = Vec::with_capacity(alloc, rules.len())?;
         let mut places = TermPlaces::NONE;
         let mut left = Vec::new(alloc);
-        let mut room = Room::new(alloc);
         for rule in rules {
-            let read = self.rule(alloc, rule, &mut left, &mut room)?;
+            let read = self.rule(alloc, rule, &mut left, room)?;
             letters.push(read.letters)?;
             places = places.join(read.places);
         }
         Ok(Read { letters, places })
     }
 
+    /// A term to evaluate.
+    #[inline]
+    fn open_term(
+        &self,
+        alloc: Global,
+        term: &Term,
+        room: &mut Room,
+    ) -> Result<Read<Vec<Letter>>, AllocError>
+        requires { IsTerm self.now.source.now term.now }
+        ensures letters { IfOk result
+            (λ r. SpellsTerm self.now r.letters.items (term_of self.now.source.now term.now)) }
+        ensures places { IfOk result
+            (λ r. r.places ≡ open_term_places self.now (term_of self.now.source.now term.now)) }
+    {
+        let read = self.term(term, &mut room.left, &mut room.heads)?;
+        let own = TermPlaces {
+            free: first_variable(&room.left),
+            ..TermPlaces::NONE
+        };
+        let letters = bare_letters(alloc, &room.left)?;
+        Ok(Read {
+            letters,
+            places: read.join(own),
+        })
+    }
+
     /// The terms to evaluate.
-    pub fn terms(&self, alloc: Global, terms: &[Term]) -> Result<Read<Vec<Vec<Letter>>>, AllocError>
+    fn terms(
+        &self,
+        alloc: Global,
+        terms: &[Term],
+        room: &mut Room,
+    ) -> Result<Read<Vec<Vec<Letter>>>, AllocError>
         requires { All (IsTerm self.now.source.now) terms.now }
         ensures letters { IfOk result (λ r. Pairwise (λ v t. SpellsTerm self.now v.items t)
             r.letters.items (map (term_of self.now.source.now) terms.now)) }
@@ -197,16 +314,32 @@ impl Scope<'_> {
     {
         let mut letters = Vec::with_capacity(alloc, terms.len())?;
         let mut places = TermPlaces::NONE;
-        let mut room = Room::new(alloc);
         for term in terms {
-            let read = self.term(term, &mut room.left, &mut room.heads)?;
-            let own = TermPlaces {
-                free: first_variable(&room.left),
-                ..TermPlaces::NONE
-            };
-            letters.push(bare_letters(alloc, &room.left)?)?;
-            places = places.join(read).join(own);
+            let read = self.open_term(alloc, term, room)?;
+            letters.push(read.letters)?;
+            places = places.join(read.places);
         }
         Ok(Read { letters, places })
+    }
+
+    /// The rules and the terms to evaluate of a specification that declares this.
+    pub fn sections(&self, alloc: Global, syntax: &Syntax) -> Result<Sections, AllocError>
+        requires { self.now.source.now ≡ syntax.now.source }
+        ensures rules { IfOk result
+            (λ r. Pairwise (SpellsRule self.now) r.rules.items syntax.now.spec.rules) }
+        ensures terms { IfOk result (λ r. Pairwise (λ v t. SpellsTerm self.now v.items t)
+            r.terms.items syntax.now.spec.terms) }
+        ensures places { IfOk result (λ r. r.places ≡ joined
+            (rules_places self.now syntax.now.spec.rules)
+            (open_terms_places self.now syntax.now.spec.terms)) }
+    {
+        let mut room = Room::new(alloc);
+        let rules = self.rules(alloc, syntax.rules(), &mut room)?;
+        let terms = self.terms(alloc, syntax.terms(), &mut room)?;
+        Ok(Sections {
+            rules: rules.letters,
+            terms: terms.letters,
+            places: rules.places.join(terms.places),
+        })
     }
 }

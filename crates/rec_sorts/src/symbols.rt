@@ -1,39 +1,56 @@
 //! The symbols and variables that a specification declares.
 
-ghost use Rattle.std.specs.Prelude.{◌≡◌, IfOk};
-ghost use Rattle.rec_sorts.specs.Lookup.{symbols};
+ghost use Rattle.std.specs.Prelude.{◌≡◌, ◌++◌, ◌≤◌, All, IfOk, OnOk, drop, length, take};
+ghost use Rattle.rec_syntax.specs.Parts.{Within, words_of};
+ghost use Rattle.rec_sorts.specs.Lookup.{symbols, names, variable_words};
 ghost use Rattle.rec_sorts.specs.SpecRules.{repeated_sorts, repeated_symbols, taken_variables};
-ghost use Rattle.rec_sorts.specs.SpecRules.{unknown_sorts};
 ghost use Rattle.rec_sorts.specs.Least.{least_place};
-ghost use Rattle.rec_sorts.specs.Names.{given_to, first_at};
-ghost use Rattle.rec_sorts.specs.Agreeing.{IsScope, IsDeclared};
+ghost use Rattle.rec_sorts.specs.Names.{given_to, first_at, numbers_after, least_repeated};
+ghost use Rattle.rec_sorts.specs.Agreeing.{IsDeclared, IsReadScope};
 
 use crate::declarations::{Declared, Sorts, number_words};
 use crate::names::Names;
 use crate::places::number;
 use crate::scope::Scope;
-use rec_syntax::Syntax;
+use rec_syntax::{Span, Syntax};
 use std::alloc::{AllocError, Global};
 
 /// The sorts of a specification, and the least place of one that is declared twice.
 #[derive(Drop)]
-pub struct ReadSorts<'a> {
-    pub sorts: Sorts<'a>,
-    pub repeated: Option<u32>,
+struct ReadSorts<'a> {
+    sorts: Sorts<'a>,
+    repeated: Option<u32>,
 }
 
-/// The symbols and variables of a specification, and the least places at which their declarations
-/// break a rule.
+/// The least place of a symbol that is declared twice, and that of a variable whose name has a
+/// number.
+#[derive(Clone, Copy)]
+struct Repeated {
+    symbol: Option<u32>,
+    variable: Option<u32>,
+}
+
+/// The numbers of symbols and variables, how many are symbols, and where they are declared twice.
+#[derive(Drop)]
+struct NumberedWords<'a> {
+    words: Names<'a>,
+    symbols: u32,
+    repeated: Repeated,
+}
+
+/// The symbols and variables of a specification, and the least places at which declarations break
+/// a rule.
 #[derive(Drop)]
 pub struct ReadScope<'a> {
     pub scope: Scope<'a>,
+    pub repeated_sort: Option<u32>,
     pub repeated_symbol: Option<u32>,
     pub taken_variable: Option<u32>,
     pub unknown_sort: Option<u32>,
 }
 
 /// The sorts of a specification.
-pub fn read_sorts(alloc: Global, syntax: &Syntax) -> Result<ReadSorts<'_>, AllocError>
+fn read_sorts(alloc: Global, syntax: &Syntax) -> Result<ReadSorts<'_>, AllocError>
     ensures source { IfOk result (λ r. r.sorts.source.now ≡ syntax.now.source) }
     ensures names { IfOk result (λ r. given_to r.sorts.names ≡ first_at syntax.now.spec.sorts) }
     ensures repeated { IfOk result
@@ -66,42 +83,90 @@ fn read_declared(
     Ok((declared, symbols))
 }
 
-/// The symbols and variables of a specification with these sorts.
-pub fn read_scope<'a>(
+/// Numbers the words, of which so many are symbols.
+fn number_parts<'a>(
+    names: &mut Names<'a>,
+    source: &'a [u8],
+    words: &[Span],
+    count: usize,
+) -> Result<Repeated, AllocError>
+    requires within { All (Within source.now) words.now }
+    requires count { count ≤ length words.now }
+    ensures numbers { OnOk result (given_to names.new ≡ numbers_after
+        (numbers_after (given_to names.old) 0 (words_of source.now (take count words.now)))
+        count (words_of source.now (drop count words.now))) }
+    ensures symbol { IfOk result (λ r. r.symbol
+        ≡ least_repeated (given_to names.old) 0 (words_of source.now (take count words.now))) }
+    ensures variable { IfOk result (λ r. r.variable ≡ least_repeated
+        (numbers_after (given_to names.old) 0 (words_of source.now (take count words.now)))
+        count (words_of source.now (drop count words.now))) }
+{
+    let (symbols, variables) = words.split_at(count);
+    let symbol = number_words(names, source, symbols, 0)?;
+    let variable = number_words(names, source, variables, count)?;
+    Ok(Repeated { symbol, variable })
+}
+
+/// The numbers of the words that a specification declares, of which so many are symbols.
+fn number_declared<'a>(
     alloc: Global,
     syntax: &'a Syntax,
-    sorts: &Sorts,
-) -> Result<ReadScope<'a>, AllocError>
-    requires source { sorts.now.source.now ≡ syntax.now.source }
-    requires names { given_to sorts.now.names ≡ first_at syntax.now.spec.sorts }
-    ensures source { IfOk result (λ r. r.scope.source.now ≡ syntax.now.source) }
-    ensures scope { IfOk result (λ r. IsScope syntax.now.spec r.scope) }
+    declared: &Declared,
+    count: usize,
+) -> Result<NumberedWords<'a>, AllocError>
+    requires { IsDeclared syntax.now.spec syntax.now.source declared.now count }
+    ensures words { IfOk result (λ r. given_to r.words ≡ first_at
+        (names (symbols syntax.now.spec) ++ variable_words syntax.now.spec.variables)) }
+    ensures symbols { IfOk result (λ r. r.symbols ≡ count) }
     ensures repeated { IfOk result
-        (λ r. r.repeated_symbol ≡ least_place (repeated_symbols syntax.now.spec)) }
+        (λ r. r.repeated.symbol ≡ least_place (repeated_symbols syntax.now.spec)) }
     ensures taken { IfOk result
-        (λ r. r.taken_variable ≡ least_place (taken_variables syntax.now.spec)) }
-    ensures unknown { IfOk result
-        (λ r. r.unknown_sort ≡ least_place (unknown_sorts syntax.now.spec)) }
+        (λ r. r.repeated.variable ≡ least_place (taken_variables syntax.now.spec)) }
 {
-    let source = syntax.source();
-    let (declared, symbols) = read_declared(alloc, syntax, sorts)?;
+    let symbols = number(count)?;
     let mut words = Names::with_capacity(alloc, declared.words.len())?;
-    let parts = declared.words.split_at(symbols);
-    let repeated_symbol = number_words(&mut words, source, parts.0, 0)?;
-    let taken_variable = number_words(&mut words, source, parts.1, symbols)?;
+    let repeated = number_parts(&mut words, syntax.source(), &declared.words, count)?;
+    Ok(NumberedWords {
+        words,
+        symbols,
+        repeated,
+    })
+}
+
+/// The symbols and variables of a specification with these sorts.
+fn read_words<'a>(
+    alloc: Global,
+    syntax: &'a Syntax,
+    sorts: &ReadSorts,
+) -> Result<ReadScope<'a>, AllocError>
+    requires source { sorts.now.sorts.source.now ≡ syntax.now.source }
+    requires names { given_to sorts.now.sorts.names ≡ first_at syntax.now.spec.sorts }
+    requires repeated { sorts.now.repeated ≡ least_place (repeated_sorts syntax.now.spec) }
+    ensures { IfOk result (IsReadScope syntax.now.spec syntax.now.source) }
+{
     let constructors = number(syntax.constructors().len())?;
-    let symbols = number(symbols)?;
+    let (declared, count) = read_declared(alloc, syntax, &sorts.sorts)?;
+    let numbered = number_declared(alloc, syntax, &declared, count)?;
     Ok(ReadScope {
         scope: Scope {
-            source,
-            words,
+            source: syntax.source(),
+            words: numbered.words,
             sorts: declared.sorts,
             arguments: declared.arguments,
             constructors,
-            symbols,
+            symbols: numbered.symbols,
         },
-        repeated_symbol,
-        taken_variable,
+        repeated_sort: sorts.repeated,
+        repeated_symbol: numbered.repeated.symbol,
+        taken_variable: numbered.repeated.variable,
         unknown_sort: declared.unknown,
     })
+}
+
+/// What a specification declares.
+pub fn read_scope(alloc: Global, syntax: &Syntax) -> Result<ReadScope<'_>, AllocError>
+    ensures { IfOk result (IsReadScope syntax.now.spec syntax.now.source) }
+{
+    let sorts = read_sorts(alloc, syntax)?;
+    read_words(alloc, syntax, &sorts)
 }

@@ -6,7 +6,7 @@ ghost use Rattle.rx_term.specs.Store.{tree_at};
 ghost use Rattle.rx_term.specs.Walks.{AllHeld, held_tree, held_trees};
 ghost use Rattle.rec_sorts.specs.TermRules.{arguments};
 ghost use Rattle.rec_sorts.specs.ListNodes.{AreNodes};
-ghost use Rattle.rec_sorts.specs.Walking.{unstacked};
+ghost use Rattle.rec_sorts.specs.Walking.{backwards, unstacked};
 
 use rx_term::{Kind, Term, TermBank};
 use std::alloc::{AllocError, Global};
@@ -36,6 +36,18 @@ pub fn push_items<B: TermBank>(
         rest = bank.tail(rest);
     }
     Ok(())
+}
+
+/// The items of a list, in their order; none, where the term is no list.
+pub fn list_items<B: TermBank>(alloc: Global, bank: &B, list: Term) -> Result<Vec<Term>, AllocError>
+    requires { IsSome (tree_at (B.store bank.now) list) }
+    ensures held { IfOk result (λ v. AllHeld (B.store bank.now) v.items) }
+    ensures trees { IfOk result (λ v. held_trees (B.store bank.now) v.items
+        ≡ to_list (items_of (held_tree (B.store bank.now) list))) }
+{
+    let mut items = Vec::new(alloc);
+    push_items(bank, list, &mut items)?;
+    Ok(items)
 }
 
 /// Pushes the arguments of a term, from left to right; nothing, where it is no application.
@@ -73,7 +85,7 @@ fn arguments<B: TermBank>(alloc: Global, bank: &B, terms: &[Term]) -> Result<Vec
 
 /// The nodes of the terms on a stack, from the last of the last one to the first of the first; a
 /// node stands before its arguments.
-pub fn nodes<B: TermBank>(
+fn nodes<B: TermBank>(
     alloc: Global,
     bank: &B,
     mut stack: Vec<Term>,
@@ -89,6 +101,18 @@ pub fn nodes<B: TermBank>(
         push_arguments(bank, node, &mut stack)?;
     }
     Ok(found)
+}
+
+/// The nodes of a term, from its last one to its first.
+pub fn term_nodes<B: TermBank>(alloc: Global, bank: &B, term: Term) -> Result<Vec<Term>, AllocError>
+    requires { IsSome (tree_at (B.store bank.now) term) }
+    ensures held { IfOk result (λ v. AllHeld (B.store bank.now) v.items) }
+    ensures trees { IfOk result (λ v. held_trees (B.store bank.now) v.items ≡ backwards
+        (held_tree (B.store bank.now) term)) }
+{
+    let mut stack = Vec::new(alloc);
+    stack.push(term)?;
+    nodes(alloc, bank, stack)
 }
 
 /// The nodes of some terms, and those below them.
@@ -113,7 +137,6 @@ pub fn list_nodes<B: TermBank>(alloc: Global, bank: &B, list: Term) -> Result<Li
     ensures { IfOk result
         (AreNodes (B.store bank.now) (to_list (items_of (held_tree (B.store bank.now) list)))) }
 {
-    let mut items = Vec::new(alloc);
-    push_items(bank, list, &mut items)?;
+    let items = list_items(alloc, bank, list)?;
     nodes_among(alloc, bank, items)
 }

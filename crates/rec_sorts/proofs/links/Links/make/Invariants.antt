@@ -1,7 +1,0 @@
-use Rattle.std.proofs.Common.{nat_eq}
-use Rattle.indexmap.specs.IndexMap.{get}
-use Rattle.rec_sorts.proofs.LinkLemmas.{LinkedSoFar}
-use Rattle.rec_sorts.proofs.links.Links.make.Given as goal
-
-abbrev pub invariant-loop-number : goal.invariant-loop-number
-invariant-loop-number g l = LinkedSoFar l.checked.spec (g.B.TermBank.store l.fn.bank) (g.B.TermBank.store l.bank) l.symbols.items (λ s. get nat_eq l.numbers s) l.number
