@@ -104,8 +104,8 @@ impl<B: TermBank + Drop> Engine<B> {
         options: Options,
         parts: Parts,
     ) -> Engine<B>
-        requires code { IsCode checked.spec parts.code }
-        requires linked { AreLinked checked.spec (B.store bank) parts.code.links }
+        requires code { IsCode checked.spec parts.code.value }
+        requires linked { AreLinked checked.spec (B.store bank) parts.code.value.links }
         requires terms { parts.terms ≡ length checked.spec.terms }
         requires constants { KnowsNone parts.state.pace.constants }
         requires memo { parts.state.pace.memo.map ≡ map.empty }
@@ -117,7 +117,7 @@ impl<B: TermBank + Drop> Engine<B> {
         let machine = Machine {
             checked,
             bank,
-            code: parts.code,
+            code: Box::into_inner(parts.code),
             state: parts.state,
             work: Vec::new(alloc),
         };

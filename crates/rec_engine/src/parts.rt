@@ -18,12 +18,13 @@ use rec_sorts::{Checked, Links};
 use rx_term::TermBank;
 use std::alloc::{AllocError, Global};
 
-/// The parts of an engine that are made before it is.
+/// The parts of an engine that are made before it is. The code stands in a box, so that it is not
+/// copied from hand to hand.
 #[derive(Drop)]
 pub(crate) struct Parts {
     /// How many terms to evaluate there are.
     pub(crate) terms: u32,
-    pub(crate) code: Code,
+    pub(crate) code: Box<Code>,
     pub(crate) state: State,
 }
 
@@ -32,14 +33,18 @@ fn linked_code<B: TermBank>(
     alloc: Global,
     checked: &Checked,
     bank: &mut B,
-) -> Result<Code, AllocError>
-    ensures code { IfOk result (IsCode checked.now.spec) }
-    ensures linked { IfOk result (λ c. AreLinked checked.now.spec (B.store bank.new) c.links) }
+) -> Result<Box<Code>, AllocError>
+    ensures code { IfOk result (λ c. IsCode checked.now.spec c.value) }
+    ensures linked { IfOk result
+        (λ c. AreLinked checked.now.spec (B.store bank.new) c.value.links) }
     ensures same { HasMoreSymbols (B.store bank.old) (B.store bank.new) }
 {
-    match Links::make(alloc, checked, bank) {
-        Ok(links) => Code::new(alloc, checked, links),
-        Err(_) => Err(AllocError),
+    let Ok(links) = Links::make(alloc, checked, bank) else {
+        return Err(AllocError);
+    };
+    match Code::new(alloc, checked, links) {
+        Ok(code) => Ok(Box::new(alloc, code)?),
+        Err(fault) => Err(fault),
     }
 }
 
@@ -81,9 +86,9 @@ impl Parts {
         options: Options,
     ) -> Result<Parts, AllocError>
         requires { AreInRange options }
-        ensures code { IfOk result (λ p. IsCode checked.now.spec p.code) }
+        ensures code { IfOk result (λ p. IsCode checked.now.spec p.code.value) }
         ensures linked { IfOk result
-            (λ p. AreLinked checked.now.spec (B.store bank.new) p.code.links) }
+            (λ p. AreLinked checked.now.spec (B.store bank.new) p.code.value.links) }
         ensures terms { IfOk result (λ p. p.terms ≡ length checked.now.spec.terms) }
         ensures constants { IfOk result (λ p. KnowsNone p.state.pace.constants) }
         ensures memo { IfOk result (λ p. p.state.pace.memo.map ≡ map.empty) }
