@@ -27,6 +27,7 @@ pub mod EvaluationLemmas
 pub mod WriteLemmas
 pub mod KnownLemmas
 pub mod RuleLemmas
+pub mod CompiledLemmas
 pub mod DirectLemmas
 pub mod MarkLemmas
 pub mod BuildTurnLemmas

@@ -14,7 +14,7 @@ use rx_term::{BankFault, Symbol, Term, TermBank};
 use thiserror::Error;
 
 /// A node that is to be made.
-#[derive(Clone, Copy, PartialEq, Eq)]
+#[derive(Clone, Copy)]
 pub(crate) enum Node {
     Nil,
     Cons(Term, Term),

@@ -4,20 +4,21 @@ ghost use Rattle.std.specs.Prelude.{◌≡◌, ◌≢◌, ◌<◌, [], Some, Err
 ghost use Rattle.rx_term.specs.Tree.{Tree};
 ghost use Rattle.rx_term.specs.Store.{tree_at};
 ghost use Rattle.rx_term.specs.Steps.{Keeps};
-ghost use Rattle.rec_sorts.specs.Linked.{HasMoreSymbols};
+ghost use Rattle.std.specs.FinMap as map;
+ghost use Rattle.rec_sorts.specs.Linked.{HasMoreSymbols, AreLinked};
+ghost use Rattle.rec_engine.specs.Machine.{IsCode};
+ghost use Rattle.rec_engine.specs.Constants.{KnowsNone};
 ghost use Rattle.rec_engine.specs.declared.cells.EngineFault.TheVariants.{Room};
 ghost use Rattle.rec_engine.specs.Cells.{RoomOnly};
 ghost use Rattle.rec_engine.specs.Engine.{AreInRange, SameEngine, IsGiven, eval_tree, IsOutcome};
 ghost use Rattle.rec_engine.specs.Engine.{IsNormalised, IsKept, RoomOnlyFor};
 
-use crate::cells::{EngineFault, Pace, least_pace, next_due};
-use crate::code::{Code, Op};
-use crate::constants::Constants;
-use crate::hints::Hints;
-use crate::machine::{Machine, State};
+use crate::cells::EngineFault;
+use crate::code::Op;
+use crate::machine::Machine;
+use crate::parts::Parts;
 use crate::terms::make_term;
-use rec_memo::Memo;
-use rec_sorts::{Checked, Links};
+use rec_sorts::Checked;
 use rx_term::{Term, TermBank};
 use std::alloc::Global;
 use std::marker::Model;
@@ -89,48 +90,43 @@ impl<B: TermBank + Drop> Engine<B> {
         ensures work { IfOk result (λ e. e.work ≡ []) }
         ensures fault { Err Room ≢ result }
     {
-        let Ok(terms) = u32::try_from(checked.terms().len()) else {
-            return Err(EngineFault::Memory);
-        };
-        let links = match Links::make(alloc, &checked, &mut bank) {
-            Ok(links) => links,
-            Err(_) => return Err(EngineFault::Memory),
-        };
-        let code = match Code::new(alloc, &checked, links) {
-            Ok(code) => code,
-            Err(_) => return Err(EngineFault::Memory),
-        };
-        let Ok(constants) = Constants::new(alloc, code.ops.len()) else {
-            return Err(EngineFault::Memory);
-        };
-        let Ok(memo) = Memo::new(alloc, options.memo) else {
-            return Err(EngineFault::Memory);
-        };
-        let Ok(hints) = Hints::new(alloc, checked.symbols() as usize, options.memo) else {
-            return Err(EngineFault::Memory);
-        };
-        let every = options.reclaim_every;
-        let least = least_pace(options.memo);
-        let pace = Pace {
-            every,
-            least,
-            due: next_due(bank.cells(), every, least),
-            constants,
-            memo,
-        };
+        match Parts::find(alloc, &checked, &mut bank, options) {
+            Ok(parts) => Ok(Engine::assembled(alloc, checked, bank, options, parts)),
+            Err(_) => Err(EngineFault::Memory),
+        }
+    }
+
+    /// The engine of these parts.
+    fn assembled(
+        alloc: Global,
+        checked: Checked,
+        bank: B,
+        options: Options,
+        parts: Parts,
+    ) -> Engine<B>
+        requires code { IsCode checked.spec parts.code.value }
+        requires linked { AreLinked checked.spec (B.store bank) parts.code.value.links }
+        requires terms { parts.terms ≡ length checked.spec.terms }
+        requires constants { KnowsNone parts.state.pace.constants }
+        requires memo { parts.state.pace.memo.map ≡ map.empty }
+        ensures spec { result.spec ≡ checked.spec }
+        ensures options { result.options ≡ options }
+        ensures store { B.store result.bank ≡ B.store bank }
+        ensures work { result.work ≡ [] }
+    {
         let machine = Machine {
             checked,
             bank,
-            code,
-            state: State::new(alloc, pace, hints),
+            code: Box::into_inner(parts.code),
+            state: parts.state,
             work: Vec::new(alloc),
         };
-        Ok(Engine {
+        Engine {
             machine,
             options,
-            terms,
+            terms: parts.terms,
             found: Vec::new(alloc),
-        })
+        }
     }
 }
 

@@ -10,7 +10,7 @@ ghost use Rattle.rec_engine.specs.Answered.{IsTermCode, IsAnswer, StandsAbove, H
 ghost use Rattle.rec_engine.specs.Engine.{IsGiven, IsOutcome, IsKept};
 ghost use Rattle.rec_engine.specs.Turn.{IsReady, StaysFor, RoomOnlyIn};
 
-use crate::building::push;
+use crate::building::{push, push_nil};
 use crate::cells::{EngineFault, Node, make};
 use crate::code::Op;
 use crate::engine::Outcome;
@@ -42,8 +42,7 @@ impl<B: TermBank> Machine<B> {
     {
         self.work.clear();
         push(&mut self.work, t)?;
-        let empty = make(&mut self.bank, &self.work, &mut self.state.pace, Node::Nil)?;
-        push(&mut self.work, empty)?;
+        let empty = push_nil(&mut self.bank, &mut self.work, &mut self.state.pace)?;
         self.state.frames.clear();
         self.state.pc = pc;
         self.state.base = 2;

@@ -11,6 +11,7 @@ mod evaluation;
 mod given;
 mod hints;
 mod machine;
+mod parts;
 mod remembering;
 mod runs;
 mod terms;

@@ -1,0 +1,108 @@
+//! What an engine has besides its specification and its bank.
+
+ghost use Rattle.std.specs.Prelude.{◌≡◌, ◌≤◌, IfOk, length};
+ghost use Rattle.std.specs.FinMap as map;
+ghost use Rattle.rec_sorts.specs.Linked.{HasMoreSymbols, AreLinked};
+ghost use Rattle.rec_engine.specs.Constants.{KnowsNone};
+ghost use Rattle.rec_engine.specs.Engine.{AreInRange};
+ghost use Rattle.rec_engine.specs.Machine.{IsCode};
+
+use crate::cells::{Pace, least_pace, next_due};
+use crate::code::Code;
+use crate::constants::Constants;
+use crate::engine::Options;
+use crate::hints::Hints;
+use crate::machine::State;
+use rec_memo::Memo;
+use rec_sorts::{Checked, Links};
+use rx_term::TermBank;
+use std::alloc::{AllocError, Global};
+
+/// The parts of an engine that are made before it is. The code stands in a box, so that it is not
+/// copied from hand to hand.
+#[derive(Drop)]
+pub(crate) struct Parts {
+    /// How many terms to evaluate there are.
+    pub(crate) terms: u32,
+    pub(crate) code: Box<Code>,
+    pub(crate) state: State,
+}
+
+/// The code of a specification, whose symbols a bank has from now on.
+fn linked_code<B: TermBank>(
+    alloc: Global,
+    checked: &Checked,
+    bank: &mut B,
+) -> Result<Box<Code>, AllocError>
+    ensures code { IfOk result (λ c. IsCode checked.now.spec c.value) }
+    ensures linked { IfOk result
+        (λ c. AreLinked checked.now.spec (B.store bank.new) c.value.links) }
+    ensures same { HasMoreSymbols (B.store bank.old) (B.store bank.new) }
+{
+    let Ok(links) = Links::make(alloc, checked, bank) else {
+        return Err(AllocError);
+    };
+    match Code::new(alloc, checked, links) {
+        Ok(code) => Ok(Box::new(alloc, code)?),
+        Err(fault) => Err(fault),
+    }
+}
+
+/// The state before anything is evaluated by a specification's code over a bank: nothing is
+/// remembered.
+fn first_state<B: TermBank>(
+    alloc: Global,
+    checked: &Checked,
+    bank: &B,
+    code: &Code,
+    options: Options,
+) -> Result<State, AllocError>
+    requires { AreInRange options }
+    ensures constants { IfOk result (λ s. KnowsNone s.pace.constants) }
+    ensures memo { IfOk result (λ s. s.pace.memo.map ≡ map.empty) }
+{
+    let constants = Constants::new(alloc, code.ops.len())?;
+    let memo = Memo::new(alloc, options.memo)?;
+    let hints = Hints::new(alloc, checked.symbols() as usize, options.memo)?;
+    let every = options.reclaim_every;
+    let least = least_pace(options.memo);
+    let pace = Pace {
+        every,
+        least,
+        due: next_due(bank.cells(), every, least),
+        constants,
+        memo,
+    };
+    Ok(State::new(alloc, pace, hints))
+}
+
+impl Parts {
+    /// The parts of an engine for a specification over a bank, which may get symbols and nothing
+    /// else; the error is want of memory.
+    pub(crate) fn find<B: TermBank>(
+        alloc: Global,
+        checked: &Checked,
+        bank: &mut B,
+        options: Options,
+    ) -> Result<Parts, AllocError>
+        requires { AreInRange options }
+        ensures code { IfOk result (λ p. IsCode checked.now.spec p.code.value) }
+        ensures linked { IfOk result
+            (λ p. AreLinked checked.now.spec (B.store bank.new) p.code.value.links) }
+        ensures terms { IfOk result (λ p. p.terms ≡ length checked.now.spec.terms) }
+        ensures constants { IfOk result (λ p. KnowsNone p.state.pace.constants) }
+        ensures memo { IfOk result (λ p. p.state.pace.memo.map ≡ map.empty) }
+        ensures same { HasMoreSymbols (B.store bank.old) (B.store bank.new) }
+    {
+        let Ok(terms) = u32::try_from(checked.terms().len()) else {
+            return Err(AllocError);
+        };
+        let Ok(code) = linked_code(alloc, checked, bank) else {
+            return Err(AllocError);
+        };
+        match first_state(alloc, checked, bank, &code, options) {
+            Ok(state) => Ok(Parts { terms, code, state }),
+            Err(_) => Err(AllocError),
+        }
+    }
+}
