@@ -1,4 +1,4 @@
-use Rattle.std.proofs.Common.{◌≡◌, ◌↔◌, ◌∙◌, ℕ, true, List, Contains, IfOk, Result, Ok, Err, Vec, Global, subst, ap}
+use Rattle.std.proofs.Common.{◌≡◌, ◌↔◌, ℕ, true, List, Contains, IfOk, Result, Ok, Err, Vec, Global, subst, ap}
 use Rattle.rec_syntax.specs.Tokens.{bare}
 use Rattle.rec_syntax.specs.Machine.{step}
 use Rattle.rec_syntax.specs.Parts.{spec_of}
@@ -8,7 +8,7 @@ use Rattle.rec_syntax.specs.declared.token_kind.TokenKind.{TokenKind}
 use Rattle.rec_syntax.specs.declared.reader.Due.{Due}
 use Rattle.rec_syntax.specs.declared.reader.Reader.{Reader}
 use Rattle.rec_syntax.proofs.ExpectingLemmas.{may_stand}
-use Rattle.rec_syntax.proofs.reader.expected.expected_at_fault.Goals as goal
+use Rattle.rec_syntax.proofs.reader.Reader.expected_in_text.Goals as goal
 
 -- just the kinds that the state takes
 abbrev AreTaken : List ℕ → Due → Reader → List TokenKind → Type 0
@@ -22,12 +22,10 @@ exact bytes d r (Ok ks) h t = λ at fault k.
 
 pub returns : goal.returns
 returns c =
-    let bytes = c.args.bytes.now in
+    let bytes = c.args.self.now.source.items in
     let d = c.in_ok-due.due in
-    let r = c.in_ok-due.reader in
-    let text : c.in_ok-source.source.items ≡ bytes = c.in_ok-source.ensures.items in
-    let here : IsAtFault bytes d r = subst (λ (bs : List ℕ). IsAtFault bs d r) text c.in_ok-due.ensures.reached in
-    let same : r.source.items ≡ bytes = ap (λ (v : Vec ℕ Global). v.items) c.in_ok-due.ensures.same ∙ text in
+    let r = c.read_to_fault.new.self in
+    let same : r.source.items ≡ bytes = ap (λ (v : Vec ℕ Global). v.items) c.read_to_fault.ensures.same in
     let taken : IfOk c.expected.result (λ ks. AreTaken bytes d r ks.items) =
     subst (λ (bs : List ℕ). IfOk c.expected.result (λ ks. (k : TokenKind) → Contains ks.items k ↔ (is_taken (step (due_of bs d r) (spec_of bytes r.sections)) k ≡ true))) same (c.expected.ensures (spec_of bytes r.sections)) in
-    exact bytes d r c.expected.result here taken
+    exact bytes d r c.expected.result c.in_ok-due.ensures.reached taken
