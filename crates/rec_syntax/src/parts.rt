@@ -11,14 +11,14 @@ use std::default::MadeWith;
 pub type Words = SmallVec<Span, 4>;
 
 /// A word of a term, with the number of its arguments.
-#[derive(Clone, Copy, Debug, Drop)]
+#[derive(Clone, Copy, Drop)]
 pub struct Node {
     pub word: Span,
     pub count: usize,
 }
 
 /// A term: its nodes, each behind those of its arguments.
-#[derive(Debug, Drop)]
+#[derive(Drop)]
 pub struct Term {
     pub nodes: Vec<Node>,
 }
@@ -33,7 +33,7 @@ impl Term {
 }
 
 /// Two terms, whose values are to be equal, or to differ.
-#[derive(Debug, Drop)]
+#[derive(Drop)]
 pub struct Condition {
     pub left: Term,
     pub right: Term,
@@ -58,7 +58,7 @@ impl MadeWith<Global> for Condition {
 }
 
 /// A rewrite rule.
-#[derive(Debug, Drop)]
+#[derive(Drop)]
 pub struct Rule {
     pub left: Term,
     pub right: Term,
@@ -67,7 +67,7 @@ pub struct Rule {
 }
 
 /// A symbol with the sorts of its arguments and its own.
-#[derive(Debug, Drop)]
+#[derive(Drop)]
 pub struct Declaration {
     pub name: Span,
     pub arguments: Words,
@@ -75,7 +75,7 @@ pub struct Declaration {
 }
 
 /// Variables that are declared together, with their sort.
-#[derive(Debug, Drop)]
+#[derive(Drop)]
 pub struct Group {
     pub first: Span,
     pub others: Words,
@@ -92,4 +92,27 @@ pub struct Sections {
     pub groups: Vec<Group>,
     pub rules: Vec<Rule>,
     pub terms: Vec<Term>,
+}
+
+impl Sections {
+    /// No name, and sections with nothing in them.
+    pub(crate) fn new(alloc: Global) -> Self
+        ensures name { result.name ≡ record { from = 0; to = 0 } }
+        ensures sorts { result.sorts.items ≡ [] }
+        ensures constructors { result.constructors.items ≡ [] }
+        ensures operators { result.operators.items ≡ [] }
+        ensures groups { result.groups.items ≡ [] }
+        ensures rules { result.rules.items ≡ [] }
+        ensures terms { result.terms.items ≡ [] }
+    {
+        Sections {
+            name: Span { from: 0, to: 0 },
+            sorts: Vec::new(alloc),
+            constructors: Vec::new(alloc),
+            operators: Vec::new(alloc),
+            groups: Vec::new(alloc),
+            rules: Vec::new(alloc),
+            terms: Vec::new(alloc),
+        }
+    }
 }

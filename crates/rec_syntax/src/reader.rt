@@ -6,6 +6,7 @@ ghost use Rattle.rec_syntax.specs.Answer.{IsPlaced};
 ghost use Rattle.rec_syntax.specs.Length.{longest};
 ghost use Rattle.rec_syntax.specs.Lexemes.{IsToken};
 ghost use Rattle.rec_syntax.specs.Machine.{start};
+ghost use Rattle.rec_syntax.specs.Parts.{AreSections, spec_of};
 ghost use Rattle.rec_syntax.specs.Reader.{config_of, IsState, IsAt, Steps};
 
 mod expected;
@@ -19,6 +20,7 @@ use crate::spec::{LONGEST, Syntax};
 pub use expected::expected_at_fault;
 use smallvec::SmallVec;
 use std::alloc::{AllocError, AllocFailed, Global};
+use std::mem;
 
 /// The symbols that a section declares.
 #[derive(Clone, Copy, Drop)]
@@ -114,15 +116,7 @@ impl Reader {
         Reader {
             alloc,
             source,
-            sections: Sections {
-                name: Span { from: 0, to: 0 },
-                sorts: Vec::new(alloc),
-                constructors: Vec::new(alloc),
-                operators: Vec::new(alloc),
-                groups: Vec::new(alloc),
-                rules: Vec::new(alloc),
-                terms: Vec::new(alloc),
-            },
+            sections: Sections::new(alloc),
             words: SmallVec::new(alloc),
             role: Role::Left,
             calls: Vec::new(alloc),
@@ -160,6 +154,48 @@ impl Reader {
             Due::Done => Err(Stop::Refused),
         }
     }
+
+    /// The specification whose text and sections these are, which are taken away.
+    fn take_syntax(&mut self) -> Syntax
+        requires short { length self.old.source.items ≤ longest }
+        requires sections { AreSections self.old.source.items self.old.sections }
+        ensures source { result.source ≡ self.old.source.items }
+        ensures spec { result.spec ≡ spec_of self.old.source.items self.old.sections }
+    {
+        let source = mem::replace(&mut self.source, Vec::new(self.alloc));
+        let sections = mem::replace(&mut self.sections, Sections::new(self.alloc));
+        Syntax::new(source, sections)
+    }
+
+    /// The specification that the whole text spells, from before its first token on.
+    fn read_text(&mut self) -> Result<Syntax, SyntaxFault>
+        requires short { length self.old.source.items ≤ longest }
+        requires start { config_of self.old.source.items Due.Start self.old ≡ start }
+        requires state { IsAt Due.Start self.old }
+        ensures source { IfOk result (λ s. s.source ≡ self.old.source.items) }
+        ensures spelled { IfOk result (λ s. SpecText self.old.source.items s.spec) }
+        ensures long { ¬ IsErrOf result SyntaxFault.Long }
+        ensures place { IfErr result (IsPlaced self.old.source.items) }
+    {
+        let mut due = Due::Start;
+        let mut from = 0;
+        loop {
+            let lexeme = next(&self.source, from);
+            due = match self.step(due, lexeme.kind) {
+                Ok(due) => due,
+                Err(Stop::Memory) => return Err(SyntaxFault::Memory),
+                Err(Stop::Refused) => {
+                    return Err(SyntaxFault::Grammar {
+                        at: lexeme.at as u32,
+                    });
+                }
+            };
+            if let LexemeKind::End = lexeme.kind {
+                return Ok(self.take_syntax());
+            }
+            from = lexeme.to;
+        }
+    }
 }
 
 /// The specification that the text spells.
@@ -170,25 +206,7 @@ fn read(alloc: Global, source: Vec<u8>) -> Result<Syntax, SyntaxFault>
     ensures long { ¬ IsErrOf result SyntaxFault.Long }
     ensures place { IfErr result (IsPlaced source.items) }
 {
-    let mut reader = Reader::new(alloc, source);
-    let mut due = Due::Start;
-    let mut from = 0;
-    loop {
-        let lexeme = next(&reader.source, from);
-        due = match reader.step(due, lexeme.kind) {
-            Ok(due) => due,
-            Err(Stop::Memory) => return Err(SyntaxFault::Memory),
-            Err(Stop::Refused) => {
-                return Err(SyntaxFault::Grammar {
-                    at: lexeme.at as u32,
-                });
-            }
-        };
-        if let LexemeKind::End = lexeme.kind {
-            return Ok(Syntax::new(reader.source, reader.sections));
-        }
-        from = lexeme.to;
-    }
+    Reader::new(alloc, source).read_text()
 }
 
 /// The specification that a text spells, which keeps the text: no byte of it is copied.

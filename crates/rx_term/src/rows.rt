@@ -2,9 +2,12 @@
 #![tactic(auto, using(crate::proofs::StoreLemmas::bank_steps))]
 
 ghost use Rattle.std.specs.Prelude.{◌≡◌, ℕ, ◌+◌, ◌≤◌, ◌<◌, false, IsTrue, IsSome, IfOk, Some, None};
-ghost use Rattle.std.specs.Prelude.{codes};
-ghost use Rattle.rx_term.specs.Tree.{Appl, none, more};
+ghost use Rattle.std.specs.Prelude.{codes, pos};
+ghost use Rattle.rx_term.specs.Tree.{Tree, Appl, none, more};
 ghost use Rattle.rx_term.specs.Store.{tree_at, signature_of, cells};
+ghost use Rattle.rx_term.specs.Store.{part_at, head_of, tail_of, inner_of, held_open, noted};
+ghost use Rattle.rx_term.specs.Kinds.{HasKind, HasAnns};
+ghost use Rattle.rx_term.specs.Steps.{Grows};
 ghost use Rattle.rx_term.specs.Rows.{HasTree, noted_seven};
 
 use crate::build::constant;
@@ -20,12 +23,25 @@ pub fn pair<B: TermBank>(bank: &mut B) -> Result<(Term, bool), BankFault>
 {
     let first = constant(bank, b"a")?;
     let second = constant(bank, b"a")?;
+    let r = apply_f(bank, first, second)?;
+    Ok((r, first == second))
+}
+
+/// `f` of two references.
+fn apply_f<B: TermBank>(bank: &mut B, first: Term, second: Term) -> Result<Term, BankFault>
+    requires first { IsSome (tree_at (B.store bank.old) first) }
+    requires second { IsSome (tree_at (B.store bank.old) second) }
+    ensures roots { (B.store bank.new).roots ≡ (B.store bank.old).roots }
+    ensures limit { (B.store bank.new).cap ≡ (B.store bank.old).cap }
+    ensures made { IfOk result (λ r. (t u : Tree) → tree_at (B.store bank.old) first ≡ Some t
+        → tree_at (B.store bank.old) second ≡ Some u → tree_at (B.store bank.new) r ≡
+        Some (Appl (codes "f") false (more t (more u none)) none)) }
+{
     let nil = bank.nil()?;
     let short = bank.cons(second, nil)?;
     let long = bank.cons(first, short)?;
     let f = bank.symbol(b"f", false, 2)?;
-    let r = bank.appl(f, long)?;
-    Ok((r, first == second))
+    bank.appl(f, long)
 }
 
 /// Whether the rows hold of two empty banks: of cap 5 and of cap 10. Where they do, the first one
@@ -48,20 +64,29 @@ fn fills<B: TermBank>(bank: &mut B) -> Result<Option<Term>, BankFault>
     ensures limit { IfOk result (λ r. IsSome r → (B.store bank.new).cap ≡ 5) }
     ensures roots { (B.store bank.new).roots ≡ (B.store bank.old).roots }
 {
-    let refused = bank.reserve(6) == Err(BankFault::Full);
-    bank.reserve(5)?;
-    let roomy = bank.spare() == 5;
+    let roomy = has_room_for_five(bank)?;
     let a = make_five(bank)?;
     let whole = bank.cells() == 5;
     let Err(BankFault::Full) = bank.int(7) else {
         return Ok(None);
     };
     let again = constant(bank, b"a")?;
-    if refused && roomy && whole && again == a {
+    if roomy && whole && again == a {
         Ok(Some(again))
     } else {
         Ok(None)
     }
+}
+
+/// Whether there is room for five trees, and none for a sixth one.
+fn has_room_for_five<B: TermBank>(bank: &mut B) -> Result<bool, BankFault>
+    ensures roots { (B.store bank.new).roots ≡ (B.store bank.old).roots }
+    ensures limit { (B.store bank.new).cap ≡ (B.store bank.old).cap }
+    ensures room { IfOk result (λ b. IsTrue b → (B.store bank.new).spare ≡ 5) }
+{
+    let refused = bank.reserve(6) == Err(BankFault::Full);
+    bank.reserve(5)?;
+    Ok(refused && bank.spare() == 5)
 }
 
 /// Makes `f(a,a)` and what it is made of; the reference of `a`.
@@ -69,12 +94,8 @@ fn make_five<B: TermBank>(bank: &mut B) -> Result<Term, BankFault>
     ensures roots { (B.store bank.new).roots ≡ (B.store bank.old).roots }
     ensures limit { (B.store bank.new).cap ≡ (B.store bank.old).cap }
 {
-    let nil = bank.nil()?;
     let a = constant(bank, b"a")?;
-    let one = bank.cons(a, nil)?;
-    let two = bank.cons(a, one)?;
-    let f = bank.symbol(b"f", false, 2)?;
-    bank.appl(f, two)?;
+    apply_f(bank, a, a)?;
     Ok(a)
 }
 
@@ -109,13 +130,51 @@ fn notes<B: TermBank>(bank: &mut B) -> Result<bool, BankFault>
     ensures { IfOk result (λ b. IsTrue b → HasTree (B.store bank.new) noted_seven) }
 {
     let seven = bank.int(7)?;
-    let hole = bank.hole(seven)?;
     let nil = bank.nil()?;
     let list = bank.cons(seven, nil)?;
-    let noted = bank.annotated(hole, list)?;
-    let named = bank.inner(noted) == seven && bank.anns(noted) == Some(list);
-    let listed = bank.head(list) == seven && bank.tail(list) == nil;
-    Ok(named && listed && bank.kind(noted) == Kind::Hole && bank.kind(seven) == Kind::Int(7))
+    let noted = note_hole(bank, seven, list)?;
+    Ok(is_list_of_seven(bank, list, seven, nil) && is_noted_hole(bank, noted, seven, list))
+}
+
+/// Whether the list has 7 as its first item and the other list behind it.
+fn is_list_of_seven<B: TermBank>(bank: &B, list: Term, seven: Term, rest: Term) -> bool
+    requires seven { IsSome (tree_at (B.store bank.now) seven) }
+    requires head { IsSome (part_at head_of (B.store bank.now) list) }
+    requires tail { IsSome (part_at tail_of (B.store bank.now) list) }
+    ensures kind { IsTrue result → HasKind (B.store bank.now) seven (Kind.Int (pos 7)) }
+    ensures head { IsTrue result → tree_at (B.store bank.now) seven ≡
+        part_at head_of (B.store bank.now) list }
+    ensures tail { IsTrue result → tree_at (B.store bank.now) rest ≡
+        part_at tail_of (B.store bank.now) list }
+{
+    let holds = bank.head(list) == seven && bank.tail(list) == rest;
+    holds && bank.kind(seven) == Kind::Int(7)
+}
+
+/// A placeholder with annotations.
+fn note_hole<B: TermBank>(bank: &mut B, inner: Term, anns: Term) -> Result<Term, BankFault>
+    requires inner { IsSome (tree_at (B.store bank.old) inner) }
+    requires anns { let w = B.store bank.old in
+        IsSome (noted (held_open (tree_at w inner)) (tree_at w anns)) }
+    ensures grows { Grows (B.store bank.old) (B.store bank.new) }
+    ensures made { let w = B.store bank.old in IfOk result (λ r. tree_at (B.store bank.new) r ≡
+        noted (held_open (tree_at w inner)) (tree_at w anns)) }
+{
+    let hole = bank.hole(inner)?;
+    bank.annotated(hole, anns)
+}
+
+/// Whether the tree is a placeholder of one reference with annotations at the other.
+fn is_noted_hole<B: TermBank>(bank: &B, tree: Term, inner: Term, anns: Term) -> bool
+    requires tree { IsSome (tree_at (B.store bank.now) tree) }
+    requires hole { IsSome (part_at inner_of (B.store bank.now) tree) }
+    ensures kind { IsTrue result → HasKind (B.store bank.now) tree Kind.Hole }
+    ensures inner { IsTrue result → tree_at (B.store bank.now) inner ≡
+        part_at inner_of (B.store bank.now) tree }
+    ensures anns { IsTrue result → HasAnns (B.store bank.now) tree (Some anns) }
+{
+    let holds = bank.inner(tree) == inner && bank.anns(tree) == Some(anns);
+    holds && bank.kind(tree) == Kind::Hole
 }
 
 /// Of a bank with `a` and what it is made of: what stays while `a` is rooted as often as it can be,

@@ -30,8 +30,9 @@ pub leaves_two : (w : Store) (whole front : List ℕ) (room : ℕ) (old new : Op
 leaves_two w whole front room old new before after j k e p q text less a = record { front = front; added = j ∷ k ∷ []; grown = e; written = a; text = text; jobs = (p, (q, tt)); less = omega (arith, less) }
 
 -- jobs that are added, with nothing written
-pub adds_leaves : (w : Store) (whole : List ℕ) (room : ℕ) (old new : Option (List ℕ)) (before after : List Job) → Adds w whole room before after → Appends old new [] → Leaves w whole room old new before after
-adds_leaves w whole room old new before after h a = record { front = []; added = h.added; grown = h.grown; written = a; text = h.text; jobs = h.jobs; less = h.less }
+pub adds_leaves : (r : Result (Unit {0}) WriteFault) (w : Store) (whole : List ℕ) (room : ℕ) (old new : Option (List ℕ)) (before after : List Job) → OnOk r (Adds w whole room before after) → Appends old new [] → OnOk r (Leaves w whole room old new before after)
+adds_leaves (Err e) w whole room old new before after h a = tt
+adds_leaves (Ok u) w whole room old new before after h a = record { front = []; added = h.added; grown = h.grown; written = a; text = h.text; jobs = h.jobs; less = h.less }
 
 pub jobs_text-append : (w : Store) (js ks : List Job) → jobs_text w (js ++ ks) ≡ jobs_text w ks ++ jobs_text w js
 jobs_text-append w [] ks = sym (append-nil (jobs_text w ks))
@@ -115,8 +116,13 @@ module _ (w : Store) (t : Term) (s : Symbol) (h : HasAppl w t s) (name : List �
         let e = rw (there, here) at at_args in
         cc e
 
-    pub application_text : seen [] body_text (tree_at w t) ≡ name_text name quoted ++ ((40 ∷ []) ++ (job_text w (job.Items args) ++ job_text w (job.Byte 41)))
-    application_text = let there = some.here in let a = args_are in application_front ∙ rw (a, there) refl
+    pub application_text : seen [] body_text (tree_at w t) ≡ (name_text name quoted ++ 40 ∷ []) ++ (job_text w (job.Items args) ++ job_text w (job.Byte 41))
+    application_text =
+        let there = some.here in
+        let a = args_are in
+        let rest : List ℕ = job_text w (job.Items args) ++ job_text w (job.Byte 41) in
+        let cut : seen [] body_text (tree_at w t) ≡ name_text name quoted ++ ((40 ∷ []) ++ rest) = application_front ∙ rw (a, there) refl in
+        cut ∙ sym (append_assoc (name_text name quoted) (40 ∷ []) rest)
 
     pub application_less : job_size w (job.Byte 41) + job_size w (job.Items args) < seen 1 body_size (tree_at w t)
     application_less = let here = h.here in let there = some.here in let a = args_are in rw (here, there, a) (omega arith)
@@ -124,11 +130,10 @@ module _ (w : Store) (t : Term) (s : Symbol) (h : HasAppl w t s) (name : List �
     pub arguments_job : IsJob w (job.Items args)
     arguments_job = is_list w args (more some.first some.rest) some.anns some.here
 
-    pub application_leaves : (old between new : Option (List ℕ)) (before after : List Job) → after ≡ before ++ job.Byte 41 ∷ job.Items args ∷ [] → Appends old between (name_text name quoted) → Appends between new (40 ∷ [])
+    pub application_leaves : (old new : Option (List ℕ)) (before after : List Job) → after ≡ before ++ job.Byte 41 ∷ job.Items args ∷ [] → Appends old new (name_text name quoted ++ 40 ∷ [])
         → Leaves w (seen [] body_text (tree_at w t)) (seen 1 body_size (tree_at w t)) old new before after
-    application_leaves old between new before after grown a b =
-        leaves_two w (seen [] body_text (tree_at w t)) (name_text name quoted ++ 40 ∷ []) (seen 1 body_size (tree_at w t)) old new before after (job.Byte 41) (job.Items args) grown tt arguments_job
-        (application_text ∙ sym (append_assoc (name_text name quoted) (40 ∷ []) (job_text w (job.Items args) ++ job_text w (job.Byte 41)))) application_less (appends_both old between new (name_text name quoted) (40 ∷ []) a b)
+    application_leaves old new before after grown a =
+        leaves_two w (seen [] body_text (tree_at w t)) (name_text name quoted ++ 40 ∷ []) (seen 1 body_size (tree_at w t)) old new before after (job.Byte 41) (job.Items args) grown tt arguments_job application_text application_less a
 
 -- ---- bodies and annotations
 

@@ -5,7 +5,7 @@ ghost use Rattle.rx_term.specs.Tree.{Tree, list_of};
 ghost use Rattle.rx_term.specs.Store.{tree_at, signature_of};
 ghost use Rattle.rx_term.specs.Steps.{Grows, IsBankRefusal};
 ghost use Rattle.rx_text.specs.Lexemes.{name_of, IsWord};
-ghost use Rattle.rx_text.specs.Nodes.{newest, needed, assembled};
+ghost use Rattle.rx_text.specs.Nodes.{newest, needed, assembled, Application, Holding, Annotating};
 ghost use Rattle.rx_text.specs.Reader.{node_of, IsNode};
 ghost use Rattle.rx_text.specs.Answer.{AreNodesOf};
 ghost use Rattle.rx_text.specs.Held.{Holds, IsRefusal};
@@ -59,9 +59,67 @@ fn symbol_of<B: TermBank>(
     }
 }
 
+/// The application of a name to the last so many references.
+#[inline]
+fn make_application<B: TermBank>(
+    bytes: &[u8],
+    word: Word,
+    count: u32,
+    made: &mut Vec<Term>,
+    bank: &mut B,
+) -> Result<Term, TextFault>
+    requires held { (trees : List Tree) × Holds (B.store bank.old) made.old.items trees
+        × (count ≤ length trees) }
+    requires name { IsWord bytes.now word }
+    ensures made { IfOk result (λ r. (trees : List Tree)
+        → Holds (B.store bank.old) made.old.items trees → Holds (B.store bank.new)
+        (made.new.items ++ r ∷ [])
+        (assembled (Application (name_of bytes.now word) word.quoted count) trees)) }
+    ensures refused { IfErr result (IsRefusal (B.store bank.new)) }
+    ensures grows { Grows (B.store bank.old) (B.store bank.new) }
+{
+    let args = take_list(made, count, bank)?;
+    let symbol = symbol_of(*made.allocator(), bytes, word, count, bank)?;
+    Ok(bank.appl(symbol, args)?)
+}
+
+/// The placeholder of the last reference.
+#[inline]
+fn make_placeholder<B: TermBank>(made: &mut Vec<Term>, bank: &mut B) -> Result<Term, TextFault>
+    requires held { (trees : List Tree) × Holds (B.store bank.old) made.old.items trees
+        × (needed Holding ≤ length trees) }
+    ensures made { IfOk result (λ r. (trees : List Tree)
+        → Holds (B.store bank.old) made.old.items trees → Holds (B.store bank.new)
+        (made.new.items ++ r ∷ []) (assembled Holding trees)) }
+    ensures refused { IfErr result (IsRefusal (B.store bank.new)) }
+    ensures grows { Grows (B.store bank.old) (B.store bank.new) }
+{
+    let inner = made.pop().unwrap();
+    Ok(bank.hole(inner)?)
+}
+
+/// The tree below the last so many references, with these as its annotations.
+#[inline]
+fn make_annotated<B: TermBank>(
+    count: u32,
+    made: &mut Vec<Term>,
+    bank: &mut B,
+) -> Result<Term, TextFault>
+    requires held { (trees : List Tree) × Holds (B.store bank.old) made.old.items trees
+        × (needed (Annotating count) ≤ length trees) }
+    ensures made { IfOk result (λ r. (trees : List Tree)
+        → Holds (B.store bank.old) made.old.items trees → Holds (B.store bank.new)
+        (made.new.items ++ r ∷ []) (assembled (Annotating count) trees)) }
+    ensures refused { IfErr result (IsRefusal (B.store bank.new)) }
+    ensures grows { Grows (B.store bank.old) (B.store bank.new) }
+{
+    let anns = take_list(made, count, bank)?;
+    let term = made.pop().unwrap();
+    Ok(bank.annotated(term, anns)?)
+}
+
 /// The tree of a node, whose parts are the last references.
 fn make<B: TermBank>(
-    alloc: Global,
     bytes: &[u8],
     node: Node,
     made: &mut Vec<Term>,
@@ -78,21 +136,10 @@ fn make<B: TermBank>(
 {
     match node {
         Node::Integer(value) => Ok(bank.int(value)?),
-        Node::Application(word, count) => {
-            let args = take_list(made, count, bank)?;
-            let symbol = symbol_of(alloc, bytes, word, count, bank)?;
-            Ok(bank.appl(symbol, args)?)
-        }
+        Node::Application(word, count) => make_application(bytes, word, count, made, bank),
         Node::List(count) => Ok(take_list(made, count, bank)?),
-        Node::Placeholder => {
-            let inner = made.pop().unwrap();
-            Ok(bank.hole(inner)?)
-        }
-        Node::Annotations(count) => {
-            let anns = take_list(made, count, bank)?;
-            let term = made.pop().unwrap();
-            Ok(bank.annotated(term, anns)?)
-        }
+        Node::Placeholder => make_placeholder(made, bank),
+        Node::Annotations(count) => make_annotated(count, made, bank),
     }
 }
 
@@ -111,7 +158,7 @@ pub fn build<B: TermBank>(
 {
     let mut made: Vec<Term> = Vec::new(alloc);
     for node in nodes {
-        let term = make(alloc, bytes, *node, &mut made, bank)?;
+        let term = make(bytes, *node, &mut made, bank)?;
         made.push(term)?;
     }
     Ok(made[0])

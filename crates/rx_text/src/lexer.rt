@@ -16,7 +16,7 @@ use crate::quoted_name::quoted_length;
 use rx_term::naming::{begins_plain_name, continues_plain_name};
 
 /// What a token is.
-#[derive(Clone, Copy, Debug, Drop)]
+#[derive(Clone, Copy, Drop)]
 pub enum LexemeKind {
     Integer(i32),
     Name(Word),
@@ -34,7 +34,7 @@ pub enum LexemeKind {
 }
 
 /// A token, the offset at which it begins, and the offset behind it.
-#[derive(Clone, Copy, Debug, Drop)]
+#[derive(Clone, Copy, Drop)]
 pub struct Lexeme {
     pub kind: LexemeKind,
     pub at: usize,

@@ -1,7 +1,7 @@
 //! A tree as a flat list of nodes, each behind those of its parts.
 
 /// Where a name stands in the text: its bytes, or what stands between its quotes.
-#[derive(Clone, Copy, Debug, Drop)]
+#[derive(Clone, Copy, Drop)]
 pub struct Word {
     pub from: u32,
     pub to: u32,
@@ -18,7 +18,7 @@ impl Word {
 }
 
 /// What is made of the newest trees.
-#[derive(Clone, Copy, Debug, Drop)]
+#[derive(Clone, Copy, Drop)]
 pub enum Node {
     /// An integer, of none.
     Integer(i32),

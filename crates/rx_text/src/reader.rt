@@ -18,7 +18,7 @@ pub use expected::expected_at_fault;
 use std::alloc::{AllocFailed, Global};
 
 /// What is open.
-#[derive(Clone, Copy, Debug, Drop)]
+#[derive(Clone, Copy, Drop)]
 pub enum Opening {
     Arguments(Word),
     List,
@@ -27,7 +27,7 @@ pub enum Opening {
 }
 
 /// What is open, and how many items of it are read.
-#[derive(Clone, Copy, Debug, Drop)]
+#[derive(Clone, Copy, Drop)]
 pub struct Frame {
     opening: Opening,
     count: u32,
@@ -35,7 +35,7 @@ pub struct Frame {
 
 /// What is due next: a term; a term or the end of what was just opened; what follows a name, a body
 /// or a term; nothing.
-#[derive(Clone, Copy, Debug, Drop)]
+#[derive(Clone, Copy, Drop)]
 pub enum Due {
     Term,
     First(Opening),
@@ -46,7 +46,7 @@ pub enum Due {
 }
 
 /// Why a step is not made.
-#[derive(Clone, Copy, Debug, Drop)]
+#[derive(Clone, Copy, Drop)]
 pub enum Stop {
     Refused,
     Memory,

@@ -6,7 +6,7 @@ ghost use Rattle.std.specs.Io.KnownBytes.{Appends};
 ghost use Rattle.rx_term.specs.Tree.{Tree};
 ghost use Rattle.rx_term.specs.Store.{tree_at, part_at, args_of};
 ghost use Rattle.rx_term.specs.Kinds.{HasAppl};
-ghost use Rattle.rx_text.specs.Canon.{canon, octal_text, quoted_byte, name_text};
+ghost use Rattle.rx_text.specs.Canon.{canon, octal_text, quoted_byte, name_text, no_arguments};
 ghost use Rattle.rx_text.specs.Written.{AppendsFront};
 ghost use Rattle.rx_text.specs.Jobs.{seen, body_text, body_size, job_text, job_size, IsJob, Adds};
 ghost use Rattle.rx_text.specs.Jobs.{Leaves};
@@ -122,6 +122,54 @@ fn leave(jobs: &mut Vec<Job>, later: Job, first: Job) -> Result<(), WriteFault>
     Ok(())
 }
 
+/// Writes a mark, and leaves two jobs behind it, of which the second is done first.
+#[inline]
+fn put_mark<W: Write>(
+    out: &mut W,
+    mark: u8,
+    jobs: &mut Vec<Job>,
+    later: Job,
+    first: Job,
+) -> Result<(), WriteFault>
+    ensures left { OnOk result (jobs.new.items ≡ jobs.old.items ++ later ∷ first ∷ []) }
+    ensures written { OnOk result
+        (Appends (W.contents out.old) (W.contents out.new) (mark ∷ [])) }
+    ensures front { OnErr result
+        (AppendsFront (mark ∷ []) (W.contents out.old) (W.contents out.new)) }
+{
+    leave(jobs, later, first)?;
+    put(out, &[mark])?;
+    Ok(())
+}
+
+/// Writes a name that has arguments, and the parenthesis before them.
+#[inline]
+fn put_operator<W: Write>(out: &mut W, name: &[u8], quoted: bool) -> Result<(), RefusedWrite>
+    ensures written { OnOk result (Appends (W.contents out.old) (W.contents out.new)
+        (name_text name.now quoted ++ 40 ∷ [])) }
+    ensures front { OnErr result (AppendsFront (name_text name.now quoted ++ 40 ∷ [])
+        (W.contents out.old) (W.contents out.new)) }
+{
+    put_name(out, name, quoted)?;
+    put(out, b"(")
+}
+
+/// Writes a name that has no arguments.
+#[inline]
+fn put_constant<W: Write>(out: &mut W, name: &[u8], quoted: bool) -> Result<(), RefusedWrite>
+    ensures written { OnOk result (Appends (W.contents out.old) (W.contents out.new)
+        (name_text name.now quoted ++ no_arguments name.now quoted)) }
+    ensures front { OnErr result (AppendsFront
+        (name_text name.now quoted ++ no_arguments name.now quoted)
+        (W.contents out.old) (W.contents out.new)) }
+{
+    if name.is_empty() && !quoted {
+        put(out, b"()")
+    } else {
+        put_name(out, name, quoted)
+    }
+}
+
 /// Writes the front of an application without its annotations.
 fn write_application<B: TermBank, W: Write>(
     bank: &B,
@@ -142,14 +190,10 @@ fn write_application<B: TermBank, W: Write>(
     let args = bank.args(term);
     if let Kind::Cons = bank.kind(args) {
         leave(jobs, Job::Byte(b')'), Job::Items(args))?;
-        put_name(out, name, quoted)?;
-        put(out, b"(")?;
-    } else if name.is_empty() && !quoted {
-        put(out, b"()")?;
+        Ok(put_operator(out, name, quoted)?)
     } else {
-        put_name(out, name, quoted)?;
+        Ok(put_constant(out, name, quoted)?)
     }
-    Ok(())
 }
 
 /// Writes the front of a tree without its annotations.
@@ -167,19 +211,15 @@ fn write_body<B: TermBank, W: Write>(
         (W.contents out.old) (W.contents out.new)) }
 {
     match bank.kind(term) {
-        Kind::Int(value) => put_integer(out, value)?,
-        Kind::Nil => put(out, b"[]")?,
-        Kind::Cons => {
-            leave(jobs, Job::Byte(b']'), Job::Items(term))?;
-            put(out, b"[")?;
-        }
-        Kind::Appl(symbol) => write_application(bank, term, symbol, jobs, out)?,
+        Kind::Int(value) => Ok(put_integer(out, value)?),
+        Kind::Nil => Ok(put(out, b"[]")?),
+        Kind::Cons => put_mark(out, b'[', jobs, Job::Byte(b']'), Job::Items(term)),
+        Kind::Appl(symbol) => write_application(bank, term, symbol, jobs, out),
         Kind::Hole => {
-            leave(jobs, Job::Byte(b'>'), Job::Tree(bank.inner(term)))?;
-            put(out, b"<")?;
+            let inner = bank.inner(term);
+            put_mark(out, b'<', jobs, Job::Byte(b'>'), Job::Tree(inner))
         }
     }
-    Ok(())
 }
 
 /// Writes the front of a tree.
@@ -217,9 +257,7 @@ fn write_notes<B: TermBank, W: Write>(
     let Some(anns) = bank.anns(term) else {
         return Ok(());
     };
-    leave(jobs, Job::Byte(b'}'), Job::Items(anns))?;
-    put(out, b"{")?;
-    Ok(())
+    put_mark(out, b'{', jobs, Job::Byte(b'}'), Job::Items(anns))
 }
 
 /// Leaves the items of a list to do.
@@ -254,14 +292,11 @@ fn write_others<B: TermBank, W: Write>(
         (W.contents out.old) (W.contents out.new)) }
 {
     if let Kind::Cons = bank.kind(list) {
-        leave(
-            jobs,
-            Job::Others(bank.tail(list)),
-            Job::Tree(bank.head(list)),
-        )?;
-        put(out, b",")?;
+        let others = Job::Others(bank.tail(list));
+        put_mark(out, b',', jobs, others, Job::Tree(bank.head(list)))
+    } else {
+        Ok(())
     }
-    Ok(())
 }
 
 /// Does the front of a job; the rest of it is left to do.
@@ -279,13 +314,12 @@ fn write_job<B: TermBank, W: Write>(
         (W.contents out.old) (W.contents out.new)) }
 {
     match job {
-        Job::Byte(byte) => put(out, &[byte])?,
-        Job::Tree(term) => write_tree(bank, term, jobs, out)?,
-        Job::Notes(term) => write_notes(bank, term, jobs, out)?,
-        Job::Items(list) => leave_items(bank, list, jobs)?,
-        Job::Others(list) => write_others(bank, list, jobs, out)?,
+        Job::Byte(byte) => Ok(put(out, &[byte])?),
+        Job::Tree(term) => write_tree(bank, term, jobs, out),
+        Job::Notes(term) => write_notes(bank, term, jobs, out),
+        Job::Items(list) => leave_items(bank, list, jobs),
+        Job::Others(list) => write_others(bank, list, jobs, out),
     }
-    Ok(())
 }
 
 /// Prints the tree of a reference.

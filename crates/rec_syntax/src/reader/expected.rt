@@ -3,8 +3,8 @@
 ghost use Rattle.std.specs.Prelude.{◌≡◌, ◌↔◌, ℕ, true, List, Contains, IfOk, is_some};
 ghost use Rattle.rec_syntax.specs.Syntax as syntax;
 ghost use Rattle.rec_syntax.specs.Syntax.{Spec};
-ghost use Rattle.rec_syntax.specs.Machine.{between, complete, after, step};
-ghost use Rattle.rec_syntax.specs.Reader.{level_of, role_of, due_of, open_of};
+ghost use Rattle.rec_syntax.specs.Machine.{start, between, complete, after, step};
+ghost use Rattle.rec_syntax.specs.Reader.{level_of, role_of, due_of, open_of, config_of, IsAt};
 ghost use Rattle.rec_syntax.specs.Lexemes.{token_of};
 ghost use Rattle.rec_syntax.specs.Expected.{is_taken, AreExpected, IsAtFault};
 
@@ -109,30 +109,48 @@ impl Reader {
             None => false,
         }
     }
+
+    /// Reads the tokens before the fault's place, from the first one on; what is due there.
+    fn read_to_fault(&mut self) -> Result<Due, AllocError>
+        requires start { config_of self.old.source.items Due.Start self.old ≡ start }
+        requires state { IsAt Due.Start self.old }
+        ensures same { self.new.source ≡ self.old.source }
+        ensures reached { IfOk result (λ due. IsAtFault self.old.source.items due self.new) }
+    {
+        let mut due = Due::Start;
+        let mut from = 0;
+        loop {
+            let lexeme = next(&self.source, from);
+            if !self.may_take(due, lexeme.kind) {
+                return Ok(due);
+            }
+            due = match self.step(due, lexeme.kind) {
+                Ok(due) => due,
+                Err(_) => return Err(AllocError),
+            };
+            if let LexemeKind::End = lexeme.kind {
+                return Ok(due);
+            }
+            from = lexeme.to;
+        }
+    }
+
+    /// What may stand at the fault's place, from before the first token on.
+    fn expected_in_text(&mut self, alloc: Global) -> Result<Vec<TokenKind>, AllocError>
+        requires start { config_of self.old.source.items Due.Start self.old ≡ start }
+        requires state { IsAt Due.Start self.old }
+        ensures { IfOk result (λ kinds. AreExpected self.old.source.items kinds.items) }
+    {
+        let due = self.read_to_fault()?;
+        self.expected(alloc, due)
+    }
 }
 
-/// The reader behind the tokens before the fault's place, and what is due there.
-fn read_to_fault(alloc: Global, source: Vec<u8>) -> Result<(Due, Reader), AllocError>
-    ensures same { IfOk result (λ at. at.1.source ≡ source) }
-    ensures reached { IfOk result (λ at. IsAtFault source.items at.0 at.1) }
+/// What may stand at the place of this text's fault.
+fn expected_in(alloc: Global, source: Vec<u8>) -> Result<Vec<TokenKind>, AllocError>
+    ensures { IfOk result (λ kinds. AreExpected source.items kinds.items) }
 {
-    let mut reader = Reader::new(alloc, source);
-    let mut due = Due::Start;
-    let mut from = 0;
-    loop {
-        let lexeme = next(&reader.source, from);
-        if !reader.may_take(due, lexeme.kind) {
-            return Ok((due, reader));
-        }
-        due = match reader.step(due, lexeme.kind) {
-            Ok(due) => due,
-            Err(_) => return Err(AllocError),
-        };
-        if let LexemeKind::End = lexeme.kind {
-            return Ok((due, reader));
-        }
-        from = lexeme.to;
-    }
+    Reader::new(alloc, source).expected_in_text(alloc)
 }
 
 /// What may stand at the place of the fault of a text that is outside the grammar: each kind of
@@ -141,6 +159,5 @@ pub fn expected_at_fault(alloc: Global, bytes: &[u8]) -> Result<Vec<TokenKind>, 
     ensures { IfOk result (λ kinds. AreExpected bytes.now kinds.items) }
 {
     let source = Vec::from_slice(alloc, bytes)?;
-    let (due, reader) = read_to_fault(alloc, source)?;
-    reader.expected(alloc, due)
+    expected_in(alloc, source)
 }

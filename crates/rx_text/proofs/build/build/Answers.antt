@@ -37,3 +37,12 @@ returns-clause-made g c = λ t nodes.
     let l = c.loop-node in
     let h = ended (g.B.TermBank.store l.bank) c.args.bytes.now l.made.items c.args.nodes.now _ t (drop-past c.args.nodes.now l.node-index c.loop-node-test.false) l.invariant.under_way nodes in
     only_one (g.B.TermBank.store l.bank) l.made.items c.index.result.now t h c.index.ensures
+
+pub returns-in_err-term-clause-grows : goal.returns-in_err-term-clause-grows
+returns-in_err-term-clause-grows g c = Grows-trans c.loop-node.invariant.grows c.make.ensures.grows
+
+pub returns-in_err-push-clause-grows : goal.returns-in_err-push-clause-grows
+returns-in_err-push-clause-grows g c = Grows-trans c.loop-node.invariant.grows c.make.ensures.grows
+
+pub returns-clause-grows : goal.returns-clause-grows
+returns-clause-grows g c = c.loop-node.invariant.grows

@@ -1,7 +1,7 @@
 use Rattle.std.proofs.Common.{◌≡◌, ◌<◌, ◌++◌, ◌∷◌, [], List, length, ap, ◌∙◌, arith}
 use Rattle.std.specs.Prelude.{option_to_list}
 use Rattle.rx_term.specs.Tree.{Tree}
-use Rattle.rx_term.proofs.StoreLemmas.{Grows-Makes, Grows-trans}
+use Rattle.rx_term.proofs.StoreLemmas.{Grows-Makes, Grows-Refuses, Grows-trans}
 use Rattle.rx_text.specs.Held.{Holds}
 use Rattle.rx_text.proofs.MakingLemmas.{still_holds, as_many, item_on}
 use Rattle.rx_text.proofs.build.take_list.Goals as goal
@@ -26,3 +26,9 @@ loop-index-preserved g c =
       left = λ trees h. (turn trees h).1;
       grows = Grows-trans l.invariant.grows (Grows-Makes m);
     }
+
+pub returns-in_err-list-clause-grows : goal.returns-in_err-list-clause-grows
+returns-in_err-list-clause-grows g c = Grows-Refuses c.in_err-list.ensures
+
+pub returns-in_err-list-2-clause-grows : goal.returns-in_err-list-2-clause-grows
+returns-in_err-list-2-clause-grows g c = Grows-trans c.loop-index.invariant.grows (Grows-Refuses c.in_err-list-2.ensures)

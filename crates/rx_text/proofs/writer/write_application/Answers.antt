@@ -1,30 +1,21 @@
-use Rattle.std.proofs.Common.{◌++◌, ◌∷◌, []}
-use Rattle.rx_text.specs.Canon.{canon_all, enclosed, name_text, no_arguments}
+use Rattle.std.proofs.Common.{◌++◌, ◌∷◌, [], ◌∙◌, sym, append_assoc}
+use Rattle.rx_text.specs.Canon.{name_text}
 use Rattle.rx_text.specs.Jobs.{seen, body_text, job_text}
 use Rattle.rx_term.specs.Store.{tree_at}
 use Rattle.rx_text.specs.declared.writer.Job.TheVariants as job
-use Rattle.rx_text.proofs.AppendingLemmas.{on_err, front_of, front_within}
-use Rattle.rx_text.proofs.LeavingLemmas.{application_front, application_text, application_leaves}
+use Rattle.rx_text.proofs.AppendingLemmas.{on_err, front_of}
+use Rattle.rx_text.proofs.LeavingLemmas.{application_text, application_leaves}
 use Rattle.rx_text.proofs.writer.write_application.Goals as goal
 
-pub returns-in_err-put_name-clause-front : goal.returns-in_err-put_name-clause-front
-returns-in_err-put_name-clause-front g c =
+pub returns-in_err-put_operator-clause-front : goal.returns-in_err-put_operator-clause-front
+returns-in_err-put_operator-clause-front g c =
     let w = g.B.TermBank.store c.args.bank.now in
     let name = c.name_of-name.result.now in
     let quoted = c.quoted_of-quoted.result in
-    let args = c.requires.args in
-    on_err _ (front_of _ _ (seen [] body_text (tree_at w c.args.term)) (name_text name quoted) (enclosed 40 args (canon_all args) 41 (no_arguments name quoted)) (application_front w c.args.term c.args.symbol c.requires name quoted c.name_of-name.ensures c.quoted_of-quoted.ensures) c.in_err-put_name.ensures.front)
+    on_err _ (front_of (g.W.Write.contents c.args.out.now) (g.W.Write.contents c.put_operator.new.out) (seen [] body_text (tree_at w c.args.term)) (name_text name quoted ++ 40 ∷ []) (job_text w (job.Items c.args-args.result) ++ job_text w (job.Byte 41))
+    (application_text w c.args.term c.args.symbol c.requires name quoted c.name_of-name.ensures c.quoted_of-quoted.ensures c.args-args.result c.in-Cons.ensures c.args-args.ensures) c.in_err-put_operator.ensures.front)
 
-pub returns-in_ok-put-clause-written : goal.returns-in_ok-put-clause-written
-returns-in_ok-put-clause-written g c =
-    let w = g.B.TermBank.store c.args.bank.now in
-    application_leaves w c.args.term c.args.symbol c.requires c.name_of-name.result.now c.quoted_of-quoted.result c.name_of-name.ensures c.quoted_of-quoted.ensures c.args-args.result c.in-Cons.ensures c.args-args.ensures
-    (g.W.Write.contents c.args.out.now) (g.W.Write.contents c.put_name.new.out) (g.W.Write.contents c.put.new.out) c.args.jobs.now.items c.leave.new.jobs.items c.in_ok-leave.ensures c.in_ok-put_name.ensures.written c.in_ok-put.ensures.written
-
-pub returns-in_err-put-clause-front : goal.returns-in_err-put-clause-front
-returns-in_err-put-clause-front g c =
-    let w = g.B.TermBank.store c.args.bank.now in
-    let name = c.name_of-name.result.now in
-    let quoted = c.quoted_of-quoted.result in
-    on_err _ (front_within (g.W.Write.contents c.args.out.now) (g.W.Write.contents c.put_name.new.out) (g.W.Write.contents c.put.new.out) (seen [] body_text (tree_at w c.args.term)) (name_text name quoted) (40 ∷ []) (job_text w (job.Items c.args-args.result) ++ job_text w (job.Byte 41))
-    (application_text w c.args.term c.args.symbol c.requires name quoted c.name_of-name.ensures c.quoted_of-quoted.ensures c.args-args.result c.in-Cons.ensures c.args-args.ensures) c.in_ok-put_name.ensures.written c.in_err-put.ensures.front)
+pub returns-in_ok-put_operator-clause-written : goal.returns-in_ok-put_operator-clause-written
+returns-in_ok-put_operator-clause-written g c =
+    application_leaves (g.B.TermBank.store c.args.bank.now) c.args.term c.args.symbol c.requires c.name_of-name.result.now c.quoted_of-quoted.result c.name_of-name.ensures c.quoted_of-quoted.ensures c.args-args.result c.in-Cons.ensures c.args-args.ensures
+    (g.W.Write.contents c.args.out.now) (g.W.Write.contents c.put_operator.new.out) c.args.jobs.now.items c.leave.new.jobs.items c.in_ok-leave.ensures c.in_ok-put_operator.ensures.written

@@ -4,9 +4,9 @@ use Rattle.rx_text.proofs.AppendingLemmas.{appends_same}
 use Rattle.rx_text.proofs.LeavingLemmas.{adds_leaves}
 use Rattle.rx_text.proofs.writer.write_job.Goals as goal
 
-pub returns-in_ok-leave_items-in-Items-clause-written : goal.returns-in_ok-leave_items-in-Items-clause-written
-returns-in_ok-leave_items-in-Items-clause-written g c =
+pub returns-in-Items-clause-written : goal.returns-in-Items-clause-written
+returns-in-Items-clause-written g c =
     let w = g.B.TermBank.store c.args.bank.now in
     let j = job.Items c.in-Items.list in
     let old = g.W.Write.contents c.args.out.now in
-    rw c.in-Items.is (adds_leaves w (job_text w j) (job_size w j) old old c.args.jobs.now.items c.leave_items.new.jobs.items c.in_ok-leave_items-in-Items.ensures (appends_same old))
+    rw c.in-Items.is (adds_leaves c.leave_items.result w (job_text w j) (job_size w j) old old c.args.jobs.now.items c.leave_items.new.jobs.items c.leave_items.ensures (appends_same old))

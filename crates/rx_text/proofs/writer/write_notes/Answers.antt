@@ -1,7 +1,7 @@
 use Rattle.std.proofs.Common.{◌∷◌, []}
 use Rattle.rx_text.specs.Jobs.{job_text}
 use Rattle.rx_text.specs.declared.writer.Job.TheVariants as job
-use Rattle.rx_text.proofs.AppendingLemmas.{front_of, on_err}
+use Rattle.rx_text.proofs.AppendingLemmas.{err_front}
 use Rattle.rx_text.proofs.LeavingLemmas.{no_notes, notes_front}
 use Rattle.rx_text.proofs.writer.write_notes.Goals as goal
 
@@ -9,8 +9,8 @@ pub returns-in_default-clause-written : goal.returns-in_default-clause-written
 returns-in_default-clause-written g c =
     no_notes (g.B.TermBank.store c.args.bank.now) c.args.term (g.W.Write.contents c.args.out.now) c.args.jobs.now.items c.in_default.ensures
 
-pub returns-in_err-put-clause-front : goal.returns-in_err-put-clause-front
-returns-in_err-put-clause-front g c =
+pub returns-clause-front : goal.returns-clause-front
+returns-clause-front g c =
     let w = g.B.TermBank.store c.args.bank.now in
     let f = notes_front w c.args.term c.in-Some.ensures.0 in
-    on_err _ (front_of _ _ (job_text w (job.Notes c.args.term)) (123 ∷ []) f.0 f.1 c.in_err-put.ensures.front)
+    err_front c.put_mark.result (g.W.Write.contents c.args.out.now) (g.W.Write.contents c.put_mark.new.out) (job_text w (job.Notes c.args.term)) (123 ∷ []) f.0 f.1 c.put_mark.ensures.front

@@ -1,14 +1,14 @@
 use Rattle.std.proofs.Common.{◌++◌, ◌∷◌, []}
 use Rattle.rx_text.specs.Jobs.{job_text}
 use Rattle.rx_text.specs.declared.writer.Job.TheVariants as job
-use Rattle.rx_text.proofs.AppendingLemmas.{front_of, on_err}
+use Rattle.rx_text.proofs.AppendingLemmas.{err_front}
 use Rattle.rx_text.proofs.LeavingLemmas.{others_text, nothing_left}
 use Rattle.rx_text.proofs.writer.write_others.Goals as goal
 
-pub returns-in_err-put-clause-front : goal.returns-in_err-put-clause-front
-returns-in_err-put-clause-front g c =
+pub returns-in-Cons-clause-front : goal.returns-in-Cons-clause-front
+returns-in-Cons-clause-front g c =
     let w = g.B.TermBank.store c.args.bank.now in
-    on_err _ (front_of _ _ (job_text w (job.Others c.args.list)) (44 ∷ []) (job_text w (job.Tree c.head.result) ++ job_text w (job.Others c.tail.result)) (others_text w c.args.list c.head.result c.tail.result c.in-Cons.ensures c.head.ensures c.tail.ensures) c.in_err-put.ensures.front)
+    err_front c.put_mark.result (g.W.Write.contents c.args.out.now) (g.W.Write.contents c.put_mark.new.out) (job_text w (job.Others c.args.list)) (44 ∷ []) (job_text w (job.Tree c.head.result) ++ job_text w (job.Others c.tail.result)) (others_text w c.args.list c.head.result c.tail.result c.in-Cons.ensures c.head.ensures c.tail.ensures) c.put_mark.ensures.front
 
 pub returns-in_default : goal.returns-in_default
 returns-in_default g c = record {

@@ -1,33 +1,6 @@
-use Rattle.std.proofs.Common.{◌≡◌, ◌↔◌, ◌∙◌, ℕ, true, List, Contains, IfOk, Result, Ok, Err, Vec, Global, subst, ap}
-use Rattle.rec_syntax.specs.Tokens.{bare}
-use Rattle.rec_syntax.specs.Machine.{step}
-use Rattle.rec_syntax.specs.Parts.{spec_of}
-use Rattle.rec_syntax.specs.Reader.{due_of, config_of}
-use Rattle.rec_syntax.specs.Expected.{is_taken, AreExpected, IsAtFault}
-use Rattle.rec_syntax.specs.declared.token_kind.TokenKind.{TokenKind}
-use Rattle.rec_syntax.specs.declared.reader.Due.{Due}
-use Rattle.rec_syntax.specs.declared.reader.Reader.{Reader}
-use Rattle.rec_syntax.proofs.ExpectingLemmas.{may_stand}
+use Rattle.std.proofs.Common.{ℕ, List, IfOk, subst}
+use Rattle.rec_syntax.specs.Expected.{AreExpected}
 use Rattle.rec_syntax.proofs.reader.expected.expected_at_fault.Goals as goal
 
--- just the kinds that the state takes
-abbrev AreTaken : List ℕ → Due → Reader → List TokenKind → Type 0
-AreTaken bytes d r ks = (k : TokenKind) → Contains ks k ↔ (is_taken (step (due_of bytes d r) (spec_of bytes r.sections)) k ≡ true)
-
-exact : {E : Type 0} → (bytes : List ℕ) (d : Due) (r : Reader) (result : Result (Vec TokenKind Global) E) → IsAtFault bytes d r → IfOk result (λ ks. AreTaken bytes d r ks.items) → IfOk result (λ ks. AreExpected bytes ks.items)
-exact bytes d r (Err e) h t = tt
-exact bytes d r (Ok ks) h t = λ at fault k.
-    let stand = may_stand (bare fault.before) (config_of bytes d r) k (h at fault) in
-    (λ x. stand.0 ((t k).0 x), λ m. (t k).1 (stand.1 m))
-
 pub returns : goal.returns
-returns c =
-    let bytes = c.args.bytes.now in
-    let d = c.in_ok-due.due in
-    let r = c.in_ok-due.reader in
-    let text : c.in_ok-source.source.items ≡ bytes = c.in_ok-source.ensures.items in
-    let here : IsAtFault bytes d r = subst (λ (bs : List ℕ). IsAtFault bs d r) text c.in_ok-due.ensures.reached in
-    let same : r.source.items ≡ bytes = ap (λ (v : Vec ℕ Global). v.items) c.in_ok-due.ensures.same ∙ text in
-    let taken : IfOk c.expected.result (λ ks. AreTaken bytes d r ks.items) =
-    subst (λ (bs : List ℕ). IfOk c.expected.result (λ ks. (k : TokenKind) → Contains ks.items k ↔ (is_taken (step (due_of bs d r) (spec_of bytes r.sections)) k ≡ true))) same (c.expected.ensures (spec_of bytes r.sections)) in
-    exact bytes d r c.expected.result here taken
+returns c = subst (λ (bytes : List ℕ). IfOk c.expected_in.result (λ ks. AreExpected bytes ks.items)) c.in_ok-source.ensures.items c.expected_in.ensures

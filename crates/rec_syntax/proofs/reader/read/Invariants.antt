@@ -1,9 +1,0 @@
-use Rattle.std.proofs.Common.{◌-◌, length}
-use Rattle.rec_syntax.proofs.AnsweringLemmas.{Decides, Reads}
-use Rattle.rec_syntax.proofs.reader.read.Given as goal
-
-abbrev pub invariant-loop-due : goal.invariant-loop-due
-invariant-loop-due l = Reads l.fn.source (Decides l.fn.source.items) l.from l.due l.reader
-
-abbrev pub decreases-loop-due : goal.decreases-loop-due
-decreases-loop-due l = length l.fn.source.items - l.from
