@@ -12,8 +12,8 @@ pub const MOST_CELLS: u32 = 1_073_741_824;
 /// The most results that are remembered.
 pub const MOST_RESULTS: u32 = 1_048_576;
 
-/// The version, with the kit by which the program is proved.
-const VERSION: &str = "0.1.0, proved with rattle-kit-13f (logic dac8208d650f15bf)";
+/// The version. What the program was proved with can't be known here: another kit may build it.
+const VERSION: &str = "0.1.0";
 
 /// The command without the program's name before its words.
 pub fn command<'a>(alloc: Global) -> Result<Command<'a>, AllocError> {

@@ -133,10 +133,10 @@ pub(crate) const HELPS: &[Row] = &[
     (&["help", "make"], "", 0, MAKE_HELP, ""),
 ];
 
-/// The version names what the program is proved with.
+/// The version stands alone.
 fn shows_its_version<H: Abort + Files>(rt: &H, alloc: Global) {
     let ran = run(rt, alloc, &["--version"], "");
-    let is_shown = ran.out().starts_with("recw 0.1.0, proved with ") && ran.err().is_empty();
+    let is_shown = ran.out() == "recw 0.1.0\n" && ran.err().is_empty();
     assert!(rt; ran.status == 0 && is_shown);
 }
 
