@@ -18,7 +18,7 @@ use Rattle.rec_sorts.proofs.KeptLemmas.{bytes_eq-eq}
 use Rattle.rec_match.specs.Asking.{asked, stack_on}
 use Rattle.rec_match.specs.Bound.{opened, bound, goes_on}
 use Rattle.rec_match.specs.Chains.{IsNext, AreChainsFrom}
-use Rattle.rec_match.specs.Built.{AreHeads, IsLeftSide, AreSides}
+use Rattle.rec_match.specs.Built.{IsHead, AreHeads, IsLeftSide, AreSides}
 use Rattle.rec_match.specs.Matching.{IsMatcher, IsSide, Skips, HeadAt, AreTested, symbol_at, count_at, next_at, tests_at, variables_at, order_at}
 use Rattle.rec_match.specs.Forests.{IsForest}
 use Rattle.rec_match.specs.Tasks.{numbers_of}
@@ -66,7 +66,7 @@ other-head y kept (Apply w ts) j k ltj ltk e apart bare vs =
     by None a = refl
     by (Some s) a = absurd a
 
-no_rule : Rule
+pub no_rule : Rule
 no_rule = record { left = Apply (record { at = 0; bytes = [] }) X.none; right = Apply (record { at = 0; bytes = [] }) X.none; conditions = [] }
 
 -- between rules of a symbol none of the rules matches an application of it
@@ -90,6 +90,10 @@ skips-next y kept fs heads k from at lt next =
 some-at : {A : Type 0} (xs : List A) (i : ℕ) → i < length xs → A
 some-at [] i lt = absurd (let bad : ⊥ = omega (arith, lt) in bad)
 some-at (x ∷ xs) i lt = x
+
+-- a left side has one symbol
+pub one-head : (y : Spec) → fault y ≡ None → (r : Rule) (j k : ℕ) → IsHead y r j → IsHead y r k → j ≡ k
+one-head y kept r j k a b = (facts y kept).symbols_differ j k a.declared b.declared (sym a.head ∙ b.head)
 
 -- the first sides make the matcher
 pub matcher-built : (y : Spec) → fault y ≡ None → (ss : List bank.Symbol) (fs nexts : List ℕ) (m : Matcher) (n : ℕ) → m.links ≡ ss → AreHeads y fs → AreChainsFrom fs (length (symbols y)) 0 m.heads.items nexts → AreSides y ss fs nexts m.sides.items n → n ≡ length y.rules → IsForest y (numbers_of ss) m.forest → IsMatcher y ss m

@@ -1,15 +1,16 @@
 //! Left sides of rules as tests.
 
-ghost use Rattle.std.specs.Prelude.{◌≡◌, ◌<◌, [], All, IfOk, length, get_or, None};
+ghost use Rattle.std.specs.Prelude.{◌≡◌, ◌<◌, [], All, IfOk, length, get_or, None, reverse};
 ghost use Rattle.rec_sorts.specs.Lookup.{symbols};
 ghost use Rattle.rec_sorts.specs.Numbering.{variable_count, Pairwise, IsLetterRule};
 ghost use Rattle.rec_sorts.specs.SpecRules.{fault};
-ghost use Rattle.rec_match.specs.Matching.{IsTest, AreTested, IsMatcher};
+ghost use Rattle.rec_match.specs.Matching.{IsTest, AreTests, AreTested, IsMatcher};
 ghost use Rattle.rec_match.specs.Ordered.{AreAllBelow};
 ghost use Rattle.rec_match.specs.Placed.{ArePlaces, FewerPlaces, Orders};
-ghost use Rattle.rec_match.specs.Built.{IsWithin, IsHead, AreHeads, IsLeftSide};
+ghost use Rattle.rec_match.specs.Built.{IsWithin, IsHead, AreHeads, IsLeftSide, AreSides};
+ghost use Rattle.rec_match.specs.Starting.{ChainsRules};
 
-use crate::chain::chain;
+use crate::chain::{Chains, chain};
 use crate::matcher::{LeftSide, Matcher, Test};
 use crate::places::{Places, push_at};
 use crate::trees::trees;
@@ -82,6 +83,33 @@ fn test(
     }
 }
 
+/// The tests of letters from the last to the first, and the variables in that order.
+fn push_tests(
+    links: &Links,
+    letters: &[Letter],
+    places: &mut Places,
+    tests: &mut Vec<Test>,
+    tested: &mut Vec<u32>,
+) -> Result<(), AllocError>
+    requires within { All (IsWithin (length links.now) (length places.old.of.items)) letters.now }
+    requires places { ArePlaces [] (length places.old.of.items) places.old }
+    requires tests { tests.old.items ≡ [] }
+    requires tested { tested.old.items ≡ [] }
+    ensures tests { IfOk result (λ u.
+        AreTests links.now (reverse letters.now) [] tests.new.items tested.new.items) }
+    ensures places { IfOk result
+        (λ u. ArePlaces tested.new.items (length places.old.of.items) places.new) }
+    ensures tested { IfOk result
+        (λ u. All (λ v. v < length places.old.of.items) tested.new.items) }
+{
+    let mut i = letters.len();
+    while i > 0 {
+        i -= 1;
+        tests.push(test(links, letters[i], places, tested)?)?;
+    }
+    Ok(())
+}
+
 /// The tests of a left side's letters but for its head.
 fn tests_of(
     alloc: Global,
@@ -97,11 +125,7 @@ fn tests_of(
 {
     let mut tests = Vec::new(alloc);
     let mut tested = Vec::new(alloc);
-    let mut i = letters.len();
-    while i > 0 {
-        i -= 1;
-        tests.push(test(links, letters[i], places, &mut tested)?)?;
-    }
+    push_tests(links, letters, places, &mut tests, &mut tested)?;
     let order = order(alloc, letters, places)?;
     places.clear(&tested);
     let mut variables = Vec::new(alloc);
@@ -177,31 +201,58 @@ fn side(
     })
 }
 
+/// The chains of the rules of each symbol.
+fn rule_chains(alloc: Global, checked: &Checked) -> Result<Chains, AllocError>
+    ensures { IfOk result (ChainsRules checked.now.spec) }
+{
+    let symbols = heads(alloc, checked)?;
+    let chains = chain(alloc, &symbols, checked.symbols())?;
+    Ok(chains)
+}
+
+/// What is kept of the rules' left sides, with the rules that come next.
+fn sides(
+    alloc: Global,
+    checked: &Checked,
+    links: &Links,
+    nexts: &[u32],
+) -> Result<Vec<LeftSide>, AllocError>
+    requires links { length links.now ≡ length (symbols checked.now.spec) }
+    requires nexts { length nexts.now ≡ length checked.now.spec.rules }
+    ensures { IfOk result (λ v. (fs : _) → AreHeads checked.now.spec fs
+        → AreSides checked.now.spec links.now fs nexts.now v.items
+        (length checked.now.spec.rules)) }
+{
+    let rules = checked.rules();
+    let mut places = Places::new(alloc, checked.variables())?;
+    let mut sides = Vec::new(alloc);
+    for rule in 0..rules.len() {
+        let symbol = head(checked, rules, rule);
+        sides.push(side(
+            alloc,
+            checked,
+            rules,
+            links,
+            &mut places,
+            rule,
+            symbol,
+            nexts[rule],
+        )?)?;
+    }
+    Ok(sides)
+}
+
 impl Matcher {
     /// The left sides of a specification's rules.
     pub fn build(alloc: Global, checked: &Checked, links: &Links) -> Result<Matcher, AllocError>
         requires { length links.now ≡ length (symbols checked.now.spec) }
         ensures { IfOk result (IsMatcher checked.now.spec links.now) }
     {
-        let rules = checked.rules();
-        let symbols = heads(alloc, checked)?;
-        let chains = chain(alloc, &symbols, checked.symbols())?;
-        let own = links.copy(alloc)?;
+        let _kept = checked.syntax();
+        let chains = rule_chains(alloc, checked)?;
+        let sides = sides(alloc, checked, links, &chains.nexts)?;
         let forest = trees(alloc, checked, links, &chains)?;
-        let mut places = Places::new(alloc, checked.variables())?;
-        let mut sides = Vec::new(alloc);
-        for rule in 0..rules.len() {
-            sides.push(side(
-                alloc,
-                checked,
-                rules,
-                links,
-                &mut places,
-                rule,
-                symbols[rule],
-                chains.nexts[rule],
-            )?)?;
-        }
+        let own = links.copy(alloc)?;
         Ok(Matcher {
             sides,
             heads: chains.heads,

@@ -40,6 +40,23 @@ pub struct Pending {
     pub rows: Vec<CodeRow>,
 }
 
+/// A window of symbols' numbers in a bank: the least one, and how many there are.
+#[derive(Clone, Copy)]
+struct Window {
+    low: u64,
+    span: u32,
+}
+
+/// A switch that is to be written: at a node, over so many registers, on one of these, with a window
+/// for its children.
+#[derive(Clone, Copy)]
+struct Fork {
+    node: u32,
+    width: u32,
+    register: u32,
+    window: Window,
+}
+
 /// What trees are grown with: the nodes that wait, marks of symbols, and how much may still be
 /// done.
 #[derive(Drop)]
@@ -224,6 +241,19 @@ impl Parts {
         }
         cost
     }
+
+    /// Takes what a switch costs from the fuel, where that is no more than half of it.
+    fn pays(&self, rows: &[CodeRow], register: u32, symbols: u64, fuel: &mut u64) -> bool
+        requires { All (λ row. All (IsCode self.now) row.codes.items) rows.now }
+        ensures { fuel.new ≤ fuel.old }
+    {
+        let cost = self.cost(rows, register, symbols);
+        if cost > *fuel / 2 {
+            return false;
+        }
+        *fuel -= cost;
+        true
+    }
 }
 
 /// Whether a symbol's number in the bank is near that of the first one of some.
@@ -293,6 +323,17 @@ fn span(low: u64, high: u64) -> Option<u32>
     Some(numbers as u32 + 1)
 }
 
+/// The window of some symbols' numbers in the bank; none where it would be too long.
+fn window_of(links: &Links, symbols: &[u32]) -> Option<Window>
+    requires { All (λ k. k < length links.now) symbols.now }
+    ensures { IfSome result
+        (λ w. Covers (numbers_of links.now) symbols.now w.low w.span) }
+{
+    let low = least(links, symbols);
+    let span = span(low, greatest(links, symbols))?;
+    Some(Window { low, span })
+}
+
 /// How many pairs of a row's codes are compared at the cost of copying a row.
 const COMPARED_FOR_ONE: u64 = 64;
 
@@ -360,23 +401,65 @@ impl Grower<'_> {
         Ok(window)
     }
 
-    /// A switch on a register at a node that waits; what is left for symbols that rows ask it for
-    /// waits behind it, and so does what is left for each other tree. Nothing changes where it
-    /// would cost more than half of what is left, or where there would be more than so many nodes.
+    /// A switch at a node that waits; what is left for the symbols that are marked waits behind it,
+    /// and so does what is left for each other tree.
+    fn branch_out(
+        &self,
+        rows: &[CodeRow],
+        fork: Fork,
+        forest: &mut Forest,
+        work: &mut Work,
+    ) -> Result<(), AllocError>
+        requires linked { length self.now.links.now ≡ length (symbols self.now.checked.now.spec) }
+        requires there { fork.node < length forest.old.nodes.items }
+        requires register { fork.register < fork.width }
+        requires codes { All (λ row. All (IsCode self.now.parts.now) row.codes.items) rows.now }
+        requires ground { IsGround self.now.checked.now.spec (numbers_of self.now.links.now)
+            self.now.parts.now }
+        requires marks { HasMarks work.old.marks (length (symbols self.now.checked.now.spec)) }
+        requires covers { Covers (numbers_of self.now.links.now) work.old.marks.symbols.items
+            fork.window.low fork.window.span }
+        requires room { fork.width + length self.now.parts.now.arguments.items < 2 ^ 32 }
+        ensures marks { IfOk result (λ u. work.new.marks ≡ work.old.marks) }
+        ensures fuel { IfOk result (λ u. work.new.fuel ≡ work.old.fuel) }
+        ensures steps { IfOk result (λ u. Steps self.now.checked.now.spec
+            (numbers_of self.now.links.now) self.now.parts.now forest.old ((record {
+              node = fork.node;
+              width = fork.width;
+              rows = map coded_of rows.now;
+            }) ∷ map task_of work.old.pending.items) forest.new
+            (map task_of work.new.pending.items)) }
+    {
+        let left = self
+            .parts
+            .keep_rows(self.alloc, rows, fork.register, &work.marks.marked)?;
+        let other = add(forest, &mut work.pending, fork.width, left)?;
+        let shares = self
+            .parts
+            .deal(self.alloc, rows, fork.register, fork.width, &work.marks)?;
+        let Window { low, span } = fork.window;
+        let children = self.branch(shares, fork.width, low, span, forest, &mut work.pending)?;
+        forest.write_switch(fork.node, fork.register, low, &children, other)?;
+        Ok(())
+    }
+
+    /// A switch at a node that waits, on the register of the first code that asks for a symbol.
+    /// Nothing changes where there is none, where the switch would cost more than half of what is
+    /// left, or where there would be more than so many nodes.
     fn switch(
         &self,
         rows: &[CodeRow],
         node: u32,
         width: u32,
-        register: u32,
         most: usize,
         forest: &mut Forest,
         work: &mut Work,
     ) -> Result<bool, AllocError>
         requires linked { length self.now.links.now ≡ length (symbols self.now.checked.now.spec) }
         requires there { node < length forest.old.nodes.items }
-        requires register { register < width }
+        requires some { 0 < length rows.now }
         requires codes { All (λ row. All (IsCode self.now.parts.now) row.codes.items) rows.now }
+        requires registers { All (λ row. All (λ c. c.register < width) row.codes.items) rows.now }
         requires ground { IsGround self.now.checked.now.spec (numbers_of self.now.links.now)
             self.now.parts.now }
         requires marks { HasMarks work.old.marks (length (symbols self.now.checked.now.spec)) }
@@ -388,31 +471,34 @@ impl Grower<'_> {
             ((record { node = node; width = width; rows = map coded_of rows.now }) ∷ map task_of
             work.old.pending.items) forest.new (map task_of work.new.pending.items)) }
     {
+        let Some(register) = self.parts.asked_first(&rows[0].codes) else {
+            return Ok(false);
+        };
         self.parts
             .marks(self.links, rows, register, &mut work.marks)?;
-        let marks = &work.marks;
-        if marks.symbols.len() > most.saturating_sub(forest.nodes.len()) {
+        let symbols = work.marks.symbols.len();
+        if symbols > most.saturating_sub(forest.nodes.len()) {
             return Ok(false);
         }
-        let cost = self.parts.cost(rows, register, marks.symbols.len() as u64);
-        if cost > work.fuel / 2 {
+        if !self
+            .parts
+            .pays(rows, register, symbols as u64, &mut work.fuel)
+        {
             return Ok(false);
         }
-        work.fuel -= cost;
-        let low = least(self.links, &marks.symbols);
-        let Some(span) = span(low, greatest(self.links, &marks.symbols)) else {
+        let Some(window) = window_of(self.links, &work.marks.symbols) else {
             return Ok(false);
         };
         if self.parts.arguments.len() > (u32::MAX - width) as usize {
             return Ok(false);
         }
-        let shares = self.parts.deal(self.alloc, rows, register, width, marks)?;
-        let left = self
-            .parts
-            .keep_rows(self.alloc, rows, register, &marks.marked)?;
-        let other = add(forest, &mut work.pending, width, left)?;
-        let window = self.branch(shares, width, low, span, forest, &mut work.pending)?;
-        forest.write_switch(node, register, low, &window, other)?;
+        let fork = Fork {
+            node,
+            width,
+            register,
+            window,
+        };
+        self.branch_out(rows, fork, forest, work)?;
         Ok(true)
     }
 
@@ -448,27 +534,12 @@ impl Grower<'_> {
             forest.nodes[node as usize] = Node::Fail;
             return Ok(true);
         }
-        if rows[0].codes.len() > u32::MAX as usize {
-            return Ok(false);
-        }
-        let mut places = Vec::new(self.alloc);
-        if self.parts.place(self.alloc, &rows[0].codes, &mut places)? {
-            let first = rows.remove(0);
-            leaf(
-                forest,
-                &mut work.pending,
-                node,
-                width,
-                first.rule,
-                &places,
-                rows,
-            )?;
+        if let Some(places) = self.parts.places_of(self.alloc, &rows[0].codes)? {
+            let rule = rows.remove(0).rule;
+            leaf(forest, &mut work.pending, node, width, rule, &places, rows)?;
             return Ok(true);
         }
-        let Some(register) = self.parts.asked_first(&rows[0].codes) else {
-            return Ok(false);
-        };
-        self.switch(&rows, node, width, register, most, forest, work)
+        self.switch(&rows, node, width, most, forest, work)
     }
 
     /// Steps until no node waits; it is given up where they would cost more than there is fuel, or

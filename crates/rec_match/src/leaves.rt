@@ -1,6 +1,6 @@
 //! Where the values of a row stand whose cells are variables.
 
-ghost use Rattle.std.specs.Prelude.{◌≡◌, ◌<◌, ◌^◌, ◌++◌, [], length, All, IfOk, Some};
+ghost use Rattle.std.specs.Prelude.{◌≡◌, ◌<◌, ◌^◌, ◌++◌, [], length, All, IfOk, IfSome, Some};
 ghost use Rattle.std.specs.Option.{option_map};
 ghost use Rattle.rec_match.specs.Parts.{IsCode};
 ghost use Rattle.rec_match.specs.Leaves.{number_position, code_places, ArePlaced};
@@ -53,5 +53,26 @@ impl Parts {
             }
         }
         Ok(true)
+    }
+
+    /// The places of a row's values, where nothing but values is left to ask.
+    pub(crate) fn places_of(
+        &self,
+        alloc: Global,
+        codes: &[Code],
+    ) -> Result<Option<Vec<Place>>, AllocError>
+        requires { All (IsCode self.now) codes.now }
+        ensures { IfOk result
+            (λ o. IfSome o (λ places. code_places self.now [] codes.now ≡ Some places.items)) }
+    {
+        if codes.len() > u32::MAX as usize {
+            return Ok(None);
+        }
+        let mut places = Vec::new(alloc);
+        if self.place(alloc, codes, &mut places)? {
+            Ok(Some(places))
+        } else {
+            Ok(None)
+        }
     }
 }

@@ -14,7 +14,7 @@ use rx_term::{Kind, Symbol, Term, TermBank};
 use std::alloc::{AllocError, Global};
 
 /// What is asked of the next argument, the last one first.
-#[derive(Clone, Copy, PartialEq, Eq)]
+#[derive(Clone, Copy)]
 pub enum Test {
     /// It is an application of the symbol to so many arguments, which are asked next.
     Open { symbol: Symbol, count: u32 },

@@ -1,14 +1,26 @@
 //! The least rule that matches a term of a bank.
 
-ghost use Rattle.std.specs.Prelude.{◌≡◌, ◌<◌, [], length, IfOk, IfErr, IsSome};
+ghost use Rattle.std.specs.Prelude.{◌≡◌, ◌<◌, [], length, IfOk, IfErr, IsSome, Some, None};
 ghost use Rattle.rx_term.specs.Store.{tree_at};
+ghost use Rattle.rx_term.specs.Kinds.{HasAppl, HasAnns};
+ghost use Rattle.rx_term.specs.Walks.{AllHeld};
+ghost use Rattle.rec_sorts.specs.Linked.{NumberOf};
+ghost use Rattle.rec_match.specs.Matching.{CanFind, FindsOn};
 ghost use Rattle.rec_match.specs.Next.{AreLater, AreReady, Answers, Reaches};
 
-use crate::forest::push_arguments;
+use crate::forest::{Hit, push_arguments};
 use crate::matcher::Matcher;
-use rx_term::{Kind, Term, TermBank};
+use rx_term::{Kind, Symbol, Term, TermBank};
 use smallvec::SmallVec;
 use std::alloc::AllocError;
+
+/// A term that is an application, its symbol, and the symbol's number in the specification.
+#[derive(Clone, Copy)]
+struct Call {
+    term: Term,
+    symbol: Symbol,
+    number: u32,
+}
 
 impl Matcher {
     /// The first rule at or after a number among those of a symbol.
@@ -22,6 +34,56 @@ impl Matcher {
             at = self.sides[at as usize].next;
         }
         at
+    }
+
+    /// What `find` finds, with stacks that serve once.
+    fn find_once<B: TermBank>(
+        &self,
+        bank: &B,
+        symbol: u32,
+        count: u32,
+        at: u32,
+        work: &mut Vec<Term>,
+    ) -> Result<Option<Hit>, AllocError>
+        requires held { AllHeld (B.store bank.now) work.old.items }
+        requires can { CanFind (B.store bank.now) self.now symbol count at work.old.items }
+        ensures finds { IfOk result
+            (FindsOn (B.store bank.now) self.now at work.old.items work.new.items) }
+    {
+        let alloc = *work.allocator();
+        let mut pending = Vec::new(alloc);
+        let mut bind = Vec::new(alloc);
+        self.find(bank, symbol, count, at, work, &mut pending, &mut bind)
+    }
+
+    /// The same as `next` for an application without annotations of a symbol that has a number; its
+    /// arguments stand in `work` then.
+    fn next_call<B: TermBank>(
+        &self,
+        bank: &B,
+        call: Call,
+        from: u32,
+        work: &mut Vec<Term>,
+        bind: &mut SmallVec<Term, 8>,
+    ) -> Result<Option<u32>, AllocError>
+        requires ready { AreReady (B.store bank.now) self.now }
+        requires appl { HasAppl (B.store bank.now) call.term call.symbol }
+        requires number { NumberOf self.now.links call.symbol (Some call.number) }
+        requires bare { HasAnns (B.store bank.now) call.term None }
+        requires work { work.old.items ≡ [] }
+        requires empty { bind.old.items ≡ [] }
+        ensures answers { IfOk result
+            (Answers (B.store bank.now) self.now call.term from bind.new.items) }
+        ensures empty { IfErr result (λ refused. bind.new.items ≡ []) }
+    {
+        let count = bank.arity_of(call.symbol);
+        push_arguments(bank, bank.args(call.term), count, work)?;
+        let at = self.first_from(call.number, from);
+        let Some(hit) = self.find_once(bank, call.number, count, at, work)? else {
+            return Ok(None);
+        };
+        bind.extend_from_slice(&work[hit.values..])?;
+        Ok(Some(hit.rule))
     }
 
     /// The least rule, from a number on, whose left side matches a term, and in `bind` its values
@@ -49,26 +111,12 @@ impl Matcher {
         if bank.anns(u).is_some() {
             return Ok(None);
         }
-        let alloc = *bind.allocator();
-        let mut work = Vec::new(alloc);
-        let count = bank.arity_of(symbol);
-        push_arguments(bank, bank.args(u), count, &mut work)?;
-        let mut pending = Vec::new(alloc);
-        let mut tested = Vec::new(alloc);
-        let at = self.first_from(number, from);
-        let found = self.find(
-            bank,
+        let mut work = Vec::new(*bind.allocator());
+        let call = Call {
+            term: u,
+            symbol,
             number,
-            count,
-            at,
-            &mut work,
-            &mut pending,
-            &mut tested,
-        )?;
-        let Some(hit) = found else {
-            return Ok(None);
         };
-        bind.extend_from_slice(&work[hit.values..])?;
-        Ok(Some(hit.rule))
+        self.next_call(bank, call, from, &mut work, bind)
     }
 }

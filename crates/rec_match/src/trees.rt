@@ -1,16 +1,19 @@
 //! The matching trees of a specification's symbols.
 
-ghost use Rattle.std.specs.Prelude.{◌≡◌, IfOk, length};
+ghost use Rattle.std.specs.Prelude.{◌≡◌, ◌∷◌, [], IfOk, length};
 ghost use Rattle.rec_sorts.specs.Lookup.{symbols};
 ghost use Rattle.rec_match.specs.Forests.{IsForest};
+ghost use Rattle.rec_match.specs.Marking.{HasMarks};
+ghost use Rattle.rec_match.specs.Pushed.{AreLeftParts};
 ghost use Rattle.rec_match.specs.Starting.{ChainsRules};
-ghost use Rattle.rec_match.specs.Tasks.{numbers_of};
+ghost use Rattle.rec_match.specs.Tasks.{IsGround, numbers_of};
+ghost use Rattle.rec_match.specs.declared.forest.Node.TheVariants.{Fail};
 
 use crate::chain::Chains;
 use crate::forest::{Forest, Node};
 use crate::grow::{Grower, Work};
 use crate::marks::Marks;
-use crate::push::left_parts;
+use crate::push::{LeftParts, left_parts};
 use rec_sorts::{Checked, Links};
 use std::alloc::{AllocError, Global};
 
@@ -18,6 +21,91 @@ use std::alloc::{AllocError, Global};
 /// trees of rules that hardly overlap need.
 fn fuel(parts: usize) -> u64 {
     (parts as u64).saturating_mul(16).saturating_add(1 << 22)
+}
+
+impl Forest {
+    /// No trees: one node, to which nothing leads.
+    fn new(alloc: Global) -> Result<Forest, AllocError>
+        ensures nodes { IfOk result (λ f. f.nodes.items ≡ Fail ∷ []) }
+    {
+        let mut nodes = Vec::new(alloc);
+        nodes.push(Node::Fail)?;
+        Ok(Forest {
+            nodes,
+            places: Vec::new(alloc),
+            children: Vec::new(alloc),
+            roots: Vec::new(alloc),
+        })
+    }
+}
+
+impl Grower<'_> {
+    /// The roots of the symbols' trees, which grow one after the other in a forest without trees; 0
+    /// for a symbol whose tree would be too large.
+    fn roots(
+        &self,
+        left: &LeftParts,
+        chains: &Chains,
+        forest: &mut Forest,
+        work: &mut Work,
+    ) -> Result<Vec<u32>, AllocError>
+        requires linked { length self.now.links.now ≡ length (symbols self.now.checked.now.spec) }
+        requires ground { IsGround self.now.checked.now.spec (numbers_of self.now.links.now)
+            self.now.parts.now }
+        requires same { left.now.parts ≡ self.now.parts.now }
+        requires left { AreLeftParts self.now.checked.now.spec left.now.parts left.now.numbers.items
+            (length self.now.checked.now.spec.rules) }
+        requires chains { ChainsRules self.now.checked.now.spec chains.now }
+        requires nodes { forest.old.nodes.items ≡ Fail ∷ [] }
+        requires marks { HasMarks work.old.marks (length (symbols self.now.checked.now.spec)) }
+        ensures { IfOk result (λ r. IsForest self.now.checked.now.spec
+            (numbers_of self.now.links.now) (record forest.new { roots = r })) }
+    {
+        let _kept = self.checked.syntax();
+        let mut roots = Vec::new(self.alloc);
+        for symbol in 0..self.checked.symbols() {
+            let rows = left.rows(self.alloc, self.checked, chains, symbol)?;
+            let width = self.checked.arity(symbol);
+            let root = self.tree(width, rows, forest, work)?;
+            roots.push(root)?;
+        }
+        Ok(roots)
+    }
+}
+
+/// The roots of the symbols' trees, which grow from the parts of left sides in a forest without
+/// trees.
+fn grow_all(
+    checked: &Checked,
+    links: &Links,
+    chains: &Chains,
+    left: &LeftParts,
+    forest: &mut Forest,
+) -> Result<Vec<u32>, AllocError>
+    requires linked { length links.now ≡ length (symbols checked.now.spec) }
+    requires chains { ChainsRules checked.now.spec chains.now }
+    requires left { AreLeftParts checked.now.spec left.now.parts left.now.numbers.items
+        (length checked.now.spec.rules) }
+    requires nodes { forest.old.nodes.items ≡ Fail ∷ [] }
+    ensures { IfOk result (λ r. IsForest checked.now.spec (numbers_of links.now)
+        (record forest.new { roots = r })) }
+{
+    let _differ = links.symbols();
+    let _kept = checked.syntax();
+    let alloc = *left.numbers.allocator();
+    let marks = Marks::new(alloc, checked.symbols())?;
+    let mut work = Work {
+        pending: Vec::new(alloc),
+        marks,
+        fuel: fuel(left.parts.parts.len()),
+    };
+    let grower = Grower {
+        alloc,
+        checked,
+        links,
+        parts: &left.parts,
+    };
+    grower.roots(left, chains, forest, &mut work)
 }
 
 /// The matching trees of a specification's symbols, whose rules stand in chains; a symbol whose
@@ -32,34 +120,8 @@ pub(crate) fn trees(
     requires chains { ChainsRules checked.now.spec chains.now }
     ensures { IfOk result (IsForest checked.now.spec (numbers_of links.now)) }
 {
-    let _differ = links.symbols();
-    let _kept = checked.syntax();
     let left = left_parts(alloc, checked)?;
-    let grower = Grower {
-        alloc,
-        checked,
-        links,
-        parts: &left.parts,
-    };
-    let mut forest = Forest {
-        nodes: Vec::new(alloc),
-        places: Vec::new(alloc),
-        children: Vec::new(alloc),
-        roots: Vec::new(alloc),
-    };
-    forest.nodes.push(Node::Fail)?;
-    let mut work = Work {
-        pending: Vec::new(alloc),
-        marks: Marks::new(alloc, checked.symbols())?,
-        fuel: fuel(left.parts.parts.len()),
-    };
-    let mut roots = Vec::new(alloc);
-    for symbol in 0..checked.symbols() {
-        let rows = left.rows(alloc, checked, chains, symbol)?;
-        let width = checked.arity(symbol);
-        let root = grower.tree(width, rows, &mut forest, &mut work)?;
-        roots.push(root)?;
-    }
-    forest.roots = roots;
+    let mut forest = Forest::new(alloc)?;
+    forest.roots = grow_all(checked, links, chains, &left, &mut forest)?;
     Ok(forest)
 }

@@ -20,15 +20,18 @@ returns-then-is_empty-clause-steps c =
     empty_steps c.args.self.now.checked.now.spec (numbers_of c.args.self.now.links.now) c.args.self.now.parts.now c.args.forest.now _ _ c.args.node c.args.width (map coded_of c.args.rows.items)
     (ap (map coded_of) (no_rows c.args.rows.items (omega (arith, none, v)))) refl refl refl
 
-pub switch-requires-clause-register : goal.switch-requires-clause-register
-switch-requires-clause-register c =
+pub switch-requires-clause-some : goal.switch-requires-clause-some
+switch-requires-clause-some c =
     let some : (Rattle.std.specs.Vec.vec_len c.args.rows ≡ 0) → ⊥ = eqb-false _ 0 (sym c.is_empty.ensures ∙ c.if-is_empty.false) in
     let v = c.args.rows.ok.0 in
-    let left = c.requires.can.1.tasks.0.rows in
-    c.in-Some.ensures c.args.width
-    (subst (λ xs. All (λ (d : Code). d.register < c.args.width) xs) (sym (c.deref-2.ensures.value ∙ ap (λ (r : CodeRow). r.codes.items) c.index-3.ensures))
-    (rows_within c.args.self.now.checked.now.spec c.args.self.now.parts.now c.args.width c.args.rows.items _ left 0 c.index-3.result.now (omega (arith, some, v))))
+    let l = ap length c.deref-2.ensures.value in
+    omega (arith, some, v, l)
+
+pub switch-requires-clause-registers : goal.switch-requires-clause-registers
+switch-requires-clause-registers c =
+    subst (λ xs. All (λ (row : CodeRow). All (λ (d : Code). d.register < c.args.width) row.codes.items) xs) (sym c.deref-2.ensures.value)
+    (rows_within c.args.self.now.checked.now.spec c.args.self.now.parts.now c.args.width c.args.rows.items _ c.requires.can.1.tasks.0.rows)
 
 pub switch-requires-clause-codes : goal.switch-requires-clause-codes
 switch-requires-clause-codes c =
-    subst (λ xs. All (λ (row : CodeRow). All (IsCode c.args.self.now.parts.now) row.codes.items) xs) (sym c.deref-3.ensures.value) (rows_there c.args.self.now.parts.now c.requires.ground.whole c.args.rows.items c.requires.can.1.tasks.0.rows.there)
+    subst (λ xs. All (λ (row : CodeRow). All (IsCode c.args.self.now.parts.now) row.codes.items) xs) (sym c.deref-2.ensures.value) (rows_there c.args.self.now.parts.now c.requires.ground.whole c.args.rows.items c.requires.can.1.tasks.0.rows.there)

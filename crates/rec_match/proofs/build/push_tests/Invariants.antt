@@ -2,7 +2,7 @@ use Rattle.std.proofs.Common.{length, drop, reverse, [], ◌≤◌, ◌<◌}
 use Rattle.std.specs.Prelude.{All}
 use Rattle.rec_match.specs.Matching.{AreTests}
 use Rattle.rec_match.specs.Placed.{ArePlaces}
-use Rattle.rec_match.proofs.build.tests_of.Given as goal
+use Rattle.rec_match.proofs.build.push_tests.Given as goal
 
 abbrev pub invariant-loop-i : goal.invariant-loop-i
 invariant-loop-i l = record {

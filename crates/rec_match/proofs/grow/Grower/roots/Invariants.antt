@@ -3,10 +3,10 @@ use Rattle.rec_sorts.specs.Lookup.{symbols}
 use Rattle.rec_match.specs.Marking.{HasMarks}
 use Rattle.rec_match.specs.Tasks.{numbers_of}
 use Rattle.rec_match.proofs.GrownLemmas.{HasTrees}
-use Rattle.rec_match.proofs.trees.trees.Given as goal
+use Rattle.rec_match.proofs.grow.Grower.roots.Given as goal
 
 abbrev pub invariant-loop-symbol : goal.invariant-loop-symbol
 invariant-loop-symbol l = record {
-  marks : HasMarks l.work.marks (length (symbols l.checked.spec));
-  trees : HasTrees l.checked.spec (numbers_of l.links) l.grower.parts.now l.forest l.roots.items l.symbol;
+  marks : HasMarks l.work.marks (length (symbols l.self.checked.now.spec));
+  trees : HasTrees l.self.checked.now.spec (numbers_of l.self.links.now) l.self.parts.now l.forest l.roots.items l.symbol;
 }
