@@ -1,4 +1,4 @@
-use Rattle.std.proofs.Common.{◌++◌, ◌∷◌, [], ◌∙◌, sym, append_assoc}
+use Rattle.std.proofs.Common.{◌++◌, ◌∷◌, []}
 use Rattle.rx_text.specs.Canon.{name_text}
 use Rattle.rx_text.specs.Jobs.{seen, body_text, job_text}
 use Rattle.rx_term.specs.Store.{tree_at}
