@@ -3,14 +3,14 @@ use Rattle.std.proofs.Common.{refl, sym, ap, ◌∙◌, arith, add-one, drop-con
 use Rattle.std.proofs.Common.{inl, inr}
 use Rattle.std.proofs.lemmas.Bool.{cases_lt}
 use Rattle.std.proofs.Common.{subst}
-use Rattle.std.proofs.lemmas.List.{drop_all, take_more}
+use Rattle.std.proofs.lemmas.List.{drop_all, take_all, take_more}
 use Rattle.std.specs.Prelude.{ℕ, ◌≡◌, ◌⊎◌, ◌+◌, ◌-◌, ◌<◌, ◌≤◌, List, [], ◌∷◌, ◌++◌, Option, None, length, map, take, drop, get_or, min}
 use Rattle.rec_sorts.specs.Letters.{misplaced, ill_sorted_among}
 use Rattle.rec_sorts.specs.Scope.{arguments_at}
 use Rattle.rec_sorts.specs.declared.scope.Scope.{Scope}
 use Rattle.rec_sorts.specs.declared.terms.Placed.{Placed}
 use Rattle.rec_sorts.specs.Least.{earlier, joined}
-use Rattle.rec_sorts.specs.Reading.{places_over}
+use Rattle.rec_sorts.specs.Reading.{nowhere, places_over}
 use Rattle.rec_sorts.specs.Numbering.{Pairwise}
 use Rattle.rec_sorts.specs.declared.places.TermPlaces.{TermPlaces}
 use Rattle.rec_sorts.proofs.LeastPlaceLemmas.{earlier_assoc, earlier_none, joined_assoc}
@@ -49,6 +49,28 @@ places_turn f one xs i d places read new all h e grown found before =
     ap (λ p. joined p later) (grown ∙ ap (joined places) (found ∙ ap (λ x. one (f x)) e))
     ∙ joined_assoc places (one (f (get_or xs i d))) later
     ∙ ap (λ ys. joined places (places_over one (map f ys))) (sym (drop-turn xs i d h))
+    ∙ before
+
+-- all items are read
+pub Pairwise_end : {X Y Z : Type 0} (P : X → Y → Type 0) (f : Z → Y) (cs : List Z) (i : ℕ) (xs : List X) → length cs ≤ i → Pairwise P xs (map f (take i cs)) → Pairwise P xs (map f cs)
+Pairwise_end P f cs i xs past all = subst (λ ds. Pairwise P xs (map f ds)) (take_all i cs past) all
+
+joined_nowhere : (p : TermPlaces) → joined p nowhere ≡ p
+joined_nowhere p = λ i. record {
+  unknown = earlier_none p.unknown i;
+  ill_filled = earlier_none p.ill_filled i;
+  ill_sorted = earlier_none p.ill_sorted i;
+  ill_headed = earlier_none p.ill_headed i;
+  unlike = earlier_none p.unlike i;
+  unbound = earlier_none p.unbound i;
+  free = earlier_none p.free i;
+}
+
+-- the places of all items are collected
+pub places_end : {X Y : Type 0} (f : X → Y) (one : Y → TermPlaces) (xs : List X) (i : ℕ) (places all : TermPlaces) → length xs ≤ i → joined places (places_over one (map f (drop i xs))) ≡ all → places ≡ all
+places_end f one xs i places all past before =
+    sym (joined_nowhere places)
+    ∙ ap (λ ys. joined places (places_over one (map f ys))) (sym (drop_all i xs past))
     ∙ before
 
 pub misplaced-nothing : (s : Scope) (ps : List Placed) → misplaced s ps [] ≡ None
