@@ -91,16 +91,11 @@ fn add_content(arena: &Arena, words: &mut Vec<(u64, u16)>) -> Option<()> {
 
 /// An arena is made.
 pub fn try_new(report: &mut Report) -> Option<()> {
-    new_once(report);
+    report.begin();
+    report.tell(Arena::new(report.alloc, CELLS, 4));
     let arena = boxed(report.alloc, Arena::new(report.alloc, CELLS, 4))?;
     report.count(u64::from(arena.cells()), "cells");
     Some(())
-}
-
-/// Makes it where memory may be refused.
-fn new_once(report: &mut Report) {
-    report.begin();
-    report.tell(Arena::new(report.alloc, CELLS, 4));
 }
 
 /// A call of an arena whose next cell needs memory.

@@ -44,8 +44,9 @@ const WITHOUT_LISTS: &[u8] = b"<7>";
 /// Makes the term of a text, protects it once, and fills the cells that need no memory.
 pub fn set_up<B: TermBank>(alloc: Global, bank: &mut B, text: &[u8]) -> Option<Term> {
     let kept = read_held(alloc, bank, text)?;
-    bank.protect(kept).ok()?;
-    fill(bank).ok()?;
+    if bank.protect(kept).is_err() || fill(bank).is_err() {
+        return None;
+    }
     Some(kept)
 }
 
@@ -178,56 +179,31 @@ pub fn try_call<B: TermBank>(bank: &mut B, call: Call, report: &mut Report) -> O
 /// Makes the call where it may be refused, and says what stands then.
 fn call_once<B: TermBank>(bank: &mut B, call: Call, report: &mut Report) -> Option<()> {
     let mut before = Vec::new(report.alloc);
-    call_after(bank, call, &mut before, report)
-}
-
-/// Makes it behind a note of what is there before.
-fn call_after<B: TermBank>(
-    bank: &mut B,
-    call: Call,
-    before: &mut Vec<u8>,
-    report: &mut Report,
-) -> Option<()> {
-    add_content(report.alloc, bank, before)?;
+    add_content(report.alloc, bank, &mut before)?;
     report.begin();
     if report.tell(attempt(bank, call)) {
         Some(())
     } else {
-        compare(bank, before, report)
+        compare(bank, &before, report)
     }
-}
-
-/// Says how many cells there are.
-fn count_cells<B: TermBank>(bank: &B, report: &mut Report) {
-    report.count(u64::from(bank.cells()), "cells");
 }
 
 /// A plain bank is made.
 pub fn try_new_plain(report: &mut Report) -> Option<()> {
-    new_plain_once(report);
-    let bank = boxed(report.alloc, PlainBank::new(report.alloc, CELLS))?;
-    count_cells(&*bank, report);
-    Some(())
-}
-
-/// Makes it where memory may be refused.
-fn new_plain_once(report: &mut Report) {
     report.begin();
     report.tell(PlainBank::new(report.alloc, CELLS));
+    let bank = boxed(report.alloc, PlainBank::new(report.alloc, CELLS))?;
+    report.count(u64::from(bank.cells()), "cells");
+    Some(())
 }
 
 /// A shared bank is made.
 pub fn try_new_shared(report: &mut Report) -> Option<()> {
-    new_shared_once(report);
-    let bank = boxed(report.alloc, SharedBank::new(report.alloc, CELLS))?;
-    count_cells(&*bank, report);
-    Some(())
-}
-
-/// Makes it where memory may be refused.
-fn new_shared_once(report: &mut Report) {
     report.begin();
     report.tell(SharedBank::new(report.alloc, CELLS));
+    let bank = boxed(report.alloc, SharedBank::new(report.alloc, CELLS))?;
+    report.count(u64::from(bank.cells()), "cells");
+    Some(())
 }
 
 /// Makes the integers from 0 to 1099.
@@ -249,7 +225,7 @@ fn make_integers_twice<B: TermBank>(bank: &mut B, report: &mut Report) -> Option
     report.begin();
     report.tell(make_integers(bank));
     make_integers(bank).ok()?;
-    count_cells(bank, report);
+    report.count(u64::from(bank.cells()), "cells");
     Some(())
 }
 
@@ -260,7 +236,9 @@ fn read_down<B: TermBank>(bank: &B, t: Term) -> u32 {
         if !bank.holds(at) {
             return depth;
         }
-        if bank.anns(at).is_some_and(|notes| !bank.holds(notes)) {
+        if let Some(notes) = bank.anns(at)
+            && !bank.holds(notes)
+        {
             return depth;
         }
         at = match bank.kind(at) {

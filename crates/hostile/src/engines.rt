@@ -38,17 +38,12 @@ pub enum Asked {
 
 /// A memo is made.
 pub fn try_memo(report: &mut Report) -> Option<()> {
-    make_memo_once(report);
+    report.begin();
+    report.tell(Memo::new(report.alloc, 16));
     let mut memo = boxed(report.alloc, Memo::new(report.alloc, 16))?;
     memo.put(Term(1), Term(2), 3);
     report.say(memo.get(Term(1)) == Some((Term(2), 3)), "remembered");
     Some(())
-}
-
-/// Makes it where memory may be refused.
-fn make_memo_once(report: &mut Report) {
-    report.begin();
-    report.tell(Memo::new(report.alloc, 16));
 }
 
 /// An engine over a bank.
@@ -63,7 +58,9 @@ pub fn try_new(report: &mut Report) -> Option<()> {
     let bank = SharedBank::new(report.alloc, CELLS).ok()?;
     make_once(bank, report)?;
     let another = SharedBank::new(report.alloc, CELLS).ok()?;
-    count_terms(another, report)
+    let engine = engine_over(report.alloc, another)?;
+    report.count(u64::from(engine.eval_terms()), "terms");
+    Some(())
 }
 
 /// Makes an engine where memory may be refused. It takes the bank and the specification.
@@ -72,13 +69,6 @@ fn make_once<B: TermBank + Drop>(bank: B, report: &mut Report) -> Option<()> {
     report.begin();
     let checked = Box::into_inner(checked);
     report.tell(Engine::new(report.alloc, checked, bank, OPTIONS));
-    Some(())
-}
-
-/// Says how many terms to evaluate an engine over a bank has.
-fn count_terms<B: TermBank + Drop>(bank: B, report: &mut Report) -> Option<()> {
-    let engine = engine_over(report.alloc, bank)?;
-    report.count(u64::from(engine.eval_terms()), "terms");
     Some(())
 }
 

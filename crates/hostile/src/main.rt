@@ -41,8 +41,11 @@ fn try_row(rt: &HostRuntime, report: &mut Report) -> Option<()> {
 
 /// Tries the row of these words.
 fn try_words(words: &[String], report: &mut Report) -> Option<()> {
-    let call = words.get(1)?.as_str();
-    match words.get(0)?.as_str() {
+    let [kind, call] = words else {
+        return None;
+    };
+    let call = call.as_str();
+    match kind.as_str() {
         "plain" => try_plain(call, report),
         "shared" => try_shared(call, report),
         "store" => try_store(call, report),

@@ -39,16 +39,11 @@ pub fn checked(alloc: Global) -> Option<Box<Checked>> {
 
 /// A specification is read.
 pub fn try_read(report: &mut Report) -> Option<()> {
-    read_once(report);
+    report.begin();
+    report.tell(read_spec(report.alloc, DOUBLING));
     let syntax = boxed(report.alloc, read_spec(report.alloc, DOUBLING))?;
     show_syntax(&*syntax, report);
     Some(())
-}
-
-/// Reads it where memory may be refused.
-fn read_once(report: &mut Report) {
-    report.begin();
-    report.tell(read_spec(report.alloc, DOUBLING));
 }
 
 /// Says what was read.
@@ -75,22 +70,15 @@ fn check_once(report: &mut Report) -> Option<()> {
     Some(())
 }
 
-/// Given terms are checked.
+/// Given terms are checked twice; memory may be refused the first time.
 pub fn try_check_terms<B: TermBank>(bank: &mut B, report: &mut Report) -> Option<()> {
     let list = read_held(report.alloc, bank, TERMS)?;
     let checked = checked(report.alloc)?;
-    check_list(&*checked, bank, list, report);
-    Some(())
-}
-
-/// Checks a list of terms twice; memory may be refused the first time.
-fn check_list<B: TermBank>(checked: &Checked, bank: &B, list: Term, report: &mut Report)
-    requires { IsSome (tree_at (B.store bank.now) list) }
-{
     report.begin();
-    report.tell(check_terms(report.alloc, checked, bank, list));
-    let again = check_terms(report.alloc, checked, bank, list);
+    report.tell(check_terms(report.alloc, &*checked, bank, list));
+    let again = check_terms(report.alloc, &*checked, bank, list);
     report.say(again.is_ok(), "accepted");
+    Some(())
 }
 
 /// The symbols get theirs in a bank.
@@ -105,26 +93,16 @@ pub fn try_links<B: TermBank>(bank: &mut B, report: &mut Report) -> Option<()> {
 /// Gives them theirs twice; memory may be refused the first time.
 fn link_twice<B: TermBank>(checked: &Checked, bank: &mut B, report: &mut Report) -> Option<()> {
     let mut before = Vec::new(report.alloc);
-    link_after(checked, bank, &mut before, report)
-}
-
-/// Gives them theirs behind a note of what is there before.
-fn link_after<B: TermBank>(
-    checked: &Checked,
-    bank: &mut B,
-    before: &mut Vec<u8>,
-    report: &mut Report,
-) -> Option<()> {
-    add_content(report.alloc, bank, before)?;
+    add_content(report.alloc, bank, &mut before)?;
     report.begin();
     report.tell(Links::make(report.alloc, checked, bank));
-    compare(bank, before, report)?;
+    compare(bank, &before, report)?;
     count_symbols(checked, bank, report)
 }
 
 /// Says how many symbols a specification gets in a bank.
 fn count_symbols<B: TermBank>(checked: &Checked, bank: &mut B, report: &mut Report) -> Option<()> {
-    let links = Links::make(report.alloc, checked, bank).ok()?;
+    let links = boxed(report.alloc, Links::make(report.alloc, checked, bank))?;
     report.count(links.symbols().len() as u64, "symbols");
     Some(())
 }
@@ -145,18 +123,11 @@ fn build_over<B: TermBank>(checked: &Checked, bank: &mut B, report: &mut Report)
 fn build_twice(checked: &Checked, links: &Links, report: &mut Report) -> Option<()>
     requires { length links.now ≡ length (symbols checked.now.spec) }
 {
-    build_once(checked, links, report);
+    report.begin();
+    report.tell(Matcher::build(report.alloc, checked, links));
     let matcher = boxed(report.alloc, Matcher::build(report.alloc, checked, links))?;
     report.count(matcher.sides.len() as u64, "left sides");
     Some(())
-}
-
-/// Builds them where memory may be refused.
-fn build_once(checked: &Checked, links: &Links, report: &mut Report)
-    requires { length links.now ≡ length (symbols checked.now.spec) }
-{
-    report.begin();
-    report.tell(Matcher::build(report.alloc, checked, links));
 }
 
 /// A matcher, whose symbols the bank has.

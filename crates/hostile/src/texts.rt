@@ -16,11 +16,11 @@ const KEPT: &[u8] = b"[kept]";
 
 /// A text is read. What was there before is there after a refusal.
 pub fn try_read<B: TermBank>(bank: &mut B, report: &mut Report) -> Option<()> {
-    let kept = read(report.alloc, KEPT, bank).ok()?;
+    let kept = read_held(report.alloc, bank, KEPT)?;
     report.begin();
     report.tell(read(report.alloc, TEXT, bank));
     report.show(bank, kept);
-    let t = read(report.alloc, TEXT, bank).ok()?;
+    let t = read_held(report.alloc, bank, TEXT)?;
     report.show(bank, t);
     bank.reclaim(&[]);
     report.count(u64::from(bank.cells()), "cells kept");
