@@ -6,15 +6,12 @@ ghost use Rattle.rx_arena.specs.Put.{times};
 ghost use Rattle.rx_sweep.specs.Reach.{CanCollect, names};
 
 use crate::CELLS;
-use crate::report::{begin, count, say, tell};
-use anyhow::Result;
+use crate::needs::boxed;
+use crate::report::Report;
 use rx_arena::arena::Arena;
 use rx_arena::{ArenaFault, CellBody, Slot};
 use rx_names::Names;
 use rx_sweep::collect;
-use std::alloc::Global;
-use std::io;
-use std::io::Write;
 
 /// A name that is there before.
 const KNOWN: &[u8] = b"a";
@@ -23,31 +20,30 @@ const KNOWN: &[u8] = b"a";
 const NEW: &[u8] = b"b";
 
 /// A name is given its symbol.
-pub fn try_intern<W: Write>(alloc: Global, out: &mut W) -> Result<()> {
-    let mut names = Names::new(alloc)?;
-    intern_twice(&mut names, out)
+pub fn try_intern(report: &mut Report) -> Option<()> {
+    let mut names = boxed(report.alloc, Names::new(report.alloc))?;
+    intern_twice(&mut *names, report)
 }
 
 /// Gives it twice, beside a known one; memory may be refused the first time.
-fn intern_twice<W: Write>(names: &mut Names, out: &mut W) -> Result<()> {
-    let known = names.intern(KNOWN, true, 0)?;
-    intern_once(names, out)?;
-    let made = names.intern(NEW, true, 0)?;
-    let is_known = names.find(KNOWN, true, 0) == Some(known);
-    say(out, is_known, "the known symbol")?;
-    let is_made = names.find(NEW, true, 0) == Some(made);
-    Ok(say(out, is_made, "the new symbol")?)
+fn intern_twice(names: &mut Names, report: &mut Report) -> Option<()> {
+    let known = names.intern(KNOWN, true, 0).ok()?;
+    intern_once(names, report);
+    let made = names.intern(NEW, true, 0).ok()?;
+    report.say(
+        names.find(KNOWN, true, 0) == Some(known),
+        "the known symbol",
+    );
+    report.say(names.find(NEW, true, 0) == Some(made), "the new symbol");
+    Some(())
 }
 
 /// Gives it where memory may be refused.
-fn intern_once<W: Write>(names: &mut Names, out: &mut W) -> io::Result<()> {
-    begin(out)?;
-    let answer = names.intern(NEW, true, 0);
-    tell(out, &answer)?;
-    if answer.is_err() {
-        say(out, names.find(NEW, true, 0).is_none(), "without the name")?;
+fn intern_once(names: &mut Names, report: &mut Report) {
+    report.begin();
+    if !report.tell(names.intern(NEW, true, 0)) {
+        report.say(names.find(NEW, true, 0).is_none(), "without the name");
     }
-    Ok(())
 }
 
 /// What a cell of this number says, which has no parts.
@@ -62,135 +58,109 @@ fn body(number: u32) -> CellBody {
 }
 
 /// Takes a cell and puts it into a chain.
-fn link(arena: &mut Arena, number: u32) -> Result<(), ArenaFault> {
-    let slot = arena.take(body(number))?;
+fn link(arena: &mut Arena, number: u32) -> Option<()> {
+    let slot = arena.take(body(number)).ok()?;
     let chains = arena.chains();
     if chains > 0 && arena.holds_unmarked(slot) {
         arena.chain_push(number % chains, slot);
     }
-    Ok(())
+    Some(())
 }
 
-/// An arena whose next cell needs memory.
-fn filled(alloc: Global) -> Result<Arena, ArenaFault> {
-    let mut arena = Arena::new(alloc, CELLS, 4)?;
+/// Takes cells until the next one needs memory.
+fn fill(arena: &mut Arena) -> Option<()> {
     for number in 0..CELLS {
         if number > 0 && arena.spare() == 0 {
             break;
         }
-        link(&mut arena, number)?;
+        link(arena, number)?;
     }
-    Ok(arena)
+    Some(())
 }
 
-/// The words and the counts of all cells.
-fn content(alloc: Global, arena: &Arena) -> Result<Vec<(u64, u16)>> {
-    let mut words = Vec::new(alloc);
+/// Adds the words and the counts of all cells.
+fn add_content(arena: &Arena, words: &mut Vec<(u64, u16)>) -> Option<()> {
     for number in 0..CELLS {
-        if arena.holds_unmarked(Slot(number)) {
-            words.push((arena.read(Slot(number)).a, arena.roots(Slot(number))))?;
+        let slot = Slot(number);
+        if arena.holds_unmarked(slot) {
+            words.push((arena.read(slot).a, arena.roots(slot))).ok()?;
         }
     }
-    Ok(words)
+    Some(())
 }
 
 /// An arena is made.
-pub fn try_new<W: Write>(alloc: Global, out: &mut W) -> Result<()> {
-    begin(out)?;
-    let answer = Arena::new(alloc, CELLS, 4);
-    tell(out, &answer)?;
-    let arena = Arena::new(alloc, CELLS, 4)?;
-    count(alloc, out, u64::from(arena.cells()), "cells")
+pub fn try_new(report: &mut Report) -> Option<()> {
+    report.begin();
+    report.tell(Arena::new(report.alloc, CELLS, 4));
+    let arena = boxed(report.alloc, Arena::new(report.alloc, CELLS, 4))?;
+    report.count(u64::from(arena.cells()), "cells");
+    Some(())
+}
+
+/// A call of an arena whose next cell needs memory.
+pub fn try_filled(call: &str, report: &mut Report) -> Option<()> {
+    let mut arena = boxed(report.alloc, Arena::new(report.alloc, CELLS, 4))?;
+    let mut before = Vec::new(report.alloc);
+    fill_and_try(call, &mut *arena, &mut before, report)
+}
+
+/// Fills it, notes what it holds before, and tries the call.
+fn fill_and_try(
+    call: &str,
+    arena: &mut Arena,
+    before: &mut Vec<(u64, u16)>,
+    report: &mut Report,
+) -> Option<()> {
+    fill(arena)?;
+    add_content(arena, before)?;
+    match call {
+        "take" => take_twice(arena, before, report),
+        "reserve" => reserve_twice(arena, before, report),
+        "rehash" => rehash_twice(arena, before, report),
+        _ => None,
+    }
 }
 
 /// Says whether the cells are those from before.
-fn compare<W: Write>(
-    alloc: Global,
-    arena: &Arena,
-    before: &Vec<(u64, u16)>,
-    out: &mut W,
-) -> Result<()> {
-    let now = content(alloc, arena)?;
-    let is_same = now == *before;
-    Ok(say(out, is_same, "the same cells")?)
+fn compare(arena: &Arena, before: &Vec<(u64, u16)>, report: &mut Report) -> Option<()> {
+    let mut now = Vec::new(report.alloc);
+    add_content(arena, &mut now)?;
+    report.say(now == *before, "the same cells");
+    Some(())
 }
 
-/// A cell is taken that needs memory.
-pub fn try_take<W: Write>(alloc: Global, out: &mut W) -> Result<()> {
-    let mut arena = filled(alloc)?;
-    let before = content(alloc, &arena)?;
-    take_twice(alloc, &mut arena, &before, out)
-}
-
-/// Takes it, and once more where memory was refused.
-fn take_twice<W: Write>(
-    alloc: Global,
-    arena: &mut Arena,
-    before: &Vec<(u64, u16)>,
-    out: &mut W,
-) -> Result<()> {
-    if !take_once(arena, out)? {
-        compare(alloc, arena, before, out)?;
-        arena.take(body(CELLS))?;
+/// Takes a cell that needs memory, and once more where that was refused.
+fn take_twice(arena: &mut Arena, before: &Vec<(u64, u16)>, report: &mut Report) -> Option<()> {
+    report.begin();
+    if !report.tell(arena.take(body(CELLS))) {
+        compare(arena, before, report)?;
+        arena.take(body(CELLS)).ok()?;
     }
-    let is_more = arena.cells() as usize == before.len() + 1;
-    Ok(say(out, is_more, "one cell more")?)
+    report.say(arena.cells() as usize == before.len() + 1, "one cell more");
+    Some(())
 }
 
-/// Takes it where memory may be refused, and returns whether that was done.
-fn take_once<W: Write>(arena: &mut Arena, out: &mut W) -> io::Result<bool> {
-    begin(out)?;
-    let answer = arena.take(body(CELLS));
-    tell(out, &answer)?;
-    Ok(answer.is_ok())
+/// Makes room for cells twice; memory may be refused the first time.
+fn reserve_twice(arena: &mut Arena, before: &Vec<(u64, u16)>, report: &mut Report) -> Option<()> {
+    report.begin();
+    report.tell(arena.reserve(CELLS / 2));
+    compare(arena, before, report)?;
+    arena.reserve(CELLS / 2).ok()?;
+    report.say(arena.spare() >= CELLS / 2, "room for as many");
+    Some(())
 }
 
-/// Room is made for cells.
-pub fn try_reserve<W: Write>(alloc: Global, out: &mut W) -> Result<()> {
-    let mut arena = filled(alloc)?;
-    let before = content(alloc, &arena)?;
-    reserve_once(&mut arena, out)?;
-    compare(alloc, &arena, &before, out)?;
-    reserve_again(&mut arena, out)
-}
-
-/// Makes it where memory may be refused.
-fn reserve_once<W: Write>(arena: &mut Arena, out: &mut W) -> io::Result<()> {
-    begin(out)?;
-    let answer = arena.reserve(CELLS / 2);
-    tell(out, &answer)
-}
-
-/// Makes it where there is memory.
-fn reserve_again<W: Write>(arena: &mut Arena, out: &mut W) -> Result<()> {
-    arena.reserve(CELLS / 2)?;
-    Ok(say(out, arena.spare() >= CELLS / 2, "room for as many")?)
-}
-
-/// The cells are dealt out to more chains.
-pub fn try_rehash<W: Write>(alloc: Global, out: &mut W) -> Result<()> {
-    let mut arena = filled(alloc)?;
-    let before = content(alloc, &arena)?;
-    rehash_once(&mut arena, out)?;
-    compare(alloc, &arena, &before, out)?;
-    rehash_again(alloc, &mut arena, out)
-}
-
-/// Deals them out where memory may be refused.
-fn rehash_once<W: Write>(arena: &mut Arena, out: &mut W) -> io::Result<()> {
-    begin(out)?;
-    let answer = arena.rehash_into(64);
-    tell(out, &answer)?;
-    if answer.is_err() {
-        say(out, arena.chains() == 4, "the same chains")?;
+/// Deals the cells out to more chains twice; memory may be refused the first time.
+fn rehash_twice(arena: &mut Arena, before: &Vec<(u64, u16)>, report: &mut Report) -> Option<()> {
+    report.begin();
+    if !report.tell(arena.rehash_into(64)) {
+        report.say(arena.chains() == 4, "the same chains");
     }
-    Ok(())
-}
-
-/// Deals them out where there is memory.
-fn rehash_again<W: Write>(alloc: Global, arena: &mut Arena, out: &mut W) -> Result<()> {
-    arena.rehash_into(64)?;
-    count(alloc, out, u64::from(arena.chains()), "chains")
+    compare(arena, before, report)?;
+    arena.rehash_into(64).ok()?;
+    report.count(u64::from(arena.chains()), "chains");
+    Some(())
 }
 
 /// Takes a cell whose parts are there, and puts it into the first chain.
@@ -225,15 +195,34 @@ fn leaf(arena: &mut Arena) -> Result<Slot, ArenaFault>
     link_first(arena, body)
 }
 
-/// A collection asks for no memory.
-pub fn try_collect<W: Write>(alloc: Global, out: &mut W) -> Result<()> {
-    let mut arena = Arena::new(alloc, CELLS, 4)?;
-    leaf(&mut arena)?;
-    leaf(&mut arena)?;
-    let kept = leaf(&mut arena)?;
+/// Three cells, of which the last one is protected.
+fn take_leaves(arena: &mut Arena) -> Result<(), ArenaFault>
+    requires ready { CanCollect arena.old }
+    requires chains { 0 < length arena.old.chains }
+    ensures { OnOk result (CanCollect arena.new) }
+{
+    leaf(arena)?;
+    leaf(arena)?;
+    let kept = leaf(arena)?;
     arena.set_roots(kept, 1);
-    begin(out)?;
-    collect(&mut arena);
-    out.write_all(b"done\n")?;
-    count(alloc, out, u64::from(arena.cells()), "cells")
+    Ok(())
+}
+
+/// A collection asks for no memory.
+pub fn try_collect(report: &mut Report) -> Option<()> {
+    let mut arena = Arena::new(report.alloc, CELLS, 4).ok()?;
+    collect_leaves(&mut arena, report).ok()
+}
+
+/// Collects all cells but one.
+fn collect_leaves(arena: &mut Arena, report: &mut Report) -> Result<(), ArenaFault>
+    requires ready { CanCollect arena.old }
+    requires chains { 0 < length arena.old.chains }
+{
+    take_leaves(arena)?;
+    report.begin();
+    collect(arena);
+    report.end();
+    report.count(u64::from(arena.cells()), "cells");
+    Ok(())
 }

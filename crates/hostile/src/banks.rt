@@ -1,19 +1,20 @@
 //! Makes of a bank, of which each growth may be refused; and its calls that ask for no memory.
 
+ghost use Rattle.std.specs.Prelude.{IsSome, IfSome};
+ghost use Rattle.rx_term.specs.Store.{tree_at};
+
 use crate::CELLS;
-use crate::report::{begin, count, say, show, tell};
-use anyhow::{Result, bail};
+use crate::needs::{boxed, read_held};
+use crate::report::Report;
 use rx_plain::PlainBank;
 use rx_shared::SharedBank;
 use rx_term::build::constant;
 use rx_term::{BankFault, Kind, Symbol, Term, TermBank};
-use rx_text::{read, write};
+use rx_text::write;
 use std::alloc::Global;
-use std::io;
-use std::io::Write;
 
 /// A call that may want memory.
-#[derive(Clone, Copy, PartialEq, Eq)]
+#[derive(Clone, Copy)]
 pub enum Call {
     Int,
     Nil,
@@ -26,7 +27,7 @@ pub enum Call {
 }
 
 /// What a call has made.
-#[derive(Drop)]
+#[derive(Clone, Copy)]
 enum Made {
     Tree(Term),
     Symbol(Symbol),
@@ -35,25 +36,18 @@ enum Made {
 
 /// It has 14 parts: itself, `[b]`, `b`, `[]`, `[g(a),[1,<7>]]`, `[[1,<7>]]`, `g(a)`, `[a]`, `a`,
 /// `[1,<7>]`, `[<7>]`, `1`, `<7>` and `7`.
-const KEPT: &[u8] = b"f(g(a),[1,<7>]){b}";
+pub const KEPT: &[u8] = b"f(g(a),[1,<7>]){b}";
 
 /// It has no list among its two parts.
 const WITHOUT_LISTS: &[u8] = b"<7>";
 
-/// Makes a term, protects it once, and fills the cells that need no memory.
-pub fn set_up<B: TermBank>(alloc: Global, bank: &mut B, call: Call) -> Result<Term> {
-    let text = if call == Call::Nil {
-        WITHOUT_LISTS
-    } else {
-        KEPT
-    };
-    let kept = read(alloc, text, bank)?;
-    if !bank.holds(kept) {
-        bail!("what was read is not held");
+/// Makes the term of a text, protects it once, and fills the cells that need no memory.
+pub fn set_up<B: TermBank>(alloc: Global, bank: &mut B, text: &[u8]) -> Option<Term> {
+    let kept = read_held(alloc, bank, text)?;
+    if bank.protect(kept).is_err() || fill(bank).is_err() {
+        return None;
     }
-    bank.protect(kept)?;
-    fill(bank)?;
-    Ok(kept)
+    Some(kept)
 }
 
 /// Makes integers until the next cell needs memory.
@@ -67,40 +61,35 @@ fn fill<B: TermBank>(bank: &mut B) -> Result<(), BankFault> {
     Ok(())
 }
 
-/// The text of each cell, by its number.
-pub fn content<B: TermBank>(alloc: Global, bank: &B) -> Result<Vec<u8>> {
-    let mut text = Vec::new(alloc);
+/// Adds the text of each cell, by its number.
+pub fn add_content<B: TermBank>(alloc: Global, bank: &B, text: &mut Vec<u8>) -> Option<()> {
     let mut found = 0u32;
     for number in 0..CELLS {
         if bank.holds(Term(number)) {
             found = found.wrapping_add(1);
-            write(alloc, bank, Term(number), &mut text)?;
+            write(alloc, bank, Term(number), text).ok()?;
         }
-        text.push(b'\n')?;
+        text.push(b'\n').ok()?;
     }
-    if found != bank.cells() {
-        bail!("a cell has a number past the limit");
+    // Otherwise a cell has a number past the limit.
+    if found == bank.cells() {
+        Some(())
+    } else {
+        None
     }
-    Ok(text)
 }
 
 /// Makes what the call says; all that it is made of is there before.
 fn attempt<B: TermBank>(bank: &mut B, call: Call) -> Result<Made, BankFault> {
     match call {
-        Call::Int => Ok(Made::Tree(bank.int(77)?)),
-        Call::Nil => Ok(Made::Tree(bank.nil()?)),
-        Call::Cons => Ok(Made::Tree(list_of_one(bank)?)),
-        Call::Appl => Ok(Made::Tree(applied(bank)?)),
-        Call::Hole => {
-            let one = bank.int(1)?;
-            Ok(Made::Tree(bank.hole(one)?))
-        }
-        Call::Annotated => Ok(Made::Tree(noted(bank)?)),
-        Call::Symbol => Ok(Made::Symbol(bank.symbol(b"new", false, 3)?)),
-        Call::Reserve => {
-            bank.reserve(CELLS / 2)?;
-            Ok(Made::Room)
-        }
+        Call::Int => bank.int(77).map(Made::Tree),
+        Call::Nil => bank.nil().map(Made::Tree),
+        Call::Cons => list_of_one(bank).map(Made::Tree),
+        Call::Appl => applied(bank).map(Made::Tree),
+        Call::Hole => held_open(bank).map(Made::Tree),
+        Call::Annotated => noted(bank).map(Made::Tree),
+        Call::Symbol => bank.symbol(b"new", false, 3).map(Made::Symbol),
+        Call::Reserve => bank.reserve(CELLS / 2).map(|()| Made::Room),
     }
 }
 
@@ -120,6 +109,12 @@ fn applied<B: TermBank>(bank: &mut B) -> Result<Term, BankFault> {
     bank.appl(g, args)
 }
 
+/// `<1>`.
+fn held_open<B: TermBank>(bank: &mut B) -> Result<Term, BankFault> {
+    let one = bank.int(1)?;
+    bank.hole(one)
+}
+
 /// `1{b}`.
 fn noted<B: TermBank>(bank: &mut B) -> Result<Term, BankFault> {
     let b = constant(bank, b"b")?;
@@ -130,22 +125,14 @@ fn noted<B: TermBank>(bank: &mut B) -> Result<Term, BankFault> {
 }
 
 /// Says what was made.
-fn show_made<B: TermBank, W: Write>(
-    alloc: Global,
-    bank: &mut B,
-    made: Made,
-    out: &mut W,
-) -> Result<()> {
+fn show_made<B: TermBank>(bank: &mut B, made: Made, report: &mut Report) {
     match made {
-        Made::Tree(t) => show(alloc, bank, t, out),
+        Made::Tree(t) => report.show(bank, t),
         Made::Symbol(symbol) => {
-            let same = bank.symbol(b"new", false, 3)? == symbol;
-            Ok(say(out, same, "the same symbol")?)
+            let is_same = bank.symbol(b"new", false, 3) == Ok(symbol);
+            report.say(is_same, "the same symbol");
         }
-        Made::Room => {
-            let spare = bank.spare();
-            Ok(say(out, spare >= CELLS / 2, "room for as many")?)
-        }
+        Made::Room => report.say(bank.spare() >= CELLS / 2, "room for as many"),
     }
 }
 
@@ -160,97 +147,63 @@ fn protections_left<B: TermBank>(bank: &mut B, t: Term) -> u64 {
 }
 
 /// Gives up all but what is protected, and says how much is left.
-pub fn show_roots<B: TermBank, W: Write>(
-    alloc: Global,
-    bank: &mut B,
-    kept: Term,
-    out: &mut W,
-) -> Result<()> {
-    count(alloc, out, protections_left(bank, kept), "protections left")?;
+pub fn show_roots<B: TermBank>(bank: &mut B, kept: Term, report: &mut Report) {
+    report.count(protections_left(bank, kept), "protections left");
     bank.reclaim(&[]);
-    show(alloc, bank, kept, out)?;
-    count(alloc, out, u64::from(bank.cells()), "cells kept")
+    report.show(bank, kept);
+    report.count(u64::from(bank.cells()), "cells kept");
 }
 
 /// Says whether the cells are those from before.
-pub fn compare<B: TermBank, W: Write>(
-    alloc: Global,
-    bank: &B,
-    before: &Vec<u8>,
-    out: &mut W,
-) -> Result<()> {
-    let now = content(alloc, bank)?;
-    let is_same = now == *before;
-    Ok(say(out, is_same, "the same cells")?)
+pub fn compare<B: TermBank>(bank: &B, before: &Vec<u8>, report: &mut Report) -> Option<()> {
+    let mut now = Vec::new(report.alloc);
+    add_content(report.alloc, bank, &mut now)?;
+    report.say(now == *before, "the same cells");
+    Some(())
 }
 
 /// A call that may be refused, what stands then, and the same call again.
-pub fn try_call<B: TermBank, W: Write>(
-    alloc: Global,
-    bank: &mut B,
-    call: Call,
-    out: &mut W,
-) -> Result<()> {
-    let kept = set_up(alloc, bank, call)?;
-    call_once(alloc, bank, call, out)?;
-    let made = attempt(bank, call)?;
-    show_made(alloc, bank, made, out)?;
-    show_roots(alloc, bank, kept, out)
+pub fn try_call<B: TermBank>(bank: &mut B, call: Call, report: &mut Report) -> Option<()> {
+    let text = match call {
+        Call::Nil => WITHOUT_LISTS,
+        _ => KEPT,
+    };
+    let kept = set_up(report.alloc, bank, text)?;
+    call_once(bank, call, report)?;
+    let made = attempt(bank, call).ok()?;
+    show_made(bank, made, report);
+    show_roots(bank, kept, report);
+    Some(())
 }
 
 /// Makes the call where it may be refused, and says what stands then.
-fn call_once<B: TermBank, W: Write>(
-    alloc: Global,
-    bank: &mut B,
-    call: Call,
-    out: &mut W,
-) -> Result<()> {
-    let before = content(alloc, bank)?;
-    if !is_done(bank, call, out)? {
-        compare(alloc, bank, &before, out)?;
+fn call_once<B: TermBank>(bank: &mut B, call: Call, report: &mut Report) -> Option<()> {
+    let mut before = Vec::new(report.alloc);
+    add_content(report.alloc, bank, &mut before)?;
+    report.begin();
+    if report.tell(attempt(bank, call)) {
+        Some(())
+    } else {
+        compare(bank, &before, report)
     }
-    Ok(())
-}
-
-/// Makes the call where it may be refused, and returns whether it was done.
-fn is_done<B: TermBank, W: Write>(bank: &mut B, call: Call, out: &mut W) -> io::Result<bool> {
-    begin(out)?;
-    let answer = attempt(bank, call);
-    tell(out, &answer)?;
-    Ok(answer.is_ok())
-}
-
-/// Says how many cells there are.
-fn count_cells<B: TermBank, W: Write>(alloc: Global, bank: &B, out: &mut W) -> Result<()> {
-    count(alloc, out, u64::from(bank.cells()), "cells")
 }
 
 /// A plain bank is made.
-pub fn try_new_plain<W: Write>(alloc: Global, out: &mut W) -> Result<()> {
-    new_plain_once(alloc, out)?;
-    let bank = PlainBank::new(alloc, CELLS)?;
-    count_cells(alloc, &bank, out)
-}
-
-/// Makes it where memory may be refused.
-fn new_plain_once<W: Write>(alloc: Global, out: &mut W) -> io::Result<()> {
-    begin(out)?;
-    let answer = PlainBank::new(alloc, CELLS);
-    tell(out, &answer)
+pub fn try_new_plain(report: &mut Report) -> Option<()> {
+    report.begin();
+    report.tell(PlainBank::new(report.alloc, CELLS));
+    let bank = boxed(report.alloc, PlainBank::new(report.alloc, CELLS))?;
+    report.count(u64::from(bank.cells()), "cells");
+    Some(())
 }
 
 /// A shared bank is made.
-pub fn try_new_shared<W: Write>(alloc: Global, out: &mut W) -> Result<()> {
-    new_shared_once(alloc, out)?;
-    let bank = SharedBank::new(alloc, CELLS)?;
-    count_cells(alloc, &bank, out)
-}
-
-/// Makes it where memory may be refused.
-fn new_shared_once<W: Write>(alloc: Global, out: &mut W) -> io::Result<()> {
-    begin(out)?;
-    let answer = SharedBank::new(alloc, CELLS);
-    tell(out, &answer)
+pub fn try_new_shared(report: &mut Report) -> Option<()> {
+    report.begin();
+    report.tell(SharedBank::new(report.alloc, CELLS));
+    let bank = boxed(report.alloc, SharedBank::new(report.alloc, CELLS))?;
+    report.count(u64::from(bank.cells()), "cells");
+    Some(())
 }
 
 /// Makes the integers from 0 to 1099.
@@ -262,22 +215,18 @@ fn make_integers<B: TermBank>(bank: &mut B) -> Result<(), BankFault> {
 }
 
 /// Eleven hundred integers, more than a shared bank has chains at first.
-pub fn try_thousand<W: Write>(alloc: Global, out: &mut W) -> Result<()> {
-    let mut bank = SharedBank::new(alloc, 2000)?;
-    make_integers_twice(alloc, &mut bank, out)
+pub fn try_thousand(report: &mut Report) -> Option<()> {
+    let mut bank = boxed(report.alloc, SharedBank::new(report.alloc, 2000))?;
+    make_integers_twice(&mut *bank, report)
 }
 
 /// Makes them twice; memory may be refused the first time.
-fn make_integers_twice<B: TermBank, W: Write>(
-    alloc: Global,
-    bank: &mut B,
-    out: &mut W,
-) -> Result<()> {
-    begin(out)?;
-    let answer = make_integers(bank);
-    tell(out, &answer)?;
-    make_integers(bank)?;
-    count_cells(alloc, bank, out)
+fn make_integers_twice<B: TermBank>(bank: &mut B, report: &mut Report) -> Option<()> {
+    report.begin();
+    report.tell(make_integers(bank));
+    make_integers(bank).ok()?;
+    report.count(u64::from(bank.cells()), "cells");
+    Some(())
 }
 
 /// Reads each part of a tree, down its first items, arguments and inner trees.
@@ -287,7 +236,9 @@ fn read_down<B: TermBank>(bank: &B, t: Term) -> u32 {
         if !bank.holds(at) {
             return depth;
         }
-        if bank.anns(at).is_some_and(|notes| !bank.holds(notes)) {
+        if let Some(notes) = bank.anns(at)
+            && !bank.holds(notes)
+        {
             return depth;
         }
         at = match bank.kind(at) {
@@ -301,24 +252,26 @@ fn read_down<B: TermBank>(bank: &B, t: Term) -> u32 {
 }
 
 /// The calls that read ask for no memory.
-pub fn try_readers<B: TermBank, W: Write>(alloc: Global, bank: &mut B, out: &mut W) -> Result<()> {
-    let kept = set_up(alloc, bank, Call::Int)?;
-    begin(out)?;
+pub fn try_readers<B: TermBank>(bank: &mut B, report: &mut Report) -> Option<()> {
+    let kept = set_up(report.alloc, bank, KEPT)?;
+    report.begin();
     let depth = read_down(bank, kept);
-    let sizes = (bank.cells(), bank.spare(), bank.cap());
-    out.write_all(b"done\n")?;
-    count(alloc, out, u64::from(depth), "levels")?;
-    say(out, sizes.0 < sizes.2 && sizes.1 == 0, "filled")?;
-    show_roots(alloc, bank, kept, out)
+    let is_filled = bank.cells() < bank.cap() && bank.spare() == 0;
+    report.end();
+    report.count(u64::from(depth), "levels");
+    report.say(is_filled, "filled");
+    show_roots(bank, kept, report);
+    Some(())
 }
 
 /// Protecting and reclaiming ask for no memory.
-pub fn try_reclaim<B: TermBank, W: Write>(alloc: Global, bank: &mut B, out: &mut W) -> Result<()> {
-    let kept = set_up(alloc, bank, Call::Int)?;
-    begin(out)?;
+pub fn try_reclaim<B: TermBank>(bank: &mut B, report: &mut Report) -> Option<()> {
+    let kept = set_up(report.alloc, bank, KEPT)?;
+    report.begin();
     let left = protections_left(bank, kept);
     bank.reclaim(&[]);
-    out.write_all(b"done\n")?;
-    count(alloc, out, left, "protections left")?;
-    show_roots(alloc, bank, kept, out)
+    report.end();
+    report.count(left, "protections left");
+    show_roots(bank, kept, report);
+    Some(())
 }

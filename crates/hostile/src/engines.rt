@@ -2,20 +2,18 @@
 //! which each makes one such call.
 #![tactic(auto)]
 
-ghost use Rattle.std.specs.Prelude.{IfOk};
+ghost use Rattle.std.specs.Prelude.{IfSome};
 ghost use Rattle.rec_engine.specs.Engine.{IsGiven};
 
-use crate::report::{begin, count, say, show, tell};
+use crate::CELLS;
+use crate::needs::{boxed, read_held};
+use crate::report::Report;
 use crate::specifications::checked;
-use anyhow::{Result, bail};
 use rec_engine::{Engine, Options, Outcome};
 use rec_memo::Memo;
-use rec_sorts::Checked;
+use rx_shared::SharedBank;
 use rx_term::{Term, TermBank};
-use rx_text::read;
 use std::alloc::Global;
-use std::io;
-use std::io::Write;
 
 /// A small memo, and a reclaim as often as can be, so that a refused growth meets both.
 const OPTIONS: Options = Options {
@@ -39,182 +37,113 @@ pub enum Asked {
 }
 
 /// A memo is made.
-pub fn try_memo<W: Write>(alloc: Global, out: &mut W) -> Result<()> {
-    make_memo_once(alloc, out)?;
-    let mut memo = Memo::new(alloc, 16)?;
+pub fn try_memo(report: &mut Report) -> Option<()> {
+    report.begin();
+    report.tell(Memo::new(report.alloc, 16));
+    let mut memo = boxed(report.alloc, Memo::new(report.alloc, 16))?;
     memo.put(Term(1), Term(2), 3);
-    let found = memo.get(Term(1)) == Some((Term(2), 3));
-    Ok(say(out, found, "remembered")?)
-}
-
-/// Makes it where memory may be refused.
-fn make_memo_once<W: Write>(alloc: Global, out: &mut W) -> io::Result<()> {
-    begin(out)?;
-    let answer = Memo::new(alloc, 16);
-    tell(out, &answer)
+    report.say(memo.get(Term(1)) == Some((Term(2), 3)), "remembered");
+    Some(())
 }
 
 /// An engine over a bank.
-fn engine_over<B: TermBank + Drop>(alloc: Global, bank: B) -> Result<Engine<B>> {
+fn engine_over<B: TermBank + Drop>(alloc: Global, bank: B) -> Option<Box<Engine<B>>> {
     let checked = checked(alloc)?;
-    Ok(Engine::new(alloc, checked, bank, OPTIONS)?)
-}
-
-/// The specification after its check, behind which the call comes next.
-fn begin_checked<W: Write>(alloc: Global, out: &mut W) -> Result<Checked> {
-    let checked = checked(alloc)?;
-    begin(out)?;
-    Ok(checked)
-}
-
-/// Makes an engine where memory may be refused. It takes the bank and the specification.
-fn make_once<B: TermBank + Drop, W: Write>(
-    alloc: Global,
-    checked: Checked,
-    bank: B,
-    out: &mut W,
-) -> io::Result<()> {
-    let answer = Engine::new(alloc, checked, bank, OPTIONS);
-    tell(out, &answer)
-}
-
-/// How many terms to evaluate an engine over a bank has.
-fn count_terms<B: TermBank + Drop>(alloc: Global, bank: B) -> Result<u32> {
-    let engine = engine_over(alloc, bank)?;
-    Ok(engine.eval_terms())
+    let checked = Box::into_inner(checked);
+    boxed(alloc, Engine::new(alloc, checked, bank, OPTIONS))
 }
 
 /// An engine is made, and then one over another bank.
-pub fn try_new<B: TermBank + Drop, W: Write>(
-    alloc: Global,
-    bank: B,
-    another: B,
-    out: &mut W,
-) -> Result<()> {
-    let checked = begin_checked(alloc, out)?;
-    make_once(alloc, checked, bank, out)?;
-    let terms = count_terms(alloc, another)?;
-    count(alloc, out, u64::from(terms), "terms")
+pub fn try_new(report: &mut Report) -> Option<()> {
+    let bank = SharedBank::new(report.alloc, CELLS).ok()?;
+    make_once(bank, report)?;
+    let another = SharedBank::new(report.alloc, CELLS).ok()?;
+    let engine = engine_over(report.alloc, another)?;
+    report.count(u64::from(engine.eval_terms()), "terms");
+    Some(())
+}
+
+/// Makes an engine where memory may be refused. It takes the bank and the specification.
+fn make_once<B: TermBank + Drop>(bank: B, report: &mut Report) -> Option<()> {
+    let checked = checked(report.alloc)?;
+    report.begin();
+    let checked = Box::into_inner(checked);
+    report.tell(Engine::new(report.alloc, checked, bank, OPTIONS));
+    Some(())
 }
 
 /// Reads a term that has to stay, and protects it.
-fn keep<B: TermBank>(alloc: Global, bank: &mut B) -> Result<Term> {
-    let kept = read(alloc, KEPT, bank)?;
-    if !bank.holds(kept) {
-        bail!("what was read is not held");
-    }
-    bank.protect(kept)?;
-    Ok(kept)
+fn keep<B: TermBank>(alloc: Global, bank: &mut B) -> Option<Term> {
+    let kept = read_held(alloc, bank, KEPT)?;
+    bank.protect(kept).ok()?;
+    Some(kept)
 }
 
 /// The specification's first term.
-fn own_term<B: TermBank>(engine: &mut Engine<B>) -> Result<Term>
-    ensures { IfOk result (IsGiven engine.new.spec (B.store engine.new.bank)) }
+fn own_term<B: TermBank>(engine: &mut Engine<B>) -> Option<Term>
+    ensures { IfSome result (IsGiven engine.new.spec (B.store engine.new.bank)) }
 {
     if engine.eval_terms() == 0 {
-        bail!("there is no term");
+        return None;
     }
-    Ok(engine.eval_term(0)?)
-}
-
-/// Makes that term where memory may be refused.
-fn make_term<B: TermBank, W: Write>(engine: &mut Engine<B>, out: &mut W) -> Result<()> {
-    if engine.eval_terms() == 0 {
-        bail!("there is no term");
-    }
-    begin(out)?;
-    let answer = engine.eval_term(0);
-    Ok(tell(out, &answer)?)
+    engine.eval_term(0).ok()
 }
 
 /// An engine is asked where memory may be refused. Where that was refused, the same engine gives
 /// the answer when it is asked again.
-pub fn try_ask<B: TermBank + Drop, W: Write>(
-    alloc: Global,
-    mut bank: B,
-    asked: Asked,
-    out: &mut W,
-) -> Result<()> {
-    let kept = keep(alloc, &mut bank)?;
-    let mut engine = engine_over(alloc, bank)?;
-    ask_twice(alloc, &mut engine, asked, kept, out)
-}
-
-/// Asks it twice; memory may be refused the first time.
-fn ask_twice<B: TermBank, W: Write>(
-    alloc: Global,
-    engine: &mut Engine<B>,
-    asked: Asked,
-    kept: Term,
-    out: &mut W,
-) -> Result<()> {
+pub fn try_ask<B: TermBank + Drop>(mut bank: B, asked: Asked, report: &mut Report) -> Option<()> {
+    let kept = keep(report.alloc, &mut bank)?;
+    let mut engine = engine_over(report.alloc, bank)?;
     match asked {
-        Asked::Term => make_twice(alloc, engine, kept, out),
-        Asked::Value => evaluate_twice(alloc, engine, kept, out),
+        Asked::Term => make_twice(&mut *engine, kept, report),
+        Asked::Value => evaluate_twice(&mut *engine, kept, report),
     }
 }
 
 /// Makes the specification's first term twice; memory may be refused the first time.
-fn make_twice<B: TermBank, W: Write>(
-    alloc: Global,
-    engine: &mut Engine<B>,
-    kept: Term,
-    out: &mut W,
-) -> Result<()> {
-    make_term(engine, out)?;
-    show(alloc, engine.bank(), kept, out)?;
-    let t = own_term(engine)?;
-    show(alloc, engine.bank(), t, out)
-}
-
-/// Evaluates a term where memory may be refused. It can be evaluated again.
-fn evaluate<B: TermBank, W: Write>(engine: &mut Engine<B>, t: Term, out: &mut W) -> Result<()>
-    requires { IsGiven engine.old.spec (B.store engine.old.bank) t }
-    ensures { IsGiven engine.new.spec (B.store engine.new.bank) t }
-{
-    begin(out)?;
-    let answer = engine.normalise(t, STEPS);
-    Ok(tell(out, &answer)?)
-}
-
-/// Says what a term comes to.
-fn show_outcome<B: TermBank, W: Write>(
-    alloc: Global,
-    bank: &B,
-    outcome: Outcome,
-    out: &mut W,
-) -> Result<()> {
-    match outcome {
-        Outcome::Limit => Ok(say(out, false, "a value")?),
-        Outcome::Value { term, steps } => {
-            show(alloc, bank, term, out)?;
-            count(alloc, out, steps, "steps")
-        }
+fn make_twice<B: TermBank>(engine: &mut Engine<B>, kept: Term, report: &mut Report) -> Option<()> {
+    if engine.eval_terms() == 0 {
+        return None;
     }
-}
-
-/// Evaluates a term where there is memory, and says what it comes to.
-fn show_value<B: TermBank, W: Write>(
-    alloc: Global,
-    engine: &mut Engine<B>,
-    t: Term,
-    out: &mut W,
-) -> Result<()>
-    requires { IsGiven engine.old.spec (B.store engine.old.bank) t }
-{
-    let outcome = engine.normalise(t, STEPS)?;
-    show_outcome(alloc, engine.bank(), outcome, out)
+    report.begin();
+    report.tell(engine.eval_term(0));
+    report.show(engine.bank(), kept);
+    let t = own_term(engine)?;
+    report.show(engine.bank(), t);
+    Some(())
 }
 
 /// Evaluates that term twice; memory may be refused the first time.
-fn evaluate_twice<B: TermBank, W: Write>(
-    alloc: Global,
+fn evaluate_twice<B: TermBank>(
     engine: &mut Engine<B>,
     kept: Term,
-    out: &mut W,
-) -> Result<()> {
+    report: &mut Report,
+) -> Option<()> {
     let t = own_term(engine)?;
-    evaluate(engine, t, out)?;
-    show(alloc, engine.bank(), kept, out)?;
-    show_value(alloc, engine, t, out)
+    evaluate(engine, t, report);
+    report.show(engine.bank(), kept);
+    show_value(engine, t, report)
+}
+
+/// Evaluates a term where memory may be refused. It can be evaluated again.
+fn evaluate<B: TermBank>(engine: &mut Engine<B>, t: Term, report: &mut Report)
+    requires { IsGiven engine.old.spec (B.store engine.old.bank) t }
+    ensures { IsGiven engine.new.spec (B.store engine.new.bank) t }
+{
+    report.begin();
+    report.tell(engine.normalise(t, STEPS));
+}
+
+/// Evaluates a term where there is memory, and says what it comes to.
+fn show_value<B: TermBank>(engine: &mut Engine<B>, t: Term, report: &mut Report) -> Option<()>
+    requires { IsGiven engine.old.spec (B.store engine.old.bank) t }
+{
+    match engine.normalise(t, STEPS).ok()? {
+        Outcome::Limit => report.say(false, "a value"),
+        Outcome::Value { term, steps } => {
+            report.show(engine.bank(), term);
+            report.count(steps, "steps");
+        }
+    }
+    Some(())
 }

@@ -5,6 +5,7 @@
 mod arenas;
 mod banks;
 mod engines;
+mod needs;
 mod patterns;
 mod report;
 mod specifications;
@@ -12,13 +13,12 @@ mod texts;
 
 use crate::banks::Call;
 use crate::engines::Asked;
-use anyhow::{Result, bail};
+use crate::needs::boxed;
+use crate::report::Report;
 use rx_plain::PlainBank;
 use rx_shared::SharedBank;
 use rx_term::TermBank;
-use std::alloc::Global;
 use std::env;
-use std::io::Write;
 use std::process::ExitCode;
 
 /// How many cells the banks may have.
@@ -26,63 +26,65 @@ const CELLS: u32 = 4096;
 
 /// The program as it is started.
 fn main(rt: HostRuntime) -> ExitCode {
-    match try_row(&rt) {
-        Ok(()) => ExitCode::SUCCESS,
-        Err(_) => ExitCode::from(3),
+    let mut report = Report::new(rt.alloc(), rt.stdout());
+    match try_row(&rt, &mut report) {
+        Some(()) if report.is_whole() => ExitCode::SUCCESS,
+        _ => ExitCode::from(3),
     }
 }
 
-/// Tries the row that the words name.
-fn try_row(rt: &HostRuntime) -> Result<()> {
-    let alloc = rt.alloc();
-    let words: Vec<String> = env::args(rt)?.skip(1).collect(alloc)?;
-    let mut out = rt.stdout();
-    let (Some(kind), Some(call)) = (words.get(0), words.get(1)) else {
-        bail!("two words are wanted");
+/// Tries the row that the words name. It has no answer where it could not be tried to its end.
+fn try_row(rt: &HostRuntime, report: &mut Report) -> Option<()> {
+    let words: Vec<String> = env::args(rt).ok()?.skip(1).collect(rt.alloc()).ok()?;
+    try_words(&words, report)
+}
+
+/// Tries the row of these words.
+fn try_words(words: &[String], report: &mut Report) -> Option<()> {
+    let [kind, call] = words else {
+        return None;
     };
+    let call = call.as_str();
     match kind.as_str() {
-        "plain" => try_plain(alloc, call.as_str(), &mut out),
-        "shared" => try_shared(alloc, call.as_str(), &mut out),
-        "store" => try_store(alloc, call.as_str(), &mut out),
-        "engine" => try_engine(alloc, call.as_str(), &mut out),
-        kind => try_shared_bank(alloc, kind, call.as_str(), &mut out),
+        "plain" => try_plain(call, report),
+        "shared" => try_shared(call, report),
+        "store" => try_store(call, report),
+        "engine" => try_engine(call, report),
+        kind => try_over_shared(kind, call, report),
     }
 }
 
 /// A call of a plain bank.
-fn try_plain<W: Write>(alloc: Global, call: &str, out: &mut W) -> Result<()> {
+fn try_plain(call: &str, report: &mut Report) -> Option<()> {
     if call == "new" {
-        return banks::try_new_plain(alloc, out);
+        return banks::try_new_plain(report);
     }
-    let mut bank = PlainBank::new(alloc, CELLS)?;
-    try_bank(alloc, call, &mut bank, out)
+    let mut bank = boxed(report.alloc, PlainBank::new(report.alloc, CELLS))?;
+    try_bank(call, &mut *bank, report)
 }
 
 /// A call of a shared bank.
-fn try_shared<W: Write>(alloc: Global, call: &str, out: &mut W) -> Result<()> {
+fn try_shared(call: &str, report: &mut Report) -> Option<()> {
     match call {
-        "new" => banks::try_new_shared(alloc, out),
-        "thousand" => banks::try_thousand(alloc, out),
-        _ => try_shared_bank(alloc, "shared", call, out),
+        "new" => banks::try_new_shared(report),
+        "thousand" => banks::try_thousand(report),
+        _ => try_over_shared("shared", call, report),
     }
 }
 
 /// A call of a shared bank that is there, or one of another kind over it.
-fn try_shared_bank<W: Write>(alloc: Global, kind: &str, call: &str, out: &mut W) -> Result<()> {
-    let mut bank = SharedBank::new(alloc, CELLS)?;
+fn try_over_shared(kind: &str, call: &str, report: &mut Report) -> Option<()> {
+    let mut bank = boxed(report.alloc, SharedBank::new(report.alloc, CELLS))?;
     match kind {
-        "shared" => try_bank(alloc, call, &mut bank, out),
-        _ => try_over(alloc, kind, call, &mut bank, out),
+        "shared" => try_bank(call, &mut *bank, report),
+        "text" => try_text(call, &mut *bank, report),
+        "specification" => try_specification(call, &mut *bank, report),
+        _ => None,
     }
 }
 
 /// A call of any bank.
-fn try_bank<B: TermBank, W: Write>(
-    alloc: Global,
-    call: &str,
-    bank: &mut B,
-    out: &mut W,
-) -> Result<()> {
+fn try_bank<B: TermBank>(call: &str, bank: &mut B, report: &mut Report) -> Option<()> {
     let call = match call {
         "int" => Call::Int,
         "nil" => Call::Nil,
@@ -92,77 +94,57 @@ fn try_bank<B: TermBank, W: Write>(
         "annotated" => Call::Annotated,
         "symbol" => Call::Symbol,
         "reserve" => Call::Reserve,
-        "readers" => return banks::try_readers(alloc, bank, out),
-        "reclaim" => return banks::try_reclaim(alloc, bank, out),
-        _ => bail!("no such call"),
+        "readers" => return banks::try_readers(bank, report),
+        "reclaim" => return banks::try_reclaim(bank, report),
+        _ => return None,
     };
-    banks::try_call(alloc, bank, call, out)
+    banks::try_call(bank, call, report)
 }
 
 /// A call of the tables and cells that banks stand on.
-fn try_store<W: Write>(alloc: Global, call: &str, out: &mut W) -> Result<()> {
+fn try_store(call: &str, report: &mut Report) -> Option<()> {
     match call {
-        "intern" => arenas::try_intern(alloc, out),
-        "arena" => arenas::try_new(alloc, out),
-        "take" => arenas::try_take(alloc, out),
-        "reserve" => arenas::try_reserve(alloc, out),
-        "rehash" => arenas::try_rehash(alloc, out),
-        "collect" => arenas::try_collect(alloc, out),
-        _ => bail!("no such call"),
+        "intern" => arenas::try_intern(report),
+        "arena" => arenas::try_new(report),
+        "collect" => arenas::try_collect(report),
+        _ => arenas::try_filled(call, report),
     }
 }
 
-/// A call on texts of annotated terms, on patterns or on specifications, over any bank.
-fn try_over<B: TermBank, W: Write>(
-    alloc: Global,
-    kind: &str,
-    call: &str,
-    bank: &mut B,
-    out: &mut W,
-) -> Result<()> {
-    match (kind, call) {
-        ("text", "read") => texts::try_read(alloc, bank, out),
-        ("text", "write") => texts::try_write(alloc, bank, out),
-        ("text", "pattern") => patterns::try_of(alloc, bank, out),
-        ("text", "matches") => patterns::try_matches(alloc, bank, out),
-        ("text", "make") => patterns::try_make(alloc, bank, out),
-        ("specification", "read") => specifications::try_read(alloc, out),
-        ("specification", "check") => specifications::try_check(alloc, out),
-        ("specification", "terms") => specifications::try_check_terms(alloc, bank, out),
-        ("specification", "links") => specifications::try_links(alloc, bank, out),
-        ("specification", "build") => specifications::try_build(alloc, bank, out),
-        ("specification", "next") => specifications::try_next(alloc, bank, out),
-        _ => bail!("no such call"),
+/// A call on texts of annotated terms or on patterns, over any bank.
+fn try_text<B: TermBank>(call: &str, bank: &mut B, report: &mut Report) -> Option<()> {
+    match call {
+        "read" => texts::try_read(bank, report),
+        "write" => texts::try_write(bank, report),
+        "pattern" => patterns::try_of(bank, report),
+        "matches" => patterns::try_matches(bank, report),
+        "make" => patterns::try_make(bank, report),
+        _ => None,
+    }
+}
+
+/// A call on specifications, over any bank.
+fn try_specification<B: TermBank>(call: &str, bank: &mut B, report: &mut Report) -> Option<()> {
+    match call {
+        "read" => specifications::try_read(report),
+        "check" => specifications::try_check(report),
+        "terms" => specifications::try_check_terms(bank, report),
+        "links" => specifications::try_links(bank, report),
+        "build" => specifications::try_build(bank, report),
+        "next" => specifications::try_next(bank, report),
+        _ => None,
     }
 }
 
 /// A call of the engine over a shared bank, and of its memo.
-fn try_engine<W: Write>(alloc: Global, call: &str, out: &mut W) -> Result<()> {
-    let bank = SharedBank::new(alloc, CELLS)?;
-    match call {
-        "new" => try_engine_over_two(alloc, bank, out),
-        _ => try_engine_over(alloc, call, bank, out),
-    }
-}
-
-/// An engine over a bank, and one over another.
-fn try_engine_over_two<W: Write>(alloc: Global, bank: SharedBank, out: &mut W) -> Result<()> {
-    let another = SharedBank::new(alloc, CELLS)?;
-    engines::try_new(alloc, bank, another, out)
-}
-
-/// Another call of the engine over any bank.
-fn try_engine_over<B: TermBank + Drop, W: Write>(
-    alloc: Global,
-    call: &str,
-    bank: B,
-    out: &mut W,
-) -> Result<()> {
+fn try_engine(call: &str, report: &mut Report) -> Option<()> {
     let asked = match call {
-        "memo" => return engines::try_memo(alloc, out),
+        "memo" => return engines::try_memo(report),
+        "new" => return engines::try_new(report),
         "eval_term" => Asked::Term,
         "normalise" => Asked::Value,
-        _ => bail!("no such call"),
+        _ => return None,
     };
-    engines::try_ask(alloc, bank, asked, out)
+    let bank = SharedBank::new(report.alloc, CELLS).ok()?;
+    engines::try_ask(bank, asked, report)
 }

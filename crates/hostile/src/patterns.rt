@@ -1,12 +1,13 @@
 //! Patterns over a bank.
 
-use crate::report::{begin, say, show, tell};
-use anyhow::{Result, bail};
+ghost use Rattle.std.specs.Prelude.{IsSome};
+ghost use Rattle.rx_term.specs.Store.{tree_at};
+
+use crate::needs::{boxed, read_held};
+use crate::report::Report;
 use rx_pattern::Pattern;
 use rx_term::{Term, TermBank};
-use rx_text::read;
 use std::alloc::Global;
-use std::io::Write;
 
 /// Binds an integer and the rest of a list that has annotations.
 const PATTERN: &[u8] = b"f(<int>,[<list>]{x})";
@@ -14,110 +15,95 @@ const PATTERN: &[u8] = b"f(<int>,[<list>]{x})";
 /// What it matches.
 const SUBJECT: &[u8] = b"f(1,[2,3]{x})";
 
-/// What it is made with.
-const GIVEN: [&[u8]; 2] = [b"1", b"[2,3]"];
+/// What it is made with first.
+const FIRST: &[u8] = b"1";
 
-/// The pattern that a text spells.
-fn pattern<B: TermBank>(alloc: Global, bank: &mut B, text: &[u8]) -> Result<Pattern> {
-    let t = read(alloc, text, bank)?;
-    if !bank.holds(t) {
-        bail!("what was read is not held");
-    }
-    Ok(Pattern::of(alloc, bank, t)?)
+/// What it is made with second.
+const SECOND: &[u8] = b"[2,3]";
+
+/// The pattern that the text spells.
+fn pattern<B: TermBank>(alloc: Global, bank: &mut B) -> Option<Box<Pattern>> {
+    let t = read_held(alloc, bank, PATTERN)?;
+    boxed(alloc, Pattern::of(alloc, bank, t))
 }
 
 /// The pattern of a term is taken.
-pub fn try_of<B: TermBank, W: Write>(alloc: Global, bank: &mut B, out: &mut W) -> Result<()> {
-    let t = read(alloc, PATTERN, bank)?;
-    if !bank.holds(t) {
-        bail!("what was read is not held");
-    }
-    begin(out)?;
-    let answer = Pattern::of(alloc, bank, t);
-    tell(out, &answer)?;
-    let pattern = Pattern::of(alloc, bank, t)?;
-    show_bindings(alloc, bank, &pattern, out)
+pub fn try_of<B: TermBank>(bank: &mut B, report: &mut Report) -> Option<()> {
+    let t = read_held(report.alloc, bank, PATTERN)?;
+    report.begin();
+    report.tell(Pattern::of(report.alloc, bank, t));
+    let pattern = boxed(report.alloc, Pattern::of(report.alloc, bank, t))?;
+    show_bindings(bank, &*pattern, report)
 }
 
 /// Says what a pattern binds in the subject.
-fn show_bindings<B: TermBank, W: Write>(
-    alloc: Global,
-    bank: &mut B,
-    pattern: &Pattern,
-    out: &mut W,
-) -> Result<()> {
-    let mut bound = Vec::new(alloc);
-    let t = read(alloc, SUBJECT, bank)?;
-    let is_matched = bank.holds(t) && pattern.matches(bank, t, &mut bound)?;
-    say(out, is_matched, "matched")?;
+fn show_bindings<B: TermBank>(bank: &mut B, pattern: &Pattern, report: &mut Report) -> Option<()> {
+    let t = read_held(report.alloc, bank, SUBJECT)?;
+    let mut bound = Vec::new(report.alloc);
+    report.say(pattern.matches(bank, t, &mut bound) == Ok(true), "matched");
     for binding in &bound {
-        show(alloc, bank, *binding, out)?;
+        report.show(bank, *binding);
     }
-    Ok(())
+    Some(())
 }
 
-/// A term is matched.
-pub fn try_matches<B: TermBank, W: Write>(alloc: Global, bank: &mut B, out: &mut W) -> Result<()> {
-    let pattern = pattern(alloc, bank, PATTERN)?;
-    match_twice(alloc, bank, &pattern, out)
-}
-
-/// Matches it twice; memory may be refused the first time.
-fn match_twice<B: TermBank, W: Write>(
-    alloc: Global,
-    bank: &mut B,
-    pattern: &Pattern,
-    out: &mut W,
-) -> Result<()> {
-    let t = read(alloc, SUBJECT, bank)?;
-    match_once(alloc, bank, pattern, t, out)?;
-    show(alloc, bank, t, out)?;
-    show_bindings(alloc, bank, pattern, out)
+/// A term is matched twice; memory may be refused the first time.
+pub fn try_matches<B: TermBank>(bank: &mut B, report: &mut Report) -> Option<()> {
+    let pattern = pattern(report.alloc, bank)?;
+    let t = read_held(report.alloc, bank, SUBJECT)?;
+    match_once(bank, &*pattern, t, report);
+    report.show(bank, t);
+    show_bindings(bank, &*pattern, report)
 }
 
 /// Matches it where memory may be refused.
-fn match_once<B: TermBank, W: Write>(
-    alloc: Global,
-    bank: &mut B,
-    pattern: &Pattern,
-    t: Term,
-    out: &mut W,
-) -> Result<()> {
-    if !bank.holds(t) {
-        bail!("what was read is not held");
-    }
-    begin(out)?;
-    let mut bound: Vec<Term> = Vec::new(alloc);
-    let answer = pattern.matches(bank, t, &mut bound);
-    tell(out, &answer)?;
-    let is_empty = answer.is_ok() || bound.is_empty();
-    Ok(say(out, is_empty, "without bindings after a fault")?)
+fn match_once<B: TermBank>(bank: &mut B, pattern: &Pattern, t: Term, report: &mut Report)
+    requires { IsSome (tree_at (B.store bank.old) t) }
+{
+    let mut bound: Vec<Term> = Vec::new(report.alloc);
+    report.begin();
+    let is_done = report.tell(pattern.matches(bank, t, &mut bound));
+    let is_empty = is_done || bound.is_empty();
+    report.say(is_empty, "without bindings after a fault");
 }
 
 /// A term is made.
-pub fn try_make<B: TermBank, W: Write>(alloc: Global, bank: &mut B, out: &mut W) -> Result<()> {
-    let pattern = pattern(alloc, bank, PATTERN)?;
-    make_twice(alloc, bank, &pattern, out)
+pub fn try_make<B: TermBank>(bank: &mut B, report: &mut Report) -> Option<()> {
+    let pattern = pattern(report.alloc, bank)?;
+    make_twice(bank, &*pattern, report)
 }
 
 /// Makes it twice of what is read; memory may be refused the first time.
-fn make_twice<B: TermBank, W: Write>(
-    alloc: Global,
+fn make_twice<B: TermBank>(bank: &mut B, pattern: &Pattern, report: &mut Report) -> Option<()> {
+    let first = read_held(report.alloc, bank, FIRST)?;
+    let second = read_held(report.alloc, bank, SECOND)?;
+    let given = [first, second];
+    make_once(bank, pattern, &given, report)?;
+    report.show(bank, second);
+    let made = make(bank, pattern, &given)?;
+    report.show(bank, made);
+    Some(())
+}
+
+/// Makes it where memory may be refused, if both given terms are held.
+fn make_once<B: TermBank>(
     bank: &mut B,
     pattern: &Pattern,
-    out: &mut W,
-) -> Result<()> {
-    let given = [read(alloc, GIVEN[0], bank)?, read(alloc, GIVEN[1], bank)?];
+    given: &[Term; 2],
+    report: &mut Report,
+) -> Option<()> {
     if !bank.holds(given[0]) || !bank.holds(given[1]) {
-        bail!("what was read is not held");
+        return None;
     }
-    begin(out)?;
-    let answer = pattern.make(bank, &given);
-    tell(out, &answer)?;
-    show(alloc, bank, given[1], out)?;
+    report.begin();
+    report.tell(pattern.make(bank, given));
+    Some(())
+}
+
+/// Makes it where there is memory, if both given terms are held.
+fn make<B: TermBank>(bank: &mut B, pattern: &Pattern, given: &[Term; 2]) -> Option<Term> {
     if !bank.holds(given[0]) || !bank.holds(given[1]) {
-        bail!("a given tree is lost");
+        return None;
     }
-    let made = pattern.make(bank, &given)?;
-    show(alloc, bank, made, out)
+    pattern.make(bank, given).ok()
 }

@@ -1,7 +1,7 @@
 //! What a row tells. The lines before and behind the call are one write each, so that a watcher of
-//! the process knows where the call begins and ends.
+//! the process knows where the call begins and ends. What cannot be told is noted, and the row goes
+//! on, so that telling is no way out of a row.
 
-use anyhow::Result;
 use rec_engine::EngineFault;
 use rec_sorts::{SortFault, TermsFault};
 use rec_syntax::SyntaxFault;
@@ -11,8 +11,7 @@ use rx_pattern::{MakeFault, PatternFault};
 use rx_term::{BankFault, Term, TermBank};
 use rx_text::{TextFault, WriteFault, write};
 use std::alloc::{AllocError, Global};
-use std::io;
-use std::io::Write;
+use std::io::{Stdout, Write};
 
 /// Why a call was not done.
 pub trait Fault {
@@ -92,46 +91,74 @@ impl Fault for EngineFault {
     }
 }
 
-/// Says that the call comes next.
-pub fn begin<W: Write>(out: &mut W) -> io::Result<()> {
-    out.write_all(b"ready\n")
+/// Where a row tells what it finds.
+#[derive(Drop)]
+pub struct Report {
+    /// What all that a row makes asks for memory.
+    pub alloc: Global,
+    out: Stdout,
+    is_whole: bool,
 }
 
-/// Says how the call was answered.
-pub fn tell<T, F: Fault, W: Write>(out: &mut W, answer: &Result<T, F>) -> io::Result<()> {
-    match answer {
-        Ok(_) => out.write_all(b"done\n"),
-        Err(fault) => {
-            if fault.lacks_memory() {
-                out.write_all(b"memory\n")
-            } else {
-                out.write_all(b"another fault\n")
-            }
+impl Report {
+    /// With nothing told so far.
+    pub fn new(alloc: Global, out: Stdout) -> Report {
+        Report {
+            alloc,
+            out,
+            is_whole: true,
         }
     }
-}
 
-/// Says what was done, or that it was not.
-pub fn say<W: Write>(out: &mut W, is_so: bool, what: &str) -> io::Result<()> {
-    if !is_so {
-        out.write_all(b"not ")?;
+    /// Whether all was told that was to be told.
+    pub fn is_whole(&self) -> bool {
+        self.is_whole
     }
-    out.write_all(what.as_bytes())?;
-    out.write_all(b"\n")
-}
 
-/// Says a number and what it counts.
-pub fn count<W: Write>(alloc: Global, out: &mut W, number: u64, what: &str) -> Result<()> {
-    let line = format!(in alloc; "{number} {what}\n")?;
-    Ok(out.write_all(line.as_bytes())?)
-}
-
-/// Says the text of a term, where it is held.
-pub fn show<B: TermBank, W: Write>(alloc: Global, bank: &B, t: Term, out: &mut W) -> Result<()> {
-    let mut text = Vec::new(alloc);
-    if bank.holds(t) {
-        write(alloc, bank, t, &mut text)?;
+    /// Says a text.
+    fn put(&mut self, text: &[u8]) {
+        self.is_whole &= self.out.write_all(text).is_ok();
     }
-    text.push(b'\n')?;
-    Ok(out.write_all(&text)?)
+
+    /// Says that the call comes next.
+    pub fn begin(&mut self) {
+        self.put(b"ready\n");
+    }
+
+    /// Says how the call was answered, and returns whether it was done.
+    pub fn tell<T: Drop, F: Fault + Drop>(&mut self, answer: Result<T, F>) -> bool {
+        self.put(match &answer {
+            Ok(_) => b"done\n",
+            Err(fault) if fault.lacks_memory() => b"memory\n",
+            Err(_) => b"another fault\n",
+        });
+        answer.is_ok()
+    }
+
+    /// Says that a call was done which has one answer alone.
+    pub fn end(&mut self) {
+        self.put(b"done\n");
+    }
+
+    /// Says what was done, or that it was not.
+    pub fn say(&mut self, is_so: bool, what: &str) {
+        if !is_so {
+            self.put(b"not ");
+        }
+        self.put(what.as_bytes());
+        self.put(b"\n");
+    }
+
+    /// Says a number and what it counts.
+    pub fn count(&mut self, number: u64, what: &str) {
+        self.is_whole &= writeln!(self.out, "{number} {what}").is_ok();
+    }
+
+    /// Says the text of a term, where it is held.
+    pub fn show<B: TermBank>(&mut self, bank: &B, t: Term) {
+        if bank.holds(t) {
+            self.is_whole &= write(self.alloc, bank, t, &mut self.out).is_ok();
+        }
+        self.put(b"\n");
+    }
 }

@@ -2,23 +2,20 @@
 //! that owns a large value has few ways out, as on each of them the value is dropped.
 #![tactic(auto)]
 
-ghost use Rattle.std.specs.Prelude.{◌≡◌, IfOk, IsSome, length};
+ghost use Rattle.std.specs.Prelude.{◌≡◌, IfSome, IsSome, length};
 ghost use Rattle.rx_term.specs.Store.{tree_at};
 ghost use Rattle.rec_sorts.specs.Lookup.{symbols};
 ghost use Rattle.rec_match.specs.Next.{AreReady};
 
-use crate::banks::{Call, compare, content, set_up, show_roots};
-use crate::report::{begin, count, say, tell};
-use anyhow::{Result, bail};
+use crate::banks::{KEPT, add_content, compare, set_up, show_roots};
+use crate::needs::{boxed, read_held};
+use crate::report::Report;
 use rec_match::Matcher;
 use rec_sorts::{Checked, Links, check, check_terms};
 use rec_syntax::{Syntax, read_spec};
-use rx_term::{BankFault, Term, TermBank};
-use rx_text::read;
+use rx_term::{Term, TermBank};
 use smallvec::SmallVec;
-use std::alloc::{AllocError, Global};
-use std::io;
-use std::io::Write;
+use std::alloc::Global;
 
 /// Addition, and doubling by a rule with a condition. To double two takes one step, and three steps
 /// to add two to two.
@@ -35,211 +32,144 @@ const TERMS: &[u8] = b"[plus(z,s(z)),z{a}]";
 const SUM: &[u8] = b"plus(s(z),s(s(z)))";
 
 /// The specification after its check.
-pub fn checked(alloc: Global) -> Result<Checked> {
-    let syntax = read_spec(alloc, DOUBLING)?;
-    Ok(check(alloc, syntax)?)
-}
-
-/// Reads it where memory may be refused.
-fn read_once<W: Write>(alloc: Global, out: &mut W) -> io::Result<()> {
-    begin(out)?;
-    let answer = read_spec(alloc, DOUBLING);
-    tell(out, &answer)
+pub fn checked(alloc: Global) -> Option<Box<Checked>> {
+    let syntax = read_spec(alloc, DOUBLING).ok()?;
+    boxed(alloc, check(alloc, syntax))
 }
 
 /// A specification is read.
-pub fn try_read<W: Write>(alloc: Global, out: &mut W) -> Result<()> {
-    read_once(alloc, out)?;
-    let syntax = read_spec(alloc, DOUBLING)?;
-    show_syntax(alloc, &syntax, out)
+pub fn try_read(report: &mut Report) -> Option<()> {
+    report.begin();
+    report.tell(read_spec(report.alloc, DOUBLING));
+    let syntax = boxed(report.alloc, read_spec(report.alloc, DOUBLING))?;
+    show_syntax(&*syntax, report);
+    Some(())
 }
 
 /// Says what was read.
-fn show_syntax<W: Write>(alloc: Global, syntax: &Syntax, out: &mut W) -> Result<()> {
-    say(out, syntax.source() == DOUBLING, "the text")?;
-    count(alloc, out, syntax.rules().len() as u64, "rules")?;
-    count(alloc, out, syntax.terms().len() as u64, "terms")
-}
-
-/// Checks it where memory may be refused.
-fn check_once<W: Write>(alloc: Global, syntax: Syntax, out: &mut W) -> io::Result<()> {
-    begin(out)?;
-    let answer = check(alloc, syntax);
-    tell(out, &answer)
+fn show_syntax(syntax: &Syntax, report: &mut Report) {
+    report.say(syntax.source() == DOUBLING, "the text");
+    report.count(syntax.rules().len() as u64, "rules");
+    report.count(syntax.terms().len() as u64, "terms");
 }
 
 /// A specification is checked.
-pub fn try_check<W: Write>(alloc: Global, out: &mut W) -> Result<()> {
-    let syntax = read_spec(alloc, DOUBLING)?;
-    check_once(alloc, syntax, out)?;
-    let checked = checked(alloc)?;
-    show_checked(alloc, &checked, out)
+pub fn try_check(report: &mut Report) -> Option<()> {
+    check_once(report)?;
+    let checked = checked(report.alloc)?;
+    report.count(u64::from(checked.symbols()), "symbols");
+    show_syntax(checked.syntax(), report);
+    Some(())
 }
 
-/// Says what was checked.
-fn show_checked<W: Write>(alloc: Global, checked: &Checked, out: &mut W) -> Result<()> {
-    count(alloc, out, u64::from(checked.symbols()), "symbols")?;
-    show_syntax(alloc, checked.syntax(), out)
+/// Checks it where memory may be refused.
+fn check_once(report: &mut Report) -> Option<()> {
+    let syntax = read_spec(report.alloc, DOUBLING).ok()?;
+    report.begin();
+    report.tell(check(report.alloc, syntax));
+    Some(())
 }
 
-/// Given terms are checked.
-pub fn try_check_terms<B: TermBank, W: Write>(
-    alloc: Global,
-    bank: &mut B,
-    out: &mut W,
-) -> Result<()> {
-    let list = read(alloc, TERMS, bank)?;
-    let checked = checked(alloc)?;
-    check_list(alloc, &checked, bank, list, out)
-}
-
-/// Checks a list of terms twice; memory may be refused the first time.
-fn check_list<B: TermBank, W: Write>(
-    alloc: Global,
-    checked: &Checked,
-    bank: &B,
-    list: Term,
-    out: &mut W,
-) -> Result<()> {
-    if !bank.holds(list) {
-        bail!("what was read is not held");
-    }
-    begin(out)?;
-    let answer = check_terms(alloc, checked, bank, list);
-    tell(out, &answer)?;
-    let again = check_terms(alloc, checked, bank, list);
-    Ok(say(out, again.is_ok(), "accepted")?)
+/// Given terms are checked twice; memory may be refused the first time.
+pub fn try_check_terms<B: TermBank>(bank: &mut B, report: &mut Report) -> Option<()> {
+    let list = read_held(report.alloc, bank, TERMS)?;
+    let checked = checked(report.alloc)?;
+    report.begin();
+    report.tell(check_terms(report.alloc, &*checked, bank, list));
+    let again = check_terms(report.alloc, &*checked, bank, list);
+    report.say(again.is_ok(), "accepted");
+    Some(())
 }
 
 /// The symbols get theirs in a bank.
-pub fn try_links<B: TermBank, W: Write>(alloc: Global, bank: &mut B, out: &mut W) -> Result<()> {
-    let kept = set_up(alloc, bank, Call::Symbol)?;
-    let checked = checked(alloc)?;
-    link_twice(alloc, &checked, bank, out)?;
-    show_roots(alloc, bank, kept, out)
+pub fn try_links<B: TermBank>(bank: &mut B, report: &mut Report) -> Option<()> {
+    let kept = set_up(report.alloc, bank, KEPT)?;
+    let checked = checked(report.alloc)?;
+    link_twice(&*checked, bank, report)?;
+    show_roots(bank, kept, report);
+    Some(())
 }
 
 /// Gives them theirs twice; memory may be refused the first time.
-fn link_twice<B: TermBank, W: Write>(
-    alloc: Global,
-    checked: &Checked,
-    bank: &mut B,
-    out: &mut W,
-) -> Result<()> {
-    let before = content(alloc, bank)?;
-    link_once(alloc, checked, bank, out)?;
-    compare(alloc, bank, &before, out)?;
-    let symbols = count_symbols(alloc, checked, bank)?;
-    count(alloc, out, symbols as u64, "symbols")
+fn link_twice<B: TermBank>(checked: &Checked, bank: &mut B, report: &mut Report) -> Option<()> {
+    let mut before = Vec::new(report.alloc);
+    add_content(report.alloc, bank, &mut before)?;
+    report.begin();
+    report.tell(Links::make(report.alloc, checked, bank));
+    compare(bank, &before, report)?;
+    count_symbols(checked, bank, report)
 }
 
-/// Gives them theirs where memory may be refused.
-fn link_once<B: TermBank, W: Write>(
-    alloc: Global,
-    checked: &Checked,
-    bank: &mut B,
-    out: &mut W,
-) -> io::Result<()> {
-    begin(out)?;
-    let answer = Links::make(alloc, checked, bank);
-    tell(out, &answer)
-}
-
-/// How many symbols a specification gets in a bank.
-fn count_symbols<B: TermBank>(
-    alloc: Global,
-    checked: &Checked,
-    bank: &mut B,
-) -> Result<usize, BankFault> {
-    let links = Links::make(alloc, checked, bank)?;
-    Ok(links.symbols().len())
+/// Says how many symbols a specification gets in a bank.
+fn count_symbols<B: TermBank>(checked: &Checked, bank: &mut B, report: &mut Report) -> Option<()> {
+    let links = boxed(report.alloc, Links::make(report.alloc, checked, bank))?;
+    report.count(links.symbols().len() as u64, "symbols");
+    Some(())
 }
 
 /// The matching trees are built.
-pub fn try_build<B: TermBank, W: Write>(alloc: Global, bank: &mut B, out: &mut W) -> Result<()> {
-    let checked = checked(alloc)?;
-    build_over(alloc, &checked, bank, out)
+pub fn try_build<B: TermBank>(bank: &mut B, report: &mut Report) -> Option<()> {
+    let checked = checked(report.alloc)?;
+    build_over(&*checked, bank, report)
 }
 
 /// Builds them for the symbols of a bank.
-fn build_over<B: TermBank, W: Write>(
-    alloc: Global,
-    checked: &Checked,
-    bank: &mut B,
-    out: &mut W,
-) -> Result<()> {
-    let links = Links::make(alloc, checked, bank)?;
-    build_twice(alloc, checked, &links, out)
+fn build_over<B: TermBank>(checked: &Checked, bank: &mut B, report: &mut Report) -> Option<()> {
+    let links = Links::make(report.alloc, checked, bank).ok()?;
+    build_twice(checked, &links, report)
 }
 
 /// Builds them twice; memory may be refused the first time.
-fn build_twice<W: Write>(alloc: Global, checked: &Checked, links: &Links, out: &mut W) -> Result<()>
+fn build_twice(checked: &Checked, links: &Links, report: &mut Report) -> Option<()>
     requires { length links.now ≡ length (symbols checked.now.spec) }
 {
-    build_once(alloc, checked, links, out)?;
-    let sides = count_sides(alloc, checked, links)?;
-    count(alloc, out, sides as u64, "left sides")
-}
-
-/// Builds them where memory may be refused.
-fn build_once<W: Write>(
-    alloc: Global,
-    checked: &Checked,
-    links: &Links,
-    out: &mut W,
-) -> io::Result<()>
-    requires { length links.now ≡ length (symbols checked.now.spec) }
-{
-    begin(out)?;
-    let answer = Matcher::build(alloc, checked, links);
-    tell(out, &answer)
-}
-
-/// How many left sides there are behind them.
-fn count_sides(alloc: Global, checked: &Checked, links: &Links) -> Result<usize, AllocError>
-    requires { length links.now ≡ length (symbols checked.now.spec) }
-{
-    let matcher = Matcher::build(alloc, checked, links)?;
-    Ok(matcher.sides.len())
+    report.begin();
+    report.tell(Matcher::build(report.alloc, checked, links));
+    let matcher = boxed(report.alloc, Matcher::build(report.alloc, checked, links))?;
+    report.count(matcher.sides.len() as u64, "left sides");
+    Some(())
 }
 
 /// A matcher, whose symbols the bank has.
-fn matcher_for<B: TermBank>(alloc: Global, bank: &mut B) -> Result<Matcher>
-    ensures { IfOk result (AreReady (B.store bank.new)) }
+fn matcher_for<B: TermBank>(alloc: Global, bank: &mut B) -> Option<Matcher>
+    ensures { IfSome result (AreReady (B.store bank.new)) }
 {
     let checked = checked(alloc)?;
-    let links = Links::make(alloc, &checked, bank)?;
-    Ok(Matcher::build(alloc, &checked, &links)?)
+    matcher_of(alloc, &*checked, bank)
+}
+
+/// The matcher of a specification.
+fn matcher_of<B: TermBank>(alloc: Global, checked: &Checked, bank: &mut B) -> Option<Matcher>
+    ensures { IfSome result (AreReady (B.store bank.new)) }
+{
+    let links = Links::make(alloc, checked, bank).ok()?;
+    match Matcher::build(alloc, checked, &links) {
+        Ok(matcher) => Some(matcher),
+        Err(_) => None,
+    }
 }
 
 /// The least rule for a term is looked for.
-pub fn try_next<B: TermBank, W: Write>(alloc: Global, bank: &mut B, out: &mut W) -> Result<()> {
-    let t = read(alloc, SUM, bank)?;
-    let matcher = matcher_for(alloc, bank)?;
-    if !bank.holds(t) {
-        bail!("what was read is not held");
-    }
-    ask(alloc, bank, &matcher, t, out)
+pub fn try_next<B: TermBank>(bank: &mut B, report: &mut Report) -> Option<()> {
+    let t = read_held(report.alloc, bank, SUM)?;
+    let matcher = matcher_for(report.alloc, bank)?;
+    ask(bank, &matcher, t, report)
 }
 
-/// Asks for it twice; memory may be refused the first time.
-fn ask<B: TermBank, W: Write>(
-    alloc: Global,
-    bank: &B,
-    matcher: &Matcher,
-    t: Term,
-    out: &mut W,
-) -> Result<()>
-    requires held { IsSome (tree_at (B.store bank.now) t) }
-    requires ready { AreReady (B.store bank.now) matcher.now }
+/// Looks for it twice, where the term is still held; memory may be refused the first time.
+fn ask<B: TermBank>(bank: &B, matcher: &Matcher, t: Term, report: &mut Report) -> Option<()>
+    requires { AreReady (B.store bank.now) matcher.now }
 {
-    let mut bound: SmallVec<Term, 8> = SmallVec::new(alloc);
-    begin(out)?;
-    let answer = matcher.next(bank, t, 0, &mut bound);
-    tell(out, &answer)?;
-    let is_empty = answer.is_ok() || bound.is_empty();
-    say(out, is_empty, "without values after a fault")?;
-    let again = matcher.next(bank, t, 0, &mut bound)?;
-    say(out, again == Some(1), "the second rule")?;
-    count(alloc, out, bound.len() as u64, "values")
+    if !bank.holds(t) {
+        return None;
+    }
+    let mut bound: SmallVec<Term, 8> = SmallVec::new(report.alloc);
+    report.begin();
+    let is_done = report.tell(matcher.next(bank, t, 0, &mut bound));
+    let is_empty = is_done || bound.is_empty();
+    report.say(is_empty, "without values after a fault");
+    let again = matcher.next(bank, t, 0, &mut bound);
+    report.say(again == Ok(Some(1)), "the second rule");
+    report.count(bound.len() as u64, "values");
+    Some(())
 }

@@ -1,11 +1,12 @@
 //! Texts of annotated terms.
 
-use crate::report::{begin, count, say, show, tell};
-use anyhow::{Result, bail};
+ghost use Rattle.std.specs.Prelude.{IsSome};
+ghost use Rattle.rx_term.specs.Store.{tree_at};
+
+use crate::needs::read_held;
+use crate::report::Report;
 use rx_term::{Term, TermBank};
 use rx_text::{read, write};
-use std::alloc::Global;
-use std::io::Write;
 
 /// A text with each kind of node, whose 14 parts are counted in `banks`.
 const TEXT: &[u8] = b"f(g(a),[1,<7>]){b}";
@@ -14,33 +15,32 @@ const TEXT: &[u8] = b"f(g(a),[1,<7>]){b}";
 const KEPT: &[u8] = b"[kept]";
 
 /// A text is read. What was there before is there after a refusal.
-pub fn try_read<B: TermBank, W: Write>(alloc: Global, bank: &mut B, out: &mut W) -> Result<()> {
-    let kept = read(alloc, KEPT, bank)?;
-    begin(out)?;
-    let answer = read(alloc, TEXT, bank);
-    tell(out, &answer)?;
-    show(alloc, bank, kept, out)?;
-    let t = read(alloc, TEXT, bank)?;
-    show(alloc, bank, t, out)?;
+pub fn try_read<B: TermBank>(bank: &mut B, report: &mut Report) -> Option<()> {
+    let kept = read_held(report.alloc, bank, KEPT)?;
+    report.begin();
+    report.tell(read(report.alloc, TEXT, bank));
+    report.show(bank, kept);
+    let t = read_held(report.alloc, bank, TEXT)?;
+    report.show(bank, t);
     bank.reclaim(&[]);
-    count(alloc, out, u64::from(bank.cells()), "cells kept")
+    report.count(u64::from(bank.cells()), "cells kept");
+    Some(())
 }
 
 /// A term is written to a writer that needs no memory.
-pub fn try_write<B: TermBank, W: Write>(alloc: Global, bank: &mut B, out: &mut W) -> Result<()> {
-    let t = read(alloc, TEXT, bank)?;
-    write_once(alloc, bank, t, out)?;
-    show(alloc, bank, t, out)
+pub fn try_write<B: TermBank>(bank: &mut B, report: &mut Report) -> Option<()> {
+    let t = read_held(report.alloc, bank, TEXT)?;
+    let mut text = Vec::with_capacity(report.alloc, 1000).ok()?;
+    write_once(bank, t, &mut text, report);
+    report.show(bank, t);
+    Some(())
 }
 
 /// Writes it where memory may be refused.
-fn write_once<B: TermBank, W: Write>(alloc: Global, bank: &B, t: Term, out: &mut W) -> Result<()> {
-    let mut text = Vec::with_capacity(alloc, 1000)?;
-    if !bank.holds(t) {
-        bail!("what was read is not held");
-    }
-    begin(out)?;
-    let answer = write(alloc, bank, t, &mut text);
-    tell(out, &answer)?;
-    Ok(say(out, TEXT.starts_with(&text), "a beginning")?)
+fn write_once<B: TermBank>(bank: &B, t: Term, text: &mut Vec<u8>, report: &mut Report)
+    requires { IsSome (tree_at (B.store bank.now) t) }
+{
+    report.begin();
+    report.tell(write(report.alloc, bank, t, text));
+    report.say(TEXT.starts_with(text), "a beginning");
 }

@@ -1,0 +1,27 @@
+//! What a row needs before its call.
+
+ghost use Rattle.std.specs.Prelude.{◌≡◌, IsSome, IfSome};
+ghost use Rattle.std.specs.Prelude.{Ok};
+ghost use Rattle.rx_term.specs.Store.{tree_at};
+
+use rx_term::{Term, TermBank};
+use rx_text::read;
+use std::alloc::Global;
+
+/// What was made, on the heap: there it is one small value to its owner, whatever its parts.
+pub fn boxed<T: Drop, F: Drop>(alloc: Global, answer: Result<T, F>) -> Option<Box<T>>
+    ensures { IfSome result (λ b. answer ≡ Ok b.value) }
+{
+    match answer {
+        Ok(value) => Box::new(alloc, value).ok(),
+        Err(_) => None,
+    }
+}
+
+/// The term of a text, which is held.
+pub fn read_held<B: TermBank>(alloc: Global, bank: &mut B, text: &[u8]) -> Option<Term>
+    ensures { IfSome result (λ t. IsSome (tree_at (B.store bank.new) t)) }
+{
+    let t = read(alloc, text, bank).ok()?;
+    if bank.holds(t) { Some(t) } else { None }
+}
