@@ -21,13 +21,14 @@ fn body(hash: u64) -> CellBody {
 }
 
 /// An arena without cells.
-fn arena_of(rt: &impl Abort, alloc: Global, cap: u32, chains: u32) -> Arena
+fn arena_of(rt: &impl Abort, alloc: Global, cap: u32, chains: u32) -> Box<Arena>
     requires cap { (1 ≤ cap) × (cap ≤ 2 ^ 30) }
     requires chains { (1 ≤ chains) × (chains ≤ 2 ^ 30) }
-    ensures empty { result ≡ empty_arena cap chains }
-    ensures no_roots { HasNoRoots result }
+    ensures empty { result.value ≡ empty_arena cap chains }
+    ensures no_roots { HasNoRoots result.value }
 {
-    Arena::new(alloc, cap, chains).expect(rt, "an arena")
+    let arena = Arena::new(alloc, cap, chains).expect(rt, "an arena");
+    Box::new(alloc, arena).expect(rt, "memory")
 }
 
 /// Stops where a slot is not taken, or is marked.

@@ -15,12 +15,13 @@ use std::process::Abort;
 const LEAF: u8 = 0;
 
 /// An arena without cells.
-fn arena_of(rt: &impl Abort, alloc: Global, cap: u32, chains: u32) -> Arena
+fn arena_of(rt: &impl Abort, alloc: Global, cap: u32, chains: u32) -> Box<Arena>
     requires cap { (1 ≤ cap) × (cap ≤ 2 ^ 30) }
     requires chains { (1 ≤ chains) × (chains ≤ 2 ^ 30) }
-    ensures { CanCollect result }
+    ensures { CanCollect result.value }
 {
-    Arena::new(alloc, cap, chains).expect(rt, "an arena")
+    let arena = Arena::new(alloc, cap, chains).expect(rt, "an arena");
+    Box::new(alloc, arena).expect(rt, "memory")
 }
 
 /// Takes a slot for a cell whose parts are there, and links it into a chain.
