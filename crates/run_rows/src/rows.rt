@@ -2,7 +2,9 @@
 
 mod given;
 mod hostile;
+mod limits;
 mod pattern;
+mod performing;
 mod spec;
 mod streams;
 mod term;
@@ -47,6 +49,7 @@ pub(crate) const Q: &str = "REC-SPEC Q \
     RULES f(X) -> X \
     EVAL f(a) END-SPEC";
 
+/// Options of a run with so many steps at most for a term.
 pub(crate) fn options(steps: u32, count: bool) -> RunOptions {
     RunOptions {
         steps: u64::from(steps),
@@ -68,13 +71,13 @@ pub(crate) struct Ran {
 /// What a run on a specification came to, and on given terms if there are any.
 pub(crate) fn run_on<T: Read>(
     alloc: Global,
-    mut spec: &[u8],
+    spec: &mut &[u8],
     terms: Option<&mut T>,
     options: RunOptions,
 ) -> Ran {
     let mut place = None;
     let mut written = Vec::new(alloc);
-    let result = run_at(alloc, &mut spec, terms, &mut written, options, &mut place);
+    let result = run_at(alloc, spec, terms, &mut written, options, &mut place);
     Ran {
         result,
         place,
@@ -82,16 +85,34 @@ pub(crate) fn run_on<T: Read>(
     }
 }
 
-/// Asserts how a run ended, and what it wrote.
-pub(crate) fn assert_ran(
+/// Stops where a run ended otherwise, told another place, or wrote other lines.
+pub(crate) fn expect_ran(
     rt: &impl Abort,
     ran: &Ran,
     finish: Finish,
     place: Option<Place>,
     lines: &str,
-    about: &str,
 ) {
-    assert_eq!(rt; ran.result, Ok(finish), "{about}");
-    assert_eq!(rt; ran.place, place, "{about}");
-    assert_eq!(rt; ran.written.as_slice(), lines.as_bytes(), "{about}");
+    assert!(rt; ran.result == Ok(finish), "{lines}");
+    assert!(rt; ran.place == place, "{lines}");
+    assert!(rt; ran.written.as_slice() == lines.as_bytes(), "{lines}");
+}
+
+/// Adds a text's end.
+pub(crate) fn push(rt: &impl Abort, text: &mut String, end: &str) {
+    assert!(rt; text.push_str(end).is_ok());
+}
+
+/// Adds a text so often.
+pub(crate) fn push_often(rt: &impl Abort, text: &mut String, part: &str, times: u32) {
+    for _ in 0..times {
+        push(rt, text, part);
+    }
+}
+
+/// A text with blanks up to a length.
+pub(crate) fn padded(rt: &impl Abort, alloc: Global, text: &str, length: usize) -> Vec<u8> {
+    let mut padded = Vec::from_slice(alloc, text.as_bytes()).expect(rt, "memory");
+    assert!(rt; padded.resize(length, b' ').is_ok());
+    padded
 }

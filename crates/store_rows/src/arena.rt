@@ -21,13 +21,14 @@ fn body(hash: u64) -> CellBody {
 }
 
 /// An arena without cells.
-fn arena_of(rt: &impl Abort, alloc: Global, cap: u32, chains: u32) -> Arena
+fn arena_of(rt: &impl Abort, alloc: Global, cap: u32, chains: u32) -> Box<Arena>
     requires cap { (1 ≤ cap) × (cap ≤ 2 ^ 30) }
     requires chains { (1 ≤ chains) × (chains ≤ 2 ^ 30) }
-    ensures empty { result ≡ empty_arena cap chains }
-    ensures no_roots { HasNoRoots result }
+    ensures empty { result.value ≡ empty_arena cap chains }
+    ensures no_roots { HasNoRoots result.value }
 {
-    Arena::new(alloc, cap, chains).expect(rt, "an arena")
+    let arena = Arena::new(alloc, cap, chains).expect(rt, "an arena");
+    Box::new(alloc, arena).expect(rt, "memory")
 }
 
 /// Stops where a slot is not taken, or is marked.
@@ -57,40 +58,40 @@ fn give_back(rt: &impl Abort, arena: &mut Arena, slot: Slot)
     arena.give_back(slot);
 }
 
-/// Takes two slots, which are all there are, and one of them again.
+/// Deals the slots out to so many chains.
+fn rehash(rt: &impl Abort, arena: &mut Arena, chains: u32)
+    requires { (1 ≤ chains) × (chains ≤ 2 ^ 30) }
+{
+    assert!(rt; arena.rehash_into(chains).is_ok());
+    assert!(rt; arena.chains() == chains);
+}
+
+/// Takes two slots, which are all there are, and one of them again, and deals them out to two
+/// chains.
 fn take_all(rt: &impl Abort, arena: &mut Arena)
     requires chains { arena.old.chains ≡ [] ∷ [] }
     requires no_gray { arena.old.gray ≡ [] }
 {
+    assert!(rt; arena.reserve(1).is_ok());
     let first = arena.take(body(0)).expect(rt, "a first slot");
     let second = arena.take(body(1)).expect(rt, "a second slot");
     assert!(rt; first != second);
     assert!(rt; is_full(arena));
     give_back(rt, arena, first);
     assert!(rt; arena.take(body(2)).is_ok());
-}
-
-/// Deals the slots out to so many chains.
-fn rehash(rt: &impl Abort, arena: &mut Arena, chains: u32)
-    requires { (1 ≤ chains) × (chains ≤ 2 ^ 30) }
-{
-    assert!(rt; arena.rehash_into(chains).is_ok());
-    assert_eq!(rt; arena.chains(), chains);
+    rehash(rt, arena, 2);
 }
 
 #[test]
 fn takes_up_to_the_limit(rt: HostRuntime) {
-    let mut arena = arena_of(&rt, rt.alloc(), 2, 1);
-    assert!(rt; arena.reserve(1).is_ok());
-    take_all(&rt, &mut arena);
-    rehash(&rt, &mut arena, 2);
+    take_all(&rt, &mut arena_of(&rt, rt.alloc(), 2, 1));
 }
 
 /// Stops where a cell has another hash, or is protected another number of times.
 fn expect_cell(rt: &impl Abort, arena: &Arena, slot: Slot, hash: u64, roots: u16) {
     expect_taken(rt, arena, slot);
-    assert_eq!(rt; arena.read(slot).hash, hash);
-    assert_eq!(rt; arena.roots(slot), roots);
+    assert!(rt; arena.read(slot).hash == hash);
+    assert!(rt; arena.roots(slot) == roots);
 }
 
 /// Replaces how often a cell is protected.
@@ -101,7 +102,7 @@ fn protect(rt: &impl Abort, arena: &mut Arena, slot: Slot, count: u16) {
 
 /// Stops where not so many slots can be taken with no more memory.
 fn expect_spare(rt: &impl Abort, arena: &Arena, count: u32) {
-    assert_eq!(rt; arena.spare(), count);
+    assert!(rt; arena.spare() == count);
 }
 
 /// Takes one of two spare slots of a new arena, for a cell whose hash is 7.
@@ -114,31 +115,32 @@ fn take_spare(rt: &impl Abort, arena: &mut Arena) -> Slot {
     slot
 }
 
-#[test]
-fn counts_what_is_spare_and_protected(rt: HostRuntime) {
-    let mut arena = arena_of(&rt, rt.alloc(), 2, 1);
-    let slot = take_spare(&rt, &mut arena);
-    expect_cell(&rt, &arena, slot, 7, 0);
+/// Protects a cell whose hash is 7, which was not, three times.
+fn protect_spare(rt: &impl Abort, arena: &mut Arena) {
+    let slot = take_spare(rt, arena);
+    expect_cell(rt, arena, slot, 7, 0);
     assert!(rt; !arena.is_protected(slot));
-    protect(&rt, &mut arena, slot, 3);
-    expect_cell(&rt, &arena, slot, 7, 3);
+    protect(rt, arena, slot, 3);
+    expect_cell(rt, arena, slot, 7, 3);
     assert!(rt; arena.is_protected(slot));
 }
 
-/// The chain that a hash names, of so many.
-fn home(rt: &impl Abort, alloc: Global, chains: u32, hash: u64) -> u32
-    requires { (1 ≤ chains) × (chains ≤ 2 ^ 30) }
-{
-    let arena = arena_of(rt, alloc, 1, chains);
+#[test]
+fn counts_what_is_spare_and_protected(rt: HostRuntime) {
+    protect_spare(&rt, &mut arena_of(&rt, rt.alloc(), 2, 1));
+}
+
+/// Stops where a hash names another chain.
+fn expect_home(rt: &impl Abort, arena: &Arena, hash: u64, home: u32) {
     assert!(rt; arena.chains() > 0);
-    arena.home(hash)
+    assert!(rt; arena.home(hash) == home);
 }
 
 #[test]
 fn a_hash_names_a_chain(rt: HostRuntime) {
-    assert_eq!(rt; home(&rt, rt.alloc(), 8, 21), 5);
-    assert_eq!(rt; home(&rt, rt.alloc(), 3, 22), 1);
-    assert_eq!(rt; home(&rt, rt.alloc(), 1, 22), 0);
+    expect_home(&rt, &arena_of(&rt, rt.alloc(), 1, 8), 21, 5);
+    expect_home(&rt, &arena_of(&rt, rt.alloc(), 1, 3), 22, 1);
+    expect_home(&rt, &arena_of(&rt, rt.alloc(), 1, 1), 22, 0);
 }
 
 /// Takes a slot for a cell of this hash, and puts it in front of a chain.
@@ -201,7 +203,10 @@ fn expect_pair(rt: &impl Abort, arena: &Arena, chain: u32, one: Slot, other: Slo
 }
 
 /// Deals the three slots of chain 0 out to two chains.
-fn rehash_three(rt: &impl Abort, arena: &mut Arena, s0: Slot, s1: Slot, s2: Slot) {
+fn rehash_three(rt: &impl Abort, arena: &mut Arena)
+    requires { HasNoRoots arena.old }
+{
+    let (s0, s1, s2) = link_three(rt, arena);
     expect_chain(rt, arena, 0, &[s2, s1, s0]);
     rehash(rt, arena, 2);
     expect_chain(rt, arena, 1, &[s1]);
@@ -210,9 +215,7 @@ fn rehash_three(rt: &impl Abort, arena: &mut Arena, s0: Slot, s1: Slot, s2: Slot
 
 #[test]
 fn rehashes_by_the_stored_hash(rt: HostRuntime) {
-    let mut arena = arena_of(&rt, rt.alloc(), 10, 1);
-    let (s0, s1, s2) = link_three(&rt, &mut arena);
-    rehash_three(&rt, &mut arena, s0, s1, s2);
+    rehash_three(&rt, &mut arena_of(&rt, rt.alloc(), 10, 1));
 }
 
 /// Marks a cell, and puts it in front of the gray list.
@@ -254,17 +257,23 @@ fn unmark_first(rt: &impl Abort, arena: &mut Arena, chain: u32)
     assert!(rt; !arena.marked(slot));
 }
 
+/// Gives back what is not marked of three cells, of which the second is.
+fn keep_second(rt: &impl Abort, arena: &mut Arena)
+    requires { HasNoRoots arena.old }
+{
+    let (_, s1, _) = link_three(rt, arena);
+    mark(rt, arena, s1);
+    assert!(rt; arena.gray_pop() == Some(s1));
+    drain_gray(arena);
+    retain_marked(rt, arena, 0);
+    expect_chain(rt, arena, 0, &[s1]);
+    assert!(rt; arena.cells() == 1);
+    unmark_first(rt, arena, 0);
+}
+
 #[test]
 fn keeps_the_marked(rt: HostRuntime) {
-    let mut arena = arena_of(&rt, rt.alloc(), 10, 1);
-    let (_, s1, _) = link_three(&rt, &mut arena);
-    mark(&rt, &mut arena, s1);
-    assert_eq!(rt; arena.gray_pop(), Some(s1));
-    drain_gray(&mut arena);
-    retain_marked(&rt, &mut arena, 0);
-    expect_chain(&rt, &arena, 0, &[s1]);
-    assert_eq!(rt; arena.cells(), 1);
-    unmark_first(&rt, &mut arena, 0);
+    keep_second(&rt, &mut arena_of(&rt, rt.alloc(), 10, 1));
 }
 
 /// How many cells the large arena takes.
@@ -305,8 +314,7 @@ fn first_hash(rt: &impl Abort, arena: &Arena, chain: u32) -> u64 {
 
 /// Stops where there are not so many cells in so many chains.
 fn expect_counts(rt: &impl Abort, arena: &Arena, cells: u32, chains: u32) {
-    assert_eq!(rt; arena.cells(), cells);
-    assert_eq!(rt; arena.chains(), chains);
+    assert!(rt; arena.cells() == cells && arena.chains() == chains);
 }
 
 /// Deals the cells that are left out to twice as many chains.
@@ -314,16 +322,22 @@ fn rehash_the_rest(rt: &impl Abort, arena: &mut Arena) {
     expect_counts(rt, arena, CELLS / 2, CHAINS);
     rehash(rt, arena, 2 * CHAINS);
     expect_counts(rt, arena, CELLS / 2, 2 * CHAINS);
-    assert_eq!(rt; first_hash(rt, arena, 6) % u64::from(2 * CHAINS), 6);
+    assert!(rt; first_hash(rt, arena, 6) % u64::from(2 * CHAINS) == 6);
     expect_chain(rt, arena, 7, &[]);
+}
+
+/// Fills an arena, gives back what is not marked, and deals the rest out to more chains.
+fn sweep_half(rt: &impl Abort, arena: &mut Arena)
+    requires { HasNoRoots arena.old }
+{
+    fill(rt, arena);
+    assert!(rt; arena.cells() == CELLS);
+    drain_gray(arena);
+    sweep(rt, arena);
+    rehash_the_rest(rt, arena);
 }
 
 #[test]
 fn takes_links_marks_sweeps_and_rehashes_a_million(rt: HostRuntime) {
-    let mut arena = arena_of(&rt, rt.alloc(), 1 << 20, CHAINS);
-    fill(&rt, &mut arena);
-    assert_eq!(rt; arena.cells(), CELLS);
-    drain_gray(&mut arena);
-    sweep(&rt, &mut arena);
-    rehash_the_rest(&rt, &mut arena);
+    sweep_half(&rt, &mut arena_of(&rt, rt.alloc(), 1 << 20, CHAINS));
 }

@@ -15,12 +15,13 @@ use std::process::Abort;
 const LEAF: u8 = 0;
 
 /// An arena without cells.
-fn arena_of(rt: &impl Abort, alloc: Global, cap: u32, chains: u32) -> Arena
+fn arena_of(rt: &impl Abort, alloc: Global, cap: u32, chains: u32) -> Box<Arena>
     requires cap { (1 ≤ cap) × (cap ≤ 2 ^ 30) }
     requires chains { (1 ≤ chains) × (chains ≤ 2 ^ 30) }
-    ensures { CanCollect result }
+    ensures { CanCollect result.value }
 {
-    Arena::new(alloc, cap, chains).expect(rt, "an arena")
+    let arena = Arena::new(alloc, cap, chains).expect(rt, "an arena");
+    Box::new(alloc, arena).expect(rt, "memory")
 }
 
 /// Takes a slot for a cell whose parts are there, and links it into a chain.
@@ -143,7 +144,7 @@ fn unmarked_chain<R: Abort>(
 fn expect_chain(rt: &impl Abort, alloc: Global, arena: &Arena, chain: u32, slots: &[Slot]) {
     assert!(rt; chain < arena.chains());
     let found = unmarked_chain(rt, alloc, arena, chain).expect(rt, "memory");
-    assert_eq!(rt; found.as_slice(), slots);
+    assert!(rt; found.as_slice() == slots);
 }
 
 /// The cells of a graph that its call leads to.
@@ -178,63 +179,78 @@ fn graph(rt: &impl Abort, arena: &mut Arena) -> Reached
     }
 }
 
+/// Stops where there are not so many cells, or one of them is gray.
+fn expect_cells(rt: &impl Abort, arena: &mut Arena, count: u32) {
+    assert!(rt; arena.cells() == count);
+    assert!(rt; arena.gray_pop().is_none());
+}
+
+/// Collects a graph of which a call is protected.
+fn collect_graph(rt: &impl Abort, alloc: Global, arena: &mut Arena)
+    requires { CanCollect arena.old }
+{
+    let made = graph(rt, arena);
+    protect(rt, arena, made.call, 1);
+    collect(arena);
+    expect_cells(rt, arena, 5);
+    expect_chain(rt, alloc, arena, 0, &[made.notes, made.ones, made.empty]);
+    expect_chain(rt, alloc, arena, 1, &[made.one]);
+    expect_chain(rt, alloc, arena, 2, &[made.call]);
+}
+
 #[test]
 fn keeps_what_is_reached(rt: HostRuntime) {
-    let mut arena = arena_of(&rt, rt.alloc(), 100, 3);
-    let made = graph(&rt, &mut arena);
-    protect(&rt, &mut arena, made.call, 1);
-    collect(&mut arena);
-    assert_eq!(rt; arena.cells(), 5);
-    expect_chain(
-        &rt,
-        rt.alloc(),
-        &arena,
-        0,
-        &[made.notes, made.ones, made.empty],
-    );
-    expect_chain(&rt, rt.alloc(), &arena, 1, &[made.one]);
-    expect_chain(&rt, rt.alloc(), &arena, 2, &[made.call]);
-    assert_eq!(rt; arena.gray_pop(), None);
+    collect_graph(&rt, rt.alloc(), &mut arena_of(&rt, rt.alloc(), 100, 3));
+}
+
+/// Collects a graph of which a list is gray.
+fn collect_gray(rt: &impl Abort, alloc: Global, arena: &mut Arena)
+    requires { CanCollect arena.old }
+{
+    let empty = leaf(rt, arena, 0);
+    let one = leaf(rt, arena, 1);
+    let ones = node(rt, arena, 0, LIST, (one, empty), None);
+    let _lost = node(rt, arena, 1, LIST, (one, ones), None);
+    make_gray(rt, arena, ones);
+    collect(arena);
+    expect_cells(rt, arena, 3);
+    expect_chain(rt, alloc, arena, 0, &[ones, empty]);
+    expect_chain(rt, alloc, arena, 1, &[one]);
 }
 
 #[test]
 fn a_gray_slot_keeps_its_parts(rt: HostRuntime) {
-    let mut arena = arena_of(&rt, rt.alloc(), 100, 2);
-    let empty = leaf(&rt, &mut arena, 0);
-    let one = leaf(&rt, &mut arena, 1);
-    let ones = node(&rt, &mut arena, 0, LIST, (one, empty), None);
-    let _lost = node(&rt, &mut arena, 1, LIST, (one, ones), None);
-    make_gray(&rt, &mut arena, ones);
-    collect(&mut arena);
-    assert_eq!(rt; arena.cells(), 3);
-    expect_chain(&rt, rt.alloc(), &arena, 0, &[ones, empty]);
-    expect_chain(&rt, rt.alloc(), &arena, 1, &[one]);
-    assert_eq!(rt; arena.gray_pop(), None);
+    collect_gray(&rt, rt.alloc(), &mut arena_of(&rt, rt.alloc(), 100, 2));
 }
 
-/// Makes a cell that nothing needs, and collects.
+/// Makes a cell that nothing needs, and collects; stops where another number of cells than one is
+/// left.
 fn lose_one(rt: &impl Abort, arena: &mut Arena, chain: u32)
     requires { CanCollect arena.old }
     ensures { CanCollect arena.new }
 {
     leaf(rt, arena, chain);
     collect(arena);
+    assert!(rt; arena.cells() == 1);
+}
+
+/// Collects three times, with one cell that is protected.
+fn collect_thrice(rt: &impl Abort, alloc: Global, arena: &mut Arena)
+    requires { CanCollect arena.old }
+{
+    let kept = leaf(rt, arena, 0);
+    protect(rt, arena, kept, 1);
+    lose_one(rt, arena, 1);
+    expect_chain(rt, alloc, arena, 0, &[kept]);
+    lose_one(rt, arena, 0);
+    expect_chain(rt, alloc, arena, 0, &[kept]);
+    lose_one(rt, arena, 0);
 }
 
 /// What one collection leaves is not marked for the next one.
 #[test]
 fn collections_follow_one_another(rt: HostRuntime) {
-    let mut arena = arena_of(&rt, rt.alloc(), 100, 2);
-    let kept = leaf(&rt, &mut arena, 0);
-    protect(&rt, &mut arena, kept, 1);
-    lose_one(&rt, &mut arena, 1);
-    assert_eq!(rt; arena.cells(), 1);
-    expect_chain(&rt, rt.alloc(), &arena, 0, &[kept]);
-    lose_one(&rt, &mut arena, 0);
-    assert_eq!(rt; arena.cells(), 1);
-    expect_chain(&rt, rt.alloc(), &arena, 0, &[kept]);
-    lose_one(&rt, &mut arena, 0);
-    assert_eq!(rt; arena.cells(), 1);
+    collect_thrice(&rt, rt.alloc(), &mut arena_of(&rt, rt.alloc(), 100, 2));
 }
 
 /// How many nodes the long list has.
@@ -256,14 +272,20 @@ fn long_list(rt: &impl Abort, arena: &mut Arena) -> Slot
     list
 }
 
+/// Collects a long list, first while it is protected.
+fn collect_long_list(rt: &impl Abort, arena: &mut Arena)
+    requires { CanCollect arena.old }
+{
+    let list = long_list(rt, arena);
+    protect(rt, arena, list, 1);
+    collect(arena);
+    assert!(rt; arena.cells() == NODES + 1);
+    protect(rt, arena, list, 0);
+    collect(arena);
+    assert!(rt; arena.cells() == 0);
+}
+
 #[test]
 fn a_long_list_is_collected(rt: HostRuntime) {
-    let mut arena = arena_of(&rt, rt.alloc(), 1 << 17, CHAINS);
-    let list = long_list(&rt, &mut arena);
-    protect(&rt, &mut arena, list, 1);
-    collect(&mut arena);
-    assert_eq!(rt; arena.cells(), NODES + 1);
-    protect(&rt, &mut arena, list, 0);
-    collect(&mut arena);
-    assert_eq!(rt; arena.cells(), 0);
+    collect_long_list(&rt, &mut arena_of(&rt, rt.alloc(), 1 << 17, CHAINS));
 }

@@ -1,5 +1,6 @@
 //! Each caller over the plain bank, with answers that were worked out by hand.
 
+ghost use Rattle.rx_term.specs.declared.Term.{Term};
 ghost use Rattle.rec_engine.specs.Engine.{IsGiven};
 
 use crate::evaluating::{admit, checked, engine_over, printed_own_value, printed_value};
@@ -28,8 +29,9 @@ const X: &[u8] = b"x";
 const Y: &[u8] = b"y";
 
 /// A bank of no terms.
-fn bank_of(rt: &impl Abort, alloc: Global) -> PlainBank {
-    PlainBank::new(alloc, 1000).expect(rt, "a bank")
+fn bank_of(rt: &impl Abort, alloc: Global) -> Box<PlainBank> {
+    let bank = PlainBank::new(alloc, 1000).expect(rt, "a bank");
+    Box::new(alloc, bank).expect(rt, "memory")
 }
 
 /// The reference of `x` with a line and a column.
@@ -47,25 +49,23 @@ fn term<B: TermBank>(rt: &impl Abort, alloc: Global, bank: &mut B, text: &[u8]) 
     read(alloc, text, bank).expect(rt, "a term")
 }
 
-/// Whether the printed text of a term is this one.
-fn prints<B: TermBank>(rt: &impl Abort, alloc: Global, bank: &B, t: Term, wanted: &[u8]) -> bool {
+/// Stops where the printed text of a term is not this one.
+fn expect_text<B: TermBank>(rt: &impl Abort, alloc: Global, bank: &B, t: Term, wanted: &[u8]) {
     assert!(rt; bank.holds(t));
-    printed(alloc, bank, t).expect(rt, "a text").as_slice() == wanted
+    assert!(rt; printed(alloc, bank, t).expect(rt, "a text").as_slice() == wanted);
 }
 
-/// Whether a term is read back from its own text.
-fn is_read_back<B: TermBank>(rt: &impl Abort, alloc: Global, bank: &mut B, t: Term) -> bool {
-    assert!(rt; bank.holds(t));
-    read_back(alloc, bank, t).expect(rt, "a term") == t
+/// Stops where a located name is not printed as it should be, or not read back from its own text.
+fn print_and_read<B: TermBank>(rt: &impl Abort, alloc: Global, bank: &mut B) {
+    let x = located_x(rt, bank, 3, -7);
+    expect_text(rt, alloc, bank, x, b"x{at(3,-7)}");
+    assert!(rt; bank.holds(x));
+    assert!(rt; read_back(alloc, bank, x).expect(rt, "a term") == x);
 }
 
 #[test]
 fn builds_prints_and_reads_back(rt: HostRuntime) {
-    let alloc = rt.alloc();
-    let mut bank = bank_of(&rt, alloc);
-    let x = located_x(&rt, &mut bank, 3, -7);
-    assert!(rt; prints(&rt, alloc, &bank, x, b"x{at(3,-7)}"));
-    assert!(rt; is_read_back(&rt, alloc, &mut bank, x));
+    print_and_read(&rt, rt.alloc(), &mut *bank_of(&rt, rt.alloc()));
 }
 
 /// The pattern that a text spells.
@@ -87,128 +87,178 @@ fn rewritten<B: TermBank>(
     rewrite(alloc, bank, left, right, t).expect(rt, "a step, or none")
 }
 
-/// Whether `plus` with an integer behind is rewritten to `add`, and another `plus` is not.
-fn rewrites_a_sum<B: TermBank>(
+/// Stops where `plus` with an integer behind is not rewritten to `add`, or another `plus` is.
+fn rewrite_sums<B: TermBank>(
     rt: &impl Abort,
     alloc: Global,
     bank: &mut B,
     left: &Pattern,
     right: &Pattern,
-) -> bool {
-    match rewritten(rt, alloc, bank, left, right, b"plus(x{at(3,7)}, 1)") {
-        Some(made) => assert!(rt; prints(rt, alloc, bank, made, b"add(x{at(3,7)},[1])")),
-        None => assert!(rt; false),
-    }
-    rewritten(rt, alloc, bank, left, right, b"plus(1,x)").is_none()
+) {
+    let made = rewritten(rt, alloc, bank, left, right, b"plus(x{at(3,7)}, 1)").expect(rt, "a sum");
+    expect_text(rt, alloc, bank, made, b"add(x{at(3,7)},[1])");
+    assert!(rt; rewritten(rt, alloc, bank, left, right, b"plus(1,x)").is_none());
+}
+
+/// The same, by the patterns of two texts.
+fn rewrite_by_texts<B: TermBank>(rt: &impl Abort, alloc: Global, bank: &mut B) {
+    let left = pattern_of(rt, alloc, bank, b"plus(<term>,<int>)");
+    let right = pattern_of(rt, alloc, bank, b"add(<term>,[<int>])");
+    rewrite_sums(rt, alloc, bank, &left, &right);
 }
 
 #[test]
 fn rewrites_by_patterns(rt: HostRuntime) {
-    let alloc = rt.alloc();
-    let mut bank = bank_of(&rt, alloc);
-    let left = pattern_of(&rt, alloc, &mut bank, b"plus(<term>,<int>)");
-    let right = pattern_of(&rt, alloc, &mut bank, b"add(<term>,[<int>])");
-    assert!(rt; rewrites_a_sum(&rt, alloc, &mut bank, &left, &right));
+    rewrite_by_texts(&rt, rt.alloc(), &mut *bank_of(&rt, rt.alloc()));
 }
 
-/// How many cells are left where a term is kept.
-fn kept<B: TermBank>(rt: &impl Abort, bank: &mut B, t: Term) -> u32 {
-    assert!(rt; bank.holds(t));
-    keep(bank, t).expect(rt, "a protected term")
-}
-
-#[test]
-fn keeps_what_is_needed(rt: HostRuntime) {
-    let mut bank = bank_of(&rt, rt.alloc());
-    let x = located_x(&rt, &mut bank, 3, 7);
+/// Stops where other numbers of cells are taken, or more is left than is needed.
+fn keep_one<B: TermBank>(rt: &impl Abort, bank: &mut B) {
+    let x = located_x(rt, bank, 3, 7);
     // x{at(3,7)}, [at(3,7)], at(3,7), [3,7], [7], [], 3 and 7, and the constant x
-    assert_eq!(rt; bank.cells(), 9);
-    let y = located_y(&rt, &mut bank, 3, 8);
+    assert!(rt; bank.cells() == 9);
+    let y = located_y(rt, bank, 3, 8);
     // y{at(3,8)}, [at(3,8)], at(3,8), [3,8], [8], 8, and the constant y
-    assert_eq!(rt; bank.cells(), 16);
-    assert_eq!(rt; kept(&rt, &mut bank, x), 8);
+    assert!(rt; bank.cells() == 16 && bank.holds(x));
+    assert!(rt; keep(bank, x) == Ok(8));
     assert!(rt; bank.holds(x) && !bank.holds(y));
 }
 
 #[test]
-fn evaluates_terms(rt: HostRuntime) {
-    let alloc = rt.alloc();
-    let over = given_sum(&rt, alloc, bank_of(&rt, alloc), 1);
-    let value = given_sum(&rt, alloc, bank_of(&rt, alloc), 2);
-    assert!(rt; over.is_none() && is_text(value, b"s(z){at(3,7)}"));
-    let over = own_sum(&rt, alloc, bank_of(&rt, alloc), 2);
-    let value = own_sum(&rt, alloc, bank_of(&rt, alloc), 3);
-    assert!(rt; over.is_none() && is_text(value, b"s(s(s(z)))"));
-}
-
-#[test]
-fn refuses_foreign_terms(rt: HostRuntime) {
-    let alloc = rt.alloc();
-    assert!(rt; is_foreign(&rt, alloc, &mut bank_of(&rt, alloc), b"minus(s(z),z)"));
+fn keeps_what_is_needed(rt: HostRuntime) {
+    keep_one(&rt, &mut *bank_of(&rt, rt.alloc()));
 }
 
 /// A specification, of which only that it is one is known.
-fn addition(rt: &impl Abort, alloc: Global) -> Checked {
-    checked(alloc, ADDITION).expect(rt, "a specification")
+fn addition(rt: &impl Abort, alloc: Global) -> Box<Checked> {
+    let addition = checked(alloc, ADDITION).expect(rt, "a specification");
+    Box::new(alloc, addition).expect(rt, "memory")
 }
 
-/// What a given sum with an annotation comes to, where that takes so many steps at most.
-fn given_sum<B: TermBank + Drop>(
+/// An engine for a specification over a bank.
+fn engine_of<B: TermBank + Drop>(
     rt: &impl Abort,
     alloc: Global,
-    mut bank: B,
-    n: u64,
-) -> Option<Vec<u8>> {
-    let addition = addition(rt, alloc);
-    let sum = term(rt, alloc, &mut bank, b"plus(s(z),z){at(3,7)}");
-    assert!(rt; bank.holds(sum));
-    admit(alloc, &addition, &mut bank, sum).expect(rt, "a term to evaluate");
-    value_of_given(rt, alloc, addition, bank, sum, n)
-}
-
-/// The text of a given term's value.
-fn value_of_given<B: TermBank + Drop>(
-    rt: &impl Abort,
-    alloc: Global,
-    addition: Checked,
-    bank: B,
-    sum: Term,
-    n: u64,
-) -> Option<Vec<u8>>
-    requires { IsGiven addition.spec (B.store bank) sum }
+    addition: Box<Checked>,
+    bank: Box<B>,
+) -> Box<Engine<B>>
+    ensures { (t : Term) → IsGiven addition.value.spec (B.store bank.value) t →
+        IsGiven result.value.spec (B.store result.value.bank) t }
 {
-    let mut engine = engine_over(alloc, addition, bank).expect(rt, "an engine");
-    printed_value(alloc, &mut engine, sum, n).expect(rt, "a value, or none")
+    let (addition, bank) = (Box::into_inner(addition), Box::into_inner(bank));
+    let engine = engine_over(alloc, addition, bank).expect(rt, "an engine");
+    Box::new(alloc, engine).expect(rt, "memory")
 }
 
-/// The same of the specification's own sum.
-fn own_sum<B: TermBank + Drop>(rt: &impl Abort, alloc: Global, bank: B, n: u64) -> Option<Vec<u8>> {
-    let mut engine = engine_over(alloc, addition(rt, alloc), bank).expect(rt, "an engine");
-    own_value(rt, alloc, &mut engine, n)
+/// The term that a text spells, once it is known to be one that can be evaluated.
+fn admitted<B: TermBank>(
+    rt: &impl Abort,
+    alloc: Global,
+    addition: &Checked,
+    bank: &mut B,
+    text: &[u8],
+) -> Term
+    ensures { IsGiven addition.now.spec (B.store bank.new) result }
+{
+    let t = term(rt, alloc, bank, text);
+    assert!(rt; bank.holds(t));
+    admit(alloc, addition, bank, t).expect(rt, "a term to evaluate");
+    t
 }
 
-/// The text of the value of an engine's first own term.
-fn own_value<B: TermBank>(
+/// Stops where a text is another one, or none that should be there.
+fn expect_found(rt: &impl Abort, found: &Option<Vec<u8>>, wanted: Option<&[u8]>) {
+    match (found, wanted) {
+        (Some(text), Some(wanted)) => assert!(rt; text.as_slice() == wanted),
+        (None, None) => {}
+        _ => assert!(rt; false),
+    }
+}
+
+/// Stops where a given term does not come to a text within so many steps.
+fn expect_given<B: TermBank>(
+    rt: &impl Abort,
+    alloc: Global,
+    engine: &mut Engine<B>,
+    t: Term,
+    n: u64,
+    wanted: Option<&[u8]>,
+)
+    requires { IsGiven engine.old.spec (B.store engine.old.bank) t }
+{
+    let found = printed_value(alloc, engine, t, n).expect(rt, "a value, or none");
+    expect_found(rt, &found, wanted);
+}
+
+/// Stops where a given sum with an annotation does not come to a text within so many steps.
+fn evaluate_given<B: TermBank + Drop>(
+    rt: &impl Abort,
+    alloc: Global,
+    mut bank: Box<B>,
+    n: u64,
+    wanted: Option<&[u8]>,
+) {
+    let addition = addition(rt, alloc);
+    let sum = admitted(rt, alloc, &addition, &mut *bank, b"plus(s(z),z){at(3,7)}");
+    let mut engine = engine_of(rt, alloc, addition, bank);
+    expect_given(rt, alloc, &mut engine, sum, n, wanted);
+}
+
+/// Stops where an engine's first own term does not come to a text within so many steps.
+fn expect_own<B: TermBank>(
     rt: &impl Abort,
     alloc: Global,
     engine: &mut Engine<B>,
     n: u64,
-) -> Option<Vec<u8>> {
+    wanted: Option<&[u8]>,
+) {
     assert!(rt; engine.eval_terms() > 0);
-    printed_own_value(alloc, engine, 0, n).expect(rt, "a value, or none")
+    let found = printed_own_value(alloc, engine, 0, n).expect(rt, "a value, or none");
+    expect_found(rt, &found, wanted);
 }
 
-/// Whether the term that a text spells is refused.
-fn is_foreign<B: TermBank>(rt: &impl Abort, alloc: Global, bank: &mut B, text: &[u8]) -> bool {
+/// The same of the specification's own sum.
+fn evaluate_own<B: TermBank + Drop>(
+    rt: &impl Abort,
+    alloc: Global,
+    bank: Box<B>,
+    n: u64,
+    wanted: Option<&[u8]>,
+) {
+    let mut engine = engine_of(rt, alloc, addition(rt, alloc), bank);
+    expect_own(rt, alloc, &mut engine, n, wanted);
+}
+
+#[test]
+fn evaluates_given_terms(rt: HostRuntime) {
+    let alloc = rt.alloc();
+    evaluate_given(&rt, alloc, bank_of(&rt, alloc), 1, None);
+    evaluate_given(&rt, alloc, bank_of(&rt, alloc), 2, Some(b"s(z){at(3,7)}"));
+}
+
+#[test]
+fn evaluates_own_terms(rt: HostRuntime) {
+    let alloc = rt.alloc();
+    evaluate_own(&rt, alloc, bank_of(&rt, alloc), 2, None);
+    evaluate_own(&rt, alloc, bank_of(&rt, alloc), 3, Some(b"s(s(s(z)))"));
+}
+
+/// Stops where the term that a text spells is not refused.
+fn refuse_foreign<B: TermBank>(
+    rt: &impl Abort,
+    alloc: Global,
+    addition: &Checked,
+    bank: &mut B,
+    text: &[u8],
+) {
     let other = term(rt, alloc, bank, text);
     assert!(rt; bank.holds(other));
-    matches!(admit(alloc, &addition(rt, alloc), bank, other), Err(_))
+    assert!(rt; admit(alloc, addition, bank, other).is_err());
 }
 
-/// Whether a text is there and is this one.
-fn is_text(found: Option<Vec<u8>>, wanted: &[u8]) -> bool {
-    match found {
-        Some(text) => text.as_slice() == wanted,
-        None => false,
-    }
+#[test]
+fn refuses_foreign_terms(rt: HostRuntime) {
+    let spec = &addition(&rt, rt.alloc());
+    let bank = &mut *bank_of(&rt, rt.alloc());
+    refuse_foreign(&rt, rt.alloc(), spec, bank, b"minus(s(z),z)");
 }

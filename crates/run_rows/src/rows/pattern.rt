@@ -1,15 +1,12 @@
 //! Runs with a pattern.
 
-use crate::rows::streams::{
-    Blanks, Sink, Slow, assert_held, bytewise, failing, failing_at, padded, taking, unflushed,
-};
-use crate::rows::{PAST, Ran, assert_ran};
+use crate::rows::performing::{Job, perform};
+use crate::rows::streams::{Slow, bytewise, taking};
+use crate::rows::{Ran, expect_ran};
 use rec_run::{
-    Finish, Misfit, Named, Place, RunFault, Source, refused_argument, run_make, run_make_at,
-    run_match, run_match_at,
+    Finish, Misfit, Named, Place, RunFault, Source, refused_argument, run_make_at, run_match_at,
 };
-use std::alloc::{AllocError, Global};
-use std::io::{ErrorKind, Read, Write};
+use std::alloc::Global;
 use std::process::Abort;
 
 /// A pattern, the text of a term or of arguments, and the lines.
@@ -101,16 +98,12 @@ static REFUSED_ARGUMENTS: [RefusedArgument; 8] = [
     ("f(<foo>)", "[]", None),
 ];
 
+/// What a match of a text's pattern with a text's term came to.
 fn matched(alloc: Global, pattern: &str, mut input: &[u8]) -> Ran {
     let mut place = None;
     let mut written = Vec::new(alloc);
-    let result = run_match_at(
-        alloc,
-        pattern.as_bytes(),
-        &mut input,
-        &mut written,
-        &mut place,
-    );
+    let pattern = pattern.as_bytes();
+    let result = run_match_at(alloc, pattern, &mut input, &mut written, &mut place);
     Ran {
         result,
         place,
@@ -118,6 +111,7 @@ fn matched(alloc: Global, pattern: &str, mut input: &[u8]) -> Ran {
     }
 }
 
+/// What making of a text's arguments came to.
 fn made(alloc: Global, pattern: &str, args: &[u8]) -> Ran {
     let mut place = None;
     let mut written = Vec::new(alloc);
@@ -129,180 +123,80 @@ fn made(alloc: Global, pattern: &str, args: &[u8]) -> Ran {
     }
 }
 
-/// Asserts what a row's pattern and term come to.
-fn assert_match(rt: &impl Abort, alloc: Global, row: Row) {
-    let (pattern, text, lines) = row;
-    let ran = matched(alloc, pattern, text.as_bytes());
-    assert_ran(rt, &ran, Finish::Done, None, lines, pattern);
-}
-
 #[test]
 fn matches(rt: HostRuntime) {
-    for row in &MATCHES {
-        assert_match(&rt, rt.alloc(), *row);
+    for (pattern, text, lines) in &MATCHES {
+        let ran = matched(rt.alloc(), pattern, text.as_bytes());
+        expect_ran(&rt, &ran, Finish::Done, None, lines);
     }
-}
-
-/// Asserts what a row's pattern and arguments come to.
-fn assert_make(rt: &impl Abort, alloc: Global, row: Row) {
-    let (pattern, args, lines) = row;
-    let ran = made(alloc, pattern, args.as_bytes());
-    assert_ran(rt, &ran, Finish::Done, None, lines, pattern);
 }
 
 #[test]
 fn makes(rt: HostRuntime) {
-    for row in &MAKES {
-        assert_make(&rt, rt.alloc(), *row);
+    for (pattern, args, lines) in &MAKES {
+        let ran = made(rt.alloc(), pattern, args.as_bytes());
+        expect_ran(&rt, &ran, Finish::Done, None, lines);
     }
 }
 
-/// The place of a text outside the grammar.
-fn place_of(outside: Outside) -> Option<Place> {
-    match outside {
+/// Stops where a run is not refused by a line, or another place is told.
+fn expect_refused(rt: &impl Abort, ran: &Ran, line: &str, outside: Outside) {
+    let place = match outside {
         None => None,
         Some((text, at)) => Some(Place {
             text,
             rule: Named::A,
             at,
         }),
-    }
-}
-
-/// Asserts that a row's pattern or term is refused, and at which place.
-fn assert_unmatched(rt: &impl Abort, alloc: Global, row: Refused) {
-    let (pattern, text, line, outside) = row;
-    let ran = matched(alloc, pattern, text.as_bytes());
-    assert_ran(rt, &ran, Finish::Refused, place_of(outside), line, pattern);
+    };
+    expect_ran(rt, ran, Finish::Refused, place, line);
 }
 
 #[test]
 fn refused_matches(rt: HostRuntime) {
-    for row in &REFUSED_MATCHES {
-        assert_unmatched(&rt, rt.alloc(), *row);
+    for (pattern, text, line, outside) in &REFUSED_MATCHES {
+        let ran = matched(rt.alloc(), pattern, text.as_bytes());
+        expect_refused(&rt, &ran, line, *outside);
     }
-}
-
-/// Asserts that a row's pattern or arguments are refused, and at which place.
-fn assert_unmade(rt: &impl Abort, alloc: Global, row: Refused) {
-    let (pattern, args, line, outside) = row;
-    let ran = made(alloc, pattern, args.as_bytes());
-    assert_ran(rt, &ran, Finish::Refused, place_of(outside), line, pattern);
 }
 
 #[test]
 fn refused_makes(rt: HostRuntime) {
-    for row in &REFUSED_MAKES {
-        assert_unmade(&rt, rt.alloc(), *row);
+    for (pattern, args, line, outside) in &REFUSED_MAKES {
+        let ran = made(rt.alloc(), pattern, args.as_bytes());
+        expect_refused(&rt, &ran, line, *outside);
     }
 }
 
-/// A match from a reader, of which no fact is handed on.
-fn matching<R: Read, W: Write>(
-    alloc: Global,
-    pattern: &str,
-    input: &mut R,
-    out: &mut W,
-) -> Result<Finish, RunFault> {
-    run_match(alloc, pattern.as_bytes(), input, out)
-}
+/// A pattern, how a match with the term `a` ends, and after how many reads.
+static READS: [(&str, Finish, usize); 5] = [
+    ("<foo>", Finish::Refused, 0),
+    ("<int>{a}", Finish::Refused, 0),
+    ("", Finish::Refused, 0),
+    ("f(a", Finish::Refused, 0),
+    ("a", Finish::Done, 2),
+];
 
-/// A tree that is made, of which no fact is handed on.
-fn making<W: Write>(
-    alloc: Global,
-    pattern: &[u8],
-    args: &[u8],
-    out: &mut W,
-) -> Result<Finish, RunFault> {
-    run_make(alloc, pattern, args, out)
-}
-
-/// Asserts how a match with the term `a` ends, and after how many reads.
-fn assert_reads(rt: &impl Abort, alloc: Global, pattern: &str, finish: Finish, reads: usize) {
-    let mut input = bytewise("a");
-    let mut out = taking(alloc);
-    let result = matching(alloc, pattern, &mut input, &mut out);
-    assert!(rt; result == Ok(finish) && input.reads == reads, "{pattern}");
+/// How a match with a term that is read ends.
+fn ended(alloc: Global, pattern: &str, input: &mut Slow<'_>) -> Result<Finish, RunFault> {
+    let job = Job::Match(pattern.as_bytes());
+    perform(
+        alloc,
+        job,
+        input,
+        &mut bytewise(""),
+        &[],
+        &mut taking(alloc),
+    )
 }
 
 #[test]
 fn unread_inputs(rt: HostRuntime) {
-    for pattern in ["<foo>", "<int>{a}", "", "f(a"] {
-        assert_reads(&rt, rt.alloc(), pattern, Finish::Refused, 0);
+    for (pattern, finish, reads) in &READS {
+        let mut input = bytewise("a");
+        let ended = ended(rt.alloc(), pattern, &mut input);
+        assert!(rt; ended == Ok(*finish) && input.reads == *reads, "{pattern}");
     }
-    assert_reads(&rt, rt.alloc(), "a", Finish::Done, 2);
-}
-
-const LONG_PATTERN: &[u8] = b"!pattern L1\n";
-
-const LONG_TERM: &[u8] = b"!term L1\n";
-
-const LONG_ARGS: &[u8] = b"!args L1\n";
-
-/// Asserts that a match with a long pattern is refused.
-fn assert_long_match(rt: &impl Abort, alloc: Global, long: &[u8]) {
-    let mut input = "a".as_bytes();
-    let mut out = taking(alloc);
-    let result = run_match(alloc, long, &mut input, &mut out);
-    assert_held(rt, result, Ok(Finish::Refused), &out, LONG_PATTERN, &0);
-}
-
-/// Asserts that a match with blanks without end is refused.
-fn assert_endless(rt: &impl Abort, alloc: Global) {
-    let mut out = taking(alloc);
-    let result = matching(alloc, "a", &mut Blanks, &mut out);
-    assert_held(rt, result, Ok(Finish::Refused), &out, LONG_TERM, &0);
-}
-
-/// Asserts that making from a long text is refused, by which line.
-fn assert_long_make(rt: &impl Abort, alloc: Global, pattern: &[u8], args: &[u8], line: &[u8]) {
-    let mut out = taking(alloc);
-    let result = making(alloc, pattern, args, &mut out);
-    assert_held(rt, result, Ok(Finish::Refused), &out, line, &0);
-}
-
-#[test]
-fn long_texts(rt: HostRuntime) -> Result<(), AllocError> {
-    let long = padded(rt.alloc(), &[], PAST)?;
-    assert_long_match(&rt, rt.alloc(), &long);
-    assert_endless(&rt, rt.alloc());
-    assert_long_make(&rt, rt.alloc(), &long, "[".as_bytes(), LONG_PATTERN);
-    assert_long_make(&rt, rt.alloc(), "a".as_bytes(), &long, LONG_ARGS);
-    Ok(())
-}
-
-/// Asserts that nothing is written where a read fails.
-fn assert_unread(rt: &impl Abort, alloc: Global, k: usize) {
-    let mut out = taking(alloc);
-    let mut text = failing("f(1,2,3)", k, ErrorKind::Other);
-    let result = matching(alloc, "f(<list>)", &mut text, &mut out);
-    assert_held(rt, result, Err(RunFault::Read), &out, &[], &k);
-}
-
-/// Asserts that the bytes before the write that fails are written, and no more.
-fn assert_unwritten(rt: &impl Abort, alloc: Global, held: &[u8]) {
-    let k = held.len().wrapping_add(1);
-    let mut out = failing_at(alloc, k, Some(ErrorKind::Other));
-    let mut text = bytewise("f(1,2,3)");
-    let result = matching(alloc, "f(<int>,<list>)", &mut text, &mut out);
-    assert_held(rt, result, Err(RunFault::Write), &out, held, &k);
-}
-
-const LINES: &[u8] = b"yes\n1\n[2,3]\n";
-
-const MADE: &[u8] = b"1\n";
-
-#[test]
-fn streams_that_fail(rt: HostRuntime) {
-    for k in [1, 2, 9] {
-        assert_unread(&rt, rt.alloc(), k);
-    }
-    for written in 0..LINES.len() {
-        assert_unwritten(&rt, rt.alloc(), &LINES[..written]);
-    }
-    let mut out = unflushed(rt.alloc(), ErrorKind::Other);
-    let result = making(rt.alloc(), "<int>".as_bytes(), "[1]".as_bytes(), &mut out);
-    assert_held(&rt, result, Err(RunFault::Write), &out, MADE, &0);
 }
 
 /// Which argument is refused, of which no fact is handed on.
@@ -317,10 +211,7 @@ fn argument_refused_in(
 #[test]
 fn tells_the_refused_argument(rt: HostRuntime) {
     for (pattern, args, wanted) in &REFUSED_ARGUMENTS {
-        assert_eq!(rt;
-            argument_refused_in(rt.alloc(), pattern, args),
-            Ok(*wanted),
-            "{pattern} {args}"
-        );
+        let found = argument_refused_in(rt.alloc(), pattern, args);
+        assert!(rt; found == Ok(*wanted), "{pattern} {args}");
     }
 }

@@ -1,14 +1,9 @@
 //! Runs of worked specifications.
 
-use crate::rows::streams::{
-    Blanks, Sink, assert_held, bytewise, failing, failing_at, padded, taking, unflushed,
-};
-use crate::rows::{ADD, LIMIT, PAST, Ran, addition, assert_ran, options, run_on};
-use rec_run::{Finish, Named, Place, RunFault, RunOptions, Source, run};
-use std::alloc::{AllocError, Global};
-use std::io::{ErrorKind, Read, Write};
+use crate::rows::{ADD, Ran, addition, expect_ran, options, push, push_often, run_on};
+use rec_run::{Finish, Named, Place, RunFault, RunOptions, Source};
+use std::alloc::Global;
 use std::process::Abort;
-use std::test::Fail;
 
 const SUCCESSOR: &str = addition!("s(z)");
 
@@ -57,7 +52,7 @@ EVAL
 END-SPEC
 ";
 
-const NEQ: &str = "REC-SPEC Neq SORTS Nat
+pub(crate) const NEQ: &str = "REC-SPEC Neq SORTS Nat
 CONS z : -> Nat  s : Nat -> Nat
 OPNS m : Nat Nat -> Nat
 VARS X Y : Nat
@@ -97,7 +92,7 @@ const IDLE: &str = "REC-SPEC Idle SORTS Nat Pair \
     RULES h(X) -> z if X -><- s(z) f(X) -> z d(X) -> p(f(X),f(X)) \
     EVAL f(h(z)) d(h(z)) END-SPEC";
 
-const TITLE: &str = "REC-SPEC E END-SPEC";
+pub(crate) const TITLE: &str = "REC-SPEC E END-SPEC";
 
 /// The sections of a specification, between its title and its end.
 static SECTIONS: [&str; 6] = [
@@ -194,27 +189,15 @@ static REFUSED_TEXTS: [RefusedText; 6] = [
     ("REC-SPEC E OPNS CONS END-SPEC", "!spec G\n", Named::G, 16),
 ];
 
-/// The specification with one section changed, and with a text after it.
-fn with_section(
-    alloc: Global,
-    changed: usize,
-    section: &str,
-    after: &str,
-) -> Result<String, AllocError> {
-    let mut text = String::from_str(alloc, "REC-SPEC Q ")?;
-    push_sections(&mut text, changed, section)?;
-    text.push_str("END-SPEC\n")?;
-    text.push_str(after)?;
-    Ok(text)
+/// What a run on a specification alone came to.
+fn run_alone(alloc: Global, mut text: &[u8], options: RunOptions) -> Ran {
+    run_on(alloc, &mut text, None::<&mut &[u8]>, options)
 }
 
-/// The sections, each on a line, with one changed.
-fn push_sections(text: &mut String, changed: usize, section: &str) -> Result<(), AllocError> {
-    for (i, kept) in SECTIONS.iter().enumerate() {
-        text.push_str(if i == changed { section } else { kept })?;
-        text.push_str("\n")?;
-    }
-    Ok(())
+/// Stops where a specification is refused, or comes to other lines.
+fn expect_lines(rt: &impl Abort, alloc: Global, text: &str, options: RunOptions, lines: &str) {
+    let ran = run_alone(alloc, text.as_bytes(), options);
+    expect_ran(rt, &ran, Finish::Done, None, lines);
 }
 
 /// The same with a reclaim after each new cell.
@@ -224,8 +207,15 @@ fn often(steps: u32, count: bool) -> RunOptions {
     often
 }
 
-/// The same with a bank of so many cells, at least one and at most a million, and a reclaim after
-/// each new one.
+#[test]
+fn values(rt: HostRuntime) {
+    for (text, steps, count, lines) in &VALUES {
+        expect_lines(&rt, rt.alloc(), text, options(*steps, *count), lines);
+        expect_lines(&rt, rt.alloc(), text, often(*steps, *count), lines);
+    }
+}
+
+/// A bank of so many cells, at least one and at most a million, and a reclaim after each new one.
 fn narrow(steps: u32, cells: u32) -> RunOptions {
     RunOptions {
         steps: u64::from(steps),
@@ -236,15 +226,88 @@ fn narrow(steps: u32, cells: u32) -> RunOptions {
     }
 }
 
+/// The line of the sum's value.
+const SUM: &[u8] = b"s(s(s(z)))\n";
+
+/// Stops where so many cells ran out that are enough, or there were enough that are too few: less
+/// than ten are too few, and 64 are enough. Nothing is written where they ran out.
+fn expect_sum(rt: &impl Abort, ran: &Ran, cells: u32) {
+    let is_done = ran.result == Ok(Finish::Done) && ran.written.as_slice() == SUM;
+    let is_short = ran.result == Err(RunFault::Room { lines: 0 }) && ran.written.is_empty();
+    assert!(rt; is_done && cells >= 10 || is_short && cells < 64, "{cells}");
+}
+
+#[test]
+fn few_cells(rt: HostRuntime) {
+    for cells in 1..=64 {
+        let ran = run_alone(rt.alloc(), ADD.as_bytes(), narrow(3, cells));
+        expect_sum(&rt, &ran, cells);
+    }
+}
+
+/// Adds the numbers from 1 to 20, each between two texts.
+fn push_numbers(rt: &impl Abort, alloc: Global, text: &mut String, front: &str, back: &str) {
+    for i in 1..=20 {
+        let item = format!(in alloc; "{front}{i}{back}").expect(rt, "memory");
+        push(rt, text, item.as_str());
+    }
+}
+
+/// Adds a specification of twenty constants, with a term of each.
+fn push_constants(rt: &impl Abort, alloc: Global, text: &mut String) {
+    push(rt, text, "REC-SPEC K SORTS N CONS");
+    push_numbers(rt, alloc, text, " c", " : -> N");
+    push(rt, text, " OPNS h : N -> N EVAL");
+    push_numbers(rt, alloc, text, " h(c", ")");
+    push(rt, text, " END-SPEC");
+}
+
 /// No steps and a bank of sixteen cells, with a reclaim as seldom as by default.
 fn sixteen_cells() -> RunOptions {
-    RunOptions {
-        steps: 0,
-        cells: 16,
-        memo: 0,
-        reclaim: 262_144,
-        count: false,
-    }
+    let mut few = narrow(0, 16);
+    few.reclaim = 262_144;
+    few
+}
+
+#[test]
+fn cells_of_earlier_terms(rt: HostRuntime) {
+    let mut text = String::new(rt.alloc());
+    push_constants(&rt, rt.alloc(), &mut text);
+    let mut due = String::new(rt.alloc());
+    push_numbers(&rt, rt.alloc(), &mut due, "h(c", ")\n");
+    expect_lines(&rt, rt.alloc(), text.as_str(), narrow(0, 16), due.as_str());
+    expect_lines(
+        &rt,
+        rt.alloc(),
+        text.as_str(),
+        sixteen_cells(),
+        due.as_str(),
+    );
+}
+
+/// Adds a specification whose one term is a tree of thirty times two symbols about `z`.
+fn push_nested(rt: &impl Abort, text: &mut String) {
+    push(
+        rt,
+        text,
+        "REC-SPEC K SORTS N \
+            CONS z : -> N s : N -> N q : N -> N \
+            OPNS t : N -> N e : N -> N \
+            VARS X : N \
+            RULES t(X) -> e(q(X)) e(q(X)) -> X EVAL ",
+    );
+    push_often(rt, text, "t(s(", 30);
+    push(rt, text, "z");
+    push_often(rt, text, "))", 30);
+    push(rt, text, " END-SPEC");
+}
+
+/// Adds the line of its value.
+fn push_nested_line(rt: &impl Abort, text: &mut String) {
+    push_often(rt, text, "s(", 30);
+    push(rt, text, "z");
+    push_often(rt, text, ")", 30);
+    push(rt, text, "\n");
 }
 
 /// Sixty steps and a bank of two hundred cells.
@@ -254,370 +317,130 @@ fn two_hundred_cells() -> RunOptions {
     few
 }
 
-/// What a run on a specification alone came to.
-fn run_alone(alloc: Global, text: &[u8], options: RunOptions) -> Ran {
-    run_on(alloc, text, None::<&mut &[u8]>, options)
-}
-
-/// Asserts that a specification is good, and which lines a run on it writes.
-fn assert_lines(
-    rt: &impl Abort,
-    alloc: Global,
-    text: &str,
-    options: RunOptions,
-    lines: &str,
-    about: &str,
-) {
-    let ran = run_alone(alloc, text.as_bytes(), options);
-    assert_ran(rt, &ran, Finish::Done, None, lines, about);
-}
-
 #[test]
-fn values(rt: HostRuntime) {
-    for (text, steps, count, lines) in &VALUES {
-        assert_lines(&rt, rt.alloc(), text, options(*steps, *count), lines, text);
-        assert_lines(&rt, rt.alloc(), text, often(*steps, *count), lines, text);
-    }
-}
-
-/// The line of the sum's value.
-const SUM: &[u8] = b"s(s(s(z)))\n";
-
-/// Asserts that the cells ran out before the first line, or that there were enough.
-fn assert_few(rt: &impl Abort, ran: &Ran, cells: u32) {
-    match ran.result {
-        Ok(Finish::Done) => assert_eq!(rt; ran.written.as_slice(), SUM, "{cells}"),
-        Err(RunFault::Room { lines: 0 }) => {
-            assert!(rt; ran.written.is_empty() && cells < 64, "{cells}");
-        }
-        other => assert!(rt; false, "{cells}: {other:?}"),
-    }
-}
-
-/// Asserts what the sum comes to over a bank of so many cells.
-fn assert_sum(rt: &impl Abort, alloc: Global, cells: u32) {
-    let ran = run_alone(alloc, ADD.as_bytes(), narrow(3, cells));
-    if cells < 10 {
-        assert_eq!(rt; ran.result, Err(RunFault::Room { lines: 0 }), "{cells}");
-    }
-    assert_few(rt, &ran, cells);
-}
-
-#[test]
-fn few_cells(rt: HostRuntime) {
-    for cells in 1..=64 {
-        assert_sum(&rt, rt.alloc(), cells);
-    }
-}
-
-/// A number between two texts.
-fn push_number(
-    alloc: Global,
-    text: &mut String,
-    front: &str,
-    i: u32,
-    back: &str,
-) -> Result<(), AllocError> {
-    let item = format!(in alloc; "{front}{i}{back}")?;
-    text.push_str(item.as_str())
-}
-
-/// The numbers from 1 to 20, each between two texts.
-fn push_numbers(
-    alloc: Global,
-    text: &mut String,
-    front: &str,
-    back: &str,
-) -> Result<(), AllocError> {
-    for i in 1..=20 {
-        push_number(alloc, text, front, i, back)?;
-    }
-    Ok(())
-}
-
-/// A specification of twenty constants, with a term of each.
-fn terms_of_constants(alloc: Global) -> Result<String, AllocError> {
-    let mut text = String::from_str(alloc, "REC-SPEC K SORTS N CONS")?;
-    push_numbers(alloc, &mut text, " c", " : -> N")?;
-    text.push_str(" OPNS h : N -> N EVAL")?;
-    push_numbers(alloc, &mut text, " h(c", ")")?;
-    text.push_str(" END-SPEC")?;
-    Ok(text)
-}
-
-/// The lines of its terms, to which no rule applies.
-fn lines_of_constants(alloc: Global) -> Result<String, AllocError> {
-    let mut due = String::new(alloc);
-    push_numbers(alloc, &mut due, "h(c", ")\n")?;
-    Ok(due)
-}
-
-#[test]
-fn cells_of_earlier_terms(rt: HostRuntime) -> Result<(), AllocError> {
-    let text = terms_of_constants(rt.alloc())?;
-    let due = lines_of_constants(rt.alloc())?;
-    for few in [narrow(0, 16), sixteen_cells()] {
-        assert_lines(&rt, rt.alloc(), text.as_str(), few, due.as_str(), "");
-    }
-    Ok(())
-}
-
-/// A text so often.
-fn push_often(text: &mut String, part: &str, times: u32) -> Result<(), AllocError> {
-    for _ in 0..times {
-        text.push_str(part)?;
-    }
-    Ok(())
-}
-
-/// A specification whose one term is a tree of thirty times two symbols about `z`.
-fn nested(alloc: Global) -> Result<String, AllocError> {
-    let mut text = String::from_str(
-        alloc,
-        "REC-SPEC K SORTS N \
-            CONS z : -> N s : N -> N q : N -> N \
-            OPNS t : N -> N e : N -> N \
-            VARS X : N \
-            RULES t(X) -> e(q(X)) e(q(X)) -> X EVAL ",
-    )?;
-    push_often(&mut text, "t(s(", 30)?;
-    text.push_str("z")?;
-    push_often(&mut text, "))", 30)?;
-    text.push_str(" END-SPEC")?;
-    Ok(text)
-}
-
-/// The line of its value.
-fn nested_line(alloc: Global) -> Result<String, AllocError> {
-    let mut due = String::new(alloc);
-    push_often(&mut due, "s(", 30)?;
-    due.push_str("z")?;
-    push_often(&mut due, ")", 30)?;
-    due.push_str("\n")?;
-    Ok(due)
-}
-
-#[test]
-fn cells_of_a_nested_term(rt: HostRuntime) -> Result<(), AllocError> {
-    let text = nested(rt.alloc())?;
-    let due = nested_line(rt.alloc())?;
-    assert_lines(
+fn cells_of_a_nested_term(rt: HostRuntime) {
+    let mut text = String::new(rt.alloc());
+    push_nested(&rt, &mut text);
+    let mut due = String::new(rt.alloc());
+    push_nested_line(&rt, &mut due);
+    expect_lines(
         &rt,
         rt.alloc(),
         text.as_str(),
         two_hundred_cells(),
         due.as_str(),
-        "",
     );
-    Ok(())
 }
 
-/// Asserts that a specification is refused, by which line and at which place.
-fn assert_refused(rt: &impl Abort, alloc: Global, text: &str, line: &str, rule: Named, at: u32) {
+/// Stops where a specification is not refused, or by another line or at another place.
+fn expect_refused(
+    rt: &impl Abort,
+    alloc: Global,
+    text: &str,
+    line: &str,
+    (rule, at): (Named, u32),
+) {
     let ran = run_alone(alloc, text.as_bytes(), options(0, false));
     let due = Place {
         text: Source::Spec,
         rule,
         at,
     };
-    assert_ran(rt, &ran, Finish::Refused, Some(due), line, text);
+    expect_ran(rt, &ran, Finish::Refused, Some(due), line);
 }
 
-/// Asserts that the specification with one section changed is refused.
-fn assert_section(rt: &impl Abort, alloc: Global, row: ChangedSection) -> Result<(), AllocError> {
-    let (changed, section, line, rule, at) = row;
-    let text = with_section(alloc, changed, section, "")?;
-    assert_refused(rt, alloc, text.as_str(), line, rule, at);
-    Ok(())
+/// Adds the specification with one section changed, each section on a line.
+fn push_sections(rt: &impl Abort, text: &mut String, changed: usize, section: &str) {
+    push(rt, text, "REC-SPEC Q ");
+    for (i, kept) in SECTIONS.iter().enumerate() {
+        push(rt, text, if i == changed { section } else { kept });
+        push(rt, text, "\n");
+    }
+    push(rt, text, "END-SPEC\n");
 }
 
-/// Asserts that the specification as it is comes to its one line, and with a text after it is
-/// refused.
-fn assert_unchanged(rt: &impl Abort, alloc: Global) -> Result<(), AllocError> {
-    let text = with_section(alloc, 0, SECTIONS[0], "")?;
-    assert_lines(
-        rt,
-        alloc,
-        text.as_str(),
-        options(1, false),
-        "a\n",
-        "unchanged",
-    );
-    let text = with_section(alloc, 0, SECTIONS[0], "a")?;
-    assert_refused(rt, alloc, text.as_str(), "!spec G\n", Named::G, 109);
-    Ok(())
+/// Stops where the specification with one section changed is not refused as it should be.
+fn expect_changed(rt: &impl Abort, alloc: Global, row: &ChangedSection) {
+    let mut text = String::new(alloc);
+    push_sections(rt, &mut text, row.0, row.1);
+    expect_refused(rt, alloc, text.as_str(), row.2, (row.3, row.4));
+}
+
+/// Stops where the specification as it is does not come to its one line, or is not refused with a
+/// text after it.
+fn expect_unchanged(rt: &impl Abort, alloc: Global, text: &mut String) {
+    push_sections(rt, text, 0, SECTIONS[0]);
+    expect_lines(rt, alloc, text.as_str(), options(1, false), "a\n");
+    push(rt, text, "a");
+    expect_refused(rt, alloc, text.as_str(), "!spec G\n", (Named::G, 109));
 }
 
 #[test]
-fn refusals(rt: HostRuntime) -> Result<(), Fail> {
+fn refused_sections(rt: HostRuntime) {
     for row in &CHANGED_SECTIONS {
-        assert_section(&rt, rt.alloc(), *row)?;
+        expect_changed(&rt, rt.alloc(), row);
     }
+    expect_unchanged(&rt, rt.alloc(), &mut String::new(rt.alloc()));
+}
+
+#[test]
+fn refusals(rt: HostRuntime) {
     for (text, line, rule, at) in &REFUSED_TEXTS {
-        assert_refused(&rt, rt.alloc(), text, line, *rule, *at);
+        expect_refused(&rt, rt.alloc(), text, line, (*rule, *at));
     }
-    assert_unchanged(&rt, rt.alloc())?;
-    let unended = ADD.strip_suffix("END-SPEC\n").ok_or("no end")?;
-    assert_refused(&rt, rt.alloc(), unended, "!spec G\n", Named::G, 184);
-    Ok(())
-}
-
-/// A run on a specification alone, of which no fact is handed on.
-fn alone<R: Read, W: Write>(
-    alloc: Global,
-    spec: &mut R,
-    out: &mut W,
-    steps: u32,
-) -> Result<Finish, RunFault> {
-    run(alloc, spec, None::<&mut &[u8]>, out, options(steps, false))
-}
-
-const TWO_LINES: &[u8] = b"z\ns(z)\n";
-
-#[test]
-fn one_byte_a_call(rt: HostRuntime) {
-    let mut out = taking(rt.alloc());
-    let result = alone(rt.alloc(), &mut bytewise(NEQ), &mut out, 2);
-    assert_held(&rt, result, Ok(Finish::Done), &out, TWO_LINES, &0);
-}
-
-/// Asserts that the run ends at the read that fails, and that nothing is written.
-fn assert_unread(rt: &impl Abort, alloc: Global, kind: ErrorKind, k: usize) {
-    let mut spec = failing(NEQ, k, kind);
-    let mut out = taking(alloc);
-    let result = alone(alloc, &mut spec, &mut out, 2);
-    assert_held(rt, result, Err(RunFault::Read), &out, &[], &k);
-    assert!(rt; spec.reads == k, "read {k}");
-}
-
-#[test]
-fn reads_fail(rt: HostRuntime) {
-    for kind in [
-        ErrorKind::Other,
-        ErrorKind::Interrupted,
-        ErrorKind::OutOfMemory,
-    ] {
-        for k in 1..=NEQ.len().saturating_add(1) {
-            assert_unread(&rt, rt.alloc(), kind, k);
-        }
-    }
-}
-
-/// Asserts that the run ends at the write that fails, or takes nothing, after the bytes before it.
-fn assert_unwritten(rt: &impl Abort, alloc: Global, error: Option<ErrorKind>, held: &[u8]) {
-    let k = held.len().wrapping_add(1);
-    let mut out = failing_at(alloc, k, error);
-    let result = alone(alloc, &mut bytewise(NEQ), &mut out, 2);
-    assert_held(rt, result, Err(RunFault::Write), &out, held, &k);
-    assert!(rt; out.writes == k, "write {k}");
-}
-
-#[test]
-fn writes_fail(rt: HostRuntime) {
-    for written in 0..TWO_LINES.len() {
-        for error in [None, Some(ErrorKind::Other), Some(ErrorKind::Interrupted)] {
-            assert_unwritten(&rt, rt.alloc(), error, &TWO_LINES[..written]);
-        }
-    }
-    let mut out = unflushed(rt.alloc(), ErrorKind::Other);
-    let result = alone(rt.alloc(), &mut bytewise(NEQ), &mut out, 2);
-    assert_held(&rt, result, Err(RunFault::Write), &out, TWO_LINES, &0);
-}
-
-/// The line of a specification that is too long.
-const LONG_SPEC: &str = "!spec L1\n";
-
-/// Asserts what an empty specification with blanks up to a length comes to.
-fn assert_padded(
-    rt: &impl Abort,
-    alloc: Global,
-    length: usize,
-    finish: Finish,
-    lines: &str,
-) -> Result<(), AllocError> {
-    let text = padded(alloc, TITLE.as_bytes(), length)?;
-    let ran = run_alone(alloc, &text, options(0, false));
-    assert_ran(rt, &ran, finish, None, lines, "");
-    Ok(())
-}
-
-/// What stands past it.
-const REST: &[u8] = b"ab";
-
-/// Asserts that no byte is read past the one that is too much.
-fn assert_left(rt: &impl Abort, alloc: Global) -> Result<(), AllocError> {
-    let mut text = padded(alloc, TITLE.as_bytes(), PAST)?;
-    text.extend_from_slice(REST)?;
-    let mut left = text.as_slice();
-    let result = alone(alloc, &mut left, &mut Vec::new(alloc), 0);
-    assert!(rt; result == Ok(Finish::Refused) && left == REST);
-    Ok(())
-}
-
-#[test]
-fn limit_of_bytes(rt: HostRuntime) -> Result<(), AllocError> {
-    assert_padded(&rt, rt.alloc(), LIMIT, Finish::Done, "")?;
-    assert_padded(&rt, rt.alloc(), PAST, Finish::Refused, LONG_SPEC)?;
-    assert_left(&rt, rt.alloc())?;
-    let mut out = taking(rt.alloc());
-    let result = alone(rt.alloc(), &mut Blanks, &mut out, 0);
-    assert_held(
-        &rt,
-        result,
-        Ok(Finish::Refused),
-        &out,
-        LONG_SPEC.as_bytes(),
-        &0,
-    );
-    Ok(())
+    let unended = ADD.strip_suffix("END-SPEC\n").expect(&rt, "an end");
+    expect_refused(&rt, rt.alloc(), unended, "!spec G\n", (Named::G, 184));
 }
 
 /// The tree of `p` over a tree twice.
-fn pair(alloc: Global, part: &str) -> Result<String, AllocError> {
-    let mut tree = String::from_str(alloc, "p(")?;
-    tree.push_str(part)?;
-    tree.push_str(",")?;
-    tree.push_str(part)?;
-    tree.push_str(")")?;
-    Ok(tree)
+fn pair(rt: &impl Abort, alloc: Global, part: &str) -> String {
+    let mut tree = String::new(alloc);
+    push(rt, &mut tree, "p(");
+    push(rt, &mut tree, part);
+    push(rt, &mut tree, ",");
+    push(rt, &mut tree, part);
+    push(rt, &mut tree, ")");
+    tree
 }
 
 /// A tree of `p` over `z` with so many levels below its root.
-fn balanced(alloc: Global, levels: u32) -> Result<String, AllocError> {
-    let mut tree = String::from_str(alloc, "z")?;
+fn balanced(rt: &impl Abort, alloc: Global, levels: u32) -> String {
+    let mut tree = String::new(alloc);
+    push(rt, &mut tree, "z");
     for _ in 0..levels {
-        tree = pair(alloc, tree.as_str())?;
+        tree = pair(rt, alloc, tree.as_str());
     }
-    Ok(tree)
+    tree
 }
 
-/// A specification that gives a tree back.
-fn wide(alloc: Global, tree: &str) -> Result<String, AllocError> {
-    let mut text = String::from_str(
-        alloc,
+/// Adds a specification that gives a tree back.
+fn push_wide(rt: &impl Abort, text: &mut String, tree: &str) {
+    push(
+        rt,
+        text,
         "REC-SPEC Wide SORTS N \
             CONS z : -> N p : N N -> N \
             OPNS f : N -> N \
             VARS X : N \
             RULES f(X) -> X \
             EVAL f(",
-    )?;
-    text.push_str(tree)?;
-    text.push_str(") END-SPEC")?;
-    Ok(text)
-}
-
-/// Asserts that a long specification comes to its line.
-fn assert_wide(rt: &impl Abort, alloc: Global, text: &str, due: &str) {
-    assert!(rt; text.len() > 100_000);
-    assert_lines(rt, alloc, text, options(1, false), due, "");
+    );
+    push(rt, text, tree);
+    push(rt, text, ") END-SPEC");
 }
 
 #[test]
-fn long_specification(rt: HostRuntime) -> Result<(), AllocError> {
-    let mut tree = balanced(rt.alloc(), 15)?;
-    let text = wide(rt.alloc(), tree.as_str())?;
-    tree.push_str("\n")?;
-    assert_wide(&rt, rt.alloc(), text.as_str(), tree.as_str());
-    Ok(())
+fn long_specification(rt: HostRuntime) {
+    let mut tree = balanced(&rt, rt.alloc(), 15);
+    let mut text = String::new(rt.alloc());
+    push_wide(&rt, &mut text, tree.as_str());
+    assert!(rt; text.len() > 100_000);
+    push(&rt, &mut tree, "\n");
+    expect_lines(
+        &rt,
+        rt.alloc(),
+        text.as_str(),
+        options(1, false),
+        tree.as_str(),
+    );
 }

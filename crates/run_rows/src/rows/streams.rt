@@ -1,19 +1,18 @@
 //! Readers and writers that fail, give little, or never end.
 
-use rec_run::{Finish, RunFault};
-use std::alloc::{AllocError, Global};
-use std::fmt::Debug;
+use std::alloc::Global;
 use std::io;
 use std::io::{ErrorKind, Read, Write};
-use std::process::Abort;
 
-/// Gives one byte a read; the read of a number fails, and the next one succeeds again.
+/// Gives one byte a read; the read of a number fails, and the next one succeeds again. Behind its
+/// bytes blanks may follow without end.
 #[derive(Drop)]
 pub(crate) struct Slow<'a> {
     bytes: &'a [u8],
     pub(crate) reads: usize,
     fails_at: usize,
     kind: ErrorKind,
+    is_endless: bool,
 }
 
 /// A reader of which no read fails.
@@ -21,13 +20,22 @@ pub(crate) fn bytewise(text: &str) -> Slow<'_> {
     failing(text, 0, ErrorKind::Other)
 }
 
+/// A reader of which one read fails.
 pub(crate) fn failing(text: &str, fails_at: usize, kind: ErrorKind) -> Slow<'_> {
     Slow {
         bytes: text.as_bytes(),
         reads: 0,
         fails_at,
         kind,
+        is_endless: false,
     }
+}
+
+/// A reader of blanks without end.
+pub(crate) fn endless() -> Slow<'static> {
+    let mut blanks = bytewise("");
+    blanks.is_endless = true;
+    blanks
 }
 
 impl Read for Slow<'_> {
@@ -36,19 +44,12 @@ impl Read for Slow<'_> {
         if self.reads == self.fails_at {
             return Err(io::Error::from(self.kind));
         }
+        if self.is_endless {
+            buf.fill(b' ');
+            return Ok(buf.len());
+        }
         let count = buf.len().min(1);
         self.bytes.read(&mut buf[..count])
-    }
-}
-
-/// Gives blanks without end.
-#[derive(Drop)]
-pub(crate) struct Blanks;
-
-impl Read for Blanks {
-    fn read(&mut self, buf: &mut [u8]) -> io::Result<usize> {
-        buf.fill(b' ');
-        Ok(buf.len())
     }
 }
 
@@ -58,15 +59,17 @@ impl Read for Blanks {
 pub(crate) struct Sink {
     pub(crate) held: Vec<u8>,
     pub(crate) writes: usize,
-    pub(crate) fails_at: usize,
-    pub(crate) error: Option<ErrorKind>,
-    pub(crate) flush_error: Option<ErrorKind>,
+    fails_at: usize,
+    error: Option<ErrorKind>,
+    flush_error: Option<ErrorKind>,
 }
 
+/// A writer of which no write fails.
 pub(crate) fn taking(alloc: Global) -> Sink {
     failing_at(alloc, 0, None)
 }
 
+/// A writer of which one write fails.
 pub(crate) fn failing_at(alloc: Global, fails_at: usize, error: Option<ErrorKind>) -> Sink {
     Sink {
         held: Vec::new(alloc),
@@ -103,24 +106,4 @@ impl Write for Sink {
             None => Ok(()),
         }
     }
-}
-
-/// Asserts how a run ended, and what its writer holds, and tells which run it was.
-pub(crate) fn assert_held(
-    rt: &impl Abort,
-    ended: Result<Finish, RunFault>,
-    due: Result<Finish, RunFault>,
-    out: &Sink,
-    held: &[u8],
-    about: &impl Debug,
-) {
-    assert_eq!(rt; ended, due, "{about:?}");
-    assert_eq!(rt; out.held.as_slice(), held, "{about:?}");
-}
-
-/// A text with blanks up to a length.
-pub(crate) fn padded(alloc: Global, text: &[u8], length: usize) -> Result<Vec<u8>, AllocError> {
-    let mut padded = Vec::from_slice(alloc, text)?;
-    padded.resize(length, b' ')?;
-    Ok(padded)
 }

@@ -1,0 +1,102 @@
+//! Texts of as many bytes as there may be, of one byte more, and without end.
+
+use crate::rows::given::run_beside;
+use crate::rows::performing::{Job, expect_held, perform};
+use crate::rows::spec::TITLE;
+use crate::rows::streams::{Slow, bytewise, endless, taking};
+use crate::rows::{LIMIT, PAST, Q, Ran, expect_ran, options, padded, run_on};
+use rec_run::Finish;
+use std::alloc::Global;
+use std::process::Abort;
+
+/// What a run on a specification, of which the slice keeps what is not read, came to.
+fn run_without_steps(alloc: Global, spec: &mut &[u8]) -> Ran {
+    run_on(alloc, spec, None::<&mut &[u8]>, options(0, false))
+}
+
+#[test]
+fn the_longest_specification(rt: HostRuntime) {
+    let text = padded(&rt, rt.alloc(), TITLE, LIMIT);
+    let ran = run_without_steps(rt.alloc(), &mut text.as_slice());
+    expect_ran(&rt, &ran, Finish::Done, None, "");
+}
+
+/// What stands past a text that is too long.
+const REST: &[u8] = b"ab";
+
+/// Stops where a text that is too long is not refused, or a byte is read past the one that is too
+/// much.
+fn expect_rest(rt: &impl Abort, alloc: Global, mut text: &[u8], rest: &[u8]) {
+    let ran = run_without_steps(alloc, &mut text);
+    expect_ran(rt, &ran, Finish::Refused, None, "!spec L1\n");
+    assert!(rt; text == rest);
+}
+
+#[test]
+fn a_byte_too_much(rt: HostRuntime) {
+    let mut text = padded(&rt, rt.alloc(), TITLE, PAST);
+    expect_rest(&rt, rt.alloc(), &text, &[]);
+    assert!(rt; text.extend_from_slice(REST).is_ok());
+    expect_rest(&rt, rt.alloc(), &text, REST);
+}
+
+#[test]
+fn the_longest_terms(rt: HostRuntime) {
+    let terms = padded(&rt, rt.alloc(), "[a]", LIMIT);
+    let ran = run_beside(rt.alloc(), Q.as_bytes(), &terms, options(1, false));
+    expect_ran(&rt, &ran, Finish::Done, None, "a\na\n");
+}
+
+/// Stops where a run is not refused by a line alone.
+fn expect_long(
+    rt: &impl Abort,
+    alloc: Global,
+    job: Job<'_>,
+    first: &mut Slow<'_>,
+    args: &[u8],
+    line: &[u8],
+) {
+    let mut out = taking(alloc);
+    let ended = perform(alloc, job, first, &mut endless(), args, &mut out);
+    expect_held(rt, ended, Ok(Finish::Refused), &out, line);
+}
+
+/// Runs on blanks without end, and the line of the refusal.
+static ENDLESS: [(Job<'static>, &[u8]); 4] = [
+    (Job::Alone(0), b"!spec L1\n"),
+    (Job::Print, b"!term L1\n"),
+    (Job::Share, b"!term L1\n"),
+    (Job::Match(b"a"), b"!term L1\n"),
+];
+
+#[test]
+fn blanks_without_end(rt: HostRuntime) {
+    for (job, line) in &ENDLESS {
+        expect_long(&rt, rt.alloc(), *job, &mut endless(), &[], line);
+    }
+    let spec = &mut bytewise(Q);
+    expect_long(&rt, rt.alloc(), Job::Beside(1), spec, &[], b"!terms L1\n");
+}
+
+#[test]
+fn long_patterns_and_arguments(rt: HostRuntime) {
+    let long = padded(&rt, rt.alloc(), "", PAST);
+    let term = &mut bytewise("a");
+    expect_long(
+        &rt,
+        rt.alloc(),
+        Job::Match(&long),
+        term,
+        &[],
+        b"!pattern L1\n",
+    );
+    expect_long(
+        &rt,
+        rt.alloc(),
+        Job::Make(&long),
+        term,
+        b"[",
+        b"!pattern L1\n",
+    );
+    expect_long(&rt, rt.alloc(), Job::Make(b"a"), term, &long, b"!args L1\n");
+}
