@@ -1,8 +1,5 @@
 //! Makes of a bank, of which each growth may be refused; and its calls that ask for no memory.
 
-ghost use Rattle.std.specs.Prelude.{IsSome, IfSome};
-ghost use Rattle.rx_term.specs.Store.{tree_at};
-
 use crate::CELLS;
 use crate::needs::{boxed, read_held};
 use crate::report::Report;

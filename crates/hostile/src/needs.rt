@@ -1,7 +1,6 @@
 //! What a row needs before its call.
 
-ghost use Rattle.std.specs.Prelude.{◌≡◌, IsSome, IfSome};
-ghost use Rattle.std.specs.Prelude.{Ok};
+ghost use Rattle.std.specs.Prelude.{◌≡◌, Ok, IsSome, IfSome};
 ghost use Rattle.rx_term.specs.Store.{tree_at};
 
 use rx_term::{Term, TermBank};
