@@ -505,6 +505,7 @@ impl Arena {
 
     /// How many slots were ever taken: each taken slot's number is below.
     pub fn slots(&self) -> u32
+        ensures count { result ≡ length self.now.cells }
         ensures past { (s : ℕ) → result ≤ s → taken_at self.now s ≡ None }
         ensures law { IsArena self.now }
     {

@@ -197,7 +197,8 @@ impl Pool {
 
     /// How many slots were ever taken.
     pub(crate) fn slots(&self) -> u32
-        ensures { (s : ℕ) → result ≤ s → get_or self.now.cells s None ≡ None }
+        ensures count { result ≡ length self.now.cells }
+        ensures past { (s : ℕ) → result ≤ s → get_or self.now.cells s None ≡ None }
     {
         self.fresh
     }
