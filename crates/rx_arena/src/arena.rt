@@ -14,7 +14,7 @@ ghost use Rattle.rx_arena.specs.Arena.{new_cell, with_count, with_marking, kept_
 ghost use Rattle.rx_arena.specs.Arena.{IsFirst, is_unmarked, times_hashed, IsArena, empty_arena};
 
 use crate::cells::Link;
-use crate::faces::{ASK, first, said, second};
+use crate::faces::{ASK, first, said, second, word};
 use crate::fault::ArenaFault;
 use crate::heads::{Heads, home};
 use crate::pool::Pool;
@@ -110,7 +110,6 @@ impl Arena {
     }
 
     /// Takes a slot for this body: unmarked, protected by no root, in no chain.
-    #[inline(always)]
     pub fn take(&mut self, body: CellBody) -> Result<Slot, ArenaFault>
         ensures free { IfOk result (λ s. taken_at self.old s.0 ≡ None) }
         ensures below { IfOk result (λ s. s.0 < self.old.cap) }
@@ -126,7 +125,28 @@ impl Arena {
         ensures full { result ≡ Err ArenaFault.Full → taken_count self.old ≡ self.old.cap }
         ensures memory { result ≡ Err ArenaFault.Memory → taken_count self.old < self.old.cap }
     {
-        match self.pool.take(body) {
+        self.take_with(body, word(body))
+    }
+
+    /// The same, where the word of the body is known.
+    #[inline(always)]
+    pub fn take_with(&mut self, body: CellBody, word: u64) -> Result<Slot, ArenaFault>
+        requires { word ≡ word_of body }
+        ensures free { IfOk result (λ s. taken_at self.old s.0 ≡ None) }
+        ensures below { IfOk result (λ s. s.0 < self.old.cap) }
+        ensures cells { IfOk result
+            (λ s. self.new.cells ≡ put self.old.cells s.0 (Some (new_cell body))) }
+        ensures loose { IfOk result (λ s. IsLoose self.new s.0) }
+        ensures rest { self.new ≡ record self.old
+            { cells = self.new.cells; spare = self.new.spare } }
+        ensures spare { self.old.spare ≤ self.new.spare + 1 }
+        ensures law { IsArena self.new }
+        ensures err { OnErr result (self.new ≡ self.old) }
+        ensures none_spare { OnErr result (self.old.spare ≡ 0) }
+        ensures full { result ≡ Err ArenaFault.Full → taken_count self.old ≡ self.old.cap }
+        ensures memory { result ≡ Err ArenaFault.Memory → taken_count self.old < self.old.cap }
+    {
+        match self.pool.take(body, word) {
             Ok(slot) => Ok(Slot(slot)),
             Err(fault) => Err(fault),
         }
