@@ -5,8 +5,9 @@ import os
 from concurrent.futures import ProcessPoolExecutor
 from functools import partial
 
-from attempts import NO_READ, NO_WRITE, check, check_long, recw, room, write_file
+from attempts import NO_READ, NO_WRITE, check, check_long, recw, room, run, write_file
 from common import program
+from memory import CALLER
 from refuse import failing
 
 # Elements, arguments, annotations, symbols, given terms, and bytes of a name.
@@ -128,12 +129,23 @@ def try_given(at):
     is_whole("a list of given terms", lines(["p(z,z)"] * MANY), "eval", spec, many)
 
 
+def try_callers():
+    """Both banks by themselves, which search and grow in other ways."""
+    if not os.path.exists(CALLER):
+        print(f"not tried: breadth of banks: {CALLER} is not there; rt run in crates/hostile builds it")
+        return
+    due = (0, "ready\ndone\n20000 cells\nroom for as many\n", "")
+    for kind in ("plain", "shared"):
+        check(f"{kind}: twenty thousand cells", due, run(CALLER, kind, "broad"))
+
+
 def try_breadth():
     try_texts()
     try_patterns()
     try_specifications()
     with room() as at:
         try_given(at)
+    try_callers()
 
 
 def try_errors():
