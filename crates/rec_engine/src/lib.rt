@@ -6,6 +6,7 @@ mod cells;
 mod code;
 mod compile;
 mod constants;
+mod due;
 mod engine;
 mod evaluation;
 mod given;

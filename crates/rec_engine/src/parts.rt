@@ -7,9 +7,10 @@ ghost use Rattle.rec_engine.specs.Constants.{KnowsNone};
 ghost use Rattle.rec_engine.specs.Engine.{AreInRange};
 ghost use Rattle.rec_engine.specs.Machine.{IsCode};
 
-use crate::cells::{Pace, least_pace, next_due};
+use crate::cells::Pace;
 use crate::code::Code;
 use crate::constants::Constants;
+use crate::due::Due;
 use crate::engine::Options;
 use crate::hints::Hints;
 use crate::machine::State;
@@ -64,12 +65,8 @@ fn first_state<B: TermBank>(
     let constants = Constants::new(alloc, code.ops.len())?;
     let memo = Memo::new(alloc, options.memo)?;
     let hints = Hints::new(alloc, checked.symbols() as usize, options.memo)?;
-    let every = options.reclaim_every;
-    let least = least_pace(options.memo);
     let pace = Pace {
-        every,
-        least,
-        due: next_due(bank.cells(), every, least),
+        due: Due::new(bank.cells(), options.reclaim_every),
         constants,
         memo,
     };
