@@ -2,6 +2,7 @@
 #![tactic(auto)]
 
 mod building;
+mod calls;
 mod cells;
 mod code;
 mod compile;
