@@ -1,17 +1,17 @@
 //! The engine: a bank, a specification, and what is evaluated over them.
 
-ghost use Rattle.std.specs.Prelude.{◌≡◌, ◌≢◌, ◌<◌, [], Some, Err, IfOk, Contains, length};
+ghost use Rattle.std.specs.Prelude.{◌≡◌, ◌≢◌, ◌<◌, [], Some, Err, IfErr, IfOk, Contains, length};
 ghost use Rattle.rx_term.specs.Tree.{Tree};
 ghost use Rattle.rx_term.specs.Store.{tree_at};
 ghost use Rattle.rx_term.specs.Steps.{Keeps};
-ghost use Rattle.std.specs.FinMap as map;
+ghost use Rattle.rx_term.specs.Walks.{AllHeld};
 ghost use Rattle.rec_sorts.specs.Linked.{HasMoreSymbols, AreLinked};
 ghost use Rattle.rec_engine.specs.Machine.{IsCode};
 ghost use Rattle.rec_engine.specs.Constants.{KnowsNone};
 ghost use Rattle.rec_engine.specs.declared.cells.EngineFault.TheVariants.{Room};
 ghost use Rattle.rec_engine.specs.Cells.{RoomOnly};
 ghost use Rattle.rec_engine.specs.Engine.{AreInRange, SameEngine, IsGiven, eval_tree, IsOutcome};
-ghost use Rattle.rec_engine.specs.Engine.{IsNormalised, IsKept, RoomOnlyFor};
+ghost use Rattle.rec_engine.specs.Engine.{IsNormalised, IsKept, LetsGo, RemembersNothing, RoomOnlyFor};
 
 use crate::cells::EngineFault;
 use crate::code::Op;
@@ -75,24 +75,58 @@ impl<B: TermBank> Model for Engine<B> {
         × IsReady B.store e.machine };
 }
 
+/// After want of memory nothing is needed.
+fn let_go<T>(work: &mut Vec<Term>, answer: &Result<T, EngineFault>)
+    ensures { LetsGo answer.now work.old.items work.new.items }
+{
+    if let Err(EngineFault::Memory) = answer {
+        work.clear();
+    }
+}
+
 impl<B: TermBank + Drop> Engine<B> {
     /// An engine for a specification over a bank, which may get symbols and nothing else.
     pub fn new(
         alloc: Global,
         checked: Checked,
-        mut bank: B,
+        bank: B,
         options: Options,
     ) -> Result<Engine<B>, EngineFault>
         requires { AreInRange options }
         ensures spec { IfOk result (λ e. e.spec ≡ checked.spec) }
         ensures options { IfOk result (λ e. e.options ≡ options) }
         ensures store { IfOk result (λ e. HasMoreSymbols (B.store bank) (B.store e.bank)) }
+        ensures memo { IfOk result (λ e. RemembersNothing options.memo e.memo) }
         ensures work { IfOk result (λ e. e.work ≡ []) }
         ensures fault { Err Room ≢ result }
     {
+        match Engine::over(alloc, checked, bank, options) {
+            Ok(engine) => Ok(engine),
+            Err(_) => Err(EngineFault::Memory),
+        }
+    }
+}
+
+impl<B: TermBank> Engine<B> {
+    /// The same for a caller who wants the bank back: the error is want of memory, and hands back
+    /// the bank, which may have got symbols and nothing else.
+    pub fn over(
+        alloc: Global,
+        checked: Checked,
+        mut bank: B,
+        options: Options,
+    ) -> Result<Engine<B>, B>
+        requires { AreInRange options }
+        ensures spec { IfOk result (λ e. e.spec ≡ checked.spec) }
+        ensures options { IfOk result (λ e. e.options ≡ options) }
+        ensures store { IfOk result (λ e. HasMoreSymbols (B.store bank) (B.store e.bank)) }
+        ensures memo { IfOk result (λ e. RemembersNothing options.memo e.memo) }
+        ensures work { IfOk result (λ e. e.work ≡ []) }
+        ensures refused { IfErr result (λ b. HasMoreSymbols (B.store bank) (B.store b)) }
+    {
         match Parts::find(alloc, &checked, &mut bank, options) {
             Ok(parts) => Ok(Engine::assembled(alloc, checked, bank, options, parts)),
-            Err(_) => Err(EngineFault::Memory),
+            Err(_) => Err(bank),
         }
     }
 
@@ -108,10 +142,11 @@ impl<B: TermBank + Drop> Engine<B> {
         requires linked { AreLinked checked.spec (B.store bank) parts.code.value.links }
         requires terms { parts.terms ≡ length checked.spec.terms }
         requires constants { KnowsNone parts.state.pace.constants }
-        requires memo { parts.state.pace.memo.map ≡ map.empty }
+        requires memo { RemembersNothing options.memo parts.state.pace.memo }
         ensures spec { result.spec ≡ checked.spec }
         ensures options { result.options ≡ options }
         ensures store { B.store result.bank ≡ B.store bank }
+        ensures memo { RemembersNothing options.memo result.memo }
         ensures work { result.work ≡ [] }
     {
         let machine = Machine {
@@ -128,9 +163,32 @@ impl<B: TermBank + Drop> Engine<B> {
             found: Vec::new(alloc),
         }
     }
-}
 
-impl<B: TermBank> Engine<B> {
+    /// The bank, and what the last call of `eval_term` or `normalise` needed of it.
+    pub fn into_parts(self) -> (B, Vec<Term>)
+        ensures bank { result.0 ≡ self.bank }
+        ensures work { result.1.items ≡ self.work }
+    {
+        let Engine {
+            machine,
+            options: _,
+            terms: _,
+            found,
+        } = self;
+        drop(found);
+        let Machine {
+            checked,
+            bank,
+            code,
+            state,
+            work,
+        } = machine;
+        drop(checked);
+        drop(code);
+        drop(state);
+        (bank, work)
+    }
+
     /// How many terms to evaluate the specification has.
     pub fn eval_terms(&self) -> u32
         ensures { result ≡ length self.now.spec.terms }
@@ -147,20 +205,24 @@ impl<B: TermBank> Engine<B> {
             (λ t. tree_at (B.store self.new.bank) t ≡ eval_tree self.new.spec i) }
         ensures given { IfOk result (IsGiven self.new.spec (B.store self.new.bank)) }
         ensures kept { IfOk result (Contains self.new.work) }
+        ensures held { AllHeld (B.store self.new.bank) self.new.work }
         ensures room { RoomOnlyFor (B.store self.new.bank) self.new.memo
             (eval_tree self.new.spec i) result }
+        ensures needed { RoomOnly (B.store self.new.bank) self.new.work self.new.memo result }
     {
         let machine = &mut self.machine;
         let checked = &machine.checked;
         let letters = &checked.terms()[i as usize];
-        make_term(
+        let made = make_term(
             checked,
             &mut machine.bank,
             &machine.code.links,
             &mut machine.state.pace,
             &mut machine.work,
             letters,
-        )
+        );
+        let_go(&mut machine.work, &made);
+        made
     }
 
     /// What a term comes to within `n` steps; its value has the annotations of the term.
@@ -175,9 +237,12 @@ impl<B: TermBank> Engine<B> {
             (λ o. (u : Tree) → tree_at (B.store self.old.bank) t ≡ Some u
             → IsNormalised self.new.spec (B.store self.new.bank) n u o) }
         ensures kept { IfOk result (IsKept self.new.work) }
+        ensures held { AllHeld (B.store self.new.bank) self.new.work }
         ensures room { RoomOnly (B.store self.new.bank) self.new.work self.new.memo result }
     {
-        self.machine.normalise(&mut self.found, t, n)
+        let outcome = self.machine.normalise(&mut self.found, t, n);
+        let_go(&mut self.machine.work, &outcome);
+        outcome
     }
 
     /// The bank.

@@ -2,6 +2,7 @@ use Rattle.std.proofs.Common.{◌≡◌, ℕ, ◌++◌, ◌<◌, ◌^◌, Bool, 
 use Rattle.std.specs.Io.KnownBytes.{Appends}
 use Rattle.std.proofs.lemmas.Result.{IfErr-weaker}
 use Rattle.rx_term.specs.Steps.{Keeps}
+use Rattle.rx_term.proofs.KeepLemmas.{Keeps-trans}
 use Rattle.rx_term.specs.Store.{Store}
 use Rattle.rx_term.specs.declared.Term.{Term as Reference}
 use Rattle.rec_syntax.specs.Syntax.{Spec}
@@ -9,12 +10,12 @@ use Rattle.rec_run.specs.EvaluatedLines.{ProtectsTerms}
 use Rattle.rec_run.specs.GivenTerms.{given_at, given_by, given_lines}
 use Rattle.rec_run.specs.Output.{lines}
 use Rattle.rec_run.specs.Run.{Stops}
-use Rattle.rec_run.proofs.EvaluatedLemmas.{same_terms, still_protects}
+use Rattle.rec_run.proofs.EvaluatedLemmas.{same_engine_both, same_terms, still_protects}
 use Rattle.rec_run.proofs.LineFrontLemmas.{stops_behind}
 use Rattle.rec_run.proofs.SpecLineLemmas.{lines-both, newlines-own}
 use Rattle.rx_text.proofs.AppendingLemmas.{appends_both}
 use Rattle.rec_run.proofs.ErrorLemmas.{on_ok_of}
-use Rattle.rec_run.proofs.spec.lines.write_all.Goals as goal
+use Rattle.rec_run.proofs.spec.lines.write_lines.Goals as goal
 
 -- all lines are the specification's own and, by what these left of the engine, those of the list
 all_lines : (y z : Spec) (old new : Store) (given : Option Reference) (list : Reference) (counted : Bool) (n : ℕ) → Keeps old new [] → z ≡ y → given ≡ Some list → ProtectsTerms y old list
@@ -58,3 +59,9 @@ returns-in-Some-clause-err g c =
     (λ fault h. subst (λ text. Stops fault text (g.W.Write.contents c.args.out.now) (g.W.Write.contents c.write_given_lines.new.out)) (sym e)
     (stops_behind fault (length z.terms) (lines y [] counted n) _ _ _ _ (newlines-own y counted n few ∙ ap (λ x. length x.terms) (sym own.same.spec)) own.ok h))
     c.write_given_lines.ensures.err
+
+pub returns-in-Some-clause-same : goal.returns-in-Some-clause-same
+returns-in-Some-clause-same g c = same_engine_both c.in_ok-write_own_lines.ensures.same c.write_given_lines.ensures.same
+
+pub returns-in-Some-clause-keeps : goal.returns-in-Some-clause-keeps
+returns-in-Some-clause-keeps g c = Keeps-trans c.in_ok-write_own_lines.ensures.keeps c.write_given_lines.ensures.keeps
