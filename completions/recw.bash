@@ -13,15 +13,18 @@ _recw_commands=(
 
 # Each option of eval, with the name of its value where it takes one.
 _recw_eval_options=(
+    '--term TERM'
     '--steps N'
     '--cells C'
     '--memo M'
     '--reclaim K'
     '--count'
+    '--limit-status'
 )
 
 _recw_takes_value() {
     local option
+    [[ $1 != -e ]] || return 0
     for option in "${_recw_eval_options[@]}"; do
         [[ $option != *' '* || ${option% *} != "$1" ]] || return 0
     done
@@ -51,6 +54,7 @@ _recw() {
     if ((COMP_CWORD > 1)); then kind=$(_recw_kind "$command"); fi
     if ((COMP_CWORD > 1)) && [[ $command != help ]]; then choices+=(--explain); fi
     if ((COMP_CWORD > 1)) && [[ $command == eval ]]; then choices+=("${_recw_eval_options[@]%% *}"); fi
+    if ((COMP_CWORD > 1)) && [[ $command == match ]]; then choices+=(--test); fi
     if ((COMP_CWORD == 1)); then choices+=(--version); fi
     if ((COMP_CWORD == 2)) && [[ $command == help ]]; then commands+=(refusals); fi
     COMPREPLY=()

@@ -27,11 +27,16 @@ def passed():
     return len(TRIED) - len(FAILURES)
 
 
-def recw(*words, before=(), **how):
-    """The status and both outputs of the program, each byte a character."""
+def run(*words, before=(), **how):
+    """The status and both outputs of a program, each byte a character."""
     how = {"cwd": EXAMPLES, "capture_output": True, "encoding": "latin-1", "check": False, "timeout": 600, **how}
-    ran = subprocess.run([*before, program(), *words], **how)
+    ran = subprocess.run([*before, *words], **how)
     return ran.returncode, ran.stdout, ran.stderr
+
+
+def recw(*words, **how):
+    """The same of the program that is tried."""
+    return run(program(), *words, **how)
 
 
 def at_stack(kib, memory="unlimited"):

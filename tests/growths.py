@@ -15,6 +15,8 @@ from common import TOP, done, same, text_of
 OTHERS = {"hostile", "recw", "recw_words", "rows", "run_rows", "store_rows", "uses"}
 TYPES = re.compile(r"(Result|From|Fault)<[^={]*AllocError>+")
 MADE = re.compile(r"\bAllocError\b|\b\w+::Memory\b")
+# Under another name, or without its type's, the answer could not be seen.
+RENAMED = re.compile(r"(pub )?use\b.*(\bAllocError as\b|\bMemory\b)")
 FUNCTION = re.compile(r"^\s*(?:pub(?:\([a-z]+\))? )?(?:const )?fn (\w+)")
 
 
@@ -27,14 +29,14 @@ def code_of(file):
         found = FUNCTION.match(line)
         function = found.group(1) if found else function
         line = line.split("//")[0].strip()
-        if not re.match(r"(pub )?(ghost|use|ensures|requires|impl|fn)\b", line):
+        if RENAMED.match(line) or not re.match(r"(pub )?(ghost|use|ensures|requires|impl|fn)\b", line):
             yield function, line
 
 
 def makes(line):
-    """Whether the line makes the answer, and does not only look for it."""
-    _, arrow, made = line.partition("=>")
-    return bool(MADE.search(TYPES.sub("", made if arrow else line)))
+    """Whether the line makes the answer, and does not only look for it: before an arrow, or behind `let`."""
+    made = re.split(r"=>|\blet\b.*? = ", line)[-1]
+    return bool(RENAMED.match(line) or MADE.search(TYPES.sub("", made)))
 
 
 def found():

@@ -1,8 +1,10 @@
 #!/usr/bin/env -S python3 -B
 """Compares the commands and options of the program's help with the manual page and the completions."""
 
+import os
 import re
 import shutil
+import subprocess
 from typing import NamedTuple
 
 from common import TOP, done, program, run, same, text_of
@@ -52,6 +54,19 @@ def check_version():
     same("version", "recw 0.1.0\n", run([program(), "--version"]))
 
 
+def check_width():
+    """The page's tables stay within 80 columns."""
+    if not shutil.which("man"):
+        print("not tried: man is not here")
+        return
+    how = {**os.environ, "MANWIDTH": "80", "MANROFFOPT": "", "LC_ALL": "C"}
+    shown = run(["man", "--no-hyphenation", f"{TOP}/recw.1"], env=how, stderr=subprocess.DEVNULL)
+    plain = re.sub(r".\x08|\x1b\[[0-9;]*m", "", shown)
+    same("manual: columns", [], [it for it in plain.splitlines() if len(it) > 80])
+    wanted = re.findall(r"^ +--\S+ \S+ .*$|^ +--[\w-]+ +off .*$", plain, re.M)
+    same("manual: rows of the table on a line each", True, len(wanted) >= 8)
+
+
 def check_manual(names, options):
     page = text_of("recw.1")
     synopsis = page.split(".Sh SYNOPSIS")[1].split(".Sh ")[0]
@@ -59,7 +74,9 @@ def check_manual(names, options):
     same("manual: commands", names, re.findall(r"^\.It Cm (\w+)", page, re.M))
     row = r"^\.It Fl -([\w-]+)(?: Ar (\w+))? Ta (\S+) Ta ."
     rows = [(f"--{it[0]}", it[1], it[2]) for it in re.findall(row, page, re.M)]
-    same("manual: options", [(it.name, it.value, it.default or "off") for it in options], rows)
+    wanted = [(it.name, it.value, it.default or ("none" if it.value else "off")) for it in options]
+    same("manual: options", wanted, rows)
+    check_width()
     if shutil.which("mandoc"):
         same("manual: mandoc -Tlint", "", run(["mandoc", "-Tlint", f"{TOP}/recw.1"]))
     else:
@@ -134,7 +151,9 @@ def check_zsh(abouts, options):
     same("zsh: commands of help", [*listed, refusals], offered("recw", "help", ""))
     for name in abouts:
         own = [
-            f"{it.name}=[{it.about}]:{it.value}: " if it.value else f"{it.name}[{it.about}]"
+            f"{'*' if 'several' in it.about else ''}{it.name}=[{it.about}]:{it.value}: "
+            if it.value
+            else f"{it.name}[{it.about}]"
             for it in options[name]
         ]
         found = [it for it in offered("recw", name, "-") if "-" in it.partition("[")[0]]
@@ -150,7 +169,8 @@ def main():
     shared = [it for it in options["eval"] if it.name == "--explain"]
     for name in names:
         if name not in ("eval", "help"):
-            same(f"options of {name}", shared, options[name])
+            own = [it for it in options[name] if (name, it.name) != ("match", "--test")]
+            same(f"options of {name}", shared, own)
     check_refusals()
     check_version()
     check_manual(names, options["eval"])

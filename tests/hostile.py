@@ -9,11 +9,13 @@
 | files | each read and each write fails, is interrupted, or gives nothing; needs strace |
 | depth | great depth and length, on stacks of 8 MiB and of 256 KiB |
 | program | folders, missing and endless files, full devices, closed pipes, signals |
+| breadth | texts of great breadth, for each call that may want memory |
+| errors | each error of a read and of a write |
 | memory | each request for memory of the program |
 | crates | each request for memory of single calls, by the program of crates/hostile; that their blocks go back |
 
-The last line is `N passed, M failed`. The last two parts trace the program, for which they need Linux on x86-64; their
-runs stand side by side on the processors that this process may use.
+The last line is `N passed, M failed`. The last three parts trace the program, for which they need Linux on x86-64;
+their runs stand side by side on the processors that this process may use.
 """
 
 import re
@@ -22,6 +24,7 @@ import sys
 import time
 
 from attempts import NO_CELLS, TRIED, check, passed, recw
+from breadth import try_breadth, try_errors
 from common import FAILURES, rows, text_of
 from depth import try_depth
 from memory import try_crates, try_memory
@@ -116,6 +119,8 @@ PARTS = {
     "files": try_files,
     "depth": try_depth,
     "program": try_program,
+    "breadth": try_breadth,
+    "errors": try_errors,
     "memory": try_memory,
     "crates": try_crates,
 }
@@ -125,7 +130,7 @@ def lacks(part):
     """What a part needs and does not have here, if anything."""
     if part == "files" and not shutil.which("strace"):
         return "strace is not here"
-    if part in ("memory", "crates") and not is_allowed():
+    if part in ("errors", "memory", "crates") and not is_allowed():
         return "no program can be traced here"
     return None
 

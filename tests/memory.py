@@ -65,9 +65,10 @@ OTHER_CALLS = {
     "engine eval_term": ([], ["[kept]", "twice(s(s(z)))"]),
     "engine normalise": ([], ["[kept]", "s(s(s(s(z))))", "4 steps"]),
 }
-# Calls that may answer in full though a request is refused: a shared bank's chains may stay longer, and the check of a
-# specification collects letters, which goes on without the room that it asks for ahead.
-SPARING = ("shared", "specification check")
+# Calls that may answer in full though a request is refused: a shared bank's chains may stay longer, the check of a
+# specification collects letters, which goes on without the room that it asks for ahead, and where there is no room for
+# the terms of new results a reclaim is handed the others alone.
+SPARING = ("shared", "specification check", "engine normalise")
 # Calls that ask for no memory, so that none of their requests can be refused.
 FREE = {
     "plain new": ["0 cells"],

@@ -42,6 +42,9 @@ mkdir -p "$root/var/lib/dpkg/info" "$root/var/lib/dpkg/updates"
 dpkg --root="$root" --force-depends --install "$package" >/dev/null 2>&1
 same 'what is installed' 'install ok installed' \
     "$(dpkg-query --admindir="$root/var/lib/dpkg" -W -f '${Status}' recw)"
+commit=$(git -C "$top" rev-parse HEAD 2>/dev/null || :)
+same 'it tells its commit' "${commit:+ Made of commit $commit.}" \
+    "$(dpkg-query --admindir="$root/var/lib/dpkg" -W -f '${Description}\n' recw | grep commit || :)"
 same 'it runs' 's(s(s(z)))	3' "$("$root/usr/bin/recw" eval --count "$root/usr/share/doc/recw/examples/add.rec")"
 for file in bin/recw share/man/man1/recw.1.gz share/bash-completion/completions/recw \
     share/zsh/vendor-completions/_recw share/fish/vendor_completions.d/recw.fish \

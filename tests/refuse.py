@@ -1,4 +1,6 @@
-"""Runs of a program in which one request for memory is refused, or its blocks are counted. Linux on x86-64 alone.
+"""Runs of a program in which one request for memory is refused, its blocks are counted, or a read or a write fails.
+
+Linux on x86-64 alone.
 
 The program is traced. In its table of the functions that it calls of the C library, other addresses stand for those
 that are looked for, at which no code lies: so it stops at each call of them, and nowhere else.
@@ -13,7 +15,7 @@ import tempfile
 
 REQUESTS = ("malloc", "realloc")
 # The first write of a program under `alone` begins what counts, and its second ends it.
-CAUGHT = {name: 8 * (1 + number) for number, name in enumerate((*REQUESTS, "free", "write"))}
+CAUGHT = {name: 8 * (1 + number) for number, name in enumerate((*REQUESTS, "free", "read", "write"))}
 NAMES = {address: name for name, address in CAUGHT.items()}
 # Seconds of processor time, for a program that does not end.
 LONGEST = 120
@@ -21,9 +23,10 @@ LONGEST = 120
 LIBC = ctypes.CDLL(None, use_errno=True)
 LIBC.ptrace.argtypes = [ctypes.c_long, ctypes.c_long, ctypes.c_void_p, ctypes.c_void_p]
 LIBC.ptrace.restype = ctypes.c_long
-TRACE_ME, CONTINUE, GET_REGISTERS, SET_REGISTERS, SET_OPTIONS = 0, 7, 12, 13, 0x4200
+TRACE_ME, CONTINUE, GET_REGISTERS, SET_REGISTERS, TO_SYSTEM_CALL, SET_OPTIONS = 0, 7, 12, 13, 24, 0x4200
 ENDS_WITH_TRACER = 0x100000
-RAX, RDI, RIP, RSP = 10, 14, 16, 19
+RAX, RDI, SYSTEM_CALL, RIP, RSP = 10, 14, 15, 16, 19
+NO_CALL = 2**64 - 1
 # Of an auxiliary vector: where the program begins. Of a section: that it says what is to be linked.
 ENTRY, RELOCATIONS = 9, 4
 BREAKPOINT = b"\xcc"
@@ -103,8 +106,8 @@ class Run:
         if os.WIFSTOPPED(self.stop):
             ptrace(GET_REGISTERS, self.pid, 0, ctypes.addressof(self.registers))
 
-    def go_on(self, received=0):
-        ptrace(CONTINUE, self.pid, 0, received)
+    def go_on(self, received=0, request=CONTINUE):
+        ptrace(request, self.pid, 0, received)
         self.wait()
 
     def caught(self):
@@ -124,6 +127,14 @@ class Run:
         """The call answers that there is no memory."""
         top = self.registers[RSP]
         self.change({RAX: 0, RIP: self.read(top), RSP: top + 8})
+
+    def fail(self, name, number):
+        """The call is made, and the system answers it by an error of this number, with nothing done."""
+        self.call(name)
+        self.go_on(request=TO_SYSTEM_CALL)
+        self.change({SYSTEM_CALL: NO_CALL})
+        self.go_on(request=TO_SYSTEM_CALL)
+        self.change({RAX: 2**64 - number})
 
     def status(self):
         os.close(self.memory)
@@ -188,6 +199,16 @@ def count_blocks(run):
     return counts
 
 
+def fail_once(run, name, number):
+    """Lets the program run to its end, where the first call of a function fails; how often it failed."""
+    run.catch((name,))
+    if run.caught() is None:
+        return 0
+    run.catch(())
+    run.fail(name, number)
+    return run.caught() is None
+
+
 def followed(words, cwd, follow):
     """The exit status, both outputs, and what was counted on the way."""
     with tempfile.TemporaryFile() as out, tempfile.TemporaryFile() as err:
@@ -211,3 +232,8 @@ def answer(words, cwd, refused=None, alone=False):
 def blocks(words, cwd):
     """The exit status, both outputs, and how many blocks of memory were asked for and given back."""
     return followed(words, cwd, count_blocks)
+
+
+def failing(words, cwd, name, number):
+    """The exit status, both outputs, and whether a first read or write failed by an error of this number."""
+    return followed(words, cwd, lambda run: int(fail_once(run, name, number)))

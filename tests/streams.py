@@ -1,10 +1,12 @@
 """Files, pipes and signals that go wrong: each read and each write fails in turn, and what a system has besides."""
 
 import os
+import pty
 import shutil
 import signal
 import subprocess
 import time
+import tty
 
 from attempts import EXAMPLES, NO_READ, NO_WRITE, check, recw, room, write_file
 from common import program, text_of
@@ -170,9 +172,26 @@ def try_pipe(at):
             check(what, True, whole or (child.returncode, told) == NO_WRITE)
 
 
+# Words whose line or message on standard error, or what is told behind it, cannot be written, with the status and the
+# output.
+UNTOLD = (
+    ("eval X", 4, ""),
+    ("aterm", 1, "!term A\n"),
+    ("eval --steps x", 2, ""),
+    ("match --test <x>", 2, "!pattern P1\n"),
+    ("eval --explain X", 4, ""),
+    ("aterm --explain", 1, "!term A\n"),
+    ("eval --explain - -e z(", 1, "!spec G\n"),
+    ("eval --explain add.rec -e 0", 1, "!terms T2\n"),
+    ("eval --explain add.rec -e z -e z(", 1, "!terms A\n"),
+    ("match --explain <x>", 1, "!pattern P1\n"),
+    ("eval --limit-status --steps 2 add.rec", 5, "!limit 2\n"),
+)
+
+
 def try_errors():
     """A line on standard error that cannot be written is left out, and the status stays."""
-    for words, status, line in (("eval X", 4, ""), ("aterm", 1, "!term A\n"), ("eval --steps x", 2, "")):
+    for words, status, line in UNTOLD:
         with open("/dev/full", "wb") as full:
             how = {"stderr": full, "stdout": subprocess.PIPE, "capture_output": False, "stdin": subprocess.DEVNULL}
             check(f"{words}: errors to a full device", (status, line), recw(*words.split(), **how)[:2])
@@ -191,13 +210,68 @@ def try_signals(at):
             time.sleep(0.5)
             child.send_signal(number)
             output, told = child.communicate(timeout=10)
-        check(f"{number.name}", (-number, True, ""), (child.returncode, output in ("", "z\n"), told))
+        # the value before has been shown
+        check(f"{number.name}", (-number, "z\n", ""), (child.returncode, output, told))
+
+
+def on_terminal(words):
+    """What the program tells where standard error is a terminal."""
+    ends = pty.openpty()
+    tty.setraw(ends[1])
+    how = {"stdin": subprocess.DEVNULL, "stdout": subprocess.PIPE, "stderr": ends[1], "cwd": EXAMPLES}
+    with subprocess.Popen([program(), *words], **how) as child:
+        os.close(ends[1])
+        told = b""
+        while True:
+            try:
+                piece = os.read(ends[0], 65536)
+            except OSError:
+                break
+            told += piece
+            if not piece:
+                break
+        output = child.stdout.read()
+    os.close(ends[0])
+    return child.returncode, output.decode("latin-1"), told.decode("latin-1")
+
+
+def try_reader():
+    """Somebody who reads standard error is told more without asking, and no control byte reaches a terminal."""
+    missing = "recw: read failed\nno\\x1b[31msuch: No such file or directory\n"
+    words = ("eval", "no\x1b[31msuch")
+    check("a terminal: no file", (4, "", missing), on_terminal(words))
+    how = {"env": {**os.environ, "RECW_EXPLAIN": ""}}
+    check("RECW_EXPLAIN: no file", (4, "", missing), recw(*words, **how))
+    check("neither: no file", (4, "", NO_READ[1]), recw(*words))
+    ended = "!spec G\n", "recw: spec G at byte 0\n<stdin>:1:1: G: no specification has this here; the text is empty"
+    status, output, told = on_terminal(["eval"])
+    check("a terminal: no text", (1, *ended), (status, output, told.partition("; expected")[0]))
+    status, output, told = on_terminal(["x\x1b[31m.rec"])
+    check("a terminal: a word that is no command", (2, "", False), (status, output, "\x1b" in told))
+    check("a terminal: that word", True, "recw eval 'x\\x1b[31m.rec'\n" in told)
+
+
+def try_lines(at):
+    """A line is seen before the next term comes to an end, also behind many short ones."""
+    for count in (1, 1000, 3000):
+        names = " ".join(["z"] * count)
+        rules = "VARS X : N RULES f(X) -> f(X)"
+        loop = f"REC-SPEC L SORTS N CONS z : -> N OPNS f : N -> N {rules} EVAL {names} f(z) END-SPEC"
+        file = write_file(f"{at}/loop", loop)
+        with subprocess.Popen([program(), "eval", "--steps", str(10**18), file], stdout=subprocess.PIPE) as child:
+            time.sleep(0.5)
+            os.set_blocking(child.stdout.fileno(), False)
+            seen = child.stdout.read() or b""
+            child.kill()
+        lines = seen.decode("latin-1").count("z\n")
+        check(f"{count} lines before a term without an end", True, lines == count if count <= 1000 else lines >= 1000)
 
 
 def try_program():
-    for group in (try_places, try_input, try_full, try_pipe):
+    for group in (try_places, try_input, try_full, try_pipe, try_lines):
         with room() as at:
             group(at)
     try_errors()
+    try_reader()
     with room() as at:
         try_signals(at)

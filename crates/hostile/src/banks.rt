@@ -226,6 +226,43 @@ fn make_integers_twice<B: TermBank>(bank: &mut B, report: &mut Report) -> Option
     Some(())
 }
 
+/// How many cells a broad bank may have; and half of that, which it is to have room for.
+const BROAD: u32 = 200_000;
+
+const HALF: u32 = BROAD / 2;
+
+/// Twenty thousand integers, a symbol of this name, and room for as many cells as half of a broad
+/// bank has.
+fn make_broad<B: TermBank>(bank: &mut B, name: &[u8]) -> Result<(), BankFault> {
+    for z in 0..20_000 {
+        bank.int(z)?;
+    }
+    bank.symbol(name, true, 0)?;
+    bank.reserve(HALF)
+}
+
+/// Makes them, with a name of a hundred thousand bytes: where there is memory, nothing is refused.
+fn try_broad<B: TermBank>(bank: &mut B, report: &mut Report) -> Option<()> {
+    let name = vec![in report.alloc; b'n'; 100_000].ok()?;
+    report.begin();
+    report.tell(make_broad(bank, &name));
+    report.count(u64::from(bank.cells()), "cells");
+    report.say(bank.spare() >= HALF, "room for as many");
+    Some(())
+}
+
+/// A broad plain bank.
+pub fn try_broad_plain(report: &mut Report) -> Option<()> {
+    let mut bank = boxed(report.alloc, PlainBank::new(report.alloc, BROAD))?;
+    try_broad(&mut *bank, report)
+}
+
+/// A broad shared bank.
+pub fn try_broad_shared(report: &mut Report) -> Option<()> {
+    let mut bank = boxed(report.alloc, SharedBank::new(report.alloc, BROAD))?;
+    try_broad(&mut *bank, report)
+}
+
 /// Reads each part of a tree, down its first items, arguments and inner trees.
 fn read_down<B: TermBank>(bank: &B, t: Term) -> u32 {
     let mut at = t;

@@ -56,9 +56,15 @@ fn try_words(words: &[String], report: &mut Report) -> Option<()> {
 
 /// A call of a plain bank.
 fn try_plain(call: &str, report: &mut Report) -> Option<()> {
-    if call == "new" {
-        return banks::try_new_plain(report);
+    match call {
+        "new" => banks::try_new_plain(report),
+        "broad" => banks::try_broad_plain(report),
+        _ => try_over_plain(call, report),
     }
+}
+
+/// A call of a plain bank that is there.
+fn try_over_plain(call: &str, report: &mut Report) -> Option<()> {
     let mut bank = boxed(report.alloc, PlainBank::new(report.alloc, CELLS))?;
     try_bank(call, &mut *bank, report)
 }
@@ -67,6 +73,7 @@ fn try_plain(call: &str, report: &mut Report) -> Option<()> {
 fn try_shared(call: &str, report: &mut Report) -> Option<()> {
     match call {
         "new" => banks::try_new_shared(report),
+        "broad" => banks::try_broad_shared(report),
         "thousand" => banks::try_thousand(report),
         _ => try_over_shared("shared", call, report),
     }

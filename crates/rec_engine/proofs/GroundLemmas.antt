@@ -41,7 +41,7 @@ all-failed false false false true e h = absurd (cc h)
 all-failed false false false false true h = absurd (cc h)
 all-failed false false false false false h = (refl, refl, refl, refl, refl)
 
-pass-none : (y : Spec) (ts : List Tree) → broken_by_elements y ts ≡ None → PassNone y (flat_map nodes ts) (flat_map (λ t. nodes_all (arguments t)) ts)
+pub pass-none : (y : Spec) (ts : List Tree) → broken_by_elements y ts ≡ None → PassNone y (flat_map nodes ts) (flat_map (λ t. nodes_all (arguments t)) ts)
 pass-none y ts e =
     let all : List Tree = flat_map nodes ts in
     let inner : List Tree = flat_map (λ t. nodes_all (arguments t)) ts in

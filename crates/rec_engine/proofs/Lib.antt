@@ -41,3 +41,6 @@ pub mod EngineLemmas
 pub mod PartLemmas
 pub mod TermLemmas
 pub mod MakingLemmas
+pub mod CallLemmas
+pub mod SpelledLemmas
+pub mod RootLemmas

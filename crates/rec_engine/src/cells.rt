@@ -9,6 +9,7 @@ ghost use Rattle.rec_engine.specs.Pace.{KeepsKnown};
 ghost use Rattle.rec_engine.specs.Cells.{built, StandsIn, MakesFor};
 
 use crate::constants::Constants;
+use crate::due::Due;
 use rec_memo::Memo;
 use rx_term::{BankFault, Symbol, Term, TermBank};
 use thiserror::Error;
@@ -33,16 +34,24 @@ pub enum EngineFault {
     Room,
 }
 
-/// After how many new cells a reclaim is due at the latest, and how many there have to be at the
-/// least, at how many cells the next one is due, which constants were made since the last one, and
-/// the results that are remembered.
+/// When the next reclaim is due, which constants were made since the last one, and the results that
+/// are remembered.
 #[derive(Drop)]
 pub(crate) struct Pace {
-    pub(crate) every: u32,
-    pub(crate) least: u32,
-    pub(crate) due: u32,
+    pub(crate) due: Due,
     pub(crate) constants: Constants,
     pub(crate) memo: Memo,
+}
+
+impl Pace {
+    /// The result of the call with this key was used, and saved so many steps.
+    pub(crate) fn used(&mut self, key: Term, steps: u64)
+        ensures constants { self.new.constants ≡ self.old.constants }
+        ensures memo { self.new.memo ≡ self.old.memo }
+    {
+        self.memo.touch(key);
+        self.due.save(steps);
+    }
 }
 
 /// Makes a node, once.
@@ -70,17 +79,17 @@ fn make_apart<B: TermBank>(bank: &mut B, node: Node) -> Result<Term, BankFault>
     make_once(bank, node)
 }
 
-/// Gives back what is not needed; no constant is known any more, and no result of what was given
-/// back.
+/// Gives back all that these references don't need; no constant is known any more, and no result of
+/// what was given back.
 #[inline(never)]
-fn reclaim<B: TermBank>(bank: &mut B, work: &[Term], pace: &mut Pace)
-    requires { AllHeld (B.store bank.old) work.now }
-    ensures reclaims { Reclaims (B.store bank.old) (B.store bank.new) work.now }
+fn reclaim<B: TermBank>(bank: &mut B, kept: &[Term], pace: &mut Pace)
+    requires { AllHeld (B.store bank.old) kept.now }
+    ensures reclaims { Reclaims (B.store bank.old) (B.store bank.new) kept.now }
     ensures known { KeepsKnown (B.store bank.old) (B.store bank.new) pace.old pace.new }
 {
-    bank.reclaim(work);
+    bank.reclaim(kept);
     pace.memo.retain_held(bank);
-    pace.due = next_due(bank.cells(), pace.every, pace.least);
+    pace.due.restart(bank.cells());
     pace.constants.clear();
 }
 
@@ -118,16 +127,21 @@ pub(crate) fn make_anyway<B: TermBank>(
     }
 }
 
-/// How many new cells are made at least before the next reclaim, however few are needed, where so
-/// many results are remembered: a reclaim forgets those that nothing else holds.
-pub(crate) fn least_pace(results: u32) -> u32 {
-    if results == 0 { 16_384 } else { 32_768 }
-}
-
-/// At how many cells the next reclaim is due, where so many are left: once as many new ones were
-/// made, within these bounds.
-pub(crate) fn next_due(cells: u32, every: u32, least: u32) -> u32 {
-    cells.saturating_add(every.min(cells.max(least)))
+/// A reclaim that is due is put off where results saved enough. Otherwise what is not needed is
+/// given back, but for the terms of the new results, which are left for as long again.
+#[inline(never)]
+fn reclaim_or_wait<B: TermBank>(bank: &mut B, work: &[Term], pace: &mut Pace)
+    requires { AllHeld (B.store bank.old) work.now }
+    ensures keeps { Keeps (B.store bank.old) (B.store bank.new) work.now }
+    ensures known { KeepsKnown (B.store bank.old) (B.store bank.new) pace.old pace.new }
+{
+    if pace.due.put_off() {
+        return;
+    }
+    match pace.memo.with_newest(bank, work) {
+        Some(kept) => reclaim(bank, &kept, pace),
+        None => reclaim(bank, work, pace),
+    }
 }
 
 /// Gives back what is not needed, where enough cells were made since the last time.
@@ -137,8 +151,8 @@ pub(crate) fn reclaim_if_due<B: TermBank>(bank: &mut B, work: &[Term], pace: &mu
     ensures keeps { Keeps (B.store bank.old) (B.store bank.new) work.now }
     ensures known { KeepsKnown (B.store bank.old) (B.store bank.new) pace.old pace.new }
 {
-    if bank.cells() >= pace.due {
-        reclaim(bank, work, pace);
+    if pace.due.is_at(bank.cells()) {
+        reclaim_or_wait(bank, work, pace);
     }
 }
 

@@ -1,25 +1,33 @@
 //! The engine: a bank, a specification, and what is evaluated over them.
 
-ghost use Rattle.std.specs.Prelude.{◌≡◌, ◌≢◌, ◌<◌, [], Some, Err, IfOk, Contains, length};
-ghost use Rattle.rx_term.specs.Tree.{Tree};
-ghost use Rattle.rx_term.specs.Store.{tree_at};
-ghost use Rattle.rx_term.specs.Steps.{Keeps};
-ghost use Rattle.std.specs.FinMap as map;
+ghost use Rattle.std.specs.Prelude.{◌≡◌, ◌≢◌, ◌<◌, ◌-◌, ◌∷◌, [], Some, Err, IfErr, IfOk, IsSome};
+ghost use Rattle.std.specs.Prelude.{Contains, length};
+ghost use Rattle.rx_term.specs.Tree.{Tree, Items, none};
+ghost use Rattle.rx_term.specs.Store.{tree_at, longer};
+ghost use Rattle.rx_term.specs.Steps.{Keeps, ProtectsOrRefuses, with_count};
+ghost use Rattle.rx_term.specs.Walks.{AllHeld, held_trees};
 ghost use Rattle.rec_sorts.specs.Linked.{HasMoreSymbols, AreLinked};
-ghost use Rattle.rec_engine.specs.Machine.{IsCode};
+ghost use Rattle.rec_sorts.specs.Lookup.{symbols};
+ghost use Rattle.rec_sorts.specs.Numbering.{arity_of};
+ghost use Rattle.rec_sorts.specs.Evaluation.{term_of};
+ghost use Rattle.rec_sorts.specs.Binding.{tree_of};
+ghost use Rattle.rec_match.specs.Next.{IsReady as IsMatcherOf};
+ghost use Rattle.rec_engine.specs.Machine.{IsCode, called};
 ghost use Rattle.rec_engine.specs.Constants.{KnowsNone};
 ghost use Rattle.rec_engine.specs.declared.cells.EngineFault.TheVariants.{Room};
 ghost use Rattle.rec_engine.specs.Cells.{RoomOnly};
 ghost use Rattle.rec_engine.specs.Engine.{AreInRange, SameEngine, IsGiven, eval_tree, IsOutcome};
-ghost use Rattle.rec_engine.specs.Engine.{IsNormalised, IsKept, RoomOnlyFor};
+ghost use Rattle.rec_engine.specs.Engine.{IsNormalised, IsKept, LetsGo, RemembersNothing, RoomOnlyFor};
+ghost use Rattle.rec_engine.specs.Engine.{IsCallOutcome, Spells};
 
 use crate::cells::EngineFault;
 use crate::code::Op;
 use crate::machine::Machine;
 use crate::parts::Parts;
 use crate::terms::make_term;
-use rec_sorts::Checked;
-use rx_term::{Term, TermBank};
+use rec_match::Matcher;
+use rec_sorts::{Checked, Letter};
+use rx_term::{RootsFull, Term, TermBank};
 use std::alloc::Global;
 use std::marker::Model;
 
@@ -75,24 +83,58 @@ impl<B: TermBank> Model for Engine<B> {
         × IsReady B.store e.machine };
 }
 
+/// After want of memory nothing is needed.
+fn let_go<T>(work: &mut Vec<Term>, answer: &Result<T, EngineFault>)
+    ensures { LetsGo answer.now work.old.items work.new.items }
+{
+    if let Err(EngineFault::Memory) = answer {
+        work.clear();
+    }
+}
+
 impl<B: TermBank + Drop> Engine<B> {
     /// An engine for a specification over a bank, which may get symbols and nothing else.
     pub fn new(
         alloc: Global,
         checked: Checked,
-        mut bank: B,
+        bank: B,
         options: Options,
     ) -> Result<Engine<B>, EngineFault>
         requires { AreInRange options }
         ensures spec { IfOk result (λ e. e.spec ≡ checked.spec) }
         ensures options { IfOk result (λ e. e.options ≡ options) }
         ensures store { IfOk result (λ e. HasMoreSymbols (B.store bank) (B.store e.bank)) }
+        ensures memo { IfOk result (λ e. RemembersNothing options.memo e.memo) }
         ensures work { IfOk result (λ e. e.work ≡ []) }
         ensures fault { Err Room ≢ result }
     {
+        match Engine::over(alloc, checked, bank, options) {
+            Ok(engine) => Ok(engine),
+            Err(_) => Err(EngineFault::Memory),
+        }
+    }
+}
+
+impl<B: TermBank> Engine<B> {
+    /// The same for a caller who wants the bank back: the error is want of memory, and hands back
+    /// the bank, which may have got symbols and nothing else.
+    pub fn over(
+        alloc: Global,
+        checked: Checked,
+        mut bank: B,
+        options: Options,
+    ) -> Result<Engine<B>, B>
+        requires { AreInRange options }
+        ensures spec { IfOk result (λ e. e.spec ≡ checked.spec) }
+        ensures options { IfOk result (λ e. e.options ≡ options) }
+        ensures store { IfOk result (λ e. HasMoreSymbols (B.store bank) (B.store e.bank)) }
+        ensures memo { IfOk result (λ e. RemembersNothing options.memo e.memo) }
+        ensures work { IfOk result (λ e. e.work ≡ []) }
+        ensures refused { IfErr result (λ b. HasMoreSymbols (B.store bank) (B.store b)) }
+    {
         match Parts::find(alloc, &checked, &mut bank, options) {
             Ok(parts) => Ok(Engine::assembled(alloc, checked, bank, options, parts)),
-            Err(_) => Err(EngineFault::Memory),
+            Err(_) => Err(bank),
         }
     }
 
@@ -108,10 +150,11 @@ impl<B: TermBank + Drop> Engine<B> {
         requires linked { AreLinked checked.spec (B.store bank) parts.code.value.links }
         requires terms { parts.terms ≡ length checked.spec.terms }
         requires constants { KnowsNone parts.state.pace.constants }
-        requires memo { parts.state.pace.memo.map ≡ map.empty }
+        requires memo { RemembersNothing options.memo parts.state.pace.memo }
         ensures spec { result.spec ≡ checked.spec }
         ensures options { result.options ≡ options }
         ensures store { B.store result.bank ≡ B.store bank }
+        ensures memo { RemembersNothing options.memo result.memo }
         ensures work { result.work ≡ [] }
     {
         let machine = Machine {
@@ -128,9 +171,32 @@ impl<B: TermBank + Drop> Engine<B> {
             found: Vec::new(alloc),
         }
     }
-}
 
-impl<B: TermBank> Engine<B> {
+    /// The bank, and what the last call of `eval_term` or `normalise` needed of it.
+    pub fn into_parts(self) -> (B, Vec<Term>)
+        ensures bank { result.0 ≡ self.bank }
+        ensures work { result.1.items ≡ self.work }
+    {
+        let Engine {
+            machine,
+            options: _,
+            terms: _,
+            found,
+        } = self;
+        drop(found);
+        let Machine {
+            checked,
+            bank,
+            code,
+            state,
+            work,
+        } = machine;
+        drop(checked);
+        drop(code);
+        drop(state);
+        (bank, work)
+    }
+
     /// How many terms to evaluate the specification has.
     pub fn eval_terms(&self) -> u32
         ensures { result ≡ length self.now.spec.terms }
@@ -147,20 +213,77 @@ impl<B: TermBank> Engine<B> {
             (λ t. tree_at (B.store self.new.bank) t ≡ eval_tree self.new.spec i) }
         ensures given { IfOk result (IsGiven self.new.spec (B.store self.new.bank)) }
         ensures kept { IfOk result (Contains self.new.work) }
+        ensures held { AllHeld (B.store self.new.bank) self.new.work }
         ensures room { RoomOnlyFor (B.store self.new.bank) self.new.memo
             (eval_tree self.new.spec i) result }
+        ensures needed { RoomOnly (B.store self.new.bank) self.new.work self.new.memo result }
     {
         let machine = &mut self.machine;
         let checked = &machine.checked;
         let letters = &checked.terms()[i as usize];
-        make_term(
+        let made = make_term(
             checked,
             &mut machine.bank,
             &machine.code.links,
             &mut machine.state.pace,
             &mut machine.work,
             letters,
-        )
+        );
+        let_go(&mut machine.work, &made);
+        made
+    }
+
+    /// The term of some numbered words, as `check_terms` and `term_letters` give them for a term
+    /// that keeps the rules; it has no annotations.
+    pub fn given_term(&mut self, letters: &[Letter]) -> Result<Term, EngineFault>
+        requires { (u : Tree) × Spells self.old.spec letters.now u }
+        ensures same { SameEngine self.old self.new }
+        ensures keeps { Keeps (B.store self.old.bank) (B.store self.new.bank) [] }
+        ensures term { IfOk result (λ t. (u : Tree) → Spells self.old.spec letters.now u
+            → tree_at (B.store self.new.bank) t ≡ Some (tree_of (term_of u))) }
+        ensures given { IfOk result (IsGiven self.new.spec (B.store self.new.bank)) }
+        ensures kept { IfOk result (Contains self.new.work) }
+        ensures held { AllHeld (B.store self.new.bank) self.new.work }
+        ensures room { (u : Tree) → Spells self.old.spec letters.now u
+            → RoomOnlyFor (B.store self.new.bank) self.new.memo (Some (tree_of (term_of u)))
+            result }
+        ensures needed { RoomOnly (B.store self.new.bank) self.new.work self.new.memo result }
+    {
+        let machine = &mut self.machine;
+        let made = make_term(
+            &machine.checked,
+            &mut machine.bank,
+            &machine.code.links,
+            &mut machine.state.pace,
+            &mut machine.work,
+            letters,
+        );
+        let_go(&mut machine.work, &made);
+        made
+    }
+
+    /// Counts a term as a root once more, so that each later call keeps it.
+    pub fn protect(&mut self, t: Term) -> Result<(), RootsFull>
+        requires { IsSome (tree_at (B.store self.old.bank) t) }
+        ensures same { SameEngine self.old self.new }
+        ensures memo { self.new.memo ≡ self.old.memo }
+        ensures work { self.new.work ≡ self.old.work }
+        ensures roots { ProtectsOrRefuses (B.store self.old.bank) (B.store self.new.bank) t
+            result }
+    {
+        self.machine.bank.protect(t)
+    }
+
+    /// Counts a term as a root once less.
+    pub fn unprotect(&mut self, t: Term)
+        requires { 0 < (B.store self.old.bank).roots t.0 }
+        ensures same { SameEngine self.old self.new }
+        ensures memo { self.new.memo ≡ self.old.memo }
+        ensures work { self.new.work ≡ self.old.work }
+        ensures roots { B.store self.new.bank ≡ with_count (B.store self.old.bank) t
+            ((B.store self.old.bank).roots t.0 - 1) }
+    {
+        self.machine.bank.unprotect(t)
     }
 
     /// What a term comes to within `n` steps; its value has the annotations of the term.
@@ -175,9 +298,89 @@ impl<B: TermBank> Engine<B> {
             (λ o. (u : Tree) → tree_at (B.store self.old.bank) t ≡ Some u
             → IsNormalised self.new.spec (B.store self.new.bank) n u o) }
         ensures kept { IfOk result (IsKept self.new.work) }
+        ensures held { AllHeld (B.store self.new.bank) self.new.work }
         ensures room { RoomOnly (B.store self.new.bank) self.new.work self.new.memo result }
     {
-        self.machine.normalise(&mut self.found, t, n)
+        let outcome = self.machine.normalise(&mut self.found, t, n);
+        let_go(&mut self.machine.work, &outcome);
+        outcome
+    }
+
+    /// What the call of a symbol on values comes to within `n` steps; the values are not evaluated
+    /// once more. Beside it a reference is kept.
+    pub fn call(
+        &mut self,
+        kept: Term,
+        symbol: u32,
+        values: &[Term],
+        n: u64,
+    ) -> Result<Outcome, EngineFault>
+        requires kept { IsSome (tree_at (B.store self.old.bank) kept) }
+        requires values { AllHeld (B.store self.old.bank) values.now }
+        requires symbol { symbol < length (symbols self.old.spec) }
+        requires count { length values.now ≡ arity_of self.old.spec symbol }
+        ensures same { SameEngine self.old self.new }
+        ensures keeps { Keeps (B.store self.old.bank) (B.store self.new.bank) (kept ∷ []) }
+        ensures outcome { IfOk result (IsCallOutcome self.old.spec (B.store self.new.bank) n
+            (called self.old.spec symbol (held_trees (B.store self.old.bank) values.now))) }
+        ensures room { RoomOnly (B.store self.new.bank) self.new.work self.new.memo result }
+    {
+        self.machine.call_values(kept, symbol, values, n)
+    }
+
+    /// The application of a symbol to values, of which no rule is asked. Beside it a reference is
+    /// kept.
+    pub fn apply(&mut self, kept: Term, symbol: u32, values: &[Term]) -> Result<Term, EngineFault>
+        requires kept { IsSome (tree_at (B.store self.old.bank) kept) }
+        requires values { AllHeld (B.store self.old.bank) values.now }
+        requires symbol { symbol < length (symbols self.old.spec) }
+        requires count { length values.now ≡ arity_of self.old.spec symbol }
+        ensures same { SameEngine self.old self.new }
+        ensures keeps { Keeps (B.store self.old.bank) (B.store self.new.bank) (kept ∷ []) }
+        ensures applied { IfOk result (λ t. tree_at (B.store self.new.bank) t
+            ≡ Some (called self.old.spec symbol
+            (held_trees (B.store self.old.bank) values.now))) }
+        ensures room { RoomOnly (B.store self.new.bank) self.new.work self.new.memo result }
+    {
+        self.machine.apply_values(kept, symbol, values)
+    }
+
+    /// The empty list, which the next call need not keep.
+    pub fn nil(&mut self) -> Result<Term, EngineFault>
+        ensures same { SameEngine self.old self.new }
+        ensures keeps { Keeps (B.store self.old.bank) (B.store self.new.bank) [] }
+        ensures empty { IfOk result
+            (λ t. tree_at (B.store self.new.bank) t ≡ Some (Items none none)) }
+        ensures room { RoomOnly (B.store self.new.bank) self.new.work self.new.memo result }
+    {
+        self.machine.nil()
+    }
+
+    /// The list of a reference and of what a list holds; both are kept.
+    pub fn hold(&mut self, t: Term, list: Term) -> Result<Term, EngineFault>
+        requires longer { IsSome (longer (tree_at (B.store self.old.bank) t)
+            (tree_at (B.store self.old.bank) list)) }
+        ensures same { SameEngine self.old self.new }
+        ensures keeps { Keeps (B.store self.old.bank) (B.store self.new.bank) (t ∷ list ∷ []) }
+        ensures held { IfOk result (λ r. tree_at (B.store self.new.bank) r
+            ≡ longer (tree_at (B.store self.old.bank) t) (tree_at (B.store self.old.bank) list)) }
+        ensures room { RoomOnly (B.store self.new.bank) self.new.work self.new.memo result }
+    {
+        self.machine.hold(t, list)
+    }
+
+    /// Which rule matches.
+    pub fn matcher(&self) -> &Matcher
+        ensures { IsMatcherOf self.now.spec (B.store self.now.bank) result.now }
+    {
+        &self.machine.code.matcher
+    }
+
+    /// The specification.
+    pub fn checked(&self) -> &Checked
+        ensures { result.now.spec ≡ self.now.spec }
+    {
+        &self.machine.checked
     }
 
     /// The bank.

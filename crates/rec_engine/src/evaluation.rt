@@ -29,6 +29,7 @@ impl<B: TermBank> Machine<B> {
     /// What the term `t` comes to within `n` steps; its code begins at `pc`.
     fn evaluate(&mut self, pc: usize, t: Term, n: u64) -> Result<Reached, EngineFault>
         requires ready { IsReady B.store self.old }
+        requires idle { self.old.work.items ≡ [] }
         requires held { IsSome (tree_at (B.store self.old.bank) t) }
         requires own { (u : Syntax.Term)
             × IsTermCode self.old.checked.spec u (drop pc self.old.code.ops.items) }
@@ -40,7 +41,6 @@ impl<B: TermBank> Machine<B> {
         ensures stands { IfOk result (StandsAbove self.new.work.items t) }
         ensures room { RoomOnlyIn B.store self.new result }
     {
-        self.work.clear();
         push(&mut self.work, t)?;
         let empty = push_nil(&mut self.bank, &mut self.work, &mut self.state.pace)?;
         self.state.frames.clear();
@@ -68,6 +68,8 @@ impl<B: TermBank> Machine<B> {
         ensures annotated { IfOk result
             (HasNotes (B.store self.old.bank) (B.store self.new.bank) t value) }
         ensures kept { IfOk result (Contains self.new.work.items) }
+        ensures all_held { IfOk result
+            (λ r. AllHeld (B.store self.new.bank) self.new.work.items) }
         ensures room { RoomOnlyIn B.store self.new result }
     {
         let Some(anns) = self.bank.anns(t) else {
@@ -96,8 +98,10 @@ impl<B: TermBank> Machine<B> {
         ensures outcome { IfOk result (λ o. (u : Tree) → tree_at (B.store self.old.bank) t ≡ Some u
             → IsOutcome self.old.checked.spec (B.store self.new.bank) n u o) }
         ensures kept { IfOk result (IsKept self.new.work.items) }
+        ensures held { IfOk result (λ o. AllHeld (B.store self.new.bank) self.new.work.items) }
         ensures room { RoomOnlyIn B.store self.new result }
     {
+        self.work.clear();
         let pc = self.code.ops.len();
         let stack = &mut self.state.pending;
         match load(

@@ -7,6 +7,9 @@ use rec_memo::{Seen, Tally, fingerprint};
 use rx_term::{Symbol, Term};
 use std::alloc::{AllocError, Global};
 
+/// How many fingerprints of calls are kept: a table that stays in the processor's own memory.
+const PRINTS: u32 = 16_384;
+
 /// Which calls were seen before, and for each symbol what asking for its calls saved.
 #[derive(Drop)]
 pub(crate) struct Hints {
@@ -19,7 +22,7 @@ impl Hints {
     pub(crate) fn new(alloc: Global, symbols: usize, entries: u32) -> Result<Hints, AllocError>
         requires { entries ≤ 1048576 }
     {
-        let seen = Seen::new(alloc, entries)?;
+        let seen = Seen::new(alloc, entries.min(PRINTS))?;
         let mut tallies = Vec::new(alloc);
         if entries > 0 {
             for _ in 0..symbols {

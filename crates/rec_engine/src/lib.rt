@@ -2,10 +2,12 @@
 #![tactic(auto)]
 
 mod building;
+mod calls;
 mod cells;
 mod code;
 mod compile;
 mod constants;
+mod due;
 mod engine;
 mod evaluation;
 mod given;

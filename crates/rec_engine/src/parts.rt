@@ -1,15 +1,15 @@
 //! What an engine has besides its specification and its bank.
 
 ghost use Rattle.std.specs.Prelude.{◌≡◌, ◌≤◌, IfOk, length};
-ghost use Rattle.std.specs.FinMap as map;
 ghost use Rattle.rec_sorts.specs.Linked.{HasMoreSymbols, AreLinked};
 ghost use Rattle.rec_engine.specs.Constants.{KnowsNone};
-ghost use Rattle.rec_engine.specs.Engine.{AreInRange};
+ghost use Rattle.rec_engine.specs.Engine.{AreInRange, RemembersNothing};
 ghost use Rattle.rec_engine.specs.Machine.{IsCode};
 
-use crate::cells::{Pace, least_pace, next_due};
+use crate::cells::Pace;
 use crate::code::Code;
 use crate::constants::Constants;
+use crate::due::Due;
 use crate::engine::Options;
 use crate::hints::Hints;
 use crate::machine::State;
@@ -59,17 +59,13 @@ fn first_state<B: TermBank>(
 ) -> Result<State, AllocError>
     requires { AreInRange options }
     ensures constants { IfOk result (λ s. KnowsNone s.pace.constants) }
-    ensures memo { IfOk result (λ s. s.pace.memo.map ≡ map.empty) }
+    ensures memo { IfOk result (λ s. RemembersNothing options.memo s.pace.memo) }
 {
     let constants = Constants::new(alloc, code.ops.len())?;
     let memo = Memo::new(alloc, options.memo)?;
     let hints = Hints::new(alloc, checked.symbols() as usize, options.memo)?;
-    let every = options.reclaim_every;
-    let least = least_pace(options.memo);
     let pace = Pace {
-        every,
-        least,
-        due: next_due(bank.cells(), every, least),
+        due: Due::new(bank.cells(), options.reclaim_every),
         constants,
         memo,
     };
@@ -91,7 +87,7 @@ impl Parts {
             (λ p. AreLinked checked.now.spec (B.store bank.new) p.code.value.links) }
         ensures terms { IfOk result (λ p. p.terms ≡ length checked.now.spec.terms) }
         ensures constants { IfOk result (λ p. KnowsNone p.state.pace.constants) }
-        ensures memo { IfOk result (λ p. p.state.pace.memo.map ≡ map.empty) }
+        ensures memo { IfOk result (λ p. RemembersNothing options.memo p.state.pace.memo) }
         ensures same { HasMoreSymbols (B.store bank.old) (B.store bank.new) }
     {
         let Ok(terms) = u32::try_from(checked.terms().len()) else {

@@ -222,6 +222,10 @@ module _ (y : Spec) (w : Store) (m : Matcher) (ready : IsReady y w m) (u : Term)
       let f : HasFound y w m (name_of y (Symbol k)) at work found i = finds-for found (Some i) h in
       record { values = f.values; first = skipped-to ∙ f.first; bound = ap (held_trees w) e ∙ f.bound }
 
+-- a call's arguments are as many as it has
+pub arguments-long : (w : Store) (args : Trees) (n : ℕ) (work : List Term) → count_of args ≡ n → held_trees w work ≡ to_list args → n ≡ length work
+arguments-long w args n work en are = sym en ∙ sym (length-to_list args) ∙ ap length (sym are) ∙ length-map work (held_tree w)
+
 pub can-find-there : (w : Store) (m : Matcher) (ready : AreReady w m) (u : Term) (k n from at : ℕ) (args : Trees) → IsCall ready.spec w u k args → count_of args ≡ n → Reaches m k from at → (work : List Term) → held_trees w work ≡ to_list args → CanFind w m k n at work
 can-find-there w m ready u k n from at args call en reached work are = record {
   spec = ready.spec;
@@ -232,6 +236,6 @@ can-find-there w m ready u k n from at args call en reached work are = record {
   head = (reached ready.spec w ready.ready call.declared).1;
   counted = sym en ∙ call.counted;
   long =
-      let c : n ≡ length work = sym en ∙ sym (length-to_list args) ∙ ap length (sym are) ∙ length-map work (held_tree w) in
+      let c = arguments-long w args n work en are in
       omega (arith, c);
 }

@@ -18,6 +18,7 @@ pub mod RootLemmas
 pub mod ForestLemmas
 pub mod TurnLemmas
 pub mod RunLemmas
+pub mod SettleLemmas
 pub mod GrowthLemmas
 pub mod PartLemmas
 pub mod ExtensionLemmas

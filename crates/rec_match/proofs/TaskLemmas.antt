@@ -2,10 +2,11 @@
 use Rattle.std.proofs.Common.{refl, sym, ap, subst, arith, ◌∙◌, inl, inr}
 use Rattle.std.proofs.lemmas.Bool.{cases_eq, eqb-true, eq-eqb}
 use Rattle.std.proofs.lemmas.List.{append-nil, append_assoc, length-append, length-set, get_or-set_same, get_or-set_other, take_all}
-use Rattle.std.specs.Prelude.{ℕ, suc, ◌+◌, ◌-◌, ◌<◌, ◌≤◌, ◌≡◌, ◌≢◌, ◌⊎◌, Bool, true, false, List, [], ◌∷◌, ◌++◌, Some, length, get_or, set, nat_eq, slice_range, take, drop}
+use Rattle.std.specs.Prelude.{ℕ, suc, ◌+◌, ◌-◌, ◌<◌, ◌≤◌, ◌≡◌, ◌≢◌, ◌⊎◌, Bool, true, false, List, [], ◌∷◌, ◌++◌, Some, All, length, get_or, set, nat_eq, slice_range, take, drop}
 use Rattle.rec_syntax.specs.Syntax.{Spec}
 use Rattle.rec_sorts.specs.Laws.{Every}
 use Rattle.rec_match.specs.Rows.{Row}
+use Rattle.rec_match.specs.Forests.{IsNew}
 use Rattle.rec_match.specs.Growing.{State, Within, GrowsTry, Grows, Extends}
 use Rattle.rec_match.specs.Leaves.{code_places}
 use Rattle.rec_match.specs.Parts.{Coded, AreRows}
@@ -245,8 +246,9 @@ module _ (y : Spec) (ns : List ℕ) (ps : Parts) where
           let old : u n ≡ s n = x.goes.extends.states n grow.tasks.0.there in
           let next_is : u next ≡ z = x.here in
           let longer : length h.places.items ≡ length g.places.items + length pl = ap length w.places ∙ length-append g.places.items pl in
-          let long : length h.nodes.items ≡ length g.nodes.items = ap length w.nodes ∙ length-set g.nodes.items n (Try rule (length g.places.items) (length g.places.items + length pl) next) in
-          let tried : GrowsTry y h u n rule (length g.places.items) (length g.places.items + length pl) next = record {
+          let long : length h.nodes.items ≡ length g.nodes.items = ap length w.nodes ∙ length-set g.nodes.items n (Try rule (length g.places.items) (length g.places.items + length pl) next w.linear) in
+          let sliced : slice_range h.places.items (length g.places.items) (length g.places.items + length pl) ≡ pl = ap (λ qs. slice_range qs (length g.places.items) (length g.places.items + length pl)) w.places ∙ slice_seam g.places.items pl in
+          let tried : GrowsTry y h u n rule (length g.places.items) (length g.places.items + length pl) next w.linear = record {
             follows = record { later = (let q = a.node_is in let lt = grow.tasks.0.there in omega (arith, q, lt)); there = (let q = x.there in omega (arith, q, long)) };
             cells = b.cells;
             here = old ∙ whole b bs e left ∙ ap (λ (v : State). with_row b v) (sym next_is);
@@ -254,10 +256,11 @@ module _ (y : Spec) (ns : List ℕ) (ps : Parts) where
             within = omega (arith, longer);
             variables = is.0;
             registers = subst (λ (v : State). Within v.width b.cells) (sym next_is) left.registers.0;
-            places = ap (λ qs. slice_range qs (length g.places.items) (length g.places.items + length pl)) w.places ∙ slice_seam g.places.items pl ∙ sym is.1;
+            places = sliced ∙ sym is.1;
+            are_new = λ e. subst (All IsNew) (sym sliced) (w.are_new e);
           } in
           goes_more f g h (t ∷ ts) (t ∷ us) us s x.goes
-          (goes_written g h u t us (Try rule (length g.places.items) (length g.places.items + length pl) next) x.goes.growing
+          (goes_written g h u t us (Try rule (length g.places.items) (length g.places.items + length pl) next w.linear) x.goes.growing
           (record { nodes = (let m : length g.nodes.items ≤ length h.nodes.items = omega (arith, long) in m); new_places = pl; places = w.places; new_children = []; children = w.children ∙ sym (append-nil g.children.items); states = λ m lt. refl })
           w.nodes tried)
         where

@@ -1,6 +1,6 @@
 -- What matching trees in flat form find.
 use Rattle.std.specs.Option.{option_map}
-use Rattle.std.specs.Prelude.{slice_range, ◌≢◌, ◌⊎◌, ℕ, ◌≡◌, ◌+◌, ◌-◌, ◌<◌, ◌≤◌, suc, ◌&&◌, Bool, true, false, List, [], ◌∷◌, ◌++◌, Option, Some, None, length, drop, get_or, nat_eq, nat_le, nat_lt, if◌then◌else◌}
+use Rattle.std.specs.Prelude.{slice_range, ◌≢◌, ◌⊎◌, ℕ, ◌≡◌, ◌+◌, ◌-◌, ◌<◌, ◌≤◌, suc, ◌&&◌, Bool, true, false, List, [], ◌∷◌, ◌++◌, Option, Some, None, All, length, drop, map, get_or, nat_eq, nat_le, nat_lt, if◌then◌else◌}
 use Rattle.rx_term.specs.Tree.{Tree, Trees, Items, none, count_of, to_list, from_list, tree_eq}
 use Rattle.rx_term.specs.Store.{Store, tree_at, signature_of}
 use Rattle.rx_term.specs.Walks.{AllHeld, held_tree, held_trees}
@@ -19,6 +19,8 @@ use Rattle.rec_match.specs.declared.forest.Node.{Node}
 use Rattle.rec_match.specs.declared.forest.Node.TheVariants.{Fail, Try, Switch}
 use Rattle.rec_match.specs.declared.forest.Place.{Place}
 use Rattle.rec_match.specs.declared.forest.Place.TheVariants.{First, Again}
+use Rattle.rec_match.specs.declared.forest.Values.{Values}
+use Rattle.rec_match.specs.declared.forest.Values.TheVariants.{OnTop, InRegisters}
 use Rattle.rec_match.specs.declared.forest.Child.{Child}
 
 -- places are within so many registers, and ask for values that are there already
@@ -26,6 +28,23 @@ abbrev pub ArePlaces : ℕ → ℕ → List Place → Type 0
 ArePlaces n k [] = Unit {0}
 ArePlaces n k (First r ∷ ps) = (r < n) × ArePlaces n (suc k) ps
 ArePlaces n k (Again r v ∷ ps) = (r < n) × (v < k) × ArePlaces n k ps
+
+-- the register that a place names
+abbrev pub register_of : Place → ℕ
+register_of (First r) = r
+register_of (Again r v) = r
+
+-- it is there, where the registers begin at a place of some references; and what it holds
+abbrev pub IsWithin : ℕ → List Term → Place → Type 0
+IsWithin first work p = register_of p < length (drop first work)
+
+abbrev pub value_in : ℕ → List Term → Place → Term
+value_in first work p = get_or (drop first work) (register_of p) (record { 0 = 0 })
+
+-- a place of a value that is new
+abbrev pub IsNew : Place → Type 0
+IsNew (First r) = Unit {0}
+IsNew (Again r v) = ⊥
 
 -- the values at places, after those that there are; none where two that have to be the same are not
 abbrev pub filled : {X : Type 0} → (X → X → Bool) → X → List Place → List X → List X
@@ -156,12 +175,14 @@ pub record Follows (f : Forest) (m : Reading) (n next : ℕ) : Type 0 where
   pub there : next < length f.nodes.items
 
 -- a rule, and what comes after it
-pub record FitsTry (f : Forest) (m : Reading) (n rule from to next : ℕ) : Type 0 where
+pub record FitsTry (f : Forest) (m : Reading) (n rule from to next : ℕ) (linear : Bool)
+    : Type 0 where
   pub follows : Follows f m n next
   pub width : m.width next ≡ m.width n
   pub ordered : from ≤ to
   pub within : to ≤ length f.places.items
   pub places : ArePlaces (m.width n) 0 (slice_range f.places.items from to)
+  pub are_new : linear ≡ true → All IsNew (slice_range f.places.items from to)
   pub finds : (least : ℕ) (us : List Tree) → length us ≡ m.width n
       → m.finds n least us
       ≡ or_else (found_at least rule (trees_filled (slice_range f.places.items from to) us []))
@@ -188,7 +209,7 @@ pub record FitsSwitch (y : Spec) (ns : List ℕ) (f : Forest) (m : Reading) (n r
 -- what a node finds
 abbrev pub Fits : Spec → List ℕ → Forest → Reading → ℕ → Node → Type 0
 Fits y ns f m n Fail = (least : ℕ) (us : List Tree) → m.finds n least us ≡ None
-Fits y ns f m n (Try rule from to next) = FitsTry f m n rule from to next
+Fits y ns f m n (Try rule from to next linear) = FitsTry f m n rule from to next linear
 Fits y ns f m n (Switch register low from span other) = FitsSwitch y ns f m n register other
     (record { children = f.children.items; low = low; from = from; span = span })
 
@@ -242,11 +263,23 @@ Runs w f k least args bind found = (y : Spec) (ns : List ℕ) → AreNumbers y w
     → k < length (symbols y) → length args ≡ arity_of y k
     → Finds y w (name_of y (Symbol k)) least args bind found
 
+-- the values of a rule that was found, where the registers begin at a place of some references
+abbrev pub values_among : Forest → ℕ → List Term → Values → List Term
+values_among f first work (OnTop k) = drop k work
+values_among f first work (InRegisters from to) =
+    map (value_in first work) (slice_range f.places.items from to)
+
+-- they stand there, and those on top are not among the first so many of the references
+abbrev pub StandAbove : Forest → ℕ → ℕ → List Term → Values → Type 0
+StandAbove f first n work (OnTop k) = (n ≤ k) × (k ≤ length work)
+StandAbove f first n work (InRegisters from to) = (n ≤ length work) × (from ≤ to)
+    × (to ≤ length f.places.items)
+    × All (IsWithin first work) (slice_range f.places.items from to)
+
 -- what a run finds for the references from one on, and leaves on top
 abbrev pub RunsOn : Store → Forest → ℕ → ℕ → ℕ → List Term → List Term → Option Hit → Type 0
-RunsOn w f k least first old new (Some found) = (length old ≤ found.values)
-    × (found.values ≤ length new)
-    × Runs w f k least (drop first old) (drop found.values new) (Some found.rule)
+RunsOn w f k least first old new (Some found) = StandAbove f first (length old) new found.values
+    × Runs w f k least (drop first old) (values_among f first new found.values) (Some found.rule)
 RunsOn w f k least first old new None = Runs w f k least (drop first old) [] None
 
 -- where a run stands: what the root finds, the node finds

@@ -17,7 +17,7 @@ use Rattle.rec_sorts.specs.declared.letters.Letter.{Letter}
 use Rattle.rec_sorts.specs.declared.letters.Meaning.TheVariants.{Symbol, Variable}
 use Rattle.rec_match.specs.Held.{stacked}
 use Rattle.rec_match.specs.Asking.{asked}
-use Rattle.rec_match.specs.Forests.{IsForest}
+use Rattle.rec_match.specs.Forests.{IsForest, StandAbove, values_among}
 use Rattle.rec_match.specs.Ordered.{AreOrdered, numbers_in}
 use Rattle.rec_match.specs.Rows.{values_of}
 use Rattle.rec_match.specs.Tasks.{numbers_of}
@@ -220,11 +220,13 @@ FindsFor w m at work bind found = (y : Spec) (ss : List bank.Symbol) (below args
     → work ≡ below ++ args → (at < length m.sides.items → count_at m at ≡ length args)
     → Finds y w m (name_of y (Symbol k)) at args bind found
 
--- what is found for the last of some references, and what is left of the list then
-abbrev pub FindsOn : Store → Matcher → ℕ → List Term → List Term → Option Hit → Type 0
-FindsOn w m at old new (Some found) = (length old ≤ found.values) × (found.values ≤ length new)
-    × FindsFor w m at old (drop found.values new) (Some found.rule)
-FindsOn w m at old new None = FindsFor w m at old [] None × (new ≡ old)
+-- what is found for the last of some references, which begin at a place, and what is left of the
+-- list then
+abbrev pub FindsOn : Store → Matcher → ℕ → ℕ → List Term → List Term → Option Hit → Type 0
+FindsOn w m first at old new (Some found) =
+    StandAbove m.forest first (length old) new found.values
+    × FindsFor w m at old (values_among m.forest first new found.values) (Some found.rule)
+FindsOn w m first at old new None = FindsFor w m at old [] None × (new ≡ old)
 
 -- what the tests answer of some references: they give the variables what the letters of the left
 -- side give them

@@ -1,5 +1,5 @@
 -- Nodes of growing matching trees that wait for what is left to ask there.
-use Rattle.std.specs.Prelude.{ℕ, ◌≡◌, ◌≢◌, ◌+◌, ◌<◌, ◌≤◌, ◌⊎◌, Bool, true, false, List, [], ◌∷◌, ◌++◌, length, map, get_or, set, ◌-◌, Some}
+use Rattle.std.specs.Prelude.{ℕ, ◌≡◌, ◌≢◌, ◌+◌, ◌<◌, ◌≤◌, ◌⊎◌, Bool, true, false, List, [], ◌∷◌, ◌++◌, All, length, map, get_or, set, ◌-◌, Some}
 use Rattle.rx_term.specs.declared.Symbol as bank
 use Rattle.rec_syntax.specs.Syntax.{Spec}
 use Rattle.rec_sorts.specs.Lookup.{symbols}
@@ -7,7 +7,7 @@ use Rattle.rec_sorts.specs.Laws.{Every}
 use Rattle.rec_sorts.specs.Numbering.{name_of, arity_of}
 use Rattle.rec_sorts.specs.declared.letters.Meaning.TheVariants.{Symbol}
 use Rattle.rec_match.specs.Rows.{Row, opened_cells, changed}
-use Rattle.rec_match.specs.Forests.{no_child, number_at}
+use Rattle.rec_match.specs.Forests.{no_child, number_at, IsNew}
 use Rattle.rec_match.specs.Growing.{State, AllWithin, Grows, Extends}
 use Rattle.rec_match.specs.Leaves.{code_places}
 use Rattle.rec_match.specs.Parts.{part_at, Coded, coded_of, AreDistinct, AreDistinctVariables, AreRows}
@@ -137,9 +137,11 @@ pub record Adds (f : Forest) (ts : List Task) (g : Forest) (us : List Task) (wid
 
 -- a rule stands at a node, with places
 pub record WritesTry (f g : Forest) (n rule : ℕ) (pl : List Place) (next : ℕ) : Type 0 where
+  pub linear : Bool
+  pub are_new : linear ≡ true → All IsNew pl
   pub nodes : g.nodes.items
       ≡ set f.nodes.items n
-      (Try rule (length f.places.items) (length f.places.items + length pl) next)
+      (Try rule (length f.places.items) (length f.places.items + length pl) next linear)
   pub places : g.places.items ≡ f.places.items ++ pl
   pub children : g.children.items ≡ f.children.items
 

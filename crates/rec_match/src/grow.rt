@@ -3,7 +3,7 @@
 ghost use Rattle.std.specs.Prelude.{◌≡◌, ◌+◌, ◌<◌, ◌≤◌, ◌^◌, ◌∷◌, [], All, IfOk, IfSome, length};
 ghost use Rattle.std.specs.Prelude.{map, get_or, true, false};
 ghost use Rattle.rec_sorts.specs.Lookup.{symbols};
-ghost use Rattle.rec_match.specs.Forests.{no_child, number_at};
+ghost use Rattle.rec_match.specs.Forests.{no_child, number_at, IsNew};
 ghost use Rattle.rec_match.specs.Marking.{AreMarked, HasMarks};
 ghost use Rattle.rec_match.specs.Parts.{coded_of, IsCode};
 ghost use Rattle.rec_match.specs.Shares.{symbols_of, AreShares};
@@ -66,6 +66,31 @@ pub struct Work {
     pub fuel: u64,
 }
 
+/// Whether a value is new.
+fn is_new(place: Place) -> bool
+    ensures { result ≡ true → IsNew place }
+{
+    match place {
+        Place::First(_) => true,
+        Place::Again {
+            register: _,
+            value: _,
+        } => false,
+    }
+}
+
+/// Whether each value is new.
+fn are_new(places: &[Place]) -> bool
+    ensures { result ≡ true → All IsNew places.now }
+{
+    for place in places {
+        if !is_new(*place) {
+            return false;
+        }
+    }
+    true
+}
+
 impl Forest {
     /// A rule at a node, with the places of its values and the node that comes next.
     fn write_try(
@@ -90,6 +115,7 @@ impl Forest {
             from,
             to,
             next,
+            linear: are_new(places),
         };
         Ok(())
     }
@@ -110,9 +136,7 @@ impl Forest {
         let Ok(from) = u32::try_from(self.children.len()) else {
             return Err(AllocError);
         };
-        let Ok(span) = u32::try_from(window.len()) else {
-            return Err(AllocError);
-        };
+        let span = window.len() as u64;
         self.children.extend_from_slice(window)?;
         self.nodes[node as usize] = Node::Switch {
             register,

@@ -13,12 +13,14 @@ mod parts;
 mod places;
 mod push;
 mod rows;
+mod settle;
 mod shares;
 mod trees;
 
-pub use forest::{Child, Forest, Hit, Node, Place};
+pub use forest::{Child, Forest, Hit, Node, Place, Values};
 pub use grow::{Grower, Pending, Work};
 pub use marks::Marks;
 pub use matcher::{LeftSide, Matcher, Test};
 pub use parts::{Code, CodeRow, Part, Parts};
 pub use places::Places;
+pub use settle::move_down;

@@ -2,13 +2,15 @@
 //! is no tree, the rules of the head are tried one by one.
 
 ghost use Rattle.std.specs.Prelude.{◌≡◌, ◌++◌, ◌∷◌, ◌-◌, ◌≤◌, [], IfOk, IsSome, All, length, drop};
+ghost use Rattle.std.specs.Prelude.{take};
 ghost use Rattle.rx_term.specs.Store.{tree_at};
 ghost use Rattle.rx_term.specs.Walks.{AllHeld};
-ghost use Rattle.rec_match.specs.Forests.{Extends};
+ghost use Rattle.rec_match.specs.Forests.{Extends, StandAbove, values_among};
 ghost use Rattle.rec_match.specs.Matching.{CanFind, FindsOn, Asks, Opens, Takes, CanAsk, Matches};
 
-use crate::forest::{Forest, Hit};
+use crate::forest::{Forest, Hit, Values};
 use crate::places::{push_all, push_at};
+use crate::settle::{move_down, settle};
 use rec_sorts::Links;
 use rx_term::{Kind, Symbol, Term, TermBank};
 use std::alloc::{AllocError, Global};
@@ -49,9 +51,9 @@ pub struct Matcher {
 
 impl Matcher {
     /// The first rule that matches, from one on and among those of a symbol, which is applied to
-    /// the last of some references, so many. The values of its variables are left on top of these,
-    /// in the order in which the variables first occur; registers of what was looked at may stand
-    /// between. Where there is no such rule, the references are as before.
+    /// the last of some references, so many. Registers of what was looked at are left on top of
+    /// these, and the values of its variables, in the order in which the variables first occur, are
+    /// there or on top of these. Where there is no such rule, the references are as before.
     #[inline(always)]
     pub fn find<B: TermBank>(
         &self,
@@ -65,8 +67,8 @@ impl Matcher {
     ) -> Result<Option<Hit>, AllocError>
         requires held { AllHeld (B.store bank.now) work.old.items }
         requires can { CanFind (B.store bank.now) self.now symbol count at work.old.items }
-        ensures finds { IfOk result
-            (FindsOn (B.store bank.now) self.now at work.old.items work.new.items) }
+        ensures finds { IfOk result (FindsOn (B.store bank.now) self.now
+            (length work.old.items - count) at work.old.items work.new.items) }
         ensures held { IfOk result (λ found. AllHeld (B.store bank.now) work.new.items) }
         ensures behind { Extends work.old.items work.new.items }
     {
@@ -92,8 +94,8 @@ impl Matcher {
     ) -> Result<Option<Hit>, AllocError>
         requires held { AllHeld (B.store bank.now) work.old.items }
         requires can { CanFind (B.store bank.now) self.now symbol count at work.old.items }
-        ensures finds { IfOk result
-            (FindsOn (B.store bank.now) self.now at work.old.items work.new.items) }
+        ensures finds { IfOk result (FindsOn (B.store bank.now) self.now
+            (length work.old.items - count) at work.old.items work.new.items) }
         ensures held { IfOk result (λ found. AllHeld (B.store bank.now) work.new.items) }
         ensures behind { Extends work.old.items work.new.items }
     {
@@ -101,13 +103,39 @@ impl Matcher {
         while (i as usize) < self.sides.len() {
             let side = &self.sides[i as usize];
             if matches(bank, &side.tests, work, count, pending, bind)? {
-                let values = work.len();
+                let values = Values::OnTop(work.len());
                 push_at(bind, &side.order, work)?;
                 return Ok(Some(Hit { rule: i, values }));
             }
             i = side.next;
         }
         Ok(None)
+    }
+
+    /// The values of a rule that was found come to stand from a place on, and what stood there
+    /// goes; the registers begin at a first place.
+    #[inline(always)]
+    pub fn settle(
+        &self,
+        values: Values,
+        first: usize,
+        to: usize,
+        work: &mut Vec<Term>,
+    ) -> Result<(), AllocError>
+        requires there { StandAbove self.now.forest first to work.old.items values }
+        ensures { IfOk result (λ u. work.new.items ≡ take to work.old.items
+            ++ values_among self.now.forest first work.old.items values) }
+    {
+        match values {
+            Values::OnTop(from) => {
+                move_down(work, to, from);
+                Ok(())
+            }
+            Values::InRegisters { from, to: end } => {
+                let places = &self.forest.places[from..end];
+                settle(places, first, to, work)
+            }
+        }
     }
 }
 

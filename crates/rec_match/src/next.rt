@@ -1,6 +1,6 @@
 //! The least rule that matches a term of a bank.
 
-ghost use Rattle.std.specs.Prelude.{◌≡◌, ◌<◌, [], length, IfOk, IfErr, IsSome, Some, None};
+ghost use Rattle.std.specs.Prelude.{◌≡◌, ◌<◌, ◌-◌, [], length, IfOk, IfErr, IsSome, Some, None};
 ghost use Rattle.rx_term.specs.Store.{tree_at};
 ghost use Rattle.rx_term.specs.Kinds.{HasAppl, HasAnns};
 ghost use Rattle.rx_term.specs.Walks.{AllHeld};
@@ -47,8 +47,8 @@ impl Matcher {
     ) -> Result<Option<Hit>, AllocError>
         requires held { AllHeld (B.store bank.now) work.old.items }
         requires can { CanFind (B.store bank.now) self.now symbol count at work.old.items }
-        ensures finds { IfOk result
-            (FindsOn (B.store bank.now) self.now at work.old.items work.new.items) }
+        ensures finds { IfOk result (FindsOn (B.store bank.now) self.now
+            (length work.old.items - count) at work.old.items work.new.items) }
     {
         let alloc = *work.allocator();
         let mut pending = Vec::new(alloc);
@@ -82,7 +82,8 @@ impl Matcher {
         let Some(hit) = self.find_once(bank, call.number, count, at, work)? else {
             return Ok(None);
         };
-        bind.extend_from_slice(&work[hit.values..])?;
+        self.settle(hit.values, 0, count as usize, work)?;
+        bind.extend_from_slice(&work[count as usize..])?;
         Ok(Some(hit.rule))
     }
 

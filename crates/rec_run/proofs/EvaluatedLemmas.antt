@@ -24,11 +24,12 @@ use Rattle.rec_sorts.specs.Linked.{HasMoreSymbols}
 use Rattle.rec_engine.specs.Engine.{EngineState, IsGiven, IsOutcome, SameEngine, eval_tree}
 use Rattle.rec_engine.specs.declared.engine.Outcome.{Outcome}
 use Rattle.rec_engine.specs.declared.engine.Outcome.TheVariants.{Value, Limit}
-use Rattle.rec_run.specs.EvaluatedLines.{FillsBank, ProtectsTerms, due_before, outcome_text, fault_after}
+use Rattle.rec_memo.specs.Pairs.{Pairs}
+use Rattle.rec_run.specs.EvaluatedLines.{LineLacks, ProtectsTerms, RunLacks, due_before, outcome_text, fault_after}
 use Rattle.rec_run.specs.GivenTerms.{HoldsTerms, given_at, given_text, item_at}
 use Rattle.rec_run.specs.Output.{steps_text}
 use Rattle.rec_run.specs.Reading.{line_text, evaluation_text, term_at, text_at}
-use Rattle.rec_run.specs.Run.{Reports, ReportsAfter, RoomFits, Stops, StopsAfter}
+use Rattle.rec_run.specs.Run.{Reports, ReportsAfter, Stops, StopsAfter}
 use Rattle.rec_run.specs.declared.ending.RunFault.{RunFault}
 use Rattle.rec_run.specs.declared.ending.RunFault.TheVariants as run
 use Rattle.rec_run.specs.declared.spec.lines.LineFault.{LineFault}
@@ -104,13 +105,14 @@ own-line y z w counted n i t same low here =
 
 -- ---- faults
 
-pub room_fits : (old new : Store) (f : LineFault) (lines : ℕ) (r : RunFault) → r ≡ fault_after f lines → IsSound new → new.cap ≡ old.cap → FillsBank new f → RoomFits old.cap r
-room_fits old new f lines r e sound same h = subst (RoomFits old.cap) (sym e) (fits f h)
+-- a line's want of cells is the run's
+pub line_lacks : (w : Store) (work : List Reference) (m : Pairs) (f : LineFault) (lines : ℕ) (r : RunFault) → r ≡ fault_after f lines → LineLacks w work m f → RunLacks w work m r
+line_lacks w work m f lines r e h = subst (RunLacks w work m) (sym e) (of f h)
   where
-    fits : (f : LineFault) → FillsBank new f → RoomFits old.cap (fault_after f lines)
-    fits Memory h = tt
-    fits Room h = record { bank = new; sound = sound; limit = same; full = h ∙ same }
-    fits Write h = tt
+    of : (f : LineFault) → LineLacks w work m f → RunLacks w work m (fault_after f lines)
+    of Memory h = tt
+    of Room h = h
+    of Write h = tt
 
 pub fault_after-same : (f : LineFault) (m n : ℕ) (r : RunFault) → r ≡ fault_after f m → m ≡ n → r ≡ fault_after f n
 fault_after-same f m n r e same = e ∙ ap (fault_after f) same

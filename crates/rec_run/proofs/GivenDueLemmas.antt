@@ -1,5 +1,5 @@
 -- From what was read of the text of terms to what is due for it.
-use Rattle.std.proofs.Common.{◌≡◌, ℕ, ◌+◌, List, Option, Some, None, Result, Ok, Err, IfErr, IfOk, IfSome, IsSome, OnOk, take, refl, sym, ap, subst, arith}
+use Rattle.std.proofs.Common.{◌≡◌, ℕ, ◌+◌, List, Option, Some, None, Result, Ok, Err, IfErr, IfOk, IfSome, IsErrAnd, IsSome, OnOk, take, refl, sym, ap, subst, arith}
 use Rattle.std.specs.Prelude.{option_map}
 use Rattle.std.proofs.lemmas.List.{length-take}
 use Rattle.rx_term.specs.Tree.{Tree}
@@ -14,14 +14,12 @@ use Rattle.rec_sorts.specs.TermRules.{broken_by_terms}
 use Rattle.rec_sorts.specs.TermsFaults.{IsTermsFault}
 use Rattle.rec_sorts.specs.declared.fault.TermsFault.{TermsFault}
 use Rattle.rec_sorts.specs.declared.fault.TermsFault.TheVariants as rule
-use Rattle.rx_shared.specs.State.{store_of}
-use Rattle.rx_shared.specs.declared.bank.SharedBank.{SharedBank}
-use Rattle.rec_run.specs.GivenTerms.{HoldsList, HoldsTerms, IsGivenRead, IsListRead, IsReadAs, IsReadFor, IsReadFrom, IsReady, IsReadyList, IsRefusal, OnGoodSpec, OnRefusedSpec, job_of, list_refused}
+use Rattle.rec_run.specs.GivenTerms.{EndsRefused, HoldsList, HoldsTerms, IsListRead, IsReadAs, IsReadFor, IsReadFrom, IsReady, IsRefusal, IsRefused, OnGoodSpec, OnRefusedSpec, job_alone_of, job_of, list_refused}
 use Rattle.rec_run.specs.TermRuns.{IsReadingOf}
 use Rattle.rec_run.specs.Output.{GoodTerms, BreaksTerms, TooLong, Outside, TermsVerdict, IsTermsVerdict, done, lines}
-use Rattle.rec_run.specs.Reading.{IsGood, IsSpecRead, IsSpecReading}
+use Rattle.rec_run.specs.Reading.{IsGood, IsSpecRead, IsSpecReading, fault_of_read}
 use Rattle.rec_run.specs.Refusals.{refusal_due, refused_spec, refused_text}
-use Rattle.rec_run.specs.Run.{both_texts}
+use Rattle.rec_run.specs.Run.{HasRoom, both_texts}
 use Rattle.rec_run.specs.declared.ending.RunFault.{RunFault}
 use Rattle.rec_run.specs.declared.ending.RunFault.TheVariants as fault
 use Rattle.rec_run.specs.declared.ending.Source.TheVariants as source
@@ -30,8 +28,9 @@ use Rattle.rec_run.specs.declared.refusal.Reading.TheVariants.{Good as GoodSpec,
 use Rattle.rec_run.specs.declared.refusal.Reading.TheVariants.{Good as GoodRun, Refused as RefusedRun}
 use Rattle.rec_run.specs.declared.refusal.Reason.TheVariants as reason
 use Rattle.rec_run.specs.declared.refusal.Refusal.{Refusal}
+use Rattle.rec_run.specs.declared.streams.ReadFault.{ReadFault}
+use Rattle.rec_run.specs.declared.streams.ReadFault.TheVariants as unreadable
 use Rattle.rec_run.specs.declared.streams.TheConstants.{LIMIT}
-use Rattle.rec_run.specs.declared.spec.reading.Given.{Given}
 use Rattle.rec_run.specs.declared.spec.reading.Job.{Job}
 use Rattle.rec_run.proofs.GivenLemmas.{given_elements, holds_terms, kept_elements}
 use Rattle.rec_run.proofs.OneDueLemmas.{one_verdict}
@@ -54,19 +53,18 @@ pub read_due : (known : Option (List ℕ)) (text given : List ℕ) (y : Spec) (w
 read_due known text given y w r s front same h e = read_front known text y w s front (subst (λ t. IsListRead y w t s) same (subst (IsListRead y w given) e h))
 
 -- and with a good specification what is due for both texts
-job_read : (checked : Sourced) (bytes : List ℕ) (r : Reading (Given SharedBank)) → IsGivenRead store_of checked.spec bytes r → IsReadFor checked.spec bytes (job_of checked r)
-job_read checked bytes (RefusedRun r) h = h
-job_read checked bytes (GoodRun given) h = h
+job_read : (w : Store) (checked : Sourced) (bytes : List ℕ) (r : Reading Reference) → IsListRead checked.spec w bytes r → IsReadFor w checked.spec bytes (job_of checked r)
+job_read w checked bytes (RefusedRun r) h = h
+job_read w checked bytes (GoodRun list) h = h
 
-pub job_due : (known : Option (List ℕ)) (checked : Sourced) (r : Reading (Given SharedBank)) (job : Reading Job) → job ≡ job_of checked r → IfSome known (λ bytes. IsGivenRead store_of checked.spec bytes r) → IfSome known (λ bytes. IsReadFor checked.spec bytes job)
-job_due None checked r job e h = tt
-job_due (Some bytes) checked r job e h = subst (IsReadFor checked.spec bytes) (sym e) (job_read checked bytes r h)
+pub job_due : (w : Store) (known : Option (List ℕ)) (checked : Sourced) (r : Reading Reference) (job : Reading Job) → job ≡ job_of checked r → IfSome known (λ bytes. IsListRead checked.spec w bytes r) → IfSome known (λ bytes. IsReadFor w checked.spec bytes job)
+job_due w None checked r job e h = tt
+job_due w (Some bytes) checked r job e h = subst (IsReadFor w checked.spec bytes) (sym e) (job_read w checked bytes r h)
 
 -- which can be evaluated
-pub job_ready : (cells : ℕ) (checked : Sourced) (r : Reading (Given SharedBank)) → IsReadyList store_of cells checked.spec r → IsReady cells (job_of checked r)
-job_ready cells checked (RefusedRun r) h = tt
-job_ready cells checked (GoodRun given) h =
-    record { limit = h.limit; unrooted = h.unrooted; given = λ x e. let same : given.list ≡ x = cc in subst (HoldsTerms checked.spec (store_of given.bank)) same h.holds }
+pub job_ready : (w : Store) (checked : Sourced) (r : Reading Reference) → HoldsList checked.spec w r → IsReady w (job_of checked r)
+job_ready w checked (RefusedRun r) h = tt
+job_ready w checked (GoodRun list) h = λ x e. let same : list ≡ x = cc in subst (HoldsTerms checked.spec w) same h
 
 -- a text of terms that is no term's
 pub no_term : (y : Spec) (w : Store) (bytes : List ℕ) (r : Refusal) (v : text.Verdict) → refused_text source.Terms v ≡ Some r → IsVerdict bytes v → IsListRead y w bytes (RefusedRun r)
@@ -129,22 +127,50 @@ list_holds w y list there h = by (tree_at w list) refl there h
     by (Some t) here there kept = holds_terms y w list t here kept
 
 -- what both texts came to, where terms are given
-read_both : (bytes given : Option (List ℕ)) (first : Reading Sourced) (r : Reading Job) → IfSome bytes (λ b. IsSpecRead b first) → ((v : Verdict) → IsSpecReading first v → IfSome given (λ b. IsReadAs v b r))
-    → IfSome (both_texts bytes (option_map (λ b. Some b) given)) (λ texts. IsReadFrom texts r)
-read_both None given first r h k = tt
-read_both (Some b) None first r h k = tt
-read_both (Some b) (Some t) first r (v, h, is) k = λ counted n. (v, h, k v is counted n)
+read_both : (w : Store) (bytes given : Option (List ℕ)) (first : Reading Sourced) (r : Reading Job) → IfSome bytes (λ b. IsSpecRead b first) → ((v : Verdict) → IsSpecReading first v → IfSome given (λ b. IsReadAs w v b r))
+    → IfSome (both_texts bytes (option_map (λ b. Some b) given)) (λ texts. IsReadFrom w texts r)
+read_both w None given first r h k = tt
+read_both w (Some b) None first r h k = tt
+read_both w (Some b) (Some t) first r (v, h, is) k = λ counted n. (v, h, k v is counted n)
 
-pub read_with : (result : Result (Reading Job) RunFault) (bytes given : Option (List ℕ)) (first : Reading Sourced) → IfSome bytes (λ b. IsSpecRead b first) → IfOk result (λ r. (v : Verdict) → IsSpecReading first v → IfSome given (λ b. IsReadAs v b r))
-    → IfOk result (λ r. IfSome (both_texts bytes (option_map (λ b. Some b) given)) (λ texts. IsReadFrom texts r))
-read_with (Err e) bytes given first h k = tt
-read_with (Ok r) bytes given first h k = read_both bytes given first r h k
+pub read_with : (w : Store) (result : Result (Reading Job) RunFault) (bytes given : Option (List ℕ)) (first : Reading Sourced) → IfSome bytes (λ b. IsSpecRead b first) → IfOk result (λ r. (v : Verdict) → IsSpecReading first v → IfSome given (λ b. IsReadAs w v b r))
+    → IfOk result (λ r. IfSome (both_texts bytes (option_map (λ b. Some b) given)) (λ texts. IsReadFrom w texts r))
+read_with w (Err e) bytes given first h k = tt
+read_with w (Ok r) bytes given first h k = read_both w bytes given first r h k
 
--- a refused specification leaves the reader of the terms
-pub unread_both : {T : Type 0} (bytes : Option (List ℕ)) (first : Reading Sourced) (old new : T) → IfSome bytes (λ b. IsSpecRead b first) → ((v : Verdict) → IsSpecReading first v → IsRefusal v → new ≡ old)
-    → OnRefusedSpec bytes (new ≡ old)
-unread_both None first old new h k = tt
-unread_both (Some b) first old new (u, h, came) k = λ v is refused. k u came (subst IsRefusal (one_verdict b v u is h) refused)
+-- what holds where a refused specification was read holds where its text is refused
+pub on_refused : (P : Type 0) (bytes : Option (List ℕ)) (first : Reading Sourced) → IfSome bytes (λ b. IsSpecRead b first) → ((v : Verdict) → IsSpecReading first v → IsRefusal v → P) → OnRefusedSpec bytes P
+on_refused P None first h k = tt
+on_refused P (Some b) first (u, h, came) k = λ v is refused. k u came (subst IsRefusal (one_verdict b v u is h) refused)
+
+pub refused_map : {P Q : Type 0} (bytes : Option (List ℕ)) → (P → Q) → OnRefusedSpec bytes P → OnRefusedSpec bytes Q
+refused_map None f h = tt
+refused_map (Some b) f h = λ v is refused. f (h v is refused)
+
+pub refused_map₂ : {P Q R : Type 0} (bytes : Option (List ℕ)) → (P → Q → R) → OnRefusedSpec bytes P → OnRefusedSpec bytes Q → OnRefusedSpec bytes R
+refused_map₂ None f h k = tt
+refused_map₂ (Some b) f h k = λ v is refused. f (h v is refused) (k v is refused)
+
+pub refused_any : {P : Type 0} (bytes : Option (List ℕ)) → P → OnRefusedSpec bytes P
+refused_any None h = tt
+refused_any (Some b) h = λ v is refused. h
+
+-- a reader's fault is not want of cells
+pub read_fault_refused : (r : Result (Reading Job) RunFault) (e : ReadFault) → IsErrAnd r (λ f. f ≡ fault_of_read e) → EndsRefused r
+read_fault_refused (Ok x) e h = absurd h
+read_fault_refused (Err f) e h = subst HasRoom (sym h) (of e)
+  where
+    of : (e : ReadFault) → HasRoom (fault_of_read e)
+    of unreadable.Memory = tt
+    of unreadable.Read = tt
+
+-- without given terms nothing is read behind a refused specification
+pub refused_alone : (first : Reading Sourced) (r : Reading Job) → r ≡ job_alone_of first → (v : Verdict) → IsSpecReading first v → IsRefusal v → IsRefused r
+refused_alone first r e v is refused = subst IsRefused (sym e) (of first v is refused)
+  where
+    of : (first : Reading Sourced) (v : Verdict) → IsSpecReading first v → IsRefusal v → IsRefused (job_alone_of first)
+    of (RefusedSpec r) v is refused = tt
+    of (GoodSpec checked) v is refused = absurd (subst IsRefusal is refused)
 
 -- what was read of a good specification is one
 good_reading : (first : Reading Sourced) (v : Verdict) (y : Spec) → IsSpecReading first v → v ≡ Good y → IsGood first
@@ -159,11 +185,11 @@ terms_out P (Ok x) None first h k = tt
 terms_out P (Ok x) (Some b) first (v, h, came) k = λ y is. k (good_reading first v y came (one_verdict b v (Good y) h is))
 
 -- where a specification is refused
-pub read_after_refusal : (r : Refusal) (given : Option (List ℕ)) (v : Verdict) → refused_spec v ≡ Some r → IfSome given (λ b. IsReadAs v b (RefusedRun r))
-read_after_refusal r None v e = tt
-read_after_refusal r (Some b) v e = λ counted n. after_refusal v r (Some b) counted n e
+pub read_after_refusal : (w : Store) (r : Refusal) (given : Option (List ℕ)) (v : Verdict) → refused_spec v ≡ Some r → IfSome given (λ b. IsReadAs w v b (RefusedRun r))
+read_after_refusal w r None v e = tt
+read_after_refusal w r (Some b) v e = λ counted n. after_refusal v r (Some b) counted n e
 
 -- where it is good
-pub read_after_good : (checked : Sourced) (given : Option (List ℕ)) (r : Reading Job) → IfSome given (λ b. IsReadFor checked.spec b r) → (v : Verdict) → v ≡ Good checked.spec → IfSome given (λ b. IsReadAs v b r)
-read_after_good checked None r h v e = tt
-read_after_good checked (Some b) r h v e = subst (λ z. IsReadAs z b r) (sym e) h
+pub read_after_good : (w : Store) (checked : Sourced) (given : Option (List ℕ)) (r : Reading Job) → IfSome given (λ b. IsReadFor w checked.spec b r) → (v : Verdict) → v ≡ Good checked.spec → IfSome given (λ b. IsReadAs w v b r)
+read_after_good w checked None r h v e = tt
+read_after_good w checked (Some b) r h v e = subst (λ z. IsReadAs w z b r) (sym e) h

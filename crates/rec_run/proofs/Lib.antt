@@ -6,6 +6,7 @@ mod LineFrontLemmas
 mod SpecLineLemmas
 mod WholeRunLemmas
 mod ReadDueLemmas
+mod RunEndLemmas
 mod GivenDueLemmas
 mod GivenLemmas
 mod GivenListLemmas

@@ -13,12 +13,14 @@ use Rattle.rx_text.proofs.VerdictLemmas.{one_verdict}
 use Rattle.rec_run.specs.Bytes.{newlines}
 use Rattle.rec_run.specs.Output.{Due, done}
 use Rattle.rec_run.specs.Refusals.{refusal_due, refused_text}
-use Rattle.rec_run.specs.TermRuns.{IsDueOf, IsGiven, IsReadingOf, IsTermHeld, cells_line, due_at, due_of, line_at, lines_at, share_lines, term_line}
+use Rattle.rec_run.specs.TermRuns.{IsDueOf, IsGiven, IsReadingOf, IsTermHeld, IsUnrooted, cells_line, due_at, due_of, line_at, lines_at, share_lines, term_line}
 use Rattle.rec_run.specs.declared.ending.Source.TheVariants as source
 use Rattle.rec_run.specs.declared.refusal.Reading.{Reading}
 use Rattle.rec_run.specs.declared.refusal.Reading.TheVariants.{Refused, Good}
 use Rattle.rec_run.specs.declared.refusal.Refusal.{Refusal}
 use Rattle.rec_run.specs.declared.streams.TheConstants.{LIMIT}
+use Rattle.rec_run.specs.declared.term.runs.TermLines.{TermLines}
+use Rattle.rec_run.specs.declared.term.runs.TermLines.TheVariants.{Text, TextAndCells}
 use Rattle.rec_run.proofs.WholeRunLemmas.{same_refusal, short_front}
 
 -- one byte past the limit is enough for the verdict
@@ -75,3 +77,12 @@ share_lines-at w v t n held same counted = by (tree_at w t) refl held counted
     by : (o : Option Tree) → tree_at w t ≡ o → IsSome o → IfSome o (λ u. n ≡ part_count u) → lines_at share_lines w t ≡ line_at v t ++ cells_line n
     by None e h c = absurd (cc h)
     by (Some u) e h c = rw (same, e) (ap (λ k. term_line u ++ cells_line k) (sym c))
+
+-- where protections stay, none come
+pub still_unrooted : (lines : TermLines) (old new : Store) → new.roots ≡ old.roots → IsUnrooted lines old → IsUnrooted lines new
+still_unrooted Text old new e h = tt
+still_unrooted TextAndCells old new e h = λ t. ap (λ roots. roots t) e ∙ h t
+
+pub unrooted_for : (lines : TermLines) (w : Store) → ((t : ℕ) → w.roots t ≡ 0) → IsUnrooted lines w
+unrooted_for Text w h = tt
+unrooted_for TextAndCells w h = h

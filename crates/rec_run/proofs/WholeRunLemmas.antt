@@ -1,13 +1,13 @@
 -- From what the texts of a run came to to what is due.
-use Rattle.std.proofs.Common.{ap, ◌≡◌, ℕ, ◌+◌, ◌≤◌, Bool, List, [], Option, Some, None, IfSome, length, take, take_all, refl, subst, arith}
+use Rattle.std.proofs.Common.{ap, ◌≡◌, ℕ, ◌+◌, ◌≤◌, Bool, List, [], Option, Some, None, IfSome, length, take, take_all, refl, subst, sym, arith}
 use Rattle.std.proofs.lemmas.List.{length-take}
 use Rattle.std.specs.Io.KnownBytes.{Appends}
 use Rattle.rec_syntax.specs.Syntax.{Sourced}
 use Rattle.rec_sorts.specs.SpecRules as verdict
 use Rattle.rec_sorts.specs.SpecRules.{Verdict, SpecVerdict}
-use Rattle.rx_shared.specs.State.{store_of}
-use Rattle.rec_run.specs.Output.{Due, IsDueAfter, done, due_of_spec, lines}
-use Rattle.rec_run.specs.GivenTerms.{IsReadFrom, given_by, run_due}
+use Rattle.rx_term.specs.Store.{Store}
+use Rattle.rec_run.specs.Output.{Due, IsDueAfter, due_of_spec}
+use Rattle.rec_run.specs.GivenTerms.{IsReadFrom, IsReady, job_alone_of, run_due}
 use Rattle.rec_run.specs.Reading.{IsSpecRead}
 use Rattle.rec_run.specs.Refusals.{refusal_due, refused_spec}
 use Rattle.rec_run.specs.Run.{BreaksFor, EndsFor, IsDueFor, IsPlacedFor, Reports, Stops, Texts, both_texts}
@@ -48,9 +48,9 @@ pub one_due_for : (counted : Bool) (n : ℕ) (texts : Texts) (d e : Due) → IsD
 one_due_for counted n texts d e h k = one_due texts.spec texts.terms counted n d e h k
 
 -- what the texts came to says what is due for them
-pub due_for : (counted : Bool) (n : ℕ) (texts : Option Texts) (r : Reading Job) → IfSome texts (λ t. IsReadFrom t r) → IfSome texts (λ t. IsDueFor counted n t (run_due counted n r))
-due_for counted n None r h = tt
-due_for counted n (Some t) r h = h counted n
+pub due_for : (w : Store) (counted : Bool) (n : ℕ) (texts : Option Texts) (r : Reading Job) → IfSome texts (λ t. IsReadFrom w t r) → IfSome texts (λ t. IsDueFor counted n t (run_due w counted n r))
+due_for w counted n None r h = tt
+due_for w counted n (Some t) r h = h counted n
 
 -- ---- the text of a specification
 
@@ -89,11 +89,17 @@ after_spec counted n (verdict.Breaks f) = refl
 after_spec counted n (verdict.Good y) = refl
 
 -- a specification without given terms
-pub read_refused : (known : Option (List ℕ)) (r : Refusal) → IfSome known (λ bytes. IsSpecRead bytes (Refused r)) → IfSome (both_texts known (Some None)) (λ texts. IsReadFrom texts (Refused r))
-read_refused None r h = tt
-read_refused (Some bytes) r (v, h, is) = λ counted n. (v, h, after_refusal v r None counted n is)
+pub read_alone : (w : Store) (known : Option (List ℕ)) (first : Reading Sourced) (r : Reading Job) → r ≡ job_alone_of first → IfSome known (λ bytes. IsSpecRead bytes first) → IfSome (both_texts known (Some None)) (λ texts. IsReadFrom w texts r)
+read_alone w known first r e h = subst (λ z. IfSome (both_texts known (Some None)) (λ texts. IsReadFrom w texts z)) (sym e) (of known first h)
+  where
+    of : (known : Option (List ℕ)) (first : Reading Sourced) → IfSome known (λ bytes. IsSpecRead bytes first) → IfSome (both_texts known (Some None)) (λ texts. IsReadFrom w texts (job_alone_of first))
+    of None first h = tt
+    of (Some bytes) (Refused r) (v, h, is) = λ counted n. (v, h, after_refusal v r None counted n is)
+    of (Some bytes) (Good checked) (v, h, is) = λ counted n. (verdict.Good checked.spec, subst (SpecVerdict bytes) is h, refl)
 
-pub read_good : (known : Option (List ℕ)) (job : Job) → job.list ≡ None → IfSome known (λ bytes. IsSpecRead bytes (Good job.checked)) → IfSome (both_texts known (Some None)) (λ texts. IsReadFrom texts (Good job))
-read_good None job e h = tt
-read_good (Some bytes) job e (v, h, is) = λ counted n.
-    (verdict.Good job.checked.spec, subst (SpecVerdict bytes) is h, ap (λ list. done (lines job.checked.spec (given_by (store_of job.bank) list) counted n)) e)
+pub ready_alone : (w : Store) (first : Reading Sourced) (r : Reading Job) → r ≡ job_alone_of first → IsReady w r
+ready_alone w first r e = subst (IsReady w) (sym e) (of first)
+  where
+    of : (first : Reading Sourced) → IsReady w (job_alone_of first)
+    of (Refused r) = tt
+    of (Good checked) = λ x is. absurd (cc is)

@@ -3,20 +3,25 @@
 --     ProtectsTerms y w list         a list of terms that keep the rules is protected
 --     due_before fault text          of a line with this text, what is due before a fault
 --     fault_after fault lines        the run's fault where a line's came after so many lines
-use Rattle.std.specs.Prelude.{ℕ, ◌≡◌, ◌<◌, Bool, List, ◌++◌, IsSome, codes, decimal}
-use Rattle.rx_term.specs.Store.{Store, tree_at, cells}
+--     RunLacks w work m fault        want of cells comes where all that is held is needed
+use Rattle.std.specs.Prelude.{ℕ, ◌<◌, Bool, List, ◌++◌, IsSome, codes, decimal}
+use Rattle.rx_term.specs.Store.{Store, tree_at}
 use Rattle.rx_term.specs.declared.Term.{Term as Reference}
 use Rattle.rx_text.specs.Canon.{canon}
 use Rattle.rx_text.specs.declared.faults.WriteFault.{WriteFault}
 use Rattle.rx_text.specs.declared.faults.WriteFault.TheVariants as text
 use Rattle.rec_syntax.specs.Syntax.{Spec}
+use Rattle.rec_memo.specs.Pairs.{Pairs}
+use Rattle.rec_engine.specs.Cells.{HasNoRoom}
 use Rattle.rec_engine.specs.declared.cells.EngineFault.{EngineFault}
 use Rattle.rec_engine.specs.declared.cells.EngineFault.TheVariants as engine
+use Rattle.rec_engine.specs.declared.engine.Options.{Options}
 use Rattle.rec_engine.specs.declared.engine.Outcome.{Outcome}
 use Rattle.rec_engine.specs.declared.engine.Outcome.TheVariants.{Value, Limit}
 use Rattle.rec_run.specs.GivenTerms.{HoldsTerms, item_at}
 use Rattle.rec_run.specs.Output.{steps_text}
 use Rattle.rec_run.specs.declared.ending.RunFault.{RunFault}
+use Rattle.rec_run.specs.declared.ending.RunOptions.{RunOptions}
 use Rattle.rec_run.specs.declared.ending.RunFault.TheVariants as run
 use Rattle.rec_run.specs.declared.spec.lines.LineFault.{LineFault}
 use Rattle.rec_run.specs.declared.spec.lines.LineFault.TheVariants.{Memory, Room, Write}
@@ -30,6 +35,10 @@ outcome_text w counted n Limit = codes "!limit " ++ decimal n
 abbrev pub HoldsValue : Store → Outcome → Type 0
 HoldsValue w (Value r steps) = IsSome (tree_at w r)
 HoldsValue w Limit = Unit {0}
+
+-- how the engine of a run works
+abbrev pub engine_options : RunOptions → Options
+engine_options o = record { memo = o.memo; reclaim_every = o.reclaim }
 
 -- a list of terms that keep the rules is protected
 pub record ProtectsTerms (y : Spec) (w : Store) (list : Reference) : Type 0 where
@@ -58,7 +67,13 @@ fault_after Memory lines = run.Memory lines
 fault_after Room lines = run.Room lines
 fault_after Write lines = run.Write
 
--- want of cells comes with a full bank
-abbrev pub FillsBank : Store → LineFault → Type 0
-FillsBank w Room = cells w ≡ w.cap
-FillsBank w fault = Unit {0}
+-- a line's want of cells comes where no cell is left, all that is held is needed, and no result is
+-- remembered
+abbrev pub LineLacks : Store → List Reference → Pairs → LineFault → Type 0
+LineLacks w work m Room = HasNoRoom w work m
+LineLacks w work m fault = Unit {0}
+
+-- and so does that of a run
+abbrev pub RunLacks : Store → List Reference → Pairs → RunFault → Type 0
+RunLacks w work m (run.Room lines) = HasNoRoom w work m
+RunLacks w work m fault = Unit {0}

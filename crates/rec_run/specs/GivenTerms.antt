@@ -2,15 +2,13 @@
 -- given term.
 --     given_at w r               the items of the list of a reference
 --     HoldsTerms y w r           they keep the rules
---     run_due counted n r        what is due for what the texts came to
+--     run_due w counted n r      what is due for what the texts came to, by the trees of a bank
 --     given_text y counted n u   the line of a given term without the line end
 use Rattle.std.specs.Prelude.{ℕ, ◌≡◌, Bool, List, [], ◌++◌, Option, Some, None, IfSome, Result, Ok, Err, codes, flat_map, unwrap_or}
 use Rattle.std.specs.Option.{ForSome}
 use Rattle.rx_term.specs.Tree.{Tree, Trees, none, annotations, from_list, list_of}
 use Rattle.rx_term.specs.Store.{Store, tree_at}
 use Rattle.rx_term.specs.declared.Term.{Term as Reference}
-use Rattle.rx_shared.specs.State.{store_of}
-use Rattle.rx_shared.specs.declared.bank.SharedBank.{SharedBank}
 use Rattle.rx_text.specs.Canon.{canon_all, enclosed}
 use Rattle.rec_syntax.specs.Syntax as syntax
 use Rattle.rec_syntax.specs.Syntax.{Sourced}
@@ -23,14 +21,13 @@ use Rattle.rec_sorts.specs.declared.fault.TermsFault.TheVariants as rule
 use Rattle.rec_run.specs.Output.{Due, IsDueAfter, done, lines}
 use Rattle.rec_run.specs.Reading.{evaluation_text}
 use Rattle.rec_run.specs.Refusals.{reading_due}
-use Rattle.rec_run.specs.Run.{IsDueFor, Texts}
+use Rattle.rec_run.specs.Run.{HasRoom, IsDueFor, Texts}
 use Rattle.rec_run.specs.declared.ending.RunFault.{RunFault}
 use Rattle.rec_run.specs.declared.ending.RunFault.TheVariants as fault
 use Rattle.rec_run.specs.declared.ending.Source.TheVariants as source
 use Rattle.rec_run.specs.declared.refusal.Reading.{Reading}
 use Rattle.rec_run.specs.declared.refusal.Reading.TheVariants as reading
 use Rattle.rec_run.specs.declared.refusal.Reason.TheVariants as reason
-use Rattle.rec_run.specs.declared.spec.reading.Given.{Given}
 use Rattle.rec_run.specs.declared.spec.reading.Job.{Job}
 
 -- the tree of a reference; the empty list, where there is none
@@ -58,18 +55,32 @@ list_refused (rule.Rule number) = Ok
 list_refused rule.Memory = Err (fault.Memory 0)
 
 -- what both texts came to, where the specification is good and that of the terms came to this
-abbrev pub job_of : Sourced → Reading (Given SharedBank) → Reading Job
+abbrev pub job_of : Sourced → Reading Reference → Reading Job
 job_of checked (reading.Refused r) = reading.Refused r
-job_of checked (reading.Good given) =
-    reading.Good (record { checked = checked; bank = given.bank; list = Some given.list })
+job_of checked (reading.Good list) = reading.Good (record { checked = checked; list = Some list })
 
--- the lines of good texts
-abbrev pub job_lines : Bool → ℕ → Job → List ℕ
-job_lines counted n job = lines job.checked.spec (given_by (store_of job.bank) job.list) counted n
+-- the same without given terms
+abbrev pub job_alone_of : Reading Sourced → Reading Job
+job_alone_of (reading.Refused r) = reading.Refused r
+job_alone_of (reading.Good checked) = reading.Good (record { checked = checked; list = None })
+
+-- the lines of good texts, by the trees of a bank
+abbrev pub job_lines : Store → Bool → ℕ → Job → List ℕ
+job_lines w counted n job = lines job.checked.spec (given_by w job.list) counted n
 
 -- what is due for what the texts came to
-abbrev pub run_due : Bool → ℕ → Reading Job → Due
-run_due counted n r = reading_due (λ job. done (job_lines counted n job)) r
+abbrev pub run_due : Store → Bool → ℕ → Reading Job → Due
+run_due w counted n r = reading_due (λ job. done (job_lines w counted n job)) r
+
+-- a text was refused
+abbrev pub IsRefused : Reading Job → Type 0
+IsRefused (reading.Refused r) = Unit {0}
+IsRefused (reading.Good job) = ⊥
+
+-- a text was refused, or there was a fault that is not want of cells
+abbrev pub EndsRefused : Result (Reading Job) RunFault → Type 0
+EndsRefused (Ok r) = IsRefused r
+EndsRefused (Err f) = HasRoom f
 
 -- the verdict is a refusal
 abbrev pub IsRefusal : Verdict → Type 0
@@ -87,13 +98,13 @@ OnRefusedSpec text P =
     IfSome text (λ bytes. (v : Verdict) → verdict.SpecVerdict bytes v → IsRefusal v → P)
 
 -- after this verdict on the specification, what both texts came to says what is due for this text
--- of terms
-abbrev pub IsReadAs : Verdict → List ℕ → Reading Job → Type 0
-IsReadAs v bytes r = (counted : Bool) (n : ℕ)
-    → IsDueAfter v (Some bytes) counted n (run_due counted n r)
+-- of terms, by the trees of a bank
+abbrev pub IsReadAs : Store → Verdict → List ℕ → Reading Job → Type 0
+IsReadAs w v bytes r = (counted : Bool) (n : ℕ)
+    → IsDueAfter v (Some bytes) counted n (run_due w counted n r)
 
-abbrev pub IsReadFor : syntax.Spec → List ℕ → Reading Job → Type 0
-IsReadFor y bytes r = IsReadAs (verdict.Good y) bytes r
+abbrev pub IsReadFor : Store → syntax.Spec → List ℕ → Reading Job → Type 0
+IsReadFor w y bytes r = IsReadAs w (verdict.Good y) bytes r
 
 -- after a good specification, what a text of terms came to says what is due for it, by the trees of
 -- a bank
@@ -101,43 +112,19 @@ abbrev pub IsListRead : syntax.Spec → Store → List ℕ → Reading Reference
 IsListRead y w bytes r = (counted : Bool) (n : ℕ) → IsDueAfter (verdict.Good y) (Some bytes)
     counted n (reading_due (λ list. done (lines y (given_at w list) counted n)) r)
 
--- the same by the trees of the bank that comes with it
-abbrev pub IsGivenRead : {B : Type 0} → (B → Store) → syntax.Spec → List ℕ → Reading (Given B)
-    → Type 0
-IsGivenRead store y bytes r = (counted : Bool) (n : ℕ)
-    → IsDueAfter (verdict.Good y) (Some bytes) counted n (reading_due
-    (λ given. done (lines y (given_at (store given.bank) given.list) counted n)) r)
-
 -- what both texts came to says what is due for them
-abbrev pub IsReadFrom : Texts → Reading Job → Type 0
-IsReadFrom texts r = (counted : Bool) (n : ℕ) → IsDueFor counted n texts (run_due counted n r)
+abbrev pub IsReadFrom : Store → Texts → Reading Job → Type 0
+IsReadFrom w texts r = (counted : Bool) (n : ℕ) → IsDueFor counted n texts (run_due w counted n r)
 
 -- the terms of a text keep the rules, where it is good
 abbrev pub HoldsList : syntax.Spec → Store → Reading Reference → Type 0
 HoldsList y w (reading.Refused r) = Unit {0}
 HoldsList y w (reading.Good list) = HoldsTerms y w list
 
--- given terms keep the rules, nothing is protected yet, and the bank has this limit
-pub record IsReadyGiven {B : Type 0} (store : B → Store) (cells : ℕ) (y : syntax.Spec)
-    (given : Given B) : Type 0 where
-  pub limit : (store given.bank).cap ≡ cells
-  pub unrooted : (t : ℕ) → (store given.bank).roots t ≡ 0
-  pub holds : HoldsTerms y (store given.bank) given.list
-
-abbrev pub IsReadyList : {B : Type 0} → (B → Store) → ℕ → syntax.Spec → Reading (Given B) → Type 0
-IsReadyList store cells y (reading.Refused r) = Unit {0}
-IsReadyList store cells y (reading.Good given) = IsReadyGiven store cells y given
-
--- good texts can be evaluated: given terms keep the rules, nothing is protected yet, and the bank
--- has this limit
-pub record IsReadyJob (cells : ℕ) (job : Job) : Type 0 where
-  pub limit : (store_of job.bank).cap ≡ cells
-  pub unrooted : (t : ℕ) → (store_of job.bank).roots t ≡ 0
-  pub given : ForSome job.list (HoldsTerms job.checked.spec (store_of job.bank))
-
-abbrev pub IsReady : ℕ → Reading Job → Type 0
-IsReady cells (reading.Refused r) = Unit {0}
-IsReady cells (reading.Good job) = IsReadyJob cells job
+-- good texts can be evaluated: given terms keep the rules
+abbrev pub IsReady : Store → Reading Job → Type 0
+IsReady w (reading.Refused r) = Unit {0}
+IsReady w (reading.Good job) = ForSome job.list (HoldsTerms job.checked.spec w)
 
 -- annotations between braces, where there are any
 abbrev pub notes_text : Trees → List ℕ

@@ -3,17 +3,22 @@
 --     IsPlacedFor IsDue texts place           the place is that of what is due
 --     BreaksFor IsDue texts fault old new     it stopped at a fault, with a front of what is due
 --                                             written
---     RoomFits cap fault                      want of cells comes with a full bank
+--     RoomFills old new fault                 want of cells comes where a text filled the bank
+--     RoomExhausts w needed fault             want of cells comes where all that is held is needed
+--     RoomIn old new needed fault             one of the two
+--     HasRoom fault                           the fault is not want of cells
 --     both_texts spec terms                   a specification and terms, where their readers tell
 --                                             them
 --     IsReadOut old new                       an input was read to its end, or to one byte behind
 --                                             the most that a text may have
-use Rattle.std.specs.Prelude.{◌≡◌, ◌+◌, ◌⊎◌, ℕ, List, [], Bool, Option, Some, None, IfSome, drop, option_map}
+use Rattle.std.specs.Prelude.{◌≡◌, ◌+◌, ◌⊎◌, ℕ, List, [], Bool, Option, Some, None, IfSome, Result, Ok, Err, drop, option_map}
 use Rattle.std.proofs.Common.{inl, inr}
 use Rattle.std.specs.Borrow.{MutBor}
-use Rattle.std.specs.Io.KnownBytes.{Appends}
-use Rattle.rx_term.specs.Steps.{IsSound}
+use Rattle.std.specs.Io.KnownBytes.{Appends, Keeps}
+use Rattle.rx_term.specs.Steps.{Grows, IsExhausted}
 use Rattle.rx_term.specs.Store.{Store, cells}
+use Rattle.rx_term.specs.Walks.{AllHeld}
+use Rattle.rx_term.specs.declared.Term.{Term}
 use Rattle.rx_text.specs.Written.{IsFront}
 use Rattle.rec_run.specs.Bytes.{newlines}
 use Rattle.rec_run.specs.Output.{Due, IsDue}
@@ -115,31 +120,77 @@ Stays now last first = Leads (λ old new. new ≡ old) now last first
 abbrev pub IsReadOut : Option (List ℕ) → Option (List ℕ) → Type 0
 IsReadOut old new = IfSome old (λ bytes. new ≡ Some (drop 16777217 bytes))
 
--- a bank that has as many cells as it may have, which is this number
-pub record HasFullBank (cap : ℕ) : Type 0 where
-  pub bank : Store
-  pub sound : IsSound bank
-  pub limit : bank.cap ≡ cap
-  pub full : cells bank ≡ cap
+-- trees of a text came to a bank until no cell was left, and nothing was given back
+pub record IsFilled (old new : Store) : Type 0 where
+  pub full : cells new ≡ new.cap
+  pub grows : Grows old new
 
--- want of cells comes with a full bank of this limit
-abbrev pub RoomFits : ℕ → RunFault → Type 0
-RoomFits cap (Room lines) = HasFullBank cap
-RoomFits cap f = Unit {0}
+-- the fault is not want of cells
+abbrev pub HasRoom : RunFault → Type 0
+HasRoom (Room lines) = ⊥
+HasRoom f = Unit {0}
+
+-- want of cells comes where a text filled the bank
+abbrev pub RoomFills : Store → Store → RunFault → Type 0
+RoomFills old new (Room lines) = IsFilled old new
+RoomFills old new f = Unit {0}
+
+-- the same of two banks
+abbrev pub RoomFillsOne : Store → Store → Store → Store → RunFault → Type 0
+RoomFillsOne old new old' new' (Room lines) = IsFilled old new ⊎ IsFilled old' new'
+RoomFillsOne old new old' new' f = Unit {0}
+
+-- no cell is left, and each tree that is held is a part of a protected one or of one that is needed;
+-- these are held
+pub record NeedsAll (w : Store) (needed : List Term) : Type 0 where
+  pub exhausted : IsExhausted w needed
+  pub held : AllHeld w needed
+
+-- want of cells comes there
+abbrev pub RoomExhausts : Store → List Term → RunFault → Type 0
+RoomExhausts w needed (Room lines) = NeedsAll w needed
+RoomExhausts w needed f = Unit {0}
+
+-- want of cells comes where a text filled the bank before anything was needed, or where all that is
+-- held is needed
+abbrev pub RoomIn : Store → Store → List Term → RunFault → Type 0
+RoomIn old new needed (Room lines) = (IsFilled old new × (needed ≡ [])) ⊎ NeedsAll new needed
+RoomIn old new needed f = Unit {0}
 
 -- a fault before anything is written, where no reader is asked: memory or cells ran out
-abbrev pub RanOut : ℕ → RunFault → Type 0
-RanOut cap (Memory lines) = lines ≡ 0
-RanOut cap (Room lines) = (lines ≡ 0) × HasFullBank cap
-RanOut cap Read = ⊥
-RanOut cap Write = ⊥
+abbrev pub StopsAtOnce : RunFault → Type 0
+StopsAtOnce (Memory lines) = lines ≡ 0
+StopsAtOnce (Room lines) = lines ≡ 0
+StopsAtOnce Read = ⊥
+StopsAtOnce Write = ⊥
+
+-- the same over a bank
+abbrev pub RanOut : Store → Store → RunFault → Type 0
+RanOut old new (Memory lines) = lines ≡ 0
+RanOut old new (Room lines) = (lines ≡ 0) × IsFilled old new
+RanOut old new Read = ⊥
+RanOut old new Write = ⊥
 
 -- a fault before anything is written
-abbrev pub StopsUnwritten : ℕ → RunFault → Type 0
-StopsUnwritten cap (Memory lines) = lines ≡ 0
-StopsUnwritten cap (Room lines) = (lines ≡ 0) × HasFullBank cap
-StopsUnwritten cap Read = Unit {0}
-StopsUnwritten cap Write = ⊥
+abbrev pub StopsUnwritten : Store → Store → RunFault → Type 0
+StopsUnwritten old new (Memory lines) = lines ≡ 0
+StopsUnwritten old new (Room lines) = (lines ≡ 0) × IsFilled old new
+StopsUnwritten old new Read = Unit {0}
+StopsUnwritten old new Write = ⊥
+
+-- a fault before anything is written, where no bank is asked: memory ran out, or the reader refused
+abbrev pub StopsReading : RunFault → Type 0
+StopsReading (Memory lines) = lines ≡ 0
+StopsReading (Room lines) = ⊥
+StopsReading Read = Unit {0}
+StopsReading Write = ⊥
+
+-- what a run answers behind what was written: the fault that stopped it, or, after a flush, how it
+-- ends or that the writer refused to flush
+abbrev pub EndsBehind : Result (Unit {0}) RunFault → Finish → Option (List ℕ) → Option (List ℕ)
+    → Result Finish RunFault → Type 0
+EndsBehind (Ok u) finish old new r = Keeps old new × ((r ≡ Ok finish) ⊎ (r ≡ Err Write))
+EndsBehind (Err f) finish old new r = (r ≡ Err f) × (new ≡ old)
 
 -- a fault while lines are written of trees that are there: memory ran out, or the writer refused
 abbrev pub StopsWriting : RunFault → Type 0

@@ -53,6 +53,11 @@ IsTermDue bytes d = IsDueOf term_line bytes d
 abbrev pub IsShareDue : List ℕ → Due → Type 0
 IsShareDue bytes d = IsDueOf share_lines bytes d
 
+-- nothing is protected in a bank whose cells are counted
+abbrev pub IsUnrooted : TermLines → Store → Type 0
+IsUnrooted Text w = Unit {0}
+IsUnrooted TextAndCells w = (t : ℕ) → w.roots t ≡ 0
+
 -- so much of the tree of a reference
 abbrev pub lines_at : (Tree → List ℕ) → Store → Term → List ℕ
 lines_at lines w t = option_map_or lines (tree_at w t) []

@@ -1,13 +1,16 @@
 //! What a run leaves for its explanation.
 
 use crate::expected::expected_words;
-use crate::item::{item_of_args, item_of_terms};
-use crate::recorded::Recorded;
+use crate::item::{element_of_terms, item_of_args};
+use crate::recorded::{Output, Recorded};
 use rec_run::{Finish, Place, RunFault, Source};
-use recw_words::{Invocation, Item, Refusal, Request, explain_place, explain_text};
+use recw_words::{
+    Given, Invocation, Item, Refusal, Request, STANDARD_INPUT, TextName, Texts, Which,
+    explain_given, explain_place, explain_text, explain_trouble,
+};
 use std::alloc::Global;
 use std::io;
-use std::io::{ErrorKind, Read, Write};
+use std::io::{Error, Read, Write};
 
 /// What a refusal's line is made of.
 struct RefusalLine<'a> {
@@ -15,6 +18,15 @@ struct RefusalLine<'a> {
     source: Source,
     /// The refusal's name.
     rule: &'a str,
+}
+
+/// A stream that failed, and why.
+#[derive(Clone, Copy)]
+struct Trouble<'a> {
+    /// What the stream is called.
+    name: TextName<'a>,
+    /// What the system said.
+    error: Error,
 }
 
 /// What is asked of a run, and what it leaves: the texts that it read, and what came of them.
@@ -26,14 +38,16 @@ pub struct Evidence<'a> {
     pub invocation: Invocation<'a>,
     /// Where the text was refused.
     pub place: Option<Place>,
+    /// Behind how many words the one stands that was refused, where it is a given term.
+    word: Option<usize>,
     /// The text of the specification, or of the term.
     pub first: Vec<u8>,
     /// The text of the given terms.
     pub second: Vec<u8>,
-    /// The first bytes of the output.
-    pub line: Vec<u8>,
-    /// What could not be read, and why.
-    trouble: Option<(&'a str, ErrorKind)>,
+    /// What was written.
+    pub output: Output,
+    /// What failed, and why.
+    trouble: Option<Trouble<'a>>,
 }
 
 impl<'a> Evidence<'a> {
@@ -43,34 +57,43 @@ impl<'a> Evidence<'a> {
             alloc,
             invocation,
             place: None,
+            word: None,
             first: Vec::new(alloc),
             second: Vec::new(alloc),
-            line: Vec::new(alloc),
+            output: Output::new(alloc),
             trouble: None,
         }
     }
 
     /// What was opened under this name. Where it could not be, that is kept, with the reason.
-    pub fn note_open<T>(&mut self, opening: io::Result<T>, name: &'a str) -> Result<T, RunFault> {
+    pub fn note_open<T>(
+        &mut self,
+        opening: io::Result<T>,
+        name: TextName<'a>,
+    ) -> Result<T, RunFault> {
         match opening {
             Ok(file) => Ok(file),
             Err(error) => {
-                self.trouble = Some((name, error.kind()));
+                self.trouble = Some(Trouble { name, error });
                 Err(RunFault::Read)
             }
         }
     }
 
     /// What the text is called where it is read.
-    pub fn name_of(&self, source: Source) -> &'a str {
+    pub fn name_of(&self, source: Source) -> TextName<'a> {
         let request = self.invocation.request;
-        let path = match source {
-            Source::Pattern => Some("PATTERN"),
-            Source::Args => Some("ARGS"),
-            Source::Terms => request.terms_path(),
+        let path = match (source, self.word) {
+            (Source::Pattern, _) => Some("PATTERN"),
+            (Source::Args, _) => Some("ARGS"),
+            (Source::Terms, Some(word)) => return TextName::Word(word),
+            (Source::Terms, None) => request.terms_path(),
             _ => request.path(),
         };
-        path.unwrap_or("<stdin>")
+        match path {
+            Some(path) if path != STANDARD_INPUT => TextName::Path(path),
+            _ => TextName::Path("<stdin>"),
+        }
     }
 
     /// A reader whose text is kept where a refusal is to be explained.
@@ -80,21 +103,47 @@ impl<'a> Evidence<'a> {
 
     /// The text that was read under this name. Where a read failed, that is what could not be read,
     /// unless one was noted before: given terms, which are read last, are noted first.
-    pub fn note_read(&mut self, end: (Vec<u8>, Option<ErrorKind>), name: &'a str) -> Vec<u8> {
+    pub fn note_read(&mut self, end: (Vec<u8>, Option<Error>), name: TextName<'a>) -> Vec<u8> {
         let (text, trouble) = end;
-        if let Some(kind) = trouble
+        if let Some(error) = trouble
             && self.trouble.is_none()
         {
-            self.trouble = Some((name, kind));
+            self.trouble = Some(Trouble { name, error });
         }
         text
+    }
+
+    /// What was written.
+    pub fn note_output(&mut self, output: Output) {
+        if let Some(error) = output.trouble
+            && self.trouble.is_none()
+        {
+            let name = TextName::Path("<stdout>");
+            self.trouble = Some(Trouble { name, error });
+        }
+        self.output = output;
+    }
+
+    /// Finds the word that was refused, of those of which the given terms are made.
+    pub fn note_word(&mut self, given: &Given) {
+        if let Some(place) = self.place
+            && matches!(place.text, Source::Terms)
+        {
+            let (word, at) = given.locate(place.at as usize);
+            self.word = Some(word);
+            self.place = Some(Place {
+                text: Source::Terms,
+                rule: place.rule,
+                at: u32::try_from(at).unwrap_or(place.at),
+            });
+        }
     }
 
     /// Explains how a run ended, where there is more to say than the line that was written.
     pub fn explain<W: Write>(&self, end: Result<Finish, RunFault>, out: &mut W) -> io::Result<()> {
         match end {
             Ok(Finish::Refused) => self.explain_refusal(out),
-            Err(RunFault::Read) => self.explain_trouble(out),
+            Err(RunFault::Read | RunFault::Write) => self.explain_trouble(out),
             Err(RunFault::Room { .. }) => explain_room(self.invocation.request, out),
             _ => Ok(()),
         }
@@ -102,16 +151,19 @@ impl<'a> Evidence<'a> {
 
     /// Says what the refusal means, and where it stands.
     fn explain_refusal<W: Write>(&self, out: &mut W) -> io::Result<()> {
-        let Some(RefusalLine { source, rule }) = read_line(self.line.as_slice()) else {
+        let Some(RefusalLine { source, rule }) = read_line(self.output.text.as_slice()) else {
             return Ok(());
         };
         let refusal = Refusal {
             text: self.name_of(source),
             rule,
         };
-        match self.place {
-            Some(place) => self.explain_at(refusal, self.text_of(source), place.at as usize, out),
-            None => explain_text(refusal, self.item_of(source), out),
+        match (self.place, source) {
+            (Some(place), _) => {
+                self.explain_at(refusal, self.text_of(source), place.at as usize, out)
+            }
+            (None, Source::Terms) => self.explain_terms(refusal, out),
+            (None, _) => explain_text(refusal, self.item_of(source), out),
         }
     }
 
@@ -123,18 +175,39 @@ impl<'a> Evidence<'a> {
         at: usize,
         out: &mut W,
     ) -> io::Result<()> {
-        match expected_words(self.alloc, refusal.rule, text, at) {
-            Some(expected) => explain_place(refusal, text, at, expected.as_slice(), out),
-            None => explain_place(refusal, text, at, &[], out),
+        let alloc = self.alloc;
+        match expected_words(alloc, refusal.rule, text, at) {
+            Some(expected) => explain_place(alloc, refusal, text, at, expected.as_slice(), out),
+            None => explain_place(alloc, refusal, text, at, &[], out),
+        }
+    }
+
+    /// Says which given term is refused, and which part of it.
+    fn explain_terms<W: Write>(&self, refusal: Refusal<'_>, out: &mut W) -> io::Result<()> {
+        let spec = self.first.as_slice();
+        let terms = self.second.as_slice();
+        let Some(element) = element_of_terms(self.alloc, spec, terms) else {
+            return explain_text(refusal, None, out);
+        };
+        match self.invocation.given.as_slice().get(element) {
+            Some(word) => {
+                let terms = word.as_bytes();
+                let text = TextName::Word(element);
+                let rule = refusal.rule;
+                let which = Which::Whole;
+                let texts = Texts { spec, terms, which };
+                explain_given(self.alloc, Refusal { text, rule }, texts, out)
+            }
+            None => {
+                let which = Which::Element(element);
+                explain_given(self.alloc, refusal, Texts { spec, terms, which }, out)
+            }
         }
     }
 
     /// Which item of a list is refused, where the text is one and that can be told.
     fn item_of(&self, source: Source) -> Option<Item> {
         match (source, self.invocation.request) {
-            (Source::Terms, Request::Eval { .. }) => {
-                item_of_terms(self.alloc, self.first.as_slice(), self.second.as_slice())
-            }
             (Source::Args, Request::Make { pattern, args }) => {
                 item_of_args(self.alloc, pattern.as_bytes(), args.as_bytes())
             }
@@ -142,10 +215,10 @@ impl<'a> Evidence<'a> {
         }
     }
 
-    /// Says which file could not be read, and why.
+    /// Says which stream failed, and why.
     fn explain_trouble<W: Write>(&self, out: &mut W) -> io::Result<()> {
         match self.trouble {
-            Some((name, kind)) => writeln!(out, "{name}: {kind}"),
+            Some(Trouble { name, error }) => explain_trouble(self.alloc, name, error, out),
             None => Ok(()),
         }
     }
@@ -157,8 +230,24 @@ impl<'a> Evidence<'a> {
                 pattern.as_bytes()
             }
             (Source::Args, Request::Make { args, .. }) => args.as_bytes(),
-            (Source::Terms, _) => self.second.as_slice(),
+            (Source::Terms, _) => self.given_text(),
             _ => self.first.as_slice(),
+        }
+    }
+
+    /// The text of the given terms, or the word that was refused.
+    fn given_text(&self) -> &[u8] {
+        match self.word {
+            Some(word) => self.word_text(word),
+            None => self.second.as_slice(),
+        }
+    }
+
+    /// The word that stands behind so many others.
+    fn word_text(&self, before: usize) -> &[u8] {
+        match self.invocation.given.as_slice().get(before) {
+            Some(word) => word.as_bytes(),
+            None => &[],
         }
     }
 }
@@ -183,7 +272,8 @@ fn explain_room<W: Write>(request: Request<'_>, out: &mut W) -> io::Result<()> {
     match request {
         Request::Eval { options, .. } => {
             let cells = options.cells;
-            writeln!(out, "--cells raises the limit, which is {cells} cells")
+            let noun = if cells == 1 { "cell" } else { "cells" };
+            writeln!(out, "--cells raises the limit, which is {cells} {noun}")
         }
         _ => Ok(()),
     }

@@ -1,7 +1,9 @@
 //! What a run reads.
+
+use recw_words::STANDARD_INPUT;
 use std::fs::File;
 use std::io;
-use std::io::Read;
+use std::io::{ErrorKind, Read};
 use std::rt::Files;
 
 /// The standard input, or a file.
@@ -22,15 +24,23 @@ impl<R: Read, F: Read> Read for Input<'_, R, F> {
     }
 }
 
-/// The file at `path`, or else the standard input.
+/// The file at `path`, or the standard input where there is no path, or the one that stands for it.
 pub fn open<'a, H: Files, R: Read>(
     rt: &H,
     path: Option<&str>,
     input: &'a mut R,
 ) -> io::Result<Input<'a, R, H::File>> {
     match path {
-        None => Ok(Input::Standard(input)),
-        Some(path) => Ok(Input::File(File::open(rt, path)?)),
+        Some(path) if path != STANDARD_INPUT => Ok(Input::File(File::open(rt, path)?)),
+        _ => Ok(Input::Standard(input)),
+    }
+}
+
+/// The file at `path`. Fails where there is no path.
+pub fn open_file<H: Files>(rt: &H, path: Option<&str>) -> io::Result<H::File> {
+    match path {
+        Some(path) => File::open(rt, path),
+        None => Err(io::Error::from(ErrorKind::NotFound)),
     }
 }
 

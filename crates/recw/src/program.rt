@@ -1,21 +1,23 @@
 //! Does what the words ask.
 
 use crate::evidence::Evidence;
-use crate::input::{open, open_given};
+use crate::given::given_by;
+use crate::input::{open, open_file, open_given};
 use crate::recorded::Watched;
 use crate::report;
 use rec_run::{
     Finish, RunFault, RunOptions, Source, run_at, run_aterm_at, run_make_at, run_match_at,
     run_share_at,
 };
-use recw_words::{Asked, EvalOptions, Invocation, Request, read_words};
+use recw_words::status::{eval_status, match_status};
+use recw_words::{Asked, Audience, EvalOptions, Invocation, Request, STANDARD_INPUT, read_words};
 use std::alloc::Global;
 use std::io::{Read, Write};
 use std::rt::Files;
 
 /// Does what the words after the program's name ask, and gives the exit status. No words ask for an
 /// evaluation.
-pub fn program<H: Files, R: Read, W: Write, E: Write>(
+pub fn program<H: Files, R: Read, W: Write, E: Write + Audience>(
     rt: &H,
     alloc: Global,
     words: &[&str],
@@ -30,14 +32,15 @@ pub fn program<H: Files, R: Read, W: Write, E: Write>(
 }
 
 /// Does what is asked for, and tells of its end.
-fn obey<H: Files, R: Read, W: Write, E: Write>(
+fn obey<H: Files, R: Read, W: Write, E: Write + Audience>(
     rt: &H,
     alloc: Global,
-    invocation: Invocation<'_>,
+    mut invocation: Invocation<'_>,
     input: &mut R,
     out: &mut W,
     err: &mut E,
 ) -> u8 {
+    invocation.explain |= err.is_curious();
     let mut evidence = Evidence::new(alloc, invocation);
     let end = perform(rt, input, out, &mut evidence);
     conclude(end, &evidence, err)
@@ -49,19 +52,31 @@ fn conclude<E: Write>(end: Result<Finish, RunFault>, evidence: &Evidence<'_>, er
     if evidence.invocation.explain {
         let _ = evidence.explain(end, err);
     }
-    status
+    if evidence.invocation.has_outcome {
+        outcome_status(status, evidence)
+    } else {
+        status
+    }
 }
 
-/// Does what is asked for, and keeps the first bytes of output.
+/// The status where it is to tell what came of the run.
+fn outcome_status(status: u8, evidence: &Evidence<'_>) -> u8 {
+    match evidence.invocation.request {
+        Request::Match { .. } => { match_status(status, evidence.output.text.starts_with(b"yes")) }
+        _ => eval_status(status, evidence.output.has_mark),
+    }
+}
+
+/// Does what is asked for, and keeps what there is to tell of the output.
 fn perform<H: Files, R: Read, W: Write>(
     rt: &H,
     input: &mut R,
     out: &mut W,
     evidence: &mut Evidence<'_>,
 ) -> Result<Finish, RunFault> {
-    let mut out = Watched::new(evidence.alloc, out);
+    let mut out = Watched::new(evidence.alloc, out, evidence.invocation.has_outcome);
     let end = run_request(rt, input, &mut out, evidence);
-    evidence.line = out.finish();
+    evidence.note_output(out.finish());
     end
 }
 
@@ -80,6 +95,7 @@ fn run_request<H: Files, R: Read, W: Write>(
             out,
             &mut evidence.place,
         ),
+        Request::Eval { options, .. } => evaluate(rt, options, input, out, evidence),
         _ => run_on_file(rt, input, out, evidence),
     }
 }
@@ -94,33 +110,20 @@ fn run_on_file<H: Files, R: Read, W: Write>(
     let path = evidence.invocation.request.path();
     let name = evidence.name_of(Source::Term);
     let file = evidence.note_open(open(rt, path, input), name)?;
-    run_recorded(rt, file, out, evidence)
-}
-
-/// The run over what was opened, whose text is kept for an explanation.
-fn run_recorded<H: Files, R: Read + Drop, W: Write>(
-    rt: &H,
-    file: R,
-    out: &mut W,
-    evidence: &mut Evidence<'_>,
-) -> Result<Finish, RunFault> {
     let mut text = evidence.record(file);
-    let end = run_on_text(rt, &mut text, out, evidence);
-    let name = evidence.name_of(Source::Term);
+    let end = run_on_text(&mut text, out, evidence);
     evidence.first = evidence.note_read(text.finish(), name);
     end
 }
 
 /// The run over a text that is asked for.
-fn run_on_text<H: Files, R: Read, W: Write>(
-    rt: &H,
+fn run_on_text<R: Read, W: Write>(
     text: &mut R,
     out: &mut W,
     evidence: &mut Evidence<'_>,
 ) -> Result<Finish, RunFault> {
     let alloc = evidence.alloc;
     match evidence.invocation.request {
-        Request::Eval { options, .. } => evaluate(rt, options, text, out, evidence),
         Request::Share { .. } => run_share_at(alloc, text, out, &mut evidence.place),
         Request::Match { pattern, .. } => {
             run_match_at(alloc, pattern.as_bytes(), text, out, &mut evidence.place)
@@ -133,14 +136,80 @@ fn run_on_text<H: Files, R: Read, W: Write>(
 fn evaluate<H: Files, R: Read, W: Write>(
     rt: &H,
     options: EvalOptions,
+    input: &mut R,
+    out: &mut W,
+    evidence: &mut Evidence<'_>,
+) -> Result<Finish, RunFault> {
+    if evidence.invocation.request.terms_path() == Some(STANDARD_INPUT) {
+        evaluate_on_input(rt, options, input, out, evidence)
+    } else {
+        evaluate_on_files(rt, options, input, out, evidence)
+    }
+}
+
+/// Evaluates a specification in a file, and given terms on the standard input.
+fn evaluate_on_input<H: Files, R: Read, W: Write>(
+    rt: &H,
+    options: EvalOptions,
+    input: &mut R,
+    out: &mut W,
+    evidence: &mut Evidence<'_>,
+) -> Result<Finish, RunFault> {
+    let path = evidence.invocation.request.path();
+    let name = evidence.name_of(Source::Spec);
+    let file = evidence.note_open(open_file(rt, path), name)?;
+    let terms = evidence.note_open(open(rt, None, input), name)?;
+    let mut spec = evidence.record(file);
+    let end = evaluate_with(options, &mut spec, Some(terms), out, evidence);
+    evidence.first = evidence.note_read(spec.finish(), name);
+    end
+}
+
+/// Evaluates a specification in a file or on the standard input, and given terms from elsewhere.
+fn evaluate_on_files<H: Files, R: Read, W: Write>(
+    rt: &H,
+    options: EvalOptions,
+    input: &mut R,
+    out: &mut W,
+    evidence: &mut Evidence<'_>,
+) -> Result<Finish, RunFault> {
+    let path = evidence.invocation.request.path();
+    let name = evidence.name_of(Source::Spec);
+    let file = evidence.note_open(open(rt, path, input), name)?;
+    let mut spec = evidence.record(file);
+    let end = evaluate_text(rt, options, &mut spec, out, evidence);
+    evidence.first = evidence.note_read(spec.finish(), name);
+    end
+}
+
+/// Evaluates the text of a specification, and the terms that are given beside it.
+fn evaluate_text<H: Files, R: Read, W: Write>(
+    rt: &H,
+    options: EvalOptions,
     spec: &mut R,
     out: &mut W,
     evidence: &mut Evidence<'_>,
 ) -> Result<Finish, RunFault> {
+    if !evidence.invocation.given.is_empty() {
+        return evaluate_words(options, spec, out, evidence);
+    }
     let path = evidence.invocation.request.terms_path();
     let name = evidence.name_of(Source::Terms);
     let terms = evidence.note_open(open_given(rt, path), name)?;
     evaluate_with(options, spec, terms, out, evidence)
+}
+
+/// Evaluates a specification and the terms that stand among the words.
+fn evaluate_words<R: Read, W: Write>(
+    options: EvalOptions,
+    spec: &mut R,
+    out: &mut W,
+    evidence: &mut Evidence<'_>,
+) -> Result<Finish, RunFault> {
+    let given = given_by(evidence.alloc, evidence.invocation.given.as_slice())?;
+    let end = evaluate_with(options, spec, Some(given.text()), out, evidence);
+    evidence.note_word(&given);
+    end
 }
 
 /// Evaluates a specification and given terms, whose text is kept for an explanation.

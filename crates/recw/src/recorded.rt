@@ -2,7 +2,7 @@
 
 use std::alloc::Global;
 use std::io;
-use std::io::{ErrorKind, Read, Write};
+use std::io::{Error, Read, Write};
 
 /// How many bytes of an output are kept, which is more than a refusal's line has.
 const KEPT_OUTPUT: usize = 32;
@@ -17,7 +17,7 @@ pub struct Recorded<R> {
     /// The text so far; nothing where it is not kept.
     text: Vec<u8>,
     /// Why the last read that failed did.
-    trouble: Option<ErrorKind>,
+    trouble: Option<Error>,
 }
 
 impl<R: Read> Recorded<R> {
@@ -42,7 +42,7 @@ impl<R: Read> Recorded<R> {
 
 impl<R: Read + Drop> Recorded<R> {
     /// The text that was read, and why a read failed.
-    pub fn finish(self) -> (Vec<u8>, Option<ErrorKind>) {
+    pub fn finish(self) -> (Vec<u8>, Option<Error>) {
         (self.text, self.trouble)
     }
 }
@@ -55,48 +55,106 @@ impl<R: Read> Read for Recorded<R> {
                 Ok(count)
             }
             Err(error) => {
-                self.trouble = Some(error.kind());
+                self.trouble = Some(error);
                 Err(error)
             }
         }
     }
 }
 
-/// A writer whose first bytes are kept.
+/// What is kept of an output.
+#[derive(Drop)]
+pub struct Output {
+    /// The first bytes that were written.
+    pub text: Vec<u8>,
+    /// Whether a line began with a `!`, where that is watched.
+    pub has_mark: bool,
+    /// Why the last write that failed did.
+    pub trouble: Option<Error>,
+}
+
+impl Output {
+    /// Nothing was written.
+    pub fn new(alloc: Global) -> Output {
+        Output {
+            text: Vec::new(alloc),
+            has_mark: false,
+            trouble: None,
+        }
+    }
+}
+
+/// A writer of which the first bytes are kept.
 #[derive(Drop)]
 pub struct Watched<'a, W> {
     /// The writer that is asked.
-    output: &'a mut W,
-    /// The first bytes that were written.
-    text: Vec<u8>,
+    writer: &'a mut W,
+    /// Whether the beginnings of lines are watched.
+    is_watched: bool,
+    /// Whether a line is begun.
+    is_begun: bool,
+    /// What is kept.
+    kept: Output,
 }
 
 impl<'a, W: Write> Watched<'a, W> {
-    /// A writer to which nothing was written.
-    pub fn new(alloc: Global, output: &'a mut W) -> Watched<'a, W> {
+    /// A writer to which nothing was written; the beginnings of lines are watched where
+    /// `is_watched`.
+    pub fn new(alloc: Global, writer: &'a mut W, is_watched: bool) -> Watched<'a, W> {
         Watched {
-            output,
-            text: Vec::new(alloc),
+            writer,
+            is_watched,
+            is_begun: false,
+            kept: Output::new(alloc),
         }
     }
 
-    /// The first bytes that were written.
-    pub fn finish(self) -> Vec<u8> {
-        self.text
+    /// What was kept.
+    pub fn finish(self) -> Output {
+        self.kept
+    }
+
+    /// Keeps the first bytes.
+    fn keep(&mut self, bytes: &[u8]) {
+        if self.kept.text.len() < KEPT_OUTPUT {
+            let kept = bytes.get(..KEPT_OUTPUT).unwrap_or(bytes);
+            let _ = self.kept.text.extend_from_slice(kept);
+        }
+        if self.is_watched {
+            self.watch(bytes);
+        }
+    }
+
+    /// Notes a line that begins with a `!`.
+    fn watch(&mut self, bytes: &[u8]) {
+        for byte in bytes {
+            if !self.is_begun && *byte == b'!' {
+                self.kept.has_mark = true;
+            }
+            self.is_begun = *byte != b'\n';
+        }
     }
 }
 
 impl<W: Write> Write for Watched<'_, W> {
     fn write(&mut self, buf: &[u8]) -> io::Result<usize> {
-        let count = self.output.write(buf)?;
-        if self.text.len() < KEPT_OUTPUT {
-            let kept = buf[..count].get(..KEPT_OUTPUT).unwrap_or(&buf[..count]);
-            let _ = self.text.extend_from_slice(kept);
+        match self.writer.write(buf) {
+            Ok(count) => {
+                self.keep(&buf[..count]);
+                Ok(count)
+            }
+            Err(error) => {
+                self.kept.trouble = Some(error);
+                Err(error)
+            }
         }
-        Ok(count)
     }
 
     fn flush(&mut self) -> io::Result<()> {
-        self.output.flush()
+        let end = self.writer.flush();
+        if let Err(error) = end {
+            self.kept.trouble = Some(error);
+        }
+        end
     }
 }

@@ -1,12 +1,17 @@
 //! What the program answers and writes for words and texts, and what its answers are compared with.
 
 mod explained;
+mod given;
 mod help;
+mod named;
+mod outcome;
+mod shown;
 mod streams;
 mod words;
 
 use crate::program::program;
 use crate::shelf::Shelf;
+use recw_words::Console;
 use std::alloc::Global;
 use std::io::Read;
 use std::process::Abort;
@@ -58,9 +63,21 @@ pub(crate) fn run_over<H: Files, R: Read>(
     words: &[&str],
     input: &mut R,
 ) -> Ran {
+    run_before(files, alloc, words, input, false)
+}
+
+/// The same before somebody who reads standard error, or nobody.
+pub(crate) fn run_before<H: Files, R: Read>(
+    files: &H,
+    alloc: Global,
+    words: &[&str],
+    input: &mut R,
+    is_curious: bool,
+) -> Ran {
     let mut out = Vec::new(alloc);
-    let mut err = Vec::new(alloc);
+    let mut err = Console::new(Vec::new(alloc), is_curious);
     let status = program(files, alloc, words, input, &mut out, &mut err);
+    let err = err.into_inner();
     Ran { status, out, err }
 }
 
@@ -88,12 +105,14 @@ fn all_leave<H: Abort + Files>(rt: &H, alloc: Global, rows: &[Row]) {
 }
 
 /// The rows whose texts come from the standard input.
-const TABLES: [&[Row]; 5] = [
+const TABLES: [&[Row]; 7] = [
     help::HELPS,
     words::STATUSES,
     words::TERMS,
     words::PATTERNS,
     explained::INPUTS,
+    given::WORDS,
+    outcome::STATUSES,
 ];
 
 #[test]
@@ -111,9 +130,10 @@ fn all_leave_on(rt: &impl Abort, alloc: Global, files: &Shelf, rows: &[Row]) {
 }
 
 /// The rows whose texts come from files.
-const SHELVES: [(Shelf, &[Row]); 2] = [
+const SHELVES: [(Shelf, &[Row]); 3] = [
     (streams::FILES, streams::NAMED),
     (explained::REFUSED, explained::EXPLAINED),
+    (given::FILES, given::NAMED),
 ];
 
 #[test]

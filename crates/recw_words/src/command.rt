@@ -67,24 +67,38 @@ fn eval_command<'a>(alloc: Global) -> Result<Command<'a>, AllocError> {
         "Example: recw eval --steps 500 add.rec add.trm",
     );
     let command = with_files(alloc, command)?;
-    with_limits(alloc, command)?
-        .arg(flag(
-            alloc,
-            "count",
-            "Print the steps that each term took behind its value",
-        ))?
-        .arg(explain(alloc))
+    let command = with_limits(alloc, command)?.arg(flag(
+        alloc,
+        "count",
+        "Print the steps that each term took behind its value",
+    ))?;
+    let command = command.arg(flag(
+        alloc,
+        "limit-status",
+        "End with status 5 where a term takes more steps",
+    ))?;
+    command.arg(explain(alloc))
 }
 
-/// The command with the files of an evaluation.
+/// The command with the files of an evaluation, and with terms in place of the second.
 fn with_files<'a>(alloc: Global, command: Command<'a>) -> Result<Command<'a>, AllocError> {
+    let command = command.arg(file(
+        alloc,
+        "SPEC",
+        "File of the specification, or - [default: standard input]",
+    ))?;
+    with_terms(alloc, command)
+}
+
+/// The command with given terms.
+fn with_terms<'a>(alloc: Global, command: Command<'a>) -> Result<Command<'a>, AllocError> {
     command
         .arg(file(
             alloc,
-            "SPEC",
-            "File of the specification [default: standard input]",
+            "TERMS",
+            "File of an ATerm list of further terms, or -",
         ))?
-        .arg(file(alloc, "TERMS", "File of an ATerm list of further terms"))
+        .arg(term(alloc)?)
 }
 
 /// The command with the options that limit an evaluation.
@@ -132,7 +146,12 @@ fn match_command<'a>(alloc: Global) -> Result<Command<'a>, AllocError> {
          Give a pattern that begins with - a blank before it: ' -7'.\n\n\
          Example: echo 'f(1,2,3)' | recw match 'f(<int>,<list>)'",
     );
-    with_term(alloc, command.arg(pattern(alloc))?)
+    let command = command.arg(pattern(alloc))?.arg(flag(
+        alloc,
+        "test",
+        "End with status 1 where it does not match, 2 where a text is refused",
+    ))?;
+    with_term(alloc, command)
 }
 
 /// The subcommand `make`.
@@ -155,7 +174,11 @@ fn make_command<'a>(alloc: Global) -> Result<Command<'a>, AllocError> {
 /// The command with the file of a term and the option `--explain`.
 fn with_term<'a>(alloc: Global, command: Command<'a>) -> Result<Command<'a>, AllocError> {
     command
-        .arg(file(alloc, "FILE", "File of the ATerm [default: standard input]"))?
+        .arg(file(
+            alloc,
+            "FILE",
+            "File of the ATerm, or - [default: standard input]",
+        ))?
         .arg(explain(alloc))
 }
 
@@ -174,6 +197,17 @@ fn file<'a>(alloc: Global, name: &'a str, help: &'a str) -> Arg<'a> {
     Arg::new(alloc, name).help(help)
 }
 
+/// The option `--term`, in place of a file of further terms.
+fn term<'a>(alloc: Global) -> Result<Arg<'a>, AllocError> {
+    Arg::new(alloc, "term")
+        .short('e')
+        .long("term")
+        .value_name("TERM")
+        .action(ArgAction::Append)
+        .help("A further term; may be given several times")
+        .conflicts_with("TERMS")
+}
+
 /// The option `--steps`.
 fn steps<'a>(alloc: Global) -> Arg<'a> {
     let help = "Most steps that a term may take, up to 10^18";
@@ -184,7 +218,7 @@ fn steps<'a>(alloc: Global) -> Arg<'a> {
 
 /// The option `--cells`.
 fn cells<'a>(alloc: Global) -> Arg<'a> {
-    let help = "Most cells that terms may take, 1 to 2^30";
+    let help = "Most cells that terms may take, 1 to 2^30; the default takes up to 1.4 GB";
     number(alloc, "cells", "C", "16777216", help).value_parser(value_parser!(u32).range(
         1..=i64::from(MOST_CELLS),
     ))
@@ -218,6 +252,7 @@ fn number<'a>(
         .long(name)
         .value_name(value_name)
         .default_value(default)
+        .allow_negative_numbers(true)
         .help(help)
 }
 

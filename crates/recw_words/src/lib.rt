@@ -2,17 +2,35 @@
 #![tactic(auto)]
 
 mod asked;
+mod broken_part;
 mod command;
+mod console;
+mod elements;
 mod explain;
+mod given;
+mod guarded;
 mod item;
+mod keywords;
+mod named;
+mod names;
+mod near;
+mod nodes;
 mod place;
+mod prompt;
 mod refusals;
 mod report;
 mod request;
 pub mod status;
+mod text_name;
 
 pub use asked::{Asked, read_words};
-pub use explain::{Refusal, explain_place, explain_text};
+pub use console::{Audience, Console};
+pub use elements::Which;
+pub use explain::{Refusal, Texts, explain_given, explain_place, explain_text, explain_trouble};
+pub use given::Given;
+pub use guarded::Guarded;
 pub use item::Item;
+pub use prompt::Prompt;
 pub use report::failed_start;
-pub use request::{EvalOptions, Invocation, Request};
+pub use request::{EvalOptions, Invocation, Request, STANDARD_INPUT};
+pub use text_name::TextName;

@@ -25,10 +25,16 @@ pub struct Spot<'a> {
     behind: &'a [u8],
 }
 
+/// The number of the line in which the text's byte at `at` stands, from 1.
+pub fn line_of(text: &[u8], at: usize) -> usize {
+    let (above, _) = text.split_at(at.min(text.len()));
+    let feeds = above.iter().filter(|byte| **byte == LINE_FEED).count();
+    feeds.saturating_add(1)
+}
+
 /// The place `at` bytes behind the text's beginning.
 pub fn place_in(text: &[u8], at: usize) -> Spot<'_> {
     let (above, below) = text.split_at(at.min(text.len()));
-    let feeds = above.iter().filter(|byte| **byte == LINE_FEED).count();
     let width = above
         .iter()
         .rev()
@@ -39,10 +45,18 @@ pub fn place_in(text: &[u8], at: usize) -> Spot<'_> {
         .position(|byte| *byte == LINE_FEED)
         .unwrap_or(below.len());
     Spot {
-        line: feeds.saturating_add(1),
+        line: line_of(text, at),
         column: width.saturating_add(1),
         before: &above[above.len() - width..],
-        behind: &below[..rest],
+        behind: without_return(&below[..rest]),
+    }
+}
+
+/// A line without the carriage return before its end.
+fn without_return(line: &[u8]) -> &[u8] {
+    match line.strip_suffix(b"\r") {
+        Some(line) => line,
+        None => line,
     }
 }
 
@@ -96,7 +110,7 @@ fn show_window<W: Write>(window: Window<'_>, out: &mut W) -> io::Result<()> {
 }
 
 /// Writes bytes as they are shown.
-fn show_bytes<W: Write>(bytes: &[u8], out: &mut W) -> io::Result<()> {
+pub fn show_bytes<W: Write>(bytes: &[u8], out: &mut W) -> io::Result<()> {
     for byte in bytes {
         show(*byte, out)?;
     }

@@ -67,11 +67,40 @@ pub fn advise<E: Write>(words: &[&str], err: &mut E) {
     if let Some(word) = words.first()
         && word.contains(['.', '/'].as_slice())
     {
-        let _ = writeln!(
-            err,
-            "\nTo evaluate the specification in that file: recw eval {word}"
-        );
+        let _ = write_advice(word, err);
     }
+}
+
+/// Names the command for a file, which is quoted where the shell would not take it as one word.
+fn write_advice<E: Write>(word: &str, err: &mut E) -> io::Result<()> {
+    err.write_all(b"\nTo evaluate the specification in that file: recw eval ")?;
+    write_word(word, err)?;
+    err.write_all(b"\n")
+}
+
+/// Writes a word as a shell reads it.
+fn write_word<E: Write>(word: &str, err: &mut E) -> io::Result<()> {
+    if word.bytes().all(is_plain) {
+        return err.write_all(word.as_bytes());
+    }
+    err.write_all(b"'")?;
+    for byte in word.bytes() {
+        write_quoted(byte, err)?;
+    }
+    err.write_all(b"'")
+}
+
+/// Writes a byte as a shell reads it within quotes.
+fn write_quoted<E: Write>(byte: u8, err: &mut E) -> io::Result<()> {
+    match byte {
+        b'\'' => err.write_all(b"'\\''"),
+        _ => err.write_all(&[byte]),
+    }
+}
+
+/// Whether a shell takes a byte as it is.
+fn is_plain(byte: u8) -> bool {
+    byte.is_ascii_alphanumeric() || matches!(byte, b'.' | b'/' | b'_' | b'-' | b'+' | b',' | b'@')
 }
 
 /// Tells why there are no words to read.

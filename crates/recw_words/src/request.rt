@@ -4,7 +4,7 @@ ghost use Rattle.std.specs.Prelude.{◌≤◌, ◌^◌};
 use crate::command::{self, MOST_CELLS, MOST_RESULTS, MOST_STEPS};
 use clap::error::ErrorKind;
 use clap::{ArgMatches, Command, Error};
-use std::alloc::Global;
+use std::alloc::{AllocError, Global};
 
 /// The options of an evaluation, each in its range.
 #[derive(Clone, Copy)]
@@ -72,46 +72,135 @@ impl<'a> Request<'a> {
             _ => None,
         }
     }
+
+    /// Whether the standard input is named twice.
+    fn is_read_twice(&self) -> bool {
+        let is_standard = self.path().unwrap_or(STANDARD_INPUT) == STANDARD_INPUT;
+        is_standard && self.terms_path() == Some(STANDARD_INPUT)
+    }
 }
 
-/// What is asked for, and whether a refusal is to be explained.
-#[derive(Clone, Copy)]
+/// The path that stands for the standard input.
+pub const STANDARD_INPUT: &str = "-";
+
+/// What is asked for, and what is to be told of it.
+#[derive(Drop)]
 pub struct Invocation<'a> {
     /// What is to be done.
     pub request: Request<'a>,
+    /// Given terms that stand among the words.
+    pub given: Vec<&'a str>,
     /// Whether a refusal is to be explained.
     pub explain: bool,
+    /// Whether the status is to tell that a pattern does not match, or that there is a limit line.
+    pub has_outcome: bool,
 }
 
 /// What the words after the program's name ask for.
-pub fn parse_words<'a>(alloc: Global, words: &'a [&str]) -> Result<Invocation<'a>, Error> {
+pub fn parse_words<'a>(alloc: Global, words: &'a [&'a str]) -> Result<Invocation<'a>, Error> {
     let mut command = command::command(alloc)?;
-    read_by(&mut command, words)
+    read_by(alloc, &mut command, words)
 }
 
 /// What words ask for, by this command.
-fn read_by<'a>(command: &mut Command<'a>, words: &'a [&str]) -> Result<Invocation<'a>, Error> {
+fn read_by<'a>(
+    alloc: Global,
+    command: &mut Command<'a>,
+    words: &'a [&'a str],
+) -> Result<Invocation<'a>, Error> {
     let matches = command.try_get_matches_from_mut(words)?;
-    invocation_or_error(command, &matches)
+    invocation_or_error(alloc, command, &matches)
 }
 
 /// What the matched words ask for.
 fn invocation_or_error<'a>(
+    alloc: Global,
     command: &mut Command<'a>,
     matches: &ArgMatches<'a>,
 ) -> Result<Invocation<'a>, Error> {
-    match invocation_of(matches) {
-        Some(invocation) => Ok(invocation),
-        None => Err(command.error(ErrorKind::MissingSubcommand, "a subcommand is missing")?),
+    let given = given_of(alloc, matches)?;
+    match asked_by(matches) {
+        Ok(asked) => Ok(asked.with(given)),
+        Err(Wrong { kind, message }) => Err(command.error(kind, message)?),
     }
 }
 
-/// `None` where a word is missing, which the command rules out.
-fn invocation_of<'a>(matches: &ArgMatches<'a>) -> Option<Invocation<'a>> {
-    let (name, inner) = matches.subcommand()?;
-    Some(Invocation {
-        request: request_of(name, inner)?,
+/// What is wrong with words that the command takes.
+#[derive(Clone, Copy)]
+struct Wrong {
+    /// The kind of the error.
+    kind: ErrorKind,
+    /// What is said of it.
+    message: &'static str,
+}
+
+/// A word is missing, which the command rules out.
+const MISSING: Wrong = Wrong {
+    kind: ErrorKind::MissingSubcommand,
+    message: "a subcommand is missing",
+};
+
+/// The standard input is named twice.
+const READ_TWICE: Wrong = Wrong {
+    kind: ErrorKind::ArgumentConflict,
+    message: "the standard input can be read once only",
+};
+
+/// The given terms among the words.
+fn given_of<'a>(alloc: Global, matches: &ArgMatches<'a>) -> Result<Vec<&'a str>, AllocError> {
+    match matches.subcommand() {
+        Some((_, inner)) => copy_of(alloc, inner.get_strs("term")),
+        None => Ok(Vec::new(alloc)),
+    }
+}
+
+/// A list of words, where there is one.
+fn copy_of<'a>(alloc: Global, words: Option<&[&'a str]>) -> Result<Vec<&'a str>, AllocError> {
+    match words {
+        Some(words) => Vec::from_slice(alloc, words),
+        None => Ok(Vec::new(alloc)),
+    }
+}
+
+/// What is asked for, but for the given terms among the words.
+#[derive(Clone, Copy)]
+struct Bare<'a> {
+    /// What is to be done.
+    request: Request<'a>,
+    /// Whether a refusal is to be explained.
+    explain: bool,
+    /// Whether the status is to tell what came of it.
+    has_outcome: bool,
+}
+
+impl<'a> Bare<'a> {
+    /// The same with these given terms.
+    fn with(self, given: Vec<&'a str>) -> Invocation<'a> {
+        let Bare {
+            request,
+            explain,
+            has_outcome,
+        } = self;
+        Invocation {
+            request,
+            given,
+            explain,
+            has_outcome,
+        }
+    }
+}
+
+/// What the matched words ask for, or what is wrong with them.
+fn asked_by<'a>(matches: &ArgMatches<'a>) -> Result<Bare<'a>, Wrong> {
+    let (name, inner) = matches.subcommand().ok_or(MISSING)?;
+    let request = request_of(name, inner).ok_or(MISSING)?;
+    if request.is_read_twice() {
+        return Err(READ_TWICE);
+    }
+    Ok(Bare {
+        request,
         explain: inner.get_flag("explain"),
+        has_outcome: inner.get_flag("test") || inner.get_flag("limit-status"),
     })
 }
 
@@ -120,10 +209,10 @@ fn request_of<'a>(name: &str, inner: &ArgMatches<'a>) -> Option<Request<'a>> {
     match name {
         "eval" => eval_of(inner),
         "aterm" => Some(Request::Aterm {
-            file: inner.get_str("FILE"),
+            file: path_of(inner, "FILE"),
         }),
         "share" => Some(Request::Share {
-            file: inner.get_str("FILE"),
+            file: path_of(inner, "FILE"),
         }),
         "match" => match_of(inner),
         "make" => make_of(inner),
@@ -131,11 +220,16 @@ fn request_of<'a>(name: &str, inner: &ArgMatches<'a>) -> Option<Request<'a>> {
     }
 }
 
+/// The path that a word names, where that is not the standard input.
+fn path_of<'a>(inner: &ArgMatches<'a>, id: &str) -> Option<&'a str> {
+    inner.get_str(id).filter(|path| *path != STANDARD_INPUT)
+}
+
 /// What `eval` is asked to do.
 fn eval_of<'a>(inner: &ArgMatches<'a>) -> Option<Request<'a>> {
     Some(Request::Eval {
         options: options_of(inner)?,
-        spec: inner.get_str("SPEC"),
+        spec: path_of(inner, "SPEC"),
         terms: inner.get_str("TERMS"),
     })
 }
@@ -144,7 +238,7 @@ fn eval_of<'a>(inner: &ArgMatches<'a>) -> Option<Request<'a>> {
 fn match_of<'a>(inner: &ArgMatches<'a>) -> Option<Request<'a>> {
     Some(Request::Match {
         pattern: inner.get_str("PATTERN")?,
-        file: inner.get_str("FILE"),
+        file: path_of(inner, "FILE"),
     })
 }
 

@@ -10,4 +10,5 @@ mod pattern;
 mod syntax;
 mod text;
 mod texts;
+mod trace;
 mod verdicts;

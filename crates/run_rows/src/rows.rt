@@ -1,5 +1,7 @@
 //! Runs on worked texts, and what their answers are compared with.
 
+mod bank;
+mod counting;
 mod given;
 mod hostile;
 mod limits;

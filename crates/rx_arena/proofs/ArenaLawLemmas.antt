@@ -227,8 +227,14 @@ times_in-take s zero xs = omega arith
 times_in-take s (suc n) [] = omega arith
 times_in-take s (suc n) (x ∷ xs) = omega (arith, times_in-take s n xs)
 
-pub prepend_law : (a : ArenaState) → IsArena a → (n : ℕ) → length (replicate n [] ++ a.chains) < 2 ^ 32 → IsArena (record a { chains = replicate n [] ++ a.chains })
-prepend_law a law n few = chains_law a law (replicate n [] ++ a.chains) (λ s. omega (arith, times_in-append s (replicate n []) a.chains, times_in-replicate s n)) few
+-- a chain of the arena behind n empty ones
+pub behind_law : (a : ArenaState) → IsArena a → (n : ℕ) → n ≤ 2 ^ 30 → IsArena (record a { chains = set (replicate (n + 1) []) n (chain_at a 0) })
+behind_law a law n le =
+    let none : List ℕ = [] in
+    let len = length-replicate (n + 1) none in
+    chains_law a law (set (replicate (n + 1) []) n (chain_at a 0))
+    (λ s. (let count = times_in-set s (replicate (n + 1) []) n (chain_at a 0) (omega (arith, len)) in omega (arith, count, times_in-replicate s (n + 1), times_in-at s a.chains 0)))
+    (omega (arith, le, len, length-set (replicate (n + 1) none) n (chain_at a 0)))
 
 pub truncate_law : (a : ArenaState) → IsArena a → (n : ℕ) → IsArena (record a { chains = take n a.chains })
 truncate_law a law n = chains_law a law (take n a.chains) (λ s. times_in-take s n a.chains) (omega (arith, length-take n a.chains, law.few_chains))

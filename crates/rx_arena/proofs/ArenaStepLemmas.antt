@@ -17,7 +17,7 @@ use Rattle.rx_arena.proofs.PutLemmas.{one_or_two, get_or-put_same, get_or-put_ot
 use Rattle.rx_arena.proofs.ChainLemmas as chains
 use Rattle.rx_arena.proofs.ChainLemmas.{chain_agrees, chain_stays, chains_agree, chains_stay, chains-set, pushed, popped, first_some, listed_is, chained_is, chains-length}
 use Rattle.rx_arena.proofs.PoolLemmas.{links_some}
-use Rattle.rx_arena.proofs.ArenaLawLemmas.{empty_law, prepend_law, truncate_law, cleared_law, loose_free, push_law, pop_law, altered_law, unmarked_away, gray_law, gray_pop_law, take_law, give_back_law, reserve_law, turn_law, taken_marked}
+use Rattle.rx_arena.proofs.ArenaLawLemmas.{empty_law, behind_law, truncate_law, cleared_law, loose_free, push_law, pop_law, altered_law, unmarked_away, gray_law, gray_pop_law, take_law, give_back_law, reserve_law, turn_law, taken_marked}
 
 abbrev pub chain_links : List (Option Node) → Links
 chain_links cells = links (λ n. n.chain) cells
@@ -406,10 +406,6 @@ new_step p heads cap chains lc lk e eh =
       law = empty_law cap chains lc lk;
     }))
 
-prepended : (ls : Links) (n : ℕ) (hs : List (Option ℕ)) (css : List (List ℕ)) → AreChains ls hs css → AreChains ls (replicate n None ++ hs) (replicate n [] ++ css)
-prepended ls zero hs css a = a
-prepended ls (suc n) hs css a = (tt, prepended ls n hs css a)
-
 truncated : (ls : Links) (n : ℕ) (hs : List (Option ℕ)) (css : List (List ℕ)) → AreChains ls hs css → AreChains ls (take n hs) (take n css)
 truncated ls zero hs css a = tt
 truncated ls (suc n) [] [] a = tt
@@ -417,16 +413,17 @@ truncated ls (suc n) [] (c ∷ cs) a = absurd a
 truncated ls (suc n) (h ∷ hs) [] a = absurd a
 truncated ls (suc n) (h ∷ hs) (c ∷ cs) a = (a.0, truncated ls n hs cs a.1)
 
--- empty chains go before the others
-pub prepend_step : (x : Inside) (law : IsArena (opened x)) (new : List (Option ℕ)) (n : ℕ)
-    → new ≡ replicate n None ++ x.heads → length new < 2 ^ 32 → ArenaStep x.pool new x.gray_first (record (opened x) { chains = replicate n [] ++ x.chained.0 })
-prepend_step x law new n e lt =
-    let at = subst (λ z. AreChains (chain_links x.pool.cells) z (replicate n [] ++ x.chained.0)) (sym e) (prepended (chain_links x.pool.cells) n x.heads x.chained.0 x.chained.1) in
+-- the first chain goes behind n empty ones
+pub behind_step : (x : Inside) (law : IsArena (opened x)) (new : List (Option ℕ)) (n : ℕ) (head : Option ℕ) → head ≡ get_or x.heads 0 None → n ≤ 2 ^ 30
+    → new ≡ set (replicate (n + 1) None) n head → ArenaStep x.pool new x.gray_first (record (opened x) { chains = set (replicate (n + 1) []) n (get_or x.chained.0 0 []) })
+behind_step x law new n head first le e =
+    let chain = subst (λ z. IsChain (chain_links x.pool.cells) z (get_or x.chained.0 0 [])) (sym first) (chains.chain_at (chain_links x.pool.cells) x.heads x.chained.0 0 x.chained.1) in
     record {
-      chained = at;
+      chained = subst (λ z. AreChains (chain_links x.pool.cells) z (set (replicate (n + 1) []) n (get_or x.chained.0 0 []))) (sym e)
+          (chains-set (chain_links x.pool.cells) (replicate (n + 1) None) (replicate (n + 1) []) n head (get_or x.chained.0 0 []) (empty_chains (chain_links x.pool.cells) (n + 1)) chain);
       grayed = x.grayed.1;
       state_is = refl;
-      law = prepend_law (opened x) law n (omega (arith, lt, chains-length (chain_links x.pool.cells) new (replicate n [] ++ x.chained.0) at));
+      law = behind_law (opened x) law n le;
     }
 
 -- the first n chains alone stay
@@ -438,11 +435,6 @@ truncate_step x law new n e = record {
   state_is = refl;
   law = truncate_law (opened x) law n;
 }
-
-pub prepended_few : (heads new : List (Option ℕ)) (n : ℕ) → new ≡ replicate n None ++ heads → length heads + n < 2 ^ 32 → length new < 2 ^ 32
-prepended_few heads new n e lt =
-    let none : Option ℕ = None in
-    omega (arith, lt, ap length e, length-append (replicate n none) heads, length-replicate n none)
 
 -- n empty chains in place of the chains
 pub cleared_step : (x : Inside) (law : IsArena (opened x)) (new : List (Option ℕ)) (n : ℕ)

@@ -1,7 +1,8 @@
 -- The slots of the chains are dealt out to new chains, by their hashes.
 use Rattle.std.proofs.Common.{◌≡◌, ◌≢◌, ℕ, zero, suc, ◌+◌, ◌-◌, ◌%◌, ◌<◌, ◌≤◌, inl, inr, List, [], ◌∷◌, length, get_or, set, take, IfSome, refl, sym, ap, subst, ◌∙◌, arith}
-use Rattle.std.specs.Prelude.{Bool, true, false, cond, nat_eq}
-use Rattle.std.proofs.lemmas.List.{length-set, length-take-le, get_or-set_same, get_or-set_other, get_or-take, take_all, take_more}
+use Rattle.std.specs.Prelude.{Bool, true, false, cond, nat_eq, replicate}
+use Rattle.std.proofs.Math.Nat.{mod-one}
+use Rattle.std.proofs.lemmas.List.{length-set, length-take-le, length-replicate, get_or-set_same, get_or-set_other, get_or-take, get_or-replicate, get_or_past, take_all, take_more}
 use Rattle.std.proofs.lemmas.Bool.{eq-eqb, ne_eqb}
 use Rattle.rx_arena.specs.declared.CellBody.{CellBody}
 use Rattle.rx_arena.specs.Put.{one_if, times, times_in}
@@ -112,25 +113,34 @@ moved_all init from n self inv none k lt t =
     let is = inv.moved k lt t in
     omega (arith, nothing, is)
 
--- the chains before the i-th are dealt out
-pub record Dealing (init : ArenaState) (n i : ℕ) (self : ArenaState) : Type 0 where
-  pub lens : length self.chains ≡ n + length init.chains
-  pub same : self ≡ record init { chains = self.chains }
-  pub left : (k : ℕ) → i ≤ k → chain_at self k ≡ get_or init.chains (k - n) []
-  pub gone : (k : ℕ) → n ≤ k → k < i → chain_at self k ≡ []
-  pub dealt : (k : ℕ) → k < n → (t : ℕ) → times t (chain_at self k) ≡ cond (nat_eq (hash_at init t % n) k) (times_in t (take (i - n) init.chains)) 0
-
 times_in-take_more : (t j : ℕ) (css : List (List ℕ)) → j < length css → times_in t (take (j + 1) css) ≡ times_in t (take j css) + times t (get_or css j [])
 times_in-take_more t j css lt = ap (times_in t) (take_more css j [] lt) ∙ times_in-append t (take j css) (get_or css j [] ∷ []) ∙ (omega arith)
 
-module _ (init : ArenaState) (n i : ℕ) (self : ArenaState) (inv : Dealing init n i self) (low : n ≤ i) (high : i < n + length init.chains) where
-  pub deal_within : i < length self.chains
-  deal_within = omega (arith, high, inv.lens)
+-- the chains before the i-th are gathered in the first one
+pub record Gathering (init : ArenaState) (i : ℕ) (self : ArenaState) : Type 0 where
+  pub lens : length self.chains ≡ length init.chains
+  pub same : self ≡ record init { chains = self.chains }
+  pub left : (k : ℕ) → i ≤ k → chain_at self k ≡ chain_at init k
+  pub gone : (k : ℕ) → 1 ≤ k → k < i → chain_at self k ≡ []
+  pub first : (t : ℕ) → times t (chain_at self 0) ≡ times_in t (take i init.chains)
 
-  pub dealt_on : (two : ArenaState) → length two.chains ≡ length self.chains → two ≡ record self { chains = two.chains } → ((k : ℕ) → n ≤ k → k ≢ i → chain_at two k ≡ chain_at self k)
-      → ((k : ℕ) → k < n → (t : ℕ) → times t (chain_at two k) ≡ times t (chain_at self k) + cond (nat_eq (hash_at self t % n) k) (times t (chain_at self i)) 0)
-      → chain_at two i ≡ [] → Dealing init n (i + 1) two
-  dealt_on two lens same others moved empty = record {
+pub gathering_begins : (init : ArenaState) → 0 < length init.chains → Gathering init 1 init
+gathering_begins init some = record {
+  lens = refl;
+  same = refl;
+  left = λ k le. refl;
+  gone = λ k le lt. absurd (omega (arith, le, lt));
+  first = λ t. (let more = times_in-take_more t 0 init.chains some in omega (arith, more));
+}
+
+module _ (init : ArenaState) (i : ℕ) (self : ArenaState) (inv : Gathering init i self) (low : 1 ≤ i) (high : i < length init.chains) where
+  pub gather_within : i < length self.chains
+  gather_within = omega (arith, high, inv.lens)
+
+  pub gathered_on : (two : ArenaState) → length two.chains ≡ length self.chains → two ≡ record self { chains = two.chains } → ((k : ℕ) → 1 ≤ k → k ≢ i → chain_at two k ≡ chain_at self k)
+      → ((k : ℕ) → k < 1 → (t : ℕ) → times t (chain_at two k) ≡ times t (chain_at self k) + cond (nat_eq (hash_at self t % 1) k) (times t (chain_at self i)) 0)
+      → chain_at two i ≡ [] → Gathering init (i + 1) two
+  gathered_on two lens same others moved empty = record {
     lens = lens ∙ inv.lens;
     same = same ∙ ap (λ (v : ArenaState). record v { chains = two.chains }) inv.same;
     left = λ k le. others k (omega (arith, le, low)) (λ e. absurd (omega (arith, e, le))) ∙ inv.left k (omega (arith, le));
@@ -138,42 +148,89 @@ module _ (init : ArenaState) (n i : ℕ) (self : ArenaState) (inv : Dealing init
       | inl h ↦ subst (λ z. chain_at two z ≡ []) (sym h.1) empty
       | inr h ↦ (let ne = h.1 in others k le h.1 ∙ inv.gone k le (omega (arith, lt, ne)))
     ];
-    dealt = λ k lt t.
-        (let hash : hash_at self t ≡ hash_at init t = ap (λ (v : ArenaState). hash_at v t) inv.same in
-        let next : (i + 1) - n ≡ (i - n) + 1 = omega (arith, low) in
-        let chain : times t (chain_at self i) ≡ times t (get_or init.chains (i - n) []) = ap (times t) (inv.left i (omega arith)) in
-        let more : times_in t (take (i - n) init.chains) + times t (chain_at self i) ≡ times_in t (take ((i + 1) - n) init.chains) =
-        ap (λ z. times_in t (take (i - n) init.chains) + z) chain ∙ sym (ap (λ z. times_in t (take z init.chains)) next ∙ times_in-take_more t (i - n) init.chains (omega (arith, low, high))) in
-        moved k lt t ∙ (λ j. inv.dealt k lt t j + cond (nat_eq (hash j % n) k) (times t (chain_at self i)) 0)
-        ∙ sym (cond-plus (nat_eq (hash_at init t % n) k) (times_in t (take (i - n) init.chains)) (times t (chain_at self i)))
-        ∙ ap (λ z. cond (nat_eq (hash_at init t % n) k) z 0) more);
+    first = λ t.
+        (let all : cond (nat_eq (hash_at self t % 1) 0) (times t (chain_at self i)) 0 ≡ times t (chain_at self i) = ap (λ b. cond b (times t (chain_at self i)) 0) (eq-eqb (hash_at self t % 1) 0 (mod-one (hash_at self t))) in
+        let more = times_in-take_more t i init.chains high in
+        let was = inv.first t in
+        let chain = ap (times t) (inv.left i (omega arith)) in
+        let now = moved 0 (omega arith) t in
+        omega (arith, all, more, was, chain, now));
   }
 
-get_or_past : (css : List (List ℕ)) (k : ℕ) → length css ≤ k → get_or css k [] ≡ []
-get_or_past [] k le = refl
-get_or_past (c ∷ cs) zero le = absurd (omega (arith, le))
-get_or_past (c ∷ cs) (suc k) le = get_or_past cs k (omega (arith, le))
-
--- all chains are dealt out, and so the old ones are empty
-pub dealt_gone : (init : ArenaState) (n i : ℕ) (self : ArenaState) → Dealing init n i self → n + length init.chains ≤ i → (k : ℕ) → n ≤ k → chain_at self k ≡ []
-dealt_gone init n i self inv all k le = elim (less_or_not k i) [
+-- all chains are gathered, and so the others are empty
+pub gathered_gone : (init : ArenaState) (i : ℕ) (self : ArenaState) → Gathering init i self → length init.chains ≤ i → (k : ℕ) → 1 ≤ k → chain_at self k ≡ []
+gathered_gone init i self inv all k le = elim (less_or_not k i) [
   | inl lt ↦ inv.gone k le lt
-  | inr past ↦ inv.left k past ∙ get_or_past init.chains (k - n) (omega (arith, all, past))
+  | inr past ↦ inv.left k past ∙ get_or_past init.chains k [] (omega (arith, all, past))
 ]
 
--- all chains are dealt out, and the new ones stay
-module _ (init : ArenaState) (n i : ℕ) (self : ArenaState) (inv : Dealing init n i self) (all : i ≡ n + length init.chains) (kept : ArenaState) (e : kept ≡ record self { chains = take n self.chains }) where
-  kept_chains : kept.chains ≡ take n self.chains
-  kept_chains = ap (λ (v : ArenaState). v.chains) e
+-- all chains are gathered, and the first one alone stays
+module _ (init : ArenaState) (i : ℕ) (self : ArenaState) (inv : Gathering init i self) (all : length init.chains ≤ i) (some : 0 < length init.chains) (kept : ArenaState) (e : kept ≡ record self { chains = take 1 self.chains }) where
+  first_chains : kept.chains ≡ take 1 self.chains
+  first_chains = ap (λ (v : ArenaState). v.chains) e
 
-  pub dealt_length : length kept.chains ≡ n
-  dealt_length = ap length kept_chains ∙ length-take-le n self.chains (omega (arith, inv.lens))
+  pub gathered_one : length kept.chains ≡ 1
+  gathered_one = ap length first_chains ∙ length-take-le 1 self.chains (omega (arith, inv.lens, some))
 
-  pub dealt_same : kept ≡ record init { chains = kept.chains }
-  dealt_same = e ∙ ap (λ (v : ArenaState). record v { chains = take n self.chains }) inv.same ∙ ap (λ z. record init { chains = z }) (sym kept_chains)
+  pub gathered_same : kept ≡ record init { chains = kept.chains }
+  gathered_same = e ∙ ap (λ (v : ArenaState). record v { chains = take 1 self.chains }) inv.same ∙ ap (λ z. record init { chains = z }) (sym first_chains)
 
-  pub dealt_hashed : (k : ℕ) → k < n → (t : ℕ) → times t (chain_at kept k) ≡ times_hashed init n k t
-  dealt_hashed k lt t =
-      let whole : take (i - n) init.chains ≡ init.chains = take_all (i - n) init.chains (omega (arith, all)) in
-      ap (times t) (ap (λ (z : List (List ℕ)). get_or z k []) kept_chains ∙ get_or-take n self.chains k [] lt)
-      ∙ inv.dealt k lt t ∙ ap (λ z. cond (nat_eq (hash_at init t % n) k) (times_in t z) 0) whole
+  pub gathered_all : (t : ℕ) → times t (chain_at kept 0) ≡ times_in t init.chains
+  gathered_all t = ap (times t) (ap (λ (z : List (List ℕ)). get_or z 0 []) first_chains ∙ get_or-take 1 self.chains 0 [] (omega arith)) ∙ inv.first t ∙ ap (times_in t) (take_all i init.chains all)
+
+-- one chain stands behind n empty ones
+module _ (one put : ArenaState) (n : ℕ) (behind : put ≡ record one { chains = set (replicate (n + 1) []) n (chain_at one 0) }) where
+  put_chains : put.chains ≡ set (replicate (n + 1) []) n (chain_at one 0)
+  put_chains = ap (λ (v : ArenaState). v.chains) behind
+
+  put_length : length put.chains ≡ n + 1
+  put_length = let none : List ℕ = [] in ap length put_chains ∙ length-set (replicate (n + 1) none) n (chain_at one 0) ∙ length-replicate (n + 1) none
+
+  pub behind_within : n < length put.chains
+  behind_within = omega (arith, put_length)
+
+  put_last : chain_at put n ≡ chain_at one 0
+  put_last = let none : List ℕ = [] in ap (λ (z : List (List ℕ)). get_or z n []) put_chains ∙ get_or-set_same (replicate (n + 1) none) n (chain_at one 0) [] (omega (arith, length-replicate (n + 1) none))
+
+  put_before : (c : ℕ) → c < n → chain_at put c ≡ []
+  put_before c lt =
+      let none : List ℕ = [] in
+      ap (λ (z : List (List ℕ)). get_or z c []) put_chains ∙ get_or-set_other (replicate (n + 1) none) n c (chain_at one 0) [] (λ e. absurd (omega (arith, e, lt)))
+      ∙ get_or-replicate (n + 1) c none none (omega (arith, lt))
+
+  -- it is dealt out to them, and they stay
+  module _ (init new : ArenaState) (all : (t : ℕ) → times t (chain_at one 0) ≡ times_in t init.chains) (same : one ≡ record init { chains = one.chains })
+      (moved : (c : ℕ) → c < n → (t : ℕ) → times t (chain_at new c) ≡ times t (chain_at put c) + cond (nat_eq (hash_at put t % n) c) (times t (chain_at put n)) 0)
+      (empty : chain_at new n ≡ []) (others : (c : ℕ) → n ≤ c → c ≢ n → chain_at new c ≡ chain_at put c) (lens : length new.chains ≡ length put.chains) (rest : new ≡ record put { chains = new.chains }) where
+    pub behind_gone : (c : ℕ) → n ≤ c → chain_at new c ≡ []
+    behind_gone c le = elim (one_or_two c n) [
+      | inl h ↦ subst (λ z. chain_at new z ≡ []) (sym h.1) empty
+      | inr h ↦ (let ne = h.1 in others c le h.1 ∙ get_or_past put.chains c [] (omega (arith, put_length, le, ne)))
+    ]
+
+    module _ (kept : ArenaState) (e : kept ≡ record new { chains = take n new.chains }) where
+      kept_chains : kept.chains ≡ take n new.chains
+      kept_chains = ap (λ (v : ArenaState). v.chains) e
+
+      pub dealt_length : length kept.chains ≡ n
+      dealt_length = ap length kept_chains ∙ length-take-le n new.chains (omega (arith, lens, put_length))
+
+      pub dealt_same : kept ≡ record init { chains = kept.chains }
+      dealt_same =
+          e ∙ ap (λ (v : ArenaState). record v { chains = take n new.chains }) (rest ∙ ap (λ (v : ArenaState). record v { chains = new.chains }) behind ∙ ap (λ (v : ArenaState). record v { chains = new.chains }) same)
+          ∙ ap (λ z. record init { chains = z }) (sym kept_chains)
+
+      pub dealt_hashed : (c : ℕ) → c < n → (t : ℕ) → times t (chain_at kept c) ≡ times_hashed init n c t
+      dealt_hashed c lt t =
+          let hash : hash_at put t ≡ hash_at init t = ap (λ (v : ArenaState). hash_at v t) behind ∙ ap (λ (v : ArenaState). hash_at v t) same in
+          let count : times t (chain_at put n) ≡ times_in t init.chains = ap (times t) put_last ∙ all t in
+          let here = ap (times t) (ap (λ (z : List (List ℕ)). get_or z c []) kept_chains ∙ get_or-take n new.chains c [] lt) in
+          let gain = moved c lt t in
+          let before = ap (times t) (put_before c lt) in
+          let is : cond (nat_eq (hash_at put t % n) c) (times t (chain_at put n)) 0 ≡ cond (nat_eq (hash_at init t % n) c) (times_in t init.chains) 0 = λ i. cond (nat_eq (hash i % n) c) (count i) 0 in
+          omega (arith, here, gain, before, is)
+
+-- no slot stands in none of the chains
+pub nothing_inside : (css : List (List ℕ)) → length css ≡ 0 → (t : ℕ) → times_in t css ≡ 0
+nothing_inside [] e t = refl
+nothing_inside (c ∷ cs) e t = absurd (omega (arith, e))

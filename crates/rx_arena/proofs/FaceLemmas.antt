@@ -2,7 +2,7 @@
 use Rattle.std.proofs.Common.{◌≡◌, ◌≢◌, ℕ, zero, suc, ◌+◌, ◌*◌, ◌<◌, ◌≤◌, ◌/◌, ◌%◌, List, ◌∷◌, ◌++◌, length, get_or, set, map, Some, None, refl, sym, ap, ◌∙◌, arith}
 use Rattle.std.specs.Prelude.{Option, Bool, true, false, nat_eq, nat_lt, cond, replicate, IfSome}
 use Rattle.std.specs.Option.{option_map}
-use Rattle.std.proofs.lemmas.Bool.{ltb-true}
+use Rattle.std.proofs.lemmas.Bool.{ltb-true, lt-ltb, le-ltb}
 use Rattle.std.proofs.lemmas.List.{length-map, map-set, map-append, get_or-map}
 use Rattle.std.proofs.lemmas.Nat.{div-mul-add, mod-mul-add}
 use Rattle.std.proofs.Math.Seq.{map-set_same}
@@ -22,6 +22,17 @@ word-small b h = ap (λ z. cond z (packed b.kind b.a b.b) ask) h
 pub word-large : (b : CellBody) → fits b.kind b.a b.b b.anns ≡ false → word_of b ≡ ask
 unfolding word_of
 word-large b h = ap (λ z. cond z (packed b.kind b.a b.b) ask) h
+
+-- what fits, and what does not, of a kind that fits and without annotations
+pub fits-small : (k a b : ℕ) → k < 4 → a < 4294967296 → b < 1073741824 → fits k a b None ≡ true
+fits-small k a b lk la lb =
+    ap (λ z. cond z (cond (nat_lt a 4294967296) (nat_lt b 1073741824) false) false) (lt-ltb k 4 lk)
+    ∙ ap (λ z. cond z (nat_lt b 1073741824) false) (lt-ltb a 4294967296 la) ∙ lt-ltb b 1073741824 lb
+
+pub fits-large : (k a b : ℕ) → k < 4 → 4294967296 ≤ a → fits k a b None ≡ false
+fits-large k a b lk la =
+    ap (λ z. cond z (cond (nat_lt a 4294967296) (nat_lt b 1073741824) false) false) (lt-ltb k 4 lk)
+    ∙ ap (λ z. cond z (nat_lt b 1073741824) false) (le-ltb a 4294967296 la)
 
 -- the face that a word says
 abbrev pub unpacked : ℕ → Face

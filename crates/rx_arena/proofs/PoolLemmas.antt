@@ -46,6 +46,13 @@ some-mapped : (f : Node → Option ℕ) (c : Option Node) (next : Option ℕ) �
 some-mapped f None next e = cc
 some-mapped f (Some n) next e = (n, refl, cc)
 
+length-without : {X : Type 0} (xs : List (Option X)) (ss : List ℕ) → ((s : ℕ) → 0 < times s ss → s < length xs) → length (without xs ss) ≡ length xs
+length-without xs [] below = refl
+length-without xs (s ∷ ss) below =
+    let rest = length-without xs ss (λ t h. below t (omega (arith, h))) in
+    let lt : s < length (without xs ss) = (let at = below s (omega (arith, one_if-same s)) in omega (arith, at, rest)) in
+    ap length (put-set (without xs ss) s None lt) ∙ length-set (without xs ss) s None ∙ rest
+
 -- what the links say of a slot that holds a node
 pub links_some : (f : Node → Option ℕ) (slots : List (Option Node)) (s : ℕ) (next : Option ℕ) → get_or (links f slots) s None ≡ Some next → (n : Node) × (get_or slots s None ≡ Some n) × (f n ≡ next)
 links_some f slots s next e = some-mapped f (get_or slots s None) next (sym (get_or-map_option f slots s) ∙ e)
@@ -94,6 +101,19 @@ small_mark m le n e = subst (λ (z : Node). z.mark ≤ 1) (let same : m ≡ n = 
 module _ (slots : List (Option Node)) (free : List ℕ) (fresh taken room cap : ℕ) (p : IsPool slots free fresh taken room cap) where
   in_store : fresh ≤ length slots
   in_store = omega (arith, p.room_is, p.fresh_in_room)
+
+  -- a slot that was given back is one that was taken
+  free_below : (s : ℕ) → 0 < times s free → s < fresh
+  free_below s h = elim (lt_or_le s fresh) [
+    | inl lt ↦ lt
+    | inr le ↦ absurd (let known = sym (ap is_given_back (p.empty s le)) ∙ p.free_known s h in cc)
+  ]
+
+  -- there is a place for each slot that was ever taken
+  pub cells-length : length (cells_of slots free fresh) ≡ fresh
+  cells-length =
+      let long = length-take-le fresh slots in_store in
+      length-without (take fresh slots) free (λ s h. omega (arith, free_below s h, long)) ∙ long
 
   -- a write of a node to a slot that is held
   pub held-set : (s : ℕ) (m : Node) → s < fresh → (t : ℕ) → t < fresh → IsHeld (set slots s (Some m)) t

@@ -17,7 +17,7 @@ use Rattle.rx_arena.specs.Links.{Links, links, IsChain, Listed}
 use Rattle.rx_arena.specs.Pool.{PoolState, IsPool, cells_of, is_given_back, is_unmarked_node}
 use Rattle.rx_arena.proofs.PutLemmas.{within_some, filled-put, get_or-without_other, get_or-without_same}
 use Rattle.rx_arena.proofs.ChainLemmas.{one_or_more, chain_stays, popped, pushed, listed_is, first_some}
-use Rattle.rx_arena.proofs.PoolLemmas.{lt_or_le, links-set_other, links-set_same, links_some, taken_at, cells-set, pool-set, reused-away, reused-below, reused-was_free, reused-cells, reused-pool, extended-chain, extended-was_free, extended-cells, extended-pool, given_back-cells, given_back-some_taken, given_back-pool, grown-chain, grown-cells, grown-pool}
+use Rattle.rx_arena.proofs.PoolLemmas.{lt_or_le, cells-length, links-set_other, links-set_same, links_some, taken_at, cells-set, pool-set, reused-away, reused-below, reused-was_free, reused-cells, reused-pool, extended-chain, extended-was_free, extended-cells, extended-pool, given_back-cells, given_back-some_taken, given_back-pool, grown-chain, grown-cells, grown-pool}
 
 -- the two marks of taken cells
 pub mark_of_small : (turned marked : Bool) → mark_of turned marked ≤ 1
@@ -243,6 +243,10 @@ module _ (x : Inside) (p : IsPool x.store x.listed.0 x.fresh x.taken x.room x.ca
         pool = given_back-pool slots l.0 fresh taken room cap p s h.0 h.1 m refl;
         cells_is = given_back-cells slots l.0 fresh taken room cap p s h.0 h.1 m;
       })
+
+  -- there is a place for each slot that was ever taken
+  pub fresh_is : fresh ≡ length cells
+  fresh_is = sym (cells-length slots l.0 fresh taken room cap p)
 
   -- past the slots that were ever taken none is taken
   pub past_fresh : (s : ℕ) → fresh ≤ s → get_or cells s None ≡ None

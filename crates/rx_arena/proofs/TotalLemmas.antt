@@ -2,6 +2,7 @@
 use Rattle.std.proofs.Common.{◌≡◌, ℕ, zero, suc, ◌+◌, ◌-◌, ◌<◌, ◌≤◌, ◌⊎◌, inl, inr, List, [], ◌∷◌, ◌++◌, length, get_or, set, refl, sym, ap, subst, ◌∙◌, arith}
 use Rattle.std.specs.Prelude.{None, ◌^◌, replicate, take}
 use Rattle.std.proofs.lemmas.Bool.Decides.{eqb_tells}
+use Rattle.std.proofs.lemmas.List.{length-replicate, get_or-replicate}
 use Rattle.rx_arena.specs.Put.{one_if, times, times_in, total}
 use Rattle.rx_arena.specs.Arena.{ArenaState, taken_at, IsArena}
 use Rattle.rx_arena.proofs.PutLemmas.{one_or_two, one_if-same, one_if-other}
@@ -29,8 +30,15 @@ total-take zero css none = sym (total_nil css (λ c. none c (omega arith)))
 total-take (suc n) [] none = refl
 total-take (suc n) (c ∷ cs) none = let rest = total-take n cs (λ k le. none (suc k) (omega (arith, le))) in omega (arith, rest)
 
-pub total-prepended : (n : ℕ) (css : List (List ℕ)) → total css ≡ total (replicate n [] ++ css)
-total-prepended n css = let more = total-append (replicate n []) css in let none = total-replicate n in omega (arith, more, none)
+-- the one chain goes behind n empty ones
+pub total-behind : (m n : ℕ) (css : List (List ℕ)) → length css ≡ 1 → m ≡ total css → m ≡ total (set (replicate (n + 1) []) n (get_or css 0 []))
+total-behind m n [] one e = absurd (omega (arith, one))
+total-behind m n (c ∷ []) one e =
+    let none : List ℕ = [] in
+    let more = total-set (replicate (n + 1) []) n c (omega (arith, length-replicate (n + 1) none)) in
+    let empty : length (get_or (replicate (n + 1) none) n none) ≡ 0 = ap length (get_or-replicate (n + 1) n none none (omega arith)) in
+    omega (arith, more, empty, total-replicate (n + 1), e)
+total-behind m n (c ∷ d ∷ css) one e = absurd (omega (arith, one))
 
 pub total-pushed : (m : ℕ) (css : List (List ℕ)) (i s : ℕ) → i < length css → m ≡ total css → m + 1 ≡ total (set css i (s ∷ get_or css i []))
 total-pushed m css i s lt e = let more = total-set css i (s ∷ get_or css i []) lt in omega (arith, more, e)

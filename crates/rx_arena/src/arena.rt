@@ -14,7 +14,7 @@ ghost use Rattle.rx_arena.specs.Arena.{new_cell, with_count, with_marking, kept_
 ghost use Rattle.rx_arena.specs.Arena.{IsFirst, is_unmarked, times_hashed, IsArena, empty_arena};
 
 use crate::cells::Link;
-use crate::faces::{ASK, first, said, second};
+use crate::faces::{ASK, first, said, second, word};
 use crate::fault::ArenaFault;
 use crate::heads::{Heads, home};
 use crate::pool::Pool;
@@ -110,7 +110,6 @@ impl Arena {
     }
 
     /// Takes a slot for this body: unmarked, protected by no root, in no chain.
-    #[inline(always)]
     pub fn take(&mut self, body: CellBody) -> Result<Slot, ArenaFault>
         ensures free { IfOk result (λ s. taken_at self.old s.0 ≡ None) }
         ensures below { IfOk result (λ s. s.0 < self.old.cap) }
@@ -126,7 +125,28 @@ impl Arena {
         ensures full { result ≡ Err ArenaFault.Full → taken_count self.old ≡ self.old.cap }
         ensures memory { result ≡ Err ArenaFault.Memory → taken_count self.old < self.old.cap }
     {
-        match self.pool.take(body) {
+        self.take_with(body, word(body))
+    }
+
+    /// The same, where the word of the body is known.
+    #[inline(always)]
+    pub fn take_with(&mut self, body: CellBody, word: u64) -> Result<Slot, ArenaFault>
+        requires { word ≡ word_of body }
+        ensures free { IfOk result (λ s. taken_at self.old s.0 ≡ None) }
+        ensures below { IfOk result (λ s. s.0 < self.old.cap) }
+        ensures cells { IfOk result
+            (λ s. self.new.cells ≡ put self.old.cells s.0 (Some (new_cell body))) }
+        ensures loose { IfOk result (λ s. IsLoose self.new s.0) }
+        ensures rest { self.new ≡ record self.old
+            { cells = self.new.cells; spare = self.new.spare } }
+        ensures spare { self.old.spare ≤ self.new.spare + 1 }
+        ensures law { IsArena self.new }
+        ensures err { OnErr result (self.new ≡ self.old) }
+        ensures none_spare { OnErr result (self.old.spare ≡ 0) }
+        ensures full { result ≡ Err ArenaFault.Full → taken_count self.old ≡ self.old.cap }
+        ensures memory { result ≡ Err ArenaFault.Memory → taken_count self.old < self.old.cap }
+    {
+        match self.pool.take(body, word) {
             Ok(slot) => Ok(Slot(slot)),
             Err(fault) => Err(fault),
         }
@@ -505,6 +525,7 @@ impl Arena {
 
     /// How many slots were ever taken: each taken slot's number is below.
     pub fn slots(&self) -> u32
+        ensures count { result ≡ length self.now.cells }
         ensures past { (s : ℕ) → result ≤ s → taken_at self.now s ≡ None }
         ensures law { IsArena self.now }
     {
@@ -526,27 +547,6 @@ impl Arena {
     {
         self.sort_out(chain);
         self.restore(chain);
-    }
-
-    /// Puts empty chains before the others.
-    fn add_chains(&mut self, count: u32) -> Result<(), ArenaFault>
-        ensures ok { OnOk result
-            (self.new ≡ record self.old { chains = replicate count [] ++ self.old.chains }) }
-        ensures err { OnErr result (self.new ≡ self.old) }
-        ensures fault { IfErr result (λ e. e ≡ ArenaFault.Memory) }
-        ensures law { IsArena self.new }
-    {
-        let total = self.heads.len() + count as usize;
-        if total > u32::MAX as usize {
-            return Err(ArenaFault::Memory);
-        }
-        match self.heads.prepended(self.alloc, count) {
-            Ok(heads) => {
-                self.heads = heads;
-                Ok(())
-            }
-            Err(fault) => Err(fault),
-        }
     }
 
     /// Keeps the first chains alone, where the others are empty.
@@ -578,9 +578,48 @@ impl Arena {
         }
     }
 
-    /// Deals the slots of all chains out to `chains` new ones, chain by chain.
+    /// Moves the slots of all chains to the first one, and keeps that one alone.
+    fn gather(&mut self)
+        requires { 0 < length self.old.chains }
+        ensures one { length self.new.chains ≡ 1 }
+        ensures all { (s : ℕ) → times s (chain_at self.new 0) ≡ times_in s self.old.chains }
+        ensures rest { self.new ≡ record self.old { chains = self.new.chains } }
+        ensures law { IsArena self.new }
+    {
+        let old = self.chains();
+        for from in 1..old {
+            self.move_chain(from, 1);
+        }
+        self.keep_chains(1);
+    }
+
+    /// The heads of so many empty chains.
+    fn empty_heads(&self, count: u32) -> Result<Heads, ArenaFault>
+        ensures ok { IfOk result (λ h. h ≡ replicate count None) }
+        ensures fault { IfErr result (λ e. e ≡ ArenaFault.Memory) }
+        ensures law { IsArena self.now }
+    {
+        Heads::new(self.alloc, count)
+    }
+
+    /// Puts the one chain behind `count` empty ones, whose heads these are, with one for its own.
+    fn put_behind(&mut self, empty: Heads, count: u32)
+        requires one { length self.old.chains ≡ 1 }
+        requires empty { empty ≡ replicate (count + 1) None }
+        requires count { count ≤ 2 ^ 30 }
+        ensures after { self.new ≡ record self.old
+            { chains = slice_set (replicate (count + 1) []) count (chain_at self.old 0) } }
+        ensures law { IsArena self.new }
+    {
+        let head = self.heads.get(0);
+        self.heads = empty;
+        self.heads.set(count, head);
+    }
+
+    /// Deals the slots of all chains out to `chains` new ones, by way of a single chain.
     fn deal_chains(&mut self, chains: u32) -> Result<(), ArenaFault>
-        requires { (1 ≤ chains) × (chains ≤ 2 ^ 30) }
+        requires chains { (1 ≤ chains) × (chains ≤ 2 ^ 30) }
+        requires some { 0 < length self.old.chains }
         ensures chains { OnOk result (length self.new.chains ≡ chains) }
         ensures hashed { OnOk result ((c : ℕ) → c < chains → (s : ℕ)
             → times s (chain_at self.new c) ≡ times_hashed self.old chains c s) }
@@ -589,11 +628,10 @@ impl Arena {
         ensures fault { IfErr result (λ e. e ≡ ArenaFault.Memory) }
         ensures law { IsArena self.new }
     {
-        let old = self.chains();
-        self.add_chains(chains)?;
-        for from in chains..chains + old {
-            self.move_chain(from, chains);
-        }
+        let empty = self.empty_heads(chains + 1)?;
+        self.gather();
+        self.put_behind(empty, chains);
+        self.move_chain(chains, chains);
         self.keep_chains(chains);
         Ok(())
     }
@@ -671,7 +709,9 @@ impl Arena {
         ensures law { IsArena self.new }
     {
         let slots = self.slots();
-        if self.linked() == slots {
+        if self.chains() == 0 {
+            self.deal_out(0, chains)
+        } else if self.linked() == slots {
             self.deal_out(slots, chains)
         } else {
             self.deal_chains(chains)

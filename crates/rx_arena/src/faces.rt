@@ -1,7 +1,7 @@
 //! Words that say what cells say, eight bytes each, where that fits: a kind below 4 in the top 2
 //! bits, the second word of the body below 2^30 in the next 30, the first one below 2^32 in the
 //! last 32, and no annotations. One word says to ask the cell.
-ghost use Rattle.std.specs.Prelude.{◌≡◌, ◌≢◌, None, IfSome};
+ghost use Rattle.std.specs.Prelude.{◌≡◌, ◌≢◌, ◌<◌, ℕ, None, IfSome};
 ghost use Rattle.rx_arena.specs.Faces.{face_of, fits, word_of, ask};
 
 use crate::{CellBody, Face, Slot};
@@ -36,6 +36,21 @@ pub fn word(body: CellBody) -> u64
 {
     if is_small(body.kind, body.a, body.b, body.anns) {
         (u64::from(body.kind) * SECONDS + body.b) * FIRSTS + body.a
+    } else {
+        ASK
+    }
+}
+
+/// The word of a body without annotations, of one of these kinds and with a small second word.
+#[inline(always)]
+pub fn bare_word(kind: u8, a: u64, b: u64) -> u64
+    requires kind { kind < 4 }
+    requires second { b < 1073741824 }
+    ensures { (hash : ℕ) → result ≡ word_of
+        (record { kind = kind; a = a; b = b; anns = None; hash = hash }) }
+{
+    if a < FIRSTS {
+        (u64::from(kind) * SECONDS + b) * FIRSTS + a
     } else {
         ASK
     }

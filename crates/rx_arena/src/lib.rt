@@ -35,6 +35,7 @@ mod room;
 mod store;
 
 pub use fault::ArenaFault;
+pub use store::Store;
 
 /// The number of a cell, counted from 0.
 #[derive(Clone, Copy, Debug, PartialEq, Eq)]

@@ -5,12 +5,12 @@ ghost use Rattle.std.specs.Prelude.{Some, None, IfSome, OnOk, OnErr};
 ghost use Rattle.rx_arena.specs.Node.{node_at, lone, changed, is_protected_node};
 ghost use Rattle.rx_arena.specs.Node.{with_roots, with_mark, next_in, with_next};
 ghost use Rattle.rx_arena.specs.Held.{IsHeld};
-ghost use Rattle.rx_arena.specs.Faces.{word_beside};
+ghost use Rattle.rx_arena.specs.Faces.{word_of, word_beside};
 ghost use Rattle.rx_arena.specs.Marks.{with_marks};
 
 use crate::CellBody;
 use crate::cells::Link;
-use crate::faces::{ASK, word};
+use crate::faces::ASK;
 use crate::room::BLOCK;
 use crate::store::Store;
 use std::alloc::{AllocError, Global};
@@ -83,17 +83,19 @@ impl MarkedStore {
         }
     }
 
-    /// Puts a new node with this body and mark, in no list, over what lies at the slot.
+    /// Puts a new node with this body, whose word is known, and this mark, in no list, over what
+    /// lies at the slot.
     #[inline(always)]
-    pub(crate) fn fill(&mut self, slot: u32, body: CellBody, mark: u8)
+    pub(crate) fn fill(&mut self, slot: u32, body: CellBody, word: u64, mark: u8)
         requires slot { slot < length self.old }
+        requires word { word ≡ word_of body }
         requires mark { mark ≤ 1 }
         ensures { self.new ≡ slice_set self.old slot (Some (lone mark body)) }
     {
         self.cells.fill(slot, body);
         self.marks[slot as usize] = mark;
         self.protected[slot as usize] = false;
-        self.words[slot as usize] = word(body);
+        self.words[slot as usize] = word;
     }
 
     /// The body.

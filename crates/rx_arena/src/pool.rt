@@ -107,7 +107,8 @@ impl Pool {
 
     /// Takes the slot that was given back last.
     #[inline(always)]
-    fn reuse(&mut self, body: CellBody) -> Option<u32>
+    fn reuse(&mut self, body: CellBody, word: u64) -> Option<u32>
+        requires { word ≡ word_of body }
         ensures listed { MatchOption result (self.old.free ≡ [])
             (λ s. self.old.free ≡ s ∷ self.new.free) }
         ensures was_free { IfSome result (λ s. get_or self.old.cells s None ≡ None) }
@@ -123,7 +124,8 @@ impl Pool {
         match self.free {
             Some(slot) => {
                 self.free = self.store.next(slot, Link::Free);
-                self.store.fill(slot, body, mark_of(self.turned, false));
+                self.store
+                    .fill(slot, body, word, mark_of(self.turned, false));
                 self.taken += 1;
                 Some(slot)
             }
@@ -133,8 +135,9 @@ impl Pool {
 
     /// Takes a slot that was never taken.
     #[inline(always)]
-    fn extend(&mut self, body: CellBody) -> u32
-        requires { (self.old.fresh < self.old.room) × (self.old.fresh < self.old.cap) }
+    fn extend(&mut self, body: CellBody, word: u64) -> u32
+        requires room { (self.old.fresh < self.old.room) × (self.old.fresh < self.old.cap) }
+        requires word { word ≡ word_of body }
         ensures slot { result ≡ self.old.fresh }
         ensures was_free { get_or self.old.cells result None ≡ None }
         ensures after { self.new ≡ record self.old {
@@ -145,7 +148,8 @@ impl Pool {
         ensures fits { spare_of self.new + filled self.new.cells ≤ self.new.cap }
     {
         let slot = self.fresh;
-        self.store.fill(slot, body, mark_of(self.turned, false));
+        self.store
+            .fill(slot, body, word, mark_of(self.turned, false));
         self.fresh += 1;
         self.taken += 1;
         slot
@@ -197,7 +201,8 @@ impl Pool {
 
     /// How many slots were ever taken.
     pub(crate) fn slots(&self) -> u32
-        ensures { (s : ℕ) → result ≤ s → get_or self.now.cells s None ≡ None }
+        ensures count { result ≡ length self.now.cells }
+        ensures past { (s : ℕ) → result ≤ s → get_or self.now.cells s None ≡ None }
     {
         self.fresh
     }
@@ -295,9 +300,10 @@ impl Pool {
         self.store.set_next(slot, link, next)
     }
 
-    /// Takes a slot, one that was given back where there is one.
+    /// Takes a slot, one that was given back where there is one, for a body whose word is known.
     #[inline(always)]
-    pub(crate) fn take(&mut self, body: CellBody) -> Result<u32, ArenaFault>
+    pub(crate) fn take(&mut self, body: CellBody, word: u64) -> Result<u32, ArenaFault>
+        requires { word ≡ word_of body }
         ensures free { IfOk result (λ s. get_or self.old.cells s None ≡ None) }
         ensures below { IfOk result (λ s. s < self.old.cap) }
         ensures cells { IfOk result (λ s. self.new.cells ≡ put self.old.cells s
@@ -311,7 +317,7 @@ impl Pool {
         ensures full { result ≡ Err ArenaFault.Full → filled self.old.cells ≡ self.old.cap }
         ensures memory { result ≡ Err ArenaFault.Memory → filled self.old.cells < self.old.cap }
     {
-        if let Some(slot) = self.reuse(body) {
+        if let Some(slot) = self.reuse(body, word) {
             return Ok(slot);
         }
         if self.fresh == self.cap {
@@ -320,7 +326,7 @@ impl Pool {
         if self.fresh == self.room {
             self.grow()?;
         }
-        Ok(self.extend(body))
+        Ok(self.extend(body, word))
     }
 
     /// Adds blocks until `count` slots can be taken.

@@ -20,7 +20,8 @@ pub struct Block<A: Allocator> {
     pub(crate) lease: Lease<A>,
 }
 
-/// All blocks, seen as one list: what each slot holds, if anything lies there.
+/// All blocks, over any allocator, seen as one list: what each slot holds, if anything lies there.
+/// Users of an arena need it for tests alone, which count what it asks for and gives back.
 pub struct Store<A: Allocator + Copy = Global> {
     alloc: A,
     blocks: Vec<Block<A>, A>,
@@ -105,7 +106,7 @@ impl<A: Allocator + Copy> Store<A> {
 
     /// Puts a new node with this body, in no list, over what lies at the slot.
     #[inline(always)]
-    pub fn fill(&mut self, slot: u32, body: CellBody)
+    pub(crate) fn fill(&mut self, slot: u32, body: CellBody)
         requires { slot < length self.old }
         ensures { self.new ≡ slice_set self.old slot (Some (lone 0 body)) }
     {
@@ -114,7 +115,7 @@ impl<A: Allocator + Copy> Store<A> {
     }
 
     /// The body.
-    pub fn body(&self, slot: u32) -> CellBody
+    pub(crate) fn body(&self, slot: u32) -> CellBody
         requires { IsHeld self.now slot }
         ensures { IfSome (node_at self.now slot) (λ n. result ≡ n.body) }
     {
@@ -122,7 +123,7 @@ impl<A: Allocator + Copy> Store<A> {
     }
 
     /// The root count.
-    pub fn roots(&self, slot: u32) -> u16
+    pub(crate) fn roots(&self, slot: u32) -> u16
         requires { IsHeld self.now slot }
         ensures { IfSome (node_at self.now slot) (λ n. result ≡ n.roots) }
     {
@@ -130,7 +131,7 @@ impl<A: Allocator + Copy> Store<A> {
     }
 
     /// Replaces the root count.
-    pub fn set_roots(&mut self, slot: u32, count: u16)
+    pub(crate) fn set_roots(&mut self, slot: u32, count: u16)
         requires { IsHeld self.old slot }
         ensures { self.new ≡ changed slot (with_roots count) self.old }
     {
@@ -140,7 +141,7 @@ impl<A: Allocator + Copy> Store<A> {
 
     /// The next slot of a list.
     #[inline(always)]
-    pub fn next(&self, slot: u32, link: Link) -> Option<u32>
+    pub(crate) fn next(&self, slot: u32, link: Link) -> Option<u32>
         requires { IsHeld self.now slot
             × IfSome (node_at self.now slot) (λ n. IfSome (next_in link n) (IsHeld self.now)) }
         ensures { IfSome (node_at self.now slot) (λ n. result ≡ next_in link n) }
@@ -150,7 +151,7 @@ impl<A: Allocator + Copy> Store<A> {
 
     /// Links the slot to the next one of a list.
     #[inline(always)]
-    pub fn set_next(&mut self, slot: u32, link: Link, next: Option<u32>)
+    pub(crate) fn set_next(&mut self, slot: u32, link: Link, next: Option<u32>)
         requires held { IsHeld self.old slot × IfSome next (λ t. t < length self.old) }
         requires apart { IfSome next (λ t. ¬ (t ≡ slot)) }
         ensures { self.new ≡ changed slot (with_next link next) self.old }

@@ -1,5 +1,5 @@
 -- Which slots have entries in the hints, as cells come and go.
-use Rattle.std.proofs.Common.{◌≡◌, ◌≢◌, ℕ, ◌<◌, List, inl, inr, Some, None, IsSome, refl, sym, ap, subst, ◌∙◌}
+use Rattle.std.proofs.Common.{◌≡◌, ◌≢◌, ℕ, ◌<◌, List, inl, inr, Option, Some, None, IsSome, is_some, refl, sym, ap, subst, ◌∙◌, arith}
 use Rattle.std.proofs.lemmas.Bool.Decides.{eqb_tells}
 use Rattle.rx_arena.specs.declared.CellBody.{CellBody}
 use Rattle.rx_arena.specs.declared.Face.{Face}
@@ -13,7 +13,12 @@ use Rattle.rx_shared.specs.Hints.{entry, Covers, CoversTaken, Stays}
 use Rattle.rx_shared.specs.Tidy.{heap_of, cell_in}
 use Rattle.rx_shared.specs.declared.bank.SharedBank.{SharedBank}
 use Rattle.rx_shared.specs.State.{store_of, store_from, tree_of_body}
-use Rattle.rx_shared.specs.Soundness.{table}
+use Rattle.rx_shared.specs.Soundness.{table, cell-held}
+use Rattle.rx_term.specs.Name.{Signature}
+use Rattle.rx_term.specs.Tree.{Tree}
+use Rattle.rx_term.specs.Store.{tree_at, longer, applied}
+use Rattle.rx_term.specs.declared.Term.{Term}
+use Rattle.rx_term.proofs.HeapLemmas.{lt_or_le}
 use Rattle.rx_names.specs.Names.{symbols_of}
 use Rattle.rx_term.specs.Heap.{Least, is_whole}
 use Rattle.rx_term.specs.Steps.{Makes}
@@ -76,3 +81,21 @@ module _ (b : SharedBank) where
 -- a slot whose cell has the word of the body that is looked for holds it
 pub guessed : (a : ArenaState) (s w : ℕ) (body : CellBody) → HoldsWord a s w → w ≡ word_of body → heap_of a s ≡ Some (cell_of body)
 guessed a s w body (t, here, is, ne) e = ap cell_in here ∙ ap (λ (f : Face). Some (cell_of (whole f))) (same-word w t.body body ne is e)
+
+-- the slot of a held reference is small
+pub held-small : (b : SharedBank) (t : Term) → IsSome (tree_at (store_of b) t) → t.0 < 1073741824
+held-small b t held = elim (lt_or_le t.0 b.arena.cap) [
+  | inl lt ↦ (let small = b.tidy.small in omega (arith, lt, small))
+  | inr le ↦ absurd (let there = sym (cell-held b t.0) ∙ held in let gone = ap (λ o. is_some (cell_in o)) (b.tidy.bounded t.0 le) in let both = sym gone ∙ there in cc)
+]
+
+-- the list behind a first item is held, and so are arguments
+pub longer-tail : (x xs : Option Tree) → IsSome (longer x xs) → IsSome xs
+longer-tail None None h = h
+longer-tail (Some t) None h = h
+longer-tail x (Some u) h = refl
+
+pub applied-args : (s : Option Signature) (xs : Option Tree) → IsSome (applied s xs) → IsSome xs
+applied-args None None h = h
+applied-args (Some g) None h = h
+applied-args s (Some u) h = refl

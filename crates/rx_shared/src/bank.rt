@@ -12,7 +12,7 @@ use crate::finding::{find, holds_word};
 use crate::graying::gray_all;
 use crate::hints::Hints;
 use rx_arena::arena::Arena;
-use rx_arena::faces::{said, word};
+use rx_arena::faces::{bare_word, said, word};
 use rx_arena::{ArenaFault, CellBody, Face, Slot};
 use rx_names::Names;
 use rx_sweep::collect_by_hash;
@@ -57,6 +57,7 @@ impl SharedBank {
     ghost use Rattle.rx_term.specs.Bank.{IsEmptyStore, IsNotesOf};
     ghost use Rattle.rx_shared.specs.Mirror.{Mirrors};
     ghost use Rattle.rx_arena.specs.Arena.{IsArena};
+    ghost use Rattle.rx_arena.specs.Faces.{word_of};
 
     /// An empty bank of at most `cap` terms, from 1 to 2^30; or memory ran out, and nothing else.
     pub fn new(alloc: Global, cap: u32) -> Result<SharedBank, BankFault>
@@ -111,17 +112,18 @@ impl SharedBank {
         }
     }
 
-    /// Takes a slot for a body that no slot holds.
+    /// Takes a slot for a body of this word, which no slot holds.
     #[inline(always)]
-    fn add(&mut self, chain: u32, body: CellBody) -> Result<Term, BankFault>
+    fn add(&mut self, chain: u32, body: CellBody, word: u64) -> Result<Term, BankFault>
         requires chain { chain ≡ body.hash % length self.old.arena.chains }
+        requires word { word ≡ word_of body }
         requires written { IsWritten body }
         requires tree { IsSome (tree_of_body (store_of self.old) body) }
         requires nowhere { (t : ℕ) → heap_of self.old.arena t ≢ Some (cell_of body) }
         ensures { let w = store_of self.old in
             MakesOrRefuses w (store_of self.new) (tree_of_body w body) result }
     {
-        match self.arena.take(body) {
+        match self.arena.take_with(body, word) {
             Ok(slot) => {
                 self.arena.chain_push(chain, slot);
                 self.hints.cover(body, slot.0);
@@ -140,9 +142,11 @@ impl SharedBank {
         (hash & ((1u64 << self.bits) - 1)) as u32
     }
 
-    /// The reference of a body, searched along its chain unless it is known that no slot holds it.
+    /// The reference of a body of this word, searched along its chain unless it is known that no
+    /// slot holds it.
     #[inline(always)]
-    fn make_by_hash(&mut self, body: CellBody, is_new: bool) -> Result<Term, BankFault>
+    fn make_by_hash(&mut self, body: CellBody, word: u64, is_new: bool) -> Result<Term, BankFault>
+        requires word { word ≡ word_of body }
         requires written { IsWritten body }
         requires tree { IsSome (tree_of_body (store_of self.old) body) }
         requires nowhere { IsTrue is_new
@@ -152,19 +156,20 @@ impl SharedBank {
     {
         let chain = self.home(body.hash);
         if !is_new {
-            if let Some(slot) = find(&self.arena, chain, body) {
+            if let Some(slot) = find(&self.arena, chain, body, word) {
                 self.hints.point(body, slot.0);
                 return Ok(Term(slot.0));
             }
         }
-        let made = self.add(chain, body)?;
+        let made = self.add(chain, body, word)?;
         self.widen_where_full();
         Ok(made)
     }
 
     /// The same for a list node of these words.
     #[inline(never)]
-    fn make_list(&mut self, a: u64, b: u64, is_new: bool) -> Result<Term, BankFault>
+    fn make_list(&mut self, a: u64, b: u64, word: u64, is_new: bool) -> Result<Term, BankFault>
+        requires word { word ≡ word_of (body_of 2 a b None) }
         requires written { IsWritten (body_of 2 a b None) }
         requires tree { IsSome (tree_of_body (store_of self.old) (body_of 2 a b None)) }
         requires nowhere { IsTrue is_new
@@ -172,12 +177,19 @@ impl SharedBank {
         ensures { let w = store_of self.old in MakesOrRefuses w (store_of self.new)
             (tree_of_body w (body_of 2 a b None)) result }
     {
-        self.make_by_hash(body(LIST, a, b, None), is_new)
+        self.make_by_hash(body(LIST, a, b, None), word, is_new)
     }
 
     /// The same for an application of these words.
     #[inline(never)]
-    fn make_application(&mut self, a: u64, b: u64, is_new: bool) -> Result<Term, BankFault>
+    fn make_application(
+        &mut self,
+        a: u64,
+        b: u64,
+        word: u64,
+        is_new: bool,
+    ) -> Result<Term, BankFault>
+        requires word { word ≡ word_of (body_of 3 a b None) }
         requires written { IsWritten (body_of 3 a b None) }
         requires tree { IsSome (tree_of_body (store_of self.old) (body_of 3 a b None)) }
         requires nowhere { IsTrue is_new
@@ -185,7 +197,7 @@ impl SharedBank {
         ensures { let w = store_of self.old in MakesOrRefuses w (store_of self.new)
             (tree_of_body w (body_of 3 a b None)) result }
     {
-        self.make_by_hash(body(APPLICATION, a, b, None), is_new)
+        self.make_by_hash(body(APPLICATION, a, b, None), word, is_new)
     }
 
     /// The same for any body of these words.
@@ -205,7 +217,8 @@ impl SharedBank {
         ensures { let w = store_of self.old in MakesOrRefuses w (store_of self.new)
             (tree_of_body w (body_of kind a b anns)) result }
     {
-        self.make_by_hash(body(kind, a, b, anns), is_new)
+        let whole = body(kind, a, b, anns);
+        self.make_by_hash(whole, word(whole), is_new)
     }
 
     /// The same. A body is put together behind a call alone, and in one where its kind is known.
@@ -216,8 +229,10 @@ impl SharedBank {
         a: u64,
         b: u64,
         anns: Option<Slot>,
+        word: u64,
         is_new: bool,
     ) -> Result<Term, BankFault>
+        requires word { word ≡ word_of (body_of kind a b anns) }
         requires written { IsWritten (body_of kind a b anns) }
         requires tree { IsSome (tree_of_body (store_of self.old) (body_of kind a b anns)) }
         requires nowhere { IsTrue is_new
@@ -229,9 +244,9 @@ impl SharedBank {
             Some(_) => self.make_any(kind, a, b, anns, is_new),
             None => {
                 if kind == LIST {
-                    self.make_list(a, b, is_new)
+                    self.make_list(a, b, word, is_new)
                 } else if kind == APPLICATION {
-                    self.make_application(a, b, is_new)
+                    self.make_application(a, b, word, is_new)
                 } else {
                     self.make_any(kind, a, b, None, is_new)
                 }
@@ -239,7 +254,23 @@ impl SharedBank {
         }
     }
 
-    /// The reference of a body. Most are where the hints say, or new as the hints say.
+    /// The reference of a body of this word. Most are where the hints say, or new as the hints say.
+    #[inline(always)]
+    fn make_with(&mut self, body: CellBody, word: u64) -> Result<Term, BankFault>
+        requires word { word ≡ word_of body }
+        requires written { IsWritten body }
+        requires tree { IsSome (tree_of_body (store_of self.old) body) }
+        ensures { let w = store_of self.old in
+            MakesOrRefuses w (store_of self.new) (tree_of_body w body) result }
+    {
+        let told = self.hints.look(body);
+        if told > 0 && holds_word(&self.arena, Slot(told - 1), word) {
+            return Ok(Term(told - 1));
+        }
+        self.make_slowly(body.kind, body.a, body.b, body.anns, word, told == 0)
+    }
+
+    /// The reference of a body.
     #[inline(always)]
     fn make(&mut self, body: CellBody) -> Result<Term, BankFault>
         requires written { IsWritten body }
@@ -247,11 +278,22 @@ impl SharedBank {
         ensures { let w = store_of self.old in
             MakesOrRefuses w (store_of self.new) (tree_of_body w body) result }
     {
-        let told = self.hints.look(body);
-        if told > 0 && holds_word(&self.arena, Slot(told - 1), word(body)) {
-            return Ok(Term(told - 1));
-        }
-        self.make_slowly(body.kind, body.a, body.b, body.anns, told == 0)
+        self.make_with(body, word(body))
+    }
+
+    /// The reference of a body of one of these kinds without annotations, whose second word is the
+    /// slot of a held reference: its word needs no look at that.
+    #[inline(always)]
+    fn make_bare(&mut self, kind: u8, a: u64, b: Term) -> Result<Term, BankFault>
+        requires kind { kind < 4 }
+        requires held { IsSome (tree_at (store_of self.old) b) }
+        requires written { IsWritten (body_of kind a b.0 None) }
+        requires tree { IsSome (tree_of_body (store_of self.old) (body_of kind a b.0 None)) }
+        ensures { let w = store_of self.old in MakesOrRefuses w (store_of self.new)
+            (tree_of_body w (body_of kind a b.0 None)) result }
+    {
+        let second = u64::from(b.0);
+        self.make_with(body(kind, a, second, None), bare_word(kind, a, second))
     }
 
     /// What the body of a held reference says but for its hash.
@@ -372,12 +414,12 @@ impl TermBank for SharedBank {
 
     #[inline(always)]
     fn cons(&mut self, head: Term, tail: Term) -> Result<Term, BankFault> {
-        self.make(body(LIST, u64::from(head.0), u64::from(tail.0), None))
+        self.make_bare(LIST, u64::from(head.0), tail)
     }
 
     #[inline(always)]
     fn appl(&mut self, sym: Symbol, args: Term) -> Result<Term, BankFault> {
-        self.make(body(APPLICATION, sym.0, u64::from(args.0), None))
+        self.make_bare(APPLICATION, sym.0, args)
     }
 
     fn hole(&mut self, inner: Term) -> Result<Term, BankFault> {

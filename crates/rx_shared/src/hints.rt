@@ -65,17 +65,16 @@ impl Hints {
         }
     }
 
-    /// Says that nothing names this slot.
+    /// Says that nothing names this slot, where its entry is there.
     #[inline(always)]
     fn clear(&mut self, slot: u32)
         ensures { (s : ℕ) → s ≢ slot → 0 < entry self.old.last.items s
             → 0 < entry self.new.last.items s }
     {
-        if slot as usize >= self.last.len() {
-            self.lengthen(slot);
-        }
         if (slot as usize) < self.last.len() {
             self.last[slot as usize] = 0;
+        } else {
+            self.lengthen(slot);
         }
     }
 

@@ -1,5 +1,5 @@
 -- What writes one after another do to known bytes.
-use Rattle.std.proofs.Common.{◌≡◌, ℕ, ◌+◌, ◌-◌, List, [], ◌++◌, Option, Some, None, Result, Ok, Err, OnErr, length, take, drop, sym, ap, ◌∙◌, append_assoc, append-nil, take-add, take-append-drop}
+use Rattle.std.proofs.Common.{◌≡◌, ℕ, ◌+◌, ◌-◌, ◌≤◌, arith, List, [], ◌++◌, Option, Some, None, Result, Ok, Err, OnErr, length, take, drop, sym, ap, ◌∙◌, append_assoc, append-nil, take-add, take-append-drop}
 use Rattle.std.proofs.lemmas.List.{take_rest}
 use Rattle.std.specs.Io.KnownBytes.{Appends, Keeps}
 use Rattle.rx_text.specs.Written.{AppendsFront}
@@ -16,6 +16,12 @@ pub appends_none : (old new : Option (List ℕ)) → Keeps old new → Appends o
 appends_none None _ h = tt
 appends_none (Some a) None h = absurd h
 appends_none (Some a) (Some b) h = h ∙ sym (append-nil a)
+
+-- nothing of a text was taken
+pub keeps_taken : (old new : Option (List ℕ)) (text : List ℕ) (n : ℕ) → n ≤ 0 → Appends old new (take n text) → Keeps old new
+keeps_taken None _ text n z h = tt
+keeps_taken (Some a) None text n z h = absurd h
+keeps_taken (Some a) (Some b) text n z h = let none : n ≡ 0 = omega arith in let same : b ≡ a ++ [] = rw none at h in same ∙ append-nil a
 
 -- one more piece of a text was written
 pub appends_piece : (old between new : Option (List ℕ)) (text : List ℕ) (at n : ℕ) → Appends old between (take at text) → Appends between new (take n (take (length text - at) (drop at text))) → Appends old new (take (at + n) text)

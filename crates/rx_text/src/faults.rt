@@ -61,6 +61,11 @@ impl From<BankFault> for TextFault {
 #[error("the text was not written")]
 pub struct RefusedWrite;
 
+/// The reader answered an error.
+#[derive(Clone, Copy, PartialEq, Eq, Debug, Drop, Error)]
+#[error("the text was not read")]
+pub struct RefusedRead;
+
 /// Why a tree was not printed.
 #[derive(Clone, Copy, PartialEq, Eq, Debug, Drop, Error)]
 pub enum WriteFault {

@@ -27,6 +27,8 @@ pub fn read<B: TermBank>(alloc: Global, bytes: &[u8], bank: &mut B) -> Result<Te
         (λ fault. IsOfText fault → B.store bank.new ≡ B.store bank.old) }
     ensures full { IsErrOf result TextFault.Full
         → cells (B.store bank.new) ≡ (B.store bank.new).cap }
+    ensures full_spelt { IsErrOf result TextFault.Full
+        → (u : Tree) × IsVerdict bytes.now (Spelt u) }
     ensures grows { Grows (B.store bank.old) (B.store bank.new) }
 {
     if bytes.len() > LONGEST {

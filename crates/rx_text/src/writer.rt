@@ -1,17 +1,21 @@
 //! Printing the tree of a reference.
 
-ghost use Rattle.std.specs.Prelude.{◌≡◌, ◌++◌, ◌∷◌, [], IsSome, IfSome, OnOk, OnErr};
+ghost use Rattle.std.specs.Prelude.{◌≡◌, ◌++◌, ◌∷◌, [], IsSome, IsOkUnless, IfSome, OnOk};
+ghost use Rattle.std.specs.Prelude.{OnErr};
 ghost use Rattle.std.specs.Fmt.{signed_decimal};
 ghost use Rattle.std.specs.Io.KnownBytes.{Appends};
 ghost use Rattle.rx_term.specs.Tree.{Tree};
 ghost use Rattle.rx_term.specs.Store.{tree_at, part_at, args_of};
 ghost use Rattle.rx_term.specs.Kinds.{HasAppl};
 ghost use Rattle.rx_text.specs.Canon.{canon, octal_text, quoted_byte, name_text, no_arguments};
+ghost use Rattle.rx_text.specs.Output.{contents_of, IsSameOutput, IsWritable, TellsFault};
+ghost use Rattle.rx_text.specs.Output.{TellsRefusal, Writes, WritesFront};
 ghost use Rattle.rx_text.specs.Written.{AppendsFront};
 ghost use Rattle.rx_text.specs.Jobs.{seen, body_text, body_size, job_text, job_size, IsJob, Adds};
 ghost use Rattle.rx_text.specs.Jobs.{Leaves};
 
 use crate::faults::{RefusedWrite, WriteFault};
+use crate::output::Output;
 use itoa::Buffer;
 use rx_term::{Kind, Symbol, Term, TermBank};
 use std::alloc::Global;
@@ -37,22 +41,17 @@ pub fn put<W: Write>(out: &mut W, text: &[u8]) -> Result<(), RefusedWrite>
     ensures written { OnOk result (Appends (W.contents out.old) (W.contents out.new) text.now) }
     ensures front { OnErr result (AppendsFront text.now (W.contents out.old) (W.contents out.new)) }
 {
-    let mut at = 0;
-    while at < text.len() {
-        match out.write(&text[at..]) {
-            Ok(count) if count > 0 => at += count,
-            _ => return Err(RefusedWrite),
-        }
-    }
-    Ok(())
+    let mut output = Output::new(out);
+    output.put(text)
 }
 
 /// Writes a backslash and three octal digits.
-fn put_octal<W: Write>(out: &mut W, byte: u8) -> Result<(), RefusedWrite>
-    ensures written { OnOk result
-        (Appends (W.contents out.old) (W.contents out.new) (octal_text byte)) }
-    ensures front { OnErr result
-        (AppendsFront (octal_text byte) (W.contents out.old) (W.contents out.new)) }
+fn put_octal<W: Write>(out: &mut Output<'_, W>, byte: u8) -> Result<(), RefusedWrite>
+    requires { IsWritable out.old }
+    ensures written { OnOk result (Writes W.contents out.old out.new (octal_text byte)) }
+    ensures front { OnErr result (WritesFront W.contents out.old out.new (octal_text byte)) }
+    ensures same { IsSameOutput out.old out.new }
+    ensures cause { TellsRefusal out.new result }
 {
     let digits = [
         b'\\',
@@ -60,62 +59,71 @@ fn put_octal<W: Write>(out: &mut W, byte: u8) -> Result<(), RefusedWrite>
         b'0' + byte / 8 % 8,
         b'0' + byte % 8,
     ];
-    put(out, &digits)
+    out.put(&digits)
 }
 
 /// Writes one byte of a quoted name.
-fn put_quoted_byte<W: Write>(out: &mut W, byte: u8) -> Result<(), RefusedWrite>
-    ensures written { OnOk result
-        (Appends (W.contents out.old) (W.contents out.new) (quoted_byte byte)) }
-    ensures front { OnErr result
-        (AppendsFront (quoted_byte byte) (W.contents out.old) (W.contents out.new)) }
+fn put_quoted_byte<W: Write>(out: &mut Output<'_, W>, byte: u8) -> Result<(), RefusedWrite>
+    requires { IsWritable out.old }
+    ensures written { OnOk result (Writes W.contents out.old out.new (quoted_byte byte)) }
+    ensures front { OnErr result (WritesFront W.contents out.old out.new (quoted_byte byte)) }
+    ensures same { IsSameOutput out.old out.new }
+    ensures cause { TellsRefusal out.new result }
 {
     if byte == b'"' || byte == b'\\' {
-        put(out, &[b'\\', byte])
+        out.put(&[b'\\', byte])
     } else if byte == b'\n' {
-        put(out, b"\\n")
+        out.put(b"\\n")
     } else if byte == b'\t' {
-        put(out, b"\\t")
+        out.put(b"\\t")
     } else if byte == b'\r' {
-        put(out, b"\\r")
+        out.put(b"\\r")
     } else if byte >= b' ' && byte <= b'~' {
-        put(out, &[byte])
+        out.put(&[byte])
     } else {
         put_octal(out, byte)
     }
 }
 
 /// Writes a name, between quotes where it is quoted.
-fn put_name<W: Write>(out: &mut W, name: &[u8], quoted: bool) -> Result<(), RefusedWrite>
-    ensures written { OnOk result
-        (Appends (W.contents out.old) (W.contents out.new) (name_text name.now quoted)) }
-    ensures front { OnErr result
-        (AppendsFront (name_text name.now quoted) (W.contents out.old) (W.contents out.new)) }
+fn put_name<W: Write>(
+    out: &mut Output<'_, W>,
+    name: &[u8],
+    quoted: bool,
+) -> Result<(), RefusedWrite>
+    requires { IsWritable out.old }
+    ensures written { OnOk result (Writes W.contents out.old out.new (name_text name.now quoted)) }
+    ensures front { OnErr result (WritesFront W.contents out.old out.new
+        (name_text name.now quoted)) }
+    ensures same { IsSameOutput out.old out.new }
+    ensures cause { TellsRefusal out.new result }
 {
     if !quoted {
-        return put(out, name);
+        return out.put(name);
     }
-    put(out, b"\"")?;
+    out.put(b"\"")?;
     for byte in name {
         put_quoted_byte(out, *byte)?;
     }
-    put(out, b"\"")
+    out.put(b"\"")
 }
 
 /// Writes an integer.
-fn put_integer<W: Write>(out: &mut W, value: i32) -> Result<(), RefusedWrite>
-    ensures written { OnOk result
-        (Appends (W.contents out.old) (W.contents out.new) (signed_decimal value)) }
-    ensures front { OnErr result
-        (AppendsFront (signed_decimal value) (W.contents out.old) (W.contents out.new)) }
+fn put_integer<W: Write>(out: &mut Output<'_, W>, value: i32) -> Result<(), RefusedWrite>
+    requires { IsWritable out.old }
+    ensures written { OnOk result (Writes W.contents out.old out.new (signed_decimal value)) }
+    ensures front { OnErr result (WritesFront W.contents out.old out.new (signed_decimal value)) }
+    ensures same { IsSameOutput out.old out.new }
+    ensures cause { TellsRefusal out.new result }
 {
     let mut buffer = Buffer::new();
-    put(out, buffer.format(value).as_bytes())
+    out.put(buffer.format(value).as_bytes())
 }
 
 /// Adds two jobs, of which the second is done first.
 fn leave(jobs: &mut Vec<Job>, later: Job, first: Job) -> Result<(), WriteFault>
-    ensures { OnOk result (jobs.new.items ≡ jobs.old.items ++ later ∷ first ∷ []) }
+    ensures left { OnOk result (jobs.new.items ≡ jobs.old.items ++ later ∷ first ∷ []) }
+    ensures memory { IsOkUnless result WriteFault.Memory }
 {
     jobs.push(later)?;
     jobs.push(first)?;
@@ -125,46 +133,60 @@ fn leave(jobs: &mut Vec<Job>, later: Job, first: Job) -> Result<(), WriteFault>
 /// Writes a mark, and leaves two jobs behind it, of which the second is done first.
 #[inline]
 fn put_mark<W: Write>(
-    out: &mut W,
+    out: &mut Output<'_, W>,
     mark: u8,
     jobs: &mut Vec<Job>,
     later: Job,
     first: Job,
 ) -> Result<(), WriteFault>
+    requires { IsWritable out.old }
     ensures left { OnOk result (jobs.new.items ≡ jobs.old.items ++ later ∷ first ∷ []) }
-    ensures written { OnOk result
-        (Appends (W.contents out.old) (W.contents out.new) (mark ∷ [])) }
-    ensures front { OnErr result
-        (AppendsFront (mark ∷ []) (W.contents out.old) (W.contents out.new)) }
+    ensures written { OnOk result (Writes W.contents out.old out.new (mark ∷ [])) }
+    ensures front { OnErr result (WritesFront W.contents out.old out.new (mark ∷ [])) }
+    ensures same { IsSameOutput out.old out.new }
+    ensures cause { TellsFault out.new result }
 {
     leave(jobs, later, first)?;
-    put(out, &[mark])?;
+    out.put(&[mark])?;
     Ok(())
 }
 
 /// Writes a name that has arguments, and the parenthesis before them.
 #[inline]
-fn put_operator<W: Write>(out: &mut W, name: &[u8], quoted: bool) -> Result<(), RefusedWrite>
-    ensures written { OnOk result (Appends (W.contents out.old) (W.contents out.new)
+fn put_operator<W: Write>(
+    out: &mut Output<'_, W>,
+    name: &[u8],
+    quoted: bool,
+) -> Result<(), RefusedWrite>
+    requires { IsWritable out.old }
+    ensures written { OnOk result (Writes W.contents out.old out.new
         (name_text name.now quoted ++ 40 ∷ [])) }
-    ensures front { OnErr result (AppendsFront (name_text name.now quoted ++ 40 ∷ [])
-        (W.contents out.old) (W.contents out.new)) }
+    ensures front { OnErr result (WritesFront W.contents out.old out.new
+        (name_text name.now quoted ++ 40 ∷ [])) }
+    ensures same { IsSameOutput out.old out.new }
+    ensures cause { TellsRefusal out.new result }
 {
     put_name(out, name, quoted)?;
-    put(out, b"(")
+    out.put(b"(")
 }
 
 /// Writes a name that has no arguments.
 #[inline]
-fn put_constant<W: Write>(out: &mut W, name: &[u8], quoted: bool) -> Result<(), RefusedWrite>
-    ensures written { OnOk result (Appends (W.contents out.old) (W.contents out.new)
+fn put_constant<W: Write>(
+    out: &mut Output<'_, W>,
+    name: &[u8],
+    quoted: bool,
+) -> Result<(), RefusedWrite>
+    requires { IsWritable out.old }
+    ensures written { OnOk result (Writes W.contents out.old out.new
         (name_text name.now quoted ++ no_arguments name.now quoted)) }
-    ensures front { OnErr result (AppendsFront
-        (name_text name.now quoted ++ no_arguments name.now quoted)
-        (W.contents out.old) (W.contents out.new)) }
+    ensures front { OnErr result (WritesFront W.contents out.old out.new
+        (name_text name.now quoted ++ no_arguments name.now quoted)) }
+    ensures same { IsSameOutput out.old out.new }
+    ensures cause { TellsRefusal out.new result }
 {
     if name.is_empty() && !quoted {
-        put(out, b"()")
+        out.put(b"()")
     } else {
         put_name(out, name, quoted)
     }
@@ -176,14 +198,19 @@ fn write_application<B: TermBank, W: Write>(
     term: Term,
     symbol: Symbol,
     jobs: &mut Vec<Job>,
-    out: &mut W,
+    out: &mut Output<'_, W>,
 ) -> Result<(), WriteFault>
-    requires { HasAppl (B.store bank.now) term symbol }
+    requires job { HasAppl (B.store bank.now) term symbol }
+    requires open { IsWritable out.old }
     ensures written { OnOk result (Leaves (B.store bank.now)
-        (seen [] body_text (tree_at (B.store bank.now) term)) (seen 1 body_size (tree_at (B.store
-        bank.now) term)) (W.contents out.old) (W.contents out.new) jobs.old.items jobs.new.items) }
-    ensures front { OnErr result (AppendsFront (seen [] body_text (tree_at (B.store bank.now) term))
-        (W.contents out.old) (W.contents out.new)) }
+        (seen [] body_text (tree_at (B.store bank.now) term))
+        (seen 1 body_size (tree_at (B.store bank.now) term))
+        (contents_of W.contents out.old) (contents_of W.contents out.new)
+        jobs.old.items jobs.new.items) }
+    ensures front { OnErr result (WritesFront W.contents out.old out.new
+        (seen [] body_text (tree_at (B.store bank.now) term))) }
+    ensures same { IsSameOutput out.old out.new }
+    ensures cause { TellsFault out.new result }
 {
     let name = bank.name_of(symbol);
     let quoted = bank.quoted_of(symbol);
@@ -201,18 +228,23 @@ fn write_body<B: TermBank, W: Write>(
     bank: &B,
     term: Term,
     jobs: &mut Vec<Job>,
-    out: &mut W,
+    out: &mut Output<'_, W>,
 ) -> Result<(), WriteFault>
-    requires { IsSome (tree_at (B.store bank.now) term) }
+    requires job { IsSome (tree_at (B.store bank.now) term) }
+    requires open { IsWritable out.old }
     ensures written { OnOk result (Leaves (B.store bank.now)
-        (seen [] body_text (tree_at (B.store bank.now) term)) (seen 1 body_size (tree_at (B.store
-        bank.now) term)) (W.contents out.old) (W.contents out.new) jobs.old.items jobs.new.items) }
-    ensures front { OnErr result (AppendsFront (seen [] body_text (tree_at (B.store bank.now) term))
-        (W.contents out.old) (W.contents out.new)) }
+        (seen [] body_text (tree_at (B.store bank.now) term))
+        (seen 1 body_size (tree_at (B.store bank.now) term))
+        (contents_of W.contents out.old) (contents_of W.contents out.new)
+        jobs.old.items jobs.new.items) }
+    ensures front { OnErr result (WritesFront W.contents out.old out.new
+        (seen [] body_text (tree_at (B.store bank.now) term))) }
+    ensures same { IsSameOutput out.old out.new }
+    ensures cause { TellsFault out.new result }
 {
     match bank.kind(term) {
         Kind::Int(value) => Ok(put_integer(out, value)?),
-        Kind::Nil => Ok(put(out, b"[]")?),
+        Kind::Nil => Ok(out.put(b"[]")?),
         Kind::Cons => put_mark(out, b'[', jobs, Job::Byte(b']'), Job::Items(term)),
         Kind::Appl(symbol) => write_application(bank, term, symbol, jobs, out),
         Kind::Hole => {
@@ -227,14 +259,18 @@ fn write_tree<B: TermBank, W: Write>(
     bank: &B,
     term: Term,
     jobs: &mut Vec<Job>,
-    out: &mut W,
+    out: &mut Output<'_, W>,
 ) -> Result<(), WriteFault>
-    requires { IsJob (B.store bank.now) (Job.Tree term) }
+    requires job { IsJob (B.store bank.now) (Job.Tree term) }
+    requires open { IsWritable out.old }
     ensures written { OnOk result (Leaves (B.store bank.now)
         (job_text (B.store bank.now) (Job.Tree term)) (job_size (B.store bank.now) (Job.Tree term))
-        (W.contents out.old) (W.contents out.new) jobs.old.items jobs.new.items) }
-    ensures front { OnErr result (AppendsFront (job_text (B.store bank.now) (Job.Tree term))
-        (W.contents out.old) (W.contents out.new)) }
+        (contents_of W.contents out.old) (contents_of W.contents out.new)
+        jobs.old.items jobs.new.items) }
+    ensures front { OnErr result (WritesFront W.contents out.old out.new
+        (job_text (B.store bank.now) (Job.Tree term))) }
+    ensures same { IsSameOutput out.old out.new }
+    ensures cause { TellsFault out.new result }
 {
     jobs.push(Job::Notes(term))?;
     write_body(bank, term, jobs, out)
@@ -245,14 +281,19 @@ fn write_notes<B: TermBank, W: Write>(
     bank: &B,
     term: Term,
     jobs: &mut Vec<Job>,
-    out: &mut W,
+    out: &mut Output<'_, W>,
 ) -> Result<(), WriteFault>
-    requires { IsJob (B.store bank.now) (Job.Notes term) }
+    requires job { IsJob (B.store bank.now) (Job.Notes term) }
+    requires open { IsWritable out.old }
     ensures written { OnOk result (Leaves (B.store bank.now)
-        (job_text (B.store bank.now) (Job.Notes term)) (job_size (B.store bank.now)
-        (Job.Notes term)) (W.contents out.old) (W.contents out.new) jobs.old.items jobs.new.items) }
-    ensures front { OnErr result (AppendsFront (job_text (B.store bank.now) (Job.Notes term))
-        (W.contents out.old) (W.contents out.new)) }
+        (job_text (B.store bank.now) (Job.Notes term))
+        (job_size (B.store bank.now) (Job.Notes term))
+        (contents_of W.contents out.old) (contents_of W.contents out.new)
+        jobs.old.items jobs.new.items) }
+    ensures front { OnErr result (WritesFront W.contents out.old out.new
+        (job_text (B.store bank.now) (Job.Notes term))) }
+    ensures same { IsSameOutput out.old out.new }
+    ensures cause { TellsFault out.new result }
 {
     let Some(anns) = bank.anns(term) else {
         return Ok(());
@@ -263,8 +304,10 @@ fn write_notes<B: TermBank, W: Write>(
 /// Leaves the items of a list to do.
 fn leave_items<B: TermBank>(bank: &B, list: Term, jobs: &mut Vec<Job>) -> Result<(), WriteFault>
     requires { IsJob (B.store bank.now) (Job.Items list) }
-    ensures { OnOk result (Adds (B.store bank.now) (job_text (B.store bank.now) (Job.Items list))
+    ensures left { OnOk result (Adds (B.store bank.now)
+        (job_text (B.store bank.now) (Job.Items list))
         (job_size (B.store bank.now) (Job.Items list)) jobs.old.items jobs.new.items) }
+    ensures memory { IsOkUnless result WriteFault.Memory }
 {
     if let Kind::Cons = bank.kind(list) {
         leave(
@@ -282,14 +325,19 @@ fn write_others<B: TermBank, W: Write>(
     bank: &B,
     list: Term,
     jobs: &mut Vec<Job>,
-    out: &mut W,
+    out: &mut Output<'_, W>,
 ) -> Result<(), WriteFault>
-    requires { IsJob (B.store bank.now) (Job.Others list) }
+    requires job { IsJob (B.store bank.now) (Job.Others list) }
+    requires open { IsWritable out.old }
     ensures written { OnOk result (Leaves (B.store bank.now)
-        (job_text (B.store bank.now) (Job.Others list)) (job_size (B.store bank.now) (Job.Others
-        list)) (W.contents out.old) (W.contents out.new) jobs.old.items jobs.new.items) }
-    ensures front { OnErr result (AppendsFront (job_text (B.store bank.now) (Job.Others list))
-        (W.contents out.old) (W.contents out.new)) }
+        (job_text (B.store bank.now) (Job.Others list))
+        (job_size (B.store bank.now) (Job.Others list))
+        (contents_of W.contents out.old) (contents_of W.contents out.new)
+        jobs.old.items jobs.new.items) }
+    ensures front { OnErr result (WritesFront W.contents out.old out.new
+        (job_text (B.store bank.now) (Job.Others list))) }
+    ensures same { IsSameOutput out.old out.new }
+    ensures cause { TellsFault out.new result }
 {
     if let Kind::Cons = bank.kind(list) {
         let others = Job::Others(bank.tail(list));
@@ -304,17 +352,21 @@ fn write_job<B: TermBank, W: Write>(
     bank: &B,
     job: Job,
     jobs: &mut Vec<Job>,
-    out: &mut W,
+    out: &mut Output<'_, W>,
 ) -> Result<(), WriteFault>
-    requires { IsJob (B.store bank.now) (job) }
-    ensures written { OnOk result (Leaves (B.store bank.now) (job_text (B.store bank.now) (job))
-        (job_size (B.store bank.now) (job)) (W.contents out.old) (W.contents out.new) jobs.old.items
-        jobs.new.items) }
-    ensures front { OnErr result (AppendsFront (job_text (B.store bank.now) (job))
-        (W.contents out.old) (W.contents out.new)) }
+    requires job { IsJob (B.store bank.now) job }
+    requires open { IsWritable out.old }
+    ensures written { OnOk result (Leaves (B.store bank.now)
+        (job_text (B.store bank.now) job) (job_size (B.store bank.now) job)
+        (contents_of W.contents out.old) (contents_of W.contents out.new)
+        jobs.old.items jobs.new.items) }
+    ensures front { OnErr result (WritesFront W.contents out.old out.new
+        (job_text (B.store bank.now) job)) }
+    ensures same { IsSameOutput out.old out.new }
+    ensures cause { TellsFault out.new result }
 {
     match job {
-        Job::Byte(byte) => Ok(put(out, &[byte])?),
+        Job::Byte(byte) => Ok(out.put(&[byte])?),
         Job::Tree(term) => write_tree(bank, term, jobs, out),
         Job::Notes(term) => write_notes(bank, term, jobs, out),
         Job::Items(list) => leave_items(bank, list, jobs),
@@ -334,6 +386,26 @@ pub fn write<B: TermBank, W: Write>(
         (λ u. Appends (W.contents out.old) (W.contents out.new) (canon u))) }
     ensures front { OnErr result (IfSome (tree_at (B.store bank.now) t)
         (λ u. AppendsFront (canon u) (W.contents out.old) (W.contents out.new))) }
+{
+    let mut output = Output::new(out);
+    write_to(alloc, bank, t, &mut output)
+}
+
+/// The same into a writer that may have been written to. It is asked no more once it refused.
+pub fn write_to<B: TermBank, W: Write>(
+    alloc: Global,
+    bank: &B,
+    t: Term,
+    out: &mut Output<'_, W>,
+) -> Result<(), WriteFault>
+    requires held { IsSome (tree_at (B.store bank.now) t) }
+    requires open { IsWritable out.old }
+    ensures written { OnOk result (IfSome (tree_at (B.store bank.now) t)
+        (λ u. Writes W.contents out.old out.new (canon u))) }
+    ensures front { OnErr result (IfSome (tree_at (B.store bank.now) t)
+        (λ u. WritesFront W.contents out.old out.new (canon u))) }
+    ensures same { IsSameOutput out.old out.new }
+    ensures cause { TellsFault out.new result }
 {
     let mut jobs = Vec::new(alloc);
     jobs.push(Job::Tree(t))?;

@@ -6,6 +6,8 @@ mod arena;
 #[cfg(test)]
 mod banks;
 #[cfg(test)]
+mod blocks;
+#[cfg(test)]
 mod names;
 #[cfg(test)]
 mod plain;

@@ -3,10 +3,10 @@ ghost use Rattle.std.specs.Prelude.{◌<◌, ◌≤◌, length};
 ghost use Rattle.rx_term.specs.Bank.{IsEmptyStore};
 ghost use Rattle.rx_shared.specs.State.{store_of};
 
-use crate::banks::{expect_rows, expect_shared};
+use crate::banks::{expect_rows, expect_shared, pair};
 use rx_arena::arena::Arena;
 use rx_shared::SharedBank;
-use rx_term::{BankFault, Term, TermBank, rows};
+use rx_term::{BankFault, Term, TermBank};
 use std::alloc::Global;
 use std::process::Abort;
 
@@ -111,8 +111,8 @@ fn keep_five(rt: &impl Abort, bank: &mut SharedBank, t: Term) {
 /// Makes 3,000 integers, `f(a,a)`, which is kept alone, and the integers again.
 fn reclaim_integers(rt: &impl Abort, bank: &mut SharedBank) {
     make_cells(rt, bank, 3000, 3000);
-    let (pair, _) = rows::pair(bank).expect(rt, "`f(a,a)`");
-    keep_five(rt, bank, pair);
+    let (kept, _) = pair(bank).expect(rt, "`f(a,a)`");
+    keep_five(rt, bank, kept);
     make_cells(rt, bank, 3000, 3005);
     expect_short_chains(rt, bank);
 }

@@ -54,7 +54,8 @@ pub(crate) fn match_reading<B: TermBank, R: Read>(
         → IfSome (R.remaining input.old)
         (λ bytes. IsMatchDue text bytes (answer_due (B.store bank.new) answer))) }
     ensures held { IfOk result (λ answer. IsAnswerHeld (B.store bank.new) answer) }
-    ensures fault { IfErr result (StopsUnwritten (B.store bank.old).cap) }
+    ensures fault { IfErr result (StopsUnwritten (B.store bank.old) (B.store bank.new)) }
+    ensures cap { (B.store bank.new).cap ≡ (B.store bank.old).cap }
     ensures input_read { OnOk result ((text : List ℕ) (p : Tree) → IsPatternRead text reading
         → SpellsPattern text p → IsReadOut (R.remaining input.old) (R.remaining input.new)) }
     ensures unread { (text : List ℕ) → IsPatternRead text reading → IsNoPattern text
@@ -78,7 +79,8 @@ fn match_input<B: TermBank, R: Read>(
         (λ t. match_lines (matching pattern.now t)) v)))) }
     ensures input_read { OnOk result (IsReadOut (R.remaining input.old) (R.remaining input.new)) }
     ensures held { IfOk result (λ answer. IsAnswerHeld (B.store bank.new) answer) }
-    ensures fault { IfErr result (StopsUnwritten (B.store bank.old).cap) }
+    ensures fault { IfErr result (StopsUnwritten (B.store bank.old) (B.store bank.new)) }
+    ensures cap { (B.store bank.new).cap ≡ (B.store bank.old).cap }
 {
     match read_term(alloc, input, bank)? {
         Reading::Refused(refusal) => Ok(Reading::Refused(refusal)),
@@ -97,7 +99,8 @@ fn match_term<B: TermBank>(
     ensures due { IfOk result (λ answer. (u : Tree) → tree_at (B.store bank.old) t ≡ Some u →
         answer_due (B.store bank.new) answer ≡ done (match_lines (matching pattern.now u))) }
     ensures held { IfOk result (λ answer. IsAnswerHeld (B.store bank.new) answer) }
-    ensures fault { IfErr result (RanOut (B.store bank.old).cap) }
+    ensures fault { IfErr result (RanOut (B.store bank.old) (B.store bank.new)) }
+    ensures cap { (B.store bank.new).cap ≡ (B.store bank.old).cap }
 {
     let mut bindings = Vec::new(alloc);
     match pattern.matches(bank, t, &mut bindings) {
@@ -118,7 +121,8 @@ pub(crate) fn make_of_reading<B: TermBank>(
     ensures due { IfOk result (λ answer. (text : List ℕ) → IsPatternRead text reading
         → IsMakeDue text args.now (answer_due (B.store bank.new) answer)) }
     ensures held { IfOk result (λ answer. IsAnswerHeld (B.store bank.new) answer) }
-    ensures fault { IfErr result (RanOut (B.store bank.old).cap) }
+    ensures fault { IfErr result (RanOut (B.store bank.old) (B.store bank.new)) }
+    ensures cap { (B.store bank.new).cap ≡ (B.store bank.old).cap }
 {
     match reading {
         Reading::Refused(refusal) => Ok(Reading::Refused(refusal)),
@@ -136,7 +140,8 @@ fn make_of_text<B: TermBank>(
     ensures due { IfOk result (λ answer. (v : Verdict) × (IsVerdict args.now v
         × (answer_due (B.store bank.new) answer ≡ due_of_args pattern.now v))) }
     ensures held { IfOk result (λ answer. IsAnswerHeld (B.store bank.new) answer) }
-    ensures fault { IfErr result (RanOut (B.store bank.old).cap) }
+    ensures fault { IfErr result (RanOut (B.store bank.old) (B.store bank.new)) }
+    ensures cap { (B.store bank.new).cap ≡ (B.store bank.old).cap }
 {
     match parse(alloc, Source::Args, args, bank)? {
         Reading::Refused(refusal) => Ok(Reading::Refused(refusal)),
@@ -155,7 +160,8 @@ fn make_of_term<B: TermBank>(
     ensures due { IfOk result (λ answer. (u : Tree) → tree_at (B.store bank.old) t ≡ Some u →
         answer_due (B.store bank.new) answer ≡ filled_due pattern.now (elements u)) }
     ensures held { IfOk result (λ answer. IsAnswerHeld (B.store bank.new) answer) }
-    ensures fault { IfErr result (RanOut (B.store bank.old).cap) }
+    ensures fault { IfErr result (RanOut (B.store bank.old) (B.store bank.new)) }
+    ensures cap { (B.store bank.new).cap ≡ (B.store bank.old).cap }
 {
     match elements_of(alloc, bank, t) {
         Ok(Some(args)) => make_of_elements(pattern, &args, bank),
@@ -175,7 +181,8 @@ fn make_of_elements<B: TermBank>(
         (λ answer. (ts : List Tree) → HaveTrees (B.store bank.old) args.now ts →
         answer_due (B.store bank.new) answer ≡ made_due (filling pattern.now ts)) }
     ensures held { IfOk result (λ answer. IsAnswerHeld (B.store bank.new) answer) }
-    ensures fault { IfErr result (RanOut (B.store bank.old).cap) }
+    ensures fault { IfErr result (RanOut (B.store bank.old) (B.store bank.new)) }
+    ensures cap { (B.store bank.new).cap ≡ (B.store bank.old).cap }
 {
     match pattern.make(bank, args) {
         Ok(t) => Ok(Reading::Good(Answer::Made(t))),

@@ -6,7 +6,7 @@ ghost use Rattle.rx_term.specs.Tree.{Tree, Trees, list_of, to_list};
 ghost use Rattle.rx_term.specs.Store.{tree_at};
 ghost use Rattle.rx_term.specs.Walks.{HaveTrees};
 ghost use Rattle.rec_sorts.specs.TermRules.{elements};
-ghost use Rattle.rec_run.specs.Run.{RanOut};
+ghost use Rattle.rec_run.specs.Run.{RanOut, StopsAtOnce};
 ghost use Rattle.rec_run.specs.PatternAnswers.{HasElements, IsPatternOf, IsPatternRead};
 
 use crate::ending::{RunFault, Source};
@@ -55,7 +55,7 @@ fn items_of<B: TermBank>(alloc: Global, bank: &B, list: Term) -> Result<Vec<Term
 /// Reads the text of a pattern, in a bank of its own.
 pub(crate) fn read_pattern(alloc: Global, text: &[u8]) -> Result<Reading<Pattern>, RunFault>
     ensures read { IfOk result (λ reading. IsPatternRead text.now reading) }
-    ensures fault { IfErr result (RanOut 1073741824) }
+    ensures fault { IfErr result StopsAtOnce }
 {
     match empty_bank(alloc, MOST_CELLS) {
         Ok(bank) => read_pattern_over(alloc, text, bank),
@@ -63,18 +63,31 @@ pub(crate) fn read_pattern(alloc: Global, text: &[u8]) -> Result<Reading<Pattern
     }
 }
 
-/// The same over a bank.
+/// The same over a bank that is let go.
 fn read_pattern_over<B: TermBank + Drop>(
     alloc: Global,
     text: &[u8],
     mut bank: B,
 ) -> Result<Reading<Pattern>, RunFault>
     ensures read { IfOk result (λ reading. IsPatternRead text.now reading) }
-    ensures fault { IfErr result (RanOut (B.store bank).cap) }
+    ensures fault { IfErr result StopsAtOnce }
 {
-    match parse(alloc, Source::Pattern, text, &mut bank)? {
+    read_pattern_in(alloc, text, &mut bank)
+}
+
+/// The same over a bank, to which it brings terms and nothing else.
+pub(crate) fn read_pattern_in<B: TermBank>(
+    alloc: Global,
+    text: &[u8],
+    bank: &mut B,
+) -> Result<Reading<Pattern>, RunFault>
+    ensures read { IfOk result (λ reading. IsPatternRead text.now reading) }
+    ensures cap { (B.store bank.new).cap ≡ (B.store bank.old).cap }
+    ensures fault { IfErr result (RanOut (B.store bank.old) (B.store bank.new)) }
+{
+    match parse(alloc, Source::Pattern, text, bank)? {
         Reading::Refused(refusal) => Ok(Reading::Refused(refusal)),
-        Reading::Good(t) => pattern_of(alloc, &bank, t),
+        Reading::Good(t) => pattern_of(alloc, bank, t),
     }
 }
 

@@ -3,20 +3,20 @@
 ghost use Rattle.std.specs.Prelude.{◌≡◌, ◌≢◌, None, IfErr, IfOk, OnErr, OnOk};
 ghost use Rattle.std.specs.Io.KnownBytes.{Appends};
 ghost use Rattle.rx_term.specs.Tree.{Tree};
-ghost use Rattle.rx_term.specs.Bank.{IsEmptyStore};
-ghost use Rattle.rec_run.specs.PatternAnswers.{IsAnswerHeld, answer_due};
+ghost use Rattle.rec_run.specs.PatternAnswers.{IsAnswerHeld, IsPatternRead, answer_due};
 ghost use Rattle.rec_run.specs.Refusals.{finish_of, place_of};
 ghost use Rattle.rec_run.specs.Run.{Breaks, BreaksFor, Ends, EndsFor, IsPlaced, IsPlacedFor};
-ghost use Rattle.rec_run.specs.Run.{IsReadOut, RoomFits, Stops, StopsWriting};
+ghost use Rattle.rec_run.specs.Run.{IsReadOut, RoomFills, RoomFillsOne, Stops, StopsWriting};
 ghost use Rattle.rec_run.specs.PatternRuns.{IsMakeDue, IsMatchDue, IsNoPattern, SpellsPattern};
 
 use crate::ending::{Finish, Place, RunFault};
 use crate::pattern::answer::{Answer, make_of_reading, match_reading};
 use crate::pattern::lines::write_answer;
-use crate::pattern::reading::read_pattern;
+use crate::pattern::reading::{read_pattern, read_pattern_in};
 use crate::refusal::Reading;
 use crate::term::reading::{MOST_CELLS, empty_bank};
 use crate::writing::flush;
+use rx_pattern::Pattern;
 use rx_term::TermBank;
 use std::alloc::Global;
 use std::io::{Read, Write};
@@ -34,7 +34,6 @@ pub fn run_match<R: Read, W: Write>(
         (R.remaining input.old) finish (W.contents out.old) (W.contents out.new)) }
     ensures fault { IfErr result (λ fault. BreaksFor (IsMatchDue pattern.now)
         (R.remaining input.old) fault (W.contents out.old) (W.contents out.new)) }
-    ensures room { IfErr result (RoomFits 1073741824) }
     ensures input_read { OnOk result ((p : Tree) → SpellsPattern pattern.now p
         → IsReadOut (R.remaining input.old) (R.remaining input.new)) }
     ensures unread { IsNoPattern pattern.now → input.new ≡ input.old }
@@ -58,28 +57,84 @@ pub fn run_match_at<R: Read, W: Write>(
     ensures fault { IfErr result (λ fault. BreaksFor (IsMatchDue pattern.now)
         (R.remaining input.old) fault (W.contents out.old) (W.contents out.new)) }
     ensures no_place { OnErr result (place.new ≡ None) }
-    ensures room { IfErr result (RoomFits 1073741824) }
     ensures input_read { OnOk result ((p : Tree) → SpellsPattern pattern.now p
         → IsReadOut (R.remaining input.old) (R.remaining input.new)) }
     ensures unread { IsNoPattern pattern.now → input.new ≡ input.old }
 {
     *place = None;
     match empty_bank(alloc, MOST_CELLS) {
-        Ok(bank) => match_over(alloc, pattern, input, bank, out, place),
+        Ok(bank) => match_owned(alloc, bank, pattern, input, out, place),
         Err(fault) => Err(fault),
     }
 }
 
-/// A match over an empty bank.
-fn match_over<B: TermBank + Drop, R: Read, W: Write>(
+/// The same over two banks, to which it brings terms and nothing else: one for the text of the
+/// pattern, one for that of the term. Want of cells comes where one of them has no cell left.
+pub fn run_match_in<B: TermBank, R: Read, W: Write>(
     alloc: Global,
+    patterns: &mut B,
+    bank: &mut B,
     pattern: &[u8],
     input: &mut R,
-    mut bank: B,
     out: &mut W,
     place: &mut Option<Place>,
 ) -> Result<Finish, RunFault>
-    requires empty { IsEmptyStore (B.store bank) 1073741824 }
+    ensures output { IfOk result (λ finish. EndsFor (IsMatchDue pattern.now)
+        (R.remaining input.old) finish (W.contents out.old) (W.contents out.new)) }
+    ensures place { OnOk result
+        (IsPlacedFor (IsMatchDue pattern.now) (R.remaining input.old) place.new) }
+    ensures fault { IfErr result (λ fault. BreaksFor (IsMatchDue pattern.now)
+        (R.remaining input.old) fault (W.contents out.old) (W.contents out.new)) }
+    ensures no_place { OnErr result (place.new ≡ None) }
+    ensures room { IfErr result (RoomFillsOne (B.store patterns.old) (B.store patterns.new)
+        (B.store bank.old) (B.store bank.new)) }
+    ensures caps { ((B.store patterns.new).cap ≡ (B.store patterns.old).cap)
+        × ((B.store bank.new).cap ≡ (B.store bank.old).cap) }
+    ensures input_read { OnOk result ((p : Tree) → SpellsPattern pattern.now p
+        → IsReadOut (R.remaining input.old) (R.remaining input.new)) }
+    ensures unread { IsNoPattern pattern.now → input.new ≡ input.old }
+{
+    *place = None;
+    let reading = read_pattern_in(alloc, pattern, patterns)?;
+    match_over(alloc, reading, bank, pattern, input, out, place)
+}
+
+/// A match over a bank of its own.
+fn match_owned<B: TermBank + Drop, R: Read, W: Write>(
+    alloc: Global,
+    mut bank: B,
+    pattern: &[u8],
+    input: &mut R,
+    out: &mut W,
+    place: &mut Option<Place>,
+) -> Result<Finish, RunFault>
+    requires { place.old ≡ None }
+    ensures output { IfOk result (λ finish. EndsFor (IsMatchDue pattern.now)
+        (R.remaining input.old) finish (W.contents out.old) (W.contents out.new)) }
+    ensures place { OnOk result
+        (IsPlacedFor (IsMatchDue pattern.now) (R.remaining input.old) place.new) }
+    ensures fault { IfErr result (λ fault. BreaksFor (IsMatchDue pattern.now)
+        (R.remaining input.old) fault (W.contents out.old) (W.contents out.new)) }
+    ensures no_place { OnErr result (place.new ≡ None) }
+    ensures input_read { OnOk result ((p : Tree) → SpellsPattern pattern.now p
+        → IsReadOut (R.remaining input.old) (R.remaining input.new)) }
+    ensures unread { IsNoPattern pattern.now → input.new ≡ input.old }
+{
+    let reading = read_pattern(alloc, pattern)?;
+    match_over(alloc, reading, &mut bank, pattern, input, out, place)
+}
+
+/// A match over a bank, of a text that came to this pattern.
+fn match_over<B: TermBank, R: Read, W: Write>(
+    alloc: Global,
+    reading: Reading<Pattern>,
+    bank: &mut B,
+    pattern: &[u8],
+    input: &mut R,
+    out: &mut W,
+    place: &mut Option<Place>,
+) -> Result<Finish, RunFault>
+    requires read { IsPatternRead pattern.now reading }
     requires no_place { place.old ≡ None }
     ensures output { IfOk result (λ finish. EndsFor (IsMatchDue pattern.now)
         (R.remaining input.old) finish (W.contents out.old) (W.contents out.new)) }
@@ -88,14 +143,14 @@ fn match_over<B: TermBank + Drop, R: Read, W: Write>(
     ensures fault { IfErr result (λ fault. BreaksFor (IsMatchDue pattern.now)
         (R.remaining input.old) fault (W.contents out.old) (W.contents out.new)) }
     ensures no_place { OnErr result (place.new ≡ None) }
-    ensures room { IfErr result (RoomFits 1073741824) }
+    ensures room { IfErr result (RoomFills (B.store bank.old) (B.store bank.new)) }
+    ensures cap { (B.store bank.new).cap ≡ (B.store bank.old).cap }
     ensures input_read { OnOk result ((p : Tree) → SpellsPattern pattern.now p
         → IsReadOut (R.remaining input.old) (R.remaining input.new)) }
     ensures unread { IsNoPattern pattern.now → input.new ≡ input.old }
 {
-    let reading = read_pattern(alloc, pattern)?;
-    let answer = match_reading(alloc, reading, input, &mut bank)?;
-    end_answer(alloc, &bank, &answer, out, place)
+    let answer = match_reading(alloc, reading, input, bank)?;
+    end_answer(alloc, bank, &answer, out, place)
 }
 
 /// Makes a tree from the texts of a pattern and of its arguments, writes its printed text and a
@@ -110,7 +165,6 @@ pub fn run_make<W: Write>(
         Ends (IsMakeDue pattern.now args.now) finish (W.contents out.old) (W.contents out.new)) }
     ensures fault { IfErr result (λ fault.
         Breaks (IsMakeDue pattern.now args.now) fault (W.contents out.old) (W.contents out.new)) }
-    ensures room { IfErr result (RoomFits 1073741824) }
     ensures no_reader { IfErr result (λ fault. fault ≢ RunFault.Read) }
 {
     let mut place = None;
@@ -131,26 +185,77 @@ pub fn run_make_at<W: Write>(
     ensures fault { IfErr result (λ fault.
         Breaks (IsMakeDue pattern.now args.now) fault (W.contents out.old) (W.contents out.new)) }
     ensures no_place { OnErr result (place.new ≡ None) }
-    ensures room { IfErr result (RoomFits 1073741824) }
     ensures no_reader { IfErr result (λ fault. fault ≢ RunFault.Read) }
 {
     *place = None;
     match empty_bank(alloc, MOST_CELLS) {
-        Ok(bank) => make_over(alloc, pattern, args, bank, out, place),
+        Ok(bank) => make_owned(alloc, bank, pattern, args, out, place),
         Err(fault) => Err(fault),
     }
 }
 
-/// A make over an empty bank.
-fn make_over<B: TermBank + Drop, W: Write>(
+/// The same over two banks, to which it brings terms and nothing else: one for the text of the
+/// pattern, one for that of the arguments and what is made. Want of cells comes where one of them
+/// has no cell left.
+pub fn run_make_in<B: TermBank, W: Write>(
     alloc: Global,
+    patterns: &mut B,
+    bank: &mut B,
     pattern: &[u8],
     args: &[u8],
-    mut bank: B,
     out: &mut W,
     place: &mut Option<Place>,
 ) -> Result<Finish, RunFault>
-    requires empty { IsEmptyStore (B.store bank) 1073741824 }
+    ensures output { IfOk result (λ finish.
+        Ends (IsMakeDue pattern.now args.now) finish (W.contents out.old) (W.contents out.new)) }
+    ensures place { OnOk result (IsPlaced (IsMakeDue pattern.now args.now) place.new) }
+    ensures fault { IfErr result (λ fault.
+        Breaks (IsMakeDue pattern.now args.now) fault (W.contents out.old) (W.contents out.new)) }
+    ensures no_place { OnErr result (place.new ≡ None) }
+    ensures room { IfErr result (RoomFillsOne (B.store patterns.old) (B.store patterns.new)
+        (B.store bank.old) (B.store bank.new)) }
+    ensures caps { ((B.store patterns.new).cap ≡ (B.store patterns.old).cap)
+        × ((B.store bank.new).cap ≡ (B.store bank.old).cap) }
+    ensures no_reader { IfErr result (λ fault. fault ≢ RunFault.Read) }
+{
+    *place = None;
+    let reading = read_pattern_in(alloc, pattern, patterns)?;
+    make_over(alloc, reading, bank, pattern, args, out, place)
+}
+
+/// A make over a bank of its own.
+fn make_owned<B: TermBank + Drop, W: Write>(
+    alloc: Global,
+    mut bank: B,
+    pattern: &[u8],
+    args: &[u8],
+    out: &mut W,
+    place: &mut Option<Place>,
+) -> Result<Finish, RunFault>
+    requires { place.old ≡ None }
+    ensures output { IfOk result (λ finish.
+        Ends (IsMakeDue pattern.now args.now) finish (W.contents out.old) (W.contents out.new)) }
+    ensures place { OnOk result (IsPlaced (IsMakeDue pattern.now args.now) place.new) }
+    ensures fault { IfErr result (λ fault.
+        Breaks (IsMakeDue pattern.now args.now) fault (W.contents out.old) (W.contents out.new)) }
+    ensures no_place { OnErr result (place.new ≡ None) }
+    ensures no_reader { IfErr result (λ fault. fault ≢ RunFault.Read) }
+{
+    let reading = read_pattern(alloc, pattern)?;
+    make_over(alloc, reading, &mut bank, pattern, args, out, place)
+}
+
+/// A make over a bank, of a text that came to this pattern.
+fn make_over<B: TermBank, W: Write>(
+    alloc: Global,
+    reading: Reading<Pattern>,
+    bank: &mut B,
+    pattern: &[u8],
+    args: &[u8],
+    out: &mut W,
+    place: &mut Option<Place>,
+) -> Result<Finish, RunFault>
+    requires read { IsPatternRead pattern.now reading }
     requires no_place { place.old ≡ None }
     ensures output { IfOk result (λ finish.
         Ends (IsMakeDue pattern.now args.now) finish (W.contents out.old) (W.contents out.new)) }
@@ -158,12 +263,12 @@ fn make_over<B: TermBank + Drop, W: Write>(
     ensures fault { IfErr result (λ fault.
         Breaks (IsMakeDue pattern.now args.now) fault (W.contents out.old) (W.contents out.new)) }
     ensures no_place { OnErr result (place.new ≡ None) }
-    ensures room { IfErr result (RoomFits 1073741824) }
+    ensures room { IfErr result (RoomFills (B.store bank.old) (B.store bank.new)) }
+    ensures cap { (B.store bank.new).cap ≡ (B.store bank.old).cap }
     ensures no_reader { IfErr result (λ fault. fault ≢ RunFault.Read) }
 {
-    let reading = read_pattern(alloc, pattern)?;
-    let answer = make_of_reading(alloc, reading, args, &mut bank)?;
-    end_answer(alloc, &bank, &answer, out, place)
+    let answer = make_of_reading(alloc, reading, args, bank)?;
+    end_answer(alloc, bank, &answer, out, place)
 }
 
 /// Writes what is due for what the texts came to, and flushes: how the run ends, and the place of

@@ -7,7 +7,7 @@ ghost use Rattle.std.specs.Io.KnownBytes.{Appends};
 ghost use Rattle.rx_term.specs.Steps.{Keeps, with_count};
 ghost use Rattle.rx_term.specs.Store.{tree_at};
 ghost use Rattle.rx_text.specs.Written.{AppendsFront};
-ghost use Rattle.rec_engine.specs.Engine.{IsGiven, SameEngine};
+ghost use Rattle.rec_engine.specs.Engine.{IsGiven, RemembersNothing, SameEngine};
 ghost use Rattle.rec_run.specs.GivenTerms.{
   HoldsTerms,
   given_at,
@@ -18,12 +18,14 @@ ghost use Rattle.rec_run.specs.GivenTerms.{
 };
 ghost use Rattle.rec_run.specs.Output.{lines};
 ghost use Rattle.rec_run.specs.Reading.{text_at};
-ghost use Rattle.rec_run.specs.Run.{RoomFits, Stops, StopsAfter};
+ghost use Rattle.rec_run.specs.Run.{RoomExhausts, Stops, StopsAfter};
 ghost use Rattle.rec_run.specs.EvaluatedLines.{
-  FillsBank,
   HoldsValue,
+  LineLacks,
   ProtectsTerms,
+  RunLacks,
   due_before,
+  engine_options,
   outcome_text,
   fault_after,
 };
@@ -97,53 +99,77 @@ impl From<RefusedWrite> for LineFault {
     }
 }
 
+/// What lines left.
+#[derive(Drop)]
+pub(crate) struct Left<B> {
+    /// That all were written, or why not.
+    pub(crate) written: Result<(), RunFault>,
+    /// The bank over which the terms were evaluated.
+    pub(crate) bank: B,
+    /// What the last evaluation needed of the bank.
+    pub(crate) needed: Vec<Term>,
+}
+
 /// Evaluates the terms of a specification and those of a list, where there is one, over the bank
-/// that holds them, and writes a line for each.
-pub(crate) fn write_evaluated<B: TermBank + Drop, W: Write>(
+/// that holds them, and writes a line for each. The list stays protected.
+pub(crate) fn write_evaluated<B: TermBank, W: Write>(
     alloc: Global,
     checked: Checked,
     bank: B,
     list: Option<Term>,
     out: &mut W,
     options: RunOptions,
-) -> Result<(), RunFault>
+) -> Left<B>
     requires unrooted { (t : ℕ) → (B.store bank).roots t ≡ 0 }
     requires given { ForSome list (HoldsTerms checked.spec (B.store bank)) }
-    ensures ok { OnOk result (Appends (W.contents out.old) (W.contents out.new)
+    ensures ok { OnOk result.written (Appends (W.contents out.old) (W.contents out.new)
         (lines checked.spec (given_by (B.store bank) list) options.count options.steps)) }
-    ensures err { IfErr result (λ fault. Stops fault
+    ensures err { IfErr result.written (λ fault. Stops fault
         (lines checked.spec (given_by (B.store bank) list) options.count options.steps)
         (W.contents out.old) (W.contents out.new)) }
-    ensures room { IfErr result (RoomFits (B.store bank).cap) }
+    ensures room { IfErr result.written
+        (RoomExhausts (B.store result.bank) result.needed.items) }
+    ensures cap { (B.store result.bank).cap ≡ (B.store bank).cap }
 {
     match engine_over(alloc, checked, bank, list, options) {
         Ok(mut engine) => {
-            let written = write_all(alloc, &mut engine, list, out, options);
-            // By a call: written out at the end of this function it is long to prove.
-            drop(engine);
-            written
+            let written = write_lines(alloc, &mut engine, list, out, options);
+            let (bank, needed) = engine.into_parts();
+            Left {
+                written,
+                bank,
+                needed,
+            }
         }
-        Err(fault) => Err(fault),
+        Err(bank) => Left {
+            written: Err(RunFault::Memory { lines: 0 }),
+            bank,
+            needed: Vec::new(alloc),
+        },
     }
 }
 
-/// An engine over a bank in which the list is protected, where there is one.
-fn engine_over<B: TermBank + Drop>(
+/// The engine of a run over a bank: it works as the options say, and the list of given terms, where
+/// there is one, is protected. The error is want of memory, and hands back the bank, in which the
+/// list is protected.
+pub fn engine_over<B: TermBank>(
     alloc: Global,
     checked: Checked,
     mut bank: B,
     list: Option<Term>,
     options: RunOptions,
-) -> Result<Engine<B>, RunFault>
+) -> Result<Engine<B>, B>
     requires unrooted { (t : ℕ) → (B.store bank).roots t ≡ 0 }
     requires given { ForSome list (HoldsTerms checked.spec (B.store bank)) }
     ensures spec { IfOk result (λ e. e.spec ≡ checked.spec) }
+    ensures options { IfOk result (λ e. e.options ≡ engine_options options) }
+    ensures memo { IfOk result (λ e. RemembersNothing options.memo e.memo) }
     ensures protected { IfOk result
         (λ e. ForSome list (ProtectsTerms checked.spec (B.store e.bank))) }
     ensures terms { IfOk result
         (λ e. given_by (B.store e.bank) list ≡ given_by (B.store bank) list) }
     ensures cap { IfOk result (λ e. (B.store e.bank).cap ≡ (B.store bank).cap) }
-    ensures fault { IfErr result (λ fault. fault ≡ RunFault.Memory 0) }
+    ensures refused { IfErr result (λ b. (B.store b).cap ≡ (B.store bank).cap) }
 {
     if let Some(list) = list {
         protect(&mut bank, list);
@@ -152,9 +178,9 @@ fn engine_over<B: TermBank + Drop>(
         memo: options.memo,
         reclaim_every: options.reclaim,
     };
-    match Engine::new(alloc, checked, bank, options) {
+    match Engine::over(alloc, checked, bank, options) {
         Ok(engine) => Ok(engine),
-        Err(_) => Err(RunFault::Memory { lines: 0 }),
+        Err(bank) => Err(bank),
     }
 }
 
@@ -172,7 +198,7 @@ fn protect<B: TermBank>(bank: &mut B, t: Term)
 
 /// Writes a line for each term of the specification, and then one for each term of the list, where
 /// there is one.
-fn write_all<B: TermBank, W: Write>(
+pub fn write_lines<B: TermBank, W: Write>(
     alloc: Global,
     engine: &mut Engine<B>,
     list: Option<Term>,
@@ -180,6 +206,8 @@ fn write_all<B: TermBank, W: Write>(
     options: RunOptions,
 ) -> Result<(), RunFault>
     requires { ForSome list (ProtectsTerms engine.old.spec (B.store engine.old.bank)) }
+    ensures same { SameEngine engine.old engine.new }
+    ensures keeps { Keeps (B.store engine.old.bank) (B.store engine.new.bank) [] }
     ensures ok { OnOk result (Appends (W.contents out.old) (W.contents out.new)
         (lines engine.old.spec (given_by (B.store engine.old.bank) list) options.count
         options.steps)) }
@@ -187,7 +215,8 @@ fn write_all<B: TermBank, W: Write>(
         (lines engine.old.spec (given_by (B.store engine.old.bank) list)
         options.count options.steps)
         (W.contents out.old) (W.contents out.new)) }
-    ensures room { IfErr result (RoomFits (B.store engine.old.bank).cap) }
+    ensures room { IfErr result
+        (RunLacks (B.store engine.new.bank) engine.new.work engine.new.memo) }
 {
     write_own_lines(alloc, engine, out, options)?;
     match list {
@@ -210,7 +239,8 @@ fn write_own_lines<B: TermBank, W: Write>(
     ensures err { IfErr result
         (λ fault. Stops fault (lines engine.old.spec [] options.count options.steps)
         (W.contents out.old) (W.contents out.new)) }
-    ensures room { IfErr result (RoomFits (B.store engine.old.bank).cap) }
+    ensures room { IfErr result
+        (RunLacks (B.store engine.new.bank) engine.new.work engine.new.memo) }
 {
     for i in 0..engine.eval_terms() {
         match write_own_line(alloc, engine, i, out, options) {
@@ -237,7 +267,8 @@ fn write_own_line<B: TermBank, W: Write>(
     ensures err { IfErr result (λ fault.
         AppendsFront (due_before fault (text_at engine.old.spec options.count options.steps i))
         (W.contents out.old) (W.contents out.new)) }
-    ensures room { IfErr result (FillsBank (B.store engine.new.bank)) }
+    ensures room { IfErr result
+        (LineLacks (B.store engine.new.bank) engine.new.work engine.new.memo) }
 {
     let term = engine.eval_term(i)?;
     write_evaluation(alloc, engine, term, out, options)
@@ -252,6 +283,8 @@ fn write_given_lines<B: TermBank, W: Write>(
     options: RunOptions,
 ) -> Result<(), RunFault>
     requires { ProtectsTerms engine.old.spec (B.store engine.old.bank) list }
+    ensures same { SameEngine engine.old engine.new }
+    ensures keeps { Keeps (B.store engine.old.bank) (B.store engine.new.bank) [] }
     ensures ok { OnOk result (Appends (W.contents out.old) (W.contents out.new)
         (given_lines engine.old.spec options.count options.steps
         (given_at (B.store engine.old.bank) list))) }
@@ -259,7 +292,8 @@ fn write_given_lines<B: TermBank, W: Write>(
         (given_lines engine.old.spec options.count options.steps
         (given_at (B.store engine.old.bank) list))
         (W.contents out.old) (W.contents out.new)) }
-    ensures room { IfErr result (RoomFits (B.store engine.old.bank).cap) }
+    ensures room { IfErr result
+        (RunLacks (B.store engine.new.bank) engine.new.work engine.new.memo) }
 {
     let first = u64::from(engine.eval_terms());
     let mut rest = list;
@@ -296,7 +330,8 @@ fn write_evaluation<B: TermBank, W: Write>(
         (due_before fault (given_text engine.old.spec options.count options.steps
         (item_at (B.store engine.old.bank) t)))
         (W.contents out.old) (W.contents out.new)) }
-    ensures room { IfErr result (FillsBank (B.store engine.new.bank)) }
+    ensures room { IfErr result
+        (LineLacks (B.store engine.new.bank) engine.new.work engine.new.memo) }
 {
     let outcome = engine.normalise(t, options.steps)?;
     write_outcome(alloc, engine.bank(), outcome, out, options)?;

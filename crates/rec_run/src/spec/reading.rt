@@ -1,27 +1,26 @@
 //! The texts of a run: a specification, and given terms.
 
-ghost use Rattle.std.specs.Prelude.{◌≡◌, ◌<◌, ◌≤◌, ℕ, List, IfOk, IfErr, IfSome, IsSome, None};
+ghost use Rattle.std.specs.Prelude.{◌≡◌, ◌≤◌, ℕ, List, IfOk, IfErr, IfSome, IsSome, None};
 ghost use Rattle.std.specs.Prelude.{OnOk, Some, length, option_map};
 ghost use Rattle.rx_term.specs.Steps.{Grows};
-ghost use Rattle.rx_term.specs.Store.{tree_at};
+ghost use Rattle.rx_term.specs.Store.{Store, tree_at};
 ghost use Rattle.rx_text.specs.Grammar.{Spells};
-ghost use Rattle.rx_shared.specs.State.{store_of};
 ghost use Rattle.rec_syntax.specs.Grammar.{SpecText};
 ghost use Rattle.rec_sorts.specs.SpecRules.{Fits, Verdict};
 ghost use Rattle.rec_run.specs.Reading.{IsGood, IsSpecRead, IsSpecReading};
-ghost use Rattle.rec_run.specs.Run.{IsReadOut, RanOut, StopsUnwritten, both_texts};
+ghost use Rattle.rec_run.specs.Run.{IsReadOut, RanOut, StopsReading, StopsUnwritten, both_texts};
 ghost use Rattle.rec_run.specs.GivenTerms.{
+  EndsRefused,
   HoldsList,
-  IsGivenRead,
   IsListRead,
   IsReadAs,
   IsReadFor,
   IsReadFrom,
   IsReady,
-  IsReadyList,
   IsRefusal,
   OnGoodSpec,
   OnRefusedSpec,
+  job_alone_of,
   job_of,
   list_refused,
 };
@@ -29,32 +28,20 @@ ghost use Rattle.rec_run.specs.GivenTerms.{
 use crate::ending::{RunFault, Source};
 use crate::refusal::{Reading, Reason};
 use crate::streams::{ReadFault, read_all};
-use crate::term::reading::{empty_bank, parse};
+use crate::term::reading::parse;
 use rec_sorts::{Checked, SortFault, TermsFault, check, check_terms};
 use rec_syntax::{Syntax, SyntaxFault, read_owned};
-use rx_shared::SharedBank;
 use rx_term::{Term, TermBank};
 use std::alloc::{AllocError, Global};
 use std::io::Read;
 
-/// A good specification, and a bank with the list of given terms, where there is one.
+/// A good specification, and the list of given terms in a bank, where there is one.
 #[derive(Drop)]
 pub(crate) struct Job {
     /// The specification.
     pub(crate) checked: Checked,
-    /// The bank.
-    pub(crate) bank: SharedBank,
     /// The list of given terms.
     pub(crate) list: Option<Term>,
-}
-
-/// A list of given terms, and the bank that holds it.
-#[derive(Drop)]
-pub(crate) struct Given<B> {
-    /// The bank.
-    pub(crate) bank: B,
-    /// The list.
-    pub(crate) list: Term,
 }
 
 /// The verdict on a text, which a good specification keeps.
@@ -87,53 +74,56 @@ fn judge_rules(alloc: Global, syntax: Syntax) -> Result<Reading<Checked>, AllocE
 }
 
 /// Reads the text of a specification without given terms, and judges it.
-pub(crate) fn read_alone<R: Read>(
-    alloc: Global,
-    spec: &mut R,
-    cells: u32,
-) -> Result<Reading<Job>, RunFault>
-    requires { (0 < cells) × (cells ≤ 1073741824) }
-    ensures due { IfOk result (λ reading. IfSome (both_texts (R.remaining spec.old) (Some None))
-        (λ texts. IsReadFrom texts reading)) }
-    ensures ready { IfOk result (IsReady cells) }
+pub(crate) fn read_alone<R: Read>(alloc: Global, spec: &mut R) -> Result<Reading<Job>, RunFault>
+    ensures due { IfOk result
+        (λ reading. (w : Store) → IfSome (both_texts (R.remaining spec.old) (Some None))
+        (λ texts. IsReadFrom w texts reading)) }
+    ensures ready { IfOk result (λ reading. (w : Store) → IsReady w reading) }
+    ensures refused { OnRefusedSpec (R.remaining spec.old) (EndsRefused result) }
     ensures out { OnOk result (IsReadOut (R.remaining spec.old) (R.remaining spec.new)) }
-    ensures fault { IfErr result (StopsUnwritten cells) }
+    ensures fault { IfErr result StopsReading }
 {
     let first = read_spec_text(alloc, spec)?;
+    Ok(job_alone(first))
+}
+
+/// What the text of a specification comes to without given terms.
+fn job_alone(first: Reading<Checked>) -> Reading<Job>
+    ensures { result ≡ job_alone_of first }
+{
     match first {
-        Reading::Refused(refusal) => Ok(Reading::Refused(refusal)),
-        Reading::Good(checked) => {
-            let bank = empty_bank(alloc, cells)?;
-            Ok(Reading::Good(Job {
-                checked,
-                bank,
-                list: None,
-            }))
-        }
+        Reading::Refused(refusal) => Reading::Refused(refusal),
+        Reading::Good(checked) => Reading::Good(Job {
+            checked,
+            list: None,
+        }),
     }
 }
 
-/// Reads the text of a specification and, where it is good, that of the given terms, and judges
-/// both.
-pub(crate) fn read_both<R: Read, T: Read>(
+/// Reads the text of a specification and, where it is good, that of the given terms into a bank,
+/// and judges both.
+pub(crate) fn read_both<B: TermBank, R: Read, T: Read>(
     alloc: Global,
     spec: &mut R,
     terms: &mut T,
-    cells: u32,
+    bank: &mut B,
 ) -> Result<Reading<Job>, RunFault>
-    requires { (0 < cells) × (cells ≤ 1073741824) }
     ensures due { IfOk result (λ reading. IfSome
         (both_texts (R.remaining spec.old) (option_map (λ b. Some b) (T.remaining terms.old)))
-        (λ texts. IsReadFrom texts reading)) }
-    ensures ready { IfOk result (IsReady cells) }
+        (λ texts. IsReadFrom (B.store bank.new) texts reading)) }
+    ensures ready { IfOk result (IsReady (B.store bank.new)) }
     ensures out { OnOk result (IsReadOut (R.remaining spec.old) (R.remaining spec.new)) }
     ensures terms_out { OnOk result (OnGoodSpec (R.remaining spec.old)
         (IsReadOut (T.remaining terms.old) (T.remaining terms.new))) }
     ensures unread { OnRefusedSpec (R.remaining spec.old) (terms.new ≡ terms.old) }
-    ensures fault { IfErr result (StopsUnwritten cells) }
+    ensures unused { OnRefusedSpec (R.remaining spec.old) (bank.new ≡ bank.old) }
+    ensures refused { OnRefusedSpec (R.remaining spec.old) (EndsRefused result) }
+    ensures roots { (B.store bank.new).roots ≡ (B.store bank.old).roots }
+    ensures cap { (B.store bank.new).cap ≡ (B.store bank.old).cap }
+    ensures fault { IfErr result (StopsUnwritten (B.store bank.old) (B.store bank.new)) }
 {
     let first = read_spec_text(alloc, spec)?;
-    read_after(alloc, first, terms, cells)
+    read_after(alloc, first, terms, bank)
 }
 
 /// Reads the text of a specification, and judges it.
@@ -148,100 +138,81 @@ fn read_spec_text<R: Read>(alloc: Global, spec: &mut R) -> Result<Reading<Checke
 }
 
 /// Reads the text of terms where the specification is good.
-fn read_after<T: Read>(
+fn read_after<B: TermBank, T: Read>(
     alloc: Global,
     first: Reading<Checked>,
     terms: &mut T,
-    cells: u32,
+    bank: &mut B,
 ) -> Result<Reading<Job>, RunFault>
-    requires { (0 < cells) × (cells ≤ 1073741824) }
     ensures due { IfOk result (λ reading. (v : Verdict) → IsSpecReading first v
-        → IfSome (T.remaining terms.old) (λ bytes. IsReadAs v bytes reading)) }
-    ensures ready { IfOk result (IsReady cells) }
+        → IfSome (T.remaining terms.old) (λ bytes. IsReadAs (B.store bank.new) v bytes reading)) }
+    ensures ready { IfOk result (IsReady (B.store bank.new)) }
     ensures out { OnOk result
         (IsGood first → IsReadOut (T.remaining terms.old) (T.remaining terms.new)) }
     ensures unread { (v : Verdict) → IsSpecReading first v → IsRefusal v
         → terms.new ≡ terms.old }
-    ensures fault { IfErr result (StopsUnwritten cells) }
+    ensures unused { (v : Verdict) → IsSpecReading first v → IsRefusal v → bank.new ≡ bank.old }
+    ensures refused { (v : Verdict) → IsSpecReading first v → IsRefusal v
+        → EndsRefused result }
+    ensures roots { (B.store bank.new).roots ≡ (B.store bank.old).roots }
+    ensures cap { (B.store bank.new).cap ≡ (B.store bank.old).cap }
+    ensures fault { IfErr result (StopsUnwritten (B.store bank.old) (B.store bank.new)) }
 {
     match first {
         Reading::Refused(refusal) => Ok(Reading::Refused(refusal)),
-        Reading::Good(checked) => read_terms(alloc, checked, terms, cells),
+        Reading::Good(checked) => read_terms(alloc, checked, terms, bank),
     }
 }
 
 /// Reads the text of terms for a good specification, and judges it.
-fn read_terms<T: Read>(
+fn read_terms<B: TermBank, T: Read>(
     alloc: Global,
     checked: Checked,
     terms: &mut T,
-    cells: u32,
+    bank: &mut B,
 ) -> Result<Reading<Job>, RunFault>
-    requires { (0 < cells) × (cells ≤ 1073741824) }
     ensures due { IfOk result (λ reading. IfSome (T.remaining terms.old)
-        (λ bytes. IsReadFor checked.spec bytes reading)) }
-    ensures ready { IfOk result (IsReady cells) }
+        (λ bytes. IsReadFor (B.store bank.new) checked.spec bytes reading)) }
+    ensures ready { IfOk result (IsReady (B.store bank.new)) }
     ensures out { OnOk result (IsReadOut (T.remaining terms.old) (T.remaining terms.new)) }
-    ensures fault { IfErr result (StopsUnwritten cells) }
+    ensures roots { (B.store bank.new).roots ≡ (B.store bank.old).roots }
+    ensures cap { (B.store bank.new).cap ≡ (B.store bank.old).cap }
+    ensures fault { IfErr result (StopsUnwritten (B.store bank.old) (B.store bank.new)) }
 {
-    let reading = read_given(alloc, &checked, terms, cells)?;
+    let reading = read_list(alloc, &checked, terms, bank)?;
     Ok(job_from(checked, reading))
 }
 
 /// What both texts came to, where that of the terms came to this.
-fn job_from(checked: Checked, reading: Reading<Given<SharedBank>>) -> Reading<Job>
+fn job_from(checked: Checked, reading: Reading<Term>) -> Reading<Job>
     ensures { result ≡ job_of checked reading }
 {
     match reading {
         Reading::Refused(refusal) => Reading::Refused(refusal),
-        Reading::Good(Given { bank, list }) => Reading::Good(Job {
+        Reading::Good(list) => Reading::Good(Job {
             checked,
-            bank,
             list: Some(list),
         }),
     }
 }
 
-/// Reads the text of terms for a good specification into a bank of its own, and judges it.
-fn read_given<T: Read>(
+/// Reads the text of terms for a good specification into a bank, and judges it.
+fn read_list<B: TermBank, T: Read>(
     alloc: Global,
     checked: &Checked,
     terms: &mut T,
-    cells: u32,
-) -> Result<Reading<Given<SharedBank>>, RunFault>
-    requires { (0 < cells) × (cells ≤ 1073741824) }
+    bank: &mut B,
+) -> Result<Reading<Term>, RunFault>
     ensures due { IfOk result (λ reading. IfSome (T.remaining terms.old)
-        (λ bytes. IsGivenRead store_of checked.now.spec bytes reading)) }
-    ensures ready { IfOk result (IsReadyList store_of cells checked.now.spec) }
+        (λ bytes. IsListRead checked.now.spec (B.store bank.new) bytes reading)) }
+    ensures holds { IfOk result (HoldsList checked.now.spec (B.store bank.new)) }
     ensures out { OnOk result (IsReadOut (T.remaining terms.old) (T.remaining terms.new)) }
-    ensures fault { IfErr result (StopsUnwritten cells) }
-{
-    match empty_bank(alloc, cells) {
-        Ok(bank) => read_list(alloc, checked, terms, bank),
-        Err(fault) => Err(fault),
-    }
-}
-
-/// The same over an empty bank.
-fn read_list<B: TermBank + Drop, T: Read>(
-    alloc: Global,
-    checked: &Checked,
-    terms: &mut T,
-    mut bank: B,
-) -> Result<Reading<Given<B>>, RunFault>
-    requires { (t : ℕ) → (B.store bank).roots t ≡ 0 }
-    ensures due { IfOk result (λ reading. IfSome (T.remaining terms.old)
-        (λ bytes. IsGivenRead B.store checked.now.spec bytes reading)) }
-    ensures ready { IfOk result (IsReadyList B.store (B.store bank).cap checked.now.spec) }
-    ensures out { OnOk result (IsReadOut (T.remaining terms.old) (T.remaining terms.new)) }
-    ensures fault { IfErr result (StopsUnwritten (B.store bank).cap) }
+    ensures roots { (B.store bank.new).roots ≡ (B.store bank.old).roots }
+    ensures cap { (B.store bank.new).cap ≡ (B.store bank.old).cap }
+    ensures fault { IfErr result (StopsUnwritten (B.store bank.old) (B.store bank.new)) }
 {
     let text = read_all(alloc, terms)?;
-    let reading = judge_terms(alloc, checked, &text, &mut bank)?;
-    match reading {
-        Reading::Refused(refusal) => Ok(Reading::Refused(refusal)),
-        Reading::Good(list) => Ok(Reading::Good(Given { bank, list })),
-    }
+    judge_terms(alloc, checked, &text, bank)
 }
 
 /// The verdict on a text of terms for a good specification.
@@ -254,7 +225,7 @@ fn judge_terms<B: TermBank>(
     ensures due { IfOk result (IsListRead checked.now.spec (B.store bank.new) text.now) }
     ensures holds { IfOk result (HoldsList checked.now.spec (B.store bank.new)) }
     ensures grows { Grows (B.store bank.old) (B.store bank.new) }
-    ensures fault { IfErr result (RanOut (B.store bank.old).cap) }
+    ensures fault { IfErr result (RanOut (B.store bank.old) (B.store bank.new)) }
 {
     match parse(alloc, Source::Terms, text, bank)? {
         Reading::Refused(refusal) => Ok(Reading::Refused(refusal)),

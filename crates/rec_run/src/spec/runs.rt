@@ -1,42 +1,72 @@
 //! Whole runs.
 
-ghost use Rattle.std.specs.Prelude.{◌≡◌, None, IfErr, IfOk, IfSome, OnErr, OnOk, Option, Some};
+ghost use Rattle.std.specs.Prelude.{◌≡◌, ℕ, None, IfErr, IfOk, IfSome, OnErr, OnOk, Some};
 ghost use Rattle.std.specs.Prelude.{option_map};
 ghost use Rattle.std.specs.Io.KnownBytes.{Appends};
 ghost use Rattle.std.specs.Option.{option_copied_mut};
 ghost use Rattle.rec_run.specs.GivenTerms.{
-  IsReadFrom,
   IsReady,
+  IsRefused,
   OnGoodSpec,
   OnRefusedSpec,
   run_due,
 };
+ghost use Rattle.rec_run.specs.Refusals.{finish_of, place_of, refusal_due};
 ghost use Rattle.rec_run.specs.Run.{
   BreaksFor,
+  EndsBehind,
   EndsFor,
+  HasRoom,
   IsDueFor,
   IsPlacedFor,
   IsReadOut,
   Leads,
-  RoomFits,
+  RoomExhausts,
+  RoomIn,
   Stays,
   Stops,
-  Texts,
   both_texts,
   terms_text,
 };
 
 use crate::ending::{Finish, Place, RunFault, RunOptions};
-use crate::refusal::Reading;
-use crate::spec::lines::write_evaluated;
+use crate::refusal::{Reading, Refusal};
+use crate::spec::lines::{Left, write_evaluated};
 use crate::spec::reading::{Job, read_alone, read_both};
+use crate::term::reading::empty_bank;
 use crate::writing::{flush, write_refusal};
+use rx_term::{Term, TermBank};
 use std::alloc::Global;
 use std::io::{Read, Write};
 
+/// What a run over a bank leaves.
+#[derive(Drop)]
+pub struct Ended<B> {
+    /// How it ended.
+    pub end: Result<Finish, RunFault>,
+    /// The bank.
+    pub bank: B,
+    /// What the last evaluation needed of the bank besides what is protected; nothing where none
+    /// began.
+    pub needed: Vec<Term>,
+}
+
+impl<B: Drop> Ended<B> {
+    /// How the run ended: the rest is let go.
+    pub fn into_end(self) -> Result<Finish, RunFault>
+        ensures { result ≡ self.end }
+    {
+        let Ended { end, bank, needed } = self;
+        drop(bank);
+        drop(needed);
+        end
+    }
+}
+
 /// Reads a specification and, where it is good and terms are given, their text; writes a line for
 /// each term of both, and flushes; or the line of a refusal. A fault while a text is read has
-/// written nothing. What a fault leaves of the readers is open.
+/// written nothing. What a fault leaves of the readers is open. A refused specification needs no
+/// cells.
 pub fn run<R: Read, T: Read, W: Write>(
     alloc: Global,
     spec: &mut R,
@@ -50,7 +80,7 @@ pub fn run<R: Read, T: Read, W: Write>(
     ensures fault { IfErr result (λ fault. BreaksFor (IsDueFor options.count options.steps)
         (both_texts (R.remaining spec.old) (terms_text T.remaining terms.entry))
         fault (W.contents out.old) (W.contents out.new)) }
-    ensures room { IfErr result (RoomFits options.cells) }
+    ensures room { OnRefusedSpec (R.remaining spec.old) (IfErr result HasRoom) }
     ensures spec_read { OnOk result (IsReadOut (R.remaining spec.old) (R.remaining spec.new)) }
     ensures terms_read { OnOk result (OnGoodSpec (R.remaining spec.old)
         (Leads (λ old new. IsReadOut (T.remaining old) (T.remaining new))
@@ -82,7 +112,7 @@ pub fn run_at<R: Read, T: Read, W: Write>(
     ensures fault { IfErr result (λ fault. BreaksFor (IsDueFor options.count options.steps)
         (both_texts (R.remaining spec.old) (terms_text T.remaining terms.entry))
         fault (W.contents out.old) (W.contents out.new)) }
-    ensures room { IfErr result (RoomFits options.cells) }
+    ensures room { OnRefusedSpec (R.remaining spec.old) (IfErr result HasRoom) }
     ensures no_place { OnErr result (place.new ≡ None) }
     ensures spec_read { OnOk result (IsReadOut (R.remaining spec.old) (R.remaining spec.new)) }
     ensures terms_read { OnOk result (OnGoodSpec (R.remaining spec.old)
@@ -94,6 +124,49 @@ pub fn run_at<R: Read, T: Read, W: Write>(
     match terms {
         None => run_alone(alloc, spec, out, options, place),
         Some(terms) => run_beside(alloc, spec, terms, out, options, place),
+    }
+}
+
+/// The same over a bank, which it hands back; the bank's limit is that of the options. Given terms
+/// are protected once there, and stay so. A refused specification leaves the bank as it is. Want of
+/// cells comes where no cell is left, and where either nothing was given back (the text of the terms
+/// is read) or all that is held is protected or needed.
+pub fn run_in<B: TermBank, R: Read, T: Read, W: Write>(
+    alloc: Global,
+    bank: B,
+    spec: &mut R,
+    terms: Option<&mut T>,
+    out: &mut W,
+    options: RunOptions,
+    place: &mut Option<Place>,
+) -> Ended<B>
+    requires unrooted { (t : ℕ) → (B.store bank).roots t ≡ 0 }
+    requires limit { (B.store bank).cap ≡ options.cells }
+    ensures output { IfOk result.end (λ finish. EndsFor (IsDueFor options.count options.steps)
+        (both_texts (R.remaining spec.old) (terms_text T.remaining terms.entry))
+        finish (W.contents out.old) (W.contents out.new)) }
+    ensures place { OnOk result.end (IsPlacedFor (IsDueFor options.count options.steps)
+        (both_texts (R.remaining spec.old) (terms_text T.remaining terms.entry)) place.new) }
+    ensures fault { IfErr result.end (λ fault. BreaksFor (IsDueFor options.count options.steps)
+        (both_texts (R.remaining spec.old) (terms_text T.remaining terms.entry))
+        fault (W.contents out.old) (W.contents out.new)) }
+    ensures room { IfErr result.end
+        (RoomIn (B.store bank) (B.store result.bank) result.needed.items) }
+    ensures cap { (B.store result.bank).cap ≡ (B.store bank).cap }
+    ensures unused { OnRefusedSpec (R.remaining spec.old) (result.bank ≡ bank) }
+    ensures cells { OnRefusedSpec (R.remaining spec.old) (IfErr result.end HasRoom) }
+    ensures no_place { OnErr result.end (place.new ≡ None) }
+    ensures spec_read { OnOk result.end
+        (IsReadOut (R.remaining spec.old) (R.remaining spec.new)) }
+    ensures terms_read { OnOk result.end (OnGoodSpec (R.remaining spec.old)
+        (Leads (λ old new. IsReadOut (T.remaining old) (T.remaining new))
+        (λ f. f.0.now) terms.exit (option_copied_mut terms.entry))) }
+    ensures unread { OnRefusedSpec (R.remaining spec.old)
+        (Stays (λ f. f.0.now) terms.exit (option_copied_mut terms.entry)) }
+{
+    match terms {
+        None => run_alone_in(alloc, bank, spec, out, options, place),
+        Some(terms) => run_beside_in(alloc, bank, spec, terms, out, options, place),
     }
 }
 
@@ -113,13 +186,15 @@ fn run_alone<R: Read, W: Write>(
     ensures fault { IfErr result (λ fault. BreaksFor (IsDueFor options.count options.steps)
         (both_texts (R.remaining spec.old) (Some None)) fault (W.contents out.old)
         (W.contents out.new)) }
-    ensures room { IfErr result (RoomFits options.cells) }
+    ensures cells { OnRefusedSpec (R.remaining spec.old) (IfErr result HasRoom) }
     ensures no_place { OnErr result (place.new ≡ None) }
     ensures spec_read { OnOk result (IsReadOut (R.remaining spec.old) (R.remaining spec.new)) }
 {
     *place = None;
-    let reading = read_alone(alloc, spec, options.cells)?;
-    answer(alloc, reading, out, options, place)
+    match empty_bank(alloc, options.cells) {
+        Ok(bank) => run_alone_in(alloc, bank, spec, out, options, place).into_end(),
+        Err(fault) => Err(fault),
+    }
 }
 
 /// A run with given terms.
@@ -140,7 +215,7 @@ fn run_beside<R: Read, T: Read, W: Write>(
     ensures fault { IfErr result (λ fault. BreaksFor (IsDueFor options.count options.steps)
         (both_texts (R.remaining spec.old) (option_map (λ b. Some b) (T.remaining terms.old)))
         fault (W.contents out.old) (W.contents out.new)) }
-    ensures room { IfErr result (RoomFits options.cells) }
+    ensures cells { OnRefusedSpec (R.remaining spec.old) (IfErr result HasRoom) }
     ensures no_place { OnErr result (place.new ≡ None) }
     ensures spec_read { OnOk result (IsReadOut (R.remaining spec.old) (R.remaining spec.new)) }
     ensures terms_read { OnOk result (OnGoodSpec (R.remaining spec.old)
@@ -148,64 +223,200 @@ fn run_beside<R: Read, T: Read, W: Write>(
     ensures unread { OnRefusedSpec (R.remaining spec.old) (terms.new ≡ terms.old) }
 {
     *place = None;
-    let reading = read_both(alloc, spec, terms, options.cells)?;
-    answer(alloc, reading, out, options, place)
+    match empty_bank(alloc, options.cells) {
+        Ok(bank) => run_beside_in(alloc, bank, spec, terms, out, options, place).into_end(),
+        Err(fault) => Err(fault),
+    }
+}
+
+/// A run over a bank without given terms.
+fn run_alone_in<B: TermBank, R: Read, W: Write>(
+    alloc: Global,
+    bank: B,
+    spec: &mut R,
+    out: &mut W,
+    options: RunOptions,
+    place: &mut Option<Place>,
+) -> Ended<B>
+    requires unrooted { (t : ℕ) → (B.store bank).roots t ≡ 0 }
+    requires limit { (B.store bank).cap ≡ options.cells }
+    ensures output { IfOk result.end (λ finish. EndsFor (IsDueFor options.count options.steps)
+        (both_texts (R.remaining spec.old) (Some None)) finish (W.contents out.old)
+        (W.contents out.new)) }
+    ensures place { OnOk result.end (IsPlacedFor (IsDueFor options.count options.steps)
+        (both_texts (R.remaining spec.old) (Some None)) place.new) }
+    ensures fault { IfErr result.end (λ fault. BreaksFor (IsDueFor options.count options.steps)
+        (both_texts (R.remaining spec.old) (Some None)) fault (W.contents out.old)
+        (W.contents out.new)) }
+    ensures room { IfErr result.end (RoomExhausts (B.store result.bank) result.needed.items) }
+    ensures cap { (B.store result.bank).cap ≡ (B.store bank).cap }
+    ensures unused { OnRefusedSpec (R.remaining spec.old) (result.bank ≡ bank) }
+    ensures cells { OnRefusedSpec (R.remaining spec.old) (IfErr result.end HasRoom) }
+    ensures no_place { OnErr result.end (place.new ≡ None) }
+    ensures spec_read { OnOk result.end
+        (IsReadOut (R.remaining spec.old) (R.remaining spec.new)) }
+{
+    *place = None;
+    match read_alone(alloc, spec) {
+        Ok(reading) => answer(alloc, bank, reading, out, options, place),
+        Err(fault) => Ended {
+            end: Err(fault),
+            bank,
+            needed: Vec::new(alloc),
+        },
+    }
+}
+
+/// A run over a bank with given terms.
+fn run_beside_in<B: TermBank, R: Read, T: Read, W: Write>(
+    alloc: Global,
+    mut bank: B,
+    spec: &mut R,
+    terms: &mut T,
+    out: &mut W,
+    options: RunOptions,
+    place: &mut Option<Place>,
+) -> Ended<B>
+    requires unrooted { (t : ℕ) → (B.store bank).roots t ≡ 0 }
+    requires limit { (B.store bank).cap ≡ options.cells }
+    ensures output { IfOk result.end (λ finish. EndsFor (IsDueFor options.count options.steps)
+        (both_texts (R.remaining spec.old) (option_map (λ b. Some b) (T.remaining terms.old)))
+        finish (W.contents out.old) (W.contents out.new)) }
+    ensures place { OnOk result.end (IsPlacedFor (IsDueFor options.count options.steps)
+        (both_texts (R.remaining spec.old) (option_map (λ b. Some b) (T.remaining terms.old)))
+        place.new) }
+    ensures fault { IfErr result.end (λ fault. BreaksFor (IsDueFor options.count options.steps)
+        (both_texts (R.remaining spec.old) (option_map (λ b. Some b) (T.remaining terms.old)))
+        fault (W.contents out.old) (W.contents out.new)) }
+    ensures room { IfErr result.end
+        (RoomIn (B.store bank) (B.store result.bank) result.needed.items) }
+    ensures cap { (B.store result.bank).cap ≡ (B.store bank).cap }
+    ensures unused { OnRefusedSpec (R.remaining spec.old) (result.bank ≡ bank) }
+    ensures cells { OnRefusedSpec (R.remaining spec.old) (IfErr result.end HasRoom) }
+    ensures no_place { OnErr result.end (place.new ≡ None) }
+    ensures spec_read { OnOk result.end
+        (IsReadOut (R.remaining spec.old) (R.remaining spec.new)) }
+    ensures terms_read { OnOk result.end (OnGoodSpec (R.remaining spec.old)
+        (IsReadOut (T.remaining terms.old) (T.remaining terms.new))) }
+    ensures unread { OnRefusedSpec (R.remaining spec.old) (terms.new ≡ terms.old) }
+{
+    *place = None;
+    match read_both(alloc, spec, terms, &mut bank) {
+        Ok(reading) => answer(alloc, bank, reading, out, options, place),
+        Err(fault) => Ended {
+            end: Err(fault),
+            bank,
+            needed: Vec::new(alloc),
+        },
+    }
 }
 
 /// Writes what is due for the texts that were read, and flushes: how the run ends, and the place of
 /// the refusal that was written.
-fn answer<W: Write>(
+fn answer<B: TermBank, W: Write>(
     alloc: Global,
+    bank: B,
     reading: Reading<Job>,
     out: &mut W,
     options: RunOptions,
     place: &mut Option<Place>,
-) -> Result<Finish, RunFault>
-    requires ready { IsReady options.cells reading }
+) -> Ended<B>
+    requires unrooted { (t : ℕ) → (B.store bank).roots t ≡ 0 }
+    requires ready { IsReady (B.store bank) reading }
     requires no_place { place.old ≡ None }
-    ensures output { IfOk result (λ finish. (texts : Option Texts) → IfSome texts
-        (λ t. IsReadFrom t reading) → EndsFor (IsDueFor options.count options.steps) texts finish
+    ensures ends { IfOk result.end (λ finish. finish ≡ finish_of reading) }
+    ensures ok { OnOk result.end (Appends (W.contents out.old) (W.contents out.new)
+        (run_due (B.store bank) options.count options.steps reading).text) }
+    ensures place { OnOk result.end (place.new ≡ place_of reading) }
+    ensures err { IfErr result.end
+        (λ fault. Stops fault (run_due (B.store bank) options.count options.steps reading).text
         (W.contents out.old) (W.contents out.new)) }
-    ensures place { OnOk result ((texts : Option Texts) → IfSome texts (λ t. IsReadFrom t reading)
-        → IsPlacedFor (IsDueFor options.count options.steps) texts place.new) }
-    ensures fault { IfErr result (λ fault. (texts : Option Texts) → IfSome texts
-        (λ t. IsReadFrom t reading) → BreaksFor (IsDueFor options.count options.steps) texts fault
-        (W.contents out.old) (W.contents out.new)) }
-    ensures room { IfErr result (RoomFits options.cells) }
-    ensures no_place { OnErr result (place.new ≡ None) }
+    ensures room { IfErr result.end (RoomExhausts (B.store result.bank) result.needed.items) }
+    ensures cap { (B.store result.bank).cap ≡ (B.store bank).cap }
+    ensures unused { IsRefused reading → result.bank ≡ bank }
+    ensures cells { IsRefused reading → IfErr result.end HasRoom }
+    ensures no_place { OnErr result.end (place.new ≡ None) }
 {
     let finish = reading.finish();
     let refused_at = reading.place();
-    write_due(alloc, reading, out, options)?;
-    flush(out)?;
-    *place = refused_at;
-    Ok(finish)
+    let Left {
+        written,
+        bank,
+        needed,
+    } = write_due(alloc, bank, reading, out, options);
+    Ended {
+        end: end_run(written, finish, refused_at, out, place),
+        bank,
+        needed,
+    }
+}
+
+/// Flushes where all was written: how the run ends, and the place of the refusal that was written.
+fn end_run<W: Write>(
+    written: Result<(), RunFault>,
+    finish: Finish,
+    refused_at: Option<Place>,
+    out: &mut W,
+    place: &mut Option<Place>,
+) -> Result<Finish, RunFault>
+    requires no_place { place.old ≡ None }
+    ensures ends { EndsBehind written finish (W.contents out.old) (W.contents out.new) result }
+    ensures place { OnOk result (place.new ≡ refused_at) }
+    ensures no_place { OnErr result (place.new ≡ None) }
+{
+    match written {
+        Err(fault) => Err(fault),
+        Ok(()) => match flush(out) {
+            Err(_) => Err(RunFault::Write),
+            Ok(()) => {
+                *place = refused_at;
+                Ok(finish)
+            }
+        },
+    }
 }
 
 /// Writes what is due.
-fn write_due<W: Write>(
+fn write_due<B: TermBank, W: Write>(
     alloc: Global,
+    bank: B,
     reading: Reading<Job>,
     out: &mut W,
     options: RunOptions,
-) -> Result<(), RunFault>
-    requires { IsReady options.cells reading }
-    ensures ok { OnOk result (Appends (W.contents out.old) (W.contents out.new)
-        (run_due options.count options.steps reading).text) }
-    ensures err { IfErr result
-        (λ fault. Stops fault (run_due options.count options.steps reading).text
+) -> Left<B>
+    requires unrooted { (t : ℕ) → (B.store bank).roots t ≡ 0 }
+    requires ready { IsReady (B.store bank) reading }
+    ensures ok { OnOk result.written (Appends (W.contents out.old) (W.contents out.new)
+        (run_due (B.store bank) options.count options.steps reading).text) }
+    ensures err { IfErr result.written
+        (λ fault. Stops fault (run_due (B.store bank) options.count options.steps reading).text
         (W.contents out.old) (W.contents out.new)) }
-    ensures room { IfErr result (RoomFits options.cells) }
+    ensures room { IfErr result.written
+        (RoomExhausts (B.store result.bank) result.needed.items) }
+    ensures cap { (B.store result.bank).cap ≡ (B.store bank).cap }
+    ensures unused { IsRefused reading → result.bank ≡ bank }
+    ensures cells { IsRefused reading → IfErr result.written HasRoom }
 {
     match reading {
-        Reading::Refused(refusal) => write_refusal(refusal, out)?,
-        Reading::Good(
-            Job {
-                checked,
-                bank,
-                list,
-            },
-        ) => { write_evaluated(alloc, checked, bank, list, out, options)? }
+        Reading::Refused(refusal) => Left {
+            written: refuse(refusal, out),
+            bank,
+            needed: Vec::new(alloc),
+        },
+        Reading::Good(Job { checked, list }) => {
+            write_evaluated(alloc, checked, bank, list, out, options)
+        }
     }
+}
+
+/// Writes the line of a refusal.
+fn refuse<W: Write>(refusal: Refusal, out: &mut W) -> Result<(), RunFault>
+    ensures ok { OnOk result
+        (Appends (W.contents out.old) (W.contents out.new) (refusal_due refusal).text) }
+    ensures err { IfErr result (λ fault. Stops fault (refusal_due refusal).text
+        (W.contents out.old) (W.contents out.new)) }
+    ensures write { IfErr result (λ fault. fault ≡ RunFault.Write) }
+{
+    write_refusal(refusal, out)?;
     Ok(())
 }

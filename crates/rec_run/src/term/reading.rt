@@ -27,15 +27,15 @@ pub(crate) fn read_term<B: TermBank, R: Read>(
 ) -> Result<Reading<Term>, RunFault>
     ensures read { IfOk result
         (λ reading. IsGiven (R.remaining input.old) (B.store bank.new) reading) }
-    ensures grows { OnOk result (Grows (B.store bank.old) (B.store bank.new)) }
+    ensures grows { Grows (B.store bank.old) (B.store bank.new) }
     ensures out { OnOk result (IsReadOut (R.remaining input.old) (R.remaining input.new)) }
-    ensures fault { IfErr result (StopsUnwritten (B.store bank.old).cap) }
+    ensures fault { IfErr result (StopsUnwritten (B.store bank.old) (B.store bank.new)) }
 {
     let text = read_all(alloc, input)?;
     parse(alloc, Source::Term, &text, bank)
 }
 
-/// An empty bank of at most so many cells.
+/// An empty bank of at most so many cells; the error is want of memory.
 pub(crate) fn empty_bank(alloc: Global, cells: u32) -> Result<SharedBank, RunFault>
     requires { (0 < cells) × (cells ≤ 1073741824) }
     ensures empty { IfOk result (λ bank. IsEmptyStore (store_of bank) cells) }
@@ -57,7 +57,7 @@ pub(crate) fn parse<B: TermBank>(
     ensures read { IfOk result (λ reading. (v : Verdict) ×
         IsReadingOf source (B.store bank.new) reading v × IsVerdict text.now v) }
     ensures grows { Grows (B.store bank.old) (B.store bank.new) }
-    ensures fault { IfErr result (RanOut (B.store bank.old).cap) }
+    ensures fault { IfErr result (RanOut (B.store bank.old) (B.store bank.new)) }
 {
     match rx_text::read(alloc, text, bank) {
         Ok(term) => Ok(Reading::Good(term)),

@@ -2,17 +2,17 @@
 
 ghost use Rattle.std.specs.Prelude.{◌≡◌, ℕ, None, IfErr, IfOk, IfSome, IsSome, OnErr, OnOk};
 ghost use Rattle.std.specs.Io.KnownBytes.{Appends};
-ghost use Rattle.rx_term.specs.Bank.{IsEmptyStore};
 ghost use Rattle.rx_term.specs.Parts.{part_count};
 ghost use Rattle.rx_term.specs.Store.{tree_at};
 ghost use Rattle.rx_text.specs.Written.{AppendsFront};
-ghost use Rattle.rec_run.specs.Run.{BreaksFor, EndsFor, IsPlacedFor, IsReadOut, RoomFits, Stops};
+ghost use Rattle.rec_run.specs.Run.{BreaksFor, EndsFor, IsPlacedFor, IsReadOut, RoomFills, Stops};
 ghost use Rattle.rec_run.specs.Run.{StopsWriting};
 ghost use Rattle.rec_run.specs.TermRuns.{
   IsDueOf,
   IsShareDue,
   IsTermDue,
   IsTermHeld,
+  IsUnrooted,
   cells_line,
   due_at,
   lines_at,
@@ -49,7 +49,6 @@ pub fn run_aterm<R: Read, W: Write>(
         finish (W.contents out.old) (W.contents out.new)) }
     ensures fault { IfErr result (λ fault. BreaksFor IsTermDue (R.remaining input.old)
         fault (W.contents out.old) (W.contents out.new)) }
-    ensures room { IfErr result (RoomFits 1073741824) }
     ensures input_read { OnOk result (IsReadOut (R.remaining input.old) (R.remaining input.new)) }
 {
     let mut place = None;
@@ -69,7 +68,6 @@ pub fn run_aterm_at<R: Read, W: Write>(
     ensures fault { IfErr result (λ fault. BreaksFor IsTermDue (R.remaining input.old)
         fault (W.contents out.old) (W.contents out.new)) }
     ensures no_place { OnErr result (place.new ≡ None) }
-    ensures room { IfErr result (RoomFits 1073741824) }
     ensures input_read { OnOk result (IsReadOut (R.remaining input.old) (R.remaining input.new)) }
 {
     run_on_term(alloc, input, out, TermLines::Text, place)
@@ -86,7 +84,6 @@ pub fn run_share<R: Read, W: Write>(
         finish (W.contents out.old) (W.contents out.new)) }
     ensures fault { IfErr result (λ fault. BreaksFor IsShareDue (R.remaining input.old)
         fault (W.contents out.old) (W.contents out.new)) }
-    ensures room { IfErr result (RoomFits 1073741824) }
     ensures input_read { OnOk result (IsReadOut (R.remaining input.old) (R.remaining input.new)) }
 {
     let mut place = None;
@@ -106,10 +103,54 @@ pub fn run_share_at<R: Read, W: Write>(
     ensures fault { IfErr result (λ fault. BreaksFor IsShareDue (R.remaining input.old)
         fault (W.contents out.old) (W.contents out.new)) }
     ensures no_place { OnErr result (place.new ≡ None) }
-    ensures room { IfErr result (RoomFits 1073741824) }
     ensures input_read { OnOk result (IsReadOut (R.remaining input.old) (R.remaining input.new)) }
 {
     run_on_term(alloc, input, out, TermLines::TextAndCells, place)
+}
+
+/// `run_aterm_at` over a bank, to which it brings terms and nothing else. Want of cells comes where
+/// no cell is left.
+pub fn run_aterm_in<B: TermBank, R: Read, W: Write>(
+    alloc: Global,
+    bank: &mut B,
+    input: &mut R,
+    out: &mut W,
+    place: &mut Option<Place>,
+) -> Result<Finish, RunFault>
+    ensures output { IfOk result (λ finish. EndsFor IsTermDue (R.remaining input.old)
+        finish (W.contents out.old) (W.contents out.new)) }
+    ensures place { OnOk result (IsPlacedFor IsTermDue (R.remaining input.old) place.new) }
+    ensures fault { IfErr result (λ fault. BreaksFor IsTermDue (R.remaining input.old)
+        fault (W.contents out.old) (W.contents out.new)) }
+    ensures no_place { OnErr result (place.new ≡ None) }
+    ensures room { IfErr result (RoomFills (B.store bank.old) (B.store bank.new)) }
+    ensures cap { (B.store bank.new).cap ≡ (B.store bank.old).cap }
+    ensures input_read { OnOk result (IsReadOut (R.remaining input.old) (R.remaining input.new)) }
+{
+    run_over(alloc, bank, input, out, TermLines::Text, place)
+}
+
+/// `run_share_at` over a bank in which nothing is protected: where the text is a term's, the bank
+/// keeps that term alone. Want of cells comes where no cell is left, before anything is given back.
+pub fn run_share_in<B: TermBank, R: Read, W: Write>(
+    alloc: Global,
+    bank: &mut B,
+    input: &mut R,
+    out: &mut W,
+    place: &mut Option<Place>,
+) -> Result<Finish, RunFault>
+    requires { (t : ℕ) → (B.store bank.old).roots t ≡ 0 }
+    ensures output { IfOk result (λ finish. EndsFor IsShareDue (R.remaining input.old)
+        finish (W.contents out.old) (W.contents out.new)) }
+    ensures place { OnOk result (IsPlacedFor IsShareDue (R.remaining input.old) place.new) }
+    ensures fault { IfErr result (λ fault. BreaksFor IsShareDue (R.remaining input.old)
+        fault (W.contents out.old) (W.contents out.new)) }
+    ensures no_place { OnErr result (place.new ≡ None) }
+    ensures room { IfErr result (RoomFills (B.store bank.old) (B.store bank.new)) }
+    ensures cap { (B.store bank.new).cap ≡ (B.store bank.old).cap }
+    ensures input_read { OnOk result (IsReadOut (R.remaining input.old) (R.remaining input.new)) }
+{
+    run_over(alloc, bank, input, out, TermLines::TextAndCells, place)
 }
 
 /// Reads the text of a term, writes the lines that are asked for, and flushes; or the line of its
@@ -128,27 +169,25 @@ fn run_on_term<R: Read, W: Write>(
     ensures fault { IfErr result (λ fault. BreaksFor (IsDueOf (lines_for lines))
         (R.remaining input.old) fault (W.contents out.old) (W.contents out.new)) }
     ensures no_place { OnErr result (place.new ≡ None) }
-    ensures room { IfErr result (RoomFits 1073741824) }
     ensures input_read { OnOk result (IsReadOut (R.remaining input.old) (R.remaining input.new)) }
 {
     *place = None;
     match empty_bank(alloc, MOST_CELLS) {
-        Ok(bank) => run_over(alloc, input, bank, out, lines, place),
+        Ok(bank) => run_owned(alloc, bank, input, out, lines, place),
         Err(fault) => Err(fault),
     }
 }
 
-/// The same over an empty bank.
-fn run_over<B: TermBank + Drop, R: Read, W: Write>(
+/// The same over a bank of its own.
+fn run_owned<B: TermBank + Drop, R: Read, W: Write>(
     alloc: Global,
-    input: &mut R,
     mut bank: B,
+    input: &mut R,
     out: &mut W,
     lines: TermLines,
     place: &mut Option<Place>,
 ) -> Result<Finish, RunFault>
-    requires empty { IsEmptyStore (B.store bank) 1073741824 }
-    requires no_place { place.old ≡ None }
+    requires { (t : ℕ) → (B.store bank).roots t ≡ 0 }
     ensures output { IfOk result (λ finish. EndsFor (IsDueOf (lines_for lines))
         (R.remaining input.old) finish (W.contents out.old) (W.contents out.new)) }
     ensures place { OnOk result
@@ -156,11 +195,35 @@ fn run_over<B: TermBank + Drop, R: Read, W: Write>(
     ensures fault { IfErr result (λ fault. BreaksFor (IsDueOf (lines_for lines))
         (R.remaining input.old) fault (W.contents out.old) (W.contents out.new)) }
     ensures no_place { OnErr result (place.new ≡ None) }
-    ensures room { IfErr result (RoomFits 1073741824) }
     ensures input_read { OnOk result (IsReadOut (R.remaining input.old) (R.remaining input.new)) }
 {
-    let reading = read_term(alloc, input, &mut bank)?;
-    write_due(alloc, &mut bank, &reading, lines, out)?;
+    run_over(alloc, &mut bank, input, out, lines, place)
+}
+
+/// The same over a bank, in which nothing is protected where its cells are counted.
+fn run_over<B: TermBank, R: Read, W: Write>(
+    alloc: Global,
+    bank: &mut B,
+    input: &mut R,
+    out: &mut W,
+    lines: TermLines,
+    place: &mut Option<Place>,
+) -> Result<Finish, RunFault>
+    requires { IsUnrooted lines (B.store bank.old) }
+    ensures output { IfOk result (λ finish. EndsFor (IsDueOf (lines_for lines))
+        (R.remaining input.old) finish (W.contents out.old) (W.contents out.new)) }
+    ensures place { OnOk result
+        (IsPlacedFor (IsDueOf (lines_for lines)) (R.remaining input.old) place.new) }
+    ensures fault { IfErr result (λ fault. BreaksFor (IsDueOf (lines_for lines))
+        (R.remaining input.old) fault (W.contents out.old) (W.contents out.new)) }
+    ensures no_place { OnErr result (place.new ≡ None) }
+    ensures room { IfErr result (RoomFills (B.store bank.old) (B.store bank.new)) }
+    ensures cap { (B.store bank.new).cap ≡ (B.store bank.old).cap }
+    ensures input_read { OnOk result (IsReadOut (R.remaining input.old) (R.remaining input.new)) }
+{
+    *place = None;
+    let reading = read_term(alloc, input, bank)?;
+    write_due(alloc, bank, &reading, lines, out)?;
     flush(out)?;
     *place = reading.place();
     Ok(reading.finish())
@@ -175,13 +238,14 @@ fn write_due<B: TermBank, W: Write>(
     out: &mut W,
 ) -> Result<(), RunFault>
     requires held { IsTermHeld (B.store bank.old) reading.now }
-    requires unrooted { (t : ℕ) → (B.store bank.old).roots t ≡ 0 }
+    requires unrooted { IsUnrooted lines (B.store bank.old) }
     ensures ok { OnOk result (Appends (W.contents out.old) (W.contents out.new)
         (due_at (lines_for lines) (B.store bank.old) reading.now).text) }
     ensures err { IfErr result (λ fault.
         Stops fault (due_at (lines_for lines) (B.store bank.old) reading.now).text
         (W.contents out.old) (W.contents out.new)) }
     ensures writing { IfErr result StopsWriting }
+    ensures cap { (B.store bank.new).cap ≡ (B.store bank.old).cap }
 {
     match reading {
         Reading::Refused(refusal) => write_refusal(*refusal, out)?,
@@ -199,13 +263,14 @@ fn write_term_lines<B: TermBank, W: Write>(
     out: &mut W,
 ) -> Result<(), RunFault>
     requires held { IsSome (tree_at (B.store bank.old) t) }
-    requires unrooted { (r : ℕ) → (B.store bank.old).roots r ≡ 0 }
+    requires unrooted { IsUnrooted lines (B.store bank.old) }
     ensures ok { OnOk result (Appends (W.contents out.old) (W.contents out.new)
         (lines_at (lines_for lines) (B.store bank.old) t)) }
     ensures err { IfErr result
         (λ fault. Stops fault (lines_at (lines_for lines) (B.store bank.old) t)
         (W.contents out.old) (W.contents out.new)) }
     ensures writing { IfErr result StopsWriting }
+    ensures cap { (B.store bank.new).cap ≡ (B.store bank.old).cap }
 {
     match lines {
         TermLines::Text => write_line(alloc, bank, t, 0, out),
@@ -227,6 +292,7 @@ fn write_counted<B: TermBank, W: Write>(
     ensures err { IfErr result (λ fault. Stops fault (lines_at share_lines (B.store bank.old) t)
         (W.contents out.old) (W.contents out.new)) }
     ensures writing { IfErr result StopsWriting }
+    ensures cap { (B.store bank.new).cap ≡ (B.store bank.old).cap }
 {
     let cells = keep_alone(bank, t);
     write_line(alloc, bank, t, 0, out)?;
@@ -240,6 +306,7 @@ fn keep_alone<B: TermBank>(bank: &mut B, t: Term) -> u32
     requires unrooted { (r : ℕ) → (B.store bank.old).roots r ≡ 0 }
     ensures kept { tree_at (B.store bank.new) t ≡ tree_at (B.store bank.old) t }
     ensures counted { IfSome (tree_at (B.store bank.old) t) (λ u. result ≡ part_count u) }
+    ensures cap { (B.store bank.new).cap ≡ (B.store bank.old).cap }
 {
     bank.reclaim(&[t]);
     bank.cells()

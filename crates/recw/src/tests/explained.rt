@@ -21,7 +21,8 @@ pub(crate) const EXPLAINED: &[Row] = &[
         1,
         "!spec S4\n",
         "recw: spec S4 at byte 41\n\
-         spec:4:8: S4: a sort that stands in CONS, OPNS or VARS is not declared\n    \
+         spec:4:8: S4: a sort that stands in CONS, OPNS or VARS is not declared; \
+         the only sort is N\n    \
          \tb: -> M\n    \t      ^\n",
     ),
     (
@@ -48,7 +49,8 @@ pub(crate) const EXPLAINED: &[Row] = &[
         1,
         "!term A\n",
         "recw: term A at byte 11\n\
-         terms:1:12: A: no annotated term has this here; expected `)`, `{` or `,`\n    \
+         terms:1:12: A: no annotated term has this here; the text ends here; \
+         expected `)`, `{` or `,`\n    \
          [a,\"\\xc3\\xa9\",f(1\n                     ^\n",
     ),
     (
@@ -71,7 +73,8 @@ pub(crate) const EXPLAINED: &[Row] = &[
         1,
         "!pattern A\n",
         "recw: pattern A at byte 4\n\
-         PATTERN:1:5: A: no annotated term has this here; expected `(`, `{` or `>`\n    \
+         PATTERN:1:5: A: no annotated term has this here; the text ends here; \
+         expected `(`, `{` or `>`\n    \
          <int\n        ^\n",
     ),
     (
@@ -95,7 +98,8 @@ const CUT_OFF: &str = "REC-SPEC E CONS z : Nat Nat";
 
 /// What is said of its end.
 const CUT_OFF_THERE: &str = "recw: spec G at byte 27\n\
-     <stdin>:1:28: G: no specification has this here; expected a plain word or `->`\n    \
+     <stdin>:1:28: G: no specification has this here; the text ends here; \
+     expected a plain word or `->`\n    \
      REC-SPEC E CONS z : Nat Nat\n                               ^\n";
 
 /// What is said where three cells are not enough.
@@ -120,13 +124,13 @@ pub(crate) const INPUTS: &[Row] = &[
 ];
 
 /// A specification that keeps all rules.
-const KEPT: &str = "REC-SPEC Q SORTS A B CONS a : -> A b : -> B OPNS f : A -> A \
+const KEPT: &str = "REC-SPEC Q SORTS A B CONS a : -> A b : -> B 0 : -> A OPNS f : A -> A \
      VARS X Y : A RULES f(X) -> X EVAL f(a) END-SPEC";
 
-/// What is said: of which text, by which rule, and the end.
+/// What is said: of which text, by which rule, and the end of the line.
 #[derive(Clone, Copy)]
 struct Saying<'a> {
-    /// What the text is called.
+    /// What the text is called, and the place, where there is one.
     text: &'a str,
     /// The rule.
     rule: &'a str,
@@ -137,36 +141,83 @@ struct Saying<'a> {
 /// The program said which rule is broken, and by which element.
 fn tells(rt: &impl Abort, said: &str, saying: &Saying<'_>) {
     let Saying { text, rule, item } = *saying;
-    let is_named = said.starts_with(text) && said.contains(rule);
-    let is_told = said.trim_end().ends_with(item);
-    let is_counted = said.contains("element") == item.contains("element");
-    assert!(rt; is_named && is_told && is_counted, "{rule}{item}: {said}");
+    let line = said.lines().next().unwrap_or("");
+    let is_named = line.starts_with(text) && line.contains(rule) && line.ends_with(item);
+    let is_counted = line.contains("element") == item.contains("element");
+    assert!(rt; is_named && is_counted, "{text}{rule}{item}: {said}");
 }
 
-/// Given terms, the rule that refuses them, and the end of what is said of them.
-const ITEMS: [(&str, &str, &str); 11] = [
-    ("a", "T1", ""),
-    ("[a]{a}", "T1", ""),
-    ("[f(a),3]", "T2", "; element 2 of the list"),
-    ("[a{a},<a>]", "T2", "; element 2 of the list"),
-    ("[f(a{b}),f(b),[a],c,1]", "T2", "; element 3 of the list"),
-    ("[f(a{b})]", "T3", "; element 1 of the list"),
+/// Given terms, the rule that refuses them with its place, and the end of what is said of them.
+const ITEMS: [(&str, &str, &str); 14] = [
+    ("a", "terms: T1: ", ""),
+    ("[a]{a}", "terms: T1: ", ""),
+    (
+        "[f(a),3]",
+        "terms:1:7: T2: ",
+        "; element 2 of the list; the integer 3",
+    ),
+    (
+        "[f(a),f(0)]",
+        "terms:1:9: T2: ",
+        "; element 2 of the list; the integer 0; did you mean `\"0\"`?",
+    ),
+    (
+        "[a{a},<a>]",
+        "terms:1:7: T2: ",
+        "; element 2 of the list; a placeholder",
+    ),
+    (
+        "[f(a{b}),f(b),[a],c,1]",
+        "terms:1:15: T2: ",
+        "; element 3 of the list; a list",
+    ),
+    (
+        "[f(a{b})]",
+        "terms:1:4: T3: ",
+        "; element 1 of the list; annotations of a",
+    ),
     (
         "[c,a{b},f(f(a{b})),f(a{b})]",
-        "T3",
-        "; element 3 of the list",
+        "terms:1:13: T3: ",
+        "; element 3 of the list; annotations of a",
     ),
-    ("[a,b,\"a\",X]", "T4", "; element 3 of the list"),
-    ("[f(a,a),f(b),c]", "T4", "; element 3 of the list"),
-    ("[f(b),f]", "T5", "; element 2 of the list"),
-    ("[a,f(a),f(f(b)),f(b)]", "T6", "; element 3 of the list"),
+    (
+        "[a,b,\"a\",X]",
+        "terms:1:6: T4: ",
+        "; element 3 of the list; \"a\"; did you mean `a`?",
+    ),
+    (
+        "[f(a,a),f(b),\nc]",
+        "terms:2:1: T4: ",
+        "; element 3 of the list; c",
+    ),
+    (
+        "[f(b),f]",
+        "terms:1:7: T5: ",
+        "; element 2 of the list; f takes 1 argument, here 0",
+    ),
+    (
+        "[a{f(f,f),<a>,[\"]\"]},f(a,(a),f(a))]",
+        "terms:1:26: T4: ",
+        "; element 2 of the list; ()",
+    ),
+    (
+        "[f(a),f(a,f(a))]",
+        "terms:1:7: T5: ",
+        "; element 2 of the list; f takes 1 argument, here 2",
+    ),
+    (
+        "[a,f(a),f(f(b)),f(b)]",
+        "terms:1:13: T6: ",
+        "; element 3 of the list; expected A, found B, as argument 1 of f",
+    ),
 ];
 
-/// The program says of given terms which rule is broken, and by which term.
+/// The program says of given terms which rule is broken, and by which part of which term.
 fn tells_the_term(rt: &impl Abort, alloc: Global, terms: &'static str, rule: &str, item: &str) {
     let files = Shelf { spec: KEPT, terms };
     let ran = run_on(&files, alloc, &["eval", "--explain", "spec", "terms"]);
-    let text = "terms: ";
+    let text = rule;
     tells(rt, ran.err(), &Saying { text, rule, item });
 }
 

@@ -36,7 +36,7 @@ const SHARE_HELP: &str = "Print an ATerm and how many cells it takes with equal 
 Usage: recw share [OPTIONS] [FILE]
 
 Arguments:
-  [FILE]  File of the ATerm [default: standard input]
+  [FILE]  File of the ATerm, or - [default: standard input]
 
 Options:
       --explain  Say in words why a text is refused, and where
@@ -51,17 +51,19 @@ const EVAL_HELP: &str = "Evaluate the terms of a REC specification
 Usage: recw eval [OPTIONS] [SPEC] [TERMS]
 
 Arguments:
-  [SPEC]   File of the specification [default: standard input]
-  [TERMS]  File of an ATerm list of further terms
+  [SPEC]   File of the specification, or - [default: standard input]
+  [TERMS]  File of an ATerm list of further terms, or -
 
 Options:
-      --steps <N>    Most steps that a term may take, up to 10^18 [default: 1000000]
-      --cells <C>    Most cells that terms may take, 1 to 2^30 [default: 16777216]
-      --memo <M>     Most results to remember, up to 2^20 [default: 65536]
-      --reclaim <K>  New cells between two reclaims, 1 to 2^30 [default: 262144]
-      --count        Print the steps that each term took behind its value
-      --explain      Say in words why a text is refused, and where
-  -h, --help         Print help
+  -e, --term <TERM>   A further term; may be given several times
+      --steps <N>     Most steps that a term may take, up to 10^18 [default: 1000000]
+      --cells <C>     Most cells that terms may take, 1 to 2^30; the default takes up to 1.4 GB [default: 16777216]
+      --memo <M>      Most results to remember, up to 2^20 [default: 65536]
+      --reclaim <K>   New cells between two reclaims, 1 to 2^30 [default: 262144]
+      --count         Print the steps that each term took behind its value
+      --limit-status  End with status 5 where a term takes more steps
+      --explain       Say in words why a text is refused, and where
+  -h, --help          Print help
 
 Example: recw eval --steps 500 add.rec add.trm
 ";
@@ -72,7 +74,7 @@ const ATERM_HELP: &str = "Print an ATerm in its shortest form
 Usage: recw aterm [OPTIONS] [FILE]
 
 Arguments:
-  [FILE]  File of the ATerm [default: standard input]
+  [FILE]  File of the ATerm, or - [default: standard input]
 
 Options:
       --explain  Say in words why a text is refused, and where
@@ -88,9 +90,10 @@ Usage: recw match [OPTIONS] <PATTERN> [FILE]
 
 Arguments:
   <PATTERN>  ATerm with placeholders
-  [FILE]     File of the ATerm [default: standard input]
+  [FILE]     File of the ATerm, or - [default: standard input]
 
 Options:
+      --test     End with status 1 where it does not match, 2 where a text is refused
       --explain  Say in words why a text is refused, and where
   -h, --help     Print help
 
@@ -118,6 +121,21 @@ Give a pattern that begins with - a blank before it: ' -7'.
 Example: recw make 'f(<int>,<list>)' '[1,[2,3]]'
 ";
 
+/// The help of `help`.
+const HELP_HELP: &str = "Print this message or the help of the given subcommand(s)
+
+Usage: recw help [COMMAND]...
+
+Arguments:
+  [COMMAND]...  Print help for the subcommand(s); refusals: what each refusal means
+";
+
+/// The help of the list of refusals.
+const REFUSALS_HELP: &str = "Print what each refusal means
+
+Usage: recw help refusals
+";
+
 /// The words that ask for help, and which they get.
 pub(crate) const HELPS: &[Row] = &[
     (&["-h"], "", 0, HELP, ""),
@@ -131,6 +149,9 @@ pub(crate) const HELPS: &[Row] = &[
     (&["aterm", "-h"], "", 0, ATERM_HELP, ""),
     (&["match", "-h"], "", 0, MATCH_HELP, ""),
     (&["help", "make"], "", 0, MAKE_HELP, ""),
+    (&["help", "help"], "", 0, HELP_HELP, ""),
+    (&["help", "refusals", "--help"], "", 0, REFUSALS_HELP, ""),
+    (&["help", "refusals", "-h"], "", 0, REFUSALS_HELP, ""),
 ];
 
 /// The version stands alone.
@@ -155,9 +176,26 @@ fn names_the_command<H: Abort + Files>(rt: &H, alloc: Global) {
     assert!(rt; ran.status == 2 && is_named && ran.out().is_empty());
 }
 
+/// A word that the shell would split is quoted, and a number is named as what it is.
+fn quotes_what_it_names<H: Abort + Files>(rt: &H, alloc: Global) {
+    let ran = run(rt, alloc, &["my sort's.rec"], "");
+    let is_quoted = ran.err().ends_with(": recw eval 'my sort'\\''s.rec'\n");
+    assert!(rt; ran.status == 2 && is_quoted, "{}", ran.err());
+    let ran = run(rt, alloc, &["eval", "--steps", "-1"], "");
+    let is_number = ran
+        .err()
+        .starts_with("error: invalid value '-1' for '--steps <N>'");
+    assert!(rt;
+        ran.status == 2 && is_number && !ran.err().contains("tip"),
+        "{}",
+        ran.err()
+    );
+}
+
 #[test]
 fn shows_its_version_and_the_refusals(rt: HostRuntime) {
     shows_its_version(&rt, rt.alloc());
     shows_the_refusals(&rt, rt.alloc());
     names_the_command(&rt, rt.alloc());
+    quotes_what_it_names(&rt, rt.alloc());
 }

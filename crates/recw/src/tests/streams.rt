@@ -3,7 +3,7 @@
 use crate::program::program;
 use crate::shelf::Shelf;
 use crate::tests::{ADDITION, Ran, Row, run_over};
-use recw_words::failed_start;
+use recw_words::{Console, failed_start};
 use std::alloc::Global;
 use std::io;
 use std::io::{ErrorKind, Read, Write};
@@ -100,10 +100,11 @@ const WRITES: [(bool, &[&str]); 8] = [
 
 /// The program ends as where a write fails.
 fn fails_to_write<H: Abort + Files>(rt: &H, alloc: Global, is_full: bool, words: &[&str]) {
-    let mut err = Vec::new(alloc);
+    let mut err = Console::new(Vec::new(alloc), false);
     let mut input = ADDITION.as_bytes();
     let mut out = Failing { is_full };
     let status = program(rt, alloc, words, &mut input, &mut out, &mut err);
+    let err = err.into_inner();
     let is_told = status == 4 && err.as_slice() == b"recw: write failed\n".as_slice();
     assert!(rt; is_told, "{words:?}");
 }

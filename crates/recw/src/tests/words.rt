@@ -1,6 +1,7 @@
 //! The words of the command line, the exit statuses and what standard output says.
 
 use crate::tests::{ADDITION, Row, run};
+use recw_words::{Asked, EvalOptions, Request, read_words};
 use std::alloc::Global;
 use std::process::Abort;
 use std::rt::Files;
@@ -216,7 +217,7 @@ pub(crate) const PATTERNS: &[Row] = &[
 ];
 
 /// Words that the command line does not have.
-const WRONG_WORDS: [&[&str]; 21] = [
+const WRONG_WORDS: [&[&str]; 32] = [
     &["eval", "--cells", "0"],
     &["eval", "--cells", "1073741825"],
     &["eval", "--reclaim", "0"],
@@ -238,6 +239,17 @@ const WRONG_WORDS: [&[&str]; 21] = [
     &["make", "a"],
     &["make", "a", "b", "c"],
     &["share", "a", "b"],
+    &["--explain"],
+    &["eval", "--explain", "--explain"],
+    &["match", "--test", "a", "--test"],
+    &["eval", "-e"],
+    &["eval", "a", "b", "-e", "c"],
+    &["eval", "-", "-"],
+    &["eval", "-e", "-7"],
+    &["eval", "--test"],
+    &["eval", "--limit-status", "--limit-status"],
+    &["match", "--limit-status", "a"],
+    &["aterm", "-e", "a"],
 ];
 
 /// The program refuses these words, and writes nothing on the standard output.
@@ -251,5 +263,74 @@ fn refuses<H: Abort + Files>(rt: &H, alloc: Global, words: &[&str]) {
 fn refuses_words(rt: HostRuntime) {
     for words in &WRONG_WORDS {
         refuses(&rt, rt.alloc(), words);
+    }
+}
+
+/// Options, and the numbers of each of them in turn, and whether steps are counted.
+const OPTIONS: [(&[&str], [u64; 4], bool); 3] = [
+    (&["eval"], [1_000_000, 16_777_216, 65_536, 262_144], false),
+    (
+        &[
+            "eval",
+            "--steps",
+            "11",
+            "--cells",
+            "12",
+            "--memo",
+            "13",
+            "--reclaim",
+            "14",
+            "--count",
+        ],
+        [11, 12, 13, 14],
+        true,
+    ),
+    (
+        &[
+            "eval",
+            "--reclaim=24",
+            "--memo=23",
+            "spec",
+            "--cells=22",
+            "terms",
+            "--steps=21",
+        ],
+        [21, 22, 23, 24],
+        false,
+    ),
+];
+
+/// Each option reaches its own field.
+fn reaches_its_field<H: Abort + Files>(
+    rt: &H,
+    alloc: Global,
+    words: &[&str],
+    numbers: [u64; 4],
+    count: bool,
+) {
+    let mut none = Vec::new(alloc);
+    let mut told = Vec::new(alloc);
+    let asked = read_words(alloc, words, &mut none, &mut told);
+    let Asked::Run(invocation) = asked else {
+        return rt.abort();
+    };
+    let Request::Eval { options, .. } = invocation.request else {
+        return rt.abort();
+    };
+    let EvalOptions {
+        steps,
+        cells,
+        memo,
+        reclaim,
+        count: is_counted,
+    } = options;
+    let found = [steps, u64::from(cells), u64::from(memo), u64::from(reclaim)];
+    assert!(rt; found == numbers && is_counted == count, "{words:?}");
+}
+
+#[test]
+fn options_reach_their_fields(rt: HostRuntime) {
+    for (words, numbers, count) in &OPTIONS {
+        reaches_its_field(&rt, rt.alloc(), words, *numbers, *count);
     }
 }

@@ -1,6 +1,8 @@
 use Rattle.std.specs.Io.KnownBytes.{Appends}
+use Rattle.rx_text.specs.Output.{IsWritable, IsSameOutput}
 use Rattle.rx_text.proofs.PrintedNameLemmas.{begun_name}
 use Rattle.rx_text.proofs.writer.put_name.Given as goal
 
 abbrev pub invariant-loop-byte : goal.invariant-loop-byte
-invariant-loop-byte g l = Appends (g.W.Write.contents l.fn.out) (g.W.Write.contents l.out) (begun_name l.name l.byte-index)
+invariant-loop-byte g l =
+    Appends (g.W.Write.contents l.fn.out.writer.now) (g.W.Write.contents l.out.writer.now) (begun_name l.name l.byte-index) × IsWritable l.out × IsSameOutput l.fn.out l.out

@@ -2,11 +2,15 @@ use Rattle.rx_text.specs.Jobs.{job_text, job_size}
 use Rattle.rx_text.specs.declared.writer.Job.TheVariants as job
 use Rattle.rx_text.proofs.AppendingLemmas.{appends_same}
 use Rattle.rx_text.proofs.LeavingLemmas.{adds_leaves}
+use Rattle.rx_text.proofs.TellingLemmas.{tells_memory}
 use Rattle.rx_text.proofs.writer.write_job.Goals as goal
 
 pub returns-in-Items-clause-written : goal.returns-in-Items-clause-written
 returns-in-Items-clause-written g c =
     let w = g.B.TermBank.store c.args.bank.now in
     let j = job.Items c.in-Items.list in
-    let old = g.W.Write.contents c.args.out.now in
-    rw c.in-Items.is (adds_leaves c.leave_items.result w (job_text w j) (job_size w j) old old c.args.jobs.now.items c.leave_items.new.jobs.items c.leave_items.ensures (appends_same old))
+    let old = g.W.Write.contents c.args.out.now.writer.now in
+    rw c.in-Items.is (adds_leaves c.leave_items.result w (job_text w j) (job_size w j) old old c.args.jobs.now.items c.leave_items.new.jobs.items c.leave_items.ensures.left (appends_same old))
+
+pub returns-in-Items-clause-cause : goal.returns-in-Items-clause-cause
+returns-in-Items-clause-cause g c = tells_memory c.args.out.now c.leave_items.result c.leave_items.ensures.memory c.requires.open

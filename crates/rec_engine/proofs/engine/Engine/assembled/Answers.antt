@@ -16,6 +16,6 @@ invariant_of-result g c =
         code = subst (IsCode y) same c.requires.code;
         linked = subst (λ code. AreLinked y w code.links) same c.requires.linked;
         constants = are-none y c.into_inner.result.ops.items w c.args.parts.state.pace.constants c.requires.constants;
-        results = IsKnown-empty (IsResult y) w c.args.parts.state.pace.memo c.requires.memo;
+        results = IsKnown-empty (IsResult y) w c.args.parts.state.pace.memo c.requires.memo.none;
       },
     )

@@ -1,8 +1,11 @@
-use Rattle.std.proofs.Common.{◌∙◌, ◌∷◌, [], subst, sym, Contains, List}
+use Rattle.std.proofs.Common.{◌∙◌, ◌∷◌, [], subst, sym, Contains, IsSome, List}
 use Rattle.rx_term.specs.Steps.{Keeps}
+use Rattle.rx_term.specs.Store.{tree_at}
+use Rattle.rx_term.specs.Walks.{AllHeld}
 use Rattle.rx_term.specs.declared.Term.{Term}
-use Rattle.rec_engine.proofs.EndLemmas.{in-end, in-here}
-use Rattle.rec_engine.proofs.EvaluationLemmas.{kept-front}
+use Rattle.rec_engine.proofs.BuildingLemmas.{held-more}
+use Rattle.rec_engine.proofs.EndLemmas.{in-end, in-here, in-snoc}
+use Rattle.rec_engine.proofs.EvaluationLemmas.{kept-front, noted-held}
 use Rattle.rec_engine.proofs.StayLemmas.{stays-kept}
 use Rattle.rec_engine.proofs.machine.Machine.annotate.Goals as goal
 
@@ -27,3 +30,15 @@ returns-clause-stays g c =
 pub returns-clause-kept : goal.returns-clause-kept
 returns-clause-kept g c =
     subst (λ (xs : List Term). Contains xs c.in_ok-noted.noted) (sym c.in_ok-push-2.ensures.pushed) (in-end c.push.new.work.items (c.in_ok-noted.noted ∷ []) c.in_ok-noted.noted (in-here c.in_ok-noted.noted []))
+
+pub returns-clause-all_held : goal.returns-clause-all_held
+returns-clause-all_held g c =
+    let w0 = g.B.TermBank.store c.args.self.now.bank in
+    let w1 = g.B.TermBank.store c.make.new.bank in
+    let xs = c.push.new.work.items in
+    let held = λ (t : Term) (inside : Contains xs t).
+    in-snoc c.args.self.now.work.items c.in-Some.anns t (IsSome (tree_at w0 t)) (subst (λ (ys : List Term). Contains ys t) c.in_ok-push.ensures.pushed inside)
+    (λ b. c.requires.held t b) (λ e. subst (λ (x : Term). IsSome (tree_at w0 x)) e (subst IsSome (sym c.in-Some.ensures.1) c.in-Some.ensures.0)) in
+    let there = subst IsSome (sym c.in_ok-noted.ensures.makes) (noted-held w0 c.args.t c.args.value c.in-Some.anns c.in-Some.ensures (c.requires.held c.args.value c.requires.value)) in
+    subst (AllHeld w1) (sym c.in_ok-push-2.ensures.pushed)
+    (held-more w0 w1 xs xs c.in_ok-noted.noted (subst (λ ys. Keeps w0 w1 ys) c.deref.ensures.value c.make.ensures.keeps) held (λ t b. b) there)

@@ -49,7 +49,7 @@ returns-then-branch g c =
     let pushed : new ≡ old ++ values = c.in_ok-push_at.ensures.pushes no_term ∙ ap (λ xs. xs ++ in_order no_term c.deref-then-branch.result.now c.deref-then-branch-2.result.now) same
     ∙ ap (λ xs. old ++ in_order no_term xs c.deref-then-branch-2.result.now) c.deref-then-branch.ensures.value ∙ ap (λ xs. old ++ in_order no_term tested xs) c.deref-then-branch-2.ensures.value in
     record {
-      finds = found-on w m c.args.at old values new i c.len-values.result finds (c.len-values.ensures ∙ c.loop-i.work.ok.0 ∙ ap (λ (xs : List Term). length xs) same) pushed;
+      finds = found-on w m (length old - c.args.count) c.args.at old values new i c.len-then-branch.result finds (c.len-then-branch.ensures ∙ c.loop-i.work.ok.0 ∙ ap (λ (xs : List Term). length xs) same) pushed;
       held = subst (AllHeld w) (sym pushed) (AllHeld-append w old values c.requires.held (found-held w m c.args.symbol c.args.count c.args.at old values i c.requires.can finds));
       behind = (values, pushed);
     }

@@ -4,7 +4,6 @@ use Rattle.rec_run.specs.PatternRuns.{made_due}
 use Rattle.rec_run.specs.PatternAnswers.{answer_due}
 use Rattle.rx_term.proofs.WalkLemmas.{trees_from-AllHeld}
 use Rattle.rec_run.proofs.PatternTermLemmas.{made_here}
-use Rattle.rec_run.proofs.FaultLemmas.{full_bank}
 use Rattle.rec_run.proofs.pattern.answer.make_of_elements.Goals as goal
 
 pub returns-in-Ok-clause-due : goal.returns-in-Ok-clause-due
@@ -24,6 +23,4 @@ returns-in-Err-Kind-clause-due g c = λ ts h.
     ap (answer_due (g.B.TermBank.store c.make.new.bank)) c.refused-in-Err-Kind.ensures ∙ ap made_due (sym wrong)
 
 pub returns-in-Err-Full-clause-fault : goal.returns-in-Err-Full-clause-fault
-returns-in-Err-Full-clause-fault g c =
-    let new = g.B.TermBank.store c.make.new.bank in
-    (refl, full_bank (g.B.TermBank.store c.args.bank.now) new (g.met.B.TermBank.sound c.make.new.bank) c.in-Err-Full.ensures.grows.cap (c.in-Err-Full.ensures.full (ap Err c.in-Err-Full.field-0-is)))
+returns-in-Err-Full-clause-fault g c = (refl, record { full = c.in-Err-Full.ensures.full (ap Err c.in-Err-Full.field-0-is); grows = c.in-Err-Full.ensures.grows })

@@ -1,4 +1,5 @@
 use Rattle.std.proofs.Common.{Some, subst}
+use Rattle.std.proofs.lemmas.Result.{IfErr-weaker}
 use Rattle.rx_term.specs.declared.Term.{Term}
 use Rattle.rx_text.specs.Verdict.{Verdict, IsVerdict}
 use Rattle.rec_run.specs.TermRuns.{IsReadingOf}
@@ -7,6 +8,7 @@ use Rattle.rec_run.specs.PatternAnswers.{answer_due}
 use Rattle.rec_run.specs.Refusals.{refusal_due}
 use Rattle.rec_run.specs.declared.ending.Source.TheVariants as source
 use Rattle.rec_run.specs.declared.refusal.Reading.{Reading}
+use Rattle.rec_run.proofs.FaultLemmas.{ran_out_later}
 use Rattle.rec_run.proofs.PatternDueLemmas.{due_read, if_ok_map, spelt_due, unspelt_args}
 use Rattle.rec_run.proofs.pattern.answer.make_of_text.Goals as goal
 
@@ -26,3 +28,10 @@ returns-in-Good-clause-due g c =
     due_read (Some c.args.args.now) (answer_due (g.B.TermBank.store c.make_of_term.new.bank) answer) (due_of_args c.args.pattern.now) v.0 v.2
     (spelt_due (due_of_args c.args.pattern.now) source.Args w c.in-Good.t v.0 v.1 _ h))
     c.make_of_term.ensures.due
+
+pub returns-in-Good-clause-fault : goal.returns-in-Good-clause-fault
+returns-in-Good-clause-fault g c =
+    let old = g.B.TermBank.store c.args.bank.now in
+    let mid = g.B.TermBank.store c.parse.new.bank in
+    let new = g.B.TermBank.store c.make_of_term.new.bank in
+    IfErr-weaker c.make_of_term.result _ _ (λ f h. ran_out_later old mid new f c.in_ok-refusal.ensures.grows h) c.make_of_term.ensures.fault

@@ -4,7 +4,6 @@ use Rattle.rx_term.proofs.StoreLemmas.{some-value}
 use Rattle.rx_pattern.specs.Held.{Binds}
 use Rattle.rx_pattern.specs.Matching.{matching}
 use Rattle.rec_run.proofs.PatternLineLemmas.{bound_held, no_due, yes_due}
-use Rattle.rec_run.proofs.FaultLemmas.{full_bank}
 use Rattle.rec_run.proofs.pattern.answer.match_term.Goals as goal
 
 pub returns-in-Ok-true-clause-due : goal.returns-in-Ok-true-clause-due
@@ -27,6 +26,4 @@ returns-in-Ok-false-clause-due g c = λ u e.
     no_due w (matching c.args.pattern.now u) out (subst (λ (b : Bool). Binds w (matching c.args.pattern.now u) out b) c.in-Ok-false.field-0-test (c.in-Ok-false.ensures.answer u e))
 
 pub returns-in-Err-Full-clause-fault : goal.returns-in-Err-Full-clause-fault
-returns-in-Err-Full-clause-fault g c =
-    let new = g.B.TermBank.store c.matches.new.bank in
-    (refl, full_bank (g.B.TermBank.store c.args.bank.now) new (g.met.B.TermBank.sound c.matches.new.bank) c.in-Err-Full.ensures.grows.cap (rw c.in-Err-Full.field-0-is at c.in-Err-Full.ensures.refused))
+returns-in-Err-Full-clause-fault g c = (refl, record { full = rw c.in-Err-Full.field-0-is at c.in-Err-Full.ensures.refused; grows = c.in-Err-Full.ensures.grows })

@@ -14,7 +14,7 @@ use Rattle.rec_engine.specs.Engine.{IsGround}
 use Rattle.rec_run.specs.EvaluatedLines.{due_before, fault_after}
 use Rattle.rec_run.specs.GivenTerms.{given_at, given_text}
 use Rattle.rec_run.specs.Run.{StopsAfter}
-use Rattle.rec_run.proofs.EvaluatedLemmas.{front-line, held_no_ends, lines_stopped_after, fault_after-same, room_fits, same_engine_both}
+use Rattle.rec_run.proofs.EvaluatedLemmas.{front-line, held_no_ends, lines_stopped_after, fault_after-same, line_lacks, same_engine_both}
 use Rattle.rec_run.proofs.GivenListLemmas.{FrontAt, fewer_items, front_there, no_front, others_later}
 use Rattle.rec_run.proofs.LineFrontLemmas.{appends_all, appends_more, lines_of}
 use Rattle.rec_run.proofs.spec.lines.write_given_lines.Goals as goal
@@ -37,6 +37,8 @@ returns-in_default g c =
     let kind = subst (λ b. HasKind (g.B.TermBank.store b) c.loop-i.rest c.kind.result) c.bank-in-loop-i.ensures c.kind.ensures in
     let all = no_front (g.B.TermBank.store c.loop-i.engine.bank) us c.loop-i.rest c.loop-i.i c.kind.result c.loop-i.invariant.left kind c.in_default.not-Cons in
     record {
+      same = c.loop-i.invariant.same;
+      keeps = c.loop-i.invariant.keeps;
       ok = appends_all (given_text c.args.engine.now.spec c.args.options.count c.args.options.steps) us c.loop-i.i _ _ all c.loop-i.invariant.written;
       err = tt;
       room = tt;
@@ -65,11 +67,16 @@ returns-in-Err-clause-err g c =
     (held_no_ends y (g.B.TermBank.store c.args.engine.now.bank) c.args.list c.args.options.count n few (g.met.B.TermBank.sound c.args.engine.now.bank) c.requires.holds) next.front.low c.loop-i.invariant.written
     (subst (λ text. AppendsFront (due_before c.in-Err.fault text) (g.W.Write.contents c.loop-i.out) after) is c.in-Err.ensures.err))
 
+pub returns-in-Err-clause-same : goal.returns-in-Err-clause-same
+returns-in-Err-clause-same g c = same_engine_both c.loop-i.invariant.same c.in-Err.ensures.same
+
+pub returns-in-Err-clause-keeps : goal.returns-in-Err-clause-keeps
+returns-in-Err-clause-keeps g c = Keeps-trans c.loop-i.invariant.keeps c.in-Err.ensures.keeps
+
 pub returns-in-Err-clause-room : goal.returns-in-Err-clause-room
 returns-in-Err-clause-room g c =
-    let old = g.B.TermBank.store c.args.engine.now.bank in
-    let new = g.B.TermBank.store c.write_evaluation.new.engine.bank in
-    room_fits old new c.in-Err.fault _ c.after.result c.after.ensures (g.met.B.TermBank.sound c.write_evaluation.new.engine.bank) (c.in-Err.ensures.keeps.beside.cap ∙ c.loop-i.invariant.keeps.beside.cap) c.in-Err.ensures.room
+    let e = c.write_evaluation.new.engine in
+    line_lacks (g.B.TermBank.store e.bank) e.work e.memo c.in-Err.fault _ c.after.result c.after.ensures c.in-Err.ensures.room
 
 pub tail-rest-requires : goal.tail-rest-requires
 tail-rest-requires g c =

@@ -1,4 +1,4 @@
-use Rattle.std.proofs.Common.{◌≡◌, ◌++◌, ◌<◌, ◌≤◌, ◌^◌, [], arith, length, subst, sym, ◌∙◌}
+use Rattle.std.proofs.Common.{◌≡◌, ◌++◌, ◌<◌, ◌≤◌, ◌^◌, [], arith, length, subst, sym}
 use Rattle.std.specs.Prelude.{codes}
 use Rattle.std.specs.Io.KnownBytes.{Appends}
 use Rattle.rx_term.proofs.KeepLemmas.{Keeps-trans}
@@ -9,7 +9,7 @@ use Rattle.rec_run.specs.EvaluatedLines.{due_before, fault_after}
 use Rattle.rec_run.specs.Output.{lines}
 use Rattle.rec_run.specs.Reading.{line_text, text_at}
 use Rattle.rec_run.specs.Run.{Stops}
-use Rattle.rec_run.proofs.EvaluatedLemmas.{lines_stopped, fault_after-same, room_fits, same_engine_both}
+use Rattle.rec_run.proofs.EvaluatedLemmas.{lines_stopped, fault_after-same, line_lacks, same_engine_both}
 use Rattle.rec_run.proofs.LineFrontLemmas.{appends_all, appends_more}
 use Rattle.rec_run.proofs.SpecLineLemmas.{line_text-newlines, lines-own}
 use Rattle.rec_run.proofs.spec.lines.write_own_lines.Goals as goal
@@ -34,9 +34,8 @@ returns-in-Err-clause-err g c =
 
 pub returns-in-Err-clause-room : goal.returns-in-Err-clause-room
 returns-in-Err-clause-room g c =
-    let old = g.B.TermBank.store c.args.engine.now.bank in
-    let new = g.B.TermBank.store c.write_own_line.new.engine.bank in
-    room_fits old new c.in-Err.fault _ c.after.result c.after.ensures (g.met.B.TermBank.sound c.write_own_line.new.engine.bank) (c.in-Err.ensures.keeps.beside.cap ∙ c.loop-i.invariant.keeps.beside.cap) c.in-Err.ensures.room
+    let e = c.write_own_line.new.engine in
+    line_lacks (g.B.TermBank.store e.bank) e.work e.memo c.in-Err.fault _ c.after.result c.after.ensures c.in-Err.ensures.room
 
 pub loop-i-preserved : goal.loop-i-preserved
 loop-i-preserved g c =

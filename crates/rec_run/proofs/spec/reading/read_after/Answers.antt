@@ -9,14 +9,22 @@ use Rattle.rec_run.proofs.spec.reading.read_after.Goals as goal
 
 pub returns-in-Refused-clause-due : goal.returns-in-Refused-clause-due
 returns-in-Refused-clause-due g c = λ v is.
-    read_after_refusal c.in-Refused.refusal _ v (subst (λ (r : Reading Sourced). IsSpecReading r v) c.in-Refused.is is)
+    read_after_refusal (g.B.TermBank.store c.args.bank.now) c.in-Refused.refusal _ v (subst (λ (r : Reading Sourced). IsSpecReading r v) c.in-Refused.is is)
 
 pub returns-in-Good-clause-due : goal.returns-in-Good-clause-due
 returns-in-Good-clause-due g c =
     if_ok_map c.read_terms.result _ _
-    (λ r h v is. read_after_good c.in-Good.checked _ r h v (subst (λ (z : Reading Sourced). IsSpecReading z v) c.in-Good.is is))
+    (λ r h v is. read_after_good (g.B.TermBank.store c.read_terms.new.bank) c.in-Good.checked _ r h v (subst (λ (z : Reading Sourced). IsSpecReading z v) c.in-Good.is is))
     c.read_terms.ensures.due
 
 pub returns-in-Good-clause-unread : goal.returns-in-Good-clause-unread
 returns-in-Good-clause-unread g c = λ v is refused.
+    absurd (subst IsRefusal (subst (λ (z : Reading Sourced). IsSpecReading z v) c.in-Good.is is) refused)
+
+pub returns-in-Good-clause-unused : goal.returns-in-Good-clause-unused
+returns-in-Good-clause-unused g c = λ v is refused.
+    absurd (subst IsRefusal (subst (λ (z : Reading Sourced). IsSpecReading z v) c.in-Good.is is) refused)
+
+pub returns-in-Good-clause-refused : goal.returns-in-Good-clause-refused
+returns-in-Good-clause-refused g c = λ v is refused.
     absurd (subst IsRefusal (subst (λ (z : Reading Sourced). IsSpecReading z v) c.in-Good.is is) refused)

@@ -1,16 +1,15 @@
-use Rattle.std.proofs.Common.{IfSome, None, refl, subst}
-use Rattle.rec_syntax.specs.Syntax.{Sourced}
-use Rattle.rec_run.specs.Reading.{IsSpecRead}
-use Rattle.rec_run.specs.declared.refusal.Reading.{Reading}
-use Rattle.rec_run.proofs.WholeRunLemmas.{read_good, read_refused}
+use Rattle.rec_run.proofs.GivenDueLemmas.{on_refused, read_fault_refused, refused_alone, refused_any}
+use Rattle.rec_run.proofs.WholeRunLemmas.{read_alone, ready_alone}
 use Rattle.rec_run.proofs.spec.reading.read_alone.Goals as goal
 
-pub returns-in-Refused-clause-due : goal.returns-in-Refused-clause-due
-returns-in-Refused-clause-due g c =
-    read_refused _ c.in-Refused.refusal
-    (subst (λ (r : Reading Sourced). IfSome (g.R.Read.remaining c.args.spec.now) (λ b. IsSpecRead b r)) c.in-Refused.is c.in_ok-first.ensures.verdict)
+pub returns-clause-due : goal.returns-clause-due
+returns-clause-due g c = λ w. read_alone w _ c.in_ok-first.first c.job_alone.result c.job_alone.ensures c.in_ok-first.ensures.verdict
 
-pub returns-in_ok-bank-in-Good-clause-due : goal.returns-in_ok-bank-in-Good-clause-due
-returns-in_ok-bank-in-Good-clause-due g c =
-    read_good _ (record { checked = c.in-Good.checked; bank = c.in_ok-bank-in-Good.bank; list = None }) refl
-    (subst (λ (r : Reading Sourced). IfSome (g.R.Read.remaining c.args.spec.now) (λ b. IsSpecRead b r)) c.in-Good.is c.in_ok-first.ensures.verdict)
+pub returns-clause-ready : goal.returns-clause-ready
+returns-clause-ready g c = λ w. ready_alone w c.in_ok-first.first c.job_alone.result c.job_alone.ensures
+
+pub returns-clause-refused : goal.returns-clause-refused
+returns-clause-refused g c = on_refused _ _ c.in_ok-first.first c.in_ok-first.ensures.verdict (refused_alone c.in_ok-first.first c.job_alone.result c.job_alone.ensures)
+
+pub returns-in_err-first-clause-refused : goal.returns-in_err-first-clause-refused
+returns-in_err-first-clause-refused g c = refused_any _ (read_fault_refused c.from_residual.result c.in_err-first.field-0.0 c.from_residual.ensures.1)

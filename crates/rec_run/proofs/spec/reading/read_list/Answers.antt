@@ -1,24 +1,16 @@
-use Rattle.std.proofs.Common.{ap, subst, ◌∙◌}
-use Rattle.rec_run.specs.GivenTerms.{HoldsList}
+use Rattle.std.proofs.Common.{refl}
+use Rattle.std.proofs.lemmas.Result.{IfErr-weaker}
+use Rattle.rec_run.proofs.FaultLemmas.{unwritten}
 use Rattle.rec_run.proofs.GivenDueLemmas.{read_due}
+use Rattle.rec_run.proofs.PatternDueLemmas.{if_ok_map}
 use Rattle.rec_run.proofs.spec.reading.read_list.Goals as goal
 
-pub returns-in-Refused-clause-due : goal.returns-in-Refused-clause-due
-returns-in-Refused-clause-due g c =
+pub returns-clause-due : goal.returns-clause-due
+returns-clause-due g c =
     let w = g.B.TermBank.store c.judge_terms.new.bank in
-    read_due _ c.in_ok-text.text.items _ c.args.checked.now.spec w _ _ c.in_ok-text.ensures.text c.deref.ensures.value c.in_ok-reading.ensures.due c.in-Refused.is
+    if_ok_map c.judge_terms.result _ _
+    (λ reading h. read_due _ c.in_ok-text.text.items _ c.args.checked.now.spec w reading reading c.in_ok-text.ensures.text c.deref.ensures.value h refl)
+    c.judge_terms.ensures.due
 
-pub returns-in-Good-clause-due : goal.returns-in-Good-clause-due
-returns-in-Good-clause-due g c =
-    let w = g.B.TermBank.store c.judge_terms.new.bank in
-    read_due _ c.in_ok-text.text.items _ c.args.checked.now.spec w _ _ c.in_ok-text.ensures.text c.deref.ensures.value c.in_ok-reading.ensures.due c.in-Good.is
-
-pub returns-in-Good-clause-ready : goal.returns-in-Good-clause-ready
-returns-in-Good-clause-ready g c =
-    let w = g.B.TermBank.store c.judge_terms.new.bank in
-    let grows = c.in_ok-reading.ensures.grows in
-    record {
-      limit = grows.cap;
-      unrooted = λ t. ap (λ roots. roots t) grows.roots ∙ c.requires t;
-      holds = subst (HoldsList c.args.checked.now.spec w) c.in-Good.is c.in_ok-reading.ensures.holds;
-    }
+pub returns-clause-fault : goal.returns-clause-fault
+returns-clause-fault g c = IfErr-weaker c.judge_terms.result _ _ (unwritten (g.B.TermBank.store c.args.bank.now) (g.B.TermBank.store c.judge_terms.new.bank)) c.judge_terms.ensures.fault

@@ -1,42 +1,29 @@
-use Rattle.rec_run.specs.GivenTerms.{job_lines}
-use Rattle.rec_run.specs.Run.{IsDueFor}
-use Rattle.rec_run.specs.declared.ending.RunFault.TheVariants.{Write}
-use Rattle.rec_run.proofs.ErrorLemmas.{if_err_at}
-use Rattle.rec_run.proofs.ReadDueLemmas.{breaks_flush, breaks_read, ends_read, placed_read}
-use Rattle.rec_run.proofs.WholeRunLemmas.{due_for, one_due_for}
+use Rattle.std.proofs.Common.{IfOk, ◌≡◌, subst}
+use Rattle.rec_run.specs.GivenTerms.{run_due}
+use Rattle.rec_run.specs.Run.{HasRoom, RoomExhausts}
+use Rattle.rec_run.proofs.RunEndLemmas.{ends_behind, err_behind, fault_behind, ok_behind}
 use Rattle.rec_run.proofs.spec.runs.answer.Goals as goal
 
-pub returns-in_err-write_due-clause-fault : goal.returns-in_err-write_due-clause-fault
-returns-in_err-write_due-clause-fault g c =
-    let counted = c.args.options.count in
-    let n = c.args.options.steps in
-    let r = c.args.reading in
-    let f = c.in_err-write_due.field-0.0 in
-    if_err_at c.from_residual.result _ f c.from_residual.ensures.1
-    (λ texts read. breaks_read (IsDueFor counted n) (job_lines counted n) (one_due_for counted n) texts r f _ _ (due_for counted n texts r read) c.in_err-write_due.ensures.err)
+pub returns-clause-ends : goal.returns-clause-ends
+returns-clause-ends g c =
+    subst (λ f. IfOk c.end_run.result (λ x. x ≡ f)) c.finish-finish.ensures
+    (ends_behind _ _ _ c.write_due-written.result.written c.end_run.result c.end_run.ensures.ends)
 
-pub returns-in_err-write_due-clause-room : goal.returns-in_err-write_due-clause-room
-returns-in_err-write_due-clause-room g c =
-    if_err_at c.from_residual.result _ c.in_err-write_due.field-0.0 c.from_residual.ensures.1 c.in_err-write_due.ensures.room
+pub returns-clause-ok : goal.returns-clause-ok
+returns-clause-ok g c =
+    let text = (run_due (g.B.TermBank.store c.args.bank) c.args.options.count c.args.options.steps c.args.reading).text in
+    ok_behind _ _ _ text _ c.write_due-written.result.written c.end_run.result c.end_run.ensures.ends c.write_due-written.ensures.ok
 
-pub returns-in_err-flush-clause-fault : goal.returns-in_err-flush-clause-fault
-returns-in_err-flush-clause-fault g c =
-    let counted = c.args.options.count in
-    let n = c.args.options.steps in
-    let r = c.args.reading in
-    if_err_at c.from_residual-in_err-flush.result _ Write c.from_residual-in_err-flush.ensures.1
-    (λ texts read. breaks_flush (IsDueFor counted n) (job_lines counted n) (one_due_for counted n) texts r _ _ _ (due_for counted n texts r read) c.in_ok-write_due.ensures.ok c.in_err-flush.ensures)
+pub returns-clause-err : goal.returns-clause-err
+returns-clause-err g c =
+    let text = (run_due (g.B.TermBank.store c.args.bank) c.args.options.count c.args.options.steps c.args.reading).text in
+    err_behind _ _ _ text _ c.write_due-written.result.written c.end_run.result c.end_run.ensures.ends c.write_due-written.ensures.ok c.write_due-written.ensures.err
 
-pub returns-clause-output : goal.returns-clause-output
-returns-clause-output g c = λ texts read.
-    let counted = c.args.options.count in
-    let n = c.args.options.steps in
-    let r = c.args.reading in
-    ends_read (IsDueFor counted n) (job_lines counted n) texts r _ _ _ _ (due_for counted n texts r read) c.finish-finish.ensures c.in_ok-write_due.ensures.ok c.in_ok-flush.ensures
+pub returns-clause-room : goal.returns-clause-room
+returns-clause-room g c =
+    let left = c.write_due-written.result in
+    fault_behind _ _ _ (RoomExhausts (g.B.TermBank.store left.bank) left.needed.items) tt left.written c.end_run.result c.end_run.ensures.ends c.write_due-written.ensures.room
 
-pub returns-clause-place : goal.returns-clause-place
-returns-clause-place g c = λ texts read.
-    let counted = c.args.options.count in
-    let n = c.args.options.steps in
-    let r = c.args.reading in
-    placed_read (IsDueFor counted n) (job_lines counted n) texts r _ (due_for counted n texts r read) c.place-refused_at.ensures
+pub returns-clause-cells : goal.returns-clause-cells
+returns-clause-cells g c = λ refused.
+    fault_behind _ _ _ HasRoom tt c.write_due-written.result.written c.end_run.result c.end_run.ensures.ends (c.write_due-written.ensures.cells refused)

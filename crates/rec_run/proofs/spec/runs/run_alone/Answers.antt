@@ -1,14 +1,18 @@
+use Rattle.std.proofs.Common.{refl}
 use Rattle.rec_run.specs.Run.{IsDueFor}
-use Rattle.rec_run.proofs.FaultLemmas.{reports_unwritten, room_unwritten}
-use Rattle.rec_run.proofs.ErrorLemmas.{if_err_at}
+use Rattle.rec_run.proofs.FaultLemmas.{memory_has_room}
+use Rattle.rec_run.proofs.GivenDueLemmas.{refused_any}
 use Rattle.rec_run.proofs.WholeRunLemmas.{breaks_unwritten}
 use Rattle.rec_run.proofs.spec.runs.run_alone.Goals as goal
 
-pub returns-in_err-reading-clause-fault : goal.returns-in_err-reading-clause-fault
-returns-in_err-reading-clause-fault g c =
-    if_err_at c.from_residual.result _ c.in_err-reading.field-0.0 c.from_residual.ensures.1
-    (breaks_unwritten (IsDueFor c.args.options.count c.args.options.steps) _ c.in_err-reading.field-0.0 (g.W.Write.contents c.args.out.now) (reports_unwritten c.args.options.cells c.in_err-reading.field-0.0 c.in_err-reading.ensures.fault))
+pub run_alone_in-requires-clause-unrooted : goal.run_alone_in-requires-clause-unrooted
+run_alone_in-requires-clause-unrooted g c = c.in-Ok.ensures.empty.2
 
-pub returns-in_err-reading-clause-room : goal.returns-in_err-reading-clause-room
-returns-in_err-reading-clause-room g c =
-    if_err_at c.from_residual.result _ c.in_err-reading.field-0.0 c.from_residual.ensures.1 (room_unwritten c.args.options.cells c.in_err-reading.field-0.0 c.in_err-reading.ensures.fault)
+pub run_alone_in-requires-clause-limit : goal.run_alone_in-requires-clause-limit
+run_alone_in-requires-clause-limit g c = c.in-Ok.ensures.empty.3
+
+pub returns-in-Err-clause-fault : goal.returns-in-Err-clause-fault
+returns-in-Err-clause-fault g c = breaks_unwritten (IsDueFor c.args.options.count c.args.options.steps) _ c.in-Err.fault _ (rw c.in-Err.ensures.fault refl)
+
+pub returns-in-Err-clause-cells : goal.returns-in-Err-clause-cells
+returns-in-Err-clause-cells g c = refused_any _ (memory_has_room c.in-Err.fault c.in-Err.ensures.fault)

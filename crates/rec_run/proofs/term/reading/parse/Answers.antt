@@ -1,7 +1,6 @@
 use Rattle.std.proofs.Common.{Err, ap, refl, subst, sym}
 use Rattle.rx_text.specs.Verdict.{Outside, Spelt}
 use Rattle.rec_run.specs.TermRuns.{IsReadingOf}
-use Rattle.rec_run.proofs.FaultLemmas.{full_bank}
 use Rattle.rec_run.proofs.term.reading.parse.Goals as goal
 
 pub returns-in-Ok-clause-read : goal.returns-in-Ok-clause-read
@@ -14,6 +13,4 @@ returns-in-Err-Grammar-clause-read g c =
     (Outside at, subst (λ r. IsReadingOf c.args.source w r (Outside at)) (sym c.refused-in-Err-Grammar.ensures) refl, c.in-Err-Grammar.ensures.outside at (ap Err c.in-Err-Grammar.field-0-is))
 
 pub returns-in-Err-Full-clause-fault : goal.returns-in-Err-Full-clause-fault
-returns-in-Err-Full-clause-fault g c =
-    let new = g.B.TermBank.store c.read.new.bank in
-    (refl, full_bank (g.B.TermBank.store c.args.bank.now) new (g.met.B.TermBank.sound c.read.new.bank) c.in-Err-Full.ensures.grows.cap (c.in-Err-Full.ensures.full (ap Err c.in-Err-Full.field-0-is)))
+returns-in-Err-Full-clause-fault g c = (refl, record { full = c.in-Err-Full.ensures.full (ap Err c.in-Err-Full.field-0-is); grows = c.in-Err-Full.ensures.grows })

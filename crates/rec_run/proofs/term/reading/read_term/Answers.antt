@@ -4,6 +4,7 @@ use Rattle.rx_text.specs.Verdict.{IsVerdict}
 use Rattle.rec_run.proofs.FaultLemmas.{unwritten}
 use Rattle.rec_run.proofs.PatternDueLemmas.{if_ok_map}
 use Rattle.rec_run.proofs.TermDueLemmas.{verdict_given}
+use Rattle.rx_term.proofs.StoreLemmas.{Grows-refl}
 use Rattle.rec_run.proofs.term.reading.read_term.Goals as goal
 
 pub returns-clause-read : goal.returns-clause-read
@@ -13,4 +14,7 @@ returns-clause-read g c =
     c.parse.ensures.read
 
 pub returns-clause-fault : goal.returns-clause-fault
-returns-clause-fault g c = IfErr-weaker c.parse.result _ _ (unwritten (g.B.TermBank.store c.args.bank.now).cap) c.parse.ensures.fault
+returns-clause-fault g c = IfErr-weaker c.parse.result _ _ (unwritten (g.B.TermBank.store c.args.bank.now) (g.B.TermBank.store c.parse.new.bank)) c.parse.ensures.fault
+
+pub returns-in_err-text-clause-grows : goal.returns-in_err-text-clause-grows
+returns-in_err-text-clause-grows g c = Grows-refl (g.B.TermBank.store c.args.bank.now)

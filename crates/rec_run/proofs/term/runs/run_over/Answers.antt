@@ -1,11 +1,9 @@
-use Rattle.std.proofs.Common.{ap, subst, ◌∙◌}
-use Rattle.rec_run.specs.Run.{RoomFits}
 use Rattle.rec_run.specs.TermRuns.{IsDueOf, lines_at, lines_for}
 use Rattle.rec_run.specs.declared.ending.RunFault.TheVariants.{Write}
-use Rattle.rec_run.proofs.FaultLemmas.{reports_unwritten, room_unwritten}
+use Rattle.rec_run.proofs.FaultLemmas.{reports_unwritten, room_unwritten, room_writing}
 use Rattle.rec_run.proofs.ErrorLemmas.{if_err_at}
 use Rattle.rec_run.proofs.ReadDueLemmas.{breaks_flush, breaks_read, ends_read, placed_read}
-use Rattle.rec_run.proofs.TermDueLemmas.{given_due, given_held, one_due_of}
+use Rattle.rec_run.proofs.TermDueLemmas.{given_due, given_held, one_due_of, still_unrooted}
 use Rattle.rec_run.proofs.WholeRunLemmas.{breaks_unwritten}
 use Rattle.rec_run.proofs.term.runs.run_over.Goals as goal
 
@@ -13,20 +11,29 @@ pub write_due-requires-clause-held : goal.write_due-requires-clause-held
 write_due-requires-clause-held g c = given_held (g.R.Read.remaining c.args.input.now) (g.B.TermBank.store c.read_term.new.bank) c.in_ok-reading.reading c.in_ok-reading.ensures.read
 
 pub write_due-requires-clause-unrooted : goal.write_due-requires-clause-unrooted
-write_due-requires-clause-unrooted g c = λ t. ap (λ roots. roots t) c.in_ok-reading.ensures.grows.roots ∙ c.requires.empty.2 t
+write_due-requires-clause-unrooted g c = still_unrooted c.args.lines (g.B.TermBank.store c.args.bank.now) (g.B.TermBank.store c.read_term.new.bank) c.in_ok-reading.ensures.grows.roots c.requires
 
 pub returns-in_err-reading-clause-fault : goal.returns-in_err-reading-clause-fault
 returns-in_err-reading-clause-fault g c =
-    let lines = lines_for c.args.lines in
+    let old = g.B.TermBank.store c.args.bank.now in
+    let new = g.B.TermBank.store c.read_term.new.bank in
     let f = c.in_err-reading.field-0.0 in
     if_err_at c.from_residual.result _ f c.from_residual.ensures.1
-    (breaks_unwritten (IsDueOf lines) (g.R.Read.remaining c.args.input.now) f _ (reports_unwritten (g.B.TermBank.store c.args.bank).cap f c.in_err-reading.ensures.fault))
+    (breaks_unwritten (IsDueOf (lines_for c.args.lines)) (g.R.Read.remaining c.args.input.now) f _ (reports_unwritten old new f c.in_err-reading.ensures.fault))
 
 pub returns-in_err-reading-clause-room : goal.returns-in_err-reading-clause-room
 returns-in_err-reading-clause-room g c =
+    let old = g.B.TermBank.store c.args.bank.now in
+    let new = g.B.TermBank.store c.read_term.new.bank in
     let f = c.in_err-reading.field-0.0 in
-    if_err_at c.from_residual.result _ f c.from_residual.ensures.1
-    (subst (λ cap. RoomFits cap f) c.requires.empty.3 (room_unwritten (g.B.TermBank.store c.args.bank).cap f c.in_err-reading.ensures.fault))
+    if_err_at c.from_residual.result _ f c.from_residual.ensures.1 (room_unwritten old new f c.in_err-reading.ensures.fault)
+
+pub returns-in_err-write_due-clause-room : goal.returns-in_err-write_due-clause-room
+returns-in_err-write_due-clause-room g c =
+    let old = g.B.TermBank.store c.args.bank.now in
+    let new = g.B.TermBank.store c.write_due.new.bank in
+    let f = c.in_err-write_due.field-0.0 in
+    if_err_at c.from_residual-in_err-write_due.result _ f c.from_residual-in_err-write_due.ensures.1 (room_writing old new f c.in_err-write_due.ensures.writing)
 
 pub returns-in_err-write_due-clause-fault : goal.returns-in_err-write_due-clause-fault
 returns-in_err-write_due-clause-fault g c =

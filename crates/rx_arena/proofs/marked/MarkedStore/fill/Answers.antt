@@ -42,5 +42,5 @@ invariant_of-self-inside c =
     let node = lone c.args.mark c.args.body in
     let seen = ap (with_marks (set ks s c.args.mark)) c.fill.ensures ∙ set-with_marks ks c.self.inside.cells s c.args.mark (Some (lone 0 c.args.body)) c.self.invariant in (
       told-set c.self.inside.protected.items c.self.inside.cells c.self.inside.told s (Some (lone 0 c.args.body)) ∙ ap (map is_protected_node) (sym c.fill.ensures),
-      (ap (set c.self.inside.words.items s) (c.word.ensures ∙ sym (word-taken node c.requires.mark)) ∙ said-set c.self.inside.words.items (with_marks ks c.self.inside.cells) c.self.inside.said s (Some node) ∙ ap (map word_beside) (sym seen), tt),
+      (ap (set c.self.inside.words.items s) (c.requires.word ∙ sym (word-taken node c.requires.mark)) ∙ said-set c.self.inside.words.items (with_marks ks c.self.inside.cells) c.self.inside.said s (Some node) ∙ ap (map word_beside) (sym seen), tt),
     )

@@ -1,10 +1,14 @@
-use Rattle.std.proofs.Common.{IsSome, IsTrue, ℕ, ◌≢◌, Some, sym, subst}
+use Rattle.std.proofs.Common.{IsSome, IsTrue, ℕ, ◌≢◌, Some, sym, ap, subst, ◌∙◌}
 use Rattle.rx_arena.specs.declared.CellBody.{CellBody}
+use Rattle.rx_arena.specs.Faces.{word_of}
 use Rattle.rx_term.specs.Steps.{MakesOrRefuses}
 use Rattle.rx_shared.specs.Bodies.{cell_of, IsWritten}
 use Rattle.rx_shared.specs.Tidy.{heap_of}
 use Rattle.rx_shared.specs.State.{store_of, tree_of_body}
 use Rattle.rx_shared.proofs.bank.SharedBank.make_list.Goals as goal
+
+pub make_by_hash-requires-clause-word : goal.make_by_hash-requires-clause-word
+make_by_hash-requires-clause-word c = c.requires.word ∙ ap word_of (sym c.body.ensures)
 
 pub make_by_hash-requires-clause-written : goal.make_by_hash-requires-clause-written
 make_by_hash-requires-clause-written c = subst IsWritten (sym c.body.ensures) c.requires.written

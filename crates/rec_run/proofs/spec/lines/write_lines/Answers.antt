@@ -1,0 +1,67 @@
+use Rattle.std.proofs.Common.{◌≡◌, ℕ, ◌++◌, ◌<◌, ◌^◌, Bool, [], Option, Some, ap, arith, length, subst, sym, ◌∙◌}
+use Rattle.std.specs.Io.KnownBytes.{Appends}
+use Rattle.std.proofs.lemmas.Result.{IfErr-weaker}
+use Rattle.rx_term.specs.Steps.{Keeps}
+use Rattle.rx_term.proofs.KeepLemmas.{Keeps-trans}
+use Rattle.rx_term.specs.Store.{Store}
+use Rattle.rx_term.specs.declared.Term.{Term as Reference}
+use Rattle.rec_syntax.specs.Syntax.{Spec}
+use Rattle.rec_run.specs.EvaluatedLines.{ProtectsTerms}
+use Rattle.rec_run.specs.GivenTerms.{given_at, given_by, given_lines}
+use Rattle.rec_run.specs.Output.{lines}
+use Rattle.rec_run.specs.Run.{Stops}
+use Rattle.rec_run.proofs.EvaluatedLemmas.{same_engine_both, same_terms, still_protects}
+use Rattle.rec_run.proofs.LineFrontLemmas.{stops_behind}
+use Rattle.rec_run.proofs.SpecLineLemmas.{lines-both, newlines-own}
+use Rattle.rx_text.proofs.AppendingLemmas.{appends_both}
+use Rattle.rec_run.proofs.ErrorLemmas.{on_ok_of}
+use Rattle.rec_run.proofs.spec.lines.write_lines.Goals as goal
+
+-- all lines are the specification's own and, by what these left of the engine, those of the list
+all_lines : (y z : Spec) (old new : Store) (given : Option Reference) (list : Reference) (counted : Bool) (n : ℕ) → Keeps old new [] → z ≡ y → given ≡ Some list → ProtectsTerms y old list
+    → lines y (given_by old given) counted n ≡ lines y [] counted n ++ given_lines z counted n (given_at new list)
+all_lines y z old new given list counted n keeps same is held =
+    ap (λ r. lines y (given_by old r) counted n) is ∙ lines-both y (given_at old list) counted n
+    ∙ ap (λ us. lines y [] counted n ++ given_lines y counted n us) (sym (same_terms y old new list keeps held))
+    ∙ ap (λ x. lines y [] counted n ++ given_lines x counted n (given_at new list)) (sym same)
+
+pub write_given_lines-requires : goal.write_given_lines-requires
+write_given_lines-requires g c =
+    let old = g.B.TermBank.store c.args.engine.now.bank in
+    let new = g.B.TermBank.store c.write_own_lines.new.engine.bank in
+    subst (λ y. ProtectsTerms y new c.in-Some.list) (sym c.in_ok-write_own_lines.ensures.same.spec)
+    (still_protects c.args.engine.now.spec old new c.in-Some.list c.in_ok-write_own_lines.ensures.keeps (c.requires c.in-Some.list c.in-Some.is))
+
+pub returns-in-Some-clause-ok : goal.returns-in-Some-clause-ok
+returns-in-Some-clause-ok g c =
+    let own = c.in_ok-write_own_lines.ensures in
+    let n = c.args.options.steps in
+    let counted = c.args.options.count in
+    let w = g.B.TermBank.store c.write_own_lines.new.engine.bank in
+    let e = all_lines _ _ _ w _ c.in-Some.list counted n own.keeps own.same.spec c.in-Some.is (c.requires c.in-Some.list c.in-Some.is) in
+    let given = given_lines c.write_own_lines.new.engine.spec counted n (given_at w c.in-Some.list) in
+    on_ok_of c.write_given_lines.result
+    (λ (h : Appends (g.W.Write.contents c.write_own_lines.new.out) (g.W.Write.contents c.write_given_lines.new.out) given).
+    subst (λ text. Appends (g.W.Write.contents c.args.out.now) (g.W.Write.contents c.write_given_lines.new.out) text) (sym e)
+    (appends_both _ _ _ (lines c.args.engine.now.spec [] counted n) given own.ok h))
+    c.write_given_lines.ensures.ok
+
+pub returns-in-Some-clause-err : goal.returns-in-Some-clause-err
+returns-in-Some-clause-err g c =
+    let own = c.in_ok-write_own_lines.ensures in
+    let y = c.args.engine.now.spec in
+    let z = c.write_own_lines.new.engine.spec in
+    let n = c.args.options.steps in
+    let counted = c.args.options.count in
+    let e = all_lines _ _ _ (g.B.TermBank.store c.write_own_lines.new.engine.bank) _ c.in-Some.list counted n own.keeps own.same.spec c.in-Some.is (c.requires c.in-Some.list c.in-Some.is) in
+    let few : n < 2 ^ 64 = omega (arith, c.args.options.steps_in_range) in
+    IfErr-weaker c.write_given_lines.result _ _
+    (λ fault h. subst (λ text. Stops fault text (g.W.Write.contents c.args.out.now) (g.W.Write.contents c.write_given_lines.new.out)) (sym e)
+    (stops_behind fault (length z.terms) (lines y [] counted n) _ _ _ _ (newlines-own y counted n few ∙ ap (λ x. length x.terms) (sym own.same.spec)) own.ok h))
+    c.write_given_lines.ensures.err
+
+pub returns-in-Some-clause-same : goal.returns-in-Some-clause-same
+returns-in-Some-clause-same g c = same_engine_both c.in_ok-write_own_lines.ensures.same c.write_given_lines.ensures.same
+
+pub returns-in-Some-clause-keeps : goal.returns-in-Some-clause-keeps
+returns-in-Some-clause-keeps g c = Keeps-trans c.in_ok-write_own_lines.ensures.keeps c.write_given_lines.ensures.keeps

@@ -1,0 +1,5 @@
+pub mod TraceLemmas
+pub mod StateLemmas
+pub mod LineLemmas
+mod TraceRows
+mod LineRows

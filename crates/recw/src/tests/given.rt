@@ -1,0 +1,120 @@
+//! Given terms among the words, and the standard input by its name.
+
+use crate::shelf::Shelf;
+use crate::tests::{ADDITION, Row};
+
+/// Words that give terms to a specification on the standard input.
+pub(crate) const WORDS: &[Row] = &[
+    (
+        &["eval", "-e", "plus(z,s(z))"],
+        ADDITION,
+        0,
+        "s(s(s(z)))\ns(z)\n",
+        "",
+    ),
+    (
+        &["eval", "--term", "z", "-", "-e", " s(z){7} ", "--count"],
+        ADDITION,
+        0,
+        "s(s(s(z)))\t3\nz\t0\ns(z){7}\t0\n",
+        "",
+    ),
+    (
+        &["eval", "-e", "z", "-e", "plus(z", "-e", "z)"],
+        ADDITION,
+        1,
+        "!terms A\n",
+        "recw: terms A at byte 6\n",
+    ),
+    (
+        &["eval", "-e", "z,z"],
+        ADDITION,
+        1,
+        "!terms A\n",
+        "recw: terms A at byte 1\n",
+    ),
+    (
+        &["eval", "-e", ""],
+        ADDITION,
+        1,
+        "!terms A\n",
+        "recw: terms A at byte 0\n",
+    ),
+    (
+        &["eval", "-e", "z", "-e", "z]", "-e", "["],
+        ADDITION,
+        1,
+        "!terms A\n",
+        "recw: terms A at byte 1\n",
+    ),
+    (
+        &["eval", "-e", "("],
+        "REC-SPEC E SORTS : END-SPEC",
+        1,
+        "!spec G\n",
+        "recw: spec G at byte 17\n",
+    ),
+    (&["eval", "-e", "[z]"], ADDITION, 1, "!terms T2\n", ""),
+    (
+        &["eval", "-e", "z", "--explain", "-e", "s(z"],
+        ADDITION,
+        1,
+        "!terms A\n",
+        "recw: terms A at byte 3\n\
+         -e 2:1:4: A: no annotated term has this here; the text ends here; \
+         expected `(`, `)`, `{` or `,`\n    s(z\n       ^\n",
+    ),
+    (
+        &["eval", "-e", "z", "--explain", "-e", "s(z,z)"],
+        ADDITION,
+        1,
+        "!terms T5\n",
+        "-e 2:1:1: T5: a node has another number of arguments than declared; \
+         s takes 1 argument, here 2\n    s(z,z)\n    ^\n",
+    ),
+    (&["aterm", "-"], "f ( a )", 0, "f(a)\n", ""),
+    (&["share", "-"], "a", 0, "a\ncells 2\n", ""),
+    (
+        &["match", "-", "-"],
+        "a",
+        1,
+        "!pattern A\n",
+        "recw: pattern A at byte 0\n",
+    ),
+    (&["match", "a", "-"], "a", 0, "yes\n", ""),
+];
+
+/// A specification, and a text that is none.
+pub(crate) const FILES: Shelf = Shelf {
+    spec: ADDITION,
+    terms: "[s(z",
+};
+
+/// Words that give terms to a specification in a file, where the standard input may not be asked.
+pub(crate) const NAMED: &[Row] = &[
+    (
+        &["eval", "spec", "-e", "plus(s(z),z)"],
+        "",
+        0,
+        "s(s(s(z)))\ns(z)\n",
+        "",
+    ),
+    (&["eval", "spec", "-"], "", 4, "", "recw: read failed\n"),
+    (&["eval", "-", "spec"], "", 4, "", "recw: read failed\n"),
+    (
+        &["eval", "--explain", "spec", "-"],
+        "",
+        4,
+        "",
+        "recw: read failed\n<stdin>: other error\n",
+    ),
+    (
+        &["eval", "--explain", "spec", "terms"],
+        "",
+        1,
+        "!terms A\n",
+        "recw: terms A at byte 4\n\
+         terms:1:5: A: no annotated term has this here; the text ends here; \
+         expected `(`, `)`, `{` or `,`\n    [s(z\n        ^\n",
+    ),
+];

@@ -1,0 +1,53 @@
+//! Statuses that tell what came of a run.
+
+use crate::tests::{ADDITION, Row};
+
+/// Matches and evaluations whose status tells more.
+pub(crate) const STATUSES: &[Row] = &[
+    (&["match", "--test", "f(<int>)"], "f(1)", 0, "yes\n1\n", ""),
+    (&["match", "f(<int>)", "--test"], "f(a)", 1, "no\n", ""),
+    (&["match", "--test", "<foo>"], "a", 2, "!pattern P1\n", ""),
+    (
+        &["match", "--test", "a"],
+        "f(",
+        2,
+        "!term A\n",
+        "recw: term A at byte 2\n",
+    ),
+    (
+        &["match", "--test", "a", "no such file"],
+        "",
+        4,
+        "",
+        "recw: read failed\n",
+    ),
+    (&["eval", "--limit-status"], ADDITION, 0, "s(s(s(z)))\n", ""),
+    (
+        &["eval", "--limit-status", "--steps", "2"],
+        ADDITION,
+        5,
+        "!limit 2\n",
+        "",
+    ),
+    (
+        &["eval", "--limit-status", "--steps", "2", "-e", "z"],
+        ADDITION,
+        5,
+        "!limit 2\nz\n",
+        "",
+    ),
+    (
+        &["eval", "--limit-status"],
+        "REC-SPEC E SORTS : END-SPEC",
+        1,
+        "!spec G\n",
+        "recw: spec G at byte 17\n",
+    ),
+    (
+        &["eval", "--limit-status", "--cells", "3"],
+        ADDITION,
+        3,
+        "",
+        "recw: out of cells\n",
+    ),
+];

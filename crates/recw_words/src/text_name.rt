@@ -1,0 +1,39 @@
+//! What a text is called.
+
+use std::io;
+use std::io::Write;
+
+/// What a text is called.
+#[derive(Clone, Copy)]
+pub enum TextName<'a> {
+    /// A path, or a name of the program's own.
+    Path(&'a str),
+    /// The word behind the option `-e` that stands behind so many others of them.
+    Word(usize),
+}
+
+impl TextName<'_> {
+    /// Writes the name, each control character by its number.
+    pub fn write<W: Write>(self, out: &mut W) -> io::Result<()> {
+        match self {
+            TextName::Path(path) => write_visible(path, out),
+            TextName::Word(before) => {
+                let number = before.saturating_add(1);
+                write!(out, "-e {number}")
+            }
+        }
+    }
+}
+
+/// Writes a text, each control character by its number.
+pub fn write_visible<W: Write>(text: &str, out: &mut W) -> io::Result<()> {
+    for letter in text.chars() {
+        if letter.is_control() {
+            let number = u32::from(letter);
+            write!(out, "\\x{number:02x}")?;
+        } else {
+            write!(out, "{letter}")?;
+        }
+    }
+    Ok(())
+}
