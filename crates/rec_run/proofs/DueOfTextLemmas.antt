@@ -15,7 +15,8 @@ use Rattle.rec_syntax.proofs.VerdictLemmas.{comes_of, read_spells, stops_at_plac
 use Rattle.rec_sorts.specs.SpecRules as rules
 use Rattle.rec_sorts.specs.SpecRules.{Verdict, Long, Grammar, Breaks, Good, SpecVerdict, fault, Fits}
 use Rattle.rec_sorts.specs.TermRules.{broken_by_terms, elements}
-use Rattle.rec_run.specs.Output.{Due, IsDue, IsDueAfter, due_of_spec, due_of_terms, TermsVerdict, Outside, BreaksTerms, GoodTerms, IsTermsVerdict}
+use Rattle.rx_run.specs.Due.{Due}
+use Rattle.rec_run.specs.Output.{IsDue, IsDueAfter, due_of_spec, due_of_terms, TermsVerdict, Outside, BreaksTerms, GoodTerms, IsTermsVerdict}
 use Rattle.rec_run.proofs.WholeRunLemmas.{after_spec}
 
 -- the verdict on a specification that is read

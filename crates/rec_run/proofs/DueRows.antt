@@ -3,18 +3,17 @@ use Rattle.std.proofs.Common.{refl, arith}
 use Rattle.std.specs.Prelude.{ℕ, length, List, [], ◌∷◌, codes, ◌≡◌, true, false, Option, Some, None}
 use Rattle.std.specs.Fmt.{digits}
 use Rattle.rx_term.specs.Tree.{Tree, Appl, none, more}
-use Rattle.rx_text.specs.Verdict as term
 use Rattle.rec_syntax.specs.Syntax.{Spec}
 use Rattle.rec_sorts.specs.SpecRules.{fault, Long, Grammar, Breaks, Good, Fits, SpecVerdict}
 use Rattle.rec_sorts.specs.TermRules.{broken_by_terms, elements}
 use Rattle.rec_sorts.specs.Evaluation.{Eval}
-use Rattle.rec_run.specs.Output.{Due, due_of_spec, due_of_terms, TooLong, Outside, BreaksTerms, GoodTerms, IsTermsVerdict, IsDueAfter}
-use Rattle.rec_run.specs.TermRuns.{due_of, term_line, share_lines, IsTermDue, IsShareDue}
-use Rattle.rec_run.specs.declared.ending.Finish.{Finish}
-use Rattle.rec_run.specs.declared.ending.Finish.TheVariants.{Done, Refused}
-use Rattle.rec_run.specs.declared.ending.Source.TheVariants as source
-use Rattle.rec_run.specs.declared.ending.Named.TheVariants as named
-use Rattle.rec_run.specs.declared.ending.Place.{Place}
+use Rattle.rx_run.specs.Due.{Due}
+use Rattle.rec_run.specs.Output.{due_of_spec, due_of_terms, TooLong, Outside, BreaksTerms, GoodTerms, IsTermsVerdict, IsDueAfter}
+use Rattle.rx_run.specs.declared.ending.Finish.{Finish}
+use Rattle.rx_run.specs.declared.ending.Finish.TheVariants.{Done, Refused}
+use Rattle.rx_run.specs.declared.ending.Source.TheVariants as source
+use Rattle.rx_run.specs.declared.ending.Named.TheVariants as named
+use Rattle.rx_run.specs.declared.ending.Place.{Place}
 use Rattle.rec_run.proofs.TermRows.{q}
 
 abbrev due : Finish → List ℕ → Option Place → Due
@@ -66,27 +65,6 @@ good_terms-counted = refl
 terms_unread : (terms : List ℕ) (d : Due) → IsDueAfter (Grammar 17) (Some terms) true 7 d → d ≡ due Refused (codes "!spec G\n") (Some (record { text = source.Spec; rule = named.G; at = 17 }))
 terms_unread terms d h = h
 
-long_term : due_of term_line term.TooLong ≡ due Refused (codes "!term L1\n") None
-long_term = refl
-
-term_outside : due_of term_line (term.Outside 4) ≡ due Refused (codes "!term A\n") (Some (record { text = source.Term; rule = named.A; at = 4 }))
-term_outside = refl
-
--- f(a,a)
-abbrev shared : Tree
-shared = Appl (codes "f") false (more a (more a none)) none
-
-printed : due_of term_line (term.Spelt shared) ≡ due Done (codes "f(a,a)\n") None
-printed = refl
-
-counted : due_of share_lines (term.Spelt shared) ≡ due Done (codes "f(a,a)\ncells 5\n") None
-unfolding digits
-counted = refl
-
-counted-annotated : due_of share_lines (term.Spelt (Appl (codes "a") false none (more b none))) ≡ due Done (codes "a{b}\ncells 4\n") None
-unfolding digits
-counted-annotated = refl
-
 -- 16777216 bytes are not too many, and one more is
 at_the_limit : (bytes : List ℕ) → length bytes ≡ 16777216 → Fits bytes
 at_the_limit bytes e = omega (arith, e)
@@ -112,11 +90,3 @@ good_keeps_rules bytes y h = h.2
 
 good_terms_keep_rules : (y : Spec) (bytes : List ℕ) (ts : List Tree) → IsTermsVerdict y bytes (GoodTerms ts) → (t : Tree) × (broken_by_terms y t ≡ None) × (elements t ≡ Some ts)
 good_terms_keep_rules y bytes ts h = (h.1.0, h.1.2, h.1.3)
-
--- what is due where a term is printed, and where its parts are counted too
-print_due : (bytes : List ℕ) → term.IsVerdict bytes (term.Spelt shared) → IsTermDue bytes (due Done (codes "f(a,a)\n") None)
-print_due bytes h = (term.Spelt shared, h, refl)
-
-share_due : (bytes : List ℕ) → term.IsVerdict bytes (term.Spelt shared) → IsShareDue bytes (due Done (codes "f(a,a)\ncells 5\n") None)
-unfolding digits
-share_due bytes h = (term.Spelt shared, h, refl)

@@ -27,16 +27,16 @@ use Rattle.rec_engine.specs.declared.engine.Outcome.TheVariants.{Value, Limit}
 use Rattle.rec_memo.specs.Pairs.{Pairs}
 use Rattle.rec_run.specs.EvaluatedLines.{LineLacks, ProtectsTerms, RunLacks, due_before, outcome_text, fault_after}
 use Rattle.rec_run.specs.GivenTerms.{HoldsTerms, given_at, given_text, item_at}
-use Rattle.rec_run.specs.Output.{steps_text}
+use Rattle.rx_run.specs.Due.{steps_text}
 use Rattle.rec_run.specs.Reading.{line_text, evaluation_text, term_at, text_at}
-use Rattle.rec_run.specs.Run.{Reports, ReportsAfter, Stops, StopsAfter}
-use Rattle.rec_run.specs.declared.ending.RunFault.{RunFault}
-use Rattle.rec_run.specs.declared.ending.RunFault.TheVariants as run
+use Rattle.rx_run.specs.Run.{Reports, ReportsAfter, Stops, StopsAfter}
+use Rattle.rx_run.specs.declared.ending.RunFault.{RunFault}
+use Rattle.rx_run.specs.declared.ending.RunFault.TheVariants as run
 use Rattle.rec_run.specs.declared.spec.lines.LineFault.{LineFault}
 use Rattle.rec_run.specs.declared.spec.lines.LineFault.TheVariants.{Memory, Room, Write}
 use Rattle.rec_run.proofs.GivenLemmas.{all_trees, annotations_trees, notes-newlines}
 use Rattle.rec_run.proofs.GivenListLemmas.{FrontAt}
-use Rattle.rec_run.proofs.LineFrontLemmas.{NoEnds, ends_before, front_in_line, front_in_lines, lines_of}
+use Rattle.rx_run.proofs.LineFrontLemmas.{NoEnds, ends_before, front_in_line, front_in_lines, lines_of}
 use Rattle.rec_run.proofs.SpecLineLemmas.{given_text-newlines}
 use Rattle.rx_text.proofs.AppendingLemmas.{appends_both, appends_same, front_before}
 

@@ -15,26 +15,30 @@ use Rattle.rec_sorts.specs.TermsFaults.{IsTermsFault}
 use Rattle.rec_sorts.specs.declared.fault.TermsFault.{TermsFault}
 use Rattle.rec_sorts.specs.declared.fault.TermsFault.TheVariants as rule
 use Rattle.rec_run.specs.GivenTerms.{EndsRefused, HoldsList, HoldsTerms, IsListRead, IsReadAs, IsReadFor, IsReadFrom, IsReady, IsRefusal, IsRefused, OnGoodSpec, OnRefusedSpec, job_alone_of, job_of, list_refused}
-use Rattle.rec_run.specs.TermRuns.{IsReadingOf}
-use Rattle.rec_run.specs.Output.{GoodTerms, BreaksTerms, TooLong, Outside, TermsVerdict, IsTermsVerdict, done, lines}
-use Rattle.rec_run.specs.Reading.{IsGood, IsSpecRead, IsSpecReading, fault_of_read}
-use Rattle.rec_run.specs.Refusals.{refusal_due, refused_spec, refused_text}
+use Rattle.rx_run.specs.TermRuns.{IsReadingOf}
+use Rattle.rx_run.specs.Due.{done}
+use Rattle.rec_run.specs.Output.{GoodTerms, BreaksTerms, TooLong, Outside, TermsVerdict, IsTermsVerdict, lines}
+use Rattle.rx_run.specs.Run.{fault_of_read}
+use Rattle.rec_run.specs.Reading.{IsGood, IsSpecRead, IsSpecReading}
+use Rattle.rx_run.specs.Refusals.{refusal_due, refused_text}
+use Rattle.rec_run.specs.Reading.{refused_spec}
 use Rattle.rec_run.specs.Run.{HasRoom, both_texts}
-use Rattle.rec_run.specs.declared.ending.RunFault.{RunFault}
-use Rattle.rec_run.specs.declared.ending.RunFault.TheVariants as fault
-use Rattle.rec_run.specs.declared.ending.Source.TheVariants as source
-use Rattle.rec_run.specs.declared.refusal.Reading.{Reading}
-use Rattle.rec_run.specs.declared.refusal.Reading.TheVariants.{Good as GoodSpec, Refused as RefusedSpec}
-use Rattle.rec_run.specs.declared.refusal.Reading.TheVariants.{Good as GoodRun, Refused as RefusedRun}
-use Rattle.rec_run.specs.declared.refusal.Reason.TheVariants as reason
-use Rattle.rec_run.specs.declared.refusal.Refusal.{Refusal}
-use Rattle.rec_run.specs.declared.streams.ReadFault.{ReadFault}
-use Rattle.rec_run.specs.declared.streams.ReadFault.TheVariants as unreadable
-use Rattle.rec_run.specs.declared.streams.TheConstants.{LIMIT}
+use Rattle.rx_run.specs.declared.ending.RunFault.{RunFault}
+use Rattle.rx_run.specs.declared.ending.RunFault.TheVariants as fault
+use Rattle.rx_run.specs.declared.ending.Source.TheVariants as source
+use Rattle.rx_run.specs.declared.refusal.Reading.{Reading}
+use Rattle.rx_run.specs.declared.refusal.Reading.TheVariants.{Good as GoodSpec, Refused as RefusedSpec}
+use Rattle.rx_run.specs.declared.refusal.Reading.TheVariants.{Good as GoodRun, Refused as RefusedRun}
+use Rattle.rx_run.specs.declared.refusal.Reason.TheVariants as reason
+use Rattle.rx_run.specs.declared.refusal.Refusal.{Refusal}
+use Rattle.rx_run.specs.declared.streams.ReadFault.{ReadFault}
+use Rattle.rx_run.specs.declared.streams.ReadFault.TheVariants as unreadable
+use Rattle.rx_run.specs.declared.streams.TheConstants.{LIMIT}
 use Rattle.rec_run.specs.declared.spec.reading.Job.{Job}
 use Rattle.rec_run.proofs.GivenLemmas.{given_elements, holds_terms, kept_elements}
 use Rattle.rec_run.proofs.OneDueLemmas.{one_verdict}
-use Rattle.rec_run.proofs.WholeRunLemmas.{after_refusal, same_refusal, short_front}
+use Rattle.rx_run.proofs.WholeRunLemmas.{same_refusal, short_front}
+use Rattle.rec_run.proofs.WholeRunLemmas.{after_refusal}
 
 -- one byte past the limit is enough for the verdict
 terms_front : (y : Spec) (bytes : List ℕ) (v : TermsVerdict) → IsTermsVerdict y (take (LIMIT + 1) bytes) v → IsTermsVerdict y bytes v

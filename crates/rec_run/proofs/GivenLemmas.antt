@@ -13,10 +13,10 @@ use Rattle.rx_text.proofs.CuttingLemmas.{and_parts}
 use Rattle.rx_text.proofs.InLineLemmas.{stays_in_line}
 use Rattle.rec_syntax.specs.Syntax.{Spec}
 use Rattle.rec_sorts.specs.TermRules.{elements, first_passed, broken_by_elements, broken_by_terms}
-use Rattle.rec_run.specs.Bytes.{newlines}
+use Rattle.rx_run.specs.Bytes.{newlines}
 use Rattle.rec_run.specs.GivenTerms.{HoldsTerms, given_at, notes_text}
-use Rattle.rec_run.proofs.LineEndLemmas.{newlines-append}
-use Rattle.rec_run.proofs.TermDueLemmas as due
+use Rattle.rx_run.proofs.NewlineLemmas.{newlines-append}
+use Rattle.rx_run.proofs.TermDueLemmas as due
 
 either_false : (a b : Bool) → a || b ≡ false → (a ≡ false) × (b ≡ false)
 either_false true b e = absurd (cc e)

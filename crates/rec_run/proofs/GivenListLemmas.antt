@@ -20,7 +20,7 @@ use Rattle.rx_term.proofs.TreeLemmas.{tree_eq-Decides, to_from_list, length-to_l
 use Rattle.rec_syntax.specs.Syntax.{Spec}
 use Rattle.rec_sorts.specs.TermRules.{nodes, nodes_all, arguments, first_passed, is_no_application, is_annotated, is_undeclared, is_ill_filled, is_ill_sorted, broken_by_elements}
 use Rattle.rec_engine.specs.Engine.{IsGround}
-use Rattle.rec_run.proofs.CountedPartLemmas.{different, listed, tree_equivalence, trees}
+use Rattle.rx_run.proofs.CountedPartLemmas.{different, listed, tree_equivalence, trees}
 use Rattle.rec_run.proofs.GivenLemmas.{any_parts, got_at, not_passed}
 
 -- ---- each term is ground

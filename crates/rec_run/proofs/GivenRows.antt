@@ -3,11 +3,11 @@ use Rattle.std.proofs.Common.{refl}
 use Rattle.std.specs.Prelude.{ℕ, List, [], ◌∷◌, Bool, codes, true, false, Option, Some, None}
 use Rattle.std.specs.Fmt.{digits}
 use Rattle.rec_sorts.specs.Evaluation.{Eval}
-use Rattle.rec_run.specs.Output.{Due}
-use Rattle.rec_run.specs.declared.ending.Finish.TheVariants.{Done, Refused}
-use Rattle.rec_run.specs.declared.ending.Named.TheVariants.{A, S}
-use Rattle.rec_run.specs.declared.ending.Place.{Place}
-use Rattle.rec_run.specs.declared.ending.Source.TheVariants.{Spec, Terms}
+use Rattle.rx_run.specs.Due.{Due}
+use Rattle.rx_run.specs.declared.ending.Finish.TheVariants.{Done, Refused}
+use Rattle.rx_run.specs.declared.ending.Named.TheVariants.{A, S}
+use Rattle.rx_run.specs.declared.ending.Place.{Place}
+use Rattle.rx_run.specs.declared.ending.Source.TheVariants.{Spec, Terms}
 use Rattle.rec_run.proofs.DueOfTextLemmas.{AreDue, Row, rows_due}
 
 -- these lines are due

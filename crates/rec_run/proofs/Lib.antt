@@ -1,11 +1,7 @@
-mod ReadLemmas
-mod ErrorLemmas
 mod OneDueLemmas
 mod LineEndLemmas
-mod LineFrontLemmas
 mod SpecLineLemmas
 mod WholeRunLemmas
-mod ReadDueLemmas
 mod RunEndLemmas
 mod GivenDueLemmas
 mod GivenLemmas
@@ -18,10 +14,4 @@ pub mod FaultLemmas
 mod TermRows
 mod DueRows
 mod GivenRows
-mod CountedPartLemmas
-mod PatternDueLemmas
-mod PatternLineLemmas
-mod PatternRows
-mod PatternTermLemmas
 mod RefusedItemLemmas
-mod TermDueLemmas

@@ -1,11 +1,10 @@
 -- What the text of a line has no line end in.
-use Rattle.std.proofs.Common.{◌≡◌, ℕ, ◌+◌, ◌/◌, ◌%◌, ◌<◌, ◌^◌, Bool, true, false, not, ◌&&◌, ◌||◌, ◌==◌, cond, List, [], ◌∷◌, ◌++◌, refl, arith, nat_eq}
+use Rattle.std.proofs.Common.{◌≡◌, ℕ, ◌+◌, ◌/◌, ◌%◌, ◌<◌, ◌^◌, Bool, true, false, not, ◌&&◌, ◌||◌, ◌==◌, cond, List, [], ◌∷◌, ◌++◌, refl, arith}
 use Rattle.std.specs.Prelude.{decimal, codes, flat_map, nat_le}
 use Rattle.std.specs.List.{list_all}
 use Rattle.std.specs.Str.Parse.{AllDigits}
 use Rattle.std.proofs.lemmas.Fmt.{decimal_is_IsNumeral}
 use Rattle.std.proofs.lemmas.Str.Parse.{digit_from_value}
-use Rattle.std.proofs.lemmas.List.Sums.{sum_by-append}
 use Rattle.std.proofs.lemmas.Bool.Decides.{nat_tests}
 use Rattle.std.proofs.lemmas.Bool.{leb-true}
 use Rattle.rx_term.specs.Tree.{Tree, Trees, Int, Appl, Items, Hole, none, more}
@@ -13,15 +12,9 @@ use Rattle.rx_term.specs.Name.{plain_name, is_empty, starts_name, continues_name
 use Rattle.rx_text.specs.Canon.{canon, canon_all, canon_others, enclosed, name_text, no_arguments, quoted_byte, octal_text}
 use Rattle.rx_text.proofs.CuttingLemmas.{and_parts}
 use Rattle.rx_text.proofs.InLineLemmas.{seen, letter_seen, continuing_seen}
-use Rattle.rec_run.specs.Bytes.{newlines}
+use Rattle.rx_run.specs.Bytes.{newlines}
+use Rattle.rx_run.proofs.NewlineLemmas.{no_ends}
 use Rattle.rec_engine.proofs.ValueTreeLemmas.{IsApplied, AreApplied}
-
-pub newlines-append : (xs ys : List ℕ) → newlines (xs ++ ys) ≡ newlines xs + newlines ys
-newlines-append xs ys = sum_by-append (λ b. cond (nat_eq b 10) 1 0) xs ys
-
--- two texts without line ends
-pub no_ends : (xs ys : List ℕ) → newlines xs ≡ 0 → newlines ys ≡ 0 → newlines (xs ++ ys) ≡ 0
-no_ends xs ys h k = let e = newlines-append xs ys in omega (arith, e, h, k)
 
 above_end : (b : ℕ) (bs : List ℕ) → 10 < b → newlines bs ≡ 0 → newlines (b ∷ bs) ≡ 0
 above_end b bs h k = grind (arith, nat_tests, h, k)

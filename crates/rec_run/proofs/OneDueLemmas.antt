@@ -8,7 +8,8 @@ use Rattle.rec_syntax.proofs.PlaceLemmas.{one_place, not_both}
 use Rattle.rec_syntax.proofs.DecidingLemmas.{one_reading}
 use Rattle.rec_sorts.specs.SpecRules.{Verdict, Long, Grammar, Breaks, Good, SpecVerdict, Fault, fault}
 use Rattle.rec_sorts.specs.TermRules.{broken_by_terms, elements}
-use Rattle.rec_run.specs.Output.{Due, IsDueAfter, due_of_terms, TermsVerdict, TooLong, Outside, BreaksTerms, GoodTerms, IsTermsVerdict}
+use Rattle.rx_run.specs.Due.{Due}
+use Rattle.rec_run.specs.Output.{IsDueAfter, due_of_terms, TermsVerdict, TooLong, Outside, BreaksTerms, GoodTerms, IsTermsVerdict}
 use Rattle.rec_run.specs.Laws.{OneDue}
 
 -- two answers to one question

@@ -2,10 +2,10 @@
 use Rattle.std.proofs.Common.{refl}
 use Rattle.std.specs.Prelude.{ℕ, List, [], ◌∷◌, codes, false, None, Some}
 use Rattle.std.specs.Fmt.{digits}
-use Rattle.rec_run.specs.Output.{refused}
-use Rattle.rec_run.specs.declared.ending.Named.{Named}
-use Rattle.rec_run.specs.declared.ending.Named.TheVariants.{G, S}
-use Rattle.rec_run.specs.declared.ending.Source.TheVariants.{Spec}
+use Rattle.rx_run.specs.Due.{refused}
+use Rattle.rx_run.specs.declared.ending.Named.{Named}
+use Rattle.rx_run.specs.declared.ending.Named.TheVariants.{G, S}
+use Rattle.rx_run.specs.declared.ending.Source.TheVariants.{Spec}
 use Rattle.rec_run.proofs.DueOfTextLemmas.{AreDue, Row, rows_due}
 
 -- a text that is refused by this name and rule, at a place

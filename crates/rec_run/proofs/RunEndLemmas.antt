@@ -1,11 +1,12 @@
 -- What a run leaves, by what was written before it ended.
 use Rattle.std.proofs.Common.{◌≡◌, ℕ, List, Option, Result, Ok, Err, IfErr, IfOk, OnOk, inl, inr, sym, subst}
 use Rattle.std.specs.Io.KnownBytes.{Appends}
-use Rattle.rec_run.specs.Run.{EndsBehind, Stops}
-use Rattle.rec_run.specs.declared.ending.Finish.{Finish}
-use Rattle.rec_run.specs.declared.ending.RunFault.{RunFault}
-use Rattle.rec_run.specs.declared.ending.RunFault.TheVariants.{Write}
-use Rattle.rec_run.proofs.ReadDueLemmas.{appends_flushed, flush_refused}
+use Rattle.rx_run.specs.Run.{Stops}
+use Rattle.rec_run.specs.Run.{EndsBehind}
+use Rattle.rx_run.specs.declared.ending.Finish.{Finish}
+use Rattle.rx_run.specs.declared.ending.RunFault.{RunFault}
+use Rattle.rx_run.specs.declared.ending.RunFault.TheVariants.{Write}
+use Rattle.rx_run.proofs.ReadDueLemmas.{appends_flushed, flush_refused}
 
 module _ (finish : Finish) (mid new : Option (List ℕ)) where
   -- it ended as was said

@@ -6,13 +6,15 @@ use Rattle.rx_term.specs.Tree.{Tree, Trees, Int, Appl, Items, Hole, annotated, a
 use Rattle.rx_text.specs.Canon.{canon, canon_all, enclosed, name_text, no_arguments}
 use Rattle.rec_syntax.specs.Syntax.{Term, Spec}
 use Rattle.rec_sorts.specs.Evaluation.{Outcome, Done, Over, Eval, term_of}
-use Rattle.rec_run.specs.Bytes.{newlines}
+use Rattle.rx_run.specs.Bytes.{newlines}
 use Rattle.rec_run.specs.GivenTerms.{given_lines, given_text, notes_text}
-use Rattle.rec_run.specs.Output.{Task, lines, line, steps_text}
+use Rattle.rx_run.specs.Due.{steps_text}
+use Rattle.rec_run.specs.Output.{Task, lines, line}
 use Rattle.rec_run.specs.Reading.{evaluation_text, line_text}
 use Rattle.rec_engine.proofs.ValueTreeLemmas.{value_is_applied, applied_unannotated}
-use Rattle.rec_run.proofs.LineEndLemmas.{no_ends, canon-newlines, decimal-newlines}
-use Rattle.rec_run.proofs.LineFrontLemmas.{lines_of, newlines-lines_of, NoEnds}
+use Rattle.rx_run.proofs.NewlineLemmas.{no_ends}
+use Rattle.rec_run.proofs.LineEndLemmas.{canon-newlines, decimal-newlines}
+use Rattle.rx_run.proofs.LineFrontLemmas.{lines_of, newlines-lines_of, NoEnds}
 
 -- a line is its text and a line end
 abbrev own : Term → Task

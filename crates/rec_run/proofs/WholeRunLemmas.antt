@@ -1,47 +1,23 @@
 -- From what the texts of a run came to to what is due.
-use Rattle.std.proofs.Common.{ap, ◌≡◌, ℕ, ◌+◌, ◌≤◌, Bool, List, [], Option, Some, None, IfSome, length, take, take_all, refl, subst, sym, arith}
+use Rattle.std.proofs.Common.{ap, ◌≡◌, ℕ, ◌+◌, Bool, List, Option, Some, None, IfSome, take, refl, subst, sym, arith}
 use Rattle.std.proofs.lemmas.List.{length-take}
-use Rattle.std.specs.Io.KnownBytes.{Appends}
 use Rattle.rec_syntax.specs.Syntax.{Sourced}
 use Rattle.rec_sorts.specs.SpecRules as verdict
 use Rattle.rec_sorts.specs.SpecRules.{Verdict, SpecVerdict}
 use Rattle.rx_term.specs.Store.{Store}
-use Rattle.rec_run.specs.Output.{Due, IsDueAfter, due_of_spec}
+use Rattle.rx_run.specs.Due.{Due}
+use Rattle.rec_run.specs.Output.{IsDueAfter, due_of_spec}
 use Rattle.rec_run.specs.GivenTerms.{IsReadFrom, IsReady, job_alone_of, run_due}
-use Rattle.rec_run.specs.Reading.{IsSpecRead}
-use Rattle.rec_run.specs.Refusals.{refusal_due, refused_spec}
-use Rattle.rec_run.specs.Run.{BreaksFor, EndsFor, IsDueFor, IsPlacedFor, Reports, Stops, Texts, both_texts}
-use Rattle.rec_run.specs.declared.ending.Finish.{Finish}
-use Rattle.rec_run.specs.declared.ending.Place.{Place}
-use Rattle.rec_run.specs.declared.ending.RunFault.{RunFault}
-use Rattle.rec_run.specs.declared.refusal.Reading.{Reading}
-use Rattle.rec_run.specs.declared.refusal.Reading.TheVariants.{Refused, Good}
-use Rattle.rec_run.specs.declared.refusal.Refusal.{Refusal}
-use Rattle.rec_run.specs.declared.streams.TheConstants.{LIMIT}
+use Rattle.rec_run.specs.Reading.{IsSpecRead, refused_spec}
+use Rattle.rx_run.specs.Refusals.{refusal_due}
+use Rattle.rec_run.specs.Run.{IsDueFor, Texts, both_texts}
+use Rattle.rx_run.specs.declared.refusal.Reading.{Reading}
+use Rattle.rx_run.specs.declared.refusal.Reading.TheVariants.{Refused, Good}
+use Rattle.rx_run.specs.declared.refusal.Refusal.{Refusal}
+use Rattle.rx_run.specs.declared.streams.TheConstants.{LIMIT}
 use Rattle.rec_run.specs.declared.spec.reading.Job.{Job}
 use Rattle.rec_run.proofs.OneDueLemmas.{one_due}
-use Rattle.rx_text.proofs.AppendingLemmas.{appends_same}
-
--- ---- what a run leaves, by what is due
-
-module _ {T : Type 0} (IsDue : T → Due → Type 0) where
-  pub ends_due : (texts : Option T) (d : Due) (finish : Finish) (old new : Option (List ℕ)) → IfSome texts (λ x. IsDue x d) → d.finish ≡ finish → Appends old new d.text → EndsFor IsDue texts finish old new
-  ends_due None d finish old new h e w = tt
-  ends_due (Some x) d finish old new h e w = record { due = d; is_due = h; ends = e; written = w }
-
-  pub placed_due : (texts : Option T) (d : Due) (place : Option Place) → IfSome texts (λ x. IsDue x d) → d.place ≡ place → IsPlacedFor IsDue texts place
-  placed_due None d place h e = tt
-  placed_due (Some x) d place h e = record { due = d; is_due = h; placed = e }
-
-  -- where one thing is due at most
-  pub breaks_due : ((x : T) (d e : Due) → IsDue x d → IsDue x e → d ≡ e) → (texts : Option T) (d : Due) (fault : RunFault) (old new : Option (List ℕ)) → IfSome texts (λ x. IsDue x d) → Stops fault d.text old new → BreaksFor IsDue texts fault old new
-  breaks_due one None d fault old new h s = tt
-  breaks_due one (Some x) d fault old new h s = λ e is. subst (λ (z : Due). Stops fault z.text old new) (one x d e h is) s
-
-  -- nothing was written
-  pub breaks_unwritten : (texts : Option T) (fault : RunFault) (old : Option (List ℕ)) → Reports fault [] → BreaksFor IsDue texts fault old old
-  breaks_unwritten None fault old r = tt
-  breaks_unwritten (Some x) fault old r = λ d is. record { written = []; appended = appends_same old; front = (d.text, refl); reported = r }
+use Rattle.rx_run.proofs.WholeRunLemmas.{same_refusal, short_front}
 
 -- one thing is due for the texts of a run
 pub one_due_for : (counted : Bool) (n : ℕ) (texts : Texts) (d e : Due) → IsDueFor counted n texts d → IsDueFor counted n texts e → d ≡ e
@@ -54,10 +30,6 @@ due_for w counted n (Some t) r h = h counted n
 
 -- ---- the text of a specification
 
--- a front within the limit is the whole text
-pub short_front : (bytes : List ℕ) → length (take (LIMIT + 1) bytes) ≤ LIMIT → take (LIMIT + 1) bytes ≡ bytes
-short_front bytes h = take_all (LIMIT + 1) bytes (let e = length-take (LIMIT + 1) bytes in omega (arith, e, h))
-
 -- one byte past the limit is enough for the verdict
 verdict_front : (bytes : List ℕ) (v : Verdict) → SpecVerdict (take (LIMIT + 1) bytes) v → SpecVerdict bytes v
 verdict_front bytes verdict.Long h = let e = length-take (LIMIT + 1) bytes in omega (arith, e, h)
@@ -69,10 +41,6 @@ verdict_front bytes (verdict.Good y) h = subst (λ text. SpecVerdict text (verdi
 pub spec_read : (known : Option (List ℕ)) (text : List ℕ) (r : Reading Sourced) → IfSome known (λ bytes. text ≡ take (LIMIT + 1) bytes) → IsSpecRead text r → IfSome known (λ bytes. IsSpecRead bytes r)
 spec_read None text r e h = tt
 spec_read (Some bytes) text r e (v, h, is) = (v, verdict_front bytes v (subst (λ t. SpecVerdict t v) e h), is)
-
--- two refusals that are one
-pub same_refusal : {a b : Refusal} → Some a ≡ Some b → b ≡ a
-same_refusal e = cc e
 
 -- a refused specification is all that counts
 pub after_refusal : (v : Verdict) (r : Refusal) (terms : Option (List ℕ)) (counted : Bool) (n : ℕ) → refused_spec v ≡ Some r → IsDueAfter v terms counted n (refusal_due r)

@@ -19,10 +19,10 @@ use Rattle.rec_engine.specs.declared.engine.Options.{Options}
 use Rattle.rec_engine.specs.declared.engine.Outcome.{Outcome}
 use Rattle.rec_engine.specs.declared.engine.Outcome.TheVariants.{Value, Limit}
 use Rattle.rec_run.specs.GivenTerms.{HoldsTerms, item_at}
-use Rattle.rec_run.specs.Output.{steps_text}
-use Rattle.rec_run.specs.declared.ending.RunFault.{RunFault}
-use Rattle.rec_run.specs.declared.ending.RunOptions.{RunOptions}
-use Rattle.rec_run.specs.declared.ending.RunFault.TheVariants as run
+use Rattle.rx_run.specs.Due.{steps_text}
+use Rattle.rx_run.specs.declared.ending.RunFault.{RunFault}
+use Rattle.rec_run.specs.declared.options.RunOptions.{RunOptions}
+use Rattle.rx_run.specs.declared.ending.RunFault.TheVariants as run
 use Rattle.rec_run.specs.declared.spec.lines.LineFault.{LineFault}
 use Rattle.rec_run.specs.declared.spec.lines.LineFault.TheVariants.{Memory, Room, Write}
 

@@ -18,16 +18,17 @@ use Rattle.rec_sorts.specs.TermRules.{broken_by_elements, elements}
 use Rattle.rec_sorts.specs.Evaluation.{Eval, term_of}
 use Rattle.rec_sorts.specs.declared.fault.TermsFault.{TermsFault}
 use Rattle.rec_sorts.specs.declared.fault.TermsFault.TheVariants as rule
-use Rattle.rec_run.specs.Output.{Due, IsDueAfter, done, lines}
+use Rattle.rx_run.specs.Due.{Due, done}
+use Rattle.rec_run.specs.Output.{IsDueAfter, lines}
 use Rattle.rec_run.specs.Reading.{evaluation_text}
-use Rattle.rec_run.specs.Refusals.{reading_due}
+use Rattle.rx_run.specs.Refusals.{reading_due}
 use Rattle.rec_run.specs.Run.{HasRoom, IsDueFor, Texts}
-use Rattle.rec_run.specs.declared.ending.RunFault.{RunFault}
-use Rattle.rec_run.specs.declared.ending.RunFault.TheVariants as fault
-use Rattle.rec_run.specs.declared.ending.Source.TheVariants as source
-use Rattle.rec_run.specs.declared.refusal.Reading.{Reading}
-use Rattle.rec_run.specs.declared.refusal.Reading.TheVariants as reading
-use Rattle.rec_run.specs.declared.refusal.Reason.TheVariants as reason
+use Rattle.rx_run.specs.declared.ending.RunFault.{RunFault}
+use Rattle.rx_run.specs.declared.ending.RunFault.TheVariants as fault
+use Rattle.rx_run.specs.declared.ending.Source.TheVariants as source
+use Rattle.rx_run.specs.declared.refusal.Reading.{Reading}
+use Rattle.rx_run.specs.declared.refusal.Reading.TheVariants as reading
+use Rattle.rx_run.specs.declared.refusal.Reason.TheVariants as reason
 use Rattle.rec_run.specs.declared.spec.reading.Job.{Job}
 
 -- the tree of a reference; the empty list, where there is none

@@ -1,6 +1,7 @@
 -- The law of the output.
 use Rattle.std.specs.Prelude.{◌≡◌, ℕ, Bool, List, Option}
-use Rattle.rec_run.specs.Output.{Due, IsDue}
+use Rattle.rx_run.specs.Due.{Due}
+use Rattle.rec_run.specs.Output.{IsDue}
 
 -- for a text of a specification, and a text of terms where there is one, one thing is due at most
 abbrev pub OneDue : Type 0

@@ -1,12 +1,7 @@
-pub mod Bytes
 pub mod EvaluatedLines
 pub mod GivenTerms
 pub mod Laws
 pub mod Output
-pub mod PatternAnswers
-pub mod PatternRuns
 pub mod Reading
-pub mod Refusals
 pub mod RefusedItems
 pub mod Run
-pub mod TermRuns

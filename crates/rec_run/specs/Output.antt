@@ -4,7 +4,7 @@
 --     lines y given counted n       the lines of a specification's own terms and of given ones
 --     IsTermsVerdict y bytes v      the verdict on a text of terms
 --     IsDue spec terms counted n d  what is due for the two texts
-use Rattle.std.specs.Prelude.{ℕ, ◌-◌, ◌≡◌, ◌<◌, length, Option, Some, None, Bool, true, false, List, [], ◌++◌, codes, decimal, map, flat_map}
+use Rattle.std.specs.Prelude.{ℕ, ◌-◌, ◌≡◌, ◌<◌, length, Option, Some, None, Bool, List, [], ◌++◌, codes, decimal, map, flat_map}
 use Rattle.rx_term.specs.Tree.{Tree, Trees, none, annotated, annotations}
 use Rattle.rx_text.specs.Grammar.{Spells}
 use Rattle.rx_text.specs.Place.{IsPlace}
@@ -13,21 +13,14 @@ use Rattle.rec_syntax.specs.Syntax.{Term, Spec}
 use Rattle.rec_sorts.specs.TermRules.{broken_by_terms, elements}
 use Rattle.rec_sorts.specs.SpecRules.{Verdict, Long, Grammar, Breaks, Good, SpecVerdict, Fits}
 use Rattle.rec_sorts.specs.Evaluation.{Done, Over, Eval, term_of}
-use Rattle.rec_run.specs.declared.ending.Finish.{Finish}
-use Rattle.rec_run.specs.declared.ending.Finish.TheVariants as finish
-use Rattle.rec_run.specs.declared.ending.Source.TheVariants as source
-use Rattle.rec_run.specs.declared.ending.Named.TheVariants as named
-use Rattle.rec_run.specs.declared.ending.Place.{Place}
+use Rattle.rx_run.specs.Due.{Due, done, refused, steps_text}
+use Rattle.rx_run.specs.declared.ending.Source.TheVariants as source
+use Rattle.rx_run.specs.declared.ending.Named.TheVariants as named
 
 -- a term to be evaluated, and the annotations that its value bears
 pub record Task : Type 0 where
   pub term : Term
   pub notes : Trees
-
--- a tab and the steps, where they are asked for
-abbrev pub steps_text : Bool → ℕ → List ℕ
-steps_text false steps = []
-steps_text true steps = codes "\t" ++ decimal steps
 
 -- the line of a term: the text of its value with the term's annotations, or that the limit was
 -- passed
@@ -66,21 +59,6 @@ IsTermsVerdict y bytes (BreaksTerms number) = Fits bytes
     × ((t : Tree) × Spells bytes t × (broken_by_terms y t ≡ Some number))
 IsTermsVerdict y bytes (GoodTerms ts) = Fits bytes
     × ((t : Tree) × Spells bytes t × (broken_by_terms y t ≡ None) × (elements t ≡ Some ts))
-
--- what is due: how the run ends, what it writes, and the place of a refusal that has one
-pub record Due : Type 0 where
-  pub finish : Finish
-  pub text : List ℕ
-  pub place : Option Place
-
--- lines are due
-abbrev pub done : List ℕ → Due
-done text = record { finish = finish.Done; text = text; place = None }
-
--- a refusal line is due: the word of the text, and the name of the refusal
-abbrev pub refused : List ℕ → List ℕ → Option Place → Due
-refused word name place =
-    record { finish = finish.Refused; text = word ++ name ++ codes "\n"; place = place }
 
 -- what is due after the verdict on the specification alone
 abbrev pub due_of_spec : Bool → ℕ → Verdict → Due

@@ -1,5 +1,5 @@
 -- What the text of a specification comes to, and what is written for it.
-use Rattle.std.specs.Prelude.{ℕ, ◌≡◌, ◌-◌, List, [], ◌++◌, Bool, Some, get_or, codes, decimal}
+use Rattle.std.specs.Prelude.{ℕ, ◌≡◌, ◌-◌, List, [], ◌++◌, Bool, Option, Some, None, get_or, codes, decimal}
 use Rattle.rx_term.specs.Tree.{Tree, Trees, annotated, none}
 use Rattle.rx_text.specs.Canon.{canon}
 use Rattle.rec_syntax.specs.Syntax.{Term, Apply, Sourced, Spec, nameless}
@@ -8,14 +8,20 @@ use Rattle.rec_sorts.specs.SpecRules as verdict
 use Rattle.rec_sorts.specs.SpecRules.{SpecVerdict, Verdict}
 use Rattle.rec_sorts.specs.Evaluation as evaluation
 use Rattle.rec_sorts.specs.Evaluation.{Eval}
-use Rattle.rec_run.specs.Output.{steps_text}
-use Rattle.rec_run.specs.Refusals.{refused_spec}
-use Rattle.rec_run.specs.declared.ending.RunFault.{RunFault}
-use Rattle.rec_run.specs.declared.ending.RunFault.TheVariants as fault
-use Rattle.rec_run.specs.declared.refusal.Reading.{Reading}
-use Rattle.rec_run.specs.declared.refusal.Reading.TheVariants as reading
-use Rattle.rec_run.specs.declared.streams.ReadFault.{ReadFault}
-use Rattle.rec_run.specs.declared.streams.ReadFault.TheVariants as unreadable
+use Rattle.rx_run.specs.Due.{steps_text}
+use Rattle.rx_run.specs.declared.ending.Source.TheVariants as source
+use Rattle.rx_run.specs.declared.refusal.Reading.{Reading}
+use Rattle.rx_run.specs.declared.refusal.Reading.TheVariants as reading
+use Rattle.rx_run.specs.declared.refusal.Reason.TheVariants as reason
+use Rattle.rx_run.specs.declared.refusal.Refusal.{Refusal}
+
+-- the refusal of a specification, by its verdict
+abbrev pub refused_spec : Verdict → Option Refusal
+refused_spec verdict.Long = Some (record { text = source.Spec; reason = reason.Long })
+refused_spec (verdict.Grammar at) = Some (record { text = source.Spec; reason = reason.Grammar at })
+refused_spec (verdict.Breaks f) =
+    Some (record { text = source.Spec; reason = reason.Rule f.number f.at })
+refused_spec (verdict.Good y) = None
 
 -- what a text came to is this verdict
 abbrev pub IsSpecReading : Reading Sourced → Verdict → Type 0
@@ -49,8 +55,3 @@ term_at y i = get_or y.terms i (Apply nameless syntax.none)
 -- the text of its line
 abbrev pub text_at : Spec → Bool → ℕ → ℕ → List ℕ
 text_at y counted n i = line_text y counted n (term_at y i)
-
--- the run's fault where no text was read
-abbrev pub fault_of_read : ReadFault → RunFault
-fault_of_read unreadable.Memory = fault.Memory 0
-fault_of_read unreadable.Read = fault.Read

@@ -18,7 +18,8 @@ ghost use Rattle.rec_run.specs.GivenTerms.{
 };
 ghost use Rattle.rec_run.specs.Output.{lines};
 ghost use Rattle.rec_run.specs.Reading.{text_at};
-ghost use Rattle.rec_run.specs.Run.{RoomExhausts, Stops, StopsAfter};
+ghost use Rattle.rx_run.specs.Run.{Stops, StopsAfter};
+ghost use Rattle.rec_run.specs.Run.{RoomExhausts};
 ghost use Rattle.rec_run.specs.EvaluatedLines.{
   HoldsValue,
   LineLacks,
@@ -30,10 +31,10 @@ ghost use Rattle.rec_run.specs.EvaluatedLines.{
   fault_after,
 };
 
-use crate::ending::{RunFault, RunOptions};
-use crate::writing::{put_numbered, write_steps};
+use crate::options::RunOptions;
 use rec_engine::{Engine, EngineFault, Options, Outcome};
 use rec_sorts::Checked;
+use rx_run::{RunFault, put_numbered, write_steps};
 use rx_term::{Kind, RootsFull, Term, TermBank};
 use rx_text::{RefusedWrite, WriteFault, put};
 use std::alloc::Global;
@@ -41,7 +42,7 @@ use std::io::Write;
 
 /// Why a line was not written whole.
 #[derive(Clone, Copy)]
-pub(crate) enum LineFault {
+pub enum LineFault {
     /// A growth was refused.
     Memory,
     /// No cell was left.
@@ -52,7 +53,7 @@ pub(crate) enum LineFault {
 
 impl LineFault {
     /// The run's fault where a line's came after so many lines.
-    fn after(self, lines: u64) -> RunFault
+    pub fn after(self, lines: u64) -> RunFault
         ensures { result ≡ fault_after self lines }
     {
         match self {
@@ -313,7 +314,7 @@ fn write_given_lines<B: TermBank, W: Write>(
 }
 
 /// Evaluates a term, and writes its line.
-fn write_evaluation<B: TermBank, W: Write>(
+pub fn write_evaluation<B: TermBank, W: Write>(
     alloc: Global,
     engine: &mut Engine<B>,
     t: Term,
@@ -340,7 +341,7 @@ fn write_evaluation<B: TermBank, W: Write>(
 }
 
 /// Writes what is shown of what a term comes to.
-fn write_outcome<B: TermBank, W: Write>(
+pub fn write_outcome<B: TermBank, W: Write>(
     alloc: Global,
     bank: &B,
     outcome: Outcome,

@@ -8,7 +8,8 @@ ghost use Rattle.rx_text.specs.Grammar.{Spells};
 ghost use Rattle.rec_syntax.specs.Grammar.{SpecText};
 ghost use Rattle.rec_sorts.specs.SpecRules.{Fits, Verdict};
 ghost use Rattle.rec_run.specs.Reading.{IsGood, IsSpecRead, IsSpecReading};
-ghost use Rattle.rec_run.specs.Run.{IsReadOut, RanOut, StopsReading, StopsUnwritten, both_texts};
+ghost use Rattle.rx_run.specs.Run.{IsReadOut, RanOut, StopsReading, StopsUnwritten};
+ghost use Rattle.rec_run.specs.Run.{both_texts};
 ghost use Rattle.rec_run.specs.GivenTerms.{
   EndsRefused,
   HoldsList,
@@ -25,23 +26,20 @@ ghost use Rattle.rec_run.specs.GivenTerms.{
   list_refused,
 };
 
-use crate::ending::{RunFault, Source};
-use crate::refusal::{Reading, Reason};
-use crate::streams::{ReadFault, read_all};
-use crate::term::reading::parse;
 use rec_sorts::{Checked, SortFault, TermsFault, check, check_terms};
 use rec_syntax::{Syntax, SyntaxFault, read_owned};
+use rx_run::{ReadFault, Reading, Reason, RunFault, Source, parse, read_all};
 use rx_term::{Term, TermBank};
 use std::alloc::{AllocError, Global};
 use std::io::Read;
 
 /// A good specification, and the list of given terms in a bank, where there is one.
 #[derive(Drop)]
-pub(crate) struct Job {
+pub struct Job {
     /// The specification.
-    pub(crate) checked: Checked,
+    pub checked: Checked,
     /// The list of given terms.
-    pub(crate) list: Option<Term>,
+    pub list: Option<Term>,
 }
 
 /// The verdict on a text, which a good specification keeps.
@@ -74,7 +72,7 @@ fn judge_rules(alloc: Global, syntax: Syntax) -> Result<Reading<Checked>, AllocE
 }
 
 /// Reads the text of a specification without given terms, and judges it.
-pub(crate) fn read_alone<R: Read>(alloc: Global, spec: &mut R) -> Result<Reading<Job>, RunFault>
+pub fn read_alone<R: Read>(alloc: Global, spec: &mut R) -> Result<Reading<Job>, RunFault>
     ensures due { IfOk result
         (λ reading. (w : Store) → IfSome (both_texts (R.remaining spec.old) (Some None))
         (λ texts. IsReadFrom w texts reading)) }
@@ -102,7 +100,7 @@ fn job_alone(first: Reading<Checked>) -> Reading<Job>
 
 /// Reads the text of a specification and, where it is good, that of the given terms into a bank,
 /// and judges both.
-pub(crate) fn read_both<B: TermBank, R: Read, T: Read>(
+pub fn read_both<B: TermBank, R: Read, T: Read>(
     alloc: Global,
     spec: &mut R,
     terms: &mut T,

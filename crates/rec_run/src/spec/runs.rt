@@ -1,6 +1,6 @@
 //! Whole runs.
 
-ghost use Rattle.std.specs.Prelude.{◌≡◌, ℕ, None, IfErr, IfOk, IfSome, OnErr, OnOk, Some};
+ghost use Rattle.std.specs.Prelude.{◌≡◌, ℕ, None, IfErr, IfOk, OnErr, OnOk, Some};
 ghost use Rattle.std.specs.Prelude.{option_map};
 ghost use Rattle.std.specs.Io.KnownBytes.{Appends};
 ghost use Rattle.std.specs.Option.{option_copied_mut};
@@ -11,30 +11,14 @@ ghost use Rattle.rec_run.specs.GivenTerms.{
   OnRefusedSpec,
   run_due,
 };
-ghost use Rattle.rec_run.specs.Refusals.{finish_of, place_of, refusal_due};
-ghost use Rattle.rec_run.specs.Run.{
-  BreaksFor,
-  EndsBehind,
-  EndsFor,
-  HasRoom,
-  IsDueFor,
-  IsPlacedFor,
-  IsReadOut,
-  Leads,
-  RoomExhausts,
-  RoomIn,
-  Stays,
-  Stops,
-  both_texts,
-  terms_text,
-};
+ghost use Rattle.rx_run.specs.Refusals.{finish_of, place_of, refusal_due};
+ghost use Rattle.rx_run.specs.Run.{BreaksFor, EndsFor, IsPlacedFor, IsReadOut, Stops};
+ghost use Rattle.rec_run.specs.Run.{EndsBehind, HasRoom, IsDueFor, Leads, RoomExhausts, RoomIn, Stays, both_texts, terms_text};
 
-use crate::ending::{Finish, Place, RunFault, RunOptions};
-use crate::refusal::{Reading, Refusal};
+use crate::options::RunOptions;
 use crate::spec::lines::{Left, write_evaluated};
 use crate::spec::reading::{Job, read_alone, read_both};
-use crate::term::reading::empty_bank;
-use crate::writing::{flush, write_refusal};
+use rx_run::{Finish, Place, Reading, Refusal, RunFault, empty_bank, flush, write_refusal};
 use rx_term::{Term, TermBank};
 use std::alloc::Global;
 use std::io::{Read, Write};

@@ -2,8 +2,8 @@ use Rattle.std.proofs.Common.{◌≡◌, subst}
 use Rattle.rec_syntax.specs.Syntax.{Sourced}
 use Rattle.rec_run.specs.Reading.{IsSpecRead}
 use Rattle.rec_run.specs.RefusedItems.{term_in}
-use Rattle.rec_run.specs.declared.refusal.Reading.{Reading}
-use Rattle.rec_run.proofs.PatternDueLemmas.{if_ok_map}
+use Rattle.rx_run.specs.declared.refusal.Reading.{Reading}
+use Rattle.rx_run.proofs.PatternDueLemmas.{if_ok_map}
 use Rattle.rec_run.proofs.RefusedItemLemmas.{never_good, never_refused, one_good, read_good}
 use Rattle.rec_run.proofs.refused_items.refused_term.Goals as goal
 

@@ -3,10 +3,10 @@ use Rattle.std.specs.Option.{IfSome}
 use Rattle.rec_sorts.specs.TermRules.{broken_element}
 use Rattle.rx_term.specs.declared.Term.{Term}
 use Rattle.rec_run.specs.RefusedItems.{term_in}
-use Rattle.rec_run.specs.TermRuns.{IsReadingOf}
-use Rattle.rec_run.specs.declared.ending.Source.TheVariants as source
-use Rattle.rec_run.specs.declared.refusal.Reading.{Reading}
-use Rattle.rec_run.proofs.RefusedItemLemmas.{spelt_item, unspelt_item}
+use Rattle.rx_run.specs.TermRuns.{IsReadingOf}
+use Rattle.rx_run.specs.declared.ending.Source.TheVariants as source
+use Rattle.rx_run.specs.declared.refusal.Reading.{Reading}
+use Rattle.rx_run.proofs.RefusedItemLemmas.{spelt_item, unspelt_item}
 use Rattle.rec_run.proofs.refused_items.refused_term_over.Goals as goal
 
 pub returns-in-Refused : goal.returns-in-Refused

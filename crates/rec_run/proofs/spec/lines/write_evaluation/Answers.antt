@@ -6,7 +6,7 @@ use Rattle.rec_run.specs.GivenTerms.{given_text, item_at}
 use Rattle.rec_run.specs.declared.spec.lines.LineFault.TheVariants.{Write}
 use Rattle.rec_run.proofs.EvaluatedLemmas.{answered-line, front_due}
 use Rattle.rx_text.proofs.AppendingLemmas.{appends_both, front_after}
-use Rattle.rec_run.proofs.ErrorLemmas.{if_err_any, if_err_at}
+use Rattle.rx_run.proofs.ErrorLemmas.{if_err_any, if_err_at}
 use Rattle.rec_run.proofs.spec.lines.write_evaluation.Goals as goal
 
 pub returns-in_err-write_outcome-clause-err : goal.returns-in_err-write_outcome-clause-err

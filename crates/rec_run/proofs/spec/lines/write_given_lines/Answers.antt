@@ -13,10 +13,10 @@ use Rattle.rec_sorts.specs.TermRules.{broken_by_elements}
 use Rattle.rec_engine.specs.Engine.{IsGround}
 use Rattle.rec_run.specs.EvaluatedLines.{due_before, fault_after}
 use Rattle.rec_run.specs.GivenTerms.{given_at, given_text}
-use Rattle.rec_run.specs.Run.{StopsAfter}
+use Rattle.rx_run.specs.Run.{StopsAfter}
 use Rattle.rec_run.proofs.EvaluatedLemmas.{front-line, held_no_ends, lines_stopped_after, fault_after-same, line_lacks, same_engine_both}
 use Rattle.rec_run.proofs.GivenListLemmas.{FrontAt, fewer_items, front_there, no_front, others_later}
-use Rattle.rec_run.proofs.LineFrontLemmas.{appends_all, appends_more, lines_of}
+use Rattle.rx_run.proofs.LineFrontLemmas.{appends_all, appends_more, lines_of}
 use Rattle.rec_run.proofs.spec.lines.write_given_lines.Goals as goal
 
 -- the term whose line is next

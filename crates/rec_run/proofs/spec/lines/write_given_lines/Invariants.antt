@@ -5,7 +5,7 @@ use Rattle.rx_term.specs.Store.{tree_at}
 use Rattle.rx_term.specs.Tree.{from_list, list_of}
 use Rattle.rec_engine.specs.Engine.{SameEngine}
 use Rattle.rec_run.specs.GivenTerms.{given_at, given_text}
-use Rattle.rec_run.proofs.LineFrontLemmas.{lines_of}
+use Rattle.rx_run.proofs.LineFrontLemmas.{lines_of}
 use Rattle.rec_run.proofs.spec.lines.write_given_lines.Given as goal
 
 -- the lines so far were written, and the rest of the list is left

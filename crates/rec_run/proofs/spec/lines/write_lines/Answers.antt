@@ -9,12 +9,12 @@ use Rattle.rec_syntax.specs.Syntax.{Spec}
 use Rattle.rec_run.specs.EvaluatedLines.{ProtectsTerms}
 use Rattle.rec_run.specs.GivenTerms.{given_at, given_by, given_lines}
 use Rattle.rec_run.specs.Output.{lines}
-use Rattle.rec_run.specs.Run.{Stops}
+use Rattle.rx_run.specs.Run.{Stops}
 use Rattle.rec_run.proofs.EvaluatedLemmas.{same_engine_both, same_terms, still_protects}
-use Rattle.rec_run.proofs.LineFrontLemmas.{stops_behind}
+use Rattle.rx_run.proofs.LineFrontLemmas.{stops_behind}
 use Rattle.rec_run.proofs.SpecLineLemmas.{lines-both, newlines-own}
 use Rattle.rx_text.proofs.AppendingLemmas.{appends_both}
-use Rattle.rec_run.proofs.ErrorLemmas.{on_ok_of}
+use Rattle.rx_run.proofs.ErrorLemmas.{on_ok_of}
 use Rattle.rec_run.proofs.spec.lines.write_lines.Goals as goal
 
 -- all lines are the specification's own and, by what these left of the engine, those of the list

@@ -5,7 +5,7 @@ use Rattle.rx_text.specs.Canon.{canon}
 use Rattle.rx_text.specs.Written.{AppendsFront}
 use Rattle.rec_run.specs.EvaluatedLines.{HoldsValue, outcome_text}
 use Rattle.rec_run.specs.GivenTerms.{item_at}
-use Rattle.rec_run.specs.Output.{steps_text}
+use Rattle.rx_run.specs.Due.{steps_text}
 use Rattle.rec_run.proofs.EvaluatedLemmas.{of_held}
 use Rattle.rx_text.proofs.AppendingLemmas.{front_after, front_before, on_err}
 use Rattle.rec_run.proofs.spec.lines.write_outcome.Goals as goal

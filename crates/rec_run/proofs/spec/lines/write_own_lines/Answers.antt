@@ -8,9 +8,9 @@ use Rattle.rec_syntax.specs.Syntax as syntax
 use Rattle.rec_run.specs.EvaluatedLines.{due_before, fault_after}
 use Rattle.rec_run.specs.Output.{lines}
 use Rattle.rec_run.specs.Reading.{line_text, text_at}
-use Rattle.rec_run.specs.Run.{Stops}
+use Rattle.rx_run.specs.Run.{Stops}
 use Rattle.rec_run.proofs.EvaluatedLemmas.{lines_stopped, fault_after-same, line_lacks, same_engine_both}
-use Rattle.rec_run.proofs.LineFrontLemmas.{appends_all, appends_more}
+use Rattle.rx_run.proofs.LineFrontLemmas.{appends_all, appends_more}
 use Rattle.rec_run.proofs.SpecLineLemmas.{line_text-newlines, lines-own}
 use Rattle.rec_run.proofs.spec.lines.write_own_lines.Goals as goal
 

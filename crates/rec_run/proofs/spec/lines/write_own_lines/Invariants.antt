@@ -3,7 +3,7 @@ use Rattle.std.specs.Io.KnownBytes.{Appends}
 use Rattle.rx_term.specs.Steps.{Keeps}
 use Rattle.rec_engine.specs.Engine.{SameEngine}
 use Rattle.rec_run.specs.Reading.{line_text}
-use Rattle.rec_run.proofs.LineFrontLemmas.{lines_of}
+use Rattle.rx_run.proofs.LineFrontLemmas.{lines_of}
 use Rattle.rec_run.proofs.spec.lines.write_own_lines.Given as goal
 
 -- the lines so far were written

@@ -2,7 +2,7 @@ use Rattle.std.proofs.Common.{◌<◌, ◌≤◌, ◌⊎◌, inl, inr, ℕ, leng
 use Rattle.rx_term.proofs.HeapLemmas.{lt_or_le}
 use Rattle.rec_sorts.specs.SpecRules.{Grammar}
 use Rattle.rec_run.specs.Reading.{IsSpecRead}
-use Rattle.rec_run.specs.Refusals.{refused_spec}
+use Rattle.rec_run.specs.Reading.{refused_spec}
 use Rattle.rec_run.proofs.spec.reading.judge.Goals as goal
 
 not_more : (n : ℕ) → ((16777216 < n) ⊎ (n ≤ 16777216)) → (16777216 < n → ⊥) → n ≤ 16777216

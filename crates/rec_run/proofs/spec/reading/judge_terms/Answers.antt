@@ -1,10 +1,10 @@
 use Rattle.std.proofs.Common.{subst}
 use Rattle.rx_term.specs.declared.Term.{Term}
-use Rattle.rec_run.specs.TermRuns.{IsReadingOf}
-use Rattle.rec_run.specs.declared.ending.Source.TheVariants as source
-use Rattle.rec_run.specs.declared.refusal.Reading.{Reading}
+use Rattle.rx_run.specs.TermRuns.{IsReadingOf}
+use Rattle.rx_run.specs.declared.ending.Source.TheVariants as source
+use Rattle.rx_run.specs.declared.refusal.Reading.{Reading}
 use Rattle.rec_run.proofs.GivenDueLemmas.{no_term, some_term}
-use Rattle.rec_run.proofs.PatternDueLemmas.{if_ok_map}
+use Rattle.rx_run.proofs.PatternDueLemmas.{if_ok_map}
 use Rattle.rec_run.proofs.spec.reading.judge_terms.Goals as goal
 
 pub returns-in-Refused-clause-due : goal.returns-in-Refused-clause-due

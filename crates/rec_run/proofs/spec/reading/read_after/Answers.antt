@@ -2,9 +2,9 @@ use Rattle.std.proofs.Common.{subst}
 use Rattle.rec_syntax.specs.Syntax.{Sourced}
 use Rattle.rec_run.specs.GivenTerms.{IsRefusal}
 use Rattle.rec_run.specs.Reading.{IsSpecReading}
-use Rattle.rec_run.specs.declared.refusal.Reading.{Reading}
+use Rattle.rx_run.specs.declared.refusal.Reading.{Reading}
 use Rattle.rec_run.proofs.GivenDueLemmas.{read_after_good, read_after_refusal}
-use Rattle.rec_run.proofs.PatternDueLemmas.{if_ok_map}
+use Rattle.rx_run.proofs.PatternDueLemmas.{if_ok_map}
 use Rattle.rec_run.proofs.spec.reading.read_after.Goals as goal
 
 pub returns-in-Refused-clause-due : goal.returns-in-Refused-clause-due

@@ -1,8 +1,8 @@
 use Rattle.std.proofs.Common.{refl}
 use Rattle.std.proofs.lemmas.Result.{IfErr-weaker}
-use Rattle.rec_run.proofs.FaultLemmas.{unwritten}
+use Rattle.rx_run.proofs.FaultLemmas.{unwritten}
 use Rattle.rec_run.proofs.GivenDueLemmas.{read_due}
-use Rattle.rec_run.proofs.PatternDueLemmas.{if_ok_map}
+use Rattle.rx_run.proofs.PatternDueLemmas.{if_ok_map}
 use Rattle.rec_run.proofs.spec.reading.read_list.Goals as goal
 
 pub returns-clause-due : goal.returns-clause-due

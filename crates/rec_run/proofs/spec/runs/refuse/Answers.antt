@@ -1,6 +1,6 @@
-use Rattle.rec_run.specs.declared.ending.RunFault.TheVariants.{Write}
-use Rattle.rec_run.proofs.ErrorLemmas.{if_err_at}
-use Rattle.rec_run.proofs.LineFrontLemmas.{stops_write}
+use Rattle.rx_run.specs.declared.ending.RunFault.TheVariants.{Write}
+use Rattle.rx_run.proofs.ErrorLemmas.{if_err_at}
+use Rattle.rx_run.proofs.LineFrontLemmas.{stops_write}
 use Rattle.rec_run.proofs.spec.runs.refuse.Goals as goal
 
 pub returns-in_err-write_refusal-clause-err : goal.returns-in_err-write_refusal-clause-err

@@ -1,11 +1,13 @@
 use Rattle.std.proofs.Common.{refl}
 use Rattle.rec_run.specs.GivenTerms.{job_lines}
 use Rattle.rec_run.specs.Run.{IsDueFor}
-use Rattle.rec_run.proofs.ErrorLemmas.{on_ok_any}
-use Rattle.rec_run.proofs.FaultLemmas.{has_room_exhausts, reading_has_room, reports_reading}
+use Rattle.rx_run.proofs.ErrorLemmas.{on_ok_any}
+use Rattle.rx_run.proofs.FaultLemmas.{reports_reading}
+use Rattle.rec_run.proofs.FaultLemmas.{has_room_exhausts, reading_has_room}
 use Rattle.rec_run.proofs.GivenDueLemmas.{refused_any, refused_map}
-use Rattle.rec_run.proofs.ReadDueLemmas.{breaks_by, ends_by, placed_by}
-use Rattle.rec_run.proofs.WholeRunLemmas.{breaks_unwritten, due_for, one_due_for}
+use Rattle.rx_run.proofs.ReadDueLemmas.{breaks_by, ends_by, placed_by}
+use Rattle.rx_run.proofs.WholeRunLemmas.{breaks_unwritten}
+use Rattle.rec_run.proofs.WholeRunLemmas.{due_for, one_due_for}
 use Rattle.rec_run.proofs.spec.runs.run_alone_in.Goals as goal
 
 pub answer-requires-clause-ready : goal.answer-requires-clause-ready

@@ -2,7 +2,7 @@ use Rattle.std.proofs.Common.{refl}
 use Rattle.rec_run.specs.Run.{IsDueFor}
 use Rattle.rec_run.proofs.FaultLemmas.{memory_has_room}
 use Rattle.rec_run.proofs.GivenDueLemmas.{refused_any}
-use Rattle.rec_run.proofs.WholeRunLemmas.{breaks_unwritten}
+use Rattle.rx_run.proofs.WholeRunLemmas.{breaks_unwritten}
 use Rattle.rec_run.proofs.spec.runs.run_beside.Goals as goal
 
 pub run_beside_in-requires-clause-unrooted : goal.run_beside_in-requires-clause-unrooted

@@ -2,11 +2,13 @@ use Rattle.std.proofs.Common.{ap, ◌∙◌}
 use Rattle.std.proofs.lemmas.Result.{IfErr-weaker}
 use Rattle.rec_run.specs.GivenTerms.{job_lines}
 use Rattle.rec_run.specs.Run.{IsDueFor}
-use Rattle.rec_run.proofs.ErrorLemmas.{on_ok_any}
-use Rattle.rec_run.proofs.FaultLemmas.{exhausts_in, fills_in, reports_unwritten, room_unwritten}
+use Rattle.rx_run.proofs.ErrorLemmas.{on_ok_any}
+use Rattle.rx_run.proofs.FaultLemmas.{reports_unwritten, room_unwritten}
+use Rattle.rec_run.proofs.FaultLemmas.{exhausts_in, fills_in}
 use Rattle.rec_run.proofs.GivenDueLemmas.{refused_map, refused_map₂}
-use Rattle.rec_run.proofs.ReadDueLemmas.{breaks_by, ends_by, placed_by}
-use Rattle.rec_run.proofs.WholeRunLemmas.{breaks_unwritten, due_for, one_due_for}
+use Rattle.rx_run.proofs.ReadDueLemmas.{breaks_by, ends_by, placed_by}
+use Rattle.rx_run.proofs.WholeRunLemmas.{breaks_unwritten}
+use Rattle.rec_run.proofs.WholeRunLemmas.{due_for, one_due_for}
 use Rattle.rec_run.proofs.spec.runs.run_beside_in.Goals as goal
 
 pub answer-requires-clause-unrooted : goal.answer-requires-clause-unrooted

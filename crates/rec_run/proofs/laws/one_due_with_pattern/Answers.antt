@@ -1,9 +1,0 @@
-use Rattle.rec_run.specs.PatternRuns.{make_due, match_due}
-use Rattle.rec_run.proofs.PatternDueLemmas.{one_due_of_both}
-use Rattle.rec_run.proofs.laws.one_due_with_pattern.Goals as goal
-
-pub returns-clause-of_match : goal.returns-clause-of_match
-returns-clause-of_match c = one_due_of_both match_due
-
-pub returns-clause-of_make : goal.returns-clause-of_make
-returns-clause-of_make c = one_due_of_both make_due

@@ -1,0 +1,15 @@
+pub mod CountedPartLemmas
+pub mod ErrorLemmas
+pub mod FaultLemmas
+pub mod LineFrontLemmas
+pub mod NewlineLemmas
+pub mod PatternDueLemmas
+mod PatternLineLemmas
+mod PatternRows
+mod PatternTermLemmas
+pub mod ReadDueLemmas
+mod ReadLemmas
+pub mod RefusedItemLemmas
+pub mod TermDueLemmas
+mod TermRunRows
+pub mod WholeRunLemmas

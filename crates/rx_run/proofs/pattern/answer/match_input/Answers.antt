@@ -1,0 +1,38 @@
+use Rattle.std.proofs.Common.{subst}
+use Rattle.std.proofs.lemmas.Result.{IfErr-weaker}
+use Rattle.rx_term.specs.Tree.{Tree}
+use Rattle.rx_term.specs.declared.Term.{Term}
+use Rattle.rx_pattern.specs.Matching.{matching}
+use Rattle.rx_run.specs.TermRuns.{IsGiven, due_of}
+use Rattle.rx_run.specs.PatternRuns.{match_lines}
+use Rattle.rx_run.specs.PatternAnswers.{answer_due}
+use Rattle.rx_run.specs.Refusals.{refusal_due}
+use Rattle.rx_run.specs.declared.ending.Source.TheVariants as source
+use Rattle.rx_run.specs.declared.refusal.Reading.{Reading}
+use Rattle.rx_run.proofs.FaultLemmas.{unwritten_later}
+use Rattle.rx_run.proofs.PatternDueLemmas.{due_read, if_ok_map, spelt_due}
+use Rattle.rx_run.proofs.TermDueLemmas.{refused_due}
+use Rattle.rx_run.proofs.pattern.answer.match_input.Goals as goal
+
+pub returns-in-Refused-clause-due : goal.returns-in-Refused-clause-due
+returns-in-Refused-clause-due g c =
+    let w = g.B.TermBank.store c.read_term.new.bank in
+    let lines = λ (t : Tree). match_lines (matching c.args.pattern.now t) in
+    let v = subst (λ (r : Reading Term). IsGiven (g.R.Read.remaining c.args.input.now) w r) c.in-Refused.is c.in_ok-refusal.ensures.read in
+    due_read _ (refusal_due c.in-Refused.refusal) (due_of lines) v.0 v.2 (refused_due lines c.in-Refused.refusal v.0 v.1)
+
+pub returns-in-Good-clause-due : goal.returns-in-Good-clause-due
+returns-in-Good-clause-due g c =
+    let w = g.B.TermBank.store c.read_term.new.bank in
+    let lines = λ (t : Tree). match_lines (matching c.args.pattern.now t) in
+    let v = subst (λ (r : Reading Term). IsGiven (g.R.Read.remaining c.args.input.now) w r) c.in-Good.is c.in_ok-refusal.ensures.read in
+    if_ok_map c.match_term.result _ _
+    (λ answer h. due_read _ (answer_due (g.B.TermBank.store c.match_term.new.bank) answer) (due_of lines) v.0 v.2 (spelt_due (due_of lines) source.Term w c.in-Good.t v.0 v.1 _ h))
+    c.match_term.ensures.due
+
+pub returns-in-Good-clause-fault : goal.returns-in-Good-clause-fault
+returns-in-Good-clause-fault g c =
+    let old = g.B.TermBank.store c.args.bank.now in
+    let mid = g.B.TermBank.store c.read_term.new.bank in
+    let new = g.B.TermBank.store c.match_term.new.bank in
+    IfErr-weaker c.match_term.result _ _ (λ f h. unwritten_later old mid new f c.in_ok-refusal.ensures.grows h) c.match_term.ensures.fault

@@ -1,0 +1,11 @@
+use Rattle.rx_run.specs.PatternRuns.{IsMatchDue}
+use Rattle.rx_run.proofs.FaultLemmas.{reports_at_once}
+use Rattle.rx_run.proofs.ErrorLemmas.{if_err_at}
+use Rattle.rx_run.proofs.WholeRunLemmas.{breaks_unwritten}
+use Rattle.rx_run.proofs.pattern.runs.match_owned.Goals as goal
+
+pub returns-in_err-reading-clause-fault : goal.returns-in_err-reading-clause-fault
+returns-in_err-reading-clause-fault g c =
+    let f = c.in_err-reading.field-0.0 in
+    if_err_at c.from_residual.result _ f c.from_residual.ensures.1
+    (breaks_unwritten (IsMatchDue c.args.pattern.now) (g.R.Read.remaining c.args.input.now) f _ (reports_at_once f c.in_err-reading.ensures.fault))

@@ -1,0 +1,27 @@
+use Rattle.std.proofs.lemmas.Result.{IfErr-weaker}
+use Rattle.rx_run.specs.PatternRuns.{IsMatchDue}
+use Rattle.rx_run.proofs.FaultLemmas.{fills_first, fills_second, reports_ran_out, room_ran_out}
+use Rattle.rx_run.proofs.ErrorLemmas.{if_err_at}
+use Rattle.rx_run.proofs.WholeRunLemmas.{breaks_unwritten}
+use Rattle.rx_run.proofs.pattern.runs.run_match_in.Goals as goal
+
+pub returns-in_err-reading-clause-fault : goal.returns-in_err-reading-clause-fault
+returns-in_err-reading-clause-fault g c =
+    let old = g.B.TermBank.store c.args.patterns.now in
+    let new = g.B.TermBank.store c.read_pattern_in.new.bank in
+    let f = c.in_err-reading.field-0.0 in
+    if_err_at c.from_residual.result _ f c.from_residual.ensures.1
+    (breaks_unwritten (IsMatchDue c.args.pattern.now) (g.R.Read.remaining c.args.input.now) f _ (reports_ran_out old new f c.in_err-reading.ensures.fault))
+
+pub returns-in_err-reading-clause-room : goal.returns-in_err-reading-clause-room
+returns-in_err-reading-clause-room g c =
+    let old = g.B.TermBank.store c.args.patterns.now in
+    let new = g.B.TermBank.store c.read_pattern_in.new.bank in
+    let f = c.in_err-reading.field-0.0 in
+    if_err_at c.from_residual.result _ f c.from_residual.ensures.1 (fills_first old new _ _ f (room_ran_out old new f c.in_err-reading.ensures.fault))
+
+pub returns-clause-room : goal.returns-clause-room
+returns-clause-room g c =
+    let old = g.B.TermBank.store c.args.patterns.now in
+    let new = g.B.TermBank.store c.read_pattern_in.new.bank in
+    IfErr-weaker c.match_over.result _ _ (λ f h. fills_second old new _ _ f h) c.match_over.ensures.room

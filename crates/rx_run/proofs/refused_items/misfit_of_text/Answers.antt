@@ -1,0 +1,23 @@
+use Rattle.std.proofs.Common.{refl, subst}
+use Rattle.rx_term.specs.declared.Term.{Term}
+use Rattle.rx_run.specs.RefusedItems.{misfit_in}
+use Rattle.rx_run.specs.TermRuns.{IsReadingOf}
+use Rattle.rx_run.specs.declared.ending.Source.TheVariants as source
+use Rattle.rx_run.specs.declared.refusal.Reading.{Reading}
+use Rattle.rx_run.proofs.PatternDueLemmas.{if_ok_map}
+use Rattle.rx_run.proofs.RefusedItemLemmas.{spelt_item, unspelt_item}
+use Rattle.rx_run.proofs.refused_items.misfit_of_text.Goals as goal
+
+pub returns-in-Refused : goal.returns-in-Refused
+returns-in-Refused g c =
+    let w = g.B.TermBank.store c.parse.new.bank in
+    let v = c.in_ok-parse.ensures.read in
+    unspelt_item (misfit_in c.args.pattern.now) source.Args c.args.args.now c.in-Refused.field-0 v.0 refl (λ at. refl) (subst (λ (r : Reading Term). IsReadingOf source.Args w r v.0) c.in-Refused.is v.1) v.2
+
+pub returns : goal.returns
+returns g c =
+    let w = g.B.TermBank.store c.parse.new.bank in
+    let v = c.in_ok-parse.ensures.read in
+    if_ok_map c.misfit_of_term.result _ _
+    (λ found h. spelt_item (misfit_in c.args.pattern.now) source.Args w c.args.args.now c.in-Good.t v.0 found (subst (λ (r : Reading Term). IsReadingOf source.Args w r v.0) c.in-Good.is v.1) v.2 h)
+    c.misfit_of_term.ensures

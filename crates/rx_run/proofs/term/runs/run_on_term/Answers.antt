@@ -1,0 +1,10 @@
+use Rattle.std.proofs.Common.{refl}
+use Rattle.rx_run.specs.TermRuns.{IsDueOf, lines_for}
+use Rattle.rx_run.proofs.WholeRunLemmas.{breaks_unwritten}
+use Rattle.rx_run.proofs.term.runs.run_on_term.Goals as goal
+
+pub returns-in-Err-clause-fault : goal.returns-in-Err-clause-fault
+returns-in-Err-clause-fault g c = breaks_unwritten (IsDueOf (lines_for c.args.lines)) (g.R.Read.remaining c.args.input.now) c.in-Err.fault _ (rw c.in-Err.ensures.fault refl)
+
+pub run_owned-requires : goal.run_owned-requires
+run_owned-requires g c = c.in-Ok.ensures.empty.2

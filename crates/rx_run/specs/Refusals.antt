@@ -1,0 +1,73 @@
+-- Refused texts: the line of each, and its place.
+--     refusal_due r              what is due for a refusal
+--     reading_due next r         what is due for what a text came to, where this is due for a good
+--                                one
+--     refused_text source v      the refusal of a text of a term, by its verdict
+use Rattle.std.specs.Prelude.{ℕ, List, ◌++◌, Option, Some, None, codes, decimal}
+use Rattle.rx_text.specs.Verdict as term
+use Rattle.rx_run.specs.Due.{Due, refused}
+use Rattle.rx_run.specs.declared.ending.Finish.{Finish}
+use Rattle.rx_run.specs.declared.ending.Finish.TheVariants as finish
+use Rattle.rx_run.specs.declared.ending.Named.TheVariants as named
+use Rattle.rx_run.specs.declared.ending.Place.{Place}
+use Rattle.rx_run.specs.declared.ending.Source.{Source}
+use Rattle.rx_run.specs.declared.ending.Source.TheVariants as source
+use Rattle.rx_run.specs.declared.refusal.Reading.{Reading}
+use Rattle.rx_run.specs.declared.refusal.Reading.TheVariants as reading
+use Rattle.rx_run.specs.declared.refusal.Reason.{Reason}
+use Rattle.rx_run.specs.declared.refusal.Reason.TheVariants as reason
+use Rattle.rx_run.specs.declared.refusal.Refusal.{Refusal}
+
+-- how a refusal line begins, by the text
+abbrev pub word_of : Source → List ℕ
+word_of source.Spec = codes "!spec "
+word_of source.Terms = codes "!terms "
+word_of source.Term = codes "!term "
+word_of source.Pattern = codes "!pattern "
+word_of source.Args = codes "!args "
+
+-- the name of a refusal
+abbrev pub name_of : Reason → List ℕ
+name_of reason.Long = codes "L1"
+name_of (reason.Grammar at) = codes "G"
+name_of (reason.Rule number at) = codes "S" ++ decimal number
+name_of (reason.Outside at) = codes "A"
+name_of (reason.TermsRule number) = codes "T" ++ decimal number
+name_of reason.Unknown = codes "P1"
+name_of reason.Annotated = codes "P2"
+name_of reason.Unlisted = codes "T1"
+name_of reason.Count = codes "M1"
+name_of reason.Kind = codes "M2"
+
+-- the place of a refusal
+abbrev pub place_by : Source → Reason → Option Place
+place_by text (reason.Grammar at) = Some (record { text = text; rule = named.G; at = at })
+place_by text (reason.Rule number at) =
+    Some (record { text = text; rule = named.S number; at = at })
+place_by text (reason.Outside at) = Some (record { text = text; rule = named.A; at = at })
+place_by text _ = None
+
+-- what is due for a refusal
+abbrev pub refusal_due : Refusal → Due
+refusal_due r = refused (word_of r.text) (name_of r.reason) (place_by r.text r.reason)
+
+-- what is due for what a text came to, where this is due for a good one
+abbrev pub reading_due : {T : Type 0} → (T → Due) → Reading T → Due
+reading_due next (reading.Refused r) = refusal_due r
+reading_due next (reading.Good x) = next x
+
+-- the place of a refusal
+abbrev pub place_of : {T : Type 0} → Reading T → Option Place
+place_of (reading.Refused r) = place_by r.text r.reason
+place_of (reading.Good x) = None
+
+-- how a run ends
+abbrev pub finish_of : {T : Type 0} → Reading T → Finish
+finish_of (reading.Refused r) = finish.Refused
+finish_of (reading.Good x) = finish.Done
+
+-- the refusal of a text of a term, by its verdict
+abbrev pub refused_text : Source → term.Verdict → Option Refusal
+refused_text text term.TooLong = Some (record { text = text; reason = reason.Long })
+refused_text text (term.Outside at) = Some (record { text = text; reason = reason.Outside at })
+refused_text text (term.Spelt t) = None

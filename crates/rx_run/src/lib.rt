@@ -1,0 +1,25 @@
+//! What all runs have in common, from the texts that come in to the lines that go out, and the runs on
+//! annotated terms and patterns.
+#![tactic(auto)]
+
+mod ending;
+pub mod laws;
+mod pattern;
+mod refusal;
+mod refused_items;
+mod streams;
+mod term;
+mod writing;
+
+pub use ending::{Finish, Named, Place, RunFault, Source};
+pub use pattern::runs::{
+    run_make, run_make_at, run_make_in, run_match, run_match_at, run_match_in,
+};
+pub use refusal::{Reading, Reason, Refusal};
+pub use refused_items::{Misfit, refused_argument};
+pub use streams::{LIMIT, ReadFault, read_all};
+pub use term::reading::{MOST_CELLS, empty_bank, parse};
+pub use term::runs::{
+    run_aterm, run_aterm_at, run_aterm_in, run_share, run_share_at, run_share_in,
+};
+pub use writing::{flush, put_numbered, write_line, write_refusal, write_steps};

@@ -1,0 +1,298 @@
+//! Runs with a pattern: matching it with a term, and making a term from it.
+
+ghost use Rattle.std.specs.Prelude.{◌≡◌, ◌≢◌, None, IfErr, IfOk, OnErr, OnOk};
+ghost use Rattle.std.specs.Io.KnownBytes.{Appends};
+ghost use Rattle.rx_term.specs.Tree.{Tree};
+ghost use Rattle.rx_run.specs.PatternAnswers.{IsAnswerHeld, IsPatternRead, answer_due};
+ghost use Rattle.rx_run.specs.Refusals.{finish_of, place_of};
+ghost use Rattle.rx_run.specs.Run.{Breaks, BreaksFor, Ends, EndsFor, IsPlaced, IsPlacedFor};
+ghost use Rattle.rx_run.specs.Run.{IsReadOut, RoomFills, RoomFillsOne, Stops, StopsWriting};
+ghost use Rattle.rx_run.specs.PatternRuns.{IsMakeDue, IsMatchDue, IsNoPattern, SpellsPattern};
+
+use crate::ending::{Finish, Place, RunFault};
+use crate::pattern::answer::{Answer, make_of_reading, match_reading};
+use crate::pattern::lines::write_answer;
+use crate::pattern::reading::{read_pattern, read_pattern_in};
+use crate::refusal::Reading;
+use crate::term::reading::{MOST_CELLS, empty_bank};
+use crate::writing::flush;
+use rx_pattern::Pattern;
+use rx_term::TermBank;
+use std::alloc::Global;
+use std::io::{Read, Write};
+
+/// Reads a pattern and then the text of a term, writes `yes` and a line for each binding, or `no`,
+/// and flushes; or the line of a refusal. Where the pattern is refused nothing of the input is
+/// read; else what a fault leaves of the reader is open.
+pub fn run_match<R: Read, W: Write>(
+    alloc: Global,
+    pattern: &[u8],
+    input: &mut R,
+    out: &mut W,
+) -> Result<Finish, RunFault>
+    ensures output { IfOk result (λ finish. EndsFor (IsMatchDue pattern.now)
+        (R.remaining input.old) finish (W.contents out.old) (W.contents out.new)) }
+    ensures fault { IfErr result (λ fault. BreaksFor (IsMatchDue pattern.now)
+        (R.remaining input.old) fault (W.contents out.old) (W.contents out.new)) }
+    ensures input_read { OnOk result ((p : Tree) → SpellsPattern pattern.now p
+        → IsReadOut (R.remaining input.old) (R.remaining input.new)) }
+    ensures unread { IsNoPattern pattern.now → input.new ≡ input.old }
+{
+    let mut place = None;
+    run_match_at(alloc, pattern, input, out, &mut place)
+}
+
+/// The same, with the place of the refusal that was written.
+pub fn run_match_at<R: Read, W: Write>(
+    alloc: Global,
+    pattern: &[u8],
+    input: &mut R,
+    out: &mut W,
+    place: &mut Option<Place>,
+) -> Result<Finish, RunFault>
+    ensures output { IfOk result (λ finish. EndsFor (IsMatchDue pattern.now)
+        (R.remaining input.old) finish (W.contents out.old) (W.contents out.new)) }
+    ensures place { OnOk result
+        (IsPlacedFor (IsMatchDue pattern.now) (R.remaining input.old) place.new) }
+    ensures fault { IfErr result (λ fault. BreaksFor (IsMatchDue pattern.now)
+        (R.remaining input.old) fault (W.contents out.old) (W.contents out.new)) }
+    ensures no_place { OnErr result (place.new ≡ None) }
+    ensures input_read { OnOk result ((p : Tree) → SpellsPattern pattern.now p
+        → IsReadOut (R.remaining input.old) (R.remaining input.new)) }
+    ensures unread { IsNoPattern pattern.now → input.new ≡ input.old }
+{
+    *place = None;
+    match empty_bank(alloc, MOST_CELLS) {
+        Ok(bank) => match_owned(alloc, bank, pattern, input, out, place),
+        Err(fault) => Err(fault),
+    }
+}
+
+/// The same over two banks, to which it brings terms and nothing else: one for the text of the
+/// pattern, one for that of the term. Want of cells comes where one of them has no cell left.
+pub fn run_match_in<B: TermBank, R: Read, W: Write>(
+    alloc: Global,
+    patterns: &mut B,
+    bank: &mut B,
+    pattern: &[u8],
+    input: &mut R,
+    out: &mut W,
+    place: &mut Option<Place>,
+) -> Result<Finish, RunFault>
+    ensures output { IfOk result (λ finish. EndsFor (IsMatchDue pattern.now)
+        (R.remaining input.old) finish (W.contents out.old) (W.contents out.new)) }
+    ensures place { OnOk result
+        (IsPlacedFor (IsMatchDue pattern.now) (R.remaining input.old) place.new) }
+    ensures fault { IfErr result (λ fault. BreaksFor (IsMatchDue pattern.now)
+        (R.remaining input.old) fault (W.contents out.old) (W.contents out.new)) }
+    ensures no_place { OnErr result (place.new ≡ None) }
+    ensures room { IfErr result (RoomFillsOne (B.store patterns.old) (B.store patterns.new)
+        (B.store bank.old) (B.store bank.new)) }
+    ensures caps { ((B.store patterns.new).cap ≡ (B.store patterns.old).cap)
+        × ((B.store bank.new).cap ≡ (B.store bank.old).cap) }
+    ensures input_read { OnOk result ((p : Tree) → SpellsPattern pattern.now p
+        → IsReadOut (R.remaining input.old) (R.remaining input.new)) }
+    ensures unread { IsNoPattern pattern.now → input.new ≡ input.old }
+{
+    *place = None;
+    let reading = read_pattern_in(alloc, pattern, patterns)?;
+    match_over(alloc, reading, bank, pattern, input, out, place)
+}
+
+/// A match over a bank of its own.
+fn match_owned<B: TermBank + Drop, R: Read, W: Write>(
+    alloc: Global,
+    mut bank: B,
+    pattern: &[u8],
+    input: &mut R,
+    out: &mut W,
+    place: &mut Option<Place>,
+) -> Result<Finish, RunFault>
+    requires { place.old ≡ None }
+    ensures output { IfOk result (λ finish. EndsFor (IsMatchDue pattern.now)
+        (R.remaining input.old) finish (W.contents out.old) (W.contents out.new)) }
+    ensures place { OnOk result
+        (IsPlacedFor (IsMatchDue pattern.now) (R.remaining input.old) place.new) }
+    ensures fault { IfErr result (λ fault. BreaksFor (IsMatchDue pattern.now)
+        (R.remaining input.old) fault (W.contents out.old) (W.contents out.new)) }
+    ensures no_place { OnErr result (place.new ≡ None) }
+    ensures input_read { OnOk result ((p : Tree) → SpellsPattern pattern.now p
+        → IsReadOut (R.remaining input.old) (R.remaining input.new)) }
+    ensures unread { IsNoPattern pattern.now → input.new ≡ input.old }
+{
+    let reading = read_pattern(alloc, pattern)?;
+    match_over(alloc, reading, &mut bank, pattern, input, out, place)
+}
+
+/// A match over a bank, of a text that came to this pattern.
+fn match_over<B: TermBank, R: Read, W: Write>(
+    alloc: Global,
+    reading: Reading<Pattern>,
+    bank: &mut B,
+    pattern: &[u8],
+    input: &mut R,
+    out: &mut W,
+    place: &mut Option<Place>,
+) -> Result<Finish, RunFault>
+    requires read { IsPatternRead pattern.now reading }
+    requires no_place { place.old ≡ None }
+    ensures output { IfOk result (λ finish. EndsFor (IsMatchDue pattern.now)
+        (R.remaining input.old) finish (W.contents out.old) (W.contents out.new)) }
+    ensures place { OnOk result
+        (IsPlacedFor (IsMatchDue pattern.now) (R.remaining input.old) place.new) }
+    ensures fault { IfErr result (λ fault. BreaksFor (IsMatchDue pattern.now)
+        (R.remaining input.old) fault (W.contents out.old) (W.contents out.new)) }
+    ensures no_place { OnErr result (place.new ≡ None) }
+    ensures room { IfErr result (RoomFills (B.store bank.old) (B.store bank.new)) }
+    ensures cap { (B.store bank.new).cap ≡ (B.store bank.old).cap }
+    ensures input_read { OnOk result ((p : Tree) → SpellsPattern pattern.now p
+        → IsReadOut (R.remaining input.old) (R.remaining input.new)) }
+    ensures unread { IsNoPattern pattern.now → input.new ≡ input.old }
+{
+    let answer = match_reading(alloc, reading, input, bank)?;
+    end_answer(alloc, bank, &answer, out, place)
+}
+
+/// Makes a tree from the texts of a pattern and of its arguments, writes its printed text and a
+/// line end, and flushes; or the line of a refusal.
+pub fn run_make<W: Write>(
+    alloc: Global,
+    pattern: &[u8],
+    args: &[u8],
+    out: &mut W,
+) -> Result<Finish, RunFault>
+    ensures output { IfOk result (λ finish.
+        Ends (IsMakeDue pattern.now args.now) finish (W.contents out.old) (W.contents out.new)) }
+    ensures fault { IfErr result (λ fault.
+        Breaks (IsMakeDue pattern.now args.now) fault (W.contents out.old) (W.contents out.new)) }
+    ensures no_reader { IfErr result (λ fault. fault ≢ RunFault.Read) }
+{
+    let mut place = None;
+    run_make_at(alloc, pattern, args, out, &mut place)
+}
+
+/// The same, with the place of the refusal that was written.
+pub fn run_make_at<W: Write>(
+    alloc: Global,
+    pattern: &[u8],
+    args: &[u8],
+    out: &mut W,
+    place: &mut Option<Place>,
+) -> Result<Finish, RunFault>
+    ensures output { IfOk result (λ finish.
+        Ends (IsMakeDue pattern.now args.now) finish (W.contents out.old) (W.contents out.new)) }
+    ensures place { OnOk result (IsPlaced (IsMakeDue pattern.now args.now) place.new) }
+    ensures fault { IfErr result (λ fault.
+        Breaks (IsMakeDue pattern.now args.now) fault (W.contents out.old) (W.contents out.new)) }
+    ensures no_place { OnErr result (place.new ≡ None) }
+    ensures no_reader { IfErr result (λ fault. fault ≢ RunFault.Read) }
+{
+    *place = None;
+    match empty_bank(alloc, MOST_CELLS) {
+        Ok(bank) => make_owned(alloc, bank, pattern, args, out, place),
+        Err(fault) => Err(fault),
+    }
+}
+
+/// The same over two banks, to which it brings terms and nothing else: one for the text of the
+/// pattern, one for that of the arguments and what is made. Want of cells comes where one of them
+/// has no cell left.
+pub fn run_make_in<B: TermBank, W: Write>(
+    alloc: Global,
+    patterns: &mut B,
+    bank: &mut B,
+    pattern: &[u8],
+    args: &[u8],
+    out: &mut W,
+    place: &mut Option<Place>,
+) -> Result<Finish, RunFault>
+    ensures output { IfOk result (λ finish.
+        Ends (IsMakeDue pattern.now args.now) finish (W.contents out.old) (W.contents out.new)) }
+    ensures place { OnOk result (IsPlaced (IsMakeDue pattern.now args.now) place.new) }
+    ensures fault { IfErr result (λ fault.
+        Breaks (IsMakeDue pattern.now args.now) fault (W.contents out.old) (W.contents out.new)) }
+    ensures no_place { OnErr result (place.new ≡ None) }
+    ensures room { IfErr result (RoomFillsOne (B.store patterns.old) (B.store patterns.new)
+        (B.store bank.old) (B.store bank.new)) }
+    ensures caps { ((B.store patterns.new).cap ≡ (B.store patterns.old).cap)
+        × ((B.store bank.new).cap ≡ (B.store bank.old).cap) }
+    ensures no_reader { IfErr result (λ fault. fault ≢ RunFault.Read) }
+{
+    *place = None;
+    let reading = read_pattern_in(alloc, pattern, patterns)?;
+    make_over(alloc, reading, bank, pattern, args, out, place)
+}
+
+/// A make over a bank of its own.
+fn make_owned<B: TermBank + Drop, W: Write>(
+    alloc: Global,
+    mut bank: B,
+    pattern: &[u8],
+    args: &[u8],
+    out: &mut W,
+    place: &mut Option<Place>,
+) -> Result<Finish, RunFault>
+    requires { place.old ≡ None }
+    ensures output { IfOk result (λ finish.
+        Ends (IsMakeDue pattern.now args.now) finish (W.contents out.old) (W.contents out.new)) }
+    ensures place { OnOk result (IsPlaced (IsMakeDue pattern.now args.now) place.new) }
+    ensures fault { IfErr result (λ fault.
+        Breaks (IsMakeDue pattern.now args.now) fault (W.contents out.old) (W.contents out.new)) }
+    ensures no_place { OnErr result (place.new ≡ None) }
+    ensures no_reader { IfErr result (λ fault. fault ≢ RunFault.Read) }
+{
+    let reading = read_pattern(alloc, pattern)?;
+    make_over(alloc, reading, &mut bank, pattern, args, out, place)
+}
+
+/// A make over a bank, of a text that came to this pattern.
+fn make_over<B: TermBank, W: Write>(
+    alloc: Global,
+    reading: Reading<Pattern>,
+    bank: &mut B,
+    pattern: &[u8],
+    args: &[u8],
+    out: &mut W,
+    place: &mut Option<Place>,
+) -> Result<Finish, RunFault>
+    requires read { IsPatternRead pattern.now reading }
+    requires no_place { place.old ≡ None }
+    ensures output { IfOk result (λ finish.
+        Ends (IsMakeDue pattern.now args.now) finish (W.contents out.old) (W.contents out.new)) }
+    ensures place { OnOk result (IsPlaced (IsMakeDue pattern.now args.now) place.new) }
+    ensures fault { IfErr result (λ fault.
+        Breaks (IsMakeDue pattern.now args.now) fault (W.contents out.old) (W.contents out.new)) }
+    ensures no_place { OnErr result (place.new ≡ None) }
+    ensures room { IfErr result (RoomFills (B.store bank.old) (B.store bank.new)) }
+    ensures cap { (B.store bank.new).cap ≡ (B.store bank.old).cap }
+    ensures no_reader { IfErr result (λ fault. fault ≢ RunFault.Read) }
+{
+    let answer = make_of_reading(alloc, reading, args, bank)?;
+    end_answer(alloc, bank, &answer, out, place)
+}
+
+/// Writes what is due for what the texts came to, and flushes: how the run ends, and the place of
+/// the refusal that was written.
+fn end_answer<B: TermBank, W: Write>(
+    alloc: Global,
+    bank: &B,
+    answer: &Reading<Answer>,
+    out: &mut W,
+    place: &mut Option<Place>,
+) -> Result<Finish, RunFault>
+    requires held { IsAnswerHeld (B.store bank.now) answer.now }
+    requires no_place { place.old ≡ None }
+    ensures ends { IfOk result (λ finish. finish ≡ finish_of answer.now) }
+    ensures ok { OnOk result (Appends (W.contents out.old) (W.contents out.new)
+        (answer_due (B.store bank.now) answer.now).text) }
+    ensures place { OnOk result (place.new ≡ place_of answer.now) }
+    ensures err { IfErr result (λ fault. Stops fault (answer_due (B.store bank.now) answer.now).text
+        (W.contents out.old) (W.contents out.new)) }
+    ensures no_place { OnErr result (place.new ≡ None) }
+    ensures writing { IfErr result StopsWriting }
+{
+    write_answer(alloc, bank, answer, out)?;
+    flush(out)?;
+    *place = answer.place();
+    Ok(answer.finish())
+}

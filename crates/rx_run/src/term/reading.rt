@@ -1,0 +1,69 @@
+//! Reading the text of one term.
+
+ghost use Rattle.std.specs.Prelude.{◌≡◌, ◌<◌, ◌≤◌, IfOk, IfErr, OnOk};
+ghost use Rattle.rx_term.specs.Steps.{Grows};
+ghost use Rattle.rx_text.specs.Verdict.{Verdict, IsVerdict};
+ghost use Rattle.rx_shared.specs.State.{IsEmptyStore, store_of};
+ghost use Rattle.rx_run.specs.Run.{IsReadOut, RanOut, StopsUnwritten};
+ghost use Rattle.rx_run.specs.TermRuns.{IsGiven, IsReadingOf};
+
+use crate::ending::{RunFault, Source};
+use crate::refusal::{Reading, Reason};
+use crate::streams::read_all;
+use rx_shared::SharedBank;
+use rx_term::{Term, TermBank};
+use rx_text::TextFault;
+use std::alloc::Global;
+use std::io::Read;
+
+/// The most cells that a bank may have.
+pub const MOST_CELLS: u32 = 1_073_741_824;
+
+/// Reads the text of a term into a bank.
+pub(crate) fn read_term<B: TermBank, R: Read>(
+    alloc: Global,
+    input: &mut R,
+    bank: &mut B,
+) -> Result<Reading<Term>, RunFault>
+    ensures read { IfOk result
+        (λ reading. IsGiven (R.remaining input.old) (B.store bank.new) reading) }
+    ensures grows { Grows (B.store bank.old) (B.store bank.new) }
+    ensures out { OnOk result (IsReadOut (R.remaining input.old) (R.remaining input.new)) }
+    ensures fault { IfErr result (StopsUnwritten (B.store bank.old) (B.store bank.new)) }
+{
+    let text = read_all(alloc, input)?;
+    parse(alloc, Source::Term, &text, bank)
+}
+
+/// An empty bank of at most so many cells; the error is want of memory.
+pub fn empty_bank(alloc: Global, cells: u32) -> Result<SharedBank, RunFault>
+    requires { (0 < cells) × (cells ≤ 1073741824) }
+    ensures empty { IfOk result (λ bank. IsEmptyStore (store_of bank) cells) }
+    ensures fault { IfErr result (λ fault. fault ≡ RunFault.Memory 0) }
+{
+    match SharedBank::new(alloc, cells) {
+        Ok(bank) => Ok(bank),
+        Err(_) => Err(RunFault::Memory { lines: 0 }),
+    }
+}
+
+/// The verdict on a text, with its term in the bank.
+pub fn parse<B: TermBank>(
+    alloc: Global,
+    source: Source,
+    text: &[u8],
+    bank: &mut B,
+) -> Result<Reading<Term>, RunFault>
+    ensures read { IfOk result (λ reading. (v : Verdict) ×
+        IsReadingOf source (B.store bank.new) reading v × IsVerdict text.now v) }
+    ensures grows { Grows (B.store bank.old) (B.store bank.new) }
+    ensures fault { IfErr result (RanOut (B.store bank.old) (B.store bank.new)) }
+{
+    match rx_text::read(alloc, text, bank) {
+        Ok(term) => Ok(Reading::Good(term)),
+        Err(TextFault::Long) => Ok(Reading::refused(source, Reason::Long)),
+        Err(TextFault::Grammar { at }) => Ok(Reading::refused(source, Reason::Outside { at })),
+        Err(TextFault::Memory) => Err(RunFault::Memory { lines: 0 }),
+        Err(TextFault::Full) => Err(RunFault::Room { lines: 0 }),
+    }
+}

@@ -1,0 +1,325 @@
+//! Runs on the text of one term: printing it, and counting its different parts.
+
+ghost use Rattle.std.specs.Prelude.{◌≡◌, ℕ, None, IfErr, IfOk, IfSome, IsSome, OnErr, OnOk};
+ghost use Rattle.std.specs.Io.KnownBytes.{Appends};
+ghost use Rattle.rx_term.specs.Parts.{part_count};
+ghost use Rattle.rx_term.specs.Store.{tree_at};
+ghost use Rattle.rx_text.specs.Written.{AppendsFront};
+ghost use Rattle.rx_run.specs.Run.{BreaksFor, EndsFor, IsPlacedFor, IsReadOut, RoomFills, Stops};
+ghost use Rattle.rx_run.specs.Run.{StopsWriting};
+ghost use Rattle.rx_run.specs.TermRuns.{
+  IsDueOf,
+  IsShareDue,
+  IsTermDue,
+  IsTermHeld,
+  IsUnrooted,
+  cells_line,
+  due_at,
+  lines_at,
+  lines_for,
+  share_lines,
+};
+
+use crate::ending::{Finish, Place, RunFault};
+use crate::refusal::Reading;
+use crate::term::reading::{MOST_CELLS, empty_bank, read_term};
+use crate::writing::{flush, put_numbered, write_line, write_refusal};
+use rx_term::{Term, TermBank};
+use rx_text::{RefusedWrite, put};
+use std::alloc::Global;
+use std::io::{Read, Write};
+
+/// The lines of a term that a run is to write.
+#[derive(Clone, Copy)]
+enum TermLines {
+    /// Its printed text.
+    Text,
+    /// That, and how many cells it takes.
+    TextAndCells,
+}
+
+/// Reads the text of a term, writes its printed text and a line end, and flushes; or the line of
+/// its refusal. What a fault leaves of the reader is open.
+pub fn run_aterm<R: Read, W: Write>(
+    alloc: Global,
+    input: &mut R,
+    out: &mut W,
+) -> Result<Finish, RunFault>
+    ensures output { IfOk result (λ finish. EndsFor IsTermDue (R.remaining input.old)
+        finish (W.contents out.old) (W.contents out.new)) }
+    ensures fault { IfErr result (λ fault. BreaksFor IsTermDue (R.remaining input.old)
+        fault (W.contents out.old) (W.contents out.new)) }
+    ensures input_read { OnOk result (IsReadOut (R.remaining input.old) (R.remaining input.new)) }
+{
+    let mut place = None;
+    run_aterm_at(alloc, input, out, &mut place)
+}
+
+/// The same, with the place of the refusal that was written.
+pub fn run_aterm_at<R: Read, W: Write>(
+    alloc: Global,
+    input: &mut R,
+    out: &mut W,
+    place: &mut Option<Place>,
+) -> Result<Finish, RunFault>
+    ensures output { IfOk result (λ finish. EndsFor IsTermDue (R.remaining input.old)
+        finish (W.contents out.old) (W.contents out.new)) }
+    ensures place { OnOk result (IsPlacedFor IsTermDue (R.remaining input.old) place.new) }
+    ensures fault { IfErr result (λ fault. BreaksFor IsTermDue (R.remaining input.old)
+        fault (W.contents out.old) (W.contents out.new)) }
+    ensures no_place { OnErr result (place.new ≡ None) }
+    ensures input_read { OnOk result (IsReadOut (R.remaining input.old) (R.remaining input.new)) }
+{
+    run_on_term(alloc, input, out, TermLines::Text, place)
+}
+
+/// Reads the text of a term, writes its printed text and how many cells it takes, each with a line
+/// end, and flushes; or the line of its refusal. What a fault leaves of the reader is open.
+pub fn run_share<R: Read, W: Write>(
+    alloc: Global,
+    input: &mut R,
+    out: &mut W,
+) -> Result<Finish, RunFault>
+    ensures output { IfOk result (λ finish. EndsFor IsShareDue (R.remaining input.old)
+        finish (W.contents out.old) (W.contents out.new)) }
+    ensures fault { IfErr result (λ fault. BreaksFor IsShareDue (R.remaining input.old)
+        fault (W.contents out.old) (W.contents out.new)) }
+    ensures input_read { OnOk result (IsReadOut (R.remaining input.old) (R.remaining input.new)) }
+{
+    let mut place = None;
+    run_share_at(alloc, input, out, &mut place)
+}
+
+/// The same, with the place of the refusal that was written.
+pub fn run_share_at<R: Read, W: Write>(
+    alloc: Global,
+    input: &mut R,
+    out: &mut W,
+    place: &mut Option<Place>,
+) -> Result<Finish, RunFault>
+    ensures output { IfOk result (λ finish. EndsFor IsShareDue (R.remaining input.old)
+        finish (W.contents out.old) (W.contents out.new)) }
+    ensures place { OnOk result (IsPlacedFor IsShareDue (R.remaining input.old) place.new) }
+    ensures fault { IfErr result (λ fault. BreaksFor IsShareDue (R.remaining input.old)
+        fault (W.contents out.old) (W.contents out.new)) }
+    ensures no_place { OnErr result (place.new ≡ None) }
+    ensures input_read { OnOk result (IsReadOut (R.remaining input.old) (R.remaining input.new)) }
+{
+    run_on_term(alloc, input, out, TermLines::TextAndCells, place)
+}
+
+/// `run_aterm_at` over a bank, to which it brings terms and nothing else. Want of cells comes where
+/// no cell is left.
+pub fn run_aterm_in<B: TermBank, R: Read, W: Write>(
+    alloc: Global,
+    bank: &mut B,
+    input: &mut R,
+    out: &mut W,
+    place: &mut Option<Place>,
+) -> Result<Finish, RunFault>
+    ensures output { IfOk result (λ finish. EndsFor IsTermDue (R.remaining input.old)
+        finish (W.contents out.old) (W.contents out.new)) }
+    ensures place { OnOk result (IsPlacedFor IsTermDue (R.remaining input.old) place.new) }
+    ensures fault { IfErr result (λ fault. BreaksFor IsTermDue (R.remaining input.old)
+        fault (W.contents out.old) (W.contents out.new)) }
+    ensures no_place { OnErr result (place.new ≡ None) }
+    ensures room { IfErr result (RoomFills (B.store bank.old) (B.store bank.new)) }
+    ensures cap { (B.store bank.new).cap ≡ (B.store bank.old).cap }
+    ensures input_read { OnOk result (IsReadOut (R.remaining input.old) (R.remaining input.new)) }
+{
+    run_over(alloc, bank, input, out, TermLines::Text, place)
+}
+
+/// `run_share_at` over a bank in which nothing is protected: where the text is a term's, the bank
+/// keeps that term alone. Want of cells comes where no cell is left, before anything is given back.
+pub fn run_share_in<B: TermBank, R: Read, W: Write>(
+    alloc: Global,
+    bank: &mut B,
+    input: &mut R,
+    out: &mut W,
+    place: &mut Option<Place>,
+) -> Result<Finish, RunFault>
+    requires { (t : ℕ) → (B.store bank.old).roots t ≡ 0 }
+    ensures output { IfOk result (λ finish. EndsFor IsShareDue (R.remaining input.old)
+        finish (W.contents out.old) (W.contents out.new)) }
+    ensures place { OnOk result (IsPlacedFor IsShareDue (R.remaining input.old) place.new) }
+    ensures fault { IfErr result (λ fault. BreaksFor IsShareDue (R.remaining input.old)
+        fault (W.contents out.old) (W.contents out.new)) }
+    ensures no_place { OnErr result (place.new ≡ None) }
+    ensures room { IfErr result (RoomFills (B.store bank.old) (B.store bank.new)) }
+    ensures cap { (B.store bank.new).cap ≡ (B.store bank.old).cap }
+    ensures input_read { OnOk result (IsReadOut (R.remaining input.old) (R.remaining input.new)) }
+{
+    run_over(alloc, bank, input, out, TermLines::TextAndCells, place)
+}
+
+/// Reads the text of a term, writes the lines that are asked for, and flushes; or the line of its
+/// refusal, whose place it gives.
+fn run_on_term<R: Read, W: Write>(
+    alloc: Global,
+    input: &mut R,
+    out: &mut W,
+    lines: TermLines,
+    place: &mut Option<Place>,
+) -> Result<Finish, RunFault>
+    ensures output { IfOk result (λ finish. EndsFor (IsDueOf (lines_for lines))
+        (R.remaining input.old) finish (W.contents out.old) (W.contents out.new)) }
+    ensures place { OnOk result
+        (IsPlacedFor (IsDueOf (lines_for lines)) (R.remaining input.old) place.new) }
+    ensures fault { IfErr result (λ fault. BreaksFor (IsDueOf (lines_for lines))
+        (R.remaining input.old) fault (W.contents out.old) (W.contents out.new)) }
+    ensures no_place { OnErr result (place.new ≡ None) }
+    ensures input_read { OnOk result (IsReadOut (R.remaining input.old) (R.remaining input.new)) }
+{
+    *place = None;
+    match empty_bank(alloc, MOST_CELLS) {
+        Ok(bank) => run_owned(alloc, bank, input, out, lines, place),
+        Err(fault) => Err(fault),
+    }
+}
+
+/// The same over a bank of its own.
+fn run_owned<B: TermBank + Drop, R: Read, W: Write>(
+    alloc: Global,
+    mut bank: B,
+    input: &mut R,
+    out: &mut W,
+    lines: TermLines,
+    place: &mut Option<Place>,
+) -> Result<Finish, RunFault>
+    requires { (t : ℕ) → (B.store bank).roots t ≡ 0 }
+    ensures output { IfOk result (λ finish. EndsFor (IsDueOf (lines_for lines))
+        (R.remaining input.old) finish (W.contents out.old) (W.contents out.new)) }
+    ensures place { OnOk result
+        (IsPlacedFor (IsDueOf (lines_for lines)) (R.remaining input.old) place.new) }
+    ensures fault { IfErr result (λ fault. BreaksFor (IsDueOf (lines_for lines))
+        (R.remaining input.old) fault (W.contents out.old) (W.contents out.new)) }
+    ensures no_place { OnErr result (place.new ≡ None) }
+    ensures input_read { OnOk result (IsReadOut (R.remaining input.old) (R.remaining input.new)) }
+{
+    run_over(alloc, &mut bank, input, out, lines, place)
+}
+
+/// The same over a bank, in which nothing is protected where its cells are counted.
+fn run_over<B: TermBank, R: Read, W: Write>(
+    alloc: Global,
+    bank: &mut B,
+    input: &mut R,
+    out: &mut W,
+    lines: TermLines,
+    place: &mut Option<Place>,
+) -> Result<Finish, RunFault>
+    requires { IsUnrooted lines (B.store bank.old) }
+    ensures output { IfOk result (λ finish. EndsFor (IsDueOf (lines_for lines))
+        (R.remaining input.old) finish (W.contents out.old) (W.contents out.new)) }
+    ensures place { OnOk result
+        (IsPlacedFor (IsDueOf (lines_for lines)) (R.remaining input.old) place.new) }
+    ensures fault { IfErr result (λ fault. BreaksFor (IsDueOf (lines_for lines))
+        (R.remaining input.old) fault (W.contents out.old) (W.contents out.new)) }
+    ensures no_place { OnErr result (place.new ≡ None) }
+    ensures room { IfErr result (RoomFills (B.store bank.old) (B.store bank.new)) }
+    ensures cap { (B.store bank.new).cap ≡ (B.store bank.old).cap }
+    ensures input_read { OnOk result (IsReadOut (R.remaining input.old) (R.remaining input.new)) }
+{
+    *place = None;
+    let reading = read_term(alloc, input, bank)?;
+    write_due(alloc, bank, &reading, lines, out)?;
+    flush(out)?;
+    *place = reading.place();
+    Ok(reading.finish())
+}
+
+/// Writes what is due for what a text came to.
+fn write_due<B: TermBank, W: Write>(
+    alloc: Global,
+    bank: &mut B,
+    reading: &Reading<Term>,
+    lines: TermLines,
+    out: &mut W,
+) -> Result<(), RunFault>
+    requires held { IsTermHeld (B.store bank.old) reading.now }
+    requires unrooted { IsUnrooted lines (B.store bank.old) }
+    ensures ok { OnOk result (Appends (W.contents out.old) (W.contents out.new)
+        (due_at (lines_for lines) (B.store bank.old) reading.now).text) }
+    ensures err { IfErr result (λ fault.
+        Stops fault (due_at (lines_for lines) (B.store bank.old) reading.now).text
+        (W.contents out.old) (W.contents out.new)) }
+    ensures writing { IfErr result StopsWriting }
+    ensures cap { (B.store bank.new).cap ≡ (B.store bank.old).cap }
+{
+    match reading {
+        Reading::Refused(refusal) => write_refusal(*refusal, out)?,
+        Reading::Good(t) => write_term_lines(alloc, bank, *t, lines, out)?,
+    }
+    Ok(())
+}
+
+/// Writes the lines of a term that are asked for.
+fn write_term_lines<B: TermBank, W: Write>(
+    alloc: Global,
+    bank: &mut B,
+    t: Term,
+    lines: TermLines,
+    out: &mut W,
+) -> Result<(), RunFault>
+    requires held { IsSome (tree_at (B.store bank.old) t) }
+    requires unrooted { IsUnrooted lines (B.store bank.old) }
+    ensures ok { OnOk result (Appends (W.contents out.old) (W.contents out.new)
+        (lines_at (lines_for lines) (B.store bank.old) t)) }
+    ensures err { IfErr result
+        (λ fault. Stops fault (lines_at (lines_for lines) (B.store bank.old) t)
+        (W.contents out.old) (W.contents out.new)) }
+    ensures writing { IfErr result StopsWriting }
+    ensures cap { (B.store bank.new).cap ≡ (B.store bank.old).cap }
+{
+    match lines {
+        TermLines::Text => write_line(alloc, bank, t, 0, out),
+        TermLines::TextAndCells => write_counted(alloc, bank, t, out),
+    }
+}
+
+/// Writes the printed text of a term and how many cells it takes, each with a line end.
+fn write_counted<B: TermBank, W: Write>(
+    alloc: Global,
+    bank: &mut B,
+    t: Term,
+    out: &mut W,
+) -> Result<(), RunFault>
+    requires held { IsSome (tree_at (B.store bank.old) t) }
+    requires unrooted { (r : ℕ) → (B.store bank.old).roots r ≡ 0 }
+    ensures ok { OnOk result (Appends (W.contents out.old) (W.contents out.new)
+        (lines_at share_lines (B.store bank.old) t)) }
+    ensures err { IfErr result (λ fault. Stops fault (lines_at share_lines (B.store bank.old) t)
+        (W.contents out.old) (W.contents out.new)) }
+    ensures writing { IfErr result StopsWriting }
+    ensures cap { (B.store bank.new).cap ≡ (B.store bank.old).cap }
+{
+    let cells = keep_alone(bank, t);
+    write_line(alloc, bank, t, 0, out)?;
+    write_cells(cells, out)?;
+    Ok(())
+}
+
+/// Reclaims all but a term; how many cells it takes.
+fn keep_alone<B: TermBank>(bank: &mut B, t: Term) -> u32
+    requires held { IsSome (tree_at (B.store bank.old) t) }
+    requires unrooted { (r : ℕ) → (B.store bank.old).roots r ≡ 0 }
+    ensures kept { tree_at (B.store bank.new) t ≡ tree_at (B.store bank.old) t }
+    ensures counted { IfSome (tree_at (B.store bank.old) t) (λ u. result ≡ part_count u) }
+    ensures cap { (B.store bank.new).cap ≡ (B.store bank.old).cap }
+{
+    bank.reclaim(&[t]);
+    bank.cells()
+}
+
+/// Writes how many cells there are, and a line end.
+fn write_cells<W: Write>(cells: u32, out: &mut W) -> Result<(), RefusedWrite>
+    ensures ok { OnOk result
+        (Appends (W.contents out.old) (W.contents out.new) (cells_line cells)) }
+    ensures err { OnErr result
+        (AppendsFront (cells_line cells) (W.contents out.old) (W.contents out.new)) }
+{
+    put_numbered(out, b"cells ", u64::from(cells))?;
+    put(out, b"\n")?;
+    Ok(())
+}
