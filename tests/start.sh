@@ -9,8 +9,8 @@ trap 'rm -rf -- "$room"' EXIT
 chmod 755 "$room"
 failures=0
 
-# The stand-in counts its runs in the file `runs`, waits as long as the file `slow` says, and ends as
-# the file `status` says.
+# The stand-in counts its runs in the file `runs`, waits as long as the file `slow` says, or for a
+# crate `slow.CRATE`, and ends as the file `status` says.
 make_tree() {
     tree=$room/$1
     mkdir -p "$tree/bin" "$tree/crates/low/src" "$tree/crates/recw/src" "$tree/crates/other/src"
@@ -28,7 +28,9 @@ END
 #!/bin/sh
 echo "\$(basename "\$PWD") \$*" >>'$tree/runs'
 [ "\$1" = try ] || echo "rt at work"
-[ ! -e '$tree/slow' ] || sleep "\$(cat '$tree/slow')"
+for slow in '$tree/slow' '$tree'/slow."\$(basename "\$PWD")"; do
+    [ ! -e "\$slow" ] || sleep "\$(cat "\$slow")"
+done
 [ ! -e '$tree/status' ] || exit "\$(cat '$tree/status')"
 case \$1 in
 lib) mkdir -p out/rlib && : >out/rlib/stamp ;;
@@ -149,6 +151,31 @@ same 'a crate beside the main line: lines' 2 "$(grep -c proving "$room/err")"
 [ "$(nproc)" -eq 1 ] || same 'a crate beside the main line: runs of rt' "$whole
 side lib --jobs N" "$(runs | sort -u)"
 same 'a crate beside the main line: no copy is left' no "$([ -e "$tree/crates/recw/out/build.copies" ] && echo yes || echo no)"
+
+# Of three places the crates beside have two: who has nothing left to begin gives its one back, while
+# the other is still at work.
+make_tree places
+mkdir -p "$tree/crates/middle/src" "$tree/crates/quick/src" "$tree/crates/long/src"
+head -c 9000 /dev/zero >"$tree/crates/low/src/lib.rt"
+head -c 9000 /dev/zero >"$tree/crates/middle/src/lib.rt"
+echo code >"$tree/crates/quick/src/lib.rt"
+echo code >"$tree/crates/long/src/lib.rt"
+cat >"$tree/crates.txt" <<'END'
+recw: middle quick long
+middle: low
+low:
+quick:
+long:
+END
+printf '#!/bin/sh\necho 3\n' >"$tree/bin/nproc"
+chmod 755 "$tree/bin/nproc"
+echo 2.5 >"$tree/slow.low"
+echo 4 >"$tree/slow.long"
+start
+program_ran 'places' ''
+same 'places: the main line' "low lib --jobs 1
+middle lib --jobs 2" "$(grep -E '^(low|middle) ' "$tree/runs")"
+rm -f "$tree/runs"
 
 make_tree unproved
 mkdir "$room/texts"
