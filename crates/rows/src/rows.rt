@@ -11,4 +11,5 @@ mod syntax;
 mod text;
 mod texts;
 mod trace;
+mod values;
 mod verdicts;
