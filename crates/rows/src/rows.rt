@@ -1,6 +1,7 @@
 //! Calls on worked texts, layer by layer.
 
 mod counting;
+mod depth;
 mod engine;
 mod given;
 mod links;

@@ -3,8 +3,10 @@
 ghost use Rattle.std.specs.Prelude.{◌≡◌, IsSome};
 ghost use Rattle.rx_term.specs.Store.{tree_at};
 
-use crate::rows::engine::{ADD, OPTIONS, TWENTY, engine_for, expect_text, is_room, outcome_of};
-use crate::rows::engine::{plain_bank, shared_bank, value_of};
+use crate::rows::engine::{
+    ADD, OPTIONS, TWENTY, engine_for, expect_text, is_room, outcome_of, plain_bank, shared_bank,
+    value_of,
+};
 use rec_engine::{Engine, Outcome};
 use rx_term::{Term, TermBank};
 use smallvec::SmallVec;
@@ -13,7 +15,9 @@ use std::process::Abort;
 
 /// The symbols of the addition, by their numbers.
 pub const ZERO: u32 = 0;
+
 pub const SUCCESSOR: u32 = 1;
+
 pub const ADDITION: u32 = 2;
 
 /// The constant of a symbol; beside it a reference is kept.
@@ -30,11 +34,18 @@ pub fn constant<B: TermBank>(
 }
 
 /// The application of a symbol to a value, which is kept.
-pub fn applied<B: TermBank>(rt: &impl Abort, engine: &mut Engine<B>, symbol: u32, value: Term) -> Term {
+pub fn applied<B: TermBank>(
+    rt: &impl Abort,
+    engine: &mut Engine<B>,
+    symbol: u32,
+    value: Term,
+) -> Term {
     assert!(rt; engine.bank().holds(value));
     assert!(rt; symbol < engine.checked().symbols());
     assert!(rt; engine.checked().arity(symbol) == 1);
-    engine.apply(value, symbol, &[value]).expect(rt, "an application")
+    engine
+        .apply(value, symbol, &[value])
+        .expect(rt, "an application")
 }
 
 /// The application of a symbol to two values, the first of which is kept.
@@ -47,7 +58,9 @@ fn applied_to_both<B: TermBank>(
     assert!(rt; engine.bank().holds(first) && engine.bank().holds(second));
     assert!(rt; symbol < engine.checked().symbols());
     assert!(rt; engine.checked().arity(symbol) == 2);
-    engine.apply(first, symbol, &[first, second]).expect(rt, "an application")
+    engine
+        .apply(first, symbol, &[first, second])
+        .expect(rt, "an application")
 }
 
 /// What the call of a symbol on two values comes to within `n` steps; the first one is kept.
@@ -61,7 +74,9 @@ fn called_on_both<B: TermBank>(
     assert!(rt; engine.bank().holds(first) && engine.bank().holds(second));
     assert!(rt; symbol < engine.checked().symbols());
     assert!(rt; engine.checked().arity(symbol) == 2);
-    engine.call(first, symbol, &[first, second], n).expect(rt, "an outcome")
+    engine
+        .call(first, symbol, &[first, second], n)
+        .expect(rt, "an outcome")
 }
 
 /// The list of one value.
@@ -100,10 +115,18 @@ fn calls_values<B: TermBank + Drop>(rt: &impl Abort, alloc: Global, bank: B) {
 }
 
 /// The first rule that matches a term.
-fn first_rule<B: TermBank>(rt: &impl Abort, alloc: Global, engine: &Engine<B>, t: Term) -> Option<u32> {
+fn first_rule<B: TermBank>(
+    rt: &impl Abort,
+    alloc: Global,
+    engine: &Engine<B>,
+    t: Term,
+) -> Option<u32> {
     assert!(rt; engine.bank().holds(t));
     let mut values = SmallVec::new(alloc);
-    engine.matcher().next(engine.bank(), t, 0, &mut values).expect(rt, "an answer")
+    engine
+        .matcher()
+        .next(engine.bank(), t, 0, &mut values)
+        .expect(rt, "an answer")
 }
 
 /// Stops where another rule matches `add(s(z),z)` than the second one, or any matches `s(z)`.
