@@ -44,3 +44,4 @@ pub mod MakingLemmas
 pub mod CallLemmas
 pub mod SpelledLemmas
 pub mod RootLemmas
+pub mod DepthLemmas

@@ -1,5 +1,5 @@
 -- A root that is counted once more or once less changes nothing that the engine knows.
-use Rattle.std.proofs.Common.{◌≡◌, refl, sym, subst, ℕ}
+use Rattle.std.proofs.Common.{◌≡◌, sym, subst, ℕ}
 use Rattle.std.specs.Prelude.{Result, Ok, Err}
 use Rattle.rx_term.specs.Store.{Store}
 use Rattle.rx_term.specs.Steps.{ProtectsOrRefuses, with_count}

@@ -1,19 +1,19 @@
 -- Letters that spell a ground tree make it, but for its annotations.
 use Rattle.std.proofs.Common.{refl, sym, ap, ap₂, subst, ◌∙◌, reverse, map}
-use Rattle.std.specs.Prelude.{ℕ, ◌≡◌, ◌<◌, ◌||◌, not, Bool, true, false, List, [], ◌∷◌, ◌++◌, Option, Some, None, Result, Ok, Err, IfOk}
+use Rattle.std.specs.Prelude.{ℕ, ◌≡◌, ◌||◌, not, Bool, true, false, List, [], ◌∷◌, ◌++◌, Option, Some, None, Result, Ok, Err, IfOk}
 use Rattle.std.specs.Bool.{beq}
 use Rattle.std.specs.List.{list_any}
-use Rattle.std.proofs.lemmas.List.{append-nil, reverse-append}
+use Rattle.std.proofs.lemmas.List.{reverse-append}
 use Rattle.std.proofs.lemmas.List.Folds.{list_any-append}
 use Rattle.rx_term.specs.Name.{plain_name}
 use Rattle.rx_term.specs.Tree.{Tree, Trees, Int, Appl, Items, Hole, none, more, count_of}
 use Rattle.rx_term.specs.Store.{Store, tree_at}
 use Rattle.rx_term.specs.declared.Term as bank
 use Rattle.rec_syntax.specs.Syntax.{Declaration, Spec}
-use Rattle.rec_sorts.specs.Lookup.{symbols, symbol, is_variable}
+use Rattle.rec_sorts.specs.Lookup.{symbol, is_variable}
 use Rattle.rec_sorts.specs.SpecRules.{fault}
 use Rattle.rec_sorts.specs.Laws.{Every}
-use Rattle.rec_sorts.specs.TermRules.{nodes, nodes_all, arguments, is_no_application, is_annotated, is_undeclared}
+use Rattle.rec_sorts.specs.TermRules.{nodes, nodes_all, is_no_application, is_annotated, is_undeclared}
 use Rattle.rec_sorts.specs.Binding.{tree_of, instances}
 use Rattle.rec_sorts.specs.Evaluation.{term_of, terms_of}
 use Rattle.rec_sorts.specs.Numbering.{Named, named, name_of, arity_of}
@@ -23,9 +23,8 @@ use Rattle.rec_sorts.specs.declared.letters.Meaning.TheVariants.{Symbol}
 use Rattle.rec_sorts.proofs.GivenLetterLemmas.{node_named, named-backwards}
 use Rattle.rec_match.proofs.FactLemmas.{facts}
 use Rattle.rec_match.proofs.LetterLemmas.{IsFilledName}
-use Rattle.rec_memo.specs.Pairs.{Pairs}
 use Rattle.rec_engine.specs.declared.cells.EngineFault.{EngineFault}
-use Rattle.rec_engine.specs.Engine.{IsGround, IsGiven, Spells, RoomOnlyFor}
+use Rattle.rec_engine.specs.Engine.{IsGround, IsGiven, Spells}
 use Rattle.rec_engine.specs.Given.{IsNode}
 use Rattle.rec_engine.specs.Made.{MakesOne}
 use Rattle.rec_engine.proofs.EngineLemmas.{terms-given}

@@ -10,6 +10,7 @@ pub mod Turn
 pub mod Compiled
 pub mod Answered
 pub mod Written
+pub mod Depth
 pub mod Engine
 pub mod Given
 pub mod Made

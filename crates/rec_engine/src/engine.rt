@@ -16,12 +16,14 @@ ghost use Rattle.rec_engine.specs.Machine.{IsCode, called};
 ghost use Rattle.rec_engine.specs.Constants.{KnowsNone};
 ghost use Rattle.rec_engine.specs.declared.cells.EngineFault.TheVariants.{Room};
 ghost use Rattle.rec_engine.specs.Cells.{RoomOnly};
+ghost use Rattle.rec_engine.specs.Depth.{RoomOnlyWithin, DeepOnly};
 ghost use Rattle.rec_engine.specs.Engine.{AreInRange, SameEngine, IsGiven, eval_tree, IsOutcome};
 ghost use Rattle.rec_engine.specs.Engine.{IsNormalised, IsKept, LetsGo, RemembersNothing, RoomOnlyFor};
 ghost use Rattle.rec_engine.specs.Engine.{IsCallOutcome, Spells};
 
 use crate::cells::EngineFault;
 use crate::code::Op;
+use crate::depth::{DepthFault, bounded, unbounded};
 use crate::machine::Machine;
 use crate::parts::Parts;
 use crate::terms::make_term;
@@ -77,6 +79,7 @@ impl<B: TermBank> Model for Engine<B> {
       bank = e.machine.bank;
       memo = e.machine.state.pace.memo;
       work = e.machine.work.items;
+      waiting = length e.machine.state.frames.items;
     } };
 
     ghost invariant = { λ e. (e.terms ≡ length e.machine.checked.spec.terms)
@@ -301,9 +304,50 @@ impl<B: TermBank> Engine<B> {
         ensures held { AllHeld (B.store self.new.bank) self.new.work }
         ensures room { RoomOnly (B.store self.new.bank) self.new.work self.new.memo result }
     {
+        unbounded(self.normalise_to(t, n, usize::MAX))
+    }
+
+    /// The same where at most `depth` may wait at once: the term for its call, a right side or a
+    /// condition for a call in it that is not its last, and, where it still may, a call for its own
+    /// result, which is to be kept.
+    pub fn normalise_within(&mut self, t: Term, n: u64, depth: u32) -> Result<Outcome, DepthFault>
+        requires { IsGiven self.old.spec (B.store self.old.bank) t }
+        ensures same { SameEngine self.old self.new }
+        ensures keeps { Keeps (B.store self.old.bank) (B.store self.new.bank) [] }
+        ensures given { tree_at (B.store self.new.bank) t ≡ tree_at (B.store self.old.bank) t }
+        ensures outcome { IfOk result (λ o. (u : Tree) → tree_at (B.store self.old.bank) t ≡ Some u
+            → IsOutcome self.new.spec (B.store self.new.bank) n u o) }
+        ensures rewriting { IfOk result
+            (λ o. (u : Tree) → tree_at (B.store self.old.bank) t ≡ Some u
+            → IsNormalised self.new.spec (B.store self.new.bank) n u o) }
+        ensures kept { IfOk result (IsKept self.new.work) }
+        ensures held { AllHeld (B.store self.new.bank) self.new.work }
+        ensures room { RoomOnlyWithin (B.store self.new.bank) self.new.work self.new.memo result }
+        ensures deep { DeepOnly self.new.waiting depth result }
+    {
+        self.normalise_to(t, n, depth as usize)
+    }
+
+    /// The same for any number of calls.
+    fn normalise_to(&mut self, t: Term, n: u64, depth: usize) -> Result<Outcome, DepthFault>
+        requires { IsGiven self.old.spec (B.store self.old.bank) t }
+        ensures same { SameEngine self.old self.new }
+        ensures keeps { Keeps (B.store self.old.bank) (B.store self.new.bank) [] }
+        ensures given { tree_at (B.store self.new.bank) t ≡ tree_at (B.store self.old.bank) t }
+        ensures outcome { IfOk result (λ o. (u : Tree) → tree_at (B.store self.old.bank) t ≡ Some u
+            → IsOutcome self.new.spec (B.store self.new.bank) n u o) }
+        ensures rewriting { IfOk result
+            (λ o. (u : Tree) → tree_at (B.store self.old.bank) t ≡ Some u
+            → IsNormalised self.new.spec (B.store self.new.bank) n u o) }
+        ensures kept { IfOk result (IsKept self.new.work) }
+        ensures held { AllHeld (B.store self.new.bank) self.new.work }
+        ensures room { RoomOnlyWithin (B.store self.new.bank) self.new.work self.new.memo result }
+        ensures deep { DeepOnly self.new.waiting depth result }
+    {
+        self.machine.state.depth = depth;
         let outcome = self.machine.normalise(&mut self.found, t, n);
         let_go(&mut self.machine.work, &outcome);
-        outcome
+        bounded(outcome)
     }
 
     /// What the call of a symbol on values comes to within `n` steps; the values are not evaluated
@@ -325,7 +369,54 @@ impl<B: TermBank> Engine<B> {
             (called self.old.spec symbol (held_trees (B.store self.old.bank) values.now))) }
         ensures room { RoomOnly (B.store self.new.bank) self.new.work self.new.memo result }
     {
-        self.machine.call_values(kept, symbol, values, n)
+        unbounded(self.call_to(kept, symbol, values, n, usize::MAX))
+    }
+
+    /// The same where at most `depth` calls may wait at once, counted as by `normalise_within`.
+    pub fn call_within(
+        &mut self,
+        kept: Term,
+        symbol: u32,
+        values: &[Term],
+        n: u64,
+        depth: u32,
+    ) -> Result<Outcome, DepthFault>
+        requires kept { IsSome (tree_at (B.store self.old.bank) kept) }
+        requires values { AllHeld (B.store self.old.bank) values.now }
+        requires symbol { symbol < length (symbols self.old.spec) }
+        requires count { length values.now ≡ arity_of self.old.spec symbol }
+        ensures same { SameEngine self.old self.new }
+        ensures keeps { Keeps (B.store self.old.bank) (B.store self.new.bank) (kept ∷ []) }
+        ensures outcome { IfOk result (IsCallOutcome self.old.spec (B.store self.new.bank) n
+            (called self.old.spec symbol (held_trees (B.store self.old.bank) values.now))) }
+        ensures room { RoomOnlyWithin (B.store self.new.bank) self.new.work self.new.memo result }
+        ensures deep { DeepOnly self.new.waiting depth result }
+    {
+        self.call_to(kept, symbol, values, n, depth as usize)
+    }
+
+    /// The same for any number of calls.
+    fn call_to(
+        &mut self,
+        kept: Term,
+        symbol: u32,
+        values: &[Term],
+        n: u64,
+        depth: usize,
+    ) -> Result<Outcome, DepthFault>
+        requires kept { IsSome (tree_at (B.store self.old.bank) kept) }
+        requires values { AllHeld (B.store self.old.bank) values.now }
+        requires symbol { symbol < length (symbols self.old.spec) }
+        requires count { length values.now ≡ arity_of self.old.spec symbol }
+        ensures same { SameEngine self.old self.new }
+        ensures keeps { Keeps (B.store self.old.bank) (B.store self.new.bank) (kept ∷ []) }
+        ensures outcome { IfOk result (IsCallOutcome self.old.spec (B.store self.new.bank) n
+            (called self.old.spec symbol (held_trees (B.store self.old.bank) values.now))) }
+        ensures room { RoomOnlyWithin (B.store self.new.bank) self.new.work self.new.memo result }
+        ensures deep { DeepOnly self.new.waiting depth result }
+    {
+        self.machine.state.depth = depth;
+        bounded(self.machine.call_values(kept, symbol, values, n))
     }
 
     /// The application of a symbol to values, of which no rule is asked. Beside it a reference is
@@ -342,6 +433,7 @@ impl<B: TermBank> Engine<B> {
             (held_trees (B.store self.old.bank) values.now))) }
         ensures room { RoomOnly (B.store self.new.bank) self.new.work self.new.memo result }
     {
+        self.machine.state.depth = usize::MAX;
         self.machine.apply_values(kept, symbol, values)
     }
 

@@ -1,12 +1,14 @@
 //! Evaluation of a term whose code stands behind the code of the rules.
 
-ghost use Rattle.std.specs.Prelude.{◌≡◌, [], ◌∷◌, Some, IfOk, IsSome, Contains, drop};
+ghost use Rattle.std.specs.Prelude.{◌≡◌, [], ◌∷◌, Some, IfOk, IfSome, IsSome, Contains, drop};
 ghost use Rattle.rx_term.specs.Tree.{Tree};
 ghost use Rattle.rx_term.specs.Store.{tree_at};
 ghost use Rattle.rx_term.specs.Steps.{Keeps};
 ghost use Rattle.rec_syntax.specs.Syntax as Syntax;
 ghost use Rattle.rx_term.specs.Walks.{AllHeld};
 ghost use Rattle.rec_engine.specs.Answered.{IsTermCode, IsAnswer, StandsAbove, HasNotes};
+ghost use Rattle.rec_engine.specs.declared.evaluation.Reached.TheVariants.{Deep};
+ghost use Rattle.rec_engine.specs.Machine.{AreFull, IsDeepOnly};
 ghost use Rattle.rec_engine.specs.Engine.{IsGiven, IsOutcome, IsKept};
 ghost use Rattle.rec_engine.specs.Turn.{IsReady, StaysFor, RoomOnlyIn};
 
@@ -15,7 +17,7 @@ use crate::cells::{EngineFault, Node, make};
 use crate::code::Op;
 use crate::engine::Outcome;
 use crate::given::load;
-use crate::machine::Machine;
+use crate::machine::{End, Machine};
 use rx_term::{Term, TermBank};
 
 /// What a term comes to.
@@ -23,6 +25,7 @@ use rx_term::{Term, TermBank};
 pub(crate) enum Reached {
     Value { term: Term, steps: u64 },
     Limit,
+    Deep,
 }
 
 impl<B: TermBank> Machine<B> {
@@ -39,6 +42,7 @@ impl<B: TermBank> Machine<B> {
             → IsAnswer self.old.checked.spec (B.store self.new.bank) n u r) }
         ensures held { IfOk result (λ r. AllHeld (B.store self.new.bank) self.new.work.items) }
         ensures stands { IfOk result (StandsAbove self.new.work.items t) }
+        ensures deep { IfOk result (λ r. r ≡ Deep → AreFull self.new.state) }
         ensures room { RoomOnlyIn B.store self.new result }
     {
         push(&mut self.work, t)?;
@@ -50,12 +54,15 @@ impl<B: TermBank> Machine<B> {
         self.state.term = t;
         self.state.empty = empty;
         let reached = self.run()?;
-        if !reached {
-            return Ok(Reached::Limit);
+        match reached {
+            End::Deep => Ok(Reached::Deep),
+            End::Limit => Ok(Reached::Limit),
+            End::Value => {
+                let term = self.work[2];
+                let steps = n - self.state.left;
+                Ok(Reached::Value { term, steps })
+            }
         }
-        let term = self.work[2];
-        let steps = n - self.state.left;
-        Ok(Reached::Value { term, steps })
     }
 
     /// A value, with the annotations of the term put on it where there are any.
@@ -82,23 +89,26 @@ impl<B: TermBank> Machine<B> {
         Ok(noted)
     }
 
-    /// What a ground term comes to within `n` steps, with the term's annotations on its value; its
-    /// ops go by `found`.
+    /// What a ground term comes to within `n` steps, with the term's annotations on its value;
+    /// nothing where no more calls may wait. Its ops go by `found`.
     pub(crate) fn normalise(
         &mut self,
         found: &mut Vec<Op>,
         t: Term,
         n: u64,
-    ) -> Result<Outcome, EngineFault>
+    ) -> Result<Option<Outcome>, EngineFault>
         requires ready { IsReady B.store self.old }
         requires given { IsGiven self.old.checked.spec (B.store self.old.bank) t }
         ensures ready { IsReady B.store self.new }
         ensures spec { self.new.checked.spec ≡ self.old.checked.spec }
         ensures keeps { Keeps (B.store self.old.bank) (B.store self.new.bank) (t ∷ []) }
-        ensures outcome { IfOk result (λ o. (u : Tree) → tree_at (B.store self.old.bank) t ≡ Some u
-            → IsOutcome self.old.checked.spec (B.store self.new.bank) n u o) }
-        ensures kept { IfOk result (IsKept self.new.work.items) }
-        ensures held { IfOk result (λ o. AllHeld (B.store self.new.bank) self.new.work.items) }
+        ensures outcome { IfOk result (λ r. IfSome r (λ o. (u : Tree)
+            → tree_at (B.store self.old.bank) t ≡ Some u
+            → IsOutcome self.old.checked.spec (B.store self.new.bank) n u o)) }
+        ensures kept { IfOk result (λ r. IfSome r (IsKept self.new.work.items)) }
+        ensures held { IfOk result (λ r. AllHeld (B.store self.new.bank) self.new.work.items) }
+        ensures depth { self.new.state.depth ≡ self.old.state.depth }
+        ensures deep { IfOk result (IsDeepOnly self.new.state) }
         ensures room { RoomOnlyIn B.store self.new result }
     {
         self.work.clear();
@@ -119,10 +129,11 @@ impl<B: TermBank> Machine<B> {
         let reached = self.evaluate(pc, t, n);
         self.code.ops.truncate(pc);
         match reached? {
-            Reached::Limit => Ok(Outcome::Limit),
+            Reached::Deep => Ok(None),
+            Reached::Limit => Ok(Some(Outcome::Limit)),
             Reached::Value { term, steps } => {
                 let term = self.annotate(t, term)?;
-                Ok(Outcome::Value { term, steps })
+                Ok(Some(Outcome::Value { term, steps }))
             }
         }
     }

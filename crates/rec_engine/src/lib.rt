@@ -7,6 +7,7 @@ mod cells;
 mod code;
 mod compile;
 mod constants;
+mod depth;
 mod due;
 mod engine;
 mod evaluation;
@@ -19,4 +20,5 @@ mod runs;
 mod terms;
 
 pub use cells::EngineFault;
+pub use depth::DepthFault;
 pub use engine::{Engine, Options, Outcome};

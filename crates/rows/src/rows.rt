@@ -1,6 +1,7 @@
 //! Calls on worked texts, layer by layer.
 
 mod counting;
+mod depth;
 mod engine;
 mod given;
 mod links;
@@ -11,4 +12,5 @@ mod syntax;
 mod text;
 mod texts;
 mod trace;
+mod values;
 mod verdicts;

@@ -3,3 +3,5 @@ pub mod StepLemmas
 pub mod SameLemmas
 pub mod NotedLemmas
 pub mod ValuedLemmas
+pub mod RequestLemmas
+pub mod RootLemmas

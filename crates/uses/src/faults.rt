@@ -6,6 +6,7 @@ use rec_syntax::SyntaxFault;
 use rx_pattern::{MakeFault, PatternFault};
 use rx_term::{BankFault, RootsFull};
 use rx_text::{TextFault, WriteFault};
+use std::alloc::AllocError;
 use thiserror::Error;
 
 /// Why a piece of work was not done.
@@ -42,6 +43,9 @@ pub enum SpecFault {
 /// Why a term was not evaluated.
 #[derive(Debug, Drop, Error)]
 pub enum EvaluationFault {
+    /// Its text was not read.
+    #[error("{0}")]
+    Text(#[from] TextFault),
     /// It is no term of the specification.
     #[error("{0}")]
     Terms(#[from] TermsFault),
@@ -57,4 +61,13 @@ pub enum EvaluationFault {
     /// The value was not printed.
     #[error("{0}")]
     Write(#[from] WriteFault),
+    /// Memory ran out.
+    #[error("out of memory")]
+    Memory,
+}
+
+impl From<AllocError> for EvaluationFault {
+    fn from(_error: AllocError) -> EvaluationFault {
+        EvaluationFault::Memory
+    }
 }

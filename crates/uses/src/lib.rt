@@ -5,6 +5,7 @@ pub mod evaluating;
 pub mod faults;
 pub mod keeping;
 pub mod rewriting;
+pub mod staying;
 pub mod texts;
 
 pub use faults::{EvaluationFault, SpecFault, WorkFault};

@@ -1,14 +1,17 @@
 //! Each caller over the plain bank, with answers that were worked out by hand.
 
 ghost use Rattle.rx_term.specs.declared.Term.{Term};
-ghost use Rattle.rec_engine.specs.Engine.{IsGiven};
+ghost use Rattle.rx_term.specs.Tree.{Tree};
+ghost use Rattle.rec_engine.specs.Engine.{IsGiven, Spells};
+ghost use Rattle.uses.specs.Kept.{IsProtected, KeepsRoots};
 
 use crate::evaluating::{admit, checked, engine_over, printed_own_value, printed_value};
 use crate::keeping::keep;
 use crate::rewriting::{pattern, rewrite};
+use crate::staying::{answer, kept_value, let_go, request};
 use crate::texts::{located, printed, read_back};
 use rec_engine::Engine;
-use rec_sorts::Checked;
+use rec_sorts::{Checked, Letter};
 use rx_pattern::Pattern;
 use rx_plain::PlainBank;
 use rx_term::{Term, TermBank};
@@ -261,4 +264,73 @@ fn refuses_foreign_terms(rt: HostRuntime) {
     let spec = &addition(&rt, rt.alloc());
     let bank = &mut *bank_of(&rt, rt.alloc());
     refuse_foreign(&rt, rt.alloc(), spec, bank, b"minus(s(z),z)");
+}
+
+/// The numbered words of the term that a text spells.
+fn requested(rt: &impl Abort, alloc: Global, addition: &Checked, text: &[u8]) -> Vec<Letter>
+    ensures { (u : Tree) × Spells addition.now.spec result.items u }
+{
+    let requests = &mut *bank_of(rt, alloc);
+    request(alloc, addition, requests, text).expect(rt, "a term to evaluate")
+}
+
+/// Stops where the term that a text spells does not come to a text within so many steps.
+fn expect_answer<B: TermBank>(
+    rt: &impl Abort,
+    alloc: Global,
+    engine: &mut Engine<B>,
+    text: &[u8],
+    n: u64,
+    wanted: Option<&[u8]>,
+)
+    ensures { KeepsRoots (B.store engine.old.bank) (B.store engine.new.bank) }
+{
+    let letters = requested(rt, alloc, engine.checked(), text);
+    let found = answer(alloc, engine, &letters, n).expect(rt, "a value, or none");
+    expect_found(rt, &found, wanted);
+}
+
+/// The value of the term that a text spells, which is there within so many steps.
+fn kept_of<B: TermBank>(
+    rt: &impl Abort,
+    alloc: Global,
+    engine: &mut Engine<B>,
+    text: &[u8],
+    n: u64,
+) -> Term
+    ensures { IsProtected (B.store engine.new.bank) result }
+{
+    let letters = requested(rt, alloc, engine.checked(), text);
+    let found = kept_value(engine, &letters, n).expect(rt, "a value, or none");
+    found.expect(rt, "a value")
+}
+
+/// Stops where a value that is let go has another text.
+fn expect_let_go<B: TermBank>(
+    rt: &impl Abort,
+    alloc: Global,
+    engine: &mut Engine<B>,
+    value: Term,
+    wanted: &[u8],
+)
+    requires { IsProtected (B.store engine.old.bank) value }
+{
+    let text = let_go(alloc, engine, value).expect(rt, "a text");
+    assert!(rt; text.as_slice() == wanted);
+}
+
+/// Stops where terms that are given one after the other come to other values, or one that is kept
+/// meanwhile is not there in the end.
+fn ask_in_turn<B: TermBank>(rt: &impl Abort, alloc: Global, engine: &mut Engine<B>) {
+    let kept = kept_of(rt, alloc, engine, b"plus(s(z),s(z))", 2);
+    expect_answer(rt, alloc, engine, b"plus(s(s(z)),z)", 2, None);
+    expect_answer(rt, alloc, engine, b"s(plus(z,z)){x}", 1, Some(b"s(z)"));
+    expect_let_go(rt, alloc, engine, kept, b"s(s(z))");
+}
+
+#[test]
+fn asks_an_engine_that_stays(rt: HostRuntime) {
+    let alloc = rt.alloc();
+    let mut engine = engine_of(&rt, alloc, addition(&rt, alloc), bank_of(&rt, alloc));
+    ask_in_turn(&rt, alloc, &mut *engine);
 }

@@ -12,7 +12,7 @@ use std::process::Abort;
 
 /// The first term is of eight parts: itself, `[s(s(z)),s(z)]`, `s(s(z))`, `[s(z)]`, `s(z)`, `[z]`,
 /// `z` and `[]`.
-const ADD: &[u8] = b"REC-SPEC Add SORTS N \
+pub const ADD: &[u8] = b"REC-SPEC Add SORTS N \
     CONS z : -> N s : N -> N \
     OPNS add : N N -> N \
     VARS X Y : N \
@@ -29,7 +29,7 @@ const COND: &[u8] = b"REC-SPEC Cond SORTS N \
     EVAL f(z) f(s(z)) END-SPEC";
 
 /// Each term is an application of `h` to a constant of its own, which no rule changes.
-const TWENTY: &[u8] = b"REC-SPEC Twenty SORTS N \
+pub const TWENTY: &[u8] = b"REC-SPEC Twenty SORTS N \
     CONS c1 : -> N c2 : -> N c3 : -> N c4 : -> N c5 : -> N \
         c6 : -> N c7 : -> N c8 : -> N c9 : -> N c10 : -> N \
         c11 : -> N c12 : -> N c13 : -> N c14 : -> N c15 : -> N \
@@ -39,7 +39,7 @@ const TWENTY: &[u8] = b"REC-SPEC Twenty SORTS N \
         h(c11) h(c12) h(c13) h(c14) h(c15) h(c16) h(c17) h(c18) h(c19) h(c20) END-SPEC";
 
 /// `k(s(s(z)))` is called twice, in three steps each.
-const HIT: &[u8] = b"REC-SPEC Hit SORTS Nat Pair \
+pub const HIT: &[u8] = b"REC-SPEC Hit SORTS Nat Pair \
     CONS z : -> Nat s : Nat -> Nat p : Nat Nat -> Pair \
     OPNS k : Nat -> Nat d : Nat -> Pair \
     VARS X : Nat \
@@ -66,7 +66,7 @@ const GROUND: &[u8] = b"REC-SPEC Ground SORTS N \
     EVAL f(f(h(g(z,s(z))))) END-SPEC";
 
 /// What the first term of the addition comes to.
-const SUM: &[u8] = b"s(s(s(z)))";
+pub const SUM: &[u8] = b"s(s(s(z)))";
 
 const ONE: &[u8] = b"s(z)";
 
@@ -74,11 +74,11 @@ const TWO: &[u8] = b"s(s(z))";
 
 const ZERO: &[u8] = b"z";
 
-const PAIR: &[u8] = b"p(z,z)";
+pub const PAIR: &[u8] = b"p(z,z)";
 
 const GROUND_VALUE: &[u8] = b"g(g(z,s(z)),g(g(z,s(z)),s(z)))";
 
-const OPTIONS: Options = Options {
+pub const OPTIONS: Options = Options {
     memo: 0,
     reclaim_every: 262_144,
 };
@@ -90,7 +90,7 @@ fn checked_of(rt: &impl Abort, alloc: Global, spec: &[u8]) -> Checked {
 }
 
 /// An engine for a specification over a bank.
-fn engine_for<B: TermBank + Drop>(
+pub fn engine_for<B: TermBank + Drop>(
     rt: &impl Abort,
     alloc: Global,
     spec: &[u8],
@@ -105,14 +105,14 @@ fn engine_for<B: TermBank + Drop>(
 }
 
 /// What the specification's term of a number comes to within `n` steps.
-fn outcome_of<B: TermBank>(rt: &impl Abort, engine: &mut Engine<B>, i: u32, n: u64) -> Outcome {
+pub fn outcome_of<B: TermBank>(rt: &impl Abort, engine: &mut Engine<B>, i: u32, n: u64) -> Outcome {
     assert!(rt; i < engine.eval_terms());
     let t = engine.eval_term(i).expect(rt, "a term");
     engine.normalise(t, n).expect(rt, "an outcome")
 }
 
 /// The value and its steps; nothing at the limit.
-fn value_of(outcome: Outcome) -> Option<(Term, u64)> {
+pub fn value_of(outcome: Outcome) -> Option<(Term, u64)> {
     match outcome {
         Outcome::Value { term, steps } => Some((term, steps)),
         Outcome::Limit => None,
@@ -120,7 +120,7 @@ fn value_of(outcome: Outcome) -> Option<(Term, u64)> {
 }
 
 /// Stops where a term has another text.
-fn expect_text<B: TermBank>(rt: &impl Abort, alloc: Global, bank: &B, t: Term, wanted: &[u8]) {
+pub fn expect_text<B: TermBank>(rt: &impl Abort, alloc: Global, bank: &B, t: Term, wanted: &[u8]) {
     assert!(rt; bank.holds(t));
     let mut text = Vec::new(alloc);
     assert!(rt; write(alloc, bank, t, &mut text).is_ok());
@@ -129,7 +129,7 @@ fn expect_text<B: TermBank>(rt: &impl Abort, alloc: Global, bank: &B, t: Term, w
 
 /// Stops where the term of a number doesn't come to a value of this text within `n` steps, or takes
 /// another number of them.
-fn expect_value<B: TermBank>(
+pub fn expect_value<B: TermBank>(
     rt: &impl Abort,
     alloc: Global,
     engine: &mut Engine<B>,
@@ -150,7 +150,7 @@ fn is_over<B: TermBank>(rt: &impl Abort, engine: &mut Engine<B>, i: u32, n: u64)
 }
 
 /// Whether it is that there is no room.
-fn is_room(fault: Option<EngineFault>) -> bool {
+pub fn is_room(fault: Option<EngineFault>) -> bool {
     matches!(fault, Some(EngineFault::Room))
 }
 
@@ -285,13 +285,13 @@ fn remembers<B: TermBank + Drop>(rt: &impl Abort, alloc: Global, bank: B) {
 }
 
 /// A bank of no terms, which shares none.
-fn plain_bank(rt: &impl Abort, alloc: Global, cap: u32) -> PlainBank {
+pub fn plain_bank(rt: &impl Abort, alloc: Global, cap: u32) -> PlainBank {
     assert!(rt; cap > 0 && cap <= 10_000);
     PlainBank::new(alloc, cap).expect(rt, "a bank")
 }
 
 /// A bank of no terms, which shares all.
-fn shared_bank(rt: &impl Abort, alloc: Global, cap: u32) -> SharedBank {
+pub fn shared_bank(rt: &impl Abort, alloc: Global, cap: u32) -> SharedBank {
     assert!(rt; cap > 0 && cap <= 10_000);
     SharedBank::new(alloc, cap).expect(rt, "a bank")
 }

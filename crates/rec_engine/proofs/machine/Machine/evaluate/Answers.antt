@@ -2,7 +2,7 @@ use Rattle.std.proofs.Common.{refl, subst, arith, []}
 use Rattle.rx_term.specs.Steps.{Keeps}
 use Rattle.rec_sorts.specs.Evaluation.{Eval}
 use Rattle.rec_engine.proofs.CodeLemmas.{starts}
-use Rattle.rec_engine.proofs.EvaluationLemmas.{first-one, first-two, two-held, kept-all, came-limit, came-within, came-value, came-above}
+use Rattle.rec_engine.proofs.EvaluationLemmas.{first-one, first-two, two-held, kept-all, came-full, came-limit, came-within, came-value, came-above}
 use Rattle.rec_engine.proofs.StayLemmas.{ready-kept, stays-kept}
 use Rattle.rec_engine.proofs.machine.Machine.evaluate.Goals as goal
 
@@ -34,43 +34,55 @@ returns-in_err-reached-clause-stays g c =
     let w2 = g.B.TermBank.store c.run.new.self.bank in
     let k1 = subst (λ xs. Keeps w0 w1 xs) (first-one c.args.self.now.work.items c.push.new.work.items c.push.new.work.items c.args.t c.requires.idle c.in_ok-push.ensures.pushed refl) c.push_nil.ensures.keeps in
     let s = c.run.ensures.stays in
-    record { spec = s.spec; code = s.code; bottom = refl; keeps = kept-all w0 w1 w2 c.args.t c.in_ok-empty.empty k1 s.keeps; ready = s.ready }
+    record { spec = s.spec; code = s.code; depth = s.depth; bottom = refl; keeps = kept-all w0 w1 w2 c.args.t c.in_ok-empty.empty k1 s.keeps; ready = s.ready }
 
-pub returns-then-not-reached-clause-stays : goal.returns-then-not-reached-clause-stays
-returns-then-not-reached-clause-stays g c =
+pub returns-in-Limit-clause-stays : goal.returns-in-Limit-clause-stays
+returns-in-Limit-clause-stays g c =
     let w0 = g.B.TermBank.store c.args.self.now.bank in
     let w1 = g.B.TermBank.store c.push_nil.new.bank in
     let w2 = g.B.TermBank.store c.run.new.self.bank in
     let k1 = subst (λ xs. Keeps w0 w1 xs) (first-one c.args.self.now.work.items c.push.new.work.items c.push.new.work.items c.args.t c.requires.idle c.in_ok-push.ensures.pushed refl) c.push_nil.ensures.keeps in
     let s = c.run.ensures.stays in
-    record { spec = s.spec; code = s.code; bottom = refl; keeps = kept-all w0 w1 w2 c.args.t c.in_ok-empty.empty k1 s.keeps; ready = s.ready }
+    record { spec = s.spec; code = s.code; depth = s.depth; bottom = refl; keeps = kept-all w0 w1 w2 c.args.t c.in_ok-empty.empty k1 s.keeps; ready = s.ready }
 
-pub returns-clause-stays : goal.returns-clause-stays
-returns-clause-stays g c =
+pub returns-in-Deep-clause-stays : goal.returns-in-Deep-clause-stays
+returns-in-Deep-clause-stays g c =
     let w0 = g.B.TermBank.store c.args.self.now.bank in
     let w1 = g.B.TermBank.store c.push_nil.new.bank in
     let w2 = g.B.TermBank.store c.run.new.self.bank in
     let k1 = subst (λ xs. Keeps w0 w1 xs) (first-one c.args.self.now.work.items c.push.new.work.items c.push.new.work.items c.args.t c.requires.idle c.in_ok-push.ensures.pushed refl) c.push_nil.ensures.keeps in
     let s = c.run.ensures.stays in
-    record { spec = s.spec; code = s.code; bottom = refl; keeps = kept-all w0 w1 w2 c.args.t c.in_ok-empty.empty k1 s.keeps; ready = s.ready }
+    record { spec = s.spec; code = s.code; depth = s.depth; bottom = refl; keeps = kept-all w0 w1 w2 c.args.t c.in_ok-empty.empty k1 s.keeps; ready = s.ready }
 
-pub returns-then-not-reached-clause-exact : goal.returns-then-not-reached-clause-exact
-returns-then-not-reached-clause-exact g c u good = came-limit c.args.self.now.checked.spec c.args.n u (g.B.TermBank.store c.run.new.self.bank) c.run.new.self.state c.run.new.self.work.items c.in_ok-reached.reached c.if-not-reached.true (c.in_ok-reached.ensures.comes (Eval c.args.self.now.checked.spec c.args.n [] u) (starts c.args.self.now.checked.spec c.args.self.now.code (g.B.TermBank.store c.push_nil.new.bank) _ good.0 u c.requires.ready.code good.1 good.2 c.clear.ensures.items refl c.push_nil.new.work.items (first-two c.args.self.now.work.items c.push.new.work.items c.push_nil.new.work.items c.args.t c.in_ok-empty.empty c.requires.idle c.in_ok-push.ensures.pushed c.in_ok-empty.ensures.pushed)))
+pub returns-in-Value-clause-stays : goal.returns-in-Value-clause-stays
+returns-in-Value-clause-stays g c =
+    let w0 = g.B.TermBank.store c.args.self.now.bank in
+    let w1 = g.B.TermBank.store c.push_nil.new.bank in
+    let w2 = g.B.TermBank.store c.run.new.self.bank in
+    let k1 = subst (λ xs. Keeps w0 w1 xs) (first-one c.args.self.now.work.items c.push.new.work.items c.push.new.work.items c.args.t c.requires.idle c.in_ok-push.ensures.pushed refl) c.push_nil.ensures.keeps in
+    let s = c.run.ensures.stays in
+    record { spec = s.spec; code = s.code; depth = s.depth; bottom = refl; keeps = kept-all w0 w1 w2 c.args.t c.in_ok-empty.empty k1 s.keeps; ready = s.ready }
+
+pub returns-in-Limit-clause-exact : goal.returns-in-Limit-clause-exact
+returns-in-Limit-clause-exact g c u good = came-limit c.args.self.now.checked.spec c.args.n u (g.B.TermBank.store c.run.new.self.bank) c.run.new.self.state c.run.new.self.work.items c.in_ok-reached.reached c.in-Limit.is (c.in_ok-reached.ensures.comes (Eval c.args.self.now.checked.spec c.args.n [] u) (starts c.args.self.now.checked.spec c.args.self.now.code (g.B.TermBank.store c.push_nil.new.bank) _ good.0 u c.requires.ready.code good.1 good.2 c.clear.ensures.items refl c.push_nil.new.work.items (first-two c.args.self.now.work.items c.push.new.work.items c.push_nil.new.work.items c.args.t c.in_ok-empty.empty c.requires.idle c.in_ok-push.ensures.pushed c.in_ok-empty.ensures.pushed)))
 
 pub index-term-requires : goal.index-term-requires
 index-term-requires g c =
-    let r = came-within c.args.self.now.checked.spec c.args.n c.requires.own.0 (g.B.TermBank.store c.run.new.self.bank) c.run.new.self.state c.run.new.self.work.items c.in_ok-reached.reached c.if-not-reached.false (c.in_ok-reached.ensures.comes (Eval c.args.self.now.checked.spec c.args.n [] c.requires.own.0) (starts c.args.self.now.checked.spec c.args.self.now.code (g.B.TermBank.store c.push_nil.new.bank) _ c.requires.own.1.0 c.requires.own.0 c.requires.ready.code c.requires.own.1.1 c.requires.own.1.2 c.clear.ensures.items refl c.push_nil.new.work.items (first-two c.args.self.now.work.items c.push.new.work.items c.push_nil.new.work.items c.args.t c.in_ok-empty.empty c.requires.idle c.in_ok-push.ensures.pushed c.in_ok-empty.ensures.pushed))) in
+    let r = came-within c.args.self.now.checked.spec c.args.n c.requires.own.0 (g.B.TermBank.store c.run.new.self.bank) c.run.new.self.state c.run.new.self.work.items c.in_ok-reached.reached c.in-Value.is (c.in_ok-reached.ensures.comes (Eval c.args.self.now.checked.spec c.args.n [] c.requires.own.0) (starts c.args.self.now.checked.spec c.args.self.now.code (g.B.TermBank.store c.push_nil.new.bank) _ c.requires.own.1.0 c.requires.own.0 c.requires.ready.code c.requires.own.1.1 c.requires.own.1.2 c.clear.ensures.items refl c.push_nil.new.work.items (first-two c.args.self.now.work.items c.push.new.work.items c.push_nil.new.work.items c.args.t c.in_ok-empty.empty c.requires.idle c.in_ok-push.ensures.pushed c.in_ok-empty.ensures.pushed))) in
     let two = r.0 in
     let l = c.run.new.self.work.ok.0 in
     omega (arith, two, l)
 
 pub overflow_sub-steps : goal.overflow_sub-steps
-overflow_sub-steps g c = (came-within c.args.self.now.checked.spec c.args.n c.requires.own.0 (g.B.TermBank.store c.run.new.self.bank) c.run.new.self.state c.run.new.self.work.items c.in_ok-reached.reached c.if-not-reached.false (c.in_ok-reached.ensures.comes (Eval c.args.self.now.checked.spec c.args.n [] c.requires.own.0) (starts c.args.self.now.checked.spec c.args.self.now.code (g.B.TermBank.store c.push_nil.new.bank) _ c.requires.own.1.0 c.requires.own.0 c.requires.ready.code c.requires.own.1.1 c.requires.own.1.2 c.clear.ensures.items refl c.push_nil.new.work.items (first-two c.args.self.now.work.items c.push.new.work.items c.push_nil.new.work.items c.args.t c.in_ok-empty.empty c.requires.idle c.in_ok-push.ensures.pushed c.in_ok-empty.ensures.pushed)))).1
+overflow_sub-steps g c = (came-within c.args.self.now.checked.spec c.args.n c.requires.own.0 (g.B.TermBank.store c.run.new.self.bank) c.run.new.self.state c.run.new.self.work.items c.in_ok-reached.reached c.in-Value.is (c.in_ok-reached.ensures.comes (Eval c.args.self.now.checked.spec c.args.n [] c.requires.own.0) (starts c.args.self.now.checked.spec c.args.self.now.code (g.B.TermBank.store c.push_nil.new.bank) _ c.requires.own.1.0 c.requires.own.0 c.requires.ready.code c.requires.own.1.1 c.requires.own.1.2 c.clear.ensures.items refl c.push_nil.new.work.items (first-two c.args.self.now.work.items c.push.new.work.items c.push_nil.new.work.items c.args.t c.in_ok-empty.empty c.requires.idle c.in_ok-push.ensures.pushed c.in_ok-empty.ensures.pushed)))).1
 
-pub returns-clause-exact : goal.returns-clause-exact
-returns-clause-exact g c u good = came-value c.args.self.now.checked.spec c.args.n u (g.B.TermBank.store c.run.new.self.bank) c.run.new.self.state c.run.new.self.work.items c.in_ok-reached.reached c.index-term.result.now c.in_ok-reached.ensures.held c.if-not-reached.false (c.in_ok-reached.ensures.comes (Eval c.args.self.now.checked.spec c.args.n [] u) (starts c.args.self.now.checked.spec c.args.self.now.code (g.B.TermBank.store c.push_nil.new.bank) _ good.0 u c.requires.ready.code good.1 good.2 c.clear.ensures.items refl c.push_nil.new.work.items (first-two c.args.self.now.work.items c.push.new.work.items c.push_nil.new.work.items c.args.t c.in_ok-empty.empty c.requires.idle c.in_ok-push.ensures.pushed c.in_ok-empty.ensures.pushed))) c.index-term.ensures
+pub returns-in-Value-clause-exact : goal.returns-in-Value-clause-exact
+returns-in-Value-clause-exact g c u good = came-value c.args.self.now.checked.spec c.args.n u (g.B.TermBank.store c.run.new.self.bank) c.run.new.self.state c.run.new.self.work.items c.in_ok-reached.reached c.index-term.result.now c.in_ok-reached.ensures.held c.in-Value.is (c.in_ok-reached.ensures.comes (Eval c.args.self.now.checked.spec c.args.n [] u) (starts c.args.self.now.checked.spec c.args.self.now.code (g.B.TermBank.store c.push_nil.new.bank) _ good.0 u c.requires.ready.code good.1 good.2 c.clear.ensures.items refl c.push_nil.new.work.items (first-two c.args.self.now.work.items c.push.new.work.items c.push_nil.new.work.items c.args.t c.in_ok-empty.empty c.requires.idle c.in_ok-push.ensures.pushed c.in_ok-empty.ensures.pushed))) c.index-term.ensures
 
-pub returns-clause-stands : goal.returns-clause-stands
-returns-clause-stands g c =
+pub returns-in-Value-clause-stands : goal.returns-in-Value-clause-stands
+returns-in-Value-clause-stands g c =
     let means = starts c.args.self.now.checked.spec c.args.self.now.code (g.B.TermBank.store c.push_nil.new.bank) _ c.requires.own.1.0 c.requires.own.0 c.requires.ready.code c.requires.own.1.1 c.requires.own.1.2 c.clear.ensures.items refl c.push_nil.new.work.items (first-two c.args.self.now.work.items c.push.new.work.items c.push_nil.new.work.items c.args.t c.in_ok-empty.empty c.requires.idle c.in_ok-push.ensures.pushed c.in_ok-empty.ensures.pushed) in
-    (c.in_ok-empty.empty, came-above (g.B.TermBank.store c.run.new.self.bank) c.run.new.self.state c.run.new.self.work.items (Eval c.args.self.now.checked.spec c.args.n [] c.requires.own.0) c.in_ok-reached.reached c.args.t c.in_ok-empty.empty c.index-term.result.now c.if-not-reached.false (c.in_ok-reached.ensures.comes (Eval c.args.self.now.checked.spec c.args.n [] c.requires.own.0) means) c.run.ensures.stays.bottom c.index-term.ensures)
+    (c.in_ok-empty.empty, came-above (g.B.TermBank.store c.run.new.self.bank) c.run.new.self.state c.run.new.self.work.items (Eval c.args.self.now.checked.spec c.args.n [] c.requires.own.0) c.in_ok-reached.reached c.args.t c.in_ok-empty.empty c.index-term.result.now c.in-Value.is (c.in_ok-reached.ensures.comes (Eval c.args.self.now.checked.spec c.args.n [] c.requires.own.0) means) c.run.ensures.stays.bottom c.index-term.ensures)
+
+pub returns-in-Deep-clause-deep : goal.returns-in-Deep-clause-deep
+returns-in-Deep-clause-deep g c e = came-full (g.B.TermBank.store c.run.new.self.bank) c.run.new.self.state c.run.new.self.work.items (Eval c.args.self.now.checked.spec c.args.n [] c.requires.own.0) c.in_ok-reached.reached c.in-Deep.is (c.in_ok-reached.ensures.comes (Eval c.args.self.now.checked.spec c.args.n [] c.requires.own.0) (starts c.args.self.now.checked.spec c.args.self.now.code (g.B.TermBank.store c.push_nil.new.bank) _ c.requires.own.1.0 c.requires.own.0 c.requires.ready.code c.requires.own.1.1 c.requires.own.1.2 c.clear.ensures.items refl c.push_nil.new.work.items (first-two c.args.self.now.work.items c.push.new.work.items c.push_nil.new.work.items c.args.t c.in_ok-empty.empty c.requires.idle c.in_ok-push.ensures.pushed c.in_ok-empty.ensures.pushed)))

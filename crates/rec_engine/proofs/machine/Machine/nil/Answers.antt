@@ -1,4 +1,4 @@
-use Rattle.std.proofs.Common.{[], ◌∙◌, subst}
+use Rattle.std.proofs.Common.{◌∙◌, subst}
 use Rattle.rx_term.specs.Steps.{Keeps}
 use Rattle.rec_engine.proofs.StayLemmas.{stays-kept}
 use Rattle.rec_engine.proofs.machine.Machine.nil.Goals as goal

@@ -46,6 +46,12 @@ returns-in-Limit-clause-ready g c =
     let u = held_tree (g.B.TermBank.store c.args.self.now.bank) c.args.t in
     ready-cut y u c.args.self.now.code _ _ _ c.evaluate-reached.ensures.stays refl refl refl c.len-pc.result c.in-Ok.ensures.loads (c.len-pc.ensures ∙ c.args.self.now.code.ops.ok.0) refl refl refl c.truncate.ensures.items c.requires.ready.code
 
+pub returns-in-Deep-clause-ready : goal.returns-in-Deep-clause-ready
+returns-in-Deep-clause-ready g c =
+    let y = c.args.self.now.checked.spec in
+    let u = held_tree (g.B.TermBank.store c.args.self.now.bank) c.args.t in
+    ready-cut y u c.args.self.now.code _ _ _ c.evaluate-reached.ensures.stays refl refl refl c.len-pc.result c.in-Ok.ensures.loads (c.len-pc.ensures ∙ c.args.self.now.code.ops.ok.0) refl refl refl c.truncate.ensures.items c.requires.ready.code
+
 pub annotate-requires-clause-ready : goal.annotate-requires-clause-ready
 annotate-requires-clause-ready g c =
     let y = c.args.self.now.checked.spec in
@@ -103,3 +109,12 @@ returns-in-Limit-clause-outcome g c u e =
     let w0 = g.B.TermBank.store c.args.self.now.bank in
     let own = subst (λ x. IsTermCode y (term_of x) (drop c.len-pc.result c.load.new.ops.items)) (held w0 c.args.t u e) (loaded-own y (held_tree w0 c.args.t) c.args.self.now.code.ops.items c.load.new.ops.items c.len-pc.result c.in-Ok.ensures.loads (c.len-pc.ensures ∙ c.args.self.now.code.ops.ok.0)) in
     is-limit y (g.B.TermBank.store c.evaluate-reached.new.self.bank) c.args.n u c.in_ok-reached.field-0 c.in-Limit.is (c.in_ok-reached.ensures.exact (term_of u) own)
+
+pub returns-in-Deep-clause-deep : goal.returns-in-Deep-clause-deep
+returns-in-Deep-clause-deep g c = c.in_ok-reached.ensures.deep c.in-Deep.is
+
+pub returns-in_ok-term-in-Value-clause-depth : goal.returns-in_ok-term-in-Value-clause-depth
+returns-in_ok-term-in-Value-clause-depth g c = c.annotate.ensures.stays.depth ∙ c.evaluate-reached.ensures.stays.depth
+
+pub returns-in_err-term-in-Value-clause-depth : goal.returns-in_err-term-in-Value-clause-depth
+returns-in_err-term-in-Value-clause-depth g c = c.annotate.ensures.stays.depth ∙ c.evaluate-reached.ensures.stays.depth

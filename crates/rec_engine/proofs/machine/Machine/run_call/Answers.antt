@@ -1,5 +1,4 @@
 use Rattle.std.proofs.Common.{subst}
-use Rattle.rec_engine.specs.declared.machine.Flow.TheVariants as flow
 use Rattle.rec_engine.specs.Machine.{After}
 use Rattle.rec_engine.proofs.StayLemmas.{stays-more, sound-next, means-next}
 use Rattle.rec_engine.proofs.machine.Machine.run_call.Goals as goal
@@ -26,3 +25,6 @@ returns-in-Ok-Done-clause-comes g c o h = subst (λ x. After c.args.self.now.che
 
 pub returns-in-Ok-Limit-clause-comes : goal.returns-in-Ok-Limit-clause-comes
 returns-in-Ok-Limit-clause-comes g c o h = subst (λ x. After c.args.self.now.checked.spec c.args.self.now.code (g.B.TermBank.store c.invoke.new.self.bank) c.invoke.new.self.state c.invoke.new.self.work.items o x) c.in-Ok-Limit.field-0-is (c.in-Ok-Limit.ensures.goes.each o h)
+
+pub returns-in-Ok-Deep-clause-comes : goal.returns-in-Ok-Deep-clause-comes
+returns-in-Ok-Deep-clause-comes g c o h = subst (λ x. After c.args.self.now.checked.spec c.args.self.now.code (g.B.TermBank.store c.invoke.new.self.bank) c.invoke.new.self.state c.invoke.new.self.work.items o x) c.in-Ok-Deep.field-0-is (c.in-Ok-Deep.ensures.goes.each o h)
