@@ -19,6 +19,7 @@ _recw_eval_options=(
     '--memo M'
     '--reclaim K'
     '--count'
+    '--limit-annotations'
     '--limit-status'
 )
 

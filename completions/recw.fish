@@ -23,5 +23,6 @@ complete -c recw -n $eval -l cells -x -d 'Most cells that terms may take, 1 to 2
 complete -c recw -n $eval -l memo -x -d 'Most results to remember, up to 2^20'
 complete -c recw -n $eval -l reclaim -x -d 'New cells between two reclaims, 1 to 2^30'
 complete -c recw -n $eval -l count -d 'Print the steps that each term took behind its value'
+complete -c recw -n $eval -l limit-annotations -d 'Print the annotations of a further term behind its limit'
 complete -c recw -n $eval -l limit-status -d 'End with status 5 where a term takes more steps'
 complete -c recw -n '__fish_seen_subcommand_from match' -l test -d 'End with status 1 where it does not match, 2 where a text is refused'

@@ -16,7 +16,7 @@ use Rattle.rec_sorts.specs.SpecRules as rules
 use Rattle.rec_sorts.specs.SpecRules.{Verdict, Long, Grammar, Breaks, Good, SpecVerdict, fault, Fits}
 use Rattle.rec_sorts.specs.TermRules.{broken_by_terms, elements}
 use Rattle.rx_run.specs.Due.{Due}
-use Rattle.rec_run.specs.Output.{IsDue, IsDueAfter, due_of_spec, due_of_terms, TermsVerdict, Outside, BreaksTerms, GoodTerms, IsTermsVerdict}
+use Rattle.rec_run.specs.Output.{Shown, IsDue, IsDueAfter, due_of_spec, due_of_terms, TermsVerdict, Outside, BreaksTerms, GoodTerms, IsTermsVerdict}
 use Rattle.rec_run.proofs.WholeRunLemmas.{after_spec}
 
 -- the verdict on a specification that is read
@@ -39,15 +39,15 @@ machine_verdict bytes (Read y) v fits e k = let same : verdict_by_rules y (fault
 machine_verdict bytes (Fault at) v fits e k = let same : Grammar at ≡ v = cc in subst (SpecVerdict bytes) same (fits, stops_at_place bytes at e)
 machine_verdict bytes Unfinished v fits e k = absurd (cc k)
 
-due_by_verdict : (bytes : List ℕ) (counted : Bool) (n : ℕ) (d : Due) (o : Option Verdict) → ((v : Verdict) → o ≡ Some v → SpecVerdict bytes v)
-    → option_map (due_of_spec counted n) o ≡ Some d → IsDue bytes None counted n d
-due_by_verdict bytes counted n d None h e = absurd (cc e)
-due_by_verdict bytes counted n d (Some v) h e = let same : due_of_spec counted n v ≡ d = cc in (v, h v refl, subst (IsDueAfter v None counted n) same (after_spec counted n v))
+due_by_verdict : (bytes : List ℕ) (shown : Shown) (n : ℕ) (d : Due) (o : Option Verdict) → ((v : Verdict) → o ≡ Some v → SpecVerdict bytes v)
+    → option_map (due_of_spec shown n) o ≡ Some d → IsDue bytes None shown n d
+due_by_verdict bytes shown n d None h e = absurd (cc e)
+due_by_verdict bytes shown n d (Some v) h e = let same : due_of_spec shown n v ≡ d = cc in (v, h v refl, subst (IsDueAfter v None shown n) same (after_spec shown n v))
 
 -- what is due for a text that is not too long: both premises are computed
-pub due_of_text : (bytes : List ℕ) (counted : Bool) (n : ℕ) (d : Due) → nat_le (length bytes) 16777216 ≡ true → option_map (due_of_spec counted n) (verdict_by (comes_of bytes)) ≡ Some d
-    → IsDue bytes None counted n d
-due_of_text bytes counted n d fits e = due_by_verdict bytes counted n d (verdict_by (comes_of bytes)) (λ v. machine_verdict bytes (comes_of bytes) v (leb-true (length bytes) 16777216 fits) refl) e
+pub due_of_text : (bytes : List ℕ) (shown : Shown) (n : ℕ) (d : Due) → nat_le (length bytes) 16777216 ≡ true → option_map (due_of_spec shown n) (verdict_by (comes_of bytes)) ≡ Some d
+    → IsDue bytes None shown n d
+due_of_text bytes shown n d fits e = due_by_verdict bytes shown n d (verdict_by (comes_of bytes)) (λ v. machine_verdict bytes (comes_of bytes) v (leb-true (length bytes) 16777216 fits) refl) e
 
 -- the verdict on a tree by what the rules of given terms answer
 abbrev pub terms_by_rules : Option ℕ → Option (List Tree) → Option TermsVerdict
@@ -74,42 +74,42 @@ terms_verdict y bytes None (Some at) fits r f v e = let same : Outside at ≡ v 
 terms_verdict y bytes None None fits r f v e = absurd (cc e)
 
 -- what is due after the verdict on the specification
-abbrev pub due_by : List ℕ → Bool → ℕ → Verdict → Option Due
-due_by terms counted n (Good y) = option_map (due_of_terms y counted n) (terms_verdict_by y (machine.read (kinds terms)) (machine.fault_at (tokens terms) machine.Due []))
-due_by terms counted n v = Some (due_of_spec counted n v)
+abbrev pub due_by : List ℕ → Shown → ℕ → Verdict → Option Due
+due_by terms shown n (Good y) = option_map (due_of_terms y shown n) (terms_verdict_by y (machine.read (kinds terms)) (machine.fault_at (tokens terms) machine.Due []))
+due_by terms shown n v = Some (due_of_spec shown n v)
 
-due_after : (terms : List ℕ) (counted : Bool) (n : ℕ) (d : Due) → Fits terms → (v : Verdict) → due_by terms counted n v ≡ Some d → IsDueAfter v (Some terms) counted n d
-due_after terms counted n d fits (Good y) e = by_terms (terms_verdict_by y (machine.read (kinds terms)) (machine.fault_at (tokens terms) machine.Due [])) refl e
+due_after : (terms : List ℕ) (shown : Shown) (n : ℕ) (d : Due) → Fits terms → (v : Verdict) → due_by terms shown n v ≡ Some d → IsDueAfter v (Some terms) shown n d
+due_after terms shown n d fits (Good y) e = by_terms (terms_verdict_by y (machine.read (kinds terms)) (machine.fault_at (tokens terms) machine.Due [])) refl e
   where
-    by_terms : (o : Option TermsVerdict) → terms_verdict_by y (machine.read (kinds terms)) (machine.fault_at (tokens terms) machine.Due []) ≡ o → option_map (due_of_terms y counted n) o ≡ Some d
-        → (v : TermsVerdict) × IsTermsVerdict y terms v × (d ≡ due_of_terms y counted n v)
+    by_terms : (o : Option TermsVerdict) → terms_verdict_by y (machine.read (kinds terms)) (machine.fault_at (tokens terms) machine.Due []) ≡ o → option_map (due_of_terms y shown n) o ≡ Some d
+        → (v : TermsVerdict) × IsTermsVerdict y terms v × (d ≡ due_of_terms y shown n v)
     by_terms None k e = absurd (cc e)
-    by_terms (Some v) k e = let same : d ≡ due_of_terms y counted n v = cc in (v, terms_verdict y terms (machine.read (kinds terms)) (machine.fault_at (tokens terms) machine.Due []) fits refl refl v k, same)
-due_after terms counted n d fits Long e = let same : d ≡ due_of_spec counted n Long = cc in same
-due_after terms counted n d fits (Grammar at) e = let same : d ≡ due_of_spec counted n (Grammar at) = cc in same
-due_after terms counted n d fits (Breaks f) e = let same : d ≡ due_of_spec counted n (Breaks f) = cc in same
+    by_terms (Some v) k e = let same : d ≡ due_of_terms y shown n v = cc in (v, terms_verdict y terms (machine.read (kinds terms)) (machine.fault_at (tokens terms) machine.Due []) fits refl refl v k, same)
+due_after terms shown n d fits Long e = let same : d ≡ due_of_spec shown n Long = cc in same
+due_after terms shown n d fits (Grammar at) e = let same : d ≡ due_of_spec shown n (Grammar at) = cc in same
+due_after terms shown n d fits (Breaks f) e = let same : d ≡ due_of_spec shown n (Breaks f) = cc in same
 
 -- what is due for two texts that are not too long: all premises are computed
-pub due_of_texts : (spec terms : List ℕ) (counted : Bool) (n : ℕ) (d : Due) → nat_le (length spec) 16777216 ≡ true → nat_le (length terms) 16777216 ≡ true
-    → option_and_then (due_by terms counted n) (verdict_by (comes_of spec)) ≡ Some d → IsDue spec (Some terms) counted n d
-due_of_texts spec terms counted n d fits short e = by_verdict (verdict_by (comes_of spec)) (λ v. machine_verdict spec (comes_of spec) v (leb-true (length spec) 16777216 fits) refl) e
+pub due_of_texts : (spec terms : List ℕ) (shown : Shown) (n : ℕ) (d : Due) → nat_le (length spec) 16777216 ≡ true → nat_le (length terms) 16777216 ≡ true
+    → option_and_then (due_by terms shown n) (verdict_by (comes_of spec)) ≡ Some d → IsDue spec (Some terms) shown n d
+due_of_texts spec terms shown n d fits short e = by_verdict (verdict_by (comes_of spec)) (λ v. machine_verdict spec (comes_of spec) v (leb-true (length spec) 16777216 fits) refl) e
   where
-    by_verdict : (o : Option Verdict) → ((v : Verdict) → o ≡ Some v → SpecVerdict spec v) → option_and_then (due_by terms counted n) o ≡ Some d → IsDue spec (Some terms) counted n d
+    by_verdict : (o : Option Verdict) → ((v : Verdict) → o ≡ Some v → SpecVerdict spec v) → option_and_then (due_by terms shown n) o ≡ Some d → IsDue spec (Some terms) shown n d
     by_verdict None h e = absurd (cc e)
-    by_verdict (Some v) h e = (v, h v refl, due_after terms counted n d (leb-true (length terms) 16777216 short) v e)
+    by_verdict (Some v) h e = (v, h v refl, due_after terms shown n d (leb-true (length terms) 16777216 short) v e)
 
--- a worked run: its texts, whether it counts steps, how many a term may take, and what is due
+-- a worked run: its texts, how its lines look, how many a term may take, and what is due
 pub record Row : Type 0 where
   pub spec : List ℕ
   pub terms : Option (List ℕ)
-  pub counted : Bool
+  pub shown : Shown
   pub steps : ℕ
   pub due : Due
 
 -- each is due
 abbrev pub AreDue : List Row → Type 0
 AreDue [] = Unit {0}
-AreDue (r ∷ rs) = IsDue r.spec r.terms r.counted r.steps r.due × AreDue rs
+AreDue (r ∷ rs) = IsDue r.spec r.terms r.shown r.steps r.due × AreDue rs
 
 -- the texts are not too long
 abbrev pub are_short : List ℕ → Option (List ℕ) → Bool
@@ -117,17 +117,17 @@ are_short spec None = nat_le (length spec) 16777216
 are_short spec (Some terms) = nat_le (length spec) 16777216 && nat_le (length terms) 16777216
 
 -- what is due for them
-abbrev pub due_for : List ℕ → Option (List ℕ) → Bool → ℕ → Option Due
-due_for spec None counted n = option_map (due_of_spec counted n) (verdict_by (comes_of spec))
-due_for spec (Some terms) counted n = option_and_then (due_by terms counted n) (verdict_by (comes_of spec))
+abbrev pub due_for : List ℕ → Option (List ℕ) → Shown → ℕ → Option Due
+due_for spec None shown n = option_map (due_of_spec shown n) (verdict_by (comes_of spec))
+due_for spec (Some terms) shown n = option_and_then (due_by terms shown n) (verdict_by (comes_of spec))
 
-row_due : (spec : List ℕ) (terms : Option (List ℕ)) (counted : Bool) (n : ℕ) (d : Due) → are_short spec terms ≡ true → due_for spec terms counted n ≡ Some d → IsDue spec terms counted n d
-row_due spec None counted n d fits e = due_of_text spec counted n d fits e
-row_due spec (Some terms) counted n d fits e =
+row_due : (spec : List ℕ) (terms : Option (List ℕ)) (shown : Shown) (n : ℕ) (d : Due) → are_short spec terms ≡ true → due_for spec terms shown n ≡ Some d → IsDue spec terms shown n d
+row_due spec None shown n d fits e = due_of_text spec shown n d fits e
+row_due spec (Some terms) shown n d fits e =
     let both = and_parts (nat_le (length spec) 16777216) (nat_le (length terms) 16777216) fits in
-    due_of_texts spec terms counted n d both.0 both.1 e
+    due_of_texts spec terms shown n d both.0 both.1 e
 
 -- so is each row that is computed to be
-pub rows_due : (rs : List Row) → map (λ r. are_short r.spec r.terms) rs ≡ map (λ r. true) rs → map (λ r. due_for r.spec r.terms r.counted r.steps) rs ≡ map (λ r. Some r.due) rs → AreDue rs
+pub rows_due : (rs : List Row) → map (λ r. are_short r.spec r.terms) rs ≡ map (λ r. true) rs → map (λ r. due_for r.spec r.terms r.shown r.steps) rs ≡ map (λ r. Some r.due) rs → AreDue rs
 rows_due [] fits e = tt
-rows_due (r ∷ rs) fits e = (row_due r.spec r.terms r.counted r.steps r.due (cc fits) (cc e), rows_due rs (cc fits) (cc e))
+rows_due (r ∷ rs) fits e = (row_due r.spec r.terms r.shown r.steps r.due (cc fits) (cc e), rows_due rs (cc fits) (cc e))

@@ -8,7 +8,7 @@ use Rattle.rec_sorts.specs.SpecRules.{fault, Long, Grammar, Breaks, Good, Fits, 
 use Rattle.rec_sorts.specs.TermRules.{broken_by_terms, elements}
 use Rattle.rec_sorts.specs.Evaluation.{Eval}
 use Rattle.rx_run.specs.Due.{Due}
-use Rattle.rec_run.specs.Output.{due_of_spec, due_of_terms, TooLong, Outside, BreaksTerms, GoodTerms, IsTermsVerdict, IsDueAfter}
+use Rattle.rec_run.specs.Output.{bare, due_of_spec, due_of_terms, TooLong, Outside, BreaksTerms, GoodTerms, IsTermsVerdict, IsDueAfter}
 use Rattle.rx_run.specs.declared.ending.Finish.{Finish}
 use Rattle.rx_run.specs.declared.ending.Finish.TheVariants.{Done, Refused}
 use Rattle.rx_run.specs.declared.ending.Source.TheVariants as source
@@ -19,27 +19,27 @@ use Rattle.rec_run.proofs.TermRows.{q}
 abbrev due : Finish → List ℕ → Option Place → Due
 due finish text place = record { finish = finish; text = text; place = place }
 
-long_spec : due_of_spec true 7 Long ≡ due Refused (codes "!spec L1\n") None
+long_spec : due_of_spec (bare true) 7 Long ≡ due Refused (codes "!spec L1\n") None
 long_spec = refl
 
-spec_outside : due_of_spec true 7 (Grammar 17) ≡ due Refused (codes "!spec G\n") (Some (record { text = source.Spec; rule = named.G; at = 17 }))
+spec_outside : due_of_spec (bare true) 7 (Grammar 17) ≡ due Refused (codes "!spec G\n") (Some (record { text = source.Spec; rule = named.G; at = 17 }))
 spec_outside = refl
 
-broken_spec : due_of_spec true 7 (Breaks (record { number = 10; at = 88 })) ≡ due Refused (codes "!spec S10\n") (Some (record { text = source.Spec; rule = named.S 10; at = 88 }))
+broken_spec : due_of_spec (bare true) 7 (Breaks (record { number = 10; at = 88 })) ≡ due Refused (codes "!spec S10\n") (Some (record { text = source.Spec; rule = named.S 10; at = 88 }))
 unfolding digits
 broken_spec = refl
 
-good_spec : due_of_spec false 1 (Good q) ≡ due Done (codes "a\n") None
+good_spec : due_of_spec (bare false) 1 (Good q) ≡ due Done (codes "a\n") None
 unfolding Eval
 good_spec = refl
 
-long_terms : due_of_terms q true 7 TooLong ≡ due Refused (codes "!terms L1\n") None
+long_terms : due_of_terms q (bare true) 7 TooLong ≡ due Refused (codes "!terms L1\n") None
 long_terms = refl
 
-terms_outside : due_of_terms q true 7 (Outside 4) ≡ due Refused (codes "!terms A\n") (Some (record { text = source.Terms; rule = named.A; at = 4 }))
+terms_outside : due_of_terms q (bare true) 7 (Outside 4) ≡ due Refused (codes "!terms A\n") (Some (record { text = source.Terms; rule = named.A; at = 4 }))
 terms_outside = refl
 
-broken_terms : due_of_terms q true 7 (BreaksTerms 2) ≡ due Refused (codes "!terms T2\n") None
+broken_terms : due_of_terms q (bare true) 7 (BreaksTerms 2) ≡ due Refused (codes "!terms T2\n") None
 unfolding digits
 broken_terms = refl
 
@@ -52,17 +52,17 @@ b = Appl (codes "b") false none none
 abbrev f : Tree → Tree
 f t = Appl (codes "f") false (more t none) none
 
-good_terms : due_of_terms q false 1 (GoodTerms (b ∷ f (f a) ∷ [])) ≡ due Done (codes "a\nb\n!limit 1\n") None
+good_terms : due_of_terms q (bare false) 1 (GoodTerms (b ∷ f (f a) ∷ [])) ≡ due Done (codes "a\nb\n!limit 1\n") None
 unfolding Eval digits
 good_terms = refl
 
 -- the steps stand behind the annotations, and not behind a limit
-good_terms-counted : due_of_terms q true 1 (GoodTerms (Appl (codes "f") false (more a none) (more b none) ∷ f (f a) ∷ [])) ≡ due Done (codes "a\t1\na{b}\t1\n!limit 1\n") None
+good_terms-counted : due_of_terms q (bare true) 1 (GoodTerms (Appl (codes "f") false (more a none) (more b none) ∷ f (f a) ∷ [])) ≡ due Done (codes "a\t1\na{b}\t1\n!limit 1\n") None
 unfolding Eval digits
 good_terms-counted = refl
 
 -- a refused specification is all that is told, whatever the terms are
-terms_unread : (terms : List ℕ) (d : Due) → IsDueAfter (Grammar 17) (Some terms) true 7 d → d ≡ due Refused (codes "!spec G\n") (Some (record { text = source.Spec; rule = named.G; at = 17 }))
+terms_unread : (terms : List ℕ) (d : Due) → IsDueAfter (Grammar 17) (Some terms) (bare true) 7 d → d ≡ due Refused (codes "!spec G\n") (Some (record { text = source.Spec; rule = named.G; at = 17 }))
 terms_unread terms d h = h
 
 -- 16777216 bytes are not too many, and one more is

@@ -1,12 +1,12 @@
 -- From what an engine answers to the lines that are due.
-use Rattle.std.proofs.Common.{◌≡◌, ℕ, ◌+◌, ◌-◌, ◌<◌, ◌^◌, Bool, true, cond, List, [], ◌++◌, Option, Some, None, IsSome, IfSome, get_or, take, length, refl, sym, ap, ap₂, subst, ◌∙◌, arith}
-use Rattle.std.specs.Prelude.{codes, is_some, unwrap_or}
+use Rattle.std.proofs.Common.{◌≡◌, ◌≢◌, ℕ, ◌+◌, ◌-◌, ◌<◌, ◌^◌, Bool, true, cond, List, [], ◌++◌, Option, Some, None, IsSome, IfSome, get_or, take, length, refl, sym, ap, ap₂, subst, ◌∙◌, arith, append-nil}
+use Rattle.std.specs.Prelude.{codes, decimal, is_some, unwrap_or}
 use Rattle.std.specs.Option.{option_map}
 use Rattle.std.specs.Io.KnownBytes.{Appends}
 use Rattle.std.specs.FinMap as map
 use Rattle.std.proofs.lemmas.Bool.{eq-eqb}
 use Rattle.std.proofs.lemmas.Option.{slice_get-get_or}
-use Rattle.rx_term.specs.Tree.{Tree, none, more, annotations, are_trees, from_list, list_of}
+use Rattle.rx_term.specs.Tree.{Tree, Trees, none, more, annotations, are_trees, from_list, list_of}
 use Rattle.rx_term.specs.Steps.{IsSound, Keeps, with_count}
 use Rattle.rx_term.proofs.KeepLemmas.{kept-root}
 use Rattle.rx_term.specs.Store.{Store, tree_at}
@@ -25,7 +25,7 @@ use Rattle.rec_engine.specs.Engine.{EngineState, IsGiven, IsOutcome, SameEngine,
 use Rattle.rec_engine.specs.declared.engine.Outcome.{Outcome}
 use Rattle.rec_engine.specs.declared.engine.Outcome.TheVariants.{Value, Limit}
 use Rattle.rec_memo.specs.Pairs.{Pairs}
-use Rattle.rec_run.specs.EvaluatedLines.{LineLacks, ProtectsTerms, RunLacks, due_before, outcome_text, fault_after}
+use Rattle.rec_run.specs.EvaluatedLines.{IsThereFor, LineLacks, ProtectsTerms, RunLacks, StaysFor, due_before, outcome_text, fault_after, limit_notes, said}
 use Rattle.rec_run.specs.GivenTerms.{HoldsTerms, given_at, given_text, item_at}
 use Rattle.rx_run.specs.Due.{steps_text}
 use Rattle.rec_run.specs.Reading.{line_text, evaluation_text, term_at, text_at}
@@ -34,6 +34,9 @@ use Rattle.rx_run.specs.declared.ending.RunFault.{RunFault}
 use Rattle.rx_run.specs.declared.ending.RunFault.TheVariants as run
 use Rattle.rec_run.specs.declared.spec.lines.LineFault.{LineFault}
 use Rattle.rec_run.specs.declared.spec.lines.LineFault.TheVariants.{Memory, Room, Write}
+use Rattle.rec_run.specs.Output.{Shown, limit_text, notes_text, shown_by}
+use Rattle.rec_run.specs.declared.options.LimitLines.{LimitLines}
+use Rattle.rec_run.specs.declared.options.LimitLines.TheVariants.{Bare, Annotated}
 use Rattle.rec_run.proofs.GivenLemmas.{all_trees, annotations_trees, notes-newlines}
 use Rattle.rec_run.proofs.GivenListLemmas.{FrontAt}
 use Rattle.rx_run.proofs.LineFrontLemmas.{NoEnds, ends_before, front_in_line, front_in_lines, lines_of}
@@ -42,13 +45,30 @@ use Rattle.rx_text.proofs.AppendingLemmas.{appends_both, appends_same, front_bef
 
 -- ---- what is shown of an outcome
 
--- it is the text of the term's line
-pub outcome_text-line : (y : Spec) (w : Store) (counted : Bool) (n : ℕ) (u : Tree) (o : Outcome) → IsOutcome y w n u o → outcome_text w counted n o ≡ given_text y counted n u
-outcome_text-line y w counted n u (Value r steps) h =
+-- what a limit line says stands behind the limit
+line_said : (limits : LimitLines) (n : ℕ) (notes : Trees) → codes "!limit " ++ decimal n ++ limit_notes limits notes ≡ limit_text limits n notes
+line_said Bare n notes = append-nil (codes "!limit " ++ decimal n)
+line_said Annotated n notes = refl
+
+-- with what is said besides it is the text of the term's line
+pub outcome_text-line : (y : Spec) (w : Store) (counted : Bool) (limits : LimitLines) (n : ℕ) (u : Tree) (o : Outcome) → IsOutcome y w n u o → outcome_text w counted n o ++ said o limits (annotations u) ≡ given_text y (shown_by counted limits) n u
+outcome_text-line y w counted limits n u (Value r steps) h =
     let spent = h.spent in
     let back : steps ≡ n - h.left = omega (arith, spent) in
-    ap₂ (λ t k. canon t ++ steps_text counted k) (ap (λ o. unwrap_or o (list_of none)) h.there) back ∙ ap (evaluation_text (annotations u) counted n) (sym h.evaluated)
-outcome_text-line y w counted n u Limit h = ap (evaluation_text (annotations u) counted n) (sym h)
+    append-nil (canon (item_at w r) ++ steps_text counted steps)
+    ∙ ap₂ (λ t k. canon t ++ steps_text counted k) (ap (λ o. unwrap_or o (list_of none)) h.there) back ∙ ap (evaluation_text (annotations u) (shown_by counted limits) n) (sym h.evaluated)
+outcome_text-line y w counted limits n u Limit h = line_said limits n (annotations u) ∙ ap (evaluation_text (annotations u) (shown_by counted limits) n) (sym h)
+
+-- what is said of a term that stays
+said_stays : (o : Outcome) (limits : LimitLines) (old new : Store) (t : Reference) → StaysFor limits old t → Keeps old new [] → said o limits (annotations (item_at new t)) ≡ said o limits (annotations (item_at old t))
+said_stays (Value r steps) limits old new t h keeps = refl
+said_stays Limit Bare old new t h keeps = refl
+said_stays Limit Annotated old new t h keeps = ap (λ u. notes_text (annotations (unwrap_or u (list_of none)))) (h new keeps)
+
+-- a term that stays is there
+pub there_for : {B : Type 0} (store : B → Store) (limits : LimitLines) (old : Store) (again new : B) (t : Reference) → again ≡ new → StaysFor limits old t → Keeps old (store new) [] → IsSome (tree_at old t) → IsThereFor limits (store again) t
+there_for store Bare old again new t one h keeps held = tt
+there_for store Annotated old again new t one h keeps held = ap is_some (ap (λ b. tree_at (store b) t) one ∙ h (store new) keeps) ∙ held
 
 -- what holds of the tree of a reference that is held
 pub of_held : (o : Option Tree) (P : Tree → Type 0) → IsSome o → IfSome o P → P (unwrap_or o (list_of none))
@@ -59,19 +79,23 @@ of_held (Some u) P held h = h
 pub given_item : (y : Spec) (w : Store) (t : Reference) (given : IsGiven y w t) → item_at w t ≡ given.tree
 given_item y w t given = ap (λ o. unwrap_or o (list_of none)) given.held
 
--- what is shown of an answer, by the bank that an engine gives, is the text of the line of the term that was given
-pub answered-line : {B : Type 0} (store : B → Store) (y z : Spec) (old : Store) (asked new : B) (counted : Bool) (n : ℕ) (t : Reference) (o : Outcome) → asked ≡ new → IsGiven y old t → z ≡ y → ((u : Tree) → tree_at old t ≡ Some u → IsOutcome z (store new) n u o)
-    → outcome_text (store asked) counted n o ≡ given_text y counted n (item_at old t)
-answered-line store y z old asked new counted n t o one given same answered =
-    ap (λ b. outcome_text (store b) counted n o) one
-    ∙ outcome_text-line z (store new) counted n given.tree o (answered given.tree given.held)
-    ∙ ap (λ x. given_text x counted n given.tree) same ∙ ap (given_text y counted n) (sym (given_item y old t given))
+-- what is shown of an answer, by the bank that an engine gives twice, is the text of the line of the term that was given
+pub answered-line :
+    {B : Type 0} (store : B → Store) (y z : Spec) (old : Store) (asked again new : B) (counted : Bool) (limits : LimitLines) (n : ℕ) (t : Reference) (o : Outcome) → asked ≡ new → again ≡ new → IsGiven y old t → z ≡ y → ((u : Tree) → tree_at old t ≡ Some u → IsOutcome z (store new) n u o)
+    → StaysFor limits old t → Keeps old (store new) []
+    → outcome_text (store asked) counted n o ++ said o limits (annotations (item_at (store again) t)) ≡ given_text y (shown_by counted limits) n (item_at old t)
+answered-line store y z old asked again new counted limits n t o one two given same answered stays keeps =
+    let shown = shown_by counted limits in
+    ap₂ (λ text more. text ++ more) (ap (λ b. outcome_text (store b) counted n o) one)
+    (ap (λ b. said o limits (annotations (item_at (store b) t))) two ∙ said_stays o limits old (store new) t stays keeps ∙ ap (λ u. said o limits (annotations u)) (given_item y old t given))
+    ∙ outcome_text-line z (store new) counted limits n given.tree o (answered given.tree given.held)
+    ∙ ap (λ x. given_text x shown n given.tree) same ∙ ap (given_text y shown n) (sym (given_item y old t given))
 
 -- the text of the line of the term at the front of a rest
-pub front-line : (y z : Spec) (w : Store) (us : List Tree) (rest r : Reference) (i : ℕ) (counted : Bool) (n : ℕ) (here : FrontAt y w us rest i) → z ≡ y → tree_at w r ≡ Some here.tree
-    → given_text z counted n (item_at w r) ≡ given_text y counted n (get_or us i (list_of none))
-front-line y z w us rest r i counted n here same held =
-    ap (λ x. given_text x counted n (item_at w r)) same ∙ ap (given_text y counted n) (ap (λ o. unwrap_or o (list_of none)) held ∙ sym here.got)
+pub front-line : (y z : Spec) (w : Store) (us : List Tree) (rest r : Reference) (i : ℕ) (shown : Shown) (n : ℕ) (here : FrontAt y w us rest i) → z ≡ y → tree_at w r ≡ Some here.tree
+    → given_text z shown n (item_at w r) ≡ given_text y shown n (get_or us i (list_of none))
+front-line y z w us rest r i shown n here same held =
+    ap (λ x. given_text x shown n (item_at w r)) same ∙ ap (given_text y shown n) (ap (λ o. unwrap_or o (list_of none)) held ∙ sym here.got)
 
 -- ---- a specification's own terms
 
@@ -95,13 +119,13 @@ bare_tree : (t : Term) → annotations (tree_of t) ≡ none
 bare_tree (Apply w ts) = refl
 
 -- the line of a term is that of its tree
-tree-line : (y : Spec) (counted : Bool) (n : ℕ) (t : Term) → given_text y counted n (tree_of t) ≡ line_text y counted n t
-tree-line y counted n t = ap₂ (λ notes o. evaluation_text notes counted n o) (bare_tree t) (eval-tree y n t)
+tree-line : (y : Spec) (shown : Shown) (n : ℕ) (t : Term) → given_text y shown n (tree_of t) ≡ line_text y shown n t
+tree-line y shown n t = ap₂ (λ notes o. evaluation_text notes shown n o) (bare_tree t) (eval-tree y n t)
 
-pub own-line : (y z : Spec) (w : Store) (counted : Bool) (n i : ℕ) (t : Reference) → z ≡ y → i < length y.terms → tree_at w t ≡ eval_tree z i → given_text z counted n (item_at w t) ≡ text_at y counted n i
-own-line y z w counted n i t same low here =
+pub own-line : (y z : Spec) (w : Store) (shown : Shown) (n i : ℕ) (t : Reference) → z ≡ y → i < length y.terms → tree_at w t ≡ eval_tree z i → given_text z shown n (item_at w t) ≡ text_at y shown n i
+own-line y z w shown n i t same low here =
     let own : tree_at w t ≡ Some (tree_of (term_at y i)) = here ∙ ap (λ x. eval_tree x i) same ∙ ap (option_map tree_of) (slice_get-get_or y.terms i (Apply nameless syntax.none) low) in
-    ap (λ x. given_text x counted n (item_at w t)) same ∙ ap (λ o. given_text y counted n (unwrap_or o (list_of none))) own ∙ tree-line y counted n (term_at y i)
+    ap (λ x. given_text x shown n (item_at w t)) same ∙ ap (λ o. given_text y shown n (unwrap_or o (list_of none))) own ∙ tree-line y shown n (term_at y i)
 
 -- ---- faults
 
@@ -173,11 +197,11 @@ lines_stopped_after w first f items i d old between new no_ends h so_far (front,
     }
 
 -- the line of no term of a list has a line end before its own
-pub held_no_ends : (y : Spec) (w : Store) (list : Reference) (counted : Bool) (n : ℕ) → n < 2 ^ 64 → IsSound w → HoldsTerms y w list → NoEnds (given_text y counted n) (given_at w list)
-held_no_ends y w list counted n few sound holds k d low =
+pub held_no_ends : (y : Spec) (w : Store) (list : Reference) (shown : Shown) (n : ℕ) → n < 2 ^ 64 → IsSound w → HoldsTerms y w list → NoEnds (given_text y shown n) (given_at w list)
+held_no_ends y w list shown n few sound holds k d low =
     let us = given_at w list in
     let valid = (and_parts (are_trees (from_list us)) true (sound.valid list (list_of (from_list us)) holds.held)).0 in
-    given_text-newlines y counted n few (get_or us k d) (notes-newlines (annotations (get_or us k d)) (annotations_trees (get_or us k d) (all_trees us valid k d low)))
+    given_text-newlines y shown n few (get_or us k d) (notes-newlines (annotations (get_or us k d)) (annotations_trees (get_or us k d) (all_trees us valid k d low)))
 
 -- ---- a protected list
 
@@ -218,3 +242,16 @@ same_terms y old new list keeps h = ap (λ o. unwrap_or (elements (unwrap_or o (
 
 pub same_engine_both : {B : Type 0} {a b c : EngineState B} → SameEngine a b → SameEngine b c → SameEngine a c
 same_engine_both p q = record { spec = q.spec ∙ p.spec; options = q.options ∙ p.options }
+
+-- ---- whose fault it is
+
+-- the run's fault is the writer's only where the line's was, and never a reader's
+pub after_write : (f : LineFault) (lines : ℕ) (r : RunFault) → r ≡ fault_after f lines → r ≡ run.Write → f ≡ Write
+after_write Memory lines r e is = absurd (cc (e, is))
+after_write Room lines r e is = absurd (cc (e, is))
+after_write Write lines r e is = refl
+
+pub after_read : (f : LineFault) (lines : ℕ) (r : RunFault) → r ≡ fault_after f lines → r ≢ run.Read
+after_read Memory lines r e is = cc (e, is)
+after_read Room lines r e is = cc (e, is)
+after_read Write lines r e is = cc (e, is)

@@ -49,7 +49,7 @@ terms_front y bytes (GoodTerms us) h = subst (λ text. IsTermsVerdict y text (Go
 
 read_front : (known : Option (List ℕ)) (text : List ℕ) (y : Spec) (w : Store) (r : Reading Reference) → IfSome known (λ bytes. text ≡ take (LIMIT + 1) bytes) → IsListRead y w text r → IfSome known (λ bytes. IsListRead y w bytes r)
 read_front None text y w r e h = tt
-read_front (Some bytes) text y w r e h = λ counted n. let k = h counted n in (k.0, terms_front y bytes k.0 (subst (λ t. IsTermsVerdict y t k.0) e k.1), k.2)
+read_front (Some bytes) text y w r e h = λ shown n. let k = h shown n in (k.0, terms_front y bytes k.0 (subst (λ t. IsTermsVerdict y t k.0) e k.1), k.2)
 
 -- what was read of a text of terms says what is due for it
 pub read_due : (known : Option (List ℕ)) (text given : List ℕ) (y : Spec) (w : Store) (r s : Reading Reference) → IfSome known (λ bytes. text ≡ take (LIMIT + 1) bytes) → given ≡ text → IsListRead y w given r → r ≡ s
@@ -72,8 +72,8 @@ job_ready w checked (GoodRun list) h = λ x e. let same : list ≡ x = cc in sub
 
 -- a text of terms that is no term's
 pub no_term : (y : Spec) (w : Store) (bytes : List ℕ) (r : Refusal) (v : text.Verdict) → refused_text source.Terms v ≡ Some r → IsVerdict bytes v → IsListRead y w bytes (RefusedRun r)
-no_term y w bytes r text.TooLong e h = λ counted n. (TooLong, h, ap refusal_due (same_refusal e))
-no_term y w bytes r (text.Outside at) e h = λ counted n. (Outside at, h, ap refusal_due (same_refusal e))
+no_term y w bytes r text.TooLong e h = λ shown n. (TooLong, h, ap refusal_due (same_refusal e))
+no_term y w bytes r (text.Outside at) e h = λ shown n. (Outside at, h, ap refusal_due (same_refusal e))
 no_term y w bytes r (Spelt t) e h = absurd (cc e)
 
 -- a text of terms that is one
@@ -87,7 +87,7 @@ some_term y w bytes list v r (u, here, e) h k =
 -- a list that is not accepted: the rule that it breaks is due
 broken_list : (o : Option Tree) (y : Spec) (w : Store) (number : ℕ) → IfSome o (λ t. broken_by_terms y t ≡ Some number) → IfSome o (λ t. (bytes : List ℕ) → Fits bytes → Spells bytes t → IsListRead y w bytes (RefusedRun (record { text = source.Terms; reason = reason.TermsRule number })))
 broken_list None y w number h = tt
-broken_list (Some t) y w number h = λ bytes fits spells counted n. (BreaksTerms number, (fits, (t, spells, h)), refl)
+broken_list (Some t) y w number h = λ bytes fits spells shown n. (BreaksTerms number, (fits, (t, spells, h)), refl)
 
 due_refused : (o : Option Tree) (y : Spec) (w : Store) (e : TermsFault) → IfSome o (λ t. IsTermsFault (broken_by_terms y t) e) → IfOk (list_refused e) (λ r. IfSome o (λ t. (bytes : List ℕ) → Fits bytes → Spells bytes t → IsListRead y w bytes r))
 due_refused o y w (rule.Rule number) h = broken_list o y w number h
@@ -118,9 +118,9 @@ good_list w y list h = by (tree_at w list) refl h
   where
     by : (o : Option Tree) → tree_at w list ≡ o → IfSome o (λ t. broken_by_terms y t ≡ None) → IfSome o (λ t. (bytes : List ℕ) → Fits bytes → Spells bytes t → IsListRead y w bytes (GoodRun list))
     by None here kept = tt
-    by (Some t) here kept = λ bytes fits spells counted n.
+    by (Some t) here kept = λ bytes fits spells shown n.
         let found = kept_elements y t kept in
-        (GoodTerms found.0, (fits, (t, spells, kept, found.1)), ap (λ us. done (lines y us counted n)) (given_elements w list t found.0 here found.1))
+        (GoodTerms found.0, (fits, (t, spells, kept, found.1)), ap (λ us. done (lines y us shown n)) (given_elements w list t found.0 here found.1))
 
 -- its terms keep the rules
 pub list_holds : (w : Store) (y : Spec) (list : Reference) → IsSome (tree_at w list) → IfSome (tree_at w list) (λ t. broken_by_terms y t ≡ None) → HoldsTerms y w list
@@ -135,7 +135,7 @@ read_both : (w : Store) (bytes given : Option (List ℕ)) (first : Reading Sourc
     → IfSome (both_texts bytes (option_map (λ b. Some b) given)) (λ texts. IsReadFrom w texts r)
 read_both w None given first r h k = tt
 read_both w (Some b) None first r h k = tt
-read_both w (Some b) (Some t) first r (v, h, is) k = λ counted n. (v, h, k v is counted n)
+read_both w (Some b) (Some t) first r (v, h, is) k = λ shown n. (v, h, k v is shown n)
 
 pub read_with : (w : Store) (result : Result (Reading Job) RunFault) (bytes given : Option (List ℕ)) (first : Reading Sourced) → IfSome bytes (λ b. IsSpecRead b first) → IfOk result (λ r. (v : Verdict) → IsSpecReading first v → IfSome given (λ b. IsReadAs w v b r))
     → IfOk result (λ r. IfSome (both_texts bytes (option_map (λ b. Some b) given)) (λ texts. IsReadFrom w texts r))
@@ -191,7 +191,7 @@ terms_out P (Ok x) (Some b) first (v, h, came) k = λ y is. k (good_reading firs
 -- where a specification is refused
 pub read_after_refusal : (w : Store) (r : Refusal) (given : Option (List ℕ)) (v : Verdict) → refused_spec v ≡ Some r → IfSome given (λ b. IsReadAs w v b (RefusedRun r))
 read_after_refusal w r None v e = tt
-read_after_refusal w r (Some b) v e = λ counted n. after_refusal v r (Some b) counted n e
+read_after_refusal w r (Some b) v e = λ shown n. after_refusal v r (Some b) shown n e
 
 -- where it is good
 pub read_after_good : (w : Store) (checked : Sourced) (given : Option (List ℕ)) (r : Reading Job) → IfSome given (λ b. IsReadFor w checked.spec b r) → (v : Verdict) → v ≡ Good checked.spec → IfSome given (λ b. IsReadAs w v b r)

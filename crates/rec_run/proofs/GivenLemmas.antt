@@ -14,7 +14,8 @@ use Rattle.rx_text.proofs.InLineLemmas.{stays_in_line}
 use Rattle.rec_syntax.specs.Syntax.{Spec}
 use Rattle.rec_sorts.specs.TermRules.{elements, first_passed, broken_by_elements, broken_by_terms}
 use Rattle.rx_run.specs.Bytes.{newlines}
-use Rattle.rec_run.specs.GivenTerms.{HoldsTerms, given_at, notes_text}
+use Rattle.rec_run.specs.GivenTerms.{HoldsTerms, given_at}
+use Rattle.rec_run.specs.Output.{notes_text}
 use Rattle.rx_run.proofs.NewlineLemmas.{newlines-append}
 use Rattle.rx_run.proofs.TermDueLemmas as due
 

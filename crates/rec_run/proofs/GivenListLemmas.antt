@@ -15,12 +15,15 @@ use Rattle.rx_term.specs.declared.Kind.{Kind}
 use Rattle.rx_term.specs.declared.Kind.TheVariants as kind
 use Rattle.rx_term.specs.declared.Term.{Term as Reference}
 use Rattle.rx_term.proofs.KeepLemmas.{kept-root}
-use Rattle.rx_term.proofs.PartsLemmas.{cons_cases, no_element, parts-self, parts-trans, rest-part}
+use Rattle.rx_term.proofs.PartsLemmas.{cons_cases, item-part, no_element, parts-self, parts-trans, rest-part}
 use Rattle.rx_term.proofs.TreeLemmas.{tree_eq-Decides, to_from_list, length-to_list}
 use Rattle.rec_syntax.specs.Syntax.{Spec}
 use Rattle.rec_sorts.specs.TermRules.{nodes, nodes_all, arguments, first_passed, is_no_application, is_annotated, is_undeclared, is_ill_filled, is_ill_sorted, broken_by_elements}
 use Rattle.rec_engine.specs.Engine.{IsGround}
 use Rattle.rx_run.proofs.CountedPartLemmas.{different, listed, tree_equivalence, trees}
+use Rattle.rec_run.specs.EvaluatedLines.{StaysFor}
+use Rattle.rec_run.specs.declared.options.LimitLines.{LimitLines}
+use Rattle.rec_run.specs.declared.options.LimitLines.TheVariants.{Bare, Annotated}
 use Rattle.rec_run.proofs.GivenLemmas.{any_parts, got_at, not_passed}
 
 -- ---- each term is ground
@@ -141,6 +144,29 @@ front_there y w us rest i kept here cons = by (drop i us) refl
           others = ap (option_and_then tail_of) there ∙ ap (λ ts. Some (list_of (from_list ts))) (sym (further us i v vs e));
           is_ground = each_ground y us kept i v vs e;
         }
+
+-- each item is a part of the list
+item_at_part : (us : List Tree) (i : ℕ) (u : Tree) (vs : List Tree) → drop i us ≡ u ∷ vs → Contains (parts (list_of (from_list us))) u
+item_at_part us i u vs e = parts-trans (list_of (from_list us)) (list_of (from_list (drop i us))) u (rest_part us i) (subst (λ ts. Contains (parts (list_of (from_list ts))) u) (sym e) (item-part u (from_list vs) none))
+
+-- so it stays where the list is protected, as it was before
+pub front_stays : (y : Spec) (first old : Store) (list rest r : Reference) (us : List Tree) (i : ℕ) (limits : LimitLines) → Keeps first old [] → tree_at first list ≡ Some (list_of (from_list us)) → 0 < first.roots list.0
+    → tree_at old rest ≡ Some (list_of (from_list (drop i us))) → (front : FrontAt y old us rest i) → tree_at old r ≡ Some front.tree → StaysFor limits old r
+front_stays y first old list rest r us i Bare before held protected here front there = tt
+front_stays y first old list rest r us i Annotated before held protected here front there = λ new keeps. by (drop i us) refl new keeps
+  where
+    at_list : tree_at old list ≡ Some (list_of (from_list us))
+    at_list = kept-root before list protected (ap is_some held) ∙ held
+
+    still : 0 < old.roots list.0
+    still = subst (λ roots. 0 < roots list.0) (sym before.beside.roots) protected
+
+    by : (vs : List Tree) → drop i us ≡ vs → (new : Store) → Keeps old new [] → tree_at new r ≡ tree_at old r
+    by [] e new keeps = absurd (cc (front.first, ap (option_and_then head_of) (here ∙ ap (λ ts. Some (list_of (from_list ts))) e)))
+    by (v ∷ vs) e new keeps =
+        let first_is : Some v ≡ Some front.tree = sym (ap (option_and_then head_of) (here ∙ ap (λ ts. Some (list_of (from_list ts))) e)) ∙ front.first in
+        let same : v ≡ front.tree = cc first_is in
+        keeps.trees r front.tree there (list, (list_of (from_list us), inl still, at_list, subst (λ u. Contains (parts (list_of (from_list us))) u) same (item_at_part us i v vs e))) ∙ sym there
 
 -- behind it the other items are left, also later
 pub others_later : (y : Spec) (first old new : Store) (list rest : Reference) (us : List Tree) (i : ℕ) → Keeps first old [] → Keeps old new [] → tree_at first list ≡ Some (list_of (from_list us)) → 0 < first.roots list.0

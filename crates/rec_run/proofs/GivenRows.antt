@@ -8,6 +8,7 @@ use Rattle.rx_run.specs.declared.ending.Finish.TheVariants.{Done, Refused}
 use Rattle.rx_run.specs.declared.ending.Named.TheVariants.{A, S}
 use Rattle.rx_run.specs.declared.ending.Place.{Place}
 use Rattle.rx_run.specs.declared.ending.Source.TheVariants.{Spec, Terms}
+use Rattle.rec_run.specs.Output.{bare}
 use Rattle.rec_run.proofs.DueOfTextLemmas.{AreDue, Row, rows_due}
 
 -- these lines are due
@@ -24,7 +25,7 @@ outside at = refusal (codes "!terms A\n") (Some (record { text = Terms; rule = A
 
 -- a specification and given terms, within so many steps
 abbrev given : List ℕ → List ℕ → Bool → ℕ → Due → Row
-given spec terms counted n due = record { spec = spec; terms = Some terms; counted = counted; steps = n; due = due }
+given spec terms counted n due = record { spec = spec; terms = Some terms; shown = bare counted; steps = n; due = due }
 
 abbrev q : List ℕ
 q = codes "REC-SPEC Q SORTS A B\nCONS a : -> A  b : -> B\nOPNS f : A -> A\nVARS X Y : A\nRULES f(X) -> X\nEVAL f(a)\nEND-SPEC\n"

@@ -14,4 +14,5 @@ pub mod FaultLemmas
 mod TermRows
 mod DueRows
 mod GivenRows
+mod ReadsLemmas
 mod RefusedItemLemmas

@@ -9,7 +9,7 @@ use Rattle.rec_syntax.proofs.DecidingLemmas.{one_reading}
 use Rattle.rec_sorts.specs.SpecRules.{Verdict, Long, Grammar, Breaks, Good, SpecVerdict, Fault, fault}
 use Rattle.rec_sorts.specs.TermRules.{broken_by_terms, elements}
 use Rattle.rx_run.specs.Due.{Due}
-use Rattle.rec_run.specs.Output.{IsDueAfter, due_of_terms, TermsVerdict, TooLong, Outside, BreaksTerms, GoodTerms, IsTermsVerdict}
+use Rattle.rec_run.specs.Output.{Shown, IsDueAfter, due_of_terms, TermsVerdict, TooLong, Outside, BreaksTerms, GoodTerms, IsTermsVerdict}
 use Rattle.rec_run.specs.Laws.{OneDue}
 
 -- two answers to one question
@@ -58,14 +58,14 @@ one_terms_verdict y bytes (GoodTerms ts) (GoodTerms us) (fits, (t, text, good, t
     let e = ap elements (one_tree bytes t u text other) in let same : ts ≡ us = cc (these, e, those) in ap GoodTerms same
 
 -- after one verdict on the specification
-one_after : (v : Verdict) (terms : Option (List ℕ)) (counted : Bool) (n : ℕ) (d e : Due) → IsDueAfter v terms counted n d → IsDueAfter v terms counted n e → d ≡ e
-one_after (Good y) (Some terms) counted n d e (v, h, is) (w, k, same) = is ∙ ap (due_of_terms y counted n) (one_terms_verdict y terms v w h k) ∙ sym same
-one_after (Good y) None counted n d e h k = h ∙ sym k
-one_after Long terms counted n d e h k = h ∙ sym k
-one_after (Grammar at) terms counted n d e h k = h ∙ sym k
-one_after (Breaks f) terms counted n d e h k = h ∙ sym k
+one_after : (v : Verdict) (terms : Option (List ℕ)) (shown : Shown) (n : ℕ) (d e : Due) → IsDueAfter v terms shown n d → IsDueAfter v terms shown n e → d ≡ e
+one_after (Good y) (Some terms) shown n d e (v, h, is) (w, k, same) = is ∙ ap (due_of_terms y shown n) (one_terms_verdict y terms v w h k) ∙ sym same
+one_after (Good y) None shown n d e h k = h ∙ sym k
+one_after Long terms shown n d e h k = h ∙ sym k
+one_after (Grammar at) terms shown n d e h k = h ∙ sym k
+one_after (Breaks f) terms shown n d e h k = h ∙ sym k
 
 pub one_due : OneDue
-one_due spec terms counted n d e (v, h, is) (w, k, same) =
+one_due spec terms shown n d e (v, h, is) (w, k, same) =
     let e1 = one_verdict spec v w h k in
-    one_after w terms counted n d e (rw e1 at is) same
+    one_after w terms shown n d e (rw e1 at is) same

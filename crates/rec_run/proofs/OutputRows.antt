@@ -4,15 +4,16 @@ use Rattle.std.specs.Prelude.{ℕ, List, [], ◌∷◌, codes, true, false, None
 use Rattle.std.specs.Fmt.{digits}
 use Rattle.rec_sorts.specs.Evaluation.{Eval}
 use Rattle.rx_run.specs.Due.{done}
+use Rattle.rec_run.specs.Output.{bare}
 use Rattle.rec_run.proofs.DueOfTextLemmas.{AreDue, Row, rows_due}
 
 -- a specification within so many steps, and its lines
 abbrev plain : ℕ → List ℕ → List ℕ → Row
-plain n spec lines = record { spec = spec; terms = None; counted = false; steps = n; due = done lines }
+plain n spec lines = record { spec = spec; terms = None; shown = bare false; steps = n; due = done lines }
 
 -- the same with the steps counted
 abbrev counted : ℕ → List ℕ → List ℕ → Row
-counted n spec lines = record { spec = spec; terms = None; counted = true; steps = n; due = done lines }
+counted n spec lines = record { spec = spec; terms = None; shown = bare true; steps = n; due = done lines }
 
 abbrev addition : List ℕ
 addition = codes "REC-SPEC Add\nSORTS Nat\nCONS\n  z : -> Nat\n  s : Nat -> Nat\nOPNS\n  plus : Nat Nat -> Nat\nVARS\n  X Y : Nat\nRULES\n  plus(z,Y) -> Y\n  plus(s(X),Y) -> s(plus(X,Y))\nEVAL\n  plus(s(s(z)),s(z))\nEND-SPEC\n"

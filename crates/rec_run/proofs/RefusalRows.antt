@@ -6,11 +6,12 @@ use Rattle.rx_run.specs.Due.{refused}
 use Rattle.rx_run.specs.declared.ending.Named.{Named}
 use Rattle.rx_run.specs.declared.ending.Named.TheVariants.{G, S}
 use Rattle.rx_run.specs.declared.ending.Source.TheVariants.{Spec}
+use Rattle.rec_run.specs.Output.{bare}
 use Rattle.rec_run.proofs.DueOfTextLemmas.{AreDue, Row, rows_due}
 
 -- a text that is refused by this name and rule, at a place
 abbrev refusal : List ℕ → Named → ℕ → List ℕ → Row
-refusal name rule at spec = record { spec = spec; terms = None; counted = false; steps = 0; due = refused (codes "!spec ") name (Some (record { text = Spec; rule = rule; at = at })) }
+refusal name rule at spec = record { spec = spec; terms = None; shown = bare false; steps = 0; due = refused (codes "!spec ") name (Some (record { text = Spec; rule = rule; at = at })) }
 
 abbrev refusals : List Row
 refusals =

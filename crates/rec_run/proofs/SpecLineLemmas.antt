@@ -7,9 +7,11 @@ use Rattle.rx_text.specs.Canon.{canon, canon_all, enclosed, name_text, no_argume
 use Rattle.rec_syntax.specs.Syntax.{Term, Spec}
 use Rattle.rec_sorts.specs.Evaluation.{Outcome, Done, Over, Eval, term_of}
 use Rattle.rx_run.specs.Bytes.{newlines}
-use Rattle.rec_run.specs.GivenTerms.{given_lines, given_text, notes_text}
+use Rattle.rec_run.specs.GivenTerms.{given_lines, given_text}
 use Rattle.rx_run.specs.Due.{steps_text}
-use Rattle.rec_run.specs.Output.{Task, lines, line}
+use Rattle.rec_run.specs.Output.{bare, limit_text, shown_by, Shown, notes_text, Task, lines, line}
+use Rattle.rec_run.specs.declared.options.LimitLines.{LimitLines}
+use Rattle.rec_run.specs.declared.options.LimitLines.TheVariants.{Bare, Annotated}
 use Rattle.rec_run.specs.Reading.{evaluation_text, line_text}
 use Rattle.rec_engine.proofs.ValueTreeLemmas.{value_is_applied, applied_unannotated}
 use Rattle.rx_run.proofs.NewlineLemmas.{no_ends}
@@ -23,32 +25,45 @@ own t = record { term = t; notes = none }
 abbrev given : Tree → Task
 given u = record { term = term_of u; notes = annotations u }
 
-line-evaluation_text : (notes : Trees) (counted : Bool) (n : ℕ) (o : Outcome Tree) → ◌≡◌ {A = List ℕ} (elim o [
-  | Done v left ↦ canon (annotated v notes) ++ steps_text counted (n - left) ++ codes "\n"
-  | Over ↦ codes "!limit " ++ decimal n ++ codes "\n"
-]) (evaluation_text notes counted n o ++ codes "\n")
-line-evaluation_text notes counted n (Done v left) = refl
-line-evaluation_text notes counted n Over = refl
+line-evaluation_text : (notes : Trees) (shown : Shown) (n : ℕ) (o : Outcome Tree) → ◌≡◌ {A = List ℕ} (elim o [
+  | Done v left ↦ canon (annotated v notes) ++ steps_text shown.count (n - left) ++ codes "\n"
+  | Over ↦ limit_text shown.limits n notes ++ codes "\n"
+]) (evaluation_text notes shown n o ++ codes "\n")
+line-evaluation_text notes shown n (Done v left) = refl
+line-evaluation_text notes shown n Over = refl
 
-own_lines : (y : Spec) (counted : Bool) (n : ℕ) (ts : List Term) (more : List Task) → flat_map (λ l. l) (map (line y counted n) (map own ts ++ more)) ≡ lines_of (line_text y counted n) ts ++ flat_map (λ l. l) (map (line y counted n) more)
-own_lines y counted n [] more = refl
-own_lines y counted n (t ∷ ts) more =
-    ap₂ (λ l ls. l ++ ls) (line-evaluation_text none counted n (Eval y n [] t)) (own_lines y counted n ts more)
-    ∙ sym (append_assoc (line_text y counted n t ++ codes "\n") (lines_of (line_text y counted n) ts) (flat_map (λ l. l) (map (line y counted n) more)))
+own_lines : (y : Spec) (shown : Shown) (n : ℕ) (ts : List Term) (more : List Task) → flat_map (λ l. l) (map (line y shown n) (map own ts ++ more)) ≡ lines_of (line_text y shown n) ts ++ flat_map (λ l. l) (map (line y shown n) more)
+own_lines y shown n [] more = refl
+own_lines y shown n (t ∷ ts) more =
+    ap₂ (λ l ls. l ++ ls) (line-evaluation_text none shown n (Eval y n [] t)) (own_lines y shown n ts more)
+    ∙ sym (append_assoc (line_text y shown n t ++ codes "\n") (lines_of (line_text y shown n) ts) (flat_map (λ l. l) (map (line y shown n) more)))
 
-given_lines_of : (y : Spec) (counted : Bool) (n : ℕ) (us : List Tree) → flat_map (λ l. l) (map (line y counted n) (map given us)) ≡ lines_of (given_text y counted n) us
-given_lines_of y counted n [] = refl
-given_lines_of y counted n (u ∷ us) = ap₂ (λ l ls. l ++ ls) (line-evaluation_text (annotations u) counted n (Eval y n [] (term_of u))) (given_lines_of y counted n us)
+given_lines_of : (y : Spec) (shown : Shown) (n : ℕ) (us : List Tree) → flat_map (λ l. l) (map (line y shown n) (map given us)) ≡ lines_of (given_text y shown n) us
+given_lines_of y shown n [] = refl
+given_lines_of y shown n (u ∷ us) = ap₂ (λ l ls. l ++ ls) (line-evaluation_text (annotations u) shown n (Eval y n [] (term_of u))) (given_lines_of y shown n us)
 
 -- the lines of a specification without given terms
-pub lines-own : (y : Spec) (counted : Bool) (n : ℕ) → lines y [] counted n ≡ lines_of (line_text y counted n) y.terms
-lines-own y counted n = own_lines y counted n y.terms [] ∙ append-nil (lines_of (line_text y counted n) y.terms)
+pub lines-own : (y : Spec) (shown : Shown) (n : ℕ) → lines y [] shown n ≡ lines_of (line_text y shown n) y.terms
+lines-own y shown n = own_lines y shown n y.terms [] ∙ append-nil (lines_of (line_text y shown n) y.terms)
+
+-- they have no annotations, so limit lines have none
+own_text-any : (counted : Bool) (limits : LimitLines) (n : ℕ) (o : Outcome Tree) → evaluation_text none (shown_by counted limits) n o ≡ evaluation_text none (bare counted) n o
+own_text-any counted limits n (Done v left) = refl
+own_text-any counted Bare n Over = refl
+own_text-any counted Annotated n Over = append-nil (codes "!limit " ++ decimal n)
+
+own_lines-any : (y : Spec) (counted : Bool) (limits : LimitLines) (n : ℕ) (ts : List Term) → lines_of (line_text y (shown_by counted limits) n) ts ≡ lines_of (line_text y (bare counted) n) ts
+own_lines-any y counted limits n [] = refl
+own_lines-any y counted limits n (t ∷ ts) = ap₂ (λ text more. text ++ codes "\n" ++ more) (own_text-any counted limits n (Eval y n [] t)) (own_lines-any y counted limits n ts)
+
+pub lines-any : (y : Spec) (counted : Bool) (limits : LimitLines) (n : ℕ) → lines y [] (shown_by counted limits) n ≡ lines y [] (bare counted) n
+lines-any y counted limits n = lines-own y (shown_by counted limits) n ∙ own_lines-any y counted limits n y.terms ∙ sym (lines-own y (bare counted) n)
 
 -- those of given terms stand behind them
-pub lines-both : (y : Spec) (us : List Tree) (counted : Bool) (n : ℕ) → lines y us counted n ≡ lines y [] counted n ++ given_lines y counted n us
-lines-both y us counted n =
-    own_lines y counted n y.terms (map given us)
-    ∙ ap₂ (λ l ls. l ++ ls) (sym (lines-own y counted n)) (given_lines_of y counted n us)
+pub lines-both : (y : Spec) (us : List Tree) (shown : Shown) (n : ℕ) → lines y us shown n ≡ lines y [] shown n ++ given_lines y shown n us
+lines-both y us shown n =
+    own_lines y shown n y.terms (map given us)
+    ∙ ap₂ (λ l ls. l ++ ls) (sym (lines-own y shown n)) (given_lines_of y shown n us)
 
 steps-newlines : (counted : Bool) (steps : ℕ) → steps < 2 ^ 64 → newlines (steps_text counted steps) ≡ 0
 steps-newlines false steps h = refl
@@ -63,22 +78,29 @@ canon_annotated (Appl name quoted args anns) notes e =
 canon_annotated (Items items anns) notes e = sym (ap (λ a. canon (Items items a) ++ notes_text notes) e ∙ append_assoc (91 ∷ canon_all items) (93 ∷ []) (notes_text notes))
 canon_annotated (Hole inner anns) notes e = sym (ap (λ a. canon (Hole inner a) ++ notes_text notes) e ∙ append_assoc (60 ∷ canon inner) (62 ∷ []) (notes_text notes))
 
-evaluation_text-newlines : (y : Spec) (notes : Trees) (counted : Bool) (n : ℕ) (t : Term) (o : Outcome Tree) → newlines (notes_text notes) ≡ 0 → n < 2 ^ 64 → Eval y n [] t ≡ o → newlines (evaluation_text notes counted n o) ≡ 0
-evaluation_text-newlines y notes counted n t (Done v left) k h e =
+bare-newlines : (n : ℕ) → n < 2 ^ 64 → newlines (codes "!limit " ++ decimal n) ≡ 0
+bare-newlines n h = no_ends (codes "!limit ") (decimal n) refl (decimal-newlines n h)
+
+limit-newlines : (limits : LimitLines) (n : ℕ) (notes : Trees) → newlines (notes_text notes) ≡ 0 → n < 2 ^ 64 → newlines (limit_text limits n notes) ≡ 0
+limit-newlines Bare n notes k h = bare-newlines n h
+limit-newlines Annotated n notes k h = no_ends (codes "!limit " ++ decimal n) (notes_text notes) (bare-newlines n h) k
+
+evaluation_text-newlines : (y : Spec) (notes : Trees) (shown : Shown) (n : ℕ) (t : Term) (o : Outcome Tree) → newlines (notes_text notes) ≡ 0 → n < 2 ^ 64 → Eval y n [] t ≡ o → newlines (evaluation_text notes shown n o) ≡ 0
+evaluation_text-newlines y notes shown n t (Done v left) k h e =
     let a = value_is_applied y n t v left e in
-    no_ends (canon (annotated v notes)) (steps_text counted (n - left))
+    no_ends (canon (annotated v notes)) (steps_text shown.count (n - left))
     (ap newlines (canon_annotated v notes (applied_unannotated v a)) ∙ no_ends (canon v) (notes_text notes) (canon-newlines v a) k)
-    (steps-newlines counted (n - left) (omega (arith, h)))
-evaluation_text-newlines y notes counted n t Over k h e = no_ends (codes "!limit ") (decimal n) refl (decimal-newlines n h)
+    (steps-newlines shown.count (n - left) (omega (arith, h)))
+evaluation_text-newlines y notes shown n t Over k h e = limit-newlines shown.limits n notes k h
 
 -- a line's text has no line end
-pub line_text-newlines : (y : Spec) (counted : Bool) (n : ℕ) → n < 2 ^ 64 → (ts : List Term) → NoEnds (line_text y counted n) ts
-line_text-newlines y counted n h ts k d low = evaluation_text-newlines y none counted n (get_or ts k d) (Eval y n [] (get_or ts k d)) refl h refl
+pub line_text-newlines : (y : Spec) (shown : Shown) (n : ℕ) → n < 2 ^ 64 → (ts : List Term) → NoEnds (line_text y shown n) ts
+line_text-newlines y shown n h ts k d low = evaluation_text-newlines y none shown n (get_or ts k d) (Eval y n [] (get_or ts k d)) refl h refl
 
 -- so the lines of a specification without given terms are as many as its terms
-pub newlines-own : (y : Spec) (counted : Bool) (n : ℕ) → n < 2 ^ 64 → newlines (lines y [] counted n) ≡ length y.terms
-newlines-own y counted n h = ap newlines (lines-own y counted n) ∙ newlines-lines_of (line_text y counted n) y.terms (line_text-newlines y counted n h y.terms)
+pub newlines-own : (y : Spec) (shown : Shown) (n : ℕ) → n < 2 ^ 64 → newlines (lines y [] shown n) ≡ length y.terms
+newlines-own y shown n h = ap newlines (lines-own y shown n) ∙ newlines-lines_of (line_text y shown n) y.terms (line_text-newlines y shown n h y.terms)
 
 -- nor has that of a given term whose annotations have none
-pub given_text-newlines : (y : Spec) (counted : Bool) (n : ℕ) → n < 2 ^ 64 → (u : Tree) → newlines (notes_text (annotations u)) ≡ 0 → newlines (given_text y counted n u) ≡ 0
-given_text-newlines y counted n h u k = evaluation_text-newlines y (annotations u) counted n (term_of u) (Eval y n [] (term_of u)) k h refl
+pub given_text-newlines : (y : Spec) (shown : Shown) (n : ℕ) → n < 2 ^ 64 → (u : Tree) → newlines (notes_text (annotations u)) ≡ 0 → newlines (given_text y shown n u) ≡ 0
+given_text-newlines y shown n h u k = evaluation_text-newlines y (annotations u) shown n (term_of u) (Eval y n [] (term_of u)) k h refl

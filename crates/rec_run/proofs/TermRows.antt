@@ -7,7 +7,8 @@ use Rattle.rx_term.specs.Tree.{Int, Appl, Items, Hole, none, more}
 use Rattle.rec_sorts.specs.TermRules.{broken_by_terms}
 use Rattle.std.specs.Fmt.{digits}
 use Rattle.rec_sorts.specs.Evaluation.{Eval}
-use Rattle.rec_run.specs.Output.{each_line}
+use Rattle.rec_run.specs.Output.{bare, each_line, shown_by}
+use Rattle.rec_run.specs.declared.options.LimitLines.TheVariants.{Annotated}
 
 -- a word at a place
 abbrev w : ℕ → List ℕ → Word
@@ -88,18 +89,23 @@ row_13 = refl
 row_14 : broken_by_terms q (Items none none) ≡ None
 row_14 = refl
 
-given : each_line q ((Appl (codes "b") false none none) ∷ (Appl (codes "f") false (more (Appl (codes "f") false (more (Appl (codes "a") false none none) none) none) none) none) ∷ []) false 1 ≡ codes "a\n" ∷ codes "b\n" ∷ limit 1 ∷ []
+given : each_line q ((Appl (codes "b") false none none) ∷ (Appl (codes "f") false (more (Appl (codes "f") false (more (Appl (codes "a") false none none) none) none) none) none) ∷ []) (bare false) 1 ≡ codes "a\n" ∷ codes "b\n" ∷ limit 1 ∷ []
 unfolding Eval
 given = refl
 
 -- annotations at the root, and the count
-annotated_terms : each_line q ((Appl (codes "f") false (more (Appl (codes "a") false none none) none) (more (Appl (codes "b") false none none) (more (Items (more (Int (ℤ.pos 3) none) none) none) none))) ∷ (Appl (codes "a") false none (more (Appl (codes "f") false (more (Appl (codes "a") false none none) none) none) none)) ∷ []) true 1 ≡ codes "a\t1\n" ∷ codes "a{b,[3]}\t1\n" ∷ codes "a{f(a)}\t0\n" ∷ []
+annotated_terms : each_line q ((Appl (codes "f") false (more (Appl (codes "a") false none none) none) (more (Appl (codes "b") false none none) (more (Items (more (Int (ℤ.pos 3) none) none) none) none))) ∷ (Appl (codes "a") false none (more (Appl (codes "f") false (more (Appl (codes "a") false none none) none) none) none)) ∷ []) (bare true) 1 ≡ codes "a\t1\n" ∷ codes "a{b,[3]}\t1\n" ∷ codes "a{f(a)}\t0\n" ∷ []
 unfolding Eval digits
 annotated_terms = refl
 
-annotated_limit : each_line q ((Appl (codes "f") false (more (Appl (codes "f") false (more (Appl (codes "a") false none none) none) none) none) (more (Appl (codes "b") false none none) none)) ∷ []) true 1 ≡ codes "a\t1\n" ∷ codes "!limit 1\n" ∷ []
+annotated_limit : each_line q ((Appl (codes "f") false (more (Appl (codes "f") false (more (Appl (codes "a") false none none) none) none) none) (more (Appl (codes "b") false none none) none)) ∷ []) (bare true) 1 ≡ codes "a\t1\n" ∷ codes "!limit 1\n" ∷ []
 unfolding Eval digits
 annotated_limit = refl
+
+-- the same where limit lines bear annotations
+annotated_limits : each_line q ((Appl (codes "f") false (more (Appl (codes "f") false (more (Appl (codes "a") false none none) none) none) none) (more (Appl (codes "b") false none none) none)) ∷ (Appl (codes "f") false (more (Appl (codes "f") false (more (Appl (codes "a") false none none) none) none) none) none) ∷ []) (shown_by true Annotated) 1 ≡ codes "a\t1\n" ∷ codes "!limit 1{b}\n" ∷ codes "!limit 1\n" ∷ []
+unfolding Eval digits
+annotated_limits = refl
 
 -- [f(f(3))]
 row_15 : broken_by_terms q (Items (more (Appl (codes "f") false (more (Appl (codes "f") false (more (Int (ℤ.pos 3) none) none) none) none) none) none) none) ≡ Some 2

@@ -6,7 +6,7 @@ use Rattle.rec_sorts.specs.SpecRules as verdict
 use Rattle.rec_sorts.specs.SpecRules.{Verdict, SpecVerdict}
 use Rattle.rx_term.specs.Store.{Store}
 use Rattle.rx_run.specs.Due.{Due}
-use Rattle.rec_run.specs.Output.{IsDueAfter, due_of_spec}
+use Rattle.rec_run.specs.Output.{Shown, IsDueAfter, due_of_spec}
 use Rattle.rec_run.specs.GivenTerms.{IsReadFrom, IsReady, job_alone_of, run_due}
 use Rattle.rec_run.specs.Reading.{IsSpecRead, refused_spec}
 use Rattle.rx_run.specs.Refusals.{refusal_due}
@@ -20,13 +20,13 @@ use Rattle.rec_run.proofs.OneDueLemmas.{one_due}
 use Rattle.rx_run.proofs.WholeRunLemmas.{same_refusal, short_front}
 
 -- one thing is due for the texts of a run
-pub one_due_for : (counted : Bool) (n : ℕ) (texts : Texts) (d e : Due) → IsDueFor counted n texts d → IsDueFor counted n texts e → d ≡ e
-one_due_for counted n texts d e h k = one_due texts.spec texts.terms counted n d e h k
+pub one_due_for : (shown : Shown) (n : ℕ) (texts : Texts) (d e : Due) → IsDueFor shown n texts d → IsDueFor shown n texts e → d ≡ e
+one_due_for shown n texts d e h k = one_due texts.spec texts.terms shown n d e h k
 
 -- what the texts came to says what is due for them
-pub due_for : (w : Store) (counted : Bool) (n : ℕ) (texts : Option Texts) (r : Reading Job) → IfSome texts (λ t. IsReadFrom w t r) → IfSome texts (λ t. IsDueFor counted n t (run_due w counted n r))
-due_for w counted n None r h = tt
-due_for w counted n (Some t) r h = h counted n
+pub due_for : (w : Store) (shown : Shown) (n : ℕ) (texts : Option Texts) (r : Reading Job) → IfSome texts (λ t. IsReadFrom w t r) → IfSome texts (λ t. IsDueFor shown n t (run_due w shown n r))
+due_for w shown n None r h = tt
+due_for w shown n (Some t) r h = h shown n
 
 -- ---- the text of a specification
 
@@ -43,18 +43,18 @@ spec_read None text r e h = tt
 spec_read (Some bytes) text r e (v, h, is) = (v, verdict_front bytes v (subst (λ t. SpecVerdict t v) e h), is)
 
 -- a refused specification is all that counts
-pub after_refusal : (v : Verdict) (r : Refusal) (terms : Option (List ℕ)) (counted : Bool) (n : ℕ) → refused_spec v ≡ Some r → IsDueAfter v terms counted n (refusal_due r)
-after_refusal verdict.Long r terms counted n e = ap refusal_due (same_refusal e)
-after_refusal (verdict.Grammar at) r terms counted n e = ap refusal_due (same_refusal e)
-after_refusal (verdict.Breaks f) r terms counted n e = ap refusal_due (same_refusal e)
-after_refusal (verdict.Good y) r terms counted n e = absurd (cc e)
+pub after_refusal : (v : Verdict) (r : Refusal) (terms : Option (List ℕ)) (shown : Shown) (n : ℕ) → refused_spec v ≡ Some r → IsDueAfter v terms shown n (refusal_due r)
+after_refusal verdict.Long r terms shown n e = ap refusal_due (same_refusal e)
+after_refusal (verdict.Grammar at) r terms shown n e = ap refusal_due (same_refusal e)
+after_refusal (verdict.Breaks f) r terms shown n e = ap refusal_due (same_refusal e)
+after_refusal (verdict.Good y) r terms shown n e = absurd (cc e)
 
 -- what is due for a specification without given terms
-pub after_spec : (counted : Bool) (n : ℕ) (v : Verdict) → IsDueAfter v None counted n (due_of_spec counted n v)
-after_spec counted n verdict.Long = refl
-after_spec counted n (verdict.Grammar at) = refl
-after_spec counted n (verdict.Breaks f) = refl
-after_spec counted n (verdict.Good y) = refl
+pub after_spec : (shown : Shown) (n : ℕ) (v : Verdict) → IsDueAfter v None shown n (due_of_spec shown n v)
+after_spec shown n verdict.Long = refl
+after_spec shown n (verdict.Grammar at) = refl
+after_spec shown n (verdict.Breaks f) = refl
+after_spec shown n (verdict.Good y) = refl
 
 -- a specification without given terms
 pub read_alone : (w : Store) (known : Option (List ℕ)) (first : Reading Sourced) (r : Reading Job) → r ≡ job_alone_of first → IfSome known (λ bytes. IsSpecRead bytes first) → IfSome (both_texts known (Some None)) (λ texts. IsReadFrom w texts r)
@@ -62,8 +62,8 @@ read_alone w known first r e h = subst (λ z. IfSome (both_texts known (Some Non
   where
     of : (known : Option (List ℕ)) (first : Reading Sourced) → IfSome known (λ bytes. IsSpecRead bytes first) → IfSome (both_texts known (Some None)) (λ texts. IsReadFrom w texts (job_alone_of first))
     of None first h = tt
-    of (Some bytes) (Refused r) (v, h, is) = λ counted n. (v, h, after_refusal v r None counted n is)
-    of (Some bytes) (Good checked) (v, h, is) = λ counted n. (verdict.Good checked.spec, subst (SpecVerdict bytes) is h, refl)
+    of (Some bytes) (Refused r) (v, h, is) = λ shown n. (v, h, after_refusal v r None shown n is)
+    of (Some bytes) (Good checked) (v, h, is) = λ shown n. (verdict.Good checked.spec, subst (SpecVerdict bytes) is h, refl)
 
 pub ready_alone : (w : Store) (first : Reading Sourced) (r : Reading Job) → r ≡ job_alone_of first → IsReady w r
 ready_alone w first r e = subst (IsReady w) (sym e) (of first)

@@ -4,10 +4,14 @@
 --     due_before fault text          of a line with this text, what is due before a fault
 --     fault_after fault lines        the run's fault where a line's came after so many lines
 --     RunLacks w work m fault        want of cells comes where all that is held is needed
-use Rattle.std.specs.Prelude.{ℕ, ◌<◌, Bool, List, ◌++◌, IsSome, codes, decimal}
+use Rattle.std.specs.Prelude.{ℕ, ◌≡◌, ◌<◌, Bool, List, [], ◌++◌, IsSome, Result, MatchResult, codes, decimal}
+use Rattle.rx_term.specs.Steps.{Keeps}
 use Rattle.rx_term.specs.Store.{Store, tree_at}
+use Rattle.rx_term.specs.Tree.{Trees}
 use Rattle.rx_term.specs.declared.Term.{Term as Reference}
 use Rattle.rx_text.specs.Canon.{canon}
+use Rattle.rx_text.specs.Output.{HasRefusedWrite, IsWritable}
+use Rattle.rx_text.specs.declared.output.Output.{Output}
 use Rattle.rx_text.specs.declared.faults.WriteFault.{WriteFault}
 use Rattle.rx_text.specs.declared.faults.WriteFault.TheVariants as text
 use Rattle.rec_syntax.specs.Syntax.{Spec}
@@ -21,6 +25,9 @@ use Rattle.rec_engine.specs.declared.engine.Outcome.TheVariants.{Value, Limit}
 use Rattle.rec_run.specs.GivenTerms.{HoldsTerms, item_at}
 use Rattle.rx_run.specs.Due.{steps_text}
 use Rattle.rx_run.specs.declared.ending.RunFault.{RunFault}
+use Rattle.rec_run.specs.Output.{notes_text}
+use Rattle.rec_run.specs.declared.options.LimitLines.{LimitLines}
+use Rattle.rec_run.specs.declared.options.LimitLines.TheVariants.{Bare, Annotated}
 use Rattle.rec_run.specs.declared.options.RunOptions.{RunOptions}
 use Rattle.rx_run.specs.declared.ending.RunFault.TheVariants as run
 use Rattle.rec_run.specs.declared.spec.lines.LineFault.{LineFault}
@@ -30,6 +37,26 @@ use Rattle.rec_run.specs.declared.spec.lines.LineFault.TheVariants.{Memory, Room
 abbrev pub outcome_text : Store → Bool → ℕ → Outcome → List ℕ
 outcome_text w counted n (Value r steps) = canon (item_at w r) ++ steps_text counted steps
 outcome_text w counted n Limit = codes "!limit " ++ decimal n
+
+-- what a limit line says of its term besides
+abbrev pub limit_notes : LimitLines → Trees → List ℕ
+limit_notes Bare notes = []
+limit_notes Annotated notes = notes_text notes
+
+-- what is said besides of what a term comes to
+abbrev pub said : Outcome → LimitLines → Trees → List ℕ
+said (Value r steps) limits notes = []
+said Limit limits notes = limit_notes limits notes
+
+-- a term of which that is said stays for as long as what is protected does
+abbrev pub StaysFor : LimitLines → Store → Reference → Type 0
+StaysFor Bare w t = Unit {0}
+StaysFor Annotated w t = (v : Store) → Keeps w v [] → tree_at v t ≡ tree_at w t
+
+-- it is there
+abbrev pub IsThereFor : LimitLines → Store → Reference → Type 0
+IsThereFor Bare w t = Unit {0}
+IsThereFor Annotated w t = IsSome (tree_at w t)
 
 -- a value is held
 abbrev pub HoldsValue : Store → Outcome → Type 0
@@ -77,3 +104,9 @@ LineLacks w work m fault = Unit {0}
 abbrev pub RunLacks : Store → List Reference → Pairs → RunFault → Type 0
 RunLacks w work m (run.Room lines) = HasNoRoom w work m
 RunLacks w work m fault = Unit {0}
+
+-- a line was written to this output, or not: the fault `Write` is answered only where its writer
+-- has refused
+module _ {W : Type 0} where
+  abbrev pub TellsLine : {T : Type 0} → Output W → Result T LineFault → Type 0
+  TellsLine new r = MatchResult r (λ _. IsWritable new) (λ f. f ≡ Write → HasRefusedWrite new)

@@ -2,14 +2,13 @@
 -- given term.
 --     given_at w r               the items of the list of a reference
 --     HoldsTerms y w r           they keep the rules
---     run_due w counted n r      what is due for what the texts came to, by the trees of a bank
---     given_text y counted n u   the line of a given term without the line end
-use Rattle.std.specs.Prelude.{ℕ, ◌≡◌, Bool, List, [], ◌++◌, Option, Some, None, IfSome, Result, Ok, Err, codes, flat_map, unwrap_or}
+--     run_due w shown n r      what is due for what the texts came to, by the trees of a bank
+--     given_text y shown n u   the line of a given term without the line end
+use Rattle.std.specs.Prelude.{ℕ, ◌≡◌, List, [], ◌++◌, Option, Some, None, IfSome, Result, Ok, Err, codes, flat_map, unwrap_or}
 use Rattle.std.specs.Option.{ForSome}
-use Rattle.rx_term.specs.Tree.{Tree, Trees, none, annotations, from_list, list_of}
+use Rattle.rx_term.specs.Tree.{Tree, none, annotations, from_list, list_of}
 use Rattle.rx_term.specs.Store.{Store, tree_at}
 use Rattle.rx_term.specs.declared.Term.{Term as Reference}
-use Rattle.rx_text.specs.Canon.{canon_all, enclosed}
 use Rattle.rec_syntax.specs.Syntax as syntax
 use Rattle.rec_syntax.specs.Syntax.{Sourced}
 use Rattle.rec_sorts.specs.SpecRules as verdict
@@ -19,7 +18,7 @@ use Rattle.rec_sorts.specs.Evaluation.{Eval, term_of}
 use Rattle.rec_sorts.specs.declared.fault.TermsFault.{TermsFault}
 use Rattle.rec_sorts.specs.declared.fault.TermsFault.TheVariants as rule
 use Rattle.rx_run.specs.Due.{Due, done}
-use Rattle.rec_run.specs.Output.{IsDueAfter, lines}
+use Rattle.rec_run.specs.Output.{Shown, IsDueAfter, lines}
 use Rattle.rec_run.specs.Reading.{evaluation_text}
 use Rattle.rx_run.specs.Refusals.{reading_due}
 use Rattle.rec_run.specs.Run.{HasRoom, IsDueFor, Texts}
@@ -66,12 +65,12 @@ job_alone_of (reading.Refused r) = reading.Refused r
 job_alone_of (reading.Good checked) = reading.Good (record { checked = checked; list = None })
 
 -- the lines of good texts, by the trees of a bank
-abbrev pub job_lines : Store → Bool → ℕ → Job → List ℕ
-job_lines w counted n job = lines job.checked.spec (given_by w job.list) counted n
+abbrev pub job_lines : Store → Shown → ℕ → Job → List ℕ
+job_lines w shown n job = lines job.checked.spec (given_by w job.list) shown n
 
 -- what is due for what the texts came to
-abbrev pub run_due : Store → Bool → ℕ → Reading Job → Due
-run_due w counted n r = reading_due (λ job. done (job_lines w counted n job)) r
+abbrev pub run_due : Store → Shown → ℕ → Reading Job → Due
+run_due w shown n r = reading_due (λ job. done (job_lines w shown n job)) r
 
 -- a text was refused
 abbrev pub IsRefused : Reading Job → Type 0
@@ -101,8 +100,8 @@ OnRefusedSpec text P =
 -- after this verdict on the specification, what both texts came to says what is due for this text
 -- of terms, by the trees of a bank
 abbrev pub IsReadAs : Store → Verdict → List ℕ → Reading Job → Type 0
-IsReadAs w v bytes r = (counted : Bool) (n : ℕ)
-    → IsDueAfter v (Some bytes) counted n (run_due w counted n r)
+IsReadAs w v bytes r = (shown : Shown) (n : ℕ)
+    → IsDueAfter v (Some bytes) shown n (run_due w shown n r)
 
 abbrev pub IsReadFor : Store → syntax.Spec → List ℕ → Reading Job → Type 0
 IsReadFor w y bytes r = IsReadAs w (verdict.Good y) bytes r
@@ -110,12 +109,12 @@ IsReadFor w y bytes r = IsReadAs w (verdict.Good y) bytes r
 -- after a good specification, what a text of terms came to says what is due for it, by the trees of
 -- a bank
 abbrev pub IsListRead : syntax.Spec → Store → List ℕ → Reading Reference → Type 0
-IsListRead y w bytes r = (counted : Bool) (n : ℕ) → IsDueAfter (verdict.Good y) (Some bytes)
-    counted n (reading_due (λ list. done (lines y (given_at w list) counted n)) r)
+IsListRead y w bytes r = (shown : Shown) (n : ℕ) → IsDueAfter (verdict.Good y) (Some bytes)
+    shown n (reading_due (λ list. done (lines y (given_at w list) shown n)) r)
 
 -- what both texts came to says what is due for them
 abbrev pub IsReadFrom : Store → Texts → Reading Job → Type 0
-IsReadFrom w texts r = (counted : Bool) (n : ℕ) → IsDueFor counted n texts (run_due w counted n r)
+IsReadFrom w texts r = (shown : Shown) (n : ℕ) → IsDueFor shown n texts (run_due w shown n r)
 
 -- the terms of a text keep the rules, where it is good
 abbrev pub HoldsList : syntax.Spec → Store → Reading Reference → Type 0
@@ -127,14 +126,10 @@ abbrev pub IsReady : Store → Reading Job → Type 0
 IsReady w (reading.Refused r) = Unit {0}
 IsReady w (reading.Good job) = ForSome job.list (HoldsTerms job.checked.spec w)
 
--- annotations between braces, where there are any
-abbrev pub notes_text : Trees → List ℕ
-notes_text notes = enclosed 123 notes (canon_all notes) 125 []
-
 -- the line of a given term without the line end
-abbrev pub given_text : syntax.Spec → Bool → ℕ → Tree → List ℕ
-given_text y counted n u = evaluation_text (annotations u) counted n (Eval y n [] (term_of u))
+abbrev pub given_text : syntax.Spec → Shown → ℕ → Tree → List ℕ
+given_text y shown n u = evaluation_text (annotations u) shown n (Eval y n [] (term_of u))
 
 -- the lines of given terms
-abbrev pub given_lines : syntax.Spec → Bool → ℕ → List Tree → List ℕ
-given_lines y counted n ts = flat_map (λ u. given_text y counted n u ++ codes "\n") ts
+abbrev pub given_lines : syntax.Spec → Shown → ℕ → List Tree → List ℕ
+given_lines y shown n ts = flat_map (λ u. given_text y shown n u ++ codes "\n") ts

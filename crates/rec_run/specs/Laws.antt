@@ -1,9 +1,9 @@
 -- The law of the output.
-use Rattle.std.specs.Prelude.{◌≡◌, ℕ, Bool, List, Option}
+use Rattle.std.specs.Prelude.{◌≡◌, ℕ, List, Option}
 use Rattle.rx_run.specs.Due.{Due}
-use Rattle.rec_run.specs.Output.{IsDue}
+use Rattle.rec_run.specs.Output.{Shown, IsDue}
 
 -- for a text of a specification, and a text of terms where there is one, one thing is due at most
 abbrev pub OneDue : Type 0
-OneDue = (spec : List ℕ) (terms : Option (List ℕ)) (counted : Bool) (n : ℕ) (d e : Due)
-    → IsDue spec terms counted n d → IsDue spec terms counted n e → d ≡ e
+OneDue = (spec : List ℕ) (terms : Option (List ℕ)) (shown : Shown) (n : ℕ) (d e : Due)
+    → IsDue spec terms shown n d → IsDue spec terms shown n e → d ≡ e

@@ -1,14 +1,13 @@
 -- What a run of a specification is to write, how it ends, and which place a refusal has.
---     line y counted n task         the line of a term within n steps, with the steps spent where
---                                   they are counted
---     lines y given counted n       the lines of a specification's own terms and of given ones
---     IsTermsVerdict y bytes v      the verdict on a text of terms
---     IsDue spec terms counted n d  what is due for the two texts
+--     line y shown n task         the line of a term within n steps
+--     lines y given shown n       the lines of a specification's own terms and of given ones
+--     IsTermsVerdict y bytes v    the verdict on a text of terms
+--     IsDue spec terms shown n d  what is due for the two texts
 use Rattle.std.specs.Prelude.{ℕ, ◌-◌, ◌≡◌, ◌<◌, length, Option, Some, None, Bool, List, [], ◌++◌, codes, decimal, map, flat_map}
 use Rattle.rx_term.specs.Tree.{Tree, Trees, none, annotated, annotations}
 use Rattle.rx_text.specs.Grammar.{Spells}
 use Rattle.rx_text.specs.Place.{IsPlace}
-use Rattle.rx_text.specs.Canon.{canon}
+use Rattle.rx_text.specs.Canon.{canon, canon_all, enclosed}
 use Rattle.rec_syntax.specs.Syntax.{Term, Spec}
 use Rattle.rec_sorts.specs.TermRules.{broken_by_terms, elements}
 use Rattle.rec_sorts.specs.SpecRules.{Verdict, Long, Grammar, Breaks, Good, SpecVerdict, Fits}
@@ -16,18 +15,42 @@ use Rattle.rec_sorts.specs.Evaluation.{Done, Over, Eval, term_of}
 use Rattle.rx_run.specs.Due.{Due, done, refused, steps_text}
 use Rattle.rx_run.specs.declared.ending.Source.TheVariants as source
 use Rattle.rx_run.specs.declared.ending.Named.TheVariants as named
+use Rattle.rec_run.specs.declared.options.LimitLines.{LimitLines}
+use Rattle.rec_run.specs.declared.options.LimitLines.TheVariants.{Bare, Annotated}
 
 -- a term to be evaluated, and the annotations that its value bears
 pub record Task : Type 0 where
   pub term : Term
   pub notes : Trees
 
+-- how lines look: whether the steps spent stand behind a value, and what limit lines say
+pub record Shown : Type 0 where
+  pub count : Bool
+  pub limits : LimitLines
+
+-- with limit lines that say nothing
+abbrev pub bare : Bool → Shown
+bare count = record { count = count; limits = Bare }
+
+-- with these limit lines
+abbrev pub shown_by : Bool → LimitLines → Shown
+shown_by count limits = record { count = count; limits = limits }
+
+-- annotations between braces, where there are any
+abbrev pub notes_text : Trees → List ℕ
+notes_text notes = enclosed 123 notes (canon_all notes) 125 []
+
+-- that the limit was passed, with the term's annotations where limit lines bear them
+abbrev pub limit_text : LimitLines → ℕ → Trees → List ℕ
+limit_text Bare n notes = codes "!limit " ++ decimal n
+limit_text Annotated n notes = codes "!limit " ++ decimal n ++ notes_text notes
+
 -- the line of a term: the text of its value with the term's annotations, or that the limit was
 -- passed
-abbrev pub line : Spec → Bool → ℕ → Task → List ℕ
-line y counted n task = elim (Eval y n [] task.term) [
-  | Done v left ↦ canon (annotated v task.notes) ++ steps_text counted (n - left) ++ codes "\n"
-  | Over ↦ codes "!limit " ++ decimal n ++ codes "\n"
+abbrev pub line : Spec → Shown → ℕ → Task → List ℕ
+line y shown n task = elim (Eval y n [] task.term) [
+  | Done v left ↦ canon (annotated v task.notes) ++ steps_text shown.count (n - left) ++ codes "\n"
+  | Over ↦ limit_text shown.limits n task.notes ++ codes "\n"
 ]
 
 -- the specification's own terms, and then the given ones
@@ -36,12 +59,12 @@ tasks y given = map (λ t. record { term = t; notes = none }) y.terms
     ++ map (λ t. record { term = term_of t; notes = annotations t }) given
 
 -- their lines, each with the whole budget
-abbrev pub each_line : Spec → List Tree → Bool → ℕ → List (List ℕ)
-each_line y given counted n = map (line y counted n) (tasks y given)
+abbrev pub each_line : Spec → List Tree → Shown → ℕ → List (List ℕ)
+each_line y given shown n = map (line y shown n) (tasks y given)
 
 -- all lines, one behind the other
-abbrev pub lines : Spec → List Tree → Bool → ℕ → List ℕ
-lines y given counted n = flat_map (λ l. l) (each_line y given counted n)
+abbrev pub lines : Spec → List Tree → Shown → ℕ → List ℕ
+lines y given shown n = flat_map (λ l. l) (each_line y given shown n)
 
 -- a text of terms is too long, or leaves the grammar at a place, or breaks a rule, or is good with
 -- these terms
@@ -61,29 +84,29 @@ IsTermsVerdict y bytes (GoodTerms ts) = Fits bytes
     × ((t : Tree) × Spells bytes t × (broken_by_terms y t ≡ None) × (elements t ≡ Some ts))
 
 -- what is due after the verdict on the specification alone
-abbrev pub due_of_spec : Bool → ℕ → Verdict → Due
-due_of_spec counted n Long = refused (codes "!spec ") (codes "L1") None
-due_of_spec counted n (Grammar at) = refused (codes "!spec ") (codes "G")
+abbrev pub due_of_spec : Shown → ℕ → Verdict → Due
+due_of_spec shown n Long = refused (codes "!spec ") (codes "L1") None
+due_of_spec shown n (Grammar at) = refused (codes "!spec ") (codes "G")
     (Some (record { text = source.Spec; rule = named.G; at = at }))
-due_of_spec counted n (Breaks f) = refused (codes "!spec ") (codes "S" ++ decimal f.number)
+due_of_spec shown n (Breaks f) = refused (codes "!spec ") (codes "S" ++ decimal f.number)
     (Some (record { text = source.Spec; rule = named.S f.number; at = f.at }))
-due_of_spec counted n (Good y) = done (lines y [] counted n)
+due_of_spec shown n (Good y) = done (lines y [] shown n)
 
 -- what is due after the verdict on the terms
-abbrev pub due_of_terms : Spec → Bool → ℕ → TermsVerdict → Due
-due_of_terms y counted n TooLong = refused (codes "!terms ") (codes "L1") None
-due_of_terms y counted n (Outside at) = refused (codes "!terms ") (codes "A")
+abbrev pub due_of_terms : Spec → Shown → ℕ → TermsVerdict → Due
+due_of_terms y shown n TooLong = refused (codes "!terms ") (codes "L1") None
+due_of_terms y shown n (Outside at) = refused (codes "!terms ") (codes "A")
     (Some (record { text = source.Terms; rule = named.A; at = at }))
-due_of_terms y counted n (BreaksTerms number) = refused (codes "!terms ")
+due_of_terms y shown n (BreaksTerms number) = refused (codes "!terms ")
     (codes "T" ++ decimal number) None
-due_of_terms y counted n (GoodTerms ts) = done (lines y ts counted n)
+due_of_terms y shown n (GoodTerms ts) = done (lines y ts shown n)
 
 -- what is due after the verdict on the specification: the terms are asked only of a good one
-abbrev pub IsDueAfter : Verdict → Option (List ℕ) → Bool → ℕ → Due → Type 0
-IsDueAfter (Good y) (Some terms) counted n d = (v : TermsVerdict) × IsTermsVerdict y terms v
-    × (d ≡ due_of_terms y counted n v)
-IsDueAfter v terms counted n d = d ≡ due_of_spec counted n v
+abbrev pub IsDueAfter : Verdict → Option (List ℕ) → Shown → ℕ → Due → Type 0
+IsDueAfter (Good y) (Some terms) shown n d = (v : TermsVerdict) × IsTermsVerdict y terms v
+    × (d ≡ due_of_terms y shown n v)
+IsDueAfter v terms shown n d = d ≡ due_of_spec shown n v
 
 -- what is due for the text of a specification and, where there is one, a text of terms
-abbrev pub IsDue : List ℕ → Option (List ℕ) → Bool → ℕ → Due → Type 0
-IsDue spec terms counted n d = (v : Verdict) × SpecVerdict spec v × IsDueAfter v terms counted n d
+abbrev pub IsDue : List ℕ → Option (List ℕ) → Shown → ℕ → Due → Type 0
+IsDue spec terms shown n d = (v : Verdict) × SpecVerdict spec v × IsDueAfter v terms shown n d

@@ -1,5 +1,5 @@
 -- What the text of a specification comes to, and what is written for it.
-use Rattle.std.specs.Prelude.{ℕ, ◌≡◌, ◌-◌, List, [], ◌++◌, Bool, Option, Some, None, get_or, codes, decimal}
+use Rattle.std.specs.Prelude.{ℕ, ◌≡◌, ◌-◌, List, [], ◌++◌, Option, Some, None, get_or}
 use Rattle.rx_term.specs.Tree.{Tree, Trees, annotated, none}
 use Rattle.rx_text.specs.Canon.{canon}
 use Rattle.rec_syntax.specs.Syntax.{Term, Apply, Sourced, Spec, nameless}
@@ -9,6 +9,7 @@ use Rattle.rec_sorts.specs.SpecRules.{SpecVerdict, Verdict}
 use Rattle.rec_sorts.specs.Evaluation as evaluation
 use Rattle.rec_sorts.specs.Evaluation.{Eval}
 use Rattle.rx_run.specs.Due.{steps_text}
+use Rattle.rec_run.specs.Output.{Shown, limit_text}
 use Rattle.rx_run.specs.declared.ending.Source.TheVariants as source
 use Rattle.rx_run.specs.declared.refusal.Reading.{Reading}
 use Rattle.rx_run.specs.declared.refusal.Reading.TheVariants as reading
@@ -39,19 +40,19 @@ IsGood (reading.Good checked) = Unit {0}
 
 -- what is shown of an evaluation within n steps, with annotations: the line of its term without the
 -- line end
-abbrev pub evaluation_text : Trees → Bool → ℕ → evaluation.Outcome Tree → List ℕ
-evaluation_text notes counted n (evaluation.Done v left) = canon (annotated v notes)
-    ++ steps_text counted (n - left)
-evaluation_text notes counted n evaluation.Over = codes "!limit " ++ decimal n
+abbrev pub evaluation_text : Trees → Shown → ℕ → evaluation.Outcome Tree → List ℕ
+evaluation_text notes shown n (evaluation.Done v left) = canon (annotated v notes)
+    ++ steps_text shown.count (n - left)
+evaluation_text notes shown n evaluation.Over = limit_text shown.limits n notes
 
 -- the text of a term's line
-abbrev pub line_text : Spec → Bool → ℕ → Term → List ℕ
-line_text y counted n t = evaluation_text none counted n (Eval y n [] t)
+abbrev pub line_text : Spec → Shown → ℕ → Term → List ℕ
+line_text y shown n t = evaluation_text none shown n (Eval y n [] t)
 
 -- the term of the list of terms that has this number
 abbrev pub term_at : Spec → ℕ → Term
 term_at y i = get_or y.terms i (Apply nameless syntax.none)
 
 -- the text of its line
-abbrev pub text_at : Spec → Bool → ℕ → ℕ → List ℕ
-text_at y counted n i = line_text y counted n (term_at y i)
+abbrev pub text_at : Spec → Shown → ℕ → ℕ → List ℕ
+text_at y shown n i = line_text y shown n (term_at y i)

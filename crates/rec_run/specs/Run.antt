@@ -1,10 +1,10 @@
 -- What a run of a specification leaves, by what is due for its texts.
---     IsDueFor counted n texts d      what is due for a specification and terms
+--     IsDueFor shown n texts d        what is due for a specification and terms
 --     both_texts spec terms           a specification and terms, where their readers tell them
 --     RoomExhausts w needed fault     want of cells comes where all that is held is needed
 --     RoomIn old new needed fault     want of cells comes there, or where a text filled the bank
 --     HasRoom fault                   the fault is not want of cells
-use Rattle.std.specs.Prelude.{◌≡◌, ◌⊎◌, ℕ, List, [], Bool, Option, Some, None, IfSome, Result, Ok, Err, option_map}
+use Rattle.std.specs.Prelude.{◌≡◌, ◌⊎◌, ℕ, List, [], Option, Some, None, IfSome, Result, Ok, Err, MatchResult, option_map}
 use Rattle.std.proofs.Common.{inl, inr}
 use Rattle.std.specs.Borrow.{MutBor}
 use Rattle.std.specs.Io.KnownBytes.{Keeps}
@@ -12,12 +12,14 @@ use Rattle.rx_term.specs.Steps.{IsExhausted}
 use Rattle.rx_term.specs.Store.{Store}
 use Rattle.rx_term.specs.Walks.{AllHeld}
 use Rattle.rx_term.specs.declared.Term.{Term}
+use Rattle.rx_text.specs.Input.{HasRefusedRead, IsReadable}
+use Rattle.rx_text.specs.declared.input.Input.{Input}
 use Rattle.rx_run.specs.Due.{Due}
 use Rattle.rx_run.specs.Run.{IsFilled}
 use Rattle.rx_run.specs.declared.ending.Finish.{Finish}
 use Rattle.rx_run.specs.declared.ending.RunFault.{RunFault}
-use Rattle.rx_run.specs.declared.ending.RunFault.TheVariants.{Room, Write}
-use Rattle.rec_run.specs.Output.{IsDue}
+use Rattle.rx_run.specs.declared.ending.RunFault.TheVariants.{Room, Read, Write}
+use Rattle.rec_run.specs.Output.{Shown, IsDue}
 
 -- the texts of a run: the specification, and the terms where some are given
 pub record Texts : Type 0 where
@@ -25,8 +27,8 @@ pub record Texts : Type 0 where
   pub terms : Option (List ℕ)
 
 -- what is due for them
-abbrev pub IsDueFor : Bool → ℕ → Texts → Due → Type 0
-IsDueFor counted n texts d = IsDue texts.spec texts.terms counted n d
+abbrev pub IsDueFor : Shown → ℕ → Texts → Due → Type 0
+IsDueFor shown n texts d = IsDue texts.spec texts.terms shown n d
 
 -- the text of the terms, where some are given, by what their reader tells
 abbrev pub terms_text : {T : Type 0} → (T → Option (List ℕ)) → Option (MutBor T)
@@ -79,3 +81,9 @@ abbrev pub EndsBehind : Result (Unit {0}) RunFault → Finish → Option (List �
     → Result Finish RunFault → Type 0
 EndsBehind (Ok u) finish old new r = Keeps old new × ((r ≡ Ok finish) ⊎ (r ≡ Err Write))
 EndsBehind (Err f) finish old new r = (r ≡ Err f) × (new ≡ old)
+
+-- two inputs were read: the fault `Read` is answered only where one of them has refused
+module _ {R S : Type 0} where
+  abbrev pub TellsReads : {T : Type 0} → Input R → Input S → Result T RunFault → Type 0
+  TellsReads first second r = MatchResult r (λ _. IsReadable first × IsReadable second)
+      (λ f. f ≡ Read → HasRefusedRead first ⊎ HasRefusedRead second)

@@ -7,13 +7,16 @@ mod options;
 mod refused_items;
 mod spec;
 
-pub use options::RunOptions;
+pub use options::{LimitLines, RunOptions};
 pub use refused_items::refused_term;
 pub use rx_run::{
     Finish, Misfit, Named, Place, RunFault, Source, refused_argument, run_aterm, run_aterm_at,
     run_aterm_in, run_make, run_make_at, run_make_in, run_match, run_match_at, run_match_in,
     run_share, run_share_at, run_share_in,
 };
-pub use spec::lines::{LineFault, engine_over, write_evaluation, write_lines, write_outcome};
-pub use spec::reading::{Job, read_alone, read_both};
-pub use spec::runs::{Ended, run, run_at, run_in};
+pub use spec::lines::{
+    LineFault, engine_over, write_evaluation, write_evaluation_to, write_lines, write_lines_to,
+    write_outcome, write_outcome_to,
+};
+pub use spec::reading::{Job, read_alone, read_alone_from, read_both, read_both_from};
+pub use spec::runs::{Ended, run, run_at, run_in, run_with};

@@ -1,4 +1,4 @@
-//! What a run may use.
+//! What a run may use, and what its limit lines say.
 
 ghost use Rattle.std.specs.Prelude.{◌≤◌, ◌^◌};
 
@@ -19,4 +19,13 @@ pub struct RunOptions {
     ghost cells_in_range: { (1 ≤ cells) × (cells ≤ 2 ^ 30) },
     ghost memo_in_range: { memo ≤ 2 ^ 20 },
     ghost reclaim_in_range: { (1 ≤ reclaim) × (reclaim ≤ 2 ^ 30) },
+}
+
+/// What a limit line says of the given term that is over the limit.
+#[derive(Clone, Copy, Debug, Drop, PartialEq, Eq)]
+pub enum LimitLines {
+    /// Nothing: `!limit 50`.
+    Bare,
+    /// Its annotations: `!limit 50{id(2)}`.
+    Annotated,
 }

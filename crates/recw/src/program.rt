@@ -6,8 +6,8 @@ use crate::input::{open, open_file, open_given};
 use crate::recorded::Watched;
 use crate::report;
 use rec_run::{
-    Finish, RunFault, RunOptions, Source, run_at, run_aterm_at, run_make_at, run_match_at,
-    run_share_at,
+    Finish, LimitLines, RunFault, RunOptions, Source, run_aterm_at, run_make_at, run_match_at,
+    run_share_at, run_with,
 };
 use recw_words::status::{eval_status, match_status};
 use recw_words::{Asked, Audience, EvalOptions, Invocation, Request, STANDARD_INPUT, read_words};
@@ -224,12 +224,13 @@ fn evaluate_with<R: Read, T: Read + Drop, W: Write>(
         Some(file) => Some(evidence.record(file)),
         None => None,
     };
-    let end = run_at(
+    let end = run_with(
         evidence.alloc,
         spec,
         terms.as_mut(),
         out,
         run_options(options),
+        limit_lines(options),
         &mut evidence.place,
     );
     if let Some(terms) = terms {
@@ -247,5 +248,14 @@ fn run_options(options: EvalOptions) -> RunOptions {
         memo: options.memo,
         reclaim: options.reclaim,
         count: options.count,
+    }
+}
+
+/// What limit lines are to say.
+fn limit_lines(options: EvalOptions) -> LimitLines {
+    if options.limit_annotations {
+        LimitLines::Annotated
+    } else {
+        LimitLines::Bare
     }
 }

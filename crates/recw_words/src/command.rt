@@ -72,12 +72,22 @@ fn eval_command<'a>(alloc: Global) -> Result<Command<'a>, AllocError> {
         "count",
         "Print the steps that each term took behind its value",
     ))?;
-    let command = command.arg(flag(
-        alloc,
-        "limit-status",
-        "End with status 5 where a term takes more steps",
-    ))?;
-    command.arg(explain(alloc))
+    with_limit_lines(alloc, command)?.arg(explain(alloc))
+}
+
+/// The command with the options on terms that take more steps.
+fn with_limit_lines<'a>(alloc: Global, command: Command<'a>) -> Result<Command<'a>, AllocError> {
+    command
+        .arg(flag(
+            alloc,
+            "limit-annotations",
+            "Print the annotations of a further term behind its limit",
+        ))?
+        .arg(flag(
+            alloc,
+            "limit-status",
+            "End with status 5 where a term takes more steps",
+        ))
 }
 
 /// The command with the files of an evaluation, and with terms in place of the second.

@@ -19,6 +19,8 @@ pub struct EvalOptions {
     pub reclaim: u32,
     /// Whether the steps of each term are printed.
     pub count: bool,
+    /// Whether the limit line of a given term bears its annotations.
+    pub limit_annotations: bool,
     pub ghost steps_in_range: { steps ≤ 10 ^ 18 },
     pub ghost cells_in_range: { (1 ≤ cells) × (cells ≤ 2 ^ 30) },
     pub ghost memo_in_range: { memo ≤ 2 ^ 20 },
@@ -258,5 +260,6 @@ fn options_of(matches: &ArgMatches<'_>) -> Option<EvalOptions> {
         memo: matches.get_one::<u32>("memo")?.min(MOST_RESULTS),
         reclaim: matches.get_one::<u32>("reclaim")?.clamp(1, MOST_CELLS),
         count: matches.get_flag("count"),
+        limit_annotations: matches.get_flag("limit-annotations"),
     })
 }

@@ -10,6 +10,7 @@ mod PatternTermLemmas
 pub mod ReadDueLemmas
 mod ReadLemmas
 pub mod RefusedItemLemmas
+pub mod StreamLemmas
 pub mod TermDueLemmas
 mod TermRunRows
 pub mod WholeRunLemmas

@@ -5,4 +5,5 @@ pub mod PatternRuns
 pub mod RefusedItems
 pub mod Refusals
 pub mod Run
+pub mod Streams
 pub mod TermRuns

@@ -1,5 +1,5 @@
-//! What all runs have in common, from the texts that come in to the lines that go out, and the runs on
-//! annotated terms and patterns.
+//! What all runs have in common, from the texts that come in to the lines that go out, and the runs
+//! on annotated terms and patterns.
 #![tactic(auto)]
 
 mod ending;
@@ -17,9 +17,12 @@ pub use pattern::runs::{
 };
 pub use refusal::{Reading, Reason, Refusal};
 pub use refused_items::{Misfit, refused_argument};
-pub use streams::{LIMIT, ReadFault, read_all};
+pub use streams::{LIMIT, ReadFault, read_all, read_all_from};
 pub use term::reading::{MOST_CELLS, empty_bank, parse};
 pub use term::runs::{
     run_aterm, run_aterm_at, run_aterm_in, run_share, run_share_at, run_share_in,
 };
-pub use writing::{flush, put_numbered, write_line, write_refusal, write_steps};
+pub use writing::{
+    flush, put_numbered, put_numbered_to, write_line, write_line_to, write_refusal,
+    write_refusal_to, write_steps, write_steps_to,
+};

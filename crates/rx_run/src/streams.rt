@@ -2,10 +2,12 @@
 
 ghost use Rattle.std.specs.Prelude.{◌≡◌, ◌+◌, ◌-◌, ◌≤◌, ◌<◌, List, ℕ, IfOk, OnOk, OnErr};
 ghost use Rattle.std.specs.Prelude.{IfSome, take, vec_len};
-ghost use Rattle.std.specs.Io.{ReadsAtMost};
-ghost use Rattle.std.specs.Io.KnownBytes.{Consumes, ReadConsumes};
+ghost use Rattle.std.specs.Io.KnownBytes.{Consumes};
+ghost use Rattle.rx_text.specs.Input.{IsReadable, IsSameInput, remaining_in};
 ghost use Rattle.rx_run.specs.Run.{IsReadOut};
+ghost use Rattle.rx_run.specs.Streams.{TellsReading};
 
+use rx_text::{Input, RefusedRead};
 use std::alloc::{AllocError, Global};
 use std::io::Read;
 
@@ -21,16 +23,12 @@ pub enum ReadFault {
     Read,
 }
 
-/// The reader refused.
-#[derive(Clone, Copy)]
-struct Unreadable;
-
-impl From<Unreadable> for ReadFault {
+impl From<RefusedRead> for ReadFault {
     ghost use Rattle.rx_run.specs.declared.streams.ReadFault.TheVariants.{Read};
 
     ghost from_gives = { λ _ r. r ≡ Read };
 
-    fn from(_error: Unreadable) -> ReadFault {
+    fn from(_error: RefusedRead) -> ReadFault {
         ReadFault::Read
     }
 }
@@ -45,18 +43,6 @@ impl From<AllocError> for ReadFault {
     }
 }
 
-/// One read. Each error of the reader ends the text, also an interruption.
-fn read_piece<R: Read>(reader: &mut R, buffer: &mut [u8]) -> Result<usize, Unreadable>
-    ensures bound { ReadsAtMost result buffer.new }
-    ensures bytes { ReadConsumes (R.remaining reader.old) (R.remaining reader.new)
-        result buffer.new }
-{
-    match reader.read(buffer) {
-        Ok(count) => Ok(count),
-        Err(_) => Err(Unreadable),
-    }
-}
-
 /// Reads to the end, or one byte past the limit. Of a fault no more is said than that the bytes
 /// that the reader lost stood at its front.
 pub fn read_all<R: Read>(alloc: Global, reader: &mut R) -> Result<Vec<u8>, ReadFault>
@@ -67,11 +53,28 @@ pub fn read_all<R: Read>(alloc: Global, reader: &mut R) -> Result<Vec<u8>, ReadF
     ensures lost { OnErr result
         ((bytes : List ℕ) × Consumes (R.remaining reader.old) (R.remaining reader.new) bytes) }
 {
+    let mut input = Input::new(reader);
+    read_all_from(alloc, &mut input)
+}
+
+/// The same from an input. It is asked no more once it refused.
+pub fn read_all_from<R: Read>(alloc: Global, input: &mut Input<'_, R>) -> Result<Vec<u8>, ReadFault>
+    requires { IsReadable input.old }
+    ensures text { IfOk result (λ text. IfSome (remaining_in R.remaining input.old)
+        (λ bytes. text.items ≡ take (LIMIT + 1) bytes)) }
+    ensures out { OnOk result
+        (IsReadOut (remaining_in R.remaining input.old) (remaining_in R.remaining input.new)) }
+    ensures bound { IfOk result (λ text. vec_len text ≤ LIMIT + 1) }
+    ensures lost { OnErr result ((bytes : List ℕ) × Consumes
+        (remaining_in R.remaining input.old) (remaining_in R.remaining input.new) bytes) }
+    ensures same { IsSameInput input.old input.new }
+    ensures cause { TellsReading input.new result }
+{
     let mut text = Vec::new(alloc);
     let mut buffer = [0u8; 4096];
     while text.len() <= LIMIT {
         let room = buffer.len().min(LIMIT + 1 - text.len());
-        let count = read_piece(reader, &mut buffer[..room])?;
+        let count = input.read(&mut buffer[..room])?;
         if count == 0 {
             return Ok(text);
         }

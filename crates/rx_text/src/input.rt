@@ -29,6 +29,7 @@ impl<'a, R: Read> Input<'a, R> {
     /// A reader that has not refused.
     pub fn new(reader: &'a mut R) -> Input<'a, R>
         ensures same { result.reader.ghost_name ≡ reader.entry.ghost_name }
+        ensures now { result.reader.now ≡ reader.old }
         ensures remaining { remaining_in R.remaining result ≡ R.remaining reader.old }
         ensures open { IsReadable result }
     {

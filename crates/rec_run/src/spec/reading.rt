@@ -5,11 +5,13 @@ ghost use Rattle.std.specs.Prelude.{OnOk, Some, length, option_map};
 ghost use Rattle.rx_term.specs.Steps.{Grows};
 ghost use Rattle.rx_term.specs.Store.{Store, tree_at};
 ghost use Rattle.rx_text.specs.Grammar.{Spells};
+ghost use Rattle.rx_text.specs.Input.{IsReadable, IsSameInput, remaining_in};
 ghost use Rattle.rec_syntax.specs.Grammar.{SpecText};
 ghost use Rattle.rec_sorts.specs.SpecRules.{Fits, Verdict};
 ghost use Rattle.rec_run.specs.Reading.{IsGood, IsSpecRead, IsSpecReading};
 ghost use Rattle.rx_run.specs.Run.{IsReadOut, RanOut, StopsReading, StopsUnwritten};
-ghost use Rattle.rec_run.specs.Run.{both_texts};
+ghost use Rattle.rx_run.specs.Streams.{TellsRead, TellsReading};
+ghost use Rattle.rec_run.specs.Run.{TellsReads, both_texts};
 ghost use Rattle.rec_run.specs.GivenTerms.{
   EndsRefused,
   HoldsList,
@@ -28,8 +30,9 @@ ghost use Rattle.rec_run.specs.GivenTerms.{
 
 use rec_sorts::{Checked, SortFault, TermsFault, check, check_terms};
 use rec_syntax::{Syntax, SyntaxFault, read_owned};
-use rx_run::{ReadFault, Reading, Reason, RunFault, Source, parse, read_all};
+use rx_run::{ReadFault, Reading, Reason, RunFault, Source, parse, read_all_from};
 use rx_term::{Term, TermBank};
+use rx_text::Input;
 use std::alloc::{AllocError, Global};
 use std::io::Read;
 
@@ -81,6 +84,28 @@ pub fn read_alone<R: Read>(alloc: Global, spec: &mut R) -> Result<Reading<Job>, 
     ensures out { OnOk result (IsReadOut (R.remaining spec.old) (R.remaining spec.new)) }
     ensures fault { IfErr result StopsReading }
 {
+    let mut spec = Input::new(spec);
+    read_alone_from(alloc, &mut spec)
+}
+
+/// The same from an input. It is asked no more once it refused.
+pub fn read_alone_from<R: Read>(
+    alloc: Global,
+    spec: &mut Input<'_, R>,
+) -> Result<Reading<Job>, RunFault>
+    requires { IsReadable spec.old }
+    ensures due { IfOk result
+        (λ reading. (w : Store) → IfSome (both_texts (remaining_in R.remaining spec.old)
+        (Some None))
+        (λ texts. IsReadFrom w texts reading)) }
+    ensures ready { IfOk result (λ reading. (w : Store) → IsReady w reading) }
+    ensures refused { OnRefusedSpec (remaining_in R.remaining spec.old) (EndsRefused result) }
+    ensures out { OnOk result (IsReadOut (remaining_in R.remaining spec.old)
+        (remaining_in R.remaining spec.new)) }
+    ensures fault { IfErr result StopsReading }
+    ensures same { IsSameInput spec.old spec.new }
+    ensures cause { TellsRead spec.new result }
+{
     let first = read_spec_text(alloc, spec)?;
     Ok(job_alone(first))
 }
@@ -120,17 +145,58 @@ pub fn read_both<B: TermBank, R: Read, T: Read>(
     ensures cap { (B.store bank.new).cap ≡ (B.store bank.old).cap }
     ensures fault { IfErr result (StopsUnwritten (B.store bank.old) (B.store bank.new)) }
 {
+    let mut spec = Input::new(spec);
+    let mut terms = Input::new(terms);
+    read_both_from(alloc, &mut spec, &mut terms, bank)
+}
+
+/// The same from two inputs. None is asked any more once it refused.
+pub fn read_both_from<B: TermBank, R: Read, T: Read>(
+    alloc: Global,
+    spec: &mut Input<'_, R>,
+    terms: &mut Input<'_, T>,
+    bank: &mut B,
+) -> Result<Reading<Job>, RunFault>
+    requires readable { IsReadable spec.old }
+    requires terms_readable { IsReadable terms.old }
+    ensures due { IfOk result (λ reading. IfSome
+        (both_texts (remaining_in R.remaining spec.old) (option_map (λ b. Some b)
+        (remaining_in T.remaining terms.old)))
+        (λ texts. IsReadFrom (B.store bank.new) texts reading)) }
+    ensures ready { IfOk result (IsReady (B.store bank.new)) }
+    ensures out { OnOk result (IsReadOut (remaining_in R.remaining spec.old)
+        (remaining_in R.remaining spec.new)) }
+    ensures terms_out { OnOk result (OnGoodSpec (remaining_in R.remaining spec.old)
+        (IsReadOut (remaining_in T.remaining terms.old) (remaining_in T.remaining terms.new))) }
+    ensures unread { OnRefusedSpec (remaining_in R.remaining spec.old) (terms.new ≡ terms.old) }
+    ensures unused { OnRefusedSpec (remaining_in R.remaining spec.old) (bank.new ≡ bank.old) }
+    ensures refused { OnRefusedSpec (remaining_in R.remaining spec.old) (EndsRefused result) }
+    ensures roots { (B.store bank.new).roots ≡ (B.store bank.old).roots }
+    ensures cap { (B.store bank.new).cap ≡ (B.store bank.old).cap }
+    ensures fault { IfErr result (StopsUnwritten (B.store bank.old) (B.store bank.new)) }
+    ensures same { IsSameInput spec.old spec.new }
+    ensures same_terms { IsSameInput terms.old terms.new }
+    ensures cause { TellsReads spec.new terms.new result }
+{
     let first = read_spec_text(alloc, spec)?;
     read_after(alloc, first, terms, bank)
 }
 
 /// Reads the text of a specification, and judges it.
-fn read_spec_text<R: Read>(alloc: Global, spec: &mut R) -> Result<Reading<Checked>, ReadFault>
+fn read_spec_text<R: Read>(
+    alloc: Global,
+    spec: &mut Input<'_, R>,
+) -> Result<Reading<Checked>, ReadFault>
+    requires { IsReadable spec.old }
     ensures verdict { IfOk result
-        (λ reading. IfSome (R.remaining spec.old) (λ bytes. IsSpecRead bytes reading)) }
-    ensures out { OnOk result (IsReadOut (R.remaining spec.old) (R.remaining spec.new)) }
+        (λ reading. IfSome (remaining_in R.remaining spec.old)
+        (λ bytes. IsSpecRead bytes reading)) }
+    ensures out { OnOk result (IsReadOut (remaining_in R.remaining spec.old)
+        (remaining_in R.remaining spec.new)) }
+    ensures same { IsSameInput spec.old spec.new }
+    ensures cause { TellsReading spec.new result }
 {
-    let text = read_all(alloc, spec)?;
+    let text = read_all_from(alloc, spec)?;
     let reading = judge(alloc, text)?;
     Ok(reading)
 }
@@ -139,14 +205,17 @@ fn read_spec_text<R: Read>(alloc: Global, spec: &mut R) -> Result<Reading<Checke
 fn read_after<B: TermBank, T: Read>(
     alloc: Global,
     first: Reading<Checked>,
-    terms: &mut T,
+    terms: &mut Input<'_, T>,
     bank: &mut B,
 ) -> Result<Reading<Job>, RunFault>
+    requires { IsReadable terms.old }
     ensures due { IfOk result (λ reading. (v : Verdict) → IsSpecReading first v
-        → IfSome (T.remaining terms.old) (λ bytes. IsReadAs (B.store bank.new) v bytes reading)) }
+        → IfSome (remaining_in T.remaining terms.old) (λ bytes. IsReadAs
+        (B.store bank.new) v bytes reading)) }
     ensures ready { IfOk result (IsReady (B.store bank.new)) }
     ensures out { OnOk result
-        (IsGood first → IsReadOut (T.remaining terms.old) (T.remaining terms.new)) }
+        (IsGood first → IsReadOut (remaining_in T.remaining terms.old)
+        (remaining_in T.remaining terms.new)) }
     ensures unread { (v : Verdict) → IsSpecReading first v → IsRefusal v
         → terms.new ≡ terms.old }
     ensures unused { (v : Verdict) → IsSpecReading first v → IsRefusal v → bank.new ≡ bank.old }
@@ -155,6 +224,8 @@ fn read_after<B: TermBank, T: Read>(
     ensures roots { (B.store bank.new).roots ≡ (B.store bank.old).roots }
     ensures cap { (B.store bank.new).cap ≡ (B.store bank.old).cap }
     ensures fault { IfErr result (StopsUnwritten (B.store bank.old) (B.store bank.new)) }
+    ensures same { IsSameInput terms.old terms.new }
+    ensures cause { TellsRead terms.new result }
 {
     match first {
         Reading::Refused(refusal) => Ok(Reading::Refused(refusal)),
@@ -166,16 +237,20 @@ fn read_after<B: TermBank, T: Read>(
 fn read_terms<B: TermBank, T: Read>(
     alloc: Global,
     checked: Checked,
-    terms: &mut T,
+    terms: &mut Input<'_, T>,
     bank: &mut B,
 ) -> Result<Reading<Job>, RunFault>
-    ensures due { IfOk result (λ reading. IfSome (T.remaining terms.old)
+    requires { IsReadable terms.old }
+    ensures due { IfOk result (λ reading. IfSome (remaining_in T.remaining terms.old)
         (λ bytes. IsReadFor (B.store bank.new) checked.spec bytes reading)) }
     ensures ready { IfOk result (IsReady (B.store bank.new)) }
-    ensures out { OnOk result (IsReadOut (T.remaining terms.old) (T.remaining terms.new)) }
+    ensures out { OnOk result (IsReadOut (remaining_in T.remaining terms.old)
+        (remaining_in T.remaining terms.new)) }
     ensures roots { (B.store bank.new).roots ≡ (B.store bank.old).roots }
     ensures cap { (B.store bank.new).cap ≡ (B.store bank.old).cap }
     ensures fault { IfErr result (StopsUnwritten (B.store bank.old) (B.store bank.new)) }
+    ensures same { IsSameInput terms.old terms.new }
+    ensures cause { TellsRead terms.new result }
 {
     let reading = read_list(alloc, &checked, terms, bank)?;
     Ok(job_from(checked, reading))
@@ -198,18 +273,22 @@ fn job_from(checked: Checked, reading: Reading<Term>) -> Reading<Job>
 fn read_list<B: TermBank, T: Read>(
     alloc: Global,
     checked: &Checked,
-    terms: &mut T,
+    terms: &mut Input<'_, T>,
     bank: &mut B,
 ) -> Result<Reading<Term>, RunFault>
-    ensures due { IfOk result (λ reading. IfSome (T.remaining terms.old)
+    requires { IsReadable terms.old }
+    ensures due { IfOk result (λ reading. IfSome (remaining_in T.remaining terms.old)
         (λ bytes. IsListRead checked.now.spec (B.store bank.new) bytes reading)) }
     ensures holds { IfOk result (HoldsList checked.now.spec (B.store bank.new)) }
-    ensures out { OnOk result (IsReadOut (T.remaining terms.old) (T.remaining terms.new)) }
+    ensures out { OnOk result (IsReadOut (remaining_in T.remaining terms.old)
+        (remaining_in T.remaining terms.new)) }
     ensures roots { (B.store bank.new).roots ≡ (B.store bank.old).roots }
     ensures cap { (B.store bank.new).cap ≡ (B.store bank.old).cap }
     ensures fault { IfErr result (StopsUnwritten (B.store bank.old) (B.store bank.new)) }
+    ensures same { IsSameInput terms.old terms.new }
+    ensures cause { TellsRead terms.new result }
 {
-    let text = read_all(alloc, terms)?;
+    let text = read_all_from(alloc, terms)?;
     judge_terms(alloc, checked, &text, bank)
 }
 

@@ -1,8 +1,7 @@
 //! Whole runs.
 
-ghost use Rattle.std.specs.Prelude.{◌≡◌, ℕ, None, IfErr, IfOk, OnErr, OnOk, Some};
+ghost use Rattle.std.specs.Prelude.{◌≡◌, ◌≢◌, ℕ, None, IfErr, IfOk, OnErr, OnOk, Some};
 ghost use Rattle.std.specs.Prelude.{option_map};
-ghost use Rattle.std.specs.Io.KnownBytes.{Appends};
 ghost use Rattle.std.specs.Option.{option_copied_mut};
 ghost use Rattle.rec_run.specs.GivenTerms.{
   IsReady,
@@ -11,15 +10,20 @@ ghost use Rattle.rec_run.specs.GivenTerms.{
   OnRefusedSpec,
   run_due,
 };
+ghost use Rattle.rx_text.specs.Input.{IsReadable, IsSameInput, remaining_in};
+ghost use Rattle.rx_text.specs.Output.{IsSameOutput, IsWritable, Writes, contents_of};
 ghost use Rattle.rx_run.specs.Refusals.{finish_of, place_of, refusal_due};
 ghost use Rattle.rx_run.specs.Run.{BreaksFor, EndsFor, IsPlacedFor, IsReadOut, Stops};
-ghost use Rattle.rec_run.specs.Run.{EndsBehind, HasRoom, IsDueFor, Leads, RoomExhausts, RoomIn, Stays, both_texts, terms_text};
+ghost use Rattle.rx_run.specs.Streams.{TellsRead, TellsWrite};
+ghost use Rattle.rec_run.specs.Output.{bare, shown_by};
+ghost use Rattle.rec_run.specs.Run.{EndsBehind, HasRoom, IsDueFor, Leads, RoomExhausts, RoomIn, Stays, TellsReads, both_texts, terms_text};
 
-use crate::options::RunOptions;
+use crate::options::{LimitLines, RunOptions};
 use crate::spec::lines::{Left, write_evaluated};
-use crate::spec::reading::{Job, read_alone, read_both};
-use rx_run::{Finish, Place, Reading, Refusal, RunFault, empty_bank, flush, write_refusal};
+use crate::spec::reading::{Job, read_alone_from, read_both_from};
+use rx_run::{Finish, Place, Reading, Refusal, RunFault, empty_bank, write_refusal_to};
 use rx_term::{Term, TermBank};
+use rx_text::{Input, Output};
 use std::alloc::Global;
 use std::io::{Read, Write};
 
@@ -58,10 +62,10 @@ pub fn run<R: Read, T: Read, W: Write>(
     out: &mut W,
     options: RunOptions,
 ) -> Result<Finish, RunFault>
-    ensures output { IfOk result (λ finish. EndsFor (IsDueFor options.count options.steps)
+    ensures output { IfOk result (λ finish. EndsFor (IsDueFor (bare options.count) options.steps)
         (both_texts (R.remaining spec.old) (terms_text T.remaining terms.entry))
         finish (W.contents out.old) (W.contents out.new)) }
-    ensures fault { IfErr result (λ fault. BreaksFor (IsDueFor options.count options.steps)
+    ensures fault { IfErr result (λ fault. BreaksFor (IsDueFor (bare options.count) options.steps)
         (both_texts (R.remaining spec.old) (terms_text T.remaining terms.entry))
         fault (W.contents out.old) (W.contents out.new)) }
     ensures room { OnRefusedSpec (R.remaining spec.old) (IfErr result HasRoom) }
@@ -74,8 +78,16 @@ pub fn run<R: Read, T: Read, W: Write>(
 {
     let mut place = None;
     match terms {
-        None => run_alone(alloc, spec, out, options, &mut place),
-        Some(terms) => run_beside(alloc, spec, terms, out, options, &mut place),
+        None => run_alone(alloc, spec, out, options, LimitLines::Bare, &mut place),
+        Some(terms) => run_beside(
+            alloc,
+            spec,
+            terms,
+            out,
+            options,
+            LimitLines::Bare,
+            &mut place,
+        ),
     }
 }
 
@@ -88,12 +100,12 @@ pub fn run_at<R: Read, T: Read, W: Write>(
     options: RunOptions,
     place: &mut Option<Place>,
 ) -> Result<Finish, RunFault>
-    ensures output { IfOk result (λ finish. EndsFor (IsDueFor options.count options.steps)
+    ensures output { IfOk result (λ finish. EndsFor (IsDueFor (bare options.count) options.steps)
         (both_texts (R.remaining spec.old) (terms_text T.remaining terms.entry))
         finish (W.contents out.old) (W.contents out.new)) }
-    ensures place { OnOk result (IsPlacedFor (IsDueFor options.count options.steps)
+    ensures place { OnOk result (IsPlacedFor (IsDueFor (bare options.count) options.steps)
         (both_texts (R.remaining spec.old) (terms_text T.remaining terms.entry)) place.new) }
-    ensures fault { IfErr result (λ fault. BreaksFor (IsDueFor options.count options.steps)
+    ensures fault { IfErr result (λ fault. BreaksFor (IsDueFor (bare options.count) options.steps)
         (both_texts (R.remaining spec.old) (terms_text T.remaining terms.entry))
         fault (W.contents out.old) (W.contents out.new)) }
     ensures room { OnRefusedSpec (R.remaining spec.old) (IfErr result HasRoom) }
@@ -106,8 +118,44 @@ pub fn run_at<R: Read, T: Read, W: Write>(
         (Stays (λ f. f.0.now) terms.exit (option_copied_mut terms.entry)) }
 {
     match terms {
-        None => run_alone(alloc, spec, out, options, place),
-        Some(terms) => run_beside(alloc, spec, terms, out, options, place),
+        None => run_alone(alloc, spec, out, options, LimitLines::Bare, place),
+        Some(terms) => run_beside(alloc, spec, terms, out, options, LimitLines::Bare, place),
+    }
+}
+
+/// The same, with limit lines that say of a given term what is asked for.
+pub fn run_with<R: Read, T: Read, W: Write>(
+    alloc: Global,
+    spec: &mut R,
+    terms: Option<&mut T>,
+    out: &mut W,
+    options: RunOptions,
+    limits: LimitLines,
+    place: &mut Option<Place>,
+) -> Result<Finish, RunFault>
+    ensures output { IfOk result (λ finish. EndsFor (IsDueFor
+        (shown_by options.count limits) options.steps)
+        (both_texts (R.remaining spec.old) (terms_text T.remaining terms.entry))
+        finish (W.contents out.old) (W.contents out.new)) }
+    ensures place { OnOk result (IsPlacedFor (IsDueFor
+        (shown_by options.count limits) options.steps)
+        (both_texts (R.remaining spec.old) (terms_text T.remaining terms.entry)) place.new) }
+    ensures fault { IfErr result (λ fault. BreaksFor (IsDueFor
+        (shown_by options.count limits) options.steps)
+        (both_texts (R.remaining spec.old) (terms_text T.remaining terms.entry))
+        fault (W.contents out.old) (W.contents out.new)) }
+    ensures room { OnRefusedSpec (R.remaining spec.old) (IfErr result HasRoom) }
+    ensures no_place { OnErr result (place.new ≡ None) }
+    ensures spec_read { OnOk result (IsReadOut (R.remaining spec.old) (R.remaining spec.new)) }
+    ensures terms_read { OnOk result (OnGoodSpec (R.remaining spec.old)
+        (Leads (λ old new. IsReadOut (T.remaining old) (T.remaining new))
+        (λ f. f.0.now) terms.exit (option_copied_mut terms.entry))) }
+    ensures unread { OnRefusedSpec (R.remaining spec.old)
+        (Stays (λ f. f.0.now) terms.exit (option_copied_mut terms.entry)) }
+{
+    match terms {
+        None => run_alone(alloc, spec, out, options, limits, place),
+        Some(terms) => run_beside(alloc, spec, terms, out, options, limits, place),
     }
 }
 
@@ -126,12 +174,14 @@ pub fn run_in<B: TermBank, R: Read, T: Read, W: Write>(
 ) -> Ended<B>
     requires unrooted { (t : ℕ) → (B.store bank).roots t ≡ 0 }
     requires limit { (B.store bank).cap ≡ options.cells }
-    ensures output { IfOk result.end (λ finish. EndsFor (IsDueFor options.count options.steps)
+    ensures output { IfOk result.end (λ finish. EndsFor (IsDueFor
+        (bare options.count) options.steps)
         (both_texts (R.remaining spec.old) (terms_text T.remaining terms.entry))
         finish (W.contents out.old) (W.contents out.new)) }
-    ensures place { OnOk result.end (IsPlacedFor (IsDueFor options.count options.steps)
+    ensures place { OnOk result.end (IsPlacedFor (IsDueFor (bare options.count) options.steps)
         (both_texts (R.remaining spec.old) (terms_text T.remaining terms.entry)) place.new) }
-    ensures fault { IfErr result.end (λ fault. BreaksFor (IsDueFor options.count options.steps)
+    ensures fault { IfErr result.end (λ fault. BreaksFor (IsDueFor
+        (bare options.count) options.steps)
         (both_texts (R.remaining spec.old) (terms_text T.remaining terms.entry))
         fault (W.contents out.old) (W.contents out.new)) }
     ensures room { IfErr result.end
@@ -160,23 +210,65 @@ fn run_alone<R: Read, W: Write>(
     spec: &mut R,
     out: &mut W,
     options: RunOptions,
+    limits: LimitLines,
     place: &mut Option<Place>,
 ) -> Result<Finish, RunFault>
-    ensures output { IfOk result (λ finish. EndsFor (IsDueFor options.count options.steps)
+    ensures output { IfOk result (λ finish. EndsFor (IsDueFor
+        (shown_by options.count limits) options.steps)
         (both_texts (R.remaining spec.old) (Some None)) finish (W.contents out.old)
         (W.contents out.new)) }
-    ensures place { OnOk result (IsPlacedFor (IsDueFor options.count options.steps)
+    ensures place { OnOk result (IsPlacedFor (IsDueFor
+        (shown_by options.count limits) options.steps)
         (both_texts (R.remaining spec.old) (Some None)) place.new) }
-    ensures fault { IfErr result (λ fault. BreaksFor (IsDueFor options.count options.steps)
+    ensures fault { IfErr result (λ fault. BreaksFor (IsDueFor
+        (shown_by options.count limits) options.steps)
         (both_texts (R.remaining spec.old) (Some None)) fault (W.contents out.old)
         (W.contents out.new)) }
     ensures cells { OnRefusedSpec (R.remaining spec.old) (IfErr result HasRoom) }
     ensures no_place { OnErr result (place.new ≡ None) }
     ensures spec_read { OnOk result (IsReadOut (R.remaining spec.old) (R.remaining spec.new)) }
 {
+    let mut spec = Input::new(spec);
+    let mut output = Output::new(out);
+    alone_owned(alloc, &mut spec, &mut output, options, limits, place)
+}
+
+/// The same from an input and to an output. None is asked any more once it refused.
+fn alone_owned<R: Read, W: Write>(
+    alloc: Global,
+    spec: &mut Input<'_, R>,
+    out: &mut Output<'_, W>,
+    options: RunOptions,
+    limits: LimitLines,
+    place: &mut Option<Place>,
+) -> Result<Finish, RunFault>
+    requires readable { IsReadable spec.old }
+    requires writable { IsWritable out.old }
+    ensures output { IfOk result (λ finish. EndsFor (IsDueFor
+        (shown_by options.count limits) options.steps)
+        (both_texts (remaining_in R.remaining spec.old) (Some None)) finish
+        (contents_of W.contents out.old)
+        (contents_of W.contents out.new)) }
+    ensures place { OnOk result (IsPlacedFor (IsDueFor
+        (shown_by options.count limits) options.steps)
+        (both_texts (remaining_in R.remaining spec.old) (Some None)) place.new) }
+    ensures fault { IfErr result (λ fault. BreaksFor (IsDueFor
+        (shown_by options.count limits) options.steps)
+        (both_texts (remaining_in R.remaining spec.old) (Some None)) fault
+        (contents_of W.contents out.old)
+        (contents_of W.contents out.new)) }
+    ensures cells { OnRefusedSpec (remaining_in R.remaining spec.old) (IfErr result HasRoom) }
+    ensures no_place { OnErr result (place.new ≡ None) }
+    ensures spec_read { OnOk result (IsReadOut (remaining_in R.remaining spec.old)
+        (remaining_in R.remaining spec.new)) }
+    ensures same { IsSameInput spec.old spec.new }
+    ensures same_output { IsSameOutput out.old out.new }
+    ensures read_cause { TellsRead spec.new result }
+    ensures write_cause { TellsWrite out.new result }
+{
     *place = None;
     match empty_bank(alloc, options.cells) {
-        Ok(bank) => run_alone_in(alloc, bank, spec, out, options, place).into_end(),
+        Ok(bank) => alone_over(alloc, bank, spec, out, options, limits, place).into_end(),
         Err(fault) => Err(fault),
     }
 }
@@ -188,15 +280,19 @@ fn run_beside<R: Read, T: Read, W: Write>(
     terms: &mut T,
     out: &mut W,
     options: RunOptions,
+    limits: LimitLines,
     place: &mut Option<Place>,
 ) -> Result<Finish, RunFault>
-    ensures output { IfOk result (λ finish. EndsFor (IsDueFor options.count options.steps)
+    ensures output { IfOk result (λ finish. EndsFor (IsDueFor
+        (shown_by options.count limits) options.steps)
         (both_texts (R.remaining spec.old) (option_map (λ b. Some b) (T.remaining terms.old)))
         finish (W.contents out.old) (W.contents out.new)) }
-    ensures place { OnOk result (IsPlacedFor (IsDueFor options.count options.steps)
+    ensures place { OnOk result (IsPlacedFor (IsDueFor
+        (shown_by options.count limits) options.steps)
         (both_texts (R.remaining spec.old) (option_map (λ b. Some b) (T.remaining terms.old)))
         place.new) }
-    ensures fault { IfErr result (λ fault. BreaksFor (IsDueFor options.count options.steps)
+    ensures fault { IfErr result (λ fault. BreaksFor (IsDueFor
+        (shown_by options.count limits) options.steps)
         (both_texts (R.remaining spec.old) (option_map (λ b. Some b) (T.remaining terms.old)))
         fault (W.contents out.old) (W.contents out.new)) }
     ensures cells { OnRefusedSpec (R.remaining spec.old) (IfErr result HasRoom) }
@@ -206,9 +302,64 @@ fn run_beside<R: Read, T: Read, W: Write>(
         (IsReadOut (T.remaining terms.old) (T.remaining terms.new))) }
     ensures unread { OnRefusedSpec (R.remaining spec.old) (terms.new ≡ terms.old) }
 {
+    let mut spec = Input::new(spec);
+    let mut terms = Input::new(terms);
+    let mut output = Output::new(out);
+    beside_owned(
+        alloc,
+        &mut spec,
+        &mut terms,
+        &mut output,
+        options,
+        limits,
+        place,
+    )
+}
+
+/// The same from two inputs and to an output. None is asked any more once it refused.
+fn beside_owned<R: Read, T: Read, W: Write>(
+    alloc: Global,
+    spec: &mut Input<'_, R>,
+    terms: &mut Input<'_, T>,
+    out: &mut Output<'_, W>,
+    options: RunOptions,
+    limits: LimitLines,
+    place: &mut Option<Place>,
+) -> Result<Finish, RunFault>
+    requires readable { IsReadable spec.old }
+    requires terms_readable { IsReadable terms.old }
+    requires writable { IsWritable out.old }
+    ensures output { IfOk result (λ finish. EndsFor (IsDueFor
+        (shown_by options.count limits) options.steps)
+        (both_texts (remaining_in R.remaining spec.old) (option_map (λ b. Some b)
+        (remaining_in T.remaining terms.old)))
+        finish (contents_of W.contents out.old) (contents_of W.contents out.new)) }
+    ensures place { OnOk result (IsPlacedFor (IsDueFor
+        (shown_by options.count limits) options.steps)
+        (both_texts (remaining_in R.remaining spec.old) (option_map (λ b. Some b)
+        (remaining_in T.remaining terms.old)))
+        place.new) }
+    ensures fault { IfErr result (λ fault. BreaksFor (IsDueFor
+        (shown_by options.count limits) options.steps)
+        (both_texts (remaining_in R.remaining spec.old) (option_map (λ b. Some b)
+        (remaining_in T.remaining terms.old)))
+        fault (contents_of W.contents out.old) (contents_of W.contents out.new)) }
+    ensures cells { OnRefusedSpec (remaining_in R.remaining spec.old) (IfErr result HasRoom) }
+    ensures no_place { OnErr result (place.new ≡ None) }
+    ensures spec_read { OnOk result (IsReadOut (remaining_in R.remaining spec.old)
+        (remaining_in R.remaining spec.new)) }
+    ensures terms_read { OnOk result (OnGoodSpec (remaining_in R.remaining spec.old)
+        (IsReadOut (remaining_in T.remaining terms.old) (remaining_in T.remaining terms.new))) }
+    ensures unread { OnRefusedSpec (remaining_in R.remaining spec.old) (terms.new ≡ terms.old) }
+    ensures same { IsSameInput spec.old spec.new }
+    ensures same_terms { IsSameInput terms.old terms.new }
+    ensures same_output { IsSameOutput out.old out.new }
+    ensures read_cause { TellsReads spec.new terms.new result }
+    ensures write_cause { TellsWrite out.new result }
+{
     *place = None;
     match empty_bank(alloc, options.cells) {
-        Ok(bank) => run_beside_in(alloc, bank, spec, terms, out, options, place).into_end(),
+        Ok(bank) => beside_over(alloc, bank, spec, terms, out, options, limits, place).into_end(),
         Err(fault) => Err(fault),
     }
 }
@@ -224,12 +375,14 @@ fn run_alone_in<B: TermBank, R: Read, W: Write>(
 ) -> Ended<B>
     requires unrooted { (t : ℕ) → (B.store bank).roots t ≡ 0 }
     requires limit { (B.store bank).cap ≡ options.cells }
-    ensures output { IfOk result.end (λ finish. EndsFor (IsDueFor options.count options.steps)
+    ensures output { IfOk result.end (λ finish. EndsFor (IsDueFor
+        (bare options.count) options.steps)
         (both_texts (R.remaining spec.old) (Some None)) finish (W.contents out.old)
         (W.contents out.new)) }
-    ensures place { OnOk result.end (IsPlacedFor (IsDueFor options.count options.steps)
+    ensures place { OnOk result.end (IsPlacedFor (IsDueFor (bare options.count) options.steps)
         (both_texts (R.remaining spec.old) (Some None)) place.new) }
-    ensures fault { IfErr result.end (λ fault. BreaksFor (IsDueFor options.count options.steps)
+    ensures fault { IfErr result.end (λ fault. BreaksFor (IsDueFor
+        (bare options.count) options.steps)
         (both_texts (R.remaining spec.old) (Some None)) fault (W.contents out.old)
         (W.contents out.new)) }
     ensures room { IfErr result.end (RoomExhausts (B.store result.bank) result.needed.items) }
@@ -240,9 +393,61 @@ fn run_alone_in<B: TermBank, R: Read, W: Write>(
     ensures spec_read { OnOk result.end
         (IsReadOut (R.remaining spec.old) (R.remaining spec.new)) }
 {
+    let mut spec = Input::new(spec);
+    let mut output = Output::new(out);
+    alone_over(
+        alloc,
+        bank,
+        &mut spec,
+        &mut output,
+        options,
+        LimitLines::Bare,
+        place,
+    )
+}
+
+/// The same from an input and to an output. None is asked any more once it refused.
+fn alone_over<B: TermBank, R: Read, W: Write>(
+    alloc: Global,
+    bank: B,
+    spec: &mut Input<'_, R>,
+    out: &mut Output<'_, W>,
+    options: RunOptions,
+    limits: LimitLines,
+    place: &mut Option<Place>,
+) -> Ended<B>
+    requires unrooted { (t : ℕ) → (B.store bank).roots t ≡ 0 }
+    requires limit { (B.store bank).cap ≡ options.cells }
+    requires readable { IsReadable spec.old }
+    requires writable { IsWritable out.old }
+    ensures output { IfOk result.end (λ finish. EndsFor (IsDueFor
+        (shown_by options.count limits) options.steps)
+        (both_texts (remaining_in R.remaining spec.old) (Some None)) finish
+        (contents_of W.contents out.old)
+        (contents_of W.contents out.new)) }
+    ensures place { OnOk result.end (IsPlacedFor (IsDueFor
+        (shown_by options.count limits) options.steps)
+        (both_texts (remaining_in R.remaining spec.old) (Some None)) place.new) }
+    ensures fault { IfErr result.end (λ fault. BreaksFor (IsDueFor
+        (shown_by options.count limits) options.steps)
+        (both_texts (remaining_in R.remaining spec.old) (Some None)) fault
+        (contents_of W.contents out.old)
+        (contents_of W.contents out.new)) }
+    ensures room { IfErr result.end (RoomExhausts (B.store result.bank) result.needed.items) }
+    ensures cap { (B.store result.bank).cap ≡ (B.store bank).cap }
+    ensures unused { OnRefusedSpec (remaining_in R.remaining spec.old) (result.bank ≡ bank) }
+    ensures cells { OnRefusedSpec (remaining_in R.remaining spec.old) (IfErr result.end HasRoom) }
+    ensures no_place { OnErr result.end (place.new ≡ None) }
+    ensures spec_read { OnOk result.end
+        (IsReadOut (remaining_in R.remaining spec.old) (remaining_in R.remaining spec.new)) }
+    ensures same { IsSameInput spec.old spec.new }
+    ensures same_output { IsSameOutput out.old out.new }
+    ensures read_cause { TellsRead spec.new result.end }
+    ensures write_cause { TellsWrite out.new result.end }
+{
     *place = None;
-    match read_alone(alloc, spec) {
-        Ok(reading) => answer(alloc, bank, reading, out, options, place),
+    match read_alone_from(alloc, spec) {
+        Ok(reading) => answer(alloc, bank, reading, out, options, limits, place),
         Err(fault) => Ended {
             end: Err(fault),
             bank,
@@ -254,7 +459,7 @@ fn run_alone_in<B: TermBank, R: Read, W: Write>(
 /// A run over a bank with given terms.
 fn run_beside_in<B: TermBank, R: Read, T: Read, W: Write>(
     alloc: Global,
-    mut bank: B,
+    bank: B,
     spec: &mut R,
     terms: &mut T,
     out: &mut W,
@@ -263,13 +468,15 @@ fn run_beside_in<B: TermBank, R: Read, T: Read, W: Write>(
 ) -> Ended<B>
     requires unrooted { (t : ℕ) → (B.store bank).roots t ≡ 0 }
     requires limit { (B.store bank).cap ≡ options.cells }
-    ensures output { IfOk result.end (λ finish. EndsFor (IsDueFor options.count options.steps)
+    ensures output { IfOk result.end (λ finish. EndsFor (IsDueFor
+        (bare options.count) options.steps)
         (both_texts (R.remaining spec.old) (option_map (λ b. Some b) (T.remaining terms.old)))
         finish (W.contents out.old) (W.contents out.new)) }
-    ensures place { OnOk result.end (IsPlacedFor (IsDueFor options.count options.steps)
+    ensures place { OnOk result.end (IsPlacedFor (IsDueFor (bare options.count) options.steps)
         (both_texts (R.remaining spec.old) (option_map (λ b. Some b) (T.remaining terms.old)))
         place.new) }
-    ensures fault { IfErr result.end (λ fault. BreaksFor (IsDueFor options.count options.steps)
+    ensures fault { IfErr result.end (λ fault. BreaksFor (IsDueFor
+        (bare options.count) options.steps)
         (both_texts (R.remaining spec.old) (option_map (λ b. Some b) (T.remaining terms.old)))
         fault (W.contents out.old) (W.contents out.new)) }
     ensures room { IfErr result.end
@@ -284,9 +491,72 @@ fn run_beside_in<B: TermBank, R: Read, T: Read, W: Write>(
         (IsReadOut (T.remaining terms.old) (T.remaining terms.new))) }
     ensures unread { OnRefusedSpec (R.remaining spec.old) (terms.new ≡ terms.old) }
 {
+    let mut spec = Input::new(spec);
+    let mut terms = Input::new(terms);
+    let mut output = Output::new(out);
+    beside_over(
+        alloc,
+        bank,
+        &mut spec,
+        &mut terms,
+        &mut output,
+        options,
+        LimitLines::Bare,
+        place,
+    )
+}
+
+/// The same from two inputs and to an output. None is asked any more once it refused.
+fn beside_over<B: TermBank, R: Read, T: Read, W: Write>(
+    alloc: Global,
+    mut bank: B,
+    spec: &mut Input<'_, R>,
+    terms: &mut Input<'_, T>,
+    out: &mut Output<'_, W>,
+    options: RunOptions,
+    limits: LimitLines,
+    place: &mut Option<Place>,
+) -> Ended<B>
+    requires unrooted { (t : ℕ) → (B.store bank).roots t ≡ 0 }
+    requires limit { (B.store bank).cap ≡ options.cells }
+    requires readable { IsReadable spec.old }
+    requires terms_readable { IsReadable terms.old }
+    requires writable { IsWritable out.old }
+    ensures output { IfOk result.end (λ finish. EndsFor (IsDueFor
+        (shown_by options.count limits) options.steps)
+        (both_texts (remaining_in R.remaining spec.old) (option_map (λ b. Some b)
+        (remaining_in T.remaining terms.old)))
+        finish (contents_of W.contents out.old) (contents_of W.contents out.new)) }
+    ensures place { OnOk result.end (IsPlacedFor (IsDueFor
+        (shown_by options.count limits) options.steps)
+        (both_texts (remaining_in R.remaining spec.old) (option_map (λ b. Some b)
+        (remaining_in T.remaining terms.old)))
+        place.new) }
+    ensures fault { IfErr result.end (λ fault. BreaksFor (IsDueFor
+        (shown_by options.count limits) options.steps)
+        (both_texts (remaining_in R.remaining spec.old) (option_map (λ b. Some b)
+        (remaining_in T.remaining terms.old)))
+        fault (contents_of W.contents out.old) (contents_of W.contents out.new)) }
+    ensures room { IfErr result.end
+        (RoomIn (B.store bank) (B.store result.bank) result.needed.items) }
+    ensures cap { (B.store result.bank).cap ≡ (B.store bank).cap }
+    ensures unused { OnRefusedSpec (remaining_in R.remaining spec.old) (result.bank ≡ bank) }
+    ensures cells { OnRefusedSpec (remaining_in R.remaining spec.old) (IfErr result.end HasRoom) }
+    ensures no_place { OnErr result.end (place.new ≡ None) }
+    ensures spec_read { OnOk result.end
+        (IsReadOut (remaining_in R.remaining spec.old) (remaining_in R.remaining spec.new)) }
+    ensures terms_read { OnOk result.end (OnGoodSpec (remaining_in R.remaining spec.old)
+        (IsReadOut (remaining_in T.remaining terms.old) (remaining_in T.remaining terms.new))) }
+    ensures unread { OnRefusedSpec (remaining_in R.remaining spec.old) (terms.new ≡ terms.old) }
+    ensures same { IsSameInput spec.old spec.new }
+    ensures same_terms { IsSameInput terms.old terms.new }
+    ensures same_output { IsSameOutput out.old out.new }
+    ensures read_cause { TellsReads spec.new terms.new result.end }
+    ensures write_cause { TellsWrite out.new result.end }
+{
     *place = None;
-    match read_both(alloc, spec, terms, &mut bank) {
-        Ok(reading) => answer(alloc, bank, reading, out, options, place),
+    match read_both_from(alloc, spec, terms, &mut bank) {
+        Ok(reading) => answer(alloc, bank, reading, out, options, limits, place),
         Err(fault) => Ended {
             end: Err(fault),
             bank,
@@ -301,25 +571,31 @@ fn answer<B: TermBank, W: Write>(
     alloc: Global,
     bank: B,
     reading: Reading<Job>,
-    out: &mut W,
+    out: &mut Output<'_, W>,
     options: RunOptions,
+    limits: LimitLines,
     place: &mut Option<Place>,
 ) -> Ended<B>
     requires unrooted { (t : ℕ) → (B.store bank).roots t ≡ 0 }
     requires ready { IsReady (B.store bank) reading }
     requires no_place { place.old ≡ None }
+    requires open { IsWritable out.old }
     ensures ends { IfOk result.end (λ finish. finish ≡ finish_of reading) }
-    ensures ok { OnOk result.end (Appends (W.contents out.old) (W.contents out.new)
-        (run_due (B.store bank) options.count options.steps reading).text) }
+    ensures ok { OnOk result.end (Writes W.contents out.old out.new
+        (run_due (B.store bank) (shown_by options.count limits) options.steps reading).text) }
     ensures place { OnOk result.end (place.new ≡ place_of reading) }
     ensures err { IfErr result.end
-        (λ fault. Stops fault (run_due (B.store bank) options.count options.steps reading).text
-        (W.contents out.old) (W.contents out.new)) }
+        (λ fault. Stops fault (run_due (B.store bank)
+        (shown_by options.count limits) options.steps reading).text
+        (contents_of W.contents out.old) (contents_of W.contents out.new)) }
     ensures room { IfErr result.end (RoomExhausts (B.store result.bank) result.needed.items) }
     ensures cap { (B.store result.bank).cap ≡ (B.store bank).cap }
     ensures unused { IsRefused reading → result.bank ≡ bank }
     ensures cells { IsRefused reading → IfErr result.end HasRoom }
     ensures no_place { OnErr result.end (place.new ≡ None) }
+    ensures same_output { IsSameOutput out.old out.new }
+    ensures cause { TellsWrite out.new result.end }
+    ensures no_reader { IfErr result.end (λ fault. fault ≢ RunFault.Read) }
 {
     let finish = reading.finish();
     let refused_at = reading.place();
@@ -327,7 +603,7 @@ fn answer<B: TermBank, W: Write>(
         written,
         bank,
         needed,
-    } = write_due(alloc, bank, reading, out, options);
+    } = write_due(alloc, bank, reading, out, options, limits);
     Ended {
         end: end_run(written, finish, refused_at, out, place),
         bank,
@@ -340,17 +616,21 @@ fn end_run<W: Write>(
     written: Result<(), RunFault>,
     finish: Finish,
     refused_at: Option<Place>,
-    out: &mut W,
+    out: &mut Output<'_, W>,
     place: &mut Option<Place>,
 ) -> Result<Finish, RunFault>
     requires no_place { place.old ≡ None }
-    ensures ends { EndsBehind written finish (W.contents out.old) (W.contents out.new) result }
+    requires told { TellsWrite out.old written }
+    ensures ends { EndsBehind written finish (contents_of W.contents out.old)
+        (contents_of W.contents out.new) result }
     ensures place { OnOk result (place.new ≡ refused_at) }
     ensures no_place { OnErr result (place.new ≡ None) }
+    ensures same { IsSameOutput out.old out.new }
+    ensures cause { TellsWrite out.new result }
 {
     match written {
         Err(fault) => Err(fault),
-        Ok(()) => match flush(out) {
+        Ok(()) => match out.flush() {
             Err(_) => Err(RunFault::Write),
             Ok(()) => {
                 *place = refused_at;
@@ -365,21 +645,27 @@ fn write_due<B: TermBank, W: Write>(
     alloc: Global,
     bank: B,
     reading: Reading<Job>,
-    out: &mut W,
+    out: &mut Output<'_, W>,
     options: RunOptions,
+    limits: LimitLines,
 ) -> Left<B>
     requires unrooted { (t : ℕ) → (B.store bank).roots t ≡ 0 }
     requires ready { IsReady (B.store bank) reading }
-    ensures ok { OnOk result.written (Appends (W.contents out.old) (W.contents out.new)
-        (run_due (B.store bank) options.count options.steps reading).text) }
+    requires open { IsWritable out.old }
+    ensures ok { OnOk result.written (Writes W.contents out.old out.new
+        (run_due (B.store bank) (shown_by options.count limits) options.steps reading).text) }
     ensures err { IfErr result.written
-        (λ fault. Stops fault (run_due (B.store bank) options.count options.steps reading).text
-        (W.contents out.old) (W.contents out.new)) }
+        (λ fault. Stops fault (run_due (B.store bank)
+        (shown_by options.count limits) options.steps reading).text
+        (contents_of W.contents out.old) (contents_of W.contents out.new)) }
     ensures room { IfErr result.written
         (RoomExhausts (B.store result.bank) result.needed.items) }
     ensures cap { (B.store result.bank).cap ≡ (B.store bank).cap }
     ensures unused { IsRefused reading → result.bank ≡ bank }
     ensures cells { IsRefused reading → IfErr result.written HasRoom }
+    ensures same_output { IsSameOutput out.old out.new }
+    ensures cause { TellsWrite out.new result.written }
+    ensures no_reader { IfErr result.written (λ fault. fault ≢ RunFault.Read) }
 {
     match reading {
         Reading::Refused(refusal) => Left {
@@ -388,19 +674,22 @@ fn write_due<B: TermBank, W: Write>(
             needed: Vec::new(alloc),
         },
         Reading::Good(Job { checked, list }) => {
-            write_evaluated(alloc, checked, bank, list, out, options)
+            write_evaluated(alloc, checked, bank, list, out, options, limits)
         }
     }
 }
 
 /// Writes the line of a refusal.
-fn refuse<W: Write>(refusal: Refusal, out: &mut W) -> Result<(), RunFault>
+fn refuse<W: Write>(refusal: Refusal, out: &mut Output<'_, W>) -> Result<(), RunFault>
+    requires { IsWritable out.old }
     ensures ok { OnOk result
-        (Appends (W.contents out.old) (W.contents out.new) (refusal_due refusal).text) }
+        (Writes W.contents out.old out.new (refusal_due refusal).text) }
     ensures err { IfErr result (λ fault. Stops fault (refusal_due refusal).text
-        (W.contents out.old) (W.contents out.new)) }
+        (contents_of W.contents out.old) (contents_of W.contents out.new)) }
     ensures write { IfErr result (λ fault. fault ≡ RunFault.Write) }
+    ensures same { IsSameOutput out.old out.new }
+    ensures cause { TellsWrite out.new result }
 {
-    write_refusal(refusal, out)?;
+    write_refusal_to(refusal, out)?;
     Ok(())
 }

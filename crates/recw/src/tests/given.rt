@@ -20,6 +20,22 @@ pub(crate) const WORDS: &[Row] = &[
         "",
     ),
     (
+        &[
+            "eval",
+            "--limit-annotations",
+            "--steps",
+            "2",
+            "-e",
+            "plus(z,z){id(1)}",
+            "-e",
+            "plus(s(s(z)),z){id(2),3}",
+        ],
+        ADDITION,
+        0,
+        "!limit 2\nz{id(1)}\n!limit 2{id(2),3}\n",
+        "",
+    ),
+    (
         &["eval", "-e", "z", "-e", "plus(z", "-e", "z)"],
         ADDITION,
         1,

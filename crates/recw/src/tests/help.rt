@@ -55,15 +55,16 @@ Arguments:
   [TERMS]  File of an ATerm list of further terms, or -
 
 Options:
-  -e, --term <TERM>   A further term; may be given several times
-      --steps <N>     Most steps that a term may take, up to 10^18 [default: 1000000]
-      --cells <C>     Most cells that terms may take, 1 to 2^30; the default takes up to 1.4 GB [default: 16777216]
-      --memo <M>      Most results to remember, up to 2^20 [default: 65536]
-      --reclaim <K>   New cells between two reclaims, 1 to 2^30 [default: 262144]
-      --count         Print the steps that each term took behind its value
-      --limit-status  End with status 5 where a term takes more steps
-      --explain       Say in words why a text is refused, and where
-  -h, --help          Print help
+  -e, --term <TERM>        A further term; may be given several times
+      --steps <N>          Most steps that a term may take, up to 10^18 [default: 1000000]
+      --cells <C>          Most cells that terms may take, 1 to 2^30; the default takes up to 1.4 GB [default: 16777216]
+      --memo <M>           Most results to remember, up to 2^20 [default: 65536]
+      --reclaim <K>        New cells between two reclaims, 1 to 2^30 [default: 262144]
+      --count              Print the steps that each term took behind its value
+      --limit-annotations  Print the annotations of a further term behind its limit
+      --limit-status       End with status 5 where a term takes more steps
+      --explain            Say in words why a text is refused, and where
+  -h, --help               Print help
 
 Example: recw eval --steps 500 add.rec add.trm
 ";

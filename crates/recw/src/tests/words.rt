@@ -266,9 +266,14 @@ fn refuses_words(rt: HostRuntime) {
     }
 }
 
-/// Options, and the numbers of each of them in turn, and whether steps are counted.
-const OPTIONS: [(&[&str], [u64; 4], bool); 3] = [
-    (&["eval"], [1_000_000, 16_777_216, 65_536, 262_144], false),
+/// Options, and the numbers of each of them in turn, and whether steps are counted and limit lines
+/// have annotations.
+const OPTIONS: [(&[&str], [u64; 4], [bool; 2]); 3] = [
+    (
+        &["eval"],
+        [1_000_000, 16_777_216, 65_536, 262_144],
+        [false, false],
+    ),
     (
         &[
             "eval",
@@ -283,7 +288,7 @@ const OPTIONS: [(&[&str], [u64; 4], bool); 3] = [
             "--count",
         ],
         [11, 12, 13, 14],
-        true,
+        [true, false],
     ),
     (
         &[
@@ -293,10 +298,11 @@ const OPTIONS: [(&[&str], [u64; 4], bool); 3] = [
             "spec",
             "--cells=22",
             "terms",
+            "--limit-annotations",
             "--steps=21",
         ],
         [21, 22, 23, 24],
-        false,
+        [false, true],
     ),
 ];
 
@@ -306,7 +312,7 @@ fn reaches_its_field<H: Abort + Files>(
     alloc: Global,
     words: &[&str],
     numbers: [u64; 4],
-    count: bool,
+    flags: [bool; 2],
 ) {
     let mut none = Vec::new(alloc);
     let mut told = Vec::new(alloc);
@@ -322,15 +328,19 @@ fn reaches_its_field<H: Abort + Files>(
         cells,
         memo,
         reclaim,
-        count: is_counted,
+        count,
+        limit_annotations,
     } = options;
     let found = [steps, u64::from(cells), u64::from(memo), u64::from(reclaim)];
-    assert!(rt; found == numbers && is_counted == count, "{words:?}");
+    assert!(rt;
+        found == numbers && [count, limit_annotations] == flags,
+        "{words:?}"
+    );
 }
 
 #[test]
 fn options_reach_their_fields(rt: HostRuntime) {
-    for (words, numbers, count) in &OPTIONS {
-        reaches_its_field(&rt, rt.alloc(), words, *numbers, *count);
+    for (words, numbers, flags) in &OPTIONS {
+        reaches_its_field(&rt, rt.alloc(), words, *numbers, *flags);
     }
 }

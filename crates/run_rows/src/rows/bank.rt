@@ -103,6 +103,43 @@ fn run_counted(rt: &impl Abort, alloc: Global, spec: &str, options: RunOptions) 
     run_over(alloc, bank, spec.as_bytes(), options)
 }
 
+/// A run of a specification and given terms over a bank.
+fn run_beside_over<B: TermBank + Drop>(
+    alloc: Global,
+    bank: B,
+    mut spec: &[u8],
+    mut terms: &[u8],
+    options: RunOptions,
+) -> Counted
+    requires unrooted { (t : ℕ) → (B.store bank).roots t ≡ 0 }
+    requires limit { (B.store bank).cap ≡ options.cells }
+{
+    let mut place = None;
+    let mut written = Vec::new(alloc);
+    let ended = run_in(
+        alloc,
+        Counting::new(bank),
+        &mut spec,
+        Some(&mut terms),
+        &mut written,
+        options,
+        &mut place,
+    );
+    tell(ended, written)
+}
+
+/// A run of a specification and given terms over a bank that counts.
+fn run_beside_counted(
+    rt: &impl Abort,
+    alloc: Global,
+    spec: &str,
+    terms: &str,
+    options: RunOptions,
+) -> Counted {
+    let bank = SharedBank::new(alloc, options.cells).expect(rt, "memory");
+    run_beside_over(alloc, bank, spec.as_bytes(), terms.as_bytes(), options)
+}
+
 /// So many steps, cells from 1 to a million, no memo, and a reclaim after 1,000 new cells.
 fn thousand(steps: u32, cells: u32) -> RunOptions {
     RunOptions {
@@ -221,6 +258,18 @@ fn given_terms_in_three_cells(rt: HostRuntime) {
     assert!(rt; short.written.is_empty());
     let refused = run_beside(rt.alloc(), Q.as_bytes(), b"[3]", three_cells());
     expect_ran(&rt, &refused, Finish::Refused, None, "!terms T2\n");
+}
+
+/// The text of the terms fills the bank before anything is needed, and nothing is given back.
+#[test]
+fn given_terms_fill_a_bank_of_three_cells(rt: HostRuntime) {
+    let short = run_beside_counted(&rt, rt.alloc(), Q, "[b,a]", three_cells());
+    assert!(rt; short.end == Err(RunFault::Room { lines: 0 }));
+    assert!(rt; short.cells == 3);
+    assert!(rt; short.cap == 3);
+    assert!(rt; short.needed == 0);
+    assert!(rt; short.counts.reclaims == 0);
+    assert!(rt; short.written.is_empty());
 }
 
 /// Adds a specification with so many terms to evaluate.

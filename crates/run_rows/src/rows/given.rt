@@ -2,7 +2,9 @@
 
 use crate::rows::streams::bytewise;
 use crate::rows::{ADD, Q, Ran, expect_ran, options, run_on};
-use rec_run::{Finish, Named, Place, RunFault, RunOptions, Source, refused_term};
+use rec_run::{
+    Finish, LimitLines, Named, Place, RunFault, RunOptions, Source, refused_term, run_with,
+};
 use std::alloc::Global;
 use std::process::Abort;
 
@@ -37,6 +39,24 @@ static VALUES: [Value; 9] = [
         "a\t1\na{b,[3]}\t1\na{f(a)}\t0\n",
     ),
     (Q, "[f(f(a)){b}]", 1, true, "a\t1\n!limit 1\n"),
+];
+
+/// The same where limit lines have annotations.
+static ANNOTATED: [Value; 2] = [
+    (
+        Q,
+        "[f(f(a)){b},f(f(a)),a{b}]",
+        1,
+        true,
+        "a\t1\n!limit 1{b}\n!limit 1\na{b}\t0\n",
+    ),
+    (
+        ADD,
+        "[plus(s(s(s(z))),z){id(2),[3]}]",
+        2,
+        false,
+        "!limit 2\n!limit 2{id(2),[3]}\n",
+    ),
 ];
 
 /// A specification, the text of terms, and the line of its refusal.
@@ -78,6 +98,40 @@ pub(crate) fn run_beside(
     options: RunOptions,
 ) -> Ran {
     run_on(alloc, &mut spec, Some(&mut terms), options)
+}
+
+/// What a run came to whose limit lines have annotations.
+fn run_annotated(alloc: Global, mut spec: &[u8], mut terms: &[u8], options: RunOptions) -> Ran {
+    let mut place = None;
+    let mut written = Vec::new(alloc);
+    let result = run_with(
+        alloc,
+        &mut spec,
+        Some(&mut terms),
+        &mut written,
+        options,
+        LimitLines::Annotated,
+        &mut place,
+    );
+    Ran {
+        result,
+        place,
+        written,
+    }
+}
+
+/// Stops where a row's terms come to other lines with annotated limits.
+fn expect_annotated(rt: &impl Abort, alloc: Global, row: &Value) {
+    let options = options(row.2, row.3);
+    let ran = run_annotated(alloc, row.0.as_bytes(), row.1.as_bytes(), options);
+    expect_ran(rt, &ran, Finish::Done, None, row.4);
+}
+
+#[test]
+fn limit_lines_with_annotations(rt: HostRuntime) {
+    for row in &ANNOTATED {
+        expect_annotated(&rt, rt.alloc(), row);
+    }
 }
 
 /// Stops where a row's terms come to other lines.

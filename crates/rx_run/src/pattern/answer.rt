@@ -4,12 +4,14 @@ ghost use Rattle.std.specs.Prelude.{◌≡◌, List, ℕ, Some, IfErr, IfOk, IfS
 ghost use Rattle.rx_term.specs.Tree.{Tree};
 ghost use Rattle.rx_term.specs.Store.{tree_at};
 ghost use Rattle.rx_term.specs.Walks.{AllHeld, HaveTrees};
+ghost use Rattle.rx_text.specs.Input.{IsReadable, IsSameInput, remaining_in};
 ghost use Rattle.rx_text.specs.Verdict.{Verdict, IsVerdict};
 ghost use Rattle.rx_pattern.specs.Matching.{matching};
 ghost use Rattle.rx_pattern.specs.Filling.{filling};
 ghost use Rattle.rx_run.specs.PatternRuns.{elements};
 ghost use Rattle.rx_run.specs.Due.{done};
 ghost use Rattle.rx_run.specs.Run.{IsReadOut, RanOut, StopsUnwritten};
+ghost use Rattle.rx_run.specs.Streams.{TellsRead};
 ghost use Rattle.rx_run.specs.TermRuns.{due_of};
 ghost use Rattle.rx_run.specs.PatternRuns.{
   IsMakeDue,
@@ -29,6 +31,7 @@ use crate::refusal::{Reading, Reason};
 use crate::term::reading::{parse, read_term};
 use rx_pattern::{MakeFault, Pattern, PatternFault};
 use rx_term::{Term, TermBank};
+use rx_text::Input;
 use std::alloc::Global;
 use std::io::Read;
 
@@ -47,19 +50,23 @@ pub(crate) enum Answer {
 pub(crate) fn match_reading<B: TermBank, R: Read>(
     alloc: Global,
     reading: Reading<Pattern>,
-    input: &mut R,
+    input: &mut Input<'_, R>,
     bank: &mut B,
 ) -> Result<Reading<Answer>, RunFault>
+    requires { IsReadable input.old }
     ensures due { IfOk result (λ answer. (text : List ℕ) → IsPatternRead text reading
-        → IfSome (R.remaining input.old)
+        → IfSome (remaining_in R.remaining input.old)
         (λ bytes. IsMatchDue text bytes (answer_due (B.store bank.new) answer))) }
     ensures held { IfOk result (λ answer. IsAnswerHeld (B.store bank.new) answer) }
     ensures fault { IfErr result (StopsUnwritten (B.store bank.old) (B.store bank.new)) }
     ensures cap { (B.store bank.new).cap ≡ (B.store bank.old).cap }
     ensures input_read { OnOk result ((text : List ℕ) (p : Tree) → IsPatternRead text reading
-        → SpellsPattern text p → IsReadOut (R.remaining input.old) (R.remaining input.new)) }
+        → SpellsPattern text p → IsReadOut (remaining_in R.remaining input.old)
+        (remaining_in R.remaining input.new)) }
     ensures unread { (text : List ℕ) → IsPatternRead text reading → IsNoPattern text
         → input.new ≡ input.old }
+    ensures same { IsSameInput input.old input.new }
+    ensures cause { TellsRead input.new result }
 {
     match reading {
         Reading::Refused(refusal) => Ok(Reading::Refused(refusal)),
@@ -71,16 +78,21 @@ pub(crate) fn match_reading<B: TermBank, R: Read>(
 fn match_input<B: TermBank, R: Read>(
     alloc: Global,
     pattern: &Pattern,
-    input: &mut R,
+    input: &mut Input<'_, R>,
     bank: &mut B,
 ) -> Result<Reading<Answer>, RunFault>
-    ensures due { IfOk result (λ answer. IfSome (R.remaining input.old) (λ bytes. (v : Verdict) ×
+    requires { IsReadable input.old }
+    ensures due { IfOk result (λ answer. IfSome (remaining_in R.remaining input.old) (λ bytes.
+        (v : Verdict) ×
         (IsVerdict bytes v × (answer_due (B.store bank.new) answer ≡ due_of
         (λ t. match_lines (matching pattern.now t)) v)))) }
-    ensures input_read { OnOk result (IsReadOut (R.remaining input.old) (R.remaining input.new)) }
+    ensures input_read { OnOk result (IsReadOut (remaining_in R.remaining input.old)
+        (remaining_in R.remaining input.new)) }
     ensures held { IfOk result (λ answer. IsAnswerHeld (B.store bank.new) answer) }
     ensures fault { IfErr result (StopsUnwritten (B.store bank.old) (B.store bank.new)) }
     ensures cap { (B.store bank.new).cap ≡ (B.store bank.old).cap }
+    ensures same { IsSameInput input.old input.new }
+    ensures cause { TellsRead input.new result }
 {
     match read_term(alloc, input, bank)? {
         Reading::Refused(refusal) => Ok(Reading::Refused(refusal)),

@@ -1,12 +1,14 @@
 //! Runs with a pattern: matching it with a term, and making a term from it.
 
 ghost use Rattle.std.specs.Prelude.{◌≡◌, ◌≢◌, None, IfErr, IfOk, OnErr, OnOk};
-ghost use Rattle.std.specs.Io.KnownBytes.{Appends};
 ghost use Rattle.rx_term.specs.Tree.{Tree};
+ghost use Rattle.rx_text.specs.Input.{IsReadable, IsSameInput, remaining_in};
+ghost use Rattle.rx_text.specs.Output.{IsSameOutput, IsWritable, Writes, contents_of};
 ghost use Rattle.rx_run.specs.PatternAnswers.{IsAnswerHeld, IsPatternRead, answer_due};
 ghost use Rattle.rx_run.specs.Refusals.{finish_of, place_of};
 ghost use Rattle.rx_run.specs.Run.{Breaks, BreaksFor, Ends, EndsFor, IsPlaced, IsPlacedFor};
 ghost use Rattle.rx_run.specs.Run.{IsReadOut, RoomFills, RoomFillsOne, Stops, StopsWriting};
+ghost use Rattle.rx_run.specs.Streams.{TellsRead, TellsWrite};
 ghost use Rattle.rx_run.specs.PatternRuns.{IsMakeDue, IsMatchDue, IsNoPattern, SpellsPattern};
 
 use crate::ending::{Finish, Place, RunFault};
@@ -15,9 +17,9 @@ use crate::pattern::lines::write_answer;
 use crate::pattern::reading::{read_pattern, read_pattern_in};
 use crate::refusal::Reading;
 use crate::term::reading::{MOST_CELLS, empty_bank};
-use crate::writing::flush;
 use rx_pattern::Pattern;
 use rx_term::TermBank;
+use rx_text::{Input, Output};
 use std::alloc::Global;
 use std::io::{Read, Write};
 
@@ -61,6 +63,38 @@ pub fn run_match_at<R: Read, W: Write>(
         → IsReadOut (R.remaining input.old) (R.remaining input.new)) }
     ensures unread { IsNoPattern pattern.now → input.new ≡ input.old }
 {
+    let mut input = Input::new(input);
+    let mut output = Output::new(out);
+    match_alone(alloc, pattern, &mut input, &mut output, place)
+}
+
+/// The same from an input and to an output. None is asked any more once it refused.
+fn match_alone<R: Read, W: Write>(
+    alloc: Global,
+    pattern: &[u8],
+    input: &mut Input<'_, R>,
+    out: &mut Output<'_, W>,
+    place: &mut Option<Place>,
+) -> Result<Finish, RunFault>
+    requires readable { IsReadable input.old }
+    requires writable { IsWritable out.old }
+    ensures output { IfOk result (λ finish. EndsFor (IsMatchDue pattern.now)
+        (remaining_in R.remaining input.old) finish (contents_of W.contents out.old)
+        (contents_of W.contents out.new)) }
+    ensures place { OnOk result
+        (IsPlacedFor (IsMatchDue pattern.now) (remaining_in R.remaining input.old) place.new) }
+    ensures fault { IfErr result (λ fault. BreaksFor (IsMatchDue pattern.now)
+        (remaining_in R.remaining input.old) fault (contents_of W.contents out.old)
+        (contents_of W.contents out.new)) }
+    ensures no_place { OnErr result (place.new ≡ None) }
+    ensures input_read { OnOk result ((p : Tree) → SpellsPattern pattern.now p
+        → IsReadOut (remaining_in R.remaining input.old) (remaining_in R.remaining input.new)) }
+    ensures unread { IsNoPattern pattern.now → input.new ≡ input.old }
+    ensures same_input { IsSameInput input.old input.new }
+    ensures same_output { IsSameOutput out.old out.new }
+    ensures read_cause { TellsRead input.new result }
+    ensures write_cause { TellsWrite out.new result }
+{
     *place = None;
     match empty_bank(alloc, MOST_CELLS) {
         Ok(bank) => match_owned(alloc, bank, pattern, input, out, place),
@@ -94,6 +128,52 @@ pub fn run_match_in<B: TermBank, R: Read, W: Write>(
         → IsReadOut (R.remaining input.old) (R.remaining input.new)) }
     ensures unread { IsNoPattern pattern.now → input.new ≡ input.old }
 {
+    let mut input = Input::new(input);
+    let mut output = Output::new(out);
+    match_in(
+        alloc,
+        patterns,
+        bank,
+        pattern,
+        &mut input,
+        &mut output,
+        place,
+    )
+}
+
+/// The same from an input and to an output. None is asked any more once it refused.
+fn match_in<B: TermBank, R: Read, W: Write>(
+    alloc: Global,
+    patterns: &mut B,
+    bank: &mut B,
+    pattern: &[u8],
+    input: &mut Input<'_, R>,
+    out: &mut Output<'_, W>,
+    place: &mut Option<Place>,
+) -> Result<Finish, RunFault>
+    requires readable { IsReadable input.old }
+    requires writable { IsWritable out.old }
+    ensures output { IfOk result (λ finish. EndsFor (IsMatchDue pattern.now)
+        (remaining_in R.remaining input.old) finish (contents_of W.contents out.old)
+        (contents_of W.contents out.new)) }
+    ensures place { OnOk result
+        (IsPlacedFor (IsMatchDue pattern.now) (remaining_in R.remaining input.old) place.new) }
+    ensures fault { IfErr result (λ fault. BreaksFor (IsMatchDue pattern.now)
+        (remaining_in R.remaining input.old) fault (contents_of W.contents out.old)
+        (contents_of W.contents out.new)) }
+    ensures no_place { OnErr result (place.new ≡ None) }
+    ensures room { IfErr result (RoomFillsOne (B.store patterns.old) (B.store patterns.new)
+        (B.store bank.old) (B.store bank.new)) }
+    ensures caps { ((B.store patterns.new).cap ≡ (B.store patterns.old).cap)
+        × ((B.store bank.new).cap ≡ (B.store bank.old).cap) }
+    ensures input_read { OnOk result ((p : Tree) → SpellsPattern pattern.now p
+        → IsReadOut (remaining_in R.remaining input.old) (remaining_in R.remaining input.new)) }
+    ensures unread { IsNoPattern pattern.now → input.new ≡ input.old }
+    ensures same_input { IsSameInput input.old input.new }
+    ensures same_output { IsSameOutput out.old out.new }
+    ensures read_cause { TellsRead input.new result }
+    ensures write_cause { TellsWrite out.new result }
+{
     *place = None;
     let reading = read_pattern_in(alloc, pattern, patterns)?;
     match_over(alloc, reading, bank, pattern, input, out, place)
@@ -104,21 +184,29 @@ fn match_owned<B: TermBank + Drop, R: Read, W: Write>(
     alloc: Global,
     mut bank: B,
     pattern: &[u8],
-    input: &mut R,
-    out: &mut W,
+    input: &mut Input<'_, R>,
+    out: &mut Output<'_, W>,
     place: &mut Option<Place>,
 ) -> Result<Finish, RunFault>
-    requires { place.old ≡ None }
+    requires no_place { place.old ≡ None }
+    requires readable { IsReadable input.old }
+    requires writable { IsWritable out.old }
     ensures output { IfOk result (λ finish. EndsFor (IsMatchDue pattern.now)
-        (R.remaining input.old) finish (W.contents out.old) (W.contents out.new)) }
+        (remaining_in R.remaining input.old) finish (contents_of W.contents out.old)
+        (contents_of W.contents out.new)) }
     ensures place { OnOk result
-        (IsPlacedFor (IsMatchDue pattern.now) (R.remaining input.old) place.new) }
+        (IsPlacedFor (IsMatchDue pattern.now) (remaining_in R.remaining input.old) place.new) }
     ensures fault { IfErr result (λ fault. BreaksFor (IsMatchDue pattern.now)
-        (R.remaining input.old) fault (W.contents out.old) (W.contents out.new)) }
+        (remaining_in R.remaining input.old) fault (contents_of W.contents out.old)
+        (contents_of W.contents out.new)) }
     ensures no_place { OnErr result (place.new ≡ None) }
     ensures input_read { OnOk result ((p : Tree) → SpellsPattern pattern.now p
-        → IsReadOut (R.remaining input.old) (R.remaining input.new)) }
+        → IsReadOut (remaining_in R.remaining input.old) (remaining_in R.remaining input.new)) }
     ensures unread { IsNoPattern pattern.now → input.new ≡ input.old }
+    ensures same_input { IsSameInput input.old input.new }
+    ensures same_output { IsSameOutput out.old out.new }
+    ensures read_cause { TellsRead input.new result }
+    ensures write_cause { TellsWrite out.new result }
 {
     let reading = read_pattern(alloc, pattern)?;
     match_over(alloc, reading, &mut bank, pattern, input, out, place)
@@ -130,24 +218,32 @@ fn match_over<B: TermBank, R: Read, W: Write>(
     reading: Reading<Pattern>,
     bank: &mut B,
     pattern: &[u8],
-    input: &mut R,
-    out: &mut W,
+    input: &mut Input<'_, R>,
+    out: &mut Output<'_, W>,
     place: &mut Option<Place>,
 ) -> Result<Finish, RunFault>
     requires read { IsPatternRead pattern.now reading }
     requires no_place { place.old ≡ None }
+    requires readable { IsReadable input.old }
+    requires writable { IsWritable out.old }
     ensures output { IfOk result (λ finish. EndsFor (IsMatchDue pattern.now)
-        (R.remaining input.old) finish (W.contents out.old) (W.contents out.new)) }
+        (remaining_in R.remaining input.old) finish (contents_of W.contents out.old)
+        (contents_of W.contents out.new)) }
     ensures place { OnOk result
-        (IsPlacedFor (IsMatchDue pattern.now) (R.remaining input.old) place.new) }
+        (IsPlacedFor (IsMatchDue pattern.now) (remaining_in R.remaining input.old) place.new) }
     ensures fault { IfErr result (λ fault. BreaksFor (IsMatchDue pattern.now)
-        (R.remaining input.old) fault (W.contents out.old) (W.contents out.new)) }
+        (remaining_in R.remaining input.old) fault (contents_of W.contents out.old)
+        (contents_of W.contents out.new)) }
     ensures no_place { OnErr result (place.new ≡ None) }
     ensures room { IfErr result (RoomFills (B.store bank.old) (B.store bank.new)) }
     ensures cap { (B.store bank.new).cap ≡ (B.store bank.old).cap }
     ensures input_read { OnOk result ((p : Tree) → SpellsPattern pattern.now p
-        → IsReadOut (R.remaining input.old) (R.remaining input.new)) }
+        → IsReadOut (remaining_in R.remaining input.old) (remaining_in R.remaining input.new)) }
     ensures unread { IsNoPattern pattern.now → input.new ≡ input.old }
+    ensures same_input { IsSameInput input.old input.new }
+    ensures same_output { IsSameOutput out.old out.new }
+    ensures read_cause { TellsRead input.new result }
+    ensures write_cause { TellsWrite out.new result }
 {
     let answer = match_reading(alloc, reading, input, bank)?;
     end_answer(alloc, bank, &answer, out, place)
@@ -187,6 +283,31 @@ pub fn run_make_at<W: Write>(
     ensures no_place { OnErr result (place.new ≡ None) }
     ensures no_reader { IfErr result (λ fault. fault ≢ RunFault.Read) }
 {
+    let mut output = Output::new(out);
+    make_alone(alloc, pattern, args, &mut output, place)
+}
+
+/// The same to an output. It is asked no more once it refused.
+fn make_alone<W: Write>(
+    alloc: Global,
+    pattern: &[u8],
+    args: &[u8],
+    out: &mut Output<'_, W>,
+    place: &mut Option<Place>,
+) -> Result<Finish, RunFault>
+    requires { IsWritable out.old }
+    ensures output { IfOk result (λ finish.
+        Ends (IsMakeDue pattern.now args.now) finish (contents_of W.contents out.old)
+        (contents_of W.contents out.new)) }
+    ensures place { OnOk result (IsPlaced (IsMakeDue pattern.now args.now) place.new) }
+    ensures fault { IfErr result (λ fault.
+        Breaks (IsMakeDue pattern.now args.now) fault (contents_of W.contents out.old)
+        (contents_of W.contents out.new)) }
+    ensures no_place { OnErr result (place.new ≡ None) }
+    ensures no_reader { IfErr result (λ fault. fault ≢ RunFault.Read) }
+    ensures same { IsSameOutput out.old out.new }
+    ensures cause { TellsWrite out.new result }
+{
     *place = None;
     match empty_bank(alloc, MOST_CELLS) {
         Ok(bank) => make_owned(alloc, bank, pattern, args, out, place),
@@ -218,6 +339,37 @@ pub fn run_make_in<B: TermBank, W: Write>(
         × ((B.store bank.new).cap ≡ (B.store bank.old).cap) }
     ensures no_reader { IfErr result (λ fault. fault ≢ RunFault.Read) }
 {
+    let mut output = Output::new(out);
+    make_in(alloc, patterns, bank, pattern, args, &mut output, place)
+}
+
+/// The same to an output. It is asked no more once it refused.
+fn make_in<B: TermBank, W: Write>(
+    alloc: Global,
+    patterns: &mut B,
+    bank: &mut B,
+    pattern: &[u8],
+    args: &[u8],
+    out: &mut Output<'_, W>,
+    place: &mut Option<Place>,
+) -> Result<Finish, RunFault>
+    requires { IsWritable out.old }
+    ensures output { IfOk result (λ finish.
+        Ends (IsMakeDue pattern.now args.now) finish (contents_of W.contents out.old)
+        (contents_of W.contents out.new)) }
+    ensures place { OnOk result (IsPlaced (IsMakeDue pattern.now args.now) place.new) }
+    ensures fault { IfErr result (λ fault.
+        Breaks (IsMakeDue pattern.now args.now) fault (contents_of W.contents out.old)
+        (contents_of W.contents out.new)) }
+    ensures no_place { OnErr result (place.new ≡ None) }
+    ensures room { IfErr result (RoomFillsOne (B.store patterns.old) (B.store patterns.new)
+        (B.store bank.old) (B.store bank.new)) }
+    ensures caps { ((B.store patterns.new).cap ≡ (B.store patterns.old).cap)
+        × ((B.store bank.new).cap ≡ (B.store bank.old).cap) }
+    ensures no_reader { IfErr result (λ fault. fault ≢ RunFault.Read) }
+    ensures same { IsSameOutput out.old out.new }
+    ensures cause { TellsWrite out.new result }
+{
     *place = None;
     let reading = read_pattern_in(alloc, pattern, patterns)?;
     make_over(alloc, reading, bank, pattern, args, out, place)
@@ -229,17 +381,22 @@ fn make_owned<B: TermBank + Drop, W: Write>(
     mut bank: B,
     pattern: &[u8],
     args: &[u8],
-    out: &mut W,
+    out: &mut Output<'_, W>,
     place: &mut Option<Place>,
 ) -> Result<Finish, RunFault>
-    requires { place.old ≡ None }
+    requires no_place { place.old ≡ None }
+    requires open { IsWritable out.old }
     ensures output { IfOk result (λ finish.
-        Ends (IsMakeDue pattern.now args.now) finish (W.contents out.old) (W.contents out.new)) }
+        Ends (IsMakeDue pattern.now args.now) finish (contents_of W.contents out.old)
+        (contents_of W.contents out.new)) }
     ensures place { OnOk result (IsPlaced (IsMakeDue pattern.now args.now) place.new) }
     ensures fault { IfErr result (λ fault.
-        Breaks (IsMakeDue pattern.now args.now) fault (W.contents out.old) (W.contents out.new)) }
+        Breaks (IsMakeDue pattern.now args.now) fault (contents_of W.contents out.old)
+        (contents_of W.contents out.new)) }
     ensures no_place { OnErr result (place.new ≡ None) }
     ensures no_reader { IfErr result (λ fault. fault ≢ RunFault.Read) }
+    ensures same { IsSameOutput out.old out.new }
+    ensures cause { TellsWrite out.new result }
 {
     let reading = read_pattern(alloc, pattern)?;
     make_over(alloc, reading, &mut bank, pattern, args, out, place)
@@ -252,20 +409,25 @@ fn make_over<B: TermBank, W: Write>(
     bank: &mut B,
     pattern: &[u8],
     args: &[u8],
-    out: &mut W,
+    out: &mut Output<'_, W>,
     place: &mut Option<Place>,
 ) -> Result<Finish, RunFault>
     requires read { IsPatternRead pattern.now reading }
     requires no_place { place.old ≡ None }
+    requires open { IsWritable out.old }
     ensures output { IfOk result (λ finish.
-        Ends (IsMakeDue pattern.now args.now) finish (W.contents out.old) (W.contents out.new)) }
+        Ends (IsMakeDue pattern.now args.now) finish (contents_of W.contents out.old)
+        (contents_of W.contents out.new)) }
     ensures place { OnOk result (IsPlaced (IsMakeDue pattern.now args.now) place.new) }
     ensures fault { IfErr result (λ fault.
-        Breaks (IsMakeDue pattern.now args.now) fault (W.contents out.old) (W.contents out.new)) }
+        Breaks (IsMakeDue pattern.now args.now) fault (contents_of W.contents out.old)
+        (contents_of W.contents out.new)) }
     ensures no_place { OnErr result (place.new ≡ None) }
     ensures room { IfErr result (RoomFills (B.store bank.old) (B.store bank.new)) }
     ensures cap { (B.store bank.new).cap ≡ (B.store bank.old).cap }
     ensures no_reader { IfErr result (λ fault. fault ≢ RunFault.Read) }
+    ensures same { IsSameOutput out.old out.new }
+    ensures cause { TellsWrite out.new result }
 {
     let answer = make_of_reading(alloc, reading, args, bank)?;
     end_answer(alloc, bank, &answer, out, place)
@@ -277,22 +439,25 @@ fn end_answer<B: TermBank, W: Write>(
     alloc: Global,
     bank: &B,
     answer: &Reading<Answer>,
-    out: &mut W,
+    out: &mut Output<'_, W>,
     place: &mut Option<Place>,
 ) -> Result<Finish, RunFault>
     requires held { IsAnswerHeld (B.store bank.now) answer.now }
     requires no_place { place.old ≡ None }
+    requires open { IsWritable out.old }
     ensures ends { IfOk result (λ finish. finish ≡ finish_of answer.now) }
-    ensures ok { OnOk result (Appends (W.contents out.old) (W.contents out.new)
+    ensures ok { OnOk result (Writes W.contents out.old out.new
         (answer_due (B.store bank.now) answer.now).text) }
     ensures place { OnOk result (place.new ≡ place_of answer.now) }
     ensures err { IfErr result (λ fault. Stops fault (answer_due (B.store bank.now) answer.now).text
-        (W.contents out.old) (W.contents out.new)) }
+        (contents_of W.contents out.old) (contents_of W.contents out.new)) }
     ensures no_place { OnErr result (place.new ≡ None) }
     ensures writing { IfErr result StopsWriting }
+    ensures same { IsSameOutput out.old out.new }
+    ensures cause { TellsWrite out.new result }
 {
     write_answer(alloc, bank, answer, out)?;
-    flush(out)?;
+    out.flush()?;
     *place = answer.place();
     Ok(answer.finish())
 }

@@ -3,16 +3,18 @@
 ghost use Rattle.std.specs.Prelude.{◌≡◌, ◌<◌, ◌≤◌, IfOk, IfErr, OnOk};
 ghost use Rattle.rx_term.specs.Steps.{Grows};
 ghost use Rattle.rx_text.specs.Verdict.{Verdict, IsVerdict};
+ghost use Rattle.rx_text.specs.Input.{IsReadable, IsSameInput, remaining_in};
 ghost use Rattle.rx_shared.specs.State.{IsEmptyStore, store_of};
 ghost use Rattle.rx_run.specs.Run.{IsReadOut, RanOut, StopsUnwritten};
+ghost use Rattle.rx_run.specs.Streams.{TellsRead};
 ghost use Rattle.rx_run.specs.TermRuns.{IsGiven, IsReadingOf};
 
 use crate::ending::{RunFault, Source};
 use crate::refusal::{Reading, Reason};
-use crate::streams::read_all;
+use crate::streams::read_all_from;
 use rx_shared::SharedBank;
 use rx_term::{Term, TermBank};
-use rx_text::TextFault;
+use rx_text::{Input, TextFault};
 use std::alloc::Global;
 use std::io::Read;
 
@@ -22,16 +24,20 @@ pub const MOST_CELLS: u32 = 1_073_741_824;
 /// Reads the text of a term into a bank.
 pub(crate) fn read_term<B: TermBank, R: Read>(
     alloc: Global,
-    input: &mut R,
+    input: &mut Input<'_, R>,
     bank: &mut B,
 ) -> Result<Reading<Term>, RunFault>
+    requires { IsReadable input.old }
     ensures read { IfOk result
-        (λ reading. IsGiven (R.remaining input.old) (B.store bank.new) reading) }
+        (λ reading. IsGiven (remaining_in R.remaining input.old) (B.store bank.new) reading) }
     ensures grows { Grows (B.store bank.old) (B.store bank.new) }
-    ensures out { OnOk result (IsReadOut (R.remaining input.old) (R.remaining input.new)) }
+    ensures out { OnOk result
+        (IsReadOut (remaining_in R.remaining input.old) (remaining_in R.remaining input.new)) }
     ensures fault { IfErr result (StopsUnwritten (B.store bank.old) (B.store bank.new)) }
+    ensures same { IsSameInput input.old input.new }
+    ensures cause { TellsRead input.new result }
 {
-    let text = read_all(alloc, input)?;
+    let text = read_all_from(alloc, input)?;
     parse(alloc, Source::Term, &text, bank)
 }
 

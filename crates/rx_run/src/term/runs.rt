@@ -1,12 +1,14 @@
 //! Runs on the text of one term: printing it, and counting its different parts.
 
 ghost use Rattle.std.specs.Prelude.{◌≡◌, ℕ, None, IfErr, IfOk, IfSome, IsSome, OnErr, OnOk};
-ghost use Rattle.std.specs.Io.KnownBytes.{Appends};
 ghost use Rattle.rx_term.specs.Parts.{part_count};
 ghost use Rattle.rx_term.specs.Store.{tree_at};
-ghost use Rattle.rx_text.specs.Written.{AppendsFront};
+ghost use Rattle.rx_text.specs.Input.{IsReadable, IsSameInput, remaining_in};
+ghost use Rattle.rx_text.specs.Output.{IsSameOutput, IsWritable, TellsRefusal, Writes};
+ghost use Rattle.rx_text.specs.Output.{WritesFront, contents_of};
 ghost use Rattle.rx_run.specs.Run.{BreaksFor, EndsFor, IsPlacedFor, IsReadOut, RoomFills, Stops};
 ghost use Rattle.rx_run.specs.Run.{StopsWriting};
+ghost use Rattle.rx_run.specs.Streams.{TellsRead, TellsWrite};
 ghost use Rattle.rx_run.specs.TermRuns.{
   IsDueOf,
   IsShareDue,
@@ -23,9 +25,9 @@ ghost use Rattle.rx_run.specs.TermRuns.{
 use crate::ending::{Finish, Place, RunFault};
 use crate::refusal::Reading;
 use crate::term::reading::{MOST_CELLS, empty_bank, read_term};
-use crate::writing::{flush, put_numbered, write_line, write_refusal};
+use crate::writing::{put_numbered_to, write_line_to, write_refusal_to};
 use rx_term::{Term, TermBank};
-use rx_text::{RefusedWrite, put};
+use rx_text::{Input, Output, RefusedWrite};
 use std::alloc::Global;
 use std::io::{Read, Write};
 
@@ -70,7 +72,9 @@ pub fn run_aterm_at<R: Read, W: Write>(
     ensures no_place { OnErr result (place.new ≡ None) }
     ensures input_read { OnOk result (IsReadOut (R.remaining input.old) (R.remaining input.new)) }
 {
-    run_on_term(alloc, input, out, TermLines::Text, place)
+    let mut input = Input::new(input);
+    let mut output = Output::new(out);
+    run_on_term(alloc, &mut input, &mut output, TermLines::Text, place)
 }
 
 /// Reads the text of a term, writes its printed text and how many cells it takes, each with a line
@@ -105,7 +109,15 @@ pub fn run_share_at<R: Read, W: Write>(
     ensures no_place { OnErr result (place.new ≡ None) }
     ensures input_read { OnOk result (IsReadOut (R.remaining input.old) (R.remaining input.new)) }
 {
-    run_on_term(alloc, input, out, TermLines::TextAndCells, place)
+    let mut input = Input::new(input);
+    let mut output = Output::new(out);
+    run_on_term(
+        alloc,
+        &mut input,
+        &mut output,
+        TermLines::TextAndCells,
+        place,
+    )
 }
 
 /// `run_aterm_at` over a bank, to which it brings terms and nothing else. Want of cells comes where
@@ -127,7 +139,9 @@ pub fn run_aterm_in<B: TermBank, R: Read, W: Write>(
     ensures cap { (B.store bank.new).cap ≡ (B.store bank.old).cap }
     ensures input_read { OnOk result (IsReadOut (R.remaining input.old) (R.remaining input.new)) }
 {
-    run_over(alloc, bank, input, out, TermLines::Text, place)
+    let mut input = Input::new(input);
+    let mut output = Output::new(out);
+    run_over(alloc, bank, &mut input, &mut output, TermLines::Text, place)
 }
 
 /// `run_share_at` over a bank in which nothing is protected: where the text is a term's, the bank
@@ -150,26 +164,44 @@ pub fn run_share_in<B: TermBank, R: Read, W: Write>(
     ensures cap { (B.store bank.new).cap ≡ (B.store bank.old).cap }
     ensures input_read { OnOk result (IsReadOut (R.remaining input.old) (R.remaining input.new)) }
 {
-    run_over(alloc, bank, input, out, TermLines::TextAndCells, place)
+    let mut input = Input::new(input);
+    let mut output = Output::new(out);
+    run_over(
+        alloc,
+        bank,
+        &mut input,
+        &mut output,
+        TermLines::TextAndCells,
+        place,
+    )
 }
 
 /// Reads the text of a term, writes the lines that are asked for, and flushes; or the line of its
 /// refusal, whose place it gives.
 fn run_on_term<R: Read, W: Write>(
     alloc: Global,
-    input: &mut R,
-    out: &mut W,
+    input: &mut Input<'_, R>,
+    out: &mut Output<'_, W>,
     lines: TermLines,
     place: &mut Option<Place>,
 ) -> Result<Finish, RunFault>
+    requires readable { IsReadable input.old }
+    requires writable { IsWritable out.old }
     ensures output { IfOk result (λ finish. EndsFor (IsDueOf (lines_for lines))
-        (R.remaining input.old) finish (W.contents out.old) (W.contents out.new)) }
+        (remaining_in R.remaining input.old) finish (contents_of W.contents out.old)
+        (contents_of W.contents out.new)) }
     ensures place { OnOk result
-        (IsPlacedFor (IsDueOf (lines_for lines)) (R.remaining input.old) place.new) }
+        (IsPlacedFor (IsDueOf (lines_for lines)) (remaining_in R.remaining input.old) place.new) }
     ensures fault { IfErr result (λ fault. BreaksFor (IsDueOf (lines_for lines))
-        (R.remaining input.old) fault (W.contents out.old) (W.contents out.new)) }
+        (remaining_in R.remaining input.old) fault (contents_of W.contents out.old)
+        (contents_of W.contents out.new)) }
     ensures no_place { OnErr result (place.new ≡ None) }
-    ensures input_read { OnOk result (IsReadOut (R.remaining input.old) (R.remaining input.new)) }
+    ensures input_read { OnOk result (IsReadOut (remaining_in R.remaining input.old)
+        (remaining_in R.remaining input.new)) }
+    ensures same_input { IsSameInput input.old input.new }
+    ensures same_output { IsSameOutput out.old out.new }
+    ensures read_cause { TellsRead input.new result }
+    ensures write_cause { TellsWrite out.new result }
 {
     *place = None;
     match empty_bank(alloc, MOST_CELLS) {
@@ -182,20 +214,29 @@ fn run_on_term<R: Read, W: Write>(
 fn run_owned<B: TermBank + Drop, R: Read, W: Write>(
     alloc: Global,
     mut bank: B,
-    input: &mut R,
-    out: &mut W,
+    input: &mut Input<'_, R>,
+    out: &mut Output<'_, W>,
     lines: TermLines,
     place: &mut Option<Place>,
 ) -> Result<Finish, RunFault>
-    requires { (t : ℕ) → (B.store bank).roots t ≡ 0 }
+    requires unrooted { (t : ℕ) → (B.store bank).roots t ≡ 0 }
+    requires readable { IsReadable input.old }
+    requires writable { IsWritable out.old }
     ensures output { IfOk result (λ finish. EndsFor (IsDueOf (lines_for lines))
-        (R.remaining input.old) finish (W.contents out.old) (W.contents out.new)) }
+        (remaining_in R.remaining input.old) finish (contents_of W.contents out.old)
+        (contents_of W.contents out.new)) }
     ensures place { OnOk result
-        (IsPlacedFor (IsDueOf (lines_for lines)) (R.remaining input.old) place.new) }
+        (IsPlacedFor (IsDueOf (lines_for lines)) (remaining_in R.remaining input.old) place.new) }
     ensures fault { IfErr result (λ fault. BreaksFor (IsDueOf (lines_for lines))
-        (R.remaining input.old) fault (W.contents out.old) (W.contents out.new)) }
+        (remaining_in R.remaining input.old) fault (contents_of W.contents out.old)
+        (contents_of W.contents out.new)) }
     ensures no_place { OnErr result (place.new ≡ None) }
-    ensures input_read { OnOk result (IsReadOut (R.remaining input.old) (R.remaining input.new)) }
+    ensures input_read { OnOk result (IsReadOut (remaining_in R.remaining input.old)
+        (remaining_in R.remaining input.new)) }
+    ensures same_input { IsSameInput input.old input.new }
+    ensures same_output { IsSameOutput out.old out.new }
+    ensures read_cause { TellsRead input.new result }
+    ensures write_cause { TellsWrite out.new result }
 {
     run_over(alloc, &mut bank, input, out, lines, place)
 }
@@ -204,27 +245,36 @@ fn run_owned<B: TermBank + Drop, R: Read, W: Write>(
 fn run_over<B: TermBank, R: Read, W: Write>(
     alloc: Global,
     bank: &mut B,
-    input: &mut R,
-    out: &mut W,
+    input: &mut Input<'_, R>,
+    out: &mut Output<'_, W>,
     lines: TermLines,
     place: &mut Option<Place>,
 ) -> Result<Finish, RunFault>
-    requires { IsUnrooted lines (B.store bank.old) }
+    requires unrooted { IsUnrooted lines (B.store bank.old) }
+    requires readable { IsReadable input.old }
+    requires writable { IsWritable out.old }
     ensures output { IfOk result (λ finish. EndsFor (IsDueOf (lines_for lines))
-        (R.remaining input.old) finish (W.contents out.old) (W.contents out.new)) }
+        (remaining_in R.remaining input.old) finish (contents_of W.contents out.old)
+        (contents_of W.contents out.new)) }
     ensures place { OnOk result
-        (IsPlacedFor (IsDueOf (lines_for lines)) (R.remaining input.old) place.new) }
+        (IsPlacedFor (IsDueOf (lines_for lines)) (remaining_in R.remaining input.old) place.new) }
     ensures fault { IfErr result (λ fault. BreaksFor (IsDueOf (lines_for lines))
-        (R.remaining input.old) fault (W.contents out.old) (W.contents out.new)) }
+        (remaining_in R.remaining input.old) fault (contents_of W.contents out.old)
+        (contents_of W.contents out.new)) }
     ensures no_place { OnErr result (place.new ≡ None) }
     ensures room { IfErr result (RoomFills (B.store bank.old) (B.store bank.new)) }
     ensures cap { (B.store bank.new).cap ≡ (B.store bank.old).cap }
-    ensures input_read { OnOk result (IsReadOut (R.remaining input.old) (R.remaining input.new)) }
+    ensures input_read { OnOk result (IsReadOut (remaining_in R.remaining input.old)
+        (remaining_in R.remaining input.new)) }
+    ensures same_input { IsSameInput input.old input.new }
+    ensures same_output { IsSameOutput out.old out.new }
+    ensures read_cause { TellsRead input.new result }
+    ensures write_cause { TellsWrite out.new result }
 {
     *place = None;
     let reading = read_term(alloc, input, bank)?;
     write_due(alloc, bank, &reading, lines, out)?;
-    flush(out)?;
+    out.flush()?;
     *place = reading.place();
     Ok(reading.finish())
 }
@@ -235,20 +285,23 @@ fn write_due<B: TermBank, W: Write>(
     bank: &mut B,
     reading: &Reading<Term>,
     lines: TermLines,
-    out: &mut W,
+    out: &mut Output<'_, W>,
 ) -> Result<(), RunFault>
     requires held { IsTermHeld (B.store bank.old) reading.now }
     requires unrooted { IsUnrooted lines (B.store bank.old) }
-    ensures ok { OnOk result (Appends (W.contents out.old) (W.contents out.new)
+    requires open { IsWritable out.old }
+    ensures ok { OnOk result (Writes W.contents out.old out.new
         (due_at (lines_for lines) (B.store bank.old) reading.now).text) }
     ensures err { IfErr result (λ fault.
         Stops fault (due_at (lines_for lines) (B.store bank.old) reading.now).text
-        (W.contents out.old) (W.contents out.new)) }
+        (contents_of W.contents out.old) (contents_of W.contents out.new)) }
     ensures writing { IfErr result StopsWriting }
     ensures cap { (B.store bank.new).cap ≡ (B.store bank.old).cap }
+    ensures same { IsSameOutput out.old out.new }
+    ensures cause { TellsWrite out.new result }
 {
     match reading {
-        Reading::Refused(refusal) => write_refusal(*refusal, out)?,
+        Reading::Refused(refusal) => write_refusal_to(*refusal, out)?,
         Reading::Good(t) => write_term_lines(alloc, bank, *t, lines, out)?,
     }
     Ok(())
@@ -260,20 +313,23 @@ fn write_term_lines<B: TermBank, W: Write>(
     bank: &mut B,
     t: Term,
     lines: TermLines,
-    out: &mut W,
+    out: &mut Output<'_, W>,
 ) -> Result<(), RunFault>
     requires held { IsSome (tree_at (B.store bank.old) t) }
     requires unrooted { IsUnrooted lines (B.store bank.old) }
-    ensures ok { OnOk result (Appends (W.contents out.old) (W.contents out.new)
+    requires open { IsWritable out.old }
+    ensures ok { OnOk result (Writes W.contents out.old out.new
         (lines_at (lines_for lines) (B.store bank.old) t)) }
     ensures err { IfErr result
         (λ fault. Stops fault (lines_at (lines_for lines) (B.store bank.old) t)
-        (W.contents out.old) (W.contents out.new)) }
+        (contents_of W.contents out.old) (contents_of W.contents out.new)) }
     ensures writing { IfErr result StopsWriting }
     ensures cap { (B.store bank.new).cap ≡ (B.store bank.old).cap }
+    ensures same { IsSameOutput out.old out.new }
+    ensures cause { TellsWrite out.new result }
 {
     match lines {
-        TermLines::Text => write_line(alloc, bank, t, 0, out),
+        TermLines::Text => write_line_to(alloc, bank, t, 0, out),
         TermLines::TextAndCells => write_counted(alloc, bank, t, out),
     }
 }
@@ -283,19 +339,22 @@ fn write_counted<B: TermBank, W: Write>(
     alloc: Global,
     bank: &mut B,
     t: Term,
-    out: &mut W,
+    out: &mut Output<'_, W>,
 ) -> Result<(), RunFault>
     requires held { IsSome (tree_at (B.store bank.old) t) }
     requires unrooted { (r : ℕ) → (B.store bank.old).roots r ≡ 0 }
-    ensures ok { OnOk result (Appends (W.contents out.old) (W.contents out.new)
+    requires open { IsWritable out.old }
+    ensures ok { OnOk result (Writes W.contents out.old out.new
         (lines_at share_lines (B.store bank.old) t)) }
     ensures err { IfErr result (λ fault. Stops fault (lines_at share_lines (B.store bank.old) t)
-        (W.contents out.old) (W.contents out.new)) }
+        (contents_of W.contents out.old) (contents_of W.contents out.new)) }
     ensures writing { IfErr result StopsWriting }
     ensures cap { (B.store bank.new).cap ≡ (B.store bank.old).cap }
+    ensures same { IsSameOutput out.old out.new }
+    ensures cause { TellsWrite out.new result }
 {
     let cells = keep_alone(bank, t);
-    write_line(alloc, bank, t, 0, out)?;
+    write_line_to(alloc, bank, t, 0, out)?;
     write_cells(cells, out)?;
     Ok(())
 }
@@ -313,13 +372,16 @@ fn keep_alone<B: TermBank>(bank: &mut B, t: Term) -> u32
 }
 
 /// Writes how many cells there are, and a line end.
-fn write_cells<W: Write>(cells: u32, out: &mut W) -> Result<(), RefusedWrite>
+fn write_cells<W: Write>(cells: u32, out: &mut Output<'_, W>) -> Result<(), RefusedWrite>
+    requires { IsWritable out.old }
     ensures ok { OnOk result
-        (Appends (W.contents out.old) (W.contents out.new) (cells_line cells)) }
+        (Writes W.contents out.old out.new (cells_line cells)) }
     ensures err { OnErr result
-        (AppendsFront (cells_line cells) (W.contents out.old) (W.contents out.new)) }
+        (WritesFront W.contents out.old out.new (cells_line cells)) }
+    ensures same { IsSameOutput out.old out.new }
+    ensures cause { TellsRefusal out.new result }
 {
-    put_numbered(out, b"cells ", u64::from(cells))?;
-    put(out, b"\n")?;
+    put_numbered_to(out, b"cells ", u64::from(cells))?;
+    out.put(b"\n")?;
     Ok(())
 }

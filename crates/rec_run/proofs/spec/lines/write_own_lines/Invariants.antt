@@ -1,7 +1,9 @@
 use Rattle.std.proofs.Common.{[], take}
 use Rattle.std.specs.Io.KnownBytes.{Appends}
 use Rattle.rx_term.specs.Steps.{Keeps}
+use Rattle.rx_text.specs.Output.{IsSameOutput, IsWritable}
 use Rattle.rec_engine.specs.Engine.{SameEngine}
+use Rattle.rec_run.specs.Output.{bare}
 use Rattle.rec_run.specs.Reading.{line_text}
 use Rattle.rx_run.proofs.LineFrontLemmas.{lines_of}
 use Rattle.rec_run.proofs.spec.lines.write_own_lines.Given as goal
@@ -11,5 +13,7 @@ abbrev pub invariant-loop-i : goal.invariant-loop-i
 invariant-loop-i g l = record {
   same : SameEngine l.fn.engine l.engine;
   keeps : Keeps (g.B.TermBank.store l.fn.engine.bank) (g.B.TermBank.store l.engine.bank) [];
-  written : Appends (g.W.Write.contents l.fn.out) (g.W.Write.contents l.out) (lines_of (line_text l.fn.engine.spec l.options.count l.options.steps) (take l.i l.fn.engine.spec.terms));
+  written : Appends (g.W.Write.contents l.fn.out.writer.now) (g.W.Write.contents l.out.writer.now) (lines_of (line_text l.fn.engine.spec (bare l.options.count) l.options.steps) (take l.i l.fn.engine.spec.terms));
+  writable : IsWritable l.out;
+  same_output : IsSameOutput l.fn.out l.out;
 }

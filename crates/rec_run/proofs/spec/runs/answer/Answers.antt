@@ -1,7 +1,9 @@
-use Rattle.std.proofs.Common.{IfOk, ◌≡◌, subst}
+use Rattle.std.proofs.Common.{IfOk, ◌≡◌, ◌≢◌, subst}
+use Rattle.rec_run.specs.Output.{shown_by}
 use Rattle.rec_run.specs.GivenTerms.{run_due}
 use Rattle.rec_run.specs.Run.{HasRoom, RoomExhausts}
 use Rattle.rec_run.proofs.RunEndLemmas.{ends_behind, err_behind, fault_behind, ok_behind}
+use Rattle.rx_run.specs.declared.ending.RunFault.TheVariants.{Read}
 use Rattle.rec_run.proofs.spec.runs.answer.Goals as goal
 
 pub returns-clause-ends : goal.returns-clause-ends
@@ -11,12 +13,12 @@ returns-clause-ends g c =
 
 pub returns-clause-ok : goal.returns-clause-ok
 returns-clause-ok g c =
-    let text = (run_due (g.B.TermBank.store c.args.bank) c.args.options.count c.args.options.steps c.args.reading).text in
+    let text = (run_due (g.B.TermBank.store c.args.bank) (shown_by c.args.options.count c.args.limits) c.args.options.steps c.args.reading).text in
     ok_behind _ _ _ text _ c.write_due-written.result.written c.end_run.result c.end_run.ensures.ends c.write_due-written.ensures.ok
 
 pub returns-clause-err : goal.returns-clause-err
 returns-clause-err g c =
-    let text = (run_due (g.B.TermBank.store c.args.bank) c.args.options.count c.args.options.steps c.args.reading).text in
+    let text = (run_due (g.B.TermBank.store c.args.bank) (shown_by c.args.options.count c.args.limits) c.args.options.steps c.args.reading).text in
     err_behind _ _ _ text _ c.write_due-written.result.written c.end_run.result c.end_run.ensures.ends c.write_due-written.ensures.ok c.write_due-written.ensures.err
 
 pub returns-clause-room : goal.returns-clause-room
@@ -27,3 +29,7 @@ returns-clause-room g c =
 pub returns-clause-cells : goal.returns-clause-cells
 returns-clause-cells g c = λ refused.
     fault_behind _ _ _ HasRoom tt c.write_due-written.result.written c.end_run.result c.end_run.ensures.ends (c.write_due-written.ensures.cells refused)
+
+pub returns-clause-no_reader : goal.returns-clause-no_reader
+returns-clause-no_reader g c =
+    fault_behind _ _ _ (λ fault. fault ≢ Read) (λ is. cc is) c.write_due-written.result.written c.end_run.result c.end_run.ensures.ends c.write_due-written.ensures.no_reader

@@ -12,20 +12,21 @@ use Rattle.rx_run.specs.declared.refusal.Reading.{Reading}
 use Rattle.rx_run.proofs.FaultLemmas.{unwritten_later}
 use Rattle.rx_run.proofs.PatternDueLemmas.{due_read, if_ok_map, spelt_due}
 use Rattle.rx_run.proofs.TermDueLemmas.{refused_due}
+use Rattle.rx_run.proofs.StreamLemmas.{read_ran_out}
 use Rattle.rx_run.proofs.pattern.answer.match_input.Goals as goal
 
 pub returns-in-Refused-clause-due : goal.returns-in-Refused-clause-due
 returns-in-Refused-clause-due g c =
     let w = g.B.TermBank.store c.read_term.new.bank in
     let lines = λ (t : Tree). match_lines (matching c.args.pattern.now t) in
-    let v = subst (λ (r : Reading Term). IsGiven (g.R.Read.remaining c.args.input.now) w r) c.in-Refused.is c.in_ok-refusal.ensures.read in
+    let v = subst (λ (r : Reading Term). IsGiven (g.R.Read.remaining c.args.input.now.reader.now) w r) c.in-Refused.is c.in_ok-refusal.ensures.read in
     due_read _ (refusal_due c.in-Refused.refusal) (due_of lines) v.0 v.2 (refused_due lines c.in-Refused.refusal v.0 v.1)
 
 pub returns-in-Good-clause-due : goal.returns-in-Good-clause-due
 returns-in-Good-clause-due g c =
     let w = g.B.TermBank.store c.read_term.new.bank in
     let lines = λ (t : Tree). match_lines (matching c.args.pattern.now t) in
-    let v = subst (λ (r : Reading Term). IsGiven (g.R.Read.remaining c.args.input.now) w r) c.in-Good.is c.in_ok-refusal.ensures.read in
+    let v = subst (λ (r : Reading Term). IsGiven (g.R.Read.remaining c.args.input.now.reader.now) w r) c.in-Good.is c.in_ok-refusal.ensures.read in
     if_ok_map c.match_term.result _ _
     (λ answer h. due_read _ (answer_due (g.B.TermBank.store c.match_term.new.bank) answer) (due_of lines) v.0 v.2 (spelt_due (due_of lines) source.Term w c.in-Good.t v.0 v.1 _ h))
     c.match_term.ensures.due
@@ -36,3 +37,7 @@ returns-in-Good-clause-fault g c =
     let mid = g.B.TermBank.store c.read_term.new.bank in
     let new = g.B.TermBank.store c.match_term.new.bank in
     IfErr-weaker c.match_term.result _ _ (λ f h. unwritten_later old mid new f c.in_ok-refusal.ensures.grows h) c.match_term.ensures.fault
+
+pub returns-in-Good-clause-cause : goal.returns-in-Good-clause-cause
+returns-in-Good-clause-cause g c =
+    read_ran_out c.read_term.new.input c.match_term.result (g.B.TermBank.store c.read_term.new.bank) (g.B.TermBank.store c.match_term.new.bank) c.in_ok-refusal.ensures.cause c.match_term.ensures.fault

@@ -12,8 +12,8 @@ pub returns-in_err-flush-clause-err : goal.returns-in_err-flush-clause-err
 returns-in_err-flush-clause-err g c =
     let text = (answer_due (g.B.TermBank.store c.args.bank.now) c.args.answer.now).text in
     if_err_at c.from_residual-in_err-flush.result _ Write c.from_residual-in_err-flush.ensures.1
-    (flush_refused text _ _ _ c.in_ok-write_answer.ensures.ok c.in_err-flush.ensures)
+    (flush_refused text _ _ _ c.in_ok-write_answer.ensures.ok c.in_err-flush.ensures.kept)
 
 pub returns-clause-ok : goal.returns-clause-ok
 returns-clause-ok g c =
-    appends_flushed (answer_due (g.B.TermBank.store c.args.bank.now) c.args.answer.now).text _ _ _ c.in_ok-write_answer.ensures.ok c.in_ok-flush.ensures
+    appends_flushed (answer_due (g.B.TermBank.store c.args.bank.now) c.args.answer.now).text _ _ _ c.in_ok-write_answer.ensures.ok c.in_ok-flush.ensures.kept

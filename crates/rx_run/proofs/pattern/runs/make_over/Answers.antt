@@ -2,11 +2,12 @@ use Rattle.std.proofs.Common.{Some}
 use Rattle.std.proofs.lemmas.Result.{IfErr-weaker}
 use Rattle.rx_run.specs.PatternRuns.{IsMakeDue, make_due}
 use Rattle.rx_run.specs.PatternAnswers.{answer_lines}
-use Rattle.rx_run.proofs.FaultLemmas.{no_reader_writing, reports_ran_out, room_ran_out, room_writing}
+use Rattle.rx_run.proofs.FaultLemmas.{no_reader_writing, reports_ran_out, room_ran_out, room_writing, unwritten}
 use Rattle.rx_run.proofs.ErrorLemmas.{if_err_at}
 use Rattle.rx_run.proofs.PatternDueLemmas.{same_due}
 use Rattle.rx_run.proofs.ReadDueLemmas.{breaks_by, ends_by, placed_by}
 use Rattle.rx_run.proofs.WholeRunLemmas.{breaks_unwritten}
+use Rattle.rx_run.proofs.StreamLemmas.{unwritten_unrefused, write_on}
 use Rattle.rx_run.proofs.pattern.runs.make_over.Goals as goal
 
 pub returns-in_err-answer-clause-fault : goal.returns-in_err-answer-clause-fault
@@ -44,3 +45,10 @@ returns-clause-room g c = IfErr-weaker c.end_answer.result _ _ (room_writing (g.
 
 pub returns-clause-no_reader : goal.returns-clause-no_reader
 returns-clause-no_reader g c = IfErr-weaker c.end_answer.result _ _ no_reader_writing c.end_answer.ensures.writing
+
+pub returns-in_err-answer-clause-cause : goal.returns-in_err-answer-clause-cause
+returns-in_err-answer-clause-cause g c =
+    let old = g.B.TermBank.store c.args.bank.now in
+    let new = g.B.TermBank.store c.make_of_reading.new.bank in
+    let f = c.in_err-answer.field-0.0 in
+    write_on c.args.out.now c.from_residual.result f c.from_residual.ensures.1 (λ is. absurd (unwritten_unrefused old new f (unwritten old new f c.in_err-answer.ensures.fault) is))

@@ -2,10 +2,21 @@ use Rattle.rx_run.specs.PatternRuns.{IsMatchDue}
 use Rattle.rx_run.proofs.FaultLemmas.{reports_at_once}
 use Rattle.rx_run.proofs.ErrorLemmas.{if_err_at}
 use Rattle.rx_run.proofs.WholeRunLemmas.{breaks_unwritten}
+use Rattle.rx_run.proofs.StreamLemmas.{at_once_unread, at_once_unwritten, read_on, write_on}
 use Rattle.rx_run.proofs.pattern.runs.match_owned.Goals as goal
 
 pub returns-in_err-reading-clause-fault : goal.returns-in_err-reading-clause-fault
 returns-in_err-reading-clause-fault g c =
     let f = c.in_err-reading.field-0.0 in
     if_err_at c.from_residual.result _ f c.from_residual.ensures.1
-    (breaks_unwritten (IsMatchDue c.args.pattern.now) (g.R.Read.remaining c.args.input.now) f _ (reports_at_once f c.in_err-reading.ensures.fault))
+    (breaks_unwritten (IsMatchDue c.args.pattern.now) (g.R.Read.remaining c.args.input.now.reader.now) f _ (reports_at_once f c.in_err-reading.ensures.fault))
+
+pub returns-in_err-reading-clause-read_cause : goal.returns-in_err-reading-clause-read_cause
+returns-in_err-reading-clause-read_cause g c =
+    let f = c.in_err-reading.field-0.0 in
+    read_on c.args.input.now c.from_residual.result f c.from_residual.ensures.1 (λ is. absurd (at_once_unread f c.in_err-reading.ensures.fault is))
+
+pub returns-in_err-reading-clause-write_cause : goal.returns-in_err-reading-clause-write_cause
+returns-in_err-reading-clause-write_cause g c =
+    let f = c.in_err-reading.field-0.0 in
+    write_on c.args.out.now c.from_residual.result f c.from_residual.ensures.1 (λ is. absurd (at_once_unwritten f c.in_err-reading.ensures.fault is))

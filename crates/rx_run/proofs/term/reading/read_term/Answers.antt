@@ -3,6 +3,7 @@ use Rattle.std.proofs.lemmas.Result.{IfErr-weaker}
 use Rattle.rx_text.specs.Verdict.{IsVerdict}
 use Rattle.rx_run.proofs.FaultLemmas.{unwritten}
 use Rattle.rx_run.proofs.PatternDueLemmas.{if_ok_map}
+use Rattle.rx_run.proofs.StreamLemmas.{read_of, read_ran_out}
 use Rattle.rx_run.proofs.TermDueLemmas.{verdict_given}
 use Rattle.rx_term.proofs.StoreLemmas.{Grows-refl}
 use Rattle.rx_run.proofs.term.reading.read_term.Goals as goal
@@ -18,3 +19,10 @@ returns-clause-fault g c = IfErr-weaker c.parse.result _ _ (unwritten (g.B.TermB
 
 pub returns-in_err-text-clause-grows : goal.returns-in_err-text-clause-grows
 returns-in_err-text-clause-grows g c = Grows-refl (g.B.TermBank.store c.args.bank.now)
+
+pub returns-clause-cause : goal.returns-clause-cause
+returns-clause-cause g c =
+    read_ran_out c.read_all_from.new.input c.parse.result (g.B.TermBank.store c.args.bank.now) (g.B.TermBank.store c.parse.new.bank) c.in_ok-text.ensures.cause c.parse.ensures.fault
+
+pub returns-in_err-text-clause-cause : goal.returns-in_err-text-clause-cause
+returns-in_err-text-clause-cause g c = read_of c.read_all_from.new.input c.from_residual.result c.in_err-text.field-0.0 c.from_residual.ensures.1 c.in_err-text.ensures.cause
