@@ -346,6 +346,9 @@ int main(void)
     for (code = PSILT_OK; code <= PSILT_OPEN; code++)
         SAME(0, strcmp(psilt_errstr(code), "no code of this library") == 0);
     SAME(0, strcmp(psilt_errstr(4294967295u), "no code of this library"));
-    printf(failures ? "%d failed\n" : "all as wanted\n", failures);
+    if (failures)
+        printf("%d failed\n", failures);
+    else
+        printf("all as wanted\n");
     return failures ? 1 : 0;
 }
