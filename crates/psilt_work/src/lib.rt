@@ -15,3 +15,6 @@ pub mod work;
 pub use fault::Fault;
 pub use handle::Psilt;
 pub use work::Work;
+
+#[cfg(test)]
+mod tests;
