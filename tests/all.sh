@@ -21,4 +21,5 @@ try "$tests/help.py" "$program"
 try "$tests/examples.py" "$program"
 try "$tests/editors.py"
 try "$tests/package.sh" "$@"
+try "$tests/clib.py"
 [ "$failed" -eq 0 ]

@@ -1,0 +1,354 @@
+/* Uses every call once and more, and compares what it answers with what was worked out by hand. */
+#include "../percalesilt.h"
+#include <stdio.h>
+#include <stdlib.h>
+#include <string.h>
+
+static int failures = 0;
+
+#define SAME(want, have) same(__LINE__, #have, (long long)(want), (long long)(have))
+
+static void same(int line, const char *what, long long want, long long have)
+{
+    if (want != have) {
+        printf("line %d: %s is %lld, not %lld\n", line, what, have, want);
+        failures++;
+    }
+}
+
+#define BYTES(text) (const uint8_t *)(text), strlen(text)
+
+static psilt_term reads(psilt *p, const char *text)
+{
+    psilt_term term = 0;
+    SAME(PSILT_OK, psilt_read(p, BYTES(text), &term));
+    return term;
+}
+
+/* Compares the handle's text, which has len bytes. */
+static void is_text(int line, psilt *p, const char *want, size_t len)
+{
+    uint8_t buffer[200];
+    memset(buffer, '#', sizeof buffer);
+    same(line, "length", (long long)strlen(want), (long long)len);
+    same(line, "psilt_text", PSILT_OK, psilt_text(p, buffer, sizeof buffer));
+    if (len >= sizeof buffer || memcmp(buffer, want, len) != 0 || buffer[len] != '#') {
+        printf("line %d: the text is %.*s, not %s\n", line, (int)len, (char *)buffer, want);
+        failures++;
+    }
+}
+
+static void prints(int line, psilt *p, psilt_term term, const char *want)
+{
+    size_t len = 0;
+    same(line, "psilt_print", PSILT_OK, psilt_print(p, term, &len));
+    is_text(line, p, want, len);
+}
+
+#define PRINTS(term, want) prints(__LINE__, &p, term, want)
+
+/* What each call answers of a handle that is closed. */
+static void closed(void)
+{
+    psilt p = PSILT_INIT;
+    uint32_t out = 77, kind = 77;
+    int32_t value = 77;
+    size_t len = 77;
+    bool flag = true;
+    uint8_t bytes[1] = {0};
+    psilt_term terms[1] = {0};
+    SAME(PSILT_CLOSED, psilt_close(&p));
+    SAME(PSILT_CLOSED, psilt_cells(&p, &out));
+    SAME(PSILT_CLOSED, psilt_spare(&p, &out));
+    SAME(PSILT_CLOSED, psilt_reserve(&p, 1));
+    SAME(PSILT_CLOSED, psilt_read(&p, bytes, 0, &out));
+    SAME(PSILT_CLOSED, psilt_place(&p, &out));
+    SAME(PSILT_CLOSED, psilt_print(&p, 0, &len));
+    SAME(PSILT_CLOSED, psilt_text(&p, bytes, 1));
+    SAME(PSILT_CLOSED, psilt_int(&p, 1, &out));
+    SAME(PSILT_CLOSED, psilt_nil(&p, &out));
+    SAME(PSILT_CLOSED, psilt_cons(&p, 0, 0, &out));
+    SAME(PSILT_CLOSED, psilt_appl(&p, bytes, 0, false, terms, 0, &out));
+    SAME(PSILT_CLOSED, psilt_hole(&p, 0, &out));
+    SAME(PSILT_CLOSED, psilt_annotate(&p, 0, 0, &out));
+    SAME(PSILT_CLOSED, psilt_kind(&p, 0, &kind, &value));
+    SAME(PSILT_CLOSED, psilt_head(&p, 0, &out));
+    SAME(PSILT_CLOSED, psilt_tail(&p, 0, &out));
+    SAME(PSILT_CLOSED, psilt_args(&p, 0, &out));
+    SAME(PSILT_CLOSED, psilt_arg(&p, 0, 0, &out));
+    SAME(PSILT_CLOSED, psilt_arity(&p, 0, &out));
+    SAME(PSILT_CLOSED, psilt_name(&p, 0, &len));
+    SAME(PSILT_CLOSED, psilt_quoted(&p, 0, &flag));
+    SAME(PSILT_CLOSED, psilt_inner(&p, 0, &out));
+    SAME(PSILT_CLOSED, psilt_annotations(&p, 0, &out));
+    SAME(PSILT_CLOSED, psilt_holds(&p, 0));
+    SAME(PSILT_CLOSED, psilt_protect(&p, 0));
+    SAME(PSILT_CLOSED, psilt_unprotect(&p, 0));
+    SAME(PSILT_CLOSED, psilt_reclaim(&p, terms, 0));
+    SAME(77, out);
+    SAME(77, kind);
+    SAME(77, value);
+    SAME(77, len);
+    SAME(true, flag);
+}
+
+static void opens_and_closes(void)
+{
+    psilt p = PSILT_INIT;
+    uint32_t out = 77;
+    SAME(PSILT_RANGE, psilt_open(&p, 0));
+    SAME(PSILT_RANGE, psilt_open(&p, 1073741825));
+    SAME(PSILT_RANGE, psilt_open(&p, 4294967295));
+    SAME(PSILT_CLOSED, psilt_cells(&p, &out));
+    SAME(PSILT_OK, psilt_open(&p, 1073741824));
+    SAME(PSILT_OPEN, psilt_open(&p, 5));
+    SAME(PSILT_OK, psilt_cells(&p, &out));
+    SAME(0, out);
+    SAME(PSILT_OK, psilt_close(&p));
+    SAME(PSILT_CLOSED, psilt_close(&p));
+    SAME(PSILT_OK, psilt_open(&p, 1));
+    SAME(PSILT_OK, psilt_close(&p));
+}
+
+static void makes(void)
+{
+    psilt p = PSILT_INIT;
+    psilt_term seven, again, nil, list, both, hole, noted, name, notes, none = 4294967295u;
+    SAME(PSILT_OK, psilt_open(&p, 100));
+    SAME(PSILT_OK, psilt_int(&p, -7, &seven));
+    SAME(PSILT_OK, psilt_int(&p, -7, &again));
+    SAME(seven, again);
+    PRINTS(seven, "-7");
+    SAME(PSILT_OK, psilt_nil(&p, &nil));
+    PRINTS(nil, "[]");
+    SAME(PSILT_OK, psilt_cons(&p, seven, nil, &list));
+    PRINTS(list, "[-7]");
+    psilt_term args[3] = {list, seven, 4294967295u};
+    SAME(PSILT_OK, psilt_appl(&p, BYTES("f"), false, args, 2, &both));
+    PRINTS(both, "f([-7],-7)");
+    SAME(reads(&p, " f ( [ -007 ] , -7 ) "), both);
+    SAME(PSILT_OK, psilt_appl(&p, BYTES("two words"), true, args, 0, &name));
+    PRINTS(name, "\"two words\"");
+    SAME(PSILT_OK, psilt_appl(&p, BYTES(""), false, args, 1, &name));
+    PRINTS(name, "([-7])");
+    SAME(PSILT_OK, psilt_hole(&p, both, &hole));
+    PRINTS(hole, "<f([-7],-7)>");
+    notes = reads(&p, "[at(3,7),x]");
+    SAME(PSILT_OK, psilt_annotate(&p, both, notes, &noted));
+    PRINTS(noted, "f([-7],-7){at(3,7),x}");
+    SAME(PSILT_OK, psilt_annotate(&p, noted, nil, &again));
+    SAME(both, again);
+    /* what is wrong */
+    again = 77;
+    SAME(PSILT_STALE, psilt_cons(&p, none, nil, &again));
+    SAME(PSILT_STALE, psilt_cons(&p, seven, none, &again));
+    SAME(PSILT_KIND, psilt_cons(&p, seven, seven, &again));
+    SAME(PSILT_KIND, psilt_cons(&p, seven, both, &again));
+    SAME(PSILT_KIND, psilt_cons(&p, seven, reads(&p, "[1]{x}"), &again));
+    SAME(PSILT_STALE, psilt_hole(&p, none, &again));
+    SAME(PSILT_STALE, psilt_annotate(&p, none, nil, &again));
+    SAME(PSILT_STALE, psilt_annotate(&p, both, none, &again));
+    SAME(PSILT_KIND, psilt_annotate(&p, both, seven, &again));
+    SAME(PSILT_KIND, psilt_annotate(&p, both, reads(&p, "[]{x}"), &again));
+    SAME(PSILT_STALE, psilt_appl(&p, BYTES("f"), false, args, 3, &again));
+    SAME(PSILT_NAME, psilt_appl(&p, BYTES("two words"), false, args, 0, &again));
+    SAME(PSILT_NAME, psilt_appl(&p, BYTES("0"), false, args, 0, &again));
+    SAME(77, again);
+    SAME(PSILT_OK, psilt_close(&p));
+}
+
+static void takes_apart(void)
+{
+    psilt p = PSILT_INIT;
+    psilt_term term, part, none = 4294967295u;
+    uint32_t kind = 77, out = 77;
+    int32_t value = 77;
+    size_t len = 77;
+    bool flag = false;
+    SAME(PSILT_OK, psilt_open(&p, 1000));
+    term = reads(&p, "\"a b\"(1,[2,3],<int>){n(1),m}");
+    SAME(PSILT_OK, psilt_kind(&p, term, &kind, &value));
+    SAME(PSILT_KIND_APPL, kind);
+    SAME(77, value);
+    SAME(PSILT_OK, psilt_arity(&p, term, &out));
+    SAME(3, out);
+    SAME(PSILT_OK, psilt_quoted(&p, term, &flag));
+    SAME(true, flag);
+    SAME(PSILT_OK, psilt_name(&p, term, &len));
+    is_text(__LINE__, &p, "a b", len);
+    SAME(PSILT_OK, psilt_annotations(&p, term, &part));
+    PRINTS(part, "[n(1),m]");
+    SAME(PSILT_OK, psilt_args(&p, term, &part));
+    PRINTS(part, "[1,[2,3],<int>]");
+    SAME(PSILT_OK, psilt_arg(&p, term, 0, &part));
+    SAME(PSILT_OK, psilt_kind(&p, part, &kind, &value));
+    SAME(PSILT_KIND_INT, kind);
+    SAME(1, value);
+    SAME(PSILT_OK, psilt_arg(&p, term, 1, &part));
+    SAME(PSILT_OK, psilt_kind(&p, part, &kind, &value));
+    SAME(PSILT_KIND_CONS, kind);
+    SAME(PSILT_OK, psilt_head(&p, part, &out));
+    PRINTS(out, "2");
+    SAME(PSILT_OK, psilt_tail(&p, part, &out));
+    PRINTS(out, "[3]");
+    SAME(PSILT_OK, psilt_tail(&p, out, &out));
+    SAME(PSILT_OK, psilt_kind(&p, out, &kind, &value));
+    SAME(PSILT_KIND_NIL, kind);
+    SAME(PSILT_OK, psilt_arg(&p, term, 2, &part));
+    SAME(PSILT_OK, psilt_kind(&p, part, &kind, &value));
+    SAME(PSILT_KIND_HOLE, kind);
+    SAME(PSILT_OK, psilt_inner(&p, part, &out));
+    PRINTS(out, "int");
+    SAME(PSILT_OK, psilt_quoted(&p, out, &flag));
+    SAME(false, flag);
+    SAME(PSILT_OK, psilt_tail(&p, reads(&p, "[1,2]{x}"), &out));
+    PRINTS(out, "[2]");
+    /* what is wrong */
+    out = 77;
+    SAME(PSILT_RANGE, psilt_arg(&p, term, 3, &out));
+    SAME(PSILT_RANGE, psilt_arg(&p, term, 4294967295u, &out));
+    SAME(PSILT_KIND, psilt_head(&p, term, &out));
+    SAME(PSILT_KIND, psilt_tail(&p, reads(&p, "[]"), &out));
+    SAME(PSILT_KIND, psilt_args(&p, part, &out));
+    SAME(PSILT_KIND, psilt_arg(&p, part, 0, &out));
+    SAME(PSILT_KIND, psilt_arity(&p, part, &out));
+    SAME(PSILT_KIND, psilt_quoted(&p, part, &flag));
+    SAME(PSILT_KIND, psilt_name(&p, part, &len));
+    SAME(PSILT_KIND, psilt_inner(&p, term, &out));
+    SAME(PSILT_KIND, psilt_annotations(&p, part, &out));
+    SAME(PSILT_STALE, psilt_kind(&p, none, &kind, &value));
+    SAME(PSILT_STALE, psilt_head(&p, none, &out));
+    SAME(PSILT_STALE, psilt_tail(&p, none, &out));
+    SAME(PSILT_STALE, psilt_args(&p, none, &out));
+    SAME(PSILT_STALE, psilt_arg(&p, none, 0, &out));
+    SAME(PSILT_STALE, psilt_arity(&p, none, &out));
+    SAME(PSILT_STALE, psilt_quoted(&p, none, &flag));
+    SAME(PSILT_STALE, psilt_name(&p, none, &len));
+    SAME(PSILT_STALE, psilt_inner(&p, none, &out));
+    SAME(PSILT_STALE, psilt_annotations(&p, none, &out));
+    SAME(PSILT_STALE, psilt_print(&p, none, &len));
+    SAME(77, out);
+    SAME(PSILT_OK, psilt_close(&p));
+}
+
+static void reads_texts(void)
+{
+    psilt p = PSILT_INIT;
+    uint32_t out = 77, cells = 0;
+    uint8_t short_one[2] = {'#', '#'};
+    static uint8_t long_one[16777217];
+    size_t len = 0;
+    SAME(PSILT_OK, psilt_open(&p, 100));
+    SAME(PSILT_OK, psilt_place(&p, &out));
+    SAME(0, out);
+    out = 77;
+    SAME(PSILT_SYNTAX, psilt_read(&p, BYTES("f(1,,2)"), &out));
+    SAME(77, out);
+    SAME(PSILT_OK, psilt_place(&p, &out));
+    SAME(4, out);
+    SAME(PSILT_SYNTAX, psilt_read(&p, BYTES(""), &out));
+    SAME(PSILT_OK, psilt_place(&p, &out));
+    SAME(0, out);
+    SAME(PSILT_OK, psilt_cells(&p, &cells));
+    SAME(0, cells);
+    memset(long_one, ' ', sizeof long_one);
+    SAME(PSILT_RANGE, psilt_read(&p, long_one, sizeof long_one, &out));
+    long_one[0] = '5';
+    SAME(PSILT_OK, psilt_read(&p, long_one, sizeof long_one - 1, &out));
+    PRINTS(out, "5");
+    SAME(PSILT_OK, psilt_print(&p, reads(&p, "[1,2]"), &len));
+    SAME(5, len);
+    SAME(PSILT_RANGE, psilt_text(&p, short_one, 2));
+    SAME('#', short_one[0]);
+    SAME(PSILT_OK, psilt_close(&p));
+}
+
+static void keeps(void)
+{
+    psilt p = PSILT_INIT;
+    psilt_term kept, rooted, gone, part;
+    uint32_t cells = 0, spare = 0, i;
+    SAME(PSILT_OK, psilt_open(&p, 100));
+    kept = reads(&p, "f(1)");
+    rooted = reads(&p, "[2,3]");
+    gone = reads(&p, "g(4)");
+    SAME(PSILT_OK, psilt_head(&p, rooted, &part));
+    /* f(1), [1], 1, []; [2,3], [3], 2, 3; g(4), [4], 4 */
+    SAME(PSILT_OK, psilt_cells(&p, &cells));
+    SAME(11, cells);
+    SAME(PSILT_OK, psilt_protect(&p, rooted));
+    SAME(PSILT_OK, psilt_protect(&p, rooted));
+    SAME(PSILT_OK, psilt_reclaim(&p, &kept, 1));
+    SAME(PSILT_OK, psilt_cells(&p, &cells));
+    SAME(8, cells);
+    SAME(PSILT_OK, psilt_holds(&p, kept));
+    SAME(PSILT_OK, psilt_holds(&p, part));
+    SAME(PSILT_STALE, psilt_holds(&p, gone));
+    SAME(PSILT_STALE, psilt_protect(&p, gone));
+    SAME(PSILT_UNPROTECTED, psilt_unprotect(&p, gone));
+    SAME(PSILT_UNPROTECTED, psilt_unprotect(&p, kept));
+    SAME(PSILT_UNPROTECTED, psilt_unprotect(&p, 4294967295u));
+    SAME(PSILT_STALE, psilt_reclaim(&p, &gone, 1));
+    SAME(PSILT_OK, psilt_unprotect(&p, rooted));
+    SAME(PSILT_OK, psilt_reclaim(&p, &kept, 0));
+    SAME(PSILT_STALE, psilt_holds(&p, kept));
+    PRINTS(rooted, "[2,3]");
+    SAME(PSILT_OK, psilt_unprotect(&p, rooted));
+    SAME(PSILT_UNPROTECTED, psilt_unprotect(&p, rooted));
+    SAME(PSILT_OK, psilt_reclaim(&p, &kept, 0));
+    SAME(PSILT_OK, psilt_cells(&p, &cells));
+    SAME(0, cells);
+    kept = reads(&p, "7");
+    for (i = 0; i < 65535; i++)
+        if (psilt_protect(&p, kept) != PSILT_OK)
+            failures++;
+    SAME(PSILT_ROOTS, psilt_protect(&p, kept));
+    SAME(PSILT_OK, psilt_reserve(&p, 99));
+    SAME(PSILT_OK, psilt_spare(&p, &spare));
+    SAME(true, spare >= 99);
+    SAME(PSILT_FULL, psilt_reserve(&p, 100));
+    SAME(PSILT_FULL, psilt_reserve(&p, 4294967295u));
+    SAME(PSILT_OK, psilt_close(&p));
+}
+
+/* A store of four cells, in which a fifth is refused, and one that is there is not. */
+static void fills(void)
+{
+    psilt p = PSILT_INIT;
+    psilt_term nil, one, list, longer, out = 77;
+    SAME(PSILT_OK, psilt_open(&p, 4));
+    SAME(PSILT_OK, psilt_nil(&p, &nil));
+    SAME(PSILT_OK, psilt_int(&p, 1, &one));
+    SAME(PSILT_OK, psilt_cons(&p, one, nil, &list));
+    SAME(PSILT_OK, psilt_cons(&p, one, list, &longer));
+    SAME(PSILT_FULL, psilt_int(&p, 2, &out));
+    SAME(PSILT_FULL, psilt_hole(&p, one, &out));
+    SAME(PSILT_FULL, psilt_cons(&p, list, nil, &out));
+    SAME(PSILT_FULL, psilt_annotate(&p, one, list, &out));
+    SAME(PSILT_FULL, psilt_appl(&p, BYTES("f"), false, &one, 1, &out));
+    SAME(PSILT_FULL, psilt_read(&p, BYTES("f(1)"), &out));
+    SAME(77, out);
+    SAME(PSILT_OK, psilt_cons(&p, one, nil, &out));
+    SAME(list, out);
+    SAME(PSILT_OK, psilt_close(&p));
+}
+
+int main(void)
+{
+    uint32_t code;
+    closed();
+    opens_and_closes();
+    makes();
+    takes_apart();
+    reads_texts();
+    keeps();
+    fills();
+    for (code = PSILT_OK; code <= PSILT_OPEN; code++)
+        SAME(0, strcmp(psilt_errstr(code), "no code of this library") == 0);
+    SAME(0, strcmp(psilt_errstr(4294967295u), "no code of this library"));
+    if (failures)
+        printf("%d failed\n", failures);
+    else
+        printf("all as wanted\n");
+    return failures ? 1 : 0;
+}

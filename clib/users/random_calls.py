@@ -1,0 +1,351 @@
+#!/usr/bin/env -S python3 -B
+"""Random calls of the library, compared with a model: a dict from what a term is made of to its reference.
+
+    random_calls.py [CALLS [SEED]]
+"""
+
+import ctypes
+import os
+import random
+import sys
+
+sys.path.insert(0, os.path.dirname(os.path.dirname(os.path.realpath(__file__))))
+
+from percalesilt import (
+    APPL, CONS, FULL, HOLE, INT, KIND, NAME, NIL, OK, RANGE, STALE, UNPROTECTED, BOOL, I32, SIZE, U32, Handle, library,
+)
+
+CELLS = 3000
+PLAIN, QUOTED = (b"f", b"g", b"plus", b""), (b"a b", b"\"\\\n\x01\xff", b"f")
+NAMES = [*((it, False) for it in PLAIN), *((it, True) for it in QUOTED)]
+BAD_NAMES = [b"0", b"a b", b"-", b"f(", b"\xe9"]
+ESCAPES = {34: b'\\"', 92: b"\\\\", 10: b"\\n", 9: b"\\t", 13: b"\\r"}
+
+
+def spelt(byte):
+    """A byte between quotes."""
+    return ESCAPES.get(byte, b"%c" % byte if 32 <= byte <= 126 else b"\\%03o" % byte)
+
+
+class Wrong(Exception):
+    pass
+
+
+class Model:
+    """Nodes by reference, and references by node. A node is a kind, its own value, the references of what it is made
+    of, and that of its annotations, or None."""
+
+    def __init__(self):
+        self.at, self.of, self.roots = {}, {}, {}
+
+    def add(self, number, node):
+        if number in self.at:
+            raise Wrong(f"{number} is given to {node}, and is {self.at[number]}")
+        self.at[number], self.of[node] = node, number
+
+    def is_list(self, number):
+        node = self.at[number]
+        return node[0] in (NIL, CONS) and node[3] is None
+
+    def parts(self, number):
+        _, _, made_of, annotations = self.at[number]
+        return made_of if annotations is None else (*made_of, annotations)
+
+    def reclaim(self, kept):
+        reached, left = set(), [*kept, *self.roots]
+        while left:
+            number = left.pop()
+            if number not in reached:
+                reached.add(number)
+                left.extend(self.parts(number))
+        for number in [it for it in self.at if it not in reached]:
+            del self.of[self.at.pop(number)]
+
+    def items(self, number):
+        while self.at[number][0] == CONS:
+            yield self.at[number][2][0]
+            number = self.at[number][2][1]
+
+    def text(self, number):
+        kind, value, made_of, annotations = self.at[number]
+        if kind == INT:
+            text = b"%d" % value
+        elif kind == HOLE:
+            text = b"<" + self.text(made_of[0]) + b">"
+        elif kind == APPL:
+            name, quoted = value
+            text = name
+            if quoted:
+                text = b'"' + b"".join(map(spelt, name)) + b'"'
+            inside = b",".join(map(self.text, self.items(made_of[0])))
+            if inside or not name and not quoted:
+                text += b"(" + inside + b")"
+        else:
+            text = b"[" + b",".join(map(self.text, self.items(number))) + b"]"
+        if annotations is not None:
+            text += b"{" + b",".join(map(self.text, self.items(annotations))) + b"}"
+        return text
+
+
+class Run:
+    def __init__(self, seed):
+        self.dice = random.Random(seed)
+        self.library, self.handle, self.model = library(), Handle(0, None), Model()
+        self.by_handle = ctypes.byref(self.handle)
+        self.out, self.kind, self.value, self.length, self.flag = U32(), U32(), I32(), SIZE(), BOOL()
+        self.numbers = []
+        self.same("open", OK, self.library.psilt_open(self.by_handle, CELLS))
+
+    def same(self, what, want, have):
+        if want != have:
+            raise Wrong(f"{what}: {have!r}, not {want!r}")
+
+    def call(self, name, *words):
+        self.out.value = 4242
+        return getattr(self.library, f"psilt_{name}")(self.by_handle, *words)
+
+    def pick(self):
+        """A reference, in one of thirty picks a number that may be none."""
+        if not self.numbers or self.dice.random() < 0.03:
+            return self.dice.choice((0, 1, CELLS - 1, CELLS, 2**31, 2**32 - 1, self.dice.randrange(2 * CELLS)))
+        return self.dice.choice(self.numbers)
+
+    def pick_list(self):
+        number = self.pick()
+        for _ in range(4):
+            if number in self.model.at and self.model.is_list(number):
+                break
+            number = self.pick()
+        return number
+
+    def gives(self, name, node, words, given=(), suits=lambda: True):
+        """A call that makes one node, where the references are there and suit."""
+        model = self.model
+        code = self.call(name, *words, ctypes.byref(self.out))
+        number = self.out.value
+        if any(it not in model.at for it in given):
+            want = STALE
+        elif not suits():
+            want = KIND
+        else:
+            made = node()
+            if made in model.of:
+                want = OK
+                self.same(name, model.of[made], number)
+            elif len(model.at) == CELLS:
+                want = FULL
+            else:
+                want = OK
+                if code == OK:
+                    model.add(number, made)
+                    self.numbers.append(number)
+        self.same(name, want, code)
+        self.same(f"{name} writes", True, (code == OK) or number == 4242)
+        return number
+
+    def int(self):
+        value = self.dice.choice((self.dice.randrange(-5, 30), -(2**31), 2**31 - 1))
+        self.gives("int", lambda: (INT, value, (), None), (value,))
+
+    def nil(self):
+        return self.gives("nil", lambda: (NIL, None, (), None), ())
+
+    def cons(self):
+        head, tail = self.pick(), self.pick_list()
+        self.cons_of(head, tail)
+
+    def cons_of(self, head, tail):
+        given = (head, tail)
+        return self.gives("cons", lambda: (CONS, None, given, None), given, given, lambda: self.model.is_list(tail))
+
+    def hole(self):
+        inner = self.pick()
+        self.gives("hole", lambda: (HOLE, None, (inner,), None), (inner,), (inner,))
+
+    def annotate(self):
+        term, notes = self.pick(), self.pick_list()
+
+        def node():
+            kind, value, made_of, _ = self.model.at[term]
+            return kind, value, made_of, None if self.model.at[notes][0] == NIL else notes
+
+        self.gives("annotate", node, (term, notes), (term, notes), lambda: self.model.is_list(notes))
+
+    def appl(self):
+        model, args = self.model, [self.pick() for _ in range(self.dice.choice((0, 0, 1, 1, 2, 2, 3, 5)))]
+        numbers = (U32 * max(1, len(args)))(*args)
+        if self.dice.random() < 0.05:
+            name = self.dice.choice(BAD_NAMES)
+            code = self.call("appl", name, len(name), False, numbers, len(args), ctypes.byref(self.out))
+            self.same("appl", NAME, code)
+            return
+        name, quoted = self.dice.choice(NAMES)
+        code = self.call("appl", name, len(name), quoted, numbers, len(args), ctypes.byref(self.out))
+        number = self.out.value
+        if any(it not in model.at for it in args):
+            self.same("appl", STALE, code)
+            return
+        if code not in (OK, FULL):
+            raise Wrong(f"appl: {code}")
+        # The list of the arguments is there now, from its end on, or as much of it as there was room for. It is made
+        # once more, which takes no cell.
+        before = len(model.at)
+        found = self.learn(args, CELLS if code == FULL else None)
+        if code == FULL:
+            if found is not None and (APPL, (name, quoted), (found,), None) in model.of:
+                raise Wrong("appl: full, and it is there")
+            self.same("appl: cells", CELLS, len(model.at))
+            return
+        node = (APPL, (name, quoted), (found,), None)
+        if node in model.of:
+            self.same("appl", model.of[node], number)
+            self.same("appl: new cells", 0, len(model.at) - before)
+        else:
+            model.add(number, node)
+            self.numbers.append(number)
+
+    def learn(self, args, full_at):
+        """The list of some references, whose nodes come into the model; None where there was no room for all."""
+
+        def is_there(node):
+            return len(self.model.at) != full_at or node in self.model.of
+
+        if not is_there((NIL, None, (), None)):
+            return None
+        made = self.nil()
+        for it in reversed(args):
+            if not is_there((CONS, None, (it, made), None)):
+                return None
+            made = self.cons_of(it, made)
+        return made
+
+    def reads(self, name, want, words):
+        code = self.call(name, *words, ctypes.byref(self.out))
+        self.same(name, (want[0], want[1] if want[0] == OK else 4242), (code, self.out.value))
+
+    def look(self):
+        number = self.pick()
+        node = self.model.at.get(number)
+        code = self.call("kind", number, ctypes.byref(self.kind), ctypes.byref(self.value))
+        self.same("kind", OK if node else STALE, code)
+        self.same("holds", code, self.call("holds", number))
+        if node:
+            self.same("kind", node[0], self.kind.value)
+            if node[0] == INT:
+                self.same("value", node[1], self.value.value)
+
+        other = (KIND if node else STALE, 0)
+
+        def part(name, kind, place):
+            found = (OK, node[2][place]) if node and node[0] == kind else other
+            self.reads(name, found, (number,))
+
+        part("head", CONS, 0)
+        part("args", APPL, 0)
+        part("inner", HOLE, 0)
+        self.reads("annotations", (OK, node[3]) if node and node[3] is not None else other, (number,))
+        part("tail", CONS, 1)
+        args = list(self.model.items(node[2][0])) if node and node[0] == APPL else None
+        place = self.dice.choice((0, 1, 2, 4, 2**32 - 1))
+        self.reads("arity", other if args is None else (OK, len(args)), (number,))
+        found = (OK, args[place]) if args and place < len(args) else (RANGE, 0)
+        self.reads("arg", other if args is None else found, (number, place))
+        code = self.call("quoted", number, ctypes.byref(self.flag))
+        self.same("quoted", other[0] if args is None else OK, code)
+        if args is not None:
+            self.same("quoted", node[1][1], self.flag.value)
+            self.same("name", OK, self.call("name", number, ctypes.byref(self.length)))
+            self.same("name", node[1][0], self.text())
+
+    def text(self):
+        buffer = ctypes.create_string_buffer(self.length.value + 1)
+        self.same("text", OK, self.call("text", buffer, self.length.value))
+        return buffer.raw[: self.length.value]
+
+    def print(self):
+        number = self.pick()
+        code = self.call("print", number, ctypes.byref(self.length))
+        if number not in self.model.at:
+            self.same("print", STALE, code)
+            return
+        self.same("print", OK, code)
+        if self.length.value > 2000:
+            return
+        text = self.model.text(number)
+        self.same("text", text, self.text())
+        annotated = self.annotated(number)
+        if len(self.model.at) + len(annotated) > CELLS:
+            return
+        spaced = text.replace(b",", self.dice.choice((b",", b" ,", b", \n"))) if b'"' not in text else text
+        self.same("read", OK, self.call("read", spaced, len(spaced), ctypes.byref(self.out)))
+        self.same("read", number, self.out.value)
+        # A reader makes a term before it makes it with annotations, so each is there without its own now.
+        for it in annotated:
+            self.without(it, self.nil())
+
+    def annotated(self, number):
+        """The parts of a term that have annotations."""
+        reached, left = set(), [number]
+        while left:
+            part = left.pop()
+            if part not in reached:
+                reached.add(part)
+                left.extend(self.model.parts(part))
+        return [it for it in reached if self.model.at[it][3] is not None]
+
+    def without(self, term, nil):
+        kind, value, made_of, _ = self.model.at[term]
+        self.gives("annotate", lambda: (kind, value, made_of, None), (term, nil), (term, nil))
+
+    def protect(self):
+        number = self.pick()
+        roots = self.model.roots
+        if self.dice.random() < 0.5:
+            self.same("protect", OK if number in self.model.at else STALE, self.call("protect", number))
+            if number in self.model.at:
+                roots[number] = roots.get(number, 0) + 1
+            return
+        number = self.dice.choice(list(roots)) if roots and self.dice.random() < 0.9 else number
+        self.same("unprotect", OK if number in roots else UNPROTECTED, self.call("unprotect", number))
+        if number in roots:
+            roots[number] -= 1
+            if not roots[number]:
+                del roots[number]
+
+    def reclaim(self):
+        kept = [self.pick() for _ in range(self.dice.choice((0, 1, 3, 20)))]
+        code = self.call("reclaim", (U32 * max(1, len(kept)))(*kept), len(kept))
+        stale = any(it not in self.model.at for it in kept)
+        self.same("reclaim", STALE if stale else OK, code)
+        if not stale:
+            self.model.reclaim(kept)
+            self.numbers = list(self.model.at)
+
+    def count(self):
+        self.reads("cells", (OK, len(self.model.at)), ())
+        self.same("spare", OK, self.call("spare", ctypes.byref(self.out)))
+        self.same("room", True, self.out.value + len(self.model.at) <= CELLS)
+
+    def turns(self, count):
+        makes = [self.int] * 4 + [self.nil] + [self.cons] * 8 + [self.hole] * 2 + [self.annotate] * 4 + [self.appl] * 8
+        usual = makes + [self.look] * 4 + [self.print] + [self.protect] * 2 + [self.count]
+        counted = 0
+        while counted < count:
+            if len(self.model.at) == CELLS and self.dice.random() < 0.02 or self.dice.random() < 0.0002:
+                self.reclaim()
+                counted += 1
+            call = self.dice.choice(usual)
+            call()
+            counted += 13 if call == self.look else 2 if call in (self.print, self.count) else 1
+        self.same("close", OK, self.library.psilt_close(self.by_handle))
+        return counted
+
+
+def main():
+    count = int(sys.argv[1]) if len(sys.argv) > 1 else 1000000
+    seed = int(sys.argv[2]) if len(sys.argv) > 2 else 1
+    print(f"random_calls.py: {Run(seed).turns(count)} calls as wanted")
+
+
+if __name__ == "__main__":
+    main()

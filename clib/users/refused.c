@@ -1,0 +1,177 @@
+/* Refuses each request for memory in turn, in each call that makes requests, and looks that the call answers
+ * PSILT_NOMEM or does without, that the handle is as it was, that the same call then does its work, and that all
+ * memory goes back. Linked with --wrap for malloc, realloc and free. */
+#include "../percalesilt.h"
+#include <stdio.h>
+#include <stdlib.h>
+#include <string.h>
+
+void *__real_malloc(size_t size);
+void *__real_realloc(void *at, size_t size);
+void __real_free(void *at);
+void *__wrap_malloc(size_t size);
+void *__wrap_realloc(void *at, size_t size);
+void __wrap_free(void *at);
+
+static long asked = 0, refused_at = 0, blocks = 0;
+static int failures = 0;
+
+static bool refuses(void)
+{
+    return ++asked == refused_at;
+}
+
+void *__wrap_malloc(size_t size)
+{
+    void *at = refuses() ? NULL : __real_malloc(size);
+    blocks += at != NULL;
+    return at;
+}
+
+void *__wrap_realloc(void *at, size_t size)
+{
+    void *to = refuses() ? NULL : __real_realloc(at, size);
+    blocks += to != NULL && at == NULL;
+    return to;
+}
+
+void __wrap_free(void *at)
+{
+    blocks -= at != NULL;
+    __real_free(at);
+}
+
+#define BYTES(text) (const uint8_t *)(text), strlen(text)
+
+/* What a handle shows: its cells, its text, its place, the texts of three terms. */
+struct shown {
+    uint32_t cells, place;
+    char text[64], terms[3][64];
+};
+
+static psilt_term terms[3];
+
+static void text_of(psilt *p, char *into)
+{
+    memset(into, 0, 64);
+    psilt_text(p, (uint8_t *)into, 63);
+}
+
+static void show(psilt *p, struct shown *it)
+{
+    size_t len;
+    int i;
+    memset(it, 0, sizeof *it);
+    psilt_cells(p, &it->cells);
+    psilt_place(p, &it->place);
+    text_of(p, it->text);
+    for (i = 0; i < 3; i++)
+        if (psilt_print(p, terms[i], &len) == PSILT_OK)
+            text_of(p, it->terms[i]);
+    psilt_print(p, terms[0], &len);
+}
+
+static bool begin(psilt *p)
+{
+    uint32_t out;
+    size_t len;
+    return psilt_open(p, 100000) == PSILT_OK && psilt_read(p, BYTES("f(1,[2],<int>)"), &terms[0]) == PSILT_OK
+        && psilt_read(p, BYTES("[at(3)]"), &terms[1]) == PSILT_OK && psilt_read(p, BYTES("7"), &terms[2]) == PSILT_OK
+        && psilt_read(p, BYTES("f(,)"), &out) == PSILT_SYNTAX && psilt_print(p, terms[0], &len) == PSILT_OK;
+}
+
+/* 2,000 elements, and a name of 3,000 bytes. */
+static uint8_t long_text[5000], long_name[3000];
+static psilt_term many[2000];
+
+static uint32_t calls(psilt *p, int call, uint32_t *out)
+{
+    static psilt other;
+    psilt fresh = PSILT_INIT;
+    uint32_t code;
+    size_t len = 0;
+    switch (call) {
+    case 0:
+        other = fresh;
+        code = psilt_open(&other, 1000);
+        if (code == PSILT_OK)
+            psilt_close(&other);
+        return code;
+    case 1: return psilt_read(p, long_text, 4998, out);
+    case 2: return psilt_print(p, terms[0], &len);
+    case 3: return psilt_name(p, terms[0], &len);
+    case 4: return psilt_int(p, 77, out);
+    case 5: return psilt_cons(p, terms[2], terms[1], out);
+    case 6: return psilt_appl(p, long_name, sizeof long_name, false, many, 2000, out);
+    case 7: return psilt_hole(p, terms[0], out);
+    case 8: return psilt_annotate(p, terms[0], terms[1], out);
+    case 9: return psilt_reserve(p, 50000);
+    case 10: return psilt_reclaim(p, terms, 3);
+    default: return psilt_nil(p, out);
+    }
+}
+
+static const char *const NAMES[] = {"open", "read", "print", "name", "int", "cons", "appl", "hole", "annotate",
+    "reserve", "reclaim", "nil"};
+
+static void fails(const char *what, const char *name, long n)
+{
+    printf("%s: %s where request %ld is refused\n", name, what, n);
+    failures++;
+}
+
+/* Whether the call, of whose requests the n-th is refused, makes so many. */
+static bool is_tried(int call, long n)
+{
+    psilt p = PSILT_INIT;
+    struct shown before, after;
+    uint32_t out = 4242, again = 0, code;
+    bool reached;
+    if (!begin(&p))
+        fails("no beginning", NAMES[call], n);
+    for (int i = 0; i < 2000; i++)
+        many[i] = terms[i % 3];
+    show(&p, &before);
+    asked = 0;
+    refused_at = n;
+    code = calls(&p, call, &out);
+    reached = asked >= n;
+    refused_at = 0;
+    if (reached && code != PSILT_OK) {
+        if (code != PSILT_NOMEM)
+            fails("another code", NAMES[call], n);
+        if (out != 4242)
+            fails("a number is written", NAMES[call], n);
+        show(&p, &after);
+        if (call == 1 || call == 6) {
+            if (after.cells < before.cells)
+                fails("fewer cells", NAMES[call], n);
+            after.cells = before.cells;
+        }
+        if (memcmp(&before, &after, sizeof before) != 0)
+            fails("the handle changed", NAMES[call], n);
+    }
+    if (calls(&p, call, &again) != PSILT_OK)
+        fails("no answer afterwards", NAMES[call], n);
+    psilt_close(&p);
+    if (blocks != 0)
+        fails("memory is kept", NAMES[call], n);
+    return reached;
+}
+
+int main(void)
+{
+    int call, i;
+    long tried = 0, n;
+    for (i = 0; i < 2499; i++)
+        memcpy(long_text + 2 * i, i == 2498 ? "7]" : i == 0 ? "[1" : ",7", 2);
+    memset(long_name, 'n', sizeof long_name);
+    for (call = 0; call < 12; call++)
+        for (n = 1; is_tried(call, n); n++)
+            tried++;
+    if (failures)
+        printf("%d failed\n", failures);
+    else
+        printf("all as wanted: %ld requests refused\n", tried);
+    return failures ? 1 : 0;
+}

@@ -1,0 +1,123 @@
+#!/usr/bin/env -S python3 -B
+"""Tests of percalesilt.py."""
+
+import gc
+import os
+import sys
+import unittest
+
+sys.path.insert(0, os.path.dirname(os.path.dirname(os.path.realpath(__file__))))
+
+import percalesilt
+from percalesilt import APPL, CLOSED, CONS, FULL, HOLE, INT, KIND, NAME, NIL, RANGE, STALE, SYNTAX, Fault, Store
+
+
+class Terms(unittest.TestCase):
+    def setUp(self):
+        self.store = Store()
+
+    def tearDown(self):
+        self.store.close()
+
+    def fails(self, code, call, *words, **more):
+        with self.assertRaises(Fault) as raised:
+            call(*words, **more)
+        self.assertEqual(raised.exception.code, code)
+        return raised.exception
+
+    def test_texts(self):
+        term = self.store.parse(" plus ( x{at(3,7)} , -0012 ) ")
+        self.assertEqual(str(term), "plus(x{at(3,7)},-12)")
+        self.assertEqual(self.store.parse(str(term)), term)
+        self.assertIs(self.store.parse(str(term)), term)
+        self.assertEqual(repr(term), "<plus(x{at(3,7)},-12)>")
+
+    def test_a_text_outside_the_grammar(self):
+        fault = self.fails(SYNTAX, self.store.parse, "f(1,,2)")
+        self.assertEqual(fault.place, 4)
+        self.assertEqual(str(fault), "the text is outside its grammar at byte 4")
+
+    def test_kinds(self):
+        kinds = [self.store.parse(it).kind for it in ("7", "[]", "[1]", "f", "<int>")]
+        self.assertEqual(kinds, [INT, NIL, CONS, APPL, HOLE])
+
+    def test_making(self):
+        term = self.store.appl("f", 1, [2, [3]], self.store.appl("a b", quoted=True))
+        self.assertEqual(str(term), 'f(1,[2,[3]],"a b")')
+        self.assertEqual(str(self.store.hole(term.args[0])), "<1>")
+        self.assertEqual(str(term.noted(4, self.store.parse("at(3)"))), 'f(1,[2,[3]],"a b"){4,at(3)}')
+        self.assertIs(term.noted(4).noted(), term)
+
+    def test_taking_apart(self):
+        term = self.store.parse("f(1,[2,3],<int>){n,m}")
+        self.assertEqual((term.name, term.quoted, term.arity), ("f", False, 3))
+        self.assertEqual([str(it) for it in term.args], ["1", "[2,3]", "<int>"])
+        self.assertEqual([str(it) for it in term.annotations], ["n", "m"])
+        self.assertEqual(term.args[0].annotations, [])
+        self.assertEqual([it.value for it in term.arg(1)], [2, 3])
+        self.assertEqual(str(term.arg(2).inner), "int")
+        self.assertEqual(str(term.arg(1).head), "2")
+        self.assertEqual(str(term.arg(1).tail), "[3]")
+
+    def test_bytes_of_names(self):
+        term = self.store.appl(bytes(range(256)), quoted=True)
+        self.assertEqual(term.name, "".join(map(chr, range(256))))
+        self.assertIs(self.store.parse(str(term)), term)
+
+    def test_faults(self):
+        term = self.store.parse("f(1)")
+        self.fails(KIND, lambda: term.head)
+        self.fails(KIND, lambda: term.value)
+        self.fails(KIND, list, term)
+        self.fails(RANGE, term.arg, 1)
+        self.fails(RANGE, self.store.int, 2**31)
+        self.fails(NAME, self.store.appl, "0")
+        self.fails(RANGE, Store, 0)
+        with Store() as other:
+            self.fails(STALE, self.store.appl, "g", other.int(1))
+            self.assertNotEqual(other.parse("f(1)"), term)
+
+    def test_what_is_alive_stays(self):
+        kept = self.store.parse("f(1,2)")
+        gone = self.store.parse("g(3,4)")
+        number = gone.number
+        self.store.reclaim()
+        self.assertEqual(str(gone), "g(3,4)")
+        del gone
+        gc.collect()
+        self.store.reclaim()
+        self.assertEqual(str(kept), "f(1,2)")
+        # f(1,2), [1,2], [2], [], 1, 2
+        self.assertEqual(self.store.cells, 6)
+        self.fails(STALE, self.store.kind_of, number)
+        del kept
+        gc.collect()
+        self.store.reclaim()
+        self.assertEqual(self.store.cells, 0)
+
+    def test_a_full_store(self):
+        with Store(cells=3) as store:
+            self.assertEqual(str(store.list([1])), "[1]")
+            self.fails(FULL, store.parse, "f(2)")
+            self.fails(FULL, store.reserve, 1)
+
+    def test_a_closed_store(self):
+        term = self.store.parse("f(1)")
+        self.store.close()
+        self.fails(CLOSED, str, term)
+        self.fails(CLOSED, self.store.int, 1)
+
+    def test_words(self):
+        header = os.path.join(os.path.dirname(percalesilt.__file__), "percalesilt.h")
+        with open(header, encoding="utf-8") as file:
+            text = file.read()
+        for code, words in enumerate(percalesilt.WORDS):
+            self.assertIn(f'return "{words}";', text)
+            self.assertEqual(str(Fault(code)), words)
+        for name in percalesilt.CALLS:
+            self.assertIn(f"uint32_t psilt_{name}(", text)
+        self.assertEqual(text.count("\nuint32_t psilt_"), len(percalesilt.CALLS))
+
+
+if __name__ == "__main__":
+    unittest.main()

@@ -1,0 +1,68 @@
+//! C says which terms stay, and for how many there is room.
+
+ghost use Rattle.std.specs.Prelude.{◌≡◌, ◌≢◌};
+ghost use Rattle.rx_term.specs.Store.{cells};
+ghost use Rattle.psilt_work.specs.Codes.{told};
+ghost use Rattle.psilt_work.specs.Answers.{term_of, Protects, Unprotects, Keeps, MakesRoom};
+ghost use Rattle.psilt_work.specs.Handles.{OnBank, InBank};
+
+use crate::answer::{done, on_work, tell};
+use psilt_work::Psilt;
+use rx_term::Term;
+use std::alloc::Global;
+
+/// Counts a term as a root once more.
+#[unsafe(no_mangle)]
+pub extern "C" fn psilt_protect(alloc: Global, psilt: &mut Psilt, term: u32) -> u32
+    ensures answer { OnBank psilt.old psilt.new result
+        (λ v w. Protects v w (term_of term) (told result tt)) }
+{
+    done(on_work!(psilt, alloc, work, work.protect(Term(term))))
+}
+
+/// Counts a term as a root once less.
+#[unsafe(no_mangle)]
+pub extern "C" fn psilt_unprotect(alloc: Global, psilt: &mut Psilt, term: u32) -> u32
+    ensures answer { OnBank psilt.old psilt.new result
+        (λ v w. Unprotects v w (term_of term) (told result tt)) }
+{
+    done(on_work!(psilt, alloc, work, work.unprotect(Term(term))))
+}
+
+/// Gives up all terms but those that the roots and the given ones reach.
+#[unsafe(no_mangle)]
+pub extern "C" fn psilt_reclaim(alloc: Global, psilt: &mut Psilt, kept: &[u32]) -> u32
+    ensures answer { OnBank psilt.old psilt.new result
+        (λ v w. Keeps v w kept.now (told result tt)) }
+{
+    done(on_work!(psilt, alloc, work, work.reclaim(alloc, kept)))
+}
+
+/// Makes room for so many cells more.
+#[unsafe(no_mangle)]
+pub extern "C" fn psilt_reserve(alloc: Global, psilt: &mut Psilt, count: u32) -> u32
+    ensures answer { OnBank psilt.old psilt.new result
+        (λ v w. MakesRoom v w count (told result tt)) }
+{
+    done(on_work!(psilt, alloc, work, work.reserve(count)))
+}
+
+/// How many cells are taken.
+#[unsafe(no_mangle)]
+pub extern "C" fn psilt_cells(alloc: Global, psilt: &mut Psilt, out: &mut u32) -> u32
+    ensures answer { InBank psilt.old psilt.new result
+        (λ v. (result ≡ 0) × (out.new ≡ cells v)) }
+    ensures out { result ≢ 0 → out.new ≡ out.old }
+{
+    tell(on_work!(psilt, alloc, work, Ok(work.cells())), out)
+}
+
+/// How many cells can be taken with no more memory.
+#[unsafe(no_mangle)]
+pub extern "C" fn psilt_spare(alloc: Global, psilt: &mut Psilt, out: &mut u32) -> u32
+    ensures answer { InBank psilt.old psilt.new result
+        (λ v. (result ≡ 0) × (out.new ≡ v.spare)) }
+    ensures out { result ≢ 0 → out.new ≡ out.old }
+{
+    tell(on_work!(psilt, alloc, work, Ok(work.spare())), out)
+}

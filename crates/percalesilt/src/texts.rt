@@ -1,0 +1,71 @@
+//! C has texts read and printed.
+
+ghost use Rattle.std.specs.Prelude.{◌≡◌, ◌≢◌};
+ghost use Rattle.rx_shared.specs.State.{store_of};
+ghost use Rattle.psilt_work.specs.Codes.{told};
+ghost use Rattle.psilt_work.specs.Answers.{term_of, Reads, Spells, Copies, printed_in, name_in};
+ghost use Rattle.psilt_work.specs.Handles.{OnWork};
+ghost use Rattle.psilt_work.specs.Works.{IsSameButText, IsSameButRead};
+
+use crate::answer::{done, give, on_work, tell};
+use psilt_work::Psilt;
+use rx_term::Term;
+use std::alloc::Global;
+
+/// The tree that a text spells; `psilt_place` tells where a text leaves the grammar.
+#[unsafe(no_mangle)]
+pub extern "C" fn psilt_read(alloc: Global, psilt: &mut Psilt, text: &[u8], out: &mut u32) -> u32
+    ensures answer { OnWork psilt.old psilt.new result
+        (λ v w. Reads (store_of v.bank) (store_of w.bank) text.now w.place (told result (term_of out.new))
+        × IsSameButRead v w) }
+    ensures out { result ≢ 0 → out.new ≡ out.old }
+{
+    give(on_work!(psilt, alloc, work, work.read(alloc, text)), out)
+}
+
+/// Where the text that was refused last leaves the grammar, in bytes from 0.
+#[unsafe(no_mangle)]
+pub extern "C" fn psilt_place(alloc: Global, psilt: &mut Psilt, out: &mut u32) -> u32
+    ensures answer { OnWork psilt.old psilt.new result
+        (λ v w. (result ≡ 0) × (out.new ≡ v.place) × (w ≡ v)) }
+    ensures out { result ≢ 0 → out.new ≡ out.old }
+{
+    tell(on_work!(psilt, alloc, work, Ok(work.place)), out)
+}
+
+/// Prints a term, which becomes the handle's text, and tells how many bytes that has.
+#[unsafe(no_mangle)]
+pub extern "C" fn psilt_print(alloc: Global, psilt: &mut Psilt, term: u32, out: &mut usize) -> u32
+    ensures answer { OnWork psilt.old psilt.new result
+        (λ v w. Spells (store_of v.bank) (term_of term) printed_in v.text.items w.text.items
+        (told result out.new) × IsSameButText v w) }
+    ensures out { result ≢ 0 → out.new ≡ out.old }
+{
+    tell(
+        on_work!(psilt, alloc, work, work.print(alloc, Term(term))),
+        out,
+    )
+}
+
+/// The name of an application becomes the handle's text; tells how many bytes that has.
+#[unsafe(no_mangle)]
+pub extern "C" fn psilt_name(alloc: Global, psilt: &mut Psilt, term: u32, out: &mut usize) -> u32
+    ensures answer { OnWork psilt.old psilt.new result
+        (λ v w. Spells (store_of v.bank) (term_of term) name_in v.text.items w.text.items
+        (told result out.new) × IsSameButText v w) }
+    ensures out { result ≢ 0 → out.new ≡ out.old }
+{
+    tell(
+        on_work!(psilt, alloc, work, work.name(alloc, Term(term))),
+        out,
+    )
+}
+
+/// Copies the handle's text to the front of a buffer.
+#[unsafe(no_mangle)]
+pub extern "C" fn psilt_text(alloc: Global, psilt: &mut Psilt, buffer: &mut [u8]) -> u32
+    ensures answer { OnWork psilt.old psilt.new result
+        (λ v w. Copies v.text.items buffer.old buffer.new (told result tt) × (w ≡ v)) }
+{
+    done(on_work!(psilt, alloc, work, work.copy(buffer)))
+}

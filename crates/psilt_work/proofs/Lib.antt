@@ -1,0 +1,5 @@
+pub mod AnswerLemmas
+pub mod ItemLemmas
+pub mod RootLemmas
+pub mod HeldLemmas
+pub mod LooseLemmas

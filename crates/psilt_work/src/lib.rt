@@ -1,0 +1,20 @@
+//! What a handle of the C library holds, and its calls: each tests what it owes, and answers a
+//! fault where that is lacking.
+#![tactic(auto, using(rx_term::proofs::StoreLemmas::bank_steps))]
+
+pub mod fault;
+pub mod handle;
+mod held;
+pub mod keeping;
+mod loose;
+pub mod making;
+pub mod reading;
+pub mod texts;
+pub mod work;
+
+pub use fault::Fault;
+pub use handle::Psilt;
+pub use work::Work;
+
+#[cfg(test)]
+mod tests;

@@ -1,0 +1,161 @@
+//! Terms are made of references.
+
+ghost use Rattle.std.specs.Prelude.{◌≡◌, List, [], ◌∷◌, length, Some, IfOk, IsTrue};
+ghost use Rattle.rx_term.specs.Tree.{Int, Items, none};
+ghost use Rattle.rx_term.specs.Name.{IsAllowed};
+ghost use Rattle.rx_term.specs.Store.{tree_at, longer, held_open, noted};
+ghost use Rattle.rx_term.specs.Steps.{Grows};
+ghost use Rattle.rx_term.specs.Walks.{Lists};
+ghost use Rattle.rx_shared.specs.State.{store_of};
+ghost use Rattle.psilt_work.specs.Answers.{are_held, terms_of, is_plain_list, MakesFrom};
+ghost use Rattle.psilt_work.specs.Answers.{Applies, IsApplication};
+ghost use Rattle.psilt_work.specs.Works.{IsSameButBank};
+
+use crate::fault::made;
+use crate::{Fault, Work};
+use rx_shared::SharedBank;
+use rx_term::{BankFault, Kind, Term, TermBank, plain_name};
+
+impl Work {
+    /// Whether there are all references of these numbers.
+    pub fn are_held(&self, given: &[u32]) -> bool
+        ensures { result ≡ are_held (store_of self.now.bank) given.now }
+    {
+        given.iter().all(|n| self.bank.holds(Term(*n)))
+    }
+
+    /// Whether the reference is there and is a list without annotations.
+    fn is_plain_list(&self, t: Term) -> bool
+        ensures { result ≡ is_plain_list (tree_at (store_of self.now.bank) t) }
+    {
+        if !self.bank.holds(t) {
+            return false;
+        }
+        if self.bank.anns(t).is_some() {
+            return false;
+        }
+        match self.bank.kind(t) {
+            Kind::Nil => true,
+            Kind::Cons => true,
+            _ => false,
+        }
+    }
+
+    /// An integer.
+    pub fn int(&mut self, value: i32) -> Result<Term, Fault>
+        ensures answer { MakesFrom (store_of self.old.bank) (store_of self.new.bank) []
+            (Some (Int value none)) result }
+        ensures beside { IsSameButBank self.old self.new }
+    {
+        made(self.bank.int(value))
+    }
+
+    /// The empty list.
+    pub fn nil(&mut self) -> Result<Term, Fault>
+        ensures answer { MakesFrom (store_of self.old.bank) (store_of self.new.bank) []
+            (Some (Items none none)) result }
+        ensures beside { IsSameButBank self.old self.new }
+    {
+        made(self.bank.nil())
+    }
+
+    /// A list with one item more in front. `Kind` where the tail is no list without annotations.
+    pub fn cons(&mut self, head: Term, tail: Term) -> Result<Term, Fault>
+        ensures answer { let w = store_of self.old.bank in
+            MakesFrom w (store_of self.new.bank) (head.0 ∷ tail.0 ∷ [])
+            (longer (tree_at w head) (tree_at w tail)) result }
+        ensures beside { IsSameButBank self.old self.new }
+    {
+        if !self.are_held(&[head.0, tail.0]) {
+            return Err(Fault::Stale);
+        }
+        if !self.is_plain_list(tail) {
+            return Err(Fault::Kind);
+        }
+        made(self.bank.cons(head, tail))
+    }
+
+    /// A placeholder of a term.
+    pub fn hole(&mut self, inner: Term) -> Result<Term, Fault>
+        ensures answer { let w = store_of self.old.bank in
+            MakesFrom w (store_of self.new.bank) (inner.0 ∷ []) (held_open (tree_at w inner)) result }
+        ensures beside { IsSameButBank self.old self.new }
+    {
+        if !self.are_held(&[inner.0]) {
+            return Err(Fault::Stale);
+        }
+        made(self.bank.hole(inner))
+    }
+
+    /// A term with the items of a list in place of its annotations. `Kind` where the list has
+    /// annotations itself, or is none.
+    pub fn annotate(&mut self, t: Term, anns: Term) -> Result<Term, Fault>
+        ensures answer { let w = store_of self.old.bank in
+            MakesFrom w (store_of self.new.bank) (t.0 ∷ anns.0 ∷ [])
+            (noted (tree_at w t) (tree_at w anns)) result }
+        ensures beside { IsSameButBank self.old self.new }
+    {
+        if !self.are_held(&[t.0, anns.0]) {
+            return Err(Fault::Stale);
+        }
+        if !self.is_plain_list(anns) {
+            return Err(Fault::Kind);
+        }
+        made(self.bank.annotated(t, anns))
+    }
+
+    /// An application of a name to the terms of some numbers. `Name` where the name is not quoted and is neither
+    /// empty nor one that may stand without quotes.
+    pub fn appl(&mut self, name: &[u8], quoted: bool, args: &[u32]) -> Result<Term, Fault>
+        ensures answer { Applies (store_of self.old.bank) (store_of self.new.bank) name.now quoted
+            args.now result }
+        ensures beside { IsSameButBank self.old self.new }
+    {
+        if !quoted && !plain_name(name) && !name.is_empty() {
+            return Err(Fault::Name);
+        }
+        let Ok(arity) = u32::try_from(args.len()) else {
+            return Err(Fault::Range);
+        };
+        if !self.are_held(args) {
+            return Err(Fault::Stale);
+        }
+        made(applied(&mut self.bank, name, quoted, arity, args))
+    }
+}
+
+/// The application of a name to the terms of some numbers, which are there.
+fn applied(
+    bank: &mut SharedBank,
+    name: &[u8],
+    quoted: bool,
+    arity: u32,
+    args: &[u32],
+) -> Result<Term, BankFault>
+    requires name { IsAllowed name.now quoted }
+    requires args { IsTrue (are_held (store_of bank.old) args.now) }
+    requires arity { arity ≡ length args.now }
+    ensures grows { Grows (store_of bank.old) (store_of bank.new) }
+    ensures made { IfOk result (λ r. IsApplication (store_of bank.old) name.now quoted args.now
+        (tree_at (store_of bank.new) r)) }
+{
+    let symbol = bank.symbol(name, quoted, arity)?;
+    let list = list(bank, args)?;
+    bank.appl(symbol, list)
+}
+
+/// The list of the terms of some numbers, which are there.
+fn list(bank: &mut SharedBank, items: &[u32]) -> Result<Term, BankFault>
+    requires { IsTrue (are_held (store_of bank.old) items.now) }
+    ensures grows { Grows (store_of bank.old) (store_of bank.new) }
+    ensures made { IfOk result (λ r. Lists (store_of bank.old) (terms_of items.now)
+        (tree_at (store_of bank.new) r)) }
+{
+    let mut list = bank.nil()?;
+    let mut left = items.len();
+    while left > 0 {
+        left -= 1;
+        list = bank.cons(Term(items[left]), list)?;
+    }
+    Ok(list)
+}

@@ -1,0 +1,179 @@
+//! What terms are made of.
+
+ghost use Rattle.std.specs.Prelude.{◌≡◌, IsSome};
+ghost use Rattle.rx_term.specs.Store.{tree_at, head_of, tail_of, args_of, inner_of, anns_of};
+ghost use Rattle.rx_term.specs.Kinds.{HasKind};
+ghost use Rattle.rx_shared.specs.State.{store_of};
+ghost use Rattle.psilt_work.specs.Answers.{Looks, ReadsPart, ReadsArg, ReadsSymbol};
+ghost use Rattle.psilt_work.specs.Answers.{ReadsOf, quoted_in, arity_in, item_in, IsPlaceIn};
+
+use crate::{Fault, Work};
+use rx_shared::SharedBank;
+use rx_term::{Kind, Symbol, Term, TermBank};
+
+impl Work {
+    /// Whether the reference is there: `Stale` where it is not.
+    pub fn holds(&self, t: Term) -> Result<(), Fault>
+        ensures { let w = store_of self.now.bank in Looks w t (λ (_ : Unit {0}). IsSome (tree_at w t)) result }
+    {
+        if self.bank.holds(t) {
+            Ok(())
+        } else {
+            Err(Fault::Stale)
+        }
+    }
+
+    /// What the term is.
+    pub fn kind(&self, t: Term) -> Result<Kind, Fault>
+        ensures { Looks (store_of self.now.bank) t (HasKind (store_of self.now.bank) t) result }
+    {
+        if self.bank.holds(t) {
+            Ok(self.bank.kind(t))
+        } else {
+            Err(Fault::Stale)
+        }
+    }
+
+    /// The first item of a list.
+    pub fn head(&self, t: Term) -> Result<Term, Fault>
+        ensures { ReadsPart (store_of self.now.bank) t head_of result }
+    {
+        if !self.bank.holds(t) {
+            return Err(Fault::Stale);
+        }
+        match self.bank.kind(t) {
+            Kind::Int(_) => Err(Fault::Kind),
+            Kind::Nil => Err(Fault::Kind),
+            Kind::Cons => Ok(self.bank.head(t)),
+            Kind::Appl(_) => Err(Fault::Kind),
+            Kind::Hole => Err(Fault::Kind),
+        }
+    }
+
+    /// A list without its first item and without annotations.
+    pub fn tail(&self, t: Term) -> Result<Term, Fault>
+        ensures { ReadsPart (store_of self.now.bank) t tail_of result }
+    {
+        if !self.bank.holds(t) {
+            return Err(Fault::Stale);
+        }
+        match self.bank.kind(t) {
+            Kind::Int(_) => Err(Fault::Kind),
+            Kind::Nil => Err(Fault::Kind),
+            Kind::Cons => Ok(self.bank.tail(t)),
+            Kind::Appl(_) => Err(Fault::Kind),
+            Kind::Hole => Err(Fault::Kind),
+        }
+    }
+
+    /// The arguments of an application, as a list.
+    pub fn args(&self, t: Term) -> Result<Term, Fault>
+        ensures { ReadsPart (store_of self.now.bank) t args_of result }
+    {
+        if !self.bank.holds(t) {
+            return Err(Fault::Stale);
+        }
+        match self.bank.kind(t) {
+            Kind::Int(_) => Err(Fault::Kind),
+            Kind::Nil => Err(Fault::Kind),
+            Kind::Cons => Err(Fault::Kind),
+            Kind::Appl(_) => Ok(self.bank.args(t)),
+            Kind::Hole => Err(Fault::Kind),
+        }
+    }
+
+    /// What stands inside a placeholder.
+    pub fn inner(&self, t: Term) -> Result<Term, Fault>
+        ensures { ReadsPart (store_of self.now.bank) t inner_of result }
+    {
+        if !self.bank.holds(t) {
+            return Err(Fault::Stale);
+        }
+        match self.bank.kind(t) {
+            Kind::Int(_) => Err(Fault::Kind),
+            Kind::Nil => Err(Fault::Kind),
+            Kind::Cons => Err(Fault::Kind),
+            Kind::Appl(_) => Err(Fault::Kind),
+            Kind::Hole => Ok(self.bank.inner(t)),
+        }
+    }
+
+    /// The annotations, as a list. `Kind` where there are none.
+    pub fn annotations(&self, t: Term) -> Result<Term, Fault>
+        ensures { ReadsPart (store_of self.now.bank) t anns_of result }
+    {
+        if !self.bank.holds(t) {
+            return Err(Fault::Stale);
+        }
+        match self.bank.anns(t) {
+            Some(anns) => Ok(anns),
+            None => Err(Fault::Kind),
+        }
+    }
+
+    /// The symbol of an application.
+    pub(crate) fn symbol_of(&self, t: Term) -> Result<Symbol, Fault>
+        ensures { ReadsSymbol (store_of self.now.bank) t result }
+    {
+        if !self.bank.holds(t) {
+            return Err(Fault::Stale);
+        }
+        match self.bank.kind(t) {
+            Kind::Int(_) => Err(Fault::Kind),
+            Kind::Nil => Err(Fault::Kind),
+            Kind::Cons => Err(Fault::Kind),
+            Kind::Appl(symbol) => Ok(symbol),
+            Kind::Hole => Err(Fault::Kind),
+        }
+    }
+
+    /// The argument of an application at a place, from 0. `Range` where it has no more arguments
+    /// than that.
+    pub fn arg(&self, t: Term, i: u32) -> Result<Term, Fault>
+        ensures { ReadsArg (store_of self.now.bank) t i result }
+    {
+        let symbol = match self.symbol_of(t) {
+            Ok(symbol) => symbol,
+            Err(fault) => return Err(fault),
+        };
+        if i >= self.bank.arity_of(symbol) {
+            return Err(Fault::Range);
+        }
+        Ok(item(&self.bank, self.bank.args(t), i))
+    }
+
+    /// Whether the name of an application is quoted.
+    pub fn quoted(&self, t: Term) -> Result<bool, Fault>
+        ensures { ReadsOf (store_of self.now.bank) t quoted_in result }
+    {
+        match self.symbol_of(t) {
+            Ok(symbol) => Ok(self.bank.quoted_of(symbol)),
+            Err(fault) => Err(fault),
+        }
+    }
+
+    /// How many arguments an application has.
+    pub fn arity(&self, t: Term) -> Result<u32, Fault>
+        ensures { ReadsOf (store_of self.now.bank) t arity_in result }
+    {
+        match self.symbol_of(t) {
+            Ok(symbol) => Ok(self.bank.arity_of(symbol)),
+            Err(fault) => Err(fault),
+        }
+    }
+}
+
+/// The item of a list at a place, from 0.
+fn item(bank: &SharedBank, list: Term, i: u32) -> Term
+    requires { IsPlaceIn i (tree_at (store_of bank.now) list) }
+    ensures { let w = store_of bank.now in
+        tree_at w result ≡ item_in i (tree_at w list) }
+{
+    let mut list = list;
+    let mut left = i;
+    while left > 0 {
+        list = bank.tail(list);
+        left -= 1;
+    }
+    bank.head(list)
+}

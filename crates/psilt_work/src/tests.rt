@@ -1,0 +1,137 @@
+//! Each call with ample memory, beside what was worked out by hand.
+
+use crate::{Fault, Psilt, Work};
+use rx_term::{Kind, Term};
+use std::alloc::Global;
+use std::process::Abort;
+
+/// A store of at most so many cells.
+fn store(rt: &impl Abort, alloc: Global, cells: u32) -> Box<Work> {
+    Work::new(alloc, cells).expect(rt, "a store")
+}
+
+fn read(rt: &impl Abort, alloc: Global, work: &mut Work, text: &[u8]) -> Term {
+    work.read(alloc, text).expect(rt, "a term")
+}
+
+fn prints(rt: &impl Abort, alloc: Global, work: &mut Work, t: Term, text: &[u8]) {
+    let length = work.print(alloc, t).expect(rt, "a text");
+    assert_eq!(rt; length, text.len());
+    assert_eq!(rt; work.text.as_slice(), text);
+}
+
+/// The first calls of a store.
+fn makes(rt: &impl Abort, alloc: Global, work: &mut Work) {
+    let seven = work.int(-7).expect(rt, "an integer");
+    let nil = work.nil().expect(rt, "a list");
+    let list = work.cons(seven, nil).expect(rt, "a list");
+    let hole = work.hole(list).expect(rt, "a placeholder");
+    prints(rt, alloc, work, hole, b"<[-7]>");
+    let noted = work.annotate(seven, list).expect(rt, "an integer");
+    prints(rt, alloc, work, noted, b"-7{-7}");
+    let both = work
+        .appl(b"f", false, &[hole.0, noted.0])
+        .expect(rt, "an application");
+    prints(rt, alloc, work, both, b"f(<[-7]>,-7{-7})");
+    assert!(rt; read(rt, alloc, work, b"f(<[-7]>,-7{-7})") == both);
+    assert!(rt; work.cons(seven, both) == Err(Fault::Kind));
+    assert!(rt; work.cons(Term(99), nil) == Err(Fault::Stale));
+    assert!(rt; work.appl(b"a b", false, &[]) == Err(Fault::Name));
+}
+
+#[test]
+fn terms_are_made(rt: HostRuntime) {
+    let alloc = rt.alloc();
+    let mut work = store(&rt, alloc, 100);
+    makes(&rt, alloc, &mut work);
+}
+
+/// The parts of a term.
+fn takes_apart(rt: &impl Abort, alloc: Global, work: &mut Work) {
+    let t = read(rt, alloc, work, b"\"a b\"(1,[2,3],<int>){n}");
+    assert!(rt; matches!(work.kind(t), Ok(Kind::Appl(_))));
+    assert!(rt; work.arity(t) == Ok(3));
+    assert!(rt; work.quoted(t) == Ok(true));
+    assert!(rt; work.name(alloc, t) == Ok(3));
+    assert_eq!(rt; work.text.as_slice(), b"a b".as_slice());
+    let args = work.args(t).expect(rt, "arguments");
+    prints(rt, alloc, work, args, b"[1,[2,3],<int>]");
+    let notes = work.annotations(t).expect(rt, "annotations");
+    prints(rt, alloc, work, notes, b"[n]");
+    let list = work.arg(t, 1).expect(rt, "a list");
+    let second = work.tail(list).expect(rt, "a list");
+    prints(rt, alloc, work, second, b"[3]");
+    let three = work.head(second).expect(rt, "an integer");
+    assert!(rt; work.kind(three) == Ok(Kind::Int(3)));
+    let hole = work.arg(t, 2).expect(rt, "a placeholder");
+    let inside = work.inner(hole).expect(rt, "its inside");
+    prints(rt, alloc, work, inside, b"int");
+    assert!(rt; work.arg(t, 3) == Err(Fault::Range));
+    assert!(rt; work.head(t) == Err(Fault::Kind));
+    assert!(rt; work.tail(Term(99)) == Err(Fault::Stale));
+}
+
+#[test]
+fn terms_are_taken_apart(rt: HostRuntime) {
+    let alloc = rt.alloc();
+    let mut work = store(&rt, alloc, 100);
+    takes_apart(&rt, alloc, &mut work);
+}
+
+/// Eleven cells of three terms, of which eight stay.
+fn keeps(rt: &impl Abort, alloc: Global, work: &mut Work) {
+    let kept = read(rt, alloc, work, b"f(1)");
+    let rooted = read(rt, alloc, work, b"[2,3]");
+    let gone = read(rt, alloc, work, b"g(4)");
+    assert!(rt; work.cells() == 11);
+    assert!(rt; work.protect(rooted) == Ok(()));
+    assert!(rt; work.reclaim(alloc, &[kept.0]) == Ok(()));
+    assert!(rt; work.cells() == 8);
+    assert!(rt; work.holds(gone) == Err(Fault::Stale));
+    assert!(rt; work.unprotect(kept) == Err(Fault::Unprotected));
+    assert!(rt; work.unprotect(rooted) == Ok(()));
+    assert!(rt; work.unprotect(rooted) == Err(Fault::Unprotected));
+    assert!(rt; work.reserve(92) == Ok(()));
+    assert!(rt; work.spare() >= 92);
+    assert!(rt; work.reserve(93) == Err(Fault::Full));
+}
+
+#[test]
+fn terms_are_kept(rt: HostRuntime) {
+    let alloc = rt.alloc();
+    let mut work = store(&rt, alloc, 100);
+    keeps(&rt, alloc, &mut work);
+}
+
+/// What is refused of a text, and a buffer that is too short.
+fn refuses(rt: &impl Abort, alloc: Global, work: &mut Work) {
+    assert!(rt; work.read(alloc, b"f(1,,2)") == Err(Fault::Syntax));
+    assert!(rt; work.place == 4);
+    assert!(rt; work.cells() == 0);
+    let t = read(rt, alloc, work, b"f");
+    prints(rt, alloc, work, t, b"f");
+    let mut buffer = *b"##";
+    assert!(rt; work.copy(&mut buffer) == Ok(()));
+    assert_eq!(rt; buffer, *b"f#");
+    assert!(rt; work.copy(&mut []) == Err(Fault::Range));
+}
+
+#[test]
+fn texts_are_refused(rt: HostRuntime) {
+    let alloc = rt.alloc();
+    let mut work = store(&rt, alloc, 100);
+    refuses(&rt, alloc, &mut work);
+}
+
+#[test]
+fn a_handle_is_opened_and_closed(rt: HostRuntime) {
+    let alloc = rt.alloc();
+    let mut psilt = Psilt::closed();
+    assert!(rt; psilt.take(alloc).is_none());
+    psilt.put(store(&rt, alloc, 10));
+    let mut work = psilt.take(alloc).expect(&rt, "a store");
+    assert!(rt; psilt.take(alloc).is_none());
+    assert!(rt; work.int(1).is_ok());
+    assert!(rt; Work::new(alloc, 0).is_err());
+    assert!(rt; Work::new(alloc, 1_073_741_825).is_err());
+}

@@ -1,0 +1,83 @@
+//! What a handle holds.
+
+ghost use Rattle.std.specs.Prelude.{◌≡◌, ◌<◌, ◌≤◌, IfOk, IfErr, false};
+ghost use Rattle.rx_term.specs.Store.{cells};
+ghost use Rattle.rx_shared.specs.State.{store_of, IsEmptyStore};
+ghost use Rattle.psilt_work.specs.Answers.{MakesRoom};
+ghost use Rattle.psilt_work.specs.Works.{IsSameButBank, IsOpeningFault};
+
+use crate::Fault;
+use rx_shared::SharedBank;
+use rx_term::{BankFault, TermBank};
+use std::alloc::Global;
+
+/// The most cells that a bank may have.
+pub const MOST_CELLS: u32 = 1_073_741_824;
+
+/// A bank, the text that was printed last, and where a text was refused last.
+#[derive(Drop)]
+pub struct Work {
+    /// The bank.
+    pub bank: SharedBank,
+    /// The text that was printed last.
+    pub text: Vec<u8>,
+    /// Where the text that was refused last leaves its grammar, in bytes from 0.
+    pub place: u32,
+}
+
+impl Work {
+    /// Over an empty bank of at most `cap` cells. `Range` where `cap` is 0 or more than
+    /// `MOST_CELLS`.
+    pub fn new(alloc: Global, cap: u32) -> Result<Box<Work>, Fault>
+        ensures empty { IfOk result (λ b. IsEmptyStore (store_of b.value.bank) cap) }
+        ensures fault { IfErr result (IsOpeningFault cap) }
+    {
+        if cap == 0 || cap > MOST_CELLS {
+            return Err(Fault::Range);
+        }
+        let Ok(bank) = SharedBank::new(alloc, cap) else {
+            return Err(Fault::Memory);
+        };
+        match Box::new(alloc, Work::over(alloc, bank)) {
+            Ok(work) => Ok(work),
+            Err(_) => Err(Fault::Memory),
+        }
+    }
+
+    /// Over a bank.
+    fn over(alloc: Global, bank: SharedBank) -> Work
+        ensures { result.bank ≡ bank }
+    {
+        Work {
+            bank,
+            text: Vec::new(alloc),
+            place: 0,
+        }
+    }
+
+    /// How many cells are taken.
+    pub fn cells(&self) -> u32
+        ensures { result ≡ cells (store_of self.now.bank) }
+    {
+        self.bank.cells()
+    }
+
+    /// How many cells can be taken with no more memory.
+    pub fn spare(&self) -> u32
+        ensures { result ≡ (store_of self.now.bank).spare }
+    {
+        self.bank.spare()
+    }
+
+    /// Makes room for `k` cells more.
+    pub fn reserve(&mut self, k: u32) -> Result<(), Fault>
+        ensures answer { MakesRoom (store_of self.old.bank) (store_of self.new.bank) k result }
+        ensures beside { IsSameButBank self.old self.new }
+    {
+        match self.bank.reserve(k) {
+            Ok(()) => Ok(()),
+            Err(BankFault::Memory) => Err(Fault::Memory),
+            Err(BankFault::Full) => Err(Fault::Full),
+        }
+    }
+}
