@@ -15,5 +15,5 @@ pub use rx_run::{
     run_share, run_share_at, run_share_in,
 };
 pub use spec::lines::{LineFault, engine_over, write_evaluation, write_lines, write_outcome};
-pub use spec::reading::{Job, read_alone, read_both};
+pub use spec::reading::{Job, read_alone, read_both, read_spec_text};
 pub use spec::runs::{Ended, run, run_at, run_in};

@@ -125,7 +125,7 @@ pub fn read_both<B: TermBank, R: Read, T: Read>(
 }
 
 /// Reads the text of a specification, and judges it.
-fn read_spec_text<R: Read>(alloc: Global, spec: &mut R) -> Result<Reading<Checked>, ReadFault>
+pub fn read_spec_text<R: Read>(alloc: Global, spec: &mut R) -> Result<Reading<Checked>, ReadFault>
     ensures verdict { IfOk result
         (λ reading. IfSome (R.remaining spec.old) (λ bytes. IsSpecRead bytes reading)) }
     ensures out { OnOk result (IsReadOut (R.remaining spec.old) (R.remaining spec.new)) }
