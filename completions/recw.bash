@@ -4,6 +4,7 @@
 # Each command with the kinds of its words: a file, a command, or a text that bash cannot tell.
 _recw_commands=(
     'eval file file'
+    'serve file file'
     'aterm file'
     'share file'
     'match text file'
@@ -11,7 +12,7 @@ _recw_commands=(
     'help command'
 )
 
-# Each option of eval, with the name of its value where it takes one.
+# Each option of eval, with the name of its value where it takes one. All but the first and the last are serve's too.
 _recw_eval_options=(
     '--term TERM'
     '--steps N'
@@ -55,6 +56,7 @@ _recw() {
     if ((COMP_CWORD > 1)); then kind=$(_recw_kind "$command"); fi
     if ((COMP_CWORD > 1)) && [[ $command != help ]]; then choices+=(--explain); fi
     if ((COMP_CWORD > 1)) && [[ $command == eval ]]; then choices+=("${_recw_eval_options[@]%% *}"); fi
+    if ((COMP_CWORD > 1)) && [[ $command == serve ]]; then choices+=(--steps --cells --memo --reclaim --count); fi
     if ((COMP_CWORD > 1)) && [[ $command == match ]]; then choices+=(--test); fi
     if ((COMP_CWORD == 1)); then choices+=(--version); fi
     if ((COMP_CWORD == 2)) && [[ $command == help ]]; then commands+=(refusals); fi

@@ -11,7 +11,10 @@ import glob
 import os
 import re
 import shlex
+import shutil
+import stat
 import subprocess
+import sys
 import tempfile
 
 import oracles
@@ -37,7 +40,7 @@ def check_table(known):
     for name in oracles.WORKED:
         tried.update([f"{name}.rec", f"{name}.trm"])
     there = {it for it in glob.glob("**/*.*", root_dir=f"{TOP}/examples", recursive=True) if not it.endswith(".md")}
-    there = {it for it in there if not it.startswith("tutorial/")}
+    there = {it for it in there if not it.startswith("tutorial/") and not it.endswith(".py")}
     same("examples/README.md: files", sorted(there), sorted(tried))
 
 
@@ -85,6 +88,53 @@ def check_helps(known, room):
             same(f"help: {example}", (0, ""), (ran.returncode, ran.stderr))
 
 
+def check_client():
+    """The client of a process that stays."""
+    words = [f"{TOP}/examples/client.py", program(), f"{TOP}/examples/add.rec", "plus(s(z),s(z))", "plus(z,z){a}", "3"]
+    due = "plus(s(z),s(z)) is s(s(z))\nplus(z,z){a} is z{a}\n3 is !term T2\nits value is !term A\n"
+    same("examples/client.py", due, run([sys.executable, *words]))
+
+
+def once(path, whom):
+    """The program, but the first time it answers ten requests and kills a process in place of the others."""
+    recw = f'{shlex.quote(program())} "$@"'
+    with open(path, "w", encoding="utf-8") as file:
+        file.write(f"#!/bin/sh\nif mkdir {shlex.quote(path)}.met 2>/dev/null; then head -n 10 | {recw}; kill -9 {whom}; fi\n")
+        file.write(f"exec {recw}\n")
+    os.chmod(path, os.stat(path).st_mode | stat.S_IXUSR)
+    return path
+
+
+def with_dask():
+    """A Python that has Dask, if there is one."""
+    for python in (sys.executable, "/usr/bin/python3"):
+        how = {"stdout": subprocess.DEVNULL, "stderr": subprocess.DEVNULL, "check": False}
+        if shutil.which(python) and subprocess.run([python, "-c", "import dask.bag, distributed"], **how).returncode == 0:
+            return python
+    return None
+
+
+def check_scale(room):
+    """The answers of requests that are divided between processes are those of one."""
+    spec = f"{TOP}/examples/add.rec"
+    text = "".join(f"plus(s(s(s(z))),s(z)){{{it}}}\n" for it in range(20_000)) + "3\nz("
+    due = run([program(), "serve", spec], input=text)
+    same("docs/SCALE.md: one process", True, due.startswith("s(s(s(s(z)))){0}\n") and due.endswith("\n!term T2\n!term A\n"))
+    if shutil.which("parallel"):
+        for recw in (program(), once(f"{room}/parallel", "$$")):
+            words = ["parallel", "--pipe", "--keep-order", "--retries", "3", "--block", "50k", recw, "serve", spec]
+            same(f"docs/SCALE.md: parallel {recw}", True, due == run(words, input=text, stderr=subprocess.DEVNULL))
+    else:
+        print("not tried: GNU parallel is not here")
+    python = with_dask()
+    if not python:
+        print("not tried: Dask is not here")
+        return
+    for recw in (program(), once(f"{room}/cluster", "$PPID")):
+        words = [python, f"{TOP}/examples/cluster.py", recw, spec, "2"]
+        same(f"docs/SCALE.md: {recw}", True, due == run(words, input=text, stderr=subprocess.DEVNULL, timeout=300))
+
+
 def check_specifications():
     """Each specification that a document shows stands in the file that is named before it."""
     shown = set()
@@ -103,7 +153,9 @@ def main():
         check_oracles()
         check_specifications()
         check_consoles(room)
-        check_helps(["eval", "aterm", "share", "match", "make"], room)
+        check_helps(["eval", "serve", "aterm", "share", "match", "make"], room)
+        check_client()
+        check_scale(room)
     done()
 
 

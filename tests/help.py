@@ -168,7 +168,11 @@ def main():
     same("options of eval", True, len(options["eval"]) > 1)
     shared = [it for it in options["eval"] if it.name == "--explain"]
     for name in names:
-        if name not in ("eval", "help"):
+        if name == "serve":
+            alone = ("--term", "--limit-annotations", "--limit-status")
+            both = [it for it in options["eval"] if it.name not in alone]
+            same("options of serve", both, options[name])
+        elif name not in ("eval", "help"):
             own = [it for it in options[name] if (name, it.name) != ("match", "--test")]
             same(f"options of {name}", shared, own)
     check_refusals()

@@ -8,6 +8,7 @@
 | rows | each worked specification with other options on the memo, on reclaiming and on the count |
 | files | each read and each write fails, is interrupted, or gives nothing; needs strace |
 | depth | great depth and length, on stacks of 8 MiB and of 256 KiB |
+| conversations | requests that are cut off, long, slow, many, without memory or cells, and streams that fail |
 | program | folders, missing and endless files, full devices, closed pipes, signals |
 | breadth | texts of great breadth, for each call that may want memory |
 | errors | each error of a read and of a write |
@@ -25,6 +26,7 @@ import time
 
 from attempts import NO_CELLS, TRIED, check, passed, recw
 from breadth import try_breadth, try_errors
+from conversations import try_conversations
 from common import FAILURES, rows, text_of
 from depth import try_depth
 from memory import try_crates, try_memory
@@ -118,6 +120,7 @@ PARTS = {
     "rows": try_rows,
     "files": try_files,
     "depth": try_depth,
+    "conversations": try_conversations,
     "program": try_program,
     "breadth": try_breadth,
     "errors": try_errors,

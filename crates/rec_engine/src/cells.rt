@@ -71,12 +71,28 @@ fn make_once<B: TermBank>(bank: &mut B, node: Node) -> Result<Term, BankFault>
 
 /// The same as a function of its own, for what is hardly ever needed.
 #[inline(never)]
-fn make_apart<B: TermBank>(bank: &mut B, node: Node) -> Result<Term, BankFault>
+fn make_behind<B: TermBank>(bank: &mut B, node: Node) -> Result<Term, BankFault>
     requires { IsSome (built (B.store bank.old) node) }
     ensures { MakesOrRefuses (B.store bank.old) (B.store bank.new)
         (built (B.store bank.old) node) result }
 {
     make_once(bank, node)
+}
+
+/// The same for a node that is put together once more: a function that is called takes a node in
+/// memory, and so the one that is made each time need not be there.
+#[inline(always)]
+fn make_apart<B: TermBank>(bank: &mut B, node: Node) -> Result<Term, BankFault>
+    requires { IsSome (built (B.store bank.old) node) }
+    ensures { MakesOrRefuses (B.store bank.old) (B.store bank.new)
+        (built (B.store bank.old) node) result }
+{
+    match node {
+        Node::Nil => make_behind(bank, Node::Nil),
+        Node::Cons(head, tail) => make_behind(bank, Node::Cons(head, tail)),
+        Node::Appl(f, args) => make_behind(bank, Node::Appl(f, args)),
+        Node::Annotated(t, anns) => make_behind(bank, Node::Annotated(t, anns)),
+    }
 }
 
 /// Gives back all that these references don't need; no constant is known any more, and no result of

@@ -13,7 +13,7 @@ use Rattle.rx_term.specs.declared.Kind.{Kind}
 use Rattle.rx_term.specs.declared.Kind.TheVariants as kind
 use Rattle.rx_term.specs.declared.Term.{Term}
 use Rattle.rx_term.specs.declared.Symbol as bank
-use Rattle.rx_term.specs.Walks.{held_tree, held_trees}
+use Rattle.rx_term.specs.Walks.{AllHeld, held_tree, held_trees}
 use Rattle.rec_syntax.specs.Syntax.{Spec, Rule, Apply}
 use Rattle.rec_syntax.specs.Syntax as X
 use Rattle.rec_sorts.specs.Lookup.{symbols, count, is_variable}
@@ -220,7 +220,7 @@ module _ (y : Spec) (w : Store) (m : Matcher) (ready : IsReady y w m) (u : Term)
   pub answer-some : (bind found : List Term) (i : ℕ) → FindsFor w m at work found (Some i) → bind ≡ found → Matched y w u from i bind
   answer-some bind found i h e =
       let f : HasFound y w m (name_of y (Symbol k)) at work found i = finds-for found (Some i) h in
-      record { values = f.values; first = skipped-to ∙ f.first; bound = ap (held_trees w) e ∙ f.bound }
+      record { values = f.values; first = skipped-to ∙ f.first; bound = ap (held_trees w) e ∙ f.bound; held = subst (AllHeld w) (sym e) f.held }
 
 -- a call's arguments are as many as it has
 pub arguments-long : (w : Store) (args : Trees) (n : ℕ) (work : List Term) → count_of args ≡ n → held_trees w work ≡ to_list args → n ≡ length work

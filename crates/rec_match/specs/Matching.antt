@@ -220,6 +220,11 @@ FindsFor w m at work bind found = (y : Spec) (ss : List bank.Symbol) (below args
     → work ≡ below ++ args → (at < length m.sides.items → count_at m at ≡ length args)
     → Finds y w m (name_of y (Symbol k)) at args bind found
 
+-- a rule that was told apart from whether there is one
+abbrev pub told : Bool → Hit → Option Hit
+told true hit = Some hit
+told false hit = None
+
 -- what is found for the last of some references, which begin at a place, and what is left of the
 -- list then
 abbrev pub FindsOn : Store → Matcher → ℕ → ℕ → List Term → List Term → Option Hit → Type 0

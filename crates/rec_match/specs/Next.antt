@@ -2,7 +2,7 @@
 use Rattle.std.specs.Prelude.{ℕ, ◌≡◌, ◌<◌, List, [], Option, Some, None, length, get_or}
 use Rattle.rx_term.specs.Store.{Store}
 use Rattle.rx_term.specs.declared.Term.{Term}
-use Rattle.rx_term.specs.Walks.{held_tree, held_trees}
+use Rattle.rx_term.specs.Walks.{AllHeld, held_tree, held_trees}
 use Rattle.rec_syntax.specs.Syntax.{Spec}
 use Rattle.rec_sorts.specs.Lookup.{symbols}
 use Rattle.rec_sorts.specs.Binding.{Substitution, next_match}
@@ -30,6 +30,7 @@ pub record Matched (y : Spec) (w : Store) (u : Term) (from i : ℕ) (bind : List
   pub values : Substitution
   pub first : next_match y from (held_tree w u) ≡ Some (record { number = i; values = values })
   pub bound : held_trees w bind ≡ values_of values
+  pub held : AllHeld w bind
 
 -- that rule, or none
 abbrev pub IsAnswer : Spec → Store → Term → ℕ → List Term → Option ℕ → Type 0

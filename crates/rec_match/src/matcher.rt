@@ -6,7 +6,7 @@ ghost use Rattle.std.specs.Prelude.{take};
 ghost use Rattle.rx_term.specs.Store.{tree_at};
 ghost use Rattle.rx_term.specs.Walks.{AllHeld};
 ghost use Rattle.rec_match.specs.Forests.{Extends, StandAbove, values_among};
-ghost use Rattle.rec_match.specs.Matching.{CanFind, FindsOn, Asks, Opens, Takes, CanAsk, Matches};
+ghost use Rattle.rec_match.specs.Matching.{CanFind, FindsOn, told, Asks, Opens, Takes, CanAsk, Matches};
 
 use crate::forest::{Forest, Hit, Values};
 use crate::places::{push_all, push_at};
@@ -73,15 +73,53 @@ impl Matcher {
         ensures behind { Extends work.old.items work.new.items }
     {
         if self.forest.roots[symbol as usize] == 0 {
-            return self.find_in_turn(bank, symbol, count, at, work, pending, bind);
+            let mut hit = Hit {
+                rule: at,
+                values: Values::OnTop(0),
+            };
+            return match self.find_apart(bank, symbol, count, at, work, pending, bind, &mut hit) {
+                Ok(true) => Ok(Some(hit)),
+                Ok(false) => Ok(None),
+                Err(refused) => Err(refused),
+            };
         }
         let first = work.len() - count as usize;
         self.forest.run(bank, symbol, first, at, work)
     }
 
-    /// The same without a tree: the rules of the symbol are tried one by one. The values that a
-    /// rule's tests give are put in order.
+    /// The same without a tree: whether there is such a rule, which is told where the caller says,
+    /// so that the answer on the usual way is in no memory.
     #[inline(never)]
+    fn find_apart<B: TermBank>(
+        &self,
+        bank: &B,
+        symbol: u32,
+        count: u32,
+        at: u32,
+        work: &mut Vec<Term>,
+        pending: &mut Vec<Term>,
+        bind: &mut Vec<Term>,
+        hit: &mut Hit,
+    ) -> Result<bool, AllocError>
+        requires held { AllHeld (B.store bank.now) work.old.items }
+        requires can { CanFind (B.store bank.now) self.now symbol count at work.old.items }
+        ensures finds { IfOk result (λ found. FindsOn (B.store bank.now) self.now
+            (length work.old.items - count) at work.old.items work.new.items (told found hit.new)) }
+        ensures held { IfOk result (λ found. AllHeld (B.store bank.now) work.new.items) }
+        ensures behind { Extends work.old.items work.new.items }
+    {
+        match self.find_in_turn(bank, symbol, count, at, work, pending, bind) {
+            Ok(Some(found)) => {
+                *hit = found;
+                Ok(true)
+            }
+            Ok(None) => Ok(false),
+            Err(refused) => Err(refused),
+        }
+    }
+
+    /// The rules of a symbol are tried one by one. The values that a rule's tests give are put in
+    /// order.
     fn find_in_turn<B: TermBank>(
         &self,
         bank: &B,

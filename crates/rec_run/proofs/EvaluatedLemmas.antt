@@ -111,11 +111,11 @@ mutual
       (λ v left. evaluate_all c left [] (terms_of (instances [] ts)) then λ vs rest. Done (more v vs) rest) (λ v left. evaluate_all c left [] ts then λ vs rest. Done (more v vs) rest)
       (evaluate-tree c n t) (λ v left e. ap (λ o. o then λ vs rest. Done (more v vs) rest) (evaluate-trees c left ts))
 
-eval-tree : (y : Spec) (n : ℕ) (t : Term) → Eval y n [] (term_of (tree_of t)) ≡ Eval y n [] t
+pub eval-tree : (y : Spec) (n : ℕ) (t : Term) → Eval y n [] (term_of (tree_of t)) ≡ Eval y n [] t
 unfolding Eval
 eval-tree y n t = evaluate-tree (call y (λ m r u. evaluate_within y n m r u)) n t
 
-bare_tree : (t : Term) → annotations (tree_of t) ≡ none
+pub bare_tree : (t : Term) → annotations (tree_of t) ≡ none
 bare_tree (Apply w ts) = refl
 
 -- the line of a term is that of its tree

@@ -1,12 +1,12 @@
-mod OneDueLemmas
-mod LineEndLemmas
-mod SpecLineLemmas
+pub mod OneDueLemmas
+pub mod LineEndLemmas
+pub mod SpecLineLemmas
 mod WholeRunLemmas
 mod RunEndLemmas
 mod GivenDueLemmas
-mod GivenLemmas
+pub mod GivenLemmas
 mod GivenListLemmas
-mod EvaluatedLemmas
+pub mod EvaluatedLemmas
 mod DueOfTextLemmas
 mod OutputRows
 mod RefusalRows

@@ -1,5 +1,13 @@
 pub mod TraceLemmas
 pub mod StateLemmas
 pub mod LineLemmas
+pub mod ListLemmas
+pub mod SideLemmas
+pub mod PushLemmas
+pub mod RunLemmas
+pub mod ConditionLemmas
+pub mod FindLemmas
+pub mod FireLemmas
+pub mod StepLemmas
 mod TraceRows
 mod LineRows

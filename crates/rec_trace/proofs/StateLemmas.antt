@@ -1,57 +1,18 @@
 -- Running the moves of a term is tracing it; and a rule that fires goes on with the moves of its right side.
 use Rattle.std.proofs.Common.{refl, sym, ap, ◌∙◌, append_assoc}
 use Rattle.std.proofs.lemmas.List.{append-nil}
-use Rattle.std.specs.Prelude.{ℕ, zero, suc, ◌≡◌, List, [], ◌∷◌, ◌++◌, Option, Some, None, drop}
+use Rattle.std.specs.Prelude.{ℕ, suc, ◌≡◌, List, [], ◌∷◌, ◌++◌, Option, Some, None, drop}
 use Rattle.rx_term.specs.Tree.{Tree, Trees, none, more}
 use Rattle.rec_syntax.specs.Syntax.{Term, Terms, Apply, Spec}
 use Rattle.rec_sorts.specs.Lookup.{count}
 use Rattle.rec_sorts.specs.Binding.{Substitution, value_of, application, instance, instances}
 use Rattle.rec_sorts.specs.Evaluation.{Outcome, Done, Over, Match, first_rule, Eval}
+use Rattle.rec_match.specs.Asking.{stack_on}
+use Rattle.rec_engine.specs.Flat.{taken}
+use Rattle.rec_engine.proofs.FlatLemmas.{size, taken-stacked, drop-stacked}
 use Rattle.rec_trace.specs.Trace.{Firing, Traced, quiet, ◌next◌, trace, trace_all, firing, Trace, TraceIn, TraceCall}
-use Rattle.rec_trace.specs.States.{Move, Give, Invoke, moves, moves_all, taken, written, Body, whole_of, run, resume, ahead, firing_then, after_call, StateLaw}
+use Rattle.rec_trace.specs.States.{Move, Give, Invoke, moves, moves_all, written, ahead, firing_then, after_call, StateLaw}
 use Rattle.rec_trace.proofs.TraceLemmas.{depth_law}
-
-abbrev pub stack_on : Trees → List Tree → List Tree
-stack_on none st = st
-stack_on (more u us) st = stack_on us (u ∷ st)
-
-abbrev pub size : Trees → ℕ
-size none = zero
-size (more v vs) = suc (size vs)
-
-abbrev join : Trees → Trees → Trees
-join none us = us
-join (more v vs) us = more v (join vs us)
-
-join-none : (vs : Trees) → join vs none ≡ vs
-join-none none = refl
-join-none (more v vs) = ap (more v) (join-none vs)
-
-abbrev plus : ℕ → ℕ → ℕ
-plus zero k = k
-plus (suc j) k = plus j (suc k)
-
-taken-on : (vs : Trees) (st : List Tree) (k : ℕ) (us : Trees) → taken (plus (size vs) k) (stack_on vs st) us ≡ taken k st (join vs us)
-taken-on none st k us = refl
-taken-on (more v vs) st k us = taken-on vs (v ∷ st) (suc k) us ∙ refl
-
-dropped-on : (vs : Trees) (st : List Tree) (k : ℕ) → drop (plus (size vs) k) (stack_on vs st) ≡ drop k st
-dropped-on none st k = refl
-dropped-on (more v vs) st k = dropped-on vs (v ∷ st) (suc k) ∙ refl
-
-plus-suc : (j k : ℕ) → plus j (suc k) ≡ suc (plus j k)
-plus-suc zero k = refl
-plus-suc (suc j) k = plus-suc j (suc k)
-
-plus-zero : (j : ℕ) → plus j zero ≡ j
-plus-zero zero = refl
-plus-zero (suc j) = plus-suc j zero ∙ ap suc (plus-zero j)
-
-pub taken-stacked : (vs : Trees) (st : List Tree) (k : ℕ) → size vs ≡ k → taken k (stack_on vs st) none ≡ vs
-taken-stacked vs st k e = ap (λ j. taken j (stack_on vs st) none) (sym e ∙ sym (plus-zero (size vs))) ∙ taken-on vs st zero none ∙ join-none vs
-
-pub drop-stacked : (vs : Trees) (st : List Tree) (k : ℕ) → size vs ≡ k → drop k (stack_on vs st) ≡ st
-drop-stacked vs st k e = ap (λ j. drop j (stack_on vs st)) (sym e ∙ sym (plus-zero (size vs))) ∙ dropped-on vs st zero
 
 -- what moves write down
 
@@ -136,11 +97,11 @@ of_done k vs left (Done us rest) e h = let is : us ≡ vs = cc e in ap size (sym
 of_done k vs left Over e h = absurd (cc e)
 
 -- running a call of values that were stacked
-run-call : (y : Spec) (whole : Tree → Tree) (later : ℕ → Tree → Traced Tree) (name : List ℕ) (k n : ℕ) (ms : List Move) (vs : Trees) (st : List Tree) → size vs ≡ k
-    → run y whole later n (Invoke name k ∷ ms) (stack_on vs st) ≡ (TraceCall y (λ u. whole (written ms (u ∷ st))) n (application name vs) next λ v left. run y whole later left ms (v ∷ st))
-run-call y whole later name k n ms vs st e =
-    ap (λ us. TraceCall y (λ u. whole (written ms (u ∷ drop k (stack_on vs st)))) n (application name us) next λ v left. run y whole later left ms (v ∷ drop k (stack_on vs st))) (taken-stacked vs st k e)
-    ∙ ap (λ r. TraceCall y (λ u. whole (written ms (u ∷ r))) n (application name vs) next λ v left. run y whole later left ms (v ∷ r)) (drop-stacked vs st k e)
+run-call : (y : Spec) (name : List ℕ) (k n : ℕ) (ms : List Move) (vs : Trees) (st : List Tree) → size vs ≡ k
+    → ahead y n (Invoke name k ∷ ms) (stack_on vs st) ≡ (TraceCall y (λ u. written ms (u ∷ st)) n (application name vs) next λ v left. ahead y left ms (v ∷ st))
+run-call y name k n ms vs st e =
+    ap (λ us. TraceCall y (λ u. written ms (u ∷ drop k (stack_on vs st))) n (application name us) next λ v left. ahead y left ms (v ∷ drop k (stack_on vs st))) (taken-stacked vs st k e)
+    ∙ ap (λ r. TraceCall y (λ u. written ms (u ∷ r)) n (application name vs) next λ v left. ahead y left ms (v ∷ r)) (drop-stacked vs st k e)
 
 abbrev head_trace : Spec → (Tree → Tree) → ℕ → Substitution → List ℕ → Terms → Option Tree → Traced Tree
 head_trace y whole n s name ts o = elim o [
@@ -150,48 +111,48 @@ head_trace y whole n s name ts o = elim o [
 
 mutual
   -- running the moves of a term is tracing it in its place, and then running the rest with its value on top
-  run-moves : (y : Spec) (whole : Tree → Tree) (later : ℕ → Tree → Traced Tree) (n : ℕ) (s : Substitution) (t : Term) (ms : List Move) (st : List Tree)
-      → run y whole later n (moves s t ++ ms) st ≡ (trace (TraceCall y) (λ u. whole (written ms (u ∷ st))) n s t next λ v left. run y whole later left ms (v ∷ st))
-  run-moves y whole later n s (Apply w ts) ms st =
+  run-moves : (y : Spec) (n : ℕ) (s : Substitution) (t : Term) (ms : List Move) (st : List Tree)
+      → ahead y n (moves s t ++ ms) st ≡ (trace (TraceCall y) (λ u. written ms (u ∷ st)) n s t next λ v left. ahead y left ms (v ∷ st))
+  run-moves y n s (Apply w ts) ms st =
       by_value (value_of s w.bytes)
-      (run-all y whole later n s ts (Invoke w.bytes (count ts) ∷ ms) st (λ us. whole (written ms (application w.bytes us ∷ st)))
-      (λ us e. ap whole (written-call w.bytes (count ts) ms us st e)))
+      (run-all y n s ts (Invoke w.bytes (count ts) ∷ ms) st (λ us. written ms (application w.bytes us ∷ st))
+      (λ us e. written-call w.bytes (count ts) ms us st e))
     where
       by_value : (o : Option Tree)
-          → run y whole later n (moves_all s ts ++ Invoke w.bytes (count ts) ∷ ms) st
-          ≡ (trace_all (TraceCall y) (λ us. whole (written ms (application w.bytes us ∷ st))) n s ts next λ vs left. run y whole later left (Invoke w.bytes (count ts) ∷ ms) (stack_on vs st))
-          → run y whole later n ((elim o [ Some v ↦ Give v ∷ [] | None ↦ moves_all s ts ++ Invoke w.bytes (count ts) ∷ [] ]) ++ ms) st
-          ≡ (head_trace y (λ u. whole (written ms (u ∷ st))) n s w.bytes ts o next λ v left. run y whole later left ms (v ∷ st))
+          → ahead y n (moves_all s ts ++ Invoke w.bytes (count ts) ∷ ms) st
+          ≡ (trace_all (TraceCall y) (λ us. written ms (application w.bytes us ∷ st)) n s ts next λ vs left. ahead y left (Invoke w.bytes (count ts) ∷ ms) (stack_on vs st))
+          → ahead y n ((elim o [ Some v ↦ Give v ∷ [] | None ↦ moves_all s ts ++ Invoke w.bytes (count ts) ∷ [] ]) ++ ms) st
+          ≡ (head_trace y (λ u. written ms (u ∷ st)) n s w.bytes ts o next λ v left. ahead y left ms (v ∷ st))
       by_value (Some v) h = refl
       by_value None h =
-          let all : Traced Trees = trace_all (TraceCall y) (λ us. whole (written ms (application w.bytes us ∷ st))) n s ts in
-          ap (λ x. run y whole later n x st) (append_assoc (moves_all s ts) (Invoke w.bytes (count ts) ∷ []) ms)
+          let all : Traced Trees = trace_all (TraceCall y) (λ us. written ms (application w.bytes us ∷ st)) n s ts in
+          ap (λ x. ahead y n x st) (append_assoc (moves_all s ts) (Invoke w.bytes (count ts) ∷ []) ms)
           ∙ h
-          ∙ next-ap all (λ vs left. run y whole later left (Invoke w.bytes (count ts) ∷ ms) (stack_on vs st))
-          (λ vs left. TraceCall y (λ u. whole (written ms (u ∷ st))) left (application w.bytes vs) next λ v left. run y whole later left ms (v ∷ st))
-          (λ vs left e. run-call y whole later w.bytes (count ts) left ms vs st (of_done (count ts) vs left all.outcome e (sized y (λ us. whole (written ms (application w.bytes us ∷ st))) n s ts)))
-          ∙ sym (next-assoc all (λ vs left. TraceCall y (λ u. whole (written ms (u ∷ st))) left (application w.bytes vs)) (λ v left. run y whole later left ms (v ∷ st)))
+          ∙ next-ap all (λ vs left. ahead y left (Invoke w.bytes (count ts) ∷ ms) (stack_on vs st))
+          (λ vs left. TraceCall y (λ u. written ms (u ∷ st)) left (application w.bytes vs) next λ v left. ahead y left ms (v ∷ st))
+          (λ vs left e. run-call y w.bytes (count ts) left ms vs st (of_done (count ts) vs left all.outcome e (sized y (λ us. written ms (application w.bytes us ∷ st)) n s ts)))
+          ∙ sym (next-assoc all (λ vs left. TraceCall y (λ u. written ms (u ∷ st)) left (application w.bytes vs)) (λ v left. ahead y left ms (v ∷ st)))
 
-  run-all : (y : Spec) (whole : Tree → Tree) (later : ℕ → Tree → Traced Tree) (n : ℕ) (s : Substitution) (ts : Terms) (ms : List Move) (st : List Tree) (place : Trees → Tree)
-      → ((us : Trees) → size us ≡ count ts → whole (written ms (stack_on us st)) ≡ place us)
-      → run y whole later n (moves_all s ts ++ ms) st ≡ (trace_all (TraceCall y) place n s ts next λ vs left. run y whole later left ms (stack_on vs st))
-  run-all y whole later n s Terms.none ms st place h = refl
-  run-all y whole later n s (Terms.more t ts) ms st place h =
-      let here : ((u : Tree) → whole (written (moves_all s ts ++ ms) (u ∷ st)) ≡ place (more u (instances s ts))) =
-      λ u. ap whole (written-all s ts ms (u ∷ st)) ∙ h (more u (instances s ts)) (ap suc (size-instances s ts)) in
-      ap (λ x. run y whole later n x st) (append_assoc (moves s t) (moves_all s ts) ms)
-      ∙ run-moves y whole later n s t (moves_all s ts ++ ms) st
-      ∙ (λ i. trace (TraceCall y) (λ u. here u i) n s t next λ v left. run y whole later left (moves_all s ts ++ ms) (v ∷ st))
-      ∙ next-ap (trace (TraceCall y) (λ u. place (more u (instances s ts))) n s t) (λ v left. run y whole later left (moves_all s ts ++ ms) (v ∷ st))
-      (λ v left. (trace_all (TraceCall y) (λ us. place (more v us)) left s ts next λ vs rest. quiet (Done (more v vs) rest)) next λ vs rest. run y whole later rest ms (stack_on vs st))
-      (λ v left e. run-all y whole later left s ts ms (v ∷ st) (λ us. place (more v us)) (λ us e2. h (more v us) (ap suc e2))
-      ∙ sym (next-assoc (trace_all (TraceCall y) (λ us. place (more v us)) left s ts) (λ vs rest. quiet (Done (more v vs) rest)) (λ vs rest. run y whole later rest ms (stack_on vs st))))
-      ∙ sym (next-assoc (trace (TraceCall y) (λ u. place (more u (instances s ts))) n s t) (λ v left. trace_all (TraceCall y) (λ us. place (more v us)) left s ts next λ vs rest. quiet (Done (more v vs) rest)) (λ vs rest. run y whole later rest ms (stack_on vs st)))
+  run-all : (y : Spec) (n : ℕ) (s : Substitution) (ts : Terms) (ms : List Move) (st : List Tree) (place : Trees → Tree)
+      → ((us : Trees) → size us ≡ count ts → written ms (stack_on us st) ≡ place us)
+      → ahead y n (moves_all s ts ++ ms) st ≡ (trace_all (TraceCall y) place n s ts next λ vs left. ahead y left ms (stack_on vs st))
+  run-all y n s Terms.none ms st place h = refl
+  run-all y n s (Terms.more t ts) ms st place h =
+      let here : ((u : Tree) → written (moves_all s ts ++ ms) (u ∷ st) ≡ place (more u (instances s ts))) =
+      λ u. written-all s ts ms (u ∷ st) ∙ h (more u (instances s ts)) (ap suc (size-instances s ts)) in
+      ap (λ x. ahead y n x st) (append_assoc (moves s t) (moves_all s ts) ms)
+      ∙ run-moves y n s t (moves_all s ts ++ ms) st
+      ∙ (λ i. trace (TraceCall y) (λ u. here u i) n s t next λ v left. ahead y left (moves_all s ts ++ ms) (v ∷ st))
+      ∙ next-ap (trace (TraceCall y) (λ u. place (more u (instances s ts))) n s t) (λ v left. ahead y left (moves_all s ts ++ ms) (v ∷ st))
+      (λ v left. (trace_all (TraceCall y) (λ us. place (more v us)) left s ts next λ vs rest. quiet (Done (more v vs) rest)) next λ vs rest. ahead y rest ms (stack_on vs st))
+      (λ v left e. run-all y left s ts ms (v ∷ st) (λ us. place (more v us)) (λ us e2. h (more v us) (ap suc e2))
+      ∙ sym (next-assoc (trace_all (TraceCall y) (λ us. place (more v us)) left s ts) (λ vs rest. quiet (Done (more v vs) rest)) (λ vs rest. ahead y rest ms (stack_on vs st))))
+      ∙ sym (next-assoc (trace (TraceCall y) (λ u. place (more u (instances s ts))) n s t) (λ v left. trace_all (TraceCall y) (λ us. place (more v us)) left s ts next λ vs rest. quiet (Done (more v vs) rest)) (λ vs rest. ahead y rest ms (stack_on vs st)))
 
--- the state in which a term's row begins stands for its trace
-pub begins : (y : Spec) (bs : List Body) (n : ℕ) (s : Substitution) (t : Term)
-    → ahead y bs n (record { moves = moves s t ++ []; stack = [] }) ≡ (TraceIn y (whole_of bs) n s t next λ v left. resume y bs left v)
-begins y bs n s t = run-moves y (whole_of bs) (resume y bs) n s t [] [] ∙ ap (λ x. x next λ v left. resume y bs left v) (sym (depth_law y (whole_of bs) n s t))
+-- the moves of a term come to its trace, and then to what follows with its value on top
+pub begins : (y : Spec) (n : ℕ) (s : Substitution) (t : Term) (ms : List Move) (st : List Tree)
+    → ahead y n (moves s t ++ ms) st ≡ (TraceIn y (λ u. written ms (u ∷ st)) n s t next λ v left. ahead y left ms (v ∷ st))
+begins y n s t ms st = run-moves y n s t ms st ∙ ap (λ x. x next λ v left. ahead y left ms (v ∷ st)) (sym (depth_law y (λ u. written ms (u ∷ st)) n s t))
 
 pub next-done : (t : Traced Tree) → (t next λ v left. quiet (Done v left)) ≡ t
 next-done t = by_outcome t.outcome
@@ -202,9 +163,9 @@ next-done t = by_outcome t.outcome
     by_outcome (Done v left) = ap (λ (fs : List Firing). let r : Traced Tree = record { firings = fs; outcome = Done v left } in r) (append-nil t.firings)
     by_outcome Over = refl
 
-starts : (y : Spec) (n : ℕ) (t : Term) → ahead y [] n (record { moves = moves [] t ++ []; stack = [] }) ≡ Trace y n t
+starts : (y : Spec) (n : ℕ) (t : Term) → ahead y n (moves [] t) [] ≡ Trace y n t
 unfolding Trace TraceIn
-starts y n t = begins y [] n [] t ∙ next-done (TraceIn y (λ u. u) n [] t)
+starts y n t = ap (λ ms. ahead y n ms []) (sym (append-nil (moves [] t))) ∙ begins y n [] t [] [] ∙ next-done (TraceIn y (λ u. u) n [] t)
 
 first_then : (f : Firing) (t : Traced Tree) (g : Tree → ℕ → Traced Tree) → ((firing_then f t) next g) ≡ firing_then f (t next g)
 first_then f t g = by_outcome t.outcome
@@ -215,32 +176,31 @@ first_then f t g = by_outcome t.outcome
     by_outcome (Done v left) = refl
     by_outcome Over = refl
 
-called : (y : Spec) (bs : List Body) (n : ℕ) (name : List ℕ) (k : ℕ) (ms : List Move) (st : List Tree)
-    → ahead y bs n (record { moves = Invoke name k ∷ ms; stack = st })
-    ≡ after_call y bs ms (drop k st) (application name (taken k st none)) (first_rule y (Eval y) y.rules n (application name (taken k st none)))
+called : (y : Spec) (n : ℕ) (name : List ℕ) (k : ℕ) (ms : List Move) (st : List Tree)
+    → ahead y n (Invoke name k ∷ ms) st
+    ≡ after_call y ms (drop k st) (application name (taken k st none)) (first_rule y (Eval y) y.rules n (application name (taken k st none)))
 unfolding TraceCall
-called y bs n name k ms st = by_found (first_rule y (Eval y) y.rules n (application name (taken k st none)))
+called y n name k ms st = by_found (first_rule y (Eval y) y.rules n (application name (taken k st none)))
   where
     by_found : (o : Outcome (Option Match)) → ◌≡◌ {A = Traced Tree}
         ((elim o as (λ _. Traced Tree) [
           | Over ↦ quiet Over
           | Done found left ↦ elim found [
             | None ↦ quiet (Done (application name (taken k st none)) left)
-            | Some m ↦ record { firings = firing (λ v. whole_of bs (written ms (v ∷ drop k st))) (application name (taken k st none)) m left ∷ (TraceIn y (λ v. whole_of bs (written ms (v ∷ drop k st))) left m.values m.rule.right).firings; outcome = (TraceIn y (λ v. whole_of bs (written ms (v ∷ drop k st))) left m.values m.rule.right).outcome }
+            | Some m ↦ record { firings = firing (λ v. written ms (v ∷ drop k st)) (application name (taken k st none)) m left ∷ (TraceIn y (λ v. written ms (v ∷ drop k st)) left m.values m.rule.right).firings; outcome = (TraceIn y (λ v. written ms (v ∷ drop k st)) left m.values m.rule.right).outcome }
           ]
-        ]) next λ v left. run y (whole_of bs) (resume y bs) left ms (v ∷ drop k st))
-        (after_call y bs ms (drop k st) (application name (taken k st none)) o)
+        ]) next λ v left. ahead y left ms (v ∷ drop k st))
+        (after_call y ms (drop k st) (application name (taken k st none)) o)
     by_found Over = refl
     by_found (Done None left) = refl
     by_found (Done (Some m) left) =
-        first_then (firing (λ v. whole_of bs (written ms (v ∷ drop k st))) (application name (taken k st none)) m left) (TraceIn y (λ v. whole_of bs (written ms (v ∷ drop k st))) left m.values m.rule.right) (λ v left. run y (whole_of bs) (resume y bs) left ms (v ∷ drop k st))
-        ∙ ap (firing_then (firing (λ v. whole_of bs (written ms (v ∷ drop k st))) (application name (taken k st none)) m left)) (sym (begins y (record { moves = ms; stack = drop k st } ∷ bs) left m.values m.rule.right))
+        first_then (firing (λ v. written ms (v ∷ drop k st)) (application name (taken k st none)) m left) (TraceIn y (λ v. written ms (v ∷ drop k st)) left m.values m.rule.right) (λ v left. ahead y left ms (v ∷ drop k st))
+        ∙ ap (firing_then (firing (λ v. written ms (v ∷ drop k st)) (application name (taken k st none)) m left)) (sym (begins y left m.values m.rule.right ms (drop k st)))
 
 pub state_law : (y : Spec) → StateLaw y
 state_law y = record {
   begins = starts y;
-  gives = λ bs n v ms st. refl;
-  returns = λ b bs n v st. refl;
+  gives = λ n v ms st. refl;
   ends = λ n v st. refl;
   calls = called y;
 }

@@ -3,5 +3,9 @@
 
 pub mod laws;
 mod lines;
+mod lists;
+mod sides;
+mod tracer;
 
 pub use lines::{Look, Spot, spot_of, write_firing, write_whole};
+pub use tracer::{Tracer, Turn};

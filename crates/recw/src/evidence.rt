@@ -88,11 +88,22 @@ impl<'a> Evidence<'a> {
             (Source::Args, _) => Some("ARGS"),
             (Source::Terms, Some(word)) => return TextName::Word(word),
             (Source::Terms, None) => request.terms_path(),
+            (Source::Term, None) if matches!(request, Request::Serve { .. }) => {
+                request.requests_path()
+            }
             _ => request.path(),
         };
         match path {
             Some(path) if path != STANDARD_INPUT => TextName::Path(path),
             _ => TextName::Path("<stdin>"),
+        }
+    }
+
+    /// What the requests of a conversation are called.
+    pub fn requests_name(&self) -> &'a str {
+        match self.invocation.request.requests_path() {
+            Some(path) => path,
+            None => "<stdin>",
         }
     }
 
@@ -270,7 +281,7 @@ fn read_line(line: &[u8]) -> Option<RefusalLine<'_>> {
 /// Names the option that raises the limit on cells.
 fn explain_room<W: Write>(request: Request<'_>, out: &mut W) -> io::Result<()> {
     match request {
-        Request::Eval { options, .. } => {
+        Request::Eval { options, .. } | Request::Serve { options, .. } => {
             let cells = options.cells;
             let noun = if cells == 1 { "cell" } else { "cells" };
             writeln!(out, "--cells raises the limit, which is {cells} {noun}")

@@ -6,9 +6,11 @@ mod expected;
 mod given;
 mod input;
 mod item;
+mod options;
 mod program;
 mod recorded;
 mod report;
+mod serve;
 #[cfg(test)]
 mod shelf;
 #[cfg(test)]

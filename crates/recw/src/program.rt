@@ -3,11 +3,13 @@
 use crate::evidence::Evidence;
 use crate::given::given_by;
 use crate::input::{open, open_file, open_given};
+use crate::options::run_options;
 use crate::recorded::Watched;
 use crate::report;
+use crate::serve::serve;
 use rec_run::{
-    Finish, LimitLines, RunFault, RunOptions, Source, run_aterm_at, run_make_at, run_match_at,
-    run_share_at, run_with,
+    Finish, LimitLines, RunFault, Source, run_aterm_at, run_make_at, run_match_at, run_share_at,
+    run_with,
 };
 use recw_words::status::{eval_status, match_status};
 use recw_words::{Asked, Audience, EvalOptions, Invocation, Request, STANDARD_INPUT, read_words};
@@ -42,7 +44,7 @@ fn obey<H: Files, R: Read, W: Write, E: Write + Audience>(
 ) -> u8 {
     invocation.explain |= err.is_curious();
     let mut evidence = Evidence::new(alloc, invocation);
-    let end = perform(rt, input, out, &mut evidence);
+    let end = perform(rt, input, out, err, &mut evidence);
     conclude(end, &evidence, err)
 }
 
@@ -68,23 +70,26 @@ fn outcome_status(status: u8, evidence: &Evidence<'_>) -> u8 {
 }
 
 /// Does what is asked for, and keeps what there is to tell of the output.
-fn perform<H: Files, R: Read, W: Write>(
+fn perform<H: Files, R: Read, W: Write, E: Write>(
     rt: &H,
     input: &mut R,
     out: &mut W,
+    err: &mut E,
     evidence: &mut Evidence<'_>,
 ) -> Result<Finish, RunFault> {
     let mut out = Watched::new(evidence.alloc, out, evidence.invocation.has_outcome);
-    let end = run_request(rt, input, &mut out, evidence);
+    let end = run_request(rt, input, &mut out, err, evidence);
     evidence.note_output(out.finish());
     end
 }
 
-/// Does what is asked for, on the files that it names.
-fn run_request<H: Files, R: Read, W: Write>(
+/// Does what is asked for, on the files that it names. What is told while it goes on is written to
+/// `err`.
+fn run_request<H: Files, R: Read, W: Write, E: Write>(
     rt: &H,
     input: &mut R,
     out: &mut W,
+    err: &mut E,
     evidence: &mut Evidence<'_>,
 ) -> Result<Finish, RunFault> {
     match evidence.invocation.request {
@@ -96,6 +101,7 @@ fn run_request<H: Files, R: Read, W: Write>(
             &mut evidence.place,
         ),
         Request::Eval { options, .. } => evaluate(rt, options, input, out, evidence),
+        Request::Serve { options, .. } => serve(rt, options, input, out, err, evidence),
         _ => run_on_file(rt, input, out, evidence),
     }
 }
@@ -238,17 +244,6 @@ fn evaluate_with<R: Read, T: Read + Drop, W: Write>(
         evidence.second = evidence.note_read(terms.finish(), name);
     }
     end
-}
-
-/// The options of a run that are asked for.
-fn run_options(options: EvalOptions) -> RunOptions {
-    RunOptions {
-        steps: options.steps,
-        cells: options.cells,
-        memo: options.memo,
-        reclaim: options.reclaim,
-        count: options.count,
-    }
 }
 
 /// What limit lines are to say.

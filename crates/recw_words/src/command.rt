@@ -19,6 +19,7 @@ const VERSION: &str = "0.1.0";
 pub fn command<'a>(alloc: Global) -> Result<Command<'a>, AllocError> {
     let command = bare_command(alloc)?;
     let command = with(command, eval_command(alloc))?;
+    let command = with(command, serve_command(alloc))?;
     let command = with(command, aterm_command(alloc))?;
     let command = with(command, share_command(alloc))?;
     let command = with(command, match_command(alloc))?;
@@ -67,11 +68,7 @@ fn eval_command<'a>(alloc: Global) -> Result<Command<'a>, AllocError> {
         "Example: recw eval --steps 500 add.rec add.trm",
     );
     let command = with_files(alloc, command)?;
-    let command = with_limits(alloc, command)?.arg(flag(
-        alloc,
-        "count",
-        "Print the steps that each term took behind its value",
-    ))?;
+    let command = with_limits(alloc, command)?.arg(count(alloc))?;
     with_limit_lines(alloc, command)?.arg(explain(alloc))
 }
 
@@ -88,6 +85,30 @@ fn with_limit_lines<'a>(alloc: Global, command: Command<'a>) -> Result<Command<'
             "limit-status",
             "End with status 5 where a term takes more steps",
         ))
+}
+
+/// The subcommand `serve`.
+fn serve_command<'a>(alloc: Global) -> Result<Command<'a>, AllocError> {
+    let command = described(
+        alloc,
+        "serve",
+        "Answer requests, each a line with an ATerm, by a line each",
+        "Example: echo 'plus(s(z),s(z))' | recw serve add.rec",
+    );
+    let command = command
+        .arg(text(
+            alloc,
+            "SPEC",
+            "File of the specification, or - where FILE is named",
+        ))?
+        .arg(file(
+            alloc,
+            "FILE",
+            "File of the requests, or - [default: standard input]",
+        ))?;
+    with_limits(alloc, command)?
+        .arg(count(alloc))?
+        .arg(explain(alloc))
 }
 
 /// The command with the files of an evaluation, and with terms in place of the second.
@@ -264,6 +285,15 @@ fn number<'a>(
         .default_value(default)
         .allow_negative_numbers(true)
         .help(help)
+}
+
+/// The option `--count`.
+fn count<'a>(alloc: Global) -> Arg<'a> {
+    flag(
+        alloc,
+        "count",
+        "Print the steps that each term took behind its value",
+    )
 }
 
 /// The option `--explain`.

@@ -65,11 +65,14 @@ fn explain_spot<W: Write>(refusal: Refusal<'_>, spot: &Spot<'_>, out: &mut W) ->
     explain_rule(refusal.rule, out)
 }
 
-/// Writes a text's name, a line and a column.
+/// Writes a text's name, a line, where the name has none, and a column.
 fn write_spot<W: Write>(text: TextName<'_>, spot: &Spot<'_>, out: &mut W) -> io::Result<()> {
     text.write(out)?;
     let Spot { line, column, .. } = *spot;
-    write!(out, ":{line}:{column}: ")
+    match text {
+        TextName::Line { .. } => write!(out, ":{column}: "),
+        _ => write!(out, ":{line}:{column}: "),
+    }
 }
 
 /// Tells of a refusal without a place, and which item of a list it is about, where that is known.

@@ -37,6 +37,12 @@ pub enum Request<'a> {
         spec: Option<&'a str>,
         terms: Option<&'a str>,
     },
+    /// Answer requests by a specification; each stands in a file or on the standard input.
+    Serve {
+        options: EvalOptions,
+        spec: Option<&'a str>,
+        requests: Option<&'a str>,
+    },
     /// Print a term, which stands in a file or on the standard input.
     Aterm {
         file: Option<&'a str>,
@@ -61,7 +67,7 @@ impl<'a> Request<'a> {
     /// The file that is read first, where one is named.
     pub fn path(&self) -> Option<&'a str> {
         match *self {
-            Request::Eval { spec, .. } => spec,
+            Request::Eval { spec, .. } | Request::Serve { spec, .. } => spec,
             Request::Aterm { file } | Request::Share { file } | Request::Match { file, .. } => file,
             Request::Make { .. } => None,
         }
@@ -75,10 +81,21 @@ impl<'a> Request<'a> {
         }
     }
 
+    /// The file of requests, where one is named.
+    pub fn requests_path(&self) -> Option<&'a str> {
+        match *self {
+            Request::Serve { requests, .. } => requests,
+            _ => None,
+        }
+    }
+
     /// Whether the standard input is named twice.
     fn is_read_twice(&self) -> bool {
         let is_standard = self.path().unwrap_or(STANDARD_INPUT) == STANDARD_INPUT;
-        is_standard && self.terms_path() == Some(STANDARD_INPUT)
+        match *self {
+            Request::Serve { requests, .. } => is_standard && requests.is_none(),
+            _ => is_standard && self.terms_path() == Some(STANDARD_INPUT),
+        }
     }
 }
 
@@ -210,6 +227,7 @@ fn asked_by<'a>(matches: &ArgMatches<'a>) -> Result<Bare<'a>, Wrong> {
 fn request_of<'a>(name: &str, inner: &ArgMatches<'a>) -> Option<Request<'a>> {
     match name {
         "eval" => eval_of(inner),
+        "serve" => serve_of(inner),
         "aterm" => Some(Request::Aterm {
             file: path_of(inner, "FILE"),
         }),
@@ -233,6 +251,15 @@ fn eval_of<'a>(inner: &ArgMatches<'a>) -> Option<Request<'a>> {
         options: options_of(inner)?,
         spec: path_of(inner, "SPEC"),
         terms: inner.get_str("TERMS"),
+    })
+}
+
+/// What `serve` is asked to do.
+fn serve_of<'a>(inner: &ArgMatches<'a>) -> Option<Request<'a>> {
+    Some(Request::Serve {
+        options: options_of(inner)?,
+        spec: path_of(inner, "SPEC"),
+        requests: path_of(inner, "FILE"),
     })
 }
 

@@ -10,6 +10,8 @@ pub enum TextName<'a> {
     Path(&'a str),
     /// The word behind the option `-e` that stands behind so many others of them.
     Word(usize),
+    /// A line of a text, by its number, from 1.
+    Line { path: &'a str, number: u64 },
 }
 
 impl TextName<'_> {
@@ -20,6 +22,10 @@ impl TextName<'_> {
             TextName::Word(before) => {
                 let number = before.saturating_add(1);
                 write!(out, "-e {number}")
+            }
+            TextName::Line { path, number } => {
+                write_visible(path, out)?;
+                write!(out, ":{number}")
             }
         }
     }

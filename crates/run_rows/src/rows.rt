@@ -7,6 +7,7 @@ mod hostile;
 mod limits;
 mod pattern;
 mod performing;
+mod serve;
 mod spec;
 mod streams;
 mod term;

@@ -106,7 +106,7 @@ pub fn read_alone_from<R: Read>(
     ensures same { IsSameInput spec.old spec.new }
     ensures cause { TellsRead spec.new result }
 {
-    let first = read_spec_text(alloc, spec)?;
+    let first = read_spec_text_from(alloc, spec)?;
     Ok(job_alone(first))
 }
 
@@ -178,12 +178,22 @@ pub fn read_both_from<B: TermBank, R: Read, T: Read>(
     ensures same_terms { IsSameInput terms.old terms.new }
     ensures cause { TellsReads spec.new terms.new result }
 {
-    let first = read_spec_text(alloc, spec)?;
+    let first = read_spec_text_from(alloc, spec)?;
     read_after(alloc, first, terms, bank)
 }
 
 /// Reads the text of a specification, and judges it.
-fn read_spec_text<R: Read>(
+pub fn read_spec_text<R: Read>(alloc: Global, spec: &mut R) -> Result<Reading<Checked>, ReadFault>
+    ensures verdict { IfOk result
+        (λ reading. IfSome (R.remaining spec.old) (λ bytes. IsSpecRead bytes reading)) }
+    ensures out { OnOk result (IsReadOut (R.remaining spec.old) (R.remaining spec.new)) }
+{
+    let mut spec = Input::new(spec);
+    read_spec_text_from(alloc, &mut spec)
+}
+
+/// The same from an input. It is asked no more once it refused.
+pub fn read_spec_text_from<R: Read>(
     alloc: Global,
     spec: &mut Input<'_, R>,
 ) -> Result<Reading<Checked>, ReadFault>

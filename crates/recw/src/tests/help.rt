@@ -12,6 +12,7 @@ Usage: recw [COMMAND]
 
 Commands:
   eval   Evaluate the terms of a REC specification
+  serve  Answer requests, each a line with an ATerm, by a line each
   aterm  Print an ATerm in its shortest form
   share  Print an ATerm and how many cells it takes with equal parts shared
   match  Print what a pattern binds in an ATerm, or that it does not match
@@ -67,6 +68,27 @@ Options:
   -h, --help               Print help
 
 Example: recw eval --steps 500 add.rec add.trm
+";
+
+/// The help of `serve`.
+const SERVE_HELP: &str = "Answer requests, each a line with an ATerm, by a line each
+
+Usage: recw serve [OPTIONS] <SPEC> [FILE]
+
+Arguments:
+  <SPEC>  File of the specification, or - where FILE is named
+  [FILE]  File of the requests, or - [default: standard input]
+
+Options:
+      --steps <N>    Most steps that a term may take, up to 10^18 [default: 1000000]
+      --cells <C>    Most cells that terms may take, 1 to 2^30; the default takes up to 1.4 GB [default: 16777216]
+      --memo <M>     Most results to remember, up to 2^20 [default: 65536]
+      --reclaim <K>  New cells between two reclaims, 1 to 2^30 [default: 262144]
+      --count        Print the steps that each term took behind its value
+      --explain      Say in words why a text is refused, and where
+  -h, --help         Print help
+
+Example: echo 'plus(s(z),s(z))' | recw serve add.rec
 ";
 
 /// The help of `aterm`.
@@ -147,6 +169,7 @@ pub(crate) const HELPS: &[Row] = &[
     (&["eval", "-h"], "", 0, EVAL_HELP, ""),
     (&["eval", "--help"], "", 0, EVAL_HELP, ""),
     (&["help", "eval"], "", 0, EVAL_HELP, ""),
+    (&["serve", "--help"], "", 0, SERVE_HELP, ""),
     (&["aterm", "-h"], "", 0, ATERM_HELP, ""),
     (&["match", "-h"], "", 0, MATCH_HELP, ""),
     (&["help", "make"], "", 0, MAKE_HELP, ""),

@@ -44,6 +44,31 @@ pub(crate) const NAMED: &[Row] = &[
         "!terms A\n",
         "recw: terms A at byte 9\n",
     ),
+    (&["serve", "spec", "terms"], "", 0, "!term T2\n", ""),
+    (
+        &["serve", "--count", "spec", "spec"],
+        "",
+        0,
+        "!term A\n",
+        "",
+    ),
+    (
+        &["serve", "spec", "--explain", "terms"],
+        "",
+        0,
+        "!term T2\n",
+        "terms:1:1: T2: a node is an integer, a list or a placeholder; a list\n    \
+         [plus(z,s(z))]\n    ^\n",
+    ),
+    (
+        &["serve", "terms", "spec"],
+        "",
+        1,
+        "!spec G\n",
+        "recw: spec G at byte 0\n",
+    ),
+    (&["serve", "spec"], "", 4, "", "recw: read failed\n"),
+    (&["serve", "spec", "none"], "", 4, "", "recw: read failed\n"),
     (&["aterm", "terms"], "", 0, "[plus(z,s(z))]\n", ""),
     (&["share", "terms"], "", 0, "[plus(z,s(z))]\ncells 8\n", ""),
     (

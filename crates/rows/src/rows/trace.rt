@@ -1,11 +1,33 @@
-//! The lines of a trace.
+//! A trace, one firing after the other, and its lines.
 
-use rec_trace::{Look, Spot, spot_of, write_firing, write_whole};
+ghost use Rattle.rec_engine.specs.Engine.{SameEngine};
+ghost use Rattle.rec_trace.specs.Tracing.{Stands};
+
+use rec_engine::{Engine, Options};
+use rec_sorts::check;
+use rec_syntax::read_spec;
+use rec_trace::{Look, Spot, Tracer, Turn, spot_of, write_firing, write_whole};
 use rx_plain::PlainBank;
 use rx_term::{Term, TermBank};
-use rx_text::read;
+use rx_text::{read, write};
 use std::alloc::Global;
 use std::process::Abort;
+
+/// A sum, and a condition that costs a step of its own.
+const SPEC: &[u8] = b"REC-SPEC Add SORTS N \
+    CONS z : -> N s : N -> N \
+    OPNS add : N N -> N f : N -> N \
+    VARS X Y : N \
+    RULES add(z,Y) -> Y add(s(X),Y) -> s(add(X,Y)) f(X) -> s(X) if add(X,z) -><- X \
+    EVAL add(s(z),s(z)) f(z) END-SPEC";
+
+/// A firing: its rule, its redex, what it becomes, and the steps that are left.
+struct Fired {
+    rule: u32,
+    redex: &'static [u8],
+    contractum: &'static [u8],
+    left: u64,
+}
 
 /// Three lines, the second one empty.
 const TEXT: &[u8] = b"ab\n\nc";
@@ -112,4 +134,136 @@ fn whole_terms(rt: HostRuntime) {
         b"12:1: s(add(z,z))\t40\n",
     );
     expect_whole(&rt, alloc, b"s(add(z,z))", CUT, b"12:1: s(ad...\n");
+}
+
+/// An engine for the specification.
+fn engine_for(rt: &impl Abort, alloc: Global) -> Engine<PlainBank> {
+    let syntax = read_spec(alloc, SPEC).expect(rt, "a specification");
+    let checked = check(alloc, syntax).expect(rt, "a checked specification");
+    let bank = PlainBank::new(alloc, 1000).expect(rt, "a bank");
+    let options = Options {
+        memo: 0,
+        reclaim_every: 1,
+    };
+    Engine::new(alloc, checked, bank, options).expect(rt, "an engine")
+}
+
+/// Stops where a term has another text.
+fn expect_text<B: TermBank>(rt: &impl Abort, alloc: Global, bank: &B, t: Term, wanted: &[u8]) {
+    assert!(rt; bank.holds(t));
+    let mut text = Vec::new(alloc);
+    assert!(rt; write(alloc, bank, t, &mut text).is_ok());
+    assert!(rt; text.as_slice() == wanted);
+}
+
+/// The next step of a trace, which is a firing or the value.
+fn step_of<B: TermBank>(
+    rt: &impl Abort,
+    alloc: Global,
+    engine: &mut Engine<B>,
+    tracer: &mut Tracer,
+) -> Turn
+    requires { Stands engine.old.spec (B.store engine.old.bank) tracer.old }
+    ensures same { SameEngine engine.old engine.new }
+    ensures stands { Stands engine.old.spec (B.store engine.new.bank) tracer.new }
+{
+    let turn = tracer.next_step(alloc, engine).expect(rt, "a step");
+    assert!(rt; !matches!(turn, Turn::Limit));
+    turn
+}
+
+/// Stops where the next step of a trace is another one than this firing.
+fn expect_fired<B: TermBank>(
+    rt: &impl Abort,
+    alloc: Global,
+    engine: &mut Engine<B>,
+    tracer: &mut Tracer,
+    wanted: &Fired,
+)
+    requires { Stands engine.old.spec (B.store engine.old.bank) tracer.old }
+    ensures same { SameEngine engine.old engine.new }
+    ensures stands { Stands engine.old.spec (B.store engine.new.bank) tracer.new }
+{
+    let Turn::Fired {
+        rule,
+        redex,
+        contractum,
+    } = step_of(rt, alloc, engine, tracer)
+    else {
+        panic!(rt; "a firing")
+    };
+    assert!(rt; rule == wanted.rule && tracer.left() == wanted.left);
+    expect_text(rt, alloc, engine.bank(), redex, wanted.redex);
+    expect_text(rt, alloc, engine.bank(), contractum, wanted.contractum);
+}
+
+/// Stops where the next step of a trace is no value of this text.
+fn expect_value<B: TermBank>(
+    rt: &impl Abort,
+    alloc: Global,
+    engine: &mut Engine<B>,
+    tracer: &mut Tracer,
+    wanted: &[u8],
+)
+    requires { Stands engine.old.spec (B.store engine.old.bank) tracer.old }
+{
+    let Turn::Value { term } = step_of(rt, alloc, engine, tracer) else {
+        panic!(rt; "a value")
+    };
+    expect_text(rt, alloc, engine.bank(), term, wanted);
+}
+
+/// The first step of the sum.
+const FIRST: Fired = Fired {
+    rule: 1,
+    redex: b"add(s(z),s(z))",
+    contractum: b"s(add(z,s(z)))",
+    left: 4,
+};
+
+/// The second one.
+const SECOND: Fired = Fired {
+    rule: 0,
+    redex: b"add(z,s(z))",
+    contractum: b"s(z)",
+    left: 3,
+};
+
+/// Behind a condition of one step, which isn't told.
+const BEHIND: Fired = Fired {
+    rule: 2,
+    redex: b"f(z)",
+    contractum: b"s(z)",
+    left: 3,
+};
+
+#[test]
+fn sums(rt: HostRuntime) {
+    let alloc = rt.alloc();
+    let mut engine = engine_for(&rt, alloc);
+    assert!(rt; engine.eval_terms() == 2);
+    let mut tracer = Tracer::of_eval(alloc, &mut engine, 0, 5).expect(&rt, "a trace");
+    expect_fired(&rt, alloc, &mut engine, &mut tracer, &FIRST);
+    expect_fired(&rt, alloc, &mut engine, &mut tracer, &SECOND);
+    expect_value(&rt, alloc, &mut engine, &mut tracer, b"s(s(z))");
+}
+
+#[test]
+fn conditions(rt: HostRuntime) {
+    let alloc = rt.alloc();
+    let mut engine = engine_for(&rt, alloc);
+    assert!(rt; engine.eval_terms() == 2);
+    let mut tracer = Tracer::of_eval(alloc, &mut engine, 1, 5).expect(&rt, "a trace");
+    expect_fired(&rt, alloc, &mut engine, &mut tracer, &BEHIND);
+    expect_value(&rt, alloc, &mut engine, &mut tracer, b"s(z)");
+}
+
+#[test]
+fn limits(rt: HostRuntime) {
+    let alloc = rt.alloc();
+    let mut engine = engine_for(&rt, alloc);
+    assert!(rt; engine.eval_terms() == 2);
+    let mut tracer = Tracer::of_eval(alloc, &mut engine, 0, 0).expect(&rt, "a trace");
+    let turn = tracer.next_step(alloc, &mut engine).expect(&rt, "a step");
+    assert!(rt; matches!(turn, Turn::Limit));
 }

@@ -16,4 +16,4 @@ pub returns-in_err-first-clause-refused : goal.returns-in_err-first-clause-refus
 returns-in_err-first-clause-refused g c = refused_any _ (read_fault_refused c.from_residual.result c.in_err-first.field-0.0 c.from_residual.ensures.1)
 
 pub returns-in_err-first-clause-cause : goal.returns-in_err-first-clause-cause
-returns-in_err-first-clause-cause g c = read_of c.read_spec_text.new.spec c.from_residual.result c.in_err-first.field-0.0 c.from_residual.ensures.1 c.in_err-first.ensures.cause
+returns-in_err-first-clause-cause g c = read_of c.read_spec_text_from.new.spec c.from_residual.result c.in_err-first.field-0.0 c.from_residual.ensures.1 c.in_err-first.ensures.cause

@@ -21,7 +21,7 @@ pub returns-in_err-first-clause-refused : goal.returns-in_err-first-clause-refus
 returns-in_err-first-clause-refused g c = refused_any _ (read_fault_refused c.from_residual.result c.in_err-first.field-0.0 c.from_residual.ensures.1)
 
 pub returns-clause-cause : goal.returns-clause-cause
-returns-clause-cause g c = reads_second c.read_spec_text.new.spec c.read_after.new.terms c.read_after.result c.in_ok-first.ensures.cause c.read_after.ensures.cause
+returns-clause-cause g c = reads_second c.read_spec_text_from.new.spec c.read_after.new.terms c.read_after.result c.in_ok-first.ensures.cause c.read_after.ensures.cause
 
 pub returns-in_err-first-clause-cause : goal.returns-in_err-first-clause-cause
-returns-in_err-first-clause-cause g c = reads_first c.read_spec_text.new.spec c.args.terms.now c.from_residual.result c.in_err-first.field-0.0 c.from_residual.ensures.1 c.in_err-first.ensures.cause
+returns-in_err-first-clause-cause g c = reads_first c.read_spec_text_from.new.spec c.args.terms.now c.from_residual.result c.in_err-first.field-0.0 c.from_residual.ensures.1 c.in_err-first.ensures.cause

@@ -1,0 +1,186 @@
+-- What holds of answers, and of what is due for requests.
+use Rattle.std.proofs.Common.{◌≡◌, ◌≢◌, ℕ, suc, ◌+◌, ◌-◌, ◌<◌, ◌≤◌, ◌^◌, Bool, true, false, List, [], ◌∷◌, ◌++◌, Option, Some, None, inl, inr, refl, sym, ap, ap₂, subst, ◌∙◌, append_assoc, append-nil, get_or, length, arith}
+use Rattle.std.specs.Prelude.{◌⊎◌, IsTrue, flat_map, codes, decimal, nat_lt, not, ◌&&◌}
+use Rattle.std.specs.List.{list_all, list_any}
+use Rattle.std.proofs.lemmas.Bool.{and_parts}
+use Rattle.rx_term.specs.Name.{plain_name, starts_name, continues_name}
+use Rattle.rx_term.specs.Tree.{Tree, Trees, Int, Appl, Items, Hole, annotated, annotations}
+use Rattle.rx_text.specs.Canon.{canon}
+use Rattle.rx_text.specs.Grammar.{Spells}
+use Rattle.rx_text.specs.Verdict.{Verdict, TooLong, Outside, Spelt, IsVerdict}
+use Rattle.rx_text.proofs.VerdictLemmas.{one_verdict}
+use Rattle.rx_text.proofs.ValidLemmas.{spelt_valid}
+use Rattle.rx_text.proofs.InLineLemmas.{seen, letter_seen}
+use Rattle.rec_syntax.specs.Syntax.{Spec}
+use Rattle.rec_sorts.specs.Evaluation.{Outcome, Done, Over, Eval, term_of}
+use Rattle.rec_sorts.specs.Numbering.{Pairwise}
+use Rattle.rec_sorts.specs.TermRules.{arguments, broken_by_elements, first_passed, is_annotated, is_ill_filled, is_ill_sorted, is_no_application, is_undeclared, nodes, nodes_all}
+use Rattle.rec_engine.proofs.ValueTreeLemmas.{IsApplied, value_is_applied}
+use Rattle.rx_run.specs.Bytes.{newlines}
+use Rattle.rec_run.specs.GivenTerms.{given_text}
+use Rattle.rec_run.specs.Output.{bare, line}
+use Rattle.rx_run.specs.Due.{steps_text}
+use Rattle.rec_run.specs.Reading.{evaluation_text}
+use Rattle.rec_run.proofs.GivenLemmas.{annotations_trees, notes-newlines}
+use Rattle.rx_run.proofs.NewlineLemmas.{no_ends}
+use Rattle.rec_run.proofs.LineEndLemmas.{decimal-newlines}
+use Rattle.rec_run.proofs.SpecLineLemmas.{given_text-newlines}
+use Rattle.rec_serve.specs.Conversation.{IsAnswer, IsDue, answer_after, answer_by, joined, requests}
+use Rattle.rec_serve.specs.Laws.{NoWant, OneAnswer, OneLine, SplitLaw}
+use Rattle.rec_serve.specs.Replies.{IsWant}
+use Rattle.rec_serve.proofs.RequestLemmas.{requests-divided}
+
+-- ---- one answer
+
+same_answer : (y : Spec) (counted : Bool) (n : ℕ) (r a b : List ℕ) → IsAnswer y counted n r a → IsAnswer y counted n r b → a ≡ b
+same_answer y counted n r a b (v, h, e) (w, k, f) =
+    let one = one_verdict r in
+    e ∙ ap (answer_after y counted n) (one.2 v h ∙ sym (one.2 w k)) ∙ sym f
+
+pub one_answer : OneAnswer
+one_answer y counted n r =
+    let one = one_verdict r in
+    let a = answer_after y counted n one.0 in
+    (a, (one.0, one.1, refl), λ b h. same_answer y counted n r b a h (one.0, one.1, refl))
+
+-- ---- one line
+
+-- the line of a given term is its text and a line end
+pub line-text : (y : Spec) (counted : Bool) (n : ℕ) (u : Tree) → line y (bare counted) n (record { term = term_of u; notes = annotations u }) ≡ given_text y (bare counted) n u ++ codes "\n"
+line-text y counted n u = by (Eval y n [] (term_of u))
+  where
+    by : (o : Outcome Tree) → ◌≡◌ {A = List ℕ} (elim o [
+      | Done v left ↦ canon (annotated v (annotations u)) ++ steps_text counted (n - left) ++ codes "\n"
+      | Over ↦ codes "!limit " ++ decimal n ++ codes "\n"
+    ]) (evaluation_text (annotations u) (bare counted) n o ++ codes "\n")
+    by (Done v left) = refl
+    by Over = refl
+
+passed_below : (k : ℕ) (bs : List Bool) (m : ℕ) → first_passed k bs ≡ Some m → m < k + length bs
+passed_below k [] m e = absurd (cc e)
+passed_below k (true ∷ bs) m e = let same : k ≡ m = cc e in omega (arith, same)
+passed_below k (false ∷ bs) m e = let h = passed_below (suc k) bs m e in omega (arith, h)
+
+-- the number of a rule is small
+rule_below : (y : Spec) (ts : List Tree) (m : ℕ) → broken_by_elements y ts ≡ Some m → m < 7
+rule_below y ts m e =
+    let all = flat_map nodes ts in
+    let inner = flat_map (λ (t : Tree). nodes_all (arguments t)) ts in
+    passed_below 2 (list_any is_no_application all ∷ list_any is_annotated inner ∷ list_any (is_undeclared y) all ∷ list_any (is_ill_filled y) all ∷ list_any (is_ill_sorted y) all ∷ []) m e
+
+record InLine (a : List ℕ) : Type 0 where
+  text : List ℕ
+  is : a ≡ text ++ codes "\n"
+  none : newlines text ≡ 0
+
+tree_line : (y : Spec) (counted : Bool) (n : ℕ) (r : List ℕ) (t : Tree) → n < 2 ^ 64 → IsTrue (list_all (λ b. nat_lt b 256) r) → Spells r t → (o : Option ℕ) → broken_by_elements y (t ∷ []) ≡ o → InLine (answer_by y counted n t o)
+tree_line y counted n r t few low spelt (Some m) e =
+    let k = rule_below y (t ∷ []) m e in
+    let small : m < 2 ^ 64 = omega (arith, k) in
+    record { text = codes "!term T" ++ decimal m; is = refl; none = no_ends (codes "!term T") (decimal m) refl (decimal-newlines m small) }
+tree_line y counted n r t few low spelt None e =
+    record {
+      text = given_text y (bare counted) n t;
+      is = line-text y counted n t;
+      none = given_text-newlines y (bare counted) n few t (notes-newlines (annotations t) (annotations_trees t (spelt_valid r t low spelt)));
+    }
+
+after_line : (y : Spec) (counted : Bool) (n : ℕ) (r : List ℕ) → n < 2 ^ 64 → IsTrue (list_all (λ b. nat_lt b 256) r) → (v : Verdict) → IsVerdict r v → InLine (answer_after y counted n v)
+after_line y counted n r few low TooLong h = record { text = codes "!term L1"; is = refl; none = refl }
+after_line y counted n r few low (Outside at) h = record { text = codes "!term A"; is = refl; none = refl }
+after_line y counted n r few low (Spelt t) h = tree_line y counted n r t few low h.1 (broken_by_elements y (t ∷ [])) refl
+
+pub one_line : OneLine
+one_line y counted n r a few low (v, h, e) =
+    let k = after_line y counted n r few low v h in
+    (k.text, e ∙ k.is, k.none)
+
+-- ---- no want
+
+-- a want's first bytes are `!m` or `!c`
+record BeginsWant (a : List ℕ) : Type 0 where
+  first : get_or a 0 0 ≡ 33
+  second : (get_or a 1 0 ≡ 109) ⊎ (get_or a 1 0 ≡ 99)
+
+begins_want : (a : List ℕ) → IsWant a → BeginsWant a
+begins_want a (inl e) = record { first = ap (λ z. get_or z 0 0) e; second = inl (ap (λ z. get_or z 1 0) e) }
+begins_want a (inr e) = record { first = ap (λ z. get_or z 0 0) e; second = inr (ap (λ z. get_or z 1 0) e) }
+
+-- another second byte
+other_second : (a : List ℕ) → (get_or a 1 0 ≡ 116) ⊎ (get_or a 1 0 ≡ 108) → IsWant a → ⊥
+other_second a (inl e) w = elim (begins_want a w).second [ inl k ↦ absurd (omega (arith, e, k)) | inr k ↦ absurd (omega (arith, e, k)) ]
+other_second a (inr e) w = elim (begins_want a w).second [ inl k ↦ absurd (omega (arith, e, k)) | inr k ↦ absurd (omega (arith, e, k)) ]
+
+other_first : (a : List ℕ) → get_or a 0 0 ≢ 33 → IsWant a → ⊥
+other_first a h w = h (begins_want a w).first
+
+-- a letter is no `!`
+letter_other : (b : ℕ) → starts_name b ≡ true → b ≢ 33
+letter_other b h e = let k : starts_name 33 ≡ true = ap starts_name (sym e) ∙ h in absurd (cc k)
+
+value_first : (v : Tree) (notes : Trees) (rest : List ℕ) → IsApplied v → get_or (canon (annotated v notes) ++ rest) 0 0 ≢ 33
+value_first (Appl name true args anns) notes rest h e = absurd (omega (arith, e))
+value_first (Appl [] false args anns) notes rest h e = absurd (cc (h.0))
+value_first (Appl (b ∷ bs) false args anns) notes rest h e = letter_other b (by (plain_name (b ∷ bs)) refl h.0) e
+  where
+    by : (p : Bool) → plain_name (b ∷ bs) ≡ p → false ≡ not p → starts_name b ≡ true
+    by true k q = (and_parts (starts_name b) (list_all continues_name bs) k).0
+    by false k q = absurd (cc q)
+value_first (Int z anns) notes rest h e = absurd h
+value_first (Items ts anns) notes rest h e = absurd h
+value_first (Hole t anns) notes rest h e = absurd h
+
+line_wants : (y : Spec) (counted : Bool) (n : ℕ) (u : Tree) (o : Outcome Tree) → Eval y n [] (term_of u) ≡ o → IsWant (evaluation_text (annotations u) (bare counted) n o ++ codes "\n") → ⊥
+line_wants y counted n u (Done v left) e w =
+    other_first _ (λ k. value_first v (annotations u) (steps_text counted (n - left) ++ codes "\n") (value_is_applied y n (term_of u) v left e) (ap (λ z. get_or z 0 0) (sym (append_assoc (canon (annotated v (annotations u))) (steps_text counted (n - left)) (codes "\n"))) ∙ k)) w
+line_wants y counted n u Over e w = other_second _ (inr refl) w
+
+tree_wants : (y : Spec) (counted : Bool) (n : ℕ) (t : Tree) (o : Option ℕ) → IsWant (answer_by y counted n t o) → ⊥
+tree_wants y counted n t (Some m) w = other_second _ (inl refl) w
+tree_wants y counted n t None w = line_wants y counted n t (Eval y n [] (term_of t)) refl (subst IsWant (line-text y counted n t) w)
+
+after_wants : (y : Spec) (counted : Bool) (n : ℕ) (v : Verdict) → IsWant (answer_after y counted n v) → ⊥
+after_wants y counted n TooLong w = other_second _ (inl refl) w
+after_wants y counted n (Outside at) w = other_second _ (inl refl) w
+after_wants y counted n (Spelt t) w = tree_wants y counted n t (broken_by_elements y (t ∷ [])) w
+
+pub no_want : NoWant
+no_want y counted n r a (v, h, e) w = after_wants y counted n v (subst IsWant e w)
+
+-- ---- what is due
+
+-- of two lists one behind the other
+pub pairwise_both : {X Y : Type 0} (P : X → Y → Type 0) (xs us : List X) (ys vs : List Y) → Pairwise P xs ys → Pairwise P us vs → Pairwise P (xs ++ us) (ys ++ vs)
+pairwise_both P [] us [] vs h k = k
+pairwise_both P [] us (y ∷ ys) vs h k = absurd h
+pairwise_both P (x ∷ xs) us [] vs h k = absurd h
+pairwise_both P (x ∷ xs) us (y ∷ ys) vs h k = (h.0, pairwise_both P xs us ys vs h.1 k)
+
+pub joined-append : (xs ys : List (List ℕ)) → joined (xs ++ ys) ≡ joined xs ++ joined ys
+joined-append [] ys = refl
+joined-append (x ∷ xs) ys = ap (λ z. x ++ z) (joined-append xs ys) ∙ sym (append_assoc x (joined xs) (joined ys))
+
+due_both : (y : Spec) (counted : Bool) (n : ℕ) (rs ss : List (List ℕ)) (a b : List ℕ) → IsDue y counted n rs a → IsDue y counted n ss b → IsDue y counted n (rs ++ ss) (a ++ b)
+due_both y counted n rs ss a b h k = record {
+  answers = h.answers ++ k.answers;
+  each = pairwise_both (IsAnswer y counted n) rs ss h.answers k.answers h.each k.each;
+  all = ap₂ (λ x z. x ++ z) h.all k.all ∙ sym (joined-append h.answers k.answers);
+}
+
+same_answers : (y : Spec) (counted : Bool) (n : ℕ) (rs xs ys : List (List ℕ)) → Pairwise (IsAnswer y counted n) rs xs → Pairwise (IsAnswer y counted n) rs ys → xs ≡ ys
+same_answers y counted n [] [] [] h k = refl
+same_answers y counted n [] [] (b ∷ ys) h k = absurd k
+same_answers y counted n [] (a ∷ xs) ys h k = absurd h
+same_answers y counted n (r ∷ rs) [] ys h k = absurd h
+same_answers y counted n (r ∷ rs) (a ∷ xs) [] h k = absurd k
+same_answers y counted n (r ∷ rs) (a ∷ xs) (b ∷ ys) h k = ap₂ (λ z zs. z ∷ zs) (same_answer y counted n r a b h.0 k.0) (same_answers y counted n rs xs ys h.1 k.1)
+
+one_due : (y : Spec) (counted : Bool) (n : ℕ) (rs : List (List ℕ)) (a b : List ℕ) → IsDue y counted n rs a → IsDue y counted n rs b → a ≡ b
+one_due y counted n rs a b h k = h.all ∙ ap joined (same_answers y counted n rs h.answers k.answers h.each k.each) ∙ sym k.all
+
+pub split_law_lem : SplitLaw
+split_law_lem = record {
+  streams = λ front rest. ap requests (append_assoc front (10 ∷ []) rest) ∙ requests-divided front rest;
+  due = due_both;
+  one = one_due;
+}

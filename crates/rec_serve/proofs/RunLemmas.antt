@@ -1,0 +1,74 @@
+-- Whole runs, by the verdict on the specification.
+use Rattle.std.proofs.Common.{◌≡◌, ℕ, Bool, List, [], Option, Some, None, IfErr, IfSome, OnOk, Result, Ok, Err, refl, sym, ap, subst, ◌∙◌}
+use Rattle.rx_text.specs.Written.{AppendsFront}
+use Rattle.rx_text.proofs.AppendingLemmas.{appends_same}
+use Rattle.rec_syntax.specs.Syntax.{Sourced, Spec}
+use Rattle.rec_sorts.specs.SpecRules as verdict
+use Rattle.rec_sorts.specs.SpecRules.{Good, SpecVerdict, Verdict}
+use Rattle.rx_run.specs.Refusals.{place_of, refusal_due}
+use Rattle.rx_run.specs.declared.ending.Finish.{Finish}
+use Rattle.rx_run.specs.declared.ending.Place.{Place}
+use Rattle.rx_run.specs.declared.refusal.Reading.{Reading}
+use Rattle.rx_run.specs.declared.refusal.Reading.TheVariants as reading
+use Rattle.rx_run.specs.declared.refusal.Refusal.{Refusal}
+use Rattle.rx_run.specs.declared.streams.ReadFault.{ReadFault}
+use Rattle.rx_run.specs.declared.streams.ReadFault.TheVariants as unread
+use Rattle.rec_run.specs.GivenTerms.{IsRefusal, OnGoodSpec, OnRefusedSpec}
+use Rattle.rec_run.specs.Output.{bare, due_of_spec}
+use Rattle.rec_run.specs.Reading.{IsSpecRead, IsSpecReading, refused_spec}
+use Rattle.rec_run.proofs.OneDueLemmas.{one_verdict}
+use Rattle.rx_run.proofs.WholeRunLemmas.{same_refusal}
+use Rattle.rec_serve.specs.Replies.{BreaksAfter, BreaksServing, PlacedServing, answered_before, unread_fault}
+use Rattle.rec_serve.specs.declared.ending.ServeFault.{ServeFault}
+use Rattle.rec_serve.proofs.ReplyLemmas.{breaks_at_once}
+
+-- what a text came to is the one verdict on it
+the_reading : (text : List ℕ) (r : Reading Sourced) (v : Verdict) → IsSpecRead text r → SpecVerdict text v → IsSpecReading r v
+the_reading text r v (w, h, is) k = subst (IsSpecReading r) (one_verdict text w v h k) is
+
+pub breaks_serving : (counted : Bool) (n : ℕ) (spec known : Option (List ℕ)) (r : Reading Sourced) (result : Result Finish ServeFault) (old new : Option (List ℕ)) → IfSome spec (λ text. IsSpecRead text r)
+    → IfErr result (λ fault. (v : Verdict) → IsSpecReading r v → BreaksAfter counted n v known fault old new) → IfErr result (λ fault. BreaksServing counted n spec known fault old new)
+breaks_serving counted n spec known r (Ok x) old new h k = tt
+breaks_serving counted n None known r (Err fault) old new h k = tt
+breaks_serving counted n (Some text) known r (Err fault) old new h k = λ v is. k v (the_reading text r v h is)
+
+refused_place : (counted : Bool) (n : ℕ) (r : Refusal) (v : Verdict) → refused_spec v ≡ Some r → (refusal_due r).place ≡ (due_of_spec (bare counted) n v).place
+refused_place counted n r verdict.Long e = ap (λ (x : Refusal). (refusal_due x).place) (same_refusal e)
+refused_place counted n r (verdict.Grammar at) e = ap (λ (x : Refusal). (refusal_due x).place) (same_refusal e)
+refused_place counted n r (verdict.Breaks f) e = ap (λ (x : Refusal). (refusal_due x).place) (same_refusal e)
+refused_place counted n r (Good y) e = absurd (cc e)
+
+read_place : (counted : Bool) (n : ℕ) (r : Reading Sourced) (v : Verdict) → IsSpecReading r v → place_of r ≡ (due_of_spec (bare counted) n v).place
+read_place counted n (reading.Refused r) v e = refused_place counted n r v e
+read_place counted n (reading.Good checked) v e = ap (λ x. (due_of_spec (bare counted) n x).place) (sym e)
+
+pub placed_serving : (counted : Bool) (n : ℕ) (spec : Option (List ℕ)) (r : Reading Sourced) (result : Result Finish ServeFault) (place : Option Place) → IfSome spec (λ text. IsSpecRead text r) → OnOk result (place ≡ place_of r) → OnOk result (PlacedServing counted n spec place)
+placed_serving counted n spec r (Err fault) place h e = tt
+placed_serving counted n None r (Ok x) place h e = tt
+placed_serving counted n (Some text) r (Ok x) place (v, h, is) e = (v, h, e ∙ read_place counted n r v is)
+
+pub good_serving : (spec : Option (List ℕ)) (r : Reading Sourced) (result : Result Finish ServeFault) (P : Type 0) → IfSome spec (λ text. IsSpecRead text r) → OnOk result ((y : Spec) → IsSpecReading r (Good y) → P) → OnOk result (OnGoodSpec spec P)
+good_serving spec r (Err fault) P h k = tt
+good_serving None r (Ok x) P h k = tt
+good_serving (Some text) r (Ok x) P h k = λ y is. k y (the_reading text r (Good y) h is)
+
+pub refused_serving : (spec : Option (List ℕ)) (r : Reading Sourced) (P : Type 0) → IfSome spec (λ text. IsSpecRead text r) → ((v : Verdict) → IsSpecReading r v → IsRefusal v → P) → OnRefusedSpec spec P
+refused_serving None r P h k = tt
+refused_serving (Some text) r P h k = λ v is refused. k v (the_reading text r v h is) refused
+
+unread_first : (f : ReadFault) → answered_before (unread_fault f) ≡ 0
+unread_first unread.Memory = refl
+unread_first unread.Read = refl
+
+nothing_front : (text : List ℕ) (old : Option (List ℕ)) → AppendsFront text old old
+nothing_front text old = ([], appends_same old, (text, refl))
+
+unread_after : (counted : Bool) (n : ℕ) (v : Verdict) (known : Option (List ℕ)) (fault : ServeFault) (old : Option (List ℕ)) → answered_before fault ≡ 0 → BreaksAfter counted n v known fault old old
+unread_after counted n (Good y) known fault old a = breaks_at_once y counted n known old fault a
+unread_after counted n verdict.Long known fault old a = (a, nothing_front _ old)
+unread_after counted n (verdict.Grammar at) known fault old a = (a, nothing_front _ old)
+unread_after counted n (verdict.Breaks f) known fault old a = (a, nothing_front _ old)
+
+pub breaks_unread : (counted : Bool) (n : ℕ) (spec known : Option (List ℕ)) (f : ReadFault) (fault : ServeFault) (old : Option (List ℕ)) → fault ≡ unread_fault f → BreaksServing counted n spec known fault old old
+breaks_unread counted n None known f fault old e = tt
+breaks_unread counted n (Some text) known f fault old e = λ v is. unread_after counted n v known fault old (ap answered_before e ∙ unread_first f)

@@ -1,0 +1,6 @@
+use Rattle.rec_serve.proofs.OutcomeLemmas.{kept_answer}
+use Rattle.rec_serve.proofs.conversation.answer_kept.Goals as goal
+
+pub returns-else-request-clause-answered : goal.returns-else-request-clause-answered
+returns-else-request-clause-answered g c =
+    kept_answer c.args.engine.now.spec c.args.options.count c.args.options.steps c.args.request.now c.deref.result.now c.answer.result c.if-request.false c.deref.ensures.value c.answer.ensures.answered

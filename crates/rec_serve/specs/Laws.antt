@@ -1,0 +1,51 @@
+-- The laws of a conversation.
+use Rattle.std.specs.Prelude.{ℕ, ◌≡◌, ◌<◌, ◌^◌, ◌⊎◌, ◌++◌, Bool, List, IsTrue, codes, flat_map, nat_lt}
+use Rattle.std.specs.List.{list_all}
+use Rattle.rec_syntax.specs.Syntax.{Spec}
+use Rattle.rx_run.specs.Bytes.{newlines}
+use Rattle.rec_sorts.specs.Laws.{Every}
+use Rattle.rec_serve.specs.Conversation.{requests, IsAnswer, IsDue}
+use Rattle.rec_serve.specs.Replies.{IsWant}
+
+-- requests with their line ends
+abbrev pub ended : List (List ℕ) → List ℕ
+ended rs = flat_map (λ r. r ++ codes "\n") rs
+
+-- a request has no line end
+abbrev pub IsInLine : List ℕ → Type 0
+IsInLine r = newlines r ≡ 0
+
+-- nothing of a stream is lost: its requests with their line ends are the stream, but for the line
+-- end that the last one may lack; none has a line end inside; and any such requests are those of a
+-- stream
+pub record RequestsLaw : Type 0 where
+  pub all : (bytes : List ℕ) → (ended (requests bytes) ≡ bytes)
+      ⊎ (ended (requests bytes) ≡ bytes ++ codes "\n")
+  pub in_line : (bytes : List ℕ) → Every IsInLine (requests bytes)
+  pub back : (rs : List (List ℕ)) → Every IsInLine rs → requests (ended rs) ≡ rs
+
+-- each request has one answer
+abbrev pub OneAnswer : Type 0
+OneAnswer = (y : Spec) (counted : Bool) (n : ℕ) (r : List ℕ) → (a : List ℕ)
+    × IsAnswer y counted n r a × ((b : List ℕ) → IsAnswer y counted n r b → b ≡ a)
+
+-- an answer is one line, and no other line end stands in it; so requests and answers keep step
+abbrev pub OneLine : Type 0
+OneLine = (y : Spec) (counted : Bool) (n : ℕ) (r a : List ℕ) → n < 2 ^ 64
+    → IsTrue (list_all (λ b. nat_lt b 256) r) → IsAnswer y counted n r a
+    → (text : List ℕ) × (a ≡ text ++ codes "\n") × (newlines text ≡ 0)
+
+-- and none is that of want of memory or of cells
+abbrev pub NoWant : Type 0
+NoWant = (y : Spec) (counted : Bool) (n : ℕ) (r a : List ℕ) → IsAnswer y counted n r a → IsWant a → ⊥
+
+-- a stream may be divided behind a line end: the requests are those of each part; what is due for
+-- requests one behind the other is what is due for each; and one text is due for any requests. So it
+-- does not matter which process answers which
+pub record SplitLaw : Type 0 where
+  pub streams : (front rest : List ℕ) → requests (front ++ codes "\n" ++ rest)
+      ≡ requests (front ++ codes "\n") ++ requests rest
+  pub due : (y : Spec) (counted : Bool) (n : ℕ) (rs ss : List (List ℕ)) (a b : List ℕ)
+      → IsDue y counted n rs a → IsDue y counted n ss b → IsDue y counted n (rs ++ ss) (a ++ b)
+  pub one : (y : Spec) (counted : Bool) (n : ℕ) (rs : List (List ℕ)) (a b : List ℕ)
+      → IsDue y counted n rs a → IsDue y counted n rs b → a ≡ b

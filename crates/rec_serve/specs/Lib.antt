@@ -1,0 +1,7 @@
+pub mod Answering
+pub mod Conversation
+pub mod Laws
+pub mod Reading
+pub mod Replies
+pub mod Steps
+pub mod Wants

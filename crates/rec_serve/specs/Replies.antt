@@ -1,0 +1,100 @@
+-- What is written for requests, also where memory or cells ran out or a stream failed.
+--     IsReply y counted n r reply      what is written for a request
+--     Converses y counted n bytes ..   all requests of a stream were answered
+--     BreaksOff y counted n bytes ..   a conversation broke off at a fault
+--     EndsServing counted n ..         a run ended
+--     BreaksServing counted n ..       a run stopped at a fault
+use Rattle.std.specs.Prelude.{ℕ, ◌≡◌, ◌⊎◌, Bool, Option, Some, None, IfSome, List, [], ◌∷◌, ◌++◌, codes, length}
+use Rattle.std.specs.Io.KnownBytes.{Appends}
+use Rattle.rx_text.specs.Written.{AppendsFront, IsFront}
+use Rattle.rec_syntax.specs.Syntax.{Spec}
+use Rattle.rec_sorts.specs.Numbering.{Pairwise}
+use Rattle.rec_sorts.specs.SpecRules.{Verdict, Long, Grammar, Breaks, Good, SpecVerdict}
+use Rattle.rec_run.specs.Output.{bare, due_of_spec}
+use Rattle.rx_run.specs.declared.ending.Finish.{Finish}
+use Rattle.rx_run.specs.declared.ending.Finish.TheVariants as finish
+use Rattle.rx_run.specs.declared.ending.Place.{Place}
+use Rattle.rx_run.specs.declared.streams.ReadFault.{ReadFault}
+use Rattle.rx_run.specs.declared.streams.ReadFault.TheVariants as unread
+use Rattle.rec_serve.specs.Conversation.{requests, IsAnswer, joined}
+use Rattle.rec_serve.specs.declared.ending.ServeFault.{ServeFault}
+use Rattle.rec_serve.specs.declared.ending.ServeFault.TheVariants.{Memory, Read, Write}
+
+-- the line of a request that met want of memory or of cells
+abbrev pub IsWant : List ℕ → Type 0
+IsWant text = (text ≡ codes "!memory\n") ⊎ (text ≡ codes "!cells\n")
+
+-- what is written for a request: its answer, or such a line
+abbrev pub IsReply : Spec → Bool → ℕ → List ℕ → List ℕ → Type 0
+IsReply y counted n request reply = IsAnswer y counted n request reply ⊎ IsWant reply
+
+-- a reply to each request of a stream was written, in their order
+pub record Converses (y : Spec) (counted : Bool) (n : ℕ) (bytes : List ℕ)
+    (old new : Option (List ℕ)) : Type 0 where
+  pub replies : List (List ℕ)
+  pub each : Pairwise (IsReply y counted n) (requests bytes) replies
+  pub written : Appends old new (joined replies)
+
+-- how many requests a fault says were answered
+abbrev pub answered_before : ServeFault → ℕ
+answered_before Memory = 0
+answered_before (Read answered) = answered
+answered_before (Write answered) = answered
+
+-- what was written behind the last reply that is whole, by the requests that are left: only a writer
+-- that refuses leaves a front of a reply
+abbrev pub IsPart : Spec → Bool → ℕ → ServeFault → List (List ℕ) → List ℕ → Type 0
+IsPart y counted n (Write answered) (r ∷ rs) part = (part ≡ [])
+    ⊎ ((reply : List ℕ) × IsReply y counted n r reply × IsFront part reply)
+IsPart y counted n fault left part = part ≡ []
+
+-- a conversation broke off: as many requests as the fault says were answered
+pub record BreaksOff (y : Spec) (counted : Bool) (n : ℕ) (bytes : List ℕ) (fault : ServeFault)
+    (old new : Option (List ℕ)) : Type 0 where
+  pub done : List (List ℕ)
+  pub left : List (List ℕ)
+  pub split : requests bytes ≡ done ++ left
+  pub replies : List (List ℕ)
+  pub each : Pairwise (IsReply y counted n) done replies
+  pub count : answered_before fault ≡ length done
+  pub part : List ℕ
+  pub begun : IsPart y counted n fault left part
+  pub written : Appends old new (joined replies ++ part)
+
+-- after the verdict on the specification: a good one's requests were answered, or the line of its
+-- refusal was written
+abbrev pub EndsAfter : Bool → ℕ → Verdict → Option (List ℕ) → Finish → Option (List ℕ)
+    → Option (List ℕ) → Type 0
+EndsAfter counted n (Good y) known end old new = (end ≡ finish.Done)
+    × IfSome known (λ bytes. Converses y counted n bytes old new)
+EndsAfter counted n v known end old new = (end ≡ finish.Refused)
+    × Appends old new (due_of_spec (bare counted) n v).text
+
+-- a run that ended, by the text of the specification and the requests, where their readers tell them
+abbrev pub EndsServing : Bool → ℕ → Option (List ℕ) → Option (List ℕ) → Finish
+    → Option (List ℕ) → Option (List ℕ) → Type 0
+EndsServing counted n spec known end old new = IfSome spec (λ text. (v : Verdict)
+    × SpecVerdict text v × EndsAfter counted n v known end old new)
+
+-- the same of a run that stopped at a fault
+abbrev pub BreaksAfter : Bool → ℕ → Verdict → Option (List ℕ) → ServeFault → Option (List ℕ)
+    → Option (List ℕ) → Type 0
+BreaksAfter counted n (Good y) known fault old new =
+    IfSome known (λ bytes. BreaksOff y counted n bytes fault old new)
+BreaksAfter counted n v known fault old new = (answered_before fault ≡ 0)
+    × AppendsFront (due_of_spec (bare counted) n v).text old new
+
+abbrev pub BreaksServing : Bool → ℕ → Option (List ℕ) → Option (List ℕ) → ServeFault
+    → Option (List ℕ) → Option (List ℕ) → Type 0
+BreaksServing counted n spec known fault old new = IfSome spec (λ text. (v : Verdict)
+    → SpecVerdict text v → BreaksAfter counted n v known fault old new)
+
+-- the place of the specification's refusal, where it has one
+abbrev pub PlacedServing : Bool → ℕ → Option (List ℕ) → Option Place → Type 0
+PlacedServing counted n spec place = IfSome spec (λ text. (v : Verdict) × SpecVerdict text v
+    × (place ≡ (due_of_spec (bare counted) n v).place))
+
+-- the fault of a run where a specification was not read
+abbrev pub unread_fault : ReadFault → ServeFault
+unread_fault unread.Memory = Memory
+unread_fault unread.Read = Read 0

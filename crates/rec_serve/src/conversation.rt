@@ -1,0 +1,235 @@
+//! Conversations: a specification, and requests that are answered one after the other.
+
+ghost use Rattle.std.specs.Prelude.{
+  ◌≡◌,
+  ◌<◌,
+  ◌∷◌,
+  [],
+  List,
+  ℕ,
+  IfErr,
+  IfOk,
+  IfSome,
+  MatchBool,
+  None,
+  OnErr,
+  OnOk,
+};
+ghost use Rattle.std.specs.Io.KnownBytes.{Appends, IsAtEnd, Keeps};
+ghost use Rattle.rx_text.specs.Written.{AppendsFront};
+ghost use Rattle.rec_engine.specs.Engine.{SameEngine};
+ghost use Rattle.rec_serve.specs.Conversation.{IsAnswer};
+ghost use Rattle.rec_serve.specs.Replies.{
+  BreaksOff,
+  Converses,
+  IsReply,
+};
+ghost use Rattle.rec_serve.specs.Reading.{IsRead, left_of, unread};
+ghost use Rattle.rec_serve.specs.Answering.{text_of};
+ghost use Rattle.rec_serve.specs.Steps.{EndsStep, Replies, StopsStep, stopped_after};
+
+use crate::answers::{Answered, answer};
+use crate::ending::{Refusal, ServeFault, Want};
+use crate::read_ahead::{ReadAhead, StreamFault};
+use crate::request::Request;
+use crate::requests::next_request;
+use rec_engine::Engine;
+use rec_run::RunOptions;
+use rec_sorts::Checked;
+use rx_term::TermBank;
+use rx_text::{RefusedWrite, put};
+use std::alloc::Global;
+use std::io::{Read, Write};
+
+/// Who hears of the requests that are refused.
+pub trait Listener {
+    /// The request of this number, from 1, was refused.
+    fn refused(&mut self, checked: &Checked, number: u64, request: &[u8], refusal: Refusal);
+}
+
+/// Hears of none.
+#[derive(Clone, Copy, Debug, Drop)]
+pub struct Deaf;
+
+impl Listener for Deaf {
+    fn refused(&mut self, _checked: &Checked, _number: u64, _request: &[u8], _refusal: Refusal) {}
+}
+
+impl StreamFault {
+    /// The conversation's fault where a stream's came after so many replies.
+    fn after(self, answered: u64) -> ServeFault
+        ensures { result ≡ stopped_after self answered }
+    {
+        match self {
+            StreamFault::Read => ServeFault::Read { answered },
+            StreamFault::Write => ServeFault::Write { answered },
+        }
+    }
+}
+
+/// Answers the requests of a stream over an engine, by one line for each: its answer, or that memory
+/// or cells ran out. What was written is flushed before each read.
+pub fn converse<B: TermBank, R: Read, W: Write, L: Listener>(
+    alloc: Global,
+    engine: &mut Engine<B>,
+    requests: &mut R,
+    out: &mut W,
+    options: RunOptions,
+    listener: &mut L,
+) -> Result<(), ServeFault>
+    ensures same { SameEngine engine.old engine.new }
+    ensures output { OnOk result (IfSome (R.remaining requests.old)
+        (λ bytes. Converses engine.old.spec options.count options.steps bytes
+        (W.contents out.old) (W.contents out.new))) }
+    ensures fault { IfErr result (λ fault. IfSome (R.remaining requests.old)
+        (λ bytes. BreaksOff engine.old.spec options.count options.steps bytes fault
+        (W.contents out.old) (W.contents out.new))) }
+    ensures requests_read { OnOk result (IsAtEnd (R.remaining requests.new)) }
+{
+    match ReadAhead::new(alloc) {
+        Ok(mut ahead) => {
+            converse_on(alloc, engine, &mut ahead, requests, out, options, listener)
+        }
+        Err(_) => Err(ServeFault::Memory),
+    }
+}
+
+/// The same where nothing was read ahead.
+fn converse_on<B: TermBank, R: Read, W: Write, L: Listener>(
+    alloc: Global,
+    engine: &mut Engine<B>,
+    ahead: &mut ReadAhead,
+    requests: &mut R,
+    out: &mut W,
+    options: RunOptions,
+    listener: &mut L,
+) -> Result<(), ServeFault>
+    requires { unread ahead.old ≡ [] }
+    ensures same { SameEngine engine.old engine.new }
+    ensures output { OnOk result (IfSome (R.remaining requests.old)
+        (λ bytes. Converses engine.old.spec options.count options.steps bytes
+        (W.contents out.old) (W.contents out.new))) }
+    ensures fault { IfErr result (λ fault. IfSome (R.remaining requests.old)
+        (λ bytes. BreaksOff engine.old.spec options.count options.steps bytes fault
+        (W.contents out.old) (W.contents out.new))) }
+    ensures requests_read { OnOk result (IsAtEnd (R.remaining requests.new)) }
+{
+    for answered in 0..u64::MAX {
+        match answer_next(
+            alloc, engine, ahead, requests, out, answered, options, listener,
+        ) {
+            Ok(true) => {}
+            Ok(false) => return Ok(()),
+            Err(fault) => return Err(fault.after(answered)),
+        }
+    }
+    Err(ServeFault::Read { answered: u64::MAX })
+}
+
+/// Answers the next request, where there is one: whether there was.
+fn answer_next<B: TermBank, R: Read, W: Write, L: Listener>(
+    alloc: Global,
+    engine: &mut Engine<B>,
+    ahead: &mut ReadAhead,
+    requests: &mut R,
+    out: &mut W,
+    answered: u64,
+    options: RunOptions,
+    listener: &mut L,
+) -> Result<bool, StreamFault>
+    requires { answered < u64.MAX }
+    ensures same { SameEngine engine.old engine.new }
+    ensures step { IfOk result (λ is_more. MatchBool is_more
+        (Replies engine.old.spec options.count options.steps
+        (left_of ahead.old (R.remaining requests.old))
+        (left_of ahead.new (R.remaining requests.new)) (W.contents out.old) (W.contents out.new))
+        (EndsStep (left_of ahead.old (R.remaining requests.old)) (R.remaining requests.new)
+        (W.contents out.old) (W.contents out.new))) }
+    ensures fault { IfErr result (λ fault. StopsStep engine.old.spec options.count options.steps
+        fault (left_of ahead.old (R.remaining requests.old)) (W.contents out.old)
+        (W.contents out.new)) }
+{
+    match next_request(alloc, ahead, requests, out)? {
+        None => Ok(false),
+        Some(request) => {
+            reply(
+                alloc,
+                engine,
+                &request,
+                answered + 1,
+                out,
+                options,
+                listener,
+            )?;
+            Ok(true)
+        }
+    }
+}
+
+/// The line that is written for a request.
+fn reply_text(reply: &Result<Answered, Want>) -> &[u8]
+    ensures { result.now ≡ text_of reply.now }
+{
+    match reply {
+        Ok(answer) => &answer.text,
+        Err(Want::Memory) => b"!memory\n",
+        Err(Want::Cells) => b"!cells\n",
+    }
+}
+
+/// Tells who listens of a request that is refused.
+fn tell<L: Listener>(
+    checked: &Checked,
+    number: u64,
+    request: &Request,
+    reply: &Result<Answered, Want>,
+    listener: &mut L,
+) {
+    if let Ok(answer) = reply
+        && let Some(refusal) = answer.refusal
+    {
+        listener.refused(checked, number, &request.text, refusal);
+    }
+}
+
+/// Writes the reply to a request, and tells who listens where it is refused.
+fn reply<B: TermBank, W: Write, L: Listener>(
+    alloc: Global,
+    engine: &mut Engine<B>,
+    request: &Request,
+    number: u64,
+    out: &mut W,
+    options: RunOptions,
+    listener: &mut L,
+) -> Result<(), RefusedWrite>
+    ensures same { SameEngine engine.old engine.new }
+    ensures ok { OnOk result ((line : List ℕ) → IsRead request.now line → (text : List ℕ)
+        × IsReply engine.old.spec options.count options.steps line text
+        × Appends (W.contents out.old) (W.contents out.new) text) }
+    ensures err { OnErr result ((line : List ℕ) → IsRead request.now line → (text : List ℕ)
+        × IsReply engine.old.spec options.count options.steps line text
+        × AppendsFront text (W.contents out.old) (W.contents out.new)) }
+{
+    let found = answer_kept(alloc, engine, request, options);
+    put(out, reply_text(&found))?;
+    tell(engine.checked(), number, request, &found, listener);
+    Ok(())
+}
+
+/// The answer to a request as far as it was kept.
+fn answer_kept<B: TermBank>(
+    alloc: Global,
+    engine: &mut Engine<B>,
+    request: &Request,
+    options: RunOptions,
+) -> Result<Answered, Want>
+    ensures same { SameEngine engine.old engine.new }
+    ensures answered { IfOk result (λ a. (line : List ℕ) → IsRead request.now line
+        → IsAnswer engine.old.spec options.count options.steps line a.text.items) }
+{
+    if request.is_lost {
+        Err(Want::Memory)
+    } else {
+        answer(alloc, engine, &request.text, options)
+    }
+}

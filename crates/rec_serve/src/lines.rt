@@ -1,0 +1,82 @@
+//! The lines of answers, in memory, so that each is written whole or not at all.
+ghost use Rattle.rec_run.specs.Output.{notes_text};
+ghost use Rattle.std.specs.Prelude.{◌≡◌, ◌++◌, IfOk, IfSome, IsSome, OnOk, codes};
+ghost use Rattle.rx_term.specs.Store.{tree_at};
+ghost use Rattle.rx_term.specs.Tree.{annotations};
+ghost use Rattle.rec_run.specs.EvaluatedLines.{HoldsValue};
+ghost use Rattle.rec_serve.specs.Answering.{refusal_line, shown};
+
+use crate::ending::{Refusal, Want};
+use rec_engine::Outcome;
+use rec_run::RunOptions;
+use rx_run::{put_numbered, write_steps};
+use rx_term::{Term, TermBank};
+use rx_text::put;
+use std::alloc::Global;
+
+/// The line of a refusal.
+pub(crate) fn refusal_text(alloc: Global, refusal: Refusal) -> Result<Vec<u8>, Want>
+    ensures { IfOk result (λ text. text.items ≡ refusal_line refusal) }
+{
+    let mut text = Vec::new(alloc);
+    match refusal {
+        Refusal::Long => put(&mut text, b"!term L1\n")?,
+        Refusal::Outside { at: _ } => put(&mut text, b"!term A\n")?,
+        Refusal::Rule { number } => {
+            put_numbered(&mut text, b"!term T", u64::from(number))?;
+            text.push(b'\n')?;
+        }
+    }
+    Ok(text)
+}
+
+/// The line of what a term of one bank came to in another: the value has its annotations.
+pub(crate) fn outcome_text<N: TermBank, B: TermBank>(
+    alloc: Global,
+    own: &N,
+    term: Term,
+    bank: &B,
+    outcome: Outcome,
+    options: RunOptions,
+) -> Result<Vec<u8>, Want>
+    requires held { IsSome (tree_at (N.store own.now) term) }
+    requires value { HoldsValue (B.store bank.now) outcome }
+    ensures { IfOk result (λ text. IfSome (tree_at (N.store own.now) term)
+        (λ t. text.items ≡ shown (B.store bank.now) options.count options.steps (annotations t)
+        outcome ++ codes "\n")) }
+{
+    let mut text = Vec::new(alloc);
+    match outcome {
+        Outcome::Value { term: value, steps } => {
+            rx_text::write(alloc, bank, value, &mut text)?;
+            write_notes(alloc, own, term, &mut text)?;
+            write_steps(options.count, steps, &mut text)?;
+        }
+        Outcome::Limit => put_numbered(&mut text, b"!limit ", options.steps)?,
+    }
+    text.push(b'\n')?;
+    Ok(text)
+}
+
+/// Writes the annotations of a term between braces, where it has any.
+fn write_notes<N: TermBank>(
+    alloc: Global,
+    bank: &N,
+    t: Term,
+    text: &mut Vec<u8>,
+) -> Result<(), Want>
+    requires { IsSome (tree_at (N.store bank.now) t) }
+    ensures { OnOk result (IfSome (tree_at (N.store bank.now) t)
+        (λ u. text.new.items ≡ text.old.items ++ notes_text (annotations u))) }
+{
+    let Some(notes) = bank.anns(t) else {
+        return Ok(());
+    };
+    let mut list = Vec::new(alloc);
+    rx_text::write(alloc, bank, notes, &mut list)?;
+    // The list's text stands between brackets.
+    text.push(b'{')?;
+    text.extend_from_slice(&list[1..list.len() - 1])?;
+    text.push(b'}')?;
+    Ok(())
+}

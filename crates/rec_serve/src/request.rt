@@ -1,0 +1,71 @@
+//! A request as far as it was read.
+
+ghost use Rattle.std.specs.Prelude.{◌≤◌, vec_len};
+
+use rx_text::LONGEST;
+use std::alloc::Global;
+
+/// The most bytes that are kept of a request: one more than a text may have.
+const MOST_KEPT: usize = LONGEST + 1;
+
+/// A request as far as it was read.
+#[derive(Drop)]
+pub(crate) struct Request {
+    /// Its bytes, one more at most than a text may have.
+    pub(crate) text: Vec<u8>,
+    /// Whether there was no memory for them.
+    pub(crate) is_lost: bool,
+    ghost short: { vec_len text ≤ 16777217 },
+}
+
+impl Request {
+    ghost use Rattle.std.specs.Prelude.{◌≡◌, ◌<◌, ◌++◌, [], List, ℕ, MatchOption, false, length, true};
+    ghost use Rattle.rec_serve.specs.Reading.{IsRead};
+
+    /// Nothing so far.
+    pub(crate) fn new(alloc: Global) -> Request
+        ensures { IsRead result [] }
+    {
+        Request {
+            text: Vec::new(alloc),
+            is_lost: false,
+        }
+    }
+
+    /// Whether a byte was read.
+    fn is_begun(&self) -> bool
+        ensures none { result ≡ false → (line : List ℕ) → IsRead self.now line → line ≡ [] }
+        ensures some { result ≡ true → (line : List ℕ) → IsRead self.now line → 0 < length line }
+    {
+        if self.is_lost {
+            return true;
+        }
+        self.text.len() > 0
+    }
+
+    /// The request at the end of a stream; none, where no byte was read.
+    pub(crate) fn last(self) -> Option<Request>
+        ensures { MatchOption result ((line : List ℕ) → IsRead self line → line ≡ [])
+            (λ request. (request ≡ self)
+            × ((line : List ℕ) → IsRead self line → 0 < length line)) }
+    {
+        if self.is_begun() { Some(self) } else { None }
+    }
+
+    /// Goes on by a piece. Bytes behind the most that are kept are passed over.
+    pub(crate) fn keep(&mut self, piece: &[u8])
+        ensures { (line : List ℕ) → IsRead self.old line → IsRead self.new (line ++ piece.now) }
+    {
+        if self.is_lost {
+            return;
+        }
+        if piece.len() == 0 {
+            return;
+        }
+        let room = (MOST_KEPT - self.text.len()).min(piece.len());
+        match self.text.extend_from_slice(&piece[..room]) {
+            Ok(()) => {}
+            Err(_) => self.is_lost = true,
+        }
+    }
+}

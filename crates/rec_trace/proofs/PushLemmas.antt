@@ -1,0 +1,269 @@
+-- Letters that become steps: the moves of a term come first.
+use Rattle.std.proofs.Common.{◌<◌, ℕ, arith, refl, sym, ap, subst, ◌∙◌, length, map, inl, inr}
+use Rattle.std.specs.Prelude.{◌≡◌, Bool, true, false, List, [], ◌∷◌, ◌++◌, Option, Some, None, Contains, IsSome, is_some, reverse, unwrap_or}
+use Rattle.std.proofs.lemmas.List.{map-append, reverse-append}
+use Rattle.rx_term.specs.Tree.{Tree, Trees, Appl, Int, Items, Hole, from_list, none, more, list_of}
+use Rattle.rx_term.specs.Parts.{parts}
+use Rattle.rx_term.specs.Store.{Store, tree_at}
+use Rattle.rx_term.specs.Walks.{held_tree, held_trees}
+use Rattle.rx_term.specs.declared.Term.{Term as Reference}
+use Rattle.rx_term.proofs.PartsLemmas.{args-part, cons_cases, cons_head, cons_tail, item-part, parts-self, parts-trans, rest-part}
+use Rattle.rx_term.proofs.StoreLemmas.{some-value}
+use Rattle.rec_syntax.specs.Syntax.{Term, Terms, Apply, Rule, Spec}
+use Rattle.rec_sorts.specs.Lookup.{count, is_variable, symbols}
+use Rattle.rec_sorts.specs.TermRules.{arguments}
+use Rattle.rec_sorts.specs.Laws.{Every}
+use Rattle.rec_sorts.specs.Binding.{Bound, Substitution, bind_first, binds, instance, next_match, parts_at_variables, parts_at_variables_all, value_of, NumberedMatch}
+use Rattle.rec_sorts.specs.Numbering.{AreLetters, Named, arity_of, name_of, named, named_all, named_by}
+use Rattle.rec_sorts.specs.declared.letters.Letter.{Letter}
+use Rattle.rec_sorts.specs.declared.letters.Meaning.TheVariants.{Symbol, Variable}
+use Rattle.rx_term.specs.Tree.{tree_eq}
+use Rattle.rec_match.specs.Next.{IsAnswer}
+use Rattle.rec_match.specs.Rows.{values_of}
+use Rattle.rec_match.proofs.BoundLemmas.{BindsOnly, parts_only, unbound}
+use Rattle.rec_match.proofs.FactLemmas.{facts}
+use Rattle.rec_match.proofs.FindLemmas.{first-matched}
+use Rattle.rec_engine.proofs.TriedRuleLemmas.{no_rule}
+use Rattle.rec_trace.specs.States.{Move, Give, Invoke, moves, moves_all}
+use Rattle.rec_trace.specs.Lists.{AreKept, Hold, IsList, KeepsStack, listed}
+use Rattle.rec_trace.specs.Sides.{HasValues, IsMatch, IsRow, KeepsValues, move_of}
+use Rattle.rec_trace.specs.Tracing.{AreSteps, HasPushed, IsInOrder, moves_at, moves_of}
+use Rattle.rec_trace.specs.declared.lists.Lists.{Lists}
+use Rattle.rec_trace.specs.declared.tracer.Step.{Step}
+use Rattle.rec_trace.specs.declared.tracer.Step.TheVariants as step
+use Rattle.rec_trace.specs.declared.tracer.Tracer.{Tracer}
+use Rattle.rec_trace.proofs.SideLemmas.{rule-at, some-same}
+
+-- a substitution of a match binds variables alone
+pub binds-only : (y : Spec) (l : Term) (u : Tree) (s : Substitution) → binds y l u ≡ Some s → BindsOnly y s
+binds-only y l u s e = by (tree_eq (instance (parts_at_variables y [] l u) l) u) e
+  where
+    by : (b : Bool) → ◌≡◌ {A = Option Substitution} (elim b [ true ↦ Some (parts_at_variables y [] l u) | false ↦ None ]) (Some s) → BindsOnly y s
+    by true q = subst (BindsOnly y) (some-same (parts_at_variables y [] l u) s q) (parts_only y [] l u (λ name v f. absurd (cc f)))
+    by false q = absurd (cc q)
+
+-- all values are parts of a tree
+abbrev AreParts : Tree → Substitution → Type 0
+AreParts u s = Every (λ (b : Bound). Contains (parts u) b.value) s
+
+abbrev AllParts : Tree → Trees → Type 0
+AllParts u none = Unit {0}
+AllParts u (more t ts) = Contains (parts u) t × AllParts u ts
+
+arguments-parts : (u t : Tree) → Contains (parts u) t → AllParts u (arguments t)
+arguments-parts u t c = by t c
+  where
+    items : (ts : Trees) → Contains (parts u) (list_of ts) → AllParts u ts
+    items none h = tt
+    items (more x xs) h = (parts-trans u (list_of (more x xs)) x h (item-part x xs none), items xs (parts-trans u (list_of (more x xs)) (list_of xs) h (rest-part x xs none)))
+
+    by : (t : Tree) → Contains (parts u) t → AllParts u (arguments t)
+    by (Appl name quoted args anns) h = items args (parts-trans u (Appl name quoted args anns) (list_of args) h (args-part name quoted args anns))
+    by (Int z anns) h = tt
+    by (Items xs anns) h = tt
+    by (Hole x anns) h = tt
+
+every-joined : (u : Tree) (xs ys : Substitution) → AreParts u xs → AreParts u ys → AreParts u (xs ++ ys)
+every-joined u [] ys h k = k
+every-joined u (x ∷ xs) ys h k = (h.0, every-joined u xs ys h.1 k)
+
+mutual
+  bound-parts : (y : Spec) (u : Tree) (s : Substitution) (t : Term) (v : Tree) → AreParts u s → Contains (parts u) v → AreParts u (parts_at_variables y s t v)
+  bound-parts y u s (Apply w ts) v h c = by (is_variable y w.bytes) (bound-parts-all y u s ts (arguments v) h (arguments-parts u v c))
+    where
+      first : (o : Option Tree) → AreParts u (elim o [ Some x ↦ s | None ↦ s ++ (record { name = w.bytes; value = v } ∷ []) ])
+      first (Some x) = h
+      first None = every-joined u s (record { name = w.bytes; value = v } ∷ []) h (c, tt)
+
+      by : (b : Bool) → AreParts u (parts_at_variables_all y s ts (arguments v)) → AreParts u (elim b [ true ↦ bind_first s w.bytes v | false ↦ parts_at_variables_all y s ts (arguments v) ])
+      by true later = first (value_of s w.bytes)
+      by false later = later
+
+  bound-parts-all : (y : Spec) (u : Tree) (s : Substitution) (ts : Terms) (vs : Trees) → AreParts u s → AllParts u vs → AreParts u (parts_at_variables_all y s ts vs)
+  bound-parts-all y u s Terms.none vs h c = h
+  bound-parts-all y u s (Terms.more t ts) none h c = h
+  bound-parts-all y u s (Terms.more t ts) (more v vs) h c = bound-parts-all y u (parts_at_variables y s t v) ts vs (bound-parts y u s t v h c.0) c.1
+
+binds-parts : (y : Spec) (l : Term) (u : Tree) (s : Substitution) → binds y l u ≡ Some s → AreParts u s
+binds-parts y l u s e = by (tree_eq (instance (parts_at_variables y [] l u) l) u) e
+  where
+    by : (b : Bool) → ◌≡◌ {A = Option Substitution} (elim b [ true ↦ Some (parts_at_variables y [] l u) | false ↦ None ]) (Some s) → AreParts u s
+    by true q = subst (AreParts u) (some-same (parts_at_variables y [] l u) s q) (bound-parts y u [] l u tt (parts-self u))
+    by false q = absurd (cc q)
+
+-- a tree of a list is a part of it
+in-list : (xs : List Tree) (u : Tree) → Contains xs u → Contains (parts (list_of (from_list xs))) u
+in-list [] u c = absurd (let l = c.1 in let no : ⊥ = omega (arith, l) in no)
+in-list (x ∷ xs) u c = elim (cons_cases x xs u c) [
+  | inl e ↦ subst (λ v. Contains (parts (list_of (more x (from_list xs)))) v) e (item-part x (from_list xs) none)
+  | inr d ↦ parts-trans (list_of (more x (from_list xs))) (list_of (from_list xs)) u (rest-part x (from_list xs) none) (in-list xs u d)
+]
+
+held-list : (w : Store) (r : Reference) → IsList w r → held_tree w r ≡ list_of (from_list (listed w r))
+held-list w r list = ap (λ (o : Option Tree). unwrap_or o (list_of none)) list
+
+-- the values of a match at a tree on the stack
+each-value : (u : Tree) (s : Substitution) → AreParts u s → (w : Store) (bind : List Reference) → held_trees w bind ≡ values_of s → (t : Reference) → Contains bind t → Contains (parts u) (held_tree w t)
+each-value u [] h w [] e t c = absurd (let l = c.1 in let no : ⊥ = omega (arith, l) in no)
+each-value u [] h w (b ∷ bs) e t c = absurd (cc e)
+each-value u (x ∷ s) h w [] e t c = absurd (cc e)
+each-value u (x ∷ s) h w (b ∷ bs) e t c = elim (cons_cases b bs t c) [
+  | inl q ↦ subst (λ (z : Reference). Contains (parts u) (held_tree w z)) q (subst (Contains (parts u)) (sym (first-of-two (held_tree w b) x.value (held_trees w bs) (values_of s) e)) h.0)
+  | inr d ↦ each-value u s h.1 w bs (rest-of-two (held_tree w b) x.value (held_trees w bs) (values_of s) e) t d
+]
+  where
+    first-of-two : (a b : Tree) (xs ys : List Tree) → a ∷ xs ≡ b ∷ ys → a ≡ b
+    first-of-two a b xs ys e = cc
+
+    rest-of-two : (a b : Tree) (xs ys : List Tree) → a ∷ xs ≡ b ∷ ys → xs ≡ ys
+    rest-of-two a b xs ys e = cc
+
+pub has-values : (y : Spec) (w : Store) (stack redex : Reference) (i : ℕ) (r : Rule) (s : Substitution) (bind : List Reference) (found : Option ℕ) → IsList w stack → Contains (listed w stack) (held_tree w redex) → IsMatch y i (held_tree w redex) r s → IsAnswer y w redex i bind found → HasValues w stack bind s
+has-values y w stack redex i r s bind found list in_stack match answer = by found answer
+  where
+    first : next_match y i (held_tree w redex) ≡ Some (record { number = i; values = s })
+    first =
+        let at = rule-at y i r match.rule in
+        first-matched y i (held_tree w redex) no_rule s at.within (subst (λ (z : Rule). binds y z.left (held_tree w redex) ≡ Some s) (sym (at.is no_rule)) match.binds)
+
+    by : (o : Option ℕ) → IsAnswer y w redex i bind o → HasValues w stack bind s
+    by None h = absurd (cc (sym h.0 ∙ first))
+    by (Some k) h =
+        let same : (let a : NumberedMatch = record { number = k; values = h.values } in a) ≡ record { number = i; values = s } = some-same (let a : NumberedMatch = record { number = k; values = h.values } in a) (record { number = i; values = s }) (sym h.first ∙ first) in
+        let values : held_trees w bind ≡ values_of s = h.bound ∙ ap (λ (m : NumberedMatch). values_of m.values) same in
+        record {
+          values = values;
+          held = h.held;
+          within = λ t c.
+              subst (λ v. Contains (parts v) (held_tree w t)) (sym (held-list w stack list))
+              (parts-trans (list_of (from_list (listed w stack))) (held_tree w redex) (held_tree w t) (in-list (listed w stack) (held_tree w redex) in_stack)
+              (each-value (held_tree w redex) s (binds-parts y r.left (held_tree w redex) s match.binds) w bind values t c));
+        }
+
+-- what is a part of the stack stays, and so do the values of a match
+same-trees : (w w' : Store) (bind : List Reference) → ((t : Reference) → Contains bind t → tree_at w' t ≡ tree_at w t) → held_trees w' bind ≡ held_trees w bind
+same-trees w w' [] h = refl
+same-trees w w' (b ∷ bs) h =
+    ap (λ (o : Option Tree). unwrap_or o (list_of none) ∷ held_trees w' bs) (h b (cons_head b bs)) ∙ ap (λ xs. held_tree w b ∷ xs) (same-trees w w' bs (λ t c. h t (cons_tail b bs t c)))
+
+held-some : (w : Store) (t : Reference) → IsSome (tree_at w t) → tree_at w t ≡ Some (held_tree w t)
+held-some w t h = let x = some-value (tree_at w t) h in x.1 ∙ ap (λ (o : Option Tree). let q : Option Tree = Some (unwrap_or o (list_of none)) in q) (sym x.1)
+
+pub keeps-values : (w w' : Store) (stack : Reference) (bind : List Reference) → IsList w stack → KeepsStack w w' stack → KeepsValues w w' stack bind
+keeps-values w w' stack bind list keeps s h =
+    let there : IsSome (tree_at w stack) = ap is_some list in
+    let root : tree_at w' stack ≡ tree_at w stack = keeps stack (held_tree w stack) (held-some w stack there) (parts-self (held_tree w stack)) ∙ sym (held-some w stack there) in
+    let each : ((t : Reference) → Contains bind t → tree_at w' t ≡ tree_at w t) = λ t c. keeps t (held_tree w t) (held-some w t (h.held t c)) (h.within t c) ∙ sym (held-some w t (h.held t c)) in
+    record {
+      values = same-trees w w' bind each ∙ h.values;
+      held = λ t c. subst IsSome (sym (each t c)) (h.held t c);
+      within = λ t c.
+          subst (λ (o : Option Tree). Contains (parts (unwrap_or o (list_of none))) (held_tree w' t)) (sym root)
+          (subst (λ (o : Option Tree). Contains (parts (held_tree w stack)) (unwrap_or o (list_of none))) (sym (each t c)) (h.within t c));
+    }
+
+-- one step more
+snoc-reverse : (xs : List Step) (x : Step) → reverse (xs ++ x ∷ []) ≡ x ∷ reverse xs
+snoc-reverse xs x = reverse-append xs (x ∷ [])
+
+-- a variable's value is to be given next
+pub pushed-variable : (y : Spec) (w w' : Store) (old new : Tracer) (i : ℕ) (bind : List Reference) (l : Letter) (v : ℕ) (t : Reference) → IsInOrder y w old → AreKept w' new.lists → l.meaning ≡ Variable v
+    → Hold w' new.lists (held_tree w t ∷ listed w old.lists.given) (listed w old.lists.stack) → new.steps.items ≡ old.steps.items ++ step.Give ∷ []
+    → ((r : Rule) (s : Substitution) (u : Tree) → IsMatch y i u r s → HasValues w old.lists.stack bind s → value_of s (name_of y (Variable v)) ≡ Some (held_tree w t))
+    → HasPushed y w w' old new i bind (l ∷ [])
+pushed-variable y w w' old new i bind l v t order kept is hold steps value =
+    let turned = ap reverse steps ∙ snoc-reverse old.steps.items step.Give in
+    record {
+      order = record { good = order.good; kept = kept; steps = subst (λ ss. AreSteps y ss (listed w' new.lists.given)) (sym turned) (subst (λ gs. AreSteps y (step.Give ∷ reverse old.steps.items) gs) (sym hold.given) order.steps) };
+      stack = hold.stack;
+      moves = λ r s u match values.
+          ap (λ ss. moves_of y ss (listed w' new.lists.given)) turned ∙ ap (moves_of y (step.Give ∷ reverse old.steps.items)) hold.given
+          ∙ ap (λ (m : Move). m ∷ moves_at y w old) (sym (ap (λ m. at (value_of s (name_of y m)) (name_of y m)) is ∙ ap (λ o. at o (name_of y (Variable v))) (value r s u match values)));
+    }
+  where
+    at : Option Tree → List ℕ → Move
+    at o name = elim o [ Some x ↦ Give x | None ↦ Invoke name l.count ]
+
+-- a symbol is to be called next
+pub pushed-symbol : (y : Spec) (w : Store) (old new : Tracer) (i : ℕ) (bind : List Reference) (l : Letter) (k : ℕ) → IsInOrder y w old → new.lists ≡ old.lists → l.meaning ≡ Symbol k → k < length (symbols y) → arity_of y k ≡ l.count
+    → new.steps.items ≡ old.steps.items ++ step.Invoke k l.count ∷ [] → HasPushed y w w old new i bind (l ∷ [])
+pushed-symbol y w old new i bind l k order lists is lt arity steps =
+    let turned = ap reverse steps ∙ snoc-reverse old.steps.items (step.Invoke k l.count) in
+    record {
+      order = record {
+        good = order.good;
+        kept = subst (AreKept w) (sym lists) order.kept;
+        steps = subst (λ ss. AreSteps y ss (listed w new.lists.given)) (sym turned) (subst (λ (z : Lists). AreSteps y (step.Invoke k l.count ∷ reverse old.steps.items) (listed w z.given)) (sym lists) (lt, arity, order.steps));
+      };
+      stack = ap (λ (z : Lists). listed w z.stack) lists;
+      moves = λ r s u match values.
+          let no_value = unbound y s (binds-only y r.left u s match.binds) (name_of y (Symbol k)) ((facts y order.good).symbol_is_none k lt) in
+          ap (λ ss. moves_of y ss (listed w new.lists.given)) turned ∙ ap (λ (z : Lists). moves_of y (step.Invoke k l.count ∷ reverse old.steps.items) (listed w z.given)) lists
+          ∙ ap (λ (m : Move). m ∷ moves_at y w old) (sym (ap (λ m. at (value_of s (name_of y m)) (name_of y m)) is ∙ ap (λ o. at o (name_of y (Symbol k))) no_value));
+    }
+  where
+    at : Option Tree → List ℕ → Move
+    at o name = elim o [ Some x ↦ Give x | None ↦ Invoke name l.count ]
+
+-- letters one after the other
+pub pushed-more : (y : Spec) (w w1 w2 : Store) (a b c : Tracer) (i : ℕ) (bind : List Reference) (l : Letter) (ls : List Letter) → b.lists.stack ≡ a.lists.stack → KeepsValues w w1 a.lists.stack bind → HasPushed y w w1 a b i bind ls → HasPushed y w1 w2 b c i bind (l ∷ [])
+    → HasPushed y w w2 a c i bind (l ∷ ls)
+pushed-more y w w1 w2 a b c i bind l ls same keeps p q = record {
+  order = q.order;
+  stack = q.stack ∙ p.stack;
+  moves = λ r s u match values.
+      q.moves r s u match (subst (λ k. HasValues w1 k bind s) (sym same) (keeps s values)) ∙ ap (λ ms. move_of s (named_by y l) ∷ ms) (p.moves r s u match values);
+}
+
+pub pushed-none : (y : Spec) (w : Store) (a : Tracer) (i : ℕ) (bind : List Reference) → IsInOrder y w a → HasPushed y w w a a i bind []
+pushed-none y w a i bind order = record { order = order; stack = refl; moves = λ r s u match values. refl }
+
+-- what has a value has no arguments
+abbrev NoArguments : Substitution → List Named → Type 0
+NoArguments s ms = Every (λ (m : Named). (v : Tree) → value_of s m.name ≡ Some v → m.arguments ≡ 0) ms
+
+no_arguments : (y : Spec) (s : Substitution) → BindsOnly y s → (ms : List Named) → Every (λ (m : Named). is_variable y m.name ≡ true → m.arguments ≡ 0) ms → NoArguments s ms
+no_arguments y s only [] bare = tt
+no_arguments y s only (m ∷ ms) bare = ((λ v e. bare.0 (only m.name v e)), no_arguments y s only ms bare.1)
+
+split_arguments : (s : Substitution) (ms ns : List Named) → NoArguments s (ms ++ ns) → NoArguments s ms × NoArguments s ns
+split_arguments s [] ns h = (tt, h)
+split_arguments s (m ∷ ms) ns h = let k = split_arguments s ms ns h.1 in ((h.0, k.0), k.1)
+
+no_count : (ts : Terms) → count ts ≡ 0 → ts ≡ Terms.none
+no_count Terms.none e = refl
+no_count (Terms.more t ts) e = absurd (cc e)
+
+mutual
+  -- a term's names, each as a move, are its moves
+  named-moves : (s : Substitution) (t : Term) → NoArguments s (named t) → map (move_of s) (named t) ≡ moves s t
+  named-moves s (Apply w ts) h =
+      let split = split_arguments s (named_all ts) (record { name = w.bytes; arguments = count ts } ∷ []) h in
+      map-append (move_of s) (named_all ts) (record { name = w.bytes; arguments = count ts } ∷ [])
+      ∙ by (value_of s w.bytes) refl split.1.0 (named-moves-all s ts split.0)
+    where
+      given : (v : Tree) (zs : Terms) → zs ≡ Terms.none → map (move_of s) (named_all zs) ++ (Give v ∷ []) ≡ Give v ∷ []
+      given v zs e = ap (λ xs. map (move_of s) (named_all xs) ++ (Give v ∷ [])) e
+
+      by : (o : Option Tree) → value_of s w.bytes ≡ o → ((v : Tree) → value_of s w.bytes ≡ Some v → count ts ≡ 0) → map (move_of s) (named_all ts) ≡ moves_all s ts
+          → map (move_of s) (named_all ts) ++ ((elim o [ Some v ↦ Give v | None ↦ Invoke w.bytes (count ts) ]) ∷ []) ≡ (elim o [ Some v ↦ Give v ∷ [] | None ↦ moves_all s ts ++ Invoke w.bytes (count ts) ∷ [] ])
+      by (Some v) e h later = given v ts (no_count ts (h v e))
+      by None e h later = ap (λ ms. ms ++ (Invoke w.bytes (count ts) ∷ [])) later
+
+  named-moves-all : (s : Substitution) (ts : Terms) → NoArguments s (named_all ts) → map (move_of s) (named_all ts) ≡ moves_all s ts
+  named-moves-all s Terms.none h = refl
+  named-moves-all s (Terms.more t ts) h =
+      let split = split_arguments s (named t) (named_all ts) h in
+      map-append (move_of s) (named t) (named_all ts) ∙ ap (λ ms. ms ++ map (move_of s) (named_all ts)) (named-moves s t split.0) ∙ ap (λ ms. moves s t ++ ms) (named-moves-all s ts split.1)
+
+-- the letters of a rule's term are its moves
+pub row-moves : (y : Spec) (r : Rule) (s : Substitution) (u : Tree) (ls : List Letter) (t : Term) → binds y r.left u ≡ Some s → IsRow y r ls t → map (move_of s) (map (named_by y) ls) ≡ moves s t
+row-moves y r s u ls t e row = ap (map (move_of s)) row.letters.1 ∙ named-moves s t (no_arguments y s (binds-only y r.left u s e) (named t) row.bare)
+
+-- the letters of a ground term are its moves
+pub ground-moves : (y : Spec) (ls : List Letter) (t : Term) → AreLetters y ls t → map (move_of []) (map (named_by y) ls) ≡ moves [] t
+ground-moves y ls t letters = ap (map (move_of [])) letters.1 ∙ named-moves [] t (unbound_all (named t))
+  where
+    unbound_all : (ms : List Named) → NoArguments [] ms
+    unbound_all [] = tt
+    unbound_all (m ∷ ms) = ((λ v e. absurd (cc e)), unbound_all ms)

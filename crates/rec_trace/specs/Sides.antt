@@ -1,0 +1,78 @@
+-- The sides of a rule as rows of steps.
+use Rattle.std.specs.Prelude.{ℕ, ◌≡◌, ◌<◌, true, List, [], Some, None, Contains, get_or, length, slice_get}
+use Rattle.rx_term.specs.Tree.{Tree}
+use Rattle.rx_term.specs.Store.{Store}
+use Rattle.rx_term.specs.Parts.{parts}
+use Rattle.rx_term.specs.Walks.{AllHeld, held_tree, held_trees}
+use Rattle.rx_term.specs.declared.Term.{Term as Reference}
+use Rattle.rec_syntax.specs.Syntax.{Term, Terms, Apply, Condition, Rule, Spec, subterms}
+use Rattle.rec_sorts.specs.Lookup.{is_variable, mentions}
+use Rattle.rec_sorts.specs.SpecRules.{heads}
+use Rattle.rec_sorts.specs.Laws.{Every}
+use Rattle.rec_sorts.specs.Binding.{Substitution, binds, value_of}
+use Rattle.rec_sorts.specs.Numbering.{AreLetters, IsMeaning, Named, arity_of, name_of, named}
+use Rattle.rec_sorts.specs.declared.letters.Letter.{Letter}
+use Rattle.rec_sorts.specs.declared.letters.Meaning.TheVariants.{Symbol, Variable}
+use Rattle.rec_match.specs.Rows.{values_of}
+use Rattle.rec_trace.specs.States.{Move, Give, Invoke}
+use Rattle.rec_trace.specs.declared.sides.Side.{Side}
+use Rattle.rec_trace.specs.declared.sides.Side.TheVariants.{Contractum, Left, Right}
+
+-- no condition
+abbrev pub no_condition : Condition
+no_condition =
+    let t : Term = Apply (record { at = 0; bytes = [] }) Terms.none in
+    record { left = t; right = t; equal = true }
+
+-- a rule has such a side
+abbrev pub HasSide : Rule → Side → Type 0
+HasSide r Contractum = Unit {0}
+HasSide r (Left i) = i < length r.conditions
+HasSide r (Right i) = i < length r.conditions
+
+-- its term
+abbrev pub side_of : Rule → Side → Term
+side_of r Contractum = r.right
+side_of r (Left i) = (get_or r.conditions i no_condition).left
+side_of r (Right i) = (get_or r.conditions i no_condition).right
+
+-- the rule of a number matches a tree, with these values
+pub record IsMatch (y : Spec) (i : ℕ) (u : Tree) (r : Rule) (s : Substitution) : Type 0 where
+  pub rule : slice_get y.rules i ≡ Some r
+  pub binds : binds y r.left u ≡ Some s
+
+-- references have these values, and are parts of what stands on a stack
+pub record HasValues (w : Store) (stack : Reference) (bind : List Reference) (s : Substitution)
+    : Type 0 where
+  pub values : held_trees w bind ≡ values_of s
+  pub held : AllHeld w bind
+  pub within : (t : Reference) → Contains bind t
+      → Contains (parts (held_tree w stack)) (held_tree w t)
+
+-- a letter that can stand in a rule: a symbol with as many arguments as it takes, or a variable of
+-- the left side
+pub record IsRead (y : Spec) (r : Rule) (l : Letter) : Type 0 where
+  pub meant : IsMeaning y l.meaning
+  pub filled : (k : ℕ) → l.meaning ≡ Symbol k → arity_of y k ≡ l.count
+  pub occurs : (v : ℕ) → l.meaning ≡ Variable v
+      → mentions (heads (subterms r.left)) (name_of y (Variable v)) ≡ true
+
+-- letters of a term of a rule
+pub record IsRow (y : Spec) (r : Rule) (ls : List Letter) (t : Term) : Type 0 where
+  pub letters : AreLetters y ls t
+  pub read : Every (IsRead y r) ls
+  pub bare : Every (λ (m : Named). is_variable y m.name ≡ true → m.arguments ≡ 0) (named t)
+
+-- the move of a name: its value, where it has one, or a call
+abbrev pub move_of : Substitution → Named → Move
+move_of s m = elim (value_of s m.name) [ Some v ↦ Give v | None ↦ Invoke m.name m.arguments ]
+
+-- a rule matches with these values, and letters can stand in it
+abbrev pub CanPush : Spec → Store → Reference → ℕ → List Reference → List Letter → Type 0
+CanPush y w stack i bind ls = (r : Rule) × (s : Substitution) × (u : Tree) × IsMatch y i u r s
+    × HasValues w stack bind s × Every (IsRead y r) ls
+
+-- the values are still there
+abbrev pub KeepsValues : Store → Store → Reference → List Reference → Type 0
+KeepsValues w w' stack bind = (s : Substitution) → HasValues w stack bind s
+    → HasValues w' stack bind s

@@ -1,0 +1,156 @@
+-- What a tracer stands for, and what its turns come to.
+use Rattle.std.specs.Prelude.{ℕ, ◌≡◌, ◌<◌, Bool, true, false, List, [], ◌∷◌, ◌++◌, Option, Some, None, drop, get_or, length, map, reverse, slice_get}
+use Rattle.rx_term.specs.Tree.{Tree, none, list_of}
+use Rattle.rx_term.specs.Store.{Store, tree_at}
+use Rattle.rx_term.specs.declared.Term.{Term as Reference}
+use Rattle.rec_syntax.specs.Syntax.{Rule, Spec}
+use Rattle.rec_sorts.specs.Lookup.{symbols}
+use Rattle.rec_sorts.specs.Binding.{Substitution, application}
+use Rattle.rec_sorts.specs.Evaluation.{Caller, Outcome, Done, Over, Match, Call, ◌then◌}
+use Rattle.rec_sorts.specs.Numbering.{arity_of, name_of, named_by}
+use Rattle.rec_sorts.specs.SpecRules.{fault}
+use Rattle.rec_sorts.specs.declared.letters.Letter.{Letter}
+use Rattle.rec_sorts.specs.declared.letters.Meaning.TheVariants.{Symbol}
+use Rattle.rec_engine.specs.Flat.{taken}
+use Rattle.rec_trace.specs.Trace.{Firing, Traced, quiet}
+use Rattle.rec_trace.specs.States.{Move, Give, Invoke, Fits, ahead, firing_then, written}
+use Rattle.rec_trace.specs.Lists.{AreKept, listed}
+use Rattle.rec_trace.specs.Sides.{HasValues, IsMatch, move_of}
+use Rattle.rec_trace.specs.declared.tracer.Found.{Found}
+use Rattle.rec_trace.specs.declared.tracer.Found.TheVariants as found
+use Rattle.rec_trace.specs.declared.tracer.Step.{Step}
+use Rattle.rec_trace.specs.declared.tracer.Step.TheVariants as step
+use Rattle.rec_trace.specs.declared.tracer.Tracer.{Tracer}
+use Rattle.rec_trace.specs.declared.tracer.Turn.{Turn}
+use Rattle.rec_trace.specs.declared.tracer.Turn.TheVariants as turn
+
+-- the moves of steps, the next one first, that give these values
+abbrev pub moves_of : Spec → List Step → List Tree → List Move
+moves_of y [] gs = []
+moves_of y (step.Give ∷ ss) [] = []
+moves_of y (step.Give ∷ ss) (g ∷ gs) = Give g ∷ moves_of y ss gs
+moves_of y (step.Invoke f k ∷ ss) gs = Invoke (name_of y (Symbol f)) k ∷ moves_of y ss gs
+
+-- there are values enough for them, and each symbol has as many arguments as it takes
+abbrev pub AreSteps : Spec → List Step → List Tree → Type 0
+AreSteps y [] gs = Unit {0}
+AreSteps y (step.Give ∷ ss) [] = ⊥
+AreSteps y (step.Give ∷ ss) (g ∷ gs) = AreSteps y ss gs
+AreSteps y (step.Invoke f k ∷ ss) gs = (f < length (symbols y)) × (arity_of y f ≡ k)
+    × AreSteps y ss gs
+
+-- the row of moves of a tracer, and its stack
+abbrev pub moves_at : Spec → Store → Tracer → List Move
+moves_at y w t = moves_of y (reverse t.steps.items) (listed w t.lists.given)
+
+abbrev pub stack_at : Store → Tracer → List Tree
+stack_at w t = listed w t.lists.stack
+
+-- the specification keeps its rules, the lists are kept, and the steps can be gone through
+pub record IsInOrder (y : Spec) (w : Store) (t : Tracer) : Type 0 where
+  pub good : fault y ≡ None
+  pub kept : AreKept w t.lists
+  pub steps : AreSteps y (reverse t.steps.items) (listed w t.lists.given)
+
+-- and in the end they leave one value
+pub record Stands (y : Spec) (w : Store) (t : Tracer) : Type 0 where
+  pub order : IsInOrder y w t
+  pub fits : Fits (moves_at y w t) (length (stack_at w t)) 1
+
+-- the trace that is left
+abbrev pub rest_of : Spec → Store → Tracer → Traced Tree
+rest_of y w t = ahead y t.left (moves_at y w t) (stack_at w t)
+
+-- the whole term
+abbrev pub whole_of : Spec → Store → Tracer → Tree
+whole_of y w t = written (moves_at y w t) (stack_at w t)
+
+-- a rule fired: the firing is the next one of the trace, and the rest of the trace is left
+pub record HasFired (y : Spec) (w w' : Store) (old new : Tracer) (rule : ℕ)
+    (redex contractum : Reference) : Type 0 where
+  pub firing : Firing
+  pub next : rest_of y w old ≡ firing_then firing (rest_of y w' new)
+  pub rule_is : slice_get y.rules rule ≡ Some firing.found.rule
+  pub redex_is : tree_at w' redex ≡ Some firing.redex
+  pub contractum_is : tree_at w' contractum ≡ Some firing.contractum
+  pub left_is : firing.left ≡ new.left
+  pub before_is : firing.before ≡ whole_of y w old
+  pub after_is : firing.after ≡ whole_of y w' new
+
+-- what a step of a trace answers: the next firing, or that there is none and what the trace comes
+-- to
+abbrev pub IsTurn : Spec → Store → Store → Tracer → Tracer → Turn → Type 0
+IsTurn y w w' old new (turn.Fired rule redex contractum) = HasFired y w w' old new rule redex
+    contractum
+IsTurn y w w' old new (turn.Value t) = (v : Tree) × (tree_at w' t ≡ Some v)
+    × (rest_of y w old ≡ quiet (Done v new.left))
+IsTurn y w w' old new turn.Limit = rest_of y w old ≡ quiet Over
+
+-- behind the limit nothing is left to ask for
+abbrev pub IsLimit : Turn → Type 0
+IsLimit (turn.Fired rule redex contractum) = ⊥
+IsLimit (turn.Value t) = ⊥
+IsLimit turn.Limit = Unit {0}
+
+-- a symbol on values, where it is called or only applied
+abbrev pub caller : Spec → Bool → Caller
+caller y true n u = Call y n u
+caller y false n u = Done u n
+
+-- a row of moves over values, one after the other: the value on top in the end
+abbrev pub result : Caller → ℕ → List Move → List Tree → Outcome Tree
+result c n [] [] = Over
+result c n [] (v ∷ st) = Done v n
+result c n (Give v ∷ ms) st = result c n ms (v ∷ st)
+result c n (Invoke name k ∷ ms) st = c n (application name (taken k st none)) then λ v left. result
+    c left ms (v ∷ drop k st)
+
+-- the same state, with a value more on the stack
+pub record Adds (y : Spec) (w w' : Store) (old new : Tracer) (v : Tree) : Type 0 where
+  pub order : IsInOrder y w' new
+  pub moves : moves_at y w' new ≡ moves_at y w old
+  pub stack : stack_at w' new ≡ v ∷ stack_at w old
+
+-- the same state
+pub record IsSame (y : Spec) (w w' : Store) (old new : Tracer) : Type 0 where
+  pub order : IsInOrder y w' new
+  pub moves : moves_at y w' new ≡ moves_at y w old
+  pub stack : stack_at w' new ≡ stack_at w old
+
+-- the moves of letters come first, where the rule of a number matches with these values
+pub record HasPushed (y : Spec) (w w' : Store) (old new : Tracer) (i : ℕ) (bind : List Reference)
+    (ls : List Letter) : Type 0 where
+  pub order : IsInOrder y w' new
+  pub stack : stack_at w' new ≡ stack_at w old
+  pub moves : (r : Rule) (s : Substitution) (u : Tree) → IsMatch y i u r s
+      → HasValues w old.lists.stack bind s
+      → moves_at y w' new ≡ map (move_of s) (map (named_by y) ls) ++ moves_at y w old
+
+-- the moves of a term come first
+pub record HasMoves (y : Spec) (w w' : Store) (old new : Tracer) (ms : List Move) : Type 0 where
+  pub order : IsInOrder y w' new
+  pub stack : stack_at w' new ≡ stack_at w old
+  pub moves : moves_at y w' new ≡ ms ++ moves_at y w old
+
+-- an outcome: its value comes on top; or it is over the limit
+abbrev pub Gives : Spec → Store → Store → Tracer → Tracer → Outcome Tree → Bool → Type 0
+Gives y w w' old new o true = (v : Tree) × (o ≡ Done v new.left) × Adds y w w' old new v
+Gives y w w' old new o false = o ≡ Over
+
+-- the answer of conditions; none over the limit
+abbrev pub AreAnswered : Spec → Store → Store → Tracer → Tracer → Outcome Bool → Option Bool
+    → Type 0
+AreAnswered y w w' old new o (Some answer) = (o ≡ Done answer new.left) × IsSame y w w' old new
+AreAnswered y w w' old new o None = o ≡ Over
+
+-- the first value on a stack
+abbrev pub on_top : List Tree → Tree
+on_top st = get_or st 0 (list_of none)
+
+-- what is found for the tree on top
+abbrev pub IsFound : Spec → Store → Store → Tracer → Tracer → Outcome (Option Match) → Found
+    → Type 0
+IsFound y w w' old new o (found.Rule i) = (m : Match) × (o ≡ Done (Some m) new.left)
+    × IsMatch y i (on_top (stack_at w old)) m.rule m.values × IsSame y w w' old new
+IsFound y w w' old new o found.Nothing = (o ≡ Done None new.left) × IsSame y w w' old new
+IsFound y w w' old new o found.Limit = o ≡ Over

@@ -1,0 +1,120 @@
+-- What each turn of a tracer needs, and what it does.
+use Rattle.std.specs.Prelude.{ℕ, ◌≡◌, ◌≤◌, ◌<◌, Bool, true, false, Contains, IsSome, List, [], ◌∷◌, ◌++◌, Option, Some, None, drop, length, map, reverse, slice_get, take}
+use Rattle.std.specs.Option.{option_map}
+use Rattle.rx_term.specs.Tree.{Tree, none}
+use Rattle.rx_term.specs.Store.{Store, tree_at}
+use Rattle.rx_term.specs.Walks.{held_tree}
+use Rattle.rx_term.specs.declared.Term.{Term as Reference}
+use Rattle.rec_syntax.specs.Syntax.{Rule, Spec}
+use Rattle.rec_sorts.specs.Binding.{NumberedMatch, Substitution, application, instance}
+use Rattle.rec_sorts.specs.Evaluation.{Caller, Outcome, Done, Over, Match, Eval, first_rule}
+use Rattle.rec_sorts.specs.Numbering.{named_by}
+use Rattle.rec_sorts.specs.declared.letters.Letter.{Letter}
+use Rattle.rec_engine.specs.Flat.{taken}
+use Rattle.rec_trace.specs.States.{Move, Give, Invoke, moves}
+use Rattle.rec_trace.specs.Lists.{Hold, listed}
+use Rattle.rec_trace.specs.Sides.{HasSide, IsMatch, move_of}
+use Rattle.rec_trace.specs.Tracing.{AreSteps, IsInOrder, moves_at, moves_of, on_top, result, stack_at}
+use Rattle.rec_trace.specs.declared.sides.Side.{Side}
+use Rattle.rec_trace.specs.declared.tracer.Step.{Step}
+use Rattle.rec_trace.specs.declared.tracer.Tracer.{Tracer}
+use Rattle.rec_trace.specs.declared.tracer.Turn.{Turn}
+use Rattle.rec_trace.specs.declared.tracer.Turn.TheVariants as turn
+
+-- a rule matches a tree that is a part of what stands on the stack, and has such a side
+abbrev pub CanTake : Spec → Store → Tracer → ℕ → Side → Reference → Type 0
+CanTake y w t i side redex = (r : Rule) × (s : Substitution) × IsMatch y i (held_tree w redex) r s
+    × HasSide r side × Contains (stack_at w t) (held_tree w redex) × IsSome (tree_at w redex)
+
+-- there is a move, and values enough for it
+abbrev pub CanTurn : List Move → ℕ → Type 0
+CanTurn [] d = ⊥
+CanTurn (Give v ∷ ms) d = Unit {0}
+CanTurn (Invoke name k ∷ ms) d = k ≤ d
+
+-- a symbol is called on the values on top
+abbrev pub HasCalled : Caller → Store → Store → Tracer → Tracer → List ℕ → ℕ → Bool → Type 0
+HasCalled c w w' old new name k true = (v : Tree)
+    × (c old.left (application name (taken k (stack_at w old) none)) ≡ Done v new.left)
+    × Hold w' new.lists (listed w old.lists.given) (v ∷ drop k (stack_at w old))
+HasCalled c w w' old new name k false =
+    c old.left (application name (taken k (stack_at w old) none)) ≡ Over
+
+-- a move is made: so many moves and this stack are left
+abbrev pub Moves : Caller → ℕ → ℕ → List Move → List Tree → List Move → List Tree → Bool → Type 0
+Moves c n n' [] st ms' st' more = ⊥
+Moves c n n' (Give v ∷ ms) st ms' st' true = (n' ≡ n) × (ms' ≡ ms) × (st' ≡ v ∷ st)
+Moves c n n' (Give v ∷ ms) st ms' st' false = ⊥
+Moves c n n' (Invoke name k ∷ ms) st ms' st' true = (v : Tree)
+    × (c n (application name (taken k st none)) ≡ Done v n') × (ms' ≡ ms) × (st' ≡ v ∷ drop k st)
+Moves c n n' (Invoke name k ∷ ms) st ms' st' false =
+    c n (application name (taken k st none)) ≡ Over
+
+-- the next move is made
+abbrev pub Turns : Caller → Spec → Store → Store → Tracer → Tracer → Bool → Type 0
+Turns c y w w' old new true = IsInOrder y w' new
+    × Moves c old.left new.left (moves_at y w old) (stack_at w old) (moves_at y w' new)
+    (stack_at w' new) true
+Turns c y w w' old new false = Moves c old.left new.left (moves_at y w old) (stack_at w old)
+    (moves_at y w' new) (stack_at w' new) false
+
+-- the first moves, so many, are made: their value comes on top, and the others are left
+pub record HasGone (y : Spec) (w w' : Store) (old new : Tracer) (k : ℕ) (v : Tree) : Type 0 where
+  pub order : IsInOrder y w' new
+  pub moves : moves_at y w' new ≡ drop k (moves_at y w old)
+  pub stack : stack_at w' new ≡ v ∷ stack_at w old
+
+abbrev pub HasRun : Caller → Spec → Store → Store → Tracer → Tracer → ℕ → Bool → Type 0
+HasRun c y w w' old new k true = (v : Tree)
+    × (result c old.left (take k (moves_at y w old)) [] ≡ Done v new.left)
+    × HasGone y w w' old new k v
+HasRun c y w w' old new k false = result c old.left (take k (moves_at y w old)) [] ≡ Over
+
+-- a rule matches the tree on top, and has a condition of this number
+abbrev pub HasCondition : Spec → List Tree → ℕ → ℕ → Type 0
+HasCondition y st i j = (r : Rule) × (s : Substitution) × IsMatch y i (on_top st) r s
+    × (j < length r.conditions) × (0 < length st)
+
+-- the number of a rule that matches
+abbrev pub number_of : Option NumberedMatch → Option ℕ
+number_of o = option_map (λ m. m.number) o
+
+-- a rule fires at the tree on top: the moves of its right side come first, and the tree goes
+pub record HasFired (y : Spec) (w w' : Store) (old new : Tracer) (r : Rule) (s : Substitution)
+    (redex contractum : Reference) : Type 0 where
+  pub order : IsInOrder y w' new
+  pub left_is : new.left ≡ old.left
+  pub moves_are : moves_at y w' new ≡ moves s r.right ++ moves_at y w old
+  pub stack : on_top (stack_at w old) ∷ stack_at w' new ≡ stack_at w old
+  pub redex_is : tree_at w' redex ≡ Some (on_top (stack_at w old))
+  pub contractum_is : tree_at w' contractum ≡ Some (instance s r.right)
+
+abbrev pub Fires : Spec → Store → Store → Tracer → Tracer → ℕ → Rule → Substitution → Turn → Type 0
+Fires y w w' old new i r s (turn.Fired rule redex contractum) = (rule ≡ i)
+    × HasFired y w w' old new r s redex contractum
+Fires y w w' old new i r s (turn.Value t) = ⊥
+Fires y w w' old new i r s turn.Limit = ⊥
+
+-- a call with what is found for it: the limit, or a rule that fires; or the tree is its own value
+abbrev pub Comes : Spec → Store → Store → Tracer → Tracer → Tree → List Tree
+    → Outcome (Option Match) → Option Turn → Type 0
+Comes y w w' old new u st o None = (o ≡ Done None new.left) × IsInOrder y w' new
+    × (moves_at y w' new ≡ moves_at y w old) × (stack_at w' new ≡ u ∷ st)
+Comes y w w' old new u st o (Some turn.Limit) = o ≡ Over
+Comes y w w' old new u st o (Some (turn.Value t)) = ⊥
+Comes y w w' old new u st o (Some (turn.Fired i redex contractum)) = (m : Match)
+    × (o ≡ Done (Some m) new.left) × (slice_get y.rules i ≡ Some m.rule) × IsInOrder y w' new
+    × (moves_at y w' new ≡ moves m.values m.rule.right ++ moves_at y w old)
+    × (stack_at w' new ≡ st) × (tree_at w' redex ≡ Some u)
+    × (tree_at w' contractum ≡ Some (instance m.values m.rule.right))
+
+abbrev pub ComesTo : Spec → Store → Store → Tracer → Tracer → List ℕ → ℕ → Option Turn → Type 0
+ComesTo y w w' old new name k turn =
+    let u = application name (taken k (stack_at w old) none) in
+    Comes y w w' old new u (drop k (stack_at w old))
+    (first_rule y (Eval y) y.rules old.left u) turn
+
+-- steps are the calls of a ground term's letters
+pub record IsGroundRow (y : Spec) (steps : List Step) (ls : List Letter) : Type 0 where
+  pub can : AreSteps y (reverse steps) []
+  pub moves_are : moves_of y (reverse steps) [] ≡ map (move_of []) (map (named_by y) ls)

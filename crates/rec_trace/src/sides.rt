@@ -1,0 +1,86 @@
+//! The sides of rules, and the values of their variables.
+
+ghost use Rattle.std.specs.Prelude.{◌≡◌, ◌<◌, IfOk, Some, Contains, length, slice_get, true};
+ghost use Rattle.rx_term.specs.Tree.{Tree};
+ghost use Rattle.rx_term.specs.Walks.{held_tree};
+ghost use Rattle.rec_syntax.specs.Syntax.{Rule, subterms};
+ghost use Rattle.rec_sorts.specs.Binding.{Substitution, value_of};
+ghost use Rattle.rec_sorts.specs.Lookup.{mentions, variable_words};
+ghost use Rattle.rec_sorts.specs.Numbering.{AreLetters, name_of};
+ghost use Rattle.rec_sorts.specs.SpecRules.{heads};
+ghost use Rattle.rec_sorts.specs.declared.letters.Meaning.TheVariants.{Variable};
+ghost use Rattle.rec_trace.specs.Sides.{HasSide, HasValues, IsMatch, IsRow, side_of};
+
+use rec_engine::{Engine, EngineFault};
+use rec_sorts::{Checked, Letter};
+use rx_term::{Term, TermBank};
+use std::alloc::Global;
+
+/// A side of a rule: its right side, or one of a condition of this number.
+#[derive(Clone, Copy, Drop)]
+pub(crate) enum Side {
+    Contractum,
+    Left(usize),
+    Right(usize),
+}
+
+/// The letters of a side of a rule.
+pub(crate) fn letters_of(
+    alloc: Global,
+    checked: &Checked,
+    rule: u32,
+    side: Side,
+) -> Result<Vec<Letter>, EngineFault>
+    requires { (r : Rule) × (slice_get checked.now.spec.rules rule ≡ Some r) × HasSide r side }
+    ensures { IfOk result (λ v. (r : Rule) → slice_get checked.now.spec.rules rule ≡ Some r
+        → IsRow checked.now.spec r v.items (side_of r side)) }
+{
+    let rules = checked.rules();
+    let rule = &rules[rule as usize];
+    match side {
+        Side::Contractum => copied(alloc, &rule.right),
+        Side::Left(i) => copied(alloc, &rule.conditions[i].left),
+        Side::Right(i) => copied(alloc, &rule.conditions[i].right),
+    }
+}
+
+/// The same letters.
+fn copied(alloc: Global, letters: &[Letter]) -> Result<Vec<Letter>, EngineFault>
+    ensures { IfOk result (λ v. v.items ≡ letters.now) }
+{
+    match Vec::from_slice(alloc, letters) {
+        Ok(copy) => Ok(copy),
+        Err(_) => Err(EngineFault::Memory),
+    }
+}
+
+/// The value of a variable of a rule that matches, where the values are given in the order in
+/// which the variables first occur in its left side.
+pub(crate) fn binding<B: TermBank>(
+    engine: &Engine<B>,
+    rule: u32,
+    variable: u32,
+    stack: Term,
+    bind: &[Term],
+) -> Term
+    requires { (r : Rule) × (s : Substitution) × (u : Tree)
+        × IsMatch engine.now.spec rule u r s
+        × HasValues (B.store engine.now.bank) stack bind.now s
+        × (variable < length (variable_words engine.now.spec.variables))
+        × (mentions (heads (subterms r.left)) (name_of engine.now.spec (Variable variable))
+        ≡ true) }
+    ensures value { (r : Rule) (s : Substitution) (u : Tree)
+        → IsMatch engine.now.spec rule u r s
+        → HasValues (B.store engine.now.bank) stack bind.now s
+        → value_of s (name_of engine.now.spec (Variable variable))
+        ≡ Some (held_tree (B.store engine.now.bank) result) }
+    ensures among { Contains bind.now result }
+{
+    let variables = &engine.matcher().sides[rule as usize].variables;
+    for (i, v) in variables.iter().enumerate() {
+        if *v == variable {
+            return bind[i];
+        }
+    }
+    unreachable!()
+}

@@ -1,0 +1,154 @@
+//! Conversations: requests that are answered as they come.
+
+use crate::evidence::Evidence;
+use crate::expected::expected_words;
+use crate::input::{open, open_file};
+use crate::options::run_options;
+use crate::recorded::Recorded;
+use rec_run::{Finish, RunFault, Source};
+use rec_serve::{Listener, Refusal as Refused, ServeFault, run_serve_at};
+use rec_sorts::Checked;
+use recw_words::{EvalOptions, Refusal, TextName, Texts, Which, explain_given, explain_place};
+use rx_text::LONGEST;
+use std::alloc::Global;
+use std::io;
+use std::io::{Read, Write};
+use std::rt::Files;
+
+/// Explains the requests that are refused, where that is asked for.
+#[derive(Drop)]
+struct Explainer<'a, E> {
+    /// The allocator of what is told.
+    alloc: Global,
+    /// What the requests are called.
+    path: &'a str,
+    /// Whether they are to be explained.
+    is_asked: bool,
+    /// Where it is told.
+    err: &'a mut E,
+}
+
+impl<E: Write> Listener for Explainer<'_, E> {
+    fn refused(&mut self, checked: &Checked, number: u64, request: &[u8], refusal: Refused) {
+        if self.is_asked {
+            // A line that cannot be written is left out.
+            let _ = self.explain(checked, number, request, refusal);
+        }
+    }
+}
+
+impl<E: Write> Explainer<'_, E> {
+    /// Says what the refusal means, and where it stands.
+    fn explain(
+        &mut self,
+        checked: &Checked,
+        number: u64,
+        request: &[u8],
+        refusal: Refused,
+    ) -> io::Result<()> {
+        let path = self.path;
+        let text = TextName::Line { path, number };
+        match refusal {
+            Refused::Long => self.explain_at(Refusal { text, rule: "L1" }, request, LONGEST),
+            Refused::Outside { at } => {
+                self.explain_at(Refusal { text, rule: "A" }, request, at as usize)
+            }
+            Refused::Rule { number } => {
+                let rule = rule_name(number);
+                let spec = checked.syntax().source();
+                let which = Which::Whole;
+                let terms = request;
+                let texts = Texts { spec, terms, which };
+                explain_given(self.alloc, Refusal { text, rule }, texts, self.err)
+            }
+        }
+    }
+
+    /// Says what a refusal at a place of a request means, and what may stand there.
+    fn explain_at(&mut self, refusal: Refusal<'_>, request: &[u8], at: usize) -> io::Result<()> {
+        let alloc = self.alloc;
+        match expected_words(alloc, refusal.rule, request, at) {
+            Some(expected) => {
+                let expected = expected.as_slice();
+                explain_place(alloc, refusal, request, at, expected, self.err)
+            }
+            None => explain_place(alloc, refusal, request, at, &[], self.err),
+        }
+    }
+}
+
+/// The name of a rule of given terms.
+fn rule_name(number: u8) -> &'static str {
+    match number {
+        2 => "T2",
+        3 => "T3",
+        4 => "T4",
+        5 => "T5",
+        _ => "T6",
+    }
+}
+
+/// Answers the requests of a file or of the standard input by a specification from the other.
+pub fn serve<H: Files, R: Read, W: Write, E: Write>(
+    rt: &H,
+    options: EvalOptions,
+    input: &mut R,
+    out: &mut W,
+    err: &mut E,
+    evidence: &mut Evidence<'_>,
+) -> Result<Finish, RunFault> {
+    let request = evidence.invocation.request;
+    let spec_name = evidence.name_of(Source::Spec);
+    let name = evidence.name_of(Source::Term);
+    match request.requests_path() {
+        Some(_) => {
+            let spec = evidence.note_open(open(rt, request.path(), input), spec_name)?;
+            let requests = evidence.note_open(open_file(rt, request.requests_path()), name)?;
+            serve_on(options, spec, requests, out, err, evidence)
+        }
+        None => {
+            let spec = evidence.note_open(open_file(rt, request.path()), spec_name)?;
+            let requests = evidence.note_open(open(rt, None, input), name)?;
+            serve_on(options, spec, requests, out, err, evidence)
+        }
+    }
+}
+
+/// Answers requests by a specification, whose text is kept for an explanation.
+fn serve_on<S: Read + Drop, R: Read + Drop, W: Write, E: Write>(
+    options: EvalOptions,
+    spec: S,
+    requests: R,
+    out: &mut W,
+    err: &mut E,
+    evidence: &mut Evidence<'_>,
+) -> Result<Finish, RunFault> {
+    let alloc = evidence.alloc;
+    let mut spec = evidence.record(spec);
+    let mut requests = Recorded::new(alloc, requests, false);
+    let mut explainer = Explainer {
+        alloc,
+        path: evidence.requests_name(),
+        is_asked: evidence.invocation.explain,
+        err,
+    };
+    let end = run_serve_at(
+        alloc,
+        &mut spec,
+        &mut requests,
+        out,
+        run_options(options),
+        &mut evidence.place,
+        &mut explainer,
+    );
+    let name = evidence.name_of(Source::Spec);
+    evidence.first = evidence.note_read(spec.finish(), name);
+    let name = evidence.name_of(Source::Term);
+    evidence.note_read(requests.finish(), name);
+    match end {
+        Ok(finish) => Ok(finish),
+        Err(ServeFault::Memory) => Err(RunFault::Memory { lines: 0 }),
+        Err(ServeFault::Read { answered: _ }) => Err(RunFault::Read),
+        Err(ServeFault::Write { answered: _ }) => Err(RunFault::Write),
+    }
+}

@@ -1,0 +1,137 @@
+//! Conversations over readers and writers that give or take one byte a call.
+
+use crate::rows::streams::{Sink, bytewise, failing, failing_at, taking, unflushed};
+use crate::rows::{Q, options};
+use rec_run::{Finish, engine_over, read_spec_text};
+use rec_serve::{
+    Deaf, Refusal, ServeFault, Want, answer, answer_in, converse, run_serve, run_serve_at,
+};
+use rx_run::{Named, Place, Reading, Source};
+use rx_shared::SharedBank;
+use std::alloc::Global;
+use std::io::ErrorKind;
+use std::process::Abort;
+
+/// Requests for a specification, of each kind.
+const REQUESTS: &str = "f(a)\n\n f ( a ) {b}\nf(a\n3\nf(a{b})\nc\nf\nf(b)\nf(f(a))\nb";
+
+/// Their answers within one step.
+const LINES: &str = "a\t1\n!term A\na{b}\t1\n!term A\n!term T2\n!term T3\n!term T4\n!term T5\n\
+     !term T6\n!limit 1\nb\t0\n";
+
+/// How many lines were written whole.
+fn lines_in(held: &[u8]) -> u64 {
+    held.iter().filter(|byte| **byte == b'\n').count() as u64
+}
+
+/// Stops where something else was written than a beginning of the answers.
+fn expect_beginning(rt: &impl Abort, out: &Sink) {
+    assert!(rt; LINES.as_bytes().starts_with(out.held.as_slice()));
+}
+
+/// A conversation whose reader fails at a read.
+fn fails_to_read(rt: &impl Abort, alloc: Global, at: usize) {
+    let mut out = taking(alloc);
+    let mut requests = failing(REQUESTS, at, ErrorKind::Other);
+    let options = options(1, true);
+    let end = run_serve(alloc, &mut bytewise(Q), &mut requests, &mut out, options);
+    let answered = lines_in(out.held.as_slice());
+    assert!(rt; end == Err(ServeFault::Read { answered }), "{at}");
+    assert!(rt; requests.reads == at, "{at}");
+    expect_beginning(rt, &out);
+}
+
+/// One whose writer fails at a write, or takes nothing.
+fn fails_to_write(rt: &impl Abort, alloc: Global, at: usize, error: Option<ErrorKind>) {
+    let mut out = failing_at(alloc, at, error);
+    let mut requests = bytewise(REQUESTS);
+    let options = options(1, true);
+    let end = run_serve(alloc, &mut bytewise(Q), &mut requests, &mut out, options);
+    let answered = lines_in(out.held.as_slice());
+    assert!(rt; end == Err(ServeFault::Write { answered }), "{at}");
+    assert!(rt; out.writes == at, "{at}");
+    expect_beginning(rt, &out);
+}
+
+#[test]
+fn answers_each_request(rt: HostRuntime) {
+    let alloc = rt.alloc();
+    let mut out = taking(alloc);
+    let options = options(1, true);
+    let mut requests = bytewise(REQUESTS);
+    let end = run_serve(alloc, &mut bytewise(Q), &mut requests, &mut out, options);
+    assert!(rt; end == Ok(Finish::Done));
+    assert!(rt; out.held.as_slice() == LINES.as_bytes());
+}
+
+#[test]
+fn breaks_off_where_a_stream_fails(rt: HostRuntime) {
+    let alloc = rt.alloc();
+    for at in 1..=REQUESTS.len() {
+        fails_to_read(&rt, alloc, at);
+    }
+    for at in 1..=LINES.len() {
+        fails_to_write(&rt, alloc, at, Some(ErrorKind::Interrupted));
+        fails_to_write(&rt, alloc, at, None);
+    }
+    let mut out = unflushed(alloc, ErrorKind::Other);
+    let mut requests = bytewise(REQUESTS);
+    let options = options(1, true);
+    let end = run_serve(alloc, &mut bytewise(Q), &mut requests, &mut out, options);
+    assert!(rt; end == Err(ServeFault::Write { answered: 0 }));
+    assert!(rt; requests.reads == 0 && out.held.is_empty());
+}
+
+#[test]
+fn a_refused_specification_is_enough(rt: HostRuntime) {
+    let alloc = rt.alloc();
+    let mut out = taking(alloc);
+    let mut requests = bytewise(REQUESTS);
+    let mut place = None;
+    let mut spec = bytewise("REC-SPEC E SORTS : END-SPEC");
+    let end = run_serve_at(
+        alloc,
+        &mut spec,
+        &mut requests,
+        &mut out,
+        options(1, true),
+        &mut place,
+        &mut Deaf,
+    );
+    let text = Source::Spec;
+    let rule = Named::G;
+    assert!(rt; end == Ok(Finish::Refused) && requests.reads == 0);
+    assert!(rt; place == Some(Place { text, rule, at: 17 }));
+    assert!(rt; out.held.as_slice() == b"!spec G\n".as_slice());
+}
+
+#[test]
+fn answers_over_an_engine(rt: HostRuntime) {
+    let alloc = rt.alloc();
+    let options = options(1, false);
+    let Ok(Reading::Good(checked)) = read_spec_text(alloc, &mut Q.as_bytes()) else {
+        panic!(rt; "a good specification")
+    };
+    let bank = SharedBank::new(alloc, 1000).expect(&rt, "memory");
+    let Ok(mut engine) = engine_over(alloc, checked, bank, None, options) else {
+        panic!(rt; "memory")
+    };
+    let value = answer(alloc, &mut engine, b"f(a){b}", options).expect(&rt, "memory");
+    assert!(rt; value.text.as_slice() == b"a{b}\n".as_slice() && value.refusal.is_none());
+    let refused = answer(alloc, &mut engine, b"f(", options).expect(&rt, "memory");
+    assert!(rt; refused.refusal == Some(Refusal::Outside { at: 2 }));
+    let mut own = SharedBank::new(alloc, 3).expect(&rt, "memory");
+    let wanting = answer_in(alloc, &mut own, &mut engine, b"f(a)", options);
+    assert!(rt; matches!(wanting, Err(Want::Cells)));
+    let mut out = taking(alloc);
+    let mut requests = bytewise("f(a)\nf(b)\n");
+    let end = converse(
+        alloc,
+        &mut engine,
+        &mut requests,
+        &mut out,
+        options,
+        &mut Deaf,
+    );
+    assert!(rt; end == Ok(()) && out.held.as_slice() == b"a\n!term T6\n".as_slice());
+}

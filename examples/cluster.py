@@ -1,0 +1,45 @@
+#!/usr/bin/env python3
+"""Evaluates many terms on several processes with Dask: cluster.py RECW SPEC PROCESSES < TERMS
+
+Each line of the input is a request of `recw serve`. The lines are a bag of several partitions, and each partition goes
+through one process of its own, on whichever worker has time; one that is lost with its worker is asked again. The
+answers are written in the order of the requests. With the name of a scheduler in DASK_SCHEDULER the workers of that
+cluster are used, where RECW and SPEC have to be.
+"""
+
+import os
+import subprocess
+import sys
+
+import dask.bag
+from distributed import Client, LocalCluster
+
+
+def answers(lines, recw, spec):
+    """The answers to the requests of one partition."""
+    asked = "".join(lines)
+    ran = subprocess.run([recw, "serve", spec], input=asked, stdout=subprocess.PIPE, encoding="latin-1", check=True)
+    return ran.stdout.splitlines(keepends=True)
+
+
+def ask(client, lines, recw, spec, count):
+    """The answers to all requests, by so many partitions for each process."""
+    bag = dask.bag.from_sequence(lines, npartitions=4 * count)
+    return bag.map_partitions(answers, recw, spec).compute(scheduler=client)
+
+
+def main():
+    recw, spec, count = os.path.realpath(sys.argv[1]), os.path.realpath(sys.argv[2]), int(sys.argv[3])
+    sys.stdin.reconfigure(encoding="latin-1")
+    sys.stdout.reconfigure(encoding="latin-1")
+    lines = [f"{line}\n" for line in sys.stdin.read().split("\n")]
+    if lines[-1] == "\n":
+        lines.pop()
+    where = os.environ.get("DASK_SCHEDULER")
+    cluster = None if where else LocalCluster(n_workers=count, threads_per_worker=1, dashboard_address=None)
+    with Client(where or cluster) as client:
+        sys.stdout.writelines(ask(client, lines, recw, spec, count))
+
+
+if __name__ == "__main__":
+    main()

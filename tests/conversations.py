@@ -1,0 +1,207 @@
+"""Conversations: what is asked is cut off, too long or refused memory, and streams fail."""
+
+import os
+import signal
+import subprocess
+import time
+
+from attempts import EXAMPLES, NO_MEMORY, NO_READ, NO_WRITE, check, check_long, recw, room, write_file
+from common import program
+from refuse import answer, is_allowed
+
+# The most bytes of a request.
+LONGEST = 16_777_216
+# Twenty requests for examples/q.rec within one step, and their answers with the steps, by docs/FORMATS.md.
+TWENTY = (
+    ("f(a)", "a\t1"),
+    ("b", "b\t0"),
+    ("f(f(a))", "!limit 1"),
+    (" f ( a ) ", "a\t1"),
+    ("f(a){b,[3]}", "a{b,[3]}\t1"),
+    ("", "!term A"),
+    ("f(a", "!term A"),
+    ("f(a) b", "!term A"),
+    ("\0", "!term A"),
+    ("3", "!term T2"),
+    ("[a]", "!term T2"),
+    ("f(<a>)", "!term T2"),
+    ("f(a{b})", "!term T3"),
+    ("c", "!term T4"),
+    ('"a"', "!term T4"),
+    ("f(a,a)", "!term T5"),
+    ("f", "!term T5"),
+    ("f(b)", "!term T6"),
+    ('a{"long name with blanks"}', 'a{"long name with blanks"}\t0'),
+    ("f(a)", "a\t1"),
+)
+INPUT = "".join(f"{request}\n" for request, _ in TWENTY)
+OUTPUT = "".join(f"{due}\n" for _, due in TWENTY)
+WORDS = ("serve", "--steps", "1", "--count", "q.rec")
+# Each beginning of a request, and its answer.
+CUT = (("p", "!term T4"), ("plus", "!term T5"), ("plus(", "!term A"), ("plus(z,z)", "z"))
+
+
+def try_cuts():
+    """A conversation whose input ends at each byte."""
+    request = "plus(s(z),z)"
+    whole = {"plus": "!term T5", request: "s(z)", **{request[:end]: "!term T4" for end in (1, 2, 3)}}
+    for end in range(len(request) + 1):
+        due = f"{whole.get(request[:end], '!term A')}\n" if end else ""
+        found = recw("serve", "add.rec", input=f"z\n{request[:end]}")
+        check(f"a conversation cut behind {end} bytes", (0, f"z\n{due}", ""), found)
+    for text, due in CUT:
+        check(f"{text!r} and a line end", (0, f"{due}\n", ""), recw("serve", "add.rec", input=f"{text}\n"))
+
+
+def try_ends():
+    """What the requests of an input are."""
+    for text, due in (("", ""), ("\n", "!term A\n"), ("z", "z\n"), ("z\n\nz", "z\n!term A\nz\n"), ("z\r\n", "z\n")):
+        check(f"requests {text!r}", (0, due, ""), recw("serve", "add.rec", input=text))
+    check("twenty requests", (0, OUTPUT, ""), recw(*WORDS, input=INPUT))
+    for options in (("--memo", "0"), ("--reclaim", "1"), ("--memo", "1", "--reclaim", "1")):
+        check(f"twenty requests, {options}", (0, OUTPUT, ""), recw(*WORDS, *options, input=INPUT))
+    refused = recw("serve", "/dev/null", input=INPUT)
+    check("a refused specification", (1, "!spec G\n", "recw: spec G at byte 0\n"), refused)
+
+
+def try_explained():
+    """What is told of requests that are refused."""
+    told = recw(*WORDS, "--explain", input=INPUT)
+    lines = [it for it in told[2].splitlines() if it.startswith("<stdin>:")]
+    refused = [number + 1 for number, (_, due) in enumerate(TWENTY) if due.startswith("!term")]
+    check("explained requests", refused, [int(it.split(":")[1]) for it in lines])
+    check("the output beside it", (0, OUTPUT), told[:2])
+    check("the first one told", True, lines[0].startswith("<stdin>:6:1: A: "))
+    check("a count of arguments", True, "<stdin>:16:1: T5: " in told[2] and "; f takes 1 argument, here 2" in told[2])
+
+
+def try_cells():
+    """Each number of cells: a request has its answer, or tells that it lacked cells."""
+    met = set()
+    for cells in range(1, 65):
+        status, lines, told = recw(*WORDS, "--cells", str(cells), input=INPUT)
+        check(f"{cells} cells: end", (0, ""), (status, told))
+        found = lines.splitlines()
+        check(f"{cells} cells: answers", len(TWENTY), len(found))
+        for (request, due), line in zip(TWENTY, found):
+            met.add(line == "!cells")
+            check(f"{cells} cells: {request!r}", True, line in (due, "!cells"))
+    check("cells: some are wanting, some are not", {True, False}, met)
+
+
+def try_long():
+    """Requests of the most bytes, of one more and of many more, between others."""
+    blanks = " " * (LONGEST - 1)
+    for before, due in ((blanks, "z"), (blanks + " ", "!term L1"), (blanks * 3, "!term L1")):
+        text = f"z\n{before}z\nplus(z,z)\n"
+        check_long(f"a request of {len(before) + 1} bytes", (0, f"z\n{due}\nz\n", ""), recw("serve", "add.rec", input=text))
+    nuls = "\0" * (LONGEST + 1)
+    check_long("NUL bytes", (0, "!term L1\nz\n", ""), recw("serve", "add.rec", input=f"{nuls}\nz"))
+
+
+def try_slow():
+    """Bytes that come one by one, and a client that waits for each answer."""
+    with subprocess.Popen([program(), *WORDS], cwd=EXAMPLES, stdin=subprocess.PIPE, stdout=subprocess.PIPE) as child:
+        for request, due in TWENTY:
+            for byte in f"{request}\n".encode("latin-1"):
+                os.write(child.stdin.fileno(), bytes([byte]))
+                time.sleep(0.0005)
+            check(f"waiting for {request!r}", due, child.stdout.readline().decode("latin-1").rstrip("\n"))
+        child.stdin.close()
+        check("the end behind them", (b"", 0), (child.stdout.read(), child.wait(timeout=10)))
+
+
+def try_closed():
+    """Who reads goes away, and a signal ends a conversation that waits."""
+    ends = os.pipe()
+    os.close(ends[0])
+    how = {"stdin": subprocess.PIPE, "stdout": ends[1], "stderr": subprocess.PIPE, "cwd": EXAMPLES}
+    with subprocess.Popen([program(), *WORDS], **how) as child:
+        os.close(ends[1])
+        told = child.communicate(INPUT.encode("latin-1"), timeout=10)[1].decode("latin-1")
+    check("nobody reads", NO_WRITE, (child.returncode, told))
+    for number in (signal.SIGINT, signal.SIGTERM, signal.SIGHUP):
+        how = {"stdin": subprocess.PIPE, "stdout": subprocess.PIPE, "stderr": subprocess.PIPE, "cwd": EXAMPLES}
+        with subprocess.Popen([program(), "serve", "add.rec"], **how) as child:
+            child.stdin.write(b"z\n")
+            child.stdin.flush()
+            first = child.stdout.readline()
+            child.send_signal(number)
+            rest, told = child.communicate(timeout=10)
+        check(f"{number.name} while it waits", (-number, b"z\n", b"", b""), (child.returncode, first, rest, told))
+
+
+def try_folders(at):
+    check("requests from a folder", (4, "", NO_READ[1]), recw("serve", "add.rec", at))
+    check("requests from no file", (4, "", NO_READ[1]), recw("serve", "add.rec", f"{at}/none"))
+    file = write_file(f"{at}/requests", INPUT)
+    check("requests from a file", (0, OUTPUT, ""), recw(*WORDS, file))
+    with open("/dev/full", "wb") as full:
+        how = {"stdout": full, "stderr": subprocess.PIPE, "capture_output": False}
+        status, _, told = recw(*WORDS, file, **how)
+    check("a full device", NO_WRITE, (status, told))
+
+
+def is_kept(lines):
+    """Whether each line is what is due, but for one at most that tells of want of memory."""
+    due = OUTPUT.splitlines()
+    wanting = sum(line == "!memory" and line != wanted for line, wanted in zip(lines, due))
+    return len(lines) == len(due) and wanting <= 1 and all(it in (wanted, "!memory") for it, wanted in zip(lines, due))
+
+
+def try_refused(at):
+    """Each request for memory is refused in turn: one answer at most tells of it, or the run did not begin."""
+    words = [program(), *WORDS, write_file(f"{at}/requests", INPUT)]
+    counts = answer(words, EXAMPLES)["counts"]
+    met = 0
+    for name, count in counts.items():
+        for number in range(1, count + 1):
+            it = answer(words, EXAMPLES, (name, number))
+            found = (it["status"], it["err"])
+            kept = found == (0, "") and is_kept(it["out"].splitlines())
+            met += "!memory" in it["out"]
+            check(f"a conversation: {name} {number} refused: {found} {it['out']!r}", True, kept or (*found, it["out"]) == (*NO_MEMORY, ""))
+    check("a conversation: some requests met want of memory", True, met > 20)
+    return sum(counts.values())
+
+
+def memory_of(child):
+    """How many KiB of memory a process has."""
+    with open(f"/proc/{child.pid}/status", encoding="ascii") as file:
+        return next(int(it.split()[1]) for it in file if it.startswith("VmRSS:"))
+
+
+# Requests that differ by a number: of strangers' names, over the limit, refused, with annotations, out of cells.
+KINDS = ("n{0}(z)", "plus(s(s(z)),z)", "z(((", "z{{n{0},{0}}}", "plus(s(z),s(z)){{[{0}]}}", "[{0}]", '"q{0}"')
+
+
+def try_days():
+    """Memory stays as it is over many different requests."""
+    # a number of a thousand, which is more cells than there are
+    large = "s(" * 3000 + "z" + ")" * 3000
+    words = [program(), "serve", "--steps", "2", "--cells", "4096", "add.rec"]
+    with subprocess.Popen(words, cwd=EXAMPLES, stdin=subprocess.PIPE, stdout=subprocess.PIPE) as child:
+        sizes = []
+        for batch in range(21):
+            lines = [KINDS[it % len(KINDS)].format(batch * 10_000 + it) for it in range(10_000)]
+            lines[::1000] = [large] * 10
+            child.stdin.write("".join(f"{it}\n" for it in lines[:5000]).encode("latin-1"))
+            child.stdin.flush()
+            for _ in range(5000):
+                child.stdout.readline()
+            sizes.append(memory_of(child))
+        child.stdin.close()
+        child.wait(timeout=10)
+    check(f"memory over 105,000 requests, in KiB: {sizes[1]} and {sizes[-1]}", True, sizes[-1] <= 1.1 * sizes[1])
+
+
+def try_conversations():
+    """How many requests for memory were refused."""
+    for group in (try_ends, try_cuts, try_explained, try_cells, try_long, try_slow, try_closed, try_days):
+        group()
+    with room() as at:
+        try_folders(at)
+        if not is_allowed():
+            print("not tried: conversations without memory: no program can be traced here")
+            return 0
+        return try_refused(at)
