@@ -2,10 +2,12 @@
 
 use crate::rows::streams::{Sink, bytewise, failing, failing_at, taking, unflushed};
 use crate::rows::{Q, options};
+use rec_engine::Engine;
 use rec_run::{Finish, engine_over, read_spec_text};
 use rec_serve::{
     Deaf, Refusal, ServeFault, Want, answer, answer_in, converse, run_serve, run_serve_at,
 };
+use rec_sorts::Checked;
 use rx_run::{Named, Place, Reading, Source};
 use rx_shared::SharedBank;
 use std::alloc::Global;
@@ -105,33 +107,70 @@ fn a_refused_specification_is_enough(rt: HostRuntime) {
     assert!(rt; out.held.as_slice() == b"!spec G\n".as_slice());
 }
 
+/// An engine for a specification, over a bank of its own.
+fn engine_for(rt: &impl Abort, alloc: Global, mut spec: &[u8]) -> Box<Engine<SharedBank>> {
+    let Ok(Reading::Good(checked)) = read_spec_text(alloc, &mut spec) else {
+        panic!(rt; "a good specification")
+    };
+    boxed_engine(rt, alloc, checked)
+}
+
+/// The engine of a specification that was read.
+fn boxed_engine(rt: &impl Abort, alloc: Global, checked: Checked) -> Box<Engine<SharedBank>> {
+    let bank = SharedBank::new(alloc, 1000).expect(rt, "memory");
+    let Ok(engine) = engine_over(alloc, checked, bank, None, options(1, false)) else {
+        panic!(rt; "memory")
+    };
+    Box::new(alloc, engine).expect(rt, "memory")
+}
+
+/// Stops where a request has another answer, or is refused.
+fn expect_answer(
+    rt: &impl Abort,
+    alloc: Global,
+    engine: &mut Engine<SharedBank>,
+    request: &[u8],
+    line: &[u8],
+) {
+    let answered = answer(alloc, engine, request, options(1, false)).expect(rt, "memory");
+    assert!(rt; answered.text.as_slice() == line && answered.refusal.is_none());
+}
+
+/// Stops where a request is not refused so.
+fn expect_refusal(
+    rt: &impl Abort,
+    alloc: Global,
+    engine: &mut Engine<SharedBank>,
+    request: &[u8],
+    refusal: Refusal,
+) {
+    let answered = answer(alloc, engine, request, options(1, false)).expect(rt, "memory");
+    assert!(rt; answered.refusal == Some(refusal));
+}
+
+/// A request that has no room in a bank of three cells.
+fn wants_cells(rt: &impl Abort, alloc: Global, engine: &mut Engine<SharedBank>) {
+    let bank = SharedBank::new(alloc, 3).expect(rt, "memory");
+    let mut own = Box::new(alloc, bank).expect(rt, "memory");
+    let wanting = answer_in(alloc, &mut *own, engine, b"f(a)", options(1, false));
+    assert!(rt; matches!(wanting, Err(Want::Cells)));
+}
+
+/// A conversation over the engine.
+fn converses(rt: &impl Abort, alloc: Global, engine: &mut Engine<SharedBank>) {
+    let mut out = taking(alloc);
+    let mut requests = bytewise("f(a)\nf(b)\n");
+    let options = options(1, false);
+    let end = converse(alloc, engine, &mut requests, &mut out, options, &mut Deaf);
+    assert!(rt; end == Ok(()) && out.held.as_slice() == b"a\n!term T6\n".as_slice());
+}
+
 #[test]
 fn answers_over_an_engine(rt: HostRuntime) {
     let alloc = rt.alloc();
-    let options = options(1, false);
-    let Ok(Reading::Good(checked)) = read_spec_text(alloc, &mut Q.as_bytes()) else {
-        panic!(rt; "a good specification")
-    };
-    let bank = SharedBank::new(alloc, 1000).expect(&rt, "memory");
-    let Ok(mut engine) = engine_over(alloc, checked, bank, None, options) else {
-        panic!(rt; "memory")
-    };
-    let value = answer(alloc, &mut engine, b"f(a){b}", options).expect(&rt, "memory");
-    assert!(rt; value.text.as_slice() == b"a{b}\n".as_slice() && value.refusal.is_none());
-    let refused = answer(alloc, &mut engine, b"f(", options).expect(&rt, "memory");
-    assert!(rt; refused.refusal == Some(Refusal::Outside { at: 2 }));
-    let mut own = SharedBank::new(alloc, 3).expect(&rt, "memory");
-    let wanting = answer_in(alloc, &mut own, &mut engine, b"f(a)", options);
-    assert!(rt; matches!(wanting, Err(Want::Cells)));
-    let mut out = taking(alloc);
-    let mut requests = bytewise("f(a)\nf(b)\n");
-    let end = converse(
-        alloc,
-        &mut engine,
-        &mut requests,
-        &mut out,
-        options,
-        &mut Deaf,
-    );
-    assert!(rt; end == Ok(()) && out.held.as_slice() == b"a\n!term T6\n".as_slice());
+    let mut engine = engine_for(&rt, alloc, Q.as_bytes());
+    expect_answer(&rt, alloc, &mut engine, b"f(a){b}", b"a{b}\n");
+    expect_refusal(&rt, alloc, &mut engine, b"f(", Refusal::Outside { at: 2 });
+    wants_cells(&rt, alloc, &mut engine);
+    converses(&rt, alloc, &mut engine);
 }
