@@ -19,6 +19,7 @@ _recw_eval_options=(
     '--cells C'
     '--memo M'
     '--reclaim K'
+    '--depth D'
     '--count'
     '--limit-annotations'
     '--limit-status'
@@ -56,7 +57,7 @@ _recw() {
     if ((COMP_CWORD > 1)); then kind=$(_recw_kind "$command"); fi
     if ((COMP_CWORD > 1)) && [[ $command != help ]]; then choices+=(--explain); fi
     if ((COMP_CWORD > 1)) && [[ $command == eval ]]; then choices+=("${_recw_eval_options[@]%% *}"); fi
-    if ((COMP_CWORD > 1)) && [[ $command == serve ]]; then choices+=(--steps --cells --memo --reclaim --count); fi
+    if ((COMP_CWORD > 1)) && [[ $command == serve ]]; then choices+=(--steps --cells --memo --reclaim --depth --count); fi
     if ((COMP_CWORD > 1)) && [[ $command == match ]]; then choices+=(--test); fi
     if ((COMP_CWORD == 1)); then choices+=(--version); fi
     if ((COMP_CWORD == 2)) && [[ $command == help ]]; then commands+=(refusals); fi

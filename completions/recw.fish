@@ -24,6 +24,7 @@ complete -c recw -n $either -l steps -x -d 'Most steps that a term may take, up 
 complete -c recw -n $either -l cells -x -d 'Most cells that terms may take, 1 to 2^30; the default takes up to 1.4 GB'
 complete -c recw -n $either -l memo -x -d 'Most results to remember, up to 2^20'
 complete -c recw -n $either -l reclaim -x -d 'New cells between two reclaims, 1 to 2^30'
+complete -c recw -n $either -l depth -x -d 'Most calls that may wait at once, up to 2^32 - 1'
 complete -c recw -n $either -l count -d 'Print the steps that each term took behind its value'
 complete -c recw -n $eval -l limit-annotations -d 'Print the annotations of a further term behind its limit'
 complete -c recw -n $eval -l limit-status -d 'End with status 5 where a term takes more steps'

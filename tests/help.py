@@ -171,6 +171,8 @@ def main():
         if name == "serve":
             alone = ("--term", "--limit-annotations", "--limit-status")
             both = [it for it in options["eval"] if it.name not in alone]
+            # a process that stays has a bound of its own on calls that wait
+            both = [it._replace(default="1000000") if it.name == "--depth" else it for it in both]
             same("options of serve", both, options[name])
         elif name not in ("eval", "help"):
             own = [it for it in options[name] if (name, it.name) != ("match", "--test")]

@@ -10,6 +10,7 @@ import tty
 
 from attempts import EXAMPLES, NO_READ, NO_WRITE, check, recw, room, write_file
 from common import program, text_of
+from conversations import INPUT, OUTPUT
 
 # More than the program keeps before it writes.
 LONG = f"[{','.join(['1'] * 100000)}]"
@@ -25,6 +26,7 @@ RUNS = (
     ("match f(<int>,<list>) in", {"in": "f(1,2,3)"}, "yes\n1\n[2,3]\n", DONE),
     ("aterm in", {"in": LONG}, f"{LONG}\n", DONE),
     ("eval in", {"in": REFUSED}, "!spec G\n", (1, "recw: spec G at byte 17\n")),
+    ("serve --steps 1 --count in requests", {"in": "examples/q.rec", "requests": INPUT}, OUTPUT, DONE),
 )
 # The calls, what is answered in place of what was asked for, and what is told then.
 REFUSALS = (
@@ -48,7 +50,8 @@ def traced(at, path, how, number, words):
 
 
 def refuse_in_turn(at, words, path, refusal, output, end):
-    """Each request of the call for the file is refused: of a read nothing is written, of a write a beginning.
+    """Each request of the call for the file is refused: of a read nothing is written, of a write a beginning; what was
+    answered before a read of requests is.
 
     How many requests were refused.
     """
@@ -58,7 +61,7 @@ def refuse_in_turn(at, words, path, refusal, output, end):
         if not met:
             break
         what = f"{' '.join(words)}: {call} {number} of {os.path.basename(path)}: {how}"
-        kept = "" if call == "read" else output[: len(written)]
+        kept = "" if call == "read" and not path.endswith("/requests") else output[: len(written)]
         # the program's buffer may try an interrupted write again
         again = (call, how) == ("write", "error=EINTR") and (written, ended) == (output, end)
         check(what, True, (ended == told and written == kept) or again)

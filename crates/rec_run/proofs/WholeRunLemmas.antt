@@ -1,5 +1,5 @@
 -- From what the texts of a run came to to what is due.
-use Rattle.std.proofs.Common.{ap, ◌≡◌, ℕ, ◌+◌, Bool, List, Option, Some, None, IfSome, take, refl, subst, sym, arith}
+use Rattle.std.proofs.Common.{ap, ◌≡◌, ℕ, ◌+◌, List, Option, Some, None, IfSome, take, refl, subst, sym, arith}
 use Rattle.std.proofs.lemmas.List.{length-take}
 use Rattle.rec_syntax.specs.Syntax.{Sourced}
 use Rattle.rec_sorts.specs.SpecRules as verdict

@@ -12,6 +12,9 @@ pub const MOST_CELLS: u32 = 1_073_741_824;
 /// The most results that are remembered.
 pub const MOST_RESULTS: u32 = 1_048_576;
 
+/// How many calls may wait at once in a conversation, where nothing else is said.
+const SERVED_DEPTH: &str = "1000000";
+
 /// The version. What the program was proved with can't be known here: another kit may build it.
 const VERSION: &str = "0.1.0";
 
@@ -42,7 +45,7 @@ fn bare_command<'a>(alloc: Global) -> Result<Command<'a>, AllocError> {
         "Evaluate REC specifications, and read ATerms",
         "With no arguments, recw evaluates the specification on standard input.\n\n\
          Exit status: 0 done, 1 the text was refused, 2 wrong arguments,\n\
-         3 out of memory or cells, 4 a read or a write failed.\n\n\
+         3 out of memory or cells, or too deep, 4 a read or a write failed.\n\n\
          recw help refusals says what each refusal means; --explain shows where it stands.",
     )
     .no_binary_name(true)
@@ -68,7 +71,8 @@ fn eval_command<'a>(alloc: Global) -> Result<Command<'a>, AllocError> {
         "Example: recw eval --steps 500 add.rec add.trm",
     );
     let command = with_files(alloc, command)?;
-    let command = with_limits(alloc, command)?.arg(count(alloc))?;
+    let command = with_limits(alloc, command)?.arg(depth(alloc))?;
+    let command = command.arg(count(alloc))?;
     with_limit_lines(alloc, command)?.arg(explain(alloc))
 }
 
@@ -106,7 +110,9 @@ fn serve_command<'a>(alloc: Global) -> Result<Command<'a>, AllocError> {
             "FILE",
             "File of the requests, or - [default: standard input]",
         ))?;
+    let depth = depth(alloc).default_value(SERVED_DEPTH);
     with_limits(alloc, command)?
+        .arg(depth)?
         .arg(count(alloc))?
         .arg(explain(alloc))
 }
@@ -271,7 +277,13 @@ fn reclaim<'a>(alloc: Global) -> Arg<'a> {
     ))
 }
 
-/// An option with a number.
+/// The option `--depth`.
+fn depth<'a>(alloc: Global) -> Arg<'a> {
+    let help = "Most calls that may wait at once, up to 2^32 - 1";
+    bare_number(alloc, "depth", "D", help).value_parser(value_parser!(u32))
+}
+
+/// An option with a number, which has a default.
 fn number<'a>(
     alloc: Global,
     name: &'a str,
@@ -279,10 +291,14 @@ fn number<'a>(
     default: &'a str,
     help: &'a str,
 ) -> Arg<'a> {
+    bare_number(alloc, name, value_name, help).default_value(default)
+}
+
+/// An option with a number.
+fn bare_number<'a>(alloc: Global, name: &'a str, value_name: &'a str, help: &'a str) -> Arg<'a> {
     Arg::new(alloc, name)
         .long(name)
         .value_name(value_name)
-        .default_value(default)
         .allow_negative_numbers(true)
         .help(help)
 }

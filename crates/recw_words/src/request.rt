@@ -21,6 +21,8 @@ pub struct EvalOptions {
     pub count: bool,
     /// Whether the limit line of a given term bears its annotations.
     pub limit_annotations: bool,
+    /// How many calls may wait at once; without a number as many as there is memory for.
+    pub depth: Option<u32>,
     pub ghost steps_in_range: { steps ≤ 10 ^ 18 },
     pub ghost cells_in_range: { (1 ≤ cells) × (cells ≤ 2 ^ 30) },
     pub ghost memo_in_range: { memo ≤ 2 ^ 20 },
@@ -288,5 +290,6 @@ fn options_of(matches: &ArgMatches<'_>) -> Option<EvalOptions> {
         reclaim: matches.get_one::<u32>("reclaim")?.clamp(1, MOST_CELLS),
         count: matches.get_flag("count"),
         limit_annotations: matches.get_flag("limit-annotations"),
+        depth: matches.get_one::<u32>("depth"),
     })
 }

@@ -2,6 +2,7 @@
 
 mod bank;
 mod counting;
+mod depth;
 mod given;
 mod hostile;
 mod limits;

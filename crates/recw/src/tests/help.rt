@@ -26,7 +26,7 @@ Options:
 With no arguments, recw evaluates the specification on standard input.
 
 Exit status: 0 done, 1 the text was refused, 2 wrong arguments,
-3 out of memory or cells, 4 a read or a write failed.
+3 out of memory or cells, or too deep, 4 a read or a write failed.
 
 recw help refusals says what each refusal means; --explain shows where it stands.
 ";
@@ -61,6 +61,7 @@ Options:
       --cells <C>          Most cells that terms may take, 1 to 2^30; the default takes up to 1.4 GB [default: 16777216]
       --memo <M>           Most results to remember, up to 2^20 [default: 65536]
       --reclaim <K>        New cells between two reclaims, 1 to 2^30 [default: 262144]
+      --depth <D>          Most calls that may wait at once, up to 2^32 - 1
       --count              Print the steps that each term took behind its value
       --limit-annotations  Print the annotations of a further term behind its limit
       --limit-status       End with status 5 where a term takes more steps
@@ -84,6 +85,7 @@ Options:
       --cells <C>    Most cells that terms may take, 1 to 2^30; the default takes up to 1.4 GB [default: 16777216]
       --memo <M>     Most results to remember, up to 2^20 [default: 65536]
       --reclaim <K>  New cells between two reclaims, 1 to 2^30 [default: 262144]
+      --depth <D>    Most calls that may wait at once, up to 2^32 - 1 [default: 1000000]
       --count        Print the steps that each term took behind its value
       --explain      Say in words why a text is refused, and where
   -h, --help         Print help

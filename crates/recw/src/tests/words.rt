@@ -223,6 +223,10 @@ const WRONG_WORDS: [&[&str]; 32] = [
     &["eval", "--reclaim", "0"],
     &["eval", "--reclaim", "1073741825"],
     &["eval", "--memo", "1048577"],
+    &["eval", "--depth", "4294967296"],
+    &["eval", "--depth", "-1"],
+    &["serve", "--depth", "x", "a"],
+    &["aterm", "--depth", "1"],
     &["eval", "--steps", "3", "--steps", "4"],
     &["eval", "--count", "--count"],
     &["eval", "--steps", "1000000000000000001"],
@@ -266,13 +270,14 @@ fn refuses_words(rt: HostRuntime) {
     }
 }
 
-/// Options, and the numbers of each of them in turn, and whether steps are counted and limit lines
-/// have annotations.
-const OPTIONS: [(&[&str], [u64; 4], [bool; 2]); 3] = [
+/// Options, and the numbers of each of them in turn, whether steps are counted and limit lines have
+/// annotations, and how many calls may wait.
+const OPTIONS: [(&[&str], [u64; 4], [bool; 2], Option<u32>); 3] = [
     (
         &["eval"],
         [1_000_000, 16_777_216, 65_536, 262_144],
         [false, false],
+        None,
     ),
     (
         &[
@@ -286,9 +291,12 @@ const OPTIONS: [(&[&str], [u64; 4], [bool; 2]); 3] = [
             "--reclaim",
             "14",
             "--count",
+            "--depth",
+            "15",
         ],
         [11, 12, 13, 14],
         [true, false],
+        Some(15),
     ),
     (
         &[
@@ -300,9 +308,11 @@ const OPTIONS: [(&[&str], [u64; 4], [bool; 2]); 3] = [
             "terms",
             "--limit-annotations",
             "--steps=21",
+            "--depth=0",
         ],
         [21, 22, 23, 24],
         [false, true],
+        Some(0),
     ),
 ];
 
@@ -313,6 +323,7 @@ fn reaches_its_field<H: Abort + Files>(
     words: &[&str],
     numbers: [u64; 4],
     flags: [bool; 2],
+    calls: Option<u32>,
 ) {
     let mut none = Vec::new(alloc);
     let mut told = Vec::new(alloc);
@@ -330,17 +341,18 @@ fn reaches_its_field<H: Abort + Files>(
         reclaim,
         count,
         limit_annotations,
+        depth,
     } = options;
     let found = [steps, u64::from(cells), u64::from(memo), u64::from(reclaim)];
     assert!(rt;
-        found == numbers && [count, limit_annotations] == flags,
+        found == numbers && [count, limit_annotations] == flags && depth == calls,
         "{words:?}"
     );
 }
 
 #[test]
 fn options_reach_their_fields(rt: HostRuntime) {
-    for (words, numbers, flags) in &OPTIONS {
-        reaches_its_field(&rt, rt.alloc(), words, *numbers, *flags);
+    for (words, numbers, flags, calls) in &OPTIONS {
+        reaches_its_field(&rt, rt.alloc(), words, *numbers, *flags, *calls);
     }
 }
