@@ -26,7 +26,7 @@ _recw_eval_options=(
 
 _recw_takes_value() {
     local option
-    [[ $1 != -e ]] || return 0
+    [[ $1 != -e && $1 != --indent ]] || return 0
     for option in "${_recw_eval_options[@]}"; do
         [[ $option != *' '* || ${option% *} != "$1" ]] || return 0
     done
@@ -57,6 +57,7 @@ _recw() {
     if ((COMP_CWORD > 1)) && [[ $command != help ]]; then choices+=(--explain); fi
     if ((COMP_CWORD > 1)) && [[ $command == eval ]]; then choices+=("${_recw_eval_options[@]%% *}"); fi
     if ((COMP_CWORD > 1)) && [[ $command == serve ]]; then choices+=(--steps --cells --memo --reclaim --count); fi
+    if ((COMP_CWORD > 1)) && [[ $command == aterm ]]; then choices+=(--indent); fi
     if ((COMP_CWORD > 1)) && [[ $command == match ]]; then choices+=(--test); fi
     if ((COMP_CWORD == 1)); then choices+=(--version); fi
     if ((COMP_CWORD == 2)) && [[ $command == help ]]; then commands+=(refusals); fi

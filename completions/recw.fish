@@ -27,4 +27,5 @@ complete -c recw -n $either -l reclaim -x -d 'New cells between two reclaims, 1 
 complete -c recw -n $either -l count -d 'Print the steps that each term took behind its value'
 complete -c recw -n $eval -l limit-annotations -d 'Print the annotations of a further term behind its limit'
 complete -c recw -n $eval -l limit-status -d 'End with status 5 where a term takes more steps'
+complete -c recw -n '__fish_seen_subcommand_from aterm' -l indent -x -d 'Print it over several lines, with N blanks for each level, 0 to 64'
 complete -c recw -n '__fish_seen_subcommand_from match' -l test -d 'End with status 1 where it does not match, 2 where a text is refused'

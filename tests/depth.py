@@ -30,6 +30,8 @@ def brackets(stack, at):
     what = f"{LEVELS} brackets, {stack} KiB of stack"
     check_run(f"aterm: {what}", (0, f"{deep}\n"), "aterm", file, before=before)
     check_run(f"share: {what}", (0, f"{deep}\ncells {LEVELS}\n"), "share", file, before=before)
+    laid = "[\n" * (LEVELS - 1) + "[]" + "\n]" * (LEVELS - 1)
+    check_run(f"aterm --indent 0: {what}", (0, f"{laid}\n"), "aterm", "--indent", "0", file, before=before)
     check_run(f"match: {what}", (0, f"yes\n{deep}\n"), "match", "<term>", file, before=before)
     word = "[" * WORD_LEVELS + "]" * WORD_LEVELS
     what = f"{WORD_LEVELS} brackets in a word, {stack} KiB of stack"

@@ -10,6 +10,10 @@ from typing import NamedTuple
 from common import TOP, done, program, run, same, text_of
 
 
+# Options that only one command has beside those of eval.
+OWN = [("aterm", "--indent"), ("match", "--test")]
+
+
 class Option(NamedTuple):
     """An option of the help: its value's name and default are empty where it has none."""
 
@@ -173,7 +177,7 @@ def main():
             both = [it for it in options["eval"] if it.name not in alone]
             same("options of serve", both, options[name])
         elif name not in ("eval", "help"):
-            own = [it for it in options[name] if (name, it.name) != ("match", "--test")]
+            own = [it for it in options[name] if (name, it.name) not in OWN]
             same(f"options of {name}", shared, own)
     check_refusals()
     check_version()

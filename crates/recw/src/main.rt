@@ -6,6 +6,7 @@ mod expected;
 mod given;
 mod input;
 mod item;
+mod look;
 mod options;
 mod program;
 mod recorded;

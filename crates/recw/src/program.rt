@@ -5,14 +5,15 @@ use crate::given::given_by;
 use crate::input::{open, open_file, open_given};
 use crate::options::run_options;
 use crate::recorded::Watched;
-use crate::report;
 use crate::serve::serve;
+use crate::{look, report};
 use rec_run::{
     Finish, LimitLines, RunFault, Source, run_aterm_at, run_make_at, run_match_at, run_share_at,
     run_with,
 };
 use recw_words::status::{eval_status, match_status};
 use recw_words::{Asked, Audience, EvalOptions, Invocation, Request, STANDARD_INPUT, read_words};
+use rx_look::run_aterm_indented_at;
 use std::alloc::Global;
 use std::io::{Read, Write};
 use std::rt::Files;
@@ -134,6 +135,10 @@ fn run_on_text<R: Read, W: Write>(
         Request::Match { pattern, .. } => {
             run_match_at(alloc, pattern.as_bytes(), text, out, &mut evidence.place)
         }
+        Request::Aterm {
+            indent: Some(indent),
+            ..
+        } => look::ended(run_aterm_indented_at(alloc, text, indent, out, &mut evidence.place)),
         _ => run_aterm_at(alloc, text, out, &mut evidence.place),
     }
 }

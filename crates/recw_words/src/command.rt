@@ -12,6 +12,9 @@ pub const MOST_CELLS: u32 = 1_073_741_824;
 /// The most results that are remembered.
 pub const MOST_RESULTS: u32 = 1_048_576;
 
+/// The most blanks that a level may have.
+pub const MOST_INDENT: u32 = 64;
+
 /// The version. What the program was proved with can't be known here: another kit may build it.
 const VERSION: &str = "0.1.0";
 
@@ -143,15 +146,13 @@ fn with_limits<'a>(alloc: Global, command: Command<'a>) -> Result<Command<'a>, A
 
 /// The subcommand `aterm`.
 fn aterm_command<'a>(alloc: Global) -> Result<Command<'a>, AllocError> {
-    with_term(
+    let command = described(
         alloc,
-        described(
-            alloc,
-            "aterm",
-            "Print an ATerm in its shortest form",
-            "Example: echo 'f ( a , [ 1 , -007 ] )' | recw aterm",
-        ),
-    )
+        "aterm",
+        "Print an ATerm in its shortest form",
+        "Example: echo 'f ( a , [ 1 , -007 ] )' | recw aterm",
+    );
+    with_term(alloc, command)?.arg(indent(alloc))
 }
 
 /// The subcommand `share`.
@@ -269,6 +270,21 @@ fn reclaim<'a>(alloc: Global) -> Arg<'a> {
     number(alloc, "reclaim", "K", "262144", help).value_parser(value_parser!(u32).range(
         1..=i64::from(MOST_CELLS),
     ))
+}
+
+/// The option `--indent`.
+fn indent<'a>(alloc: Global) -> Arg<'a> {
+    let help = "Print it over several lines, with N blanks for each level, 0 to 64";
+    choice(alloc, "indent", help).value_parser(value_parser!(u32).range(0..=i64::from(MOST_INDENT)))
+}
+
+/// An option with a number, which may be left out.
+fn choice<'a>(alloc: Global, name: &'a str, help: &'a str) -> Arg<'a> {
+    Arg::new(alloc, name)
+        .long(name)
+        .value_name("N")
+        .allow_negative_numbers(true)
+        .help(help)
 }
 
 /// An option with a number.

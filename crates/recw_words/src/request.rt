@@ -1,7 +1,7 @@
 //! What the words ask for.
 ghost use Rattle.std.specs.Prelude.{◌≤◌, ◌^◌};
 
-use crate::command::{self, MOST_CELLS, MOST_RESULTS, MOST_STEPS};
+use crate::command::{self, MOST_CELLS, MOST_INDENT, MOST_RESULTS, MOST_STEPS};
 use clap::error::ErrorKind;
 use clap::{ArgMatches, Command, Error};
 use std::alloc::{AllocError, Global};
@@ -43,9 +43,11 @@ pub enum Request<'a> {
         spec: Option<&'a str>,
         requests: Option<&'a str>,
     },
-    /// Print a term, which stands in a file or on the standard input.
+    /// Print a term, which stands in a file or on the standard input, over several lines where it
+    /// is said how many blanks a level has.
     Aterm {
         file: Option<&'a str>,
+        indent: Option<u8>,
     },
     /// Print a term and how many cells it takes.
     Share {
@@ -68,7 +70,9 @@ impl<'a> Request<'a> {
     pub fn path(&self) -> Option<&'a str> {
         match *self {
             Request::Eval { spec, .. } | Request::Serve { spec, .. } => spec,
-            Request::Aterm { file } | Request::Share { file } | Request::Match { file, .. } => file,
+            Request::Aterm { file, .. } | Request::Share { file } | Request::Match { file, .. } => {
+                file
+            }
             Request::Make { .. } => None,
         }
     }
@@ -230,6 +234,7 @@ fn request_of<'a>(name: &str, inner: &ArgMatches<'a>) -> Option<Request<'a>> {
         "serve" => serve_of(inner),
         "aterm" => Some(Request::Aterm {
             file: path_of(inner, "FILE"),
+            indent: indent_of(inner),
         }),
         "share" => Some(Request::Share {
             file: path_of(inner, "FILE"),
@@ -243,6 +248,12 @@ fn request_of<'a>(name: &str, inner: &ArgMatches<'a>) -> Option<Request<'a>> {
 /// The path that a word names, where that is not the standard input.
 fn path_of<'a>(inner: &ArgMatches<'a>, id: &str) -> Option<&'a str> {
     inner.get_str(id).filter(|path| *path != STANDARD_INPUT)
+}
+
+/// How many blanks a level is to have, where that is said.
+fn indent_of(inner: &ArgMatches<'_>) -> Option<u8> {
+    let indent = inner.get_one::<u32>("indent")?;
+    Some(indent.min(MOST_INDENT) as u8)
 }
 
 /// What `eval` is asked to do.

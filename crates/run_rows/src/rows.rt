@@ -5,6 +5,7 @@ mod counting;
 mod given;
 mod hostile;
 mod limits;
+mod look;
 mod pattern;
 mod performing;
 mod serve;

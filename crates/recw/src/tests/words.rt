@@ -125,6 +125,27 @@ pub(crate) const TERMS: &[Row] = &[
         "!term A\n",
         "recw: term A at byte 0\n",
     ),
+    (
+        &["aterm", "--indent", "2"],
+        "f ( a , [ 1 , -007 ] ) { b }",
+        0,
+        "f(\n  a,\n  [\n    1,\n    -7\n  ]\n){\n  b\n}\n",
+        "",
+    ),
+    (
+        &["aterm", "--indent=0"],
+        "[[],<int>]",
+        0,
+        "[\n[],\n<\nint\n>\n]\n",
+        "",
+    ),
+    (
+        &["aterm", "--indent", "1"],
+        "f(a,)",
+        1,
+        "!term A\n",
+        "recw: term A at byte 4\n",
+    ),
     (&["share"], "f(a,a)", 0, "f(a,a)\ncells 5\n", ""),
     (
         &["share"],
