@@ -98,7 +98,8 @@ def check_bash(names, options):
     for name in names:
         wanted = ["--help", *[it.name for it in options[name]]]
         same(f"bash: options of {name}", sorted(wanted), sorted(offered("recw", name, "-")))
-    for words in (["eval"], ["eval", "q.rec"], ["eval", "--count"], ["aterm"], ["share"], ["match", "x"]):
+    with_files = (["eval"], ["eval", "q.rec"], ["eval", "--count"], ["aterm"], ["share"], ["match", "x"])
+    for words in (*with_files, ["check"], ["check", "--strict", "a", "b"]):
         same(f"bash: files behind {words}", ["add.rec", "add.trm"], offered("recw", *words, "add"))
     for words in (["match"], ["make"], ["make", "x"], ["aterm", "x"], ["eval", "a", "b"]):
         same(f"bash: no files behind {words}", [], offered("recw", *words, "add"))
@@ -125,7 +126,7 @@ def check_fish(names, abouts, options):
     for name in names:
         wanted = [(it.name, it.about) for it in options[name]]
         same(f"fish: options of {name}", sorted([help_option, *wanted]), offered(f"recw {name} --"))
-    for line in ("eval", "eval --count", "aterm", "share", "match x"):
+    for line in ("eval", "eval --count", "aterm", "share", "match x", "check", "check a"):
         same(f"fish: files behind {line}", [("add.rec",), ("add.trm",)], offered(f"recw {line} add"))
     for line in ("make", *[f"eval {it.name}" for it in options["eval"] if it.value]):
         same(f"fish: no files behind {line}", [], offered(f"recw {line} add"))
@@ -172,6 +173,8 @@ def main():
             alone = ("--term", "--limit-annotations", "--limit-status")
             both = [it for it in options["eval"] if it.name not in alone]
             same("options of serve", both, options[name])
+        elif name == "check":
+            same("options of check", ["--strict"], [it.name for it in options[name]])
         elif name not in ("eval", "help"):
             own = [it for it in options[name] if (name, it.name) != ("match", "--test")]
             same(f"options of {name}", shared, own)

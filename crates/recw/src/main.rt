@@ -1,6 +1,7 @@
 //! Does what the words of the command line ask for, and ends with its status.
 #![tactic(auto)]
 
+mod check;
 mod evidence;
 mod expected;
 mod given;

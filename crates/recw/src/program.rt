@@ -1,5 +1,6 @@
 //! Does what the words ask.
 
+use crate::check::check;
 use crate::evidence::Evidence;
 use crate::given::given_by;
 use crate::input::{open, open_file, open_given};
@@ -102,6 +103,7 @@ fn run_request<H: Files, R: Read, W: Write, E: Write>(
         ),
         Request::Eval { options, .. } => evaluate(rt, options, input, out, evidence),
         Request::Serve { options, .. } => serve(rt, options, input, out, err, evidence),
+        Request::Check { is_strict } => check(rt, is_strict, input, out, evidence),
         _ => run_on_file(rt, input, out, evidence),
     }
 }

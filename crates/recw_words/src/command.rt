@@ -23,7 +23,8 @@ pub fn command<'a>(alloc: Global) -> Result<Command<'a>, AllocError> {
     let command = with(command, aterm_command(alloc))?;
     let command = with(command, share_command(alloc))?;
     let command = with(command, match_command(alloc))?;
-    with(command, make_command(alloc))
+    let command = with(command, make_command(alloc))?;
+    with(command, check_command(alloc))
 }
 
 /// The command with a subcommand, where there is memory for both.
@@ -200,6 +201,25 @@ fn make_command<'a>(alloc: Global) -> Result<Command<'a>, AllocError> {
         "List with an ATerm for each placeholder, in order",
     );
     command.arg(pattern(alloc))?.arg(args)?.arg(explain(alloc))
+}
+
+/// The subcommand `check`.
+fn check_command<'a>(alloc: Global) -> Result<Command<'a>, AllocError> {
+    let command = described(
+        alloc,
+        "check",
+        "Tell all places at which specifications break a rule, and warn of likely mistakes",
+        "Each line is FILE:LINE:COL: RULE: words. Warnings end with status 0.\n\n\
+         Example: recw check add.rec",
+    );
+    let files = text(alloc, "SPEC", "Files of specifications, or -")
+        .num_args(1..)
+        .action(ArgAction::Append);
+    command.arg(files)?.arg(flag(
+        alloc,
+        "strict",
+        "End with status 1 where there is a warning",
+    ))
 }
 
 /// The command with the file of a term and the option `--explain`.

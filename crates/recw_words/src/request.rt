@@ -61,6 +61,11 @@ pub enum Request<'a> {
         pattern: &'a str,
         args: &'a str,
     },
+    /// Check specifications, which stand in the files that are given.
+    Check {
+        /// Whether a warning is to count as a refusal.
+        is_strict: bool,
+    },
 }
 
 impl<'a> Request<'a> {
@@ -69,7 +74,7 @@ impl<'a> Request<'a> {
         match *self {
             Request::Eval { spec, .. } | Request::Serve { spec, .. } => spec,
             Request::Aterm { file } | Request::Share { file } | Request::Match { file, .. } => file,
-            Request::Make { .. } => None,
+            Request::Make { .. } | Request::Check { .. } => None,
         }
     }
 
@@ -107,7 +112,7 @@ pub const STANDARD_INPUT: &str = "-";
 pub struct Invocation<'a> {
     /// What is to be done.
     pub request: Request<'a>,
-    /// Given terms that stand among the words.
+    /// Given terms that stand among the words; or the files of specifications to check.
     pub given: Vec<&'a str>,
     /// Whether a refusal is to be explained.
     pub explain: bool,
@@ -139,6 +144,9 @@ fn invocation_or_error<'a>(
 ) -> Result<Invocation<'a>, Error> {
     let given = given_of(alloc, matches)?;
     match asked_by(matches) {
+        Ok(asked) if asked.reads_twice(&given) => {
+            Err(command.error(READ_TWICE.kind, READ_TWICE.message)?)
+        }
         Ok(asked) => Ok(asked.with(given)),
         Err(Wrong { kind, message }) => Err(command.error(kind, message)?),
     }
@@ -165,9 +173,10 @@ const READ_TWICE: Wrong = Wrong {
     message: "the standard input can be read once only",
 };
 
-/// The given terms among the words.
+/// The given terms among the words, or the files of specifications to check.
 fn given_of<'a>(alloc: Global, matches: &ArgMatches<'a>) -> Result<Vec<&'a str>, AllocError> {
     match matches.subcommand() {
+        Some(("check", inner)) => copy_of(alloc, inner.get_strs("SPEC")),
         Some((_, inner)) => copy_of(alloc, inner.get_strs("term")),
         None => Ok(Vec::new(alloc)),
     }
@@ -193,6 +202,12 @@ struct Bare<'a> {
 }
 
 impl<'a> Bare<'a> {
+    /// Whether the standard input is among the files to check twice.
+    fn reads_twice(&self, given: &[&str]) -> bool {
+        let standard = given.iter().filter(|path| **path == STANDARD_INPUT).count();
+        matches!(self.request, Request::Check { .. }) && standard > 1
+    }
+
     /// The same with these given terms.
     fn with(self, given: Vec<&'a str>) -> Invocation<'a> {
         let Bare {
@@ -236,6 +251,9 @@ fn request_of<'a>(name: &str, inner: &ArgMatches<'a>) -> Option<Request<'a>> {
         }),
         "match" => match_of(inner),
         "make" => make_of(inner),
+        "check" => Some(Request::Check {
+            is_strict: inner.get_flag("strict"),
+        }),
         _ => None,
     }
 }

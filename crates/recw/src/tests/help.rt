@@ -17,6 +17,7 @@ Commands:
   share  Print an ATerm and how many cells it takes with equal parts shared
   match  Print what a pattern binds in an ATerm, or that it does not match
   make   Print a pattern with arguments in place of its placeholders
+  check  Tell all places at which specifications break a rule, and warn of likely mistakes
   help   Print this message or the help of the given subcommand(s)
 
 Options:
@@ -144,6 +145,24 @@ Give a pattern that begins with - a blank before it: ' -7'.
 Example: recw make 'f(<int>,<list>)' '[1,[2,3]]'
 ";
 
+/// The help of `check`.
+const CHECK_HELP: &str = "Tell all places at which specifications break a rule, \
+and warn of likely mistakes
+
+Usage: recw check [OPTIONS] <SPEC>...
+
+Arguments:
+  <SPEC>...  Files of specifications, or -
+
+Options:
+      --strict  End with status 1 where there is a warning
+  -h, --help    Print help
+
+Each line is FILE:LINE:COL: RULE: words. Warnings end with status 0.
+
+Example: recw check add.rec
+";
+
 /// The help of `help`.
 const HELP_HELP: &str = "Print this message or the help of the given subcommand(s)
 
@@ -173,6 +192,7 @@ pub(crate) const HELPS: &[Row] = &[
     (&["aterm", "-h"], "", 0, ATERM_HELP, ""),
     (&["match", "-h"], "", 0, MATCH_HELP, ""),
     (&["help", "make"], "", 0, MAKE_HELP, ""),
+    (&["check", "--help"], "", 0, CHECK_HELP, ""),
     (&["help", "help"], "", 0, HELP_HELP, ""),
     (&["help", "refusals", "--help"], "", 0, REFUSALS_HELP, ""),
     (&["help", "refusals", "-h"], "", 0, REFUSALS_HELP, ""),
