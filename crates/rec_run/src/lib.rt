@@ -16,10 +16,10 @@ pub use rx_run::{
 };
 pub use spec::lines::{
     LineFault, engine_over, write_evaluation, write_evaluation_to, write_lines, write_lines_to,
-    write_outcome, write_outcome_to,
+    write_notes, write_notes_to, write_outcome, write_outcome_to,
 };
 pub use spec::reading::{
     Job, read_alone, read_alone_from, read_both, read_both_from, read_spec_text,
-    read_spec_text_from,
+    read_spec_text_from, read_terms_text, read_terms_text_from,
 };
 pub use spec::runs::{Ended, run, run_at, run_in, run_with};

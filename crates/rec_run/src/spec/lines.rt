@@ -508,13 +508,30 @@ fn write_said<B: TermBank, W: Write>(
     ensures cause { TellsLine out.new result }
 {
     match (limits, outcome) {
-        (LimitLines::Annotated, Outcome::Limit) => write_notes(alloc, bank, t, out),
+        (LimitLines::Annotated, Outcome::Limit) => write_notes_to(alloc, bank, t, out),
         _ => Ok(()),
     }
 }
 
 /// Writes the annotations of a term between braces, where there are any.
-fn write_notes<B: TermBank, W: Write>(
+pub fn write_notes<B: TermBank, W: Write>(
+    alloc: Global,
+    bank: &B,
+    t: Term,
+    out: &mut W,
+) -> Result<(), LineFault>
+    requires { IsSome (tree_at (B.store bank.now) t) }
+    ensures ok { OnOk result (Appends (W.contents out.old) (W.contents out.new)
+        (notes_text (annotations (item_at (B.store bank.now) t)))) }
+    ensures err { OnErr result (AppendsFront (notes_text (annotations
+        (item_at (B.store bank.now) t))) (W.contents out.old) (W.contents out.new)) }
+{
+    let mut output = Output::new(out);
+    write_notes_to(alloc, bank, t, &mut output)
+}
+
+/// The same to an output. It is asked no more once it refused.
+pub fn write_notes_to<B: TermBank, W: Write>(
     alloc: Global,
     bank: &B,
     t: Term,
