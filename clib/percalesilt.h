@@ -2,13 +2,15 @@
  *
  * A handle holds one store. A term is a number, its reference: two references of one handle are the
  * same number exactly where their terms are equal, annotations included. A reference is there from
- * the call that made it until a call of psilt_reclaim or psilt_close that gives it up; its number
- * may then be given to another term.
+ * the call that made it until a call that gives it up: psilt_reclaim, psilt_normalise,
+ * psilt_eval_term or psilt_close. Its number may then be given to another term. The first three
+ * give up no term that is a part of a protected one.
  *
  * Each call answers a code, PSILT_OK where it is done. A call writes through its out pointers where
  * it answers PSILT_OK, and only then. After any other code the handle is as it was before the call,
- * but for cells that a text or an application, for which there was no room, already took, and for
- * the place that psilt_place tells.
+ * but for cells that a text or an application, for which there was no room, already took, for the
+ * place and the rule that psilt_place and psilt_rule tell, and for terms that an evaluation gave up
+ * or made.
  *
  * What the caller owes, and nothing tests: no pointer is NULL, not even where its length is 0; each
  * points to as much memory as its type or the length beside it says; memory that a call reads or
@@ -58,7 +60,10 @@ enum {
     PSILT_NAME = 8,        /* a name would have to be quoted */
     PSILT_ROOTS = 9,       /* a term is protected 65,535 times */
     PSILT_UNPROTECTED = 10, /* a term is not protected */
-    PSILT_OPEN = 11        /* the handle is open already */
+    PSILT_OPEN = 11,       /* the handle is open already */
+    PSILT_RULE = 12,       /* a specification or a term breaks a rule: psilt_rule tells which */
+    PSILT_LIMIT = 13,      /* more steps are needed than were given */
+    PSILT_UNSPECIFIED = 14 /* nothing is specified */
 };
 
 /* What a term is. */
@@ -86,6 +91,9 @@ static inline const char *psilt_errstr(uint32_t code)
     case PSILT_ROOTS: return "protected too often";
     case PSILT_UNPROTECTED: return "not protected";
     case PSILT_OPEN: return "the handle is open";
+    case PSILT_RULE: return "a rule is broken";
+    case PSILT_LIMIT: return "over the limit of steps";
+    case PSILT_UNSPECIFIED: return "nothing is specified";
     default: return "no code of this library";
     }
 }
@@ -114,8 +122,13 @@ uint32_t psilt_reserve(psilt *p, uint32_t count);
  * are more than 16,777,216, PSILT_NOMEM, PSILT_FULL. */
 uint32_t psilt_read(psilt *p, const uint8_t *text, size_t len, psilt_term *out);
 
-/* Where the text that was refused last leaves the grammar, in bytes from 0; 0 before any was. */
+/* Where the text that was refused last leaves its grammar or breaks a rule, in bytes from 0; 0
+ * before any was. */
 uint32_t psilt_place(psilt *p, uint32_t *out);
+
+/* Which rule was broken last: 1 to 11 of a specification's text, S1 to S11, 2 to 6 of a term, T2 to
+ * T6. 0 where a text that was refused since leaves its grammar, and before any was. */
+uint32_t psilt_rule(psilt *p, uint32_t *out);
 
 /* Prints a term in its shortest form, which psilt_read reads again; tells how many bytes it has, by
  * no 0 ended. psilt_text copies them. They stay until the next print or name. PSILT_STALE,
@@ -189,9 +202,38 @@ uint32_t psilt_protect(psilt *p, psilt_term term);
 /* Counts it once less. PSILT_UNPROTECTED where it is counted 0 times, or is not there. */
 uint32_t psilt_unprotect(psilt *p, psilt_term term);
 
-/* Gives up all terms but the parts of those that are protected and of the count kept ones. All other
- * references are stale then. PSILT_STALE where a kept one is not there, PSILT_NOMEM. */
+/* Gives up all terms but the parts of those that are protected and of the count kept ones. All
+ * other references are stale then. PSILT_STALE where a kept one is not there, PSILT_NOMEM. */
 uint32_t psilt_reclaim(psilt *p, const psilt_term *kept, size_t count);
+
+/* ---- evaluate. A handle has one specification at a time. Its terms are those of the handle: what
+ * was made before it or is made beside it can be evaluated, and values are terms as all others. */
+
+/* What len bytes specify, in the language REC, is evaluated from now on, in place of what was. A
+ * table of memo entries, from 0 to 1,048,576, remembers results; terms that nothing needs are given
+ * up after reclaim new cells at the latest, from 1 to 1,073,741,824. PSILT_SYNTAX and PSILT_RULE
+ * where the text is no good specification: psilt_place and psilt_rule tell where and why.
+ * PSILT_RANGE where the text has more than 16,777,216 bytes, or memo or reclaim is outside its
+ * range. PSILT_NOMEM. After all of these what was specified still is. Terms stay. */
+uint32_t psilt_spec(psilt *p, const uint8_t *text, size_t len, uint32_t memo, uint32_t reclaim);
+
+/* Nothing is specified any more. Terms stay. PSILT_UNSPECIFIED where nothing was. */
+uint32_t psilt_spec_free(psilt *p);
+
+/* The value of a term, and how many steps of rewriting it took. PSILT_UNSPECIFIED; PSILT_STALE;
+ * PSILT_RULE where the term breaks a rule of terms: it holds an integer, a list or a placeholder, a
+ * node below its root has annotations, a name is not declared, or is with other arguments;
+ * PSILT_LIMIT where it takes more than steps steps, or has no value; PSILT_NOMEM; PSILT_FULL where
+ * all cells are taken by what is needed. Evaluation gives up what neither a protected term nor it
+ * itself needs. The given term stays in any case, and the value until the next call that evaluates
+ * or reclaims, unless it is protected. */
+uint32_t psilt_normalise(psilt *p, psilt_term term, uint64_t steps, psilt_term *value,
+                         uint64_t *taken);
+
+/* How many terms stand below EVAL; the one of number i, from 0, which stays as a value does.
+ * PSILT_UNSPECIFIED; PSILT_RANGE where there are i or fewer; PSILT_NOMEM; PSILT_FULL. */
+uint32_t psilt_eval_terms(psilt *p, uint32_t *out);
+uint32_t psilt_eval_term(psilt *p, uint32_t i, psilt_term *out);
 
 #ifdef __cplusplus
 }

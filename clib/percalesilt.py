@@ -17,7 +17,7 @@ import ctypes
 import os
 import weakref
 
-OK, NOMEM, FULL, CLOSED, STALE, KIND, SYNTAX, RANGE, NAME, ROOTS, UNPROTECTED, OPEN = range(12)
+OK, NOMEM, FULL, CLOSED, STALE, KIND, SYNTAX, RANGE, NAME, ROOTS, UNPROTECTED, OPEN, RULE, LIMIT, UNSPECIFIED = range(15)
 WORDS = (
     "done",
     "out of memory",
@@ -31,12 +31,17 @@ WORDS = (
     "protected too often",
     "not protected",
     "the handle is open",
+    "a rule is broken",
+    "over the limit of steps",
+    "nothing is specified",
 )
 INT, NIL, CONS, APPL, HOLE = range(5)
 MOST_CELLS = 2**30
+MOST_STEPS = 2**64 - 1
 
-U32, I32, SIZE, BOOL, BYTES = (
+U32, U64, I32, SIZE, BOOL, BYTES = (
     ctypes.c_uint32,
+    ctypes.c_uint64,
     ctypes.c_int32,
     ctypes.c_size_t,
     ctypes.c_bool,
@@ -84,6 +89,12 @@ CALLS = {
     "protect": [U32],
     "unprotect": [U32],
     "reclaim": [pointer(U32), SIZE],
+    "rule": [pointer(U32)],
+    "spec": [BYTES, SIZE, U32, U32],
+    "spec_free": [],
+    "normalise": [U32, U64, pointer(U32), pointer(U64)],
+    "eval_terms": [pointer(U32)],
+    "eval_term": [U32, pointer(U32)],
 }
 
 
@@ -100,11 +111,16 @@ def library(path=None):
 
 
 class Fault(Exception):
-    """A call answered another code than OK. `place` is where a text left its grammar, in bytes from 0."""
+    """A call answered another code than OK.
 
-    def __init__(self, code, place=None):
-        self.code, self.place = code, place
-        super().__init__(WORDS[code] if place is None else f"{WORDS[code]} at byte {place}")
+    `place` is where a text left its grammar or broke a rule, in bytes from 0; `rule` is the rule that it broke, by its
+    number: of a specification S1 to S11, of a term T2 to T6.
+    """
+
+    def __init__(self, code, place=None, rule=None):
+        self.code, self.place, self.rule = code, place, rule
+        words = WORDS[code] if rule is None else f"{WORDS[code]}, number {rule}"
+        super().__init__(words if place is None else f"{words} at byte {place}")
 
 
 class Term:
@@ -196,6 +212,37 @@ class Term:
         return self.store.answer("annotate", self.number, self.store.list(annotations).number)
 
 
+class Spec:
+    """What is evaluated by a store: the specification that `Store.specify` was given last."""
+
+    def __init__(self, store):
+        self.store = store
+
+    def normalise(self, value, steps=MOST_STEPS):
+        """The value of a term, and how many steps it took; `Fault` with LIMIT where it takes more than so many."""
+        self.asked()
+        term, number, taken = self.store.made(value), U32(), U64()
+        self.store.call("normalise", term.number, steps, ctypes.byref(number), ctypes.byref(taken))
+        return self.store.term(number.value), taken.value
+
+    @property
+    def terms(self):
+        """The terms below EVAL."""
+        self.asked()
+        return [self.store.answer("eval_term", i) for i in range(self.store.read_as(U32, "eval_terms"))]
+
+    def asked(self):
+        """`Fault` where the store evaluates by another specification by now, or by none."""
+        if self.store.spec is not self:
+            raise Fault(UNSPECIFIED)
+
+    def free(self):
+        """The store forgets the specification; terms stay."""
+        self.asked()
+        self.store.call("spec_free")
+        self.store.spec = None
+
+
 class Store:
     """A store of at most `cells` different parts of terms."""
 
@@ -203,6 +250,7 @@ class Store:
         self.library = library(path)
         self.handle = Handle(0, None)
         self.alive = weakref.WeakValueDictionary()
+        self.spec = None
         self.close = weakref.finalize(self, self.library.psilt_close, ctypes.byref(self.handle))
         self.call("open", cells)
 
@@ -216,6 +264,9 @@ class Store:
         code = getattr(self.library, f"psilt_{name}")(ctypes.byref(self.handle), *words)
         if code == SYNTAX:
             raise Fault(code, self.read_as(U32, "place"))
+        if code == RULE:
+            place = self.read_as(U32, "place") if name == "spec" else None
+            raise Fault(code, place, self.read_as(U32, "rule"))
         if code != OK:
             raise Fault(code)
 
@@ -283,6 +334,17 @@ class Store:
         """The term that a text, or bytes, spells."""
         text = text if isinstance(text, bytes) else text.encode("latin-1")
         return self.answer("read", text, len(text))
+
+    def specify(self, text, memo=65536, reclaim=1048576):
+        """What a text, or bytes, specifies is evaluated from now on.
+
+        Results are remembered in a table of `memo` entries; what nothing needs is given up after `reclaim` new cells at
+        the latest.
+        """
+        text = text if isinstance(text, bytes) else text.encode("latin-1")
+        self.call("spec", text, len(text), memo, reclaim)
+        self.spec = Spec(self)
+        return self.spec
 
     def reclaim(self):
         """Gives up what no term that is alive reaches."""

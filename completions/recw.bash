@@ -1,7 +1,7 @@
 # Completions of recw for bash.
 # shellcheck shell=bash
 
-# Each command with the kinds of its words: a file, a command, or a text that bash cannot tell.
+# Each command with the kinds of its words: a file, files, a command, or a text that bash cannot tell.
 _recw_commands=(
     'eval file file'
     'serve file file'
@@ -9,6 +9,7 @@ _recw_commands=(
     'share file'
     'match text file'
     'make text text'
+    'check files'
     'help command'
 )
 
@@ -19,6 +20,7 @@ _recw_eval_options=(
     '--cells C'
     '--memo M'
     '--reclaim K'
+    '--depth D'
     '--count'
     '--limit-annotations'
     '--limit-status'
@@ -26,7 +28,7 @@ _recw_eval_options=(
 
 _recw_takes_value() {
     local option
-    [[ $1 != -e ]] || return 0
+    [[ $1 != -e && $1 != --indent ]] || return 0
     for option in "${_recw_eval_options[@]}"; do
         [[ $option != *' '* || ${option% *} != "$1" ]] || return 0
     done
@@ -47,17 +49,25 @@ _recw_kind() {
             kinds=("${kinds[@]:1}")
         fi
     done
-    if ((index > COMP_CWORD)); then echo value; else echo "${kinds[1]-none}"; fi
+    if ((index > COMP_CWORD)); then
+        echo value
+    elif [[ $1 == check ]]; then
+        echo file
+    else
+        echo "${kinds[1]-none}"
+    fi
 }
 
 _recw() {
     local word=${COMP_WORDS[COMP_CWORD]} command=${COMP_WORDS[1]} kind=command choices=(--help)
     local commands=("${_recw_commands[@]%% *}")
     if ((COMP_CWORD > 1)); then kind=$(_recw_kind "$command"); fi
-    if ((COMP_CWORD > 1)) && [[ $command != help ]]; then choices+=(--explain); fi
+    if ((COMP_CWORD > 1)) && [[ $command != help && $command != check ]]; then choices+=(--explain); fi
     if ((COMP_CWORD > 1)) && [[ $command == eval ]]; then choices+=("${_recw_eval_options[@]%% *}"); fi
-    if ((COMP_CWORD > 1)) && [[ $command == serve ]]; then choices+=(--steps --cells --memo --reclaim --count); fi
+    if ((COMP_CWORD > 1)) && [[ $command == serve ]]; then choices+=(--steps --cells --memo --reclaim --depth --count); fi
+    if ((COMP_CWORD > 1)) && [[ $command == aterm ]]; then choices+=(--indent); fi
     if ((COMP_CWORD > 1)) && [[ $command == match ]]; then choices+=(--test); fi
+    if ((COMP_CWORD > 1)) && [[ $command == check ]]; then choices+=(--strict); fi
     if ((COMP_CWORD == 1)); then choices+=(--version); fi
     if ((COMP_CWORD == 2)) && [[ $command == help ]]; then commands+=(refusals); fi
     COMPREPLY=()

@@ -52,6 +52,8 @@ def try_texts():
     for what, (text, cells) in texts.items():
         is_whole(what, f"{text}\n", "aterm", input=text)
         is_whole(what, f"{text}\ncells {cells}\n", "share", input=text)
+    laid = "[\n " + items.replace(",", ",\n ") + "\n]\n"
+    is_whole("elements on lines", laid, "aterm", "--indent", "1", input=f"[{items}]")
 
 
 def try_patterns():

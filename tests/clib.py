@@ -1,9 +1,9 @@
 #!/usr/bin/env -S python3 -B
 """Tries the C library: clib.py [PART..].
 
-    every       each call from C, as C99 and as C++, and under the compiler's sanitizers
+    every       each call from C, as C99 and as C++, and under the compiler's sanitizers; a small evaluator in C
     refused     each request for memory refused, in each call that makes requests
-    python      the module percalesilt.py, its tests, and an example
+    python      the module percalesilt.py, its tests, and two examples
     rust        a program in Rust over the archive
     random      100,000 random calls beside a model; `random=COUNT` for another number
     valgrind    the programs of `every` and `refused` once more
@@ -56,6 +56,8 @@ def every(folder):
         same("every.c", "all as wanted", told([compiled(folder, "every")]))
         sanitized = compiled(folder, "every", "-fsanitize=address,undefined")
         same("every.c with sanitizers", "all as wanted", told([sanitized]))
+        added = told([compiled(folder, "evaluate"), f"{TOP}/examples/add.rec"])
+        same("evaluate.c", "s(s(s(z)))\t3", added)
     if is_there("every as C++", "c++"):
         program = compiled(folder, "every", language="c++", standard="c++17", compiler="c++")
         same("every.c as C++", "all as wanted", told([program]))
@@ -73,6 +75,14 @@ def python(_):
     texts = {"x*1 + 0": "x", "(a+b) - (a+b)": "0", "(2+3)*y - 0*z": "5 * y", "-(-x)": "0 - (0 - x)", "a - b*1": "a - b"}
     answer = told([sys.executable, "-B", f"{USERS}/simplify.py", *texts])
     same("simplify.py", "\n".join(texts.values()), answer)
+    texts = {
+        "a and not not (b or True)": "a",
+        "not (a and False)": "True",
+        "(a or b) and (a or b)": "a or b",
+        "not a and (b or not b)": "not a and (b or not b)",
+    }
+    answer = told([sys.executable, "-B", f"{USERS}/logic.py", *texts])
+    same("logic.py", "\n".join(texts.values()), answer)
 
 
 def rust(folder):

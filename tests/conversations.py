@@ -5,10 +5,12 @@ import signal
 import subprocess
 import time
 
-from attempts import EXAMPLES, NO_MEMORY, NO_READ, NO_WRITE, check, check_long, recw, room, write_file
+from attempts import EXAMPLES, NO_MEMORY, NO_READ, NO_WRITE, at_stack, check, check_long, recw, room, write_file
 from common import program
 from refuse import answer, is_allowed
 
+# KiB of memory in which a million calls can wait.
+DEEP = 300_000
 # The most bytes of a request.
 LONGEST = 16_777_216
 # Twenty requests for examples/q.rec within one step, and their answers with the steps, by docs/FORMATS.md.
@@ -165,6 +167,18 @@ def try_refused(at):
     return sum(counts.values())
 
 
+def try_deep():
+    """Requests for which more calls would wait than may, between others."""
+    # the term waits for its call, and so does each right side with a call
+    requests = "".join(f"plus({'s(' * count}z{')' * count},z)\n" for count in (2, 3, 4, 3, 0))
+    words = ["serve", "--memo", "0", "add.rec"]
+    for depth in range(7):
+        due = "".join(f"{'s(' * it}z{')' * it}\n" if it + 1 <= depth else "!depth\n" for it in (2, 3, 4, 3, 0))
+        check(f"requests where {depth} calls may wait", (0, due, ""), recw(*words, "--depth", str(depth), input=requests))
+    found = recw("serve", "--steps", str(10**18), "rows/loop.rec", input="z\nf(z)\nz(\nf(z)\nz\n", before=at_stack(8192, DEEP))
+    check(f"calls without end, {DEEP} KiB of memory", (0, "z\n!depth\n!term A\n!depth\nz\n", ""), found)
+
+
 def memory_of(child):
     """How many KiB of memory a process has."""
     with open(f"/proc/{child.pid}/status", encoding="ascii") as file:
@@ -197,7 +211,7 @@ def try_days():
 
 def try_conversations():
     """How many requests for memory were refused."""
-    for group in (try_ends, try_cuts, try_explained, try_cells, try_long, try_slow, try_closed, try_days):
+    for group in (try_ends, try_cuts, try_explained, try_cells, try_long, try_slow, try_closed, try_deep, try_days):
         group()
     with room() as at:
         try_folders(at)

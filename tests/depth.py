@@ -1,6 +1,6 @@
 """Texts of great depth and of the greatest length, on small stacks: what is due is worked out here."""
 
-from attempts import at_stack, check, check_long, recw, room, write_file
+from attempts import NO_MEMORY, at_stack, check, check_long, recw, room, write_file
 from common import text_of
 
 # Kilobytes of stack; what is promised needs no more than the second.
@@ -11,6 +11,9 @@ LEVELS = 2000000
 WORD_LEVELS = 30000
 # Kilobytes of all memory, the program's own text among them.
 LITTLE = 32768
+# The same for a million calls that wait.
+SOME = 131072
+TOO_DEEP = "recw: too deep\n"
 SORTS = "REC-SPEC D SORTS N CONS z : -> N s : N -> N"
 
 
@@ -30,6 +33,8 @@ def brackets(stack, at):
     what = f"{LEVELS} brackets, {stack} KiB of stack"
     check_run(f"aterm: {what}", (0, f"{deep}\n"), "aterm", file, before=before)
     check_run(f"share: {what}", (0, f"{deep}\ncells {LEVELS}\n"), "share", file, before=before)
+    laid = "[\n" * (LEVELS - 1) + "[]" + "\n]" * (LEVELS - 1)
+    check_run(f"aterm --indent 0: {what}", (0, f"{laid}\n"), "aterm", "--indent", "0", file, before=before)
     check_run(f"match: {what}", (0, f"yes\n{deep}\n"), "match", "<term>", file, before=before)
     word = "[" * WORD_LEVELS + "]" * WORD_LEVELS
     what = f"{WORD_LEVELS} brackets in a word, {stack} KiB of stack"
@@ -130,6 +135,25 @@ def default_budget(stack, _):
     check_run(what, (0, "!limit 1000000\n"), "eval", "rows/loop.rec", before=at_stack(stack))
 
 
+def calls_that_wait(stack, at):
+    """As many calls as are needed may wait, or one fewer; a bound on them is one on memory."""
+    rules = "f(z) -> z f(s(X)) -> s(f(X))"
+    spec = write_file(f"{at}/spec", f"{SORTS} OPNS f : N -> N VARS X : N RULES {rules} EVAL z END-SPEC")
+    for depth in (0, 1, 2, 17, 1000):
+        # the term waits for its call, of any symbol, and so does each right side with a call
+        value = tower(depth)
+        words = ["eval", "--memo", "0", "-e", f"f({value})", spec, "--depth"]
+        for calls, due in ((depth + 1, (0, f"z\n{value}\n", "")), (depth, (3, "z\n" if depth else "", TOO_DEEP))):
+            found = recw(*words, str(calls), before=at_stack(stack))
+            check_long(f"{depth + 1} calls, of which {calls} may wait, {stack} KiB of stack", due, found)
+    words = ["eval", "--steps", str(10**18), "rows/loop.rec"]
+    for depth in (0, 1, 1000, 1000000):
+        found = recw(*words, "--depth", str(depth), before=at_stack(stack, SOME))
+        check(f"calls without end, of which {depth} may wait, {SOME} KiB of memory", (3, "", TOO_DEEP), found)
+    found = recw(*words, before=at_stack(stack, SOME))
+    check(f"calls without end, {SOME} KiB of memory", (NO_MEMORY[0], "", NO_MEMORY[1]), found)
+
+
 GROUPS = (
     brackets,
     unended,
@@ -140,6 +164,7 @@ GROUPS = (
     long_specifications,
     steps_without_end,
     default_budget,
+    calls_that_wait,
 )
 
 

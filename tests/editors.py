@@ -1,5 +1,6 @@
 #!/usr/bin/env -S python3 -B
-"""Compares the highlighting of Vim and of the TextMate grammar with the tokens of docs/FORMATS.md, on all examples."""
+"""Compares the highlighting of Vim, of the TextMate grammar, and of the page of web/ by that grammar, with the tokens of
+docs/FORMATS.md, on all examples; and what editors read of the lines of a check."""
 
 import glob
 import json
@@ -163,6 +164,21 @@ class Grammar:
             at = match.end()
 
 
+PARTS = """const [, script, grammar] = process.argv, fs = require('fs');
+const found = require(script).namedParts(JSON.parse(fs.readFileSync(grammar)), fs.readFileSync(0, 'utf8'));
+process.stdout.write(JSON.stringify(found));"""
+
+
+def page_scopes(text):
+    """The scope of each character, line by line, as the page finds it."""
+    words = ["node", "-e", PARTS, f"{TOP}/web/grammar.js", f"{TOP}/editors/rec.tmLanguage.json"]
+    scopes = [""] * len(text)
+    for part in json.loads(run(words, input=text)):
+        scopes[part["from"] : part["to"]] = [part["name"].replace("-", ".")] * (part["to"] - part["from"])
+    ends = [at for at, it in enumerate(text) if it == "\n"]
+    return [scopes[begin:end] for begin, end in zip([0, *[it + 1 for it in ends]], ends)]
+
+
 def check(name, text, found, which):
     wanted = [kinds_of(line) for line in text.split("\n")[:-1]]
     for at, (line, kinds) in enumerate(zip(text.split("\n"), wanted)):
@@ -171,8 +187,43 @@ def check(name, text, found, which):
         line = text.split("\n")[row]
         for word, names in words.items():
             column = re.search(rf"(?<![\w'-]){re.escape(word)}(?![\w'-])", line).start()
-            index = ["vim", "grammar"].index(which)
+            index = 0 if which == "vim" else 1
             same(f"{which}, {name}, {line!r}, {word}", names[index], found[row][column])
+
+
+# Lines of a check, and what is read of each: the file, the line, the column, and the rest.
+LINES = (
+    ("check/a.rec:7:8: S5: a word is neither a symbol nor a variable: zero", ("check/a.rec", "7", "8", "S5", "a word is neither a symbol nor a variable: zero")),
+    ("b.rec:1:1: G: no specification has this here", ("b.rec", "1", "1", "G", "no specification has this here")),
+    ("c d.rec:12:30: W4: never used: a variable of no rule: Z", ("c d.rec", "12", "30", "W4", "never used: a variable of no rule: Z")),
+)
+
+
+def check_lines(room):
+    """The lines of a check are read by the problem matcher, and by Vim's compiler."""
+    with open(f"{TOP}/editors/problem-matcher.json", encoding="utf-8") as file:
+        pattern = json.load(file)["pattern"]
+    for line, wanted in LINES:
+        match = re.fullmatch(pattern["regexp"], line)
+        parts = ("file", "line", "column", "code", "message")
+        same(f"problem matcher: {line}", wanted, match and tuple(match[pattern[it]] for it in parts))
+    if not shutil.which("vim") or "+quickfix" not in run(["vim", "--version"]):
+        print("not tried: vim with quickfix is not here")
+        return
+    with open(f"{room}/lines", "w", encoding="utf-8") as file:
+        file.write("".join(f"{line}\n" for line, _ in LINES))
+    with open(f"{room}/make.vim", "w", encoding="utf-8") as file:
+        file.write(f"""
+set nocompatible runtimepath^={TOP}/editors/vim
+compiler recw
+cgetfile {room}/lines
+call writefile(map(getqflist(), 'bufname(v:val.bufnr).";".v:val.lnum.";".v:val.col'), '{room}/found')
+qall!
+""")
+    run(["vim", "-es", "-n", "-i", "NONE", "-u", f"{room}/make.vim"])
+    with open(f"{room}/found", encoding="utf-8") as file:
+        found = file.read().splitlines()
+    same("vim: places of a check", [";".join(wanted[:3]) for _, wanted in LINES], found)
 
 
 def main():
@@ -184,9 +235,15 @@ def main():
     has_vim = shutil.which("vim") and "+syntax" in run(["vim", "--version"])
     if not has_vim:
         print("not tried: vim with syntax is not here")
+    has_node = shutil.which("node")
+    if not has_node:
+        print("not tried: the colours of the page, since there is no node")
     with tempfile.TemporaryDirectory() as room:
+        check_lines(room)
         for name, text in texts.items():
             check(name, text, grammar.scopes(text), "grammar")
+            if has_node:
+                check(name, text, page_scopes(text), "page")
             if has_vim:
                 check(name, text, vim_groups(text, room), "vim")
     done()

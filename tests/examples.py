@@ -40,7 +40,7 @@ def check_table(known):
     for name in oracles.WORKED:
         tried.update([f"{name}.rec", f"{name}.trm"])
     there = {it for it in glob.glob("**/*.*", root_dir=f"{TOP}/examples", recursive=True) if not it.endswith(".md")}
-    there = {it for it in there if not it.startswith("tutorial/") and not it.endswith(".py")}
+    there = {it for it in there if not it.startswith(("tutorial/", "check/")) and not it.endswith(".py")}
     same("examples/README.md: files", sorted(there), sorted(tried))
 
 
@@ -153,7 +153,7 @@ def main():
         check_oracles()
         check_specifications()
         check_consoles(room)
-        check_helps(["eval", "serve", "aterm", "share", "match", "make"], room)
+        check_helps(["eval", "serve", "aterm", "share", "match", "make", "check"], room)
         check_client()
         check_scale(room)
     done()

@@ -10,6 +10,10 @@ from typing import NamedTuple
 from common import TOP, done, program, run, same, text_of
 
 
+# Options that only one command has beside those of eval.
+OWN = [("aterm", "--indent"), ("match", "--test")]
+
+
 class Option(NamedTuple):
     """An option of the help: its value's name and default are empty where it has none."""
 
@@ -98,7 +102,8 @@ def check_bash(names, options):
     for name in names:
         wanted = ["--help", *[it.name for it in options[name]]]
         same(f"bash: options of {name}", sorted(wanted), sorted(offered("recw", name, "-")))
-    for words in (["eval"], ["eval", "q.rec"], ["eval", "--count"], ["aterm"], ["share"], ["match", "x"]):
+    with_files = (["eval"], ["eval", "q.rec"], ["eval", "--count"], ["aterm"], ["share"], ["match", "x"])
+    for words in (*with_files, ["check"], ["check", "--strict", "a", "b"]):
         same(f"bash: files behind {words}", ["add.rec", "add.trm"], offered("recw", *words, "add"))
     for words in (["match"], ["make"], ["make", "x"], ["aterm", "x"], ["eval", "a", "b"]):
         same(f"bash: no files behind {words}", [], offered("recw", *words, "add"))
@@ -125,7 +130,7 @@ def check_fish(names, abouts, options):
     for name in names:
         wanted = [(it.name, it.about) for it in options[name]]
         same(f"fish: options of {name}", sorted([help_option, *wanted]), offered(f"recw {name} --"))
-    for line in ("eval", "eval --count", "aterm", "share", "match x"):
+    for line in ("eval", "eval --count", "aterm", "share", "match x", "check", "check a"):
         same(f"fish: files behind {line}", [("add.rec",), ("add.trm",)], offered(f"recw {line} add"))
     for line in ("make", *[f"eval {it.name}" for it in options["eval"] if it.value]):
         same(f"fish: no files behind {line}", [], offered(f"recw {line} add"))
@@ -171,9 +176,13 @@ def main():
         if name == "serve":
             alone = ("--term", "--limit-annotations", "--limit-status")
             both = [it for it in options["eval"] if it.name not in alone]
+            # a process that stays has a bound of its own on calls that wait
+            both = [it._replace(default="1000000") if it.name == "--depth" else it for it in both]
             same("options of serve", both, options[name])
+        elif name == "check":
+            same("options of check", ["--strict"], [it.name for it in options[name]])
         elif name not in ("eval", "help"):
-            own = [it for it in options[name] if (name, it.name) != ("match", "--test")]
+            own = [it for it in options[name] if (name, it.name) not in OWN]
             same(f"options of {name}", shared, own)
     check_refusals()
     check_version()

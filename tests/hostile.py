@@ -9,6 +9,7 @@
 | files | each read and each write fails, is interrupted, or gives nothing; needs strace |
 | depth | great depth and length, on stacks of 8 MiB and of 256 KiB |
 | conversations | requests that are cut off, long, slow, many, without memory or cells, and streams that fail |
+| checks | checks of specifications: worked, cut off, great and deep ones, without memory, and streams that fail |
 | program | folders, missing and endless files, full devices, closed pipes, signals |
 | breadth | texts of great breadth, for each call that may want memory |
 | errors | each error of a read and of a write |
@@ -26,6 +27,7 @@ import time
 
 from attempts import NO_CELLS, TRIED, check, passed, recw
 from breadth import try_breadth, try_errors
+from checks import try_checks
 from conversations import try_conversations
 from common import FAILURES, rows, text_of
 from depth import try_depth
@@ -121,6 +123,7 @@ PARTS = {
     "files": try_files,
     "depth": try_depth,
     "conversations": try_conversations,
+    "checks": try_checks,
     "program": try_program,
     "breadth": try_breadth,
     "errors": try_errors,

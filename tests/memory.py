@@ -19,6 +19,7 @@ CALLER = f"{TOP}/crates/hostile/out/hostile"
 # Runs without a specification: the words, and the output that docs/FORMATS.md gives.
 OTHERS = (
     (["aterm", "term"], "f ( a , [ 1 , -007 ] ) { b }", "f(a,[1,-7]){b}\n"),
+    (["aterm", "--indent", "2", "term"], "f(a,\"b\"){[]}", 'f(\n  a,\n  "b"\n){\n  []\n}\n'),
     (["share", "term"], "f(a,a)", "f(a,a)\ncells 5\n"),
     (["share", "term"], "[1,[1]]", "[1,[1]]\ncells 5\n"),
     (["share", "term"], "[a]{b}", "[a]{b}\ncells 5\n"),

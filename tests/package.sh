@@ -48,7 +48,8 @@ same 'it tells its commit' "${commit:+ Made of commit $commit.}" \
 same 'it runs' 's(s(s(z)))	3' "$("$root/usr/bin/recw" eval --count "$root/usr/share/doc/recw/examples/add.rec")"
 for file in bin/recw share/man/man1/recw.1.gz share/bash-completion/completions/recw \
     share/zsh/vendor-completions/_recw share/fish/vendor_completions.d/recw.fish \
-    share/vim/vimfiles/syntax/rec.vim share/recw/rec.tmLanguage.json share/doc/recw/copyright; do
+    share/vim/vimfiles/syntax/rec.vim share/vim/vimfiles/compiler/recw.vim \
+    share/recw/rec.tmLanguage.json share/recw/problem-matcher.json share/doc/recw/copyright; do
     same "there is $file" yes "$([ -f "$root/usr/$file" ] && echo yes)"
 done
 same 'the archive has the same files' "$(cd "$root" && find usr -type f | LC_ALL=C sort)" \

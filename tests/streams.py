@@ -10,6 +10,7 @@ import tty
 
 from attempts import EXAMPLES, NO_READ, NO_WRITE, check, recw, room, write_file
 from common import program, text_of
+from conversations import INPUT, OUTPUT
 
 # More than the program keeps before it writes.
 LONG = f"[{','.join(['1'] * 100000)}]"
@@ -21,10 +22,12 @@ RUNS = (
     ("eval --steps 3 in", {"in": "examples/add.rec"}, "s(s(s(z)))\n", DONE),
     ("eval --steps 3 in terms", {"in": "examples/add.rec", "terms": "examples/add.trm"}, "s(s(s(z)))\ns(z)\n", DONE),
     ("aterm in", {"in": "f ( a , [ 1 , -007 ] ) { b }"}, "f(a,[1,-7]){b}\n", DONE),
+    ("aterm --indent 1 in", {"in": "f(a)"}, "f(\n a\n)\n", DONE),
     ("share in", {"in": "[a]{b}"}, "[a]{b}\ncells 5\n", DONE),
     ("match f(<int>,<list>) in", {"in": "f(1,2,3)"}, "yes\n1\n[2,3]\n", DONE),
     ("aterm in", {"in": LONG}, f"{LONG}\n", DONE),
     ("eval in", {"in": REFUSED}, "!spec G\n", (1, "recw: spec G at byte 17\n")),
+    ("serve --steps 1 --count in requests", {"in": "examples/q.rec", "requests": INPUT}, OUTPUT, DONE),
 )
 # The calls, what is answered in place of what was asked for, and what is told then.
 REFUSALS = (
@@ -48,7 +51,8 @@ def traced(at, path, how, number, words):
 
 
 def refuse_in_turn(at, words, path, refusal, output, end):
-    """Each request of the call for the file is refused: of a read nothing is written, of a write a beginning.
+    """Each request of the call for the file is refused: of a read nothing is written, of a write a beginning; what was
+    answered before a read of requests is.
 
     How many requests were refused.
     """
@@ -58,7 +62,7 @@ def refuse_in_turn(at, words, path, refusal, output, end):
         if not met:
             break
         what = f"{' '.join(words)}: {call} {number} of {os.path.basename(path)}: {how}"
-        kept = "" if call == "read" else output[: len(written)]
+        kept = "" if call == "read" and not path.endswith("/requests") else output[: len(written)]
         # the program's buffer may try an interrupted write again
         again = (call, how) == ("write", "error=EINTR") and (written, ended) == (output, end)
         check(what, True, (ended == told and written == kept) or again)
@@ -129,6 +133,7 @@ LINES = (
     ("eval", REFUSED, "!spec G\n"),
     ("aterm", "f(a)", "f(a)\n"),
     ("aterm", LONG, f"{LONG}\n"),
+    ("aterm --indent 1", "f(a)", "f(\n a\n)\n"),
     ("share", "f(a,a)", "f(a,a)\ncells 5\n"),
     ("match f(<int>,<list>)", "f(1,2,3)", "yes\n1\n[2,3]\n"),
     ("make f(<int>) [1]", "", "f(1)\n"),

@@ -18,7 +18,12 @@ unsafe extern "C" {
     fn psilt_cons(p: *mut Handle, head: u32, tail: u32, out: *mut u32) -> u32;
     fn psilt_head(p: *mut Handle, term: u32, out: *mut u32) -> u32;
     fn psilt_place(p: *mut Handle, out: *mut u32) -> u32;
+    fn psilt_spec(p: *mut Handle, text: *const u8, len: usize, memo: u32, reclaim: u32) -> u32;
+    fn psilt_normalise(p: *mut Handle, term: u32, steps: u64, value: *mut u32, taken: *mut u64) -> u32;
 }
+
+const ADD: &str = "REC-SPEC Add SORTS Nat CONS z : -> Nat s : Nat -> Nat OPNS plus : Nat Nat -> Nat \
+VARS X Y : Nat RULES plus(z,Y) -> Y plus(s(X),Y) -> s(plus(X,Y)) END-SPEC";
 
 /// What a call answered in place of being done.
 #[derive(Debug, PartialEq, Eq)]
@@ -72,6 +77,16 @@ impl Store {
         Ok(Term(out))
     }
 
+    fn specify(&mut self, text: &str) -> Result<(), Code> {
+        done(unsafe { psilt_spec(&mut *self.0, text.as_ptr(), text.len(), 65536, 1 << 20) })
+    }
+
+    fn normalise(&mut self, term: Term, steps: u64) -> Result<(Term, u64), Code> {
+        let (mut value, mut taken) = (0, 0);
+        done(unsafe { psilt_normalise(&mut *self.0, term.0, steps, &mut value, &mut taken) })?;
+        Ok((Term(value), taken))
+    }
+
     fn print(&mut self, term: Term) -> Result<Vec<u8>, Code> {
         let mut len = 0;
         done(unsafe { psilt_print(&mut *self.0, term.0, &mut len) })?;
@@ -99,6 +114,12 @@ fn main() -> Result<(), Code> {
     assert_eq!(store.read("f("), Err(Code(6)));
     assert_eq!(store.place()?, 2);
     assert_eq!(Store::new(0).err(), Some(Code(7)));
+    let term = store.read("plus(s(z),s(z))")?;
+    assert_eq!(store.normalise(term, 9), Err(Code(14)));
+    store.specify(ADD)?;
+    let (value, taken) = store.normalise(term, 9)?;
+    assert_eq!((store.print(value)?, taken), (b"s(s(z))".to_vec(), 2));
+    assert_eq!(store.normalise(term, 1), Err(Code(13)));
     println!("all as wanted");
     Ok(())
 }

@@ -53,6 +53,7 @@ static void closed(void)
     psilt p = PSILT_INIT;
     uint32_t out = 77, kind = 77;
     int32_t value = 77;
+    uint64_t taken = 77;
     size_t len = 77;
     bool flag = true;
     uint8_t bytes[1] = {0};
@@ -85,6 +86,13 @@ static void closed(void)
     SAME(PSILT_CLOSED, psilt_protect(&p, 0));
     SAME(PSILT_CLOSED, psilt_unprotect(&p, 0));
     SAME(PSILT_CLOSED, psilt_reclaim(&p, terms, 0));
+    SAME(PSILT_CLOSED, psilt_rule(&p, &out));
+    SAME(PSILT_CLOSED, psilt_spec(&p, bytes, 0, 0, 1));
+    SAME(PSILT_CLOSED, psilt_spec_free(&p));
+    SAME(PSILT_CLOSED, psilt_normalise(&p, 0, 1, &out, &taken));
+    SAME(PSILT_CLOSED, psilt_eval_terms(&p, &out));
+    SAME(PSILT_CLOSED, psilt_eval_term(&p, 0, &out));
+    SAME(77, taken);
     SAME(77, out);
     SAME(77, kind);
     SAME(77, value);
@@ -333,6 +341,175 @@ static void fills(void)
     SAME(PSILT_OK, psilt_close(&p));
 }
 
+/* Addition, with two terms to evaluate. */
+static const char add[] = "REC-SPEC Add SORTS Nat CONS z : -> Nat s : Nat -> Nat OPNS plus : Nat Nat -> Nat "
+                          "VARS X Y : Nat RULES plus(z,Y) -> Y plus(s(X),Y) -> s(plus(X,Y)) "
+                          "EVAL plus(s(s(z)),s(z)) z END-SPEC";
+
+static void evaluates(void)
+{
+    psilt p = PSILT_INIT;
+    psilt_term term, value = 77;
+    uint32_t out = 77, none = 4294967295u;
+    uint64_t taken = 77;
+    SAME(PSILT_OK, psilt_open(&p, 1000));
+    term = reads(&p, "plus(s(z),s(z)){note}");
+    SAME(PSILT_OK, psilt_protect(&p, term));
+    /* nothing is specified yet */
+    SAME(PSILT_UNSPECIFIED, psilt_normalise(&p, term, 10, &value, &taken));
+    SAME(PSILT_UNSPECIFIED, psilt_normalise(&p, none, 10, &value, &taken));
+    SAME(PSILT_UNSPECIFIED, psilt_eval_terms(&p, &out));
+    SAME(PSILT_UNSPECIFIED, psilt_eval_term(&p, 0, &out));
+    SAME(PSILT_UNSPECIFIED, psilt_spec_free(&p));
+    /* terms made before the specification are evaluated by it */
+    SAME(PSILT_OK, psilt_spec(&p, BYTES(add), 0, 1000));
+    SAME(PSILT_LIMIT, psilt_normalise(&p, term, 1, &value, &taken));
+    SAME(PSILT_LIMIT, psilt_normalise(&p, term, 0, &value, &taken));
+    SAME(PSILT_STALE, psilt_normalise(&p, none, 10, &value, &taken));
+    SAME(77, value);
+    SAME(77, taken);
+    SAME(PSILT_OK, psilt_normalise(&p, term, 2, &value, &taken));
+    SAME(2, taken);
+    PRINTS(value, "s(s(z)){note}");
+    SAME(reads(&p, "s(s(z)){note}"), value);
+    SAME(PSILT_OK, psilt_normalise(&p, value, 18446744073709551615u, &value, &taken));
+    SAME(0, taken);
+    PRINTS(value, "s(s(z)){note}");
+    SAME(PSILT_OK, psilt_eval_terms(&p, &out));
+    SAME(2, out);
+    SAME(PSILT_OK, psilt_eval_term(&p, 0, &out));
+    PRINTS(out, "plus(s(s(z)),s(z))");
+    SAME(PSILT_OK, psilt_normalise(&p, out, 100, &value, &taken));
+    SAME(3, taken);
+    PRINTS(value, "s(s(s(z)))");
+    SAME(PSILT_OK, psilt_eval_term(&p, 1, &out));
+    PRINTS(out, "z");
+    SAME(PSILT_RANGE, psilt_eval_term(&p, 2, &out));
+    SAME(PSILT_RANGE, psilt_eval_term(&p, none, &out));
+    /* which stay beside another specification, and beside none */
+    SAME(PSILT_OK, psilt_spec(&p, BYTES("REC-SPEC B SORTS S CONS a : -> S EVAL a END-SPEC"), 1048576, 1073741824));
+    SAME(PSILT_OK, psilt_eval_terms(&p, &out));
+    SAME(1, out);
+    SAME(PSILT_RULE, psilt_normalise(&p, term, 10, &value, &taken));
+    SAME(PSILT_OK, psilt_spec_free(&p));
+    SAME(PSILT_UNSPECIFIED, psilt_spec_free(&p));
+    PRINTS(term, "plus(s(z),s(z)){note}");
+    SAME(PSILT_OK, psilt_close(&p));
+}
+
+/* The rule of a term that is given. */
+static void breaks(int line, psilt *p, const char *text, uint32_t rule)
+{
+    psilt_term value = 77;
+    uint32_t out = 77;
+    uint64_t taken = 77;
+    same(line, "psilt_normalise", PSILT_RULE, psilt_normalise(p, reads(p, text), 10, &value, &taken));
+    same(line, "psilt_rule", PSILT_OK, psilt_rule(p, &out));
+    same(line, "rule", rule, out);
+    same(line, "value", 77, value);
+    same(line, "taken", 77, (long long)taken);
+}
+
+/* A specification that is refused, and that the one before it still is there. */
+static void refuses(int line, psilt *p, const char *text, uint32_t code, uint32_t place, uint32_t rule)
+{
+    uint32_t out = 77;
+    same(line, "psilt_spec", code, psilt_spec(p, BYTES(text), 0, 1));
+    same(line, "psilt_place", PSILT_OK, psilt_place(p, &out));
+    same(line, "place", place, out);
+    same(line, "psilt_rule", PSILT_OK, psilt_rule(p, &out));
+    same(line, "rule", rule, out);
+    same(line, "psilt_eval_terms", PSILT_OK, psilt_eval_terms(p, &out));
+    same(line, "terms", 2, out);
+}
+
+static void judges(void)
+{
+    psilt p = PSILT_INIT;
+    uint32_t out = 77;
+    static uint8_t long_one[16777217];
+    SAME(PSILT_OK, psilt_open(&p, 1000));
+    SAME(PSILT_OK, psilt_rule(&p, &out));
+    SAME(0, out);
+    SAME(PSILT_OK, psilt_spec(&p, BYTES(add), 100, 16));
+    breaks(__LINE__, &p, "plus(s(z),4)", 2);
+    breaks(__LINE__, &p, "[z]", 2);
+    breaks(__LINE__, &p, "<z>", 2);
+    breaks(__LINE__, &p, "s(z{note})", 3);
+    breaks(__LINE__, &p, "s(q)", 4);
+    breaks(__LINE__, &p, "\"z\"", 4);
+    breaks(__LINE__, &p, "plus(z)", 5);
+    refuses(__LINE__, &p, "REC-SPEC A SORTS B B", PSILT_SYNTAX, 20, 0);
+    refuses(__LINE__, &p, "", PSILT_SYNTAX, 0, 0);
+    refuses(__LINE__, &p, "REC-SPEC A SORTS B B END-SPEC", PSILT_RULE, 19, 1);
+    refuses(__LINE__, &p, "REC-SPEC A SORTS B CONS c : -> C END-SPEC", PSILT_RULE, 31, 4);
+    SAME(PSILT_SYNTAX, psilt_read(&p, BYTES("f("), &out));
+    SAME(PSILT_OK, psilt_rule(&p, &out));
+    SAME(0, out);
+    SAME(PSILT_RANGE, psilt_spec(&p, BYTES(add), 1048577, 1));
+    SAME(PSILT_RANGE, psilt_spec(&p, BYTES(add), 4294967295u, 1));
+    SAME(PSILT_RANGE, psilt_spec(&p, BYTES(add), 0, 0));
+    SAME(PSILT_RANGE, psilt_spec(&p, BYTES(add), 0, 1073741825));
+    SAME(PSILT_RANGE, psilt_spec(&p, BYTES(add), 0, 4294967295u));
+    memset(long_one, ' ', sizeof long_one);
+    SAME(PSILT_RANGE, psilt_spec(&p, long_one, sizeof long_one, 0, 1));
+    SAME(PSILT_SYNTAX, psilt_spec(&p, long_one, sizeof long_one - 1, 0, 1));
+    SAME(PSILT_OK, psilt_eval_terms(&p, &out));
+    SAME(2, out);
+    SAME(PSILT_OK, psilt_close(&p));
+}
+
+/* What is not needed is given up, and what is remembered of it is forgotten. */
+static void gives_up(void)
+{
+    psilt p = PSILT_INIT;
+    psilt_term term, gone, value = 77;
+    uint32_t out = 77;
+    uint64_t taken = 77;
+    SAME(PSILT_OK, psilt_open(&p, 12));
+    SAME(PSILT_OK, psilt_spec(&p, BYTES(add), 16, 1));
+    gone = reads(&p, "[7,8,9]");
+    SAME(PSILT_OK, psilt_reclaim(&p, &gone, 0));
+    SAME(PSILT_OK, psilt_cells(&p, &out));
+    SAME(0, out);
+    gone = reads(&p, "[7,8]");
+    term = reads(&p, "s(s(z))");
+    SAME(PSILT_OK, psilt_protect(&p, term));
+    SAME(PSILT_OK, psilt_normalise(&p, term, 9, &value, &taken));
+    SAME(term, value);
+    SAME(0, taken);
+    SAME(PSILT_OK, psilt_unprotect(&p, term));
+    SAME(PSILT_OK, psilt_reclaim(&p, &gone, 0));
+    SAME(PSILT_STALE, psilt_holds(&p, term));
+    SAME(PSILT_STALE, psilt_normalise(&p, term, 9, &value, &taken));
+    SAME(PSILT_OK, psilt_eval_term(&p, 0, &out));
+    SAME(PSILT_OK, psilt_normalise(&p, out, 9, &value, &taken));
+    SAME(3, taken);
+    PRINTS(value, "s(s(s(z)))");
+    SAME(PSILT_OK, psilt_close(&p));
+    /* z and [] are two cells; the other term takes eight */
+    SAME(PSILT_OK, psilt_open(&p, 5));
+    SAME(PSILT_OK, psilt_spec(&p, BYTES(add), 16, 1));
+    SAME(PSILT_FULL, psilt_eval_term(&p, 0, &out));
+    SAME(PSILT_OK, psilt_eval_term(&p, 1, &out));
+    SAME(PSILT_OK, psilt_normalise(&p, out, 9, &value, &taken));
+    SAME(out, value);
+    term = reads(&p, "s(z)");
+    SAME(PSILT_OK, psilt_protect(&p, term));
+    SAME(PSILT_OK, psilt_reclaim(&p, &term, 0));
+    SAME(PSILT_OK, psilt_int(&p, 7, &gone));
+    SAME(PSILT_OK, psilt_normalise(&p, term, 9, &value, &taken));
+    SAME(term, value);
+    SAME(PSILT_STALE, psilt_holds(&p, gone));
+    SAME(PSILT_OK, psilt_close(&p));
+    SAME(PSILT_OK, psilt_open(&p, 2));
+    SAME(PSILT_OK, psilt_spec(&p, BYTES(add), 16, 1));
+    term = reads(&p, "z");
+    SAME(PSILT_FULL, psilt_normalise(&p, term, 9, &value, &taken));
+    SAME(PSILT_OK, psilt_holds(&p, term));
+    SAME(PSILT_OK, psilt_close(&p));
+}
+
 int main(void)
 {
     uint32_t code;
@@ -343,7 +520,10 @@ int main(void)
     reads_texts();
     keeps();
     fills();
-    for (code = PSILT_OK; code <= PSILT_OPEN; code++)
+    evaluates();
+    judges();
+    gives_up();
+    for (code = PSILT_OK; code <= PSILT_UNSPECIFIED; code++)
         SAME(0, strcmp(psilt_errstr(code), "no code of this library") == 0);
     SAME(0, strcmp(psilt_errstr(4294967295u), "no code of this library"));
     if (failures)

@@ -12,13 +12,20 @@ import sys
 sys.path.insert(0, os.path.dirname(os.path.dirname(os.path.realpath(__file__))))
 
 from percalesilt import (
-    APPL, CONS, FULL, HOLE, INT, KIND, NAME, NIL, OK, RANGE, STALE, UNPROTECTED, BOOL, I32, SIZE, U32, Handle, library,
+    APPL, CONS, FULL, HOLE, INT, KIND, LIMIT, NAME, NIL, OK, RANGE, RULE, STALE, SYNTAX, UNPROTECTED, UNSPECIFIED,
+    BOOL, I32, SIZE, U32, U64, Handle, library,
 )
 
 CELLS = 3000
 PLAIN, QUOTED = (b"f", b"g", b"plus", b""), (b"a b", b"\"\\\n\x01\xff", b"f")
 NAMES = [*((it, False) for it in PLAIN), *((it, True) for it in QUOTED)]
 BAD_NAMES = [b"0", b"a b", b"-", b"f(", b"\xe9"]
+# Doubling and addition, whose values and steps the model knows; a term to evaluate is a number.
+SPEC = b"""REC-SPEC Twice SORTS N CONS z : -> N s : N -> N OPNS plus : N N -> N twice : N -> N VARS X Y : N
+RULES plus(z,Y) -> Y plus(s(X),Y) -> s(plus(X,Y)) twice(X) -> plus(X,X) EVAL plus(s(z),s(z)) twice(s(s(z))) END-SPEC"""
+ARITIES = {b"z": 0, b"s": 1, b"plus": 2, b"twice": 1}
+EVAL = [(b"plus", [(b"s", [(b"z", [])])] * 2), (b"twice", [(b"s", [(b"s", [(b"z", [])])])])]
+BAD_SPECS = [(SYNTAX, 20, 0, b"REC-SPEC A SORTS B B"), (RULE, 19, 1, b"REC-SPEC A SORTS B B END-SPEC"), (SYNTAX, 0, 0, b"")]
 ESCAPES = {34: b'\\"', 92: b"\\\\", 10: b"\\n", 9: b"\\t", 13: b"\\r"}
 
 
@@ -29,6 +36,25 @@ def spelt(byte):
 
 class Wrong(Exception):
     pass
+
+
+def number_of(tree):
+    """The number that a tree comes to, and in how many steps."""
+    name, args = tree
+    values = [number_of(it) for it in args]
+    steps = sum(it[1] for it in values)
+    if name == b"plus":
+        return values[0][0] + values[1][0], steps + values[0][0] + 1
+    if name == b"twice":
+        return 2 * values[0][0], steps + values[0][0] + 2
+    return sum(it[0] + 1 for it in values), steps
+
+
+def numeral(number):
+    tree = (b"z", [])
+    for _ in range(number):
+        tree = (b"s", [tree])
+    return tree
 
 
 class Model:
@@ -86,6 +112,32 @@ class Model:
             text += b"{" + b",".join(map(self.text, self.items(annotations))) + b"}"
         return text
 
+    def rule(self, number):
+        """The first rule of terms that a term breaks, or None."""
+        nodes, inner, left = [], [], [(number, True)]
+        while left:
+            number, is_root = left.pop()
+            nodes.append(number)
+            if not is_root:
+                inner.append(number)
+            kind, _, made_of, _ = self.at[number]
+            if kind == APPL:
+                left.extend((it, False) for it in self.items(made_of[0]))
+        if any(self.at[it][0] != APPL for it in nodes):
+            return 2
+        if any(self.at[it][3] is not None for it in inner):
+            return 3
+        names = [self.at[it][1] for it in nodes]
+        if any(quoted or name not in ARITIES for name, quoted in names):
+            return 4
+        counts = [len(list(self.items(self.at[it][2][0]))) for it in nodes]
+        return 5 if any(ARITIES[name] != count for (name, _), count in zip(names, counts)) else None
+
+    def tree(self, number):
+        """The tree of a term that keeps the rules, but for annotations."""
+        _, (name, _), made_of, _ = self.at[number]
+        return name, [self.tree(it) for it in self.items(made_of[0])]
+
 
 class Run:
     def __init__(self, seed):
@@ -94,6 +146,8 @@ class Run:
         self.by_handle = ctypes.byref(self.handle)
         self.out, self.kind, self.value, self.length, self.flag = U32(), U32(), I32(), SIZE(), BOOL()
         self.numbers = []
+        self.is_specified = False
+        self.taken = U64()
         self.same("open", OK, self.library.psilt_open(self.by_handle, CELLS))
 
     def same(self, what, want, have):
@@ -321,6 +375,108 @@ class Run:
             self.model.reclaim(kept)
             self.numbers = list(self.model.at)
 
+    def made(self, tree):
+        """The reference of a tree, whose nodes come into the model; there is room for them."""
+        name, args = tree
+        given = [self.made(it) for it in args]
+        numbers = (U32 * max(1, len(given)))(*given)
+        code = self.call("appl", name, len(name), False, numbers, len(given), ctypes.byref(self.out))
+        self.same("appl", OK, code)
+        number, node = self.out.value, (APPL, (name, False), (self.learn(given, None),), None)
+        if node not in self.model.of:
+            self.model.add(number, node)
+            self.numbers.append(number)
+        self.same("appl", self.model.of[node], number)
+        return number
+
+    def some_tree(self, depth):
+        name = self.dice.choice((b"z", b"s", b"s", b"plus", b"twice")) if depth else b"z"
+        return name, [self.some_tree(depth - 1) for _ in range(ARITIES[name])]
+
+    def specify(self):
+        if self.dice.random() < 0.3:
+            self.same("spec_free", OK if self.is_specified else UNSPECIFIED, self.call("spec_free"))
+            self.is_specified = False
+        elif self.dice.random() < 0.3:
+            code, place, rule, text = self.dice.choice(BAD_SPECS)
+            self.same("spec", code, self.call("spec", text, len(text), 0, 1))
+            self.reads("place", (OK, place), ())
+            self.reads("rule", (OK, rule), ())
+        elif self.dice.random() < 0.2:
+            memo, reclaim = self.dice.choice(((2**20 + 1, 1), (2**32 - 1, 1), (0, 0), (0, 2**30 + 1)))
+            self.same("spec", RANGE, self.call("spec", SPEC, len(SPEC), memo, reclaim))
+        else:
+            memo, reclaim = self.dice.choice((0, 1, 64)), self.dice.choice((1, 50, 10000))
+            self.same("spec", OK, self.call("spec", SPEC, len(SPEC), memo, reclaim))
+            self.is_specified = True
+
+    def normalise(self):
+        model = self.model
+        number = self.pick()
+        if self.dice.random() < 0.7 and len(model.at) + 200 < CELLS:
+            number = self.made(self.some_tree(3))
+        steps = self.dice.choice((0, 1, 5, 1000, 2**64 - 1))
+        taken = ctypes.byref(self.taken)
+        is_full = len(model.at) + 500 > CELLS
+        self.taken.value = 4242
+        code = self.call("normalise", number, steps, ctypes.byref(self.out), taken)
+        value = self.out.value
+        if code != OK:
+            self.same("normalise writes", (4242, 4242), (value, self.taken.value))
+        if not self.is_specified or number not in model.at:
+            self.same("normalise", STALE if self.is_specified else UNSPECIFIED, code)
+            return
+        if is_full and code == FULL:
+            self.settle([number])
+            return
+        rule = model.rule(number)
+        if rule:
+            self.same("normalise", RULE, code)
+            self.reads("rule", (OK, rule), ())
+            self.settle([number])
+            return
+        wanted, needed = number_of(model.tree(number))
+        self.same("normalise", OK if needed <= steps else LIMIT, code)
+        if code == OK:
+            self.same("taken", needed, self.taken.value)
+            self.settle([number], value)
+            self.is_numeral(value, wanted, model.at[number][3])
+        self.settle([number])
+
+    def settle(self, kept, value=None):
+        """What an evaluation may have given up or made is given up, but for its value."""
+        held = [*kept] if value is None else [*kept, value]
+        self.same("reclaim", OK, self.call("reclaim", (U32 * len(held))(*held), len(held)))
+        self.model.reclaim(kept)
+        self.numbers = list(self.model.at)
+
+    def is_numeral(self, value, wanted, annotations):
+        """The value's nodes, which are there, come into the model."""
+        before = len(self.model.at)
+        cells = U32()
+        self.same("cells", OK, self.library.psilt_cells(self.by_handle, ctypes.byref(cells)))
+        made = self.made(numeral(wanted))
+        if annotations is not None:
+            node = lambda: (*self.model.at[made][:3], annotations)
+            made = self.gives("annotate", node, (made, annotations), (made, annotations))
+        self.same("value", made, value)
+        self.same("value's cells", True, before <= cells.value <= len(self.model.at))
+
+    def eval_terms(self):
+        code = self.call("eval_terms", ctypes.byref(self.out))
+        self.same("eval_terms", (OK, len(EVAL)) if self.is_specified else (UNSPECIFIED, 4242), (code, self.out.value))
+        if len(self.model.at) + 100 > CELLS:
+            return
+        place = self.dice.choice((0, 1, 2, 2**32 - 1))
+        code = self.call("eval_term", place, ctypes.byref(self.out))
+        number = self.out.value
+        if not self.is_specified or place >= len(EVAL):
+            self.same("eval_term", (RANGE if self.is_specified else UNSPECIFIED, 4242), (code, number))
+            return
+        self.same("eval_term", OK, code)
+        self.settle([], number)
+        self.same("eval_term", self.made(EVAL[place]), number)
+
     def count(self):
         self.reads("cells", (OK, len(self.model.at)), ())
         self.same("spare", OK, self.call("spare", ctypes.byref(self.out)))
@@ -329,12 +485,13 @@ class Run:
     def turns(self, count):
         makes = [self.int] * 4 + [self.nil] + [self.cons] * 8 + [self.hole] * 2 + [self.annotate] * 4 + [self.appl] * 8
         usual = makes + [self.look] * 4 + [self.print] + [self.protect] * 2 + [self.count]
+        rare = [self.specify] + [self.normalise] * 4 + [self.eval_terms]
         counted = 0
         while counted < count:
             if len(self.model.at) == CELLS and self.dice.random() < 0.02 or self.dice.random() < 0.0002:
                 self.reclaim()
                 counted += 1
-            call = self.dice.choice(usual)
+            call = self.dice.choice(rare if self.dice.random() < 0.01 else usual)
             call()
             counted += 13 if call == self.look else 2 if call in (self.print, self.count) else 1
         self.same("close", OK, self.library.psilt_close(self.by_handle))

@@ -43,13 +43,19 @@ void __wrap_free(void *at)
 
 #define BYTES(text) (const uint8_t *)(text), strlen(text)
 
-/* What a handle shows: its cells, its text, its place, the texts of three terms. */
+/* Addition, with three terms to evaluate, and with one. */
+#define ADD "REC-SPEC Add SORTS Nat CONS z : -> Nat s : Nat -> Nat OPNS plus : Nat Nat -> Nat VARS X Y : Nat " \
+            "RULES plus(z,Y) -> Y plus(s(X),Y) -> s(plus(X,Y)) EVAL "
+static const char three[] = ADD "plus(s(z),s(z)) z s(z) END-SPEC", one[] = ADD "z END-SPEC";
+
+/* What a handle shows: its cells, its text, its place and rule, how many terms are specified, the texts of four
+ * terms. */
 struct shown {
-    uint32_t cells, place;
-    char text[64], terms[3][64];
+    uint32_t cells, place, rule, specified;
+    char text[64], terms[4][64];
 };
 
-static psilt_term terms[3];
+static psilt_term terms[4];
 
 static void text_of(psilt *p, char *into)
 {
@@ -64,8 +70,10 @@ static void show(psilt *p, struct shown *it)
     memset(it, 0, sizeof *it);
     psilt_cells(p, &it->cells);
     psilt_place(p, &it->place);
+    psilt_rule(p, &it->rule);
+    psilt_eval_terms(p, &it->specified);
     text_of(p, it->text);
-    for (i = 0; i < 3; i++)
+    for (i = 0; i < 4; i++)
         if (psilt_print(p, terms[i], &len) == PSILT_OK)
             text_of(p, it->terms[i]);
     psilt_print(p, terms[0], &len);
@@ -77,6 +85,8 @@ static bool begin(psilt *p)
     size_t len;
     return psilt_open(p, 100000) == PSILT_OK && psilt_read(p, BYTES("f(1,[2],<int>)"), &terms[0]) == PSILT_OK
         && psilt_read(p, BYTES("[at(3)]"), &terms[1]) == PSILT_OK && psilt_read(p, BYTES("7"), &terms[2]) == PSILT_OK
+        && psilt_read(p, BYTES("plus(s(z),s(z))"), &terms[3]) == PSILT_OK
+        && psilt_spec(p, BYTES(three), 1000, 100) == PSILT_OK
         && psilt_read(p, BYTES("f(,)"), &out) == PSILT_SYNTAX && psilt_print(p, terms[0], &len) == PSILT_OK;
 }
 
@@ -89,6 +99,7 @@ static uint32_t calls(psilt *p, int call, uint32_t *out)
     static psilt other;
     psilt fresh = PSILT_INIT;
     uint32_t code;
+    uint64_t taken = 0;
     size_t len = 0;
     switch (call) {
     case 0:
@@ -107,12 +118,15 @@ static uint32_t calls(psilt *p, int call, uint32_t *out)
     case 8: return psilt_annotate(p, terms[0], terms[1], out);
     case 9: return psilt_reserve(p, 50000);
     case 10: return psilt_reclaim(p, terms, 3);
+    case 11: return psilt_spec(p, BYTES(one), 1000, 100);
+    case 12: return psilt_normalise(p, terms[3], 1000, out, &taken);
+    case 13: return psilt_eval_term(p, 0, out);
     default: return psilt_nil(p, out);
     }
 }
 
 static const char *const NAMES[] = {"open", "read", "print", "name", "int", "cons", "appl", "hole", "annotate",
-    "reserve", "reclaim", "nil"};
+    "reserve", "reclaim", "spec", "normalise", "eval_term", "nil"};
 
 static void fails(const char *what, const char *name, long n)
 {
@@ -143,7 +157,8 @@ static bool is_tried(int call, long n)
         if (out != 4242)
             fails("a number is written", NAMES[call], n);
         show(&p, &after);
-        if (call == 1 || call == 6) {
+        /* what was made, up to the refusal, may stay */
+        if (call == 1 || call == 6 || call == 12 || call == 13) {
             if (after.cells < before.cells)
                 fails("fewer cells", NAMES[call], n);
             after.cells = before.cells;
@@ -166,7 +181,7 @@ int main(void)
     for (i = 0; i < 2499; i++)
         memcpy(long_text + 2 * i, i == 2498 ? "7]" : i == 0 ? "[1" : ",7", 2);
     memset(long_name, 'n', sizeof long_name);
-    for (call = 0; call < 12; call++)
+    for (call = 0; call < 15; call++)
         for (n = 1; is_tried(call, n); n++)
             tried++;
     if (failures)

@@ -9,7 +9,28 @@ import unittest
 sys.path.insert(0, os.path.dirname(os.path.dirname(os.path.realpath(__file__))))
 
 import percalesilt
-from percalesilt import APPL, CLOSED, CONS, FULL, HOLE, INT, KIND, NAME, NIL, RANGE, STALE, SYNTAX, Fault, Store
+from percalesilt import (
+    APPL,
+    CLOSED,
+    CONS,
+    FULL,
+    HOLE,
+    INT,
+    KIND,
+    LIMIT,
+    NAME,
+    NIL,
+    RANGE,
+    RULE,
+    STALE,
+    SYNTAX,
+    UNSPECIFIED,
+    Fault,
+    Store,
+)
+
+ADD = '''REC-SPEC Add SORTS Nat CONS z : -> Nat s : Nat -> Nat OPNS plus : Nat Nat -> Nat VARS X Y : Nat
+RULES plus(z,Y) -> Y plus(s(X),Y) -> s(plus(X,Y)) EVAL plus(s(s(z)),s(z)) z END-SPEC'''
 
 
 class Terms(unittest.TestCase):
@@ -58,6 +79,36 @@ class Terms(unittest.TestCase):
         self.assertEqual(str(term.arg(2).inner), "int")
         self.assertEqual(str(term.arg(1).head), "2")
         self.assertEqual(str(term.arg(1).tail), "[3]")
+
+    def test_evaluating(self):
+        before = self.store.parse("plus(s(z),s(z)){note}")
+        spec = self.store.specify(ADD)
+        value, steps = spec.normalise(before)
+        self.assertEqual((str(value), steps), ("s(s(z)){note}", 2))
+        self.assertIs(self.store.parse("s(s(z)){note}"), value)
+        self.assertEqual([str(it) for it in spec.terms], ["plus(s(s(z)),s(z))", "z"])
+        self.assertEqual([(str(v), n) for v, n in map(spec.normalise, spec.terms)], [("s(s(s(z)))", 3), ("z", 0)])
+        self.store.reclaim()
+        self.assertEqual((str(before), str(value)), ("plus(s(z),s(z)){note}", "s(s(z)){note}"))
+
+    def test_what_is_not_evaluated(self):
+        spec = self.store.specify(ADD)
+        self.fails(LIMIT, spec.normalise, self.store.parse("plus(s(z),z)"), 1)
+        fault = self.fails(RULE, spec.normalise, self.store.parse("s(q)"))
+        self.assertEqual((fault.rule, fault.place), (4, None))
+        self.assertEqual(self.fails(RULE, spec.normalise, 7).rule, 2)
+        self.assertEqual(self.fails(SYNTAX, self.store.specify, "REC-SPEC A SORTS B B").place, 20)
+        fault = self.fails(RULE, self.store.specify, "REC-SPEC A SORTS B B END-SPEC")
+        self.assertEqual((fault.rule, fault.place), (1, 19))
+        self.assertEqual(len(spec.terms), 2)
+
+    def test_one_specification_at_a_time(self):
+        first = self.store.specify(ADD)
+        second = self.store.specify("REC-SPEC B SORTS S CONS a : -> S EVAL a END-SPEC")
+        self.fails(UNSPECIFIED, first.normalise, self.store.parse("z"))
+        self.assertEqual([str(it) for it in second.terms], ["a"])
+        second.free()
+        self.fails(UNSPECIFIED, lambda: second.terms)
 
     def test_bytes_of_names(self):
         term = self.store.appl(bytes(range(256)), quoted=True)

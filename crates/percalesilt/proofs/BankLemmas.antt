@@ -1,7 +1,7 @@
 -- What is so in the bank of an open handle.
 use Rattle.std.proofs.Common.{◌≡◌, ℕ, Some, refl}
 use Rattle.rx_term.specs.Store.{Store}
-use Rattle.rx_shared.specs.State.{store_of}
+use Rattle.psilt_work.specs.Banks.{store_of}
 use Rattle.psilt_work.specs.Handles.{work_of, InBank}
 use Rattle.psilt_work.specs.declared.work.Work.{Work}
 use Rattle.psilt_work.specs.declared.handle.Psilt.{Psilt}

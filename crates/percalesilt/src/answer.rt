@@ -6,8 +6,10 @@ ghost use Rattle.rx_term.specs.Kinds.{HasKind};
 ghost use Rattle.rx_term.specs.declared.Term.{Term as Reference};
 ghost use Rattle.psilt_work.specs.Codes.{told, fault_at};
 ghost use Rattle.psilt_work.specs.Answers.{term_of, Looks, HasKindNumber};
+ghost use Rattle.psilt_work.specs.Evaluating.{normalised_of};
 
 use psilt_work::Fault;
+use psilt_work::evaluating::Normalised;
 use psilt_work::fault::code;
 use rx_term::{Kind, Term};
 
@@ -62,6 +64,21 @@ pub(crate) fn tell<T: Copy>(answer: Result<T, Fault>, out: &mut T) -> u32
     match answer {
         Ok(value) => {
             *out = value;
+            0
+        }
+        Err(fault) => refusal(fault),
+    }
+}
+
+/// The number of an answer, whose value and steps are written.
+pub(crate) fn tell_value(answer: Result<Normalised, Fault>, value: &mut u32, taken: &mut u64) -> u32
+    ensures answer { told result (normalised_of value.new taken.new) ≡ answer }
+    ensures kept { result ≢ 0 → (value.new ≡ value.old) × (taken.new ≡ taken.old) }
+{
+    match answer {
+        Ok(Normalised { term, steps }) => {
+            *value = term.0;
+            *taken = steps;
             0
         }
         Err(fault) => refusal(fault),

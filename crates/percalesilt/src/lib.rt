@@ -3,6 +3,7 @@
 #![tactic(auto)]
 
 mod answer;
+pub mod evaluating;
 pub mod handle;
 pub mod keeping;
 pub mod making;

@@ -1,8 +1,9 @@
 //! C has texts read and printed.
 
-ghost use Rattle.std.specs.Prelude.{◌≡◌, ◌≢◌};
-ghost use Rattle.rx_shared.specs.State.{store_of};
+ghost use Rattle.std.specs.Prelude.{◌≡◌, ◌≢◌, Err};
+ghost use Rattle.psilt_work.specs.Banks.{store_of};
 ghost use Rattle.psilt_work.specs.Codes.{told};
+ghost use Rattle.psilt_work.specs.declared.fault.Fault.TheVariants.{Syntax};
 ghost use Rattle.psilt_work.specs.Answers.{term_of, Reads, Spells, Copies, printed_in, name_in};
 ghost use Rattle.psilt_work.specs.Handles.{OnWork};
 ghost use Rattle.psilt_work.specs.Works.{IsSameButText, IsSameButRead};
@@ -17,13 +18,13 @@ use std::alloc::Global;
 pub extern "C" fn psilt_read(alloc: Global, psilt: &mut Psilt, text: &[u8], out: &mut u32) -> u32
     ensures answer { OnWork psilt.old psilt.new result
         (λ v w. Reads (store_of v.bank) (store_of w.bank) text.now w.place (told result (term_of out.new))
-        × IsSameButRead v w) }
+        × (told result (term_of out.new) ≡ Err Syntax → w.rule ≡ 0) × IsSameButRead v w) }
     ensures out { result ≢ 0 → out.new ≡ out.old }
 {
     give(on_work!(psilt, alloc, work, work.read(alloc, text)), out)
 }
 
-/// Where the text that was refused last leaves the grammar, in bytes from 0.
+/// Where the text that was refused last leaves its grammar or breaks a rule, in bytes from 0.
 #[unsafe(no_mangle)]
 pub extern "C" fn psilt_place(alloc: Global, psilt: &mut Psilt, out: &mut u32) -> u32
     ensures answer { OnWork psilt.old psilt.new result
@@ -31,6 +32,17 @@ pub extern "C" fn psilt_place(alloc: Global, psilt: &mut Psilt, out: &mut u32) -
     ensures out { result ≢ 0 → out.new ≡ out.old }
 {
     tell(on_work!(psilt, alloc, work, Ok(work.place)), out)
+}
+
+/// The rule that the text or the term breaks that was refused last; 0 where the text leaves its
+/// grammar.
+#[unsafe(no_mangle)]
+pub extern "C" fn psilt_rule(alloc: Global, psilt: &mut Psilt, out: &mut u32) -> u32
+    ensures answer { OnWork psilt.old psilt.new result
+        (λ v w. (result ≡ 0) × (out.new ≡ v.rule) × (w ≡ v)) }
+    ensures out { result ≢ 0 → out.new ≡ out.old }
+{
+    tell(on_work!(psilt, alloc, work, Ok(work.rule)), out)
 }
 
 /// Prints a term, which becomes the handle's text, and tells how many bytes that has.

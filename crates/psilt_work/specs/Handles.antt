@@ -1,7 +1,8 @@
 -- What is seen of a handle: its work, and none while it is closed.
 use Rattle.std.specs.Prelude.{◌≡◌, ◌≢◌, ℕ, ◌==◌, Option, Some, None, if◌then◌else◌}
 use Rattle.rx_term.specs.Store.{Store}
-use Rattle.rx_shared.specs.State.{store_of, IsEmptyStore}
+use Rattle.rx_shared.specs.State.{IsEmptyStore}
+use Rattle.psilt_work.specs.Banks.{store_of}
 use Rattle.psilt_work.specs.Codes.{fault_at}
 use Rattle.psilt_work.specs.Works.{IsSameButBank, IsOpeningFault}
 use Rattle.psilt_work.specs.declared.work.Work.{Work}

@@ -4,17 +4,22 @@ use Rattle.psilt_work.specs.declared.fault.Fault.{Fault}
 use Rattle.psilt_work.specs.declared.fault.Fault.TheVariants.{Memory, Range}
 use Rattle.psilt_work.specs.declared.work.Work.{Work}
 
--- nothing changed but the bank
+-- nothing changed but the terms: what is specified is the same
 abbrev pub IsSameButBank : Work → Work → Type 0
-IsSameButBank v w = w ≡ record v { bank = w.bank }
+IsSameButBank v w = w ≡ record v { bank = record v.bank { shared = w.bank.shared } }
 
 -- nothing changed but the text
 abbrev pub IsSameButText : Work → Work → Type 0
 IsSameButText v w = w ≡ record v { text = w.text }
 
--- nothing changed but the bank and the place
+-- nothing changed but the terms, and the place and the rule of a refusal
 abbrev pub IsSameButRead : Work → Work → Type 0
-IsSameButRead v w = w ≡ record v { bank = w.bank; place = w.place }
+IsSameButRead v w =
+    w ≡ record v { bank = record v.bank { shared = w.bank.shared }; place = w.place; rule = w.rule }
+
+-- nothing changed but the terms, what is specified, and the place and the rule of a refusal
+abbrev pub IsSameButSpec : Work → Work → Type 0
+IsSameButSpec v w = w ≡ record v { bank = w.bank; place = w.place; rule = w.rule }
 
 -- whether a bank may have so many cells at most
 abbrev pub is_cap : ℕ → Bool

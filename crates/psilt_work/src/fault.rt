@@ -42,6 +42,15 @@ pub enum Fault {
     /// The handle is open already.
     #[error("the handle is open")]
     Open = 11,
+    /// The text of a specification, or a term, breaks a rule.
+    #[error("a rule is broken")]
+    Rule = 12,
+    /// More steps are needed than were given.
+    #[error("over the limit of steps")]
+    Limit = 13,
+    /// Nothing is specified.
+    #[error("nothing is specified")]
+    Unspecified = 14,
 }
 
 /// What a make of the bank comes to.

@@ -1,7 +1,7 @@
 //! Which terms stay.
 
 ghost use Rattle.std.specs.Prelude.{◌≡◌, IfOk};
-ghost use Rattle.rx_shared.specs.State.{store_of};
+ghost use Rattle.psilt_work.specs.Banks.{store_of};
 ghost use Rattle.psilt_work.specs.Answers.{Protects, Unprotects, Keeps, terms_of};
 ghost use Rattle.psilt_work.specs.Works.{IsSameButBank};
 
@@ -17,7 +17,7 @@ impl Work {
         ensures answer { Protects (store_of self.old.bank) (store_of self.new.bank) t result }
         ensures beside { IsSameButBank self.old self.new }
     {
-        if !self.bank.holds(t) {
+        if !self.bank.shared().holds(t) {
             return Err(Fault::Stale);
         }
         match self.bank.protect(t) {
@@ -31,7 +31,7 @@ impl Work {
         ensures answer { Unprotects (store_of self.old.bank) (store_of self.new.bank) t result }
         ensures beside { IsSameButBank self.old self.new }
     {
-        if !self.bank.arena().is_protected(Slot(t.0)) {
+        if !self.bank.shared().arena().is_protected(Slot(t.0)) {
             return Err(Fault::Unprotected);
         }
         self.bank.unprotect(t);

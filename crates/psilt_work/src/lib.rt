@@ -2,16 +2,21 @@
 //! fault where that is lacking.
 #![tactic(auto, using(rx_term::proofs::StoreLemmas::bank_steps))]
 
+mod bank;
+pub mod evaluating;
 pub mod fault;
 pub mod handle;
 mod held;
+mod judging;
 pub mod keeping;
 mod loose;
 pub mod making;
 pub mod reading;
+mod running;
 pub mod texts;
 pub mod work;
 
+pub use bank::Bank;
 pub use fault::Fault;
 pub use handle::Psilt;
 pub use work::Work;

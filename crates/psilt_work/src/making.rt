@@ -6,14 +6,13 @@ ghost use Rattle.rx_term.specs.Name.{IsAllowed};
 ghost use Rattle.rx_term.specs.Store.{tree_at, longer, held_open, noted};
 ghost use Rattle.rx_term.specs.Steps.{Grows};
 ghost use Rattle.rx_term.specs.Walks.{Lists};
-ghost use Rattle.rx_shared.specs.State.{store_of};
+ghost use Rattle.psilt_work.specs.Banks.{store_of};
 ghost use Rattle.psilt_work.specs.Answers.{are_held, terms_of, is_plain_list, MakesFrom};
 ghost use Rattle.psilt_work.specs.Answers.{Applies, IsApplication};
 ghost use Rattle.psilt_work.specs.Works.{IsSameButBank};
 
 use crate::fault::made;
-use crate::{Fault, Work};
-use rx_shared::SharedBank;
+use crate::{Bank, Fault, Work};
 use rx_term::{BankFault, Kind, Term, TermBank, plain_name};
 
 impl Work {
@@ -21,20 +20,22 @@ impl Work {
     pub fn are_held(&self, given: &[u32]) -> bool
         ensures { result ≡ are_held (store_of self.now.bank) given.now }
     {
-        given.iter().all(|n| self.bank.holds(Term(*n)))
+        let bank = self.bank.shared();
+        given.iter().all(|n| bank.holds(Term(*n)))
     }
 
     /// Whether the reference is there and is a list without annotations.
     fn is_plain_list(&self, t: Term) -> bool
         ensures { result ≡ is_plain_list (tree_at (store_of self.now.bank) t) }
     {
-        if !self.bank.holds(t) {
+        let bank = self.bank.shared();
+        if !bank.holds(t) {
             return false;
         }
-        if self.bank.anns(t).is_some() {
+        if bank.anns(t).is_some() {
             return false;
         }
-        match self.bank.kind(t) {
+        match bank.kind(t) {
             Kind::Nil => true,
             Kind::Cons => true,
             _ => false,
@@ -126,7 +127,7 @@ impl Work {
 
 /// The application of a name to the terms of some numbers, which are there.
 fn applied(
-    bank: &mut SharedBank,
+    bank: &mut Bank,
     name: &[u8],
     quoted: bool,
     arity: u32,
@@ -138,6 +139,7 @@ fn applied(
     ensures grows { Grows (store_of bank.old) (store_of bank.new) }
     ensures made { IfOk result (λ r. IsApplication (store_of bank.old) name.now quoted args.now
         (tree_at (store_of bank.new) r)) }
+    ensures same { bank.new.specified ≡ bank.old.specified }
 {
     let symbol = bank.symbol(name, quoted, arity)?;
     let list = list(bank, args)?;
@@ -145,11 +147,12 @@ fn applied(
 }
 
 /// The list of the terms of some numbers, which are there.
-fn list(bank: &mut SharedBank, items: &[u32]) -> Result<Term, BankFault>
+fn list(bank: &mut Bank, items: &[u32]) -> Result<Term, BankFault>
     requires { IsTrue (are_held (store_of bank.old) items.now) }
     ensures grows { Grows (store_of bank.old) (store_of bank.new) }
     ensures made { IfOk result (λ r. Lists (store_of bank.old) (terms_of items.now)
         (tree_at (store_of bank.new) r)) }
+    ensures same { bank.new.specified ≡ bank.old.specified }
 {
     let mut list = bank.nil()?;
     let mut left = items.len();

@@ -3,7 +3,8 @@
 ghost use Rattle.std.specs.Prelude.{◌≡◌, IsSome};
 ghost use Rattle.rx_term.specs.Store.{tree_at, head_of, tail_of, args_of, inner_of, anns_of};
 ghost use Rattle.rx_term.specs.Kinds.{HasKind};
-ghost use Rattle.rx_shared.specs.State.{store_of};
+ghost use Rattle.rx_shared.specs.State.{store_of as terms_in};
+ghost use Rattle.psilt_work.specs.Banks.{store_of};
 ghost use Rattle.psilt_work.specs.Answers.{Looks, ReadsPart, ReadsArg, ReadsSymbol};
 ghost use Rattle.psilt_work.specs.Answers.{ReadsOf, quoted_in, arity_in, item_in, IsPlaceIn};
 
@@ -16,7 +17,7 @@ impl Work {
     pub fn holds(&self, t: Term) -> Result<(), Fault>
         ensures { let w = store_of self.now.bank in Looks w t (λ (_ : Unit {0}). IsSome (tree_at w t)) result }
     {
-        if self.bank.holds(t) {
+        if self.bank.shared().holds(t) {
             Ok(())
         } else {
             Err(Fault::Stale)
@@ -27,8 +28,9 @@ impl Work {
     pub fn kind(&self, t: Term) -> Result<Kind, Fault>
         ensures { Looks (store_of self.now.bank) t (HasKind (store_of self.now.bank) t) result }
     {
-        if self.bank.holds(t) {
-            Ok(self.bank.kind(t))
+        let bank = self.bank.shared();
+        if bank.holds(t) {
+            Ok(bank.kind(t))
         } else {
             Err(Fault::Stale)
         }
@@ -38,13 +40,14 @@ impl Work {
     pub fn head(&self, t: Term) -> Result<Term, Fault>
         ensures { ReadsPart (store_of self.now.bank) t head_of result }
     {
-        if !self.bank.holds(t) {
+        let bank = self.bank.shared();
+        if !bank.holds(t) {
             return Err(Fault::Stale);
         }
-        match self.bank.kind(t) {
+        match bank.kind(t) {
             Kind::Int(_) => Err(Fault::Kind),
             Kind::Nil => Err(Fault::Kind),
-            Kind::Cons => Ok(self.bank.head(t)),
+            Kind::Cons => Ok(bank.head(t)),
             Kind::Appl(_) => Err(Fault::Kind),
             Kind::Hole => Err(Fault::Kind),
         }
@@ -54,13 +57,14 @@ impl Work {
     pub fn tail(&self, t: Term) -> Result<Term, Fault>
         ensures { ReadsPart (store_of self.now.bank) t tail_of result }
     {
-        if !self.bank.holds(t) {
+        let bank = self.bank.shared();
+        if !bank.holds(t) {
             return Err(Fault::Stale);
         }
-        match self.bank.kind(t) {
+        match bank.kind(t) {
             Kind::Int(_) => Err(Fault::Kind),
             Kind::Nil => Err(Fault::Kind),
-            Kind::Cons => Ok(self.bank.tail(t)),
+            Kind::Cons => Ok(bank.tail(t)),
             Kind::Appl(_) => Err(Fault::Kind),
             Kind::Hole => Err(Fault::Kind),
         }
@@ -70,14 +74,15 @@ impl Work {
     pub fn args(&self, t: Term) -> Result<Term, Fault>
         ensures { ReadsPart (store_of self.now.bank) t args_of result }
     {
-        if !self.bank.holds(t) {
+        let bank = self.bank.shared();
+        if !bank.holds(t) {
             return Err(Fault::Stale);
         }
-        match self.bank.kind(t) {
+        match bank.kind(t) {
             Kind::Int(_) => Err(Fault::Kind),
             Kind::Nil => Err(Fault::Kind),
             Kind::Cons => Err(Fault::Kind),
-            Kind::Appl(_) => Ok(self.bank.args(t)),
+            Kind::Appl(_) => Ok(bank.args(t)),
             Kind::Hole => Err(Fault::Kind),
         }
     }
@@ -86,15 +91,16 @@ impl Work {
     pub fn inner(&self, t: Term) -> Result<Term, Fault>
         ensures { ReadsPart (store_of self.now.bank) t inner_of result }
     {
-        if !self.bank.holds(t) {
+        let bank = self.bank.shared();
+        if !bank.holds(t) {
             return Err(Fault::Stale);
         }
-        match self.bank.kind(t) {
+        match bank.kind(t) {
             Kind::Int(_) => Err(Fault::Kind),
             Kind::Nil => Err(Fault::Kind),
             Kind::Cons => Err(Fault::Kind),
             Kind::Appl(_) => Err(Fault::Kind),
-            Kind::Hole => Ok(self.bank.inner(t)),
+            Kind::Hole => Ok(bank.inner(t)),
         }
     }
 
@@ -102,10 +108,11 @@ impl Work {
     pub fn annotations(&self, t: Term) -> Result<Term, Fault>
         ensures { ReadsPart (store_of self.now.bank) t anns_of result }
     {
-        if !self.bank.holds(t) {
+        let bank = self.bank.shared();
+        if !bank.holds(t) {
             return Err(Fault::Stale);
         }
-        match self.bank.anns(t) {
+        match bank.anns(t) {
             Some(anns) => Ok(anns),
             None => Err(Fault::Kind),
         }
@@ -115,10 +122,11 @@ impl Work {
     pub(crate) fn symbol_of(&self, t: Term) -> Result<Symbol, Fault>
         ensures { ReadsSymbol (store_of self.now.bank) t result }
     {
-        if !self.bank.holds(t) {
+        let bank = self.bank.shared();
+        if !bank.holds(t) {
             return Err(Fault::Stale);
         }
-        match self.bank.kind(t) {
+        match bank.kind(t) {
             Kind::Int(_) => Err(Fault::Kind),
             Kind::Nil => Err(Fault::Kind),
             Kind::Cons => Err(Fault::Kind),
@@ -136,10 +144,11 @@ impl Work {
             Ok(symbol) => symbol,
             Err(fault) => return Err(fault),
         };
-        if i >= self.bank.arity_of(symbol) {
+        let bank = self.bank.shared();
+        if i >= bank.arity_of(symbol) {
             return Err(Fault::Range);
         }
-        Ok(item(&self.bank, self.bank.args(t), i))
+        Ok(item(bank, bank.args(t), i))
     }
 
     /// Whether the name of an application is quoted.
@@ -147,7 +156,7 @@ impl Work {
         ensures { ReadsOf (store_of self.now.bank) t quoted_in result }
     {
         match self.symbol_of(t) {
-            Ok(symbol) => Ok(self.bank.quoted_of(symbol)),
+            Ok(symbol) => Ok(self.bank.shared().quoted_of(symbol)),
             Err(fault) => Err(fault),
         }
     }
@@ -157,7 +166,7 @@ impl Work {
         ensures { ReadsOf (store_of self.now.bank) t arity_in result }
     {
         match self.symbol_of(t) {
-            Ok(symbol) => Ok(self.bank.arity_of(symbol)),
+            Ok(symbol) => Ok(self.bank.shared().arity_of(symbol)),
             Err(fault) => Err(fault),
         }
     }
@@ -165,8 +174,8 @@ impl Work {
 
 /// The item of a list at a place, from 0.
 fn item(bank: &SharedBank, list: Term, i: u32) -> Term
-    requires { IsPlaceIn i (tree_at (store_of bank.now) list) }
-    ensures { let w = store_of bank.now in
+    requires { IsPlaceIn i (tree_at (terms_in bank.now) list) }
+    ensures { let w = terms_in bank.now in
         tree_at w result ≡ item_in i (tree_at w list) }
 {
     let mut list = list;

@@ -123,6 +123,85 @@ fn texts_are_refused(rt: HostRuntime) {
     refuses(&rt, alloc, &mut work);
 }
 
+/// Addition, with two terms to evaluate.
+const ADD: &[u8] =
+    b"REC-SPEC Add SORTS Nat CONS z : -> Nat s : Nat -> Nat OPNS plus : Nat Nat -> Nat \
+VARS X Y : Nat RULES plus(z,Y) -> Y plus(s(X),Y) -> s(plus(X,Y)) EVAL plus(s(s(z)),s(z)) z END-SPEC";
+
+/// A term of the handle's own store is evaluated, whose value is a term of it too.
+fn evaluates(rt: &impl Abort, alloc: Global, work: &mut Work) {
+    assert!(rt; work.specify(alloc, ADD, 0, 1_000) == Ok(()));
+    let t = read(rt, alloc, work, b"plus(s(z),s(z)){note}");
+    let two = read(rt, alloc, work, b"s(s(z)){note}");
+    let value = work.normalise(alloc, t, 2).expect(rt, "a value");
+    assert!(rt; value.term == two);
+    assert!(rt; value.steps == 2);
+    assert!(rt; work.normalise(alloc, t, 1) == Err(Fault::Limit));
+    assert!(rt; work.eval_terms() == Ok(2));
+    let first = work.eval_term(0).expect(rt, "a term");
+    prints(rt, alloc, work, first, b"plus(s(s(z)),s(z))");
+    let value = work.normalise(alloc, first, 100).expect(rt, "a value");
+    prints(rt, alloc, work, value.term, b"s(s(s(z)))");
+    assert!(rt; value.steps == 3);
+    assert!(rt; work.eval_term(2) == Err(Fault::Range));
+}
+
+/// What is refused of terms and of specifications.
+fn refuses_rules(rt: &impl Abort, alloc: Global, work: &mut Work) {
+    let t = read(rt, alloc, work, b"plus(s(z),4)");
+    assert!(rt; work.normalise(alloc, t, 9) == Err(Fault::Rule));
+    assert!(rt; work.rule == 2);
+    assert!(rt; work.normalise(alloc, Term(99), 9) == Err(Fault::Stale));
+    assert!(rt; work.specify(alloc, b"REC-SPEC A SORTS B B", 0, 1) == Err(Fault::Syntax));
+    assert!(rt; (work.place, work.rule) == (20, 0));
+    let twice = b"REC-SPEC A SORTS B B CONS OPNS VARS RULES EVAL END-SPEC";
+    assert!(rt; work.specify(alloc, twice, 0, 1) == Err(Fault::Rule));
+    assert!(rt; (work.place, work.rule) == (19, 1));
+    assert!(rt; work.specify(alloc, ADD, 1_048_577, 1) == Err(Fault::Range));
+    assert!(rt; work.specify(alloc, ADD, 0, 0) == Err(Fault::Range));
+    assert!(rt; work.eval_terms() == Ok(2));
+}
+
+/// Without a specification nothing is evaluated, and terms stay.
+fn forgets(rt: &impl Abort, alloc: Global, work: &mut Work) {
+    let t = read(rt, alloc, work, b"s(z)");
+    assert!(rt; work.unspecify() == Ok(()));
+    assert!(rt; work.unspecify() == Err(Fault::Unspecified));
+    assert!(rt; work.normalise(alloc, t, 9) == Err(Fault::Unspecified));
+    assert!(rt; work.eval_terms() == Err(Fault::Unspecified));
+    assert!(rt; work.eval_term(0) == Err(Fault::Unspecified));
+    prints(rt, alloc, work, t, b"s(z)");
+}
+
+#[test]
+fn terms_are_evaluated(rt: HostRuntime) {
+    let alloc = rt.alloc();
+    let mut work = store(&rt, alloc, 1_000);
+    evaluates(&rt, alloc, &mut work);
+    refuses_rules(&rt, alloc, &mut work);
+    forgets(&rt, alloc, &mut work);
+}
+
+/// What is remembered of terms that are given up is forgotten.
+fn remembers(rt: &impl Abort, alloc: Global, work: &mut Work) {
+    assert!(rt; work.specify(alloc, ADD, 1_024, 1) == Ok(()));
+    let t = read(rt, alloc, work, b"plus(s(s(z)),s(s(z)))");
+    assert!(rt; work.normalise(alloc, t, 9).is_ok());
+    assert!(rt; work.reclaim(alloc, &[]) == Ok(()));
+    assert!(rt; work.cells() == 0);
+    let t = read(rt, alloc, work, b"plus(s(s(z)),s(s(z)))");
+    let value = work.normalise(alloc, t, 9).expect(rt, "a value");
+    prints(rt, alloc, work, value.term, b"s(s(s(s(z))))");
+    assert!(rt; value.steps == 3);
+}
+
+#[test]
+fn results_are_remembered(rt: HostRuntime) {
+    let alloc = rt.alloc();
+    let mut work = store(&rt, alloc, 1_000);
+    remembers(&rt, alloc, &mut work);
+}
+
 #[test]
 fn a_handle_is_opened_and_closed(rt: HostRuntime) {
     let alloc = rt.alloc();

@@ -1,14 +1,15 @@
 //! Texts are read and printed.
 
-ghost use Rattle.std.specs.Prelude.{◌≡◌, ◌<◌, ◌++◌, IsTrue, length, drop};
+ghost use Rattle.std.specs.Prelude.{◌≡◌, ◌<◌, ◌++◌, Err, IsTrue, length, drop};
+ghost use Rattle.psilt_work.specs.declared.fault.Fault.TheVariants.{Syntax};
 ghost use Rattle.rx_term.specs.Store.{tree_at};
-ghost use Rattle.rx_shared.specs.State.{store_of};
+ghost use Rattle.psilt_work.specs.Banks.{store_of};
 ghost use Rattle.psilt_work.specs.Answers.{Reads, Spells, Copies, printed_in, name_in};
 ghost use Rattle.psilt_work.specs.Works.{IsSameButText, IsSameButRead};
 
 use crate::{Fault, Work};
 use rx_term::{Term, TermBank};
-use rx_text::{TextFault, read, write};
+use rx_text::{TextFault, write};
 use std::alloc::Global;
 
 impl Work {
@@ -17,12 +18,14 @@ impl Work {
     pub fn read(&mut self, alloc: Global, text: &[u8]) -> Result<Term, Fault>
         ensures answer { Reads (store_of self.old.bank) (store_of self.new.bank) text.now
             self.new.place result }
+        ensures rule { result ≡ Err Syntax → self.new.rule ≡ 0 }
         ensures beside { IsSameButRead self.old self.new }
     {
-        match read(alloc, text, &mut self.bank) {
+        match self.bank.read(alloc, text) {
             Ok(t) => Ok(t),
             Err(TextFault::Grammar { at }) => {
                 self.place = at;
+                self.rule = 0;
                 Err(Fault::Syntax)
             }
             Err(TextFault::Long) => Err(Fault::Range),
@@ -37,11 +40,11 @@ impl Work {
             self.new.text.items result }
         ensures beside { IsSameButText self.old self.new }
     {
-        if !self.bank.holds(t) {
+        if !self.bank.shared().holds(t) {
             return Err(Fault::Stale);
         }
         let mut text = Vec::new(alloc);
-        match write(alloc, &self.bank, t, &mut text) {
+        match write(alloc, self.bank.shared(), t, &mut text) {
             Ok(()) => {
                 self.text = text;
                 Ok(self.text.len())
@@ -60,7 +63,7 @@ impl Work {
             Ok(symbol) => symbol,
             Err(fault) => return Err(fault),
         };
-        match self.bank.name_of(symbol).to_vec(alloc) {
+        match self.bank.shared().name_of(symbol).to_vec(alloc) {
             Ok(text) => {
                 self.text = text;
                 Ok(self.text.len())

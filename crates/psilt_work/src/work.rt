@@ -1,12 +1,13 @@
 //! What a handle holds.
 
-ghost use Rattle.std.specs.Prelude.{◌≡◌, ◌<◌, ◌≤◌, IfOk, IfErr, false};
+ghost use Rattle.std.specs.Prelude.{◌≡◌, ◌<◌, ◌≤◌, IfOk, IfErr, None};
 ghost use Rattle.rx_term.specs.Store.{cells};
-ghost use Rattle.rx_shared.specs.State.{store_of, IsEmptyStore};
+ghost use Rattle.rx_shared.specs.State.{IsEmptyStore};
+ghost use Rattle.psilt_work.specs.Banks.{store_of};
 ghost use Rattle.psilt_work.specs.Answers.{MakesRoom};
 ghost use Rattle.psilt_work.specs.Works.{IsSameButBank, IsOpeningFault};
 
-use crate::Fault;
+use crate::{Bank, Fault};
 use rx_shared::SharedBank;
 use rx_term::{BankFault, TermBank};
 use std::alloc::Global;
@@ -14,15 +15,18 @@ use std::alloc::Global;
 /// The most cells that a bank may have.
 pub const MOST_CELLS: u32 = 1_073_741_824;
 
-/// A bank, the text that was printed last, and where a text was refused last.
+/// A bank, the text that was printed last, and why and where a text was refused last.
 #[derive(Drop)]
 pub struct Work {
-    /// The bank.
-    pub bank: SharedBank,
+    /// The bank, and what is specified.
+    pub bank: Bank,
     /// The text that was printed last.
     pub text: Vec<u8>,
-    /// Where the text that was refused last leaves its grammar, in bytes from 0.
+    /// Where the text that was refused last leaves its grammar or breaks a rule, in bytes from 0.
     pub place: u32,
+    /// The rule that the text or the term breaks that was refused last, by its number from 1; 0
+    /// where the text leaves its grammar.
+    pub rule: u32,
 }
 
 impl Work {
@@ -30,6 +34,7 @@ impl Work {
     /// `MOST_CELLS`.
     pub fn new(alloc: Global, cap: u32) -> Result<Box<Work>, Fault>
         ensures empty { IfOk result (λ b. IsEmptyStore (store_of b.value.bank) cap) }
+        ensures bare { IfOk result (λ b. b.value.bank.specified ≡ None) }
         ensures fault { IfErr result (IsOpeningFault cap) }
     {
         if cap == 0 || cap > MOST_CELLS {
@@ -46,12 +51,13 @@ impl Work {
 
     /// Over a bank.
     fn over(alloc: Global, bank: SharedBank) -> Work
-        ensures { result.bank ≡ bank }
+        ensures { result.bank ≡ record { shared = bank; specified = None } }
     {
         Work {
-            bank,
+            bank: Bank::new(bank),
             text: Vec::new(alloc),
             place: 0,
+            rule: 0,
         }
     }
 
@@ -59,14 +65,14 @@ impl Work {
     pub fn cells(&self) -> u32
         ensures { result ≡ cells (store_of self.now.bank) }
     {
-        self.bank.cells()
+        self.bank.shared().cells()
     }
 
     /// How many cells can be taken with no more memory.
     pub fn spare(&self) -> u32
         ensures { result ≡ (store_of self.now.bank).spare }
     {
-        self.bank.spare()
+        self.bank.shared().spare()
     }
 
     /// Makes room for `k` cells more.

@@ -45,3 +45,4 @@ pub mod CallLemmas
 pub mod SpelledLemmas
 pub mod RootLemmas
 pub mod DepthLemmas
+pub mod BankLemmas

@@ -12,6 +12,7 @@ pub mod Answered
 pub mod Written
 pub mod Depth
 pub mod Engine
+pub mod Prepared
 pub mod Given
 pub mod Made
 pub mod Remembered

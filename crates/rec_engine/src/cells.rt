@@ -98,7 +98,7 @@ fn make_apart<B: TermBank>(bank: &mut B, node: Node) -> Result<Term, BankFault>
 /// Gives back all that these references don't need; no constant is known any more, and no result of
 /// what was given back.
 #[inline(never)]
-fn reclaim<B: TermBank>(bank: &mut B, kept: &[Term], pace: &mut Pace)
+pub(crate) fn reclaim<B: TermBank>(bank: &mut B, kept: &[Term], pace: &mut Pace)
     requires { AllHeld (B.store bank.old) kept.now }
     ensures reclaims { Reclaims (B.store bank.old) (B.store bank.new) kept.now }
     ensures known { KeepsKnown (B.store bank.old) (B.store bank.new) pace.old pace.new }

@@ -1,5 +1,7 @@
 //! The engine: a bank, a specification, and what is evaluated over them.
 
+mod prepared;
+
 ghost use Rattle.std.specs.Prelude.{◌≡◌, ◌≢◌, ◌<◌, ◌-◌, ◌∷◌, [], Some, Err, IfErr, IfOk, IsSome};
 ghost use Rattle.std.specs.Prelude.{Contains, length};
 ghost use Rattle.rx_term.specs.Tree.{Tree, Items, none};
@@ -27,6 +29,7 @@ use crate::depth::{DepthFault, bounded, unbounded};
 use crate::machine::Machine;
 use crate::parts::Parts;
 use crate::terms::make_term;
+pub use prepared::Prepared;
 use rec_match::Matcher;
 use rec_sorts::{Checked, Letter};
 use rx_term::{RootsFull, Term, TermBank};

@@ -21,4 +21,4 @@ mod terms;
 
 pub use cells::EngineFault;
 pub use depth::DepthFault;
-pub use engine::{Engine, Options, Outcome};
+pub use engine::{Engine, Options, Outcome, Prepared};

@@ -37,6 +37,11 @@ use Rattle.rec_match.proofs.NextLemmas.{which, nothing, later-side}
 abbrev pub no_rule : Rule
 no_rule = record { left = Apply (record { at = 0; bytes = [] }) X.none; right = Apply (record { at = 0; bytes = [] }) X.none; conditions = [] }
 
+-- there are no annotations
+pub bare-of : (w : Store) (u : Term) (o : Option Term) → HasAnns w u o → is_some o ≡ false → part_at anns_of w u ≡ None
+bare-of w u None h e = h
+bare-of w u (Some a) h e = absurd (cc e)
+
 -- a tree that is no application of a name to so many is not opened
 cannot-open : (name : List ℕ) (k : ℕ) (u : Tree) → ((us : Trees) → application name us ≡ u → count_of us ≡ k → ⊥) → opened name k u ≡ None
 cannot-open name k u other = by (opened name k u) refl

@@ -23,6 +23,7 @@ use Rattle.rec_match.specs.declared.forest.Forest.{Forest}
 use Rattle.rec_match.specs.declared.forest.Node.TheVariants.{Switch}
 use Rattle.rec_match.specs.declared.parts.Parts.{Parts}
 use Rattle.rec_match.specs.declared.shares.Share.{Share}
+use Rattle.rec_match.proofs.GrowthLemmas.{fits_switch}
 use Rattle.rec_match.proofs.LeftLemmas.{left_opened, left_kept}
 use Rattle.rec_match.proofs.ShareLemmas.{symbol_at, symbols_long, Popped, popped_front}
 use Rattle.rec_match.proofs.TaskLemmas.{Added, added, goes_more, goes_written}
@@ -100,7 +101,7 @@ abbrev opened_state : Spec → ℕ → ℕ → State → State
 opened_state y register k z = record { width = z.width + arity_of y k; rows = changed (opened_cells y register (name_of y (Symbol k)) (arity_of y k) z.width) z.rows }
 
 -- a window behind children
-window_in : (cs window : List Child) (low q : ℕ) → low ≤ q → q - low < length window → child_at (cs ++ window) low (length cs) (length window) q ≡ get_or window (q - low) no_child
+pub window_in : (cs window : List Child) (low q : ℕ) → low ≤ q → q - low < length window → child_at (cs ++ window) low (length cs) (length window) q ≡ get_or window (q - low) no_child
 window_in cs window low q le lt = by (nat_le low q) (nat_lt (q - low) (length window)) (le-leb low q le) (le-leb (suc (q - low)) (length window) lt)
   where
     by : (a b : Bool) → a ≡ true → b ≡ true → ◌≡◌ {A = Child} (if a && b then get_or (cs ++ window) (length cs + (q - low)) no_child else no_child) (get_or window (q - low) no_child)
@@ -108,12 +109,12 @@ window_in cs window low q le lt = by (nat_le low q) (nat_lt (q - low) (length wi
     by false b ea eb = absurd (cc ea)
     by true false ea eb = absurd (cc eb)
 
-record InWindow (cs window : List Child) (low q : ℕ) : Type 0 where
+pub record InWindow (cs window : List Child) (low q : ℕ) : Type 0 where
   pub from_low : low ≤ q
   pub within : q - low < length window
   pub is : child_at (cs ++ window) low (length cs) (length window) q ≡ get_or window (q - low) no_child
 
-in_window : (cs window : List Child) (low q : ℕ) → (child_at (cs ++ window) low (length cs) (length window) q).node ≢ 0 → InWindow cs window low q
+pub in_window : (cs window : List Child) (low q : ℕ) → (child_at (cs ++ window) low (length cs) (length window) q).node ≢ 0 → InWindow cs window low q
 in_window cs window low q some = by (nat_le low q) (nat_lt (q - low) (length window)) refl refl some
   where
     by : (a b : Bool) → nat_le low q ≡ a → nat_lt (q - low) (length window) ≡ b → (let c : Child = if a && b then get_or (cs ++ window) (length cs + (q - low)) no_child else no_child in c.node) ≢ 0 → InWindow cs window low q
@@ -236,7 +237,7 @@ module _ (y : Spec) (ns : List ℕ) (ps : Parts) where
       (goes_more y ns ps g h e (t ∷ us) (t ∷ vs) vs u b.goes
       (goes_written y ns ps h e v t vs (Switch register low (length h.children.items) (length window) other) b.goes.growing
       (record { nodes = (let m : length h.nodes.items ≤ length e.nodes.items = (let l = long in omega (arith, l)) in m); new_places = []; places = w.places ∙ sym (append-nil h.places.items); new_children = window; children = w.children; states = λ m lt. refl })
-      w.nodes switched))
+      w.nodes (fits_switch y ns e v n register other cases switched)))
     where
       t : Task
       t = record { node = n; width = width; rows = coded }

@@ -13,7 +13,10 @@ use Rattle.rec_sorts.specs.Laws.{Every, BindsVariables, BindsVariablesAll}
 use Rattle.rec_sorts.specs.Numbering.{Named, named, named_all, bytes_at}
 use Rattle.rec_sorts.proofs.KeptLemmas.{all_kept, bytes_eq-eq, repeated_none, not_before}
 use Rattle.rec_sorts.proofs.DifferingLemmas.{mentions_at, differ}
-use Rattle.rec_match.proofs.TrialLemmas.{AreBare}
+
+-- variables have no arguments
+abbrev pub AreBare : Spec → List Named → Type 0
+AreBare y ms = Every (λ (m : Named). is_variable y m.name ≡ true → m.arguments ≡ 0) ms
 
 pub filter_none : {X : Type 0} (p : X → Bool) (xs : List X) → filter p xs ≡ [] → Every (λ x. p x ≡ false) xs
 filter_none p [] e = tt

@@ -1,8 +1,8 @@
--- The trees of symbols, one after the other.
+-- The trees of symbols, one symbol after the other.
 use Rattle.std.proofs.Common.{refl, sym, ap, subst, arith, ◌∙◌, inl, inr}
 use Rattle.std.proofs.lemmas.Bool.{cases_eq}
-use Rattle.std.proofs.lemmas.List.{append-nil, length-append}
-use Rattle.std.specs.Prelude.{ℕ, zero, suc, ◌+◌, ◌<◌, ◌≡◌, ◌≢◌, ◌⊎◌, List, [], ◌∷◌, ◌++◌, None, length, get_or}
+use Rattle.std.proofs.lemmas.List.{append-nil, length-append, length-map}
+use Rattle.std.specs.Prelude.{ℕ, zero, suc, ◌+◌, ◌<◌, ◌≡◌, ◌≢◌, ◌⊎◌, List, [], ◌∷◌, ◌++◌, None, length, map, get_or}
 use Rattle.rx_term.specs.declared.Symbol as bank
 use Rattle.rec_syntax.specs.Syntax.{Spec}
 use Rattle.rec_sorts.specs.Laws.{Every}
@@ -13,39 +13,41 @@ use Rattle.rec_sorts.specs.SpecRules.{fault}
 use Rattle.rec_sorts.specs.declared.letters.Meaning.TheVariants.{Symbol}
 use Rattle.rec_match.specs.Built.{AreHeads}
 use Rattle.rec_match.specs.Forests.{IsForest}
-use Rattle.rec_match.specs.Growing.{State, Grows, Extends}
+use Rattle.rec_match.specs.Growing.{State, Grows, StandFor, Extends}
+use Rattle.rec_match.specs.Paths.{TreesGoOn}
+use Rattle.rec_match.specs.Rows.{Row}
 use Rattle.rec_match.specs.Running.{root_rows, IsHeaded}
-use Rattle.rec_match.specs.Tasks.{AreApart, Growing, Waits, TreeGoesOn, numbers_of}
+use Rattle.rec_match.specs.Tasks.{AreApart, Growing, Waits, numbers_of}
 use Rattle.rec_match.specs.declared.forest.Forest.{Forest}
 use Rattle.rec_match.specs.declared.forest.Node.{Node}
 use Rattle.rec_match.specs.declared.forest.Node.TheVariants.{Fail}
 use Rattle.rec_match.specs.declared.parts.Parts.{Parts}
-use Rattle.rec_match.proofs.ExtensionLemmas.{grows_later}
+use Rattle.rec_match.proofs.ExtensionLemmas.{grows_later, stand_later}
 use Rattle.rec_match.proofs.FactLemmas.{facts}
 use Rattle.rec_match.proofs.GrowthLemmas.{grown_forest}
 use Rattle.rec_match.proofs.ItemLemmas.{get-front, get-last}
 use Rattle.rec_match.proofs.RootRowLemmas.{no_rule}
 
 -- the rows of all rules of a symbol
-abbrev pub whole_state : Spec → ℕ → State
-whole_state y k = record { width = arity_of y k; rows = root_rows (name_of y (Symbol k)) (arity_of y k) 0 y.rules }
+abbrev pub whole_rows : Spec → ℕ → List Row
+whole_rows y k = root_rows (name_of y (Symbol k)) (arity_of y k) 0 y.rules
 
--- the first symbols have trees, or none
-pub record HasTrees (y : Spec) (ns : List ℕ) (ps : Parts) (f : Forest) (roots : List ℕ) (n : ℕ) : Type 0 where
+-- the first symbols have trees
+pub record HaveTrees (y : Spec) (ns : List ℕ) (ps : Parts) (f : Forest) (roots : List (List ℕ)) (n : ℕ) : Type 0 where
   pub states : ℕ → State
   pub growing : Growing y ns ps f [] states
   pub some : 0 < length f.nodes.items
   pub counted : length roots ≡ n
-  pub stands : (k : ℕ) → k < n → get_or roots k 0 ≢ 0 → (get_or roots k 0 < length f.nodes.items) × (states (get_or roots k 0) ≡ whole_state y k)
+  pub stand : (k : ℕ) → k < n → StandFor f states (arity_of y k) (get_or roots k []) (whole_rows y k)
 
 -- one node, to which nothing leads
-pub trees_none : (y : Spec) (ns : List ℕ) (ps : Parts) (f : Forest) (roots : List ℕ) → f.nodes.items ≡ Fail ∷ [] → roots ≡ [] → HasTrees y ns ps f roots 0
+pub trees_none : (y : Spec) (ns : List ℕ) (ps : Parts) (f : Forest) (roots : List (List ℕ)) → f.nodes.items ≡ Fail ∷ [] → roots ≡ [] → HaveTrees y ns ps f roots 0
 trees_none y ns ps f roots e none = record {
   states = λ n. record { width = 0; rows = [] };
   growing = record { tasks = tt; nodes = λ n lt. inr (by n (get_or f.nodes.items n Fail) (ap (λ xs. get_or xs n Fail) e ∙ fail n)) };
   some = (let l = ap length e in omega (arith, l));
   counted = ap length none;
-  stands = λ k lt. absurd (let bad : ⊥ = omega (arith, lt) in bad);
+  stand = λ k lt. absurd (let bad : ⊥ = omega (arith, lt) in bad);
 }
   where
     fail : (n : ℕ) → get_or (Fail ∷ []) n Fail ≡ Fail
@@ -56,26 +58,26 @@ trees_none y ns ps f roots e none = record {
     by n node q = subst (Grows y ns f (λ n. record { width = 0; rows = [] }) n) (sym q) refl
 
 -- one symbol more
-pub trees_more : (y : Spec) (ns : List ℕ) (ps : Parts) (f g : Forest) (roots roots' : List ℕ) (n root : ℕ) → (h : HasTrees y ns ps f roots n) → TreeGoesOn y ns ps f h.states (arity_of y n) (root_rows (name_of y (Symbol n)) (arity_of y n) 0 y.rules) g root
-    → roots' ≡ roots ++ root ∷ [] → HasTrees y ns ps g roots' (n + 1)
-trees_more y ns ps f g roots roots' n root h t e = record {
+pub trees_more : (y : Spec) (ns : List ℕ) (ps : Parts) (f g : Forest) (roots roots' : List (List ℕ)) (n : ℕ) (own : List ℕ) → (h : HaveTrees y ns ps f roots n) → TreesGoOn y ns ps f h.states (arity_of y n) (whole_rows y n) g own → roots' ≡ roots ++ own ∷ []
+    → HaveTrees y ns ps g roots' (n + 1)
+trees_more y ns ps f g roots roots' n own h t e = record {
   states = t.goes.states;
   growing = t.goes.growing;
   some = (let a = h.some in let b = t.goes.extends.nodes in omega (arith, a, b));
-  counted = (let l = ap length e ∙ length-append roots (root ∷ []) in let c = h.counted in omega (arith, l, c));
-  stands = λ k lt. by k lt (cases_eq k n);
+  counted = (let l = ap length e ∙ length-append roots (own ∷ []) in let c = h.counted in omega (arith, l, c));
+  stand = λ k lt. by k lt (cases_eq k n);
 }
   where
-    by : (k : ℕ) → k < n + 1 → (k ≡ n) ⊎ (k ≢ n) → get_or roots' k 0 ≢ 0 → (get_or roots' k 0 < length g.nodes.items) × (t.goes.states (get_or roots' k 0) ≡ whole_state y k)
+    by : (k : ℕ) → k < n + 1 → (k ≡ n) ⊎ (k ≢ n) → StandFor g t.goes.states (arity_of y k) (get_or roots' k []) (whole_rows y k)
     by k lt (inl is) =
-        let at : get_or roots' k 0 ≡ root = ap (λ xs. get_or xs k 0) e ∙ get-last roots root k 0 (is ∙ sym h.counted) in
-        subst (λ r. r ≢ 0 → (r < length g.nodes.items) × (t.goes.states r ≡ whole_state y k)) (sym at) (subst (λ j. root ≢ 0 → (root < length g.nodes.items) × (t.goes.states root ≡ whole_state y j)) (sym is) t.stands)
+        let at : get_or roots' k [] ≡ own = ap (λ xs. get_or xs k []) e ∙ get-last roots own k [] (is ∙ sym h.counted) in
+        subst (λ rs. StandFor g t.goes.states (arity_of y k) rs (whole_rows y k)) (sym at) (subst (λ j. StandFor g t.goes.states (arity_of y j) own (whole_rows y j)) (sym is) t.stand)
     by k lt (inr ne) =
         let below : k < n = omega (arith, lt, ne) in
         let c = h.counted in
-        let at : get_or roots' k 0 ≡ get_or roots k 0 = ap (λ xs. get_or xs k 0) e ∙ get-front roots root k 0 (omega (arith, below, c)) in
-        subst (λ r. r ≢ 0 → (r < length g.nodes.items) × (t.goes.states r ≡ whole_state y k)) (sym at)
-        (λ there. (let o = h.stands k below there in let o0 = o.0 in let le = t.goes.extends.nodes in ((let l : get_or roots k 0 < length g.nodes.items = omega (arith, o0, le) in l), t.goes.extends.states (get_or roots k 0) o.0 ∙ o.1)))
+        let at : get_or roots' k [] ≡ get_or roots k [] = ap (λ xs. get_or xs k []) e ∙ get-front roots own k [] (omega (arith, below, c)) in
+        subst (λ rs. StandFor g t.goes.states (arity_of y k) rs (whole_rows y k)) (sym at)
+        (stand_later y ns f g h.states t.goes.states t.goes.extends (arity_of y k) (get_or roots k []) (whole_rows y k) (h.stand k below))
 
 -- what holds at each place holds of each element
 every_from : {X : Type 0} (P : X → Type 0) (d : X) (xs : List X) → ((i : ℕ) → i < length xs → P (get_or xs i d)) → Every P xs
@@ -86,16 +88,16 @@ headed : (y : Spec) → fault y ≡ None → (hs : List ℕ) → AreHeads y hs �
 headed y kept hs heads =
     every_from (IsHeaded y) no_rule y.rules (λ i lt. (let h = heads.each i no_rule lt in ap (is_variable y) h.head ∙ (facts y kept).symbol_is_none (get_or hs i 0) h.declared))
 
--- all symbols have trees, or none
-pub trees_done : (y : Spec) → fault y ≡ None → (ns : List ℕ) (ps : Parts) (f g : Forest) (roots hs : List ℕ) (n : ℕ) → AreHeads y hs → HasTrees y ns ps f roots n → n ≡ length (symbols y)
-    → g.nodes.items ≡ f.nodes.items → g.places.items ≡ f.places.items → g.children.items ≡ f.children.items → g.roots.items ≡ roots → IsForest y ns g
+-- all symbols have trees
+pub trees_done : (y : Spec) → fault y ≡ None → (ns : List ℕ) (ps : Parts) (f g : Forest) (roots : List (List ℕ)) (hs : List ℕ) (n : ℕ) → AreHeads y hs → HaveTrees y ns ps f roots n → n ≡ length (symbols y)
+    → g.nodes.items ≡ f.nodes.items → g.places.items ≡ f.places.items → g.children.items ≡ f.children.items → map (λ v. v.items) g.roots.items ≡ roots → IsForest y ns g
 trees_done y kept ns ps f g roots hs n heads h e nodes places children is = grown_forest y ns g (record {
   headed = headed y kept hs heads;
   states = h.states;
   nodes = λ m lt. (let l = ap length nodes in let below : m < length f.nodes.items = omega (arith, lt, l) in subst (Grows y ns g h.states m) (sym (ap (λ xs. get_or xs m Fail) nodes)) (grows_later y ns f g h.states h.states same m (get_or f.nodes.items m Fail) below (grown m (h.growing.nodes m below))));
-  counted = ap length is ∙ h.counted ∙ e;
-  there = λ k lt there. (let o = stands k lt there in let o0 = o.0 in let l = ap length nodes in omega (arith, o0, l));
-  roots = λ k lt there. (stands k lt there).1;
+  counted = sym (length-map g.roots.items (λ v. v.items)) ∙ ap length is ∙ h.counted ∙ e;
+  roots = λ k lt. subst (λ xs. StandFor g h.states (arity_of y k) (get_or xs k []) (whole_rows y k)) (sym is)
+      (stand_later y ns f g h.states h.states same (arity_of y k) (get_or roots k []) (whole_rows y k) (h.stand k (omega (arith, lt, e))));
 })
   where
     same : Extends f h.states g h.states
@@ -111,9 +113,6 @@ trees_done y kept ns ps f g roots hs n heads h e nodes places children is = grow
     grown : (m : ℕ) → Waits [] m ⊎ Grows y ns f h.states m (get_or f.nodes.items m Fail) → Grows y ns f h.states m (get_or f.nodes.items m Fail)
     grown m (inl w) = absurd w
     grown m (inr r) = r
-
-    stands : (k : ℕ) → k < length (symbols y) → get_or g.roots.items k 0 ≢ 0 → (get_or g.roots.items k 0 < length f.nodes.items) × (h.states (get_or g.roots.items k 0) ≡ whole_state y k)
-    stands k lt = subst (λ xs. get_or xs k 0 ≢ 0 → (get_or xs k 0 < length f.nodes.items) × (h.states (get_or xs k 0) ≡ whole_state y k)) (sym is) (h.stands k (omega (arith, lt, e)))
 
 abbrev no_symbol : bank.Symbol
 no_symbol = record { 0 = 0 }

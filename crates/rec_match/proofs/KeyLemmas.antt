@@ -21,10 +21,9 @@ use Rattle.rec_match.specs.Ordered.{keys, has, with_name, names_in, among, with_
 use Rattle.rec_match.specs.Rows.{values_of}
 use Rattle.rec_match.specs.Walking.{walk, walk_all}
 use Rattle.rec_match.specs.Bound.{with_one, opened, bound, goes_on}
-use Rattle.rec_match.proofs.FactLemmas.{facts, every_append, every_joined, every_map, variable_is_one}
+use Rattle.rec_match.proofs.FactLemmas.{AreBare, facts, every_append, every_joined, every_map, variable_is_one}
 use Rattle.rec_match.proofs.PairedLemmas.{AreVariables, every-snoc}
 use Rattle.rec_match.proofs.WalkLemmas.{walk_binds}
-use Rattle.rec_match.proofs.TrialLemmas.{AreBare}
 
 -- each name has its own value
 abbrev pub IsKeyed : Substitution → Type 0
@@ -129,14 +128,6 @@ mutual
 -- what a left side binds: each name has its own value, and they stand in the order of first occurrence
 pub binds-keys : (y : Spec) (l : Term) (u : Tree) (s : Substitution) → AreBare y (named l) → binds y l u ≡ Some s → IsKeyed s × (keys s ≡ names_in y [] (named l))
 binds-keys y l u s bare e = walk-keys y l u [] s bare tt (walk_binds y l u ∙ e)
-
-read-all : (s bs : Substitution) → Every (λ (b : Bound). value_of s b.name ≡ Some b.value) bs → values_of bs ≡ map (λ n. or_empty (value_of s n)) (keys bs)
-read-all s [] h = refl
-read-all s (b ∷ bs) h = ap (λ v. v ∷ values_of bs) (ap or_empty (sym h.0)) ∙ ap (λ vs. or_empty (value_of s b.name) ∷ vs) (read-all s bs h.1)
-
--- the values in order are those of the names
-pub values-read : (s : Substitution) → IsKeyed s → values_of s ≡ map (λ n. or_empty (value_of s n)) (keys s)
-values-read s h = read-all s s h
 
 module _ (y : Spec) (kept : fault y ≡ None) where
   variable-name : ℕ → List ℕ

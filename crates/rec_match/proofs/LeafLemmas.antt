@@ -1,8 +1,8 @@
 -- The places of variables by their numbers are those by their names.
-use Rattle.std.proofs.Common.{refl, sym, ap, subst, ◌∙◌}
+use Rattle.std.proofs.Common.{refl, sym, ap, subst, arith, ◌∙◌, append_assoc}
 use Rattle.std.proofs.lemmas.Bool.{eqb-true, eq-eqb}
 use Rattle.std.proofs.lemmas.List.{map-append}
-use Rattle.std.specs.Prelude.{ℕ, suc, ◌<◌, ◌≡◌, Bool, true, false, List, [], ◌∷◌, ◌++◌, Option, Some, None, map, nat_eq, bytes_eq}
+use Rattle.std.specs.Prelude.{ℕ, zero, suc, ◌<◌, ◌≡◌, Bool, true, false, List, [], ◌∷◌, ◌++◌, Option, Some, None, Contains, map, nat_eq, bytes_eq}
 use Rattle.std.specs.Option.{option_map}
 use Rattle.rec_syntax.specs.Syntax.{Term, Apply, Spec}
 use Rattle.rec_syntax.specs.Syntax as R
@@ -18,7 +18,8 @@ use Rattle.rec_match.specs.declared.forest.Place.TheVariants.{First, Again}
 use Rattle.rec_match.specs.declared.parts.Code.{Code}
 use Rattle.rec_match.specs.declared.parts.Parts.{Parts}
 use Rattle.rec_match.specs.Parts.{part_at, IsHead, IsPart, IsCell, AreCells, AreDistinctVariables}
-use Rattle.rec_match.specs.Leaves.{number_position, code_places}
+use Rattle.rec_match.specs.Leaves.{number_position, code_places, PlacesValue}
+use Rattle.rec_match.specs.Matching.{FirstAt}
 use Rattle.rec_sorts.proofs.KeptLemmas.{bytes_eq-eq}
 use Rattle.rec_sorts.proofs.BindingLemmas.{bytes_eq-refl}
 
@@ -117,3 +118,48 @@ module _ (y : Spec) (distinct : AreDistinctVariables y) where
 
           same_register : of_register c.register ≡ pl → of_register d.register ≡ pl
           same_register e = ap of_register (sym h.0.0) ∙ e
+
+-- the first place of a number
+pub position_at : (vs : List ℕ) (v p : ℕ) → FirstAt vs v p → number_position vs v ≡ Some p
+position_at [] v p h = absurd h
+position_at (x ∷ vs) v zero h = ap (λ b. elim b as (λ _. Option ℕ) [ true ↦ Some 0 | false ↦ option_map (λ k. suc k) (number_position vs v) ]) (eq-eqb x v h)
+position_at (x ∷ vs) v (suc p) h = by (nat_eq x v) refl (position_at vs v p h.1)
+  where
+    by : (b : Bool) → nat_eq x v ≡ b → number_position vs v ≡ Some p → ◌≡◌ {A = Option ℕ} (elim b [ true ↦ Some 0 | false ↦ option_map (λ k. suc k) (number_position vs v) ]) (Some (suc p))
+    by true e later = absurd (h.0 (eqb-true x v e))
+    by false e later = ap (option_map (λ k. suc k)) later
+
+pub position_none : (vs : List ℕ) (v : ℕ) → (Contains vs v → ⊥) → number_position vs v ≡ None
+position_none [] v out = refl
+position_none (x ∷ vs) v out = by (nat_eq x v) refl (position_none vs v (λ c. out (suc c.0, (let l = c.1 in omega (arith, l)), c.2)))
+  where
+    by : (b : Bool) → nat_eq x v ≡ b → number_position vs v ≡ None → ◌≡◌ {A = Option ℕ} (elim b [ true ↦ Some 0 | false ↦ option_map (λ k. suc k) (number_position vs v) ]) None
+    by true e later = absurd (out (zero, omega arith, eqb-true x v e))
+    by false e later = ap (option_map (λ k. suc k)) later
+
+module _ (ps : Parts) (c : Code) (vs : List ℕ) (v : ℕ) (meant : (part_at ps c.part).meaning ≡ Variable v) where
+  placed_at : (cs : List Code) (o : Option ℕ) → number_position vs v ≡ o
+      → code_places ps vs (c ∷ cs) ≡ elim o [ None ↦ option_map (λ es. First c.register ∷ es) (code_places ps (vs ++ v ∷ []) cs) | Some k ↦ option_map (λ es. Again c.register k ∷ es) (code_places ps vs cs) ]
+  placed_at cs o e = ap by_meaning meant ∙ ap by_position e
+    where
+      by_position : Option ℕ → Option (List Place)
+      by_position o = elim o [ None ↦ option_map (λ es. First c.register ∷ es) (code_places ps (vs ++ v ∷ []) cs) | Some k ↦ option_map (λ es. Again c.register k ∷ es) (code_places ps vs cs) ]
+
+      by_meaning : Meaning → Option (List Place)
+      by_meaning m = elim m [
+        | Symbol k ↦ None
+        | Variable u ↦ elim (number_position vs u) [ None ↦ option_map (λ es. First c.register ∷ es) (code_places ps (vs ++ u ∷ []) cs) | Some k ↦ option_map (λ es. Again c.register k ∷ es) (code_places ps vs cs) ]
+      ]
+
+  behind_one : (old new : List Place) (p : Place) → new ≡ old ++ p ∷ [] → (o : Option (List Place)) → option_map (λ es. old ++ es) (option_map (λ es. p ∷ es) o) ≡ option_map (λ es. new ++ es) o
+  behind_one old new p e None = refl
+  behind_one old new p e (Some es) = ap Some (sym (ap (λ xs. xs ++ es) e ∙ append_assoc old (p ∷ []) es))
+
+  -- one value more
+  pub placed_again : (old new : List Place) (p : ℕ) → FirstAt vs v p → new ≡ old ++ Again c.register p ∷ [] → PlacesValue ps c vs old vs new
+  placed_again old new p at e cs = ap (option_map (λ es. old ++ es)) (placed_at cs (Some p) (position_at vs v p at)) ∙ behind_one old new (Again c.register p) e (code_places ps vs cs)
+
+  pub placed_first : (us : List ℕ) (old new : List Place) → (Contains vs v → ⊥) → us ≡ vs ++ v ∷ [] → new ≡ old ++ First c.register ∷ [] → PlacesValue ps c vs old us new
+  placed_first us old new out eu e cs =
+      ap (option_map (λ es. old ++ es)) (placed_at cs None (position_none vs v out)) ∙ behind_one old new (First c.register) e (code_places ps (vs ++ v ∷ []) cs)
+      ∙ ap (λ xs. option_map (λ es. new ++ es) (code_places ps xs cs)) (sym eu)

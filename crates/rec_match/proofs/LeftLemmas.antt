@@ -160,10 +160,10 @@ left_kept y ps r width marks of coded rows whole marked h = record {
 }
 
 -- codes whose parts are there
-is_code : (ps : Parts) → IsWhole ps → (c : Code) → c.part < length ps.parts.items → IsCode ps c
+pub is_code : (ps : Parts) → IsWhole ps → (c : Code) → c.part < length ps.parts.items → IsCode ps c
 is_code ps whole c lt = record { there = lt; ordered = whole.ordered c.part lt; within = whole.within c.part lt }
 
-codes_there : (ps : Parts) → IsWhole ps → (cs : List Code) → AreThere (length ps.parts.items) cs → All (IsCode ps) cs
+pub codes_there : (ps : Parts) → IsWhole ps → (cs : List Code) → AreThere (length ps.parts.items) cs → All (IsCode ps) cs
 codes_there ps whole [] h k d lt = absurd (let bad : ⊥ = omega (arith, lt) in bad)
 codes_there ps whole (c ∷ cs) h zero d lt = is_code ps whole c h.0
 codes_there ps whole (c ∷ cs) h (suc k) d lt = codes_there ps whole cs h.1 k d (omega (arith, lt))

@@ -13,16 +13,14 @@ use Rattle.rec_sorts.specs.Laws.{Every}
 use Rattle.rec_sorts.specs.Numbering.{Named, named, named_all, name_of, named_by, bytes_at, IsMeaning, AreLetters, arity_of, Pairwise, IsLetterRule}
 use Rattle.rec_sorts.specs.declared.letters.Letter.{Letter}
 use Rattle.rec_sorts.specs.declared.letters.LetterRule.{LetterRule}
-use Rattle.rec_sorts.specs.declared.letters.Meaning.{Meaning}
 use Rattle.rec_sorts.specs.declared.letters.Meaning.TheVariants.{Symbol, Variable}
 use Rattle.rec_sorts.proofs.KeptLemmas.{all_filled, left_sides_apply, bytes_eq-eq}
 use Rattle.rec_sorts.proofs.BindingLemmas.{bytes_eq-refl}
-use Rattle.rx_term.specs.declared.Symbol as bank
 use Rattle.rec_match.specs.declared.matcher.LeftSide.{LeftSide}
-use Rattle.rec_match.specs.Matching.{AreFilled, AreTested}
-use Rattle.rec_match.specs.Built.{IsHead, IsWithin, IsBelow, IsLeftSide}
-use Rattle.rec_match.proofs.FactLemmas.{facts, every_append, every_flat, every_named, variable_is_one}
-use Rattle.rec_match.proofs.TrialLemmas.{AreBare}
+use Rattle.rec_match.specs.Matching.{AreFilled}
+use Rattle.rec_match.specs.Built.{IsHead, IsLeftSide}
+use Rattle.rec_match.specs.Ordered.{numbers_in, AreAllBelow}
+use Rattle.rec_match.proofs.FactLemmas.{AreBare, facts, every_append, every_flat, every_named, variable_is_one}
 use Rattle.rec_match.proofs.ItemLemmas.{get-last}
 
 pub every-at : {A : Type 0} (P : A → Type 0) (xs : List A) → Every P xs → (i : ℕ) (d : A) → i < length xs → P (get_or xs i d)
@@ -173,9 +171,9 @@ head-no_variable y kept rules i n v x l r are lt en el is =
     cc (sym (every-at (λ (r : Rule). is_variable y (X.head r.left).bytes ≡ false) y.rules (left_sides_apply y kept) i r (omega (arith, lt, long))) ∙ ap (is_variable y) name ∙ variable_is_one y v within)
 
 -- what is kept of a rule's left side
-pub is-left : (y : Spec) → fault y ≡ None → (ss : List bank.Symbol) (rules : List LetterRule) (i n : ℕ) (x : LetterRule) (l : Letter) (r : Rule) (s : LeftSide) → Pairwise (IsLetterRule y) rules y.rules → i < length rules → n ≡ length (get_or rules i x).left.items - 1
-    → l ≡ get_or (get_or rules i x).left.items n l → IsHead y (get_or y.rules i r) s.symbol → s.count ≡ l.count → AreTested ss (take n (get_or rules i x).left.items) s.tests.items s.variables.items s.order.items → IsLeftSide y ss (get_or y.rules i r) s
-is-left y kept ss rules i n x l r s are lt en el head ec tests =
+pub is-left : (y : Spec) → fault y ≡ None → (rules : List LetterRule) (i n : ℕ) (x : LetterRule) (l : Letter) (r : Rule) (s : LeftSide) → Pairwise (IsLetterRule y) rules y.rules → i < length rules → n ≡ length (get_or rules i x).left.items - 1
+    → l ≡ get_or (get_or rules i x).left.items n l → IsHead y (get_or y.rules i r) s.symbol → s.count ≡ l.count → s.variables.items ≡ numbers_in [] (take n (get_or rules i x).left.items) → IsLeftSide y (get_or y.rules i r) s
+is-left y kept rules i n x l r s are lt en el head ec variables =
     let letters = left-letters y rules i x r are lt in
     let t = (get_or y.rules i r).left in
     let ls = (get_or rules i x).left.items in
@@ -195,16 +193,12 @@ is-left y kept ss rules i n x l r s are lt en el head ec tests =
       meant = all-reverse (λ (l : Letter). IsMeaning y l.meaning) (take n ls) meant;
       named = front;
       filled_letters = all-reverse (λ (l : Letter). (k : ℕ) → l.meaning ≡ Symbol k → arity_of y k ≡ l.count) (take n ls) (letters-filled y (take n ls) meant (subst (λ ms. Every (IsFilledName y) ms) (sym front) halves.0));
-      tests = tests;
+      variables = variables;
     }
   where
     names-split : (t : Term) → Every (IsFilledName y) (named t) → Every (IsFilledName y) (named_all (X.arguments t)) × IsFilledName y (record { name = (X.head t).bytes; arguments = count (X.arguments t) })
     names-split (Apply w ts) h = let k = every_append (IsFilledName y) (named_all ts) (record { name = w.bytes; arguments = count ts } ∷ []) h in (k.0, k.1.0)
 
--- letters within a specification's symbols and variables
-pub letters-within : (y : Spec) (s v : ℕ) (ls : List Letter) → s ≡ length (symbols y) → v ≡ length (variable_words y.variables) → All (λ l. IsMeaning y l.meaning) ls → All (IsWithin s v) ls
-letters-within y s v ls es ev meant k d lt = by (get_or ls k d).meaning (meant k d lt)
-  where
-    by : (m : Meaning) → IsMeaning y m → IsBelow s v m
-    by (Symbol k) h = omega (arith, h, es)
-    by (Variable k) h = omega (arith, h, ev)
+-- the variables of letters are those of a specification
+pub letters-below : (y : Spec) (v : ℕ) (ls : List Letter) → v ≡ length (variable_words y.variables) → All (λ l. IsMeaning y l.meaning) ls → AreAllBelow v ls
+letters-below y v ls ev meant k d lt x is = let h : IsMeaning y (Variable x) = subst (IsMeaning y) is (meant k d lt) in omega (arith, h, ev)

@@ -1,14 +1,10 @@
 pub mod BoundLemmas
-pub mod TrialLemmas
 pub mod FactLemmas
-pub mod OpenLemmas
 pub mod PairedLemmas
-pub mod AskLemmas
 pub mod FillLemmas
 pub mod FindLemmas
 pub mod ItemLemmas
 pub mod PlaceLemmas
-pub mod BuildLemmas
 pub mod LetterLemmas
 pub mod SkipLemmas
 pub mod ApartLemmas
@@ -33,6 +29,7 @@ pub mod StepLemmas
 pub mod TaskLemmas
 pub mod BranchLemmas
 pub mod TreeLemmas
+pub mod PathLemmas
 pub mod GroundLemmas
 pub mod PushLemmas
 pub mod RuleLemmas

@@ -53,3 +53,7 @@ pub record ClearedTo (vs : List ℕ) (n i : ℕ) (ps : List (Option ℕ)) : Type
 
 pub cleared-first : (vs : List ℕ) (n : ℕ) (ps : List (Option ℕ)) → OnlyPlaced vs n ps → ClearedTo vs n 0 ps
 cleared-first vs n ps so = record { counted = so.counted; each = so.others }
+
+-- the places are as many as there are
+pub own-places : (vs : List ℕ) (n : ℕ) (ps : List (Option ℕ)) → ArePlacesIn vs n ps → ArePlacesIn vs (length ps) ps
+own-places vs n ps h = subst (λ m. ArePlacesIn vs m ps) (sym h.counted) h

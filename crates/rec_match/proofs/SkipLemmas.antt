@@ -1,33 +1,32 @@
 -- A matcher that is made of the left sides of a specification's rules.
-use Rattle.std.proofs.Common.{refl, sym, ap, subst, arith, ◌∙◌, inl, inr, length, length-append, drop, reverse}
+use Rattle.std.proofs.Common.{refl, sym, ap, subst, arith, ◌∙◌, inl, inr, length, length-append, drop}
 use Rattle.std.specs.Prelude.{ℕ, zero, suc, ◌≡◌, ◌≢◌, ◌<◌, ◌≤◌, ◌+◌, ◌-◌, ◌⊎◌, Bool, true, false, ◌&&◌, not, List, [], ◌∷◌, ◌++◌, Option, Some, None, get_or, nat_eq, bytes_eq}
 use Rattle.std.specs.Bool.{beq}
 use Rattle.std.proofs.lemmas.Bool.{cases_eq}
-use Rattle.std.proofs.lemmas.List.{reverse-append, get_or-map}
+use Rattle.std.proofs.lemmas.List.{get_or-map}
 use Rattle.rx_term.specs.Name.{plain_name}
-use Rattle.rx_term.specs.Tree.{Trees, none, trees_eq, count_of}
+use Rattle.rx_term.specs.Tree.{Tree, Trees, none, trees_eq, count_of}
 use Rattle.rx_term.specs.declared.Symbol as bank
 use Rattle.rec_syntax.specs.Syntax.{Spec, Rule, Apply, head}
 use Rattle.rec_syntax.specs.Syntax as X
-use Rattle.rec_sorts.specs.Lookup.{symbols, count}
+use Rattle.rec_sorts.specs.Lookup.{symbols, count, is_variable}
 use Rattle.rec_sorts.specs.SpecRules.{fault}
 use Rattle.rec_sorts.specs.Binding.{Substitution, application, binds, first_match}
-use Rattle.rec_sorts.specs.Numbering.{named, named_all, name_of, arity_of}
+use Rattle.rec_sorts.specs.Numbering.{name_of, arity_of}
 use Rattle.rec_sorts.specs.declared.letters.Meaning.TheVariants.{Symbol}
 use Rattle.rec_sorts.proofs.KeptLemmas.{bytes_eq-eq}
-use Rattle.rec_match.specs.Asking.{asked, stack_on}
+use Rattle.rec_match.specs.Walking.{walk_all}
 use Rattle.rec_match.specs.Bound.{opened, bound, goes_on}
 use Rattle.rec_match.specs.Chains.{IsNext, AreChainsFrom}
 use Rattle.rec_match.specs.Built.{IsHead, AreHeads, IsLeftSide, AreSides}
-use Rattle.rec_match.specs.Matching.{IsMatcher, IsSide, Skips, HeadAt, AreTested, symbol_at, count_at, next_at, tests_at, variables_at, order_at}
+use Rattle.rec_match.specs.Matching.{IsMatcher, IsSide, Skips, HeadAt, symbol_at, count_at, next_at, variables_at}
 use Rattle.rec_match.specs.Forests.{IsForest}
 use Rattle.rec_match.specs.Tasks.{numbers_of}
 use Rattle.rec_match.specs.declared.matcher.Matcher.{Matcher}
 use Rattle.rec_match.specs.declared.matcher.LeftSide.{LeftSide}
-use Rattle.rec_match.proofs.FactLemmas.{facts, RuleFacts}
-use Rattle.rec_match.proofs.TrialLemmas.{AreBare, AgreeOn, asked_binds}
+use Rattle.rec_match.proofs.FactLemmas.{facts}
+use Rattle.rec_match.proofs.WalkLemmas.{walk_binds}
 use Rattle.rec_match.proofs.FindLemmas.{first-passed}
-use Rattle.rec_match.proofs.LetterLemmas.{every-at}
 use Rattle.std.proofs.lemmas.List.{get_or_default}
 use Rattle.rec_match.proofs.ItemLemmas.{get-front, get-last}
 
@@ -38,10 +37,14 @@ opened-other a b c vs e = ap at e
     at t = elim ((t && beq (not (plain_name a)) (not (plain_name b)) && trees_eq vs vs && trees_eq none none) && nat_eq (count_of vs) c) [ true ↦ Some vs | false ↦ None ]
 
 -- a left side matches no application of another symbol
-pub other-head : (y : Spec) → fault y ≡ None → (l : X.Term) (j k : ℕ) → j < length (symbols y) → k < length (symbols y) → (head l).bytes ≡ name_of y (Symbol j) → j ≢ k → AreBare y (named l) → (vs : Trees) → binds y l (application (name_of y (Symbol k)) vs) ≡ None
-other-head y kept (Apply w ts) j k ltj ltk e apart bare vs =
-    by (binds y (Apply w ts) (application (name_of y (Symbol k)) vs)) (subst (λ o. AgreeOn o (binds y (Apply w ts) (application (name_of y (Symbol k)) vs))) whole (asked_binds y (Apply w ts) (application (name_of y (Symbol k)) vs) bare))
+pub other-head : (y : Spec) → fault y ≡ None → (l : X.Term) (j k : ℕ) → j < length (symbols y) → k < length (symbols y) → (head l).bytes ≡ name_of y (Symbol j) → j ≢ k → (vs : Trees) → binds y l (application (name_of y (Symbol k)) vs) ≡ None
+other-head y kept (Apply w ts) j k ltj ltk e apart vs =
+    sym (walk_binds y (Apply w ts) u) ∙ ap at (ap (is_variable y) e ∙ (facts y kept).symbol_is_none j ltj)
+    ∙ ap (λ o. goes_on o (λ us. walk_all y ts us [])) (ap (λ n. opened n (count ts) u) e ∙ opened-other (name_of y (Symbol j)) (name_of y (Symbol k)) (count ts) vs differ)
   where
+    u : Tree
+    u = application (name_of y (Symbol k)) vs
+
     differ : bytes_eq (name_of y (Symbol j)) (name_of y (Symbol k)) ≡ false
     differ = by_test (bytes_eq (name_of y (Symbol j)) (name_of y (Symbol k))) refl
       where
@@ -50,21 +53,7 @@ other-head y kept (Apply w ts) j k ltj ltk e apart bare vs =
         by_test true q = absurd (apart ((facts y kept).symbols_differ j k ltj ltk (bytes_eq-eq (name_of y (Symbol j)) (name_of y (Symbol k)) q)))
 
     at : Bool → Option Substitution
-    at b = elim b [
-      | true ↦ goes_on (bound [] (name_of y (Symbol j)) (application (name_of y (Symbol k)) vs)) (λ r. asked y (reverse (named_all ts)) [] r)
-      | false ↦ goes_on (opened (name_of y (Symbol j)) (count ts) (application (name_of y (Symbol k)) vs)) (λ us. asked y (reverse (named_all ts)) (stack_on us []) [])
-    ]
-
-    whole : asked y (reverse (named (Apply w ts))) (application (name_of y (Symbol k)) vs ∷ []) [] ≡ None
-    whole =
-        ap (λ ms. asked y ms (application (name_of y (Symbol k)) vs ∷ []) []) (reverse-append (named_all ts) (record { name = w.bytes; arguments = count ts } ∷ []))
-        ∙ ap (λ n. asked y (record { name = n; arguments = count ts } ∷ reverse (named_all ts)) (application (name_of y (Symbol k)) vs ∷ []) []) e
-        ∙ ap at ((facts y kept).symbol_is_none j ltj)
-        ∙ ap (λ o. goes_on o (λ us. asked y (reverse (named_all ts)) (stack_on us []) [])) (opened-other (name_of y (Symbol j)) (name_of y (Symbol k)) (count ts) vs differ)
-
-    by : (o : Option Substitution) → AgreeOn None o → o ≡ None
-    by None a = refl
-    by (Some s) a = absurd a
+    at b = elim b [ true ↦ bound [] w.bytes u | false ↦ goes_on (opened w.bytes (count ts) u) (λ us. walk_all y ts us []) ]
 
 pub no_rule : Rule
 no_rule = record { left = Apply (record { at = 0; bytes = [] }) X.none; right = Apply (record { at = 0; bytes = [] }) X.none; conditions = [] }
@@ -75,9 +64,8 @@ skipped y kept fs heads k from at zero lt e le others vs = ap (λ j. first_match
 skipped y kept fs heads k from at (suc n) lt e le others vs =
     let within : from < length y.rules = omega (arith, e, le) in
     let h = heads.each from no_rule within in
-    let bare = (every-at (RuleFacts y) y.rules (facts y kept).rules from no_rule within).left in
     first-passed y from (application (name_of y (Symbol k)) vs) no_rule within
-    (other-head y kept (get_or y.rules from no_rule).left (get_or fs from 0) k h.declared lt h.head (others from (omega arith) (omega (arith, e))) bare vs)
+    (other-head y kept (get_or y.rules from no_rule).left (get_or fs from 0) k h.declared lt h.head (others from (omega arith) (omega (arith, e))) vs)
     ∙ skipped y kept fs heads k (suc from) at n lt (omega (arith, e)) le (λ j l q. others j (omega (arith, l)) q) vs
 
 pub skips-next : (y : Spec) → fault y ≡ None → (fs : List ℕ) → AreHeads y fs → (k from at : ℕ) → k < length (symbols y) → IsNext fs k from at → Skips y (name_of y (Symbol k)) from at
@@ -96,7 +84,7 @@ pub one-head : (y : Spec) → fault y ≡ None → (r : Rule) (j k : ℕ) → Is
 one-head y kept r j k a b = (facts y kept).symbols_differ j k a.declared b.declared (sym a.head ∙ b.head)
 
 -- the first sides make the matcher
-pub matcher-built : (y : Spec) → fault y ≡ None → (ss : List bank.Symbol) (fs nexts : List ℕ) (m : Matcher) (n : ℕ) → m.links ≡ ss → AreHeads y fs → AreChainsFrom fs (length (symbols y)) 0 m.heads.items nexts → AreSides y ss fs nexts m.sides.items n → n ≡ length y.rules → IsForest y (numbers_of ss) m.forest → IsMatcher y ss m
+pub matcher-built : (y : Spec) → fault y ≡ None → (ss : List bank.Symbol) (fs nexts : List ℕ) (m : Matcher) (n : ℕ) → m.links ≡ ss → AreHeads y fs → AreChainsFrom fs (length (symbols y)) 0 m.heads.items nexts → AreSides y fs nexts m.sides.items n → n ≡ length y.rules → IsForest y (numbers_of ss) m.forest → IsMatcher y ss m
 matcher-built y kept ss fs nexts m n links heads chains made en forest = record {
   kept = kept;
   linked = links;
@@ -128,9 +116,7 @@ matcher-built y kept ss fs nexts m n links heads chains made en forest = record 
         let is = made.each i r d below in
         let es : symbol_at m i ≡ s.symbol = get_or-map (λ (s : LeftSide). s.symbol) m.sides.items i d 0 within in
         let ec : count_at m i ≡ s.count = get_or-map (λ (s : LeftSide). s.count) m.sides.items i d 0 within in
-        let et : tests_at m i ≡ s.tests.items = get_or-map (λ (s : LeftSide). s.tests.items) m.sides.items i d [] within in
         let ev : variables_at m i ≡ s.variables.items = get_or-map (λ (s : LeftSide). s.variables.items) m.sides.items i d [] within in
-        let eo : order_at m i ≡ s.order.items = get_or-map (λ (s : LeftSide). s.order.items) m.sides.items i d [] within in
         let ex : next_at m i ≡ get_or nexts i 0 = get_or-map (λ (s : LeftSide). s.next) m.sides.items i d 0 within ∙ made.nexts_of i d below in
         let ef : symbol_at m i ≡ get_or fs i 0 = symbol-is i below in
         let declared : symbol_at m i < length (symbols y) = subst (λ k. k < length (symbols y)) (sym es) is.is_head.declared in
@@ -145,20 +131,19 @@ matcher-built y kept ss fs nexts m n links heads chains made en forest = record 
           meant = is.meant;
           named = is.named;
           filled_letters = is.filled_letters;
-          tests = subst (λ ts. AreTested ss is.letters ts (variables_at m i) (order_at m i)) (sym et)
-              (subst (λ vs. AreTested ss is.letters s.tests.items vs (order_at m i)) (sym ev) (subst (AreTested ss is.letters s.tests.items s.variables.items) (sym eo) is.tests));
+          variables = ev ∙ is.variables;
           later = omega (arith, after);
           skips = skips-next y kept fs heads (symbol_at m i) (suc i) (next_at m i) declared next;
           next = head-at (symbol_at m i) (suc i) (next_at m i) next;
         }
 
 -- one side more
-pub sides-next : (y : Spec) (ss : List bank.Symbol) (fs nexts : List ℕ) (sides sides' : List LeftSide) (n : ℕ) (s : LeftSide) → AreSides y ss fs nexts sides n → sides' ≡ sides ++ s ∷ [] → ((r : Rule) → IsLeftSide y ss (get_or y.rules n r) s) → s.symbol ≡ get_or fs n 0 → s.next ≡ get_or nexts n 0 → AreSides y ss fs nexts sides' (n + 1)
-sides-next y ss fs nexts sides sides' n s made e own symbol next = record {
+pub sides-next : (y : Spec) (fs nexts : List ℕ) (sides sides' : List LeftSide) (n : ℕ) (s : LeftSide) → AreSides y fs nexts sides n → sides' ≡ sides ++ s ∷ [] → ((r : Rule) → IsLeftSide y (get_or y.rules n r) s) → s.symbol ≡ get_or fs n 0 → s.next ≡ get_or nexts n 0 → AreSides y fs nexts sides' (n + 1)
+sides-next y fs nexts sides sides' n s made e own symbol next = record {
   long = (let l = ap length e ∙ length-append sides (s ∷ []) in let g = made.long in omega (arith, l, g));
   each = λ i r d lt. (let p : At i d = place i d lt in elim p [
-    | inl q ↦ subst (λ j. IsLeftSide y ss (get_or y.rules j r) (get_or sides' j d)) (sym q.0) (subst (IsLeftSide y ss (get_or y.rules n r)) (sym (last d)) (own r))
-    | inr q ↦ subst (IsLeftSide y ss (get_or y.rules i r)) (sym q.1) (made.each i r d q.0)
+    | inl q ↦ subst (λ j. IsLeftSide y (get_or y.rules j r) (get_or sides' j d)) (sym q.0) (subst (IsLeftSide y (get_or y.rules n r)) (sym (last d)) (own r))
+    | inr q ↦ subst (IsLeftSide y (get_or y.rules i r)) (sym q.1) (made.each i r d q.0)
   ]);
   symbols_of = λ i d lt. (let p : At i d = place i d lt in elim p [
     | inl q ↦ ap (λ j. (get_or sides' j d).symbol) q.0 ∙ ap (λ (x : LeftSide). x.symbol) (last d) ∙ symbol ∙ ap (λ j. get_or fs j 0) (sym q.0)

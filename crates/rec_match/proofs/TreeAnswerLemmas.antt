@@ -1,4 +1,4 @@
--- What a symbol's tree finds is what the trial of its rules finds.
+-- What a symbol's trees find is the first rule that matches among those from a number on.
 use Rattle.std.proofs.Common.{sym, ap, subst, arith, ◌∙◌, inl, inr, drop, length}
 use Rattle.std.specs.Prelude.{ℕ, ◌≡◌, ◌≢◌, ◌<◌, ◌≤◌, ◌-◌, ◌+◌, ◌⊎◌, List, Option, Some, None, get_or}
 use Rattle.std.proofs.lemmas.Bool.{cases_eq}
@@ -15,7 +15,7 @@ use Rattle.rec_sorts.specs.Linked.{AreLinked}
 use Rattle.rec_sorts.specs.Numbering.{name_of, arity_of}
 use Rattle.rec_sorts.specs.declared.letters.Meaning.TheVariants.{Symbol}
 use Rattle.rec_match.specs.Forests as forests
-use Rattle.rec_match.specs.Forests.{AreNumbers, CanRun, Runs, root_at}
+use Rattle.rec_match.specs.Forests.{AreNumbers, CanRun, Runs}
 use Rattle.rec_match.specs.Matching.{IsMatcher, IsSide, CanFind, FindsFor, symbol_at}
 use Rattle.rec_match.specs.Tasks.{numbers_of}
 use Rattle.rec_match.specs.declared.matcher.Matcher.{Matcher}
@@ -41,16 +41,15 @@ args-long w m k n at work args can ea =
     let le = can.long in
     omega (arith, l, le)
 
--- the tree of a symbol can be run
-pub can-run : (w : Store) (m : Matcher) (k n at : ℕ) (work args : List Term) → CanFind w m k n at work → args ≡ drop (length work - n) work → root_at m.forest k ≢ 0 → CanRun w m.forest k (length args)
-can-run w m k n at work args can ea grown = record {
+-- the trees of a symbol can be run
+pub can-run : (w : Store) (m : Matcher) (k n at : ℕ) (work args : List Term) → CanFind w m k n at work → args ≡ drop (length work - n) work → CanRun w m.forest k (length args)
+can-run w m k n at work args can ea = record {
   spec = can.spec;
   numbers = numbers_of can.symbols;
   linked = linked-numbers can.spec w can.symbols can.linked;
   forest = can.matcher.forest;
   declared = can.declared;
   counted = args-long w m k n at work args can ea ∙ can.counted;
-  grown = grown;
 }
 
 -- a rule that matches an application of a symbol is one of the symbol's
@@ -63,12 +62,12 @@ own-rule y ss m matcher k i ltk lt args s binding = by (cases_eq (symbol_at m i)
 
     by : (symbol_at m i ≡ k) ⊎ (symbol_at m i ≢ k) → symbol_at m i ≡ k
     by (inl e) = e
-    by (inr ne) = absurd (cc (sym (other-head y matcher.kept (get_or y.rules i no_rule).left (symbol_at m i) k side.declared ltk side.head ne (every-at (RuleFacts y) y.rules (facts y matcher.kept).rules i no_rule lt).left (from_list args)) ∙ binding))
+    by (inr ne) = absurd (cc (sym (other-head y matcher.kept (get_or y.rules i no_rule).left (symbol_at m i) k side.declared ltk side.head ne (from_list args)) ∙ binding))
 
 module _ (w : Store) (m : Matcher) (k n at : ℕ) (work args bind : List Term) (found : Option ℕ) (can : CanFind w m k n at work) (ea : args ≡ drop (length work - n) work) (runs : Runs w m.forest k at args bind found) where
-  -- behind the last rule the tree finds none
-  tree-finds-none : length m.sides.items ≤ at → FindsFor w m at work bind found
-  tree-finds-none le y ss below own j linked matcher ltj head split counted =
+  -- behind the last rule the trees find none
+  trees-find-none : length m.sides.items ≤ at → FindsFor w m at work bind found
+  trees-find-none le y ss below own j linked matcher ltj head split counted =
       by found (runs can.spec (numbers_of can.symbols) (linked-numbers can.spec w can.symbols can.linked) can.matcher.forest can.declared (args-long w m k n at work args can ea ∙ can.counted))
     where
       by : (o : Option ℕ) → forests.Finds can.spec w (name_of can.spec (Symbol k)) at args bind o → Rattle.rec_match.specs.Matching.Finds y w m (name_of y (Symbol j)) at own bind o
@@ -76,8 +75,8 @@ module _ (w : Store) (m : Matcher) (k n at : ℕ) (work args bind : List Term) (
       by (Some i) h = absurd (cc (sym (nothing can.spec at (application (name_of can.spec (Symbol k)) (from_list (held_trees w args))) (let l = can.matcher.ruled in omega (arith, l, le))) ∙ h.first))
 
   -- where there is a rule, it is one of the symbol
-  tree-finds-one : at < length m.sides.items → FindsFor w m at work bind found
-  tree-finds-one lt y ss below own j linked matcher ltj head split counted =
+  trees-find-one : at < length m.sides.items → FindsFor w m at work bind found
+  trees-find-one lt y ss below own j linked matcher ltj head split counted =
       by found (runs y (numbers_of ss) (linked-numbers y w ss linked) matcher.forest (subst (λ i. i < length (symbols y)) (sym same) ltj) (ap length is ∙ sym (counted lt) ∙ side.filled ∙ ap (arity_of y) (can.head lt)))
     where
       side : IsSide y ss m at (get_or y.rules at no_rule)
@@ -114,6 +113,6 @@ module _ (w : Store) (m : Matcher) (k n at : ℕ) (work args bind : List Term) (
             held = h.held;
           }
 
-  -- what the tree finds
-  pub tree-finds : FindsFor w m at work bind found
-  tree-finds = elim (which (length m.sides.items) at) [ inl le ↦ tree-finds-none le | inr lt ↦ tree-finds-one lt ]
+  -- what the trees find
+  pub trees-find : FindsFor w m at work bind found
+  trees-find = elim (which (length m.sides.items) at) [ inl le ↦ trees-find-none le | inr lt ↦ trees-find-one lt ]

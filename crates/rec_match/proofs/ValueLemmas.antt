@@ -1,33 +1,27 @@
 -- The values of a rule's variables in the order in which these first occur.
-use Rattle.std.proofs.Common.{refl, sym, ap, subst, arith, ◌∙◌, length, reverse}
-use Rattle.std.specs.Prelude.{ℕ, zero, suc, ◌≡◌, ◌<◌, false, List, [], ◌∷◌, Some, None, All, map, get_or}
-use Rattle.std.proofs.lemmas.List.{length-map, reverse-reverse, get_or_default}
-use Rattle.std.proofs.lemmas.List.Elements.{All-head, All-tail}
+use Rattle.std.proofs.Common.{refl, sym, ap, subst, ◌∙◌, length, reverse}
+use Rattle.std.specs.Prelude.{ℕ, ◌≡◌, ◌<◌, false, List, [], ◌∷◌, Some, None, All, map}
+use Rattle.std.proofs.lemmas.List.{length-map, reverse-reverse}
 use Rattle.rx_term.specs.Tree.{Tree}
 use Rattle.rx_term.specs.Store.{Store}
 use Rattle.rx_term.specs.declared.Term.{Term}
 use Rattle.rx_term.specs.declared.Symbol as bank
-use Rattle.rx_term.specs.Walks.{AllHeld, held_tree, held_trees}
+use Rattle.rx_term.specs.Walks.{held_tree, held_trees}
 use Rattle.rec_syntax.specs.Syntax.{Spec, Rule, Apply}
 use Rattle.rec_syntax.specs.Syntax as X
-use Rattle.rec_sorts.specs.Lookup.{symbols, count, variable_words, is_variable}
+use Rattle.rec_sorts.specs.Lookup.{symbols, count, is_variable}
 use Rattle.rec_sorts.specs.SpecRules.{fault}
 use Rattle.rec_sorts.specs.Binding.{Substitution, Bound, value_of, binds}
 use Rattle.rec_sorts.specs.Numbering.{named, named_all, named_by, name_of, IsMeaning}
 use Rattle.rec_sorts.specs.declared.letters.Letter.{Letter}
 use Rattle.rec_sorts.specs.declared.letters.Meaning.TheVariants.{Symbol, Variable}
-use Rattle.rec_match.specs.Held.{or_empty}
-use Rattle.rec_match.specs.Matching.{IsSide, SameValues, paired, symbol_at, tests_at, variables_at, order_at}
-use Rattle.rec_match.specs.Ordered.{keys, names_in, numbers_in, in_order, AreOrdered}
+use Rattle.rec_match.specs.Matching.{IsSide, SameValues, paired, symbol_at, variables_at}
+use Rattle.rec_match.specs.Ordered.{keys, names_in, numbers_in}
 use Rattle.rec_match.specs.Rows.{values_of}
 use Rattle.rec_match.specs.declared.matcher.Matcher.{Matcher}
-use Rattle.rec_match.proofs.ApartLemmas.{Apart, apart-first, nothing-apart, tests-variables}
-use Rattle.rec_match.proofs.FactLemmas.{facts}
-use Rattle.rec_match.proofs.KeyLemmas.{IsKeyed, binds-keys, values-read, names_in-append, last-name, numbers-names}
-use Rattle.rec_match.proofs.LetterLemmas.{every-at, all-reverse}
-use Rattle.rec_match.proofs.PairedLemmas.{AreVariables, value-paired}
-use Rattle.rec_match.proofs.RunLemmas.{tree_here}
-use Rattle.rec_match.proofs.TrialLemmas.{AreBare}
+use Rattle.rec_match.proofs.FactLemmas.{AreBare, facts}
+use Rattle.rec_match.proofs.KeyLemmas.{IsKeyed, binds-keys, names_in-append, last-name, numbers-names}
+use Rattle.rec_match.proofs.LetterLemmas.{all-reverse}
 
 -- a left side binds the variables of its letters in the order in which they first occur
 pub left-keys : (y : Spec) → fault y ≡ None → (letters : List Letter) → All (λ l. IsMeaning y l.meaning) letters → (l : X.Term) (k : ℕ) → k < length (symbols y) → (X.head l).bytes ≡ name_of y (Symbol k) → map (named_by y) letters ≡ named_all (X.arguments l) → AreBare y (named l)
@@ -68,53 +62,8 @@ pub side-paired : (y : Spec) → fault y ≡ None → (ss : List bank.Symbol) (w
     → Paired y w m i bind s
 side-paired y kept ss w m i r side bare u s binding bind bound =
     let names : keys s ≡ map (λ v. name_of y (Variable v)) (variables_at m i) =
-    (left-keys y kept side.letters (side-meant y ss m i r side) r.left (symbol_at m i) side.declared side.head side.named bare u s binding).1 ∙ ap (map (λ v. name_of y (Variable v))) (sym side.tests.variables) in
+    (left-keys y kept side.letters (side-meant y ss m i r side) r.left (symbol_at m i) side.declared side.head side.named bare u s binding).1 ∙ ap (map (λ v. name_of y (Variable v))) (sym side.variables) in
     record {
       same = λ name. ap (λ r. value_of r name) (ap (paired y (variables_at m i)) bound ∙ paired-values y (variables_at m i) s names);
       counted = sym (length-map bind (held_tree w)) ∙ ap length bound ∙ length-map s (λ b. b.value) ∙ sym (length-map s (λ b. b.name)) ∙ ap length names ∙ length-map (variables_at m i) (λ v. name_of y (Variable v));
     }
-
-module _ (y : Spec) (kept : fault y ≡ None) (vs : List ℕ) (declared : AreVariables y vs) (apart : Apart vs) (vals : List Tree) (long : length vals ≡ length vs) (s : Substitution) (same : SameValues (paired y vs vals) s) (d : Tree) where
-  read-order : (order : List ℕ) → All (λ p. p < length vs) order
-      → map (λ n. or_empty (value_of s n)) (map (λ x. name_of y (Variable x)) (map (λ p. get_or vs p 0) order)) ≡ map (λ p. get_or vals p d) order
-  read-order [] within = refl
-  read-order (p ∷ order) within =
-      let lt = All-head (λ p. p < length vs) p order within in
-      let here : value_of s (name_of y (Variable (get_or vs p 0))) ≡ Some (get_or vals p d) =
-      sym (same (name_of y (Variable (get_or vs p 0)))) ∙ value-paired y kept vs vals (get_or vs p 0) p d declared (every-at (λ v. v < length (variable_words y.variables)) vs declared p 0 lt) long (apart-first vs apart p lt) in
-      ap (λ o. or_empty o ∷ map (λ n. or_empty (value_of s n)) (map (λ x. name_of y (Variable x)) (map (λ p. get_or vs p 0) order))) here
-      ∙ ap (λ xs. get_or vals p d ∷ xs) (read-order order (All-tail (λ p. p < length vs) p order within))
-
-  -- the values in the order in which the variables first occur
-  pub ordered-values : (letters : List Letter) (order : List ℕ) → AreOrdered vs letters order → IsKeyed s → keys s ≡ map (λ v. name_of y (Variable v)) (numbers_in [] letters) → map (λ p. get_or vals p d) order ≡ values_of s
-  ordered-values letters order ordered keyed names =
-      sym (values-read s keyed ∙ ap (map (λ n. or_empty (value_of s n))) (names ∙ ap (map (λ v. name_of y (Variable v))) (sym ordered.numbers)) ∙ read-order order ordered.within)
-
-abbrev pub no_term : Term
-no_term = record { 0 = 0 }
-
--- references at places
-pub trees-in-order : (w : Store) (found : List Term) (order : List ℕ) → All (λ p. p < length found) order → held_trees w (in_order no_term found order) ≡ map (λ p. get_or (held_trees w found) p (held_tree w no_term)) order
-trees-in-order w found [] within = refl
-trees-in-order w found (p ∷ order) within =
-    ap (λ x. x ∷ held_trees w (in_order no_term found order)) (sym (tree_here w found p no_term (held_tree w no_term) (All-head (λ p. p < length found) p order within)))
-    ∙ ap (λ xs. get_or (held_trees w found) p (held_tree w no_term) ∷ xs) (trees-in-order w found order (All-tail (λ p. p < length found) p order within))
-
-pub held-in-order : (w : Store) (found : List Term) → AllHeld w found → (order : List ℕ) → All (λ p. p < length found) order → AllHeld w (in_order no_term found order)
-held-in-order w found held [] within t (k, lt, e) = absurd (let no : ⊥ = omega (arith, lt) in no)
-held-in-order w found held (p ∷ order) within t (zero, lt, e) =
-    let below = All-head (λ p. p < length found) p order within in
-    held t (p, below, get_or_default found p t no_term below ∙ e)
-held-in-order w found held (p ∷ order) within t (suc k, lt, e) = held-in-order w found held order (All-tail (λ p. p < length found) p order within) t (k, omega (arith, lt), e)
-
--- the values that the tests of a left side give, put in order
-module _ (y : Spec) (kept : fault y ≡ None) (ss : List bank.Symbol) (w : Store) (m : Matcher) (i : ℕ) (r : Rule) (side : IsSide y ss m i r) (bind : List Term) (counted : length bind ≡ length side.tests.tested) where
-  pub order-within : All (λ p. p < length bind) (order_at m i)
-  order-within j d lt = let h = side.tests.ordered.within j d lt in omega (arith, h, counted)
-
-  pub tested-values : AreBare y (named r.left) → (u : Tree) (s : Substitution) → binds y r.left u ≡ Some s → SameValues (paired y side.tests.tested (held_trees w bind)) s → held_trees w (in_order no_term bind (order_at m i)) ≡ values_of s
-  tested-values bare u s binding same =
-      let vars = tests-variables y ss (reverse side.letters) [] (tests_at m i) side.tests.tested side.meant side.tests.tests tt nothing-apart in
-      let names = left-keys y kept side.letters (side-meant y ss m i r side) r.left (symbol_at m i) side.declared side.head side.named bare u s binding in
-      trees-in-order w bind (order_at m i) order-within
-      ∙ ordered-values y kept side.tests.tested vars.0 vars.1 (held_trees w bind) (length-map bind (held_tree w) ∙ counted) s same (held_tree w no_term) side.letters (order_at m i) side.tests.ordered names.0 names.1

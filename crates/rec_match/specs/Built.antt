@@ -1,23 +1,14 @@
 -- Left sides that are made of letters.
-use Rattle.std.specs.Prelude.{ℕ, ◌≡◌, ◌<◌, List, All, map, length, get_or, reverse}
-use Rattle.rx_term.specs.declared.Symbol as bank
+use Rattle.std.specs.Prelude.{ℕ, ◌≡◌, ◌<◌, List, [], All, map, length, get_or, reverse}
 use Rattle.rec_syntax.specs.Syntax as R
 use Rattle.rec_syntax.specs.Syntax.{Spec, Rule}
 use Rattle.rec_sorts.specs.Lookup.{symbols, count}
 use Rattle.rec_sorts.specs.Numbering.{name_of, named_by, named_all, IsMeaning, arity_of}
 use Rattle.rec_sorts.specs.declared.letters.Letter.{Letter}
-use Rattle.rec_sorts.specs.declared.letters.Meaning.{Meaning}
-use Rattle.rec_sorts.specs.declared.letters.Meaning.TheVariants.{Symbol, Variable}
-use Rattle.rec_match.specs.Matching.{AreFilled, AreTested}
+use Rattle.rec_sorts.specs.declared.letters.Meaning.TheVariants.{Symbol}
+use Rattle.rec_match.specs.Matching.{AreFilled}
+use Rattle.rec_match.specs.Ordered.{numbers_in}
 use Rattle.rec_match.specs.declared.matcher.LeftSide.{LeftSide}
-
--- a letter's number is below that of symbols, or of variables
-abbrev pub IsBelow : ℕ → ℕ → Meaning → Type 0
-IsBelow symbols variables (Symbol k) = k < symbols
-IsBelow symbols variables (Variable v) = v < variables
-
-abbrev pub IsWithin : ℕ → ℕ → Letter → Type 0
-IsWithin symbols variables l = IsBelow symbols variables l.meaning
 
 -- the number of a left side's symbol
 pub record IsHead (y : Spec) (r : Rule) (k : ℕ) : Type 0 where
@@ -30,7 +21,7 @@ pub record AreHeads (y : Spec) (fs : List ℕ) : Type 0 where
   pub each : (i : ℕ) (r : Rule) → i < length y.rules → IsHead y (get_or y.rules i r) (get_or fs i 0)
 
 -- what is kept of a left side but for the rule that comes next
-pub record IsLeftSide (y : Spec) (ss : List bank.Symbol) (r : Rule) (s : LeftSide) : Type 0 where
+pub record IsLeftSide (y : Spec) (r : Rule) (s : LeftSide) : Type 0 where
   pub is_head : IsHead y r s.symbol
   pub counted : count (R.arguments r.left) ≡ s.count
   pub filled : s.count ≡ arity_of y s.symbol
@@ -38,13 +29,12 @@ pub record IsLeftSide (y : Spec) (ss : List bank.Symbol) (r : Rule) (s : LeftSid
   pub meant : All (λ l. IsMeaning y l.meaning) (reverse letters)
   pub named : map (named_by y) letters ≡ named_all (R.arguments r.left)
   pub filled_letters : AreFilled y (reverse letters)
-  pub tests : AreTested ss letters s.tests.items s.variables.items s.order.items
+  pub variables : s.variables.items ≡ numbers_in [] letters
 
 -- the left sides of the first rules, with the rules that come next
-pub record AreSides (y : Spec) (ss : List bank.Symbol) (fs nexts : List ℕ) (sides : List LeftSide)
-    (n : ℕ) : Type 0 where
+pub record AreSides (y : Spec) (fs nexts : List ℕ) (sides : List LeftSide) (n : ℕ) : Type 0 where
   pub long : length sides ≡ n
   pub each : (i : ℕ) (r : Rule) (s : LeftSide) → i < n
-      → IsLeftSide y ss (get_or y.rules i r) (get_or sides i s)
+      → IsLeftSide y (get_or y.rules i r) (get_or sides i s)
   pub symbols_of : (i : ℕ) (s : LeftSide) → i < n → (get_or sides i s).symbol ≡ get_or fs i 0
   pub nexts_of : (i : ℕ) (s : LeftSide) → i < n → (get_or sides i s).next ≡ get_or nexts i 0

@@ -7,6 +7,7 @@ use Rattle.rx_term.specs.Walks.{AllHeld, held_tree, held_trees}
 use Rattle.rx_term.specs.declared.Term.{Term}
 use Rattle.rec_syntax.specs.Syntax.{Spec}
 use Rattle.rec_sorts.specs.Lookup.{symbols}
+use Rattle.rec_sorts.specs.Laws.{Every}
 use Rattle.rec_sorts.specs.Binding.{application, next_match, Substitution}
 use Rattle.rec_sorts.specs.Linked.{signature}
 use Rattle.rec_sorts.specs.Numbering.{name_of, arity_of}
@@ -213,25 +214,33 @@ Fits y ns f m n (Try rule from to next linear) = FitsTry f m n rule from to next
 Fits y ns f m n (Switch register low from span other) = FitsSwitch y ns f m n register other
     (record { children = f.children.items; low = low; from = from; span = span })
 
-abbrev pub root_at : Forest → ℕ → ℕ
-root_at f k = get_or f.roots.items k 0
+-- the roots of a symbol's trees
+abbrev pub roots_at : Forest → ℕ → List ℕ
+roots_at f k = get_or (map (λ v. v.items) f.roots.items) k []
 
--- the tree of a symbol finds the least rule that matches an application of it
-pub record IsRoot (y : Spec) (f : Forest) (m : Reading) (k : ℕ) : Type 0 where
-  pub there : root_at f k < length f.nodes.items
-  pub width : m.width (root_at f k) ≡ arity_of y k
+-- what trees find one after the other
+abbrev pub first_tree : Reading → ℕ → List ℕ → List Tree → Option Found
+first_tree m least [] us = None
+first_tree m least (r ∷ rs) us = or_else (m.finds r least us) (first_tree m least rs us)
+
+-- a tree for so many registers
+abbrev pub IsRoot : Forest → Reading → ℕ → ℕ → Type 0
+IsRoot f m width r = (r < length f.nodes.items) × (m.width r ≡ width)
+
+-- the trees of a symbol find the least rule that matches an application of it
+pub record AreRoots (y : Spec) (f : Forest) (m : Reading) (k : ℕ) : Type 0 where
+  pub each : Every (IsRoot f m (arity_of y k)) (roots_at f k)
   pub finds : (least : ℕ) (args : Trees) → count_of args ≡ arity_of y k
-      → m.finds (root_at f k) least (to_list args)
+      → first_tree m least (roots_at f k) (to_list args)
       ≡ option_map found_of (next_match y least (application (name_of y (Symbol k)) args))
 
--- the matching trees of a specification, with the numbers of its symbols in a bank; a symbol with
--- root 0 has none
+-- the matching trees of a specification, with the numbers of its symbols in a bank
 pub record IsForest (y : Spec) (ns : List ℕ) (f : Forest) : Type 0 where
   pub reading : Reading
   pub fits : (n : ℕ) → n < length f.nodes.items
       → Fits y ns f reading n (get_or f.nodes.items n Fail)
   pub counted : length f.roots.items ≡ length (symbols y)
-  pub roots : (k : ℕ) → k < length (symbols y) → root_at f k ≢ 0 → IsRoot y f reading k
+  pub roots : (k : ℕ) → k < length (symbols y) → AreRoots y f reading k
 
 -- a rule that matches, with its values
 pub record HasFound (y : Spec) (w : Store) (name : List ℕ) (least : ℕ) (args bind : List Term)
@@ -248,7 +257,7 @@ Finds y w name least args bind (Some i) = HasFound y w name least args bind i
 Finds y w name least args bind None =
     (next_match y least (application name (from_list (held_trees w args))) ≡ None) × (bind ≡ [])
 
--- the tree of a symbol can be run for so many arguments
+-- the trees of a symbol can be run for so many arguments
 pub record CanRun (w : Store) (f : Forest) (k count : ℕ) : Type 0 where
   pub spec : Spec
   pub numbers : List ℕ
@@ -256,7 +265,6 @@ pub record CanRun (w : Store) (f : Forest) (k count : ℕ) : Type 0 where
   pub forest : IsForest spec numbers f
   pub declared : k < length (symbols spec)
   pub counted : count ≡ arity_of spec k
-  pub grown : root_at f k ≢ 0
 
 abbrev pub Runs : Store → Forest → ℕ → ℕ → List Term → List Term → Option ℕ → Type 0
 Runs w f k least args bind found = (y : Spec) (ns : List ℕ) → AreNumbers y w ns → IsForest y ns f
@@ -282,14 +290,48 @@ RunsOn w f k least first old new (Some found) = StandAbove f first (length old) 
     × Runs w f k least (drop first old) (values_among f first new found.values) (Some found.rule)
 RunsOn w f k least first old new None = Runs w f k least (drop first old) [] None
 
--- where a run stands: what the root finds, the node finds
-pub record Stands (w : Store) (f : Forest) (k least : ℕ) (args : List Term) (y : Spec)
-    (forest_reading : Reading) (at : ℕ) (registers : List Term) : Type 0 where
-  pub width : length registers ≡ forest_reading.width at
-  pub same : forest_reading.finds (root_at f k) least (held_trees w args)
-      ≡ forest_reading.finds at least (held_trees w registers)
+-- a tree can be walked for so many registers
+pub record CanWalk (w : Store) (f : Forest) (root count : ℕ) : Type 0 where
+  pub spec : Spec
+  pub numbers : List ℕ
+  pub linked : AreNumbers spec w numbers
+  pub forest : IsForest spec numbers f
+  pub there : root < length f.nodes.items
+  pub wide : count ≡ forest.reading.width root
+
+-- what a root finds for references: a rule with its values, or none
+abbrev pub FindsAt : Store → Reading → ℕ → ℕ → List Term → List Term → Option ℕ → Type 0
+FindsAt w m root least args bind (Some i) = (m.finds root least (held_trees w args)
+    ≡ Some (record { number = i; values = held_trees w bind })) × AllHeld w bind
+FindsAt w m root least args bind None = m.finds root least (held_trees w args) ≡ None
+
+abbrev pub Walks : Store → Forest → ℕ → ℕ → List Term → List Term → Option ℕ → Type 0
+Walks w f root least args bind found = (y : Spec) (ns : List ℕ) → AreNumbers y w ns
+    → (h : IsForest y ns f) → length args ≡ h.reading.width root
+    → FindsAt w h.reading root least args bind found
+
+-- what a walk finds for the references from one on, and leaves on top
+abbrev pub WalksOn : Store → Forest → ℕ → ℕ → ℕ → List Term → List Term → Option Hit → Type 0
+WalksOn w f root least first old new (Some found) =
+    StandAbove f first (length old) new found.values
+    × Walks w f root least (drop first old) (values_among f first new found.values)
+    (Some found.rule)
+WalksOn w f root least first old new None = Walks w f root least (drop first old) [] None
+
+-- where a walk stands: what the root finds, the node finds
+pub record Stands (w : Store) (root least : ℕ) (args : List Term) (m : Reading) (at : ℕ)
+    (registers : List Term) : Type 0 where
+  pub width : length registers ≡ m.width at
+  pub same : m.finds root least (held_trees w args) ≡ m.finds at least (held_trees w registers)
 
 abbrev pub AllStand : Store → Forest → ℕ → ℕ → List Term → ℕ → List Term → Type 0
-AllStand w f k least args at registers = (y : Spec) (ns : List ℕ) → AreNumbers y w ns
+AllStand w f root least args at registers = (y : Spec) (ns : List ℕ) → AreNumbers y w ns
+    → (h : IsForest y ns f) → length args ≡ h.reading.width root
+    → Stands w root least args h.reading at registers
+
+-- the trees before one find nothing for references
+abbrev pub NoneBefore : Store → Forest → ℕ → ℕ → List Term → ℕ → Type 0
+NoneBefore w f k least args i = (y : Spec) (ns : List ℕ) → AreNumbers y w ns
     → (h : IsForest y ns f) → k < length (symbols y) → length args ≡ arity_of y k
-    → Stands w f k least args y h.reading at registers
+    → first_tree h.reading least (roots_at f k) (held_trees w args)
+    ≡ first_tree h.reading least (drop i (roots_at f k)) (held_trees w args)

@@ -11,6 +11,7 @@ pub mod Running
 pub mod Forests
 pub mod Growing
 pub mod Parts
+pub mod Paths
 pub mod Leaves
 pub mod Ordered
 pub mod Next

@@ -1,8 +1,7 @@
 -- What a matcher keeps of left sides, and what it finds.
-use Rattle.std.specs.Prelude.{ℕ, ◌≡◌, ◌<◌, ◌≤◌, List, [], ◌∷◌, ◌++◌, Option, Some, None, All, Contains, map, reverse, length, get_or, drop, zero, suc, ◌+◌, Bool, true, false, nat_eq}
-use Rattle.rx_term.specs.Name.{Signature}
-use Rattle.rx_term.specs.Tree.{Tree, Trees, Items, Appl, none, from_list, count_of, joined}
-use Rattle.rx_term.specs.Store.{Store, signature_of, tree_at}
+use Rattle.std.specs.Prelude.{ℕ, ◌≡◌, ◌<◌, ◌≤◌, List, [], ◌∷◌, ◌++◌, Option, Some, None, All, map, reverse, length, get_or, drop, zero, suc}
+use Rattle.rx_term.specs.Tree.{Tree, Trees, from_list}
+use Rattle.rx_term.specs.Store.{Store}
 use Rattle.rx_term.specs.declared.Term.{Term}
 use Rattle.rx_term.specs.declared.Symbol as bank
 use Rattle.rx_term.specs.Walks.{AllHeld, held_trees}
@@ -15,16 +14,12 @@ use Rattle.rec_sorts.specs.Numbering.{named_all, name_of, named_by, IsMeaning, a
 use Rattle.rec_sorts.specs.Linked.{AreLinked}
 use Rattle.rec_sorts.specs.declared.letters.Letter.{Letter}
 use Rattle.rec_sorts.specs.declared.letters.Meaning.TheVariants.{Symbol, Variable}
-use Rattle.rec_match.specs.Held.{stacked}
-use Rattle.rec_match.specs.Asking.{asked}
 use Rattle.rec_match.specs.Forests.{IsForest, StandAbove, values_among}
-use Rattle.rec_match.specs.Ordered.{AreOrdered, numbers_in}
+use Rattle.rec_match.specs.Ordered.{numbers_in}
 use Rattle.rec_match.specs.Rows.{values_of}
 use Rattle.rec_match.specs.Tasks.{numbers_of}
 use Rattle.rec_sorts.specs.SpecRules.{fault}
 use Rattle.rec_match.specs.declared.forest.Hit.{Hit}
-use Rattle.rec_match.specs.declared.matcher.Test.{Test}
-use Rattle.rec_match.specs.declared.matcher.Test.TheVariants.{Open, First, Again}
 use Rattle.rec_match.specs.declared.matcher.LeftSide.{LeftSide}
 use Rattle.rec_match.specs.declared.matcher.Matcher.{Matcher}
 
@@ -43,79 +38,9 @@ FirstAt [] v p = ⊥
 FirstAt (x ∷ xs) v zero = x ≡ v
 FirstAt (x ∷ xs) v (suc p) = (x ≡ v → ⊥) × FirstAt xs v p
 
--- a test is that of a letter, where these variables have values already, and those afterwards
-abbrev pub IsTest : List bank.Symbol → Letter → List ℕ → Test → List ℕ → Type 0
-IsTest ss l vs (Open f count) more = (k : ℕ) × (l.meaning ≡ Symbol k) × (k < length ss)
-    × (f ≡ get_or ss k f) × (l.count ≡ count) × (more ≡ vs)
-IsTest ss l vs First more = (v : ℕ) × (l.meaning ≡ Variable v) × (Contains vs v → ⊥)
-    × (more ≡ vs ++ v ∷ [])
-IsTest ss l vs (Again k) more = (v : ℕ) × (l.meaning ≡ Variable v) × FirstAt vs v k × (more ≡ vs)
-
--- tests are those of letters, from the last to the first, where the first of these variables have
--- values already
-abbrev pub AreTests : List bank.Symbol → List Letter → List ℕ → List Test → List ℕ → Type 0
-AreTests ss [] vs [] all = vs ≡ all
-AreTests ss (l ∷ ls) vs (t ∷ ts) all = (more : List ℕ) × IsTest ss l vs t more
-    × AreTests ss ls more ts all
-AreTests ss _ vs _ all = ⊥
-
--- an application of the symbol without annotations, whose arguments were left on a stack
-pub record Opened (w : Store) (f : bank.Symbol) (count : ℕ) (u : Term) (old new : List Term)
-    : Type 0 where
-  pub args : List Term
-  pub signature : Signature
-  pub symbol : signature_of w f ≡ Some signature
-  pub is : tree_at w u
-      ≡ Some (Appl signature.name signature.quoted (from_list (held_trees w args)) none)
-  pub counted : length args ≡ count
-  pub split : new ≡ old ++ args
-
-abbrev pub Opens : Store → bank.Symbol → ℕ → Term → List Term → List Term → Bool → Type 0
-Opens w f count u old new true = Opened w f count u old new
-Opens w f count u old new false = (g : Signature) (ts : Trees) → signature_of w f ≡ Some g
-    → g.arity ≡ count_of ts → tree_at w u ≡ Some (Appl g.name g.quoted ts none) → ⊥
-
--- so many arguments belong to the symbol
-abbrev pub Takes : Store → bank.Symbol → ℕ → Type 0
-Takes w f count = (g : Signature) × (signature_of w f ≡ Some g) × (g.arity ≡ count)
-
--- what a test answers of a reference, and what it leaves
-abbrev pub Asks : Store → Test → Term → List Term → List Term → List Term → List Term → Bool
-    → Type 0
-Asks w (Open f count) u old new bind bound answer = Opens w f count u old new answer
-    × (bound ≡ bind)
-Asks w First u old new bind bound answer = (answer ≡ true) × (new ≡ old) × (bound ≡ bind ++ u ∷ [])
-Asks w (Again k) u old new bind bound answer = (new ≡ old) × (bound ≡ bind)
-    × (k < length bind → answer ≡ nat_eq (get_or bind k u).0 u.0)
-
--- between two pieces of an argument list: the first arguments are on the stack
-pub record Opening (w : Store) (u : Term) (count i : ℕ) (old now : List Term) (list : Term)
-    : Type 0 where
-  pub done : List Term
-  pub rest : Trees
-  pub name : List ℕ
-  pub quoted : Bool
-  pub split : now ≡ old ++ done
-  pub is : tree_at w list ≡ Some (Items rest none)
-  pub whole : tree_at w u
-      ≡ Some (Appl name quoted (joined (from_list (held_trees w done)) rest) none)
-  pub counted : length done ≡ i
-  pub left : count_of rest + i ≡ count
-
 -- letters of symbols have as many arguments as these are declared with
 abbrev pub AreFilled : Spec → List Letter → Type 0
 AreFilled y ls = All (λ (l : Letter). (k : ℕ) → l.meaning ≡ Symbol k → arity_of y k ≡ l.count) ls
-
--- what the letters of a left side, from the last to the first, give to variables
-abbrev pub AskedAs : Spec → Store → List Letter → List Term → List Term → List ℕ → Bool → Type 0
-AskedAs y w ls args bind all true = (asked y (map (named_by y) ls) (stacked w args) []
-    ≡ Some (paired y all (held_trees w bind))) × (length bind ≡ length all)
-AskedAs y w ls args bind all false = asked y (map (named_by y) ls) (stacked w args) [] ≡ None
-
--- what a test needs of its symbol
-abbrev pub CanAsk : Store → Test → Type 0
-CanAsk w (Open f count) = Takes w f count
-CanAsk w t = Unit {0}
 
 -- from one rule to another no rule matches an application of the name
 abbrev pub Skips : Spec → List ℕ → ℕ → ℕ → Type 0
@@ -133,29 +58,13 @@ count_at m i = get_or (map (λ (s : LeftSide). s.count) m.sides.items) i 0
 abbrev pub next_at : Matcher → ℕ → ℕ
 next_at m i = get_or (map (λ (s : LeftSide). s.next) m.sides.items) i 0
 
-abbrev pub tests_at : Matcher → ℕ → List Test
-tests_at m i = get_or (map (λ (s : LeftSide). s.tests.items) m.sides.items) i []
-
 -- the variables of a rule, in the order in which they first occur
 abbrev pub variables_at : Matcher → ℕ → List ℕ
 variables_at m i = get_or (map (λ (s : LeftSide). s.variables.items) m.sides.items) i []
 
--- the places of the variables' values among those that the tests give, in the same order
-abbrev pub order_at : Matcher → ℕ → List ℕ
-order_at m i = get_or (map (λ (s : LeftSide). s.order.items) m.sides.items) i []
-
 -- the rule of a number, where there is one, has this head
 abbrev pub HeadAt : Matcher → ℕ → ℕ → Type 0
 HeadAt m i k = i < length m.sides.items → symbol_at m i ≡ k
-
--- tests are those of letters, from the last to the first; with the variables in the order in which
--- they first occur, and the places of these among those that the tests give values
-pub record AreTested (ss : List bank.Symbol) (letters : List Letter) (ts : List Test)
-    (vs order : List ℕ) : Type 0 where
-  pub tested : List ℕ
-  pub tests : AreTests ss (reverse letters) [] ts tested
-  pub ordered : AreOrdered tested letters order
-  pub variables : vs ≡ numbers_in [] letters
 
 -- a left side is that of a rule
 pub record IsSide (y : Spec) (ss : List bank.Symbol) (m : Matcher) (i : ℕ) (r : Rule) : Type 0 where
@@ -167,7 +76,7 @@ pub record IsSide (y : Spec) (ss : List bank.Symbol) (m : Matcher) (i : ℕ) (r 
   pub meant : All (λ l. IsMeaning y l.meaning) (reverse letters)
   pub named : map (named_by y) letters ≡ named_all (R.arguments r.left)
   pub filled_letters : AreFilled y (reverse letters)
-  pub tests : AreTested ss letters (tests_at m i) (variables_at m i) (order_at m i)
+  pub variables : variables_at m i ≡ numbers_in [] letters
   pub later : i < next_at m i
   pub skips : Skips y (name_of y (Symbol (symbol_at m i))) (suc i) (next_at m i)
   pub next : HeadAt m (next_at m i) (symbol_at m i)
@@ -220,11 +129,6 @@ FindsFor w m at work bind found = (y : Spec) (ss : List bank.Symbol) (below args
     → work ≡ below ++ args → (at < length m.sides.items → count_at m at ≡ length args)
     → Finds y w m (name_of y (Symbol k)) at args bind found
 
--- a rule that was told apart from whether there is one
-abbrev pub told : Bool → Hit → Option Hit
-told true hit = Some hit
-told false hit = None
-
 -- what is found for the last of some references, which begin at a place, and what is left of the
 -- list then
 abbrev pub FindsOn : Store → Matcher → ℕ → ℕ → List Term → List Term → Option Hit → Type 0
@@ -232,11 +136,3 @@ FindsOn w m first at old new (Some found) =
     StandAbove m.forest first (length old) new found.values
     × FindsFor w m at old (values_among m.forest first new found.values) (Some found.rule)
 FindsOn w m first at old new None = FindsFor w m at old [] None × (new ≡ old)
-
--- what the tests answer of some references: they give the variables what the letters of the left
--- side give them
-abbrev pub Matches : Store → List Test → List Term → List Term → Bool → Type 0
-Matches w tests args bind answer = (y : Spec) (ss : List bank.Symbol) (ls : List Letter)
-    (all : List ℕ) → fault y ≡ None → AreLinked y w ss → AreFilled y ls
-    → All (λ l. IsMeaning y l.meaning) ls → AreTests ss ls [] tests all
-    → AskedAs y w ls args bind all answer

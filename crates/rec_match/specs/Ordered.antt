@@ -1,5 +1,5 @@
 -- Variables in the order in which they first occur.
-use Rattle.std.specs.Prelude.{ℕ, ◌≡◌, ◌<◌, ◌||◌, Bool, true, false, List, [], ◌∷◌, ◌++◌, All, Contains, map, length, get_or, nat_eq, bytes_eq}
+use Rattle.std.specs.Prelude.{ℕ, ◌≡◌, ◌<◌, ◌||◌, Bool, true, false, List, [], ◌∷◌, ◌++◌, All, map, nat_eq, bytes_eq}
 use Rattle.rec_syntax.specs.Syntax.{Spec}
 use Rattle.rec_sorts.specs.Lookup.{is_variable}
 use Rattle.rec_sorts.specs.Binding.{Substitution}
@@ -43,19 +43,6 @@ with_letter vs (Variable v) = with_number vs v
 abbrev pub numbers_in : List ℕ → List Letter → List ℕ
 numbers_in vs [] = vs
 numbers_in vs (l ∷ ls) = numbers_in (with_letter vs l.meaning) ls
-
--- items at places, in the order of these
-abbrev pub in_order : {A : Type 0} → A → List A → List ℕ → List A
-in_order none items places = map (λ p. get_or items p none) places
-
--- these are the places among variables, in the order in which the variables first occur in letters
-pub record AreOrdered (vs : List ℕ) (ls : List Letter) (order : List ℕ) : Type 0 where
-  pub within : All (λ p. p < length vs) order
-  pub numbers : in_order 0 vs order ≡ numbers_in [] ls
-
--- each variable of letters is among these
-abbrev pub AreAllAmong : List ℕ → List Letter → Type 0
-AreAllAmong vs ls = All (λ (l : Letter). (v : ℕ) → l.meaning ≡ Variable v → Contains vs v) ls
 
 -- each variable of letters is below a number
 abbrev pub AreAllBelow : ℕ → List Letter → Type 0

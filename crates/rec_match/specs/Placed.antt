@@ -1,8 +1,6 @@
 -- The places of variables.
 use Rattle.std.specs.Prelude.{ℕ, ◌≡◌, ◌<◌, List, Option, Some, None, Contains, length, get_or}
-use Rattle.rec_sorts.specs.declared.letters.Letter.{Letter}
 use Rattle.rec_match.specs.Matching.{FirstAt}
-use Rattle.rec_match.specs.Ordered.{AreAllAmong, AreOrdered}
 use Rattle.rec_match.specs.declared.places.Places.{Places}
 
 -- the first place of a variable among some; none, where it is not among them
@@ -22,11 +20,6 @@ ArePlaces vs n p = ArePlacesIn vs n p.of.items
 pub record OnlyPlaced (vs : List ℕ) (n : ℕ) (ps : List (Option ℕ)) : Type 0 where
   pub counted : length ps ≡ n
   pub others : (v : ℕ) → v < n → (Contains vs v → ⊥) → get_or ps v None ≡ None
-
--- what places of variables give for letters
-abbrev pub Orders : List (Option ℕ) → List Letter → List ℕ → Type 0
-Orders ps ls order = (vs : List ℕ) → ArePlacesIn vs (length ps) ps → AreAllAmong vs ls
-    → AreOrdered vs ls order
 
 -- no variable has a place that had none
 pub record FewerPlaces (old new : List (Option ℕ)) : Type 0 where

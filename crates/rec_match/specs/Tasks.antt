@@ -126,6 +126,13 @@ Covers ns ks low span = (i : ℕ) → i < length ks
 abbrev pub numbers_of : List bank.Symbol → List ℕ
 numbers_of ss = map (λ (s : bank.Symbol). s.0) ss
 
+-- one node more
+pub record AddsNode (f g : Forest) (node : ℕ) : Type 0 where
+  pub node_is : node ≡ length f.nodes.items
+  pub nodes : g.nodes.items ≡ f.nodes.items ++ Fail ∷ []
+  pub places : g.places.items ≡ f.places.items
+  pub children : g.children.items ≡ f.children.items
+
 -- one node more, which waits
 pub record Adds (f : Forest) (ts : List Task) (g : Forest) (us : List Task) (width : ℕ)
     (coded : List Coded) (node : ℕ) : Type 0 where

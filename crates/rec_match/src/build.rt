@@ -1,140 +1,70 @@
-//! Left sides of rules as tests.
+//! What is kept of the left sides of rules.
 
-ghost use Rattle.std.specs.Prelude.{◌≡◌, ◌<◌, [], All, IfOk, length, get_or, None, reverse};
+ghost use Rattle.std.specs.Prelude.{◌≡◌, ◌<◌, [], All, IfOk, length, get_or, None};
 ghost use Rattle.rec_sorts.specs.Lookup.{symbols};
 ghost use Rattle.rec_sorts.specs.Numbering.{variable_count, Pairwise, IsLetterRule};
 ghost use Rattle.rec_sorts.specs.SpecRules.{fault};
-ghost use Rattle.rec_match.specs.Matching.{IsTest, AreTests, AreTested, IsMatcher};
-ghost use Rattle.rec_match.specs.Ordered.{AreAllBelow};
-ghost use Rattle.rec_match.specs.Placed.{ArePlaces, FewerPlaces, Orders};
-ghost use Rattle.rec_match.specs.Built.{IsWithin, IsHead, AreHeads, IsLeftSide, AreSides};
+ghost use Rattle.rec_match.specs.Matching.{IsMatcher};
+ghost use Rattle.rec_match.specs.Ordered.{numbers_in, AreAllBelow};
+ghost use Rattle.rec_match.specs.Placed.{ArePlaces};
+ghost use Rattle.rec_match.specs.Built.{IsHead, AreHeads, IsLeftSide, AreSides};
 ghost use Rattle.rec_match.specs.Starting.{ChainsRules};
 
 use crate::chain::{Chains, chain};
-use crate::matcher::{LeftSide, Matcher, Test};
-use crate::places::{Places, push_at};
+use crate::matcher::{LeftSide, Matcher};
+use crate::places::Places;
 use crate::trees::trees;
 use rec_sorts::{Checked, Letter, LetterRule, Links, Meaning};
 use std::alloc::{AllocError, Global};
 
-/// The tests of a left side, its variables in the order in which they first occur, and the places
-/// of their values among those that the tests give.
-#[derive(Drop)]
-struct Tests {
-    tests: Vec<Test>,
-    variables: Vec<u32>,
-    order: Vec<u32>,
-}
-
-/// The places of the variables of letters, which are taken away, in the order of their letters.
-fn order(alloc: Global, letters: &[Letter], places: &mut Places) -> Result<Vec<u32>, AllocError>
-    requires { AreAllBelow (length places.old.of.items) letters.now }
-    ensures order { IfOk result (λ order. Orders places.old.of.items letters.now order.items) }
-    ensures fewer { IfOk result (λ order. FewerPlaces places.old.of.items places.new.of.items) }
+/// The variables of letters come behind others, in the order in which they first occur, and get
+/// their places.
+fn push_variables(
+    letters: &[Letter],
+    places: &mut Places,
+    variables: &mut Vec<u32>,
+) -> Result<(), AllocError>
+    requires below { AreAllBelow (length places.old.of.items) letters.now }
+    requires places { ArePlaces [] (length places.old.of.items) places.old }
+    requires none { variables.old.items ≡ [] }
+    ensures variables { IfOk result (λ u. variables.new.items ≡ numbers_in [] letters.now) }
+    ensures places { IfOk result
+        (λ u. ArePlaces variables.new.items (length places.old.of.items) places.new) }
+    ensures within { IfOk result
+        (λ u. All (λ v. v < length places.old.of.items) variables.new.items) }
 {
-    let mut order = Vec::new(alloc);
     for letter in letters {
         let Meaning::Variable(v) = letter.meaning else {
             continue;
         };
-        let Some(place) = places.take(v) else {
+        if let Some(_) = places.place(v) {
             continue;
-        };
-        order.push(place)?;
-    }
-    Ok(order)
-}
-
-/// The test of a letter, where the variables so far have values.
-fn test(
-    links: &Links,
-    letter: Letter,
-    places: &mut Places,
-    variables: &mut Vec<u32>,
-) -> Result<Test, AllocError>
-    requires within { IsWithin (length links.now) (length places.old.of.items) letter }
-    requires places { ArePlaces variables.old.items (length places.old.of.items) places.old }
-    requires variables { All (λ v. v < length places.old.of.items) variables.old.items }
-    ensures test { IfOk result
-        (λ t. IsTest links.now letter variables.old.items t variables.new.items) }
-    ensures places { IfOk result
-        (λ t. ArePlaces variables.new.items (length places.old.of.items) places.new) }
-    ensures variables { IfOk result
-        (λ t. All (λ v. v < length places.old.of.items) variables.new.items) }
-{
-    match letter.meaning {
-        Meaning::Symbol(k) => Ok(Test::Open {
-            symbol: links.symbol_of(k),
-            count: letter.count,
-        }),
-        Meaning::Variable(v) => {
-            match places.place(v) {
-                Some(place) => Ok(Test::Again(place)),
-                None => {
-                    let Ok(place) = u32::try_from(variables.len()) else {
-                        return Err(AllocError);
-                    };
-                    places.give(v, place);
-                    variables.push(v)?;
-                    Ok(Test::First)
-                }
-            }
         }
-    }
-}
-
-/// The tests of letters from the last to the first, and the variables in that order.
-fn push_tests(
-    links: &Links,
-    letters: &[Letter],
-    places: &mut Places,
-    tests: &mut Vec<Test>,
-    tested: &mut Vec<u32>,
-) -> Result<(), AllocError>
-    requires within { All (IsWithin (length links.now) (length places.old.of.items)) letters.now }
-    requires places { ArePlaces [] (length places.old.of.items) places.old }
-    requires tests { tests.old.items ≡ [] }
-    requires tested { tested.old.items ≡ [] }
-    ensures tests { IfOk result (λ u.
-        AreTests links.now (reverse letters.now) [] tests.new.items tested.new.items) }
-    ensures places { IfOk result
-        (λ u. ArePlaces tested.new.items (length places.old.of.items) places.new) }
-    ensures tested { IfOk result
-        (λ u. All (λ v. v < length places.old.of.items) tested.new.items) }
-{
-    let mut i = letters.len();
-    while i > 0 {
-        i -= 1;
-        tests.push(test(links, letters[i], places, tested)?)?;
+        let Ok(place) = u32::try_from(variables.len()) else {
+            return Err(AllocError);
+        };
+        places.give(v, place);
+        variables.push(v)?;
     }
     Ok(())
 }
 
-/// The tests of a left side's letters but for its head.
-fn tests_of(
+/// The variables of letters in the order in which they first occur. None has a place before and
+/// afterwards.
+fn variables_of(
     alloc: Global,
-    links: &Links,
     letters: &[Letter],
     places: &mut Places,
-) -> Result<Tests, AllocError>
-    requires within { All (IsWithin (length links.now) (length places.old.of.items)) letters.now }
+) -> Result<Vec<u32>, AllocError>
+    requires below { AreAllBelow (length places.old.of.items) letters.now }
     requires places { ArePlaces [] (length places.old.of.items) places.old }
-    ensures tests { IfOk result
-        (λ t. AreTested links.now letters.now t.tests.items t.variables.items t.order.items) }
-    ensures places { IfOk result (λ t. ArePlaces [] (length places.old.of.items) places.new) }
+    ensures variables { IfOk result (λ v. v.items ≡ numbers_in [] letters.now) }
+    ensures places { IfOk result (λ v. ArePlaces [] (length places.old.of.items) places.new) }
 {
-    let mut tests = Vec::new(alloc);
-    let mut tested = Vec::new(alloc);
-    push_tests(links, letters, places, &mut tests, &mut tested)?;
-    let order = order(alloc, letters, places)?;
-    places.clear(&tested);
     let mut variables = Vec::new(alloc);
-    push_at(&tested, &order, &mut variables)?;
-    Ok(Tests {
-        tests,
-        variables,
-        order,
-    })
+    push_variables(letters, places, &mut variables)?;
+    places.clear(&variables);
+    Ok(variables)
 }
 
 /// The number of a rule's symbol.
@@ -168,7 +98,6 @@ fn side(
     alloc: Global,
     checked: &Checked,
     rules: &[LetterRule],
-    links: &Links,
     places: &mut Places,
     rule: usize,
     symbol: u32,
@@ -177,12 +106,11 @@ fn side(
     requires rule { rule < length rules.now }
     requires kept { fault checked.now.spec ≡ None }
     requires letters { Pairwise (IsLetterRule checked.now.spec) rules.now checked.now.spec.rules }
-    requires links { length links.now ≡ length (symbols checked.now.spec) }
     requires places { ArePlaces [] (variable_count checked.now.spec) places.old }
     requires head { (r : _)
         → IsHead checked.now.spec (get_or checked.now.spec.rules rule r) symbol }
     ensures side { IfOk result (λ s. (r : _)
-        → IsLeftSide checked.now.spec links.now (get_or checked.now.spec.rules rule r) s) }
+        → IsLeftSide checked.now.spec (get_or checked.now.spec.rules rule r) s) }
     ensures symbol { IfOk result (λ s. s.symbol ≡ symbol) }
     ensures next { IfOk result (λ s. s.next ≡ next) }
     ensures places { IfOk result (λ s. ArePlaces [] (variable_count checked.now.spec) places.new) }
@@ -190,13 +118,11 @@ fn side(
     let left = &rules[rule].left;
     let size = left.len() - 1;
     let count = left[size].count;
-    let tests = tests_of(alloc, links, &left[..size], places)?;
+    let variables = variables_of(alloc, &left[..size], places)?;
     Ok(LeftSide {
         symbol,
         count,
-        tests: tests.tests,
-        variables: tests.variables,
-        order: tests.order,
+        variables,
         next,
     })
 }
@@ -211,17 +137,10 @@ fn rule_chains(alloc: Global, checked: &Checked) -> Result<Chains, AllocError>
 }
 
 /// What is kept of the rules' left sides, with the rules that come next.
-fn sides(
-    alloc: Global,
-    checked: &Checked,
-    links: &Links,
-    nexts: &[u32],
-) -> Result<Vec<LeftSide>, AllocError>
-    requires links { length links.now ≡ length (symbols checked.now.spec) }
-    requires nexts { length nexts.now ≡ length checked.now.spec.rules }
+fn sides(alloc: Global, checked: &Checked, nexts: &[u32]) -> Result<Vec<LeftSide>, AllocError>
+    requires { length nexts.now ≡ length checked.now.spec.rules }
     ensures { IfOk result (λ v. (fs : _) → AreHeads checked.now.spec fs
-        → AreSides checked.now.spec links.now fs nexts.now v.items
-        (length checked.now.spec.rules)) }
+        → AreSides checked.now.spec fs nexts.now v.items (length checked.now.spec.rules)) }
 {
     let rules = checked.rules();
     let mut places = Places::new(alloc, checked.variables())?;
@@ -232,7 +151,6 @@ fn sides(
             alloc,
             checked,
             rules,
-            links,
             &mut places,
             rule,
             symbol,
@@ -250,7 +168,7 @@ impl Matcher {
     {
         let _kept = checked.syntax();
         let chains = rule_chains(alloc, checked)?;
-        let sides = sides(alloc, checked, links, &chains.nexts)?;
+        let sides = sides(alloc, checked, &chains.nexts)?;
         let forest = trees(alloc, checked, links, &chains)?;
         let own = links.copy(alloc)?;
         Ok(Matcher {

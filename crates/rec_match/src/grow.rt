@@ -3,7 +3,7 @@
 ghost use Rattle.std.specs.Prelude.{◌≡◌, ◌+◌, ◌<◌, ◌≤◌, ◌^◌, ◌∷◌, [], All, IfOk, IfSome, length};
 ghost use Rattle.std.specs.Prelude.{map, get_or, true, false};
 ghost use Rattle.rec_sorts.specs.Lookup.{symbols};
-ghost use Rattle.rec_match.specs.Forests.{no_child, number_at, IsNew};
+ghost use Rattle.rec_match.specs.Forests.{no_child, number_at};
 ghost use Rattle.rec_match.specs.Marking.{AreMarked, HasMarks};
 ghost use Rattle.rec_match.specs.Parts.{coded_of, IsCode};
 ghost use Rattle.rec_match.specs.Shares.{symbols_of, AreShares};
@@ -15,8 +15,6 @@ ghost use Rattle.rec_match.specs.Tasks.{
   CanStep,
   Covers,
   Adds,
-  WritesTry,
-  WritesSwitch,
   BranchesOut,
   TriesFirst,
   StepsOrStays,
@@ -66,89 +64,6 @@ pub struct Work {
     pub fuel: u64,
 }
 
-/// Whether a value is new.
-fn is_new(place: Place) -> bool
-    ensures { result ≡ true → IsNew place }
-{
-    match place {
-        Place::First(_) => true,
-        Place::Again {
-            register: _,
-            value: _,
-        } => false,
-    }
-}
-
-/// Whether each value is new.
-fn are_new(places: &[Place]) -> bool
-    ensures { result ≡ true → All IsNew places.now }
-{
-    for place in places {
-        if !is_new(*place) {
-            return false;
-        }
-    }
-    true
-}
-
-impl Forest {
-    /// A rule at a node, with the places of its values and the node that comes next.
-    fn write_try(
-        &mut self,
-        node: u32,
-        rule: u32,
-        places: &[Place],
-        next: u32,
-    ) -> Result<(), AllocError>
-        requires { node < length self.old.nodes.items }
-        ensures { IfOk result (λ u. WritesTry self.old self.new node rule places.now next) }
-    {
-        let Ok(from) = u32::try_from(self.places.len()) else {
-            return Err(AllocError);
-        };
-        let Ok(to) = u32::try_from(self.places.len() + places.len()) else {
-            return Err(AllocError);
-        };
-        self.places.extend_from_slice(places)?;
-        self.nodes[node as usize] = Node::Try {
-            rule,
-            from,
-            to,
-            next,
-            linear: are_new(places),
-        };
-        Ok(())
-    }
-
-    /// A switch at a node, with a window of children and the node for each other tree.
-    fn write_switch(
-        &mut self,
-        node: u32,
-        register: u32,
-        low: u64,
-        window: &[Child],
-        other: u32,
-    ) -> Result<(), AllocError>
-        requires { node < length self.old.nodes.items }
-        ensures { IfOk result
-            (λ u. WritesSwitch self.old self.new node register low window.now other) }
-    {
-        let Ok(from) = u32::try_from(self.children.len()) else {
-            return Err(AllocError);
-        };
-        let span = window.len() as u64;
-        self.children.extend_from_slice(window)?;
-        self.nodes[node as usize] = Node::Switch {
-            register,
-            low,
-            from,
-            span,
-            other,
-        };
-        Ok(())
-    }
-}
-
 /// One node more, which waits.
 fn add(
     forest: &mut Forest,
@@ -159,10 +74,7 @@ fn add(
     ensures { IfOk result (Adds forest.old (map task_of work.old.items) forest.new
         (map task_of work.new.items) width (map coded_of rows.items)) }
 {
-    let Ok(node) = u32::try_from(forest.nodes.len()) else {
-        return Err(AllocError);
-    };
-    forest.nodes.push(Node::Fail)?;
+    let node = forest.add_node()?;
     work.push(Pending { node, width, rows })?;
     Ok(node)
 }

@@ -2,11 +2,19 @@
 
 ghost use Rattle.std.specs.Prelude.{◌≡◌, ◌<◌, ◌^◌, ◌++◌, [], length, All, IfOk, IfSome, Some};
 ghost use Rattle.std.specs.Option.{option_map};
-ghost use Rattle.rec_match.specs.Parts.{IsCode};
-ghost use Rattle.rec_match.specs.Leaves.{number_position, code_places, ArePlaced};
+ghost use Rattle.rec_match.specs.Parts.{part_at, IsCode};
+ghost use Rattle.rec_match.specs.Leaves.{
+  number_position,
+  code_places,
+  ArePlaced,
+  IsValue,
+  PlacesValue,
+};
+ghost use Rattle.rec_match.specs.Placed.{ArePlaces};
 
 use crate::forest::Place;
 use crate::parts::{Code, Parts};
+use crate::places::Places;
 use rec_sorts::Meaning;
 use std::alloc::{AllocError, Global};
 
@@ -74,5 +82,69 @@ impl Parts {
         } else {
             Ok(None)
         }
+    }
+
+    /// The places of a row's values, of which none is asked for any more; a variable is found at
+    /// its place among those that are given. None is given before and afterwards.
+    pub(crate) fn value_places(
+        &self,
+        alloc: Global,
+        codes: &[Code],
+        given: &mut Places,
+    ) -> Result<Vec<Place>, AllocError>
+        requires there { All (IsCode self.now) codes.now }
+        requires values { All (λ c. IsValue (part_at self.now c.part).meaning
+            (length given.old.of.items)) codes.now }
+        requires given { ArePlaces [] (length given.old.of.items) given.old }
+        ensures places { IfOk result
+            (λ places. code_places self.now [] codes.now ≡ Some places.items) }
+        ensures given { IfOk result
+            (λ places. ArePlaces [] (length given.old.of.items) given.new) }
+    {
+        let mut places = Vec::new(alloc);
+        let mut variables = Vec::new(alloc);
+        for code in codes {
+            self.place_value(*code, given, &mut variables, &mut places)?;
+        }
+        given.clear(&variables);
+        Ok(places)
+    }
+
+    /// The place of one value more.
+    fn place_value(
+        &self,
+        code: Code,
+        given: &mut Places,
+        variables: &mut Vec<u32>,
+        places: &mut Vec<Place>,
+    ) -> Result<(), AllocError>
+        requires there { IsCode self.now code }
+        requires value { IsValue (part_at self.now code.part).meaning (length given.old.of.items) }
+        requires given { ArePlaces variables.old.items (length given.old.of.items) given.old }
+        requires within { All (λ v. v < length given.old.of.items) variables.old.items }
+        ensures place { IfOk result (λ u. PlacesValue self.now code variables.old.items
+            places.old.items variables.new.items places.new.items) }
+        ensures given { IfOk result
+            (λ u. ArePlaces variables.new.items (length given.old.of.items) given.new) }
+        ensures within { IfOk result
+            (λ u. All (λ v. v < length given.old.of.items) variables.new.items) }
+    {
+        let Meaning::Variable(variable) = self.parts[code.part as usize].meaning else {
+            return Ok(());
+        };
+        if let Some(value) = given.place(variable) {
+            places.push(Place::Again {
+                register: code.register,
+                value,
+            })?;
+            return Ok(());
+        }
+        let Ok(place) = u32::try_from(variables.len()) else {
+            return Err(AllocError);
+        };
+        given.give(variable, place);
+        variables.push(variable)?;
+        places.push(Place::First(code.register))?;
+        Ok(())
     }
 }

@@ -1,14 +1,12 @@
 //! The least rule that matches a term of a bank.
 
-ghost use Rattle.std.specs.Prelude.{◌≡◌, ◌<◌, ◌-◌, [], length, IfOk, IfErr, IsSome, Some, None};
+ghost use Rattle.std.specs.Prelude.{◌≡◌, ◌<◌, [], length, IfOk, IfErr, IsSome, Some, None};
 ghost use Rattle.rx_term.specs.Store.{tree_at};
 ghost use Rattle.rx_term.specs.Kinds.{HasAppl, HasAnns};
-ghost use Rattle.rx_term.specs.Walks.{AllHeld};
 ghost use Rattle.rec_sorts.specs.Linked.{NumberOf};
-ghost use Rattle.rec_match.specs.Matching.{CanFind, FindsOn};
 ghost use Rattle.rec_match.specs.Next.{AreLater, AreReady, Answers, Reaches};
 
-use crate::forest::{Hit, push_arguments};
+use crate::forest::push_arguments;
 use crate::matcher::Matcher;
 use rx_term::{Kind, Symbol, Term, TermBank};
 use smallvec::SmallVec;
@@ -36,26 +34,6 @@ impl Matcher {
         at
     }
 
-    /// What `find` finds, with stacks that serve once.
-    fn find_once<B: TermBank>(
-        &self,
-        bank: &B,
-        symbol: u32,
-        count: u32,
-        at: u32,
-        work: &mut Vec<Term>,
-    ) -> Result<Option<Hit>, AllocError>
-        requires held { AllHeld (B.store bank.now) work.old.items }
-        requires can { CanFind (B.store bank.now) self.now symbol count at work.old.items }
-        ensures finds { IfOk result (FindsOn (B.store bank.now) self.now
-            (length work.old.items - count) at work.old.items work.new.items) }
-    {
-        let alloc = *work.allocator();
-        let mut pending = Vec::new(alloc);
-        let mut bind = Vec::new(alloc);
-        self.find(bank, symbol, count, at, work, &mut pending, &mut bind)
-    }
-
     /// The same as `next` for an application without annotations of a symbol that has a number; its
     /// arguments stand in `work` then.
     fn next_call<B: TermBank>(
@@ -79,7 +57,7 @@ impl Matcher {
         let count = bank.arity_of(call.symbol);
         push_arguments(bank, bank.args(call.term), count, work)?;
         let at = self.first_from(call.number, from);
-        let Some(hit) = self.find_once(bank, call.number, count, at, work)? else {
+        let Some(hit) = self.find_on(bank, call.number, count, at, work)? else {
             return Ok(None);
         };
         self.settle(hit.values, 0, count as usize, work)?;

@@ -1,8 +1,7 @@
 //! The places of variables among those of a rule.
 
-ghost use Rattle.std.specs.Prelude.{◌≡◌, ◌<◌, ◌++◌, ◌∷◌, [], List, All, IfOk, None};
+ghost use Rattle.std.specs.Prelude.{◌≡◌, ◌<◌, ◌++◌, ◌∷◌, [], All, IfOk, None};
 ghost use Rattle.std.specs.Prelude.{length, get_or, set};
-ghost use Rattle.rec_match.specs.Ordered.{in_order};
 ghost use Rattle.rec_match.specs.Placed.{IsPlace, ArePlaces, OnlyPlaced};
 
 use std::alloc::{AllocError, Global};
@@ -11,35 +10,6 @@ use std::alloc::{AllocError, Global};
 #[derive(Drop)]
 pub struct Places {
     pub of: Vec<Option<u32>>,
-}
-
-/// The items at these places, in their order, behind those that were found before.
-pub(crate) fn push_at<T: Copy>(
-    items: &[T],
-    places: &[u32],
-    found: &mut Vec<T>,
-) -> Result<(), AllocError>
-    requires { All (λ p. p < length items.now) places.now }
-    ensures pushes { IfOk result
-        (λ u. (d : T) → found.new.items ≡ found.old.items ++ in_order d items.now places.now) }
-    ensures behind { (more : List T) × (found.new.items ≡ found.old.items ++ more) }
-{
-    for place in places {
-        found.push(items[*place as usize])?;
-    }
-    Ok(())
-}
-
-/// All items, behind those that were found before: few at a time, for which a loop is faster than
-/// a copy.
-#[inline(always)]
-pub(crate) fn push_all<T: Copy>(items: &[T], found: &mut Vec<T>) -> Result<(), AllocError>
-    ensures { IfOk result (λ u. found.new.items ≡ found.old.items ++ items.now) }
-{
-    for item in items {
-        found.push(*item)?;
-    }
-    Ok(())
 }
 
 impl Places {

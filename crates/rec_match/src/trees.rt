@@ -1,12 +1,13 @@
 //! The matching trees of a specification's symbols.
 
-ghost use Rattle.std.specs.Prelude.{◌≡◌, ◌∷◌, [], IfOk, length};
+ghost use Rattle.std.specs.Prelude.{◌≡◌, ◌<◌, ◌∷◌, [], IfOk, length};
 ghost use Rattle.rec_sorts.specs.Lookup.{symbols};
 ghost use Rattle.rec_match.specs.Forests.{IsForest};
 ghost use Rattle.rec_match.specs.Marking.{HasMarks};
 ghost use Rattle.rec_match.specs.Pushed.{AreLeftParts};
 ghost use Rattle.rec_match.specs.Starting.{ChainsRules};
-ghost use Rattle.rec_match.specs.Tasks.{IsGround, numbers_of};
+ghost use Rattle.rec_match.specs.Paths.{AreTreesOf};
+ghost use Rattle.rec_match.specs.Tasks.{IsGround, CanStep, numbers_of};
 ghost use Rattle.rec_match.specs.declared.forest.Node.TheVariants.{Fail};
 
 use crate::chain::Chains;
@@ -40,15 +41,54 @@ impl Forest {
 }
 
 impl Grower<'_> {
-    /// The roots of the symbols' trees, which grow one after the other in a forest without trees; 0
-    /// for a symbol whose tree would be too large.
+    /// The trees of a symbol's rules: one for all of them, or, where that would be too large, one
+    /// for each rule. Their roots, in the order of the rules.
+    fn trees_of(
+        &self,
+        left: &LeftParts,
+        chains: &Chains,
+        symbol: u32,
+        forest: &mut Forest,
+        work: &mut Work,
+    ) -> Result<Vec<u32>, AllocError>
+        requires symbol { symbol < length (symbols self.now.checked.now.spec) }
+        requires linked { length self.now.links.now ≡ length (symbols self.now.checked.now.spec) }
+        requires ground { IsGround self.now.checked.now.spec (numbers_of self.now.links.now)
+            self.now.parts.now }
+        requires same { left.now.parts ≡ self.now.parts.now }
+        requires left { AreLeftParts self.now.checked.now.spec left.now.parts left.now.numbers.items
+            (length self.now.checked.now.spec.rules) }
+        requires chains { ChainsRules self.now.checked.now.spec chains.now }
+        requires some { 0 < length forest.old.nodes.items }
+        requires can { CanStep self.now.checked.now.spec (numbers_of self.now.links.now)
+            self.now.parts.now forest.old [] }
+        requires marks { HasMarks work.old.marks (length (symbols self.now.checked.now.spec)) }
+        ensures marks { IfOk result
+            (λ roots. HasMarks work.new.marks (length (symbols self.now.checked.now.spec))) }
+        ensures trees { IfOk result (λ roots. AreTreesOf self.now.checked.now.spec
+            (numbers_of self.now.links.now) self.now.parts.now forest.old symbol forest.new
+            roots.items) }
+    {
+        let rows = left.rows(self.alloc, self.checked, chains, symbol)?;
+        let width = self.checked.arity(symbol);
+        let root = self.tree(width, rows, forest, work)?;
+        if root != 0 {
+            let one = vec![in self.alloc; root; 1]?;
+            return Ok(one);
+        }
+        let rows = left.rows(self.alloc, self.checked, chains, symbol)?;
+        let roots = self.paths(width, &rows, forest)?;
+        Ok(roots)
+    }
+
+    /// The roots of all symbols' trees, which grow one after the other in a forest without trees.
     fn roots(
         &self,
         left: &LeftParts,
         chains: &Chains,
         forest: &mut Forest,
         work: &mut Work,
-    ) -> Result<Vec<u32>, AllocError>
+    ) -> Result<Vec<Vec<u32>>, AllocError>
         requires linked { length self.now.links.now ≡ length (symbols self.now.checked.now.spec) }
         requires ground { IsGround self.now.checked.now.spec (numbers_of self.now.links.now)
             self.now.parts.now }
@@ -64,16 +104,13 @@ impl Grower<'_> {
         let _kept = self.checked.syntax();
         let mut roots = Vec::new(self.alloc);
         for symbol in 0..self.checked.symbols() {
-            let rows = left.rows(self.alloc, self.checked, chains, symbol)?;
-            let width = self.checked.arity(symbol);
-            let root = self.tree(width, rows, forest, work)?;
-            roots.push(root)?;
+            roots.push(self.trees_of(left, chains, symbol, forest, work)?)?;
         }
         Ok(roots)
     }
 }
 
-/// The roots of the symbols' trees, which grow from the parts of left sides in a forest without
+/// The roots of all symbols' trees, which grow from the parts of left sides in a forest without
 /// trees.
 fn grow_all(
     checked: &Checked,
@@ -81,7 +118,7 @@ fn grow_all(
     chains: &Chains,
     left: &LeftParts,
     forest: &mut Forest,
-) -> Result<Vec<u32>, AllocError>
+) -> Result<Vec<Vec<u32>>, AllocError>
     requires linked { length links.now ≡ length (symbols checked.now.spec) }
     requires chains { ChainsRules checked.now.spec chains.now }
     requires left { AreLeftParts checked.now.spec left.now.parts left.now.numbers.items
@@ -108,8 +145,7 @@ fn grow_all(
     grower.roots(left, chains, forest, &mut work)
 }
 
-/// The matching trees of a specification's symbols, whose rules stand in chains; a symbol whose
-/// tree would be too large has none.
+/// The matching trees of a specification's symbols, whose rules stand in chains.
 pub(crate) fn trees(
     alloc: Global,
     checked: &Checked,

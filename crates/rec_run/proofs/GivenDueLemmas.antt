@@ -1,5 +1,5 @@
 -- From what was read of the text of terms to what is due for it.
-use Rattle.std.proofs.Common.{◌≡◌, ℕ, ◌+◌, List, Option, Some, None, Result, Ok, Err, IfErr, IfOk, IfSome, IsErrAnd, IsSome, OnOk, take, refl, sym, ap, subst, arith}
+use Rattle.std.proofs.Common.{◌≡◌, ℕ, ◌+◌, List, Option, Some, None, Result, Ok, Err, IfErr, IfOk, IfSome, IsErrAnd, IsSome, OnOk, take, refl, sym, ap, subst, ◌∙◌, arith}
 use Rattle.std.specs.Prelude.{option_map}
 use Rattle.std.proofs.lemmas.List.{length-take}
 use Rattle.rx_term.specs.Tree.{Tree}
@@ -14,10 +14,9 @@ use Rattle.rec_sorts.specs.TermRules.{broken_by_terms}
 use Rattle.rec_sorts.specs.TermsFaults.{IsTermsFault}
 use Rattle.rec_sorts.specs.declared.fault.TermsFault.{TermsFault}
 use Rattle.rec_sorts.specs.declared.fault.TermsFault.TheVariants as rule
-use Rattle.rec_run.specs.GivenTerms.{EndsRefused, HoldsList, HoldsTerms, IsListRead, IsReadAs, IsReadFor, IsReadFrom, IsReady, IsRefusal, IsRefused, OnGoodSpec, OnRefusedSpec, job_alone_of, job_of, list_refused}
+use Rattle.rec_run.specs.GivenTerms.{EndsRefused, HoldsList, HoldsTerms, IsListRead, IsReadAs, IsReadFor, IsReadFrom, IsReady, IsRefusal, IsRefused, IsTermsRead, refused_terms, OnGoodSpec, OnRefusedSpec, job_alone_of, job_of, list_refused}
 use Rattle.rx_run.specs.TermRuns.{IsReadingOf}
-use Rattle.rx_run.specs.Due.{done}
-use Rattle.rec_run.specs.Output.{GoodTerms, BreaksTerms, TooLong, Outside, TermsVerdict, IsTermsVerdict, lines}
+use Rattle.rec_run.specs.Output.{GoodTerms, BreaksTerms, TooLong, Outside, Shown, TermsVerdict, IsTermsVerdict, due_of_terms}
 use Rattle.rx_run.specs.Run.{fault_of_read}
 use Rattle.rec_run.specs.Reading.{IsGood, IsSpecRead, IsSpecReading}
 use Rattle.rx_run.specs.Refusals.{refusal_due, refused_text}
@@ -47,14 +46,25 @@ terms_front y bytes (Outside at) h = subst (λ text. IsTermsVerdict y text (Outs
 terms_front y bytes (BreaksTerms number) h = subst (λ text. IsTermsVerdict y text (BreaksTerms number)) (short_front bytes h.0) h
 terms_front y bytes (GoodTerms us) h = subst (λ text. IsTermsVerdict y text (GoodTerms us)) (short_front bytes h.0) h
 
-read_front : (known : Option (List ℕ)) (text : List ℕ) (y : Spec) (w : Store) (r : Reading Reference) → IfSome known (λ bytes. text ≡ take (LIMIT + 1) bytes) → IsListRead y w text r → IfSome known (λ bytes. IsListRead y w bytes r)
-read_front None text y w r e h = tt
-read_front (Some bytes) text y w r e h = λ shown n. let k = h shown n in (k.0, terms_front y bytes k.0 (subst (λ t. IsTermsVerdict y t k.0) e k.1), k.2)
+-- what was read of a text of terms is the verdict on it
+pub read_front : (known : Option (List ℕ)) (text given : List ℕ) (y : Spec) (w : Store) (r : Reading Reference) → IfSome known (λ bytes. text ≡ take (LIMIT + 1) bytes) → given ≡ text → IsTermsRead y w given r → IfSome known (λ bytes. IsTermsRead y w bytes r)
+read_front None text given y w r front same h = tt
+read_front (Some bytes) text given y w r front same (v, h, is) = (v, terms_front y bytes v (subst (λ t. IsTermsVerdict y t v) (same ∙ front) h), is)
 
--- what was read of a text of terms says what is due for it
-pub read_due : (known : Option (List ℕ)) (text given : List ℕ) (y : Spec) (w : Store) (r s : Reading Reference) → IfSome known (λ bytes. text ≡ take (LIMIT + 1) bytes) → given ≡ text → IsListRead y w given r → r ≡ s
-    → IfSome known (λ bytes. IsListRead y w bytes s)
-read_due known text given y w r s front same h e = read_front known text y w s front (subst (λ t. IsListRead y w t s) same (subst (IsListRead y w given) e h))
+-- so it says what is due for the text
+refused_due : (y : Spec) (shown : Shown) (n : ℕ) (r : Refusal) (v : TermsVerdict) → refused_terms v ≡ Some r → refusal_due r ≡ due_of_terms y shown n v
+refused_due y shown n r TooLong e = ap refusal_due (same_refusal e)
+refused_due y shown n r (Outside at) e = ap refusal_due (same_refusal e)
+refused_due y shown n r (BreaksTerms number) e = ap refusal_due (same_refusal e)
+refused_due y shown n r (GoodTerms ts) e = absurd (cc e)
+
+list_read : (y : Spec) (w : Store) (bytes : List ℕ) (r : Reading Reference) → IsTermsRead y w bytes r → IsListRead y w bytes r
+list_read y w bytes (RefusedRun r) (v, h, is) = λ shown n. (v, h, refused_due y shown n r v is)
+list_read y w bytes (GoodRun list) (v, h, is) = λ shown n. (v, h, ap (due_of_terms y shown n) (sym is))
+
+pub read_due : (known : Option (List ℕ)) (y : Spec) (w : Store) (r : Reading Reference) → IfSome known (λ bytes. IsTermsRead y w bytes r) → IfSome known (λ bytes. IsListRead y w bytes r)
+read_due None y w r h = tt
+read_due (Some bytes) y w r h = list_read y w bytes r h
 
 -- and with a good specification what is due for both texts
 job_read : (w : Store) (checked : Sourced) (bytes : List ℕ) (r : Reading Reference) → IsListRead checked.spec w bytes r → IsReadFor w checked.spec bytes (job_of checked r)
@@ -71,31 +81,31 @@ job_ready w checked (RefusedRun r) h = tt
 job_ready w checked (GoodRun list) h = λ x e. let same : list ≡ x = cc in subst (HoldsTerms checked.spec w) same h
 
 -- a text of terms that is no term's
-pub no_term : (y : Spec) (w : Store) (bytes : List ℕ) (r : Refusal) (v : text.Verdict) → refused_text source.Terms v ≡ Some r → IsVerdict bytes v → IsListRead y w bytes (RefusedRun r)
-no_term y w bytes r text.TooLong e h = λ shown n. (TooLong, h, ap refusal_due (same_refusal e))
-no_term y w bytes r (text.Outside at) e h = λ shown n. (Outside at, h, ap refusal_due (same_refusal e))
+pub no_term : (y : Spec) (w : Store) (bytes : List ℕ) (r : Refusal) (v : text.Verdict) → refused_text source.Terms v ≡ Some r → IsVerdict bytes v → IsTermsRead y w bytes (RefusedRun r)
+no_term y w bytes r text.TooLong e h = (TooLong, h, e)
+no_term y w bytes r (text.Outside at) e h = (Outside at, h, e)
 no_term y w bytes r (Spelt t) e h = absurd (cc e)
 
 -- a text of terms that is one
 pub some_term : (y : Spec) (w : Store) (bytes : List ℕ) (list : Reference) (v : text.Verdict) (r : Reading Reference) → IsReadingOf source.Terms w (GoodRun list) v → IsVerdict bytes v
-    → IfSome (tree_at w list) (λ t. (bytes : List ℕ) → Fits bytes → Spells bytes t → IsListRead y w bytes r) → IsListRead y w bytes r
+    → IfSome (tree_at w list) (λ t. (bytes : List ℕ) → Fits bytes → Spells bytes t → IsTermsRead y w bytes r) → IsTermsRead y w bytes r
 some_term y w bytes list v r (u, here, e) h k =
-    let of = subst (λ o. IfSome o (λ t. (bytes : List ℕ) → Fits bytes → Spells bytes t → IsListRead y w bytes r)) here k in
+    let of = subst (λ o. IfSome o (λ t. (bytes : List ℕ) → Fits bytes → Spells bytes t → IsTermsRead y w bytes r)) here k in
     let spelt = subst (IsVerdict bytes) e h in
     of bytes spelt.0 spelt.1
 
 -- a list that is not accepted: the rule that it breaks is due
-broken_list : (o : Option Tree) (y : Spec) (w : Store) (number : ℕ) → IfSome o (λ t. broken_by_terms y t ≡ Some number) → IfSome o (λ t. (bytes : List ℕ) → Fits bytes → Spells bytes t → IsListRead y w bytes (RefusedRun (record { text = source.Terms; reason = reason.TermsRule number })))
+broken_list : (o : Option Tree) (y : Spec) (w : Store) (number : ℕ) → IfSome o (λ t. broken_by_terms y t ≡ Some number) → IfSome o (λ t. (bytes : List ℕ) → Fits bytes → Spells bytes t → IsTermsRead y w bytes (RefusedRun (record { text = source.Terms; reason = reason.TermsRule number })))
 broken_list None y w number h = tt
-broken_list (Some t) y w number h = λ bytes fits spells shown n. (BreaksTerms number, (fits, (t, spells, h)), refl)
+broken_list (Some t) y w number h = λ bytes fits spells. (BreaksTerms number, (fits, (t, spells, h)), refl)
 
-due_refused : (o : Option Tree) (y : Spec) (w : Store) (e : TermsFault) → IfSome o (λ t. IsTermsFault (broken_by_terms y t) e) → IfOk (list_refused e) (λ r. IfSome o (λ t. (bytes : List ℕ) → Fits bytes → Spells bytes t → IsListRead y w bytes r))
+due_refused : (o : Option Tree) (y : Spec) (w : Store) (e : TermsFault) → IfSome o (λ t. IsTermsFault (broken_by_terms y t) e) → IfOk (list_refused e) (λ r. IfSome o (λ t. (bytes : List ℕ) → Fits bytes → Spells bytes t → IsTermsRead y w bytes r))
 due_refused o y w (rule.Rule number) h = broken_list o y w number h
 due_refused o y w rule.Memory h = tt
 
 pub list_due : (result : Result (Reading Reference) RunFault) (o : Option Tree) (y : Spec) (w : Store) (e : TermsFault) → result ≡ list_refused e → IfSome o (λ t. IsTermsFault (broken_by_terms y t) e)
-    → IfOk result (λ r. IfSome o (λ t. (bytes : List ℕ) → Fits bytes → Spells bytes t → IsListRead y w bytes r))
-list_due result o y w e same h = subst (λ z. IfOk z (λ r. IfSome o (λ t. (bytes : List ℕ) → Fits bytes → Spells bytes t → IsListRead y w bytes r))) (sym same) (due_refused o y w e h)
+    → IfOk result (λ r. IfSome o (λ t. (bytes : List ℕ) → Fits bytes → Spells bytes t → IsTermsRead y w bytes r))
+list_due result o y w e same h = subst (λ z. IfOk z (λ r. IfSome o (λ t. (bytes : List ℕ) → Fits bytes → Spells bytes t → IsTermsRead y w bytes r))) (sym same) (due_refused o y w e h)
 
 holds_refused : (y : Spec) (w : Store) (e : TermsFault) → IfOk (list_refused e) (HoldsList y w)
 holds_refused y w (rule.Rule number) = tt
@@ -113,14 +123,14 @@ list_fault result e same = subst (λ z. IfErr z (λ f. f ≡ fault.Memory 0)) (s
 
 -- and one that keeps them
 pub good_list : (w : Store) (y : Spec) (list : Reference) → IfSome (tree_at w list) (λ t. broken_by_terms y t ≡ None)
-    → IfSome (tree_at w list) (λ t. (bytes : List ℕ) → Fits bytes → Spells bytes t → IsListRead y w bytes (GoodRun list))
+    → IfSome (tree_at w list) (λ t. (bytes : List ℕ) → Fits bytes → Spells bytes t → IsTermsRead y w bytes (GoodRun list))
 good_list w y list h = by (tree_at w list) refl h
   where
-    by : (o : Option Tree) → tree_at w list ≡ o → IfSome o (λ t. broken_by_terms y t ≡ None) → IfSome o (λ t. (bytes : List ℕ) → Fits bytes → Spells bytes t → IsListRead y w bytes (GoodRun list))
+    by : (o : Option Tree) → tree_at w list ≡ o → IfSome o (λ t. broken_by_terms y t ≡ None) → IfSome o (λ t. (bytes : List ℕ) → Fits bytes → Spells bytes t → IsTermsRead y w bytes (GoodRun list))
     by None here kept = tt
-    by (Some t) here kept = λ bytes fits spells shown n.
+    by (Some t) here kept = λ bytes fits spells.
         let found = kept_elements y t kept in
-        (GoodTerms found.0, (fits, (t, spells, kept, found.1)), ap (λ us. done (lines y us shown n)) (given_elements w list t found.0 here found.1))
+        (GoodTerms found.0, (fits, (t, spells, kept, found.1)), ap GoodTerms (sym (given_elements w list t found.0 here found.1)))
 
 -- its terms keep the rules
 pub list_holds : (w : Store) (y : Spec) (list : Reference) → IsSome (tree_at w list) → IfSome (tree_at w list) (λ t. broken_by_terms y t ≡ None) → HoldsTerms y w list

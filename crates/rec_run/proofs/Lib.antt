@@ -11,6 +11,7 @@ mod DueOfTextLemmas
 mod OutputRows
 mod RefusalRows
 pub mod FaultLemmas
+pub mod DepthLemmas
 mod TermRows
 mod DueRows
 mod GivenRows

@@ -1,5 +1,5 @@
 -- What is due for two texts is one thing at most.
-use Rattle.std.proofs.Common.{◌≡◌, ℕ, Bool, List, Option, Some, None, refl, sym, ap, ◌∙◌, arith}
+use Rattle.std.proofs.Common.{◌≡◌, ℕ, List, Option, Some, None, refl, sym, ap, ◌∙◌, arith}
 use Rattle.rx_text.proofs.UniqueLemmas.{one_tree}
 use Rattle.rx_text.proofs.PlaceLemmas as trees
 use Rattle.rx_text.proofs.FaultLemmas as trees_or_places

@@ -1,5 +1,5 @@
 -- From what the texts of a run came to to what is due.
-use Rattle.std.proofs.Common.{ap, ◌≡◌, ℕ, ◌+◌, Bool, List, Option, Some, None, IfSome, take, refl, subst, sym, arith}
+use Rattle.std.proofs.Common.{ap, ◌≡◌, ℕ, ◌+◌, ◌≤◌, ◌∙◌, List, Option, Some, None, IfSome, length, take, refl, subst, sym, arith}
 use Rattle.std.proofs.lemmas.List.{length-take}
 use Rattle.rec_syntax.specs.Syntax.{Sourced}
 use Rattle.rec_sorts.specs.SpecRules as verdict
@@ -8,7 +8,7 @@ use Rattle.rx_term.specs.Store.{Store}
 use Rattle.rx_run.specs.Due.{Due}
 use Rattle.rec_run.specs.Output.{Shown, IsDueAfter, due_of_spec}
 use Rattle.rec_run.specs.GivenTerms.{IsReadFrom, IsReady, job_alone_of, run_due}
-use Rattle.rec_run.specs.Reading.{IsSpecRead, refused_spec}
+use Rattle.rec_run.specs.Reading.{IsSpecRead, KeepsText, refused_spec}
 use Rattle.rx_run.specs.Refusals.{refusal_due}
 use Rattle.rec_run.specs.Run.{IsDueFor, Texts, both_texts}
 use Rattle.rx_run.specs.declared.refusal.Reading.{Reading}
@@ -41,6 +41,14 @@ verdict_front bytes (verdict.Good y) h = subst (λ text. SpecVerdict text (verdi
 pub spec_read : (known : Option (List ℕ)) (text : List ℕ) (r : Reading Sourced) → IfSome known (λ bytes. text ≡ take (LIMIT + 1) bytes) → IsSpecRead text r → IfSome known (λ bytes. IsSpecRead bytes r)
 spec_read None text r e h = tt
 spec_read (Some bytes) text r e (v, h, is) = (v, verdict_front bytes v (subst (λ t. SpecVerdict t v) e h), is)
+
+-- a good one keeps the text
+pub kept_text : (known : Option (List ℕ)) (text : List ℕ) (r : Reading Sourced) → IfSome known (λ bytes. text ≡ take (LIMIT + 1) bytes) → IsSpecRead text r → KeepsText text r → IfSome known (λ bytes. KeepsText bytes r)
+kept_text None text r e h k = tt
+kept_text (Some bytes) text (Refused r) e h k = tt
+kept_text (Some bytes) text (Good checked) e (v, h, is) k =
+    let fits = (subst (SpecVerdict text) is h).0 in
+    k ∙ e ∙ short_front bytes (subst (λ t. length t ≤ LIMIT) e fits)
 
 -- a refused specification is all that counts
 pub after_refusal : (v : Verdict) (r : Refusal) (terms : Option (List ℕ)) (shown : Shown) (n : ℕ) → refused_spec v ≡ Some r → IsDueAfter v terms shown n (refusal_due r)

@@ -19,6 +19,7 @@ use Rattle.rec_sorts.specs.declared.fault.TermsFault.{TermsFault}
 use Rattle.rec_sorts.specs.declared.fault.TermsFault.TheVariants as rule
 use Rattle.rx_run.specs.Due.{Due, done}
 use Rattle.rec_run.specs.Output.{Shown, IsDueAfter, lines}
+use Rattle.rec_run.specs.Output.{TermsVerdict, TooLong, Outside, BreaksTerms, GoodTerms, IsTermsVerdict}
 use Rattle.rec_run.specs.Reading.{evaluation_text}
 use Rattle.rx_run.specs.Refusals.{reading_due}
 use Rattle.rec_run.specs.Run.{HasRoom, IsDueFor, Texts}
@@ -28,6 +29,7 @@ use Rattle.rx_run.specs.declared.ending.Source.TheVariants as source
 use Rattle.rx_run.specs.declared.refusal.Reading.{Reading}
 use Rattle.rx_run.specs.declared.refusal.Reading.TheVariants as reading
 use Rattle.rx_run.specs.declared.refusal.Reason.TheVariants as reason
+use Rattle.rx_run.specs.declared.refusal.Refusal.{Refusal}
 use Rattle.rec_run.specs.declared.spec.reading.Job.{Job}
 
 -- the tree of a reference; the empty list, where there is none
@@ -105,6 +107,23 @@ IsReadAs w v bytes r = (shown : Shown) (n : ℕ)
 
 abbrev pub IsReadFor : Store → syntax.Spec → List ℕ → Reading Job → Type 0
 IsReadFor w y bytes r = IsReadAs w (verdict.Good y) bytes r
+
+-- the refusal of a text of terms, by its verdict
+abbrev pub refused_terms : TermsVerdict → Option Refusal
+refused_terms TooLong = Some (record { text = source.Terms; reason = reason.Long })
+refused_terms (Outside at) = Some (record { text = source.Terms; reason = reason.Outside at })
+refused_terms (BreaksTerms number) =
+    Some (record { text = source.Terms; reason = reason.TermsRule number })
+refused_terms (GoodTerms ts) = None
+
+-- what a text of terms came to is this verdict, by the trees of a bank
+abbrev pub IsTermsReading : Store → Reading Reference → TermsVerdict → Type 0
+IsTermsReading w (reading.Refused r) v = refused_terms v ≡ Some r
+IsTermsReading w (reading.Good list) v = v ≡ GoodTerms (given_at w list)
+
+-- it is the verdict on the text
+abbrev pub IsTermsRead : syntax.Spec → Store → List ℕ → Reading Reference → Type 0
+IsTermsRead y w text r = (v : TermsVerdict) × IsTermsVerdict y text v × IsTermsReading w r v
 
 -- after a good specification, what a text of terms came to says what is due for it, by the trees of
 -- a bank

@@ -1,3 +1,4 @@
+pub mod Depth
 pub mod EvaluatedLines
 pub mod GivenTerms
 pub mod Laws

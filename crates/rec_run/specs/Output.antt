@@ -17,6 +17,7 @@ use Rattle.rx_run.specs.declared.ending.Source.TheVariants as source
 use Rattle.rx_run.specs.declared.ending.Named.TheVariants as named
 use Rattle.rec_run.specs.declared.options.LimitLines.{LimitLines}
 use Rattle.rec_run.specs.declared.options.LimitLines.TheVariants.{Bare, Annotated}
+use Rattle.rec_run.specs.declared.options.RunSettings.{RunSettings}
 
 -- a term to be evaluated, and the annotations that its value bears
 pub record Task : Type 0 where
@@ -35,6 +36,10 @@ bare count = record { count = count; limits = Bare }
 -- with these limit lines
 abbrev pub shown_by : Bool → LimitLines → Shown
 shown_by count limits = record { count = count; limits = limits }
+
+-- as these settings say
+abbrev pub shown_of : RunSettings → Shown
+shown_of s = shown_by s.options.count s.limits
 
 -- annotations between braces, where there are any
 abbrev pub notes_text : Trees → List ℕ

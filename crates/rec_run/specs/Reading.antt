@@ -38,6 +38,11 @@ abbrev pub IsGood : Reading Sourced → Type 0
 IsGood (reading.Refused r) = ⊥
 IsGood (reading.Good checked) = Unit {0}
 
+-- a good specification keeps the text
+abbrev pub KeepsText : List ℕ → Reading Sourced → Type 0
+KeepsText text (reading.Refused r) = Unit {0}
+KeepsText text (reading.Good checked) = checked.source ≡ text
+
 -- what is shown of an evaluation within n steps, with annotations: the line of its term without the
 -- line end
 abbrev pub evaluation_text : Trees → Shown → ℕ → evaluation.Outcome Tree → List ℕ

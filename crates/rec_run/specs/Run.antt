@@ -4,10 +4,9 @@
 --     RoomExhausts w needed fault     want of cells comes where all that is held is needed
 --     RoomIn old new needed fault     want of cells comes there, or where a text filled the bank
 --     HasRoom fault                   the fault is not want of cells
-use Rattle.std.specs.Prelude.{◌≡◌, ◌⊎◌, ℕ, List, [], Option, Some, None, IfSome, Result, Ok, Err, MatchResult, option_map}
+use Rattle.std.specs.Prelude.{◌≡◌, ◌⊎◌, ℕ, List, [], Option, Some, None, IfSome, Result, MatchResult, option_map}
 use Rattle.std.proofs.Common.{inl, inr}
 use Rattle.std.specs.Borrow.{MutBor}
-use Rattle.std.specs.Io.KnownBytes.{Keeps}
 use Rattle.rx_term.specs.Steps.{IsExhausted}
 use Rattle.rx_term.specs.Store.{Store}
 use Rattle.rx_term.specs.Walks.{AllHeld}
@@ -16,9 +15,8 @@ use Rattle.rx_text.specs.Input.{HasRefusedRead, IsReadable}
 use Rattle.rx_text.specs.declared.input.Input.{Input}
 use Rattle.rx_run.specs.Due.{Due}
 use Rattle.rx_run.specs.Run.{IsFilled}
-use Rattle.rx_run.specs.declared.ending.Finish.{Finish}
 use Rattle.rx_run.specs.declared.ending.RunFault.{RunFault}
-use Rattle.rx_run.specs.declared.ending.RunFault.TheVariants.{Room, Read, Write}
+use Rattle.rx_run.specs.declared.ending.RunFault.TheVariants.{Room, Read}
 use Rattle.rec_run.specs.Output.{Shown, IsDue}
 
 -- the texts of a run: the specification, and the terms where some are given
@@ -74,13 +72,6 @@ RoomExhausts w needed f = Unit {0}
 abbrev pub RoomIn : Store → Store → List Term → RunFault → Type 0
 RoomIn old new needed (Room lines) = (IsFilled old new × (needed ≡ [])) ⊎ NeedsAll new needed
 RoomIn old new needed f = Unit {0}
-
--- what a run answers behind what was written: the fault that stopped it, or, after a flush, how it
--- ends or that the writer refused to flush
-abbrev pub EndsBehind : Result (Unit {0}) RunFault → Finish → Option (List ℕ) → Option (List ℕ)
-    → Result Finish RunFault → Type 0
-EndsBehind (Ok u) finish old new r = Keeps old new × ((r ≡ Ok finish) ⊎ (r ≡ Err Write))
-EndsBehind (Err f) finish old new r = (r ≡ Err f) × (new ≡ old)
 
 -- two inputs were read: the fault `Read` is answered only where one of them has refused
 module _ {R S : Type 0} where

@@ -1,4 +1,4 @@
-//! What a run may use, and what its limit lines say.
+//! What a run may use, what its limit lines say, and how many calls may wait.
 
 ghost use Rattle.std.specs.Prelude.{◌≤◌, ◌^◌};
 
@@ -28,4 +28,15 @@ pub enum LimitLines {
     Bare,
     /// Its annotations: `!limit 50{id(2)}`.
     Annotated,
+}
+
+/// All that a run is told besides its texts.
+#[derive(Clone, Copy, Debug, Drop)]
+pub struct RunSettings {
+    /// What it may use.
+    pub options: RunOptions,
+    /// What its limit lines say.
+    pub limits: LimitLines,
+    /// How many calls may wait at once; without a number as many as there is memory for.
+    pub depth: Option<u32>,
 }

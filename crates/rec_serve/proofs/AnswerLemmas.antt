@@ -1,6 +1,6 @@
 -- What holds of answers, and of what is due for requests.
-use Rattle.std.proofs.Common.{◌≡◌, ◌≢◌, ℕ, suc, ◌+◌, ◌-◌, ◌<◌, ◌≤◌, ◌^◌, Bool, true, false, List, [], ◌∷◌, ◌++◌, Option, Some, None, inl, inr, refl, sym, ap, ap₂, subst, ◌∙◌, append_assoc, append-nil, get_or, length, arith}
-use Rattle.std.specs.Prelude.{◌⊎◌, IsTrue, flat_map, codes, decimal, nat_lt, not, ◌&&◌}
+use Rattle.std.proofs.Common.{◌≡◌, ◌≢◌, ℕ, suc, ◌+◌, ◌-◌, ◌<◌, ◌^◌, Bool, true, false, List, [], ◌∷◌, ◌++◌, Option, Some, None, inl, inr, refl, sym, ap, ap₂, subst, ◌∙◌, append_assoc, get_or, length, arith}
+use Rattle.std.specs.Prelude.{◌⊎◌, IsTrue, flat_map, codes, decimal, nat_lt, not}
 use Rattle.std.specs.List.{list_all, list_any}
 use Rattle.std.proofs.lemmas.Bool.{and_parts}
 use Rattle.rx_term.specs.Name.{plain_name, starts_name, continues_name}
@@ -10,7 +10,6 @@ use Rattle.rx_text.specs.Grammar.{Spells}
 use Rattle.rx_text.specs.Verdict.{Verdict, TooLong, Outside, Spelt, IsVerdict}
 use Rattle.rx_text.proofs.VerdictLemmas.{one_verdict}
 use Rattle.rx_text.proofs.ValidLemmas.{spelt_valid}
-use Rattle.rx_text.proofs.InLineLemmas.{seen, letter_seen}
 use Rattle.rec_syntax.specs.Syntax.{Spec}
 use Rattle.rec_sorts.specs.Evaluation.{Outcome, Done, Over, Eval, term_of}
 use Rattle.rec_sorts.specs.Numbering.{Pairwise}
@@ -97,22 +96,24 @@ one_line y counted n r a few low (v, h, e) =
 
 -- ---- no want
 
--- a want's first bytes are `!m` or `!c`
+-- a want's first bytes are `!m`, `!c` or `!d`
 record BeginsWant (a : List ℕ) : Type 0 where
   first : get_or a 0 0 ≡ 33
-  second : (get_or a 1 0 ≡ 109) ⊎ (get_or a 1 0 ≡ 99)
+  second : (get_or a 1 0 < 101) ⊎ (get_or a 1 0 ≡ 109)
 
-begins_want : (a : List ℕ) → IsWant a → BeginsWant a
-begins_want a (inl e) = record { first = ap (λ z. get_or z 0 0) e; second = inl (ap (λ z. get_or z 1 0) e) }
-begins_want a (inr e) = record { first = ap (λ z. get_or z 0 0) e; second = inr (ap (λ z. get_or z 1 0) e) }
+begins_want : (depth : Option ℕ) (a : List ℕ) → IsWant depth a → BeginsWant a
+begins_want depth a (inl e) = record { first = ap (λ z. get_or z 0 0) e; second = inr (ap (λ z. get_or z 1 0) e) }
+begins_want depth a (inr (inl e)) = let k : get_or a 1 0 ≡ 99 = ap (λ z. get_or z 1 0) e in record { first = ap (λ z. get_or z 0 0) e; second = inl (omega (arith, k)) }
+begins_want None a (inr (inr e)) = absurd e
+begins_want (Some d) a (inr (inr e)) = let k : get_or a 1 0 ≡ 100 = ap (λ z. get_or z 1 0) e in record { first = ap (λ z. get_or z 0 0) e; second = inl (omega (arith, k)) }
 
 -- another second byte
-other_second : (a : List ℕ) → (get_or a 1 0 ≡ 116) ⊎ (get_or a 1 0 ≡ 108) → IsWant a → ⊥
-other_second a (inl e) w = elim (begins_want a w).second [ inl k ↦ absurd (omega (arith, e, k)) | inr k ↦ absurd (omega (arith, e, k)) ]
-other_second a (inr e) w = elim (begins_want a w).second [ inl k ↦ absurd (omega (arith, e, k)) | inr k ↦ absurd (omega (arith, e, k)) ]
+other_second : (depth : Option ℕ) (a : List ℕ) → (get_or a 1 0 ≡ 116) ⊎ (get_or a 1 0 ≡ 108) → IsWant depth a → ⊥
+other_second depth a (inl e) w = elim (begins_want depth a w).second [ inl k ↦ absurd (omega (arith, e, k)) | inr k ↦ absurd (omega (arith, e, k)) ]
+other_second depth a (inr e) w = elim (begins_want depth a w).second [ inl k ↦ absurd (omega (arith, e, k)) | inr k ↦ absurd (omega (arith, e, k)) ]
 
-other_first : (a : List ℕ) → get_or a 0 0 ≢ 33 → IsWant a → ⊥
-other_first a h w = h (begins_want a w).first
+other_first : (depth : Option ℕ) (a : List ℕ) → get_or a 0 0 ≢ 33 → IsWant depth a → ⊥
+other_first depth a h w = h (begins_want depth a w).first
 
 -- a letter is no `!`
 letter_other : (b : ℕ) → starts_name b ≡ true → b ≢ 33
@@ -130,22 +131,22 @@ value_first (Int z anns) notes rest h e = absurd h
 value_first (Items ts anns) notes rest h e = absurd h
 value_first (Hole t anns) notes rest h e = absurd h
 
-line_wants : (y : Spec) (counted : Bool) (n : ℕ) (u : Tree) (o : Outcome Tree) → Eval y n [] (term_of u) ≡ o → IsWant (evaluation_text (annotations u) (bare counted) n o ++ codes "\n") → ⊥
-line_wants y counted n u (Done v left) e w =
-    other_first _ (λ k. value_first v (annotations u) (steps_text counted (n - left) ++ codes "\n") (value_is_applied y n (term_of u) v left e) (ap (λ z. get_or z 0 0) (sym (append_assoc (canon (annotated v (annotations u))) (steps_text counted (n - left)) (codes "\n"))) ∙ k)) w
-line_wants y counted n u Over e w = other_second _ (inr refl) w
+line_wants : (y : Spec) (counted : Bool) (n : ℕ) (depth : Option ℕ) (u : Tree) (o : Outcome Tree) → Eval y n [] (term_of u) ≡ o → IsWant depth (evaluation_text (annotations u) (bare counted) n o ++ codes "\n") → ⊥
+line_wants y counted n depth u (Done v left) e w =
+    other_first depth _ (λ k. value_first v (annotations u) (steps_text counted (n - left) ++ codes "\n") (value_is_applied y n (term_of u) v left e) (ap (λ z. get_or z 0 0) (sym (append_assoc (canon (annotated v (annotations u))) (steps_text counted (n - left)) (codes "\n"))) ∙ k)) w
+line_wants y counted n depth u Over e w = other_second depth _ (inr refl) w
 
-tree_wants : (y : Spec) (counted : Bool) (n : ℕ) (t : Tree) (o : Option ℕ) → IsWant (answer_by y counted n t o) → ⊥
-tree_wants y counted n t (Some m) w = other_second _ (inl refl) w
-tree_wants y counted n t None w = line_wants y counted n t (Eval y n [] (term_of t)) refl (subst IsWant (line-text y counted n t) w)
+tree_wants : (y : Spec) (counted : Bool) (n : ℕ) (depth : Option ℕ) (t : Tree) (o : Option ℕ) → IsWant depth (answer_by y counted n t o) → ⊥
+tree_wants y counted n depth t (Some m) w = other_second depth _ (inl refl) w
+tree_wants y counted n depth t None w = line_wants y counted n depth t (Eval y n [] (term_of t)) refl (subst (IsWant depth) (line-text y counted n t) w)
 
-after_wants : (y : Spec) (counted : Bool) (n : ℕ) (v : Verdict) → IsWant (answer_after y counted n v) → ⊥
-after_wants y counted n TooLong w = other_second _ (inl refl) w
-after_wants y counted n (Outside at) w = other_second _ (inl refl) w
-after_wants y counted n (Spelt t) w = tree_wants y counted n t (broken_by_elements y (t ∷ [])) w
+after_wants : (y : Spec) (counted : Bool) (n : ℕ) (depth : Option ℕ) (v : Verdict) → IsWant depth (answer_after y counted n v) → ⊥
+after_wants y counted n depth TooLong w = other_second depth _ (inl refl) w
+after_wants y counted n depth (Outside at) w = other_second depth _ (inl refl) w
+after_wants y counted n depth (Spelt t) w = tree_wants y counted n depth t (broken_by_elements y (t ∷ [])) w
 
 pub no_want : NoWant
-no_want y counted n r a (v, h, e) w = after_wants y counted n v (subst IsWant e w)
+no_want y counted n depth r a (v, h, e) w = after_wants y counted n depth v (subst (IsWant depth) e w)
 
 -- ---- what is due
 

@@ -1,8 +1,8 @@
 -- What is kept of a request, and what is left of a stream.
-use Rattle.std.proofs.Common.{◌≡◌, ℕ, zero, suc, ◌+◌, ◌-◌, ◌<◌, ◌≤◌, Bool, true, false, List, [], ◌∷◌, ◌++◌, Option, Some, None, refl, sym, ap, subst, ◌∙◌, append_assoc, append-nil, length, take, drop, min, lit<, arith}
+use Rattle.std.proofs.Common.{◌≡◌, ℕ, zero, suc, ◌+◌, ◌-◌, ◌<◌, Bool, true, false, List, [], ◌∷◌, ◌++◌, Option, Some, None, refl, sym, ap, subst, ◌∙◌, append_assoc, append-nil, length, take, drop, min, lit<, arith}
 use Rattle.std.specs.Prelude.{◌==◌, MatchBool, MatchOption, position, slice_range}
 use Rattle.std.proofs.lemmas.List.{drop-drop, drop_all, length-append, length-take}
-use Rattle.std.specs.Io.KnownBytes.{IsAtEnd, Keeps, prepend_known}
+use Rattle.std.specs.Io.KnownBytes.{IsAtEnd, Keeps}
 use Rattle.rec_serve.specs.Conversation.{requests}
 use Rattle.rec_serve.specs.declared.request.Request.{Request}
 use Rattle.rec_serve.specs.Reading.{Begins, IsOver, IsRead, Splits, Takes, all_in_front, left_of, unread}

@@ -1,12 +1,12 @@
 -- From what an engine answers to the line of a request.
-use Rattle.std.proofs.Common.{◌≡◌, ℕ, ◌+◌, ◌-◌, List, [], ◌∷◌, ◌++◌, Bool, false, ◌<◌, length, take, Option, Some, None, IfSome, IsSome, inl, inr, refl, sym, ap, ap₂, subst, ◌∙◌, append_assoc, append-nil, arith}
+use Rattle.std.proofs.Common.{◌≡◌, ◌≢◌, ℕ, ◌-◌, List, [], ◌∷◌, ◌++◌, Bool, false, ◌<◌, length, take, Option, Some, None, IfErr, IfSome, IsSome, inl, inr, refl, sym, ap, ap₂, subst, ◌∙◌, append-nil, arith}
 use Rattle.std.specs.Prelude.{Err, IfOk, MatchBool, Ok, Result, codes, option_map, unwrap_or}
-use Rattle.rx_term.specs.Tree.{Tree, Trees, annotated, annotations, list_of, none}
+use Rattle.rx_term.specs.Tree.{Tree, annotated, annotations, list_of, none}
 use Rattle.rx_term.specs.Store.{Store, tree_at}
 use Rattle.rx_text.specs.Canon.{canon}
 use Rattle.rec_syntax.specs.Syntax.{Spec}
 use Rattle.rec_sorts.specs.Binding.{tree_of}
-use Rattle.rec_sorts.specs.Evaluation.{Done, Over, Eval, term_of}
+use Rattle.rec_sorts.specs.Evaluation.{Done, Eval, term_of}
 use Rattle.rec_sorts.specs.Numbering.{Pairwise}
 use Rattle.rec_engine.specs.Engine.{IsOutcome}
 use Rattle.rec_engine.specs.declared.engine.Outcome.{Outcome}
@@ -27,10 +27,10 @@ use Rattle.rec_sorts.specs.TermRules.{broken_by_elements, broken_by_terms}
 use Rattle.rec_sorts.specs.TermsFaults.{IsTermsFault}
 use Rattle.rec_sorts.specs.declared.fault.TermsFault.{TermsFault}
 use Rattle.rec_sorts.specs.declared.fault.TermsFault.TheVariants as rule
-use Rattle.rec_serve.specs.Answering.{AnswersTree, IsAnswered, refusal_after, refusal_line, shown, text_of}
+use Rattle.rec_serve.specs.Answering.{AnswersTree, IsAnswered, WantsDepth, refusal_after, refusal_line, shown, text_of}
 use Rattle.rec_serve.specs.Conversation.{IsAnswer, answer_after, answer_by}
 use Rattle.rec_serve.specs.Reading.{IsRead}
-use Rattle.rec_serve.specs.Replies.{IsReply, IsWant}
+use Rattle.rec_serve.specs.Replies.{IsReply}
 use Rattle.rec_serve.specs.declared.answers.Answered.{Answered}
 use Rattle.rec_serve.specs.declared.ending.Refusal.{Refusal}
 use Rattle.rec_serve.specs.declared.ending.Refusal.TheVariants as refusal
@@ -144,7 +144,16 @@ kept_answer y counted n q text (Ok a) kept same h = λ line is.
     (h.verdict, verdict_given (Some line) text h.verdict (same ∙ front) h.is, h.text)
 
 -- what is written for a request is a reply to it
-pub reply_is : (y : Spec) (counted : Bool) (n : ℕ) (q : Request) (r : Result Answered Want) → IfOk r (λ a. (line : List ℕ) → IsRead q line → IsAnswer y counted n line a.text.items) → (line : List ℕ) → IsRead q line → IsReply y counted n line (text_of r)
-reply_is y counted n q (Ok a) h line is = inl (h line is)
-reply_is y counted n q (Err want.Memory) h line is = inr (inl refl)
-reply_is y counted n q (Err want.Cells) h line is = inr (inr refl)
+pub reply_is : (y : Spec) (counted : Bool) (n waiting : ℕ) (depth : Option ℕ) (q : Request) (r : Result Answered Want) → IfErr r (WantsDepth waiting depth) → IfOk r (λ a. (line : List ℕ) → IsRead q line → IsAnswer y counted n line a.text.items) → (line : List ℕ) → IsRead q line → IsReply y counted n depth line (text_of r)
+reply_is y counted n waiting depth q (Ok a) deep h line is = inl (h line is)
+reply_is y counted n waiting depth q (Err want.Memory) deep h line is = inr (inl refl)
+reply_is y counted n waiting depth q (Err want.Cells) deep h line is = inr (inr (inl refl))
+reply_is y counted n waiting None q (Err want.Deep) deep h line is = absurd deep
+reply_is y counted n waiting (Some d) q (Err want.Deep) deep h line is = inr (inr (inr refl))
+
+-- where nothing was said of how many calls may wait, no request is too deep
+pub never_deep : (waiting : ℕ) (r : Result Answered Want) → IfErr r (WantsDepth waiting None) → Err want.Deep ≢ r
+never_deep waiting (Ok a) h e = cc e
+never_deep waiting (Err want.Memory) h e = cc e
+never_deep waiting (Err want.Cells) h e = cc e
+never_deep waiting (Err want.Deep) h e = absurd h

@@ -26,11 +26,11 @@ use Rattle.rec_serve.proofs.ReplyLemmas.{breaks_at_once}
 the_reading : (text : List ℕ) (r : Reading Sourced) (v : Verdict) → IsSpecRead text r → SpecVerdict text v → IsSpecReading r v
 the_reading text r v (w, h, is) k = subst (IsSpecReading r) (one_verdict text w v h k) is
 
-pub breaks_serving : (counted : Bool) (n : ℕ) (spec known : Option (List ℕ)) (r : Reading Sourced) (result : Result Finish ServeFault) (old new : Option (List ℕ)) → IfSome spec (λ text. IsSpecRead text r)
-    → IfErr result (λ fault. (v : Verdict) → IsSpecReading r v → BreaksAfter counted n v known fault old new) → IfErr result (λ fault. BreaksServing counted n spec known fault old new)
-breaks_serving counted n spec known r (Ok x) old new h k = tt
-breaks_serving counted n None known r (Err fault) old new h k = tt
-breaks_serving counted n (Some text) known r (Err fault) old new h k = λ v is. k v (the_reading text r v h is)
+pub breaks_serving : (counted : Bool) (n : ℕ) (depth : Option ℕ) (spec known : Option (List ℕ)) (r : Reading Sourced) (result : Result Finish ServeFault) (old new : Option (List ℕ)) → IfSome spec (λ text. IsSpecRead text r)
+    → IfErr result (λ fault. (v : Verdict) → IsSpecReading r v → BreaksAfter counted n depth v known fault old new) → IfErr result (λ fault. BreaksServing counted n depth spec known fault old new)
+breaks_serving counted n depth spec known r (Ok x) old new h k = tt
+breaks_serving counted n depth None known r (Err fault) old new h k = tt
+breaks_serving counted n depth (Some text) known r (Err fault) old new h k = λ v is. k v (the_reading text r v h is)
 
 refused_place : (counted : Bool) (n : ℕ) (r : Refusal) (v : Verdict) → refused_spec v ≡ Some r → (refusal_due r).place ≡ (due_of_spec (bare counted) n v).place
 refused_place counted n r verdict.Long e = ap (λ (x : Refusal). (refusal_due x).place) (same_refusal e)
@@ -63,12 +63,12 @@ unread_first unread.Read = refl
 nothing_front : (text : List ℕ) (old : Option (List ℕ)) → AppendsFront text old old
 nothing_front text old = ([], appends_same old, (text, refl))
 
-unread_after : (counted : Bool) (n : ℕ) (v : Verdict) (known : Option (List ℕ)) (fault : ServeFault) (old : Option (List ℕ)) → answered_before fault ≡ 0 → BreaksAfter counted n v known fault old old
-unread_after counted n (Good y) known fault old a = breaks_at_once y counted n known old fault a
-unread_after counted n verdict.Long known fault old a = (a, nothing_front _ old)
-unread_after counted n (verdict.Grammar at) known fault old a = (a, nothing_front _ old)
-unread_after counted n (verdict.Breaks f) known fault old a = (a, nothing_front _ old)
+unread_after : (counted : Bool) (n : ℕ) (depth : Option ℕ) (v : Verdict) (known : Option (List ℕ)) (fault : ServeFault) (old : Option (List ℕ)) → answered_before fault ≡ 0 → BreaksAfter counted n depth v known fault old old
+unread_after counted n depth (Good y) known fault old a = breaks_at_once y counted n depth known old fault a
+unread_after counted n depth verdict.Long known fault old a = (a, nothing_front _ old)
+unread_after counted n depth (verdict.Grammar at) known fault old a = (a, nothing_front _ old)
+unread_after counted n depth (verdict.Breaks f) known fault old a = (a, nothing_front _ old)
 
-pub breaks_unread : (counted : Bool) (n : ℕ) (spec known : Option (List ℕ)) (f : ReadFault) (fault : ServeFault) (old : Option (List ℕ)) → fault ≡ unread_fault f → BreaksServing counted n spec known fault old old
-breaks_unread counted n None known f fault old e = tt
-breaks_unread counted n (Some text) known f fault old e = λ v is. unread_after counted n v known fault old (ap answered_before e ∙ unread_first f)
+pub breaks_unread : (counted : Bool) (n : ℕ) (depth : Option ℕ) (spec known : Option (List ℕ)) (f : ReadFault) (fault : ServeFault) (old : Option (List ℕ)) → fault ≡ unread_fault f → BreaksServing counted n depth spec known fault old old
+breaks_unread counted n depth None known f fault old e = tt
+breaks_unread counted n depth (Some text) known f fault old e = λ v is. unread_after counted n depth v known fault old (ap answered_before e ∙ unread_first f)

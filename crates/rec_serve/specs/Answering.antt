@@ -3,7 +3,7 @@
 --     refusal_line r           its line
 --     shown w counted n notes o   what is shown of what a term with annotations comes to
 --     IsAnswered y counted n r a  an answer is that to a request, and says why it is refused
-use Rattle.std.specs.Prelude.{ℕ, ◌≡◌, ◌⊎◌, Bool, Option, Some, None, Result, Ok, Err, List, [], ◌∷◌, ◌++◌, codes, decimal, option_map}
+use Rattle.std.specs.Prelude.{ℕ, ◌≡◌, ◌⊎◌, Bool, Option, Some, Result, Ok, Err, List, [], ◌∷◌, ◌++◌, codes, decimal, option_map}
 use Rattle.rx_term.specs.Tree.{Tree, Trees}
 use Rattle.rx_term.specs.Store.{Store, cells}
 use Rattle.rx_term.specs.declared.Term.{Term}
@@ -15,6 +15,7 @@ use Rattle.rec_memo.specs.Pairs.{Pairs}
 use Rattle.rec_engine.specs.Cells.{HasNoRoom}
 use Rattle.rec_engine.specs.declared.engine.Outcome.{Outcome}
 use Rattle.rec_engine.specs.declared.engine.Outcome.TheVariants.{Value, Limit}
+use Rattle.rec_run.specs.Depth.{IsFull}
 use Rattle.rec_run.specs.GivenTerms.{item_at}
 use Rattle.rec_run.specs.Output.{notes_text}
 use Rattle.rx_run.specs.Due.{steps_text}
@@ -61,8 +62,16 @@ abbrev pub text_of : Result Answered Want → List ℕ
 text_of (Ok a) = a.text.items
 text_of (Err want.Memory) = codes "!memory\n"
 text_of (Err want.Cells) = codes "!cells\n"
+text_of (Err want.Deep) = codes "!depth\n"
 
 -- want of cells comes where a request's own bank is full, or where an engine has no room
 abbrev pub CellsOnly : Store → Store → List Term → Pairs → Want → Type 0
 CellsOnly own w work m want.Memory = Unit {0}
 CellsOnly own w work m want.Cells = (cells own ≡ own.cap) ⊎ HasNoRoom w work m
+CellsOnly own w work m want.Deep = Unit {0}
+
+-- a request is too deep only where as many calls wait as may
+abbrev pub WantsDepth : ℕ → Option ℕ → Want → Type 0
+WantsDepth waiting depth want.Memory = Unit {0}
+WantsDepth waiting depth want.Cells = Unit {0}
+WantsDepth waiting depth want.Deep = IsFull waiting depth

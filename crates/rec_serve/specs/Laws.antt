@@ -1,5 +1,5 @@
 -- The laws of a conversation.
-use Rattle.std.specs.Prelude.{ℕ, ◌≡◌, ◌<◌, ◌^◌, ◌⊎◌, ◌++◌, Bool, List, IsTrue, codes, flat_map, nat_lt}
+use Rattle.std.specs.Prelude.{ℕ, ◌≡◌, ◌<◌, ◌^◌, ◌⊎◌, ◌++◌, Bool, List, Option, IsTrue, codes, flat_map, nat_lt}
 use Rattle.std.specs.List.{list_all}
 use Rattle.rec_syntax.specs.Syntax.{Spec}
 use Rattle.rx_run.specs.Bytes.{newlines}
@@ -35,9 +35,10 @@ OneLine = (y : Spec) (counted : Bool) (n : ℕ) (r a : List ℕ) → n < 2 ^ 64
     → IsTrue (list_all (λ b. nat_lt b 256) r) → IsAnswer y counted n r a
     → (text : List ℕ) × (a ≡ text ++ codes "\n") × (newlines text ≡ 0)
 
--- and none is that of want of memory or of cells
+-- and none is that of want of memory or of cells, or of a request that was too deep
 abbrev pub NoWant : Type 0
-NoWant = (y : Spec) (counted : Bool) (n : ℕ) (r a : List ℕ) → IsAnswer y counted n r a → IsWant a → ⊥
+NoWant = (y : Spec) (counted : Bool) (n : ℕ) (depth : Option ℕ) (r a : List ℕ)
+    → IsAnswer y counted n r a → IsWant depth a → ⊥
 
 -- a stream may be divided behind a line end: the requests are those of each part; what is due for
 -- requests one behind the other is what is due for each; and one text is due for any requests. So it

@@ -2,8 +2,10 @@
 
 ghost use Rattle.std.specs.Prelude.{
   ◌≡◌,
+  ◌≢◌,
   ◌∷◌,
   [],
+  Err,
   IfErr,
   IfOk,
   IfSome,
@@ -24,13 +26,15 @@ ghost use Rattle.rec_serve.specs.Answering.{
   AnswersTree,
   CellsOnly,
   IsAnswered,
+  WantsDepth,
   refusal_line,
 };
 
 use crate::ending::{Refusal, Want};
 use crate::lines::{outcome_text, refusal_text};
+use crate::settings::ServeSettings;
 use rec_engine::Engine;
-use rec_run::RunOptions;
+use rec_run::{RunOptions, evaluate_within};
 use rec_sorts::{Checked, Letter, TermsFault, check_terms, term_letters};
 use rx_shared::SharedBank;
 use rx_term::{BankFault, Term, TermBank};
@@ -58,9 +62,30 @@ pub fn answer<B: TermBank>(
         (IsAnswered engine.old.spec options.count options.steps request.now) }
     ensures same { SameEngine engine.old engine.new }
     ensures keeps { Keeps (B.store engine.old.bank) (B.store engine.new.bank) [] }
+    ensures shallow { Err Want.Deep ≢ result }
 {
-    match SharedBank::new(alloc, options.cells) {
-        Ok(own) => answer_owned(alloc, own, engine, request, options),
+    let settings = ServeSettings {
+        options,
+        depth: None,
+    };
+    answer_within(alloc, engine, request, settings)
+}
+
+/// The same where it may be said how many calls may wait.
+pub fn answer_within<B: TermBank>(
+    alloc: Global,
+    engine: &mut Engine<B>,
+    request: &[u8],
+    settings: ServeSettings,
+) -> Result<Answered, Want>
+    ensures answered { IfOk result
+        (IsAnswered engine.old.spec settings.options.count settings.options.steps request.now) }
+    ensures same { SameEngine engine.old engine.new }
+    ensures keeps { Keeps (B.store engine.old.bank) (B.store engine.new.bank) [] }
+    ensures deep { IfErr result (WantsDepth engine.new.waiting settings.depth) }
+{
+    match SharedBank::new(alloc, settings.options.cells) {
+        Ok(own) => answer_owned(alloc, own, engine, request, settings),
         Err(_) => Err(Want::Memory),
     }
 }
@@ -71,17 +96,18 @@ fn answer_owned<N: TermBank + Drop, B: TermBank>(
     mut own: N,
     engine: &mut Engine<B>,
     request: &[u8],
-    options: RunOptions,
+    settings: ServeSettings,
 ) -> Result<Answered, Want>
     ensures answered { IfOk result
-        (IsAnswered engine.old.spec options.count options.steps request.now) }
+        (IsAnswered engine.old.spec settings.options.count settings.options.steps request.now) }
     ensures same { SameEngine engine.old engine.new }
     ensures keeps { Keeps (B.store engine.old.bank) (B.store engine.new.bank) [] }
+    ensures deep { IfErr result (WantsDepth engine.new.waiting settings.depth) }
 {
-    answer_in(alloc, &mut own, engine, request, options)
+    answer_in_within(alloc, &mut own, engine, request, settings)
 }
 
-/// The same over a bank of the caller's, in which the request is read. Want of cells comes where that
+/// Answers a request over a bank of the caller's, in which it is read. Want of cells comes where that
 /// bank is full, or where the engine has no room.
 pub fn answer_in<N: TermBank, B: TermBank>(
     alloc: Global,
@@ -97,9 +123,34 @@ pub fn answer_in<N: TermBank, B: TermBank>(
     ensures grows { Grows (N.store own.old) (N.store own.new) }
     ensures room { IfErr result (CellsOnly (N.store own.new) (B.store engine.new.bank)
         engine.new.work engine.new.memo) }
+    ensures shallow { Err Want.Deep ≢ result }
+{
+    let settings = ServeSettings {
+        options,
+        depth: None,
+    };
+    answer_in_within(alloc, own, engine, request, settings)
+}
+
+/// The same where it may be said how many calls may wait.
+pub fn answer_in_within<N: TermBank, B: TermBank>(
+    alloc: Global,
+    own: &mut N,
+    engine: &mut Engine<B>,
+    request: &[u8],
+    settings: ServeSettings,
+) -> Result<Answered, Want>
+    ensures answered { IfOk result
+        (IsAnswered engine.old.spec settings.options.count settings.options.steps request.now) }
+    ensures same { SameEngine engine.old engine.new }
+    ensures keeps { Keeps (B.store engine.old.bank) (B.store engine.new.bank) [] }
+    ensures grows { Grows (N.store own.old) (N.store own.new) }
+    ensures room { IfErr result (CellsOnly (N.store own.new) (B.store engine.new.bank)
+        engine.new.work engine.new.memo) }
+    ensures deep { IfErr result (WantsDepth engine.new.waiting settings.depth) }
 {
     match rx_text::read(alloc, request, own) {
-        Ok(term) => answer_term(alloc, own, engine, term, options),
+        Ok(term) => answer_term(alloc, own, engine, term, settings),
         Err(TextFault::Long) => refuse(alloc, Refusal::Long),
         Err(TextFault::Grammar { at }) => refuse(alloc, Refusal::Outside { at }),
         Err(TextFault::Memory) => Err(Want::Memory),
@@ -128,23 +179,24 @@ fn answer_term<N: TermBank, B: TermBank>(
     own: &mut N,
     engine: &mut Engine<B>,
     term: Term,
-    options: RunOptions,
+    settings: ServeSettings,
 ) -> Result<Answered, Want>
     requires { IsSome (tree_at (N.store own.old) term) }
     ensures answered { IfOk result (λ a. IfSome (tree_at (N.store own.old) term)
-        (λ t. AnswersTree engine.old.spec options.count options.steps t a)) }
+        (λ t. AnswersTree engine.old.spec settings.options.count settings.options.steps t a)) }
     ensures same { SameEngine engine.old engine.new }
     ensures keeps { Keeps (B.store engine.old.bank) (B.store engine.new.bank) [] }
     ensures grows { Grows (N.store own.old) (N.store own.new) }
     ensures room { IfErr result (CellsOnly (N.store own.new) (B.store engine.new.bank)
         engine.new.work engine.new.memo) }
+    ensures deep { IfErr result (WantsDepth engine.new.waiting settings.depth) }
 {
     let list = match alone(own, term) {
         Ok(list) => list,
         Err(fault) => return Err(Want::from(fault)),
     };
     match check_terms(alloc, engine.checked(), own, list) {
-        Ok(()) => answer_checked(alloc, own, engine, term, list, options),
+        Ok(()) => answer_checked(alloc, own, engine, term, list, settings),
         Err(TermsFault::Rule { number }) => refuse(alloc, Refusal::Rule { number }),
         Err(TermsFault::Memory) => Err(Want::Memory),
     }
@@ -169,22 +221,23 @@ fn answer_checked<N: TermBank, B: TermBank>(
     engine: &mut Engine<B>,
     term: Term,
     list: Term,
-    options: RunOptions,
+    settings: ServeSettings,
 ) -> Result<Answered, Want>
     requires alone { (t : Tree) × (tree_at (N.store own.now) term ≡ Some t)
         × (tree_at (N.store own.now) list ≡ Some (list_of (more t none)))
         × (broken_by_elements engine.old.spec (t ∷ []) ≡ None) }
     ensures answered { IfOk result (λ a. IfSome (tree_at (N.store own.now) term)
-        (λ t. AnswersTree engine.old.spec options.count options.steps t a)) }
+        (λ t. AnswersTree engine.old.spec settings.options.count settings.options.steps t a)) }
     ensures same { SameEngine engine.old engine.new }
     ensures keeps { Keeps (B.store engine.old.bank) (B.store engine.new.bank) [] }
     ensures room { IfErr result (CellsOnly (N.store own.now) (B.store engine.new.bank)
         engine.new.work engine.new.memo) }
+    ensures deep { IfErr result (WantsDepth engine.new.waiting settings.depth) }
 {
     let letters = letters_of(alloc, engine.checked(), own, list)?;
     let given = engine.given_term(&letters)?;
-    let outcome = engine.normalise(given, options.steps)?;
-    match outcome_text(alloc, own, term, engine.bank(), outcome, options) {
+    let outcome = evaluate_within(engine, given, settings.options.steps, settings.depth)?;
+    match outcome_text(alloc, own, term, engine.bank(), outcome, settings.options) {
         Ok(text) => Ok(Answered {
             text,
             refusal: None,

@@ -25,14 +25,16 @@ ghost use Rattle.rec_serve.specs.Replies.{
   IsReply,
 };
 ghost use Rattle.rec_serve.specs.Reading.{IsRead, left_of, unread};
-ghost use Rattle.rec_serve.specs.Answering.{text_of};
+ghost use Rattle.rec_serve.specs.Answering.{IsAnswered, WantsDepth, text_of};
 ghost use Rattle.rec_serve.specs.Steps.{EndsStep, Replies, StopsStep, stopped_after};
 
-use crate::answers::{Answered, answer};
+use crate::answers::{Answered, answer_in_within};
 use crate::ending::{Refusal, ServeFault, Want};
 use crate::read_ahead::{ReadAhead, StreamFault};
 use crate::request::Request;
 use crate::requests::next_request;
+use crate::settings::ServeSettings;
+use crate::workspace::Workspace;
 use rec_engine::Engine;
 use rec_run::RunOptions;
 use rec_sorts::Checked;
@@ -79,16 +81,51 @@ pub fn converse<B: TermBank, R: Read, W: Write, L: Listener>(
 ) -> Result<(), ServeFault>
     ensures same { SameEngine engine.old engine.new }
     ensures output { OnOk result (IfSome (R.remaining requests.old)
-        (λ bytes. Converses engine.old.spec options.count options.steps bytes
+        (λ bytes. Converses engine.old.spec options.count options.steps None bytes
         (W.contents out.old) (W.contents out.new))) }
     ensures fault { IfErr result (λ fault. IfSome (R.remaining requests.old)
-        (λ bytes. BreaksOff engine.old.spec options.count options.steps bytes fault
+        (λ bytes. BreaksOff engine.old.spec options.count options.steps None bytes fault
         (W.contents out.old) (W.contents out.new))) }
+    ensures requests_read { OnOk result (IsAtEnd (R.remaining requests.new)) }
+{
+    let settings = ServeSettings {
+        options,
+        depth: None,
+    };
+    converse_within(alloc, engine, requests, out, settings, listener)
+}
+
+/// The same where it may be said how many calls may wait: a request that is too deep is answered by a
+/// line that says so.
+pub fn converse_within<B: TermBank, R: Read, W: Write, L: Listener>(
+    alloc: Global,
+    engine: &mut Engine<B>,
+    requests: &mut R,
+    out: &mut W,
+    settings: ServeSettings,
+    listener: &mut L,
+) -> Result<(), ServeFault>
+    ensures same { SameEngine engine.old engine.new }
+    ensures output { OnOk result (IfSome (R.remaining requests.old)
+        (λ bytes. Converses engine.old.spec settings.options.count settings.options.steps
+        settings.depth bytes (W.contents out.old) (W.contents out.new))) }
+    ensures fault { IfErr result (λ fault. IfSome (R.remaining requests.old)
+        (λ bytes. BreaksOff engine.old.spec settings.options.count settings.options.steps
+        settings.depth bytes fault (W.contents out.old) (W.contents out.new))) }
     ensures requests_read { OnOk result (IsAtEnd (R.remaining requests.new)) }
 {
     match ReadAhead::new(alloc) {
         Ok(mut ahead) => {
-            converse_on(alloc, engine, &mut ahead, requests, out, options, listener)
+            let mut workspace = Workspace::new(alloc);
+            converse_on(
+                &mut workspace,
+                engine,
+                &mut ahead,
+                requests,
+                out,
+                settings,
+                listener,
+            )
         }
         Err(_) => Err(ServeFault::Memory),
     }
@@ -96,27 +133,27 @@ pub fn converse<B: TermBank, R: Read, W: Write, L: Listener>(
 
 /// The same where nothing was read ahead.
 fn converse_on<B: TermBank, R: Read, W: Write, L: Listener>(
-    alloc: Global,
+    workspace: &mut Workspace,
     engine: &mut Engine<B>,
     ahead: &mut ReadAhead,
     requests: &mut R,
     out: &mut W,
-    options: RunOptions,
+    settings: ServeSettings,
     listener: &mut L,
 ) -> Result<(), ServeFault>
     requires { unread ahead.old ≡ [] }
     ensures same { SameEngine engine.old engine.new }
     ensures output { OnOk result (IfSome (R.remaining requests.old)
-        (λ bytes. Converses engine.old.spec options.count options.steps bytes
-        (W.contents out.old) (W.contents out.new))) }
+        (λ bytes. Converses engine.old.spec settings.options.count settings.options.steps
+        settings.depth bytes (W.contents out.old) (W.contents out.new))) }
     ensures fault { IfErr result (λ fault. IfSome (R.remaining requests.old)
-        (λ bytes. BreaksOff engine.old.spec options.count options.steps bytes fault
-        (W.contents out.old) (W.contents out.new))) }
+        (λ bytes. BreaksOff engine.old.spec settings.options.count settings.options.steps
+        settings.depth bytes fault (W.contents out.old) (W.contents out.new))) }
     ensures requests_read { OnOk result (IsAtEnd (R.remaining requests.new)) }
 {
     for answered in 0..u64::MAX {
         match answer_next(
-            alloc, engine, ahead, requests, out, answered, options, listener,
+            workspace, engine, ahead, requests, out, answered, settings, listener,
         ) {
             Ok(true) => {}
             Ok(false) => return Ok(()),
@@ -128,37 +165,40 @@ fn converse_on<B: TermBank, R: Read, W: Write, L: Listener>(
 
 /// Answers the next request, where there is one: whether there was.
 fn answer_next<B: TermBank, R: Read, W: Write, L: Listener>(
-    alloc: Global,
+    workspace: &mut Workspace,
     engine: &mut Engine<B>,
     ahead: &mut ReadAhead,
     requests: &mut R,
     out: &mut W,
     answered: u64,
-    options: RunOptions,
+    settings: ServeSettings,
     listener: &mut L,
 ) -> Result<bool, StreamFault>
     requires { answered < u64.MAX }
     ensures same { SameEngine engine.old engine.new }
     ensures step { IfOk result (λ is_more. MatchBool is_more
-        (Replies engine.old.spec options.count options.steps
+        (Replies engine.old.spec settings.options.count settings.options.steps
+        settings.depth
         (left_of ahead.old (R.remaining requests.old))
         (left_of ahead.new (R.remaining requests.new)) (W.contents out.old) (W.contents out.new))
         (EndsStep (left_of ahead.old (R.remaining requests.old)) (R.remaining requests.new)
         (W.contents out.old) (W.contents out.new))) }
-    ensures fault { IfErr result (λ fault. StopsStep engine.old.spec options.count options.steps
+    ensures fault { IfErr result (λ fault. StopsStep engine.old.spec
+        settings.options.count settings.options.steps
+        settings.depth
         fault (left_of ahead.old (R.remaining requests.old)) (W.contents out.old)
         (W.contents out.new)) }
 {
-    match next_request(alloc, ahead, requests, out)? {
+    match next_request(workspace.alloc, ahead, requests, out)? {
         None => Ok(false),
         Some(request) => {
             reply(
-                alloc,
+                workspace,
                 engine,
                 &request,
                 answered + 1,
                 out,
-                options,
+                settings,
                 listener,
             )?;
             Ok(true)
@@ -174,6 +214,7 @@ fn reply_text(reply: &Result<Answered, Want>) -> &[u8]
         Ok(answer) => &answer.text,
         Err(Want::Memory) => b"!memory\n",
         Err(Want::Cells) => b"!cells\n",
+        Err(Want::Deep) => b"!depth\n",
     }
 }
 
@@ -194,23 +235,25 @@ fn tell<L: Listener>(
 
 /// Writes the reply to a request, and tells who listens where it is refused.
 fn reply<B: TermBank, W: Write, L: Listener>(
-    alloc: Global,
+    workspace: &mut Workspace,
     engine: &mut Engine<B>,
     request: &Request,
     number: u64,
     out: &mut W,
-    options: RunOptions,
+    settings: ServeSettings,
     listener: &mut L,
 ) -> Result<(), RefusedWrite>
     ensures same { SameEngine engine.old engine.new }
     ensures ok { OnOk result ((line : List ℕ) → IsRead request.now line → (text : List ℕ)
-        × IsReply engine.old.spec options.count options.steps line text
+        × IsReply engine.old.spec settings.options.count settings.options.steps
+        settings.depth line text
         × Appends (W.contents out.old) (W.contents out.new) text) }
     ensures err { OnErr result ((line : List ℕ) → IsRead request.now line → (text : List ℕ)
-        × IsReply engine.old.spec options.count options.steps line text
+        × IsReply engine.old.spec settings.options.count settings.options.steps
+        settings.depth line text
         × AppendsFront text (W.contents out.old) (W.contents out.new)) }
 {
-    let found = answer_kept(alloc, engine, request, options);
+    let found = answer_kept(workspace, engine, request, settings);
     put(out, reply_text(&found))?;
     tell(engine.checked(), number, request, &found, listener);
     Ok(())
@@ -218,18 +261,43 @@ fn reply<B: TermBank, W: Write, L: Listener>(
 
 /// The answer to a request as far as it was kept.
 fn answer_kept<B: TermBank>(
-    alloc: Global,
+    workspace: &mut Workspace,
     engine: &mut Engine<B>,
     request: &Request,
-    options: RunOptions,
+    settings: ServeSettings,
 ) -> Result<Answered, Want>
     ensures same { SameEngine engine.old engine.new }
     ensures answered { IfOk result (λ a. (line : List ℕ) → IsRead request.now line
-        → IsAnswer engine.old.spec options.count options.steps line a.text.items) }
+        → IsAnswer engine.old.spec settings.options.count settings.options.steps line
+        a.text.items) }
+    ensures deep { IfErr result (WantsDepth engine.new.waiting settings.depth) }
 {
     if request.is_lost {
         Err(Want::Memory)
     } else {
-        answer(alloc, engine, &request.text, options)
+        answer_at(workspace, engine, &request.text, settings)
+    }
+}
+
+/// The answer to a request, which is read in the bank of a workspace.
+fn answer_at<B: TermBank>(
+    workspace: &mut Workspace,
+    engine: &mut Engine<B>,
+    request: &[u8],
+    settings: ServeSettings,
+) -> Result<Answered, Want>
+    ensures answered { IfOk result
+        (IsAnswered engine.old.spec settings.options.count settings.options.steps request.now) }
+    ensures same { SameEngine engine.old engine.new }
+    ensures deep { IfErr result (WantsDepth engine.new.waiting settings.depth) }
+{
+    match workspace.take_bank(settings.options.cells, request.len()) {
+        Ok(mut own) => {
+            let alloc = workspace.alloc;
+            let found = answer_in_within(alloc, &mut *own, engine, request, settings);
+            workspace.give_back(own);
+            found
+        }
+        Err(_) => Err(Want::Memory),
     }
 }

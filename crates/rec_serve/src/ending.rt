@@ -2,7 +2,7 @@
 
 ghost use Rattle.std.specs.Prelude.{◌≡◌};
 
-use rec_engine::EngineFault;
+use rec_engine::{DepthFault, EngineFault};
 use rx_term::BankFault;
 use rx_text::{RefusedWrite, WriteFault};
 use std::alloc::{AllocError, AllocFailed};
@@ -32,6 +32,9 @@ pub enum Want {
     /// There were as many cells as the options allow.
     #[error("out of cells")]
     Cells,
+    /// As many calls waited as may.
+    #[error("too deep")]
+    Deep,
 }
 
 impl From<AllocError> for Want {
@@ -76,6 +79,20 @@ impl From<EngineFault> for Want {
         match error {
             EngineFault::Memory => Want::Memory,
             EngineFault::Room => Want::Cells,
+        }
+    }
+}
+
+impl From<DepthFault> for Want {
+    ghost use Rattle.rec_serve.specs.Wants.{of_depth};
+
+    ghost from_gives = { λ e r. r ≡ of_depth e };
+
+    fn from(error: DepthFault) -> Want {
+        match error {
+            DepthFault::Memory => Want::Memory,
+            DepthFault::Room => Want::Cells,
+            DepthFault::Deep => Want::Deep,
         }
     }
 }

@@ -10,8 +10,11 @@ mod read_ahead;
 mod request;
 mod requests;
 mod runs;
+mod settings;
+mod workspace;
 
-pub use answers::{Answered, answer, answer_in};
-pub use conversation::{Deaf, Listener, converse};
+pub use answers::{Answered, answer, answer_in, answer_in_within, answer_within};
+pub use conversation::{Deaf, Listener, converse, converse_within};
 pub use ending::{Refusal, ServeFault, Want};
-pub use runs::{run_serve, run_serve_at};
+pub use runs::{run_serve, run_serve_at, run_serve_within};
+pub use settings::ServeSettings;

@@ -19,7 +19,7 @@ pub(crate) struct Request {
 }
 
 impl Request {
-    ghost use Rattle.std.specs.Prelude.{◌≡◌, ◌<◌, ◌++◌, [], List, ℕ, MatchOption, false, length, true};
+    ghost use Rattle.std.specs.Prelude.{◌≡◌, ◌<◌, ◌++◌, [], List, ℕ, MatchOption, Some, false, length, true};
     ghost use Rattle.rec_serve.specs.Reading.{IsRead};
 
     /// Nothing so far.
@@ -41,6 +41,13 @@ impl Request {
             return true;
         }
         self.text.len() > 0
+    }
+
+    /// The request where its line end was read.
+    pub(crate) fn ended(self) -> Option<Request>
+        ensures { result ≡ Some self }
+    {
+        Some(self)
     }
 
     /// The request at the end of a stream; none, where no byte was read.

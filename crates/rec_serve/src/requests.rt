@@ -29,7 +29,7 @@ pub(crate) fn next_request<R: Read, W: Write>(
             return Ok(request.last());
         }
         if ahead.take_piece(&mut request) {
-            return Ok(Some(request));
+            return Ok(request.ended());
         }
     }
     Err(StreamFault::Read)

@@ -21,8 +21,9 @@ ghost use Rattle.rec_serve.specs.Replies.{
   unread_fault,
 };
 
-use crate::conversation::{Deaf, Listener, converse};
+use crate::conversation::{Deaf, Listener, converse_within};
 use crate::ending::ServeFault;
+use crate::settings::ServeSettings;
 use rec_run::{RunOptions, engine_over, read_spec_text};
 use rec_sorts::Checked;
 use rx_run::{Finish, Place, ReadFault, Reading, Refusal, flush, write_refusal};
@@ -42,10 +43,10 @@ pub fn run_serve<S: Read, R: Read, W: Write>(
     out: &mut W,
     options: RunOptions,
 ) -> Result<Finish, ServeFault>
-    ensures output { IfOk result (λ finish. EndsServing options.count options.steps
+    ensures output { IfOk result (λ finish. EndsServing options.count options.steps None
         (S.remaining spec.old) (R.remaining requests.old) finish (W.contents out.old)
         (W.contents out.new)) }
-    ensures fault { IfErr result (λ fault. BreaksServing options.count options.steps
+    ensures fault { IfErr result (λ fault. BreaksServing options.count options.steps None
         (S.remaining spec.old) (R.remaining requests.old) fault (W.contents out.old)
         (W.contents out.new)) }
     ensures spec_read { OnOk result (IsReadOut (S.remaining spec.old) (S.remaining spec.new)) }
@@ -68,12 +69,46 @@ pub fn run_serve_at<S: Read, R: Read, W: Write, L: Listener>(
     place: &mut Option<Place>,
     listener: &mut L,
 ) -> Result<Finish, ServeFault>
-    ensures output { IfOk result (λ finish. EndsServing options.count options.steps
+    ensures output { IfOk result (λ finish. EndsServing options.count options.steps None
         (S.remaining spec.old) (R.remaining requests.old) finish (W.contents out.old)
         (W.contents out.new)) }
     ensures place { OnOk result (PlacedServing options.count options.steps (S.remaining spec.old)
         place.new) }
-    ensures fault { IfErr result (λ fault. BreaksServing options.count options.steps
+    ensures fault { IfErr result (λ fault. BreaksServing options.count options.steps None
+        (S.remaining spec.old) (R.remaining requests.old) fault (W.contents out.old)
+        (W.contents out.new)) }
+    ensures no_place { OnErr result (place.new ≡ None) }
+    ensures spec_read { OnOk result (IsReadOut (S.remaining spec.old) (S.remaining spec.new)) }
+    ensures requests_read { OnOk result (OnGoodSpec (S.remaining spec.old)
+        (IsAtEnd (R.remaining requests.new))) }
+    ensures unread { OnRefusedSpec (S.remaining spec.old) (requests.new ≡ requests.old) }
+{
+    let settings = ServeSettings {
+        options,
+        depth: None,
+    };
+    run_serve_within(alloc, spec, requests, out, settings, place, listener)
+}
+
+/// The same where it may be said how many calls may wait: a request that is too deep is answered by a
+/// line that says so.
+pub fn run_serve_within<S: Read, R: Read, W: Write, L: Listener>(
+    alloc: Global,
+    spec: &mut S,
+    requests: &mut R,
+    out: &mut W,
+    settings: ServeSettings,
+    place: &mut Option<Place>,
+    listener: &mut L,
+) -> Result<Finish, ServeFault>
+    ensures output { IfOk result (λ finish. EndsServing settings.options.count settings.options.steps
+        settings.depth
+        (S.remaining spec.old) (R.remaining requests.old) finish (W.contents out.old)
+        (W.contents out.new)) }
+    ensures place { OnOk result (PlacedServing settings.options.count settings.options.steps
+        (S.remaining spec.old) place.new) }
+    ensures fault { IfErr result (λ fault. BreaksServing settings.options.count settings.options.steps
+        settings.depth
         (S.remaining spec.old) (R.remaining requests.old) fault (W.contents out.old)
         (W.contents out.new)) }
     ensures no_place { OnErr result (place.new ≡ None) }
@@ -84,7 +119,7 @@ pub fn run_serve_at<S: Read, R: Read, W: Write, L: Listener>(
 {
     *place = None;
     match read_spec_text(alloc, spec) {
-        Ok(reading) => serve_reading(alloc, reading, requests, out, options, place, listener),
+        Ok(reading) => serve_reading(alloc, reading, requests, out, settings, place, listener),
         Err(fault) => Err(unread(fault)),
     }
 }
@@ -105,17 +140,19 @@ fn serve_reading<R: Read, W: Write, L: Listener>(
     reading: Reading<Checked>,
     requests: &mut R,
     out: &mut W,
-    options: RunOptions,
+    settings: ServeSettings,
     place: &mut Option<Place>,
     listener: &mut L,
 ) -> Result<Finish, ServeFault>
     requires { place.old ≡ None }
     ensures output { IfOk result (λ finish. (v : Verdict) → IsSpecReading reading v
-        → EndsAfter options.count options.steps v (R.remaining requests.old) finish
+        → EndsAfter settings.options.count settings.options.steps
+        settings.depth v (R.remaining requests.old) finish
         (W.contents out.old) (W.contents out.new)) }
     ensures place { OnOk result (place.new ≡ place_of reading) }
     ensures fault { IfErr result (λ fault. (v : Verdict) → IsSpecReading reading v
-        → BreaksAfter options.count options.steps v (R.remaining requests.old) fault
+        → BreaksAfter settings.options.count settings.options.steps
+        settings.depth v (R.remaining requests.old) fault
         (W.contents out.old) (W.contents out.new)) }
     ensures no_place { OnErr result (place.new ≡ None) }
     ensures requests_read { OnOk result ((y : Spec) → IsSpecReading reading (Good y)
@@ -133,7 +170,7 @@ fn serve_reading<R: Read, W: Write, L: Listener>(
             Err(RefusedWrite) => Err(ServeFault::Write { answered: 0 }),
         },
         Reading::Good(checked) => {
-            serve(alloc, checked, requests, out, options, listener)?;
+            serve(alloc, checked, requests, out, settings, listener)?;
             Ok(Finish::Done)
         }
     }
@@ -156,19 +193,19 @@ fn serve<R: Read, W: Write, L: Listener>(
     checked: Checked,
     requests: &mut R,
     out: &mut W,
-    options: RunOptions,
+    settings: ServeSettings,
     listener: &mut L,
 ) -> Result<(), ServeFault>
     ensures output { OnOk result (IfSome (R.remaining requests.old)
-        (λ bytes. Converses checked.spec options.count options.steps bytes
-        (W.contents out.old) (W.contents out.new))) }
+        (λ bytes. Converses checked.spec settings.options.count settings.options.steps
+        settings.depth bytes (W.contents out.old) (W.contents out.new))) }
     ensures fault { IfErr result (λ fault. IfSome (R.remaining requests.old)
-        (λ bytes. BreaksOff checked.spec options.count options.steps bytes fault
-        (W.contents out.old) (W.contents out.new))) }
+        (λ bytes. BreaksOff checked.spec settings.options.count settings.options.steps
+        settings.depth bytes fault (W.contents out.old) (W.contents out.new))) }
     ensures requests_read { OnOk result (IsAtEnd (R.remaining requests.new)) }
 {
-    match SharedBank::new(alloc, options.cells) {
-        Ok(bank) => serve_over(alloc, bank, checked, requests, out, options, listener),
+    match SharedBank::new(alloc, settings.options.cells) {
+        Ok(bank) => serve_over(alloc, bank, checked, requests, out, settings, listener),
         Err(_) => Err(ServeFault::Memory),
     }
 }
@@ -180,20 +217,20 @@ fn serve_over<B: TermBank + Drop, R: Read, W: Write, L: Listener>(
     checked: Checked,
     requests: &mut R,
     out: &mut W,
-    options: RunOptions,
+    settings: ServeSettings,
     listener: &mut L,
 ) -> Result<(), ServeFault>
     requires { (t : ℕ) → (B.store bank).roots t ≡ 0 }
     ensures output { OnOk result (IfSome (R.remaining requests.old)
-        (λ bytes. Converses checked.spec options.count options.steps bytes
-        (W.contents out.old) (W.contents out.new))) }
+        (λ bytes. Converses checked.spec settings.options.count settings.options.steps
+        settings.depth bytes (W.contents out.old) (W.contents out.new))) }
     ensures fault { IfErr result (λ fault. IfSome (R.remaining requests.old)
-        (λ bytes. BreaksOff checked.spec options.count options.steps bytes fault
-        (W.contents out.old) (W.contents out.new))) }
+        (λ bytes. BreaksOff checked.spec settings.options.count settings.options.steps
+        settings.depth bytes fault (W.contents out.old) (W.contents out.new))) }
     ensures requests_read { OnOk result (IsAtEnd (R.remaining requests.new)) }
 {
-    match engine_over(alloc, checked, bank, None, options) {
-        Ok(mut engine) => converse(alloc, &mut engine, requests, out, options, listener),
+    match engine_over(alloc, checked, bank, None, settings.options) {
+        Ok(mut engine) => converse_within(alloc, &mut engine, requests, out, settings, listener),
         Err(_) => Err(ServeFault::Memory),
     }
 }

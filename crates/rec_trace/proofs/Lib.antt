@@ -9,5 +9,6 @@ pub mod ConditionLemmas
 pub mod FindLemmas
 pub mod FireLemmas
 pub mod StepLemmas
+pub mod WholeLemmas
 mod TraceRows
 mod LineRows

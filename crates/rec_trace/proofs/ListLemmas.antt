@@ -65,7 +65,7 @@ moved : (f : ℕ → ℕ) (a b k : ℕ) → 0 < f a
     → (if k == a then (if a == b then f b + 1 else f a) - 1 else (if k == b then f b + 1 else f k)) + (if k == a then 1 else 0) ≡ f k + (if k == b then 1 else 0)
 moved f a b k low = grind (arith, nat_tests)
 
-itself : (k : ℕ) → ◌≡◌ {A = ℕ} (if k == k then 1 else 0) 1
+pub itself : (k : ℕ) → ◌≡◌ {A = ℕ} (if k == k then 1 else 0) 1
 itself k = grind (arith, nat_tests)
 
 pub given-rooted : (w : Store) (l : Lists) → AreKept w l → 0 < w.roots l.given.0

@@ -127,7 +127,7 @@ match-facts y w m stack i u r s bind ready match values =
     let side = ready.matcher.sides i no_rule within in
     let own : IsSide y m.links m i r = subst (λ z. IsSide y m.links m i z) (at.is no_rule) side in
     let known = subst (RuleFacts y) (at.is no_rule) (every-at (RuleFacts y) y.rules (facts y kept).rules i no_rule within) in
-    let variables = subst (AreVariables y) (sym own.tests.variables) (numbers-variables y [] own.letters (side-meant y m.links m i r own) tt empty).0 in
+    let variables = subst (AreVariables y) (sym own.variables) (numbers-variables y [] own.letters (side-meant y m.links m i r own) tt empty).0 in
     record {
       within = omega (arith, ruled, within);
       pairs = side-paired y kept m.links w m i r own known.left u s match.binds bind values.values;

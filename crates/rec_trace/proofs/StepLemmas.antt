@@ -1,12 +1,12 @@
 -- A step of the machine leads to a state of the same trace, or is the trace's next firing.
-use Rattle.std.proofs.Common.{◌-◌, ◌<◌, ◌≤◌, ℕ, arith, refl, sym, ap, subst, ◌∙◌, length, drop, get_or, map, length-drop, inl, inr}
+use Rattle.std.proofs.Common.{◌-◌, ◌<◌, ◌≤◌, ℕ, arith, refl, sym, ap, subst, ◌∙◌, length, drop, get_or, map, append-nil, length-drop, inl, inr}
 use Rattle.std.specs.Prelude.{suc, ◌≡◌, ◌⊎◌, List, [], ◌∷◌, ◌++◌, Some, None, reverse}
 use Rattle.std.proofs.lemmas.List.{reverse-append}
 use Rattle.rx_term.specs.Tree.{Tree, list_of, none}
 use Rattle.rx_term.specs.Store.{Store}
 use Rattle.rec_syntax.specs.Syntax.{Spec, Term}
 use Rattle.rec_sorts.specs.Lookup.{symbols}
-use Rattle.rec_sorts.specs.Binding.{application}
+use Rattle.rec_sorts.specs.Binding.{application, tree_of}
 use Rattle.rec_sorts.specs.Evaluation.{Done, Eval, first_rule}
 use Rattle.rec_sorts.specs.SpecRules.{fault}
 use Rattle.rec_sorts.specs.Numbering.{AreLetters, arity_of, name_of, named_by}
@@ -220,7 +220,7 @@ ground-more y steps longer l ls k row applied is e =
 
 -- the first state
 pub new-stands : (y : Spec) (w : Store) (t : Tracer) (ls : List Letter) (term : Term) → fault y ≡ None → AreKept w t.lists → listed w t.lists.given ≡ [] → listed w t.lists.stack ≡ [] → IsGroundRow y t.steps.items ls → AreLetters y ls term
-    → Stands y w t × (rest_of y w t ≡ Trace y t.left term)
+    → Stands y w t × (rest_of y w t ≡ Trace y t.left term) × (whole_of y w t ≡ tree_of term)
 new-stands y w t ls term good kept given stack row letters =
     let is : moves_at y w t ≡ moves [] term = ap (moves_of y (reverse t.steps.items)) given ∙ row.moves_are ∙ ground-moves y ls term letters in (
       record {
@@ -228,4 +228,5 @@ new-stands y w t ls term good kept given stack row letters =
         fits = subst (λ ms. Fits ms (length (stack_at w t)) 1) (sym is) (subst (λ (st : List Tree). Fits (moves [] term) (length st) 1) (sym stack) (fits-one [] term));
       },
       ap (λ ms. ahead y t.left ms (stack_at w t)) is ∙ ap (ahead y t.left (moves [] term)) stack ∙ (state_law y).begins t.left term,
+      ap (λ ms. written ms (stack_at w t)) is ∙ ap (written (moves [] term)) stack ∙ ap (λ ms. written ms []) (sym (append-nil (moves [] term))) ∙ written-moves [] term [] [],
     )

@@ -1,5 +1,5 @@
 -- What a trace writes: a line for each rule that fires, and then the line of the term.
-use Rattle.std.specs.Prelude.{ℕ, suc, ◌-◌, ◌^◌, ◌≡◌, ◌<◌, ◌&&◌, Bool, true, false, List, [], ◌∷◌, ◌++◌, Option, Some, None, codes, decimal, flat_map, if◌then◌else◌, length, nat_eq, nat_le, take}
+use Rattle.std.specs.Prelude.{ℕ, suc, ◌-◌, ◌^◌, ◌≡◌, ◌<◌, ◌&&◌, Bool, true, false, List, [], ◌∷◌, ◌++◌, Option, Some, None, codes, decimal, flat_map, if◌then◌else◌, length, map, nat_eq, nat_le, take}
 use Rattle.rx_term.specs.Tree.{Tree, Trees, annotated}
 use Rattle.rx_text.specs.Canon.{canon}
 use Rattle.rec_syntax.specs.Syntax.{Term, Spec, head}
@@ -67,15 +67,25 @@ value_line counted n notes (Done v left) = canon (annotated v notes)
     ++ spent_text counted (n - left) ++ codes "\n"
 value_line counted n notes Over = codes "!limit " ++ decimal n ++ codes "\n"
 
--- all that a trace writes for a term; with whole terms the term itself stands first, at `0:0:`
-abbrev pub trace_text : List ℕ → Spec → Bool → Bool → Option ℕ → ℕ → Term → Trees → List ℕ
-trace_text source y whole counted width n t notes =
+-- the lines of a term: with whole terms the term itself first, at `0:0:`; those of the rules that
+-- fire; and that of what it comes to
+abbrev pub term_lines : List ℕ → Spec → Bool → Bool → Option ℕ → ℕ → Term → Trees → List (List ℕ)
+term_lines source y whole counted width n t notes =
     let trace = Trace y n t in
     elim whole [
-      | true ↦ codes "0:0: " ++ cut width (canon (tree_of t)) ++ codes "\n"
-          ++ flat_map (whole_line source counted width n) trace.firings
-      | false ↦ flat_map (firing_line source counted width n) trace.firings
-    ] ++ value_line counted n notes trace.outcome
+      | true ↦ whole_text 0 0 false width 0 (tree_of t)
+          ∷ map (whole_line source counted width n) trace.firings
+      | false ↦ map (firing_line source counted width n) trace.firings
+    ] ++ value_line counted n notes trace.outcome ∷ []
+
+-- lines one behind the other
+abbrev pub joined : List (List ℕ) → List ℕ
+joined lines = flat_map (λ l. l) lines
+
+-- all that a trace writes for a term
+abbrev pub trace_text : List ℕ → Spec → Bool → Bool → Option ℕ → ℕ → Term → Trees → List ℕ
+trace_text source y whole counted width n t notes =
+    joined (term_lines source y whole counted width n t notes)
 
 -- a text begins with a digit
 abbrev pub begins_with_digit : List ℕ → Bool

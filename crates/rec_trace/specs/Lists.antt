@@ -26,6 +26,11 @@ pub record AreKept (w : Store) (l : Lists) : Type 0 where
   pub stack : IsList w l.stack
   pub counted : (k : ℕ) → count_among l k ≤ w.roots k
 
+-- both are lists, and protected twice as often
+pub record AreKeptTwice (w : Store) (l : Lists) : Type 0 where
+  pub kept : AreKept w l
+  pub twice : (k : ℕ) → count_among l k + count_among l k ≤ w.roots k
+
 -- what others protect stays as it is, where a tracer's lists move on
 pub record Spares (old new : Store) (a b : Lists) : Type 0 where
   pub counts : (k : ℕ) → new.roots k + count_among a k ≡ old.roots k + count_among b k

@@ -7,5 +7,5 @@ mod lists;
 mod sides;
 mod tracer;
 
-pub use lines::{Look, Spot, spot_of, write_firing, write_whole};
+pub use lines::{Look, Spot, firing_line, spot_of, whole_line, write_firing, write_whole};
 pub use tracer::{Tracer, Turn};

@@ -158,8 +158,8 @@ pub fn write_firing<B: TermBank, W: Write>(
     Ok(())
 }
 
-/// The line of a rule that fires.
-fn firing_line<B: TermBank>(
+/// The line of a rule that fires. The only fault is want of memory.
+pub fn firing_line<B: TermBank>(
     alloc: Global,
     bank: &B,
     spot: Spot,
@@ -207,8 +207,8 @@ pub fn write_whole<B: TermBank, W: Write>(
     Ok(())
 }
 
-/// The line of a whole term.
-fn whole_line<B: TermBank>(
+/// The line of a whole term. The only fault is want of memory.
+pub fn whole_line<B: TermBank>(
     alloc: Global,
     bank: &B,
     spot: Spot,

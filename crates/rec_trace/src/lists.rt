@@ -12,7 +12,8 @@ ghost use Rattle.rec_sorts.specs.Numbering.{arity_of, name_of};
 ghost use Rattle.rec_sorts.specs.declared.letters.Meaning.TheVariants.{Symbol};
 ghost use Rattle.rec_engine.specs.Engine.{SameEngine};
 ghost use Rattle.rec_engine.specs.Flat.{taken};
-ghost use Rattle.rec_trace.specs.Lists.{AreKept, Hold, IsList, KeepsStack, Stays, listed};
+ghost use Rattle.rec_trace.specs.Lists.{AreKept, AreKeptTwice, Hold, IsList, KeepsStack};
+ghost use Rattle.rec_trace.specs.Lists.{Stays, listed};
 ghost use Rattle.rec_trace.specs.Lists.{protected_instead};
 ghost use Rattle.rec_trace.specs.Calls.{IsCalled};
 
@@ -107,6 +108,28 @@ impl Lists {
             given: nil,
             stack: nil,
         })
+    }
+
+    /// Both lists are protected once more.
+    pub(crate) fn protect_again<B: TermBank>(
+        self,
+        engine: &mut Engine<B>,
+    ) -> Result<(), EngineFault>
+        requires { AreKept (B.store engine.old.bank) self }
+        ensures same { SameEngine engine.old engine.new }
+        ensures trees { (t : Term) → tree_at (B.store engine.new.bank) t
+            ≡ tree_at (B.store engine.old.bank) t }
+        ensures kept { AreKept (B.store engine.new.bank) self }
+        ensures twice { OnOk result (AreKeptTwice (B.store engine.new.bank) self) }
+    {
+        match engine.protect(self.given) {
+            Ok(()) => {}
+            Err(_) => return Err(EngineFault::Memory),
+        }
+        match engine.protect(self.stack) {
+            Ok(()) => Ok(()),
+            Err(_) => Err(EngineFault::Memory),
+        }
     }
 
     /// A reference on top of a list becomes the stack.

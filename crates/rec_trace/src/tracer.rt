@@ -1,5 +1,7 @@
 //! The machine that makes a trace, one firing after the other.
 
+mod whole;
+
 ghost use Rattle.std.specs.Prelude.{ℕ, ◌≡◌, ◌<◌, ◌≤◌, ◌++◌, ◌∷◌, ◌+◌, ◌-◌, ◌⊎◌, []};
 ghost use Rattle.std.specs.Prelude.{IfOk, IfSome, OnOk};
 ghost use Rattle.std.specs.Prelude.{Some, drop, get_or, length, slice_get, take, vec_len};
@@ -8,7 +10,7 @@ ghost use Rattle.rx_term.specs.Tree.{Tree, list_of, none, tree_eq};
 ghost use Rattle.rx_term.specs.Store.{tree_at};
 ghost use Rattle.rx_term.specs.Walks.{held_tree};
 ghost use Rattle.rec_syntax.specs.Syntax.{Rule, Spec};
-ghost use Rattle.rec_sorts.specs.Binding.{Substitution, next_match};
+ghost use Rattle.rec_sorts.specs.Binding.{Substitution, next_match, tree_of};
 ghost use Rattle.rec_sorts.specs.Evaluation.{Eval, Holds, evaluate, first_rule, term_of};
 ghost use Rattle.rec_sorts.specs.Laws.{Every};
 ghost use Rattle.rec_sorts.specs.Lookup.{symbols};
@@ -21,7 +23,7 @@ ghost use Rattle.rec_trace.specs.Sides.{CanPush, IsMatch, KeepsValues, no_condit
 ghost use Rattle.rec_trace.specs.States.{Fits, moves};
 ghost use Rattle.rec_trace.specs.Tracing.{AreAnswered, Gives, HasMoves, HasPushed, IsFound};
 ghost use Rattle.rec_trace.specs.Tracing.{IsInOrder, IsLimit, IsTurn, Stands, caller, moves_at};
-ghost use Rattle.rec_trace.specs.Tracing.{on_top, rest_of, stack_at};
+ghost use Rattle.rec_trace.specs.Tracing.{on_top, rest_of, stack_at, whole_of};
 ghost use Rattle.rec_trace.specs.Turns.{CanTake, CanTurn, ComesTo, Fires, HasCalled};
 ghost use Rattle.rec_trace.specs.Trace.{Trace};
 ghost use Rattle.rec_trace.specs.Turns.{HasCondition, HasRun, IsGroundRow, Turns, number_of};
@@ -129,6 +131,8 @@ impl Tracer {
         ensures begins { IfOk result (λ r. IfSome (slice_get engine.old.spec.terms i)
             (λ t. rest_of engine.old.spec (B.store engine.new.bank) r
             ≡ Trace engine.old.spec n t)) }
+        ensures whole { IfOk result (λ r. IfSome (slice_get engine.old.spec.terms i)
+            (λ t. whole_of engine.old.spec (B.store engine.new.bank) r ≡ tree_of t)) }
     {
         let letters = &engine.checked().terms()[i as usize];
         let steps = ground_steps(alloc, letters)?;
@@ -154,6 +158,8 @@ impl Tracer {
         ensures begins { IfOk result (λ r. (u : Tree) → Spells engine.old.spec letters.now u
             → rest_of engine.old.spec (B.store engine.new.bank) r
             ≡ Trace engine.old.spec n (term_of u)) }
+        ensures whole { IfOk result (λ r. (u : Tree) → Spells engine.old.spec letters.now u
+            → whole_of engine.old.spec (B.store engine.new.bank) r ≡ tree_of (term_of u)) }
     {
         let _kept = engine.checked().syntax();
         let steps = ground_steps(alloc, letters)?;
@@ -178,6 +184,8 @@ impl Tracer {
         ensures same { SameEngine engine.old engine.new }
         ensures counts { (k : ℕ) → (B.store engine.new.bank).roots k + count_among self.lists k
             ≡ (B.store engine.old.bank).roots k }
+        ensures trees { (t : Term) → tree_at (B.store engine.new.bank) t
+            ≡ tree_at (B.store engine.old.bank) t }
     {
         engine.unprotect(self.lists.given);
         engine.unprotect(self.lists.stack);

@@ -3,7 +3,7 @@
 use crate::expected::expected_words;
 use crate::item::{element_of_terms, item_of_args};
 use crate::recorded::{Output, Recorded};
-use rec_run::{Finish, Place, RunFault, Source};
+use rec_run::{Finish, Place, RunDepthFault, RunFault, Source};
 use recw_words::{
     Given, Invocation, Item, Refusal, Request, STANDARD_INPUT, TextName, Texts, Which,
     explain_given, explain_place, explain_text, explain_trouble,
@@ -151,11 +151,18 @@ impl<'a> Evidence<'a> {
     }
 
     /// Explains how a run ended, where there is more to say than the line that was written.
-    pub fn explain<W: Write>(&self, end: Result<Finish, RunFault>, out: &mut W) -> io::Result<()> {
+    pub fn explain<W: Write>(
+        &self,
+        end: Result<Finish, RunDepthFault>,
+        out: &mut W,
+    ) -> io::Result<()> {
         match end {
             Ok(Finish::Refused) => self.explain_refusal(out),
-            Err(RunFault::Read | RunFault::Write) => self.explain_trouble(out),
-            Err(RunFault::Room { .. }) => explain_room(self.invocation.request, out),
+            Err(RunDepthFault::Run(RunFault::Read | RunFault::Write)) => self.explain_trouble(out),
+            Err(RunDepthFault::Run(RunFault::Room { .. })) => {
+                explain_room(self.invocation.request, out)
+            }
+            Err(RunDepthFault::Deep { .. }) => explain_depth(self.invocation.request, out),
             _ => Ok(()),
         }
     }
@@ -287,5 +294,17 @@ fn explain_room<W: Write>(request: Request<'_>, out: &mut W) -> io::Result<()> {
             writeln!(out, "--cells raises the limit, which is {cells} {noun}")
         }
         _ => Ok(()),
+    }
+}
+
+/// Names the option that raises the limit on calls that wait.
+fn explain_depth<W: Write>(request: Request<'_>, out: &mut W) -> io::Result<()> {
+    if let Request::Eval { options, .. } = request
+        && let Some(depth) = options.depth
+    {
+        let noun = if depth == 1 { "call" } else { "calls" };
+        writeln!(out, "--depth raises the limit, which is {depth} {noun}")
+    } else {
+        Ok(())
     }
 }

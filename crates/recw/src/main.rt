@@ -1,11 +1,13 @@
 //! Does what the words of the command line ask for, and ends with its status.
 #![tactic(auto)]
 
+mod check;
 mod evidence;
 mod expected;
 mod given;
 mod input;
 mod item;
+mod look;
 mod options;
 mod program;
 mod recorded;

@@ -1,18 +1,20 @@
 //! Does what the words ask.
 
+use crate::check::check;
 use crate::evidence::Evidence;
 use crate::given::given_by;
 use crate::input::{open, open_file, open_given};
-use crate::options::run_options;
+use crate::options::run_settings;
 use crate::recorded::Watched;
-use crate::report;
 use crate::serve::serve;
+use crate::{look, report};
 use rec_run::{
-    Finish, LimitLines, RunFault, Source, run_aterm_at, run_make_at, run_match_at, run_share_at,
-    run_with,
+    Finish, RunDepthFault, RunFault, Source, run_aterm_at, run_make_at, run_match_at, run_share_at,
+    run_within,
 };
 use recw_words::status::{eval_status, match_status};
 use recw_words::{Asked, Audience, EvalOptions, Invocation, Request, STANDARD_INPUT, read_words};
+use rx_look::run_aterm_indented_at;
 use std::alloc::Global;
 use std::io::{Read, Write};
 use std::rt::Files;
@@ -49,7 +51,11 @@ fn obey<H: Files, R: Read, W: Write, E: Write + Audience>(
 }
 
 /// Tells of a run's end, and gives its status.
-fn conclude<E: Write>(end: Result<Finish, RunFault>, evidence: &Evidence<'_>, err: &mut E) -> u8 {
+fn conclude<E: Write>(
+    end: Result<Finish, RunDepthFault>,
+    evidence: &Evidence<'_>,
+    err: &mut E,
+) -> u8 {
     let status = report::ended(end, evidence.place, err);
     if evidence.invocation.explain {
         let _ = evidence.explain(end, err);
@@ -76,15 +82,18 @@ fn perform<H: Files, R: Read, W: Write, E: Write>(
     out: &mut W,
     err: &mut E,
     evidence: &mut Evidence<'_>,
-) -> Result<Finish, RunFault> {
+) -> Result<Finish, RunDepthFault> {
     let mut out = Watched::new(evidence.alloc, out, evidence.invocation.has_outcome);
-    let end = run_request(rt, input, &mut out, err, evidence);
+    let end = match evidence.invocation.request {
+        Request::Eval { options, .. } => evaluate(rt, options, input, &mut out, evidence),
+        _ => run_request(rt, input, &mut out, err, evidence).map_err(RunDepthFault::Run),
+    };
     evidence.note_output(out.finish());
     end
 }
 
-/// Does what is asked for, on the files that it names. What is told while it goes on is written to
-/// `err`.
+/// Does what is asked for but an evaluation, on the files that it names. What is told while it goes on
+/// is written to `err`.
 fn run_request<H: Files, R: Read, W: Write, E: Write>(
     rt: &H,
     input: &mut R,
@@ -100,8 +109,8 @@ fn run_request<H: Files, R: Read, W: Write, E: Write>(
             out,
             &mut evidence.place,
         ),
-        Request::Eval { options, .. } => evaluate(rt, options, input, out, evidence),
         Request::Serve { options, .. } => serve(rt, options, input, out, err, evidence),
+        Request::Check { is_strict } => check(rt, is_strict, input, out, evidence),
         _ => run_on_file(rt, input, out, evidence),
     }
 }
@@ -134,6 +143,10 @@ fn run_on_text<R: Read, W: Write>(
         Request::Match { pattern, .. } => {
             run_match_at(alloc, pattern.as_bytes(), text, out, &mut evidence.place)
         }
+        Request::Aterm {
+            indent: Some(indent),
+            ..
+        } => look::ended(run_aterm_indented_at(alloc, text, indent, out, &mut evidence.place)),
         _ => run_aterm_at(alloc, text, out, &mut evidence.place),
     }
 }
@@ -145,7 +158,7 @@ fn evaluate<H: Files, R: Read, W: Write>(
     input: &mut R,
     out: &mut W,
     evidence: &mut Evidence<'_>,
-) -> Result<Finish, RunFault> {
+) -> Result<Finish, RunDepthFault> {
     if evidence.invocation.request.terms_path() == Some(STANDARD_INPUT) {
         evaluate_on_input(rt, options, input, out, evidence)
     } else {
@@ -160,7 +173,7 @@ fn evaluate_on_input<H: Files, R: Read, W: Write>(
     input: &mut R,
     out: &mut W,
     evidence: &mut Evidence<'_>,
-) -> Result<Finish, RunFault> {
+) -> Result<Finish, RunDepthFault> {
     let path = evidence.invocation.request.path();
     let name = evidence.name_of(Source::Spec);
     let file = evidence.note_open(open_file(rt, path), name)?;
@@ -178,7 +191,7 @@ fn evaluate_on_files<H: Files, R: Read, W: Write>(
     input: &mut R,
     out: &mut W,
     evidence: &mut Evidence<'_>,
-) -> Result<Finish, RunFault> {
+) -> Result<Finish, RunDepthFault> {
     let path = evidence.invocation.request.path();
     let name = evidence.name_of(Source::Spec);
     let file = evidence.note_open(open(rt, path, input), name)?;
@@ -195,7 +208,7 @@ fn evaluate_text<H: Files, R: Read, W: Write>(
     spec: &mut R,
     out: &mut W,
     evidence: &mut Evidence<'_>,
-) -> Result<Finish, RunFault> {
+) -> Result<Finish, RunDepthFault> {
     if !evidence.invocation.given.is_empty() {
         return evaluate_words(options, spec, out, evidence);
     }
@@ -211,7 +224,7 @@ fn evaluate_words<R: Read, W: Write>(
     spec: &mut R,
     out: &mut W,
     evidence: &mut Evidence<'_>,
-) -> Result<Finish, RunFault> {
+) -> Result<Finish, RunDepthFault> {
     let given = given_by(evidence.alloc, evidence.invocation.given.as_slice())?;
     let end = evaluate_with(options, spec, Some(given.text()), out, evidence);
     evidence.note_word(&given);
@@ -225,18 +238,17 @@ fn evaluate_with<R: Read, T: Read + Drop, W: Write>(
     terms: Option<T>,
     out: &mut W,
     evidence: &mut Evidence<'_>,
-) -> Result<Finish, RunFault> {
+) -> Result<Finish, RunDepthFault> {
     let mut terms = match terms {
         Some(file) => Some(evidence.record(file)),
         None => None,
     };
-    let end = run_with(
+    let end = run_within(
         evidence.alloc,
         spec,
         terms.as_mut(),
         out,
-        run_options(options),
-        limit_lines(options),
+        run_settings(options),
         &mut evidence.place,
     );
     if let Some(terms) = terms {
@@ -244,13 +256,4 @@ fn evaluate_with<R: Read, T: Read + Drop, W: Write>(
         evidence.second = evidence.note_read(terms.finish(), name);
     }
     end
-}
-
-/// What limit lines are to say.
-fn limit_lines(options: EvalOptions) -> LimitLines {
-    if options.limit_annotations {
-        LimitLines::Annotated
-    } else {
-        LimitLines::Bare
-    }
 }

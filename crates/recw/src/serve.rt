@@ -3,10 +3,10 @@
 use crate::evidence::Evidence;
 use crate::expected::expected_words;
 use crate::input::{open, open_file};
-use crate::options::run_options;
+use crate::options::serve_settings;
 use crate::recorded::Recorded;
 use rec_run::{Finish, RunFault, Source};
-use rec_serve::{Listener, Refusal as Refused, ServeFault, run_serve_at};
+use rec_serve::{Listener, Refusal as Refused, ServeFault, run_serve_within};
 use rec_sorts::Checked;
 use recw_words::{EvalOptions, Refusal, TextName, Texts, Which, explain_given, explain_place};
 use rx_text::LONGEST;
@@ -132,12 +132,12 @@ fn serve_on<S: Read + Drop, R: Read + Drop, W: Write, E: Write>(
         is_asked: evidence.invocation.explain,
         err,
     };
-    let end = run_serve_at(
+    let end = run_serve_within(
         alloc,
         &mut spec,
         &mut requests,
         out,
-        run_options(options),
+        serve_settings(options),
         &mut evidence.place,
         &mut explainer,
     );

@@ -12,6 +12,12 @@ pub const MOST_CELLS: u32 = 1_073_741_824;
 /// The most results that are remembered.
 pub const MOST_RESULTS: u32 = 1_048_576;
 
+/// How many calls may wait at once in a conversation, where nothing else is said.
+const SERVED_DEPTH: &str = "1000000";
+
+/// The most blanks that a level may have.
+pub const MOST_INDENT: u32 = 64;
+
 /// The version. What the program was proved with can't be known here: another kit may build it.
 const VERSION: &str = "0.1.0";
 
@@ -23,7 +29,8 @@ pub fn command<'a>(alloc: Global) -> Result<Command<'a>, AllocError> {
     let command = with(command, aterm_command(alloc))?;
     let command = with(command, share_command(alloc))?;
     let command = with(command, match_command(alloc))?;
-    with(command, make_command(alloc))
+    let command = with(command, make_command(alloc))?;
+    with(command, check_command(alloc))
 }
 
 /// The command with a subcommand, where there is memory for both.
@@ -42,7 +49,7 @@ fn bare_command<'a>(alloc: Global) -> Result<Command<'a>, AllocError> {
         "Evaluate REC specifications, and read ATerms",
         "With no arguments, recw evaluates the specification on standard input.\n\n\
          Exit status: 0 done, 1 the text was refused, 2 wrong arguments,\n\
-         3 out of memory or cells, 4 a read or a write failed.\n\n\
+         3 out of memory or cells, or too deep, 4 a read or a write failed.\n\n\
          recw help refusals says what each refusal means; --explain shows where it stands.",
     )
     .no_binary_name(true)
@@ -68,7 +75,8 @@ fn eval_command<'a>(alloc: Global) -> Result<Command<'a>, AllocError> {
         "Example: recw eval --steps 500 add.rec add.trm",
     );
     let command = with_files(alloc, command)?;
-    let command = with_limits(alloc, command)?.arg(count(alloc))?;
+    let command = with_limits(alloc, command)?.arg(depth(alloc))?;
+    let command = command.arg(count(alloc))?;
     with_limit_lines(alloc, command)?.arg(explain(alloc))
 }
 
@@ -106,7 +114,9 @@ fn serve_command<'a>(alloc: Global) -> Result<Command<'a>, AllocError> {
             "FILE",
             "File of the requests, or - [default: standard input]",
         ))?;
+    let depth = depth(alloc).default_value(SERVED_DEPTH);
     with_limits(alloc, command)?
+        .arg(depth)?
         .arg(count(alloc))?
         .arg(explain(alloc))
 }
@@ -143,15 +153,13 @@ fn with_limits<'a>(alloc: Global, command: Command<'a>) -> Result<Command<'a>, A
 
 /// The subcommand `aterm`.
 fn aterm_command<'a>(alloc: Global) -> Result<Command<'a>, AllocError> {
-    with_term(
+    let command = described(
         alloc,
-        described(
-            alloc,
-            "aterm",
-            "Print an ATerm in its shortest form",
-            "Example: echo 'f ( a , [ 1 , -007 ] )' | recw aterm",
-        ),
-    )
+        "aterm",
+        "Print an ATerm in its shortest form",
+        "Example: echo 'f ( a , [ 1 , -007 ] )' | recw aterm",
+    );
+    with_term(alloc, command)?.arg(indent(alloc))
 }
 
 /// The subcommand `share`.
@@ -200,6 +208,25 @@ fn make_command<'a>(alloc: Global) -> Result<Command<'a>, AllocError> {
         "List with an ATerm for each placeholder, in order",
     );
     command.arg(pattern(alloc))?.arg(args)?.arg(explain(alloc))
+}
+
+/// The subcommand `check`.
+fn check_command<'a>(alloc: Global) -> Result<Command<'a>, AllocError> {
+    let command = described(
+        alloc,
+        "check",
+        "Tell all places at which specifications break a rule, and warn of likely mistakes",
+        "Each line is FILE:LINE:COL: RULE: words. Warnings end with status 0.\n\n\
+         Example: recw check add.rec",
+    );
+    let files = text(alloc, "SPEC", "Files of specifications, or -")
+        .num_args(1..)
+        .action(ArgAction::Append);
+    command.arg(files)?.arg(flag(
+        alloc,
+        "strict",
+        "End with status 1 where there is a warning",
+    ))
 }
 
 /// The command with the file of a term and the option `--explain`.
@@ -271,7 +298,21 @@ fn reclaim<'a>(alloc: Global) -> Arg<'a> {
     ))
 }
 
-/// An option with a number.
+/// The option `--depth`.
+fn depth<'a>(alloc: Global) -> Arg<'a> {
+    let help = "Most calls that may wait at once, up to 2^32 - 1";
+    bare_number(alloc, "depth", "D", help).value_parser(value_parser!(u32))
+}
+
+/// The option `--indent`.
+fn indent<'a>(alloc: Global) -> Arg<'a> {
+    let help = "Print it over several lines, with N blanks for each level, 0 to 64";
+    bare_number(alloc, "indent", "N", help).value_parser(value_parser!(u32).range(
+        0..=i64::from(MOST_INDENT),
+    ))
+}
+
+/// An option with a number, which has a default.
 fn number<'a>(
     alloc: Global,
     name: &'a str,
@@ -279,10 +320,14 @@ fn number<'a>(
     default: &'a str,
     help: &'a str,
 ) -> Arg<'a> {
+    bare_number(alloc, name, value_name, help).default_value(default)
+}
+
+/// An option with a number.
+fn bare_number<'a>(alloc: Global, name: &'a str, value_name: &'a str, help: &'a str) -> Arg<'a> {
     Arg::new(alloc, name)
         .long(name)
         .value_name(value_name)
-        .default_value(default)
         .allow_negative_numbers(true)
         .help(help)
 }

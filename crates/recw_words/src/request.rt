@@ -1,7 +1,7 @@
 //! What the words ask for.
 ghost use Rattle.std.specs.Prelude.{◌≤◌, ◌^◌};
 
-use crate::command::{self, MOST_CELLS, MOST_RESULTS, MOST_STEPS};
+use crate::command::{self, MOST_CELLS, MOST_INDENT, MOST_RESULTS, MOST_STEPS};
 use clap::error::ErrorKind;
 use clap::{ArgMatches, Command, Error};
 use std::alloc::{AllocError, Global};
@@ -21,6 +21,8 @@ pub struct EvalOptions {
     pub count: bool,
     /// Whether the limit line of a given term bears its annotations.
     pub limit_annotations: bool,
+    /// How many calls may wait at once; without a number as many as there is memory for.
+    pub depth: Option<u32>,
     pub ghost steps_in_range: { steps ≤ 10 ^ 18 },
     pub ghost cells_in_range: { (1 ≤ cells) × (cells ≤ 2 ^ 30) },
     pub ghost memo_in_range: { memo ≤ 2 ^ 20 },
@@ -43,9 +45,11 @@ pub enum Request<'a> {
         spec: Option<&'a str>,
         requests: Option<&'a str>,
     },
-    /// Print a term, which stands in a file or on the standard input.
+    /// Print a term, which stands in a file or on the standard input, over several lines where it
+    /// is said how many blanks a level has.
     Aterm {
         file: Option<&'a str>,
+        indent: Option<u8>,
     },
     /// Print a term and how many cells it takes.
     Share {
@@ -61,6 +65,11 @@ pub enum Request<'a> {
         pattern: &'a str,
         args: &'a str,
     },
+    /// Check specifications, which stand in the files that are given.
+    Check {
+        /// Whether a warning is to count as a refusal.
+        is_strict: bool,
+    },
 }
 
 impl<'a> Request<'a> {
@@ -68,8 +77,10 @@ impl<'a> Request<'a> {
     pub fn path(&self) -> Option<&'a str> {
         match *self {
             Request::Eval { spec, .. } | Request::Serve { spec, .. } => spec,
-            Request::Aterm { file } | Request::Share { file } | Request::Match { file, .. } => file,
-            Request::Make { .. } => None,
+            Request::Aterm { file, .. } | Request::Share { file } | Request::Match { file, .. } => {
+                file
+            }
+            Request::Make { .. } | Request::Check { .. } => None,
         }
     }
 
@@ -107,7 +118,7 @@ pub const STANDARD_INPUT: &str = "-";
 pub struct Invocation<'a> {
     /// What is to be done.
     pub request: Request<'a>,
-    /// Given terms that stand among the words.
+    /// Given terms that stand among the words; or the files of specifications to check.
     pub given: Vec<&'a str>,
     /// Whether a refusal is to be explained.
     pub explain: bool,
@@ -139,6 +150,9 @@ fn invocation_or_error<'a>(
 ) -> Result<Invocation<'a>, Error> {
     let given = given_of(alloc, matches)?;
     match asked_by(matches) {
+        Ok(asked) if asked.reads_twice(&given) => {
+            Err(command.error(READ_TWICE.kind, READ_TWICE.message)?)
+        }
         Ok(asked) => Ok(asked.with(given)),
         Err(Wrong { kind, message }) => Err(command.error(kind, message)?),
     }
@@ -165,9 +179,10 @@ const READ_TWICE: Wrong = Wrong {
     message: "the standard input can be read once only",
 };
 
-/// The given terms among the words.
+/// The given terms among the words, or the files of specifications to check.
 fn given_of<'a>(alloc: Global, matches: &ArgMatches<'a>) -> Result<Vec<&'a str>, AllocError> {
     match matches.subcommand() {
+        Some(("check", inner)) => copy_of(alloc, inner.get_strs("SPEC")),
         Some((_, inner)) => copy_of(alloc, inner.get_strs("term")),
         None => Ok(Vec::new(alloc)),
     }
@@ -193,6 +208,12 @@ struct Bare<'a> {
 }
 
 impl<'a> Bare<'a> {
+    /// Whether the standard input is among the files to check twice.
+    fn reads_twice(&self, given: &[&str]) -> bool {
+        let standard = given.iter().filter(|path| **path == STANDARD_INPUT).count();
+        matches!(self.request, Request::Check { .. }) && standard > 1
+    }
+
     /// The same with these given terms.
     fn with(self, given: Vec<&'a str>) -> Invocation<'a> {
         let Bare {
@@ -230,12 +251,16 @@ fn request_of<'a>(name: &str, inner: &ArgMatches<'a>) -> Option<Request<'a>> {
         "serve" => serve_of(inner),
         "aterm" => Some(Request::Aterm {
             file: path_of(inner, "FILE"),
+            indent: indent_of(inner),
         }),
         "share" => Some(Request::Share {
             file: path_of(inner, "FILE"),
         }),
         "match" => match_of(inner),
         "make" => make_of(inner),
+        "check" => Some(Request::Check {
+            is_strict: inner.get_flag("strict"),
+        }),
         _ => None,
     }
 }
@@ -243,6 +268,12 @@ fn request_of<'a>(name: &str, inner: &ArgMatches<'a>) -> Option<Request<'a>> {
 /// The path that a word names, where that is not the standard input.
 fn path_of<'a>(inner: &ArgMatches<'a>, id: &str) -> Option<&'a str> {
     inner.get_str(id).filter(|path| *path != STANDARD_INPUT)
+}
+
+/// How many blanks a level is to have, where that is said.
+fn indent_of(inner: &ArgMatches<'_>) -> Option<u8> {
+    let indent = inner.get_one::<u32>("indent")?;
+    Some(indent.min(MOST_INDENT) as u8)
 }
 
 /// What `eval` is asked to do.
@@ -288,5 +319,6 @@ fn options_of(matches: &ArgMatches<'_>) -> Option<EvalOptions> {
         reclaim: matches.get_one::<u32>("reclaim")?.clamp(1, MOST_CELLS),
         count: matches.get_flag("count"),
         limit_annotations: matches.get_flag("limit-annotations"),
+        depth: matches.get_one::<u32>("depth"),
     })
 }

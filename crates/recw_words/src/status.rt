@@ -10,7 +10,7 @@ pub const REFUSED: u8 = 1;
 /// The words were not understood.
 pub const COMMAND_LINE: u8 = 2;
 
-/// Memory or cells ran out.
+/// Memory or cells ran out, or as many calls waited as may.
 pub const OUT_OF_ROOM: u8 = 3;
 
 /// A stream failed.

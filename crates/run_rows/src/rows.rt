@@ -2,9 +2,11 @@
 
 mod bank;
 mod counting;
+mod depth;
 mod given;
 mod hostile;
 mod limits;
+mod look;
 mod pattern;
 mod performing;
 mod serve;

@@ -8,19 +8,19 @@ ghost use Rattle.rx_text.specs.Grammar.{Spells};
 ghost use Rattle.rx_text.specs.Input.{IsReadable, IsSameInput, remaining_in};
 ghost use Rattle.rec_syntax.specs.Grammar.{SpecText};
 ghost use Rattle.rec_sorts.specs.SpecRules.{Fits, Verdict};
-ghost use Rattle.rec_run.specs.Reading.{IsGood, IsSpecRead, IsSpecReading};
+ghost use Rattle.rec_run.specs.Reading.{IsGood, IsSpecRead, IsSpecReading, KeepsText};
 ghost use Rattle.rx_run.specs.Run.{IsReadOut, RanOut, StopsReading, StopsUnwritten};
 ghost use Rattle.rx_run.specs.Streams.{TellsRead, TellsReading};
 ghost use Rattle.rec_run.specs.Run.{TellsReads, both_texts};
 ghost use Rattle.rec_run.specs.GivenTerms.{
   EndsRefused,
   HoldsList,
-  IsListRead,
   IsReadAs,
   IsReadFor,
   IsReadFrom,
   IsReady,
   IsRefusal,
+  IsTermsRead,
   OnGoodSpec,
   OnRefusedSpec,
   job_alone_of,
@@ -47,7 +47,8 @@ pub struct Job {
 
 /// The verdict on a text, which a good specification keeps.
 pub(crate) fn judge(alloc: Global, text: Vec<u8>) -> Result<Reading<Checked>, AllocError>
-    ensures { IfOk result (IsSpecRead text.items) }
+    ensures verdict { IfOk result (IsSpecRead text.items) }
+    ensures source { IfOk result (KeepsText text.items) }
 {
     match read_owned(alloc, text) {
         Ok(syntax) => judge_rules(alloc, syntax),
@@ -63,7 +64,8 @@ pub(crate) fn judge(alloc: Global, text: Vec<u8>) -> Result<Reading<Checked>, Al
 fn judge_rules(alloc: Global, syntax: Syntax) -> Result<Reading<Checked>, AllocError>
     requires short { length syntax.source ≤ 16777216 }
     requires spelled { SpecText syntax.source syntax.spec }
-    ensures { IfOk result (IsSpecRead syntax.source) }
+    ensures verdict { IfOk result (IsSpecRead syntax.source) }
+    ensures source { IfOk result (KeepsText syntax.source) }
 {
     match check(alloc, syntax) {
         Ok(checked) => Ok(Reading::Good(checked)),
@@ -186,6 +188,8 @@ pub fn read_both_from<B: TermBank, R: Read, T: Read>(
 pub fn read_spec_text<R: Read>(alloc: Global, spec: &mut R) -> Result<Reading<Checked>, ReadFault>
     ensures verdict { IfOk result
         (λ reading. IfSome (R.remaining spec.old) (λ bytes. IsSpecRead bytes reading)) }
+    ensures source { IfOk result
+        (λ reading. IfSome (R.remaining spec.old) (λ bytes. KeepsText bytes reading)) }
     ensures out { OnOk result (IsReadOut (R.remaining spec.old) (R.remaining spec.new)) }
 {
     let mut spec = Input::new(spec);
@@ -201,6 +205,8 @@ pub fn read_spec_text_from<R: Read>(
     ensures verdict { IfOk result
         (λ reading. IfSome (remaining_in R.remaining spec.old)
         (λ bytes. IsSpecRead bytes reading)) }
+    ensures source { IfOk result (λ reading. IfSome (remaining_in R.remaining spec.old)
+        (λ bytes. KeepsText bytes reading)) }
     ensures out { OnOk result (IsReadOut (remaining_in R.remaining spec.old)
         (remaining_in R.remaining spec.new)) }
     ensures same { IsSameInput spec.old spec.new }
@@ -262,7 +268,7 @@ fn read_terms<B: TermBank, T: Read>(
     ensures same { IsSameInput terms.old terms.new }
     ensures cause { TellsRead terms.new result }
 {
-    let reading = read_list(alloc, &checked, terms, bank)?;
+    let reading = read_terms_text_from(alloc, &checked, terms, bank)?;
     Ok(job_from(checked, reading))
 }
 
@@ -279,16 +285,35 @@ fn job_from(checked: Checked, reading: Reading<Term>) -> Reading<Job>
     }
 }
 
-/// Reads the text of terms for a good specification into a bank, and judges it.
-fn read_list<B: TermBank, T: Read>(
+/// Reads the text of given terms for a good specification into a bank, and judges it.
+pub fn read_terms_text<B: TermBank, T: Read>(
+    alloc: Global,
+    checked: &Checked,
+    terms: &mut T,
+    bank: &mut B,
+) -> Result<Reading<Term>, RunFault>
+    ensures verdict { IfOk result (λ reading. IfSome (T.remaining terms.old)
+        (λ bytes. IsTermsRead checked.now.spec (B.store bank.new) bytes reading)) }
+    ensures holds { IfOk result (HoldsList checked.now.spec (B.store bank.new)) }
+    ensures out { OnOk result (IsReadOut (T.remaining terms.old) (T.remaining terms.new)) }
+    ensures roots { (B.store bank.new).roots ≡ (B.store bank.old).roots }
+    ensures cap { (B.store bank.new).cap ≡ (B.store bank.old).cap }
+    ensures fault { IfErr result (StopsUnwritten (B.store bank.old) (B.store bank.new)) }
+{
+    let mut terms = Input::new(terms);
+    read_terms_text_from(alloc, checked, &mut terms, bank)
+}
+
+/// The same from an input. It is asked no more once it refused.
+pub fn read_terms_text_from<B: TermBank, T: Read>(
     alloc: Global,
     checked: &Checked,
     terms: &mut Input<'_, T>,
     bank: &mut B,
 ) -> Result<Reading<Term>, RunFault>
     requires { IsReadable terms.old }
-    ensures due { IfOk result (λ reading. IfSome (remaining_in T.remaining terms.old)
-        (λ bytes. IsListRead checked.now.spec (B.store bank.new) bytes reading)) }
+    ensures verdict { IfOk result (λ reading. IfSome (remaining_in T.remaining terms.old)
+        (λ bytes. IsTermsRead checked.now.spec (B.store bank.new) bytes reading)) }
     ensures holds { IfOk result (HoldsList checked.now.spec (B.store bank.new)) }
     ensures out { OnOk result (IsReadOut (remaining_in T.remaining terms.old)
         (remaining_in T.remaining terms.new)) }
@@ -309,7 +334,7 @@ fn judge_terms<B: TermBank>(
     text: &[u8],
     bank: &mut B,
 ) -> Result<Reading<Term>, RunFault>
-    ensures due { IfOk result (IsListRead checked.now.spec (B.store bank.new) text.now) }
+    ensures verdict { IfOk result (IsTermsRead checked.now.spec (B.store bank.new) text.now) }
     ensures holds { IfOk result (HoldsList checked.now.spec (B.store bank.new)) }
     ensures grows { Grows (B.store bank.old) (B.store bank.new) }
     ensures fault { IfErr result (RanOut (B.store bank.old) (B.store bank.new)) }
@@ -328,9 +353,9 @@ fn judge_list<B: TermBank>(
     list: Term,
 ) -> Result<Reading<Term>, RunFault>
     requires { IsSome (tree_at (B.store bank.now) list) }
-    ensures due { IfOk result (λ reading. IfSome (tree_at (B.store bank.now) list)
+    ensures verdict { IfOk result (λ reading. IfSome (tree_at (B.store bank.now) list)
         (λ t. (bytes : List ℕ) → Fits bytes → Spells bytes t
-        → IsListRead checked.now.spec (B.store bank.now) bytes reading)) }
+        → IsTermsRead checked.now.spec (B.store bank.now) bytes reading)) }
     ensures holds { IfOk result (HoldsList checked.now.spec (B.store bank.now)) }
     ensures fault { IfErr result (λ fault. fault ≡ RunFault.Memory 0) }
 {

@@ -17,6 +17,7 @@ Commands:
   share  Print an ATerm and how many cells it takes with equal parts shared
   match  Print what a pattern binds in an ATerm, or that it does not match
   make   Print a pattern with arguments in place of its placeholders
+  check  Tell all places at which specifications break a rule, and warn of likely mistakes
   help   Print this message or the help of the given subcommand(s)
 
 Options:
@@ -26,7 +27,7 @@ Options:
 With no arguments, recw evaluates the specification on standard input.
 
 Exit status: 0 done, 1 the text was refused, 2 wrong arguments,
-3 out of memory or cells, 4 a read or a write failed.
+3 out of memory or cells, or too deep, 4 a read or a write failed.
 
 recw help refusals says what each refusal means; --explain shows where it stands.
 ";
@@ -61,6 +62,7 @@ Options:
       --cells <C>          Most cells that terms may take, 1 to 2^30; the default takes up to 1.4 GB [default: 16777216]
       --memo <M>           Most results to remember, up to 2^20 [default: 65536]
       --reclaim <K>        New cells between two reclaims, 1 to 2^30 [default: 262144]
+      --depth <D>          Most calls that may wait at once, up to 2^32 - 1
       --count              Print the steps that each term took behind its value
       --limit-annotations  Print the annotations of a further term behind its limit
       --limit-status       End with status 5 where a term takes more steps
@@ -84,6 +86,7 @@ Options:
       --cells <C>    Most cells that terms may take, 1 to 2^30; the default takes up to 1.4 GB [default: 16777216]
       --memo <M>     Most results to remember, up to 2^20 [default: 65536]
       --reclaim <K>  New cells between two reclaims, 1 to 2^30 [default: 262144]
+      --depth <D>    Most calls that may wait at once, up to 2^32 - 1 [default: 1000000]
       --count        Print the steps that each term took behind its value
       --explain      Say in words why a text is refused, and where
   -h, --help         Print help
@@ -100,8 +103,9 @@ Arguments:
   [FILE]  File of the ATerm, or - [default: standard input]
 
 Options:
-      --explain  Say in words why a text is refused, and where
-  -h, --help     Print help
+      --explain     Say in words why a text is refused, and where
+      --indent <N>  Print it over several lines, with N blanks for each level, 0 to 64
+  -h, --help        Print help
 
 Example: echo 'f ( a , [ 1 , -007 ] )' | recw aterm
 ";
@@ -144,6 +148,24 @@ Give a pattern that begins with - a blank before it: ' -7'.
 Example: recw make 'f(<int>,<list>)' '[1,[2,3]]'
 ";
 
+/// The help of `check`.
+const CHECK_HELP: &str = "Tell all places at which specifications break a rule, \
+and warn of likely mistakes
+
+Usage: recw check [OPTIONS] <SPEC>...
+
+Arguments:
+  <SPEC>...  Files of specifications, or -
+
+Options:
+      --strict  End with status 1 where there is a warning
+  -h, --help    Print help
+
+Each line is FILE:LINE:COL: RULE: words. Warnings end with status 0.
+
+Example: recw check add.rec
+";
+
 /// The help of `help`.
 const HELP_HELP: &str = "Print this message or the help of the given subcommand(s)
 
@@ -173,6 +195,7 @@ pub(crate) const HELPS: &[Row] = &[
     (&["aterm", "-h"], "", 0, ATERM_HELP, ""),
     (&["match", "-h"], "", 0, MATCH_HELP, ""),
     (&["help", "make"], "", 0, MAKE_HELP, ""),
+    (&["check", "--help"], "", 0, CHECK_HELP, ""),
     (&["help", "help"], "", 0, HELP_HELP, ""),
     (&["help", "refusals", "--help"], "", 0, REFUSALS_HELP, ""),
     (&["help", "refusals", "-h"], "", 0, REFUSALS_HELP, ""),

@@ -50,4 +50,26 @@ pub(crate) const STATUSES: &[Row] = &[
         "",
         "recw: out of cells\n",
     ),
+    // The term waits for its call, and each right side but the last for the call in it.
+    (
+        &["eval", "--memo", "0", "--depth", "3"],
+        ADDITION,
+        0,
+        "s(s(s(z)))\n",
+        "",
+    ),
+    (
+        &["eval", "--memo", "0", "--depth", "2", "-e", "z"],
+        ADDITION,
+        3,
+        "",
+        "recw: too deep\n",
+    ),
+    (
+        &["eval", "--depth", "0", "--explain"],
+        ADDITION,
+        3,
+        "",
+        "recw: too deep\n--depth raises the limit, which is 0 calls\n",
+    ),
 ];

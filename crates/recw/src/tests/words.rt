@@ -125,6 +125,27 @@ pub(crate) const TERMS: &[Row] = &[
         "!term A\n",
         "recw: term A at byte 0\n",
     ),
+    (
+        &["aterm", "--indent", "2"],
+        "f ( a , [ 1 , -007 ] ) { b }",
+        0,
+        "f(\n  a,\n  [\n    1,\n    -7\n  ]\n){\n  b\n}\n",
+        "",
+    ),
+    (
+        &["aterm", "--indent=0"],
+        "[[],<int>]",
+        0,
+        "[\n[],\n<\nint\n>\n]\n",
+        "",
+    ),
+    (
+        &["aterm", "--indent", "1"],
+        "f(a,)",
+        1,
+        "!term A\n",
+        "recw: term A at byte 4\n",
+    ),
     (&["share"], "f(a,a)", 0, "f(a,a)\ncells 5\n", ""),
     (
         &["share"],
@@ -195,6 +216,28 @@ pub(crate) const PATTERNS: &[Row] = &[
         "",
     ),
     (&["make", "a", "[]{}"], "", 0, "a\n", ""),
+    (&["check", "-"], ADDITION, 0, "", ""),
+    (
+        &["check", "-"],
+        "REC-SPEC E SORTS A CONS OPNS VARS RULES EVAL END-SPEC",
+        0,
+        "<stdin>:1:18: W4: never used: no symbol and no variable has this sort: A\n",
+        "",
+    ),
+    (
+        &["check", "--strict", "-"],
+        "REC-SPEC E SORTS A CONS OPNS VARS RULES EVAL END-SPEC",
+        1,
+        "<stdin>:1:18: W4: never used: no symbol and no variable has this sort: A\n",
+        "",
+    ),
+    (
+        &["check", "-"],
+        "",
+        1,
+        "<stdin>:1:1: G: no specification has this here\n",
+        "",
+    ),
     (&["make", " -7", "[]"], "", 0, "-7\n", ""),
     (&["make", "f(<int>)", "[]"], "", 1, "!args M1\n", ""),
     (&["make", "f(<int>)", "[a]"], "", 1, "!args M2\n", ""),
@@ -217,12 +260,16 @@ pub(crate) const PATTERNS: &[Row] = &[
 ];
 
 /// Words that the command line does not have.
-const WRONG_WORDS: [&[&str]; 32] = [
+const WRONG_WORDS: [&[&str]; 36] = [
     &["eval", "--cells", "0"],
     &["eval", "--cells", "1073741825"],
     &["eval", "--reclaim", "0"],
     &["eval", "--reclaim", "1073741825"],
     &["eval", "--memo", "1048577"],
+    &["eval", "--depth", "4294967296"],
+    &["eval", "--depth", "-1"],
+    &["serve", "--depth", "x", "a"],
+    &["aterm", "--depth", "1"],
     &["eval", "--steps", "3", "--steps", "4"],
     &["eval", "--count", "--count"],
     &["eval", "--steps", "1000000000000000001"],
@@ -266,13 +313,14 @@ fn refuses_words(rt: HostRuntime) {
     }
 }
 
-/// Options, and the numbers of each of them in turn, and whether steps are counted and limit lines
-/// have annotations.
-const OPTIONS: [(&[&str], [u64; 4], [bool; 2]); 3] = [
+/// Options, and the numbers of each of them in turn, whether steps are counted and limit lines have
+/// annotations, and how many calls may wait.
+const OPTIONS: [(&[&str], [u64; 4], [bool; 2], Option<u32>); 3] = [
     (
         &["eval"],
         [1_000_000, 16_777_216, 65_536, 262_144],
         [false, false],
+        None,
     ),
     (
         &[
@@ -286,9 +334,12 @@ const OPTIONS: [(&[&str], [u64; 4], [bool; 2]); 3] = [
             "--reclaim",
             "14",
             "--count",
+            "--depth",
+            "15",
         ],
         [11, 12, 13, 14],
         [true, false],
+        Some(15),
     ),
     (
         &[
@@ -300,9 +351,11 @@ const OPTIONS: [(&[&str], [u64; 4], [bool; 2]); 3] = [
             "terms",
             "--limit-annotations",
             "--steps=21",
+            "--depth=0",
         ],
         [21, 22, 23, 24],
         [false, true],
+        Some(0),
     ),
 ];
 
@@ -313,6 +366,7 @@ fn reaches_its_field<H: Abort + Files>(
     words: &[&str],
     numbers: [u64; 4],
     flags: [bool; 2],
+    calls: Option<u32>,
 ) {
     let mut none = Vec::new(alloc);
     let mut told = Vec::new(alloc);
@@ -330,17 +384,18 @@ fn reaches_its_field<H: Abort + Files>(
         reclaim,
         count,
         limit_annotations,
+        depth,
     } = options;
     let found = [steps, u64::from(cells), u64::from(memo), u64::from(reclaim)];
     assert!(rt;
-        found == numbers && [count, limit_annotations] == flags,
+        found == numbers && [count, limit_annotations] == flags && depth == calls,
         "{words:?}"
     );
 }
 
 #[test]
 fn options_reach_their_fields(rt: HostRuntime) {
-    for (words, numbers, flags) in &OPTIONS {
-        reaches_its_field(&rt, rt.alloc(), words, *numbers, *flags);
+    for (words, numbers, flags, calls) in &OPTIONS {
+        reaches_its_field(&rt, rt.alloc(), words, *numbers, *flags, *calls);
     }
 }

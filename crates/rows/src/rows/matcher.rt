@@ -206,16 +206,27 @@ fn overlapping_rules_of_pairs(rt: HostRuntime) -> Result<(), Fail> {
     assert_rows(&rt, rt.alloc(), PAIRS, &OVERLAPPING_PAIRS)
 }
 
-/// Whether the matcher of a specification has a tree for the symbol of a number.
-fn has_tree(alloc: Global, spec: &[u8], number: usize) -> Result<bool, Fail> {
+/// How many trees the matcher of a specification has for the symbol of a number.
+fn trees(alloc: Global, spec: &[u8], number: usize) -> Result<usize, Fail> {
     let mut bank = PlainBank::new(alloc, 10)?;
     let matcher = matcher_of(alloc, &mut bank, spec)?;
-    Ok(!matches!(matcher.forest.roots.get(number), None | Some(0)))
+    match matcher.forest.roots.get(number) {
+        Some(roots) => Ok(roots.len()),
+        None => Ok(0),
+    }
 }
 
 #[test]
 fn the_rules_of_pairs_have_a_tree(rt: HostRuntime) -> Result<(), Fail> {
-    assert!(rt; has_tree(rt.alloc(), PAIRS, 3)?);
+    assert_eq!(rt; trees(rt.alloc(), PAIRS, 3)?, 1);
+    Ok(())
+}
+
+/// The symbol `w` has number 2. One tree would have a leaf for each set of its arguments.
+#[test]
+fn the_rules_of_many_arguments_have_a_tree_each(rt: HostRuntime) -> Result<(), Fail> {
+    let spec = wide(rt.alloc())?;
+    assert_eq!(rt; trees(rt.alloc(), spec.as_bytes(), 2)?, 20);
     Ok(())
 }
 

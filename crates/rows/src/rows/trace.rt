@@ -213,6 +213,22 @@ fn expect_value<B: TermBank>(
     expect_text(rt, alloc, engine.bank(), term, wanted);
 }
 
+/// Stops where the whole term has another text.
+fn expect_whole_term<B: TermBank>(
+    rt: &impl Abort,
+    alloc: Global,
+    engine: &mut Engine<B>,
+    tracer: &Tracer,
+    wanted: &[u8],
+)
+    requires { Stands engine.old.spec (B.store engine.old.bank) tracer.now }
+    ensures same { SameEngine engine.old engine.new }
+    ensures stands { Stands engine.old.spec (B.store engine.new.bank) tracer.now }
+{
+    let whole = tracer.whole(alloc, engine).expect(rt, "the whole term");
+    expect_text(rt, alloc, engine.bank(), whole, wanted);
+}
+
 /// The first step of the sum.
 const FIRST: Fired = Fired {
     rule: 1,
@@ -245,6 +261,20 @@ fn sums(rt: HostRuntime) {
     let mut tracer = Tracer::of_eval(alloc, &mut engine, 0, 5).expect(&rt, "a trace");
     expect_fired(&rt, alloc, &mut engine, &mut tracer, &FIRST);
     expect_fired(&rt, alloc, &mut engine, &mut tracer, &SECOND);
+    expect_value(&rt, alloc, &mut engine, &mut tracer, b"s(s(z))");
+}
+
+#[test]
+fn whole_terms_of_a_trace(rt: HostRuntime) {
+    let alloc = rt.alloc();
+    let mut engine = engine_for(&rt, alloc);
+    assert!(rt; engine.eval_terms() == 2);
+    let mut tracer = Tracer::of_eval(alloc, &mut engine, 0, 5).expect(&rt, "a trace");
+    expect_whole_term(&rt, alloc, &mut engine, &tracer, b"add(s(z),s(z))");
+    expect_fired(&rt, alloc, &mut engine, &mut tracer, &FIRST);
+    expect_whole_term(&rt, alloc, &mut engine, &tracer, b"s(add(z,s(z)))");
+    expect_fired(&rt, alloc, &mut engine, &mut tracer, &SECOND);
+    expect_whole_term(&rt, alloc, &mut engine, &tracer, b"s(s(z))");
     expect_value(&rt, alloc, &mut engine, &mut tracer, b"s(s(z))");
 }
 

@@ -1,6 +1,6 @@
 use Rattle.std.proofs.Common.{ℕ, ℤ, Some, sym, ap, ◌∙◌}
 use Rattle.rx_term.specs.Store.{Store}
-use Rattle.rx_shared.specs.State.{store_of}
+use Rattle.psilt_work.specs.Banks.{store_of}
 use Rattle.psilt_work.specs.Answers.{term_of, Looks, HasKindNumber}
 use Rattle.psilt_work.specs.Codes.{told}
 use Rattle.psilt_work.specs.declared.work.Work.{Work}

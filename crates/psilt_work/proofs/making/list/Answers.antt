@@ -3,7 +3,7 @@ use Rattle.rx_term.specs.Tree.{more, to_list}
 use Rattle.rx_term.specs.Walks.{HaveTrees}
 use Rattle.rx_term.proofs.StoreLemmas.{Grows-Makes, Grows-trans}
 use Rattle.rx_term.proofs.WalkLemmas.{next, is_longer}
-use Rattle.rx_shared.specs.State.{store_of}
+use Rattle.psilt_work.specs.Banks.{store_of}
 use Rattle.psilt_work.specs.Answers.{term_of, terms_of}
 use Rattle.psilt_work.proofs.AnswerLemmas.{held_at, one_more}
 use Rattle.psilt_work.proofs.making.list.Goals as goal
@@ -20,10 +20,11 @@ loop-left-preserved c =
     let n = next old now (terms_of (drop c.loop-left.left items)) (term_of (get_or items at 0)) c.loop-left.list c.loop-left.invariant.grows (held_at old items at 0 c.requires (omega arith)) c.loop-left.invariant.lists in
     record {
       within = omega arith;
-      grows = Grows-trans c.loop-left.invariant.grows (Grows-Makes c.in_ok-list-2.ensures);
+      grows = Grows-trans c.loop-left.invariant.grows (Grows-Makes c.in_ok-list-2.ensures.made);
+      same = c.in_ok-list-2.ensures.same ∙ c.loop-left.invariant.same;
       lists = (
         more n.0 n.1.0,
         subst (λ ns. HaveTrees old (terms_of ns) (to_list (more n.0 n.1.0))) (sym (one_more items c.loop-left.left 0 (omega arith) (omega arith))) n.1.3,
-        c.in_ok-list-2.ensures.made ∙ is_longer _ _ n.0 n.1.0 n.1.1 n.1.2,
+        c.in_ok-list-2.ensures.made.made ∙ is_longer _ _ n.0 n.1.0 n.1.1 n.1.2,
       );
     }

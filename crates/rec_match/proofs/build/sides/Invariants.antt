@@ -7,5 +7,5 @@ use Rattle.rec_match.proofs.build.sides.Given as goal
 abbrev pub invariant-loop-rule : goal.invariant-loop-rule
 invariant-loop-rule l = record {
   places : ArePlaces [] (variable_count l.checked.spec) l.places;
-  sides : (fs : List ℕ) → AreHeads l.checked.spec fs → AreSides l.checked.spec l.links fs l.nexts l.sides.items l.rule;
+  sides : (fs : List ℕ) → AreHeads l.checked.spec fs → AreSides l.checked.spec fs l.nexts l.sides.items l.rule;
 }

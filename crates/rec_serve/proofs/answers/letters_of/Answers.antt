@@ -1,4 +1,4 @@
-use Rattle.std.proofs.Common.{◌≡◌, ◌<◌, ◌++◌, [], ◌∷◌, List, length, refl, subst, arith, Vec, Global}
+use Rattle.std.proofs.Common.{◌<◌, [], ◌∷◌, length, refl, subst, arith, Vec, Global}
 use Rattle.rx_term.specs.Tree.{Tree, list_of, more, none}
 use Rattle.rec_syntax.specs.Syntax.{Spec}
 use Rattle.rec_sorts.specs.Evaluation.{term_of}

@@ -1,4 +1,3 @@
-use Rattle.std.proofs.Common.{◌≡◌}
 use Rattle.rec_engine.specs.Engine.{SameEngine}
 use Rattle.rec_serve.specs.Reading.{left_of}
 use Rattle.rec_serve.proofs.ReplyLemmas.{Replied}
@@ -8,5 +7,5 @@ use Rattle.rec_serve.proofs.conversation.converse_on.Given as goal
 abbrev pub invariant-loop-answered : goal.invariant-loop-answered
 invariant-loop-answered g l = record {
   same : SameEngine l.fn.engine l.engine;
-  replied : Replied l.fn.engine.spec l.options.count l.options.steps (g.R.Read.remaining l.fn.requests) (left_of l.ahead (g.R.Read.remaining l.requests)) (g.W.Write.contents l.fn.out) (g.W.Write.contents l.out) l.answered;
+  replied : Replied l.fn.engine.spec l.settings.options.count l.settings.options.steps l.settings.depth (g.R.Read.remaining l.fn.requests) (left_of l.ahead (g.R.Read.remaining l.requests)) (g.W.Write.contents l.fn.out) (g.W.Write.contents l.out) l.answered;
 }

@@ -11,7 +11,7 @@ returns-in_err-put-clause-err g c =
     let r = c.answer_kept-found.result in
     on_err c.from_residual.result (λ line is. (
       text_of r,
-      reply_is c.args.engine.now.spec c.args.options.count c.args.options.steps c.args.request.now r c.answer_kept-found.ensures.answered line is,
+      reply_is c.args.engine.now.spec c.args.settings.options.count c.args.settings.options.steps _ c.args.settings.depth c.args.request.now r c.answer_kept-found.ensures.deep c.answer_kept-found.ensures.answered line is,
       subst (λ t. AppendsFront t (g.W.Write.contents c.args.out.now) (g.W.Write.contents c.put.new.out)) c.reply_text.ensures c.in_err-put.ensures.front,
     ))
 
@@ -19,6 +19,6 @@ pub returns-clause-ok : goal.returns-clause-ok
 returns-clause-ok g c = λ line is.
     let r = c.answer_kept-found.result in (
       text_of r,
-      reply_is c.args.engine.now.spec c.args.options.count c.args.options.steps c.args.request.now r c.answer_kept-found.ensures.answered line is,
+      reply_is c.args.engine.now.spec c.args.settings.options.count c.args.settings.options.steps _ c.args.settings.depth c.args.request.now r c.answer_kept-found.ensures.deep c.answer_kept-found.ensures.answered line is,
       subst (λ t. Appends (g.W.Write.contents c.args.out.now) (g.W.Write.contents c.put.new.out) t) c.reply_text.ensures c.in_ok-put.ensures.written,
     )

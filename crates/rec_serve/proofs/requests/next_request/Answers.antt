@@ -1,5 +1,5 @@
-use Rattle.std.proofs.Common.{◌≡◌, ◌++◌, ap}
-use Rattle.std.specs.Prelude.{Ok}
+use Rattle.std.proofs.Common.{◌≡◌, ◌++◌, Option, Some, ap, subst, sym}
+use Rattle.std.specs.Prelude.{MatchOption, Ok}
 use Rattle.rec_serve.specs.Reading.{left_of}
 use Rattle.rec_serve.proofs.KeptLemmas.{at_end, begins_keeps, begins_taken, keeps_both, splits_taken}
 use Rattle.rec_serve.proofs.requests.next_request.Goals as goal
@@ -21,13 +21,18 @@ returns-then-not-branch-clause-request g c =
 pub returns-then-not-branch-clause-kept : goal.returns-then-not-branch-clause-kept
 returns-then-not-branch-clause-kept g c = keeps_both _ _ _ c.loop.invariant.3 c.refill.ensures.kept
 
+-- a request that was found
+found_some : {X : Type 0} (P : Type 0) (Q : X → Type 0) (o : Option X) (x : X) → o ≡ Some x → Q x → MatchOption o P Q
+found_some P Q o x e h = subst (λ z. MatchOption z P Q) (sym e) h
+
 pub returns-then-take_piece-clause-request : goal.returns-then-take_piece-clause-request
 returns-then-take_piece-clause-request g c =
     let old = left_of c.args.ahead.now (g.R.Read.remaining c.args.reader.now) in
     let mid = left_of c.loop.ahead (g.R.Read.remaining c.loop.reader) in
     let known = g.R.Read.remaining c.refill.new.reader in
     let inv = c.loop.invariant in
-    let piece = c.if-take_piece.ensures in (
+    let piece = c.if-take_piece.ensures in
+    found_some _ _ c.ended.result c.take_piece.new.request c.ended.ensures (
       inv.0 ++ piece.0,
       piece.2 inv.0 inv.1,
       splits_taken old known c.refill.new.self c.take_piece.new.self inv.0 piece.0

@@ -1,4 +1,4 @@
-use Rattle.std.proofs.Common.{◌≡◌, ℕ, List}
+use Rattle.std.proofs.Common.{ℕ, List}
 use Rattle.std.specs.Io.KnownBytes.{Keeps}
 use Rattle.rec_serve.specs.Reading.{Begins, IsRead, left_of}
 use Rattle.rec_serve.proofs.requests.next_request.Given as goal

@@ -1,6 +1,6 @@
 use Rattle.std.proofs.Common.{sym, ◌∙◌, subst}
 use Rattle.rx_term.specs.Walks.{AllHeld}
-use Rattle.rx_shared.specs.State.{store_of}
+use Rattle.psilt_work.specs.Banks.{store_of}
 use Rattle.psilt_work.proofs.AnswerLemmas.{all_held}
 use Rattle.psilt_work.proofs.work.Work.reclaim.Goals as goal
 

@@ -8,7 +8,7 @@ invariant-loop-rule g l = record {
   held : AllHeld (g.B.TermBank.store l.bank) l.work.items;
   behind : Extends l.fn.work.items l.work.items;
   there : l.at < length l.self.nodes.items;
-  stands : AllStand (g.B.TermBank.store l.bank) l.self l.symbol l.least (drop l.first l.fn.work.items) l.at (drop l.first l.work.items);
+  stands : AllStand (g.B.TermBank.store l.bank) l.self l.root l.least (drop l.first l.fn.work.items) l.at (drop l.first l.work.items);
 }
 
 abbrev pub decreases-loop-rule : goal.decreases-loop-rule

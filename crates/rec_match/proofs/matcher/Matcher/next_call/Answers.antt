@@ -17,15 +17,15 @@ first_from-at-requires-clause-symbol g c = declared-number (g.B.TermBank.store c
 pub first_from-at-requires-clause-later : goal.first_from-at-requires-clause-later
 first_from-at-requires-clause-later g c = all-later (g.B.TermBank.store c.args.bank.now) c.args.self.now c.requires.ready
 
-pub find_once-requires-clause-held : goal.find_once-requires-clause-held
-find_once-requires-clause-held g c =
+pub find_on-requires-clause-held : goal.find_on-requires-clause-held
+find_on-requires-clause-held g c =
     let w = g.B.TermBank.store c.args.bank.now in
     let h = c.requires.appl in
     let pushed = c.in_ok-push_arguments.ensures.pushes h.args (argument_list w c.args.call.term c.args-2.result c.args.call.symbol h c.args-2.ensures) (subst (AllHeld w) (sym c.requires.work) (AllHeld-nil w)) in
     pushed.0
 
-pub find_once-requires-clause-can : goal.find_once-requires-clause-can
-find_once-requires-clause-can g c =
+pub find_on-requires-clause-can : goal.find_on-requires-clause-can
+find_on-requires-clause-can g c =
     let w = g.B.TermBank.store c.args.bank.now in
     let m = c.args.self.now in
     let u = c.args.call.term in
@@ -46,7 +46,7 @@ returns-in_default-clause-answers g c = λ y ready. (
       let are : held_trees w c.push_arguments.new.registers.items ≡ to_list h.args = pushed.1 ∙ ap (λ xs. held_trees w xs ++ to_list h.args) c.requires.work in
       let call = is-call y w m ready u c.args.call.symbol c.args.call.number h c.requires.number c.requires.bare in
       answer-none y w m ready u c.args.call.number c.args.from c.first_from-at.result h.args call c.first_from-at.ensures c.push_arguments.new.registers.items are []
-      (subst (FindsOn w m (length c.push_arguments.new.registers.items - c.arity_of-count.result) c.first_from-at.result c.push_arguments.new.registers.items c.find_once.new.work.items) c.in_default.is c.in_ok-hit.ensures.finds).0
+      (subst (FindsOn w m (length c.push_arguments.new.registers.items - c.arity_of-count.result) c.first_from-at.result c.push_arguments.new.registers.items c.find_on.new.work.items) c.in_default.is c.in_ok-hit.ensures.finds).0
       ),
   c.requires.empty,
 )
@@ -62,9 +62,9 @@ settle-requires g c =
     let pushed = c.in_ok-push_arguments.ensures.pushes h.args (argument_list w c.args.call.term c.args-2.result c.args.call.symbol h c.args-2.ensures) (subst (AllHeld w) (sym c.requires.work) (AllHeld-nil w)) in
     let are : held_trees w registers ≡ to_list h.args = pushed.1 ∙ ap (λ xs. held_trees w xs ++ to_list h.args) c.requires.work in
     let long = arguments-long w h.args count registers (arity-is w c.args.call.term c.args.call.symbol h count c.arity_of-count.ensures) are in
-    let finds = subst (FindsOn w m (length registers - count) c.first_from-at.result registers c.find_once.new.work.items) c.in-Some.is c.in_ok-hit.ensures.finds in
+    let finds = subst (FindsOn w m (length registers - count) c.first_from-at.result registers c.find_on.new.work.items) c.in-Some.is c.in_ok-hit.ensures.finds in
     let zero : length registers - count ≡ 0 = omega (arith, long) in
-    record { there = subst (λ k. StandAbove m.forest k count c.find_once.new.work.items hit.values) zero (stand-above-fewer (length registers - count) c.find_once.new.work.items m.forest (length registers) count hit.values (omega (arith, long)) finds.0) }
+    record { there = subst (λ k. StandAbove m.forest k count c.find_on.new.work.items hit.values) zero (stand-above-fewer (length registers - count) c.find_on.new.work.items m.forest (length registers) count hit.values (omega (arith, long)) finds.0) }
 
 pub slice_bounds-extend_from_slice-count : goal.slice_bounds-extend_from_slice-count
 slice_bounds-extend_from_slice-count g c =
@@ -73,7 +73,7 @@ slice_bounds-extend_from_slice-count g c =
     let h = c.requires.appl in
     let hit = c.in-Some.hit in
     let registers = c.push_arguments.new.registers.items in
-    let found = c.find_once.new.work.items in
+    let found = c.find_on.new.work.items in
     let count = c.arity_of-count.result in
     let pushed = c.in_ok-push_arguments.ensures.pushes h.args (argument_list w c.args.call.term c.args-2.result c.args.call.symbol h c.args-2.ensures) (subst (AllHeld w) (sym c.requires.work) (AllHeld-nil w)) in
     let are : held_trees w registers ≡ to_list h.args = pushed.1 ∙ ap (λ xs. held_trees w xs ++ to_list h.args) c.requires.work in
@@ -90,7 +90,7 @@ slice_bounds-extend_from_slice-start g c =
     let h = c.requires.appl in
     let hit = c.in-Some.hit in
     let registers = c.push_arguments.new.registers.items in
-    let found = c.find_once.new.work.items in
+    let found = c.find_on.new.work.items in
     let count = c.arity_of-count.result in
     let pushed = c.in_ok-push_arguments.ensures.pushes h.args (argument_list w c.args.call.term c.args-2.result c.args.call.symbol h c.args-2.ensures) (subst (AllHeld w) (sym c.requires.work) (AllHeld-nil w)) in
     let are : held_trees w registers ≡ to_list h.args = pushed.1 ∙ ap (λ xs. held_trees w xs ++ to_list h.args) c.requires.work in
@@ -108,7 +108,7 @@ returns-clause-answers g c = λ y ready.
     let h = c.requires.appl in
     let hit = c.in-Some.hit in
     let registers = c.push_arguments.new.registers.items in
-    let found = c.find_once.new.work.items in
+    let found = c.find_on.new.work.items in
     let settled = c.settle.new.work.items in
     let count = c.arity_of-count.result in
     let pushed = c.in_ok-push_arguments.ensures.pushes h.args (argument_list w u c.args-2.result c.args.call.symbol h c.args-2.ensures) (subst (AllHeld w) (sym c.requires.work) (AllHeld-nil w)) in

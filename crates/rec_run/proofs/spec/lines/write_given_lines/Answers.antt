@@ -13,12 +13,15 @@ use Rattle.rec_sorts.specs.TermRules.{broken_by_elements}
 use Rattle.rec_engine.specs.Engine.{IsGround}
 use Rattle.rec_run.specs.EvaluatedLines.{due_before, fault_after}
 use Rattle.rec_run.specs.GivenTerms.{given_at, given_text}
-use Rattle.rec_run.specs.Output.{shown_by}
+use Rattle.rec_run.specs.Output.{shown_of}
 use Rattle.rx_run.specs.Run.{StopsAfter}
 use Rattle.rec_run.proofs.EvaluatedLemmas.{front-line, held_no_ends, lines_stopped_after, fault_after-same, line_lacks, same_engine_both}
 use Rattle.rec_run.proofs.GivenListLemmas.{FrontAt, fewer_items, front_stays, front_there, no_front, others_later}
 use Rattle.rx_run.proofs.LineFrontLemmas.{appends_all, appends_more, lines_of}
 use Rattle.rec_run.proofs.EvaluatedLemmas.{after_read, after_write}
+use Rattle.rec_run.specs.Depth.{unbounded_fault, unbounded_line_fault}
+use Rattle.rec_run.specs.declared.spec.lines.LineFault.{LineFault}
+use Rattle.rec_run.proofs.DepthLemmas.{after-deep, after-told}
 use Rattle.rec_run.proofs.spec.lines.write_given_lines.Goals as goal
 
 -- the term whose line is next
@@ -41,43 +44,46 @@ returns-in_default g c =
     record {
       same = c.loop-i.invariant.same;
       keeps = c.loop-i.invariant.keeps;
-      ok = appends_all (given_text c.args.engine.now.spec (shown_by c.args.options.count c.args.limits) c.args.options.steps) us c.loop-i.i _ _ all c.loop-i.invariant.written;
+      ok = appends_all (given_text c.args.engine.now.spec (shown_of c.args.settings) c.args.settings.options.steps) us c.loop-i.i _ _ all c.loop-i.invariant.written;
       err = tt;
       room = tt;
+      deep = tt;
       same_output = c.loop-i.invariant.same_output;
       cause = c.loop-i.invariant.writable;
       no_reader = tt;
     }
 
-pub write_evaluation_to-requires-clause-given : goal.write_evaluation_to-requires-clause-given
-write_evaluation_to-requires-clause-given g c =
+pub write_evaluation_within-requires-clause-given : goal.write_evaluation_within-requires-clause-given
+write_evaluation_within-requires-clause-given g c =
     let us = given_at (g.B.TermBank.store c.args.engine.now.bank) c.args.list in
     let next = next_term g.B.TermBank.store c.args.engine.now.spec _ _ _ us c.loop-i.rest c.head-term.result c.loop-i.i c.bank-in-loop-i.ensures c.bank-in-loop-i-2.ensures c.requires.protected.holds.kept c.loop-i.invariant.left c.in-Cons.ensures c.head-term.ensures in
     record { tree = next.front.tree; held = next.held; is_ground = subst (λ z. IsGround z next.front.tree) (sym c.loop-i.invariant.same.spec) next.front.is_ground }
 
-pub write_evaluation_to-requires-clause-stays : goal.write_evaluation_to-requires-clause-stays
-write_evaluation_to-requires-clause-stays g c =
+pub write_evaluation_within-requires-clause-stays : goal.write_evaluation_within-requires-clause-stays
+write_evaluation_within-requires-clause-stays g c =
     let y = c.args.engine.now.spec in
     let us = given_at (g.B.TermBank.store c.args.engine.now.bank) c.args.list in
     let next = next_term g.B.TermBank.store y _ _ _ us c.loop-i.rest c.head-term.result c.loop-i.i c.bank-in-loop-i.ensures c.bank-in-loop-i-2.ensures c.requires.protected.holds.kept c.loop-i.invariant.left c.in-Cons.ensures c.head-term.ensures in
-    front_stays y (g.B.TermBank.store c.args.engine.now.bank) (g.B.TermBank.store c.loop-i.engine.bank) c.args.list c.loop-i.rest c.head-term.result us c.loop-i.i c.args.limits c.loop-i.invariant.keeps c.requires.protected.holds.held c.requires.protected.protected c.loop-i.invariant.left next.front next.held
+    front_stays y (g.B.TermBank.store c.args.engine.now.bank) (g.B.TermBank.store c.loop-i.engine.bank) c.args.list c.loop-i.rest c.head-term.result us c.loop-i.i c.args.settings.limits c.loop-i.invariant.keeps c.requires.protected.holds.held c.requires.protected.protected c.loop-i.invariant.left next.front next.held
 
 pub returns-in-Err-clause-err : goal.returns-in-Err-clause-err
 returns-in-Err-clause-err g c =
     let y = c.args.engine.now.spec in
-    let n = c.args.options.steps in
-    let f = given_text y (shown_by c.args.options.count c.args.limits) n in
+    let n = c.args.settings.options.steps in
+    let f = given_text y (shown_of c.args.settings) n in
+    let why : LineFault = unbounded_line_fault c.in-Err.fault in
+    let end = unbounded_fault c.after.result in
     let us = given_at (g.B.TermBank.store c.args.engine.now.bank) c.args.list in
     let next = next_term g.B.TermBank.store y _ _ _ us c.loop-i.rest c.head-term.result c.loop-i.i c.bank-in-loop-i.ensures c.bank-in-loop-i-2.ensures c.requires.protected.holds.kept c.loop-i.invariant.left c.in-Cons.ensures c.head-term.ensures in
-    let is = front-line y c.loop-i.engine.spec _ us _ c.head-term.result c.loop-i.i (shown_by c.args.options.count c.args.limits) n next.front c.loop-i.invariant.same.spec next.held in
-    let few : n < 2 ^ 64 = omega (arith, c.args.options.steps_in_range) in
+    let is = front-line y c.loop-i.engine.spec _ us _ c.head-term.result c.loop-i.i (shown_of c.args.settings) n next.front c.loop-i.invariant.same.spec next.held in
+    let few : n < 2 ^ 64 = omega (arith, c.args.settings.options.steps_in_range) in
     let old = g.W.Write.contents c.args.out.now.writer.now in
-    let after = g.W.Write.contents c.write_evaluation_to.new.out.writer.now in
-    let fault : c.after.result ≡ fault_after c.in-Err.fault (length y.terms + c.loop-i.i) = fault_after-same c.in-Err.fault (c.from-first.result + c.from.result) (length y.terms + c.loop-i.i) c.after.result c.after.ensures (omega arith) in
+    let after = g.W.Write.contents c.write_evaluation_within.new.out.writer.now in
+    let fault : end ≡ fault_after why (length y.terms + c.loop-i.i) = fault_after-same why (c.from-first.result + c.from.result) (length y.terms + c.loop-i.i) end (after-told c.in-Err.fault _ c.after.result c.after.ensures) (omega arith) in
     subst (λ stop. StopsAfter (length y.terms) stop (lines_of f us) old after) (sym fault)
-    (lines_stopped_after c.in-Err.fault (length y.terms) f us c.loop-i.i (list_of none) _ _ _
-    (held_no_ends y (g.B.TermBank.store c.args.engine.now.bank) c.args.list (shown_by c.args.options.count c.args.limits) n few (g.met.B.TermBank.sound c.args.engine.now.bank) c.requires.protected.holds) next.front.low c.loop-i.invariant.written
-    (subst (λ text. AppendsFront (due_before c.in-Err.fault text) (g.W.Write.contents c.loop-i.out.writer.now) after) is c.in-Err.ensures.err))
+    (lines_stopped_after why (length y.terms) f us c.loop-i.i (list_of none) _ _ _
+    (held_no_ends y (g.B.TermBank.store c.args.engine.now.bank) c.args.list (shown_of c.args.settings) n few (g.met.B.TermBank.sound c.args.engine.now.bank) c.requires.protected.holds) next.front.low c.loop-i.invariant.written
+    (subst (λ text. AppendsFront (due_before why text) (g.W.Write.contents c.loop-i.out.writer.now) after) is c.in-Err.ensures.err))
 
 pub returns-in-Err-clause-same : goal.returns-in-Err-clause-same
 returns-in-Err-clause-same g c = same_engine_both c.loop-i.invariant.same c.in-Err.ensures.same
@@ -87,8 +93,8 @@ returns-in-Err-clause-keeps g c = Keeps-trans c.loop-i.invariant.keeps c.in-Err.
 
 pub returns-in-Err-clause-room : goal.returns-in-Err-clause-room
 returns-in-Err-clause-room g c =
-    let e = c.write_evaluation_to.new.engine in
-    line_lacks (g.B.TermBank.store e.bank) e.work e.memo c.in-Err.fault _ c.after.result c.after.ensures c.in-Err.ensures.room
+    let e = c.write_evaluation_within.new.engine in
+    line_lacks (g.B.TermBank.store e.bank) e.work e.memo (unbounded_line_fault c.in-Err.fault) _ (unbounded_fault c.after.result) (after-told c.in-Err.fault _ c.after.result c.after.ensures) c.in-Err.ensures.room
 
 pub tail-rest-requires : goal.tail-rest-requires
 tail-rest-requires g c =
@@ -101,17 +107,17 @@ tail-rest-requires g c =
 pub loop-i-preserved : goal.loop-i-preserved
 loop-i-preserved g c =
     let y = c.args.engine.now.spec in
-    let n = c.args.options.steps in
+    let n = c.args.settings.options.steps in
     let us = given_at (g.B.TermBank.store c.args.engine.now.bank) c.args.list in
     let next = next_term g.B.TermBank.store y _ _ _ us c.loop-i.rest c.head-term.result c.loop-i.i c.bank-in-loop-i.ensures c.bank-in-loop-i-2.ensures c.requires.protected.holds.kept c.loop-i.invariant.left c.in-Cons.ensures c.head-term.ensures in
-    let is = front-line y c.loop-i.engine.spec _ us _ c.head-term.result c.loop-i.i (shown_by c.args.options.count c.args.limits) n next.front c.loop-i.invariant.same.spec next.held in
+    let is = front-line y c.loop-i.engine.spec _ us _ c.head-term.result c.loop-i.i (shown_of c.args.settings) n next.front c.loop-i.invariant.same.spec next.held in
     let others = others_later y _ _ _ c.args.list _ us c.loop-i.i c.loop-i.invariant.keeps c.in-Ok.ensures.keeps c.requires.protected.holds.held c.requires.protected.protected c.loop-i.invariant.left next.front in
     record {
       same = same_engine_both c.loop-i.invariant.same c.in-Ok.ensures.same;
       keeps = Keeps-trans c.loop-i.invariant.keeps c.in-Ok.ensures.keeps;
       left = subst (λ b. tree_at (g.B.TermBank.store b) c.tail-rest.result ≡ part_at tail_of (g.B.TermBank.store b) c.loop-i.rest) c.bank-in-loop-i-3.ensures c.tail-rest.ensures ∙ others;
-      written = appends_more (given_text y (shown_by c.args.options.count c.args.limits) n) us c.loop-i.i (list_of none) _ _ _ next.front.low c.loop-i.invariant.written
-          (subst (λ text. Appends (g.W.Write.contents c.loop-i.out.writer.now) (g.W.Write.contents c.write_evaluation_to.new.out.writer.now) (text ++ codes "\n")) is c.in-Ok.ensures.ok);
+      written = appends_more (given_text y (shown_of c.args.settings) n) us c.loop-i.i (list_of none) _ _ _ next.front.low c.loop-i.invariant.written
+          (subst (λ text. Appends (g.W.Write.contents c.loop-i.out.writer.now) (g.W.Write.contents c.write_evaluation_within.new.out.writer.now) (text ++ codes "\n")) is c.in-Ok.ensures.ok);
       writable = c.in-Ok.ensures.cause;
       same_output = c.in-Ok.ensures.same_output ∙ c.loop-i.invariant.same_output;
     }
@@ -122,10 +128,13 @@ returns-clause-ok g c =
     let short : length us < cells (g.B.TermBank.store c.bank.result.now) =
     subst (λ b. length us < cells (g.B.TermBank.store b)) (sym c.bank.ensures) (fewer_items (g.B.TermBank.store c.args.engine.now.bank) c.args.list us (g.met.B.TermBank.sound c.args.engine.now.bank) c.requires.protected.holds.held) in
     let all : length us ≤ c.loop-i.i = omega (arith, short) in
-    appends_all (given_text c.args.engine.now.spec (shown_by c.args.options.count c.args.limits) c.args.options.steps) us c.loop-i.i _ _ all c.loop-i.invariant.written
+    appends_all (given_text c.args.engine.now.spec (shown_of c.args.settings) c.args.settings.options.steps) us c.loop-i.i _ _ all c.loop-i.invariant.written
 
 pub returns-in-Err-clause-cause : goal.returns-in-Err-clause-cause
-returns-in-Err-clause-cause g c = λ is. c.in-Err.ensures.cause (after_write c.in-Err.fault _ c.after.result c.after.ensures is)
+returns-in-Err-clause-cause g c = λ is. c.in-Err.ensures.cause (after_write (unbounded_line_fault c.in-Err.fault) _ (unbounded_fault c.after.result) (after-told c.in-Err.fault _ c.after.result c.after.ensures) is)
 
 pub returns-in-Err-clause-no_reader : goal.returns-in-Err-clause-no_reader
-returns-in-Err-clause-no_reader g c = after_read c.in-Err.fault _ c.after.result c.after.ensures
+returns-in-Err-clause-no_reader g c = after_read (unbounded_line_fault c.in-Err.fault) _ (unbounded_fault c.after.result) (after-told c.in-Err.fault _ c.after.result c.after.ensures)
+
+pub returns-in-Err-clause-deep : goal.returns-in-Err-clause-deep
+returns-in-Err-clause-deep g c = after-deep c.in-Err.fault _ c.after.result c.after.ensures c.write_evaluation_within.new.engine.waiting c.args.settings.depth c.in-Err.ensures.deep

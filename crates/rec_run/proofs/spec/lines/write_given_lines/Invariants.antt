@@ -6,7 +6,7 @@ use Rattle.rx_term.specs.Tree.{from_list, list_of}
 use Rattle.rx_text.specs.Output.{IsSameOutput, IsWritable}
 use Rattle.rec_engine.specs.Engine.{SameEngine}
 use Rattle.rec_run.specs.GivenTerms.{given_at, given_text}
-use Rattle.rec_run.specs.Output.{shown_by}
+use Rattle.rec_run.specs.Output.{shown_of}
 use Rattle.rx_run.proofs.LineFrontLemmas.{lines_of}
 use Rattle.rec_run.proofs.spec.lines.write_given_lines.Given as goal
 
@@ -16,7 +16,7 @@ invariant-loop-i g l = record {
   same : SameEngine l.fn.engine l.engine;
   keeps : Keeps (g.B.TermBank.store l.fn.engine.bank) (g.B.TermBank.store l.engine.bank) [];
   left : tree_at (g.B.TermBank.store l.engine.bank) l.rest ≡ Some (list_of (from_list (drop l.i (given_at (g.B.TermBank.store l.fn.engine.bank) l.fn.list))));
-  written : Appends (g.W.Write.contents l.fn.out.writer.now) (g.W.Write.contents l.out.writer.now) (lines_of (given_text l.fn.engine.spec (shown_by l.options.count l.limits) l.options.steps) (take l.i (given_at (g.B.TermBank.store l.fn.engine.bank) l.fn.list)));
+  written : Appends (g.W.Write.contents l.fn.out.writer.now) (g.W.Write.contents l.out.writer.now) (lines_of (given_text l.fn.engine.spec (shown_of l.settings) l.settings.options.steps) (take l.i (given_at (g.B.TermBank.store l.fn.engine.bank) l.fn.list)));
   writable : IsWritable l.out;
   same_output : IsSameOutput l.fn.out l.out;
 }

@@ -13,6 +13,9 @@ use Rattle.rec_run.proofs.EvaluatedLemmas.{lines_stopped, fault_after-same, line
 use Rattle.rx_run.proofs.LineFrontLemmas.{appends_all, appends_more}
 use Rattle.rec_run.proofs.SpecLineLemmas.{line_text-newlines, lines-own}
 use Rattle.rec_run.proofs.EvaluatedLemmas.{after_read, after_write}
+use Rattle.rec_run.specs.Depth.{unbounded_fault, unbounded_line_fault}
+use Rattle.rec_run.specs.declared.spec.lines.LineFault.{LineFault}
+use Rattle.rec_run.proofs.DepthLemmas.{after-deep, after-told}
 use Rattle.rec_run.proofs.spec.lines.write_own_lines.Goals as goal
 
 pub returns-in-Err-clause-keeps : goal.returns-in-Err-clause-keeps
@@ -21,33 +24,35 @@ returns-in-Err-clause-keeps g c = Keeps-trans c.loop-i.invariant.keeps c.in-Err.
 pub returns-in-Err-clause-err : goal.returns-in-Err-clause-err
 returns-in-Err-clause-err g c =
     let y = c.args.engine.now.spec in
-    let n = c.args.options.steps in
-    let f = line_text y (bare c.args.options.count) n in
+    let n = c.args.settings.options.steps in
+    let show = line_text y (bare c.args.settings.options.count) n in
     let old = g.W.Write.contents c.args.out.now.writer.now in
     let new = g.W.Write.contents c.write_own_line.new.out.writer.now in
     let low : c.loop-i.i < length y.terms = omega arith in
-    let few : n < 2 ^ 64 = omega (arith, c.args.options.steps_in_range) in
-    let fault : c.after.result ≡ fault_after c.in-Err.fault c.loop-i.i = fault_after-same c.in-Err.fault c.from.result c.loop-i.i c.after.result c.after.ensures (omega arith) in
-    subst (λ stop. Stops stop (lines y [] (bare c.args.options.count) n) old new) (sym fault)
-    (subst (λ text. Stops (fault_after c.in-Err.fault c.loop-i.i) text old new) (sym (lines-own y (bare c.args.options.count) n))
-    (lines_stopped c.in-Err.fault f y.terms c.loop-i.i (Apply nameless syntax.none) _ _ _ (line_text-newlines y (bare c.args.options.count) n few y.terms) low c.loop-i.invariant.written
-    (subst (λ z. AppendsFront (due_before c.in-Err.fault (text_at z (bare c.args.options.count) n c.loop-i.i)) (g.W.Write.contents c.loop-i.out.writer.now) new) c.loop-i.invariant.same.spec c.in-Err.ensures.err)))
+    let few : n < 2 ^ 64 = omega (arith, c.args.settings.options.steps_in_range) in
+    let f : LineFault = unbounded_line_fault c.in-Err.fault in
+    let stop = unbounded_fault c.after.result in
+    let fault : stop ≡ fault_after f c.loop-i.i = fault_after-same f c.from.result c.loop-i.i stop (after-told c.in-Err.fault _ c.after.result c.after.ensures) (omega arith) in
+    subst (λ stop. Stops stop (lines y [] (bare c.args.settings.options.count) n) old new) (sym fault)
+    (subst (λ text. Stops (fault_after f c.loop-i.i) text old new) (sym (lines-own y (bare c.args.settings.options.count) n))
+    (lines_stopped f show y.terms c.loop-i.i (Apply nameless syntax.none) _ _ _ (line_text-newlines y (bare c.args.settings.options.count) n few y.terms) low c.loop-i.invariant.written
+    (subst (λ z. AppendsFront (due_before f (text_at z (bare c.args.settings.options.count) n c.loop-i.i)) (g.W.Write.contents c.loop-i.out.writer.now) new) c.loop-i.invariant.same.spec c.in-Err.ensures.err)))
 
 pub returns-in-Err-clause-room : goal.returns-in-Err-clause-room
 returns-in-Err-clause-room g c =
     let e = c.write_own_line.new.engine in
-    line_lacks (g.B.TermBank.store e.bank) e.work e.memo c.in-Err.fault _ c.after.result c.after.ensures c.in-Err.ensures.room
+    line_lacks (g.B.TermBank.store e.bank) e.work e.memo (unbounded_line_fault c.in-Err.fault) _ (unbounded_fault c.after.result) (after-told c.in-Err.fault _ c.after.result c.after.ensures) c.in-Err.ensures.room
 
 pub loop-i-preserved : goal.loop-i-preserved
 loop-i-preserved g c =
     let y = c.args.engine.now.spec in
-    let n = c.args.options.steps in
+    let n = c.args.settings.options.steps in
     let low : c.loop-i.i < length y.terms = omega arith in
     record {
       same = same_engine_both c.loop-i.invariant.same c.in-Ok.ensures.same;
       keeps = Keeps-trans c.loop-i.invariant.keeps c.in-Ok.ensures.keeps;
-      written = appends_more (line_text y (bare c.args.options.count) n) y.terms c.loop-i.i (Apply nameless syntax.none) _ _ _ low c.loop-i.invariant.written
-          (subst (λ z. Appends (g.W.Write.contents c.loop-i.out.writer.now) (g.W.Write.contents c.write_own_line.new.out.writer.now) (text_at z (bare c.args.options.count) n c.loop-i.i ++ codes "\n")) c.loop-i.invariant.same.spec c.in-Ok.ensures.ok);
+      written = appends_more (line_text y (bare c.args.settings.options.count) n) y.terms c.loop-i.i (Apply nameless syntax.none) _ _ _ low c.loop-i.invariant.written
+          (subst (λ z. Appends (g.W.Write.contents c.loop-i.out.writer.now) (g.W.Write.contents c.write_own_line.new.out.writer.now) (text_at z (bare c.args.settings.options.count) n c.loop-i.i ++ codes "\n")) c.loop-i.invariant.same.spec c.in-Ok.ensures.ok);
       writable = c.in-Ok.ensures.cause;
       same_output = c.in-Ok.ensures.same_output ∙ c.loop-i.invariant.same_output;
     }
@@ -56,11 +61,14 @@ pub returns-clause-ok : goal.returns-clause-ok
 returns-clause-ok g c =
     let y = c.args.engine.now.spec in
     let all : length y.terms ≤ c.loop-i.i = omega arith in
-    subst (λ text. Appends (g.W.Write.contents c.args.out.now.writer.now) (g.W.Write.contents c.loop-i.out.writer.now) text) (sym (lines-own y (bare c.args.options.count) c.args.options.steps))
-    (appends_all (line_text y (bare c.args.options.count) c.args.options.steps) y.terms c.loop-i.i _ _ all c.loop-i.invariant.written)
+    subst (λ text. Appends (g.W.Write.contents c.args.out.now.writer.now) (g.W.Write.contents c.loop-i.out.writer.now) text) (sym (lines-own y (bare c.args.settings.options.count) c.args.settings.options.steps))
+    (appends_all (line_text y (bare c.args.settings.options.count) c.args.settings.options.steps) y.terms c.loop-i.i _ _ all c.loop-i.invariant.written)
 
 pub returns-in-Err-clause-cause : goal.returns-in-Err-clause-cause
-returns-in-Err-clause-cause g c = λ is. c.in-Err.ensures.cause (after_write c.in-Err.fault _ c.after.result c.after.ensures is)
+returns-in-Err-clause-cause g c = λ is. c.in-Err.ensures.cause (after_write (unbounded_line_fault c.in-Err.fault) _ (unbounded_fault c.after.result) (after-told c.in-Err.fault _ c.after.result c.after.ensures) is)
 
 pub returns-in-Err-clause-no_reader : goal.returns-in-Err-clause-no_reader
-returns-in-Err-clause-no_reader g c = after_read c.in-Err.fault _ c.after.result c.after.ensures
+returns-in-Err-clause-no_reader g c = after_read (unbounded_line_fault c.in-Err.fault) _ (unbounded_fault c.after.result) (after-told c.in-Err.fault _ c.after.result c.after.ensures)
+
+pub returns-in-Err-clause-deep : goal.returns-in-Err-clause-deep
+returns-in-Err-clause-deep g c = after-deep c.in-Err.fault _ c.after.result c.after.ensures c.write_own_line.new.engine.waiting c.args.settings.depth c.in-Err.ensures.deep

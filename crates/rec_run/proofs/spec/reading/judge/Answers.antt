@@ -9,8 +9,8 @@ not_more : (n : ℕ) → ((16777216 < n) ⊎ (n ≤ 16777216)) → (16777216 < n
 not_more n (inl more) never = absurd (never more)
 not_more n (inr less) never = less
 
-pub returns-in-Err-Grammar : goal.returns-in-Err-Grammar
-returns-in-Err-Grammar c =
+pub returns-in-Err-Grammar-clause-verdict : goal.returns-in-Err-Grammar-clause-verdict
+returns-in-Err-Grammar-clause-verdict c =
     let at = c.in-Err-Grammar.at in
     let long = rw c.in-Err-Grammar.field-0-is at c.in-Err-Grammar.ensures.long in
     let short = not_more (length c.args.text.items) (lt_or_le 16777216 (length c.args.text.items)) (λ more. let e = long.1 more in cc e) in

@@ -7,16 +7,16 @@ use Rattle.rec_run.proofs.GivenDueLemmas.{no_term, some_term}
 use Rattle.rx_run.proofs.PatternDueLemmas.{if_ok_map}
 use Rattle.rec_run.proofs.spec.reading.judge_terms.Goals as goal
 
-pub returns-in-Refused-clause-due : goal.returns-in-Refused-clause-due
-returns-in-Refused-clause-due g c =
+pub returns-in-Refused-clause-verdict : goal.returns-in-Refused-clause-verdict
+returns-in-Refused-clause-verdict g c =
     let w = g.B.TermBank.store c.parse.new.bank in
     let v = c.in_ok-refusal.ensures.read in
     no_term c.args.checked.now.spec w c.args.text.now c.in-Refused.refusal v.0 (subst (λ (r : Reading Term). IsReadingOf source.Terms w r v.0) c.in-Refused.is v.1) v.2
 
-pub returns-in-Good-clause-due : goal.returns-in-Good-clause-due
-returns-in-Good-clause-due g c =
+pub returns-in-Good-clause-verdict : goal.returns-in-Good-clause-verdict
+returns-in-Good-clause-verdict g c =
     let w = g.B.TermBank.store c.parse.new.bank in
     let v = c.in_ok-refusal.ensures.read in
     if_ok_map c.judge_list.result _ _
     (λ r h. some_term c.args.checked.now.spec w c.args.text.now c.in-Good.list v.0 r (subst (λ (r : Reading Term). IsReadingOf source.Terms w r v.0) c.in-Good.is v.1) v.2 h)
-    c.judge_list.ensures.due
+    c.judge_list.ensures.verdict

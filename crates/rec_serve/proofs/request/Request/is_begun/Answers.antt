@@ -1,7 +1,5 @@
-use Rattle.std.proofs.Common.{◌≡◌, ℕ, ◌<◌, List, false, length, arith}
-use Rattle.std.specs.Prelude.{nat_lt}
+use Rattle.std.proofs.Common.{arith}
 use Rattle.std.proofs.lemmas.Bool.{ltb-false}
-use Rattle.rec_serve.specs.Reading.{IsRead}
 use Rattle.rec_serve.proofs.KeptLemmas.{empty_request}
 use Rattle.rec_serve.proofs.request.Request.is_begun.Goals as goal
 

@@ -1,5 +1,5 @@
 use Rattle.std.proofs.Common.{◌≡◌, ◌-◌, length, min, arith}
-use Rattle.rec_serve.proofs.KeptLemmas.{lost_more, lost_now, none_more, read_more}
+use Rattle.rec_serve.proofs.KeptLemmas.{lost_more, none_more, read_more}
 use Rattle.rec_serve.proofs.request.Request.keep.Goals as goal
 
 pub returns-then-self : goal.returns-then-self

@@ -8,7 +8,7 @@ use Rattle.rx_term.specs.Walks.{held_tree}
 use Rattle.rec_syntax.specs.Syntax.{Rule}
 use Rattle.rec_sorts.specs.declared.letters.LetterCondition.{LetterCondition}
 use Rattle.rec_sorts.specs.declared.letters.LetterRule.{LetterRule}
-use Rattle.rec_match.proofs.AskLemmas.{same-trees-test}
+use Rattle.rec_match.proofs.RunLemmas.{same_trees}
 use Rattle.rec_match.proofs.LetterLemmas.{pair-long}
 use Rattle.rec_trace.specs.Lists.{listed}
 use Rattle.rec_trace.specs.Sides.{no_condition}
@@ -67,7 +67,7 @@ returns-clause-answer g c = λ r e.
     let left : tree_at w c.head-left.result ≡ Some (get_or st 1 (list_of none)) =
     subst (λ b. tree_at (g.B.TermBank.store b) c.head-left.result ≡ part_at head_of (g.B.TermBank.store b) c.tail-rest.result) c.bank-3.ensures c.head-left.ensures
     ∙ b.second_is in
-    let test = same-trees-test w (g.met.B.TermBank.sound c.args.engine.now.bank) c.head-left.result c.head-right.result (ap is_some left) (ap is_some right) in
+    let test = same_trees w c.head-left.result c.head-right.result (g.met.B.TermBank.sound c.args.engine.now.bank) (ap is_some left) (ap is_some right) in
     let shown : tree_eq (get_or st 1 (list_of none)) (get_or st 0 (list_of none)) ≡ nat_eq c.head-left.result.0 c.head-right.result.0 =
     ap (λ (o : Option Tree). tree_eq (unwrap_or o (list_of none)) (get_or st 0 (list_of none))) (sym left)
     ∙ ap (λ (o : Option Tree). tree_eq (held_tree w c.head-left.result) (unwrap_or o (list_of none))) (sym right)

@@ -11,7 +11,7 @@ use Rattle.rec_match.proofs.LetterLemmas.{pair-at}
 use Rattle.rec_engine.specs.Made.{MakesOne}
 use Rattle.rec_engine.proofs.EngineLemmas.{row-makes, rows-long}
 use Rattle.rec_trace.specs.Trace.{Trace}
-use Rattle.rec_trace.specs.Tracing.{Stands, rest_of}
+use Rattle.rec_trace.specs.Tracing.{Stands, rest_of, whole_of}
 use Rattle.rec_trace.specs.declared.tracer.Tracer.{Tracer}
 use Rattle.rec_trace.proofs.StepLemmas.{new-stands}
 use Rattle.rec_trace.proofs.tracer.Tracer.of_eval.Goals as goal
@@ -61,3 +61,17 @@ returns-clause-begins g c =
     subst (λ (z : Spec). IfSome (slice_get z.terms c.args.i) (λ t. rest_of z w r ≡ Trace z c.args.n t)) c.checked.ensures
     (subst (λ o. IfSome o (λ t. rest_of y w r ≡ Trace y c.args.n t)) (sym (slice_get-get_or y.terms c.args.i no_term within))
     (new-stands y w r c.deref.result.now term c.terms.ensures.kept of.kept of.given of.stack (c.in_ok-steps.ensures y made.applied) letters).1)
+
+pub returns-clause-whole : goal.returns-clause-whole
+returns-clause-whole g c =
+    let y = c.checked.result.now.spec in
+    let w = g.B.TermBank.store c.empty.new.engine.bank in
+    let r : Tracer = record { steps = c.in_ok-steps.steps; lists = c.in_ok-lists.lists; left = c.args.n } in
+    let within = subst (λ (z : Spec). c.args.i < length z.terms) (sym c.checked.ensures) c.requires in
+    let term = get_or y.terms c.args.i no_term in
+    let made = subst (λ ls. MakesOne y ls (tree_of term)) (sym c.deref.ensures.value) (row-makes items y c.terms.result.now c.terms.ensures.letters c.terms.ensures.kept c.args.i within c.index-terms-i.result c.index-terms-i.is no_term) in
+    let letters = subst (λ ls. AreLetters y ls term) (sym c.deref.ensures.value) (subst (λ x. AreLetters y (items x) term) (sym c.index-terms-i.is) (pair-at (λ v t. AreLetters y (items v) t) c.terms.result.now y.terms c.terms.ensures.letters c.args.i c.index-terms-i.result no_term within)) in
+    let of = c.in_ok-lists.ensures in
+    subst (λ (z : Spec). IfSome (slice_get z.terms c.args.i) (λ t. whole_of z w r ≡ tree_of t)) c.checked.ensures
+    (subst (λ o. IfSome o (λ t. whole_of y w r ≡ tree_of t)) (sym (slice_get-get_or y.terms c.args.i no_term within))
+    (new-stands y w r c.deref.result.now term c.terms.ensures.kept of.kept of.given of.stack (c.in_ok-steps.ensures y made.applied) letters).2)

@@ -1,0 +1,89 @@
+//! C specifies, and has terms evaluated.
+
+ghost use Rattle.std.specs.Prelude.{◌≡◌, ◌≢◌, []};
+ghost use Rattle.rx_term.specs.Store.{tree_at};
+ghost use Rattle.rx_term.specs.Steps.{Keeps};
+ghost use Rattle.psilt_work.specs.Codes.{told};
+ghost use Rattle.psilt_work.specs.Answers.{term_of};
+ghost use Rattle.psilt_work.specs.Banks.{store_of};
+ghost use Rattle.psilt_work.specs.Evaluating.{Specifies, Unspecifies, Normalises, CountsTerms};
+ghost use Rattle.psilt_work.specs.Evaluating.{GivesTerm, normalised_of};
+ghost use Rattle.psilt_work.specs.Handles.{OnWork};
+ghost use Rattle.psilt_work.specs.Works.{IsSameButBank, IsSameButRead, IsSameButSpec};
+
+use crate::answer::{done, give, on_work, tell, tell_value};
+use psilt_work::Psilt;
+use rx_term::Term;
+use std::alloc::Global;
+
+/// What a text specifies is evaluated from now on, with a memo of so many entries, and a reclaim
+/// after so many new cells at the latest.
+#[unsafe(no_mangle)]
+pub extern "C" fn psilt_spec(
+    alloc: Global,
+    psilt: &mut Psilt,
+    text: &[u8],
+    memo: u32,
+    reclaim: u32,
+) -> u32
+    ensures answer { OnWork psilt.old psilt.new result
+        (λ v w. Specifies v.bank w.bank text.now memo reclaim w.place w.rule (told result tt)
+        × IsSameButSpec v w) }
+{
+    done(on_work!(psilt, alloc, work, work.specify(alloc, text, memo, reclaim)))
+}
+
+/// Nothing is specified any more.
+#[unsafe(no_mangle)]
+pub extern "C" fn psilt_spec_free(alloc: Global, psilt: &mut Psilt) -> u32
+    ensures answer { OnWork psilt.old psilt.new result
+        (λ v w. Unspecifies v.bank w.bank (told result tt) × IsSameButSpec v w) }
+{
+    done(on_work!(psilt, alloc, work, work.unspecify()))
+}
+
+/// What a term comes to within so many steps, and how many it took.
+#[unsafe(no_mangle)]
+pub extern "C" fn psilt_normalise(
+    alloc: Global,
+    psilt: &mut Psilt,
+    term: u32,
+    steps: u64,
+    value: &mut u32,
+    taken: &mut u64,
+) -> u32
+    ensures answer { OnWork psilt.old psilt.new result
+        (λ v w. Normalises v.bank w.bank (term_of term) steps w.rule
+        (told result (normalised_of value.new taken.new))
+        × Keeps (store_of v.bank) (store_of w.bank) []
+        × (tree_at (store_of w.bank) (term_of term) ≡ tree_at (store_of v.bank) (term_of term))
+        × IsSameButRead v w) }
+    ensures kept { result ≢ 0 → (value.new ≡ value.old) × (taken.new ≡ taken.old) }
+{
+    tell_value(
+        on_work!(psilt, alloc, work, work.normalise(alloc, Term(term), steps)),
+        value,
+        taken,
+    )
+}
+
+/// How many terms to evaluate are specified.
+#[unsafe(no_mangle)]
+pub extern "C" fn psilt_eval_terms(alloc: Global, psilt: &mut Psilt, out: &mut u32) -> u32
+    ensures answer { OnWork psilt.old psilt.new result
+        (λ v w. CountsTerms v.bank (told result out.new) × (w ≡ v)) }
+    ensures out { result ≢ 0 → out.new ≡ out.old }
+{
+    tell(on_work!(psilt, alloc, work, work.eval_terms()), out)
+}
+
+/// The specified term to evaluate of this number, from 0.
+#[unsafe(no_mangle)]
+pub extern "C" fn psilt_eval_term(alloc: Global, psilt: &mut Psilt, i: u32, out: &mut u32) -> u32
+    ensures answer { OnWork psilt.old psilt.new result
+        (λ v w. GivesTerm v.bank w.bank i (told result (term_of out.new))
+        × Keeps (store_of v.bank) (store_of w.bank) [] × IsSameButBank v w) }
+    ensures out { result ≢ 0 → out.new ≡ out.old }
+{
+    give(on_work!(psilt, alloc, work, work.eval_term(i)), out)
+}

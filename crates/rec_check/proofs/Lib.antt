@@ -1,0 +1,12 @@
+pub mod ListLemmas
+pub mod CountLemmas
+mod FindingRows
+pub mod FirstLemmas
+pub mod LineLemmas
+pub mod LookupLemmas
+pub mod NodeLemmas
+pub mod OrderLemmas
+pub mod RunLemmas
+pub mod SpotLemmas
+pub mod WalkLemmas
+pub mod WordLemmas

@@ -1,0 +1,22 @@
+use Rattle.std.proofs.Common.{◌≡◌, sym, ap, subst, ◌∙◌, ◌++◌}
+use Rattle.std.specs.Prelude.{count_by}
+use Rattle.rec_sorts.specs.Lookup.{names, rule_terms, symbols, variable_words}
+use Rattle.rec_sorts.specs.SpecRules.{missing, unknown_words, ill_filled, ill_sorted, open_terms}
+use Rattle.rec_check.specs.Lookups.{Knows, ill_filled_among, present}
+use Rattle.rec_check.specs.Named.{as_nodes, as_words, node_words}
+use Rattle.rec_check.specs.Walks.{flat_terms, ill_sorted_among}
+use Rattle.rec_check.proofs.WalkLemmas.{same-present}
+use Rattle.rec_check.proofs.WordLemmas.{if_ok_same}
+use Rattle.rec_check.proofs.broken.open_terms.Goals as goal
+
+pub returns : goal.returns
+returns c =
+    let y = c.args.syntax.now.spec in
+    let ks = variable_words y.variables in
+    let words : as_words c.deref-3.result.now ≡ node_words (flat_terms y.terms) =
+    ap as_words c.deref-3.ensures.value ∙ c.in_ok-words.ensures ∙ ap (λ ns. node_words (as_nodes ns)) c.deref-2.ensures.value ∙ ap node_words c.in_ok-nodes.ensures
+    in
+    let known : as_words c.deref.result.now ≡ ks = ap as_words c.deref.ensures.value ∙ c.in_ok-variables.ensures in
+    if_ok_same c.present.result (open_terms y) (present ks (as_words c.deref-3.result.now))
+    (c.present.ensures ks (subst (Knows c.in_ok-known.known) known c.in_ok-known.ensures.known))
+    (λ p. same-present ks y.terms p ∙ ap (λ ws. count_by p (present ks ws)) (sym words))

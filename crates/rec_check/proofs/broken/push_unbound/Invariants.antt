@@ -1,0 +1,9 @@
+use Rattle.std.proofs.Common.{◌≡◌, ◌++◌, take, drop, map}
+use Rattle.std.specs.Prelude.{flat_map, filter}
+use Rattle.rec_check.specs.Named.{as_words, as_nodes}
+use Rattle.rec_syntax.specs.Parts.{rule_of}
+use Rattle.rec_check.specs.Walks.{unbound_in}
+use Rattle.rec_check.proofs.broken.push_unbound.Given as goal
+
+abbrev pub invariant-loop-rule : goal.invariant-loop-rule
+invariant-loop-rule l = as_words l.found.items ≡ as_words l.initial.found.items ++ flat_map (unbound_in l.syntax.spec) (map (rule_of l.syntax.source) (take l.rule-index l.rules))

@@ -1,0 +1,9 @@
+use Rattle.std.proofs.Common.{◌≡◌, ◌++◌, take, drop, map}
+use Rattle.std.specs.Prelude.{flat_map, filter}
+use Rattle.std.specs.Prelude.{not, is_some}
+use Rattle.rec_check.specs.Named.{as_words}
+use Rattle.rec_check.specs.Lookups.{number_in}
+use Rattle.rec_check.proofs.filters.missing.Given as goal
+
+abbrev pub invariant-loop-word : goal.invariant-loop-word
+invariant-loop-word l = as_words l.found.items ≡ filter (λ w. not (is_some (number_in l.known w.bytes))) (as_words (take l.word-index l.words))

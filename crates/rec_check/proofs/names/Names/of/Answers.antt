@@ -1,0 +1,20 @@
+use Rattle.std.proofs.Common.{ap, sym, ◌∙◌, arith, rules, subst, take, map, ◌++◌, ◌∷◌, []}
+use Rattle.std.specs.Prelude.{ℕ, List, length, is_some}
+use Rattle.std.proofs.lemmas.List.{take_all, take_more, length-map, length-take}
+use Rattle.rec_sorts.specs.Names.{first_at}
+use Rattle.rec_check.specs.Lookups.{number_in}
+use Rattle.rec_check.specs.Named.{as_word, as_words}
+use Rattle.rec_check.proofs.LookupLemmas.{all_numbered, first_at_turn, mentions-first_at, noted_words}
+use Rattle.rec_check.proofs.names.Names.of.Goals as goal
+
+pub loop-i-preserved : goal.loop-i-preserved
+loop-i-preserved c =
+    noted_words (number_in c.loop-i.names) (number_in c.note.new.self) c.args.words.now c.loop-i.i _ c.loop-i-test.true c.loop-i.invariant c.in_ok-note.ensures
+
+pub returns-clause-numbers : goal.returns-clause-numbers
+returns-clause-numbers c = λ name. all_numbered (number_in c.loop-i.names) c.args.words.now c.loop-i.i c.loop-i-test.false c.loop-i.invariant name
+
+pub returns-clause-known : goal.returns-clause-known
+returns-clause-known c = λ name.
+    ap is_some (all_numbered (number_in c.loop-i.names) c.args.words.now c.loop-i.i c.loop-i-test.false c.loop-i.invariant name)
+    ∙ sym (mentions-first_at (as_words c.args.words.now) name)

@@ -1,0 +1,9 @@
+use Rattle.std.proofs.Common.{◌≡◌, ◌++◌, take, drop, map}
+use Rattle.std.specs.Prelude.{flat_map, filter}
+use Rattle.rec_check.specs.Named.{as_words, as_nodes}
+use Rattle.std.specs.Prelude.{[]}
+use Rattle.rec_check.specs.Walks.{ill_sorted_among}
+use Rattle.rec_check.proofs.scope.Scope.ill_sorted.Given as goal
+
+abbrev pub invariant-loop-node : goal.invariant-loop-node
+invariant-loop-node l = as_words l.found.items ++ ill_sorted_among l.self.syntax.now.spec (as_words l.heads.items) (as_nodes (drop l.node-index l.nodes)) ≡ ill_sorted_among l.self.syntax.now.spec [] (as_nodes l.nodes)

@@ -1,0 +1,9 @@
+use Rattle.std.proofs.Common.{◌≡◌, ◌++◌, take, drop, map}
+use Rattle.std.specs.Prelude.{flat_map, filter}
+use Rattle.rec_check.specs.Named.{as_words, as_nodes}
+use Rattle.rec_syntax.specs.Parts.{declaration_of}
+use Rattle.rec_sorts.specs.Lookup.{names}
+use Rattle.rec_check.proofs.words.push_names.Given as goal
+
+abbrev pub invariant-loop-declaration : goal.invariant-loop-declaration
+invariant-loop-declaration l = as_words l.words.items ≡ as_words l.initial.words.items ++ names (map (declaration_of l.syntax.source) (take l.declaration-index l.declarations))

@@ -1,0 +1,8 @@
+use Rattle.std.proofs.Common.{◌≡◌, ◌++◌, take, drop, map}
+use Rattle.std.specs.Prelude.{flat_map, filter}
+use Rattle.rec_check.specs.Named.{as_words, as_nodes}
+use Rattle.rec_syntax.specs.Parts.{node_of}
+use Rattle.rec_check.proofs.words.push_term.Given as goal
+
+abbrev pub invariant-loop-node : goal.invariant-loop-node
+invariant-loop-node l = as_nodes l.nodes.items ≡ as_nodes l.initial.nodes.items ++ map (node_of l.syntax.source) (take l.node-index l.node-items)

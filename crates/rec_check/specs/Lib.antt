@@ -1,0 +1,9 @@
+pub mod Cursors
+pub mod Findings
+pub mod Laws
+pub mod Lines
+pub mod Lookups
+pub mod Named
+pub mod Runs
+pub mod Spots
+pub mod Walks

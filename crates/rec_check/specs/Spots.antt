@@ -1,0 +1,21 @@
+-- Lines and columns, both from 1.
+use Rattle.std.specs.Prelude.{ℕ, suc, ◌==◌, if◌then◌else◌, List, [], ◌∷◌, take}
+use Rattle.rec_check.specs.declared.spots.Spot.{Spot}
+
+-- the first byte of a text
+abbrev pub first_spot : Spot
+first_spot = record { line = 1; column = 1 }
+
+-- what stands behind a byte: a line end begins the next line
+abbrev pub spot_behind : Spot → ℕ → Spot
+spot_behind s b = if b == 10 then record { line = suc s.line; column = 1 }
+    else record { line = s.line; column = suc s.column }
+
+-- what stands behind some bytes
+abbrev pub spot_after : Spot → List ℕ → Spot
+spot_after s [] = s
+spot_after s (b ∷ bs) = spot_after (spot_behind s b) bs
+
+-- what stands so many bytes behind the beginning of a text
+abbrev pub spot_of : List ℕ → ℕ → Spot
+spot_of text at = spot_after first_spot (take at text)

@@ -1,0 +1,265 @@
+//! The words at which a specification breaks a rule.
+
+ghost use Rattle.std.specs.Prelude.{◌≡◌, ◌++◌, All, IfOk, OnOk, flat_map, map};
+ghost use Rattle.rec_syntax.specs.Parts.{
+  IsCondition,
+  IsRule,
+  IsTerm,
+  condition_of,
+  rule_of,
+  term_of,
+};
+ghost use Rattle.rec_syntax.specs.Syntax.{head};
+ghost use Rattle.rec_sorts.specs.Lookup.{variable_words};
+ghost use Rattle.rec_sorts.specs.SpecRules.{ill_headed, unknown_sorts, unlike_sides};
+ghost use Rattle.rec_check.specs.Findings.{HasSame, broken_words};
+ghost use Rattle.rec_check.specs.Lookups.{IsScope, Knows};
+ghost use Rattle.rec_check.specs.Named.{as_word, as_words};
+ghost use Rattle.rec_check.specs.Walks.{
+  unbound_in,
+  unlike_in,
+  unlike_in_conditions,
+};
+
+use crate::filters::{missing, present, repeated};
+use crate::finding::Rule;
+use crate::names::Names;
+use crate::scope::Scope;
+use crate::words::{
+    Word, all_nodes, declared_words, named_sorts, node_words, operator_words, push_term,
+    right_nodes, sort_words, symbol_words, term_nodes, variables, word_at,
+};
+use rec_syntax::{self, Condition, Syntax, Term};
+use std::alloc::{AllocError, Global};
+
+/// The first word of a term.
+fn head_of<'a>(syntax: &'a Syntax, term: &Term) -> Word<'a>
+    requires { IsTerm syntax.now.source term.now }
+    ensures { as_word result ≡ head (term_of syntax.now.source term.now) }
+{
+    match term.nodes().last() {
+        Some(node) => word_at(syntax, node.word),
+        None => unreachable!(),
+    }
+}
+
+/// The first words of left sides.
+fn left_heads<'a>(alloc: Global, syntax: &'a Syntax) -> Result<Vec<Word<'a>>, AllocError>
+    ensures { IfOk result (λ v. as_words v.items
+        ≡ map (λ r. head r.left) syntax.now.spec.rules) }
+{
+    let mut heads = Vec::new(alloc);
+    for rule in syntax.rules() {
+        heads.push(head_of(syntax, &rule.left))?;
+    }
+    Ok(heads)
+}
+
+/// The sorts that are not declared.
+fn unknown_sorts<'a>(alloc: Global, syntax: &'a Syntax) -> Result<Vec<Word<'a>>, AllocError>
+    ensures { IfOk result (λ v. as_words v.items ≡ unknown_sorts syntax.now.spec) }
+{
+    let known = Names::of(alloc, &sort_words(alloc, syntax)?)?;
+    let sorts = named_sorts(alloc, syntax)?;
+    missing(alloc, &known, &sorts)
+}
+
+/// The words that are neither symbols nor variables.
+fn unknown_words<'a>(alloc: Global, syntax: &'a Syntax) -> Result<Vec<Word<'a>>, AllocError>
+    ensures { IfOk result
+        (λ v. HasSame (broken_words syntax.now.spec Rule.WordUnknown) (as_words v.items)) }
+{
+    let known = Names::of(alloc, &declared_words(alloc, syntax)?)?;
+    let nodes = all_nodes(alloc, syntax)?;
+    let words = node_words(alloc, &nodes)?;
+    missing(alloc, &known, &words)
+}
+
+/// The words with another number of arguments than declared.
+fn ill_filled<'a>(alloc: Global, syntax: &'a Syntax) -> Result<Vec<Word<'a>>, AllocError>
+    ensures { IfOk result
+        (λ v. HasSame (broken_words syntax.now.spec Rule.IllFilled) (as_words v.items)) }
+{
+    let scope = Scope::of(alloc, syntax)?;
+    let nodes = all_nodes(alloc, syntax)?;
+    scope.ill_filled(alloc, &nodes)
+}
+
+/// The arguments of another sort than declared.
+fn ill_sorted<'a>(alloc: Global, syntax: &'a Syntax) -> Result<Vec<Word<'a>>, AllocError>
+    ensures { IfOk result
+        (λ v. HasSame (broken_words syntax.now.spec Rule.IllSorted) (as_words v.items)) }
+{
+    let scope = Scope::of(alloc, syntax)?;
+    let nodes = all_nodes(alloc, syntax)?;
+    scope.ill_sorted(alloc, &nodes)
+}
+
+/// The left sides that begin with no operator.
+fn ill_headed<'a>(alloc: Global, syntax: &'a Syntax) -> Result<Vec<Word<'a>>, AllocError>
+    ensures { IfOk result (λ v. as_words v.items ≡ ill_headed syntax.now.spec) }
+{
+    let known = Names::of(alloc, &operator_words(alloc, syntax)?)?;
+    let heads = left_heads(alloc, syntax)?;
+    missing(alloc, &known, &heads)
+}
+
+/// The conditions whose sides have different sorts, behind other words.
+fn push_unlike_conditions<'a>(
+    syntax: &'a Syntax,
+    scope: &Scope<'a>,
+    conditions: &[Condition],
+    found: &mut Vec<Word<'a>>,
+) -> Result<(), AllocError>
+    requires scope { IsScope scope.now }
+    requires same { scope.now.syntax.now ≡ syntax.now }
+    requires sound { All (IsCondition syntax.now.source) conditions.now }
+    ensures { OnOk result (as_words found.new.items ≡ as_words found.old.items
+        ++ unlike_in_conditions syntax.now.spec
+        (map (condition_of syntax.now.source) conditions.now)) }
+{
+    for condition in conditions {
+        let left = head_of(syntax, &condition.left);
+        let right = head_of(syntax, &condition.right);
+        scope.push_unlike(left, right, found)?;
+    }
+    Ok(())
+}
+
+/// Where the sides of a rule or of its conditions have different sorts, behind other words.
+fn push_unlike_rule<'a>(
+    syntax: &'a Syntax,
+    scope: &Scope<'a>,
+    rule: &rec_syntax::Rule,
+    found: &mut Vec<Word<'a>>,
+) -> Result<(), AllocError>
+    requires scope { IsScope scope.now }
+    requires same { scope.now.syntax.now ≡ syntax.now }
+    requires sound { IsRule syntax.now.source rule.now }
+    ensures { OnOk result (as_words found.new.items ≡ as_words found.old.items
+        ++ unlike_in syntax.now.spec (rule_of syntax.now.source rule.now)) }
+{
+    let left = head_of(syntax, &rule.left);
+    let right = head_of(syntax, &rule.right);
+    scope.push_unlike(left, right, found)?;
+    push_unlike_conditions(syntax, scope, rule.conditions.as_slice(), found)
+}
+
+/// The same of rules.
+fn push_unlike_rules<'a>(
+    syntax: &'a Syntax,
+    scope: &Scope<'a>,
+    rules: &[rec_syntax::Rule],
+    found: &mut Vec<Word<'a>>,
+) -> Result<(), AllocError>
+    requires scope { IsScope scope.now }
+    requires same { scope.now.syntax.now ≡ syntax.now }
+    requires sound { All (IsRule syntax.now.source) rules.now }
+    ensures { OnOk result (as_words found.new.items ≡ as_words found.old.items
+        ++ flat_map (unlike_in syntax.now.spec) (map (rule_of syntax.now.source) rules.now)) }
+{
+    for rule in rules {
+        push_unlike_rule(syntax, scope, rule, found)?;
+    }
+    Ok(())
+}
+
+/// The sides of rules and conditions that have different sorts.
+fn unlike_sides<'a>(alloc: Global, syntax: &'a Syntax) -> Result<Vec<Word<'a>>, AllocError>
+    ensures { IfOk result (λ v. as_words v.items ≡ unlike_sides syntax.now.spec) }
+{
+    let scope = Scope::of(alloc, syntax)?;
+    let mut found = Vec::new(alloc);
+    push_unlike_rules(syntax, &scope, syntax.rules(), &mut found)?;
+    Ok(found)
+}
+
+/// The variables of a rule that are not in its left side, where these names are those of variables.
+fn unbound_of<'a>(
+    alloc: Global,
+    syntax: &'a Syntax,
+    known: &Names<'_>,
+    rule: &rec_syntax::Rule,
+) -> Result<Vec<Word<'a>>, AllocError>
+    requires known { Knows known.now (variable_words syntax.now.spec.variables) }
+    requires sound { IsRule syntax.now.source rule.now }
+    ensures { IfOk result (λ v. as_words v.items
+        ≡ unbound_in syntax.now.spec (rule_of syntax.now.source rule.now)) }
+{
+    let mut left = Vec::new(alloc);
+    push_term(syntax, &rule.left, &mut left)?;
+    let bound = Names::of(alloc, &node_words(alloc, &left)?)?;
+    let nodes = right_nodes(alloc, syntax, rule)?;
+    let words = node_words(alloc, &nodes)?;
+    let used = present(alloc, known, &words)?;
+    missing(alloc, &bound, &used)
+}
+
+/// The same of rules, behind other words.
+fn push_unbound<'a>(
+    alloc: Global,
+    syntax: &'a Syntax,
+    known: &Names<'_>,
+    rules: &[rec_syntax::Rule],
+    found: &mut Vec<Word<'a>>,
+) -> Result<(), AllocError>
+    requires known { Knows known.now (variable_words syntax.now.spec.variables) }
+    requires sound { All (IsRule syntax.now.source) rules.now }
+    ensures { OnOk result (as_words found.new.items ≡ as_words found.old.items
+        ++ flat_map (unbound_in syntax.now.spec) (map (rule_of syntax.now.source) rules.now)) }
+{
+    for rule in rules {
+        let unbound = unbound_of(alloc, syntax, known, rule)?;
+        found.extend_from_slice(&unbound)?;
+    }
+    Ok(())
+}
+
+/// The variables of right sides and conditions that are not in their left sides.
+fn unbound<'a>(alloc: Global, syntax: &'a Syntax) -> Result<Vec<Word<'a>>, AllocError>
+    ensures { IfOk result
+        (λ v. HasSame (broken_words syntax.now.spec Rule.Unbound) (as_words v.items)) }
+{
+    let known = Names::of(alloc, &variables(alloc, syntax)?)?;
+    let mut found = Vec::new(alloc);
+    push_unbound(alloc, syntax, &known, syntax.rules(), &mut found)?;
+    Ok(found)
+}
+
+/// The variables of the terms to evaluate.
+fn open_terms<'a>(alloc: Global, syntax: &'a Syntax) -> Result<Vec<Word<'a>>, AllocError>
+    ensures { IfOk result
+        (λ v. HasSame (broken_words syntax.now.spec Rule.OpenTerm) (as_words v.items)) }
+{
+    let known = Names::of(alloc, &variables(alloc, syntax)?)?;
+    let nodes = term_nodes(alloc, syntax)?;
+    let words = node_words(alloc, &nodes)?;
+    present(alloc, &known, &words)
+}
+
+/// All words at which a specification breaks a rule, in any order.
+pub fn broken_words<'a>(
+    alloc: Global,
+    syntax: &'a Syntax,
+    rule: Rule,
+) -> Result<Vec<Word<'a>>, AllocError>
+    ensures { IfOk result (λ v. HasSame (broken_words syntax.now.spec rule) (as_words v.items)) }
+{
+    match rule {
+        Rule::SortTwice => repeated(alloc, &[], &sort_words(alloc, syntax)?),
+        Rule::SymbolTwice => repeated(alloc, &[], &symbol_words(alloc, syntax)?),
+        Rule::VariableTaken => repeated(
+            alloc,
+            &symbol_words(alloc, syntax)?,
+            &variables(alloc, syntax)?,
+        ),
+        Rule::SortUnknown => unknown_sorts(alloc, syntax),
+        Rule::WordUnknown => unknown_words(alloc, syntax),
+        Rule::IllFilled => ill_filled(alloc, syntax),
+        Rule::IllSorted => ill_sorted(alloc, syntax),
+        Rule::IllHeaded => ill_headed(alloc, syntax),
+        Rule::UnlikeSides => unlike_sides(alloc, syntax),
+        Rule::Unbound => unbound(alloc, syntax),
+        Rule::OpenTerm => open_terms(alloc, syntax),
+    }
+}

@@ -1,0 +1,81 @@
+//! Words that are, or are not, among others.
+
+ghost use Rattle.std.specs.Prelude.{◌≡◌, ◌++◌, List, IfOk, OnOk};
+ghost use Rattle.rec_syntax.specs.Tokens as syntax;
+ghost use Rattle.rec_sorts.specs.Lookup.{repeated};
+ghost use Rattle.rec_sorts.specs.SpecRules.{missing};
+ghost use Rattle.rec_check.specs.Lookups.{IsNoted, Knows, present, where_known};
+ghost use Rattle.rec_check.specs.Named.{as_word, as_words};
+
+use crate::names::Names;
+use crate::words::Word;
+use std::alloc::{AllocError, Global};
+
+/// The words whose name is not known.
+pub fn missing<'a>(
+    alloc: Global,
+    known: &Names<'_>,
+    words: &[Word<'a>],
+) -> Result<Vec<Word<'a>>, AllocError>
+    ensures { (ks : List syntax.Word) → Knows known.now ks
+        → IfOk result (λ v. as_words v.items ≡ missing ks (as_words words.now)) }
+{
+    let mut found = Vec::new(alloc);
+    for word in words {
+        if !known.has(word.bytes) {
+            found.push(*word)?;
+        }
+    }
+    Ok(found)
+}
+
+/// The words whose name is known.
+pub fn present<'a>(
+    alloc: Global,
+    known: &Names<'_>,
+    words: &[Word<'a>],
+) -> Result<Vec<Word<'a>>, AllocError>
+    ensures { (ks : List syntax.Word) → Knows known.now ks
+        → IfOk result (λ v. as_words v.items ≡ present ks (as_words words.now)) }
+{
+    let mut found = Vec::new(alloc);
+    for word in words {
+        if known.has(word.bytes) {
+            found.push(*word)?;
+        }
+    }
+    Ok(found)
+}
+
+/// The words whose name is that of a word before them.
+pub fn repeated<'a>(
+    alloc: Global,
+    before: &[Word<'a>],
+    words: &[Word<'a>],
+) -> Result<Vec<Word<'a>>, AllocError>
+    ensures { IfOk result
+        (λ v. as_words v.items ≡ repeated (as_words before.now) (as_words words.now)) }
+{
+    let mut names = Names::of(alloc, before)?;
+    let mut found = Vec::new(alloc);
+    for word in words {
+        push_repeated(&mut names, *word, &mut found)?;
+    }
+    Ok(found)
+}
+
+/// A word behind others, where its name is known; it is known from then on.
+fn push_repeated<'a>(
+    names: &mut Names<'a>,
+    word: Word<'a>,
+    found: &mut Vec<Word<'a>>,
+) -> Result<(), AllocError>
+    ensures found { OnOk result (as_words found.new.items
+        ≡ as_words found.old.items ++ where_known names.old (as_word word.entry)) }
+    ensures known { OnOk result (IsNoted names.old names.new (as_word word.entry)) }
+{
+    if names.has(word.bytes) {
+        found.push(word)?;
+    }
+    names.note(word.bytes, 0)
+}

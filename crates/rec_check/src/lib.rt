@@ -1,0 +1,24 @@
+//! A specification is checked: all places at which its least broken rule is broken, or warnings.
+#![tactic(auto)]
+
+mod broken;
+mod filters;
+mod finding;
+pub mod laws;
+mod lines;
+mod names;
+mod order;
+mod runs;
+mod scope;
+mod spots;
+mod unused;
+mod warned;
+mod words;
+
+pub use broken::broken_words;
+pub use finding::{Finding, Kind, Rule};
+pub use runs::{Judgement, check_text, run_check};
+pub use spots::{Cursor, Spot};
+pub use unused::{unused_sorts, unused_symbols, unused_variables};
+pub use warned::warnings;
+pub use words::Word;

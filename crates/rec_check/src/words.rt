@@ -1,0 +1,350 @@
+//! Words of a specification with their bytes, and the nodes of its terms.
+
+ghost use Rattle.std.specs.Prelude.{◌≡◌, ◌++◌, ◌∷◌, [], All, IfOk, OnOk, flat_map, map};
+ghost use Rattle.rec_syntax.specs.Lexemes.{word_of};
+ghost use Rattle.rec_syntax.specs.Parts.{
+  IsCondition,
+  IsDeclaration,
+  IsGroup,
+  IsRule,
+  IsTerm,
+  Within,
+  condition_of,
+  declaration_of,
+  group_of,
+  rule_of,
+  term_of,
+  words_of,
+};
+ghost use Rattle.rec_syntax.specs.Nodes.{flat};
+ghost use Rattle.rec_sorts.specs.Lookup.{condition_terms, names, rule_terms, symbols, variable_words};
+ghost use Rattle.rec_sorts.specs.SpecRules.{sorts_of};
+ghost use Rattle.rec_check.specs.Named.{as_nodes, as_word, as_words, node_words};
+ghost use Rattle.rec_check.specs.Walks.{flat_terms};
+
+use rec_syntax::{Condition, Declaration, Group, Rule, Span, Syntax, Term};
+use std::alloc::{AllocError, Global};
+
+/// A word, and how many bytes of the text stand before it.
+#[derive(Clone, Copy, Drop)]
+pub struct Word<'a> {
+    pub at: usize,
+    pub bytes: &'a [u8],
+}
+
+/// A word of a term, and how many arguments it has.
+#[derive(Clone, Copy, Drop)]
+pub struct Counted<'a> {
+    pub word: Word<'a>,
+    pub count: usize,
+}
+
+/// The word of a span.
+pub(crate) fn word_at<'a>(syntax: &'a Syntax, span: Span) -> Word<'a>
+    requires { Within syntax.now.source span }
+    ensures { as_word result ≡ word_of syntax.now.source span }
+{
+    Word {
+        at: span.from,
+        bytes: syntax.word(span),
+    }
+}
+
+/// Words behind others.
+pub(crate) fn push_words<'a>(
+    syntax: &'a Syntax,
+    spans: &[Span],
+    words: &mut Vec<Word<'a>>,
+) -> Result<(), AllocError>
+    requires { All (Within syntax.now.source) spans.now }
+    ensures { OnOk result (as_words words.new.items
+        ≡ as_words words.old.items ++ words_of syntax.now.source spans.now) }
+{
+    for span in spans {
+        words.push(word_at(syntax, *span))?;
+    }
+    Ok(())
+}
+
+/// The names of symbols behind other words.
+fn push_names<'a>(
+    syntax: &'a Syntax,
+    declarations: &[Declaration],
+    words: &mut Vec<Word<'a>>,
+) -> Result<(), AllocError>
+    requires { All (IsDeclaration syntax.now.source) declarations.now }
+    ensures { OnOk result (as_words words.new.items ≡ as_words words.old.items
+        ++ names (map (declaration_of syntax.now.source) declarations.now)) }
+{
+    for declaration in declarations {
+        words.push(word_at(syntax, declaration.name))?;
+    }
+    Ok(())
+}
+
+/// The sorts of a symbol behind other words.
+fn push_sorts_of<'a>(
+    syntax: &'a Syntax,
+    declaration: &Declaration,
+    words: &mut Vec<Word<'a>>,
+) -> Result<(), AllocError>
+    requires { IsDeclaration syntax.now.source declaration.now }
+    ensures { OnOk result (as_words words.new.items ≡ as_words words.old.items
+        ++ sorts_of (declaration_of syntax.now.source declaration.now)) }
+{
+    push_words(syntax, declaration.arguments.as_slice(), words)?;
+    words.push(word_at(syntax, declaration.sort))?;
+    Ok(())
+}
+
+/// The sorts of symbols behind other words.
+fn push_sorts<'a>(
+    syntax: &'a Syntax,
+    declarations: &[Declaration],
+    words: &mut Vec<Word<'a>>,
+) -> Result<(), AllocError>
+    requires { All (IsDeclaration syntax.now.source) declarations.now }
+    ensures { OnOk result (as_words words.new.items ≡ as_words words.old.items
+        ++ flat_map sorts_of (map (declaration_of syntax.now.source) declarations.now)) }
+{
+    for declaration in declarations {
+        push_sorts_of(syntax, declaration, words)?;
+    }
+    Ok(())
+}
+
+/// The sorts of groups of variables behind other words.
+fn push_group_sorts<'a>(
+    syntax: &'a Syntax,
+    groups: &[Group],
+    words: &mut Vec<Word<'a>>,
+) -> Result<(), AllocError>
+    requires { All (IsGroup syntax.now.source) groups.now }
+    ensures { OnOk result (as_words words.new.items ≡ as_words words.old.items
+        ++ map (λ v. v.sort) (map (group_of syntax.now.source) groups.now)) }
+{
+    for group in groups {
+        words.push(word_at(syntax, group.sort))?;
+    }
+    Ok(())
+}
+
+/// The variables of a group behind other words.
+fn push_variables_of<'a>(
+    syntax: &'a Syntax,
+    group: &Group,
+    words: &mut Vec<Word<'a>>,
+) -> Result<(), AllocError>
+    requires { IsGroup syntax.now.source group.now }
+    ensures { OnOk result (as_words words.new.items ≡ as_words words.old.items
+        ++ variable_words (group_of syntax.now.source group.now ∷ [])) }
+{
+    words.push(word_at(syntax, group.first))?;
+    push_words(syntax, group.others.as_slice(), words)
+}
+
+/// The variables of groups behind other words.
+fn push_variables<'a>(
+    syntax: &'a Syntax,
+    groups: &[Group],
+    words: &mut Vec<Word<'a>>,
+) -> Result<(), AllocError>
+    requires { All (IsGroup syntax.now.source) groups.now }
+    ensures { OnOk result (as_words words.new.items ≡ as_words words.old.items
+        ++ variable_words (map (group_of syntax.now.source) groups.now)) }
+{
+    for group in groups {
+        push_variables_of(syntax, group, words)?;
+    }
+    Ok(())
+}
+
+/// The sorts that are declared.
+pub fn sort_words<'a>(alloc: Global, syntax: &'a Syntax) -> Result<Vec<Word<'a>>, AllocError>
+    ensures { IfOk result (λ v. as_words v.items ≡ syntax.now.spec.sorts) }
+{
+    let mut words = Vec::new(alloc);
+    push_words(syntax, syntax.sorts(), &mut words)?;
+    Ok(words)
+}
+
+/// The words that declare symbols.
+pub fn symbol_words<'a>(alloc: Global, syntax: &'a Syntax) -> Result<Vec<Word<'a>>, AllocError>
+    ensures { IfOk result (λ v. as_words v.items ≡ names (symbols syntax.now.spec)) }
+{
+    let mut words = Vec::new(alloc);
+    push_names(syntax, syntax.constructors(), &mut words)?;
+    push_names(syntax, syntax.operators(), &mut words)?;
+    Ok(words)
+}
+
+/// Those of them that declare operators.
+pub fn operator_words<'a>(alloc: Global, syntax: &'a Syntax) -> Result<Vec<Word<'a>>, AllocError>
+    ensures { IfOk result (λ v. as_words v.items ≡ names syntax.now.spec.operators) }
+{
+    let mut words = Vec::new(alloc);
+    push_names(syntax, syntax.operators(), &mut words)?;
+    Ok(words)
+}
+
+/// The words that declare variables.
+pub fn variables<'a>(alloc: Global, syntax: &'a Syntax) -> Result<Vec<Word<'a>>, AllocError>
+    ensures { IfOk result (λ v. as_words v.items ≡ variable_words syntax.now.spec.variables) }
+{
+    let mut words = Vec::new(alloc);
+    push_variables(syntax, syntax.groups(), &mut words)?;
+    Ok(words)
+}
+
+/// The words that declare symbols and variables.
+pub fn declared_words<'a>(alloc: Global, syntax: &'a Syntax) -> Result<Vec<Word<'a>>, AllocError>
+    ensures { IfOk result (λ v. as_words v.items
+        ≡ names (symbols syntax.now.spec) ++ variable_words syntax.now.spec.variables) }
+{
+    let mut words = symbol_words(alloc, syntax)?;
+    push_variables(syntax, syntax.groups(), &mut words)?;
+    Ok(words)
+}
+
+/// The sorts that declarations name.
+pub fn named_sorts<'a>(alloc: Global, syntax: &'a Syntax) -> Result<Vec<Word<'a>>, AllocError>
+    ensures { IfOk result (λ v. as_words v.items ≡ flat_map sorts_of (symbols syntax.now.spec)
+        ++ map (λ v. v.sort) syntax.now.spec.variables) }
+{
+    let mut words = Vec::new(alloc);
+    push_sorts(syntax, syntax.constructors(), &mut words)?;
+    push_sorts(syntax, syntax.operators(), &mut words)?;
+    push_group_sorts(syntax, syntax.groups(), &mut words)?;
+    Ok(words)
+}
+
+/// The nodes of a term behind others.
+pub(crate) fn push_term<'a>(
+    syntax: &'a Syntax,
+    term: &Term,
+    nodes: &mut Vec<Counted<'a>>,
+) -> Result<(), AllocError>
+    requires { IsTerm syntax.now.source term.now }
+    ensures { OnOk result (as_nodes nodes.new.items
+        ≡ as_nodes nodes.old.items ++ flat (term_of syntax.now.source term.now)) }
+{
+    for node in term.nodes() {
+        nodes.push(Counted {
+            word: word_at(syntax, node.word),
+            count: node.count,
+        })?;
+    }
+    Ok(())
+}
+
+/// The nodes of terms behind others.
+fn push_terms<'a>(
+    syntax: &'a Syntax,
+    terms: &[Term],
+    nodes: &mut Vec<Counted<'a>>,
+) -> Result<(), AllocError>
+    requires { All (IsTerm syntax.now.source) terms.now }
+    ensures { OnOk result (as_nodes nodes.new.items ≡ as_nodes nodes.old.items
+        ++ flat_terms (map (term_of syntax.now.source) terms.now)) }
+{
+    for term in terms {
+        push_term(syntax, term, nodes)?;
+    }
+    Ok(())
+}
+
+/// The nodes of conditions behind others.
+fn push_conditions<'a>(
+    syntax: &'a Syntax,
+    conditions: &[Condition],
+    nodes: &mut Vec<Counted<'a>>,
+) -> Result<(), AllocError>
+    requires { All (IsCondition syntax.now.source) conditions.now }
+    ensures { OnOk result (as_nodes nodes.new.items ≡ as_nodes nodes.old.items
+        ++ flat_terms (condition_terms (map (condition_of syntax.now.source) conditions.now))) }
+{
+    for condition in conditions {
+        push_term(syntax, &condition.left, nodes)?;
+        push_term(syntax, &condition.right, nodes)?;
+    }
+    Ok(())
+}
+
+/// The nodes of what a rule rewrites to, and of its conditions.
+pub(crate) fn right_nodes<'a>(
+    alloc: Global,
+    syntax: &'a Syntax,
+    rule: &Rule,
+) -> Result<Vec<Counted<'a>>, AllocError>
+    requires { IsRule syntax.now.source rule.now }
+    ensures { IfOk result (λ v. as_nodes v.items
+        ≡ flat_terms ((rule_of syntax.now.source rule.now).right
+        ∷ condition_terms (rule_of syntax.now.source rule.now).conditions)) }
+{
+    let mut nodes = Vec::new(alloc);
+    push_term(syntax, &rule.right, &mut nodes)?;
+    push_conditions(syntax, rule.conditions.as_slice(), &mut nodes)?;
+    Ok(nodes)
+}
+
+/// The nodes of a rule behind others.
+fn push_rule<'a>(
+    syntax: &'a Syntax,
+    rule: &Rule,
+    nodes: &mut Vec<Counted<'a>>,
+) -> Result<(), AllocError>
+    requires { IsRule syntax.now.source rule.now }
+    ensures { OnOk result (as_nodes nodes.new.items ≡ as_nodes nodes.old.items
+        ++ flat_terms (rule_terms (rule_of syntax.now.source rule.now ∷ []))) }
+{
+    push_term(syntax, &rule.left, nodes)?;
+    push_term(syntax, &rule.right, nodes)?;
+    push_conditions(syntax, rule.conditions.as_slice(), nodes)
+}
+
+/// The nodes of rules behind others.
+fn push_rules<'a>(
+    syntax: &'a Syntax,
+    rules: &[Rule],
+    nodes: &mut Vec<Counted<'a>>,
+) -> Result<(), AllocError>
+    requires { All (IsRule syntax.now.source) rules.now }
+    ensures { OnOk result (as_nodes nodes.new.items ≡ as_nodes nodes.old.items
+        ++ flat_terms (rule_terms (map (rule_of syntax.now.source) rules.now))) }
+{
+    for rule in rules {
+        push_rule(syntax, rule, nodes)?;
+    }
+    Ok(())
+}
+
+/// The nodes of the terms to evaluate.
+pub fn term_nodes<'a>(alloc: Global, syntax: &'a Syntax) -> Result<Vec<Counted<'a>>, AllocError>
+    ensures { IfOk result (λ v. as_nodes v.items ≡ flat_terms syntax.now.spec.terms) }
+{
+    let mut nodes = Vec::new(alloc);
+    push_terms(syntax, syntax.terms(), &mut nodes)?;
+    Ok(nodes)
+}
+
+/// The nodes of all terms of rules, and of the terms to evaluate.
+pub fn all_nodes<'a>(alloc: Global, syntax: &'a Syntax) -> Result<Vec<Counted<'a>>, AllocError>
+    ensures { IfOk result (λ v. as_nodes v.items
+        ≡ flat_terms (rule_terms syntax.now.spec.rules ++ syntax.now.spec.terms)) }
+{
+    let mut nodes = Vec::new(alloc);
+    push_rules(syntax, syntax.rules(), &mut nodes)?;
+    push_terms(syntax, syntax.terms(), &mut nodes)?;
+    Ok(nodes)
+}
+
+/// The words of nodes.
+pub fn node_words<'a>(alloc: Global, nodes: &[Counted<'a>]) -> Result<Vec<Word<'a>>, AllocError>
+    ensures { IfOk result (λ v. as_words v.items ≡ node_words (as_nodes nodes.now)) }
+{
+    let mut words = Vec::with_capacity(alloc, nodes.len())?;
+    for node in nodes {
+        words.push(node.word)?;
+    }
+    Ok(words)
+}

@@ -1,0 +1,127 @@
+//! An engine without its bank, so that the bank can be lent to others in between.
+
+ghost use Rattle.std.specs.Prelude.{◌≡◌, length};
+
+use super::{Engine, Options};
+use crate::cells::reclaim;
+use crate::code::{Code, Op};
+use crate::machine::{Machine, State};
+use rec_sorts::Checked;
+use rx_term::{Term, TermBank};
+
+/// What an engine has besides its bank: the specification, its code, and what is remembered of the
+/// terms of that bank. With the bank it is an engine again, also where the bank has grown since.
+#[derive(Drop)]
+pub struct Prepared {
+    checked: Checked,
+    code: Code,
+    state: State,
+    work: Vec<Term>,
+    options: Options,
+    terms: u32,
+    found: Vec<Op>,
+    ghost counted: { terms ≡ length checked.spec.terms },
+}
+
+impl Prepared {
+    ghost use Rattle.rx_term.specs.Steps.{Reclaims};
+    ghost use Rattle.rx_term.specs.Walks.{AllHeld};
+    ghost use Rattle.rec_engine.specs.Prepared.{FitsIn, spec_of, options_of, memo_of};
+
+    /// The engine over the bank.
+    pub fn over<B: TermBank>(self, bank: B) -> Engine<B>
+        requires { FitsIn (B.store bank) self }
+        ensures bank { result.bank ≡ bank }
+        ensures spec { result.spec ≡ spec_of self }
+        ensures options { result.options ≡ options_of self }
+        ensures memo { result.memo ≡ memo_of self }
+    {
+        let Prepared {
+            checked,
+            code,
+            state,
+            work,
+            options,
+            terms,
+            found,
+        } = self;
+        let machine = Machine {
+            checked,
+            bank,
+            code,
+            state,
+            work,
+        };
+        Engine {
+            machine,
+            options,
+            terms,
+            found,
+        }
+    }
+
+    /// The bank gives up all terms but those that its roots and these ones reach, and what is
+    /// remembered of the others is forgotten.
+    pub fn reclaim<B: TermBank>(&mut self, bank: &mut B, kept: &[Term])
+        requires fits { FitsIn (B.store bank.old) self.old }
+        requires kept { AllHeld (B.store bank.old) kept.now }
+        ensures reclaims { Reclaims (B.store bank.old) (B.store bank.new) kept.now }
+        ensures fits { FitsIn (B.store bank.new) self.new }
+        ensures spec { spec_of self.new ≡ spec_of self.old }
+        ensures options { options_of self.new ≡ options_of self.old }
+    {
+        self.work.clear();
+        reclaim(bank, kept, &mut self.state.pace);
+    }
+
+    /// How many terms to evaluate the specification has.
+    pub fn eval_terms(&self) -> u32
+        ensures { result ≡ length (spec_of self.now).terms }
+    {
+        self.terms
+    }
+
+    /// The specification.
+    pub fn checked(&self) -> &Checked
+        ensures { result.now.spec ≡ spec_of self.now }
+    {
+        &self.checked
+    }
+}
+
+impl<B: TermBank> Engine<B> {
+    ghost use Rattle.rec_engine.specs.Prepared.{FitsIn, spec_of, options_of, memo_of};
+
+    /// The bank, and what the engine has besides.
+    pub fn apart(self) -> (B, Prepared)
+        ensures bank { result.0 ≡ self.bank }
+        ensures fits { FitsIn (B.store self.bank) result.1 }
+        ensures spec { spec_of result.1 ≡ self.spec }
+        ensures options { options_of result.1 ≡ self.options }
+        ensures memo { memo_of result.1 ≡ self.memo }
+    {
+        let Engine {
+            machine,
+            options,
+            terms,
+            found,
+        } = self;
+        let Machine {
+            checked,
+            bank,
+            code,
+            state,
+            work,
+        } = machine;
+        let prepared = Prepared {
+            checked,
+            code,
+            state,
+            work,
+            options,
+            terms,
+            found,
+        };
+        (bank, prepared)
+    }
+}

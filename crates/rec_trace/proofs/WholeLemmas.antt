@@ -1,0 +1,129 @@
+-- The whole term, written down from a copy of a state.
+use Rattle.std.proofs.Common.{◌+◌, ◌-◌, ◌<◌, ◌≤◌, ℕ, arith, refl, sym, ap, subst, ◌∙◌, get_or, length, drop, length-drop, vec_len}
+use Rattle.std.specs.Prelude.{suc, ◌≡◌, Bool, true, false, List, [], ◌∷◌, reverse}
+use Rattle.rx_term.specs.Tree.{Tree, list_of, none}
+use Rattle.rx_term.specs.Store.{Store, tree_at}
+use Rattle.rx_term.specs.declared.Term.{Term as Reference}
+use Rattle.rec_syntax.specs.Syntax.{Spec}
+use Rattle.rec_sorts.specs.Binding.{application}
+use Rattle.rec_engine.specs.Flat.{taken}
+use Rattle.rec_trace.specs.States.{Fits, Give, Invoke, Move, ahead, written}
+use Rattle.rec_trace.specs.Lists.{AreKept, AreKeptTwice, Stays, count_among, listed}
+use Rattle.rec_trace.specs.Tracing.{IsInOrder, AreSteps, Stands, caller, moves_at, moves_of, rest_of, stack_at, whole_of}
+use Rattle.rec_trace.specs.Turns.{CanTurn, Moves, Turns}
+use Rattle.rec_trace.specs.declared.lists.Lists.{Lists}
+use Rattle.rec_trace.specs.declared.tracer.Tracer.{Tracer}
+use Rattle.rec_trace.proofs.ListLemmas.{itself, same-list}
+use Rattle.rec_trace.proofs.RunLemmas.{as-many}
+
+-- the same steps over lists of the same trees: the same state
+pub record StandsStill (y : Spec) (w w' : Store) (t : Tracer) : Type 0 where
+  pub stands : Stands y w' t
+  pub rest : rest_of y w' t ≡ rest_of y w t
+
+pub stands-still : (y : Spec) (w w' : Store) (t : Tracer) → Stands y w t → AreKept w' t.lists → tree_at w' t.lists.given ≡ tree_at w t.lists.given → tree_at w' t.lists.stack ≡ tree_at w t.lists.stack → StandsStill y w w' t
+stands-still y w w' t s kept e k =
+    let given : listed w' t.lists.given ≡ listed w t.lists.given = (same-list w w' t.lists.given e s.order.kept.given).1 in
+    let stack : listed w' t.lists.stack ≡ listed w t.lists.stack = (same-list w w' t.lists.stack k s.order.kept.stack).1 in
+    let same : moves_at y w' t ≡ moves_at y w t = ap (moves_of y (reverse t.steps.items)) given in
+    record {
+      stands = record {
+        order = record { good = s.order.good; kept = kept; steps = subst (AreSteps y (reverse t.steps.items)) (sym given) s.order.steps };
+        fits = subst (λ (st : List Tree). Fits (moves_at y w' t) (length st) 1) (sym stack) (subst (λ ms. Fits ms (length (stack_at w t)) 1) (sym same) s.fits);
+      };
+      rest = ap (λ ms. ahead y t.left ms (stack_at w' t)) same ∙ ap (ahead y t.left (moves_at y w t)) stack;
+    }
+
+-- ---- writing down
+
+-- moves that are made as they are written leave the same tree, and still fit
+record Same (ms : List Move) (st : List Tree) (ms' : List Move) (st' : List Tree) : Type 0 where
+  tree : written ms' st' ≡ written ms st
+  fits : Fits ms' (length st') 1
+
+same-written : (y : Spec) (n n' : ℕ) (ms : List Move) (st : List Tree) (ms' : List Move) (st' : List Tree) → Fits ms (length st) 1 → Moves (caller y false) n n' ms st ms' st' true → Same ms st ms' st'
+same-written y n n' [] st ms' st' fits h = absurd h
+same-written y n n' (Give v ∷ ms) st ms' st' fits h = record {
+  tree = ap (λ xs. written xs st') h.1 ∙ ap (written ms) h.2;
+  fits = subst (λ xs. Fits xs (length st') 1) (sym h.1) (subst (λ (xs : List Tree). Fits ms (length xs) 1) (sym h.2) fits);
+}
+same-written y n n' (Invoke name k ∷ ms) st ms' st' fits h =
+    let is : application name (taken k st none) ≡ h.0 = (let e = h.1 in cc e) in
+    let long : length (drop k st) ≡ length st - k = length-drop k st in
+    record {
+      tree = ap (λ xs. written xs st') h.2 ∙ ap (written ms) h.3 ∙ ap (λ v. written ms (v ∷ drop k st)) (sym is);
+      fits = subst (λ xs. Fits xs (length st') 1) (sym h.2) (subst (λ (xs : List Tree). Fits ms (length xs) 1) (sym h.3) (subst (λ d. Fits ms (suc d) 1) (sym long) fits.1));
+    }
+
+never-ends : (y : Spec) (n n' : ℕ) (ms : List Move) (st : List Tree) (ms' : List Move) (st' : List Tree) → Moves (caller y false) n n' ms st ms' st' false → ⊥
+never-ends y n n' [] st ms' st' h = h
+never-ends y n n' (Give v ∷ ms) st ms' st' h = h
+never-ends y n n' (Invoke name k ∷ ms) st ms' st' h = cc h
+
+-- as far as the steps were gone through
+pub record Writing (y : Spec) (w0 w : Store) (old now : Tracer) : Type 0 where
+  pub order : IsInOrder y w now
+  pub fits : Fits (moves_at y w now) (length (stack_at w now)) 1
+  pub whole : whole_of y w now ≡ whole_of y w0 old
+
+pub writing-first : (y : Spec) (w : Store) (t : Tracer) → Stands y w t → Writing y w w t t
+writing-first y w t s = record { order = s.order; fits = s.fits; whole = refl }
+
+can : (ms : List Move) (d : ℕ) → 0 < length ms → Fits ms d 1 → CanTurn ms d
+can [] d some fits = let no : ⊥ = omega (arith, some) in absurd no
+can (Give v ∷ ms) d some fits = tt
+can (Invoke name k ∷ ms) d some fits = fits.0
+
+pub writing-can : (y : Spec) (w0 w : Store) (old now : Tracer) → Writing y w0 w old now → vec_len now.steps ≡ length now.steps.items → 0 < vec_len now.steps → CanTurn (moves_at y w now) (length (stack_at w now))
+writing-can y w0 w old now h long some = let many = as-many y w now h.order in can (moves_at y w now) (length (stack_at w now)) (omega (arith, many, long, some)) h.fits
+
+pub writing-next : (y : Spec) (w0 w w' : Store) (old now new : Tracer) (more : Bool) → Writing y w0 w old now → Turns (caller y false) y w w' now new more → Writing y w0 w' old new
+writing-next y w0 w w' old now new true h t =
+    let s = same-written y now.left new.left (moves_at y w now) (stack_at w now) (moves_at y w' new) (stack_at w' new) h.fits t.1 in
+    record { order = t.0; fits = s.fits; whole = s.tree ∙ h.whole }
+writing-next y w0 w w' old now new false h t = absurd (never-ends y now.left new.left (moves_at y w now) (stack_at w now) (moves_at y w' new) (stack_at w' new) t)
+
+one-left : (st : List Tree) → length st ≡ 1 → (0 < length st) × (written [] st ≡ get_or st 0 (list_of none))
+one-left [] e = let no : ⊥ = omega (arith, e) in absurd no
+one-left (v ∷ st) e = (omega arith, refl)
+
+pub writing-ends : (y : Spec) (w0 w : Store) (old now : Tracer) → Writing y w0 w old now → vec_len now.steps ≡ length now.steps.items → vec_len now.steps ≤ 0 → (0 < length (stack_at w now)) × (whole_of y w0 old ≡ get_or (stack_at w now) 0 (list_of none))
+writing-ends y w0 w old now h long le =
+    let many = as-many y w now h.order in
+    let none_left : moves_at y w now ≡ [] = nothing (moves_at y w now) (omega (arith, many, long, le)) in
+    let one = one-left (stack_at w now) (subst (λ ms. Fits ms (length (stack_at w now)) 1) none_left h.fits) in
+    (one.0, sym h.whole ∙ ap (λ ms. written ms (stack_at w now)) none_left ∙ one.1)
+  where
+    nothing : (ms : List Move) → length ms ≡ 0 → ms ≡ []
+    nothing [] e = refl
+    nothing (m ∷ ms) e = let no : ⊥ = omega (arith, e) in absurd no
+
+-- ---- what the copy leaves
+
+-- a copy's lists moved on and were given up: those of the first are kept, and have the same trees
+pub record CopyGone (w w' : Store) (l : Lists) : Type 0 where
+  pub kept : AreKept w' l
+  pub given : tree_at w' l.given ≡ tree_at w l.given
+  pub stack : tree_at w' l.stack ≡ tree_at w l.stack
+
+pub copy-gone : (w w1 w2 : Store) (l m : Lists) → AreKeptTwice w l → Stays w w1 l m → ((k : ℕ) → w2.roots k + count_among m k ≡ w1.roots k) → ((t : Reference) → tree_at w2 t ≡ tree_at w1 t) → CopyGone w w2 l
+copy-gone w w1 w2 l m twice stays ended same =
+    let g = stays.spares.trees l.given _ twice.kept.given (low-given) in
+    let s = stays.spares.trees l.stack _ twice.kept.stack (low-stack) in
+    let given : tree_at w2 l.given ≡ tree_at w l.given = same l.given ∙ g ∙ sym twice.kept.given in
+    let stack : tree_at w2 l.stack ≡ tree_at w l.stack = same l.stack ∙ s ∙ sym twice.kept.stack in
+    record {
+      kept = record {
+        given = (same-list w w2 l.given given twice.kept.given).0;
+        stack = (same-list w w2 l.stack stack twice.kept.stack).0;
+        counted = λ k. (let a = twice.twice k in let b = stays.spares.counts k in let c = ended k in omega (arith, a, b, c));
+      };
+      given = given;
+      stack = stack;
+    }
+  where
+    low-given : count_among l l.given.0 < w.roots l.given.0
+    low-given = let a = twice.twice l.given.0 in let e = itself l.given.0 in omega (arith, a, e)
+
+    low-stack : count_among l l.stack.0 < w.roots l.stack.0
+    low-stack = let a = twice.twice l.stack.0 in let e = itself l.stack.0 in omega (arith, a, e)

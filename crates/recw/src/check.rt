@@ -1,0 +1,69 @@
+//! Specifications are checked, each in turn.
+
+use crate::evidence::Evidence;
+use crate::input::open;
+use rec_check::{Judgement, run_check};
+use rec_run::{Finish, RunFault};
+use recw_words::{STANDARD_INPUT, TextName};
+use std::alloc::Global;
+use std::io::{Read, Write};
+use std::rt::Files;
+
+/// What a specification is called.
+fn name_of(path: &str) -> TextName<'_> {
+    if path == STANDARD_INPUT {
+        TextName::Path("<stdin>")
+    } else {
+        TextName::Path(path)
+    }
+}
+
+/// The name as it stands in lines.
+fn shown_name(alloc: Global, name: TextName<'_>) -> Result<Vec<u8>, RunFault> {
+    let mut shown = Vec::new(alloc);
+    match name.write(&mut shown) {
+        Ok(()) => Ok(shown),
+        Err(_) => Err(RunFault::Memory { lines: 0 }),
+    }
+}
+
+/// Checks the specifications in the files that are given. It stops at the first fault.
+pub fn check<H: Files, R: Read, W: Write>(
+    rt: &H,
+    is_strict: bool,
+    input: &mut R,
+    out: &mut W,
+    evidence: &mut Evidence<'_>,
+) -> Result<Finish, RunFault> {
+    let mut finish = Finish::Done;
+    for index in 0..evidence.invocation.given.len() {
+        let path = match evidence.invocation.given.as_slice().get(index) {
+            Some(path) => *path,
+            None => return Ok(finish),
+        };
+        match check_file(rt, path, input, out, evidence)? {
+            Judgement::Good => {}
+            Judgement::Warned if !is_strict => {}
+            _ => finish = Finish::Refused,
+        }
+    }
+    Ok(finish)
+}
+
+/// Checks the specification in a file or on the standard input.
+fn check_file<'a, H: Files, R: Read, W: Write>(
+    rt: &H,
+    path: &'a str,
+    input: &mut R,
+    out: &mut W,
+    evidence: &mut Evidence<'a>,
+) -> Result<Judgement, RunFault> {
+    let alloc = evidence.alloc;
+    let name = name_of(path);
+    let shown = shown_name(alloc, name)?;
+    let file = evidence.note_open(open(rt, Some(path), input), name)?;
+    let mut spec = evidence.record(file);
+    let end = run_check(alloc, &shown, &mut spec, out);
+    evidence.note_read(spec.finish(), name);
+    end
+}

@@ -1,0 +1,48 @@
+-- What the host is answered, by what was handed over.
+use Rattle.std.proofs.Common.{◌≡◌, ◌^◌, Bool, ℕ, List, [], Option, Some, Result, Ok, Err, IfOk, IfErr, OnOk, length, min, ap, subst, ◌∙◌, arith}
+use Rattle.rx_run.specs.Due.{Due}
+use Rattle.rx_run.specs.Run.{Ends, IsPlaced}
+use Rattle.rx_run.specs.declared.ending.Finish.{Finish}
+use Rattle.rx_run.specs.declared.ending.Place.{Place}
+use Rattle.rx_run.specs.declared.ending.RunFault.{RunFault}
+use Rattle.rec_run.specs.Output.{IsDue, bare}
+use Rattle.recw_web.specs.Answers.{Answers, IsEvalDue}
+use Rattle.recw_web.specs.Handing.{IsHanded, IsWithheld}
+use Rattle.recw_web.specs.declared.options.Options.{Options}
+use Rattle.recw_web.specs.declared.told.Told.{Told}
+
+module _ (IsDue : Due → Type 0) (lines : List ℕ) (place : Option Place) (status : ℕ) (told : Told) (old new : List ℕ) where
+  -- the run ended
+  answers_handed : (finish : Finish) → IsHanded finish lines place status told old new → Ends IsDue finish (Some []) (Some lines) → IsPlaced IsDue place → Answers IsDue status told old new
+  answers_handed finish h e p =
+      record {
+        done = λ s. record { due = e.due; is_due = e.is_due; ends = e.ends ∙ h.done s; written = h.written (omega (arith, s)) ∙ e.written };
+        refused = λ s. record { due = e.due; is_due = e.is_due; ends = e.ends ∙ h.refused s; written = h.written (omega (arith, s)) ∙ e.written };
+        placed = λ s. record { place = place; is_placed = p; is_told = h.placed };
+        short = λ s. record { due = e.due; is_due = e.is_due; wanted = h.long ∙ ap length e.written; short = h.short s };
+        kept = h.kept;
+        known = let k = h.known in omega (arith, k);
+      }
+
+  -- the run met a fault
+  answers_withheld : IsWithheld status old new → Answers IsDue status told old new
+  answers_withheld w =
+      let least = w.least in
+      record {
+        done = λ s. absurd (omega (arith, least, s));
+        refused = λ s. absurd (omega (arith, least, s));
+        placed = λ s. absurd (omega (arith, least, s));
+        short = λ s. absurd (omega (arith, least, s));
+        kept = λ s. w.kept;
+        known = w.known;
+      }
+
+  -- by how the run ended, which wrote behind nothing
+  pub answers_by : (end : Result Finish RunFault) (before : List ℕ) → before ≡ [] → IfOk end (λ f. IsHanded f lines place status told old new) → IfErr end (λ f. IsWithheld status old new) → IfOk end (λ f. Ends IsDue f (Some before) (Some lines)) → OnOk end (IsPlaced IsDue place) → Answers IsDue status told old new
+  answers_by (Ok finish) before b h w e p = answers_handed finish h (subst (λ z. Ends IsDue finish (Some z) (Some lines)) b e) p
+  answers_by (Err fault) before b h w e p = answers_withheld w
+
+-- the run's limits are those that were asked for
+pub answers_asked : (asked : Options) (count : Bool) (steps : ℕ) (spec : List ℕ) (terms : Option (List ℕ)) (status : ℕ) (told : Told) (old new : List ℕ) → steps ≡ min asked.steps (10 ^ 18) → count ≡ asked.count → Answers (IsDue spec terms (bare count) steps) status told old new → Answers (IsEvalDue asked spec terms) status told old new
+answers_asked asked count steps spec terms status told old new e f h =
+    subst (λ n. Answers (IsDue spec terms (bare asked.count) n) status told old new) e (subst (λ b. Answers (IsDue spec terms (bare b) steps) status told old new) f h)

@@ -1,0 +1,54 @@
+-- What a host is answered of a run over texts in its memory.
+--     IsEvalDue options spec terms d      what is due of an evaluation
+--     Answers IsDue status told old new   0 says that the run is done, 1 that a text is refused,
+--                                         2 that the room is too short for what is due, 3 and 4
+--                                         that memory or cells ran out
+use Rattle.std.specs.Prelude.{◌≡◌, ◌<◌, ◌^◌, ℕ, List, Option, Some, None, length, min, option_map, take, if◌then◌else◌}
+use Rattle.rx_run.specs.Due.{Due}
+use Rattle.rx_run.specs.Run.{IsPlaced}
+use Rattle.rx_run.specs.declared.ending.Finish.{Finish}
+use Rattle.rx_run.specs.declared.ending.Finish.TheVariants.{Done, Refused}
+use Rattle.rx_run.specs.declared.ending.Place.{Place}
+use Rattle.rec_run.specs.Output.{IsDue, bare}
+use Rattle.recw_web.specs.declared.options.Options.{Options}
+use Rattle.recw_web.specs.declared.told.Told.{Told}
+
+-- what is due for a specification, and for given terms where there are some
+abbrev pub IsEvalDue : Options → List ℕ → Option (List ℕ) → Due → Type 0
+IsEvalDue options spec terms d =
+    IsDue spec terms (bare options.count) (min options.steps (10 ^ 18)) d
+
+-- the place of a refusal, where one is told
+abbrev pub told_place : Told → Option ℕ
+told_place told = if told.has_place then Some told.at else None
+
+-- what is due ends the run so, and stands at the front of the room
+pub record Hands (IsDue : Due → Type 0) (finish : Finish) (told : Told) (room : List ℕ)
+    : Type 0 where
+  pub due : Due
+  pub is_due : IsDue due
+  pub ends : due.finish ≡ finish
+  pub written : take told.length room ≡ due.text
+
+-- the place of what is due is told
+pub record Places (IsDue : Due → Type 0) (told : Told) : Type 0 where
+  pub place : Option Place
+  pub is_placed : IsPlaced IsDue place
+  pub is_told : told_place told ≡ option_map (λ p. p.at) place
+
+-- what is due has so many bytes as is told, which are more than the room has
+pub record Overfills (IsDue : Due → Type 0) (told : Told) (room : List ℕ) : Type 0 where
+  pub due : Due
+  pub is_due : IsDue due
+  pub wanted : told.length ≡ length due.text
+  pub short : length room < told.length
+
+-- what the number says, where the room held and now holds these bytes
+pub record Answers (IsDue : Due → Type 0) (status : ℕ) (told : Told) (old new : List ℕ)
+    : Type 0 where
+  pub done : status ≡ 0 → Hands IsDue Done told new
+  pub refused : status ≡ 1 → Hands IsDue Refused told new
+  pub placed : status < 3 → Places IsDue told
+  pub short : status ≡ 2 → Overfills IsDue told old
+  pub kept : 1 < status → new ≡ old
+  pub known : status < 5

@@ -1,0 +1,77 @@
+//! What a run came to is handed to the host.
+
+ghost use Rattle.std.specs.Prelude.{◌≡◌, ◌<◌, IfErr, IfOk, length, take};
+ghost use Rattle.recw_web.specs.Handing.{IsHanded, IsWithheld};
+
+use crate::told::Told;
+use rec_run::{Finish, Place, RunFault};
+
+/// All lines were written.
+const DONE: u32 = 0;
+
+/// A text was refused.
+const REFUSED: u32 = 1;
+
+/// The room is too short.
+const SHORT: u32 = 2;
+
+/// Memory ran out.
+const OUT_OF_MEMORY: u32 = 3;
+
+/// Cells ran out.
+const OUT_OF_CELLS: u32 = 4;
+
+/// Writes the lines of a run to the front of the room, and answers how it ended.
+pub(crate) fn hand_over(
+    end: Result<Finish, RunFault>,
+    lines: Vec<u8>,
+    place: Option<Place>,
+    out: &mut [u8],
+    told: &mut Told,
+) -> u32
+    ensures handed { IfOk end (λ finish.
+        IsHanded finish lines.items place result told.new out.old out.new) }
+    ensures withheld { IfErr end (λ _. IsWithheld result out.old out.new) }
+{
+    match end {
+        Ok(finish) => {
+            *told = Told::of(lines.len(), place);
+            hand_lines(finish, lines.as_slice(), out)
+        }
+        Err(fault) => {
+            *told = Told::of(0, None);
+            number_of(fault)
+        }
+    }
+}
+
+/// The same of a run that ended.
+fn hand_lines(finish: Finish, lines: &[u8], out: &mut [u8]) -> u32
+    ensures done { result ≡ 0 → finish ≡ Finish.Done }
+    ensures refused { result ≡ 1 → finish ≡ Finish.Refused }
+    ensures written { result < 2 → take (length lines.now) out.new ≡ lines.now }
+    ensures short { result ≡ 2 → length out.old < length lines.now }
+    ensures kept { 1 < result → out.new ≡ out.old }
+    ensures known { result < 3 }
+{
+    let length = lines.len();
+    if length > out.len() {
+        return SHORT;
+    }
+    out[..length].copy_from_slice(lines);
+    match finish {
+        Finish::Done => DONE,
+        Finish::Refused => REFUSED,
+    }
+}
+
+/// The number of a fault. No text in memory refuses to be read, and the vector that is written to
+/// refuses where it cannot grow.
+fn number_of(fault: RunFault) -> u32
+    ensures { (2 < result) × (result < 5) }
+{
+    match fault {
+        RunFault::Room { .. } => OUT_OF_CELLS,
+        RunFault::Memory { .. } | RunFault::Read | RunFault::Write => OUT_OF_MEMORY,
+    }
+}

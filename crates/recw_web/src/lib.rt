@@ -1,0 +1,15 @@
+//! Whole runs over texts in memory, for a host without files: each export takes texts, writes what
+//! is due to the front of a room of the host's, and answers a number.
+#![tactic(auto)]
+
+pub mod evaluating;
+mod handing;
+mod options;
+pub mod patterns;
+pub mod terms;
+#[cfg(test)]
+mod tests;
+mod told;
+
+pub use options::Options;
+pub use told::Told;

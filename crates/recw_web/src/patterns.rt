@@ -1,0 +1,44 @@
+//! Runs with a pattern.
+
+ghost use Rattle.rx_run.specs.PatternRuns.{IsMakeDue, IsMatchDue};
+ghost use Rattle.recw_web.specs.Answers.{Answers};
+
+use crate::handing::hand_over;
+use crate::told::Told;
+use rx_run::{run_make_at, run_match_at};
+use std::alloc::Global;
+
+/// Matches a pattern with a term.
+#[unsafe(no_mangle)]
+pub extern "C" fn recw_match(
+    alloc: Global,
+    pattern: &[u8],
+    term: &[u8],
+    out: &mut [u8],
+    told: &mut Told,
+) -> u32
+    ensures { Answers (IsMatchDue pattern.now term.now) result told.new out.old out.new }
+{
+    let mut text = term;
+    let mut lines = Vec::new(alloc);
+    let mut place = None;
+    let end = run_match_at(alloc, pattern, &mut text, &mut lines, &mut place);
+    hand_over(end, lines, place, out, told)
+}
+
+/// Makes a term from a pattern and a list of trees.
+#[unsafe(no_mangle)]
+pub extern "C" fn recw_make(
+    alloc: Global,
+    pattern: &[u8],
+    args: &[u8],
+    out: &mut [u8],
+    told: &mut Told,
+) -> u32
+    ensures { Answers (IsMakeDue pattern.now args.now) result told.new out.old out.new }
+{
+    let mut lines = Vec::new(alloc);
+    let mut place = None;
+    let end = run_make_at(alloc, pattern, args, &mut lines, &mut place);
+    hand_over(end, lines, place, out, told)
+}

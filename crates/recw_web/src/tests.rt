@@ -1,0 +1,76 @@
+//! Each export with ample memory, beside what was worked out by hand.
+
+use crate::evaluating::{recw_eval, recw_eval_terms};
+use crate::patterns::{recw_make, recw_match};
+use crate::terms::{recw_aterm, recw_share};
+use crate::{Options, Told};
+use std::process::Abort;
+
+/// A specification that adds one and two.
+const ADDITION: &[u8] =
+    b"REC-SPEC Add SORTS Nat CONS z : -> Nat s : Nat -> Nat OPNS plus : Nat Nat -> Nat \
+      VARS X Y : Nat RULES plus(z,Y) -> Y plus(s(X),Y) -> s(plus(X,Y)) \
+      EVAL plus(s(s(z)),s(z)) END-SPEC";
+
+/// The program's options, with the count.
+const OPTIONS: Options = Options {
+    steps: 1_000_000,
+    cells: 16_777_216,
+    memo: 65_536,
+    reclaim: 262_144,
+    count: true,
+};
+
+/// What is told before a run.
+const UNTOLD: Told = Told {
+    length: 99,
+    at: 99,
+    has_place: true,
+};
+
+/// What stands at the front of the room is as wanted, and no place is told.
+fn wrote(rt: &impl Abort, status: u32, told: Told, room: &[u8], wanted: &[u8]) {
+    assert_eq!(rt; status, 0);
+    assert!(rt; !told.has_place);
+    assert_eq!(rt; told.length, wanted.len());
+    assert!(rt; room.starts_with(wanted));
+}
+
+#[test]
+fn evaluations_are_written(rt: HostRuntime) {
+    let alloc = rt.alloc();
+    let mut room = [0u8; 40];
+    let mut told = UNTOLD;
+    let status = recw_eval(alloc, ADDITION, &OPTIONS, &mut room, &mut told);
+    wrote(&rt, status, told, &room, b"s(s(s(z)))\t3\n");
+    let status = recw_eval_terms(alloc, ADDITION, b"[z]", &OPTIONS, &mut room, &mut told);
+    wrote(&rt, status, told, &room, b"s(s(s(z)))\t3\nz\t0\n");
+}
+
+#[test]
+fn terms_and_patterns_are_written(rt: HostRuntime) {
+    let alloc = rt.alloc();
+    let mut room = [0u8; 40];
+    let mut told = UNTOLD;
+    let status = recw_aterm(alloc, b" f( -07 ) ", &mut room, &mut told);
+    wrote(&rt, status, told, &room, b"f(-7)\n");
+    let status = recw_share(alloc, b"f(a,a)", &mut room, &mut told);
+    wrote(&rt, status, told, &room, b"f(a,a)\ncells 5\n");
+    let status = recw_match(alloc, b"f(<int>)", b"f(7)", &mut room, &mut told);
+    wrote(&rt, status, told, &room, b"yes\n7\n");
+    let status = recw_make(alloc, b"f(<int>)", b"[7]", &mut room, &mut told);
+    wrote(&rt, status, told, &room, b"f(7)\n");
+}
+
+#[test]
+fn refusals_and_short_rooms_are_told(rt: HostRuntime) {
+    let alloc = rt.alloc();
+    let mut room = [0u8; 8];
+    let mut told = UNTOLD;
+    assert_eq!(rt; recw_aterm(alloc, b"f(a,)", &mut room, &mut told), 1);
+    assert_eq!(rt; (told.length, told.at, told.has_place), (8, 4, true));
+    assert_eq!(rt; &room, b"!term A\n");
+    assert_eq!(rt; recw_share(alloc, b"f(a,a)", &mut room, &mut told), 2);
+    assert_eq!(rt; (told.length, told.has_place), (15, false));
+    assert_eq!(rt; &room, b"!term A\n");
+}

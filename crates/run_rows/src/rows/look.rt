@@ -1,0 +1,109 @@
+//! Texts of one term that are printed over several lines.
+
+use crate::rows::streams::{bytewise, failing, failing_at, taking};
+use rec_run::{Finish, Named, Place, Source, run_aterm};
+use rx_look::{LookFault, run_aterm_indented, run_aterm_indented_at};
+use std::alloc::Global;
+use std::io::ErrorKind;
+use std::process::Abort;
+
+/// A text of a term, the blanks of a level, and the lines that are due.
+type Row = (&'static str, u8, &'static str);
+
+static ROWS: [Row; 8] = [
+    (
+        "f ( a , [ 1 , -007 ] ) { b }",
+        2,
+        "f(\n  a,\n  [\n    1,\n    -7\n  ]\n){\n  b\n}\n",
+    ),
+    ("f(a,[1,-7]){b}", 0, "f(\na,\n[\n1,\n-7\n]\n){\nb\n}\n"),
+    ("<7>{7}", 1, "<\n 7\n>{\n 7\n}\n"),
+    ("[[],f(),(),a{}]", 3, "[\n   [],\n   f,\n   (),\n   a\n]\n"),
+    ("(\"\")", 1, "(\n \"\"\n)\n"),
+    ("\"a b,(\\n\"", 4, "\"a b,(\\n\"\n"),
+    (
+        "\"\\\"\\377\"(-2147483648)",
+        1,
+        "\"\\\"\\377\"(\n -2147483648\n)\n",
+    ),
+    ("7", 255, "7\n"),
+];
+
+const REFUSAL: &[u8] = b"!term A\n";
+
+/// What printing a text in one line writes.
+fn in_one_line(rt: &impl Abort, alloc: Global, mut text: &[u8]) -> Vec<u8> {
+    let mut written = Vec::new(alloc);
+    assert!(rt; run_aterm(alloc, &mut text, &mut written) == Ok(Finish::Done));
+    written
+}
+
+/// Stops where a text is printed otherwise, or what is printed is not the same term.
+fn expect_laid(rt: &impl Abort, alloc: Global, row: &Row) {
+    let (text, indent, lines) = *row;
+    let mut written = Vec::new(alloc);
+    let end = run_aterm_indented(alloc, &mut text.as_bytes(), indent, &mut written);
+    assert!(rt;
+        end == Ok(Finish::Done) && written.as_slice() == lines.as_bytes(),
+        "{text}"
+    );
+    let first = in_one_line(rt, alloc, text.as_bytes());
+    let again = in_one_line(rt, alloc, written.as_slice());
+    assert!(rt; first.as_slice() == again.as_slice(), "{text}");
+}
+
+#[test]
+fn over_several_lines(rt: HostRuntime) {
+    for row in &ROWS {
+        expect_laid(&rt, rt.alloc(), row);
+    }
+}
+
+/// Stops where a text that is no term is not refused at its place.
+fn expect_refused(rt: &impl Abort, alloc: Global, mut text: &[u8], at: u32) {
+    let mut written = Vec::new(alloc);
+    let mut place = None;
+    let end = run_aterm_indented_at(alloc, &mut text, 1, &mut written, &mut place);
+    let due = Place {
+        text: Source::Term,
+        rule: Named::A,
+        at,
+    };
+    assert!(rt; end == Ok(Finish::Refused) && written.as_slice() == REFUSAL);
+    assert!(rt; place == Some(due));
+}
+
+#[test]
+fn refused_at_its_place(rt: HostRuntime) {
+    expect_refused(&rt, rt.alloc(), b"f(a,)", 4);
+}
+
+/// Stops where a failing read is told otherwise, or something was written.
+fn expect_unread(rt: &impl Abort, alloc: Global, number: usize) {
+    let mut input = failing("f(a)", number, ErrorKind::Other);
+    let mut out = taking(alloc);
+    let end = run_aterm_indented(alloc, &mut input, 1, &mut out);
+    assert!(rt; end == Err(LookFault::Read) && out.held.is_empty());
+}
+
+/// What is due for `f(a)` with one blank for each level.
+const DUE: &[u8] = b"f(\n a\n)\n";
+
+/// Stops where a failing write is told otherwise, or what was written is no front of what is due.
+fn expect_unwritten(rt: &impl Abort, alloc: Global, number: usize) {
+    let mut out = failing_at(alloc, number, Some(ErrorKind::Other));
+    let end = run_aterm_indented(alloc, &mut bytewise("f(a)"), 1, &mut out);
+    assert!(rt; end == Err(LookFault::Write));
+    assert!(rt; DUE.starts_with(out.held.as_slice()));
+    assert!(rt; out.held.len() == number.wrapping_sub(1));
+}
+
+#[test]
+fn each_call_fails(rt: HostRuntime) {
+    for number in 1..=5 {
+        expect_unread(&rt, rt.alloc(), number);
+    }
+    for number in 1..=8 {
+        expect_unwritten(&rt, rt.alloc(), number);
+    }
+}

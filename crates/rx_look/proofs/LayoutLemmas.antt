@@ -1,0 +1,306 @@
+-- What is left to do of a text over several lines.
+use Rattle.std.proofs.Common.{◌≡◌, ℕ, ◌+◌, ◌<◌, ◌≤◌, Bool, ◌&&◌, not, cond, List, [], ◌∷◌, ◌++◌, Option, Some, None, IsSome, IfSome, Result, Ok, Err, OnOk, refl, sym, ap, subst, ◌∙◌, append_assoc, append-nil, arith}
+use Rattle.std.specs.Prelude.{replicate, take, codes, vec_len}
+use Rattle.std.specs.Option.{option_and_then}
+use Rattle.std.specs.List.{AllByRecursion}
+use Rattle.std.specs.Io.KnownBytes.{Appends}
+use Rattle.std.proofs.lemmas.List.{replicate-append-replicate, take-replicate}
+use Rattle.rx_term.specs.Name.{is_empty}
+use Rattle.rx_term.specs.Tree.{Tree, Trees, none, more, Int, Appl, Items, Hole, annotations, list_of}
+use Rattle.rx_term.specs.Store.{Store, tree_at, signature_of, part_at, args_of, anns_of, list_unless_empty}
+use Rattle.rx_term.specs.Kinds.{HasKind, HasAppl, HasCons}
+use Rattle.rx_term.specs.declared.Term.{Term}
+use Rattle.rx_term.specs.declared.Symbol.{Symbol}
+use Rattle.rx_term.specs.declared.Kind.{Kind}
+use Rattle.rx_term.specs.declared.Kind.TheVariants as kind
+use Rattle.rx_text.specs.Jobs.{seen, IsList}
+use Rattle.rx_text.specs.Written.{AppendsFront}
+use Rattle.rx_text.specs.declared.faults.WriteFault.{WriteFault}
+use Rattle.rx_text.proofs.AppendingLemmas.{appends_both, appends_same, front_within}
+use Rattle.rx_look.specs.Laid.{between, laid, laid_at, laid_all}
+use Rattle.rx_look.specs.Layout.{Adds, IsBlank, IsJob, IsPiece, Keeps, Leaves, Spreads, arguments_laid, arguments_size, atom_text, body_laid, body_size, enclosing, job_text, job_at, jobs_size, jobs_text, notes_laid, piece_size, piece_text, room, size, sizes}
+use Rattle.rx_look.specs.declared.layout.Atom.TheVariants as atom
+use Rattle.rx_look.specs.declared.layout.Piece.{Piece}
+use Rattle.rx_look.specs.declared.layout.Piece.TheVariants as piece
+use Rattle.rx_look.specs.declared.layout.Job.{Job}
+use Rattle.rx_look.specs.declared.layout.Layout.{Layout}
+
+-- ---- in general
+
+All-append : {X : Type 0} (P : X → Type 0) (xs ys : List X) → AllByRecursion P xs → AllByRecursion P ys → AllByRecursion P (xs ++ ys)
+All-append P [] ys h k = k
+All-append P (x ∷ xs) ys h k = (h.0, All-append P xs ys h.1 k)
+
+All-split : {X : Type 0} (P : X → Type 0) (xs : List X) (x : X) → AllByRecursion P (xs ++ x ∷ []) → AllByRecursion P xs × P x
+All-split P [] x h = (tt, h.0)
+All-split P (y ∷ ys) x h = let k = All-split P ys x h.1 in ((h.0, k.0), k.1)
+
+-- a list with no first item
+no_items : (w : Store) (t : Term) (k : Kind) → HasKind w t k → IsList (tree_at w t) → (k ≡ kind.Cons → ⊥) → (anns : Trees) × (tree_at w t ≡ Some (Items none anns))
+no_items w t (kind.Int z) h l n = absurd (rw h.here at l)
+no_items w t kind.Nil h l n = (h.anns, h.here)
+no_items w t kind.Cons h l n = absurd (n refl)
+no_items w t (kind.Appl s) h l n = absurd (rw h.here at l)
+no_items w t kind.Hole h l n = absurd (rw h.here at l)
+
+-- ---- blanks
+
+-- a line's blanks
+pub blanks_taken : (l : Layout) (m : ℕ) → IsBlank l → m ≤ room l → take m l.blanks.items ≡ replicate m 32
+blanks_taken l m blank h = ap (take m) blank ∙ take-replicate m (room l) 32 h
+
+-- there are more of them
+pub blanks_more : (items longer : List ℕ) (a k : ℕ) → items ≡ replicate a 32 → longer ≡ items ++ replicate k 32 → longer ≡ replicate (a + k) 32
+blanks_more items longer a k e f = f ∙ ap (λ xs. xs ++ replicate k 32) e ∙ replicate-append-replicate a k 32
+
+Keeps-trans : {a b c : Layout} → Keeps a b → Keeps b c → Keeps a c
+Keeps-trans h k = let x = h.room in let y = k.room in record { indent = k.indent ∙ h.indent; room = omega (arith, x, y); blank = k.blank }
+
+-- ---- jobs
+
+jobs_wider : (w : Store) (js : List Job) (k l : ℕ) → k ≤ l → AllByRecursion (IsJob w k) js → AllByRecursion (IsJob w l) js
+jobs_wider w [] k l h all = tt
+jobs_wider w (j ∷ js) k l h all = let m = all.0.1 in ((all.0.0, omega (arith, h, m)), jobs_wider w js k l h all.1)
+
+jobs_text-append : (w : Store) (n : ℕ) (js ks : List Job) → jobs_text w n (js ++ ks) ≡ jobs_text w n ks ++ jobs_text w n js
+jobs_text-append w n [] ks = sym (append-nil (jobs_text w n ks))
+jobs_text-append w n (j ∷ js) ks = ap (λ xs. xs ++ job_text w n j) (jobs_text-append w n js ks) ∙ append_assoc (jobs_text w n ks) (jobs_text w n js) (job_text w n j)
+
+jobs_size-append : (w : Store) (js ks : List Job) → jobs_size w (js ++ ks) ≡ jobs_size w js + jobs_size w ks
+jobs_size-append w [] ks = omega arith
+jobs_size-append w (j ∷ js) ks = omega (arith, jobs_size-append w js ks)
+
+-- first the one text was left, and then another before it
+pub spreads_both : (w : Store) (whole first second : List ℕ) (space s t : ℕ) (old mid new : Layout) → Spreads w second s old mid → Spreads w first t mid new → whole ≡ first ++ second → s + t ≤ space + 1 → Spreads w whole space old new
+spreads_both w whole first second space s t old mid new a b e h =
+    let both = append_assoc old.jobs.items a.added b.added in
+    let x = a.less in
+    let y = b.less in
+    let z = jobs_size-append w a.added b.added in
+    let indent : mid.indent ≡ old.indent = a.adds.kept.indent in
+    record {
+      added = a.added ++ b.added;
+      adds = record { jobs = b.adds.jobs ∙ ap (λ js. js ++ b.added) a.adds.jobs ∙ both; kept = Keeps-trans a.adds.kept b.adds.kept };
+      text = e ∙ ap (λ xs. xs ++ second) (b.text ∙ ap (λ n. jobs_text w n b.added) indent) ∙ ap (λ xs. jobs_text w old.indent b.added ++ xs) a.text ∙ sym (jobs_text-append w old.indent a.added b.added);
+      jobs = All-append (IsJob w (room new)) a.added b.added (jobs_wider w a.added (room mid) (room new) b.adds.kept.room a.jobs) b.jobs;
+      less = omega (arith, x, y, z, h);
+    }
+
+-- one job was left
+pub spreads_one : (w : Store) (old new : Layout) (j : Job) → Adds (j ∷ []) old new → IsPiece w j.piece → j.margin ≤ room old → Spreads w (job_text w old.indent j) (piece_size w j.piece + 1) old new
+spreads_one w old new j h p m =
+    let r = h.kept.room in
+    record { added = j ∷ []; adds = h; text = refl; jobs = ((p, omega (arith, m, r)), tt); less = omega arith }
+
+-- nothing was left
+pub spreads_none : (w : Store) (whole : List ℕ) (space : ℕ) (old new : Layout) → Adds [] old new → whole ≡ [] → 0 < space → Spreads w whole space old new
+spreads_none w whole space old new h e s = record { added = []; adds = h; text = e; jobs = tt; less = s }
+
+-- a piece was left between two marks
+pub spreads_between : (w : Store) (whole : List ℕ) (space m left right : ℕ) (p : Piece) (old new : Layout) → Adds (enclosing old.indent m left p right) old new → m ≤ room old → m + old.indent ≤ room new → IsPiece w p
+    → whole ≡ between old.indent m left (piece_text w old.indent (m + old.indent) p) right → piece_size w p + 4 < space → Spreads w whole space old new
+spreads_between w whole space m left right p old new h at enough is e s =
+    let r = h.kept.room in
+    let near : m ≤ room new = omega (arith, at, r) in
+    record {
+      added = enclosing old.indent m left p right;
+      adds = h;
+      text = e;
+      jobs = ((tt, near), ((tt, near), ((is, enough), ((tt, enough), ((tt, near), tt)))));
+      less = omega (arith, s);
+    }
+
+-- ---- arguments
+
+module _ (w : Store) (t : Term) (s : Symbol) (h : HasAppl w t s) (n m : ℕ) where
+  -- with arguments
+  module _ (args : Term) (some : HasCons w args) (at_args : tree_at w args ≡ part_at args_of w t) where
+    pub arguments_text : seen [] (arguments_laid n m) (tree_at w t) ≡ between n m 40 (piece_text w n (m + n) (piece.Items args)) 41
+    arguments_text =
+        let here = h.here in
+        let there = some.here in
+        let e : h.args ≡ more some.first some.rest = (let f = rw (there, here) at at_args in cc f) in
+        rw (here, there, e) refl
+
+    pub arguments_less : piece_size w (piece.Items args) + 4 < seen 1 arguments_size (tree_at w t)
+    arguments_less =
+        let here = h.here in
+        let there = some.here in
+        let e : h.args ≡ more some.first some.rest = (let f = rw (there, here) at at_args in cc f) in
+        rw (here, there, e) (omega arith)
+
+    pub arguments_held : IsPiece w (piece.Items args)
+    arguments_held = let there = some.here in rw there tt
+
+  -- without
+  module _ (args : Term) (k : Kind) (is : HasKind w args k) (other : k ≡ kind.Cons → ⊥) (at_args : tree_at w args ≡ part_at args_of w t) where
+    args_none : h.args ≡ none
+    args_none =
+        let here = h.here in
+        let listed : tree_at w args ≡ Some (list_of h.args) = at_args ∙ rw here refl in
+        let e = no_items w args k is (rw listed tt) other in
+        let f : Some (list_of h.args) ≡ Some (Items none e.0) = sym listed ∙ e.1 in
+        cc f
+
+    pub constant_text : (b : Bool) → IfSome (signature_of w s) (λ g. b ≡ (is_empty g.name && not g.quoted)) → seen [] (arguments_laid n m) (tree_at w t) ≡ cond b (codes "()") []
+    constant_text b e =
+        let here = h.here in
+        let none_there = args_none in
+        let flag : b ≡ (is_empty h.name && not h.quoted) = (let sig = h.symbol in rw sig at e) in
+        rw (here, none_there, flag) refl
+
+    pub constant_less : 2 < seen 1 arguments_size (tree_at w t)
+    constant_less = let here = h.here in let none_there = args_none in rw (here, none_there) (omega arith)
+
+-- ---- applications
+
+module _ (w : Store) (t : Term) (s : Symbol) (h : HasAppl w t s) (n m : ℕ) where
+  pub application_text : seen [] (body_laid n m) (tree_at w t) ≡ atom_text w m (atom.Name s) ++ seen [] (arguments_laid n m) (tree_at w t)
+  application_text = let here = h.here in let sig = h.symbol in rw (here, sig) refl
+
+  pub application_size : seen 1 arguments_size (tree_at w t) + 2 ≤ seen 1 body_size (tree_at w t) + 1
+  application_size = let here = h.here in rw here (omega arith)
+
+  pub name_held : IsSome (signature_of w s)
+  name_held = let sig = h.symbol in rw sig refl
+
+-- its name was left before its arguments
+pub application_leaves : (r : Result (Unit {0}) WriteFault) (w : Store) (t : Term) (s : Symbol) (h : HasAppl w t s) (m : ℕ) (j : Job) (old mid new : Layout) → m ≤ room old → j ≡ job_at m (piece.Atom (atom.Name s))
+    → Spreads w (seen [] (arguments_laid old.indent m) (tree_at w t)) (seen 1 arguments_size (tree_at w t)) old mid → OnOk r (Adds (j ∷ []) mid new)
+    → OnOk r (Spreads w (seen [] (body_laid old.indent m) (tree_at w t)) (seen 1 body_size (tree_at w t)) old new)
+application_leaves (Err e) w t s h m j old mid new at is a b = tt
+application_leaves (Ok x) w t s h m j old mid new at is a b =
+    let k = a.adds.kept.room in
+    let named = job_at m (piece.Atom (atom.Name s)) in
+    let one = spreads_one w mid new named (subst (λ (i : Job). Adds (i ∷ []) mid new) is b) (name_held w t s h old.indent m) (omega (arith, at, k)) in
+    spreads_both w (seen [] (body_laid old.indent m) (tree_at w t)) (atom_text w m (atom.Name s)) (seen [] (arguments_laid old.indent m) (tree_at w t)) (seen 1 body_size (tree_at w t)) (seen 1 arguments_size (tree_at w t)) 2 old mid new a one (application_text w t s h old.indent m) (application_size w t s h old.indent m)
+
+-- ---- annotations
+
+notes_some : (n m : ℕ) (anns : Trees) (a : Option Tree) → a ≡ list_unless_empty anns → IsSome a → (notes_laid n m anns ≡ between n m 123 (laid_all n (m + n) anns) 125) × (a ≡ Some (list_of anns))
+notes_some n m none a e h = let k = rw e at h in absurd (cc k)
+notes_some n m (more v vs) a e h = (refl, e)
+
+-- the annotations of a tree, in braces
+pub record Noted (w : Store) (n m : ℕ) (o : Option Tree) (a : Term) : Type 0 where
+  pub text : seen [] (λ u. notes_laid n m (annotations u)) o ≡ between n m 123 (piece_text w n (m + n) (piece.Items a)) 125
+  pub held : IsPiece w (piece.Items a)
+  pub less : piece_size w (piece.Items a) + 4 < seen 1 (λ u. 5 + sizes (annotations u)) o
+
+pub notes_in : (w : Store) (n m : ℕ) (o : Option Tree) (a : Term) → IsSome (option_and_then anns_of o) → tree_at w a ≡ option_and_then anns_of o → Noted w n m o a
+notes_in w n m None a h e = absurd (cc h)
+notes_in w n m (Some u) a h e =
+    let k = notes_some n m (annotations u) (tree_at w a) e (rw e h) in
+    let there = k.1 in
+    record { text = k.0 ∙ rw there refl; held = rw there tt; less = rw there (omega arith) }
+
+notes_gone : (n m : ℕ) (anns : Trees) → list_unless_empty anns ≡ None → notes_laid n m anns ≡ []
+notes_gone n m none e = refl
+notes_gone n m (more v vs) e = absurd (cc e)
+
+pub no_notes_in : (n m : ℕ) (o : Option Tree) → option_and_then anns_of o ≡ None → (seen [] (λ u. notes_laid n m (annotations u)) o ≡ []) × (0 < seen 1 (λ u. 5 + sizes (annotations u)) o)
+no_notes_in n m None e = (refl, omega arith)
+no_notes_in n m (Some u) e = (notes_gone n m (annotations u) e, omega arith)
+
+-- ---- trees
+
+laid_parts : (n m : ℕ) (u : Tree) → laid_at n m u ≡ body_laid n m u ++ notes_laid n m (annotations u)
+laid_parts n m (Int z anns) = refl
+laid_parts n m (Appl name quoted args anns) = refl
+laid_parts n m (Items items anns) = refl
+laid_parts n m (Hole inner anns) = refl
+
+size_parts : (u : Tree) → body_size u + (5 + sizes (annotations u)) ≤ size u
+size_parts (Int z anns) = omega arith
+size_parts (Appl name quoted args anns) = omega arith
+size_parts (Items items anns) = omega arith
+size_parts (Hole inner anns) = omega arith
+
+pub tree_text : (n m : ℕ) (o : Option Tree) → seen [] (laid_at n m) o ≡ seen [] (body_laid n m) o ++ seen [] (λ u. notes_laid n m (annotations u)) o
+tree_text n m None = refl
+tree_text n m (Some u) = laid_parts n m u
+
+pub tree_size : (o : Option Tree) → IsSome o → (seen 1 (λ u. 5 + sizes (annotations u)) o + 1) + seen 1 body_size o ≤ seen 1 size o + 1
+tree_size None h = absurd (cc h)
+tree_size (Some u) h = let e = size_parts u in omega (arith, e)
+
+-- ---- the loop
+
+-- the parts of a job that was not written at once
+pub leaves_spread : (r : Result (Unit {0}) WriteFault) (w : Store) (whole : List ℕ) (space : ℕ) (bytes : Option (List ℕ)) (old new : Layout) → OnOk r (Spreads w whole space old new) → OnOk r (Leaves w whole space bytes bytes old new)
+leaves_spread (Ok x) w whole space bytes old new h = record { front = []; rest = whole; written = appends_same bytes; text = refl; spreads = h }
+leaves_spread (Err e) w whole space bytes old new h = tt
+
+-- and of one that was
+pub leaves_written : (r : Result (Unit {0}) WriteFault) (w : Store) (whole : List ℕ) (space : ℕ) (before after : Option (List ℕ)) (old new : Layout) → IsBlank new → new.indent ≡ old.indent → new.jobs.items ≡ old.jobs.items → room old ≤ room new → 0 < space → OnOk r (Appends before after whole) → OnOk r (Leaves w whole space before after old new)
+leaves_written (Err x) w whole space before after old new blank i e r less a = tt
+leaves_written (Ok x) w whole space before after old new blank i e r less a =
+    record {
+      front = whole;
+      rest = [];
+      written = a;
+      text = sym (append-nil whole);
+      spreads = record { added = []; adds = record { jobs = e ∙ sym (append-nil old.jobs.items); kept = record { indent = i; room = r; blank = blank } }; text = refl; jobs = tt; less = less };
+    }
+
+-- what was written, and the jobs that are left, are the whole text
+pub record Writing (w : Store) (n : ℕ) (whole : List ℕ) (old now : Option (List ℕ)) (left : Layout) : Type 0 where
+  pub front : List ℕ
+  pub written : Appends old now front
+  pub text : whole ≡ front ++ jobs_text w n left.jobs.items
+  pub jobs : AllByRecursion (IsJob w (room left)) left.jobs.items
+  pub indent : left.indent ≡ n
+  pub blank : IsBlank left
+
+-- one job was taken off
+module _ (w : Store) (n : ℕ) (whole : List ℕ) (old now : Option (List ℕ)) (layout left : Layout) (j : Job) (u : Writing w n whole old now layout) (popped : layout.jobs.items ≡ left.jobs.items ++ j ∷ []) (indent : left.indent ≡ layout.indent) (blanks : left.blanks ≡ layout.blanks) where
+  pub room_left : room left ≡ room layout
+  room_left = ap (λ b. vec_len b) blanks
+
+  pub blank_left : IsBlank left
+  blank_left = let b = u.blank in rw blanks b
+
+  pub indent_left : left.indent ≡ n
+  indent_left = indent ∙ u.indent
+
+  parts : whole ≡ u.front ++ (job_text w n j ++ jobs_text w n left.jobs.items)
+  parts = u.text ∙ ap (λ xs. u.front ++ xs) (ap (jobs_text w n) popped ∙ jobs_text-append w n left.jobs.items (j ∷ []))
+
+  jobs_are : AllByRecursion (IsJob w (room left)) left.jobs.items × IsJob w (room left) j
+  jobs_are = let all = u.jobs in All-split (IsJob w (room left)) left.jobs.items j (rw (room_left, ← popped) all)
+
+  pub job_left : IsJob w (room left) j
+  job_left = jobs_are.1
+
+  pub writing_on : (new : Option (List ℕ)) (after : Layout) → Leaves w (job_text w left.indent j) (piece_size w j.piece) now new left after → Writing w n whole old new after
+  writing_on new after l =
+      let rest : List ℕ = jobs_text w n left.jobs.items in
+      let s = l.spreads in
+      let kept = s.adds.kept in
+      let grown : jobs_text w n after.jobs.items ≡ jobs_text w n s.added ++ rest = ap (jobs_text w n) s.adds.jobs ∙ jobs_text-append w n left.jobs.items s.added in
+      let added : l.rest ≡ jobs_text w n s.added = s.text ∙ ap (λ k. jobs_text w k s.added) indent_left in
+      let stay = jobs_wider w left.jobs.items (room left) (room after) kept.room jobs_are.0 in
+      let jobs = s.adds.jobs in
+      record {
+        front = u.front ++ l.front;
+        written = appends_both old now new u.front l.front u.written l.written;
+        text = parts ∙ ap (λ xs. u.front ++ (xs ++ rest)) (ap (λ k. job_text w k j) (sym indent_left) ∙ l.text ∙ ap (λ xs. l.front ++ xs) added) ∙ ap (λ xs. u.front ++ xs) (append_assoc l.front (jobs_text w n s.added) rest) ∙ sym (append_assoc u.front l.front (jobs_text w n s.added ++ rest)) ∙ ap (λ xs. (u.front ++ l.front) ++ xs) (sym grown);
+        jobs = rw jobs (All-append (IsJob w (room after)) left.jobs.items s.added stay s.jobs);
+        indent = kept.indent ∙ indent_left;
+        blank = kept.blank;
+      }
+
+  pub less_left : (new : Option (List ℕ)) (after : Layout) → Leaves w (job_text w left.indent j) (piece_size w j.piece) now new left after → jobs_size w after.jobs.items < jobs_size w layout.jobs.items
+  less_left new after l =
+      let less = l.spreads.less in
+      let grown : jobs_size w after.jobs.items ≡ jobs_size w left.jobs.items + jobs_size w l.spreads.added = ap (jobs_size w) l.spreads.adds.jobs ∙ jobs_size-append w left.jobs.items l.spreads.added in
+      let before : jobs_size w layout.jobs.items ≡ jobs_size w left.jobs.items + (piece_size w j.piece + 0) = ap (jobs_size w) popped ∙ jobs_size-append w left.jobs.items (j ∷ []) in
+      omega (arith, less, grown, before)
+
+  pub writing_stopped : (new : Option (List ℕ)) → AppendsFront (job_text w left.indent j) now new → AppendsFront whole old new
+  writing_stopped new h = front_within old now new whole u.front (job_text w n j) (jobs_text w n left.jobs.items) parts u.written (subst (λ k. AppendsFront (job_text w k j) now new) indent_left h)
+
+-- of the text of the tree of a reference
+pub if_front : (n : ℕ) (o : Option Tree) (old new : Option (List ℕ)) → AppendsFront (seen [] (laid n) o) old new → IfSome o (λ u. AppendsFront (laid n u) old new)
+if_front n None old new h = tt
+if_front n (Some u) old new h = h

@@ -1,0 +1,5 @@
+pub mod CutLemmas
+pub mod LaidLemmas
+pub mod LayoutLemmas
+pub mod FaultLemmas
+mod LaidRows

@@ -1,0 +1,167 @@
+-- What is left to be written of a text over several lines: views of the writer's jobs.
+use Rattle.std.specs.Prelude.{◌≡◌, ℕ, ◌+◌, ◌<◌, ◌≤◌, List, [], ◌∷◌, ◌++◌, Option, IsSome, replicate}
+use Rattle.std.specs.Prelude.{vec_len}
+use Rattle.std.specs.List.{AllByRecursion}
+use Rattle.std.specs.Option.{option_map_or}
+use Rattle.std.specs.Fmt.{signed_decimal}
+use Rattle.std.specs.Io.KnownBytes.{Appends}
+use Rattle.rx_term.specs.Tree.{Tree, Trees, none, more, Int, Appl, Items, Hole, annotations, items_of}
+use Rattle.rx_term.specs.Store.{Store, tree_at, signature_of}
+use Rattle.rx_text.specs.Canon.{name_text, no_arguments}
+use Rattle.rx_text.specs.Jobs.{seen, IsList}
+use Rattle.rx_look.specs.Laid.{new_line, between, block, laid_at, laid_all, laid_others}
+use Rattle.rx_look.specs.declared.layout.Atom.{Atom}
+use Rattle.rx_look.specs.declared.layout.Atom.TheVariants as atom
+use Rattle.rx_look.specs.declared.layout.Piece.{Piece}
+use Rattle.rx_look.specs.declared.layout.Piece.TheVariants as piece
+use Rattle.rx_look.specs.declared.layout.Job.{Job}
+use Rattle.rx_look.specs.declared.layout.Layout.{Layout}
+
+-- the annotations of a tree on lines behind m blanks
+abbrev pub notes_laid : ℕ → ℕ → Trees → List ℕ
+notes_laid n m anns = block n m 123 anns (laid_all n (m + n) anns) 125 []
+
+-- a tree without its annotations
+abbrev pub body_laid : ℕ → ℕ → Tree → List ℕ
+body_laid n m (Int z anns) = signed_decimal z
+body_laid n m (Appl name quoted args anns) = name_text name quoted
+    ++ block n m 40 args (laid_all n (m + n) args) 41 (no_arguments name quoted)
+body_laid n m (Items items anns) = block n m 91 items (laid_all n (m + n) items) 93 (91 ∷ 93 ∷ [])
+body_laid n m (Hole inner anns) = between n m 60 (laid_at n (m + n) inner) 62
+
+-- the arguments of an application
+abbrev pub arguments_laid : ℕ → ℕ → Tree → List ℕ
+arguments_laid n m (Appl name quoted args anns) =
+    block n m 40 args (laid_all n (m + n) args) 41 (no_arguments name quoted)
+arguments_laid n m t = []
+
+-- the text of an atom
+abbrev pub atom_text : Store → ℕ → Atom → List ℕ
+atom_text w m (atom.Byte b) = b ∷ []
+atom_text w m (atom.Integer z) = signed_decimal z
+atom_text w m (atom.Name s) = option_map_or (λ g. name_text g.name g.quoted) (signature_of w s) []
+atom_text w m atom.Break = new_line m
+
+-- the text of a piece on lines behind m blanks
+abbrev pub piece_text : Store → ℕ → ℕ → Piece → List ℕ
+piece_text w n m (piece.Atom a) = atom_text w m a
+piece_text w n m (piece.Tree t) = seen [] (λ u. laid_at n m u) (tree_at w t)
+piece_text w n m (piece.Notes t) = seen [] (λ u. notes_laid n m (annotations u)) (tree_at w t)
+piece_text w n m (piece.Items t) = seen [] (λ u. laid_all n m (items_of u)) (tree_at w t)
+piece_text w n m (piece.Others t) = seen [] (λ u. laid_others n m (items_of u)) (tree_at w t)
+
+-- the text of a job
+abbrev pub job_text : Store → ℕ → Job → List ℕ
+job_text w n j = piece_text w n j.margin j.piece
+
+abbrev mutual
+  -- more than its parts together
+  pub size : Tree → ℕ
+  size (Int z anns) = 7 + sizes anns
+  size (Appl name quoted args anns) = 12 + sizes args + sizes anns
+  size (Items items anns) = 11 + sizes items + sizes anns
+  size (Hole inner anns) = 11 + size inner + sizes anns
+
+  pub sizes : Trees → ℕ
+  sizes none = 1
+  sizes (more t ts) = 3 + size t + sizes ts
+
+-- the same without annotations
+abbrev pub body_size : Tree → ℕ
+body_size (Int z anns) = 2
+body_size (Appl name quoted args anns) = 7 + sizes args
+body_size (Items items anns) = 6 + sizes items
+body_size (Hole inner anns) = 6 + size inner
+
+abbrev pub arguments_size : Tree → ℕ
+arguments_size (Appl name quoted args anns) = 5 + sizes args
+arguments_size t = 1
+
+-- how much there is to do
+abbrev pub piece_size : Store → Piece → ℕ
+piece_size w (piece.Atom a) = 1
+piece_size w (piece.Tree t) = seen 1 size (tree_at w t)
+piece_size w (piece.Notes t) = seen 1 (λ u. 5 + sizes (annotations u)) (tree_at w t)
+piece_size w (piece.Items t) = seen 1 (λ u. sizes (items_of u)) (tree_at w t)
+piece_size w (piece.Others t) = seen 1 (λ u. sizes (items_of u)) (tree_at w t)
+
+-- a name's symbol is there
+abbrev pub IsAtom : Store → Atom → Type 0
+IsAtom w (atom.Byte b) = Unit {0}
+IsAtom w (atom.Integer z) = Unit {0}
+IsAtom w (atom.Name s) = IsSome (signature_of w s)
+IsAtom w atom.Break = Unit {0}
+
+-- what it speaks of is there
+abbrev pub IsPiece : Store → Piece → Type 0
+IsPiece w (piece.Atom a) = IsAtom w a
+IsPiece w (piece.Tree t) = IsSome (tree_at w t)
+IsPiece w (piece.Notes t) = IsSome (tree_at w t)
+IsPiece w (piece.Items t) = IsList (tree_at w t)
+IsPiece w (piece.Others t) = IsList (tree_at w t)
+
+-- and there are enough blanks for it
+abbrev pub IsJob : Store → ℕ → Job → Type 0
+IsJob w room j = IsPiece w j.piece × (j.margin ≤ room)
+
+-- the text of jobs, of which the last is done first
+abbrev pub jobs_text : Store → ℕ → List Job → List ℕ
+jobs_text w n [] = []
+jobs_text w n (j ∷ js) = jobs_text w n js ++ job_text w n j
+
+abbrev pub jobs_size : Store → List Job → ℕ
+jobs_size w [] = 0
+jobs_size w (j ∷ js) = piece_size w j.piece + jobs_size w js
+
+-- how many blanks there are
+abbrev pub room : Layout → ℕ
+room l = vec_len l.blanks
+
+-- blanks are blanks
+abbrev pub IsBlank : Layout → Type 0
+IsBlank l = l.blanks.items ≡ replicate (room l) 32
+
+-- a level has as many blanks as before, and no line lost its own
+pub record Keeps (old new : Layout) : Type 0 where
+  pub indent : new.indent ≡ old.indent
+  pub room : room old ≤ room new
+  pub blank : IsBlank new
+
+-- the same jobs, and enough blanks for the next level
+pub record Deepens (margin : ℕ) (old new : Layout) (inner : ℕ) : Type 0 where
+  pub jobs : new.jobs.items ≡ old.jobs.items
+  pub kept : Keeps old new
+  pub deeper : inner ≡ margin + old.indent
+  pub within : inner ≤ room new
+
+-- so many jobs more
+pub record Adds (added : List Job) (old new : Layout) : Type 0 where
+  pub jobs : new.jobs.items ≡ old.jobs.items ++ added
+  pub kept : Keeps old new
+
+abbrev pub job_at : ℕ → Piece → Job
+job_at m p = record { piece = p; margin = m }
+
+-- a piece on lines of its own between two marks, the last job first
+abbrev pub enclosing : ℕ → ℕ → ℕ → Piece → ℕ → List Job
+enclosing n m left p right =
+    job_at m (piece.Atom (atom.Byte right)) ∷ job_at m (piece.Atom atom.Break)
+    ∷ job_at (m + n) p
+    ∷ job_at (m + n) (piece.Atom atom.Break) ∷ job_at m (piece.Atom (atom.Byte left)) ∷ []
+
+-- the jobs that were added are the text
+pub record Spreads (w : Store) (whole : List ℕ) (space : ℕ) (old new : Layout) : Type 0 where
+  pub added : List Job
+  pub adds : Adds added old new
+  pub text : whole ≡ jobs_text w old.indent added
+  pub jobs : AllByRecursion (IsJob w (room new)) added
+  pub less : jobs_size w added < space
+
+-- a front of the text was written, and the jobs that were added are the rest of it
+pub record Leaves (w : Store) (whole : List ℕ) (space : ℕ) (before after : Option (List ℕ))
+    (old new : Layout) : Type 0 where
+  pub front : List ℕ
+  pub rest : List ℕ
+  pub written : Appends before after front
+  pub text : whole ≡ front ++ rest
+  pub spreads : Spreads w rest space old new

@@ -1,0 +1,356 @@
+//! Printing the tree of a reference over several lines.
+
+ghost use Rattle.std.specs.Prelude.{◌≡◌, ◌≤◌, ◌+◌, [], IfSome, IsOkUnless, IsSome, OnErr, OnOk};
+ghost use Rattle.std.specs.Prelude.{length, replicate};
+ghost use Rattle.std.specs.Fmt.{signed_decimal};
+ghost use Rattle.std.specs.Io.KnownBytes.{Appends};
+ghost use Rattle.rx_term.specs.Kinds.{HasAppl};
+ghost use Rattle.rx_term.specs.Store.{tree_at};
+ghost use Rattle.rx_text.specs.Jobs.{seen};
+ghost use Rattle.rx_text.specs.Output.{IsSameOutput, IsWritable, TellsFault, TellsRefusal};
+ghost use Rattle.rx_text.specs.Output.{Writes, WritesFront, contents_of};
+ghost use Rattle.rx_text.specs.Written.{AppendsFront};
+ghost use Rattle.rx_look.specs.Laid.{laid, new_line};
+ghost use Rattle.rx_look.specs.Layout.{
+  IsAtom,
+  IsBlank,
+  IsJob,
+  IsPiece,
+  Leaves,
+  Spreads,
+  arguments_laid,
+  arguments_size,
+  atom_text,
+  body_laid,
+  body_size,
+  job_text,
+  piece_size,
+  piece_text,
+  room,
+};
+
+use crate::layout::{Atom, Job, Layout, Marks, Piece};
+use crate::naming::write_name;
+use itoa::Buffer;
+use rx_term::{Kind, Symbol, Term, TermBank};
+use rx_text::{Output, RefusedWrite, WriteFault};
+use std::alloc::Global;
+use std::io::Write;
+
+/// Writes a line feed, and the blanks of a line.
+fn write_break<W: Write>(blanks: &[u8], out: &mut Output<'_, W>) -> Result<(), RefusedWrite>
+    requires blank { blanks.now ≡ replicate (length blanks.now) 32 }
+    requires open { IsWritable out.old }
+    ensures written { OnOk result (Writes W.contents out.old out.new
+        (new_line (length blanks.now))) }
+    ensures front { OnErr result (WritesFront W.contents out.old out.new
+        (new_line (length blanks.now))) }
+    ensures same { IsSameOutput out.old out.new }
+    ensures cause { TellsRefusal out.new result }
+{
+    out.put(b"\n")?;
+    out.put(blanks)
+}
+
+/// Writes an integer.
+fn write_integer<W: Write>(value: i32, out: &mut Output<'_, W>) -> Result<(), RefusedWrite>
+    requires { IsWritable out.old }
+    ensures written { OnOk result (Writes W.contents out.old out.new (signed_decimal value)) }
+    ensures front { OnErr result (WritesFront W.contents out.old out.new (signed_decimal value)) }
+    ensures same { IsSameOutput out.old out.new }
+    ensures cause { TellsRefusal out.new result }
+{
+    let mut buffer = Buffer::new();
+    out.put(buffer.format(value).as_bytes())
+}
+
+/// Writes what is written at once; `blanks` are those of its line.
+fn write_atom<B: TermBank, W: Write>(
+    alloc: Global,
+    bank: &B,
+    atom: Atom,
+    blanks: &[u8],
+    out: &mut Output<'_, W>,
+) -> Result<(), WriteFault>
+    requires atom { IsAtom (B.store bank.now) atom }
+    requires blank { blanks.now ≡ replicate (length blanks.now) 32 }
+    requires open { IsWritable out.old }
+    ensures written { OnOk result (Writes W.contents out.old out.new
+        (atom_text (B.store bank.now) (length blanks.now) atom)) }
+    ensures front { OnErr result (WritesFront W.contents out.old out.new
+        (atom_text (B.store bank.now) (length blanks.now) atom)) }
+    ensures same { IsSameOutput out.old out.new }
+    ensures cause { TellsFault out.new result }
+{
+    match atom {
+        Atom::Byte(byte) => Ok(out.put(&[byte])?),
+        Atom::Integer(value) => Ok(write_integer(value, out)?),
+        Atom::Name(symbol) => {
+            write_name(alloc, bank.name_of(symbol), bank.quoted_of(symbol), out)
+        }
+        Atom::Break => Ok(write_break(blanks, out)?),
+    }
+}
+
+/// Leaves the arguments of an application, in parentheses, or what stands in their place.
+fn spread_arguments<B: TermBank>(
+    bank: &B,
+    term: Term,
+    symbol: Symbol,
+    margin: usize,
+    layout: &mut Layout,
+) -> Result<(), WriteFault>
+    requires job { HasAppl (B.store bank.now) term symbol }
+    requires within { margin ≤ room layout.old }
+    requires blank { IsBlank layout.old }
+    ensures spread { OnOk result (Spreads (B.store bank.now)
+        (seen [] (arguments_laid layout.old.indent margin) (tree_at (B.store bank.now) term))
+        (seen 1 arguments_size (tree_at (B.store bank.now) term)) layout.old layout.new) }
+    ensures memory { IsOkUnless result WriteFault.Memory }
+{
+    let args = bank.args(term);
+    if let Kind::Cons = bank.kind(args) {
+        layout.enclose(Marks(b'(', b')'), Piece::Items(args), margin)
+    } else if bank.name_of(symbol).is_empty() && !bank.quoted_of(symbol) {
+        layout.leave(&[
+            Job::atom(Atom::Byte(b')'), margin),
+            Job::atom(Atom::Byte(b'('), margin),
+        ])
+    } else {
+        layout.leave(&[])
+    }
+}
+
+/// Leaves an application without its annotations.
+fn spread_application<B: TermBank>(
+    bank: &B,
+    term: Term,
+    symbol: Symbol,
+    margin: usize,
+    layout: &mut Layout,
+) -> Result<(), WriteFault>
+    requires job { HasAppl (B.store bank.now) term symbol }
+    requires within { margin ≤ room layout.old }
+    requires blank { IsBlank layout.old }
+    ensures spread { OnOk result (Spreads (B.store bank.now)
+        (seen [] (body_laid layout.old.indent margin) (tree_at (B.store bank.now) term))
+        (seen 1 body_size (tree_at (B.store bank.now) term)) layout.old layout.new) }
+    ensures memory { IsOkUnless result WriteFault.Memory }
+{
+    spread_arguments(bank, term, symbol, margin, layout)?;
+    layout.leave(&[Job::atom(Atom::Name(symbol), margin)])
+}
+
+/// Leaves a tree without its annotations.
+fn spread_body<B: TermBank>(
+    bank: &B,
+    term: Term,
+    margin: usize,
+    layout: &mut Layout,
+) -> Result<(), WriteFault>
+    requires job { IsSome (tree_at (B.store bank.now) term) }
+    requires within { margin ≤ room layout.old }
+    requires blank { IsBlank layout.old }
+    ensures spread { OnOk result (Spreads (B.store bank.now)
+        (seen [] (body_laid layout.old.indent margin) (tree_at (B.store bank.now) term))
+        (seen 1 body_size (tree_at (B.store bank.now) term)) layout.old layout.new) }
+    ensures memory { IsOkUnless result WriteFault.Memory }
+{
+    match bank.kind(term) {
+        Kind::Int(value) => layout.leave(&[Job::atom(Atom::Integer(value), margin)]),
+        Kind::Nil => layout.leave(&[
+            Job::atom(Atom::Byte(b']'), margin),
+            Job::atom(Atom::Byte(b'['), margin),
+        ]),
+        Kind::Cons => layout.enclose(Marks(b'[', b']'), Piece::Items(term), margin),
+        Kind::Appl(symbol) => spread_application(bank, term, symbol, margin, layout),
+        Kind::Hole => {
+            let inner = bank.inner(term);
+            layout.enclose(Marks(b'<', b'>'), Piece::Tree(inner), margin)
+        }
+    }
+}
+
+/// Leaves a tree, and behind it its annotations.
+fn spread_tree<B: TermBank>(
+    bank: &B,
+    term: Term,
+    margin: usize,
+    layout: &mut Layout,
+) -> Result<(), WriteFault>
+    requires job { IsPiece (B.store bank.now) (Piece.Tree term) }
+    requires within { margin ≤ room layout.old }
+    requires blank { IsBlank layout.old }
+    ensures spread { OnOk result (Spreads (B.store bank.now)
+        (piece_text (B.store bank.now) layout.old.indent margin (Piece.Tree term))
+        (piece_size (B.store bank.now) (Piece.Tree term)) layout.old layout.new) }
+    ensures memory { IsOkUnless result WriteFault.Memory }
+{
+    let piece = Piece::Notes(term);
+    layout.leave(&[Job { piece, margin }])?;
+    spread_body(bank, term, margin, layout)
+}
+
+/// Leaves the annotations of a tree, in braces, where it has any.
+fn spread_notes<B: TermBank>(
+    bank: &B,
+    term: Term,
+    margin: usize,
+    layout: &mut Layout,
+) -> Result<(), WriteFault>
+    requires job { IsPiece (B.store bank.now) (Piece.Notes term) }
+    requires within { margin ≤ room layout.old }
+    requires blank { IsBlank layout.old }
+    ensures spread { OnOk result (Spreads (B.store bank.now)
+        (piece_text (B.store bank.now) layout.old.indent margin (Piece.Notes term))
+        (piece_size (B.store bank.now) (Piece.Notes term)) layout.old layout.new) }
+    ensures memory { IsOkUnless result WriteFault.Memory }
+{
+    match bank.anns(term) {
+        Some(anns) => layout.enclose(Marks(b'{', b'}'), Piece::Items(anns), margin),
+        None => layout.leave(&[]),
+    }
+}
+
+/// Leaves the items of a list, with commas between.
+fn spread_items<B: TermBank>(
+    bank: &B,
+    list: Term,
+    margin: usize,
+    layout: &mut Layout,
+) -> Result<(), WriteFault>
+    requires job { IsPiece (B.store bank.now) (Piece.Items list) }
+    requires within { margin ≤ room layout.old }
+    requires blank { IsBlank layout.old }
+    ensures spread { OnOk result (Spreads (B.store bank.now)
+        (piece_text (B.store bank.now) layout.old.indent margin (Piece.Items list))
+        (piece_size (B.store bank.now) (Piece.Items list)) layout.old layout.new) }
+    ensures memory { IsOkUnless result WriteFault.Memory }
+{
+    if let Kind::Cons = bank.kind(list) {
+        let first = Piece::Tree(bank.head(list));
+        let others = Piece::Others(bank.tail(list));
+        layout.leave(&[
+            Job {
+                piece: others,
+                margin,
+            },
+            Job {
+                piece: first,
+                margin,
+            },
+        ])
+    } else {
+        layout.leave(&[])
+    }
+}
+
+/// Leaves the items of a list, each behind a comma on a line of its own.
+fn spread_others<B: TermBank>(
+    bank: &B,
+    list: Term,
+    margin: usize,
+    layout: &mut Layout,
+) -> Result<(), WriteFault>
+    requires job { IsPiece (B.store bank.now) (Piece.Others list) }
+    requires within { margin ≤ room layout.old }
+    requires blank { IsBlank layout.old }
+    ensures spread { OnOk result (Spreads (B.store bank.now)
+        (piece_text (B.store bank.now) layout.old.indent margin (Piece.Others list))
+        (piece_size (B.store bank.now) (Piece.Others list)) layout.old layout.new) }
+    ensures memory { IsOkUnless result WriteFault.Memory }
+{
+    if let Kind::Cons = bank.kind(list) {
+        let first = Piece::Tree(bank.head(list));
+        let others = Piece::Others(bank.tail(list));
+        layout.leave(&[
+            Job {
+                piece: others,
+                margin,
+            },
+            Job {
+                piece: first,
+                margin,
+            },
+            Job::atom(Atom::Break, margin),
+            Job::atom(Atom::Byte(b','), margin),
+        ])
+    } else {
+        layout.leave(&[])
+    }
+}
+
+/// Does the front of a job; the rest of it is left to do.
+fn write_job<B: TermBank, W: Write>(
+    alloc: Global,
+    bank: &B,
+    job: Job,
+    layout: &mut Layout,
+    out: &mut Output<'_, W>,
+) -> Result<(), WriteFault>
+    requires job { IsJob (B.store bank.now) (room layout.old) job }
+    requires blank { IsBlank layout.old }
+    requires open { IsWritable out.old }
+    ensures written { OnOk result (Leaves (B.store bank.now)
+        (job_text (B.store bank.now) layout.old.indent job)
+        (piece_size (B.store bank.now) job.piece)
+        (contents_of W.contents out.old) (contents_of W.contents out.new) layout.old layout.new) }
+    ensures front { OnErr result (WritesFront W.contents out.old out.new
+        (job_text (B.store bank.now) layout.old.indent job)) }
+    ensures same { IsSameOutput out.old out.new }
+    ensures cause { TellsFault out.new result }
+{
+    match job.piece {
+        Piece::Atom(atom) => write_atom(alloc, bank, atom, &layout.blanks[..job.margin], out),
+        Piece::Tree(term) => spread_tree(bank, term, job.margin, layout),
+        Piece::Notes(term) => spread_notes(bank, term, job.margin, layout),
+        Piece::Items(list) => spread_items(bank, list, job.margin, layout),
+        Piece::Others(list) => spread_others(bank, list, job.margin, layout),
+    }
+}
+
+/// Prints the tree of a reference over several lines: behind each opening mark and each comma, and
+/// before each closing mark, stands a line feed, and `indent` blanks for each level behind it. An
+/// empty list and a name without arguments stay as they are.
+pub fn write_indented<B: TermBank, W: Write>(
+    alloc: Global,
+    bank: &B,
+    t: Term,
+    indent: u8,
+    out: &mut W,
+) -> Result<(), WriteFault>
+    requires { IsSome (tree_at (B.store bank.now) t) }
+    ensures written { OnOk result (IfSome (tree_at (B.store bank.now) t)
+        (λ u. Appends (W.contents out.old) (W.contents out.new) (laid indent u))) }
+    ensures front { OnErr result (IfSome (tree_at (B.store bank.now) t)
+        (λ u. AppendsFront (laid indent u) (W.contents out.old) (W.contents out.new))) }
+{
+    let mut output = Output::new(out);
+    write_indented_to(alloc, bank, t, indent, &mut output)
+}
+
+/// The same into a writer that may have been written to. It is asked no more once it refused.
+pub fn write_indented_to<B: TermBank, W: Write>(
+    alloc: Global,
+    bank: &B,
+    t: Term,
+    indent: u8,
+    out: &mut Output<'_, W>,
+) -> Result<(), WriteFault>
+    requires held { IsSome (tree_at (B.store bank.now) t) }
+    requires open { IsWritable out.old }
+    ensures written { OnOk result (IfSome (tree_at (B.store bank.now) t)
+        (λ u. Writes W.contents out.old out.new (laid indent u))) }
+    ensures front { OnErr result (IfSome (tree_at (B.store bank.now) t)
+        (λ u. WritesFront W.contents out.old out.new (laid indent u))) }
+    ensures same { IsSameOutput out.old out.new }
+    ensures cause { TellsFault out.new result }
+{
+    let mut layout = Layout::new(alloc, indent);
+    let piece = Piece::Tree(t);
+    layout.leave(&[Job { piece, margin: 0 }])?;
+    while let Some(job) = layout.jobs.pop() {
+        write_job(alloc, bank, job, &mut layout, out)?;
+    }
+    Ok(())
+}

@@ -1,0 +1,208 @@
+//! Runs on the text of one term: printing it over several lines.
+
+ghost use Rattle.std.specs.Prelude.{◌≡◌, None, IfErr, IfOk, IsSome, OnErr, OnOk};
+ghost use Rattle.rx_term.specs.Store.{tree_at};
+ghost use Rattle.rx_text.specs.Input.{IsReadable, IsSameInput, remaining_in};
+ghost use Rattle.rx_text.specs.Output.{IsSameOutput, IsWritable, Writes, contents_of};
+ghost use Rattle.rx_run.specs.Run.{EndsFor, IsPlacedFor, IsReadOut};
+ghost use Rattle.rx_run.specs.TermRuns.{IsTermHeld, due_at, lines_at};
+ghost use Rattle.rx_look.specs.Due.{IsIndentedDue, indented_lines};
+ghost use Rattle.rx_look.specs.Faults.{BreaksFor, Stops, StopsWriting, TellsRead, TellsWrite};
+
+use crate::ending::LookFault;
+use crate::indented::write_indented_to;
+use crate::reading::read_term;
+use rx_run::{Finish, MOST_CELLS, Place, Reading, empty_bank, write_refusal_to};
+use rx_term::{Term, TermBank};
+use rx_text::{Input, Output};
+use std::alloc::Global;
+use std::io::{Read, Write};
+
+/// Reads the text of a term, writes its text over several lines, with so many blanks for each
+/// level, and a line end, and flushes; or the line of its refusal. What a fault leaves of the
+/// reader is open.
+pub fn run_aterm_indented<R: Read, W: Write>(
+    alloc: Global,
+    input: &mut R,
+    indent: u8,
+    out: &mut W,
+) -> Result<Finish, LookFault>
+    ensures output { IfOk result (λ finish. EndsFor (IsIndentedDue indent) (R.remaining input.old)
+        finish (W.contents out.old) (W.contents out.new)) }
+    ensures fault { IfErr result (λ fault. BreaksFor (IsIndentedDue indent) (R.remaining input.old)
+        fault (W.contents out.old) (W.contents out.new)) }
+    ensures input_read { OnOk result (IsReadOut (R.remaining input.old) (R.remaining input.new)) }
+{
+    let mut place = None;
+    run_aterm_indented_at(alloc, input, indent, out, &mut place)
+}
+
+/// The same, with the place of the refusal that was written.
+pub fn run_aterm_indented_at<R: Read, W: Write>(
+    alloc: Global,
+    input: &mut R,
+    indent: u8,
+    out: &mut W,
+    place: &mut Option<Place>,
+) -> Result<Finish, LookFault>
+    ensures output { IfOk result (λ finish. EndsFor (IsIndentedDue indent) (R.remaining input.old)
+        finish (W.contents out.old) (W.contents out.new)) }
+    ensures place { OnOk result
+        (IsPlacedFor (IsIndentedDue indent) (R.remaining input.old) place.new) }
+    ensures fault { IfErr result (λ fault. BreaksFor (IsIndentedDue indent) (R.remaining input.old)
+        fault (W.contents out.old) (W.contents out.new)) }
+    ensures no_place { OnErr result (place.new ≡ None) }
+    ensures input_read { OnOk result (IsReadOut (R.remaining input.old) (R.remaining input.new)) }
+{
+    let mut input = Input::new(input);
+    let mut output = Output::new(out);
+    run_on_term(alloc, &mut input, indent, &mut output, place)
+}
+
+/// The same from an input to an output. These are asked no more once they refused.
+fn run_on_term<R: Read, W: Write>(
+    alloc: Global,
+    input: &mut Input<'_, R>,
+    indent: u8,
+    out: &mut Output<'_, W>,
+    place: &mut Option<Place>,
+) -> Result<Finish, LookFault>
+    requires readable { IsReadable input.old }
+    requires writable { IsWritable out.old }
+    ensures output { IfOk result (λ finish. EndsFor (IsIndentedDue indent)
+        (remaining_in R.remaining input.old) finish (contents_of W.contents out.old)
+        (contents_of W.contents out.new)) }
+    ensures place { OnOk result
+        (IsPlacedFor (IsIndentedDue indent) (remaining_in R.remaining input.old) place.new) }
+    ensures fault { IfErr result (λ fault. BreaksFor (IsIndentedDue indent)
+        (remaining_in R.remaining input.old) fault (contents_of W.contents out.old)
+        (contents_of W.contents out.new)) }
+    ensures no_place { OnErr result (place.new ≡ None) }
+    ensures input_read { OnOk result (IsReadOut (remaining_in R.remaining input.old)
+        (remaining_in R.remaining input.new)) }
+    ensures same_input { IsSameInput input.old input.new }
+    ensures same_output { IsSameOutput out.old out.new }
+    ensures read_cause { TellsRead input.new result }
+    ensures write_cause { TellsWrite out.new result }
+{
+    *place = None;
+    match empty_bank(alloc, MOST_CELLS) {
+        Ok(bank) => run_owned(alloc, bank, input, indent, out, place),
+        Err(_) => Err(LookFault::Memory),
+    }
+}
+
+/// The same over a bank of its own.
+fn run_owned<B: TermBank + Drop, R: Read, W: Write>(
+    alloc: Global,
+    mut bank: B,
+    input: &mut Input<'_, R>,
+    indent: u8,
+    out: &mut Output<'_, W>,
+    place: &mut Option<Place>,
+) -> Result<Finish, LookFault>
+    requires readable { IsReadable input.old }
+    requires writable { IsWritable out.old }
+    ensures output { IfOk result (λ finish. EndsFor (IsIndentedDue indent)
+        (remaining_in R.remaining input.old) finish (contents_of W.contents out.old)
+        (contents_of W.contents out.new)) }
+    ensures place { OnOk result
+        (IsPlacedFor (IsIndentedDue indent) (remaining_in R.remaining input.old) place.new) }
+    ensures fault { IfErr result (λ fault. BreaksFor (IsIndentedDue indent)
+        (remaining_in R.remaining input.old) fault (contents_of W.contents out.old)
+        (contents_of W.contents out.new)) }
+    ensures no_place { OnErr result (place.new ≡ None) }
+    ensures input_read { OnOk result (IsReadOut (remaining_in R.remaining input.old)
+        (remaining_in R.remaining input.new)) }
+    ensures same_input { IsSameInput input.old input.new }
+    ensures same_output { IsSameOutput out.old out.new }
+    ensures read_cause { TellsRead input.new result }
+    ensures write_cause { TellsWrite out.new result }
+{
+    run_over(alloc, &mut bank, input, indent, out, place)
+}
+
+/// The same over a bank.
+fn run_over<B: TermBank, R: Read, W: Write>(
+    alloc: Global,
+    bank: &mut B,
+    input: &mut Input<'_, R>,
+    indent: u8,
+    out: &mut Output<'_, W>,
+    place: &mut Option<Place>,
+) -> Result<Finish, LookFault>
+    requires readable { IsReadable input.old }
+    requires writable { IsWritable out.old }
+    ensures output { IfOk result (λ finish. EndsFor (IsIndentedDue indent)
+        (remaining_in R.remaining input.old) finish (contents_of W.contents out.old)
+        (contents_of W.contents out.new)) }
+    ensures place { OnOk result
+        (IsPlacedFor (IsIndentedDue indent) (remaining_in R.remaining input.old) place.new) }
+    ensures fault { IfErr result (λ fault. BreaksFor (IsIndentedDue indent)
+        (remaining_in R.remaining input.old) fault (contents_of W.contents out.old)
+        (contents_of W.contents out.new)) }
+    ensures no_place { OnErr result (place.new ≡ None) }
+    ensures input_read { OnOk result (IsReadOut (remaining_in R.remaining input.old)
+        (remaining_in R.remaining input.new)) }
+    ensures same_input { IsSameInput input.old input.new }
+    ensures same_output { IsSameOutput out.old out.new }
+    ensures read_cause { TellsRead input.new result }
+    ensures write_cause { TellsWrite out.new result }
+{
+    *place = None;
+    let reading = read_term(alloc, input, bank)?;
+    write_due(alloc, bank, &reading, indent, out)?;
+    out.flush()?;
+    *place = reading.place();
+    Ok(reading.finish())
+}
+
+/// Writes what is due for what a text came to.
+fn write_due<B: TermBank, W: Write>(
+    alloc: Global,
+    bank: &B,
+    reading: &Reading<Term>,
+    indent: u8,
+    out: &mut Output<'_, W>,
+) -> Result<(), LookFault>
+    requires held { IsTermHeld (B.store bank.now) reading.now }
+    requires open { IsWritable out.old }
+    ensures ok { OnOk result (Writes W.contents out.old out.new
+        (due_at (indented_lines indent) (B.store bank.now) reading.now).text) }
+    ensures err { IfErr result (λ fault.
+        Stops fault (due_at (indented_lines indent) (B.store bank.now) reading.now).text
+        (contents_of W.contents out.old) (contents_of W.contents out.new)) }
+    ensures writing { IfErr result StopsWriting }
+    ensures same { IsSameOutput out.old out.new }
+    ensures cause { TellsWrite out.new result }
+{
+    match reading {
+        Reading::Refused(refusal) => write_refusal_to(*refusal, out)?,
+        Reading::Good(t) => write_lines(alloc, bank, *t, indent, out)?,
+    }
+    Ok(())
+}
+
+/// Writes the text of a term over several lines, and a line end.
+fn write_lines<B: TermBank, W: Write>(
+    alloc: Global,
+    bank: &B,
+    t: Term,
+    indent: u8,
+    out: &mut Output<'_, W>,
+) -> Result<(), LookFault>
+    requires held { IsSome (tree_at (B.store bank.now) t) }
+    requires open { IsWritable out.old }
+    ensures ok { OnOk result (Writes W.contents out.old out.new
+        (lines_at (indented_lines indent) (B.store bank.now) t)) }
+    ensures err { IfErr result
+        (λ fault. Stops fault (lines_at (indented_lines indent) (B.store bank.now) t)
+        (contents_of W.contents out.old) (contents_of W.contents out.new)) }
+    ensures writing { IfErr result StopsWriting }
+    ensures same { IsSameOutput out.old out.new }
+    ensures cause { TellsWrite out.new result }
+{
+    write_indented_to(alloc, bank, t, indent, out)?;
+    out.put(b"\n")?;
+    Ok(())
+}

@@ -1,0 +1,115 @@
+"""Checks of specifications: every place is told, texts of great length and depth, refused memory, streams that fail."""
+
+import time
+
+from attempts import EXAMPLES, NO_MEMORY, NO_READ, NO_WRITE, at_stack, check, check_long, recw, room, run, write_file
+from common import TOP, program
+from refuse import answer, is_allowed
+
+# Specifications of examples/check with the lines of their checks, and the status with --strict, by docs/FORMATS.md.
+WORKED = {
+    "unused": (0, (
+        "2:11: W4: never used: no symbol and no variable has this sort: Bool",
+        "6:3: W4: never used: a symbol of no rule and of no term: minus",
+        "8:7: W4: never used: a variable of no rule: Z",
+    )),
+    "broken": (1, (
+        "7:8: S5: a word is neither a symbol nor a variable: zero",
+        "8:21: S5: a word is neither a symbol nor a variable: add",
+        "10:10: S5: a word is neither a symbol nor a variable: zero",
+    )),
+}
+
+
+def lines_of(name):
+    return "".join(f"{name}:{line}\n" for line in WORKED[name.rsplit('/')[-1][:-4]][1])
+
+
+def try_worked():
+    for name, (status, _) in WORKED.items():
+        file = f"check/{name}.rec"
+        check(f"check {file}", (status, lines_of(file), ""), recw("check", file))
+        check(f"check --strict {file}", (1, lines_of(file), ""), recw("check", "--strict", file))
+    both = ("check/unused.rec", "add.rec", "check/broken.rec")
+    check("check of several", (1, lines_of(both[0]) + lines_of(both[2]), ""), recw("check", *both))
+    check("check of a good one", (0, "", ""), recw("check", "--strict", "add.rec"))
+    text = open(f"{TOP}/examples/check/unused.rec", encoding="ascii").read()
+    due = lines_of("check/unused.rec").replace("check/unused.rec", "<stdin>")
+    check("check of standard input", (0, due, ""), recw("check", "-", input=text))
+    check("check without a file", 2, recw("check")[0])
+    check("check of standard input twice", 2, recw("check", "-", "-")[0])
+
+
+def try_cut():
+    """Each beginning of a specification is outside the grammar at its end, or at a word that is cut."""
+    text = open(f"{TOP}/examples/add.rec", encoding="ascii").read().strip()
+    for end in range(len(text)):
+        status, out, err = recw("check", "-", input=text[:end])
+        check(f"check of the first {end} bytes of add.rec", (1, 1, ""), (status, out.count("\n"), err))
+        check(f"the line of the first {end} bytes", True, out.startswith("<stdin>:") and out.endswith(": G: no specification has this here\n"))
+
+
+def rules(count):
+    """A specification of so many rules for as many symbols, each of which is used."""
+    names = range(count)
+    return "\n".join((
+        "REC-SPEC Many SORTS A CONS a : -> A b : A -> A OPNS",
+        *(f"f{it} : A A -> A" for it in names),
+        "VARS X Y : A RULES",
+        *(f"f{it}(b(X),Y) -> f{(it + 1) % count}(X,b(Y))" for it in names),
+        "EVAL f0(b(a),a) END-SPEC",
+    ))
+
+
+def try_great():
+    """Many rules, great depth and many places."""
+    with room() as at:
+        file = write_file(f"{at}/many.rec", rules(2000))
+        start = time.monotonic()
+        check("check of 2,000 rules", (0, "", ""), recw("check", file))
+        check("2,000 rules in under a second", True, time.monotonic() - start < 1)
+        depth = 1_000_000
+        deep = f"REC-SPEC D SORTS A CONS a : -> A OPNS f : A -> A VARS X : A RULES f(X) -> X EVAL {'f(' * depth}Y{')' * depth} END-SPEC"
+        line = f"deep.rec:1:{deep.index('Y') + 1}: S5: a word is neither a symbol nor a variable: Y\n"
+        write_file(f"{at}/deep.rec", deep)
+        for kib in (8192, 256):
+            found = run(program(), "check", "deep.rec", before=at_stack(kib), cwd=at)
+            check_long(f"check at depth {depth} on a stack of {kib} KiB", (1, line, ""), found)
+        wide = f"REC-SPEC W SORTS A CONS a : -> A OPNS VARS RULES EVAL\n{'b ' * 200_000}END-SPEC"
+        write_file(f"{at}/wide.rec", wide)
+        due = "".join(f"wide.rec:2:{2 * it + 1}: S5: a word is neither a symbol nor a variable: b\n" for it in range(200_000))
+        check_long("check of 200,000 places", (1, due, ""), run(program(), "check", "wide.rec", cwd=at))
+
+
+def try_streams():
+    check("check of no file", NO_READ, recw("check", "none.rec")[::2])
+    check("check of a folder", NO_READ, recw("check", ".")[::2])
+    found = recw("check", "check/unused.rec", "none.rec", "check/broken.rec")
+    check("check stops at a file that is not there", (4, lines_of("check/unused.rec"), NO_READ[1]), found)
+    full = run("sh", "-c", f'exec "{program()}" check check/broken.rec >/dev/full')
+    check("check onto a full device", NO_WRITE, full[::2])
+
+
+def try_refused():
+    """Each request for memory is refused in turn: nothing is written, or all."""
+    total = 0
+    for name, (status, _) in WORKED.items():
+        words = [program(), "check", f"check/{name}.rec"]
+        allowed = ((status, "", lines_of(words[2])), (*NO_MEMORY, ""))
+        for request, count in answer(words, EXAMPLES)["counts"].items():
+            total += count
+            for number in range(1, count + 1):
+                it = answer(words, EXAMPLES, (request, number))
+                found = (it["status"], it["err"], it["out"])
+                check(f"check of {name}: {request} {number} refused: {found}", True, found in allowed)
+    return total
+
+
+def try_checks():
+    """How many requests for memory were refused."""
+    for group in (try_worked, try_cut, try_great, try_streams):
+        group()
+    if not is_allowed():
+        print("not tried: checks without memory: no program can be traced here")
+        return 0
+    return try_refused()

@@ -1,0 +1,192 @@
+#!/usr/bin/env -S python3 -B
+"""Tries the page of web/: web.py [PROGRAM [PART..]].
+
+    heap        random requests of the module's heap beside a model, and its helpers beside the C library's
+    colours     each colour of a text beside what is behind it: a contrast of 4.5 at least, by day and by night
+    module      the page's module beside the program: examples, refused texts, 300 random specifications
+    browser     Chromium goes through the page; `browser=FOLDER` leaves pictures there
+
+Without words these are all. What a command or the page is missing for is passed over, and said.
+"""
+
+import base64
+import glob
+import json
+import os
+import re
+import shutil
+import subprocess
+import sys
+import tempfile
+
+import specifications
+import web_browser
+from common import TOP, done, program, quoted, same, text_of
+
+PAGE = f"{TOP}/web/out/recw.html"
+USUAL = {"steps": 1000000, "cells": 16777216, "count": True}
+
+
+def is_there(part, *commands):
+    """Whether there are these commands; which one is missing is said."""
+    missing = [it for it in commands if shutil.which(it) is None]
+    if missing:
+        print(f"not tried: {part}, since there is no {missing[0]}")
+    return not missing
+
+
+def has_page(part):
+    """Whether the page is there, and made of what stands here."""
+    sources = [it for it in glob.glob(f"{TOP}/web/*") if os.path.isfile(it)]
+    sources += glob.glob(f"{TOP}/crates/r[ex]*/src/**/*.rt", recursive=True)
+    if not os.path.exists(PAGE):
+        print(f"not tried: {part}, since web/build did not make the page here")
+        return False
+    newer = [it for it in sources if os.path.getmtime(it) > os.path.getmtime(PAGE)]
+    if newer:
+        print(f"not tried: {part}, since {os.path.relpath(newer[0], TOP)} is newer than the page")
+    return not newer
+
+
+def heap():
+    if not is_there("the heap", "cc"):
+        return
+    words = ["-std=gnu11", "-Wall", "-Wextra", "-Werror", "-O1", "-fsanitize=undefined", "-fno-sanitize-recover=all"]
+    with tempfile.TemporaryDirectory() as folder:
+        for it in ("heap_test", "helpers_test"):
+            subprocess.run(["cc", *words, "-o", f"{folder}/{it}", f"{TOP}/web/{it}.c"], check=True)
+            said = subprocess.run([f"{folder}/{it}"], stdout=subprocess.PIPE, text=True, check=False).stdout
+            same(f"{it}.c", "all as wanted\n", said)
+
+
+def light_of(colour):
+    """The relative luminance of a colour, by the definition of the Web Content Accessibility Guidelines."""
+    parts = [int(colour[at : at + 2], 16) / 255 for at in (1, 3, 5)]
+    linear = [it / 12.92 if it <= 0.04045 else ((it + 0.055) / 1.055) ** 2.4 for it in parts]
+    return 0.2126 * linear[0] + 0.7152 * linear[1] + 0.0722 * linear[2]
+
+
+def contrast(one, other):
+    low, high = sorted([light_of(one), light_of(other)])
+    return (high + 0.05) / (low + 0.05)
+
+
+# What stands on what.
+ON = {
+    "paper": ["ink", "quiet", "strong", "bad", "warn", "name"],
+    "sheet": ["ink", "quiet", "strong", "bad", "keyword", "type", "name", "variable", "mark", "comment"],
+    "bad-paper": ["ink", "bad"],
+    "strong": ["on-strong"],
+}
+
+
+def colours():
+    for scheme, block in zip(("light", "dark"), re.findall(r":root \{(.*?)\}", text_of("web/page.css"), re.S)):
+        found = dict(re.findall(r"--([\w-]+): (#\w{6})", block))
+        low = [(it, back) for back, all_on in ON.items() for it in all_on if contrast(found[it], found[back]) < 4.5]
+        same(f"contrasts by {scheme}", [], low)
+
+
+class Module:
+    """The module of the page, in node."""
+
+    def __enter__(self):
+        words = ["node", f"{TOP}/tests/web_module.js", PAGE]
+        self.node = subprocess.Popen(words, stdin=subprocess.PIPE, stdout=subprocess.PIPE, text=True)
+        return self
+
+    def __exit__(self, *_):
+        self.node.stdin.close()
+        self.node.wait()
+
+    def answer(self, name, texts, options):
+        texts = [base64.b64encode(it).decode() for it in texts]
+        self.node.stdin.write(json.dumps({"name": name, "texts": texts, "options": options}) + "\n")
+        self.node.stdin.flush()
+        found = json.loads(self.node.stdout.readline())
+        return found["status"], found["told"], base64.b64decode(found["out"])
+
+
+def native(path, folder, name, texts, options):
+    """The same of the program."""
+    paths = []
+    for i, text in enumerate(texts):
+        paths.append(f"{folder}/{i}")
+        with open(paths[-1], "wb") as file:
+            file.write(text)
+    words = [name, *paths]
+    if name.startswith("eval"):
+        limits = [it for key in ("steps", "cells") for it in (f"--{key}", str(options[key]))]
+        words = ["eval", *limits, *["--count"] * options["count"], *paths]
+    elif name == "match":
+        words = [name, "--", os.fsdecode(texts[0]), paths[1]]
+    elif name == "make":
+        words = [name, "--", *map(os.fsdecode, texts)]
+    ran = subprocess.run([path, *words], capture_output=True, check=False)
+    return ran.returncode, ran.stderr.decode(), ran.stdout
+
+
+def runs():
+    """The runs that are compared: a name, the texts, and the options."""
+    for path in sorted(glob.glob(f"{TOP}/examples/**/*.rec", recursive=True)):
+        spec = text_of(os.path.relpath(path, TOP)).encode()
+        limited = {**USUAL, "steps": 20000} if path.endswith("loop.rec") else USUAL
+        yield "eval", [spec], limited
+        if os.path.exists(f"{path[:-4]}.trm"):
+            with open(f"{path[:-4]}.trm", "rb") as file:
+                yield "eval_terms", [spec, file.read()], USUAL
+    # each beginning of a specification up to one of its tokens, and each with a byte that is no token there
+    text = text_of("examples/dup.rec").encode()
+    for it in re.finditer(rb"\S+", text):
+        yield "eval", [text[: it.end()]], USUAL
+        yield "eval", [text[: it.start()] + b"?" + text[it.start() :]], USUAL
+    formats = text_of("docs/FORMATS.md")
+    for spec in re.findall(r"`(REC-SPEC [^`]*)`", formats):
+        yield "eval", [spec.encode()], USUAL
+    base = re.search(r"```\n(REC-SPEC Q.*?)```", formats, re.S)[1].encode()
+    for terms in quoted(formats[formats.index("With Q of section 6:") : formats.index("## 8. Evaluation")]):
+        yield "eval_terms", [base, terms.encode()], USUAL
+    for spec, terms, limits in specifications.some(300):
+        texts = [spec.encode()] if terms is None else [spec.encode(), terms.encode()]
+        yield "eval" if terms is None else "eval_terms", texts, {**USUAL, **limits}
+    texts = [it.encode() for it in quoted(formats[: formats.index("## 4. Specifications")]) if it]
+    for text in texts:
+        yield "aterm", [text], None
+        yield "share", [text], None
+    # more output than the first room has: each byte of the name is printed as four
+    yield "aterm", [b'"' + b"\xff" * 5000000 + b'"'], None
+    for pair in zip(texts, texts[1:]):
+        yield "match", [*pair], None
+        yield "make", [*pair], None
+
+
+def module(path):
+    if not is_there("the module", "node") or not has_page("the module"):
+        return
+    counts, statuses = 0, {}
+    with Module() as of_page, tempfile.TemporaryDirectory() as folder:
+        for name, texts, options in runs():
+            wanted, found = native(path, folder, name, texts, options), of_page.answer(name, texts, options)
+            # a run of the module that met a fault hands nothing over
+            wanted = (*wanted[:2], b"") if wanted[0] == 3 else wanted
+            same(f"{name} of {[it[:2000] for it in texts]} with {options}", wanted, found)
+            counts += 1
+            statuses[found[0]] = statuses.get(found[0], 0) + 1
+    same("runs end in each way", [0, 1, 3], sorted(statuses))
+    print(f"module: {counts} runs, by status {dict(sorted(statuses.items()))}")
+
+
+def browser(pictures=None):
+    if is_there("the browser", "chromium", "chromedriver") and has_page("the browser"):
+        web_browser.go_through(PAGE, pictures)
+
+
+def main():
+    for part in sys.argv[2:] or ["heap", "colours", "module", "browser"]:
+        name, _, folder = part.partition("=")
+        known = {"heap": heap, "colours": colours, "module": lambda: module(program())}
+        known.get(name, lambda: browser(folder))()
+    done()
+
+
+main()

@@ -1,0 +1,78 @@
+'use strict';
+// Calls of the module: texts in, bytes out. For the page's workers, and for node.
+
+// The sizes and places of what a call is given and what it tells, in bytes.
+const OPTIONS = { size: 24, steps: 0, cells: 8, memo: 12, reclaim: 16, count: 20 };
+const TOLD = { size: 16, length: 0, at: 8, hasPlace: 12 };
+const USUAL = { steps: 1000000n, cells: 16777216, memo: 65536, reclaim: 262144, count: false };
+// What the module answers, beside 0, 1 for a refusal, and 2 where the room is too short.
+const FAULTS = { 3: 'out of memory', 4: 'out of cells' };
+const FIRST_ROOM = 1 << 24;
+
+// The calls of an instance: what a run of this name over these texts comes to.
+function callsOf(instance) {
+  const { exports } = instance;
+  const view = () => new DataView(exports.memory.buffer);
+  const bytes = () => new Uint8Array(exports.memory.buffer);
+
+  function roomFor(size) {
+    const at = exports.room(BigInt(Math.max(size, 1)));
+    if (at === 0n) throw new RangeError(FAULTS[3]);
+    return at;
+  }
+
+  function put(text) {
+    const at = roomFor(text.length);
+    bytes().set(text, Number(at));
+    return [at, BigInt(text.length)];
+  }
+
+  function putOptions(options) {
+    const at = roomFor(OPTIONS.size), from = Number(at), to = view();
+    to.setBigUint64(from + OPTIONS.steps, options.steps, true);
+    for (const name of ['cells', 'memo', 'reclaim']) to.setUint32(from + OPTIONS[name], options[name], true);
+    to.setUint8(from + OPTIONS.count, options.count ? 1 : 0);
+    return [at];
+  }
+
+  function told(at) {
+    const from = Number(at), of = view();
+    const hasPlace = of.getUint8(from + TOLD.hasPlace) !== 0;
+    return {
+      length: Number(of.getBigUint64(from + TOLD.length, true)),
+      at: hasPlace ? of.getUint32(from + TOLD.at, true) : null,
+    };
+  }
+
+  function callWithin(room, name, given) {
+    const out = roomFor(room), toldAt = roomFor(TOLD.size);
+    bytes().fill(0, Number(toldAt), Number(toldAt) + TOLD.size);
+    const number = exports['recw_' + name](...given, out, BigInt(room), toldAt);
+    return { number, out: Number(out), ...told(toldAt) };
+  }
+
+  function answer({ number, out, length, at }) {
+    const fault = FAULTS[number] || null;
+    return { status: fault ? 3 : number, fault, at, out: fault ? new Uint8Array(0) : bytes().slice(out, out + length) };
+  }
+
+  return function call(name, texts, options) {
+    try {
+      const given = texts.flatMap(put).concat(options ? putOptions({ ...USUAL, ...options }) : []);
+      const first = callWithin(FIRST_ROOM, name, given);
+      return answer(first.number === 2 ? callWithin(first.length, name, given) : first);
+    } catch (error) {
+      if (error instanceof RangeError) return { status: 3, fault: FAULTS[3], at: null, out: new Uint8Array(0) };
+      throw error;
+    }
+  };
+}
+
+// What the program says on standard error of the same end.
+function toldOf({ fault, at, out }) {
+  if (fault) return `recw: ${fault}\n`;
+  if (at === null) return '';
+  return `recw: ${new TextDecoder().decode(out).slice(1, -1)} at byte ${at}\n`;
+}
+
+if (typeof module !== 'undefined') module.exports = { callsOf, toldOf };
