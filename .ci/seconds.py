@@ -14,7 +14,8 @@ import threading
 import time
 from collections import defaultdict
 
-PROVER = "rattle"
+# the prover, and the processes among which it divides a check that may have several jobs
+PROVERS = ("rattle", "antt-kernel")
 KINDS = ("proof", "tests", "edits", "code")
 PAUSE = 0.25
 TICKS = os.sysconf("SC_CLK_TCK")
@@ -79,7 +80,7 @@ class Watch(threading.Thread):
     def look(self):
         found = {it.number: it for it in map(Process, filter(str.isdigit, os.listdir("/proc")))}
         for it in found.values():
-            if it.name == PROVER and self.is_below(it, found):
+            if it.name in PROVERS and self.is_below(it, found):
                 key = it.number, it.start
                 if self.checks.get(key) is None:
                     self.checks[key] = what_it_checks(it.number)
