@@ -9,6 +9,19 @@ use Rattle.rx_term.specs.declared.Term.{Term as Reference}
 use Rattle.rec_syntax.specs.Syntax.{Spec}
 use Rattle.rec_sorts.specs.TermRules.{arguments, broken_by_elements, first_passed, is_annotated, is_ill_filled, is_ill_sorted, is_no_application, is_undeclared, nodes, nodes_all}
 use Rattle.rec_engine.specs.Engine.{IsGround}
+use Rattle.std.proofs.lemmas.List.{take_more}
+use Rattle.std.specs.Prelude.{Vec}
+use Rattle.std.specs.declared.alloc.Global.{Global}
+use Rattle.rx_term.proofs.TreeLemmas.{to_from_list}
+use Rattle.rec_sorts.specs.Evaluation.{term_of}
+use Rattle.rec_sorts.specs.Numbering.{AreLetters, Pairwise}
+use Rattle.rec_sorts.specs.TermRules.{elements}
+use Rattle.rec_sorts.specs.declared.letters.Letter.{Letter}
+use Rattle.rec_engine.specs.Engine.{Spells}
+use Rattle.rec_run.specs.Output.{notes_text}
+use Rattle.rec_look.specs.Telling.{AreGivenTerms, HasNotes}
+use Rattle.rec_look.specs.declared.trace.given.GivenTerms.{GivenTerms}
+use Rattle.rec_look.proofs.TaskLemmas.{pairwise-at, pairwise-length, pairwise-push}
 use Rattle.rec_run.proofs.GivenLemmas.{any_parts, got_at, not_passed}
 use Rattle.rec_run.specs.GivenTerms.{item_at}
 
@@ -94,3 +107,41 @@ module _ (w : Store) (us : List Tree) (rest : Reference) (i : ℕ) (d : Tree) (l
 
 pub item-is : (w : Store) (t : Reference) (u : Tree) → tree_at w t ≡ Some u → item_at w t ≡ u
 item-is w t u e = ap (λ o. unwrap_or o (list_of none)) e
+
+-- ---- given terms by their numbers
+
+pub given-low : (y : Spec) (us : List Tree) (t : GivenTerms) (i : ℕ) → AreGivenTerms y us t → i < length t.letters.items → i < length us
+given-low y us t i h low = subst (λ k. i < k) (pairwise-length (λ (ls : Vec Letter Global) (u : Tree). AreLetters y ls.items (term_of u)) t.letters.items us h.letters) low
+
+pub given-long : (y : Spec) (us : List Tree) (t : GivenTerms) → AreGivenTerms y us t → length us ≡ length t.letters.items
+given-long y us t h = sym (pairwise-length (λ (ls : Vec Letter Global) (u : Tree). AreLetters y ls.items (term_of u)) t.letters.items us h.letters)
+
+pub notes-long : (y : Spec) (us : List Tree) (t : GivenTerms) → AreGivenTerms y us t → length t.notes.items ≡ length t.letters.items
+notes-long y us t h = pairwise-length HasNotes t.notes.items us h.notes ∙ given-long y us t h
+
+pub given-spells : (y : Spec) (us : List Tree) (t : GivenTerms) (i : ℕ) (v : Vec Letter Global) (letters : List Letter) (d : Tree) → AreGivenTerms y us t → i < length t.letters.items → v ≡ get_or t.letters.items i v → letters ≡ v.items → Spells y letters (get_or us i d)
+given-spells y us t i v letters d h low is all =
+    let at = pairwise-at (λ (ls : Vec Letter Global) (u : Tree). AreLetters y ls.items (term_of u)) t.letters.items us i v d h.letters low in
+    record {
+      letters = subst (λ ls. AreLetters y ls (term_of (get_or us i d))) (sym all) (subst (λ (x : Vec Letter Global). AreLetters y x.items (term_of (get_or us i d))) (sym is) at);
+      is_ground = each-ground y us i d h.kept (given-low y us t i h low);
+    }
+
+pub given-notes : (y : Spec) (us : List Tree) (t : GivenTerms) (i : ℕ) (v : Vec ℕ Global) (notes : List ℕ) (d : Tree) → AreGivenTerms y us t → i < length t.letters.items → v ≡ get_or t.notes.items i v → notes ≡ v.items → notes ≡ notes_text (annotations (get_or us i d))
+given-notes y us t i v notes d h low is all =
+    let there = subst (λ k. i < k) (sym (notes-long y us t h)) low in
+    all ∙ subst (λ (x : Vec ℕ Global). HasNotes x (get_or us i d)) (sym is) (pairwise-at HasNotes t.notes.items us i v d h.notes there)
+
+pub no-notes : (us : List Tree) → Pairwise HasNotes [] (take 0 us)
+no-notes [] = tt
+no-notes (u ∷ us) = tt
+
+pub notes-more : (w : Store) (us : List Tree) (i : ℕ) (r : Reference) (old new : List (Vec ℕ Global)) (text : Vec ℕ Global) → i < length us → tree_at w r ≡ Some (get_or us i (list_of none)) → new ≡ old ++ text ∷ [] → text.items ≡ notes_text (annotations (item_at w r)) → Pairwise HasNotes old (take i us) → Pairwise HasNotes new (take (i + 1) us)
+notes-more w us i r old new text low there pushed is h =
+    let u = get_or us i (list_of none) in
+    let own : HasNotes text u = is ∙ ap (λ t. notes_text (annotations t)) (item-is w r u there) in
+    subst (λ xs. Pairwise HasNotes xs (take (i + 1) us)) (sym pushed)
+    (subst (λ ts. Pairwise HasNotes (old ++ text ∷ []) ts) (sym (take_more us i (list_of none) low)) (pairwise-push HasNotes old (take i us) text u h own))
+
+pub elements-listed : (us : List Tree) → elements (list_of (from_list us)) ≡ Some us
+elements-listed us = ap (λ (ts : List Tree). Some ts) (to_from_list us)

@@ -1,7 +1,8 @@
 -- The lines of traces that begin with no digit.
 use Rattle.std.proofs.Common.{refl, sym, ap, ap₂, ◌∙◌, arith}
 use Rattle.std.proofs.lemmas.List.Elements.{filter-append}
-use Rattle.std.specs.Prelude.{ℕ, ◌≡◌, ◌-◌, ◌<◌, ◌^◌, Bool, true, false, not, cond, List, [], ◌∷◌, ◌++◌, Option, None, codes, filter, flat_map, length, map}
+use Rattle.std.specs.Prelude.{ℕ, ◌≡◌, ◌-◌, ◌<◌, ◌^◌, Bool, true, false, not, cond, List, [], ◌∷◌, ◌++◌, Option, None, codes, decimal, filter, flat_map, length, map}
+use Rattle.std.specs.Fmt.{digits}
 use Rattle.rx_term.specs.Tree.{Tree, Trees, Appl, Int, Items, Hole, annotated, none}
 use Rattle.rx_term.specs.Name.{plain_name}
 use Rattle.rx_text.specs.Canon.{canon}
@@ -13,7 +14,7 @@ use Rattle.rec_engine.proofs.ValueTreeLemmas.{IsApplied, value_is_applied}
 use Rattle.rx_run.specs.Due.{steps_text}
 use Rattle.rec_run.specs.Output.{Task, bare, each_line, limit_text, line, tasks}
 use Rattle.rec_run.specs.declared.options.LimitLines.TheVariants.{Bare}
-use Rattle.rec_trace.specs.Lines.{begins_with_digit, firing_line, spent_text, term_lines, value_line, whole_line, whole_text}
+use Rattle.rec_trace.specs.Lines.{begins_with_digit, cut, firing_line, place_text, spent_text, term_lines, value_line, whole_line, whole_text}
 use Rattle.rec_trace.specs.Trace.{Firing, Trace}
 use Rattle.rec_trace.proofs.LineLemmas.{firing_line_law, value_line_law}
 use Rattle.rec_trace.proofs.TraceLemmas.{trace_law}
@@ -69,6 +70,22 @@ value-same : (counted : Bool) (n : ℕ) (notes : Trees) (o : Outcome Tree) → v
 value-same counted n notes (Done v left) = ap (λ z. canon (annotated v notes) ++ z ++ codes "\n") (spent-same counted (n - left))
 value-same counted n notes Over = refl
 
+-- the line of the term itself goes too
+digit-front : (xs ys : List ℕ) → begins_with_digit xs ≡ true → begins_with_digit (xs ++ ys) ≡ true
+digit-front [] ys h = absurd (cc h)
+digit-front (x ∷ xs) ys h = h
+
+zero-text : decimal 0 ≡ 48 ∷ []
+unfolding digits
+zero-text = refl
+
+first-digit : (width : Option ℕ) (u : Tree) → begins_with_digit (whole_text 0 0 false width 0 u) ≡ true
+first-digit width u =
+    let line : List ℕ = decimal 0 in
+    let zero : begins_with_digit line ≡ true = ap begins_with_digit zero-text in
+    let place : begins_with_digit (place_text 0 0) ≡ true = digit-front ((line ++ codes ":") ++ decimal 0) (codes ": ") (digit-front (line ++ codes ":") (decimal 0) (digit-front line (codes ":") zero)) in
+    digit-front ((place_text 0 0 ++ cut width (canon u)) ++ spent_text false 0) (codes "\n") (digit-front (place_text 0 0 ++ cut width (canon u)) (spent_text false 0) (digit-front (place_text 0 0) (cut width (canon u)) place))
+
 -- of one term
 values-of : (source : List ℕ) (y : Spec) (shown : Shown) (n : ℕ) (task : Task) → fault y ≡ None → length source < 2 ^ 63 → filter other (task_lines source y shown n task) ≡ line y (bare shown.counted) n task ∷ []
 values-of source y shown n task good short = by shown.whole
@@ -89,7 +106,7 @@ values-of source y shown n task good short = by shown.whole
       | false ↦ map (firing_line source shown.counted shown.width n) (Trace y n task.term).firings
     ]) ++ last ∷ []) ≡ line y (bare shown.counted) n task ∷ []
     by true =
-        drops (whole_text 0 0 false shown.width 0 (tree_of task.term)) (map (whole_line source shown.counted shown.width n) (Trace y n task.term).firings ++ last ∷ []) refl
+        drops (whole_text 0 0 false shown.width 0 (tree_of task.term)) (map (whole_line source shown.counted shown.width n) (Trace y n task.term).firings ++ last ∷ []) (first-digit shown.width (tree_of task.term))
         ∙ drops-all (whole_line source shown.counted shown.width n) (Trace y n task.term).firings (last ∷ []) (λ f. (firing_line_law source shown.counted shown.width n f short).1)
         ∙ last-kept
     by false =

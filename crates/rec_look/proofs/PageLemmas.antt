@@ -65,6 +65,9 @@ module _ {W : Type 0} (contents : W → Option (List ℕ)) where
   pub breaks-engine : (out : Output W) (lines : ℕ) (text : List ℕ) (f : EngineFault) → Breaks contents out out lines text (stopped_after f lines)
   breaks-engine out lines text f = record { written = []; appended = appends_same (contents_of contents out); front = (text, refl); reported = reports-none f lines }
 
+  pub breaks-stopped : (out : Output W) (lines : ℕ) (text : List ℕ) (f : EngineFault) (fault : RunFault) → fault ≡ stopped_after f lines → Breaks contents out out lines text fault
+  breaks-stopped out lines text f fault e = subst (λ z. Breaks contents out out lines text z) (sym e) (breaks-engine out lines text f)
+
   pub breaks-memory : (out : Output W) (lines : ℕ) (text : List ℕ) → Breaks contents out out lines text (fault.Memory lines)
   breaks-memory out lines text = breaks-engine out lines text engine.Memory
 

@@ -30,11 +30,11 @@ ends_in-append (x ∷ xs) ys = by (nat_eq x 10) (ends_in-append xs ys)
 
 behind_end-append : (k : ℕ) (xs ys : List ℕ) → behind_end k (xs ++ ys) ≡ behind_end (behind_end k xs) ys
 behind_end-append k [] ys = refl
-behind_end-append k (x ∷ xs) ys = by (nat_eq x 10)
+behind_end-append k (x ∷ xs) ys = by (nat_eq x 10) (behind_end-append 0 xs ys) (behind_end-append (suc k) xs ys)
   where
-    by : (b : Bool) → ◌≡◌ {A = ℕ} (elim b [ true ↦ behind_end 0 (xs ++ ys) | false ↦ behind_end (suc k) (xs ++ ys) ]) (behind_end (elim b [ true ↦ behind_end 0 xs | false ↦ behind_end (suc k) xs ]) ys)
-    by true = behind_end-append 0 xs ys
-    by false = behind_end-append (suc k) xs ys
+    by : (b : Bool) → behind_end 0 (xs ++ ys) ≡ behind_end (behind_end 0 xs) ys → behind_end (suc k) (xs ++ ys) ≡ behind_end (behind_end (suc k) xs) ys → ◌≡◌ {A = ℕ} (elim b [ true ↦ behind_end 0 (xs ++ ys) | false ↦ behind_end (suc k) (xs ++ ys) ]) (behind_end (elim b [ true ↦ behind_end 0 xs | false ↦ behind_end (suc k) xs ]) ys)
+    by true h e = h
+    by false h e = e
 
 ends_in-few : (xs : List ℕ) → ends_in xs ≤ length xs
 ends_in-few [] = omega arith

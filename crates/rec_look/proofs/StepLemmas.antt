@@ -23,11 +23,11 @@ use Rattle.rec_trace.specs.declared.tracer.Turn.{Turn}
 use Rattle.rec_trace.specs.declared.tracer.Turn.TheVariants as turn
 use Rattle.rec_trace.proofs.SideLemmas.{rule-at}
 use Rattle.rec_look.specs.Pages.{Breaks, Prints}
-use Rattle.rec_look.specs.Telling.{IsEnd, IsTelling, IsWithin, end_line, rule_spot, spot_at, step_line, steps_lines, told}
+use Rattle.rec_look.specs.Telling.{HasTold, IsEnd, IsTelling, IsWithin, end_line, rule_spot, spot_at, step_line, steps_lines, told}
 use Rattle.rec_look.specs.Traces.{Shown, shown_by}
 use Rattle.rec_look.specs.declared.trace.telling.Telling.{Telling}
-use Rattle.rec_look.proofs.PageLemmas.{breaks-behind, prints-both, prints-none}
-use Rattle.rec_look.proofs.TellingLemmas.{within-end, within-next}
+use Rattle.rec_look.proofs.PageLemmas.{breaks-before, breaks-behind, prints-both, prints-none}
+use Rattle.rec_look.proofs.TellingLemmas.{told-next, within-end, within-next}
 
 steps-append : (source : List ℕ) (shown : Shown) (n : ℕ) (fs gs : List Firing) → steps_lines source shown n (fs ++ gs) ≡ steps_lines source shown n fs ++ steps_lines source shown n gs
 steps-append source shown n fs gs = ap (λ ls. flat_map (λ (l : List ℕ). l) ls) (map-append (step_line source shown n) fs gs) ∙ flat_map-append (λ l. l) (map (step_line source shown n) fs) (map (step_line source shown n) gs)
@@ -110,7 +110,7 @@ pub fired-stands : (y : Spec) (w : Store) (new : Tracer) (t : Turn) (rule : ℕ)
 fired-stands y w new t rule redex contractum e h = by (subst (λ (x : Turn). IsLimit x ⊎ Stands y w new) e h)
   where
     by : IsLimit (turn.Fired rule redex contractum) ⊎ Stands y w new → Stands y w new
-    by (inl no) = absurd no
+    by (inl none) = absurd none
     by (inr h) = h
 
 pub turn-fired : (y : Spec) (w w' : Store) (old new : Tracer) (t : Turn) (rule : ℕ) (redex contractum : Reference) → t ≡ turn.Fired rule redex contractum → IsTurn y w w' old new t → HasFired y w w' old new rule redex contractum
@@ -134,3 +134,20 @@ pub fired-left : (y : Spec) (w w' : Store) (old new : Tracer) (rule : ℕ) (rede
 fired-left y w w' old new rule redex contractum n f k =
     let at = within-next n f.firing (rest_of y w' new) (rest_of y w old) f.next k in
     (subst (λ m. m ≤ n) f.left_is at.0, at.1)
+
+module _ {W : Type 0} (contents : W → Option (List ℕ)) (z : Spec) (w w' : Store) (old new : Tracer) (telling : Telling) (rule : ℕ) (redex contractum : Reference) (f : HasFired z w w' old new rule redex contractum) (line : List ℕ) (line_is : (source : List ℕ) → IsTelling source z telling → line ≡ step_line source (shown_by telling.options) telling.options.run.steps f.firing) where
+  pub told-turn : (w2 : Store) (out now : Output W) (lines more : ℕ) → rest_of z w2 new ≡ rest_of z w' new → Stands z w2 new → Prints contents out now lines more line → HasTold contents z w w2 old new telling out now lines more
+  told-turn w2 out now lines more same stands h = record {
+    firing = f.firing;
+    next = f.next ∙ ap (firing_then f.firing) (sym same);
+    stands = stands;
+    printed = λ source is. subst (λ text. Prints contents out now lines more text) (line_is source is) h;
+  }
+
+  pub told-break : (out now : Output W) (lines : ℕ) (fault : RunFault) → Breaks contents out now lines line fault → (source notes : List ℕ) → IsTelling source z telling → Breaks contents out now lines (told source (shown_by telling.options) telling.options.run.steps notes (rest_of z w old)) fault
+  told-break out now lines fault h source notes is =
+      let shown = shown_by telling.options in
+      let n = telling.options.run.steps in
+      subst (λ text. Breaks contents out now lines text fault) (sym (told-next source shown n notes f.firing (rest_of z w' new) (rest_of z w old) f.next))
+      (breaks-before contents out now lines (step_line source shown n f.firing) (told source shown n notes (rest_of z w' new)) fault
+      (subst (λ text. Breaks contents out now lines text fault) (line_is source is) h))

@@ -52,7 +52,8 @@ fn notes_of_all<B: TermBank>(
     let mut notes = Vec::new(alloc);
     let mut rest = list;
     for _index in 0..count {
-        notes.push(notes_of(alloc, bank, bank.head(rest))?)?;
+        let text = notes_of(alloc, bank, bank.head(rest))?;
+        notes.push(text)?;
         rest = bank.tail(rest);
     }
     Ok(notes)
