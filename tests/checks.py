@@ -1,5 +1,6 @@
 """Checks of specifications: every place is told, texts of great length and depth, refused memory, streams that fail."""
 
+import re
 import time
 
 from attempts import EXAMPLES, NO_MEMORY, NO_READ, NO_WRITE, at_stack, check, check_long, recw, room, run, write_file
@@ -12,6 +13,12 @@ WORKED = {
         "2:11: W4: never used: no symbol and no variable has this sort: Bool",
         "6:3: W4: never used: a symbol of no rule and of no term: minus",
         "8:7: W4: never used: a variable of no rule: Z",
+    )),
+    "tried": (0, (
+        "10:3: W1: never tried: an earlier rule without conditions matches all that this one does: 9:3",
+    )),
+    "inner": (0, (
+        "9:9: W2: never matches: an argument like this is rewritten first: 8:3",
     )),
     "broken": (1, (
         "7:8: S5: a word is neither a symbol nor a variable: zero",
@@ -40,6 +47,35 @@ def try_worked():
     check("check of standard input twice", 2, recw("check", "-", "-")[0])
 
 
+# Rules over a, b and f of one argument, and g of two, the first of them on line 7: the place of each warning of
+# rules, and the rule that is shown behind it.
+RULES = (
+    ("f(X) -> a; f(a) -> a", "8:1 W1 7:1"),
+    ("f(a) -> a; f(X) -> a", ""),
+    ("f(X) -> a if X -><- a; f(a) -> a", ""),
+    ("f(b(X)) -> a; f(X) -> a; f(b(b(X))) -> a", "9:1 W1 7:1"),
+    ("g(X,Y) -> a; f(X) -> a", ""),
+    ("g(X,Y) -> a; g(X,X) -> a", "8:1 W1 7:1"),
+    ("g(X,X) -> a; g(X,Y) -> a", ""),
+    ("g(X,X) -> a; g(b(Y),b(Y)) -> a", "8:1 W1 7:1"),
+    ("g(X,X) -> a; g(b(Y),b(X)) -> a", ""),
+    ("g(X,b(Y)) -> a; g(Y,b(a)) -> a", "8:1 W1 7:1"),
+    ("f(X) -> a; g(f(a),X) -> a", "8:3 W2 7:1"),
+    ("g(b(f(X)),Y) -> a; f(X) -> b(X)", "7:5 W2 8:1"),
+    ("f(f(f(X))) -> a; f(X) -> a", "7:3 W2 8:1; 7:5 W2 8:1"),
+    ("g(f(X),Y) -> a; f(b(X)) -> a", ""),
+    ("g(f(a),X) -> a; f(X) -> a if X -><- a", ""),
+)
+FORM = "REC-SPEC T\nSORTS A\nCONS a : -> A b : A -> A\nOPNS f : A -> A g : A A -> A\nVARS X Y : A\nRULES\n{}\nEVAL f(g(a,b(a))) END-SPEC"
+
+
+def try_rules():
+    for rules, due in RULES:
+        status, out, err = recw("check", "-", input=FORM.format(rules.replace("; ", "\n")))
+        told = re.findall(r"^<stdin>:(\S+): (W[12]): .*: (\S+)$", out, re.M)
+        check(f"check of {rules}", (0, due, ""), (status, "; ".join(" ".join(it) for it in told), err))
+
+
 def try_cut():
     """Each beginning of a specification is outside the grammar at its end, or at a word that is cut."""
     text = open(f"{TOP}/examples/add.rec", encoding="ascii").read().strip()
@@ -61,6 +97,18 @@ def rules(count):
     ))
 
 
+def few_operators(count):
+    """A specification of so many rules of two operators, none of which matches what another one does."""
+    names = range(count // 2)
+    return "\n".join((
+        "REC-SPEC Few SORTS A CONS",
+        *(f"c{it} : -> A" for it in names),
+        "OPNS f : A A -> A g : A A -> A VARS X : A RULES",
+        *(f"f(c{it},X) -> g(X,c{it})\ng(X,c{it}) -> X" for it in names),
+        "EVAL f(c0,c0) END-SPEC",
+    ))
+
+
 def try_great():
     """Many rules, great depth and many places."""
     with room() as at:
@@ -68,6 +116,10 @@ def try_great():
         start = time.monotonic()
         check("check of 2,000 rules", (0, "", ""), recw("check", file))
         check("2,000 rules in under a second", True, time.monotonic() - start < 1)
+        file = write_file(f"{at}/few.rec", few_operators(2000))
+        start = time.monotonic()
+        check("check of 2,000 rules of two operators", (0, "", ""), recw("check", file))
+        check("2,000 rules of two operators in under a second", True, time.monotonic() - start < 1)
         depth = 1_000_000
         deep = f"REC-SPEC D SORTS A CONS a : -> A OPNS f : A -> A VARS X : A RULES f(X) -> X EVAL {'f(' * depth}Y{')' * depth} END-SPEC"
         line = f"deep.rec:1:{deep.index('Y') + 1}: S5: a word is neither a symbol nor a variable: Y\n"
@@ -107,7 +159,7 @@ def try_refused():
 
 def try_checks():
     """How many requests for memory were refused."""
-    for group in (try_worked, try_cut, try_great, try_streams):
+    for group in (try_worked, try_rules, try_cut, try_great, try_streams):
         group()
     if not is_allowed():
         print("not tried: checks without memory: no program can be traced here")

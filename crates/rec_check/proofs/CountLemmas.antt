@@ -1,5 +1,5 @@
 -- Lists with the same things, each as often: the nodes of a term are those of its subterms.
-use Rattle.std.proofs.Common.{refl, sym, ap, ◌∙◌, arith, cond, add_assoc, zero-add}
+use Rattle.std.proofs.Common.{refl, sym, ap, ◌∙◌, arith, cond, zero-add}
 use Rattle.std.proofs.lemmas.List.Sums.{sum_by-append, sum_by-cons}
 use Rattle.std.proofs.lemmas.List.Sorted.{sum_by-IsPermutation}
 use Rattle.std.specs.Prelude.{ℕ, ◌≡◌, ◌+◌, Bool, true, false, List, [], ◌∷◌, ◌++◌, count_by, map, flat_map, filter, IsPermutation}

@@ -1,12 +1,12 @@
 -- What is found in worked texts, row by row.
 use Rattle.std.proofs.Common.{refl}
-use Rattle.std.specs.Prelude.{ℕ, List, [], ◌∷◌, ◌++◌, codes, ◌≡◌, Some, None, Option, map}
+use Rattle.std.specs.Prelude.{ℕ, List, [], ◌∷◌, ◌++◌, codes, ◌≡◌, Some, None, Option}
 use Rattle.rec_syntax.specs.Tokens.{Word}
 use Rattle.rec_syntax.specs.Syntax.{Spec}
 use Rattle.rec_syntax.specs.Machine.{Outcome, Read}
 use Rattle.rec_syntax.proofs.VerdictLemmas.{comes_of}
 use Rattle.rec_sorts.specs.Lookup.{places}
-use Rattle.rec_check.specs.Findings.{broken_words, unused_sorts, unused_symbols, unused_variables, warnings}
+use Rattle.rec_check.specs.Findings.{broken_words, unused_sorts, unused_symbols, unused_variables}
 use Rattle.rec_check.specs.Spots.{spot_of}
 use Rattle.rec_check.specs.declared.finding.Rule.{Rule}
 use Rattle.rec_check.specs.declared.finding.Rule.TheVariants as rule

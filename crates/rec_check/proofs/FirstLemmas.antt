@@ -1,14 +1,14 @@
 -- The first of the places at which a rule is broken.
-use Rattle.std.proofs.Common.{refl, sym, ap, subst, ◌∙◌, arith, cond, inl, inr}
+use Rattle.std.proofs.Common.{refl, sym, ap, ◌∙◌, arith, cond, inl, inr}
 use Rattle.std.proofs.lemmas.Bool.{cases_lt}
-use Rattle.std.specs.Prelude.{ℕ, zero, suc, ◌≡◌, ◌+◌, ◌<◌, ◌≤◌, ◌⊎◌, Bool, true, false, List, [], ◌∷◌, Option, Some, None, count_by, length, map, get_or, min, nat_eq, nat_lt, if◌then◌else◌}
+use Rattle.std.specs.Prelude.{ℕ, zero, suc, ◌≡◌, ◌+◌, ◌<◌, ◌≤◌, ◌⊎◌, Bool, List, [], ◌∷◌, Option, Some, None, count_by, length, get_or, min, nat_eq, nat_lt, if◌then◌else◌}
 use Rattle.std.specs.List.Sorted.{IsNonDecreasingBy}
 use Rattle.std.proofs.lemmas.Bool.{lt-ltb, le-ltb}
 use Rattle.rec_syntax.specs.Tokens.{Word}
 use Rattle.rec_syntax.specs.Syntax.{Spec}
 use Rattle.rec_sorts.specs.Lookup.{places}
-use Rattle.rec_sorts.specs.SpecRules.{Fault, Broken, fault, first_broken, all_rules, least}
-use Rattle.rec_check.specs.Findings.{AreInOrder, Found, broken_words, found_at, number_of}
+use Rattle.rec_sorts.specs.SpecRules.{Fault, Broken, first_broken, all_rules, least}
+use Rattle.rec_check.specs.Findings.{Found, broken_words, found_at, number_of}
 use Rattle.rec_check.specs.Laws.{FirstPlace}
 use Rattle.rec_check.specs.declared.finding.Kind.{Kind}
 use Rattle.rec_check.specs.declared.finding.Kind.TheVariants as kind

@@ -1,3 +1,4 @@
+pub mod BackLemmas
 pub mod ListLemmas
 pub mod CountLemmas
 mod FindingRows
@@ -6,7 +7,9 @@ pub mod LineLemmas
 pub mod LookupLemmas
 pub mod NodeLemmas
 pub mod OrderLemmas
+pub mod RewritingLemmas
 pub mod RunLemmas
 pub mod SpotLemmas
+pub mod TrialLemmas
 pub mod WalkLemmas
 pub mod WordLemmas

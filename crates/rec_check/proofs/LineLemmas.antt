@@ -1,11 +1,11 @@
 -- Lines of findings, one after the other.
-use Rattle.std.proofs.Common.{◌≡◌, ℕ, List, [], refl, sym, ap, ◌∙◌, append_assoc, take, drop, map, get_or, length}
+use Rattle.std.proofs.Common.{◌≡◌, ℕ, List, [], sym, ap, ◌∙◌, take, drop, get_or, length}
 use Rattle.std.proofs.lemmas.List.{append-nil, take_all, take_more, take-append-drop}
 use Rattle.std.proofs.lemmas.List.Concat.{flat_map-append}
 use Rattle.std.specs.Prelude.{◌<◌, ◌≤◌, ◌+◌, ◌∷◌, ◌++◌}
 use Rattle.rec_sorts.proofs.StackLemmas.{map-append}
 use Rattle.rec_sorts.proofs.TurnLemmas.{drop-turn}
-use Rattle.rec_check.specs.Findings.{as_found, as_findings, Found}
+use Rattle.rec_check.specs.Findings.{as_found, as_findings}
 use Rattle.rec_check.specs.Lines.{line_at, line_of, lines_of}
 use Rattle.rec_check.specs.Spots.{spot_of}
 use Rattle.rec_check.specs.declared.finding.Finding.{Finding}

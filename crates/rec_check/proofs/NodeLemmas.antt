@@ -1,5 +1,5 @@
 -- Loops over nodes with their bytes.
-use Rattle.std.proofs.Common.{refl, sym, ap, ◌∙◌, arith, append_assoc, inl, inr, subst}
+use Rattle.std.proofs.Common.{refl, sym, ap, ◌∙◌, arith, append_assoc, inl, inr}
 use Rattle.std.proofs.lemmas.Bool.{cases_lt}
 use Rattle.std.proofs.lemmas.List.{append-nil, drop_all, length-map}
 use Rattle.std.specs.Prelude.{ℕ, zero, suc, ◌≡◌, ◌-◌, ◌+◌, ◌<◌, ◌≤◌, ◌⊎◌, List, [], ◌∷◌, ◌++◌, Option, Some, None, option_map, length, map, take, drop, get_or, slice_get, min}
@@ -15,7 +15,7 @@ use Rattle.rec_syntax.specs.declared.parts.Term.{Term}
 use Rattle.rec_sorts.proofs.StackLemmas.{map-append}
 use Rattle.rec_sorts.proofs.TurnLemmas.{drop-turn}
 use Rattle.rec_check.specs.Lookups.{argument_sorts}
-use Rattle.rec_check.specs.Named.{as_word, as_words, as_node, as_nodes}
+use Rattle.rec_check.specs.Named.{as_word, as_words, as_nodes}
 use Rattle.rec_check.specs.Walks.{misfits, ill_sorted_among}
 use Rattle.rec_check.specs.declared.words.Word.{Word}
 use Rattle.rec_check.specs.declared.words.Counted.{Counted}

@@ -1,9 +1,9 @@
 -- Findings in the order of their places.
-use Rattle.std.proofs.Common.{refl, sym, ap, ◌∙◌, arith}
+use Rattle.std.proofs.Common.{refl, ap, arith}
 use Rattle.std.proofs.lemmas.List.{length-map}
-use Rattle.std.specs.Prelude.{ℕ, suc, zero, ◌≡◌, ◌<◌, ◌≤◌, List, [], ◌∷◌, length, map, get_or, IsPermutation}
+use Rattle.std.specs.Prelude.{ℕ, suc, zero, ◌≡◌, ◌<◌, List, [], ◌∷◌, length, map, get_or, IsPermutation}
 use Rattle.std.specs.List.Sorted.{IsNonDecreasingBy}
-use Rattle.rec_check.specs.Findings.{AreInOrder, HasSame, as_found, as_findings}
+use Rattle.rec_check.specs.Findings.{AreInOrder, as_found, as_findings}
 use Rattle.rec_check.specs.declared.finding.Finding.{Finding}
 use Rattle.rec_check.proofs.CountLemmas.{same-map, same-permutation}
 

@@ -1,8 +1,8 @@
 -- What a run of a check leaves.
-use Rattle.std.proofs.Common.{Vec, Global, Result, Ok, Err, ◌≡◌, ℕ, Bool, List, [], Option, Some, None, refl, sym, ap, subst, ◌∙◌, arith, inl, inr}
+use Rattle.std.proofs.Common.{Vec, Global, Result, Ok, Err, ◌≡◌, ℕ, List, [], Option, Some, None, refl, sym, ap, subst, ◌∙◌, arith, inl, inr}
 use Rattle.std.proofs.lemmas.Bool.{cases_lt}
 use Rattle.std.proofs.lemmas.List.{append-nil, length-take, take_all}
-use Rattle.std.specs.Prelude.{◌<◌, ◌≤◌, ◌⊎◌, ◌∷◌, ◌++◌, length, take, map, IfErr, IfOk, IfSome}
+use Rattle.std.specs.Prelude.{◌<◌, ◌≤◌, ◌⊎◌, ◌∷◌, ◌++◌, length, take, IfErr, IfOk, IfSome}
 use Rattle.std.specs.Io.KnownBytes.{Appends, Keeps}
 use Rattle.rx_text.specs.Written.{AppendsFront}
 use Rattle.rx_text.proofs.AppendingLemmas.{appends_both, appends_none}
@@ -10,7 +10,6 @@ use Rattle.rec_syntax.specs.Tokens.{Word}
 use Rattle.rec_syntax.specs.Syntax.{Spec}
 use Rattle.rec_syntax.specs.Grammar.{SpecText}
 use Rattle.rec_syntax.specs.Place.{IsFaultPlace}
-use Rattle.rec_syntax.proofs.DecidingLemmas.{one_reading}
 use Rattle.rec_sorts.specs.Laws.{Every}
 use Rattle.rec_sorts.specs.Lookup.{places}
 use Rattle.rec_sorts.specs.SpecRules.{Verdict, Long, Grammar, Breaks, Good, SpecVerdict, Fits, Fault, Broken, fault, first_broken, all_rules, least}
@@ -25,7 +24,7 @@ use Rattle.rec_check.specs.declared.finding.Kind.TheVariants as kind
 use Rattle.rec_check.specs.declared.finding.Rule.{Rule}
 use Rattle.rec_check.specs.declared.runs.Judgement.{Judgement}
 use Rattle.rec_check.specs.declared.runs.Judgement.TheVariants as judged
-use Rattle.rec_check.proofs.CountLemmas.{same-map, same-trans}
+use Rattle.rec_check.proofs.CountLemmas.{same-append, same-map, same-of, same-trans}
 
 pub appends_kept : (old mid new : Option (List ℕ)) (xs : List ℕ) → Appends old mid xs → Keeps mid new → Appends old new xs
 appends_kept old mid new xs a k = subst (Appends old new) (append-nil xs) (appends_both old mid new xs [] a (appends_none mid new k))
@@ -49,7 +48,7 @@ broken_examined text y f r fs fits spelled broken number o = record {
   ends = refl;
 }
 
-pub good_examined : (text : List ℕ) (y : Spec) (fs : List Found) (end : Judgement) → Fits text → SpecText text y → fault y ≡ None → AreInOrder (warnings y) fs → end ≡ judgement_of (Good y) fs → Examined text fs end
+pub good_examined : (text : List ℕ) (y : Spec) (fs : List Found) (end : Judgement) → Fits text → SpecText text y → fault y ≡ None → AreInOrder (warnings text y) fs → end ≡ judgement_of (Good y) fs → Examined text fs end
 good_examined text y fs end fits spelled good o e = record { verdict = Good y; is = (fits, spelled, good); are = o; ends = e }
 
 -- the rule that is broken has a number from 1 to 11
@@ -118,6 +117,18 @@ pub if_ok_found : {E : Type 0} (r : Result (Vec Finding Global) E) (k : Kind) (w
     → IfOk r (λ v. AreInOrder found (as_findings v.items)) → IfOk r (λ v. AreInOrder (found_at k ws) (as_findings v.items))
 if_ok_found (Ok v) k ws us found e h o = same_findings k ws us (as_findings v.items) h (subst (λ fs. AreInOrder fs (as_findings v.items)) e o)
 if_ok_found (Err f) k ws us found e h o = tt
+
+-- what is found in one order and in another
+pub if_ok_warned : {E : Type 0} (r : Result (Vec Finding Global) E) (tried matching inside others found : List Found) → found ≡ tried ++ inside ++ others → HasSame matching inside
+    → IfOk r (λ v. AreInOrder found (as_findings v.items)) → IfOk r (λ v. AreInOrder (tried ++ matching ++ others) (as_findings v.items))
+if_ok_warned (Ok v) tried matching inside others found e h o = record {
+  same = same-trans (tried ++ matching ++ others) found (as_findings v.items)
+      (same-trans (tried ++ matching ++ others) (tried ++ inside ++ others) found
+      (same-append (tried ++ matching) others (tried ++ inside) others (same-append tried matching tried inside (same-of tried tried refl) h) (same-of others others refl)) (same-of (tried ++ inside ++ others) found (sym e)))
+      o.same;
+  ordered = o.ordered;
+}
+if_ok_warned (Err f) tried matching inside others found e h o = tt
 
 pub run_tells : (name read text : List ℕ) → text ≡ read → (known : Option (List ℕ)) (old new : Option (List ℕ)) (r : Result Judgement RunFault) → IfSome known (λ bytes. read ≡ take 16777217 bytes)
     → IfOk r (λ end. Tells name text end old new) → IfOk r (λ end. IfSome known (λ bytes. Tells name bytes end old new))

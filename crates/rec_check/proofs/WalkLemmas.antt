@@ -13,10 +13,10 @@ use Rattle.rec_sorts.specs.SpecRules.{heads, everywhere, is_filled, ill_placed, 
 use Rattle.rec_sorts.proofs.StackLemmas.{map-append}
 use Rattle.rec_sorts.proofs.TableLemmas.{same_function}
 use Rattle.rec_check.specs.Findings.{HasSame}
-use Rattle.rec_check.specs.Lookups.{sort_named, argument_sorts, ill_filled_among, present}
+use Rattle.rec_check.specs.Lookups.{argument_sorts, ill_filled_among, present}
 use Rattle.rec_check.specs.Named.{node_words}
 use Rattle.rec_check.specs.Walks.{flat_terms, misfits, ill_sorted_among, unlike_heads, unlike_in_conditions, unlike_in, unbound_in}
-use Rattle.rec_check.proofs.CountLemmas.{count-cons, count-append, same-append, same-filter, same-map, same-trans, same-of, same-flat_map, same-flat_terms, same-flat, node_at}
+use Rattle.rec_check.proofs.CountLemmas.{count-cons, count-append, same-filter, same-map, same-trans, same-of, same-flat_map, same-flat_terms, same-flat, node_at}
 
 -- the last node of a term is its own
 slice_get-last : {X : Type 0} (xs : List X) (x : X) → slice_get (xs ++ x ∷ []) (length xs) ≡ Some x

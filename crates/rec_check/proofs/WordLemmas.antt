@@ -9,7 +9,10 @@ use Rattle.rec_sorts.specs.Lookup.{mentions}
 use Rattle.rec_sorts.proofs.StackLemmas.{map-append}
 use Rattle.rec_check.specs.Lookups.{Knows}
 use Rattle.rec_check.specs.declared.names.Names.{Names}
-use Rattle.std.specs.Prelude.{ℕ, ◌≡◌, ◌+◌, ◌<◌, ◌≤◌, List, [], ◌∷◌, ◌++◌, IfOk, count_by, codes, length, map, take, get_or}
+use Rattle.std.specs.Prelude.{ℕ, ◌≡◌, ◌+◌, ◌<◌, ◌≤◌, List, [], ◌∷◌, ◌++◌, IfOk, count_by, codes, decimal, length, map, take, get_or}
+use Rattle.std.proofs.Common.{length-append}
+use Rattle.rec_check.specs.Spots.{spot_shown}
+use Rattle.rec_check.specs.declared.spots.Spot.{Spot}
 use Rattle.rec_check.specs.Lines.{shown_text}
 use Rattle.rec_syntax.specs.Tokens as syntax
 use Rattle.rec_check.specs.Findings.{HasSame}
@@ -24,6 +27,12 @@ if_ok_same (Err f) zs xs e h = tt
 pub shown-some : (xs : List ℕ) → 0 < length xs → codes ": " ++ xs ≡ shown_text xs
 shown-some [] h = absurd (omega (arith, h))
 shown-some (x ∷ xs) h = refl
+
+-- a place is something to show
+pub shown-place : (p : Spot) → (codes ": " ++ decimal p.line) ++ (codes ":" ++ decimal p.column) ≡ shown_text (spot_shown p)
+shown-place p =
+    append_assoc (codes ": ") (decimal p.line) (codes ":" ++ decimal p.column)
+    ∙ shown-some (spot_shown p) (let all = length-append (decimal p.line) (codes ":" ++ decimal p.column) in let sign = length-append (codes ":") (decimal p.column) in let one : length (codes ":") ≡ 1 = refl in omega (arith, all, sign, one))
 
 pub if_ok_equal : {E : Type 0} (r : Result (Vec Word Global) E) (xs ys : List syntax.Word) → IfOk r (λ v. as_words v.items ≡ xs) → xs ≡ ys → IfOk r (λ v. as_words v.items ≡ ys)
 if_ok_equal (Ok v) xs ys e h = e ∙ h

@@ -1,19 +1,24 @@
 -- What is found in a text.
 --     broken_words y r       the words at which a rule is broken
---     warnings y             what a good specification is warned of
+--     warnings text y        what the good specification of a text is warned of
 --     AreFound text v fs     what is found after the verdict on a text
-use Rattle.std.specs.Prelude.{ℕ, ◌≡◌, Bool, Some, List, [], ◌∷◌, ◌++◌, map, flat_map, count_by}
+use Rattle.std.specs.Prelude.{ℕ, ◌≡◌, Bool, Option, Some, None, List, [], ◌∷◌, ◌++◌, map, flat_map, count_by}
 use Rattle.std.specs.List.Sorted.{IsNonDecreasingBy}
 use Rattle.rec_syntax.specs.Tokens.{Word}
-use Rattle.rec_syntax.specs.Syntax.{Spec}
+use Rattle.rec_syntax.specs.Syntax as syntax
+use Rattle.rec_syntax.specs.Syntax.{Term, Spec, arguments, head, subterms_all}
 use Rattle.rec_syntax.specs.Grammar.{SpecText}
 use Rattle.rec_sorts.specs.Lookup.{symbols, names, variable_words}
 use Rattle.rec_sorts.specs.SpecRules.{Verdict, Long, Grammar, Breaks, Good, heads, all_terms, missing, sorts_of, fault, repeated_sorts, repeated_symbols, taken_variables, unknown_sorts, unknown_words, ill_filled, ill_sorted, ill_headed, unlike_sides, unbound, open_terms}
+use Rattle.rec_check.specs.Rewriting.{rewritten_by}
+use Rattle.rec_check.specs.Spots.{spot_of, spot_shown}
 use Rattle.rec_check.specs.declared.finding.Finding.{Finding}
 use Rattle.rec_check.specs.declared.finding.Kind.{Kind}
-use Rattle.rec_check.specs.declared.finding.Kind.TheVariants.{TooLong, Outside, Broken, UnusedSort, UnusedSymbol, UnusedVariable}
+use Rattle.rec_check.specs.declared.finding.Kind.TheVariants.{TooLong, Outside, Broken, NeverTried, NeverMatches, UnusedSort, UnusedSymbol, UnusedVariable}
 use Rattle.rec_check.specs.declared.finding.Rule.{Rule}
 use Rattle.rec_check.specs.declared.finding.Rule.TheVariants as rule
+use Rattle.rec_check.specs.declared.finding.Shown.{Shown}
+use Rattle.rec_check.specs.declared.finding.Shown.TheVariants as shown
 use Rattle.rec_check.specs.declared.runs.Judgement.{Judgement}
 use Rattle.rec_check.specs.declared.runs.Judgement.TheVariants as judged
 
@@ -72,10 +77,37 @@ unused_symbols y = missing (heads (all_terms y)) (names (symbols y))
 abbrev pub unused_variables : Spec → List Word
 unused_variables y = missing (heads (all_terms y)) (variable_words y.variables)
 
--- what a good specification is warned of
-abbrev pub warnings : Spec → List Found
-warnings y = found_at UnusedSort (unused_sorts y) ++ found_at UnusedSymbol (unused_symbols y)
+-- what is found at a word of a text, where the first word of a rule is shown by its place
+abbrev pub found_by : Kind → List ℕ → Word → Option Word → List Found
+found_by k text w None = []
+found_by k text w (Some v) =
+    record { at = w.at; shown = spot_shown (spot_of text v.at); kind = k } ∷ []
+
+-- the rules, behind others, that are never tried: a rule before matches all that one does
+abbrev pub never_tried : List ℕ → Spec → List syntax.Rule → List syntax.Rule → List Found
+never_tried text y before [] = []
+never_tried text y before (r ∷ rs) =
+    found_by NeverTried text (head r.left) (rewritten_by y before r.left)
+    ++ never_tried text y (before ++ r ∷ []) rs
+
+-- those of some arguments that are rewritten before a left side could match them
+abbrev pub never_matching_in : List ℕ → Spec → List Term → List Found
+never_matching_in text y ts =
+    flat_map (λ t. found_by NeverMatches text (head t) (rewritten_by y y.rules t)) ts
+
+-- those of the arguments of left sides, at any depth
+abbrev pub never_matching : List ℕ → Spec → List Found
+never_matching text y =
+    never_matching_in text y (flat_map (λ r. subterms_all (arguments r.left)) y.rules)
+
+-- what is declared and never used
+abbrev pub unused : Spec → List Found
+unused y = found_at UnusedSort (unused_sorts y) ++ found_at UnusedSymbol (unused_symbols y)
     ++ found_at UnusedVariable (unused_variables y)
+
+-- what a good specification is warned of
+abbrev pub warnings : List ℕ → Spec → List Found
+warnings text y = never_tried text y [] y.rules ++ never_matching text y ++ unused y
 
 -- the same things, each as often: every test passes as often
 abbrev pub HasSame : {X : Type 0} → List X → List X → Type 0
@@ -93,7 +125,7 @@ AreFound text Long fs = fs ≡ found_alone TooLong 0
 AreFound text (Grammar at) fs = fs ≡ found_alone Outside at
 AreFound text (Breaks f) fs = (y : Spec) × (r : Rule) × SpecText text y × (fault y ≡ Some f)
     × (number_of r ≡ f.number) × AreInOrder (found_at (Broken r) (broken_words y r)) fs
-AreFound text (Good y) fs = AreInOrder (warnings y) fs
+AreFound text (Good y) fs = AreInOrder (warnings text y) fs
 
 -- how a check ends
 abbrev pub judgement_of : Verdict → List Found → Judgement
@@ -102,8 +134,12 @@ judgement_of (Good y) (f ∷ fs) = judged.Warned
 judgement_of v fs = judged.Refused
 
 -- findings as values
+abbrev pub bytes_shown : Shown → List ℕ
+bytes_shown (shown.Bytes bytes) = bytes.now
+bytes_shown (shown.Place spot) = spot_shown spot
+
 abbrev pub as_found : Finding → Found
-as_found f = record { at = f.at; shown = f.shown.now; kind = f.kind }
+as_found f = record { at = f.at; shown = bytes_shown f.shown; kind = f.kind }
 
 abbrev pub as_findings : List Finding → List Found
 as_findings fs = map as_found fs

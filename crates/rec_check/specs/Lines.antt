@@ -3,7 +3,7 @@ use Rattle.std.specs.Prelude.{ℕ, List, [], ◌∷◌, ◌++◌, codes, decimal
 use Rattle.rec_check.specs.Findings.{Found}
 use Rattle.rec_check.specs.Spots.{spot_of}
 use Rattle.rec_check.specs.declared.finding.Kind.{Kind}
-use Rattle.rec_check.specs.declared.finding.Kind.TheVariants.{TooLong, Outside, Broken, UnusedSort, UnusedSymbol, UnusedVariable}
+use Rattle.rec_check.specs.declared.finding.Kind.TheVariants.{TooLong, Outside, Broken, NeverTried, NeverMatches, UnusedSort, UnusedSymbol, UnusedVariable}
 use Rattle.rec_check.specs.declared.finding.Rule.{Rule}
 use Rattle.rec_check.specs.declared.finding.Rule.TheVariants as rule
 use Rattle.rec_check.specs.declared.spots.Spot.{Spot}
@@ -28,6 +28,10 @@ abbrev pub label_of : Kind → List ℕ
 label_of TooLong = codes "L1: the text has more than 16777216 bytes"
 label_of Outside = codes "G: no specification has this here"
 label_of (Broken r) = rule_label r
+label_of NeverTried =
+    codes "W1: never tried: an earlier rule without conditions matches all that this one does"
+label_of NeverMatches =
+    codes "W2: never matches: an argument like this is rewritten first"
 label_of UnusedSort = codes "W4: never used: no symbol and no variable has this sort"
 label_of UnusedSymbol = codes "W4: never used: a symbol of no rule and of no term"
 label_of UnusedVariable = codes "W4: never used: a variable of no rule"

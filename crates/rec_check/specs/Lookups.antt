@@ -1,8 +1,8 @@
 -- What the name of a word stands for.
-use Rattle.std.specs.Prelude.{ℕ, ◌≡◌, Bool, true, false, not, List, [], ◌∷◌, ◌++◌, Option, Some, None, map, flat_map, filter, length, nat_eq, bytes_eq, is_some, ◌||◌, cond, if◌then◌else◌}
+use Rattle.std.specs.Prelude.{ℕ, ◌≡◌, not, List, [], ◌∷◌, ◌++◌, Option, Some, None, map, flat_map, filter, length, nat_eq, bytes_eq, is_some, ◌||◌, cond, if◌then◌else◌}
 use Rattle.std.specs.HashMap.{get_by}
 use Rattle.rec_syntax.specs.Tokens.{Word}
-use Rattle.rec_syntax.specs.Syntax.{Declaration, Variables, Spec}
+use Rattle.rec_syntax.specs.Syntax.{Spec}
 use Rattle.rec_syntax.specs.Nodes.{Node}
 use Rattle.rec_sorts.specs.Lookup.{symbols, symbol, names, variable_words, variable_sort, mentions}
 use Rattle.rec_sorts.specs.Names.{first_at}

@@ -1,5 +1,5 @@
 -- Lines and columns, both from 1.
-use Rattle.std.specs.Prelude.{ℕ, suc, ◌==◌, if◌then◌else◌, List, [], ◌∷◌, take}
+use Rattle.std.specs.Prelude.{ℕ, suc, ◌==◌, if◌then◌else◌, List, [], ◌∷◌, ◌++◌, codes, decimal, take}
 use Rattle.rec_check.specs.declared.spots.Spot.{Spot}
 
 -- the first byte of a text
@@ -19,3 +19,7 @@ spot_after s (b ∷ bs) = spot_after (spot_behind s b) bs
 -- what stands so many bytes behind the beginning of a text
 abbrev pub spot_of : List ℕ → ℕ → Spot
 spot_of text at = spot_after first_spot (take at text)
+
+-- a line and a column as a text
+abbrev pub spot_shown : Spot → List ℕ
+spot_shown s = decimal s.line ++ (codes ":" ++ decimal s.column)

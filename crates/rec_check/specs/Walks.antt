@@ -1,9 +1,9 @@
 -- What breaks rules, by the nodes of terms, each behind those of its arguments.
-use Rattle.std.specs.Prelude.{ℕ, ◌-◌, true, false, List, [], ◌∷◌, ◌++◌, Some, length, take, drop, flat_map, map}
+use Rattle.std.specs.Prelude.{◌-◌, true, false, List, [], ◌∷◌, ◌++◌, Some, length, take, drop, flat_map}
 use Rattle.rec_syntax.specs.Tokens.{Word}
 use Rattle.rec_syntax.specs.Syntax.{Spec, Term, Condition, Rule, head}
 use Rattle.rec_syntax.specs.Nodes.{Node, flat}
-use Rattle.rec_sorts.specs.Lookup.{same_sort, condition_terms, is_variable, variable_words}
+use Rattle.rec_sorts.specs.Lookup.{same_sort, condition_terms}
 use Rattle.rec_sorts.specs.SpecRules.{missing, variables_among}
 use Rattle.rec_check.specs.Lookups.{sort_named, argument_sorts}
 use Rattle.rec_check.specs.Named.{node_words}

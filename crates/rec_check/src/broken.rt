@@ -33,7 +33,7 @@ use rec_syntax::{self, Condition, Syntax, Term};
 use std::alloc::{AllocError, Global};
 
 /// The first word of a term.
-fn head_of<'a>(syntax: &'a Syntax, term: &Term) -> Word<'a>
+pub(crate) fn head_of<'a>(syntax: &'a Syntax, term: &Term) -> Word<'a>
     requires { IsTerm syntax.now.source term.now }
     ensures { as_word result ≡ head (term_of syntax.now.source term.now) }
 {

@@ -4,6 +4,8 @@ ghost use Rattle.std.specs.Prelude.{◌≡◌, ◌<◌, ◌⊎◌, IfSome, None}
 ghost use Rattle.rec_check.specs.Findings.{number_of};
 ghost use Rattle.rec_check.specs.Lines.{label_of, rule_label};
 
+use crate::spots::Spot;
+
 /// A rule of specifications.
 #[derive(Clone, Copy, Debug, Drop, PartialEq, Eq)]
 pub enum Rule {
@@ -82,6 +84,10 @@ pub enum Kind {
     Outside,
     /// A rule is broken.
     Broken(Rule),
+    /// An earlier rule without conditions matches all that a rule does.
+    NeverTried,
+    /// An argument of a left side is rewritten before that could match.
+    NeverMatches,
     /// No symbol and no variable has a sort.
     UnusedSort,
     /// A symbol stands in no rule and in no term.
@@ -99,6 +105,10 @@ impl Kind {
             Kind::TooLong => b"L1: the text has more than 16777216 bytes",
             Kind::Outside => b"G: no specification has this here",
             Kind::Broken(rule) => rule.label(),
+            Kind::NeverTried => {
+                b"W1: never tried: an earlier rule without conditions matches all that this one does"
+            }
+            Kind::NeverMatches => b"W2: never matches: an argument like this is rewritten first",
             Kind::UnusedSort => b"W4: never used: no symbol and no variable has this sort",
             Kind::UnusedSymbol => b"W4: never used: a symbol of no rule and of no term",
             Kind::UnusedVariable => b"W4: never used: a variable of no rule",
@@ -106,11 +116,18 @@ impl Kind {
     }
 }
 
+/// What is shown of a finding: bytes, or a place of the text.
+#[derive(Clone, Copy, Drop)]
+pub enum Shown<'a> {
+    Bytes(&'a [u8]),
+    Place(Spot),
+}
+
 /// What is found at a place of a text: so many bytes stand before it.
 #[derive(Clone, Copy, Drop)]
 pub struct Finding<'a> {
     pub at: usize,
     /// What is shown of it.
-    pub shown: &'a [u8],
+    pub shown: Shown<'a>,
     pub kind: Kind,
 }

@@ -8,10 +8,11 @@ ghost use Rattle.rx_text.specs.Output.{
   Writes,
   WritesFront,
 };
-ghost use Rattle.rec_check.specs.Findings.{as_findings, as_found};
+ghost use Rattle.rec_check.specs.Findings.{as_findings, as_found, bytes_shown};
 ghost use Rattle.rec_check.specs.Lines.{line_at, lines_of, shown_text, spot_text};
+ghost use Rattle.rec_check.specs.Spots.{spot_shown};
 
-use crate::finding::Finding;
+use crate::finding::{Finding, Shown};
 use crate::spots::{Cursor, Spot};
 use rx_run::put_numbered_to;
 use rx_text::{Output, RefusedWrite};
@@ -31,8 +32,8 @@ fn write_spot<W: Write>(spot: Spot, out: &mut Output<'_, W>) -> Result<(), Refus
     Ok(())
 }
 
-/// Writes what is shown behind a label.
-fn write_shown<W: Write>(shown: &[u8], out: &mut Output<'_, W>) -> Result<(), RefusedWrite>
+/// Writes bytes that are shown behind a label.
+fn write_bytes<W: Write>(shown: &[u8], out: &mut Output<'_, W>) -> Result<(), RefusedWrite>
     requires { IsWritable out.old }
     ensures ok { OnOk result (Writes W.contents out.old out.new (shown_text shown.now)) }
     ensures err { OnErr result (WritesFront W.contents out.old out.new (shown_text shown.now)) }
@@ -45,6 +46,37 @@ fn write_shown<W: Write>(shown: &[u8], out: &mut Output<'_, W>) -> Result<(), Re
     out.put(b": ")?;
     out.put(shown)?;
     Ok(())
+}
+
+/// Writes a place that is shown behind a label.
+fn write_place<W: Write>(spot: Spot, out: &mut Output<'_, W>) -> Result<(), RefusedWrite>
+    requires { IsWritable out.old }
+    ensures ok { OnOk result
+        (Writes W.contents out.old out.new (shown_text (spot_shown spot))) }
+    ensures err { OnErr result
+        (WritesFront W.contents out.old out.new (shown_text (spot_shown spot))) }
+    ensures same { IsSameOutput out.old out.new }
+    ensures cause { TellsRefusal out.new result }
+{
+    put_numbered_to(out, b": ", spot.line)?;
+    put_numbered_to(out, b":", spot.column)?;
+    Ok(())
+}
+
+/// Writes what is shown behind a label.
+fn write_shown<W: Write>(shown: Shown<'_>, out: &mut Output<'_, W>) -> Result<(), RefusedWrite>
+    requires { IsWritable out.old }
+    ensures ok { OnOk result
+        (Writes W.contents out.old out.new (shown_text (bytes_shown shown.entry))) }
+    ensures err { OnErr result
+        (WritesFront W.contents out.old out.new (shown_text (bytes_shown shown.entry))) }
+    ensures same { IsSameOutput out.old out.new }
+    ensures cause { TellsRefusal out.new result }
+{
+    match shown {
+        Shown::Bytes(bytes) => write_bytes(bytes, out),
+        Shown::Place(spot) => write_place(spot, out),
+    }
 }
 
 /// Writes the line of what is found at a spot of the text of this name.

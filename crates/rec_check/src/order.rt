@@ -4,7 +4,7 @@ ghost use Rattle.std.specs.Prelude.{◌≡◌, ◌++◌, IfOk, OnOk};
 ghost use Rattle.rec_check.specs.Findings.{AreInOrder, as_findings, found_at};
 ghost use Rattle.rec_check.specs.Named.{as_words};
 
-use crate::finding::{Finding, Kind};
+use crate::finding::{Finding, Kind, Shown};
 use crate::words::Word;
 use std::alloc::AllocError;
 
@@ -20,7 +20,7 @@ pub(crate) fn push_found<'a>(
     for word in words {
         findings.push(Finding {
             at: word.at,
-            shown: word.bytes,
+            shown: Shown::Bytes(word.bytes),
             kind,
         })?;
     }

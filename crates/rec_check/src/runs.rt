@@ -17,7 +17,7 @@ ghost use Rattle.rec_check.specs.Findings.{
 ghost use Rattle.rec_check.specs.Runs.{Examined, Stops, Tells};
 
 use crate::broken::broken_words;
-use crate::finding::{Finding, Kind, Rule};
+use crate::finding::{Finding, Kind, Rule, Shown};
 use crate::lines::write_findings;
 use crate::order::{in_order, push_found};
 use crate::warned::warnings;
@@ -116,7 +116,7 @@ fn tell_one<W: Write>(
 {
     let finding = Finding {
         at,
-        shown: &[],
+        shown: Shown::Bytes(&[]),
         kind,
     };
     tell(name, text, &[finding], Judgement::Refused, out)
@@ -130,6 +130,7 @@ fn check_syntax<W: Write>(
     syntax: Syntax,
     out: &mut W,
 ) -> Result<Judgement, RunFault>
+    requires same { syntax.source ≡ text.now }
     requires fits { Fits text.now }
     requires spelled { SpecText text.now syntax.spec }
     ensures output { IfOk result
@@ -138,7 +139,7 @@ fn check_syntax<W: Write>(
         (λ fault. Stops name.now text.now fault (W.contents out.old) (W.contents out.new)) }
 {
     match check(alloc, syntax) {
-        Ok(checked) => tell_warnings(alloc, name, text, &checked, out),
+        Ok(checked) => tell_warnings(alloc, name, &checked, out),
         Err(SortFault::Rule { number, at }) => tell_broken(alloc, name, text, number, at, out),
         Err(SortFault::Memory) => Err(RunFault::Memory { lines: 0 }),
     }
@@ -148,18 +149,18 @@ fn check_syntax<W: Write>(
 fn tell_warnings<W: Write>(
     alloc: Global,
     name: &[u8],
-    text: &[u8],
     checked: &Checked,
     out: &mut W,
 ) -> Result<Judgement, RunFault>
-    requires fits { Fits text.now }
-    requires spelled { SpecText text.now checked.now.spec }
-    ensures output { IfOk result
-        (λ end. Tells name.now text.now end (W.contents out.old) (W.contents out.new)) }
-    ensures fault { IfErr result
-        (λ fault. Stops name.now text.now fault (W.contents out.old) (W.contents out.new)) }
+    requires fits { Fits checked.now.source }
+    requires spelled { SpecText checked.now.source checked.now.spec }
+    ensures output { IfOk result (λ end. Tells name.now checked.now.source end
+        (W.contents out.old) (W.contents out.new)) }
+    ensures fault { IfErr result (λ fault. Stops name.now checked.now.source fault
+        (W.contents out.old) (W.contents out.new)) }
 {
-    let findings = warnings(alloc, checked.syntax())?;
+    let findings = warnings(alloc, checked)?;
+    let text = checked.syntax().source();
     tell(name, text, &findings, judged(&findings), out)
 }
 

@@ -1,11 +1,10 @@
-use Rattle.std.proofs.Common.{◌≡◌, sym, ap, subst, ◌∙◌, ◌++◌}
+use Rattle.std.proofs.Common.{◌≡◌, sym, ap, ◌∙◌, ◌++◌}
 use Rattle.std.specs.Prelude.{count_by}
-use Rattle.rec_sorts.specs.Lookup.{names, rule_terms, symbols, variable_words}
-use Rattle.rec_sorts.specs.SpecRules.{missing, unknown_words, ill_filled, ill_sorted, open_terms}
-use Rattle.rec_check.specs.Lookups.{Knows, ill_filled_among, present}
-use Rattle.rec_check.specs.Named.{as_nodes, as_words, node_words}
-use Rattle.rec_check.specs.Walks.{flat_terms, ill_sorted_among}
-use Rattle.std.specs.Prelude.{[]}
+use Rattle.rec_sorts.specs.Lookup.{rule_terms}
+use Rattle.rec_sorts.specs.SpecRules.{ill_filled}
+use Rattle.rec_check.specs.Lookups.{ill_filled_among}
+use Rattle.rec_check.specs.Named.{as_nodes}
+use Rattle.rec_check.specs.Walks.{flat_terms}
 use Rattle.rec_syntax.specs.Syntax.{Sourced}
 use Rattle.rec_check.proofs.WalkLemmas.{same-ill_filled}
 use Rattle.rec_check.proofs.WordLemmas.{if_ok_same}

@@ -1,10 +1,10 @@
-use Rattle.std.proofs.Common.{◌≡◌, sym, ap, subst, ◌∙◌, ◌++◌}
+use Rattle.std.proofs.Common.{◌≡◌, sym, ap, subst, ◌∙◌}
 use Rattle.std.specs.Prelude.{count_by}
-use Rattle.rec_sorts.specs.Lookup.{names, rule_terms, symbols, variable_words}
-use Rattle.rec_sorts.specs.SpecRules.{missing, unknown_words, ill_filled, ill_sorted, open_terms}
-use Rattle.rec_check.specs.Lookups.{Knows, ill_filled_among, present}
+use Rattle.rec_sorts.specs.Lookup.{variable_words}
+use Rattle.rec_sorts.specs.SpecRules.{open_terms}
+use Rattle.rec_check.specs.Lookups.{Knows, present}
 use Rattle.rec_check.specs.Named.{as_nodes, as_words, node_words}
-use Rattle.rec_check.specs.Walks.{flat_terms, ill_sorted_among}
+use Rattle.rec_check.specs.Walks.{flat_terms}
 use Rattle.rec_check.proofs.WalkLemmas.{same-present}
 use Rattle.rec_check.proofs.WordLemmas.{if_ok_same}
 use Rattle.rec_check.proofs.broken.open_terms.Goals as goal

@@ -1,6 +1,5 @@
-use Rattle.std.proofs.Common.{◌≡◌, ◌++◌, take, drop, map}
-use Rattle.std.specs.Prelude.{flat_map, filter}
-use Rattle.rec_check.specs.Named.{as_words, as_nodes}
+use Rattle.std.proofs.Common.{◌≡◌, ◌++◌, take, map}
+use Rattle.rec_check.specs.Named.{as_words}
 use Rattle.rec_syntax.specs.Parts.{condition_of}
 use Rattle.rec_check.specs.Walks.{unlike_in_conditions}
 use Rattle.rec_check.proofs.broken.push_unlike_conditions.Given as goal

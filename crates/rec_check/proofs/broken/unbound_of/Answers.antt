@@ -1,4 +1,4 @@
-use Rattle.std.proofs.Common.{◌≡◌, sym, ap, subst, ◌∙◌, ◌++◌, ◌∷◌}
+use Rattle.std.proofs.Common.{◌≡◌, ap, subst, ◌∙◌, ◌++◌, ◌∷◌}
 use Rattle.rec_syntax.specs.Nodes.{flat}
 use Rattle.rec_syntax.specs.Parts.{rule_of}
 use Rattle.rec_sorts.specs.Lookup.{condition_terms, variable_words}

@@ -1,6 +1,6 @@
-use Rattle.std.proofs.Common.{◌≡◌, ◌++◌, take, drop, map}
-use Rattle.std.specs.Prelude.{flat_map, filter}
-use Rattle.std.specs.Prelude.{not, is_some}
+use Rattle.std.proofs.Common.{◌≡◌, take}
+use Rattle.std.specs.Prelude.{filter}
+use Rattle.std.specs.Prelude.{is_some}
 use Rattle.rec_check.specs.Named.{as_words}
 use Rattle.rec_check.specs.Lookups.{number_in}
 use Rattle.rec_check.proofs.filters.present.Given as goal

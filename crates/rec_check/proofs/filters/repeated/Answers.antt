@@ -1,7 +1,4 @@
-use Rattle.std.proofs.Common.{ap, sym, ◌∙◌, arith, rules, ◌++◌, ◌∷◌, []}
-use Rattle.std.specs.Prelude.{ℕ, List, length, is_some, drop}
-use Rattle.rec_check.specs.Lookups.{number_in}
-use Rattle.rec_check.specs.Named.{as_word, as_words}
+use Rattle.rec_check.specs.Named.{as_words}
 use Rattle.rec_check.proofs.LookupLemmas.{repeated_begin, repeated_item}
 use Rattle.rec_check.proofs.filters.repeated.Goals as goal
 

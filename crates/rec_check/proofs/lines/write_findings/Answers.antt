@@ -1,10 +1,7 @@
-use Rattle.std.proofs.Common.{subst, sym, ap, ◌∙◌, rules}
+use Rattle.std.proofs.Common.{subst, sym, rules}
 use Rattle.std.specs.Io.KnownBytes.{Appends}
 use Rattle.rx_text.proofs.AppendingLemmas.{appends_both, front_within, on_err}
 use Rattle.rec_check.specs.Cursors.{IsCursor}
-use Rattle.rec_check.specs.Findings.{as_found}
-use Rattle.rec_check.specs.Lines.{line_at}
-use Rattle.rec_check.specs.Spots.{spot_of}
 use Rattle.rec_check.proofs.LineLemmas.{lines_end, lines_rest, lines_turn}
 use Rattle.rec_check.proofs.lines.write_findings.Goals as goal
 

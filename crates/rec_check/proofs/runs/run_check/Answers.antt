@@ -1,4 +1,3 @@
-use Rattle.std.proofs.Common.{ap, ◌∙◌, subst}
 use Rattle.rec_check.proofs.RunLemmas.{run_stops, run_tells}
 use Rattle.rec_check.proofs.runs.run_check.Goals as goal
 

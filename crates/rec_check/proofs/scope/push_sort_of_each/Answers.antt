@@ -1,4 +1,3 @@
-use Rattle.std.proofs.Common.{subst, ap, ◌∙◌}
 use Rattle.rec_check.proofs.WordLemmas.{copies_end, copies_item}
 use Rattle.rec_check.proofs.scope.push_sort_of_each.Goals as goal
 

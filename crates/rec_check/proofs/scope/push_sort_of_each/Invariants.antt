@@ -1,5 +1,4 @@
-use Rattle.std.proofs.Common.{◌≡◌, ◌++◌, take, drop, map}
-use Rattle.std.specs.Prelude.{flat_map, filter}
+use Rattle.std.proofs.Common.{◌≡◌, ◌++◌, take, map}
 use Rattle.rec_check.specs.Named.{as_word, as_words}
 use Rattle.rec_check.proofs.scope.push_sort_of_each.Given as goal
 

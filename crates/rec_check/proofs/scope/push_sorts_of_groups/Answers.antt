@@ -1,4 +1,4 @@
-use Rattle.std.proofs.Common.{arith, ◌∷◌}
+use Rattle.std.proofs.Common.{◌∷◌}
 use Rattle.std.specs.Prelude.{map}
 use Rattle.rec_syntax.specs.Syntax.{Variables}
 use Rattle.rec_syntax.specs.Parts.{group_of}

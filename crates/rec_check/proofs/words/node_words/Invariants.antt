@@ -1,5 +1,4 @@
-use Rattle.std.proofs.Common.{◌≡◌, ◌++◌, take, drop, map}
-use Rattle.std.specs.Prelude.{flat_map, filter}
+use Rattle.std.proofs.Common.{◌≡◌, take}
 use Rattle.rec_check.specs.Named.{as_words, as_nodes, node_words}
 use Rattle.rec_check.proofs.words.node_words.Given as goal
 

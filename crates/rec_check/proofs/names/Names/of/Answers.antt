@@ -1,10 +1,8 @@
-use Rattle.std.proofs.Common.{ap, sym, ◌∙◌, arith, rules, subst, take, map, ◌++◌, ◌∷◌, []}
-use Rattle.std.specs.Prelude.{ℕ, List, length, is_some}
-use Rattle.std.proofs.lemmas.List.{take_all, take_more, length-map, length-take}
-use Rattle.rec_sorts.specs.Names.{first_at}
+use Rattle.std.proofs.Common.{ap, sym, ◌∙◌}
+use Rattle.std.specs.Prelude.{is_some}
 use Rattle.rec_check.specs.Lookups.{number_in}
-use Rattle.rec_check.specs.Named.{as_word, as_words}
-use Rattle.rec_check.proofs.LookupLemmas.{all_numbered, first_at_turn, mentions-first_at, noted_words}
+use Rattle.rec_check.specs.Named.{as_words}
+use Rattle.rec_check.proofs.LookupLemmas.{all_numbered, mentions-first_at, noted_words}
 use Rattle.rec_check.proofs.names.Names.of.Goals as goal
 
 pub loop-i-preserved : goal.loop-i-preserved

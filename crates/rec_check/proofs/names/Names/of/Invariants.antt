@@ -1,5 +1,4 @@
-use Rattle.std.proofs.Common.{◌≡◌, ◌++◌, take, drop, map}
-use Rattle.std.specs.Prelude.{flat_map, filter}
+use Rattle.std.proofs.Common.{◌≡◌, take}
 use Rattle.std.specs.Prelude.{ℕ, List}
 use Rattle.rec_check.specs.Named.{as_words}
 use Rattle.rec_check.specs.Lookups.{number_in}

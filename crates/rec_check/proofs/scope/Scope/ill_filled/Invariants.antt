@@ -1,5 +1,4 @@
-use Rattle.std.proofs.Common.{◌≡◌, ◌++◌, take, drop, map}
-use Rattle.std.specs.Prelude.{flat_map, filter}
+use Rattle.std.proofs.Common.{◌≡◌, take}
 use Rattle.rec_check.specs.Named.{as_words, as_nodes}
 use Rattle.rec_check.specs.Lookups.{ill_filled_among}
 use Rattle.rec_check.proofs.scope.Scope.ill_filled.Given as goal

@@ -1,4 +1,4 @@
-use Rattle.std.proofs.Common.{◌∙◌, ap, drop, take, arith, rules, ◌++◌}
+use Rattle.std.proofs.Common.{◌∙◌, ap, drop, arith, rules, ◌++◌}
 use Rattle.std.specs.Prelude.{◌-◌, length}
 use Rattle.std.proofs.lemmas.List.{length-drop, take_all}
 use Rattle.rec_syntax.specs.Parts.{words_of}

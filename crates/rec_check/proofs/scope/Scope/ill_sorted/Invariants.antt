@@ -1,5 +1,4 @@
-use Rattle.std.proofs.Common.{◌≡◌, ◌++◌, take, drop, map}
-use Rattle.std.specs.Prelude.{flat_map, filter}
+use Rattle.std.proofs.Common.{◌≡◌, ◌++◌, drop}
 use Rattle.rec_check.specs.Named.{as_words, as_nodes}
 use Rattle.std.specs.Prelude.{[]}
 use Rattle.rec_check.specs.Walks.{ill_sorted_among}

@@ -3,7 +3,7 @@ use Rattle.std.specs.Prelude.{codes}
 use Rattle.rx_text.specs.Written.{AppendsFront}
 use Rattle.rx_text.proofs.AppendingLemmas.{front_after, front_before, on_err}
 use Rattle.rec_check.proofs.WordLemmas.{shown-some}
-use Rattle.rec_check.proofs.lines.write_shown.Goals as goal
+use Rattle.rec_check.proofs.lines.write_bytes.Goals as goal
 
 pub returns-in_err-put-clause-err : goal.returns-in_err-put-clause-err
 returns-in_err-put-clause-err g c =

@@ -1,0 +1,35 @@
+use Rattle.std.proofs.Common.{ap, arith, map, refl, subst, sym, ◌∙◌, ◌≡◌, []}
+use Rattle.std.specs.Prelude.{All, ◌<◌, get_or, length, take}
+use Rattle.rec_syntax.specs.Syntax.{Sourced, head}
+use Rattle.rec_syntax.specs.Parts.{rule_of, term_of}
+use Rattle.rec_sorts.specs.Numbering.{IsMeaning, named, named_by}
+use Rattle.rec_match.proofs.SkipLemmas as skip
+use Rattle.rec_check.specs.Findings.{as_findings}
+use Rattle.rec_check.specs.Named.{as_word}
+use Rattle.rec_check.specs.Rewriting.{rewritten_by}
+use Rattle.rec_check.proofs.RewritingLemmas.{left_term, rules_long, tried_turn}
+use Rattle.rec_check.proofs.rewriting.Rewriter.push_never_tried.Goals as goal
+
+pub rewriting-requires-clause-meant : goal.rewriting-requires-clause-meant
+rewriting-requires-clause-meant c =
+    let y = c.args.self.now.checked.now.spec in
+    subst (λ ls. All (λ l. IsMeaning y l.meaning) ls) (sym c.deref.ensures.value) (c.letters.ensures skip.no_rule).0.0
+
+pub loop-i-preserved : goal.loop-i-preserved
+loop-i-preserved c =
+    let s = c.args.self.now.checked.now in
+    let y = s.spec in
+    let i = c.loop-i.i in
+    let d = skip.no_rule in
+    let items = c.rules-rule-items.result.now in
+    let t = (get_or y.rules i d).left in
+    let o = rewritten_by y (take i y.rules) t in
+    let is = subst (λ (x : Sourced). as_word c.head_of-word.result ≡ head (term_of x.source c.rule-item.result.left)) c.syntax-syntax.ensures.same c.head_of-word.ensures in
+    let rules = subst (λ (x : Sourced). map (rule_of x.source) items ≡ x.spec.rules) c.syntax-syntax.ensures.same c.rules-rule-items.ensures.rules in
+    let long = rules_long s.source items y.rules rules in
+    let test = c.loop-i-test.true in
+    let lt : i < length items = omega (arith, test) in
+    let own = (c.letters.ensures d).0 in
+    tried_turn s.source y i d (as_word c.head_of-word.result) o (as_findings c.args.found.now.items) (as_findings c.loop-i.found.items) (as_findings c.push.new.found.items) (omega (arith, lt, long))
+    (is ∙ ap head (left_term s.source items y.rules i c.rule-item.result d rules lt c.rule-item.is)) refl c.loop-i.invariant
+    (c.in_ok-push.ensures o (c.in_ok-by.ensures.first [] t (subst (λ ls. map (named_by y) ls ≡ named t) (sym c.deref.ensures.value) own.1)))

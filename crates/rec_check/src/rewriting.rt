@@ -1,0 +1,378 @@
+//! Which rules without conditions rewrite a term whose variables are read as constants.
+
+ghost use Rattle.std.specs.Prelude.{
+  ◌≡◌,
+  ◌++◌,
+  ◌<◌,
+  ◌≤◌,
+  [],
+  All,
+  IfOk,
+  IfSome,
+  List,
+  OnOk,
+  Option,
+  flat_map,
+  get_or,
+  length,
+  map,
+  take,
+};
+ghost use Rattle.rec_syntax.specs.Syntax as syntax;
+ghost use Rattle.rec_syntax.specs.Syntax.{arguments, head};
+ghost use Rattle.rec_syntax.specs.Tokens as tokens;
+ghost use Rattle.rec_sorts.specs.Lookup.{symbols};
+ghost use Rattle.rec_sorts.specs.Numbering.{
+  AreLetters,
+  IsLetterRule,
+  IsMeaning,
+  Named,
+  name_of,
+  named,
+  named_by,
+};
+ghost use Rattle.rec_sorts.specs.declared.letters.Meaning.TheVariants.{Symbol};
+ghost use Rattle.rec_match.specs.Built.{AreHeads, IsHead};
+ghost use Rattle.rec_match.specs.Chains.{AreChainsFrom};
+ghost use Rattle.rec_check.specs.Findings.{
+  as_findings,
+  found_by,
+  never_matching_in,
+  never_tried,
+};
+ghost use Rattle.rec_check.specs.Inside.{never_matching_inside};
+ghost use Rattle.rec_check.specs.Named.{as_word, as_words};
+ghost use Rattle.rec_check.specs.Rewriters.{IsRewriter};
+ghost use Rattle.rec_check.specs.Rewriting.{
+  IsFirstWord,
+  postorder_all,
+  rewrites,
+  rewritten_by,
+};
+ghost use Rattle.rec_check.specs.Spots.{spot_of};
+
+use crate::broken::head_of;
+use crate::finding::{Finding, Kind, Shown};
+use crate::matching::{Values, before_last, matches};
+use crate::spots::{Cursor, Spot};
+use crate::words::{Word, node_words, push_term};
+use rec_sorts::{Checked, Letter, LetterRule, Meaning};
+use rec_syntax::Syntax;
+use std::alloc::{AllocError, Global};
+
+/// The first rule of each symbol, and for each rule the next one of the same symbol; the number of
+/// rules stands for none.
+#[derive(Drop)]
+struct Chains {
+    firsts: Vec<usize>,
+    nexts: Vec<usize>,
+}
+
+/// The chains of rules whose symbols these are, of so many symbols.
+fn chain(alloc: Global, heads: &[u32], count: usize) -> Result<Chains, AllocError>
+    requires { All (λ k. k < count) heads.now }
+    ensures { IfOk result (λ c. AreChainsFrom heads.now count 0 c.firsts.items c.nexts.items) }
+{
+    let end = heads.len();
+    let mut firsts = vec![in alloc; end; count]?;
+    let mut nexts = vec![in alloc; end; end]?;
+    let mut rule = end;
+    while rule > 0 {
+        rule -= 1;
+        let symbol = heads[rule] as usize;
+        nexts[rule] = firsts[symbol];
+        firsts[symbol] = rule;
+    }
+    Ok(Chains { firsts, nexts })
+}
+
+/// The letters of a rule.
+fn letters<'a>(checked: &'a Checked, rule: usize) -> &'a LetterRule
+    requires { rule < length checked.now.spec.rules }
+    ensures { (r : _)
+        → IsLetterRule checked.now.spec result.now (get_or checked.now.spec.rules rule r) }
+{
+    match checked.rules().get(rule) {
+        Some(letters) => letters,
+        None => unreachable!(),
+    }
+}
+
+/// The number of the symbol with which a left side begins.
+fn head_symbol(checked: &Checked, rule: usize) -> u32
+    requires { rule < length checked.now.spec.rules }
+    ensures { (r : _) → IsHead checked.now.spec (get_or checked.now.spec.rules rule r) result }
+{
+    let _kept = checked.syntax();
+    match letters(checked, rule).left.split_last() {
+        Some((letter, _others)) => match letter.meaning {
+            Meaning::Symbol(symbol) => symbol,
+            Meaning::Variable(_) => unreachable!(),
+        },
+        None => unreachable!(),
+    }
+}
+
+/// The numbers of the symbols with which the left sides begin.
+fn head_symbols(alloc: Global, checked: &Checked) -> Result<Vec<u32>, AllocError>
+    ensures { IfOk result (λ v. AreHeads checked.now.spec v.items) }
+{
+    let mut heads = Vec::new(alloc);
+    for rule in 0..checked.rules().len() {
+        heads.push(head_symbol(checked, rule))?;
+    }
+    Ok(heads)
+}
+
+/// The first words of the arguments of a left side, at any depth, each behind those inside it.
+fn inner_words<'a>(
+    alloc: Global,
+    syntax: &'a Syntax,
+    rule: usize,
+) -> Result<Vec<Word<'a>>, AllocError>
+    requires { rule < length syntax.now.spec.rules }
+    ensures { (r : _) → IfOk result (λ v. as_words v.items
+        ≡ map head (postorder_all (arguments (get_or syntax.now.spec.rules rule r).left))) }
+{
+    let mut nodes = Vec::new(alloc);
+    match syntax.rules().get(rule) {
+        Some(rule) => push_term(syntax, &rule.left, &mut nodes)?,
+        None => unreachable!(),
+    }
+    nodes.pop();
+    node_words(alloc, &nodes)
+}
+
+/// Where the left sides begin.
+fn left_spots(alloc: Global, syntax: &Syntax) -> Result<Vec<Spot>, AllocError>
+    ensures { IfOk result (λ v. v.items
+        ≡ map (λ r. spot_of syntax.now.source (head r.left).at) syntax.now.spec.rules) }
+{
+    let mut cursor = Cursor::new(syntax.source());
+    let mut spots = Vec::new(alloc);
+    for rule in syntax.rules() {
+        spots.push(cursor.spot(head_of(syntax, &rule.left).at))?;
+    }
+    Ok(spots)
+}
+
+/// The rules of a specification by the symbols with which their left sides begin.
+#[derive(Drop)]
+pub(crate) struct Rewriter<'a> {
+    checked: &'a Checked,
+    chains: Chains,
+    /// Where the left side of each rule begins.
+    spots: Vec<Spot>,
+}
+
+impl<'a> Rewriter<'a> {
+    /// The rules of a specification.
+    pub(crate) fn of(alloc: Global, checked: &'a Checked) -> Result<Self, AllocError>
+        ensures rules { IfOk result IsRewriter }
+        ensures same { IfOk result (λ r. r.checked.now ≡ checked.now) }
+    {
+        let heads = head_symbols(alloc, checked)?;
+        let chains = chain(alloc, &heads, checked.symbols() as usize)?;
+        let spots = left_spots(alloc, checked.syntax())?;
+        Ok(Rewriter {
+            checked,
+            chains,
+            spots,
+        })
+    }
+
+    /// Whether a rule has no conditions and its left side matches a term.
+    fn rewrites<'t>(
+        &self,
+        rule: usize,
+        term: &'t [Letter],
+        values: &mut Values<'t>,
+    ) -> Result<bool, AllocError>
+        requires { rule < length self.now.checked.now.spec.rules }
+        ensures { IfOk result (λ b. (r : syntax.Rule) (t : syntax.Term)
+            → AreLetters self.now.checked.now.spec term.now t
+            → b ≡ rewrites self.now.checked.now.spec
+            (get_or self.now.checked.now.spec.rules rule r) t) }
+    {
+        let _kept = self.checked.syntax();
+        let rule = letters(self.checked, rule);
+        if rule.conditions.len() == 0 {
+            matches(&rule.left, term, values)
+        } else {
+            Ok(false)
+        }
+    }
+
+    /// The first rule that rewrites a term of a symbol, before a rule.
+    fn rewriting_symbol<'t>(
+        &self,
+        symbol: u32,
+        before: usize,
+        term: &'t [Letter],
+        values: &mut Values<'t>,
+    ) -> Result<Option<usize>, AllocError>
+        requires rules { IsRewriter self.now }
+        requires symbol { symbol < length (symbols self.now.checked.now.spec) }
+        requires before { before ≤ length self.now.checked.now.spec.rules }
+        ensures first { IfOk result (λ found. (t : syntax.Term)
+            → AreLetters self.now.checked.now.spec term.now t
+            → (head t).bytes ≡ name_of self.now.checked.now.spec (Symbol symbol)
+            → IsFirstWord self.now.checked.now.spec found
+            (rewritten_by self.now.checked.now.spec
+            (take before self.now.checked.now.spec.rules) t)) }
+        ensures within { IfOk result (λ found.
+            IfSome found (λ rule. rule < length self.now.checked.now.spec.rules)) }
+    {
+        let mut rule = self.chains.firsts[symbol as usize];
+        while rule < before {
+            if self.rewrites(rule, term, values)? {
+                return Ok(Some(rule));
+            }
+            rule = self.chains.nexts[rule];
+        }
+        Ok(None)
+    }
+
+    /// The first rule that rewrites the last of some terms, which begins with a symbol, before a
+    /// rule.
+    fn rewriting_call<'t>(
+        &self,
+        symbol: u32,
+        before: usize,
+        terms: &'t [Letter],
+        values: &mut Values<'t>,
+    ) -> Result<Option<usize>, AllocError>
+        requires rules { IsRewriter self.now }
+        requires symbol { symbol < length (symbols self.now.checked.now.spec) }
+        requires before { before ≤ length self.now.checked.now.spec.rules }
+        requires meant { All (λ l. IsMeaning self.now.checked.now.spec l.meaning) terms.now }
+        ensures first { IfOk result (λ found. (ms : List Named) (t : syntax.Term)
+            → map (named_by self.now.checked.now.spec) terms.now ≡ ms ++ named t
+            → (head t).bytes ≡ name_of self.now.checked.now.spec (Symbol symbol)
+            → IsFirstWord self.now.checked.now.spec found
+            (rewritten_by self.now.checked.now.spec
+            (take before self.now.checked.now.spec.rules) t)) }
+        ensures within { IfOk result (λ found.
+            IfSome found (λ rule. rule < length self.now.checked.now.spec.rules)) }
+    {
+        if self.chains.firsts[symbol as usize] >= before {
+            return Ok(None);
+        }
+        let (_others, term) = terms.split_at(before_last(terms));
+        self.rewriting_symbol(symbol, before, term, values)
+    }
+
+    /// The first rule that rewrites the last of some terms, before a rule.
+    fn rewriting<'t>(
+        &self,
+        before: usize,
+        terms: &'t [Letter],
+        values: &mut Values<'t>,
+    ) -> Result<Option<usize>, AllocError>
+        requires rules { IsRewriter self.now }
+        requires before { before ≤ length self.now.checked.now.spec.rules }
+        requires meant { All (λ l. IsMeaning self.now.checked.now.spec l.meaning) terms.now }
+        ensures first { IfOk result (λ found. (ms : List Named) (t : syntax.Term)
+            → map (named_by self.now.checked.now.spec) terms.now ≡ ms ++ named t
+            → IsFirstWord self.now.checked.now.spec found
+            (rewritten_by self.now.checked.now.spec
+            (take before self.now.checked.now.spec.rules) t)) }
+        ensures within { IfOk result (λ found.
+            IfSome found (λ rule. rule < length self.now.checked.now.spec.rules)) }
+    {
+        let Some((last, _others)) = terms.split_last() else {
+            return Ok(None);
+        };
+        match last.meaning {
+            Meaning::Symbol(symbol) => self.rewriting_call(symbol, before, terms, values),
+            Meaning::Variable(_) => Ok(None),
+        }
+    }
+
+    /// What is found at a word where a rule rewrites what it begins, behind other findings.
+    fn push(
+        &self,
+        kind: Kind,
+        word: Word<'_>,
+        rule: Option<usize>,
+        found: &mut Vec<Finding<'a>>,
+    ) -> Result<(), AllocError>
+        requires rules { IsRewriter self.now }
+        requires within { IfSome rule (λ i. i < length self.now.checked.now.spec.rules) }
+        ensures { OnOk result ((o : Option tokens.Word)
+            → IsFirstWord self.now.checked.now.spec rule o
+            → as_findings found.new.items ≡ as_findings found.old.items
+            ++ found_by kind self.now.checked.now.source (as_word word.entry) o) }
+    {
+        if let Some(rule) = rule {
+            found.push(Finding {
+                at: word.at,
+                shown: Shown::Place(self.spots[rule]),
+                kind,
+            })?;
+        }
+        Ok(())
+    }
+
+    /// The rules that are never tried, behind other findings.
+    pub(crate) fn push_never_tried(
+        &self,
+        values: &mut Values<'a>,
+        found: &mut Vec<Finding<'a>>,
+    ) -> Result<(), AllocError>
+        requires { IsRewriter self.now }
+        ensures { OnOk result (as_findings found.new.items ≡ as_findings found.old.items
+            ++ never_tried self.now.checked.now.source self.now.checked.now.spec []
+            self.now.checked.now.spec.rules) }
+    {
+        let syntax = self.checked.syntax();
+        for (i, rule) in syntax.rules().iter().enumerate() {
+            let word = head_of(syntax, &rule.left);
+            let by = self.rewriting(i, &letters(self.checked, i).left, values)?;
+            self.push(Kind::NeverTried, word, by, found)?;
+        }
+        Ok(())
+    }
+
+    /// The arguments inside a rule's left side that are rewritten first, behind other findings.
+    fn push_inner(
+        &self,
+        alloc: Global,
+        rule: usize,
+        values: &mut Values<'a>,
+        found: &mut Vec<Finding<'a>>,
+    ) -> Result<(), AllocError>
+        requires rules { IsRewriter self.now }
+        requires rule { rule < length self.now.checked.now.spec.rules }
+        ensures { (r : _) → OnOk result (as_findings found.new.items
+            ≡ as_findings found.old.items
+            ++ never_matching_in self.now.checked.now.source self.now.checked.now.spec
+            (postorder_all (arguments (get_or self.now.checked.now.spec.rules rule r).left))) }
+    {
+        let syntax = self.checked.syntax();
+        let words = inner_words(alloc, syntax, rule)?;
+        let left = &letters(self.checked, rule).left;
+        for (i, word) in words.iter().enumerate() {
+            let by = self.rewriting(self.spots.len(), &left[..i + 1], values)?;
+            self.push(Kind::NeverMatches, *word, by, found)?;
+        }
+        Ok(())
+    }
+
+    /// The same of all rules.
+    pub(crate) fn push_never_matching(
+        &self,
+        alloc: Global,
+        values: &mut Values<'a>,
+        found: &mut Vec<Finding<'a>>,
+    ) -> Result<(), AllocError>
+        requires { IsRewriter self.now }
+        ensures { OnOk result (as_findings found.new.items ≡ as_findings found.old.items
+            ++ never_matching_inside self.now.checked.now.source self.now.checked.now.spec) }
+    {
+        for rule in 0..self.spots.len() {
+            self.push_inner(alloc, rule, values, found)?;
+        }
+        Ok(())
+    }
+}
