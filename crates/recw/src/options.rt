@@ -35,7 +35,7 @@ pub fn run_settings(options: EvalOptions) -> RunSettings {
 }
 
 /// All that a trace is told.
-pub fn trace_options(options: EvalOptions, shown: Shown<'_>) -> TraceOptions {
+pub fn trace_options(options: EvalOptions, shown: Shown) -> TraceOptions {
     TraceOptions {
         run: run_options(options),
         whole: shown.whole,

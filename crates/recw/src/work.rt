@@ -9,14 +9,14 @@ use std::io::{Read, Write};
 
 /// What is told of terms that are evaluated.
 #[derive(Clone, Copy)]
-pub enum Work<'a> {
+pub enum Work {
     /// Their values.
     Values(EvalOptions),
     /// The rules that fire, and the values.
-    Trace(EvalOptions, Shown<'a>),
+    Trace(EvalOptions, Shown),
 }
 
-impl Work<'_> {
+impl Work {
     /// Does it over the texts of a specification and of given terms.
     pub fn run<R: Read, T: Read, W: Write>(
         self,

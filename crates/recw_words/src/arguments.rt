@@ -98,39 +98,6 @@ pub fn width<'a>(alloc: Global) -> Arg<'a> {
     ))
 }
 
-/// The option `--first`.
-pub fn first<'a>(alloc: Global) -> Arg<'a> {
-    let help = "Print only the first N that fire, up to 10^18";
-    bare_number(alloc, "first", "N", help).value_parser(value_parser!(u64).range(
-        0..=MOST_STEPS as i64,
-    ))
-}
-
-/// The option `--last`.
-pub fn last<'a>(alloc: Global) -> Arg<'a> {
-    let help = "Print only the last N that fire, up to 2^30";
-    bare_number(alloc, "last", "N", help).value_parser(value_parser!(u32).range(
-        0..=i64::from(MOST_CELLS),
-    ))
-}
-
-/// The option `--rule`. Its value is read as several, of which there are to be two.
-pub fn rule<'a>(alloc: Global) -> Arg<'a> {
-    let help = "Print only where the rule fires that begins at this place";
-    bare_number(alloc, "rule", "LINE:COL", help)
-        .value_delimiter(':')
-        .value_parser(value_parser!(u32).range(1..))
-}
-
-/// The option `--symbol`.
-pub fn symbol<'a>(alloc: Global) -> Arg<'a> {
-    let help = "Print only where a call of this symbol is rewritten";
-    Arg::new(alloc, "symbol")
-        .long("symbol")
-        .value_name("NAME")
-        .help(help)
-}
-
 /// The option `--nodes`, which belongs to a graph.
 pub fn nodes<'a>(alloc: Global) -> Result<Arg<'a>, AllocError> {
     let help = "Most parts in the graph, 1 to 2^30";

@@ -1,8 +1,8 @@
 //! The command line, and its help.
 
 use crate::arguments::{
-    cells, count, depth, explain, file, first, flag, indent, last, memo, nodes, pattern, reclaim,
-    rule, spent, steps, symbol, term, text, width,
+    cells, count, depth, explain, file, flag, indent, memo, nodes, pattern, reclaim, spent, steps,
+    term, text, width,
 };
 use clap::{Arg, ArgAction, Command};
 use std::alloc::{AllocError, Global};
@@ -132,11 +132,10 @@ fn trace_command<'a>(alloc: Global) -> Result<Command<'a>, AllocError> {
         "trace",
         "Print each rule that fires while terms are evaluated, and what it rewrites",
         "Each line is LINE:COL: TERM -> TERM, with the place at which the rule begins.\n\n\
-         Example: recw trace --first 2 add.rec",
+         Example: recw trace --count add.rec",
     );
     let command = with_traced(alloc, command)?;
-    let command = with_look(alloc, command)?;
-    with_choice(alloc, command)?.arg(explain(alloc))
+    with_look(alloc, command)?.arg(explain(alloc))
 }
 
 /// The command with the files of a trace, and what limits it.
@@ -162,15 +161,6 @@ fn with_look<'a>(alloc: Global, command: Command<'a>) -> Result<Command<'a>, All
             "Print the whole term each time, in place of what is rewritten",
         ))?
         .arg(width(alloc))
-}
-
-/// The command with the options on which rules that fire are shown.
-fn with_choice<'a>(alloc: Global, command: Command<'a>) -> Result<Command<'a>, AllocError> {
-    command
-        .arg(first(alloc))?
-        .arg(last(alloc))?
-        .arg(rule(alloc))?
-        .arg(symbol(alloc))
 }
 
 /// The command with the files of an evaluation, and with terms in place of the second.
