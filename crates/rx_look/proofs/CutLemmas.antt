@@ -1,5 +1,5 @@
 -- How integers and names are cut, whatever follows them that does not go on with them.
-use Rattle.std.proofs.Common.{◌≡◌, ℕ, ◌+◌, ◌^◌, suc, true, false, Bool, ◌&&◌, ◌||◌, List, [], ◌∷◌, ◌++◌, refl, pos, negsuc, ℤ, neg_ℤ, sym, ap, ◌∙◌, append_assoc, inl, inr, length, arith, length-append}
+use Rattle.std.proofs.Common.{◌≡◌, ℕ, ◌+◌, ◌^◌, suc, true, false, ◌||◌, List, [], ◌∷◌, ◌++◌, refl, pos, negsuc, ℤ, neg_ℤ, sym, ap, ◌∙◌, append_assoc, inl, inr, length, arith, length-append}
 use Rattle.std.specs.Prelude.{nat_lt, flat_map, decimal}
 use Rattle.std.specs.Fmt.{signed_decimal}
 use Rattle.std.specs.List.{prefix_len, list_all}

@@ -1,7 +1,6 @@
 -- The graph of a term under way.
-use Rattle.std.proofs.Common.{◌≡◌, ℕ, ◌+◌, ◌-◌, ◌<◌, ◌≤◌, zero, suc, Bool, true, false, List, [], ◌∷◌, ◌++◌, Option, Some, None, IsSome, Result, Ok, Err, OnOk, refl, sym, ap, subst, ◌∙◌, append_assoc, append-nil, arith, map, slice_get}
+use Rattle.std.proofs.Common.{◌≡◌, ℕ, ◌+◌, ◌-◌, ◌<◌, ◌≤◌, suc, Bool, true, false, List, [], ◌∷◌, ◌++◌, Option, Some, None, IsSome, Result, Ok, Err, OnOk, refl, sym, ap, subst, ◌∙◌, append_assoc, append-nil, arith, map, slice_get}
 use Rattle.std.specs.Prelude.{codes, min, nat_eq, nat_lt, if◌then◌else◌, unwrap_or}
-use Rattle.std.specs.Option.{option_map}
 use Rattle.std.specs.List.{AllByRecursion, list_any, position_or_len}
 use Rattle.std.specs.Io.KnownBytes.{Appends}
 use Rattle.std.proofs.lemmas.Bool.Decides.{Decides-eqb, Decides-ltb, same_from_decides}
@@ -20,7 +19,7 @@ use Rattle.rx_look.specs.Drawing.{AreHeld, Follows, LooksAt, Passes, next_found,
 use Rattle.rx_look.specs.Graph.{Link, edge_line, first_lines, found, graph_text, inside_links, link_line, link_lines, link_to, links, node_line, number_in, order, part_lines, rest_line, with_own}
 use Rattle.rx_look.specs.declared.graph.Graph.{Graph}
 use Rattle.rx_look.proofs.GraphLemmas.{AreAmong, among_inserted, first_front, lines_append, lines_later, own_links, part_in_order}
-use Rattle.rx_look.proofs.OrderLemmas.{all_append, all_begins, get_map, get_map_none, map_append, map_insert, place_insert, place_map}
+use Rattle.rx_look.proofs.OrderLemmas.{all_append, all_begins, map_append, map_insert, place_insert, place_map}
 
 -- ---- references
 

@@ -1,14 +1,13 @@
 -- The parts of a tree in the order in which they are found.
-use Rattle.std.proofs.Common.{◌≡◌, ℕ, ◌+◌, ◌-◌, ◌<◌, ◌≤◌, zero, suc, Bool, true, false, List, [], ◌∷◌, ◌++◌, Option, Some, None, refl, sym, ap, subst, ◌∙◌, append_assoc, append-nil, arith, map, slice_get}
-use Rattle.std.specs.Prelude.{nat_lt, if◌then◌else◌}
+use Rattle.std.proofs.Common.{◌≡◌, ℕ, ◌+◌, ◌-◌, ◌<◌, ◌≤◌, zero, suc, true, List, [], ◌∷◌, ◌++◌, Option, Some, None, refl, sym, ap, subst, ◌∙◌, append_assoc, append-nil, arith, map, slice_get}
 use Rattle.std.specs.List.{AllByRecursion, list_any}
 use Rattle.indexmap.specs.IndexSet.{insert_all}
-use Rattle.rx_term.specs.Tree.{Tree, Trees, none, more, Int, Appl, Items, Hole, annotations, list_of, tree_eq}
+use Rattle.rx_term.specs.Tree.{Tree, Trees, none, more, Int, Appl, Items, Hole, list_of, tree_eq}
 use Rattle.rx_term.specs.Parts.{own_annotations, own_parts, part_count}
 use Rattle.rx_term.proofs.TreeLemmas.{tree_eq_same}
 use Rattle.rx_text.specs.Written.{IsFront}
-use Rattle.rx_look.specs.Graph.{Link, annotation_links, edge_line, first_lines, found, inside_links, link_line, link_lines, links, number_in, order, part_lines, with_own}
-use Rattle.rx_look.proofs.OrderLemmas.{Begins, all_begins, all_inserted, all_of_map, begins_on, begins_same, get_more, get_none, map_append, place_more}
+use Rattle.rx_look.specs.Graph.{Link, annotation_links, first_lines, found, link_line, link_lines, links, number_in, order, part_lines, with_own}
+use Rattle.rx_look.proofs.OrderLemmas.{Begins, all_begins, all_inserted, all_of_map, begins_on, begins_same, get_more, get_none, place_more}
 
 -- ---- links
 

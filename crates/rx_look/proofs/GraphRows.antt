@@ -2,7 +2,7 @@
 use Rattle.std.proofs.Common.{◌≡◌, true, false, [], refl, pos}
 use Rattle.std.specs.Prelude.{codes}
 use Rattle.std.specs.Fmt.{digits}
-use Rattle.rx_term.specs.Tree.{Tree, none, more, Int, Appl, Items, Hole}
+use Rattle.rx_term.specs.Tree.{Tree, none, more, Int, Appl, Hole}
 use Rattle.rx_look.specs.Graph.{graph_text, label}
 
 abbrev a : Tree

@@ -1,7 +1,6 @@
 -- The parts in order are the different parts, each once.
-use Rattle.std.proofs.Common.{◌≡◌, ℕ, ◌+◌, ◌-◌, ◌<◌, ◌≤◌, ◌⊎◌, zero, suc, inl, inr, Bool, true, false, ◌||◌, List, [], ◌∷◌, ◌++◌, Option, Some, None, Contains, refl, sym, ap, subst, ◌∙◌, arith, length, slice_get}
-use Rattle.std.specs.List.{AllByRecursion, IsDistinct, list_any}
-use Rattle.std.specs.Set.{distinct_count, is_member}
+use Rattle.std.proofs.Common.{◌≡◌, ℕ, ◌<◌, ◌≤◌, ◌⊎◌, zero, suc, inl, inr, Bool, true, false, ◌||◌, List, [], ◌∷◌, Option, Some, None, Contains, refl, sym, ap, subst, ◌∙◌, arith, length, slice_get}
+use Rattle.std.specs.List.{IsDistinct, list_any}
 use Rattle.std.specs.Cmp.{IsEquivalence}
 use Rattle.std.proofs.lemmas.Bool.Decides.{same_from_decides}
 use Rattle.std.proofs.lemmas.List.Folds.{list_any-append}
@@ -17,7 +16,7 @@ use Rattle.rx_run.proofs.CountedPartLemmas.{tree_equivalence}
 use Rattle.rx_look.specs.Graph.{found, order, with_own}
 use Rattle.rx_look.specs.Law.{ListsParts}
 use Rattle.rx_look.proofs.GraphLemmas.{order_at, order_begins}
-use Rattle.rx_look.proofs.OrderLemmas.{all_inserted, any_more}
+use Rattle.rx_look.proofs.OrderLemmas.{any_more}
 
 -- ---- what is inserted
 

@@ -1,16 +1,14 @@
 -- From the graph of a held tree to what is due.
-use Rattle.std.proofs.Common.{◌≡◌, ℕ, List, [], Option, Some, None, IfSome, IsSome, refl, sym, ap, ◌∙◌}
-use Rattle.std.specs.Prelude.{unwrap_or}
+use Rattle.std.proofs.Common.{◌≡◌, ℕ, List, Option, Some, None, IfSome, IsSome, refl, ap, ◌∙◌}
 use Rattle.rx_term.specs.Parts.{part_count}
 use Rattle.rx_term.specs.Store.{Store, tree_at}
-use Rattle.rx_term.specs.Tree.{Tree, list_of, none}
+use Rattle.rx_term.specs.Tree.{Tree}
 use Rattle.rx_term.specs.Walks.{held_tree}
 use Rattle.rx_term.specs.declared.Term.{Term}
 use Rattle.rx_run.specs.TermRuns.{lines_at}
 use Rattle.rx_look.specs.Due.{IsUnrooted}
 use Rattle.rx_look.specs.declared.runs.Look.{Look}
 use Rattle.rx_look.specs.declared.runs.Look.TheVariants.{Indented, Graph}
-use Rattle.rx_look.proofs.DrawingLemmas.{held_at}
 
 -- where protections stay, none come
 pub still_unrooted : (look : Look) (old new : Store) → new.roots ≡ old.roots → IsUnrooted look old → IsUnrooted look new

@@ -1,4 +1,4 @@
-use Rattle.std.proofs.Common.{◌≡◌, ◌<◌, arith, min, rules}
+use Rattle.std.proofs.Common.{◌<◌, arith, min, rules}
 use Rattle.rx_term.specs.Parts.{part_count}
 use Rattle.rx_term.specs.Walks.{held_tree}
 use Rattle.rx_text.proofs.AppendingLemmas.{on_err}

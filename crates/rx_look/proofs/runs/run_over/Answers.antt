@@ -1,4 +1,4 @@
-use Rattle.rx_look.specs.Due.{IsUnrooted, lines_for}
+use Rattle.rx_look.specs.Due.{lines_for}
 use Rattle.rx_look.specs.declared.ending.LookFault.TheVariants.{Write}
 use Rattle.rx_run.specs.TermRuns.{IsDueOf, due_at, lines_at}
 use Rattle.rx_run.proofs.ErrorLemmas.{if_err_at}
