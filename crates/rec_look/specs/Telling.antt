@@ -1,5 +1,6 @@
 -- How a trace is told by a tracer's turns.
-use Rattle.std.specs.Prelude.{ℕ, ◌-◌, ◌≡◌, ◌≤◌, ◌++◌, Bool, true, false, All, List, [], Option, Some, None, codes, decimal, flat_map, map}
+use Rattle.std.specs.Prelude.{ℕ, ◌-◌, ◌≡◌, ◌≤◌, ◌++◌, Bool, true, false, List, [], Option, Some, None, Vec, codes, decimal, flat_map, map}
+use Rattle.std.specs.declared.alloc.Global.{Global}
 use Rattle.rx_term.specs.Tree.{Tree, annotations, none}
 use Rattle.rx_term.specs.Store.{Store, tree_at}
 use Rattle.rx_text.specs.Canon.{canon}
@@ -7,7 +8,10 @@ use Rattle.rx_text.specs.declared.output.Output.{Output}
 use Rattle.rec_syntax.specs.Syntax.{Rule, Spec, Term, head}
 use Rattle.rec_sorts.specs.Binding.{tree_of}
 use Rattle.rec_sorts.specs.Evaluation as evaluation
-use Rattle.rec_engine.specs.Engine.{Spells}
+use Rattle.rec_sorts.specs.Laws.{Every}
+use Rattle.rec_sorts.specs.Numbering.{AreLetters, Pairwise}
+use Rattle.rec_sorts.specs.TermRules.{broken_by_elements}
+use Rattle.rec_sorts.specs.declared.letters.Letter.{Letter}
 use Rattle.rec_engine.specs.declared.engine.Outcome.{Outcome}
 use Rattle.rec_engine.specs.declared.engine.Outcome.TheVariants.{Value, Limit}
 use Rattle.rx_run.specs.Due.{steps_text}
@@ -22,7 +26,7 @@ use Rattle.rec_trace.specs.declared.lines.Spot.{Spot}
 use Rattle.rec_trace.specs.declared.tracer.Tracer.{Tracer}
 use Rattle.rec_look.specs.Pages.{Prints}
 use Rattle.rec_look.specs.Traces.{Shown, shown_by, task_text}
-use Rattle.rec_look.specs.declared.trace.given.GivenTerm.{GivenTerm}
+use Rattle.rec_look.specs.declared.trace.given.GivenTerms.{GivenTerms}
 use Rattle.rec_look.specs.declared.trace.telling.Telling.{Telling}
 
 -- the spot of a byte, and that at which a rule begins
@@ -64,7 +68,7 @@ LeavesWithin n (evaluation.Done v left) = left ≤ n
 LeavesWithin n evaluation.Over = Unit {0}
 
 pub record IsWithin (n : ℕ) (t : Traced Tree) : Type 0 where
-  pub firings : All (λ f. f.left ≤ n) t.firings
+  pub firings : Every (λ (f : Firing). f.left ≤ n) t.firings
   pub outcome : LeavesWithin n t.outcome
 
 -- a tracer came to what a trace comes to
@@ -104,10 +108,16 @@ pub record Begins (y : Spec) (w : Store) (n : ℕ) (tracer : Tracer) (t : Term) 
   pub trace : rest_of y w tracer ≡ Trace y n t
   pub whole : whole_of y w tracer ≡ tree_of t
 
--- the letters of a given term, and the text of its annotations
-pub record IsGivenTerm (y : Spec) (g : GivenTerm) (u : Tree) : Type 0 where
-  pub letters : Spells y g.letters.items u
-  pub notes : g.notes.items ≡ notes_text (annotations u)
+-- a text is that of a tree's annotations
+abbrev pub HasNotes : Vec ℕ Global → Tree → Type 0
+HasNotes text u = text.items ≡ notes_text (annotations u)
+
+-- the letters of given terms that keep the rules, and the texts of their annotations
+pub record AreGivenTerms (y : Spec) (us : List Tree) (g : GivenTerms) : Type 0 where
+  pub letters : Pairwise (λ (ls : Vec Letter Global) (u : Tree).
+      AreLetters y ls.items (evaluation.term_of u)) g.letters.items us
+  pub notes : Pairwise HasNotes g.notes.items us
+  pub kept : broken_by_elements y us ≡ None
 
 -- what is written before the first firing of a term
 abbrev pub first_text : Shown → Tree → List ℕ

@@ -3,10 +3,9 @@
 #![tactic(auto)]
 
 pub mod laws;
-mod trace;
-
 #[cfg(test)]
 mod tests;
+mod trace;
 
 pub use trace::options::TraceOptions;
 pub use trace::runs::run_trace;

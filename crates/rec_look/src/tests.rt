@@ -27,7 +27,13 @@ fn options(steps: u32, count: bool, whole: bool, width: Option<u32>) -> TraceOpt
 }
 
 /// What a run wrote for the addition, and for given terms.
-fn traced(rt: &impl Abort, alloc: Global, terms: Option<&str>, options: TraceOptions, wanted: &str) {
+fn traced(
+    rt: &impl Abort,
+    alloc: Global,
+    terms: Option<&str>,
+    options: TraceOptions,
+    wanted: &str,
+) {
     let mut spec = ADDITION.as_bytes();
     let mut written = Vec::new(alloc);
     let mut place = None;
@@ -38,7 +44,14 @@ fn traced(rt: &impl Abort, alloc: Global, terms: Option<&str>, options: TraceOpt
         }
         Some(terms) => {
             let mut terms = terms.as_bytes();
-            run_trace(alloc, &mut spec, Some(&mut terms), &mut written, options, &mut place)
+            run_trace(
+                alloc,
+                &mut spec,
+                Some(&mut terms),
+                &mut written,
+                options,
+                &mut place,
+            )
         }
     };
     assert!(rt; result == Ok(Finish::Done), "{wanted}");
@@ -56,8 +69,15 @@ fn firings_are_written(rt: HostRuntime) {
     let whole = "0:0: plus(s(s(z)),s(z))\n12:3: s(plus(s(z),s(z)))\t1\n\
         12:3: s(s(plus(z,s(z))))\t2\n11:3: s(s(s(z)))\t3\ns(s(s(z)))\t3\n";
     traced(&rt, alloc, None, options(1000, true, true, None), whole);
-    let limited = "12:3: plus(s(s(... -> s(plus(s(...\n12:3: plus(s(z)... -> s(plus(z,...\n!limit 2\n";
-    traced(&rt, alloc, None, options(2, false, false, Some(12)), limited);
+    let limited =
+        "12:3: plus(s(s(... -> s(plus(s(...\n12:3: plus(s(z)... -> s(plus(z,...\n!limit 2\n";
+    traced(
+        &rt,
+        alloc,
+        None,
+        options(2, false, false, Some(12)),
+        limited,
+    );
 }
 
 #[test]
@@ -67,5 +87,11 @@ fn given_terms_are_traced(rt: HostRuntime) {
         12:3: plus(s(z),s(z)) -> s(plus(z,s(z)))\n11:3: plus(z,s(z)) -> s(z)\ns(s(s(z)))\n\
         11:3: plus(z,z) -> z\nz{id(4),\"a b\"}\ns(z){x}\n";
     let terms = "[ plus(z, z){id(4),\"a b\"}, s(z){x} ]";
-    traced(&rt, alloc, Some(terms), options(1000, false, false, None), lines);
+    traced(
+        &rt,
+        alloc,
+        Some(terms),
+        options(1000, false, false, None),
+        lines,
+    );
 }

@@ -7,14 +7,13 @@ ghost use Rattle.rx_text.specs.Output.{IsSameOutput, IsWritable, Writes, content
 ghost use Rattle.rx_run.specs.Refusals.{finish_of, place_of, refusal_due};
 ghost use Rattle.rx_run.specs.Run.{Stops};
 ghost use Rattle.rx_run.specs.Streams.{TellsWrite};
-ghost use Rattle.rec_sorts.specs.Numbering.{Pairwise};
 ghost use Rattle.rec_run.specs.GivenTerms.{HoldsTerms, IsReady, IsRefused, given_by};
 ghost use Rattle.rec_run.specs.Run.{HasRoom};
 ghost use Rattle.rec_look.specs.Due.{EndsBehind, trace_due};
-ghost use Rattle.rec_look.specs.Telling.{IsGivenTerm, IsTelling};
+ghost use Rattle.rec_look.specs.Telling.{AreGivenTerms, IsTelling};
 ghost use Rattle.rec_look.specs.Traces.{shown_by, traces};
 
-use crate::trace::given::{GivenTerm, given_terms};
+use crate::trace::given::{GivenTerms, given_terms};
 use crate::trace::options::TraceOptions;
 use crate::trace::spots::rule_spots;
 use crate::trace::telling::Telling;
@@ -147,7 +146,7 @@ fn write_job<B: TermBank + Drop, W: Write>(
 #[derive(Drop)]
 struct Prepared {
     telling: Telling,
-    terms: Vec<GivenTerm>,
+    terms: GivenTerms,
 }
 
 /// The places of the rules are found, and the given terms are taken out of their bank.
@@ -162,14 +161,11 @@ fn prepare<B: TermBank>(
     ensures telling { IfOk result
         (λ p. IsTelling checked.now.source checked.now.spec p.telling) }
     ensures options { IfOk result (λ p. p.telling.options ≡ options) }
-    ensures given { IfOk result (λ p. Pairwise (IsGivenTerm checked.now.spec) p.terms.items
-        (given_by (B.store bank.now) list)) }
+    ensures given { IfOk result (λ p. AreGivenTerms checked.now.spec
+        (given_by (B.store bank.now) list) p.terms) }
 {
     let spots = rule_spots(alloc, checked.syntax())?;
-    let terms = match list {
-        Some(list) => given_terms(alloc, checked, bank, list)?,
-        None => Vec::new(alloc),
-    };
+    let terms = given_terms(alloc, checked, bank, list)?;
     let telling = Telling { spots, options };
     Ok(Prepared { telling, terms })
 }
@@ -184,16 +180,15 @@ fn write_prepared<B: TermBank + Drop, W: Write>(
 ) -> Result<(), RunFault>
     requires unrooted { (t : ℕ) → (B.store bank).roots t ≡ 0 }
     requires telling { IsTelling checked.source checked.spec prepared.now.telling }
-    requires given { (us : List Tree)
-        × Pairwise (IsGivenTerm checked.spec) prepared.now.terms.items us }
+    requires given { (us : List Tree) × AreGivenTerms checked.spec us prepared.now.terms }
     requires open { IsWritable out.old }
     ensures ok { OnOk result ((us : List Tree)
-        → Pairwise (IsGivenTerm checked.spec) prepared.now.terms.items us
+        → AreGivenTerms checked.spec us prepared.now.terms
         → Writes W.contents out.old out.new
         (traces checked.source checked.spec us (shown_by prepared.now.telling.options)
         prepared.now.telling.options.run.steps)) }
     ensures err { IfErr result (λ fault. (us : List Tree)
-        → Pairwise (IsGivenTerm checked.spec) prepared.now.terms.items us
+        → AreGivenTerms checked.spec us prepared.now.terms
         → Stops fault
         (traces checked.source checked.spec us (shown_by prepared.now.telling.options)
         prepared.now.telling.options.run.steps)

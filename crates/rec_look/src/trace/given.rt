@@ -1,25 +1,26 @@
 //! Given terms as they are traced: nothing of them is kept in a bank.
 
-ghost use Rattle.std.specs.Prelude.{◌≡◌, IfOk, IsSome, List, Some, length, map};
+ghost use Rattle.std.specs.Prelude.{◌≡◌, IfOk, IsSome, Some, length};
+ghost use Rattle.std.specs.Option.{ForSome};
 ghost use Rattle.rx_term.specs.Store.{tree_at};
-ghost use Rattle.rx_term.specs.Tree.{Tree, annotations, from_list, list_of};
+ghost use Rattle.rx_term.specs.Tree.{annotations, from_list, list_of};
 ghost use Rattle.rec_sorts.specs.Numbering.{Pairwise};
-ghost use Rattle.rec_run.specs.GivenTerms.{HoldsTerms, given_at, item_at};
+ghost use Rattle.rec_run.specs.GivenTerms.{HoldsTerms, given_at, given_by, item_at};
 ghost use Rattle.rec_run.specs.Output.{notes_text};
-ghost use Rattle.rec_look.specs.Telling.{IsGivenTerm};
+ghost use Rattle.rec_look.specs.Telling.{AreGivenTerms, HasNotes};
 
 use rec_run::write_notes;
 use rec_sorts::{Checked, Letter, term_letters};
 use rx_term::{Term, TermBank};
 use std::alloc::{AllocError, Global};
 
-/// A given term.
+/// Given terms, in their order.
 #[derive(Drop)]
-pub(crate) struct GivenTerm {
-    /// Its numbered words.
-    pub(crate) letters: Vec<Letter>,
-    /// The text of its annotations, between braces, where there are any.
-    pub(crate) notes: Vec<u8>,
+pub(crate) struct GivenTerms {
+    /// The numbered words of each.
+    pub(crate) letters: Vec<Vec<Letter>>,
+    /// The text of the annotations of each, between braces, where there are any.
+    pub(crate) notes: Vec<Vec<u8>>,
 }
 
 /// The text of a term's annotations.
@@ -35,23 +36,61 @@ fn notes_of<B: TermBank>(alloc: Global, bank: &B, t: Term) -> Result<Vec<u8>, Al
     }
 }
 
+/// The texts of the annotations of so many terms of a list.
+fn notes_of_all<B: TermBank>(
+    alloc: Global,
+    bank: &B,
+    list: Term,
+    count: usize,
+) -> Result<Vec<Vec<u8>>, AllocError>
+    requires held { tree_at (B.store bank.now) list
+        ≡ Some (list_of (from_list (given_at (B.store bank.now) list))) }
+    requires count { count ≡ length (given_at (B.store bank.now) list) }
+    ensures { IfOk result
+        (λ notes. Pairwise HasNotes notes.items (given_at (B.store bank.now) list)) }
+{
+    let mut notes = Vec::new(alloc);
+    let mut rest = list;
+    for _index in 0..count {
+        let text = notes_of(alloc, bank, bank.head(rest))?;
+        notes.push(text)?;
+        rest = bank.tail(rest);
+    }
+    Ok(notes)
+}
+
 /// The terms of a list that keep the rules.
-pub(crate) fn given_terms<B: TermBank>(
+fn listed_terms<B: TermBank>(
     alloc: Global,
     checked: &Checked,
     bank: &B,
     list: Term,
-) -> Result<Vec<GivenTerm>, AllocError>
+) -> Result<GivenTerms, AllocError>
     requires { HoldsTerms checked.now.spec (B.store bank.now) list }
-    ensures { IfOk result (λ terms. Pairwise (IsGivenTerm checked.now.spec) terms.items
-        (given_at (B.store bank.now) list)) }
+    ensures { IfOk result
+        (AreGivenTerms checked.now.spec (given_at (B.store bank.now) list)) }
 {
-    let mut terms = Vec::new(alloc);
-    let mut rest = list;
-    for letters in term_letters(alloc, checked, bank, list)? {
-        let notes = notes_of(alloc, bank, bank.head(rest))?;
-        terms.push(GivenTerm { letters, notes })?;
-        rest = bank.tail(rest);
+    let letters = term_letters(alloc, checked, bank, list)?;
+    let notes = notes_of_all(alloc, bank, list, letters.len())?;
+    Ok(GivenTerms { letters, notes })
+}
+
+/// The terms of a list, where there is one, that keep the rules.
+pub(crate) fn given_terms<B: TermBank>(
+    alloc: Global,
+    checked: &Checked,
+    bank: &B,
+    list: Option<Term>,
+) -> Result<GivenTerms, AllocError>
+    requires { ForSome list (HoldsTerms checked.now.spec (B.store bank.now)) }
+    ensures { IfOk result
+        (AreGivenTerms checked.now.spec (given_by (B.store bank.now) list)) }
+{
+    match list {
+        Some(list) => listed_terms(alloc, checked, bank, list),
+        None => Ok(GivenTerms {
+            letters: Vec::new(alloc),
+            notes: Vec::new(alloc),
+        }),
     }
-    Ok(terms)
 }

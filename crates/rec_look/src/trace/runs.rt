@@ -1,7 +1,8 @@
 //! Whole runs of traces.
 
-ghost use Rattle.std.specs.Prelude.{◌≡◌, IfErr, IfOk, None, OnErr, OnOk, Some, option_map};
+ghost use Rattle.std.specs.Prelude.{◌≡◌, ℕ, IfErr, IfOk, None, OnErr, OnOk, Some, option_map};
 ghost use Rattle.std.specs.Option.{option_copied_mut};
+ghost use Rattle.rx_text.specs.Output.{IsSameOutput, IsWritable, contents_of};
 ghost use Rattle.rx_run.specs.Run.{BreaksFor, EndsFor, IsPlacedFor, IsReadOut};
 ghost use Rattle.rec_run.specs.GivenTerms.{OnGoodSpec, OnRefusedSpec};
 ghost use Rattle.rec_run.specs.Run.{HasRoom, Leads, Stays, both_texts, terms_text};
@@ -11,6 +12,7 @@ use crate::trace::due::answer;
 use crate::trace::options::TraceOptions;
 use crate::trace::reading::{read_alone, read_both};
 use rx_run::{Finish, Place, RunFault, empty_bank};
+use rx_term::TermBank;
 use rx_text::Output;
 use std::alloc::Global;
 use std::io::{Read, Write};
@@ -64,27 +66,93 @@ fn trace_alone<R: Read, W: Write>(
 ) -> Result<Finish, RunFault>
     ensures output { IfOk result (λ finish. EndsFor
         (IsTraceDueFor (shown_by options) options.run.steps)
-        (both_texts (R.remaining spec.old) (Some None)) finish (W.contents out.old)
-        (W.contents out.new)) }
+        (both_texts (R.remaining spec.old) (Some None))
+        finish (W.contents out.old) (W.contents out.new)) }
     ensures place { OnOk result (IsPlacedFor
         (IsTraceDueFor (shown_by options) options.run.steps)
-        (both_texts (R.remaining spec.old) (Some None)) place.new) }
+        (both_texts (R.remaining spec.old) (Some None))
+        place.new) }
     ensures fault { IfErr result (λ fault. BreaksFor
         (IsTraceDueFor (shown_by options) options.run.steps)
-        (both_texts (R.remaining spec.old) (Some None)) fault (W.contents out.old)
-        (W.contents out.new)) }
+        (both_texts (R.remaining spec.old) (Some None))
+        fault (W.contents out.old) (W.contents out.new)) }
     ensures cells { OnRefusedSpec (R.remaining spec.old) (IfErr result HasRoom) }
     ensures no_place { OnErr result (place.new ≡ None) }
     ensures spec_read { OnOk result (IsReadOut (R.remaining spec.old) (R.remaining spec.new)) }
 {
+    let mut output = Output::new(out);
+    alone_to(alloc, spec, &mut output, options, place)
+}
+
+/// The same to an output. It is asked no more once it refused.
+fn alone_to<R: Read, W: Write>(
+    alloc: Global,
+    spec: &mut R,
+    out: &mut Output<'_, W>,
+    options: TraceOptions,
+    place: &mut Option<Place>,
+) -> Result<Finish, RunFault>
+    requires { IsWritable out.old }
+    ensures output { IfOk result (λ finish. EndsFor
+        (IsTraceDueFor (shown_by options) options.run.steps)
+        (both_texts (R.remaining spec.old) (Some None))
+        finish (contents_of W.contents out.old)
+        (contents_of W.contents out.new)) }
+    ensures place { OnOk result (IsPlacedFor
+        (IsTraceDueFor (shown_by options) options.run.steps)
+        (both_texts (R.remaining spec.old) (Some None))
+        place.new) }
+    ensures fault { IfErr result (λ fault. BreaksFor
+        (IsTraceDueFor (shown_by options) options.run.steps)
+        (both_texts (R.remaining spec.old) (Some None))
+        fault (contents_of W.contents out.old)
+        (contents_of W.contents out.new)) }
+    ensures cells { OnRefusedSpec (R.remaining spec.old) (IfErr result HasRoom) }
+    ensures no_place { OnErr result (place.new ≡ None) }
+    ensures spec_read { OnOk result (IsReadOut (R.remaining spec.old) (R.remaining spec.new)) }
+    ensures same_output { IsSameOutput out.old out.new }
+{
     *place = None;
-    let mut out = Output::new(out);
     match empty_bank(alloc, options.run.cells) {
+        Ok(bank) => alone_over(alloc, bank, spec, out, options, place),
         Err(fault) => Err(fault),
-        Ok(bank) => match read_alone(alloc, spec) {
-            Ok(reading) => answer(alloc, bank, reading, &mut out, options, place),
-            Err(fault) => Err(fault),
-        },
+    }
+}
+
+/// The same over a bank.
+fn alone_over<B: TermBank + Drop, R: Read, W: Write>(
+    alloc: Global,
+    bank: B,
+    spec: &mut R,
+    out: &mut Output<'_, W>,
+    options: TraceOptions,
+    place: &mut Option<Place>,
+) -> Result<Finish, RunFault>
+    requires unrooted { (t : ℕ) → (B.store bank).roots t ≡ 0 }
+    requires writable { IsWritable out.old }
+    ensures output { IfOk result (λ finish. EndsFor
+        (IsTraceDueFor (shown_by options) options.run.steps)
+        (both_texts (R.remaining spec.old) (Some None))
+        finish (contents_of W.contents out.old)
+        (contents_of W.contents out.new)) }
+    ensures place { OnOk result (IsPlacedFor
+        (IsTraceDueFor (shown_by options) options.run.steps)
+        (both_texts (R.remaining spec.old) (Some None))
+        place.new) }
+    ensures fault { IfErr result (λ fault. BreaksFor
+        (IsTraceDueFor (shown_by options) options.run.steps)
+        (both_texts (R.remaining spec.old) (Some None))
+        fault (contents_of W.contents out.old)
+        (contents_of W.contents out.new)) }
+    ensures cells { OnRefusedSpec (R.remaining spec.old) (IfErr result HasRoom) }
+    ensures no_place { OnErr result (place.new ≡ None) }
+    ensures spec_read { OnOk result (IsReadOut (R.remaining spec.old) (R.remaining spec.new)) }
+    ensures same_output { IsSameOutput out.old out.new }
+{
+    *place = None;
+    match read_alone(alloc, spec) {
+        Ok(reading) => answer(alloc, bank, reading, out, options, place),
+        Err(fault) => Err(fault),
     }
 }
 
@@ -99,15 +167,18 @@ fn trace_beside<R: Read, T: Read, W: Write>(
 ) -> Result<Finish, RunFault>
     ensures output { IfOk result (λ finish. EndsFor
         (IsTraceDueFor (shown_by options) options.run.steps)
-        (both_texts (R.remaining spec.old) (option_map (λ b. Some b) (T.remaining terms.old)))
+        (both_texts (R.remaining spec.old) (option_map (λ b. Some b)
+        (T.remaining terms.old)))
         finish (W.contents out.old) (W.contents out.new)) }
     ensures place { OnOk result (IsPlacedFor
         (IsTraceDueFor (shown_by options) options.run.steps)
-        (both_texts (R.remaining spec.old) (option_map (λ b. Some b) (T.remaining terms.old)))
+        (both_texts (R.remaining spec.old) (option_map (λ b. Some b)
+        (T.remaining terms.old)))
         place.new) }
     ensures fault { IfErr result (λ fault. BreaksFor
         (IsTraceDueFor (shown_by options) options.run.steps)
-        (both_texts (R.remaining spec.old) (option_map (λ b. Some b) (T.remaining terms.old)))
+        (both_texts (R.remaining spec.old) (option_map (λ b. Some b)
+        (T.remaining terms.old)))
         fault (W.contents out.old) (W.contents out.new)) }
     ensures cells { OnRefusedSpec (R.remaining spec.old) (IfErr result HasRoom) }
     ensures no_place { OnErr result (place.new ≡ None) }
@@ -116,13 +187,92 @@ fn trace_beside<R: Read, T: Read, W: Write>(
         (IsReadOut (T.remaining terms.old) (T.remaining terms.new))) }
     ensures unread { OnRefusedSpec (R.remaining spec.old) (terms.new ≡ terms.old) }
 {
+    let mut output = Output::new(out);
+    beside_to(alloc, spec, terms, &mut output, options, place)
+}
+
+/// The same to an output. It is asked no more once it refused.
+fn beside_to<R: Read, T: Read, W: Write>(
+    alloc: Global,
+    spec: &mut R,
+    terms: &mut T,
+    out: &mut Output<'_, W>,
+    options: TraceOptions,
+    place: &mut Option<Place>,
+) -> Result<Finish, RunFault>
+    requires { IsWritable out.old }
+    ensures output { IfOk result (λ finish. EndsFor
+        (IsTraceDueFor (shown_by options) options.run.steps)
+        (both_texts (R.remaining spec.old) (option_map (λ b. Some b)
+        (T.remaining terms.old)))
+        finish (contents_of W.contents out.old)
+        (contents_of W.contents out.new)) }
+    ensures place { OnOk result (IsPlacedFor
+        (IsTraceDueFor (shown_by options) options.run.steps)
+        (both_texts (R.remaining spec.old) (option_map (λ b. Some b)
+        (T.remaining terms.old)))
+        place.new) }
+    ensures fault { IfErr result (λ fault. BreaksFor
+        (IsTraceDueFor (shown_by options) options.run.steps)
+        (both_texts (R.remaining spec.old) (option_map (λ b. Some b)
+        (T.remaining terms.old)))
+        fault (contents_of W.contents out.old)
+        (contents_of W.contents out.new)) }
+    ensures cells { OnRefusedSpec (R.remaining spec.old) (IfErr result HasRoom) }
+    ensures no_place { OnErr result (place.new ≡ None) }
+    ensures spec_read { OnOk result (IsReadOut (R.remaining spec.old) (R.remaining spec.new)) }
+    ensures terms_read { OnOk result (OnGoodSpec (R.remaining spec.old)
+        (IsReadOut (T.remaining terms.old) (T.remaining terms.new))) }
+    ensures unread { OnRefusedSpec (R.remaining spec.old) (terms.new ≡ terms.old) }
+    ensures same_output { IsSameOutput out.old out.new }
+{
     *place = None;
-    let mut out = Output::new(out);
     match empty_bank(alloc, options.run.cells) {
+        Ok(bank) => beside_over(alloc, bank, spec, terms, out, options, place),
         Err(fault) => Err(fault),
-        Ok(mut bank) => match read_both(alloc, spec, terms, &mut bank) {
-            Ok(reading) => answer(alloc, bank, reading, &mut out, options, place),
-            Err(fault) => Err(fault),
-        },
+    }
+}
+
+/// The same over a bank.
+fn beside_over<B: TermBank + Drop, R: Read, T: Read, W: Write>(
+    alloc: Global,
+    mut bank: B,
+    spec: &mut R,
+    terms: &mut T,
+    out: &mut Output<'_, W>,
+    options: TraceOptions,
+    place: &mut Option<Place>,
+) -> Result<Finish, RunFault>
+    requires unrooted { (t : ℕ) → (B.store bank).roots t ≡ 0 }
+    requires writable { IsWritable out.old }
+    ensures output { IfOk result (λ finish. EndsFor
+        (IsTraceDueFor (shown_by options) options.run.steps)
+        (both_texts (R.remaining spec.old) (option_map (λ b. Some b)
+        (T.remaining terms.old)))
+        finish (contents_of W.contents out.old)
+        (contents_of W.contents out.new)) }
+    ensures place { OnOk result (IsPlacedFor
+        (IsTraceDueFor (shown_by options) options.run.steps)
+        (both_texts (R.remaining spec.old) (option_map (λ b. Some b)
+        (T.remaining terms.old)))
+        place.new) }
+    ensures fault { IfErr result (λ fault. BreaksFor
+        (IsTraceDueFor (shown_by options) options.run.steps)
+        (both_texts (R.remaining spec.old) (option_map (λ b. Some b)
+        (T.remaining terms.old)))
+        fault (contents_of W.contents out.old)
+        (contents_of W.contents out.new)) }
+    ensures cells { OnRefusedSpec (R.remaining spec.old) (IfErr result HasRoom) }
+    ensures no_place { OnErr result (place.new ≡ None) }
+    ensures spec_read { OnOk result (IsReadOut (R.remaining spec.old) (R.remaining spec.new)) }
+    ensures terms_read { OnOk result (OnGoodSpec (R.remaining spec.old)
+        (IsReadOut (T.remaining terms.old) (T.remaining terms.new))) }
+    ensures unread { OnRefusedSpec (R.remaining spec.old) (terms.new ≡ terms.old) }
+    ensures same_output { IsSameOutput out.old out.new }
+{
+    *place = None;
+    match read_both(alloc, spec, terms, &mut bank) {
+        Ok(reading) => answer(alloc, bank, reading, out, options, place),
+        Err(fault) => Err(fault),
     }
 }

@@ -1,16 +1,16 @@
 //! The traces of a specification's own terms and of given ones.
 
 ghost use Rattle.std.specs.Prelude.{◌≡◌, ◌<◌, ℕ, [], IfErr, List, OnOk, length};
-ghost use Rattle.rx_term.specs.Tree.{Tree};
+ghost use Rattle.rx_term.specs.Tree.{Tree, annotations};
 ghost use Rattle.rx_text.specs.Output.{IsSameOutput, IsWritable, Writes, contents_of};
 ghost use Rattle.rx_run.specs.Run.{Stops};
-ghost use Rattle.rec_sorts.specs.Numbering.{Pairwise};
 ghost use Rattle.rx_run.specs.Streams.{TellsWrite};
-ghost use Rattle.rec_engine.specs.Engine.{SameEngine};
+ghost use Rattle.rec_engine.specs.Engine.{SameEngine, Spells};
+ghost use Rattle.rec_run.specs.Output.{notes_text};
 ghost use Rattle.rec_look.specs.Pages.{Breaks, Prints};
 ghost use Rattle.rec_look.specs.Traces.{shown_by, task_text, traces};
 ghost use Rattle.rec_look.specs.Telling.{
-  IsGivenTerm,
+  AreGivenTerms,
   IsTelling,
   given_task,
   given_traces,
@@ -18,10 +18,11 @@ ghost use Rattle.rec_look.specs.Telling.{
 };
 
 use crate::trace::ending::write_trace;
-use crate::trace::given::GivenTerm;
+use crate::trace::given::GivenTerms;
 use crate::trace::page::stopped;
 use crate::trace::telling::Telling;
 use rec_engine::Engine;
+use rec_sorts::Letter;
 use rec_trace::Tracer;
 use rx_run::RunFault;
 use rx_term::TermBank;
@@ -93,32 +94,33 @@ fn write_own_traces<B: TermBank, W: Write>(
 fn write_given_trace<B: TermBank, W: Write>(
     alloc: Global,
     engine: &mut Engine<B>,
-    term: &GivenTerm,
+    letters: &[Letter],
+    notes: &[u8],
     telling: &Telling,
     out: &mut Output<'_, W>,
     lines: &mut u64,
 ) -> Result<(), RunFault>
-    requires given { (u : Tree) × IsGivenTerm engine.old.spec term.now u }
+    requires given { (u : Tree) × Spells engine.old.spec letters.now u }
     requires telling { (source : List ℕ) × IsTelling source engine.old.spec telling.now }
     requires open { IsWritable out.old }
     ensures same { SameEngine engine.old engine.new }
     ensures ok { OnOk result ((source : List ℕ) (u : Tree)
-        → IsTelling source engine.old.spec telling.now
-        → IsGivenTerm engine.old.spec term.now u
+        → IsTelling source engine.old.spec telling.now → Spells engine.old.spec letters.now u
+        → notes.now ≡ notes_text (annotations u)
         → Prints W.contents out.old out.new lines.old lines.new
         (task_text source engine.old.spec (shown_by telling.now.options)
         telling.now.options.run.steps (given_task u))) }
     ensures err { IfErr result (λ fault. (source : List ℕ) (u : Tree)
-        → IsTelling source engine.old.spec telling.now
-        → IsGivenTerm engine.old.spec term.now u
+        → IsTelling source engine.old.spec telling.now → Spells engine.old.spec letters.now u
+        → notes.now ≡ notes_text (annotations u)
         → Breaks W.contents out.old out.new lines.old
         (task_text source engine.old.spec (shown_by telling.now.options)
         telling.now.options.run.steps (given_task u)) fault) }
     ensures same_output { IsSameOutput out.old out.new }
     ensures cause { TellsWrite out.new result }
 {
-    match Tracer::of_given(alloc, engine, &term.letters, telling.options.run.steps) {
-        Ok(tracer) => write_trace(alloc, engine, tracer, telling, &term.notes, out, lines),
+    match Tracer::of_given(alloc, engine, letters, telling.options.run.steps) {
+        Ok(tracer) => write_trace(alloc, engine, tracer, telling, notes, out, lines),
         Err(fault) => Err(stopped(fault, *lines)),
     }
 }
@@ -127,32 +129,34 @@ fn write_given_trace<B: TermBank, W: Write>(
 fn write_given_traces<B: TermBank, W: Write>(
     alloc: Global,
     engine: &mut Engine<B>,
-    terms: &[GivenTerm],
+    terms: &GivenTerms,
     telling: &Telling,
     out: &mut Output<'_, W>,
     lines: &mut u64,
 ) -> Result<(), RunFault>
-    requires given { (us : List Tree) × Pairwise (IsGivenTerm engine.old.spec) terms.now us }
+    requires given { (us : List Tree) × AreGivenTerms engine.old.spec us terms.now }
     requires telling { (source : List ℕ) × IsTelling source engine.old.spec telling.now }
     requires open { IsWritable out.old }
     ensures same { SameEngine engine.old engine.new }
     ensures ok { OnOk result ((source : List ℕ) (us : List Tree)
         → IsTelling source engine.old.spec telling.now
-        → Pairwise (IsGivenTerm engine.old.spec) terms.now us
+        → AreGivenTerms engine.old.spec us terms.now
         → Prints W.contents out.old out.new lines.old lines.new
         (given_traces source engine.old.spec (shown_by telling.now.options)
         telling.now.options.run.steps us)) }
     ensures err { IfErr result (λ fault. (source : List ℕ) (us : List Tree)
         → IsTelling source engine.old.spec telling.now
-        → Pairwise (IsGivenTerm engine.old.spec) terms.now us
+        → AreGivenTerms engine.old.spec us terms.now
         → Breaks W.contents out.old out.new lines.old
         (given_traces source engine.old.spec (shown_by telling.now.options)
         telling.now.options.run.steps us) fault) }
     ensures same_output { IsSameOutput out.old out.new }
     ensures cause { TellsWrite out.new result }
 {
-    for term in terms {
-        write_given_trace(alloc, engine, term, telling, out, lines)?;
+    for i in 0..terms.letters.len() {
+        let letters = &terms.letters[i];
+        let notes = &terms.notes[i];
+        write_given_trace(alloc, engine, letters, notes, telling, out, lines)?;
     }
     Ok(())
 }
@@ -161,22 +165,22 @@ fn write_given_traces<B: TermBank, W: Write>(
 pub(crate) fn write_traces<B: TermBank, W: Write>(
     alloc: Global,
     engine: &mut Engine<B>,
-    terms: &[GivenTerm],
+    terms: &GivenTerms,
     telling: &Telling,
     out: &mut Output<'_, W>,
 ) -> Result<(), RunFault>
-    requires given { (us : List Tree) × Pairwise (IsGivenTerm engine.old.spec) terms.now us }
+    requires given { (us : List Tree) × AreGivenTerms engine.old.spec us terms.now }
     requires telling { (source : List ℕ) × IsTelling source engine.old.spec telling.now }
     requires open { IsWritable out.old }
     ensures ok { OnOk result ((source : List ℕ) (us : List Tree)
         → IsTelling source engine.old.spec telling.now
-        → Pairwise (IsGivenTerm engine.old.spec) terms.now us
+        → AreGivenTerms engine.old.spec us terms.now
         → Writes W.contents out.old out.new
         (traces source engine.old.spec us (shown_by telling.now.options)
         telling.now.options.run.steps)) }
     ensures err { IfErr result (λ fault. (source : List ℕ) (us : List Tree)
         → IsTelling source engine.old.spec telling.now
-        → Pairwise (IsGivenTerm engine.old.spec) terms.now us
+        → AreGivenTerms engine.old.spec us terms.now
         → Stops fault (traces source engine.old.spec us (shown_by telling.now.options)
         telling.now.options.run.steps)
         (contents_of W.contents out.old) (contents_of W.contents out.new)) }
