@@ -5,6 +5,7 @@
 _recw_commands=(
     'eval file file'
     'serve file file'
+    'trace file file'
     'aterm file'
     'share file'
     'match text file'
@@ -26,10 +27,19 @@ _recw_eval_options=(
     '--limit-status'
 )
 
+# Each option of trace in the same way, and each of the others.
+_recw_trace_options=(
+    '--steps N'
+    '--cells C'
+    '--count'
+    '--whole'
+    '--width W'
+)
+_recw_other_options=('-e TERM' '--indent N' '--dot' '--nodes N')
+
 _recw_takes_value() {
     local option
-    [[ $1 != -e && $1 != --indent ]] || return 0
-    for option in "${_recw_eval_options[@]}"; do
+    for option in "${_recw_eval_options[@]}" "${_recw_trace_options[@]}" "${_recw_other_options[@]}"; do
         [[ $option != *' '* || ${option% *} != "$1" ]] || return 0
     done
     return 1
@@ -65,6 +75,8 @@ _recw() {
     if ((COMP_CWORD > 1)) && [[ $command != help && $command != check ]]; then choices+=(--explain); fi
     if ((COMP_CWORD > 1)) && [[ $command == eval ]]; then choices+=("${_recw_eval_options[@]%% *}"); fi
     if ((COMP_CWORD > 1)) && [[ $command == serve ]]; then choices+=(--steps --cells --memo --reclaim --depth --count); fi
+    if ((COMP_CWORD > 1)) && [[ $command == trace ]]; then choices+=("${_recw_trace_options[@]%% *}"); fi
+    if ((COMP_CWORD > 1)) && [[ $command == share ]]; then choices+=(--dot --nodes); fi
     if ((COMP_CWORD > 1)) && [[ $command == aterm ]]; then choices+=(--indent); fi
     if ((COMP_CWORD > 1)) && [[ $command == match ]]; then choices+=(--test); fi
     if ((COMP_CWORD > 1)) && [[ $command == check ]]; then choices+=(--strict); fi

@@ -19,6 +19,8 @@ fi
 try "$tests/start.sh"
 try "$tests/help.py" "$program"
 try "$tests/examples.py" "$program"
+try "$tests/traces.py" "$program"
+try "$tests/dot.py" "$program"
 try "$tests/editors.py"
 try "$tests/package.sh" "$@"
 try "$tests/clib.py"

@@ -52,6 +52,9 @@ def try_texts():
     for what, (text, cells) in texts.items():
         is_whole(what, f"{text}\n", "aterm", input=text)
         is_whole(what, f"{text}\ncells {cells}\n", "share", input=text)
+        found = recw("share", "--dot", "--nodes", str(2 * cells), input=text)
+        nodes, edges = found[1].count("];\n  n"), found[1].count(" -> ")
+        check(f"{what}: the graph", (0, True, ""), (found[0], nodes - edges == cells, found[2]))
     laid = "[\n " + items.replace(",", ",\n ") + "\n]\n"
     is_whole("elements on lines", laid, "aterm", "--indent", "1", input=f"[{items}]")
 

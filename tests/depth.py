@@ -130,6 +130,20 @@ def steps_without_end(stack, at):
     check_run(what, (0, "!limit 100000000\n"), *words, before=at_stack(stack, LITTLE))
 
 
+def graphs(stack, at):
+    """The list in a list is the second part, the empty one the third."""
+    file = write_file(f"{at}/deep", "[" * LEVELS + "]" * LEVELS)
+    lines = ["digraph term {", '  node [shape=box, fontname="monospace"];']
+    for part in (0, 1, 3, 4, 5):
+        lines.append(f'  n{part} [label="."];')
+        lines += [f'  n{part} -> n{part + 1 + (part == 1)} [label="head"];'] if part < 5 else []
+        lines += [f'  n{part} -> n2 [label="tail"];', *(['  n2 [label="[]"];'] if part == 1 else [])]
+    lines += [f'  rest [label="{LEVELS - 6} more", style=dashed];', "}"]
+    due = "".join(f"{it}\n" for it in lines)
+    words = ["share", "--dot", "--nodes", "6", file]
+    check_run(f"share --dot: {LEVELS} brackets, {stack} KiB of stack", (0, due), *words, before=at_stack(stack))
+
+
 def default_budget(stack, _):
     what = f"a condition that asks for itself, {stack} KiB of stack"
     check_run(what, (0, "!limit 1000000\n"), "eval", "rows/loop.rec", before=at_stack(stack))
@@ -163,6 +177,7 @@ GROUPS = (
     lengths,
     long_specifications,
     steps_without_end,
+    graphs,
     default_budget,
     calls_that_wait,
 )

@@ -153,7 +153,7 @@ def main():
         check_oracles()
         check_specifications()
         check_consoles(room)
-        check_helps(["eval", "serve", "aterm", "share", "match", "make", "check"], room)
+        check_helps(["eval", "serve", "trace", "aterm", "share", "match", "make", "check"], room)
         check_client()
         check_scale(room)
     done()

@@ -10,8 +10,13 @@ from typing import NamedTuple
 from common import TOP, done, program, run, same, text_of
 
 
-# Options that only one command has beside those of eval.
-OWN = [("aterm", "--indent"), ("match", "--test")]
+# Options that a command has beside those of eval, or says other words of.
+OWN = {
+    "aterm": ["--indent"],
+    "match": ["--test"],
+    "share": ["--dot", "--nodes"],
+    "trace": ["--count", "--whole", "--width"],
+}
 
 
 class Option(NamedTuple):
@@ -36,7 +41,7 @@ def commands():
 def options_of(command):
     """The options of a command, but for the one that prints help."""
     section = help_of(command).partition("Options:\n")[2].split("\n\n")[0]
-    row = r"^ +(?:-\w, )?(--[\w-]+)(?: <(\w+)>)? +(.*?)(?: \[default: (\S+)\])?$"
+    row = r"^ +(?:-\w, )?(--[\w-]+)(?: <([\w:]+)>)? +(.*?)(?: \[default: (\S+)\])?$"
     return [Option(*it) for it in re.findall(row, section, re.M) if it[0] != "--help"]
 
 
@@ -71,15 +76,20 @@ def check_width():
     same("manual: rows of the table on a line each", True, len(wanted) >= 8)
 
 
+def listed(options):
+    """The rows that tables of options have."""
+    return [(it.name, it.value, it.default or ("none" if it.value else "off")) for it in options]
+
+
 def check_manual(names, options):
     page = text_of("recw.1")
     synopsis = page.split(".Sh SYNOPSIS")[1].split(".Sh ")[0]
     same("manual: commands of the synopsis", names, re.findall(r"^\.Cm (\w+)", synopsis, re.M))
     same("manual: commands", names, re.findall(r"^\.It Cm (\w+)", page, re.M))
-    row = r"^\.It Fl -([\w-]+)(?: Ar (\w+))? Ta (\S+) Ta ."
+    row = r"^\.It Fl -([\w-]+)(?: Ar ([\w:]+))? Ta (\S+) Ta ."
     rows = [(f"--{it[0]}", it[1], it[2]) for it in re.findall(row, page, re.M)]
-    wanted = [(it.name, it.value, it.default or ("none" if it.value else "off")) for it in options]
-    same("manual: options", wanted, rows)
+    own = [it for name in ("trace", "share") for it in options[name] if it.name in OWN[name]]
+    same("manual: options", listed([*options["eval"], *own]), rows)
     check_width()
     if shutil.which("mandoc"):
         same("manual: mandoc -Tlint", "", run(["mandoc", "-Tlint", f"{TOP}/recw.1"]))
@@ -103,9 +113,11 @@ def check_bash(names, options):
         wanted = ["--help", *[it.name for it in options[name]]]
         same(f"bash: options of {name}", sorted(wanted), sorted(offered("recw", name, "-")))
     with_files = (["eval"], ["eval", "q.rec"], ["eval", "--count"], ["aterm"], ["share"], ["match", "x"])
-    for words in (*with_files, ["check"], ["check", "--strict", "a", "b"]):
+    with_more = (["check"], ["check", "--strict", "a", "b"], ["trace", "a"], ["trace", "--width", "5", "a"])
+    for words in (*with_files, *with_more):
         same(f"bash: files behind {words}", ["add.rec", "add.trm"], offered("recw", *words, "add"))
-    for words in (["match"], ["make"], ["make", "x"], ["aterm", "x"], ["eval", "a", "b"]):
+    with_none = (["match"], ["make"], ["make", "x"], ["aterm", "x"], ["eval", "a", "b"], ["share", "--nodes"])
+    for words in (*with_none, ["trace", "a", "b"]):
         same(f"bash: no files behind {words}", [], offered("recw", *words, "add"))
     for option in options["eval"]:
         wanted = [] if option.value else ["add.rec", "add.trm"]
@@ -130,10 +142,16 @@ def check_fish(names, abouts, options):
     for name in names:
         wanted = [(it.name, it.about) for it in options[name]]
         same(f"fish: options of {name}", sorted([help_option, *wanted]), offered(f"recw {name} --"))
-    for line in ("eval", "eval --count", "aterm", "share", "match x", "check", "check a"):
+    lines = ("eval", "eval --count", "trace", "trace --whole a", "aterm", "share", "match x", "check", "check a")
+    for line in lines:
         same(f"fish: files behind {line}", [("add.rec",), ("add.trm",)], offered(f"recw {line} add"))
     for line in ("make", *[f"eval {it.name}" for it in options["eval"] if it.value]):
         same(f"fish: no files behind {line}", [], offered(f"recw {line} add"))
+
+
+def escaped(value):
+    """A value's name as zsh reads it."""
+    return value.replace(":", "\\:")
 
 
 def check_zsh(abouts, options):
@@ -156,7 +174,7 @@ def check_zsh(abouts, options):
     same("zsh: commands of help", [*listed, refusals], offered("recw", "help", ""))
     for name in abouts:
         own = [
-            f"{'*' if 'several' in it.about else ''}{it.name}=[{it.about}]:{it.value}: "
+            f"{'*' if 'several' in it.about else ''}{it.name}=[{it.about}]:{escaped(it.value)}: "
             if it.value
             else f"{it.name}[{it.about}]"
             for it in options[name]
@@ -182,11 +200,14 @@ def main():
         elif name == "check":
             same("options of check", ["--strict"], [it.name for it in options[name]])
         elif name not in ("eval", "help"):
-            own = [it for it in options[name] if (name, it.name) not in OWN]
-            same(f"options of {name}", shared, own)
+            both = [it for it in options["eval"] if name == "trace" and it.name in ("--steps", "--cells")]
+            own = OWN.get(name, [])
+            same(f"own options of {name}", own, [it.name for it in options[name] if it.name in own])
+            rest = [it for it in options[name] if it.name not in own]
+            same(f"other options of {name}", [*both, *shared], rest)
     check_refusals()
     check_version()
-    check_manual(names, options["eval"])
+    check_manual(names, options)
     shells = {
         "bash": lambda: check_bash(names, options),
         "fish": lambda: check_fish(names, abouts, options),

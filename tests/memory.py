@@ -9,20 +9,37 @@ import re
 from functools import partial
 
 from attempts import EXAMPLES, NO_MEMORY, check, recw, room, write_file
-from common import TOP, program, rows
+from common import TOP, program, rows, text_of
 from refuse import REQUESTS, answer, blocks
 
 # How many requests one process refuses before it asks for more.
 SHARE = 16
 # The program that makes one call of a crate.
 CALLER = f"{TOP}/crates/hostile/out/hostile"
-# Runs without a specification: the words, and the output that docs/FORMATS.md gives.
+# Other runs: the words, and the output that docs/FORMATS.md gives.
 OTHERS = (
     (["aterm", "term"], "f ( a , [ 1 , -007 ] ) { b }", "f(a,[1,-7]){b}\n"),
     (["aterm", "--indent", "2", "term"], "f(a,\"b\"){[]}", 'f(\n  a,\n  "b"\n){\n  []\n}\n'),
     (["share", "term"], "f(a,a)", "f(a,a)\ncells 5\n"),
     (["share", "term"], "[1,[1]]", "[1,[1]]\ncells 5\n"),
     (["share", "term"], "[a]{b}", "[a]{b}\ncells 5\n"),
+    (
+        ["share", "--dot", "--nodes", "3", "term"],
+        '<1>{"x"}',
+        'digraph term {\n  node [shape=box, fontname="monospace"];\n  n0 [label="<>"];\n  n0 -> n1 [label="inner"];\n'
+        '  n0 -> n2 [label="annotations"];\n  n1 [label="1"];\n  n2 [label="."];\n'
+        '  rest [label="2 more", style=dashed];\n}\n',
+    ),
+    (
+        ["trace", "--count", "term"],
+        text_of("examples/rows/cond.rec"),
+        "7:3: f(z) -> s(z)\t3\ns(z)\t3\n",
+    ),
+    (
+        ["trace", "--whole", "--width", "9", "term"],
+        text_of("examples/add.rec"),
+        "0:0: plus(s...\n12:3: s(plus...\n12:3: s(s(pl...\n11:3: s(s(s(...\ns(s(s(z)))\n",
+    ),
     (["match", "f(<int>,<list>)", "term"], "f(1,2,3)", "yes\n1\n[2,3]\n"),
     (["match", "f(<int>,<list>)", "term"], "f(1)", "yes\n1\n[]\n"),
     (["match", "f(<int>,<list>)", "term"], "f(a)", "no\n"),

@@ -17,14 +17,17 @@ import sys
 
 from common import text_of
 
-TOKEN = re.compile(r'\s*([A-Za-z0-9_][\w\'-]*|"[^"]*"|[(),\[\]{}])')
+TOKEN = re.compile(r"""[A-Za-z0-9_](?:[\w']|-(?=[\w']))*|"[^"]*"|->/<-|-><-|->|[(),:\[\]{}]""")
+PLAIN = re.compile(r"[A-Za-z_][A-Za-z0-9_\-+*$.]*")
 
 
 class Terms:
     """Reads terms as tuples of a name and its arguments, and what stands in braces behind one as text."""
 
     def __init__(self, text):
-        self.tokens = [it.group(1) for it in TOKEN.finditer(text)]
+        found = list(TOKEN.finditer(text))
+        self.tokens = [it[0] for it in found]
+        self.places = [it.start() for it in found]
         self.at = 0
 
     def next(self):
@@ -37,7 +40,7 @@ class Terms:
         return found
 
     def term(self):
-        name, arguments = self.next(), []
+        name, arguments = self.next().strip('"'), []
         if self.comes("("):
             arguments.append(self.term())
             while self.comes(","):
@@ -69,6 +72,7 @@ def terms_of(name):
 
 def shown(term):
     name, *arguments = term
+    name = name if PLAIN.fullmatch(name) else f'"{name}"'
     return f"{name}({','.join(map(shown, arguments))})" if arguments else name
 
 

@@ -15,6 +15,16 @@ from conversations import INPUT, OUTPUT
 # More than the program keeps before it writes.
 LONG = f"[{','.join(['1'] * 100000)}]"
 REFUSED = "REC-SPEC E SORTS : END-SPEC"
+# What fires at the end, a trace of add.rec, and the graph of a name.
+FIRED = "11:3: plus(z,s(z)) -> s(z)\n"
+TRACED = (
+    "12:3: plus(s(s(z)),s(z)) -> s(plus(s(z),s(z)))\n12:3: plus(s(z),s(z)) -> s(plus(z,s(z)))\n"
+    f"{FIRED}s(s(s(z)))\n"
+)
+GRAPH = (
+    'digraph term {\n  node [shape=box, fontname="monospace"];\n  n0 [label="a"];\n  n0 -> n1 [label="args"];\n'
+    '  n1 [label="[]"];\n}\n'
+)
 DONE = (0, "")
 # What is tried with each read and each write refused: the words, the text of each file that they name, the output, and
 # the end of a run in which nothing is refused.
@@ -24,6 +34,14 @@ RUNS = (
     ("aterm in", {"in": "f ( a , [ 1 , -007 ] ) { b }"}, "f(a,[1,-7]){b}\n", DONE),
     ("aterm --indent 1 in", {"in": "f(a)"}, "f(\n a\n)\n", DONE),
     ("share in", {"in": "[a]{b}"}, "[a]{b}\ncells 5\n", DONE),
+    ("share --dot in", {"in": "a"}, GRAPH, DONE),
+    (
+        "trace in terms",
+        {"in": "examples/add.rec", "terms": "examples/add.trm"},
+        f"{TRACED}{FIRED}s(z)\n",
+        DONE,
+    ),
+    ("trace in", {"in": REFUSED}, "!spec G\n", (1, "recw: spec G at byte 17\n")),
     ("match f(<int>,<list>) in", {"in": "f(1,2,3)"}, "yes\n1\n[2,3]\n", DONE),
     ("aterm in", {"in": LONG}, f"{LONG}\n", DONE),
     ("eval in", {"in": REFUSED}, "!spec G\n", (1, "recw: spec G at byte 17\n")),
@@ -85,8 +103,17 @@ def try_files():
 
 
 # Each file that the program may be given, as words in which it stands for X, with what is read before it.
-PLACES = ("eval X", "eval add.rec X", "aterm X", "share X", "match <term> X")
-ENDLESS = ("!spec L1\n", "!terms L1\n", "!term L1\n", "!term L1\n", "!term L1\n")
+PLACES = (
+    "eval X",
+    "eval add.rec X",
+    "trace X",
+    "trace add.rec X",
+    "aterm X",
+    "share X",
+    "share --dot X",
+    "match <term> X",
+)
+ENDLESS = ("!spec L1\n", "!terms L1\n", "!spec L1\n", "!terms L1\n", *["!term L1\n"] * 4)
 
 
 def with_file(words, path):
@@ -118,7 +145,8 @@ def try_places(at):
 
 def try_input(at):
     closed = {"before": ("sh", "-c", '"$@" <&-', "sh")}
-    for words, text in (("eval", "spec"), ("aterm", "term"), ("share", "term"), ("match a", "term")):
+    specs, terms = ("eval", "trace -"), ("aterm", "share", "share --dot", "match a")
+    for words, text in (*((it, "spec") for it in specs), *((it, "term") for it in terms)):
         with open("/dev/zero", "rb") as endless:
             check(f"{words}: an endless input", (1, f"!{text} L1\n", ""), recw(*words.split(), stdin=endless))
         folder = os.open(at, os.O_RDONLY)
@@ -135,6 +163,8 @@ LINES = (
     ("aterm", LONG, f"{LONG}\n"),
     ("aterm --indent 1", "f(a)", "f(\n a\n)\n"),
     ("share", "f(a,a)", "f(a,a)\ncells 5\n"),
+    ("share --dot", "a", GRAPH),
+    ("trace -", text_of("examples/add.rec"), TRACED),
     ("match f(<int>,<list>)", "f(1,2,3)", "yes\n1\n[2,3]\n"),
     ("make f(<int>) [1]", "", "f(1)\n"),
     ("make a b", "", "!args T1\n"),

@@ -288,7 +288,9 @@ fn read_line(line: &[u8]) -> Option<RefusalLine<'_>> {
 /// Names the option that raises the limit on cells.
 fn explain_room<W: Write>(request: Request<'_>, out: &mut W) -> io::Result<()> {
     match request {
-        Request::Eval { options, .. } | Request::Serve { options, .. } => {
+        Request::Eval { options, .. }
+        | Request::Serve { options, .. }
+        | Request::Trace { options, .. } => {
             let cells = options.cells;
             let noun = if cells == 1 { "cell" } else { "cells" };
             writeln!(out, "--cells raises the limit, which is {cells} {noun}")

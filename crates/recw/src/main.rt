@@ -17,6 +17,7 @@ mod serve;
 mod shelf;
 #[cfg(test)]
 mod tests;
+mod work;
 
 use program::program;
 use recw_words::{Console, Guarded, Prompt};

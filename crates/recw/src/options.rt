@@ -1,8 +1,9 @@
 //! The options of runs.
 
+use rec_look::TraceOptions;
 use rec_run::{LimitLines, RunOptions, RunSettings};
 use rec_serve::ServeSettings;
-use recw_words::EvalOptions;
+use recw_words::{EvalOptions, Shown};
 
 /// What a run may use.
 fn run_options(options: EvalOptions) -> RunOptions {
@@ -30,6 +31,15 @@ pub fn run_settings(options: EvalOptions) -> RunSettings {
         options: run_options(options),
         limits: limit_lines(options),
         depth: options.depth,
+    }
+}
+
+/// All that a trace is told.
+pub fn trace_options(options: EvalOptions, shown: Shown) -> TraceOptions {
+    TraceOptions {
+        run: run_options(options),
+        whole: shown.whole,
+        width: shown.width,
     }
 }
 

@@ -4,17 +4,16 @@ use crate::check::check;
 use crate::evidence::Evidence;
 use crate::given::given_by;
 use crate::input::{open, open_file, open_given};
-use crate::options::run_settings;
 use crate::recorded::Watched;
 use crate::serve::serve;
+use crate::work::Work;
 use crate::{look, report};
 use rec_run::{
     Finish, RunDepthFault, RunFault, Source, run_aterm_at, run_make_at, run_match_at, run_share_at,
-    run_within,
 };
 use recw_words::status::{eval_status, match_status};
-use recw_words::{Asked, Audience, EvalOptions, Invocation, Request, STANDARD_INPUT, read_words};
-use rx_look::run_aterm_indented_at;
+use recw_words::{Asked, Audience, Invocation, Request, STANDARD_INPUT, read_words};
+use rx_look::{run_aterm_indented_at, run_share_dot_at};
 use std::alloc::Global;
 use std::io::{Read, Write};
 use std::rt::Files;
@@ -85,7 +84,12 @@ fn perform<H: Files, R: Read, W: Write, E: Write>(
 ) -> Result<Finish, RunDepthFault> {
     let mut out = Watched::new(evidence.alloc, out, evidence.invocation.has_outcome);
     let end = match evidence.invocation.request {
-        Request::Eval { options, .. } => evaluate(rt, options, input, &mut out, evidence),
+        Request::Eval { options, .. } => {
+            evaluate(rt, Work::Values(options), input, &mut out, evidence)
+        }
+        Request::Trace { options, shown, .. } => {
+            evaluate(rt, Work::Trace(options, shown), input, &mut out, evidence)
+        }
         _ => run_request(rt, input, &mut out, err, evidence).map_err(RunDepthFault::Run),
     };
     evidence.note_output(out.finish());
@@ -139,7 +143,13 @@ fn run_on_text<R: Read, W: Write>(
 ) -> Result<Finish, RunFault> {
     let alloc = evidence.alloc;
     match evidence.invocation.request {
-        Request::Share { .. } => run_share_at(alloc, text, out, &mut evidence.place),
+        Request::Share { nodes: None, .. } => {
+            run_share_at(alloc, text, out, &mut evidence.place)
+        }
+        Request::Share {
+            nodes: Some(nodes),
+            ..
+        } => look::ended(run_share_dot_at(alloc, text, nodes, out, &mut evidence.place)),
         Request::Match { pattern, .. } => {
             run_match_at(alloc, pattern.as_bytes(), text, out, &mut evidence.place)
         }
@@ -154,22 +164,22 @@ fn run_on_text<R: Read, W: Write>(
 /// Evaluates a specification, and the terms that are given beside it.
 fn evaluate<H: Files, R: Read, W: Write>(
     rt: &H,
-    options: EvalOptions,
+    work: Work,
     input: &mut R,
     out: &mut W,
     evidence: &mut Evidence<'_>,
 ) -> Result<Finish, RunDepthFault> {
     if evidence.invocation.request.terms_path() == Some(STANDARD_INPUT) {
-        evaluate_on_input(rt, options, input, out, evidence)
+        evaluate_on_input(rt, work, input, out, evidence)
     } else {
-        evaluate_on_files(rt, options, input, out, evidence)
+        evaluate_on_files(rt, work, input, out, evidence)
     }
 }
 
 /// Evaluates a specification in a file, and given terms on the standard input.
 fn evaluate_on_input<H: Files, R: Read, W: Write>(
     rt: &H,
-    options: EvalOptions,
+    work: Work,
     input: &mut R,
     out: &mut W,
     evidence: &mut Evidence<'_>,
@@ -179,7 +189,7 @@ fn evaluate_on_input<H: Files, R: Read, W: Write>(
     let file = evidence.note_open(open_file(rt, path), name)?;
     let terms = evidence.note_open(open(rt, None, input), name)?;
     let mut spec = evidence.record(file);
-    let end = evaluate_with(options, &mut spec, Some(terms), out, evidence);
+    let end = evaluate_with(work, &mut spec, Some(terms), out, evidence);
     evidence.first = evidence.note_read(spec.finish(), name);
     end
 }
@@ -187,7 +197,7 @@ fn evaluate_on_input<H: Files, R: Read, W: Write>(
 /// Evaluates a specification in a file or on the standard input, and given terms from elsewhere.
 fn evaluate_on_files<H: Files, R: Read, W: Write>(
     rt: &H,
-    options: EvalOptions,
+    work: Work,
     input: &mut R,
     out: &mut W,
     evidence: &mut Evidence<'_>,
@@ -196,7 +206,7 @@ fn evaluate_on_files<H: Files, R: Read, W: Write>(
     let name = evidence.name_of(Source::Spec);
     let file = evidence.note_open(open(rt, path, input), name)?;
     let mut spec = evidence.record(file);
-    let end = evaluate_text(rt, options, &mut spec, out, evidence);
+    let end = evaluate_text(rt, work, &mut spec, out, evidence);
     evidence.first = evidence.note_read(spec.finish(), name);
     end
 }
@@ -204,36 +214,36 @@ fn evaluate_on_files<H: Files, R: Read, W: Write>(
 /// Evaluates the text of a specification, and the terms that are given beside it.
 fn evaluate_text<H: Files, R: Read, W: Write>(
     rt: &H,
-    options: EvalOptions,
+    work: Work,
     spec: &mut R,
     out: &mut W,
     evidence: &mut Evidence<'_>,
 ) -> Result<Finish, RunDepthFault> {
     if !evidence.invocation.given.is_empty() {
-        return evaluate_words(options, spec, out, evidence);
+        return evaluate_words(work, spec, out, evidence);
     }
     let path = evidence.invocation.request.terms_path();
     let name = evidence.name_of(Source::Terms);
     let terms = evidence.note_open(open_given(rt, path), name)?;
-    evaluate_with(options, spec, terms, out, evidence)
+    evaluate_with(work, spec, terms, out, evidence)
 }
 
 /// Evaluates a specification and the terms that stand among the words.
 fn evaluate_words<R: Read, W: Write>(
-    options: EvalOptions,
+    work: Work,
     spec: &mut R,
     out: &mut W,
     evidence: &mut Evidence<'_>,
 ) -> Result<Finish, RunDepthFault> {
     let given = given_by(evidence.alloc, evidence.invocation.given.as_slice())?;
-    let end = evaluate_with(options, spec, Some(given.text()), out, evidence);
+    let end = evaluate_with(work, spec, Some(given.text()), out, evidence);
     evidence.note_word(&given);
     end
 }
 
 /// Evaluates a specification and given terms, whose text is kept for an explanation.
 fn evaluate_with<R: Read, T: Read + Drop, W: Write>(
-    options: EvalOptions,
+    work: Work,
     spec: &mut R,
     terms: Option<T>,
     out: &mut W,
@@ -243,14 +253,7 @@ fn evaluate_with<R: Read, T: Read + Drop, W: Write>(
         Some(file) => Some(evidence.record(file)),
         None => None,
     };
-    let end = run_within(
-        evidence.alloc,
-        spec,
-        terms.as_mut(),
-        out,
-        run_settings(options),
-        &mut evidence.place,
-    );
+    let end = work.run(spec, terms.as_mut(), out, evidence);
     if let Some(terms) = terms {
         let name = evidence.name_of(Source::Terms);
         evidence.second = evidence.note_read(terms.finish(), name);

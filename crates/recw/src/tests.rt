@@ -105,9 +105,10 @@ fn all_leave<H: Abort + Files>(rt: &H, alloc: Global, rows: &[Row]) {
 }
 
 /// The rows whose texts come from the standard input.
-const TABLES: [&[Row]; 7] = [
+const TABLES: [&[Row]; 8] = [
     help::HELPS,
     words::STATUSES,
+    words::TRACES,
     words::TERMS,
     words::PATTERNS,
     explained::INPUTS,

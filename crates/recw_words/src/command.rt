@@ -1,36 +1,38 @@
 //! The command line, and its help.
 
-use clap::{Arg, ArgAction, Command, value_parser};
+use crate::arguments::{
+    cells, count, depth, explain, file, flag, indent, memo, nodes, pattern, reclaim, spent, steps,
+    term, text, width,
+};
+use clap::{Arg, ArgAction, Command};
 use std::alloc::{AllocError, Global};
-
-/// The most steps that may be asked for.
-pub const MOST_STEPS: u64 = 1_000_000_000_000_000_000;
-
-/// The most cells, and the most new cells between two reclaims.
-pub const MOST_CELLS: u32 = 1_073_741_824;
-
-/// The most results that are remembered.
-pub const MOST_RESULTS: u32 = 1_048_576;
 
 /// How many calls may wait at once in a conversation, where nothing else is said.
 const SERVED_DEPTH: &str = "1000000";
-
-/// The most blanks that a level may have.
-pub const MOST_INDENT: u32 = 64;
 
 /// The version. What the program was proved with can't be known here: another kit may build it.
 const VERSION: &str = "0.1.0";
 
 /// The command without the program's name before its words.
 pub fn command<'a>(alloc: Global) -> Result<Command<'a>, AllocError> {
-    let command = bare_command(alloc)?;
+    let command = with_specifications(alloc, bare_command(alloc)?)?;
+    let command = with_terms_alone(alloc, command)?;
+    with(command, check_command(alloc))
+}
+
+/// The command with the subcommands that evaluate.
+fn with_specifications<'a>(alloc: Global, command: Command<'a>) -> Result<Command<'a>, AllocError> {
     let command = with(command, eval_command(alloc))?;
     let command = with(command, serve_command(alloc))?;
+    with(command, trace_command(alloc))
+}
+
+/// The command with the subcommands on terms and patterns.
+fn with_terms_alone<'a>(alloc: Global, command: Command<'a>) -> Result<Command<'a>, AllocError> {
     let command = with(command, aterm_command(alloc))?;
     let command = with(command, share_command(alloc))?;
     let command = with(command, match_command(alloc))?;
-    let command = with(command, make_command(alloc))?;
-    with(command, check_command(alloc))
+    with(command, make_command(alloc))
 }
 
 /// The command with a subcommand, where there is memory for both.
@@ -103,7 +105,14 @@ fn serve_command<'a>(alloc: Global) -> Result<Command<'a>, AllocError> {
         "Answer requests, each a line with an ATerm, by a line each",
         "Example: echo 'plus(s(z),s(z))' | recw serve add.rec",
     );
-    let command = command
+    let command = with_limits(alloc, with_requests(alloc, command)?)?;
+    let depth = depth(alloc).default_value(SERVED_DEPTH);
+    command.arg(depth)?.arg(count(alloc))?.arg(explain(alloc))
+}
+
+/// The command with the files of a conversation.
+fn with_requests<'a>(alloc: Global, command: Command<'a>) -> Result<Command<'a>, AllocError> {
+    command
         .arg(text(
             alloc,
             "SPEC",
@@ -113,12 +122,45 @@ fn serve_command<'a>(alloc: Global) -> Result<Command<'a>, AllocError> {
             alloc,
             "FILE",
             "File of the requests, or - [default: standard input]",
-        ))?;
-    let depth = depth(alloc).default_value(SERVED_DEPTH);
-    with_limits(alloc, command)?
-        .arg(depth)?
-        .arg(count(alloc))?
-        .arg(explain(alloc))
+        ))
+}
+
+/// The subcommand `trace`.
+fn trace_command<'a>(alloc: Global) -> Result<Command<'a>, AllocError> {
+    let command = described(
+        alloc,
+        "trace",
+        "Print each rule that fires while terms are evaluated, and what it rewrites",
+        "Each line is LINE:COL: TERM -> TERM, with the place at which the rule begins.\n\n\
+         Example: recw trace --count add.rec",
+    );
+    let command = with_traced(alloc, command)?;
+    with_look(alloc, command)?.arg(explain(alloc))
+}
+
+/// The command with the files of a trace, and what limits it.
+fn with_traced<'a>(alloc: Global, command: Command<'a>) -> Result<Command<'a>, AllocError> {
+    command
+        .arg(text(alloc, "SPEC", "File of the specification, or -"))?
+        .arg(file(
+            alloc,
+            "TERMS",
+            "File of an ATerm list of further terms, or -",
+        ))?
+        .arg(steps(alloc))?
+        .arg(cells(alloc))
+}
+
+/// The command with the options on how a rule that fires is shown.
+fn with_look<'a>(alloc: Global, command: Command<'a>) -> Result<Command<'a>, AllocError> {
+    command
+        .arg(spent(alloc))?
+        .arg(flag(
+            alloc,
+            "whole",
+            "Print the whole term each time, in place of what is rewritten",
+        ))?
+        .arg(width(alloc))
 }
 
 /// The command with the files of an evaluation, and with terms in place of the second.
@@ -164,15 +206,31 @@ fn aterm_command<'a>(alloc: Global) -> Result<Command<'a>, AllocError> {
 
 /// The subcommand `share`.
 fn share_command<'a>(alloc: Global) -> Result<Command<'a>, AllocError> {
-    with_term(
+    let command = described(
         alloc,
-        described(
-            alloc,
-            "share",
-            "Print an ATerm and how many cells it takes with equal parts shared",
-            "Example: echo 'f(a,a)' | recw share",
-        ),
-    )
+        "share",
+        "Print an ATerm and how many cells it takes with equal parts shared",
+        "Example: echo 'f(a,a)' | recw share",
+    );
+    with_graph(alloc, with_term(alloc, command)?)
+}
+
+/// The command with the options on the graph of a term.
+fn with_graph<'a>(alloc: Global, command: Command<'a>) -> Result<Command<'a>, AllocError> {
+    let command = command.arg(flag(
+        alloc,
+        "dot",
+        "Print the graph of its parts in their place, for Graphviz",
+    ))?;
+    with_argument(command, nodes(alloc))
+}
+
+/// The command with an argument, where there is memory for both.
+fn with_argument<'a>(
+    command: Command<'a>,
+    argument: Result<Arg<'a>, AllocError>,
+) -> Result<Command<'a>, AllocError> {
+    command.arg(argument?)
 }
 
 /// The subcommand `match`.
@@ -238,122 +296,4 @@ fn with_term<'a>(alloc: Global, command: Command<'a>) -> Result<Command<'a>, All
             "File of the ATerm, or - [default: standard input]",
         ))?
         .arg(explain(alloc))
-}
-
-/// The pattern that must be given.
-fn pattern<'a>(alloc: Global) -> Arg<'a> {
-    text(alloc, "PATTERN", "ATerm with placeholders")
-}
-
-/// A text that must be given.
-fn text<'a>(alloc: Global, name: &'a str, help: &'a str) -> Arg<'a> {
-    file(alloc, name, help).required(true)
-}
-
-/// A file, which may be left out.
-fn file<'a>(alloc: Global, name: &'a str, help: &'a str) -> Arg<'a> {
-    Arg::new(alloc, name).help(help)
-}
-
-/// The option `--term`, in place of a file of further terms.
-fn term<'a>(alloc: Global) -> Result<Arg<'a>, AllocError> {
-    Arg::new(alloc, "term")
-        .short('e')
-        .long("term")
-        .value_name("TERM")
-        .action(ArgAction::Append)
-        .help("A further term; may be given several times")
-        .conflicts_with("TERMS")
-}
-
-/// The option `--steps`.
-fn steps<'a>(alloc: Global) -> Arg<'a> {
-    let help = "Most steps that a term may take, up to 10^18";
-    number(alloc, "steps", "N", "1000000", help).value_parser(value_parser!(u64).range(
-        0..=MOST_STEPS as i64,
-    ))
-}
-
-/// The option `--cells`.
-fn cells<'a>(alloc: Global) -> Arg<'a> {
-    let help = "Most cells that terms may take, 1 to 2^30; the default takes up to 1.4 GB";
-    number(alloc, "cells", "C", "16777216", help).value_parser(value_parser!(u32).range(
-        1..=i64::from(MOST_CELLS),
-    ))
-}
-
-/// The option `--memo`.
-fn memo<'a>(alloc: Global) -> Arg<'a> {
-    let help = "Most results to remember, up to 2^20";
-    number(alloc, "memo", "M", "65536", help).value_parser(value_parser!(u32).range(
-        0..=i64::from(MOST_RESULTS),
-    ))
-}
-
-/// The option `--reclaim`.
-fn reclaim<'a>(alloc: Global) -> Arg<'a> {
-    let help = "New cells between two reclaims, 1 to 2^30";
-    number(alloc, "reclaim", "K", "262144", help).value_parser(value_parser!(u32).range(
-        1..=i64::from(MOST_CELLS),
-    ))
-}
-
-/// The option `--depth`.
-fn depth<'a>(alloc: Global) -> Arg<'a> {
-    let help = "Most calls that may wait at once, up to 2^32 - 1";
-    bare_number(alloc, "depth", "D", help).value_parser(value_parser!(u32))
-}
-
-/// The option `--indent`.
-fn indent<'a>(alloc: Global) -> Arg<'a> {
-    let help = "Print it over several lines, with N blanks for each level, 0 to 64";
-    bare_number(alloc, "indent", "N", help).value_parser(value_parser!(u32).range(
-        0..=i64::from(MOST_INDENT),
-    ))
-}
-
-/// An option with a number, which has a default.
-fn number<'a>(
-    alloc: Global,
-    name: &'a str,
-    value_name: &'a str,
-    default: &'a str,
-    help: &'a str,
-) -> Arg<'a> {
-    bare_number(alloc, name, value_name, help).default_value(default)
-}
-
-/// An option with a number.
-fn bare_number<'a>(alloc: Global, name: &'a str, value_name: &'a str, help: &'a str) -> Arg<'a> {
-    Arg::new(alloc, name)
-        .long(name)
-        .value_name(value_name)
-        .allow_negative_numbers(true)
-        .help(help)
-}
-
-/// The option `--count`.
-fn count<'a>(alloc: Global) -> Arg<'a> {
-    flag(
-        alloc,
-        "count",
-        "Print the steps that each term took behind its value",
-    )
-}
-
-/// The option `--explain`.
-fn explain<'a>(alloc: Global) -> Arg<'a> {
-    flag(
-        alloc,
-        "explain",
-        "Say in words why a text is refused, and where",
-    )
-}
-
-/// An option without a value.
-fn flag<'a>(alloc: Global, name: &'a str, help: &'a str) -> Arg<'a> {
-    Arg::new(alloc, name)
-        .long(name)
-        .action(ArgAction::SetTrue)
-        .help(help)
 }

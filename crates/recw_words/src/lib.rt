@@ -1,6 +1,7 @@
 //! The words of the program recw: its command line, its help, and what it says of a refusal.
 #![tactic(auto)]
 
+mod arguments;
 mod asked;
 mod broken_part;
 mod command;
@@ -15,6 +16,7 @@ mod named;
 mod names;
 mod near;
 mod nodes;
+mod options;
 mod place;
 mod prompt;
 mod refusals;
@@ -22,6 +24,7 @@ mod report;
 mod request;
 pub mod status;
 mod text_name;
+mod wrong;
 
 pub use asked::{Asked, read_words};
 pub use console::{Audience, Console};
@@ -30,7 +33,8 @@ pub use explain::{Refusal, Texts, explain_given, explain_place, explain_text, ex
 pub use given::Given;
 pub use guarded::Guarded;
 pub use item::Item;
+pub use options::{EvalOptions, Shown};
 pub use prompt::Prompt;
 pub use report::failed_start;
-pub use request::{EvalOptions, Invocation, Request, STANDARD_INPUT};
+pub use request::{Invocation, Request, STANDARD_INPUT};
 pub use text_name::TextName;

@@ -1,33 +1,10 @@
 //! What the words ask for.
-ghost use Rattle.std.specs.Prelude.{◌≤◌, ◌^◌};
 
-use crate::command::{self, MOST_CELLS, MOST_INDENT, MOST_RESULTS, MOST_STEPS};
-use clap::error::ErrorKind;
+use crate::command;
+use crate::options::{EvalOptions, Shown, indent_of, nodes_of, options_of, shown_of};
+use crate::wrong::{MISSING, READ_TWICE, Wrong};
 use clap::{ArgMatches, Command, Error};
 use std::alloc::{AllocError, Global};
-
-/// The options of an evaluation, each in its range.
-#[derive(Clone, Copy)]
-pub struct EvalOptions {
-    /// The most steps that a term may take.
-    pub steps: u64,
-    /// The most cells.
-    pub cells: u32,
-    /// The most results that are remembered.
-    pub memo: u32,
-    /// How many new cells there may be between two reclaims.
-    pub reclaim: u32,
-    /// Whether the steps of each term are printed.
-    pub count: bool,
-    /// Whether the limit line of a given term bears its annotations.
-    pub limit_annotations: bool,
-    /// How many calls may wait at once; without a number as many as there is memory for.
-    pub depth: Option<u32>,
-    pub ghost steps_in_range: { steps ≤ 10 ^ 18 },
-    pub ghost cells_in_range: { (1 ≤ cells) × (cells ≤ 2 ^ 30) },
-    pub ghost memo_in_range: { memo ≤ 2 ^ 20 },
-    pub ghost reclaim_in_range: { (1 ≤ reclaim) × (reclaim ≤ 2 ^ 30) },
-}
 
 /// What a subcommand is asked to do.
 #[derive(Clone, Copy)]
@@ -51,9 +28,18 @@ pub enum Request<'a> {
         file: Option<&'a str>,
         indent: Option<u8>,
     },
-    /// Print a term and how many cells it takes.
+    /// Tell of each rule that fires while terms are evaluated.
+    Trace {
+        options: EvalOptions,
+        shown: Shown,
+        spec: Option<&'a str>,
+        terms: Option<&'a str>,
+    },
+    /// Print a term and how many cells it takes; or, where it is said how many parts it may show, the
+    /// graph of its parts.
     Share {
         file: Option<&'a str>,
+        nodes: Option<u32>,
     },
     /// Match a pattern with a term, which stands in a file or on the standard input.
     Match {
@@ -76,10 +62,12 @@ impl<'a> Request<'a> {
     /// The file that is read first, where one is named.
     pub fn path(&self) -> Option<&'a str> {
         match *self {
-            Request::Eval { spec, .. } | Request::Serve { spec, .. } => spec,
-            Request::Aterm { file, .. } | Request::Share { file } | Request::Match { file, .. } => {
-                file
-            }
+            Request::Eval { spec, .. }
+            | Request::Serve { spec, .. }
+            | Request::Trace { spec, .. } => spec,
+            Request::Aterm { file, .. }
+            | Request::Share { file, .. }
+            | Request::Match { file, .. } => file,
             Request::Make { .. } | Request::Check { .. } => None,
         }
     }
@@ -87,7 +75,7 @@ impl<'a> Request<'a> {
     /// The file of given terms, where one is named.
     pub fn terms_path(&self) -> Option<&'a str> {
         match *self {
-            Request::Eval { terms, .. } => terms,
+            Request::Eval { terms, .. } | Request::Trace { terms, .. } => terms,
             _ => None,
         }
     }
@@ -157,27 +145,6 @@ fn invocation_or_error<'a>(
         Err(Wrong { kind, message }) => Err(command.error(kind, message)?),
     }
 }
-
-/// What is wrong with words that the command takes.
-#[derive(Clone, Copy)]
-struct Wrong {
-    /// The kind of the error.
-    kind: ErrorKind,
-    /// What is said of it.
-    message: &'static str,
-}
-
-/// A word is missing, which the command rules out.
-const MISSING: Wrong = Wrong {
-    kind: ErrorKind::MissingSubcommand,
-    message: "a subcommand is missing",
-};
-
-/// The standard input is named twice.
-const READ_TWICE: Wrong = Wrong {
-    kind: ErrorKind::ArgumentConflict,
-    message: "the standard input can be read once only",
-};
 
 /// The given terms among the words, or the files of specifications to check.
 fn given_of<'a>(alloc: Global, matches: &ArgMatches<'a>) -> Result<Vec<&'a str>, AllocError> {
@@ -249,12 +216,14 @@ fn request_of<'a>(name: &str, inner: &ArgMatches<'a>) -> Option<Request<'a>> {
     match name {
         "eval" => eval_of(inner),
         "serve" => serve_of(inner),
+        "trace" => trace_of(inner),
         "aterm" => Some(Request::Aterm {
             file: path_of(inner, "FILE"),
             indent: indent_of(inner),
         }),
         "share" => Some(Request::Share {
             file: path_of(inner, "FILE"),
+            nodes: nodes_of(inner),
         }),
         "match" => match_of(inner),
         "make" => make_of(inner),
@@ -270,16 +239,20 @@ fn path_of<'a>(inner: &ArgMatches<'a>, id: &str) -> Option<&'a str> {
     inner.get_str(id).filter(|path| *path != STANDARD_INPUT)
 }
 
-/// How many blanks a level is to have, where that is said.
-fn indent_of(inner: &ArgMatches<'_>) -> Option<u8> {
-    let indent = inner.get_one::<u32>("indent")?;
-    Some(indent.min(MOST_INDENT) as u8)
-}
-
 /// What `eval` is asked to do.
 fn eval_of<'a>(inner: &ArgMatches<'a>) -> Option<Request<'a>> {
     Some(Request::Eval {
         options: options_of(inner)?,
+        spec: path_of(inner, "SPEC"),
+        terms: inner.get_str("TERMS"),
+    })
+}
+
+/// What `trace` is asked to do.
+fn trace_of<'a>(inner: &ArgMatches<'a>) -> Option<Request<'a>> {
+    Some(Request::Trace {
+        options: options_of(inner)?,
+        shown: shown_of(inner),
         spec: path_of(inner, "SPEC"),
         terms: inner.get_str("TERMS"),
     })
@@ -307,18 +280,5 @@ fn make_of<'a>(inner: &ArgMatches<'a>) -> Option<Request<'a>> {
     Some(Request::Make {
         pattern: inner.get_str("PATTERN")?,
         args: inner.get_str("ARGS")?,
-    })
-}
-
-/// The options of an evaluation, each in its range.
-fn options_of(matches: &ArgMatches<'_>) -> Option<EvalOptions> {
-    Some(EvalOptions {
-        steps: matches.get_one::<u64>("steps")?.min(MOST_STEPS),
-        cells: matches.get_one::<u32>("cells")?.clamp(1, MOST_CELLS),
-        memo: matches.get_one::<u32>("memo")?.min(MOST_RESULTS),
-        reclaim: matches.get_one::<u32>("reclaim")?.clamp(1, MOST_CELLS),
-        count: matches.get_flag("count"),
-        limit_annotations: matches.get_flag("limit-annotations"),
-        depth: matches.get_one::<u32>("depth"),
     })
 }

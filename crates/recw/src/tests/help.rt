@@ -13,6 +13,7 @@ Usage: recw [COMMAND]
 Commands:
   eval   Evaluate the terms of a REC specification
   serve  Answer requests, each a line with an ATerm, by a line each
+  trace  Print each rule that fires while terms are evaluated, and what it rewrites
   aterm  Print an ATerm in its shortest form
   share  Print an ATerm and how many cells it takes with equal parts shared
   match  Print what a pattern binds in an ATerm, or that it does not match
@@ -41,8 +42,10 @@ Arguments:
   [FILE]  File of the ATerm, or - [default: standard input]
 
 Options:
-      --explain  Say in words why a text is refused, and where
-  -h, --help     Print help
+      --explain    Say in words why a text is refused, and where
+      --dot        Print the graph of its parts in their place, for Graphviz
+      --nodes <N>  Most parts in the graph, 1 to 2^30 [default: 2000]
+  -h, --help       Print help
 
 Example: echo 'f(a,a)' | recw share
 ";
@@ -92,6 +95,29 @@ Options:
   -h, --help         Print help
 
 Example: echo 'plus(s(z),s(z))' | recw serve add.rec
+";
+
+/// The help of `trace`.
+const TRACE_HELP: &str = "Print each rule that fires while terms are evaluated, and what it rewrites
+
+Usage: recw trace [OPTIONS] <SPEC> [TERMS]
+
+Arguments:
+  <SPEC>   File of the specification, or -
+  [TERMS]  File of an ATerm list of further terms, or -
+
+Options:
+      --steps <N>  Most steps that a term may take, up to 10^18 [default: 1000000]
+      --cells <C>  Most cells that terms may take, 1 to 2^30; the default takes up to 1.4 GB [default: 16777216]
+      --count      Print the steps that were spent so far behind each line
+      --whole      Print the whole term each time, in place of what is rewritten
+      --width <W>  Cut each term to W bytes, 3 to 2^30
+      --explain    Say in words why a text is refused, and where
+  -h, --help       Print help
+
+Each line is LINE:COL: TERM -> TERM, with the place at which the rule begins.
+
+Example: recw trace --count add.rec
 ";
 
 /// The help of `aterm`.
@@ -192,6 +218,7 @@ pub(crate) const HELPS: &[Row] = &[
     (&["eval", "--help"], "", 0, EVAL_HELP, ""),
     (&["help", "eval"], "", 0, EVAL_HELP, ""),
     (&["serve", "--help"], "", 0, SERVE_HELP, ""),
+    (&["trace", "--help"], "", 0, TRACE_HELP, ""),
     (&["aterm", "-h"], "", 0, ATERM_HELP, ""),
     (&["match", "-h"], "", 0, MATCH_HELP, ""),
     (&["help", "make"], "", 0, MAKE_HELP, ""),

@@ -69,6 +69,22 @@ pub(crate) const NAMED: &[Row] = &[
     ),
     (&["serve", "spec"], "", 4, "", "recw: read failed\n"),
     (&["serve", "spec", "none"], "", 4, "", "recw: read failed\n"),
+    (
+        &["trace", "spec", "terms", "--width=8"],
+        "",
+        0,
+        "1:118: plus(... -> s(plu...\n1:118: plus(... -> s(plu...\n\
+         1:103: plus(... -> s(z)\ns(s(s(z)))\n1:103: plus(... -> s(z)\ns(z)\n",
+        "",
+    ),
+    (
+        &["trace", "spec", "spec"],
+        "",
+        1,
+        "!terms A\n",
+        "recw: terms A at byte 9\n",
+    ),
+    (&["trace", "spec", "-"], "", 4, "", "recw: read failed\n"),
     (&["aterm", "terms"], "", 0, "[plus(z,s(z))]\n", ""),
     (&["share", "terms"], "", 0, "[plus(z,s(z))]\ncells 8\n", ""),
     (
@@ -112,13 +128,15 @@ impl Write for Failing {
 
 /// Whether the output is full, and words that write, of each kind of run, whose last step is a
 /// flush.
-const WRITES: [(bool, &[&str]); 8] = [
+const WRITES: [(bool, &[&str]); 10] = [
     (true, &["--help"]),
     (true, &["eval"]),
     (false, &["--help"]),
     (false, &["eval"]),
+    (false, &["trace", "-"]),
     (false, &["aterm"]),
     (false, &["share"]),
+    (false, &["share", "--dot"]),
     (false, &["match", "<term>"]),
     (false, &["make", "<int>", "[1]"]),
 ];

@@ -108,6 +108,47 @@ pub(crate) const STATUSES: &[Row] = &[
     ),
 ];
 
+/// Evaluations that are told rule by rule.
+pub(crate) const TRACES: &[Row] = &[
+    (
+        &["trace", "-"],
+        ADDITION,
+        0,
+        "1:118: plus(s(s(z)),s(z)) -> s(plus(s(z),s(z)))\n\
+         1:118: plus(s(z),s(z)) -> s(plus(z,s(z)))\n1:103: plus(z,s(z)) -> s(z)\ns(s(s(z)))\n",
+        "",
+    ),
+    (
+        &["trace", "--count", "--steps", "1", "-"],
+        ADDITION,
+        0,
+        "1:118: plus(s(s(z)),s(z)) -> s(plus(s(z),s(z)))\t1\n!limit 1\n",
+        "",
+    ),
+    (
+        &["trace", "-", "--whole", "--width", "8"],
+        ADDITION,
+        0,
+        "0:0: plus(...\n1:118: s(plu...\n1:118: s(s(p...\n1:103: s(s(s...\ns(s(s(z)))\n",
+        "",
+    ),
+    (
+        &["trace", "--cells", "3", "--explain", "-"],
+        ADDITION,
+        3,
+        "",
+        "recw: out of cells\n--cells raises the limit, which is 3 cells\n",
+    ),
+    (
+        &["trace", "/dev/null", "-"],
+        "[]",
+        1,
+        "!spec G\n",
+        "recw: spec G at byte 0\n",
+    ),
+    (&["trace", "no such file"], "", 4, "", "recw: read failed\n"),
+];
+
 /// Terms that are printed.
 pub(crate) const TERMS: &[Row] = &[
     (&["aterm"], "f ( a , [ 1 , -007 ] )", 0, "f(a,[1,-7])\n", ""),
@@ -147,6 +188,29 @@ pub(crate) const TERMS: &[Row] = &[
         "recw: term A at byte 4\n",
     ),
     (&["share"], "f(a,a)", 0, "f(a,a)\ncells 5\n", ""),
+    (
+        &["share", "--dot"],
+        "a",
+        0,
+        "digraph term {\n  node [shape=box, fontname=\"monospace\"];\n  n0 [label=\"a\"];\n  \
+         n0 -> n1 [label=\"args\"];\n  n1 [label=\"[]\"];\n}\n",
+        "",
+    ),
+    (
+        &["share", "--dot", "--nodes", "1"],
+        "a",
+        0,
+        "digraph term {\n  node [shape=box, fontname=\"monospace\"];\n  n0 [label=\"a\"];\n  \
+         rest [label=\"1 more\", style=dashed];\n}\n",
+        "",
+    ),
+    (
+        &["share", "--dot"],
+        "f(a,",
+        1,
+        "!term A\n",
+        "recw: term A at byte 4\n",
+    ),
     (
         &["share"],
         "a b",
@@ -260,7 +324,7 @@ pub(crate) const PATTERNS: &[Row] = &[
 ];
 
 /// Words that the command line does not have.
-const WRONG_WORDS: [&[&str]; 36] = [
+const WRONG_WORDS: [&[&str]; 47] = [
     &["eval", "--cells", "0"],
     &["eval", "--cells", "1073741825"],
     &["eval", "--reclaim", "0"],
@@ -297,6 +361,17 @@ const WRONG_WORDS: [&[&str]; 36] = [
     &["eval", "--limit-status", "--limit-status"],
     &["match", "--limit-status", "a"],
     &["aterm", "-e", "a"],
+    &["trace"],
+    &["trace", "-", "-"],
+    &["trace", "a", "b", "c"],
+    &["trace", "-", "-e", "z"],
+    &["trace", "-", "--memo", "0"],
+    &["trace", "-", "--width", "2"],
+    &["trace", "-", "--width", "x"],
+    &["trace", "-", "--whole", "--whole"],
+    &["eval", "--whole"],
+    &["share", "--nodes", "5"],
+    &["share", "--dot", "--nodes", "0"],
 ];
 
 /// The program refuses these words, and writes nothing on the standard output.
