@@ -138,7 +138,9 @@ normalises b b' b'' t n rule (Err fault.Unprotected) same tree h = absurd h
 normalises b b' b'' t n rule (Err fault.Open) same tree h = absurd h
 normalises b b' b'' t n rule (Err fault.Rule) same tree h = absurd h
 normalises b b' b'' t n rule (Err fault.Unspecified) same tree h = absurd h
+normalises b b' b'' t n rule (Err fault.Unmatched) same tree h = absurd h
+normalises b b' b'' t n rule (Err fault.Unknown) same tree h = absurd h
 
 -- a change of terms alone
-pub same_bank : (v : Work) (b : BankState) → b.specified ≡ v.bank.specified → IsSameButBank v (record v { bank = b })
-same_bank v b e = ap (λ s. record v { bank = record { shared = b.shared; specified = s } }) e
+pub same_bank : (v : Work) (b : BankState) → b.specified ≡ v.bank.specified → b.symbols ≡ v.bank.symbols → IsSameButBank v (record v { bank = b })
+same_bank v b e f = rw (e, f) refl
