@@ -21,7 +21,7 @@ use Rattle.psilt_work.specs.Banks.{AreSymbols}
 abbrev pub IsWhole : Store → Option Prepared → List ℕ → Type 0
 IsWhole w o symbols = IfSome o (FitsIn w) × AreSymbols w symbols
 
-some-then : {X Y : Type 0} (a : Option X) (b : Option Y) → ((x : X) → a ≡ Some x → b ≡ Some x) → IsSome a → IsSome b
+some-then : {X : Type 0} (a b : Option X) → ((x : X) → a ≡ Some x → b ≡ Some x) → IsSome a → IsSome b
 some-then (Some x) b f h = ap is_some (f x refl)
 some-then None b f h = cc
 

@@ -32,9 +32,9 @@ specified_code = code_by (Spec × Options) (coded× spec_code options_code) (λ 
     (λ p. record { spec = p.0; options = p.1 }) (λ _. refl)
 
 abbrev pub bank_code : Coded BankState
-bank_code = code_by (SharedBank × Option Specified × List ℕ)
+bank_code = code_by (SharedBank × (Option Specified × List ℕ))
     (coded× bank.the_row.coded (coded× (coded_option specified_code) (coded_list coded_ℕ)))
-    (λ b. (b.shared, b.specified, b.symbols))
+    (λ b. (b.shared, (b.specified, b.symbols)))
     (λ p. record { shared = p.0; specified = p.1.0; symbols = p.1.1 }) (λ _. refl)
 
 -- the terms, which the contracts of all calls speak of

@@ -69,11 +69,12 @@ impl Patterns {
         ensures free { pattern_at self.now result ≡ None }
         ensures within { result ≤ length self.now }
     {
-        let mut n = self.first.min(self.places.len());
-        while n < self.places.len() && self.places[n].is_some() {
-            n += 1;
+        for n in self.first..self.places.len() {
+            if self.places[n].is_none() {
+                return n;
+            }
         }
-        n
+        self.places.len()
     }
 
     /// Takes the number of a pattern away, where it has one.
