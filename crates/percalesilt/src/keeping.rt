@@ -1,6 +1,6 @@
 //! C says which terms stay, and for how many there is room.
 
-ghost use Rattle.std.specs.Prelude.{◌≡◌, ◌≢◌, []};
+ghost use Rattle.std.specs.Prelude.{◌≡◌, ◌≢◌, [], OnErr, OnOk};
 ghost use Rattle.rx_term.specs.Store.{cells};
 ghost use Rattle.psilt_work.specs.Codes.{told};
 ghost use Rattle.psilt_work.specs.Answers.{term_of, Protects, Unprotects, Keeps, MakesRoom};
@@ -37,7 +37,7 @@ pub extern "C" fn psilt_unprotect(alloc: Global, psilt: &mut Psilt, term: u32) -
 pub extern "C" fn psilt_reclaim(alloc: Global, psilt: &mut Psilt, kept: &[u32]) -> u32
     ensures answer { OnWork psilt.old psilt.new result
         (λ v w. Keeps (store_of v.bank) (store_of w.bank) kept.now (told result tt)
-        × (result ≡ 0 → w.bound.items ≡ []) × (result ≢ 0 → w.bound ≡ v.bound)
+        × OnOk (told result tt) (w.bound.items ≡ []) × OnErr (told result tt) (w.bound ≡ v.bound)
         × IsSameButBound v w) }
 {
     done(on_work!(psilt, alloc, work, work.reclaim(alloc, kept)))
