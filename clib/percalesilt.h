@@ -8,9 +8,9 @@
  *
  * Each call answers a code, PSILT_OK where it is done. A call writes through its out pointers where
  * it answers PSILT_OK, and only then. After any other code the handle is as it was before the call,
- * but for cells that a text or an application, for which there was no room, already took, for the
- * place and the rule that psilt_place and psilt_rule tell, and for terms that an evaluation gave up
- * or made.
+ * but for cells that a text, an application or a make, for which there was no room, already took,
+ * for lists without annotations that a match made, for the place and the rule that psilt_place and
+ * psilt_rule tell, and for terms that an evaluation gave up or made and bindings that it forgot.
  *
  * What the caller owes, and nothing tests: no pointer is NULL, not even where its length is 0; each
  * points to as much memory as its type or the length beside it says; memory that a call reads or
@@ -61,9 +61,11 @@ enum {
     PSILT_ROOTS = 9,       /* a term is protected 65,535 times */
     PSILT_UNPROTECTED = 10, /* a term is not protected */
     PSILT_OPEN = 11,       /* the handle is open already */
-    PSILT_RULE = 12,       /* a specification or a term breaks a rule: psilt_rule tells which */
+    PSILT_RULE = 12,       /* a text or a term breaks a rule: psilt_rule tells which */
     PSILT_LIMIT = 13,      /* more steps are needed than were given */
-    PSILT_UNSPECIFIED = 14 /* nothing is specified */
+    PSILT_UNSPECIFIED = 14, /* nothing is specified */
+    PSILT_UNMATCHED = 15,  /* a term does not match a pattern */
+    PSILT_UNKNOWN = 16     /* no pattern, or no symbol, has a number */
 };
 
 /* What a term is. */
@@ -94,6 +96,8 @@ static inline const char *psilt_errstr(uint32_t code)
     case PSILT_RULE: return "a rule is broken";
     case PSILT_LIMIT: return "over the limit of steps";
     case PSILT_UNSPECIFIED: return "nothing is specified";
+    case PSILT_UNMATCHED: return "no match";
+    case PSILT_UNKNOWN: return "no such pattern or symbol";
     default: return "no code of this library";
     }
 }
@@ -127,7 +131,8 @@ uint32_t psilt_read(psilt *p, const uint8_t *text, size_t len, psilt_term *out);
 uint32_t psilt_place(psilt *p, uint32_t *out);
 
 /* Which rule was broken last: 1 to 11 of a specification's text, S1 to S11, 2 to 6 of a term, T2 to
- * T6. 0 where a text that was refused since leaves its grammar, and before any was. */
+ * T6, 1 and 2 of a pattern's text, P1 and P2. 0 where a text that was refused since leaves its
+ * grammar, and before any was. For the rules of terms and of patterns there is no place. */
 uint32_t psilt_rule(psilt *p, uint32_t *out);
 
 /* Prints a term in its shortest form, which psilt_read reads again; tells how many bytes it has, by
@@ -163,6 +168,21 @@ uint32_t psilt_hole(psilt *p, psilt_term inner, psilt_term *out);
 /* A term with the items of a list in place of its annotations; those of [] take them off.
  * PSILT_KIND where anns is no list, or has annotations. */
 uint32_t psilt_annotate(psilt *p, psilt_term term, psilt_term anns, psilt_term *out);
+
+/* ---- symbols, for those who apply one name often. A symbol is a name, whether it is quoted, and a
+ * number of arguments. It has a number from the first psilt_symbol until psilt_close, whatever is
+ * given up meanwhile, and keeps the name as long; equal symbols have equal numbers, and others have
+ * other ones. */
+
+/* The number of a symbol. PSILT_NAME as of psilt_appl; PSILT_NOMEM, and for nothing else. */
+uint32_t psilt_symbol(psilt *p, const uint8_t *name, size_t len, bool quoted, uint32_t arity,
+                      size_t *out);
+
+/* The application of a symbol to count terms. PSILT_UNKNOWN where no symbol has the number,
+ * PSILT_RANGE where it has another number of arguments than count, PSILT_STALE, PSILT_NOMEM,
+ * PSILT_FULL. */
+uint32_t psilt_apply(psilt *p, size_t symbol, const psilt_term *args, size_t count,
+                     psilt_term *out);
 
 /* ---- read. Each answers PSILT_STALE where the reference is not there, and PSILT_KIND where the
  * term has no such part. None asks for memory, but for psilt_name. */
@@ -203,8 +223,43 @@ uint32_t psilt_protect(psilt *p, psilt_term term);
 uint32_t psilt_unprotect(psilt *p, psilt_term term);
 
 /* Gives up all terms but the parts of those that are protected and of the count kept ones. All
- * other references are stale then. PSILT_STALE where a kept one is not there, PSILT_NOMEM. */
+ * other references are stale then, and the bindings of the last match are forgotten. PSILT_STALE
+ * where a kept one is not there, PSILT_NOMEM. */
 uint32_t psilt_reclaim(psilt *p, const psilt_term *kept, size_t count);
+
+/* ---- patterns. A pattern is a term with placeholders: <term>, <int>, <str>, <appl>, <placeholder>
+ * and <list>, which as the last item or argument stands for all the rest. It has a number from
+ * psilt_pattern until psilt_pattern_free or psilt_close; then the number may be given to another
+ * one. It takes no cells and stays when terms are given up. */
+
+/* The number of the pattern that len bytes spell. PSILT_SYNTAX where they leave the grammar of
+ * terms: psilt_place tells where; PSILT_RULE where a placeholder is not one of the six, of which
+ * psilt_rule tells 1, else where one has annotations, of which it tells 2; PSILT_RANGE where they
+ * are more than 16,777,216; PSILT_NOMEM. */
+uint32_t psilt_pattern(psilt *p, const uint8_t *text, size_t len, size_t *out);
+
+/* Gives a pattern up. PSILT_UNKNOWN where none has the number. */
+uint32_t psilt_pattern_free(psilt *p, size_t pattern);
+
+/* Matches a pattern with a term. Where it matches the handle keeps the bindings, one for each
+ * placeholder in their order, in place of those of the match before, and tells how many there are.
+ * PSILT_UNMATCHED where it does not, PSILT_UNKNOWN, PSILT_STALE, PSILT_NOMEM, PSILT_FULL: then the
+ * bindings of the match before stay. A match may make lists without annotations, and nothing
+ * else. */
+uint32_t psilt_match(psilt *p, size_t pattern, psilt_term term, size_t *count);
+
+/* The binding at place i, from 0, of the last match. PSILT_RANGE where there are i or fewer. A
+ * binding is a reference as all others, and no root; what gives up terms forgets the bindings:
+ * psilt_reclaim where it answers PSILT_OK, and psilt_normalise and psilt_eval_term but where they
+ * answer PSILT_UNSPECIFIED, PSILT_STALE or PSILT_RANGE. There are 0 from then on. */
+uint32_t psilt_bound(psilt *p, size_t i, psilt_term *out);
+
+/* The pattern with count terms in place of its placeholders, in order; a last <list> takes a list
+ * without annotations, whose items it becomes. PSILT_UNKNOWN; PSILT_STALE; PSILT_RANGE where there
+ * are not as many terms as placeholders; PSILT_KIND where a placeholder does not take its term;
+ * PSILT_NOMEM; PSILT_FULL. */
+uint32_t psilt_make(psilt *p, size_t pattern, const psilt_term *args, size_t count,
+                    psilt_term *out);
 
 /* ---- evaluate. A handle has one specification at a time. Its terms are those of the handle: what
  * was made before it or is made beside it can be evaluated, and values are terms as all others. */

@@ -17,7 +17,8 @@ import ctypes
 import os
 import weakref
 
-OK, NOMEM, FULL, CLOSED, STALE, KIND, SYNTAX, RANGE, NAME, ROOTS, UNPROTECTED, OPEN, RULE, LIMIT, UNSPECIFIED = range(15)
+OK, NOMEM, FULL, CLOSED, STALE, KIND, SYNTAX, RANGE, NAME, ROOTS, UNPROTECTED, OPEN, RULE, LIMIT = range(14)
+UNSPECIFIED, UNMATCHED, UNKNOWN = range(14, 17)
 WORDS = (
     "done",
     "out of memory",
@@ -34,6 +35,8 @@ WORDS = (
     "a rule is broken",
     "over the limit of steps",
     "nothing is specified",
+    "no match",
+    "no such pattern or symbol",
 )
 INT, NIL, CONS, APPL, HOLE = range(5)
 MOST_CELLS = 2**30
@@ -74,6 +77,13 @@ CALLS = {
     "cons": [U32, U32, pointer(U32)],
     "appl": [BYTES, SIZE, BOOL, pointer(U32), SIZE, pointer(U32)],
     "hole": [U32, pointer(U32)],
+    "symbol": [BYTES, SIZE, BOOL, U32, pointer(SIZE)],
+    "apply": [SIZE, pointer(U32), SIZE, pointer(U32)],
+    "pattern": [BYTES, SIZE, pointer(SIZE)],
+    "pattern_free": [SIZE],
+    "match": [SIZE, U32, pointer(SIZE)],
+    "bound": [SIZE, pointer(U32)],
+    "make": [SIZE, pointer(U32), SIZE, pointer(U32)],
     "annotate": [U32, U32, pointer(U32)],
     "kind": [U32, pointer(U32), pointer(I32)],
     "head": [U32, pointer(U32)],
@@ -114,7 +124,7 @@ class Fault(Exception):
     """A call answered another code than OK.
 
     `place` is where a text left its grammar or broke a rule, in bytes from 0; `rule` is the rule that it broke, by its
-    number: of a specification S1 to S11, of a term T2 to T6.
+    number: of a specification S1 to S11, of a term T2 to T6, of a pattern P1 and P2.
     """
 
     def __init__(self, code, place=None, rule=None):
@@ -212,6 +222,49 @@ class Term:
         return self.store.answer("annotate", self.number, self.store.list(annotations).number)
 
 
+class Pattern:
+    """A term with placeholders, which the store keeps while this object is alive."""
+
+    def __init__(self, store, number):
+        self.store, self.number = store, number
+        forget = store.library.psilt_pattern_free
+        self.free = weakref.finalize(self, forget, ctypes.byref(store.handle), number)
+        self.free.atexit = False
+
+    def match(self, value):
+        """The bindings of the placeholders in a term, in order; None where the pattern does not match."""
+        term = self.store.made(value)
+        try:
+            count = self.store.read_as(SIZE, "match", self.asked(), term.number)
+        except Fault as fault:
+            if fault.code != UNMATCHED:
+                raise
+            return None
+        return [self.store.answer("bound", i) for i in range(count)]
+
+    def make(self, *values):
+        """The pattern with these values in place of its placeholders, in order."""
+        terms = [self.store.made(it) for it in values]
+        return self.store.answer("make", self.asked(), *numbers_of(terms))
+
+    def asked(self):
+        """The number; `Fault` where the pattern was given up."""
+        if not self.free.alive:
+            raise Fault(UNKNOWN)
+        return self.number
+
+
+class Symbol:
+    """A name, whether it is quoted, and a number of arguments: called with values, it is their application."""
+
+    def __init__(self, store, number):
+        self.store, self.number = store, number
+
+    def __call__(self, *values):
+        terms = [self.store.made(it) for it in values]
+        return self.store.answer("apply", self.number, *numbers_of(terms))
+
+
 class Spec:
     """What is evaluated by a store: the specification that `Store.specify` was given last."""
 
@@ -241,6 +294,11 @@ class Spec:
         self.asked()
         self.store.call("spec_free")
         self.store.spec = None
+
+
+def numbers_of(terms):
+    """The references of some terms, as the calls take them, and how many there are."""
+    return (U32 * max(1, len(terms)))(*(it.number for it in terms)), len(terms)
 
 
 class Store:
@@ -324,8 +382,19 @@ class Store:
         """The application of a name, text or bytes, to values."""
         name = name if isinstance(name, bytes) else name.encode("latin-1")
         terms = [self.made(it) for it in args]
-        numbers = (U32 * max(1, len(terms)))(*(it.number for it in terms))
-        return self.answer("appl", name, len(name), quoted, numbers, len(terms))
+        return self.answer("appl", name, len(name), quoted, *numbers_of(terms))
+
+    def symbol(self, name, arity, quoted=False):
+        """The symbol of a name, text or bytes, and of a number of arguments, for those who apply it often."""
+        if not 0 <= arity < 2**32:
+            raise Fault(RANGE)
+        name = name if isinstance(name, bytes) else name.encode("latin-1")
+        return Symbol(self, self.read_as(SIZE, "symbol", name, len(name), quoted, arity))
+
+    def pattern(self, text):
+        """The pattern that a text, or bytes, spells."""
+        text = text if isinstance(text, bytes) else text.encode("latin-1")
+        return Pattern(self, self.read_as(SIZE, "pattern", text, len(text)))
 
     def hole(self, inner):
         return self.answer("hole", self.made(inner).number)

@@ -9,7 +9,8 @@
     valgrind    the programs of `every` and `refused` once more
     install     what is installed serves a program that knows pkg-config alone
 
-Without words these are all but `valgrind` and `install`. What a command is missing for is passed over, and said.
+Without words these are all but `valgrind` and `install`. What a command is missing for is passed over, and said. The
+word `built` before them takes the archive of the crate as it stands; without it rt builds it anew where it has to.
 """
 
 import os
@@ -121,10 +122,12 @@ def install(folder):
 def main():
     if not is_there("clib", "make", "cc", "rt"):
         done()
-    built = told(["make", "-s", "-C", f"{TOP}/clib"])
+    words = sys.argv[1:]
+    stands = words[:1] == ["built"]
+    built = told(["make", "-s", "-C", f"{TOP}/clib", *["PROVE=:"] * stands])
     same("make -C clib", False, built[-2000:] if "(status" in built else False)
     with tempfile.TemporaryDirectory() as folder:
-        for word in sys.argv[1:] or USUAL:
+        for word in words[stands:] or USUAL:
             part, _, count = word.partition("=")
             globals()[part](folder, *([count] if count else []))
     done()

@@ -92,6 +92,13 @@ static void closed(void)
     SAME(PSILT_CLOSED, psilt_normalise(&p, 0, 1, &out, &taken));
     SAME(PSILT_CLOSED, psilt_eval_terms(&p, &out));
     SAME(PSILT_CLOSED, psilt_eval_term(&p, 0, &out));
+    SAME(PSILT_CLOSED, psilt_symbol(&p, bytes, 0, false, 0, &len));
+    SAME(PSILT_CLOSED, psilt_apply(&p, 0, terms, 0, &out));
+    SAME(PSILT_CLOSED, psilt_pattern(&p, bytes, 0, &len));
+    SAME(PSILT_CLOSED, psilt_pattern_free(&p, 0));
+    SAME(PSILT_CLOSED, psilt_match(&p, 0, 0, &len));
+    SAME(PSILT_CLOSED, psilt_bound(&p, 0, &out));
+    SAME(PSILT_CLOSED, psilt_make(&p, 0, terms, 0, &out));
     SAME(77, taken);
     SAME(77, out);
     SAME(77, kind);
@@ -510,6 +517,152 @@ static void gives_up(void)
     SAME(PSILT_OK, psilt_close(&p));
 }
 
+/* Symbols by their numbers. */
+static void applies(void)
+{
+    psilt p = PSILT_INIT;
+    size_t f, again, quoted, unary, none = 4242;
+    psilt_term a, term, args[2], out = 4242;
+    SAME(PSILT_OK, psilt_open(&p, 100));
+    SAME(PSILT_OK, psilt_symbol(&p, BYTES("f"), false, 2, &f));
+    SAME(PSILT_OK, psilt_symbol(&p, BYTES("f"), true, 2, &quoted));
+    SAME(PSILT_OK, psilt_symbol(&p, BYTES("f"), false, 1, &unary));
+    SAME(PSILT_OK, psilt_symbol(&p, BYTES("f"), false, 2, &again));
+    SAME(f, again);
+    SAME(true, f != quoted && f != unary && quoted != unary);
+    SAME(PSILT_NAME, psilt_symbol(&p, BYTES("a b"), false, 0, &none));
+    SAME(4242, none);
+    a = reads(&p, "a");
+    args[0] = args[1] = a;
+    SAME(PSILT_OK, psilt_apply(&p, f, args, 2, &term));
+    PRINTS(term, "f(a,a)");
+    SAME(reads(&p, "f(a,a)"), term);
+    SAME(PSILT_OK, psilt_apply(&p, quoted, args, 2, &term));
+    PRINTS(term, "\"f\"(a,a)");
+    SAME(PSILT_OK, psilt_apply(&p, unary, &term, 1, &term));
+    PRINTS(term, "f(\"f\"(a,a))");
+    SAME(PSILT_RANGE, psilt_apply(&p, f, args, 1, &out));
+    SAME(PSILT_RANGE, psilt_apply(&p, f, args, 0, &out));
+    SAME(PSILT_UNKNOWN, psilt_apply(&p, 3, args, 2, &out));
+    SAME(PSILT_UNKNOWN, psilt_apply(&p, SIZE_MAX, args, 2, &out));
+    args[1] = 4294967295u;
+    SAME(PSILT_STALE, psilt_apply(&p, f, args, 2, &out));
+    SAME(4242, out);
+    SAME(PSILT_OK, psilt_reclaim(&p, args, 0));
+    args[0] = args[1] = reads(&p, "b");
+    SAME(PSILT_OK, psilt_apply(&p, f, args, 2, &term));
+    PRINTS(term, "f(b,b)");
+    SAME(PSILT_OK, psilt_close(&p));
+    SAME(PSILT_OK, psilt_open(&p, 100));
+    SAME(PSILT_UNKNOWN, psilt_apply(&p, f, args, 0, &out));
+    SAME(PSILT_OK, psilt_close(&p));
+}
+
+/* Two patterns at once, of which one is given up. */
+static void matches(void)
+{
+    psilt p = PSILT_INIT;
+    size_t pair, any, count = 4242, again;
+    psilt_term term, other, args[2], made, out = 4242;
+    SAME(PSILT_OK, psilt_open(&p, 100));
+    SAME(PSILT_RANGE, psilt_bound(&p, 0, &out));
+    SAME(PSILT_OK, psilt_pattern(&p, BYTES("f(<int>,<list>)"), &pair));
+    SAME(PSILT_OK, psilt_pattern(&p, BYTES("<appl>"), &any));
+    term = reads(&p, "f(7,[a]{n},b)");
+    other = reads(&p, "f(a)");
+    SAME(PSILT_OK, psilt_match(&p, pair, term, &count));
+    SAME(2, count);
+    SAME(PSILT_OK, psilt_bound(&p, 0, &args[0]));
+    SAME(PSILT_OK, psilt_bound(&p, 1, &args[1]));
+    SAME(PSILT_RANGE, psilt_bound(&p, 2, &out));
+    SAME(PSILT_RANGE, psilt_bound(&p, SIZE_MAX, &out));
+    PRINTS(args[0], "7");
+    PRINTS(args[1], "[[a]{n},b]");
+    SAME(PSILT_OK, psilt_make(&p, pair, args, 2, &made));
+    SAME(term, made);
+    count = 4242;
+    SAME(PSILT_UNMATCHED, psilt_match(&p, pair, other, &count));
+    SAME(PSILT_STALE, psilt_match(&p, pair, 4294967295u, &count));
+    SAME(PSILT_UNKNOWN, psilt_match(&p, any + 1, term, &count));
+    SAME(4242, count);
+    SAME(PSILT_OK, psilt_bound(&p, 0, &made));
+    SAME(args[0], made);
+    SAME(PSILT_OK, psilt_match(&p, any, other, &count));
+    SAME(1, count);
+    SAME(PSILT_OK, psilt_bound(&p, 0, &made));
+    SAME(other, made);
+    SAME(PSILT_OK, psilt_pattern_free(&p, pair));
+    SAME(PSILT_UNKNOWN, psilt_pattern_free(&p, pair));
+    SAME(PSILT_UNKNOWN, psilt_match(&p, pair, term, &count));
+    SAME(PSILT_UNKNOWN, psilt_make(&p, pair, args, 2, &out));
+    SAME(PSILT_OK, psilt_match(&p, any, term, &count));
+    SAME(PSILT_OK, psilt_pattern(&p, BYTES("[<term>]"), &again));
+    SAME(pair, again);
+    SAME(PSILT_UNMATCHED, psilt_match(&p, pair, term, &count));
+    /* [a]{n} without its annotation is new */
+    SAME(PSILT_OK, psilt_pattern(&p, BYTES("[<list>]{<term>}"), &again));
+    term = reads(&p, "[a]{n}");
+    SAME(PSILT_OK, psilt_match(&p, again, term, &count));
+    SAME(2, count);
+    SAME(PSILT_OK, psilt_bound(&p, 0, &made));
+    PRINTS(made, "[a]");
+    SAME(4242, out);
+    SAME(PSILT_OK, psilt_close(&p));
+}
+
+/* What is refused of a pattern and of a make, and when bindings are forgotten. */
+static void refuses_patterns(void)
+{
+    psilt p = PSILT_INIT;
+    size_t pattern = 4242, count;
+    psilt_term term, value, out = 4242;
+    uint32_t place, rule;
+    uint64_t taken;
+    SAME(PSILT_OK, psilt_open(&p, 100));
+    SAME(PSILT_SYNTAX, psilt_pattern(&p, BYTES("f(1,,2)"), &pattern));
+    SAME(PSILT_OK, psilt_place(&p, &place));
+    SAME(4, place);
+    SAME(PSILT_RULE, psilt_pattern(&p, BYTES("f(<int>{n},<integer>)"), &pattern));
+    SAME(PSILT_OK, psilt_rule(&p, &rule));
+    SAME(1, rule);
+    SAME(PSILT_RULE, psilt_pattern(&p, BYTES("f(<int>{n})"), &pattern));
+    SAME(PSILT_OK, psilt_rule(&p, &rule));
+    SAME(2, rule);
+    SAME(PSILT_SYNTAX, psilt_pattern(&p, BYTES(""), &pattern));
+    SAME(PSILT_OK, psilt_rule(&p, &rule));
+    SAME(0, rule);
+    SAME(4242, pattern);
+    SAME(PSILT_OK, psilt_cells(&p, &out));
+    SAME(0, out);
+    out = 4242;
+    SAME(PSILT_UNKNOWN, psilt_pattern_free(&p, 0));
+    SAME(PSILT_OK, psilt_pattern(&p, BYTES("s(<appl>)"), &pattern));
+    term = reads(&p, "s(z)");
+    SAME(PSILT_RANGE, psilt_make(&p, pattern, &term, 0, &out));
+    value = reads(&p, "7");
+    SAME(PSILT_KIND, psilt_make(&p, pattern, &value, 1, &out));
+    value = 4294967295u;
+    SAME(PSILT_STALE, psilt_make(&p, pattern, &value, 1, &out));
+    SAME(4242, out);
+    SAME(PSILT_OK, psilt_match(&p, pattern, term, &count));
+    SAME(PSILT_UNSPECIFIED, psilt_normalise(&p, term, 9, &value, &taken));
+    SAME(PSILT_STALE, psilt_reclaim(&p, &value, 1));
+    SAME(PSILT_OK, psilt_bound(&p, 0, &value));
+    SAME(PSILT_OK, psilt_reclaim(&p, &term, 1));
+    SAME(PSILT_RANGE, psilt_bound(&p, 0, &out));
+    SAME(PSILT_OK, psilt_spec(&p, BYTES("REC-SPEC N SORTS S CONS z : -> S s : S -> S EVAL z END-SPEC"), 0, 1));
+    SAME(PSILT_OK, psilt_match(&p, pattern, term, &count));
+    SAME(PSILT_RANGE, psilt_eval_term(&p, 1, &out));
+    SAME(PSILT_OK, psilt_bound(&p, 0, &value));
+    SAME(PSILT_OK, psilt_eval_term(&p, 0, &value));
+    SAME(PSILT_RANGE, psilt_bound(&p, 0, &out));
+    term = reads(&p, "s(z)");
+    SAME(PSILT_OK, psilt_match(&p, pattern, term, &count));
+    SAME(PSILT_OK, psilt_normalise(&p, term, 9, &value, &taken));
+    SAME(PSILT_RANGE, psilt_bound(&p, 0, &out));
+    SAME(PSILT_OK, psilt_close(&p));
+}
+
 int main(void)
 {
     uint32_t code;
@@ -523,7 +676,10 @@ int main(void)
     evaluates();
     judges();
     gives_up();
-    for (code = PSILT_OK; code <= PSILT_UNSPECIFIED; code++)
+    applies();
+    matches();
+    refuses_patterns();
+    for (code = PSILT_OK; code <= PSILT_UNKNOWN; code++)
         SAME(0, strcmp(psilt_errstr(code), "no code of this library") == 0);
     SAME(0, strcmp(psilt_errstr(4294967295u), "no code of this library"));
     if (failures)

@@ -12,8 +12,8 @@ import sys
 sys.path.insert(0, os.path.dirname(os.path.dirname(os.path.realpath(__file__))))
 
 from percalesilt import (
-    APPL, CONS, FULL, HOLE, INT, KIND, LIMIT, NAME, NIL, OK, RANGE, RULE, STALE, SYNTAX, UNPROTECTED, UNSPECIFIED,
-    BOOL, I32, SIZE, U32, U64, Handle, library,
+    APPL, CONS, FULL, HOLE, INT, KIND, LIMIT, NAME, NIL, OK, RANGE, RULE, STALE, SYNTAX, UNKNOWN, UNMATCHED, UNPROTECTED,
+    UNSPECIFIED, BOOL, I32, SIZE, U32, U64, Handle, library,
 )
 
 CELLS = 3000
@@ -26,6 +26,15 @@ RULES plus(z,Y) -> Y plus(s(X),Y) -> s(plus(X,Y)) twice(X) -> plus(X,X) EVAL plu
 ARITIES = {b"z": 0, b"s": 1, b"plus": 2, b"twice": 1}
 EVAL = [(b"plus", [(b"s", [(b"z", [])])] * 2), (b"twice", [(b"s", [(b"s", [(b"z", [])])])])]
 BAD_SPECS = [(SYNTAX, 20, 0, b"REC-SPEC A SORTS B B"), (RULE, 19, 1, b"REC-SPEC A SORTS B B END-SPEC"), (SYNTAX, 0, 0, b"")]
+# A pattern is a placeholder's kind; a number; a name and its arguments, of which the last may be the rest, `...`; or a
+# list in the same way. The code, the place and the rule of what is none.
+PATTERNS = [
+    "term", "int", "str", "appl", "placeholder", "list", 7, (b"f", []), (b"f", ["term"]), (b"f", ["int", "term"]),
+    (b"g", []), (b"f", ["..."]), (b"f", ["term", "..."]), (b"plus", [(b"f", ["..."]), "term"]), [], ["..."],
+    ["term", "..."], ["term", "term"], [[], "list", 3],
+]
+BAD_PATTERNS = [(SYNTAX, 4, 0, b"f(1,,2)"), (RULE, None, 1, b"[<int>{1},<a>]"), (RULE, None, 2, b"f(<int>{1})")]
+FITS = {"int": INT, "appl": APPL, "placeholder": HOLE}
 ESCAPES = {34: b'\\"', 92: b"\\\\", 10: b"\\n", 9: b"\\t", 13: b"\\r"}
 
 
@@ -55,6 +64,17 @@ def numeral(number):
     for _ in range(number):
         tree = (b"s", [tree])
     return tree
+
+
+def pattern_text(pattern):
+    """The text of a pattern."""
+    if isinstance(pattern, str):
+        return b"<list>" if pattern == "..." else b"<%s>" % pattern.encode()
+    if isinstance(pattern, int):
+        return b"%d" % pattern
+    name, parts = pattern if isinstance(pattern, tuple) else (None, pattern)
+    inside = b",".join(map(pattern_text, parts))
+    return b"[" + inside + b"]" if name is None else name + (b"(" + inside + b")" if inside else b"")
 
 
 class Model:
@@ -112,6 +132,42 @@ class Model:
             text += b"{" + b",".join(map(self.text, self.items(annotations))) + b"}"
         return text
 
+    def fits(self, kind, number):
+        """Whether a placeholder of a kind matches a term."""
+        node = self.at[number]
+        if kind == "list":
+            return node[0] in (NIL, CONS)
+        if kind == "str":
+            return node[0] == APPL and node[1][1] and self.at[node[2][0]][0] == NIL
+        return kind == "term" or node[0] == FITS[kind]
+
+    def bindings(self, pattern, number):
+        """What a pattern binds in a term: references, and of the rest of a list its items; None where it does not
+        match."""
+        if isinstance(pattern, str):
+            return [number] if self.fits(pattern, number) else None
+        kind, value, made_of, annotations = self.at[number]
+        if annotations is not None:
+            return None
+        if isinstance(pattern, int):
+            return [] if kind == INT and value == pattern else None
+        if isinstance(pattern, tuple):
+            if kind != APPL or value != (pattern[0], False):
+                return None
+            return self.bindings_of(pattern[1], list(self.items(made_of[0])))
+        return self.bindings_of(pattern, list(self.items(number))) if kind in (NIL, CONS) else None
+
+    def bindings_of(self, patterns, items):
+        found = []
+        for place, pattern in enumerate(patterns):
+            if pattern == "..." or pattern == "list" and place == len(patterns) - 1:
+                return [*found, items[place:]] if place <= len(items) else None
+            part = self.bindings(pattern, items[place]) if place < len(items) else None
+            if part is None:
+                return None
+            found.extend(part)
+        return found if len(items) == len(patterns) else None
+
     def rule(self, number):
         """The first rule of terms that a term breaks, or None."""
         nodes, inner, left = [], [], [(number, True)]
@@ -148,6 +204,7 @@ class Run:
         self.numbers = []
         self.is_specified = False
         self.taken = U64()
+        self.patterns, self.bound, self.symbols = {}, [], {}
         self.same("open", OK, self.library.psilt_open(self.by_handle, CELLS))
 
     def same(self, what, want, have):
@@ -374,6 +431,114 @@ class Run:
         if not stale:
             self.model.reclaim(kept)
             self.numbers = list(self.model.at)
+            self.bound = []
+
+    def pattern(self):
+        """A pattern more, one less, or none."""
+        size = ctypes.byref(self.length)
+        if self.dice.random() < 0.2:
+            code, place, rule, text = self.dice.choice(BAD_PATTERNS)
+            self.same("pattern", code, self.call("pattern", text, len(text), size))
+            if place is not None:
+                self.reads("place", (OK, place), ())
+            self.reads("rule", (OK, rule), ())
+        elif self.dice.random() < 0.5 or len(self.patterns) > 9:
+            number = self.pick_number(self.patterns)
+            code = OK if number in self.patterns else UNKNOWN
+            self.same("pattern_free", code, self.call("pattern_free", number))
+            self.patterns.pop(number, None)
+        else:
+            pattern = self.dice.choice(PATTERNS)
+            text = pattern_text(pattern)
+            self.same("pattern", OK, self.call("pattern", text, len(text), size))
+            self.same("pattern", False, self.length.value in self.patterns)
+            self.patterns[self.length.value] = pattern
+
+    def pick_number(self, known):
+        """The number of a pattern or a symbol, in one of ten picks one that may be none's."""
+        if not known or self.dice.random() < 0.1:
+            return self.dice.choice((0, 1, 5, 2**32, 2**64 - 1))
+        return self.dice.choice(list(known))
+
+    def matches(self):
+        number, term = self.pick_number(self.patterns), self.pick()
+        # There is to be room for all lists that a match may make.
+        lists = self.annotated_lists(term) if term in self.model.at else []
+        if len(self.model.at) + len(lists) + 10 > CELLS:
+            return
+        self.length.value = 4242
+        code = self.call("match", number, term, ctypes.byref(self.length))
+        pattern = self.patterns.get(number)
+        if pattern is None or term not in self.model.at:
+            self.same("match", True, code in ((UNKNOWN,) * (pattern is None) + (STALE,) * (term not in self.model.at)))
+            self.same("match writes", 4242, self.length.value)
+            return
+        found = self.model.bindings(pattern, term)
+        self.same("match", UNMATCHED if found is None else OK, code)
+        if found is None:
+            self.same("match writes", 4242, self.length.value)
+            self.settle_lists(lists)
+            return
+        self.same("match", len(found), self.length.value)
+        self.settle_lists(lists)
+        self.bound = [self.learn(it, None) if isinstance(it, list) else it for it in found]
+        self.fill(number, self.bound, term)
+
+    def annotated_lists(self, number):
+        return [it for it in self.annotated(number) if self.model.at[it][0] in (NIL, CONS)]
+
+    def settle_lists(self, lists):
+        """A match may have made lists without their annotations, which come into the model."""
+        nil = self.nil()
+        for it in lists:
+            self.without(it, nil)
+
+    def fill(self, number, args, term):
+        """The term that was matched is made again, and none of other references."""
+        numbers = (U32 * max(1, len(args)))(*args)
+        self.reads("make", (OK, term), (number, numbers, len(args)))
+        self.reads("make", (RANGE, 0), (number, (U32 * (len(args) + 1))(*args, term), len(args) + 1))
+        if args:
+            wrong = (U32 * len(args))(*args[1:], 2**32 - 1)
+            self.reads("make", (STALE, 0), (number, wrong, len(args)))
+
+    def bindings(self):
+        place = self.dice.choice((0, 1, 2, 2**64 - 1))
+        found = (OK, self.bound[place]) if place < len(self.bound) else (RANGE, 0)
+        self.reads("bound", found, (place,))
+
+    def symbol(self):
+        if self.dice.random() < 0.1:
+            name = self.dice.choice(BAD_NAMES)
+            self.same("symbol", NAME, self.call("symbol", name, len(name), False, 0, ctypes.byref(self.length)))
+            return
+        (name, quoted), arity = self.dice.choice(NAMES), self.dice.choice((0, 1, 2, 3, 2**32 - 1))
+        self.same("symbol", OK, self.call("symbol", name, len(name), quoted, arity, ctypes.byref(self.length)))
+        is_new = self.length.value not in self.symbols
+        self.same("symbol", not is_new, (name, quoted, arity) in self.symbols.values())
+        self.symbols[self.length.value] = self.symbols.get(self.length.value, (name, quoted, arity))
+        self.same("symbol", (name, quoted, arity), self.symbols[self.length.value])
+
+    def apply(self):
+        model, number = self.model, self.pick_number(self.symbols)
+        name, quoted, arity = self.symbols.get(number, (None, None, 2))
+        count = arity if arity < 4 and self.dice.random() < 0.9 else 2
+        args = [self.pick() for _ in range(count)]
+        if len(model.at) + 10 > CELLS:
+            return
+        code = self.call("apply", number, (U32 * max(1, count))(*args), count, ctypes.byref(self.out))
+        stale = any(it not in model.at for it in args)
+        if name is None or count != arity or stale:
+            wanted = (UNKNOWN,) * (name is None) + (RANGE,) * (name is not None and count != arity) + (STALE,) * stale
+            self.same("apply", True, code in wanted)
+            self.same("apply writes", 4242, self.out.value)
+            return
+        self.same("apply", OK, code)
+        made, node = self.out.value, (APPL, (name, quoted), (self.learn(args, None),), None)
+        if node not in model.of:
+            model.add(made, node)
+            self.numbers.append(made)
+        self.same("apply", model.of[node], made)
 
     def made(self, tree):
         """The reference of a tree, whose nodes come into the model; there is room for them."""
@@ -446,6 +611,7 @@ class Run:
     def settle(self, kept, value=None):
         """What an evaluation may have given up or made is given up, but for its value."""
         held = [*kept] if value is None else [*kept, value]
+        self.bound = []
         self.same("reclaim", OK, self.call("reclaim", (U32 * len(held))(*held), len(held)))
         self.model.reclaim(kept)
         self.numbers = list(self.model.at)
@@ -485,6 +651,7 @@ class Run:
     def turns(self, count):
         makes = [self.int] * 4 + [self.nil] + [self.cons] * 8 + [self.hole] * 2 + [self.annotate] * 4 + [self.appl] * 8
         usual = makes + [self.look] * 4 + [self.print] + [self.protect] * 2 + [self.count]
+        usual += [self.matches] * 2 + [self.bindings, self.pattern, self.symbol] + [self.apply] * 2
         rare = [self.specify] + [self.normalise] * 4 + [self.eval_terms]
         counted = 0
         while counted < count:

@@ -49,13 +49,14 @@ void __wrap_free(void *at)
 static const char three[] = ADD "plus(s(z),s(z)) z s(z) END-SPEC", one[] = ADD "z END-SPEC";
 
 /* What a handle shows: its cells, its text, its place and rule, how many terms are specified, the texts of four
- * terms. */
+ * terms, its binding, whether its pattern and its symbol are known. */
 struct shown {
-    uint32_t cells, place, rule, specified;
+    uint32_t cells, place, rule, specified, bound, matched, applied;
     char text[64], terms[4][64];
 };
 
-static psilt_term terms[4];
+static psilt_term terms[4], inside[3];
+static size_t pattern, whole, symbol;
 
 static void text_of(psilt *p, char *into)
 {
@@ -66,9 +67,14 @@ static void text_of(psilt *p, char *into)
 static void show(psilt *p, struct shown *it)
 {
     size_t len;
+    psilt_term out;
     int i;
     memset(it, 0, sizeof *it);
     psilt_cells(p, &it->cells);
+    if (psilt_bound(p, 0, &it->bound) != PSILT_OK)
+        it->bound = 4242;
+    it->matched = psilt_make(p, pattern, terms, 2, &out);
+    it->applied = psilt_apply(p, symbol, terms, 1, &out);
     psilt_place(p, &it->place);
     psilt_rule(p, &it->rule);
     psilt_eval_terms(p, &it->specified);
@@ -87,6 +93,10 @@ static bool begin(psilt *p)
         && psilt_read(p, BYTES("[at(3)]"), &terms[1]) == PSILT_OK && psilt_read(p, BYTES("7"), &terms[2]) == PSILT_OK
         && psilt_read(p, BYTES("plus(s(z),s(z))"), &terms[3]) == PSILT_OK
         && psilt_spec(p, BYTES(three), 1000, 100) == PSILT_OK
+        && psilt_symbol(p, BYTES("g"), false, 2, &symbol) == PSILT_OK
+        && psilt_pattern(p, BYTES("<int>"), &pattern) == PSILT_OK
+        && psilt_pattern(p, BYTES("h(<term>,[<int>,<list>])"), &whole) == PSILT_OK
+        && psilt_match(p, pattern, terms[2], &len) == PSILT_OK
         && psilt_read(p, BYTES("f(,)"), &out) == PSILT_SYNTAX && psilt_print(p, terms[0], &len) == PSILT_OK;
 }
 
@@ -100,7 +110,7 @@ static uint32_t calls(psilt *p, int call, uint32_t *out)
     psilt fresh = PSILT_INIT;
     uint32_t code;
     uint64_t taken = 0;
-    size_t len = 0;
+    size_t len = 0, number = 0;
     switch (call) {
     case 0:
         other = fresh;
@@ -121,12 +131,19 @@ static uint32_t calls(psilt *p, int call, uint32_t *out)
     case 11: return psilt_spec(p, BYTES(one), 1000, 100);
     case 12: return psilt_normalise(p, terms[3], 1000, out, &taken);
     case 13: return psilt_eval_term(p, 0, out);
+    case 14: return psilt_symbol(p, long_name, sizeof long_name, false, 2, &number);
+    case 15: return psilt_apply(p, symbol, many, 2, out);
+    case 16: return psilt_pattern(p, long_text, 4998, &number);
+    case 17: return psilt_match(p, pattern, terms[2], &len);
+    case 18: return psilt_make(p, pattern, &terms[2], 1, out);
+    case 19: return psilt_make(p, whole, inside, 3, out);
     default: return psilt_nil(p, out);
     }
 }
 
 static const char *const NAMES[] = {"open", "read", "print", "name", "int", "cons", "appl", "hole", "annotate",
-    "reserve", "reclaim", "spec", "normalise", "eval_term", "nil"};
+    "reserve", "reclaim", "spec", "normalise", "eval_term", "symbol", "apply", "pattern", "match", "make", "whole",
+    "nil"};
 
 static void fails(const char *what, const char *name, long n)
 {
@@ -145,6 +162,9 @@ static bool is_tried(int call, long n)
         fails("no beginning", NAMES[call], n);
     for (int i = 0; i < 2000; i++)
         many[i] = terms[i % 3];
+    inside[0] = terms[0];
+    inside[1] = terms[2];
+    inside[2] = terms[1];
     show(&p, &before);
     asked = 0;
     refused_at = n;
@@ -157,12 +177,14 @@ static bool is_tried(int call, long n)
         if (out != 4242)
             fails("a number is written", NAMES[call], n);
         show(&p, &after);
-        /* what was made, up to the refusal, may stay */
-        if (call == 1 || call == 6 || call == 12 || call == 13) {
+        /* what was made, up to the refusal, may stay, and an evaluation forgets bindings */
+        if (call == 1 || call == 6 || call == 12 || call == 13 || call == 15 || call == 19) {
             if (after.cells < before.cells)
                 fails("fewer cells", NAMES[call], n);
             after.cells = before.cells;
         }
+        if (call == 12 || call == 13)
+            after.bound = before.bound;
         if (memcmp(&before, &after, sizeof before) != 0)
             fails("the handle changed", NAMES[call], n);
     }
@@ -181,7 +203,7 @@ int main(void)
     for (i = 0; i < 2499; i++)
         memcpy(long_text + 2 * i, i == 2498 ? "7]" : i == 0 ? "[1" : ",7", 2);
     memset(long_name, 'n', sizeof long_name);
-    for (call = 0; call < 15; call++)
+    for (call = 0; call < 21; call++)
         for (n = 1; is_tried(call, n); n++)
             tried++;
     if (failures)

@@ -24,6 +24,7 @@ from percalesilt import (
     RULE,
     STALE,
     SYNTAX,
+    UNKNOWN,
     UNSPECIFIED,
     Fault,
     Store,
@@ -109,6 +110,48 @@ class Terms(unittest.TestCase):
         self.assertEqual([str(it) for it in second.terms], ["a"])
         second.free()
         self.fails(UNSPECIFIED, lambda: second.terms)
+
+    def test_patterns(self):
+        pattern = self.store.pattern("f(<int>,<list>)")
+        pair = self.store.pattern("<term>")
+        term = self.store.parse("f(7,[a]{n},b)")
+        self.assertEqual([str(it) for it in pattern.match(term)], ["7", "[[a]{n},b]"])
+        self.assertIs(pattern.make(*pattern.match(term)), term)
+        self.assertEqual(str(pattern.make(7, [])), "f(7)")
+        self.assertIsNone(pattern.match(self.store.parse("f(a)")))
+        self.assertEqual(pair.match(3), [self.store.int(3)])
+        self.assertEqual(self.store.pattern("f").match(self.store.appl("f")), [])
+
+    def test_patterns_that_are_refused(self):
+        self.assertEqual(self.fails(SYNTAX, self.store.pattern, "f(1,,2)").place, 4)
+        fault = self.fails(RULE, self.store.pattern, "f(<integer>)")
+        self.assertEqual((fault.rule, fault.place), (1, None))
+        self.assertEqual(self.fails(RULE, self.store.pattern, "<int>{n}").rule, 2)
+        pattern = self.store.pattern("f(<int>)")
+        self.fails(RANGE, pattern.make)
+        self.fails(KIND, pattern.make, [])
+        pattern.free()
+        self.fails(UNKNOWN, pattern.match, 1)
+        self.fails(UNKNOWN, pattern.make, 1)
+
+    def test_patterns_that_are_let_go(self):
+        first, second = self.store.pattern("a"), self.store.pattern("b")
+        numbers = first.number, second.number
+        del first
+        gc.collect()
+        self.assertEqual(self.store.pattern("c").number, numbers[0])
+        self.assertEqual(second.match(self.store.appl("b")), [])
+
+    def test_symbols(self):
+        f, quoted = self.store.symbol("f", 2), self.store.symbol("f", 2, quoted=True)
+        self.assertEqual(self.store.symbol("f", 2).number, f.number)
+        self.assertIs(f(1, [2]), self.store.parse("f(1,[2])"))
+        self.assertIs(quoted(1, [2]), self.store.parse('"f"(1,[2])'))
+        self.store.reclaim()
+        self.assertEqual(str(f(3, 4)), "f(3,4)")
+        self.fails(RANGE, f, 1)
+        self.fails(RANGE, self.store.symbol, "f", -1)
+        self.fails(NAME, self.store.symbol, "0", 0)
 
     def test_bytes_of_names(self):
         term = self.store.appl(bytes(range(256)), quoted=True)

@@ -9,7 +9,7 @@ ghost use Rattle.psilt_work.specs.Banks.{store_of};
 ghost use Rattle.psilt_work.specs.Evaluating.{Specifies, Unspecifies, Normalises, CountsTerms};
 ghost use Rattle.psilt_work.specs.Evaluating.{GivesTerm, normalised_of};
 ghost use Rattle.psilt_work.specs.Handles.{OnWork};
-ghost use Rattle.psilt_work.specs.Works.{IsSameButBank, IsSameButRead, IsSameButSpec};
+ghost use Rattle.psilt_work.specs.Works.{IsSameButBound, IsSameButRun, IsSameButSpec, Forgets};
 
 use crate::answer::{done, give, on_work, tell, tell_value};
 use psilt_work::Psilt;
@@ -57,7 +57,8 @@ pub extern "C" fn psilt_normalise(
         (told result (normalised_of value.new taken.new))
         × Keeps (store_of v.bank) (store_of w.bank) []
         × (tree_at (store_of w.bank) (term_of term) ≡ tree_at (store_of v.bank) (term_of term))
-        × IsSameButRead v w) }
+        × Forgets v.bound.items w.bound.items (told result (normalised_of value.new taken.new))
+        × IsSameButRun v w) }
     ensures kept { result ≢ 0 → (value.new ≡ value.old) × (taken.new ≡ taken.old) }
 {
     tell_value(
@@ -82,7 +83,9 @@ pub extern "C" fn psilt_eval_terms(alloc: Global, psilt: &mut Psilt, out: &mut u
 pub extern "C" fn psilt_eval_term(alloc: Global, psilt: &mut Psilt, i: u32, out: &mut u32) -> u32
     ensures answer { OnWork psilt.old psilt.new result
         (λ v w. GivesTerm v.bank w.bank i (told result (term_of out.new))
-        × Keeps (store_of v.bank) (store_of w.bank) [] × IsSameButBank v w) }
+        × Keeps (store_of v.bank) (store_of w.bank) []
+        × Forgets v.bound.items w.bound.items (told result (term_of out.new))
+        × IsSameButBound v w) }
     ensures out { result ≢ 0 → out.new ≡ out.old }
 {
     give(on_work!(psilt, alloc, work, work.eval_term(i)), out)

@@ -1,10 +1,12 @@
 //! C says which terms stay, and for how many there is room.
 
-ghost use Rattle.std.specs.Prelude.{◌≡◌, ◌≢◌};
+ghost use Rattle.std.specs.Prelude.{◌≡◌, ◌≢◌, [], OnErr, OnOk};
 ghost use Rattle.rx_term.specs.Store.{cells};
 ghost use Rattle.psilt_work.specs.Codes.{told};
 ghost use Rattle.psilt_work.specs.Answers.{term_of, Protects, Unprotects, Keeps, MakesRoom};
-ghost use Rattle.psilt_work.specs.Handles.{OnBank, InBank};
+ghost use Rattle.psilt_work.specs.Banks.{store_of};
+ghost use Rattle.psilt_work.specs.Handles.{OnBank, OnWork, InBank};
+ghost use Rattle.psilt_work.specs.Works.{IsSameButBound};
 
 use crate::answer::{done, on_work, tell};
 use psilt_work::Psilt;
@@ -29,11 +31,14 @@ pub extern "C" fn psilt_unprotect(alloc: Global, psilt: &mut Psilt, term: u32) -
     done(on_work!(psilt, alloc, work, work.unprotect(Term(term))))
 }
 
-/// Gives up all terms but those that the roots and the given ones reach.
+/// Gives up all terms but those that the roots and the given ones reach, and forgets the bindings
+/// of the last match.
 #[unsafe(no_mangle)]
 pub extern "C" fn psilt_reclaim(alloc: Global, psilt: &mut Psilt, kept: &[u32]) -> u32
-    ensures answer { OnBank psilt.old psilt.new result
-        (λ v w. Keeps v w kept.now (told result tt)) }
+    ensures answer { OnWork psilt.old psilt.new result
+        (λ v w. Keeps (store_of v.bank) (store_of w.bank) kept.now (told result tt)
+        × OnOk (told result tt) (w.bound.items ≡ []) × OnErr (told result tt) (w.bound ≡ v.bound)
+        × IsSameButBound v w) }
 {
     done(on_work!(psilt, alloc, work, work.reclaim(alloc, kept)))
 }

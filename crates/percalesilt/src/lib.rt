@@ -7,5 +7,7 @@ pub mod evaluating;
 pub mod handle;
 pub mod keeping;
 pub mod making;
+pub mod matching;
+pub mod naming;
 pub mod reading;
 pub mod texts;

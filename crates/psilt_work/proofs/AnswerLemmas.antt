@@ -76,3 +76,14 @@ same_appl v w name quoted ns tree e is = (is.0, have-same v w (terms_of ns) (to_
 pub made_is : (old new : Store) (tree : Option Tree) (P : Option Tree → Type 0) (r : Result Term BankFault) → MakesOrRefuses old new tree r → P tree → IfOk r (λ t. P (tree_at new t))
 made_is old new tree P (Ok t) m p = subst P (sym m.made) p
 made_is old new tree P (Err e) m p = tt
+
+-- the same of what holds of each thing of some kind
+pub made_for : (old new : Store) (tree : Option Tree) (X : Type 0) (P : X → Type 0) (Q : X → Option Tree → Type 0) (r : Result Term BankFault) → MakesOrRefuses old new tree r → ((x : X) → P x → Q x tree) → IfOk r (λ t. (x : X) → P x → Q x (tree_at new t))
+made_for old new tree X P Q (Ok t) m f = λ x p. subst (Q x) (sym m.made) (f x p)
+made_for old new tree X P Q (Err e) m f = tt
+
+-- an application of a symbol of a signature, made after the symbol
+pub same_appls : (old v new : Store) (s : Symbol) (g : Signature) (ns : List ℕ) (r : Result Term BankFault) → v.content ≡ old.content → signature_of v s ≡ Some g
+    → IfOk r (λ t. (h : Signature) → signature_of v s ≡ Some h → IsApplication v h.name h.quoted ns (tree_at new t)) → IfOk r (λ t. IsApplication old g.name g.quoted ns (tree_at new t))
+same_appls old v new s g ns (Ok t) e at h = same_appl old v g.name g.quoted ns (tree_at new t) e (h g at)
+same_appls old v new s g ns (Err e') e at h = tt

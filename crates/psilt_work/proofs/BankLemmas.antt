@@ -1,10 +1,10 @@
 -- What the calls of a bank leave of what is prepared for it.
-use Rattle.std.proofs.Common.{◌≡◌, ◌≤◌, ℕ, sym, ap, ◌∙◌, subst, arith}
-use Rattle.std.specs.Prelude.{Option, Some, None, Result, Ok, Err, IfSome}
+use Rattle.std.proofs.Common.{◌≡◌, ◌≤◌, ℕ, List, refl, is_some, sym, ap, ◌∙◌, subst, arith}
+use Rattle.std.specs.Prelude.{Option, Some, None, Result, Ok, Err, IsSome, IfSome}
 use Rattle.std.specs.FinMap as map
 use Rattle.rx_term.specs.Name.{Signature}
 use Rattle.rx_term.specs.Tree.{Tree}
-use Rattle.rx_term.specs.Store.{Store}
+use Rattle.rx_term.specs.Store.{Store, signature_of}
 use Rattle.rx_term.specs.Steps.{Grows, MakesOrRefuses, AddsOrRefuses, ReservesOrRefuses, ProtectsOrRefuses, SameBesideContent, with_count}
 use Rattle.rx_term.proofs.StoreLemmas.{Grows-made, Grows-added}
 use Rattle.rx_term.specs.declared.Term.{Term}
@@ -15,17 +15,36 @@ use Rattle.rec_sorts.specs.Linked.{HasMoreSymbols}
 use Rattle.rec_engine.specs.Prepared.{FitsIn}
 use Rattle.rec_engine.specs.declared.engine.prepared.Prepared.{Prepared}
 use Rattle.rec_engine.proofs.BankLemmas.{fits-grown, fits-counted}
+use Rattle.psilt_work.specs.Banks.{AreSymbols}
+
+-- what is prepared for a bank fits in it, and it has the symbols that C knows
+abbrev pub IsWhole : Store → Option Prepared → List ℕ → Type 0
+IsWhole w o symbols = IfSome o (FitsIn w) × AreSymbols w symbols
+
+some-then : {X : Type 0} (a b : Option X) → ((x : X) → a ≡ Some x → b ≡ Some x) → IsSome a → IsSome b
+some-then (Some x) b f h = ap is_some (f x refl)
+some-then None b f h = cc
+
+-- symbols that stay
+pub same_symbols : (old new : Store) (symbols : List ℕ) → new.symbols ≡ old.symbols → AreSymbols old symbols → AreSymbols new symbols
+same_symbols old new symbols e h n s at = subst (λ m. IsSome (map.get m s)) (sym e) (h n s at)
+
+pub grown_symbols : (old new : Store) (symbols : List ℕ) → ((s : Symbol) (g : Signature) → signature_of old s ≡ Some g → signature_of new s ≡ Some g) → AreSymbols old symbols → AreSymbols new symbols
+grown_symbols old new symbols f h n s at = some-then (map.get old.symbols s) (map.get new.symbols s) (λ g e. f (record { 0 = s }) g e) (h n s at)
 
 -- in a bank that grows
-pub still_fits : (old new : Store) (o : Option Prepared) → Grows old new → IfSome o (FitsIn old) → IfSome o (FitsIn new)
-still_fits old new (Some p) g h = fits-grown old new p g h
-still_fits old new None g h = tt
+fits_still : (old new : Store) (o : Option Prepared) → Grows old new → IfSome o (FitsIn old) → IfSome o (FitsIn new)
+fits_still old new (Some p) g h = fits-grown old new p g h
+fits_still old new None g h = tt
 
-pub fits_made : (old new : Store) (o : Option Prepared) (tree : Option Tree) (x : Result Term BankFault) → MakesOrRefuses old new tree x → IfSome o (FitsIn old) → IfSome o (FitsIn new)
-fits_made old new o tree x m = still_fits old new o (Grows-made old new tree x m)
+pub still_fits : (old new : Store) (o : Option Prepared) (symbols : List ℕ) → Grows old new → IsWhole old o symbols → IsWhole new o symbols
+still_fits old new o symbols g h = (fits_still old new o g h.0, grown_symbols old new symbols g.symbols h.1)
 
-pub fits_added : (old new : Store) (o : Option Prepared) (g : Signature) (x : Result Symbol BankFault) → AddsOrRefuses old new g x → IfSome o (FitsIn old) → IfSome o (FitsIn new)
-fits_added old new o g x m = still_fits old new o (Grows-added old new g x m)
+pub fits_made : (old new : Store) (o : Option Prepared) (symbols : List ℕ) (tree : Option Tree) (x : Result Term BankFault) → MakesOrRefuses old new tree x → IsWhole old o symbols → IsWhole new o symbols
+fits_made old new o symbols tree x m = still_fits old new o symbols (Grows-made old new tree x m)
+
+pub fits_added : (old new : Store) (o : Option Prepared) (symbols : List ℕ) (g : Signature) (x : Result Symbol BankFault) → AddsOrRefuses old new g x → IsWhole old o symbols → IsWhole new o symbols
+fits_added old new o symbols g x m = still_fits old new o symbols (Grows-added old new g x m)
 
 -- a bank of the same trees and with more room
 same-grows : (old new : Store) → new.content ≡ old.content → SameBesideContent old new → old.spare ≤ new.spare → Grows old new
@@ -41,17 +60,20 @@ grows_reserved : (old new : Store) (k : ℕ) (x : Result (Unit {0}) BankFault) �
 grows_reserved old new k (Ok u) m = same-grows old new m.content m.beside m.room
 grows_reserved old new k (Err e) m = same-grows old new m.content m.beside m.room
 
-pub fits_reserved : (old new : Store) (o : Option Prepared) (k : ℕ) (x : Result (Unit {0}) BankFault) → ReservesOrRefuses old new k x → IfSome o (FitsIn old) → IfSome o (FitsIn new)
-fits_reserved old new o k x m = still_fits old new o (grows_reserved old new k x m)
+pub fits_reserved : (old new : Store) (o : Option Prepared) (symbols : List ℕ) (k : ℕ) (x : Result (Unit {0}) BankFault) → ReservesOrRefuses old new k x → IsWhole old o symbols → IsWhole new o symbols
+fits_reserved old new o symbols k x m = still_fits old new o symbols (grows_reserved old new k x m)
 
 -- where a root is counted otherwise
-pub fits_counted : (old new : Store) (o : Option Prepared) (t : Term) (n : ℕ) → new ≡ with_count old t n → IfSome o (FitsIn old) → IfSome o (FitsIn new)
-fits_counted old new (Some p) t n e h = fits-counted old new p t n e h
-fits_counted old new None t n e h = tt
+fits_with : (old new : Store) (o : Option Prepared) (t : Term) (n : ℕ) → new ≡ with_count old t n → IfSome o (FitsIn old) → IfSome o (FitsIn new)
+fits_with old new (Some p) t n e h = fits-counted old new p t n e h
+fits_with old new None t n e h = tt
 
-pub fits_protected : (old new : Store) (o : Option Prepared) (t : Term) (x : Result (Unit {0}) RootsFull) → ProtectsOrRefuses old new t x → IfSome o (FitsIn old) → IfSome o (FitsIn new)
-fits_protected old new o t (Ok u) m h = fits_counted old new o t _ m.1 h
-fits_protected old new o t (Err e) m h = subst (λ w. IfSome o (FitsIn w)) (sym m.1) h
+pub fits_counted : (old new : Store) (o : Option Prepared) (symbols : List ℕ) (t : Term) (n : ℕ) → new ≡ with_count old t n → IsWhole old o symbols → IsWhole new o symbols
+fits_counted old new o symbols t n e h = (fits_with old new o t n e h.0, same_symbols old new symbols (ap (λ (w : Store). w.symbols) e) h.1)
+
+pub fits_protected : (old new : Store) (o : Option Prepared) (symbols : List ℕ) (t : Term) (x : Result (Unit {0}) RootsFull) → ProtectsOrRefuses old new t x → IsWhole old o symbols → IsWhole new o symbols
+fits_protected old new o symbols t (Ok u) m h = fits_counted old new o symbols t _ m.1 h
+fits_protected old new o symbols t (Err e) m h = subst (λ w. IsWhole w o symbols) (sym m.1) h
 
 -- in a bank with more symbols
 pub grows_linked : (old new : Store) → HasMoreSymbols old new → Grows old new

@@ -22,7 +22,7 @@ use Rattle.rec_engine.specs.declared.engine.Outcome.{Outcome}
 use Rattle.psilt_work.specs.Banks.{BankState, Specified, IsSpecified, store_of}
 use Rattle.rec_engine.specs.declared.engine.Outcome.TheVariants as outcome
 use Rattle.psilt_work.specs.Evaluating.{IsRoom, HasTree, ComesTo, Comes, Normalises, told_of}
-use Rattle.psilt_work.specs.Works.{IsSameButBank}
+use Rattle.psilt_work.specs.Works.{IsSameButBank, Forgets}
 use Rattle.psilt_work.specs.declared.evaluating.Normalised.{Normalised}
 use Rattle.psilt_work.specs.declared.fault.Fault.{Fault}
 use Rattle.psilt_work.specs.declared.fault.Fault.TheVariants as fault
@@ -138,7 +138,29 @@ normalises b b' b'' t n rule (Err fault.Unprotected) same tree h = absurd h
 normalises b b' b'' t n rule (Err fault.Open) same tree h = absurd h
 normalises b b' b'' t n rule (Err fault.Rule) same tree h = absurd h
 normalises b b' b'' t n rule (Err fault.Unspecified) same tree h = absurd h
+normalises b b' b'' t n rule (Err fault.Unmatched) same tree h = absurd h
+normalises b b' b'' t n rule (Err fault.Unknown) same tree h = absurd h
 
 -- a change of terms alone
-pub same_bank : (v : Work) (b : BankState) → b.specified ≡ v.bank.specified → IsSameButBank v (record v { bank = b })
-same_bank v b e = ap (λ s. record v { bank = record { shared = b.shared; specified = s } }) e
+pub same_bank : (v : Work) (b : BankState) → b.specified ≡ v.bank.specified → b.symbols ≡ v.bank.symbols → IsSameButBank v (record v { bank = b })
+same_bank v b e f = rw (e, f) refl
+
+-- what comes of a term tells no fault at which bindings stay
+pub forgets_come : (b b' : BankState) (t : Term) (n : ℕ) (before after : List Term) (r : Result Normalised Fault) → Comes b b' t n r → after ≡ [] → Forgets before after r
+forgets_come b b' t n before after (Ok v) h e = e
+forgets_come b b' t n before after (Err fault.Limit) h e = e
+forgets_come b b' t n before after (Err fault.Memory) h e = e
+forgets_come b b' t n before after (Err fault.Full) h e = e
+forgets_come b b' t n before after (Err fault.Closed) h e = absurd h
+forgets_come b b' t n before after (Err fault.Stale) h e = absurd h
+forgets_come b b' t n before after (Err fault.Kind) h e = absurd h
+forgets_come b b' t n before after (Err fault.Syntax) h e = absurd h
+forgets_come b b' t n before after (Err fault.Range) h e = absurd h
+forgets_come b b' t n before after (Err fault.Name) h e = absurd h
+forgets_come b b' t n before after (Err fault.Roots) h e = absurd h
+forgets_come b b' t n before after (Err fault.Unprotected) h e = absurd h
+forgets_come b b' t n before after (Err fault.Open) h e = absurd h
+forgets_come b b' t n before after (Err fault.Rule) h e = absurd h
+forgets_come b b' t n before after (Err fault.Unspecified) h e = absurd h
+forgets_come b b' t n before after (Err fault.Unmatched) h e = absurd h
+forgets_come b b' t n before after (Err fault.Unknown) h e = absurd h

@@ -5,3 +5,6 @@ pub mod HeldLemmas
 pub mod LooseLemmas
 pub mod BankLemmas
 pub mod EvaluatingLemmas
+pub mod PatternLemmas
+pub mod SymbolLemmas
+pub mod MatchingLemmas

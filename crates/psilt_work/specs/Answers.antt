@@ -16,6 +16,10 @@ use Rattle.rx_text.specs.Verdict.{IsVerdict, Spelt, Outside, TooLong}
 use Rattle.psilt_work.specs.declared.fault.Fault.{Fault}
 use Rattle.psilt_work.specs.declared.fault.Fault.TheVariants.{Memory, Full, Stale, Kind, Syntax, Range, Name, Roots, Unprotected}
 
+-- there is something, of which this is so
+abbrev pub Has : {X : Type 0} → Option X → (X → Type 0) → Type 0
+Has {X} o P = (x : X) × (o ≡ Some x) × P x
+
 -- the reference of a number
 abbrev pub term_of : ℕ → Term
 term_of n = record { 0 = n }

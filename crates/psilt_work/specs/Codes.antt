@@ -4,7 +4,7 @@ use Rattle.rx_term.specs.declared.Term.{Term}
 use Rattle.rx_term.specs.declared.faults.BankFault.{BankFault}
 use Rattle.rx_term.specs.declared.faults.BankFault.TheVariants as bank
 use Rattle.psilt_work.specs.declared.fault.Fault.{Fault}
-use Rattle.psilt_work.specs.declared.fault.Fault.TheVariants.{Memory, Full, Closed, Stale, Kind, Syntax, Range, Name, Roots, Unprotected, Open, Rule, Limit, Unspecified}
+use Rattle.psilt_work.specs.declared.fault.Fault.TheVariants.{Memory, Full, Closed, Stale, Kind, Syntax, Range, Name, Roots, Unprotected, Open, Rule, Limit, Unspecified, Unmatched, Unknown}
 
 -- the number of a fault
 abbrev pub number_of : Fault → ℕ
@@ -22,6 +22,8 @@ number_of Open = 11
 number_of Rule = 12
 number_of Limit = 13
 number_of Unspecified = 14
+number_of Unmatched = 15
+number_of Unknown = 16
 
 -- the number of an answer: 0 where it is done
 abbrev pub code_of : {X : Type 0} → Result X Fault → ℕ
@@ -31,7 +33,7 @@ code_of (Err e) = number_of e
 -- the fault of a number from 1 on; none has another number
 abbrev pub fault_at : ℕ → Fault
 fault_at n = get_or (Closed ∷ Memory ∷ Full ∷ Closed ∷ Stale ∷ Kind ∷ Syntax ∷ Range ∷ Name ∷ Roots
-    ∷ Unprotected ∷ Open ∷ Rule ∷ Limit ∷ Unspecified ∷ []) n Closed
+    ∷ Unprotected ∷ Open ∷ Rule ∷ Limit ∷ Unspecified ∷ Unmatched ∷ Unknown ∷ []) n Closed
 
 -- the answer that a number stands for, where its value was written beside it
 abbrev pub told : {X : Type 0} → ℕ → X → Result X Fault

@@ -4,7 +4,7 @@ use Rattle.rx_term.specs.Store.{Store}
 use Rattle.rx_shared.specs.State.{IsEmptyStore}
 use Rattle.psilt_work.specs.Banks.{store_of}
 use Rattle.psilt_work.specs.Codes.{fault_at}
-use Rattle.psilt_work.specs.Works.{IsSameButBank, IsOpeningFault}
+use Rattle.psilt_work.specs.Works.{IsSameButBank, IsFresh, IsOpeningFault}
 use Rattle.psilt_work.specs.declared.work.Work.{Work}
 use Rattle.psilt_work.specs.declared.handle.Psilt.{Psilt}
 
@@ -31,10 +31,10 @@ OnBank old new code P =
 abbrev pub InBank : Psilt → Psilt → ℕ → (Store → Type 0) → Type 0
 InBank old new code P = OnWork old new code (λ v w. P (store_of v.bank) × (w ≡ v))
 
--- a handle with work is told so; another one has work over an empty bank, or is told why not
+-- a handle with work is told so; another one has fresh work over an empty bank, or is told why not
 abbrev pub Begins : Option Work → Option Work → ℕ → ℕ → Type 0
 Begins (Some w) new cap code = (code ≡ 11) × (new ≡ Some w)
-Begins None (Some w) cap code = (code ≡ 0) × IsEmptyStore (store_of w.bank) cap
+Begins None (Some w) cap code = (code ≡ 0) × IsEmptyStore (store_of w.bank) cap × IsFresh w
 Begins None None cap code = (code ≢ 0) × IsOpeningFault cap (fault_at code)
 
 -- a handle is opened, or is told why not

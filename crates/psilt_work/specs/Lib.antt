@@ -4,4 +4,6 @@ pub mod Answers
 pub mod Works
 pub mod Owned
 pub mod Evaluating
+pub mod Patterns
+pub mod Symbols
 pub mod Handles

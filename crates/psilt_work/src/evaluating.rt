@@ -8,7 +8,8 @@ ghost use Rattle.psilt_work.specs.Banks.{IsSpecified, store_of};
 ghost use Rattle.psilt_work.specs.Evaluating.{Specifies, Unspecifies, Normalises, CountsTerms};
 ghost use Rattle.psilt_work.specs.Evaluating.{GivesTerm, Checks, Comes, IsToldBy, are_options};
 ghost use Rattle.psilt_work.specs.Evaluating.{of_bank, of_engine, told_of};
-ghost use Rattle.psilt_work.specs.Works.{IsSameButBank, IsSameButRead, IsSameButSpec};
+ghost use Rattle.psilt_work.specs.Works.{IsSameButBank, IsSameButBound, IsSameButRead};
+ghost use Rattle.psilt_work.specs.Works.{IsSameButRun, IsSameButSpec, Forgets};
 
 use crate::judging::{Refusal, judge};
 use crate::running::list_anyway;
@@ -136,12 +137,13 @@ impl Work {
 
     /// What a term comes to within so many steps. `Rule` where it breaks a rule of terms, which is
     /// kept; `Limit` where more steps are needed. Terms that no root reaches may be given up, but
-    /// for the term and the value.
+    /// for the term and the value, and the bindings of the last match are forgotten.
     pub fn normalise(&mut self, alloc: Global, t: Term, steps: u64) -> Result<Normalised, Fault>
         ensures answer { Normalises self.old.bank self.new.bank t steps self.new.rule result }
         ensures keeps { Keeps (store_of self.old.bank) (store_of self.new.bank) [] }
         ensures given { tree_at (store_of self.new.bank) t ≡ tree_at (store_of self.old.bank) t }
-        ensures beside { IsSameButRead self.old self.new }
+        ensures bindings { Forgets self.old.bound.items self.new.bound.items result }
+        ensures beside { IsSameButRun self.old self.new }
     {
         if !self.bank.is_specified() {
             return Err(Fault::Unspecified);
@@ -149,6 +151,7 @@ impl Work {
         if !self.bank.shared().holds(t) {
             return Err(Fault::Stale);
         }
+        self.bound.clear();
         self.check_given(alloc, t)?;
         self.normalise_given(t, steps)
     }
@@ -202,11 +205,13 @@ impl Work {
     }
 
     /// The specified term to evaluate of this number, from 0. `Range` where there are no more than
-    /// that. Terms that no root reaches may be given up, but for this one.
+    /// that. Terms that no root reaches may be given up, but for this one, and the bindings of the
+    /// last match are forgotten.
     pub fn eval_term(&mut self, i: u32) -> Result<Term, Fault>
         ensures answer { GivesTerm self.old.bank self.new.bank i result }
         ensures keeps { Keeps (store_of self.old.bank) (store_of self.new.bank) [] }
-        ensures beside { IsSameButBank self.old self.new }
+        ensures bindings { Forgets self.old.bound.items self.new.bound.items result }
+        ensures beside { IsSameButBound self.old self.new }
     {
         if !self.bank.is_specified() {
             return Err(Fault::Unspecified);
@@ -214,6 +219,7 @@ impl Work {
         if i >= self.bank.eval_terms() {
             return Err(Fault::Range);
         }
+        self.bound.clear();
         match self.bank.eval_term(i) {
             Ok(t) => Ok(t),
             Err(fault) => Err(given_up(fault)),

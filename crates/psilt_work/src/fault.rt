@@ -51,6 +51,12 @@ pub enum Fault {
     /// Nothing is specified.
     #[error("nothing is specified")]
     Unspecified = 14,
+    /// The term does not match the pattern.
+    #[error("no match")]
+    Unmatched = 15,
+    /// No pattern, or no symbol, has the number.
+    #[error("no such pattern or symbol")]
+    Unknown = 16,
 }
 
 /// What a make of the bank comes to.

@@ -1,9 +1,9 @@
 //! Which terms stay.
 
-ghost use Rattle.std.specs.Prelude.{◌≡◌, IfOk};
+ghost use Rattle.std.specs.Prelude.{◌≡◌, [], IfOk, OnErr, OnOk};
 ghost use Rattle.psilt_work.specs.Banks.{store_of};
 ghost use Rattle.psilt_work.specs.Answers.{Protects, Unprotects, Keeps, terms_of};
-ghost use Rattle.psilt_work.specs.Works.{IsSameButBank};
+ghost use Rattle.psilt_work.specs.Works.{IsSameButBank, IsSameButBound};
 
 use crate::{Fault, Work};
 use rx_arena::Slot;
@@ -38,10 +38,13 @@ impl Work {
         Ok(())
     }
 
-    /// Gives up all terms but those that the roots and the terms of the given numbers reach.
+    /// Gives up all terms but those that the roots and the terms of the given numbers reach. The
+    /// bindings of the last match are forgotten.
     pub fn reclaim(&mut self, alloc: Global, kept: &[u32]) -> Result<(), Fault>
         ensures answer { Keeps (store_of self.old.bank) (store_of self.new.bank) kept.now result }
-        ensures beside { IsSameButBank self.old self.new }
+        ensures forgotten { OnOk result (self.new.bound.items ≡ []) }
+        ensures unchanged { OnErr result (self.new.bound ≡ self.old.bound) }
+        ensures beside { IsSameButBound self.old self.new }
     {
         if !self.are_held(kept) {
             return Err(Fault::Stale);
@@ -50,12 +53,13 @@ impl Work {
             return Err(Fault::Memory);
         };
         self.bank.reclaim(&terms);
+        self.bound.clear();
         Ok(())
     }
 }
 
 /// The references of some numbers.
-fn references(alloc: Global, numbers: &[u32]) -> Result<Vec<Term>, AllocError>
+pub(crate) fn references(alloc: Global, numbers: &[u32]) -> Result<Vec<Term>, AllocError>
     ensures { IfOk result (λ v. v.items ≡ terms_of numbers.now) }
 {
     numbers.iter().map(|n| Term(*n)).collect(alloc)

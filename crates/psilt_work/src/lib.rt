@@ -11,8 +11,12 @@ mod judging;
 pub mod keeping;
 mod loose;
 pub mod making;
+pub mod matching;
+mod naming;
+mod patterns;
 pub mod reading;
 mod running;
+mod spelling;
 pub mod texts;
 pub mod work;
 

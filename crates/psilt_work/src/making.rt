@@ -1,9 +1,9 @@
 //! Terms are made of references.
 
-ghost use Rattle.std.specs.Prelude.{◌≡◌, List, [], ◌∷◌, length, Some, IfOk, IsTrue};
+ghost use Rattle.std.specs.Prelude.{◌≡◌, List, [], ◌∷◌, length, Some, IfOk, IsSome, IsTrue};
 ghost use Rattle.rx_term.specs.Tree.{Int, Items, none};
-ghost use Rattle.rx_term.specs.Name.{IsAllowed};
-ghost use Rattle.rx_term.specs.Store.{tree_at, longer, held_open, noted};
+ghost use Rattle.rx_term.specs.Name.{IsAllowed, Signature};
+ghost use Rattle.rx_term.specs.Store.{tree_at, signature_of, longer, held_open, noted};
 ghost use Rattle.rx_term.specs.Steps.{Grows};
 ghost use Rattle.rx_term.specs.Walks.{Lists};
 ghost use Rattle.psilt_work.specs.Banks.{store_of};
@@ -13,7 +13,7 @@ ghost use Rattle.psilt_work.specs.Works.{IsSameButBank};
 
 use crate::fault::made;
 use crate::{Bank, Fault, Work};
-use rx_term::{BankFault, Kind, Term, TermBank, plain_name};
+use rx_term::{BankFault, Kind, Symbol, Term, TermBank, plain_name};
 
 impl Work {
     /// Whether there are all references of these numbers.
@@ -105,8 +105,8 @@ impl Work {
         made(self.bank.annotated(t, anns))
     }
 
-    /// An application of a name to the terms of some numbers. `Name` where the name is not quoted and is neither
-    /// empty nor one that may stand without quotes.
+    /// An application of a name to the terms of some numbers. `Name` where the name is not quoted
+    /// and is neither empty nor one that may stand without quotes.
     pub fn appl(&mut self, name: &[u8], quoted: bool, args: &[u32]) -> Result<Term, Fault>
         ensures answer { Applies (store_of self.old.bank) (store_of self.new.bank) name.now quoted
             args.now result }
@@ -140,8 +140,30 @@ fn applied(
     ensures made { IfOk result (λ r. IsApplication (store_of bank.old) name.now quoted args.now
         (tree_at (store_of bank.new) r)) }
     ensures same { bank.new.specified ≡ bank.old.specified }
+    ensures known { bank.new.symbols ≡ bank.old.symbols }
 {
     let symbol = bank.symbol(name, quoted, arity)?;
+    symbol_applied(bank, symbol, args)
+}
+
+/// The application of a symbol to the terms of some numbers, which are there.
+pub(crate) fn symbol_applied(
+    bank: &mut Bank,
+    symbol: Symbol,
+    args: &[u32],
+) -> Result<Term, BankFault>
+    requires symbol { IsSome (signature_of (store_of bank.old) symbol) }
+    requires args { IsTrue (are_held (store_of bank.old) args.now) }
+    requires arity { (g : Signature) → signature_of (store_of bank.old) symbol ≡ Some g
+        → g.arity ≡ length args.now }
+    ensures grows { Grows (store_of bank.old) (store_of bank.new) }
+    ensures made { IfOk result (λ r. (g : Signature)
+        → signature_of (store_of bank.old) symbol ≡ Some g
+        → IsApplication (store_of bank.old) g.name g.quoted args.now
+        (tree_at (store_of bank.new) r)) }
+    ensures same { bank.new.specified ≡ bank.old.specified }
+    ensures known { bank.new.symbols ≡ bank.old.symbols }
+{
     let list = list(bank, args)?;
     bank.appl(symbol, list)
 }
@@ -153,6 +175,7 @@ fn list(bank: &mut Bank, items: &[u32]) -> Result<Term, BankFault>
     ensures made { IfOk result (λ r. Lists (store_of bank.old) (terms_of items.now)
         (tree_at (store_of bank.new) r)) }
     ensures same { bank.new.specified ≡ bank.old.specified }
+    ensures known { bank.new.symbols ≡ bank.old.symbols }
 {
     let mut list = bank.nil()?;
     let mut left = items.len();

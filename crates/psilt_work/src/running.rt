@@ -11,11 +11,13 @@ ghost use Rattle.rec_sorts.specs.TermRules.{broken_by_terms};
 ghost use Rattle.rec_sorts.specs.TermsFaults.{IsTermsFault};
 ghost use Rattle.rec_engine.specs.Engine.{AreInRange, IsGiven, IsNormalised, IsOutcome};
 ghost use Rattle.rec_engine.specs.Engine.{eval_tree};
-ghost use Rattle.psilt_work.specs.Banks.{IsSpecified, Specified, store_of};
+ghost use Rattle.rx_shared.specs.State.{store_of as terms_of};
+ghost use Rattle.psilt_work.specs.Banks.{AreSymbols, IsSpecified, Specified, store_of};
 ghost use Rattle.psilt_work.specs.Evaluating.{IsRoom, IsRoomFault};
 
 use crate::Bank;
 use core::mem::replace_with;
+use indexmap::IndexSet;
 use rec_engine::{Engine, EngineFault, Options, Outcome};
 use rec_sorts::{Checked, TermsFault, check_terms};
 use rx_shared::SharedBank;
@@ -46,6 +48,7 @@ fn list_of(bank: &mut Bank, t: Term) -> Result<Term, BankFault>
     ensures grows { Grows (store_of bank.old) (store_of bank.new) }
     ensures beside { SameBesideContent (store_of bank.old) (store_of bank.new) }
     ensures same { bank.new.specified ≡ bank.old.specified }
+    ensures known { bank.new.symbols ≡ bank.old.symbols }
 {
     let nil = bank.nil()?;
     bank.cons(t, nil)
@@ -60,6 +63,7 @@ pub(crate) fn list_anyway(bank: &mut Bank, t: Term) -> Result<Term, BankFault>
     ensures keeps { Keeps (store_of bank.old) (store_of bank.new) [] }
     ensures given { tree_at (store_of bank.new) t ≡ tree_at (store_of bank.old) t }
     ensures same { bank.new.specified ≡ bank.old.specified }
+    ensures known { bank.new.symbols ≡ bank.old.symbols }
 {
     match list_of(bank, t) {
         Err(BankFault::Full) => {
@@ -71,17 +75,20 @@ pub(crate) fn list_anyway(bank: &mut Bank, t: Term) -> Result<Term, BankFault>
 }
 
 impl Bank {
-    /// The bank of an engine that gives it back.
-    fn of(engine: Engine<SharedBank>) -> Bank
+    /// The bank of an engine that gives it back, with the symbols that C knows.
+    fn of(engine: Engine<SharedBank>, symbols: IndexSet<u64>) -> Bank
+        requires { AreSymbols (terms_of engine.bank) symbols.keys }
         ensures { result ≡ record {
           shared = engine.bank;
           specified = Some (record { spec = engine.spec; options = engine.options });
+          symbols = symbols.keys;
         } }
     {
         let (shared, prepared) = engine.apart();
         Bank {
             shared,
             prepared: Some(prepared),
+            symbols,
         }
     }
 
@@ -105,6 +112,7 @@ impl Bank {
         ensures done { OnOk result (self.new.specified
             ≡ Some (record { spec = checked.spec; options = options })) }
         ensures refused { OnErr result (self.new.specified ≡ self.old.specified) }
+        ensures known { self.new.symbols ≡ self.old.symbols }
     {
         let wanted = Wanted {
             alloc,
@@ -121,16 +129,28 @@ impl Bank {
         ensures done { OnOk result.1 (result.0.specified
             ≡ Some (record { spec = wanted.checked.spec; options = wanted.options })) }
         ensures refused { OnErr result.1 (result.0.specified ≡ self.specified) }
+        ensures known { result.0.symbols ≡ self.symbols }
     {
-        let Bank { shared, prepared } = self;
+        let Bank {
+            shared,
+            prepared,
+            symbols,
+        } = self;
         let Wanted {
             alloc,
             checked,
             options,
         } = wanted;
         match Engine::over(alloc, checked, shared, options) {
-            Ok(engine) => (Bank::of(engine), Ok(())),
-            Err(shared) => (Bank { shared, prepared }, Err(AllocError)),
+            Ok(engine) => (Bank::of(engine, symbols), Ok(())),
+            Err(shared) => {
+                let bank = Bank {
+                    shared,
+                    prepared,
+                    symbols,
+                };
+                (bank, Err(AllocError))
+            }
         }
     }
 
@@ -172,6 +192,7 @@ impl Bank {
     pub(crate) fn normalise(&mut self, t: Term, steps: u64) -> Result<Outcome, EngineFault>
         requires { IsSpecified self.old (λ y. IsGiven y (store_of self.old) t) }
         ensures same { self.new.specified ≡ self.old.specified }
+        ensures known { self.new.symbols ≡ self.old.symbols }
         ensures keeps { Keeps (store_of self.old) (store_of self.new) [] }
         ensures given { tree_at (store_of self.new) t ≡ tree_at (store_of self.old) t }
         ensures outcome { IfOk result (λ o. IsSpecified self.old
@@ -189,6 +210,7 @@ impl Bank {
     fn normalised(self, given: Given) -> (Bank, Result<Outcome, EngineFault>)
         requires { IsSpecified self (λ y. IsGiven y (store_of self) given.term) }
         ensures same { result.0.specified ≡ self.specified }
+        ensures known { result.0.symbols ≡ self.symbols }
         ensures keeps { Keeps (store_of self) (store_of result.0) [] }
         ensures given { tree_at (store_of result.0) given.term ≡ tree_at (store_of self) given.term }
         ensures outcome { IfOk result.1 (λ o. IsSpecified self
@@ -199,12 +221,16 @@ impl Bank {
             → IsNormalised y (store_of result.0) given.steps u o)) }
         ensures room { IfErr result.1 (IsRoom (store_of result.0)) }
     {
-        let Bank { shared, prepared } = self;
+        let Bank {
+            shared,
+            prepared,
+            symbols,
+        } = self;
         match prepared {
             Some(prepared) => {
                 let mut engine = prepared.over(shared);
                 let outcome = engine.normalise(given.term, given.steps);
-                (Bank::of(engine), outcome)
+                (Bank::of(engine, symbols), outcome)
             }
             None => unreachable!(),
         }
@@ -214,6 +240,7 @@ impl Bank {
     pub(crate) fn eval_term(&mut self, i: u32) -> Result<Term, EngineFault>
         requires { IsSpecified self.old (λ y. i < length y.terms) }
         ensures same { self.new.specified ≡ self.old.specified }
+        ensures known { self.new.symbols ≡ self.old.symbols }
         ensures keeps { Keeps (store_of self.old) (store_of self.new) [] }
         ensures term { IfOk result (λ t. IsSpecified self.old
             (λ y. tree_at (store_of self.new) t ≡ eval_tree y i)) }
@@ -228,6 +255,7 @@ impl Bank {
     fn with_eval_term(self, i: u32) -> (Bank, Result<Term, EngineFault>)
         requires { IsSpecified self (λ y. i < length y.terms) }
         ensures same { result.0.specified ≡ self.specified }
+        ensures known { result.0.symbols ≡ self.symbols }
         ensures keeps { Keeps (store_of self) (store_of result.0) [] }
         ensures term { IfOk result.1 (λ t. IsSpecified self
             (λ y. tree_at (store_of result.0) t ≡ eval_tree y i)) }
@@ -235,12 +263,16 @@ impl Bank {
             (λ y. IsGiven y (store_of result.0) t)) }
         ensures room { IfErr result.1 (IsRoom (store_of result.0)) }
     {
-        let Bank { shared, prepared } = self;
+        let Bank {
+            shared,
+            prepared,
+            symbols,
+        } = self;
         match prepared {
             Some(prepared) => {
                 let mut engine = prepared.over(shared);
                 let term = engine.eval_term(i);
-                (Bank::of(engine), term)
+                (Bank::of(engine, symbols), term)
             }
             None => unreachable!(),
         }

@@ -214,3 +214,112 @@ fn a_handle_is_opened_and_closed(rt: HostRuntime) {
     assert!(rt; Work::new(alloc, 0).is_err());
     assert!(rt; Work::new(alloc, 1_073_741_825).is_err());
 }
+
+/// Two patterns at once, one of which is let go.
+fn matches_patterns(rt: &impl Abort, alloc: Global, work: &mut Work) {
+    let pair = work
+        .pattern(alloc, b"f(<int>,<list>)")
+        .expect(rt, "a pattern");
+    let other = work.pattern(alloc, b"<appl>").expect(rt, "a pattern");
+    assert!(rt; pair != other);
+    let t = read(rt, alloc, work, b"f(a,7)");
+    assert!(rt; work.match_term(alloc, pair, t) == Err(Fault::Unmatched));
+    let t = read(rt, alloc, work, b"f(7,[a]{n})");
+    assert!(rt; work.match_term(alloc, pair, t) == Ok(2));
+    let seven = work.binding(0).expect(rt, "an integer");
+    prints(rt, alloc, work, seven, b"7");
+    let rest = work.binding(1).expect(rt, "a list");
+    prints(rt, alloc, work, rest, b"[[a]{n}]");
+    assert!(rt; work.binding(2) == Err(Fault::Range));
+    assert!(rt; work.make(alloc, pair, &[seven.0, rest.0]) == Ok(t));
+    assert!(rt; work.match_term(alloc, other, seven) == Err(Fault::Unmatched));
+    assert!(rt; work.binding(0) == Ok(seven));
+    assert!(rt; work.match_term(alloc, other, t) == Ok(1));
+    assert!(rt; work.binding(0) == Ok(t));
+    assert!(rt; work.free_pattern(pair) == Ok(()));
+    assert!(rt; work.free_pattern(pair) == Err(Fault::Unknown));
+    assert!(rt; work.match_term(alloc, pair, t) == Err(Fault::Unknown));
+    assert!(rt; work.pattern(alloc, b"[<term>]") == Ok(pair));
+    assert!(rt; work.match_term(alloc, other, t) == Ok(1));
+}
+
+#[test]
+fn patterns_match(rt: HostRuntime) {
+    let alloc = rt.alloc();
+    let mut work = store(&rt, alloc, 100);
+    matches_patterns(&rt, alloc, &mut work);
+}
+
+/// What is refused of a pattern, of a match and of a make.
+fn refuses_patterns(rt: &impl Abort, alloc: Global, work: &mut Work) {
+    assert!(rt; work.pattern(alloc, b"f(1,,2)") == Err(Fault::Syntax));
+    assert!(rt; work.place == 4);
+    assert!(rt; work.rule == 0);
+    assert!(rt; work.pattern(alloc, b"f(<int>{n},<integer>)") == Err(Fault::Rule));
+    assert!(rt; work.rule == 1);
+    assert!(rt; work.pattern(alloc, b"f(<int>{n})") == Err(Fault::Rule));
+    assert!(rt; work.rule == 2);
+    assert!(rt; work.cells() == 0);
+    let pattern = work.pattern(alloc, b"f(<int>)").expect(rt, "a pattern");
+    assert!(rt; work.match_term(alloc, pattern, Term(0)) == Err(Fault::Stale));
+    assert!(rt; work.match_term(alloc, pattern + 1, Term(0)) == Err(Fault::Unknown));
+    let a = read(rt, alloc, work, b"a");
+    assert!(rt; work.make(alloc, pattern, &[]) == Err(Fault::Range));
+    assert!(rt; work.make(alloc, pattern, &[a.0]) == Err(Fault::Kind));
+    assert!(rt; work.make(alloc, pattern, &[99]) == Err(Fault::Stale));
+    assert!(rt; work.make(alloc, pattern + 1, &[]) == Err(Fault::Unknown));
+}
+
+#[test]
+fn patterns_are_refused(rt: HostRuntime) {
+    let alloc = rt.alloc();
+    let mut work = store(&rt, alloc, 100);
+    refuses_patterns(&rt, alloc, &mut work);
+}
+
+/// A binding is known until terms are given up.
+fn forgets_bindings(rt: &impl Abort, alloc: Global, work: &mut Work) {
+    let pattern = work.pattern(alloc, b"<term>").expect(rt, "a pattern");
+    let t = read(rt, alloc, work, b"f(1)");
+    assert!(rt; work.match_term(alloc, pattern, t) == Ok(1));
+    assert!(rt; work.reclaim(alloc, &[99]) == Err(Fault::Stale));
+    assert!(rt; work.binding(0) == Ok(t));
+    assert!(rt; work.reclaim(alloc, &[t.0]) == Ok(()));
+    assert!(rt; work.binding(0) == Err(Fault::Range));
+    assert!(rt; work.match_term(alloc, pattern, t) == Ok(1));
+}
+
+#[test]
+fn bindings_are_forgotten(rt: HostRuntime) {
+    let alloc = rt.alloc();
+    let mut work = store(&rt, alloc, 100);
+    forgets_bindings(&rt, alloc, &mut work);
+}
+
+/// Symbols by their numbers.
+fn applies(rt: &impl Abort, alloc: Global, work: &mut Work) {
+    let f = work.symbol(b"f", false, 2).expect(rt, "a symbol");
+    let g = work.symbol(b"f", true, 2).expect(rt, "a symbol");
+    assert!(rt; f != g);
+    assert!(rt; work.symbol(b"f", false, 2) == Ok(f));
+    assert!(rt; work.symbol(b"a b", false, 0) == Err(Fault::Name));
+    let a = read(rt, alloc, work, b"a");
+    let both = work.apply(f, &[a.0, a.0]).expect(rt, "an application");
+    prints(rt, alloc, work, both, b"f(a,a)");
+    let both = work.apply(g, &[a.0, both.0]).expect(rt, "an application");
+    prints(rt, alloc, work, both, b"\"f\"(a,f(a,a))");
+    assert!(rt; work.apply(f, &[a.0]) == Err(Fault::Range));
+    assert!(rt; work.apply(f, &[a.0, 99]) == Err(Fault::Stale));
+    assert!(rt; work.apply(g + 1, &[]) == Err(Fault::Unknown));
+    assert!(rt; work.reclaim(alloc, &[]) == Ok(()));
+    let b = read(rt, alloc, work, b"b");
+    let both = work.apply(f, &[b.0, b.0]).expect(rt, "an application");
+    prints(rt, alloc, work, both, b"f(b,b)");
+}
+
+#[test]
+fn symbols_are_applied(rt: HostRuntime) {
+    let alloc = rt.alloc();
+    let mut work = store(&rt, alloc, 100);
+    applies(&rt, alloc, &mut work);
+}

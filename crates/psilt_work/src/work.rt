@@ -1,25 +1,30 @@
 //! What a handle holds.
 
-ghost use Rattle.std.specs.Prelude.{◌≡◌, ◌<◌, ◌≤◌, IfOk, IfErr, None};
+ghost use Rattle.std.specs.Prelude.{◌≡◌, ◌<◌, ◌≤◌, [], IfOk, IfErr, None};
 ghost use Rattle.rx_term.specs.Store.{cells};
 ghost use Rattle.rx_shared.specs.State.{IsEmptyStore};
 ghost use Rattle.psilt_work.specs.Banks.{store_of};
 ghost use Rattle.psilt_work.specs.Answers.{MakesRoom};
-ghost use Rattle.psilt_work.specs.Works.{IsSameButBank, IsOpeningFault};
+ghost use Rattle.psilt_work.specs.Works.{IsFresh, IsSameButBank, IsOpeningFault};
 
+use crate::patterns::Patterns;
 use crate::{Bank, Fault};
 use rx_shared::SharedBank;
-use rx_term::{BankFault, TermBank};
+use rx_term::{BankFault, Term, TermBank};
 use std::alloc::Global;
 
 /// The most cells that a bank may have.
 pub const MOST_CELLS: u32 = 1_073_741_824;
 
-/// A bank, the text that was printed last, and why and where a text was refused last.
+/// A bank, the patterns, the text that was printed last, and why and where a text was refused last.
 #[derive(Drop)]
 pub struct Work {
-    /// The bank, and what is specified.
+    /// The bank, what is specified, and the symbols that C knows.
     pub bank: Bank,
+    /// The patterns.
+    pub patterns: Patterns,
+    /// The bindings of the last match, until terms are given up.
+    pub bound: Vec<Term>,
     /// The text that was printed last.
     pub text: Vec<u8>,
     /// Where the text that was refused last leaves its grammar or breaks a rule, in bytes from 0.
@@ -34,7 +39,7 @@ impl Work {
     /// `MOST_CELLS`.
     pub fn new(alloc: Global, cap: u32) -> Result<Box<Work>, Fault>
         ensures empty { IfOk result (λ b. IsEmptyStore (store_of b.value.bank) cap) }
-        ensures bare { IfOk result (λ b. b.value.bank.specified ≡ None) }
+        ensures fresh { IfOk result (λ b. IsFresh b.value) }
         ensures fault { IfErr result (IsOpeningFault cap) }
     {
         if cap == 0 || cap > MOST_CELLS {
@@ -51,10 +56,13 @@ impl Work {
 
     /// Over a bank.
     fn over(alloc: Global, bank: SharedBank) -> Work
-        ensures { result.bank ≡ record { shared = bank; specified = None } }
+        ensures bank { result.bank.shared ≡ bank }
+        ensures fresh { IsFresh result }
     {
         Work {
-            bank: Bank::new(bank),
+            bank: Bank::new(alloc, bank),
+            patterns: Patterns::new(alloc),
+            bound: Vec::new(alloc),
             text: Vec::new(alloc),
             place: 0,
             rule: 0,

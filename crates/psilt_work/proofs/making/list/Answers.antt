@@ -22,6 +22,7 @@ loop-left-preserved c =
       within = omega arith;
       grows = Grows-trans c.loop-left.invariant.grows (Grows-Makes c.in_ok-list-2.ensures.made);
       same = c.in_ok-list-2.ensures.same ∙ c.loop-left.invariant.same;
+      known = c.in_ok-list-2.ensures.known ∙ c.loop-left.invariant.known;
       lists = (
         more n.0 n.1.0,
         subst (λ ns. HaveTrees old (terms_of ns) (to_list (more n.0 n.1.0))) (sym (one_more items c.loop-left.left 0 (omega arith) (omega arith))) n.1.3,

@@ -11,6 +11,7 @@ invariant-loop-left l = record {
   within : l.left ≤ length l.items;
   grows : Grows (store_of l.fn.bank) (store_of l.bank);
   same : l.bank.specified ≡ l.fn.bank.specified;
+  known : l.bank.symbols ≡ l.fn.bank.symbols;
   lists : Lists (store_of l.fn.bank) (terms_of (drop l.left l.items)) (tree_at (store_of l.bank) l.list);
 }
 
