@@ -3,6 +3,7 @@
 
     heap        random requests of the module's heap beside a model, and its helpers beside the C library's
     colours     each colour of a text beside what is behind it: a contrast of 4.5 at least, by day and by night
+    scripts     the scripts that read and lay out a graph, and that read a trace, beside what was worked out by hand
     module      the page's module beside the program: examples, refused texts, 300 random specifications
     browser     Chromium goes through the page; `browser=FOLDER` leaves pictures there
 
@@ -59,6 +60,12 @@ def heap():
             same(f"{it}.c", "all as wanted\n", said)
 
 
+def scripts():
+    if is_there("the scripts", "node"):
+        words = ["node", f"{TOP}/tests/web_scripts.js"]
+        same("web_scripts.js", "all as wanted\n", subprocess.run(words, capture_output=True, text=True, check=False).stdout)
+
+
 def light_of(colour):
     """The relative luminance of a colour, by the definition of the Web Content Accessibility Guidelines."""
     parts = [int(colour[at : at + 2], 16) / 255 for at in (1, 3, 5)]
@@ -74,8 +81,9 @@ def contrast(one, other):
 # What stands on what.
 ON = {
     "paper": ["ink", "quiet", "strong", "bad", "warn", "name"],
-    "sheet": ["ink", "quiet", "strong", "bad", "keyword", "type", "name", "variable", "mark", "comment"],
+    "sheet": ["ink", "quiet", "strong", "bad", "warn", "keyword", "type", "name", "variable", "mark", "comment"],
     "bad-paper": ["ink", "bad"],
+    "here-paper": ["ink", "strong", "bad", "keyword", "type", "name", "variable", "mark", "comment"],
     "strong": ["on-strong"],
 }
 
@@ -115,9 +123,13 @@ def native(path, folder, name, texts, options):
         with open(paths[-1], "wb") as file:
             file.write(text)
     words = [name, *paths]
-    if name.startswith("eval"):
-        limits = [it for key in ("steps", "cells") for it in (f"--{key}", str(options[key]))]
-        words = ["eval", *limits, *["--count"] * options["count"], *paths]
+    if name.startswith(("eval", "trace")):
+        numbers = [key for key in ("steps", "cells", "width") if key in options]
+        limits = [it for key in numbers for it in (f"--{key}", str(options[key]))]
+        flags = [f"--{key}" for key in ("count", "whole") if options.get(key)]
+        words = [name.split("_", 1)[0], *limits, *flags, *paths]
+    elif name == "share_dot":
+        words = ["share", "--dot", "--nodes", str(options["nodes"]), *paths]
     elif name == "match":
         words = [name, "--", os.fsdecode(texts[0]), paths[1]]
     elif name == "make":
@@ -128,6 +140,27 @@ def native(path, folder, name, texts, options):
 
 def runs():
     """The runs that are compared: a name, the texts, and the options."""
+    for name, texts, options in evaluations():
+        yield name, texts, options
+        yield "check", texts[:1], None
+        for looks in ({"whole": False}, {"whole": True, "width": 60}):
+            yield name.replace("eval", "trace"), texts, {**options, **looks, "steps": min(options["steps"], 2000)}
+    formats = text_of("docs/FORMATS.md")
+    texts = [it.encode() for it in quoted(formats[: formats.index("## 4. Specifications")]) if it]
+    for text in texts:
+        yield "aterm", [text], None
+        yield "share", [text], None
+        for nodes in (1, 3, 300):
+            yield "share_dot", [text], {"nodes": nodes}
+    # more output than the first room has: each byte of the name is printed as four
+    yield "aterm", [b'"' + b"\xff" * 5000000 + b'"'], None
+    for pair in zip(texts, texts[1:]):
+        yield "match", [*pair], None
+        yield "make", [*pair], None
+
+
+def evaluations():
+    """The specifications and given terms of these, with limits."""
     for path in sorted(glob.glob(f"{TOP}/examples/**/*.rec", recursive=True)):
         spec = text_of(os.path.relpath(path, TOP)).encode()
         limited = {**USUAL, "steps": 20000} if path.endswith("loop.rec") else USUAL
@@ -149,15 +182,6 @@ def runs():
     for spec, terms, limits in specifications.some(300):
         texts = [spec.encode()] if terms is None else [spec.encode(), terms.encode()]
         yield "eval" if terms is None else "eval_terms", texts, {**USUAL, **limits}
-    texts = [it.encode() for it in quoted(formats[: formats.index("## 4. Specifications")]) if it]
-    for text in texts:
-        yield "aterm", [text], None
-        yield "share", [text], None
-    # more output than the first room has: each byte of the name is printed as four
-    yield "aterm", [b'"' + b"\xff" * 5000000 + b'"'], None
-    for pair in zip(texts, texts[1:]):
-        yield "match", [*pair], None
-        yield "make", [*pair], None
 
 
 def module(path):
@@ -166,7 +190,9 @@ def module(path):
     counts, statuses = 0, {}
     with Module() as of_page, tempfile.TemporaryDirectory() as folder:
         for name, texts, options in runs():
-            wanted, found = native(path, folder, name, texts, options), of_page.answer(name, texts, options)
+            # the lines of a check begin with the name of the file
+            given = [f"{folder}/0".encode(), *texts] if name == "check" else texts
+            wanted, found = native(path, folder, name, texts, options), of_page.answer(name, given, options)
             # a run of the module that met a fault hands nothing over
             wanted = (*wanted[:2], b"") if wanted[0] == 3 else wanted
             same(f"{name} of {[it[:2000] for it in texts]} with {options}", wanted, found)
@@ -182,9 +208,9 @@ def browser(pictures=None):
 
 
 def main():
-    for part in sys.argv[2:] or ["heap", "colours", "module", "browser"]:
+    for part in sys.argv[2:] or ["heap", "colours", "scripts", "module", "browser"]:
         name, _, folder = part.partition("=")
-        known = {"heap": heap, "colours": colours, "module": lambda: module(program())}
+        known = {"heap": heap, "colours": colours, "scripts": scripts, "module": lambda: module(program())}
         known.get(name, lambda: browser(folder))()
     done()
 

@@ -16,7 +16,7 @@ const module_ = new WebAssembly.Module(zlib.gunzipSync(Buffer.from(packed, 'base
 
 function answer({ name, texts, options }) {
   const call = callsOf(new WebAssembly.Instance(module_, {}));
-  const given = options && { ...options, steps: BigInt(options.steps) };
+  const given = options && 'steps' in options ? { ...options, steps: BigInt(options.steps) } : options;
   const begin = performance.now();
   const found = call(name, texts.map((it) => new Uint8Array(Buffer.from(it, 'base64'))), given);
   const milliseconds = performance.now() - begin;
