@@ -63,7 +63,8 @@ def heap():
 def scripts():
     if is_there("the scripts", "node"):
         words = ["node", f"{TOP}/tests/web_scripts.js"]
-        same("web_scripts.js", "all as wanted\n", subprocess.run(words, capture_output=True, text=True, check=False).stdout)
+        said = subprocess.run(words, capture_output=True, text=True, check=False).stdout
+        same("web_scripts.js", "all as wanted\n", said)
 
 
 def light_of(colour):
@@ -107,11 +108,14 @@ class Module:
         self.node.stdin.close()
         self.node.wait()
 
-    def answer(self, name, texts, options):
+    def ask(self, name, texts, options=None):
         texts = [base64.b64encode(it).decode() for it in texts]
         self.node.stdin.write(json.dumps({"name": name, "texts": texts, "options": options}) + "\n")
         self.node.stdin.flush()
-        found = json.loads(self.node.stdout.readline())
+        return json.loads(self.node.stdout.readline())
+
+    def answer(self, name, texts, options):
+        found = self.ask(name, texts, options)
         return found["status"], found["told"], base64.b64decode(found["out"])
 
 
@@ -143,8 +147,10 @@ def runs():
     for name, texts, options in evaluations():
         yield name, texts, options
         yield "check", texts[:1], None
-        for looks in ({"whole": False}, {"whole": True, "width": 60}):
-            yield name.replace("eval", "trace"), texts, {**options, **looks, "steps": min(options["steps"], 2000)}
+        # of a trace first the lines without whole terms, and then those with them
+        for whole in (False, True):
+            limits = {**options, "steps": min(options["steps"], 2000), "width": 400}
+            yield name.replace("eval", "trace"), texts, {**limits, "whole": whole}
     formats = text_of("docs/FORMATS.md")
     texts = [it.encode() for it in quoted(formats[: formats.index("## 4. Specifications")]) if it]
     for text in texts:
@@ -187,7 +193,7 @@ def evaluations():
 def module(path):
     if not is_there("the module", "node") or not has_page("the module"):
         return
-    counts, statuses = 0, {}
+    counts, statuses, places = 0, {}, 0
     with Module() as of_page, tempfile.TemporaryDirectory() as folder:
         for name, texts, options in runs():
             # the lines of a check begin with the name of the file
@@ -196,10 +202,16 @@ def module(path):
             # a run of the module that met a fault hands nothing over
             wanted = (*wanted[:2], b"") if wanted[0] == 3 else wanted
             same(f"{name} of {[it[:2000] for it in texts]} with {options}", wanted, found)
+            if name.startswith("trace") and options["whole"] and found[0] == 0:
+                there = of_page.ask("places", [last, found[2]])
+                same(f"redexes that are not found in the trace of {texts}", 0, there["lost"])
+                places += there["found"]
+            last = found[2]
             counts += 1
             statuses[found[0]] = statuses.get(found[0], 0) + 1
     same("runs end in each way", [0, 1, 3], sorted(statuses))
-    print(f"module: {counts} runs, by status {dict(sorted(statuses.items()))}")
+    same("there are redexes", True, places > 1000)
+    print(f"module: {counts} runs, by status {dict(sorted(statuses.items()))}; {places} redexes in whole terms")
 
 
 def browser(pictures=None):

@@ -139,7 +139,7 @@ def tower(levels, top):
 
 
 def is_firing(browser, number, of_all, redex, around):
-    """This firing is shown: what is rewritten is marked within so many levels of the whole term, and the rule is too."""
+    """This firing is shown: what is rewritten is marked within so many levels of the whole term, and its rule is."""
     text_with(browser, "firings-said", f"Firing {number} of {of_all}")
     line = 11 if redex.startswith("plus(z") else 12
     same(f"whole term {number}", tower(around, redex), browser.text("#firing-before"))
@@ -147,7 +147,8 @@ def is_firing(browser, number, of_all, redex, around):
     same(f"what firing {number} makes", browser.text("#firing-contractum"), browser.text("#firing-after mark"))
     same(f"rule of firing {number}", str(line), browser.text("#spec .numbers .here"))
     begin = "plus(z,Y) -> Y" if line == 11 else "plus(s(X),Y) -> s(plus(X,Y))"
-    same(f"its text {number}", [begin] * 2, [browser.text("#firing-rule"), browser.text("#spec .here-place").replace("|", "")])
+    marked = browser.text("#spec .here-place").replace("|", "")
+    same(f"its text {number}", [begin, begin], [browser.text("#firing-rule"), marked])
 
 
 def steps(browser):
@@ -185,7 +186,7 @@ def other_traces(browser):
     same("no rule fires", "No rule fires.", text_with(browser, "firings-said", "No rule"))
     same("it is its value", "After 0 steps the value is s(z){note}", browser.text("#firings-end"))
     put(browser, "#terms", "[q]")
-    same("a refusal has no trace", True, text_with(browser, "firings-said", "no trace") is not None)
+    same("a refusal has no trace", True, text_with(browser, "firings-said", "What is refused has no trace") is not None)
     put(browser, "#terms", "")
     put(browser, "#spec", text_of("examples/rows/loop.rec"))
     same("a long trace is cut", True, text_with(browser, "firings-end", "The trace ends after 5,000 steps") is not None)
@@ -213,7 +214,8 @@ def graph(browser):
     browser.press(DOWN)
     same("arrows lead down", ["a", ". ."], [browser.do(NODES, ".lit"), browser.do(NODES, ".naming")])
     same("two edges lead there", 2, browser.do("return document.querySelectorAll('.edge.lit').length"))
-    same("it is told", "a (3); arguments [] (5); named by . (2) by its head, . (4) by its head", browser.text("#graph-node"))
+    words = "a (3); arguments [] (5); named by . (2) by its head, . (4) by its head"
+    same("it is told", words, browser.text("#graph-node"))
     browser.press(DOWN)
     same("and to the end", ["[]", ". a"], [browser.do(NODES, ".lit"), browser.do(NODES, ".naming")])
     browser.press(UP)
@@ -222,7 +224,8 @@ def graph(browser):
     many = f"[{','.join(map(str, range(200)))}]"
     browser.do("document.getElementById('term-text').value = arguments[0]", many)
     show_tab(browser, "graph")
-    same("no more than 300 are drawn", "300 different parts are drawn; 101 more are not.", text_with(browser, "graph-said", "more"))
+    words = "300 different parts are drawn; 101 more are not."
+    same("no more than 300 are drawn", words, text_with(browser, "graph-said", "more"))
     browser.do(CHOOSE, "graph-of", 0)
     # s(s(s(z))): four applications, a list for each of three, and the end
     same("of a value too", "8 different parts.", text_with(browser, "graph-said", "8 different"))

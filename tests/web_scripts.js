@@ -86,10 +86,14 @@ function isLaidOut(graph) {
     assert(box.left >= 0 && box.right <= width && box.top >= 0 && box.bottom <= height, `${i} is within the picture`);
     for (let k = i + 1; k < boxes.length; k++) assert(!overlap(box, boxes[k]), `${i} and ${k} are apart`);
   });
+  const above = nodes.map(() => -1);
+  for (const { from, to } of edges) above[to] = Math.max(above[to], nodes[from].layer);
+  assert.deepStrictEqual(nodes.map((it) => it.layer), above.map((it) => it + 1));
   for (const { from, to, points } of edges) {
-    const first = points[0], last = points[points.length - 1], above = boxes[from];
+    assert(points.every(([x, y]) => x > 0 && x < width && y > 0 && y < height), 'it is within the picture');
+    const first = points[0], last = points[points.length - 1], begin = boxes[from];
     assert(nodes[to].layer > nodes[from].layer, `${from} is above ${to}`);
-    assert(first[1] === above.bottom && above.left < first[0] && first[0] < above.right, `one leaves ${from}`);
+    assert(first[1] === begin.bottom && begin.left < first[0] && first[0] < begin.right, `one leaves ${from}`);
     assert(last[1] === boxes[to].top && last[0] === nodes[to].x, `one comes to ${to}`);
     assert.strictEqual(points.length, 2 * (nodes[to].layer - nodes[from].layer));
     for (let i = 1; i < points.length; i++) assert(points[i][1] > points[i - 1][1], 'it goes down');
@@ -113,8 +117,8 @@ function graphs() {
 }
 
 function labels() {
-  const text = '  n0 [label="\\"a\\\\\\"b\\\\134\\""];\n  n1 [label="x&amp;amp;"];\n  rest [label="12 more", style=dashed];\n';
-  const { nodes, rest } = readGraph(text);
+  const first = '  n0 [label="\\"a\\\\\\"b\\\\134\\""];', second = '  n1 [label="x&amp;amp;"];';
+  const { nodes, rest } = readGraph(`${first}\n${second}\n  rest [label="12 more", style=dashed];\n`);
   assert.deepStrictEqual(nodes.map((it) => it.label), ['"a\\"b\\134"', 'x&amp;']);
   assert.strictEqual(rest, 12);
   const [long] = layOut({ nodes: [{ label: 'y'.repeat(25) }], edges: [] }).nodes;
@@ -154,7 +158,8 @@ function traces() {
     { line: 11, column: 3, steps: 2n, redex: 'plus(z,s(z))', contractum: 's(z)',
       before: 's(plus(z,s(z)))', after: 's(s(z))' },
   ]);
-  assert.deepStrictEqual(first.firings.map(placeOfRedex), [{ from: 0, to: 15, until: 15 }, { from: 2, to: 14, until: 6 }]);
+  const [whole, part] = first.firings.map(placeOfRedex);
+  assert.deepStrictEqual([whole, part], [{ from: 0, to: 15, until: 15 }, { from: 2, to: 14, until: 6 }]);
   assert.strictEqual(third.firings.length, 1);
   assert.deepStrictEqual(readTrace('', ''), []);
   const [uncounted] = readTrace('1:1: c -> d\nd\n', '0:0: c\n1:1: d\nd\n');
@@ -167,13 +172,17 @@ function places() {
   assert.deepStrictEqual(at('f(g(c),c)', 'f(g(d1),c)', 'c', 'd1'), { from: 4, to: 5, until: 6 });
   // a name that only begins so is no such part, nor is one that has arguments
   assert.deepStrictEqual(at('f(c1,c(a),c)', 'f(c1,c(a),d)', 'c', 'd'), { from: 10, to: 11, until: 11 });
+  // where it becomes itself, one sees by its own text alone where it stands
+  assert.deepStrictEqual(at('f(bc,cb,c(a),c)', 'f(bc,cb,c(a),c)', 'c', 'c'), { from: 13, to: 14, until: 14 });
   assert.strictEqual(at('f(a)', 'f(b)', 'c', 'b'), null);
   assert.strictEqual(at('f(c)', 'f(e)', 'c', 'd'), null);
   // the whole terms are cut behind the redex, inside of it, and before it
   assert.deepStrictEqual(at('f(c,h(...', 'f(dd,h...', 'c', 'dd'), { from: 2, to: 3, until: 4 });
   assert.deepStrictEqual(at('f(g(a,b...', 'f(d,h(e)...', 'g(a,bb)', 'd'), { from: 2, to: 7, until: 3 });
   assert.strictEqual(at('f(h(e,...', 'f(h(e,...', 'c', 'd'), null);
-  // all four are cut
+  assert.strictEqual(at('f(g(g(...', 'f(g(g(...', 'g(z)', 'g(g(z))'), null);
+  // what it becomes is cut, and with it the term after it; all four are cut
+  assert.deepStrictEqual(at('f(c,h(e))', 'f(g(aaa...', 'c', 'g(aaaaa...'), { from: 2, to: 3, until: 7 });
   assert.deepStrictEqual(at('f(g(aaaa...', 'f(g(bbbb...', 'g(aaaaaa...', 'g(bbbbbb...'), { from: 2, to: 8, until: 8 });
 }
 

@@ -25,14 +25,15 @@ async function showFound(runner) {
   const found = fault ? [] : foundIn(new TextDecoder().decode(out));
   const places = found.map((it) => wordAt(spec.text, characterOf(spec.text, it.line, it.column)));
   spec.mark('found', found.map(({ kind }, i) => ({ ...places[i], kind })));
-  const items = found.slice(0, MOST_FOUND).map((it, i) => element('li', {}, messageOf(it, () => spec.select(places[i]))));
-  byId('found-list').replaceChildren(...items);
+  const items = found.slice(0, MOST_FOUND).map((it, i) => messageOf(it, () => spec.select(places[i])));
+  byId('found-list').replaceChildren(...items.map((it) => element('li', {}, it)));
   byId('found-said').textContent = fault ? `The check stopped: ${fault}.` : summaryOf(found);
 }
 
 function messageOf({ line, column, rule, words, kind }, go) {
+  const spot = element('span', { className: 'spot' }, `Line ${line}, column ${column} `);
   const message = element('button', { type: 'button', className: `message ${kind}` },
-    element('span', { className: 'spot' }, `Line ${line}, column ${column} `), element('strong', {}, rule), ` ${words}`);
+    spot, element('strong', {}, rule), ` ${words}`);
   message.addEventListener('click', go);
   return message;
 }

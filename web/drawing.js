@@ -38,8 +38,8 @@ async function showGraph(runner) {
   const isGood = !fault && status === 0;
   byId('graph-sheet').hidden = !isGood;
   byId('graph-node').textContent = '';
-  if (isGood) drawGraph(readGraph(new TextDecoder().decode(out)));
-  else byId('graph-said').textContent = fault ? `The run stopped: ${fault}.` : 'The term is refused: see the tab “a term”.';
+  if (isGood) { drawGraph(readGraph(new TextDecoder().decode(out))); return; }
+  byId('graph-said').textContent = fault ? `The run stopped: ${fault}.` : 'The term is refused.';
 }
 
 function drawGraph(graph) {
@@ -109,7 +109,8 @@ function nodeBeyond(at, key) {
   const { edges } = drawing.graph, { nodes } = drawing.size;
   if (key === 'ArrowDown') return edges.filter((it) => it.from === at).map((it) => it.to)[0];
   if (key === 'ArrowUp') return edges.filter((it) => it.to === at).map((it) => it.from)[0];
-  const row = [...nodes.keys()].filter((it) => nodes[it].layer === nodes[at].layer).sort((a, b) => nodes[a].x - nodes[b].x);
+  const row = [...nodes.keys()].filter((it) => nodes[it].layer === nodes[at].layer);
+  row.sort((a, b) => nodes[a].x - nodes[b].x);
   return row[row.indexOf(at) + { ArrowLeft: -1, ArrowRight: 1 }[key]];
 }
 

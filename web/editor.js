@@ -61,7 +61,6 @@ class Editor {
   mark(reason, marks) {
     if (!marks.length && !this.marksFor(reason).length) return;
     this.reasons.set(reason, marks);
-    this.area.setAttribute('aria-invalid', String(this.marks.some((it) => it.kind === 'bad')));
     this.draw();
   }
 
@@ -87,6 +86,7 @@ class Editor {
   }
 
   draw() {
+    this.area.setAttribute('aria-invalid', String(this.marks.some((it) => it.kind === 'bad')));
     this.drawText();
     this.drawNumbers();
     this.follow();

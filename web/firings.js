@@ -22,18 +22,13 @@ async function showFirings(runner) {
   const told = await runner.run(tracesAsked());
   if (!told || byId('firings').hidden) return;
   const faults = told.answers ? told.answers.map((it) => it.fault) : [told.error];
-  const [fault] = faults.filter((it) => it);
-  const isGood = !fault && told.answers[0].status === 0;
-  byId('firings-shown').hidden = !isGood;
-  if (!isGood) {
-    editors.spec.mark('firing', []);
-    byId('firings-said').textContent = fault ? `The trace stopped: ${fault}.` : 'There is no trace of what is refused.';
-    return;
-  }
-  const [short, long] = told.answers.map(({ out }) => new TextDecoder().decode(out));
+  const [fault] = faults.filter((it) => it), isGood = !fault && told.answers[0].status === 0;
+  const [short, long] = isGood ? told.answers.map(({ out }) => new TextDecoder().decode(out)) : ['', ''];
   steps.terms = readTrace(short, long);
   listTerms();
   showTermOfTrace();
+  if (isGood) return;
+  byId('firings-said').textContent = fault ? `The trace stopped: ${fault}.` : 'What is refused has no trace.';
 }
 
 function listTerms() {
@@ -55,7 +50,7 @@ function showTermOfTrace() {
   const term = steps.terms[byId('firings-term').selectedIndex];
   steps.firings = term ? term.firings : [];
   byId('firings-shown').hidden = !term;
-  if (term) byId('firings-end').replaceChildren(...endOf(term));
+  byId('firings-end').replaceChildren(...(term ? endOf(term) : []));
   goToFiring(0);
 }
 
@@ -66,8 +61,9 @@ function endOf({ end, more }) {
     const [value, count] = end.split('\t');
     return [`${left}After ${plural(Number(count), 'step')} the value is `, element('code', {}, cut(value))];
   }
-  const limit = plural(Number(steps.limit), 'step'), isAsked = steps.limit === optionsAsked().steps;
-  return [left + (isAsked ? `The limit of ${limit} is reached.` : `The trace ends after ${limit}: the rest is not shown.`)];
+  const limit = plural(Number(steps.limit), 'step');
+  if (steps.limit === optionsAsked().steps) return [`${left}The limit of ${limit} is reached.`];
+  return [`${left}The trace ends after ${limit}: the rest is not shown.`];
 }
 
 // Shows a firing; a number outside stands for the nearest one.
@@ -99,6 +95,7 @@ function showFiring(firing) {
   byId('firing-redex').textContent = redex;
   byId('firing-contractum').textContent = contractum;
   const place = placeOfRedex(firing);
+  byId('firing-where').textContent = `In the whole term${place ? '' : ', behind what is shown of it'}`;
   showMarked('firing-before', before, place && [place.from, place.to]);
   showMarked('firing-after', after, place && [place.from, place.until]);
 }
@@ -122,9 +119,8 @@ function listenToFirings(runner) {
   for (const it of ['shown', 'asked']) panel.addEventListener(it, () => showFirings(runner));
   panel.addEventListener('left', () => editors.spec.mark('firing', []));
   byId('firings-term').addEventListener('change', showTermOfTrace);
-  const goals = { first: () => 0, back: () => steps.at - 1, forth: () => steps.at + 1, last: () => steps.firings.length };
-  for (const [name, goal] of Object.entries(goals)) {
-    byId(`firings-${name}`).addEventListener('click', () => goToFiring(goal()));
+  for (const [name, key] of Object.entries({ first: 'Home', back: 'ArrowLeft', forth: 'ArrowRight', last: 'End' })) {
+    byId(`firings-${name}`).addEventListener('click', () => goToFiring(keyedFiring(key)));
   }
   byId('firings-slider').addEventListener('input', ({ target }) => goToFiring(Number(target.value) - 1));
   byId('firing-go').addEventListener('click', () => editors.spec.select(editors.spec.marksFor('firing')[0]));

@@ -50,6 +50,8 @@ function placeOfRedex({ before, after, redex, contractum }) {
   const [whole, later, part, made] = [before, after, redex, contractum].map(shownOf);
   for (const { index } of whole.text.matchAll(/(?<=^|[(,])/g)) {
     if (!standsAt(whole, index, part) || !isAlike(replaced(whole, index, part, made), later)) continue;
+    // a redex that runs into the dots is one only where it is seen to become another
+    if (index + part.text.length > whole.text.length && whole.text === later.text) return null;
     const end = (of, inside) => Math.min(index + inside.text.length, of.text.length);
     return { from: index, to: end(whole, part), until: end(later, made) };
   }
@@ -69,11 +71,10 @@ function standsAt(whole, at, part) {
   return whole.isCut && rest !== '' && part.text.startsWith(rest);
 }
 
-// The term with another part there, as far as it is shown.
+// The term with another part there. Where that is cut, a term of this beginning is cut no later.
 function replaced(whole, at, part, made) {
-  const text = whole.text.slice(0, at) + made.text;
-  if (part.isCut || made.isCut) return { text, isCut: true };
-  return { text: text + whole.text.slice(at + part.text.length), isCut: whole.isCut };
+  const text = whole.text.slice(0, at) + made.text + whole.text.slice(at + part.text.length);
+  return { text, isCut: whole.isCut };
 }
 
 // Whether two texts may be one, as far as both are shown.
