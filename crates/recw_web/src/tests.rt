@@ -1,5 +1,6 @@
 //! Each export with ample memory, beside what was worked out by hand.
 
+use crate::checking::recw_check;
 use crate::evaluating::{recw_eval, recw_eval_terms};
 use crate::patterns::{recw_make, recw_match};
 use crate::terms::{recw_aterm, recw_share};
@@ -45,6 +46,23 @@ fn evaluations_are_written(rt: HostRuntime) {
     wrote(&rt, status, told, &room, b"s(s(s(z)))\t3\n");
     let status = recw_eval_terms(alloc, ADDITION, b"[z]", &OPTIONS, &mut room, &mut told);
     wrote(&rt, status, told, &room, b"s(s(s(z)))\t3\nz\t0\n");
+}
+
+#[test]
+fn checks_are_written(rt: HostRuntime) {
+    let alloc = rt.alloc();
+    let mut room = [0u8; 80];
+    let mut told = UNTOLD;
+    let status = recw_check(alloc, b"a.rec", ADDITION, &mut room, &mut told);
+    wrote(&rt, status, told, &room, b"");
+    let unused = b"REC-SPEC A SORTS N CONS z : -> N END-SPEC";
+    let status = recw_check(alloc, b"a.rec", unused, &mut room, &mut told);
+    let warning = b"a.rec:1:25: W4: never used: a symbol of no rule and of no term: z\n";
+    wrote(&rt, status, told, &room, warning);
+    let status = recw_check(alloc, b"b", b"REC-SPEC E SORTS : END-SPEC", &mut room, &mut told);
+    assert_eq!(rt; (status, told.has_place), (1, false));
+    assert!(rt; room.starts_with(b"b:1:18: G: no specification has this here\n"));
+    assert_eq!(rt; told.length, 42);
 }
 
 #[test]
