@@ -1,5 +1,7 @@
 pub mod Laid
 pub mod Law
 pub mod Layout
+pub mod Graph
+pub mod Drawing
 pub mod Due
 pub mod Faults

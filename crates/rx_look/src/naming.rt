@@ -40,7 +40,7 @@ fn push_octal(text: &mut Vec<u8>, byte: u8) -> Result<(), AllocError>
 }
 
 /// A name between quotes.
-fn quoted_name(alloc: Global, name: &[u8]) -> Result<Vec<u8>, AllocError>
+pub fn quoted_name(alloc: Global, name: &[u8]) -> Result<Vec<u8>, AllocError>
     ensures quoted { IfOk result (λ text. text.items ≡ name_text name.now true) }
 {
     let mut text = Vec::from_slice(alloc, b"\"")?;

@@ -1,14 +1,18 @@
-//! Runs on the text of one term: printing it over several lines.
+//! Runs on the text of one term: printing it over several lines, and writing its shared graph.
 
-ghost use Rattle.std.specs.Prelude.{◌≡◌, None, IfErr, IfOk, IsSome, OnErr, OnOk};
+ghost use Rattle.std.specs.Prelude.{◌≡◌, ℕ, None, IfErr, IfOk, IsSome, OnErr, OnOk};
+ghost use Rattle.rx_term.specs.Parts.{part_count};
 ghost use Rattle.rx_term.specs.Store.{tree_at};
+ghost use Rattle.rx_term.specs.Walks.{held_tree};
 ghost use Rattle.rx_text.specs.Input.{IsReadable, IsSameInput, remaining_in};
 ghost use Rattle.rx_text.specs.Output.{IsSameOutput, IsWritable, Writes, contents_of};
 ghost use Rattle.rx_run.specs.Run.{EndsFor, IsPlacedFor, IsReadOut};
-ghost use Rattle.rx_run.specs.TermRuns.{IsTermHeld, due_at, lines_at};
-ghost use Rattle.rx_look.specs.Due.{IsIndentedDue, indented_lines};
+ghost use Rattle.rx_run.specs.TermRuns.{IsDueOf, IsTermHeld, due_at, lines_at};
+ghost use Rattle.rx_look.specs.Due.{IsDotDue, IsIndentedDue, IsUnrooted, indented_lines, lines_for};
+ghost use Rattle.rx_look.specs.Graph.{graph_text};
 ghost use Rattle.rx_look.specs.Faults.{BreaksFor, Stops, StopsWriting, TellsRead, TellsWrite};
 
+use crate::drawing::{Extent, write_graph_to};
 use crate::ending::LookFault;
 use crate::indented::write_indented_to;
 use crate::reading::read_term;
@@ -17,6 +21,15 @@ use rx_term::{Term, TermBank};
 use rx_text::{Input, Output};
 use std::alloc::Global;
 use std::io::{Read, Write};
+
+/// How a term is looked at.
+#[derive(Clone, Copy, Drop)]
+pub enum Look {
+    /// Its text over several lines, with so many blanks for each level.
+    Indented(u8),
+    /// Its shared graph, of at most so many nodes.
+    Graph(u32),
+}
 
 /// Reads the text of a term, writes its text over several lines, with so many blanks for each
 /// level, and a line end, and flushes; or the line of its refusal. What a fault leaves of the
@@ -56,25 +69,71 @@ pub fn run_aterm_indented_at<R: Read, W: Write>(
 {
     let mut input = Input::new(input);
     let mut output = Output::new(out);
-    run_on_term(alloc, &mut input, indent, &mut output, place)
+    run_on_term(
+        alloc,
+        &mut input,
+        Look::Indented(indent),
+        &mut output,
+        place,
+    )
+}
+
+/// Reads the text of a term, writes its shared graph for Graphviz, of at most `nodes` nodes, and
+/// flushes; or the line of its refusal. What a fault leaves of the reader is open.
+pub fn run_share_dot<R: Read, W: Write>(
+    alloc: Global,
+    input: &mut R,
+    nodes: u32,
+    out: &mut W,
+) -> Result<Finish, LookFault>
+    ensures output { IfOk result (λ finish. EndsFor (IsDotDue nodes) (R.remaining input.old)
+        finish (W.contents out.old) (W.contents out.new)) }
+    ensures fault { IfErr result (λ fault. BreaksFor (IsDotDue nodes) (R.remaining input.old)
+        fault (W.contents out.old) (W.contents out.new)) }
+    ensures input_read { OnOk result (IsReadOut (R.remaining input.old) (R.remaining input.new)) }
+{
+    let mut place = None;
+    run_share_dot_at(alloc, input, nodes, out, &mut place)
+}
+
+/// The same, with the place of the refusal that was written.
+pub fn run_share_dot_at<R: Read, W: Write>(
+    alloc: Global,
+    input: &mut R,
+    nodes: u32,
+    out: &mut W,
+    place: &mut Option<Place>,
+) -> Result<Finish, LookFault>
+    ensures output { IfOk result (λ finish. EndsFor (IsDotDue nodes) (R.remaining input.old)
+        finish (W.contents out.old) (W.contents out.new)) }
+    ensures place { OnOk result
+        (IsPlacedFor (IsDotDue nodes) (R.remaining input.old) place.new) }
+    ensures fault { IfErr result (λ fault. BreaksFor (IsDotDue nodes) (R.remaining input.old)
+        fault (W.contents out.old) (W.contents out.new)) }
+    ensures no_place { OnErr result (place.new ≡ None) }
+    ensures input_read { OnOk result (IsReadOut (R.remaining input.old) (R.remaining input.new)) }
+{
+    let mut input = Input::new(input);
+    let mut output = Output::new(out);
+    run_on_term(alloc, &mut input, Look::Graph(nodes), &mut output, place)
 }
 
 /// The same from an input to an output. These are asked no more once they refused.
 fn run_on_term<R: Read, W: Write>(
     alloc: Global,
     input: &mut Input<'_, R>,
-    indent: u8,
+    look: Look,
     out: &mut Output<'_, W>,
     place: &mut Option<Place>,
 ) -> Result<Finish, LookFault>
     requires readable { IsReadable input.old }
     requires writable { IsWritable out.old }
-    ensures output { IfOk result (λ finish. EndsFor (IsIndentedDue indent)
+    ensures output { IfOk result (λ finish. EndsFor (IsDueOf (lines_for look))
         (remaining_in R.remaining input.old) finish (contents_of W.contents out.old)
         (contents_of W.contents out.new)) }
     ensures place { OnOk result
-        (IsPlacedFor (IsIndentedDue indent) (remaining_in R.remaining input.old) place.new) }
-    ensures fault { IfErr result (λ fault. BreaksFor (IsIndentedDue indent)
+        (IsPlacedFor (IsDueOf (lines_for look)) (remaining_in R.remaining input.old) place.new) }
+    ensures fault { IfErr result (λ fault. BreaksFor (IsDueOf (lines_for look))
         (remaining_in R.remaining input.old) fault (contents_of W.contents out.old)
         (contents_of W.contents out.new)) }
     ensures no_place { OnErr result (place.new ≡ None) }
@@ -87,7 +146,7 @@ fn run_on_term<R: Read, W: Write>(
 {
     *place = None;
     match empty_bank(alloc, MOST_CELLS) {
-        Ok(bank) => run_owned(alloc, bank, input, indent, out, place),
+        Ok(bank) => run_owned(alloc, bank, input, look, out, place),
         Err(_) => Err(LookFault::Memory),
     }
 }
@@ -97,18 +156,19 @@ fn run_owned<B: TermBank + Drop, R: Read, W: Write>(
     alloc: Global,
     mut bank: B,
     input: &mut Input<'_, R>,
-    indent: u8,
+    look: Look,
     out: &mut Output<'_, W>,
     place: &mut Option<Place>,
 ) -> Result<Finish, LookFault>
+    requires unrooted { (t : ℕ) → (B.store bank).roots t ≡ 0 }
     requires readable { IsReadable input.old }
     requires writable { IsWritable out.old }
-    ensures output { IfOk result (λ finish. EndsFor (IsIndentedDue indent)
+    ensures output { IfOk result (λ finish. EndsFor (IsDueOf (lines_for look))
         (remaining_in R.remaining input.old) finish (contents_of W.contents out.old)
         (contents_of W.contents out.new)) }
     ensures place { OnOk result
-        (IsPlacedFor (IsIndentedDue indent) (remaining_in R.remaining input.old) place.new) }
-    ensures fault { IfErr result (λ fault. BreaksFor (IsIndentedDue indent)
+        (IsPlacedFor (IsDueOf (lines_for look)) (remaining_in R.remaining input.old) place.new) }
+    ensures fault { IfErr result (λ fault. BreaksFor (IsDueOf (lines_for look))
         (remaining_in R.remaining input.old) fault (contents_of W.contents out.old)
         (contents_of W.contents out.new)) }
     ensures no_place { OnErr result (place.new ≡ None) }
@@ -119,26 +179,27 @@ fn run_owned<B: TermBank + Drop, R: Read, W: Write>(
     ensures read_cause { TellsRead input.new result }
     ensures write_cause { TellsWrite out.new result }
 {
-    run_over(alloc, &mut bank, input, indent, out, place)
+    run_over(alloc, &mut bank, input, look, out, place)
 }
 
-/// The same over a bank.
+/// The same over a bank, in which nothing is protected where its cells are counted.
 fn run_over<B: TermBank, R: Read, W: Write>(
     alloc: Global,
     bank: &mut B,
     input: &mut Input<'_, R>,
-    indent: u8,
+    look: Look,
     out: &mut Output<'_, W>,
     place: &mut Option<Place>,
 ) -> Result<Finish, LookFault>
+    requires unrooted { IsUnrooted look (B.store bank.old) }
     requires readable { IsReadable input.old }
     requires writable { IsWritable out.old }
-    ensures output { IfOk result (λ finish. EndsFor (IsIndentedDue indent)
+    ensures output { IfOk result (λ finish. EndsFor (IsDueOf (lines_for look))
         (remaining_in R.remaining input.old) finish (contents_of W.contents out.old)
         (contents_of W.contents out.new)) }
     ensures place { OnOk result
-        (IsPlacedFor (IsIndentedDue indent) (remaining_in R.remaining input.old) place.new) }
-    ensures fault { IfErr result (λ fault. BreaksFor (IsIndentedDue indent)
+        (IsPlacedFor (IsDueOf (lines_for look)) (remaining_in R.remaining input.old) place.new) }
+    ensures fault { IfErr result (λ fault. BreaksFor (IsDueOf (lines_for look))
         (remaining_in R.remaining input.old) fault (contents_of W.contents out.old)
         (contents_of W.contents out.new)) }
     ensures no_place { OnErr result (place.new ≡ None) }
@@ -151,7 +212,7 @@ fn run_over<B: TermBank, R: Read, W: Write>(
 {
     *place = None;
     let reading = read_term(alloc, input, bank)?;
-    write_due(alloc, bank, &reading, indent, out)?;
+    write_due(alloc, bank, &reading, look, out)?;
     out.flush()?;
     *place = reading.place();
     Ok(reading.finish())
@@ -160,17 +221,18 @@ fn run_over<B: TermBank, R: Read, W: Write>(
 /// Writes what is due for what a text came to.
 fn write_due<B: TermBank, W: Write>(
     alloc: Global,
-    bank: &B,
+    bank: &mut B,
     reading: &Reading<Term>,
-    indent: u8,
+    look: Look,
     out: &mut Output<'_, W>,
 ) -> Result<(), LookFault>
-    requires held { IsTermHeld (B.store bank.now) reading.now }
+    requires held { IsTermHeld (B.store bank.old) reading.now }
+    requires unrooted { IsUnrooted look (B.store bank.old) }
     requires open { IsWritable out.old }
     ensures ok { OnOk result (Writes W.contents out.old out.new
-        (due_at (indented_lines indent) (B.store bank.now) reading.now).text) }
+        (due_at (lines_for look) (B.store bank.old) reading.now).text) }
     ensures err { IfErr result (λ fault.
-        Stops fault (due_at (indented_lines indent) (B.store bank.now) reading.now).text
+        Stops fault (due_at (lines_for look) (B.store bank.old) reading.now).text
         (contents_of W.contents out.old) (contents_of W.contents out.new)) }
     ensures writing { IfErr result StopsWriting }
     ensures same { IsSameOutput out.old out.new }
@@ -178,9 +240,35 @@ fn write_due<B: TermBank, W: Write>(
 {
     match reading {
         Reading::Refused(refusal) => write_refusal_to(*refusal, out)?,
-        Reading::Good(t) => write_lines(alloc, bank, *t, indent, out)?,
+        Reading::Good(t) => write_look(alloc, bank, *t, look, out)?,
     }
     Ok(())
+}
+
+/// Writes what is asked for of a term.
+fn write_look<B: TermBank, W: Write>(
+    alloc: Global,
+    bank: &mut B,
+    t: Term,
+    look: Look,
+    out: &mut Output<'_, W>,
+) -> Result<(), LookFault>
+    requires held { IsSome (tree_at (B.store bank.old) t) }
+    requires unrooted { IsUnrooted look (B.store bank.old) }
+    requires open { IsWritable out.old }
+    ensures ok { OnOk result (Writes W.contents out.old out.new
+        (lines_at (lines_for look) (B.store bank.old) t)) }
+    ensures err { IfErr result
+        (λ fault. Stops fault (lines_at (lines_for look) (B.store bank.old) t)
+        (contents_of W.contents out.old) (contents_of W.contents out.new)) }
+    ensures writing { IfErr result StopsWriting }
+    ensures same { IsSameOutput out.old out.new }
+    ensures cause { TellsWrite out.new result }
+{
+    match look {
+        Look::Indented(indent) => write_lines(alloc, bank, t, indent, out),
+        Look::Graph(nodes) => write_graph(alloc, bank, t, nodes, out),
+    }
 }
 
 /// Writes the text of a term over several lines, and a line end.
@@ -205,4 +293,40 @@ fn write_lines<B: TermBank, W: Write>(
     write_indented_to(alloc, bank, t, indent, out)?;
     out.put(b"\n")?;
     Ok(())
+}
+
+/// Writes the shared graph of a term, in a bank that keeps that term alone.
+fn write_graph<B: TermBank, W: Write>(
+    alloc: Global,
+    bank: &mut B,
+    t: Term,
+    nodes: u32,
+    out: &mut Output<'_, W>,
+) -> Result<(), LookFault>
+    requires held { IsSome (tree_at (B.store bank.old) t) }
+    requires unrooted { (r : ℕ) → (B.store bank.old).roots r ≡ 0 }
+    requires open { IsWritable out.old }
+    ensures ok { OnOk result (Writes W.contents out.old out.new
+        (lines_at (graph_text nodes) (B.store bank.old) t)) }
+    ensures err { IfErr result
+        (λ fault. Stops fault (lines_at (graph_text nodes) (B.store bank.old) t)
+        (contents_of W.contents out.old) (contents_of W.contents out.new)) }
+    ensures writing { IfErr result StopsWriting }
+    ensures same { IsSameOutput out.old out.new }
+    ensures cause { TellsWrite out.new result }
+{
+    let cells = keep_alone(bank, t);
+    write_graph_to(alloc, bank, t, Extent { nodes, cells }, out)?;
+    Ok(())
+}
+
+/// Reclaims all but a term; how many different parts it has.
+fn keep_alone<B: TermBank>(bank: &mut B, t: Term) -> u32
+    requires held { IsSome (tree_at (B.store bank.old) t) }
+    requires unrooted { (r : ℕ) → (B.store bank.old).roots r ≡ 0 }
+    ensures kept { tree_at (B.store bank.new) t ≡ tree_at (B.store bank.old) t }
+    ensures counted { result ≡ part_count (held_tree (B.store bank.new) t) }
+{
+    bank.reclaim(&[t]);
+    bank.cells()
 }
