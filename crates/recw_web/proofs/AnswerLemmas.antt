@@ -8,6 +8,8 @@ use Rattle.rx_run.specs.declared.ending.RunFault.{RunFault}
 use Rattle.rec_run.specs.Output.{IsDue, bare}
 use Rattle.rec_check.specs.Runs.{Tells}
 use Rattle.rec_check.specs.declared.runs.Judgement.{Judgement}
+use Rattle.rx_look.specs.Faults.{fault_of_run}
+use Rattle.rx_look.specs.declared.ending.LookFault.{LookFault}
 use Rattle.recw_web.specs.Answers.{Answers, IsCheckDue, IsEvalDue, checked, finish_of}
 use Rattle.recw_web.specs.Handing.{IsHanded, IsWithheld}
 use Rattle.recw_web.specs.declared.options.Options.{Options}
@@ -61,3 +63,10 @@ answers_checked name spec lines (Ok j) end status told old new before b o f t h 
     (record { due = due; is_due = is_due; placed = refl })
 answers_checked name spec lines (Err fault) end status told old new before b o f t h w =
     answers_withheld (IsCheckDue name spec) lines None status told old new (subst (λ z. IfErr z (λ x. IsWithheld status old new)) f w)
+
+-- a run of a graph ended so, or met a fault, and is handed over as a run that does
+pub answers_drawn : (IsDue : Due → Type 0) (lines : List ℕ) (place : Option Place) (drawn : Result Finish LookFault) (end : Result Finish RunFault) (status : ℕ) (told : Told) (old new before : List ℕ) → before ≡ [] → IfOk drawn (λ f. end ≡ Ok f) → IfErr drawn (λ l. (f : RunFault) × (end ≡ Err f) × (fault_of_run f ≡ l)) → IfOk drawn (λ f. Ends IsDue f (Some before) (Some lines)) → OnOk drawn (IsPlaced IsDue place) → IfOk end (λ f. IsHanded f lines place status told old new) → IfErr end (λ f. IsWithheld status old new) → Answers IsDue status told old new
+answers_drawn IsDue lines place (Ok finish) end status told old new before b o f e p h w =
+    answers_by IsDue lines place status told old new (Ok finish) before b (subst (λ z. IfOk z (λ x. IsHanded x lines place status told old new)) o h) tt e p
+answers_drawn IsDue lines place (Err l) end status told old new before b o f e p h w =
+    answers_withheld IsDue lines place status told old new (subst (λ z. IfErr z (λ x. IsWithheld status old new)) f.1 w)

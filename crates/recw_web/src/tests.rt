@@ -3,7 +3,7 @@
 use crate::checking::recw_check;
 use crate::evaluating::{recw_eval, recw_eval_terms};
 use crate::patterns::{recw_make, recw_match};
-use crate::terms::{recw_aterm, recw_share};
+use crate::terms::{recw_aterm, recw_share, recw_share_dot};
 use crate::{Options, Told};
 use std::process::Abort;
 
@@ -78,6 +78,20 @@ fn terms_and_patterns_are_written(rt: HostRuntime) {
     wrote(&rt, status, told, &room, b"yes\n7\n");
     let status = recw_make(alloc, b"f(<int>)", b"[7]", &mut room, &mut told);
     wrote(&rt, status, told, &room, b"f(7)\n");
+}
+
+#[test]
+fn graphs_are_written(rt: HostRuntime) {
+    let alloc = rt.alloc();
+    let mut room = [0u8; 200];
+    let mut told = UNTOLD;
+    let status = recw_share_dot(alloc, b"a", 1, &mut room, &mut told);
+    let graph = b"digraph term {\n  node [shape=box, fontname=\"monospace\"];\n  n0 [label=\"a\"];\n  \
+        rest [label=\"1 more\", style=dashed];\n}\n";
+    wrote(&rt, status, told, &room, graph);
+    let status = recw_share_dot(alloc, b"f(a,)", 1, &mut room, &mut told);
+    assert_eq!(rt; (status, told.at, told.has_place), (1, 4, true));
+    assert!(rt; room.starts_with(b"!term A\n"));
 }
 
 #[test]
