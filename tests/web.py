@@ -193,9 +193,13 @@ def evaluations():
 def module(path):
     if not is_there("the module", "node") or not has_page("the module"):
         return
-    counts, statuses, places = 0, {}, 0
+    counts, statuses, places, last, lacking = 0, {}, 0, b"", set()
     with Module() as of_page, tempfile.TemporaryDirectory() as folder:
+        exports = of_page.ask("exports", [])
         for name, texts, options in runs():
+            if f"recw_{name}" not in exports:
+                lacking.add(name)
+                continue
             # the lines of a check begin with the name of the file
             given = [f"{folder}/0".encode(), *texts] if name == "check" else texts
             wanted, found = native(path, folder, name, texts, options), of_page.answer(name, given, options)
@@ -210,7 +214,9 @@ def module(path):
             counts += 1
             statuses[found[0]] = statuses.get(found[0], 0) + 1
     same("runs end in each way", [0, 1, 3], sorted(statuses))
-    same("there are redexes", True, places > 1000)
+    if lacking:
+        print(f"not tried: {', '.join(sorted(lacking))}, which the page's module lacks")
+    same("there are redexes", True, places > 1000 or "trace" in lacking)
     print(f"module: {counts} runs, by status {dict(sorted(statuses.items()))}; {places} redexes in whole terms")
 
 

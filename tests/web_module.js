@@ -5,7 +5,8 @@
 // Each line of the standard input is {name, texts, options}, the texts in base64; each is answered by a line with the
 // status, what the program says on standard error, and the output in base64. Each run has an instance of its own. A line
 // of the name `places` has the texts of a trace, without whole terms and with them, and is answered by how many of its
-// redexes are found in the whole terms, and by how many are not though these are not cut.
+// redexes are found in the whole terms, and by how many are not though these are not cut. One of the name `exports` is
+// answered by the names of what the module has.
 'use strict';
 const fs = require('fs');
 const readline = require('readline');
@@ -25,6 +26,7 @@ function placesIn(texts) {
 }
 
 function answer({ name, texts, options }) {
+  if (name === 'exports') return WebAssembly.Module.exports(module_).map((it) => it.name);
   if (name === 'places') return placesIn(texts);
   const call = callsOf(new WebAssembly.Instance(module_, {}));
   const given = options && 'steps' in options ? { ...options, steps: BigInt(options.steps) } : options;
