@@ -3,6 +3,7 @@
 
     heap        random requests of the module's heap beside a model, and its helpers beside the C library's
     colours     each colour of a text beside what is behind it: a contrast of 4.5 at least, by day and by night
+    scripts     the scripts that read and lay out a graph, and that read a trace, beside what was worked out by hand
     module      the page's module beside the program: examples, refused texts, 300 random specifications
     browser     Chromium goes through the page; `browser=FOLDER` leaves pictures there
 
@@ -59,6 +60,13 @@ def heap():
             same(f"{it}.c", "all as wanted\n", said)
 
 
+def scripts():
+    if is_there("the scripts", "node"):
+        words = ["node", f"{TOP}/tests/web_scripts.js"]
+        said = subprocess.run(words, capture_output=True, text=True, check=False).stdout
+        same("web_scripts.js", "all as wanted\n", said)
+
+
 def light_of(colour):
     """The relative luminance of a colour, by the definition of the Web Content Accessibility Guidelines."""
     parts = [int(colour[at : at + 2], 16) / 255 for at in (1, 3, 5)]
@@ -74,8 +82,9 @@ def contrast(one, other):
 # What stands on what.
 ON = {
     "paper": ["ink", "quiet", "strong", "bad", "warn", "name"],
-    "sheet": ["ink", "quiet", "strong", "bad", "keyword", "type", "name", "variable", "mark", "comment"],
+    "sheet": ["ink", "quiet", "strong", "bad", "warn", "keyword", "type", "name", "variable", "mark", "comment"],
     "bad-paper": ["ink", "bad"],
+    "here-paper": ["ink", "strong", "bad", "keyword", "type", "name", "variable", "mark", "comment"],
     "strong": ["on-strong"],
 }
 
@@ -99,11 +108,14 @@ class Module:
         self.node.stdin.close()
         self.node.wait()
 
-    def answer(self, name, texts, options):
+    def ask(self, name, texts, options=None):
         texts = [base64.b64encode(it).decode() for it in texts]
         self.node.stdin.write(json.dumps({"name": name, "texts": texts, "options": options}) + "\n")
         self.node.stdin.flush()
-        found = json.loads(self.node.stdout.readline())
+        return json.loads(self.node.stdout.readline())
+
+    def answer(self, name, texts, options):
+        found = self.ask(name, texts, options)
         return found["status"], found["told"], base64.b64decode(found["out"])
 
 
@@ -115,9 +127,13 @@ def native(path, folder, name, texts, options):
         with open(paths[-1], "wb") as file:
             file.write(text)
     words = [name, *paths]
-    if name.startswith("eval"):
-        limits = [it for key in ("steps", "cells") for it in (f"--{key}", str(options[key]))]
-        words = ["eval", *limits, *["--count"] * options["count"], *paths]
+    if name.startswith(("eval", "trace")):
+        numbers = [key for key in ("steps", "cells", "width") if key in options]
+        limits = [it for key in numbers for it in (f"--{key}", str(options[key]))]
+        flags = [f"--{key}" for key in ("count", "whole") if options.get(key)]
+        words = [name.split("_", 1)[0], *limits, *flags, *paths]
+    elif name == "share_dot":
+        words = ["share", "--dot", "--nodes", str(options["nodes"]), *paths]
     elif name == "match":
         words = [name, "--", os.fsdecode(texts[0]), paths[1]]
     elif name == "make":
@@ -128,6 +144,29 @@ def native(path, folder, name, texts, options):
 
 def runs():
     """The runs that are compared: a name, the texts, and the options."""
+    for name, texts, options in evaluations():
+        yield name, texts, options
+        yield "check", texts[:1], None
+        # of a trace first the lines without whole terms, and then those with them
+        for whole in (False, True):
+            limits = {**options, "steps": min(options["steps"], 2000), "width": 400}
+            yield name.replace("eval", "trace"), texts, {**limits, "whole": whole}
+    formats = text_of("docs/FORMATS.md")
+    texts = [it.encode() for it in quoted(formats[: formats.index("## 4. Specifications")]) if it]
+    for text in texts:
+        yield "aterm", [text], None
+        yield "share", [text], None
+        for nodes in (1, 3, 300):
+            yield "share_dot", [text], {"nodes": nodes}
+    # more output than the first room has: each byte of the name is printed as four
+    yield "aterm", [b'"' + b"\xff" * 5000000 + b'"'], None
+    for pair in zip(texts, texts[1:]):
+        yield "match", [*pair], None
+        yield "make", [*pair], None
+
+
+def evaluations():
+    """The specifications and given terms of these, with limits."""
     for path in sorted(glob.glob(f"{TOP}/examples/**/*.rec", recursive=True)):
         spec = text_of(os.path.relpath(path, TOP)).encode()
         limited = {**USUAL, "steps": 20000} if path.endswith("loop.rec") else USUAL
@@ -149,31 +188,36 @@ def runs():
     for spec, terms, limits in specifications.some(300):
         texts = [spec.encode()] if terms is None else [spec.encode(), terms.encode()]
         yield "eval" if terms is None else "eval_terms", texts, {**USUAL, **limits}
-    texts = [it.encode() for it in quoted(formats[: formats.index("## 4. Specifications")]) if it]
-    for text in texts:
-        yield "aterm", [text], None
-        yield "share", [text], None
-    # more output than the first room has: each byte of the name is printed as four
-    yield "aterm", [b'"' + b"\xff" * 5000000 + b'"'], None
-    for pair in zip(texts, texts[1:]):
-        yield "match", [*pair], None
-        yield "make", [*pair], None
 
 
 def module(path):
     if not is_there("the module", "node") or not has_page("the module"):
         return
-    counts, statuses = 0, {}
+    counts, statuses, places, last, lacking = 0, {}, 0, b"", set()
     with Module() as of_page, tempfile.TemporaryDirectory() as folder:
+        exports = of_page.ask("exports", [])
         for name, texts, options in runs():
-            wanted, found = native(path, folder, name, texts, options), of_page.answer(name, texts, options)
+            if f"recw_{name}" not in exports:
+                lacking.add(name)
+                continue
+            # the lines of a check begin with the name of the file
+            given = [f"{folder}/0".encode(), *texts] if name == "check" else texts
+            wanted, found = native(path, folder, name, texts, options), of_page.answer(name, given, options)
             # a run of the module that met a fault hands nothing over
             wanted = (*wanted[:2], b"") if wanted[0] == 3 else wanted
             same(f"{name} of {[it[:2000] for it in texts]} with {options}", wanted, found)
+            if name.startswith("trace") and options["whole"] and found[0] == 0:
+                there = of_page.ask("places", [last, found[2]])
+                same(f"redexes that are not found in the trace of {texts}", 0, there["lost"])
+                places += there["found"]
+            last = found[2]
             counts += 1
             statuses[found[0]] = statuses.get(found[0], 0) + 1
     same("runs end in each way", [0, 1, 3], sorted(statuses))
-    print(f"module: {counts} runs, by status {dict(sorted(statuses.items()))}")
+    if lacking:
+        print(f"not tried: {', '.join(sorted(lacking))}, which the page's module lacks")
+    same("there are redexes", True, places > 1000 or "trace" in lacking)
+    print(f"module: {counts} runs, by status {dict(sorted(statuses.items()))}; {places} redexes in whole terms")
 
 
 def browser(pictures=None):
@@ -182,9 +226,9 @@ def browser(pictures=None):
 
 
 def main():
-    for part in sys.argv[2:] or ["heap", "colours", "module", "browser"]:
+    for part in sys.argv[2:] or ["heap", "colours", "scripts", "module", "browser"]:
         name, _, folder = part.partition("=")
-        known = {"heap": heap, "colours": colours, "module": lambda: module(program())}
+        known = {"heap": heap, "colours": colours, "scripts": scripts, "module": lambda: module(program())}
         known.get(name, lambda: browser(folder))()
     done()
 

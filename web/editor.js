@@ -30,7 +30,7 @@ class Editor {
   // `namedParts` gives what of a text has a colour.
   constructor(place, namedParts) {
     this.namedParts = namedParts;
-    this.marks = [];
+    this.reasons = new Map();
     this.lines = element('div');
     this.copy = element('pre', { ariaHidden: 'true' });
     this.area = element('textarea', { spellcheck: false, autocomplete: 'off', autocapitalize: 'off', wrap: 'off' });
@@ -40,7 +40,7 @@ class Editor {
       element('div', { className: 'sheet' }, this.copy, this.area),
     );
     this.area.addEventListener('scroll', () => this.follow());
-    this.area.addEventListener('input', () => { this.marks = []; this.draw(); });
+    this.area.addEventListener('input', () => { this.reasons.clear(); this.draw(); });
     this.draw();
   }
 
@@ -48,14 +48,19 @@ class Editor {
 
   set text(text) {
     this.area.value = text;
-    this.marks = [];
+    this.reasons.clear();
     this.draw();
   }
 
-  // Marks parts of the text, each `{from, to, kind}`; the kind is a class of its line number too.
-  mark(marks) {
-    this.marks = marks;
-    this.area.setAttribute('aria-invalid', String(marks.some((it) => it.kind === 'bad')));
+  get marks() { return [...this.reasons.values()].flat(); }
+
+  marksFor(reason) { return this.reasons.get(reason) || []; }
+
+  // Marks parts of the text, each `{from, to, kind}`, in place of what was marked for the same reason. The kind is a
+  // class of the line number too.
+  mark(reason, marks) {
+    if (!marks.length && !this.marksFor(reason).length) return;
+    this.reasons.set(reason, marks);
     this.draw();
   }
 
@@ -63,9 +68,16 @@ class Editor {
   select({ from, to }) {
     this.area.focus();
     this.area.setSelectionRange(from, to);
-    const height = parseFloat(getComputedStyle(this.area).lineHeight);
-    const { line } = lineAndColumn(this.text, from);
-    this.area.scrollTop = Math.max(0, (line - 3) * height);
+    this.area.scrollIntoView({ block: 'nearest' });
+    this.reveal({ from });
+  }
+
+  // Shows a part, where it is not seen.
+  reveal({ from }) {
+    const height = parseFloat(getComputedStyle(this.area).lineHeight), { area } = this;
+    const top = (lineAndColumn(this.text, from).line - 1) * height;
+    const isSeen = top >= area.scrollTop && top + 2 * height <= area.scrollTop + area.clientHeight;
+    if (!isSeen) area.scrollTop = Math.max(0, top - 2 * height);
   }
 
   follow() {
@@ -74,6 +86,7 @@ class Editor {
   }
 
   draw() {
+    this.area.setAttribute('aria-invalid', String(this.marks.some((it) => it.kind === 'bad')));
     this.drawText();
     this.drawNumbers();
     this.follow();
@@ -102,8 +115,11 @@ class Editor {
 
   drawNumbers() {
     const { text, marks } = this;
-    const count = text.split('\n').length;
-    const kinds = new Map(marks.map((it) => [lineAndColumn(text, it.from).line, it.kind]));
+    const count = text.split('\n').length, kinds = new Map();
+    for (const { from, kind } of marks) {
+      const { line } = lineAndColumn(text, from);
+      kinds.set(line, kinds.has(line) ? `${kinds.get(line)} ${kind}` : kind);
+    }
     const pieces = [];
     let plain = '';
     for (let line = 1; line <= count; line++) {

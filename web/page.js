@@ -88,6 +88,7 @@ let pause = 0;
 async function evaluate(runner) {
   clearTimeout(pause);
   writeAddress();
+  tellPanel('asked');
   const asked = evaluationAsked();
   const slow = setTimeout(() => say('Evaluating…'), PAUSE);
   showBusy(true);
@@ -96,6 +97,12 @@ async function evaluate(runner) {
   if (!told) return;
   showBusy(false);
   showEvaluation(asked, told);
+  tellPanel('answered');
+}
+
+// Tells the panel that is shown of an event.
+function tellPanel(event) {
+  document.querySelector('[role="tabpanel"]:not([hidden])').dispatchEvent(new Event(event));
 }
 
 function evaluateSoon(runner) {
@@ -105,7 +112,7 @@ function evaluateSoon(runner) {
 
 function showEvaluation({ texts }, { error, answers, milliseconds }) {
   const panel = byId('values');
-  for (const it of Object.values(editors)) it.mark([]);
+  for (const it of Object.values(editors)) it.mark('refused', []);
   if (error) { panel.replaceChildren(); say(`The engine broke off: ${error}`); return; }
   const [{ status, fault, at, out }] = answers;
   last = out;
@@ -138,7 +145,7 @@ function showRefusal(panel, line, at) {
 function showPlace(box, editor, at) {
   const { text } = editor, place = wordAt(text, characterAt(text, at));
   const { line, column } = lineAndColumn(text, place.from);
-  editor.mark([{ ...place, kind: 'bad' }]);
+  editor.mark('refused', [{ ...place, kind: 'bad' }]);
   const found = text.split('\n')[line - 1], length = place.to - place.from, from = Math.max(0, column - 1 - EXCERPT);
   const marked = element('span', { className: 'bad-place' }, found.slice(column - 1, column - 1 + length) || ' ');
   const excerpt = element('pre', {}, found.slice(from, column - 1), marked,
@@ -165,9 +172,14 @@ function rowOf(asked, line, hasSteps) {
   return element('tr', {}, ...cells);
 }
 
+// The terms that are evaluated, each as it is written.
+function termsAsked(isGiven) {
+  return termsOf(editors.spec.text).concat(isGiven ? elementsOf(editors.terms.text) : []);
+}
+
 function showValues(panel, text, isGiven, milliseconds) {
   const lines = text.split('\n').slice(0, -1), hasSteps = lines.some((it) => it.includes('\t'));
-  const asked = termsOf(editors.spec.text).concat(isGiven ? elementsOf(editors.terms.text) : []);
+  const asked = termsAsked(isGiven);
   const heads = ['Term', 'Value', 'Steps'].slice(0, hasSteps ? 3 : 2)
     .map((it) => element('th', { scope: 'col', className: it === 'Steps' ? 'number' : '' }, it));
   const rows = lines.slice(0, MOST_LINES).map((line, i) => rowOf(asked[i], line, hasSteps));
@@ -252,13 +264,13 @@ async function openFile(name, file, then) {
 
 function selectTab(tab) {
   for (const it of byId('tabs').children) {
-    const chosen = it === tab;
+    const chosen = it === tab, panel = byId(it.getAttribute('aria-controls'));
     it.setAttribute('aria-selected', String(chosen));
     it.tabIndex = chosen ? 0 : -1;
-    const panel = byId(it.getAttribute('aria-controls'));
+    if (!chosen && !panel.hidden) panel.dispatchEvent(new Event('left'));
     panel.hidden = !chosen;
-    if (chosen) panel.dispatchEvent(new Event('shown'));
   }
+  tellPanel('shown');
 }
 
 // A tab for each panel whose run the module has.
@@ -334,6 +346,9 @@ function listen(runner, other) {
   window.addEventListener('hashchange', () => { if (readAddress()) now(); });
   for (const it of ['term', 'pattern', 'args']) byId(`${it}-text`).addEventListener('input', () => showTerm(other));
   byId('term').addEventListener('shown', () => showTerm(other));
+  listenToFirings(other);
+  listenToGraph(other);
+  listenToCheck(other);
   listenToFiles(now);
   listExamples(now);
 }

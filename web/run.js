@@ -3,8 +3,10 @@
 
 // The sizes and places of what a call is given and what it tells, in bytes.
 const OPTIONS = { size: 24, steps: 0, cells: 8, memo: 12, reclaim: 16, count: 20 };
+const TRACE_OPTIONS = { size: 32, width: OPTIONS.size, whole: OPTIONS.size + 4 };
 const TOLD = { size: 16, length: 0, at: 8, hasPlace: 12 };
 const USUAL = { steps: 1000000n, cells: 16777216, memo: 65536, reclaim: 262144, count: false };
+const USUAL_TRACE = { ...USUAL, width: 1 << 30, whole: false };
 // What the module answers, beside 0, 1 for a refusal, and 2 where the room is too short.
 const FAULTS = { 3: 'out of memory', 4: 'out of cells' };
 const FIRST_ROOM = 1 << 24;
@@ -27,13 +29,30 @@ function callsOf(instance) {
     return [at, BigInt(text.length)];
   }
 
-  function putOptions(options) {
-    const at = roomFor(OPTIONS.size), from = Number(at), to = view();
+  function putLimits(from, options) {
+    const to = view();
     to.setBigUint64(from + OPTIONS.steps, options.steps, true);
     for (const name of ['cells', 'memo', 'reclaim']) to.setUint32(from + OPTIONS[name], options[name], true);
     to.setUint8(from + OPTIONS.count, options.count ? 1 : 0);
+  }
+
+  function putOptions(options) {
+    const at = roomFor(OPTIONS.size);
+    putLimits(Number(at), { ...USUAL, ...options });
     return [at];
   }
+
+  function putTraceOptions(options) {
+    const at = roomFor(TRACE_OPTIONS.size), from = Number(at), all = { ...USUAL_TRACE, ...options };
+    putLimits(from, all);
+    view().setUint32(from + TRACE_OPTIONS.width, all.width, true);
+    view().setUint8(from + TRACE_OPTIONS.whole, all.whole ? 1 : 0);
+    return [at];
+  }
+
+  // what stands behind the texts of a run
+  const PUTS = { eval: putOptions, eval_terms: putOptions, trace: putTraceOptions, trace_terms: putTraceOptions };
+  PUTS.share_dot = ({ nodes }) => [nodes];
 
   function told(at) {
     const from = Number(at), of = view();
@@ -58,7 +77,7 @@ function callsOf(instance) {
 
   return function call(name, texts, options) {
     try {
-      const given = texts.flatMap(put).concat(options ? putOptions({ ...USUAL, ...options }) : []);
+      const given = texts.flatMap(put).concat(PUTS[name] ? PUTS[name](options) : []);
       const first = callWithin(FIRST_ROOM, name, given);
       return answer(first.number === 2 ? callWithin(first.length, name, given) : first);
     } catch (error) {

@@ -1,12 +1,16 @@
 -- What the host is answered, by what was handed over.
-use Rattle.std.proofs.Common.{◌≡◌, ◌^◌, Bool, ℕ, List, [], Option, Some, Result, Ok, Err, IfOk, IfErr, OnOk, length, min, ap, subst, ◌∙◌, arith}
+use Rattle.std.proofs.Common.{◌≡◌, ◌^◌, refl, Bool, ℕ, List, [], Option, Some, None, Result, Ok, Err, IfOk, IfErr, OnOk, length, min, ap, subst, ◌∙◌, arith}
 use Rattle.rx_run.specs.Due.{Due}
 use Rattle.rx_run.specs.Run.{Ends, IsPlaced}
 use Rattle.rx_run.specs.declared.ending.Finish.{Finish}
 use Rattle.rx_run.specs.declared.ending.Place.{Place}
 use Rattle.rx_run.specs.declared.ending.RunFault.{RunFault}
 use Rattle.rec_run.specs.Output.{IsDue, bare}
-use Rattle.recw_web.specs.Answers.{Answers, IsEvalDue}
+use Rattle.rec_check.specs.Runs.{Tells}
+use Rattle.rec_check.specs.declared.runs.Judgement.{Judgement}
+use Rattle.rx_look.specs.Faults.{fault_of_run}
+use Rattle.rx_look.specs.declared.ending.LookFault.{LookFault}
+use Rattle.recw_web.specs.Answers.{Answers, IsCheckDue, IsEvalDue, checked, finish_of}
 use Rattle.recw_web.specs.Handing.{IsHanded, IsWithheld}
 use Rattle.recw_web.specs.declared.options.Options.{Options}
 use Rattle.recw_web.specs.declared.told.Told.{Told}
@@ -46,3 +50,23 @@ module _ (IsDue : Due → Type 0) (lines : List ℕ) (place : Option Place) (sta
 pub answers_asked : (asked : Options) (count : Bool) (steps : ℕ) (spec : List ℕ) (terms : Option (List ℕ)) (status : ℕ) (told : Told) (old new : List ℕ) → steps ≡ min asked.steps (10 ^ 18) → count ≡ asked.count → Answers (IsDue spec terms (bare count) steps) status told old new → Answers (IsEvalDue asked spec terms) status told old new
 answers_asked asked count steps spec terms status told old new e f h =
     subst (λ n. Answers (IsDue spec terms (bare asked.count) n) status told old new) e (subst (λ b. Answers (IsDue spec terms (bare b) steps) status told old new) f h)
+
+-- a check ended so, or met a fault, and is handed over as a run that does
+pub answers_checked : (name spec lines : List ℕ) (judged : Result Judgement RunFault) (end : Result Finish RunFault) (status : ℕ) (told : Told) (old new before : List ℕ) → before ≡ [] → IfOk judged (λ j. end ≡ Ok (finish_of j)) → IfErr judged (λ f. end ≡ Err f) → IfOk judged (λ j. Tells name spec j (Some before) (Some lines)) → IfOk end (λ f. IsHanded f lines None status told old new) → IfErr end (λ f. IsWithheld status old new) → Answers (IsCheckDue name spec) status told old new
+answers_checked name spec lines (Ok j) end status told old new before b o f t h w =
+    let g = subst (λ z. Tells name spec j (Some z) (Some lines)) b t in
+    let due = checked name spec j g.found in
+    let is_due : IsCheckDue name spec due = record { found = g.found; end = j; examined = g.examined; is_due = refl } in
+    answers_handed (IsCheckDue name spec) lines None status told old new (finish_of j)
+    (subst (λ z. IfOk z (λ x. IsHanded x lines None status told old new)) o h)
+    (record { due = due; is_due = is_due; ends = refl; written = g.written })
+    (record { due = due; is_due = is_due; placed = refl })
+answers_checked name spec lines (Err fault) end status told old new before b o f t h w =
+    answers_withheld (IsCheckDue name spec) lines None status told old new (subst (λ z. IfErr z (λ x. IsWithheld status old new)) f w)
+
+-- a run of a graph ended so, or met a fault, and is handed over as a run that does
+pub answers_drawn : (IsDue : Due → Type 0) (lines : List ℕ) (place : Option Place) (drawn : Result Finish LookFault) (end : Result Finish RunFault) (status : ℕ) (told : Told) (old new before : List ℕ) → before ≡ [] → IfOk drawn (λ f. end ≡ Ok f) → IfErr drawn (λ l. (f : RunFault) × (end ≡ Err f) × (fault_of_run f ≡ l)) → IfOk drawn (λ f. Ends IsDue f (Some before) (Some lines)) → OnOk drawn (IsPlaced IsDue place) → IfOk end (λ f. IsHanded f lines place status told old new) → IfErr end (λ f. IsWithheld status old new) → Answers IsDue status told old new
+answers_drawn IsDue lines place (Ok finish) end status told old new before b o f e p h w =
+    answers_by IsDue lines place status told old new (Ok finish) before b (subst (λ z. IfOk z (λ x. IsHanded x lines place status told old new)) o h) tt e p
+answers_drawn IsDue lines place (Err l) end status told old new before b o f e p h w =
+    answers_withheld IsDue lines place status told old new (subst (λ z. IfErr z (λ x. IsWithheld status old new)) f.1 w)

@@ -1,5 +1,6 @@
 -- What a host is answered of a run over texts in its memory.
 --     IsEvalDue options spec terms d      what is due of an evaluation
+--     IsCheckDue name spec d              what is due of a check
 --     Answers IsDue status told old new   0 says that the run is done, 1 that a text is refused,
 --                                         2 that the room is too short for what is due, 3 and 4
 --                                         that memory or cells ran out
@@ -10,6 +11,11 @@ use Rattle.rx_run.specs.declared.ending.Finish.{Finish}
 use Rattle.rx_run.specs.declared.ending.Finish.TheVariants.{Done, Refused}
 use Rattle.rx_run.specs.declared.ending.Place.{Place}
 use Rattle.rec_run.specs.Output.{IsDue, bare}
+use Rattle.rec_check.specs.Findings.{Found}
+use Rattle.rec_check.specs.Lines.{lines_of}
+use Rattle.rec_check.specs.Runs.{Examined}
+use Rattle.rec_check.specs.declared.runs.Judgement.{Judgement}
+use Rattle.rec_check.specs.declared.runs.Judgement.TheVariants as judged
 use Rattle.recw_web.specs.declared.options.Options.{Options}
 use Rattle.recw_web.specs.declared.told.Told.{Told}
 
@@ -17,6 +23,24 @@ use Rattle.recw_web.specs.declared.told.Told.{Told}
 abbrev pub IsEvalDue : Options → List ℕ → Option (List ℕ) → Due → Type 0
 IsEvalDue options spec terms d =
     IsDue spec terms (bare options.count) (min options.steps (10 ^ 18)) d
+
+-- how a check ends: warnings refuse nothing
+abbrev pub finish_of : Judgement → Finish
+finish_of judged.Good = Done
+finish_of judged.Warned = Done
+finish_of judged.Refused = Refused
+
+-- the lines of what is found are due, and no place beside them
+abbrev pub checked : List ℕ → List ℕ → Judgement → List Found → Due
+checked name spec end found =
+    record { finish = finish_of end; text = lines_of name spec found; place = None }
+
+-- what is due for a specification of this name that is checked
+pub record IsCheckDue (name spec : List ℕ) (d : Due) : Type 0 where
+  pub found : List Found
+  pub end : Judgement
+  pub examined : Examined spec found end
+  pub is_due : d ≡ checked name spec end found
 
 -- the place of a refusal, where one is told
 abbrev pub told_place : Told → Option ℕ

@@ -2,6 +2,7 @@
 //! is due to the front of a room of the host's, and answers a number.
 #![tactic(auto)]
 
+pub mod checking;
 pub mod evaluating;
 mod handing;
 mod options;

@@ -1,8 +1,9 @@
 //! Each export with ample memory, beside what was worked out by hand.
 
+use crate::checking::recw_check;
 use crate::evaluating::{recw_eval, recw_eval_terms};
 use crate::patterns::{recw_make, recw_match};
-use crate::terms::{recw_aterm, recw_share};
+use crate::terms::{recw_aterm, recw_share, recw_share_dot};
 use crate::{Options, Told};
 use std::process::Abort;
 
@@ -48,6 +49,23 @@ fn evaluations_are_written(rt: HostRuntime) {
 }
 
 #[test]
+fn checks_are_written(rt: HostRuntime) {
+    let alloc = rt.alloc();
+    let mut room = [0u8; 80];
+    let mut told = UNTOLD;
+    let status = recw_check(alloc, b"a.rec", ADDITION, &mut room, &mut told);
+    wrote(&rt, status, told, &room, b"");
+    let unused = b"REC-SPEC A SORTS N CONS z : -> N END-SPEC";
+    let status = recw_check(alloc, b"a.rec", unused, &mut room, &mut told);
+    let warning = b"a.rec:1:25: W4: never used: a symbol of no rule and of no term: z\n";
+    wrote(&rt, status, told, &room, warning);
+    let status = recw_check(alloc, b"b", b"REC-SPEC E SORTS : END-SPEC", &mut room, &mut told);
+    assert_eq!(rt; (status, told.has_place), (1, false));
+    assert!(rt; room.starts_with(b"b:1:18: G: no specification has this here\n"));
+    assert_eq!(rt; told.length, 42);
+}
+
+#[test]
 fn terms_and_patterns_are_written(rt: HostRuntime) {
     let alloc = rt.alloc();
     let mut room = [0u8; 40];
@@ -60,6 +78,20 @@ fn terms_and_patterns_are_written(rt: HostRuntime) {
     wrote(&rt, status, told, &room, b"yes\n7\n");
     let status = recw_make(alloc, b"f(<int>)", b"[7]", &mut room, &mut told);
     wrote(&rt, status, told, &room, b"f(7)\n");
+}
+
+#[test]
+fn graphs_are_written(rt: HostRuntime) {
+    let alloc = rt.alloc();
+    let mut room = [0u8; 200];
+    let mut told = UNTOLD;
+    let status = recw_share_dot(alloc, b"a", 1, &mut room, &mut told);
+    let graph = b"digraph term {\n  node [shape=box, fontname=\"monospace\"];\n  n0 [label=\"a\"];\n  \
+        rest [label=\"1 more\", style=dashed];\n}\n";
+    wrote(&rt, status, told, &room, graph);
+    let status = recw_share_dot(alloc, b"f(a,)", 1, &mut room, &mut told);
+    assert_eq!(rt; (status, told.at, told.has_place), (1, 4, true));
+    assert!(rt; room.starts_with(b"!term A\n"));
 }
 
 #[test]

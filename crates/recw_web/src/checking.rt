@@ -1,0 +1,39 @@
+//! Checks.
+
+ghost use Rattle.std.specs.Prelude.{◌≡◌, IfErr, IfOk};
+ghost use Rattle.recw_web.specs.Answers.{Answers, IsCheckDue, finish_of};
+
+use crate::handing::hand_over;
+use crate::told::Told;
+use rec_check::{Judgement, check_text};
+use rec_run::{Finish, RunFault};
+use std::alloc::Global;
+
+/// Checks a specification. The lines begin with the name, and each has its place, so none is told
+/// beside them. Warnings refuse nothing.
+#[unsafe(no_mangle)]
+pub extern "C" fn recw_check(
+    alloc: Global,
+    name: &[u8],
+    spec: &[u8],
+    out: &mut [u8],
+    told: &mut Told,
+) -> u32
+    ensures { Answers (IsCheckDue name.now spec.now) result told.new out.old out.new }
+{
+    let mut lines = Vec::new(alloc);
+    let judged = check_text(alloc, name, spec, &mut lines);
+    hand_over(finished(judged), lines, None, out, told)
+}
+
+/// The end of a run that came to a judgement.
+fn finished(judged: Result<Judgement, RunFault>) -> Result<Finish, RunFault>
+    ensures ended { IfOk judged (λ end. result ≡ Ok (finish_of end)) }
+    ensures stopped { IfErr judged (λ fault. result ≡ Err fault) }
+{
+    match judged {
+        Ok(Judgement::Good | Judgement::Warned) => Ok(Finish::Done),
+        Ok(Judgement::Refused) => Ok(Finish::Refused),
+        Err(fault) => Err(fault),
+    }
+}
