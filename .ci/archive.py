@@ -66,11 +66,12 @@ def main():
     how = {"cwd": f"{TOP}/crates/{NAME}", "stdout": subprocess.PIPE, "stderr": subprocess.STDOUT, "text": True}
     os.makedirs(os.path.dirname(archive), exist_ok=True)
     ran = subprocess.run(words(kit, known), check=False, **how)
-    print(ran.stdout[-3000:].rstrip().splitlines()[-1] if ran.returncode == 0 else ran.stdout[-3000:])
-    # 2 is a wrong call: of another kit, say, whose words are others
-    if ran.returncode == 2:
+    told = ran.stdout.rstrip().splitlines()
+    # that the crate is proved, rt ci has said: what fails here is the call, of another kit's words, say
+    if ran.returncode != 0 or not os.path.exists(archive):
+        print("\n".join(told[-20:]))
         cannot("rattle builds no archive of what rt ci left")
-    sys.exit(ran.returncode)
+    print(told[-1] if told else archive)
 
 
 if __name__ == "__main__":
