@@ -37,7 +37,8 @@ pub extern "C" fn psilt_unprotect(alloc: Global, psilt: &mut Psilt, term: u32) -
 pub extern "C" fn psilt_reclaim(alloc: Global, psilt: &mut Psilt, kept: &[u32]) -> u32
     ensures answer { OnWork psilt.old psilt.new result
         (λ v w. Keeps (store_of v.bank) (store_of w.bank) kept.now (told result tt)
-        × OnOk (told result tt) (w.bound.items ≡ []) × OnErr (told result tt) (w.bound ≡ v.bound)
+        × OnOk (told {X = Unit {0}} result tt) (w.bound.items ≡ [])
+        × OnErr (told {X = Unit {0}} result tt) (w.bound ≡ v.bound)
         × IsSameButBound v w) }
 {
     done(on_work!(psilt, alloc, work, work.reclaim(alloc, kept)))
