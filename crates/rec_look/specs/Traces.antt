@@ -12,8 +12,8 @@ use Rattle.rec_run.specs.Run.{Texts}
 use Rattle.rec_trace.specs.Lines.{begins_with_digit, joined, term_lines}
 use Rattle.rec_look.specs.declared.trace.options.TraceOptions.{TraceOptions}
 
--- how traces look: whether the whole term stands behind each firing, whether the steps spent do, and
--- how many bytes a term has at most
+-- how traces look: whether the whole term stands behind each firing, whether the steps spent do,
+-- and how many bytes a term has at most
 pub record Shown : Type 0 where
   pub whole : Bool
   pub counted : Bool
@@ -32,7 +32,8 @@ task_lines source y shown n task =
 abbrev pub task_text : List ℕ → Spec → Shown → ℕ → Task → List ℕ
 task_text source y shown n task = joined (task_lines source y shown n task)
 
--- the lines of the specification's own terms, and then of the given ones, each with the whole budget
+-- the lines of the specification's own terms, and then of the given ones, each with the whole
+-- budget
 abbrev pub trace_lines : List ℕ → Spec → List Tree → Shown → ℕ → List (List ℕ)
 trace_lines source y given shown n = flat_map (task_lines source y shown n) (tasks y given)
 

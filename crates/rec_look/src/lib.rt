@@ -1,5 +1,5 @@
-//! Looking at evaluations: the whole runs of traces, from the texts that come in to the lines that go
-//! out.
+//! Looking at evaluations: the whole runs of traces, from the texts that come in to the lines that
+//! go out.
 #![tactic(auto)]
 
 pub mod laws;

@@ -1,5 +1,5 @@
-//! The trace of a term: its first line where whole terms are shown, those of the rules that fire, and
-//! that of what the term comes to.
+//! The trace of a term: its first line where whole terms are shown, those of the rules that fire,
+//! and that of what the term comes to.
 
 ghost use Rattle.std.specs.Prelude.{◌≡◌, ◌++◌, ℕ, IfErr, IfOk, List, OnOk, codes, false};
 ghost use Rattle.rx_text.specs.Output.{IsSameOutput, IsWritable};

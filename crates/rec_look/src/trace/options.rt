@@ -11,8 +11,8 @@ use rec_trace::Look;
 pub struct TraceOptions {
     /// What it may use. `count` asks for the steps spent behind each line; the memo is not used.
     pub run: RunOptions,
-    /// Whether each firing is shown by the whole term behind it, and the term itself before the first
-    /// one, in place of the redex and what that becomes.
+    /// Whether each firing is shown by the whole term behind it, and the term itself before the
+    /// first one, in place of the redex and what that becomes.
     pub whole: bool,
     /// The most bytes of a term that a firing shows; a longer text ends in `...`.
     pub width: Option<u32>,

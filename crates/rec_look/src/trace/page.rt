@@ -18,7 +18,8 @@ fn line_ends(text: &[u8]) -> u64
     text.iter().filter(|byte| **byte == b'\n').count() as u64
 }
 
-/// Writes a text, and counts its line ends. More of them than a number can count are want of memory.
+/// Writes a text, and counts its line ends. More of them than a number can count are want of
+/// memory.
 pub(crate) fn print<W: Write>(
     text: &[u8],
     out: &mut Output<'_, W>,

@@ -1,6 +1,7 @@
 //! The texts of a run of traces: a specification, and given terms.
 
-ghost use Rattle.std.specs.Prelude.{◌≡◌, ℕ, IfErr, IfOk, IfSome, List, None, OnOk, Some, option_map};
+ghost use Rattle.std.specs.Prelude.{◌≡◌, ℕ, IfErr, IfOk, IfSome, List, None, OnOk, Some};
+ghost use Rattle.std.specs.Prelude.{option_map};
 ghost use Rattle.rx_term.specs.Store.{Store};
 ghost use Rattle.rec_sorts.specs.SpecRules.{Good, Verdict};
 ghost use Rattle.rx_run.specs.Run.{IsReadOut, StopsReading, StopsUnwritten};

@@ -88,8 +88,8 @@ fn step_text<B: TermBank>(
     }
 }
 
-/// Goes on to the next rule that fires, and writes its line; or answers what the term comes to, where
-/// none fires any more.
+/// Goes on to the next rule that fires, and writes its line; or answers what the term comes to,
+/// where none fires any more.
 fn write_turn<B: TermBank, W: Write>(
     alloc: Global,
     engine: &mut Engine<B>,
