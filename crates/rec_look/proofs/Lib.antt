@@ -1,0 +1,9 @@
+mod SpotLemmas
+mod PageLemmas
+mod TellingLemmas
+mod StepLemmas
+mod BeginLemmas
+mod TaskLemmas
+mod GivenLemmas
+mod DueLemmas
+mod LawLemmas

@@ -1,0 +1,138 @@
+-- What a trace's firings and its end come to as text.
+use Rattle.std.proofs.Common.{refl, sym, ap, ap₂, subst, ◌∙◌, arith, append_assoc, append-nil}
+use Rattle.std.proofs.lemmas.List.Folds.{flat_map-map}
+use Rattle.std.proofs.lemmas.List.Concat.{flat_map-append}
+use Rattle.std.specs.Prelude.{ℕ, ◌≡◌, ◌+◌, ◌-◌, ◌<◌, ◌≤◌, Bool, true, false, List, [], ◌∷◌, ◌++◌, Option, Some, None, codes, decimal, flat_map, is_some, length, map, unwrap_or}
+use Rattle.rx_term.specs.Tree.{Tree, Trees, list_of, none}
+use Rattle.rx_term.specs.Store.{Store, tree_at}
+use Rattle.rx_term.specs.declared.Term.{Term as Reference}
+use Rattle.rx_text.specs.Canon.{canon}
+use Rattle.rec_syntax.specs.Syntax.{Spec, Term}
+use Rattle.rec_sorts.specs.Binding.{tree_of}
+use Rattle.rec_sorts.specs.Evaluation as evaluation
+use Rattle.rec_sorts.specs.Evaluation.{Eval, Done, Over}
+use Rattle.rec_sorts.specs.Laws.{Every}
+use Rattle.rec_sorts.specs.SpecRules.{fault}
+use Rattle.rec_engine.proofs.ValueTreeLemmas.{applied_unannotated, value_is_applied}
+use Rattle.rec_engine.specs.declared.engine.Outcome.{Outcome}
+use Rattle.rec_engine.specs.declared.engine.Outcome.TheVariants.{Value, Limit}
+use Rattle.rx_run.specs.Due.{steps_text}
+use Rattle.rec_run.specs.EvaluatedLines.{HoldsValue}
+use Rattle.rec_run.specs.GivenTerms.{item_at}
+use Rattle.rec_run.specs.Output.{Task, notes_text}
+use Rattle.rec_run.proofs.SpecLineLemmas.{canon_annotated}
+use Rattle.rec_trace.specs.Lines.{joined, spent_text, value_line, firing_line, whole_line, whole_text}
+use Rattle.rec_trace.specs.States.{firing_then}
+use Rattle.rec_trace.specs.Trace.{Arrives, Firing, Follow, Trace, Traced, quiet}
+use Rattle.rec_trace.proofs.TraceLemmas.{trace_law}
+use Rattle.rec_look.specs.Telling.{IsEnd, IsWithin, LeavesWithin, end_line, end_text, first_text, step_line, steps_lines, told}
+use Rattle.rec_look.specs.Traces.{Shown, task_text}
+
+-- ---- no more is left than there was at first
+
+within-follow : (y : Spec) (n : ℕ) (t : Tree) (fs : List Firing) (u : Tree) (left : ℕ) → Follow y n t fs u left → Every (λ (f : Firing). f.left ≤ n) fs × (left ≤ n)
+within-follow y n t [] u left h = (tt, h.1)
+within-follow y n t (f ∷ fs) u left h =
+    let rest = within-follow y f.left f.after fs u left h.2 in
+    let low = h.1.spends in
+    let end = rest.1 in (
+      (omega (arith, low), weaker fs rest.0 (omega (arith, low))),
+      omega (arith, low, end),
+    )
+  where
+    weaker : (fs : List Firing) → Every (λ (g : Firing). g.left ≤ f.left) fs → f.left ≤ n → Every (λ (g : Firing). g.left ≤ n) fs
+    weaker [] k le = tt
+    weaker (g ∷ gs) k le = let first = k.0 in (omega (arith, first, le), weaker gs k.1 le)
+
+-- of any outcome
+within-arrives : (y : Spec) (n : ℕ) (t : Tree) (fs : List Firing) (o : evaluation.Outcome Tree) → Arrives y n t (record { firings = fs; outcome = o }) → IsWithin n (record { firings = fs; outcome = o })
+within-arrives y n t fs (Done v left) h = let k = within-follow y n t fs v left h in record { firings = k.0; outcome = k.1 }
+within-arrives y n t fs Over h = record { firings = (within-follow y n t fs h.0 0 h.1).0; outcome = tt }
+
+pub trace-within : (y : Spec) → fault y ≡ None → (n : ℕ) (t : Term) → IsWithin n (Trace y n t)
+trace-within y good n t = let r = Trace y n t in within-arrives y n (tree_of t) r.firings r.outcome (trace_law y good n t).1
+
+pub within-next : (n : ℕ) (f : Firing) (t r : Traced Tree) → r ≡ firing_then f t → IsWithin n r → (f.left ≤ n) × IsWithin n t
+within-next n f t r e h = let k = subst (IsWithin n) e h in (k.firings.0, record { firings = k.firings.1; outcome = k.outcome })
+
+pub within-end : (n : ℕ) (v : Tree) (left : ℕ) (r : Traced Tree) → r ≡ quiet (Done v left) → IsWithin n r → left ≤ n
+within-end n v left r e h = (subst (IsWithin n) e h).outcome
+
+-- ---- texts
+
+-- that of one firing more
+pub told-next : (source : List ℕ) (shown : Shown) (n : ℕ) (notes : List ℕ) (f : Firing) (t r : Traced Tree) → r ≡ firing_then f t → told source shown n notes r ≡ step_line source shown n f ++ told source shown n notes t
+told-next source shown n notes f t r e =
+    ap (told source shown n notes) e ∙ append_assoc (step_line source shown n f) (steps_lines source shown n t.firings) (end_line shown.counted n notes t.outcome)
+
+pub steps-next : (source : List ℕ) (shown : Shown) (n : ℕ) (f : Firing) (t r : Traced Tree) → r ≡ firing_then f t → steps_lines source shown n r.firings ≡ step_line source shown n f ++ steps_lines source shown n t.firings
+steps-next source shown n f t r e = ap (λ (z : Traced Tree). steps_lines source shown n z.firings) e
+
+-- a value that was come to is held, and is written as the trace's
+held-value : (w : Store) (r : Reference) (v : Tree) → tree_at w r ≡ Some v → item_at w r ≡ v
+held-value w r v e = ap (λ o. unwrap_or o (list_of none)) e
+
+pub end-held : (w : Store) (n : ℕ) (o : evaluation.Outcome Tree) (e : Outcome) → IsEnd w n o e → HoldsValue w e
+end-held w n o (Value r steps) h = ap is_some h.2
+end-held w n o Limit h = tt
+
+pub end-written : (w : Store) (counted : Bool) (n : ℕ) (notes : List ℕ) (o : evaluation.Outcome Tree) (e : Outcome) → IsEnd w n o e → end_text w counted n notes e ++ codes "\n" ≡ end_line counted n notes o
+end-written w counted n notes o (Value r steps) h =
+    let v = h.0 in
+    let left = h.1 in
+    let spent : List ℕ = steps_text counted (n - left) in
+    let first : (canon (item_at w r) ++ notes ++ steps_text counted steps) ++ codes "\n" ≡ (canon v ++ (notes ++ spent)) ++ codes "\n" =
+    ap₂ (λ (u : Tree) (k : ℕ). (canon u ++ (notes ++ steps_text counted k)) ++ codes "\n") (held-value w r v h.2) h.4 in
+    let second : (canon v ++ (notes ++ spent)) ++ codes "\n" ≡ canon v ++ ((notes ++ spent) ++ codes "\n") = append_assoc (canon v) (notes ++ spent) (codes "\n") in
+    let third : canon v ++ ((notes ++ spent) ++ codes "\n") ≡ canon v ++ (notes ++ (spent ++ codes "\n")) = ap (λ z. canon v ++ z) (append_assoc notes spent (codes "\n")) in
+    let last : end_line counted n notes (Done v left) ≡ end_line counted n notes o = sym (ap (end_line counted n notes) h.3) in
+    first ∙ second ∙ third ∙ last
+end-written w counted n notes o Limit h = append_assoc (codes "!limit ") (decimal n) (codes "\n") ∙ sym (ap (end_line counted n notes) h)
+
+-- the last line of a trace is that of its value, with annotations
+spent-same : (counted : Bool) (k : ℕ) → spent_text counted k ≡ steps_text counted k
+spent-same true k = refl
+spent-same false k = refl
+
+value-end : (y : Spec) (counted : Bool) (n : ℕ) (t : Term) (notes : Trees) (o : evaluation.Outcome Tree) → Eval y n [] t ≡ o → end_line counted n (notes_text notes) o ≡ value_line counted n notes o
+value-end y counted n t notes (Done v left) e =
+    let bare = applied_unannotated v (value_is_applied y n t v left e) in
+    let spent : List ℕ = steps_text counted (n - left) in
+    let first : value_line counted n notes (Done v left) ≡ (canon v ++ notes_text notes) ++ (spent ++ codes "\n") = ap₂ (λ (a b : List ℕ). a ++ (b ++ codes "\n")) (canon_annotated v notes bare) (spent-same counted (n - left)) in
+    let second : (canon v ++ notes_text notes) ++ (spent ++ codes "\n") ≡ canon v ++ (notes_text notes ++ (spent ++ codes "\n")) = append_assoc (canon v) (notes_text notes) (spent ++ codes "\n") in
+    sym (first ∙ second)
+value-end y counted n t notes Over e = refl
+
+-- ---- all that is written of a term
+
+joined-append : (xs ys : List (List ℕ)) → joined (xs ++ ys) ≡ joined xs ++ joined ys
+joined-append xs ys = flat_map-append (λ l. l) xs ys
+
+joined-one : (xs : List ℕ) → joined (xs ∷ []) ≡ xs
+joined-one xs = append-nil xs
+
+lines-text : (source : List ℕ) (y : Spec) (shown : Shown) (n : ℕ) (task : Task) → task_text source y shown n task
+    ≡ first_text shown (tree_of task.term) ++ (steps_lines source shown n (Trace y n task.term).firings ++ value_line shown.counted n task.notes (Trace y n task.term).outcome)
+lines-text source y shown n task = by shown.whole
+  where
+    last : List ℕ
+    last = value_line shown.counted n task.notes (Trace y n task.term).outcome
+
+    by : (whole : Bool) → joined ((elim whole [
+      | true ↦ whole_text 0 0 false shown.width 0 (tree_of task.term) ∷ map (whole_line source shown.counted shown.width n) (Trace y n task.term).firings
+      | false ↦ map (firing_line source shown.counted shown.width n) (Trace y n task.term).firings
+    ]) ++ last ∷ []) ≡ first_text (record { whole = whole; counted = shown.counted; width = shown.width }) (tree_of task.term) ++ (steps_lines source (record { whole = whole; counted = shown.counted; width = shown.width }) n (Trace y n task.term).firings ++ last)
+    by true =
+        let first = whole_text 0 0 false shown.width 0 (tree_of task.term) in
+        let lines = map (whole_line source shown.counted shown.width n) (Trace y n task.term).firings in
+        ap (λ z. first ++ z) (joined-append lines (last ∷ []) ∙ ap (λ z. joined lines ++ z) (joined-one last))
+    by false =
+        let lines = map (firing_line source shown.counted shown.width n) (Trace y n task.term).firings in
+        joined-append lines (last ∷ []) ∙ ap (λ z. joined lines ++ z) (joined-one last)
+
+pub task-told : (source : List ℕ) (y : Spec) (shown : Shown) (n : ℕ) (task : Task) → fault y ≡ None
+    → task_text source y shown n task ≡ first_text shown (tree_of task.term) ++ told source shown n (notes_text task.notes) (Trace y n task.term)
+task-told source y shown n task good =
+    lines-text source y shown n task
+    ∙ ap (λ z. first_text shown (tree_of task.term) ++ (steps_lines source shown n (Trace y n task.term).firings ++ z))
+    (sym (value-end y shown.counted n task.term task.notes (Trace y n task.term).outcome (sym (trace_law y good n task.term).0)))

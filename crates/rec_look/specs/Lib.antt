@@ -1,0 +1,4 @@
+pub mod Traces
+pub mod Pages
+pub mod Telling
+pub mod Due

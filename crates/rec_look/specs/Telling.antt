@@ -1,0 +1,135 @@
+-- How a trace is told by a tracer's turns.
+use Rattle.std.specs.Prelude.{ℕ, ◌-◌, ◌≡◌, ◌≤◌, ◌++◌, Bool, true, false, List, [], Option, Some, None, Vec, codes, decimal, flat_map, map}
+use Rattle.std.specs.declared.alloc.Global.{Global}
+use Rattle.rx_term.specs.Tree.{Tree, annotations, none}
+use Rattle.rx_term.specs.Store.{Store, tree_at}
+use Rattle.rx_text.specs.Canon.{canon}
+use Rattle.rx_text.specs.declared.output.Output.{Output}
+use Rattle.rec_syntax.specs.Syntax.{Rule, Spec, Term, head}
+use Rattle.rec_sorts.specs.Binding.{tree_of}
+use Rattle.rec_sorts.specs.Evaluation as evaluation
+use Rattle.rec_sorts.specs.Laws.{Every}
+use Rattle.rec_sorts.specs.Numbering.{AreLetters, Pairwise}
+use Rattle.rec_sorts.specs.TermRules.{broken_by_elements}
+use Rattle.rec_sorts.specs.declared.letters.Letter.{Letter}
+use Rattle.rec_engine.specs.declared.engine.Outcome.{Outcome}
+use Rattle.rec_engine.specs.declared.engine.Outcome.TheVariants.{Value, Limit}
+use Rattle.rx_run.specs.Due.{steps_text}
+use Rattle.rec_run.specs.GivenTerms.{item_at}
+use Rattle.rec_run.specs.Output.{Task, notes_text}
+use Rattle.rec_run.specs.Reading.{term_at}
+use Rattle.rec_trace.specs.Lines.{column_of, firing_line, joined, line_of, whole_line, whole_text}
+use Rattle.rec_trace.specs.States.{firing_then}
+use Rattle.rec_trace.specs.Trace.{Firing, Trace, Traced, quiet}
+use Rattle.rec_trace.specs.Tracing.{Stands, rest_of, whole_of}
+use Rattle.rec_trace.specs.declared.lines.Spot.{Spot}
+use Rattle.rec_trace.specs.declared.tracer.Tracer.{Tracer}
+use Rattle.rec_look.specs.Pages.{Prints}
+use Rattle.rec_look.specs.Traces.{Shown, shown_by, task_text}
+use Rattle.rec_look.specs.declared.trace.given.GivenTerms.{GivenTerms}
+use Rattle.rec_look.specs.declared.trace.telling.Telling.{Telling}
+
+-- the spot of a byte, and that at which a rule begins
+abbrev pub spot_at : List ℕ → ℕ → Spot
+spot_at source at = record { line = line_of source at; column = column_of source at }
+
+abbrev pub rule_spot : List ℕ → Rule → Spot
+rule_spot source r = spot_at source (head r.left).at
+
+-- it has the spots of a specification's rules, by the text of that
+abbrev pub IsTelling : List ℕ → Spec → Telling → Type 0
+IsTelling source y t = t.spots.items ≡ map (rule_spot source) y.rules
+
+-- the line of a firing
+abbrev pub step_line : List ℕ → Shown → ℕ → Firing → List ℕ
+step_line source shown n f = elim shown.whole [
+  | true ↦ whole_line source shown.counted shown.width n f
+  | false ↦ firing_line source shown.counted shown.width n f
+]
+
+-- the lines of firings
+abbrev pub steps_lines : List ℕ → Shown → ℕ → List Firing → List ℕ
+steps_lines source shown n fs = joined (map (step_line source shown n) fs)
+
+-- the line of what a term comes to, with a text of its annotations
+abbrev pub end_line : Bool → ℕ → List ℕ → evaluation.Outcome Tree → List ℕ
+end_line counted n notes (evaluation.Done v left) =
+    canon v ++ notes ++ steps_text counted (n - left) ++ codes "\n"
+end_line counted n notes evaluation.Over = codes "!limit " ++ decimal n ++ codes "\n"
+
+-- all that is written of a trace
+abbrev pub told : List ℕ → Shown → ℕ → List ℕ → Traced Tree → List ℕ
+told source shown n notes t = steps_lines source shown n t.firings
+    ++ end_line shown.counted n notes t.outcome
+
+-- no more is left than there was at first
+abbrev pub LeavesWithin : ℕ → evaluation.Outcome Tree → Type 0
+LeavesWithin n (evaluation.Done v left) = left ≤ n
+LeavesWithin n evaluation.Over = Unit {0}
+
+pub record IsWithin (n : ℕ) (t : Traced Tree) : Type 0 where
+  pub firings : Every (λ (f : Firing). f.left ≤ n) t.firings
+  pub outcome : LeavesWithin n t.outcome
+
+-- a tracer came to what a trace comes to
+abbrev pub IsEnd : Store → ℕ → evaluation.Outcome Tree → Outcome → Type 0
+IsEnd w n o (Value t steps) = (v : Tree) × (left : ℕ) × (tree_at w t ≡ Some v)
+    × (o ≡ evaluation.Done v left) × (steps ≡ n - left)
+IsEnd w n o Limit = o ≡ evaluation.Over
+
+-- the same as it is written, without the line end
+abbrev pub end_text : Store → Bool → ℕ → List ℕ → Outcome → List ℕ
+end_text w counted n notes (Value t steps) =
+    canon (item_at w t) ++ notes ++ steps_text counted steps
+end_text w counted n notes Limit = codes "!limit " ++ decimal n
+
+-- a rule fired, and its line was written
+pub record HasTold {W : Type 0} (contents : W → Option (List ℕ)) (y : Spec) (w w' : Store)
+    (old new : Tracer) (telling : Telling) (out out' : Output W) (lines more : ℕ) : Type 0 where
+  pub firing : Firing
+  pub next : rest_of y w old ≡ firing_then firing (rest_of y w' new)
+  pub stands : Stands y w' new
+  pub printed : (source : List ℕ) → IsTelling source y telling
+      → Prints contents out out' lines more
+      (step_line source (shown_by telling.options) telling.options.run.steps firing)
+
+-- a turn of a tracer was told; or nothing more fires, and this is what the trace comes to
+abbrev pub IsToldTurn : {W : Type 0} → (W → Option (List ℕ)) → Spec → Store → Store → Tracer → Tracer
+    → Telling → Output W → Output W → ℕ → ℕ → Option Outcome → Type 0
+IsToldTurn contents y w w' old new telling out out' lines more None =
+    HasTold contents y w w' old new telling out out' lines more
+IsToldTurn contents y w w' old new telling out out' lines more (Some o) = (out' ≡ out)
+    × (more ≡ lines) × ((rest_of y w old).firings ≡ [])
+    × IsEnd w' telling.options.run.steps (rest_of y w old).outcome o
+
+-- a tracer is at the beginning of a term's trace
+pub record Begins (y : Spec) (w : Store) (n : ℕ) (tracer : Tracer) (t : Term) : Type 0 where
+  pub stands : Stands y w tracer
+  pub trace : rest_of y w tracer ≡ Trace y n t
+  pub whole : whole_of y w tracer ≡ tree_of t
+
+-- a text is that of a tree's annotations
+abbrev pub HasNotes : Vec ℕ Global → Tree → Type 0
+HasNotes text u = text.items ≡ notes_text (annotations u)
+
+-- the letters of given terms that keep the rules, and the texts of their annotations
+pub record AreGivenTerms (y : Spec) (us : List Tree) (g : GivenTerms) : Type 0 where
+  pub letters : Pairwise (λ (ls : Vec Letter Global) (u : Tree).
+      AreLetters y ls.items (evaluation.term_of u)) g.letters.items us
+  pub notes : Pairwise HasNotes g.notes.items us
+  pub kept : broken_by_elements y us ≡ None
+
+-- what is written before the first firing of a term
+abbrev pub first_text : Shown → Tree → List ℕ
+first_text shown u = elim shown.whole [ true ↦ whole_text 0 0 false shown.width 0 u | false ↦ [] ]
+
+-- the specification's own term of a number, without annotations, and a given one with its own
+abbrev pub own_task : Spec → ℕ → Task
+own_task y i = record { term = term_at y i; notes = none }
+
+abbrev pub given_task : Tree → Task
+given_task u = record { term = evaluation.term_of u; notes = annotations u }
+
+-- the traces of given terms
+abbrev pub given_traces : List ℕ → Spec → Shown → ℕ → List Tree → List ℕ
+given_traces source y shown n us = flat_map (λ u. task_text source y shown n (given_task u)) us

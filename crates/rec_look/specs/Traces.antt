@@ -1,0 +1,74 @@
+-- What a run of traces is to write, and how it ends.
+--     task_text source y shown n task   all that is written for a term
+--     traces source y given shown n     the traces of a specification's own terms and of given ones
+--     IsTraceDueFor shown n texts d     what is due for a specification and terms
+use Rattle.std.specs.Prelude.{ℕ, ◌≡◌, ◌<◌, ◌^◌, Bool, not, List, [], Option, Some, None, filter, flat_map, length}
+use Rattle.rx_term.specs.Tree.{Tree}
+use Rattle.rec_syntax.specs.Syntax.{Spec}
+use Rattle.rec_sorts.specs.SpecRules.{Verdict, Good, SpecVerdict, fault}
+use Rattle.rx_run.specs.Due.{Due, done}
+use Rattle.rec_run.specs.Output.{Task, TermsVerdict, GoodTerms, IsTermsVerdict, bare, due_of_spec, due_of_terms, each_line, tasks}
+use Rattle.rec_run.specs.Run.{Texts}
+use Rattle.rec_trace.specs.Lines.{begins_with_digit, joined, term_lines}
+use Rattle.rec_look.specs.declared.trace.options.TraceOptions.{TraceOptions}
+
+-- how traces look: whether the whole term stands behind each firing, whether the steps spent do, and
+-- how many bytes a term has at most
+pub record Shown : Type 0 where
+  pub whole : Bool
+  pub counted : Bool
+  pub width : Option ℕ
+
+-- as these options say
+abbrev pub shown_by : TraceOptions → Shown
+shown_by o = record { whole = o.whole; counted = o.run.count; width = o.width }
+
+-- the lines of a term: those of the rules that fire, and that of what it comes to
+abbrev pub task_lines : List ℕ → Spec → Shown → ℕ → Task → List (List ℕ)
+task_lines source y shown n task =
+    term_lines source y shown.whole shown.counted shown.width n task.term task.notes
+
+-- all that is written for a term
+abbrev pub task_text : List ℕ → Spec → Shown → ℕ → Task → List ℕ
+task_text source y shown n task = joined (task_lines source y shown n task)
+
+-- the lines of the specification's own terms, and then of the given ones, each with the whole budget
+abbrev pub trace_lines : List ℕ → Spec → List Tree → Shown → ℕ → List (List ℕ)
+trace_lines source y given shown n = flat_map (task_lines source y shown n) (tasks y given)
+
+-- all of them, one behind the other
+abbrev pub traces : List ℕ → Spec → List Tree → Shown → ℕ → List ℕ
+traces source y given shown n = joined (trace_lines source y given shown n)
+
+-- what is due after the verdict on the specification alone: a refusal as evaluation writes it
+abbrev pub trace_due_of_spec : List ℕ → Shown → ℕ → Verdict → Due
+trace_due_of_spec source shown n (Good y) = done (traces source y [] shown n)
+trace_due_of_spec source shown n v = due_of_spec (bare shown.counted) n v
+
+-- what is due after the verdict on the terms: a refusal as evaluation writes it
+abbrev pub trace_due_of_terms : List ℕ → Spec → Shown → ℕ → TermsVerdict → Due
+trace_due_of_terms source y shown n (GoodTerms ts) = done (traces source y ts shown n)
+trace_due_of_terms source y shown n v = due_of_terms y (bare shown.counted) n v
+
+-- what is due after the verdict on the specification: the terms are asked only of a good one
+abbrev pub IsTraceDueAfter : List ℕ → Verdict → Option (List ℕ) → Shown → ℕ → Due → Type 0
+IsTraceDueAfter source (Good y) (Some terms) shown n d = (v : TermsVerdict)
+    × IsTermsVerdict y terms v × (d ≡ trace_due_of_terms source y shown n v)
+IsTraceDueAfter source v terms shown n d = d ≡ trace_due_of_spec source shown n v
+
+-- what is due for the texts of a run
+abbrev pub IsTraceDueFor : Shown → ℕ → Texts → Due → Type 0
+IsTraceDueFor shown n texts d = (v : Verdict) × SpecVerdict texts.spec v
+    × IsTraceDueAfter texts.spec v texts.terms shown n d
+
+-- for the texts of a run one thing is due at most
+abbrev pub OneTraceDue : Type 0
+OneTraceDue = (shown : Shown) (n : ℕ) (texts : Texts) (d e : Due)
+    → IsTraceDueFor shown n texts d → IsTraceDueFor shown n texts e → d ≡ e
+
+-- the lines of a trace that begin with no digit are the lines of evaluation
+abbrev pub ValuesLaw : Type 0
+ValuesLaw = (source : List ℕ) (y : Spec) (given : List Tree) (shown : Shown) (n : ℕ)
+    → fault y ≡ None → length source < 2 ^ 63
+    → filter (λ l. not (begins_with_digit l)) (trace_lines source y given shown n)
+    ≡ each_line y given (bare shown.counted) n

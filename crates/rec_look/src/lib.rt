@@ -1,0 +1,11 @@
+//! Looking at evaluations: the whole runs of traces, from the texts that come in to the lines that go
+//! out.
+#![tactic(auto)]
+
+pub mod laws;
+#[cfg(test)]
+mod tests;
+mod trace;
+
+pub use trace::options::TraceOptions;
+pub use trace::runs::run_trace;

@@ -1,0 +1,205 @@
+//! What is due for the texts that were read.
+
+ghost use Rattle.std.specs.Prelude.{◌≡◌, ℕ, IfErr, IfOk, List, None, OnErr, OnOk, Some};
+ghost use Rattle.std.specs.Option.{ForSome};
+ghost use Rattle.rx_term.specs.Tree.{Tree};
+ghost use Rattle.rx_text.specs.Output.{IsSameOutput, IsWritable, Writes, contents_of};
+ghost use Rattle.rx_run.specs.Refusals.{finish_of, place_of, refusal_due};
+ghost use Rattle.rx_run.specs.Run.{Stops};
+ghost use Rattle.rx_run.specs.Streams.{TellsWrite};
+ghost use Rattle.rec_run.specs.GivenTerms.{HoldsTerms, IsReady, IsRefused, given_by};
+ghost use Rattle.rec_run.specs.Run.{HasRoom};
+ghost use Rattle.rec_look.specs.Due.{EndsBehind, trace_due};
+ghost use Rattle.rec_look.specs.Telling.{AreGivenTerms, IsTelling};
+ghost use Rattle.rec_look.specs.Traces.{shown_by, traces};
+
+use crate::trace::given::{GivenTerms, given_terms};
+use crate::trace::options::TraceOptions;
+use crate::trace::spots::rule_spots;
+use crate::trace::telling::Telling;
+use crate::trace::terms::write_traces;
+use rec_run::{Job, engine_over};
+use rec_sorts::Checked;
+use rx_run::{Finish, Place, Reading, RunFault, write_refusal_to};
+use rx_term::{Term, TermBank};
+use rx_text::{Output, RefusedWrite};
+use std::alloc::{AllocError, Global};
+use std::io::Write;
+
+/// Writes what is due for the texts that were read, and flushes: how the run ends, and the place of
+/// the refusal that was written.
+pub(crate) fn answer<B: TermBank + Drop, W: Write>(
+    alloc: Global,
+    bank: B,
+    reading: Reading<Job>,
+    out: &mut Output<'_, W>,
+    options: TraceOptions,
+    place: &mut Option<Place>,
+) -> Result<Finish, RunFault>
+    requires unrooted { (t : ℕ) → (B.store bank).roots t ≡ 0 }
+    requires ready { IsReady (B.store bank) reading }
+    requires no_place { place.old ≡ None }
+    requires open { IsWritable out.old }
+    ensures ends { IfOk result (λ finish. finish ≡ finish_of reading) }
+    ensures ok { OnOk result (Writes W.contents out.old out.new
+        (trace_due (B.store bank) (shown_by options) options.run.steps reading).text) }
+    ensures place { OnOk result (place.new ≡ place_of reading) }
+    ensures err { IfErr result (λ fault. Stops fault
+        (trace_due (B.store bank) (shown_by options) options.run.steps reading).text
+        (contents_of W.contents out.old) (contents_of W.contents out.new)) }
+    ensures cells { IsRefused reading → IfErr result HasRoom }
+    ensures no_place { OnErr result (place.new ≡ None) }
+    ensures same_output { IsSameOutput out.old out.new }
+{
+    let finish = reading.finish();
+    let refused_at = reading.place();
+    let written = write_due(alloc, bank, reading, out, options);
+    end_run(written, finish, refused_at, out, place)
+}
+
+/// Flushes where all was written: how the run ends, and the place of the refusal that was written.
+fn end_run<W: Write>(
+    written: Result<(), RunFault>,
+    finish: Finish,
+    refused_at: Option<Place>,
+    out: &mut Output<'_, W>,
+    place: &mut Option<Place>,
+) -> Result<Finish, RunFault>
+    requires no_place { place.old ≡ None }
+    requires told { TellsWrite out.old written }
+    ensures ends { EndsBehind written finish (contents_of W.contents out.old)
+        (contents_of W.contents out.new) result }
+    ensures place { OnOk result (place.new ≡ refused_at) }
+    ensures no_place { OnErr result (place.new ≡ None) }
+    ensures same { IsSameOutput out.old out.new }
+{
+    match written {
+        Err(fault) => Err(fault),
+        Ok(()) => match out.flush() {
+            Err(_) => Err(RunFault::Write),
+            Ok(()) => {
+                *place = refused_at;
+                Ok(finish)
+            }
+        },
+    }
+}
+
+/// Writes what is due.
+fn write_due<B: TermBank + Drop, W: Write>(
+    alloc: Global,
+    bank: B,
+    reading: Reading<Job>,
+    out: &mut Output<'_, W>,
+    options: TraceOptions,
+) -> Result<(), RunFault>
+    requires unrooted { (t : ℕ) → (B.store bank).roots t ≡ 0 }
+    requires ready { IsReady (B.store bank) reading }
+    requires open { IsWritable out.old }
+    ensures ok { OnOk result (Writes W.contents out.old out.new
+        (trace_due (B.store bank) (shown_by options) options.run.steps reading).text) }
+    ensures err { IfErr result (λ fault. Stops fault
+        (trace_due (B.store bank) (shown_by options) options.run.steps reading).text
+        (contents_of W.contents out.old) (contents_of W.contents out.new)) }
+    ensures cells { IsRefused reading → IfErr result HasRoom }
+    ensures same_output { IsSameOutput out.old out.new }
+    ensures cause { TellsWrite out.new result }
+{
+    match reading {
+        Reading::Refused(refusal) => match write_refusal_to(refusal, out) {
+            Ok(()) => Ok(()),
+            Err(RefusedWrite) => Err(RunFault::Write),
+        },
+        Reading::Good(Job { checked, list }) => write_job(alloc, checked, bank, list, out, options),
+    }
+}
+
+/// Writes the traces of good texts, whose given terms stand in a bank, over that bank.
+fn write_job<B: TermBank + Drop, W: Write>(
+    alloc: Global,
+    checked: Checked,
+    bank: B,
+    list: Option<Term>,
+    out: &mut Output<'_, W>,
+    options: TraceOptions,
+) -> Result<(), RunFault>
+    requires unrooted { (t : ℕ) → (B.store bank).roots t ≡ 0 }
+    requires given { ForSome list (HoldsTerms checked.spec (B.store bank)) }
+    requires open { IsWritable out.old }
+    ensures ok { OnOk result (Writes W.contents out.old out.new
+        (traces checked.source checked.spec (given_by (B.store bank) list) (shown_by options)
+        options.run.steps)) }
+    ensures err { IfErr result (λ fault. Stops fault
+        (traces checked.source checked.spec (given_by (B.store bank) list) (shown_by options)
+        options.run.steps)
+        (contents_of W.contents out.old) (contents_of W.contents out.new)) }
+    ensures same_output { IsSameOutput out.old out.new }
+    ensures cause { TellsWrite out.new result }
+{
+    match prepare(alloc, &checked, &bank, list, options) {
+        Ok(prepared) => write_prepared(alloc, checked, bank, &prepared, out),
+        Err(AllocError) => Err(RunFault::Memory { lines: 0 }),
+    }
+}
+
+/// What traces are made with besides an engine.
+#[derive(Drop)]
+struct Prepared {
+    telling: Telling,
+    terms: GivenTerms,
+}
+
+/// The places of the rules are found, and the given terms are taken out of their bank.
+fn prepare<B: TermBank>(
+    alloc: Global,
+    checked: &Checked,
+    bank: &B,
+    list: Option<Term>,
+    options: TraceOptions,
+) -> Result<Prepared, AllocError>
+    requires { ForSome list (HoldsTerms checked.now.spec (B.store bank.now)) }
+    ensures telling { IfOk result
+        (λ p. IsTelling checked.now.source checked.now.spec p.telling) }
+    ensures options { IfOk result (λ p. p.telling.options ≡ options) }
+    ensures given { IfOk result (λ p. AreGivenTerms checked.now.spec
+        (given_by (B.store bank.now) list) p.terms) }
+{
+    let spots = rule_spots(alloc, checked.syntax())?;
+    let terms = given_terms(alloc, checked, bank, list)?;
+    let telling = Telling { spots, options };
+    Ok(Prepared { telling, terms })
+}
+
+/// Writes the traces over a bank, of which nothing is needed any more.
+fn write_prepared<B: TermBank + Drop, W: Write>(
+    alloc: Global,
+    checked: Checked,
+    bank: B,
+    prepared: &Prepared,
+    out: &mut Output<'_, W>,
+) -> Result<(), RunFault>
+    requires unrooted { (t : ℕ) → (B.store bank).roots t ≡ 0 }
+    requires telling { IsTelling checked.source checked.spec prepared.now.telling }
+    requires given { (us : List Tree) × AreGivenTerms checked.spec us prepared.now.terms }
+    requires open { IsWritable out.old }
+    ensures ok { OnOk result ((us : List Tree)
+        → AreGivenTerms checked.spec us prepared.now.terms
+        → Writes W.contents out.old out.new
+        (traces checked.source checked.spec us (shown_by prepared.now.telling.options)
+        prepared.now.telling.options.run.steps)) }
+    ensures err { IfErr result (λ fault. (us : List Tree)
+        → AreGivenTerms checked.spec us prepared.now.terms
+        → Stops fault
+        (traces checked.source checked.spec us (shown_by prepared.now.telling.options)
+        prepared.now.telling.options.run.steps)
+        (contents_of W.contents out.old) (contents_of W.contents out.new)) }
+    ensures same_output { IsSameOutput out.old out.new }
+    ensures cause { TellsWrite out.new result }
+{
+    match engine_over(alloc, checked, bank, None, prepared.telling.options.run) {
+        Ok(mut engine) => {
+            write_traces(alloc, &mut engine, &prepared.terms, &prepared.telling, out)
+        }
+        Err(_) => Err(RunFault::Memory { lines: 0 }),
+    }
+}
