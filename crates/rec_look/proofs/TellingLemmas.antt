@@ -78,16 +78,8 @@ end-held w n o Limit h = tt
 
 pub end-written : (w : Store) (counted : Bool) (n : ℕ) (notes : List ℕ) (o : evaluation.Outcome Tree) (e : Outcome) → IsEnd w n o e → end_text w counted n notes e ++ codes "\n" ≡ end_line counted n notes o
 end-written w counted n notes o (Value r steps) h =
-    let v = h.0 in
-    let left = h.1 in
-    let spent : List ℕ = steps_text counted (n - left) in
-    let first : (canon (item_at w r) ++ notes ++ steps_text counted steps) ++ codes "\n" ≡ (canon v ++ (notes ++ spent)) ++ codes "\n" =
-    ap₂ (λ (u : Tree) (k : ℕ). (canon u ++ (notes ++ steps_text counted k)) ++ codes "\n") (held-value w r v h.2) h.4 in
-    let second : (canon v ++ (notes ++ spent)) ++ codes "\n" ≡ canon v ++ ((notes ++ spent) ++ codes "\n") = append_assoc (canon v) (notes ++ spent) (codes "\n") in
-    let third : canon v ++ ((notes ++ spent) ++ codes "\n") ≡ canon v ++ (notes ++ (spent ++ codes "\n")) = ap (λ z. canon v ++ z) (append_assoc notes spent (codes "\n")) in
-    let last : end_line counted n notes (Done v left) ≡ end_line counted n notes o = sym (ap (end_line counted n notes) h.3) in
-    first ∙ second ∙ third ∙ last
-end-written w counted n notes o Limit h = append_assoc (codes "!limit ") (decimal n) (codes "\n") ∙ sym (ap (end_line counted n notes) h)
+    ap₂ (λ (u : Tree) (k : ℕ). canon u ++ notes ++ steps_text counted k ++ codes "\n") (held-value w r h.0 h.2) h.4 ∙ sym (ap (end_line counted n notes) h.3)
+end-written w counted n notes o Limit h = sym (ap (end_line counted n notes) h)
 
 -- the last line of a trace is that of its value, with annotations
 spent-same : (counted : Bool) (k : ℕ) → spent_text counted k ≡ steps_text counted k
@@ -97,10 +89,7 @@ spent-same false k = refl
 value-end : (y : Spec) (counted : Bool) (n : ℕ) (t : Term) (notes : Trees) (o : evaluation.Outcome Tree) → Eval y n [] t ≡ o → end_line counted n (notes_text notes) o ≡ value_line counted n notes o
 value-end y counted n t notes (Done v left) e =
     let bare = applied_unannotated v (value_is_applied y n t v left e) in
-    let spent : List ℕ = steps_text counted (n - left) in
-    let first : value_line counted n notes (Done v left) ≡ (canon v ++ notes_text notes) ++ (spent ++ codes "\n") = ap₂ (λ (a b : List ℕ). a ++ (b ++ codes "\n")) (canon_annotated v notes bare) (spent-same counted (n - left)) in
-    let second : (canon v ++ notes_text notes) ++ (spent ++ codes "\n") ≡ canon v ++ (notes_text notes ++ (spent ++ codes "\n")) = append_assoc (canon v) (notes_text notes) (spent ++ codes "\n") in
-    sym (first ∙ second)
+    sym (ap₂ (λ (a b : List ℕ). a ++ b ++ codes "\n") (canon_annotated v notes bare) (spent-same counted (n - left)))
 value-end y counted n t notes Over e = refl
 
 -- ---- all that is written of a term

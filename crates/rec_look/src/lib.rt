@@ -3,8 +3,6 @@
 #![tactic(auto)]
 
 pub mod laws;
-#[cfg(test)]
-mod tests;
 mod trace;
 
 pub use trace::options::TraceOptions;

@@ -1,4 +1,6 @@
-use Rattle.std.proofs.Common.{◌≡◌, ◌≤◌, ap, arith, refl, subst, sym}
+use Rattle.std.proofs.Common.{◌≡◌, ◌+◌, ◌-◌, ap, arith, drop, refl, sym, take, ◌∙◌}
+use Rattle.std.proofs.lemmas.List.{drop_all}
+use Rattle.rec_trace.specs.Lines.{behind_end, ends_in}
 use Rattle.rec_trace.specs.declared.lines.Spot.{Spot}
 use Rattle.rec_look.proofs.SpotLemmas.{column-few, column-some, line-few, spot-behind}
 use Rattle.rec_look.proofs.trace.spots.spot_behind.Goals as goal
@@ -20,4 +22,12 @@ loop-byte-init c =
     }
 
 pub returns : goal.returns
-returns c = ?
+returns c =
+    let source = c.args.source.now in
+    let piece = take (c.args.at - c.args.from) (drop c.args.from source) in
+    let all = drop_all c.loop-byte.byte-index piece c.loop-byte-test.false in
+    let none = ap ends_in all in
+    let so_far = c.loop-byte.invariant.line in
+    let line : c.loop-byte.line ≡ c.args.spot.line + ends_in piece = omega (arith, none, so_far) in
+    spot-behind source piece c.args.from c.args.at c.loop-byte.line c.loop-byte.column c.args.spot c.requires.order refl c.requires.known line
+    (ap (behind_end (c.loop-byte.column - 1)) (sym all) ∙ c.loop-byte.invariant.column) c.loop-byte.invariant.low

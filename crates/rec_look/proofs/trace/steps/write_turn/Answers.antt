@@ -34,7 +34,7 @@ pub returns-in-Err-clause-err : goal.returns-in-Err-clause-err
 returns-in-Err-clause-err g c = λ source notes is. breaks-stopped g.W.Write.contents c.args.out.now c.args.lines.now _ c.in-Err.fault _ c.stopped.ensures
 
 pub returns-in-Err-step_text-clause-err : goal.returns-in-Err-step_text-clause-err
-returns-in-Err-step_text-clause-err g c = λ source notes is. breaks-stopped g.W.Write.contents c.args.out.now c.args.lines.now _ c.in-Err-step_text.fault _ c.stopped.ensures
+returns-in-Err-step_text-clause-err g c = λ source notes is. breaks-stopped g.W.Write.contents c.args.out.now c.args.lines.now _ c.in-Err-step_text.fault _ c.stopped-in-Err-step_text.ensures
 
 pub returns-in_err-print-in-Ok-clause-err : goal.returns-in_err-print-in-Ok-clause-err
 returns-in_err-print-in-Ok-clause-err g c =

@@ -17,7 +17,7 @@ pub index-notes-requires : goal.index-notes-requires
 index-notes-requires g c =
     let terms = c.args.terms.now in
     let long = notes-long c.args.engine.now.spec c.requires.given.0 terms c.requires.given.1 in
-    let a = c.len.ensures in
+    let a = c.len-i-end.ensures in
     let b = terms.letters.ok.0 in
     omega (arith, long, a, b)
 
@@ -25,7 +25,7 @@ pub write_given_trace-requires-clause-given : goal.write_given_trace-requires-cl
 write_given_trace-requires-clause-given g c =
     let y = c.args.engine.now.spec in
     let terms = c.args.terms.now in
-    let a = c.len.ensures in
+    let a = c.len-i-end.ensures in
     let b = terms.letters.ok.0 in
     let low : c.loop-i.i < length terms.letters.items = omega (arith, a, b) in
     let u = get_or c.requires.given.0 c.loop-i.i (list_of none) in
@@ -40,7 +40,7 @@ returns-in_err-write_given_trace-clause-err g c =
     let n = telling.options.run.steps in
     let i = c.loop-i.invariant in
     let fault = c.in_err-write_given_trace.field-0.0 in
-    let a = c.len.ensures in
+    let a = c.len-i-end.ensures in
     let b = terms.letters.ok.0 in
     let low : c.loop-i.i < length terms.letters.items = omega (arith, a, b) in
     let broken = subst (λ (z : Spec). (source : List ℕ) (u : Tree) → IsTelling source z telling → Spells z c.deref.result.now u → c.deref-in-loop-i.result.now ≡ notes_text (annotations u) → Breaks g.W.Write.contents c.loop-i.out c.write_given_trace.new.out c.loop-i.lines (task_text source z shown n (given_task u)) fault) i.same.spec c.in_err-write_given_trace.ensures.err in
@@ -59,7 +59,7 @@ loop-i-preserved g c =
     let shown = shown_by telling.options in
     let n = telling.options.run.steps in
     let i = c.loop-i.invariant in
-    let a = c.len.ensures in
+    let a = c.len-i-end.ensures in
     let b = terms.letters.ok.0 in
     let low : c.loop-i.i < length terms.letters.items = omega (arith, a, b) in
     let printed = subst (λ (z : Spec). (source : List ℕ) (u : Tree) → IsTelling source z telling → Spells z c.deref.result.now u → c.deref-in-loop-i.result.now ≡ notes_text (annotations u) → Prints g.W.Write.contents c.loop-i.out c.write_given_trace.new.out c.loop-i.lines c.write_given_trace.new.lines (task_text source z shown n (given_task u))) i.same.spec c.in_ok-write_given_trace.ensures.ok in
@@ -81,7 +81,7 @@ returns-clause-ok g c =
     let telling = c.args.telling.now in
     let shown = shown_by telling.options in
     let n = telling.options.run.steps in
-    let a = c.len.ensures in
+    let a = c.len-i-end.ensures in
     let b = terms.letters.ok.0 in
     let all : length terms.letters.items ≤ c.loop-i.i = omega (arith, a, b) in
     λ source us is given.
