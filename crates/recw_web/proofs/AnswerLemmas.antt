@@ -6,6 +6,7 @@ use Rattle.rx_run.specs.declared.ending.Finish.{Finish}
 use Rattle.rx_run.specs.declared.ending.Place.{Place}
 use Rattle.rx_run.specs.declared.ending.RunFault.{RunFault}
 use Rattle.rec_run.specs.Output.{IsDue, bare}
+use Rattle.rec_run.specs.Run.{Texts}
 use Rattle.rec_check.specs.Runs.{Tells}
 use Rattle.rec_check.specs.declared.runs.Judgement.{Judgement}
 use Rattle.rx_look.specs.Faults.{fault_of_run}
@@ -76,5 +77,5 @@ answers_drawn IsDue lines place (Err l) end status told old new before b o f e p
 -- the run's limits and how it shows traces are those that were asked for
 pub answers_traced : (asked : TraceOptions) (shown : Shown) (steps : ℕ) (spec : List ℕ) (terms : Option (List ℕ)) (status : ℕ) (told : Told) (old new : List ℕ) → steps ≡ min asked.limits.steps (10 ^ 18) → shown ≡ shown_as asked → Answers (IsTraceDueFor shown steps (record { spec = spec; terms = terms })) status told old new → Answers (IsTraceAsked asked spec terms) status told old new
 answers_traced asked shown steps spec terms status told old new e f h =
-    let texts = record { spec = spec; terms = terms } in
+    let texts : Texts = record { spec = spec; terms = terms } in
     subst (λ n. Answers (IsTraceDueFor (shown_as asked) n texts) status told old new) e (subst (λ s. Answers (IsTraceDueFor s steps texts) status told old new) f h)
