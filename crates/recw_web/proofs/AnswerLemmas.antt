@@ -6,13 +6,16 @@ use Rattle.rx_run.specs.declared.ending.Finish.{Finish}
 use Rattle.rx_run.specs.declared.ending.Place.{Place}
 use Rattle.rx_run.specs.declared.ending.RunFault.{RunFault}
 use Rattle.rec_run.specs.Output.{IsDue, bare}
+use Rattle.rec_run.specs.Run.{Texts}
 use Rattle.rec_check.specs.Runs.{Tells}
 use Rattle.rec_check.specs.declared.runs.Judgement.{Judgement}
 use Rattle.rx_look.specs.Faults.{fault_of_run}
 use Rattle.rx_look.specs.declared.ending.LookFault.{LookFault}
-use Rattle.recw_web.specs.Answers.{Answers, IsCheckDue, IsEvalDue, checked, finish_of}
+use Rattle.rec_look.specs.Traces.{IsTraceDueFor, Shown}
+use Rattle.recw_web.specs.Answers.{Answers, IsCheckDue, IsEvalDue, IsTraceAsked, checked, finish_of, shown_as}
 use Rattle.recw_web.specs.Handing.{IsHanded, IsWithheld}
 use Rattle.recw_web.specs.declared.options.Options.{Options}
+use Rattle.recw_web.specs.declared.options.TraceOptions.{TraceOptions}
 use Rattle.recw_web.specs.declared.told.Told.{Told}
 
 module _ (IsDue : Due → Type 0) (lines : List ℕ) (place : Option Place) (status : ℕ) (told : Told) (old new : List ℕ) where
@@ -70,3 +73,9 @@ answers_drawn IsDue lines place (Ok finish) end status told old new before b o f
     answers_by IsDue lines place status told old new (Ok finish) before b (subst (λ z. IfOk z (λ x. IsHanded x lines place status told old new)) o h) tt e p
 answers_drawn IsDue lines place (Err l) end status told old new before b o f e p h w =
     answers_withheld IsDue lines place status told old new (subst (λ z. IfErr z (λ x. IsWithheld status old new)) f.1 w)
+
+-- the run's limits and how it shows traces are those that were asked for
+pub answers_traced : (asked : TraceOptions) (shown : Shown) (steps : ℕ) (spec : List ℕ) (terms : Option (List ℕ)) (status : ℕ) (told : Told) (old new : List ℕ) → steps ≡ min asked.limits.steps (10 ^ 18) → shown ≡ shown_as asked → Answers (IsTraceDueFor shown steps (record { spec = spec; terms = terms })) status told old new → Answers (IsTraceAsked asked spec terms) status told old new
+answers_traced asked shown steps spec terms status told old new e f h =
+    let texts : Texts = record { spec = spec; terms = terms } in
+    subst (λ n. Answers (IsTraceDueFor (shown_as asked) n texts) status told old new) e (subst (λ s. Answers (IsTraceDueFor s steps texts) status told old new) f h)

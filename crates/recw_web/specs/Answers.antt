@@ -1,10 +1,11 @@
 -- What a host is answered of a run over texts in its memory.
 --     IsEvalDue options spec terms d      what is due of an evaluation
+--     IsTraceAsked options spec terms d   what is due of a trace
 --     IsCheckDue name spec d              what is due of a check
 --     Answers IsDue status told old new   0 says that the run is done, 1 that a text is refused,
 --                                         2 that the room is too short for what is due, 3 and 4
 --                                         that memory or cells ran out
-use Rattle.std.specs.Prelude.{◌≡◌, ◌<◌, ◌^◌, ℕ, List, Option, Some, None, length, min, option_map, take, if◌then◌else◌}
+use Rattle.std.specs.Prelude.{◌≡◌, ◌<◌, ◌^◌, ℕ, List, Option, Some, None, length, max, min, option_map, take, if◌then◌else◌}
 use Rattle.rx_run.specs.Due.{Due}
 use Rattle.rx_run.specs.Run.{IsPlaced}
 use Rattle.rx_run.specs.declared.ending.Finish.{Finish}
@@ -16,13 +17,28 @@ use Rattle.rec_check.specs.Lines.{lines_of}
 use Rattle.rec_check.specs.Runs.{Examined}
 use Rattle.rec_check.specs.declared.runs.Judgement.{Judgement}
 use Rattle.rec_check.specs.declared.runs.Judgement.TheVariants as judged
+use Rattle.rec_look.specs.Traces.{IsTraceDueFor, Shown}
 use Rattle.recw_web.specs.declared.options.Options.{Options}
+use Rattle.recw_web.specs.declared.options.TraceOptions.{TraceOptions}
 use Rattle.recw_web.specs.declared.told.Told.{Told}
 
 -- what is due for a specification, and for given terms where there are some
 abbrev pub IsEvalDue : Options → List ℕ → Option (List ℕ) → Due → Type 0
 IsEvalDue options spec terms d =
     IsDue spec terms (bare options.count) (min options.steps (10 ^ 18)) d
+
+-- how traces are to look: a term has 3 bytes at least, and 2^30 at most
+abbrev pub shown_as : TraceOptions → Shown
+shown_as options = record {
+  whole = options.whole;
+  counted = options.limits.count;
+  width = Some (min (max options.width 3) (2 ^ 30));
+}
+
+-- what is due for the traces of a specification's terms, and of given ones where there are some
+abbrev pub IsTraceAsked : TraceOptions → List ℕ → Option (List ℕ) → Due → Type 0
+IsTraceAsked options spec terms d = IsTraceDueFor (shown_as options)
+    (min options.limits.steps (10 ^ 18)) (record { spec = spec; terms = terms }) d
 
 -- how a check ends: warnings refuse nothing
 abbrev pub finish_of : Judgement → Finish

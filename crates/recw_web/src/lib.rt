@@ -11,6 +11,7 @@ pub mod terms;
 #[cfg(test)]
 mod tests;
 mod told;
+pub mod tracing;
 
-pub use options::Options;
+pub use options::{Options, TraceOptions};
 pub use told::Told;

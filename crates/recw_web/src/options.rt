@@ -1,6 +1,8 @@
-//! What a host asks of an evaluation.
+//! What a host asks of an evaluation or of a trace.
 
 ghost use Rattle.std.specs.Prelude.{◌≡◌, ◌^◌, min};
+ghost use Rattle.rec_look.specs.Traces.{shown_by};
+ghost use Rattle.recw_web.specs.Answers.{shown_as};
 
 use rec_run::RunOptions;
 
@@ -12,6 +14,12 @@ const MOST_CELLS: u32 = 1_073_741_824;
 
 /// The most results that are remembered.
 const MOST_REMEMBERED: u32 = 1_048_576;
+
+/// The fewest bytes of a term in the line of a firing: those of the dots behind a cut one.
+const LEAST_WIDTH: u32 = 3;
+
+/// The most of them.
+const MOST_WIDTH: u32 = 1_073_741_824;
 
 /// The limits of an evaluation. A number outside its range stands for the nearest one within.
 #[derive(Clone, Copy)]
@@ -41,6 +49,32 @@ impl Options {
             memo: self.memo.min(MOST_REMEMBERED),
             reclaim: self.reclaim.clamp(1, MOST_CELLS),
             count: self.count,
+        }
+    }
+}
+
+/// What a host asks of a trace. A number outside its range stands for the nearest one within.
+#[derive(Clone, Copy)]
+#[repr(C)]
+pub struct TraceOptions {
+    /// The limits; nothing is remembered.
+    pub limits: Options,
+    /// The most bytes of a term in the line of a firing, 3 to 2^30.
+    pub width: u32,
+    /// Whether these lines have the whole term.
+    pub whole: bool,
+}
+
+impl TraceOptions {
+    /// The options of the run.
+    pub fn within(&self) -> rec_look::TraceOptions
+        ensures steps { result.run.steps ≡ min self.now.limits.steps (10 ^ 18) }
+        ensures shown { shown_by result ≡ shown_as self.now }
+    {
+        rec_look::TraceOptions {
+            run: self.limits.within(),
+            whole: self.whole,
+            width: Some(self.width.max(LEAST_WIDTH).min(MOST_WIDTH)),
         }
     }
 }

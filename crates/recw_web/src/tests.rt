@@ -4,7 +4,8 @@ use crate::checking::recw_check;
 use crate::evaluating::{recw_eval, recw_eval_terms};
 use crate::patterns::{recw_make, recw_match};
 use crate::terms::{recw_aterm, recw_share, recw_share_dot};
-use crate::{Options, Told};
+use crate::tracing::{recw_trace, recw_trace_terms};
+use crate::{Options, Told, TraceOptions};
 use std::process::Abort;
 
 /// A specification that adds one and two.
@@ -20,6 +21,20 @@ const OPTIONS: Options = Options {
     memo: 65_536,
     reclaim: 262_144,
     count: true,
+};
+
+/// The same, of which a firing shows eight bytes of a term.
+const CUT: TraceOptions = TraceOptions {
+    limits: OPTIONS,
+    width: 8,
+    whole: false,
+};
+
+/// The same with whole terms.
+const WHOLE: TraceOptions = TraceOptions {
+    limits: OPTIONS,
+    width: 100,
+    whole: true,
 };
 
 /// What is told before a run.
@@ -46,6 +61,22 @@ fn evaluations_are_written(rt: HostRuntime) {
     wrote(&rt, status, told, &room, b"s(s(s(z)))\t3\n");
     let status = recw_eval_terms(alloc, ADDITION, b"[z]", &OPTIONS, &mut room, &mut told);
     wrote(&rt, status, told, &room, b"s(s(s(z)))\t3\nz\t0\n");
+}
+
+/// The rules of the addition begin in its one line, at the columns 103 and 118.
+#[test]
+fn traces_are_written(rt: HostRuntime) {
+    let alloc = rt.alloc();
+    let mut room = [0u8; 300];
+    let mut told = UNTOLD;
+    let status = recw_trace(alloc, ADDITION, &CUT, &mut room, &mut told);
+    let cut = b"1:118: plus(... -> s(plu...\t1\n1:118: plus(... -> s(plu...\t2\n\
+        1:103: plus(... -> s(z)\t3\ns(s(s(z)))\t3\n";
+    wrote(&rt, status, told, &room, cut);
+    let status = recw_trace_terms(alloc, ADDITION, b"[z]", &WHOLE, &mut room, &mut told);
+    let whole = b"0:0: plus(s(s(z)),s(z))\n1:118: s(plus(s(z),s(z)))\t1\n\
+        1:118: s(s(plus(z,s(z))))\t2\n1:103: s(s(s(z)))\t3\ns(s(s(z)))\t3\n0:0: z\nz\t0\n";
+    wrote(&rt, status, told, &room, whole);
 }
 
 #[test]
