@@ -1,8 +1,7 @@
 -- The trace of a term from its beginning.
-use Rattle.std.proofs.Common.{refl, sym, ap, ap₂, subst, ◌∙◌}
+use Rattle.std.proofs.Common.{sym, ap₂, subst, ◌∙◌}
 use Rattle.std.proofs.lemmas.Option.{slice_get-get_or}
-use Rattle.std.specs.Prelude.{ℕ, ◌≡◌, ◌<◌, List, ◌++◌, Option, Some, IfSome, length, slice_get}
-use Rattle.rx_term.specs.Tree.{Tree, none}
+use Rattle.std.specs.Prelude.{ℕ, ◌≡◌, ◌<◌, List, ◌++◌, Option, IfSome, length, slice_get}
 use Rattle.rx_term.specs.Store.{Store}
 use Rattle.rx_text.specs.declared.output.Output.{Output}
 use Rattle.rec_syntax.specs.Syntax.{Apply, Spec, Term, nameless}

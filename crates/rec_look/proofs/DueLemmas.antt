@@ -1,6 +1,6 @@
 -- What is due for the texts of a run of traces.
 use Rattle.std.proofs.Common.{refl, sym, ap, subst, ◌∙◌, arith, inl, inr}
-use Rattle.std.specs.Prelude.{ℕ, ◌≡◌, ◌≢◌, List, [], ◌++◌, Option, Some, None, IfErr, IfOk, IfSome, IsErrAnd, OnOk, Result, Ok, Err, option_map}
+use Rattle.std.specs.Prelude.{ℕ, ◌≡◌, List, Option, Some, None, IfErr, IfOk, IfSome, IsErrAnd, OnOk, Result, Ok, Err, option_map}
 use Rattle.std.specs.Io.KnownBytes.{Appends}
 use Rattle.rx_term.specs.Store.{Store}
 use Rattle.rx_term.specs.declared.Term.{Term as Reference}
@@ -23,7 +23,7 @@ use Rattle.rx_run.specs.declared.streams.ReadFault.{ReadFault}
 use Rattle.rx_run.specs.declared.streams.ReadFault.TheVariants as unreadable
 use Rattle.rx_run.proofs.ReadDueLemmas.{appends_flushed, flush_refused}
 use Rattle.rx_run.proofs.WholeRunLemmas.{same_refusal}
-use Rattle.rec_run.specs.GivenTerms.{EndsRefused, HoldsList, HoldsTerms, IsReady, IsRefusal, IsRefused, IsTermsRead, OnGoodSpec, OnRefusedSpec, given_at, job_alone_of, job_of, refused_terms}
+use Rattle.rec_run.specs.GivenTerms.{EndsRefused, HoldsList, HoldsTerms, IsReady, IsRefusal, IsRefused, IsTermsRead, OnGoodSpec, OnRefusedSpec, job_alone_of, job_of, refused_terms}
 use Rattle.rec_run.specs.Output.{TermsVerdict, TooLong, Outside, BreaksTerms, GoodTerms, IsTermsVerdict}
 use Rattle.rec_run.specs.Reading.{IsGood, IsSpecRead, IsSpecReading, KeepsText, refused_spec}
 use Rattle.rec_run.specs.Run.{HasRoom, Texts, both_texts}

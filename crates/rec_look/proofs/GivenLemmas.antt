@@ -1,6 +1,6 @@
 -- Given terms that are taken out of a bank.
 use Rattle.std.proofs.Common.{refl, sym, ap, subst, ◌∙◌, arith, append-nil}
-use Rattle.std.specs.Prelude.{ℕ, zero, suc, ◌≡◌, ◌+◌, ◌<◌, Bool, false, List, [], ◌∷◌, ◌++◌, Option, Some, None, drop, flat_map, get_or, is_some, length, take, unwrap_or}
+use Rattle.std.specs.Prelude.{ℕ, zero, suc, ◌≡◌, ◌+◌, ◌<◌, Bool, false, List, [], ◌∷◌, ◌++◌, Some, None, drop, flat_map, get_or, length, take, unwrap_or}
 use Rattle.std.specs.Option.{option_and_then}
 use Rattle.std.specs.List.{list_any}
 use Rattle.rx_term.specs.Tree.{Tree, annotations, from_list, list_of, more, none}
@@ -22,7 +22,7 @@ use Rattle.rec_run.specs.Output.{notes_text}
 use Rattle.rec_look.specs.Telling.{AreGivenTerms, HasNotes}
 use Rattle.rec_look.specs.declared.trace.given.GivenTerms.{GivenTerms}
 use Rattle.rec_look.proofs.TaskLemmas.{pairwise-at, pairwise-length, pairwise-push}
-use Rattle.rec_run.proofs.GivenLemmas.{any_parts, got_at, not_passed}
+use Rattle.rec_run.proofs.GivenLemmas.{any_parts, not_passed}
 use Rattle.rec_run.specs.GivenTerms.{item_at}
 
 -- ---- each term is ground

@@ -1,10 +1,9 @@
 -- The lines of traces that begin with no digit.
-use Rattle.std.proofs.Common.{refl, sym, ap, ap₂, ◌∙◌, arith}
+use Rattle.std.proofs.Common.{refl, sym, ap, ap₂, ◌∙◌}
 use Rattle.std.proofs.lemmas.List.Elements.{filter-append}
 use Rattle.std.specs.Prelude.{ℕ, ◌≡◌, ◌-◌, ◌<◌, ◌^◌, Bool, true, false, not, cond, List, [], ◌∷◌, ◌++◌, Option, None, codes, decimal, filter, flat_map, length, map}
 use Rattle.std.specs.Fmt.{digits}
-use Rattle.rx_term.specs.Tree.{Tree, Trees, Appl, Int, Items, Hole, annotated, none}
-use Rattle.rx_term.specs.Name.{plain_name}
+use Rattle.rx_term.specs.Tree.{Tree, Trees, Appl, Int, Items, Hole, annotated}
 use Rattle.rx_text.specs.Canon.{canon}
 use Rattle.rec_syntax.specs.Syntax.{Spec, Term}
 use Rattle.rec_sorts.specs.Binding.{application, tree_of}
@@ -12,13 +11,13 @@ use Rattle.rec_sorts.specs.Evaluation.{Outcome, Done, Over, Eval}
 use Rattle.rec_sorts.specs.SpecRules.{fault}
 use Rattle.rec_engine.proofs.ValueTreeLemmas.{IsApplied, value_is_applied}
 use Rattle.rx_run.specs.Due.{steps_text}
-use Rattle.rec_run.specs.Output.{Task, bare, each_line, limit_text, line, tasks}
+use Rattle.rec_run.specs.Output.{Task, bare, limit_text, line, tasks}
 use Rattle.rec_run.specs.declared.options.LimitLines.TheVariants.{Bare}
-use Rattle.rec_trace.specs.Lines.{begins_with_digit, cut, firing_line, place_text, spent_text, term_lines, value_line, whole_line, whole_text}
+use Rattle.rec_trace.specs.Lines.{begins_with_digit, cut, firing_line, place_text, spent_text, value_line, whole_line, whole_text}
 use Rattle.rec_trace.specs.Trace.{Firing, Trace}
 use Rattle.rec_trace.proofs.LineLemmas.{firing_line_law, value_line_law}
 use Rattle.rec_trace.proofs.TraceLemmas.{trace_law}
-use Rattle.rec_look.specs.Traces.{Shown, ValuesLaw, task_lines, trace_lines}
+use Rattle.rec_look.specs.Traces.{Shown, ValuesLaw, task_lines}
 
 -- a line begins with no digit
 abbrev other : List ℕ → Bool

@@ -1,7 +1,6 @@
 -- Texts that are written one behind the other.
-use Rattle.std.proofs.Common.{refl, sym, ap, ap₂, subst, ◌∙◌, arith, append_assoc, append-nil}
+use Rattle.std.proofs.Common.{refl, sym, ap, subst, ◌∙◌, arith, append_assoc}
 use Rattle.std.specs.Prelude.{ℕ, ◌≡◌, ◌+◌, List, [], ◌++◌, Option}
-use Rattle.std.specs.Io.KnownBytes.{Appends}
 use Rattle.rx_text.specs.Output.{contents_of}
 use Rattle.rx_text.specs.declared.output.Output.{Output}
 use Rattle.rx_text.proofs.AppendingLemmas.{appends_both, appends_same}

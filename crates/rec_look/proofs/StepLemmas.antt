@@ -3,13 +3,12 @@ use Rattle.std.proofs.Common.{inl, inr, refl, sym, ap, subst, ◌∙◌, append_
 use Rattle.std.proofs.lemmas.List.{map-append}
 use Rattle.std.proofs.lemmas.List.Concat.{flat_map-append}
 use Rattle.std.specs.Prelude.{ℕ, ◌≡◌, ◌<◌, ◌≤◌, ◌-◌, ◌⊎◌, Bool, true, false, List, [], ◌∷◌, ◌++◌, Option, Some, flat_map, get_or, length, map}
-use Rattle.std.proofs.lemmas.Option.{get_or_from_slice_get, slice_get-get_or}
 use Rattle.std.proofs.lemmas.List.{get_or-map, length-map}
 use Rattle.std.specs.Prelude.{slice_get}
 use Rattle.rx_term.specs.Tree.{Tree}
 use Rattle.rx_term.specs.Store.{Store}
 use Rattle.rx_text.specs.declared.output.Output.{Output}
-use Rattle.rec_syntax.specs.Syntax.{Rule, Spec, head}
+use Rattle.rec_syntax.specs.Syntax.{Rule, Spec}
 use Rattle.rx_run.specs.declared.ending.RunFault.{RunFault}
 use Rattle.rec_trace.specs.Lines.{firing_line, firing_text, whole_line, whole_text}
 use Rattle.rec_trace.specs.States.{firing_then}
@@ -23,7 +22,7 @@ use Rattle.rec_trace.specs.declared.tracer.Turn.{Turn}
 use Rattle.rec_trace.specs.declared.tracer.Turn.TheVariants as turn
 use Rattle.rec_trace.proofs.SideLemmas.{rule-at}
 use Rattle.rec_look.specs.Pages.{Breaks, Prints}
-use Rattle.rec_look.specs.Telling.{HasTold, IsEnd, IsTelling, IsWithin, end_line, rule_spot, spot_at, step_line, steps_lines, told}
+use Rattle.rec_look.specs.Telling.{HasTold, IsEnd, IsTelling, IsWithin, end_line, rule_spot, step_line, steps_lines, told}
 use Rattle.rec_look.specs.Traces.{Shown, shown_by}
 use Rattle.rec_look.specs.declared.trace.telling.Telling.{Telling}
 use Rattle.rec_look.proofs.PageLemmas.{breaks-before, breaks-behind, prints-both, prints-none}

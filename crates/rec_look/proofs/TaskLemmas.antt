@@ -1,13 +1,12 @@
 -- The traces of terms, one behind the other.
-use Rattle.std.proofs.Common.{refl, sym, ap, ap₂, subst, ◌∙◌, arith, append_assoc, append-nil, take_all, take-append-drop}
+use Rattle.std.proofs.Common.{refl, sym, ap, ap₂, subst, ◌∙◌, arith, append-nil, take_all, take-append-drop}
 use Rattle.std.proofs.lemmas.List.{take_more}
 use Rattle.std.proofs.lemmas.List.Concat.{flat_map-append}
 use Rattle.std.proofs.lemmas.List.Folds.{flat_map-map}
 use Rattle.std.specs.Prelude.{ℕ, zero, suc, ◌≡◌, ◌+◌, ◌<◌, ◌≤◌, List, [], ◌∷◌, ◌++◌, Option, drop, flat_map, get_or, length, map, take}
-use Rattle.rx_term.specs.Tree.{Tree, annotations, none}
+use Rattle.rx_term.specs.Tree.{Tree, none}
 use Rattle.rx_text.specs.declared.output.Output.{Output}
 use Rattle.rec_syntax.specs.Syntax.{Spec, Term}
-use Rattle.rec_sorts.specs.Evaluation.{term_of}
 use Rattle.rec_sorts.specs.Numbering.{Pairwise}
 use Rattle.rec_run.specs.Output.{Task, tasks}
 use Rattle.rec_trace.specs.Lines.{joined}

@@ -1,8 +1,7 @@
 -- What a trace's firings and its end come to as text.
 use Rattle.std.proofs.Common.{refl, sym, ap, ap₂, subst, ◌∙◌, arith, append_assoc, append-nil}
-use Rattle.std.proofs.lemmas.List.Folds.{flat_map-map}
 use Rattle.std.proofs.lemmas.List.Concat.{flat_map-append}
-use Rattle.std.specs.Prelude.{ℕ, ◌≡◌, ◌+◌, ◌-◌, ◌<◌, ◌≤◌, Bool, true, false, List, [], ◌∷◌, ◌++◌, Option, Some, None, codes, decimal, flat_map, is_some, length, map, unwrap_or}
+use Rattle.std.specs.Prelude.{ℕ, ◌≡◌, ◌-◌, ◌≤◌, Bool, true, false, List, [], ◌∷◌, ◌++◌, Some, None, codes, is_some, map, unwrap_or}
 use Rattle.rx_term.specs.Tree.{Tree, Trees, list_of, none}
 use Rattle.rx_term.specs.Store.{Store, tree_at}
 use Rattle.rx_term.specs.declared.Term.{Term as Reference}
@@ -25,7 +24,7 @@ use Rattle.rec_trace.specs.Lines.{joined, spent_text, value_line, firing_line, w
 use Rattle.rec_trace.specs.States.{firing_then}
 use Rattle.rec_trace.specs.Trace.{Arrives, Firing, Follow, Trace, Traced, quiet}
 use Rattle.rec_trace.proofs.TraceLemmas.{trace_law}
-use Rattle.rec_look.specs.Telling.{IsEnd, IsWithin, LeavesWithin, end_line, end_text, first_text, step_line, steps_lines, told}
+use Rattle.rec_look.specs.Telling.{IsEnd, IsWithin, end_line, end_text, first_text, step_line, steps_lines, told}
 use Rattle.rec_look.specs.Traces.{Shown, task_text}
 
 -- ---- no more is left than there was at first

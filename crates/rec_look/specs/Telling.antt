@@ -20,7 +20,7 @@ use Rattle.rec_run.specs.Output.{Task, notes_text}
 use Rattle.rec_run.specs.Reading.{term_at}
 use Rattle.rec_trace.specs.Lines.{column_of, firing_line, joined, line_of, whole_line, whole_text}
 use Rattle.rec_trace.specs.States.{firing_then}
-use Rattle.rec_trace.specs.Trace.{Firing, Trace, Traced, quiet}
+use Rattle.rec_trace.specs.Trace.{Firing, Trace, Traced}
 use Rattle.rec_trace.specs.Tracing.{Stands, rest_of, whole_of}
 use Rattle.rec_trace.specs.declared.lines.Spot.{Spot}
 use Rattle.rec_trace.specs.declared.tracer.Tracer.{Tracer}

@@ -1,5 +1,5 @@
-use Rattle.std.proofs.Common.{◌≡◌, List, ap, subst, ◌∙◌}
-use Rattle.std.specs.Prelude.{ℕ, ◌++◌, codes}
+use Rattle.std.proofs.Common.{◌≡◌, ap, subst, ◌∙◌}
+use Rattle.std.specs.Prelude.{◌++◌, codes}
 use Rattle.std.proofs.lemmas.Result.{IfErr-weaker}
 use Rattle.rx_run.proofs.ErrorLemmas.{on_ok_of}
 use Rattle.rec_trace.specs.Tracing.{rest_of}

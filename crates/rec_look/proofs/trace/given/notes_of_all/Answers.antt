@@ -1,4 +1,4 @@
-use Rattle.std.proofs.Common.{◌≡◌, ◌+◌, ◌<◌, ◌≤◌, [], ap, arith, length, refl, subst, sym, take, take_all, ◌∙◌}
+use Rattle.std.proofs.Common.{◌<◌, ◌≤◌, ap, arith, length, subst, sym, take, take_all, ◌∙◌}
 use Rattle.std.specs.Prelude.{is_some}
 use Rattle.rx_term.specs.Tree.{list_of, none}
 use Rattle.rec_sorts.specs.Numbering.{Pairwise}

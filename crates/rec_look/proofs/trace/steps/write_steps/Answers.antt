@@ -1,9 +1,9 @@
-use Rattle.std.proofs.Common.{List, refl, subst, sym, ◌∙◌}
+use Rattle.std.proofs.Common.{List, refl, subst, ◌∙◌}
 use Rattle.std.specs.Prelude.{ℕ}
 use Rattle.rec_syntax.specs.Syntax.{Spec}
 use Rattle.rx_run.proofs.ErrorLemmas.{if_err_at}
 use Rattle.rec_trace.proofs.ListLemmas.{same_both}
-use Rattle.rec_trace.specs.Tracing.{Stands, rest_of}
+use Rattle.rec_trace.specs.Tracing.{rest_of}
 use Rattle.rec_look.specs.Pages.{Breaks}
 use Rattle.rec_look.specs.Telling.{HasTold, IsTelling, IsToldTurn, told}
 use Rattle.rec_look.specs.Traces.{shown_by}

@@ -1,4 +1,4 @@
-use Rattle.std.proofs.Common.{ℕ, length}
+use Rattle.std.proofs.Common.{length}
 use Rattle.rx_text.specs.Output.{IsSameOutput, IsWritable}
 use Rattle.rec_engine.specs.Engine.{SameEngine}
 use Rattle.rec_trace.specs.Tracing.{Stands, rest_of}

@@ -1,4 +1,4 @@
-use Rattle.std.proofs.Common.{◌≡◌, ◌≤◌, List, refl, subst, sym, ◌∙◌}
+use Rattle.std.proofs.Common.{◌≤◌, List, subst, sym, ◌∙◌}
 use Rattle.std.specs.Prelude.{ℕ}
 use Rattle.rec_syntax.specs.Syntax.{Spec}
 use Rattle.rx_run.proofs.ErrorLemmas.{if_err_at}

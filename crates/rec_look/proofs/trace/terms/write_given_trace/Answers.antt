@@ -1,9 +1,8 @@
-use Rattle.std.proofs.Common.{◌≡◌, IfErr, List, OnOk, [], refl, subst, sym}
+use Rattle.std.proofs.Common.{◌≡◌, IfErr, List, OnOk, subst}
 use Rattle.std.specs.Prelude.{ℕ}
 use Rattle.std.proofs.lemmas.Result.{IfErr-weaker}
 use Rattle.rx_run.proofs.ErrorLemmas.{on_ok_of}
 use Rattle.rec_syntax.specs.Syntax.{Spec}
-use Rattle.rec_sorts.specs.Evaluation.{term_of}
 use Rattle.rec_run.specs.Output.{Task, notes_text}
 use Rattle.rec_look.specs.Pages.{Breaks, Prints}
 use Rattle.rec_look.specs.Telling.{Begins, IsTelling, given_task}

@@ -1,4 +1,4 @@
-use Rattle.std.proofs.Common.{◌≡◌, ◌<◌, ◌≤◌, List, [], arith, get_or, length, refl, subst, sym, ◌∙◌}
+use Rattle.std.proofs.Common.{◌<◌, ◌≤◌, List, arith, length, subst, sym, ◌∙◌}
 use Rattle.std.specs.Prelude.{ℕ}
 use Rattle.rx_term.specs.Tree.{none}
 use Rattle.rec_syntax.specs.Syntax.{Apply, Spec, Term, nameless}
