@@ -90,7 +90,13 @@ fn checks_are_written(rt: HostRuntime) {
     let status = recw_check(alloc, b"a.rec", unused, &mut room, &mut told);
     let warning = b"a.rec:1:25: W4: never used: a symbol of no rule and of no term: z\n";
     wrote(&rt, status, told, &room, warning);
-    let status = recw_check(alloc, b"b", b"REC-SPEC E SORTS : END-SPEC", &mut room, &mut told);
+    let status = recw_check(
+        alloc,
+        b"b",
+        b"REC-SPEC E SORTS : END-SPEC",
+        &mut room,
+        &mut told,
+    );
     assert_eq!(rt; (status, told.has_place), (1, false));
     assert!(rt; room.starts_with(b"b:1:18: G: no specification has this here\n"));
     assert_eq!(rt; told.length, 42);
@@ -117,7 +123,8 @@ fn graphs_are_written(rt: HostRuntime) {
     let mut room = [0u8; 200];
     let mut told = UNTOLD;
     let status = recw_share_dot(alloc, b"a", 1, &mut room, &mut told);
-    let graph = b"digraph term {\n  node [shape=box, fontname=\"monospace\"];\n  n0 [label=\"a\"];\n  \
+    let graph =
+        b"digraph term {\n  node [shape=box, fontname=\"monospace\"];\n  n0 [label=\"a\"];\n  \
         rest [label=\"1 more\", style=dashed];\n}\n";
     wrote(&rt, status, told, &room, graph);
     let status = recw_share_dot(alloc, b"f(a,)", 1, &mut room, &mut told);

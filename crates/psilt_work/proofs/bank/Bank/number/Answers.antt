@@ -22,10 +22,10 @@ returns-clause-number c =
     let b : BankState = record { shared = c.symbol.new.self; specified = option_map specified_by c.self.inside.prepared; symbols = ms } in
     elim c.match-insert_full.branch [
       | in-Ok-insert_full w ↦ (
-        let k = w.in-Ok-insert_full.ensures.stored in
-        rw w.result-is (number_is b _ w.in-Ok-insert_full.place c.in-Ok.symbol.0 (sound c.symbol.new.self)
-        (one_place _ equal_number ms c.insert_full.ensures.unique) (k.1 ∙ ap (λ x. Some x) (sym (same_number c.in-Ok.symbol.0 k.0 k.2))) c.in-Ok.ensures.added)
-      )
+          let k = w.in-Ok-insert_full.ensures.stored in
+          rw w.result-is (number_is b _ w.in-Ok-insert_full.place c.in-Ok.symbol.0 (sound c.symbol.new.self)
+          (one_place _ equal_number ms c.insert_full.ensures.unique) (k.1 ∙ ap (λ x. Some x) (sym (same_number c.in-Ok.symbol.0 k.0 k.2))) c.in-Ok.ensures.added)
+          )
       | in-Err w ↦ rw w.result-is tt
     ]
 
