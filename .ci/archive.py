@@ -43,7 +43,8 @@ def words(kit, known):
     for name in below(known, NAME):
         said += ["-L", f"dependency={os.path.dirname(library(name))}"]
     said += ["--antt-project", f"{kit}/rattle/logic/antt-project.json", "--logic-built", f"{kit}/logic_built"]
-    said += ["--links", f"{NAME}=", "--jobs", "1", "--toolchain", f"{kit}/toolchain", "--backend", "llvm"]
+    said += ["--links", f"{NAME}=", "--jobs", os.environ.get("RT_JOBS", "1")]
+    said += ["--toolchain", f"{kit}/toolchain", "--backend", "llvm"]
     return [f"{kit}/bin/rattle", "build", *said, "-o", f"out/lib{NAME}.a"]
 
 
