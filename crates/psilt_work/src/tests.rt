@@ -262,12 +262,12 @@ fn refuses_patterns(rt: &impl Abort, alloc: Global, work: &mut Work) {
     assert!(rt; work.cells() == 0);
     let pattern = work.pattern(alloc, b"f(<int>)").expect(rt, "a pattern");
     assert!(rt; work.match_term(alloc, pattern, Term(0)) == Err(Fault::Stale));
-    assert!(rt; work.match_term(alloc, pattern + 1, Term(0)) == Err(Fault::Unknown));
+    assert!(rt; work.match_term(alloc, pattern.wrapping_add(1), Term(0)) == Err(Fault::Unknown));
     let a = read(rt, alloc, work, b"a");
     assert!(rt; work.make(alloc, pattern, &[]) == Err(Fault::Range));
     assert!(rt; work.make(alloc, pattern, &[a.0]) == Err(Fault::Kind));
     assert!(rt; work.make(alloc, pattern, &[99]) == Err(Fault::Stale));
-    assert!(rt; work.make(alloc, pattern + 1, &[]) == Err(Fault::Unknown));
+    assert!(rt; work.make(alloc, pattern.wrapping_add(1), &[]) == Err(Fault::Unknown));
 }
 
 #[test]
@@ -310,7 +310,7 @@ fn applies(rt: &impl Abort, alloc: Global, work: &mut Work) {
     prints(rt, alloc, work, both, b"\"f\"(a,f(a,a))");
     assert!(rt; work.apply(f, &[a.0]) == Err(Fault::Range));
     assert!(rt; work.apply(f, &[a.0, 99]) == Err(Fault::Stale));
-    assert!(rt; work.apply(g + 1, &[]) == Err(Fault::Unknown));
+    assert!(rt; work.apply(g.wrapping_add(1), &[]) == Err(Fault::Unknown));
     assert!(rt; work.reclaim(alloc, &[]) == Ok(()));
     let b = read(rt, alloc, work, b"b");
     let both = work.apply(f, &[b.0, b.0]).expect(rt, "an application");
