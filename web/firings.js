@@ -5,7 +5,7 @@ const LEAST_FIRINGS = 20;     // that may be shown of each term
 const WIDTH = 2000;           // characters of a term
 const LONGEST_TERM = 60;      // characters of a term in the list
 
-const steps = { terms: [], firings: [], at: 0, limit: 0 };
+const steps = { terms: [], firings: [], at: 0, limit: 0, told: '' };
 
 // The runs of what is asked, with a limit below which all terms together have not too many firings.
 function tracesAsked() {
@@ -24,6 +24,10 @@ async function showFirings(runner) {
   const faults = told.answers ? told.answers.map((it) => it.fault) : [told.error];
   const [fault] = faults.filter((it) => it), isGood = !fault && told.answers[0].status === 0;
   const [short, long] = isGood ? told.answers.map(({ out }) => new TextDecoder().decode(out)) : ['', ''];
+  // an answer that comes once more leaves the firing that is looked at
+  const again = isGood && steps.told === short + long;
+  steps.told = short + long;
+  if (again) return goToFiring(steps.at);
   steps.terms = readTrace(short, long);
   listTerms();
   showTermOfTrace();
