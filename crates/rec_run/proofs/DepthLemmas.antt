@@ -148,11 +148,6 @@ pub err_told : {A : Type 0} (P : RunFault → Type 0) (r : Result A RunDepthFaul
 err_told P (Ok a) h = tt
 err_told P (Err f) h = h
 
--- what holds of a value
-pub told_ok : {A : Type 0} (P : A → Type 0) (r : Result A RunDepthFault) → IfOk r P → IfOk (unbounded r) P
-told_ok P (Ok a) h = h
-told_ok P (Err f) h = tt
-
 pub ok_told : {A : Type 0} (P : A → Type 0) (r : Result A RunDepthFault) → IfOk (unbounded r) P → IfOk r P
 ok_told P (Ok a) h = h
 ok_told P (Err f) h = tt

@@ -42,13 +42,6 @@ has_room_exhausts w needed (Room lines) h = absurd h
 has_room_exhausts w needed Read h = tt
 has_room_exhausts w needed Write h = tt
 
--- nor is a writer's, nor want of memory
-pub write_has_room : (f : RunFault) → f ≡ Write → HasRoom f
-write_has_room (Memory lines) e = tt
-write_has_room (Room lines) e = absurd (cc e)
-write_has_room Read e = tt
-write_has_room Write e = tt
-
 pub memory_has_room : (f : RunFault) → f ≡ Memory 0 → HasRoom f
 memory_has_room (Memory lines) e = tt
 memory_has_room (Room lines) e = absurd (cc e)

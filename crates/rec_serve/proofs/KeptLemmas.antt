@@ -40,9 +40,6 @@ kept_nothing zero text line some e h = absurd (omega (arith, some))
 kept_nothing (suc n) text [] some e h = refl
 kept_nothing (suc n) text (b ∷ bs) some e h = let k : length text ≡ suc (length (take n bs)) = ap length e in absurd (omega (arith, k, h))
 
-kept_some : (most : ℕ) (text line : List ℕ) → text ≡ take most line → 0 < length text → 0 < length line
-kept_some most text line e h = let k : length text ≡ min most (length line) = ap length e ∙ length-take most line in omega (arith, k, h)
-
 pub empty_request : (r : Request) (line : List ℕ) → r.is_lost ≡ false → length r.text.items ≡ 0 → IsRead r line → line ≡ []
 empty_request r line kept none is =
     let e : r.text.items ≡ take 16777217 line = subst (λ b. MatchBool b (0 < length line) (r.text.items ≡ take 16777217 line)) kept is in
@@ -70,18 +67,6 @@ pub read_more : (lost : Bool) (k : ℕ) (text more line piece : List ℕ) → lo
 read_more true k text more line piece e is few kept = absurd (cc e)
 read_more false k text more line piece e is few kept = kept ∙ kept_more 16777217 k text line piece is few
 
-pub lost_now : (line piece : List ℕ) → (length piece ≡ 0 → ⊥) → 0 < length (line ++ piece)
-lost_now line piece some = by (length piece) refl
-  where
-    by : (n : ℕ) → length piece ≡ n → 0 < length (line ++ piece)
-    by zero e = absurd (some e)
-    by (suc n) e = let size = length-append line piece in omega (arith, e, size)
-
-pub filled_request : (r : Request) (line : List ℕ) → r.is_lost ≡ false → 0 < length r.text.items → IsRead r line → 0 < length line
-filled_request r line kept some is =
-    let e : r.text.items ≡ take 16777217 line = subst (λ b. MatchBool b (0 < length line) (r.text.items ≡ take 16777217 line)) kept is in
-    kept_some 16777217 r.text.items line e some
-
 -- ---- bytes that were read ahead
 
 drop_take : (c m : ℕ) (zs : List ℕ) → drop c (take m zs) ≡ take (m - c) (drop c zs)
@@ -102,28 +87,15 @@ part_skipped xs a b c =
 
 -- ---- what is left of a stream
 
-pub begins_all : (old : Option (List ℕ)) → Begins old old []
-begins_all None = tt
-begins_all (Some bytes) = refl
-
 pub begins_keeps : (old left new : Option (List ℕ)) (line : List ℕ) → Begins old left line → Keeps left new → Begins old new line
 begins_keeps None left new line h k = tt
 begins_keeps (Some bytes) None new line h k = absurd h
 begins_keeps (Some bytes) (Some rest) None line h k = absurd k
 begins_keeps (Some bytes) (Some rest) (Some same) line h k = h ∙ ap (λ z. all_in_front line (requests z)) (sym k)
 
--- where nothing was read ahead, what is left is what the reader has left
-pub left_empty : (a : ReadAhead) (known : Option (List ℕ)) → unread a ≡ [] → Keeps (left_of a known) known
-left_empty a None e = tt
-left_empty a (Some rest) e = sym (ap (λ z. z ++ rest) e)
-
 pub left_again : (a : ReadAhead) (known : Option (List ℕ)) → unread a ≡ [] → Splits known (left_of a known) []
 left_again a None e = tt
 left_again a (Some rest) e = ap requests (sym (ap (λ z. z ++ rest) e))
-
--- after a read
-pub begins_filled : (old known : Option (List ℕ)) (a : ReadAhead) (left : Option (List ℕ)) (line : List ℕ) → Begins old (left_of a known) line → unread a ≡ [] → Keeps known left → Begins old left line
-begins_filled old known a left line h e k = begins_keeps old known left line (begins_keeps old (left_of a known) known line h (left_empty a known e)) k
 
 -- after a piece without a line end
 pub begins_taken : (old known : Option (List ℕ)) (a b : ReadAhead) (line piece : List ℕ) → Begins old (left_of a known) line → Takes a b false piece → Begins old (left_of b known) (line ++ piece)

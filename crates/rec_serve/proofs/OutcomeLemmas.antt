@@ -66,10 +66,6 @@ pairwise_last P [] x y h = h.0
 pairwise_last P (a ∷ []) x y h = absurd (h.1)
 pairwise_last P (a ∷ b ∷ xs) x y h = absurd (h.1)
 
-pub pairwise_some : {X Y : Type 0} (P : X → Y → Type 0) (xs : List X) (y : Y) → Pairwise P xs (y ∷ []) → xs ≡ [] → ⊥
-pairwise_some P [] y h e = h
-pairwise_some P (x ∷ xs) y h e = cc e
-
 pub pairwise_filled : {X Y : Type 0} (P : X → Y → Type 0) (xs : List X) (y : Y) → Pairwise P xs (y ∷ []) → 0 < length xs
 pairwise_filled P [] y h = absurd h
 pairwise_filled P (x ∷ xs) y h = omega arith

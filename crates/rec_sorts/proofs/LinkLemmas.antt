@@ -81,16 +81,6 @@ linked-differ y old now ss n kept so i j d hi hj e =
     name_or (Some s) = s.name
     name_or None = []
 
-none-numbered : (numbers : ℕ → Option ℕ) → ((q : ℕ) → numbers q ≡ None) → NumbersOf [] numbers
-none-numbered numbers empty s = record {
-  found = λ k h. absurd (cc (sym (empty s.0) ∙ h));
-  each = λ k h f. absurd (omega arith);
-}
-
--- no symbol has a number yet
-pub numbers-none : (ss : List bank.Symbol) (numbers : ℕ → Option ℕ) → ss ≡ [] → ((q : ℕ) → numbers q ≡ None) → NumbersOf ss numbers
-numbers-none ss numbers e empty = subst (λ xs. NumbersOf xs numbers) (sym e) (none-numbered numbers empty)
-
 -- one more symbol, which is none of the others, has the next number
 numbers-push : (ss ss' : List bank.Symbol) (numbers numbers' : ℕ → Option ℕ) (n : ℕ) (s : bank.Symbol) → length ss ≡ n → NumbersOf ss numbers → ((k : ℕ) → k < n → get_or ss k s ≡ s → ⊥) → ss' ≡ ss ++ s ∷ []
     → numbers' s.0 ≡ Some n → ((q : ℕ) → nat_eq s.0 q ≡ false → numbers' q ≡ numbers q) → NumbersOf ss' numbers'

@@ -108,23 +108,6 @@ pub within_call : (bytes : List ℕ) (p : Role) (t : Term) (cs : List Call) (mad
 within_call bytes p t [] made y k h = absurd (h refl)
 within_call bytes p t (c ∷ cs) made y k h = argument_ends p t (record { word = word_of bytes c.word; arguments = newest c.count made none }) (frames_of bytes cs (drop c.count made)) y k
 
--- a bad token is never taken
-bad_complete : (p : Role) (t : Term) (y : Spec) → complete p t y tokens.Bad ≡ None
-bad_complete Left t y = refl
-bad_complete (Right l) t y = refl
-bad_complete (CondLeft l r cs) t y = refl
-bad_complete (CondRight l r cs x e) t y = refl
-bad_complete InEval t y = refl
-
-bad_after : (p : Role) (t : Term) (fs : List Frame) (y : Spec) → after p t fs y tokens.Bad ≡ None
-bad_after p t [] y = bad_complete p t y
-bad_after p t (f ∷ fs) y = refl
-
-pub bad_step : (d : Due) (y : Spec) → step d y tokens.Bad ≡ None
-bad_step (Called p w fs) y = bad_after p (Apply w none) fs y
-bad_step (After p t fs) y = bad_after p t fs y
-bad_step d y = refl
-
 sample_is : (k : TokenKind) → IsOf k (sample k)
 sample_is PlainWord = (record { at = 0; bytes = [] }, refl)
 sample_is RecSpec = refl
@@ -165,9 +148,6 @@ pub record Reached (bytes : List ℕ) (c : Config) (ps : List Placed) : Type 0 w
   pub before : List Placed
   pub cut : placed_tokens bytes ≡ before ++ ps
   pub led : run (Some start) (bare before) ≡ Some c
-
-pub reached_first : (bytes : List ℕ) (c : Config) → c ≡ start → Reached bytes c (placed_tokens bytes)
-reached_first bytes c e = record { before = []; cut = refl; led = ap (λ (x : Config). Some x) (sym e) }
 
 -- a token that is taken leads on
 pub reached_next : (bytes : List ℕ) (c d : Config) (ps rest : List Placed) (t : Token) (at : ℕ) → Reached bytes c ps → ps ≡ placed t at ∷ rest → step c.due c.read t ≡ Some d → Reached bytes d rest

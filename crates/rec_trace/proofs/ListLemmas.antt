@@ -1,6 +1,6 @@
 -- Lists in a bank, what protects them, and what others protect.
 use Rattle.std.proofs.Common.{◌+◌, ◌-◌, ◌<◌, ◌≤◌, ℕ, arith, refl, sym, ap, subst, ◌∙◌, length, drop, get_or, inl}
-use Rattle.std.specs.Prelude.{zero, suc, ◌≡◌, ◌==◌, Bool, true, false, List, [], ◌∷◌, OnOk, Option, Some, Ok, Err, Result, IsSome, is_some, Contains, if◌then◌else◌, unwrap_or}
+use Rattle.std.specs.Prelude.{zero, suc, ◌≡◌, ◌==◌, Bool, List, [], ◌∷◌, OnOk, Option, Some, Ok, Err, Result, IsSome, is_some, Contains, if◌then◌else◌, unwrap_or}
 use Rattle.std.specs.Option.{option_and_then}
 use Rattle.std.proofs.lemmas.Bool.Decides.{nat_tests}
 use Rattle.rx_term.specs.Tree.{Tree, Trees, none, more, from_list, items_of, list_of, to_list}
@@ -46,9 +46,6 @@ longer-list w t below held list =
     ap (λ o. longer o (tree_at w below)) x.1 ∙ ap (longer (Some x.0)) list
     ∙ ap (λ (o : Option Tree). let u : Option Tree = Some (list_of (more (unwrap_or o (list_of none)) (from_list (listed w below)))) in u) (sym x.1)
 
-pub can-hold : (w : Store) (t below : Term) → IsSome (tree_at w t) → IsList w below → IsSome (longer (tree_at w t) (tree_at w below))
-can-hold w t below held list = ap is_some (longer-list w t below held list)
-
 -- the first item of a list that has one, and the others
 pub first-of : (xs : List Tree) → 0 < length xs → xs ≡ get_or xs 0 (list_of none) ∷ drop 1 xs
 first-of [] lt = let no : ⊥ = omega (arith, lt) in absurd no
@@ -73,14 +70,6 @@ given-rooted w l kept = let c = kept.counted l.given.0 in let e = itself l.given
 
 pub stack-rooted : (w : Store) (l : Lists) → AreKept w l → 0 < w.roots l.stack.0
 stack-rooted w l kept = let c = kept.counted l.stack.0 in let e = itself l.stack.0 in omega (arith, c, e)
-
--- what is protected is still protected, after another one was
-pub still-rooted : (w : Store) (a b : Term) → 0 < w.roots a.0 → 0 < (with_count w b (w.roots b.0 + 1)).roots a.0
-still-rooted w a b low = by (a.0 == b.0)
-  where
-    by : (t : Bool) → 0 < (if t then w.roots b.0 + 1 else w.roots a.0)
-    by true = omega arith
-    by false = low
 
 pub spares-trans : {a b c : Store} {l m n : Lists} → Spares a b l m → Spares b c m n → Spares a c l n
 spares-trans {a} {b} {c} {l} {m} {n} p q = record {

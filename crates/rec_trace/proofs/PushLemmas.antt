@@ -215,9 +215,6 @@ pushed-more y w w1 w2 a b c i bind l ls same keeps p q = record {
       q.moves r s u match (subst (λ k. HasValues w1 k bind s) (sym same) (keeps s values)) ∙ ap (λ ms. move_of s (named_by y l) ∷ ms) (p.moves r s u match values);
 }
 
-pub pushed-none : (y : Spec) (w : Store) (a : Tracer) (i : ℕ) (bind : List Reference) → IsInOrder y w a → HasPushed y w w a a i bind []
-pushed-none y w a i bind order = record { order = order; stack = refl; moves = λ r s u match values. refl }
-
 -- what has a value has no arguments
 abbrev NoArguments : Substitution → List Named → Type 0
 NoArguments s ms = Every (λ (m : Named). (v : Tree) → value_of s m.name ≡ Some v → m.arguments ≡ 0) ms

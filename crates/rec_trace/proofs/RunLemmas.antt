@@ -187,9 +187,6 @@ pub record Running (c : Caller) (y : Spec) (w0 w : Store) (old now : Tracer) (fl
   pub stack : stack_at w now ≡ values ++ stack_at w0 old
   pub comes : result c now.left (take (vec_len now.steps - floor) (moves_at y w now)) values ≡ result c old.left (take (vec_len old.steps - floor) (moves_at y w0 old)) []
 
-pub running-first : (c : Caller) (y : Spec) (w : Store) (t : Tracer) (floor : ℕ) → IsInOrder y w t → Fits (take (vec_len t.steps - floor) (moves_at y w t)) 0 1 → Running c y w w t t floor
-running-first c y w t floor order fits = record { values = []; order = order; fits = fits; rest = refl; stack = refl; comes = refl }
-
 module _ (c : Caller) (y : Spec) (w0 w : Store) (old now : Tracer) (floor : ℕ) (r : Running c y w0 w old now floor) (some : floor < vec_len now.steps) where
   rest_count : ℕ
   rest_count = vec_len now.steps - floor - 1

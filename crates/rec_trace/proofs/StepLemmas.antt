@@ -7,7 +7,7 @@ use Rattle.rx_term.specs.Store.{Store}
 use Rattle.rec_syntax.specs.Syntax.{Spec, Term}
 use Rattle.rec_sorts.specs.Lookup.{symbols}
 use Rattle.rec_sorts.specs.Binding.{application, tree_of}
-use Rattle.rec_sorts.specs.Evaluation.{Done, Eval, first_rule}
+use Rattle.rec_sorts.specs.Evaluation.{Eval, first_rule}
 use Rattle.rec_sorts.specs.SpecRules.{fault}
 use Rattle.rec_sorts.specs.Numbering.{AreLetters, arity_of, name_of, named_by}
 use Rattle.rec_sorts.specs.declared.letters.Letter.{Letter}
@@ -15,7 +15,7 @@ use Rattle.rec_sorts.specs.declared.letters.Meaning.TheVariants.{Symbol}
 use Rattle.rec_engine.specs.Flat.{taken}
 use Rattle.rec_engine.specs.Made.{IsApplied}
 use Rattle.rec_engine.proofs.TermLemmas.{drop-end}
-use Rattle.rec_trace.specs.Trace.{Trace, firing, quiet}
+use Rattle.rec_trace.specs.Trace.{Trace, firing}
 use Rattle.rec_trace.specs.States.{Fits, Give, Invoke, after_call, ahead, firing_then, moves, written}
 use Rattle.rec_trace.specs.Sides.{move_of}
 use Rattle.rec_trace.specs.Lists.{AreKept, Hold, listed}
@@ -170,22 +170,6 @@ turn-since y w w1 w2 a b d (turn.Fired rule redex contractum) s h = record {
 }
 turn-since y w w1 w2 a b d (turn.Value t) s h = (h.0, h.1, sym s.rest ∙ h.2)
 turn-since y w w1 w2 a b d turn.Limit s h = sym s.rest ∙ h
-
--- no step is left: one value is
-one-left : (st : List Tree) → length st ≡ 1 → st ≡ get_or st 0 (list_of none) ∷ []
-one-left [] e = let no : ⊥ = omega (arith, e) in absurd no
-one-left (v ∷ []) e = refl
-one-left (v ∷ u ∷ st) e = let no : ⊥ = omega (arith, e) in absurd no
-
-pub none-left : (y : Spec) (w : Store) (a : Tracer) → Stands y w a → a.steps.items ≡ [] → (stack_at w a ≡ get_or (stack_at w a) 0 (list_of none) ∷ []) × (rest_of y w a ≡ quiet (Done (get_or (stack_at w a) 0 (list_of none)) a.left))
-none-left y w a s e =
-    let moves_are : moves_at y w a ≡ [] = ap (λ xs. moves_of y (reverse xs) (listed w a.lists.given)) e in
-    let one = one-left (stack_at w a) (subst (λ ms. Fits ms (length (stack_at w a)) 1) moves_are s.fits) in
-    (one, ap (λ ms. ahead y a.left ms (stack_at w a)) moves_are ∙ ap (ahead y a.left []) one)
-
-pub nothing-of : (xs : List Step) → length xs ≡ 0 → xs ≡ []
-nothing-of [] e = refl
-nothing-of (x ∷ xs) e = let no : ⊥ = omega (arith, e) in absurd no
 
 -- the same steps over the same lists
 pub same-stands : (y : Spec) (w : Store) (a b : Tracer) → Stands y w a → b.lists ≡ a.lists → b.steps.items ≡ a.steps.items → Stands y w b

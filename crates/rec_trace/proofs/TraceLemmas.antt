@@ -207,12 +207,6 @@ follow_above : (y : Spec) (n n' : ℕ) (t : Tree) (fs : List Firing) (u : Tree) 
 follow_above y n n' t [] u left le h = (h.0, let low = h.1 in omega arith)
 follow_above y n n' t (f ∷ fs) u left le h = (h.0, is_step_above y n n' f le h.1, h.2)
 
-follow_left : (y : Spec) (n : ℕ) (t : Tree) (fs : List Firing) (u : Tree) (left : ℕ) → Follow y n t fs u left → left ≤ n
-follow_left y n t [] u left h = h.1
-follow_left y n t (f ∷ fs) u left h =
-    let low : left ≤ f.left = follow_left y f.left f.after fs u left h.2 in
-    let less : f.left < n = h.1.spends in omega arith
-
 follow_join : (y : Spec) (n k : ℕ) (a b c : Tree) (fs gs : List Firing) (left : ℕ) → Follow y n a fs b k → Follow y k b gs c left → Follow y n a (fs ++ gs) c left
 follow_join y n k a b c [] gs left h later = subst (λ x. Follow y n x gs c left) (sym h.0) (follow_above y k n b gs c left h.1 later)
 follow_join y n k a b c (f ∷ fs) gs left h later = (h.0, h.1, follow_join y f.left k f.after b c fs gs left h.2 later)

@@ -1,7 +1,7 @@
 -- The whole term, written down from a copy of a state.
-use Rattle.std.proofs.Common.{◌+◌, ◌-◌, ◌<◌, ◌≤◌, ℕ, arith, refl, sym, ap, subst, ◌∙◌, get_or, length, drop, length-drop, vec_len}
+use Rattle.std.proofs.Common.{◌+◌, ◌-◌, ◌<◌, ◌≤◌, ℕ, arith, sym, ap, subst, ◌∙◌, length, drop, length-drop, vec_len}
 use Rattle.std.specs.Prelude.{suc, ◌≡◌, Bool, true, false, List, [], ◌∷◌, reverse}
-use Rattle.rx_term.specs.Tree.{Tree, list_of, none}
+use Rattle.rx_term.specs.Tree.{Tree, none}
 use Rattle.rx_term.specs.Store.{Store, tree_at}
 use Rattle.rx_term.specs.declared.Term.{Term as Reference}
 use Rattle.rec_syntax.specs.Syntax.{Spec}
@@ -66,9 +66,6 @@ pub record Writing (y : Spec) (w0 w : Store) (old now : Tracer) : Type 0 where
   pub fits : Fits (moves_at y w now) (length (stack_at w now)) 1
   pub whole : whole_of y w now ≡ whole_of y w0 old
 
-pub writing-first : (y : Spec) (w : Store) (t : Tracer) → Stands y w t → Writing y w w t t
-writing-first y w t s = record { order = s.order; fits = s.fits; whole = refl }
-
 can : (ms : List Move) (d : ℕ) → 0 < length ms → Fits ms d 1 → CanTurn ms d
 can [] d some fits = let no : ⊥ = omega (arith, some) in absurd no
 can (Give v ∷ ms) d some fits = tt
@@ -82,21 +79,6 @@ writing-next y w0 w w' old now new true h t =
     let s = same-written y now.left new.left (moves_at y w now) (stack_at w now) (moves_at y w' new) (stack_at w' new) h.fits t.1 in
     record { order = t.0; fits = s.fits; whole = s.tree ∙ h.whole }
 writing-next y w0 w w' old now new false h t = absurd (never-ends y now.left new.left (moves_at y w now) (stack_at w now) (moves_at y w' new) (stack_at w' new) t)
-
-one-left : (st : List Tree) → length st ≡ 1 → (0 < length st) × (written [] st ≡ get_or st 0 (list_of none))
-one-left [] e = let no : ⊥ = omega (arith, e) in absurd no
-one-left (v ∷ st) e = (omega arith, refl)
-
-pub writing-ends : (y : Spec) (w0 w : Store) (old now : Tracer) → Writing y w0 w old now → vec_len now.steps ≡ length now.steps.items → vec_len now.steps ≤ 0 → (0 < length (stack_at w now)) × (whole_of y w0 old ≡ get_or (stack_at w now) 0 (list_of none))
-writing-ends y w0 w old now h long le =
-    let many = as-many y w now h.order in
-    let none_left : moves_at y w now ≡ [] = nothing (moves_at y w now) (omega (arith, many, long, le)) in
-    let one = one-left (stack_at w now) (subst (λ ms. Fits ms (length (stack_at w now)) 1) none_left h.fits) in
-    (one.0, sym h.whole ∙ ap (λ ms. written ms (stack_at w now)) none_left ∙ one.1)
-  where
-    nothing : (ms : List Move) → length ms ≡ 0 → ms ≡ []
-    nothing [] e = refl
-    nothing (m ∷ ms) e = let no : ⊥ = omega (arith, e) in absurd no
 
 -- ---- what the copy leaves
 

@@ -24,10 +24,6 @@ empty_law cap chains lc lk = record {
   small_cap = lc;
 }
 
--- the mark of a slot that holds a cell
-pub marked_some : (a : ArenaState) (s : ℕ) (t : Taken) → taken_at a s ≡ Some t → marked_at a s ≡ t.marked
-marked_some a s t e = ap is_marked e
-
 -- what lies at a slot that is marked
 some_of : (c : Option Taken) → is_marked c ≡ true → (t : Taken) × (c ≡ Some t) × (t.marked ≡ true)
 some_of None e = cc

@@ -12,10 +12,6 @@ total-set [] i d lt = absurd (omega arith)
 total-set (c ∷ cs) zero d lt = omega arith
 total-set (c ∷ cs) (suc i) d lt = omega (arith, total-set cs i d (omega arith))
 
-pub total-append : (xs ys : List (List ℕ)) → total (xs ++ ys) ≡ total xs + total ys
-total-append [] ys = omega arith
-total-append (x ∷ xs) ys = omega (arith, total-append xs ys)
-
 pub total-replicate : (n : ℕ) → total (replicate n []) ≡ 0
 total-replicate zero = refl
 total-replicate (suc n) = omega (arith, total-replicate n)

@@ -15,10 +15,10 @@ use Rattle.rx_term.specs.declared.Term.{Term}
 use Rattle.rx_term.proofs.TreeLemmas.{same_tree, tree_eq_same}
 use Rattle.rx_text.specs.Written.{AppendsFront}
 use Rattle.rx_text.proofs.AppendingLemmas.{appends_both, front_after, front_before, front_within}
-use Rattle.rx_look.specs.Drawing.{AreHeld, Follows, LooksAt, Passes, next_found, next_lines, term_of, trees_found}
-use Rattle.rx_look.specs.Graph.{Link, edge_line, first_lines, found, graph_text, inside_links, link_line, link_lines, link_to, links, node_line, number_in, order, part_lines, rest_line, with_own}
+use Rattle.rx_look.specs.Drawing.{AreHeld, Follows, Passes, next_found, next_lines, term_of, trees_found}
+use Rattle.rx_look.specs.Graph.{Link, edge_line, first_lines, found, graph_text, inside_links, link_line, link_lines, link_to, links, number_in, order, part_lines, rest_line, with_own}
 use Rattle.rx_look.specs.declared.graph.Graph.{Graph}
-use Rattle.rx_look.proofs.GraphLemmas.{AreAmong, among_inserted, first_front, lines_append, lines_later, own_links, part_in_order}
+use Rattle.rx_look.proofs.GraphLemmas.{AreAmong, among_inserted, first_front, lines_append, lines_later, part_in_order}
 use Rattle.rx_look.proofs.OrderLemmas.{all_append, all_begins, map_append, map_insert, place_insert, place_map}
 
 -- ---- references
@@ -99,16 +99,6 @@ follows_both w from ls ms old mid new a b =
       held = b.held;
     }
 
--- the line of a node, and its links
-pub looks_at : (w : Store) (n : ℕ) (t : Tree) (old mid new : Graph) → mid.found ≡ old.found → mid.nodes ≡ old.nodes → mid.lines.items ≡ node_line n t → Follows w n (links t) mid new → LooksAt w n t old new
-looks_at w n t old mid new found nodes lines f =
-    record {
-      found = f.found ∙ ap (λ ks. insert_all tree_eq (map (tree_of w) ks) (map (λ l. l.part) (links t))) (ap (λ s. s.keys) found) ∙ ap (insert_all tree_eq (trees_found w old)) (own_links t);
-      lines = f.lines ∙ ap (λ xs. xs ++ link_lines mid.nodes (trees_found w new) n (links t)) lines ∙ ap (λ k. node_line n t ++ link_lines k (trees_found w new) n (links t)) nodes;
-      nodes = f.nodes ∙ nodes;
-      held = f.held;
-    }
-
 -- ---- one part after another
 
 -- its edge is among the nodes, or past them
@@ -145,10 +135,6 @@ follows_on (Ok x) w from all ls ms old mid new is a b = subst (λ ks. Follows w 
 pub items_links : (w : Store) (list head tail : Term) → HasCons w list → tree_at w head ≡ part_at head_of w list → tree_at w tail ≡ part_at tail_of w list
     → inside_links (held_tree w list) ≡ (link_to (codes "head") (held_tree w head) ∷ []) ++ (link_to (codes "tail") (held_tree w tail) ∷ [])
 items_links w list head tail h p q = let here = h.here in rw (p, q, here) refl
-
-pub looks_on : {X E : Type 0} (r : Result X E) (w : Store) (n : ℕ) (t : Tree) (old mid new : Graph) → mid.found ≡ old.found → mid.nodes ≡ old.nodes → mid.lines.items ≡ node_line n t → OnOk r (Follows w n (links t) mid new) → OnOk r (LooksAt w n t old new)
-looks_on (Err e) w n t old mid new found nodes lines f = tt
-looks_on (Ok x) w n t old mid new found nodes lines f = looks_at w n t old mid new found nodes lines f
 
 -- ---- all parts
 

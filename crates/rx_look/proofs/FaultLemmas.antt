@@ -1,7 +1,6 @@
 -- What a run leaves that stopped, and what its fault tells of its streams.
 use Rattle.std.proofs.Common.{◌≡◌, ◌≢◌, ℕ, List, [], Option, Some, None, IfSome, IsSome, IsErrAnd, Result, Ok, Err, refl, sym, subst, ◌∙◌, append-nil}
 use Rattle.std.specs.Io.KnownBytes.{Appends, Keeps}
-use Rattle.rx_term.specs.Store.{Store}
 use Rattle.rx_text.specs.Input.{HasRefusedRead}
 use Rattle.rx_text.specs.Output.{HasRefusedWrite}
 use Rattle.rx_text.specs.Written.{AppendsFront}
@@ -16,13 +15,12 @@ use Rattle.rx_text.proofs.AppendingLemmas.{appends_same, front_after}
 use Rattle.rx_look.specs.Due.{indented_lines}
 use Rattle.rx_look.specs.Laid.{laid}
 use Rattle.rx_run.specs.Due.{Due}
-use Rattle.rx_run.specs.Run.{RanOut}
 use Rattle.rx_run.specs.declared.ending.RunFault.{RunFault}
 use Rattle.rx_run.specs.declared.ending.RunFault.TheVariants as run
 use Rattle.rx_run.specs.declared.streams.ReadFault.{ReadFault}
 use Rattle.rx_run.specs.declared.streams.ReadFault.TheVariants as unreadable
 use Rattle.rx_run.proofs.ReadDueLemmas.{appends_flushed}
-use Rattle.rx_look.specs.Faults.{BreaksFor, Reports, Stops, StopsUnwritten, StopsWriting, TellsRead, TellsWrite, fault_of_read, fault_of_run, fault_of_write}
+use Rattle.rx_look.specs.Faults.{BreaksFor, Reports, Stops, StopsUnwritten, StopsWriting, TellsRead, TellsWrite}
 use Rattle.rx_look.specs.declared.ending.LookFault.{LookFault}
 use Rattle.rx_look.specs.declared.ending.LookFault.TheVariants.{Memory, Room, Read, Write}
 
@@ -45,12 +43,6 @@ reports_unwritten Room h = refl
 reports_unwritten Read h = refl
 reports_unwritten Write h = absurd h
 
-pub reports_memory : (f : LookFault) → f ≡ Memory → Reports f []
-reports_memory Memory e = tt
-reports_memory Room e = absurd (cc e)
-reports_memory Read e = absurd (cc e)
-reports_memory Write e = absurd (cc e)
-
 -- a front was written of a text whose tree is there
 pub stops_writing : (f : LookFault) (text : List ℕ) (old new : Option (List ℕ)) → StopsWriting f → AppendsFront text old new → Stops f text old new
 stops_writing Memory text old new h (front, a, is) = record { written = front; appended = a; front = is; reported = tt }
@@ -68,32 +60,6 @@ end_refused n None old mid new held a f = absurd (cc held)
 end_refused n (Some u) old mid new held a f = stops_writing Write (indented_lines n u) old new tt (front_after old mid new (laid n u) (codes "\n") a f)
 
 -- ---- faults that are handed on
-
-pub writing_of : (f : WriteFault) → StopsWriting (fault_of_write f)
-writing_of unwritten.Memory = tt
-writing_of unwritten.Write = tt
-
-pub unwritten_of_read : (f : ReadFault) → StopsUnwritten (fault_of_read f)
-unwritten_of_read unreadable.Memory = tt
-unwritten_of_read unreadable.Read = tt
-
-pub unwritten_of_run : (old new : Store) (f : RunFault) → RanOut old new f → StopsUnwritten (fault_of_run f)
-unwritten_of_run old new (run.Memory lines) h = tt
-unwritten_of_run old new (run.Room lines) h = tt
-unwritten_of_run old new run.Read h = absurd h
-unwritten_of_run old new run.Write h = absurd h
-
-pub no_write : (f : LookFault) → StopsUnwritten f → f ≢ Write
-no_write Memory h e = cc e
-no_write Room h e = cc e
-no_write Read h e = cc e
-no_write Write h e = absurd h
-
-pub no_read : (f : LookFault) → StopsWriting f → f ≢ Read
-no_read Memory h e = cc e
-no_read Room h e = absurd h
-no_read Read h e = absurd h
-no_read Write h e = cc e
 
 module _ {R T : Type 0} (input : Input R) where
   pub read_on : (r : Result T LookFault) (f : LookFault) → IsErrAnd r (λ e. e ≡ f) → (f ≡ Read → HasRefusedRead input) → TellsRead input r

@@ -1,13 +1,12 @@
 -- What is left to do of a text over several lines.
 use Rattle.std.proofs.Common.{◌≡◌, ℕ, ◌+◌, ◌<◌, ◌≤◌, Bool, ◌&&◌, not, cond, List, [], ◌∷◌, ◌++◌, Option, Some, None, IsSome, IfSome, Result, Ok, Err, OnOk, refl, sym, ap, subst, ◌∙◌, append_assoc, append-nil, arith}
-use Rattle.std.specs.Prelude.{replicate, take, codes, vec_len}
-use Rattle.std.specs.Option.{option_and_then}
+use Rattle.std.specs.Prelude.{replicate, codes, vec_len}
 use Rattle.std.specs.List.{AllByRecursion}
 use Rattle.std.specs.Io.KnownBytes.{Appends}
-use Rattle.std.proofs.lemmas.List.{replicate-append-replicate, take-replicate}
+use Rattle.std.proofs.lemmas.List.{replicate-append-replicate}
 use Rattle.rx_term.specs.Name.{is_empty}
 use Rattle.rx_term.specs.Tree.{Tree, Trees, none, more, Int, Appl, Items, Hole, annotations, list_of}
-use Rattle.rx_term.specs.Store.{Store, tree_at, signature_of, part_at, args_of, anns_of, list_unless_empty}
+use Rattle.rx_term.specs.Store.{Store, tree_at, signature_of, part_at, args_of}
 use Rattle.rx_term.specs.Kinds.{HasKind, HasAppl, HasCons}
 use Rattle.rx_term.specs.declared.Term.{Term}
 use Rattle.rx_term.specs.declared.Symbol.{Symbol}
@@ -16,9 +15,9 @@ use Rattle.rx_term.specs.declared.Kind.TheVariants as kind
 use Rattle.rx_text.specs.Jobs.{seen, IsList}
 use Rattle.rx_text.specs.Written.{AppendsFront}
 use Rattle.rx_text.specs.declared.faults.WriteFault.{WriteFault}
-use Rattle.rx_text.proofs.AppendingLemmas.{appends_both, appends_same, front_within}
-use Rattle.rx_look.specs.Laid.{between, laid, laid_at, laid_all}
-use Rattle.rx_look.specs.Layout.{Adds, IsBlank, IsJob, IsPiece, Keeps, Leaves, Spreads, arguments_laid, arguments_size, atom_text, body_laid, body_size, enclosing, job_text, job_at, jobs_size, jobs_text, notes_laid, piece_size, piece_text, room, size, sizes}
+use Rattle.rx_text.proofs.AppendingLemmas.{appends_both, front_within}
+use Rattle.rx_look.specs.Laid.{between, laid}
+use Rattle.rx_look.specs.Layout.{Adds, IsBlank, IsJob, IsPiece, Keeps, Leaves, Spreads, arguments_laid, arguments_size, atom_text, body_laid, body_size, job_text, job_at, jobs_size, jobs_text, notes_laid, piece_size, piece_text, room, sizes}
 use Rattle.rx_look.specs.declared.layout.Atom.TheVariants as atom
 use Rattle.rx_look.specs.declared.layout.Piece.{Piece}
 use Rattle.rx_look.specs.declared.layout.Piece.TheVariants as piece
@@ -44,10 +43,6 @@ no_items w t (kind.Appl s) h l n = absurd (rw h.here at l)
 no_items w t kind.Hole h l n = absurd (rw h.here at l)
 
 -- ---- blanks
-
--- a line's blanks
-pub blanks_taken : (l : Layout) (m : ℕ) → IsBlank l → m ≤ room l → take m l.blanks.items ≡ replicate m 32
-blanks_taken l m blank h = ap (take m) blank ∙ take-replicate m (room l) 32 h
 
 -- there are more of them
 pub blanks_more : (items longer : List ℕ) (a k : ℕ) → items ≡ replicate a 32 → longer ≡ items ++ replicate k 32 → longer ≡ replicate (a + k) 32
@@ -91,24 +86,6 @@ pub spreads_one : (w : Store) (old new : Layout) (j : Job) → Adds (j ∷ []) o
 spreads_one w old new j h p m =
     let r = h.kept.room in
     record { added = j ∷ []; adds = h; text = refl; jobs = ((p, omega (arith, m, r)), tt); less = omega arith }
-
--- nothing was left
-pub spreads_none : (w : Store) (whole : List ℕ) (space : ℕ) (old new : Layout) → Adds [] old new → whole ≡ [] → 0 < space → Spreads w whole space old new
-spreads_none w whole space old new h e s = record { added = []; adds = h; text = e; jobs = tt; less = s }
-
--- a piece was left between two marks
-pub spreads_between : (w : Store) (whole : List ℕ) (space m left right : ℕ) (p : Piece) (old new : Layout) → Adds (enclosing old.indent m left p right) old new → m ≤ room old → m + old.indent ≤ room new → IsPiece w p
-    → whole ≡ between old.indent m left (piece_text w old.indent (m + old.indent) p) right → piece_size w p + 4 < space → Spreads w whole space old new
-spreads_between w whole space m left right p old new h at enough is e s =
-    let r = h.kept.room in
-    let near : m ≤ room new = omega (arith, at, r) in
-    record {
-      added = enclosing old.indent m left p right;
-      adds = h;
-      text = e;
-      jobs = ((tt, near), ((tt, near), ((is, enough), ((tt, enough), ((tt, near), tt)))));
-      less = omega (arith, s);
-    }
 
 -- ---- arguments
 
@@ -177,59 +154,15 @@ application_leaves (Ok x) w t s h m j old mid new at is a b =
 
 -- ---- annotations
 
-notes_some : (n m : ℕ) (anns : Trees) (a : Option Tree) → a ≡ list_unless_empty anns → IsSome a → (notes_laid n m anns ≡ between n m 123 (laid_all n (m + n) anns) 125) × (a ≡ Some (list_of anns))
-notes_some n m none a e h = let k = rw e at h in absurd (cc k)
-notes_some n m (more v vs) a e h = (refl, e)
-
 -- the annotations of a tree, in braces
 pub record Noted (w : Store) (n m : ℕ) (o : Option Tree) (a : Term) : Type 0 where
   pub text : seen [] (λ u. notes_laid n m (annotations u)) o ≡ between n m 123 (piece_text w n (m + n) (piece.Items a)) 125
   pub held : IsPiece w (piece.Items a)
   pub less : piece_size w (piece.Items a) + 4 < seen 1 (λ u. 5 + sizes (annotations u)) o
 
-pub notes_in : (w : Store) (n m : ℕ) (o : Option Tree) (a : Term) → IsSome (option_and_then anns_of o) → tree_at w a ≡ option_and_then anns_of o → Noted w n m o a
-notes_in w n m None a h e = absurd (cc h)
-notes_in w n m (Some u) a h e =
-    let k = notes_some n m (annotations u) (tree_at w a) e (rw e h) in
-    let there = k.1 in
-    record { text = k.0 ∙ rw there refl; held = rw there tt; less = rw there (omega arith) }
-
-notes_gone : (n m : ℕ) (anns : Trees) → list_unless_empty anns ≡ None → notes_laid n m anns ≡ []
-notes_gone n m none e = refl
-notes_gone n m (more v vs) e = absurd (cc e)
-
-pub no_notes_in : (n m : ℕ) (o : Option Tree) → option_and_then anns_of o ≡ None → (seen [] (λ u. notes_laid n m (annotations u)) o ≡ []) × (0 < seen 1 (λ u. 5 + sizes (annotations u)) o)
-no_notes_in n m None e = (refl, omega arith)
-no_notes_in n m (Some u) e = (notes_gone n m (annotations u) e, omega arith)
-
 -- ---- trees
 
-laid_parts : (n m : ℕ) (u : Tree) → laid_at n m u ≡ body_laid n m u ++ notes_laid n m (annotations u)
-laid_parts n m (Int z anns) = refl
-laid_parts n m (Appl name quoted args anns) = refl
-laid_parts n m (Items items anns) = refl
-laid_parts n m (Hole inner anns) = refl
-
-size_parts : (u : Tree) → body_size u + (5 + sizes (annotations u)) ≤ size u
-size_parts (Int z anns) = omega arith
-size_parts (Appl name quoted args anns) = omega arith
-size_parts (Items items anns) = omega arith
-size_parts (Hole inner anns) = omega arith
-
-pub tree_text : (n m : ℕ) (o : Option Tree) → seen [] (laid_at n m) o ≡ seen [] (body_laid n m) o ++ seen [] (λ u. notes_laid n m (annotations u)) o
-tree_text n m None = refl
-tree_text n m (Some u) = laid_parts n m u
-
-pub tree_size : (o : Option Tree) → IsSome o → (seen 1 (λ u. 5 + sizes (annotations u)) o + 1) + seen 1 body_size o ≤ seen 1 size o + 1
-tree_size None h = absurd (cc h)
-tree_size (Some u) h = let e = size_parts u in omega (arith, e)
-
 -- ---- the loop
-
--- the parts of a job that was not written at once
-pub leaves_spread : (r : Result (Unit {0}) WriteFault) (w : Store) (whole : List ℕ) (space : ℕ) (bytes : Option (List ℕ)) (old new : Layout) → OnOk r (Spreads w whole space old new) → OnOk r (Leaves w whole space bytes bytes old new)
-leaves_spread (Ok x) w whole space bytes old new h = record { front = []; rest = whole; written = appends_same bytes; text = refl; spreads = h }
-leaves_spread (Err e) w whole space bytes old new h = tt
 
 -- and of one that was
 pub leaves_written : (r : Result (Unit {0}) WriteFault) (w : Store) (whole : List ℕ) (space : ℕ) (before after : Option (List ℕ)) (old new : Layout) → IsBlank new → new.indent ≡ old.indent → new.jobs.items ≡ old.jobs.items → room old ≤ room new → 0 < space → OnOk r (Appends before after whole) → OnOk r (Leaves w whole space before after old new)

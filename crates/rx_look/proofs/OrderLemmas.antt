@@ -1,6 +1,5 @@
 -- Lists without repeats that grow at their ends, and the places of their items.
 use Rattle.std.proofs.Common.{◌≡◌, ℕ, ◌+◌, zero, suc, Bool, true, false, List, [], ◌∷◌, ◌++◌, Some, None, refl, sym, ap, ◌∙◌, append_assoc, append-nil, map, slice_get}
-use Rattle.std.specs.Option.{option_map}
 use Rattle.std.specs.List.{AllByRecursion, list_any, position_or_len}
 use Rattle.indexmap.specs.IndexSet.{insert_key, insert_all}
 
@@ -119,16 +118,6 @@ module _ {X Y : Type 0} (f : X → Y) (p : X → Bool) (q : Y → Bool) where
 pub map_append : {X Y : Type 0} (f : X → Y) (xs ys : List X) → map f (xs ++ ys) ≡ map f xs ++ map f ys
 map_append f [] ys = refl
 map_append f (x ∷ xs) ys = ap (λ zs. f x ∷ zs) (map_append f xs ys)
-
-pub get_map : {X Y : Type 0} (f : X → Y) (xs : List X) (n : ℕ) (x : X) → slice_get xs n ≡ Some x → slice_get (map f xs) n ≡ Some (f x)
-get_map f [] n x e = absurd (cc e)
-get_map f (z ∷ xs) zero x e = ap (option_map f) e
-get_map f (z ∷ xs) (suc n) x e = get_map f xs n x e
-
-pub get_map_none : {X Y : Type 0} (f : X → Y) (xs : List X) (n : ℕ) → slice_get xs n ≡ None → slice_get (map f xs) n ≡ None
-get_map_none f [] n e = refl
-get_map_none f (z ∷ xs) zero e = absurd (cc e)
-get_map_none f (z ∷ xs) (suc n) e = get_map_none f xs n e
 
 pub map_insert : {X Y : Type 0} (f : X → Y) (eq : X → X → Bool) (other : Y → Y → Bool) (xs : List X) (x : X) → AllByRecursion (λ y. eq x y ≡ other (f x) (f y)) xs → map f (insert_key eq xs x) ≡ insert_key other (map f xs) (f x)
 map_insert f eq other xs x h = by (list_any (eq x) xs) refl

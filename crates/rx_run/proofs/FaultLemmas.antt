@@ -43,13 +43,6 @@ reports_reading (Room lines) h = absurd h
 reports_reading Read h = refl
 reports_reading Write h = absurd h
 
--- where memory ran out before
-pub stops_memory : (old new : Store) (f : RunFault) → f ≡ Memory 0 → RanOut old new f
-stops_memory old new (Memory lines) e = cc e
-stops_memory old new (Room lines) e = absurd (cc e)
-stops_memory old new Read e = absurd (cc e)
-stops_memory old new Write e = absurd (cc e)
-
 -- where a text was read into the bank before
 pub ran_out_later : (old mid new : Store) (f : RunFault) → Grows old mid → RanOut mid new f → RanOut old new f
 ran_out_later old mid new (Memory lines) grows h = h

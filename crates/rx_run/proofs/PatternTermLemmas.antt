@@ -1,5 +1,5 @@
 -- References of the elements of a list that a bank holds.
-use Rattle.std.proofs.Common.{◌≡◌, ◌≢◌, ◌⊎◌, inl, inr, ℕ, ◌+◌, ◌<◌, List, [], ◌∷◌, ◌++◌, Option, Some, None, Result, Ok, is_some, false, refl, sym, ap, ◌∙◌, arith, append_assoc, append-nil, subst}
+use Rattle.std.proofs.Common.{◌≡◌, ◌≢◌, ◌⊎◌, inl, inr, ℕ, ◌+◌, ◌<◌, List, [], ◌∷◌, ◌++◌, Option, Some, None, Result, Ok, is_some, false, refl, sym, ap, ◌∙◌, arith, append_assoc, subst}
 use Rattle.std.specs.Option.{option_and_then, option_map_or}
 use Rattle.rx_term.specs.Tree.{Tree, Trees, none, more, Items, list_of, to_list, count_of}
 use Rattle.rx_term.specs.Store.{Store, tree_at, part_at, head_of, tail_of, anns_of}
@@ -80,25 +80,6 @@ takes_one w list found rest head tail p h e f = by p.left p.here p.split
               let many : left_at w rest ≡ 1 + count_of xs = ap (λ (o : Option Tree). option_map_or items_count o 0) here in
               omega (arith, few, many);
         }
-
--- no item is left
-nothing_left : (w : Store) (rest : Term) (k : Kind) (left : Trees) → HasKind w rest k → k ≢ kind.Cons → tree_at w rest ≡ Some (list_of left) → left ≡ none
-nothing_left w rest (kind.Int z) left h n e = absurd (cc (h.here, e))
-nothing_left w rest kind.Nil left h n e = cc (h.here, e)
-nothing_left w rest kind.Cons left h n e = absurd (n refl)
-nothing_left w rest (kind.Appl s) left h n e = absurd (cc (h.here, e))
-nothing_left w rest kind.Hole left h n e = absurd (cc (h.here, e))
-
-pub all_found : (w : Store) (list : Term) (found : List Term) (rest : Term) (k : Kind) → IsPartWay w list found rest → HasKind w rest k → k ≢ kind.Cons → (ts : Trees) → tree_at w list ≡ Some (list_of ts) → HaveTrees w found (to_list ts)
-all_found w list found rest k p h n ts e = by ts (same (p.whole) e) p.left (nothing_left w rest k p.left h n p.here) p.split
-  where
-    same : {us : Trees} → tree_at w list ≡ Some (list_of us) → tree_at w list ≡ Some (list_of ts) → ts ≡ us
-    same i j = cc (i, j)
-
-    by : (us : Trees) → us ≡ p.all → (left : Trees) → left ≡ none → to_list p.all ≡ p.done ++ to_list left → HaveTrees w found (to_list us)
-    by us i left l s =
-        let whole : to_list us ≡ p.done = ap to_list i ∙ s ∙ ap (λ z. p.done ++ to_list z) l ∙ append-nil p.done in
-        subst (HaveTrees w found) (sym whole) p.had
 
 -- a list that has no annotations
 plain_list : (items anns : Trees) → anns_of (Items items anns) ≡ None → Items items anns ≡ list_of items

@@ -41,10 +41,6 @@ module _ {X : Type 0} (after : Verdict → Option X) where
 abbrev misfit_by : Tree → List Tree → Result Tree Fault → Option Misfit
 misfit_by p ts r = elim r [ Ok t ↦ None | Err filling.Count ↦ Some (Count (length (blanks p)) (length ts)) | Err (Kinds at) ↦ Some (Kind at) ]
 
--- trees that go into the pattern
-pub misfit_none : (p : Tree) (ts : List Tree) (t : Tree) → filling p ts ≡ Ok t → None ≡ misfit_of p ts
-misfit_none p ts t e = sym (ap (misfit_by p ts) e)
-
 -- trees of another number
 pub misfit_count : (w : Store) (p : Tree) (rs : List Term) (ts : List Tree) (wanted given : ℕ) → wanted ≡ length (blanks p) → given ≡ length rs → HaveTrees w rs ts → filling p ts ≡ Err filling.Count → Some (Count wanted given) ≡ misfit_of p ts
 misfit_count w p rs ts wanted given is n held e =

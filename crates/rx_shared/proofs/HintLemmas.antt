@@ -43,10 +43,6 @@ covers-along xs ys a z was stays covers s t e =
 pub covers-same : (xs : List ℕ) (a z : ArenaState) → ((s : ℕ) → taken_at z s ≡ taken_at a s) → CoversTaken xs a → CoversTaken xs z
 covers-same xs a z same covers s t e = covers s t (sym (same s) ∙ e)
 
--- the same cells, and more entries that are not 0
-pub covers-more : (xs ys : List ℕ) (a : ArenaState) → Stays xs ys → CoversTaken xs a → CoversTaken ys a
-covers-more xs ys a stays covers s t e p h = stays p (covers s t e p h)
-
 module _ (b : SharedBank) where
   -- no cell names a free slot
   not-named : (k : ℕ) → taken_at b.arena k ≡ None → (s : ℕ) (t : Taken) → taken_at b.arena s ≡ Some t → (p : ℕ) → 0 < times p (names t.body) → p ≢ k

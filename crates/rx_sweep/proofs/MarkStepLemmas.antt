@@ -1,13 +1,11 @@
 -- How markings begin, follow one another and come to their end.
 use Rattle.std.proofs.Common.{◌≡◌, ℕ, zero, suc, ◌+◌, ◌<◌, ◌⊎◌, inl, inr, List, [], ◌∷◌, get_or, Some, None, refl, sym, ap, subst, ◌∙◌, arith}
-use Rattle.std.specs.Prelude.{Option, true, false, cond, MatchOption, IfNone}
+use Rattle.std.specs.Prelude.{Option, true, false, cond}
 use Rattle.std.specs.Option.{option_map}
 use Rattle.rx_arena.specs.Put.{times, put, altered}
 use Rattle.rx_arena.specs.Arena.{Taken, ArenaState, taken_at, is_marked, marked_at, IsMarked, with_marking}
 use Rattle.rx_arena.proofs.PutLemmas.{one_or_two, one_if-same}
-use Rattle.rx_arena.specs.declared.Slot.{Slot}
-use Rattle.rx_arena.proofs.ChainLemmas.{one_or_more}
-use Rattle.rx_sweep.specs.Marking.{Marks, one_white, white_count, ahead}
+use Rattle.rx_sweep.specs.Marking.{Marks, one_white, white_count}
 use Rattle.rx_sweep.proofs.BareLemmas.{same_refl, same_trans, bare-altered, marked-altered_same, marked-altered_other}
 
 white_count-put : (cs : List (Option Taken)) (s : ℕ) (c : Option Taken) → white_count (put cs s c) + one_white (get_or cs s None) ≡ white_count cs + one_white c
@@ -75,23 +73,3 @@ marks_by a b P Q to from m = record {
   only = λ s h. elim (m.only s h) [ inl w ↦ inl w | inr w ↦ inr (to s w.0, w.1) ];
   work = m.work;
 }
-
--- the same where one slot more is the first gray one
-pub marks_ahead : (a b : ArenaState) (s : ℕ) (P : ℕ → Type 0) → Marks a b P → Marks (record a { gray = s ∷ a.gray }) (record b { gray = s ∷ b.gray }) P
-marks_ahead a b s P m = record {
-  same = record { bare_same = m.same.bare_same };
-  marked = m.marked;
-  marked_stay = m.marked_stay;
-  gray_stay = λ k g. elim (one_or_more (times k a.gray)) [ inl z ↦ omega (arith, g, z) | inr z ↦ (let h = m.gray_stay k z in omega (arith, h)) ];
-  only = λ k h. elim (m.only k h) [ inl w ↦ inl w | inr w ↦ inr (w.0, (let g = w.1 in omega (arith, g))) ];
-  work = (let w = m.work in omega (arith, w));
-}
-
--- a slot leaves the gray list, to be the one that the marking goes on with
-pub popped_ahead : (a b : ArenaState) (r : Option Slot) → MatchOption r (a.gray ≡ []) (λ s. a.gray ≡ s.0 ∷ b.gray) → IfNone r (b ≡ a) → b ≡ record a { gray = b.gray } → ahead b r ≡ a
-popped_ahead a b None e n rest = n
-popped_ahead a b (Some s) e n rest = ap (λ (v : ArenaState). record v { gray = s.0 ∷ b.gray }) rest ∙ ap (λ (z : List ℕ). record a { gray = z }) (sym e)
-
-pub none_left : (a b : ArenaState) (r : Option Slot) → MatchOption r (a.gray ≡ []) (λ s. a.gray ≡ s.0 ∷ b.gray) → IfNone r (b ≡ a) → IfNone r (b.gray ≡ [])
-none_left a b None e n = ap (λ (v : ArenaState). v.gray) n ∙ e
-none_left a b (Some s) e n = tt

@@ -100,10 +100,6 @@ pub record Onward (init a : ArenaState) (next : Option Slot) : Type 0 where
 pub onward_begins : (init a : ArenaState) (next : Option Slot) → ((s : ℕ) → IsMarked init s → 0 < times s init.gray) → IsArena a → ahead a next ≡ init → IfSome next (λ s. IsMarked a s.0) → IfNone next (a.gray ≡ []) → Onward init a next
 onward_begins init a next gray law same marked ended = record { law = law; spreading = subst (Spreading init) (sym same) (spreading_begins init gray); marked = marked; ended = ended }
 
-pub onward_ends : (init a : ArenaState) (next : Option Slot) → Onward init a next → next ≡ None → Spreading init a × (a.gray ≡ [])
-onward_ends init a None inv e = (inv.spreading, inv.ended)
-onward_ends init a (Some s) inv e = absurd (cc)
-
 -- what the slot names is marked, and the marking goes on
 module _ (init a : ArenaState) (next : Option Slot) (slot : Slot) (from : Onward init a next) (is : next ≡ Some slot) (face : Face) (read : IfSome (taken_at a slot.0) (λ t. face ≡ face_of t.body)) where
   inv : Onward init a (Some slot)

@@ -54,15 +54,6 @@ by_kind m fs Greater t e = ap (λ (u : Token). is_some (step m fs u)) e
 by_kind m fs Comma t e = ap (λ (u : Token). is_some (step m fs u)) e
 by_kind m fs End t e = ap (λ (u : Token). is_some (step m fs u)) e
 
--- a bad token is never taken
-pub bad_step : (m : Mode) (fs : List machine.Frame) → step m fs tokens.Bad ≡ None
-bad_step machine.Due fs = refl
-bad_step (machine.First f) fs = refl
-bad_step (machine.Named n q) fs = refl
-bad_step (machine.Body u) fs = refl
-bad_step (machine.Whole u) fs = refl
-bad_step (machine.Done u) fs = refl
-
 -- a name may be a whole term, and so may a body
 pub name_ends : (name : List ℕ) (quoted : Bool) (fs : List machine.Frame) (k : TokenKind) → (k ≡ Open → ⊥) → (k ≡ OpenBrace → ⊥) → is_taken (after_name name quoted fs) k ≡ is_taken (whole (annotated (Appl name quoted none none) none) fs) k
 name_ends name quoted fs Open h i = absurd (h refl)
@@ -149,9 +140,6 @@ pub record Reached (bytes : List ℕ) (s : State) (ps : List (ℕ × Token)) : T
   pub front : List (ℕ × Token)
   pub cut : tokens.tokens bytes ≡ front ++ ps
   pub led : run (bare front) machine.Due [] ≡ Some s
-
-pub reached_first : (bytes : List ℕ) → Reached bytes (machine.Due, []) (tokens.tokens bytes)
-reached_first bytes = record { front = []; cut = refl; led = refl }
 
 -- a token that is taken leads on
 pub reached_next : (bytes : List ℕ) (s r : State) (ps rest : List (ℕ × Token)) (t : Token) (at : ℕ) → Reached bytes s ps → ps ≡ (at, t) ∷ rest → step s.0 s.1 t ≡ Some r → Reached bytes r rest
