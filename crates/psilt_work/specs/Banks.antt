@@ -9,7 +9,7 @@ use Rattle.rx_shared.specs.State as shared
 use Rattle.rx_shared.specs.declared.bank.SharedBank.{SharedBank}
 use Rattle.rx_shared.specs.contracts.bank.SharedBank as bank
 use Rattle.rec_syntax.specs.Syntax.{Spec}
-use Rattle.rec_syntax.specs.TermCode.{spec_code}
+use Rattle.rec_syntax.specs.Inner.TermCode.{spec_code}
 use Rattle.rec_engine.specs.Engine.{options_code}
 use Rattle.rec_engine.specs.Prepared.{spec_of, options_of}
 use Rattle.rec_engine.specs.declared.engine.Options.{Options}

@@ -3,7 +3,7 @@ use Rattle.std.specs.Prelude.{◌≡◌, ◌≢◌, ℕ, ◌≤◌, false, List,
 use Rattle.std.specs.Option.{option_and_then, option_map}
 use Rattle.std.specs.Coded.{Coded, coded_list, coded_option}
 use Rattle.rx_term.specs.Tree.{Tree}
-use Rattle.rx_term.specs.Code.{coded_tree}
+use Rattle.rx_term.specs.Inner.Code.{coded_tree}
 use Rattle.rx_term.specs.Store.{Store, tree_at, cells}
 use Rattle.rx_term.specs.Walks.{HaveTrees}
 use Rattle.rx_term.specs.declared.Term.{Term}

@@ -11,7 +11,7 @@ use Rattle.rec_sorts.specs.Binding.{Substitution, instance, instances, binds}
 use Rattle.rec_sorts.specs.Laws.{BindsVariables, BindsVariablesAll, IsPartOf}
 use Rattle.rec_sorts.specs.Numbering.{Named, named, named_all}
 use Rattle.rec_match.specs.Bound.{opened, bound, goes_on}
-use Rattle.rec_match.specs.Asking.{stack_on}
+use Rattle.rec_match.specs.Inner.Asking.{stack_on}
 use Rattle.rec_sorts.proofs.BindingLemmas.{binding_law}
 use Rattle.rec_match.proofs.FactLemmas.{AreBare, every_append}
 use Rattle.rec_match.proofs.BoundLemmas.{BindsOnly, Comes, Walked, WalkedAll, binds_variables, grown_all, opened_is}

@@ -3,7 +3,7 @@ use Rattle.std.proofs.Common.{refl}
 use Rattle.std.specs.Prelude.{ℕ, List, [], ◌∷◌, ◌++◌, codes, ◌≡◌, Some, None, Option}
 use Rattle.rec_syntax.specs.Tokens.{Word}
 use Rattle.rec_syntax.specs.Syntax.{Spec}
-use Rattle.rec_syntax.specs.Machine.{Outcome, Read}
+use Rattle.rec_syntax.specs.Inner.Machine.{Outcome, Read}
 use Rattle.rec_syntax.proofs.VerdictLemmas.{comes_of}
 use Rattle.rec_sorts.specs.Lookup.{places}
 use Rattle.rec_check.specs.Findings.{broken_words, unused_sorts, unused_symbols, unused_variables}

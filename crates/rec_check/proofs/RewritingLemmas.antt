@@ -14,10 +14,10 @@ use Rattle.rec_sorts.specs.Numbering.{AreLetters, IsMeaning, Named, name_of, nam
 use Rattle.rec_sorts.specs.SpecRules.{fault}
 use Rattle.rec_sorts.specs.declared.letters.Letter.{Letter}
 use Rattle.rec_sorts.specs.declared.letters.Meaning.TheVariants.{Symbol, Variable}
-use Rattle.rec_match.specs.Asking.{stack_on}
+use Rattle.rec_match.specs.Inner.Asking.{stack_on}
 use Rattle.rec_match.specs.Bound.{bound, goes_on, opened}
-use Rattle.rec_match.specs.Built.{AreHeads, IsHead}
-use Rattle.rec_match.specs.Chains.{IsNext}
+use Rattle.rec_match.specs.Inner.Built.{AreHeads, IsHead}
+use Rattle.rec_match.specs.Inner.Chains.{IsNext}
 use Rattle.rec_match.proofs.BoundLemmas.{opened_is}
 use Rattle.rec_match.proofs.FactLemmas.{facts, variable_is_one}
 use Rattle.rec_match.proofs.LetterLemmas.{every-at}

@@ -27,7 +27,7 @@ use Rattle.rec_sorts.specs.declared.letters.Letter.{Letter}
 use Rattle.rec_sorts.specs.declared.letters.Meaning.{Meaning}
 use Rattle.rec_sorts.specs.declared.letters.Meaning.TheVariants.{Symbol, Variable}
 use Rattle.rec_sorts.proofs.BindingLemmas.{append_is, append_keeps, append_finds}
-use Rattle.rec_match.specs.Asking.{stack_on}
+use Rattle.rec_match.specs.Inner.Asking.{stack_on}
 use Rattle.rec_match.specs.Bound.{bound, goes_on, opened, with_one}
 use Rattle.rec_match.proofs.BoundLemmas.{opened_is, opened_same}
 use Rattle.rec_match.proofs.FactLemmas.{facts, variable_is_one}

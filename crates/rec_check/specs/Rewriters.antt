@@ -3,8 +3,8 @@ use Rattle.std.specs.Prelude.{ℕ, ◌≡◌, List, None, length, map}
 use Rattle.rec_syntax.specs.Syntax.{head}
 use Rattle.rec_sorts.specs.Lookup.{symbols}
 use Rattle.rec_sorts.specs.SpecRules.{fault}
-use Rattle.rec_match.specs.Built.{AreHeads}
-use Rattle.rec_match.specs.Chains.{AreChainsFrom}
+use Rattle.rec_match.specs.Inner.Built.{AreHeads}
+use Rattle.rec_match.specs.Inner.Chains.{AreChainsFrom}
 use Rattle.rec_check.specs.Spots.{spot_of}
 use Rattle.rec_check.specs.declared.rewriting.Rewriter.{Rewriter}
 

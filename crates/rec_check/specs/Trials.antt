@@ -12,7 +12,7 @@ use Rattle.rec_sorts.specs.Numbering.{AreLetters, IsMeaning, Named, name_of, nam
 use Rattle.rec_sorts.specs.SpecRules.{fault}
 use Rattle.rec_sorts.specs.declared.letters.Letter.{Letter}
 use Rattle.rec_sorts.specs.declared.letters.Meaning.TheVariants.{Variable}
-use Rattle.rec_match.specs.Asking.{stack_on}
+use Rattle.rec_match.specs.Inner.Asking.{stack_on}
 use Rattle.rec_match.specs.Bound.{bound, goes_on, opened}
 use Rattle.rec_check.specs.declared.matching.Values.{Values}
 

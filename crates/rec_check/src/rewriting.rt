@@ -32,8 +32,8 @@ ghost use Rattle.rec_sorts.specs.Numbering.{
   named_by,
 };
 ghost use Rattle.rec_sorts.specs.declared.letters.Meaning.TheVariants.{Symbol};
-ghost use Rattle.rec_match.specs.Built.{AreHeads, IsHead};
-ghost use Rattle.rec_match.specs.Chains.{AreChainsFrom};
+ghost use Rattle.rec_match.specs.Inner.Built.{AreHeads, IsHead};
+ghost use Rattle.rec_match.specs.Inner.Chains.{AreChainsFrom};
 ghost use Rattle.rec_check.specs.Findings.{
   as_findings,
   found_by,

@@ -21,7 +21,7 @@ use Rattle.rec_sorts.proofs.WalkedLemmas.{any-backwards}
 use Rattle.rec_sorts.proofs.GivenRuleLemmas.{length-to_list, declared_by}
 use Rattle.rec_match.proofs.FactLemmas.{every_append, every_joined, every_flat, every_map, filter_none}
 use Rattle.rec_engine.specs.Engine.{IsGround}
-use Rattle.rec_engine.specs.Given.{IsNode}
+use Rattle.rec_engine.specs.Inner.Given.{IsNode}
 
 -- ---- tests of nodes
 

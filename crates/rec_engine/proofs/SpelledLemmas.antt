@@ -25,8 +25,8 @@ use Rattle.rec_match.proofs.FactLemmas.{facts}
 use Rattle.rec_match.proofs.LetterLemmas.{IsFilledName}
 use Rattle.rec_engine.specs.declared.cells.EngineFault.{EngineFault}
 use Rattle.rec_engine.specs.Engine.{IsGround, IsGiven, Spells}
-use Rattle.rec_engine.specs.Given.{IsNode}
-use Rattle.rec_engine.specs.Made.{MakesOne}
+use Rattle.rec_engine.specs.Inner.Given.{IsNode}
+use Rattle.rec_engine.specs.Inner.Made.{MakesOne}
 use Rattle.rec_engine.proofs.EngineLemmas.{terms-given}
 use Rattle.rec_engine.proofs.GroundLemmas.{ground-nodes, pass-none}
 use Rattle.rec_engine.proofs.TermLemmas.{makes-closed}

@@ -5,7 +5,7 @@ ghost use Rattle.rx_term.specs.Store.{tree_at};
 ghost use Rattle.rx_term.specs.Steps.{MakesOrRefuses, Keeps, Reclaims};
 ghost use Rattle.rx_term.specs.declared.Term.{Term};
 ghost use Rattle.rx_term.specs.Walks.{AllHeld};
-ghost use Rattle.rec_engine.specs.Pace.{KeepsKnown};
+ghost use Rattle.rec_engine.specs.Inner.Pace.{KeepsKnown};
 ghost use Rattle.rec_engine.specs.Cells.{built, StandsIn, MakesFor};
 
 use crate::constants::Constants;

@@ -6,7 +6,7 @@ ghost use Rattle.rx_term.specs.Store.{tree_at};
 ghost use Rattle.rx_term.specs.Steps.{Keeps};
 ghost use Rattle.rec_syntax.specs.Syntax as Syntax;
 ghost use Rattle.rx_term.specs.Walks.{AllHeld};
-ghost use Rattle.rec_engine.specs.Answered.{IsTermCode, IsAnswer, StandsAbove, HasNotes};
+ghost use Rattle.rec_engine.specs.Inner.Answered.{IsTermCode, IsAnswer, StandsAbove, HasNotes};
 ghost use Rattle.rec_engine.specs.declared.evaluation.Reached.TheVariants.{Deep};
 ghost use Rattle.rec_engine.specs.Machine.{AreFull, IsDeepOnly};
 ghost use Rattle.rec_engine.specs.Engine.{IsGiven, IsOutcome, IsKept};

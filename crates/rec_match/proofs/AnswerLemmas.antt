@@ -22,7 +22,7 @@ use Rattle.rec_sorts.specs.Binding.{Substitution, NumberedMatch, application, bi
 use Rattle.rec_sorts.specs.Linked.{signature, NumberOf}
 use Rattle.rec_sorts.specs.Numbering.{name_of, arity_of}
 use Rattle.rec_sorts.specs.declared.letters.Meaning.TheVariants.{Symbol}
-use Rattle.rec_match.specs.Held.{or_empty}
+use Rattle.rec_match.specs.Inner.Held.{or_empty}
 use Rattle.rec_match.specs.Matching.{HasFound, Finds, FindsFor, CanFind, symbol_at, count_at}
 use Rattle.rec_match.specs.Next.{IsReady, AreReady, AreLater, Reaches, Matched}
 use Rattle.rec_match.specs.Walking.{walk_all}

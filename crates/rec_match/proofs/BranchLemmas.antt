@@ -16,7 +16,7 @@ use Rattle.rec_match.specs.Forests.{Cases, case_at, child_at, no_child, number_a
 use Rattle.rec_match.specs.Growing.{State, AllWithin, GrowsSwitch, Extends}
 use Rattle.rec_match.specs.Marking.{AreListed}
 use Rattle.rec_match.specs.Parts.{Coded, coded_of, AreDistinct, AreMarks, opened_codes, kept_codes, changed_codes}
-use Rattle.rec_match.specs.Shares.{symbols_of, IsShare, AreShares}
+use Rattle.rec_match.specs.Inner.Shares.{symbols_of, IsShare, AreShares}
 use Rattle.rec_match.specs.Tasks.{Task, IsGround, Growing, Steps, IsBranch, Covers, Adds, WritesSwitch, Branched, BranchesOut, numbers_of}
 use Rattle.rec_match.specs.declared.forest.Child.{Child}
 use Rattle.rec_match.specs.declared.forest.Forest.{Forest}

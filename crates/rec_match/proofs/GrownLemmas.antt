@@ -11,12 +11,12 @@ use Rattle.rec_sorts.specs.Lookup.{symbols, is_variable}
 use Rattle.rec_sorts.specs.Numbering.{name_of, arity_of}
 use Rattle.rec_sorts.specs.SpecRules.{fault}
 use Rattle.rec_sorts.specs.declared.letters.Meaning.TheVariants.{Symbol}
-use Rattle.rec_match.specs.Built.{AreHeads}
+use Rattle.rec_match.specs.Inner.Built.{AreHeads}
 use Rattle.rec_match.specs.Forests.{IsForest}
 use Rattle.rec_match.specs.Growing.{State, Grows, StandFor, Extends}
-use Rattle.rec_match.specs.Paths.{TreesGoOn}
+use Rattle.rec_match.specs.Inner.Paths.{TreesGoOn}
 use Rattle.rec_match.specs.Rows.{Row}
-use Rattle.rec_match.specs.Running.{root_rows, IsHeaded}
+use Rattle.rec_match.specs.Inner.Running.{root_rows, IsHeaded}
 use Rattle.rec_match.specs.Tasks.{AreApart, Growing, Waits, numbers_of}
 use Rattle.rec_match.specs.declared.forest.Forest.{Forest}
 use Rattle.rec_match.specs.declared.forest.Node.{Node}

@@ -16,7 +16,7 @@ use Rattle.rec_sorts.specs.declared.letters.Meaning.{Meaning}
 use Rattle.rec_sorts.specs.declared.letters.Meaning.TheVariants.{Symbol, Variable}
 use Rattle.rec_sorts.proofs.BindingLemmas.{append_keeps, append_finds, bytes_eq-refl}
 use Rattle.rec_sorts.proofs.KeptLemmas.{bytes_eq-eq}
-use Rattle.rec_match.specs.Held.{or_empty}
+use Rattle.rec_match.specs.Inner.Held.{or_empty}
 use Rattle.rec_match.specs.Ordered.{keys, has, with_name, names_in, among, with_number, with_letter, numbers_in}
 use Rattle.rec_match.specs.Rows.{values_of}
 use Rattle.rec_match.specs.Walking.{walk, walk_all}

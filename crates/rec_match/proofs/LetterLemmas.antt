@@ -18,7 +18,7 @@ use Rattle.rec_sorts.proofs.KeptLemmas.{all_filled, left_sides_apply, bytes_eq-e
 use Rattle.rec_sorts.proofs.BindingLemmas.{bytes_eq-refl}
 use Rattle.rec_match.specs.declared.matcher.LeftSide.{LeftSide}
 use Rattle.rec_match.specs.Matching.{AreFilled}
-use Rattle.rec_match.specs.Built.{IsHead, IsLeftSide}
+use Rattle.rec_match.specs.Inner.Built.{IsHead, IsLeftSide}
 use Rattle.rec_match.specs.Ordered.{numbers_in, AreAllBelow}
 use Rattle.rec_match.proofs.FactLemmas.{AreBare, facts, every_append, every_flat, every_named, variable_is_one}
 use Rattle.rec_match.proofs.ItemLemmas.{get-last}

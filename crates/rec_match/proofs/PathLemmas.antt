@@ -16,7 +16,7 @@ use Rattle.rec_match.specs.Forests.{Cases, no_child, case_at, number_at, FitsSwi
 use Rattle.rec_match.specs.Growing.{State, Within, reading_of, StandFor}
 use Rattle.rec_match.specs.Leaves.{code_places}
 use Rattle.rec_match.specs.Parts.{part_at, arguments_at, numbered_from, Coded, IsHead, IsPart, AreParts, AreCells}
-use Rattle.rec_match.specs.Paths.{TreesGoOn, AreTrees}
+use Rattle.rec_match.specs.Inner.Paths.{TreesGoOn, AreTrees}
 use Rattle.rec_match.specs.Rows.{Cell, Row, Found, tree_in, asked, values_of, or_else, found_at, first_row, cells_from}
 use Rattle.rec_match.specs.Tasks.{Task, IsGround, AreThere, AreLeft, Growing, GoesOn, Steps, AddsNode, WritesTry, WritesSwitch}
 use Rattle.rec_match.specs.Walking.{walk, walk_all}

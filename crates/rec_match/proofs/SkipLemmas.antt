@@ -17,8 +17,8 @@ use Rattle.rec_sorts.specs.declared.letters.Meaning.TheVariants.{Symbol}
 use Rattle.rec_sorts.proofs.KeptLemmas.{bytes_eq-eq}
 use Rattle.rec_match.specs.Walking.{walk_all}
 use Rattle.rec_match.specs.Bound.{opened, bound, goes_on}
-use Rattle.rec_match.specs.Chains.{IsNext, AreChainsFrom}
-use Rattle.rec_match.specs.Built.{IsHead, AreHeads, IsLeftSide, AreSides}
+use Rattle.rec_match.specs.Inner.Chains.{IsNext, AreChainsFrom}
+use Rattle.rec_match.specs.Inner.Built.{IsHead, AreHeads, IsLeftSide, AreSides}
 use Rattle.rec_match.specs.Matching.{IsMatcher, IsSide, Skips, HeadAt, symbol_at, count_at, next_at, variables_at}
 use Rattle.rec_match.specs.Forests.{IsForest}
 use Rattle.rec_match.specs.Tasks.{numbers_of}

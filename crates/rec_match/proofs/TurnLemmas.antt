@@ -16,7 +16,7 @@ use Rattle.rec_sorts.specs.Binding.{application}
 use Rattle.rec_sorts.specs.Numbering.{name_of, arity_of}
 use Rattle.rec_sorts.specs.declared.letters.Meaning.TheVariants.{Symbol}
 use Rattle.rec_match.specs.Bound.{opened}
-use Rattle.rec_match.specs.Held.{or_empty}
+use Rattle.rec_match.specs.Inner.Held.{or_empty}
 use Rattle.rec_match.specs.Forests.{number_at, AreNumbers, Cases, case_at, AreCases, IsChild, OpensNoCase, OpensCase}
 use Rattle.rec_sorts.specs.Linked.{signature}
 use Rattle.rec_match.specs.declared.forest.Child.{Child}

@@ -7,8 +7,8 @@ ghost use Rattle.rec_sorts.specs.SpecRules.{fault};
 ghost use Rattle.rec_match.specs.Matching.{IsMatcher};
 ghost use Rattle.rec_match.specs.Ordered.{numbers_in, AreAllBelow};
 ghost use Rattle.rec_match.specs.Placed.{ArePlaces};
-ghost use Rattle.rec_match.specs.Built.{IsHead, AreHeads, IsLeftSide, AreSides};
-ghost use Rattle.rec_match.specs.Starting.{ChainsRules};
+ghost use Rattle.rec_match.specs.Inner.Built.{IsHead, AreHeads, IsLeftSide, AreSides};
+ghost use Rattle.rec_match.specs.Inner.Starting.{ChainsRules};
 
 use crate::chain::{Chains, chain};
 use crate::matcher::{LeftSide, Matcher};

@@ -6,7 +6,7 @@ ghost use Rattle.rec_sorts.specs.Lookup.{symbols};
 ghost use Rattle.rec_match.specs.Forests.{no_child, number_at};
 ghost use Rattle.rec_match.specs.Marking.{AreMarked, HasMarks};
 ghost use Rattle.rec_match.specs.Parts.{coded_of, IsCode};
-ghost use Rattle.rec_match.specs.Shares.{symbols_of, AreShares};
+ghost use Rattle.rec_match.specs.Inner.Shares.{symbols_of, AreShares};
 ghost use Rattle.rec_match.specs.Tasks.{
   task_of,
   numbers_of,

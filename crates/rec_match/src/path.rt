@@ -8,7 +8,7 @@ ghost use Rattle.rec_sorts.specs.Numbering.{variable_count};
 ghost use Rattle.rec_sorts.specs.declared.letters.Meaning.TheVariants.{Symbol};
 ghost use Rattle.rec_match.specs.Leaves.{IsValue};
 ghost use Rattle.rec_match.specs.Parts.{part_at, coded_of, numbered_from, IsCode};
-ghost use Rattle.rec_match.specs.Paths.{waiting, path_task, AreTrees};
+ghost use Rattle.rec_match.specs.Inner.Paths.{waiting, path_task, AreTrees};
 ghost use Rattle.rec_match.specs.Placed.{ArePlaces};
 ghost use Rattle.rec_match.specs.Tasks.{numbers_of, IsGround, Steps, CanStep, CanGrow};
 

@@ -6,8 +6,8 @@ ghost use Rattle.rec_sorts.specs.Numbering.{name_of, arity_of};
 ghost use Rattle.rec_sorts.specs.declared.letters.Meaning.TheVariants.{Symbol};
 ghost use Rattle.rec_match.specs.Parts.{arguments_at, coded_of, numbered_from};
 ghost use Rattle.rec_match.specs.Pushed.{AreLeftParts};
-ghost use Rattle.rec_match.specs.Running.{root_rows};
-ghost use Rattle.rec_match.specs.Starting.{ChainsRules};
+ghost use Rattle.rec_match.specs.Inner.Running.{root_rows};
+ghost use Rattle.rec_match.specs.Inner.Starting.{ChainsRules};
 ghost use Rattle.rec_match.specs.Tasks.{AreLeft, IsWhole};
 
 use crate::chain::Chains;

@@ -4,7 +4,7 @@ ghost use Rattle.std.specs.Prelude.{◌≡◌, ◌≢◌, ◌+◌, ◌<◌, ◌^
 ghost use Rattle.std.specs.Prelude.{map};
 ghost use Rattle.rec_match.specs.Marking.{AreMarked};
 ghost use Rattle.rec_match.specs.Parts.{coded_of, opened_codes, IsCode};
-ghost use Rattle.rec_match.specs.Shares.{symbols_of, AreShares, AddsRow, DealsRow};
+ghost use Rattle.rec_match.specs.Inner.Shares.{symbols_of, AreShares, AddsRow, DealsRow};
 
 use crate::marks::Marks;
 use crate::parts::{Code, CodeRow, Parts};

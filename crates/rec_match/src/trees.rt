@@ -5,8 +5,8 @@ ghost use Rattle.rec_sorts.specs.Lookup.{symbols};
 ghost use Rattle.rec_match.specs.Forests.{IsForest};
 ghost use Rattle.rec_match.specs.Marking.{HasMarks};
 ghost use Rattle.rec_match.specs.Pushed.{AreLeftParts};
-ghost use Rattle.rec_match.specs.Starting.{ChainsRules};
-ghost use Rattle.rec_match.specs.Paths.{AreTreesOf};
+ghost use Rattle.rec_match.specs.Inner.Starting.{ChainsRules};
+ghost use Rattle.rec_match.specs.Inner.Paths.{AreTreesOf};
 ghost use Rattle.rec_match.specs.Tasks.{IsGround, CanStep, numbers_of};
 ghost use Rattle.rec_match.specs.declared.forest.Node.TheVariants.{Fail};
 

@@ -10,7 +10,7 @@ use Rattle.rx_text.specs.Machine as machine
 use Rattle.rx_text.proofs.MachineLemmas.{read_spelled}
 use Rattle.rx_text.proofs.FaultLemmas.{is_place}
 use Rattle.rec_syntax.specs.Syntax.{Spec}
-use Rattle.rec_syntax.specs.Machine.{Outcome, Read, Fault, Unfinished}
+use Rattle.rec_syntax.specs.Inner.Machine.{Outcome, Read, Fault, Unfinished}
 use Rattle.rec_syntax.proofs.VerdictLemmas.{comes_of, read_spells, stops_at_place}
 use Rattle.rec_sorts.specs.SpecRules as rules
 use Rattle.rec_sorts.specs.SpecRules.{Verdict, Long, Grammar, Breaks, Good, SpecVerdict, fault, Fits}

@@ -5,7 +5,7 @@ use Rattle.std.proofs.lemmas.List.{drop-drop, drop_all, length-append, length-ta
 use Rattle.std.specs.Io.KnownBytes.{IsAtEnd, Keeps}
 use Rattle.rec_serve.specs.Conversation.{requests}
 use Rattle.rec_serve.specs.declared.request.Request.{Request}
-use Rattle.rec_serve.specs.Reading.{Begins, IsOver, IsRead, Splits, Takes, all_in_front, left_of, unread}
+use Rattle.rec_serve.specs.Inner.Reading.{Begins, IsOver, IsRead, Splits, Takes, all_in_front, left_of, unread}
 use Rattle.rec_serve.specs.declared.read_ahead.ReadAhead.{ReadAhead}
 use Rattle.rec_serve.proofs.RequestLemmas.{ends_at, front-alone, front-append, front-ended, none_inside}
 

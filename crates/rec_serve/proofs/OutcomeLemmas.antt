@@ -29,7 +29,7 @@ use Rattle.rec_sorts.specs.declared.fault.TermsFault.{TermsFault}
 use Rattle.rec_sorts.specs.declared.fault.TermsFault.TheVariants as rule
 use Rattle.rec_serve.specs.Answering.{AnswersTree, IsAnswered, WantsDepth, refusal_after, refusal_line, shown, text_of}
 use Rattle.rec_serve.specs.Conversation.{IsAnswer, answer_after, answer_by}
-use Rattle.rec_serve.specs.Reading.{IsRead}
+use Rattle.rec_serve.specs.Inner.Reading.{IsRead}
 use Rattle.rec_serve.specs.Replies.{IsReply}
 use Rattle.rec_serve.specs.declared.answers.Answered.{Answered}
 use Rattle.rec_serve.specs.declared.ending.Refusal.{Refusal}

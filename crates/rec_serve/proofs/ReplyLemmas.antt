@@ -8,7 +8,7 @@ use Rattle.rx_text.proofs.AppendingLemmas.{appends_both, appends_none, appends_s
 use Rattle.rec_syntax.specs.Syntax.{Spec}
 use Rattle.rec_sorts.specs.Numbering.{Pairwise}
 use Rattle.rec_serve.specs.Conversation.{joined, requests}
-use Rattle.rec_serve.specs.Reading.{IsRead, Splits}
+use Rattle.rec_serve.specs.Inner.Reading.{IsRead, Splits}
 use Rattle.rec_serve.specs.declared.request.Request.{Request}
 use Rattle.rec_serve.specs.Replies.{BreaksOff, Converses, IsPart, IsReply, answered_before}
 use Rattle.rec_serve.specs.Steps.{EndsStep, Replies, StopsReply, StopsStep, stopped_after}

@@ -9,7 +9,7 @@ use Rattle.rec_sorts.specs.Laws.{Every}
 use Rattle.rx_run.specs.Bytes.{newlines}
 use Rattle.rec_serve.specs.Conversation.{in_front, requests}
 use Rattle.rec_serve.specs.Laws.{IsInLine, RequestsLaw, ended}
-use Rattle.rec_serve.specs.Reading.{all_in_front}
+use Rattle.rec_serve.specs.Inner.Reading.{all_in_front}
 
 abbrev is_end : ℕ → Bool
 is_end b = b == 10

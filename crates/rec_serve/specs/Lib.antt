@@ -1,7 +1,6 @@
 pub mod Answering
 pub mod Conversation
 pub mod Laws
-pub mod Reading
 pub mod Replies
 pub mod Steps
-pub mod Wants
+pub mod Inner

@@ -6,7 +6,7 @@ use Rattle.std.specs.Prelude.{ℕ, ◌⊎◌, Bool, List, [], ◌∷◌, Option}
 use Rattle.std.specs.Io.KnownBytes.{Appends, IsAtEnd, Keeps}
 use Rattle.rx_text.specs.Written.{AppendsFront}
 use Rattle.rec_syntax.specs.Syntax.{Spec}
-use Rattle.rec_serve.specs.Reading.{IsOver, Splits}
+use Rattle.rec_serve.specs.Inner.Reading.{IsOver, Splits}
 use Rattle.rec_serve.specs.Replies.{IsReply}
 use Rattle.rec_serve.specs.declared.ending.ServeFault.{ServeFault}
 use Rattle.rec_serve.specs.declared.ending.ServeFault.TheVariants as serve

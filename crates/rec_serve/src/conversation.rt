@@ -24,7 +24,7 @@ ghost use Rattle.rec_serve.specs.Replies.{
   Converses,
   IsReply,
 };
-ghost use Rattle.rec_serve.specs.Reading.{IsRead, left_of, unread};
+ghost use Rattle.rec_serve.specs.Inner.Reading.{IsRead, left_of, unread};
 ghost use Rattle.rec_serve.specs.Answering.{IsAnswered, WantsDepth, text_of};
 ghost use Rattle.rec_serve.specs.Steps.{EndsStep, Replies, StopsStep, stopped_after};
 

@@ -58,7 +58,7 @@ impl<T: Drop> From<AllocFailed<T>> for Want {
 }
 
 impl From<BankFault> for Want {
-    ghost use Rattle.rec_serve.specs.Wants.{of_bank};
+    ghost use Rattle.rec_serve.specs.Inner.Wants.{of_bank};
 
     ghost from_gives = { λ e r. r ≡ of_bank e };
 
@@ -71,7 +71,7 @@ impl From<BankFault> for Want {
 }
 
 impl From<EngineFault> for Want {
-    ghost use Rattle.rec_serve.specs.Wants.{of_engine};
+    ghost use Rattle.rec_serve.specs.Inner.Wants.{of_engine};
 
     ghost from_gives = { λ e r. r ≡ of_engine e };
 
@@ -84,7 +84,7 @@ impl From<EngineFault> for Want {
 }
 
 impl From<DepthFault> for Want {
-    ghost use Rattle.rec_serve.specs.Wants.{of_depth};
+    ghost use Rattle.rec_serve.specs.Inner.Wants.{of_depth};
 
     ghost from_gives = { λ e r. r ≡ of_depth e };
 

@@ -56,7 +56,7 @@ pub(crate) struct ReadAhead {
 impl ReadAhead {
     ghost use Rattle.std.specs.Prelude.{◌↔◌, ◌++◌, [], List, ℕ, IfOk, IsTrue, Ok, drop, false, length, true};
     ghost use Rattle.std.specs.Io.KnownBytes.{IsAtEnd, Keeps};
-    ghost use Rattle.rec_serve.specs.Reading.{IsRead, Takes, left_of, unread};
+    ghost use Rattle.rec_serve.specs.Inner.Reading.{IsRead, Takes, left_of, unread};
 
     /// Nothing was read.
     pub(crate) fn new(alloc: Global) -> Result<ReadAhead, AllocError>

@@ -20,7 +20,7 @@ pub(crate) struct Request {
 
 impl Request {
     ghost use Rattle.std.specs.Prelude.{◌≡◌, ◌<◌, ◌++◌, [], List, ℕ, MatchOption, Some, false, length, true};
-    ghost use Rattle.rec_serve.specs.Reading.{IsRead};
+    ghost use Rattle.rec_serve.specs.Inner.Reading.{IsRead};
 
     /// Nothing so far.
     pub(crate) fn new(alloc: Global) -> Request

@@ -2,7 +2,7 @@
 
 ghost use Rattle.std.specs.Prelude.{◌≡◌, ◌∷◌, [], List, ℕ, IfOk, MatchOption};
 ghost use Rattle.std.specs.Io.KnownBytes.{IsAtEnd, Keeps};
-ghost use Rattle.rec_serve.specs.Reading.{IsOver, IsRead, Splits, left_of};
+ghost use Rattle.rec_serve.specs.Inner.Reading.{IsOver, IsRead, Splits, left_of};
 
 use crate::read_ahead::{ReadAhead, StreamFault};
 use crate::request::Request;

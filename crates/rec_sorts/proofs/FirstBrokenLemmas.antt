@@ -14,7 +14,7 @@ use Rattle.rec_syntax.specs.Syntax.{Spec}
 use Rattle.rec_sorts.specs.SpecRules.{fault}
 use Rattle.rec_sorts.specs.TermRules.{elements, broken_by_elements, broken_by_terms, first_passed, nodes, nodes_all, arguments, is_no_application, is_annotated, is_undeclared, is_ill_filled, is_ill_sorted, breaks_alone, first_breaking, broken_element}
 use Rattle.rec_sorts.specs.Agreeing.{IsScope}
-use Rattle.rec_sorts.specs.GivenTerms.{is_broken_alone}
+use Rattle.rec_sorts.specs.Inner.GivenTerms.{is_broken_alone}
 use Rattle.rec_sorts.specs.declared.scope.Scope.{Scope}
 use Rattle.rec_sorts.specs.Laws.{ElementLaw}
 use Rattle.rec_sorts.proofs.GivenRuleLemmas.{broken-nodes, if_held}

@@ -18,7 +18,7 @@ use Rattle.rec_sorts.specs.Evaluation.{term_of, terms_of}
 use Rattle.rec_sorts.specs.Numbering.{IsMeaning, name_of, Named, named, named_all, named_by, AreLetters, Pairwise}
 use Rattle.rec_sorts.specs.Agreeing.{IsScope}
 use Rattle.rec_sorts.specs.Walking.{backwards, backwards_all}
-use Rattle.rec_sorts.specs.GivenTerms.{symbol_at, node_letter}
+use Rattle.rec_sorts.specs.Inner.GivenTerms.{symbol_at, node_letter}
 use Rattle.rec_sorts.specs.declared.letters.Letter.{Letter}
 use Rattle.rec_sorts.specs.declared.letters.Meaning.{Meaning}
 use Rattle.rec_sorts.specs.declared.letters.Meaning.TheVariants.{Symbol}

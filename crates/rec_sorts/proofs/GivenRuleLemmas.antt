@@ -18,7 +18,7 @@ use Rattle.rec_sorts.specs.Declaring.{sort_numbers}
 use Rattle.rec_sorts.specs.Scope.{meaning_of, sort_at, arguments_at}
 use Rattle.rec_sorts.specs.Agreeing.{IsScope}
 use Rattle.rec_sorts.specs.Walking.{unstacked}
-use Rattle.rec_sorts.specs.GivenTerms.{symbol_alone, symbol_at, is_nameless, is_misfilled, are_misfits, has_misfit, broken_by_nodes}
+use Rattle.rec_sorts.specs.Inner.GivenTerms.{symbol_alone, symbol_at, is_nameless, is_misfilled, are_misfits, has_misfit, broken_by_nodes}
 use Rattle.rec_sorts.specs.declared.letters.Meaning.{Meaning}
 use Rattle.rec_sorts.specs.declared.letters.Meaning.TheVariants.{Symbol, Variable}
 use Rattle.rec_sorts.specs.declared.scope.Scope.{Scope}

@@ -14,7 +14,7 @@ use Rattle.rx_term.specs.declared.Kind.{Kind}
 use Rattle.rx_term.specs.declared.Kind.TheVariants as kind
 use Rattle.rx_term.specs.Walks.{held_tree, held_trees}
 use Rattle.rec_sorts.specs.TermRules.{nodes, nodes_all, arguments, is_no_application, is_annotated, first_passed}
-use Rattle.rec_sorts.specs.GivenTerms.{is_nameless, is_misfilled, are_misfits, has_misfit, broken_by_nodes}
+use Rattle.rec_sorts.specs.Inner.GivenTerms.{is_nameless, is_misfilled, are_misfits, has_misfit, broken_by_nodes}
 use Rattle.rec_sorts.specs.declared.scope.Scope.{Scope}
 use Rattle.rec_sorts.specs.Walking.{backwards, backwards_all, unstacked}
 

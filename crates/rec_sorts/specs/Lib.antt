@@ -10,12 +10,11 @@ pub mod Names
 pub mod Scope
 pub mod Letters
 pub mod SortFaults
-pub mod CheckedView
 pub mod Declaring
 pub mod Reading
 pub mod Agreeing
 pub mod TermsFaults
 pub mod Walking
 pub mod ListNodes
-pub mod GivenTerms
 pub mod Linked
+pub mod Inner

@@ -8,7 +8,7 @@ ghost use Rattle.rec_sorts.specs.SortFaults.{IsFault, first_place};
 ghost use Rattle.rec_sorts.specs.Numbering.{Pairwise, IsLetterRule, AreLetters, bytes_at, name_of};
 ghost use Rattle.rec_sorts.specs.Numbering.{arity_of, variable_count};
 ghost use Rattle.rec_sorts.specs.Agreeing.{IsReadScope};
-ghost use Rattle.rec_sorts.specs.CheckedView.{IsExamined};
+ghost use Rattle.rec_sorts.specs.Inner.CheckedView.{IsExamined};
 ghost use Rattle.rec_sorts.specs.declared.letters.Meaning.TheVariants.{Symbol};
 
 use crate::fault::SortFault;
@@ -34,13 +34,13 @@ pub struct Checked {
 
 impl Model for Checked {
     ghost use Rattle.rec_syntax.specs.Syntax.{Sourced};
-    ghost use Rattle.rec_syntax.specs.TermCode.{sourced_code};
+    ghost use Rattle.rec_syntax.specs.Inner.TermCode.{sourced_code};
 
     ghost Value = { Sourced };
 
     ghost coded = { sourced_code };
 
-    ghost use Rattle.rec_sorts.specs.CheckedView.{sourced_of, IsChecked};
+    ghost use Rattle.rec_sorts.specs.Inner.CheckedView.{sourced_of, IsChecked};
 
     ghost view = { sourced_of };
 

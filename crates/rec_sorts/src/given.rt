@@ -74,9 +74,9 @@ fn argument_count<B: TermBank>(bank: &B, node: Term) -> u32
 }
 
 impl Scope<'_> {
-    ghost use Rattle.rec_sorts.specs.GivenTerms.{symbol_at, is_nameless, is_misfilled, are_misfits};
-    ghost use Rattle.rec_sorts.specs.GivenTerms.{has_misfit, node_letter, broken_by_nodes};
-    ghost use Rattle.rec_sorts.specs.GivenTerms.{broken_by_all, is_broken_alone};
+    ghost use Rattle.rec_sorts.specs.Inner.GivenTerms.{symbol_at, is_nameless, is_misfilled, are_misfits};
+    ghost use Rattle.rec_sorts.specs.Inner.GivenTerms.{has_misfit, node_letter, broken_by_nodes};
+    ghost use Rattle.rec_sorts.specs.Inner.GivenTerms.{broken_by_all, is_broken_alone};
 
     /// The symbol that a node stands for: one of its name, which stands unquoted where it may.
     fn symbol<B: TermBank>(&self, bank: &B, node: Term) -> Option<Meaning>

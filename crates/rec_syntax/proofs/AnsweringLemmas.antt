@@ -4,10 +4,10 @@ use Rattle.rec_syntax.specs.Tokens as token
 use Rattle.rec_syntax.specs.Tokens.{Token, Placed}
 use Rattle.rec_syntax.specs.Grammar.{SpecText}
 use Rattle.rec_syntax.specs.Place.{IsFaultPlace}
-use Rattle.rec_syntax.specs.Machine as machine
-use Rattle.rec_syntax.specs.Machine.{Config, step, stopped, outcome}
+use Rattle.rec_syntax.specs.Inner.Machine as machine
+use Rattle.rec_syntax.specs.Inner.Machine.{Config, step, stopped, outcome}
 use Rattle.rec_syntax.specs.Lexemes.{tokens_from, token_of, behind}
-use Rattle.rec_syntax.specs.Reader.{config_of, IsState, Steps}
+use Rattle.rec_syntax.specs.Inner.Reader.{config_of, IsState, Steps}
 use Rattle.rec_syntax.specs.declared.lexer.LexemeKind.{LexemeKind}
 use Rattle.rec_syntax.specs.declared.lexer.LexemeKind.TheVariants.{End}
 use Rattle.rec_syntax.specs.declared.lexer.Lexeme.{Lexeme}

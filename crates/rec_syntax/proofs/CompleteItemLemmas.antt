@@ -4,7 +4,7 @@ use Rattle.std.proofs.lemmas.List.{append-nil}
 use Rattle.rec_syntax.specs.Tokens.{Word, Sorts, Cons, Opns, Vars, Rules, Eval, Token, Plain, Head, EndSpec}
 use Rattle.rec_syntax.specs.Syntax.{Term, Apply, Declaration, Variables, Condition, Rule, Spec}
 use Rattle.rec_syntax.specs.Grammar.{each, word, term, declaration, variables, comparison, condition, conditions, rule}
-use Rattle.rec_syntax.specs.Machine.{Left, Right, CondLeft, CondRight, InEval, In, Between, Args, Grouped, AtTerm, After, to, with_rule, run}
+use Rattle.rec_syntax.specs.Inner.Machine.{Left, Right, CondLeft, CondRight, InEval, In, Between, Args, Grouped, AtTerm, After, to, with_rule, run}
 use Rattle.rec_syntax.proofs.LevelLemmas.{before}
 use Rattle.rec_syntax.proofs.SoundTermLemmas.{further}
 use Rattle.rec_syntax.proofs.CompleteTermLemmas.{takes, Follows}

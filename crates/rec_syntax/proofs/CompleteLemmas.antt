@@ -3,7 +3,7 @@ use Rattle.std.proofs.Common.{◌≡◌, Bool, true, List, [], ◌∷◌, Some, 
 use Rattle.rec_syntax.specs.Tokens.{Section, Sorts, Cons, Opns, Vars, Rules, Eval, Token, EndSpec, End}
 use Rattle.rec_syntax.specs.Syntax.{Term, Spec}
 use Rattle.rec_syntax.specs.Grammar.{specification}
-use Rattle.rec_syntax.specs.Machine.{Level, Top, In, Between, Done, to, later, when, run, start}
+use Rattle.rec_syntax.specs.Inner.Machine.{Level, Top, In, Between, Done, to, later, when, run, start}
 use Rattle.rec_syntax.proofs.SectionLemmas.{items, Empty, Stands, stands}
 use Rattle.rec_syntax.proofs.LevelLemmas.{before, AtMost, after_before, before_in}
 use Rattle.rec_syntax.proofs.CompleteItemLemmas.{words_taken, cons_taken, opns_taken, vars_taken, Ends, rules_taken, evals_taken}

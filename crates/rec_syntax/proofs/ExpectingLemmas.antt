@@ -10,10 +10,10 @@ use Rattle.rec_syntax.specs.Tokens as tokens
 use Rattle.rec_syntax.specs.Tokens.{Word, Token, Placed, placed_tokens, bare}
 use Rattle.rec_syntax.specs.Syntax.{Term, Apply, none, Condition, Spec}
 use Rattle.rec_syntax.specs.Place.{CanGoOn, IsFaultPlace}
-use Rattle.rec_syntax.specs.Machine.{Frame, Role, Left, Right, CondLeft, CondRight, InEval, Level, Top, In, Due, Start, Title, Between, Named, Args, Result, Grouped, GroupSort, AtTerm, Called, First, After, Ended, Done, Config, to, item, between, with_rule, complete, after, step, run, start}
+use Rattle.rec_syntax.specs.Inner.Machine.{Frame, Role, Left, Right, CondLeft, CondRight, InEval, Level, Top, In, Due, Start, Title, Between, Named, Args, Result, Grouped, GroupSort, AtTerm, Called, First, After, Ended, Done, Config, to, item, between, with_rule, complete, after, step, run, start}
 use Rattle.rec_syntax.specs.Nodes.{newest}
 use Rattle.rec_syntax.specs.Lexemes.{word_of}
-use Rattle.rec_syntax.specs.Reader.{frames_of}
+use Rattle.rec_syntax.specs.Inner.Reader.{frames_of}
 use Rattle.rec_syntax.specs.declared.reader.Call.{Call}
 use Rattle.rec_syntax.specs.declared.lexer.Part.TheVariants.{Sorts, Cons, Opns, Vars, Rules, Eval}
 use Rattle.rec_syntax.specs.Expected.{IsOf, MayStand, sample, is_taken}

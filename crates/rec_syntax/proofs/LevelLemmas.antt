@@ -2,7 +2,7 @@
 use Rattle.std.proofs.Common.{◌≡◌, true, List, [], ◌∷◌, refl}
 use Rattle.rec_syntax.specs.Tokens.{Section, Sorts, Cons, Opns, Vars, Rules, Eval, Token}
 use Rattle.rec_syntax.specs.Syntax.{Spec}
-use Rattle.rec_syntax.specs.Machine.{Level, Top, In, later}
+use Rattle.rec_syntax.specs.Inner.Machine.{Level, Top, In, later}
 use Rattle.rec_syntax.proofs.SectionLemmas.{sections, Empty, left_out}
 
 -- the level before a section

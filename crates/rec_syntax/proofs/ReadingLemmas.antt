@@ -7,11 +7,11 @@ use Rattle.rec_syntax.specs.Tokens.{Word, Rules}
 use Rattle.rec_syntax.specs.Syntax as syntax
 use Rattle.rec_syntax.specs.Syntax.{Apply, none}
 use Rattle.rec_syntax.specs.Nodes.{newest_term}
-use Rattle.rec_syntax.specs.Machine as machine
-use Rattle.rec_syntax.specs.Machine.{Frame, In, complete, between, with_rule, to}
+use Rattle.rec_syntax.specs.Inner.Machine as machine
+use Rattle.rec_syntax.specs.Inner.Machine.{Frame, In, complete, between, with_rule, to}
 use Rattle.rec_syntax.specs.Lexemes.{word_of, token_of}
 use Rattle.rec_syntax.specs.Parts.{term_of, condition_of, rule_of, spec_of, Within, IsTerm, IsCondition, IsRule, AreSections}
-use Rattle.rec_syntax.specs.Reader.{role_of, made_of, frames_of, rest, config_of, advance, IsRole, IsState, Moves}
+use Rattle.rec_syntax.specs.Inner.Reader.{role_of, made_of, frames_of, rest, config_of, advance, IsRole, IsState, Moves}
 use Rattle.rec_syntax.specs.declared.lexer.Span.{Span}
 use Rattle.rec_syntax.specs.declared.lexer.LexemeKind.{LexemeKind}
 use Rattle.rec_syntax.specs.declared.lexer.LexemeKind.TheVariants.{Open, AndIf}

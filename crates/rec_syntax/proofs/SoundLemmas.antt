@@ -3,7 +3,7 @@ use Rattle.std.proofs.Common.{◌≡◌, Bool, true, false, List, [], ◌∷◌,
 use Rattle.rec_syntax.specs.Tokens.{Word, Section, Sorts, Cons, Opns, Vars, Rules, Eval, Token, Plain, RecSpec, Head, EndSpec, If, AndIf, Colon, Open, Close, Comma, Arrow, Equal, Unequal, End}
 use Rattle.rec_syntax.specs.Syntax.{Term, Apply, none, Declaration, Condition, Rule, Spec}
 use Rattle.rec_syntax.specs.Grammar.{Phrase, ◌then◌, token, word, each, term, declaration, specification}
-use Rattle.rec_syntax.specs.Machine.{Frame, Role, Left, Right, CondLeft, CondRight, InEval, Level, Top, In, Due, Start, Title, Between, Named, Args, Result, Grouped, GroupSort, AtTerm, Called, First, After, Ended, Done, Config, to, later, when, item, between, with_rule, declared, complete, after, step, then_step, run, start}
+use Rattle.rec_syntax.specs.Inner.Machine.{Frame, Role, Left, Right, CondLeft, CondRight, InEval, Level, Top, In, Due, Start, Title, Between, Named, Args, Result, Grouped, GroupSort, AtTerm, Called, First, After, Ended, Done, Config, to, later, when, item, between, with_rule, declared, complete, after, step, then_step, run, start}
 use Rattle.rec_syntax.proofs.SectionLemmas.{sections}
 use Rattle.rec_syntax.proofs.LevelLemmas.{up_to, Empties}
 use Rattle.rec_syntax.proofs.SoundSectionLemmas.{Sofar, sofar_spelled, head_taken, all_spelled, each-last, sort_read, cons_read, opns_read, vars_read, rule_read, eval_read}

@@ -3,7 +3,7 @@ use Rattle.std.proofs.Common.{◌≡◌, true, List, [], ◌∷◌, ◌++◌, re
 use Rattle.rec_syntax.specs.Tokens.{Word, Section, Sorts, Cons, Opns, Vars, Rules, Eval, Token, Head}
 use Rattle.rec_syntax.specs.Syntax.{Term, Declaration, Variables, Rule, Spec}
 use Rattle.rec_syntax.specs.Grammar.{Phrase, ◌then◌, token, word, each, term, declaration, variables, rule}
-use Rattle.rec_syntax.specs.Machine.{Level, Top, In, later, with_rule}
+use Rattle.rec_syntax.specs.Inner.Machine.{Level, Top, In, later, with_rule}
 use Rattle.rec_syntax.proofs.SectionLemmas.{items, no_items, head_items, sections}
 use Rattle.rec_syntax.proofs.LevelLemmas.{before, up_to, up_to_in, Empties, one, raise, later_later}
 

@@ -3,7 +3,7 @@ use Rattle.std.proofs.Common.{◌≡◌, List, [], ◌∷◌, ◌++◌, refl, sy
 use Rattle.rec_syntax.specs.Tokens.{Word, Rules, Eval, Token, Plain, If, AndIf, Open, Close, Comma, Arrow}
 use Rattle.rec_syntax.specs.Syntax.{Term, Terms, Apply, none, more, Condition, Spec}
 use Rattle.rec_syntax.specs.Grammar.{Phrase, ◌then◌, nothing, token, word, each, term, further_arguments, comparison, condition, conditions}
-use Rattle.rec_syntax.specs.Machine.{Frame, snoc, Role, Left, Right, CondLeft, CondRight, InEval, In}
+use Rattle.rec_syntax.specs.Inner.Machine.{Frame, snoc, Role, Left, Right, CondLeft, CondRight, InEval, In}
 use Rattle.rec_syntax.proofs.SoundSectionLemmas.{Sofar}
 
 -- arguments, each with a comma behind it

@@ -8,11 +8,11 @@ use Rattle.rec_syntax.specs.Syntax as syntax
 use Rattle.rec_syntax.specs.Syntax.{Terms, Apply, none, more}
 use Rattle.rec_syntax.specs.Nodes as nodes
 use Rattle.rec_syntax.specs.Nodes.{term_count, flat, flat_all, newest, assembled, made_by, newest_term}
-use Rattle.rec_syntax.specs.Machine as machine
-use Rattle.rec_syntax.specs.Machine.{Role, snoc, to}
+use Rattle.rec_syntax.specs.Inner.Machine as machine
+use Rattle.rec_syntax.specs.Inner.Machine.{Role, snoc, to}
 use Rattle.rec_syntax.specs.Lexemes.{word_of}
 use Rattle.rec_syntax.specs.Parts.{node_of, Within, IsTerm}
-use Rattle.rec_syntax.specs.Reader.{made_of, frames_of, rest, total, Enough, IsStack}
+use Rattle.rec_syntax.specs.Inner.Reader.{made_of, frames_of, rest, total, Enough, IsStack}
 use Rattle.rec_syntax.specs.declared.lexer.Span.{Span}
 use Rattle.rec_syntax.specs.declared.parts.Node.{Node}
 use Rattle.rec_syntax.specs.declared.parts.Term.{Term}

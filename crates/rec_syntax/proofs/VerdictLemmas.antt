@@ -5,7 +5,7 @@ use Rattle.rec_syntax.specs.Syntax.{Spec}
 use Rattle.rec_syntax.specs.Grammar.{specification, SpecText}
 use Rattle.rec_syntax.specs.Place.{CanGoOn, IsFaultPlace}
 use Rattle.rec_syntax.specs.Laws.{OnlyA, FinishByA}
-use Rattle.rec_syntax.specs.Machine.{Due, Done, Config, to, step, then_step, run, start, Outcome, Read, Fault, stopped, outcome, outcome_of}
+use Rattle.rec_syntax.specs.Inner.Machine.{Due, Done, Config, to, step, then_step, run, start, Outcome, Read, Fault, stopped, outcome, outcome_of}
 use Rattle.rec_syntax.proofs.FinishLemmas.{finish, finished, only_a}
 use Rattle.rec_syntax.proofs.SoundLemmas.{read_is_text}
 use Rattle.rec_syntax.proofs.CompleteLemmas.{text_taken}

@@ -3,9 +3,9 @@ use Rattle.std.specs.Prelude.{◌≡◌, ◌↔◌, ℕ, Bool, List, [], ◌∷�
 use Rattle.rec_syntax.specs.Tokens as tokens
 use Rattle.rec_syntax.specs.Tokens.{Word, Token, bare}
 use Rattle.rec_syntax.specs.Place.{CanGoOn, IsFaultPlace}
-use Rattle.rec_syntax.specs.Machine.{Config, start, run}
+use Rattle.rec_syntax.specs.Inner.Machine.{Config, start, run}
 use Rattle.rec_syntax.specs.Lexemes.{section_of, token_of}
-use Rattle.rec_syntax.specs.Reader.{config_of}
+use Rattle.rec_syntax.specs.Inner.Reader.{config_of}
 use Rattle.rec_syntax.specs.declared.lexer.LexemeKind.{LexemeKind}
 use Rattle.rec_syntax.specs.declared.token_kind.TokenKind.{TokenKind}
 use Rattle.rec_syntax.specs.declared.token_kind.TokenKind.TheVariants.{PlainWord, RecSpec, Section, EndSpec, If, AndIf, Colon, Open, Close, Comma, Arrow, Equal, Unequal, End}

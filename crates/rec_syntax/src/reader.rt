@@ -5,9 +5,9 @@ ghost use Rattle.rec_syntax.specs.Grammar.{SpecText};
 ghost use Rattle.rec_syntax.specs.Answer.{IsPlaced};
 ghost use Rattle.rec_syntax.specs.Length.{longest};
 ghost use Rattle.rec_syntax.specs.Lexemes.{IsToken};
-ghost use Rattle.rec_syntax.specs.Machine.{start};
+ghost use Rattle.rec_syntax.specs.Inner.Machine.{start};
 ghost use Rattle.rec_syntax.specs.Parts.{AreSections, spec_of};
-ghost use Rattle.rec_syntax.specs.Reader.{config_of, IsState, IsAt, Steps};
+ghost use Rattle.rec_syntax.specs.Inner.Reader.{config_of, IsState, IsAt, Steps};
 
 mod expected;
 mod items;

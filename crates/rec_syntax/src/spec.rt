@@ -22,13 +22,13 @@ pub struct Syntax {
 
 impl Model for Syntax {
     ghost use Rattle.rec_syntax.specs.Syntax.{Sourced};
-    ghost use Rattle.rec_syntax.specs.TermCode.{sourced_code};
+    ghost use Rattle.rec_syntax.specs.Inner.TermCode.{sourced_code};
 
     ghost Value = { Sourced };
 
     ghost coded = { sourced_code };
 
-    ghost use Rattle.rec_syntax.specs.SyntaxView.{sourced_of, IsSourced};
+    ghost use Rattle.rec_syntax.specs.Inner.SyntaxView.{sourced_of, IsSourced};
 
     ghost view = { sourced_of };
 

@@ -14,9 +14,9 @@ use Rattle.rec_sorts.specs.Evaluation.{Outcome, Done, Over, ◌then◌, Eval, Ho
 use Rattle.rec_sorts.proofs.RuleLemmas.{after_left}
 use Rattle.rec_engine.proofs.TermLemmas.{drop-at, drop-end}
 use Rattle.rec_trace.specs.Lists.{AreKept, Hold, listed}
-use Rattle.rec_trace.specs.Sides.{HasSide, IsMatch, no_condition}
+use Rattle.rec_trace.specs.Inner.Sides.{HasSide, IsMatch, no_condition}
 use Rattle.rec_trace.specs.Tracing.{AreAnswered, AreSteps, Gives, IsInOrder, IsSame, caller, moves_of, on_top, stack_at}
-use Rattle.rec_trace.specs.Turns.{CanTake}
+use Rattle.rec_trace.specs.Inner.Turns.{CanTake}
 use Rattle.rec_trace.specs.declared.sides.Side.{Side}
 use Rattle.rec_trace.specs.declared.tracer.Step.{Step}
 use Rattle.rec_trace.specs.declared.tracer.Tracer.{Tracer}

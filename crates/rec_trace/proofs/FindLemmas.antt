@@ -7,10 +7,10 @@ use Rattle.rec_syntax.specs.Syntax.{Rule, Spec}
 use Rattle.rec_sorts.specs.Binding.{NumberedMatch, Substitution, binds, first_match, next_match}
 use Rattle.rec_sorts.specs.Evaluation.{Outcome, Done, Over, Match, ◌then◌, Eval, Holds, first_rule, holds, spend}
 use Rattle.rx_term.specs.Store.{Store}
-use Rattle.rec_trace.specs.Sides.{IsMatch}
+use Rattle.rec_trace.specs.Inner.Sides.{IsMatch}
 use Rattle.rec_trace.specs.Tracing.{AreAnswered, IsSame, moves_at, stack_at}
 use Rattle.rec_trace.specs.declared.tracer.Tracer.{Tracer}
-use Rattle.rec_trace.specs.Turns.{number_of}
+use Rattle.rec_trace.specs.Inner.Turns.{number_of}
 use Rattle.rec_trace.proofs.SideLemmas.{some-same}
 
 -- what a rule that matches comes to, by its conditions

@@ -10,11 +10,11 @@ use Rattle.rec_sorts.specs.Binding.{Substitution, instance}
 use Rattle.rec_sorts.specs.Evaluation.{Outcome, Done, Match, Eval, evaluate, first_rule}
 use Rattle.rec_trace.specs.States.{moves}
 use Rattle.rec_trace.specs.Lists.{AreKept, Hold, listed}
-use Rattle.rec_trace.specs.Sides.{IsMatch}
+use Rattle.rec_trace.specs.Inner.Sides.{IsMatch}
 use Rattle.rec_trace.specs.Tracing as T
 use Rattle.rec_trace.specs.Tracing.{Adds, AreSteps, Gives, HasMoves, IsInOrder, IsSame, Stands, caller, moves_at, moves_of, on_top, rest_of, stack_at, whole_of}
-use Rattle.rec_trace.specs.Turns as turns
-use Rattle.rec_trace.specs.Turns.{Comes, Fires}
+use Rattle.rec_trace.specs.Inner.Turns as turns
+use Rattle.rec_trace.specs.Inner.Turns.{Comes, Fires}
 use Rattle.rec_trace.specs.declared.tracer.Found.TheVariants as found
 use Rattle.rec_trace.specs.declared.tracer.Step.{Step}
 use Rattle.rec_trace.specs.declared.tracer.Tracer.{Tracer}

@@ -26,7 +26,7 @@ use Rattle.rec_match.proofs.FindLemmas.{first-matched}
 use Rattle.rec_engine.proofs.TriedRuleLemmas.{no_rule}
 use Rattle.rec_trace.specs.States.{Move, Give, Invoke, moves, moves_all}
 use Rattle.rec_trace.specs.Lists.{AreKept, Hold, IsList, KeepsStack, listed}
-use Rattle.rec_trace.specs.Sides.{HasValues, IsMatch, IsRow, KeepsValues, move_of}
+use Rattle.rec_trace.specs.Inner.Sides.{HasValues, IsMatch, IsRow, KeepsValues, move_of}
 use Rattle.rec_trace.specs.Tracing.{AreSteps, HasPushed, IsInOrder, moves_at, moves_of}
 use Rattle.rec_trace.specs.declared.lists.Lists.{Lists}
 use Rattle.rec_trace.specs.declared.tracer.Step.{Step}

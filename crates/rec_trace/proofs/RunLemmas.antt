@@ -9,13 +9,13 @@ use Rattle.rec_sorts.specs.Lookup.{count}
 use Rattle.rec_sorts.specs.Binding.{Substitution, application, instance, instances, value_of}
 use Rattle.rec_sorts.specs.Evaluation.{Caller, Outcome, Done, Over, Eval, Call, ◌then◌, evaluate, evaluate_all}
 use Rattle.rec_sorts.proofs.EquationLemmas.{meets}
-use Rattle.rec_match.specs.Asking.{stack_on}
+use Rattle.rec_match.specs.Inner.Asking.{stack_on}
 use Rattle.rec_engine.specs.Flat.{taken}
 use Rattle.rec_engine.proofs.FlatLemmas.{drop-stacked, size, taken-stacked}
 use Rattle.rec_trace.specs.States.{Fits, Give, Invoke, Move, moves, moves_all}
 use Rattle.rec_trace.specs.Lists.{listed}
 use Rattle.rec_trace.specs.Tracing.{AreSteps, Gives, HasMoves, IsInOrder, caller, moves_at, moves_of, result, stack_at}
-use Rattle.rec_trace.specs.Turns.{CanTurn, HasRun, Moves}
+use Rattle.rec_trace.specs.Inner.Turns.{CanTurn, HasRun, Moves}
 use Rattle.rec_trace.specs.declared.tracer.Step.{Step}
 use Rattle.rec_trace.specs.declared.tracer.Step.TheVariants as step
 use Rattle.rec_trace.specs.declared.tracer.Tracer.{Tracer}

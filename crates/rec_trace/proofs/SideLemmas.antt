@@ -31,7 +31,7 @@ use Rattle.rec_match.proofs.RunLemmas.{tree_here}
 use Rattle.rec_match.proofs.ValueLemmas.{Paired, side-meant, side-paired}
 use Rattle.rec_engine.proofs.KnownLemmas.{letters-known}
 use Rattle.rec_engine.proofs.TriedRuleLemmas.{no_rule}
-use Rattle.rec_trace.specs.Sides.{HasValues, IsMatch, IsRead, IsRow, no_condition}
+use Rattle.rec_trace.specs.Inner.Sides.{HasValues, IsMatch, IsRead, IsRow, no_condition}
 
 -- the rule of a number
 pub record RuleAt (y : Spec) (i : ℕ) (r : Rule) : Type 0 where

@@ -7,7 +7,7 @@ use Rattle.rec_syntax.specs.Syntax.{Term, Terms, Apply, Spec}
 use Rattle.rec_sorts.specs.Lookup.{count}
 use Rattle.rec_sorts.specs.Binding.{Substitution, value_of, application, instance, instances}
 use Rattle.rec_sorts.specs.Evaluation.{Outcome, Done, Over, Match, first_rule, Eval}
-use Rattle.rec_match.specs.Asking.{stack_on}
+use Rattle.rec_match.specs.Inner.Asking.{stack_on}
 use Rattle.rec_engine.specs.Flat.{taken}
 use Rattle.rec_engine.proofs.FlatLemmas.{size, taken-stacked, drop-stacked}
 use Rattle.rec_trace.specs.Trace.{Firing, Traced, quiet, ◌next◌, trace, trace_all, firing, Trace, TraceIn, TraceCall}

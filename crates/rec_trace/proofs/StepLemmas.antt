@@ -13,14 +13,14 @@ use Rattle.rec_sorts.specs.Numbering.{AreLetters, arity_of, name_of, named_by}
 use Rattle.rec_sorts.specs.declared.letters.Letter.{Letter}
 use Rattle.rec_sorts.specs.declared.letters.Meaning.TheVariants.{Symbol}
 use Rattle.rec_engine.specs.Flat.{taken}
-use Rattle.rec_engine.specs.Made.{IsApplied}
+use Rattle.rec_engine.specs.Inner.Made.{IsApplied}
 use Rattle.rec_engine.proofs.TermLemmas.{drop-end}
 use Rattle.rec_trace.specs.Trace.{Trace, firing}
 use Rattle.rec_trace.specs.States.{Fits, Give, Invoke, after_call, ahead, firing_then, moves, written}
-use Rattle.rec_trace.specs.Sides.{move_of}
+use Rattle.rec_trace.specs.Inner.Sides.{move_of}
 use Rattle.rec_trace.specs.Lists.{AreKept, Hold, listed}
 use Rattle.rec_trace.specs.Tracing.{AreSteps, IsInOrder, IsLimit, IsTurn, Stands, moves_at, moves_of, rest_of, stack_at, whole_of}
-use Rattle.rec_trace.specs.Turns.{ComesTo, IsGroundRow}
+use Rattle.rec_trace.specs.Inner.Turns.{ComesTo, IsGroundRow}
 use Rattle.rec_trace.specs.declared.lists.Lists.{Lists}
 use Rattle.rec_trace.specs.declared.tracer.Step.{Step}
 use Rattle.rec_trace.specs.declared.tracer.Step.TheVariants as step

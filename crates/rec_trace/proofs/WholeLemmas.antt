@@ -10,7 +10,7 @@ use Rattle.rec_engine.specs.Flat.{taken}
 use Rattle.rec_trace.specs.States.{Fits, Give, Invoke, Move, ahead, written}
 use Rattle.rec_trace.specs.Lists.{AreKept, AreKeptTwice, Stays, count_among, listed}
 use Rattle.rec_trace.specs.Tracing.{IsInOrder, AreSteps, Stands, caller, moves_at, moves_of, rest_of, stack_at, whole_of}
-use Rattle.rec_trace.specs.Turns.{CanTurn, Moves, Turns}
+use Rattle.rec_trace.specs.Inner.Turns.{CanTurn, Moves, Turns}
 use Rattle.rec_trace.specs.declared.lists.Lists.{Lists}
 use Rattle.rec_trace.specs.declared.tracer.Tracer.{Tracer}
 use Rattle.rec_trace.proofs.ListLemmas.{itself, same-list}

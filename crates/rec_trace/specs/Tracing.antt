@@ -15,7 +15,7 @@ use Rattle.rec_engine.specs.Flat.{taken}
 use Rattle.rec_trace.specs.Trace.{Firing, Traced, quiet}
 use Rattle.rec_trace.specs.States.{Move, Give, Invoke, Fits, ahead, firing_then, written}
 use Rattle.rec_trace.specs.Lists.{AreKept, listed}
-use Rattle.rec_trace.specs.Sides.{HasValues, IsMatch, move_of}
+use Rattle.rec_trace.specs.Inner.Sides.{HasValues, IsMatch, move_of}
 use Rattle.rec_trace.specs.declared.tracer.Found.{Found}
 use Rattle.rec_trace.specs.declared.tracer.Found.TheVariants as found
 use Rattle.rec_trace.specs.declared.tracer.Step.{Step}

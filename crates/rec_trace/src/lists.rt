@@ -15,7 +15,7 @@ ghost use Rattle.rec_engine.specs.Flat.{taken};
 ghost use Rattle.rec_trace.specs.Lists.{AreKept, AreKeptTwice, Hold, IsList, KeepsStack};
 ghost use Rattle.rec_trace.specs.Lists.{Stays, listed};
 ghost use Rattle.rec_trace.specs.Lists.{protected_instead};
-ghost use Rattle.rec_trace.specs.Calls.{IsCalled};
+ghost use Rattle.rec_trace.specs.Inner.Calls.{IsCalled};
 
 use rec_engine::{Engine, EngineFault, Outcome};
 use rx_term::{Term, TermBank};

@@ -9,7 +9,7 @@ ghost use Rattle.rec_sorts.specs.Lookup.{mentions, variable_words};
 ghost use Rattle.rec_sorts.specs.Numbering.{AreLetters, name_of};
 ghost use Rattle.rec_sorts.specs.SpecRules.{heads};
 ghost use Rattle.rec_sorts.specs.declared.letters.Meaning.TheVariants.{Variable};
-ghost use Rattle.rec_trace.specs.Sides.{HasSide, HasValues, IsMatch, IsRow, side_of};
+ghost use Rattle.rec_trace.specs.Inner.Sides.{HasSide, HasValues, IsMatch, IsRow, side_of};
 
 use rec_engine::{Engine, EngineFault};
 use rec_sorts::{Checked, Letter};

@@ -16,9 +16,9 @@ use denote.Steps.{facts, owned, looks, shuts, only}
 use denote.Struct.Laws as LL
 use denote.Struct.Lending.{lent_at}
 use borrow.Table.OneValue.{part_in, part_out}
-use Rattle.rx_arena.specs.Node.{Node}
-use Rattle.rx_arena.specs.Held.{IsPlace}
-use Rattle.rx_arena.specs.Ownership.{place, cell_of, slot_owns, slots_own, slot_lent, slots_lent}
+use Rattle.rx_arena.specs.Inner.Node.{Node}
+use Rattle.rx_arena.specs.Inner.Held.{IsPlace}
+use Rattle.rx_arena.specs.Inner.Ownership.{place, cell_of, slot_owns, slots_own, slot_lent, slots_lent}
 use Rattle.rx_arena.specs.declared.cells.Cell.{Cell}
 use Rattle.rx_arena.specs.declared.cells.Place.{Place}
 use Rattle.rx_arena.specs.contracts.cells.Cell as C

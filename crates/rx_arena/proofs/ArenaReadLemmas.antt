@@ -7,11 +7,11 @@ use Rattle.rx_arena.specs.declared.arena.Arena.TheInside.{Inside}
 use Rattle.rx_arena.specs.declared.Slot.{Slot}
 use Rattle.rx_arena.specs.declared.CellBody.{CellBody}
 use Rattle.rx_arena.specs.Faces.{word_of}
-use Rattle.rx_arena.specs.Node as node
-use Rattle.rx_arena.specs.Node.{Node, has_mark, is_protected_node}
-use Rattle.rx_arena.specs.Held.{IsHeld}
-use Rattle.rx_arena.specs.Links.{Links, IsChain}
-use Rattle.rx_arena.specs.Pool.{is_unmarked_node}
+use Rattle.rx_arena.specs.Inner.Node as node
+use Rattle.rx_arena.specs.Inner.Node.{Node, has_mark, is_protected_node}
+use Rattle.rx_arena.specs.Inner.Held.{IsHeld}
+use Rattle.rx_arena.specs.Inner.Links.{Links, IsChain}
+use Rattle.rx_arena.specs.Inner.Pool.{is_unmarked_node}
 use Rattle.rx_arena.specs.Arena.{Taken, taken_at, IsTaken, chain_at, InChain, IsFirst, marked_at, is_marked, is_unmarked, roots_at, root_count, IsArena, shown_of}
 use Rattle.rx_arena.proofs.ChainLemmas as chains
 use Rattle.rx_arena.proofs.ChainLemmas.{ended, popped, chain_after, split_at, some_chain, first_some}

@@ -6,12 +6,12 @@ use Rattle.rx_arena.specs.declared.fault.ArenaFault.{ArenaFault}
 use Rattle.std.specs.Option.{option_map}
 use Rattle.std.proofs.lemmas.List.{length-append, length-replicate}
 use Rattle.rx_arena.specs.declared.CellBody.{CellBody}
-use Rattle.rx_arena.specs.Node.{Node, mark_of, has_mark, lone, with_mark, with_next}
+use Rattle.rx_arena.specs.Inner.Node.{Node, mark_of, has_mark, lone, with_mark, with_next}
 use Rattle.rx_arena.specs.declared.cells.Link.TheVariants.{Chain, Gray}
-use Rattle.rx_arena.specs.Held.{IsHeld}
+use Rattle.rx_arena.specs.Inner.Held.{IsHeld}
 use Rattle.rx_arena.specs.Put.{times, put, one_some, filled, altered}
-use Rattle.rx_arena.specs.Links.{Links, links, IsChain, Listed, AreChains, Chained}
-use Rattle.rx_arena.specs.Pool.{PoolState, spare_of}
+use Rattle.rx_arena.specs.Inner.Links.{Links, links, IsChain, Listed, AreChains, Chained}
+use Rattle.rx_arena.specs.Inner.Pool.{PoolState, spare_of}
 use Rattle.rx_arena.specs.Arena.{Taken, ArenaState, taken_at, IsTaken, chain_at, IsLoose, is_marked, IsMarked, IsArena, empty_arena, new_cell, with_marking, shown_of, state_of}
 use Rattle.rx_arena.proofs.PutLemmas.{one_or_two, get_or-put_same, get_or-put_other, put-get_or, map-put, get_or-map_option, filled-put, filled-map, times_in-at}
 use Rattle.rx_arena.proofs.ChainLemmas as chains

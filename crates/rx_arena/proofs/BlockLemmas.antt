@@ -12,9 +12,9 @@ use types.Kit.{‵, ◌⊛◌, ◌$◌, ◌∵◌, !, qed, by, move, keep, drop,
 use denote.Memory.{lone}
 use denote.Steps.{nothing}
 use denote.RawPtr.{Ptr, null_ptr, block_ptr, lies_at, room_at, room_for, ◌+ₚ◌}
-use Rattle.rx_arena.specs.Node.{Node, IsLink, HasLinks, HaveLinks}
+use Rattle.rx_arena.specs.Inner.Node.{Node, IsLink, HasLinks, HaveLinks}
 use Rattle.rx_arena.specs.declared.cells.Cell.{Cell}
-use Rattle.rx_arena.specs.Ownership.{place, link_to, cell_of, slot_owns, slots_own}
+use Rattle.rx_arena.specs.Inner.Ownership.{place, link_to, cell_of, slot_owns, slots_own}
 use Rattle.rx_arena.specs.contracts.cells.Cell as C
 use Rattle.rx_arena.proofs.AccessLemmas.{slot_forgotten}
 

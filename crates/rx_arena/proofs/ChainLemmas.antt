@@ -2,7 +2,7 @@
 use Rattle.std.proofs.Common.{◌≡◌, ◌≢◌, ℕ, zero, suc, ◌<◌, ◌⊎◌, inl, inr, List, [], ◌∷◌, ◌++◌, length, get_or, set, Some, None, IfSome, refl, sym, ap, subst, ◌∙◌, arith}
 use Rattle.std.specs.Prelude.{Option}
 use Rattle.rx_arena.specs.Put.{times, times_in}
-use Rattle.rx_arena.specs.Links.{Links, LeadsOn, IsChain, Listed, AreChains, Chained, one_chain, one_chaining}
+use Rattle.rx_arena.specs.Inner.Links.{Links, LeadsOn, IsChain, Listed, AreChains, Chained, one_chain, one_chaining}
 use Rattle.rx_arena.proofs.PutLemmas.{one_or_two, one_if-same}
 
 leads_some : (c : Option (Option ℕ)) (P : Option ℕ → Type 0) → LeadsOn c P → (next : Option ℕ) × (c ≡ Some next) × P next

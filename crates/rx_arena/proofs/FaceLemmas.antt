@@ -11,7 +11,7 @@ use Rattle.rx_arena.specs.declared.Face.{Face}
 use Rattle.rx_arena.specs.declared.Slot.{Slot}
 use Rattle.rx_arena.specs.declared.cells.Link.{Link}
 use Rattle.rx_arena.specs.declared.cells.Link.TheVariants.{Chain, Gray, Free}
-use Rattle.rx_arena.specs.Node.{Node, node_at, changed, with_mark, with_next}
+use Rattle.rx_arena.specs.Inner.Node.{Node, node_at, changed, with_mark, with_next}
 use Rattle.rx_arena.specs.Arena.{Taken}
 use Rattle.rx_arena.specs.Faces.{face_of, ask, packed, fits, word_of, word_beside}
 

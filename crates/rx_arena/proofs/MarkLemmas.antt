@@ -3,11 +3,11 @@ use Rattle.std.proofs.Common.{◌≡◌, ℕ, zero, suc, ◌+◌, ◌-◌, ◌<�
 use Rattle.std.proofs.lemmas.List.{set-get_or, take_all, take-append-le}
 use Rattle.std.specs.Prelude.{Option, replicate, take}
 use Rattle.std.specs.Option.{option_map}
-use Rattle.rx_arena.specs.Node.{Node, changed, with_mark, next_in, with_next}
+use Rattle.rx_arena.specs.Inner.Node.{Node, changed, with_mark, next_in, with_next}
 use Rattle.rx_arena.specs.declared.cells.Link.{Link}
 use Rattle.rx_arena.specs.declared.cells.Link.TheVariants.{Chain, Gray, Free}
-use Rattle.rx_arena.specs.Held.{IsHeld}
-use Rattle.rx_arena.specs.Marks.{HasMarks, with_marks}
+use Rattle.rx_arena.specs.Inner.Held.{IsHeld}
+use Rattle.rx_arena.specs.Inner.Marks.{HasMarks, with_marks}
 use Rattle.rx_arena.proofs.SlotLemmas.{held_within}
 
 pub length-with_marks : (ks : List ℕ) (cs : List (Option Node)) → HasMarks ks cs → length (with_marks ks cs) ≡ length cs

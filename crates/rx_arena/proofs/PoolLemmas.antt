@@ -3,11 +3,11 @@ use Rattle.std.proofs.Common.{◌≡◌, ◌≢◌, ℕ, zero, suc, ◌+◌, ◌
 use Rattle.std.specs.Prelude.{Option, replicate, nat_eq, true}
 use Rattle.std.specs.Option.{option_map}
 use Rattle.std.proofs.lemmas.List.{length-append, length-set, length-take, length-take-le, get_or-set_same, get_or-set_other, get_or-take, get_or_past, take-append-le}
-use Rattle.rx_arena.specs.Node.{Node}
-use Rattle.rx_arena.specs.Held.{IsHeld}
+use Rattle.rx_arena.specs.Inner.Node.{Node}
+use Rattle.rx_arena.specs.Inner.Held.{IsHeld}
 use Rattle.rx_arena.specs.Put.{times, put, one_some, filled, without}
-use Rattle.rx_arena.specs.Links.{links, IsChain}
-use Rattle.rx_arena.specs.Pool.{IsPool, cells_of, is_given_back}
+use Rattle.rx_arena.specs.Inner.Links.{links, IsChain}
+use Rattle.rx_arena.specs.Inner.Pool.{IsPool, cells_of, is_given_back}
 use Rattle.rx_arena.proofs.PutLemmas.{one_or_two, one_if-same, put-put, put-set, put_end, within_some, without-put, get_or-without_other, get_or-without_same, some-without, filled-put, filled_some, get_or-map_option, get_or-put_same, get_or-put_other}
 use Rattle.rx_arena.proofs.ChainLemmas.{chain_agrees, chain_stays, member_some, one_or_more}
 

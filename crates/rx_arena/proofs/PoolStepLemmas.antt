@@ -5,16 +5,16 @@ use Rattle.std.proofs.lemmas.Bool.{eqb-true, ne_eqb}
 use Rattle.std.proofs.lemmas.Bool.Decides.{nat_tests}
 use Rattle.std.specs.Option.{option_map}
 use Rattle.std.proofs.lemmas.List.{get_or-set_same, set-set, set-get_or, length-set, get_or-take}
-use Rattle.rx_arena.specs.Node.{Node, mark_of, has_mark, with_mark, with_next, changed, is_protected_node}
+use Rattle.rx_arena.specs.Inner.Node.{Node, mark_of, has_mark, with_mark, with_next, changed, is_protected_node}
 use Rattle.rx_arena.specs.declared.pool.Pool.TheInside.{Inside}
 use Rattle.rx_arena.specs.declared.cells.Link.{Link}
 use Rattle.rx_arena.specs.declared.cells.Link.TheVariants.{Chain, Gray, Free}
-use Rattle.rx_arena.specs.Held.{IsHeld}
+use Rattle.rx_arena.specs.Inner.Held.{IsHeld}
 use Rattle.rx_arena.specs.Faces.{ask, word_of, word_beside}
 use Rattle.rx_arena.proofs.FaceLemmas.{word-taken, word-node}
 use Rattle.rx_arena.specs.Put.{times, put, filled, one_some, altered}
-use Rattle.rx_arena.specs.Links.{Links, links, IsChain, Listed}
-use Rattle.rx_arena.specs.Pool.{PoolState, IsPool, cells_of, is_given_back, is_unmarked_node}
+use Rattle.rx_arena.specs.Inner.Links.{Links, links, IsChain, Listed}
+use Rattle.rx_arena.specs.Inner.Pool.{PoolState, IsPool, cells_of, is_given_back, is_unmarked_node}
 use Rattle.rx_arena.proofs.PutLemmas.{within_some, filled-put, get_or-without_other, get_or-without_same}
 use Rattle.rx_arena.proofs.ChainLemmas.{one_or_more, chain_stays, popped, pushed, listed_is, first_some}
 use Rattle.rx_arena.proofs.PoolLemmas.{lt_or_le, cells-length, links-set_other, links-set_same, links_some, taken_at, cells-set, pool-set, reused-away, reused-below, reused-was_free, reused-cells, reused-pool, extended-chain, extended-was_free, extended-cells, extended-pool, given_back-cells, given_back-some_taken, given_back-pool, grown-chain, grown-cells, grown-pool}

@@ -4,11 +4,11 @@ use Rattle.std.specs.Prelude.{Option, Bool, false, nat_lt, replicate}
 use Rattle.std.specs.Option.{option_map}
 use Rattle.std.proofs.lemmas.List.{length-map, map-set, map-append, get_or-map}
 use Rattle.std.proofs.Math.Seq.{map-set_same}
-use Rattle.rx_arena.specs.Node.{Node, node_at, changed, with_mark, with_roots, with_next, is_protected_node}
+use Rattle.rx_arena.specs.Inner.Node.{Node, node_at, changed, with_mark, with_roots, with_next, is_protected_node}
 use Rattle.rx_arena.specs.declared.cells.Link.{Link}
 use Rattle.rx_arena.specs.declared.cells.Link.TheVariants.{Chain, Gray, Free}
-use Rattle.rx_arena.specs.Held.{IsHeld}
-use Rattle.rx_arena.specs.Marks.{HasMarks, with_marks}
+use Rattle.rx_arena.specs.Inner.Held.{IsHeld}
+use Rattle.rx_arena.specs.Inner.Marks.{HasMarks, with_marks}
 use Rattle.rx_arena.proofs.MarkLemmas.{at-with_marks}
 use Rattle.rx_arena.proofs.SlotLemmas.{held_within}
 

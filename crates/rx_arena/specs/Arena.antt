@@ -3,9 +3,9 @@ use Rattle.std.specs.Prelude.{◌≡◌, ℕ, ◌+◌, ◌%◌, ◌<◌, ◌≤�
 use Rattle.std.specs.Option.{option_map}
 use Rattle.rx_arena.specs.declared.CellBody.{CellBody}
 use Rattle.rx_arena.specs.declared.Slot.{Slot}
-use Rattle.rx_arena.specs.Node.{Node, has_mark}
+use Rattle.rx_arena.specs.Inner.Node.{Node, has_mark}
 use Rattle.rx_arena.specs.Put.{times, times_in, filled}
-use Rattle.rx_arena.specs.Pool.{PoolState, spare_of}
+use Rattle.rx_arena.specs.Inner.Pool.{PoolState, spare_of}
 
 -- what a taken slot holds: what its cell says, how often it is protected, whether it is marked
 pub record Taken : Type 0 where

@@ -3,7 +3,7 @@ use Rattle.std.specs.Prelude.{ℕ, ◌+◌, ◌*◌, Bool, false, cond, nat_eq, 
 use Rattle.rx_arena.specs.declared.CellBody.{CellBody}
 use Rattle.rx_arena.specs.declared.Face.{Face}
 use Rattle.rx_arena.specs.declared.Slot.{Slot}
-use Rattle.rx_arena.specs.Node.{Node}
+use Rattle.rx_arena.specs.Inner.Node.{Node}
 
 -- the body without its hash
 abbrev pub face_of : CellBody → Face

@@ -7,7 +7,7 @@ ghost use Rattle.std.specs.Prelude.{replicate, reverse, is_some, map};
 ghost use Rattle.std.specs.Option.{option_map};
 ghost use Rattle.rx_arena.specs.Faces.{ask, face_of, word_of};
 ghost use Rattle.rx_arena.specs.Put.{times, times_in, total, total-prop, put, altered, emptied};
-ghost use Rattle.rx_arena.specs.Links.{Chained, Chained-prop, Listed, Listed-prop, links};
+ghost use Rattle.rx_arena.specs.Inner.Links.{Chained, Chained-prop, Listed, Listed-prop, links};
 ghost use Rattle.rx_arena.specs.Arena.{Taken, taken_at, IsTaken, taken_count, chain_at, InChain, IsLoose};
 ghost use Rattle.rx_arena.specs.Arena.{marked_at, IsMarked, roots_at, hash_at, IsUnprotected};
 ghost use Rattle.rx_arena.specs.Arena.{new_cell, with_count, with_marking, kept_in, dropped_from};

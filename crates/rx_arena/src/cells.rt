@@ -4,9 +4,9 @@ ghost use Rattle.std.specs.Prelude.{◌≡◌, ℕ, ◌*◌, ◌<◌, List, [], 
 ghost use Rattle.std.specs.Prelude.{slice_set};
 ghost use Rattle.std.specs.Prelude.{Option, Some, None, IfSome};
 ghost use denote.RawPtr.{Ptr, InBlock};
-ghost use Rattle.rx_arena.specs.Real.{InBlock-prop, IsLast};
-ghost use Rattle.rx_arena.specs.Node.{Node, node_at, lone, led_to, changed, HaveLinks};
-ghost use Rattle.rx_arena.specs.Node.{with_roots, next_in, with_next};
+ghost use Rattle.rx_arena.specs.Inner.Real.{InBlock-prop, IsLast};
+ghost use Rattle.rx_arena.specs.Inner.Node.{Node, node_at, lone, led_to, changed, HaveLinks};
+ghost use Rattle.rx_arena.specs.Inner.Node.{with_roots, next_in, with_next};
 
 use crate::room::Room;
 use crate::{CellBody, Slot};
@@ -88,7 +88,7 @@ pub struct Cells {
 }
 
 impl Model for Cells {
-    ghost use Rattle.rx_arena.specs.Ownership.{slots_own, slots_lent};
+    ghost use Rattle.rx_arena.specs.Inner.Ownership.{slots_own, slots_lent};
 
     ghost also_owns = { λ c. slots_own c.blocks 0 c.slots };
 
@@ -96,7 +96,7 @@ impl Model for Cells {
 }
 
 impl Links {
-    ghost use Rattle.rx_arena.specs.Ownership.{pointer_in, with_pointer};
+    ghost use Rattle.rx_arena.specs.Inner.Ownership.{pointer_in, with_pointer};
 
     /// Where a link leads.
     #[inline(always)]
@@ -137,7 +137,7 @@ impl Links {
 }
 
 impl Cell {
-    ghost use Rattle.rx_arena.specs.Ownership.{body_of};
+    ghost use Rattle.rx_arena.specs.Inner.Ownership.{body_of};
 
     /// The body, whose fields lie apart.
     pub(crate) fn body(&self) -> CellBody
@@ -154,8 +154,8 @@ impl Cell {
 }
 
 impl Cells {
-    ghost use Rattle.rx_arena.specs.Ownership.{cell_of, link_to};
-    ghost use Rattle.rx_arena.specs.Held.{IsPlace, IsHeld, IsLead, IsRelink};
+    ghost use Rattle.rx_arena.specs.Inner.Ownership.{cell_of, link_to};
+    ghost use Rattle.rx_arena.specs.Inner.Held.{IsPlace, IsHeld, IsLead, IsRelink};
 
     /// An owner of no cells.
     pub(crate) fn new() -> Cells

@@ -2,11 +2,11 @@
 //! that say what the cells say.
 ghost use Rattle.std.specs.Prelude.{◌≡◌, ◌<◌, ◌≤◌, [], ◌++◌, length, map, replicate, slice_set};
 ghost use Rattle.std.specs.Prelude.{Some, None, IfSome, OnOk, OnErr};
-ghost use Rattle.rx_arena.specs.Node.{node_at, lone, changed, is_protected_node};
-ghost use Rattle.rx_arena.specs.Node.{with_roots, with_mark, next_in, with_next};
-ghost use Rattle.rx_arena.specs.Held.{IsHeld};
+ghost use Rattle.rx_arena.specs.Inner.Node.{node_at, lone, changed, is_protected_node};
+ghost use Rattle.rx_arena.specs.Inner.Node.{with_roots, with_mark, next_in, with_next};
+ghost use Rattle.rx_arena.specs.Inner.Held.{IsHeld};
 ghost use Rattle.rx_arena.specs.Faces.{word_of, word_beside};
-ghost use Rattle.rx_arena.specs.Marks.{with_marks};
+ghost use Rattle.rx_arena.specs.Inner.Marks.{with_marks};
 
 use crate::CellBody;
 use crate::cells::Link;
@@ -33,8 +33,8 @@ pub(crate) struct MarkedStore {
 
 impl Model for MarkedStore {
     ghost use Rattle.std.specs.Prelude.{List, Option};
-    ghost use Rattle.rx_arena.specs.Node.{Node};
-    ghost use Rattle.rx_arena.specs.Marks.{HasMarks, with_marks};
+    ghost use Rattle.rx_arena.specs.Inner.Node.{Node};
+    ghost use Rattle.rx_arena.specs.Inner.Marks.{HasMarks, with_marks};
 
     ghost Value = { List (Option Node) };
 

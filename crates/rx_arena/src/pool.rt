@@ -2,14 +2,14 @@
 ghost use Rattle.std.specs.Prelude.{◌≡◌, ◌+◌, ◌-◌, ◌<◌, ◌≤◌, ◌^◌, ◌∷◌, [], Option, Some, None, Ok};
 ghost use Rattle.std.specs.Prelude.{Err, MatchOption, MatchResult, IfSome, IfOk, IfErr, OnOk};
 ghost use Rattle.std.specs.Prelude.{◌≢◌, IsTrue, OnErr, OnSome, IfNone, get_or, length, min, ℕ, false, not};
-ghost use Rattle.rx_arena.specs.Held.{IsHeld};
+ghost use Rattle.rx_arena.specs.Inner.Held.{IsHeld};
 ghost use Rattle.rx_arena.specs.Faces.{ask, word_of};
-ghost use Rattle.rx_arena.specs.Node as spec;
-ghost use Rattle.rx_arena.specs.Node.{Node, lone, has_mark, is_protected_node, next_in, with_mark};
-ghost use Rattle.rx_arena.specs.Node.{with_next, with_roots};
+ghost use Rattle.rx_arena.specs.Inner.Node as spec;
+ghost use Rattle.rx_arena.specs.Inner.Node.{Node, lone, has_mark, is_protected_node, next_in, with_mark};
+ghost use Rattle.rx_arena.specs.Inner.Node.{with_next, with_roots};
 ghost use Rattle.rx_arena.specs.Put.{put, filled, altered};
-ghost use Rattle.rx_arena.specs.Links.{Listed, Listed-prop, links};
-ghost use Rattle.rx_arena.specs.Pool.{spare_of, is_unmarked_node};
+ghost use Rattle.rx_arena.specs.Inner.Links.{Listed, Listed-prop, links};
+ghost use Rattle.rx_arena.specs.Inner.Pool.{spare_of, is_unmarked_node};
 
 use crate::CellBody;
 use crate::cells::Link;
@@ -49,7 +49,7 @@ pub(crate) struct Pool {
 }
 
 impl Model for Pool {
-    ghost use Rattle.rx_arena.specs.Pool.{PoolState, IsPool, cells_of};
+    ghost use Rattle.rx_arena.specs.Inner.Pool.{PoolState, IsPool, cells_of};
 
     ghost Value = { PoolState };
 

@@ -2,11 +2,11 @@
 ghost use Rattle.std.specs.Prelude.{◌≡◌, ◌≢◌, ℕ, ◌*◌, ◌<◌, List, [], ◌++◌, length, replicate};
 ghost use Rattle.std.specs.Prelude.{slice_set};
 ghost use Rattle.std.specs.Prelude.{Option, Some, None, IfSome, OnOk, OnErr};
-ghost use Rattle.rx_arena.specs.Node.{Node, node_at, lone, changed};
-ghost use Rattle.rx_arena.specs.Node.{with_roots, next_in, with_next};
-ghost use Rattle.rx_arena.specs.Held.{IsHeld};
-ghost use Rattle.rx_arena.specs.Ownership as spec;
-ghost use Rattle.rx_arena.specs.Blocks.{bases};
+ghost use Rattle.rx_arena.specs.Inner.Node.{Node, node_at, lone, changed};
+ghost use Rattle.rx_arena.specs.Inner.Node.{with_roots, next_in, with_next};
+ghost use Rattle.rx_arena.specs.Inner.Held.{IsHeld};
+ghost use Rattle.rx_arena.specs.Inner.Ownership as spec;
+ghost use Rattle.rx_arena.specs.Inner.Blocks.{bases};
 
 use crate::CellBody;
 use crate::cells::{Base, Cells, Link, Place, Target};
@@ -30,8 +30,8 @@ pub struct Store<A: Allocator + Copy = Global> {
 
 impl<A: Allocator + Copy> Model for Store<A> {
     ghost use Rattle.std.specs.Prelude.{List, Option};
-    ghost use Rattle.rx_arena.specs.Node.{Node};
-    ghost use Rattle.rx_arena.specs.Blocks.{Agree};
+    ghost use Rattle.rx_arena.specs.Inner.Node.{Node};
+    ghost use Rattle.rx_arena.specs.Inner.Blocks.{Agree};
 
     ghost Value = { List (Option Node) };
 

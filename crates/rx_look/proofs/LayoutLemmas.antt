@@ -12,7 +12,7 @@ use Rattle.rx_term.specs.declared.Term.{Term}
 use Rattle.rx_term.specs.declared.Symbol.{Symbol}
 use Rattle.rx_term.specs.declared.Kind.{Kind}
 use Rattle.rx_term.specs.declared.Kind.TheVariants as kind
-use Rattle.rx_text.specs.Jobs.{seen, IsList}
+use Rattle.rx_text.specs.Inner.Jobs.{seen, IsList}
 use Rattle.rx_text.specs.Written.{AppendsFront}
 use Rattle.rx_text.specs.declared.faults.WriteFault.{WriteFault}
 use Rattle.rx_text.proofs.AppendingLemmas.{appends_both, front_within}

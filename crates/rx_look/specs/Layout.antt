@@ -8,7 +8,7 @@ use Rattle.std.specs.Io.KnownBytes.{Appends}
 use Rattle.rx_term.specs.Tree.{Tree, Trees, none, more, Int, Appl, Items, Hole, annotations, items_of}
 use Rattle.rx_term.specs.Store.{Store, tree_at, signature_of}
 use Rattle.rx_text.specs.Canon.{name_text, no_arguments}
-use Rattle.rx_text.specs.Jobs.{seen, IsList}
+use Rattle.rx_text.specs.Inner.Jobs.{seen, IsList}
 use Rattle.rx_look.specs.Laid.{new_line, between, block, laid_at, laid_all, laid_others}
 use Rattle.rx_look.specs.declared.layout.Atom.{Atom}
 use Rattle.rx_look.specs.declared.layout.Atom.TheVariants as atom

@@ -6,7 +6,7 @@ ghost use Rattle.std.specs.Fmt.{signed_decimal};
 ghost use Rattle.std.specs.Io.KnownBytes.{Appends};
 ghost use Rattle.rx_term.specs.Kinds.{HasAppl};
 ghost use Rattle.rx_term.specs.Store.{tree_at};
-ghost use Rattle.rx_text.specs.Jobs.{seen};
+ghost use Rattle.rx_text.specs.Inner.Jobs.{seen};
 ghost use Rattle.rx_text.specs.Output.{IsSameOutput, IsWritable, TellsFault, TellsRefusal};
 ghost use Rattle.rx_text.specs.Output.{Writes, WritesFront, contents_of};
 ghost use Rattle.rx_text.specs.Written.{AppendsFront};

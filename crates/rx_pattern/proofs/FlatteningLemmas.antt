@@ -10,7 +10,7 @@ use Rattle.rx_pattern.specs.Pattern.{is_pattern, is_rest, knows_placeholders, ha
 use Rattle.rx_pattern.specs.Code.{Step, code, Piece, One, Several}
 use Rattle.rx_pattern.specs.Nodes.{step_of}
 use Rattle.rx_pattern.specs.Subjects.{OnStack, AreEach}
-use Rattle.rx_pattern.specs.Jobs.{IsFor, IsOfPattern, opens, Opens}
+use Rattle.rx_pattern.specs.Inner.Jobs.{IsFor, IsOfPattern, opens, Opens}
 use Rattle.rx_pattern.specs.declared.nodes.Node.{Node}
 use Rattle.rx_pattern.specs.declared.flatten.Job.{Job}
 use Rattle.rx_pattern.specs.declared.flatten.Job.TheVariants as job

@@ -8,7 +8,7 @@ ghost use Rattle.rx_pattern.specs.Pattern.{is_pattern, is_list_placeholder, know
 ghost use Rattle.rx_pattern.specs.Code.{code, Named, Piece, One, Several};
 ghost use Rattle.rx_pattern.specs.Nodes.{step_of};
 ghost use Rattle.rx_pattern.specs.Subjects.{IsListed};
-ghost use Rattle.rx_pattern.specs.Jobs.{IsFor, IsOfPattern, Opens};
+ghost use Rattle.rx_pattern.specs.Inner.Jobs.{IsFor, IsOfPattern, Opens};
 
 use crate::lists::is_empty;
 use crate::nodes::{Class, Name, Node};

@@ -31,13 +31,13 @@ pub struct Pattern {
 
 impl Model for Pattern {
     ghost use Rattle.rx_term.specs.Tree.{Tree};
-    ghost use Rattle.rx_term.specs.Code.{coded_tree};
+    ghost use Rattle.rx_term.specs.Inner.Code.{coded_tree};
 
     ghost Value = { Tree };
 
     ghost coded = { coded_tree };
 
-    ghost use Rattle.rx_pattern.specs.PatternView.{tree_of, IsPatternCode};
+    ghost use Rattle.rx_pattern.specs.Inner.PatternView.{tree_of, IsPatternCode};
 
     ghost view = { tree_of };
 

@@ -13,7 +13,7 @@ use Rattle.rx_plain.proofs.SlotLemmas.{get-set_same, get-set_other}
 use Rattle.std.specs.Prelude.{slice_set, if◌then◌else◌, ◌==◌}
 use Rattle.std.proofs.lemmas.Grind.{elements}
 use Rattle.rx_plain.specs.declared.bank.PlainBank.{PlainBank}
-use Rattle.rx_plain.specs.Soundness.{table}
+use Rattle.rx_plain.specs.Inner.Soundness.{table}
 use Rattle.rx_term.proofs.BankLemmas.{content-unique}
 use Rattle.rx_plain.proofs.ReadingLemmas.{read-cell}
 

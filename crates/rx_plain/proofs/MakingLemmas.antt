@@ -17,7 +17,7 @@ use Rattle.rx_plain.specs.State.{store_of, store_from, tree_of_body}
 use Rattle.rx_plain.proofs.SlotLemmas.{Puts}
 use Rattle.rx_plain.specs.declared.slots.Body.{Body}
 use Rattle.rx_plain.specs.declared.bank.PlainBank.{PlainBank}
-use Rattle.rx_plain.specs.Soundness.{table, bank-heap}
+use Rattle.rx_plain.specs.Inner.Soundness.{table, bank-heap}
 use Rattle.rx_plain.proofs.ContentLemmas.{same-content}
 
 module _ (b : PlainBank) (body : Body) (tree : IsSome (tree_of_body (store_of b) body)) where

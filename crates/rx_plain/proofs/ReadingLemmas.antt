@@ -17,7 +17,7 @@ use Rattle.rx_plain.specs.Slots.{notes_of, heap_of, cell_in, cell_at}
 use Rattle.rx_plain.specs.State.{store_of}
 use Rattle.rx_plain.specs.declared.slots.Body.{Body}
 use Rattle.rx_plain.specs.declared.bank.PlainBank.{PlainBank}
-use Rattle.rx_plain.specs.Soundness.{table, cell-within, bank-heap}
+use Rattle.rx_plain.specs.Inner.Soundness.{table, cell-within, bank-heap}
 
 -- a held reference has a cell, which says its tree
 pub held-cell : (b : PlainBank) (t : ℕ) → IsSome (map.get (store_of b).content t) → (x : Cell) × (heap_of b.slots.items t ≡ Some x) × (map.get (store_of b).content t ≡ cell_tree (λ k. map.get (store_of b).content k) (table b) x)

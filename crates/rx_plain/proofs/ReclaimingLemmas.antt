@@ -23,7 +23,7 @@ use Rattle.rx_plain.specs.Slots.{heap_of, roots_of, marks_of, is_taken, swept_of
 use Rattle.rx_plain.specs.Marks.{Reaches, IsStart, AreLinksWithin}
 use Rattle.rx_plain.specs.State.{store_of, store_from}
 use Rattle.rx_plain.proofs.SweepLemmas.{swept-heap, swept-roots, swept-length}
-use Rattle.rx_plain.specs.Soundness.{table, taken-le, cell-within, bank-heap, sound}
+use Rattle.rx_plain.specs.Inner.Soundness.{table, taken-le, cell-within, bank-heap, sound}
 use Rattle.rx_term.proofs.BankLemmas.{same_ref}
 use Rattle.rx_plain.proofs.ReadingLemmas.{held-cell, cell-there}
 use Rattle.rx_term.proofs.BankLemmas.{whole-along, content-unique}

@@ -8,7 +8,7 @@ use Rattle.rx_plain.specs.declared.slots.Slot.{Slot}
 use Rattle.rx_plain.specs.Slots.{heap_of, roots_of}
 use Rattle.rx_plain.specs.State.{store_of, store_from}
 use Rattle.rx_plain.specs.declared.bank.PlainBank.{PlainBank}
-use Rattle.rx_plain.specs.Soundness.{table}
+use Rattle.rx_plain.specs.Inner.Soundness.{table}
 use Rattle.rx_plain.proofs.ContentLemmas.{same-content}
 
 -- more room for the same slots

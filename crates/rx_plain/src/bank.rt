@@ -134,7 +134,7 @@ impl PlainBank {
 
 impl TermBank for PlainBank {
     ghost use Rattle.rx_plain.specs.State.{store_of};
-    ghost use Rattle.rx_plain.specs.Soundness.{sound as bank_sound};
+    ghost use Rattle.rx_plain.specs.Inner.Soundness.{sound as bank_sound};
 
     ghost store = { store_of };
 

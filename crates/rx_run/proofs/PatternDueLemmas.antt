@@ -10,7 +10,7 @@ use Rattle.rx_run.specs.Due.{Due, done}
 use Rattle.rx_run.specs.Refusals.{refusal_due, refused_text}
 use Rattle.rx_run.specs.TermRuns.{IsReadingOf}
 use Rattle.rx_run.specs.PatternRuns.{IsDueOfBoth, OneDueOfBoth, SpellsPattern, due_of_pattern, unless_unfit, due_of_args}
-use Rattle.rx_run.specs.PatternAnswers.{IsPatternOf, IsPatternRead}
+use Rattle.rx_run.specs.Inner.PatternAnswers.{IsPatternOf, IsPatternRead}
 use Rattle.rx_run.specs.declared.ending.Finish.TheVariants as finish
 use Rattle.rx_run.specs.declared.ending.Source.{Source}
 use Rattle.rx_run.specs.declared.ending.Source.TheVariants as source

@@ -13,7 +13,7 @@ use Rattle.rx_pattern.specs.Filling.{Fault}
 use Rattle.rx_run.specs.PatternRuns.{elements}
 use Rattle.rx_run.specs.Due.{done}
 use Rattle.rx_run.specs.PatternRuns.{made_due}
-use Rattle.rx_run.specs.PatternAnswers.{HasElements}
+use Rattle.rx_run.specs.Inner.PatternAnswers.{HasElements}
 use Rattle.rx_run.specs.TermRuns.{line_at}
 
 have-more : (w : Store) (rs : List Term) (ts : List Tree) (r : Term) (t : Tree) → HaveTrees w rs ts → tree_at w r ≡ Some t → HaveTrees w (rs ++ r ∷ []) (ts ++ t ∷ [])

@@ -1,9 +1,9 @@
 pub mod Bytes
 pub mod Due
-pub mod PatternAnswers
 pub mod PatternRuns
 pub mod RefusedItems
 pub mod Refusals
 pub mod Run
 pub mod Streams
 pub mod TermRuns
+pub mod Inner

@@ -4,7 +4,7 @@ use Rattle.std.proofs.lemmas.List.Elements.{Contains-append_left, Contains-appen
 use Rattle.rx_term.proofs.PartsLemmas.{cons_head, cons_cases, no_element}
 use Rattle.rx_term.specs.declared.Term.{Term}
 use Rattle.rx_arena.specs.Arena.{ArenaState}
-use Rattle.rx_sweep.specs.Marking.{Marks}
+use Rattle.rx_sweep.specs.Inner.Marking.{Marks}
 use Rattle.rx_sweep.proofs.MarkStepLemmas.{marks_then, marks_by}
 use Rattle.rx_shared.specs.Tidy.{IsOneOf}
 

@@ -8,12 +8,12 @@ use Rattle.rx_arena.specs.Put.{times}
 use Rattle.rx_arena.specs.Arena.{Taken, ArenaState, taken_at}
 use Rattle.rx_sweep.specs.Reach.{names, cell_names}
 use Rattle.rx_shared.specs.Bodies.{cell_of, whole, IsWritten}
-use Rattle.rx_shared.specs.Finding.{HoldsWord}
-use Rattle.rx_shared.specs.Hints.{entry, Covers, CoversTaken, Stays}
+use Rattle.rx_shared.specs.Inner.Finding.{HoldsWord}
+use Rattle.rx_shared.specs.Inner.Hints.{entry, Covers, CoversTaken, Stays}
 use Rattle.rx_shared.specs.Tidy.{heap_of, cell_in}
 use Rattle.rx_shared.specs.declared.bank.SharedBank.{SharedBank}
 use Rattle.rx_shared.specs.State.{store_of, store_from, tree_of_body}
-use Rattle.rx_shared.specs.Soundness.{table, cell-held}
+use Rattle.rx_shared.specs.Inner.Soundness.{table, cell-held}
 use Rattle.rx_term.specs.Name.{Signature}
 use Rattle.rx_term.specs.Tree.{Tree}
 use Rattle.rx_term.specs.Store.{tree_at, longer, applied}

@@ -22,14 +22,14 @@ use Rattle.rx_arena.proofs.ChainLemmas.{one_or_more}
 use Rattle.rx_sweep.specs.Reach as reach
 use Rattle.rx_sweep.specs.Reach.{annotations, words, names, cell_names, named_at, unmarked, is_taken, CanCollect, Collected}
 use Rattle.rx_sweep.specs.Reach.IsReached.{rooted, grayed, named}
-use Rattle.rx_sweep.specs.Marking.{Marks}
+use Rattle.rx_sweep.specs.Inner.Marking.{Marks}
 use Rattle.rx_sweep.proofs.BareLemmas.{same_taken, taken_same, same_roots, same_names, same_chains, same_at, same_spare, same_count, same_cap}
 use Rattle.rx_sweep.proofs.SweepLemmas.{times-filter_true}
 use Rattle.rx_shared.specs.Bodies.{node_of, kind_of, notes_of, cell_of, IsWritten}
 use Rattle.rx_shared.specs.Tidy.{IsTidy, IsOneOf, heap_of, cell_in}
-use Rattle.rx_shared.specs.Counting.{content-count}
+use Rattle.rx_shared.specs.Inner.Counting.{content-count}
 use Rattle.rx_shared.specs.State.{store_of, store_from}
-use Rattle.rx_shared.specs.Soundness.{table, bank-heap, cells_taken, cell-held, sound}
+use Rattle.rx_shared.specs.Inner.Soundness.{table, bank-heap, cells_taken, cell-held, sound}
 use Rattle.rx_term.proofs.BankLemmas.{same_ref}
 use Rattle.rx_shared.specs.declared.bank.SharedBank.{SharedBank}
 use Rattle.rx_shared.proofs.ArenaLemmas.{tidy-from, chained-once}

@@ -4,7 +4,7 @@ ghost use Rattle.std.specs.Prelude.{◌≡◌, ◌≤◌, ◌^◌, length};
 ghost use Rattle.rx_term.specs.Heap.{Least, Least-prop, IsDistinct, is_whole};
 ghost use Rattle.rx_names.specs.Names.{symbols_of};
 ghost use Rattle.rx_shared.specs.Tidy.{IsTidy, heap_of};
-ghost use Rattle.rx_shared.specs.Hints.{CoversTaken};
+ghost use Rattle.rx_shared.specs.Inner.Hints.{CoversTaken};
 ghost use Rattle.rx_term.specs.Bank.{table_of};
 
 use crate::bodies::{EMPTY, INTEGER, body};
@@ -53,7 +53,7 @@ impl SharedBank {
     ghost use Rattle.rx_term.specs.declared.faults.BankFault.TheVariants.{Memory};
     ghost use Rattle.rx_shared.specs.Bodies.{cell_of, body_of, notes_of, whole, IsWritten};
     ghost use Rattle.rx_shared.specs.State.{store_of, tree_of_body};
-    ghost use Rattle.rx_shared.specs.Reading.{HoldsFace, HoldsWritten};
+    ghost use Rattle.rx_shared.specs.Inner.Reading.{HoldsFace, HoldsWritten};
     ghost use Rattle.rx_term.specs.Bank.{IsEmptyStore, IsNotesOf};
     ghost use Rattle.rx_shared.specs.Mirror.{Mirrors};
     ghost use Rattle.rx_arena.specs.Arena.{IsArena};
@@ -392,7 +392,7 @@ impl SharedBank {
 
 impl TermBank for SharedBank {
     ghost use Rattle.rx_shared.specs.State.{store_of};
-    ghost use Rattle.rx_shared.specs.Soundness.{sound as bank_sound};
+    ghost use Rattle.rx_shared.specs.Inner.Soundness.{sound as bank_sound};
 
     ghost store = { store_of };
 

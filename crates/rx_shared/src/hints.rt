@@ -3,7 +3,7 @@
 
 ghost use Rattle.std.specs.Prelude.{◌≡◌, ◌≢◌, ℕ, ◌<◌, [], IsTrue};
 ghost use Rattle.rx_sweep.specs.Reach.{annotations, words};
-ghost use Rattle.rx_shared.specs.Hints.{entry, CoversSlots, Covers, Stays};
+ghost use Rattle.rx_shared.specs.Inner.Hints.{entry, CoversSlots, Covers, Stays};
 
 use crate::bodies::EMPTY;
 use rx_arena::{CellBody, Slot};

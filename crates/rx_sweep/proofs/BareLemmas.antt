@@ -6,7 +6,7 @@ use Rattle.rx_arena.specs.Put.{put, filled, altered}
 use Rattle.rx_arena.specs.Arena.{Taken, ArenaState, taken_at, IsTaken, taken_count, chain_at, is_marked, marked_at, root_count, roots_at, with_marking}
 use Rattle.rx_arena.proofs.PutLemmas.{get_or-put_same, get_or-put_other, put-get_or, map-put, get_or-map_option, filled-map}
 use Rattle.rx_sweep.specs.Reach.{unmarked, cell_names, named_at}
-use Rattle.rx_sweep.specs.Marking.{SameButMarks}
+use Rattle.rx_sweep.specs.Inner.Marking.{SameButMarks}
 
 pub same_refl : (a : ArenaState) → SameButMarks a a
 same_refl a = record { bare_same = refl }

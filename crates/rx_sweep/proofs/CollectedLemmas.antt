@@ -6,7 +6,7 @@ use Rattle.rx_arena.specs.Arena.{Taken, ArenaState, taken_at, IsTaken, InChain, 
 use Rattle.rx_arena.proofs.PutLemmas.{get_or-map_option}
 use Rattle.rx_sweep.specs.Reach.{unmarked, is_taken, cell_names, named_at, IsClosed, IsReached, CanCollect, Collected}
 use Rattle.rx_sweep.specs.Reach.IsReached.{rooted, grayed, named}
-use Rattle.rx_sweep.specs.Marking.{bare, SameButMarks, Marks, Swept}
+use Rattle.rx_sweep.specs.Inner.Marking.{bare, SameButMarks, Marks, Swept}
 use Rattle.rx_sweep.proofs.BareLemmas.{same_trans, same_at, same_names, same_roots, same_chains, same_spare, same_cap, same_count, same_taken, taken_same, unmarked-clear, names-unmarked}
 use Rattle.rx_sweep.proofs.SpreadingLemmas.{marked_taken}
 use Rattle.rx_sweep.proofs.SweepLemmas.{true_or_false, times_in-filter_true}

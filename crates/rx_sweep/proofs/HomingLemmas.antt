@@ -9,7 +9,7 @@ use Rattle.rx_arena.specs.Arena.{Taken, ArenaState, taken_at, IsTaken, chain_at,
 use Rattle.rx_arena.proofs.PutLemmas.{one_if-same}
 use Rattle.rx_arena.proofs.ChainLemmas.{some_chain, one_or_more}
 use Rattle.rx_sweep.specs.Reach.{unmarked, home, IsHomed}
-use Rattle.rx_sweep.specs.Marking.{SameButMarks}
+use Rattle.rx_sweep.specs.Inner.Marking.{SameButMarks}
 use Rattle.rx_sweep.proofs.BareLemmas.{same_at, same_chain, same_chains}
 use Rattle.rx_sweep.proofs.SweepLemmas.{lists_same, get_or-map_nil, length-map_lists, times-filter_false, true_or_false}
 use Rattle.rx_sweep.proofs.UnlinkingLemmas.{GivingBack, giving_taken, was_unmarked, giving_on, giving_past}

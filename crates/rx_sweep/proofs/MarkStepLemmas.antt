@@ -5,7 +5,7 @@ use Rattle.std.specs.Option.{option_map}
 use Rattle.rx_arena.specs.Put.{times, put, altered}
 use Rattle.rx_arena.specs.Arena.{Taken, ArenaState, taken_at, is_marked, marked_at, IsMarked, with_marking}
 use Rattle.rx_arena.proofs.PutLemmas.{one_or_two, one_if-same}
-use Rattle.rx_sweep.specs.Marking.{Marks, one_white, white_count}
+use Rattle.rx_sweep.specs.Inner.Marking.{Marks, one_white, white_count}
 use Rattle.rx_sweep.proofs.BareLemmas.{same_refl, same_trans, bare-altered, marked-altered_same, marked-altered_other}
 
 white_count-put : (cs : List (Option Taken)) (s : ℕ) (c : Option Taken) → white_count (put cs s c) + one_white (get_or cs s None) ≡ white_count cs + one_white c

@@ -7,7 +7,7 @@ use Rattle.rx_arena.specs.Put.{times}
 use Rattle.rx_arena.specs.Arena.{ArenaState, IsTaken, IsArena}
 use Rattle.rx_arena.proofs.PutLemmas.{one_or_two, one_if-same, times-append}
 use Rattle.rx_sweep.specs.Reach.{words, annotations}
-use Rattle.rx_sweep.specs.Marking.{Marks}
+use Rattle.rx_sweep.specs.Inner.Marking.{Marks}
 use Rattle.rx_sweep.proofs.MarkStepLemmas.{marks_none, marks_then, marks_by}
 
 words-is : (k a b : ℕ) (kind : ℕ) → kind ≡ k → words kind a b ≡ words k a b

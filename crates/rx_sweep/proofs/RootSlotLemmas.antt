@@ -3,7 +3,7 @@ use Rattle.std.proofs.Common.{◌≡◌, ℕ, ◌+◌, ◌<◌, ◌≤◌, ◌�
 use Rattle.std.specs.Prelude.{Option}
 use Rattle.std.proofs.lemmas.Bool.{cases_lt}
 use Rattle.rx_arena.specs.Arena.{Taken, ArenaState, taken_at, IsTaken, root_count, roots_at, IsArena}
-use Rattle.rx_sweep.specs.Marking.{Marks}
+use Rattle.rx_sweep.specs.Inner.Marking.{Marks}
 use Rattle.rx_sweep.proofs.BareLemmas.{same_roots}
 use Rattle.rx_sweep.proofs.RootStepLemmas.{below_next}
 use Rattle.rx_sweep.proofs.MarkStepLemmas.{marks_none, marks_then, marks_by}

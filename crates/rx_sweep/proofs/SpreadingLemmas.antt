@@ -10,7 +10,7 @@ use Rattle.rx_arena.proofs.ChainLemmas.{one_or_more}
 use Rattle.rx_arena.proofs.PutLemmas.{one_or_two}
 use Rattle.rx_sweep.specs.Reach.{face_names, cell_names, named_at, IsReached, IsClosed}
 use Rattle.rx_sweep.specs.Reach.IsReached.{grayed, named}
-use Rattle.rx_sweep.specs.Marking.{bare, SameButMarks, Marks, work_left, white_count, ahead}
+use Rattle.rx_sweep.specs.Inner.Marking.{bare, SameButMarks, Marks, work_left, white_count, ahead}
 use Rattle.rx_sweep.proofs.BareLemmas.{same_refl, same_trans, same_names, same_taken}
 
 -- the marked slots are reached, and what those name that are not gray is marked

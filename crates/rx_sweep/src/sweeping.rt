@@ -5,7 +5,7 @@ ghost use Rattle.rx_arena.specs.Put.{times, put};
 ghost use Rattle.rx_arena.specs.Arena.{taken_at, IsTaken, taken_count, InChain, IsLoose, roots_at};
 ghost use Rattle.rx_arena.specs.Arena.{chain_at, kept_in, marked_at, IsMarked, IsArena};
 ghost use Rattle.rx_sweep.specs.Reach.{home, IsHomed};
-ghost use Rattle.rx_sweep.specs.Marking.{Swept};
+ghost use Rattle.rx_sweep.specs.Inner.Marking.{Swept};
 
 use rx_arena::Slot;
 use rx_arena::arena::Arena;

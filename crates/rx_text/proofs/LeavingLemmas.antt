@@ -14,7 +14,7 @@ use Rattle.rx_term.specs.declared.Symbol.{Symbol}
 use Rattle.rx_term.specs.declared.Kind.{Kind}
 use Rattle.rx_term.specs.declared.Kind.TheVariants as kind
 use Rattle.rx_text.specs.Canon.{canon, canon_all, enclosed, name_text, no_arguments}
-use Rattle.rx_text.specs.Jobs.{seen, notes_text, body_text, body_size, size, sizes, job_text, job_size, IsList, IsJob, jobs_text, jobs_size, Adds, Leaves}
+use Rattle.rx_text.specs.Inner.Jobs.{seen, notes_text, body_text, body_size, size, sizes, job_text, job_size, IsList, IsJob, jobs_text, jobs_size, Adds, Leaves}
 use Rattle.rx_text.specs.declared.writer.Job.{Job}
 use Rattle.rx_text.specs.declared.writer.Job.TheVariants as job
 

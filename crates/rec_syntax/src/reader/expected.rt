@@ -3,8 +3,8 @@
 ghost use Rattle.std.specs.Prelude.{◌≡◌, ◌↔◌, ℕ, true, List, Contains, IfOk, is_some};
 ghost use Rattle.rec_syntax.specs.Syntax as syntax;
 ghost use Rattle.rec_syntax.specs.Syntax.{Spec};
-ghost use Rattle.rec_syntax.specs.Machine.{start, between, complete, after, step};
-ghost use Rattle.rec_syntax.specs.Reader.{level_of, role_of, due_of, open_of, config_of, IsAt};
+ghost use Rattle.rec_syntax.specs.Inner.Machine.{start, between, complete, after, step};
+ghost use Rattle.rec_syntax.specs.Inner.Reader.{level_of, role_of, due_of, open_of, config_of, IsAt};
 ghost use Rattle.rec_syntax.specs.Lexemes.{token_of};
 ghost use Rattle.rec_syntax.specs.Expected.{is_taken, AreExpected, IsAtFault};
 

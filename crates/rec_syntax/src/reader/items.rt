@@ -2,9 +2,9 @@
 
 ghost use Rattle.std.specs.Prelude.{◌≡◌};
 ghost use Rattle.rec_syntax.specs.Lexemes.{section_of, Within, IsToken};
-ghost use Rattle.rec_syntax.specs.Machine.{later};
+ghost use Rattle.rec_syntax.specs.Inner.Machine.{later};
 ghost use Rattle.rec_syntax.specs.Parts.{AreSections};
-ghost use Rattle.rec_syntax.specs.Reader.{level_of, IsAt, Steps};
+ghost use Rattle.rec_syntax.specs.Inner.Reader.{level_of, IsAt, Steps};
 
 use super::{Due, Reader, Role, Stop, Symbols};
 use crate::lexer::{LexemeKind, Part, Span};

@@ -3,7 +3,7 @@
 ghost use Rattle.std.specs.Prelude.{◌≡◌, []};
 ghost use Rattle.rec_syntax.specs.Lexemes.{IsToken};
 ghost use Rattle.rec_syntax.specs.Parts.{IsTerm, IsCondition, IsRule, AreSections};
-ghost use Rattle.rec_syntax.specs.Reader.{IsAt, IsRole, Steps, Completes};
+ghost use Rattle.rec_syntax.specs.Inner.Reader.{IsAt, IsRole, Steps, Completes};
 
 use super::{Call, Due, Reader, Role, Stop};
 use crate::lexer::{LexemeKind, Part, Span};

@@ -23,7 +23,7 @@ ghost use Rattle.rx_run.specs.PatternRuns.{
   made_due,
   match_lines,
 };
-ghost use Rattle.rx_run.specs.PatternAnswers.{IsAnswerHeld, IsPatternRead, answer_due};
+ghost use Rattle.rx_run.specs.Inner.PatternAnswers.{IsAnswerHeld, IsPatternRead, answer_due};
 
 use crate::ending::{RunFault, Source};
 use crate::pattern::reading::elements_of;

@@ -7,7 +7,7 @@ ghost use Rattle.rx_term.specs.Store.{tree_at};
 ghost use Rattle.rx_term.specs.Walks.{HaveTrees};
 ghost use Rattle.rx_run.specs.PatternRuns.{elements};
 ghost use Rattle.rx_run.specs.Run.{RanOut, StopsAtOnce};
-ghost use Rattle.rx_run.specs.PatternAnswers.{HasElements, IsPatternOf, IsPatternRead};
+ghost use Rattle.rx_run.specs.Inner.PatternAnswers.{HasElements, IsPatternOf, IsPatternRead};
 
 use crate::ending::{RunFault, Source};
 use crate::refusal::{Reading, Reason};

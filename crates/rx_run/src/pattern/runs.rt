@@ -4,7 +4,7 @@ ghost use Rattle.std.specs.Prelude.{◌≡◌, ◌≢◌, None, IfErr, IfOk, OnE
 ghost use Rattle.rx_term.specs.Tree.{Tree};
 ghost use Rattle.rx_text.specs.Input.{IsReadable, IsSameInput, remaining_in};
 ghost use Rattle.rx_text.specs.Output.{IsSameOutput, IsWritable, Writes, contents_of};
-ghost use Rattle.rx_run.specs.PatternAnswers.{IsAnswerHeld, IsPatternRead, answer_due};
+ghost use Rattle.rx_run.specs.Inner.PatternAnswers.{IsAnswerHeld, IsPatternRead, answer_due};
 ghost use Rattle.rx_run.specs.Refusals.{finish_of, place_of};
 ghost use Rattle.rx_run.specs.Run.{Breaks, BreaksFor, Ends, EndsFor, IsPlaced, IsPlacedFor};
 ghost use Rattle.rx_run.specs.Run.{IsReadOut, RoomFills, RoomFillsOne, Stops, StopsWriting};

@@ -1,5 +1,5 @@
 use Rattle.std.proofs.Common.{length, ◌≤◌}
-use Rattle.rec_match.specs.Chains.{AreChainsFrom}
+use Rattle.rec_match.specs.Inner.Chains.{AreChainsFrom}
 use Rattle.rec_check.proofs.rewriting.chain.Given as goal
 
 -- the chains from the rule on

@@ -1,6 +1,6 @@
 use Rattle.std.proofs.Common.{length, ◌≡◌, ◌<◌, get_or, ℕ}
 use Rattle.rec_syntax.specs.Syntax.{Rule}
-use Rattle.rec_match.specs.Built.{IsHead}
+use Rattle.rec_match.specs.Inner.Built.{IsHead}
 use Rattle.rec_check.proofs.rewriting.head_symbols.Given as goal
 
 -- the symbols of the rules so far

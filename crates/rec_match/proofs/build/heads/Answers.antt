@@ -3,7 +3,7 @@ use Rattle.std.specs.Prelude.{ℕ, ◌+◌, ◌≢◌, ◌⊎◌, get_or, List, 
 use Rattle.std.proofs.lemmas.Bool.{cases_eq}
 use Rattle.rec_syntax.specs.Syntax.{Rule, Spec}
 use Rattle.rec_sorts.specs.Numbering.{IsLetterRule}
-use Rattle.rec_match.specs.Built.{IsHead}
+use Rattle.rec_match.specs.Inner.Built.{IsHead}
 use Rattle.rec_match.proofs.ItemLemmas.{get-front, get-last}
 use Rattle.rec_match.proofs.LetterLemmas.{pair-long}
 use Rattle.rec_match.proofs.build.heads.Goals as goal

@@ -2,9 +2,9 @@ use Rattle.std.proofs.Common.{arith, sym, subst, ◌<◌, ◌≡◌, length}
 use Rattle.std.specs.Prelude.{ℕ, List, get_or, All}
 use Rattle.rec_syntax.specs.Syntax.{Spec}
 use Rattle.rec_sorts.specs.Lookup.{symbols}
-use Rattle.rec_match.specs.Built.{AreHeads}
-use Rattle.rec_match.specs.Chains.{AreChains}
-use Rattle.rec_match.specs.Starting.{ChainsRules}
+use Rattle.rec_match.specs.Inner.Built.{AreHeads}
+use Rattle.rec_match.specs.Inner.Chains.{AreChains}
+use Rattle.rec_match.specs.Inner.Starting.{ChainsRules}
 use Rattle.rec_match.specs.declared.chain.Chains.{Chains}
 use Rattle.std.proofs.lemmas.List.{get_or_default}
 use Rattle.rec_match.proofs.SkipLemmas.{no_rule}

@@ -1,6 +1,6 @@
 use Rattle.std.proofs.Common.{arith, subst, ◌∙◌, ◌≡◌, length}
 use Rattle.rec_sorts.specs.Numbering.{IsLetterRule}
-use Rattle.rec_match.specs.Built.{AreSides}
+use Rattle.rec_match.specs.Inner.Built.{AreSides}
 use Rattle.rec_match.proofs.LetterLemmas.{pair-long}
 use Rattle.rec_match.proofs.SkipLemmas.{no_rule, one-head, sides-next}
 use Rattle.rec_match.proofs.build.sides.Goals as goal

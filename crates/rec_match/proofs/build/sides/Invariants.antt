@@ -1,7 +1,7 @@
 use Rattle.std.proofs.Common.{[], ℕ, List}
 use Rattle.rec_sorts.specs.Numbering.{variable_count}
 use Rattle.rec_match.specs.Placed.{ArePlaces}
-use Rattle.rec_match.specs.Built.{AreHeads, AreSides}
+use Rattle.rec_match.specs.Inner.Built.{AreHeads, AreSides}
 use Rattle.rec_match.proofs.build.sides.Given as goal
 
 abbrev pub invariant-loop-rule : goal.invariant-loop-rule

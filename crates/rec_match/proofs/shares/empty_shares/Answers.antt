@@ -1,6 +1,6 @@
 use Rattle.std.proofs.Common.{refl, subst, sym, arith, get_or, take, [], ◌∷◌, ◌++◌}
 use Rattle.std.proofs.lemmas.List.{take_more, take_all}
-use Rattle.rec_match.specs.Shares.{AreShares}
+use Rattle.rec_match.specs.Inner.Shares.{AreShares}
 use Rattle.rec_match.proofs.ShareLemmas.{shares_push}
 use Rattle.rec_match.proofs.shares.empty_shares.Goals as goal
 

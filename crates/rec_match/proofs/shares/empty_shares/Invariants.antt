@@ -1,5 +1,5 @@
 use Rattle.std.proofs.Common.{ℕ, [], take}
-use Rattle.rec_match.specs.Shares.{AreShares}
+use Rattle.rec_match.specs.Inner.Shares.{AreShares}
 use Rattle.rec_match.specs.declared.parts.Parts.{Parts}
 use Rattle.rec_match.proofs.shares.empty_shares.Given as goal
 

@@ -1,7 +1,7 @@
 use Rattle.std.proofs.Common.{Bool, refl, subst}
 use Rattle.std.specs.Prelude.{MatchBool}
 use Rattle.rec_run.proofs.EvaluatedLemmas.{same_engine_both}
-use Rattle.rec_serve.specs.Reading.{left_of}
+use Rattle.rec_serve.specs.Inner.Reading.{left_of}
 use Rattle.rec_serve.specs.Steps.{EndsStep, Replies, StopsStep}
 use Rattle.rec_serve.proofs.KeptLemmas.{left_again}
 use Rattle.rec_serve.proofs.ReplyLemmas.{breaks_off, replied_more, replied_none}

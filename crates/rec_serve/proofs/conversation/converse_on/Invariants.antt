@@ -1,5 +1,5 @@
 use Rattle.rec_engine.specs.Engine.{SameEngine}
-use Rattle.rec_serve.specs.Reading.{left_of}
+use Rattle.rec_serve.specs.Inner.Reading.{left_of}
 use Rattle.rec_serve.proofs.ReplyLemmas.{Replied}
 use Rattle.rec_serve.proofs.conversation.converse_on.Given as goal
 

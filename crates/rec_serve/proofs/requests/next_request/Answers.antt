@@ -1,6 +1,6 @@
 use Rattle.std.proofs.Common.{◌≡◌, ◌++◌, Option, Some, ap, subst, sym}
 use Rattle.std.specs.Prelude.{MatchOption, Ok}
-use Rattle.rec_serve.specs.Reading.{left_of}
+use Rattle.rec_serve.specs.Inner.Reading.{left_of}
 use Rattle.rec_serve.proofs.KeptLemmas.{at_end, begins_keeps, begins_taken, keeps_both, splits_taken}
 use Rattle.rec_serve.proofs.requests.next_request.Goals as goal
 

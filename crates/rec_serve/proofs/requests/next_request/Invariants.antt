@@ -1,6 +1,6 @@
 use Rattle.std.proofs.Common.{ℕ, List}
 use Rattle.std.specs.Io.KnownBytes.{Keeps}
-use Rattle.rec_serve.specs.Reading.{Begins, IsRead, left_of}
+use Rattle.rec_serve.specs.Inner.Reading.{Begins, IsRead, left_of}
 use Rattle.rec_serve.proofs.requests.next_request.Given as goal
 
 -- the bytes of the request so far stood in front of what is left

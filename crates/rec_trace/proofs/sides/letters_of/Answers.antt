@@ -3,7 +3,7 @@ use Rattle.rec_syntax.specs.Syntax.{Rule}
 use Rattle.rec_sorts.specs.declared.letters.LetterCondition.{LetterCondition}
 use Rattle.rec_sorts.specs.Numbering.{IsLetterRule}
 use Rattle.rec_match.proofs.LetterLemmas.{pair-long}
-use Rattle.rec_trace.specs.Sides.{HasSide, IsRow, side_of}
+use Rattle.rec_trace.specs.Inner.Sides.{HasSide, IsRow, side_of}
 use Rattle.rec_trace.proofs.SideLemmas.{if-ok, rule-at, rule-read, some-same}
 use Rattle.rec_trace.proofs.sides.letters_of.Goals as goal
 

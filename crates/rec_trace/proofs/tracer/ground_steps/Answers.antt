@@ -2,9 +2,9 @@ use Rattle.std.proofs.Common.{◌≡◌, ◌+◌, ◌-◌, ◌∷◌, ap, arith,
 use Rattle.rec_sorts.specs.declared.letters.Letter.{Letter}
 use Rattle.rec_sorts.specs.declared.letters.Meaning.TheVariants.{Symbol}
 use Rattle.rec_match.proofs.LetterLemmas.{every-at}
-use Rattle.rec_engine.specs.Made.{IsApplied}
+use Rattle.rec_engine.specs.Inner.Made.{IsApplied}
 use Rattle.rec_engine.proofs.TermLemmas.{drop-at}
-use Rattle.rec_trace.specs.Turns.{IsGroundRow}
+use Rattle.rec_trace.specs.Inner.Turns.{IsGroundRow}
 use Rattle.rec_trace.proofs.StepLemmas.{ground-first, ground-more}
 use Rattle.rec_trace.proofs.tracer.ground_steps.Goals as goal
 

@@ -1,8 +1,8 @@
 use Rattle.std.proofs.Common.{◌≤◌, drop, length}
 use Rattle.rec_syntax.specs.Syntax.{Spec}
 use Rattle.rec_sorts.specs.Laws.{Every}
-use Rattle.rec_engine.specs.Made.{IsApplied}
-use Rattle.rec_trace.specs.Turns.{IsGroundRow}
+use Rattle.rec_engine.specs.Inner.Made.{IsApplied}
+use Rattle.rec_trace.specs.Inner.Turns.{IsGroundRow}
 use Rattle.rec_trace.proofs.tracer.ground_steps.Given as goal
 
 abbrev pub invariant-letters : goal.invariant-letters

@@ -1,6 +1,6 @@
 use Rattle.std.proofs.Common.{[], refl, rules}
 use Rattle.rx_term.specs.Store.{tree_at}
-use Rattle.rx_text.specs.Jobs.{seen}
+use Rattle.rx_text.specs.Inner.Jobs.{seen}
 use Rattle.rx_text.proofs.AppendingLemmas.{on_err}
 use Rattle.rx_look.specs.Laid.{laid}
 use Rattle.rx_look.proofs.LayoutLemmas.{if_front, less_left, writing_on, writing_stopped}

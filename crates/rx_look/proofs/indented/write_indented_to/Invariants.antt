@@ -1,6 +1,6 @@
 use Rattle.std.proofs.Common.{[]}
 use Rattle.rx_term.specs.Store.{tree_at}
-use Rattle.rx_text.specs.Jobs.{seen}
+use Rattle.rx_text.specs.Inner.Jobs.{seen}
 use Rattle.rx_text.specs.Output.{IsWritable, IsSameOutput}
 use Rattle.rx_look.specs.Laid.{laid}
 use Rattle.rx_look.specs.Layout.{jobs_size}

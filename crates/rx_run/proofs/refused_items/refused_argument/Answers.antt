@@ -1,6 +1,6 @@
 use Rattle.std.proofs.Common.{◌≡◌, subst}
 use Rattle.rx_term.specs.Tree.{Tree}
-use Rattle.rx_run.specs.PatternAnswers.{IsPatternRead}
+use Rattle.rx_run.specs.Inner.PatternAnswers.{IsPatternRead}
 use Rattle.rx_run.specs.RefusedItems.{misfit_in}
 use Rattle.rx_run.specs.declared.refusal.Reading.{Reading}
 use Rattle.rx_run.proofs.PatternDueLemmas.{if_ok_map, no_pattern}

@@ -1,5 +1,5 @@
 use Rattle.std.proofs.Common.{Some}
-use Rattle.rx_sweep.specs.Marking.{ahead}
+use Rattle.rx_sweep.specs.Inner.Marking.{ahead}
 use Rattle.rx_sweep.proofs.BareLemmas.{same_taken}
 use Rattle.rx_sweep.proofs.marking.mark_list.Goals as goal
 

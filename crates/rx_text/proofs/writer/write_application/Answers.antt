@@ -1,6 +1,6 @@
 use Rattle.std.proofs.Common.{◌++◌, ◌∷◌, []}
 use Rattle.rx_text.specs.Canon.{name_text}
-use Rattle.rx_text.specs.Jobs.{seen, body_text, job_text}
+use Rattle.rx_text.specs.Inner.Jobs.{seen, body_text, job_text}
 use Rattle.rx_term.specs.Store.{tree_at}
 use Rattle.rx_text.specs.declared.writer.Job.TheVariants as job
 use Rattle.rx_text.proofs.AppendingLemmas.{on_err, front_of}

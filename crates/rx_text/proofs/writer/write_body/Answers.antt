@@ -2,7 +2,7 @@ use Rattle.std.proofs.Common.{◌++◌, ◌∷◌, []}
 use Rattle.rx_term.specs.Store.{tree_at}
 use Rattle.rx_term.specs.Tree.{more}
 use Rattle.rx_text.specs.Canon.{canon, canon_all}
-use Rattle.rx_text.specs.Jobs.{seen, body_text}
+use Rattle.rx_text.specs.Inner.Jobs.{seen, body_text}
 use Rattle.rx_text.proofs.AppendingLemmas.{err_front}
 use Rattle.rx_text.proofs.LeavingLemmas.{list_front, hole_front}
 use Rattle.rx_text.proofs.writer.write_body.Goals as goal

@@ -1,4 +1,4 @@
-use Rattle.rx_text.specs.Jobs.{job_text, job_size}
+use Rattle.rx_text.specs.Inner.Jobs.{job_text, job_size}
 use Rattle.rx_text.specs.declared.writer.Job.TheVariants as job
 use Rattle.rx_text.proofs.AppendingLemmas.{appends_same}
 use Rattle.rx_text.proofs.LeavingLemmas.{adds_leaves}

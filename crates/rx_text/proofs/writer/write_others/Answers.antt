@@ -1,5 +1,5 @@
 use Rattle.std.proofs.Common.{◌++◌, ◌∷◌, [], refl}
-use Rattle.rx_text.specs.Jobs.{job_text}
+use Rattle.rx_text.specs.Inner.Jobs.{job_text}
 use Rattle.rx_text.specs.declared.writer.Job.TheVariants as job
 use Rattle.rx_text.proofs.AppendingLemmas.{err_front}
 use Rattle.rx_text.proofs.LeavingLemmas.{others_text, nothing_left}

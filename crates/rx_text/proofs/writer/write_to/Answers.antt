@@ -1,7 +1,7 @@
 use Rattle.std.proofs.Common.{[], rules}
 use Rattle.rx_term.specs.Store.{tree_at}
 use Rattle.rx_text.specs.Canon.{canon}
-use Rattle.rx_text.specs.Jobs.{seen}
+use Rattle.rx_text.specs.Inner.Jobs.{seen}
 use Rattle.rx_text.proofs.AppendingLemmas.{on_err}
 use Rattle.rx_text.proofs.LeavingLemmas.{writing_on, writing_stopped, less_left, if_front}
 use Rattle.rx_text.proofs.writer.write_to.Goals as goal

@@ -1,7 +1,7 @@
 use Rattle.std.proofs.Common.{[]}
 use Rattle.rx_term.specs.Store.{tree_at}
 use Rattle.rx_text.specs.Canon.{canon}
-use Rattle.rx_text.specs.Jobs.{seen, jobs_size}
+use Rattle.rx_text.specs.Inner.Jobs.{seen, jobs_size}
 use Rattle.rx_text.specs.Output.{IsWritable, IsSameOutput}
 use Rattle.rx_text.proofs.LeavingLemmas.{Writing}
 use Rattle.rx_text.proofs.writer.write_to.Given as goal

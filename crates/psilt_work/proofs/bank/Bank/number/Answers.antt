@@ -1,7 +1,7 @@
 use Rattle.std.proofs.Common.{ap, is_some, sym, subst, ◌∙◌, Some}
 use Rattle.std.specs.Prelude.{option_map}
 use Rattle.rx_shared.specs.State as shared
-use Rattle.rx_shared.specs.Soundness.{sound}
+use Rattle.rx_shared.specs.Inner.Soundness.{sound}
 use Rattle.psilt_work.specs.Banks.{BankState, specified_by}
 use Rattle.psilt_work.specs.Symbols.{KeepsNumbers}
 use Rattle.psilt_work.proofs.BankLemmas.{fits_added}

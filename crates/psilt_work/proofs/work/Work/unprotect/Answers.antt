@@ -1,7 +1,7 @@
 use Rattle.std.proofs.Common.{refl, subst}
 use Rattle.rx_arena.specs.Arena.{roots_at}
 use Rattle.rx_shared.specs.Mirror.{Mirrors}
-use Rattle.rx_shared.specs.Soundness.{sound}
+use Rattle.rx_shared.specs.Inner.Soundness.{sound}
 use Rattle.rx_shared.specs.State.{store_of}
 use Rattle.rx_shared.specs.declared.bank.SharedBank.{SharedBank}
 use Rattle.psilt_work.proofs.RootLemmas.{no_roots, not_more}

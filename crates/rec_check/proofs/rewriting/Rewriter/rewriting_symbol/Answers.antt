@@ -1,6 +1,6 @@
 use Rattle.std.proofs.Common.{arith, subst, sym, ◌∙◌}
 use Rattle.std.specs.Prelude.{suc, ◌<◌, length}
-use Rattle.rec_match.specs.Chains.{IsNext}
+use Rattle.rec_match.specs.Inner.Chains.{IsNext}
 use Rattle.rec_match.proofs.SkipLemmas as skip
 use Rattle.rec_check.proofs.RewritingLemmas.{after_next, first_next, no_rule, none_next, none_start, this_rule}
 use Rattle.rec_check.proofs.rewriting.Rewriter.rewriting_symbol.Goals as goal

@@ -1,4 +1,4 @@
-use Rattle.rec_engine.specs.Written.{CanCompileAll}
+use Rattle.rec_engine.specs.Inner.Written.{CanCompileAll}
 use Rattle.rec_engine.proofs.CompiledLemmas.{compiled-code}
 use Rattle.rec_engine.proofs.RuleLemmas.{can-compile}
 use Rattle.rec_engine.proofs.code.Code.new.Goals as goal

@@ -1,6 +1,6 @@
 use Rattle.std.proofs.Common.{◌∙◌, [], subst, ap, sym, refl, drop, is_some}
 use Rattle.rec_sorts.specs.Evaluation.{term_of}
-use Rattle.rec_engine.specs.Answered.{IsTermCode, IsAnswer, StandsAbove}
+use Rattle.rec_engine.specs.Inner.Answered.{IsTermCode, IsAnswer, StandsAbove}
 use Rattle.rec_sorts.proofs.WalkedLemmas.{held}
 use Rattle.rx_term.proofs.KeepLemmas.{kept-work}
 use Rattle.rx_term.specs.Walks.{held_tree}

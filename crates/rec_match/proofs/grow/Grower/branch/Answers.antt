@@ -4,7 +4,7 @@ use Rattle.std.proofs.lemmas.List.{length-set, length-append, take_all}
 use Rattle.rec_match.specs.declared.forest.Node.TheVariants.{Fail}
 use Rattle.rec_match.specs.Forests.{number_at}
 use Rattle.rec_match.specs.Parts.{opened_codes, changed_codes}
-use Rattle.rec_match.specs.Shares.{symbols_of}
+use Rattle.rec_match.specs.Inner.Shares.{symbols_of}
 use Rattle.rec_match.specs.Tasks.{numbers_of, Branched, BranchesOut, task_of, Adds}
 use Rattle.rec_match.proofs.BranchLemmas.{branched_none, branched_more, next_share, share_rows, number_is}
 use Rattle.rec_match.proofs.ShareLemmas.{symbols_long, popped_front}

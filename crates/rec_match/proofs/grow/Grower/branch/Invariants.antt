@@ -1,6 +1,6 @@
 use Rattle.std.proofs.Common.{ℕ, ◌≡◌, ◌≤◌, List, length, map, take}
 use Rattle.rec_match.specs.Parts.{Coded}
-use Rattle.rec_match.specs.Shares.{symbols_of, AreShares}
+use Rattle.rec_match.specs.Inner.Shares.{symbols_of, AreShares}
 use Rattle.rec_match.specs.Tasks.{task_of, numbers_of, BranchesOut}
 use Rattle.rec_match.proofs.grow.Grower.branch.Given as goal
 

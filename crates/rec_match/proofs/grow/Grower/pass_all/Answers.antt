@@ -6,7 +6,7 @@ use Rattle.rec_sorts.specs.Numbering.{variable_count}
 use Rattle.rec_sorts.specs.declared.letters.Meaning.TheVariants.{Symbol, Variable}
 use Rattle.rec_match.specs.Leaves.{IsValue}
 use Rattle.rec_match.specs.Parts.{part_at, no_part}
-use Rattle.rec_match.specs.Paths.{path_task}
+use Rattle.rec_match.specs.Inner.Paths.{path_task}
 use Rattle.rec_match.specs.Tasks.{numbers_of, Steps}
 use Rattle.rec_match.specs.declared.parts.Code.{Code}
 use Rattle.rec_match.specs.declared.parts.Part.{Part}

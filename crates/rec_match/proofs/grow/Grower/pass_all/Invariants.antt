@@ -3,7 +3,7 @@ use Rattle.std.specs.Prelude.{All}
 use Rattle.rec_sorts.specs.Numbering.{variable_count}
 use Rattle.rec_match.specs.Leaves.{IsValue}
 use Rattle.rec_match.specs.Parts.{part_at}
-use Rattle.rec_match.specs.Paths.{path_task}
+use Rattle.rec_match.specs.Inner.Paths.{path_task}
 use Rattle.rec_match.specs.Tasks.{numbers_of, Steps}
 use Rattle.rec_match.proofs.grow.Grower.pass_all.Given as goal
 

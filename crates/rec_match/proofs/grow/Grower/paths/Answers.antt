@@ -2,7 +2,7 @@ use Rattle.std.proofs.Common.{refl, sym, ap, subst, arith, ◌∙◌, ◌≡◌,
 use Rattle.std.proofs.lemmas.List.{get_or-map, length-map, take_all}
 use Rattle.rec_match.specs.Growing.{StandFor}
 use Rattle.rec_match.specs.Parts.{coded_of}
-use Rattle.rec_match.specs.Paths.{TreesGoOn, AreTrees}
+use Rattle.rec_match.specs.Inner.Paths.{TreesGoOn, AreTrees}
 use Rattle.rec_match.specs.Placed.{ArePlacesIn}
 use Rattle.rec_match.specs.Rows.{Row}
 use Rattle.rec_match.specs.Tasks.{numbers_of, AreLeft}

@@ -2,7 +2,7 @@ use Rattle.std.proofs.Common.{ℕ, List, [], map, take}
 use Rattle.rec_sorts.specs.Numbering.{variable_count}
 use Rattle.rec_match.specs.Growing.{State}
 use Rattle.rec_match.specs.Parts.{coded_of}
-use Rattle.rec_match.specs.Paths.{TreesGoOn}
+use Rattle.rec_match.specs.Inner.Paths.{TreesGoOn}
 use Rattle.rec_match.specs.Placed.{ArePlaces}
 use Rattle.rec_match.specs.Rows.{Row}
 use Rattle.rec_match.specs.Tasks.{numbers_of, Growing, AreLeft}

@@ -3,8 +3,8 @@ use Rattle.rec_sorts.specs.Numbering.{name_of, arity_of}
 use Rattle.rec_sorts.specs.declared.letters.Meaning.TheVariants.{Symbol}
 use Rattle.rec_match.specs.Growing.{StandFor}
 use Rattle.rec_match.specs.Parts.{coded_of}
-use Rattle.rec_match.specs.Paths.{TreesGoOn}
-use Rattle.rec_match.specs.Running.{root_rows}
+use Rattle.rec_match.specs.Inner.Paths.{TreesGoOn}
+use Rattle.rec_match.specs.Inner.Running.{root_rows}
 use Rattle.rec_match.specs.Tasks.{numbers_of, AreLeft, TreeGoesOn}
 use Rattle.rec_match.proofs.TaskLemmas.{goes_more}
 use Rattle.rec_match.proofs.grow.Grower.trees_of.Goals as goal

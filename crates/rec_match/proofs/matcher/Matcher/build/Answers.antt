@@ -1,5 +1,5 @@
 use Rattle.std.proofs.Common.{refl, ap, subst, ◌∙◌, length}
-use Rattle.rec_match.specs.Built.{AreSides}
+use Rattle.rec_match.specs.Inner.Built.{AreSides}
 use Rattle.rec_match.proofs.SkipLemmas.{matcher-built}
 use Rattle.rec_match.proofs.matcher.Matcher.build.Goals as goal
 

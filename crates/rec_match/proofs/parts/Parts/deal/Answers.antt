@@ -1,6 +1,6 @@
 use Rattle.std.proofs.Common.{subst, sym, arith, map, take, [], ◌+◌}
 use Rattle.rec_match.specs.Parts.{coded_of}
-use Rattle.rec_match.specs.Shares.{AreShares, DealsRow}
+use Rattle.rec_match.specs.Inner.Shares.{AreShares, DealsRow}
 use Rattle.rec_match.proofs.ShareLemmas.{shares_more, coded_more, written_back}
 use Rattle.rec_match.proofs.parts.Parts.deal.Goals as goal
 

@@ -1,6 +1,6 @@
 use Rattle.std.proofs.Common.{map, take}
 use Rattle.rec_match.specs.Parts.{coded_of}
-use Rattle.rec_match.specs.Shares.{AreShares}
+use Rattle.rec_match.specs.Inner.Shares.{AreShares}
 use Rattle.rec_match.proofs.parts.Parts.deal.Given as goal
 
 abbrev pub invariant-loop-row : goal.invariant-loop-row

@@ -1,6 +1,6 @@
 use Rattle.std.proofs.Common.{ℕ, ◌≡◌, ◌<◌, ◌≤◌, length, get_or}
 use Rattle.rec_match.specs.Parts.{coded_of}
-use Rattle.rec_match.specs.Shares.{AddsRow}
+use Rattle.rec_match.specs.Inner.Shares.{AddsRow}
 use Rattle.rec_match.specs.declared.shares.Share.{Share}
 use Rattle.rec_match.proofs.parts.Parts.push_to_each.Given as goal
 

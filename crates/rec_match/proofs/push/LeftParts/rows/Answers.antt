@@ -1,7 +1,7 @@
 use Rattle.std.proofs.Common.{sym, ap, subst, arith, ◌∙◌, ◌≡◌, ◌<◌, suc, ℕ, ◌++◌, ◌∷◌, [], List, length, map, get_or}
 use Rattle.std.proofs.lemmas.List.{get_or_default, map-append}
 use Rattle.rec_sorts.specs.Numbering.{IsLetterRule}
-use Rattle.rec_match.specs.Chains.{IsNext}
+use Rattle.rec_match.specs.Inner.Chains.{IsNext}
 use Rattle.rec_match.specs.Parts.{arguments_at, numbered_from, Coded, coded_of}
 use Rattle.rec_match.proofs.LetterLemmas.{pair-long}
 use Rattle.rec_match.proofs.RootRowLemmas.{no_rule, chain_on, rows_first, rows_next, rows_all}

@@ -1,6 +1,6 @@
 use Rattle.std.proofs.Common.{◌≡◌, ◌++◌, take, ap, sym, subst, ◌∙◌}
 use Rattle.std.specs.Prelude.{◌==◌, position}
-use Rattle.rec_serve.specs.Reading.{IsRead, unread}
+use Rattle.rec_serve.specs.Inner.Reading.{IsRead, unread}
 use Rattle.rec_serve.proofs.KeptLemmas.{skipped_all, takes_all, takes_ended}
 use Rattle.rec_serve.proofs.read_ahead.ReadAhead.take_piece.Goals as goal
 

@@ -2,7 +2,7 @@ use Rattle.std.proofs.Common.{◌≡◌, drop, Bool}
 use Rattle.std.specs.List.{position_from}
 use Rattle.rx_term.specs.declared.Term.{Term}
 use Rattle.rx_term.specs.Walks.{held_tree}
-use Rattle.rec_sorts.specs.GivenTerms.{is_broken_alone}
+use Rattle.rec_sorts.specs.Inner.GivenTerms.{is_broken_alone}
 use Rattle.rec_sorts.proofs.scope.Scope.first_breaking.Given as goal
 
 abbrev pub invariant-loop-at : goal.invariant-loop-at

@@ -1,7 +1,7 @@
 use Rattle.std.proofs.Common.{◌∙◌, ◌≡◌, IfOk, ap, subst}
 use Rattle.std.specs.List.{position}
 use Rattle.rx_term.specs.Walks.{held_trees}
-use Rattle.rec_sorts.specs.GivenTerms.{is_broken_alone}
+use Rattle.rec_sorts.specs.Inner.GivenTerms.{is_broken_alone}
 use Rattle.rec_sorts.proofs.FirstBrokenLemmas.{breaking-held}
 use Rattle.rec_sorts.proofs.scope.Scope.first_breaking_item.Goals as goal
 

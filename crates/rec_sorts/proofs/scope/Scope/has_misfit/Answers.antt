@@ -1,5 +1,5 @@
 use Rattle.std.proofs.Common.{◌∙◌, sym, ap, drop}
-use Rattle.rec_sorts.specs.GivenTerms.{are_misfits}
+use Rattle.rec_sorts.specs.Inner.GivenTerms.{are_misfits}
 use Rattle.rec_sorts.proofs.WalkedLemmas.{items_of-none, misfits-none}
 use Rattle.rec_sorts.proofs.scope.Scope.has_misfit.Goals as goal
 

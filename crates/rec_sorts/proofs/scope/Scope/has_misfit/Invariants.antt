@@ -2,7 +2,7 @@ use Rattle.std.proofs.Common.{◌≡◌, drop, IsSome}
 use Rattle.rx_term.specs.Store.{tree_at}
 use Rattle.rx_term.specs.Walks.{held_tree}
 use Rattle.rx_term.specs.Tree.{items_of}
-use Rattle.rec_sorts.specs.GivenTerms.{are_misfits, has_misfit}
+use Rattle.rec_sorts.specs.Inner.GivenTerms.{are_misfits, has_misfit}
 use Rattle.rec_sorts.proofs.scope.Scope.has_misfit.Given as goal
 
 abbrev pub invariant-loop-sort : goal.invariant-loop-sort

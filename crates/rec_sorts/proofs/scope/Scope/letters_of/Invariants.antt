@@ -1,6 +1,6 @@
 use Rattle.std.proofs.Common.{◌≡◌, map, take}
 use Rattle.rx_term.specs.Walks.{held_tree}
-use Rattle.rec_sorts.specs.GivenTerms.{node_letter}
+use Rattle.rec_sorts.specs.Inner.GivenTerms.{node_letter}
 use Rattle.rec_sorts.proofs.scope.Scope.letters_of.Given as goal
 
 abbrev pub invariant-loop-node : goal.invariant-loop-node

@@ -2,7 +2,7 @@ use Rattle.std.proofs.Common.{◌≡◌, map, take}
 use Rattle.std.specs.Prelude.{reverse}
 use Rattle.rx_term.specs.Walks.{held_tree}
 use Rattle.rec_sorts.specs.Walking.{backwards}
-use Rattle.rec_sorts.specs.GivenTerms.{node_letter}
+use Rattle.rec_sorts.specs.Inner.GivenTerms.{node_letter}
 use Rattle.rec_sorts.proofs.scope.Scope.letters_of_all.Given as goal
 
 abbrev pub invariant-loop-term : goal.invariant-loop-term

@@ -1,6 +1,6 @@
 use Rattle.std.proofs.Common.{◌≤◌, ◌+◌, length, refl, arith}
 use Rattle.rec_syntax.specs.Parts.{spec_of}
-use Rattle.rec_syntax.specs.Reader.{role_of}
+use Rattle.rec_syntax.specs.Inner.Reader.{role_of}
 use Rattle.rec_syntax.proofs.TermStackLemmas.{closes, goes_on, count_fits}
 use Rattle.rec_syntax.proofs.reader.Reader.after.Goals as goal
 

@@ -1,5 +1,5 @@
 use Rattle.rec_syntax.specs.Parts.{spec_of}
-use Rattle.rec_syntax.specs.Reader.{role_of}
+use Rattle.rec_syntax.specs.Inner.Reader.{role_of}
 use Rattle.rec_syntax.proofs.TermStackLemmas.{leaf}
 use Rattle.rec_syntax.proofs.ReadingLemmas.{called_moves}
 use Rattle.rec_syntax.proofs.reader.Reader.called.Goals as goal

@@ -1,9 +1,9 @@
 use Rattle.std.proofs.Common.{List, map, subst, ◌∙◌}
 use Rattle.rec_syntax.specs.Nodes.{spelled_by}
-use Rattle.rec_syntax.specs.Machine as machine
+use Rattle.rec_syntax.specs.Inner.Machine as machine
 use Rattle.rec_syntax.specs.Lexemes.{token_of}
 use Rattle.rec_syntax.specs.Parts.{node_of, spec_of}
-use Rattle.rec_syntax.specs.Reader.{role_of, Moves}
+use Rattle.rec_syntax.specs.Inner.Reader.{role_of, Moves}
 use Rattle.rec_syntax.specs.declared.parts.Node.{Node}
 use Rattle.rec_syntax.proofs.TermStackLemmas.{whole_term}
 use Rattle.rec_syntax.proofs.reader.Reader.complete.Goals as goal

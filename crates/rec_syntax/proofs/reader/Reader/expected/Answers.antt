@@ -2,8 +2,8 @@ use Rattle.std.proofs.Common.{◌≡◌, ◌∙◌, ap, get_or, take_all, arith}
 use Rattle.std.specs.List.{filter}
 use Rattle.std.proofs.lemmas.List.{append-nil}
 use Rattle.std.proofs.lemmas.List.Elements.{filter_more}
-use Rattle.rec_syntax.specs.Machine.{step}
-use Rattle.rec_syntax.specs.Reader.{due_of}
+use Rattle.rec_syntax.specs.Inner.Machine.{step}
+use Rattle.rec_syntax.specs.Inner.Reader.{due_of}
 use Rattle.rec_syntax.specs.Expected.{is_taken}
 use Rattle.rec_syntax.specs.declared.token_kind.TokenKind.TheVariants.{PlainWord}
 use Rattle.rec_syntax.proofs.ExpectingLemmas.{all_kinds, kinds_passing}

@@ -1,8 +1,8 @@
 use Rattle.std.proofs.Common.{◌≡◌, take}
 use Rattle.std.specs.List.{filter}
 use Rattle.rec_syntax.specs.Syntax.{Spec}
-use Rattle.rec_syntax.specs.Machine.{step}
-use Rattle.rec_syntax.specs.Reader.{due_of}
+use Rattle.rec_syntax.specs.Inner.Machine.{step}
+use Rattle.rec_syntax.specs.Inner.Reader.{due_of}
 use Rattle.rec_syntax.specs.Expected.{is_taken}
 use Rattle.rec_syntax.proofs.reader.Reader.expected.Given as goal
 

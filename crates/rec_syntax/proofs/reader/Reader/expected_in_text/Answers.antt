@@ -1,8 +1,8 @@
 use Rattle.std.proofs.Common.{◌≡◌, ◌↔◌, ℕ, true, List, Contains, IfOk, Result, Ok, Err, Vec, Global, subst, ap}
 use Rattle.rec_syntax.specs.Tokens.{bare}
-use Rattle.rec_syntax.specs.Machine.{step}
+use Rattle.rec_syntax.specs.Inner.Machine.{step}
 use Rattle.rec_syntax.specs.Parts.{spec_of}
-use Rattle.rec_syntax.specs.Reader.{due_of, config_of}
+use Rattle.rec_syntax.specs.Inner.Reader.{due_of, config_of}
 use Rattle.rec_syntax.specs.Expected.{is_taken, AreExpected, IsAtFault}
 use Rattle.rec_syntax.specs.declared.token_kind.TokenKind.{TokenKind}
 use Rattle.rec_syntax.specs.declared.reader.Due.{Due}

@@ -1,6 +1,6 @@
 use Rattle.std.proofs.Common.{◌≡◌, ◌∙◌, false, sym, reverse}
 use Rattle.std.specs.Prelude.{◌==◌}
-use Rattle.rec_syntax.specs.Reader.{role_of}
+use Rattle.rec_syntax.specs.Inner.Reader.{role_of}
 use Rattle.rec_syntax.proofs.ExpectingLemmas.{within_call, calls_stand, is_going_on, not_goes_on}
 use Rattle.rec_syntax.proofs.reader.Reader.is_after_term.Goals as goal
 

@@ -1,6 +1,6 @@
 use Rattle.std.proofs.Common.{◌∙◌, sym}
 use Rattle.rec_syntax.specs.Lexemes.{token_of}
-use Rattle.rec_syntax.specs.Reader.{due_of}
+use Rattle.rec_syntax.specs.Inner.Reader.{due_of}
 use Rattle.rec_syntax.proofs.ExpectingLemmas.{by_kind}
 use Rattle.rec_syntax.proofs.reader.Reader.may_take.Goals as goal
 

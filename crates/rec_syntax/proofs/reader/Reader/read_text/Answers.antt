@@ -1,9 +1,9 @@
 use Rattle.std.proofs.Common.{◌≡◌, ℕ, ◌∙◌, ap, sym, subst, refl, Some, Ok, Err, Vec, Global, arith}
 use Rattle.rec_syntax.specs.Grammar.{SpecText}
 use Rattle.rec_syntax.specs.Parts.{spec_of}
-use Rattle.rec_syntax.specs.Machine.{Config, outcome}
+use Rattle.rec_syntax.specs.Inner.Machine.{Config, outcome}
 use Rattle.rec_syntax.specs.Lexemes.{tokens_from, token_of, behind}
-use Rattle.rec_syntax.specs.Reader.{config_of}
+use Rattle.rec_syntax.specs.Inner.Reader.{config_of}
 use Rattle.rec_syntax.proofs.AnsweringLemmas.{Decides, refused_at, spelled, turn, reads_on}
 use Rattle.rec_syntax.proofs.ReadingLemmas.{moved}
 use Rattle.rec_syntax.specs.declared.reader.Stop.TheVariants.{Refused}

@@ -1,8 +1,8 @@
 use Rattle.std.proofs.Common.{◌≡◌, ℕ, ap, subst, false, Ok, Vec, Global, None, is_some}
-use Rattle.rec_syntax.specs.Machine.{step}
+use Rattle.rec_syntax.specs.Inner.Machine.{step}
 use Rattle.rec_syntax.specs.Parts.{spec_of}
 use Rattle.rec_syntax.specs.Lexemes.{tokens_from, token_of, behind}
-use Rattle.rec_syntax.specs.Reader.{config_of, due_of}
+use Rattle.rec_syntax.specs.Inner.Reader.{config_of, due_of}
 use Rattle.rec_syntax.proofs.AnsweringLemmas.{reads_on}
 use Rattle.rec_syntax.proofs.ReadingLemmas.{moved}
 use Rattle.rec_syntax.proofs.ExpectingLemmas.{Reached, none_since, refused_state, ended_state, reached_next}

@@ -1,5 +1,5 @@
 use Rattle.std.proofs.Common.{◌∙◌, [], ◌∷◌, ◌++◌, map, sym}
-use Rattle.rec_syntax.specs.Machine.{with_rule}
+use Rattle.rec_syntax.specs.Inner.Machine.{with_rule}
 use Rattle.rec_syntax.specs.Parts.{term_of, condition_of}
 use Rattle.rec_syntax.proofs.ExpectingLemmas.{rule_ends, conditions_end}
 use Rattle.rec_syntax.proofs.reader.expected.is_after_whole.Goals as goal

@@ -7,9 +7,9 @@ use Rattle.rec_sorts.specs.Evaluation.{Eval, first_rule}
 use Rattle.rec_sorts.specs.Numbering.{name_of}
 use Rattle.rec_sorts.specs.declared.letters.Meaning.TheVariants.{Symbol}
 use Rattle.rec_engine.specs.Flat.{taken}
-use Rattle.rec_trace.specs.Sides.{IsMatch}
+use Rattle.rec_trace.specs.Inner.Sides.{IsMatch}
 use Rattle.rec_trace.specs.Tracing.{IsFound, IsInOrder, on_top, stack_at}
-use Rattle.rec_trace.specs.Turns.{Fires}
+use Rattle.rec_trace.specs.Inner.Turns.{Fires}
 use Rattle.rec_trace.specs.declared.tracer.Tracer.{Tracer}
 use Rattle.rec_trace.proofs.FireLemmas.{applied-order, call-ends, call-fires, call-over}
 use Rattle.rec_trace.proofs.ListLemmas.{stays-trans}

@@ -11,7 +11,7 @@ use Rattle.rec_sorts.specs.declared.letters.LetterRule.{LetterRule}
 use Rattle.rec_match.proofs.RunLemmas.{same_trees}
 use Rattle.rec_match.proofs.LetterLemmas.{pair-long}
 use Rattle.rec_trace.specs.Lists.{listed}
-use Rattle.rec_trace.specs.Sides.{no_condition}
+use Rattle.rec_trace.specs.Inner.Sides.{no_condition}
 use Rattle.rec_trace.proofs.ListLemmas.{head-is, is-below}
 use Rattle.rec_trace.proofs.SideLemmas.{rule-at, rule-read, some-same}
 use Rattle.rec_trace.proofs.tracer.Tracer.compare.Goals as goal

@@ -9,9 +9,9 @@ use Rattle.rec_syntax.specs.Syntax.{Rule}
 use Rattle.rec_sorts.specs.Binding.{Substitution}
 use Rattle.rec_sorts.specs.Evaluation.{evaluate}
 use Rattle.rec_trace.specs.Lists.{listed}
-use Rattle.rec_trace.specs.Sides.{IsMatch, no_condition, side_of}
+use Rattle.rec_trace.specs.Inner.Sides.{IsMatch, no_condition, side_of}
 use Rattle.rec_trace.specs.Tracing.{Gives, IsInOrder, caller, on_top, stack_at}
-use Rattle.rec_trace.specs.Turns.{CanTake}
+use Rattle.rec_trace.specs.Inner.Turns.{CanTake}
 use Rattle.rec_trace.specs.declared.sides.Side.TheVariants.{Left, Right}
 use Rattle.rec_trace.proofs.ConditionLemmas.{can-take, compared, held-as, over-left, over-right, top-in}
 use Rattle.rec_trace.proofs.ListLemmas.{head-is, stays-trans}

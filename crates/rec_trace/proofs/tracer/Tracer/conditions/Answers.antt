@@ -7,7 +7,7 @@ use Rattle.rec_sorts.specs.Evaluation.{Holds}
 use Rattle.rec_sorts.specs.Numbering.{IsLetterRule, Pairwise}
 use Rattle.rec_sorts.specs.declared.letters.LetterRule.{LetterRule}
 use Rattle.rec_match.proofs.LetterLemmas.{pair-long}
-use Rattle.rec_trace.specs.Sides.{IsMatch, no_condition}
+use Rattle.rec_trace.specs.Inner.Sides.{IsMatch, no_condition}
 use Rattle.rec_trace.specs.Tracing.{AreAnswered, IsInOrder, on_top, stack_at}
 use Rattle.rec_trace.proofs.ConditionLemmas.{all-asked, asked, same-first}
 use Rattle.rec_trace.proofs.ListLemmas.{same_both, stays-same, stays-trans}

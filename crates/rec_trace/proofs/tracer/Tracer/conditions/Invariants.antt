@@ -4,7 +4,7 @@ use Rattle.rec_sorts.specs.Binding.{Substitution}
 use Rattle.rec_sorts.specs.Evaluation.{Holds}
 use Rattle.rec_engine.specs.Engine.{SameEngine}
 use Rattle.rec_trace.specs.Lists.{Stays}
-use Rattle.rec_trace.specs.Sides.{IsMatch}
+use Rattle.rec_trace.specs.Inner.Sides.{IsMatch}
 use Rattle.rec_trace.specs.Tracing.{IsSame, on_top, stack_at}
 use Rattle.rec_trace.proofs.tracer.Tracer.conditions.Given as goal
 

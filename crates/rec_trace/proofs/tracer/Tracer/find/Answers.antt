@@ -6,9 +6,9 @@ use Rattle.rec_sorts.specs.Binding.{Substitution, next_match}
 use Rattle.rec_sorts.specs.Evaluation.{Eval, Holds, first_rule}
 use Rattle.rec_sorts.specs.SpecRules.{fault}
 use Rattle.rec_trace.specs.Lists.{listed}
-use Rattle.rec_trace.specs.Sides.{IsMatch}
+use Rattle.rec_trace.specs.Inner.Sides.{IsMatch}
 use Rattle.rec_trace.specs.Tracing.{AreAnswered, AreSteps, IsInOrder, on_top, stack_at}
-use Rattle.rec_trace.specs.Turns.{number_of}
+use Rattle.rec_trace.specs.Inner.Turns.{number_of}
 use Rattle.rec_trace.specs.declared.tracer.Tracer.{Tracer}
 use Rattle.rec_trace.proofs.ConditionLemmas.{same-first}
 use Rattle.rec_trace.proofs.FindLemmas.{next-rule, no-rule, none-of, nothing-left, tried-rule}

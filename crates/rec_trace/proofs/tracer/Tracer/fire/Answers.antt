@@ -7,10 +7,10 @@ use Rattle.rx_term.proofs.PartsLemmas.{cons_tail}
 use Rattle.rec_syntax.specs.Syntax.{Rule}
 use Rattle.rec_sorts.specs.Binding.{Substitution, instance}
 use Rattle.rec_trace.specs.Lists.{listed}
-use Rattle.rec_trace.specs.Sides.{IsMatch}
+use Rattle.rec_trace.specs.Inner.Sides.{IsMatch}
 use Rattle.rec_trace.specs.States.{moves}
 use Rattle.rec_trace.specs.Tracing.{HasMoves, IsInOrder, on_top, stack_at}
-use Rattle.rec_trace.specs.Turns.{CanTake}
+use Rattle.rec_trace.specs.Inner.Turns.{CanTake}
 use Rattle.rec_trace.specs.declared.sides.Side.TheVariants.{Contractum}
 use Rattle.rec_trace.specs.declared.tracer.Tracer.{Tracer}
 use Rattle.rec_trace.proofs.ConditionLemmas.{can-take, held-as, top-in}

@@ -5,7 +5,7 @@ use Rattle.rec_sorts.specs.Numbering.{arity_of, name_of}
 use Rattle.rec_sorts.specs.declared.letters.Meaning.TheVariants.{Symbol}
 use Rattle.rec_trace.specs.Lists.{listed}
 use Rattle.rec_trace.specs.Tracing.{AreSteps, IsInOrder}
-use Rattle.rec_trace.specs.Turns.{ComesTo}
+use Rattle.rec_trace.specs.Inner.Turns.{ComesTo}
 use Rattle.rec_trace.specs.declared.tracer.Step.TheVariants as step
 use Rattle.rec_trace.specs.declared.tracer.Tracer.{Tracer}
 use Rattle.rec_trace.proofs.ListLemmas.{same_both, stays-same, stays-trans}

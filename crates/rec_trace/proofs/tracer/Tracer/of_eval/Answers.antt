@@ -8,7 +8,7 @@ use Rattle.rec_sorts.specs.Binding.{tree_of}
 use Rattle.rec_sorts.specs.Numbering.{AreLetters}
 use Rattle.rec_sorts.specs.declared.letters.Letter.{Letter}
 use Rattle.rec_match.proofs.LetterLemmas.{pair-at}
-use Rattle.rec_engine.specs.Made.{MakesOne}
+use Rattle.rec_engine.specs.Inner.Made.{MakesOne}
 use Rattle.rec_engine.proofs.EngineLemmas.{row-makes, rows-long}
 use Rattle.rec_trace.specs.Trace.{Trace}
 use Rattle.rec_trace.specs.Tracing.{Stands, rest_of, whole_of}

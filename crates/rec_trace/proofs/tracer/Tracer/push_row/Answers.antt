@@ -2,7 +2,7 @@ use Rattle.std.proofs.Common.{◌≡◌, ◌+◌, ◌-◌, ◌∷◌, [], ap, ar
 use Rattle.rec_sorts.specs.declared.letters.Letter.{Letter}
 use Rattle.rec_sorts.specs.declared.letters.Meaning.TheVariants.{Symbol}
 use Rattle.rec_engine.proofs.TermLemmas.{drop-at}
-use Rattle.rec_trace.specs.Sides.{KeepsValues}
+use Rattle.rec_trace.specs.Inner.Sides.{KeepsValues}
 use Rattle.rec_trace.specs.Tracing.{HasPushed}
 use Rattle.rec_trace.proofs.ListLemmas.{same_both, stays-trans}
 use Rattle.rec_trace.proofs.PushLemmas.{pushed-more}

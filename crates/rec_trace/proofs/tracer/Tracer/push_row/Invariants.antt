@@ -1,7 +1,7 @@
 use Rattle.std.proofs.Common.{◌≡◌, ◌≤◌, drop, length}
 use Rattle.rec_engine.specs.Engine.{SameEngine}
 use Rattle.rec_trace.specs.Lists.{Stays}
-use Rattle.rec_trace.specs.Sides.{KeepsValues}
+use Rattle.rec_trace.specs.Inner.Sides.{KeepsValues}
 use Rattle.rec_trace.specs.Tracing.{HasPushed}
 use Rattle.rec_trace.proofs.tracer.Tracer.push_row.Given as goal
 

@@ -4,7 +4,7 @@ use Rattle.rx_term.specs.Walks.{held_tree}
 use Rattle.rec_syntax.specs.Syntax.{Rule}
 use Rattle.rec_sorts.specs.Laws.{Every}
 use Rattle.rec_match.specs.Next.{Answers, IsAnswer}
-use Rattle.rec_trace.specs.Sides.{IsRead, IsRow, side_of}
+use Rattle.rec_trace.specs.Inner.Sides.{IsRead, IsRow, side_of}
 use Rattle.rec_trace.specs.Tracing.{moves_at}
 use Rattle.rec_trace.proofs.ListLemmas.{on-ok}
 use Rattle.rec_trace.proofs.PushLemmas.{has-values, row-moves}

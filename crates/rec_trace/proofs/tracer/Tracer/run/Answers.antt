@@ -1,6 +1,6 @@
 use Rattle.std.proofs.Common.{arith, length, subst, sym}
 use Rattle.rec_trace.specs.Tracing.{caller, moves_at, stack_at}
-use Rattle.rec_trace.specs.Turns.{CanTurn, Turns}
+use Rattle.rec_trace.specs.Inner.Turns.{CanTurn, Turns}
 use Rattle.rec_trace.proofs.ListLemmas.{same_both, stays-trans}
 use Rattle.rec_trace.proofs.RunLemmas.{running-can, running-ends, running-failed, running-next}
 use Rattle.rec_trace.proofs.tracer.Tracer.run.Goals as goal

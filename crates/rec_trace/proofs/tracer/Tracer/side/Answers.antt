@@ -1,8 +1,8 @@
 use Rattle.std.proofs.Common.{◌-◌, subst, sym, take, vec_len}
-use Rattle.rec_trace.specs.Sides.{side_of}
+use Rattle.rec_trace.specs.Inner.Sides.{side_of}
 use Rattle.rec_trace.specs.States.{Fits, moves}
 use Rattle.rec_trace.specs.Tracing.{IsInOrder, caller, moves_at}
-use Rattle.rec_trace.specs.Turns.{HasRun}
+use Rattle.rec_trace.specs.Inner.Turns.{HasRun}
 use Rattle.rec_trace.proofs.ListLemmas.{stays-trans}
 use Rattle.rec_trace.proofs.RunLemmas.{fits-one, in-front, side-gives}
 use Rattle.rec_trace.proofs.SideLemmas.{if-ok}

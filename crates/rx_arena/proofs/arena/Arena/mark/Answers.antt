@@ -1,5 +1,5 @@
 use Rattle.std.proofs.Common.{refl, sym, ap, subst, ◌∙◌, true}
-use Rattle.rx_arena.specs.Node.{mark_of, with_mark}
+use Rattle.rx_arena.specs.Inner.Node.{mark_of, with_mark}
 use Rattle.rx_arena.specs.Put.{altered}
 use Rattle.rx_arena.specs.Arena.{ArenaState, IsTaken, with_marking}
 use Rattle.rx_arena.proofs.ArenaLawLemmas.{altered_law}

@@ -2,7 +2,7 @@ use Rattle.std.proofs.Common.{◌≡◌, ◌+◌, ◌<◌, [], List, ℕ, None, 
 use Rattle.std.specs.Prelude.{Option, replicate}
 use Rattle.std.proofs.lemmas.List.{length-replicate}
 use Rattle.rx_arena.specs.Arena.{ArenaState, chain_at}
-use Rattle.rx_arena.specs.Held.{IsHeld}
+use Rattle.rx_arena.specs.Inner.Held.{IsHeld}
 use Rattle.std.specs.Prelude.{IfSome}
 use Rattle.rx_arena.proofs.ArenaStepLemmas.{ArenaStep, opened, behind_step, within_heads, held_small, head_held, step_law, step_state}
 use Rattle.rx_arena.proofs.TotalLemmas.{total-behind}

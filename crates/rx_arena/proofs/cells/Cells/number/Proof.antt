@@ -21,9 +21,9 @@ use denote.Signature.{types_at}
 use denote.Steps.{nothing, heard}
 use denote.Triple.Walked.{Stays, walk_of, stay_dropped, Goes-dropped}
 use Rattle.std.proofs.VecSteps.Shapes.{after}
-use Rattle.rx_arena.specs.Node.{Node, led_to, next_in}
-use Rattle.rx_arena.specs.Held.{IsLead}
-use Rattle.rx_arena.specs.Ownership.{cell_of}
+use Rattle.rx_arena.specs.Inner.Node.{Node, led_to, next_in}
+use Rattle.rx_arena.specs.Inner.Held.{IsLead}
+use Rattle.rx_arena.specs.Inner.Ownership.{cell_of}
 use Rattle.rx_arena.specs.declared.cells.Place.{Place}
 use Rattle.rx_arena.proofs.cells.Lead.TheLaws as lead_laws
 use Rattle.rx_arena.specs.contracts.cells.Cells.{the_row as Cs}

@@ -1,8 +1,8 @@
 use Rattle.std.proofs.Common.{◌<◌, length, set, Some, sym, subst, ap, ◌∙◌, arith, map}
-use Rattle.rx_arena.specs.Node.{lone}
-use Rattle.rx_arena.specs.Marks.{with_marks}
+use Rattle.rx_arena.specs.Inner.Node.{lone}
+use Rattle.rx_arena.specs.Inner.Marks.{with_marks}
 use Rattle.rx_arena.proofs.MarkLemmas.{below-marks, set-with_marks}
-use Rattle.rx_arena.specs.Node.{is_protected_node}
+use Rattle.rx_arena.specs.Inner.Node.{is_protected_node}
 use Rattle.rx_arena.specs.Faces.{word_beside}
 use Rattle.rx_arena.proofs.ProtectedLemmas.{told-length, told-set}
 use Rattle.rx_arena.proofs.FaceLemmas.{said-length, said-set, word-taken}

@@ -1,7 +1,7 @@
 use Rattle.std.proofs.Common.{map, sym, subst, ap, ◌∙◌, arith}
-use Rattle.rx_arena.specs.Node.{changed, with_mark}
-use Rattle.rx_arena.specs.Held.{IsHeld}
-use Rattle.rx_arena.specs.Marks.{with_marks}
+use Rattle.rx_arena.specs.Inner.Node.{changed, with_mark}
+use Rattle.rx_arena.specs.Inner.Held.{IsHeld}
+use Rattle.rx_arena.specs.Inner.Marks.{with_marks}
 use Rattle.rx_arena.specs.Faces.{word_beside}
 use Rattle.rx_arena.proofs.MarkLemmas.{within-marks, mark-with_marks, length-with_marks}
 use Rattle.rx_arena.proofs.FaceLemmas.{said-given_back, said-length}

@@ -1,8 +1,8 @@
 use Rattle.std.proofs.Common.{◌≡◌, ◌++◌, length, map, None, false, sym, ap, ◌∙◌}
 use Rattle.std.specs.Prelude.{replicate}
-use Rattle.rx_arena.specs.Marks.{with_marks}
+use Rattle.rx_arena.specs.Inner.Marks.{with_marks}
 use Rattle.rx_arena.proofs.MarkLemmas.{resized, cut-back, grown-with_marks, length-with_marks}
-use Rattle.rx_arena.specs.Node.{is_protected_node}
+use Rattle.rx_arena.specs.Inner.Node.{is_protected_node}
 use Rattle.rx_arena.specs.Faces.{ask, word_beside}
 use Rattle.rx_arena.proofs.ProtectedLemmas.{told-length, told-grown}
 use Rattle.rx_arena.proofs.FaceLemmas.{said-length, said-grown}

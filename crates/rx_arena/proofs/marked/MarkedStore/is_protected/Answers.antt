@@ -1,6 +1,6 @@
 use Rattle.std.proofs.Common.{◌≡◌, sym, subst, ◌∙◌, arith}
-use Rattle.rx_arena.specs.Node.{node_at, is_protected_node}
-use Rattle.rx_arena.specs.Held.{IsHeld}
+use Rattle.rx_arena.specs.Inner.Node.{node_at, is_protected_node}
+use Rattle.rx_arena.specs.Inner.Held.{IsHeld}
 use Rattle.rx_arena.proofs.MarkLemmas.{held-with_marks}
 use Rattle.rx_arena.proofs.ProtectedLemmas.{told-within, told-of}
 use Rattle.rx_arena.proofs.marked.MarkedStore.is_protected.Goals as goal

@@ -1,7 +1,7 @@
 use Rattle.std.proofs.Common.{◌≡◌, IfSome, get_or, sym, subst, ◌∙◌, arith}
-use Rattle.rx_arena.specs.Node.{node_at}
-use Rattle.rx_arena.specs.Held.{IsHeld}
-use Rattle.rx_arena.specs.Marks.{with_marks}
+use Rattle.rx_arena.specs.Inner.Node.{node_at}
+use Rattle.rx_arena.specs.Inner.Held.{IsHeld}
+use Rattle.rx_arena.specs.Inner.Marks.{with_marks}
 use Rattle.rx_arena.proofs.MarkLemmas.{within-marks, mark-of, get_or_any}
 use Rattle.rx_arena.proofs.marked.MarkedStore.mark.Goals as goal
 

@@ -1,6 +1,6 @@
 use Rattle.std.proofs.Common.{◌≡◌, IfSome, sym, subst, ◌∙◌, get_or}
-use Rattle.rx_arena.specs.Node.{Node, node_at, next_in}
-use Rattle.rx_arena.specs.Held.{IsHeld}
+use Rattle.rx_arena.specs.Inner.Node.{Node, node_at, next_in}
+use Rattle.rx_arena.specs.Inner.Held.{IsHeld}
 use Rattle.rx_arena.proofs.MarkLemmas.{held-with_marks, link-with_marks, shown-with_marks, next-marked}
 use Rattle.rx_arena.proofs.marked.MarkedStore.next.Goals as goal
 

@@ -1,6 +1,6 @@
 use Rattle.std.proofs.Common.{◌≡◌, IfSome, sym, subst}
-use Rattle.rx_arena.specs.Node.{Node, node_at}
-use Rattle.rx_arena.specs.Held.{IsHeld}
+use Rattle.rx_arena.specs.Inner.Node.{Node, node_at}
+use Rattle.rx_arena.specs.Inner.Held.{IsHeld}
 use Rattle.rx_arena.proofs.MarkLemmas.{held-with_marks, shown-with_marks}
 use Rattle.rx_arena.proofs.marked.MarkedStore.roots.Goals as goal
 

@@ -1,10 +1,10 @@
 use Rattle.std.proofs.Common.{◌≤◌, map, sym, subst, ap, ◌∙◌, arith}
 use Rattle.std.specs.Prelude.{IfSome}
 use Rattle.rx_arena.specs.Faces.{word_beside}
-use Rattle.rx_arena.specs.Marks.{with_marks}
+use Rattle.rx_arena.specs.Inner.Marks.{with_marks}
 use Rattle.rx_arena.proofs.FaceLemmas.{said-marked}
-use Rattle.rx_arena.specs.Node.{node_at, changed, with_mark}
-use Rattle.rx_arena.specs.Held.{IsHeld}
+use Rattle.rx_arena.specs.Inner.Node.{node_at, changed, with_mark}
+use Rattle.rx_arena.specs.Inner.Held.{IsHeld}
 use Rattle.rx_arena.proofs.MarkLemmas.{within-marks, mark-with_marks}
 use Rattle.rx_arena.proofs.marked.MarkedStore.set_mark.Goals as goal
 

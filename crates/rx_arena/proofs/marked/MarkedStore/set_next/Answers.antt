@@ -1,9 +1,9 @@
 use Rattle.std.proofs.Common.{◌<◌, length, IfSome, sym, subst, ap, ◌∙◌, map}
-use Rattle.rx_arena.specs.Node.{changed, with_next}
-use Rattle.rx_arena.specs.Held.{IsHeld}
-use Rattle.rx_arena.specs.Marks.{with_marks}
+use Rattle.rx_arena.specs.Inner.Node.{changed, with_next}
+use Rattle.rx_arena.specs.Inner.Held.{IsHeld}
+use Rattle.rx_arena.specs.Inner.Marks.{with_marks}
 use Rattle.rx_arena.proofs.MarkLemmas.{held-with_marks, length-with_marks, changed-with_marks, link-marked}
-use Rattle.rx_arena.specs.Node.{is_protected_node}
+use Rattle.rx_arena.specs.Inner.Node.{is_protected_node}
 use Rattle.rx_arena.specs.Faces.{word_beside}
 use Rattle.rx_arena.proofs.ProtectedLemmas.{linked-roots, told-changed}
 use Rattle.rx_arena.proofs.FaceLemmas.{linked-body, said-changed}

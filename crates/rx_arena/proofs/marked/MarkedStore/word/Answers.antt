@@ -1,6 +1,6 @@
 use Rattle.std.proofs.Common.{◌≡◌, ◌<◌, length, sym, subst, ◌∙◌, arith}
-use Rattle.rx_arena.specs.Node.{node_at}
-use Rattle.rx_arena.specs.Marks.{with_marks}
+use Rattle.rx_arena.specs.Inner.Node.{node_at}
+use Rattle.rx_arena.specs.Inner.Marks.{with_marks}
 use Rattle.rx_arena.specs.Faces.{word_beside}
 use Rattle.rx_arena.proofs.FaceLemmas.{said-length, said-at}
 use Rattle.rx_arena.proofs.marked.MarkedStore.word.Goals as goal

@@ -1,7 +1,7 @@
 use Rattle.std.proofs.Common.{Some, ◌≡◌, ◌+◌, ◌-◌, ◌∷◌, None, sym, ap, subst, ◌∙◌, arith, min}
-use Rattle.rx_arena.specs.Held.{IsHeld}
+use Rattle.rx_arena.specs.Inner.Held.{IsHeld}
 use Rattle.rx_arena.specs.Put.{put, filled}
-use Rattle.rx_arena.specs.Pool.{PoolState, spare_of, cells_of}
+use Rattle.rx_arena.specs.Inner.Pool.{PoolState, spare_of, cells_of}
 use Rattle.rx_arena.proofs.PoolStepLemmas.{Step, cells_in, pool_room, given_back-step, given_back_some, first_apart, remarked_held, held_in_store, step_pool, step_state}
 use Rattle.rx_arena.proofs.pool.Pool.give_back.Goals.{After-set_next}
 use Rattle.rx_arena.proofs.pool.Pool.give_back.Goals as goal

@@ -1,7 +1,7 @@
 use Rattle.std.proofs.Common.{◌≡◌, false, None, get_or, sym, ap, subst, ◌∙◌, arith}
 use Rattle.std.specs.Prelude.{nat_eq}
-use Rattle.rx_arena.specs.Node.{mark_of}
-use Rattle.rx_arena.specs.Pool.{PoolState, is_unmarked_node}
+use Rattle.rx_arena.specs.Inner.Node.{mark_of}
+use Rattle.rx_arena.specs.Inner.Pool.{PoolState, is_unmarked_node}
 use Rattle.rx_arena.proofs.PoolStepLemmas.{past_fresh, unmarked_held, not_below}
 use Rattle.rx_arena.proofs.pool.Pool.holds_unmarked.Goals as goal
 

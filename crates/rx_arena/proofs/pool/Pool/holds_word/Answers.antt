@@ -1,7 +1,7 @@
 use Rattle.std.proofs.Common.{rules, ◌≡◌, None, Some, get_or, sym, subst, ◌∙◌, arith}
-use Rattle.rx_arena.specs.Node.{Node}
+use Rattle.rx_arena.specs.Inner.Node.{Node}
 use Rattle.rx_arena.specs.Faces.{word_of}
-use Rattle.rx_arena.specs.Pool.{PoolState}
+use Rattle.rx_arena.specs.Inner.Pool.{PoolState}
 use Rattle.rx_arena.proofs.PoolStepLemmas.{worded_held}
 use Rattle.rx_arena.proofs.pool.Pool.holds_word.Goals as goal
 

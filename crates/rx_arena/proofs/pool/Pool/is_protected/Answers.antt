@@ -1,8 +1,8 @@
 use Rattle.std.proofs.Common.{◌≡◌, false, None, get_or, sym, ap, subst, ◌∙◌, arith}
 use Rattle.std.specs.Prelude.{not, nat_eq}
 use Rattle.std.proofs.lemmas.Bool.{ltb-true}
-use Rattle.rx_arena.specs.Node.{is_protected_node}
-use Rattle.rx_arena.specs.Pool.{PoolState}
+use Rattle.rx_arena.specs.Inner.Node.{is_protected_node}
+use Rattle.rx_arena.specs.Inner.Pool.{PoolState}
 use Rattle.rx_arena.proofs.PoolStepLemmas.{past_fresh, protected_held, unprotected_held}
 use Rattle.rx_arena.proofs.pool.Pool.is_protected.Goals as goal
 use Rattle.rx_arena.proofs.pool.Pool.is_protected.Goals.{then-slot-self, else-slot-self}

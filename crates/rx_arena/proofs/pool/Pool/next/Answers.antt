@@ -1,7 +1,7 @@
 use Rattle.std.proofs.Common.{◌≡◌, None, IfSome, get_or, sym, subst}
-use Rattle.rx_arena.specs.Node.{next_in}
-use Rattle.rx_arena.specs.Held.{IsHeld}
-use Rattle.rx_arena.specs.Pool.{PoolState}
+use Rattle.rx_arena.specs.Inner.Node.{next_in}
+use Rattle.rx_arena.specs.Inner.Held.{IsHeld}
+use Rattle.rx_arena.specs.Inner.Pool.{PoolState}
 use Rattle.rx_arena.proofs.PoolStepLemmas.{held_in_store, shown, link_held}
 use Rattle.rx_arena.proofs.pool.Pool.next.Goals as goal
 

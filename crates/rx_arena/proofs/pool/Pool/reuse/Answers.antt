@@ -1,8 +1,8 @@
 use Rattle.std.proofs.Common.{◌≡◌, ◌+◌, ◌<◌, ◌≤◌, ◌∷◌, List, ℕ, Some, None, get_or, set, false, refl, sym, ap, subst, ◌∙◌}
-use Rattle.rx_arena.specs.Node.{mark_of, lone}
+use Rattle.rx_arena.specs.Inner.Node.{mark_of, lone}
 use Rattle.rx_arena.specs.Put.{put, filled}
-use Rattle.rx_arena.specs.Pool.{PoolState}
-use Rattle.rx_arena.specs.Pool.{spare_of}
+use Rattle.rx_arena.specs.Inner.Pool.{PoolState}
+use Rattle.rx_arena.specs.Inner.Pool.{spare_of}
 use Rattle.rx_arena.proofs.ChainLemmas.{ended}
 use Rattle.rx_arena.proofs.SlotLemmas.{held_within}
 use Rattle.rx_arena.proofs.PoolStepLemmas.{Step, cells_in, mark_of_small, reused-step, step_pool, step_free, step_cells, same_pool, front, front_held, front_link, front_split, front_free, front_below, pool_fits}

@@ -1,8 +1,8 @@
 use Rattle.std.proofs.Common.{◌≤◌, sym, ap, subst, ◌∙◌}
-use Rattle.rx_arena.specs.Node.{mark_of, with_mark, changed}
-use Rattle.rx_arena.specs.Held.{IsHeld}
+use Rattle.rx_arena.specs.Inner.Node.{mark_of, with_mark, changed}
+use Rattle.rx_arena.specs.Inner.Held.{IsHeld}
 use Rattle.rx_arena.specs.Put.{altered}
-use Rattle.rx_arena.specs.Pool.{PoolState}
+use Rattle.rx_arena.specs.Inner.Pool.{PoolState}
 use Rattle.rx_arena.proofs.PoolStepLemmas.{Keeps, cells_in, mark_of_small, kept-step, step_pool, step_state, held_in_store, small_there}
 use Rattle.rx_arena.proofs.pool.Pool.set_mark.Goals.{After-set_mark}
 use Rattle.rx_arena.proofs.pool.Pool.set_mark.Goals as goal

@@ -1,5 +1,5 @@
 use Rattle.std.proofs.Common.{not, refl, ap, ◌∙◌}
-use Rattle.rx_arena.specs.Pool.{PoolState}
+use Rattle.rx_arena.specs.Inner.Pool.{PoolState}
 use Rattle.rx_arena.proofs.PoolStepLemmas.{same-step, step_pool, step_state}
 use Rattle.rx_arena.proofs.pool.Pool.turn.Goals as goal
 

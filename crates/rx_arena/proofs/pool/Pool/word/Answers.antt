@@ -1,7 +1,7 @@
 use Rattle.std.proofs.Common.{◌≡◌, None, IfSome, get_or, sym, subst}
-use Rattle.rx_arena.specs.Held.{IsHeld}
+use Rattle.rx_arena.specs.Inner.Held.{IsHeld}
 use Rattle.rx_arena.specs.Faces.{word_of}
-use Rattle.rx_arena.specs.Pool.{PoolState}
+use Rattle.rx_arena.specs.Inner.Pool.{PoolState}
 use Rattle.rx_arena.proofs.PoolStepLemmas.{within_store, word_there}
 use Rattle.rx_arena.proofs.pool.Pool.word.Goals as goal
 

@@ -1,4 +1,4 @@
-use Rattle.rx_arena.specs.Node.{next_in}
+use Rattle.rx_arena.specs.Inner.Node.{next_in}
 use Rattle.rx_arena.proofs.AgreesLemmas.{named_at, link_in}
 use Rattle.rx_arena.proofs.store.Store.next.Goals as goal
 

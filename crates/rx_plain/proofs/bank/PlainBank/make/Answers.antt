@@ -6,7 +6,7 @@ use Rattle.rx_plain.specs.declared.slots.Slot.{Slot}
 use Rattle.rx_plain.specs.Slots.{heap_of, roots_of, cell_of}
 use Rattle.rx_plain.specs.State.{store_of}
 use Rattle.rx_plain.proofs.SlotLemmas.{Puts, Puts-set, Puts-push, Unrooted-puts}
-use Rattle.rx_plain.specs.Soundness.{table, taken-le}
+use Rattle.rx_plain.specs.Inner.Soundness.{table, taken-le}
 use Rattle.rx_plain.proofs.MakingLemmas.{found, put-whole, put-distinct, put-len-by, put-makes, put-refuses, all-taken}
 use Rattle.rx_plain.proofs.ContentLemmas.{same-whole, same-content}
 use Rattle.std.specs.FinMap as map

@@ -3,7 +3,7 @@ use Rattle.std.specs.Prelude.{slice_set}
 use Rattle.std.specs.FinMap as map
 use Rattle.rx_term.specs.Heap.{IsDistinct}
 use Rattle.rx_plain.specs.Slots.{heap_of}
-use Rattle.rx_plain.specs.Soundness.{table}
+use Rattle.rx_plain.specs.Inner.Soundness.{table}
 use Rattle.rx_plain.proofs.ReadingLemmas.{held-cell, held-within, held-index}
 use Rattle.rx_plain.proofs.CountingLemmas.{recounted, recount-heap, recount-len, recount-store, recount-unrooted, recount-counts}
 use Rattle.rx_term.proofs.BankLemmas.{whole-along, content-unique}

@@ -1,7 +1,7 @@
 use Rattle.std.proofs.Common.{is_some, sym, ap, ◌∙◌}
 use Rattle.std.proofs.lemmas.Option.{slice_get_past}
 use Rattle.rx_plain.specs.Slots.{heap_of, cell_at}
-use Rattle.rx_plain.specs.Soundness.{cell-held}
+use Rattle.rx_plain.specs.Inner.Soundness.{cell-held}
 use Rattle.rx_plain.proofs.ReadingLemmas.{cell-there, read-cell}
 use Rattle.rx_plain.proofs.bank.PlainBankTermBank.holds.Goals as goal
 

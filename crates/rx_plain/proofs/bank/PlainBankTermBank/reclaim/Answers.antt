@@ -3,7 +3,7 @@ use Rattle.std.proofs.Common.{◌≡◌, ◌<◌, ◌≤◌, length, map, sym, a
 use Rattle.std.specs.Prelude.{count_by}
 use Rattle.rx_plain.specs.Marks.{Reaches, AreLinksWithin}
 use Rattle.rx_plain.specs.Slots.{swept_of, is_taken}
-use Rattle.rx_plain.specs.Soundness.{table}
+use Rattle.rx_plain.specs.Inner.Soundness.{table}
 use Rattle.rx_plain.proofs.ReadingLemmas.{held-within}
 use Rattle.rx_plain.proofs.ReclaimingLemmas.{written, swept-back, bank-within, reclaimed-whole, reclaimed-distinct, reclaimed-roots, reclaimed-unrooted, reclaimed-len, reclaimed, count-content}
 use Rattle.rx_plain.proofs.bank.PlainBankTermBank.reclaim.Goals as goal

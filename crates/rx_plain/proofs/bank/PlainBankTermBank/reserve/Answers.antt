@@ -4,7 +4,7 @@ use Rattle.std.specs.FinMap as map
 use Rattle.rx_term.specs.Heap.{IsDistinct}
 use Rattle.rx_plain.specs.Slots.{heap_of, roots_of}
 use Rattle.rx_plain.specs.State.{store_of}
-use Rattle.rx_plain.specs.Soundness.{table, taken-le}
+use Rattle.rx_plain.specs.Inner.Soundness.{table, taken-le}
 use Rattle.rx_plain.proofs.ContentLemmas.{same-whole, same-content}
 use Rattle.rx_plain.proofs.RoomLemmas.{same-slots-reserve, same-slots-refused}
 use Rattle.rx_plain.proofs.bank.PlainBankTermBank.reserve.Goals as goal

@@ -1,5 +1,5 @@
 use Rattle.std.proofs.Common.{◌≤◌, arith, length}
-use Rattle.rx_plain.specs.Soundness.{taken-le}
+use Rattle.rx_plain.specs.Inner.Soundness.{taken-le}
 use Rattle.rx_plain.proofs.bank.PlainBankTermBank.spare.Goals as goal
 use Rattle.rx_plain.proofs.bank.PlainBankTermBank.spare.Goals.{then-room-self, else-room-self}
 

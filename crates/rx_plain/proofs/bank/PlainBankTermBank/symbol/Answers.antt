@@ -6,7 +6,7 @@ use Rattle.rx_names.specs.Names.{symbols_of}
 use Rattle.std.proofs.Common.{length}
 use Rattle.rx_plain.specs.Slots.{heap_of, roots_of}
 use Rattle.rx_plain.specs.State.{store_of}
-use Rattle.rx_plain.specs.Soundness.{bank-heap}
+use Rattle.rx_plain.specs.Inner.Soundness.{bank-heap}
 use Rattle.rx_names.proofs.NameLemmas.{kept-interned}
 use Rattle.rx_names.proofs.RenamingLemmas.{renamed-whole, renamed-content, renamed-adds, renamed-same}
 use Rattle.rx_plain.proofs.bank.PlainBankTermBank.symbol.Goals as goal

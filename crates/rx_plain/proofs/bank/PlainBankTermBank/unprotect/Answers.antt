@@ -1,4 +1,4 @@
-use Rattle.rx_plain.specs.Soundness.{sound}
+use Rattle.rx_plain.specs.Inner.Soundness.{sound}
 use Rattle.rx_plain.proofs.bank.PlainBankTermBank.unprotect.Goals as goal
 
 pub roots-count-requires : goal.roots-count-requires

@@ -1,7 +1,7 @@
 use Rattle.std.proofs.Common.{refl, Err, ap, is_some, sym, ◌∙◌}
 use Rattle.rx_pattern.specs.Filling.{filling}
 use Rattle.rx_run.specs.PatternRuns.{made_due}
-use Rattle.rx_run.specs.PatternAnswers.{answer_due}
+use Rattle.rx_run.specs.Inner.PatternAnswers.{answer_due}
 use Rattle.rx_term.proofs.WalkLemmas.{trees_from-AllHeld}
 use Rattle.rx_run.proofs.PatternTermLemmas.{made_here}
 use Rattle.rx_run.proofs.pattern.answer.make_of_elements.Goals as goal

@@ -1,7 +1,7 @@
 use Rattle.std.proofs.Common.{Some, subst}
 use Rattle.rx_term.specs.Tree.{Tree}
 use Rattle.rx_run.specs.PatternRuns.{due_of_args}
-use Rattle.rx_run.specs.PatternAnswers.{IsPatternRead, answer_due}
+use Rattle.rx_run.specs.Inner.PatternAnswers.{IsPatternRead, answer_due}
 use Rattle.rx_run.specs.declared.refusal.Reading.{Reading}
 use Rattle.rx_run.proofs.PatternDueLemmas.{good_both, if_ok_map, refused_both}
 use Rattle.rx_run.proofs.pattern.answer.make_of_reading.Goals as goal

@@ -4,7 +4,7 @@ use Rattle.rx_term.specs.declared.Term.{Term}
 use Rattle.rx_text.specs.Verdict.{Verdict, IsVerdict}
 use Rattle.rx_run.specs.TermRuns.{IsReadingOf}
 use Rattle.rx_run.specs.PatternRuns.{due_of_args}
-use Rattle.rx_run.specs.PatternAnswers.{answer_due}
+use Rattle.rx_run.specs.Inner.PatternAnswers.{answer_due}
 use Rattle.rx_run.specs.Refusals.{refusal_due}
 use Rattle.rx_run.specs.declared.ending.Source.TheVariants as source
 use Rattle.rx_run.specs.declared.refusal.Reading.{Reading}

@@ -5,7 +5,7 @@ use Rattle.rx_term.specs.declared.Term.{Term}
 use Rattle.rx_pattern.specs.Matching.{matching}
 use Rattle.rx_run.specs.TermRuns.{IsGiven, due_of}
 use Rattle.rx_run.specs.PatternRuns.{match_lines}
-use Rattle.rx_run.specs.PatternAnswers.{answer_due}
+use Rattle.rx_run.specs.Inner.PatternAnswers.{answer_due}
 use Rattle.rx_run.specs.Refusals.{refusal_due}
 use Rattle.rx_run.specs.declared.ending.Source.TheVariants as source
 use Rattle.rx_run.specs.declared.refusal.Reading.{Reading}

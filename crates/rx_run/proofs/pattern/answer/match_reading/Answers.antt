@@ -5,7 +5,7 @@ use Rattle.rx_text.specs.Verdict.{Verdict}
 use Rattle.rx_run.specs.Due.{Due}
 use Rattle.rx_run.specs.TermRuns.{due_of}
 use Rattle.rx_run.specs.PatternRuns.{match_lines}
-use Rattle.rx_run.specs.PatternAnswers.{IsPatternRead, answer_due}
+use Rattle.rx_run.specs.Inner.PatternAnswers.{IsPatternRead, answer_due}
 use Rattle.rx_run.specs.declared.refusal.Reading.{Reading}
 use Rattle.rx_run.proofs.PatternDueLemmas.{good_both, if_ok_map, no_pattern, refused_both}
 use Rattle.rx_run.proofs.pattern.answer.match_reading.Goals as goal

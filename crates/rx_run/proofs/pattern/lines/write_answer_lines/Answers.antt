@@ -1,6 +1,6 @@
 use Rattle.std.proofs.Common.{subst, sym}
 use Rattle.rx_run.specs.Run.{Stops}
-use Rattle.rx_run.specs.PatternAnswers.{answer_lines}
+use Rattle.rx_run.specs.Inner.PatternAnswers.{answer_lines}
 use Rattle.rx_run.specs.TermRuns.{line_at}
 use Rattle.rx_run.specs.declared.pattern.answer.Answer.{Answer}
 use Rattle.rx_run.proofs.ErrorLemmas.{if_err_at}

@@ -1,4 +1,4 @@
-use Rattle.rx_run.specs.PatternAnswers.{answer_due}
+use Rattle.rx_run.specs.Inner.PatternAnswers.{answer_due}
 use Rattle.rx_run.specs.declared.ending.RunFault.TheVariants.{Write}
 use Rattle.rx_run.proofs.ErrorLemmas.{if_err_at}
 use Rattle.rx_run.proofs.ReadDueLemmas.{appends_flushed, flush_refused}

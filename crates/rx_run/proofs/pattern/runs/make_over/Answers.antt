@@ -1,7 +1,7 @@
 use Rattle.std.proofs.Common.{Some}
 use Rattle.std.proofs.lemmas.Result.{IfErr-weaker}
 use Rattle.rx_run.specs.PatternRuns.{IsMakeDue, make_due}
-use Rattle.rx_run.specs.PatternAnswers.{answer_lines}
+use Rattle.rx_run.specs.Inner.PatternAnswers.{answer_lines}
 use Rattle.rx_run.proofs.FaultLemmas.{no_reader_writing, reports_ran_out, room_ran_out, room_writing, unwritten}
 use Rattle.rx_run.proofs.ErrorLemmas.{if_err_at}
 use Rattle.rx_run.proofs.PatternDueLemmas.{same_due}

@@ -1,6 +1,6 @@
 use Rattle.std.proofs.lemmas.Result.{IfErr-weaker}
 use Rattle.rx_run.specs.PatternRuns.{IsMatchDue, match_due}
-use Rattle.rx_run.specs.PatternAnswers.{answer_lines}
+use Rattle.rx_run.specs.Inner.PatternAnswers.{answer_lines}
 use Rattle.rx_run.proofs.FaultLemmas.{reports_unwritten, room_unwritten, room_writing}
 use Rattle.rx_run.proofs.ErrorLemmas.{if_err_at, on_ok_any}
 use Rattle.rx_run.proofs.PatternDueLemmas.{same_due}

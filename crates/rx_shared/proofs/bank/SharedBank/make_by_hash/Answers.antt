@@ -1,6 +1,6 @@
 use Rattle.std.proofs.Common.{subst}
 use Rattle.rx_arena.specs.Arena.{chain_at}
-use Rattle.rx_shared.specs.Finding.{IsAbsent}
+use Rattle.rx_shared.specs.Inner.Finding.{IsAbsent}
 use Rattle.rx_shared.proofs.AddingLemmas.{chain_below}
 use Rattle.rx_shared.proofs.BodyLemmas.{found-cell, nowhere-else}
 use Rattle.rx_shared.proofs.HintLemmas.{found-beside}

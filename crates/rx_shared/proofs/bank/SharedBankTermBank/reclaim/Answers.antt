@@ -1,6 +1,6 @@
 -- What is reached stays, and all else is given back.
 use Rattle.std.proofs.Common.{sym, ◌∙◌}
-use Rattle.rx_shared.specs.Soundness.{bank-law}
+use Rattle.rx_shared.specs.Inner.Soundness.{bank-law}
 use Rattle.rx_sweep.proofs.HomingLemmas.{same_homed}
 use Rattle.rx_shared.proofs.ReadingLemmas.{held-taken}
 use Rattle.rx_shared.proofs.MirroringLemmas.{bank-homed}

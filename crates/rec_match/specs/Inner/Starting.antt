@@ -2,8 +2,8 @@
 use Rattle.std.specs.Prelude.{ℕ, List, length}
 use Rattle.rec_syntax.specs.Syntax.{Spec}
 use Rattle.rec_sorts.specs.Lookup.{symbols}
-use Rattle.rec_match.specs.Built.{AreHeads}
-use Rattle.rec_match.specs.Chains.{AreChains}
+use Rattle.rec_match.specs.Inner.Built.{AreHeads}
+use Rattle.rec_match.specs.Inner.Chains.{AreChains}
 use Rattle.rec_match.specs.declared.chain.Chains.{Chains}
 
 -- chains of the rules of each symbol

@@ -4,8 +4,8 @@ use Rattle.rec_syntax.specs.Syntax as syntax
 use Rattle.rec_syntax.specs.Syntax.{none}
 use Rattle.rec_syntax.specs.Nodes as nodes
 use Rattle.rec_syntax.specs.Nodes.{newest, assembled, made_by, newest_term}
-use Rattle.rec_syntax.specs.Machine as machine
-use Rattle.rec_syntax.specs.Machine.{Frame, Config}
+use Rattle.rec_syntax.specs.Inner.Machine as machine
+use Rattle.rec_syntax.specs.Inner.Machine.{Frame, Config}
 use Rattle.rec_syntax.specs.Lexemes.{word_of, section_of, token_of, Within}
 use Rattle.rec_syntax.specs.Parts.{words_of, node_of, term_of, condition_of, spec_of, IsTerm, IsRule, AreSections}
 use Rattle.rec_syntax.specs.declared.lexer.Span.{Span}

@@ -1,7 +1,7 @@
 -- The marks, which lie beside the cells, a byte for each slot.
 use Rattle.std.specs.Prelude.{◌≡◌, ℕ, List, [], ◌∷◌, length, Option}
 use Rattle.std.specs.Option.{option_map}
-use Rattle.rx_arena.specs.Node.{Node, with_mark}
+use Rattle.rx_arena.specs.Inner.Node.{Node, with_mark}
 
 -- what lies in the slots, each with its mark
 abbrev pub with_marks : List ℕ → List (Option Node) → List (Option Node)

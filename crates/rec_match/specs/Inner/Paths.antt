@@ -6,7 +6,7 @@ use Rattle.rec_sorts.specs.declared.letters.Meaning.TheVariants.{Symbol}
 use Rattle.rec_match.specs.Growing.{State, StandFor}
 use Rattle.rec_match.specs.Parts.{Coded}
 use Rattle.rec_match.specs.Rows.{Row}
-use Rattle.rec_match.specs.Running.{root_rows}
+use Rattle.rec_match.specs.Inner.Running.{root_rows}
 use Rattle.rec_match.specs.Tasks.{Task, AreLeft, Growing, GoesOn}
 use Rattle.rec_match.specs.declared.forest.Forest.{Forest}
 use Rattle.rec_match.specs.declared.parts.Code.{Code}

@@ -1,0 +1,8 @@
+-- What the proofs speak of inside this crate: no public contract cites it.
+pub mod Answered
+pub mod Building
+pub mod Compiled
+pub mod Given
+pub mod Made
+pub mod Pace
+pub mod Written

@@ -1,0 +1,9 @@
+-- What the proofs speak of inside this crate: no public contract cites it.
+pub mod Asking
+pub mod Built
+pub mod Chains
+pub mod Held
+pub mod Paths
+pub mod Running
+pub mod Shares
+pub mod Starting
