@@ -99,8 +99,12 @@ def colours():
 class Module:
     """The module of the page, in node."""
 
+    # A node that takes memories of 64 bits only when it is asked to.
+    WIDE = "--experimental-wasm-memory64"
+
     def __enter__(self):
-        words = ["node", f"{TOP}/tests/web_module.js", PAGE]
+        known = subprocess.run(["node", "--v8-options"], stdout=subprocess.PIPE, text=True, check=False).stdout
+        words = ["node", *[self.WIDE] * (self.WIDE in known), f"{TOP}/tests/web_module.js", PAGE]
         self.node = subprocess.Popen(words, stdin=subprocess.PIPE, stdout=subprocess.PIPE, text=True)
         return self
 
@@ -196,6 +200,9 @@ def module(path):
     counts, statuses, places, last, lacking = 0, {}, 0, b"", set()
     with Module() as of_page, tempfile.TemporaryDirectory() as folder:
         exports = of_page.ask("exports", [])
+        if exports is None:
+            print("not tried: the module, since this node takes no memory of 64 bits, and there was no wasm-opt")
+            return
         for name, texts, options in runs():
             if f"recw_{name}" not in exports:
                 lacking.add(name)

@@ -6,7 +6,7 @@
 // status, what the program says on standard error, and the output in base64. Each run has an instance of its own. A line
 // of the name `places` has the texts of a trace, without whole terms and with them, and is answered by how many of its
 // redexes are found in the whole terms, and by how many are not though these are not cut. One of the name `exports` is
-// answered by the names of what the module has.
+// answered by the names of what the module has, or by null where its memory has 64 bits and this node takes none such.
 'use strict';
 const fs = require('fs');
 const readline = require('readline');
@@ -16,7 +16,11 @@ const { callsOf, toldOf } = require('../web/run.js');
 const { readTrace, placeOfRedex } = require('../web/steps.js');
 
 const packed = /<script type="application\/octet-stream" id="module">([^<]*)</.exec(page)[1];
-const module_ = new WebAssembly.Module(zlib.gunzipSync(Buffer.from(packed, 'base64')));
+const code = zlib.gunzipSync(Buffer.from(packed, 'base64'));
+// no more than a memory of 64 bits, of a page at least
+const WIDE = Uint8Array.of(0, 0x61, 0x73, 0x6d, 1, 0, 0, 0, 5, 3, 1, 4, 1);
+const isTaken = WebAssembly.validate(code) || WebAssembly.validate(WIDE);
+const module_ = isTaken ? new WebAssembly.Module(code) : null;
 
 function placesIn(texts) {
   const [short, long] = texts.map((it) => Buffer.from(it, 'base64').toString());
@@ -26,7 +30,7 @@ function placesIn(texts) {
 }
 
 function answer({ name, texts, options }) {
-  if (name === 'exports') return WebAssembly.Module.exports(module_).map((it) => it.name);
+  if (name === 'exports') return module_ && WebAssembly.Module.exports(module_).map((it) => it.name);
   if (name === 'places') return placesIn(texts);
   const call = callsOf(new WebAssembly.Instance(module_, {}));
   const given = options && 'steps' in options ? { ...options, steps: BigInt(options.steps) } : options;
