@@ -46,13 +46,7 @@ impl<W: Write> Console<W> {
             return Ok(1);
         }
         self.hand_on()?;
-        let behind = bytes.iter().skip(1);
-        let end = behind
-            .take_while(|byte| !is_control(**byte) && **byte != BEGINNING)
-            .count()
-            .saturating_add(1);
-        let (front, _) = bytes.split_at(end.min(bytes.len()));
-        self.output.write(front)
+        self.output.write(front_of(bytes))
     }
 
     /// Writes the byte that was held back, where there is one.
@@ -63,6 +57,14 @@ impl<W: Write> Console<W> {
         self.is_held = false;
         self.output.write_all(&[BEGINNING])
     }
+}
+
+/// The first byte, and those behind it before the next that may be a control byte.
+fn front_of(bytes: &[u8]) -> &[u8] {
+    let plain = bytes.iter().skip(1);
+    let plain = plain.take_while(|byte| !is_control(**byte) && **byte != BEGINNING);
+    let (front, _) = bytes.split_at(plain.count().saturating_add(1).min(bytes.len()));
+    front
 }
 
 /// Whether a byte is a control character that is neither a line's end nor a tab.

@@ -46,16 +46,7 @@ pub enum Which {
 /// The parts of a term in a text that keeps to the grammar, each before its arguments.
 pub fn parts_of(alloc: Global, text: &[u8], which: Which) -> Result<Vec<Part<'_>>, AllocError> {
     let mut walk = Walk::new(alloc, which);
-    let mut rest = text;
-    // each turn but the last takes a byte at least
-    for _ in 0..=text.len() {
-        let Some(lexeme) = next_lexeme(rest) else {
-            break;
-        };
-        let at = text.len().saturating_sub(lexeme.from.len());
-        walk.take(lexeme.token, at)?;
-        rest = lexeme.behind;
-    }
+    walk.take_all(text)?;
     Ok(walk.parts)
 }
 
@@ -83,14 +74,21 @@ struct Lexeme<'a> {
 
 /// The first token of a text, where there is one.
 fn next_lexeme(text: &[u8]) -> Option<Lexeme<'_>> {
-    let blanks = text.iter().position(|byte| !is_layout(*byte))?;
-    let from = text.get(blanks..)?;
+    let from = without_layout(text);
     let (token, length) = first_token(from, *from.first()?)?;
+    let (_, behind) = from.split_at(length.min(from.len()));
     Some(Lexeme {
         token,
         from,
-        behind: from.get(length..)?,
+        behind,
     })
+}
+
+/// A text from its first byte on that does not only stand between tokens.
+fn without_layout(text: &[u8]) -> &[u8] {
+    let blanks = text.iter().take_while(|byte| is_layout(**byte)).count();
+    let (_, from) = text.split_at(blanks.min(text.len()));
+    from
 }
 
 /// The token with which a text begins, of which this is the first byte, and how many bytes it has.
@@ -122,10 +120,10 @@ fn is_layout(byte: u8) -> bool {
 
 /// How many bytes a quoted name has with its quotes, and the name.
 fn quoted_name(from: &[u8]) -> Option<(Token<'_>, usize)> {
-    let length = quoted_length(from.get(1..)?)?;
-    let end = length.checked_add(1)?;
-    let name = from.get(1..end)?;
-    Some((Token::Name(Kind::Quoted, name), end.checked_add(1)?))
+    let (_, inside) = from.split_at(from.len().min(1));
+    let length = quoted_length(inside)?;
+    let (name, _) = inside.split_at(length.min(inside.len()));
+    Some((Token::Name(Kind::Quoted, name), length.saturating_add(2)))
 }
 
 /// How many bytes stand before the quote that ends a name.
@@ -203,6 +201,21 @@ impl<'a> Walk<'a> {
         }
     }
 
+    /// Goes over all tokens of a text.
+    fn take_all(&mut self, text: &'a [u8]) -> Result<(), AllocError> {
+        let mut rest = text;
+        // each turn but the last takes a byte at least
+        for _ in 0..=text.len() {
+            let Some(lexeme) = next_lexeme(rest) else {
+                break;
+            };
+            let at = text.len().saturating_sub(lexeme.from.len());
+            self.take(lexeme.token, at)?;
+            rest = lexeme.behind;
+        }
+        Ok(())
+    }
+
     /// Goes on by the token at `at`.
     fn take(&mut self, token: Token<'a>, at: usize) -> Result<(), AllocError> {
         if self.is_over {
@@ -216,6 +229,11 @@ impl<'a> Walk<'a> {
             self.skip(token);
             return Ok(());
         }
+        self.take_outside(token, at)
+    }
+
+    /// The same outside of what has no parts.
+    fn take_outside(&mut self, token: Token<'a>, at: usize) -> Result<(), AllocError> {
         let was_named = self.is_named;
         self.is_named = matches!(token, Token::Name(_, _));
         match token {
@@ -262,9 +280,7 @@ impl<'a> Walk<'a> {
     /// One argument more of the innermost application.
     fn next_argument(&mut self) -> Option<(usize, usize)> {
         let parent = self.open.last().copied()?;
-        let part = self.parts.get_mut(parent)?;
-        let before = part.count;
-        part.count = before.saturating_add(1);
+        let before = count_argument(&mut self.parts, parent)?;
         Some((parent, before))
     }
 
@@ -304,4 +320,12 @@ impl<'a> Walk<'a> {
             part.is_annotated = true;
         }
     }
+}
+
+/// One argument more of the part before which so many stand; how many it had, where it is there.
+fn count_argument(parts: &mut [Part<'_>], at: usize) -> Option<usize> {
+    let part = parts.get_mut(at)?;
+    let before = part.count;
+    part.count = before.saturating_add(1);
+    Some(before)
 }

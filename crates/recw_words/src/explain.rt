@@ -68,6 +68,11 @@ fn explain_spot<W: Write>(refusal: Refusal<'_>, spot: &Spot<'_>, out: &mut W) ->
 /// Writes a text's name, a line, where the name has none, and a column.
 fn write_spot<W: Write>(text: TextName<'_>, spot: &Spot<'_>, out: &mut W) -> io::Result<()> {
     text.write(out)?;
+    write_numbers(text, spot, out)
+}
+
+/// Writes a line, where the text's name has none, and a column.
+fn write_numbers<W: Write>(text: TextName<'_>, spot: &Spot<'_>, out: &mut W) -> io::Result<()> {
     let Spot { line, column, .. } = *spot;
     match text {
         TextName::Line { .. } => write!(out, ":{column}: "),
@@ -147,13 +152,23 @@ fn explain_among<W: Write>(
     match first_broken(syntax, parts, refusal.rule) {
         Some(part) => {
             let spot = place_in(texts.terms, part.at);
-            explain_spot(refusal, &spot, out)?;
-            explain_item(texts.item(), out)?;
+            explain_element(refusal, texts.item(), &spot, out)?;
             write_part(syntax, parts, &part, refusal.rule, out)?;
             show_below(&spot, out)
         }
         None => explain_text(refusal, texts.item(), out),
     }
+}
+
+/// Says where a refusal of a given term stands, what is wrong, and in which item of a list.
+fn explain_element<W: Write>(
+    refusal: Refusal<'_>,
+    item: Option<Item>,
+    spot: &Spot<'_>,
+    out: &mut W,
+) -> io::Result<()> {
+    explain_spot(refusal, spot, out)?;
+    explain_item(item, out)
 }
 
 /// Tells which item of a list a refusal is about, where that is known.

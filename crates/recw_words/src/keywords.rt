@@ -6,7 +6,7 @@ use rec_syntax::{Span, SyntaxFault, read_spec};
 use std::alloc::{AllocError, Global};
 
 /// The reserved words, of which all but the last two begin or end a section.
-const RESERVED: [&str; 10] = [
+static RESERVED: [&str; 10] = [
     "REC-SPEC", "SORTS", "CONS", "OPNS", "VARS", "RULES", "EVAL", "END-SPEC", "and-if", "if",
 ];
 

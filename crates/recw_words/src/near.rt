@@ -6,20 +6,23 @@ fn gap(word: &[u8], other: &[u8]) -> usize {
     if word.eq_ignore_ascii_case(other) {
         return 0;
     }
-    let front = word
-        .iter()
-        .zip(other.iter())
-        .take_while(|pair| pair.0 == pair.1)
-        .count();
+    let front = common_front(word, other);
     let (_, word) = word.split_at(front.min(word.len()));
     let (_, other) = other.split_at(front.min(other.len()));
-    let back = word
-        .iter()
-        .rev()
-        .zip(other.iter().rev())
-        .take_while(|pair| pair.0 == pair.1)
-        .count();
+    let back = common_back(word, other);
     word.len().max(other.len()).saturating_sub(back)
+}
+
+/// With how many bytes both words begin.
+fn common_front(word: &[u8], other: &[u8]) -> usize {
+    let pairs = word.iter().zip(other.iter());
+    pairs.take_while(|pair| pair.0 == pair.1).count()
+}
+
+/// With how many bytes both words end.
+fn common_back(word: &[u8], other: &[u8]) -> usize {
+    let pairs = word.iter().rev().zip(other.iter().rev());
+    pairs.take_while(|pair| pair.0 == pair.1).count()
 }
 
 /// In how many bytes a word may differ from one that is meant, by its length.

@@ -35,21 +35,27 @@ pub fn line_of(text: &[u8], at: usize) -> usize {
 /// The place `at` bytes behind the text's beginning.
 pub fn place_in(text: &[u8], at: usize) -> Spot<'_> {
     let (above, below) = text.split_at(at.min(text.len()));
-    let width = above
-        .iter()
-        .rev()
-        .position(|byte| *byte == LINE_FEED)
-        .unwrap_or(above.len());
-    let rest = below
-        .iter()
-        .position(|byte| *byte == LINE_FEED)
-        .unwrap_or(below.len());
+    let before = last_line(above);
     Spot {
         line: line_of(text, at),
-        column: width.saturating_add(1),
-        before: &above[above.len() - width..],
-        behind: without_return(&below[..rest]),
+        column: before.len().saturating_add(1),
+        before,
+        behind: without_return(first_line(below)),
     }
+}
+
+/// A text behind its last line feed.
+fn last_line(text: &[u8]) -> &[u8] {
+    let line = text.iter().rev().take_while(|byte| **byte != LINE_FEED);
+    let (_, line) = text.split_at(text.len().saturating_sub(line.count()));
+    line
+}
+
+/// A text before its first line feed.
+fn first_line(text: &[u8]) -> &[u8] {
+    let line = text.iter().take_while(|byte| **byte != LINE_FEED);
+    let (line, _) = text.split_at(line.count().min(text.len()));
+    line
 }
 
 /// A line without the carriage return before its end.

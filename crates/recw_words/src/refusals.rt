@@ -4,7 +4,7 @@ use std::io;
 use std::io::Write;
 
 /// Each refusal's name, and what is wrong.
-const REFUSALS: [(&str, &str); 24] = [
+static REFUSALS: [(&str, &str); 24] = [
     ("L1", "the text has more than 16777216 bytes"),
     ("G", "no specification has this here"),
     ("S1", "a sort is declared twice"),

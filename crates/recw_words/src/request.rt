@@ -136,12 +136,8 @@ fn invocation_or_error<'a>(
     command: &mut Command<'a>,
     matches: &ArgMatches<'a>,
 ) -> Result<Invocation<'a>, Error> {
-    let given = given_of(alloc, matches)?;
     match asked_by(matches) {
-        Ok(asked) if asked.reads_twice(&given) => {
-            Err(command.error(READ_TWICE.kind, READ_TWICE.message)?)
-        }
-        Ok(asked) => Ok(asked.with(given)),
+        Ok(asked) => Ok(asked.with(given_of(alloc, matches)?)),
         Err(Wrong { kind, message }) => Err(command.error(kind, message)?),
     }
 }
@@ -174,13 +170,18 @@ struct Bare<'a> {
     has_outcome: bool,
 }
 
-impl<'a> Bare<'a> {
-    /// Whether the standard input is among the files to check twice.
-    fn reads_twice(&self, given: &[&str]) -> bool {
-        let standard = given.iter().filter(|path| **path == STANDARD_INPUT).count();
-        matches!(self.request, Request::Check { .. }) && standard > 1
+/// Whether the standard input is among the files to check twice.
+fn names_twice(request: &Request<'_>, inner: &ArgMatches<'_>) -> bool {
+    match (request, inner.get_strs("SPEC")) {
+        (Request::Check { .. }, Some(paths)) => {
+            let standard = paths.iter().filter(|path| **path == STANDARD_INPUT);
+            standard.count() > 1
+        }
+        _ => false,
     }
+}
 
+impl<'a> Bare<'a> {
     /// The same with these given terms.
     fn with(self, given: Vec<&'a str>) -> Invocation<'a> {
         let Bare {
@@ -199,9 +200,16 @@ impl<'a> Bare<'a> {
 
 /// What the matched words ask for, or what is wrong with them.
 fn asked_by<'a>(matches: &ArgMatches<'a>) -> Result<Bare<'a>, Wrong> {
-    let (name, inner) = matches.subcommand().ok_or(MISSING)?;
+    match matches.subcommand() {
+        Some((name, inner)) => asked_of(name, inner),
+        None => Err(MISSING),
+    }
+}
+
+/// What the words of a subcommand ask for, or what is wrong with them.
+fn asked_of<'a>(name: &str, inner: &ArgMatches<'a>) -> Result<Bare<'a>, Wrong> {
     let request = request_of(name, inner).ok_or(MISSING)?;
-    if request.is_read_twice() {
+    if request.is_read_twice() || names_twice(&request, inner) {
         return Err(READ_TWICE);
     }
     Ok(Bare {

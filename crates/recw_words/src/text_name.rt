@@ -34,12 +34,16 @@ impl TextName<'_> {
 /// Writes a text, each control character by its number.
 pub fn write_visible<W: Write>(text: &str, out: &mut W) -> io::Result<()> {
     for letter in text.chars() {
-        if letter.is_control() {
-            let number = u32::from(letter);
-            write!(out, "\\x{number:02x}")?;
-        } else {
-            write!(out, "{letter}")?;
-        }
+        write_letter(letter, out)?;
     }
     Ok(())
+}
+
+/// Writes a character, a control character by its number.
+fn write_letter<W: Write>(letter: char, out: &mut W) -> io::Result<()> {
+    if !letter.is_control() {
+        return write!(out, "{letter}");
+    }
+    let number = u32::from(letter);
+    write!(out, "\\x{number:02x}")
 }
