@@ -1,17 +1,16 @@
 -- What the engine of a bank promises, as the bank's calls promise it.
-use Rattle.std.proofs.Common.{◌≡◌, ℕ, List, [], ◌∷◌, is_some, refl, sym, ap, ◌∙◌, subst, arith, zero}
+use Rattle.std.proofs.Common.{◌≡◌, ℕ, List, [], ◌∷◌, refl, sym, ap, ◌∙◌, subst, arith, zero}
 use Rattle.std.specs.Prelude.{Option, Some, None, Result, Ok, Err, IsSome, IfOk, IfErr, IfSome, Contains}
 use Rattle.rx_term.specs.Tree.{Tree, Items, none}
 use Rattle.rx_term.specs.Store.{Store, tree_at, longer}
 use Rattle.rx_term.specs.Steps.{Grows, Keeps, Reclaims, SameBesideContent, MakesOrRefuses}
 use Rattle.rx_term.proofs.StoreLemmas.{some-value}
-use Rattle.rx_term.proofs.KeepLemmas.{Keeps-trans, Keeps-fewer, Keeps-Reclaims, kept-work}
+use Rattle.rx_term.proofs.KeepLemmas.{Keeps-fewer, Keeps-Reclaims, kept-work}
 use Rattle.rx_term.specs.declared.Term.{Term}
 use Rattle.rx_term.specs.declared.faults.BankFault.{BankFault}
 use Rattle.rec_syntax.specs.Syntax.{Spec}
 use Rattle.rec_sorts.specs.TermRules.{broken_by_terms, broken_by_elements}
 use Rattle.rec_sorts.specs.TermsFaults.{IsTermsFault}
-use Rattle.rec_sorts.specs.declared.fault.TermsFault.{TermsFault}
 use Rattle.rec_sorts.specs.declared.fault.TermsFault.TheVariants as terms
 use Rattle.rec_memo.specs.Pairs.{Pairs}
 use Rattle.rec_engine.specs.Cells.{RoomOnly}

@@ -2,7 +2,7 @@
 use Rattle.std.proofs.Common.{◌≡◌, ◌≢◌, ℕ, zero, suc, Bool, true, false, List, [], ◌∷◌, ◌++◌, Option, Some, None, refl, sym, ap, ◌∙◌, subst, slice_get, eq-eqb}
 use Rattle.std.specs.Prelude.{Result, Ok, Err, IsSome, IfOk, OnErr, T, nat_eq, option_map, if◌then◌else◌}
 use Rattle.std.proofs.Math.Facts.{eqb_yes}
-use Rattle.std.specs.List.{IsDistinct, AllByRecursion, list_any}
+use Rattle.std.specs.List.{IsDistinct, AllByRecursion}
 use Rattle.std.specs.Option.{option_and_then}
 use Rattle.std.specs.FinMap as map
 use Rattle.rx_term.specs.Name.{Signature}

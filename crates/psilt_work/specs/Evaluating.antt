@@ -1,5 +1,5 @@
 -- What the calls answer that specify and evaluate.
-use Rattle.std.specs.Prelude.{◌≡◌, ◌⊎◌, ℕ, ◌≤◌, ◌<◌, Bool, true, false, ◌&&◌, nat_le, List, [], ◌∷◌, length, Option, Some, None, Result, Ok, Err, IsSome}
+use Rattle.std.specs.Prelude.{◌≡◌, ℕ, ◌≤◌, Bool, true, ◌&&◌, nat_le, List, [], ◌∷◌, length, Some, None, Result, Ok, Err, IsSome}
 use Rattle.rx_term.specs.Tree.{Tree}
 use Rattle.rx_term.specs.Store.{Store, tree_at, cells}
 use Rattle.rx_term.specs.declared.Term.{Term}

@@ -1,5 +1,5 @@
 -- What is seen of the work of a handle.
-use Rattle.std.specs.Prelude.{◌≡◌, ℕ, Bool, true, false, ◌&&◌, nat_le, List, [], None, Result, Ok, Err}
+use Rattle.std.specs.Prelude.{◌≡◌, ℕ, Bool, true, false, ◌&&◌, nat_le, List, [], None, Result, Err}
 use Rattle.rx_term.specs.declared.Term.{Term}
 use Rattle.psilt_work.specs.declared.fault.Fault.{Fault}
 use Rattle.psilt_work.specs.declared.fault.Fault.TheVariants.{Memory, Stale, Range, Unspecified}

@@ -2,7 +2,8 @@
 //! gives it back.
 
 ghost use Rattle.std.specs.Prelude.{◌≡◌, ◌<◌, [], IfErr, IfOk, IsSome, None, OnErr, OnOk, Some};
-ghost use Rattle.std.specs.Prelude.{IfSome, is_some, length};
+ghost use Rattle.std.specs.Prelude.{IfSome, IsErr, IsOk, is_some, length};
+ghost use Rattle.std.specs.Option.{option_map};
 ghost use Rattle.rx_term.specs.Tree.{Items, Tree, none};
 ghost use Rattle.rx_term.specs.Store.{cells, longer, tree_at};
 ghost use Rattle.rx_term.specs.Steps.{Grows, Keeps, SameBesideContent};
@@ -11,14 +12,15 @@ ghost use Rattle.rec_sorts.specs.TermRules.{broken_by_terms};
 ghost use Rattle.rec_sorts.specs.TermsFaults.{IsTermsFault};
 ghost use Rattle.rec_engine.specs.Engine.{AreInRange, IsGiven, IsNormalised, IsOutcome};
 ghost use Rattle.rec_engine.specs.Engine.{eval_tree};
+ghost use Rattle.rec_engine.specs.Prepared.{FitsIn};
 ghost use Rattle.rx_shared.specs.State.{store_of as terms_of};
-ghost use Rattle.psilt_work.specs.Banks.{AreSymbols, IsSpecified, Specified, store_of};
+ghost use Rattle.psilt_work.specs.Banks.{AreSymbols, IsSpecified, specified_by, store_of};
 ghost use Rattle.psilt_work.specs.Evaluating.{IsRoom, IsRoomFault};
 
 use crate::Bank;
 use core::mem::replace_with;
 use indexmap::IndexSet;
-use rec_engine::{Engine, EngineFault, Options, Outcome};
+use rec_engine::{Engine, EngineFault, Options, Outcome, Prepared};
 use rec_sorts::{Checked, TermsFault, check_terms};
 use rx_shared::SharedBank;
 use rx_term::{BankFault, Term};
@@ -30,6 +32,24 @@ struct Wanted {
     alloc: Global,
     checked: Checked,
     options: Options,
+}
+
+impl Wanted {
+    /// The engine over a bank. The error is want of memory, and hands back the bank.
+    fn over(self, bank: SharedBank) -> Result<Engine<SharedBank>, SharedBank>
+        requires { AreInRange self.options }
+        ensures spec { IfOk result (λ e. e.spec ≡ self.checked.spec) }
+        ensures options { IfOk result (λ e. e.options ≡ self.options) }
+        ensures store { IfOk result (λ e. HasMoreSymbols (terms_of bank) (terms_of e.bank)) }
+        ensures refused { IfErr result (λ b. HasMoreSymbols (terms_of bank) (terms_of b)) }
+    {
+        let Wanted {
+            alloc,
+            checked,
+            options,
+        } = self;
+        Engine::over(alloc, checked, bank, options)
+    }
 }
 
 /// A term that is to be evaluated within so many steps.
@@ -72,6 +92,13 @@ pub(crate) fn list_anyway(bank: &mut Bank, t: Term) -> Result<Term, BankFault>
         }
         answer => answer,
     }
+}
+
+/// Nothing takes the place of what was there.
+fn forget<T: Drop>(place: &mut Option<T>)
+    ensures { place.new ≡ None }
+{
+    *place = None;
 }
 
 impl Bank {
@@ -136,29 +163,58 @@ impl Bank {
             prepared,
             symbols,
         } = self;
-        let Wanted {
-            alloc,
-            checked,
-            options,
-        } = wanted;
-        match Engine::over(alloc, checked, shared, options) {
-            Ok(engine) => (Bank::of(engine, symbols), Ok(())),
-            Err(shared) => {
-                let bank = Bank {
-                    shared,
-                    prepared,
-                    symbols,
-                };
-                (bank, Err(AllocError))
-            }
+        match wanted.over(shared) {
+            Ok(engine) => Bank::renewed(engine, prepared, symbols),
+            Err(shared) => Bank::unchanged(shared, prepared, symbols),
         }
+    }
+
+    /// The bank of an engine that takes the place of what was prepared.
+    fn renewed(
+        engine: Engine<SharedBank>,
+        before: Option<Prepared>,
+        symbols: IndexSet<u64>,
+    ) -> (Bank, Result<(), AllocError>)
+        requires { AreSymbols (terms_of engine.bank) symbols.keys }
+        ensures bank { result.0 ≡ record {
+          shared = engine.bank;
+          specified = Some (record { spec = engine.spec; options = engine.options });
+          symbols = symbols.keys;
+        } }
+        ensures done { IsOk result.1 }
+    {
+        drop(before);
+        (Bank::of(engine, symbols), Ok(()))
+    }
+
+    /// The bank with what was prepared, where there is no memory for anything else.
+    fn unchanged(
+        shared: SharedBank,
+        prepared: Option<Prepared>,
+        symbols: IndexSet<u64>,
+    ) -> (Bank, Result<(), AllocError>)
+        requires fits { IfSome prepared (FitsIn (terms_of shared)) }
+        requires known { AreSymbols (terms_of shared) symbols.keys }
+        ensures bank { result.0 ≡ record {
+          shared = shared;
+          specified = option_map specified_by prepared;
+          symbols = symbols.keys;
+        } }
+        ensures refused { IsErr result.1 }
+    {
+        let bank = Bank {
+            shared,
+            prepared,
+            symbols,
+        };
+        (bank, Err(AllocError))
     }
 
     /// Nothing is specified any more.
     pub(crate) fn unspecify(&mut self)
         ensures { self.new ≡ record self.old { specified = None } }
     {
-        self.prepared = None;
+        forget(&mut self.prepared);
     }
 
     /// Asks the rules of terms of the items of a list.

@@ -34,6 +34,17 @@ pub struct Work {
     pub rule: u32,
 }
 
+/// A value in a box.
+fn boxed<T: Drop>(alloc: Global, value: T) -> Result<Box<T>, Fault>
+    ensures value { IfOk result (λ b. b.value ≡ value) }
+    ensures memory { IfErr result (λ fault. fault ≡ Fault.Memory) }
+{
+    match Box::new(alloc, value) {
+        Ok(value) => Ok(value),
+        Err(_) => Err(Fault::Memory),
+    }
+}
+
 impl Work {
     /// Over an empty bank of at most `cap` cells. `Range` where `cap` is 0 or more than
     /// `MOST_CELLS`.
@@ -45,11 +56,8 @@ impl Work {
         if cap == 0 || cap > MOST_CELLS {
             return Err(Fault::Range);
         }
-        let Ok(bank) = SharedBank::new(alloc, cap) else {
-            return Err(Fault::Memory);
-        };
-        match Box::new(alloc, Work::over(alloc, bank)) {
-            Ok(work) => Ok(work),
+        match SharedBank::new(alloc, cap) {
+            Ok(bank) => boxed(alloc, Work::over(alloc, bank)),
             Err(_) => Err(Fault::Memory),
         }
     }

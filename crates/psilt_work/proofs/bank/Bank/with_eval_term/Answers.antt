@@ -1,14 +1,11 @@
-use Rattle.std.proofs.Common.{◌≡◌, Some, sym, ap, ◌∙◌, subst}
-use Rattle.std.specs.Prelude.{IfOk}
+use Rattle.std.proofs.Common.{◌≡◌, sym, ap, ◌∙◌}
 use Rattle.std.specs.Option.{option_map}
-use Rattle.rx_term.specs.Tree.{Tree}
 use Rattle.rx_term.specs.Store.{Store, tree_at}
 use Rattle.rx_term.specs.declared.Term.{Term}
 use Rattle.rx_shared.specs.State as shared
 use Rattle.rec_syntax.specs.Syntax.{Spec}
-use Rattle.rec_engine.specs.Engine.{IsOutcome, IsNormalised, IsGiven, eval_tree}
-use Rattle.rec_engine.specs.declared.engine.Outcome.{Outcome}
-use Rattle.psilt_work.specs.Banks.{BankState, IsSpecified, specified_by, store_of}
+use Rattle.rec_engine.specs.Engine.{IsGiven, eval_tree}
+use Rattle.psilt_work.specs.Banks.{BankState, specified_by, store_of}
 use Rattle.psilt_work.proofs.EvaluatingLemmas.{on_spec, room_is}
 use Rattle.psilt_work.proofs.bank.Bank.with_eval_term.Goals as goal
 
