@@ -104,4 +104,5 @@ def main():
     told_means(largest)
 
 
-main()
+if __name__ == "__main__":
+    main()

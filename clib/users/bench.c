@@ -1,90 +1,228 @@
-/* Nanoseconds a call. */
+/* Nanoseconds of the processor that a call takes: bench [CELLS]. So many new terms of a kind are made, three million where
+ * nothing is said; above them stands what the machine takes for as many cells of the same size without the library. */
 #include "../percalesilt.h"
 #include <stdio.h>
 #include <stdlib.h>
 #include <time.h>
 
-/* Nanoseconds of the processor. */
-static double now(void)
+#define TURNS 10000000
+
+static double begin;
+
+static void start(void)
 {
-    return (double)clock() * (1e9 / CLOCKS_PER_SEC);
+    begin = (double)clock();
 }
 
-int main(void)
+static void tell(const char *what, double times)
 {
-    const int turns = 10000000, cells = 3000000;
+    printf("%-52s %7.1f\n", what, ((double)clock() - begin) * (1e9 / CLOCKS_PER_SEC) / times);
+    fflush(stdout);
+}
+
+/* As large as a cell of the store. */
+struct cell {
+    uint64_t words[8];
+};
+
+static void fill(struct cell *cell, uint64_t word)
+{
+    int i;
+    for (i = 0; i < 8; i++)
+        cell->words[i] = word;
+}
+
+/* A number below a limit that looks as if drawn by chance; the same at each run. */
+static uint32_t drawn(uint32_t i, uint32_t limit)
+{
+    uint64_t mixed = (i + 1) * UINT64_C(0x9E3779B97F4A7C15);
+    mixed = (mixed ^ mixed >> 32) * UINT64_C(0xD6E8FEB86659FD93);
+    return (uint32_t)((mixed >> 32) * limit >> 32);
+}
+
+/* What the machine takes. */
+static int machine(uint32_t cells)
+{
+    struct cell *in_turn = malloc(cells * sizeof *in_turn), *drawn_at = malloc(cells * sizeof *drawn_at);
+    uint64_t sum = 0;
+    uint32_t i;
+    if (in_turn == NULL || drawn_at == NULL)
+        return 1;
+    start();
+    for (i = 0; i < cells; i++)
+        fill(&in_turn[i], i);
+    tell("64 bytes in turn, in new memory", cells);
+    start();
+    for (i = 0; i < cells; i++)
+        fill(&in_turn[i], i);
+    tell("the same again", cells);
+    start();
+    for (i = 0; i < cells; i++)
+        fill(&drawn_at[drawn(i, cells)], i);
+    tell("64 bytes at a place by chance, in new memory", cells);
+    start();
+    for (i = 0; i < cells; i++)
+        fill(&drawn_at[drawn(i, cells)], i);
+    tell("the same again", cells);
+    start();
+    for (i = 0; i < cells; i++)
+        sum += drawn_at[drawn(i + cells, cells)].words[0];
+    tell("8 bytes read at a place by chance", cells);
+    free(in_turn);
+    free(drawn_at);
+    return sum == 1;
+}
+
+/* Makes a list of so many nodes, of one item or of the integers from 0 on. */
+static psilt_term list_of(psilt *p, psilt_term item, int cells)
+{
+    psilt_term list;
+    int i;
+    psilt_nil(p, &list);
+    for (i = 0; i < cells; i++)
+        psilt_cons(p, item, list, &list);
+    return list;
+}
+
+static psilt_term integers(psilt *p, int cells)
+{
+    psilt_term item = 0;
+    int i;
+    for (i = 0; i < cells; i++)
+        psilt_int(p, i, &item);
+    return item;
+}
+
+/* New terms: in new memory, in memory that was reserved, and in memory that was used before. */
+static int new_terms(int cells)
+{
+    psilt p = PSILT_INIT, q = PSILT_INIT;
+    psilt_term item;
+    if (psilt_open(&p, 1u << 30) != PSILT_OK || psilt_open(&q, 1u << 30) != PSILT_OK)
+        return 1;
+    psilt_int(&p, 5, &item);
+    start();
+    list_of(&p, item, cells);
+    tell("a new list node", cells);
+    psilt_reclaim(&p, &item, 0);
+    psilt_int(&p, 5, &item);
+    start();
+    list_of(&p, item, cells);
+    tell("the same behind a reclaim", cells);
+    if (psilt_close(&p) != PSILT_OK || psilt_open(&p, 1u << 30) != PSILT_OK)
+        return 1;
+    start();
+    integers(&p, cells);
+    tell("a new integer", cells);
+    psilt_reclaim(&p, &item, 0);
+    start();
+    integers(&p, cells);
+    tell("the same behind a reclaim", cells);
+    start();
+    if (psilt_reserve(&q, (uint32_t)cells + 2) != PSILT_OK)
+        return 1;
+    tell("room for a cell", cells);
+    start();
+    integers(&q, cells);
+    tell("a new integer where there is room", cells);
+    return psilt_close(&p) == PSILT_OK && psilt_close(&q) == PSILT_OK ? 0 : 1;
+}
+
+/* Looks at terms, and terms that are there. */
+static int known_terms(int cells)
+{
     psilt p = PSILT_INIT;
     psilt_term list, item = 0, t;
-    size_t number, count;
-    double begin;
     int i;
     if (psilt_open(&p, 1u << 30) != PSILT_OK)
         return 1;
-    psilt_nil(&p, &list);
     psilt_int(&p, 5, &t);
-    begin = now();
-    for (i = 0; i < cells; i++)
-        psilt_cons(&p, t, list, &list);
-    printf("a new list node        %6.1f ns\n", (now() - begin) / cells);
-    begin = now();
-    for (i = 0; i < turns; i++)
+    list = list_of(&p, t, cells);
+    start();
+    for (i = 0; i < TURNS; i++)
         psilt_head(&p, list, &item);
-    printf("a head                 %6.1f ns\n", (now() - begin) / turns);
-    begin = now();
+    tell("a head", TURNS);
+    start();
     for (item = list, i = 0; i < cells; i++)
         psilt_tail(&p, item, &item);
-    printf("a tail along the list  %6.1f ns\n", (now() - begin) / cells);
-    psilt_nil(&p, &list);
-    begin = now();
-    for (i = 0; i < cells; i++)
-        psilt_cons(&p, t, list, &list);
-    printf("a list node again      %6.1f ns\n", (now() - begin) / cells);
-    begin = now();
-    for (i = 0; i < cells; i++)
-        psilt_int(&p, i, &item);
-    printf("a new integer          %6.1f ns\n", (now() - begin) / cells);
-    begin = now();
-    for (i = 0; i < turns; i++)
+    tell("a tail along the list", cells);
+    start();
+    list_of(&p, t, cells);
+    tell("a list node that is there", cells);
+    integers(&p, 1024);
+    start();
+    for (i = 0; i < TURNS; i++)
         psilt_int(&p, i & 1023, &item);
-    printf("an integer again       %6.1f ns\n", (now() - begin) / turns);
-    psilt_int(&p, 1023, &item);
-    begin = now();
-    for (i = 0; i < cells; i++) {
-        psilt_term two[2] = {t, item};
-        psilt_appl(&p, (const uint8_t *)"plus", 4, false, two, 2, &item);
-    }
-    printf("a new application of 2 %6.1f ns, 3 cells\n", (now() - begin) / cells);
-    psilt_int(&p, 1023, &item);
-    begin = now();
-    for (i = 0; i < cells; i++) {
-        psilt_term two[2] = {t, item};
-        psilt_appl(&p, (const uint8_t *)"plus", 4, false, two, 2, &item);
-    }
-    printf("it again               %6.1f ns\n", (now() - begin) / cells);
-    psilt_int(&p, 1023, &item);
+    tell("an integer that is there", TURNS);
+    return psilt_close(&p) == PSILT_OK ? 0 : 1;
+}
+
+/* The same name over so many arguments, one within the other. */
+static psilt_term applied(psilt *p, psilt_term first, int cells)
+{
+    psilt_term two[2];
+    int i;
+    two[0] = first;
+    psilt_int(p, 1023, &two[1]);
+    for (i = 0; i < cells; i++)
+        psilt_appl(p, (const uint8_t *)"plus", 4, false, two, 2, &two[1]);
+    return two[1];
+}
+
+static psilt_term applied_by(psilt *p, size_t symbol, psilt_term first, int cells)
+{
+    psilt_term two[2];
+    int i;
+    two[0] = first;
+    psilt_int(p, 1023, &two[1]);
+    for (i = 0; i < cells; i++)
+        psilt_apply(p, symbol, two, 2, &two[1]);
+    return two[1];
+}
+
+/* Applications, and what a pattern does with one. */
+static int applications(int cells)
+{
+    psilt p = PSILT_INIT;
+    psilt_term item = 0, t, two[2];
+    size_t number, count;
+    int i;
+    if (psilt_open(&p, 1u << 30) != PSILT_OK)
+        return 1;
+    psilt_int(&p, 5, &t);
+    start();
+    item = applied(&p, t, cells);
+    tell("a new application of 2, with its 2 list nodes", cells);
+    start();
+    applied(&p, t, cells);
+    tell("one that is there", cells);
     psilt_symbol(&p, (const uint8_t *)"plus", 4, false, 2, &number);
-    begin = now();
-    for (i = 0; i < cells; i++) {
-        psilt_term two[2] = {t, item};
-        psilt_apply(&p, number, two, 2, &item);
-    }
-    printf("it again, by its symbol%6.1f ns\n", (now() - begin) / cells);
+    start();
+    applied_by(&p, number, t, cells);
+    tell("one that is there, by its symbol", cells);
     psilt_pattern(&p, (const uint8_t *)"plus(<int>,<term>)", 18, &number);
-    begin = now();
+    start();
     for (i = 0; i < cells; i++)
         psilt_match(&p, number, item, &count);
-    printf("a match with 2 bindings%6.1f ns\n", (now() - begin) / cells);
-    begin = now();
-    for (i = 0; i < turns; i++)
+    tell("a match with 2 bindings", cells);
+    start();
+    for (i = 0; i < TURNS; i++)
         psilt_bound(&p, i & 1, &t);
-    printf("a binding              %6.1f ns\n", (now() - begin) / turns);
-    begin = now();
-    for (i = 0; i < cells; i++) {
-        psilt_term two[2];
-        psilt_bound(&p, 0, &two[0]);
-        psilt_bound(&p, 1, &two[1]);
+    tell("a binding", TURNS);
+    psilt_bound(&p, 0, &two[0]);
+    psilt_bound(&p, 1, &two[1]);
+    start();
+    for (i = 0; i < cells; i++)
         psilt_make(&p, number, two, 2, &t);
-    }
-    printf("a make, which is there %6.1f ns\n", (now() - begin) / cells);
+    tell("a make by a pattern, of a term that is there", cells);
     return t == item && psilt_close(&p) == PSILT_OK ? 0 : 1;
+}
+
+int main(int count, char **words)
+{
+    int cells = count > 1 ? atoi(words[1]) : 3000000;
+    if (cells <= 0 || cells > 100000000)
+        return 2;
+    printf("nanoseconds, by %d cells\n", cells);
+    return machine((uint32_t)cells) || new_terms(cells) || known_terms(cells) || applications(cells);
 }
