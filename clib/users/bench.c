@@ -93,39 +93,40 @@ static psilt_term integers(psilt *p, int cells)
     return item;
 }
 
-/* New terms: in new memory, in memory that was reserved, and in memory that was used before. */
+/* New terms: in new memory, in memory that was used before, and where there is room. */
 static int new_terms(int cells)
 {
-    psilt p = PSILT_INIT, q = PSILT_INIT;
+    psilt lists = PSILT_INIT, numbers = PSILT_INIT, roomy = PSILT_INIT;
     psilt_term item;
-    if (psilt_open(&p, 1u << 30) != PSILT_OK || psilt_open(&q, 1u << 30) != PSILT_OK)
+    if (psilt_open(&lists, 1u << 30) != PSILT_OK || psilt_open(&numbers, 1u << 30) != PSILT_OK
+        || psilt_open(&roomy, 1u << 30) != PSILT_OK)
         return 1;
-    psilt_int(&p, 5, &item);
+    psilt_int(&lists, 5, &item);
     start();
-    list_of(&p, item, cells);
+    list_of(&lists, item, cells);
     tell("a new list node", cells);
-    psilt_reclaim(&p, &item, 0);
-    psilt_int(&p, 5, &item);
+    psilt_reclaim(&lists, &item, 0);
+    psilt_int(&lists, 5, &item);
     start();
-    list_of(&p, item, cells);
+    list_of(&lists, item, cells);
     tell("the same behind a reclaim", cells);
-    if (psilt_close(&p) != PSILT_OK || psilt_open(&p, 1u << 30) != PSILT_OK)
-        return 1;
     start();
-    integers(&p, cells);
+    integers(&numbers, cells);
     tell("a new integer", cells);
-    psilt_reclaim(&p, &item, 0);
+    psilt_reclaim(&numbers, &item, 0);
     start();
-    integers(&p, cells);
+    integers(&numbers, cells);
     tell("the same behind a reclaim", cells);
     start();
-    if (psilt_reserve(&q, (uint32_t)cells + 2) != PSILT_OK)
+    if (psilt_reserve(&roomy, (uint32_t)cells + 2) != PSILT_OK)
         return 1;
     tell("room for a cell", cells);
     start();
-    integers(&q, cells);
+    integers(&roomy, cells);
     tell("a new integer where there is room", cells);
-    return psilt_close(&p) == PSILT_OK && psilt_close(&q) == PSILT_OK ? 0 : 1;
+    if (psilt_close(&lists) != PSILT_OK || psilt_close(&numbers) != PSILT_OK)
+        return 1;
+    return psilt_close(&roomy) == PSILT_OK ? 0 : 1;
 }
 
 /* Looks at terms, and terms that are there. */
