@@ -9,6 +9,7 @@ pub mod NodeLemmas
 pub mod OrderLemmas
 pub mod RewritingLemmas
 pub mod RunLemmas
+pub mod SizeLemmas
 pub mod SpotLemmas
 pub mod TrialLemmas
 pub mod WalkLemmas

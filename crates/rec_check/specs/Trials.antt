@@ -2,12 +2,14 @@
 --     asked y ms st s         what is bound where names, from the last to the first, are asked of
 --                             trees on a stack
 --     Stands y ts s ls v      letters and values stand for terms on a stack and a substitution
-use Rattle.std.specs.Prelude.{ℕ, ◌≡◌, ◌<◌, Bool, true, false, List, [], ◌∷◌, ◌++◌, Option, Some, None, All, cond, nat_eq, option_map, map}
+--     AreSizes ls ns          how many letters the term has that ends at each letter
+--     Matches left term b     whether the left side of these letters matches the term of those
+use Rattle.std.specs.Prelude.{ℕ, ◌≡◌, ◌<◌, ◌+◌, Bool, true, false, List, [], ◌∷◌, ◌++◌, Option, Some, None, All, Contains, cond, get_or, is_some, length, nat_eq, option_map, map, take}
 use Rattle.indexmap.specs.IndexMap.{get}
 use Rattle.rx_term.specs.Tree.{Tree}
-use Rattle.rec_syntax.specs.Syntax.{Term, Terms, none, more, Spec}
+use Rattle.rec_syntax.specs.Syntax.{Term, Terms, none, more, Rule, Spec}
 use Rattle.rec_sorts.specs.Lookup.{is_variable}
-use Rattle.rec_sorts.specs.Binding.{Substitution, value_of, tree_of}
+use Rattle.rec_sorts.specs.Binding.{Substitution, binds, value_of, tree_of}
 use Rattle.rec_sorts.specs.Numbering.{AreLetters, IsMeaning, Named, name_of, named, named_by, variable_count}
 use Rattle.rec_sorts.specs.SpecRules.{fault}
 use Rattle.rec_sorts.specs.declared.letters.Letter.{Letter}
@@ -82,3 +84,15 @@ abbrev pub Asks : Letter → List Letter → Values → Values → Option (List 
 Asks l letters old new found = (y : Spec) (ts : List Term) (s : Substitution) → fault y ≡ None
     → IsMeaning y l.meaning → Stands y ts s letters old
     → LeavesAt y (named_by y l) ts s new found
+
+-- each letter's size is that of the term that ends there
+pub record AreSizes (letters : List Letter) (sizes : List ℕ) : Type 0 where
+  pub long : length sizes ≡ length letters
+  pub each : (i : ℕ) → i < length letters → (y : Spec) (ms : List Named) (t : Term)
+      → map (named_by y) (take (i + 1) letters) ≡ ms ++ named t
+      → get_or sizes i 0 ≡ length (named t)
+
+-- whether the left side of these letters matches the term of those, whose variables are constants
+abbrev pub Matches : List Letter → List Letter → Bool → Type 0
+Matches left term b = (y : Spec) (r : Rule) (t : Term) → fault y ≡ None → Contains y.rules r
+    → AreLetters y left r.left → AreLetters y term t → b ≡ is_some (binds y r.left (tree_of t))

@@ -1,6 +1,6 @@
 //! The words at which a specification breaks a rule.
 
-ghost use Rattle.std.specs.Prelude.{◌≡◌, ◌++◌, All, IfOk, OnOk, flat_map, map};
+ghost use Rattle.std.specs.Prelude.{◌≡◌, ◌++◌, ◌∷◌, All, IfOk, OnOk, flat_map, map};
 ghost use Rattle.rec_syntax.specs.Parts.{
   IsCondition,
   IsRule,
@@ -9,13 +9,22 @@ ghost use Rattle.rec_syntax.specs.Parts.{
   rule_of,
   term_of,
 };
+ghost use Rattle.rec_syntax.specs.Nodes.{flat};
 ghost use Rattle.rec_syntax.specs.Syntax.{head};
-ghost use Rattle.rec_sorts.specs.Lookup.{variable_words};
-ghost use Rattle.rec_sorts.specs.SpecRules.{ill_headed, unknown_sorts, unlike_sides};
+ghost use Rattle.rec_sorts.specs.Lookup.{condition_terms, names, symbols, variable_words};
+ghost use Rattle.rec_sorts.specs.SpecRules.{
+  ill_headed,
+  repeated_sorts,
+  repeated_symbols,
+  taken_variables,
+  unknown_sorts,
+  unlike_sides,
+};
 ghost use Rattle.rec_check.specs.Findings.{HasSame, broken_words};
-ghost use Rattle.rec_check.specs.Lookups.{IsScope, Knows};
-ghost use Rattle.rec_check.specs.Named.{as_word, as_words};
+ghost use Rattle.rec_check.specs.Lookups.{IsScope, Knows, present};
+ghost use Rattle.rec_check.specs.Named.{as_word, as_words, node_words};
 ghost use Rattle.rec_check.specs.Walks.{
+  flat_terms,
   unbound_in,
   unlike_in,
   unlike_in_conditions,
@@ -26,8 +35,8 @@ use crate::finding::Rule;
 use crate::names::Names;
 use crate::scope::Scope;
 use crate::words::{
-    Word, all_nodes, declared_words, named_sorts, node_words, operator_words, push_term,
-    right_nodes, sort_words, symbol_words, term_nodes, variables, word_at,
+    Word, all_nodes, all_words, declared_words, named_sorts, node_words, operator_words,
+    right_words, sort_words, symbol_words, term_nodes, term_words, variables, word_at,
 };
 use rec_syntax::{self, Condition, Syntax, Term};
 use std::alloc::{AllocError, Global};
@@ -64,14 +73,22 @@ fn unknown_sorts<'a>(alloc: Global, syntax: &'a Syntax) -> Result<Vec<Word<'a>>,
     missing(alloc, &known, &sorts)
 }
 
+/// The names of symbols and variables.
+fn declared_names<'a>(alloc: Global, syntax: &'a Syntax) -> Result<Names<'a>, AllocError>
+    ensures { IfOk result (λ known. Knows known
+        (names (symbols syntax.now.spec) ++ variable_words syntax.now.spec.variables)) }
+{
+    let words = declared_words(alloc, syntax)?;
+    Names::of(alloc, &words)
+}
+
 /// The words that are neither symbols nor variables.
 fn unknown_words<'a>(alloc: Global, syntax: &'a Syntax) -> Result<Vec<Word<'a>>, AllocError>
     ensures { IfOk result
         (λ v. HasSame (broken_words syntax.now.spec Rule.WordUnknown) (as_words v.items)) }
 {
-    let known = Names::of(alloc, &declared_words(alloc, syntax)?)?;
-    let nodes = all_nodes(alloc, syntax)?;
-    let words = node_words(alloc, &nodes)?;
+    let known = declared_names(alloc, syntax)?;
+    let words = all_words(alloc, syntax)?;
     missing(alloc, &known, &words)
 }
 
@@ -174,6 +191,38 @@ fn unlike_sides<'a>(alloc: Global, syntax: &'a Syntax) -> Result<Vec<Word<'a>>, 
     Ok(found)
 }
 
+/// The names in a rule's left side.
+fn left_names<'a>(
+    alloc: Global,
+    syntax: &'a Syntax,
+    rule: &rec_syntax::Rule,
+) -> Result<Names<'a>, AllocError>
+    requires { IsRule syntax.now.source rule.now }
+    ensures { IfOk result (λ known. Knows known
+        (node_words (flat (rule_of syntax.now.source rule.now).left))) }
+{
+    let words = term_words(alloc, syntax, &rule.left)?;
+    Names::of(alloc, &words)
+}
+
+/// The variables of a rule's right side and conditions, where these names are those of variables.
+fn used_variables<'a>(
+    alloc: Global,
+    syntax: &'a Syntax,
+    known: &Names<'_>,
+    rule: &rec_syntax::Rule,
+) -> Result<Vec<Word<'a>>, AllocError>
+    requires known { Knows known.now (variable_words syntax.now.spec.variables) }
+    requires sound { IsRule syntax.now.source rule.now }
+    ensures { IfOk result (λ v. as_words v.items
+        ≡ present (variable_words syntax.now.spec.variables)
+        (node_words (flat_terms ((rule_of syntax.now.source rule.now).right
+        ∷ condition_terms (rule_of syntax.now.source rule.now).conditions)))) }
+{
+    let words = right_words(alloc, syntax, rule)?;
+    present(alloc, known, &words)
+}
+
 /// The variables of a rule that are not in its left side, where these names are those of variables.
 fn unbound_of<'a>(
     alloc: Global,
@@ -186,12 +235,8 @@ fn unbound_of<'a>(
     ensures { IfOk result (λ v. as_words v.items
         ≡ unbound_in syntax.now.spec (rule_of syntax.now.source rule.now)) }
 {
-    let mut left = Vec::new(alloc);
-    push_term(syntax, &rule.left, &mut left)?;
-    let bound = Names::of(alloc, &node_words(alloc, &left)?)?;
-    let nodes = right_nodes(alloc, syntax, rule)?;
-    let words = node_words(alloc, &nodes)?;
-    let used = present(alloc, known, &words)?;
+    let bound = left_names(alloc, syntax, rule)?;
+    let used = used_variables(alloc, syntax, known, rule)?;
     missing(alloc, &bound, &used)
 }
 
@@ -237,6 +282,31 @@ fn open_terms<'a>(alloc: Global, syntax: &'a Syntax) -> Result<Vec<Word<'a>>, Al
     present(alloc, &known, &words)
 }
 
+/// The sorts that are declared twice.
+fn repeated_sorts<'a>(alloc: Global, syntax: &'a Syntax) -> Result<Vec<Word<'a>>, AllocError>
+    ensures { IfOk result (λ v. as_words v.items ≡ repeated_sorts syntax.now.spec) }
+{
+    let sorts = sort_words(alloc, syntax)?;
+    repeated(alloc, &[], &sorts)
+}
+
+/// The symbols that are declared twice.
+fn repeated_symbols<'a>(alloc: Global, syntax: &'a Syntax) -> Result<Vec<Word<'a>>, AllocError>
+    ensures { IfOk result (λ v. as_words v.items ≡ repeated_symbols syntax.now.spec) }
+{
+    let symbols = symbol_words(alloc, syntax)?;
+    repeated(alloc, &[], &symbols)
+}
+
+/// The variables that are declared twice, or have a symbol's name.
+fn taken_variables<'a>(alloc: Global, syntax: &'a Syntax) -> Result<Vec<Word<'a>>, AllocError>
+    ensures { IfOk result (λ v. as_words v.items ≡ taken_variables syntax.now.spec) }
+{
+    let symbols = symbol_words(alloc, syntax)?;
+    let variables = variables(alloc, syntax)?;
+    repeated(alloc, &symbols, &variables)
+}
+
 /// All words at which a specification breaks a rule, in any order.
 pub fn broken_words<'a>(
     alloc: Global,
@@ -246,13 +316,9 @@ pub fn broken_words<'a>(
     ensures { IfOk result (λ v. HasSame (broken_words syntax.now.spec rule) (as_words v.items)) }
 {
     match rule {
-        Rule::SortTwice => repeated(alloc, &[], &sort_words(alloc, syntax)?),
-        Rule::SymbolTwice => repeated(alloc, &[], &symbol_words(alloc, syntax)?),
-        Rule::VariableTaken => repeated(
-            alloc,
-            &symbol_words(alloc, syntax)?,
-            &variables(alloc, syntax)?,
-        ),
+        Rule::SortTwice => repeated_sorts(alloc, syntax),
+        Rule::SymbolTwice => repeated_symbols(alloc, syntax),
+        Rule::VariableTaken => taken_variables(alloc, syntax),
         Rule::SortUnknown => unknown_sorts(alloc, syntax),
         Rule::WordUnknown => unknown_words(alloc, syntax),
         Rule::IllFilled => ill_filled(alloc, syntax),

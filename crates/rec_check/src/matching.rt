@@ -3,25 +3,33 @@
 ghost use Rattle.std.specs.Prelude.{
   ◌≡◌,
   ◌++◌,
+  ◌-◌,
+  ◌<◌,
   ◌≤◌,
-  Contains,
   IfOk,
+  IfSome,
   List,
   None,
   OnOk,
+  drop,
   false,
-  is_some,
   length,
   map,
   option_map,
+  take,
   true,
 };
 ghost use Rattle.rec_syntax.specs.Syntax as syntax;
-ghost use Rattle.rec_syntax.specs.Syntax.{Rule, Spec};
-ghost use Rattle.rec_sorts.specs.Binding.{binds, tree_of};
-ghost use Rattle.rec_sorts.specs.Numbering.{AreLetters, Named, named, named_by};
-ghost use Rattle.rec_sorts.specs.SpecRules.{fault};
-ghost use Rattle.rec_check.specs.Trials.{Asks, Binds, IsGiven, value_in};
+ghost use Rattle.rec_syntax.specs.Syntax.{Spec};
+ghost use Rattle.rec_sorts.specs.Numbering.{Named, named, named_by};
+ghost use Rattle.rec_check.specs.Trials.{
+  AreSizes,
+  Asks,
+  Binds,
+  IsGiven,
+  Matches,
+  value_in,
+};
 
 use indexmap::IndexMap;
 use rec_sorts::{Letter, Meaning};
@@ -101,51 +109,109 @@ fn same_letters(left: &[Letter], right: &[Letter]) -> bool
     true
 }
 
-/// How many letters stand before those of the last one of some terms.
-pub(crate) fn before_last(letters: &[Letter]) -> usize
-    ensures within { result ≤ length letters.now }
-    ensures split { (y : Spec) (ms : List Named) (t : syntax.Term)
-        → map (named_by y) letters.now ≡ ms ++ named t → result ≡ length ms }
-{
-    let mut due: usize = 1;
-    let mut at = letters.len();
-    while due > 0 && at > 0 {
-        at -= 1;
-        due = (due - 1).saturating_add(letters[at].count as usize);
+/// The letters of some terms, and for each letter how many letters the term that ends there has.
+#[derive(Clone, Copy, Drop)]
+pub(crate) struct Terms<'t, 's> {
+    pub letters: &'t [Letter],
+    pub sizes: &'s [usize],
+}
+
+impl<'t, 's> Terms<'t, 's> {
+    /// How many letters stand before those of the last term.
+    pub(crate) fn before_last(self) -> usize
+        requires { AreSizes self.letters.now self.sizes.now }
+        ensures within { result ≤ length self.entry.letters.now }
+        ensures split { (y : Spec) (ms : List Named) (t : syntax.Term)
+            → map (named_by y) self.entry.letters.now ≡ ms ++ named t → result ≡ length ms }
+    {
+        match self.sizes.split_last() {
+            Some((size, _others)) => self.letters.len().saturating_sub(*size),
+            None => 0,
+        }
     }
-    at
+
+    /// The first ones of these letters, and those behind them.
+    pub(crate) fn split_at(self, at: usize) -> (Terms<'t, 's>, Terms<'t, 's>)
+        requires sizes { AreSizes self.letters.now self.sizes.now }
+        requires within { at ≤ length self.letters.now }
+        ensures front { result.0.letters.now ≡ take at self.entry.letters.now }
+        ensures back { result.1.letters.now ≡ drop at self.entry.letters.now }
+        ensures front_sizes { AreSizes result.0.letters.now result.0.sizes.now }
+        ensures back_sizes { AreSizes result.1.letters.now result.1.sizes.now }
+    {
+        let (first, letters) = self.letters.split_at(at);
+        let (first_sizes, sizes) = self.sizes.split_at(at);
+        let front = Terms {
+            letters: first,
+            sizes: first_sizes,
+        };
+        (front, Terms { letters, sizes })
+    }
+}
+
+/// How many letters the last term has, by the sizes of those that end before its last letter.
+fn size_of_last(letters: &[Letter], sizes: &[usize]) -> usize
+    requires some { 0 < length letters.now }
+    requires sizes { AreSizes (take (length letters.now - 1) letters.now) sizes.now }
+    ensures { (y : Spec) (ms : List Named) (t : syntax.Term)
+        → map (named_by y) letters.now ≡ ms ++ named t → result ≡ length (named t) }
+{
+    let mut at = letters.len() - 1;
+    let mut due = letters[at].count;
+    while due > 0 && at > 0 {
+        at = at.saturating_sub(sizes[at - 1]);
+        due -= 1;
+    }
+    letters.len() - at
+}
+
+/// For each letter of a term how many letters the term that ends there has.
+pub(crate) fn sizes(alloc: Global, letters: &[Letter]) -> Result<Vec<usize>, AllocError>
+    ensures { IfOk result (λ v. AreSizes letters.now v.items) }
+{
+    let mut sizes = Vec::with_capacity(alloc, letters.len())?;
+    for i in 0..letters.len() {
+        let size = size_of_last(&letters[..i + 1], &sizes);
+        sizes.push(size)?;
+    }
+    Ok(sizes)
 }
 
 /// Asks a letter of a left side of the last one of some terms: what is to be asked next.
-fn ask<'a>(
+fn ask<'t, 's>(
     letter: Letter,
-    terms: &'a [Letter],
-    values: &mut Values<'a>,
-) -> Result<Option<&'a [Letter]>, AllocError>
-    ensures { IfOk result (λ found.
-        Asks letter terms.now values.old values.new (option_map (λ p. p.now) found)) }
+    terms: Terms<'t, 's>,
+    values: &mut Values<'t>,
+) -> Result<Option<Terms<'t, 's>>, AllocError>
+    requires { AreSizes terms.letters.now terms.sizes.now }
+    ensures asks { IfOk result (λ found. Asks letter terms.entry.letters.now values.old values.new
+        (option_map (λ p. p.letters.now) found)) }
+    ensures sizes { IfOk result
+        (λ found. IfSome found (λ p. AreSizes p.letters.now p.sizes.now)) }
 {
-    let Some((last, others)) = terms.split_last() else {
+    let Some((last, others)) = terms.letters.split_last() else {
         return Ok(None);
     };
     match letter.meaning {
-        Meaning::Symbol(_) => Ok(same_letter(*last, letter).then_some(others)),
+        Meaning::Symbol(_) => {
+            let (front, _last) = terms.split_at(others.len());
+            Ok(same_letter(*last, letter).then_some(front))
+        }
         Meaning::Variable(variable) => {
-            let (others, part) = terms.split_at(before_last(terms));
-            Ok(values.bind(variable, part)?.then_some(others))
+            let (front, part) = terms.split_at(terms.before_last());
+            Ok(values.bind(variable, part.letters)?.then_some(front))
         }
     }
 }
 
-/// Whether a rule's left side matches a term, whose variables are constants.
-pub(crate) fn matches<'a>(
+/// Asks the letters of a left side of a term, from the last to the first.
+fn all_match<'t>(
     left: &[Letter],
-    term: &'a [Letter],
-    values: &mut Values<'a>,
+    term: Terms<'t, '_>,
+    values: &mut Values<'t>,
 ) -> Result<bool, AllocError>
-    ensures { IfOk result (λ b. (y : Spec) (r : Rule) (t : syntax.Term) → fault y ≡ None
-        → Contains y.rules r → AreLetters y left.now r.left → AreLetters y term.now t
-        → b ≡ is_some (binds y r.left (tree_of t))) }
+    requires { AreSizes term.letters.now term.sizes.now }
+    ensures { IfOk result (λ b. Matches left.now term.entry.letters.now b) }
 {
     values.clear();
     let mut terms = term;
@@ -158,4 +224,21 @@ pub(crate) fn matches<'a>(
         letters = front;
     }
     Ok(true)
+}
+
+/// Whether a rule's left side matches a term, whose variables are constants. None matches a term of
+/// fewer letters.
+pub(crate) fn matches<'t>(
+    left: &[Letter],
+    term: Terms<'t, '_>,
+    values: &mut Values<'t>,
+) -> Result<bool, AllocError>
+    requires { AreSizes term.letters.now term.sizes.now }
+    ensures { IfOk result (λ b. Matches left.now term.entry.letters.now b) }
+{
+    if left.len() <= term.letters.len() {
+        all_match(left, term, values)
+    } else {
+        Ok(false)
+    }
 }

@@ -50,10 +50,11 @@ ghost use Rattle.rec_check.specs.Rewriting.{
   rewritten_by,
 };
 ghost use Rattle.rec_check.specs.Spots.{spot_of};
+ghost use Rattle.rec_check.specs.Trials.{AreSizes};
 
 use crate::broken::head_of;
 use crate::finding::{Finding, Kind, Shown};
-use crate::matching::{Values, before_last, matches};
+use crate::matching::{Terms, Values, matches, sizes};
 use crate::spots::{Cursor, Spot};
 use crate::words::{Word, node_words, push_term};
 use rec_sorts::{Checked, Letter, LetterRule, Meaning};
@@ -185,12 +186,13 @@ impl<'a> Rewriter<'a> {
     fn rewrites<'t>(
         &self,
         rule: usize,
-        term: &'t [Letter],
+        term: Terms<'t, '_>,
         values: &mut Values<'t>,
     ) -> Result<bool, AllocError>
-        requires { rule < length self.now.checked.now.spec.rules }
+        requires rule { rule < length self.now.checked.now.spec.rules }
+        requires sizes { AreSizes term.letters.now term.sizes.now }
         ensures { IfOk result (λ b. (r : syntax.Rule) (t : syntax.Term)
-            → AreLetters self.now.checked.now.spec term.now t
+            → AreLetters self.now.checked.now.spec term.entry.letters.now t
             → b ≡ rewrites self.now.checked.now.spec
             (get_or self.now.checked.now.spec.rules rule r) t) }
     {
@@ -208,14 +210,15 @@ impl<'a> Rewriter<'a> {
         &self,
         symbol: u32,
         before: usize,
-        term: &'t [Letter],
+        term: Terms<'t, '_>,
         values: &mut Values<'t>,
     ) -> Result<Option<usize>, AllocError>
         requires rules { IsRewriter self.now }
         requires symbol { symbol < length (symbols self.now.checked.now.spec) }
         requires before { before ≤ length self.now.checked.now.spec.rules }
+        requires sizes { AreSizes term.letters.now term.sizes.now }
         ensures first { IfOk result (λ found. (t : syntax.Term)
-            → AreLetters self.now.checked.now.spec term.now t
+            → AreLetters self.now.checked.now.spec term.entry.letters.now t
             → (head t).bytes ≡ name_of self.now.checked.now.spec (Symbol symbol)
             → IsFirstWord self.now.checked.now.spec found
             (rewritten_by self.now.checked.now.spec
@@ -239,15 +242,17 @@ impl<'a> Rewriter<'a> {
         &self,
         symbol: u32,
         before: usize,
-        terms: &'t [Letter],
+        terms: Terms<'t, '_>,
         values: &mut Values<'t>,
     ) -> Result<Option<usize>, AllocError>
         requires rules { IsRewriter self.now }
         requires symbol { symbol < length (symbols self.now.checked.now.spec) }
         requires before { before ≤ length self.now.checked.now.spec.rules }
-        requires meant { All (λ l. IsMeaning self.now.checked.now.spec l.meaning) terms.now }
+        requires sizes { AreSizes terms.letters.now terms.sizes.now }
+        requires meant { All (λ l. IsMeaning self.now.checked.now.spec l.meaning)
+            terms.letters.now }
         ensures first { IfOk result (λ found. (ms : List Named) (t : syntax.Term)
-            → map (named_by self.now.checked.now.spec) terms.now ≡ ms ++ named t
+            → map (named_by self.now.checked.now.spec) terms.entry.letters.now ≡ ms ++ named t
             → (head t).bytes ≡ name_of self.now.checked.now.spec (Symbol symbol)
             → IsFirstWord self.now.checked.now.spec found
             (rewritten_by self.now.checked.now.spec
@@ -258,7 +263,7 @@ impl<'a> Rewriter<'a> {
         if self.chains.firsts[symbol as usize] >= before {
             return Ok(None);
         }
-        let (_others, term) = terms.split_at(before_last(terms));
+        let (_others, term) = terms.split_at(terms.before_last());
         self.rewriting_symbol(symbol, before, term, values)
     }
 
@@ -266,21 +271,23 @@ impl<'a> Rewriter<'a> {
     fn rewriting<'t>(
         &self,
         before: usize,
-        terms: &'t [Letter],
+        terms: Terms<'t, '_>,
         values: &mut Values<'t>,
     ) -> Result<Option<usize>, AllocError>
         requires rules { IsRewriter self.now }
         requires before { before ≤ length self.now.checked.now.spec.rules }
-        requires meant { All (λ l. IsMeaning self.now.checked.now.spec l.meaning) terms.now }
+        requires sizes { AreSizes terms.letters.now terms.sizes.now }
+        requires meant { All (λ l. IsMeaning self.now.checked.now.spec l.meaning)
+            terms.letters.now }
         ensures first { IfOk result (λ found. (ms : List Named) (t : syntax.Term)
-            → map (named_by self.now.checked.now.spec) terms.now ≡ ms ++ named t
+            → map (named_by self.now.checked.now.spec) terms.entry.letters.now ≡ ms ++ named t
             → IsFirstWord self.now.checked.now.spec found
             (rewritten_by self.now.checked.now.spec
             (take before self.now.checked.now.spec.rules) t)) }
         ensures within { IfOk result (λ found.
             IfSome found (λ rule. rule < length self.now.checked.now.spec.rules)) }
     {
-        let Some((last, _others)) = terms.split_last() else {
+        let Some((last, _others)) = terms.letters.split_last() else {
             return Ok(None);
         };
         match last.meaning {
@@ -314,9 +321,36 @@ impl<'a> Rewriter<'a> {
         Ok(())
     }
 
+    /// The first rule that rewrites the left side of a rule, before that one.
+    fn rewriting_left(
+        &self,
+        alloc: Global,
+        rule: usize,
+        values: &mut Values<'a>,
+    ) -> Result<Option<usize>, AllocError>
+        requires rules { IsRewriter self.now }
+        requires rule { rule < length self.now.checked.now.spec.rules }
+        ensures first { (r : syntax.Rule) → IfOk result (λ found.
+            IsFirstWord self.now.checked.now.spec found
+            (rewritten_by self.now.checked.now.spec
+            (take rule self.now.checked.now.spec.rules)
+            (get_or self.now.checked.now.spec.rules rule r).left)) }
+        ensures within { IfOk result (λ found.
+            IfSome found (λ i. i < length self.now.checked.now.spec.rules)) }
+    {
+        let letters = &letters(self.checked, rule).left;
+        let sizes = sizes(alloc, letters)?;
+        let terms = Terms {
+            letters,
+            sizes: &sizes,
+        };
+        self.rewriting(rule, terms, values)
+    }
+
     /// The rules that are never tried, behind other findings.
     pub(crate) fn push_never_tried(
         &self,
+        alloc: Global,
         values: &mut Values<'a>,
         found: &mut Vec<Finding<'a>>,
     ) -> Result<(), AllocError>
@@ -328,7 +362,7 @@ impl<'a> Rewriter<'a> {
         let syntax = self.checked.syntax();
         for (i, rule) in syntax.rules().iter().enumerate() {
             let word = head_of(syntax, &rule.left);
-            let by = self.rewriting(i, &letters(self.checked, i).left, values)?;
+            let by = self.rewriting_left(alloc, i, values)?;
             self.push(Kind::NeverTried, word, by, found)?;
         }
         Ok(())
@@ -351,9 +385,15 @@ impl<'a> Rewriter<'a> {
     {
         let syntax = self.checked.syntax();
         let words = inner_words(alloc, syntax, rule)?;
-        let left = &letters(self.checked, rule).left;
+        let letters = &letters(self.checked, rule).left;
+        let sizes = sizes(alloc, letters)?;
+        let left = Terms {
+            letters,
+            sizes: &sizes,
+        };
         for (i, word) in words.iter().enumerate() {
-            let by = self.rewriting(self.spots.len(), &left[..i + 1], values)?;
+            let (terms, _others) = left.split_at(i + 1);
+            let by = self.rewriting(self.spots.len(), terms, values)?;
             self.push(Kind::NeverMatches, *word, by, found)?;
         }
         Ok(())

@@ -8,7 +8,7 @@ ghost use Rattle.rec_check.specs.Named.{as_words};
 
 use crate::filters::missing;
 use crate::names::Names;
-use crate::words::{Word, all_nodes, named_sorts, node_words, sort_words, symbol_words, variables};
+use crate::words::{Word, all_words, named_sorts, sort_words, symbol_words, variables};
 use rec_syntax::Syntax;
 use std::alloc::{AllocError, Global};
 
@@ -25,8 +25,7 @@ pub fn unused_sorts<'a>(alloc: Global, syntax: &'a Syntax) -> Result<Vec<Word<'a
 fn used_names<'a>(alloc: Global, syntax: &'a Syntax) -> Result<Names<'a>, AllocError>
     ensures { IfOk result (λ names. Knows names (heads (all_terms syntax.now.spec))) }
 {
-    let nodes = all_nodes(alloc, syntax)?;
-    let words = node_words(alloc, &nodes)?;
+    let words = all_words(alloc, syntax)?;
     Names::of(alloc, &words)
 }
 

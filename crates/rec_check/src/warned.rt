@@ -4,8 +4,12 @@ ghost use Rattle.std.specs.Prelude.{◌≡◌, ◌++◌, [], IfOk, OnOk};
 ghost use Rattle.rec_check.specs.Findings.{
   AreInOrder,
   as_findings,
+  found_at,
   never_tried,
   unused,
+  unused_sorts,
+  unused_symbols,
+  unused_variables,
   warnings,
 };
 ghost use Rattle.rec_check.specs.Inside.{never_matching_inside};
@@ -31,8 +35,47 @@ fn push_rewritten<'a>(
 {
     let rewriter = Rewriter::of(alloc, checked)?;
     let mut values = Values::new(alloc);
-    rewriter.push_never_tried(&mut values, found)?;
+    rewriter.push_never_tried(alloc, &mut values, found)?;
     rewriter.push_never_matching(alloc, &mut values, found)
+}
+
+/// The sorts that are never used, behind other findings.
+fn push_unused_sorts<'a>(
+    alloc: Global,
+    syntax: &'a Syntax,
+    found: &mut Vec<Finding<'a>>,
+) -> Result<(), AllocError>
+    ensures { OnOk result (as_findings found.new.items ≡ as_findings found.old.items
+        ++ found_at Kind.UnusedSort (unused_sorts syntax.now.spec)) }
+{
+    let sorts = unused_sorts(alloc, syntax)?;
+    push_found(Kind::UnusedSort, &sorts, found)
+}
+
+/// The symbols that are never used, behind other findings.
+fn push_unused_symbols<'a>(
+    alloc: Global,
+    syntax: &'a Syntax,
+    found: &mut Vec<Finding<'a>>,
+) -> Result<(), AllocError>
+    ensures { OnOk result (as_findings found.new.items ≡ as_findings found.old.items
+        ++ found_at Kind.UnusedSymbol (unused_symbols syntax.now.spec)) }
+{
+    let symbols = unused_symbols(alloc, syntax)?;
+    push_found(Kind::UnusedSymbol, &symbols, found)
+}
+
+/// The variables that are never used, behind other findings.
+fn push_unused_variables<'a>(
+    alloc: Global,
+    syntax: &'a Syntax,
+    found: &mut Vec<Finding<'a>>,
+) -> Result<(), AllocError>
+    ensures { OnOk result (as_findings found.new.items ≡ as_findings found.old.items
+        ++ found_at Kind.UnusedVariable (unused_variables syntax.now.spec)) }
+{
+    let variables = unused_variables(alloc, syntax)?;
+    push_found(Kind::UnusedVariable, &variables, found)
 }
 
 /// What is never used, behind other findings.
@@ -44,12 +87,9 @@ fn push_unused<'a>(
     ensures { OnOk result
         (as_findings found.new.items ≡ as_findings found.old.items ++ unused syntax.now.spec) }
 {
-    let sorts = unused_sorts(alloc, syntax)?;
-    push_found(Kind::UnusedSort, &sorts, found)?;
-    let symbols = unused_symbols(alloc, syntax)?;
-    push_found(Kind::UnusedSymbol, &symbols, found)?;
-    let variables = unused_variables(alloc, syntax)?;
-    push_found(Kind::UnusedVariable, &variables, found)
+    push_unused_sorts(alloc, syntax, found)?;
+    push_unused_symbols(alloc, syntax, found)?;
+    push_unused_variables(alloc, syntax, found)
 }
 
 /// What a good specification is warned of, in the order of its places.

@@ -271,7 +271,7 @@ fn push_conditions<'a>(
 }
 
 /// The nodes of what a rule rewrites to, and of its conditions.
-pub(crate) fn right_nodes<'a>(
+fn right_nodes<'a>(
     alloc: Global,
     syntax: &'a Syntax,
     rule: &Rule,
@@ -336,6 +336,45 @@ pub fn all_nodes<'a>(alloc: Global, syntax: &'a Syntax) -> Result<Vec<Counted<'a
     push_rules(syntax, syntax.rules(), &mut nodes)?;
     push_terms(syntax, syntax.terms(), &mut nodes)?;
     Ok(nodes)
+}
+
+/// The words of a term.
+pub(crate) fn term_words<'a>(
+    alloc: Global,
+    syntax: &'a Syntax,
+    term: &Term,
+) -> Result<Vec<Word<'a>>, AllocError>
+    requires { IsTerm syntax.now.source term.now }
+    ensures { IfOk result (λ v. as_words v.items
+        ≡ node_words (flat (term_of syntax.now.source term.now))) }
+{
+    let mut nodes = Vec::new(alloc);
+    push_term(syntax, term, &mut nodes)?;
+    node_words(alloc, &nodes)
+}
+
+/// The words of all terms of rules, and of the terms to evaluate.
+pub(crate) fn all_words<'a>(alloc: Global, syntax: &'a Syntax) -> Result<Vec<Word<'a>>, AllocError>
+    ensures { IfOk result (λ v. as_words v.items
+        ≡ node_words (flat_terms (rule_terms syntax.now.spec.rules ++ syntax.now.spec.terms))) }
+{
+    let nodes = all_nodes(alloc, syntax)?;
+    node_words(alloc, &nodes)
+}
+
+/// The words of what a rule rewrites to, and of its conditions.
+pub(crate) fn right_words<'a>(
+    alloc: Global,
+    syntax: &'a Syntax,
+    rule: &Rule,
+) -> Result<Vec<Word<'a>>, AllocError>
+    requires { IsRule syntax.now.source rule.now }
+    ensures { IfOk result (λ v. as_words v.items
+        ≡ node_words (flat_terms ((rule_of syntax.now.source rule.now).right
+        ∷ condition_terms (rule_of syntax.now.source rule.now).conditions))) }
+{
+    let nodes = right_nodes(alloc, syntax, rule)?;
+    node_words(alloc, &nodes)
 }
 
 /// The words of nodes.

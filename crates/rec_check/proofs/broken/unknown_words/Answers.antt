@@ -14,10 +14,5 @@ returns c =
     let y = c.args.syntax.now.spec in
     let ts = rule_terms y.rules ++ y.terms in
     let ks = names (symbols y) ++ variable_words y.variables in
-    let words : as_words c.deref-3.result.now ≡ node_words (flat_terms ts) =
-    ap as_words c.deref-3.ensures.value ∙ c.in_ok-words.ensures ∙ ap (λ ns. node_words (as_nodes ns)) c.deref-2.ensures.value ∙ ap node_words c.in_ok-nodes.ensures
-    in
-    let known : as_words c.deref.result.now ≡ ks = ap as_words c.deref.ensures.value ∙ c.in_ok-declared_words.ensures in
-    if_ok_same c.missing.result (unknown_words y) (missing ks (as_words c.deref-3.result.now))
-    (c.missing.ensures ks (subst (Knows c.in_ok-known.known) known c.in_ok-known.ensures.known))
-    (λ p. same-missing ks ts p ∙ ap (λ ws. count_by p (missing ks ws)) (sym words))
+    let words : as_words c.deref.result.now ≡ node_words (flat_terms ts) = ap as_words c.deref.ensures.value ∙ c.in_ok-words.ensures in
+    if_ok_same c.missing.result (unknown_words y) (missing ks (as_words c.deref.result.now)) (c.missing.ensures ks c.in_ok-known.ensures) (λ p. same-missing ks ts p ∙ ap (λ ws. count_by p (missing ks ws)) (sym words))

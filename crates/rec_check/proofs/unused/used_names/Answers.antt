@@ -11,8 +11,6 @@ pub returns : goal.returns
 returns c =
     let y = c.args.syntax.now.spec in
     let ts = rule_terms y.rules ++ y.terms in
-    let words : as_words c.deref-2.result.now ≡ node_words (flat_terms ts) =
-    ap as_words c.deref-2.ensures.value ∙ c.in_ok-words.ensures ∙ ap (λ ns. node_words (as_nodes ns)) c.deref.ensures.value ∙ ap node_words c.in_ok-nodes.ensures
-    in
-    if_ok_knows c.of.result (as_words c.deref-2.result.now) (heads (all_terms y)) c.of.ensures.known
+    let words : as_words c.deref.result.now ≡ node_words (flat_terms ts) = ap as_words c.deref.ensures.value ∙ c.in_ok-words.ensures in
+    if_ok_knows c.of.result (as_words c.deref.result.now) (heads (all_terms y)) c.of.ensures.known
     (λ name. ap (λ ws. mentions ws name) words ∙ sym (mentions-same (heads (all_terms y)) (node_words (flat_terms ts)) name (same-words ts)))

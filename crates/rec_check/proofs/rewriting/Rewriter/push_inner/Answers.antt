@@ -1,5 +1,5 @@
 use Rattle.std.proofs.Common.{arith, ap, subst, sym, ◌∙◌, ◌≡◌, ◌+◌, ◌++◌}
-use Rattle.std.proofs.lemmas.List.{take_all}
+use Rattle.std.proofs.lemmas.List.{length-take, take_all}
 use Rattle.std.proofs.lemmas.List.Elements.{All-take}
 use Rattle.std.specs.Prelude.{ℕ, List, All, ◌<◌, get_or, length, map, take}
 use Rattle.rec_syntax.specs.Syntax.{Sourced, Term, arguments, head}
@@ -17,20 +17,24 @@ use Rattle.rec_check.proofs.rewriting.Rewriter.push_inner.Goals as goal
 place : (ws vs : List Word) (ts : List Term) (i : ℕ) → vs ≡ ws → as_words ws ≡ map head ts → i < length vs → i < length ts
 place ws vs ts i e is lt = let long = words_long ws ts is in let same = ap length e in omega (arith, lt, long, same)
 
-pub slice_bounds-rewriting-end : goal.slice_bounds-rewriting-end
-slice_bounds-rewriting-end c =
+pub split_at-requires-clause-within : goal.split_at-requires-clause-within
+split_at-requires-clause-within c =
     let y = c.args.self.now.checked.now.spec in
     let q = get_or y.rules c.args.rule skip.no_rule in
     let letters = c.letters.result.now.left.items in
     let ts = postorder_all (arguments q.left) in
     let test = c.loop-i-test.true in
     let lt : c.loop-i.i < length ts = place c.in_ok-words.words.items c.deref-word-items.result.now ts c.loop-i.i c.deref-word-items.ensures.value (subst (λ (x : Sourced). as_words c.in_ok-words.words.items ≡ map head (postorder_all (arguments (get_or x.spec.rules c.args.rule skip.no_rule).left))) c.syntax-syntax.ensures.same (c.in_ok-words.ensures skip.no_rule)) (omega (arith, test)) in
-    inner_long y letters q.left c.loop-i.i (c.letters.ensures skip.no_rule).0 lt ∙ ap (λ ls. length (take (c.loop-i.i + 1) ls)) (sym c.deref.ensures.value)
+    let own = inner_long y letters q.left c.loop-i.i (c.letters.ensures skip.no_rule).0 lt in
+    let few = length-take (c.loop-i.i + 1) letters in
+    let same = ap length c.deref-2.ensures.value in
+    omega (arith, own, few, same)
 
 pub rewriting-requires-clause-meant : goal.rewriting-requires-clause-meant
 rewriting-requires-clause-meant c =
     let y = c.args.self.now.checked.now.spec in
-    subst (λ ls. All (λ l. IsMeaning y l.meaning) (take (c.loop-i.i + 1) ls)) (sym c.deref.ensures.value) (All-take (λ (l : Letter). IsMeaning y l.meaning) (c.loop-i.i + 1) c.letters.result.now.left.items (c.letters.ensures skip.no_rule).0.0)
+    subst (λ ls. All (λ l. IsMeaning y l.meaning) ls) (sym c.split_at.ensures.front)
+    (subst (λ ls. All (λ l. IsMeaning y l.meaning) (take (c.loop-i.i + 1) ls)) (sym c.deref-2.ensures.value) (All-take (λ (l : Letter). IsMeaning y l.meaning) (c.loop-i.i + 1) c.letters.result.now.left.items (c.letters.ensures skip.no_rule).0.0))
 
 pub loop-i-preserved : goal.loop-i-preserved
 loop-i-preserved c r =
@@ -49,7 +53,7 @@ loop-i-preserved c r =
     let ends = inner_ends y c.letters.result.now.left.items q.left i q.left (c.letters.ensures r).0 lt in
     inner_turn s.source y ts i q.left _ o (as_findings c.args.found.now.items) (as_findings c.loop-i.found.items) (as_findings c.push.new.found.items) lt (word_at_place words ts i _ q.left is here)
     (ap (λ rs. rewritten_by y rs t) (take_all c.len.result y.rules (let e = c.len.ensures in let k = c.args.self.now.spots.ok.0 in let l = spots_long c.args.self.now c.requires.rules in omega (arith, e, k, l)))) (c.loop-i.invariant r)
-    (c.in_ok-push.ensures o (c.in_ok-by.ensures.first ends.0 t (ap (λ ls. map (named_by y) (take (i + 1) ls)) c.deref.ensures.value ∙ ends.1)))
+    (c.in_ok-push.ensures o (c.in_ok-by.ensures.first ends.0 t (ap (map (named_by y)) c.split_at.ensures.front ∙ ap (λ ls. map (named_by y) (take (i + 1) ls)) c.deref-2.ensures.value ∙ ends.1)))
 
 pub returns : goal.returns
 returns c r =

@@ -10,11 +10,6 @@ use Rattle.rec_check.specs.Rewriting.{rewritten_by}
 use Rattle.rec_check.proofs.RewritingLemmas.{left_term, rules_long, tried_turn}
 use Rattle.rec_check.proofs.rewriting.Rewriter.push_never_tried.Goals as goal
 
-pub rewriting-requires-clause-meant : goal.rewriting-requires-clause-meant
-rewriting-requires-clause-meant c =
-    let y = c.args.self.now.checked.now.spec in
-    subst (λ ls. All (λ l. IsMeaning y l.meaning) ls) (sym c.deref.ensures.value) (c.letters.ensures skip.no_rule).0.0
-
 pub loop-i-preserved : goal.loop-i-preserved
 loop-i-preserved c =
     let s = c.args.self.now.checked.now in
@@ -29,7 +24,6 @@ loop-i-preserved c =
     let long = rules_long s.source items y.rules rules in
     let test = c.loop-i-test.true in
     let lt : i < length items = omega (arith, test) in
-    let own = (c.letters.ensures d).0 in
     tried_turn s.source y i d (as_word c.head_of-word.result) o (as_findings c.args.found.now.items) (as_findings c.loop-i.found.items) (as_findings c.push.new.found.items) (omega (arith, lt, long))
     (is ∙ ap head (left_term s.source items y.rules i c.rule-item.result d rules lt c.rule-item.is)) refl c.loop-i.invariant
-    (c.in_ok-push.ensures o (c.in_ok-by.ensures.first [] t (subst (λ ls. map (named_by y) ls ≡ named t) (sym c.deref.ensures.value) own.1)))
+    (c.in_ok-push.ensures o (c.in_ok-by.ensures.first d))

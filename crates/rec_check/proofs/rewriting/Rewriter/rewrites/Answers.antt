@@ -5,6 +5,7 @@ use Rattle.rec_sorts.specs.Binding.{binds, tree_of}
 use Rattle.rec_sorts.specs.Numbering.{AreLetters}
 use Rattle.rec_sorts.specs.SpecRules.{fault}
 use Rattle.rec_check.specs.Rewriting.{rewrites}
+use Rattle.rec_check.specs.Trials.{Matches}
 use Rattle.rec_check.proofs.RewritingLemmas.{if_ok_so, rewrites_bare, rewrites_never, rule_there}
 use Rattle.rec_check.proofs.rewriting.Rewriter.rewrites.Goals as goal
 
@@ -12,13 +13,13 @@ pub returns-then-len-eq0 : goal.returns-then-len-eq0
 returns-then-len-eq0 c =
     let y = c.args.self.now.checked.now.spec in
     let left = c.deref.result.now in
-    let term = c.args.term.now in
+    let term = c.args.term.letters.now in
     let x = c.letters-rule.result.now in
-    if_ok_so c.matches.result (λ b. (y : Spec) (r : Rule) (t : Term) → fault y ≡ None → Contains y.rules r → AreLetters y left r.left → AreLetters y term t → b ≡ is_some (binds y r.left (tree_of t)))
+    if_ok_so c.matches.result (Matches left term)
     (λ b. (r : Rule) (t : Term) → AreLetters y term t → b ≡ rewrites y (get_or y.rules c.args.rule r) t) (λ b h r t are.
     let q = get_or y.rules c.args.rule r in
     let own = c.letters-rule.ensures r in
-    rewrites_bare y x q t b own (search rules) (h y q t c.syntax-kept.ensures.kept (rule_there y.rules c.args.rule r c.requires) (subst (λ ls. AreLetters y ls q.left) (sym c.deref.ensures.value) own.0) are)) c.matches.ensures
+    rewrites_bare y x q t b own (search rules) (h y q t c.syntax-kept.ensures.kept (rule_there y.rules c.args.rule r c.requires.rule) (subst (λ ls. AreLetters y ls q.left) (sym c.deref.ensures.value) own.0) are)) c.matches.ensures
 
 pub returns-else-len-eq0 : goal.returns-else-len-eq0
 returns-else-len-eq0 c = λ r t are. rewrites_never c.args.self.now.checked.now.spec c.letters-rule.result.now (get_or c.args.self.now.checked.now.spec.rules c.args.rule r) t (c.letters-rule.ensures r) (search rules)
