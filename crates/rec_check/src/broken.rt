@@ -35,8 +35,8 @@ use crate::finding::Rule;
 use crate::names::Names;
 use crate::scope::Scope;
 use crate::words::{
-    Word, all_nodes, all_words, declared_words, named_sorts, node_words, operator_words,
-    right_words, sort_words, symbol_words, term_nodes, term_words, variables, word_at,
+    Word, all_nodes, all_words, declared_words, evaluated_words, named_sorts, operator_words,
+    right_words, sort_words, symbol_words, term_words, variables, word_at,
 };
 use rec_syntax::{self, Condition, Syntax, Term};
 use std::alloc::{AllocError, Global};
@@ -64,11 +64,35 @@ fn left_heads<'a>(alloc: Global, syntax: &'a Syntax) -> Result<Vec<Word<'a>>, Al
     Ok(heads)
 }
 
+/// The names of the sorts that are declared.
+fn sort_names<'a>(alloc: Global, syntax: &'a Syntax) -> Result<Names<'a>, AllocError>
+    ensures { IfOk result (λ known. Knows known syntax.now.spec.sorts) }
+{
+    let words = sort_words(alloc, syntax)?;
+    Names::of(alloc, &words)
+}
+
+/// The names of operators.
+fn operator_names<'a>(alloc: Global, syntax: &'a Syntax) -> Result<Names<'a>, AllocError>
+    ensures { IfOk result (λ known. Knows known (names syntax.now.spec.operators)) }
+{
+    let words = operator_words(alloc, syntax)?;
+    Names::of(alloc, &words)
+}
+
+/// The names of variables.
+fn variable_names<'a>(alloc: Global, syntax: &'a Syntax) -> Result<Names<'a>, AllocError>
+    ensures { IfOk result (λ known. Knows known (variable_words syntax.now.spec.variables)) }
+{
+    let words = variables(alloc, syntax)?;
+    Names::of(alloc, &words)
+}
+
 /// The sorts that are not declared.
 fn unknown_sorts<'a>(alloc: Global, syntax: &'a Syntax) -> Result<Vec<Word<'a>>, AllocError>
     ensures { IfOk result (λ v. as_words v.items ≡ unknown_sorts syntax.now.spec) }
 {
-    let known = Names::of(alloc, &sort_words(alloc, syntax)?)?;
+    let known = sort_names(alloc, syntax)?;
     let sorts = named_sorts(alloc, syntax)?;
     missing(alloc, &known, &sorts)
 }
@@ -116,7 +140,7 @@ fn ill_sorted<'a>(alloc: Global, syntax: &'a Syntax) -> Result<Vec<Word<'a>>, Al
 fn ill_headed<'a>(alloc: Global, syntax: &'a Syntax) -> Result<Vec<Word<'a>>, AllocError>
     ensures { IfOk result (λ v. as_words v.items ≡ ill_headed syntax.now.spec) }
 {
-    let known = Names::of(alloc, &operator_words(alloc, syntax)?)?;
+    let known = operator_names(alloc, syntax)?;
     let heads = left_heads(alloc, syntax)?;
     missing(alloc, &known, &heads)
 }
@@ -265,7 +289,7 @@ fn unbound<'a>(alloc: Global, syntax: &'a Syntax) -> Result<Vec<Word<'a>>, Alloc
     ensures { IfOk result
         (λ v. HasSame (broken_words syntax.now.spec Rule.Unbound) (as_words v.items)) }
 {
-    let known = Names::of(alloc, &variables(alloc, syntax)?)?;
+    let known = variable_names(alloc, syntax)?;
     let mut found = Vec::new(alloc);
     push_unbound(alloc, syntax, &known, syntax.rules(), &mut found)?;
     Ok(found)
@@ -276,9 +300,8 @@ fn open_terms<'a>(alloc: Global, syntax: &'a Syntax) -> Result<Vec<Word<'a>>, Al
     ensures { IfOk result
         (λ v. HasSame (broken_words syntax.now.spec Rule.OpenTerm) (as_words v.items)) }
 {
-    let known = Names::of(alloc, &variables(alloc, syntax)?)?;
-    let nodes = term_nodes(alloc, syntax)?;
-    let words = node_words(alloc, &nodes)?;
+    let known = variable_names(alloc, syntax)?;
+    let words = evaluated_words(alloc, syntax)?;
     present(alloc, &known, &words)
 }
 

@@ -1,8 +1,9 @@
 //! Words that are declared and never used.
 
-ghost use Rattle.std.specs.Prelude.{◌≡◌, IfOk};
+ghost use Rattle.std.specs.Prelude.{◌≡◌, ◌++◌, IfOk, flat_map, map};
+ghost use Rattle.rec_sorts.specs.Lookup.{symbols};
 ghost use Rattle.rec_check.specs.Findings.{unused_sorts, unused_symbols, unused_variables};
-ghost use Rattle.rec_sorts.specs.SpecRules.{all_terms, heads};
+ghost use Rattle.rec_sorts.specs.SpecRules.{all_terms, heads, sorts_of};
 ghost use Rattle.rec_check.specs.Lookups.{Knows};
 ghost use Rattle.rec_check.specs.Named.{as_words};
 
@@ -12,11 +13,20 @@ use crate::words::{Word, all_words, named_sorts, sort_words, symbol_words, varia
 use rec_syntax::Syntax;
 use std::alloc::{AllocError, Global};
 
+/// The names of the sorts that declarations name.
+fn named_sort_names<'a>(alloc: Global, syntax: &'a Syntax) -> Result<Names<'a>, AllocError>
+    ensures { IfOk result (λ known. Knows known (flat_map sorts_of (symbols syntax.now.spec)
+        ++ map (λ v. v.sort) syntax.now.spec.variables)) }
+{
+    let words = named_sorts(alloc, syntax)?;
+    Names::of(alloc, &words)
+}
+
 /// The sorts that no symbol and no variable has.
 pub fn unused_sorts<'a>(alloc: Global, syntax: &'a Syntax) -> Result<Vec<Word<'a>>, AllocError>
     ensures { IfOk result (λ v. as_words v.items ≡ unused_sorts syntax.now.spec) }
 {
-    let used = Names::of(alloc, &named_sorts(alloc, syntax)?)?;
+    let used = named_sort_names(alloc, syntax)?;
     let sorts = sort_words(alloc, syntax)?;
     missing(alloc, &used, &sorts)
 }

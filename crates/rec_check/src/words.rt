@@ -362,6 +362,18 @@ pub(crate) fn all_words<'a>(alloc: Global, syntax: &'a Syntax) -> Result<Vec<Wor
     node_words(alloc, &nodes)
 }
 
+/// The words of the terms to evaluate.
+pub(crate) fn evaluated_words<'a>(
+    alloc: Global,
+    syntax: &'a Syntax,
+) -> Result<Vec<Word<'a>>, AllocError>
+    ensures { IfOk result
+        (λ v. as_words v.items ≡ node_words (flat_terms syntax.now.spec.terms)) }
+{
+    let nodes = term_nodes(alloc, syntax)?;
+    node_words(alloc, &nodes)
+}
+
 /// The words of what a rule rewrites to, and of its conditions.
 pub(crate) fn right_words<'a>(
     alloc: Global,

@@ -13,10 +13,5 @@ pub returns : goal.returns
 returns c =
     let y = c.args.syntax.now.spec in
     let ks = variable_words y.variables in
-    let words : as_words c.deref-3.result.now ≡ node_words (flat_terms y.terms) =
-    ap as_words c.deref-3.ensures.value ∙ c.in_ok-words.ensures ∙ ap (λ ns. node_words (as_nodes ns)) c.deref-2.ensures.value ∙ ap node_words c.in_ok-nodes.ensures
-    in
-    let known : as_words c.deref.result.now ≡ ks = ap as_words c.deref.ensures.value ∙ c.in_ok-variables.ensures in
-    if_ok_same c.present.result (open_terms y) (present ks (as_words c.deref-3.result.now))
-    (c.present.ensures ks (subst (Knows c.in_ok-known.known) known c.in_ok-known.ensures.known))
-    (λ p. same-present ks y.terms p ∙ ap (λ ws. count_by p (present ks ws)) (sym words))
+    let words : as_words c.deref.result.now ≡ node_words (flat_terms y.terms) = ap as_words c.deref.ensures.value ∙ c.in_ok-words.ensures in
+    if_ok_same c.present.result (open_terms y) (present ks (as_words c.deref.result.now)) (c.present.ensures ks c.in_ok-known.ensures) (λ p. same-present ks y.terms p ∙ ap (λ ws. count_by p (present ks ws)) (sym words))
