@@ -127,6 +127,20 @@ def try_great():
         for kib in (8192, 256):
             found = run(program(), "check", "deep.rec", before=at_stack(kib), cwd=at)
             check_long(f"check at depth {depth} on a stack of {kib} KiB", (1, line, ""), found)
+        # a left side of a million nested calls: its own rule matches none of the calls inside
+        nested = f"REC-SPEC N SORTS A CONS a : -> A OPNS f : A -> A VARS X : A RULES\n{'f(' * depth}X{')' * depth} -> X\nEVAL f(a) END-SPEC"
+        write_file(f"{at}/nested.rec", nested)
+        start = time.monotonic()
+        check("check of nested calls", (0, "", ""), run(program(), "check", "nested.rec", cwd=at))
+        check("a million nested calls in seconds", True, time.monotonic() - start < 20)
+        calls = 200_000
+        inner = f"REC-SPEC I SORTS A CONS a : -> A OPNS f : A -> A VARS X : A RULES\nf(X) -> a\n{'f(' * calls}X{')' * calls} -> X\nEVAL f(a) END-SPEC"
+        write_file(f"{at}/calls.rec", inner)
+        due = "calls.rec:3:1: W1: never tried: an earlier rule without conditions matches all that this one does: 2:1\n"
+        due += "".join(f"calls.rec:3:{2 * it + 1}: W2: never matches: an argument like this is rewritten first: 2:1\n" for it in range(1, calls))
+        start = time.monotonic()
+        check_long("check of 200,000 nested calls that are rewritten first", (0, due, ""), run(program(), "check", "calls.rec", cwd=at))
+        check("200,000 nested calls in seconds", True, time.monotonic() - start < 20)
         wide = f"REC-SPEC W SORTS A CONS a : -> A OPNS VARS RULES EVAL\n{'b ' * 200_000}END-SPEC"
         write_file(f"{at}/wide.rec", wide)
         due = "".join(f"wide.rec:2:{2 * it + 1}: S5: a word is neither a symbol nor a variable: b\n" for it in range(200_000))
