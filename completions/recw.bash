@@ -34,6 +34,10 @@ _recw_trace_options=(
     '--count'
     '--whole'
     '--width W'
+    '--first N'
+    '--last N'
+    '--rule LINE:COL'
+    '--symbol NAME'
 )
 _recw_other_options=('-e TERM' '--indent N' '--dot' '--nodes N')
 
@@ -55,6 +59,8 @@ _recw_kind() {
         if _recw_takes_value "${COMP_WORDS[index]}"; then
             [[ ${COMP_WORDS[index + 1]} != '=' ]] || ((index += 1))
             ((index += 1))
+            # the shell takes a colon as a word of its own
+            [[ ${COMP_WORDS[index + 1]} != ':' ]] || ((index += 2))
         elif [[ ${COMP_WORDS[index]} != -* ]]; then
             kinds=("${kinds[@]:1}")
         fi

@@ -15,7 +15,7 @@ OWN = {
     "aterm": ["--indent"],
     "match": ["--test"],
     "share": ["--dot", "--nodes"],
-    "trace": ["--count", "--whole", "--width"],
+    "trace": ["--count", "--whole", "--width", "--first", "--last", "--rule", "--symbol"],
 }
 
 
@@ -113,7 +113,7 @@ def check_bash(names, options):
         wanted = ["--help", *[it.name for it in options[name]]]
         same(f"bash: options of {name}", sorted(wanted), sorted(offered("recw", name, "-")))
     with_files = (["eval"], ["eval", "q.rec"], ["eval", "--count"], ["aterm"], ["share"], ["match", "x"])
-    with_more = (["check"], ["check", "--strict", "a", "b"], ["trace", "a"], ["trace", "--width", "5", "a"])
+    with_more = (["check"], ["check", "--strict", "a", "b"], ["trace", "a"], ["trace", "--rule", "3", ":", "5", "a"])
     for words in (*with_files, *with_more):
         same(f"bash: files behind {words}", ["add.rec", "add.trm"], offered("recw", *words, "add"))
     with_none = (["match"], ["make"], ["make", "x"], ["aterm", "x"], ["eval", "a", "b"], ["share", "--nodes"])

@@ -36,9 +36,9 @@ OTHERS = (
         "7:3: f(z) -> s(z)\t3\ns(z)\t3\n",
     ),
     (
-        ["trace", "--whole", "--width", "9", "term"],
+        ["trace", "--whole", "--width", "9", "--first", "1", "--last", "1", "term"],
         text_of("examples/add.rec"),
-        "0:0: plus(s...\n12:3: s(plus...\n12:3: s(s(pl...\n11:3: s(s(s(...\ns(s(s(z)))\n",
+        "0:0: plus(s...\n12:3: s(plus...\n... 1 more\n11:3: s(s(s(...\ns(s(s(z)))\n",
     ),
     (["match", "f(<int>,<list>)", "term"], "f(1,2,3)", "yes\n1\n[2,3]\n"),
     (["match", "f(<int>,<list>)", "term"], "f(1)", "yes\n1\n[]\n"),

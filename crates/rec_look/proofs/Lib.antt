@@ -1,7 +1,11 @@
 mod SpotLemmas
 mod PageLemmas
+mod PickLemmas
+mod KeptLemmas
+mod NextLemmas
 mod TellingLemmas
 mod StepLemmas
+mod FiringLemmas
 mod BeginLemmas
 mod TaskLemmas
 mod GivenLemmas

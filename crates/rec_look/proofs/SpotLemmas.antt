@@ -14,7 +14,7 @@ use Rattle.rec_syntax.specs.declared.parts.Node.{Node}
 use Rattle.rec_syntax.specs.declared.parts.Term.{Term}
 use Rattle.rec_trace.specs.Lines.{ends_in, behind_end}
 use Rattle.rec_trace.specs.declared.lines.Spot.{Spot}
-use Rattle.rec_look.specs.Telling.{spot_at}
+use Rattle.rec_look.specs.Picks.{spot_at}
 
 -- ---- lines and columns of a text that goes on
 

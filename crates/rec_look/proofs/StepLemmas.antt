@@ -1,8 +1,6 @@
 -- The firings of a trace that were told so far.
 use Rattle.std.proofs.Common.{inl, inr, refl, sym, ap, subst, ◌∙◌, append_assoc, append-nil}
-use Rattle.std.proofs.lemmas.List.{map-append}
-use Rattle.std.proofs.lemmas.List.Concat.{flat_map-append}
-use Rattle.std.specs.Prelude.{ℕ, ◌≡◌, ◌<◌, ◌≤◌, ◌-◌, ◌⊎◌, Bool, true, false, List, [], ◌∷◌, ◌++◌, Option, Some, flat_map, get_or, length, map}
+use Rattle.std.specs.Prelude.{ℕ, ◌≡◌, ◌<◌, ◌≤◌, ◌-◌, ◌⊎◌, Bool, true, false, List, [], ◌∷◌, ◌++◌, Option, Some, get_or, length}
 use Rattle.std.proofs.lemmas.List.{get_or-map, length-map}
 use Rattle.std.specs.Prelude.{slice_get}
 use Rattle.rx_term.specs.Tree.{Tree}
@@ -10,7 +8,7 @@ use Rattle.rx_term.specs.Store.{Store}
 use Rattle.rx_text.specs.declared.output.Output.{Output}
 use Rattle.rec_syntax.specs.Syntax.{Rule, Spec}
 use Rattle.rx_run.specs.declared.ending.RunFault.{RunFault}
-use Rattle.rec_trace.specs.Lines.{firing_line, firing_text, whole_line, whole_text}
+use Rattle.rec_trace.specs.Lines.{firing_line, firing_text, joined, whole_line, whole_text}
 use Rattle.rec_trace.specs.States.{firing_then}
 use Rattle.rec_trace.specs.Trace.{Firing, Traced}
 use Rattle.rec_trace.specs.declared.lines.Spot.{Spot}
@@ -22,21 +20,22 @@ use Rattle.rec_trace.specs.declared.tracer.Turn.{Turn}
 use Rattle.rec_trace.specs.declared.tracer.Turn.TheVariants as turn
 use Rattle.rec_trace.proofs.SideLemmas.{rule-at}
 use Rattle.rec_look.specs.Pages.{Breaks, Prints}
-use Rattle.rec_look.specs.Telling.{HasTold, IsEnd, IsTelling, IsWithin, end_line, rule_spot, step_line, steps_lines, told}
-use Rattle.rec_look.specs.Traces.{Shown, shown_by}
+use Rattle.rec_look.specs.Picks.{Picks, front_lines, picks_by, rule_spot, shown_lines}
+use Rattle.rec_look.specs.Telling.{HasKept, HasTold, IsEnd, IsTelling, IsWithin, Tells, end_line, fresh_lines, lines_behind, told, told_behind}
+use Rattle.rec_look.specs.Traces.{Shown, picked_lines, shown_by, step_line}
+use Rattle.rec_look.specs.declared.trace.kept.Kept.{Kept}
 use Rattle.rec_look.specs.declared.trace.telling.Telling.{Telling}
 use Rattle.rec_look.proofs.PageLemmas.{breaks-before, breaks-behind, prints-both, prints-none}
-use Rattle.rec_look.proofs.TellingLemmas.{told-next, within-end, within-next}
+use Rattle.rec_look.proofs.PickLemmas.{behind-more, behind-none, front-more, front-none, picked-append, shown-more}
+use Rattle.rec_look.proofs.TellingLemmas.{joined-append, within-end, within-next}
 
-steps-append : (source : List ℕ) (shown : Shown) (n : ℕ) (fs gs : List Firing) → steps_lines source shown n (fs ++ gs) ≡ steps_lines source shown n fs ++ steps_lines source shown n gs
-steps-append source shown n fs gs = ap (λ ls. flat_map (λ (l : List ℕ). l) ls) (map-append (step_line source shown n) fs gs) ∙ flat_map-append (λ l. l) (map (step_line source shown n) fs) (map (step_line source shown n) gs)
-
--- these fired, and their lines were written; the rest is left
-pub record SoFar {W : Type 0} (contents : W → Option (List ℕ)) (y : Spec) (first rest : Traced Tree) (telling : Telling) (out now : Output W) (lines more : ℕ) : Type 0 where
+-- these fired, and were told; the rest is left
+pub record SoFar {W : Type 0} (contents : W → Option (List ℕ)) (y : Spec) (first rest : Traced Tree) (telling : Telling) (kept : Kept) (out now : Output W) (lines more : ℕ) : Type 0 where
   pub fired : List Firing
   pub all : first.firings ≡ fired ++ rest.firings
   pub outcome : rest.outcome ≡ first.outcome
-  pub printed : (source : List ℕ) → IsTelling source y telling → Prints contents out now lines more (steps_lines source (shown_by telling.options) telling.options.run.steps fired)
+  pub kept_on : (source : List ℕ) → IsTelling source y telling → HasKept (picks_by telling.options.picked) (picked_lines source (shown_by telling.options) telling.options.run.steps fired) kept
+  pub printed : (source : List ℕ) → IsTelling source y telling → Prints contents out now lines more (joined (front_lines (picks_by telling.options.picked) (picked_lines source (shown_by telling.options) telling.options.run.steps fired)))
 
 module _ {W : Type 0} (contents : W → Option (List ℕ)) (y : Spec) (telling : Telling) (first : Traced Tree) where
   abbrev shown : Shown
@@ -45,38 +44,81 @@ module _ {W : Type 0} (contents : W → Option (List ℕ)) (y : Spec) (telling :
   abbrev n : ℕ
   n = telling.options.run.steps
 
-  pub so-far-none : (out : Output W) (lines : ℕ) → SoFar contents y first first telling out out lines lines
-  so-far-none out lines = record { fired = []; all = refl; outcome = refl; printed = λ source is. prints-none contents out lines }
+  abbrev p : Picks
+  p = picks_by telling.options.picked
 
-  pub so-far-more : (r s : Traced Tree) (f : Firing) (out now new : Output W) (lines more most : ℕ) → SoFar contents y first r telling out now lines more → r ≡ firing_then f s
-      → ((source : List ℕ) → IsTelling source y telling → Prints contents now new more most (step_line source shown n f)) → SoFar contents y first s telling out new lines most
-  so-far-more r s f out now new lines more most h e k = record {
+  abbrev picked : List ℕ → List Firing → List (List ℕ)
+  picked source fs = picked_lines source shown n fs
+
+  pub so-far-none : (kept : Kept) (out : Output W) (lines : ℕ) → HasKept p [] kept → SoFar contents y first first telling kept out out lines lines
+  so-far-none kept out lines h = record {
+    fired = [];
+    all = refl;
+    outcome = refl;
+    kept_on = λ source is. h;
+    printed = λ source is. subst (λ ls. Prints contents out out lines lines (joined ls)) (sym (front-none p)) (prints-none contents out lines);
+  }
+
+  pub so-far-more : (r s : Traced Tree) (f : Firing) (kept kept' : Kept) (out now new : Output W) (lines more most : ℕ) → SoFar contents y first r telling kept out now lines more → r ≡ firing_then f s
+      → ((source : List ℕ) (before : List (List ℕ)) → IsTelling source y telling → HasKept p before kept → Tells contents source telling.options before f kept' now new more most) → SoFar contents y first s telling kept' out new lines most
+  so-far-more r s f kept kept' out now new lines more most h e k = record {
     fired = h.fired ++ f ∷ [];
     all = h.all ∙ ap (λ (z : Traced Tree). h.fired ++ z.firings) e ∙ sym (append_assoc h.fired (f ∷ []) s.firings);
     outcome = ap (λ (z : Traced Tree). z.outcome) (sym e) ∙ h.outcome;
-    printed = λ source is. subst (λ text. Prints contents out new lines most text)
-        (ap (λ z. steps_lines source shown n h.fired ++ z) (sym (append-nil (step_line source shown n f))) ∙ sym (steps-append source shown n h.fired (f ∷ [])))
-        (prints-both contents out now new lines more most (steps_lines source shown n h.fired) (step_line source shown n f) (h.printed source is) (k source is));
+    kept_on = λ source is. subst (λ ls. HasKept p ls kept') (sym (picked-append source shown n h.fired (f ∷ []))) (k source (picked source h.fired) is (h.kept_on source is)).kept_on;
+    printed = λ source is.
+        let before = picked source h.fired in
+        let one = picked source (f ∷ []) in
+        subst (λ text. Prints contents out new lines most text)
+        (sym (joined-append (front_lines p before) (fresh_lines p before one)) ∙ ap joined (sym (front-more p before one) ∙ ap (front_lines p) (sym (picked-append source shown n h.fired (f ∷ [])))))
+        (prints-both contents out now new lines more most (joined (front_lines p before)) (joined (fresh_lines p before one)) (h.printed source is) (k source before is (h.kept_on source is)).printed);
   }
 
-  pub so-far-all : (r : Traced Tree) (out now : Output W) (lines more : ℕ) → SoFar contents y first r telling out now lines more → r.firings ≡ []
-      → (source : List ℕ) → IsTelling source y telling → Prints contents out now lines more (steps_lines source shown n first.firings)
-  so-far-all r out now lines more h e source is =
-      subst (λ fs. Prints contents out now lines more (steps_lines source shown n fs)) (sym (h.all ∙ ap (λ fs. h.fired ++ fs) e ∙ append-nil h.fired)) (h.printed source is)
+  -- nothing is left
+  all-fired : (r : Traced Tree) (fired : List Firing) → first.firings ≡ fired ++ r.firings → r.firings ≡ [] → fired ≡ first.firings
+  all-fired r fired all e = sym (all ∙ ap (λ fs. fired ++ fs) e ∙ append-nil fired)
 
-  pub so-far-breaks : (r : Traced Tree) (out now new : Output W) (lines more : ℕ) (f : RunFault) → SoFar contents y first r telling out now lines more
-      → ((source notes : List ℕ) → IsTelling source y telling → Breaks contents now new more (told source shown n notes r) f)
+  pub so-far-kept : (r : Traced Tree) (kept : Kept) (out now : Output W) (lines more : ℕ) → SoFar contents y first r telling kept out now lines more → r.firings ≡ []
+      → (source : List ℕ) → IsTelling source y telling → HasKept p (picked source first.firings) kept
+  so-far-kept r kept out now lines more h e source is = subst (λ fs. HasKept p (picked source fs) kept) (all-fired r h.fired h.all e) (h.kept_on source is)
+
+  pub so-far-all : (r : Traced Tree) (kept : Kept) (out now : Output W) (lines more : ℕ) → SoFar contents y first r telling kept out now lines more → r.firings ≡ []
+      → (source : List ℕ) → IsTelling source y telling → Prints contents out now lines more (joined (front_lines p (picked source first.firings)))
+  so-far-all r kept out now lines more h e source is = subst (λ fs. Prints contents out now lines more (joined (front_lines p (picked source fs)))) (all-fired r h.fired h.all e) (h.printed source is)
+
+  pub so-far-breaks : (r : Traced Tree) (kept : Kept) (out now new : Output W) (lines more : ℕ) (f : RunFault) → SoFar contents y first r telling kept out now lines more
+      → ((source notes : List ℕ) (before : List (List ℕ)) → IsTelling source y telling → HasKept p before kept → Breaks contents now new more (told_behind source shown n notes before r) f)
       → (source notes : List ℕ) → IsTelling source y telling → Breaks contents out new lines (told source shown n notes first) f
-  so-far-breaks r out now new lines more f h k source notes is =
-      let done = steps_lines source shown n h.fired in
-      let left = steps_lines source shown n r.firings in
+  so-far-breaks r kept out now new lines more f h k source notes is =
+      let before = picked source h.fired in
+      let left = picked source r.firings in
       let end = end_line shown.counted n notes r.outcome in
-      let text : told source shown n notes first ≡ done ++ told source shown n notes r =
-      ap (λ fs. steps_lines source shown n fs ++ end_line shown.counted n notes first.outcome) h.all
-      ∙ ap (λ z. z ++ end_line shown.counted n notes first.outcome) (steps-append source shown n h.fired r.firings)
-      ∙ append_assoc done left (end_line shown.counted n notes first.outcome)
-      ∙ ap (λ o. done ++ (left ++ end_line shown.counted n notes o)) (sym h.outcome) in
-      subst (λ z. Breaks contents out new lines z f) (sym text) (breaks-behind contents out now new lines more done (told source shown n notes r) f (h.printed source is) (k source notes is))
+      let behind = lines_behind p before left in
+      let text : told source shown n notes first ≡ joined (front_lines p before) ++ told_behind source shown n notes before r =
+      ap (λ fs. joined (shown_lines p (picked source fs)) ++ end_line shown.counted n notes first.outcome) h.all
+      ∙ ap (λ o. joined (shown_lines p (picked source (h.fired ++ r.firings))) ++ end_line shown.counted n notes o) (sym h.outcome)
+      ∙ ap (λ ls. joined ls ++ end) (ap (shown_lines p) (picked-append source shown n h.fired r.firings) ∙ shown-more p before left)
+      ∙ ap (λ t. t ++ end) (joined-append (front_lines p before) behind)
+      ∙ append_assoc (joined (front_lines p before)) (joined behind) end in
+      subst (λ z. Breaks contents out new lines z f) (sym text) (breaks-behind contents out now new lines more (joined (front_lines p before)) (told_behind source shown n notes before r) f (h.printed source is) (k source notes before is (h.kept_on source is)))
+
+-- at first all is to be written yet
+pub told-first : (source : List ℕ) (shown : Shown) (n : ℕ) (notes : List ℕ) (t : Traced Tree) → told_behind source shown n notes [] t ≡ told source shown n notes t
+told-first source shown n notes t = ap (λ ls. joined ls ++ end_line shown.counted n notes t.outcome) (behind-none shown.picked (picked_lines source shown n t.firings))
+
+-- what is to be written yet begins with what a firing adds in front
+pub told-next : (source : List ℕ) (shown : Shown) (n : ℕ) (notes : List ℕ) (before : List (List ℕ)) (f : Firing) (t r : Traced Tree) → r ≡ firing_then f t
+    → told_behind source shown n notes before r ≡ joined (fresh_lines shown.picked before (picked_lines source shown n (f ∷ []))) ++ told_behind source shown n notes (before ++ picked_lines source shown n (f ∷ [])) t
+told-next source shown n notes before f t r e =
+    let one = picked_lines source shown n (f ∷ []) in
+    let left = picked_lines source shown n t.firings in
+    let end = end_line shown.counted n notes t.outcome in
+    let fresh = fresh_lines shown.picked before one in
+    let behind = lines_behind shown.picked (before ++ one) left in
+    ap (told_behind source shown n notes before) e
+    ∙ ap (λ ls. joined ls ++ end) (ap (lines_behind shown.picked before) (picked-append source shown n (f ∷ []) t.firings) ∙ behind-more shown.picked before one left)
+    ∙ ap (λ z. z ++ end) (joined-append fresh behind)
+    ∙ append_assoc (joined fresh) (joined behind) end
 
 -- ---- the spot of a rule that fired
 
@@ -134,19 +176,23 @@ fired-left y w w' old new rule redex contractum n f k =
     let at = within-next n f.firing (rest_of y w' new) (rest_of y w old) f.next k in
     (subst (λ m. m ≤ n) f.left_is at.0, at.1)
 
-module _ {W : Type 0} (contents : W → Option (List ℕ)) (z : Spec) (w w' : Store) (old new : Tracer) (telling : Telling) (rule : ℕ) (redex contractum : Reference) (f : HasFired z w w' old new rule redex contractum) (line : List ℕ) (line_is : (source : List ℕ) → IsTelling source z telling → line ≡ step_line source (shown_by telling.options) telling.options.run.steps f.firing) where
-  pub told-turn : (w2 : Store) (out now : Output W) (lines more : ℕ) → rest_of z w2 new ≡ rest_of z w' new → Stands z w2 new → Prints contents out now lines more line → HasTold contents z w w2 old new telling out now lines more
-  told-turn w2 out now lines more same stands h = record {
+module _ {W : Type 0} (contents : W → Option (List ℕ)) (z : Spec) (w w' : Store) (old new : Tracer) (telling : Telling) (kept : Kept) (rule : ℕ) (redex contractum : Reference) (f : HasFired z w w' old new rule redex contractum) where
+  pub told-turn : (w2 : Store) (kept' : Kept) (out now : Output W) (lines more : ℕ) → rest_of z w2 new ≡ rest_of z w' new → Stands z w2 new
+      → ((source : List ℕ) (before : List (List ℕ)) → IsTelling source z telling → HasKept (picks_by telling.options.picked) before kept → Tells contents source telling.options before f.firing kept' out now lines more)
+      → HasTold contents z w w2 old new telling kept kept' out now lines more
+  told-turn w2 kept' out now lines more same stands h = record {
     firing = f.firing;
     next = f.next ∙ ap (firing_then f.firing) (sym same);
     stands = stands;
-    printed = λ source is. subst (λ text. Prints contents out now lines more text) (line_is source is) h;
+    told = h;
   }
 
-  pub told-break : (out now : Output W) (lines : ℕ) (fault : RunFault) → Breaks contents out now lines line fault → (source notes : List ℕ) → IsTelling source z telling → Breaks contents out now lines (told source (shown_by telling.options) telling.options.run.steps notes (rest_of z w old)) fault
-  told-break out now lines fault h source notes is =
+  pub told-break : (source notes : List ℕ) (before : List (List ℕ)) (out now : Output W) (lines : ℕ) (fault : RunFault)
+      → Breaks contents out now lines (joined (fresh_lines (picks_by telling.options.picked) before (picked_lines source (shown_by telling.options) telling.options.run.steps (f.firing ∷ [])))) fault
+      → Breaks contents out now lines (told_behind source (shown_by telling.options) telling.options.run.steps notes before (rest_of z w old)) fault
+  told-break source notes before out now lines fault h =
       let shown = shown_by telling.options in
       let n = telling.options.run.steps in
-      subst (λ text. Breaks contents out now lines text fault) (sym (told-next source shown n notes f.firing (rest_of z w' new) (rest_of z w old) f.next))
-      (breaks-before contents out now lines (step_line source shown n f.firing) (told source shown n notes (rest_of z w' new)) fault
-      (subst (λ text. Breaks contents out now lines text fault) (line_is source is) h))
+      let one = picked_lines source shown n (f.firing ∷ []) in
+      subst (λ text. Breaks contents out now lines text fault) (sym (told-next source shown n notes before f.firing (rest_of z w' new) (rest_of z w old) f.next))
+      (breaks-before contents out now lines (joined (fresh_lines shown.picked before one)) (told_behind source shown n notes (before ++ one) (rest_of z w' new)) fault h)

@@ -1,7 +1,7 @@
 -- What a trace's firings and its end come to as text.
 use Rattle.std.proofs.Common.{refl, sym, ap, ap₂, subst, ◌∙◌, arith, append_assoc, append-nil}
 use Rattle.std.proofs.lemmas.List.Concat.{flat_map-append}
-use Rattle.std.specs.Prelude.{ℕ, ◌≡◌, ◌-◌, ◌≤◌, Bool, true, false, List, [], ◌∷◌, ◌++◌, Some, None, codes, is_some, map, unwrap_or}
+use Rattle.std.specs.Prelude.{ℕ, ◌≡◌, ◌-◌, ◌≤◌, Bool, true, false, List, [], ◌∷◌, ◌++◌, Some, None, codes, is_some, unwrap_or}
 use Rattle.rx_term.specs.Tree.{Tree, Trees, list_of, none}
 use Rattle.rx_term.specs.Store.{Store, tree_at}
 use Rattle.rx_term.specs.declared.Term.{Term as Reference}
@@ -20,12 +20,13 @@ use Rattle.rec_run.specs.EvaluatedLines.{HoldsValue}
 use Rattle.rec_run.specs.GivenTerms.{item_at}
 use Rattle.rec_run.specs.Output.{Task, notes_text}
 use Rattle.rec_run.proofs.SpecLineLemmas.{canon_annotated}
-use Rattle.rec_trace.specs.Lines.{joined, spent_text, value_line, firing_line, whole_line, whole_text}
+use Rattle.rec_trace.specs.Lines.{joined, spent_text, value_line, whole_text}
 use Rattle.rec_trace.specs.States.{firing_then}
 use Rattle.rec_trace.specs.Trace.{Arrives, Firing, Follow, Trace, Traced, quiet}
 use Rattle.rec_trace.proofs.TraceLemmas.{trace_law}
-use Rattle.rec_look.specs.Telling.{IsEnd, IsWithin, end_line, end_text, first_text, step_line, steps_lines, told}
-use Rattle.rec_look.specs.Traces.{Shown, task_text}
+use Rattle.rec_look.specs.Picks.{shown_lines}
+use Rattle.rec_look.specs.Telling.{IsEnd, IsWithin, end_line, end_text, first_text, told}
+use Rattle.rec_look.specs.Traces.{Shown, first_lines, picked_lines, task_text}
 
 -- ---- no more is left than there was at first
 
@@ -59,14 +60,6 @@ within-end n v left r e h = (subst (IsWithin n) e h).outcome
 
 -- ---- texts
 
--- that of one firing more
-pub told-next : (source : List ℕ) (shown : Shown) (n : ℕ) (notes : List ℕ) (f : Firing) (t r : Traced Tree) → r ≡ firing_then f t → told source shown n notes r ≡ step_line source shown n f ++ told source shown n notes t
-told-next source shown n notes f t r e =
-    ap (told source shown n notes) e ∙ append_assoc (step_line source shown n f) (steps_lines source shown n t.firings) (end_line shown.counted n notes t.outcome)
-
-pub steps-next : (source : List ℕ) (shown : Shown) (n : ℕ) (f : Firing) (t r : Traced Tree) → r ≡ firing_then f t → steps_lines source shown n r.firings ≡ step_line source shown n f ++ steps_lines source shown n t.firings
-steps-next source shown n f t r e = ap (λ (z : Traced Tree). steps_lines source shown n z.firings) e
-
 -- a value that was come to is held, and is written as the trace's
 held-value : (w : Store) (r : Reference) (v : Tree) → tree_at w r ≡ Some v → item_at w r ≡ v
 held-value w r v e = ap (λ o. unwrap_or o (list_of none)) e
@@ -93,34 +86,31 @@ value-end y counted n t notes Over e = refl
 
 -- ---- all that is written of a term
 
-joined-append : (xs ys : List (List ℕ)) → joined (xs ++ ys) ≡ joined xs ++ joined ys
+pub joined-append : (xs ys : List (List ℕ)) → joined (xs ++ ys) ≡ joined xs ++ joined ys
 joined-append xs ys = flat_map-append (λ l. l) xs ys
 
-joined-one : (xs : List ℕ) → joined (xs ∷ []) ≡ xs
+pub joined-one : (xs : List ℕ) → joined (xs ∷ []) ≡ xs
 joined-one xs = append-nil xs
 
-lines-text : (source : List ℕ) (y : Spec) (shown : Shown) (n : ℕ) (task : Task) → task_text source y shown n task
-    ≡ first_text shown (tree_of task.term) ++ (steps_lines source shown n (Trace y n task.term).firings ++ value_line shown.counted n task.notes (Trace y n task.term).outcome)
-lines-text source y shown n task = by shown.whole
+first-joined : (shown : Shown) (u : Tree) → joined (first_lines shown u) ≡ first_text shown u
+first-joined shown u = by shown.whole
   where
-    last : List ℕ
-    last = value_line shown.counted n task.notes (Trace y n task.term).outcome
+    with_whole : Bool → Shown
+    with_whole whole = record { whole = whole; counted = shown.counted; width = shown.width; picked = shown.picked }
 
-    by : (whole : Bool) → joined ((elim whole [
-      | true ↦ whole_text 0 0 false shown.width 0 (tree_of task.term) ∷ map (whole_line source shown.counted shown.width n) (Trace y n task.term).firings
-      | false ↦ map (firing_line source shown.counted shown.width n) (Trace y n task.term).firings
-    ]) ++ last ∷ []) ≡ first_text (record { whole = whole; counted = shown.counted; width = shown.width }) (tree_of task.term) ++ (steps_lines source (record { whole = whole; counted = shown.counted; width = shown.width }) n (Trace y n task.term).firings ++ last)
-    by true =
-        let first = whole_text 0 0 false shown.width 0 (tree_of task.term) in
-        let lines = map (whole_line source shown.counted shown.width n) (Trace y n task.term).firings in
-        ap (λ z. first ++ z) (joined-append lines (last ∷ []) ∙ ap (λ z. joined lines ++ z) (joined-one last))
-    by false =
-        let lines = map (firing_line source shown.counted shown.width n) (Trace y n task.term).firings in
-        joined-append lines (last ∷ []) ∙ ap (λ z. joined lines ++ z) (joined-one last)
+    by : (whole : Bool) → joined (first_lines (with_whole whole) u) ≡ first_text (with_whole whole) u
+    by true = joined-one (whole_text 0 0 false shown.width 0 u)
+    by false = refl
 
 pub task-told : (source : List ℕ) (y : Spec) (shown : Shown) (n : ℕ) (task : Task) → fault y ≡ None
     → task_text source y shown n task ≡ first_text shown (tree_of task.term) ++ told source shown n (notes_text task.notes) (Trace y n task.term)
 task-told source y shown n task good =
-    lines-text source y shown n task
-    ∙ ap (λ z. first_text shown (tree_of task.term) ++ (steps_lines source shown n (Trace y n task.term).firings ++ z))
-    (sym (value-end y shown.counted n task.term task.notes (Trace y n task.term).outcome (sym (trace_law y good n task.term).0)))
+    let r = Trace y n task.term in
+    let first = first_lines shown (tree_of task.term) in
+    let steps = shown_lines shown.picked (picked_lines source shown n r.firings) in
+    let last : List ℕ = value_line shown.counted n task.notes r.outcome in
+    joined-append (first ++ steps) (last ∷ [])
+    ∙ ap₂ (λ (a b : List ℕ). a ++ b) (joined-append first steps) (joined-one last)
+    ∙ append_assoc (joined first) (joined steps) last
+    ∙ ap₂ (λ (a b : List ℕ). a ++ (joined steps ++ b)) (first-joined shown (tree_of task.term))
+    (sym (value-end y shown.counted n task.term task.notes r.outcome (sym (trace_law y good n task.term).0)))

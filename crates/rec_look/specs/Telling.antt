@@ -1,11 +1,12 @@
 -- How a trace is told by a tracer's turns.
-use Rattle.std.specs.Prelude.{ℕ, ◌-◌, ◌≡◌, ◌≤◌, ◌++◌, Bool, true, false, List, [], Option, Some, None, Vec, codes, decimal, flat_map, map}
+use Rattle.std.specs.Prelude.{ℕ, zero, suc, ◌-◌, ◌≡◌, ◌≤◌, ◌==◌, ◌++◌, ◌∷◌, Bool, true, false, List, [], Option, Some, None, Vec, codes, decimal, drop, flat_map, if◌then◌else◌, length, map}
+use Rattle.std.specs.Option.{option_to_list}
 use Rattle.std.specs.declared.alloc.Global.{Global}
 use Rattle.rx_term.specs.Tree.{Tree, annotations, none}
 use Rattle.rx_term.specs.Store.{Store, tree_at}
 use Rattle.rx_text.specs.Canon.{canon}
 use Rattle.rx_text.specs.declared.output.Output.{Output}
-use Rattle.rec_syntax.specs.Syntax.{Rule, Spec, Term, head}
+use Rattle.rec_syntax.specs.Syntax.{Spec, Term}
 use Rattle.rec_sorts.specs.Binding.{tree_of}
 use Rattle.rec_sorts.specs.Evaluation as evaluation
 use Rattle.rec_sorts.specs.Laws.{Every}
@@ -18,38 +19,29 @@ use Rattle.rx_run.specs.Due.{steps_text}
 use Rattle.rec_run.specs.GivenTerms.{item_at}
 use Rattle.rec_run.specs.Output.{Task, notes_text}
 use Rattle.rec_run.specs.Reading.{term_at}
-use Rattle.rec_trace.specs.Lines.{column_of, firing_line, joined, line_of, whole_line, whole_text}
+use Rattle.rec_trace.specs.Lines.{joined, whole_text}
 use Rattle.rec_trace.specs.States.{firing_then}
 use Rattle.rec_trace.specs.Trace.{Firing, Trace, Traced}
 use Rattle.rec_trace.specs.Tracing.{Stands, rest_of, whole_of}
-use Rattle.rec_trace.specs.declared.lines.Spot.{Spot}
 use Rattle.rec_trace.specs.declared.tracer.Tracer.{Tracer}
 use Rattle.rec_look.specs.Pages.{Prints}
-use Rattle.rec_look.specs.Traces.{Shown, shown_by, task_text}
+use Rattle.rec_look.specs.Picks.{Picks, back_count, front_lines, left_out_count, picks_by, rest_lines, rule_spot, shown_lines}
+use Rattle.rec_look.specs.Traces.{Shown, picked_lines, shown_by, task_text}
 use Rattle.rec_look.specs.declared.trace.given.GivenTerms.{GivenTerms}
+use Rattle.rec_look.specs.declared.trace.kept.Kept.{Kept}
+use Rattle.rec_look.specs.declared.trace.kept.Place.{Place}
+use Rattle.rec_look.specs.declared.trace.kept.Place.TheVariants.{Front, Behind, Nowhere}
+use Rattle.rec_look.specs.declared.trace.options.TraceOptions.{TraceOptions}
 use Rattle.rec_look.specs.declared.trace.telling.Telling.{Telling}
-
--- the spot of a byte, and that at which a rule begins
-abbrev pub spot_at : List ℕ → ℕ → Spot
-spot_at source at = record { line = line_of source at; column = column_of source at }
-
-abbrev pub rule_spot : List ℕ → Rule → Spot
-rule_spot source r = spot_at source (head r.left).at
 
 -- it has the spots of a specification's rules, by the text of that
 abbrev pub IsTelling : List ℕ → Spec → Telling → Type 0
 IsTelling source y t = t.spots.items ≡ map (rule_spot source) y.rules
 
--- the line of a firing
-abbrev pub step_line : List ℕ → Shown → ℕ → Firing → List ℕ
-step_line source shown n f = elim shown.whole [
-  | true ↦ whole_line source shown.counted shown.width n f
-  | false ↦ firing_line source shown.counted shown.width n f
-]
-
--- the lines of firings
+-- what is written of firings
 abbrev pub steps_lines : List ℕ → Shown → ℕ → List Firing → List ℕ
-steps_lines source shown n fs = joined (map (step_line source shown n) fs)
+steps_lines source shown n fs =
+    joined (shown_lines shown.picked (picked_lines source shown n fs))
 
 -- the line of what a term comes to, with a text of its annotations
 abbrev pub end_line : Bool → ℕ → List ℕ → evaluation.Outcome Tree → List ℕ
@@ -61,6 +53,38 @@ end_line counted n notes evaluation.Over = codes "!limit " ++ decimal n ++ codes
 abbrev pub told : List ℕ → Shown → ℕ → List ℕ → Traced Tree → List ℕ
 told source shown n notes t = steps_lines source shown n t.firings
     ++ end_line shown.counted n notes t.outcome
+
+-- where these are the lines of the picked firings so far, the front ones are written already: those
+-- in front that more lines add, and all that is to be written yet
+abbrev pub fresh_lines : Picks → List (List ℕ) → List (List ℕ) → List (List ℕ)
+fresh_lines p before ls = drop (length (front_lines p before)) (front_lines p (before ++ ls))
+
+abbrev pub lines_behind : Picks → List (List ℕ) → List (List ℕ) → List (List ℕ)
+lines_behind p before ls = drop (length (front_lines p before)) (shown_lines p (before ++ ls))
+
+-- all that is written yet of what is left of a trace
+abbrev pub told_behind : List ℕ → Shown → ℕ → List ℕ → List (List ℕ) → Traced Tree → List ℕ
+told_behind source shown n notes before t =
+    joined (lines_behind shown.picked before (picked_lines source shown n t.firings))
+    ++ end_line shown.counted n notes t.outcome
+
+-- how many lines in front are still to be written; all, where there is no number
+abbrev pub front_left : Picks → ℕ → Option ℕ
+front_left p k = elim p.first [
+  | Some n ↦ Some (n - k)
+  | None ↦ elim p.last [ Some n ↦ Some 0 | None ↦ None ]
+]
+
+-- the texts of lines
+abbrev pub texts_of : List (Vec ℕ Global) → List (List ℕ)
+texts_of lines = map (λ (line : Vec ℕ Global). line.items) lines
+
+-- what is kept of a term's lines, where these are the lines of the picked firings so far
+pub record HasKept (p : Picks) (ls : List (List ℕ)) (k : Kept) : Type 0 where
+  pub front : k.front ≡ front_left p (length ls)
+  pub most : k.most ≡ back_count p
+  pub last : texts_of k.last.items ≡ drop (left_out_count p ls) (rest_lines p ls)
+  pub left_out : k.left_out ≡ left_out_count p ls
 
 -- no more is left than there was at first
 abbrev pub LeavesWithin : ℕ → evaluation.Outcome Tree → Type 0
@@ -83,23 +107,52 @@ end_text w counted n notes (Value t steps) =
     canon (item_at w t) ++ notes ++ steps_text counted steps
 end_text w counted n notes Limit = codes "!limit " ++ decimal n
 
--- a rule fired, and its line was written
+-- what becomes of a term's next line
+abbrev pub place_of : Kept → Place
+place_of k = elim k.front [
+  | None ↦ Front
+  | Some left ↦ elim left [
+    | zero ↦ if k.most == 0 then Nowhere else Behind
+    | suc more ↦ Front
+  ]
+]
+
+-- what is kept takes up a firing, and this is the line that it adds in front, where it adds one
+pub record TakesUp (source : List ℕ) (options : TraceOptions) (before : List (List ℕ)) (f : Firing)
+    (kept : Kept) (line : Option (Vec ℕ Global)) : Type 0 where
+  pub kept_on : HasKept (picks_by options.picked)
+      (before ++ picked_lines source (shown_by options) options.run.steps (f ∷ [])) kept
+  pub fresh : fresh_lines (picks_by options.picked) before
+      (picked_lines source (shown_by options) options.run.steps (f ∷ []))
+      ≡ texts_of (option_to_list line)
+
+-- a firing was told: what is kept took it up, and what it adds in front was written
+pub record Tells {W : Type 0} (contents : W → Option (List ℕ)) (source : List ℕ)
+    (options : TraceOptions) (before : List (List ℕ)) (f : Firing) (kept : Kept)
+    (out out' : Output W) (lines more : ℕ) : Type 0 where
+  pub kept_on : HasKept (picks_by options.picked)
+      (before ++ picked_lines source (shown_by options) options.run.steps (f ∷ [])) kept
+  pub printed : Prints contents out out' lines more (joined (fresh_lines (picks_by options.picked)
+      before (picked_lines source (shown_by options) options.run.steps (f ∷ []))))
+
+-- a rule fired, and was told
 pub record HasTold {W : Type 0} (contents : W → Option (List ℕ)) (y : Spec) (w w' : Store)
-    (old new : Tracer) (telling : Telling) (out out' : Output W) (lines more : ℕ) : Type 0 where
+    (old new : Tracer) (telling : Telling) (kept kept' : Kept) (out out' : Output W) (lines more : ℕ)
+    : Type 0 where
   pub firing : Firing
   pub next : rest_of y w old ≡ firing_then firing (rest_of y w' new)
   pub stands : Stands y w' new
-  pub printed : (source : List ℕ) → IsTelling source y telling
-      → Prints contents out out' lines more
-      (step_line source (shown_by telling.options) telling.options.run.steps firing)
+  pub told : (source : List ℕ) (before : List (List ℕ)) → IsTelling source y telling
+      → HasKept (picks_by telling.options.picked) before kept
+      → Tells contents source telling.options before firing kept' out out' lines more
 
 -- a turn of a tracer was told; or nothing more fires, and this is what the trace comes to
 abbrev pub IsToldTurn : {W : Type 0} → (W → Option (List ℕ)) → Spec → Store → Store → Tracer → Tracer
-    → Telling → Output W → Output W → ℕ → ℕ → Option Outcome → Type 0
-IsToldTurn contents y w w' old new telling out out' lines more None =
-    HasTold contents y w w' old new telling out out' lines more
-IsToldTurn contents y w w' old new telling out out' lines more (Some o) = (out' ≡ out)
-    × (more ≡ lines) × ((rest_of y w old).firings ≡ [])
+    → Telling → Kept → Kept → Output W → Output W → ℕ → ℕ → Option Outcome → Type 0
+IsToldTurn contents y w w' old new telling kept kept' out out' lines more None =
+    HasTold contents y w w' old new telling kept kept' out out' lines more
+IsToldTurn contents y w w' old new telling kept kept' out out' lines more (Some o) = (out' ≡ out)
+    × (more ≡ lines) × (kept' ≡ kept) × ((rest_of y w old).firings ≡ [])
     × IsEnd w' telling.options.run.steps (rest_of y w old).outcome o
 
 -- a tracer is at the beginning of a term's trace

@@ -2,31 +2,62 @@
 --     task_text source y shown n task   all that is written for a term
 --     traces source y given shown n     the traces of a specification's own terms and of given ones
 --     IsTraceDueFor shown n texts d     what is due for a specification and terms
-use Rattle.std.specs.Prelude.{ℕ, ◌≡◌, ◌<◌, ◌^◌, Bool, not, List, [], Option, Some, None, filter, flat_map, length}
+use Rattle.std.specs.Prelude.{ℕ, ◌≡◌, ◌<◌, ◌^◌, ◌||◌, Bool, true, false, not, List, [], ◌∷◌, ◌++◌, Option, Some, None, filter, flat_map, length, map, nat_eq}
 use Rattle.rx_term.specs.Tree.{Tree}
 use Rattle.rec_syntax.specs.Syntax.{Spec}
+use Rattle.rec_sorts.specs.Binding.{tree_of}
 use Rattle.rec_sorts.specs.SpecRules.{Verdict, Good, SpecVerdict, fault}
 use Rattle.rx_run.specs.Due.{Due, done}
 use Rattle.rec_run.specs.Output.{Task, TermsVerdict, GoodTerms, IsTermsVerdict, bare, due_of_spec, due_of_terms, each_line, tasks}
 use Rattle.rec_run.specs.Run.{Texts}
-use Rattle.rec_trace.specs.Lines.{begins_with_digit, joined, term_lines}
+use Rattle.rec_trace.specs.Lines.{begins_with_digit, firing_line, joined, term_lines, value_line, whole_line, whole_text}
+use Rattle.rec_trace.specs.Trace.{Firing, Trace}
+use Rattle.rec_look.specs.Picks.{Picks, all_picked, is_picked, picks_by, shown_lines}
 use Rattle.rec_look.specs.declared.trace.options.TraceOptions.{TraceOptions}
 
 -- how traces look: whether the whole term stands behind each firing, whether the steps spent do,
--- and how many bytes a term has at most
+-- how many bytes a term has at most, and which firings are told
 pub record Shown : Type 0 where
   pub whole : Bool
   pub counted : Bool
   pub width : Option ℕ
+  pub picked : Picks
 
 -- as these options say
 abbrev pub shown_by : TraceOptions → Shown
-shown_by o = record { whole = o.whole; counted = o.run.count; width = o.width }
+shown_by o = record {
+  whole = o.whole;
+  counted = o.run.count;
+  width = o.width;
+  picked = picks_by o.picked;
+}
 
--- the lines of a term: those of the rules that fire, and that of what it comes to
+-- the line of a firing
+abbrev pub step_line : List ℕ → Shown → ℕ → Firing → List ℕ
+step_line source shown n f = elim shown.whole [
+  | true ↦ whole_line source shown.counted shown.width n f
+  | false ↦ firing_line source shown.counted shown.width n f
+]
+
+-- the lines of the firings that are picked
+abbrev pub picked_lines : List ℕ → Shown → ℕ → List Firing → List (List ℕ)
+picked_lines source shown n fs =
+    map (step_line source shown n) (filter (is_picked source shown.picked) fs)
+
+-- with whole terms the line of the term itself, at `0:0:`
+abbrev pub first_lines : Shown → Tree → List (List ℕ)
+first_lines shown u = elim shown.whole [
+  | true ↦ whole_text 0 0 false shown.width 0 u ∷ []
+  | false ↦ []
+]
+
+-- the lines of a term: those of rules that fire, and that of what it comes to
 abbrev pub task_lines : List ℕ → Spec → Shown → ℕ → Task → List (List ℕ)
 task_lines source y shown n task =
-    term_lines source y shown.whole shown.counted shown.width n task.term task.notes
+    let trace = Trace y n task.term in
+    first_lines shown (tree_of task.term)
+    ++ shown_lines shown.picked (picked_lines source shown n trace.firings)
+    ++ value_line shown.counted n task.notes trace.outcome ∷ []
 
 -- all that is written for a term
 abbrev pub task_text : List ℕ → Spec → Shown → ℕ → Task → List ℕ
@@ -67,9 +98,29 @@ abbrev pub OneTraceDue : Type 0
 OneTraceDue = (shown : Shown) (n : ℕ) (texts : Texts) (d e : Due)
     → IsTraceDueFor shown n texts d → IsTraceDueFor shown n texts e → d ≡ e
 
--- the lines of a trace that begin with no digit are the lines of evaluation
+-- where nothing is picked, the lines of a term are those of its trace, each firing's among them
+abbrev pub WholeTraceLaw : Type 0
+WholeTraceLaw = (source : List ℕ) (y : Spec) (shown : Shown) (n : ℕ) (task : Task)
+    → shown.picked ≡ all_picked → task_lines source y shown n task
+    ≡ term_lines source y shown.whole shown.counted shown.width n task.term task.notes
+
+-- a text begins with a `.`
+abbrev pub begins_with_dot : List ℕ → Bool
+begins_with_dot [] = false
+begins_with_dot (b ∷ bs) = nat_eq b 46
+
+-- the lines of a trace that begin with neither a digit nor a `.` are the lines of evaluation
 abbrev pub ValuesLaw : Type 0
 ValuesLaw = (source : List ℕ) (y : Spec) (given : List Tree) (shown : Shown) (n : ℕ)
+    → fault y ≡ None → length source < 2 ^ 63
+    → filter (λ l. not (begins_with_digit l || begins_with_dot l))
+    (trace_lines source y given shown n)
+    ≡ each_line y given (bare shown.counted) n
+
+-- where neither the first firings nor the last are asked for, those that begin with no digit are
+abbrev pub DigitsLaw : Type 0
+DigitsLaw = (source : List ℕ) (y : Spec) (given : List Tree) (shown : Shown) (n : ℕ)
+    → shown.picked.first ≡ None → shown.picked.last ≡ None
     → fault y ≡ None → length source < 2 ^ 63
     → filter (λ l. not (begins_with_digit l)) (trace_lines source y given shown n)
     ≡ each_line y given (bare shown.counted) n

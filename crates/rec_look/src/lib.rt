@@ -6,4 +6,5 @@ pub mod laws;
 mod trace;
 
 pub use trace::options::TraceOptions;
+pub use trace::picked::{Picked, RulePlace};
 pub use trace::runs::run_trace;

@@ -1,9 +1,9 @@
 //! The options of runs.
 
-use rec_look::TraceOptions;
+use rec_look::{Picked, TraceOptions};
 use rec_run::{LimitLines, RunOptions, RunSettings};
 use rec_serve::ServeSettings;
-use recw_words::{EvalOptions, Shown};
+use recw_words::{EvalOptions, RulePlace, Shown};
 
 /// What a run may use.
 fn run_options(options: EvalOptions) -> RunOptions {
@@ -34,12 +34,31 @@ pub fn run_settings(options: EvalOptions) -> RunSettings {
     }
 }
 
+/// Which of the rules that fire are shown.
+fn picked(shown: Shown<'_>) -> Picked<'_> {
+    Picked {
+        place: shown.rule.map(rule_place),
+        symbol: shown.symbol.map(str::as_bytes),
+        first: shown.first,
+        last: shown.last,
+    }
+}
+
+/// The place of a rule, as a trace is told of it.
+fn rule_place(place: RulePlace) -> rec_look::RulePlace {
+    rec_look::RulePlace {
+        line: place.line,
+        column: place.column,
+    }
+}
+
 /// All that a trace is told.
-pub fn trace_options(options: EvalOptions, shown: Shown) -> TraceOptions {
+pub fn trace_options(options: EvalOptions, shown: Shown<'_>) -> TraceOptions<'_> {
     TraceOptions {
         run: run_options(options),
         whole: shown.whole,
         width: shown.width,
+        picked: picked(shown),
     }
 }
 

@@ -164,7 +164,7 @@ fn run_on_text<R: Read, W: Write>(
 /// Evaluates a specification, and the terms that are given beside it.
 fn evaluate<H: Files, R: Read, W: Write>(
     rt: &H,
-    work: Work,
+    work: Work<'_>,
     input: &mut R,
     out: &mut W,
     evidence: &mut Evidence<'_>,
@@ -179,7 +179,7 @@ fn evaluate<H: Files, R: Read, W: Write>(
 /// Evaluates a specification in a file, and given terms on the standard input.
 fn evaluate_on_input<H: Files, R: Read, W: Write>(
     rt: &H,
-    work: Work,
+    work: Work<'_>,
     input: &mut R,
     out: &mut W,
     evidence: &mut Evidence<'_>,
@@ -197,7 +197,7 @@ fn evaluate_on_input<H: Files, R: Read, W: Write>(
 /// Evaluates a specification in a file or on the standard input, and given terms from elsewhere.
 fn evaluate_on_files<H: Files, R: Read, W: Write>(
     rt: &H,
-    work: Work,
+    work: Work<'_>,
     input: &mut R,
     out: &mut W,
     evidence: &mut Evidence<'_>,
@@ -214,7 +214,7 @@ fn evaluate_on_files<H: Files, R: Read, W: Write>(
 /// Evaluates the text of a specification, and the terms that are given beside it.
 fn evaluate_text<H: Files, R: Read, W: Write>(
     rt: &H,
-    work: Work,
+    work: Work<'_>,
     spec: &mut R,
     out: &mut W,
     evidence: &mut Evidence<'_>,
@@ -230,7 +230,7 @@ fn evaluate_text<H: Files, R: Read, W: Write>(
 
 /// Evaluates a specification and the terms that stand among the words.
 fn evaluate_words<R: Read, W: Write>(
-    work: Work,
+    work: Work<'_>,
     spec: &mut R,
     out: &mut W,
     evidence: &mut Evidence<'_>,
@@ -243,7 +243,7 @@ fn evaluate_words<R: Read, W: Write>(
 
 /// Evaluates a specification and given terms, whose text is kept for an explanation.
 fn evaluate_with<R: Read, T: Read + Drop, W: Write>(
-    work: Work,
+    work: Work<'_>,
     spec: &mut R,
     terms: Option<T>,
     out: &mut W,

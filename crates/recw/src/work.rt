@@ -9,14 +9,14 @@ use std::io::{Read, Write};
 
 /// What is told of terms that are evaluated.
 #[derive(Clone, Copy)]
-pub enum Work {
+pub enum Work<'a> {
     /// Their values.
     Values(EvalOptions),
     /// The rules that fire, and the values.
-    Trace(EvalOptions, Shown),
+    Trace(EvalOptions, Shown<'a>),
 }
 
-impl Work {
+impl Work<'_> {
     /// Does it over the texts of a specification and of given terms.
     pub fn run<R: Read, T: Read, W: Write>(
         self,

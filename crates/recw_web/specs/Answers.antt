@@ -17,6 +17,7 @@ use Rattle.rec_check.specs.Lines.{lines_of}
 use Rattle.rec_check.specs.Runs.{Examined}
 use Rattle.rec_check.specs.declared.runs.Judgement.{Judgement}
 use Rattle.rec_check.specs.declared.runs.Judgement.TheVariants as judged
+use Rattle.rec_look.specs.Picks.{all_picked}
 use Rattle.rec_look.specs.Traces.{IsTraceDueFor, Shown}
 use Rattle.recw_web.specs.declared.options.Options.{Options}
 use Rattle.recw_web.specs.declared.options.TraceOptions.{TraceOptions}
@@ -27,12 +28,13 @@ abbrev pub IsEvalDue : Options → List ℕ → Option (List ℕ) → Due → Ty
 IsEvalDue options spec terms d =
     IsDue spec terms (bare options.count) (min options.steps (10 ^ 18)) d
 
--- how traces are to look: a term has 3 bytes at least, and 2^30 at most
+-- how traces are to look: a term has 3 bytes at least, and 2^30 at most; each firing is told
 abbrev pub shown_as : TraceOptions → Shown
 shown_as options = record {
   whole = options.whole;
   counted = options.limits.count;
   width = Some (min (max options.width 3) (2 ^ 30));
+  picked = all_picked;
 }
 
 -- what is due for the traces of a specification's terms, and of given ones where there are some

@@ -4,6 +4,7 @@ ghost use Rattle.std.specs.Prelude.{◌≡◌, ◌^◌, min};
 ghost use Rattle.rec_look.specs.Traces.{shown_by};
 ghost use Rattle.recw_web.specs.Answers.{shown_as};
 
+use rec_look::Picked;
 use rec_run::RunOptions;
 
 /// The most steps.
@@ -66,8 +67,8 @@ pub struct TraceOptions {
 }
 
 impl TraceOptions {
-    /// The options of the run.
-    pub fn within(&self) -> rec_look::TraceOptions
+    /// The options of the run: each rule that fires is shown.
+    pub fn within(&self) -> rec_look::TraceOptions<'static>
         ensures steps { result.run.steps ≡ min self.now.limits.steps (10 ^ 18) }
         ensures shown { shown_by result ≡ shown_as self.now }
     {
@@ -75,6 +76,7 @@ impl TraceOptions {
             run: self.limits.within(),
             whole: self.whole,
             width: Some(self.width.max(LEAST_WIDTH).min(MOST_WIDTH)),
+            picked: Picked::all(),
         }
     }
 }

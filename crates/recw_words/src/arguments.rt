@@ -45,6 +45,10 @@ pub enum Kind {
     Number(Number),
     /// The option with a number, beside another option alone.
     NumberBeside(Number, &'static str),
+    /// The option with two numbers and a `:` between them, which are read as several.
+    Place(Number),
+    /// The option with a name, which the help calls so.
+    Name(&'static str),
     /// The option `--term`, once or more, without a word of that name.
     Term(&'static str),
 }
@@ -176,6 +180,46 @@ pub const WIDTH: Argument = Argument {
     }),
 };
 
+/// The option `--first`.
+pub const FIRST: Argument = Argument {
+    name: "first",
+    help: "Print only the first N that fire, up to 10^18",
+    kind: Kind::Number(Number {
+        called: "N",
+        default: None,
+        range: ValueParser::Unsigned(0, MOST_STEPS),
+    }),
+};
+
+/// The option `--last`.
+pub const LAST: Argument = Argument {
+    name: "last",
+    help: "Print only the last N that fire, up to 2^30",
+    kind: Kind::Number(Number {
+        called: "N",
+        default: None,
+        range: ValueParser::Signed(0, MOST_CELLS as i64),
+    }),
+};
+
+/// The option `--rule`.
+pub const RULE: Argument = Argument {
+    name: "rule",
+    help: "Print only where the rule fires that begins at this place",
+    kind: Kind::Place(Number {
+        called: "LINE:COL",
+        default: None,
+        range: ValueParser::Signed(1, u32::MAX as i64),
+    }),
+};
+
+/// The option `--symbol`.
+pub const SYMBOL: Argument = Argument {
+    name: "symbol",
+    help: "Print only where a call of this symbol is rewritten",
+    kind: Kind::Name("NAME"),
+};
+
 /// The option `--nodes`, which belongs to a graph.
 pub const NODES: Argument = Argument {
     name: "nodes",
@@ -232,6 +276,8 @@ fn argument_of<'a>(alloc: Global, argument: &Argument) -> Result<Arg<'a>, AllocE
         Kind::NumberBeside(number, other) => {
             option(bare, argument.name, &number).requires_arg(other)
         }
+        Kind::Place(number) => Ok(option(bare, argument.name, &number).value_delimiter(':')),
+        Kind::Name(called) => Ok(bare.long(argument.name).value_name(called)),
         Kind::Term(other) => term(bare, argument.name).conflicts_with(other),
     }
 }

@@ -1,8 +1,8 @@
 //! The command line, and its help.
 
 use crate::arguments::{
-    Argument, CELLS, COUNT, DEPTH, EXPLAIN, FILE, INDENT, Kind, MEMO, NODES, PATTERN, RECLAIM,
-    SERVED_DEPTH, SPENT, STEPS, TERM, TERMS, WIDTH, arguments_of,
+    Argument, CELLS, COUNT, DEPTH, EXPLAIN, FILE, FIRST, INDENT, Kind, LAST, MEMO, NODES, PATTERN,
+    RECLAIM, RULE, SERVED_DEPTH, SPENT, STEPS, SYMBOL, TERM, TERMS, WIDTH, arguments_of,
 };
 use clap::Command;
 use std::alloc::{AllocError, Global};
@@ -90,7 +90,7 @@ const TRACE: Subcommand = Subcommand {
     name: "trace",
     about: "Print each rule that fires while terms are evaluated, and what it rewrites",
     after_help: "Each line is LINE:COL: TERM -> TERM, with the place at which the rule begins.\n\n\
-         Example: recw trace --count add.rec",
+         Example: recw trace --first 2 add.rec",
     arguments: &[
         Argument {
             name: "SPEC",
@@ -107,6 +107,10 @@ const TRACE: Subcommand = Subcommand {
             kind: Kind::Flag,
         },
         WIDTH,
+        FIRST,
+        LAST,
+        RULE,
+        SYMBOL,
         EXPLAIN,
     ],
 };

@@ -33,7 +33,7 @@ pub use explain::{Refusal, Texts, explain_given, explain_place, explain_text, ex
 pub use given::Given;
 pub use guarded::Guarded;
 pub use item::Item;
-pub use options::{EvalOptions, Shown};
+pub use options::{EvalOptions, RulePlace, Shown};
 pub use prompt::Prompt;
 pub use report::failed_start;
 pub use request::{Invocation, Request, STANDARD_INPUT};

@@ -2,6 +2,7 @@
 ghost use Rattle.std.specs.Prelude.{◌≤◌, ◌^◌};
 
 use crate::arguments::{MOST_CELLS, MOST_INDENT, MOST_RESULTS, MOST_STEPS};
+use crate::wrong::{NO_PLACE, Wrong};
 use clap::ArgMatches;
 
 /// How many results are remembered where a subcommand has no option for that.
@@ -33,13 +34,30 @@ pub struct EvalOptions {
     pub ghost reclaim_in_range: { (1 ≤ reclaim) × (reclaim ≤ 2 ^ 30) },
 }
 
+/// The place at which a rule begins, line and column from 1.
+#[derive(Clone, Copy)]
+pub struct RulePlace {
+    /// The line.
+    pub line: u32,
+    /// The column, in bytes.
+    pub column: u32,
+}
+
 /// What a trace shows.
 #[derive(Clone, Copy)]
-pub struct Shown {
+pub struct Shown<'a> {
     /// Whether it is the whole term, in place of what is rewritten.
     pub whole: bool,
     /// To how many bytes each term is cut, where it is.
     pub width: Option<u32>,
+    /// How many firings in front are shown; all where neither this nor the next is said.
+    pub first: Option<u64>,
+    /// How many at the end.
+    pub last: Option<u32>,
+    /// The rule whose firings alone are shown, where one is said.
+    pub rule: Option<RulePlace>,
+    /// The symbol whose calls alone are.
+    pub symbol: Option<&'a str>,
 }
 
 /// The options of an evaluation, each in its range.
@@ -74,10 +92,26 @@ pub fn nodes_of(inner: &ArgMatches<'_>) -> Option<u32> {
     inner.get_one::<u32>("nodes")
 }
 
-/// What a trace shows.
-pub fn shown_of(inner: &ArgMatches<'_>) -> Shown {
-    Shown {
+/// What a trace shows, or what is wrong with the place of a rule.
+pub fn shown_of<'a>(inner: &ArgMatches<'a>) -> Result<Shown<'a>, Wrong> {
+    Ok(Shown {
         whole: inner.get_flag("whole"),
         width: inner.get_one::<u32>("width"),
+        first: inner.get_one::<u64>("first"),
+        last: inner.get_one::<u32>("last"),
+        rule: rule_of(inner)?,
+        symbol: inner.get_str("symbol"),
+    })
+}
+
+/// The place of the rule that is said, where one is.
+fn rule_of(inner: &ArgMatches<'_>) -> Result<Option<RulePlace>, Wrong> {
+    match inner.get_strs("rule") {
+        None => Ok(None),
+        Some([line, column]) => Ok(Some(RulePlace {
+            line: line.parse().map_err(|_| NO_PLACE)?,
+            column: column.parse().map_err(|_| NO_PLACE)?,
+        })),
+        Some(_) => Err(NO_PLACE),
     }
 }

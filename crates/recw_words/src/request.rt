@@ -31,7 +31,7 @@ pub enum Request<'a> {
     /// Tell of each rule that fires while terms are evaluated.
     Trace {
         options: EvalOptions,
-        shown: Shown,
+        shown: Shown<'a>,
         spec: Option<&'a str>,
         terms: Option<&'a str>,
     },
@@ -208,7 +208,7 @@ fn asked_by<'a>(matches: &ArgMatches<'a>) -> Result<Bare<'a>, Wrong> {
 
 /// What the words of a subcommand ask for, or what is wrong with them.
 fn asked_of<'a>(name: &str, inner: &ArgMatches<'a>) -> Result<Bare<'a>, Wrong> {
-    let request = request_of(name, inner).ok_or(MISSING)?;
+    let request = request_of(name, inner)?;
     if request.is_read_twice() || names_twice(&request, inner) {
         return Err(READ_TWICE);
     }
@@ -219,12 +219,19 @@ fn asked_of<'a>(name: &str, inner: &ArgMatches<'a>) -> Result<Bare<'a>, Wrong> {
     })
 }
 
-/// `None` where a word is missing, or no subcommand has this name.
-fn request_of<'a>(name: &str, inner: &ArgMatches<'a>) -> Option<Request<'a>> {
+/// What the subcommand of this name is asked to do.
+fn request_of<'a>(name: &str, inner: &ArgMatches<'a>) -> Result<Request<'a>, Wrong> {
+    match name {
+        "trace" => trace_of(inner),
+        _ => other_of(name, inner).ok_or(MISSING),
+    }
+}
+
+/// The same of every other subcommand; `None` where a word is missing, or none has this name.
+fn other_of<'a>(name: &str, inner: &ArgMatches<'a>) -> Option<Request<'a>> {
     match name {
         "eval" => eval_of(inner),
         "serve" => serve_of(inner),
-        "trace" => trace_of(inner),
         "aterm" => Some(Request::Aterm {
             file: path_of(inner, "FILE"),
             indent: indent_of(inner),
@@ -257,10 +264,12 @@ fn eval_of<'a>(inner: &ArgMatches<'a>) -> Option<Request<'a>> {
 }
 
 /// What `trace` is asked to do.
-fn trace_of<'a>(inner: &ArgMatches<'a>) -> Option<Request<'a>> {
-    Some(Request::Trace {
-        options: options_of(inner)?,
-        shown: shown_of(inner),
+fn trace_of<'a>(inner: &ArgMatches<'a>) -> Result<Request<'a>, Wrong> {
+    let shown = shown_of(inner)?;
+    let options = options_of(inner).ok_or(MISSING)?;
+    Ok(Request::Trace {
+        options,
+        shown,
         spec: path_of(inner, "SPEC"),
         terms: inner.get_str("TERMS"),
     })

@@ -22,3 +22,9 @@ pub const READ_TWICE: Wrong = Wrong {
     kind: ErrorKind::ArgumentConflict,
     message: "the standard input can be read once only",
 };
+
+/// A place of a rule is not two numbers.
+pub const NO_PLACE: Wrong = Wrong {
+    kind: ErrorKind::WrongNumberOfValues,
+    message: "--rule takes a line and a column, as in 3:5",
+};

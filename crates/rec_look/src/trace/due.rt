@@ -18,6 +18,7 @@ use crate::trace::options::TraceOptions;
 use crate::trace::spots::rule_spots;
 use crate::trace::telling::Telling;
 use crate::trace::terms::write_traces;
+use rec_engine::Engine;
 use rec_run::{Job, engine_over};
 use rec_sorts::Checked;
 use rx_run::{Finish, Place, Reading, RunFault, write_refusal_to};
@@ -33,7 +34,7 @@ pub(crate) fn answer<B: TermBank + Drop, W: Write>(
     bank: B,
     reading: Reading<Job>,
     out: &mut Output<'_, W>,
-    options: TraceOptions,
+    options: TraceOptions<'_>,
     place: &mut Option<Place>,
 ) -> Result<Finish, RunFault>
     requires unrooted { (t : ℕ) → (B.store bank).roots t ≡ 0 }
@@ -42,10 +43,10 @@ pub(crate) fn answer<B: TermBank + Drop, W: Write>(
     requires open { IsWritable out.old }
     ensures ends { IfOk result (λ finish. finish ≡ finish_of reading) }
     ensures ok { OnOk result (Writes W.contents out.old out.new
-        (trace_due (B.store bank) (shown_by options) options.run.steps reading).text) }
+        (trace_due (B.store bank) (shown_by options.entry) options.entry.run.steps reading).text) }
     ensures place { OnOk result (place.new ≡ place_of reading) }
     ensures err { IfErr result (λ fault. Stops fault
-        (trace_due (B.store bank) (shown_by options) options.run.steps reading).text
+        (trace_due (B.store bank) (shown_by options.entry) options.entry.run.steps reading).text
         (contents_of W.contents out.old) (contents_of W.contents out.new)) }
     ensures cells { IsRefused reading → IfErr result HasRoom }
     ensures no_place { OnErr result (place.new ≡ None) }
@@ -91,15 +92,15 @@ fn write_due<B: TermBank + Drop, W: Write>(
     bank: B,
     reading: Reading<Job>,
     out: &mut Output<'_, W>,
-    options: TraceOptions,
+    options: TraceOptions<'_>,
 ) -> Result<(), RunFault>
     requires unrooted { (t : ℕ) → (B.store bank).roots t ≡ 0 }
     requires ready { IsReady (B.store bank) reading }
     requires open { IsWritable out.old }
     ensures ok { OnOk result (Writes W.contents out.old out.new
-        (trace_due (B.store bank) (shown_by options) options.run.steps reading).text) }
+        (trace_due (B.store bank) (shown_by options.entry) options.entry.run.steps reading).text) }
     ensures err { IfErr result (λ fault. Stops fault
-        (trace_due (B.store bank) (shown_by options) options.run.steps reading).text
+        (trace_due (B.store bank) (shown_by options.entry) options.entry.run.steps reading).text
         (contents_of W.contents out.old) (contents_of W.contents out.new)) }
     ensures cells { IsRefused reading → IfErr result HasRoom }
     ensures same_output { IsSameOutput out.old out.new }
@@ -121,17 +122,17 @@ fn write_job<B: TermBank + Drop, W: Write>(
     bank: B,
     list: Option<Term>,
     out: &mut Output<'_, W>,
-    options: TraceOptions,
+    options: TraceOptions<'_>,
 ) -> Result<(), RunFault>
     requires unrooted { (t : ℕ) → (B.store bank).roots t ≡ 0 }
     requires given { ForSome list (HoldsTerms checked.spec (B.store bank)) }
     requires open { IsWritable out.old }
     ensures ok { OnOk result (Writes W.contents out.old out.new
-        (traces checked.source checked.spec (given_by (B.store bank) list) (shown_by options)
-        options.run.steps)) }
+        (traces checked.source checked.spec (given_by (B.store bank) list) (shown_by options.entry)
+        options.entry.run.steps)) }
     ensures err { IfErr result (λ fault. Stops fault
-        (traces checked.source checked.spec (given_by (B.store bank) list) (shown_by options)
-        options.run.steps)
+        (traces checked.source checked.spec (given_by (B.store bank) list) (shown_by options.entry)
+        options.entry.run.steps)
         (contents_of W.contents out.old) (contents_of W.contents out.new)) }
     ensures same_output { IsSameOutput out.old out.new }
     ensures cause { TellsWrite out.new result }
@@ -144,23 +145,23 @@ fn write_job<B: TermBank + Drop, W: Write>(
 
 /// What traces are made with besides an engine.
 #[derive(Drop)]
-struct Prepared {
-    telling: Telling,
+struct Prepared<'a> {
+    telling: Telling<'a>,
     terms: GivenTerms,
 }
 
 /// The places of the rules are found, and the given terms are taken out of their bank.
-fn prepare<B: TermBank>(
+fn prepare<'a, B: TermBank>(
     alloc: Global,
     checked: &Checked,
     bank: &B,
     list: Option<Term>,
-    options: TraceOptions,
-) -> Result<Prepared, AllocError>
+    options: TraceOptions<'a>,
+) -> Result<Prepared<'a>, AllocError>
     requires { ForSome list (HoldsTerms checked.now.spec (B.store bank.now)) }
     ensures telling { IfOk result
         (λ p. IsTelling checked.now.source checked.now.spec p.telling) }
-    ensures options { IfOk result (λ p. p.telling.options ≡ options) }
+    ensures options { IfOk result (λ p. p.telling.options ≡ options.entry) }
     ensures given { IfOk result (λ p. AreGivenTerms checked.now.spec
         (given_by (B.store bank.now) list) p.terms) }
 {
@@ -175,7 +176,7 @@ fn write_prepared<B: TermBank + Drop, W: Write>(
     alloc: Global,
     checked: Checked,
     bank: B,
-    prepared: &Prepared,
+    prepared: &Prepared<'_>,
     out: &mut Output<'_, W>,
 ) -> Result<(), RunFault>
     requires unrooted { (t : ℕ) → (B.store bank).roots t ≡ 0 }
@@ -197,9 +198,37 @@ fn write_prepared<B: TermBank + Drop, W: Write>(
     ensures cause { TellsWrite out.new result }
 {
     match engine_over(alloc, checked, bank, None, prepared.telling.options.run) {
-        Ok(mut engine) => {
-            write_traces(alloc, &mut engine, &prepared.terms, &prepared.telling, out)
-        }
+        Ok(engine) => write_over(alloc, engine, prepared, out),
         Err(_) => Err(RunFault::Memory { lines: 0 }),
     }
+}
+
+/// Writes the traces over an engine, which is needed no more then.
+fn write_over<B: TermBank + Drop, W: Write>(
+    alloc: Global,
+    mut engine: Engine<B>,
+    prepared: &Prepared<'_>,
+    out: &mut Output<'_, W>,
+) -> Result<(), RunFault>
+    requires telling { (source : List ℕ) × IsTelling source engine.spec prepared.now.telling }
+    requires given { (us : List Tree) × AreGivenTerms engine.spec us prepared.now.terms }
+    requires open { IsWritable out.old }
+    ensures ok { OnOk result ((source : List ℕ) (us : List Tree)
+        → IsTelling source engine.spec prepared.now.telling
+        → AreGivenTerms engine.spec us prepared.now.terms
+        → Writes W.contents out.old out.new
+        (traces source engine.spec us (shown_by prepared.now.telling.options)
+        prepared.now.telling.options.run.steps)) }
+    ensures err { IfErr result (λ fault. (source : List ℕ) (us : List Tree)
+        → IsTelling source engine.spec prepared.now.telling
+        → AreGivenTerms engine.spec us prepared.now.terms
+        → Stops fault (traces source engine.spec us (shown_by prepared.now.telling.options)
+        prepared.now.telling.options.run.steps)
+        (contents_of W.contents out.old) (contents_of W.contents out.new)) }
+    ensures same_output { IsSameOutput out.old out.new }
+    ensures cause { TellsWrite out.new result }
+{
+    let written = write_traces(alloc, &mut engine, &prepared.terms, &prepared.telling, out);
+    let _parts = engine.into_parts();
+    written
 }

@@ -22,9 +22,9 @@ ghost use Rattle.rec_look.specs.Telling.{
   told,
 };
 
+use crate::trace::firings::write_firings;
 use crate::trace::options::TraceOptions;
 use crate::trace::page::{print, stopped};
-use crate::trace::steps::write_steps;
 use crate::trace::telling::Telling;
 use rec_engine::{Engine, EngineFault, Outcome};
 use rec_run::{LineFault, RunOptions};
@@ -112,7 +112,7 @@ fn write_rest<B: TermBank, W: Write>(
     alloc: Global,
     engine: &mut Engine<B>,
     tracer: &mut Tracer,
-    telling: &Telling,
+    telling: &Telling<'_>,
     notes: &[u8],
     out: &mut Output<'_, W>,
     lines: &mut u64,
@@ -136,7 +136,7 @@ fn write_rest<B: TermBank, W: Write>(
     ensures same_output { IsSameOutput out.old out.new }
     ensures cause { TellsWrite out.new result }
 {
-    let outcome = write_steps(alloc, engine, tracer, telling, out, lines)?;
+    let outcome = write_firings(alloc, engine, tracer, telling, out, lines)?;
     write_end(
         alloc,
         engine.bank(),
@@ -153,14 +153,15 @@ fn first_line<B: TermBank>(
     alloc: Global,
     engine: &mut Engine<B>,
     tracer: &Tracer,
-    options: TraceOptions,
+    options: TraceOptions<'_>,
 ) -> Result<Vec<u8>, EngineFault>
     requires { Stands engine.old.spec (B.store engine.old.bank) tracer.now }
     ensures same { SameEngine engine.old engine.new }
     ensures stands { Stands engine.old.spec (B.store engine.new.bank) tracer.now }
     ensures rest { rest_of engine.old.spec (B.store engine.new.bank) tracer.now
         ≡ rest_of engine.old.spec (B.store engine.old.bank) tracer.now }
-    ensures text { IfOk result (λ line. line.items ≡ whole_text 0 0 false (shown_by options).width 0
+    ensures text { IfOk result (λ line. line.items ≡ whole_text 0 0 false
+        (shown_by options.entry).width 0
         (whole_of engine.old.spec (B.store engine.old.bank) tracer.now)) }
 {
     let whole = tracer.whole(alloc, engine)?;
@@ -180,7 +181,7 @@ fn write_first<B: TermBank, W: Write>(
     alloc: Global,
     engine: &mut Engine<B>,
     tracer: &Tracer,
-    options: TraceOptions,
+    options: TraceOptions<'_>,
     out: &mut Output<'_, W>,
     lines: &mut u64,
 ) -> Result<(), RunFault>
@@ -191,10 +192,10 @@ fn write_first<B: TermBank, W: Write>(
     ensures rest { rest_of engine.old.spec (B.store engine.new.bank) tracer.now
         ≡ rest_of engine.old.spec (B.store engine.old.bank) tracer.now }
     ensures ok { OnOk result (Prints W.contents out.old out.new lines.old lines.new
-        (first_text (shown_by options)
+        (first_text (shown_by options.entry)
         (whole_of engine.old.spec (B.store engine.old.bank) tracer.now))) }
     ensures err { IfErr result (Breaks W.contents out.old out.new lines.old
-        (first_text (shown_by options)
+        (first_text (shown_by options.entry)
         (whole_of engine.old.spec (B.store engine.old.bank) tracer.now))) }
     ensures same_output { IsSameOutput out.old out.new }
     ensures cause { TellsWrite out.new result }
@@ -213,7 +214,7 @@ pub(crate) fn write_trace<B: TermBank, W: Write>(
     alloc: Global,
     engine: &mut Engine<B>,
     tracer: Tracer,
-    telling: &Telling,
+    telling: &Telling<'_>,
     notes: &[u8],
     out: &mut Output<'_, W>,
     lines: &mut u64,

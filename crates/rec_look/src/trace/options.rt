@@ -3,12 +3,13 @@
 ghost use Rattle.std.specs.Prelude.{◌≡◌};
 ghost use Rattle.rec_look.specs.Traces.{shown_by};
 
+use crate::trace::picked::Picked;
 use rec_run::RunOptions;
 use rec_trace::Look;
 
 /// What a run of traces may use, and how it shows them.
 #[derive(Clone, Copy, Debug, Drop)]
-pub struct TraceOptions {
+pub struct TraceOptions<'a> {
     /// What it may use. `count` asks for the steps spent behind each line; the memo is not used.
     pub run: RunOptions,
     /// Whether each firing is shown by the whole term behind it, and the term itself before the
@@ -16,13 +17,15 @@ pub struct TraceOptions {
     pub whole: bool,
     /// The most bytes of a term that a firing shows; a longer text ends in `...`.
     pub width: Option<u32>,
+    /// Which firings are shown.
+    pub picked: Picked<'a>,
 }
 
-impl TraceOptions {
+impl TraceOptions<'_> {
     /// How the lines of firings look.
     pub(crate) fn look(self) -> Look
-        ensures counted { result.counted ≡ (shown_by self).counted }
-        ensures width { result.width ≡ (shown_by self).width }
+        ensures counted { result.counted ≡ (shown_by self.entry).counted }
+        ensures width { result.width ≡ (shown_by self.entry).width }
     {
         let width = match self.width {
             Some(width) => Some(width as usize),

@@ -27,18 +27,18 @@ pub fn run_trace<R: Read, T: Read, W: Write>(
     spec: &mut R,
     terms: Option<&mut T>,
     out: &mut W,
-    options: TraceOptions,
+    options: TraceOptions<'_>,
     place: &mut Option<Place>,
 ) -> Result<Finish, RunFault>
     ensures output { IfOk result (λ finish. EndsFor
-        (IsTraceDueFor (shown_by options) options.run.steps)
+        (IsTraceDueFor (shown_by options.entry) options.entry.run.steps)
         (both_texts (R.remaining spec.old) (terms_text T.remaining terms.entry))
         finish (W.contents out.old) (W.contents out.new)) }
     ensures place { OnOk result (IsPlacedFor
-        (IsTraceDueFor (shown_by options) options.run.steps)
+        (IsTraceDueFor (shown_by options.entry) options.entry.run.steps)
         (both_texts (R.remaining spec.old) (terms_text T.remaining terms.entry)) place.new) }
     ensures fault { IfErr result (λ fault. BreaksFor
-        (IsTraceDueFor (shown_by options) options.run.steps)
+        (IsTraceDueFor (shown_by options.entry) options.entry.run.steps)
         (both_texts (R.remaining spec.old) (terms_text T.remaining terms.entry))
         fault (W.contents out.old) (W.contents out.new)) }
     ensures room { OnRefusedSpec (R.remaining spec.old) (IfErr result HasRoom) }
@@ -61,19 +61,19 @@ fn trace_alone<R: Read, W: Write>(
     alloc: Global,
     spec: &mut R,
     out: &mut W,
-    options: TraceOptions,
+    options: TraceOptions<'_>,
     place: &mut Option<Place>,
 ) -> Result<Finish, RunFault>
     ensures output { IfOk result (λ finish. EndsFor
-        (IsTraceDueFor (shown_by options) options.run.steps)
+        (IsTraceDueFor (shown_by options.entry) options.entry.run.steps)
         (both_texts (R.remaining spec.old) (Some None))
         finish (W.contents out.old) (W.contents out.new)) }
     ensures place { OnOk result (IsPlacedFor
-        (IsTraceDueFor (shown_by options) options.run.steps)
+        (IsTraceDueFor (shown_by options.entry) options.entry.run.steps)
         (both_texts (R.remaining spec.old) (Some None))
         place.new) }
     ensures fault { IfErr result (λ fault. BreaksFor
-        (IsTraceDueFor (shown_by options) options.run.steps)
+        (IsTraceDueFor (shown_by options.entry) options.entry.run.steps)
         (both_texts (R.remaining spec.old) (Some None))
         fault (W.contents out.old) (W.contents out.new)) }
     ensures cells { OnRefusedSpec (R.remaining spec.old) (IfErr result HasRoom) }
@@ -89,21 +89,21 @@ fn alone_to<R: Read, W: Write>(
     alloc: Global,
     spec: &mut R,
     out: &mut Output<'_, W>,
-    options: TraceOptions,
+    options: TraceOptions<'_>,
     place: &mut Option<Place>,
 ) -> Result<Finish, RunFault>
     requires { IsWritable out.old }
     ensures output { IfOk result (λ finish. EndsFor
-        (IsTraceDueFor (shown_by options) options.run.steps)
+        (IsTraceDueFor (shown_by options.entry) options.entry.run.steps)
         (both_texts (R.remaining spec.old) (Some None))
         finish (contents_of W.contents out.old)
         (contents_of W.contents out.new)) }
     ensures place { OnOk result (IsPlacedFor
-        (IsTraceDueFor (shown_by options) options.run.steps)
+        (IsTraceDueFor (shown_by options.entry) options.entry.run.steps)
         (both_texts (R.remaining spec.old) (Some None))
         place.new) }
     ensures fault { IfErr result (λ fault. BreaksFor
-        (IsTraceDueFor (shown_by options) options.run.steps)
+        (IsTraceDueFor (shown_by options.entry) options.entry.run.steps)
         (both_texts (R.remaining spec.old) (Some None))
         fault (contents_of W.contents out.old)
         (contents_of W.contents out.new)) }
@@ -125,22 +125,22 @@ fn alone_over<B: TermBank + Drop, R: Read, W: Write>(
     bank: B,
     spec: &mut R,
     out: &mut Output<'_, W>,
-    options: TraceOptions,
+    options: TraceOptions<'_>,
     place: &mut Option<Place>,
 ) -> Result<Finish, RunFault>
     requires unrooted { (t : ℕ) → (B.store bank).roots t ≡ 0 }
     requires writable { IsWritable out.old }
     ensures output { IfOk result (λ finish. EndsFor
-        (IsTraceDueFor (shown_by options) options.run.steps)
+        (IsTraceDueFor (shown_by options.entry) options.entry.run.steps)
         (both_texts (R.remaining spec.old) (Some None))
         finish (contents_of W.contents out.old)
         (contents_of W.contents out.new)) }
     ensures place { OnOk result (IsPlacedFor
-        (IsTraceDueFor (shown_by options) options.run.steps)
+        (IsTraceDueFor (shown_by options.entry) options.entry.run.steps)
         (both_texts (R.remaining spec.old) (Some None))
         place.new) }
     ensures fault { IfErr result (λ fault. BreaksFor
-        (IsTraceDueFor (shown_by options) options.run.steps)
+        (IsTraceDueFor (shown_by options.entry) options.entry.run.steps)
         (both_texts (R.remaining spec.old) (Some None))
         fault (contents_of W.contents out.old)
         (contents_of W.contents out.new)) }
@@ -162,21 +162,21 @@ fn trace_beside<R: Read, T: Read, W: Write>(
     spec: &mut R,
     terms: &mut T,
     out: &mut W,
-    options: TraceOptions,
+    options: TraceOptions<'_>,
     place: &mut Option<Place>,
 ) -> Result<Finish, RunFault>
     ensures output { IfOk result (λ finish. EndsFor
-        (IsTraceDueFor (shown_by options) options.run.steps)
+        (IsTraceDueFor (shown_by options.entry) options.entry.run.steps)
         (both_texts (R.remaining spec.old) (option_map (λ b. Some b)
         (T.remaining terms.old)))
         finish (W.contents out.old) (W.contents out.new)) }
     ensures place { OnOk result (IsPlacedFor
-        (IsTraceDueFor (shown_by options) options.run.steps)
+        (IsTraceDueFor (shown_by options.entry) options.entry.run.steps)
         (both_texts (R.remaining spec.old) (option_map (λ b. Some b)
         (T.remaining terms.old)))
         place.new) }
     ensures fault { IfErr result (λ fault. BreaksFor
-        (IsTraceDueFor (shown_by options) options.run.steps)
+        (IsTraceDueFor (shown_by options.entry) options.entry.run.steps)
         (both_texts (R.remaining spec.old) (option_map (λ b. Some b)
         (T.remaining terms.old)))
         fault (W.contents out.old) (W.contents out.new)) }
@@ -197,23 +197,23 @@ fn beside_to<R: Read, T: Read, W: Write>(
     spec: &mut R,
     terms: &mut T,
     out: &mut Output<'_, W>,
-    options: TraceOptions,
+    options: TraceOptions<'_>,
     place: &mut Option<Place>,
 ) -> Result<Finish, RunFault>
     requires { IsWritable out.old }
     ensures output { IfOk result (λ finish. EndsFor
-        (IsTraceDueFor (shown_by options) options.run.steps)
+        (IsTraceDueFor (shown_by options.entry) options.entry.run.steps)
         (both_texts (R.remaining spec.old) (option_map (λ b. Some b)
         (T.remaining terms.old)))
         finish (contents_of W.contents out.old)
         (contents_of W.contents out.new)) }
     ensures place { OnOk result (IsPlacedFor
-        (IsTraceDueFor (shown_by options) options.run.steps)
+        (IsTraceDueFor (shown_by options.entry) options.entry.run.steps)
         (both_texts (R.remaining spec.old) (option_map (λ b. Some b)
         (T.remaining terms.old)))
         place.new) }
     ensures fault { IfErr result (λ fault. BreaksFor
-        (IsTraceDueFor (shown_by options) options.run.steps)
+        (IsTraceDueFor (shown_by options.entry) options.entry.run.steps)
         (both_texts (R.remaining spec.old) (option_map (λ b. Some b)
         (T.remaining terms.old)))
         fault (contents_of W.contents out.old)
@@ -240,24 +240,24 @@ fn beside_over<B: TermBank + Drop, R: Read, T: Read, W: Write>(
     spec: &mut R,
     terms: &mut T,
     out: &mut Output<'_, W>,
-    options: TraceOptions,
+    options: TraceOptions<'_>,
     place: &mut Option<Place>,
 ) -> Result<Finish, RunFault>
     requires unrooted { (t : ℕ) → (B.store bank).roots t ≡ 0 }
     requires writable { IsWritable out.old }
     ensures output { IfOk result (λ finish. EndsFor
-        (IsTraceDueFor (shown_by options) options.run.steps)
+        (IsTraceDueFor (shown_by options.entry) options.entry.run.steps)
         (both_texts (R.remaining spec.old) (option_map (λ b. Some b)
         (T.remaining terms.old)))
         finish (contents_of W.contents out.old)
         (contents_of W.contents out.new)) }
     ensures place { OnOk result (IsPlacedFor
-        (IsTraceDueFor (shown_by options) options.run.steps)
+        (IsTraceDueFor (shown_by options.entry) options.entry.run.steps)
         (both_texts (R.remaining spec.old) (option_map (λ b. Some b)
         (T.remaining terms.old)))
         place.new) }
     ensures fault { IfErr result (λ fault. BreaksFor
-        (IsTraceDueFor (shown_by options) options.run.steps)
+        (IsTraceDueFor (shown_by options.entry) options.entry.run.steps)
         (both_texts (R.remaining spec.old) (option_map (λ b. Some b)
         (T.remaining terms.old)))
         fault (contents_of W.contents out.old)

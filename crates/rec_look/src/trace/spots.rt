@@ -3,7 +3,7 @@
 ghost use Rattle.std.specs.Prelude.{◌≡◌, ◌≤◌, ◌<◌, ◌^◌, IfOk, length, map};
 ghost use Rattle.rec_syntax.specs.Parts.{IsRule, rule_of};
 ghost use Rattle.rec_syntax.specs.Syntax.{head};
-ghost use Rattle.rec_look.specs.Telling.{rule_spot, spot_at};
+ghost use Rattle.rec_look.specs.Picks.{rule_spot, spot_at};
 
 use rec_syntax::{Rule, Syntax};
 use rec_trace::{Spot, spot_of};

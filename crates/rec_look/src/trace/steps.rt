@@ -1,100 +1,118 @@
-//! The lines of the rules that fire.
+//! The rules that fire, as they are told one after the other.
 
-ghost use Rattle.std.specs.Prelude.{◌≡◌, ◌≤◌, ℕ, IfErr, IfOk, IsSome, List, OnOk};
-ghost use Rattle.rx_term.specs.Store.{Store, tree_at};
+ghost use Rattle.std.specs.Prelude.{◌≡◌, ◌≤◌, ◌∷◌, ℕ, [], IfErr, IfOk, List, OnOk};
+ghost use Rattle.std.specs.Option.{option_to_list};
+ghost use Rattle.rx_term.specs.Store.{Store};
 ghost use Rattle.rx_text.specs.Output.{IsSameOutput, IsWritable};
 ghost use Rattle.rx_run.specs.Streams.{TellsWrite};
 ghost use Rattle.rec_engine.specs.Engine.{SameEngine};
+ghost use Rattle.rec_trace.specs.Lines.{joined};
 ghost use Rattle.rec_trace.specs.Lists.{AreKept};
 ghost use Rattle.rec_trace.specs.Tracing.{HasFired, Stands, rest_of};
 ghost use Rattle.rec_trace.specs.declared.tracer.Tracer.{Tracer};
 ghost use Rattle.rec_look.specs.Pages.{Breaks, Prints};
-ghost use Rattle.rec_look.specs.Traces.{shown_by};
+ghost use Rattle.rec_look.specs.Picks.{front_lines, picks_by};
+ghost use Rattle.rec_look.specs.Traces.{picked_lines, shown_by};
 ghost use Rattle.rec_look.specs.Telling.{
+  HasKept,
   IsEnd,
   IsTelling,
   IsToldTurn,
   IsWithin,
-  step_line,
-  steps_lines,
+  Tells,
+  fresh_lines,
+  texts_of,
   told,
+  told_behind,
 };
 
+use crate::trace::fired::Fired;
+use crate::trace::kept::Kept;
+use crate::trace::next::next_line;
 use crate::trace::page::{print, stopped};
 use crate::trace::telling::Telling;
-use rec_engine::{Engine, EngineFault, Outcome};
-use rec_trace::{Tracer, Turn, firing_line, whole_line};
+use rec_engine::{Engine, Outcome};
+use rec_trace::{Tracer, Turn};
 use rx_run::RunFault;
-use rx_term::{Term, TermBank};
+use rx_term::TermBank;
 use rx_text::Output;
 use std::alloc::Global;
 use std::io::Write;
 
-/// A rule that fired: its number, the redex, and what it became.
-#[derive(Clone, Copy, Drop)]
-struct Fired {
-    rule: u32,
-    redex: Term,
-    contractum: Term,
+/// Writes a line, where there is one.
+fn print_some<W: Write>(
+    line: Option<Vec<u8>>,
+    out: &mut Output<'_, W>,
+    lines: &mut u64,
+) -> Result<(), RunFault>
+    requires { IsWritable out.old }
+    ensures ok { OnOk result (Prints W.contents out.old out.new lines.old lines.new
+        (joined (texts_of (option_to_list line)))) }
+    ensures err { IfErr result (Breaks W.contents out.old out.new lines.old
+        (joined (texts_of (option_to_list line)))) }
+    ensures same_output { IsSameOutput out.old out.new }
+    ensures cause { TellsWrite out.new result }
+{
+    match line {
+        None => Ok(()),
+        Some(line) => print(&line, out, lines),
+    }
 }
 
-/// The line of a rule that fired, by the tracer behind it.
-fn step_text<B: TermBank>(
+/// Tells a rule that fired, by the tracer behind it.
+fn write_fired<B: TermBank, W: Write>(
     alloc: Global,
     engine: &mut Engine<B>,
     tracer: &Tracer,
-    telling: &Telling,
+    telling: &Telling<'_>,
     fired: Fired,
-) -> Result<Vec<u8>, EngineFault>
+    kept: &mut Kept,
+    out: &mut Output<'_, W>,
+    lines: &mut u64,
+) -> Result<(), RunFault>
     requires fired { (w : Store) × (t : Tracer) × HasFired engine.old.spec w
         (B.store engine.old.bank) t tracer.now fired.rule fired.redex fired.contractum }
     requires stands { Stands engine.old.spec (B.store engine.old.bank) tracer.now }
     requires left { tracer.now.left ≤ telling.now.options.run.steps }
     requires telling { (source : List ℕ) × IsTelling source engine.old.spec telling.now }
+    requires open { IsWritable out.old }
     ensures same { SameEngine engine.old engine.new }
     ensures stands { Stands engine.old.spec (B.store engine.new.bank) tracer.now }
     ensures rest { rest_of engine.old.spec (B.store engine.new.bank) tracer.now
         ≡ rest_of engine.old.spec (B.store engine.old.bank) tracer.now }
-    ensures text { IfOk result (λ line. (source : List ℕ) (w : Store) (t : Tracer)
-        → IsTelling source engine.old.spec telling.now
+    ensures ok { OnOk result ((source : List ℕ) (w : Store) (t : Tracer)
+        (before : List (List ℕ)) → IsTelling source engine.old.spec telling.now
+        → HasKept (picks_by telling.now.options.picked) before kept.old
         → (f : HasFired engine.old.spec w (B.store engine.old.bank) t tracer.now fired.rule
         fired.redex fired.contractum)
-        → line.items ≡ step_line source (shown_by telling.now.options)
-        telling.now.options.run.steps f.firing) }
+        → Tells W.contents source telling.now.options before f.firing kept.new out.old out.new
+        lines.old lines.new) }
+    ensures err { IfErr result (λ fault. (source : List ℕ) (w : Store) (t : Tracer)
+        (before : List (List ℕ)) → IsTelling source engine.old.spec telling.now
+        → HasKept (picks_by telling.now.options.picked) before kept.old
+        → (f : HasFired engine.old.spec w (B.store engine.old.bank) t tracer.now fired.rule
+        fired.redex fired.contractum)
+        → Breaks W.contents out.old out.new lines.old
+        (joined (fresh_lines (picks_by telling.now.options.picked) before
+        (picked_lines source (shown_by telling.now.options) telling.now.options.run.steps
+        (f.firing ∷ [])))) fault) }
+    ensures same_output { IsSameOutput out.old out.new }
+    ensures cause { TellsWrite out.new result }
 {
-    let spot = telling.spots[fired.rule as usize];
-    let spent = telling.options.run.steps - tracer.left();
-    let look = telling.options.look();
-    if telling.options.whole {
-        let whole = tracer.whole(alloc, engine)?;
-        match whole_line(alloc, engine.bank(), spot, whole, spent, look) {
-            Ok(line) => Ok(line),
-            Err(_) => Err(EngineFault::Memory),
-        }
-    } else {
-        let bank = engine.bank();
-        match firing_line(
-            alloc,
-            bank,
-            spot,
-            fired.redex,
-            fired.contractum,
-            spent,
-            look,
-        ) {
-            Ok(line) => Ok(line),
-            Err(_) => Err(EngineFault::Memory),
-        }
+    match next_line(alloc, engine, tracer, telling, fired, kept) {
+        Ok(line) => print_some(line, out, lines),
+        Err(fault) => Err(stopped(fault, *lines)),
     }
 }
 
-/// Goes on to the next rule that fires, and writes its line; or answers what the term comes to,
-/// where none fires any more.
+/// Goes on to the next rule that fires, and tells it; or answers what the term comes to, where none
+/// fires any more.
 fn write_turn<B: TermBank, W: Write>(
     alloc: Global,
     engine: &mut Engine<B>,
     tracer: &mut Tracer,
-    telling: &Telling,
+    telling: &Telling<'_>,
+    kept: &mut Kept,
     out: &mut Output<'_, W>,
     lines: &mut u64,
 ) -> Result<Option<Outcome>, RunFault>
@@ -104,15 +122,16 @@ fn write_turn<B: TermBank, W: Write>(
     requires telling { (source : List ℕ) × IsTelling source engine.old.spec telling.now }
     requires open { IsWritable out.old }
     ensures same { SameEngine engine.old engine.new }
-    ensures kept { AreKept (B.store engine.new.bank) tracer.new.lists }
+    ensures lists { AreKept (B.store engine.new.bank) tracer.new.lists }
     ensures turn { IfOk result (IsToldTurn W.contents engine.old.spec (B.store engine.old.bank)
-        (B.store engine.new.bank) tracer.old tracer.new telling.now out.old out.new lines.old
-        lines.new) }
-    ensures err { IfErr result (λ fault. (source notes : List ℕ)
+        (B.store engine.new.bank) tracer.old tracer.new telling.now kept.old kept.new out.old
+        out.new lines.old lines.new) }
+    ensures err { IfErr result (λ fault. (source notes : List ℕ) (before : List (List ℕ))
         → IsTelling source engine.old.spec telling.now
+        → HasKept (picks_by telling.now.options.picked) before kept.old
         → Breaks W.contents out.old out.new lines.old
-        (told source (shown_by telling.now.options) telling.now.options.run.steps notes
-        (rest_of engine.old.spec (B.store engine.old.bank) tracer.old)) fault) }
+        (told_behind source (shown_by telling.now.options) telling.now.options.run.steps notes
+        before (rest_of engine.old.spec (B.store engine.old.bank) tracer.old)) fault) }
     ensures same_output { IsSameOutput out.old out.new }
     ensures cause { TellsWrite out.new result }
 {
@@ -130,28 +149,32 @@ fn write_turn<B: TermBank, W: Write>(
                 contractum,
             },
         ) => {
-            let fired = Fired {
-                rule,
-                redex,
-                contractum,
-            };
-            match step_text(alloc, engine, tracer, telling, fired) {
-                Err(fault) => Err(stopped(fault, *lines)),
-                Ok(line) => {
-                    print(&line, out, lines)?;
-                    Ok(None)
-                }
-            }
+            write_fired(
+                alloc,
+                engine,
+                tracer,
+                telling,
+                Fired {
+                    rule,
+                    redex,
+                    contractum,
+                },
+                kept,
+                out,
+                lines,
+            )?;
+            Ok(None)
         }
     }
 }
 
-/// Writes the lines of all rules that fire: what the term comes to.
+/// Tells all rules that fire: what the term comes to.
 pub(crate) fn write_steps<B: TermBank, W: Write>(
     alloc: Global,
     engine: &mut Engine<B>,
     tracer: &mut Tracer,
-    telling: &Telling,
+    telling: &Telling<'_>,
+    kept: &mut Kept,
     out: &mut Output<'_, W>,
     lines: &mut u64,
 ) -> Result<Outcome, RunFault>
@@ -159,15 +182,22 @@ pub(crate) fn write_steps<B: TermBank, W: Write>(
     requires within { IsWithin telling.now.options.run.steps
         (rest_of engine.old.spec (B.store engine.old.bank) tracer.old) }
     requires telling { (source : List ℕ) × IsTelling source engine.old.spec telling.now }
+    requires none { HasKept (picks_by telling.now.options.picked) [] kept.old }
     requires open { IsWritable out.old }
     ensures same { SameEngine engine.old engine.new }
-    ensures kept { AreKept (B.store engine.new.bank) tracer.new.lists }
+    ensures lists { AreKept (B.store engine.new.bank) tracer.new.lists }
     ensures end { IfOk result (IsEnd (B.store engine.new.bank) telling.now.options.run.steps
         (rest_of engine.old.spec (B.store engine.old.bank) tracer.old).outcome) }
+    ensures kept_on { OnOk result ((source : List ℕ)
+        → IsTelling source engine.old.spec telling.now
+        → HasKept (picks_by telling.now.options.picked)
+        (picked_lines source (shown_by telling.now.options) telling.now.options.run.steps
+        (rest_of engine.old.spec (B.store engine.old.bank) tracer.old).firings) kept.new) }
     ensures ok { OnOk result ((source : List ℕ) → IsTelling source engine.old.spec telling.now
         → Prints W.contents out.old out.new lines.old lines.new
-        (steps_lines source (shown_by telling.now.options) telling.now.options.run.steps
-        (rest_of engine.old.spec (B.store engine.old.bank) tracer.old).firings)) }
+        (joined (front_lines (picks_by telling.now.options.picked)
+        (picked_lines source (shown_by telling.now.options) telling.now.options.run.steps
+        (rest_of engine.old.spec (B.store engine.old.bank) tracer.old).firings)))) }
     ensures err { IfErr result (λ fault. (source notes : List ℕ)
         → IsTelling source engine.old.spec telling.now
         → Breaks W.contents out.old out.new lines.old
@@ -177,7 +207,7 @@ pub(crate) fn write_steps<B: TermBank, W: Write>(
     ensures cause { TellsWrite out.new result }
 {
     'turns: loop {
-        if let Some(outcome) = write_turn(alloc, engine, tracer, telling, out, lines)? {
+        if let Some(outcome) = write_turn(alloc, engine, tracer, telling, kept, out, lines)? {
             return Ok(outcome);
         }
     }

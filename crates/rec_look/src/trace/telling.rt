@@ -5,9 +5,9 @@ use rec_trace::Spot;
 
 /// What the lines of a specification's firings are made with.
 #[derive(Drop)]
-pub(crate) struct Telling {
+pub(crate) struct Telling<'a> {
     /// Where each rule begins.
     pub(crate) spots: Vec<Spot>,
     /// How firings are shown.
-    pub(crate) options: TraceOptions,
+    pub(crate) options: TraceOptions<'a>,
 }

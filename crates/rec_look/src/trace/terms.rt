@@ -35,7 +35,7 @@ fn write_own_trace<B: TermBank, W: Write>(
     alloc: Global,
     engine: &mut Engine<B>,
     i: u32,
-    telling: &Telling,
+    telling: &Telling<'_>,
     out: &mut Output<'_, W>,
     lines: &mut u64,
 ) -> Result<(), RunFault>
@@ -65,7 +65,7 @@ fn write_own_trace<B: TermBank, W: Write>(
 fn write_own_traces<B: TermBank, W: Write>(
     alloc: Global,
     engine: &mut Engine<B>,
-    telling: &Telling,
+    telling: &Telling<'_>,
     out: &mut Output<'_, W>,
     lines: &mut u64,
 ) -> Result<(), RunFault>
@@ -96,7 +96,7 @@ fn write_given_trace<B: TermBank, W: Write>(
     engine: &mut Engine<B>,
     letters: &[Letter],
     notes: &[u8],
-    telling: &Telling,
+    telling: &Telling<'_>,
     out: &mut Output<'_, W>,
     lines: &mut u64,
 ) -> Result<(), RunFault>
@@ -130,7 +130,7 @@ fn write_given_traces<B: TermBank, W: Write>(
     alloc: Global,
     engine: &mut Engine<B>,
     terms: &GivenTerms,
-    telling: &Telling,
+    telling: &Telling<'_>,
     out: &mut Output<'_, W>,
     lines: &mut u64,
 ) -> Result<(), RunFault>
@@ -166,7 +166,7 @@ pub(crate) fn write_traces<B: TermBank, W: Write>(
     alloc: Global,
     engine: &mut Engine<B>,
     terms: &GivenTerms,
-    telling: &Telling,
+    telling: &Telling<'_>,
     out: &mut Output<'_, W>,
 ) -> Result<(), RunFault>
     requires given { (us : List Tree) × AreGivenTerms engine.old.spec us terms.now }

@@ -107,17 +107,21 @@ Arguments:
   [TERMS]  File of an ATerm list of further terms, or -
 
 Options:
-      --steps <N>  Most steps that a term may take, up to 10^18 [default: 1000000]
-      --cells <C>  Most cells that terms may take, 1 to 2^30; the default takes up to 1.4 GB [default: 16777216]
-      --count      Print the steps that were spent so far behind each line
-      --whole      Print the whole term each time, in place of what is rewritten
-      --width <W>  Cut each term to W bytes, 3 to 2^30
-      --explain    Say in words why a text is refused, and where
-  -h, --help       Print help
+      --steps <N>        Most steps that a term may take, up to 10^18 [default: 1000000]
+      --cells <C>        Most cells that terms may take, 1 to 2^30; the default takes up to 1.4 GB [default: 16777216]
+      --count            Print the steps that were spent so far behind each line
+      --whole            Print the whole term each time, in place of what is rewritten
+      --width <W>        Cut each term to W bytes, 3 to 2^30
+      --first <N>        Print only the first N that fire, up to 10^18
+      --last <N>         Print only the last N that fire, up to 2^30
+      --rule <LINE:COL>  Print only where the rule fires that begins at this place
+      --symbol <NAME>    Print only where a call of this symbol is rewritten
+      --explain          Say in words why a text is refused, and where
+  -h, --help             Print help
 
 Each line is LINE:COL: TERM -> TERM, with the place at which the rule begins.
 
-Example: recw trace --count add.rec
+Example: recw trace --first 2 add.rec
 ";
 
 /// The help of `aterm`.

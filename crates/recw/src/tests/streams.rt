@@ -70,11 +70,11 @@ pub(crate) const NAMED: &[Row] = &[
     (&["serve", "spec"], "", 4, "", "recw: read failed\n"),
     (&["serve", "spec", "none"], "", 4, "", "recw: read failed\n"),
     (
-        &["trace", "spec", "terms", "--width=8"],
+        &["trace", "spec", "terms", "--last", "1"],
         "",
         0,
-        "1:118: plus(... -> s(plu...\n1:118: plus(... -> s(plu...\n\
-         1:103: plus(... -> s(z)\ns(s(s(z)))\n1:103: plus(... -> s(z)\ns(z)\n",
+        "... 2 more\n1:103: plus(z,s(z)) -> s(z)\ns(s(s(z)))\n\
+         1:103: plus(z,s(z)) -> s(z)\ns(z)\n",
         "",
     ),
     (

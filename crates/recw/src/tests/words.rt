@@ -126,10 +126,26 @@ pub(crate) const TRACES: &[Row] = &[
         "",
     ),
     (
-        &["trace", "-", "--whole", "--width", "8"],
+        &[
+            "trace", "-", "--whole", "--width", "8", "--first", "1", "--last=1",
+        ],
         ADDITION,
         0,
-        "0:0: plus(...\n1:118: s(plu...\n1:118: s(s(p...\n1:103: s(s(s...\ns(s(s(z)))\n",
+        "0:0: plus(...\n1:118: s(plu...\n... 1 more\n1:103: s(s(s...\ns(s(s(z)))\n",
+        "",
+    ),
+    (
+        &["trace", "-", "--rule", "1:103", "--symbol", "plus"],
+        ADDITION,
+        0,
+        "1:103: plus(z,s(z)) -> s(z)\ns(s(s(z)))\n",
+        "",
+    ),
+    (
+        &["trace", "-", "--symbol", "s"],
+        ADDITION,
+        0,
+        "s(s(s(z)))\n",
         "",
     ),
     (
@@ -324,7 +340,7 @@ pub(crate) const PATTERNS: &[Row] = &[
 ];
 
 /// Words that the command line does not have.
-const WRONG_WORDS: [&[&str]; 47] = [
+const WRONG_WORDS: [&[&str]; 54] = [
     &["eval", "--cells", "0"],
     &["eval", "--cells", "1073741825"],
     &["eval", "--reclaim", "0"],
@@ -368,6 +384,13 @@ const WRONG_WORDS: [&[&str]; 47] = [
     &["trace", "-", "--memo", "0"],
     &["trace", "-", "--width", "2"],
     &["trace", "-", "--width", "x"],
+    &["trace", "-", "--last", "1073741825"],
+    &["trace", "-", "--first", "-1"],
+    &["trace", "-", "--rule", "3"],
+    &["trace", "-", "--rule", "3:5:7"],
+    &["trace", "-", "--rule", "0:1"],
+    &["trace", "-", "--rule", "3:"],
+    &["trace", "-", "--rule", "3:5", "--rule", "4:5"],
     &["trace", "-", "--whole", "--whole"],
     &["eval", "--whole"],
     &["share", "--nodes", "5"],

@@ -1,6 +1,6 @@
 use Rattle.std.proofs.Common.{◌≡◌, map, take}
 use Rattle.rec_syntax.specs.Parts.{rule_of}
-use Rattle.rec_look.specs.Telling.{rule_spot, spot_at}
+use Rattle.rec_look.specs.Picks.{rule_spot, spot_at}
 use Rattle.rec_look.proofs.trace.spots.rule_spots.Given as goal
 
 abbrev pub invariant-loop-rule : goal.invariant-loop-rule
