@@ -3,7 +3,8 @@
 
 What a reader has to believe are the definitions that the clauses of public functions cite, and those that these cite
 in turn. docs/MEANING.md has to name each file that the runs of the program reach, and none that is not there or that
-no public contract reaches. With --list each file is printed with how it is reached.
+no public contract reaches; the files that none reaches, and only these, stand in specs/Inner. With --list each file is
+printed with how it is reached.
 """
 
 import collections
@@ -18,6 +19,8 @@ RUNS = {
     "rec_run": {"run", "run_at", "run_in"},
     "rx_run": {"run_aterm_at", "run_share_at", "run_match_at", "run_make_at"},
 }
+# the crates of tests are no libraries
+TESTS = {"store_rows"}
 IMPORT = re.compile(r"^\s*(?:ghost )?use Rattle\.(\w+)\.specs\.([\w.]+?)(?:\.\{(.*?)\}| as (\w+))?;?\s*$")
 WORD = re.compile(r"[^\s(){}\[\],;`\"@λ]+")
 ITEM = re.compile(r"^(?:abbrev |record |data |ruleset )?(?:pub )?(?:abbrev |record |data )?([^\s(){}:]+)")
@@ -89,7 +92,7 @@ class Imports:
 
 def spec_files():
     found = glob.glob("crates/*/specs/**/*.antt", root_dir=TOP, recursive=True)
-    return {it: File(it) for it in sorted(found) if not it.endswith("/Lib.antt")}
+    return {it: File(it) for it in sorted(found) if not it.endswith(("/Lib.antt", "/Inner.antt"))}
 
 
 def exported(crate):
@@ -175,6 +178,10 @@ def main():
     same("files that docs/MEANING.md names and that are not there", [], sorted(named - set(files)))
     same("files that the runs reach and that it does not name", [], sorted(runs - named))
     same("files that it names and no public contract reaches", [], sorted(named - public))
+    inner = {it for it in files if "/Inner/" in it}
+    beside = {it for it in set(files) - public - inner if it.split("/")[1] not in TESTS}
+    same("files outside of specs/Inner that no public contract reaches", [], sorted(beside))
+    same("files of specs/Inner that a public contract reaches", [], sorted(inner & public))
     done()
 
 

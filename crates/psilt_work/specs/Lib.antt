@@ -2,8 +2,8 @@ pub mod Codes
 pub mod Banks
 pub mod Answers
 pub mod Works
-pub mod Owned
 pub mod Evaluating
 pub mod Patterns
 pub mod Symbols
 pub mod Handles
+pub mod Inner

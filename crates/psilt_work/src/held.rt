@@ -19,7 +19,7 @@ pub struct Held {
 }
 
 impl Model for Held {
-    ghost use Rattle.psilt_work.specs.Owned.{boxed_if};
+    ghost use Rattle.psilt_work.specs.Inner.Owned.{boxed_if};
 
     ghost also_owns = { λ h. boxed_if h.at h.value };
 }

@@ -16,7 +16,7 @@ use Rattle.rec_sorts.proofs.BindingLemmas.{binding_law}
 use Rattle.rec_match.proofs.FactLemmas.{AreBare, every_append}
 use Rattle.rec_match.proofs.BoundLemmas.{BindsOnly, Comes, Walked, WalkedAll, binds_variables, grown_all, opened_is}
 use Rattle.rec_match.proofs.StepLemmas.{stepped, step_comes}
-use Rattle.rec_check.specs.Trials.{asked}
+use Rattle.rec_check.specs.Inner.Trials.{asked}
 
 abbrev mutual
   -- a left side asked of a tree, the last argument first

@@ -22,16 +22,16 @@ use Rattle.rec_match.proofs.BoundLemmas.{opened_is}
 use Rattle.rec_match.proofs.FactLemmas.{facts, variable_is_one}
 use Rattle.rec_match.proofs.LetterLemmas.{every-at}
 use Rattle.rec_check.specs.Findings.{Found, HasSame, found_by, never_matching, never_matching_in, never_tried}
-use Rattle.rec_check.specs.Inside.{never_matching_inside}
+use Rattle.rec_check.specs.Inner.Inside.{never_matching_inside}
 use Rattle.rec_check.specs.Rewriting.{IsFirstWord, postorder, postorder_all, rewrites, rewritten_by}
-use Rattle.rec_check.specs.Trials.{asked}
+use Rattle.rec_check.specs.Inner.Trials.{asked}
 use Rattle.rec_check.specs.declared.finding.Kind.{Kind}
 use Rattle.rec_check.specs.declared.finding.Kind.TheVariants.{NeverMatches, NeverTried}
 use Rattle.rec_check.proofs.BackLemmas.{asked_binds}
 use Rattle.rec_check.proofs.CountLemmas.{same-append, same-of, same-trans, same-swap}
 use Rattle.rec_check.proofs.TrialLemmas.{All-last, AreMeant, left_bare, some_last, some_names, tree_name}
 use Rattle.rec_check.specs.Findings.{as_found, as_findings}
-use Rattle.rec_check.specs.Rewriters.{IsRewriter}
+use Rattle.rec_check.specs.Inner.Rewriters.{IsRewriter}
 use Rattle.rec_check.specs.declared.rewriting.Rewriter.{Rewriter}
 use Rattle.rec_syntax.specs.Parts.{rule_of, term_of}
 use Rattle.rec_syntax.specs.declared.parts.Rule as parts

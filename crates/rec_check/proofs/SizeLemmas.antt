@@ -16,7 +16,7 @@ use Rattle.rec_match.specs.Inner.Asking.{stack_on}
 use Rattle.rec_match.specs.Bound.{bound, goes_on, opened}
 use Rattle.rec_match.proofs.BoundLemmas.{opened_is}
 use Rattle.rec_match.proofs.ItemLemmas.{get-front, get-last}
-use Rattle.rec_check.specs.Trials.{AreSizes, asked, names_below}
+use Rattle.rec_check.specs.Inner.Trials.{AreSizes, asked, names_below}
 use Rattle.rec_check.proofs.BackLemmas.{asked_binds}
 use Rattle.rec_check.proofs.TrialLemmas.{AreDue, left_bare, some_names}
 

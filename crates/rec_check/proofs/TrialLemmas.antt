@@ -31,7 +31,7 @@ use Rattle.rec_match.specs.Inner.Asking.{stack_on}
 use Rattle.rec_match.specs.Bound.{bound, goes_on, opened, with_one}
 use Rattle.rec_match.proofs.BoundLemmas.{opened_is, opened_same}
 use Rattle.rec_match.proofs.FactLemmas.{facts, variable_is_one}
-use Rattle.rec_check.specs.Trials.{AreValues, Asks, Binds, BindsTo, IsGiven, IsValue, LeavesAt, Stands, asked, names_below, onto, value_in}
+use Rattle.rec_check.specs.Inner.Trials.{AreValues, Asks, Binds, BindsTo, IsGiven, IsValue, LeavesAt, Stands, asked, names_below, onto, value_in}
 use Rattle.rec_check.specs.declared.matching.Values.{Values}
 
 -- ---- names of terms

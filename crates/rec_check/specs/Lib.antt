@@ -1,13 +1,11 @@
 pub mod Cursors
 pub mod Findings
-pub mod Inside
 pub mod Laws
 pub mod Lines
 pub mod Lookups
 pub mod Named
-pub mod Rewriters
 pub mod Rewriting
 pub mod Runs
 pub mod Spots
-pub mod Trials
 pub mod Walks
+pub mod Inner

@@ -22,7 +22,7 @@ ghost use Rattle.std.specs.Prelude.{
 ghost use Rattle.rec_syntax.specs.Syntax as syntax;
 ghost use Rattle.rec_syntax.specs.Syntax.{Spec};
 ghost use Rattle.rec_sorts.specs.Numbering.{Named, named, named_by};
-ghost use Rattle.rec_check.specs.Trials.{
+ghost use Rattle.rec_check.specs.Inner.Trials.{
   AreSizes,
   Asks,
   Binds,

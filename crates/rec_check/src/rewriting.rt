@@ -40,9 +40,9 @@ ghost use Rattle.rec_check.specs.Findings.{
   never_matching_in,
   never_tried,
 };
-ghost use Rattle.rec_check.specs.Inside.{never_matching_inside};
+ghost use Rattle.rec_check.specs.Inner.Inside.{never_matching_inside};
 ghost use Rattle.rec_check.specs.Named.{as_word, as_words};
-ghost use Rattle.rec_check.specs.Rewriters.{IsRewriter};
+ghost use Rattle.rec_check.specs.Inner.Rewriters.{IsRewriter};
 ghost use Rattle.rec_check.specs.Rewriting.{
   IsFirstWord,
   postorder_all,
@@ -50,7 +50,7 @@ ghost use Rattle.rec_check.specs.Rewriting.{
   rewritten_by,
 };
 ghost use Rattle.rec_check.specs.Spots.{spot_of};
-ghost use Rattle.rec_check.specs.Trials.{AreSizes};
+ghost use Rattle.rec_check.specs.Inner.Trials.{AreSizes};
 
 use crate::broken::head_of;
 use crate::finding::{Finding, Kind, Shown};

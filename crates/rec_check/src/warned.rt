@@ -12,7 +12,7 @@ ghost use Rattle.rec_check.specs.Findings.{
   unused_variables,
   warnings,
 };
-ghost use Rattle.rec_check.specs.Inside.{never_matching_inside};
+ghost use Rattle.rec_check.specs.Inner.Inside.{never_matching_inside};
 
 use crate::finding::{Finding, Kind};
 use crate::matching::Values;

@@ -13,8 +13,8 @@ use Rattle.rec_run.specs.Reading.{term_at}
 use Rattle.rec_trace.specs.Trace.{Trace}
 use Rattle.rec_trace.specs.Tracing.{Stands, rest_of, whole_of}
 use Rattle.rec_trace.specs.declared.tracer.Tracer.{Tracer}
-use Rattle.rec_look.specs.Pages.{Breaks, Prints}
-use Rattle.rec_look.specs.Telling.{Begins, IsWithin, first_text, told}
+use Rattle.rec_look.specs.Inner.Pages.{Breaks, Prints}
+use Rattle.rec_look.specs.Inner.Telling.{Begins, IsWithin, first_text, told}
 use Rattle.rec_look.specs.Traces.{Shown, task_text}
 use Rattle.rec_look.proofs.PageLemmas.{breaks-before, breaks-behind, prints-both}
 use Rattle.rec_look.proofs.TellingLemmas.{task-told, trace-within}

@@ -29,7 +29,7 @@ use Rattle.rec_run.specs.Reading.{IsGood, IsSpecRead, IsSpecReading, KeepsText, 
 use Rattle.rec_run.specs.Run.{HasRoom, Texts, both_texts}
 use Rattle.rec_run.specs.declared.spec.reading.Job.{Job}
 use Rattle.rec_run.proofs.OneDueLemmas.{one_verdict}
-use Rattle.rec_look.specs.Due.{EndsBehind, IsTraceReadAs, IsTraceReadFrom, trace_due}
+use Rattle.rec_look.specs.Inner.Due.{EndsBehind, IsTraceReadAs, IsTraceReadFrom, trace_due}
 use Rattle.rec_look.specs.Traces.{IsTraceDueAfter, IsTraceDueFor, OneTraceDue, Shown, trace_due_of_spec, trace_due_of_terms}
 
 -- ---- one thing is due at most

@@ -6,7 +6,7 @@ use Rattle.std.specs.Prelude.{ℕ, zero, suc, ◌≡◌, ◌-◌, ◌+◌, ◌<�
 use Rattle.std.specs.declared.alloc.Global.{Global}
 use Rattle.std.proofs.lemmas.Bool.{eqb-true}
 use Rattle.rec_look.specs.Picks.{Picks, back_count, front_lines, left_out_count, rest_lines}
-use Rattle.rec_look.specs.Telling.{HasKept, fresh_lines, front_left, place_of, texts_of}
+use Rattle.rec_look.specs.Inner.Telling.{HasKept, fresh_lines, front_left, place_of, texts_of}
 use Rattle.rec_look.specs.declared.trace.kept.Kept.{Kept}
 use Rattle.rec_look.specs.declared.trace.kept.Place.{Place}
 use Rattle.rec_look.specs.declared.trace.kept.Place.TheVariants.{Front, Behind, Nowhere}

@@ -4,7 +4,7 @@ use Rattle.std.specs.Prelude.{ℕ, ◌≡◌, ◌+◌, Bool, true, false, cond, 
 use Rattle.std.specs.declared.alloc.Global.{Global}
 use Rattle.rec_trace.specs.Trace.{Firing}
 use Rattle.rec_look.specs.Picks.{Picks, is_picked, picks_by}
-use Rattle.rec_look.specs.Telling.{HasKept, TakesUp, fresh_lines, place_of}
+use Rattle.rec_look.specs.Inner.Telling.{HasKept, TakesUp, fresh_lines, place_of}
 use Rattle.rec_look.specs.Traces.{Shown, picked_lines, shown_by, step_line}
 use Rattle.rec_look.specs.declared.trace.kept.Kept.{Kept}
 use Rattle.rec_look.specs.declared.trace.kept.Place.TheVariants.{Front, Behind, Nowhere}

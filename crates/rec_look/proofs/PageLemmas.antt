@@ -11,7 +11,7 @@ use Rattle.rx_run.specs.declared.ending.RunFault.TheVariants as fault
 use Rattle.rx_run.proofs.NewlineLemmas.{newlines-append}
 use Rattle.rec_engine.specs.declared.cells.EngineFault.{EngineFault}
 use Rattle.rec_engine.specs.declared.cells.EngineFault.TheVariants as engine
-use Rattle.rec_look.specs.Pages.{Breaks, Prints, stopped_after}
+use Rattle.rec_look.specs.Inner.Pages.{Breaks, Prints, stopped_after}
 
 reports-later : (f : RunFault) (lines more : ℕ) (before written : List ℕ) → more ≡ lines + newlines before → ReportsAfter more f written → ReportsAfter lines f (before ++ written)
 reports-later (fault.Memory k) lines more before written e h = let both = newlines-append before written in omega (arith, e, h, both)

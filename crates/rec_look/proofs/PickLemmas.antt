@@ -7,7 +7,7 @@ use Rattle.std.proofs.Math.Seq.{drop-append_seam, take-append-add, take-nil}
 use Rattle.std.specs.Prelude.{ℕ, ◌≡◌, ◌-◌, ◌+◌, ◌<◌, ◌≤◌, ◌⊎◌, List, [], ◌∷◌, ◌++◌, Option, Some, None, drop, filter, length, map, take}
 use Rattle.rec_trace.specs.Trace.{Firing}
 use Rattle.rec_look.specs.Picks.{Picks, front_lines, is_picked, last_lines, shown_lines}
-use Rattle.rec_look.specs.Telling.{fresh_lines, lines_behind}
+use Rattle.rec_look.specs.Inner.Telling.{fresh_lines, lines_behind}
 use Rattle.rec_look.specs.Traces.{Shown, picked_lines, step_line}
 
 -- what stands behind a front of a list

@@ -25,7 +25,7 @@ use Rattle.rec_trace.specs.States.{firing_then}
 use Rattle.rec_trace.specs.Trace.{Arrives, Firing, Follow, Trace, Traced, quiet}
 use Rattle.rec_trace.proofs.TraceLemmas.{trace_law}
 use Rattle.rec_look.specs.Picks.{shown_lines}
-use Rattle.rec_look.specs.Telling.{IsEnd, IsWithin, end_line, end_text, first_text, told}
+use Rattle.rec_look.specs.Inner.Telling.{IsEnd, IsWithin, end_line, end_text, first_text, told}
 use Rattle.rec_look.specs.Traces.{Shown, first_lines, picked_lines, task_text}
 
 -- ---- no more is left than there was at first

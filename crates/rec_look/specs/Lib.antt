@@ -1,5 +1,3 @@
 pub mod Picks
 pub mod Traces
-pub mod Pages
-pub mod Telling
-pub mod Due
+pub mod Inner

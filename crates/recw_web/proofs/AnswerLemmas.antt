@@ -13,7 +13,7 @@ use Rattle.rx_look.specs.Faults.{fault_of_run}
 use Rattle.rx_look.specs.declared.ending.LookFault.{LookFault}
 use Rattle.rec_look.specs.Traces.{IsTraceDueFor, Shown}
 use Rattle.recw_web.specs.Answers.{Answers, IsCheckDue, IsEvalDue, IsTraceAsked, checked, finish_of, shown_as}
-use Rattle.recw_web.specs.Handing.{IsHanded, IsWithheld}
+use Rattle.recw_web.specs.Inner.Handing.{IsHanded, IsWithheld}
 use Rattle.recw_web.specs.declared.options.Options.{Options}
 use Rattle.recw_web.specs.declared.options.TraceOptions.{TraceOptions}
 use Rattle.recw_web.specs.declared.told.Told.{Told}

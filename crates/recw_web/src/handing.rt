@@ -1,7 +1,7 @@
 //! What a run came to is handed to the host.
 
 ghost use Rattle.std.specs.Prelude.{◌≡◌, ◌<◌, IfErr, IfOk, length, take};
-ghost use Rattle.recw_web.specs.Handing.{IsHanded, IsWithheld};
+ghost use Rattle.recw_web.specs.Inner.Handing.{IsHanded, IsWithheld};
 
 use crate::told::Told;
 use rec_run::{Finish, Place, RunFault};

@@ -9,8 +9,8 @@ ghost use Rattle.rx_run.specs.Run.{Stops};
 ghost use Rattle.rx_run.specs.Streams.{TellsWrite};
 ghost use Rattle.rec_run.specs.GivenTerms.{HoldsTerms, IsReady, IsRefused, given_by};
 ghost use Rattle.rec_run.specs.Run.{HasRoom};
-ghost use Rattle.rec_look.specs.Due.{EndsBehind, trace_due};
-ghost use Rattle.rec_look.specs.Telling.{AreGivenTerms, IsTelling};
+ghost use Rattle.rec_look.specs.Inner.Due.{EndsBehind, trace_due};
+ghost use Rattle.rec_look.specs.Inner.Telling.{AreGivenTerms, IsTelling};
 ghost use Rattle.rec_look.specs.Traces.{shown_by, traces};
 
 use crate::trace::given::{GivenTerms, given_terms};

@@ -11,9 +11,9 @@ ghost use Rattle.rec_run.specs.Output.{Task, notes_text};
 ghost use Rattle.rec_trace.specs.Lines.{whole_text};
 ghost use Rattle.rec_trace.specs.Lists.{AreKept};
 ghost use Rattle.rec_trace.specs.Tracing.{Stands, rest_of, whole_of};
-ghost use Rattle.rec_look.specs.Pages.{Breaks, Prints};
+ghost use Rattle.rec_look.specs.Inner.Pages.{Breaks, Prints};
 ghost use Rattle.rec_look.specs.Traces.{shown_by, task_text};
-ghost use Rattle.rec_look.specs.Telling.{
+ghost use Rattle.rec_look.specs.Inner.Telling.{
   Begins,
   IsTelling,
   IsWithin,

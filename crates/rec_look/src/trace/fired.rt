@@ -11,7 +11,7 @@ ghost use Rattle.rec_trace.specs.Tracing.{HasFired, Stands, rest_of};
 ghost use Rattle.rec_trace.specs.declared.tracer.Tracer.{Tracer};
 ghost use Rattle.rec_look.specs.Picks.{is_at, is_call_of, is_picked, picks_by, where_asked};
 ghost use Rattle.rec_look.specs.Traces.{shown_by, step_line};
-ghost use Rattle.rec_look.specs.Telling.{IsTelling};
+ghost use Rattle.rec_look.specs.Inner.Telling.{IsTelling};
 
 use crate::trace::picked::RulePlace;
 use crate::trace::telling::Telling;

@@ -7,11 +7,11 @@ ghost use Rattle.rec_engine.specs.Engine.{SameEngine};
 ghost use Rattle.rec_trace.specs.Lines.{joined};
 ghost use Rattle.rec_trace.specs.Lists.{AreKept};
 ghost use Rattle.rec_trace.specs.Tracing.{Stands, rest_of};
-ghost use Rattle.rec_look.specs.Pages.{Breaks, Prints};
+ghost use Rattle.rec_look.specs.Inner.Pages.{Breaks, Prints};
 ghost use Rattle.rec_look.specs.Picks.{Picks, by_threes, last_lines, more_line};
 ghost use Rattle.rec_look.specs.Traces.{shown_by};
-ghost use Rattle.rec_look.specs.Telling.{HasKept, IsEnd, IsTelling, IsWithin};
-ghost use Rattle.rec_look.specs.Telling.{steps_lines, texts_of, told};
+ghost use Rattle.rec_look.specs.Inner.Telling.{HasKept, IsEnd, IsTelling, IsWithin};
+ghost use Rattle.rec_look.specs.Inner.Telling.{steps_lines, texts_of, told};
 
 use crate::trace::kept::Kept;
 use crate::trace::page::print;

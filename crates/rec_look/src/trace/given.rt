@@ -7,7 +7,7 @@ ghost use Rattle.rx_term.specs.Tree.{annotations, from_list, list_of};
 ghost use Rattle.rec_sorts.specs.Numbering.{Pairwise};
 ghost use Rattle.rec_run.specs.GivenTerms.{HoldsTerms, given_at, given_by, item_at};
 ghost use Rattle.rec_run.specs.Output.{notes_text};
-ghost use Rattle.rec_look.specs.Telling.{AreGivenTerms, HasNotes};
+ghost use Rattle.rec_look.specs.Inner.Telling.{AreGivenTerms, HasNotes};
 
 use rec_run::write_notes;
 use rec_sorts::{Checked, Letter, term_letters};

@@ -2,7 +2,7 @@
 
 ghost use Rattle.std.specs.Prelude.{◌≡◌, ◌≤◌, ◌+◌, ◌-◌, ◌++◌, ◌∷◌, ℕ, [], List, OnOk, drop, length};
 ghost use Rattle.rec_look.specs.Picks.{Picks, back_count, picks_by};
-ghost use Rattle.rec_look.specs.Telling.{HasKept, front_left, place_of};
+ghost use Rattle.rec_look.specs.Inner.Telling.{HasKept, front_left, place_of};
 
 use crate::trace::picked::Picked;
 use rec_engine::EngineFault;

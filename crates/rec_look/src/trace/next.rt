@@ -7,7 +7,7 @@ ghost use Rattle.rec_trace.specs.Tracing.{HasFired, Stands, rest_of};
 ghost use Rattle.rec_trace.specs.declared.tracer.Tracer.{Tracer};
 ghost use Rattle.rec_look.specs.Picks.{picks_by};
 ghost use Rattle.rec_look.specs.Traces.{picked_lines, shown_by, step_line};
-ghost use Rattle.rec_look.specs.Telling.{HasKept, IsTelling, TakesUp};
+ghost use Rattle.rec_look.specs.Inner.Telling.{HasKept, IsTelling, TakesUp};
 
 use crate::trace::fired::{Fired, is_picked, step_text};
 use crate::trace::kept::{Kept, Place};

@@ -4,7 +4,7 @@ ghost use Rattle.std.specs.Prelude.{◌≡◌, IfErr, OnOk};
 ghost use Rattle.rx_text.specs.Output.{IsSameOutput, IsWritable};
 ghost use Rattle.rx_run.specs.Bytes.{newlines};
 ghost use Rattle.rx_run.specs.Streams.{TellsWrite};
-ghost use Rattle.rec_look.specs.Pages.{Breaks, Prints, stopped_after};
+ghost use Rattle.rec_look.specs.Inner.Pages.{Breaks, Prints, stopped_after};
 
 use rec_engine::EngineFault;
 use rx_run::RunFault;

@@ -16,7 +16,7 @@ ghost use Rattle.rec_run.specs.GivenTerms.{
 };
 ghost use Rattle.rec_run.specs.Reading.{IsGood, IsSpecReading, KeepsText};
 ghost use Rattle.rec_run.specs.Run.{both_texts};
-ghost use Rattle.rec_look.specs.Due.{IsTraceReadAs, IsTraceReadFrom};
+ghost use Rattle.rec_look.specs.Inner.Due.{IsTraceReadAs, IsTraceReadFrom};
 
 use rec_run::{Job, read_spec_text, read_terms_text};
 use rec_sorts::Checked;

@@ -10,10 +10,10 @@ ghost use Rattle.rec_trace.specs.Lines.{joined};
 ghost use Rattle.rec_trace.specs.Lists.{AreKept};
 ghost use Rattle.rec_trace.specs.Tracing.{HasFired, Stands, rest_of};
 ghost use Rattle.rec_trace.specs.declared.tracer.Tracer.{Tracer};
-ghost use Rattle.rec_look.specs.Pages.{Breaks, Prints};
+ghost use Rattle.rec_look.specs.Inner.Pages.{Breaks, Prints};
 ghost use Rattle.rec_look.specs.Picks.{front_lines, picks_by};
 ghost use Rattle.rec_look.specs.Traces.{picked_lines, shown_by};
-ghost use Rattle.rec_look.specs.Telling.{
+ghost use Rattle.rec_look.specs.Inner.Telling.{
   HasKept,
   IsEnd,
   IsTelling,

@@ -7,9 +7,9 @@ ghost use Rattle.rx_run.specs.Run.{Stops};
 ghost use Rattle.rx_run.specs.Streams.{TellsWrite};
 ghost use Rattle.rec_engine.specs.Engine.{SameEngine, Spells};
 ghost use Rattle.rec_run.specs.Output.{notes_text};
-ghost use Rattle.rec_look.specs.Pages.{Breaks, Prints};
+ghost use Rattle.rec_look.specs.Inner.Pages.{Breaks, Prints};
 ghost use Rattle.rec_look.specs.Traces.{shown_by, task_text, traces};
-ghost use Rattle.rec_look.specs.Telling.{
+ghost use Rattle.rec_look.specs.Inner.Telling.{
   AreGivenTerms,
   IsTelling,
   given_task,

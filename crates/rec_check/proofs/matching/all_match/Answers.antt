@@ -1,6 +1,6 @@
 use Rattle.std.proofs.Common.{rules, subst}
 use Rattle.std.specs.Prelude.{IfSome, option_map}
-use Rattle.rec_check.specs.Trials.{AreSizes, Asks}
+use Rattle.rec_check.specs.Inner.Trials.{AreSizes, Asks}
 use Rattle.rec_check.proofs.TrialLemmas.{asked_all, asked_fails, asked_next, asked_start}
 use Rattle.rec_check.proofs.matching.all_match.Goals as goal
 

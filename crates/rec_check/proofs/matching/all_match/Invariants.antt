@@ -1,5 +1,5 @@
 use Rattle.std.proofs.Common.{length}
-use Rattle.rec_check.specs.Trials.{AreSizes}
+use Rattle.rec_check.specs.Inner.Trials.{AreSizes}
 use Rattle.rec_check.proofs.TrialLemmas.{AreAsked}
 use Rattle.rec_check.proofs.matching.all_match.Given as goal
 

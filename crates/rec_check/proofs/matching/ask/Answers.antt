@@ -2,7 +2,7 @@ use Rattle.std.proofs.Common.{refl, ap, cond, length, rules, subst, sym, take, �
 use Rattle.std.proofs.Math.Seq.{take-append_seam}
 use Rattle.std.specs.Prelude.{◌≡◌, Bool, true, false, Some, None, IfSome, option_map}
 use Rattle.std.specs.Bool.{then_some}
-use Rattle.rec_check.specs.Trials.{AreSizes, Asks, Binds}
+use Rattle.rec_check.specs.Inner.Trials.{AreSizes, Asks, Binds}
 use Rattle.rec_check.proofs.TrialLemmas.{ask_nothing, ask_symbol, ask_variable}
 use Rattle.rec_check.proofs.matching.ask.Goals as goal
 

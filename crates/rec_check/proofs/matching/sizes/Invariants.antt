@@ -1,5 +1,5 @@
 use Rattle.std.proofs.Common.{take}
-use Rattle.rec_check.specs.Trials.{AreSizes}
+use Rattle.rec_check.specs.Inner.Trials.{AreSizes}
 use Rattle.rec_check.proofs.matching.sizes.Given as goal
 
 -- those of the letters so far

@@ -1,7 +1,7 @@
 use Rattle.std.proofs.Common.{ap, ◌++◌, ◌∙◌}
 use Rattle.rec_syntax.specs.Syntax.{Sourced}
 use Rattle.rec_check.specs.Findings.{as_findings, never_matching, never_tried, unused}
-use Rattle.rec_check.specs.Inside.{never_matching_inside}
+use Rattle.rec_check.specs.Inner.Inside.{never_matching_inside}
 use Rattle.rec_check.proofs.RewritingLemmas.{same_matching}
 use Rattle.rec_check.proofs.RunLemmas.{if_ok_warned}
 use Rattle.rec_check.proofs.warned.warnings.Goals as goal

@@ -28,7 +28,7 @@ use denote.Signature.{types_at, plain}
 use denote.Steps.{nothing, heard}
 use denote.Triple.Entry.{alive}
 use denote.Triple.Walked.{Stays, stay_dropped, walk_of}
-use Rattle.psilt_work.specs.Owned.{boxed_if}
+use Rattle.psilt_work.specs.Inner.Owned.{boxed_if}
 use Rattle.psilt_work.specs.contracts.work.Work.{the_row as work}
 use Rattle.psilt_work.proofs.LooseLemmas as loose
 use Rattle.psilt_work.proofs.HeldLemmas.{held_val, held_known}

@@ -1,5 +1,5 @@
 use Rattle.std.proofs.Common.{drop, subst, sym, take}
-use Rattle.rec_check.specs.Trials.{AreSizes}
+use Rattle.rec_check.specs.Inner.Trials.{AreSizes}
 use Rattle.rec_check.proofs.SizeLemmas.{sizes_back, sizes_front}
 use Rattle.rec_check.proofs.matching.Terms.split_at.Goals as goal
 

@@ -5,7 +5,7 @@ use Rattle.rec_sorts.specs.Binding.{binds, tree_of}
 use Rattle.rec_sorts.specs.Numbering.{AreLetters}
 use Rattle.rec_sorts.specs.SpecRules.{fault}
 use Rattle.rec_check.specs.Rewriting.{rewrites}
-use Rattle.rec_check.specs.Trials.{Matches}
+use Rattle.rec_check.specs.Inner.Trials.{Matches}
 use Rattle.rec_check.proofs.RewritingLemmas.{if_ok_so, rewrites_bare, rewrites_never, rule_there}
 use Rattle.rec_check.proofs.rewriting.Rewriter.rewrites.Goals as goal
 

@@ -2,7 +2,7 @@ use Rattle.std.proofs.Common.{◌≡◌, ◌<◌, ◌-◌, get_or, length}
 use Rattle.rec_syntax.specs.Syntax.{Term, head}
 use Rattle.rec_sorts.specs.Numbering.{AreLetters, name_of}
 use Rattle.rec_sorts.specs.declared.letters.Meaning.TheVariants.{Symbol}
-use Rattle.rec_check.specs.Rewriters.{IsRewriter}
+use Rattle.rec_check.specs.Inner.Rewriters.{IsRewriter}
 use Rattle.rec_check.proofs.RewritingLemmas.{NoneBefore}
 use Rattle.rec_check.proofs.rewriting.Rewriter.rewriting_symbol.Given as goal
 

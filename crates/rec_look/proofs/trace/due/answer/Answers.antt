@@ -1,6 +1,6 @@
 use Rattle.std.proofs.Common.{IfOk, ◌≡◌, subst}
 use Rattle.rec_run.specs.Run.{HasRoom}
-use Rattle.rec_look.specs.Due.{trace_due}
+use Rattle.rec_look.specs.Inner.Due.{trace_due}
 use Rattle.rec_look.specs.Traces.{shown_by}
 use Rattle.rec_look.proofs.DueLemmas.{ends_behind, err_behind, fault_behind, ok_behind}
 use Rattle.rec_look.proofs.trace.due.answer.Goals as goal

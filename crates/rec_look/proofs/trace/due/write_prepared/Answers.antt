@@ -6,7 +6,7 @@ use Rattle.rx_text.specs.Output.{Writes, contents_of}
 use Rattle.rx_run.specs.Run.{Stops}
 use Rattle.rx_run.proofs.ErrorLemmas.{on_ok_of}
 use Rattle.rec_syntax.specs.Syntax.{Spec}
-use Rattle.rec_look.specs.Telling.{AreGivenTerms, IsTelling}
+use Rattle.rec_look.specs.Inner.Telling.{AreGivenTerms, IsTelling}
 use Rattle.rec_look.specs.Traces.{shown_by, traces}
 use Rattle.rec_look.proofs.trace.due.write_prepared.Goals as goal
 

@@ -1,5 +1,5 @@
 use Rattle.rec_trace.specs.Tracing.{whole_of}
-use Rattle.rec_look.specs.Telling.{first_text}
+use Rattle.rec_look.specs.Inner.Telling.{first_text}
 use Rattle.rec_look.specs.Traces.{shown_by}
 use Rattle.rec_look.proofs.PageLemmas.{breaks-stopped}
 use Rattle.rec_look.proofs.trace.ending.write_first.Goals as goal

@@ -3,8 +3,8 @@ use Rattle.std.specs.Prelude.{◌++◌, codes}
 use Rattle.std.proofs.lemmas.Result.{IfErr-weaker}
 use Rattle.rx_run.proofs.ErrorLemmas.{if_err_at, on_ok_of}
 use Rattle.rec_trace.specs.Tracing.{rest_of}
-use Rattle.rec_look.specs.Pages.{Breaks, Prints}
-use Rattle.rec_look.specs.Telling.{end_line, end_text, steps_lines}
+use Rattle.rec_look.specs.Inner.Pages.{Breaks, Prints}
+use Rattle.rec_look.specs.Inner.Telling.{end_line, end_text, steps_lines}
 use Rattle.rec_look.specs.Traces.{shown_by}
 use Rattle.rec_look.proofs.PageLemmas.{breaks-behind, prints-both}
 use Rattle.rec_look.proofs.TellingLemmas.{end-written}

@@ -3,11 +3,11 @@ use Rattle.std.specs.Prelude.{ℕ}
 use Rattle.rx_term.specs.Tree.{Tree}
 use Rattle.rx_run.proofs.ErrorLemmas.{if_err_at}
 use Rattle.rec_trace.specs.Trace.{Traced}
-use Rattle.rec_look.specs.Pages.{Breaks, Prints}
+use Rattle.rec_look.specs.Inner.Pages.{Breaks, Prints}
 use Rattle.rec_look.specs.Traces.{shown_by}
 use Rattle.rec_syntax.specs.Syntax.{Spec}
 use Rattle.rec_trace.specs.Tracing.{Stands, rest_of}
-use Rattle.rec_look.specs.Telling.{IsTelling, IsWithin, told}
+use Rattle.rec_look.specs.Inner.Telling.{IsTelling, IsWithin, told}
 use Rattle.rec_look.proofs.BeginLemmas.{begun-within, task-breaks-first, task-breaks-rest, task-prints}
 use Rattle.rec_look.proofs.trace.ending.write_trace.Goals as goal
 

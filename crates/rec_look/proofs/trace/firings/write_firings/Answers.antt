@@ -2,9 +2,9 @@ use Rattle.std.proofs.Common.{◌++◌, subst}
 use Rattle.rx_run.proofs.ErrorLemmas.{if_err_at}
 use Rattle.rec_trace.specs.Lines.{joined}
 use Rattle.rec_trace.specs.Tracing.{rest_of}
-use Rattle.rec_look.specs.Pages.{Breaks, Prints}
+use Rattle.rec_look.specs.Inner.Pages.{Breaks, Prints}
 use Rattle.rec_look.specs.Picks.{front_lines, last_lines}
-use Rattle.rec_look.specs.Telling.{end_line}
+use Rattle.rec_look.specs.Inner.Telling.{end_line}
 use Rattle.rec_look.specs.Traces.{picked_lines, shown_by}
 use Rattle.rec_look.proofs.FiringLemmas.{steps-parts, told-parts}
 use Rattle.rec_look.proofs.PageLemmas.{breaks-before, breaks-behind, prints-both}

@@ -2,9 +2,9 @@ use Rattle.std.proofs.Common.{subst}
 use Rattle.std.proofs.lemmas.Result.{IfErr-weaker}
 use Rattle.rx_run.proofs.ErrorLemmas.{on_ok_of}
 use Rattle.rec_trace.specs.Lines.{joined}
-use Rattle.rec_look.specs.Pages.{Breaks, Prints}
+use Rattle.rec_look.specs.Inner.Pages.{Breaks, Prints}
 use Rattle.rec_look.specs.Picks.{more_line}
-use Rattle.rec_look.specs.Telling.{texts_of}
+use Rattle.rec_look.specs.Inner.Telling.{texts_of}
 use Rattle.rec_look.proofs.FiringLemmas.{kept-last}
 use Rattle.rec_look.proofs.PageLemmas.{breaks-behind, prints-both}
 use Rattle.rec_look.proofs.trace.firings.write_kept.Goals as goal

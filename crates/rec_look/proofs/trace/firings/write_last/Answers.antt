@@ -2,7 +2,7 @@ use Rattle.std.proofs.Common.{◌≡◌, ◌<◌, ◌≤◌, ℕ, ap, arith, len
 use Rattle.std.specs.Prelude.{Vec}
 use Rattle.std.specs.declared.alloc.Global.{Global}
 use Rattle.rx_run.proofs.ErrorLemmas.{if_err_at}
-use Rattle.rec_look.specs.Pages.{Breaks, Prints}
+use Rattle.rec_look.specs.Inner.Pages.{Breaks, Prints}
 use Rattle.rec_look.proofs.FiringLemmas.{kept-text}
 use Rattle.rec_look.proofs.TaskLemmas.{breaks-within, prints-all}
 use Rattle.rec_look.proofs.trace.firings.write_last.Goals as goal

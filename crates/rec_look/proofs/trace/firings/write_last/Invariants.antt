@@ -2,7 +2,7 @@ use Rattle.std.proofs.Common.{ℕ, take}
 use Rattle.std.specs.Prelude.{Vec, flat_map}
 use Rattle.std.specs.declared.alloc.Global.{Global}
 use Rattle.rx_text.specs.Output.{IsSameOutput, IsWritable}
-use Rattle.rec_look.specs.Pages.{Prints}
+use Rattle.rec_look.specs.Inner.Pages.{Prints}
 use Rattle.rec_look.proofs.trace.firings.write_last.Given as goal
 
 -- the lines so far were written

@@ -3,7 +3,7 @@ use Rattle.std.specs.Prelude.{is_some}
 use Rattle.rx_term.specs.Tree.{list_of, none}
 use Rattle.rec_sorts.specs.Numbering.{Pairwise}
 use Rattle.rec_run.specs.GivenTerms.{given_at}
-use Rattle.rec_look.specs.Telling.{HasNotes}
+use Rattle.rec_look.specs.Inner.Telling.{HasNotes}
 use Rattle.rec_look.proofs.GivenLemmas.{first-item, no-notes, notes-more, other-items}
 use Rattle.rec_look.proofs.trace.given.notes_of_all.Goals as goal
 

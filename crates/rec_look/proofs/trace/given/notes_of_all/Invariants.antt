@@ -3,7 +3,7 @@ use Rattle.rx_term.specs.Store.{tree_at}
 use Rattle.rx_term.specs.Tree.{from_list, list_of}
 use Rattle.rec_sorts.specs.Numbering.{Pairwise}
 use Rattle.rec_run.specs.GivenTerms.{given_at}
-use Rattle.rec_look.specs.Telling.{HasNotes}
+use Rattle.rec_look.specs.Inner.Telling.{HasNotes}
 use Rattle.rec_look.proofs.trace.given.notes_of_all.Given as goal
 
 -- the texts so far were made, and the rest of the list is left

@@ -1,5 +1,5 @@
 use Rattle.std.proofs.Common.{ap, ◌∙◌}
-use Rattle.rec_look.specs.Due.{job_traces}
+use Rattle.rec_look.specs.Inner.Due.{job_traces}
 use Rattle.rec_look.specs.Traces.{IsTraceDueFor, shown_by}
 use Rattle.rx_run.proofs.ErrorLemmas.{on_ok_any}
 use Rattle.rx_run.proofs.FaultLemmas.{reports_unwritten}

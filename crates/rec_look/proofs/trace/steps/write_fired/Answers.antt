@@ -2,7 +2,7 @@ use Rattle.std.proofs.Common.{subst, sym}
 use Rattle.std.proofs.lemmas.Result.{IfErr-weaker}
 use Rattle.rx_run.proofs.ErrorLemmas.{on_ok_of}
 use Rattle.rec_trace.specs.Lines.{joined}
-use Rattle.rec_look.specs.Pages.{Breaks, Prints}
+use Rattle.rec_look.specs.Inner.Pages.{Breaks, Prints}
 use Rattle.rec_look.proofs.PageLemmas.{breaks-stopped}
 use Rattle.rec_look.proofs.trace.steps.write_fired.Goals as goal
 

@@ -4,9 +4,9 @@ use Rattle.rec_syntax.specs.Syntax.{Spec}
 use Rattle.rx_run.proofs.ErrorLemmas.{if_err_at}
 use Rattle.rec_trace.proofs.ListLemmas.{same_both}
 use Rattle.rec_trace.specs.Tracing.{rest_of}
-use Rattle.rec_look.specs.Pages.{Breaks}
+use Rattle.rec_look.specs.Inner.Pages.{Breaks}
 use Rattle.rec_look.specs.Picks.{picks_by}
-use Rattle.rec_look.specs.Telling.{HasKept, HasTold, IsTelling, IsToldTurn, told_behind}
+use Rattle.rec_look.specs.Inner.Telling.{HasKept, HasTold, IsTelling, IsToldTurn, told_behind}
 use Rattle.rec_look.specs.Traces.{picked_lines, shown_by}
 use Rattle.rec_look.proofs.StepLemmas.{so-far-breaks, so-far-kept, so-far-more, so-far-none}
 use Rattle.rec_look.proofs.TellingLemmas.{within-next}

@@ -2,7 +2,7 @@ use Rattle.std.proofs.Common.{length}
 use Rattle.rx_text.specs.Output.{IsSameOutput, IsWritable}
 use Rattle.rec_engine.specs.Engine.{SameEngine}
 use Rattle.rec_trace.specs.Tracing.{Stands, rest_of}
-use Rattle.rec_look.specs.Telling.{IsWithin}
+use Rattle.rec_look.specs.Inner.Telling.{IsWithin}
 use Rattle.rec_look.proofs.StepLemmas.{SoFar}
 use Rattle.rec_look.proofs.trace.steps.write_steps.Given as goal
 

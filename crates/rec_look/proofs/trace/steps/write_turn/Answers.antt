@@ -3,9 +3,9 @@ use Rattle.std.specs.Prelude.{ℕ}
 use Rattle.rec_syntax.specs.Syntax.{Spec}
 use Rattle.rx_run.proofs.ErrorLemmas.{if_err_at}
 use Rattle.rec_trace.specs.Tracing.{HasFired, Stands, rest_of}
-use Rattle.rec_look.specs.Pages.{Breaks}
+use Rattle.rec_look.specs.Inner.Pages.{Breaks}
 use Rattle.rec_look.specs.Picks.{picks_by}
-use Rattle.rec_look.specs.Telling.{HasKept, HasTold, IsTelling, told_behind}
+use Rattle.rec_look.specs.Inner.Telling.{HasKept, HasTold, IsTelling, told_behind}
 use Rattle.rec_look.specs.Traces.{shown_by}
 use Rattle.rec_look.proofs.PageLemmas.{breaks-stopped}
 use Rattle.rec_look.proofs.StepLemmas.{fired-left, fired-stands, told-break, told-turn, turn-fired, value-left}

@@ -2,8 +2,8 @@ use Rattle.std.proofs.Common.{ℕ, List, take}
 use Rattle.rx_term.specs.Tree.{Tree}
 use Rattle.rx_text.specs.Output.{IsSameOutput, IsWritable}
 use Rattle.rec_engine.specs.Engine.{SameEngine}
-use Rattle.rec_look.specs.Pages.{Prints}
-use Rattle.rec_look.specs.Telling.{AreGivenTerms, IsTelling, given_traces}
+use Rattle.rec_look.specs.Inner.Pages.{Prints}
+use Rattle.rec_look.specs.Inner.Telling.{AreGivenTerms, IsTelling, given_traces}
 use Rattle.rec_look.specs.Traces.{shown_by}
 use Rattle.rec_look.proofs.trace.terms.write_given_traces.Given as goal
 

@@ -3,12 +3,12 @@ use Rattle.std.specs.Prelude.{ℕ}
 use Rattle.std.proofs.lemmas.Result.{IfErr-weaker}
 use Rattle.rx_run.proofs.ErrorLemmas.{on_ok_of}
 use Rattle.rec_run.specs.Output.{Task, notes_text}
-use Rattle.rec_look.specs.Pages.{Breaks, Prints}
+use Rattle.rec_look.specs.Inner.Pages.{Breaks, Prints}
 use Rattle.rec_look.specs.Traces.{shown_by, task_text}
 use Rattle.rec_look.proofs.PageLemmas.{breaks-stopped}
 use Rattle.rec_syntax.specs.Syntax.{Spec}
 use Rattle.rec_run.specs.Reading.{term_at}
-use Rattle.rec_look.specs.Telling.{Begins, IsTelling, own_task}
+use Rattle.rec_look.specs.Inner.Telling.{Begins, IsTelling, own_task}
 use Rattle.rec_look.proofs.BeginLemmas.{begins-same, own-begins}
 use Rattle.rec_look.proofs.trace.terms.write_own_trace.Goals as goal
 

@@ -4,8 +4,8 @@ use Rattle.rx_term.specs.Tree.{none}
 use Rattle.rx_text.specs.Output.{IsSameOutput, IsWritable}
 use Rattle.rec_syntax.specs.Syntax.{Term}
 use Rattle.rec_engine.specs.Engine.{SameEngine}
-use Rattle.rec_look.specs.Pages.{Prints}
-use Rattle.rec_look.specs.Telling.{IsTelling}
+use Rattle.rec_look.specs.Inner.Pages.{Prints}
+use Rattle.rec_look.specs.Inner.Telling.{IsTelling}
 use Rattle.rec_look.specs.Traces.{shown_by, task_text}
 use Rattle.rec_look.proofs.trace.terms.write_own_traces.Given as goal
 

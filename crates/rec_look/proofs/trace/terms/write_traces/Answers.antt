@@ -6,8 +6,8 @@ use Rattle.rx_text.specs.Output.{Writes, contents_of}
 use Rattle.rx_run.specs.Run.{Stops}
 use Rattle.rx_run.proofs.ErrorLemmas.{on_ok_of}
 use Rattle.rec_syntax.specs.Syntax.{Spec}
-use Rattle.rec_look.specs.Pages.{Breaks, Prints}
-use Rattle.rec_look.specs.Telling.{AreGivenTerms, IsTelling, given_traces}
+use Rattle.rec_look.specs.Inner.Pages.{Breaks, Prints}
+use Rattle.rec_look.specs.Inner.Telling.{AreGivenTerms, IsTelling, given_traces}
 use Rattle.rec_look.specs.Traces.{shown_by, traces}
 use Rattle.rec_look.proofs.PageLemmas.{breaks-behind, breaks-first, prints-both}
 use Rattle.rec_look.proofs.TaskLemmas.{traces-both}

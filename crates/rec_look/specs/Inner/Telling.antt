@@ -24,7 +24,7 @@ use Rattle.rec_trace.specs.States.{firing_then}
 use Rattle.rec_trace.specs.Trace.{Firing, Trace, Traced}
 use Rattle.rec_trace.specs.Tracing.{Stands, rest_of, whole_of}
 use Rattle.rec_trace.specs.declared.tracer.Tracer.{Tracer}
-use Rattle.rec_look.specs.Pages.{Prints}
+use Rattle.rec_look.specs.Inner.Pages.{Prints}
 use Rattle.rec_look.specs.Picks.{Picks, back_count, front_lines, left_out_count, picks_by, rest_lines, rule_spot, shown_lines}
 use Rattle.rec_look.specs.Traces.{Shown, picked_lines, shown_by, task_text}
 use Rattle.rec_look.specs.declared.trace.given.GivenTerms.{GivenTerms}

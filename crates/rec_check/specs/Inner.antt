@@ -1,0 +1,4 @@
+-- What the proofs speak of inside this crate: no public contract cites it.
+pub mod Inside
+pub mod Rewriters
+pub mod Trials

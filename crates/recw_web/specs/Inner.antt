@@ -1,0 +1,2 @@
+-- What the proofs speak of inside this crate: no public contract cites it.
+pub mod Handing
