@@ -25,6 +25,7 @@ _recw_eval_options=(
     '--count'
     '--limit-annotations'
     '--limit-status'
+    '--stuck'
 )
 
 # Each option of trace in the same way, and each of the others.

@@ -45,6 +45,16 @@ OTHERS = (
     (["match", "f(<int>,<list>)", "term"], "f(a)", "no\n"),
     (["make", "f(<int>,<list>)", "[1,[2,3]]"], "", "f(1,2,3)\n"),
 )
+# One that tells of calls, with its output, and what it tells.
+CALLS = (
+    "stuck: f(z): the conditions of 2:1 fail\n"
+    "stuck: f(s(z)): no rule matches\nstuck: f(f(s(z))): no rule matches\n"
+)
+STUCK = (
+    ["eval", "--stuck", "-e", "f(f(s(z))){n}", "term"],
+    "REC-SPEC C SORTS N CONS z : -> N s : N -> N OPNS f : N -> N RULES\nf(z) -> z if z -><- s(z) EVAL s(f(z)) END-SPEC",
+    "s(f(z))\nf(f(s(z))){n}\n",
+)
 # What a bank has behind a call, where the protected term and its 14 parts alone are left: crates/hostile/src/banks.rt
 # counts them.
 ROOTS = ["65534 protections left", "f(g(a),[1,<7>]){b}", "14 cells kept"]
@@ -124,24 +134,25 @@ def count_refused(what, answers):
 
 
 def whole_runs(at):
-    """The words of each run, and its output."""
+    """The words of each run, its output, and its status with what it tells."""
     known = recw("eval", "--help")[1]
     for files, options, output in rows():
         if all(word in known for word in re.findall(r"--\w+", options)):
-            yield ["eval", *options.split(), *files.split()], output
-    for number, (words, text, output) in enumerate(OTHERS):
+            yield ["eval", *options.split(), *files.split()], output, (0, "")
+    for number, (words, text, output) in enumerate((*OTHERS, STUCK)):
         term = write_file(f"{at}/{number}", text)
-        yield [term if it == "term" else it for it in words], output
+        end = (5, CALLS) if words == STUCK[0] else (0, "")
+        yield [term if it == "term" else it for it in words], output, end
 
 
-def try_whole_run(words, output, answers):
+def try_whole_run(words, output, end, answers):
     line = " ".join(words)
     check(f"{line}: wants memory", True, any((it["status"], it["err"]) == NO_MEMORY for it in answers))
     for it in answers:
         found = (it["status"], it["err"])
         kept = found == NO_MEMORY and output.startswith(it["out"])
         what = f"{line}: {it['refused']}: {found} {it['out']!r}"
-        check(what, True, kept or (*found, it["out"]) == (0, "", output))
+        check(what, True, kept or (*found, it["out"]) == (*end, output))
     return count_refused(line, answers)
 
 
@@ -150,8 +161,8 @@ def try_memory():
     count = 0
     with room() as at:
         runs = list(whole_runs(at))
-        for (words, output), answers in zip(runs, refused([[program(), *words] for words, _ in runs])):
-            count += try_whole_run(words, output, answers)
+        for (words, *due), answers in zip(runs, refused([[program(), *words] for words, *_ in runs])):
+            count += try_whole_run(words, *due, answers)
     return count
 
 

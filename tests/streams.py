@@ -218,6 +218,7 @@ UNTOLD = (
     ("eval --explain add.rec -e z -e z(", 1, "!terms A\n"),
     ("match --explain <x>", 1, "!pattern P1\n"),
     ("eval --limit-status --steps 2 add.rec", 5, "!limit 2\n"),
+    ("eval --stuck rows/irr.rec", 5, "h(z)\n"),
 )
 
 

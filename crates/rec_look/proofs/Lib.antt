@@ -11,3 +11,15 @@ mod TaskLemmas
 mod GivenLemmas
 mod DueLemmas
 mod LawLemmas
+mod ApplicationLemmas
+mod VisitLemmas
+mod ToldLemmas
+mod FittingLemmas
+mod ReportLemmas
+mod CallLemmas
+mod TextLemmas
+mod AddLemmas
+mod FrontLemmas
+mod RunEndLemmas
+mod WholeRunLemmas
+mod RunDueLemmas

@@ -1,4 +1,6 @@
 -- What the proofs speak of inside this crate: no public contract cites it.
+pub mod Calls
 pub mod Due
 pub mod Pages
 pub mod Telling
+pub mod Visits

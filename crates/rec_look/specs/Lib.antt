@@ -1,3 +1,4 @@
 pub mod Picks
 pub mod Traces
+pub mod Stuck
 pub mod Inner

@@ -3,6 +3,7 @@
 use crate::expected::expected_words;
 use crate::item::{element_of_terms, item_of_args};
 use crate::recorded::{Output, Recorded};
+use rec_look::StuckReport;
 use rec_run::{Finish, Place, RunDepthFault, RunFault, Source};
 use recw_words::{
     Given, Invocation, Item, Refusal, Request, STANDARD_INPUT, TextName, Texts, Which,
@@ -46,6 +47,8 @@ pub struct Evidence<'a> {
     pub second: Vec<u8>,
     /// What was written.
     pub output: Output,
+    /// What there is to tell of the calls in values.
+    pub report: StuckReport,
     /// What failed, and why.
     trouble: Option<Trouble<'a>>,
 }
@@ -61,6 +64,7 @@ impl<'a> Evidence<'a> {
             first: Vec::new(alloc),
             second: Vec::new(alloc),
             output: Output::new(alloc),
+            report: StuckReport::new(alloc),
             trouble: None,
         }
     }

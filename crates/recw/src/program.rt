@@ -59,18 +59,35 @@ fn conclude<E: Write>(
     if evidence.invocation.explain {
         let _ = evidence.explain(end, err);
     }
+    if let Ok(Finish::Done) = end {
+        tell_calls(evidence, err);
+    }
     if evidence.invocation.has_outcome {
         outcome_status(status, evidence)
     } else {
-        status
+        calls_status(status, evidence)
     }
+}
+
+/// Tells of the calls in values. Lines that cannot be written are left out.
+fn tell_calls<E: Write>(evidence: &Evidence<'_>, err: &mut E) {
+    let _ = err.write_all(evidence.report.lines.as_slice());
+}
+
+/// The status where it is to tell of the calls in values. There is nothing to tell where that was
+/// not asked for.
+fn calls_status(status: u8, evidence: &Evidence<'_>) -> u8 {
+    eval_status(status, !evidence.report.lines.is_empty())
 }
 
 /// The status where it is to tell what came of the run.
 fn outcome_status(status: u8, evidence: &Evidence<'_>) -> u8 {
     match evidence.invocation.request {
         Request::Match { .. } => { match_status(status, evidence.output.text.starts_with(b"yes")) }
-        _ => eval_status(status, evidence.output.has_mark),
+        _ => {
+            let status = eval_status(status, evidence.output.has_mark);
+            calls_status(status, evidence)
+        }
     }
 }
 

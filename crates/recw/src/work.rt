@@ -2,7 +2,7 @@
 
 use crate::evidence::Evidence;
 use crate::options::{run_settings, trace_options};
-use rec_look::run_trace;
+use rec_look::{run_stuck, run_trace};
 use rec_run::{Finish, RunDepthFault, run_within};
 use recw_words::{EvalOptions, Shown};
 use std::io::{Read, Write};
@@ -27,6 +27,11 @@ impl Work<'_> {
     ) -> Result<Finish, RunDepthFault> {
         let alloc = evidence.alloc;
         match self {
+            Work::Values(options) if options.stuck => {
+                let settings = run_settings(options);
+                let Evidence { place, report, .. } = evidence;
+                run_stuck(alloc, spec, terms, out, settings, place, report)
+            }
             Work::Values(options) => {
                 let settings = run_settings(options);
                 run_within(alloc, spec, terms, out, settings, &mut evidence.place)

@@ -55,6 +55,11 @@ const EVAL: Subcommand = Subcommand {
             help: "End with status 5 where a term takes more steps",
             kind: Kind::Flag,
         },
+        Argument {
+            name: "stuck",
+            help: "Tell on standard error which calls of operators the values hold",
+            kind: Kind::Flag,
+        },
         EXPLAIN,
     ],
 };

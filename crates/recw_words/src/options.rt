@@ -28,6 +28,8 @@ pub struct EvalOptions {
     pub limit_annotations: bool,
     /// How many calls may wait at once; without a number as many as there is memory for.
     pub depth: Option<u32>,
+    /// Whether it is told which calls of operators the values hold.
+    pub stuck: bool,
     pub ghost steps_in_range: { steps ≤ 10 ^ 18 },
     pub ghost cells_in_range: { (1 ≤ cells) × (cells ≤ 2 ^ 30) },
     pub ghost memo_in_range: { memo ≤ 2 ^ 20 },
@@ -70,6 +72,7 @@ pub fn options_of(matches: &ArgMatches<'_>) -> Option<EvalOptions> {
         count: matches.get_flag("count"),
         limit_annotations: matches.get_flag("limit-annotations"),
         depth: matches.get_one::<u32>("depth"),
+        stuck: matches.get_flag("stuck"),
     })
 }
 

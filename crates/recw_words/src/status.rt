@@ -16,7 +16,7 @@ pub const OUT_OF_ROOM: u8 = 3;
 /// A stream failed.
 pub const STREAMS: u8 = 4;
 
-/// Some term was over its budget, where the status is to tell that.
+/// Some term was over its budget, or a value holds a call, where the status is to tell that.
 pub const LIMIT: u8 = 5;
 
 /// The status of a match that is to tell whether the pattern matches. A refused text has that of
@@ -34,7 +34,8 @@ pub fn match_status(status: u8, is_match: bool) -> u8
     }
 }
 
-/// The status of an evaluation that is to tell whether some term was over its budget.
+/// The status of an evaluation that is to tell whether some term was over its budget; or, by the
+/// same words, whether a value holds a call.
 pub fn eval_status(status: u8, has_limit: bool) -> u8
     ensures done { (result ≡ 0) ↔ ((status ≡ 0) × (has_limit ≡ false)) }
     ensures limit { (status ≡ 0) × (has_limit ≡ true) → result ≡ 5 }

@@ -69,6 +69,7 @@ Options:
       --count              Print the steps that each term took behind its value
       --limit-annotations  Print the annotations of a further term behind its limit
       --limit-status       End with status 5 where a term takes more steps
+      --stuck              Tell on standard error which calls of operators the values hold
       --explain            Say in words why a text is refused, and where
   -h, --help               Print help
 

@@ -2,6 +2,10 @@
 
 use crate::tests::{ADDITION, Row};
 
+/// A call that no rule matches, and a condition that fails.
+const STUCK: &str = "REC-SPEC S SORTS N CONS z : -> N s : N -> N p : N N -> N OPNS f : N -> N \
+     VARS X : N RULES f(s(X)) -> X if X -><- s(z) EVAL f(z) END-SPEC";
+
 /// Matches and evaluations whose status tells more.
 pub(crate) const STATUSES: &[Row] = &[
     (&["match", "--test", "f(<int>)"], "f(1)", 0, "yes\n1\n", ""),
@@ -46,6 +50,22 @@ pub(crate) const STATUSES: &[Row] = &[
     (
         &["eval", "--limit-status", "--cells", "3"],
         ADDITION,
+        3,
+        "",
+        "recw: out of cells\n",
+    ),
+    (&["eval", "--stuck"], ADDITION, 0, "s(s(s(z)))\n", ""),
+    (
+        &["eval", "--stuck", "-e", "p(f(z),f(s(z))){1}"],
+        STUCK,
+        5,
+        "f(z)\np(f(z),f(s(z))){1}\n",
+        "stuck: f(z): no rule matches\nstuck: f(z): no rule matches\n\
+         stuck: f(s(z)): the conditions of 1:91 fail\n",
+    ),
+    (
+        &["eval", "--stuck", "--cells", "3"],
+        STUCK,
         3,
         "",
         "recw: out of cells\n",

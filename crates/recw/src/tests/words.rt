@@ -340,7 +340,7 @@ pub(crate) const PATTERNS: &[Row] = &[
 ];
 
 /// Words that the command line does not have.
-const WRONG_WORDS: [&[&str]; 54] = [
+const WRONG_WORDS: [&[&str]; 56] = [
     &["eval", "--cells", "0"],
     &["eval", "--cells", "1073741825"],
     &["eval", "--reclaim", "0"],
@@ -375,6 +375,8 @@ const WRONG_WORDS: [&[&str]; 54] = [
     &["eval", "-e", "-7"],
     &["eval", "--test"],
     &["eval", "--limit-status", "--limit-status"],
+    &["eval", "--stuck", "--stuck"],
+    &["trace", "-", "--stuck"],
     &["match", "--limit-status", "a"],
     &["aterm", "-e", "a"],
     &["trace"],
@@ -483,6 +485,7 @@ fn reaches_its_field<H: Abort + Files>(
         count,
         limit_annotations,
         depth,
+        stuck: _,
     } = options;
     let found = [steps, u64::from(cells), u64::from(memo), u64::from(reclaim)];
     assert!(rt;
