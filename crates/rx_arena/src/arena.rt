@@ -1,24 +1,29 @@
 //! The arena: slots to take and give back, the chains of a table, and the gray list of a marking.
-ghost use Rattle.std.specs.Prelude.{◌≡◌, ◌≢◌, ◌==◌, ◌↔◌, IsTrue, if◌then◌else◌, ℕ, ◌+◌, ◌%◌, ◌-◌};
-ghost use Rattle.std.specs.Prelude.{◌<◌, ◌≤◌, ◌^◌, ◌++◌, ◌∷◌, [], List, Bool, true, false, Option};
+
+mod dealing;
+mod parting;
+mod reading;
+
+ghost use Rattle.std.specs.Prelude.{◌≡◌, ◌↔◌, IsTrue, ℕ, ◌+◌, ◌%◌};
+ghost use Rattle.std.specs.Prelude.{◌<◌, ◌≤◌, ◌^◌, ◌++◌, ◌∷◌, [], List, true, false, Option};
 ghost use Rattle.std.specs.Prelude.{Some, None, Ok, Err, MatchOption, IfSome, IfOk, IfErr, OnOk};
-ghost use Rattle.std.specs.Prelude.{OnErr, IfNone, IsSome, get_or, length, slice_set, take};
-ghost use Rattle.std.specs.Prelude.{replicate, reverse, is_some, map};
+ghost use Rattle.std.specs.Prelude.{OnErr, IfNone, IsSome, length, slice_set, take};
+ghost use Rattle.std.specs.Prelude.{map};
 ghost use Rattle.std.specs.Option.{option_map};
-ghost use Rattle.rx_arena.specs.Faces.{ask, face_of, word_of};
-ghost use Rattle.rx_arena.specs.Put.{times, times_in, total, total-prop, put, altered, emptied};
+ghost use Rattle.rx_arena.specs.Faces.{word_of};
+ghost use Rattle.rx_arena.specs.Put.{times, total, total-prop, put, altered};
 ghost use Rattle.rx_arena.specs.Inner.Links.{Chained, Chained-prop, Listed, Listed-prop, links};
-ghost use Rattle.rx_arena.specs.Arena.{Taken, taken_at, IsTaken, taken_count, chain_at, InChain, IsLoose};
-ghost use Rattle.rx_arena.specs.Arena.{marked_at, IsMarked, roots_at, hash_at, IsUnprotected};
-ghost use Rattle.rx_arena.specs.Arena.{new_cell, with_count, with_marking, kept_in, dropped_from};
-ghost use Rattle.rx_arena.specs.Arena.{IsFirst, is_unmarked, times_hashed, IsArena, empty_arena};
+ghost use Rattle.rx_arena.specs.Arena.{taken_at, IsTaken, taken_count, chain_at, InChain, IsLoose};
+ghost use Rattle.rx_arena.specs.Arena.{marked_at, IsMarked, roots_at};
+ghost use Rattle.rx_arena.specs.Arena.{new_cell, with_count, with_marking};
+ghost use Rattle.rx_arena.specs.Arena.{IsFirst, is_unmarked, IsArena, empty_arena};
 
 use crate::cells::Link;
-use crate::faces::{ASK, first, said, second, word};
+use crate::faces::word;
 use crate::fault::ArenaFault;
 use crate::heads::{Heads, home};
 use crate::pool::Pool;
-use crate::{CellBody, Face, Slot};
+use crate::{CellBody, Slot};
 use std::alloc::Global;
 use std::marker::Model;
 
@@ -164,107 +169,6 @@ impl Arena {
         ensures law { IsArena self.new }
     {
         self.pool.give_back(slot.0)
-    }
-
-    /// What the cell says.
-    pub fn read(&self, slot: Slot) -> CellBody
-        requires { IsTaken self.now slot.0 }
-        ensures { IfSome (taken_at self.now slot.0) (λ t. result ≡ t.body) }
-    {
-        self.pool.body(slot.0)
-    }
-
-    /// The word of what the cell says. It stands beside the cell, which is not touched.
-    #[inline(always)]
-    pub fn word(&self, slot: Slot) -> u64
-        requires { IsTaken self.now slot.0 }
-        ensures { IfSome (taken_at self.now slot.0) (λ t. result ≡ word_of t.body) }
-    {
-        self.pool.word(slot.0)
-    }
-
-    /// Whether the slot is taken, by a cell of this word.
-    #[inline(always)]
-    pub fn holds_word(&self, slot: Slot, word: u64) -> bool
-        requires { word ≢ ask }
-        ensures { IsTrue result
-            → (t : Taken) × (taken_at self.now slot.0 ≡ Some t) × (word ≡ word_of t.body) }
-    {
-        self.pool.holds_word(slot.0, word)
-    }
-
-    /// What the cell says but for its hash, read there.
-    #[inline(never)]
-    fn face_in_cell(&self, slot: Slot) -> Face
-        requires { IsTaken self.now slot.0 }
-        ensures { IfSome (taken_at self.now slot.0) (λ t. result ≡ face_of t.body) }
-    {
-        let body = self.read(slot);
-        Face {
-            kind: body.kind,
-            a: body.a,
-            b: body.b,
-            anns: body.anns,
-        }
-    }
-
-    /// The first word of the body, read in the cell.
-    #[inline(never)]
-    fn first_in_cell(&self, slot: Slot) -> u64
-        requires { IsTaken self.now slot.0 }
-        ensures { IfSome (taken_at self.now slot.0) (λ t. result ≡ t.body.a) }
-    {
-        self.read(slot).a
-    }
-
-    /// The second word of the body, read in the cell.
-    #[inline(never)]
-    fn second_in_cell(&self, slot: Slot) -> u64
-        requires { IsTaken self.now slot.0 }
-        ensures { IfSome (taken_at self.now slot.0) (λ t. result ≡ t.body.b) }
-    {
-        self.read(slot).b
-    }
-
-    /// What the cell says but for its hash: mostly from the word beside the cell, so that the cell
-    /// is not touched.
-    #[inline(always)]
-    pub fn face(&self, slot: Slot) -> Face
-        requires { IsTaken self.now slot.0 }
-        ensures { IfSome (taken_at self.now slot.0) (λ t. result ≡ face_of t.body) }
-    {
-        match said(self.word(slot)) {
-            Some(face) => face,
-            None => self.face_in_cell(slot),
-        }
-    }
-
-    /// The first word of the body, mostly from the word beside the cell.
-    #[inline(always)]
-    pub fn first(&self, slot: Slot) -> u64
-        requires { IsTaken self.now slot.0 }
-        ensures { IfSome (taken_at self.now slot.0) (λ t. result ≡ t.body.a) }
-    {
-        let word = self.word(slot);
-        if word == ASK {
-            self.first_in_cell(slot)
-        } else {
-            first(word)
-        }
-    }
-
-    /// The second word of the body, mostly from the word beside the cell.
-    #[inline(always)]
-    pub fn second(&self, slot: Slot) -> u64
-        requires { IsTaken self.now slot.0 }
-        ensures { IfSome (taken_at self.now slot.0) (λ t. result ≡ t.body.b) }
-    {
-        let word = self.word(slot);
-        if word == ASK {
-            self.second_in_cell(slot)
-        } else {
-            second(word)
-        }
     }
 
     /// Whether the slot is taken and not marked.
@@ -458,71 +362,6 @@ impl Arena {
         self.pool.turn()
     }
 
-    /// Moves the marked slots of a chain to the gray list, and gives back the others.
-    fn sort_out(&mut self, chain: u32)
-        requires chain { chain < length self.old.chains }
-        requires no_gray { self.old.gray ≡ [] }
-        requires unprotected { IsUnprotected self.old chain }
-        ensures cells { self.new.cells ≡ emptied self.old.cells (dropped_from self.old chain) }
-        ensures gray { reverse self.new.gray ≡ kept_in self.old chain }
-        ensures loose { (s : ℕ) → 0 < times s self.new.gray → IsLoose self.new s }
-        ensures chains { self.new.chains ≡ slice_set self.old.chains chain [] }
-        ensures spare { self.new.spare ≡ self.old.spare + length (dropped_from self.old chain) }
-        ensures cap { self.new.cap ≡ self.old.cap }
-        ensures law { IsArena self.new }
-    {
-        while let Some(slot) = self.chain_pop(chain) {
-            if self.marked(slot) {
-                self.gray_return(slot);
-            } else {
-                self.give_back(slot);
-            }
-        }
-    }
-
-    /// Moves the gray list to a chain that is empty.
-    fn restore(&mut self, chain: u32)
-        requires chain { chain < length self.old.chains }
-        requires empty { chain_at self.old chain ≡ [] }
-        requires loose { (s : ℕ) → 0 < times s self.old.gray → IsLoose self.old s }
-        ensures after { self.new ≡ record self.old
-            { chains = slice_set self.old.chains chain (reverse self.old.gray); gray = [] } }
-        ensures law { IsArena self.new }
-    {
-        while let Some(slot) = self.gray_pop() {
-            self.chain_push(chain, slot);
-        }
-    }
-
-    /// Moves the marked slots of a chain to the gray list, and the others out of it.
-    fn part(&mut self, chain: u32)
-        requires chain { chain < length self.old.chains }
-        requires no_gray { self.old.gray ≡ [] }
-        ensures rest { self.new ≡ record self.old
-            { chains = slice_set self.old.chains chain []; gray = self.new.gray } }
-        ensures gray { reverse self.new.gray ≡ kept_in self.old chain }
-        ensures loose { (s : ℕ) → 0 < times s self.new.gray → IsLoose self.new s }
-        ensures law { IsArena self.new }
-    {
-        while let Some(slot) = self.chain_pop(chain) {
-            if self.marked(slot) {
-                self.gray_return(slot);
-            }
-        }
-    }
-
-    /// Takes the slots of a chain that are not marked out of it. The others keep their order.
-    pub fn chain_keep_marked(&mut self, chain: u32)
-        requires chain { chain < length self.old.chains }
-        requires no_gray { self.old.gray ≡ [] }
-        ensures after { self.new ≡ record self.old
-            { chains = slice_set self.old.chains chain (kept_in self.old chain) } }
-        ensures law { IsArena self.new }
-    {
-        self.part(chain);
-        self.restore(chain);
-    }
-
     /// How many slots were ever taken: each taken slot's number is below.
     pub fn slots(&self) -> u32
         ensures count { result ≡ length self.now.cells }
@@ -530,191 +369,5 @@ impl Arena {
         ensures law { IsArena self.now }
     {
         self.pool.slots()
-    }
-
-    /// Gives back the slots of a chain that are not marked. The others keep their order.
-    pub fn chain_retain_marked(&mut self, chain: u32)
-        requires chain { chain < length self.old.chains }
-        requires no_gray { self.old.gray ≡ [] }
-        requires unprotected { IsUnprotected self.old chain }
-        ensures cells { self.new.cells ≡ emptied self.old.cells (dropped_from self.old chain) }
-        ensures chains { self.new.chains ≡ slice_set self.old.chains chain
-            (kept_in self.old chain) }
-        ensures spare { self.new.spare ≡ self.old.spare + length (dropped_from self.old chain) }
-        ensures rest { self.new ≡ record self.old
-            { cells = self.new.cells; chains = self.new.chains; spare = self.new.spare } }
-        ensures law { IsArena self.new }
-    {
-        self.sort_out(chain);
-        self.restore(chain);
-    }
-
-    /// Keeps the first chains alone, where the others are empty.
-    fn keep_chains(&mut self, count: u32)
-        requires { (c : ℕ) → count ≤ c → chain_at self.old c ≡ [] }
-        ensures after { self.new ≡ record self.old { chains = take count self.old.chains } }
-        ensures law { IsArena self.new }
-    {
-        self.heads.truncate(count);
-    }
-
-    /// Moves each slot of a chain to the one of the first `count` chains that its hash names.
-    fn move_chain(&mut self, from: u32, count: u32)
-        requires count { (0 < count) × (count ≤ from) }
-        requires from { from < length self.old.chains }
-        ensures moved { (c : ℕ) → c < count → (s : ℕ)
-            → times s (chain_at self.new c) ≡ times s (chain_at self.old c)
-            + (if hash_at self.old s % count == c then times s (chain_at self.old from) else 0) }
-        ensures empty { chain_at self.new from ≡ [] }
-        ensures others { (c : ℕ) → count ≤ c → c ≢ from
-            → chain_at self.new c ≡ chain_at self.old c }
-        ensures chains { length self.new.chains ≡ length self.old.chains }
-        ensures rest { self.new ≡ record self.old { chains = self.new.chains } }
-        ensures law { IsArena self.new }
-    {
-        while let Some(slot) = self.chain_pop(from) {
-            let chain = home(self.read(slot).hash, count);
-            self.chain_push(chain, slot);
-        }
-    }
-
-    /// Moves the slots of all chains to the first one, and keeps that one alone.
-    fn gather(&mut self)
-        requires { 0 < length self.old.chains }
-        ensures one { length self.new.chains ≡ 1 }
-        ensures all { (s : ℕ) → times s (chain_at self.new 0) ≡ times_in s self.old.chains }
-        ensures rest { self.new ≡ record self.old { chains = self.new.chains } }
-        ensures law { IsArena self.new }
-    {
-        let old = self.chains();
-        for from in 1..old {
-            self.move_chain(from, 1);
-        }
-        self.keep_chains(1);
-    }
-
-    /// The heads of so many empty chains.
-    fn empty_heads(&self, count: u32) -> Result<Heads, ArenaFault>
-        ensures ok { IfOk result (λ h. h ≡ replicate count None) }
-        ensures fault { IfErr result (λ e. e ≡ ArenaFault.Memory) }
-        ensures law { IsArena self.now }
-    {
-        Heads::new(self.alloc, count)
-    }
-
-    /// Puts the one chain behind `count` empty ones, whose heads these are, with one for its own.
-    fn put_behind(&mut self, empty: Heads, count: u32)
-        requires one { length self.old.chains ≡ 1 }
-        requires empty { empty ≡ replicate (count + 1) None }
-        requires count { count ≤ 2 ^ 30 }
-        ensures after { self.new ≡ record self.old
-            { chains = slice_set (replicate (count + 1) []) count (chain_at self.old 0) } }
-        ensures law { IsArena self.new }
-    {
-        let head = self.heads.get(0);
-        self.heads = empty;
-        self.heads.set(count, head);
-    }
-
-    /// Deals the slots of all chains out to `chains` new ones, by way of a single chain.
-    fn deal_chains(&mut self, chains: u32) -> Result<(), ArenaFault>
-        requires chains { (1 ≤ chains) × (chains ≤ 2 ^ 30) }
-        requires some { 0 < length self.old.chains }
-        ensures chains { OnOk result (length self.new.chains ≡ chains) }
-        ensures hashed { OnOk result ((c : ℕ) → c < chains → (s : ℕ)
-            → times s (chain_at self.new c) ≡ times_hashed self.old chains c s) }
-        ensures rest { self.new ≡ record self.old { chains = self.new.chains } }
-        ensures err { OnErr result (self.new ≡ self.old) }
-        ensures fault { IfErr result (λ e. e ≡ ArenaFault.Memory) }
-        ensures law { IsArena self.new }
-    {
-        let empty = self.empty_heads(chains + 1)?;
-        self.gather();
-        self.put_behind(empty, chains);
-        self.move_chain(chains, chains);
-        self.keep_chains(chains);
-        Ok(())
-    }
-
-    /// Puts `count` empty chains in place of the chains.
-    fn clear_chains(&mut self, count: u32) -> Result<(), ArenaFault>
-        requires { count ≤ 2 ^ 30 }
-        ensures ok { OnOk result (self.new ≡ record self.old { chains = replicate count [] }) }
-        ensures err { OnErr result (self.new ≡ self.old) }
-        ensures fault { IfErr result (λ e. e ≡ ArenaFault.Memory) }
-        ensures law { IsArena self.new }
-    {
-        let heads = Heads::new(self.alloc, count)?;
-        self.heads = heads;
-        self.linked = 0;
-        Ok(())
-    }
-
-    /// Puts each slot below `end` into the chain that its hash names.
-    fn deal_slots(&mut self, end: u32, chains: u32)
-        requires chains { (1 ≤ chains) × (chains ≡ length self.old.chains) }
-        requires empty { (s : ℕ) → IsLoose self.old s }
-        requires taken { (s : ℕ) → s < end → IsTaken self.old s }
-        requires law { IsArena self.old }
-        ensures dealt { (c : ℕ) → c < chains → (s : ℕ) → s < end
-            → times s (chain_at self.new c) ≡ (if hash_at self.old s % chains == c then 1 else 0) }
-        ensures past { (s : ℕ) → end ≤ s → IsLoose self.new s }
-        ensures count { length self.new.chains ≡ chains }
-        ensures rest { self.new ≡ record self.old { chains = self.new.chains } }
-        ensures law { IsArena self.new }
-    {
-        for slot in 0..end {
-            let chain = home(self.read(Slot(slot)).hash, chains);
-            self.chain_push(chain, Slot(slot));
-        }
-    }
-
-    /// Deals the slots below `end`, which are those in the chains, out to `chains` new ones.
-    fn deal_out(&mut self, end: u32, chains: u32) -> Result<(), ArenaFault>
-        requires chains { (1 ≤ chains) × (chains ≤ 2 ^ 30) }
-        requires inside { (s : ℕ) → s < end → times_in s self.old.chains ≡ 1 }
-        requires past { (s : ℕ) → end ≤ s → IsLoose self.old s }
-        requires law { IsArena self.old }
-        ensures chains { OnOk result (length self.new.chains ≡ chains) }
-        ensures hashed { OnOk result ((c : ℕ) → c < chains → (s : ℕ)
-            → times s (chain_at self.new c) ≡ times_hashed self.old chains c s) }
-        ensures rest { self.new ≡ record self.old { chains = self.new.chains } }
-        ensures err { OnErr result (self.new ≡ self.old) }
-        ensures fault { IfErr result (λ e. e ≡ ArenaFault.Memory) }
-        ensures law { IsArena self.new }
-    {
-        self.clear_chains(chains)?;
-        self.deal_slots(end, chains);
-        Ok(())
-    }
-
-    /// How many slots stand in chains.
-    fn linked(&self) -> u32
-        ensures value { result ≡ total self.now.chains }
-        ensures law { IsArena self.now }
-    {
-        self.linked
-    }
-
-    /// Deals the slots of all chains out to `chains` new ones, by their hashes: in the order of the
-    /// slots, where each that was ever taken stands in a chain.
-    pub fn rehash_into(&mut self, chains: u32) -> Result<(), ArenaFault>
-        requires { (1 ≤ chains) × (chains ≤ 2 ^ 30) }
-        ensures chains { OnOk result (length self.new.chains ≡ chains) }
-        ensures hashed { OnOk result ((c : ℕ) → c < chains → (s : ℕ)
-            → times s (chain_at self.new c) ≡ times_hashed self.old chains c s) }
-        ensures rest { self.new ≡ record self.old { chains = self.new.chains } }
-        ensures err { OnErr result (self.new ≡ self.old) }
-        ensures fault { IfErr result (λ e. e ≡ ArenaFault.Memory) }
-        ensures law { IsArena self.new }
-    {
-        let slots = self.slots();
-        if self.chains() == 0 {
-            self.deal_out(0, chains)
-        } else if self.linked() == slots {
-            self.deal_out(slots, chains)
-        } else {
-            self.deal_chains(chains)
-        }
     }
 }

@@ -12,9 +12,8 @@ mod term;
 mod writing;
 
 pub use ending::{Finish, Named, Place, RunFault, Source};
-pub use pattern::runs::{
-    run_make, run_make_at, run_make_in, run_match, run_match_at, run_match_in,
-};
+pub use pattern::making::{run_make, run_make_at, run_make_in};
+pub use pattern::runs::{run_match, run_match_at, run_match_in};
 pub use refusal::{Reading, Reason, Refusal};
 pub use refused_items::{Misfit, refused_argument};
 pub use streams::{LIMIT, ReadFault, read_all, read_all_from};

@@ -2,5 +2,6 @@
 
 pub(crate) mod answer;
 pub(crate) mod lines;
+pub(crate) mod making;
 pub(crate) mod reading;
 pub(crate) mod runs;

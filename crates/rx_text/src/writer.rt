@@ -2,12 +2,11 @@
 
 ghost use Rattle.std.specs.Prelude.{◌≡◌, ◌++◌, ◌∷◌, [], IsSome, IsOkUnless, IfSome, OnOk};
 ghost use Rattle.std.specs.Prelude.{OnErr};
-ghost use Rattle.std.specs.Fmt.{signed_decimal};
 ghost use Rattle.std.specs.Io.KnownBytes.{Appends};
 ghost use Rattle.rx_term.specs.Tree.{Tree};
-ghost use Rattle.rx_term.specs.Store.{tree_at, part_at, args_of};
+ghost use Rattle.rx_term.specs.Store.{tree_at};
 ghost use Rattle.rx_term.specs.Kinds.{HasAppl};
-ghost use Rattle.rx_text.specs.Canon.{canon, octal_text, quoted_byte, name_text, no_arguments};
+ghost use Rattle.rx_text.specs.Canon.{canon, name_text, no_arguments};
 ghost use Rattle.rx_text.specs.Output.{contents_of, IsSameOutput, IsWritable, TellsFault};
 ghost use Rattle.rx_text.specs.Output.{TellsRefusal, Writes, WritesFront};
 ghost use Rattle.rx_text.specs.Written.{AppendsFront};
@@ -15,8 +14,8 @@ ghost use Rattle.rx_text.specs.Inner.Jobs.{seen, body_text, body_size, job_text,
 ghost use Rattle.rx_text.specs.Inner.Jobs.{Leaves};
 
 use crate::faults::{RefusedWrite, WriteFault};
+use crate::names::{put_integer, put_name};
 use crate::output::Output;
-use itoa::Buffer;
 use rx_term::{Kind, Symbol, Term, TermBank};
 use std::alloc::Global;
 use std::io::Write;
@@ -43,81 +42,6 @@ pub fn put<W: Write>(out: &mut W, text: &[u8]) -> Result<(), RefusedWrite>
 {
     let mut output = Output::new(out);
     output.put(text)
-}
-
-/// Writes a backslash and three octal digits.
-fn put_octal<W: Write>(out: &mut Output<'_, W>, byte: u8) -> Result<(), RefusedWrite>
-    requires { IsWritable out.old }
-    ensures written { OnOk result (Writes W.contents out.old out.new (octal_text byte)) }
-    ensures front { OnErr result (WritesFront W.contents out.old out.new (octal_text byte)) }
-    ensures same { IsSameOutput out.old out.new }
-    ensures cause { TellsRefusal out.new result }
-{
-    let digits = [
-        b'\\',
-        b'0' + byte / 64,
-        b'0' + byte / 8 % 8,
-        b'0' + byte % 8,
-    ];
-    out.put(&digits)
-}
-
-/// Writes one byte of a quoted name.
-fn put_quoted_byte<W: Write>(out: &mut Output<'_, W>, byte: u8) -> Result<(), RefusedWrite>
-    requires { IsWritable out.old }
-    ensures written { OnOk result (Writes W.contents out.old out.new (quoted_byte byte)) }
-    ensures front { OnErr result (WritesFront W.contents out.old out.new (quoted_byte byte)) }
-    ensures same { IsSameOutput out.old out.new }
-    ensures cause { TellsRefusal out.new result }
-{
-    if byte == b'"' || byte == b'\\' {
-        out.put(&[b'\\', byte])
-    } else if byte == b'\n' {
-        out.put(b"\\n")
-    } else if byte == b'\t' {
-        out.put(b"\\t")
-    } else if byte == b'\r' {
-        out.put(b"\\r")
-    } else if byte >= b' ' && byte <= b'~' {
-        out.put(&[byte])
-    } else {
-        put_octal(out, byte)
-    }
-}
-
-/// Writes a name, between quotes where it is quoted.
-fn put_name<W: Write>(
-    out: &mut Output<'_, W>,
-    name: &[u8],
-    quoted: bool,
-) -> Result<(), RefusedWrite>
-    requires { IsWritable out.old }
-    ensures written { OnOk result (Writes W.contents out.old out.new (name_text name.now quoted)) }
-    ensures front { OnErr result (WritesFront W.contents out.old out.new
-        (name_text name.now quoted)) }
-    ensures same { IsSameOutput out.old out.new }
-    ensures cause { TellsRefusal out.new result }
-{
-    if !quoted {
-        return out.put(name);
-    }
-    out.put(b"\"")?;
-    for byte in name {
-        put_quoted_byte(out, *byte)?;
-    }
-    out.put(b"\"")
-}
-
-/// Writes an integer.
-fn put_integer<W: Write>(out: &mut Output<'_, W>, value: i32) -> Result<(), RefusedWrite>
-    requires { IsWritable out.old }
-    ensures written { OnOk result (Writes W.contents out.old out.new (signed_decimal value)) }
-    ensures front { OnErr result (WritesFront W.contents out.old out.new (signed_decimal value)) }
-    ensures same { IsSameOutput out.old out.new }
-    ensures cause { TellsRefusal out.new result }
-{
-    let mut buffer = Buffer::new();
-    out.put(buffer.format(value).as_bytes())
 }
 
 /// Adds two jobs, of which the second is done first.

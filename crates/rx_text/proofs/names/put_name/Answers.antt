@@ -3,7 +3,7 @@ use Rattle.std.specs.Prelude.{true}
 use Rattle.rx_text.specs.Canon.{name_text}
 use Rattle.rx_text.proofs.AppendingLemmas.{on_err, err_within}
 use Rattle.rx_text.proofs.PrintedNameLemmas.{begun_name, byte_front, quote_front, name_ends}
-use Rattle.rx_text.proofs.writer.put_name.Goals as goal
+use Rattle.rx_text.proofs.names.put_name.Goals as goal
 
 pub returns-in_err-put-clause-front : goal.returns-in_err-put-clause-front
 returns-in_err-put-clause-front g c = rw c.if-not-quoted.false (on_err _ (quote_front _ _ c.args.name.now c.in_err-put.ensures.front))

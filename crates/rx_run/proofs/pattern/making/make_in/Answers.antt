@@ -5,7 +5,7 @@ use Rattle.rx_run.proofs.FaultLemmas.{at_once, fills_first, fills_second, report
 use Rattle.rx_run.proofs.ErrorLemmas.{if_err_at}
 use Rattle.rx_run.proofs.StreamLemmas.{at_once_unwritten, write_on}
 use Rattle.rx_run.proofs.WholeRunLemmas.{breaks_unwritten}
-use Rattle.rx_run.proofs.pattern.runs.make_in.Goals as goal
+use Rattle.rx_run.proofs.pattern.making.make_in.Goals as goal
 
 pub returns-in_err-reading-clause-fault : goal.returns-in_err-reading-clause-fault
 returns-in_err-reading-clause-fault g c =

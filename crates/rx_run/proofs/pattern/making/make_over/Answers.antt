@@ -8,7 +8,7 @@ use Rattle.rx_run.proofs.PatternDueLemmas.{same_due}
 use Rattle.rx_run.proofs.ReadDueLemmas.{breaks_by, ends_by, placed_by}
 use Rattle.rx_run.proofs.WholeRunLemmas.{breaks_unwritten}
 use Rattle.rx_run.proofs.StreamLemmas.{unwritten_unrefused, write_on}
-use Rattle.rx_run.proofs.pattern.runs.make_over.Goals as goal
+use Rattle.rx_run.proofs.pattern.making.make_over.Goals as goal
 
 pub returns-in_err-answer-clause-fault : goal.returns-in_err-answer-clause-fault
 returns-in_err-answer-clause-fault g c =

@@ -1,7 +1,7 @@
 use Rattle.std.specs.Io.KnownBytes.{Appends}
 use Rattle.rx_text.specs.Output.{IsWritable, IsSameOutput}
 use Rattle.rx_text.proofs.PrintedNameLemmas.{begun_name}
-use Rattle.rx_text.proofs.writer.put_name.Given as goal
+use Rattle.rx_text.proofs.names.put_name.Given as goal
 
 abbrev pub invariant-loop-byte : goal.invariant-loop-byte
 invariant-loop-byte g l =

@@ -1,0 +1,72 @@
+//! Traces begin.
+
+ghost use Rattle.std.specs.Prelude.{◌≡◌, ◌<◌, IfOk, IfSome, length, slice_get};
+ghost use Rattle.rx_term.specs.Tree.{Tree};
+ghost use Rattle.rec_sorts.specs.Binding.{tree_of};
+ghost use Rattle.rec_sorts.specs.Evaluation.{term_of};
+ghost use Rattle.rec_engine.specs.Engine.{SameEngine, Spells};
+ghost use Rattle.rec_trace.specs.Tracing.{Stands, rest_of, whole_of};
+ghost use Rattle.rec_trace.specs.Trace.{Trace};
+
+use crate::lists::Lists;
+use crate::tracer::{Tracer, ground_steps};
+use rec_engine::{Engine, EngineFault};
+use rec_sorts::Letter;
+use rx_term::TermBank;
+use std::alloc::Global;
+
+impl Tracer {
+    /// The trace of the specification's term to evaluate of this number, from 0, begins, within `n`
+    /// steps.
+    pub fn of_eval<B: TermBank>(
+        alloc: Global,
+        engine: &mut Engine<B>,
+        i: u32,
+        n: u64,
+    ) -> Result<Tracer, EngineFault>
+        requires { i < length engine.old.spec.terms }
+        ensures same { SameEngine engine.old engine.new }
+        ensures stands { IfOk result (Stands engine.old.spec (B.store engine.new.bank)) }
+        ensures begins { IfOk result (λ r. IfSome (slice_get engine.old.spec.terms i)
+            (λ t. rest_of engine.old.spec (B.store engine.new.bank) r
+            ≡ Trace engine.old.spec n t)) }
+        ensures whole { IfOk result (λ r. IfSome (slice_get engine.old.spec.terms i)
+            (λ t. whole_of engine.old.spec (B.store engine.new.bank) r ≡ tree_of t)) }
+    {
+        let letters = &engine.checked().terms()[i as usize];
+        let steps = ground_steps(alloc, letters)?;
+        let lists = Lists::empty(engine)?;
+        Ok(Tracer {
+            steps,
+            lists,
+            left: n,
+        })
+    }
+
+    /// The trace of some numbered words begins, within `n` steps: `check_terms` and `term_letters`
+    /// give them for a term that keeps the rules.
+    pub fn of_given<B: TermBank>(
+        alloc: Global,
+        engine: &mut Engine<B>,
+        letters: &[Letter],
+        n: u64,
+    ) -> Result<Tracer, EngineFault>
+        requires { (u : Tree) × Spells engine.old.spec letters.now u }
+        ensures same { SameEngine engine.old engine.new }
+        ensures stands { IfOk result (Stands engine.old.spec (B.store engine.new.bank)) }
+        ensures begins { IfOk result (λ r. (u : Tree) → Spells engine.old.spec letters.now u
+            → rest_of engine.old.spec (B.store engine.new.bank) r
+            ≡ Trace engine.old.spec n (term_of u)) }
+        ensures whole { IfOk result (λ r. (u : Tree) → Spells engine.old.spec letters.now u
+            → whole_of engine.old.spec (B.store engine.new.bank) r ≡ tree_of (term_of u)) }
+    {
+        let _kept = engine.checked().syntax();
+        let steps = ground_steps(alloc, letters)?;
+        let lists = Lists::empty(engine)?;
+        Ok(Tracer {
+            steps,
+            lists,
+            left: n,
+        })
+    }
+}

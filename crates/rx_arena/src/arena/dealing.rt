@@ -1,0 +1,187 @@
+//! The slots are dealt out to other chains.
+
+ghost use Rattle.std.specs.Prelude.{◌≡◌, ◌≢◌, ◌==◌, if◌then◌else◌, ℕ, ◌+◌, ◌%◌};
+ghost use Rattle.std.specs.Prelude.{◌<◌, ◌≤◌, ◌^◌, []};
+ghost use Rattle.std.specs.Prelude.{Some, None, Ok, IfOk, IfErr, OnOk};
+ghost use Rattle.std.specs.Prelude.{OnErr, length, slice_set, take};
+ghost use Rattle.std.specs.Prelude.{replicate};
+ghost use Rattle.rx_arena.specs.Put.{times, times_in, total};
+ghost use Rattle.rx_arena.specs.Arena.{IsTaken, chain_at, IsLoose};
+ghost use Rattle.rx_arena.specs.Arena.{hash_at};
+ghost use Rattle.rx_arena.specs.Arena.{times_hashed, IsArena};
+
+use crate::Slot;
+use crate::arena::Arena;
+use crate::fault::ArenaFault;
+use crate::heads::{Heads, home};
+
+impl Arena {
+    /// Keeps the first chains alone, where the others are empty.
+    fn keep_chains(&mut self, count: u32)
+        requires { (c : ℕ) → count ≤ c → chain_at self.old c ≡ [] }
+        ensures after { self.new ≡ record self.old { chains = take count self.old.chains } }
+        ensures law { IsArena self.new }
+    {
+        self.heads.truncate(count);
+    }
+
+    /// Moves each slot of a chain to the one of the first `count` chains that its hash names.
+    fn move_chain(&mut self, from: u32, count: u32)
+        requires count { (0 < count) × (count ≤ from) }
+        requires from { from < length self.old.chains }
+        ensures moved { (c : ℕ) → c < count → (s : ℕ)
+            → times s (chain_at self.new c) ≡ times s (chain_at self.old c)
+            + (if hash_at self.old s % count == c then times s (chain_at self.old from) else 0) }
+        ensures empty { chain_at self.new from ≡ [] }
+        ensures others { (c : ℕ) → count ≤ c → c ≢ from
+            → chain_at self.new c ≡ chain_at self.old c }
+        ensures chains { length self.new.chains ≡ length self.old.chains }
+        ensures rest { self.new ≡ record self.old { chains = self.new.chains } }
+        ensures law { IsArena self.new }
+    {
+        while let Some(slot) = self.chain_pop(from) {
+            let chain = home(self.read(slot).hash, count);
+            self.chain_push(chain, slot);
+        }
+    }
+
+    /// Moves the slots of all chains to the first one, and keeps that one alone.
+    fn gather(&mut self)
+        requires { 0 < length self.old.chains }
+        ensures one { length self.new.chains ≡ 1 }
+        ensures all { (s : ℕ) → times s (chain_at self.new 0) ≡ times_in s self.old.chains }
+        ensures rest { self.new ≡ record self.old { chains = self.new.chains } }
+        ensures law { IsArena self.new }
+    {
+        let old = self.chains();
+        for from in 1..old {
+            self.move_chain(from, 1);
+        }
+        self.keep_chains(1);
+    }
+
+    /// The heads of so many empty chains.
+    fn empty_heads(&self, count: u32) -> Result<Heads, ArenaFault>
+        ensures ok { IfOk result (λ h. h ≡ replicate count None) }
+        ensures fault { IfErr result (λ e. e ≡ ArenaFault.Memory) }
+        ensures law { IsArena self.now }
+    {
+        Heads::new(self.alloc, count)
+    }
+
+    /// Puts the one chain behind `count` empty ones, whose heads these are, with one for its own.
+    fn put_behind(&mut self, empty: Heads, count: u32)
+        requires one { length self.old.chains ≡ 1 }
+        requires empty { empty ≡ replicate (count + 1) None }
+        requires count { count ≤ 2 ^ 30 }
+        ensures after { self.new ≡ record self.old
+            { chains = slice_set (replicate (count + 1) []) count (chain_at self.old 0) } }
+        ensures law { IsArena self.new }
+    {
+        let head = self.heads.get(0);
+        self.heads = empty;
+        self.heads.set(count, head);
+    }
+
+    /// Deals the slots of all chains out to `chains` new ones, by way of a single chain.
+    fn deal_chains(&mut self, chains: u32) -> Result<(), ArenaFault>
+        requires chains { (1 ≤ chains) × (chains ≤ 2 ^ 30) }
+        requires some { 0 < length self.old.chains }
+        ensures chains { OnOk result (length self.new.chains ≡ chains) }
+        ensures hashed { OnOk result ((c : ℕ) → c < chains → (s : ℕ)
+            → times s (chain_at self.new c) ≡ times_hashed self.old chains c s) }
+        ensures rest { self.new ≡ record self.old { chains = self.new.chains } }
+        ensures err { OnErr result (self.new ≡ self.old) }
+        ensures fault { IfErr result (λ e. e ≡ ArenaFault.Memory) }
+        ensures law { IsArena self.new }
+    {
+        let empty = self.empty_heads(chains + 1)?;
+        self.gather();
+        self.put_behind(empty, chains);
+        self.move_chain(chains, chains);
+        self.keep_chains(chains);
+        Ok(())
+    }
+
+    /// Puts `count` empty chains in place of the chains.
+    fn clear_chains(&mut self, count: u32) -> Result<(), ArenaFault>
+        requires { count ≤ 2 ^ 30 }
+        ensures ok { OnOk result (self.new ≡ record self.old { chains = replicate count [] }) }
+        ensures err { OnErr result (self.new ≡ self.old) }
+        ensures fault { IfErr result (λ e. e ≡ ArenaFault.Memory) }
+        ensures law { IsArena self.new }
+    {
+        let heads = Heads::new(self.alloc, count)?;
+        self.heads = heads;
+        self.linked = 0;
+        Ok(())
+    }
+
+    /// Puts each slot below `end` into the chain that its hash names.
+    fn deal_slots(&mut self, end: u32, chains: u32)
+        requires chains { (1 ≤ chains) × (chains ≡ length self.old.chains) }
+        requires empty { (s : ℕ) → IsLoose self.old s }
+        requires taken { (s : ℕ) → s < end → IsTaken self.old s }
+        requires law { IsArena self.old }
+        ensures dealt { (c : ℕ) → c < chains → (s : ℕ) → s < end
+            → times s (chain_at self.new c) ≡ (if hash_at self.old s % chains == c then 1 else 0) }
+        ensures past { (s : ℕ) → end ≤ s → IsLoose self.new s }
+        ensures count { length self.new.chains ≡ chains }
+        ensures rest { self.new ≡ record self.old { chains = self.new.chains } }
+        ensures law { IsArena self.new }
+    {
+        for slot in 0..end {
+            let chain = home(self.read(Slot(slot)).hash, chains);
+            self.chain_push(chain, Slot(slot));
+        }
+    }
+
+    /// Deals the slots below `end`, which are those in the chains, out to `chains` new ones.
+    fn deal_out(&mut self, end: u32, chains: u32) -> Result<(), ArenaFault>
+        requires chains { (1 ≤ chains) × (chains ≤ 2 ^ 30) }
+        requires inside { (s : ℕ) → s < end → times_in s self.old.chains ≡ 1 }
+        requires past { (s : ℕ) → end ≤ s → IsLoose self.old s }
+        requires law { IsArena self.old }
+        ensures chains { OnOk result (length self.new.chains ≡ chains) }
+        ensures hashed { OnOk result ((c : ℕ) → c < chains → (s : ℕ)
+            → times s (chain_at self.new c) ≡ times_hashed self.old chains c s) }
+        ensures rest { self.new ≡ record self.old { chains = self.new.chains } }
+        ensures err { OnErr result (self.new ≡ self.old) }
+        ensures fault { IfErr result (λ e. e ≡ ArenaFault.Memory) }
+        ensures law { IsArena self.new }
+    {
+        self.clear_chains(chains)?;
+        self.deal_slots(end, chains);
+        Ok(())
+    }
+
+    /// How many slots stand in chains.
+    fn linked(&self) -> u32
+        ensures value { result ≡ total self.now.chains }
+        ensures law { IsArena self.now }
+    {
+        self.linked
+    }
+
+    /// Deals the slots of all chains out to `chains` new ones, by their hashes: in the order of the
+    /// slots, where each that was ever taken stands in a chain.
+    pub fn rehash_into(&mut self, chains: u32) -> Result<(), ArenaFault>
+        requires { (1 ≤ chains) × (chains ≤ 2 ^ 30) }
+        ensures chains { OnOk result (length self.new.chains ≡ chains) }
+        ensures hashed { OnOk result ((c : ℕ) → c < chains → (s : ℕ)
+            → times s (chain_at self.new c) ≡ times_hashed self.old chains c s) }
+        ensures rest { self.new ≡ record self.old { chains = self.new.chains } }
+        ensures err { OnErr result (self.new ≡ self.old) }
+        ensures fault { IfErr result (λ e. e ≡ ArenaFault.Memory) }
+        ensures law { IsArena self.new }
+    {
+        let slots = self.slots();
+        if self.chains() == 0 {
+            self.deal_out(0, chains)
+        } else if self.linked() == slots {
+            self.deal_out(slots, chains)
+        } else {
+            self.deal_chains(chains)
+        }
+    }
+}

@@ -1,0 +1,229 @@
+//! Terms are made, each once.
+
+ghost use Rattle.std.specs.Prelude.{◌≡◌, length};
+ghost use Rattle.rx_shared.specs.Tidy.{heap_of};
+
+use crate::bank::{LAST_BITS, SharedBank};
+use crate::bodies::body;
+use crate::finding::{find, holds_word};
+use rx_arena::faces::{bare_word, word};
+use rx_arena::{ArenaFault, CellBody, Slot};
+use rx_sweep::kinds::{APPLICATION, LIST};
+use rx_term::{BankFault, Term};
+
+impl SharedBank {
+    ghost use Rattle.std.specs.Prelude.{◌≢◌, ◌<◌, ◌%◌, ℕ, IsSome, IsTrue, Some, None};
+    ghost use Rattle.rx_term.specs.Store.{tree_at};
+    ghost use Rattle.rx_term.specs.Steps.{MakesOrRefuses};
+    ghost use Rattle.rx_term.specs.declared.faults.BankFault.TheVariants.{Memory};
+    ghost use Rattle.rx_shared.specs.Bodies.{cell_of, body_of, whole, IsWritten};
+    ghost use Rattle.rx_shared.specs.State.{store_of, tree_of_body};
+    ghost use Rattle.rx_arena.specs.Faces.{word_of};
+
+    /// Doubles the chains where there are more cells than chains; without memory for that it leaves
+    /// them.
+    #[inline(never)]
+    fn widen(&mut self)
+        ensures { store_of self.new ≡ store_of self.old }
+    {
+        if self.bits < LAST_BITS && self.arena.cells() > 1 << self.bits {
+            if let Ok(()) = self.arena.rehash_into(2 << self.bits) {
+                self.bits += 1;
+            }
+        }
+    }
+
+    /// The same, where there are more cells than chains.
+    #[inline(always)]
+    fn widen_where_full(&mut self)
+        ensures { store_of self.new ≡ store_of self.old }
+    {
+        if self.arena.cells() > 1 << self.bits {
+            self.widen();
+        }
+    }
+
+    /// Takes a slot for a body of this word, which no slot holds.
+    #[inline(always)]
+    fn add(&mut self, chain: u32, body: CellBody, word: u64) -> Result<Term, BankFault>
+        requires chain { chain ≡ body.hash % length self.old.arena.chains }
+        requires word { word ≡ word_of body }
+        requires written { IsWritten body }
+        requires tree { IsSome (tree_of_body (store_of self.old) body) }
+        requires nowhere { (t : ℕ) → heap_of self.old.arena t ≢ Some (cell_of body) }
+        ensures { let w = store_of self.old in
+            MakesOrRefuses w (store_of self.new) (tree_of_body w body) result }
+    {
+        match self.arena.take_with(body, word) {
+            Ok(slot) => {
+                self.arena.chain_push(chain, slot);
+                self.hints.cover(body, slot.0);
+                Ok(Term(slot.0))
+            }
+            Err(ArenaFault::Full) => Err(BankFault::Full),
+            Err(ArenaFault::Memory) => Err(BankFault::Memory),
+        }
+    }
+
+    /// The chain that a hash names: its low bits, as the number of chains is a power of two.
+    #[inline(always)]
+    fn home(&self, hash: u64) -> u32
+        ensures { result ≡ hash % length self.now.arena.chains }
+    {
+        (hash & ((1u64 << self.bits) - 1)) as u32
+    }
+
+    /// The reference of a body of this word, searched along its chain unless it is known that no
+    /// slot holds it.
+    #[inline(always)]
+    fn make_by_hash(&mut self, body: CellBody, word: u64, is_new: bool) -> Result<Term, BankFault>
+        requires word { word ≡ word_of body }
+        requires written { IsWritten body }
+        requires tree { IsSome (tree_of_body (store_of self.old) body) }
+        requires nowhere { IsTrue is_new
+            → (t : ℕ) → heap_of self.old.arena t ≢ Some (cell_of body) }
+        ensures { let w = store_of self.old in
+            MakesOrRefuses w (store_of self.new) (tree_of_body w body) result }
+    {
+        let chain = self.home(body.hash);
+        if !is_new {
+            if let Some(slot) = find(&self.arena, chain, body, word) {
+                self.hints.point(body, slot.0);
+                return Ok(Term(slot.0));
+            }
+        }
+        let made = self.add(chain, body, word)?;
+        self.widen_where_full();
+        Ok(made)
+    }
+
+    /// The same for a list node of these words.
+    #[inline(never)]
+    fn make_list(&mut self, a: u64, b: u64, word: u64, is_new: bool) -> Result<Term, BankFault>
+        requires word { word ≡ word_of (body_of 2 a b None) }
+        requires written { IsWritten (body_of 2 a b None) }
+        requires tree { IsSome (tree_of_body (store_of self.old) (body_of 2 a b None)) }
+        requires nowhere { IsTrue is_new
+            → (t : ℕ) → heap_of self.old.arena t ≢ Some (cell_of (body_of 2 a b None)) }
+        ensures { let w = store_of self.old in MakesOrRefuses w (store_of self.new)
+            (tree_of_body w (body_of 2 a b None)) result }
+    {
+        self.make_by_hash(body(LIST, a, b, None), word, is_new)
+    }
+
+    /// The same for an application of these words.
+    #[inline(never)]
+    fn make_application(
+        &mut self,
+        a: u64,
+        b: u64,
+        word: u64,
+        is_new: bool,
+    ) -> Result<Term, BankFault>
+        requires word { word ≡ word_of (body_of 3 a b None) }
+        requires written { IsWritten (body_of 3 a b None) }
+        requires tree { IsSome (tree_of_body (store_of self.old) (body_of 3 a b None)) }
+        requires nowhere { IsTrue is_new
+            → (t : ℕ) → heap_of self.old.arena t ≢ Some (cell_of (body_of 3 a b None)) }
+        ensures { let w = store_of self.old in MakesOrRefuses w (store_of self.new)
+            (tree_of_body w (body_of 3 a b None)) result }
+    {
+        self.make_by_hash(body(APPLICATION, a, b, None), word, is_new)
+    }
+
+    /// The same for any body of these words.
+    #[inline(never)]
+    fn make_any(
+        &mut self,
+        kind: u8,
+        a: u64,
+        b: u64,
+        anns: Option<Slot>,
+        is_new: bool,
+    ) -> Result<Term, BankFault>
+        requires written { IsWritten (body_of kind a b anns) }
+        requires tree { IsSome (tree_of_body (store_of self.old) (body_of kind a b anns)) }
+        requires nowhere { IsTrue is_new
+            → (t : ℕ) → heap_of self.old.arena t ≢ Some (cell_of (body_of kind a b anns)) }
+        ensures { let w = store_of self.old in MakesOrRefuses w (store_of self.new)
+            (tree_of_body w (body_of kind a b anns)) result }
+    {
+        let whole = body(kind, a, b, anns);
+        self.make_by_hash(whole, word(whole), is_new)
+    }
+
+    /// The same. A body is put together behind a call alone, and in one where its kind is known.
+    #[inline(always)]
+    fn make_slowly(
+        &mut self,
+        kind: u8,
+        a: u64,
+        b: u64,
+        anns: Option<Slot>,
+        word: u64,
+        is_new: bool,
+    ) -> Result<Term, BankFault>
+        requires word { word ≡ word_of (body_of kind a b anns) }
+        requires written { IsWritten (body_of kind a b anns) }
+        requires tree { IsSome (tree_of_body (store_of self.old) (body_of kind a b anns)) }
+        requires nowhere { IsTrue is_new
+            → (t : ℕ) → heap_of self.old.arena t ≢ Some (cell_of (body_of kind a b anns)) }
+        ensures { let w = store_of self.old in MakesOrRefuses w (store_of self.new)
+            (tree_of_body w (body_of kind a b anns)) result }
+    {
+        match anns {
+            Some(_) => self.make_any(kind, a, b, anns, is_new),
+            None => {
+                if kind == LIST {
+                    self.make_list(a, b, word, is_new)
+                } else if kind == APPLICATION {
+                    self.make_application(a, b, word, is_new)
+                } else {
+                    self.make_any(kind, a, b, None, is_new)
+                }
+            }
+        }
+    }
+
+    /// The reference of a body of this word. Most are where the hints say, or new as the hints say.
+    #[inline(always)]
+    fn make_with(&mut self, body: CellBody, word: u64) -> Result<Term, BankFault>
+        requires word { word ≡ word_of body }
+        requires written { IsWritten body }
+        requires tree { IsSome (tree_of_body (store_of self.old) body) }
+        ensures { let w = store_of self.old in
+            MakesOrRefuses w (store_of self.new) (tree_of_body w body) result }
+    {
+        let told = self.hints.look(body);
+        if told > 0 && holds_word(&self.arena, Slot(told - 1), word) {
+            return Ok(Term(told - 1));
+        }
+        self.make_slowly(body.kind, body.a, body.b, body.anns, word, told == 0)
+    }
+
+    /// The reference of a body.
+    #[inline(always)]
+    pub(super) fn make(&mut self, body: CellBody) -> Result<Term, BankFault>
+        requires written { IsWritten body }
+        requires tree { IsSome (tree_of_body (store_of self.old) body) }
+        ensures { let w = store_of self.old in
+            MakesOrRefuses w (store_of self.new) (tree_of_body w body) result }
+    {
+        self.make_with(body, word(body))
+    }
+
+    /// The reference of a body of one of these kinds without annotations, whose second word is the
+    /// slot of a held reference: its word needs no look at that.
+    #[inline(always)]
+    pub(super) fn make_bare(&mut self, kind: u8, a: u64, b: Term) -> Result<Term, BankFault>
+        requires kind { kind < 4 }
+        requires held { IsSome (tree_at (store_of self.old) b) }
+        requires written { IsWritten (body_of kind a b.0 None) }
+        requires tree { IsSome (tree_of_body (store_of self.old) (body_of kind a b.0 None)) }
+        ensures { let w = store_of self.old in MakesOrRefuses w (store_of self.new)
+            (tree_of_body w (body_of kind a b.0 None)) result }
+    {
+        let second = u64::from(b.0);
+        self.make_with(body(kind, a, second, None), bare_word(kind, a, second))
+    }
+}
