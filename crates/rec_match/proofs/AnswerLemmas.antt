@@ -25,7 +25,7 @@ use Rattle.rec_sorts.specs.declared.letters.Meaning.TheVariants.{Symbol}
 use Rattle.rec_match.specs.Inner.Held.{or_empty}
 use Rattle.rec_match.specs.Matching.{HasFound, Finds, FindsFor, CanFind, symbol_at, count_at}
 use Rattle.rec_match.specs.Next.{IsReady, AreReady, AreLater, Reaches, Matched}
-use Rattle.rec_match.specs.Walking.{walk_all}
+use Rattle.rec_match.specs.Inner.Walking.{walk_all}
 use Rattle.rec_match.specs.Bound.{opened, goes_on, bound}
 use Rattle.rec_match.specs.declared.matcher.Matcher.{Matcher}
 use Rattle.rec_match.proofs.FactLemmas.{facts}

@@ -13,11 +13,12 @@ use Rattle.rec_sorts.proofs.KeptLemmas.{bytes_eq-eq}
 use Rattle.rec_sorts.proofs.BindingLemmas.{bytes_eq-refl}
 use Rattle.rec_match.specs.Rows.{Row, opened_cells, kept_cells, changed}
 use Rattle.rec_match.specs.Forests.{Cases, case_at, child_at, no_child, number_at}
-use Rattle.rec_match.specs.Growing.{State, AllWithin, GrowsSwitch, Extends}
-use Rattle.rec_match.specs.Marking.{AreListed}
+use Rattle.rec_match.specs.Inner.Growing.{State, AllWithin, GrowsSwitch, Extends}
+use Rattle.rec_match.specs.Inner.Marking.{AreListed}
 use Rattle.rec_match.specs.Parts.{Coded, coded_of, AreDistinct, AreMarks, opened_codes, kept_codes, changed_codes}
 use Rattle.rec_match.specs.Inner.Shares.{symbols_of, IsShare, AreShares}
-use Rattle.rec_match.specs.Tasks.{Task, IsGround, Growing, Steps, IsBranch, Covers, Adds, WritesSwitch, Branched, BranchesOut, numbers_of}
+use Rattle.rec_match.specs.Inner.Tasks.{Task, IsGround, Growing, Steps, IsBranch, Covers, Adds, WritesSwitch, Branched, BranchesOut}
+use Rattle.rec_match.specs.Matching.{numbers_of}
 use Rattle.rec_match.specs.declared.forest.Child.{Child}
 use Rattle.rec_match.specs.declared.forest.Forest.{Forest}
 use Rattle.rec_match.specs.declared.forest.Node.TheVariants.{Switch}
@@ -26,7 +27,7 @@ use Rattle.rec_match.specs.declared.shares.Share.{Share}
 use Rattle.rec_match.proofs.GrowthLemmas.{fits_switch}
 use Rattle.rec_match.proofs.LeftLemmas.{left_opened, left_kept}
 use Rattle.rec_match.proofs.ShareLemmas.{symbol_at, symbols_long, Popped, popped_front}
-use Rattle.rec_match.proofs.TaskLemmas.{Added, added, goes_more, goes_written}
+use Rattle.rec_match.proofs.TaskLemmas.{Added, added, goes_more, goes_written, steps_none}
 
 -- a name with a number of arguments is that of a marked symbol before one
 abbrev marked : Spec → List Bool → ℕ → List ℕ → ℕ → Bool
@@ -138,12 +139,7 @@ module _ (y : Spec) (ns : List ℕ) (ps : Parts) where
   pub branched_none : (f : Forest) (ts : List Task) (s : ℕ → State) (t : Task) (register low : ℕ) (ks : List ℕ) (window : List Child) → ((q : ℕ) → (get_or window q no_child).node ≡ 0) → Growing y ns ps f (t ∷ ts) s
       → Branched y ns ps f ts s t f ts register low ks window (length ks)
   branched_none f ts s t register low ks window none grow = record {
-    goes = record {
-      states = s;
-      extends = record { nodes = omega arith; new_places = []; places = sym (append-nil f.places.items); new_children = []; children = sym (append-nil f.children.items); states = λ n lt. refl };
-      growing = grow;
-      kept = λ n lt away. (away, refl);
-    };
+    goes = steps_none y ns ps f (t ∷ ts) s grow;
     branches = record { each = λ q lt some. absurd (some (none q)); all = λ i le lt. absurd (let bad : ⊥ = omega (arith, le, lt) in bad) };
   }
 
@@ -174,11 +170,8 @@ module _ (y : Spec) (ns : List ℕ) (ps : Parts) where
       rows : List Row
       rows = changed (opened_cells y register (name_of y (Symbol k)) (arity_of y k) width) (u n).rows
 
-      more : Adds g (t ∷ us) h (t ∷ vs) (width + arity_of y k) (changed_codes (opened_codes ps register k width) coded) node
-      more = record { node_is = a.node_is; nodes = a.nodes; places = a.places; children = a.children; tasks = ap (λ xs. t ∷ xs) a.tasks }
-
       ad : Added y ns ps g (t ∷ us) u h (t ∷ vs) node (record { width = width + arity_of y k; rows = rows })
-      ad = added y ns ps g h (t ∷ us) (t ∷ vs) (width + arity_of y k) (changed_codes (opened_codes ps register k width) coded) node more u x.goes.growing rows
+      ad = added y ns ps g h (t ∷ us) (t ∷ vs) (width + arity_of y k) (changed_codes (opened_codes ps register k width) coded) node a.one (ap (λ xs. t ∷ xs) a.tasks) u x.goes.growing rows
           (left_opened y ps register k width coded (u n).rows ground.whole ground.symbols_differ lt x.goes.growing.tasks.0.rows)
 
       there : n < length g.nodes.items
@@ -190,7 +183,7 @@ module _ (y : Spec) (ns : List ℕ) (ps : Parts) where
         declared = lt;
         numbered = refl;
         counted = refl;
-        later = (let is = a.node_is in let l = there in omega (arith, is, l));
+        later = (let is = a.one.node_is in let l = there in omega (arith, is, l));
         there = ad.there;
         state = ad.here
             ∙ ap (λ m. (let z : State = record { width = m + arity_of y k; rows = changed (opened_cells y register (name_of y (Symbol k)) (arity_of y k) m) (u n).rows } in z)) (sym x.goes.growing.tasks.0.width)
@@ -198,7 +191,7 @@ module _ (y : Spec) (ns : List ℕ) (ps : Parts) where
       }
 
       some_node : node ≢ 0
-      some_node z = let is = a.node_is in let l = there in let bad : ⊥ = omega (arith, z, is, l) in bad
+      some_node z = let is = a.one.node_is in let l = there in let bad : ⊥ = omega (arith, z, is, l) in bad
 
       same : get_or window' at no_child ≡ child
       same = ap (λ xs. get_or xs at no_child) e ∙ get_or-set_same window at child no_child within
@@ -248,11 +241,8 @@ module _ (y : Spec) (ns : List ℕ) (ps : Parts) where
       rows : List Row
       rows = changed (kept_cells y register of) (s n).rows
 
-      more : Adds f (t ∷ ts) g (t ∷ us) width (changed_codes (kept_codes ps register marks) coded) other
-      more = record { node_is = a.node_is; nodes = a.nodes; places = a.places; children = a.children; tasks = ap (λ xs. t ∷ xs) a.tasks }
-
       ad : Added y ns ps f (t ∷ ts) s g (t ∷ us) other (record { width = width; rows = rows })
-      ad = added y ns ps f g (t ∷ ts) (t ∷ us) width (changed_codes (kept_codes ps register marks) coded) other more s grow rows
+      ad = added y ns ps f g (t ∷ ts) (t ∷ us) width (changed_codes (kept_codes ps register marks) coded) other a.one (ap (λ xs. t ∷ xs) a.tasks) s grow rows
           (left_kept y ps register width marks of coded (s n).rows ground.whole (are_marks y marks ground.symbols_differ) grow.tasks.0.rows)
 
       u : ℕ → State
@@ -297,7 +287,7 @@ module _ (y : Spec) (ns : List ℕ) (ps : Parts) where
         within = (let l : length e.children.items ≡ length h.children.items + length window = ap length w.children ∙ length-append h.children.items window in omega (arith, l));
         cases_are = λ q some. (let c = branch_of q some in record { symbol = c.symbol; declared = c.declared; numbered = c.numbered; counted = c.counted });
         follows = record {
-          later = (let is = a.node_is in let l = grow.tasks.0.there in omega (arith, is, l));
+          later = (let is = a.one.node_is in let l = grow.tasks.0.there in omega (arith, is, l));
           there = (let l = long in let x = ad.there in let m = b.goes.extends.nodes in omega (arith, l, x, m));
         };
         refused = of;

@@ -2,7 +2,8 @@
 use Rattle.std.specs.Prelude.{ℕ, ◌≡◌, List, None}
 use Rattle.rec_syntax.specs.Syntax.{Spec}
 use Rattle.rec_sorts.specs.SpecRules.{fault}
-use Rattle.rec_match.specs.Tasks.{AreApart, IsWhole, IsGround}
+use Rattle.rec_match.specs.Inner.Tasks.{AreApart, IsGround}
+use Rattle.rec_match.specs.Parts.{IsWhole}
 use Rattle.rec_match.specs.declared.parts.Parts.{Parts}
 use Rattle.rec_match.proofs.FactLemmas.{facts}
 

@@ -1,7 +1,7 @@
 -- The trees of symbols, one symbol after the other.
 use Rattle.std.proofs.Common.{refl, sym, ap, subst, arith, ◌∙◌, inl, inr}
 use Rattle.std.proofs.lemmas.Bool.{cases_eq}
-use Rattle.std.proofs.lemmas.List.{append-nil, length-append, length-map}
+use Rattle.std.proofs.lemmas.List.{length-append, length-map}
 use Rattle.std.specs.Prelude.{ℕ, zero, suc, ◌+◌, ◌<◌, ◌≡◌, ◌≢◌, ◌⊎◌, List, [], ◌∷◌, ◌++◌, None, length, map, get_or}
 use Rattle.rx_term.specs.declared.Symbol as bank
 use Rattle.rec_syntax.specs.Syntax.{Spec}
@@ -13,16 +13,17 @@ use Rattle.rec_sorts.specs.SpecRules.{fault}
 use Rattle.rec_sorts.specs.declared.letters.Meaning.TheVariants.{Symbol}
 use Rattle.rec_match.specs.Inner.Built.{AreHeads}
 use Rattle.rec_match.specs.Forests.{IsForest}
-use Rattle.rec_match.specs.Growing.{State, Grows, StandFor, Extends}
+use Rattle.rec_match.specs.Inner.Growing.{State, Grows, StandFor, Extends}
 use Rattle.rec_match.specs.Inner.Paths.{TreesGoOn}
 use Rattle.rec_match.specs.Rows.{Row}
 use Rattle.rec_match.specs.Inner.Running.{root_rows, IsHeaded}
-use Rattle.rec_match.specs.Tasks.{AreApart, Growing, Waits, numbers_of}
+use Rattle.rec_match.specs.Inner.Tasks.{AreApart, Growing, Waits}
+use Rattle.rec_match.specs.Matching.{numbers_of}
 use Rattle.rec_match.specs.declared.forest.Forest.{Forest}
 use Rattle.rec_match.specs.declared.forest.Node.{Node}
 use Rattle.rec_match.specs.declared.forest.Node.TheVariants.{Fail}
 use Rattle.rec_match.specs.declared.parts.Parts.{Parts}
-use Rattle.rec_match.proofs.ExtensionLemmas.{grows_later, stand_later}
+use Rattle.rec_match.proofs.ExtensionLemmas.{extends_same, grows_later, stand_later}
 use Rattle.rec_match.proofs.FactLemmas.{facts}
 use Rattle.rec_match.proofs.GrowthLemmas.{grown_forest}
 use Rattle.rec_match.proofs.ItemLemmas.{get-front, get-last}
@@ -101,14 +102,7 @@ trees_done y kept ns ps f g roots hs n heads h e nodes places children is = grow
 })
   where
     same : Extends f h.states g h.states
-    same = record {
-      nodes = (let l = ap length nodes in omega (arith, l));
-      new_places = [];
-      places = places ∙ sym (append-nil f.places.items);
-      new_children = [];
-      children = children ∙ sym (append-nil f.children.items);
-      states = λ m lt. refl;
-    }
+    same = extends_same f g h.states (sym (ap length nodes)) places children
 
     grown : (m : ℕ) → Waits [] m ⊎ Grows y ns f h.states m (get_or f.nodes.items m Fail) → Grows y ns f h.states m (get_or f.nodes.items m Fail)
     grown m (inl w) = absurd w

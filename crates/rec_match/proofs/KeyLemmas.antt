@@ -16,10 +16,8 @@ use Rattle.rec_sorts.specs.declared.letters.Meaning.{Meaning}
 use Rattle.rec_sorts.specs.declared.letters.Meaning.TheVariants.{Symbol, Variable}
 use Rattle.rec_sorts.proofs.BindingLemmas.{append_keeps, append_finds, bytes_eq-refl}
 use Rattle.rec_sorts.proofs.KeptLemmas.{bytes_eq-eq}
-use Rattle.rec_match.specs.Inner.Held.{or_empty}
 use Rattle.rec_match.specs.Ordered.{keys, has, with_name, names_in, among, with_number, with_letter, numbers_in}
-use Rattle.rec_match.specs.Rows.{values_of}
-use Rattle.rec_match.specs.Walking.{walk, walk_all}
+use Rattle.rec_match.specs.Inner.Walking.{walk, walk_all}
 use Rattle.rec_match.specs.Bound.{with_one, opened, bound, goes_on}
 use Rattle.rec_match.proofs.FactLemmas.{AreBare, facts, every_append, every_joined, every_map, variable_is_one}
 use Rattle.rec_match.proofs.PairedLemmas.{AreVariables, every-snoc}

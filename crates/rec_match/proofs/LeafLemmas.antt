@@ -12,7 +12,7 @@ use Rattle.rec_sorts.specs.Numbering.{name_of, variable_count}
 use Rattle.rec_sorts.specs.declared.letters.Meaning.{Meaning}
 use Rattle.rec_sorts.specs.declared.letters.Meaning.TheVariants.{Symbol, Variable}
 use Rattle.rec_match.specs.Rows.{Cell}
-use Rattle.rec_match.specs.Growing.{position, name_in, IsVariable, places_from}
+use Rattle.rec_match.specs.Inner.Growing.{position, name_in, IsVariable, places_from}
 use Rattle.rec_match.specs.declared.forest.Place.{Place}
 use Rattle.rec_match.specs.declared.forest.Place.TheVariants.{First, Again}
 use Rattle.rec_match.specs.declared.parts.Code.{Code}

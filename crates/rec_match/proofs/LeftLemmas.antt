@@ -12,9 +12,9 @@ use Rattle.rec_sorts.specs.declared.letters.Meaning.{Meaning}
 use Rattle.rec_sorts.specs.declared.letters.Meaning.TheVariants.{Symbol, Variable}
 use Rattle.rec_match.specs.Bound.{goes_on}
 use Rattle.rec_match.specs.Rows.{Cell, Row, cells_from, opened_cell, opened_cells, asks_for, kept_cells, changed}
-use Rattle.rec_match.specs.Growing.{Within, AllWithin}
-use Rattle.rec_match.specs.Parts.{part_at, arguments_at, numbered_from, opened_code, opened_codes, AreDistinct, asks_for_marked, kept_codes, Coded, changed_codes, AreMarks, IsCode, AreCells, coded_of}
-use Rattle.rec_match.specs.Tasks.{IsWhole, AreThere, AreLeft}
+use Rattle.rec_match.specs.Inner.Growing.{Within, AllWithin}
+use Rattle.rec_match.specs.Parts.{part_at, arguments_at, numbered_from, opened_code, opened_codes, AreDistinct, asks_for_marked, kept_codes, Coded, changed_codes, AreMarks, IsCode, AreCells, coded_of, IsWhole}
+use Rattle.rec_match.specs.Inner.Tasks.{AreThere, AreLeft}
 use Rattle.rec_match.specs.declared.parts.Code.{Code}
 use Rattle.rec_match.specs.declared.parts.CodeRow.{CodeRow}
 use Rattle.rec_match.specs.declared.parts.Parts.{Parts}

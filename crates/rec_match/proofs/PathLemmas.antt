@@ -13,13 +13,13 @@ use Rattle.rec_sorts.specs.Numbering.{name_of, arity_of, variable_count}
 use Rattle.rec_sorts.specs.declared.letters.Meaning.TheVariants.{Symbol, Variable}
 use Rattle.rec_match.specs.Bound.{opened, bound, goes_on}
 use Rattle.rec_match.specs.Forests.{Cases, no_child, case_at, number_at, FitsSwitch}
-use Rattle.rec_match.specs.Growing.{State, Within, reading_of, StandFor}
+use Rattle.rec_match.specs.Inner.Growing.{State, Within, reading_of, StandFor}
 use Rattle.rec_match.specs.Leaves.{code_places}
 use Rattle.rec_match.specs.Parts.{part_at, arguments_at, numbered_from, Coded, IsHead, IsPart, AreParts, AreCells}
 use Rattle.rec_match.specs.Inner.Paths.{TreesGoOn, AreTrees}
 use Rattle.rec_match.specs.Rows.{Cell, Row, Found, tree_in, asked, values_of, or_else, found_at, first_row, cells_from}
-use Rattle.rec_match.specs.Tasks.{Task, IsGround, AreThere, AreLeft, Growing, GoesOn, Steps, AddsNode, WritesTry, WritesSwitch}
-use Rattle.rec_match.specs.Walking.{walk, walk_all}
+use Rattle.rec_match.specs.Inner.Tasks.{Task, IsGround, AreThere, AreLeft, Growing, GoesOn, Steps, AddsNode, WritesTry, WritesSwitch}
+use Rattle.rec_match.specs.Inner.Walking.{walk, walk_all}
 use Rattle.rec_match.specs.declared.forest.Child.{Child}
 use Rattle.rec_match.specs.declared.forest.Forest.{Forest}
 use Rattle.rec_match.specs.declared.forest.Node.TheVariants.{Fail, Switch}
@@ -179,11 +179,11 @@ asked_variable y ps width rule cs cs' c v (b ∷ bs) meant left = by (cells_spli
     by (d ∷ back) backs = by_pattern d.pattern backs.0.1
 
 -- a code is taken from those that are left, the first of which comes last
-pub taken_first : (old left : List Code) (c : Code) → old ≡ left ++ c ∷ [] → reverse old ≡ c ∷ reverse left
+taken_first : (old left : List Code) (c : Code) → old ≡ left ++ c ∷ [] → reverse old ≡ c ∷ reverse left
 taken_first old left c e = ap reverse e ∙ reverse-append left (c ∷ [])
 
-pub value_taken : (values values' old left : List Code) (c : Code) → old ≡ left ++ c ∷ [] → values' ≡ values ++ c ∷ [] → values ++ reverse old ≡ values' ++ reverse left
-value_taken values values' old left c e ev = ap (λ cs. values ++ cs) (taken_first old left c e) ∙ sym (append_assoc values (c ∷ []) (reverse left)) ∙ ap (λ cs. cs ++ reverse left) (sym ev)
+pub value_taken : (values values' left : List Code) (c : Code) → values' ≡ values ++ c ∷ [] → values ++ c ∷ left ≡ values' ++ left
+value_taken values values' left c e = sym (append_assoc values (c ∷ []) left) ∙ ap (λ cs. cs ++ left) (sym e)
 
 module _ (y : Spec) (ns : List ℕ) (ps : Parts) where
   -- a node at which no rule is left waits no more
@@ -194,7 +194,7 @@ module _ (y : Spec) (ns : List ℕ) (ps : Parts) where
   pub end_steps : (ground : IsGround y ns ps) (f g h : Forest) (n width rule : ℕ) (pl : List Place) (cs : List Code) (next : ℕ) → AddsNode f g next → WritesTry g h n rule pl next → n < length f.nodes.items → code_places ps [] cs ≡ Some pl → Steps y ns ps f (row_task n width rule cs ∷ []) h []
   end_steps ground f g h n width rule pl cs next a w lt places =
       steps_more y ns ps f h h (row_task n width rule cs ∷ []) (behind ∷ []) []
-      (leaf_steps y ns ps f g h [] (behind ∷ []) n width rule pl cs [] next (record { node_is = a.node_is; nodes = a.nodes; places = a.places; children = a.children; tasks = ap (λ k. (let t : Task = record { node = k; width = width; rows = [] } in t) ∷ []) a.node_is ∙ ap (λ k. (let t : Task = record { node = k; width = width; rows = [] } in t) ∷ []) (sym a.node_is) }) w ground places)
+      (leaf_steps y ns ps f g h [] (behind ∷ []) n width rule pl cs [] next (record { one = a; tasks = refl }) w ground places)
       (fail_done h [] next width
       (ap (λ xs. get_or xs next Fail) w.nodes ∙ get_or-set_other g.nodes.items n next _ Fail (λ e. (let is = a.node_is in let no : ⊥ = omega (arith, e, is, lt) in no)) ∙ ap (λ xs. get_or xs next Fail) a.nodes ∙ get-last f.nodes.items Fail next Fail a.node_is))
     where
@@ -328,8 +328,8 @@ module _ (y : Spec) (ns : List ℕ) (ps : Parts) where
         by_row : (r : Row) → s n ≡ record { width = width; rows = (record { number = rule; cells = r.cells }) ∷ [] } → AreLeft y ps width task.rows (r ∷ []) → GoesOn y ns ps f (task ∷ []) s e (next ∷ [])
         by_row r is left =
             let q = asks_here y ps width cs cs' c k r.cells meant left.are.0.1 left.registers.0 in
-            let x = added y ns ps f g (task ∷ []) (task ∷ behind ∷ []) width [] other (record { node_is = a.node_is; nodes = a.nodes; places = a.places; children = a.children; tasks = refl }) s grow [] (record { are = tt; there = tt; registers = tt }) in
-            let z = added y ns ps g h (task ∷ behind ∷ []) (task ∷ behind ∷ next ∷ []) (width + arity_of y k) next.rows inside (record { node_is = b.node_is; nodes = b.nodes; places = b.places; children = b.children; tasks = refl }) x.goes.states x.goes.growing _ (left_behind r.cells q left.there.0) in
+            let x = added y ns ps f g (task ∷ []) (task ∷ behind ∷ []) width [] other a refl s grow [] (record { are = tt; there = tt; registers = tt }) in
+            let z = added y ns ps g h (task ∷ behind ∷ []) (task ∷ behind ∷ next ∷ []) (width + arity_of y k) next.rows inside b refl x.goes.states x.goes.growing _ (left_behind r.cells q left.there.0) in
             let v = z.goes.states in
             let lt = grow.tasks.0.there in
             let more = x.goes.extends.nodes in
@@ -355,30 +355,27 @@ module _ (y : Spec) (ns : List ℕ) (ps : Parts) where
             left
 
   -- a code is asked next where a path has come to
-  pub record AsksNext (f : Forest) (n width rule : ℕ) (values left : List Code) (c : Code) : Type 0 where
-    pub can : (s : ℕ → State) × Growing y ns ps f (row_task n width rule (values ++ c ∷ reverse left) ∷ []) s
+  pub record AsksNext (c : Code) : Type 0 where
     pub there : c.part < length ps.parts.items
     pub symbol : (k : ℕ) → (part_at ps c.part).meaning ≡ Symbol k → k < length (symbols y)
     pub variable : (v : ℕ) → (part_at ps c.part).meaning ≡ Variable v → v < variable_count y
 
+  pub asks_next : (f : Forest) (n width rule : ℕ) (values left : List Code) (c : Code) → (s : ℕ → State) × Growing y ns ps f (row_task n width rule (values ++ c ∷ left) ∷ []) s → AsksNext c
+  asks_next f n width rule values left c can =
+      let rows = can.1.tasks.0.rows in
+      record {
+        there = asked_there (length ps.parts.items) values left c rows.there.0;
+        symbol = λ k meant. asked_declared y ps width rule values left c k (can.0 n).rows meant rows;
+        variable = λ v meant. asked_variable y ps width rule values left c v (can.0 n).rows meant rows;
+      }
+
   pub steps_taken : (f g : Forest) (ts : List Task) (n width rule : ℕ) (values old left : List Code) (c : Code) → old ≡ left ++ c ∷ [] → Steps y ns ps f ts g (row_task n width rule (values ++ reverse old) ∷ []) → Steps y ns ps f ts g (row_task n width rule (values ++ c ∷ reverse left) ∷ [])
   steps_taken f g ts n width rule values old left c e steps = subst (λ xs. Steps y ns ps f ts g (row_task n width rule (values ++ xs) ∷ [])) (taken_first old left c e) steps
-
-  pub asks_next : (f g : Forest) (ts : List Task) (n width rule : ℕ) (values left : List Code) (c : Code) → (s : ℕ → State) × Growing y ns ps f ts s → Steps y ns ps f ts g (row_task n width rule (values ++ c ∷ reverse left) ∷ []) → AsksNext g n width rule values left c
-  asks_next f g ts n width rule values left c can steps =
-      let x = steps can.0 can.1 in
-      let rows = x.growing.tasks.0.rows in
-      record {
-        can = (x.states, x.growing);
-        there = asked_there (length ps.parts.items) values (reverse left) c rows.there.0;
-        symbol = λ k meant. asked_declared y ps width rule values (reverse left) c k (x.states n).rows meant rows;
-        variable = λ v meant. asked_variable y ps width rule values (reverse left) c v (x.states n).rows meant rows;
-      }
 
   -- a node for a row, from which a path has grown
   pub path_tree : (f g h : Forest) (width : ℕ) (coded : Coded) (root : ℕ) → AddsNode f g root → Steps y ns ps g ((record { node = root; width = width; rows = coded ∷ [] }) ∷ []) h [] → AreTrees y ns ps f width (coded ∷ []) h (root ∷ [])
   path_tree f g h width coded root a steps s rows grow left =
-      let x = added y ns ps f g [] (own ∷ []) width (coded ∷ []) root (record { node_is = a.node_is; nodes = a.nodes; places = a.places; children = a.children; tasks = refl }) s grow rows left in
+      let x = added y ns ps f g [] (own ∷ []) width (coded ∷ []) root a refl s grow rows left in
       let z = steps x.goes.states x.goes.growing in
       record {
         goes = goes_more y ns ps f g h [] (own ∷ []) [] s x.goes z;
@@ -392,7 +389,7 @@ module _ (y : Spec) (ns : List ℕ) (ps : Parts) where
   pub can_path : (f g : Forest) (width : ℕ) (coded : Coded) (root : ℕ) (s : ℕ → State) (rows : List Row) → AddsNode f g root → Growing y ns ps f [] s → AreLeft y ps width (coded ∷ []) rows
       → (t : ℕ → State) × Growing y ns ps g ((record { node = root; width = width; rows = coded ∷ [] }) ∷ []) t
   can_path f g width coded root s rows a grow left =
-      let x = added y ns ps f g [] ((record { node = root; width = width; rows = coded ∷ [] }) ∷ []) width (coded ∷ []) root (record { node_is = a.node_is; nodes = a.nodes; places = a.places; children = a.children; tasks = refl }) s grow rows left in
+      let x = added y ns ps f g [] ((record { node = root; width = width; rows = coded ∷ [] }) ∷ []) width (coded ∷ []) root a refl s grow rows left in
       (x.goes.states, x.goes.growing)
 
   -- one of what is left

@@ -8,8 +8,7 @@ use Rattle.rec_sorts.specs.Lookup.{count}
 use Rattle.rec_sorts.specs.Laws.{Every}
 use Rattle.rec_sorts.specs.Numbering.{Named, named, named_all, named_by}
 use Rattle.rec_sorts.specs.declared.letters.Letter.{Letter}
-use Rattle.rec_match.specs.Parts.{part_at, no_part, arguments_at, IsHead, IsPart, AreParts, PushesLetter}
-use Rattle.rec_match.specs.Tasks.{IsWhole}
+use Rattle.rec_match.specs.Parts.{part_at, no_part, arguments_at, IsHead, IsPart, AreParts, PushesLetter, IsWhole}
 use Rattle.rec_match.specs.Pushed.{CanPush, Pushed, counts_of, IsFilled, MoreParts, PushesTerm, PushesTerms}
 use Rattle.rec_match.specs.declared.parts.Part.{Part}
 use Rattle.rec_match.specs.declared.parts.Parts.{Parts}

@@ -15,13 +15,13 @@ use Rattle.rec_sorts.proofs.BindingLemmas.{bytes_eq-refl}
 use Rattle.std.proofs.lemmas.Bool.{eq-eqb}
 use Rattle.rec_match.specs.Inner.Built.{IsHead, AreHeads}
 use Rattle.rec_match.specs.Inner.Chains.{IsNext, AreChainsFrom}
-use Rattle.rec_match.specs.Growing.{Within}
+use Rattle.rec_match.specs.Inner.Growing.{Within}
 use Rattle.rec_match.specs.Parts as P
-use Rattle.rec_match.specs.Parts.{part_at, arguments_at, numbered_from, Coded, IsPart, AreRows}
+use Rattle.rec_match.specs.Parts.{part_at, arguments_at, numbered_from, Coded, IsPart, AreRows, IsWhole}
 use Rattle.rec_match.specs.Pushed.{AreLeftParts}
 use Rattle.rec_match.specs.Rows.{Row, cells_from}
 use Rattle.rec_match.specs.Inner.Running.{is_of, root_rows}
-use Rattle.rec_match.specs.Tasks.{IsWhole, AreThere, AreLeft}
+use Rattle.rec_match.specs.Inner.Tasks.{AreThere, AreLeft}
 use Rattle.rec_match.specs.declared.parts.Parts.{Parts}
 use Rattle.rec_match.proofs.FactLemmas.{facts, every_joined}
 use Rattle.rec_match.proofs.LeftLemmas.{every_take, every_drop, numbered_there, cells_from_within}

@@ -13,9 +13,8 @@ use Rattle.rec_sorts.specs.declared.letters.LetterRule.{LetterRule}
 use Rattle.rec_sorts.specs.declared.letters.Meaning.{Meaning}
 use Rattle.rec_sorts.specs.declared.letters.Meaning.TheVariants.{Symbol, Variable}
 use Rattle.rec_match.specs.Matching.{AreFilled}
-use Rattle.rec_match.specs.Parts.{IsHead, IsPart}
+use Rattle.rec_match.specs.Parts.{IsHead, IsPart, IsWhole}
 use Rattle.rec_match.specs.Pushed.{IsFilled, Pushed, CanPush, counts_of, PushesTerm, AreLeftParts}
-use Rattle.rec_match.specs.Tasks.{IsWhole}
 use Rattle.rec_match.specs.declared.parts.Parts.{Parts}
 use Rattle.rec_match.proofs.FactLemmas.{facts, variable_is_one}
 use Rattle.rec_match.proofs.ItemLemmas.{get-front, get-last}

@@ -7,7 +7,7 @@ use Rattle.std.specs.Option.{option_map}
 use Rattle.rec_sorts.specs.declared.letters.Meaning.{Meaning}
 use Rattle.rec_sorts.specs.declared.letters.Meaning.TheVariants.{Symbol, Variable}
 use Rattle.rec_match.specs.Bound.{goes_on}
-use Rattle.rec_match.specs.Marking.{IsRank}
+use Rattle.rec_match.specs.Inner.Marking.{IsRank}
 use Rattle.rec_match.specs.Parts.{part_at, arguments_at, numbered_from, opened_code, opened_codes, Coded, coded_of, changed_codes}
 use Rattle.rec_match.specs.Inner.Shares.{symbols_of, IsShare, AreShares, AddsRow, DealsRow}
 use Rattle.rec_match.specs.declared.parts.Code.{Code}

@@ -15,13 +15,12 @@ use Rattle.rec_sorts.specs.Binding.{Substitution, application, binds, first_matc
 use Rattle.rec_sorts.specs.Numbering.{name_of, arity_of}
 use Rattle.rec_sorts.specs.declared.letters.Meaning.TheVariants.{Symbol}
 use Rattle.rec_sorts.proofs.KeptLemmas.{bytes_eq-eq}
-use Rattle.rec_match.specs.Walking.{walk_all}
+use Rattle.rec_match.specs.Inner.Walking.{walk_all}
 use Rattle.rec_match.specs.Bound.{opened, bound, goes_on}
 use Rattle.rec_match.specs.Inner.Chains.{IsNext, AreChainsFrom}
 use Rattle.rec_match.specs.Inner.Built.{IsHead, AreHeads, IsLeftSide, AreSides}
-use Rattle.rec_match.specs.Matching.{IsMatcher, IsSide, Skips, HeadAt, symbol_at, count_at, next_at, variables_at}
+use Rattle.rec_match.specs.Matching.{IsMatcher, IsSide, Skips, HeadAt, symbol_at, count_at, next_at, variables_at, numbers_of}
 use Rattle.rec_match.specs.Forests.{IsForest}
-use Rattle.rec_match.specs.Tasks.{numbers_of}
 use Rattle.rec_match.specs.declared.matcher.Matcher.{Matcher}
 use Rattle.rec_match.specs.declared.matcher.LeftSide.{LeftSide}
 use Rattle.rec_match.proofs.FactLemmas.{facts}

@@ -7,17 +7,17 @@ use Rattle.rec_syntax.specs.Syntax.{Spec}
 use Rattle.rec_sorts.specs.Laws.{Every}
 use Rattle.rec_match.specs.Rows.{Row}
 use Rattle.rec_match.specs.Forests.{IsNew}
-use Rattle.rec_match.specs.Growing.{State, Within, GrowsTry, Grows, Extends}
+use Rattle.rec_match.specs.Inner.Growing.{State, Within, GrowsTry, Grows, Extends}
 use Rattle.rec_match.specs.Leaves.{code_places}
 use Rattle.rec_match.specs.Parts.{Coded, AreRows}
-use Rattle.rec_match.specs.Tasks.{Task, IsGround, AreLeft, IsTask, Waits, Growing, GoesOn, Steps, Adds, WritesTry}
+use Rattle.rec_match.specs.Inner.Tasks.{Task, IsGround, AreLeft, IsTask, Waits, Growing, GoesOn, Steps, AddsNode, Adds, WritesTry}
 use Rattle.rec_match.specs.declared.forest.Place.{Place}
 use Rattle.rec_match.specs.declared.forest.Forest.{Forest}
 use Rattle.rec_match.specs.declared.forest.Node.{Node}
 use Rattle.rec_match.specs.declared.forest.Node.TheVariants.{Fail, Try}
 use Rattle.rec_match.specs.declared.parts.Code.{Code}
 use Rattle.rec_match.specs.declared.parts.Parts.{Parts}
-use Rattle.rec_match.proofs.ExtensionLemmas.{grows_later}
+use Rattle.rec_match.proofs.ExtensionLemmas.{extends_same, grows_later}
 use Rattle.rec_match.proofs.FactLemmas.{every_append, every_joined, every_map}
 use Rattle.rec_match.proofs.ItemLemmas.{get-front}
 use Rattle.rec_match.proofs.LeafLemmas.{code_places_are}
@@ -172,9 +172,9 @@ module _ (y : Spec) (ns : List ℕ) (ps : Parts) where
           inr (subst (λ m. Grows y ns g s m (get_or g.nodes.items m Fail)) (sym is) (subst (Grows y ns g s a.node) (sym here) grown))
       by n lt (inr ne) = let l = same_long in let below : n < length f.nodes.items = omega (arith, l, lt) in old n below ne (h.nodes n below)
 
-  kept_one : (f g : Forest) (ts us : List Task) (width : ℕ) (coded : List Coded) (node : ℕ) → Adds f ts g us width coded node → (n : ℕ) → n < length f.nodes.items → (Waits ts n → ⊥)
+  kept_one : (f g : Forest) (ts us : List Task) (width : ℕ) (coded : List Coded) (node : ℕ) → AddsNode f g node → us ≡ ts ++ (record { node = node; width = width; rows = coded }) ∷ [] → (n : ℕ) → n < length f.nodes.items → (Waits ts n → ⊥)
       → (Waits us n → ⊥) × (get_or g.nodes.items n Fail ≡ get_or f.nodes.items n Fail)
-  kept_one f g ts us width coded node a n lt away = ((λ w. out (waits_either ts (own ∷ []) n (subst (λ xs. Waits xs n) a.tasks w))), ap (λ xs. get_or xs n Fail) a.nodes ∙ get-front f.nodes.items Fail n Fail lt)
+  kept_one f g ts us width coded node a same n lt away = ((λ w. out (waits_either ts (own ∷ []) n (subst (λ xs. Waits xs n) same w))), ap (λ xs. get_or xs n Fail) a.nodes ∙ get-front f.nodes.items Fail n Fail lt)
     where
       own : Task
       own = record { node = node; width = width; rows = coded }
@@ -190,17 +190,17 @@ module _ (y : Spec) (ns : List ℕ) (ps : Parts) where
     pub here : goes.states node ≡ z
     pub there : node < length g.nodes.items
 
-  pub added : (f g : Forest) (ts us : List Task) (width : ℕ) (coded : List Coded) (node : ℕ) → Adds f ts g us width coded node → (s : ℕ → State) → Growing y ns ps f ts s → (rows : List Row) → AreLeft y ps width coded rows
+  pub added : (f g : Forest) (ts us : List Task) (width : ℕ) (coded : List Coded) (node : ℕ) → AddsNode f g node → us ≡ ts ++ (record { node = node; width = width; rows = coded }) ∷ [] → (s : ℕ → State) → Growing y ns ps f ts s → (rows : List Row) → AreLeft y ps width coded rows
       → Added f ts s g us node (record { width = width; rows = rows })
-  added f g ts us width coded node a s h rows left =
+  added f g ts us width coded node a tasks s h rows left =
       let z : State = record { width = width; rows = rows } in
-      let same : us ≡ ts ++ (record { node = length f.nodes.items; width = width; rows = coded }) ∷ [] = a.tasks ∙ ap (λ k. ts ++ (let t : Task = record { node = k; width = width; rows = coded } in t) ∷ []) a.node_is in
+      let same : us ≡ ts ++ (record { node = length f.nodes.items; width = width; rows = coded }) ∷ [] = tasks ∙ ap (λ k. ts ++ (let t : Task = record { node = k; width = width; rows = coded } in t) ∷ []) a.node_is in
       record {
         goes = record {
           states = with_state s (length f.nodes.items) z;
           extends = extends_one f g s z a.nodes a.places a.children;
           growing = subst (λ xs. Growing y ns ps g xs (with_state s (length f.nodes.items) z)) (sym same) (growing_one f g s z a.nodes a.places a.children ts coded h left);
-          kept = kept_one f g ts us width coded node a;
+          kept = kept_one f g ts us width coded node a tasks;
         };
         here = ap (with_state s (length f.nodes.items) z) a.node_is ∙ with_same s (length f.nodes.items) z;
         there = (let l : length g.nodes.items ≡ length f.nodes.items + 1 = ap length a.nodes ∙ length-append f.nodes.items (Fail ∷ []) in let is = a.node_is in omega (arith, l, is));
@@ -233,13 +233,10 @@ module _ (y : Spec) (ns : List ℕ) (ps : Parts) where
       t : Task
       t = record { node = n; width = width; rows = (record { number = rule; codes = cs }) ∷ rest }
 
-      more : Adds f (t ∷ ts) g (t ∷ us) width rest next
-      more = record { node_is = a.node_is; nodes = a.nodes; places = a.places; children = a.children; tasks = ap (λ xs. t ∷ xs) a.tasks }
-
       by_rows : (rows : List Row) → (s n).rows ≡ rows → AreLeft y ps width ((record { number = rule; codes = cs }) ∷ rest) rows → GoesOn y ns ps f (t ∷ ts) s h us
       by_rows [] e left = absurd left.are
       by_rows (b ∷ bs) e left =
-          let x = added f g (t ∷ ts) (t ∷ us) width rest next more s grow bs (record { are = left.are.1; there = left.there.1; registers = left.registers.1 }) in
+          let x = added f g (t ∷ ts) (t ∷ us) width rest next a.one (ap (λ xs. t ∷ xs) a.tasks) s grow bs (record { are = left.are.1; there = left.there.1; registers = left.registers.1 }) in
           let u = x.goes.states in
           let z : State = record { width = width; rows = bs } in
           let is = code_places_are y ground.variables_differ ps cs b.cells [] pl left.are.0.1 tt places in
@@ -249,7 +246,7 @@ module _ (y : Spec) (ns : List ℕ) (ps : Parts) where
           let long : length h.nodes.items ≡ length g.nodes.items = ap length w.nodes ∙ length-set g.nodes.items n (Try rule (length g.places.items) (length g.places.items + length pl) next w.linear) in
           let sliced : slice_range h.places.items (length g.places.items) (length g.places.items + length pl) ≡ pl = ap (λ qs. slice_range qs (length g.places.items) (length g.places.items + length pl)) w.places ∙ slice_seam g.places.items pl in
           let tried : GrowsTry y h u n rule (length g.places.items) (length g.places.items + length pl) next w.linear = record {
-            follows = record { later = (let q = a.node_is in let lt = grow.tasks.0.there in omega (arith, q, lt)); there = (let q = x.there in omega (arith, q, long)) };
+            follows = record { later = (let q = a.one.node_is in let lt = grow.tasks.0.there in omega (arith, q, lt)); there = (let q = x.there in omega (arith, q, long)) };
             cells = b.cells;
             here = old ∙ whole b bs e left ∙ ap (λ (v : State). with_row b v) (sym next_is);
             ordered = omega arith;
@@ -278,7 +275,7 @@ module _ (y : Spec) (ns : List ℕ) (ps : Parts) where
       → Steps y ns ps f ((record { node = n; width = width; rows = coded }) ∷ ts) g ts
   empty_steps f g ts n width coded none e p ch s grow =
       goes_written f g s (record { node = n; width = width; rows = coded }) ts Fail grow
-      (record { nodes = (let l : length g.nodes.items ≡ length f.nodes.items = ap length e ∙ length-set f.nodes.items n Fail in let m : length f.nodes.items ≤ length g.nodes.items = omega (arith, l) in m); new_places = []; places = p ∙ sym (append-nil f.places.items); new_children = []; children = ch ∙ sym (append-nil f.children.items); states = λ m lt. refl })
+      (extends_same f g s (sym (ap length e ∙ length-set f.nodes.items n Fail)) p ch)
       e (no_rows coded (s n).rows none grow.tasks.0.rows.are)
     where
       no_rows : (cs : List Coded) (rows : List Row) → cs ≡ [] → AreRows y ps cs rows → rows ≡ []
@@ -290,7 +287,7 @@ module _ (y : Spec) (ns : List ℕ) (ps : Parts) where
   pub steps_none : (f : Forest) (ts : List Task) → Steps y ns ps f ts f ts
   steps_none f ts s grow = record {
     states = s;
-    extends = record { nodes = omega arith; new_places = []; places = sym (append-nil f.places.items); new_children = []; children = sym (append-nil f.children.items); states = λ n lt. refl };
+    extends = extends_same f f s refl refl refl;
     growing = grow;
     kept = λ n lt away. (away, refl);
   }
@@ -299,7 +296,7 @@ module _ (y : Spec) (ns : List ℕ) (ps : Parts) where
   pub steps_last : (f : Forest) (ts : List Task) (t : Task) → Steps y ns ps f (ts ++ t ∷ []) f (t ∷ ts)
   steps_last f ts t s grow = record {
     states = s;
-    extends = record { nodes = omega arith; new_places = []; places = sym (append-nil f.places.items); new_children = []; children = sym (append-nil f.children.items); states = λ n lt. refl };
+    extends = extends_same f f s refl refl refl;
     growing = last_first f s ts t grow;
     kept = λ n lt away. ((λ w. away (turned n w)), refl);
   }

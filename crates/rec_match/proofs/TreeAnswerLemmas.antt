@@ -16,8 +16,7 @@ use Rattle.rec_sorts.specs.Numbering.{name_of, arity_of}
 use Rattle.rec_sorts.specs.declared.letters.Meaning.TheVariants.{Symbol}
 use Rattle.rec_match.specs.Forests as forests
 use Rattle.rec_match.specs.Forests.{AreNumbers, CanRun, Runs}
-use Rattle.rec_match.specs.Matching.{IsMatcher, IsSide, CanFind, FindsFor, symbol_at}
-use Rattle.rec_match.specs.Tasks.{numbers_of}
+use Rattle.rec_match.specs.Matching.{IsMatcher, IsSide, CanFind, FindsFor, symbol_at, numbers_of}
 use Rattle.rec_match.specs.declared.matcher.Matcher.{Matcher}
 use Rattle.rec_match.proofs.AnswerLemmas.{found-binds, no_rule}
 use Rattle.rec_match.proofs.FactLemmas.{facts, RuleFacts}

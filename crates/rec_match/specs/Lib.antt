@@ -1,15 +1,11 @@
 pub mod Matching
 pub mod Placed
 pub mod Bound
-pub mod Walking
 pub mod Rows
 pub mod Forests
-pub mod Growing
 pub mod Parts
 pub mod Leaves
 pub mod Ordered
 pub mod Next
-pub mod Tasks
 pub mod Pushed
-pub mod Marking
 pub mod Inner

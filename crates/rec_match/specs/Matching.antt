@@ -17,11 +17,14 @@ use Rattle.rec_sorts.specs.declared.letters.Meaning.TheVariants.{Symbol, Variabl
 use Rattle.rec_match.specs.Forests.{IsForest, StandAbove, values_among}
 use Rattle.rec_match.specs.Ordered.{numbers_in}
 use Rattle.rec_match.specs.Rows.{values_of}
-use Rattle.rec_match.specs.Tasks.{numbers_of}
 use Rattle.rec_sorts.specs.SpecRules.{fault}
 use Rattle.rec_match.specs.declared.forest.Hit.{Hit}
 use Rattle.rec_match.specs.declared.matcher.LeftSide.{LeftSide}
 use Rattle.rec_match.specs.declared.matcher.Matcher.{Matcher}
+
+-- the numbers of a bank's symbols
+abbrev pub numbers_of : List bank.Symbol → List ℕ
+numbers_of ss = map (λ (s : bank.Symbol). s.0) ss
 
 -- variables with values
 abbrev pub paired : Spec → List ℕ → List Tree → Substitution

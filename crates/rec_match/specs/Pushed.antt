@@ -5,8 +5,7 @@ use Rattle.rec_sorts.specs.Lookup.{count}
 use Rattle.rec_sorts.specs.Laws.{Every}
 use Rattle.rec_sorts.specs.Numbering.{name_of}
 use Rattle.rec_sorts.specs.declared.letters.Letter.{Letter}
-use Rattle.rec_match.specs.Parts.{IsHead, IsPart, AreParts, PushesLetter}
-use Rattle.rec_match.specs.Tasks.{IsWhole}
+use Rattle.rec_match.specs.Parts.{IsHead, IsPart, AreParts, PushesLetter, IsWhole}
 use Rattle.rec_match.specs.declared.parts.Part.{Part}
 use Rattle.rec_match.specs.declared.parts.Parts.{Parts}
 

@@ -93,31 +93,28 @@ fn heads(alloc: Global, checked: &Checked) -> Result<Vec<u32>, AllocError>
     Ok(symbols)
 }
 
-/// What is kept of a rule's left side.
+/// What is kept of a rule's left side, with the rule that comes next.
 fn side(
-    alloc: Global,
     checked: &Checked,
     rules: &[LetterRule],
-    places: &mut Places,
     rule: usize,
-    symbol: u32,
     next: u32,
+    places: &mut Places,
 ) -> Result<LeftSide, AllocError>
     requires rule { rule < length rules.now }
     requires kept { fault checked.now.spec ≡ None }
     requires letters { Pairwise (IsLetterRule checked.now.spec) rules.now checked.now.spec.rules }
     requires places { ArePlaces [] (variable_count checked.now.spec) places.old }
-    requires head { (r : _)
-        → IsHead checked.now.spec (get_or checked.now.spec.rules rule r) symbol }
     ensures side { IfOk result (λ s. (r : _)
         → IsLeftSide checked.now.spec (get_or checked.now.spec.rules rule r) s) }
-    ensures symbol { IfOk result (λ s. s.symbol ≡ symbol) }
     ensures next { IfOk result (λ s. s.next ≡ next) }
     ensures places { IfOk result (λ s. ArePlaces [] (variable_count checked.now.spec) places.new) }
 {
     let left = &rules[rule].left;
     let size = left.len() - 1;
     let count = left[size].count;
+    let symbol = head(checked, rules, rule);
+    let alloc = *places.of.allocator();
     let variables = variables_of(alloc, &left[..size], places)?;
     Ok(LeftSide {
         symbol,
@@ -146,16 +143,7 @@ fn sides(alloc: Global, checked: &Checked, nexts: &[u32]) -> Result<Vec<LeftSide
     let mut places = Places::new(alloc, checked.variables())?;
     let mut sides = Vec::new(alloc);
     for rule in 0..rules.len() {
-        let symbol = head(checked, rules, rule);
-        sides.push(side(
-            alloc,
-            checked,
-            rules,
-            &mut places,
-            rule,
-            symbol,
-            nexts[rule],
-        )?)?;
+        sides.push(side(checked, rules, rule, nexts[rule], &mut places)?)?;
     }
     Ok(sides)
 }

@@ -1,440 +1,243 @@
 //! How matching trees grow: each node that waits is written, and the nodes behind it wait then.
 
-ghost use Rattle.std.specs.Prelude.{◌≡◌, ◌+◌, ◌<◌, ◌≤◌, ◌^◌, ◌∷◌, [], All, IfOk, IfSome, length};
-ghost use Rattle.std.specs.Prelude.{map, get_or, true, false};
+ghost use Rattle.std.specs.Prelude.{◌≡◌, ◌+◌, ◌<◌, ◌≤◌, ◌^◌, ◌∷◌, [], All, IfOk, length, map};
 ghost use Rattle.rec_sorts.specs.Lookup.{symbols};
-ghost use Rattle.rec_match.specs.Forests.{no_child, number_at};
-ghost use Rattle.rec_match.specs.Marking.{AreMarked, HasMarks};
-ghost use Rattle.rec_match.specs.Parts.{coded_of, IsCode};
+ghost use Rattle.rec_match.specs.Inner.Marking.{HasMarks};
 ghost use Rattle.rec_match.specs.Inner.Shares.{symbols_of, AreShares};
-ghost use Rattle.rec_match.specs.Tasks.{
-  task_of,
-  numbers_of,
-  IsGround,
-  Steps,
-  CanStep,
+ghost use Rattle.rec_match.specs.Inner.Tasks.{
   Covers,
   Adds,
   BranchesOut,
   TriesFirst,
+  HasTree,
+  task,
+  tasks_of,
+  IsReady,
+  CanMark,
+  StepsBy,
+  CanStep,
   StepsOrStays,
   GrowsOut,
-  HasTree,
   CanGrow,
 };
+ghost use Rattle.rec_match.specs.Matching.{numbers_of};
+ghost use Rattle.rec_match.specs.Parts.{coded_of, IsCode};
+ghost use Rattle.rec_match.specs.declared.forest.Node.TheVariants.{Fail};
 
+use crate::chain::Chains;
 use crate::forest::{Child, Forest, Node, Place};
 use crate::marks::Marks;
-use crate::parts::{Code, CodeRow, Parts};
-use crate::shares::Share;
-use rec_sorts::{Checked, Links, Meaning};
+use crate::parts::CodeRow;
+use crate::push::LeftParts;
+use crate::shares::{Opening, Share};
+use crate::switch::{Window, look_cost, no_children, window_of};
+use rec_sorts::{Checked, Links};
 use std::alloc::{AllocError, Global};
 
 /// A node that waits: how many registers there are, and what is left to ask.
 #[derive(Drop)]
-pub struct Pending {
-    pub node: u32,
-    pub width: u32,
-    pub rows: Vec<CodeRow>,
+pub(crate) struct Pending {
+    pub(crate) node: u32,
+    pub(crate) width: u32,
+    pub(crate) rows: Vec<CodeRow>,
 }
 
-/// A window of symbols' numbers in a bank: the least one, and how many there are.
-#[derive(Clone, Copy)]
-struct Window {
-    low: u64,
-    span: u32,
-}
-
-/// A switch that is to be written: at a node, over so many registers, on one of these, with a window
-/// for its children.
-#[derive(Clone, Copy)]
-struct Fork {
-    node: u32,
-    width: u32,
-    register: u32,
-    window: Window,
-}
-
-/// What trees are grown with: the nodes that wait, marks of symbols, and how much may still be
-/// done.
+/// What has grown so far, and the nodes that wait.
 #[derive(Drop)]
-pub struct Work {
-    pub pending: Vec<Pending>,
-    pub marks: Marks,
-    pub fuel: u64,
+pub(crate) struct Growth {
+    pub(crate) forest: Forest,
+    pub(crate) pending: Vec<Pending>,
 }
 
-/// One node more, which waits.
-fn add(
-    forest: &mut Forest,
-    work: &mut Vec<Pending>,
-    width: u32,
-    rows: Vec<CodeRow>,
-) -> Result<u32, AllocError>
-    ensures { IfOk result (Adds forest.old (map task_of work.old.items) forest.new
-        (map task_of work.new.items) width (map coded_of rows.items)) }
-{
-    let node = forest.add_node()?;
-    work.push(Pending { node, width, rows })?;
-    Ok(node)
+/// What trees are grown with: what has grown, marks of symbols, how much may still be done, and
+/// how many nodes there may be.
+#[derive(Drop)]
+pub(crate) struct Work {
+    pub(crate) growth: Growth,
+    pub(crate) marks: Marks,
+    pub(crate) fuel: u64,
+    pub(crate) most: usize,
 }
 
-/// The first row at a node that waits, where nothing but its values is left to ask; the other rows
-/// wait behind it.
-fn leaf(
-    forest: &mut Forest,
-    work: &mut Vec<Pending>,
-    node: u32,
-    width: u32,
-    rule: u32,
-    places: &[Place],
-    rest: Vec<CodeRow>,
-) -> Result<(), AllocError>
-    requires { node < length forest.old.nodes.items }
-    ensures { IfOk result (λ u. TriesFirst forest.old (map task_of work.old.items) node width rule
-        places.now (map coded_of rest.items) forest.new (map task_of work.new.items)) }
-{
-    let next = add(forest, work, width, rest)?;
-    forest.write_try(node, rule, places, next)?;
-    Ok(())
-}
-
-impl Parts {
-    /// The register of the first code that asks for a symbol.
-    fn asked_first(&self, codes: &[Code]) -> Option<u32>
-        requires { All (IsCode self.now) codes.now }
-        ensures { (n : _) → All (λ c. c.register < n) codes.now → IfSome result (λ r. r < n) }
+impl Growth {
+    /// One node more, which waits.
+    fn add(&mut self, width: u32, rows: Vec<CodeRow>) -> Result<u32, AllocError>
+        ensures { IfOk result (Adds self.old.forest (tasks_of self.old) self.new.forest
+            (tasks_of self.new) width (map coded_of rows.items)) }
     {
-        for code in codes {
-            if let Meaning::Symbol(_) = self.parts[code.part as usize].meaning {
-                return Some(code.register);
-            }
-        }
-        None
+        let node = self.forest.add_node()?;
+        self.pending.push(Pending { node, width, rows })?;
+        Ok(node)
     }
 
-    /// Marks the symbols near the first one that a row asks a register for.
-    fn mark(
-        &self,
-        links: &Links,
-        codes: &[Code],
-        register: u32,
-        most: u64,
-        marks: &mut Marks,
+    /// The first row at a node that waits, where nothing but its values is left to ask; the other
+    /// rows wait behind it.
+    fn write_leaf(
+        &mut self,
+        node: u32,
+        width: u32,
+        rule: u32,
+        places: &[Place],
+        rest: Vec<CodeRow>,
     ) -> Result<(), AllocError>
-        requires codes { All (IsCode self.now) codes.now }
-        requires marked { AreMarked marks.old }
-        ensures { IfOk result (λ u. HasMarks marks.new (length marks.old.marked.items)) }
+        requires { node < length self.old.forest.nodes.items }
+        ensures { IfOk result (λ u. TriesFirst self.old.forest (tasks_of self.old) node width rule
+            places.now (map coded_of rest.items) self.new.forest (tasks_of self.new)) }
     {
-        for code in codes {
-            if code.register == register {
-                if let Meaning::Symbol(number) = self.parts[code.part as usize].meaning {
-                    if is_near(links, &marks.symbols, number, most) {
-                        marks.mark(number)?;
-                    }
-                }
-            }
-        }
+        let next = self.add(width, rest)?;
+        self.forest.write_try(node, rule, places, next)?;
         Ok(())
     }
+}
 
-    /// Marks the symbols that rows ask a register for, of which those are left out that are too
-    /// far from the first one.
-    fn marks(
-        &self,
-        links: &Links,
-        rows: &[CodeRow],
-        register: u32,
-        marks: &mut Marks,
-    ) -> Result<(), AllocError>
-        requires codes { All (λ row. All (IsCode self.now) row.codes.items) rows.now }
-        requires marked { AreMarked marks.old }
-        ensures { IfOk result (λ u. HasMarks marks.new (length marks.old.marked.items)) }
+impl Work {
+    /// Nothing has grown so far, and none of so many symbols is marked.
+    pub(crate) fn new(alloc: Global, symbols: u32, fuel: u64) -> Result<Work, AllocError>
+        ensures nodes { IfOk result (λ w. w.growth.forest.nodes.items ≡ Fail ∷ []) }
+        ensures marks { IfOk result (λ w. HasMarks w.marks symbols) }
     {
-        marks.clear();
-        let most = (rows.len() as u64).saturating_mul(4).saturating_add(16);
-        for row in rows {
-            self.mark(links, &row.codes, register, most, marks)?;
-        }
-        Ok(())
+        let forest = Forest::new(alloc)?;
+        let marks = Marks::new(alloc, symbols)?;
+        let pending = Vec::new(alloc);
+        Ok(Work {
+            growth: Growth { forest, pending },
+            marks,
+            fuel,
+            most: 0,
+        })
     }
-
-    /// What a switch costs: a row comes into the share of the symbol that it asks for, and one that
-    /// asks for none is copied for each symbol.
-    fn cost(&self, rows: &[CodeRow], register: u32, symbols: u64) -> u64
-        requires { All (λ row. All (IsCode self.now) row.codes.items) rows.now }
-    {
-        let mut cost = 0u64;
-        for row in rows {
-            let size = 1 + row.codes.len() as u64;
-            let copies = match self.asked(&row.codes, register) {
-                Some(_) => 1,
-                None => symbols.saturating_add(1),
-            };
-            cost = cost
-                .saturating_add(size)
-                .saturating_add(size.saturating_mul(copies));
-        }
-        cost
-    }
-
-    /// Takes what a switch costs from the fuel, where that is no more than half of it.
-    fn pays(&self, rows: &[CodeRow], register: u32, symbols: u64, fuel: &mut u64) -> bool
-        requires { All (λ row. All (IsCode self.now) row.codes.items) rows.now }
-        ensures { fuel.new ≤ fuel.old }
-    {
-        let cost = self.cost(rows, register, symbols);
-        if cost > *fuel / 2 {
-            return false;
-        }
-        *fuel -= cost;
-        true
-    }
-}
-
-/// Whether a symbol's number in the bank is near that of the first one of some.
-fn is_near(links: &Links, symbols: &[u32], symbol: u32, most: u64) -> bool {
-    let Some(first) = symbols.first() else {
-        return true;
-    };
-    let numbers = links.symbols();
-    let (Some(a), Some(b)) = (numbers.get(*first as usize), numbers.get(symbol as usize)) else {
-        return false;
-    };
-    a.0.abs_diff(b.0) < most
-}
-
-/// The least number of some symbols in the bank.
-fn least(links: &Links, symbols: &[u32]) -> u64
-    requires { All (λ k. k < length links.now) symbols.now }
-    ensures { All (λ k. result ≤ number_at (numbers_of links.now) k) symbols.now }
-{
-    let mut low = u64::MAX;
-    for symbol in symbols {
-        low = low.min(links.symbol_of(*symbol).0);
-    }
-    low
-}
-
-/// The greater one of two numbers.
-fn greater(a: u64, b: u64) -> u64
-    ensures first { a ≤ result }
-    ensures second { b ≤ result }
-{
-    if a < b { b } else { a }
-}
-
-/// The greatest number of some symbols in the bank.
-fn greatest(links: &Links, symbols: &[u32]) -> u64
-    requires { All (λ k. k < length links.now) symbols.now }
-    ensures { All (λ k. number_at (numbers_of links.now) k ≤ result) symbols.now }
-{
-    let mut high = 0;
-    for symbol in symbols {
-        high = greater(high, links.symbol_of(*symbol).0);
-    }
-    high
-}
-
-/// No child for so many symbols.
-fn no_children(alloc: Global, span: u32) -> Result<Vec<Child>, AllocError>
-    ensures long { IfOk result (λ w. length w.items ≡ span) }
-    ensures none { IfOk result (λ w. (q : _) → (get_or w.items q no_child).node ≡ 0) }
-{
-    let window = vec![in alloc; Child { node: 0, count: 0 }; span as usize]?;
-    Ok(window)
-}
-
-/// How many numbers there are from the least to the greatest one.
-fn span(low: u64, high: u64) -> Option<u32>
-    ensures { IfSome result (λ n. low ≤ high → high < low + n) }
-{
-    if high < low {
-        return Some(0);
-    }
-    let numbers = high - low;
-    if numbers >= u32::MAX as u64 {
-        return None;
-    }
-    Some(numbers as u32 + 1)
-}
-
-/// The window of some symbols' numbers in the bank; none where it would be too long.
-fn window_of(links: &Links, symbols: &[u32]) -> Option<Window>
-    requires { All (λ k. k < length links.now) symbols.now }
-    ensures { IfSome result
-        (λ w. Covers (numbers_of links.now) symbols.now w.low w.span) }
-{
-    let low = least(links, symbols);
-    let span = span(low, greatest(links, symbols))?;
-    Some(Window { low, span })
-}
-
-/// How many pairs of a row's codes are compared at the cost of copying a row.
-const COMPARED_FOR_ONE: u64 = 64;
-
-/// What a look at the first row costs: the other rows are moved, and each of its variables is
-/// compared with those before it.
-fn look(rows: &[CodeRow]) -> u64 {
-    let codes = match rows.first() {
-        Some(row) => row.codes.len() as u64,
-        None => 0,
-    };
-    (rows.len() as u64).saturating_add(codes.saturating_mul(codes) / COMPARED_FOR_ONE)
 }
 
 /// The most nodes that a symbol's tree may have.
 const MOST_NODES: usize = 65_536;
 
-/// What trees grow from: a specification, its symbols in a bank, and the parts of its left sides.
+/// What trees grow from: a specification, its symbols in a bank, its left sides, and the rules of
+/// each symbol.
 #[derive(Clone, Copy)]
-pub struct Grower<'a> {
-    pub alloc: Global,
-    pub checked: &'a Checked,
-    pub links: &'a Links,
-    pub parts: &'a Parts,
+pub(crate) struct Grower<'a> {
+    pub(crate) alloc: Global,
+    pub(crate) checked: &'a Checked,
+    pub(crate) links: &'a Links,
+    pub(crate) left: &'a LeftParts,
+    pub(crate) chains: &'a Chains,
 }
 
 impl Grower<'_> {
     /// A node for the symbol of each share, in a window of the symbols' numbers in the bank.
-    fn branch(
+    fn add_children(
         &self,
         mut shares: Vec<Share>,
         width: u32,
-        low: u64,
-        span: u32,
-        forest: &mut Forest,
-        work: &mut Vec<Pending>,
+        window: Window,
+        growth: &mut Growth,
     ) -> Result<Vec<Child>, AllocError>
+        requires ready { IsReady self.now }
         requires declared { All
             (λ k. k < length (symbols self.now.checked.now.spec)) (symbols_of shares.items) }
-        requires linked { length self.now.links.now ≡ length (symbols self.now.checked.now.spec) }
         requires covers { Covers (numbers_of self.now.links.now)
-            (symbols_of shares.items) low span }
-        requires ground { IsGround self.now.checked.now.spec (numbers_of self.now.links.now)
-            self.now.parts.now }
-        ensures long { IfOk result (λ w. length w.items ≡ span) }
+            (symbols_of shares.items) window.low window.span }
+        ensures long { IfOk result (λ w. length w.items ≡ window.span) }
         ensures longer { IfOk result
-            (λ w. length forest.old.nodes.items ≤ length forest.new.nodes.items) }
+            (λ w. length growth.old.forest.nodes.items ≤ length growth.new.forest.nodes.items) }
         ensures branches { IfOk result (λ w. (register : _) (coded : _) → AreShares
-            self.now.parts.now register width (symbols_of shares.items) coded shares.items
+            self.now.left.now.parts register width (symbols_of shares.items) coded shares.items
             → BranchesOut self.now.checked.now.spec (numbers_of self.now.links.now)
-            self.now.parts.now forest.old (map task_of work.old.items) width coded
-            forest.new (map task_of work.new.items) register low
+            self.now.left.now.parts growth.old.forest (tasks_of growth.old) width coded
+            growth.new.forest (tasks_of growth.new) register window.low
             (symbols_of shares.items) w.items 0) }
     {
-        let mut window = no_children(self.alloc, span)?;
+        let mut children = no_children(self.alloc, window.span)?;
         while let Some(share) = shares.pop() {
             let Share { symbol, rows } = share;
             let count = self.checked.arity(symbol);
             if count > u32::MAX - width {
                 return Err(AllocError);
             }
-            let node = add(forest, work, width + count, rows)?;
-            let at = self.links.symbol_of(symbol).0 - low;
-            window[at as usize] = Child { node, count };
+            let node = growth.add(width + count, rows)?;
+            let at = self.links.symbol_of(symbol).0 - window.low;
+            children[at as usize] = Child { node, count };
         }
-        Ok(window)
+        Ok(children)
     }
 
-    /// A switch at a node that waits; what is left for the symbols that are marked waits behind it,
-    /// and so does what is left for each other tree.
-    fn branch_out(
+    /// A switch at a node that waits, over so many registers; what is left for the symbols that are
+    /// marked waits behind it, and so does what is left for each other tree.
+    fn branch(
         &self,
         rows: &[CodeRow],
-        fork: Fork,
-        forest: &mut Forest,
+        node: u32,
+        opening: Opening,
+        window: Window,
         work: &mut Work,
     ) -> Result<(), AllocError>
-        requires linked { length self.now.links.now ≡ length (symbols self.now.checked.now.spec) }
-        requires there { fork.node < length forest.old.nodes.items }
-        requires register { fork.register < fork.width }
-        requires codes { All (λ row. All (IsCode self.now.parts.now) row.codes.items) rows.now }
-        requires ground { IsGround self.now.checked.now.spec (numbers_of self.now.links.now)
-            self.now.parts.now }
-        requires marks { HasMarks work.old.marks (length (symbols self.now.checked.now.spec)) }
+        requires ready { IsReady self.now }
+        requires there { node < length work.old.growth.forest.nodes.items }
+        requires register { opening.register < opening.base }
+        requires codes { All (λ row. All (IsCode self.now.left.now.parts) row.codes.items)
+            rows.now }
+        requires marks { CanMark self.now work.old.marks }
         requires covers { Covers (numbers_of self.now.links.now) work.old.marks.symbols.items
-            fork.window.low fork.window.span }
-        requires room { fork.width + length self.now.parts.now.arguments.items < 2 ^ 32 }
+            window.low window.span }
+        requires room { opening.base + length self.now.left.now.parts.arguments.items < 2 ^ 32 }
         ensures marks { IfOk result (λ u. work.new.marks ≡ work.old.marks) }
         ensures fuel { IfOk result (λ u. work.new.fuel ≡ work.old.fuel) }
-        ensures steps { IfOk result (λ u. Steps self.now.checked.now.spec
-            (numbers_of self.now.links.now) self.now.parts.now forest.old ((record {
-              node = fork.node;
-              width = fork.width;
-              rows = map coded_of rows.now;
-            }) ∷ map task_of work.old.pending.items) forest.new
-            (map task_of work.new.pending.items)) }
+        ensures steps { IfOk result (λ u. StepsBy self.now work.old.growth.forest
+            (task node opening.base rows.now ∷ tasks_of work.old.growth)
+            work.new.growth.forest (tasks_of work.new.growth)) }
     {
-        let left = self
-            .parts
-            .keep_rows(self.alloc, rows, fork.register, &work.marks.marked)?;
-        let other = add(forest, &mut work.pending, fork.width, left)?;
-        let shares = self
-            .parts
-            .deal(self.alloc, rows, fork.register, fork.width, &work.marks)?;
-        let Window { low, span } = fork.window;
-        let children = self.branch(shares, fork.width, low, span, forest, &mut work.pending)?;
-        forest.write_switch(fork.node, fork.register, low, &children, other)?;
+        let parts = &self.left.parts;
+        let Opening { register, base } = opening;
+        let left = parts.keep_rows(self.alloc, rows, register, &work.marks.marked)?;
+        let other = work.growth.add(base, left)?;
+        let shares = parts.deal(self.alloc, rows, opening, &work.marks)?;
+        let children = self.add_children(shares, base, window, &mut work.growth)?;
+        let forest = &mut work.growth.forest;
+        forest.write_switch(node, register, window.low, &children, other)?;
         Ok(())
     }
 
     /// A switch at a node that waits, on the register of the first code that asks for a symbol.
     /// Nothing changes where there is none, where the switch would cost more than half of what is
-    /// left, or where there would be more than so many nodes.
+    /// left, or where there would be too many nodes.
     fn switch(
         &self,
         rows: &[CodeRow],
         node: u32,
         width: u32,
-        most: usize,
-        forest: &mut Forest,
         work: &mut Work,
     ) -> Result<bool, AllocError>
-        requires linked { length self.now.links.now ≡ length (symbols self.now.checked.now.spec) }
-        requires there { node < length forest.old.nodes.items }
+        requires ready { IsReady self.now }
+        requires there { node < length work.old.growth.forest.nodes.items }
         requires some { 0 < length rows.now }
-        requires codes { All (λ row. All (IsCode self.now.parts.now) row.codes.items) rows.now }
+        requires codes { All (λ row. All (IsCode self.now.left.now.parts) row.codes.items)
+            rows.now }
         requires registers { All (λ row. All (λ c. c.register < width) row.codes.items) rows.now }
-        requires ground { IsGround self.now.checked.now.spec (numbers_of self.now.links.now)
-            self.now.parts.now }
-        requires marks { HasMarks work.old.marks (length (symbols self.now.checked.now.spec)) }
-        ensures marks { IfOk result
-            (λ goes. HasMarks work.new.marks (length (symbols self.now.checked.now.spec))) }
+        requires marks { CanMark self.now work.old.marks }
+        ensures marks { IfOk result (λ goes. CanMark self.now work.new.marks) }
         ensures fuel { IfOk result (λ goes. work.new.fuel ≤ work.old.fuel) }
-        ensures steps { IfOk result (StepsOrStays self.now.checked.now.spec
-            (numbers_of self.now.links.now) self.now.parts.now forest.old
-            ((record { node = node; width = width; rows = map coded_of rows.now }) ∷ map task_of
-            work.old.pending.items) forest.new (map task_of work.new.pending.items)) }
+        ensures steps { IfOk result (StepsOrStays self.now work.old.growth.forest
+            (task node width rows.now ∷ tasks_of work.old.growth) work.new.growth) }
     {
-        let Some(register) = self.parts.asked_first(&rows[0].codes) else {
+        let parts = &self.left.parts;
+        let Some(register) = parts.first_register(&rows[0].codes) else {
             return Ok(false);
         };
-        self.parts
-            .marks(self.links, rows, register, &mut work.marks)?;
+        parts.mark_rows(self.links, rows, register, &mut work.marks)?;
         let symbols = work.marks.symbols.len();
-        if symbols > most.saturating_sub(forest.nodes.len()) {
+        if symbols > work.most.saturating_sub(work.growth.forest.nodes.len()) {
             return Ok(false);
         }
-        if !self
-            .parts
-            .pays(rows, register, symbols as u64, &mut work.fuel)
-        {
+        if !parts.pay_switch(rows, register, symbols as u64, &mut work.fuel) {
             return Ok(false);
         }
         let Some(window) = window_of(self.links, &work.marks.symbols) else {
             return Ok(false);
         };
-        if self.parts.arguments.len() > (u32::MAX - width) as usize {
+        if parts.arguments.len() > (u32::MAX - width) as usize {
             return Ok(false);
         }
-        let fork = Fork {
-            node,
-            width,
-            register,
-            window,
-        };
-        self.branch_out(rows, fork, forest, work)?;
+        let base = width;
+        self.branch(rows, node, Opening { register, base }, window, work)?;
         Ok(true)
     }
 
@@ -444,68 +247,48 @@ impl Grower<'_> {
         mut rows: Vec<CodeRow>,
         node: u32,
         width: u32,
-        most: usize,
-        forest: &mut Forest,
         work: &mut Work,
     ) -> Result<bool, AllocError>
-        requires linked { length self.now.links.now ≡ length (symbols self.now.checked.now.spec) }
-        requires ground { IsGround self.now.checked.now.spec (numbers_of self.now.links.now)
-            self.now.parts.now }
-        requires can { CanStep self.now.checked.now.spec (numbers_of self.now.links.now)
-            self.now.parts.now forest.old ((record {
-              node = node;
-              width = width;
-              rows = map coded_of rows.items;
-            }) ∷ map task_of work.old.pending.items) }
-        requires marks { HasMarks work.old.marks (length (symbols self.now.checked.now.spec)) }
-        ensures marks { IfOk result
-            (λ goes. HasMarks work.new.marks (length (symbols self.now.checked.now.spec))) }
+        requires ready { IsReady self.now }
+        requires can { CanStep self.now work.old.growth.forest
+            (task node width rows.items ∷ tasks_of work.old.growth) }
+        requires marks { CanMark self.now work.old.marks }
+        ensures marks { IfOk result (λ goes. CanMark self.now work.new.marks) }
         ensures fuel { IfOk result (λ goes. work.new.fuel ≤ work.old.fuel) }
-        ensures steps { IfOk result (StepsOrStays self.now.checked.now.spec
-            (numbers_of self.now.links.now) self.now.parts.now forest.old
-            ((record { node = node; width = width; rows = map coded_of rows.items }) ∷ map task_of
-            work.old.pending.items) forest.new (map task_of work.new.pending.items)) }
+        ensures steps { IfOk result (StepsOrStays self.now work.old.growth.forest
+            (task node width rows.items ∷ tasks_of work.old.growth) work.new.growth) }
     {
         if rows.is_empty() {
-            forest.nodes[node as usize] = Node::Fail;
+            work.growth.forest.nodes[node as usize] = Node::Fail;
             return Ok(true);
         }
-        if let Some(places) = self.parts.places_of(self.alloc, &rows[0].codes)? {
+        let parts = &self.left.parts;
+        if let Some(places) = parts.places_of(self.alloc, &rows[0].codes)? {
             let rule = rows.remove(0).rule;
-            leaf(forest, &mut work.pending, node, width, rule, &places, rows)?;
+            work.growth.write_leaf(node, width, rule, &places, rows)?;
             return Ok(true);
         }
-        self.switch(&rows, node, width, most, forest, work)
+        self.switch(&rows, node, width, work)
     }
 
     /// Steps until no node waits; it is given up where they would cost more than there is fuel, or
-    /// where there are more than so many nodes.
-    pub fn grow(
-        &self,
-        most: usize,
-        forest: &mut Forest,
-        work: &mut Work,
-    ) -> Result<bool, AllocError>
-        requires linked { length self.now.links.now ≡ length (symbols self.now.checked.now.spec) }
-        requires ground { IsGround self.now.checked.now.spec (numbers_of self.now.links.now)
-            self.now.parts.now }
-        requires can { CanStep self.now.checked.now.spec (numbers_of self.now.links.now)
-            self.now.parts.now forest.old (map task_of work.old.pending.items) }
-        requires marks { HasMarks work.old.marks (length (symbols self.now.checked.now.spec)) }
-        ensures marks { IfOk result
-            (λ grown. HasMarks work.new.marks (length (symbols self.now.checked.now.spec))) }
-        ensures grows { IfOk result (GrowsOut self.now.checked.now.spec
-            (numbers_of self.now.links.now) self.now.parts.now forest.old
-            (map task_of work.old.pending.items) forest.new) }
+    /// where there are too many nodes.
+    fn grow(&self, work: &mut Work) -> Result<bool, AllocError>
+        requires ready { IsReady self.now }
+        requires can { CanStep self.now work.old.growth.forest (tasks_of work.old.growth) }
+        requires marks { CanMark self.now work.old.marks }
+        ensures marks { IfOk result (λ grown. CanMark self.now work.new.marks) }
+        ensures grows { IfOk result
+            (GrowsOut self.now work.old.growth work.new.growth.forest) }
     {
-        while let Some(pending) = work.pending.pop() {
-            let cost = look(&pending.rows);
-            if work.fuel <= cost || forest.nodes.len() > most {
+        while let Some(pending) = work.growth.pending.pop() {
+            let cost = look_cost(&pending.rows);
+            if work.fuel <= cost || work.growth.forest.nodes.len() > work.most {
                 return Ok(false);
             }
             work.fuel -= cost + 1;
             let Pending { node, width, rows } = pending;
-            if !self.step(rows, node, width, most, forest, work)? {
+            if !self.step(rows, node, width, work)? {
                 return Ok(false);
             }
         }
@@ -514,38 +297,33 @@ impl Grower<'_> {
 
     /// A tree that grows from rows: its root, or 0 where it would have too many nodes or would cost
     /// more than there is fuel; nothing is left of it then.
-    pub fn tree(
+    pub(crate) fn tree(
         &self,
         width: u32,
         rows: Vec<CodeRow>,
-        forest: &mut Forest,
         work: &mut Work,
     ) -> Result<u32, AllocError>
-        requires linked { length self.now.links.now ≡ length (symbols self.now.checked.now.spec) }
-        requires ground { IsGround self.now.checked.now.spec (numbers_of self.now.links.now)
-            self.now.parts.now }
-        requires some { 0 < length forest.old.nodes.items }
-        requires can { CanGrow self.now.checked.now.spec (numbers_of self.now.links.now)
-            self.now.parts.now forest.old width (map coded_of rows.items) }
-        requires marks { HasMarks work.old.marks (length (symbols self.now.checked.now.spec)) }
-        ensures marks { IfOk result
-            (λ root. HasMarks work.new.marks (length (symbols self.now.checked.now.spec))) }
+        requires ready { IsReady self.now }
+        requires some { 0 < length work.old.growth.forest.nodes.items }
+        requires can { CanGrow self.now work.old.growth.forest width (map coded_of rows.items) }
+        requires marks { CanMark self.now work.old.marks }
+        ensures marks { IfOk result (λ root. CanMark self.now work.new.marks) }
         ensures tree { IfOk result (HasTree self.now.checked.now.spec
-            (numbers_of self.now.links.now) self.now.parts.now forest.old width
-            (map coded_of rows.items) forest.new) }
+            (numbers_of self.now.links.now) self.now.left.now.parts work.old.growth.forest width
+            (map coded_of rows.items) work.new.growth.forest) }
     {
-        let nodes = forest.nodes.len();
-        let places = forest.places.len();
-        let children = forest.children.len();
-        work.pending.clear();
-        let most = nodes.saturating_add(MOST_NODES);
-        let root = add(forest, &mut work.pending, width, rows)?;
-        if self.grow(most, forest, work)? {
+        let nodes = work.growth.forest.nodes.len();
+        let places = work.growth.forest.places.len();
+        let children = work.growth.forest.children.len();
+        work.growth.pending.clear();
+        work.most = nodes.saturating_add(MOST_NODES);
+        let root = work.growth.add(width, rows)?;
+        if self.grow(work)? {
             return Ok(root);
         }
-        forest.nodes.truncate(nodes);
-        forest.places.truncate(places);
-        forest.children.truncate(children);
+        work.growth.forest.nodes.truncate(nodes);
+        work.growth.forest.places.truncate(places);
+        work.growth.forest.children.truncate(children);
         Ok(0)
     }
 }

@@ -16,12 +16,11 @@ mod push;
 mod rows;
 mod settle;
 mod shares;
+mod switch;
 mod trees;
 mod write;
 
 pub use forest::{Child, Forest, Hit, Node, Place, Values};
-pub use grow::{Grower, Pending, Work};
-pub use marks::Marks;
 pub use matcher::{LeftSide, Matcher};
 pub use parts::{Code, CodeRow, Part, Parts};
 pub use places::Places;

@@ -1,7 +1,7 @@
 //! Symbols that are marked.
 
 ghost use Rattle.std.specs.Prelude.{◌≡◌, IfOk, length};
-ghost use Rattle.rec_match.specs.Marking.{AreMarked, IsRank};
+ghost use Rattle.rec_match.specs.Inner.Marking.{AreMarked, IsRank};
 
 use std::alloc::{AllocError, Global};
 

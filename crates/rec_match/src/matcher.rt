@@ -55,12 +55,12 @@ impl Matcher {
         ensures held { IfOk result (λ found. AllHeld (B.store bank.now) work.new.items) }
         ensures behind { Extends work.old.items work.new.items }
     {
-        self.find_on(bank, symbol, count, at, work)
+        self.find_rule(bank, symbol, count, at, work)
     }
 
-    /// The same.
+    /// The same without the stacks that are not used.
     #[inline(always)]
-    pub(crate) fn find_on<B: TermBank>(
+    pub(crate) fn find_rule<B: TermBank>(
         &self,
         bank: &B,
         symbol: u32,

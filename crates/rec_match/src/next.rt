@@ -22,7 +22,7 @@ struct Call {
 
 impl Matcher {
     /// The first rule at or after a number among those of a symbol.
-    fn first_from(&self, symbol: u32, from: u32) -> u32
+    fn first_rule(&self, symbol: u32, from: u32) -> u32
         requires symbol { symbol < length self.now.heads.items }
         requires later { AreLater self.now }
         ensures { Reaches self.now symbol from result }
@@ -56,8 +56,8 @@ impl Matcher {
     {
         let count = bank.arity_of(call.symbol);
         push_arguments(bank, bank.args(call.term), count, work)?;
-        let at = self.first_from(call.number, from);
-        let Some(hit) = self.find_on(bank, call.number, count, at, work)? else {
+        let at = self.first_rule(call.number, from);
+        let Some(hit) = self.find_rule(bank, call.number, count, at, work)? else {
             return Ok(None);
         };
         self.settle(hit.values, 0, count as usize, work)?;

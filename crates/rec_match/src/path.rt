@@ -2,15 +2,20 @@
 //! own, and all other trees lead to no rule.
 
 ghost use Rattle.std.specs.Prelude.{◌≡◌, ◌+◌, ◌<◌, ◌^◌, ◌++◌, ◌∷◌, ◌≤◌, []};
-ghost use Rattle.std.specs.Prelude.{All, IfOk, length, map, reverse, slice_range};
-ghost use Rattle.rec_sorts.specs.Lookup.{symbols};
+ghost use Rattle.std.specs.Prelude.{IfOk, length, map, reverse, slice_range};
 ghost use Rattle.rec_sorts.specs.Numbering.{variable_count};
-ghost use Rattle.rec_sorts.specs.declared.letters.Meaning.TheVariants.{Symbol};
-ghost use Rattle.rec_match.specs.Leaves.{IsValue};
-ghost use Rattle.rec_match.specs.Parts.{part_at, coded_of, numbered_from, IsCode};
-ghost use Rattle.rec_match.specs.Inner.Paths.{waiting, path_task, AreTrees};
+ghost use Rattle.rec_match.specs.Inner.Tasks.{IsReady, StepsBy, CanStep, CanGrow};
+ghost use Rattle.rec_match.specs.Inner.Paths.{
+  waiting,
+  path_task,
+  left_to_ask,
+  AsksFor,
+  AreValues,
+  AreTrees,
+};
+ghost use Rattle.rec_match.specs.Matching.{numbers_of};
+ghost use Rattle.rec_match.specs.Parts.{coded_of, numbered_from};
 ghost use Rattle.rec_match.specs.Placed.{ArePlaces};
-ghost use Rattle.rec_match.specs.Tasks.{numbers_of, IsGround, Steps, CanStep, CanGrow};
 
 use crate::forest::{Child, Forest};
 use crate::grow::Grower;
@@ -55,8 +60,8 @@ impl Parts {
         requires ordered { part.from ≤ part.to }
         requires within { part.to ≤ length self.now.arguments.items }
         requires room { base + length self.now.arguments.items < 2 ^ 32 }
-        ensures { IfOk result (λ u. rest.new.items ≡ rest.old.items
-            ++ reverse (numbered_from base (slice_range self.now.arguments.items part.from part.to))) }
+        ensures { IfOk result (λ u. rest.new.items ≡ rest.old.items ++ reverse
+            (numbered_from base (slice_range self.now.arguments.items part.from part.to))) }
     {
         let mut codes = Vec::new(alloc);
         let arguments = &self.arguments[part.from as usize..part.to as usize];
@@ -76,17 +81,11 @@ impl Grower<'_> {
         path: &mut Path,
         forest: &mut Forest,
     ) -> Result<(), AllocError>
-        requires linked { length self.now.links.now ≡ length (symbols self.now.checked.now.spec) }
-        requires ground { IsGround self.now.checked.now.spec (numbers_of self.now.links.now)
-            self.now.parts.now }
-        requires code { IsCode self.now.parts.now code }
-        requires symbol { symbol < length (symbols self.now.checked.now.spec) }
-        requires asks { (part_at self.now.parts.now code.part).meaning ≡ Symbol symbol }
-        requires can { CanStep self.now.checked.now.spec (numbers_of self.now.links.now)
-            self.now.parts.now forest.old
+        requires ready { IsReady self.now }
+        requires asks { AsksFor self.now code symbol }
+        requires can { CanStep self.now forest.old
             (waiting path.old (code ∷ reverse path.old.rest.items) ∷ []) }
-        ensures steps { IfOk result (λ u. Steps self.now.checked.now.spec
-            (numbers_of self.now.links.now) self.now.parts.now forest.old
+        ensures steps { IfOk result (λ u. StepsBy self.now forest.old
             (waiting path.old (code ∷ reverse path.old.rest.items) ∷ []) forest.new
             (path_task path.new ∷ [])) }
         ensures values { IfOk result (λ u. path.new.values ≡ path.old.values) }
@@ -94,15 +93,15 @@ impl Grower<'_> {
             (λ u. length forest.new.nodes.items ≡ length forest.old.nodes.items + 2) }
         ensures few { IfOk result (λ u. length forest.old.nodes.items < 2 ^ 32) }
     {
+        let parts = &self.left.parts;
         let count = self.checked.arity(symbol);
         if count > u32::MAX - path.width
-            || self.parts.arguments.len() > (u32::MAX - path.width) as usize
+            || parts.arguments.len() > (u32::MAX - path.width) as usize
         {
             return Err(AllocError);
         }
-        let part = self.parts.parts[code.part as usize];
-        self.parts
-            .push_asked(self.alloc, part, path.width, &mut path.rest)?;
+        let part = parts.parts[code.part as usize];
+        parts.push_asked(self.alloc, part, path.width, &mut path.rest)?;
         let other = forest.add_node()?;
         let node = forest.add_node()?;
         let low = self.links.symbol_of(symbol).0;
@@ -118,48 +117,58 @@ impl Grower<'_> {
         Ok(())
     }
 
+    /// What comes first of what is left is asked for; a variable gives a value.
+    fn ask(&self, code: Code, path: &mut Path, forest: &mut Forest) -> Result<(), AllocError>
+        requires ready { IsReady self.now }
+        requires can { CanStep self.now forest.old
+            (waiting path.old (code ∷ reverse path.old.rest.items) ∷ []) }
+        requires values { AreValues self.now path.old.values.items }
+        ensures steps { IfOk result (λ u. StepsBy self.now forest.old
+            (waiting path.old (code ∷ reverse path.old.rest.items) ∷ []) forest.new
+            (path_task path.new ∷ [])) }
+        ensures values { IfOk result (λ u. AreValues self.now path.new.values.items) }
+        ensures less { IfOk result (λ u. left_to_ask path.new forest.new
+            ≤ left_to_ask path.old forest.old) }
+    {
+        match self.left.parts.parts[code.part as usize].meaning {
+            Meaning::Variable(_) => {
+                path.values.push(code)?;
+                Ok(())
+            }
+            Meaning::Symbol(symbol) => self.pass(code, symbol, path, forest),
+        }
+    }
+
     /// All that is left to ask is asked for.
-    fn pass_all(&self, path: &mut Path, forest: &mut Forest) -> Result<(), AllocError>
-        requires linked { length self.now.links.now ≡ length (symbols self.now.checked.now.spec) }
-        requires ground { IsGround self.now.checked.now.spec (numbers_of self.now.links.now)
-            self.now.parts.now }
-        requires can { CanStep self.now.checked.now.spec (numbers_of self.now.links.now)
-            self.now.parts.now forest.old (path_task path.old ∷ []) }
+    fn ask_all(&self, path: &mut Path, forest: &mut Forest) -> Result<(), AllocError>
+        requires ready { IsReady self.now }
+        requires can { CanStep self.now forest.old (path_task path.old ∷ []) }
         requires none { path.old.values.items ≡ [] }
-        ensures steps { IfOk result (λ u. Steps self.now.checked.now.spec
-            (numbers_of self.now.links.now) self.now.parts.now forest.old (path_task path.old ∷ [])
+        ensures steps { IfOk result (λ u. StepsBy self.now forest.old (path_task path.old ∷ [])
             forest.new (path_task path.new ∷ [])) }
         ensures done { IfOk result (λ u. path.new.rest.items ≡ []) }
-        ensures values { IfOk result (λ u. All (λ c. IsValue
-            (part_at self.now.parts.now c.part).meaning (variable_count self.now.checked.now.spec))
-            path.new.values.items) }
+        ensures values { IfOk result (λ u. AreValues self.now path.new.values.items) }
     {
         while let Some(code) = path.rest.pop() {
-            match self.parts.parts[code.part as usize].meaning {
-                Meaning::Variable(_) => path.values.push(code)?,
-                Meaning::Symbol(symbol) => self.pass(code, symbol, path, forest)?,
-            }
+            self.ask(code, path, forest)?;
         }
         Ok(())
     }
 
     /// The rule stands at the node that waits, where nothing but values is left to ask.
     fn end(&self, path: &Path, forest: &mut Forest, given: &mut Places) -> Result<(), AllocError>
-        requires ground { IsGround self.now.checked.now.spec (numbers_of self.now.links.now)
-            self.now.parts.now }
-        requires can { CanStep self.now.checked.now.spec (numbers_of self.now.links.now)
-            self.now.parts.now forest.old (path_task path.now ∷ []) }
+        requires ready { IsReady self.now }
+        requires can { CanStep self.now forest.old (path_task path.now ∷ []) }
         requires done { path.now.rest.items ≡ [] }
-        requires values { All (λ c. IsValue (part_at self.now.parts.now c.part).meaning
-            (variable_count self.now.checked.now.spec)) path.now.values.items }
+        requires values { AreValues self.now path.now.values.items }
         requires given { ArePlaces [] (variable_count self.now.checked.now.spec) given.old }
-        ensures steps { IfOk result (λ u. Steps self.now.checked.now.spec
-            (numbers_of self.now.links.now) self.now.parts.now forest.old (path_task path.now ∷ [])
+        ensures steps { IfOk result (λ u. StepsBy self.now forest.old (path_task path.now ∷ [])
             forest.new []) }
         ensures given { IfOk result
             (λ u. ArePlaces [] (variable_count self.now.checked.now.spec) given.new) }
     {
-        let places = self.parts.value_places(self.alloc, &path.values, given)?;
+        let parts = &self.left.parts;
+        let places = parts.value_places(self.alloc, &path.values, given)?;
         let next = forest.add_node()?;
         forest.write_try(path.node, path.rule, &places, next)?;
         Ok(())
@@ -173,14 +182,11 @@ impl Grower<'_> {
         forest: &mut Forest,
         given: &mut Places,
     ) -> Result<u32, AllocError>
-        requires linked { length self.now.links.now ≡ length (symbols self.now.checked.now.spec) }
-        requires ground { IsGround self.now.checked.now.spec (numbers_of self.now.links.now)
-            self.now.parts.now }
-        requires can { CanGrow self.now.checked.now.spec (numbers_of self.now.links.now)
-            self.now.parts.now forest.old width (coded_of row.now ∷ []) }
+        requires ready { IsReady self.now }
+        requires can { CanGrow self.now forest.old width (coded_of row.now ∷ []) }
         requires given { ArePlaces [] (variable_count self.now.checked.now.spec) given.old }
         ensures tree { IfOk result (λ root. AreTrees self.now.checked.now.spec
-            (numbers_of self.now.links.now) self.now.parts.now forest.old width
+            (numbers_of self.now.links.now) self.now.left.now.parts forest.old width
             (coded_of row.now ∷ []) forest.new (root ∷ [])) }
         ensures given { IfOk result
             (λ root. ArePlaces [] (variable_count self.now.checked.now.spec) given.new) }
@@ -195,7 +201,7 @@ impl Grower<'_> {
             values: Vec::new(self.alloc),
             rest,
         };
-        self.pass_all(&mut path, forest)?;
+        self.ask_all(&mut path, forest)?;
         self.end(&path, forest, given)?;
         Ok(root)
     }
@@ -207,13 +213,10 @@ impl Grower<'_> {
         rows: &[CodeRow],
         forest: &mut Forest,
     ) -> Result<Vec<u32>, AllocError>
-        requires linked { length self.now.links.now ≡ length (symbols self.now.checked.now.spec) }
-        requires ground { IsGround self.now.checked.now.spec (numbers_of self.now.links.now)
-            self.now.parts.now }
-        requires can { CanGrow self.now.checked.now.spec (numbers_of self.now.links.now)
-            self.now.parts.now forest.old width (map coded_of rows.now) }
+        requires ready { IsReady self.now }
+        requires can { CanGrow self.now forest.old width (map coded_of rows.now) }
         ensures { IfOk result (λ roots. AreTrees self.now.checked.now.spec
-            (numbers_of self.now.links.now) self.now.parts.now forest.old width
+            (numbers_of self.now.links.now) self.now.left.now.parts forest.old width
             (map coded_of rows.now) forest.new roots.items) }
     {
         let mut given = Places::new(self.alloc, self.checked.variables())?;

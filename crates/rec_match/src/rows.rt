@@ -4,11 +4,11 @@ ghost use Rattle.std.specs.Prelude.{◌≡◌, ◌<◌, IfOk, length, map};
 ghost use Rattle.rec_sorts.specs.Lookup.{symbols};
 ghost use Rattle.rec_sorts.specs.Numbering.{name_of, arity_of};
 ghost use Rattle.rec_sorts.specs.declared.letters.Meaning.TheVariants.{Symbol};
-ghost use Rattle.rec_match.specs.Parts.{arguments_at, coded_of, numbered_from};
+ghost use Rattle.rec_match.specs.Parts.{arguments_at, coded_of, numbered_from, IsWhole};
 ghost use Rattle.rec_match.specs.Pushed.{AreLeftParts};
 ghost use Rattle.rec_match.specs.Inner.Running.{root_rows};
 ghost use Rattle.rec_match.specs.Inner.Starting.{ChainsRules};
-ghost use Rattle.rec_match.specs.Tasks.{AreLeft, IsWhole};
+ghost use Rattle.rec_match.specs.Inner.Tasks.{AreLeft};
 
 use crate::chain::Chains;
 use crate::parts::{Code, CodeRow, Parts, push_from};

@@ -2,7 +2,7 @@
 
 ghost use Rattle.std.specs.Prelude.{◌≡◌, ◌≢◌, ◌+◌, ◌<◌, ◌^◌, [], All, IfOk, IfSome, None, length};
 ghost use Rattle.std.specs.Prelude.{map};
-ghost use Rattle.rec_match.specs.Marking.{AreMarked};
+ghost use Rattle.rec_match.specs.Inner.Marking.{AreMarked};
 ghost use Rattle.rec_match.specs.Parts.{coded_of, opened_codes, IsCode};
 ghost use Rattle.rec_match.specs.Inner.Shares.{symbols_of, AreShares, AddsRow, DealsRow};
 
@@ -16,6 +16,14 @@ use std::alloc::{AllocError, Global};
 pub(crate) struct Share {
     pub(crate) symbol: u32,
     pub(crate) rows: Vec<CodeRow>,
+}
+
+/// A register that is known to be an application of a symbol, and the first one of those for its
+/// arguments.
+#[derive(Clone, Copy)]
+pub(crate) struct Opening {
+    pub(crate) register: u32,
+    pub(crate) base: u32,
 }
 
 /// A share for each of some symbols, with no row so far.
@@ -36,7 +44,7 @@ fn empty_shares(alloc: Global, symbols: &[u32]) -> Result<Vec<Share>, AllocError
 impl Parts {
     /// The first symbol that codes ask a register for; they are refused where it is an application
     /// of another one.
-    pub(crate) fn asked(&self, codes: &[Code], register: u32) -> Option<u32>
+    pub(crate) fn first_symbol(&self, codes: &[Code], register: u32) -> Option<u32>
         requires { All (IsCode self.now) codes.now }
         ensures { IfSome result (λ k. (symbol base : _) → k ≢ symbol
             → opened_codes self.now register symbol base codes.now ≡ None) }
@@ -56,17 +64,22 @@ impl Parts {
         &self,
         alloc: Global,
         row: &CodeRow,
-        register: u32,
-        base: u32,
+        opening: Opening,
         share: &mut Share,
     ) -> Result<(), AllocError>
         requires codes { All (IsCode self.now) row.now.codes.items }
-        requires room { base + length self.now.arguments.items < 2 ^ 32 }
-        ensures { IfOk result
-            (λ u. AddsRow self.now register base (coded_of row.now) share.old share.new) }
+        requires room { opening.base + length self.now.arguments.items < 2 ^ 32 }
+        ensures { IfOk result (λ u. AddsRow self.now opening.register opening.base
+            (coded_of row.now) share.old share.new) }
     {
         let mut codes = Vec::new(alloc);
-        if self.open(&row.codes, register, share.symbol, base, &mut codes)? {
+        if self.open(
+            &row.codes,
+            opening.register,
+            share.symbol,
+            opening.base,
+            &mut codes,
+        )? {
             share.rows.push(CodeRow {
                 rule: row.rule,
                 codes,
@@ -80,17 +93,16 @@ impl Parts {
         &self,
         alloc: Global,
         row: &CodeRow,
-        register: u32,
-        base: u32,
+        opening: Opening,
         shares: &mut [Share],
     ) -> Result<(), AllocError>
         requires codes { All (IsCode self.now) row.now.codes.items }
-        requires room { base + length self.now.arguments.items < 2 ^ 32 }
-        ensures { IfOk result
-            (λ u. DealsRow self.now register base (coded_of row.now) shares.old shares.new) }
+        requires room { opening.base + length self.now.arguments.items < 2 ^ 32 }
+        ensures { IfOk result (λ u. DealsRow self.now opening.register opening.base
+            (coded_of row.now) shares.old shares.new) }
     {
         for i in 0..shares.len() {
-            self.push_opened(alloc, row, register, base, &mut shares[i])?;
+            self.push_opened(alloc, row, opening, &mut shares[i])?;
         }
         Ok(())
     }
@@ -101,47 +113,45 @@ impl Parts {
         &self,
         alloc: Global,
         row: &CodeRow,
-        register: u32,
-        base: u32,
+        opening: Opening,
         marks: &Marks,
         shares: &mut [Share],
     ) -> Result<(), AllocError>
         requires codes { All (IsCode self.now) row.now.codes.items }
-        requires room { base + length self.now.arguments.items < 2 ^ 32 }
+        requires room { opening.base + length self.now.arguments.items < 2 ^ 32 }
         requires marked { AreMarked marks.now }
         requires shares { symbols_of shares.old ≡ marks.now.symbols.items }
-        ensures { IfOk result
-            (λ u. DealsRow self.now register base (coded_of row.now) shares.old shares.new) }
+        ensures { IfOk result (λ u. DealsRow self.now opening.register opening.base
+            (coded_of row.now) shares.old shares.new) }
     {
-        let Some(symbol) = self.asked(&row.codes, register) else {
-            return self.push_to_each(alloc, row, register, base, shares);
+        let Some(symbol) = self.first_symbol(&row.codes, opening.register) else {
+            return self.push_to_each(alloc, row, opening, shares);
         };
         let Some(rank) = marks.rank(symbol) else {
             return Ok(());
         };
-        self.push_opened(alloc, row, register, base, &mut shares[rank as usize])?;
+        self.push_opened(alloc, row, opening, &mut shares[rank as usize])?;
         Ok(())
     }
 
     /// The rows that are left for each symbol that is marked, where a register is known to be an
-    /// application of it, whose arguments stand in the registers from one on.
+    /// application of it.
     pub(crate) fn deal(
         &self,
         alloc: Global,
         rows: &[CodeRow],
-        register: u32,
-        base: u32,
+        opening: Opening,
         marks: &Marks,
     ) -> Result<Vec<Share>, AllocError>
         requires codes { All (λ row. All (IsCode self.now) row.codes.items) rows.now }
-        requires room { base + length self.now.arguments.items < 2 ^ 32 }
+        requires room { opening.base + length self.now.arguments.items < 2 ^ 32 }
         requires marked { AreMarked marks.now }
-        ensures { IfOk result (λ v. AreShares self.now register base marks.now.symbols.items
-            (map coded_of rows.now) v.items) }
+        ensures { IfOk result (λ v. AreShares self.now opening.register opening.base
+            marks.now.symbols.items (map coded_of rows.now) v.items) }
     {
         let mut shares = empty_shares(alloc, &marks.symbols)?;
         for row in rows {
-            self.deal_row(alloc, row, register, base, marks, &mut shares)?;
+            self.deal_row(alloc, row, opening, marks, &mut shares)?;
         }
         Ok(shares)
     }

@@ -2,7 +2,7 @@
 
 ghost use Rattle.std.specs.Prelude.{◌≡◌, ◌<◌, ◌^◌, All, IfOk, length, true};
 ghost use Rattle.rec_match.specs.Forests.{IsNew};
-ghost use Rattle.rec_match.specs.Tasks.{AddsNode, WritesTry, WritesSwitch};
+ghost use Rattle.rec_match.specs.Inner.Tasks.{AddsNode, WritesTry, WritesSwitch};
 
 use crate::forest::{Child, Forest, Node, Place};
 use std::alloc::AllocError;

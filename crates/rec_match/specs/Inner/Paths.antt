@@ -1,14 +1,18 @@
 -- Straight paths: trees for one rule, at whose nodes one row waits.
-use Rattle.std.specs.Prelude.{ℕ, List, [], ◌∷◌, ◌++◌, reverse}
+use Rattle.std.specs.Prelude.{ℕ, ◌≡◌, ◌+◌, ◌-◌, ◌*◌, ◌^◌, ◌<◌, List, [], ◌∷◌, ◌++◌, All, length, reverse}
 use Rattle.rec_syntax.specs.Syntax.{Spec}
-use Rattle.rec_sorts.specs.Numbering.{name_of, arity_of}
+use Rattle.rec_sorts.specs.Lookup.{symbols}
+use Rattle.rec_sorts.specs.Numbering.{name_of, arity_of, variable_count}
 use Rattle.rec_sorts.specs.declared.letters.Meaning.TheVariants.{Symbol}
-use Rattle.rec_match.specs.Growing.{State, StandFor}
-use Rattle.rec_match.specs.Parts.{Coded}
+use Rattle.rec_match.specs.Inner.Growing.{State, StandFor}
+use Rattle.rec_match.specs.Leaves.{IsValue}
+use Rattle.rec_match.specs.Parts.{part_at, IsCode, Coded}
 use Rattle.rec_match.specs.Rows.{Row}
 use Rattle.rec_match.specs.Inner.Running.{root_rows}
-use Rattle.rec_match.specs.Tasks.{Task, AreLeft, Growing, GoesOn}
+use Rattle.rec_match.specs.Inner.Tasks.{Task, AreLeft, Growing, GoesOn}
+use Rattle.rec_match.specs.Matching.{numbers_of}
 use Rattle.rec_match.specs.declared.forest.Forest.{Forest}
+use Rattle.rec_match.specs.declared.grow.Grower.{Grower}
 use Rattle.rec_match.specs.declared.parts.Code.{Code}
 use Rattle.rec_match.specs.declared.parts.Parts.{Parts}
 use Rattle.rec_match.specs.declared.path.Path.{Path}
@@ -24,6 +28,22 @@ waiting p left = record {
 abbrev pub path_task : Path → Task
 path_task p = waiting p (reverse p.rest.items)
 
+-- how much is left to ask: each symbol takes nodes, of which there are no more than have numbers
+abbrev pub left_to_ask : Path → Forest → ℕ
+left_to_ask p f = (2 ^ 33 - length f.nodes.items) * 2 ^ 64 + length p.rest.items
+
+-- a code asks for a symbol
+pub record AsksFor (g : Grower) (c : Code) (k : ℕ) : Type 0 where
+  pub code : IsCode g.left.now.parts c
+  pub declared : k < length (symbols g.checked.now.spec)
+  pub meaning : (part_at g.left.now.parts c.part).meaning ≡ Symbol k
+
+-- nothing but variables is to be asked of some codes
+abbrev pub AreValues : Grower → List Code → Type 0
+AreValues g cs = All
+    (λ (c : Code). IsValue (part_at g.left.now.parts c.part).meaning
+    (variable_count g.checked.now.spec)) cs
+
 -- nodes have grown on, and trees stand for rows
 pub record TreesGoOn (y : Spec) (ns : List ℕ) (ps : Parts) (f : Forest) (s : ℕ → State) (width : ℕ)
     (rows : List Row) (g : Forest) (roots : List ℕ) : Type 0 where
@@ -37,7 +57,10 @@ AreTrees y ns ps f width coded g roots = (s : ℕ → State) (rows : List Row)
     → TreesGoOn y ns ps f s width rows g roots
 
 -- trees have grown for the rules of a symbol
-abbrev pub AreTreesOf : Spec → List ℕ → Parts → Forest → ℕ → Forest → List ℕ → Type 0
-AreTreesOf y ns ps f k g roots = (s : ℕ → State) → Growing y ns ps f [] s
-    → TreesGoOn y ns ps f s (arity_of y k)
-    (root_rows (name_of y (Symbol k)) (arity_of y k) 0 y.rules) g roots
+abbrev pub AreTreesOf : Grower → Forest → ℕ → Forest → List ℕ → Type 0
+AreTreesOf g f k h roots = (s : ℕ → State)
+    → Growing g.checked.now.spec (numbers_of g.links.now) g.left.now.parts f [] s
+    → TreesGoOn g.checked.now.spec (numbers_of g.links.now) g.left.now.parts f s
+    (arity_of g.checked.now.spec k)
+    (root_rows (name_of g.checked.now.spec (Symbol k)) (arity_of g.checked.now.spec k) 0
+    g.checked.now.spec.rules) h roots

@@ -1,4 +1,4 @@
-use Rattle.std.proofs.Common.{arith, subst, ◌∙◌, ◌≡◌, length}
+use Rattle.std.proofs.Common.{arith, subst, ◌≡◌, length}
 use Rattle.rec_sorts.specs.Numbering.{IsLetterRule}
 use Rattle.rec_match.specs.Inner.Built.{AreSides}
 use Rattle.rec_match.proofs.LetterLemmas.{pair-long}
@@ -20,7 +20,7 @@ loop-rule-preserved c = record {
       let l = pair-long (IsLetterRule y) c.rules-rules.result.now y.rules c.rules-rules.ensures.letters in
       let t = c.loop-rule-test.true in
       sides-next y fs c.args.nexts.now c.loop-rule.sides.items c.push.new.self.items c.loop-rule.rule c.in_ok-side.field-0 (c.loop-rule.invariant.sides fs heads) c.in_ok-push.ensures.items c.in_ok-side.ensures.side
-      (c.in_ok-side.ensures.symbol ∙ one-head y c.rules-rules.ensures.kept _ _ _ (c.head-symbol.ensures no_rule) (heads.each c.loop-rule.rule no_rule (omega (arith, l, t))))
+      (one-head y c.rules-rules.ensures.kept _ _ _ (c.in_ok-side.ensures.side no_rule).is_head (heads.each c.loop-rule.rule no_rule (omega (arith, l, t))))
       c.in_ok-side.ensures.next);
 }
 

@@ -1,86 +1,28 @@
-use Rattle.std.proofs.Common.{sym, ap, subst, arith, ◌∙◌, ◌≡◌, ◌+◌, ◌-◌, length, map}
-use Rattle.std.specs.Prelude.{set, [], ◌∷◌}
-use Rattle.std.proofs.lemmas.List.{length-set, length-append, take_all}
-use Rattle.rec_match.specs.declared.forest.Node.TheVariants.{Fail}
-use Rattle.rec_match.specs.Forests.{number_at}
-use Rattle.rec_match.specs.Parts.{opened_codes, changed_codes}
-use Rattle.rec_match.specs.Inner.Shares.{symbols_of}
-use Rattle.rec_match.specs.Tasks.{numbers_of, Branched, BranchesOut, task_of, Adds}
-use Rattle.rec_match.proofs.BranchLemmas.{branched_none, branched_more, next_share, share_rows, number_is}
-use Rattle.rec_match.proofs.ShareLemmas.{symbols_long, popped_front}
+use Rattle.std.proofs.Common.{refl, sym, subst, ◌≡◌, length, map}
+use Rattle.rec_match.specs.Parts.{coded_of, kept_codes, changed_codes}
+use Rattle.rec_match.specs.Inner.Tasks.{tasks_of, Covers, Adds, BranchesOut, WritesSwitch}
+use Rattle.rec_match.specs.Matching.{numbers_of}
+use Rattle.rec_match.proofs.BranchLemmas.{switch_steps}
 use Rattle.rec_match.proofs.grow.Grower.branch.Goals as goal
 
-pub arity-count-requires : goal.arity-count-requires
-arity-count-requires c =
-    (next_share _ (numbers_of c.args.self.now.links.now) c.args.shares.items c.loop-share.shares.items c.pop.new.self.items c.in-Some.share c.args.low c.args.span c.loop-share.invariant.front c.in-Some.ensures.items c.requires.declared c.requires.covers).declared
-
-pub symbol_of-requires : goal.symbol_of-requires
-symbol_of-requires c =
-    let linked = c.requires.linked in
-    let declared = (next_share _ (numbers_of c.args.self.now.links.now) c.args.shares.items c.loop-share.shares.items c.pop.new.self.items c.in-Some.share c.args.low c.args.span c.loop-share.invariant.front c.in-Some.ensures.items c.requires.declared c.requires.covers).declared in
-    omega (arith, linked, declared)
-
-pub overflow_sub-at : goal.overflow_sub-at
-overflow_sub-at c =
-    let linked = c.requires.linked in
-    let next = next_share _ (numbers_of c.args.self.now.links.now) c.args.shares.items c.loop-share.shares.items c.pop.new.self.items c.in-Some.share c.args.low c.args.span c.loop-share.invariant.front c.in-Some.ensures.items c.requires.declared c.requires.covers in
-    let declared = next.declared in
-    let is = number_is c.args.self.now.links.now c.in-Some.share.symbol c.symbol_of.result (omega (arith, linked, declared)) c.symbol_of.ensures in
-    let low = next.from_low in
-    omega (arith, is, low)
-
-pub index_mut-requires : goal.index_mut-requires
-index_mut-requires c =
-    let linked = c.requires.linked in
-    let next = next_share _ (numbers_of c.args.self.now.links.now) c.args.shares.items c.loop-share.shares.items c.pop.new.self.items c.in-Some.share c.args.low c.args.span c.loop-share.invariant.front c.in-Some.ensures.items c.requires.declared c.requires.covers in
-    let declared = next.declared in
-    let is = number_is c.args.self.now.links.now c.in-Some.share.symbol c.symbol_of.result (omega (arith, linked, declared)) c.symbol_of.ensures in
-    let low = next.from_low in
-    let below = next.below in
-    let long = c.loop-share.invariant.long in
-    let v = c.loop-share.window.ok.0 in
-    omega (arith, is, low, below, long, v)
-
-pub loop-share-init : goal.loop-share-init
-loop-share-init c = record {
-  front = take_all (length c.args.shares.items) c.args.shares.items (omega arith);
-  long = c.in_ok-window.ensures.long;
-  longer = omega arith;
-  out = λ register coded shares n s grow.
-      subst (Branched c.args.self.now.checked.now.spec (numbers_of c.args.self.now.links.now) c.args.self.now.parts.now c.args.forest.now (map task_of c.args.work.now.items) s (record { node = n; width = c.args.width; rows = coded }) c.args.forest.now (map task_of c.args.work.now.items) register c.args.low (symbols_of c.args.shares.items) c.in_ok-window.window.items) (symbols_long c.args.shares.items)
-      (branched_none c.args.self.now.checked.now.spec (numbers_of c.args.self.now.links.now) c.args.self.now.parts.now c.args.forest.now _ s _ register c.args.low (symbols_of c.args.shares.items) c.in_ok-window.window.items c.in_ok-window.ensures.none grow);
-}
-
-pub loop-share-preserved : goal.loop-share-preserved
-loop-share-preserved c = record {
-  front = (popped_front c.args.shares.items c.loop-share.shares.items c.pop.new.self.items c.in-Some.share c.loop-share.invariant.front c.in-Some.ensures.items).front;
-  long = length-set c.loop-share.window.items (c.symbol_of.result.0 - c.args.low) (record { node = c.in_ok-node.node; count = c.arity-count.result }) ∙ c.loop-share.invariant.long;
-  longer = (let l = c.loop-share.invariant.longer in let m = ap length c.in_ok-node.ensures.nodes ∙ length-append c.loop-share.forest.nodes.items (Fail ∷ []) in omega (arith, l, m));
-  out = λ register coded shares n s grow.
-      (let linked = c.requires.linked in
-      let share = c.in-Some.share in
-      let k = share.symbol in
-      let rest = c.pop.new.self.items in
-      let popped = popped_front c.args.shares.items c.loop-share.shares.items rest share c.loop-share.invariant.front c.in-Some.ensures.items in
-      let next = next_share _ (numbers_of c.args.self.now.links.now) c.args.shares.items c.loop-share.shares.items rest share c.args.low c.args.span c.loop-share.invariant.front c.in-Some.ensures.items c.requires.declared c.requires.covers in
-      let declared = next.declared in
-      let is = number_is c.args.self.now.links.now k c.symbol_of.result (omega (arith, linked, declared)) c.symbol_of.ensures in
-      let low = next.from_low in
-      let below = next.below in
-      let long = c.loop-share.invariant.long in
-      let one = ap length c.in-Some.ensures.items ∙ length-append rest (share ∷ []) in
-      branched_more c.args.self.now.checked.now.spec (numbers_of c.args.self.now.links.now) c.args.self.now.parts.now c.requires.ground c.args.forest.now _ s n c.args.width coded c.loop-share.forest c.add.new.forest _ _ register c.args.low (symbols_of c.args.shares.items)
-      c.loop-share.window.items (set c.loop-share.window.items (c.symbol_of.result.0 - c.args.low) (record { node = c.in_ok-node.node; count = c.arity-count.result })) (length rest) (length c.loop-share.shares.items) k c.in_ok-node.node one declared next.at low (omega (arith, low, below, long)) (c.loop-share.invariant.out register coded shares n s grow)
-      (subst (λ m. Adds c.loop-share.forest (map task_of c.loop-share.work.items) c.add.new.forest (map task_of c.add.new.work.items) (c.args.width + m) (changed_codes (opened_codes c.args.self.now.parts.now register k c.args.width) coded) c.in_ok-node.node) c.arity-count.ensures
-      (subst (λ xs. Adds c.loop-share.forest (map task_of c.loop-share.work.items) c.add.new.forest (map task_of c.add.new.work.items) (c.args.width + c.arity-count.result) xs c.in_ok-node.node) (share_rows c.args.self.now.parts.now register c.args.width coded c.args.shares.items rest share shares popped) c.in_ok-node.ensures))
-      (ap (λ j. set c.loop-share.window.items (j - c.args.low) (record { node = c.in_ok-node.node; count = c.arity-count.result })) (sym is)
-      ∙ ap (λ m. set c.loop-share.window.items (number_at (numbers_of c.args.self.now.links.now) k - c.args.low) (record { node = c.in_ok-node.node; count = m })) c.arity-count.ensures));
-}
-
-pub returns-clause-branches : goal.returns-clause-branches
-returns-clause-branches c register coded shares =
-    let cases = c.in_default.ensures.cases.0 in
-    let v = c.loop-share.shares.ok.0 in
-    let none : length c.loop-share.shares.items ≡ 0 = omega (arith, cases, v) in
-    subst (BranchesOut c.args.self.now.checked.now.spec (numbers_of c.args.self.now.links.now) c.args.self.now.parts.now c.args.forest.now (map task_of c.args.work.now.items) c.args.width coded c.loop-share.forest (map task_of c.loop-share.work.items) register c.args.low (symbols_of c.args.shares.items) c.loop-share.window.items)
-    none (c.loop-share.invariant.out register coded shares)
+pub returns-clause-steps : goal.returns-clause-steps
+returns-clause-steps c =
+    let y = c.args.self.now.checked.now.spec in
+    let ns = numbers_of c.args.self.now.links.now in
+    let ps = c.args.self.now.left.now.parts in
+    let register = c.args.opening.register in
+    let width = c.args.opening.base in
+    let low = c.args.window.low in
+    let marks = c.args.work.now.marks.marked.items in
+    let asked = c.args.work.now.marks.symbols.items in
+    let window = c.in_ok-children.children.items in
+    let coded = map coded_of c.args.rows.now in
+    let shares = c.in_ok-shares.ensures in
+    let covers : Covers ns asked low (length window) = subst (Covers ns asked low) (sym c.in_ok-children.ensures.long) c.requires.covers in
+    let kept = subst (λ ms. map coded_of c.in_ok-left.left.items ≡ changed_codes (kept_codes ps register ms) coded) c.deref.ensures.value c.in_ok-left.ensures in
+    switch_steps y ns ps c.requires.ready.ground c.args.work.now.growth.forest c.add.new.self.forest c.add_children.new.growth.forest c.write_switch.new.self _ _ _ c.args.node width register low
+    coded c.in_ok-other.other marks asked window c.requires.marks.marked.listed covers c.requires.register
+    (subst (λ xs. Adds c.args.work.now.growth.forest (tasks_of c.args.work.now.growth) c.add.new.self.forest (tasks_of c.add.new.self) width xs c.in_ok-other.other) kept c.in_ok-other.ensures)
+    (subst (λ ks. BranchesOut y ns ps c.add.new.self.forest (tasks_of c.add.new.self) width coded c.add_children.new.growth.forest (tasks_of c.add_children.new.growth) register low ks window 0) shares.symbols
+    (c.in_ok-children.ensures.branches register coded (record { symbols = refl; each = shares.each })))
+    (subst (λ xs. WritesSwitch c.add_children.new.growth.forest c.write_switch.new.self c.args.node register low xs c.in_ok-other.other) c.deref-2.ensures.value c.in_ok-write_switch.ensures)

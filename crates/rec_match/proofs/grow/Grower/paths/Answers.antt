@@ -1,11 +1,12 @@
 use Rattle.std.proofs.Common.{refl, sym, ap, subst, arith, ◌∙◌, ◌≡◌, ◌∷◌, [], get_or, map}
 use Rattle.std.proofs.lemmas.List.{get_or-map, length-map, take_all}
-use Rattle.rec_match.specs.Growing.{StandFor}
+use Rattle.rec_match.specs.Inner.Growing.{StandFor}
 use Rattle.rec_match.specs.Parts.{coded_of}
 use Rattle.rec_match.specs.Inner.Paths.{TreesGoOn, AreTrees}
 use Rattle.rec_match.specs.Placed.{ArePlacesIn}
 use Rattle.rec_match.specs.Rows.{Row}
-use Rattle.rec_match.specs.Tasks.{numbers_of, AreLeft}
+use Rattle.rec_match.specs.Inner.Tasks.{AreLeft}
+use Rattle.rec_match.specs.Matching.{numbers_of}
 use Rattle.rec_match.proofs.PathLemmas.{left_at, left_long, trees_on}
 use Rattle.rec_match.proofs.TaskLemmas.{steps_none}
 use Rattle.rec_match.proofs.grow.Grower.paths.Goals as goal
@@ -17,7 +18,7 @@ pub loop-row-init : goal.loop-row-init
 loop-row-init c = record {
   given = subst (λ n. ArePlacesIn [] n c.in_ok-given.given.of.items) c.variables.ensures c.in_ok-given.ensures;
   trees = λ s rows grow left.
-      (let z = steps_none c.args.self.now.checked.now.spec (numbers_of c.args.self.now.links.now) c.args.self.now.parts.now c.args.forest.now [] s grow in
+      (let z = steps_none c.args.self.now.checked.now.spec (numbers_of c.args.self.now.links.now) c.args.self.now.left.now.parts c.args.forest.now [] s grow in
       record { goes = z; stand = subst (λ rs. StandFor c.args.forest.now z.states c.args.width rs []) (sym c.new-roots.ensures.items) refl });
 }
 
@@ -25,7 +26,7 @@ pub path-requires-clause-can : goal.path-requires-clause-can
 path-requires-clause-can c =
     let y = c.args.self.now.checked.now.spec in
     let ns = numbers_of c.args.self.now.links.now in
-    let ps = c.args.self.now.parts.now in
+    let ps = c.args.self.now.left.now.parts in
     let rows = c.args.rows.now in
     let i = c.loop-row.row-index in
     let item = c.row-item.result in
@@ -45,7 +46,7 @@ pub loop-row-preserved : goal.loop-row-preserved
 loop-row-preserved c =
     let y = c.args.self.now.checked.now.spec in
     let ns = numbers_of c.args.self.now.links.now in
-    let ps = c.args.self.now.parts.now in
+    let ps = c.args.self.now.left.now.parts in
     let rows = c.args.rows.now in
     let i = c.loop-row.row-index in
     let item = c.row-item.result in
@@ -63,7 +64,7 @@ pub returns : goal.returns
 returns c s bs grow left =
     let y = c.args.self.now.checked.now.spec in
     let ns = numbers_of c.args.self.now.links.now in
-    let ps = c.args.self.now.parts.now in
+    let ps = c.args.self.now.left.now.parts in
     let t = c.loop-row-test.false in
     let long = length-map c.args.rows.now coded_of in
     let rows = left_long y ns ps c.args.width (map coded_of c.args.rows.now) bs left in

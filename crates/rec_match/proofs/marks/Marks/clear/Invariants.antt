@@ -1,5 +1,5 @@
 use Rattle.std.proofs.Common.{◌≡◌, length}
-use Rattle.rec_match.specs.Marking.{AreMarked}
+use Rattle.rec_match.specs.Inner.Marking.{AreMarked}
 use Rattle.rec_match.proofs.marks.Marks.clear.Given as goal
 
 abbrev pub invariant-loop-symbol : goal.invariant-loop-symbol

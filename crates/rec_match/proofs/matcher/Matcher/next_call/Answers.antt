@@ -11,21 +11,21 @@ use Rattle.rec_match.proofs.SettleLemmas.{stand-above-fewer, above-within, settl
 use Rattle.rec_match.proofs.AnswerLemmas.{declared-number, all-later, is-call, can-find-there, arity-is, arguments-long, answer-none, answer-some}
 use Rattle.rec_match.proofs.matcher.Matcher.next_call.Goals as goal
 
-pub first_from-at-requires-clause-symbol : goal.first_from-at-requires-clause-symbol
-first_from-at-requires-clause-symbol g c = declared-number (g.B.TermBank.store c.args.bank.now) c.args.self.now c.args.call.symbol c.args.call.number c.requires.ready c.requires.number
+pub first_rule-at-requires-clause-symbol : goal.first_rule-at-requires-clause-symbol
+first_rule-at-requires-clause-symbol g c = declared-number (g.B.TermBank.store c.args.bank.now) c.args.self.now c.args.call.symbol c.args.call.number c.requires.ready c.requires.number
 
-pub first_from-at-requires-clause-later : goal.first_from-at-requires-clause-later
-first_from-at-requires-clause-later g c = all-later (g.B.TermBank.store c.args.bank.now) c.args.self.now c.requires.ready
+pub first_rule-at-requires-clause-later : goal.first_rule-at-requires-clause-later
+first_rule-at-requires-clause-later g c = all-later (g.B.TermBank.store c.args.bank.now) c.args.self.now c.requires.ready
 
-pub find_on-requires-clause-held : goal.find_on-requires-clause-held
-find_on-requires-clause-held g c =
+pub find_rule-requires-clause-held : goal.find_rule-requires-clause-held
+find_rule-requires-clause-held g c =
     let w = g.B.TermBank.store c.args.bank.now in
     let h = c.requires.appl in
     let pushed = c.in_ok-push_arguments.ensures.pushes h.args (argument_list w c.args.call.term c.args-2.result c.args.call.symbol h c.args-2.ensures) (subst (AllHeld w) (sym c.requires.work) (AllHeld-nil w)) in
     pushed.0
 
-pub find_on-requires-clause-can : goal.find_on-requires-clause-can
-find_on-requires-clause-can g c =
+pub find_rule-requires-clause-can : goal.find_rule-requires-clause-can
+find_rule-requires-clause-can g c =
     let w = g.B.TermBank.store c.args.bank.now in
     let m = c.args.self.now in
     let u = c.args.call.term in
@@ -33,7 +33,7 @@ find_on-requires-clause-can g c =
     let pushed = c.in_ok-push_arguments.ensures.pushes h.args (argument_list w u c.args-2.result c.args.call.symbol h c.args-2.ensures) (subst (AllHeld w) (sym c.requires.work) (AllHeld-nil w)) in
     let are : held_trees w c.push_arguments.new.registers.items ≡ to_list h.args = pushed.1 ∙ ap (λ xs. held_trees w xs ++ to_list h.args) c.requires.work in
     let call = is-call c.requires.ready.spec w m c.requires.ready.ready u c.args.call.symbol c.args.call.number h c.requires.number c.requires.bare in
-    can-find-there w m c.requires.ready u c.args.call.number c.arity_of-count.result c.args.from c.first_from-at.result h.args call (arity-is w u c.args.call.symbol h c.arity_of-count.result c.arity_of-count.ensures) c.first_from-at.ensures c.push_arguments.new.registers.items are
+    can-find-there w m c.requires.ready u c.args.call.number c.arity_of-count.result c.args.from c.first_rule-at.result h.args call (arity-is w u c.args.call.symbol h c.arity_of-count.result c.arity_of-count.ensures) c.first_rule-at.ensures c.push_arguments.new.registers.items are
 
 pub returns-in_default-clause-answers : goal.returns-in_default-clause-answers
 returns-in_default-clause-answers g c = λ y ready. (
@@ -45,8 +45,8 @@ returns-in_default-clause-answers g c = λ y ready. (
       let pushed = c.in_ok-push_arguments.ensures.pushes h.args (argument_list w u c.args-2.result c.args.call.symbol h c.args-2.ensures) (subst (AllHeld w) (sym c.requires.work) (AllHeld-nil w)) in
       let are : held_trees w c.push_arguments.new.registers.items ≡ to_list h.args = pushed.1 ∙ ap (λ xs. held_trees w xs ++ to_list h.args) c.requires.work in
       let call = is-call y w m ready u c.args.call.symbol c.args.call.number h c.requires.number c.requires.bare in
-      answer-none y w m ready u c.args.call.number c.args.from c.first_from-at.result h.args call c.first_from-at.ensures c.push_arguments.new.registers.items are []
-      (subst (FindsOn w m (length c.push_arguments.new.registers.items - c.arity_of-count.result) c.first_from-at.result c.push_arguments.new.registers.items c.find_on.new.work.items) c.in_default.is c.in_ok-hit.ensures.finds).0
+      answer-none y w m ready u c.args.call.number c.args.from c.first_rule-at.result h.args call c.first_rule-at.ensures c.push_arguments.new.registers.items are []
+      (subst (FindsOn w m (length c.push_arguments.new.registers.items - c.arity_of-count.result) c.first_rule-at.result c.push_arguments.new.registers.items c.find_rule.new.work.items) c.in_default.is c.in_ok-hit.ensures.finds).0
       ),
   c.requires.empty,
 )
@@ -62,9 +62,9 @@ settle-requires g c =
     let pushed = c.in_ok-push_arguments.ensures.pushes h.args (argument_list w c.args.call.term c.args-2.result c.args.call.symbol h c.args-2.ensures) (subst (AllHeld w) (sym c.requires.work) (AllHeld-nil w)) in
     let are : held_trees w registers ≡ to_list h.args = pushed.1 ∙ ap (λ xs. held_trees w xs ++ to_list h.args) c.requires.work in
     let long = arguments-long w h.args count registers (arity-is w c.args.call.term c.args.call.symbol h count c.arity_of-count.ensures) are in
-    let finds = subst (FindsOn w m (length registers - count) c.first_from-at.result registers c.find_on.new.work.items) c.in-Some.is c.in_ok-hit.ensures.finds in
+    let finds = subst (FindsOn w m (length registers - count) c.first_rule-at.result registers c.find_rule.new.work.items) c.in-Some.is c.in_ok-hit.ensures.finds in
     let zero : length registers - count ≡ 0 = omega (arith, long) in
-    record { there = subst (λ k. StandAbove m.forest k count c.find_on.new.work.items hit.values) zero (stand-above-fewer (length registers - count) c.find_on.new.work.items m.forest (length registers) count hit.values (omega (arith, long)) finds.0) }
+    record { there = subst (λ k. StandAbove m.forest k count c.find_rule.new.work.items hit.values) zero (stand-above-fewer (length registers - count) c.find_rule.new.work.items m.forest (length registers) count hit.values (omega (arith, long)) finds.0) }
 
 pub slice_bounds-extend_from_slice-count : goal.slice_bounds-extend_from_slice-count
 slice_bounds-extend_from_slice-count g c =
@@ -73,12 +73,12 @@ slice_bounds-extend_from_slice-count g c =
     let h = c.requires.appl in
     let hit = c.in-Some.hit in
     let registers = c.push_arguments.new.registers.items in
-    let found = c.find_on.new.work.items in
+    let found = c.find_rule.new.work.items in
     let count = c.arity_of-count.result in
     let pushed = c.in_ok-push_arguments.ensures.pushes h.args (argument_list w c.args.call.term c.args-2.result c.args.call.symbol h c.args-2.ensures) (subst (AllHeld w) (sym c.requires.work) (AllHeld-nil w)) in
     let are : held_trees w registers ≡ to_list h.args = pushed.1 ∙ ap (λ xs. held_trees w xs ++ to_list h.args) c.requires.work in
     let long = arguments-long w h.args count registers (arity-is w c.args.call.term c.args.call.symbol h count c.arity_of-count.ensures) are in
-    let finds = subst (FindsOn w m (length registers - count) c.first_from-at.result registers found) c.in-Some.is c.in_ok-hit.ensures.finds in
+    let finds = subst (FindsOn w m (length registers - count) c.first_rule-at.result registers found) c.in-Some.is c.in_ok-hit.ensures.finds in
     let within = above-within (length registers - count) found m.forest (length registers) hit.values finds.0 in
     let longer = settled-long count found (values_among m.forest 0 found hit.values) c.settle.new.work.items (omega (arith, long, within)) c.in_ok-settle.ensures in
     subst (λ (xs : List Term). count ≤ length xs) (sym c.deref.ensures.value) longer
@@ -90,12 +90,12 @@ slice_bounds-extend_from_slice-start g c =
     let h = c.requires.appl in
     let hit = c.in-Some.hit in
     let registers = c.push_arguments.new.registers.items in
-    let found = c.find_on.new.work.items in
+    let found = c.find_rule.new.work.items in
     let count = c.arity_of-count.result in
     let pushed = c.in_ok-push_arguments.ensures.pushes h.args (argument_list w c.args.call.term c.args-2.result c.args.call.symbol h c.args-2.ensures) (subst (AllHeld w) (sym c.requires.work) (AllHeld-nil w)) in
     let are : held_trees w registers ≡ to_list h.args = pushed.1 ∙ ap (λ xs. held_trees w xs ++ to_list h.args) c.requires.work in
     let long = arguments-long w h.args count registers (arity-is w c.args.call.term c.args.call.symbol h count c.arity_of-count.ensures) are in
-    let finds = subst (FindsOn w m (length registers - count) c.first_from-at.result registers found) c.in-Some.is c.in_ok-hit.ensures.finds in
+    let finds = subst (FindsOn w m (length registers - count) c.first_rule-at.result registers found) c.in-Some.is c.in_ok-hit.ensures.finds in
     let within = above-within (length registers - count) found m.forest (length registers) hit.values finds.0 in
     let longer = settled-long count found (values_among m.forest 0 found hit.values) c.settle.new.work.items (omega (arith, long, within)) c.in_ok-settle.ensures in
     subst (λ (xs : List Term). count ≤ length xs) (sym c.deref.ensures.value) longer
@@ -108,17 +108,17 @@ returns-clause-answers g c = λ y ready.
     let h = c.requires.appl in
     let hit = c.in-Some.hit in
     let registers = c.push_arguments.new.registers.items in
-    let found = c.find_on.new.work.items in
+    let found = c.find_rule.new.work.items in
     let settled = c.settle.new.work.items in
     let count = c.arity_of-count.result in
     let pushed = c.in_ok-push_arguments.ensures.pushes h.args (argument_list w u c.args-2.result c.args.call.symbol h c.args-2.ensures) (subst (AllHeld w) (sym c.requires.work) (AllHeld-nil w)) in
     let are : held_trees w registers ≡ to_list h.args = pushed.1 ∙ ap (λ xs. held_trees w xs ++ to_list h.args) c.requires.work in
     let long = arguments-long w h.args count registers (arity-is w u c.args.call.symbol h count c.arity_of-count.ensures) are in
     let call = is-call y w m ready u c.args.call.symbol c.args.call.number h c.requires.number c.requires.bare in
-    let finds = subst (FindsOn w m (length registers - count) c.first_from-at.result registers found) c.in-Some.is c.in_ok-hit.ensures.finds in
+    let finds = subst (FindsOn w m (length registers - count) c.first_rule-at.result registers found) c.in-Some.is c.in_ok-hit.ensures.finds in
     let zero : length registers - count ≡ 0 = omega (arith, long) in
     let within = above-within (length registers - count) found m.forest (length registers) hit.values finds.0 in
     let values = values_among m.forest (length registers - count) found hit.values in
     let rest : drop count settled ≡ values = settled-rest count found (values_among m.forest 0 found hit.values) settled (omega (arith, long, within)) c.in_ok-settle.ensures ∙ ap (λ k. values_among m.forest k found hit.values) (sym zero) in
-    answer-some y w m ready u c.args.call.number c.args.from c.first_from-at.result h.args call c.first_from-at.ensures registers are c.extend_from_slice.new.self.items values hit.rule finds.1
+    answer-some y w m ready u c.args.call.number c.args.from c.first_rule-at.result h.args call c.first_rule-at.ensures registers are c.extend_from_slice.new.self.items values hit.rule finds.1
     (c.in_ok-extend_from_slice.ensures.ok ∙ ap (λ xs. xs ++ take (length c.deref.result.now - count) (drop count c.deref.result.now)) c.requires.empty ∙ rest_is c.deref.result.now settled count c.deref.ensures.value ∙ rest)

@@ -1,6 +1,0 @@
-use Rattle.std.proofs.Common.{length}
-use Rattle.rec_match.specs.Marking.{HasMarks}
-use Rattle.rec_match.proofs.parts.Parts.marks.Given as goal
-
-abbrev pub invariant-loop-row : goal.invariant-loop-row
-invariant-loop-row l = HasMarks l.marks (length l.fn.marks.marked.items)
