@@ -26,6 +26,8 @@ _recw_eval_options=(
     '--limit-annotations'
     '--limit-status'
     '--stuck'
+    '--profile'
+    '--progress'
 )
 
 # Each option of trace in the same way, and each of the others.

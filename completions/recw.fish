@@ -34,6 +34,8 @@ complete -c recw -n $either -l count -d 'Print the steps that each term took beh
 complete -c recw -n $eval -l limit-annotations -d 'Print the annotations of a further term behind its limit'
 complete -c recw -n $eval -l limit-status -d 'End with status 5 where a term takes more steps'
 complete -c recw -n $eval -l stuck -d 'Tell on standard error which calls of operators the values hold'
+complete -c recw -n $eval -l profile -d 'Tell on standard error how often each rule is used, and what the run takes'
+complete -c recw -n $eval -l progress -d 'Show on standard error how far a long term is, as on a terminal'
 complete -c recw -n $trace -l count -d 'Print the steps that were spent so far behind each line'
 complete -c recw -n $trace -l whole -d 'Print the whole term each time, in place of what is rewritten'
 complete -c recw -n $trace -l width -x -d 'Cut each term to W bytes, 3 to 2^30'

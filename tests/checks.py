@@ -1,16 +1,21 @@
 """Checks of specifications: every place is told, texts of great length and depth, refused memory, streams that fail."""
 
+import itertools
+import random
 import re
 import time
 
 from attempts import EXAMPLES, NO_MEMORY, NO_READ, NO_WRITE, at_stack, check, check_long, recw, room, run, write_file
 from common import TOP, program
+from oracles import Terms
 from refuse import answer, is_allowed
+from specifications import BUILT, RULED, VARIABLES, declared, term
 
 # Specifications of examples/check with the lines of their checks, and the status with --strict, by docs/FORMATS.md.
 WORKED = {
     "unused": (0, (
         "2:11: W4: never used: no symbol and no variable has this sort: Bool",
+        "5:3: W3: not covered: no rule matches this call: plus(minus(z,z),z)",
         "6:3: W4: never used: a symbol of no rule and of no term: minus",
         "8:7: W4: never used: a variable of no rule: Z",
     )),
@@ -19,6 +24,9 @@ WORKED = {
     )),
     "inner": (0, (
         "9:9: W2: never matches: an argument like this is rewritten first: 8:3",
+    )),
+    "uncovered": (0, (
+        "6:3: W3: not covered: no rule matches this call: half(s(z))",
     )),
     "broken": (1, (
         "7:8: S5: a word is neither a symbol nor a variable: zero",
@@ -76,6 +84,104 @@ def try_rules():
         check(f"check of {rules}", (0, due, ""), (status, "; ".join(" ".join(it) for it in told), err))
 
 
+# Rules over the same, where f is declared on line 4 at column 6 and g at column 17: the call that is shown of each.
+# An operator without rules is one of the symbols of which terms are made.
+CALLS = (
+    ("f(X) -> a", ""),
+    ("f(a) -> a", "4:6 f(b(a))"),
+    ("f(b(X)) -> a", "4:6 f(a)"),
+    ("f(a) -> a; f(b(X)) -> a", "4:6 f(g(a,a))"),
+    ("f(a) -> a; f(b(X)) -> a; f(g(X,Y)) -> a", ""),
+    ("f(a) -> a; f(b(a)) -> a; f(g(X,Y)) -> a", "4:6 f(b(b(a)))"),
+    ("f(f(X)) -> a", "4:6 f(a)"),
+    ("f(X) -> a if X -><- b(X)", ""),
+    ("g(a,X) -> a; g(X,a) -> a", "4:17 g(b(a),b(a))"),
+    ("g(X,b(Y)) -> a; f(X) -> a", "4:17 g(a,a)"),
+    ("g(X,X) -> a; f(X) -> a", "4:17 g(a,b(a))"),
+    ("g(X,X) -> a; g(X,Y) -> b(X); f(X) -> a", ""),
+    ("f(a) -> a; g(X,a) -> a", "4:6 f(b(a)); 4:17 g(a,b(a))"),
+)
+
+
+def try_calls():
+    for rules, due in CALLS:
+        status, out, err = recw("check", "-", input=FORM.format(rules.replace("; ", "\n")))
+        told = re.findall(r"^<stdin>:(\S+): W3: not covered: no rule matches this call: (\S+)$", out, re.M)
+        check(f"calls of {rules}", (0, due, ""), (status, "; ".join(" ".join(it) for it in told), err))
+
+
+def matches(left, of, values):
+    """Whether a left side matches a term, both as tuples of a name and arguments."""
+    if left[0] in VARIABLES:
+        return values.setdefault(left[0], of) == of
+    if left[0] != of[0] or len(left) != len(of):
+        return False
+    return all(matches(it, part, values) for it, part in zip(left[1:], of[1:]))
+
+
+def is_of(of, sort, symbols):
+    """Whether a term is one of these symbols, of this sort."""
+    sorts, own = symbols.get(of[0], ([], None))
+    return own == sort and len(sorts) == len(of) - 1 and all(map(is_of, of[1:], sorts, itertools.repeat(symbols)))
+
+
+def terms_of(symbols, depth):
+    """All terms of these symbols up to a depth, by their sorts."""
+    found = {"A": [], "B": []}
+    for _ in range(depth):
+        known, found = found, {"A": [], "B": []}
+        for name, (sorts, sort) in symbols.items():
+            found[sort] += [(name, *it) for it in itertools.product(*(known[of] for of in sorts))]
+    return found
+
+
+def count_variables(left):
+    """How often each variable stands in a left side."""
+    if left[0] in VARIABLES:
+        return [left[0]]
+    return [it for part in left[1:] for it in count_variables(part)]
+
+
+def try_random_calls():
+    """Each call that is shown is one, and where none is shown none of small terms is there, if no variable is repeated."""
+    chance = random.Random(29)
+    head = ["REC-SPEC R", "SORTS A B", "CONS", *declared(BUILT), "OPNS", *declared(RULED), "VARS", "  X Y : A", "  V : B"]
+    places = {f"{head.index(line) + 1}:3": line.split()[0] for line in declared(RULED)}
+    shown = complete = 0
+    for _ in range(150):
+        names = chance.sample([*RULED], chance.randrange(1, 3))
+        sides = []
+        for name in (chance.choice(names) for _ in range(chance.randrange(1, 9))):
+            parts = ",".join(term(chance, it, BUILT, VARIABLES, chance.randrange(3)) for it in RULED[name][0])
+            sides.append(f"{name}({parts})")
+        rules = [f"  {it} -> {'z' if RULED[it[0]][1] == 'A' else 'b'}" for it in sides]
+        text = "\n".join([*head, "RULES", *rules, "EVAL", "END-SPEC"])
+        status, out, _ = recw("check", "-", input=text)
+        check(f"check of {sides}", 0, status)
+        told = re.findall(r"^<stdin>:(\S+): W3: not covered: no rule matches this call: (.*)$", out, re.M)
+        told = {places[at]: Terms(call).term() for at, call in told}
+        check(f"one call at most of each operator of {sides}", len(told), out.count(" W3: "))
+        lefts = [Terms(it).term() for it in sides]
+        ruled = {it[0] for it in lefts}
+        symbols = {it: of for it, of in {**BUILT, **RULED}.items() if it not in ruled}
+        for name, call in told.items():
+            shown += 1
+            is_call = name in ruled and is_of(call, RULED[name][1], {**symbols, name: RULED[name]})
+            is_call = is_call and all(is_of(*it, symbols) for it in zip(call[1:], RULED[name][0]))
+            check(f"{call} is a call over terms, of {sides}", True, is_call)
+            check(f"none of {sides} matches {call}", False, any(matches(it, call, {}) for it in lefts))
+        terms = terms_of(symbols, 3 if len(symbols) < 9 else 2)
+        for name in ruled - {*told}:
+            own = [it for it in lefts if it[0] == name]
+            if any(len({*count_variables(it)}) < len(count_variables(it)) for it in own):
+                continue
+            complete += 1
+            calls = itertools.product([name], *(terms[it][:150] for it in RULED[name][0]))
+            open_ones = [it for it in calls if not any(matches(of, it, {}) for of in own)]
+            check(f"all calls of {name} are covered by {sides}", [], open_ones[:1])
+    check("calls are shown, and operators are complete", True, shown > 20 and complete > 5)
+
+
 def try_cut():
     """Each beginning of a specification is outside the grammar at its end, or at a word that is cut."""
     text = open(f"{TOP}/examples/add.rec", encoding="ascii").read().strip()
@@ -114,7 +220,9 @@ def try_great():
     with room() as at:
         file = write_file(f"{at}/many.rec", rules(2000))
         start = time.monotonic()
-        check("check of 2,000 rules", (0, "", ""), recw("check", file))
+        line = "{}:{}:1: W3: not covered: no rule matches this call: f{}(a,a)\n"
+        due = "".join(line.format(file, it + 2, it) for it in range(2000))
+        check_long("check of 2,000 rules", (0, due, ""), recw("check", file))
         check("2,000 rules in under a second", True, time.monotonic() - start < 1)
         file = write_file(f"{at}/few.rec", few_operators(2000))
         start = time.monotonic()
@@ -131,7 +239,8 @@ def try_great():
         nested = f"REC-SPEC N SORTS A CONS a : -> A OPNS f : A -> A VARS X : A RULES\n{'f(' * depth}X{')' * depth} -> X\nEVAL f(a) END-SPEC"
         write_file(f"{at}/nested.rec", nested)
         start = time.monotonic()
-        check("check of nested calls", (0, "", ""), run(program(), "check", "nested.rec", cwd=at))
+        line = f"nested.rec:1:{nested.index('f : A') + 1}: W3: not covered: no rule matches this call: f(a)\n"
+        check("check of nested calls", (0, line, ""), run(program(), "check", "nested.rec", cwd=at))
         check("a million nested calls in seconds", True, time.monotonic() - start < 20)
         calls = 200_000
         inner = f"REC-SPEC I SORTS A CONS a : -> A OPNS f : A -> A VARS X : A RULES\nf(X) -> a\n{'f(' * calls}X{')' * calls} -> X\nEVAL f(a) END-SPEC"
@@ -173,7 +282,7 @@ def try_refused():
 
 def try_checks():
     """How many requests for memory were refused."""
-    for group in (try_worked, try_rules, try_cut, try_great, try_streams):
+    for group in (try_worked, try_rules, try_calls, try_random_calls, try_cut, try_great, try_streams):
         group()
     if not is_allowed():
         print("not tried: checks without memory: no program can be traced here")

@@ -192,7 +192,7 @@ def main():
     shared = [it for it in options["eval"] if it.name == "--explain"]
     for name in names:
         if name == "serve":
-            alone = ("--term", "--limit-annotations", "--limit-status", "--stuck")
+            alone = ("--term", "--limit-annotations", "--limit-status", "--stuck", "--profile", "--progress")
             both = [it for it in options["eval"] if it.name not in alone]
             # a process that stays has a bound of its own on calls that wait
             both = [it._replace(default="1000000") if it.name == "--depth" else it for it in both]

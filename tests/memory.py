@@ -55,6 +55,15 @@ STUCK = (
     "REC-SPEC C SORTS N CONS z : -> N s : N -> N OPNS f : N -> N RULES\nf(z) -> z if z -><- s(z) EVAL s(f(z)) END-SPEC",
     "s(f(z))\nf(f(s(z))){n}\n",
 )
+# One that tells what it took, with its output, and what it tells where nothing is refused, or behind a refusal; before
+# anything is evaluated that is nothing.
+PROFILED = ["eval", "--profile", "--memo", "0", "rows/cond.rec"], "s(z)\n"
+PROFILE = re.compile(
+    r"(profile: [678]:3: [01] matched, [01] fired, [01] failed\n){3}"
+    r"profile: steps: [0-3] spent, [0-3] matched, 0 remembered by 0 results\n"
+    r"profile: cells: \d+ made, \d+ held at most\nprofile: reclaims: 0\n"
+)
+NO_PROFILE = "profile: out of memory\n"
 # What a bank has behind a call, where the protected term and its 14 parts alone are left: crates/hostile/src/banks.rt
 # counts them.
 ROOTS = ["65534 protections left", "f(g(a),[1,<7>]){b}", "14 cells kept"]
@@ -156,9 +165,27 @@ def try_whole_run(words, output, end, answers):
     return count_refused(line, answers)
 
 
+def try_profile():
+    """A run that tells what it took does so where a request is refused behind its beginning too: how many were."""
+    words, output = PROFILED
+    line = " ".join(words)
+    (answers,) = refused([[program(), *words]])
+    for it in answers:
+        status, fault = NO_MEMORY if it["status"] else (0, "")
+        told = it["err"].removesuffix(fault)
+        kept = it["status"] == status and f"{told}{fault}" == it["err"] and output.startswith(it["out"])
+        kept &= bool(PROFILE.fullmatch(told)) or told == NO_PROFILE or status != 0 and not told
+        kept &= status != 0 or it["out"] == output
+        check(f"{line}: {it['refused']}: {it['status']} {it['err']!r} {it['out']!r}", True, kept)
+    for wanted in (NO_PROFILE, NO_MEMORY[1]):
+        check(f"{line}: tells {wanted}", True, any(wanted in it["err"] for it in answers))
+    check(f"{line}: tells all", True, bool(PROFILE.fullmatch(answers[0]["err"])))
+    return count_refused(line, answers)
+
+
 def try_memory():
     """How many requests were refused."""
-    count = 0
+    count = try_profile()
     with room() as at:
         runs = list(whole_runs(at))
         for (words, *due), answers in zip(runs, refused([[program(), *words] for words, *_ in runs])):

@@ -219,6 +219,7 @@ UNTOLD = (
     ("match --explain <x>", 1, "!pattern P1\n"),
     ("eval --limit-status --steps 2 add.rec", 5, "!limit 2\n"),
     ("eval --stuck rows/irr.rec", 5, "h(z)\n"),
+    ("eval --profile rows/irr.rec", 0, "h(z)\n"),
 )
 
 

@@ -254,9 +254,9 @@ def check(browser):
     begin = len(spec[: spec.index("plus(X,Y)")]) + len("plus(X,")
     same("to that and no other", begin, browser.do("return document.activeElement.selectionStart"))
     put(browser, "#spec", text_of("examples/check/unused.rec"))
-    warned = "The specification is good, with 3 warnings."
+    warned = "The specification is good, with 4 warnings."
     same("warnings are told", warned, text_with(browser, "found-said", "warning"))
-    same("lines with warnings", "2|6|8", browser.text("#spec .numbers .warn"))
+    same("lines with warnings", "2|5|6|8", browser.text("#spec .numbers .warn"))
     put(browser, "#spec", spec)
     same("nothing is found", True, text_with(browser, "found-said", "nothing") is not None)
     same("nothing is marked", "", browser.text("#spec .numbers .bad") + browser.text("#spec .numbers .warn"))

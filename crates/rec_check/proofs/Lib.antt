@@ -12,5 +12,6 @@ pub mod RunLemmas
 pub mod SizeLemmas
 pub mod SpotLemmas
 pub mod TrialLemmas
+pub mod UncoveredLemmas
 pub mod WalkLemmas
 pub mod WordLemmas

@@ -58,7 +58,7 @@ use Rattle.std.proofs.Math.Seq.{drop-append_seam}
 -- ---- rules of other symbols
 
 -- a left side that begins with a symbol matches no term that begins with another word
-apart_binds : (y : Spec) → fault y ≡ None → (r : Rule) → Contains y.rules r → (k : ℕ) → k < length (symbols y) → (head r.left).bytes ≡ name_of y (Symbol k) → (t : Term) → ((head r.left).bytes ≡ (head t).bytes → ⊥) → is_some (binds y r.left (tree_of t)) ≡ false
+pub apart_binds : (y : Spec) → fault y ≡ None → (r : Rule) → Contains y.rules r → (k : ℕ) → k < length (symbols y) → (head r.left).bytes ≡ name_of y (Symbol k) → (t : Term) → ((head r.left).bytes ≡ (head t).bytes → ⊥) → is_some (binds y r.left (tree_of t)) ≡ false
 apart_binds y kept r there k lt is t apart = sym (asked_binds y r.left (tree_of t) (left_bare y kept r there)) ∙ ap is_some (by_left r.left t is apart)
   where
     by_left : (l t : Term) → (head l).bytes ≡ name_of y (Symbol k) → ((head l).bytes ≡ (head t).bytes → ⊥) → asked y (reverse (named l)) (tree_of t ∷ []) [] ≡ None

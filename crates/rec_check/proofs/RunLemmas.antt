@@ -15,7 +15,7 @@ use Rattle.rec_sorts.specs.Lookup.{places}
 use Rattle.rec_sorts.specs.SpecRules.{Verdict, Long, Grammar, Breaks, Good, SpecVerdict, Fits, Fault, Broken, fault, first_broken, all_rules, least}
 use Rattle.rx_run.specs.declared.ending.RunFault.{RunFault}
 use Rattle.rx_run.specs.declared.ending.RunFault.TheVariants.{Memory, Room, Read, Write}
-use Rattle.rec_check.specs.Findings.{as_findings, AreFound, AreInOrder, Found, HasSame, broken_words, found_alone, found_at, judgement_of, number_of, warnings}
+use Rattle.rec_check.specs.Findings.{as_findings, AreFound, AreInOrder, AreUncovered, Found, HasSame, broken_words, found_alone, found_at, judgement_of, number_of, warnings}
 use Rattle.rec_check.specs.Lines.{lines_of}
 use Rattle.rec_check.specs.Runs.{Examined, Stops, Tells, TellsFront}
 use Rattle.rec_check.specs.declared.finding.Finding.{Finding}
@@ -48,8 +48,8 @@ broken_examined text y f r fs fits spelled broken number o = record {
   ends = refl;
 }
 
-pub good_examined : (text : List ℕ) (y : Spec) (fs : List Found) (end : Judgement) → Fits text → SpecText text y → fault y ≡ None → AreInOrder (warnings text y) fs → end ≡ judgement_of (Good y) fs → Examined text fs end
-good_examined text y fs end fits spelled good o e = record { verdict = Good y; is = (fits, spelled, good); are = o; ends = e }
+pub good_examined : (text : List ℕ) (y : Spec) (us fs : List Found) (end : Judgement) → Fits text → SpecText text y → fault y ≡ None → AreUncovered y us → AreInOrder (warnings text y ++ us) fs → end ≡ judgement_of (Good y) fs → Examined text fs end
+good_examined text y us fs end fits spelled good shown o e = record { verdict = Good y; is = (fits, spelled, good); are = (us, shown, o); ends = e }
 
 -- the rule that is broken has a number from 1 to 11
 abbrev IsRuleNumber : ℕ → Type 0
@@ -119,16 +119,18 @@ if_ok_found (Ok v) k ws us found e h o = same_findings k ws us (as_findings v.it
 if_ok_found (Err f) k ws us found e h o = tt
 
 -- what is found in one order and in another
-pub if_ok_warned : {E : Type 0} (r : Result (Vec Finding Global) E) (tried matching inside others found : List Found) → found ≡ tried ++ inside ++ others → HasSame matching inside
-    → IfOk r (λ v. AreInOrder found (as_findings v.items)) → IfOk r (λ v. AreInOrder (tried ++ matching ++ others) (as_findings v.items))
-if_ok_warned (Ok v) tried matching inside others found e h o = record {
-  same = same-trans (tried ++ matching ++ others) found (as_findings v.items)
-      (same-trans (tried ++ matching ++ others) (tried ++ inside ++ others) found
-      (same-append (tried ++ matching) others (tried ++ inside) others (same-append tried matching tried inside (same-of tried tried refl) h) (same-of others others refl)) (same-of (tried ++ inside ++ others) found (sym e)))
+pub if_ok_warned : {E : Type 0} (r : Result (Vec Finding Global) E) (tried matching inside others examples found : List Found) → found ≡ tried ++ inside ++ others ++ examples → HasSame matching inside
+    → IfOk r (λ v. AreInOrder found (as_findings v.items)) → IfOk r (λ v. AreInOrder ((tried ++ matching ++ others) ++ examples) (as_findings v.items))
+if_ok_warned (Ok v) tried matching inside others examples found e h o = record {
+  same = same-trans ((tried ++ matching ++ others) ++ examples) found (as_findings v.items)
+      (same-trans ((tried ++ matching ++ others) ++ examples) ((tried ++ inside ++ others) ++ examples) found
+      (same-append (tried ++ matching ++ others) examples (tried ++ inside ++ others) examples
+      (same-append (tried ++ matching) others (tried ++ inside) others (same-append tried matching tried inside (same-of tried tried refl) h) (same-of others others refl)) (same-of examples examples refl))
+      (same-of ((tried ++ inside ++ others) ++ examples) found (sym e)))
       o.same;
   ordered = o.ordered;
 }
-if_ok_warned (Err f) tried matching inside others found e h o = tt
+if_ok_warned (Err f) tried matching inside others examples found e h o = tt
 
 pub run_tells : (name read text : List ℕ) → text ≡ read → (known : Option (List ℕ)) (old new : Option (List ℕ)) (r : Result Judgement RunFault) → IfSome known (λ bytes. read ≡ take 16777217 bytes)
     → IfOk r (λ end. Tells name text end old new) → IfOk r (λ end. IfSome known (λ bytes. Tells name bytes end old new))

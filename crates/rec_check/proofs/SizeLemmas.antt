@@ -1,5 +1,5 @@
 -- How many letters terms have.
-use Rattle.std.proofs.Common.{refl, sym, ap, subst, arith, ◌∙◌, append_assoc, length-append, take, drop, inl, inr}
+use Rattle.std.proofs.Common.{refl, sym, ap, arith, ◌∙◌, append_assoc, length-append, take, drop, inl, inr}
 use Rattle.std.proofs.lemmas.Bool.{cases_eq}
 use Rattle.std.proofs.lemmas.List.{drop-take, get_or-drop, get_or-take, take-append-drop, length-drop, length-map, length-reverse, length-take, map-append, take-map, take_all}
 use Rattle.std.proofs.Math.Seq.{take-append_seam}

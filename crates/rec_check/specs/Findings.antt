@@ -1,20 +1,25 @@
 -- What is found in a text.
 --     broken_words y r       the words at which a rule is broken
 --     warnings text y        what the good specification of a text is warned of
+--     AreUncovered y us      examples of calls that no left side matches
 --     AreFound text v fs     what is found after the verdict on a text
 use Rattle.std.specs.Prelude.{ℕ, ◌≡◌, Bool, Option, Some, None, List, [], ◌∷◌, ◌++◌, map, flat_map, count_by}
 use Rattle.std.specs.List.Sorted.{IsNonDecreasingBy}
 use Rattle.rec_syntax.specs.Tokens.{Word}
 use Rattle.rec_syntax.specs.Syntax as syntax
-use Rattle.rec_syntax.specs.Syntax.{Term, Spec, arguments, head, subterms_all}
+use Rattle.rec_syntax.specs.Syntax.{Term, Declaration, Spec, arguments, head, subterms_all}
 use Rattle.rec_syntax.specs.Grammar.{SpecText}
+use Rattle.rx_text.specs.Canon.{canon}
+use Rattle.rec_sorts.specs.Binding.{tree_of}
 use Rattle.rec_sorts.specs.Lookup.{symbols, names, variable_words}
 use Rattle.rec_sorts.specs.SpecRules.{Verdict, Long, Grammar, Breaks, Good, heads, all_terms, missing, sorts_of, fault, repeated_sorts, repeated_symbols, taken_variables, unknown_sorts, unknown_words, ill_filled, ill_sorted, ill_headed, unlike_sides, unbound, open_terms}
 use Rattle.rec_check.specs.Rewriting.{rewritten_by}
 use Rattle.rec_check.specs.Spots.{spot_of, spot_shown}
+use Rattle.rec_check.specs.Uncovered.{IsUncovered}
+use Rattle.rec_check.specs.declared.finding.Example.{Example}
 use Rattle.rec_check.specs.declared.finding.Finding.{Finding}
 use Rattle.rec_check.specs.declared.finding.Kind.{Kind}
-use Rattle.rec_check.specs.declared.finding.Kind.TheVariants.{TooLong, Outside, Broken, NeverTried, NeverMatches, UnusedSort, UnusedSymbol, UnusedVariable}
+use Rattle.rec_check.specs.declared.finding.Kind.TheVariants.{TooLong, Outside, Broken, NeverTried, NeverMatches, NotCovered, UnusedSort, UnusedSymbol, UnusedVariable}
 use Rattle.rec_check.specs.declared.finding.Rule.{Rule}
 use Rattle.rec_check.specs.declared.finding.Rule.TheVariants as rule
 use Rattle.rec_check.specs.declared.finding.Shown.{Shown}
@@ -109,6 +114,27 @@ unused y = found_at UnusedSort (unused_sorts y) ++ found_at UnusedSymbol (unused
 abbrev pub warnings : List ℕ → Spec → List Found
 warnings text y = never_tried text y [] y.rules ++ never_matching text y ++ unused y
 
+-- an operator's word, and the text of a call of it that is not covered
+abbrev pub ShowsCall : Spec → Declaration → Found → Type 0
+ShowsCall y d f = (t : Term) × IsUncovered y d t
+    × (f ≡ record { at = d.name.at; shown = canon (tree_of t); kind = NotCovered })
+
+-- one example at most of this operator
+abbrev pub MayShow : Spec → Declaration → List Found → Type 0
+MayShow y d [] = Unit {0}
+MayShow y d (f ∷ []) = ShowsCall y d f
+MayShow y d _ = ⊥
+
+-- one at most of each of these operators, in their order
+abbrev pub ShowCalls : Spec → List Declaration → List Found → Type 0
+ShowCalls y [] us = us ≡ []
+ShowCalls y (d ∷ ds) us = (own : List Found) × (others : List Found) × MayShow y d own
+    × ShowCalls y ds others × (us ≡ own ++ others)
+
+-- examples of calls that are not covered; where none is shown nothing is claimed
+abbrev pub AreUncovered : Spec → List Found → Type 0
+AreUncovered y us = ShowCalls y y.operators us
+
 -- the same things, each as often: every test passes as often
 abbrev pub HasSame : {X : Type 0} → List X → List X → Type 0
 HasSame {X} xs ys = (p : X → Bool) → count_by p xs ≡ count_by p ys
@@ -119,13 +145,14 @@ pub record AreInOrder (all fs : List Found) : Type 0 where
   pub ordered : IsNonDecreasingBy (λ f. f.at) fs
 
 -- what is found after the verdict on a text: every word at which the least broken rule is broken,
--- or what a good specification is warned of
+-- or what a good specification is warned of, with examples of calls that are not covered
 abbrev pub AreFound : List ℕ → Verdict → List Found → Type 0
 AreFound text Long fs = fs ≡ found_alone TooLong 0
 AreFound text (Grammar at) fs = fs ≡ found_alone Outside at
 AreFound text (Breaks f) fs = (y : Spec) × (r : Rule) × SpecText text y × (fault y ≡ Some f)
     × (number_of r ≡ f.number) × AreInOrder (found_at (Broken r) (broken_words y r)) fs
-AreFound text (Good y) fs = AreInOrder (warnings text y) fs
+AreFound text (Good y) fs = (us : List Found) × AreUncovered y us
+    × AreInOrder (warnings text y ++ us) fs
 
 -- how a check ends
 abbrev pub judgement_of : Verdict → List Found → Judgement
@@ -143,3 +170,10 @@ as_found f = record { at = f.at; shown = bytes_shown f.shown; kind = f.kind }
 
 abbrev pub as_findings : List Finding → List Found
 as_findings fs = map as_found fs
+
+-- examples as findings
+abbrev pub as_example : Example → Found
+as_example e = record { at = e.at; shown = e.text.items; kind = NotCovered }
+
+abbrev pub as_examples : List Example → List Found
+as_examples es = map as_example es

@@ -7,5 +7,6 @@ pub mod Named
 pub mod Rewriting
 pub mod Runs
 pub mod Spots
+pub mod Uncovered
 pub mod Walks
 pub mod Inner

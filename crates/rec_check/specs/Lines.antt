@@ -3,7 +3,7 @@ use Rattle.std.specs.Prelude.{ℕ, List, [], ◌∷◌, ◌++◌, codes, decimal
 use Rattle.rec_check.specs.Findings.{Found}
 use Rattle.rec_check.specs.Spots.{spot_of}
 use Rattle.rec_check.specs.declared.finding.Kind.{Kind}
-use Rattle.rec_check.specs.declared.finding.Kind.TheVariants.{TooLong, Outside, Broken, NeverTried, NeverMatches, UnusedSort, UnusedSymbol, UnusedVariable}
+use Rattle.rec_check.specs.declared.finding.Kind.TheVariants.{TooLong, Outside, Broken, NeverTried, NeverMatches, NotCovered, UnusedSort, UnusedSymbol, UnusedVariable}
 use Rattle.rec_check.specs.declared.finding.Rule.{Rule}
 use Rattle.rec_check.specs.declared.finding.Rule.TheVariants as rule
 use Rattle.rec_check.specs.declared.spots.Spot.{Spot}
@@ -32,6 +32,7 @@ label_of NeverTried =
     codes "W1: never tried: an earlier rule without conditions matches all that this one does"
 label_of NeverMatches =
     codes "W2: never matches: an argument like this is rewritten first"
+label_of NotCovered = codes "W3: not covered: no rule matches this call"
 label_of UnusedSort = codes "W4: never used: no symbol and no variable has this sort"
 label_of UnusedSymbol = codes "W4: never used: a symbol of no rule and of no term"
 label_of UnusedVariable = codes "W4: never used: a variable of no rule"

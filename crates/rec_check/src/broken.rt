@@ -53,7 +53,7 @@ pub(crate) fn head_of<'a>(syntax: &'a Syntax, term: &Term) -> Word<'a>
 }
 
 /// The first words of left sides.
-fn left_heads<'a>(alloc: Global, syntax: &'a Syntax) -> Result<Vec<Word<'a>>, AllocError>
+pub(crate) fn left_heads<'a>(alloc: Global, syntax: &'a Syntax) -> Result<Vec<Word<'a>>, AllocError>
     ensures { IfOk result (λ v. as_words v.items
         ≡ map (λ r. head r.left) syntax.now.spec.rules) }
 {

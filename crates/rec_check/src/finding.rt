@@ -88,6 +88,8 @@ pub enum Kind {
     NeverTried,
     /// An argument of a left side is rewritten before that could match.
     NeverMatches,
+    /// No rule's left side matches a call of an operator.
+    NotCovered,
     /// No symbol and no variable has a sort.
     UnusedSort,
     /// A symbol stands in no rule and in no term.
@@ -109,6 +111,7 @@ impl Kind {
                 b"W1: never tried: an earlier rule without conditions matches all that this one does"
             }
             Kind::NeverMatches => b"W2: never matches: an argument like this is rewritten first",
+            Kind::NotCovered => b"W3: not covered: no rule matches this call",
             Kind::UnusedSort => b"W4: never used: no symbol and no variable has this sort",
             Kind::UnusedSymbol => b"W4: never used: a symbol of no rule and of no term",
             Kind::UnusedVariable => b"W4: never used: a variable of no rule",
@@ -130,4 +133,13 @@ pub struct Finding<'a> {
     /// What is shown of it.
     pub shown: Shown<'a>,
     pub kind: Kind,
+}
+
+/// A call that no rule's left side matches.
+#[derive(Drop)]
+pub struct Example {
+    /// Where its operator is declared: so many bytes of the text stand before it.
+    pub at: usize,
+    /// The call as it is printed.
+    pub text: Vec<u8>,
 }

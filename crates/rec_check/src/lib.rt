@@ -2,6 +2,8 @@
 #![tactic(auto)]
 
 mod broken;
+mod calls;
+mod fillings;
 mod filters;
 mod finding;
 pub mod laws;
@@ -9,16 +11,19 @@ mod lines;
 mod matching;
 mod names;
 mod order;
+mod printed;
 mod rewriting;
 mod runs;
 mod scope;
 mod spots;
+mod uncovered;
 mod unused;
 mod warned;
 mod words;
 
 pub use broken::broken_words;
-pub use finding::{Finding, Kind, Rule, Shown};
+pub use calls::uncovered_calls;
+pub use finding::{Example, Finding, Kind, Rule, Shown};
 pub use runs::{Judgement, check_text, run_check};
 pub use spots::{Cursor, Spot};
 pub use unused::{unused_sorts, unused_symbols, unused_variables};

@@ -1,26 +1,11 @@
 //! Which rules without conditions rewrite a term whose variables are read as constants.
 
-ghost use Rattle.std.specs.Prelude.{
-  ◌≡◌,
-  ◌++◌,
-  ◌<◌,
-  ◌≤◌,
-  [],
-  All,
-  IfOk,
-  IfSome,
-  List,
-  OnOk,
-  Option,
-  flat_map,
-  get_or,
-  length,
-  map,
-  take,
-};
+mod pushing;
+
+ghost use Rattle.std.specs.Prelude.{◌≡◌, ◌++◌, ◌<◌, ◌≤◌, All, IfOk, IfSome, List, Option, false};
+ghost use Rattle.std.specs.Prelude.{get_or, length, map, take};
 ghost use Rattle.rec_syntax.specs.Syntax as syntax;
 ghost use Rattle.rec_syntax.specs.Syntax.{arguments, head};
-ghost use Rattle.rec_syntax.specs.Tokens as tokens;
 ghost use Rattle.rec_sorts.specs.Lookup.{symbols};
 ghost use Rattle.rec_sorts.specs.Numbering.{
   AreLetters,
@@ -34,14 +19,7 @@ ghost use Rattle.rec_sorts.specs.Numbering.{
 ghost use Rattle.rec_sorts.specs.declared.letters.Meaning.TheVariants.{Symbol};
 ghost use Rattle.rec_match.specs.Inner.Built.{AreHeads, IsHead};
 ghost use Rattle.rec_match.specs.Inner.Chains.{AreChainsFrom};
-ghost use Rattle.rec_check.specs.Findings.{
-  as_findings,
-  found_by,
-  never_matching_in,
-  never_tried,
-};
-ghost use Rattle.rec_check.specs.Inner.Inside.{never_matching_inside};
-ghost use Rattle.rec_check.specs.Named.{as_word, as_words};
+ghost use Rattle.rec_check.specs.Named.{as_words};
 ghost use Rattle.rec_check.specs.Inner.Rewriters.{IsRewriter};
 ghost use Rattle.rec_check.specs.Rewriting.{
   IsFirstWord,
@@ -50,10 +28,10 @@ ghost use Rattle.rec_check.specs.Rewriting.{
   rewritten_by,
 };
 ghost use Rattle.rec_check.specs.Spots.{spot_of};
+ghost use Rattle.rec_check.specs.Uncovered.{IsUnmatched};
 ghost use Rattle.rec_check.specs.Inner.Trials.{AreSizes};
 
 use crate::broken::head_of;
-use crate::finding::{Finding, Kind, Shown};
 use crate::matching::{Terms, Values, matches, sizes};
 use crate::spots::{Cursor, Spot};
 use crate::words::{Word, node_words, push_term};
@@ -296,29 +274,70 @@ impl<'a> Rewriter<'a> {
         }
     }
 
-    /// What is found at a word where a rule rewrites what it begins, behind other findings.
-    fn push(
+    /// Whether a left side that begins with a symbol matches a term, whatever its rule's
+    /// conditions.
+    fn matching_symbol<'t>(
         &self,
-        kind: Kind,
-        word: Word<'_>,
-        rule: Option<usize>,
-        found: &mut Vec<Finding<'a>>,
-    ) -> Result<(), AllocError>
+        symbol: u32,
+        term: Terms<'t, '_>,
+        values: &mut Values<'t>,
+    ) -> Result<bool, AllocError>
         requires rules { IsRewriter self.now }
-        requires within { IfSome rule (λ i. i < length self.now.checked.now.spec.rules) }
-        ensures { OnOk result ((o : Option tokens.Word)
-            → IsFirstWord self.now.checked.now.spec rule o
-            → as_findings found.new.items ≡ as_findings found.old.items
-            ++ found_by kind self.now.checked.now.source (as_word word.entry) o) }
+        requires symbol { symbol < length (symbols self.now.checked.now.spec) }
+        requires sizes { AreSizes term.letters.now term.sizes.now }
+        ensures { IfOk result (λ b. b ≡ false → (t : syntax.Term)
+            → AreLetters self.now.checked.now.spec term.entry.letters.now t
+            → (head t).bytes ≡ name_of self.now.checked.now.spec (Symbol symbol)
+            → IsUnmatched self.now.checked.now.spec t) }
     {
-        if let Some(rule) = rule {
-            found.push(Finding {
-                at: word.at,
-                shown: Shown::Place(self.spots[rule]),
-                kind,
-            })?;
+        let _kept = self.checked.syntax();
+        let mut rule = self.chains.firsts[symbol as usize];
+        while rule < self.spots.len() {
+            if matches(&letters(self.checked, rule).left, term, values)? {
+                return Ok(true);
+            }
+            rule = self.chains.nexts[rule];
         }
-        Ok(())
+        Ok(false)
+    }
+
+    /// Whether a left side matches the call of a symbol of these letters, whatever its rule's
+    /// conditions.
+    pub(crate) fn covers(
+        &self,
+        alloc: Global,
+        symbol: u32,
+        call: &[Letter],
+    ) -> Result<bool, AllocError>
+        requires rules { IsRewriter self.now }
+        requires symbol { symbol < length (symbols self.now.checked.now.spec) }
+        ensures { IfOk result (λ b. b ≡ false → (t : syntax.Term)
+            → AreLetters self.now.checked.now.spec call.now t
+            → (head t).bytes ≡ name_of self.now.checked.now.spec (Symbol symbol)
+            → IsUnmatched self.now.checked.now.spec t) }
+    {
+        let sizes = sizes(alloc, call)?;
+        let term = Terms {
+            letters: call,
+            sizes: &sizes,
+        };
+        self.matching_symbol(symbol, term, &mut Values::new(alloc))
+    }
+
+    /// The first rule of a symbol; the number of rules, where there is none.
+    pub(crate) fn first_rule(&self, symbol: u32) -> usize {
+        match self.chains.firsts.get(symbol as usize) {
+            Some(rule) => *rule,
+            None => self.spots.len(),
+        }
+    }
+
+    /// The next rule of the same symbol; the number of rules, where there is none.
+    pub(crate) fn next_rule(&self, rule: usize) -> usize {
+        match self.chains.nexts.get(rule) {
+            Some(rule) => *rule,
+            None => self.spots.len(),
+        }
     }
 
     /// The first rule that rewrites the left side of a rule, before that one.
@@ -345,74 +364,5 @@ impl<'a> Rewriter<'a> {
             sizes: &sizes,
         };
         self.rewriting(rule, terms, values)
-    }
-
-    /// The rules that are never tried, behind other findings.
-    pub(crate) fn push_never_tried(
-        &self,
-        alloc: Global,
-        values: &mut Values<'a>,
-        found: &mut Vec<Finding<'a>>,
-    ) -> Result<(), AllocError>
-        requires { IsRewriter self.now }
-        ensures { OnOk result (as_findings found.new.items ≡ as_findings found.old.items
-            ++ never_tried self.now.checked.now.source self.now.checked.now.spec []
-            self.now.checked.now.spec.rules) }
-    {
-        let syntax = self.checked.syntax();
-        for (i, rule) in syntax.rules().iter().enumerate() {
-            let word = head_of(syntax, &rule.left);
-            let by = self.rewriting_left(alloc, i, values)?;
-            self.push(Kind::NeverTried, word, by, found)?;
-        }
-        Ok(())
-    }
-
-    /// The arguments inside a rule's left side that are rewritten first, behind other findings.
-    fn push_inner(
-        &self,
-        alloc: Global,
-        rule: usize,
-        values: &mut Values<'a>,
-        found: &mut Vec<Finding<'a>>,
-    ) -> Result<(), AllocError>
-        requires rules { IsRewriter self.now }
-        requires rule { rule < length self.now.checked.now.spec.rules }
-        ensures { (r : _) → OnOk result (as_findings found.new.items
-            ≡ as_findings found.old.items
-            ++ never_matching_in self.now.checked.now.source self.now.checked.now.spec
-            (postorder_all (arguments (get_or self.now.checked.now.spec.rules rule r).left))) }
-    {
-        let syntax = self.checked.syntax();
-        let words = inner_words(alloc, syntax, rule)?;
-        let letters = &letters(self.checked, rule).left;
-        let sizes = sizes(alloc, letters)?;
-        let left = Terms {
-            letters,
-            sizes: &sizes,
-        };
-        for (i, word) in words.iter().enumerate() {
-            let (terms, _others) = left.split_at(i + 1);
-            let by = self.rewriting(self.spots.len(), terms, values)?;
-            self.push(Kind::NeverMatches, *word, by, found)?;
-        }
-        Ok(())
-    }
-
-    /// The same of all rules.
-    pub(crate) fn push_never_matching(
-        &self,
-        alloc: Global,
-        values: &mut Values<'a>,
-        found: &mut Vec<Finding<'a>>,
-    ) -> Result<(), AllocError>
-        requires { IsRewriter self.now }
-        ensures { OnOk result (as_findings found.new.items ≡ as_findings found.old.items
-            ++ never_matching_inside self.now.checked.now.source self.now.checked.now.spec) }
-    {
-        for rule in 0..self.spots.len() {
-            self.push_inner(alloc, rule, values, found)?;
-        }
-        Ok(())
     }
 }

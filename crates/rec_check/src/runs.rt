@@ -17,6 +17,7 @@ ghost use Rattle.rec_check.specs.Findings.{
 ghost use Rattle.rec_check.specs.Runs.{Examined, Stops, Tells};
 
 use crate::broken::broken_words;
+use crate::calls::uncovered_calls;
 use crate::finding::{Finding, Kind, Rule, Shown};
 use crate::lines::write_findings;
 use crate::order::{in_order, push_found};
@@ -159,7 +160,8 @@ fn tell_warnings<W: Write>(
     ensures fault { IfErr result (λ fault. Stops name.now checked.now.source fault
         (W.contents out.old) (W.contents out.new)) }
 {
-    let findings = warnings(alloc, checked)?;
+    let examples = uncovered_calls(alloc, checked)?;
+    let findings = warnings(alloc, checked, &examples)?;
     let text = checked.syntax().source();
     tell(name, text, &findings, judged(&findings), out)
 }

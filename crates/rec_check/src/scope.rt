@@ -3,16 +3,20 @@
 ghost use Rattle.std.specs.Prelude.{
   ◌≡◌,
   ◌++◌,
+  ◌-◌,
   ◌∷◌,
   [],
   All,
   IfOk,
   IfSome,
   OnOk,
+  drop,
   flat_map,
+  length,
   map,
   option_map,
   slice_get,
+  take,
 };
 ghost use Rattle.rec_syntax.specs.Parts.{
   IsDeclaration,
@@ -122,6 +126,25 @@ fn same(left: Option<&[u8]>, right: Option<&[u8]>) -> bool
     }
 }
 
+/// The declaration of the symbol of this number.
+pub(crate) fn symbol_numbered<'a>(syntax: &'a Syntax, number: usize) -> Option<&'a Declaration>
+    ensures symbol { option_map (λ d. declaration_of syntax.now.source d.now) result
+        ≡ slice_get (symbols syntax.now.spec) number }
+    ensures sound { IfSome result (λ d. IsDeclaration syntax.now.source d.now) }
+{
+    let constructors = syntax.constructors();
+    let operators = syntax.operators();
+    if number < constructors.len() {
+        return Some(&constructors[number]);
+    }
+    let rest = number - constructors.len();
+    if rest < operators.len() {
+        Some(&operators[rest])
+    } else {
+        None
+    }
+}
+
 impl<'a> Scope<'a> {
     /// What a specification declares.
     pub fn of(alloc: Global, syntax: &'a Syntax) -> Result<Self, AllocError>
@@ -146,27 +169,8 @@ impl<'a> Scope<'a> {
         ensures sound { IfSome result (λ d. IsDeclaration self.now.syntax.now.source d.now) }
     {
         match self.names.number(name) {
-            Some(number) => self.numbered(number),
+            Some(number) => symbol_numbered(self.syntax, number),
             None => None,
-        }
-    }
-
-    /// The declaration of the symbol of this number.
-    fn numbered(&self, number: usize) -> Option<&'a Declaration>
-        ensures symbol { option_map (λ d. declaration_of self.now.syntax.now.source d.now) result
-            ≡ slice_get (symbols self.now.syntax.now.spec) number }
-        ensures sound { IfSome result (λ d. IsDeclaration self.now.syntax.now.source d.now) }
-    {
-        let constructors = self.syntax.constructors();
-        let operators = self.syntax.operators();
-        if number < constructors.len() {
-            return Some(&constructors[number]);
-        }
-        let rest = number - constructors.len();
-        if rest < operators.len() {
-            Some(&operators[rest])
-        } else {
-            None
         }
     }
 
@@ -247,6 +251,31 @@ impl<'a> Scope<'a> {
         Ok(())
     }
 
+    /// The arguments of a node of another sort than declared, behind other words. They are the last
+    /// ones of a stack of heads, where the node's word stands for them then.
+    fn push_ill_sorted(
+        &self,
+        node: Counted<'a>,
+        heads: &mut Vec<Word<'a>>,
+        found: &mut Vec<Word<'a>>,
+    ) -> Result<(), AllocError>
+        requires { IsScope self.now }
+        ensures heads { OnOk result (heads.new.items
+            ≡ take (length heads.old.items - node.entry.count) heads.old.items
+            ++ node.entry.word ∷ []) }
+        ensures found { OnOk result (as_words found.new.items ≡ as_words found.old.items
+            ++ misfits self.now.syntax.now.spec
+            (as_words (drop (length heads.old.items - node.entry.count) heads.old.items))
+            (argument_sorts self.now.syntax.now.spec node.entry.word.bytes.now)) }
+    {
+        let base = heads.len().saturating_sub(node.count);
+        let sorts = self.arguments(node.word.bytes);
+        self.push_misfits(&heads[base..], sorts, found)?;
+        heads.truncate(base);
+        heads.push(node.word)?;
+        Ok(())
+    }
+
     /// The arguments of another sort than declared, by a stack of the heads of the terms so far.
     pub fn ill_sorted(
         &self,
@@ -260,11 +289,7 @@ impl<'a> Scope<'a> {
         let mut heads = Vec::new(alloc);
         let mut found = Vec::new(alloc);
         for node in nodes {
-            let base = heads.len().saturating_sub(node.count);
-            let sorts = self.arguments(node.word.bytes);
-            self.push_misfits(&heads[base..], sorts, &mut found)?;
-            heads.truncate(base);
-            heads.push(node.word)?;
+            self.push_ill_sorted(*node, &mut heads, &mut found)?;
         }
         Ok(found)
     }

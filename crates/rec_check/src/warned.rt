@@ -3,6 +3,7 @@
 ghost use Rattle.std.specs.Prelude.{◌≡◌, ◌++◌, [], IfOk, OnOk};
 ghost use Rattle.rec_check.specs.Findings.{
   AreInOrder,
+  as_examples,
   as_findings,
   found_at,
   never_tried,
@@ -14,7 +15,7 @@ ghost use Rattle.rec_check.specs.Findings.{
 };
 ghost use Rattle.rec_check.specs.Inner.Inside.{never_matching_inside};
 
-use crate::finding::{Finding, Kind};
+use crate::finding::{Example, Finding, Kind, Shown};
 use crate::matching::Values;
 use crate::order::{in_order, push_found};
 use crate::rewriting::Rewriter;
@@ -92,13 +93,38 @@ fn push_unused<'a>(
     push_unused_variables(alloc, syntax, found)
 }
 
-/// What a good specification is warned of, in the order of its places.
-pub fn warnings<'a>(alloc: Global, checked: &'a Checked) -> Result<Vec<Finding<'a>>, AllocError>
+/// Examples of calls that are not covered, behind other findings.
+fn push_examples<'a>(
+    examples: &'a [Example],
+    found: &mut Vec<Finding<'a>>,
+) -> Result<(), AllocError>
+    ensures { OnOk result (as_findings found.new.items
+        ≡ as_findings found.old.items ++ as_examples examples.now) }
+{
+    for example in examples {
+        found.push(Finding {
+            at: example.at,
+            shown: Shown::Bytes(&example.text),
+            kind: Kind::NotCovered,
+        })?;
+    }
+    Ok(())
+}
+
+/// What a good specification is warned of, with examples of calls that are not covered, in the
+/// order of the places.
+pub fn warnings<'a>(
+    alloc: Global,
+    checked: &'a Checked,
+    examples: &'a [Example],
+) -> Result<Vec<Finding<'a>>, AllocError>
     ensures { IfOk result (λ v. AreInOrder
-        (warnings checked.now.source checked.now.spec) (as_findings v.items)) }
+        (warnings checked.now.source checked.now.spec ++ as_examples examples.now)
+        (as_findings v.items)) }
 {
     let mut found = Vec::new(alloc);
     push_rewritten(alloc, checked, &mut found)?;
     push_unused(alloc, checked.syntax(), &mut found)?;
+    push_examples(examples, &mut found)?;
     in_order(found)
 }

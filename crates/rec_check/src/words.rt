@@ -2,20 +2,9 @@
 
 ghost use Rattle.std.specs.Prelude.{◌≡◌, ◌++◌, ◌∷◌, [], All, IfOk, OnOk, flat_map, map};
 ghost use Rattle.rec_syntax.specs.Lexemes.{word_of};
-ghost use Rattle.rec_syntax.specs.Parts.{
-  IsCondition,
-  IsDeclaration,
-  IsGroup,
-  IsRule,
-  IsTerm,
-  Within,
-  condition_of,
-  declaration_of,
-  group_of,
-  rule_of,
-  term_of,
-  words_of,
-};
+ghost use Rattle.rec_syntax.specs.Parts.{IsCondition, IsDeclaration, IsGroup, IsRule, IsTerm};
+ghost use Rattle.rec_syntax.specs.Parts.{Within, condition_of, declaration_of, group_of, rule_of};
+ghost use Rattle.rec_syntax.specs.Parts.{term_of, words_of};
 ghost use Rattle.rec_syntax.specs.Nodes.{flat};
 ghost use Rattle.rec_sorts.specs.Lookup.{condition_terms, names, rule_terms, symbols, variable_words};
 ghost use Rattle.rec_sorts.specs.SpecRules.{sorts_of};

@@ -9,6 +9,7 @@ ghost use Rattle.rec_engine.specs.Inner.Pace.{KeepsKnown};
 ghost use Rattle.rec_engine.specs.Cells.{built, StandsIn, MakesFor};
 
 use crate::constants::Constants;
+use crate::counting::Ledger;
 use crate::due::Due;
 use rec_memo::Memo;
 use rx_term::{BankFault, Symbol, Term, TermBank};
@@ -34,13 +35,14 @@ pub enum EngineFault {
     Room,
 }
 
-/// When the next reclaim is due, which constants were made since the last one, and the results that
-/// are remembered.
+/// When the next reclaim is due, which constants were made since the last one, the results that are
+/// remembered, and what was counted of all these.
 #[derive(Drop)]
 pub(crate) struct Pace {
     pub(crate) due: Due,
     pub(crate) constants: Constants,
     pub(crate) memo: Memo,
+    pub(crate) ledger: Ledger,
 }
 
 impl Pace {
@@ -51,6 +53,7 @@ impl Pace {
     {
         self.memo.touch(key);
         self.due.save(steps);
+        self.ledger.recall(steps);
     }
 }
 
@@ -103,9 +106,11 @@ pub(crate) fn reclaim<B: TermBank>(bank: &mut B, kept: &[Term], pace: &mut Pace)
     ensures reclaims { Reclaims (B.store bank.old) (B.store bank.new) kept.now }
     ensures known { KeepsKnown (B.store bank.old) (B.store bank.new) pace.old pace.new }
 {
+    let before = bank.cells();
     bank.reclaim(kept);
     pace.memo.retain_held(bank);
     pace.due.restart(bank.cells());
+    pace.ledger.reclaim(before, bank.cells());
     pace.constants.clear();
 }
 

@@ -1,31 +1,29 @@
 //! The engine: a bank, a specification, and what is evaluated over them.
 
+mod calling;
+mod normalising;
 mod prepared;
 
-ghost use Rattle.std.specs.Prelude.{◌≡◌, ◌≢◌, ◌<◌, ◌-◌, ◌∷◌, [], Some, Err, IfErr, IfOk, IsSome};
+ghost use Rattle.std.specs.Prelude.{◌≡◌, ◌≢◌, ◌<◌, ◌-◌, [], Some, Err, IfErr, IfOk, IsSome};
 ghost use Rattle.std.specs.Prelude.{Contains, length};
-ghost use Rattle.rx_term.specs.Tree.{Tree, Items, none};
-ghost use Rattle.rx_term.specs.Store.{tree_at, longer};
+ghost use Rattle.rx_term.specs.Tree.{Tree};
+ghost use Rattle.rx_term.specs.Store.{tree_at};
 ghost use Rattle.rx_term.specs.Steps.{Keeps, ProtectsOrRefuses, with_count};
-ghost use Rattle.rx_term.specs.Walks.{AllHeld, held_trees};
+ghost use Rattle.rx_term.specs.Walks.{AllHeld};
 ghost use Rattle.rec_sorts.specs.Linked.{HasMoreSymbols, AreLinked};
-ghost use Rattle.rec_sorts.specs.Lookup.{symbols};
-ghost use Rattle.rec_sorts.specs.Numbering.{arity_of};
 ghost use Rattle.rec_sorts.specs.Evaluation.{term_of};
 ghost use Rattle.rec_sorts.specs.Binding.{tree_of};
 ghost use Rattle.rec_match.specs.Next.{IsReady as IsMatcherOf};
-ghost use Rattle.rec_engine.specs.Machine.{IsCode, called};
+ghost use Rattle.rec_engine.specs.Machine.{IsCode};
 ghost use Rattle.rec_engine.specs.Constants.{KnowsNone};
 ghost use Rattle.rec_engine.specs.declared.cells.EngineFault.TheVariants.{Room};
 ghost use Rattle.rec_engine.specs.Cells.{RoomOnly};
-ghost use Rattle.rec_engine.specs.Depth.{RoomOnlyWithin, DeepOnly};
-ghost use Rattle.rec_engine.specs.Engine.{AreInRange, SameEngine, IsGiven, eval_tree, IsOutcome};
-ghost use Rattle.rec_engine.specs.Engine.{IsNormalised, IsKept, LetsGo, RemembersNothing, RoomOnlyFor};
-ghost use Rattle.rec_engine.specs.Engine.{IsCallOutcome, Spells};
+ghost use Rattle.rec_engine.specs.Engine.{AreInRange, SameEngine, IsGiven, eval_tree};
+ghost use Rattle.rec_engine.specs.Engine.{LetsGo, RemembersNothing, RoomOnlyFor};
+ghost use Rattle.rec_engine.specs.Engine.{Spells};
 
 use crate::cells::EngineFault;
 use crate::code::Op;
-use crate::depth::{DepthFault, bounded, unbounded};
 use crate::machine::Machine;
 use crate::parts::Parts;
 use crate::terms::make_term;
@@ -290,178 +288,6 @@ impl<B: TermBank> Engine<B> {
             ((B.store self.old.bank).roots t.0 - 1) }
     {
         self.machine.bank.unprotect(t)
-    }
-
-    /// What a term comes to within `n` steps; its value has the annotations of the term.
-    pub fn normalise(&mut self, t: Term, n: u64) -> Result<Outcome, EngineFault>
-        requires { IsGiven self.old.spec (B.store self.old.bank) t }
-        ensures same { SameEngine self.old self.new }
-        ensures keeps { Keeps (B.store self.old.bank) (B.store self.new.bank) [] }
-        ensures given { tree_at (B.store self.new.bank) t ≡ tree_at (B.store self.old.bank) t }
-        ensures outcome { IfOk result (λ o. (u : Tree) → tree_at (B.store self.old.bank) t ≡ Some u
-            → IsOutcome self.new.spec (B.store self.new.bank) n u o) }
-        ensures rewriting { IfOk result
-            (λ o. (u : Tree) → tree_at (B.store self.old.bank) t ≡ Some u
-            → IsNormalised self.new.spec (B.store self.new.bank) n u o) }
-        ensures kept { IfOk result (IsKept self.new.work) }
-        ensures held { AllHeld (B.store self.new.bank) self.new.work }
-        ensures room { RoomOnly (B.store self.new.bank) self.new.work self.new.memo result }
-    {
-        unbounded(self.normalise_to(t, n, usize::MAX))
-    }
-
-    /// The same where at most `depth` may wait at once: the term for its call, a right side or a
-    /// condition for a call in it that is not its last, and, where it still may, a call for its own
-    /// result, which is to be kept.
-    pub fn normalise_within(&mut self, t: Term, n: u64, depth: u32) -> Result<Outcome, DepthFault>
-        requires { IsGiven self.old.spec (B.store self.old.bank) t }
-        ensures same { SameEngine self.old self.new }
-        ensures keeps { Keeps (B.store self.old.bank) (B.store self.new.bank) [] }
-        ensures given { tree_at (B.store self.new.bank) t ≡ tree_at (B.store self.old.bank) t }
-        ensures outcome { IfOk result (λ o. (u : Tree) → tree_at (B.store self.old.bank) t ≡ Some u
-            → IsOutcome self.new.spec (B.store self.new.bank) n u o) }
-        ensures rewriting { IfOk result
-            (λ o. (u : Tree) → tree_at (B.store self.old.bank) t ≡ Some u
-            → IsNormalised self.new.spec (B.store self.new.bank) n u o) }
-        ensures kept { IfOk result (IsKept self.new.work) }
-        ensures held { AllHeld (B.store self.new.bank) self.new.work }
-        ensures room { RoomOnlyWithin (B.store self.new.bank) self.new.work self.new.memo result }
-        ensures deep { DeepOnly self.new.waiting depth result }
-    {
-        self.normalise_to(t, n, depth as usize)
-    }
-
-    /// The same for any number of calls.
-    fn normalise_to(&mut self, t: Term, n: u64, depth: usize) -> Result<Outcome, DepthFault>
-        requires { IsGiven self.old.spec (B.store self.old.bank) t }
-        ensures same { SameEngine self.old self.new }
-        ensures keeps { Keeps (B.store self.old.bank) (B.store self.new.bank) [] }
-        ensures given { tree_at (B.store self.new.bank) t ≡ tree_at (B.store self.old.bank) t }
-        ensures outcome { IfOk result (λ o. (u : Tree) → tree_at (B.store self.old.bank) t ≡ Some u
-            → IsOutcome self.new.spec (B.store self.new.bank) n u o) }
-        ensures rewriting { IfOk result
-            (λ o. (u : Tree) → tree_at (B.store self.old.bank) t ≡ Some u
-            → IsNormalised self.new.spec (B.store self.new.bank) n u o) }
-        ensures kept { IfOk result (IsKept self.new.work) }
-        ensures held { AllHeld (B.store self.new.bank) self.new.work }
-        ensures room { RoomOnlyWithin (B.store self.new.bank) self.new.work self.new.memo result }
-        ensures deep { DeepOnly self.new.waiting depth result }
-    {
-        self.machine.state.depth = depth;
-        let outcome = self.machine.normalise(&mut self.found, t, n);
-        let_go(&mut self.machine.work, &outcome);
-        bounded(outcome)
-    }
-
-    /// What the call of a symbol on values comes to within `n` steps; the values are not evaluated
-    /// once more. Beside it a reference is kept.
-    pub fn call(
-        &mut self,
-        kept: Term,
-        symbol: u32,
-        values: &[Term],
-        n: u64,
-    ) -> Result<Outcome, EngineFault>
-        requires kept { IsSome (tree_at (B.store self.old.bank) kept) }
-        requires values { AllHeld (B.store self.old.bank) values.now }
-        requires symbol { symbol < length (symbols self.old.spec) }
-        requires count { length values.now ≡ arity_of self.old.spec symbol }
-        ensures same { SameEngine self.old self.new }
-        ensures keeps { Keeps (B.store self.old.bank) (B.store self.new.bank) (kept ∷ []) }
-        ensures outcome { IfOk result (IsCallOutcome self.old.spec (B.store self.new.bank) n
-            (called self.old.spec symbol (held_trees (B.store self.old.bank) values.now))) }
-        ensures room { RoomOnly (B.store self.new.bank) self.new.work self.new.memo result }
-    {
-        unbounded(self.call_to(kept, symbol, values, n, usize::MAX))
-    }
-
-    /// The same where at most `depth` calls may wait at once, counted as by `normalise_within`.
-    pub fn call_within(
-        &mut self,
-        kept: Term,
-        symbol: u32,
-        values: &[Term],
-        n: u64,
-        depth: u32,
-    ) -> Result<Outcome, DepthFault>
-        requires kept { IsSome (tree_at (B.store self.old.bank) kept) }
-        requires values { AllHeld (B.store self.old.bank) values.now }
-        requires symbol { symbol < length (symbols self.old.spec) }
-        requires count { length values.now ≡ arity_of self.old.spec symbol }
-        ensures same { SameEngine self.old self.new }
-        ensures keeps { Keeps (B.store self.old.bank) (B.store self.new.bank) (kept ∷ []) }
-        ensures outcome { IfOk result (IsCallOutcome self.old.spec (B.store self.new.bank) n
-            (called self.old.spec symbol (held_trees (B.store self.old.bank) values.now))) }
-        ensures room { RoomOnlyWithin (B.store self.new.bank) self.new.work self.new.memo result }
-        ensures deep { DeepOnly self.new.waiting depth result }
-    {
-        self.call_to(kept, symbol, values, n, depth as usize)
-    }
-
-    /// The same for any number of calls.
-    fn call_to(
-        &mut self,
-        kept: Term,
-        symbol: u32,
-        values: &[Term],
-        n: u64,
-        depth: usize,
-    ) -> Result<Outcome, DepthFault>
-        requires kept { IsSome (tree_at (B.store self.old.bank) kept) }
-        requires values { AllHeld (B.store self.old.bank) values.now }
-        requires symbol { symbol < length (symbols self.old.spec) }
-        requires count { length values.now ≡ arity_of self.old.spec symbol }
-        ensures same { SameEngine self.old self.new }
-        ensures keeps { Keeps (B.store self.old.bank) (B.store self.new.bank) (kept ∷ []) }
-        ensures outcome { IfOk result (IsCallOutcome self.old.spec (B.store self.new.bank) n
-            (called self.old.spec symbol (held_trees (B.store self.old.bank) values.now))) }
-        ensures room { RoomOnlyWithin (B.store self.new.bank) self.new.work self.new.memo result }
-        ensures deep { DeepOnly self.new.waiting depth result }
-    {
-        self.machine.state.depth = depth;
-        bounded(self.machine.call_values(kept, symbol, values, n))
-    }
-
-    /// The application of a symbol to values, of which no rule is asked. Beside it a reference is
-    /// kept.
-    pub fn apply(&mut self, kept: Term, symbol: u32, values: &[Term]) -> Result<Term, EngineFault>
-        requires kept { IsSome (tree_at (B.store self.old.bank) kept) }
-        requires values { AllHeld (B.store self.old.bank) values.now }
-        requires symbol { symbol < length (symbols self.old.spec) }
-        requires count { length values.now ≡ arity_of self.old.spec symbol }
-        ensures same { SameEngine self.old self.new }
-        ensures keeps { Keeps (B.store self.old.bank) (B.store self.new.bank) (kept ∷ []) }
-        ensures applied { IfOk result (λ t. tree_at (B.store self.new.bank) t
-            ≡ Some (called self.old.spec symbol
-            (held_trees (B.store self.old.bank) values.now))) }
-        ensures room { RoomOnly (B.store self.new.bank) self.new.work self.new.memo result }
-    {
-        self.machine.state.depth = usize::MAX;
-        self.machine.apply_values(kept, symbol, values)
-    }
-
-    /// The empty list, which the next call need not keep.
-    pub fn nil(&mut self) -> Result<Term, EngineFault>
-        ensures same { SameEngine self.old self.new }
-        ensures keeps { Keeps (B.store self.old.bank) (B.store self.new.bank) [] }
-        ensures empty { IfOk result
-            (λ t. tree_at (B.store self.new.bank) t ≡ Some (Items none none)) }
-        ensures room { RoomOnly (B.store self.new.bank) self.new.work self.new.memo result }
-    {
-        self.machine.nil()
-    }
-
-    /// The list of a reference and of what a list holds; both are kept.
-    pub fn hold(&mut self, t: Term, list: Term) -> Result<Term, EngineFault>
-        requires longer { IsSome (longer (tree_at (B.store self.old.bank) t)
-            (tree_at (B.store self.old.bank) list)) }
-        ensures same { SameEngine self.old self.new }
-        ensures keeps { Keeps (B.store self.old.bank) (B.store self.new.bank) (t ∷ list ∷ []) }
-        ensures held { IfOk result (λ r. tree_at (B.store self.new.bank) r
-            ≡ longer (tree_at (B.store self.old.bank) t) (tree_at (B.store self.old.bank) list)) }
-        ensures room { RoomOnly (B.store self.new.bank) self.new.work self.new.memo result }
-    {
-        self.machine.hold(t, list)
     }
 
     /// Which rule matches.

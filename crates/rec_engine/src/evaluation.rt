@@ -18,6 +18,7 @@ use crate::code::Op;
 use crate::engine::Outcome;
 use crate::given::load;
 use crate::machine::{End, Machine};
+use crate::watch::Watch;
 use rx_term::{Term, TermBank};
 
 /// What a term comes to.
@@ -30,7 +31,13 @@ pub(crate) enum Reached {
 
 impl<B: TermBank> Machine<B> {
     /// What the term `t` comes to within `n` steps; its code begins at `pc`.
-    fn evaluate(&mut self, pc: usize, t: Term, n: u64) -> Result<Reached, EngineFault>
+    fn evaluate(
+        &mut self,
+        pc: usize,
+        t: Term,
+        n: u64,
+        watch: &mut dyn Watch,
+    ) -> Result<Reached, EngineFault>
         requires ready { IsReady B.store self.old }
         requires idle { self.old.work.items ≡ [] }
         requires held { IsSome (tree_at (B.store self.old.bank) t) }
@@ -53,7 +60,7 @@ impl<B: TermBank> Machine<B> {
         self.state.left = n;
         self.state.term = t;
         self.state.empty = empty;
-        let reached = self.run()?;
+        let reached = self.run(watch)?;
         match reached {
             End::Deep => Ok(Reached::Deep),
             End::Limit => Ok(Reached::Limit),
@@ -96,6 +103,7 @@ impl<B: TermBank> Machine<B> {
         found: &mut Vec<Op>,
         t: Term,
         n: u64,
+        watch: &mut dyn Watch,
     ) -> Result<Option<Outcome>, EngineFault>
         requires ready { IsReady B.store self.old }
         requires given { IsGiven self.old.checked.spec (B.store self.old.bank) t }
@@ -126,7 +134,7 @@ impl<B: TermBank> Machine<B> {
             Ok(()) => {}
             Err(_) => return Err(EngineFault::Memory),
         }
-        let reached = self.evaluate(pc, t, n);
+        let reached = self.evaluate(pc, t, n, watch);
         self.code.ops.truncate(pc);
         match reached? {
             Reached::Deep => Ok(None),

@@ -7,6 +7,7 @@ mod cells;
 mod code;
 mod compile;
 mod constants;
+mod counting;
 mod depth;
 mod due;
 mod engine;
@@ -18,7 +19,10 @@ mod parts;
 mod remembering;
 mod runs;
 mod terms;
+mod watch;
 
 pub use cells::EngineFault;
+pub use counting::{RuleCount, Tally};
 pub use depth::DepthFault;
 pub use engine::{Engine, Options, Outcome, Prepared};
+pub use watch::{Unwatched, Watch};

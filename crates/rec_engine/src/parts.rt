@@ -9,6 +9,7 @@ ghost use Rattle.rec_engine.specs.Machine.{IsCode};
 use crate::cells::Pace;
 use crate::code::Code;
 use crate::constants::Constants;
+use crate::counting::Ledger;
 use crate::due::Due;
 use crate::engine::Options;
 use crate::hints::Hints;
@@ -68,6 +69,7 @@ fn first_state<B: TermBank>(
         due: Due::new(bank.cells(), options.reclaim_every),
         constants,
         memo,
+        ledger: Ledger::new(bank.cells()),
     };
     Ok(State::new(alloc, pace, hints))
 }

@@ -6,8 +6,10 @@ pub mod laws;
 mod stuck;
 mod trace;
 
+pub use rec_trace::Spot;
 pub use stuck::report::StuckReport;
 pub use stuck::whole_runs::run_stuck;
 pub use trace::options::TraceOptions;
 pub use trace::picked::{Picked, RulePlace};
 pub use trace::runs::run_trace;
+pub use trace::spots::rule_spots;

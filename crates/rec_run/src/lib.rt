@@ -4,12 +4,15 @@
 
 mod depth;
 pub mod laws;
+mod observer;
 mod options;
 mod refused_items;
 mod spec;
 
 pub use depth::{LineDepthFault, RunDepthFault};
+pub use observer::{Observer, Profiler};
 pub use options::{LimitLines, RunOptions, RunSettings};
+pub use rec_engine::{RuleCount, Tally, Unwatched, Watch};
 pub use refused_items::refused_term;
 pub use rx_run::{
     Finish, Misfit, Named, Place, RunFault, Source, refused_argument, run_aterm, run_aterm_at,
@@ -19,7 +22,8 @@ pub use rx_run::{
 pub use spec::banks::{Ended, run_in};
 pub use spec::evaluated::engine_over;
 pub use spec::evaluation::{
-    evaluate_within, write_evaluation, write_evaluation_to, write_evaluation_within,
+    evaluate_observed, evaluate_within, write_evaluation, write_evaluation_to,
+    write_evaluation_within,
 };
 pub use spec::lines::{LineFault, write_lines, write_lines_to, write_lines_within};
 pub use spec::outcome::{write_notes, write_notes_to, write_outcome, write_outcome_to};
@@ -27,4 +31,4 @@ pub use spec::reading::{
     Job, read_alone, read_alone_from, read_both, read_both_from, read_spec_text,
     read_spec_text_from, read_terms_text, read_terms_text_from,
 };
-pub use spec::runs::{run, run_at, run_with, run_within};
+pub use spec::runs::{run, run_at, run_observed, run_with, run_within};

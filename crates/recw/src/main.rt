@@ -9,9 +9,12 @@ mod input;
 mod item;
 mod look;
 mod options;
+mod profile;
 mod program;
+mod progress;
 mod recorded;
 mod report;
+mod screen;
 mod serve;
 #[cfg(test)]
 mod shelf;
@@ -19,12 +22,15 @@ mod shelf;
 mod tests;
 mod work;
 
-use program::program;
-use recw_words::{Console, Guarded, Prompt};
+use evidence::Evidence;
+use program::{obey, obey_watched};
+use progress::Progress;
+use recw_words::{Asked, Console, EvalOptions, Guarded, Invocation, Prompt, Request, read_words};
+use screen::Screen;
 use std::alloc::Global;
 use std::env;
 use std::env::{Env, FillError};
-use std::io::{self, BufWriter, IsTerminal, Stderr};
+use std::io::{self, BufWriter, IsTerminal, Stderr, Write};
 use std::process::ExitCode;
 
 /// How many bytes of output are written at once.
@@ -45,20 +51,48 @@ fn start(rt: &HostRuntime, alloc: Global) -> io::Result<u8> {
     start_with(rt, alloc, given.as_slice())
 }
 
-/// Fails where there is no memory.
+/// Fails where there is no memory. No words ask for an evaluation.
 fn start_with(rt: &HostRuntime, alloc: Global, given: &[String]) -> io::Result<u8> {
     let words: Vec<&str> = given.iter().map(|word| word.as_str()).collect(alloc)?;
     let guarded = Guarded::new(rt.stdout());
     let buffered = BufWriter::with_capacity(alloc, OUT_CAPACITY, guarded)?;
     let mut out = Prompt::new(rt, buffered);
-    Ok(program(
-        rt,
-        alloc,
-        words.as_slice(),
-        &mut rt.stdin(),
-        &mut out,
-        &mut console(rt),
-    ))
+    match read_words(alloc, words.as_slice(), &mut out, &mut console(rt)) {
+        Asked::Run(invocation) => Ok(run(rt, alloc, invocation, &mut out)),
+        Asked::End(status) => Ok(status),
+    }
+}
+
+/// Does what is asked for, and gives the exit status. It is shown how far an evaluation is, but not
+/// where its values are looked at.
+fn run<W: Write>(rt: &HostRuntime, alloc: Global, invocation: Invocation<'_>, out: &mut W) -> u8 {
+    let request = invocation.request;
+    let mut evidence = Evidence::new(alloc, invocation);
+    let mut input = rt.stdin();
+    let mut err = console(rt);
+    match request {
+        Request::Eval { options, .. } if !options.stuck => {
+            let mut screen = screen_for(rt, alloc, options);
+            obey_watched(
+                rt,
+                &mut evidence,
+                &mut input,
+                out,
+                &mut err,
+                options,
+                &mut screen,
+            )
+        }
+        _ => obey(rt, &mut evidence, &mut input, out, &mut err),
+    }
+}
+
+/// Where it is shown how far an evaluation is: where that is asked for, and on a terminal.
+fn screen_for(rt: &HostRuntime, alloc: Global, options: EvalOptions) -> Screen<'_> {
+    let err = rt.stderr();
+    let is_asked = options.progress || err.is_terminal();
+    let progress = Progress::new(alloc, rt, is_asked, options.steps);
+    Screen { progress, err }
 }
 
 /// Standard error, and whether somebody reads it: where it is a terminal, or the variable is there.

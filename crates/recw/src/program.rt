@@ -4,49 +4,56 @@ use crate::check::check;
 use crate::evidence::Evidence;
 use crate::given::given_by;
 use crate::input::{open, open_file, open_given};
+use crate::profile::Profile;
 use crate::recorded::Watched;
 use crate::serve::serve;
-use crate::work::Work;
+use crate::work::{Calls, Firings, Values, Work};
 use crate::{look, report};
 use rec_run::{
-    Finish, RunDepthFault, RunFault, Source, run_aterm_at, run_make_at, run_match_at, run_share_at,
+    Finish, Observer, RunDepthFault, RunFault, Source, Watch, run_aterm_at, run_make_at,
+    run_match_at, run_share_at,
 };
 use recw_words::status::{eval_status, match_status};
-use recw_words::{Asked, Audience, Invocation, Request, STANDARD_INPUT, read_words};
+use recw_words::{Audience, EvalOptions, Request, STANDARD_INPUT};
 use rx_look::{run_aterm_indented_at, run_share_dot_at};
-use std::alloc::Global;
 use std::io::{Read, Write};
 use std::rt::Files;
 
-/// Does what the words after the program's name ask, and gives the exit status. No words ask for an
-/// evaluation.
-pub fn program<H: Files, R: Read, W: Write, E: Write + Audience>(
+/// Does what is asked for, of which `evidence` is the beginning, tells of its end, and gives the
+/// exit status. Nobody is told how far an evaluation is, nor what it took.
+pub fn obey<H: Files, R: Read, W: Write, E: Write + Audience>(
     rt: &H,
-    alloc: Global,
-    words: &[&str],
+    evidence: &mut Evidence<'_>,
     input: &mut R,
     out: &mut W,
     err: &mut E,
 ) -> u8 {
-    match read_words(alloc, words, out, err) {
-        Asked::Run(invocation) => obey(rt, alloc, invocation, input, out, err),
-        Asked::End(status) => status,
-    }
+    evidence.invocation.explain |= err.is_curious();
+    let mut out = Watched::new(evidence.alloc, out, evidence.invocation.has_outcome);
+    let end = perform(rt, input, &mut out, err, evidence);
+    evidence.note_output(out.finish());
+    conclude(end, evidence, err)
 }
 
-/// Does what is asked for, and tells of its end.
-fn obey<H: Files, R: Read, W: Write, E: Write + Audience>(
+/// Evaluates as these options say, and somebody is told how far that is; tells of its end, and gives
+/// the exit status.
+pub fn obey_watched<H: Files, R: Read, W: Write, E: Write + Audience>(
     rt: &H,
-    alloc: Global,
-    mut invocation: Invocation<'_>,
+    evidence: &mut Evidence<'_>,
     input: &mut R,
     out: &mut W,
     err: &mut E,
+    options: EvalOptions,
+    watch: &mut dyn Watch,
 ) -> u8 {
-    invocation.explain |= err.is_curious();
-    let mut evidence = Evidence::new(alloc, invocation);
-    let end = perform(rt, input, out, err, &mut evidence);
-    conclude(end, &evidence, err)
+    evidence.invocation.explain |= err.is_curious();
+    let mut out = Watched::new(evidence.alloc, out, evidence.invocation.has_outcome);
+    let profiler = Profile::new(evidence.alloc, options.profile, err);
+    let observer = Observer { watch, profiler };
+    let mut values = Values { options, observer };
+    let end = evaluate(rt, &mut values, input, &mut out, evidence);
+    evidence.note_output(out.finish());
+    conclude(end, evidence, err)
 }
 
 /// Tells of a run's end, and gives its status.
@@ -91,7 +98,7 @@ fn outcome_status(status: u8, evidence: &Evidence<'_>) -> u8 {
     }
 }
 
-/// Does what is asked for, and keeps what there is to tell of the output.
+/// Does what is asked for.
 fn perform<H: Files, R: Read, W: Write, E: Write>(
     rt: &H,
     input: &mut R,
@@ -99,18 +106,15 @@ fn perform<H: Files, R: Read, W: Write, E: Write>(
     err: &mut E,
     evidence: &mut Evidence<'_>,
 ) -> Result<Finish, RunDepthFault> {
-    let mut out = Watched::new(evidence.alloc, out, evidence.invocation.has_outcome);
-    let end = match evidence.invocation.request {
+    match evidence.invocation.request {
         Request::Eval { options, .. } => {
-            evaluate(rt, Work::Values(options), input, &mut out, evidence)
+            evaluate(rt, &mut Calls { options }, input, out, evidence)
         }
         Request::Trace { options, shown, .. } => {
-            evaluate(rt, Work::Trace(options, shown), input, &mut out, evidence)
+            evaluate(rt, &mut Firings { options, shown }, input, out, evidence)
         }
-        _ => run_request(rt, input, &mut out, err, evidence).map_err(RunDepthFault::Run),
-    };
-    evidence.note_output(out.finish());
-    end
+        _ => run_request(rt, input, out, err, evidence).map_err(RunDepthFault::Run),
+    }
 }
 
 /// Does what is asked for but an evaluation, on the files that it names. What is told while it goes on
@@ -179,9 +183,9 @@ fn run_on_text<R: Read, W: Write>(
 }
 
 /// Evaluates a specification, and the terms that are given beside it.
-fn evaluate<H: Files, R: Read, W: Write>(
+fn evaluate<H: Files, R: Read, W: Write, K: Work>(
     rt: &H,
-    work: Work<'_>,
+    work: &mut K,
     input: &mut R,
     out: &mut W,
     evidence: &mut Evidence<'_>,
@@ -194,9 +198,9 @@ fn evaluate<H: Files, R: Read, W: Write>(
 }
 
 /// Evaluates a specification in a file, and given terms on the standard input.
-fn evaluate_on_input<H: Files, R: Read, W: Write>(
+fn evaluate_on_input<H: Files, R: Read, W: Write, K: Work>(
     rt: &H,
-    work: Work<'_>,
+    work: &mut K,
     input: &mut R,
     out: &mut W,
     evidence: &mut Evidence<'_>,
@@ -212,9 +216,9 @@ fn evaluate_on_input<H: Files, R: Read, W: Write>(
 }
 
 /// Evaluates a specification in a file or on the standard input, and given terms from elsewhere.
-fn evaluate_on_files<H: Files, R: Read, W: Write>(
+fn evaluate_on_files<H: Files, R: Read, W: Write, K: Work>(
     rt: &H,
-    work: Work<'_>,
+    work: &mut K,
     input: &mut R,
     out: &mut W,
     evidence: &mut Evidence<'_>,
@@ -229,9 +233,9 @@ fn evaluate_on_files<H: Files, R: Read, W: Write>(
 }
 
 /// Evaluates the text of a specification, and the terms that are given beside it.
-fn evaluate_text<H: Files, R: Read, W: Write>(
+fn evaluate_text<H: Files, R: Read, W: Write, K: Work>(
     rt: &H,
-    work: Work<'_>,
+    work: &mut K,
     spec: &mut R,
     out: &mut W,
     evidence: &mut Evidence<'_>,
@@ -246,8 +250,8 @@ fn evaluate_text<H: Files, R: Read, W: Write>(
 }
 
 /// Evaluates a specification and the terms that stand among the words.
-fn evaluate_words<R: Read, W: Write>(
-    work: Work<'_>,
+fn evaluate_words<R: Read, W: Write, K: Work>(
+    work: &mut K,
     spec: &mut R,
     out: &mut W,
     evidence: &mut Evidence<'_>,
@@ -259,8 +263,8 @@ fn evaluate_words<R: Read, W: Write>(
 }
 
 /// Evaluates a specification and given terms, whose text is kept for an explanation.
-fn evaluate_with<R: Read, T: Read + Drop, W: Write>(
-    work: Work<'_>,
+fn evaluate_with<R: Read, T: Read + Drop, W: Write, K: Work>(
+    work: &mut K,
     spec: &mut R,
     terms: Option<T>,
     out: &mut W,

@@ -1,19 +1,24 @@
 //! What the program answers and writes for words and texts, and what its answers are compared with.
 
 mod explained;
+mod fields;
 mod given;
 mod help;
 mod named;
 mod outcome;
+mod refused;
 mod shown;
 mod streams;
+mod told;
 mod words;
 
-use crate::program::program;
+use crate::evidence::Evidence;
+use crate::program::{obey, obey_watched};
 use crate::shelf::Shelf;
-use recw_words::Console;
+use rec_run::Unwatched;
+use recw_words::{Asked, Audience, Console, Request, read_words};
 use std::alloc::Global;
-use std::io::Read;
+use std::io::{Read, Write};
 use std::process::Abort;
 use std::rt::Files;
 
@@ -49,6 +54,36 @@ impl Ran {
 /// An output as a text.
 fn text_of(bytes: &[u8]) -> &str {
     str::from_utf8(bytes).unwrap_or("(not UTF-8)")
+}
+
+/// Does what words ask before nobody, and gives the exit status.
+pub(crate) fn program<H: Files, R: Read, W: Write, E: Write + Audience>(
+    files: &H,
+    alloc: Global,
+    words: &[&str],
+    input: &mut R,
+    out: &mut W,
+    err: &mut E,
+) -> u8 {
+    match read_words(alloc, words, out, err) {
+        Asked::Run(invocation) => {
+            let request = invocation.request;
+            let mut evidence = Evidence::new(alloc, invocation);
+            match request {
+                Request::Eval { options, .. } if !options.stuck => obey_watched(
+                    files,
+                    &mut evidence,
+                    input,
+                    out,
+                    err,
+                    options,
+                    &mut Unwatched,
+                ),
+                _ => obey(files, &mut evidence, input, out, err),
+            }
+        }
+        Asked::End(status) => status,
+    }
 }
 
 /// Runs the program with this text as its standard input.

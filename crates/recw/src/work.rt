@@ -3,45 +3,92 @@
 use crate::evidence::Evidence;
 use crate::options::{run_settings, trace_options};
 use rec_look::{run_stuck, run_trace};
-use rec_run::{Finish, RunDepthFault, run_within};
+use rec_run::{Finish, Observer, Profiler, RunDepthFault, Watch, run_observed, run_within};
 use recw_words::{EvalOptions, Shown};
 use std::io::{Read, Write};
 
-/// What is told of terms that are evaluated.
-#[derive(Clone, Copy)]
-pub enum Work<'a> {
-    /// Their values.
-    Values(EvalOptions),
-    /// The rules that fire, and the values.
-    Trace(EvalOptions, Shown<'a>),
+/// What is done with the terms of a specification, and with given ones.
+pub trait Work {
+    /// Does it over the texts of both.
+    fn run<R: Read, T: Read, W: Write>(
+        &mut self,
+        spec: &mut R,
+        terms: Option<&mut T>,
+        out: &mut W,
+        evidence: &mut Evidence<'_>,
+    ) -> Result<Finish, RunDepthFault>;
 }
 
-impl Work<'_> {
-    /// Does it over the texts of a specification and of given terms.
-    pub fn run<R: Read, T: Read, W: Write>(
-        self,
+/// Tells their values, and an observer how far they are and what they took.
+#[derive(Drop)]
+pub struct Values<W, P> {
+    /// How they are evaluated.
+    pub options: EvalOptions,
+    /// Who is told.
+    pub observer: Observer<W, P>,
+}
+
+impl<P: Profiler> Work for Values<&mut dyn Watch, P> {
+    fn run<R: Read, T: Read, W: Write>(
+        &mut self,
         spec: &mut R,
         terms: Option<&mut T>,
         out: &mut W,
         evidence: &mut Evidence<'_>,
     ) -> Result<Finish, RunDepthFault> {
         let alloc = evidence.alloc;
-        match self {
-            Work::Values(options) if options.stuck => {
-                let settings = run_settings(options);
-                let Evidence { place, report, .. } = evidence;
-                run_stuck(alloc, spec, terms, out, settings, place, report)
-            }
-            Work::Values(options) => {
-                let settings = run_settings(options);
-                run_within(alloc, spec, terms, out, settings, &mut evidence.place)
-            }
-            Work::Trace(options, shown) => {
-                let options = trace_options(options, shown);
-                run_trace(alloc, spec, terms, out, options, &mut evidence.place).map_err(
-                    RunDepthFault::Run,
-                )
-            }
+        let settings = run_settings(self.options);
+        let place = &mut evidence.place;
+        run_observed(alloc, spec, terms, out, settings, place, &mut self.observer)
+    }
+}
+
+/// Tells their values, and where it is asked for the calls that these hold.
+#[derive(Clone, Copy, Drop)]
+pub struct Calls {
+    /// How they are evaluated.
+    pub options: EvalOptions,
+}
+
+impl Work for Calls {
+    fn run<R: Read, T: Read, W: Write>(
+        &mut self,
+        spec: &mut R,
+        terms: Option<&mut T>,
+        out: &mut W,
+        evidence: &mut Evidence<'_>,
+    ) -> Result<Finish, RunDepthFault> {
+        let alloc = evidence.alloc;
+        let settings = run_settings(self.options);
+        let Evidence { place, report, .. } = evidence;
+        if self.options.stuck {
+            run_stuck(alloc, spec, terms, out, settings, place, report)
+        } else {
+            run_within(alloc, spec, terms, out, settings, place)
         }
+    }
+}
+
+/// Tells the rules that fire, and their values.
+#[derive(Clone, Copy, Drop)]
+pub struct Firings<'a> {
+    /// How they are evaluated.
+    pub options: EvalOptions,
+    /// What is shown.
+    pub shown: Shown<'a>,
+}
+
+impl Work for Firings<'_> {
+    fn run<R: Read, T: Read, W: Write>(
+        &mut self,
+        spec: &mut R,
+        terms: Option<&mut T>,
+        out: &mut W,
+        evidence: &mut Evidence<'_>,
+    ) -> Result<Finish, RunDepthFault> {
+        let alloc = evidence.alloc;
+        let options = trace_options(self.options, self.shown);
+        let place = &mut evidence.place;
+        run_trace(alloc, spec, terms, out, options, place).map_err(RunDepthFault::Run)
     }
 }

@@ -60,6 +60,16 @@ const EVAL: Subcommand = Subcommand {
             help: "Tell on standard error which calls of operators the values hold",
             kind: Kind::Flag,
         },
+        Argument {
+            name: "profile",
+            help: "Tell on standard error how often each rule is used, and what the run takes",
+            kind: Kind::FlagWithout("stuck"),
+        },
+        Argument {
+            name: "progress",
+            help: "Show on standard error how far a long term is, as on a terminal",
+            kind: Kind::FlagWithout("stuck"),
+        },
         EXPLAIN,
     ],
 };

@@ -30,6 +30,10 @@ pub struct EvalOptions {
     pub depth: Option<u32>,
     /// Whether it is told which calls of operators the values hold.
     pub stuck: bool,
+    /// Whether it is told how often each rule was used, and what the run took.
+    pub profile: bool,
+    /// Whether it is told how far a term is that takes long, also where nobody reads it.
+    pub progress: bool,
     pub ghost steps_in_range: { steps ≤ 10 ^ 18 },
     pub ghost cells_in_range: { (1 ≤ cells) × (cells ≤ 2 ^ 30) },
     pub ghost memo_in_range: { memo ≤ 2 ^ 20 },
@@ -73,6 +77,8 @@ pub fn options_of(matches: &ArgMatches<'_>) -> Option<EvalOptions> {
         limit_annotations: matches.get_flag("limit-annotations"),
         depth: matches.get_one::<u32>("depth"),
         stuck: matches.get_flag("stuck"),
+        profile: matches.get_flag("profile"),
+        progress: matches.get_flag("progress"),
     })
 }
 

@@ -1,6 +1,7 @@
 //! Runs on worked texts, and what their answers are compared with.
 
 mod bank;
+mod cells;
 mod counting;
 mod depth;
 mod given;

@@ -39,12 +39,13 @@ impl Prepared {
         let Prepared {
             checked,
             code,
-            state,
+            mut state,
             work,
             options,
             terms,
             found,
         } = self;
+        state.pace.ledger.go_on(bank.cells());
         let machine = Machine {
             checked,
             bank,
@@ -71,6 +72,7 @@ impl Prepared {
         ensures options { options_of self.new ≡ options_of self.old }
     {
         self.work.clear();
+        self.state.pace.ledger.go_on(bank.cells());
         reclaim(bank, kept, &mut self.state.pace);
     }
 
@@ -110,9 +112,10 @@ impl<B: TermBank> Engine<B> {
             checked,
             bank,
             code,
-            state,
+            mut state,
             work,
         } = machine;
+        state.pace.ledger.grow(bank.cells());
         let prepared = Prepared {
             checked,
             code,

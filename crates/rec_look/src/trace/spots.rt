@@ -59,7 +59,7 @@ fn beginning(syntax: &Syntax, rule: &Rule) -> usize
 
 /// Where each rule begins, from the first to the last. They stand in this order in the text, so
 /// that each byte of it is read once.
-pub(crate) fn rule_spots(alloc: Global, syntax: &Syntax) -> Result<Vec<Spot>, AllocError>
+pub fn rule_spots(alloc: Global, syntax: &Syntax) -> Result<Vec<Spot>, AllocError>
     ensures { IfOk result
         (λ spots. spots.items ≡ map (rule_spot syntax.now.source) syntax.now.spec.rules) }
 {

@@ -11,9 +11,11 @@ ghost use Rattle.rec_run.specs.Output.{shown_by, shown_of};
 ghost use Rattle.rec_run.specs.Run.{HasRoom, IsDueFor, RoomExhausts, both_texts};
 
 use crate::depth::{RunDepthFault, unbounded};
+use crate::observer::{Observer, Profiler};
 use crate::options::{LimitLines, RunOptions, RunSettings};
 use crate::spec::due::{EndedWithin, answer};
 use crate::spec::reading::read_alone_from;
+use rec_engine::{Unwatched, Watch};
 use rx_run::{Finish, Place, RunFault, empty_bank};
 use rx_term::TermBank;
 use rx_text::{Input, Output};
@@ -49,16 +51,21 @@ pub(crate) fn run_alone<R: Read, W: Write>(
         limits,
         depth: None,
     };
-    unbounded(run_alone_within(alloc, spec, out, settings, place))
+    let mut nobody = Unwatched;
+    let watch: &mut dyn Watch = &mut nobody;
+    let profiler = Unwatched;
+    let mut observer = Observer { watch, profiler };
+    unbounded(run_alone_within(alloc, spec, out, settings, place, &mut observer))
 }
 
 /// The same where it may be said how many calls may wait.
-pub(crate) fn run_alone_within<R: Read, W: Write>(
+pub(crate) fn run_alone_within<R: Read, W: Write, P: Profiler>(
     alloc: Global,
     spec: &mut R,
     out: &mut W,
     settings: RunSettings,
     place: &mut Option<Place>,
+    observer: &mut Observer<&mut dyn Watch, P>,
 ) -> Result<Finish, RunDepthFault>
     ensures output { IfOk (unbounded result) (λ finish. EndsFor (IsDueFor
         (shown_of settings) settings.options.steps)
@@ -79,16 +86,17 @@ pub(crate) fn run_alone_within<R: Read, W: Write>(
 {
     let mut spec = Input::new(spec);
     let mut output = Output::new(out);
-    alone_owned(alloc, &mut spec, &mut output, settings, place)
+    alone_owned(alloc, &mut spec, &mut output, settings, place, observer)
 }
 
 /// The same from an input and to an output. None is asked any more once it refused.
-fn alone_owned<R: Read, W: Write>(
+fn alone_owned<R: Read, W: Write, P: Profiler>(
     alloc: Global,
     spec: &mut Input<'_, R>,
     out: &mut Output<'_, W>,
     settings: RunSettings,
     place: &mut Option<Place>,
+    observer: &mut Observer<&mut dyn Watch, P>,
 ) -> Result<Finish, RunDepthFault>
     requires readable { IsReadable spec.old }
     requires writable { IsWritable out.old }
@@ -118,19 +126,20 @@ fn alone_owned<R: Read, W: Write>(
 {
     *place = None;
     match empty_bank(alloc, settings.options.cells) {
-        Ok(bank) => alone_over(alloc, bank, spec, out, settings, place).into_end(),
+        Ok(bank) => alone_over(alloc, bank, spec, out, settings, place, observer).into_end(),
         Err(fault) => Err(RunDepthFault::Run(fault)),
     }
 }
 
 /// The same from an input and to an output. None is asked any more once it refused.
-pub(crate) fn alone_over<B: TermBank, R: Read, W: Write>(
+pub(crate) fn alone_over<B: TermBank, R: Read, W: Write, P: Profiler>(
     alloc: Global,
     bank: B,
     spec: &mut Input<'_, R>,
     out: &mut Output<'_, W>,
     settings: RunSettings,
     place: &mut Option<Place>,
+    observer: &mut Observer<&mut dyn Watch, P>,
 ) -> EndedWithin<B>
     requires unrooted { (t : ℕ) → (B.store bank).roots t ≡ 0 }
     requires limit { (B.store bank).cap ≡ settings.options.cells }
@@ -166,7 +175,7 @@ pub(crate) fn alone_over<B: TermBank, R: Read, W: Write>(
 {
     *place = None;
     match read_alone_from(alloc, spec) {
-        Ok(reading) => answer(alloc, bank, reading, out, settings, place),
+        Ok(reading) => answer(alloc, bank, reading, out, settings, place, observer),
         Err(fault) => EndedWithin {
             end: Err(RunDepthFault::Run(fault)),
             bank,

@@ -18,10 +18,12 @@ ghost use Rattle.rec_run.specs.Run.{
 };
 
 use crate::depth::unbounded;
+use crate::observer::Observer;
 use crate::options::{LimitLines, RunOptions, RunSettings};
 use crate::spec::alone::alone_over;
 use crate::spec::beside::beside_over;
 use crate::spec::due::EndedWithin;
+use rec_engine::{Unwatched, Watch};
 use rx_run::{Finish, Place, RunFault};
 use rx_term::{Term, TermBank};
 use rx_text::{Input, Output};
@@ -149,7 +151,20 @@ fn run_alone_in<B: TermBank, R: Read, W: Write>(
         limits: LimitLines::Bare,
         depth: None,
     };
-    alone_over(alloc, bank, &mut spec, &mut output, settings, place).told()
+    let mut nobody = Unwatched;
+    let watch: &mut dyn Watch = &mut nobody;
+    let profiler = Unwatched;
+    let mut observer = Observer { watch, profiler };
+    alone_over(
+        alloc,
+        bank,
+        &mut spec,
+        &mut output,
+        settings,
+        place,
+        &mut observer,
+    )
+    .told()
 }
 
 /// A run over a bank with given terms.
@@ -195,6 +210,10 @@ fn run_beside_in<B: TermBank, R: Read, T: Read, W: Write>(
         limits: LimitLines::Bare,
         depth: None,
     };
+    let mut nobody = Unwatched;
+    let watch: &mut dyn Watch = &mut nobody;
+    let profiler = Unwatched;
+    let mut observer = Observer { watch, profiler };
     beside_over(
         alloc,
         bank,
@@ -203,6 +222,7 @@ fn run_beside_in<B: TermBank, R: Read, T: Read, W: Write>(
         &mut output,
         settings,
         place,
+        &mut observer,
     )
     .told()
 }

@@ -11,9 +11,11 @@ ghost use Rattle.rec_run.specs.Output.{shown_by, shown_of};
 ghost use Rattle.rec_run.specs.Run.{HasRoom, IsDueFor, RoomIn, TellsReads, both_texts};
 
 use crate::depth::{RunDepthFault, unbounded};
+use crate::observer::{Observer, Profiler};
 use crate::options::{LimitLines, RunOptions, RunSettings};
 use crate::spec::due::{EndedWithin, answer};
 use crate::spec::reading::read_both_from;
+use rec_engine::{Unwatched, Watch};
 use rx_run::{Finish, Place, RunFault, empty_bank};
 use rx_term::TermBank;
 use rx_text::{Input, Output};
@@ -54,17 +56,22 @@ pub(crate) fn run_beside<R: Read, T: Read, W: Write>(
         limits,
         depth: None,
     };
-    unbounded(run_beside_within(alloc, spec, terms, out, settings, place))
+    let mut nobody = Unwatched;
+    let watch: &mut dyn Watch = &mut nobody;
+    let profiler = Unwatched;
+    let mut observer = Observer { watch, profiler };
+    unbounded(run_beside_within(alloc, spec, terms, out, settings, place, &mut observer))
 }
 
 /// The same where it may be said how many calls may wait.
-pub(crate) fn run_beside_within<R: Read, T: Read, W: Write>(
+pub(crate) fn run_beside_within<R: Read, T: Read, W: Write, P: Profiler>(
     alloc: Global,
     spec: &mut R,
     terms: &mut T,
     out: &mut W,
     settings: RunSettings,
     place: &mut Option<Place>,
+    observer: &mut Observer<&mut dyn Watch, P>,
 ) -> Result<Finish, RunDepthFault>
     ensures output { IfOk (unbounded result) (λ finish. EndsFor (IsDueFor
         (shown_of settings) settings.options.steps)
@@ -90,17 +97,26 @@ pub(crate) fn run_beside_within<R: Read, T: Read, W: Write>(
     let mut spec = Input::new(spec);
     let mut terms = Input::new(terms);
     let mut output = Output::new(out);
-    beside_owned(alloc, &mut spec, &mut terms, &mut output, settings, place)
+    beside_owned(
+        alloc,
+        &mut spec,
+        &mut terms,
+        &mut output,
+        settings,
+        place,
+        observer,
+    )
 }
 
 /// The same from two inputs and to an output. None is asked any more once it refused.
-fn beside_owned<R: Read, T: Read, W: Write>(
+fn beside_owned<R: Read, T: Read, W: Write, P: Profiler>(
     alloc: Global,
     spec: &mut Input<'_, R>,
     terms: &mut Input<'_, T>,
     out: &mut Output<'_, W>,
     settings: RunSettings,
     place: &mut Option<Place>,
+    observer: &mut Observer<&mut dyn Watch, P>,
 ) -> Result<Finish, RunDepthFault>
     requires readable { IsReadable spec.old }
     requires terms_readable { IsReadable terms.old }
@@ -137,13 +153,15 @@ fn beside_owned<R: Read, T: Read, W: Write>(
 {
     *place = None;
     match empty_bank(alloc, settings.options.cells) {
-        Ok(bank) => beside_over(alloc, bank, spec, terms, out, settings, place).into_end(),
+        Ok(bank) => beside_over(
+            alloc, bank, spec, terms, out, settings, place, observer,
+        ).into_end(),
         Err(fault) => Err(RunDepthFault::Run(fault)),
     }
 }
 
 /// The same from two inputs and to an output. None is asked any more once it refused.
-pub(crate) fn beside_over<B: TermBank, R: Read, T: Read, W: Write>(
+pub(crate) fn beside_over<B: TermBank, R: Read, T: Read, W: Write, P: Profiler>(
     alloc: Global,
     mut bank: B,
     spec: &mut Input<'_, R>,
@@ -151,6 +169,7 @@ pub(crate) fn beside_over<B: TermBank, R: Read, T: Read, W: Write>(
     out: &mut Output<'_, W>,
     settings: RunSettings,
     place: &mut Option<Place>,
+    observer: &mut Observer<&mut dyn Watch, P>,
 ) -> EndedWithin<B>
     requires unrooted { (t : ℕ) → (B.store bank).roots t ≡ 0 }
     requires limit { (B.store bank).cap ≡ settings.options.cells }
@@ -193,7 +212,7 @@ pub(crate) fn beside_over<B: TermBank, R: Read, T: Read, W: Write>(
 {
     *place = None;
     match read_both_from(alloc, spec, terms, &mut bank) {
-        Ok(reading) => answer(alloc, bank, reading, out, settings, place),
+        Ok(reading) => answer(alloc, bank, reading, out, settings, place, observer),
         Err(fault) => EndedWithin {
             end: Err(RunDepthFault::Run(fault)),
             bank,

@@ -11,9 +11,11 @@ ghost use Rattle.rec_run.specs.Output.{shown_of};
 ghost use Rattle.rec_run.specs.Run.{RoomExhausts};
 
 use crate::depth::RunDepthFault;
+use crate::observer::{Observer, Profiler};
 use crate::options::RunSettings;
 use crate::spec::evaluated::{Left, write_evaluated};
 use crate::spec::reading::Job;
+use rec_engine::Watch;
 use rx_run::{Finish, Place, Reading, Refusal, RunFault, write_refusal_to};
 use rx_term::{Term, TermBank};
 use rx_text::{Output, RefusedWrite};
@@ -46,13 +48,14 @@ impl<B: Drop> EndedWithin<B> {
 
 /// Writes what is due for the texts that were read, and flushes: how the run ends, and the place of
 /// the refusal that was written.
-pub(crate) fn answer<B: TermBank, W: Write>(
+pub(crate) fn answer<B: TermBank, W: Write, P: Profiler>(
     alloc: Global,
     bank: B,
     reading: Reading<Job>,
     out: &mut Output<'_, W>,
     settings: RunSettings,
     place: &mut Option<Place>,
+    observer: &mut Observer<&mut dyn Watch, P>,
 ) -> EndedWithin<B>
     requires unrooted { (t : ℕ) → (B.store bank).roots t ≡ 0 }
     requires ready { IsReady (B.store bank) reading }
@@ -83,7 +86,7 @@ pub(crate) fn answer<B: TermBank, W: Write>(
         written,
         bank,
         needed,
-    } = write_due(alloc, bank, reading, out, settings);
+    } = write_due(alloc, bank, reading, out, settings, observer);
     EndedWithin {
         end: end_run(written, finish, refused_at, out, place),
         bank,
@@ -121,12 +124,13 @@ fn end_run<W: Write>(
 }
 
 /// Writes what is due.
-fn write_due<B: TermBank, W: Write>(
+fn write_due<B: TermBank, W: Write, P: Profiler>(
     alloc: Global,
     bank: B,
     reading: Reading<Job>,
     out: &mut Output<'_, W>,
     settings: RunSettings,
+    observer: &mut Observer<&mut dyn Watch, P>,
 ) -> Left<B>
     requires unrooted { (t : ℕ) → (B.store bank).roots t ≡ 0 }
     requires ready { IsReady (B.store bank) reading }
@@ -154,7 +158,7 @@ fn write_due<B: TermBank, W: Write>(
             needed: Vec::new(alloc),
         },
         Reading::Good(Job { checked, list }) => {
-            write_evaluated(alloc, checked, bank, list, out, settings)
+            write_evaluated(alloc, checked, bank, list, out, settings, observer)
         }
     }
 }

@@ -1,23 +1,24 @@
 //! The terms of a run, over an engine that is made for them.
 
-ghost use Rattle.std.specs.Prelude.{◌≡◌, ◌≢◌, ℕ, IfErr, IfOk, IsSome, OnOk};
+ghost use Rattle.std.specs.Prelude.{◌≡◌, ◌≢◌, ℕ, [], IfErr, IfOk, IsSome, OnOk};
 ghost use Rattle.std.specs.Option.{ForSome};
-ghost use Rattle.rx_term.specs.Steps.{with_count};
+ghost use Rattle.rx_term.specs.Steps.{Keeps, with_count};
 ghost use Rattle.rx_term.specs.Store.{tree_at};
 ghost use Rattle.rx_text.specs.Output.{IsSameOutput, IsWritable, Writes, contents_of};
-ghost use Rattle.rec_engine.specs.Engine.{RemembersNothing};
+ghost use Rattle.rec_engine.specs.Engine.{RemembersNothing, SameEngine};
 ghost use Rattle.rx_run.specs.Run.{Stops};
 ghost use Rattle.rx_run.specs.Streams.{TellsWrite};
-ghost use Rattle.rec_run.specs.Depth.{IsBounded, unbounded};
-ghost use Rattle.rec_run.specs.EvaluatedLines.{ProtectsTerms, engine_options};
+ghost use Rattle.rec_run.specs.Depth.{IsBounded, RunDeepOnly, unbounded};
+ghost use Rattle.rec_run.specs.EvaluatedLines.{ProtectsTerms, RunLacks, engine_options};
 ghost use Rattle.rec_run.specs.GivenTerms.{HoldsTerms, given_by};
 ghost use Rattle.rec_run.specs.Output.{lines, shown_of};
 ghost use Rattle.rec_run.specs.Run.{RoomExhausts};
 
 use crate::depth::RunDepthFault;
+use crate::observer::{Observer, Profiler};
 use crate::options::{RunOptions, RunSettings};
-use crate::spec::lines::write_lines_within;
-use rec_engine::{Engine, Options};
+use crate::spec::lines::write_lines_observed;
+use rec_engine::{Engine, Options, Watch};
 use rec_sorts::Checked;
 use rx_run::RunFault;
 use rx_term::{RootsFull, Term, TermBank};
@@ -38,13 +39,14 @@ pub(crate) struct Left<B> {
 
 /// Evaluates the terms of a specification and those of a list, where there is one, over the bank
 /// that holds them, and writes a line for each. The list stays protected.
-pub(crate) fn write_evaluated<B: TermBank, W: Write>(
+pub(crate) fn write_evaluated<B: TermBank, W: Write, P: Profiler>(
     alloc: Global,
     checked: Checked,
     bank: B,
     list: Option<Term>,
     out: &mut Output<'_, W>,
     settings: RunSettings,
+    observer: &mut Observer<&mut dyn Watch, P>,
 ) -> Left<B>
     requires unrooted { (t : ℕ) → (B.store bank).roots t ≡ 0 }
     requires given { ForSome list (HoldsTerms checked.spec (B.store bank)) }
@@ -66,7 +68,7 @@ pub(crate) fn write_evaluated<B: TermBank, W: Write>(
 {
     match engine_over(alloc, checked, bank, list, settings.options) {
         Ok(mut engine) => {
-            let written = write_lines_within(alloc, &mut engine, list, out, settings);
+            let written = observe_lines(alloc, &mut engine, list, out, settings, observer);
             let (bank, needed) = engine.into_parts();
             Left {
                 written,
@@ -80,6 +82,49 @@ pub(crate) fn write_evaluated<B: TermBank, W: Write>(
             needed: Vec::new(alloc),
         },
     }
+}
+
+/// Counts from now on how often each rule is used, where that is asked for and there is memory.
+fn count_rules<B: TermBank, P: Profiler>(alloc: Global, engine: &mut Engine<B>, profiler: &P)
+    ensures same { SameEngine engine.old engine.new }
+    ensures bank { engine.new.bank ≡ engine.old.bank }
+{
+    if profiler.counts_rules() {
+        let _ = engine.count_rules(alloc);
+    }
+}
+
+/// Writes a line for each term, and tells the observer what they took.
+fn observe_lines<B: TermBank, W: Write, P: Profiler>(
+    alloc: Global,
+    engine: &mut Engine<B>,
+    list: Option<Term>,
+    out: &mut Output<'_, W>,
+    settings: RunSettings,
+    observer: &mut Observer<&mut dyn Watch, P>,
+) -> Result<(), RunDepthFault>
+    requires protected { ForSome list (ProtectsTerms engine.old.spec (B.store engine.old.bank)) }
+    requires open { IsWritable out.old }
+    ensures keeps { Keeps (B.store engine.old.bank) (B.store engine.new.bank) [] }
+    ensures ok { OnOk (unbounded result) (Writes W.contents out.old out.new
+        (lines engine.old.spec (given_by (B.store engine.old.bank) list)
+        (shown_of settings) settings.options.steps)) }
+    ensures err { IfErr (unbounded result) (λ fault. Stops fault
+        (lines engine.old.spec (given_by (B.store engine.old.bank) list)
+        (shown_of settings) settings.options.steps)
+        (contents_of W.contents out.old) (contents_of W.contents out.new)) }
+    ensures room { IfErr (unbounded result)
+        (RunLacks (B.store engine.new.bank) engine.new.work engine.new.memo) }
+    ensures deep { RunDeepOnly engine.new.waiting settings.depth result }
+    ensures same_output { IsSameOutput out.old out.new }
+    ensures cause { TellsWrite out.new (unbounded result) }
+    ensures no_reader { IfErr (unbounded result) (λ fault. fault ≢ RunFault.Read) }
+{
+    count_rules(alloc, engine, &observer.profiler);
+    let written = write_lines_observed(alloc, engine, list, out, settings, observer.watch);
+    let profiler = &mut observer.profiler;
+    profiler.conclude(engine.checked(), engine.rule_counts(), engine.tally());
+    written
 }
 
 /// The engine of a run over a bank: it works as the options say, and the list of given terms, where

@@ -19,7 +19,7 @@ use crate::depth::{LineDepthFault, line, unbounded_line};
 use crate::options::{LimitLines, RunOptions, RunSettings};
 use crate::spec::lines::LineFault;
 use crate::spec::outcome::write_outcome_line;
-use rec_engine::{DepthFault, Engine, EngineFault, Outcome};
+use rec_engine::{DepthFault, Engine, EngineFault, Outcome, Unwatched, Watch};
 use rx_term::{Term, TermBank};
 use rx_text::Output;
 use std::alloc::Global;
@@ -59,6 +59,32 @@ pub fn evaluate_within<B: TermBank>(
     match depth {
         Some(depth) => engine.normalise_within(t, n, depth),
         None => answered(engine.normalise(t, n)),
+    }
+}
+
+/// The same, and somebody is told while it goes on.
+pub fn evaluate_observed<B: TermBank>(
+    engine: &mut Engine<B>,
+    t: Term,
+    n: u64,
+    depth: Option<u32>,
+    watch: &mut dyn Watch,
+) -> Result<Outcome, DepthFault>
+    requires { IsGiven engine.old.spec (B.store engine.old.bank) t }
+    ensures same { SameEngine engine.old engine.new }
+    ensures keeps { Keeps (B.store engine.old.bank) (B.store engine.new.bank) [] }
+    ensures outcome { IfOk result (λ o. (u : Tree)
+        → tree_at (B.store engine.old.bank) t ≡ Some u
+        → IsOutcome engine.new.spec (B.store engine.new.bank) n u o) }
+    ensures kept { IfOk result (IsKept engine.new.work) }
+    ensures held { AllHeld (B.store engine.new.bank) engine.new.work }
+    ensures room { RoomOnlyWithin (B.store engine.new.bank) engine.new.work engine.new.memo
+        result }
+    ensures deep { DeepOnlyFor engine.new.waiting depth result }
+{
+    match depth {
+        Some(depth) => engine.normalise_within_watched(t, n, depth, watch),
+        None => answered(engine.normalise_watched(t, n, watch)),
     }
 }
 
@@ -145,7 +171,36 @@ pub fn write_evaluation_within<B: TermBank, W: Write>(
     ensures same_output { IsSameOutput out.old out.new }
     ensures cause { TellsLine out.new (unbounded_line result) }
 {
-    match evaluate_within(engine, t, settings.options.steps, settings.depth) {
+    write_evaluation_observed(alloc, engine, t, out, settings, &mut Unwatched)
+}
+
+/// The same, and somebody is told while it goes on.
+pub(crate) fn write_evaluation_observed<B: TermBank, W: Write>(
+    alloc: Global,
+    engine: &mut Engine<B>,
+    t: Term,
+    out: &mut Output<'_, W>,
+    settings: RunSettings,
+    watch: &mut dyn Watch,
+) -> Result<(), LineDepthFault>
+    requires given { IsGiven engine.old.spec (B.store engine.old.bank) t }
+    requires stays { StaysFor settings.limits (B.store engine.old.bank) t }
+    requires open { IsWritable out.old }
+    ensures same { SameEngine engine.old engine.new }
+    ensures keeps { Keeps (B.store engine.old.bank) (B.store engine.new.bank) [] }
+    ensures ok { OnOk result (Writes W.contents out.old out.new
+        (given_text engine.old.spec (shown_of settings) settings.options.steps
+        (item_at (B.store engine.old.bank) t) ++ codes "\n")) }
+    ensures err { IfErr (unbounded_line result) (λ fault. WritesFront W.contents out.old out.new (due_before fault
+        (given_text engine.old.spec (shown_of settings) settings.options.steps
+        (item_at (B.store engine.old.bank) t)))) }
+    ensures room { IfErr (unbounded_line result)
+        (LineLacks (B.store engine.new.bank) engine.new.work engine.new.memo) }
+    ensures deep { LineDeepOnly engine.new.waiting settings.depth result }
+    ensures same_output { IsSameOutput out.old out.new }
+    ensures cause { TellsLine out.new (unbounded_line result) }
+{
+    match evaluate_observed(engine, t, settings.options.steps, settings.depth, watch) {
         Ok(outcome) => {
             let limits = settings.limits;
             let bank = engine.bank();

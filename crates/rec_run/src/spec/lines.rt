@@ -39,8 +39,8 @@ ghost use Rattle.rec_run.specs.Reading.{text_at};
 
 use crate::depth::{LineDepthFault, RunDepthFault, unbounded};
 use crate::options::{LimitLines, RunOptions, RunSettings};
-use crate::spec::evaluation::write_evaluation_within;
-use rec_engine::{Engine, EngineFault};
+use crate::spec::evaluation::write_evaluation_observed;
+use rec_engine::{Engine, EngineFault, Unwatched, Watch};
 use rx_run::RunFault;
 use rx_term::{Kind, Term, TermBank};
 use rx_text::{Output, RefusedWrite, WriteFault};
@@ -206,13 +206,44 @@ pub fn write_lines_within<B: TermBank, W: Write>(
     ensures cause { TellsWrite out.new (unbounded result) }
     ensures no_reader { IfErr (unbounded result) (λ fault. fault ≢ RunFault.Read) }
 {
-    match write_own_lines(alloc, engine, out, settings) {
+    write_lines_observed(alloc, engine, list, out, settings, &mut Unwatched)
+}
+
+/// The same, and somebody is told while it goes on.
+pub(crate) fn write_lines_observed<B: TermBank, W: Write>(
+    alloc: Global,
+    engine: &mut Engine<B>,
+    list: Option<Term>,
+    out: &mut Output<'_, W>,
+    settings: RunSettings,
+    watch: &mut dyn Watch,
+) -> Result<(), RunDepthFault>
+    requires protected { ForSome list (ProtectsTerms engine.old.spec (B.store engine.old.bank)) }
+    requires open { IsWritable out.old }
+    ensures same { SameEngine engine.old engine.new }
+    ensures keeps { Keeps (B.store engine.old.bank) (B.store engine.new.bank) [] }
+    ensures ok { OnOk result (Writes W.contents out.old out.new
+        (lines engine.old.spec (given_by (B.store engine.old.bank) list)
+        (shown_of settings)
+        settings.options.steps)) }
+    ensures err { IfErr (unbounded result) (λ fault. Stops fault
+        (lines engine.old.spec (given_by (B.store engine.old.bank) list)
+        (shown_of settings) settings.options.steps)
+        (contents_of W.contents out.old) (contents_of W.contents out.new)) }
+    ensures room { IfErr (unbounded result)
+        (RunLacks (B.store engine.new.bank) engine.new.work engine.new.memo) }
+    ensures deep { RunDeepOnly engine.new.waiting settings.depth result }
+    ensures same_output { IsSameOutput out.old out.new }
+    ensures cause { TellsWrite out.new (unbounded result) }
+    ensures no_reader { IfErr (unbounded result) (λ fault. fault ≢ RunFault.Read) }
+{
+    match write_own_lines(alloc, engine, out, settings, watch) {
         Ok(()) => {}
         Err(fault) => return Err(fault),
     }
     match list {
         None => Ok(()),
-        Some(list) => write_given_lines(alloc, engine, list, out, settings),
+        Some(list) => write_given_lines(alloc, engine, list, out, settings, watch),
     }
 }
 
@@ -222,6 +253,7 @@ fn write_own_lines<B: TermBank, W: Write>(
     engine: &mut Engine<B>,
     out: &mut Output<'_, W>,
     settings: RunSettings,
+    watch: &mut dyn Watch,
 ) -> Result<(), RunDepthFault>
     requires { IsWritable out.old }
     ensures same { SameEngine engine.old engine.new }
@@ -239,7 +271,7 @@ fn write_own_lines<B: TermBank, W: Write>(
     ensures no_reader { IfErr (unbounded result) (λ fault. fault ≢ RunFault.Read) }
 {
     for i in 0..engine.eval_terms() {
-        match write_own_line(alloc, engine, i, out, settings) {
+        match write_own_line(alloc, engine, i, out, settings, watch) {
             Ok(()) => {}
             Err(fault) => return Err(fault.after(u64::from(i))),
         }
@@ -254,6 +286,7 @@ fn write_own_line<B: TermBank, W: Write>(
     i: u32,
     out: &mut Output<'_, W>,
     settings: RunSettings,
+    watch: &mut dyn Watch,
 ) -> Result<(), LineDepthFault>
     requires there { i < length engine.old.spec.terms }
     requires open { IsWritable out.old }
@@ -276,7 +309,7 @@ fn write_own_line<B: TermBank, W: Write>(
         depth: settings.depth,
     };
     match engine.eval_term(i) {
-        Ok(term) => write_evaluation_within(alloc, engine, term, out, settings),
+        Ok(term) => write_evaluation_observed(alloc, engine, term, out, settings, watch),
         Err(fault) => Err(LineDepthFault::Line(LineFault::from(fault))),
     }
 }
@@ -288,6 +321,7 @@ fn write_given_lines<B: TermBank, W: Write>(
     list: Term,
     out: &mut Output<'_, W>,
     settings: RunSettings,
+    watch: &mut dyn Watch,
 ) -> Result<(), RunDepthFault>
     requires protected { ProtectsTerms engine.old.spec (B.store engine.old.bank) list }
     requires open { IsWritable out.old }
@@ -315,7 +349,7 @@ fn write_given_lines<B: TermBank, W: Write>(
             return Ok(());
         };
         let term = engine.bank().head(rest);
-        match write_evaluation_within(alloc, engine, term, out, settings) {
+        match write_evaluation_observed(alloc, engine, term, out, settings, watch) {
             Ok(()) => {}
             Err(fault) => return Err(fault.after(first + u64::from(i))),
         }

@@ -9,9 +9,11 @@ ghost use Rattle.rec_run.specs.Output.{bare, shown_by, shown_of};
 ghost use Rattle.rec_run.specs.Run.{HasRoom, IsDueFor, Leads, Stays, both_texts, terms_text};
 
 use crate::depth::RunDepthFault;
+use crate::observer::{Observer, Profiler};
 use crate::options::{LimitLines, RunOptions, RunSettings};
 use crate::spec::alone::{run_alone, run_alone_within};
 use crate::spec::beside::{run_beside, run_beside_within};
+use rec_engine::{Unwatched, Watch};
 use rx_run::{Finish, Place, RunFault};
 use std::alloc::Global;
 use std::io::{Read, Write};
@@ -155,8 +157,51 @@ pub fn run_within<R: Read, T: Read, W: Write>(
     ensures unread { OnRefusedSpec (R.remaining spec.old)
         (Stays (λ f. f.0.now) terms.exit (option_copied_mut terms.entry)) }
 {
+    let mut nobody = Unwatched;
+    let watch: &mut dyn Watch = &mut nobody;
+    let profiler = Unwatched;
+    let mut observer = Observer { watch, profiler };
     match terms {
-        None => run_alone_within(alloc, spec, out, settings, place),
-        Some(terms) => run_beside_within(alloc, spec, terms, out, settings, place),
+        None => run_alone_within(alloc, spec, out, settings, place, &mut observer),
+        Some(terms) => {
+            run_beside_within(alloc, spec, terms, out, settings, place, &mut observer)
+        }
+    }
+}
+
+/// The same, and somebody is told of the evaluations while they go on, and of what they took.
+pub fn run_observed<R: Read, T: Read, W: Write, P: Profiler>(
+    alloc: Global,
+    spec: &mut R,
+    terms: Option<&mut T>,
+    out: &mut W,
+    settings: RunSettings,
+    place: &mut Option<Place>,
+    observer: &mut Observer<&mut dyn Watch, P>,
+) -> Result<Finish, RunDepthFault>
+    ensures output { IfOk result (λ finish. EndsFor (IsDueFor
+        (shown_of settings) settings.options.steps)
+        (both_texts (R.remaining spec.old) (terms_text T.remaining terms.entry))
+        finish (W.contents out.old) (W.contents out.new)) }
+    ensures place { OnOk result (IsPlacedFor (IsDueFor
+        (shown_of settings) settings.options.steps)
+        (both_texts (R.remaining spec.old) (terms_text T.remaining terms.entry)) place.new) }
+    ensures fault { IfErr (unbounded result) (λ fault. BreaksFor (IsDueFor
+        (shown_of settings) settings.options.steps)
+        (both_texts (R.remaining spec.old) (terms_text T.remaining terms.entry))
+        fault (W.contents out.old) (W.contents out.new)) }
+    ensures room { OnRefusedSpec (R.remaining spec.old) (IfErr result HasRoomWithin) }
+    ensures bounded { IfErr result (IsBounded settings.depth) }
+    ensures no_place { OnErr result (place.new ≡ None) }
+    ensures spec_read { OnOk result (IsReadOut (R.remaining spec.old) (R.remaining spec.new)) }
+    ensures terms_read { OnOk result (OnGoodSpec (R.remaining spec.old)
+        (Leads (λ old new. IsReadOut (T.remaining old) (T.remaining new))
+        (λ f. f.0.now) terms.exit (option_copied_mut terms.entry))) }
+    ensures unread { OnRefusedSpec (R.remaining spec.old)
+        (Stays (λ f. f.0.now) terms.exit (option_copied_mut terms.entry)) }
+{
+    match terms {
+        None => run_alone_within(alloc, spec, out, settings, place, observer),
+        Some(terms) => run_beside_within(alloc, spec, terms, out, settings, place, observer),
     }
 }

@@ -70,6 +70,8 @@ Options:
       --limit-annotations  Print the annotations of a further term behind its limit
       --limit-status       End with status 5 where a term takes more steps
       --stuck              Tell on standard error which calls of operators the values hold
+      --profile            Tell on standard error how often each rule is used, and what the run takes
+      --progress           Show on standard error how far a long term is, as on a terminal
       --explain            Say in words why a text is refused, and where
   -h, --help               Print help
 

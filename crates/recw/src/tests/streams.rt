@@ -1,8 +1,7 @@
 //! Files that are named, and inputs and outputs that fail.
 
-use crate::program::program;
 use crate::shelf::Shelf;
-use crate::tests::{ADDITION, Ran, Row, run_over};
+use crate::tests::{ADDITION, Ran, Row, program, run_over};
 use recw_words::{Console, failed_start};
 use std::alloc::Global;
 use std::io;

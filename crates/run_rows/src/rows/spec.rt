@@ -1,7 +1,7 @@
 //! Runs of worked specifications.
 
-use crate::rows::{ADD, Ran, addition, expect_ran, options, push, push_often, run_on};
-use rec_run::{Finish, Named, Place, RunFault, RunOptions, Source};
+use crate::rows::{ADD, Ran, addition, expect_ran, options, push, run_on};
+use rec_run::{Finish, Named, Place, RunOptions, Source};
 use std::alloc::Global;
 use std::process::Abort;
 
@@ -190,12 +190,18 @@ static REFUSED_TEXTS: [RefusedText; 6] = [
 ];
 
 /// What a run on a specification alone came to.
-fn run_alone(alloc: Global, mut text: &[u8], options: RunOptions) -> Ran {
+pub(crate) fn run_alone(alloc: Global, mut text: &[u8], options: RunOptions) -> Ran {
     run_on(alloc, &mut text, None::<&mut &[u8]>, options)
 }
 
 /// Stops where a specification is refused, or comes to other lines.
-fn expect_lines(rt: &impl Abort, alloc: Global, text: &str, options: RunOptions, lines: &str) {
+pub(crate) fn expect_lines(
+    rt: &impl Abort,
+    alloc: Global,
+    text: &str,
+    options: RunOptions,
+    lines: &str,
+) {
     let ran = run_alone(alloc, text.as_bytes(), options);
     expect_ran(rt, &ran, Finish::Done, None, lines);
 }
@@ -213,123 +219,6 @@ fn values(rt: HostRuntime) {
         expect_lines(&rt, rt.alloc(), text, options(*steps, *count), lines);
         expect_lines(&rt, rt.alloc(), text, often(*steps, *count), lines);
     }
-}
-
-/// A bank of so many cells, at least one and at most a million, and a reclaim after each new one.
-fn narrow(steps: u32, cells: u32) -> RunOptions {
-    RunOptions {
-        steps: u64::from(steps),
-        cells: cells.clamp(1, 1_000_000),
-        memo: 0,
-        reclaim: 1,
-        count: false,
-    }
-}
-
-/// The line of the sum's value.
-const SUM: &[u8] = b"s(s(s(z)))\n";
-
-/// Stops where so many cells ran out that are enough, or there were enough that are too few: less
-/// than ten are too few, and 64 are enough. Nothing is written where they ran out.
-fn expect_sum(rt: &impl Abort, ran: &Ran, cells: u32) {
-    let is_done = ran.result == Ok(Finish::Done) && ran.written.as_slice() == SUM;
-    let is_short = ran.result == Err(RunFault::Room { lines: 0 }) && ran.written.is_empty();
-    assert!(rt; is_done && cells >= 10 || is_short && cells < 64, "{cells}");
-}
-
-#[test]
-fn few_cells(rt: HostRuntime) {
-    for cells in 1..=64 {
-        let ran = run_alone(rt.alloc(), ADD.as_bytes(), narrow(3, cells));
-        expect_sum(&rt, &ran, cells);
-    }
-}
-
-/// Adds the numbers from 1 to 20, each between two texts.
-fn push_numbers(rt: &impl Abort, alloc: Global, text: &mut String, front: &str, back: &str) {
-    for i in 1..=20 {
-        let item = format!(in alloc; "{front}{i}{back}").expect(rt, "memory");
-        push(rt, text, item.as_str());
-    }
-}
-
-/// Adds a specification of twenty constants, with a term of each.
-fn push_constants(rt: &impl Abort, alloc: Global, text: &mut String) {
-    push(rt, text, "REC-SPEC K SORTS N CONS");
-    push_numbers(rt, alloc, text, " c", " : -> N");
-    push(rt, text, " OPNS h : N -> N EVAL");
-    push_numbers(rt, alloc, text, " h(c", ")");
-    push(rt, text, " END-SPEC");
-}
-
-/// No steps and a bank of sixteen cells, with a reclaim as seldom as by default.
-fn sixteen_cells() -> RunOptions {
-    let mut few = narrow(0, 16);
-    few.reclaim = 262_144;
-    few
-}
-
-#[test]
-fn cells_of_earlier_terms(rt: HostRuntime) {
-    let mut text = String::new(rt.alloc());
-    push_constants(&rt, rt.alloc(), &mut text);
-    let mut due = String::new(rt.alloc());
-    push_numbers(&rt, rt.alloc(), &mut due, "h(c", ")\n");
-    expect_lines(&rt, rt.alloc(), text.as_str(), narrow(0, 16), due.as_str());
-    expect_lines(
-        &rt,
-        rt.alloc(),
-        text.as_str(),
-        sixteen_cells(),
-        due.as_str(),
-    );
-}
-
-/// Adds a specification whose one term is a tree of thirty times two symbols about `z`.
-fn push_nested(rt: &impl Abort, text: &mut String) {
-    push(
-        rt,
-        text,
-        "REC-SPEC K SORTS N \
-            CONS z : -> N s : N -> N q : N -> N \
-            OPNS t : N -> N e : N -> N \
-            VARS X : N \
-            RULES t(X) -> e(q(X)) e(q(X)) -> X EVAL ",
-    );
-    push_often(rt, text, "t(s(", 30);
-    push(rt, text, "z");
-    push_often(rt, text, "))", 30);
-    push(rt, text, " END-SPEC");
-}
-
-/// Adds the line of its value.
-fn push_nested_line(rt: &impl Abort, text: &mut String) {
-    push_often(rt, text, "s(", 30);
-    push(rt, text, "z");
-    push_often(rt, text, ")", 30);
-    push(rt, text, "\n");
-}
-
-/// Sixty steps and a bank of two hundred cells.
-fn two_hundred_cells() -> RunOptions {
-    let mut few = options(60, false);
-    few.cells = 200;
-    few
-}
-
-#[test]
-fn cells_of_a_nested_term(rt: HostRuntime) {
-    let mut text = String::new(rt.alloc());
-    push_nested(&rt, &mut text);
-    let mut due = String::new(rt.alloc());
-    push_nested_line(&rt, &mut due);
-    expect_lines(
-        &rt,
-        rt.alloc(),
-        text.as_str(),
-        two_hundred_cells(),
-        due.as_str(),
-    );
 }
 
 /// Stops where a specification is not refused, or by another line or at another place.

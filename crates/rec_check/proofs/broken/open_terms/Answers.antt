@@ -1,9 +1,9 @@
-use Rattle.std.proofs.Common.{◌≡◌, sym, ap, subst, ◌∙◌}
+use Rattle.std.proofs.Common.{◌≡◌, sym, ap, ◌∙◌}
 use Rattle.std.specs.Prelude.{count_by}
 use Rattle.rec_sorts.specs.Lookup.{variable_words}
 use Rattle.rec_sorts.specs.SpecRules.{open_terms}
-use Rattle.rec_check.specs.Lookups.{Knows, present}
-use Rattle.rec_check.specs.Named.{as_nodes, as_words, node_words}
+use Rattle.rec_check.specs.Lookups.{present}
+use Rattle.rec_check.specs.Named.{as_words, node_words}
 use Rattle.rec_check.specs.Walks.{flat_terms}
 use Rattle.rec_check.proofs.WalkLemmas.{same-present}
 use Rattle.rec_check.proofs.WordLemmas.{if_ok_same}

@@ -1,11 +1,8 @@
-use Rattle.std.proofs.Common.{◌≡◌, ap, subst, ◌∙◌, ◌++◌, ◌∷◌}
+use Rattle.std.proofs.Common.{ap, ◌∙◌}
 use Rattle.rec_syntax.specs.Nodes.{flat}
 use Rattle.rec_syntax.specs.Parts.{rule_of}
-use Rattle.rec_sorts.specs.Lookup.{condition_terms, variable_words}
 use Rattle.rec_sorts.specs.SpecRules.{missing}
-use Rattle.rec_check.specs.Lookups.{Knows, present}
-use Rattle.rec_check.specs.Named.{as_nodes, as_words, node_words}
-use Rattle.rec_check.specs.Walks.{flat_terms}
+use Rattle.rec_check.specs.Named.{as_words, node_words}
 use Rattle.rec_check.proofs.WordLemmas.{if_ok_equal}
 use Rattle.rec_check.proofs.broken.unbound_of.Goals as goal
 

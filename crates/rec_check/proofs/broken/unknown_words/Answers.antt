@@ -1,9 +1,8 @@
-use Rattle.std.proofs.Common.{◌≡◌, sym, ap, subst, ◌∙◌, ◌++◌}
+use Rattle.std.proofs.Common.{◌≡◌, sym, ap, ◌∙◌, ◌++◌}
 use Rattle.std.specs.Prelude.{count_by}
 use Rattle.rec_sorts.specs.Lookup.{names, rule_terms, symbols, variable_words}
 use Rattle.rec_sorts.specs.SpecRules.{missing, unknown_words}
-use Rattle.rec_check.specs.Lookups.{Knows}
-use Rattle.rec_check.specs.Named.{as_nodes, as_words, node_words}
+use Rattle.rec_check.specs.Named.{as_words, node_words}
 use Rattle.rec_check.specs.Walks.{flat_terms}
 use Rattle.rec_check.proofs.WalkLemmas.{same-missing}
 use Rattle.rec_check.proofs.WordLemmas.{if_ok_same}

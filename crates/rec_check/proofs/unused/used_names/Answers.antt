@@ -1,7 +1,7 @@
 use Rattle.std.proofs.Common.{◌≡◌, sym, ap, ◌∙◌, ◌++◌}
 use Rattle.rec_sorts.specs.Lookup.{mentions, rule_terms}
 use Rattle.rec_sorts.specs.SpecRules.{all_terms, heads}
-use Rattle.rec_check.specs.Named.{as_nodes, as_words, node_words}
+use Rattle.rec_check.specs.Named.{as_words, node_words}
 use Rattle.rec_check.specs.Walks.{flat_terms}
 use Rattle.rec_check.proofs.WalkLemmas.{mentions-same, same-words}
 use Rattle.rec_check.proofs.WordLemmas.{if_ok_knows}

@@ -1,66 +1,10 @@
-use Rattle.std.proofs.Common.{arith, ap, subst, sym, ◌∙◌, ◌≡◌, ◌+◌, ◌++◌}
-use Rattle.std.proofs.lemmas.List.{length-take, take_all}
-use Rattle.std.proofs.lemmas.List.Elements.{All-take}
-use Rattle.std.specs.Prelude.{ℕ, List, All, ◌<◌, get_or, length, map, take}
-use Rattle.rec_syntax.specs.Syntax.{Sourced, Term, arguments, head}
-use Rattle.rec_sorts.specs.Numbering.{IsMeaning, named_by}
+use Rattle.std.proofs.Common.{subst, sym}
+use Rattle.std.specs.Prelude.{List, get_or}
+use Rattle.rec_sorts.specs.Numbering.{AreLetters}
 use Rattle.rec_sorts.specs.declared.letters.Letter.{Letter}
-use Rattle.rec_match.proofs.SkipLemmas as skip
-use Rattle.rec_check.specs.Findings.{as_findings, never_matching_in}
-use Rattle.rec_check.specs.Named.{as_words}
-use Rattle.rec_check.specs.Rewriting.{postorder_all, rewritten_by}
-use Rattle.rec_check.specs.declared.words.Word.{Word}
-use Rattle.rec_check.proofs.RewritingLemmas.{inner_ends, inner_long, inner_turn, spots_long, word_at_place, words_long}
 use Rattle.rec_check.proofs.rewriting.Rewriter.push_inner.Goals as goal
 
--- a place among the words is one among the arguments
-place : (ws vs : List Word) (ts : List Term) (i : ℕ) → vs ≡ ws → as_words ws ≡ map head ts → i < length vs → i < length ts
-place ws vs ts i e is lt = let long = words_long ws ts is in let same = ap length e in omega (arith, lt, long, same)
-
-pub split_at-requires-clause-within : goal.split_at-requires-clause-within
-split_at-requires-clause-within c =
+pub push_inner_words-requires-clause-letters : goal.push_inner_words-requires-clause-letters
+push_inner_words-requires-clause-letters c = λ r.
     let y = c.args.self.now.checked.now.spec in
-    let q = get_or y.rules c.args.rule skip.no_rule in
-    let letters = c.letters.result.now.left.items in
-    let ts = postorder_all (arguments q.left) in
-    let test = c.loop-i-test.true in
-    let lt : c.loop-i.i < length ts = place c.in_ok-words.words.items c.deref-word-items.result.now ts c.loop-i.i c.deref-word-items.ensures.value (subst (λ (x : Sourced). as_words c.in_ok-words.words.items ≡ map head (postorder_all (arguments (get_or x.spec.rules c.args.rule skip.no_rule).left))) c.syntax-syntax.ensures.same (c.in_ok-words.ensures skip.no_rule)) (omega (arith, test)) in
-    let own = inner_long y letters q.left c.loop-i.i (c.letters.ensures skip.no_rule).0 lt in
-    let few = length-take (c.loop-i.i + 1) letters in
-    let same = ap length c.deref-2.ensures.value in
-    omega (arith, own, few, same)
-
-pub rewriting-requires-clause-meant : goal.rewriting-requires-clause-meant
-rewriting-requires-clause-meant c =
-    let y = c.args.self.now.checked.now.spec in
-    subst (λ ls. All (λ l. IsMeaning y l.meaning) ls) (sym c.split_at.ensures.front)
-    (subst (λ ls. All (λ l. IsMeaning y l.meaning) (take (c.loop-i.i + 1) ls)) (sym c.deref-2.ensures.value) (All-take (λ (l : Letter). IsMeaning y l.meaning) (c.loop-i.i + 1) c.letters.result.now.left.items (c.letters.ensures skip.no_rule).0.0))
-
-pub loop-i-preserved : goal.loop-i-preserved
-loop-i-preserved c r =
-    let s = c.args.self.now.checked.now in
-    let y = s.spec in
-    let i = c.loop-i.i in
-    let q = get_or y.rules c.args.rule r in
-    let ts = postorder_all (arguments q.left) in
-    let t = get_or ts i q.left in
-    let words = c.deref-word-items.result.now in
-    let test = c.loop-i-test.true in
-    let here : i < length words = omega (arith, test) in
-    let is = ap as_words c.deref-word-items.ensures.value ∙ subst (λ (x : Sourced). as_words c.in_ok-words.words.items ≡ map head (postorder_all (arguments (get_or x.spec.rules c.args.rule r).left))) c.syntax-syntax.ensures.same (c.in_ok-words.ensures r) in
-    let lt : i < length ts = (let long = words_long words ts is in omega (arith, here, long)) in
-    let o = rewritten_by y (take c.len.result y.rules) t in
-    let ends = inner_ends y c.letters.result.now.left.items q.left i q.left (c.letters.ensures r).0 lt in
-    inner_turn s.source y ts i q.left _ o (as_findings c.args.found.now.items) (as_findings c.loop-i.found.items) (as_findings c.push.new.found.items) lt (word_at_place words ts i _ q.left is here)
-    (ap (λ rs. rewritten_by y rs t) (take_all c.len.result y.rules (let e = c.len.ensures in let k = c.args.self.now.spots.ok.0 in let l = spots_long c.args.self.now c.requires.rules in omega (arith, e, k, l)))) (c.loop-i.invariant r)
-    (c.in_ok-push.ensures o (c.in_ok-by.ensures.first ends.0 t (ap (map (named_by y)) c.split_at.ensures.front ∙ ap (λ ls. map (named_by y) (take (i + 1) ls)) c.deref-2.ensures.value ∙ ends.1)))
-
-pub returns : goal.returns
-returns c r =
-    let s = c.args.self.now.checked.now in
-    let ts = postorder_all (arguments (get_or s.spec.rules c.args.rule r).left) in
-    let words = c.deref-word-items.result.now in
-    let is = ap as_words c.deref-word-items.ensures.value ∙ subst (λ (x : Sourced). as_words c.in_ok-words.words.items ≡ map head (postorder_all (arguments (get_or x.spec.rules c.args.rule r).left))) c.syntax-syntax.ensures.same (c.in_ok-words.ensures r) in
-    let test = c.loop-i-test.false in
-    let long = words_long words ts is in
-    c.loop-i.invariant r ∙ ap (λ us. as_findings c.args.found.now.items ++ never_matching_in s.source s.spec us) (take_all c.loop-i.i ts (omega (arith, test, long)))
+    subst (λ (ls : List Letter). AreLetters y ls (get_or y.rules c.args.rule r).left) (sym c.deref-2.ensures.value) (c.letters.ensures r).0

@@ -1,8 +1,7 @@
-use Rattle.std.proofs.Common.{ap, arith, map, refl, subst, sym, ◌∙◌, ◌≡◌, []}
-use Rattle.std.specs.Prelude.{All, ◌<◌, get_or, length, take}
+use Rattle.std.proofs.Common.{ap, arith, map, refl, subst, ◌∙◌, ◌≡◌}
+use Rattle.std.specs.Prelude.{◌<◌, get_or, length, take}
 use Rattle.rec_syntax.specs.Syntax.{Sourced, head}
 use Rattle.rec_syntax.specs.Parts.{rule_of, term_of}
-use Rattle.rec_sorts.specs.Numbering.{IsMeaning, named, named_by}
 use Rattle.rec_match.proofs.SkipLemmas as skip
 use Rattle.rec_check.specs.Findings.{as_findings}
 use Rattle.rec_check.specs.Named.{as_word}

@@ -1,9 +1,7 @@
 use Rattle.std.proofs.Common.{rules, subst, sym}
-use Rattle.std.specs.Prelude.{◌≡◌, Contains, None, get_or, is_some}
-use Rattle.rec_syntax.specs.Syntax.{Rule, Spec, Term}
-use Rattle.rec_sorts.specs.Binding.{binds, tree_of}
+use Rattle.std.specs.Prelude.{◌≡◌, get_or}
+use Rattle.rec_syntax.specs.Syntax.{Rule, Term}
 use Rattle.rec_sorts.specs.Numbering.{AreLetters}
-use Rattle.rec_sorts.specs.SpecRules.{fault}
 use Rattle.rec_check.specs.Rewriting.{rewrites}
 use Rattle.rec_check.specs.Inner.Trials.{Matches}
 use Rattle.rec_check.proofs.RewritingLemmas.{if_ok_so, rewrites_bare, rewrites_never, rule_there}

@@ -1,30 +1,17 @@
-use Rattle.std.proofs.Common.{subst}
-use Rattle.rec_engine.specs.Machine.{After}
-use Rattle.rec_engine.proofs.StayLemmas.{stays-more, sound-next, means-next}
+use Rattle.rec_engine.proofs.StayLemmas.{stays-more, sound-next, after-next}
+use Rattle.rec_engine.proofs.TurnLemmas.{ok-map}
 use Rattle.rec_engine.proofs.machine.Machine.run_finish.Goals as goal
 
-pub run-requires-clause-sound : goal.run-requires-clause-sound
-run-requires-clause-sound g c = sound-next c.requires.sound c.finish.ensures.stays c.in-Ok-Go.ensures.goes.held
+pub run_on-requires-clause-sound : goal.run_on-requires-clause-sound
+run_on-requires-clause-sound g c = sound-next c.requires.sound c.finish.ensures.stays c.in_ok-flow.ensures.goes.held
 
-pub run-requires-clause-runs : goal.run-requires-clause-runs
-run-requires-clause-runs g c =
+pub run_on-requires-clause-goes : goal.run_on-requires-clause-goes
+run_on-requires-clause-goes g c =
     let o = c.requires.ends.0 in
-    (o, means-next c.finish.ensures.stays (subst (λ x. After c.args.self.now.checked.spec c.args.self.now.code (g.B.TermBank.store c.finish.new.self.bank) c.finish.new.self.state c.finish.new.self.work.items o x) c.in-Ok-Go.field-0-is (c.in-Ok-Go.ensures.goes.each o c.requires.ends.1)))
+    (o, after-next c.finish.ensures.stays c.finish.new.self.state c.finish.new.self.work.items o c.in_ok-flow.flow (c.in_ok-flow.ensures.goes.each o c.requires.ends.1))
 
-pub returns-in-Ok-clause-stays : goal.returns-in-Ok-clause-stays
-returns-in-Ok-clause-stays g c = stays-more c.finish.ensures.stays c.run.ensures.stays
+pub returns-clause-stays : goal.returns-clause-stays
+returns-clause-stays g c = stays-more c.finish.ensures.stays c.run_on.ensures.stays
 
-pub returns-in-Err-run-clause-stays : goal.returns-in-Err-run-clause-stays
-returns-in-Err-run-clause-stays g c = stays-more c.finish.ensures.stays c.run.ensures.stays
-
-pub returns-in-Ok-clause-comes : goal.returns-in-Ok-clause-comes
-returns-in-Ok-clause-comes g c o h = c.in-Ok.ensures.comes o (means-next c.finish.ensures.stays (subst (λ x. After c.args.self.now.checked.spec c.args.self.now.code (g.B.TermBank.store c.finish.new.self.bank) c.finish.new.self.state c.finish.new.self.work.items o x) c.in-Ok-Go.field-0-is (c.in-Ok-Go.ensures.goes.each o h)))
-
-pub returns-in-Ok-Done-clause-comes : goal.returns-in-Ok-Done-clause-comes
-returns-in-Ok-Done-clause-comes g c o h = subst (λ x. After c.args.self.now.checked.spec c.args.self.now.code (g.B.TermBank.store c.finish.new.self.bank) c.finish.new.self.state c.finish.new.self.work.items o x) c.in-Ok-Done.field-0-is (c.in-Ok-Done.ensures.goes.each o h)
-
-pub returns-in-Ok-Limit-clause-comes : goal.returns-in-Ok-Limit-clause-comes
-returns-in-Ok-Limit-clause-comes g c o h = subst (λ x. After c.args.self.now.checked.spec c.args.self.now.code (g.B.TermBank.store c.finish.new.self.bank) c.finish.new.self.state c.finish.new.self.work.items o x) c.in-Ok-Limit.field-0-is (c.in-Ok-Limit.ensures.goes.each o h)
-
-pub returns-in-Ok-Deep-clause-comes : goal.returns-in-Ok-Deep-clause-comes
-returns-in-Ok-Deep-clause-comes g c o h = subst (λ x. After c.args.self.now.checked.spec c.args.self.now.code (g.B.TermBank.store c.finish.new.self.bank) c.finish.new.self.state c.finish.new.self.work.items o x) c.in-Ok-Deep.field-0-is (c.in-Ok-Deep.ensures.goes.each o h)
+pub returns-clause-comes : goal.returns-clause-comes
+returns-clause-comes g c = ok-map c.run_on.result (λ end k o h. k o (after-next c.finish.ensures.stays c.finish.new.self.state c.finish.new.self.work.items o c.in_ok-flow.flow (c.in_ok-flow.ensures.goes.each o h))) c.run_on.ensures.comes

@@ -14,21 +14,21 @@ pub returns-in-Err-clause-err : goal.returns-in-Err-clause-err
 returns-in-Err-clause-err g c =
     stops_unwritten (lines c.args.checked.spec (given_by (g.B.TermBank.store c.args.bank) c.args.list) (shown_of c.args.settings) c.args.settings.options.steps) (g.W.Write.contents c.args.out.now.writer.now)
 
-pub write_lines_within-written-requires-clause-protected : goal.write_lines_within-written-requires-clause-protected
-write_lines_within-written-requires-clause-protected g c =
+pub observe_lines-written-requires-clause-protected : goal.observe_lines-written-requires-clause-protected
+observe_lines-written-requires-clause-protected g c =
     λ list e. subst (λ y. ProtectsTerms y (g.B.TermBank.store c.in-Ok.engine.bank) list) (sym c.in-Ok.ensures.spec) (c.in-Ok.ensures.protected list e)
 
 pub returns-in-Ok-clause-room : goal.returns-in-Ok-clause-room
 returns-in-Ok-clause-room g c =
-    let e = c.write_lines_within-written.new.engine in
-    let written = unbounded c.write_lines_within-written.result in
+    let e = c.observe_lines-written.new.engine in
+    let written = unbounded c.observe_lines-written.result in
     let parts = c.into_parts-bank.result in
     subst (λ b. IfErr written (RoomExhausts (g.B.TermBank.store b) parts.1.items)) (sym c.into_parts-bank.ensures.bank)
     (subst (λ xs. IfErr written (RoomExhausts (g.B.TermBank.store e.bank) xs)) (sym c.into_parts-bank.ensures.work)
-    (IfErr-weaker written _ _ (lacks_exhausts (g.B.TermBank.store e.bank) e.work e.memo) c.write_lines_within-written.ensures.room))
+    (IfErr-weaker written _ _ (lacks_exhausts (g.B.TermBank.store e.bank) e.work e.memo) c.observe_lines-written.ensures.room))
 
 pub returns-in-Ok-clause-cap : goal.returns-in-Ok-clause-cap
-returns-in-Ok-clause-cap g c = ap (λ b. (g.B.TermBank.store b).cap) c.into_parts-bank.ensures.bank ∙ c.write_lines_within-written.ensures.keeps.beside.cap ∙ c.in-Ok.ensures.cap
+returns-in-Ok-clause-cap g c = ap (λ b. (g.B.TermBank.store b).cap) c.into_parts-bank.ensures.bank ∙ c.observe_lines-written.ensures.keeps.beside.cap ∙ c.in-Ok.ensures.cap
 
 pub returns-in-Ok-clause-bounded : goal.returns-in-Ok-clause-bounded
-returns-in-Ok-clause-bounded g c = bounded_by c.write_lines_within-written.new.engine.waiting c.args.settings.depth c.write_lines_within-written.result c.write_lines_within-written.ensures.deep
+returns-in-Ok-clause-bounded g c = bounded_by c.observe_lines-written.new.engine.waiting c.args.settings.depth c.observe_lines-written.result c.observe_lines-written.ensures.deep

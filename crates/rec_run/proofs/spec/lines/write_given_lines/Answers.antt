@@ -53,14 +53,14 @@ returns-in_default g c =
       no_reader = tt;
     }
 
-pub write_evaluation_within-requires-clause-given : goal.write_evaluation_within-requires-clause-given
-write_evaluation_within-requires-clause-given g c =
+pub write_evaluation_observed-requires-clause-given : goal.write_evaluation_observed-requires-clause-given
+write_evaluation_observed-requires-clause-given g c =
     let us = given_at (g.B.TermBank.store c.args.engine.now.bank) c.args.list in
     let next = next_term g.B.TermBank.store c.args.engine.now.spec _ _ _ us c.loop-i.rest c.head-term.result c.loop-i.i c.bank-in-loop-i.ensures c.bank-in-loop-i-2.ensures c.requires.protected.holds.kept c.loop-i.invariant.left c.in-Cons.ensures c.head-term.ensures in
     record { tree = next.front.tree; held = next.held; is_ground = subst (λ z. IsGround z next.front.tree) (sym c.loop-i.invariant.same.spec) next.front.is_ground }
 
-pub write_evaluation_within-requires-clause-stays : goal.write_evaluation_within-requires-clause-stays
-write_evaluation_within-requires-clause-stays g c =
+pub write_evaluation_observed-requires-clause-stays : goal.write_evaluation_observed-requires-clause-stays
+write_evaluation_observed-requires-clause-stays g c =
     let y = c.args.engine.now.spec in
     let us = given_at (g.B.TermBank.store c.args.engine.now.bank) c.args.list in
     let next = next_term g.B.TermBank.store y _ _ _ us c.loop-i.rest c.head-term.result c.loop-i.i c.bank-in-loop-i.ensures c.bank-in-loop-i-2.ensures c.requires.protected.holds.kept c.loop-i.invariant.left c.in-Cons.ensures c.head-term.ensures in
@@ -78,7 +78,7 @@ returns-in-Err-clause-err g c =
     let is = front-line y c.loop-i.engine.spec _ us _ c.head-term.result c.loop-i.i (shown_of c.args.settings) n next.front c.loop-i.invariant.same.spec next.held in
     let few : n < 2 ^ 64 = omega (arith, c.args.settings.options.steps_in_range) in
     let old = g.W.Write.contents c.args.out.now.writer.now in
-    let after = g.W.Write.contents c.write_evaluation_within.new.out.writer.now in
+    let after = g.W.Write.contents c.write_evaluation_observed.new.out.writer.now in
     let fault : end ≡ fault_after why (length y.terms + c.loop-i.i) = fault_after-same why (c.from-first.result + c.from.result) (length y.terms + c.loop-i.i) end (after-told c.in-Err.fault _ c.after.result c.after.ensures) (omega arith) in
     subst (λ stop. StopsAfter (length y.terms) stop (lines_of f us) old after) (sym fault)
     (lines_stopped_after why (length y.terms) f us c.loop-i.i (list_of none) _ _ _
@@ -93,7 +93,7 @@ returns-in-Err-clause-keeps g c = Keeps-trans c.loop-i.invariant.keeps c.in-Err.
 
 pub returns-in-Err-clause-room : goal.returns-in-Err-clause-room
 returns-in-Err-clause-room g c =
-    let e = c.write_evaluation_within.new.engine in
+    let e = c.write_evaluation_observed.new.engine in
     line_lacks (g.B.TermBank.store e.bank) e.work e.memo (unbounded_line_fault c.in-Err.fault) _ (unbounded_fault c.after.result) (after-told c.in-Err.fault _ c.after.result c.after.ensures) c.in-Err.ensures.room
 
 pub tail-rest-requires : goal.tail-rest-requires
@@ -117,7 +117,7 @@ loop-i-preserved g c =
       keeps = Keeps-trans c.loop-i.invariant.keeps c.in-Ok.ensures.keeps;
       left = subst (λ b. tree_at (g.B.TermBank.store b) c.tail-rest.result ≡ part_at tail_of (g.B.TermBank.store b) c.loop-i.rest) c.bank-in-loop-i-3.ensures c.tail-rest.ensures ∙ others;
       written = appends_more (given_text y (shown_of c.args.settings) n) us c.loop-i.i (list_of none) _ _ _ next.front.low c.loop-i.invariant.written
-          (subst (λ text. Appends (g.W.Write.contents c.loop-i.out.writer.now) (g.W.Write.contents c.write_evaluation_within.new.out.writer.now) (text ++ codes "\n")) is c.in-Ok.ensures.ok);
+          (subst (λ text. Appends (g.W.Write.contents c.loop-i.out.writer.now) (g.W.Write.contents c.write_evaluation_observed.new.out.writer.now) (text ++ codes "\n")) is c.in-Ok.ensures.ok);
       writable = c.in-Ok.ensures.cause;
       same_output = c.in-Ok.ensures.same_output ∙ c.loop-i.invariant.same_output;
     }
@@ -137,4 +137,4 @@ pub returns-in-Err-clause-no_reader : goal.returns-in-Err-clause-no_reader
 returns-in-Err-clause-no_reader g c = after_read (unbounded_line_fault c.in-Err.fault) _ (unbounded_fault c.after.result) (after-told c.in-Err.fault _ c.after.result c.after.ensures)
 
 pub returns-in-Err-clause-deep : goal.returns-in-Err-clause-deep
-returns-in-Err-clause-deep g c = after-deep c.in-Err.fault _ c.after.result c.after.ensures c.write_evaluation_within.new.engine.waiting c.args.settings.depth c.in-Err.ensures.deep
+returns-in-Err-clause-deep g c = after-deep c.in-Err.fault _ c.after.result c.after.ensures c.write_evaluation_observed.new.engine.waiting c.args.settings.depth c.in-Err.ensures.deep

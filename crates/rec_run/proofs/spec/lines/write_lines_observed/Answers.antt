@@ -18,7 +18,7 @@ use Rattle.rx_run.proofs.LineFrontLemmas.{stops_before, stops_behind}
 use Rattle.rec_run.proofs.SpecLineLemmas.{lines-any, lines-both, newlines-own}
 use Rattle.rx_text.proofs.AppendingLemmas.{appends_both}
 use Rattle.rx_run.proofs.ErrorLemmas.{on_ok_of}
-use Rattle.rec_run.proofs.spec.lines.write_lines_within.Goals as goal
+use Rattle.rec_run.proofs.spec.lines.write_lines_observed.Goals as goal
 
 -- all lines are the specification's own and, by what these left of the engine, those of the list
 all_lines : (y z : Spec) (old new : Store) (given : Option Reference) (list : Reference) (counted : Bool) (limits : LimitLines) (n : ℕ) → Keeps old new [] → z ≡ y → given ≡ Some list → ProtectsTerms y old list

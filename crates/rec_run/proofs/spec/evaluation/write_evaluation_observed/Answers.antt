@@ -6,7 +6,7 @@ use Rattle.rec_run.specs.EvaluatedLines.{TellsLine, LineLacks, due_before}
 use Rattle.rec_run.specs.Depth.{unbounded_line}
 use Rattle.rec_run.proofs.DepthLemmas.{err_same, gave_up-deep, gave_up-no_write, gave_up-room, line-deep, line-ok, line-room, line-told}
 use Rattle.rec_run.proofs.EvaluatedLemmas.{answered-line, there_for}
-use Rattle.rec_run.proofs.spec.evaluation.write_evaluation_within.Goals as goal
+use Rattle.rec_run.proofs.spec.evaluation.write_evaluation_observed.Goals as goal
 
 pub write_outcome_line-requires-clause-there : goal.write_outcome_line-requires-clause-there
 write_outcome_line-requires-clause-there g c =
@@ -31,23 +31,23 @@ returns-in-Ok-clause-err g c =
 
 pub returns-in-Ok-clause-room : goal.returns-in-Ok-clause-room
 returns-in-Ok-clause-room g c =
-    let e = c.evaluate_within.new.engine in
+    let e = c.evaluate_observed.new.engine in
     let w = g.B.TermBank.store e.bank in
     let x = c.write_outcome_line.result in
     err_same (LineLacks w e.work e.memo) x (unbounded_line c.line.result) (line-told x c.line.result c.line.ensures) (line-room w e.work e.memo x c.write_outcome_line.ensures.no_room)
 
 pub returns-in-Ok-clause-deep : goal.returns-in-Ok-clause-deep
-returns-in-Ok-clause-deep g c = line-deep c.evaluate_within.new.engine.waiting c.args.settings.depth c.write_outcome_line.result c.line.result c.line.ensures
+returns-in-Ok-clause-deep g c = line-deep c.evaluate_observed.new.engine.waiting c.args.settings.depth c.write_outcome_line.result c.line.result c.line.ensures
 
 pub returns-in-Ok-clause-cause : goal.returns-in-Ok-clause-cause
 returns-in-Ok-clause-cause g c =
     subst (TellsLine c.write_outcome_line.new.out) (sym (line-told c.write_outcome_line.result c.line.result c.line.ensures)) c.write_outcome_line.ensures.cause
 
 pub returns-in-Err-clause-room : goal.returns-in-Err-clause-room
-returns-in-Err-clause-room g c = gave_up-room c.in-Err.fault c.from.result c.from.ensures (g.B.TermBank.store c.evaluate_within.new.engine.bank) c.evaluate_within.new.engine.work c.evaluate_within.new.engine.memo c.in-Err.ensures.room
+returns-in-Err-clause-room g c = gave_up-room c.in-Err.fault c.from.result c.from.ensures (g.B.TermBank.store c.evaluate_observed.new.engine.bank) c.evaluate_observed.new.engine.work c.evaluate_observed.new.engine.memo c.in-Err.ensures.room
 
 pub returns-in-Err-clause-deep : goal.returns-in-Err-clause-deep
-returns-in-Err-clause-deep g c = gave_up-deep c.in-Err.fault c.from.result c.from.ensures c.evaluate_within.new.engine.waiting c.args.settings.depth c.in-Err.ensures.deep
+returns-in-Err-clause-deep g c = gave_up-deep c.in-Err.fault c.from.result c.from.ensures c.evaluate_observed.new.engine.waiting c.args.settings.depth c.in-Err.ensures.deep
 
 pub returns-in-Err-clause-cause : goal.returns-in-Err-clause-cause
 returns-in-Err-clause-cause g c = λ is. absurd (gave_up-no_write c.in-Err.fault c.from.result c.from.ensures is)

@@ -2,7 +2,7 @@ use Rattle.std.proofs.Common.{◌≡◌, ◌++◌, get_or, take}
 use Rattle.rec_syntax.specs.Syntax.{Rule, arguments}
 use Rattle.rec_check.specs.Findings.{as_findings, never_matching_in}
 use Rattle.rec_check.specs.Rewriting.{postorder_all}
-use Rattle.rec_check.proofs.rewriting.Rewriter.push_inner.Given as goal
+use Rattle.rec_check.proofs.rewriting.Rewriter.push_inner_words.Given as goal
 
 -- those of the arguments so far
 abbrev pub invariant-loop-i : goal.invariant-loop-i

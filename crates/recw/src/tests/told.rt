@@ -1,0 +1,242 @@
+//! What is told while terms are evaluated, and what they took.
+
+use crate::profile::Profile;
+use crate::progress::Progress;
+use crate::tests::{ADDITION, Row, run};
+use rec_run::{Profiler, RuleCount, Tally};
+use rec_sorts::{Checked, check};
+use rec_syntax::read_spec;
+use std::alloc::Global;
+use std::cell::Cell;
+use std::io;
+use std::io::ErrorKind;
+use std::process::Abort;
+use std::rt::Files;
+use std::time::{Clock, Duration};
+
+/// A clock that goes on each time it is asked, or does not go.
+#[derive(Drop)]
+struct Ticking {
+    /// What it shows next, in milliseconds.
+    now: Cell<u64>,
+    /// By how many of them it goes on; none where it tells no time.
+    step: u64,
+}
+
+impl Clock for Ticking {
+    fn monotonic(&self) -> io::Result<Duration> {
+        if self.step == 0 {
+            return Err(io::Error::from(ErrorKind::Other));
+        }
+        let now = self.now.get();
+        self.now.set(now.saturating_add(self.step));
+        Ok(Duration::from_millis(now))
+    }
+
+    fn since_1970(&self) -> io::Result<Duration> {
+        Ok(Duration::ZERO)
+    }
+}
+
+/// A clock that was not asked, which goes on by so many milliseconds.
+fn clock_of(step: u64) -> Ticking {
+    Ticking {
+        now: Cell::new(0),
+        step,
+    }
+}
+
+/// By how many milliseconds the clock goes on, how often somebody is told, and how often that is
+/// shown: behind a second, and then a tenth of one behind the last.
+const TIMES: [(u64, u32, usize); 7] = [
+    (400, 3, 0),
+    (400, 5, 2),
+    (1000, 2, 0),
+    (1001, 2, 1),
+    // at 1050 and 1200
+    (50, 26, 2),
+    (100, 14, 2),
+    (0, 100, 0),
+];
+
+/// What is shown of a term that has as many steps left, and what wipes it.
+const LINE: &[u8] = b"\rrecw: term 1: 12,345,678 of 1,000,000,000 steps, 262,144 cells\x1b[K";
+
+const WIPED: &[u8] = b"\r\x1b[K";
+
+/// It is shown so often, and then wiped; nothing of it where it is not asked for.
+fn shows(rt: &impl Abort, alloc: Global, step: u64, told: u32, shown: usize) -> io::Result<()> {
+    let clock = clock_of(step);
+    let mut err = Vec::new(alloc);
+    let mut progress = Progress::new(alloc, &clock, true, 1_000_000_000);
+    let mut silent = Progress::new(alloc, &clock, false, 1_000_000_000);
+    for _ in 0..told {
+        progress.show(987_654_322, 262_144, &mut err);
+        silent.show(987_654_322, 262_144, &mut err);
+    }
+    progress.end_term(&mut err);
+    progress.end_term(&mut err);
+    silent.end_term(&mut err);
+    let mut wanted = Vec::new(alloc);
+    for _ in 0..shown {
+        wanted.extend_from_slice(LINE)?;
+    }
+    if shown > 0 {
+        wanted.extend_from_slice(WIPED)?;
+    }
+    assert!(rt; err.as_slice() == wanted.as_slice(), "{step} {told}");
+    Ok(())
+}
+
+#[test]
+fn shows_how_far_a_term_is(rt: HostRuntime) -> io::Result<()> {
+    for (step, told, shown) in &TIMES {
+        shows(&rt, rt.alloc(), *step, *told, *shown)?;
+    }
+    Ok(())
+}
+
+/// What is shown of the second and the third of three terms.
+const SECOND: &[u8] = b"\rrecw: term 2: 0 of 1,000 steps, 999 cells\x1b[K\r\x1b[K\
+    \rrecw: term 3: 1,000 of 1,000 steps, 1,073,741,824 cells\x1b[K\r\x1b[K";
+
+#[test]
+fn shows_which_term_it_is(rt: HostRuntime) {
+    let clock = clock_of(2000);
+    let mut err = Vec::new(rt.alloc());
+    let mut progress = Progress::new(rt.alloc(), &clock, true, 1000);
+    progress.show(999, 1, &mut err);
+    progress.end_term(&mut err);
+    progress.show(1000, 999, &mut err);
+    progress.end_term(&mut err);
+    progress.show(0, 1_073_741_824, &mut err);
+    progress.end_term(&mut err);
+    assert!(&rt; err.as_slice() == SECOND);
+}
+
+/// What was counted of the rules of the addition.
+const COUNTS: &[RuleCount] = &[
+    RuleCount {
+        matched: 1,
+        fired: 1,
+        failed: 0,
+    },
+    RuleCount {
+        matched: 20,
+        fired: 4,
+        failed: 15,
+    },
+];
+
+/// What was done.
+const TALLY: Tally = Tally {
+    steps: 28,
+    remembered: 2,
+    saved: 7,
+    made: 40,
+    most: 9,
+    reclaims: 5,
+};
+
+/// What is told of both.
+const PROFILE: &str = "profile: 1:103: 1 matched, 1 fired, 0 failed\n\
+     profile: 1:118: 20 matched, 4 fired, 15 failed\n\
+     profile: steps: 28 spent, 21 matched, 7 remembered by 2 results\n\
+     profile: cells: 40 made, 9 held at most\nprofile: reclaims: 5\n";
+
+/// The specification of the addition.
+fn addition(rt: &impl Abort, alloc: Global) -> Checked {
+    let Ok(syntax) = read_spec(alloc, ADDITION.as_bytes()) else {
+        return rt.abort();
+    };
+    match check(alloc, syntax) {
+        Ok(checked) => checked,
+        Err(_) => rt.abort(),
+    }
+}
+
+/// The profile of these counts is this.
+fn profiles(rt: &impl Abort, alloc: Global, counts: &[RuleCount], wanted: &str) {
+    let checked = addition(rt, alloc);
+    let mut told = Vec::new(alloc);
+    let mut silent = Profile::new(alloc, false, &mut told);
+    silent.conclude(&checked, counts, TALLY);
+    let mut profile = Profile::new(alloc, true, &mut told);
+    profile.conclude(&checked, counts, TALLY);
+    assert!(rt; told.as_slice() == wanted.as_bytes(), "{wanted}");
+}
+
+#[test]
+fn tells_what_a_run_took(rt: HostRuntime) {
+    profiles(&rt, rt.alloc(), COUNTS, PROFILE);
+    profiles(&rt, rt.alloc(), &[], "profile: out of memory\n");
+}
+
+/// Runs that are told of, where the beginning and the end of standard error are known.
+const RUNS: [(Row, &str); 4] = [
+    (
+        (
+            &["eval", "--profile", "--memo", "0"],
+            ADDITION,
+            0,
+            "s(s(s(z)))\n",
+            "profile: 1:103: 1 matched, 1 fired, 0 failed\n\
+             profile: 1:118: 2 matched, 2 fired, 0 failed\n\
+             profile: steps: 3 spent, 3 matched, 0 remembered by 0 results\nprofile: cells: ",
+        ),
+        "\nprofile: reclaims: 0\n",
+    ),
+    (
+        (
+            &["eval", "--profile", "--steps", "2", "--memo", "0"],
+            ADDITION,
+            0,
+            "!limit 2\n",
+            "profile: 1:103: 0 matched, 0 fired, 0 failed\n\
+             profile: 1:118: 2 matched, 2 fired, 0 failed\n\
+             profile: steps: 2 spent, 2 matched, 0 remembered by 0 results\nprofile: cells: ",
+        ),
+        "\nprofile: reclaims: 0\n",
+    ),
+    (
+        (
+            &["eval", "--profile", "--cells", "3"],
+            ADDITION,
+            3,
+            "",
+            "profile: 1:103: 0 matched, 0 fired, 0 failed\n\
+             profile: 1:118: 0 matched, 0 fired, 0 failed\n\
+             profile: steps: 0 spent, 0 matched, 0 remembered by 0 results\nprofile: cells: ",
+        ),
+        "\nrecw: out of cells\n",
+    ),
+    (
+        (
+            &["eval", "--profile"],
+            "REC-SPEC E SORTS : END-SPEC",
+            1,
+            "!spec G\n",
+            "recw: spec G at byte 17\n",
+        ),
+        "recw: spec G at byte 17\n",
+    ),
+];
+
+/// The run tells what the row says, and ends so.
+fn tells<H: Abort + Files>(rt: &H, alloc: Global, row: &Row, end: &str) {
+    let (words, text, status, out, front) = *row;
+    let ran = run(rt, alloc, words, text);
+    let is_told = ran.err().starts_with(front) && ran.err().ends_with(end);
+    assert!(rt;
+        ran.status == status && ran.out() == out && is_told,
+        "{words:?}: {}",
+        ran.err()
+    );
+}
+
+#[test]
+fn tells_of_runs(rt: HostRuntime) {
+    for (row, end) in &RUNS {
+        tells(&rt, rt.alloc(), row, end);
+    }
+}

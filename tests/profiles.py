@@ -1,0 +1,285 @@
+#!/usr/bin/env -S python3 -B
+"""Compares what `recw eval --profile` tells with a second description of it, and looks at what `--progress` shows:
+profiles.py [PROGRAM].
+
+Specifications are evaluated here with a count for each rule: how often it was the first to match where a step was left
+for it, how often it fired, and how often one of its conditions failed. With no results remembered the program has to
+tell the same numbers; with some the steps that they stand for make up what is missing. Then come runs that end
+otherwise, and a run of some seconds before a pipe and before a terminal.
+"""
+
+import os
+import pty
+import random
+import re
+import subprocess
+import sys
+import tempfile
+import time
+
+from attempts import EXAMPLES, NO_CELLS, NO_WRITE, check, passed, recw
+from common import FAILURES, program, text_of
+from oracles import Terms
+from traces import HEAD, Over, Specification, place_of, with_conditions, write
+
+COUNT = 300
+BUDGETS = (0, 1, 2, 3, 5, 8, 12, 16)
+RULE = re.compile(r"profile: (\d+):(\d+): (\d+) matched, (\d+) fired, (\d+) failed")
+STEPS = re.compile(r"profile: steps: (\d+) spent, (\d+) matched, (\d+) remembered by (\d+) results")
+CELLS = re.compile(r"profile: cells: (\d+) made, (\d+) held at most")
+RECLAIMS = re.compile(r"profile: reclaims: (\d+)")
+SHOWN = re.compile(r"\rrecw: term (\d+): ([\d,]+) of ([\d,]+) steps, ([\d,]+) cells\x1b\[K")
+WIPED = "\r\x1b[K"
+# Two rules in turn without an end behind a term that has none, and a number that is the sum of the two before it.
+TURNS = f"{HEAD}f(z) -> f(s(z))\nf(s(X)) -> f(X)\nEVAL z f(z) END-SPEC"
+SUMS = "REC-SPEC S SORTS N CONS z : -> N s : N -> N p : N N -> N OPNS f : N -> N VARS X : N RULES f(z) -> z\n"
+SUMS += "f(s(z)) -> s(z)\nf(s(s(X))) -> p(f(s(X)),f(X))\nEVAL f("
+# How many seconds a long run is to take about, and how many lines it may show in each.
+LONG, RATE = 4, 10
+
+
+class Counting(Specification):
+    """A specification that counts how often each rule matched, fired and failed."""
+
+    def __init__(self, text):
+        super().__init__(text)
+        self.counts = [[0, 0, 0] for _ in self.rules]
+
+    def first_rule(self, budget, tree):
+        for number, rule in enumerate(self.rules):
+            values = {}
+            if self.matches(rule.left, tree, values):
+                if budget == 0:
+                    raise Over
+                self.counts[number][0] += 1
+                holds, budget = self.holds(budget - 1, values, rule.conditions)
+                self.counts[number][1 if holds else 2] += 1
+                if holds:
+                    return (number, values), budget
+        return None, budget
+
+    def spend(self, budget, term):
+        """How many steps a term takes; all that there are where these are too few."""
+        try:
+            return budget - self.evaluate(budget, {}, term)[1]
+        except Over:
+            return budget
+
+    def lines(self):
+        """The lines of the rules."""
+        places = [place_of(self.text, it.place) for it in self.rules]
+        return [(*place, *counts) for place, counts in zip(places, self.counts)]
+
+
+def profile_of(what, told):
+    """The numbers of a profile: those of each rule, of the steps, of the cells and of the reclaims."""
+    lines = told.splitlines()
+    rules = [RULE.fullmatch(it) for it in lines[:-3]]
+    rest = [kind.fullmatch(it) for kind, it in zip((STEPS, CELLS, RECLAIMS), lines[-3:])]
+    check(f"{what}: lines", True, told.endswith("\n") and len(rest) == 3 and all(rules) and all(rest))
+    numbers = [tuple(map(int, it.groups())) if it else () for it in (*rules, *rest)]
+    return numbers[:-3], *numbers[-3:]
+
+
+def check_sums(what, profile):
+    """What holds of the numbers of any profile."""
+    rules, steps, cells, _ = profile
+    check(f"{what}: rules that matched", steps[1], sum(it[2] for it in rules))
+    check(f"{what}: steps", steps[0], steps[1] + steps[2])
+    # a call that no rule matches has a result too, which stands for no step
+    check(f"{what}: results", True, steps[2] == 0 or steps[3] > 0)
+    check(f"{what}: rules that end", True, all(it[2] >= it[3] + it[4] for it in rules))
+    check(f"{what}: cells", True, cells[1] > 0 or cells[0] == 0)
+
+
+def profiled(what, words, files):
+    """The profile of a run that is otherwise as without it, and the lines of its values."""
+    plain = recw("eval", *words, *files)
+    status, values, told = recw("eval", "--profile", *words, *files)
+    check(f"{what}: the rest", plain, (status, values, ""))
+    return profile_of(what, told), values
+
+
+def spent_by(values):
+    """How many steps the lines of `--count` tell of."""
+    return sum(int(it.split("\t")[1]) for it in values.splitlines())
+
+
+def compare(chance, number, at):
+    """A specification: how many rules fired, how many failed, and how many results were remembered."""
+    text, terms = with_conditions(chance)
+    spec, budget = Counting(text), chance.choice(BUDGETS)
+    files = [write(f"{at}/spec", text), write(f"{at}/terms", terms)]
+    given = [*spec.terms, *(it for it, _ in Terms(terms[1:]).all_with_annotations())]
+    spent = sum(spec.spend(budget, it) for it in given)
+    words = ["--count", "--steps", str(budget)]
+    what = f"specification {number}: {budget}"
+    profile, values = profiled(f"{what}, none remembered", [*words, "--memo", "0"], files)
+    check_sums(f"{what}, none remembered", profile)
+    check(f"{what}: rules", spec.lines(), profile[0])
+    check(f"{what}: steps", (spent, spent, 0, 0), profile[1])
+    profile, _ = profiled(f"{what}, remembered", words, files)
+    check_sums(f"{what}, remembered", profile)
+    if "!limit" not in values:
+        counted = spent_by(values)
+        check(f"{what}: steps of --count", (counted, counted), (spent, profile[1][0]))
+        for of in profile[0]:
+            check(f"{what}: a rule ends", of[2], of[3] + of[4])
+    return sum(it[1] for it in spec.counts), sum(it[2] for it in spec.counts), profile[1][3]
+
+
+def try_random(at):
+    chance = random.Random(4)
+    fired, failed, remembered = map(sum, zip(*(compare(chance, number, at) for number in range(COUNT))))
+    print(f"{COUNT} specifications: {fired} rules fired, {failed} failed, {remembered} results were remembered")
+    check("rules", True, fired > COUNT and failed > 0)
+
+
+def try_examples(at):
+    """Numbers that were worked out by hand, and those of the examples."""
+    alone = ["--memo", "0"]
+    profile, _ = profiled("add.rec", alone, ["add.rec", "add.trm"])
+    check("add.rec", ([(11, 3, 2, 2, 0), (12, 3, 2, 2, 0)], (4, 4, 0, 0)), profile[:2])
+    # the first rule of f and that of g take a step each, the condition fails, and the second rule of f takes one
+    profile, _ = profiled("cond.rec", alone, ["rows/cond.rec"])
+    check("cond.rec", ([(6, 3, 1, 0, 1), (7, 3, 1, 1, 0), (8, 3, 1, 1, 0)], (3, 3, 0, 0)), profile[:2])
+    file = write(f"{at}/none", "REC-SPEC N SORTS N CONS z : -> N EVAL z END-SPEC")
+    profile, _ = profiled("no rules", alone, [file])
+    check("no rules", ([], (0, 0, 0, 0), (0,)), (*profile[:2], profile[3]))
+    file = write(f"{at}/turns", TURNS)
+    profile, _ = profiled("reclaims", ["--steps", "1000", "--reclaim", "1", *alone], [file])
+    check("reclaims", ([(2, 1, 500, 500, 0), (3, 1, 500, 500, 0)], True), (profile[0], profile[3][0] > 0))
+    results = 0
+    for file in ("add.rec", "derive.rec", "lambda.rec", "tautology.rec", "while.rec", "tutorial/sort.rec"):
+        profile, values = profiled(file, ["--count"], [file])
+        check_sums(file, profile)
+        check(f"{file}: steps of --count", spent_by(values), profile[1][0])
+        results += profile[1][3]
+    # each number is the sum of the two before it, so that the results of all are asked for again
+    file = write(f"{at}/sums", f"{SUMS}{'s(' * 20}z{')' * 20}) END-SPEC")
+    profile, values = profiled("sums", ["--count"], [file])
+    check_sums("sums", profile)
+    check("sums: steps of --count", spent_by(values), profile[1][0])
+    print(f"examples: {results} results were remembered, {profile[1][3]} of sums")
+    check("results", True, profile[1][3] > 0)
+
+
+def try_ends(at):
+    """Texts that are refused have no profile, and what ends by a fault has one before the line of that."""
+    good = write(f"{at}/good", text_of("examples/add.rec"))
+    wrong = write(f"{at}/wrong", "REC-SPEC E SORTS : END-SPEC")
+    for files in ([wrong], [wrong, wrong], [good, wrong], [good, "none"], ["none"], [at], [good, "q.trm"]):
+        for words in ([], ["--explain"]):
+            due = recw("eval", *words, *files)
+            check(f"{words} {files}", due, recw("eval", "--profile", "--progress", *words, *files))
+    for cells in range(1, 65):
+        plain, told = (recw("eval", *words, "--cells", str(cells), good) for words in ([], ["--profile"]))
+        check(f"{cells} cells", plain[:2], told[:2])
+        check(f"{cells} cells: the line", True, told[2].endswith(plain[2]))
+        check_sums(f"{cells} cells", profile_of(f"{cells} cells", told[2].removesuffix(plain[2])))
+        check(f"{cells} cells: an end", True, plain[::2] in ((0, ""), NO_CELLS))
+    for words in (["--stuck", "--profile"], ["--progress", "--stuck"], ["--profile", "--profile"]):
+        status, values, told = recw("eval", *words, good)
+        check(f"{words}", (2, "", True), (status, values, told.startswith("error: ")))
+    with open("/dev/full", "wb") as full:
+        status, _, told = recw("eval", "--profile", good, capture_output=False, stdout=full, stderr=-1)
+        check("no room for values", (NO_WRITE[0], True), (status, told.endswith(f"\n{NO_WRITE[1]}")))
+        status, values, _ = recw("eval", "--profile", good, capture_output=False, stdout=-1, stderr=full)
+        check("no room for a profile", (0, "s(s(s(z)))\n"), (status, values))
+
+
+def number_of(text):
+    return int(text.replace(",", ""))
+
+
+def check_shown(what, shown, seconds, budget):
+    """Lines of a long run, each wiped in the end."""
+    at, lines = 0, []
+    while at < len(shown):
+        if shown.startswith(WIPED, at):
+            lines.append(())
+            at += len(WIPED)
+            continue
+        found = SHOWN.match(shown, at)
+        check(f"{what}: a line", True, bool(found))
+        if not found:
+            return
+        lines.append(tuple(map(number_of, found.groups())))
+        at = found.end()
+    told = [it for it in lines if it]
+    print(f"{what}: {len(told)} lines in {seconds:.1f} s")
+    check(f"{what}: so many lines", True, 0 < len(told) <= RATE * seconds + 1)
+    check(f"{what}: wiped", (), lines[-1])
+    check(f"{what}: wiped once a term", lines.count(()), len({it[0] for it in told}))
+    check(f"{what}: in order", told, sorted(told, key=lambda it: it[:2]))
+    check(f"{what}: the second term, of so many", {(2, budget)}, {(it[0], it[2]) for it in told})
+    check(f"{what}: no more", True, all(0 <= it[1] <= budget for it in told))
+
+
+def before_pipe(*words):
+    """The status, the standard output and what is shown, byte for byte."""
+    ran = subprocess.run([program(), *words], capture_output=True, cwd=EXAMPLES, check=False)
+    return ran.returncode, ran.stdout.decode(), ran.stderr.decode()
+
+
+def before_terminal(*words):
+    """The same before a terminal."""
+    master, slave = pty.openpty()
+    with subprocess.Popen([program(), *words], stdout=subprocess.PIPE, stderr=slave) as child:
+        os.close(slave)
+        shown = b""
+        while True:
+            try:
+                more = os.read(master, 65536)
+            except OSError:
+                break
+            if not more:
+                break
+            shown += more
+        values = child.stdout.read()
+    os.close(master)
+    return child.returncode, values.decode(), shown.decode()
+
+
+def long_run(file):
+    """How many steps a term of the file may take so that it takes about so many seconds."""
+    steps, seconds = 1_000_000, 0
+    while seconds < 0.3:
+        steps *= 3
+        begin = time.monotonic()
+        recw("eval", "--steps", str(steps), file)
+        seconds = time.monotonic() - begin
+    return int(steps * LONG / seconds)
+
+
+def try_progress(at):
+    """A run of some seconds shows how far it is, where that is asked for or seen, and leaves nothing of it."""
+    file = write(f"{at}/turns", TURNS)
+    steps = long_run(file)
+    words = ["eval", "--steps", str(steps), file]
+    due = (0, f"z\n!limit {steps}\n")
+    check("a long run", (*due, ""), recw(*words))
+    begin = time.monotonic()
+    status, values, shown = before_pipe(*words, "--progress")
+    check("a long run before a pipe", due, (status, values))
+    check_shown("a pipe", shown, time.monotonic() - begin, steps)
+    begin = time.monotonic()
+    status, values, shown = before_terminal(*words)
+    check("a long run before a terminal", due, (status, values))
+    check_shown("a terminal", shown, time.monotonic() - begin, steps)
+    short = before_pipe("eval", "--progress", "add.rec", "add.trm")
+    check("a short run", (0, "s(s(s(z)))\ns(z)\n", ""), short)
+    short = before_terminal("eval", "--steps", "1000", file)
+    check("a short run before a terminal", (0, "z\n!limit 1000\n", ""), short)
+
+
+def main():
+    with tempfile.TemporaryDirectory() as at:
+        for group in (try_random, try_examples, try_ends, try_progress):
+            group(at)
+    print(f"{passed()} passed, {len(FAILURES)} failed")
+    sys.exit(1 if FAILURES else 0)
+
+
+if __name__ == "__main__":
+    main()
