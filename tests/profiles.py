@@ -4,8 +4,9 @@ profiles.py [PROGRAM].
 
 Specifications are evaluated here with a count for each rule: how often it was the first to match where a step was left
 for it, how often it fired, and how often one of its conditions failed. With no results remembered the program has to
-tell the same numbers; with some the steps that they stand for make up what is missing. Then come runs that end
-otherwise, and a run of some seconds before a pipe and before a terminal.
+tell the same numbers; with some the steps that they stand for make up what is missing. Beside `--stuck` the lines of
+both are the same as with each of them. Then come runs that end otherwise, and a run of some seconds before a pipe and
+before a terminal.
 """
 
 import os
@@ -100,13 +101,22 @@ def profiled(what, words, files):
     return profile_of(what, told), values
 
 
+def check_calls(what, words, files):
+    """Beside `--stuck` the profile comes first, and the rest is as without it: how many calls are told."""
+    told = recw("eval", "--profile", *words, *files)[2]
+    status, values, calls = recw("eval", "--stuck", *words, *files)
+    due = (status, values, f"{told}{calls}")
+    check(f"{what}: beside calls", due, recw("eval", "--stuck", "--profile", *words, *files))
+    return calls.count("\n")
+
+
 def spent_by(values):
     """How many steps the lines of `--count` tell of."""
     return sum(int(it.split("\t")[1]) for it in values.splitlines())
 
 
 def compare(chance, number, at):
-    """A specification: how many rules fired, how many failed, and how many results were remembered."""
+    """A specification: how many rules fired, how many failed, how many results were remembered, how many calls told."""
     text, terms = with_conditions(chance)
     spec, budget = Counting(text), chance.choice(BUDGETS)
     files = [write(f"{at}/spec", text), write(f"{at}/terms", terms)]
@@ -125,14 +135,17 @@ def compare(chance, number, at):
         check(f"{what}: steps of --count", (counted, counted), (spent, profile[1][0]))
         for of in profile[0]:
             check(f"{what}: a rule ends", of[2], of[3] + of[4])
-    return sum(it[1] for it in spec.counts), sum(it[2] for it in spec.counts), profile[1][3]
+    calls = check_calls(what, words, files)
+    return sum(it[1] for it in spec.counts), sum(it[2] for it in spec.counts), profile[1][3], calls
 
 
 def try_random(at):
     chance = random.Random(4)
-    fired, failed, remembered = map(sum, zip(*(compare(chance, number, at) for number in range(COUNT))))
+    fired, failed, remembered, calls = map(sum, zip(*(compare(chance, number, at) for number in range(COUNT))))
     print(f"{COUNT} specifications: {fired} rules fired, {failed} failed, {remembered} results were remembered")
+    print(f"beside {calls} calls in values")
     check("rules", True, fired > COUNT and failed > 0)
+    check("calls", True, calls > COUNT / 4)
 
 
 def try_examples(at):
@@ -171,14 +184,17 @@ def try_ends(at):
     for files in ([wrong], [wrong, wrong], [good, wrong], [good, "none"], ["none"], [at], [good, "q.trm"]):
         for words in ([], ["--explain"]):
             due = recw("eval", *words, *files)
-            check(f"{words} {files}", due, recw("eval", "--profile", "--progress", *words, *files))
+            for calls in ([], ["--stuck"]):
+                check(f"{words} {files}", due, recw("eval", "--profile", "--progress", *calls, *words, *files))
     for cells in range(1, 65):
         plain, told = (recw("eval", *words, "--cells", str(cells), good) for words in ([], ["--profile"]))
         check(f"{cells} cells", plain[:2], told[:2])
         check(f"{cells} cells: the line", True, told[2].endswith(plain[2]))
         check_sums(f"{cells} cells", profile_of(f"{cells} cells", told[2].removesuffix(plain[2])))
         check(f"{cells} cells: an end", True, plain[::2] in ((0, ""), NO_CELLS))
-    for words in (["--stuck", "--profile"], ["--progress", "--stuck"], ["--profile", "--profile"]):
+        both = recw("eval", "--stuck", "--profile", "--cells", str(cells), good)
+        check(f"{cells} cells: beside calls, of which there are none", told, both)
+    for words in (["--stuck", "--stuck"], ["--progress", "--progress"], ["--profile", "--profile"]):
         status, values, told = recw("eval", *words, good)
         check(f"{words}", (2, "", True), (status, values, told.startswith("error: ")))
     with open("/dev/full", "wb") as full:
@@ -263,6 +279,12 @@ def try_progress(at):
     status, values, shown = before_pipe(*words, "--progress")
     check("a long run before a pipe", due, (status, values))
     check_shown("a pipe", shown, time.monotonic() - begin, steps)
+    begin = time.monotonic()
+    status, values, shown = before_pipe(*words, "--progress", "--profile", "--stuck")
+    check("a long run that is told of", due, (status, values))
+    shown, wiped, told = shown.rpartition(WIPED)
+    check_shown("a long run that is told of", f"{shown}{wiped}", time.monotonic() - begin, steps)
+    check_sums("a long run that is told of", profile_of("a long run that is told of", told))
     begin = time.monotonic()
     status, values, shown = before_terminal(*words)
     check("a long run before a terminal", due, (status, values))

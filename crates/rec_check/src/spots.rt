@@ -101,7 +101,8 @@ impl<'a> Cursor<'a> {
         }
     }
 
-    /// The line and the column that so many bytes stand before. To go on is cheap, to go back is not.
+    /// The line and the column that so many bytes stand before. To go on is cheap, to go back is
+    /// not.
     pub fn spot(&mut self, at: usize) -> Spot
         requires { IsCursor self.old.text.now self.old }
         ensures spot { result ≡ spot_of self.old.text.now at }

@@ -1,4 +1,5 @@
-//! What is counted while terms are evaluated. It changes nothing of them, so no clause speaks of it.
+//! What is counted while terms are evaluated. It changes nothing of them, so no clause speaks of
+//! it.
 
 ghost use Rattle.rec_engine.specs.Machine.{GoesOn};
 
@@ -42,8 +43,9 @@ const TELLING: u64 = 65_536;
 #[derive(Drop)]
 pub(crate) struct Counts {
     rules: Vec<RuleCount>,
-    /// Behind a rule that was found there is nothing to do where the steps that are left have one of
-    /// these bits: so it is one test whether rules are counted, and whether somebody is to be told.
+    /// Behind a rule that was found there is nothing to do where the steps that are left have one
+    /// of these bits: so it is one test whether rules are counted, and whether somebody is to be
+    /// told.
     mask: u64,
 }
 
@@ -74,8 +76,8 @@ impl Counts {
         &self.rules
     }
 
-    /// A rule was found, and a step is spent for it, so that so many are left; without conditions it
-    /// fires. How the machine goes on.
+    /// A rule was found, and a step is spent for it, so that so many are left; without conditions
+    /// it fires. How the machine goes on.
     #[inline(always)]
     pub(crate) fn find(&mut self, left: u64, rule: u32, conditional: bool) -> Flow
         ensures { GoesOn result }

@@ -31,12 +31,12 @@ pub(crate) enum Reached {
 
 impl<B: TermBank> Machine<B> {
     /// What the term `t` comes to within `n` steps; its code begins at `pc`.
-    fn evaluate(
+    fn evaluate<V: Watch>(
         &mut self,
         pc: usize,
         t: Term,
         n: u64,
-        watch: &mut dyn Watch,
+        watch: &mut V,
     ) -> Result<Reached, EngineFault>
         requires ready { IsReady B.store self.old }
         requires idle { self.old.work.items ≡ [] }
@@ -98,12 +98,12 @@ impl<B: TermBank> Machine<B> {
 
     /// What a ground term comes to within `n` steps, with the term's annotations on its value;
     /// nothing where no more calls may wait. Its ops go by `found`.
-    pub(crate) fn normalise(
+    pub(crate) fn normalise<V: Watch>(
         &mut self,
         found: &mut Vec<Op>,
         t: Term,
         n: u64,
-        watch: &mut dyn Watch,
+        watch: &mut V,
     ) -> Result<Option<Outcome>, EngineFault>
         requires ready { IsReady B.store self.old }
         requires given { IsGiven self.old.checked.spec (B.store self.old.bank) t }

@@ -35,14 +35,19 @@ pub all-lines : (source : List ℕ) (y : Spec) (w : Store) (ns : List ℕ) (v : 
 all-lines source y w ns v e = of-references source y w ns ∙ ap (flat_map (line_if source y)) e ∙ lines-of source y (different (applications v))
 
 -- the line of a call, piece by piece
-pub line-made : (source : List ℕ) (y : Spec) (u : Tree) (a b c d e f text : List ℕ) (spots : List Spot) → text ≡ cut (Some 60) (canon (bare_of u)) → spots ≡ fitting_spots source y (bare_of u)
-    → b ≡ a ++ codes "stuck: " → c ≡ b ++ text → d ≡ c ++ codes ": " → e ≡ d ++ reason spots → f ≡ e ++ codes "\n" → f ≡ a ++ stuck_line source y u
-line-made source y u a b c d e f text spots is are one two three four five =
+pub line-made : (a b c d e f text : List ℕ) (spots : List Spot) → b ≡ a ++ codes "stuck: " → c ≡ b ++ text → d ≡ c ++ codes ": " → e ≡ d ++ reason spots → f ≡ e ++ codes "\n"
+    → f ≡ a ++ (codes "stuck: " ++ text ++ codes ": " ++ reason spots ++ codes "\n")
+line-made a b c d e f text spots one two three four five =
     let first : c ≡ a ++ (codes "stuck: " ++ text) = two ∙ ap (λ z. z ++ text) one ∙ append_assoc a (codes "stuck: ") text in
     let second : d ≡ a ++ ((codes "stuck: " ++ text) ++ codes ": ") = three ∙ ap (λ z. z ++ codes ": ") first ∙ append_assoc a (codes "stuck: " ++ text) (codes ": ") in
     let third : e ≡ a ++ (((codes "stuck: " ++ text) ++ codes ": ") ++ reason spots) = four ∙ ap (λ z. z ++ reason spots) second ∙ append_assoc a ((codes "stuck: " ++ text) ++ codes ": ") (reason spots) in
-    let whole : f ≡ a ++ ((((codes "stuck: " ++ text) ++ codes ": ") ++ reason spots) ++ codes "\n") = five ∙ ap (λ z. z ++ codes "\n") third ∙ append_assoc a (((codes "stuck: " ++ text) ++ codes ": ") ++ reason spots) (codes "\n") in
-    whole ∙ ap (λ t. a ++ ((((codes "stuck: " ++ t) ++ codes ": ") ++ reason spots) ++ codes "\n")) is ∙ ap (λ ps. a ++ ((((codes "stuck: " ++ cut (Some 60) (canon (bare_of u))) ++ codes ": ") ++ reason ps) ++ codes "\n")) are
+    five ∙ ap (λ z. z ++ codes "\n") third ∙ append_assoc a (((codes "stuck: " ++ text) ++ codes ": ") ++ reason spots) (codes "\n")
+
+-- and by its tree
+pub line-told : (source : List ℕ) (y : Spec) (u : Tree) (a f text : List ℕ) (spots : List Spot) → text ≡ cut (Some 60) (canon (bare_of u)) → spots ≡ fitting_spots source y (bare_of u)
+    → f ≡ a ++ (codes "stuck: " ++ text ++ codes ": " ++ reason spots ++ codes "\n") → f ≡ a ++ stuck_line source y u
+line-told source y u a f text spots is are made =
+    made ∙ ap (λ t. a ++ (codes "stuck: " ++ t ++ codes ": " ++ reason spots ++ codes "\n")) is ∙ ap (λ ps. a ++ (codes "stuck: " ++ cut (Some 60) (canon (bare_of u)) ++ codes ": " ++ reason ps ++ codes "\n")) are
 
 -- what is found is there
 pub there-at : (w : Store) (ns : List ℕ) (i n : ℕ) → AreThere w ns → slice_get ns i ≡ Some n → IsSome (tree_at w (reference n))

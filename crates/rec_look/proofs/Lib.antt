@@ -20,6 +20,3 @@ mod CallLemmas
 mod TextLemmas
 mod AddLemmas
 mod FrontLemmas
-mod RunEndLemmas
-mod WholeRunLemmas
-mod RunDueLemmas

@@ -1,11 +1,11 @@
 pub mod OneDueLemmas
 pub mod LineEndLemmas
 pub mod SpecLineLemmas
-mod WholeRunLemmas
-mod RunEndLemmas
-mod GivenDueLemmas
+pub mod WholeRunLemmas
+pub mod RunEndLemmas
+pub mod GivenDueLemmas
 pub mod GivenLemmas
-mod GivenListLemmas
+pub mod GivenListLemmas
 pub mod EvaluatedLemmas
 mod DueOfTextLemmas
 mod OutputRows

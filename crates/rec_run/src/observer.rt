@@ -1,8 +1,13 @@
 //! Who is told of the evaluations of a run. Whatever it does, it changes nothing of the run, so no
 //! clause speaks of it.
 
-use rec_engine::{RuleCount, Tally, Unwatched};
+ghost use Rattle.std.specs.Prelude.{◌≡◌};
+ghost use Rattle.rec_engine.specs.Engine.{SameEngine};
+
+use rec_engine::{Engine, RuleCount, Tally, Unwatched};
 use rec_sorts::Checked;
+use rx_term::TermBank;
+use std::alloc::Global;
 
 /// Who is told what the evaluations of a run took.
 pub trait Profiler {
@@ -26,9 +31,29 @@ impl Profiler for Unwatched {
 
 /// Who is told of the evaluations of a run.
 #[derive(Drop)]
-pub struct Observer<W, P> {
-    /// Who is told of them while they go on: a `&mut dyn Watch`.
-    pub watch: W,
-    /// Who is told what they took.
+pub struct Observer<V, P> {
+    /// Who is told of them while they go on: a `Watch`.
+    pub watch: V,
+    /// Who is told what they took: a `Profiler`.
     pub profiler: P,
+}
+
+impl<V, P: Profiler> Observer<V, P> {
+    /// Counts from now on how often each rule of an engine is used, where that is asked for.
+    /// Without memory for it nothing is counted.
+    pub fn begin<B: TermBank>(&self, alloc: Global, engine: &mut Engine<B>)
+        ensures same { SameEngine engine.old engine.new }
+        ensures bank { engine.new.bank ≡ engine.old.bank }
+    {
+        if self.profiler.counts_rules() {
+            let _ = engine.count_rules(alloc);
+        }
+    }
+
+    /// Tells what the evaluations of an engine took.
+    pub fn conclude<B: TermBank>(&mut self, engine: &Engine<B>) {
+        let counts = engine.rule_counts();
+        self.profiler
+            .conclude(engine.checked(), counts, engine.tally());
+    }
 }

@@ -50,8 +50,8 @@ pub struct Answered {
     pub refusal: Option<Refusal>,
 }
 
-/// Answers a request, which is read in a bank of its own with as many cells as the options say. After
-/// a fault the engine answers the next request as ever.
+/// Answers a request, which is read in a bank of its own with as many cells as the options say.
+/// After a fault the engine answers the next request as ever.
 pub fn answer<B: TermBank>(
     alloc: Global,
     engine: &mut Engine<B>,
@@ -107,8 +107,8 @@ fn answer_owned<N: TermBank + Drop, B: TermBank>(
     answer_in_within(alloc, &mut own, engine, request, settings)
 }
 
-/// Answers a request over a bank of the caller's, in which it is read. Want of cells comes where that
-/// bank is full, or where the engine has no room.
+/// Answers a request over a bank of the caller's, in which it is read. Want of cells comes where
+/// that bank is full, or where the engine has no room.
 pub fn answer_in<N: TermBank, B: TermBank>(
     alloc: Global,
     own: &mut N,

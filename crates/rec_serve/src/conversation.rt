@@ -69,8 +69,8 @@ impl StreamFault {
     }
 }
 
-/// Answers the requests of a stream over an engine, by one line for each: its answer, or that memory
-/// or cells ran out. What was written is flushed before each read.
+/// Answers the requests of a stream over an engine, by one line for each: its answer, or that
+/// memory or cells ran out. What was written is flushed before each read.
 pub fn converse<B: TermBank, R: Read, W: Write, L: Listener>(
     alloc: Global,
     engine: &mut Engine<B>,
@@ -95,8 +95,8 @@ pub fn converse<B: TermBank, R: Read, W: Write, L: Listener>(
     converse_within(alloc, engine, requests, out, settings, listener)
 }
 
-/// The same where it may be said how many calls may wait: a request that is too deep is answered by a
-/// line that says so.
+/// The same where it may be said how many calls may wait: a request that is too deep is answered by
+/// a line that says so.
 pub fn converse_within<B: TermBank, R: Read, W: Write, L: Listener>(
     alloc: Global,
     engine: &mut Engine<B>,

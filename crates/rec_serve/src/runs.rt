@@ -90,8 +90,8 @@ pub fn run_serve_at<S: Read, R: Read, W: Write, L: Listener>(
     run_serve_within(alloc, spec, requests, out, settings, place, listener)
 }
 
-/// The same where it may be said how many calls may wait: a request that is too deep is answered by a
-/// line that says so.
+/// The same where it may be said how many calls may wait: a request that is too deep is answered by
+/// a line that says so.
 pub fn run_serve_within<S: Read, R: Read, W: Write, L: Listener>(
     alloc: Global,
     spec: &mut S,

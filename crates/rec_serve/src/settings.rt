@@ -7,6 +7,7 @@ use rec_run::RunOptions;
 pub struct ServeSettings {
     /// What it may use.
     pub options: RunOptions,
-    /// How many calls may wait at once for a request; without a number as many as there is memory for.
+    /// How many calls may wait at once for a request; without a number as many as there is memory
+    /// for.
     pub depth: Option<u32>,
 }

@@ -3,7 +3,6 @@
 use crate::expected::expected_words;
 use crate::item::{element_of_terms, item_of_args};
 use crate::recorded::{Output, Recorded};
-use rec_look::StuckReport;
 use rec_run::{Finish, Place, RunDepthFault, RunFault, Source};
 use recw_words::{
     Given, Invocation, Item, Refusal, Request, STANDARD_INPUT, TextName, Texts, Which,
@@ -47,8 +46,8 @@ pub struct Evidence<'a> {
     pub second: Vec<u8>,
     /// What was written.
     pub output: Output,
-    /// What there is to tell of the calls in values.
-    pub report: StuckReport,
+    /// The lines that tell of the calls in values.
+    pub calls: Vec<u8>,
     /// What failed, and why.
     trouble: Option<Trouble<'a>>,
 }
@@ -64,7 +63,7 @@ impl<'a> Evidence<'a> {
             first: Vec::new(alloc),
             second: Vec::new(alloc),
             output: Output::new(alloc),
-            report: StuckReport::new(alloc),
+            calls: Vec::new(alloc),
             trouble: None,
         }
     }

@@ -4,8 +4,8 @@ use rec_run::{Misfit, refused_argument, refused_term};
 use recw_words::Item;
 use std::alloc::Global;
 
-/// Behind how many others the given term stands that breaks a rule, where one of the rules 2 to 6 is
-/// broken; nothing where there is no memory to tell.
+/// Behind how many others the given term stands that breaks a rule, where one of the rules 2 to 6
+/// is broken; nothing where there is no memory to tell.
 pub fn element_of_terms(alloc: Global, spec: &[u8], terms: &[u8]) -> Option<usize> {
     refused_term(alloc, spec, terms).ok()?
 }

@@ -23,9 +23,9 @@ mod tests;
 mod work;
 
 use evidence::Evidence;
-use program::{obey, obey_watched};
+use program::obey;
 use progress::Progress;
-use recw_words::{Asked, Console, EvalOptions, Guarded, Invocation, Prompt, Request, read_words};
+use recw_words::{Asked, Console, Guarded, Invocation, Prompt, Request, read_words};
 use screen::Screen;
 use std::alloc::Global;
 use std::env;
@@ -63,35 +63,23 @@ fn start_with(rt: &HostRuntime, alloc: Global, given: &[String]) -> io::Result<u
     }
 }
 
-/// Does what is asked for, and gives the exit status. It is shown how far an evaluation is, but not
-/// where its values are looked at.
+/// Does what is asked for, and gives the exit status.
 fn run<W: Write>(rt: &HostRuntime, alloc: Global, invocation: Invocation<'_>, out: &mut W) -> u8 {
-    let request = invocation.request;
+    let screen = screen_for(rt, alloc, invocation.request);
     let mut evidence = Evidence::new(alloc, invocation);
     let mut input = rt.stdin();
     let mut err = console(rt);
-    match request {
-        Request::Eval { options, .. } if !options.stuck => {
-            let mut screen = screen_for(rt, alloc, options);
-            obey_watched(
-                rt,
-                &mut evidence,
-                &mut input,
-                out,
-                &mut err,
-                options,
-                &mut screen,
-            )
-        }
-        _ => obey(rt, &mut evidence, &mut input, out, &mut err),
-    }
+    obey(rt, &mut evidence, &mut input, out, &mut err, screen)
 }
 
 /// Where it is shown how far an evaluation is: where that is asked for, and on a terminal.
-fn screen_for(rt: &HostRuntime, alloc: Global, options: EvalOptions) -> Screen<'_> {
+fn screen_for<'a>(rt: &'a HostRuntime, alloc: Global, request: Request<'_>) -> Screen<'a> {
     let err = rt.stderr();
-    let is_asked = options.progress || err.is_terminal();
-    let progress = Progress::new(alloc, rt, is_asked, options.steps);
+    let (is_asked, steps) = match request {
+        Request::Eval { options, .. } => { (options.progress || err.is_terminal(), options.steps) }
+        _ => (false, 0),
+    };
+    let progress = Progress::new(alloc, rt, is_asked, steps);
     Screen { progress, err }
 }
 

@@ -9,8 +9,9 @@ use crate::recorded::Watched;
 use crate::serve::serve;
 use crate::work::{Calls, Firings, Values, Work};
 use crate::{look, report};
+use rec_look::StuckReport;
 use rec_run::{
-    Finish, Observer, RunDepthFault, RunFault, Source, Watch, run_aterm_at, run_make_at,
+    Finish, Observer, Profiler, RunDepthFault, RunFault, Source, Watch, run_aterm_at, run_make_at,
     run_match_at, run_share_at,
 };
 use recw_words::status::{eval_status, match_status};
@@ -20,38 +21,25 @@ use std::io::{Read, Write};
 use std::rt::Files;
 
 /// Does what is asked for, of which `evidence` is the beginning, tells of its end, and gives the
-/// exit status. Nobody is told how far an evaluation is, nor what it took.
-pub fn obey<H: Files, R: Read, W: Write, E: Write + Audience>(
+/// exit status. `watch` is told how far an evaluation is.
+pub fn obey<H: Files, R: Read, W: Write, E: Write + Audience, V: Watch + Drop>(
     rt: &H,
     evidence: &mut Evidence<'_>,
     input: &mut R,
     out: &mut W,
     err: &mut E,
+    watch: V,
 ) -> u8 {
     evidence.invocation.explain |= err.is_curious();
     let mut out = Watched::new(evidence.alloc, out, evidence.invocation.has_outcome);
-    let end = perform(rt, input, &mut out, err, evidence);
-    evidence.note_output(out.finish());
-    conclude(end, evidence, err)
-}
-
-/// Evaluates as these options say, and somebody is told how far that is; tells of its end, and gives
-/// the exit status.
-pub fn obey_watched<H: Files, R: Read, W: Write, E: Write + Audience>(
-    rt: &H,
-    evidence: &mut Evidence<'_>,
-    input: &mut R,
-    out: &mut W,
-    err: &mut E,
-    options: EvalOptions,
-    watch: &mut dyn Watch,
-) -> u8 {
-    evidence.invocation.explain |= err.is_curious();
-    let mut out = Watched::new(evidence.alloc, out, evidence.invocation.has_outcome);
-    let profiler = Profile::new(evidence.alloc, options.profile, err);
-    let observer = Observer { watch, profiler };
-    let mut values = Values { options, observer };
-    let end = evaluate(rt, &mut values, input, &mut out, evidence);
+    let end = match evidence.invocation.request {
+        Request::Eval { options, .. } => {
+            let profiler = Profile::new(evidence.alloc, options.profile, err);
+            let observer = Observer { watch, profiler };
+            evaluate_observed(rt, options, observer, input, &mut out, evidence)
+        }
+        _ => perform(rt, input, &mut out, err, evidence),
+    };
     evidence.note_output(out.finish());
     conclude(end, evidence, err)
 }
@@ -78,13 +66,13 @@ fn conclude<E: Write>(
 
 /// Tells of the calls in values. Lines that cannot be written are left out.
 fn tell_calls<E: Write>(evidence: &Evidence<'_>, err: &mut E) {
-    let _ = err.write_all(evidence.report.lines.as_slice());
+    let _ = err.write_all(evidence.calls.as_slice());
 }
 
 /// The status where it is to tell of the calls in values. There is nothing to tell where that was
 /// not asked for.
 fn calls_status(status: u8, evidence: &Evidence<'_>) -> u8 {
-    eval_status(status, !evidence.report.lines.is_empty())
+    eval_status(status, !evidence.calls.is_empty())
 }
 
 /// The status where it is to tell what came of the run.
@@ -98,7 +86,7 @@ fn outcome_status(status: u8, evidence: &Evidence<'_>) -> u8 {
     }
 }
 
-/// Does what is asked for.
+/// Does what is asked for but an evaluation without a trace.
 fn perform<H: Files, R: Read, W: Write, E: Write>(
     rt: &H,
     input: &mut R,
@@ -107,9 +95,6 @@ fn perform<H: Files, R: Read, W: Write, E: Write>(
     evidence: &mut Evidence<'_>,
 ) -> Result<Finish, RunDepthFault> {
     match evidence.invocation.request {
-        Request::Eval { options, .. } => {
-            evaluate(rt, &mut Calls { options }, input, out, evidence)
-        }
         Request::Trace { options, shown, .. } => {
             evaluate(rt, &mut Firings { options, shown }, input, out, evidence)
         }
@@ -117,8 +102,8 @@ fn perform<H: Files, R: Read, W: Write, E: Write>(
     }
 }
 
-/// Does what is asked for but an evaluation, on the files that it names. What is told while it goes on
-/// is written to `err`.
+/// Does what is asked for but an evaluation, on the files that it names. What is told while it goes
+/// on is written to `err`.
 fn run_request<H: Files, R: Read, W: Write, E: Write>(
     rt: &H,
     input: &mut R,
@@ -179,6 +164,28 @@ fn run_on_text<R: Read, W: Write>(
             ..
         } => look::ended(run_aterm_indented_at(alloc, text, indent, out, &mut evidence.place)),
         _ => run_aterm_at(alloc, text, out, &mut evidence.place),
+    }
+}
+
+/// Evaluates a specification and given terms as these options say, tells an observer of it, and
+/// notes what there is to tell of the calls in values, where that is asked for.
+fn evaluate_observed<H: Files, R: Read, W: Write, V: Watch + Drop, P: Profiler + Drop>(
+    rt: &H,
+    options: EvalOptions,
+    observer: Observer<V, P>,
+    input: &mut R,
+    out: &mut W,
+    evidence: &mut Evidence<'_>,
+) -> Result<Finish, RunDepthFault> {
+    if options.stuck {
+        let report = StuckReport::new(evidence.alloc, observer);
+        let mut calls = Calls { options, report };
+        let end = evaluate(rt, &mut calls, input, out, evidence);
+        evidence.calls = calls.report.lines;
+        end
+    } else {
+        let mut values = Values { options, observer };
+        evaluate(rt, &mut values, input, out, evidence)
     }
 }
 

@@ -13,10 +13,10 @@ mod told;
 mod words;
 
 use crate::evidence::Evidence;
-use crate::program::{obey, obey_watched};
+use crate::program::obey;
 use crate::shelf::Shelf;
 use rec_run::Unwatched;
-use recw_words::{Asked, Audience, Console, Request, read_words};
+use recw_words::{Asked, Audience, Console, read_words};
 use std::alloc::Global;
 use std::io::{Read, Write};
 use std::process::Abort;
@@ -67,20 +67,8 @@ pub(crate) fn program<H: Files, R: Read, W: Write, E: Write + Audience>(
 ) -> u8 {
     match read_words(alloc, words, out, err) {
         Asked::Run(invocation) => {
-            let request = invocation.request;
             let mut evidence = Evidence::new(alloc, invocation);
-            match request {
-                Request::Eval { options, .. } if !options.stuck => obey_watched(
-                    files,
-                    &mut evidence,
-                    input,
-                    out,
-                    err,
-                    options,
-                    &mut Unwatched,
-                ),
-                _ => obey(files, &mut evidence, input, out, err),
-            }
+            obey(files, &mut evidence, input, out, err, Unwatched)
         }
         Asked::End(status) => status,
     }

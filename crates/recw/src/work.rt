@@ -2,8 +2,8 @@
 
 use crate::evidence::Evidence;
 use crate::options::{run_settings, trace_options};
-use rec_look::{run_stuck, run_trace};
-use rec_run::{Finish, Observer, Profiler, RunDepthFault, Watch, run_observed, run_within};
+use rec_look::{StuckReport, run_stuck, run_trace};
+use rec_run::{Finish, Observer, Profiler, RunDepthFault, Watch, run_observed};
 use recw_words::{EvalOptions, Shown};
 use std::io::{Read, Write};
 
@@ -21,14 +21,14 @@ pub trait Work {
 
 /// Tells their values, and an observer how far they are and what they took.
 #[derive(Drop)]
-pub struct Values<W, P> {
+pub struct Values<V, P> {
     /// How they are evaluated.
     pub options: EvalOptions,
     /// Who is told.
-    pub observer: Observer<W, P>,
+    pub observer: Observer<V, P>,
 }
 
-impl<P: Profiler> Work for Values<&mut dyn Watch, P> {
+impl<V: Watch, P: Profiler> Work for Values<V, P> {
     fn run<R: Read, T: Read, W: Write>(
         &mut self,
         spec: &mut R,
@@ -43,14 +43,16 @@ impl<P: Profiler> Work for Values<&mut dyn Watch, P> {
     }
 }
 
-/// Tells their values, and where it is asked for the calls that these hold.
-#[derive(Clone, Copy, Drop)]
-pub struct Calls {
+/// The same, and keeps what there is to tell of the calls that the values hold.
+#[derive(Drop)]
+pub struct Calls<V, P> {
     /// How they are evaluated.
     pub options: EvalOptions,
+    /// Who is told, and what is kept.
+    pub report: StuckReport<V, P>,
 }
 
-impl Work for Calls {
+impl<V: Watch, P: Profiler> Work for Calls<V, P> {
     fn run<R: Read, T: Read, W: Write>(
         &mut self,
         spec: &mut R,
@@ -60,12 +62,8 @@ impl Work for Calls {
     ) -> Result<Finish, RunDepthFault> {
         let alloc = evidence.alloc;
         let settings = run_settings(self.options);
-        let Evidence { place, report, .. } = evidence;
-        if self.options.stuck {
-            run_stuck(alloc, spec, terms, out, settings, place, report)
-        } else {
-            run_within(alloc, spec, terms, out, settings, place)
-        }
+        let place = &mut evidence.place;
+        run_stuck(alloc, spec, terms, out, settings, place, &mut self.report)
     }
 }
 

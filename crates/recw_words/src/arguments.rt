@@ -41,8 +41,6 @@ pub enum Kind {
     Several,
     /// No more than the option.
     Flag,
-    /// The same, but not beside another option.
-    FlagWithout(&'static str),
     /// The option with a number.
     Number(Number),
     /// The option with a number, beside another option alone.
@@ -274,7 +272,6 @@ fn argument_of<'a>(alloc: Global, argument: &Argument) -> Result<Arg<'a>, AllocE
         Kind::Needed => Ok(bare.required(true)),
         Kind::Several => Ok(several(bare)),
         Kind::Flag => Ok(flag(bare, argument.name)),
-        Kind::FlagWithout(other) => flag(bare, argument.name).conflicts_with(other),
         Kind::Number(number) => Ok(option(bare, argument.name, &number)),
         Kind::NumberBeside(number, other) => {
             option(bare, argument.name, &number).requires_arg(other)

@@ -63,12 +63,12 @@ const EVAL: Subcommand = Subcommand {
         Argument {
             name: "profile",
             help: "Tell on standard error how often each rule is used, and what the run takes",
-            kind: Kind::FlagWithout("stuck"),
+            kind: Kind::Flag,
         },
         Argument {
             name: "progress",
             help: "Show on standard error how far a long term is, as on a terminal",
-            kind: Kind::FlagWithout("stuck"),
+            kind: Kind::Flag,
         },
         EXPLAIN,
     ],

@@ -33,8 +33,8 @@ impl<W: Write> Console<W> {
         }
     }
 
-    /// Writes the first byte by its number where it is a control byte, and else the bytes before the
-    /// next that may be one.
+    /// Writes the first byte by its number where it is a control byte, and else the bytes before
+    /// the next that may be one.
     fn write_front(&mut self, bytes: &[u8], first: u8) -> io::Result<usize> {
         if first == BEGINNING && !self.is_held {
             self.is_held = true;

@@ -23,8 +23,8 @@ impl Given {
         }
     }
 
-    /// One word more. Where it is no term, `fault` is the place at which that is found, and the text
-    /// is refused there, whatever words follow.
+    /// One word more. Where it is no term, `fault` is the place at which that is found, and the
+    /// text is refused there, whatever words follow.
     pub fn push(&mut self, word: &str, fault: Option<usize>) -> Result<(), AllocError> {
         if self.is_broken {
             return Ok(());

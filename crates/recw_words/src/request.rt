@@ -35,8 +35,8 @@ pub enum Request<'a> {
         spec: Option<&'a str>,
         terms: Option<&'a str>,
     },
-    /// Print a term and how many cells it takes; or, where it is said how many parts it may show, the
-    /// graph of its parts.
+    /// Print a term and how many cells it takes; or, where it is said how many parts it may show,
+    /// the graph of its parts.
     Share {
         file: Option<&'a str>,
         nodes: Option<u32>,

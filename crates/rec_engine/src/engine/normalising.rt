@@ -58,11 +58,11 @@ impl<B: TermBank> Engine<B> {
     }
 
     /// The same as `normalise`, and somebody is told while it goes on.
-    pub fn normalise_watched(
+    pub fn normalise_watched<V: Watch>(
         &mut self,
         t: Term,
         n: u64,
-        watch: &mut dyn Watch,
+        watch: &mut V,
     ) -> Result<Outcome, EngineFault>
         requires { IsGiven self.old.spec (B.store self.old.bank) t }
         ensures same { SameEngine self.old self.new }
@@ -83,12 +83,12 @@ impl<B: TermBank> Engine<B> {
     }
 
     /// The same as `normalise_within`, and somebody is told while it goes on.
-    pub fn normalise_within_watched(
+    pub fn normalise_within_watched<V: Watch>(
         &mut self,
         t: Term,
         n: u64,
         depth: u32,
-        watch: &mut dyn Watch,
+        watch: &mut V,
     ) -> Result<Outcome, DepthFault>
         requires { IsGiven self.old.spec (B.store self.old.bank) t }
         ensures same { SameEngine self.old self.new }
@@ -109,7 +109,8 @@ impl<B: TermBank> Engine<B> {
         outcome
     }
 
-    /// From now on it is counted how often each rule is used. Without memory for it nothing changes.
+    /// From now on it is counted how often each rule is used. Without memory for it nothing
+    /// changes.
     pub fn count_rules(&mut self, alloc: Global) -> Result<(), AllocError>
         ensures same { SameEngine self.old self.new }
         ensures bank { self.new.bank ≡ self.old.bank }
@@ -136,12 +137,12 @@ impl<B: TermBank> Engine<B> {
     }
 
     /// The same for any number of calls.
-    fn normalise_to(
+    fn normalise_to<V: Watch>(
         &mut self,
         t: Term,
         n: u64,
         depth: usize,
-        watch: &mut dyn Watch,
+        watch: &mut V,
     ) -> Result<Outcome, DepthFault>
         requires { IsGiven self.old.spec (B.store self.old.bank) t }
         ensures same { SameEngine self.old self.new }

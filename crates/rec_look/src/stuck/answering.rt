@@ -1,12 +1,13 @@
 //! What is due for the texts that were read, where the values are looked at.
 
-ghost use Rattle.std.specs.Prelude.{◌≡◌, ◌++◌, ℕ, None, IfErr, IfOk, OnErr, OnOk};
+ghost use Rattle.std.specs.Prelude.{◌≡◌, ◌++◌, ℕ, None, IfErr, IfOk, List, OnErr, OnOk};
 ghost use Rattle.std.specs.Option.{ForSome};
 ghost use Rattle.rx_text.specs.Output.{IsSameOutput, IsWritable, Writes, contents_of};
 ghost use Rattle.rx_run.specs.Refusals.{finish_of, place_of, refusal_due};
 ghost use Rattle.rx_run.specs.Run.{Stops};
 ghost use Rattle.rx_run.specs.Streams.{TellsWrite};
 ghost use Rattle.rec_run.specs.Depth.{EndsBehind, HasRoomWithin, IsBounded, unbounded};
+ghost use Rattle.rec_run.specs.EvaluatedLines.{ProtectsTerms};
 ghost use Rattle.rec_run.specs.GivenTerms.{HoldsTerms, IsReady, IsRefused, given_by, run_due};
 ghost use Rattle.rec_run.specs.Output.{lines, shown_of};
 ghost use Rattle.rec_look.specs.Inner.Calls.{AreSpots, job_report};
@@ -15,7 +16,8 @@ ghost use Rattle.rec_look.specs.Stuck.{stuck_report};
 use crate::stuck::lines::write_lines;
 use crate::stuck::report::StuckReport;
 use crate::trace::spots::rule_spots;
-use rec_run::{Job, RunDepthFault, RunSettings, engine_over};
+use rec_engine::Engine;
+use rec_run::{Job, Profiler, RunDepthFault, RunSettings, Watch, engine_over};
 use rec_sorts::Checked;
 use rx_run::{Finish, Place, Reading, Refusal, RunFault, write_refusal_to};
 use rx_term::{Term, TermBank};
@@ -25,14 +27,14 @@ use std::io::Write;
 
 /// Writes what is due for the texts that were read, and flushes: how the run ends, and the place of
 /// the refusal that was written. What the values hold comes behind the report.
-pub(crate) fn answer<B: TermBank + Drop, W: Write>(
+pub(crate) fn answer<B: TermBank + Drop, W: Write, V: Watch, P: Profiler>(
     alloc: Global,
     bank: B,
     reading: Reading<Job>,
     out: &mut Output<'_, W>,
     settings: RunSettings,
     place: &mut Option<Place>,
-    report: &mut StuckReport,
+    report: &mut StuckReport<V, P>,
 ) -> Result<Finish, RunDepthFault>
     requires unrooted { (t : ℕ) → (B.store bank).roots t ≡ 0 }
     requires ready { IsReady (B.store bank) reading }
@@ -87,13 +89,13 @@ fn end_run<W: Write>(
 }
 
 /// Writes what is due.
-fn write_due<B: TermBank + Drop, W: Write>(
+fn write_due<B: TermBank + Drop, W: Write, V: Watch, P: Profiler>(
     alloc: Global,
     bank: B,
     reading: Reading<Job>,
     out: &mut Output<'_, W>,
     settings: RunSettings,
-    report: &mut StuckReport,
+    report: &mut StuckReport<V, P>,
 ) -> Result<(), RunDepthFault>
     requires unrooted { (t : ℕ) → (B.store bank).roots t ≡ 0 }
     requires ready { IsReady (B.store bank) reading }
@@ -136,14 +138,14 @@ fn refuse<W: Write>(refusal: Refusal, out: &mut Output<'_, W>) -> Result<(), Run
 }
 
 /// Writes the lines of good texts, whose given terms stand in a bank, over that bank.
-fn write_job<B: TermBank + Drop, W: Write>(
+fn write_job<B: TermBank + Drop, W: Write, V: Watch, P: Profiler>(
     alloc: Global,
     checked: Checked,
     bank: B,
     list: Option<Term>,
     out: &mut Output<'_, W>,
     settings: RunSettings,
-    report: &mut StuckReport,
+    report: &mut StuckReport<V, P>,
 ) -> Result<(), RunDepthFault>
     requires unrooted { (t : ℕ) → (B.store bank).roots t ≡ 0 }
     requires given { ForSome list (HoldsTerms checked.spec (B.store bank)) }
@@ -173,14 +175,14 @@ fn write_job<B: TermBank + Drop, W: Write>(
 
 /// Evaluates the terms of a specification and those of a list, where there is one, over the bank
 /// that holds them, and writes a line for each.
-fn write_evaluated<B: TermBank + Drop, W: Write>(
+fn write_evaluated<B: TermBank + Drop, W: Write, V: Watch, P: Profiler>(
     alloc: Global,
     checked: Checked,
     bank: B,
     list: Option<Term>,
     out: &mut Output<'_, W>,
     settings: RunSettings,
-    report: &mut StuckReport,
+    report: &mut StuckReport<V, P>,
 ) -> Result<(), RunDepthFault>
     requires unrooted { (t : ℕ) → (B.store bank).roots t ≡ 0 }
     requires given { ForSome list (HoldsTerms checked.spec (B.store bank)) }
@@ -201,7 +203,42 @@ fn write_evaluated<B: TermBank + Drop, W: Write>(
         settings.options.steps) }
 {
     match engine_over(alloc, checked, bank, list, settings.options) {
-        Ok(mut engine) => write_lines(alloc, &mut engine, list, out, settings, report),
+        Ok(engine) => write_over(alloc, engine, list, out, settings, report),
         Err(_) => Err(RunDepthFault::Run(RunFault::Memory { lines: 0 })),
     }
+}
+
+/// Writes a line for each term over an engine, which is needed no more then, and tells the observer
+/// what the terms took.
+fn write_over<B: TermBank + Drop, W: Write, V: Watch, P: Profiler>(
+    alloc: Global,
+    mut engine: Engine<B>,
+    list: Option<Term>,
+    out: &mut Output<'_, W>,
+    settings: RunSettings,
+    report: &mut StuckReport<V, P>,
+) -> Result<(), RunDepthFault>
+    requires protected { ForSome list (ProtectsTerms engine.spec (B.store engine.bank)) }
+    requires told { (source : List ℕ) × AreSpots source engine.spec report.old.spots.items }
+    requires open { IsWritable out.old }
+    ensures ok { OnOk result (Writes W.contents out.old out.new
+        (lines engine.spec (given_by (B.store engine.bank) list)
+        (shown_of settings) settings.options.steps)) }
+    ensures err { IfErr (unbounded result) (λ fault. Stops fault
+        (lines engine.spec (given_by (B.store engine.bank) list)
+        (shown_of settings) settings.options.steps)
+        (contents_of W.contents out.old) (contents_of W.contents out.new)) }
+    ensures bounded { IfErr result (IsBounded settings.depth) }
+    ensures same_output { IsSameOutput out.old out.new }
+    ensures cause { TellsWrite out.new (unbounded result) }
+    ensures report { OnOk result ((source : List ℕ)
+        → AreSpots source engine.spec report.old.spots.items
+        → report.new.lines.items ≡ report.old.lines.items ++ stuck_report source engine.spec
+        (given_by (B.store engine.bank) list) settings.options.steps) }
+{
+    report.observer.begin(alloc, &mut engine);
+    let written = write_lines(alloc, &mut engine, list, out, settings, report);
+    report.observer.conclude(&engine);
+    let _parts = engine.into_parts();
+    written
 }

@@ -1,10 +1,11 @@
 //! The applications in a value.
 
-ghost use Rattle.std.specs.Prelude.{◌≡◌, IfOk, IsSome, OnOk};
+ghost use Rattle.std.specs.Prelude.{◌≡◌, [], IfOk, IsSome, OnOk};
 ghost use Rattle.rx_term.specs.Store.{tree_at};
 ghost use Rattle.rx_term.specs.Walks.{held_tree};
 ghost use Rattle.rec_look.specs.Stuck.{applications, different};
-ghost use Rattle.rec_look.specs.Inner.Visits.{AreThere, Enters, trees_of};
+ghost use Rattle.rx_term.specs.Tree.{Tree};
+ghost use Rattle.rec_look.specs.Inner.Visits.{AreThere, CanVisit, Enters, Walked, trees_of};
 
 use indexmap::IndexSet;
 use rx_term::{Kind, Term, TermBank};
@@ -31,18 +32,35 @@ pub(crate) fn applications<B: TermBank>(
     ensures trees { IfOk result (λ left. trees_of (B.store bank.now) left.keys
         ≡ different (applications (held_tree (B.store bank.now) value))) }
 {
-    let mut left = IndexSet::new(alloc);
     let mut visits = Vec::new(alloc);
     visits.push(Visit::Enter(value))?;
+    let mut left = IndexSet::new(alloc);
+    leave_all(bank, &mut visits, &mut left)?;
+    Ok(left)
+}
+
+/// Makes visits and all that come of them: what they leave was left then.
+fn leave_all<B: TermBank>(
+    bank: &B,
+    visits: &mut Vec<Visit>,
+    left: &mut IndexSet<u32>,
+) -> Result<(), AllocError>
+    requires can { CanVisit (B.store bank.now) visits.old.items }
+    requires there { AreThere (B.store bank.now) left.old.keys }
+    ensures there { OnOk result (AreThere (B.store bank.now) left.new.keys) }
+    ensures walked { OnOk result ((v : Tree)
+        → Walked (B.store bank.now) v left.old.keys visits.old.items
+        → Walked (B.store bank.now) v left.new.keys []) }
+{
     while let Some(visit) = visits.pop() {
         match visit {
             Visit::Leave(t) => {
                 left.insert(t.0)?;
             }
-            Visit::Enter(t) => enter(bank, t, &left, &mut visits)?,
+            Visit::Enter(t) => enter(bank, t, left, visits)?,
         }
     }
-    Ok(left)
+    Ok(())
 }
 
 /// Goes into a tree: what is inside comes next, from left to right, and then the tree itself, where

@@ -29,8 +29,8 @@ ghost use Rattle.rec_look.specs.Inner.Telling.{given_task, own_task};
 use crate::stuck::report::StuckReport;
 use rec_engine::{Engine, Outcome};
 use rec_run::{
-    LimitLines, LineDepthFault, LineFault, RunDepthFault, RunSettings, evaluate_within,
-    write_notes_to, write_outcome_to,
+    LimitLines, LineDepthFault, LineFault, Profiler, RunDepthFault, RunSettings, Watch,
+    evaluate_observed, write_notes_to, write_outcome_to,
 };
 use rx_term::{Kind, Term, TermBank};
 use rx_text::Output;
@@ -39,13 +39,13 @@ use std::io::Write;
 
 /// Writes a line for each term of the specification, and then one for each term of the list, where
 /// there is one. What the values hold comes behind the report.
-pub(crate) fn write_lines<B: TermBank, W: Write>(
+pub(crate) fn write_lines<B: TermBank, W: Write, V: Watch, P: Profiler>(
     alloc: Global,
     engine: &mut Engine<B>,
     list: Option<Term>,
     out: &mut Output<'_, W>,
     settings: RunSettings,
-    report: &mut StuckReport,
+    report: &mut StuckReport<V, P>,
 ) -> Result<(), RunDepthFault>
     requires protected { ForSome list (ProtectsTerms engine.old.spec (B.store engine.old.bank)) }
     requires told { (source : List ℕ) × AreSpots source engine.old.spec report.old.spots.items }
@@ -77,12 +77,12 @@ pub(crate) fn write_lines<B: TermBank, W: Write>(
 }
 
 /// Writes a line for each term of the specification.
-fn write_own_lines<B: TermBank, W: Write>(
+fn write_own_lines<B: TermBank, W: Write, V: Watch, P: Profiler>(
     alloc: Global,
     engine: &mut Engine<B>,
     out: &mut Output<'_, W>,
     settings: RunSettings,
-    report: &mut StuckReport,
+    report: &mut StuckReport<V, P>,
 ) -> Result<(), RunDepthFault>
     requires told { (source : List ℕ) × AreSpots source engine.old.spec report.old.spots.items }
     requires open { IsWritable out.old }
@@ -112,13 +112,13 @@ fn write_own_lines<B: TermBank, W: Write>(
 }
 
 /// Writes the line of the specification's term of this number.
-fn write_own_line<B: TermBank, W: Write>(
+fn write_own_line<B: TermBank, W: Write, V: Watch, P: Profiler>(
     alloc: Global,
     engine: &mut Engine<B>,
     i: u32,
     out: &mut Output<'_, W>,
     settings: RunSettings,
-    report: &mut StuckReport,
+    report: &mut StuckReport<V, P>,
 ) -> Result<(), LineDepthFault>
     requires there { i < length engine.old.spec.terms }
     requires told { (source : List ℕ) × AreSpots source engine.old.spec report.old.spots.items }
@@ -151,13 +151,13 @@ fn write_own_line<B: TermBank, W: Write>(
 }
 
 /// Writes a line for each term of a list that is protected, behind those of the specification.
-fn write_given_lines<B: TermBank, W: Write>(
+fn write_given_lines<B: TermBank, W: Write, V: Watch, P: Profiler>(
     alloc: Global,
     engine: &mut Engine<B>,
     list: Term,
     out: &mut Output<'_, W>,
     settings: RunSettings,
-    report: &mut StuckReport,
+    report: &mut StuckReport<V, P>,
 ) -> Result<(), RunDepthFault>
     requires protected { ProtectsTerms engine.old.spec (B.store engine.old.bank) list }
     requires told { (source : List ℕ) × AreSpots source engine.old.spec report.old.spots.items }
@@ -196,13 +196,13 @@ fn write_given_lines<B: TermBank, W: Write>(
 }
 
 /// Evaluates a term, looks at its value, and writes its line.
-fn write_evaluation<B: TermBank, W: Write>(
+fn write_evaluation<B: TermBank, W: Write, V: Watch, P: Profiler>(
     alloc: Global,
     engine: &mut Engine<B>,
     t: Term,
     out: &mut Output<'_, W>,
     settings: RunSettings,
-    report: &mut StuckReport,
+    report: &mut StuckReport<V, P>,
 ) -> Result<(), LineDepthFault>
     requires given { IsGiven engine.old.spec (B.store engine.old.bank) t }
     requires stays { StaysFor settings.limits (B.store engine.old.bank) t }
@@ -225,7 +225,8 @@ fn write_evaluation<B: TermBank, W: Write>(
         → report.new.lines.items ≡ report.old.lines.items ++ value_report source engine.old.spec
         settings.options.steps (given_task (item_at (B.store engine.old.bank) t))) }
 {
-    match evaluate_within(engine, t, settings.options.steps, settings.depth) {
+    let steps = settings.options.steps;
+    match evaluate_observed(engine, t, steps, settings.depth, &mut report.observer.watch) {
         Ok(outcome) => line(tell_outcome(alloc, engine, t, outcome, out, settings, report)),
         Err(fault) => Err(LineDepthFault::from(fault)),
     }
@@ -242,14 +243,14 @@ fn line(written: Result<(), LineFault>) -> Result<(), LineDepthFault>
 }
 
 /// Looks at what a term came to, and writes its line.
-fn tell_outcome<B: TermBank, W: Write>(
+fn tell_outcome<B: TermBank, W: Write, V, P>(
     alloc: Global,
     engine: &Engine<B>,
     t: Term,
     outcome: Outcome,
     out: &mut Output<'_, W>,
     settings: RunSettings,
-    report: &mut StuckReport,
+    report: &mut StuckReport<V, P>,
 ) -> Result<(), LineFault>
     requires held { HoldsValue (B.store engine.now.bank) outcome }
     requires there { IsThereFor settings.limits (B.store engine.now.bank) t }

@@ -1,4 +1,4 @@
-//! Why a call is stuck.
+//! The line of a call, and why it is stuck.
 
 ghost use Rattle.std.specs.Prelude.{◌≡◌, ◌++◌, ◌∷◌, OnOk, codes, decimal};
 ghost use Rattle.rec_look.specs.Stuck.{place_text, places_behind, reason};
@@ -36,7 +36,7 @@ fn add_places(text: &mut Vec<u8>, spots: &[Spot]) -> Result<(), AllocError>
 }
 
 /// Why a call is stuck that the rules match which begin at these places.
-pub(crate) fn add_reason(text: &mut Vec<u8>, spots: &[Spot]) -> Result<(), AllocError>
+fn add_reason(text: &mut Vec<u8>, spots: &[Spot]) -> Result<(), AllocError>
     ensures { OnOk result (text.new.items ≡ text.old.items ++ reason spots.now) }
 {
     let Some((first, others)) = spots.split_first() else {
@@ -45,4 +45,18 @@ pub(crate) fn add_reason(text: &mut Vec<u8>, spots: &[Spot]) -> Result<(), Alloc
     add_place(text, b"the conditions of ", *first)?;
     add_places(text, others)?;
     text.extend_from_slice(b" fail")
+}
+
+/// The line of a call comes behind a text: its own text, cut to the width, and the places of the
+/// rules that match it.
+pub(crate) fn add_line(lines: &mut Vec<u8>, text: &[u8], spots: &[Spot]) -> Result<(), AllocError>
+    ensures { OnOk result (lines.new.items ≡ lines.old.items
+        ++ (codes "stuck: " ++ text.now ++ codes ": " ++ reason spots.now ++ codes "\n")) }
+{
+    lines.extend_from_slice(b"stuck: ")?;
+    lines.extend_from_slice(text)?;
+    lines.extend_from_slice(b": ")?;
+    add_reason(lines, spots)?;
+    lines.extend_from_slice(b"\n")?;
+    Ok(())
 }

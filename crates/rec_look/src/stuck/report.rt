@@ -13,19 +13,22 @@ ghost use Rattle.rec_look.specs.Inner.Visits.{AreThere, reference};
 
 use crate::stuck::applications::applications;
 use crate::stuck::fitting::{Call, fitting_spots};
-use crate::stuck::reasons::add_reason;
+use crate::stuck::reasons::add_line;
 use crate::stuck::short_text::short_text;
 use indexmap::IndexSet;
 use rec_engine::{Engine, Outcome};
+use rec_run::Observer;
 use rec_trace::Spot;
 use rx_term::{Kind, Symbol, Term, TermBank};
 use std::alloc::{AllocError, Global};
 
-/// What a run tells of the calls of operators in its values.
+/// What a run tells of the calls of operators in its values, and of its evaluations.
 #[derive(Drop)]
-pub struct StuckReport {
-    /// A line for each of them.
+pub struct StuckReport<V, P> {
+    /// A line for each of the calls.
     pub lines: Vec<u8>,
+    /// Who is told of the evaluations.
+    pub observer: Observer<V, P>,
     /// Where each rule of the specification begins, while that is looked at.
     pub(crate) spots: Vec<Spot>,
 }
@@ -74,13 +77,14 @@ fn numbered_call<B: TermBank>(
     })
 }
 
-impl StuckReport {
+impl<V, P> StuckReport<V, P> {
     /// A report without lines.
-    pub fn new(alloc: Global) -> StuckReport
+    pub fn new(alloc: Global, observer: Observer<V, P>) -> StuckReport<V, P>
         ensures { result.lines.items ≡ [] }
     {
         StuckReport {
             lines: Vec::new(alloc),
+            observer,
             spots: Vec::new(alloc),
         }
     }
@@ -190,11 +194,6 @@ impl StuckReport {
     {
         let text = short_text(alloc, engine.bank(), call.term)?;
         let spots = fitting_spots(alloc, engine.bank(), engine.matcher(), &self.spots, call)?;
-        self.lines.extend_from_slice(b"stuck: ")?;
-        self.lines.extend_from_slice(&text)?;
-        self.lines.extend_from_slice(b": ")?;
-        add_reason(&mut self.lines, &spots)?;
-        self.lines.extend_from_slice(b"\n")?;
-        Ok(())
+        add_line(&mut self.lines, &text, &spots)
     }
 }

@@ -13,24 +13,25 @@ ghost use Rattle.rec_look.specs.Stuck.{Tells};
 use crate::stuck::answering::answer;
 use crate::stuck::report::StuckReport;
 use crate::stuck::texts::{read_alone, read_both};
-use rec_run::{RunDepthFault, RunSettings};
+use rec_run::{Profiler, RunDepthFault, RunSettings, Watch};
 use rx_run::{Finish, Place, empty_bank};
 use rx_term::TermBank;
 use rx_text::Output;
 use std::alloc::Global;
 use std::io::{Read, Write};
 
-/// Does what `run_within` of rec_run does, with the same words, and adds a line to the report for
-/// each different call of an operator in each value, behind those inside of it and from left to
-/// right. Behind a fault the report may have lines of a value that was not written.
-pub fn run_stuck<R: Read, T: Read, W: Write>(
+/// Does what `run_observed` of rec_run does for the report's observer, with the same words, and adds
+/// a line to the report for each different call of an operator in each value, behind those inside
+/// of it and from left to right. Behind a fault the report may have lines of a value that was not
+/// written.
+pub fn run_stuck<R: Read, T: Read, W: Write, V: Watch, P: Profiler>(
     alloc: Global,
     spec: &mut R,
     terms: Option<&mut T>,
     out: &mut W,
     settings: RunSettings,
     place: &mut Option<Place>,
-    report: &mut StuckReport,
+    report: &mut StuckReport<V, P>,
 ) -> Result<Finish, RunDepthFault>
     ensures output { IfOk result (λ finish. EndsFor (IsDueFor
         (shown_of settings) settings.options.steps)
@@ -63,13 +64,13 @@ pub fn run_stuck<R: Read, T: Read, W: Write>(
 }
 
 /// A run without given terms.
-fn stuck_alone<R: Read, W: Write>(
+fn stuck_alone<R: Read, W: Write, V: Watch, P: Profiler>(
     alloc: Global,
     spec: &mut R,
     out: &mut W,
     settings: RunSettings,
     place: &mut Option<Place>,
-    report: &mut StuckReport,
+    report: &mut StuckReport<V, P>,
 ) -> Result<Finish, RunDepthFault>
     ensures output { IfOk (unbounded result) (λ finish. EndsFor (IsDueFor
         (shown_of settings) settings.options.steps)
@@ -96,13 +97,13 @@ fn stuck_alone<R: Read, W: Write>(
 }
 
 /// The same to an output. It is asked no more once it refused.
-fn alone_to<R: Read, W: Write>(
+fn alone_to<R: Read, W: Write, V: Watch, P: Profiler>(
     alloc: Global,
     spec: &mut R,
     out: &mut Output<'_, W>,
     settings: RunSettings,
     place: &mut Option<Place>,
-    report: &mut StuckReport,
+    report: &mut StuckReport<V, P>,
 ) -> Result<Finish, RunDepthFault>
     requires { IsWritable out.old }
     ensures output { IfOk (unbounded result) (λ finish. EndsFor (IsDueFor
@@ -134,14 +135,14 @@ fn alone_to<R: Read, W: Write>(
 }
 
 /// The same over a bank.
-fn alone_over<B: TermBank + Drop, R: Read, W: Write>(
+fn alone_over<B: TermBank + Drop, R: Read, W: Write, V: Watch, P: Profiler>(
     alloc: Global,
     bank: B,
     spec: &mut R,
     out: &mut Output<'_, W>,
     settings: RunSettings,
     place: &mut Option<Place>,
-    report: &mut StuckReport,
+    report: &mut StuckReport<V, P>,
 ) -> Result<Finish, RunDepthFault>
     requires unrooted { (t : ℕ) → (B.store bank).roots t ≡ 0 }
     requires writable { IsWritable out.old }
@@ -174,14 +175,14 @@ fn alone_over<B: TermBank + Drop, R: Read, W: Write>(
 }
 
 /// A run with given terms.
-fn stuck_beside<R: Read, T: Read, W: Write>(
+fn stuck_beside<R: Read, T: Read, W: Write, V: Watch, P: Profiler>(
     alloc: Global,
     spec: &mut R,
     terms: &mut T,
     out: &mut W,
     settings: RunSettings,
     place: &mut Option<Place>,
-    report: &mut StuckReport,
+    report: &mut StuckReport<V, P>,
 ) -> Result<Finish, RunDepthFault>
     ensures output { IfOk (unbounded result) (λ finish. EndsFor (IsDueFor
         (shown_of settings) settings.options.steps)
@@ -212,14 +213,14 @@ fn stuck_beside<R: Read, T: Read, W: Write>(
 }
 
 /// The same to an output. It is asked no more once it refused.
-fn beside_to<R: Read, T: Read, W: Write>(
+fn beside_to<R: Read, T: Read, W: Write, V: Watch, P: Profiler>(
     alloc: Global,
     spec: &mut R,
     terms: &mut T,
     out: &mut Output<'_, W>,
     settings: RunSettings,
     place: &mut Option<Place>,
-    report: &mut StuckReport,
+    report: &mut StuckReport<V, P>,
 ) -> Result<Finish, RunDepthFault>
     requires { IsWritable out.old }
     ensures output { IfOk (unbounded result) (λ finish. EndsFor (IsDueFor
@@ -255,7 +256,7 @@ fn beside_to<R: Read, T: Read, W: Write>(
 }
 
 /// The same over a bank.
-fn beside_over<B: TermBank + Drop, R: Read, T: Read, W: Write>(
+fn beside_over<B: TermBank + Drop, R: Read, T: Read, W: Write, V: Watch, P: Profiler>(
     alloc: Global,
     mut bank: B,
     spec: &mut R,
@@ -263,7 +264,7 @@ fn beside_over<B: TermBank + Drop, R: Read, T: Read, W: Write>(
     out: &mut Output<'_, W>,
     settings: RunSettings,
     place: &mut Option<Place>,
-    report: &mut StuckReport,
+    report: &mut StuckReport<V, P>,
 ) -> Result<Finish, RunDepthFault>
     requires unrooted { (t : ℕ) → (B.store bank).roots t ≡ 0 }
     requires writable { IsWritable out.old }

@@ -19,9 +19,9 @@ use std::io::{Read, Write};
 
 /// Reads a specification and, where it is good and terms are given, their text; writes the trace of
 /// each term of both, a line for each rule that fires as soon as it does, and flushes; or the line
-/// of a refusal, whose place it tells. A term's last line is the one that evaluation writes. A fault
-/// while a text is read has written nothing. What a fault leaves of the readers is open. A refused
-/// specification needs no cells.
+/// of a refusal, whose place it tells. A term's last line is the one that evaluation writes. A
+/// fault while a text is read has written nothing. What a fault leaves of the readers is open. A
+/// refused specification needs no cells.
 pub fn run_trace<R: Read, T: Read, W: Write>(
     alloc: Global,
     spec: &mut R,

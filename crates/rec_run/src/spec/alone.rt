@@ -51,21 +51,21 @@ pub(crate) fn run_alone<R: Read, W: Write>(
         limits,
         depth: None,
     };
-    let mut nobody = Unwatched;
-    let watch: &mut dyn Watch = &mut nobody;
-    let profiler = Unwatched;
-    let mut observer = Observer { watch, profiler };
+    let mut observer = Observer {
+        watch: Unwatched,
+        profiler: Unwatched,
+    };
     unbounded(run_alone_within(alloc, spec, out, settings, place, &mut observer))
 }
 
 /// The same where it may be said how many calls may wait.
-pub(crate) fn run_alone_within<R: Read, W: Write, P: Profiler>(
+pub(crate) fn run_alone_within<R: Read, W: Write, V: Watch, P: Profiler>(
     alloc: Global,
     spec: &mut R,
     out: &mut W,
     settings: RunSettings,
     place: &mut Option<Place>,
-    observer: &mut Observer<&mut dyn Watch, P>,
+    observer: &mut Observer<V, P>,
 ) -> Result<Finish, RunDepthFault>
     ensures output { IfOk (unbounded result) (λ finish. EndsFor (IsDueFor
         (shown_of settings) settings.options.steps)
@@ -90,13 +90,13 @@ pub(crate) fn run_alone_within<R: Read, W: Write, P: Profiler>(
 }
 
 /// The same from an input and to an output. None is asked any more once it refused.
-fn alone_owned<R: Read, W: Write, P: Profiler>(
+fn alone_owned<R: Read, W: Write, V: Watch, P: Profiler>(
     alloc: Global,
     spec: &mut Input<'_, R>,
     out: &mut Output<'_, W>,
     settings: RunSettings,
     place: &mut Option<Place>,
-    observer: &mut Observer<&mut dyn Watch, P>,
+    observer: &mut Observer<V, P>,
 ) -> Result<Finish, RunDepthFault>
     requires readable { IsReadable spec.old }
     requires writable { IsWritable out.old }
@@ -132,14 +132,14 @@ fn alone_owned<R: Read, W: Write, P: Profiler>(
 }
 
 /// The same from an input and to an output. None is asked any more once it refused.
-pub(crate) fn alone_over<B: TermBank, R: Read, W: Write, P: Profiler>(
+pub(crate) fn alone_over<B: TermBank, R: Read, W: Write, V: Watch, P: Profiler>(
     alloc: Global,
     bank: B,
     spec: &mut Input<'_, R>,
     out: &mut Output<'_, W>,
     settings: RunSettings,
     place: &mut Option<Place>,
-    observer: &mut Observer<&mut dyn Watch, P>,
+    observer: &mut Observer<V, P>,
 ) -> EndedWithin<B>
     requires unrooted { (t : ℕ) → (B.store bank).roots t ≡ 0 }
     requires limit { (B.store bank).cap ≡ settings.options.cells }

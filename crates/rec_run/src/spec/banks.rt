@@ -72,8 +72,8 @@ impl<B: Drop> Ended<B> {
 
 /// The same over a bank, which it hands back; the bank's limit is that of the options. Given terms
 /// are protected once there, and stay so. A refused specification leaves the bank as it is. Want of
-/// cells comes where no cell is left, and where either nothing was given back (the text of the terms
-/// is read) or all that is held is protected or needed.
+/// cells comes where no cell is left, and where either nothing was given back (the text of the
+/// terms is read) or all that is held is protected or needed.
 pub fn run_in<B: TermBank, R: Read, T: Read, W: Write>(
     alloc: Global,
     bank: B,
@@ -151,10 +151,10 @@ fn run_alone_in<B: TermBank, R: Read, W: Write>(
         limits: LimitLines::Bare,
         depth: None,
     };
-    let mut nobody = Unwatched;
-    let watch: &mut dyn Watch = &mut nobody;
-    let profiler = Unwatched;
-    let mut observer = Observer { watch, profiler };
+    let mut observer = Observer {
+        watch: Unwatched,
+        profiler: Unwatched,
+    };
     alone_over(
         alloc,
         bank,
@@ -210,10 +210,10 @@ fn run_beside_in<B: TermBank, R: Read, T: Read, W: Write>(
         limits: LimitLines::Bare,
         depth: None,
     };
-    let mut nobody = Unwatched;
-    let watch: &mut dyn Watch = &mut nobody;
-    let profiler = Unwatched;
-    let mut observer = Observer { watch, profiler };
+    let mut observer = Observer {
+        watch: Unwatched,
+        profiler: Unwatched,
+    };
     beside_over(
         alloc,
         bank,

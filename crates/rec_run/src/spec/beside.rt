@@ -56,22 +56,22 @@ pub(crate) fn run_beside<R: Read, T: Read, W: Write>(
         limits,
         depth: None,
     };
-    let mut nobody = Unwatched;
-    let watch: &mut dyn Watch = &mut nobody;
-    let profiler = Unwatched;
-    let mut observer = Observer { watch, profiler };
+    let mut observer = Observer {
+        watch: Unwatched,
+        profiler: Unwatched,
+    };
     unbounded(run_beside_within(alloc, spec, terms, out, settings, place, &mut observer))
 }
 
 /// The same where it may be said how many calls may wait.
-pub(crate) fn run_beside_within<R: Read, T: Read, W: Write, P: Profiler>(
+pub(crate) fn run_beside_within<R: Read, T: Read, W: Write, V: Watch, P: Profiler>(
     alloc: Global,
     spec: &mut R,
     terms: &mut T,
     out: &mut W,
     settings: RunSettings,
     place: &mut Option<Place>,
-    observer: &mut Observer<&mut dyn Watch, P>,
+    observer: &mut Observer<V, P>,
 ) -> Result<Finish, RunDepthFault>
     ensures output { IfOk (unbounded result) (λ finish. EndsFor (IsDueFor
         (shown_of settings) settings.options.steps)
@@ -109,14 +109,14 @@ pub(crate) fn run_beside_within<R: Read, T: Read, W: Write, P: Profiler>(
 }
 
 /// The same from two inputs and to an output. None is asked any more once it refused.
-fn beside_owned<R: Read, T: Read, W: Write, P: Profiler>(
+fn beside_owned<R: Read, T: Read, W: Write, V: Watch, P: Profiler>(
     alloc: Global,
     spec: &mut Input<'_, R>,
     terms: &mut Input<'_, T>,
     out: &mut Output<'_, W>,
     settings: RunSettings,
     place: &mut Option<Place>,
-    observer: &mut Observer<&mut dyn Watch, P>,
+    observer: &mut Observer<V, P>,
 ) -> Result<Finish, RunDepthFault>
     requires readable { IsReadable spec.old }
     requires terms_readable { IsReadable terms.old }
@@ -161,7 +161,7 @@ fn beside_owned<R: Read, T: Read, W: Write, P: Profiler>(
 }
 
 /// The same from two inputs and to an output. None is asked any more once it refused.
-pub(crate) fn beside_over<B: TermBank, R: Read, T: Read, W: Write, P: Profiler>(
+pub(crate) fn beside_over<B: TermBank, R: Read, T: Read, W: Write, V: Watch, P: Profiler>(
     alloc: Global,
     mut bank: B,
     spec: &mut Input<'_, R>,
@@ -169,7 +169,7 @@ pub(crate) fn beside_over<B: TermBank, R: Read, T: Read, W: Write, P: Profiler>(
     out: &mut Output<'_, W>,
     settings: RunSettings,
     place: &mut Option<Place>,
-    observer: &mut Observer<&mut dyn Watch, P>,
+    observer: &mut Observer<V, P>,
 ) -> EndedWithin<B>
     requires unrooted { (t : ℕ) → (B.store bank).roots t ≡ 0 }
     requires limit { (B.store bank).cap ≡ settings.options.cells }

@@ -48,14 +48,14 @@ impl<B: Drop> EndedWithin<B> {
 
 /// Writes what is due for the texts that were read, and flushes: how the run ends, and the place of
 /// the refusal that was written.
-pub(crate) fn answer<B: TermBank, W: Write, P: Profiler>(
+pub(crate) fn answer<B: TermBank, W: Write, V: Watch, P: Profiler>(
     alloc: Global,
     bank: B,
     reading: Reading<Job>,
     out: &mut Output<'_, W>,
     settings: RunSettings,
     place: &mut Option<Place>,
-    observer: &mut Observer<&mut dyn Watch, P>,
+    observer: &mut Observer<V, P>,
 ) -> EndedWithin<B>
     requires unrooted { (t : ℕ) → (B.store bank).roots t ≡ 0 }
     requires ready { IsReady (B.store bank) reading }
@@ -124,13 +124,13 @@ fn end_run<W: Write>(
 }
 
 /// Writes what is due.
-fn write_due<B: TermBank, W: Write, P: Profiler>(
+fn write_due<B: TermBank, W: Write, V: Watch, P: Profiler>(
     alloc: Global,
     bank: B,
     reading: Reading<Job>,
     out: &mut Output<'_, W>,
     settings: RunSettings,
-    observer: &mut Observer<&mut dyn Watch, P>,
+    observer: &mut Observer<V, P>,
 ) -> Left<B>
     requires unrooted { (t : ℕ) → (B.store bank).roots t ≡ 0 }
     requires ready { IsReady (B.store bank) reading }

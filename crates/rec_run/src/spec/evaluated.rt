@@ -39,14 +39,14 @@ pub(crate) struct Left<B> {
 
 /// Evaluates the terms of a specification and those of a list, where there is one, over the bank
 /// that holds them, and writes a line for each. The list stays protected.
-pub(crate) fn write_evaluated<B: TermBank, W: Write, P: Profiler>(
+pub(crate) fn write_evaluated<B: TermBank, W: Write, V: Watch, P: Profiler>(
     alloc: Global,
     checked: Checked,
     bank: B,
     list: Option<Term>,
     out: &mut Output<'_, W>,
     settings: RunSettings,
-    observer: &mut Observer<&mut dyn Watch, P>,
+    observer: &mut Observer<V, P>,
 ) -> Left<B>
     requires unrooted { (t : ℕ) → (B.store bank).roots t ≡ 0 }
     requires given { ForSome list (HoldsTerms checked.spec (B.store bank)) }
@@ -84,24 +84,14 @@ pub(crate) fn write_evaluated<B: TermBank, W: Write, P: Profiler>(
     }
 }
 
-/// Counts from now on how often each rule is used, where that is asked for and there is memory.
-fn count_rules<B: TermBank, P: Profiler>(alloc: Global, engine: &mut Engine<B>, profiler: &P)
-    ensures same { SameEngine engine.old engine.new }
-    ensures bank { engine.new.bank ≡ engine.old.bank }
-{
-    if profiler.counts_rules() {
-        let _ = engine.count_rules(alloc);
-    }
-}
-
 /// Writes a line for each term, and tells the observer what they took.
-fn observe_lines<B: TermBank, W: Write, P: Profiler>(
+fn observe_lines<B: TermBank, W: Write, V: Watch, P: Profiler>(
     alloc: Global,
     engine: &mut Engine<B>,
     list: Option<Term>,
     out: &mut Output<'_, W>,
     settings: RunSettings,
-    observer: &mut Observer<&mut dyn Watch, P>,
+    observer: &mut Observer<V, P>,
 ) -> Result<(), RunDepthFault>
     requires protected { ForSome list (ProtectsTerms engine.old.spec (B.store engine.old.bank)) }
     requires open { IsWritable out.old }
@@ -120,10 +110,9 @@ fn observe_lines<B: TermBank, W: Write, P: Profiler>(
     ensures cause { TellsWrite out.new (unbounded result) }
     ensures no_reader { IfErr (unbounded result) (λ fault. fault ≢ RunFault.Read) }
 {
-    count_rules(alloc, engine, &observer.profiler);
-    let written = write_lines_observed(alloc, engine, list, out, settings, observer.watch);
-    let profiler = &mut observer.profiler;
-    profiler.conclude(engine.checked(), engine.rule_counts(), engine.tally());
+    observer.begin(alloc, engine);
+    let written = write_lines_observed(alloc, engine, list, out, settings, &mut observer.watch);
+    observer.conclude(engine);
     written
 }
 

@@ -63,12 +63,12 @@ pub fn evaluate_within<B: TermBank>(
 }
 
 /// The same, and somebody is told while it goes on.
-pub fn evaluate_observed<B: TermBank>(
+pub fn evaluate_observed<B: TermBank, V: Watch>(
     engine: &mut Engine<B>,
     t: Term,
     n: u64,
     depth: Option<u32>,
-    watch: &mut dyn Watch,
+    watch: &mut V,
 ) -> Result<Outcome, DepthFault>
     requires { IsGiven engine.old.spec (B.store engine.old.bank) t }
     ensures same { SameEngine engine.old engine.new }
@@ -175,13 +175,13 @@ pub fn write_evaluation_within<B: TermBank, W: Write>(
 }
 
 /// The same, and somebody is told while it goes on.
-pub(crate) fn write_evaluation_observed<B: TermBank, W: Write>(
+pub(crate) fn write_evaluation_observed<B: TermBank, W: Write, V: Watch>(
     alloc: Global,
     engine: &mut Engine<B>,
     t: Term,
     out: &mut Output<'_, W>,
     settings: RunSettings,
-    watch: &mut dyn Watch,
+    watch: &mut V,
 ) -> Result<(), LineDepthFault>
     requires given { IsGiven engine.old.spec (B.store engine.old.bank) t }
     requires stays { StaysFor settings.limits (B.store engine.old.bank) t }

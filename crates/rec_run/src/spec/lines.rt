@@ -210,13 +210,13 @@ pub fn write_lines_within<B: TermBank, W: Write>(
 }
 
 /// The same, and somebody is told while it goes on.
-pub(crate) fn write_lines_observed<B: TermBank, W: Write>(
+pub(crate) fn write_lines_observed<B: TermBank, W: Write, V: Watch>(
     alloc: Global,
     engine: &mut Engine<B>,
     list: Option<Term>,
     out: &mut Output<'_, W>,
     settings: RunSettings,
-    watch: &mut dyn Watch,
+    watch: &mut V,
 ) -> Result<(), RunDepthFault>
     requires protected { ForSome list (ProtectsTerms engine.old.spec (B.store engine.old.bank)) }
     requires open { IsWritable out.old }
@@ -248,12 +248,12 @@ pub(crate) fn write_lines_observed<B: TermBank, W: Write>(
 }
 
 /// Writes a line for each term of the specification.
-fn write_own_lines<B: TermBank, W: Write>(
+fn write_own_lines<B: TermBank, W: Write, V: Watch>(
     alloc: Global,
     engine: &mut Engine<B>,
     out: &mut Output<'_, W>,
     settings: RunSettings,
-    watch: &mut dyn Watch,
+    watch: &mut V,
 ) -> Result<(), RunDepthFault>
     requires { IsWritable out.old }
     ensures same { SameEngine engine.old engine.new }
@@ -280,13 +280,13 @@ fn write_own_lines<B: TermBank, W: Write>(
 }
 
 /// Writes the line of the specification's term of this number.
-fn write_own_line<B: TermBank, W: Write>(
+fn write_own_line<B: TermBank, W: Write, V: Watch>(
     alloc: Global,
     engine: &mut Engine<B>,
     i: u32,
     out: &mut Output<'_, W>,
     settings: RunSettings,
-    watch: &mut dyn Watch,
+    watch: &mut V,
 ) -> Result<(), LineDepthFault>
     requires there { i < length engine.old.spec.terms }
     requires open { IsWritable out.old }
@@ -315,13 +315,13 @@ fn write_own_line<B: TermBank, W: Write>(
 }
 
 /// Writes a line for each term of a list that is protected, behind those of the specification.
-fn write_given_lines<B: TermBank, W: Write>(
+fn write_given_lines<B: TermBank, W: Write, V: Watch>(
     alloc: Global,
     engine: &mut Engine<B>,
     list: Term,
     out: &mut Output<'_, W>,
     settings: RunSettings,
-    watch: &mut dyn Watch,
+    watch: &mut V,
 ) -> Result<(), RunDepthFault>
     requires protected { ProtectsTerms engine.old.spec (B.store engine.old.bank) list }
     requires open { IsWritable out.old }

@@ -126,8 +126,8 @@ pub fn run_with<R: Read, T: Read, W: Write>(
     }
 }
 
-/// The same where it may be said how many calls may wait at once, as the engine counts them. Too deep
-/// comes only where as many wait.
+/// The same where it may be said how many calls may wait at once, as the engine counts them. Too
+/// deep comes only where as many wait.
 pub fn run_within<R: Read, T: Read, W: Write>(
     alloc: Global,
     spec: &mut R,
@@ -157,10 +157,10 @@ pub fn run_within<R: Read, T: Read, W: Write>(
     ensures unread { OnRefusedSpec (R.remaining spec.old)
         (Stays (λ f. f.0.now) terms.exit (option_copied_mut terms.entry)) }
 {
-    let mut nobody = Unwatched;
-    let watch: &mut dyn Watch = &mut nobody;
-    let profiler = Unwatched;
-    let mut observer = Observer { watch, profiler };
+    let mut observer = Observer {
+        watch: Unwatched,
+        profiler: Unwatched,
+    };
     match terms {
         None => run_alone_within(alloc, spec, out, settings, place, &mut observer),
         Some(terms) => {
@@ -170,14 +170,14 @@ pub fn run_within<R: Read, T: Read, W: Write>(
 }
 
 /// The same, and somebody is told of the evaluations while they go on, and of what they took.
-pub fn run_observed<R: Read, T: Read, W: Write, P: Profiler>(
+pub fn run_observed<R: Read, T: Read, W: Write, V: Watch, P: Profiler>(
     alloc: Global,
     spec: &mut R,
     terms: Option<&mut T>,
     out: &mut W,
     settings: RunSettings,
     place: &mut Option<Place>,
-    observer: &mut Observer<&mut dyn Watch, P>,
+    observer: &mut Observer<V, P>,
 ) -> Result<Finish, RunDepthFault>
     ensures output { IfOk result (λ finish. EndsFor (IsDueFor
         (shown_of settings) settings.options.steps)

@@ -6,8 +6,8 @@ use std::process::Abort;
 use std::rt::Files;
 
 /// Options, and the numbers of each of them in turn, what is said by those without a number (that
-/// steps are counted, limit lines have annotations, calls in values are told, rules are counted, and
-/// it is shown how far a term is), and how many calls may wait.
+/// steps are counted, limit lines have annotations, calls in values are told, rules are counted,
+/// and it is shown how far a term is), and how many calls may wait.
 const OPTIONS: [(&[&str], [u64; 4], [bool; 5], Option<u32>); 4] = [
     (
         &["eval"],

@@ -3,7 +3,8 @@
 use crate::tests::{ADDITION, Row};
 
 /// A call that no rule matches, and a condition that fails.
-const STUCK: &str = "REC-SPEC S SORTS N CONS z : -> N s : N -> N p : N N -> N OPNS f : N -> N \
+pub(crate) const STUCK: &str =
+    "REC-SPEC S SORTS N CONS z : -> N s : N -> N p : N N -> N OPNS f : N -> N \
      VARS X : N RULES f(s(X)) -> X if X -><- s(z) EVAL f(z) END-SPEC";
 
 /// Matches and evaluations whose status tells more.

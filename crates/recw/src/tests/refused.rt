@@ -6,7 +6,7 @@ use std::process::Abort;
 use std::rt::Files;
 
 /// Words that the command line does not have.
-const WRONG_WORDS: [&[&str]; 62] = [
+const WRONG_WORDS: [&[&str]; 60] = [
     &["eval", "--cells", "0"],
     &["eval", "--cells", "1073741825"],
     &["eval", "--reclaim", "0"],
@@ -45,8 +45,6 @@ const WRONG_WORDS: [&[&str]; 62] = [
     &["trace", "-", "--stuck"],
     &["eval", "--profile", "--profile"],
     &["eval", "--progress", "--progress"],
-    &["eval", "--stuck", "--profile"],
-    &["eval", "--progress", "--stuck"],
     &["trace", "-", "--profile"],
     &["serve", "a", "--progress"],
     &["match", "--limit-status", "a"],

@@ -2,6 +2,7 @@
 
 use crate::profile::Profile;
 use crate::progress::Progress;
+use crate::tests::outcome::STUCK;
 use crate::tests::{ADDITION, Row, run};
 use rec_run::{Profiler, RuleCount, Tally};
 use rec_sorts::{Checked, check};
@@ -173,7 +174,7 @@ fn tells_what_a_run_took(rt: HostRuntime) {
 }
 
 /// Runs that are told of, where the beginning and the end of standard error are known.
-const RUNS: [(Row, &str); 4] = [
+const RUNS: [(Row, &str); 6] = [
     (
         (
             &["eval", "--profile", "--memo", "0"],
@@ -220,6 +221,38 @@ const RUNS: [(Row, &str); 4] = [
         ),
         "recw: spec G at byte 17\n",
     ),
+    (
+        (
+            &[
+                "eval",
+                "--stuck",
+                "--profile",
+                "--progress",
+                "--memo",
+                "0",
+                "-e",
+                "f(s(z))",
+            ],
+            STUCK,
+            5,
+            "f(z)\nf(s(z))\n",
+            "profile: 1:91: 1 matched, 0 fired, 1 failed\n\
+             profile: steps: 1 spent, 1 matched, 0 remembered by 0 results\nprofile: cells: ",
+        ),
+        "\nprofile: reclaims: 0\nstuck: f(z): no rule matches\n\
+         stuck: f(s(z)): the conditions of 1:91 fail\n",
+    ),
+    (
+        (
+            &["eval", "--stuck", "--profile", "--cells", "3"],
+            STUCK,
+            3,
+            "",
+            "profile: 1:91: 0 matched, 0 fired, 0 failed\n\
+             profile: steps: 0 spent, 0 matched, 0 remembered by 0 results\nprofile: cells: ",
+        ),
+        "\nrecw: out of cells\n",
+    ),
 ];
 
 /// The run tells what the row says, and ends so.
@@ -239,4 +272,27 @@ fn tells_of_runs(rt: HostRuntime) {
     for (row, end) in &RUNS {
         tells(&rt, rt.alloc(), row, end);
     }
+}
+
+/// With both options it is told what is told with each of them, first what the run took, and the
+/// rest is as with the second one.
+fn tells_both<H: Abort + Files>(rt: &H, alloc: Global, text: &str) -> io::Result<()> {
+    let took = run(rt, alloc, &["eval", "--profile"], text);
+    let calls = run(rt, alloc, &["eval", "--stuck"], text);
+    let both = run(rt, alloc, &["eval", "--profile", "--stuck"], text);
+    let told = format!(in alloc; "{}{}", took.err(), calls.err())?;
+    assert!(rt;
+        both.status == calls.status && both.out() == calls.out() && both.err() == told.as_str(),
+        "{}",
+        both.err()
+    );
+    Ok(())
+}
+
+#[test]
+fn tells_of_calls_behind_a_profile(rt: HostRuntime) -> io::Result<()> {
+    for text in &[ADDITION, STUCK] {
+        tells_both(&rt, rt.alloc(), *text)?;
+    }
+    Ok(())
 }

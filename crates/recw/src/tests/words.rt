@@ -6,7 +6,8 @@ use crate::tests::{ADDITION, Row};
 const LOOPING: &str = "REC-SPEC L SORTS N CONS z : -> N s : N -> N OPNS f : N -> N g : N -> N \
      VARS X : N RULES f(X) -> f(X) g(X) -> s(g(X)) EVAL f(z) g(z) END-SPEC";
 
-/// Evaluations, without words, without an end, at the ends of their options' ranges and for each status.
+/// Evaluations, without words, without an end, at the ends of their options' ranges and for each
+/// status.
 pub(crate) const STATUSES: &[Row] = &[
     (&[], ADDITION, 0, "s(s(s(z)))\n", ""),
     (

@@ -11,8 +11,8 @@ use rx_term::TermBank;
 use std::alloc::Global;
 use std::process::Abort;
 
-/// Numbers of bits, the lowest one outside: `spin` counts for ever, each time by a call with nothing
-/// behind it; `dive` does so by calls within calls.
+/// Numbers of bits, the lowest one outside: `spin` counts for ever, each time by a call with
+/// nothing behind it; `dive` does so by calls within calls.
 macro_rules! counter {
     ($term:literal) => {
         concat!(
@@ -157,7 +157,8 @@ fn expect_counted(rt: &impl Abort, counted: &Counted, lines: &str) {
     assert!(rt; counted.written.as_slice() == lines.as_bytes());
 }
 
-/// Stops where there were not as many reclaims as thousands of new cells, within one, or hardly any.
+/// Stops where there were not as many reclaims as thousands of new cells, within one, or hardly
+/// any.
 fn expect_thousands(rt: &impl Abort, counts: &Counts) {
     let thousands = counts.cells / 1_000;
     assert!(rt; thousands >= 20);

@@ -4,7 +4,7 @@ use Rattle.rec_run.specs.Depth.{HasRoomWithin, IsBounded, unbounded, unbounded_f
 use Rattle.rec_run.specs.GivenTerms.{run_due}
 use Rattle.rec_run.specs.Run.{RoomExhausts}
 use Rattle.rec_run.proofs.DepthLemmas.{err_told, told_err}
-use Rattle.rec_look.proofs.RunEndLemmas.{ends_behind, err_behind, fault_behind, ok_behind}
+use Rattle.rec_run.proofs.RunEndLemmas.{ends_behind, err_behind, fault_behind, ok_behind}
 use Rattle.rx_run.specs.declared.ending.RunFault.TheVariants.{Read}
 use Rattle.rec_look.proofs.ToldLemmas.{on-behind}
 use Rattle.rec_look.proofs.stuck.answering.answer.Goals as goal

@@ -5,7 +5,6 @@ use Rattle.rec_run.specs.EvaluatedLines.{ProtectsTerms}
 use Rattle.rec_run.specs.Output.{lines, shown_of}
 use Rattle.rec_run.specs.Depth.{unbounded}
 use Rattle.rec_run.specs.Run.{RoomExhausts}
-use Rattle.rec_run.proofs.DepthLemmas.{bounded_by}
 use Rattle.rec_run.proofs.EvaluatedLemmas.{stops_unwritten}
 use Rattle.rec_run.proofs.FaultLemmas.{lacks_exhausts}
 use Rattle.rec_syntax.specs.Syntax.{Spec}
@@ -20,15 +19,12 @@ pub returns-clause-err : goal.returns-clause-err
 returns-clause-err g c =
     stops_unwritten (lines c.args.checked.spec (given_by (g.B.TermBank.store c.args.bank) c.args.list) (shown_of c.args.settings) c.args.settings.options.steps) (g.W.Write.contents c.args.out.now.writer.now)
 
-pub write_lines-requires-clause-protected : goal.write_lines-requires-clause-protected
-write_lines-requires-clause-protected g c =
+pub write_over-requires-clause-protected : goal.write_over-requires-clause-protected
+write_over-requires-clause-protected g c =
     λ list e. subst (λ y. ProtectsTerms y (g.B.TermBank.store c.in-Ok.engine.bank) list) (sym c.in-Ok.ensures.spec) (c.in-Ok.ensures.protected list e)
 
-pub returns-in-Ok-clause-bounded : goal.returns-in-Ok-clause-bounded
-returns-in-Ok-clause-bounded g c = bounded_by c.write_lines.new.engine.waiting c.args.settings.depth c.write_lines.result c.write_lines.ensures.deep
-
-pub write_lines-requires-clause-told : goal.write_lines-requires-clause-told
-write_lines-requires-clause-told g c = (c.args.checked.source, subst (λ (y : Spec). AreSpots c.args.checked.source y c.args.report.now.spots.items) (sym c.in-Ok.ensures.spec) c.requires.told)
+pub write_over-requires-clause-told : goal.write_over-requires-clause-told
+write_over-requires-clause-told g c = (c.args.checked.source, subst (λ (y : Spec). AreSpots c.args.checked.source y c.args.report.now.spots.items) (sym c.in-Ok.ensures.spec) c.requires.told)
 
 pub returns-in-Ok-clause-report : goal.returns-in-Ok-clause-report
 returns-in-Ok-clause-report g c =
@@ -37,8 +33,8 @@ returns-in-Ok-clause-report g c =
     let z = c.in-Ok.engine.spec in
     let n = c.args.settings.options.steps in
     let old = c.args.report.now.lines.items in
-    told_on _ c.write_lines.result (unbounded c.write_lines.result) refl
-    (on_ok_of c.write_lines.result
+    told_on _ c.write_over.result (unbounded c.write_over.result) refl
+    (on_ok_of c.write_over.result
     (λ h. h source (subst (λ (x : Spec). AreSpots source x c.args.report.now.spots.items) (sym c.in-Ok.ensures.spec) c.requires.told)
     ∙ ap (λ x. old ++ stuck_report source x (given_by (g.B.TermBank.store c.in-Ok.engine.bank) c.args.list) n) c.in-Ok.ensures.spec ∙ ap (λ us. old ++ stuck_report source y us n) c.in-Ok.ensures.terms)
-    c.write_lines.ensures.report)
+    c.write_over.ensures.report)

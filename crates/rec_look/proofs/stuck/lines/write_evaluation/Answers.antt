@@ -35,14 +35,14 @@ returns-in-Ok-clause-err g c =
     (subst (λ text. IfErr x (λ fault. AppendsFront (due_before fault text) (g.W.Write.contents c.args.out.now.writer.now) (g.W.Write.contents c.tell_outcome.new.out.writer.now))) e c.tell_outcome.ensures.err)
 
 pub returns-in-Ok-clause-deep : goal.returns-in-Ok-clause-deep
-returns-in-Ok-clause-deep g c = line-deep c.evaluate_within.new.engine.waiting c.args.settings.depth c.tell_outcome.result c.line.result c.line.ensures
+returns-in-Ok-clause-deep g c = line-deep c.evaluate_observed.new.engine.waiting c.args.settings.depth c.tell_outcome.result c.line.result c.line.ensures
 
 pub returns-in-Ok-clause-cause : goal.returns-in-Ok-clause-cause
 returns-in-Ok-clause-cause g c =
     subst (TellsLine c.tell_outcome.new.out) (sym (line-told c.tell_outcome.result c.line.result c.line.ensures)) c.tell_outcome.ensures.cause
 
 pub returns-in-Err-clause-deep : goal.returns-in-Err-clause-deep
-returns-in-Err-clause-deep g c = gave_up-deep c.in-Err.fault c.from.result c.from.ensures c.evaluate_within.new.engine.waiting c.args.settings.depth c.in-Err.ensures.deep
+returns-in-Err-clause-deep g c = gave_up-deep c.in-Err.fault c.from.result c.from.ensures c.evaluate_observed.new.engine.waiting c.args.settings.depth c.in-Err.ensures.deep
 
 pub returns-in-Err-clause-cause : goal.returns-in-Err-clause-cause
 returns-in-Err-clause-cause g c = λ is. absurd (gave_up-no_write c.in-Err.fault c.from.result c.from.ensures is)
@@ -53,9 +53,9 @@ tell_outcome-requires-clause-told g c = (c.requires.told.0, subst (λ (x : Spec)
 pub returns-in-Ok-clause-report : goal.returns-in-Ok-clause-report
 returns-in-Ok-clause-report g c =
     let y = c.args.engine.now.spec in
-    let z = c.evaluate_within.new.engine.spec in
+    let z = c.evaluate_observed.new.engine.spec in
     let old = g.B.TermBank.store c.args.engine.now.bank in
-    let new = g.B.TermBank.store c.evaluate_within.new.engine.bank in
+    let new = g.B.TermBank.store c.evaluate_observed.new.engine.bank in
     let n = c.args.settings.options.steps in
     line-ok _ c.tell_outcome.result c.line.result c.line.ensures
     (on_ok_of c.tell_outcome.result

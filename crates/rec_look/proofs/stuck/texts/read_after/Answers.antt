@@ -4,7 +4,7 @@ use Rattle.rec_run.specs.GivenTerms.{IsRefusal}
 use Rattle.rec_run.specs.Reading.{IsSpecReading, KeepsText}
 use Rattle.rx_run.specs.declared.refusal.Reading.{Reading}
 use Rattle.rx_run.proofs.PatternDueLemmas.{if_ok_map}
-use Rattle.rec_look.proofs.RunDueLemmas.{read_after_good, read_after_refusal}
+use Rattle.rec_run.proofs.GivenDueLemmas.{read_after_good, read_after_refusal}
 use Rattle.rec_look.proofs.ToldLemmas.{told-good, told-refusal}
 use Rattle.rec_look.proofs.stuck.texts.read_after.Goals as goal
 

@@ -1,5 +1,5 @@
-use Rattle.rec_look.proofs.RunDueLemmas.{on_refused, read_fault_refused, refused_alone, refused_any}
-use Rattle.rec_look.proofs.WholeRunLemmas.{read_alone, ready_alone}
+use Rattle.rec_run.proofs.GivenDueLemmas.{on_refused, read_fault_refused, refused_alone, refused_any}
+use Rattle.rec_run.proofs.WholeRunLemmas.{read_alone, ready_alone}
 use Rattle.rec_look.proofs.ToldLemmas.{told-alone}
 use Rattle.rec_look.proofs.stuck.texts.read_alone.Goals as goal
 

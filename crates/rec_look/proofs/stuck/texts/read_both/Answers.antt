@@ -1,4 +1,4 @@
-use Rattle.rec_look.proofs.RunDueLemmas.{on_refused, read_fault_refused, read_with, refused_any, terms_out}
+use Rattle.rec_run.proofs.GivenDueLemmas.{on_refused, read_fault_refused, read_with, refused_any, terms_out}
 use Rattle.rec_look.proofs.ToldLemmas.{told-with}
 use Rattle.rec_look.proofs.stuck.texts.read_both.Goals as goal
 

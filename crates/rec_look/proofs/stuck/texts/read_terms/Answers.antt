@@ -1,6 +1,6 @@
 use Rattle.std.proofs.Common.{subst, sym}
 use Rattle.rec_run.specs.GivenTerms.{IsReady}
-use Rattle.rec_look.proofs.RunDueLemmas.{job_due, job_ready, read_due}
+use Rattle.rec_run.proofs.GivenDueLemmas.{job_due, job_ready, read_due}
 use Rattle.rec_look.proofs.ToldLemmas.{job-told}
 use Rattle.rec_look.proofs.stuck.texts.read_terms.Goals as goal
 

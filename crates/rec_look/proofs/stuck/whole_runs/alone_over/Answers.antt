@@ -6,10 +6,10 @@ use Rattle.rec_run.specs.Run.{IsDueFor}
 use Rattle.rx_run.proofs.ErrorLemmas.{on_ok_any}
 use Rattle.rx_run.proofs.FaultLemmas.{reports_reading}
 use Rattle.rec_run.proofs.FaultLemmas.{has_room_exhausts, reading_has_room}
-use Rattle.rec_look.proofs.RunDueLemmas.{refused_any, refused_map}
+use Rattle.rec_run.proofs.GivenDueLemmas.{refused_any, refused_map}
 use Rattle.rx_run.proofs.ReadDueLemmas.{breaks_by, ends_by, placed_by}
 use Rattle.rx_run.proofs.WholeRunLemmas.{breaks_unwritten}
-use Rattle.rec_look.proofs.WholeRunLemmas.{due_for, one_due_for}
+use Rattle.rec_run.proofs.WholeRunLemmas.{due_for, one_due_for}
 use Rattle.rx_run.proofs.StreamLemmas.{read_over}
 use Rattle.rec_look.proofs.ToldLemmas.{tells-by}
 use Rattle.rec_look.proofs.stuck.whole_runs.alone_over.Goals as goal

@@ -7,10 +7,10 @@ use Rattle.rec_run.specs.Run.{IsDueFor}
 use Rattle.rx_run.proofs.ErrorLemmas.{on_ok_any}
 use Rattle.rx_run.proofs.FaultLemmas.{reports_unwritten, room_unwritten}
 use Rattle.rec_run.proofs.FaultLemmas.{exhausts_in, fills_in}
-use Rattle.rec_look.proofs.RunDueLemmas.{refused_map, refused_map₂}
+use Rattle.rec_run.proofs.GivenDueLemmas.{refused_map, refused_map₂}
 use Rattle.rx_run.proofs.ReadDueLemmas.{breaks_by, ends_by, placed_by}
 use Rattle.rx_run.proofs.WholeRunLemmas.{breaks_unwritten}
-use Rattle.rec_look.proofs.WholeRunLemmas.{due_for, one_due_for}
+use Rattle.rec_run.proofs.WholeRunLemmas.{due_for, one_due_for}
 use Rattle.rec_look.proofs.ToldLemmas.{tells-by}
 use Rattle.rec_look.proofs.stuck.whole_runs.beside_over.Goals as goal
 

@@ -2,7 +2,7 @@ use Rattle.std.proofs.Common.{refl}
 use Rattle.rec_run.specs.Output.{shown_of}
 use Rattle.rec_run.specs.Run.{IsDueFor}
 use Rattle.rec_run.proofs.FaultLemmas.{memory_has_room}
-use Rattle.rec_look.proofs.RunDueLemmas.{refused_any}
+use Rattle.rec_run.proofs.GivenDueLemmas.{refused_any}
 use Rattle.rx_run.proofs.WholeRunLemmas.{breaks_unwritten}
 use Rattle.rec_look.proofs.stuck.whole_runs.beside_to.Goals as goal
 

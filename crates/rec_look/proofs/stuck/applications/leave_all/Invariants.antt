@@ -1,13 +1,13 @@
-use Rattle.rx_term.specs.Walks.{held_tree}
+use Rattle.rx_term.specs.Tree.{Tree}
 use Rattle.rec_look.specs.Inner.Visits.{AreThere, CanVisit, Walked, visits_by_all}
-use Rattle.rec_look.proofs.stuck.applications.applications.Given as goal
+use Rattle.rec_look.proofs.stuck.applications.leave_all.Given as goal
 
 -- the applications so far were left, and the visits that follow leave the others
 abbrev pub invariant-loop-visit : goal.invariant-loop-visit
 invariant-loop-visit g l = record {
   can : CanVisit (g.B.TermBank.store l.bank) l.visits.items;
   there : AreThere (g.B.TermBank.store l.bank) l.left.keys;
-  walked : Walked (g.B.TermBank.store l.bank) (held_tree (g.B.TermBank.store l.bank) l.fn.value) l.left.keys l.visits.items;
+  walked : (v : Tree) → Walked (g.B.TermBank.store l.bank) v l.fn.left.keys l.fn.visits.items → Walked (g.B.TermBank.store l.bank) v l.left.keys l.visits.items;
 }
 
 abbrev pub decreases-loop-visit : goal.decreases-loop-visit
