@@ -4,20 +4,20 @@ use Rattle.std.specs.Prelude.{Option, Bool, true, false, not, nat_eq, min, take,
 use Rattle.rx_arena.specs.declared.arena.Arena.TheInside.{Inside}
 use Rattle.rx_arena.specs.declared.fault.ArenaFault.{ArenaFault}
 use Rattle.std.specs.Option.{option_map}
-use Rattle.std.proofs.lemmas.List.{length-append, length-replicate}
+use Rattle.std.proofs.lemmas.List.{length-append, length-replicate, set-set, set-get_or}
 use Rattle.rx_arena.specs.declared.CellBody.{CellBody}
 use Rattle.rx_arena.specs.Inner.Node.{Node, mark_of, has_mark, lone, with_mark, with_next}
 use Rattle.rx_arena.specs.declared.cells.Link.TheVariants.{Chain, Gray}
 use Rattle.rx_arena.specs.Inner.Held.{IsHeld}
-use Rattle.rx_arena.specs.Put.{times, put, one_some, filled, altered}
+use Rattle.rx_arena.specs.Put.{times, times_in, put, one_some, filled, altered}
 use Rattle.rx_arena.specs.Inner.Links.{Links, links, IsChain, Listed, AreChains, Chained}
 use Rattle.rx_arena.specs.Inner.Pool.{PoolState, spare_of}
 use Rattle.rx_arena.specs.Arena.{Taken, ArenaState, taken_at, IsTaken, chain_at, IsLoose, is_marked, IsMarked, IsArena, empty_arena, new_cell, with_marking, shown_of, state_of}
-use Rattle.rx_arena.proofs.PutLemmas.{one_or_two, get_or-put_same, get_or-put_other, put-get_or, map-put, get_or-map_option, filled-put, filled-map, times_in-at}
+use Rattle.rx_arena.proofs.PutLemmas.{one_or_two, get_or-put_same, get_or-put_other, put-get_or, map-put, get_or-map_option, filled-put, filled-map, times_in-at, times_in-set, times-append, one_if-same}
 use Rattle.rx_arena.proofs.ChainLemmas as chains
-use Rattle.rx_arena.proofs.ChainLemmas.{chain_agrees, chain_stays, chains_agree, chains_stay, chains-set, pushed, popped, first_some, listed_is, chained_is, chains-length}
+use Rattle.rx_arena.proofs.ChainLemmas.{chain_agrees, chain_stays, chains_agree, chains_stay, chains-set, pushed, popped, skipped, first_some, listed_is, chained_is, chains-length}
 use Rattle.rx_arena.proofs.PoolLemmas.{links_some}
-use Rattle.rx_arena.proofs.ArenaLawLemmas.{empty_law, behind_law, truncate_law, cleared_law, loose_free, push_law, pop_law, altered_law, unmarked_away, gray_law, gray_pop_law, take_law, give_back_law, reserve_law, turn_law, taken_marked}
+use Rattle.rx_arena.proofs.ArenaLawLemmas.{empty_law, behind_law, truncate_law, cleared_law, loose_free, push_law, pop_law, shrink_law, altered_law, unmarked_away, gray_law, gray_pop_law, take_law, give_back_law, reserve_law, turn_law, taken_marked}
 
 abbrev pub chain_links : List (Option Node) → Links
 chain_links cells = links (λ n. n.chain) cells
@@ -92,7 +92,7 @@ module _ (cells : List (Option Node)) (k : Node → Option ℕ) (ss : List ℕ) 
   led_held_by None h = tt
   led_held_by (Some t) h = let n = links_some k cells t h.1.0 h.1.1 in (n.0, n.1)
 
-  led_apart_by : (next : Option ℕ) → IfSome next (λ t. (0 < times t ss) × ((j : Option ℕ) × (get_or (links k cells) t None ≡ Some j))) → (s : ℕ) → times s ss ≡ 0 → IfSome next (λ t. ¬ (t ≡ s))
+  pub led_apart_by : (next : Option ℕ) → IfSome next (λ t. (0 < times t ss) × ((j : Option ℕ) × (get_or (links k cells) t None ≡ Some j))) → (s : ℕ) → times s ss ≡ 0 → IfSome next (λ t. ¬ (t ≡ s))
   led_apart_by None h s away = tt
   led_apart_by (Some t) h s away = λ e. (let here : 0 < times s ss = subst (λ z. 0 < times z ss) e h.0 in absurd (omega (arith, here, away)))
 
@@ -267,6 +267,34 @@ module _ (x : Inside) (law : IsArena (opened x)) where
           state_is = refl;
           law = pop_law a law c s front.0 lt front.1;
         }
+
+  -- a slot leaves its chain, from behind another one
+  pub skip_step : (q : PoolState) (c b s : ℕ) (front rest : List ℕ) (next : Option ℕ) → c < length a.chains → chain_at a c ≡ front ++ b ∷ s ∷ rest → ((t : ℕ) → times t (front ++ b ∷ s ∷ rest) ≤ 1)
+      → get_or (chain_links p.cells) s None ≡ Some next → IsTaken a b → q ≡ record p { cells = altered b (with_next Chain next) p.cells }
+      → ArenaStep q heads first (record a { chains = set a.chains c (front ++ b ∷ rest) })
+  skip_step q c b s front rest next lt split once at_s taken e =
+      let n = taken_node b taken.0 taken.1 in
+      let k : Node = with_next Chain next n.0 in
+      let ls : Links = chain_links p.cells in
+      let ms : Links = chain_links (put p.cells b (Some k)) in
+      let is : altered b (with_next Chain next) p.cells ≡ put p.cells b (Some k) = altered-at p.cells b (with_next Chain next) n.0 n.1 in
+      let new : List ℕ = front ++ b ∷ rest in
+      let others : (t : ℕ) → t ≢ b → get_or ms t None ≡ get_or ls t None = λ t ne. links-put_other (λ n. n.chain) p.cells b t (Some k) ne in
+      let here : times b (chain_at a c) ≡ times b front + (1 + times b (s ∷ rest)) = ap (times b) split ∙ omega (arith, times-append b front (b ∷ s ∷ rest), one_if-same b) in
+      let gone : times_in b (set a.chains c []) ≡ 0 = omega (arith, times_in-set b a.chains c [] lt, law.alone b, here) in
+      let empty : AreChains ls (set heads c None) (set a.chains c []) = chains-set ls heads l.0 c None [] l.1 tt in
+      let stay : AreChains ms (set heads c None) (set a.chains c []) = chains_stay ls ms b (set heads c None) (set a.chains c []) gone others empty in
+      let row : IsChain ms (get_or heads c None) new =
+      skipped ls ms b s (get_or heads c None) front rest next once others at_s (links-put_same (λ n. n.chain) p.cells b (Some k)) (subst (IsChain ls (get_or heads c None)) split (chains.chain_at ls heads l.0 c l.1)) in
+      let full : AreChains ms (set (set heads c None) c (get_or heads c None)) (set (set a.chains c []) c new) = chains-set ms (set heads c None) (set a.chains c []) c (get_or heads c None) new stay row in
+      let back : set (set heads c None) c (get_or heads c None) ≡ heads = set-set heads c None (get_or heads c None) ∙ set-get_or heads c None in
+      let b' : ArenaState = record a { chains = set a.chains c new } in
+      subst (λ z. ArenaStep z heads first b') (sym (e ∙ ap (λ z. record p { cells = z }) is)) (record {
+        chained = (let one = subst (λ z. AreChains ms z (set (set a.chains c []) c new)) back full in subst (AreChains ms heads) (set-set a.chains c [] new) one);
+        grayed = chain_agrees (gray_links p.cells) (gray_links (put p.cells b (Some k))) first m.0 (λ t _. links-kept (λ n. n.gray) p.cells b n.0 k n.1 refl t) m.1;
+        state_is = λ i. record { cells = (shown-put b k ∙ unshown b n.0 k n.1 refl) i; chains = b'.chains; gray = m.0; spare = same_spare b n.0 k n.1 i; cap = p.cap };
+        law = shrink_law a law c new lt (λ t. subst (λ z. times t new ≤ times t z) (sym split) (omega (arith, times-append t front (b ∷ rest), times-append t front (b ∷ s ∷ rest))));
+      })
 
   -- the first gray slot
   module _ (s : ℕ) (is : first ≡ Some s) where

@@ -1,9 +1,9 @@
 -- A list of slots by the links: what stays of it after a change, its first slot, a slot put in front.
-use Rattle.std.proofs.Common.{◌≡◌, ◌≢◌, ℕ, zero, suc, ◌<◌, ◌⊎◌, inl, inr, List, [], ◌∷◌, ◌++◌, length, get_or, set, Some, None, IfSome, refl, sym, ap, subst, ◌∙◌, arith}
+use Rattle.std.proofs.Common.{◌≡◌, ◌≢◌, ℕ, zero, suc, ◌<◌, ◌≤◌, ◌⊎◌, inl, inr, List, [], ◌∷◌, ◌++◌, length, get_or, set, Some, None, IfSome, refl, sym, ap, subst, ◌∙◌, arith}
 use Rattle.std.specs.Prelude.{Option}
 use Rattle.rx_arena.specs.Put.{times, times_in}
 use Rattle.rx_arena.specs.Inner.Links.{Links, LeadsOn, IsChain, Listed, AreChains, Chained, one_chain, one_chaining}
-use Rattle.rx_arena.proofs.PutLemmas.{one_or_two, one_if-same}
+use Rattle.rx_arena.proofs.PutLemmas.{one_or_two, one_if-same, times-append}
 
 leads_some : (c : Option (Option ℕ)) (P : Option ℕ → Type 0) → LeadsOn c P → (next : Option ℕ) × (c ≡ Some next) × P next
 leads_some None P h = absurd h
@@ -59,6 +59,23 @@ first_some ls (Some f) ss c =
 -- a slot that is not in the list goes in front
 pub pushed : (ls ms : Links) (s : ℕ) (first : Option ℕ) (ss : List ℕ) → times s ss ≡ 0 → ((t : ℕ) → t ≢ s → get_or ms t None ≡ get_or ls t None) → get_or ms s None ≡ Some first → IsChain ls first ss → IsChain ms (Some s) (s ∷ ss)
 pushed ls ms s first ss away same at_s c = (refl, some_leads (get_or ms s None) (λ next. IsChain ms next ss) first at_s (chain_stays ls ms s first ss away same c))
+
+-- a slot's link leads past the slot behind it
+pub skipped : (ls ms : Links) (b s : ℕ) (first : Option ℕ) (front rest : List ℕ) (next : Option ℕ) → ((t : ℕ) → times t (front ++ b ∷ s ∷ rest) ≤ 1) → ((t : ℕ) → t ≢ b → get_or ms t None ≡ get_or ls t None)
+    → get_or ls s None ≡ Some next → get_or ms b None ≡ Some next → IsChain ls first (front ++ b ∷ s ∷ rest) → IsChain ms first (front ++ b ∷ rest)
+skipped ls ms b s first [] rest next once same at_s at_b c =
+    let one = leads_some (get_or ls b None) (λ n. IsChain ls n (s ∷ rest)) c.1 in
+    let two = leads_some (get_or ls s None) (λ n. IsChain ls n rest) one.2.1 in
+    let is : two.0 ≡ next = let there = two.1 in cc in
+    let away : times b rest ≡ 0 = omega (arith, once b, one_if-same b) in
+    (c.0, some_leads (get_or ms b None) (λ n. IsChain ms n rest) next at_b (subst (λ z. IsChain ms z rest) is (chain_stays ls ms b two.0 rest away same two.2)))
+skipped ls ms b s first (f ∷ fs) rest next once same at_s at_b c =
+    let one = leads_some (get_or ls f None) (λ n. IsChain ls n (fs ++ b ∷ s ∷ rest)) c.1 in
+    elim (one_or_two f b) [
+      | inl h ↦ absurd (omega (arith, once b, h.0, times-append b fs (b ∷ s ∷ rest), one_if-same b))
+      | inr h ↦ (c.0, some_leads (get_or ms f None) (λ n. IsChain ms n (fs ++ b ∷ rest)) one.0 (same f h.1 ∙ one.1)
+          (skipped ls ms b s one.0 fs rest next (λ t. omega (arith, once t)) same at_s at_b one.2))
+    ]
 
 -- from a slot in the list the links lead through what comes after it
 pub chain_after : (ls : Links) (first : Option ℕ) (before : List ℕ) (s : ℕ) (after : List ℕ) → IsChain ls first (before ++ s ∷ after) → (next : Option ℕ) × (get_or ls s None ≡ Some next) × IsChain ls next after

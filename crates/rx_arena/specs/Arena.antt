@@ -91,6 +91,10 @@ kept_in a c = filter (λ s. marked_at a s) (chain_at a c)
 abbrev pub dropped_from : ArenaState → ℕ → List ℕ
 dropped_from a c = filter (λ s. not (marked_at a s)) (chain_at a c)
 
+-- the slots of a list but for this one
+abbrev pub besides : ℕ → List ℕ → List ℕ
+besides s ss = filter (λ t. not (nat_eq t s)) ss
+
 -- no root protects what chain c would drop
 abbrev pub IsUnprotected : ArenaState → ℕ → Type 0
 IsUnprotected a c = (s : ℕ) → 0 < times s (chain_at a c) → marked_at a s ≡ false → roots_at a s ≡ 0

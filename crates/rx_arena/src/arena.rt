@@ -3,6 +3,7 @@
 mod dealing;
 mod parting;
 mod reading;
+mod removing;
 
 ghost use Rattle.std.specs.Prelude.{◌≡◌, ◌↔◌, IsTrue, ℕ, ◌+◌, ◌%◌};
 ghost use Rattle.std.specs.Prelude.{◌<◌, ◌≤◌, ◌^◌, ◌++◌, ◌∷◌, [], List, true, false, Option};

@@ -13,7 +13,7 @@ use Rattle.rx_shared.specs.Bodies.{notes_of, cell_of, IsWritten}
 use Rattle.rx_shared.specs.Tidy.{IsTidy, cell_in}
 use Rattle.rx_shared.specs.State.{store_of}
 use Rattle.rx_sweep.specs.Reach.{IsHomed}
-use Rattle.rx_sweep.proofs.WalkLemmas.{chain_in}
+use Rattle.rx_arena.proofs.WalkLemmas.{chain_in}
 use Rattle.rx_shared.specs.Inner.Soundness.{table, cell-held, bank-law}
 use Rattle.rx_shared.specs.Mirror.{HasWords, HasNotes, Mirrors}
 use Rattle.rx_shared.specs.declared.bank.SharedBank.{SharedBank}

@@ -4,7 +4,7 @@ use Rattle.std.specs.Prelude.{Option}
 use Rattle.rx_arena.specs.declared.CellBody.{CellBody}
 use Rattle.rx_arena.specs.declared.Slot.{Slot}
 use Rattle.rx_arena.specs.Arena.{Taken, ArenaState, taken_at, chain_at, IsFirst}
-use Rattle.rx_sweep.proofs.WalkLemmas.{Walk, walk_begins, walk_on, walked, passed}
+use Rattle.rx_arena.proofs.WalkLemmas.{Walk, walk_begins, walk_on, walked, passed}
 use Rattle.rx_shared.specs.Inner.Finding.{IsAbsent}
 
 -- the slots that were passed do not hold the body

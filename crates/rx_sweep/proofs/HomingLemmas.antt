@@ -1,19 +1,19 @@
 -- Slot by slot, from the last one down, what is not marked leaves the chain that its hash names, and goes back.
 use Rattle.std.proofs.Common.{◌≡◌, ◌≢◌, ℕ, ◌+◌, ◌%◌, ◌<◌, ◌≤◌, ◌⊎◌, inl, inr, List, [], ◌∷◌, length, get_or, set, map, Some, None, refl, sym, ap, subst, ◌∙◌, arith}
-use Rattle.std.specs.Prelude.{Option, Bool, true, false, not, cond, filter}
+use Rattle.std.specs.Prelude.{Option, Bool, true, false, not, cond, filter, nat_eq, nat_lt}
 use Rattle.std.proofs.lemmas.List.{length-set, get_or-set_same, get_or-set_other}
-use Rattle.std.proofs.lemmas.Bool.{cases_lt}
+use Rattle.std.proofs.lemmas.Bool.{cases_lt, lt-ltb, le-ltb}
 use Rattle.std.proofs.lemmas.Bool.Decides.{eqb_tells}
 use Rattle.rx_arena.specs.Put.{times, times_in, put}
-use Rattle.rx_arena.specs.Arena.{Taken, ArenaState, taken_at, IsTaken, chain_at, InChain, IsLoose, hash_at, stored_hash, is_marked, is_unmarked, marked_at, kept_in, IsArena}
-use Rattle.rx_arena.proofs.PutLemmas.{one_if-same}
-use Rattle.rx_arena.proofs.ChainLemmas.{some_chain, one_or_more}
+use Rattle.rx_arena.specs.Arena.{Taken, ArenaState, taken_at, IsTaken, chain_at, InChain, IsLoose, hash_at, stored_hash, is_marked, is_unmarked, marked_at, besides, IsArena}
+use Rattle.rx_arena.proofs.PutLemmas.{one_if-same, times_in-set}
+use Rattle.rx_arena.proofs.ChainLemmas.{some_chain}
 use Rattle.rx_sweep.specs.Reach.{unmarked, home, IsHomed}
 use Rattle.rx_sweep.specs.Inner.Marking.{SameButMarks}
 use Rattle.rx_sweep.proofs.BareLemmas.{same_at, same_chain, same_chains}
-use Rattle.rx_sweep.proofs.SweepLemmas.{lists_same, get_or-map_nil, length-map_lists, times-filter_false, true_or_false}
+use Rattle.rx_sweep.proofs.SweepLemmas.{lists_same, get_or-map_nil, length-map_lists, times-filter_true, times-filter_false, true_or_false}
 use Rattle.rx_sweep.proofs.UnlinkingLemmas.{GivingBack, giving_taken, was_unmarked, giving_on, giving_past}
-use Rattle.rx_sweep.proofs.WalkLemmas.{chain_in}
+use Rattle.rx_arena.proofs.WalkLemmas.{chain_in}
 
 hash-unmarked : (c : Option Taken) → stored_hash (unmarked c) ≡ stored_hash c
 hash-unmarked None = refl
@@ -27,28 +27,29 @@ same_homed a b p homed s c h =
       hash : hash_at b s ≡ hash_at a s
       hash = sym (hash-unmarked (taken_at b s)) ∙ ap stored_hash (same_at a b p s) ∙ hash-unmarked (taken_at a s)
 
-filter-in : (p : ℕ → Bool) (t : ℕ) (ts : List ℕ) → p t ≡ true → filter p (t ∷ ts) ≡ t ∷ filter p ts
-filter-in p t ts is = ap (λ y. cond y (t ∷ filter p ts) (filter p ts)) is
+-- tests that agree on what a list names filter it alike
+filter-agree : (p q : ℕ → Bool) (ts : List ℕ) → ((s : ℕ) → 0 < times s ts → p s ≡ q s) → filter p ts ≡ filter q ts
+filter-agree p q [] same = refl
+filter-agree p q (t ∷ ts) same = λ i. cond (same t (omega (arith, one_if-same t)) i) (t ∷ filter-agree p q ts (λ s h. same s (omega (arith, h))) i) (filter-agree p q ts (λ s h. same s (omega (arith, h))) i)
 
-filter-out : (p : ℕ → Bool) (t : ℕ) (ts : List ℕ) → p t ≡ false → filter p (t ∷ ts) ≡ filter p ts
-filter-out p t ts is = ap (λ y. cond y (t ∷ filter p ts) (filter p ts)) is
+-- what passes both tests
+filter-both : (p q : ℕ → Bool) (ts : List ℕ) → filter p (filter q ts) ≡ filter (λ s. cond (q s) (p s) false) ts
+filter-both p q [] = refl
+filter-both p q (t ∷ ts) = by_first (q t) (filter q ts) (filter (λ s. cond (q s) (p s) false) ts) (filter-both p q ts) where
+  by_first : (y : Bool) (us vs : List ℕ) → filter p us ≡ vs → filter p (cond y (t ∷ us) us) ≡ cond (cond y (p t) false) (t ∷ vs) vs
+  by_first true us vs e = ap (λ z. cond (p t) (t ∷ z) z) e
+  by_first false us vs e = e
 
-filter_twice : (p : ℕ → Bool) (ts : List ℕ) → filter p (filter p ts) ≡ filter p ts
-filter_twice p [] = refl
-filter_twice p (t ∷ ts) = elim (true_or_false (p t)) [
-  | inl is ↦ ap (filter p) (filter-in p t ts is) ∙ filter-in p t (filter p ts) is ∙ ap (λ zs. t ∷ zs) (filter_twice p ts) ∙ sym (filter-in p t ts is)
-  | inr is ↦ ap (filter p) (filter-out p t ts is) ∙ filter_twice p ts ∙ sym (filter-out p t ts is)
-]
+-- a list whose slots all pass the test stays
+filter-all : (p : ℕ → Bool) (ts : List ℕ) → ((s : ℕ) → 0 < times s ts → p s ≡ true) → filter p ts ≡ ts
+filter-all p [] all = refl
+filter-all p (t ∷ ts) all = ap (λ y. cond y (t ∷ filter p ts) (filter p ts)) (all t (omega (arith, one_if-same t))) ∙ ap (λ z. t ∷ z) (filter-all p ts (λ s h. all s (omega (arith, h))))
 
--- all of the list pass the test, or one does not
-all_or_one : (p : ℕ → Bool) (ts : List ℕ) → (filter p ts ≡ ts) ⊎ ((s : ℕ) × (0 < times s ts) × (p s ≡ false))
-all_or_one p [] = inl refl
-all_or_one p (t ∷ ts) = elim (true_or_false (p t)) [
-  | inl is ↦ elim (all_or_one p ts) [
-    | inl same ↦ inl (filter-in p t ts is ∙ ap (λ zs. t ∷ zs) same)
-    | inr one ↦ inr (one.0, (let h = one.1 in omega (arith, h)), one.2)
-  ]
-  | inr is ↦ inr (t, omega (arith, one_if-same t), is)
+-- a filtered list names nothing more
+times-filter_less : (p : ℕ → Bool) (s : ℕ) (ts : List ℕ) → 0 < times s (filter p ts) → 0 < times s ts
+times-filter_less p s ts h = elim (true_or_false (p s)) [
+  | inl is ↦ subst (λ n. 0 < n) (times-filter_true p s ts is) h
+  | inr is ↦ absurd (omega (arith, h, times-filter_false p s ts is))
 ]
 
 -- a taken slot that is not unmarked is marked
@@ -58,123 +59,164 @@ not_white o t white m e = neither t.marked (sym (ap is_marked e) ∙ m) (sym (ap
   neither true p q = cc
   neither false p q = cc
 
--- what is kept where it is marked is marked as before
-kept_marked : (o : Option Taken) → is_marked (cond (is_marked o) o None) ≡ is_marked o
-kept_marked o = elim (true_or_false (is_marked o)) [
-  | inl e ↦ ap (λ b. is_marked (cond b o None)) e
-  | inr e ↦ ap (λ b. is_marked (cond b o None)) e ∙ sym e
+-- whether a slot stays in its chain, where the slots from k on were looked at
+abbrev stays : ArenaState → ℕ → ℕ → Bool
+stays a k s = cond (marked_at a s) true (nat_lt s k)
+
+stays-marked : (a : ArenaState) (k s : ℕ) → marked_at a s ≡ true → stays a k s ≡ true
+stays-marked a k s e = ap (λ y. cond y true (nat_lt s k)) e
+
+stays-below : (a : ArenaState) (k s : ℕ) → s < k → stays a k s ≡ true
+stays-below a k s lt = elim (true_or_false (marked_at a s)) [
+  | inl e ↦ stays-marked a k s e
+  | inr e ↦ ap (λ y. cond y true (nat_lt s k)) e ∙ lt-ltb s k lt
 ]
 
--- one chain has its marked slots alone
-module _ (a b : ArenaState) (k : ℕ) (some : 0 < length a.chains) (chains : b.chains ≡ set a.chains (home a k) (kept_in a (home a k))) where
+-- the slot that is looked at next is the only one of which that changes
+stays-next : (a : ArenaState) (k s : ℕ) → s ≢ k → stays a (k + 1) s ≡ stays a k s
+stays-next a k s ne = ap (cond (marked_at a s) true) (elim (cases_lt s k) [
+  | inl lt ↦ lt-ltb s (k + 1) (omega (arith, lt)) ∙ sym (lt-ltb s k lt)
+  | inr le ↦ le-ltb s (k + 1) (omega (arith, le, ne)) ∙ sym (le-ltb s k le)
+])
+
+-- without the slot, where it is not marked
+stays-besides : (a : ArenaState) (k : ℕ) → marked_at a k ≡ false → (s : ℕ) → cond (stays a (k + 1) s) (not (nat_eq s k)) false ≡ stays a k s
+stays-besides a k white s = elim (eqb_tells s k) [
+  | inl e ↦ (
+      let off : marked_at a s ≡ false = ap (marked_at a) e.1 ∙ white in
+      let past : stays a k s ≡ false = ap (λ y. cond y true (nat_lt s k)) off ∙ le-ltb s k (omega (arith, e.1)) in
+      ap (λ y. cond (stays a (k + 1) s) (not y) false) e.0 ∙ never (stays a (k + 1) s) ∙ sym past)
+  | inr e ↦ ap (λ y. cond (stays a (k + 1) s) (not y) false) e.0 ∙ itself (stays a (k + 1) s) ∙ stays-next a k s e.1
+] where
+  never : (y : Bool) → cond y false false ≡ false
+  never true = refl
+  never false = refl
+
+  itself : (y : Bool) → cond y true false ≡ y
+  itself true = refl
+  itself false = refl
+
+-- a slot that stands in the chain that its hash names
+module _ (a : ArenaState) (k : ℕ) (there : 0 < times k (chain_at a (home a k))) where
+  some_chains : (css : List (List ℕ)) (c : ℕ) → 0 < times k (get_or css c []) → 0 < length css
+  some_chains [] c h = absurd (omega (arith, h))
+  some_chains (x ∷ xs) c h = omega arith
+
+  pub home_some : 0 < length a.chains
+  home_some = some_chains a.chains (home a k) there
+
   pub home_below : home a k < length a.chains
-  home_below = omega (arith, some)
+  home_below = omega (arith, home_some)
 
-  pub parted_here : chain_at b (home a k) ≡ kept_in a (home a k)
-  parted_here = ap (λ (z : List (List ℕ)). get_or z (home a k) []) chains ∙ get_or-set_same a.chains (home a k) (kept_in a (home a k)) [] home_below
+  -- it leaves that chain
+  module _ (b : ArenaState) (chains : b.chains ≡ set a.chains (home a k) (besides k (chain_at a (home a k)))) where
+    left_here : chain_at b (home a k) ≡ besides k (chain_at a (home a k))
+    left_here = ap (λ (z : List (List ℕ)). get_or z (home a k) []) chains ∙ get_or-set_same a.chains (home a k) (besides k (chain_at a (home a k))) [] home_below
 
-  pub parted_else : (c : ℕ) → c ≢ home a k → chain_at b c ≡ chain_at a c
-  parted_else c ne = ap (λ (z : List (List ℕ)). get_or z c []) chains ∙ get_or-set_other a.chains (home a k) c (kept_in a (home a k)) [] ne
+    left_else : (c : ℕ) → c ≢ home a k → chain_at b c ≡ chain_at a c
+    left_else c ne = ap (λ (z : List (List ℕ)). get_or z c []) chains ∙ get_or-set_other a.chains (home a k) c (besides k (chain_at a (home a k))) [] ne
 
-  -- a slot that stands there alone, and is not marked, is in no chain any more
-  pub parted_loose : marked_at a k ≡ false → ((c : ℕ) → 0 < times k (chain_at a c) → c ≡ home a k) → IsLoose b k
-  parted_loose white homed = elim (one_or_more (times_in k b.chains)) [
-    | inl z ↦ z
-    | inr h ↦ (let c = some_chain k b.chains h in elim (eqb_tells c.0 (home a k)) [
-      | inl e ↦ absurd (omega (arith, c.2, ap (times k) (ap (chain_at b) e.1 ∙ parted_here), times-filter_false (λ s. marked_at a s) k (chain_at a (home a k)) white))
-      | inr e ↦ absurd (e.1 (homed c.0 (subst (λ z. 0 < times k z) (parted_else c.0 e.1) c.2)))
-    ])
-  ]
+    not_itself : not (nat_eq k k) ≡ false
+    not_itself = elim (eqb_tells k k) [ inl e ↦ ap not e.0 | inr e ↦ absurd (e.1 refl) ]
 
--- the slots from k on are given back where they are not marked; each chain is what it was, or has its marked
--- slots alone, as have those that the slots that went stood in
+    -- it stood there alone, so it is in no chain any more
+    pub left_loose : IsArena a → IsLoose b k
+    left_loose law =
+        let count = times_in-set k a.chains (home a k) (besides k (chain_at a (home a k))) home_below in
+        let gone = times-filter_false (λ t. not (nat_eq t k)) k (chain_at a (home a k)) not_itself in
+        let same = ap (times_in k) chains in
+        omega (arith, count, gone, same, law.alone k, there)
+
+-- the slots from k on are given back where they are not marked, and have left the chains
 pub record Sweeping (init : ArenaState) (k : ℕ) (self : ArenaState) : Type 0 where
   pub cells : GivingBack init k self
   pub count : length self.chains ≡ length init.chains
-  pub either : (c : ℕ) → (chain_at self c ≡ chain_at init c) ⊎ (chain_at self c ≡ kept_in init c)
-  pub gone : (s : ℕ) → k ≤ s → marked_at init s ≡ false → IsTaken init s → chain_at self (home init s) ≡ kept_in init (home init s)
+  pub left : (c : ℕ) → chain_at self c ≡ filter (stays init k) (chain_at init c)
+
+-- no slot was looked at so far
+pub sweeping_begins : (init : ArenaState) (k : ℕ) → IsArena init → init.gray ≡ [] → ((s : ℕ) → k ≤ s → taken_at init s ≡ None) → Sweeping init k init
+sweeping_begins init k law gray past = record {
+  cells = record {
+    law = law;
+    gray = gray;
+    cap = refl;
+    spare = refl;
+    done = λ s le. past s le ∙ sym (ap (λ (o : Option Taken). cond (is_marked o) o None) (past s le));
+    left = λ s lt. refl;
+  };
+  count = refl;
+  left = λ c. sym (filter-all (stays init k) (chain_at init c) (λ s h. stays-below init k s (elim (cases_lt s k) [
+    | inl lt ↦ lt
+    | inr le ↦ (let some = (law.chained_taken s (chain_in init c s h)).1 in let none = past s le in cc)
+  ])));
+}
 
 module _ (init : ArenaState) (k : ℕ) (self : ArenaState) (inv : Sweeping init (k + 1) self) where
   here : taken_at self k ≡ taken_at init k
   here = inv.cells.left k (omega arith)
 
-  same_marks : (s : ℕ) → marked_at self s ≡ marked_at init s
-  same_marks s = elim (cases_lt s (k + 1)) [
-    | inl lt ↦ ap is_marked (inv.cells.left s lt)
-    | inr le ↦ ap is_marked (inv.cells.done s (omega (arith, le))) ∙ kept_marked (taken_at init s)
-  ]
-
   same_home : home self k ≡ home init k
   same_home = λ i. stored_hash (here i) % inv.count i
 
-  same_kept : (c : ℕ) → kept_in self c ≡ kept_in init c
-  same_kept c = (λ i. filter (λ s. same_marks s i) (chain_at self c)) ∙ elim (inv.either c) [
-    | inl e ↦ ap (filter (λ s. marked_at init s)) e
-    | inr e ↦ ap (filter (λ s. marked_at init s)) e ∙ filter_twice (λ s. marked_at init s) (chain_at init c)
-  ]
-
-  pub sweeping_past : is_unmarked (taken_at self k) ≡ false → Sweeping init k self
-  sweeping_past white = record {
+  pub sweeping_past : IsArena init → is_unmarked (taken_at self k) ≡ false → Sweeping init k self
+  sweeping_past law white = record {
     cells = giving_past init k self inv.cells white;
     count = inv.count;
-    either = inv.either;
-    gone = λ s le m t. elim (eqb_tells s k) [
-      | inl e ↦ absurd (not_white (taken_at init k) t.0 (sym (ap is_unmarked here) ∙ white) (ap (marked_at init) (sym e.1) ∙ m) (ap (taken_at init) (sym e.1) ∙ t.1))
-      | inr e ↦ inv.gone s (omega (arith, le, e.1)) m t
-    ];
+    left = λ c. inv.left c ∙ filter-agree (stays init (k + 1)) (stays init k) (chain_at init c) (λ s h. elim (eqb_tells s k) [
+      | inl e ↦ elim (true_or_false (marked_at init s)) [
+        | inl on ↦ stays-marked init (k + 1) s on ∙ sym (stays-marked init k s on)
+        | inr off ↦ (
+            let t = law.chained_taken s (chain_in init c s h) in
+            absurd (not_white (taken_at init s) t.0 (ap (λ z. is_unmarked (taken_at init z)) e.1 ∙ sym (ap is_unmarked here) ∙ white) off t.1))
+      ]
+      | inr e ↦ stays-next init k s e.1
+    ]);
   }
 
   module _ (yes : is_unmarked (taken_at self k) ≡ true) where
-    pub sweeping_some : ((s : ℕ) → IsTaken init s → InChain init s) → 0 < length self.chains
-    sweeping_some chained =
+    white : marked_at init k ≡ false
+    white = was_unmarked init k self inv.cells yes
+
+    -- the slot stands in the chain that its hash names
+    pub sweeping_there : ((s : ℕ) → IsTaken init s → InChain init s) → IsHomed init → 0 < times k (chain_at self (home self k))
+    sweeping_there chained homed =
         let t = giving_taken init k self inv.cells yes in
-        let c = some_chain k init.chains (chained k (t.0, sym here ∙ t.1)) in let lt = c.1 in omega (arith, lt, inv.count)
+        let c = some_chain k init.chains (chained k (t.0, sym here ∙ t.1)) in
+        let was : 0 < times k (chain_at init (home self k)) = subst (λ z. 0 < times k (chain_at init z)) (homed k c.0 c.2 ∙ sym same_home) c.2 in
+        let kept = ap (times k) (inv.left (home self k)) ∙ times-filter_true (stays init (k + 1)) k (chain_at init (home self k)) (stays-below init (k + 1) k (omega arith)) in
+        omega (arith, was, kept)
 
-    pub sweeping_homed : IsHomed init → (c : ℕ) → 0 < times k (chain_at self c) → c ≡ home self k
-    sweeping_homed homed c h = homed k c was ∙ sym same_home where
-      was : 0 < times k (chain_at init c)
-      was = elim (inv.either c) [
-        | inl e ↦ subst (λ z. 0 < times k z) e h
-        | inr e ↦ absurd (omega (arith, h, ap (times k) e, times-filter_false (λ s. marked_at init s) k (chain_at init c) (was_unmarked init k self inv.cells yes)))
-      ]
-
-    module _ (some : 0 < length self.chains) (two : ArenaState) (after : two ≡ record self { cells = put self.cells k None; chains = set self.chains (home self k) (kept_in self (home self k)); spare = self.spare + 1 }) where
-      chains : two.chains ≡ set self.chains (home self k) (kept_in self (home self k))
+    module _ (there : 0 < times k (chain_at self (home self k))) (two : ArenaState) (after : two ≡ record self { cells = put self.cells k None; chains = set self.chains (home self k) (besides k (chain_at self (home self k))); spare = self.spare + 1 }) where
+      chains : two.chains ≡ set self.chains (home self k) (besides k (chain_at self (home self k)))
       chains = ap (λ (v : ArenaState). v.chains) after
 
-      at_home : chain_at two (home init k) ≡ kept_in init (home init k)
-      at_home = subst (λ z. chain_at two z ≡ kept_in init z) same_home (parted_here self two k some chains ∙ same_kept (home self k))
+      at_home : chain_at two (home self k) ≡ filter (stays init k) (chain_at init (home self k))
+      at_home = left_here self k there two chains ∙ ap (besides k) (inv.left (home self k)) ∙ filter-both (λ t. not (nat_eq t k)) (stays init (k + 1)) (chain_at init (home self k))
+          ∙ filter-agree (λ s. cond (stays init (k + 1) s) (not (nat_eq s k)) false) (stays init k) (chain_at init (home self k)) (λ s h. stays-besides init k white s)
 
-      other : (c : ℕ) → c ≢ home init k → chain_at two c ≡ chain_at self c
-      other c ne = parted_else self two k some chains c (λ e. ne (e ∙ same_home))
+      -- the slot is in no other chain
+      other : IsHomed init → (c : ℕ) → c ≢ home self k → chain_at two c ≡ filter (stays init k) (chain_at init c)
+      other homed c ne = left_else self k there two chains c ne ∙ inv.left c ∙ filter-agree (stays init (k + 1)) (stays init k) (chain_at init c) (λ s h. elim (eqb_tells s k) [
+        | inl e ↦ absurd (ne (homed k c (subst (λ z. 0 < times z (chain_at init c)) e.1 h) ∙ sym same_home))
+        | inr e ↦ stays-next init k s e.1
+      ])
 
-      pub sweeping_on : IsArena two → Sweeping init k two
-      sweeping_on law = record {
-        cells = giving_on init k self inv.cells yes two (set self.chains (home self k) (kept_in self (home self k))) after law;
-        count = ap length chains ∙ length-set self.chains (home self k) (kept_in self (home self k)) ∙ inv.count;
-        either = λ c. elim (eqb_tells c (home init k)) [
-          | inl e ↦ inr (subst (λ z. chain_at two z ≡ kept_in init z) (sym e.1) at_home)
-          | inr e ↦ elim (inv.either c) [ inl q ↦ inl (other c e.1 ∙ q) | inr q ↦ inr (other c e.1 ∙ q) ]
-        ];
-        gone = λ s le m t. elim (eqb_tells (home init s) (home init k)) [
-          | inl e ↦ subst (λ z. chain_at two z ≡ kept_in init z) (sym e.1) at_home
-          | inr e ↦ other (home init s) e.1 ∙ inv.gone s (elim (eqb_tells s k) [ inl q ↦ absurd (e.1 (ap (home init) q.1)) | inr q ↦ omega (arith, le, q.1) ]) m t
+      pub sweeping_on : IsHomed init → IsArena two → Sweeping init k two
+      sweeping_on homed law = record {
+        cells = giving_on init k self inv.cells yes two (set self.chains (home self k) (besides k (chain_at self (home self k)))) after law;
+        count = ap length chains ∙ length-set self.chains (home self k) (besides k (chain_at self (home self k))) ∙ inv.count;
+        left = λ c. elim (eqb_tells c (home self k)) [
+          | inl e ↦ subst (λ z. chain_at two z ≡ filter (stays init k) (chain_at init z)) (sym e.1) at_home
+          | inr e ↦ other homed c e.1
         ];
       }
 
-module _ (init : ArenaState) (k : ℕ) (self : ArenaState) (inv : Sweeping init k self) (zero : k ≤ 0) (law : IsArena init) (homed : IsHomed init) where
-  kept_each : (c : ℕ) → chain_at self c ≡ kept_in init c
-  kept_each c = elim (inv.either c) [
-    | inr e ↦ e
-    | inl e ↦ elim (all_or_one (λ s. marked_at init s) (chain_at init c)) [
-      | inl same ↦ e ∙ sym same
-      | inr one ↦ (
-          let t = law.chained_taken one.0 (chain_in init c one.0 one.1) in
-          subst (λ z. chain_at self z ≡ kept_in init z) (sym (homed one.0 c one.1)) (inv.gone one.0 (omega (arith, zero)) one.2 t))
-    ]
-  ]
-
-  pub sweeping_end : self.chains ≡ map (filter (λ s. marked_at init s)) init.chains
-  sweeping_end = lists_same self.chains (map (filter (λ s. marked_at init s)) init.chains)
-      (inv.count ∙ sym (length-map_lists (filter (λ s. marked_at init s)) init.chains))
-      (λ c h. kept_each c ∙ sym (get_or-map_nil (filter (λ s. marked_at init s)) refl init.chains c))
+-- all slots were looked at
+pub sweeping_end : (init : ArenaState) (k : ℕ) (self : ArenaState) → Sweeping init k self → k ≤ 0 → self.chains ≡ map (filter (λ s. marked_at init s)) init.chains
+sweeping_end init k self inv zero = lists_same self.chains (map (filter (λ s. marked_at init s)) init.chains)
+    (inv.count ∙ sym (length-map_lists (filter (λ s. marked_at init s)) init.chains))
+    (λ c h. inv.left c ∙ filter-agree (stays init k) (λ s. marked_at init s) (chain_at init c) (λ s h. ap (cond (marked_at init s) true) (le-ltb s k (omega (arith, zero))) ∙ itself (marked_at init s))
+    ∙ sym (get_or-map_nil (filter (λ s. marked_at init s)) refl init.chains c)) where
+      itself : (y : Bool) → cond y true false ≡ y
+      itself true = refl
+      itself false = refl

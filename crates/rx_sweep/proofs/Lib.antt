@@ -1,6 +1,5 @@
 pub mod BareLemmas
 pub mod MarkStepLemmas
-pub mod WalkLemmas
 pub mod RootStepLemmas
 pub mod RootSlotLemmas
 pub mod NamedLemmas

@@ -3,7 +3,7 @@ ghost use Rattle.std.specs.Prelude.{◌≡◌, ℕ, ◌+◌, ◌<◌, List, [], 
 ghost use Rattle.std.specs.Prelude.{map, filter, if◌then◌else◌};
 ghost use Rattle.rx_arena.specs.Put.{times, put};
 ghost use Rattle.rx_arena.specs.Arena.{taken_at, IsTaken, taken_count, InChain, IsLoose, roots_at};
-ghost use Rattle.rx_arena.specs.Arena.{chain_at, kept_in, marked_at, IsMarked, IsArena};
+ghost use Rattle.rx_arena.specs.Arena.{besides, chain_at, marked_at, IsMarked, IsArena};
 ghost use Rattle.rx_sweep.specs.Reach.{home, IsHomed};
 ghost use Rattle.rx_sweep.specs.Inner.Marking.{Swept};
 
@@ -25,21 +25,20 @@ fn unlink(arena: &mut Arena)
 /// Takes a slot that is not marked out of the chain that its hash names, and gives it back.
 fn drop_slot(arena: &mut Arena, slot: Slot)
     requires no_gray { arena.old.gray ≡ [] }
-    requires some { 0 < length arena.old.chains }
     requires taken { IsTaken arena.old slot.0 }
     requires unmarked { marked_at arena.old slot.0 ≡ false }
     requires unprotected { roots_at arena.old slot.0 ≡ 0 }
-    requires homed { (c : ℕ) → 0 < times slot.0 (chain_at arena.old c) → c ≡ home arena.old slot.0 }
+    requires there { 0 < times slot.0 (chain_at arena.old (home arena.old slot.0)) }
     ensures after { arena.new ≡ record arena.old {
       cells = put arena.old.cells slot.0 None;
       chains = slice_set arena.old.chains (home arena.old slot.0)
-          (kept_in arena.old (home arena.old slot.0));
+          (besides slot.0 (chain_at arena.old (home arena.old slot.0)));
       spare = arena.old.spare + 1;
     } }
     ensures law { IsArena arena.new }
 {
     let chain = arena.home(arena.read(slot).hash);
-    arena.chain_keep_marked(chain);
+    arena.chain_remove(chain, slot);
     arena.give_back(slot);
 }
 

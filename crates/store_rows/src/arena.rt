@@ -276,6 +276,40 @@ fn keeps_the_marked(rt: HostRuntime) {
     keep_second(&rt, &mut arena_of(&rt, rt.alloc(), 10, 1));
 }
 
+/// Takes the slot behind the first one out of a chain.
+fn remove_second(rt: &impl Abort, arena: &mut Arena, chain: u32) {
+    assert!(rt; chain < arena.chains());
+    let first = arena.chain_first(chain).expect(rt, "a slot");
+    let second = arena.chain_next(first).expect(rt, "a second slot");
+    arena.chain_remove(chain, second);
+}
+
+/// Takes the first slot out of a chain.
+fn remove_first(rt: &impl Abort, arena: &mut Arena, chain: u32) {
+    assert!(rt; chain < arena.chains());
+    let first = arena.chain_first(chain).expect(rt, "a slot");
+    arena.chain_remove(chain, first);
+}
+
+/// Takes three slots out of their chain: the second, and then the first ones.
+fn remove_three(rt: &impl Abort, arena: &mut Arena)
+    requires { HasNoRoots arena.old }
+{
+    let (s0, _, s2) = link_three(rt, arena);
+    remove_second(rt, arena, 0);
+    expect_chain(rt, arena, 0, &[s2, s0]);
+    remove_first(rt, arena, 0);
+    expect_chain(rt, arena, 0, &[s0]);
+    remove_first(rt, arena, 0);
+    expect_chain(rt, arena, 0, &[]);
+    assert!(rt; arena.cells() == 3);
+}
+
+#[test]
+fn slots_leave_their_chain(rt: HostRuntime) {
+    remove_three(&rt, &mut arena_of(&rt, rt.alloc(), 10, 1));
+}
+
 /// How many cells the large arena takes.
 const CELLS: u32 = 1_000_000;
 

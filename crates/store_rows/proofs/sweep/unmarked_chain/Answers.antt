@@ -1,5 +1,5 @@
 use Rattle.rx_arena.specs.Arena.{chain_at}
-use Rattle.rx_sweep.proofs.WalkLemmas.{walk_at, walk_on, left_less, chain_once, chain_in}
+use Rattle.rx_arena.proofs.WalkLemmas.{walk_at, walk_on, left_less, chain_once, chain_in}
 use Rattle.store_rows.proofs.sweep.unmarked_chain.Goals as goal
 
 pub marked-requires : goal.marked-requires

@@ -1,6 +1,6 @@
 use Rattle.std.proofs.Common.{length}
 use Rattle.rx_arena.specs.Arena.{chain_at}
-use Rattle.rx_sweep.proofs.WalkLemmas.{Walk, left_of}
+use Rattle.rx_arena.proofs.WalkLemmas.{Walk, left_of}
 use Rattle.store_rows.proofs.sweep.unmarked_chain.Given as goal
 
 abbrev pub invariant-loop-next : goal.invariant-loop-next
