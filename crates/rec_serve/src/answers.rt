@@ -18,7 +18,8 @@ ghost use Rattle.rx_term.specs.Steps.{Grows, IsBankRefusal, Keeps};
 ghost use Rattle.rx_term.specs.Store.{tree_at};
 ghost use Rattle.rx_term.specs.Tree.{Tree, list_of, more, none};
 ghost use Rattle.rec_engine.specs.Cells.{RoomOnly};
-ghost use Rattle.rec_engine.specs.Engine.{SameEngine};
+ghost use Rattle.rec_engine.specs.Engine.{IsGiven, IsOutcome, SameEngine};
+ghost use Rattle.rec_sorts.specs.Binding.{tree_of};
 ghost use Rattle.rec_sorts.specs.Evaluation.{term_of};
 ghost use Rattle.rec_sorts.specs.Numbering.{AreLetters};
 ghost use Rattle.rec_sorts.specs.TermRules.{broken_by_elements};
@@ -29,11 +30,12 @@ ghost use Rattle.rec_serve.specs.Answering.{
   WantsDepth,
   refusal_line,
 };
+ghost use Rattle.rec_serve.specs.Inner.Asked.{KeepsRules};
 
 use crate::ending::{Refusal, Want};
-use crate::lines::{outcome_text, refusal_text};
+use crate::lines::{refusal_text, write_outcome};
 use crate::settings::ServeSettings;
-use rec_engine::Engine;
+use rec_engine::{Engine, Outcome};
 use rec_run::{RunOptions, evaluate_within};
 use rec_sorts::{Checked, Letter, TermsFault, check_terms, term_letters};
 use rx_shared::SharedBank;
@@ -234,15 +236,69 @@ fn answer_checked<N: TermBank, B: TermBank>(
         engine.new.work engine.new.memo) }
     ensures deep { IfErr result (WantsDepth engine.new.waiting settings.depth) }
 {
-    let letters = letters_of(alloc, engine.checked(), own, list)?;
-    let given = engine.given_term(&letters)?;
-    let outcome = evaluate_within(engine, given, settings.options.steps, settings.depth)?;
-    match outcome_text(alloc, own, term, engine.bank(), outcome, settings.options) {
-        Ok(text) => Ok(Answered {
+    let outcome = outcome_of(alloc, own, engine, list, settings)?;
+    let mut text = Vec::new(alloc);
+    match write_outcome(
+        own,
+        term,
+        engine.bank(),
+        outcome,
+        settings.options,
+        &mut text,
+    ) {
+        Ok(()) => Ok(Answered {
             text,
             refusal: None,
         }),
         Err(_) => Err(Want::Memory),
+    }
+}
+
+/// What the one term of a list that keeps the rules comes to.
+fn outcome_of<N: TermBank, B: TermBank>(
+    alloc: Global,
+    own: &N,
+    engine: &mut Engine<B>,
+    list: Term,
+    settings: ServeSettings,
+) -> Result<Outcome, Want>
+    requires { KeepsRules engine.old.spec (N.store own.now) list }
+    ensures outcome { IfOk result (λ o. (t : Tree)
+        → tree_at (N.store own.now) list ≡ Some (list_of (more t none))
+        → IsOutcome engine.new.spec (B.store engine.new.bank) settings.options.steps
+        (tree_of (term_of t)) o) }
+    ensures same { SameEngine engine.old engine.new }
+    ensures keeps { Keeps (B.store engine.old.bank) (B.store engine.new.bank) [] }
+    ensures room { IfErr result (CellsOnly (N.store own.now) (B.store engine.new.bank)
+        engine.new.work engine.new.memo) }
+    ensures deep { IfErr result (WantsDepth engine.new.waiting settings.depth) }
+{
+    let given = given_from(alloc, own, engine, list)?;
+    Ok(evaluate_within(engine, given, settings.options.steps, settings.depth)?)
+}
+
+/// The one term of a list that keeps the rules, in the bank of an engine and without annotations.
+fn given_from<N: TermBank, B: TermBank>(
+    alloc: Global,
+    own: &N,
+    engine: &mut Engine<B>,
+    list: Term,
+) -> Result<Term, Want>
+    requires { KeepsRules engine.old.spec (N.store own.now) list }
+    ensures term { IfOk result (λ given. (t : Tree)
+        → tree_at (N.store own.now) list ≡ Some (list_of (more t none))
+        → tree_at (B.store engine.new.bank) given ≡ Some (tree_of (term_of t))) }
+    ensures given { IfOk result (IsGiven engine.new.spec (B.store engine.new.bank)) }
+    ensures same { SameEngine engine.old engine.new }
+    ensures keeps { Keeps (B.store engine.old.bank) (B.store engine.new.bank) [] }
+    ensures room { IfErr result (CellsOnly (N.store own.now) (B.store engine.new.bank)
+        engine.new.work engine.new.memo) }
+    ensures shallow { IfErr result (λ want. want ≢ Want.Deep) }
+{
+    let letters = letters_of(alloc, engine.checked(), own, list)?;
+    match engine.given_term(&letters) {
+        Ok(given) => Ok(given),
+        Err(fault) => Err(Want::from(fault)),
     }
 }
 
@@ -253,8 +309,7 @@ fn letters_of<N: TermBank>(
     bank: &N,
     list: Term,
 ) -> Result<Vec<Letter>, AllocError>
-    requires { (t : Tree) × (tree_at (N.store bank.now) list ≡ Some (list_of (more t none)))
-        × (broken_by_elements checked.now.spec (t ∷ []) ≡ None) }
+    requires { KeepsRules checked.now.spec (N.store bank.now) list }
     ensures { IfOk result (λ letters. (t : Tree)
         → tree_at (N.store bank.now) list ≡ Some (list_of (more t none))
         → AreLetters checked.now.spec letters.items (term_of t)) }

@@ -15,16 +15,12 @@ ghost use Rattle.std.specs.Prelude.{
   OnErr,
   OnOk,
 };
-ghost use Rattle.std.specs.Io.KnownBytes.{Appends, IsAtEnd, Keeps};
-ghost use Rattle.rx_text.specs.Written.{AppendsFront};
+ghost use Rattle.std.specs.Io.KnownBytes.{IsAtEnd, Keeps};
 ghost use Rattle.rec_engine.specs.Engine.{SameEngine};
 ghost use Rattle.rec_serve.specs.Conversation.{IsAnswer};
-ghost use Rattle.rec_serve.specs.Replies.{
-  BreaksOff,
-  Converses,
-  IsReply,
-};
+ghost use Rattle.rec_serve.specs.Replies.{BreaksOff, Converses};
 ghost use Rattle.rec_serve.specs.Inner.Reading.{IsRead, left_of, unread};
+ghost use Rattle.rec_serve.specs.Inner.Replying.{IsPartlyRepliedTo, IsRepliedTo};
 ghost use Rattle.rec_serve.specs.Answering.{IsAnswered, WantsDepth, text_of};
 ghost use Rattle.rec_serve.specs.Steps.{EndsStep, Replies, StopsStep, stopped_after};
 
@@ -189,20 +185,41 @@ fn answer_next<B: TermBank, R: Read, W: Write, L: Listener>(
         fault (left_of ahead.old (R.remaining requests.old)) (W.contents out.old)
         (W.contents out.new)) }
 {
-    match next_request(workspace.alloc, ahead, requests, out)? {
-        None => Ok(false),
-        Some(request) => {
-            reply(
-                workspace,
-                engine,
-                &request,
-                answered + 1,
-                out,
-                settings,
-                listener,
-            )?;
-            Ok(true)
+    match next_request(workspace.alloc, ahead, requests, out) {
+        Ok(Some(request)) => {
+            let number = answered + 1;
+            match answer_read(workspace, engine, request, number, out, settings, listener) {
+                Ok(()) => Ok(true),
+                Err(RefusedWrite) => Err(StreamFault::Write),
+            }
         }
+        Ok(None) => Ok(false),
+        Err(fault) => Err(fault),
+    }
+}
+
+/// Answers a request of this number that was read, and tells who listens where it is refused.
+fn answer_read<B: TermBank, W: Write, L: Listener>(
+    workspace: &mut Workspace,
+    engine: &mut Engine<B>,
+    request: Request,
+    number: u64,
+    out: &mut W,
+    settings: ServeSettings,
+    listener: &mut L,
+) -> Result<(), RefusedWrite>
+    ensures same { SameEngine engine.old engine.new }
+    ensures ok { OnOk result (IsRepliedTo engine.old.spec settings.options.count
+        settings.options.steps settings.depth request (W.contents out.old) (W.contents out.new)) }
+    ensures err { OnErr result (IsPartlyRepliedTo engine.old.spec settings.options.count
+        settings.options.steps settings.depth request (W.contents out.old) (W.contents out.new)) }
+{
+    match reply(workspace, engine, &request, out, settings) {
+        Ok(refusal) => {
+            tell(engine.checked(), number, &request, refusal, listener);
+            Ok(())
+        }
+        Err(fault) => Err(fault),
     }
 }
 
@@ -218,45 +235,48 @@ fn reply_text(reply: &Result<Answered, Want>) -> &[u8]
     }
 }
 
-/// Tells who listens of a request that is refused.
+/// Tells who listens of a request where it is refused.
 fn tell<L: Listener>(
     checked: &Checked,
     number: u64,
     request: &Request,
-    reply: &Result<Answered, Want>,
+    refusal: Option<Refusal>,
     listener: &mut L,
 ) {
-    if let Ok(answer) = reply
-        && let Some(refusal) = answer.refusal
-    {
+    if let Some(refusal) = refusal {
         listener.refused(checked, number, &request.text, refusal);
     }
 }
 
-/// Writes the reply to a request, and tells who listens where it is refused.
-fn reply<B: TermBank, W: Write, L: Listener>(
+/// Writes the reply to a request: why it is refused, where it is.
+fn reply<B: TermBank, W: Write>(
     workspace: &mut Workspace,
     engine: &mut Engine<B>,
     request: &Request,
-    number: u64,
     out: &mut W,
     settings: ServeSettings,
-    listener: &mut L,
-) -> Result<(), RefusedWrite>
+) -> Result<Option<Refusal>, RefusedWrite>
     ensures same { SameEngine engine.old engine.new }
-    ensures ok { OnOk result ((line : List ℕ) → IsRead request.now line → (text : List ℕ)
-        × IsReply engine.old.spec settings.options.count settings.options.steps
-        settings.depth line text
-        × Appends (W.contents out.old) (W.contents out.new) text) }
-    ensures err { OnErr result ((line : List ℕ) → IsRead request.now line → (text : List ℕ)
-        × IsReply engine.old.spec settings.options.count settings.options.steps
-        settings.depth line text
-        × AppendsFront text (W.contents out.old) (W.contents out.new)) }
+    ensures ok { OnOk result (IsRepliedTo engine.old.spec settings.options.count
+        settings.options.steps settings.depth request.now (W.contents out.old)
+        (W.contents out.new)) }
+    ensures err { OnErr result (IsPartlyRepliedTo engine.old.spec settings.options.count
+        settings.options.steps settings.depth request.now (W.contents out.old)
+        (W.contents out.new)) }
 {
     let found = answer_kept(workspace, engine, request, settings);
-    put(out, reply_text(&found))?;
-    tell(engine.checked(), number, request, &found, listener);
-    Ok(())
+    match put(out, reply_text(&found)) {
+        Ok(()) => Ok(refusal_in(&found)),
+        Err(fault) => Err(fault),
+    }
+}
+
+/// Why a request is refused, where it is.
+fn refusal_in(reply: &Result<Answered, Want>) -> Option<Refusal> {
+    match reply {
+        Ok(answer) => answer.refusal,
+        Err(_) => None,
+    }
 }
 
 /// The answer to a request as far as it was kept.

@@ -1,8 +1,10 @@
 //! The lines of answers, in memory, so that each is written whole or not at all.
+ghost use Rattle.rec_run.specs.GivenTerms.{item_at};
 ghost use Rattle.rec_run.specs.Output.{notes_text};
 ghost use Rattle.std.specs.Prelude.{◌≡◌, ◌++◌, IfOk, IfSome, IsSome, OnOk, codes};
 ghost use Rattle.rx_term.specs.Store.{tree_at};
 ghost use Rattle.rx_term.specs.Tree.{annotations};
+ghost use Rattle.rx_text.specs.Canon.{canon};
 ghost use Rattle.rec_run.specs.EvaluatedLines.{HoldsValue};
 ghost use Rattle.rec_serve.specs.Answering.{refusal_line, shown};
 
@@ -30,32 +32,49 @@ pub(crate) fn refusal_text(alloc: Global, refusal: Refusal) -> Result<Vec<u8>, W
     Ok(text)
 }
 
-/// The line of what a term of one bank came to in another: the value has its annotations.
-pub(crate) fn outcome_text<N: TermBank, B: TermBank>(
-    alloc: Global,
+/// Writes the line of what a term of one bank came to in another: the value has its annotations.
+pub(crate) fn write_outcome<N: TermBank, B: TermBank>(
     own: &N,
     term: Term,
     bank: &B,
     outcome: Outcome,
     options: RunOptions,
-) -> Result<Vec<u8>, Want>
+    text: &mut Vec<u8>,
+) -> Result<(), Want>
     requires held { IsSome (tree_at (N.store own.now) term) }
     requires value { HoldsValue (B.store bank.now) outcome }
-    ensures { IfOk result (λ text. IfSome (tree_at (N.store own.now) term)
-        (λ t. text.items ≡ shown (B.store bank.now) options.count options.steps (annotations t)
-        outcome ++ codes "\n")) }
+    ensures { OnOk result (IfSome (tree_at (N.store own.now) term)
+        (λ t. text.new.items ≡ text.old.items ++ shown (B.store bank.now) options.count
+        options.steps (annotations t) outcome ++ codes "\n")) }
 {
-    let mut text = Vec::new(alloc);
     match outcome {
         Outcome::Value { term: value, steps } => {
-            rx_text::write(alloc, bank, value, &mut text)?;
-            write_notes(alloc, own, term, &mut text)?;
-            write_steps(options.count, steps, &mut text)?;
+            write_value(own, term, bank, value, text)?;
+            write_steps(options.count, steps, text)?;
         }
-        Outcome::Limit => put_numbered(&mut text, b"!limit ", options.steps)?,
+        Outcome::Limit => put_numbered(text, b"!limit ", options.steps)?,
     }
     text.push(b'\n')?;
-    Ok(text)
+    Ok(())
+}
+
+/// Writes a value of one bank with the annotations of a term of another.
+fn write_value<N: TermBank, B: TermBank>(
+    own: &N,
+    term: Term,
+    bank: &B,
+    value: Term,
+    text: &mut Vec<u8>,
+) -> Result<(), Want>
+    requires held { IsSome (tree_at (N.store own.now) term) }
+    requires value { IsSome (tree_at (B.store bank.now) value) }
+    ensures { OnOk result (IfSome (tree_at (N.store own.now) term)
+        (λ t. text.new.items ≡ text.old.items ++ canon (item_at (B.store bank.now) value)
+        ++ notes_text (annotations t))) }
+{
+    let alloc = *text.allocator();
+    rx_text::write(alloc, bank, value, text)?;
+    write_notes(alloc, own, term, text)
 }
 
 /// Writes the annotations of a term between braces, where it has any.

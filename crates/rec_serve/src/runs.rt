@@ -230,7 +230,12 @@ fn serve_over<B: TermBank + Drop, R: Read, W: Write, L: Listener>(
     ensures requests_read { OnOk result (IsAtEnd (R.remaining requests.new)) }
 {
     match engine_over(alloc, checked, bank, None, settings.options) {
-        Ok(mut engine) => converse_within(alloc, &mut engine, requests, out, settings, listener),
+        Ok(mut engine) => {
+            let end = converse_within(alloc, &mut engine, requests, out, settings, listener);
+            // By a call: the end of the block would drop each part of an engine here.
+            drop(engine);
+            end
+        }
         Err(_) => Err(ServeFault::Memory),
     }
 }

@@ -1,40 +1,16 @@
-use Rattle.std.proofs.Common.{◌≡◌, [], ◌∷◌, None, refl, sym, subst, ◌∙◌}
-use Rattle.rx_term.proofs.KeepLemmas.{Keeps-trans}
-use Rattle.rec_sorts.specs.Evaluation.{term_of}
-use Rattle.rec_sorts.specs.Numbering.{AreLetters}
-use Rattle.rec_sorts.specs.TermRules.{broken_by_elements}
-use Rattle.rec_engine.specs.Engine.{Spells}
+use Rattle.std.proofs.Common.{◌≡◌, ◌++◌, IfSome, refl, subst}
+use Rattle.std.specs.Prelude.{codes}
+use Rattle.rx_term.specs.Store.{tree_at}
+use Rattle.rx_term.specs.Tree.{annotations}
+use Rattle.rec_serve.specs.Answering.{shown}
 use Rattle.rec_serve.proofs.OutcomeLemmas.{answers_tree}
 use Rattle.rec_serve.proofs.answers.answer_checked.Goals as goal
 
-pub letters_of-requires : goal.letters_of-requires
-letters_of-requires g c =
-    let t = c.requires.alone.0 in
-    (t, c.requires.alone.2, subst (λ y. broken_by_elements y (t ∷ []) ≡ None) (sym c.checked.ensures) c.requires.alone.3)
-
-pub given_term-requires : goal.given_term-requires
-given_term-requires g c =
-    let t = c.requires.alone.0 in
-    let letters = c.in_ok-letters.letters.items in
-    let are = subst (λ y. AreLetters y letters (term_of t)) c.checked.ensures (c.in_ok-letters.ensures t c.requires.alone.2) in
-    (t, record { letters = subst (λ ls. AreLetters c.args.engine.now.spec ls (term_of t)) (sym c.deref.ensures.value) are; is_ground = c.requires.alone.3 })
-
-pub returns-in_err-outcome-clause-keeps : goal.returns-in_err-outcome-clause-keeps
-returns-in_err-outcome-clause-keeps g c = Keeps-trans c.given_term.ensures.keeps c.evaluate_within.ensures.keeps
-
-pub returns-clause-keeps : goal.returns-clause-keeps
-returns-clause-keeps g c = Keeps-trans c.given_term.ensures.keeps c.evaluate_within.ensures.keeps
-
-pub returns-in-Ok-clause-keeps : goal.returns-in-Ok-clause-keeps
-returns-in-Ok-clause-keeps g c = Keeps-trans c.given_term.ensures.keeps c.evaluate_within.ensures.keeps
-
 pub returns-in-Ok-clause-answered : goal.returns-in-Ok-clause-answered
 returns-in-Ok-clause-answered g c =
-    let y = c.args.engine.now.spec in
-    let t = c.requires.alone.0 in
-    let letters = c.in_ok-letters.letters.items in
-    let are = subst (λ z. AreLetters z letters (term_of t)) c.checked.ensures (c.in_ok-letters.ensures t c.requires.alone.2) in
-    let spells : Spells y c.deref.result.now t = record { letters = subst (λ ls. AreLetters y ls (term_of t)) (sym c.deref.ensures.value) are; is_ground = c.requires.alone.3 } in
-    answers_tree g.B.TermBank.store y _ _ _ _ c.args.settings.options.count c.args.settings.options.steps t c.in_ok-outcome.outcome _ c.requires.alone.1 c.requires.alone.3 c.bank.ensures
-    (c.evaluate_within.ensures.same.spec ∙ c.given_term.ensures.same.spec)
-    (c.in_ok-outcome.ensures.outcome _ (c.in_ok-given.ensures.term t spells)) c.in-Ok.ensures refl
+    let counted = c.args.settings.options.count in
+    let n = c.args.settings.options.steps in
+    let o = c.in_ok-outcome.outcome in
+    let written = subst (λ before. IfSome (tree_at (g.N.TermBank.store c.args.own.now) c.args.term) (λ t. c.write_outcome.new.text.items ≡ before ++ shown (g.B.TermBank.store c.bank.result.now) counted n (annotations t) o ++ codes "\n")) c.new-text.ensures.items c.in-Ok.ensures in
+    answers_tree g.B.TermBank.store c.args.engine.now.spec _ _ _ _ counted n c.requires.alone.0 o _ c.requires.alone.1 c.requires.alone.3 c.bank.ensures
+    c.outcome_of.ensures.same.spec (c.in_ok-outcome.ensures.outcome c.requires.alone.0 c.requires.alone.2) written refl

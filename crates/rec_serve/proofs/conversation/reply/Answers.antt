@@ -1,24 +1,22 @@
 use Rattle.std.proofs.Common.{subst}
 use Rattle.std.specs.Io.KnownBytes.{Appends}
 use Rattle.rx_text.specs.Written.{AppendsFront}
-use Rattle.rx_text.proofs.AppendingLemmas.{on_err}
 use Rattle.rec_serve.specs.Answering.{text_of}
 use Rattle.rec_serve.proofs.OutcomeLemmas.{reply_is}
 use Rattle.rec_serve.proofs.conversation.reply.Goals as goal
 
-pub returns-in_err-put-clause-err : goal.returns-in_err-put-clause-err
-returns-in_err-put-clause-err g c =
-    let r = c.answer_kept-found.result in
-    on_err c.from_residual.result (λ line is. (
-      text_of r,
-      reply_is c.args.engine.now.spec c.args.settings.options.count c.args.settings.options.steps _ c.args.settings.depth c.args.request.now r c.answer_kept-found.ensures.deep c.answer_kept-found.ensures.answered line is,
-      subst (λ t. AppendsFront t (g.W.Write.contents c.args.out.now) (g.W.Write.contents c.put.new.out)) c.reply_text.ensures c.in_err-put.ensures.front,
-    ))
-
-pub returns-clause-ok : goal.returns-clause-ok
-returns-clause-ok g c = λ line is.
+pub returns-in-Ok-clause-ok : goal.returns-in-Ok-clause-ok
+returns-in-Ok-clause-ok g c = λ line is.
     let r = c.answer_kept-found.result in (
       text_of r,
       reply_is c.args.engine.now.spec c.args.settings.options.count c.args.settings.options.steps _ c.args.settings.depth c.args.request.now r c.answer_kept-found.ensures.deep c.answer_kept-found.ensures.answered line is,
-      subst (λ t. Appends (g.W.Write.contents c.args.out.now) (g.W.Write.contents c.put.new.out) t) c.reply_text.ensures c.in_ok-put.ensures.written,
+      subst (λ t. Appends (g.W.Write.contents c.args.out.now) (g.W.Write.contents c.put.new.out) t) c.reply_text.ensures c.in-Ok.ensures.written,
+    )
+
+pub returns-clause-err : goal.returns-clause-err
+returns-clause-err g c = λ line is.
+    let r = c.answer_kept-found.result in (
+      text_of r,
+      reply_is c.args.engine.now.spec c.args.settings.options.count c.args.settings.options.steps _ c.args.settings.depth c.args.request.now r c.answer_kept-found.ensures.deep c.answer_kept-found.ensures.answered line is,
+      subst (λ t. AppendsFront t (g.W.Write.contents c.args.out.now) (g.W.Write.contents c.put.new.out)) c.reply_text.ensures c.in-Err.ensures.front,
     )
