@@ -1,5 +1,7 @@
 //! Calls on worked texts, layer by layer.
 
+mod banks;
+mod cases;
 mod counting;
 mod depth;
 mod engine;
@@ -7,6 +9,7 @@ mod given;
 mod links;
 mod matcher;
 mod memo;
+mod observed;
 mod pattern;
 mod syntax;
 mod text;

@@ -1,9 +1,7 @@
 //! How many calls may wait at once.
 
-use crate::rows::engine::{
-    ADD, HIT, OPTIONS, PAIR, SUM, engine_for, expect_text, expect_value, plain_bank, shared_bank,
-    value_of,
-};
+use crate::rows::cases::{Bank, Case, OPTIONS, Question, expect_case};
+use crate::rows::engine::{ADD, End, HIT, PAIR, Row, SUM, expect_rows, has_ended, value_of};
 use crate::rows::values::{ADDITION, SUCCESSOR, ZERO, applied, constant};
 use rec_engine::{DepthFault, Engine, Outcome};
 use rx_term::{Term, TermBank};
@@ -22,50 +20,44 @@ fn outcome_within<B: TermBank>(
     engine.normalise_within(t, n, depth)
 }
 
-/// Whether it is that as many calls wait as may.
-fn is_deep(outcome: Result<Outcome, DepthFault>) -> bool {
-    matches!(outcome, Err(DepthFault::Deep))
-}
+/// The most steps of the first term, how many calls may wait, and how it ends then.
+pub type Waiting = (u64, u32, End);
 
-/// Whether more steps are needed.
-fn is_over(outcome: Result<Outcome, DepthFault>) -> bool {
-    matches!(outcome, Ok(Outcome::Limit))
-}
+/// For `add(s(s(z)),s(z))` three wait: the term for its sum, and in the first step and the second
+/// one `s(add(X,Y))` for the sum in it.
+const THRICE: [Waiting; 6] = [
+    (0, 0, End::Deep),
+    (0, 1, End::Limit),
+    (1, 1, End::Deep),
+    (1, 2, End::Limit),
+    (2, 2, End::Deep),
+    (3, 3, End::Value(SUM, 3)),
+];
 
-/// Stops where the first term doesn't come to a value of this text in so many steps.
-fn expect_within<B: TermBank>(
+/// The same sum where as many may wait as there is memory for.
+const AT_LAST: [Row; 1] = [(0, 3, End::Value(SUM, 3))];
+
+/// Calls that stand last wait for nothing: the term waits for `d`, and the right side of
+/// `d(X) -> p(k(X),k(X))` for one `k` after the other, which calls itself last.
+const TWICE: [Waiting; 2] = [(7, 1, End::Deep), (7, 2, End::Value(PAIR, 7))];
+
+/// Stops where the first term ends otherwise than its rows say.
+fn expect_waiting<B: TermBank>(
     rt: &impl Abort,
     alloc: Global,
     engine: &mut Engine<B>,
-    depth: u32,
-    wanted: &[u8],
-    steps: u64,
+    rows: &[Waiting],
 ) {
-    let outcome = outcome_within(rt, engine, steps, depth).expect(rt, "an outcome");
-    let (term, spent) = value_of(outcome).expect(rt, "a value");
-    assert!(rt; spent == steps);
-    expect_text(rt, alloc, engine.bank(), term, wanted);
+    for row in rows {
+        let outcome = outcome_within(rt, engine, row.0, row.1);
+        let holds = has_ended(rt, alloc, engine.bank(), outcome, &row.2);
+        assert!(rt; holds, "{} steps, {} calls", row.0, row.1);
+    }
 }
 
-/// Stops unless for `add(s(s(z)),s(z))` three wait: the term for its sum, and in the first step and
-/// the second one `s(add(X,Y))` for the sum in it.
-fn waits_thrice<B: TermBank + Drop>(rt: &impl Abort, alloc: Global, bank: B) {
-    let mut engine = engine_for(rt, alloc, ADD, bank, OPTIONS);
-    assert!(rt; is_deep(outcome_within(rt, &mut engine, 0, 0)));
-    assert!(rt; is_over(outcome_within(rt, &mut engine, 0, 1)));
-    assert!(rt; is_deep(outcome_within(rt, &mut engine, 1, 1)));
-    assert!(rt; is_over(outcome_within(rt, &mut engine, 1, 2)));
-    assert!(rt; is_deep(outcome_within(rt, &mut engine, 2, 2)));
-    expect_within(rt, alloc, &mut engine, 3, SUM, 3);
-    expect_value(rt, alloc, &mut engine, 0, 3, SUM, 3);
-}
-
-/// Stops unless calls that stand last wait for nothing: the term waits for `d`, and the right side
-/// of `d(X) -> p(k(X),k(X))` for one `k` after the other, which calls itself last.
-fn waits_twice<B: TermBank + Drop>(rt: &impl Abort, alloc: Global, bank: B) {
-    let mut engine = engine_for(rt, alloc, HIT, bank, OPTIONS);
-    assert!(rt; is_deep(outcome_within(rt, &mut engine, 7, 1)));
-    expect_within(rt, alloc, &mut engine, 2, PAIR, 7);
+/// Whether it is that as many calls wait as may.
+fn is_deep(outcome: Result<Outcome, DepthFault>) -> bool {
+    matches!(outcome, Err(DepthFault::Deep))
 }
 
 /// The call of a symbol on two values, where so many calls may wait; the first value is kept.
@@ -83,33 +75,73 @@ fn called_within<B: TermBank>(
     engine.call_within(first, symbol, &[first, second], n, depth)
 }
 
-/// The same of `add(s(z),z)`, where one waits.
-fn waits_in_call<B: TermBank + Drop>(rt: &impl Abort, alloc: Global, bank: B) {
-    let mut engine = engine_for(rt, alloc, ADD, bank, OPTIONS);
+/// Stops unless one waits for `add(s(z),z)`.
+fn waits_in_call<B: TermBank>(rt: &impl Abort, engine: &mut Engine<B>) {
     let empty = engine.nil().expect(rt, "the empty list");
-    let zero = constant(rt, &mut engine, empty, ZERO);
-    let one = applied(rt, &mut engine, SUCCESSOR, zero);
+    let zero = constant(rt, engine, empty, ZERO);
+    let one = applied(rt, engine, SUCCESSOR, zero);
     let both = (one, zero);
-    assert!(rt; is_deep(called_within(rt, &mut engine, ADDITION, both, 2, 0)));
-    let outcome = called_within(rt, &mut engine, ADDITION, both, 2, 1).expect(rt, "an outcome");
+    assert!(rt; is_deep(called_within(rt, engine, ADDITION, both, 2, 0)));
+    let outcome = called_within(rt, engine, ADDITION, both, 2, 1).expect(rt, "an outcome");
     let (value, steps) = value_of(outcome).expect(rt, "a value");
     assert!(rt; value == one && steps == 2);
 }
 
+/// Which calls wait.
+#[derive(Drop)]
+pub enum Waits {
+    /// Those of the first term.
+    OfTerm(&'static [Waiting]),
+    /// Those of the sum.
+    OfSum,
+    /// That of a call on values.
+    OfCall,
+}
+
+const CALLS: Case = Case {
+    spec: ADD,
+    options: OPTIONS,
+    bank: Bank::Plain(100),
+    question: Question::Depth(Waits::OfSum),
+};
+
+const LAST_CALLS: Case = Case {
+    spec: HIT,
+    options: OPTIONS,
+    bank: Bank::Shared(100),
+    question: Question::Depth(Waits::OfTerm(&TWICE)),
+};
+
+const CALLS_ON_VALUES: Case = Case {
+    spec: ADD,
+    options: OPTIONS,
+    bank: Bank::Plain(100),
+    question: Question::Depth(Waits::OfCall),
+};
+
+/// Stops where other calls of an engine wait.
+pub fn ask<B: TermBank>(rt: &impl Abort, alloc: Global, engine: &mut Engine<B>, waits: &Waits) {
+    match waits {
+        Waits::OfTerm(rows) => expect_waiting(rt, alloc, engine, rows),
+        Waits::OfSum => {
+            expect_waiting(rt, alloc, engine, &THRICE);
+            expect_rows(rt, alloc, engine, &AT_LAST);
+        }
+        Waits::OfCall => waits_in_call(rt, engine),
+    }
+}
+
 #[test]
 fn calls_that_wait(rt: HostRuntime) {
-    let alloc = rt.alloc();
-    waits_thrice(&rt, alloc, plain_bank(&rt, alloc, 100));
+    expect_case(&rt, rt.alloc(), &CALLS);
 }
 
 #[test]
 fn last_calls_that_wait_for_nothing(rt: HostRuntime) {
-    let alloc = rt.alloc();
-    waits_twice(&rt, alloc, shared_bank(&rt, alloc, 100));
+    expect_case(&rt, rt.alloc(), &LAST_CALLS);
 }
 
 #[test]
 fn calls_on_values_that_wait(rt: HostRuntime) {
-    let alloc = rt.alloc();
-    waits_in_call(&rt, alloc, plain_bank(&rt, alloc, 100));
+    expect_case(&rt, rt.alloc(), &CALLS_ON_VALUES);
 }

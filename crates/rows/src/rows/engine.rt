@@ -1,12 +1,9 @@
 //! The engine over both banks.
 
-use rec_engine::{Engine, EngineFault, Options, Outcome};
-use rec_sorts::{Checked, check};
-use rec_syntax::read_spec;
-use rx_plain::PlainBank;
-use rx_shared::SharedBank;
+use crate::rows::banks::text_of;
+use crate::rows::cases::{ANEW, Bank, Case, OPTIONS, Question, REMEMBERING, expect_case};
+use rec_engine::{DepthFault, Engine, EngineFault, Options, Outcome};
 use rx_term::{Term, TermBank};
-use rx_text::write;
 use std::alloc::Global;
 use std::process::Abort;
 
@@ -20,7 +17,7 @@ pub const ADD: &[u8] = b"REC-SPEC Add SORTS N \
     EVAL add(s(s(z)),s(z)) s(z) END-SPEC";
 
 /// The condition of the first rule fails for `z`, after one step; that of the second holds for it.
-const COND: &[u8] = b"REC-SPEC Cond SORTS N \
+pub const COND: &[u8] = b"REC-SPEC Cond SORTS N \
     CONS z : -> N s : N -> N \
     OPNS f : N -> N g : N -> N \
     VARS X : N \
@@ -46,8 +43,8 @@ pub const HIT: &[u8] = b"REC-SPEC Hit SORTS Nat Pair \
     RULES k(z) -> z k(s(X)) -> k(X) d(X) -> p(k(X),k(X)) \
     EVAL d(s(s(z))) END-SPEC";
 
-/// It comes to `z` in 3 * 2^50 - 2 steps.
-const FAST: &[u8] = b"REC-SPEC Fast SORTS Nat \
+/// It comes to `z` in so many steps as `FAST_STEPS` says.
+pub const FAST: &[u8] = b"REC-SPEC Fast SORTS Nat \
     CONS z : -> Nat s : Nat -> Nat \
     OPNS k : Nat -> Nat q : Nat Nat -> Nat \
     VARS X Y : Nat \
@@ -56,6 +53,9 @@ const FAST: &[u8] = b"REC-SPEC Fast SORTS Nat \
         s(s(s(s(s(s(s(s(s(s(s(s(s(s(s(s(s(s(s(s(s(s(s(s(s(\
         s(s(s(s(s(s(s(s(s(s(s(s(s(s(s(s(s(s(s(s(s(s(s(s(s(\
         z))))))))))))))))))))))))))))))))))))))))))))))))))) END-SPEC";
+
+/// 3 * 2^50 - 2.
+pub const FAST_STEPS: u64 = 3_377_699_720_527_870;
 
 /// The condition of `h` holds, and each right side has a ground term of four symbols, or of two.
 const GROUND: &[u8] = b"REC-SPEC Ground SORTS N \
@@ -68,41 +68,148 @@ const GROUND: &[u8] = b"REC-SPEC Ground SORTS N \
 /// What the first term of the addition comes to.
 pub const SUM: &[u8] = b"s(s(s(z)))";
 
-const ONE: &[u8] = b"s(z)";
+pub const ONE: &[u8] = b"s(z)";
 
-const TWO: &[u8] = b"s(s(z))";
+pub const TWO: &[u8] = b"s(s(z))";
 
-const ZERO: &[u8] = b"z";
+pub const ZERO: &[u8] = b"z";
 
 pub const PAIR: &[u8] = b"p(z,z)";
 
 const GROUND_VALUE: &[u8] = b"g(g(z,s(z)),g(g(z,s(z)),s(z)))";
 
-pub const OPTIONS: Options = Options {
-    memo: 0,
-    reclaim_every: 262_144,
+/// How an evaluation ends: with a value of this text in so many steps, or otherwise.
+#[derive(Drop)]
+pub enum End {
+    Value(&'static [u8], u64),
+    Limit,
+    Deep,
+    Room,
+}
+
+/// The number of a term, the most steps that it may take, and how it ends then.
+pub type Row = (u32, u64, End);
+
+const VALUES: Case = Case {
+    spec: ADD,
+    options: OPTIONS,
+    bank: Bank::Plain(100),
+    question: Question::Rows(&[(0, 5, End::Value(SUM, 3)), (1, 0, End::Value(ONE, 0))]),
 };
 
-/// The specification of a text.
-fn checked_of(rt: &impl Abort, alloc: Global, spec: &[u8]) -> Checked {
-    let syntax = read_spec(alloc, spec).expect(rt, "a specification");
-    check(alloc, syntax).expect(rt, "a checked specification")
+/// Conditions that fail and conditions that hold cost their steps.
+const CONDITIONS: Case = Case {
+    spec: COND,
+    options: OPTIONS,
+    bank: Bank::Plain(100),
+    question: Question::Rows(&[(0, 9, End::Value(TWO, 5)), (1, 9, End::Value(ONE, 2))]),
+};
+
+/// A sum is over the limit that is one step too low, and is there at the next call.
+const LIMITS: Case = Case {
+    spec: ADD,
+    options: OPTIONS,
+    bank: Bank::Plain(100),
+    question: Question::Rows(&[(0, 2, End::Limit), (0, 3, End::Value(SUM, 3))]),
+};
+
+/// Ground terms of rules are made right at first and afterwards.
+const GROUND_ROWS: [Row; 2] = [
+    (0, 3, End::Value(GROUND_VALUE, 3)),
+    (0, 3, End::Value(GROUND_VALUE, 3)),
+];
+
+const GROUND_TERMS: Case = Case {
+    spec: GROUND,
+    options: OPTIONS,
+    bank: Bank::Plain(100),
+    question: Question::Rows(&GROUND_ROWS),
+};
+
+const GROUND_TERMS_ANEW: Case = Case {
+    spec: GROUND,
+    options: ANEW,
+    bank: Bank::Shared(100),
+    question: Question::Rows(&GROUND_ROWS),
+};
+
+/// A call that comes again costs what it cost.
+const REPEATED_ROWS: [Row; 2] = [(0, 9, End::Value(PAIR, 7)), (0, 6, End::Limit)];
+
+const REPEATED: Case = Case {
+    spec: HIT,
+    options: OPTIONS,
+    bank: Bank::Plain(100),
+    question: Question::Rows(&REPEATED_ROWS),
+};
+
+/// The same where one result is remembered.
+const REPEATED_BESIDE_ONE: Case = Case {
+    spec: HIT,
+    options: Options {
+        memo: 1,
+        reclaim_every: 262_144,
+    },
+    bank: Bank::Plain(100),
+    question: Question::Rows(&REPEATED_ROWS),
+};
+
+/// The same where many are, with a reclaim as soon as a cell is new.
+const REPEATED_ANEW: Case = Case {
+    spec: HIT,
+    options: Options {
+        memo: 65_536,
+        reclaim_every: 1,
+    },
+    bank: Bank::Shared(100),
+    question: Question::Rows(&REPEATED_ROWS),
+};
+
+/// So many steps that only remembered results make them quick are counted one by one.
+const REMEMBERED: Case = Case {
+    spec: FAST,
+    options: REMEMBERING,
+    bank: Bank::Shared(10_000),
+    question: Question::Rows(&[
+        (0, FAST_STEPS, End::Value(ZERO, FAST_STEPS)),
+        (0, FAST_STEPS - 1, End::Limit),
+    ]),
+};
+
+/// What a bank has cells for.
+#[derive(Drop)]
+pub enum Cells {
+    /// No room for the first term.
+    OfTerm,
+    /// None for its value.
+    OfValue,
+    /// For twenty terms in at most so many cells.
+    AtMost(u32),
 }
 
-/// An engine for a specification over a bank.
-pub fn engine_for<B: TermBank + Drop>(
-    rt: &impl Abort,
-    alloc: Global,
-    spec: &[u8],
-    bank: B,
-    options: Options,
-) -> Engine<B> {
-    assert!(rt; options.memo <= 1_048_576);
-    assert!(rt; options.reclaim_every >= 1);
-    assert!(rt; options.reclaim_every <= 1_073_741_824);
-    let checked = checked_of(rt, alloc, spec);
-    Engine::new(alloc, checked, bank, options).expect(rt, "an engine")
-}
+const CELLS_OF_A_TERM: Case = Case {
+    spec: ADD,
+    options: OPTIONS,
+    bank: Bank::Plain(7),
+    question: Question::Cells(Cells::OfTerm),
+};
+
+const CELLS_OF_A_VALUE: Case = Case {
+    spec: ADD,
+    options: OPTIONS,
+    bank: Bank::Plain(8),
+    question: Question::Cells(Cells::OfValue),
+};
+
+const EARLIER_TERMS: Case = Case {
+    spec: TWENTY,
+    options: ANEW,
+    bank: Bank::Shared(100),
+    question: Question::Cells(Cells::AtMost(30)),
+};
+
+/// The second term of the addition alone.
+const SECOND: [Row; 1] = [(1, 0, End::Value(ONE, 0))];
 
 /// What the specification's term of a number comes to within `n` steps.
 pub fn outcome_of<B: TermBank>(rt: &impl Abort, engine: &mut Engine<B>, i: u32, n: u64) -> Outcome {
@@ -119,33 +226,60 @@ pub fn value_of(outcome: Outcome) -> Option<(Term, u64)> {
     }
 }
 
-/// Stops where a term has another text.
-pub fn expect_text<B: TermBank>(rt: &impl Abort, alloc: Global, bank: &B, t: Term, wanted: &[u8]) {
-    assert!(rt; bank.holds(t));
-    let mut text = Vec::new(alloc);
-    assert!(rt; write(alloc, bank, t, &mut text).is_ok());
-    assert!(rt; text.as_slice() == wanted);
+/// Whether an evaluation ended so.
+pub fn has_ended<B: TermBank>(
+    rt: &impl Abort,
+    alloc: Global,
+    bank: &B,
+    outcome: Result<Outcome, DepthFault>,
+    end: &End,
+) -> bool {
+    match outcome {
+        Ok(Outcome::Value { term, steps }) => is_value(rt, alloc, bank, (term, steps), end),
+        Ok(Outcome::Limit) => matches!(end, End::Limit),
+        Err(DepthFault::Deep) => matches!(end, End::Deep),
+        Err(DepthFault::Room) => matches!(end, End::Room),
+        Err(DepthFault::Memory) => false,
+    }
 }
 
-/// Stops where the term of a number doesn't come to a value of this text within `n` steps, or takes
-/// another number of them.
-pub fn expect_value<B: TermBank>(
+/// Whether this is how an evaluation ends: at a term, in so many steps.
+fn is_value<B: TermBank>(
+    rt: &impl Abort,
+    alloc: Global,
+    bank: &B,
+    (term, steps): (Term, u64),
+    end: &End,
+) -> bool {
+    match end {
+        End::Value(text, spent) => {
+            steps == *spent && text_of(rt, alloc, bank, term).as_slice() == *text
+        }
+        _ => false,
+    }
+}
+
+/// Stops where the term of a number ends otherwise than its row says.
+fn expect_row<B: TermBank>(rt: &impl Abort, alloc: Global, engine: &mut Engine<B>, row: &Row) {
+    let outcome = outcome_of(rt, engine, row.0, row.1);
+    let holds = has_ended(rt, alloc, engine.bank(), Ok(outcome), &row.2);
+    assert!(rt; holds, "term {} within {}", row.0, row.1);
+}
+
+/// The same of each row.
+pub fn expect_rows<B: TermBank>(
     rt: &impl Abort,
     alloc: Global,
     engine: &mut Engine<B>,
-    i: u32,
-    n: u64,
-    wanted: &[u8],
-    steps: u64,
+    rows: &[Row],
 ) {
-    let outcome = outcome_of(rt, engine, i, n);
-    let (term, spent) = value_of(outcome).expect(rt, "a value");
-    assert!(rt; spent == steps);
-    expect_text(rt, alloc, engine.bank(), term, wanted);
+    for row in rows {
+        expect_row(rt, alloc, engine, row);
+    }
 }
 
 /// Whether the term of a number is over the limit of `n` steps.
-fn is_over<B: TermBank>(rt: &impl Abort, engine: &mut Engine<B>, i: u32, n: u64) -> bool {
+pub fn is_over<B: TermBank>(rt: &impl Abort, engine: &mut Engine<B>, i: u32, n: u64) -> bool {
     matches!(outcome_of(rt, engine, i, n), Outcome::Limit)
 }
 
@@ -174,7 +308,7 @@ fn has_no_room_for_value<B: TermBank>(
 }
 
 /// Evaluates all terms in turn without a step: how many of them are values.
-fn count_values<B: TermBank>(rt: &impl Abort, engine: &mut Engine<B>) -> u32 {
+pub fn count_values<B: TermBank>(rt: &impl Abort, engine: &mut Engine<B>) -> u32 {
     let mut values: u32 = 0;
     for i in 0..engine.eval_terms() {
         if !is_over(rt, engine, i, 0) {
@@ -184,171 +318,79 @@ fn count_values<B: TermBank>(rt: &impl Abort, engine: &mut Engine<B>) -> u32 {
     values
 }
 
-/// Stops unless the terms of an addition come to their values in their steps.
-fn adds<B: TermBank + Drop>(rt: &impl Abort, alloc: Global, bank: B) {
-    let mut engine = engine_for(rt, alloc, ADD, bank, OPTIONS);
-    expect_value(rt, alloc, &mut engine, 0, 5, SUM, 3);
-    expect_value(rt, alloc, &mut engine, 1, 0, ONE, 0);
-}
-
-/// Stops unless conditions that fail and conditions that hold cost their steps.
-fn tries_conditions<B: TermBank + Drop>(rt: &impl Abort, alloc: Global, bank: B) {
-    let mut engine = engine_for(rt, alloc, COND, bank, OPTIONS);
-    expect_value(rt, alloc, &mut engine, 0, 9, TWO, 5);
-    expect_value(rt, alloc, &mut engine, 1, 9, ONE, 2);
-}
-
-/// Stops unless a sum is over the limit that is one step too low, and is there at the next call.
-fn stops_at_limit<B: TermBank + Drop>(rt: &impl Abort, alloc: Global, bank: B) {
-    let mut engine = engine_for(rt, alloc, ADD, bank, OPTIONS);
-    assert!(rt; is_over(rt, &mut engine, 0, 2));
-    expect_value(rt, alloc, &mut engine, 0, 3, SUM, 3);
-}
-
 /// Stops unless there is no room for the first term, and there is for the second one afterwards.
-fn refuses_term<B: TermBank + Drop>(rt: &impl Abort, alloc: Global, bank: B) {
-    let mut engine = engine_for(rt, alloc, ADD, bank, OPTIONS);
-    assert!(rt; has_no_room(rt, &mut engine));
-    expect_value(rt, alloc, &mut engine, 1, 0, ONE, 0);
+fn refuses_term<B: TermBank>(rt: &impl Abort, alloc: Global, engine: &mut Engine<B>) {
+    assert!(rt; has_no_room(rt, engine));
+    expect_rows(rt, alloc, engine, &SECOND);
 }
 
 /// Stops unless there is room for the first term, not for its value, and for the second term
 /// afterwards.
-fn refuses_value<B: TermBank + Drop>(rt: &impl Abort, alloc: Global, bank: B) {
-    let mut engine = engine_for(rt, alloc, ADD, bank, OPTIONS);
-    assert!(rt; has_no_room_for_value(rt, &mut engine, 8, 3));
-    expect_value(rt, alloc, &mut engine, 1, 0, ONE, 0);
+fn refuses_value<B: TermBank>(rt: &impl Abort, alloc: Global, engine: &mut Engine<B>) {
+    assert!(rt; has_no_room_for_value(rt, engine, 8, 3));
+    expect_rows(rt, alloc, engine, &SECOND);
 }
 
-/// Evaluates twenty terms, with a reclaim as soon as a cell is new, and stops unless all of them
-/// are values, and at most so many cells are in use then.
-fn reclaims_earlier_terms<B: TermBank + Drop>(
-    rt: &impl Abort,
-    alloc: Global,
-    bank: B,
-    at_most: u32,
-) {
-    let options = Options {
-        memo: 0,
-        reclaim_every: 1,
-    };
-    let mut engine = engine_for(rt, alloc, TWENTY, bank, options);
-    assert!(rt; count_values(rt, &mut engine) == 20);
+/// Evaluates twenty terms, and stops unless all of them are values, and at most so many cells are
+/// in use then.
+fn reclaims_earlier_terms<B: TermBank>(rt: &impl Abort, engine: &mut Engine<B>, at_most: u32) {
+    assert!(rt; count_values(rt, engine) == 20);
     assert!(rt; engine.bank().cells() <= at_most);
 }
 
-/// Stops unless ground terms of rules are made right at first and afterwards, where so many cells
-/// are made between two reclaims.
-fn makes_ground_terms<B: TermBank + Drop>(
-    rt: &impl Abort,
-    alloc: Global,
-    bank: B,
-    reclaim_every: u32,
-) {
-    let options = Options {
-        memo: 0,
-        reclaim_every,
-    };
-    let mut engine = engine_for(rt, alloc, GROUND, bank, options);
-    expect_value(rt, alloc, &mut engine, 0, 3, GROUND_VALUE, 3);
-    expect_value(rt, alloc, &mut engine, 0, 3, GROUND_VALUE, 3);
-}
-
-/// Stops unless a call that comes again costs what it cost, where so many results are remembered
-/// and so many cells are made between two reclaims.
-fn repeats_calls<B: TermBank + Drop>(
-    rt: &impl Abort,
-    alloc: Global,
-    bank: B,
-    memo: u32,
-    reclaim_every: u32,
-) {
-    let options = Options {
-        memo,
-        reclaim_every,
-    };
-    let mut engine = engine_for(rt, alloc, HIT, bank, options);
-    expect_value(rt, alloc, &mut engine, 0, 9, PAIR, 7);
-    assert!(rt; is_over(rt, &mut engine, 0, 6));
-}
-
-/// Stops unless so many steps that only remembered results make them quick are counted one by one.
-fn remembers<B: TermBank + Drop>(rt: &impl Abort, alloc: Global, bank: B) {
-    let options = Options {
-        memo: 65_536,
-        reclaim_every: 262_144,
-    };
-    let mut engine = engine_for(rt, alloc, FAST, bank, options);
-    let steps = 3_377_699_720_527_870;
-    expect_value(rt, alloc, &mut engine, 0, steps, ZERO, steps);
-    assert!(rt; is_over(rt, &mut engine, 0, steps - 1));
-}
-
-/// A bank of no terms, which shares none.
-pub fn plain_bank(rt: &impl Abort, alloc: Global, cap: u32) -> PlainBank {
-    assert!(rt; cap > 0 && cap <= 10_000);
-    PlainBank::new(alloc, cap).expect(rt, "a bank")
-}
-
-/// A bank of no terms, which shares all.
-pub fn shared_bank(rt: &impl Abort, alloc: Global, cap: u32) -> SharedBank {
-    assert!(rt; cap > 0 && cap <= 10_000);
-    SharedBank::new(alloc, cap).expect(rt, "a bank")
+/// Stops where an engine's bank has cells for something else.
+pub fn ask<B: TermBank>(rt: &impl Abort, alloc: Global, engine: &mut Engine<B>, cells: &Cells) {
+    match cells {
+        Cells::OfTerm => refuses_term(rt, alloc, engine),
+        Cells::OfValue => refuses_value(rt, alloc, engine),
+        Cells::AtMost(count) => reclaims_earlier_terms(rt, engine, *count),
+    }
 }
 
 #[test]
 fn ground_terms(rt: HostRuntime) {
-    let alloc = rt.alloc();
-    makes_ground_terms(&rt, alloc, plain_bank(&rt, alloc, 100), 262_144);
-    makes_ground_terms(&rt, alloc, shared_bank(&rt, alloc, 100), 1);
+    expect_case(&rt, rt.alloc(), &GROUND_TERMS);
+    expect_case(&rt, rt.alloc(), &GROUND_TERMS_ANEW);
 }
 
 #[test]
 fn repeated_calls(rt: HostRuntime) {
-    let alloc = rt.alloc();
-    repeats_calls(&rt, alloc, plain_bank(&rt, alloc, 100), 0, 262_144);
-    repeats_calls(&rt, alloc, plain_bank(&rt, alloc, 100), 1, 262_144);
-    repeats_calls(&rt, alloc, shared_bank(&rt, alloc, 100), 65_536, 1);
+    expect_case(&rt, rt.alloc(), &REPEATED);
+    expect_case(&rt, rt.alloc(), &REPEATED_BESIDE_ONE);
+    expect_case(&rt, rt.alloc(), &REPEATED_ANEW);
 }
 
 #[test]
 fn remembered_results(rt: HostRuntime) {
-    let alloc = rt.alloc();
-    remembers(&rt, alloc, shared_bank(&rt, alloc, 10_000));
+    expect_case(&rt, rt.alloc(), &REMEMBERED);
 }
 
 #[test]
 fn values(rt: HostRuntime) {
-    let alloc = rt.alloc();
-    adds(&rt, alloc, plain_bank(&rt, alloc, 100));
+    expect_case(&rt, rt.alloc(), &VALUES);
 }
 
 #[test]
 fn conditions(rt: HostRuntime) {
-    let alloc = rt.alloc();
-    tries_conditions(&rt, alloc, plain_bank(&rt, alloc, 100));
+    expect_case(&rt, rt.alloc(), &CONDITIONS);
 }
 
 #[test]
 fn limits(rt: HostRuntime) {
-    let alloc = rt.alloc();
-    stops_at_limit(&rt, alloc, plain_bank(&rt, alloc, 100));
+    expect_case(&rt, rt.alloc(), &LIMITS);
 }
 
 #[test]
 fn cells_of_a_term(rt: HostRuntime) {
-    let alloc = rt.alloc();
-    refuses_term(&rt, alloc, plain_bank(&rt, alloc, 7));
+    expect_case(&rt, rt.alloc(), &CELLS_OF_A_TERM);
 }
 
 #[test]
 fn cells_of_a_value(rt: HostRuntime) {
-    let alloc = rt.alloc();
-    refuses_value(&rt, alloc, plain_bank(&rt, alloc, 8));
+    expect_case(&rt, rt.alloc(), &CELLS_OF_A_VALUE);
 }
 
 #[test]
 fn earlier_terms_are_reclaimed(rt: HostRuntime) {
-    let alloc = rt.alloc();
-    reclaims_earlier_terms(&rt, alloc, shared_bank(&rt, alloc, 100), 30);
+    expect_case(&rt, rt.alloc(), &EARLIER_TERMS);
 }

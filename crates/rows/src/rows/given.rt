@@ -1,248 +1,225 @@
 //! The rules of given terms, row by row, and their letters.
 
-use crate::rows::texts::{ADD, Q, checked, push_nested};
+use crate::rows::banks::{plain_bank, term_of};
+use crate::rows::texts::{ADD, Nest, Q, checked, expect};
 use rec_sorts::{Checked, Letter, Meaning, TermsFault, broken_element, check_terms, term_letters};
-use rx_plain::PlainBank;
 use rx_term::TermBank;
-use rx_text::read;
-use std::alloc::{AllocError, Global};
+use std::alloc::Global;
 use std::process::Abort;
-use std::test::Fail;
 
 /// A constant whose name is quoted in terms, and an operator with arguments of two sorts.
 const TWO: &str = "REC-SPEC Two SORTS A B CONS 0 : -> A b : -> B OPNS g : A B -> A EVAL 0 END-SPEC";
 
-/// The number of the rule that terms break, in this bank.
+/// A specification, terms, and the number of the rule that they break.
+type Row = (&'static str, &'static str, Option<u8>);
+
+const BROKEN: [Row; 16] = [
+    // no list
+    (Q, "a", Some(1)),
+    (Q, "[a]{a}", Some(1)),
+    // no application
+    (Q, "[f(a),3]", Some(2)),
+    (Q, "[a{a},<a>]", Some(2)),
+    (Q, "[g(1)]", Some(2)),
+    (ADD, "[plus(s(z),z),3]", Some(2)),
+    (TWO, "[0]", Some(2)),
+    // annotations inside
+    (Q, "[f(a{b})]", Some(3)),
+    (Q, "[a{b},f(a{b})]", Some(3)),
+    // undeclared
+    (Q, "[\"a\"]", Some(4)),
+    (Q, "[X]", Some(4)),
+    (Q, "[\"a-b\"]", Some(4)),
+    // ill filled
+    (Q, "[f(a,a)]", Some(5)),
+    (Q, "[f]", Some(5)),
+    // ill sorted
+    (Q, "[f(b)]", Some(6)),
+    (TWO, "[g(\"0\",\"0\")]", Some(6)),
+];
+
+const KEPT: [Row; 7] = [
+    (Q, "[f(a){a}]", None),
+    (Q, "[a{3}]", None),
+    (Q, "[f(a){b,[3]},a{f(a)}]", None),
+    (Q, "[ b , f(f(a)) ]", None),
+    (Q, "[]", None),
+    (TWO, "[\"0\"]", None),
+    (TWO, "[g(\"0\",b)]", None),
+];
+
+/// Terms, and how many of them stand before the first that alone breaks the rule that they break.
+type First = (&'static str, Option<usize>);
+
+const FIRST: [First; 9] = [
+    ("[f(a),3,4]", Some(1)),
+    ("[f(a{b}),c,<a>]", Some(2)),
+    ("[f(b),f(a,a),f(a{b})]", Some(2)),
+    ("[f(b),c]", Some(1)),
+    ("[f(b),f]", Some(1)),
+    ("[f(b),a,f(b)]", Some(0)),
+    ("[a,f(a)]", None),
+    ("[3]{a}", None),
+    ("3", None),
+];
+
+/// A list of one term, `f` of `f` of and so on.
+const DEEP: Nest = Nest {
+    before: b"[",
+    open: b"f(",
+    inner: b"a",
+    close: b')',
+    after: b"]",
+    depth: 2000,
+};
+
+/// The number of the rule that terms break, in this bank; 0 stands for want of memory.
 fn broken_in<B: TermBank>(
+    rt: &impl Abort,
     alloc: Global,
     checked: &Checked,
     bank: &mut B,
     terms: &[u8],
-) -> Result<Option<u8>, Fail> {
-    let list = read(alloc, terms, bank)?;
+) -> Option<u8> {
+    let list = term_of(rt, alloc, bank, terms);
+    assert!(rt; bank.holds(list));
     match check_terms(alloc, checked, bank, list) {
-        Ok(()) => Ok(None),
-        Err(TermsFault::Rule { number }) => Ok(Some(number)),
-        Err(TermsFault::Memory) => Err(Fail::from("memory")),
+        Ok(()) => None,
+        Err(TermsFault::Rule { number }) => Some(number),
+        Err(TermsFault::Memory) => Some(0),
     }
 }
 
-/// The number of the rule that terms break.
-fn broken_by(alloc: Global, checked: &Checked, terms: &[u8]) -> Result<Option<u8>, Fail> {
-    let mut bank = PlainBank::new(alloc, 10_000)?;
-    broken_in(alloc, checked, &mut bank, terms)
+/// The same, in a bank of its own.
+fn broken(rt: &impl Abort, alloc: Global, checked: &Checked, terms: &[u8]) -> Option<u8> {
+    let mut bank = plain_bank(rt, alloc, 10_000);
+    broken_in(rt, alloc, checked, &mut bank, terms)
 }
 
 /// The same of the terms beside the text of a specification.
-fn broken(alloc: Global, specified: &str, terms: &[u8]) -> Result<Option<u8>, Fail> {
-    let checked = checked(alloc, specified.as_bytes())?;
-    broken_by(alloc, &checked, terms)
+fn broken_beside(rt: &impl Abort, alloc: Global, spec: &str, terms: &[u8]) -> Option<u8> {
+    let checked = checked(rt, alloc, spec.as_bytes());
+    broken(rt, alloc, &checked, terms)
 }
 
-/// How many terms stand before the first that alone breaks the rule that they break, in this bank.
-fn first_broken_in<B: TermBank>(
-    alloc: Global,
-    checked: &Checked,
-    bank: &mut B,
-    terms: &[u8],
-) -> Result<Option<usize>, Fail> {
-    let list = read(alloc, terms, bank)?;
-    Ok(broken_element(alloc, checked, bank, list)?)
+/// Stops where terms break another rule than their row has.
+fn expect_rows(rt: &impl Abort, alloc: Global, rows: &[Row]) {
+    for (spec, terms, wanted) in rows {
+        let found = broken_beside(rt, alloc, spec, terms.as_bytes());
+        expect(rt, found == *wanted, terms);
+    }
+}
+
+#[test]
+fn broken_rules(rt: HostRuntime) {
+    expect_rows(&rt, rt.alloc(), &BROKEN);
+}
+
+#[test]
+fn kept(rt: HostRuntime) {
+    expect_rows(&rt, rt.alloc(), &KEPT);
+}
+
+#[test]
+fn deep(rt: HostRuntime) {
+    let terms = DEEP.text(&rt, rt.alloc());
+    assert!(rt; broken_beside(&rt, rt.alloc(), Q, &terms) == None);
 }
 
 /// How many terms stand before the first that alone breaks the rule that they break.
-fn first_broken_by(alloc: Global, checked: &Checked, terms: &[u8]) -> Result<Option<usize>, Fail> {
-    let mut bank = PlainBank::new(alloc, 1000)?;
-    first_broken_in(alloc, checked, &mut bank, terms)
-}
-
-/// The same of the terms beside the text of a specification.
-fn first_broken(alloc: Global, specified: &str, terms: &[u8]) -> Result<Option<usize>, Fail> {
-    let checked = checked(alloc, specified.as_bytes())?;
-    first_broken_by(alloc, &checked, terms)
-}
-
-/// The letters of terms, in this bank.
-fn letters_in<B: TermBank>(
+fn first_broken<B: TermBank>(
+    rt: &impl Abort,
     alloc: Global,
     checked: &Checked,
     bank: &mut B,
     terms: &[u8],
-) -> Result<Vec<Vec<Letter>>, Fail> {
-    let list = read(alloc, terms, bank)?;
-    check_terms(alloc, checked, bank, list)?;
-    Ok(term_letters(alloc, checked, bank, list)?)
+) -> Option<usize> {
+    let list = term_of(rt, alloc, bank, terms);
+    assert!(rt; bank.holds(list));
+    broken_element(alloc, checked, bank, list).expect(rt, "an answer")
 }
 
-/// The letters of terms.
-fn letters_by(alloc: Global, checked: &Checked, terms: &[u8]) -> Result<Vec<Vec<Letter>>, Fail> {
-    let mut bank = PlainBank::new(alloc, 1000)?;
-    letters_in(alloc, checked, &mut bank, terms)
-}
-
-/// The same of the terms beside the text of a specification.
-fn letters(alloc: Global, specified: &str, terms: &[u8]) -> Result<Vec<Vec<Letter>>, Fail> {
-    let checked = checked(alloc, specified.as_bytes())?;
-    letters_by(alloc, &checked, terms)
-}
-
-fn symbol(number: u32, count: u32) -> Letter {
-    Letter {
-        meaning: Meaning::Symbol(number),
-        count,
+/// Stops where another number of terms than their row has stands before the first that is broken.
+fn expect_first<B: TermBank>(rt: &impl Abort, alloc: Global, checked: &Checked, bank: &mut B) {
+    for (terms, wanted) in &FIRST {
+        let found = first_broken(rt, alloc, checked, bank, terms.as_bytes());
+        expect(rt, found == *wanted, terms);
     }
 }
 
-/// A list of one term, `f` of `f` of and so on.
-fn nested(alloc: Global, depth: u32) -> Result<Vec<u8>, AllocError> {
-    let mut text = Vec::from_slice(alloc, b"[")?;
-    push_nested(&mut text, depth, (b"f(", b')'), b"a")?;
-    text.push(b']')?;
-    Ok(text)
-}
+/// Two sums of the addition, the second one a constant alone.
+const SUMS: &[u8] = b"[plus(s(z),z),z{3}]";
 
-/// Whether terms break the rule that their row has.
-fn check_rows(
+/// The symbols of each, and how many arguments they have.
+const SUM: [(u32, u32); 4] = [(0, 0), (1, 1), (0, 0), (2, 2)];
+
+const CONSTANT: [(u32, u32); 1] = [(0, 0)];
+
+/// The letters of the sums.
+fn letters_of<B: TermBank>(
     rt: &impl Abort,
     alloc: Global,
-    rows: &[(&str, &[u8], Option<u8>)],
-) -> Result<(), Fail> {
-    for (specified, terms, wanted) in rows {
-        assert_eq!(rt; broken(alloc, specified, terms)?, *wanted);
+    checked: &Checked,
+    bank: &mut B,
+) -> Vec<Vec<Letter>> {
+    let list = term_of(rt, alloc, bank, SUMS);
+    assert!(rt; bank.holds(list));
+    assert!(rt; check_terms(alloc, checked, bank, list).is_ok());
+    term_letters(alloc, checked, bank, list).expect(rt, "letters")
+}
+
+/// Whether letters are these symbols with so many arguments.
+fn are_symbols(letters: &[Letter], symbols: &[(u32, u32)]) -> bool {
+    if letters.len() != symbols.len() {
+        return false;
     }
-    Ok(())
-}
-
-/// Whether so many terms as their row has stand before the first that is broken.
-fn check_first(
-    rt: &impl Abort,
-    alloc: Global,
-    rows: &[(&str, &[u8], Option<usize>)],
-) -> Result<(), Fail> {
-    for (specified, terms, wanted) in rows {
-        assert_eq!(rt; first_broken(alloc, specified, terms)?, *wanted);
+    for (letter, (number, count)) in letters.iter().zip(symbols) {
+        if letter.meaning != Meaning::Symbol(*number) || letter.count != *count {
+            return false;
+        }
     }
-    Ok(())
+    true
+}
+
+fn expect_letters(rt: &impl Abort, terms: &[Vec<Letter>]) {
+    assert!(rt; terms.len() == 2);
+    assert!(rt; are_symbols(&terms[0], &SUM));
+    assert!(rt; are_symbols(&terms[1], &CONSTANT));
+}
+
+fn expect_sums<B: TermBank>(rt: &impl Abort, alloc: Global, checked: &Checked, bank: &mut B) {
+    let terms = letters_of(rt, alloc, checked, bank);
+    expect_letters(rt, &terms);
+}
+
+/// What else is asked of a specification.
+#[derive(Drop)]
+enum Question {
+    First,
+    Letters,
+}
+
+/// Stops where a specification answers otherwise.
+fn ask(rt: &impl Abort, alloc: Global, checked: &Checked, question: &Question) {
+    let mut bank = plain_bank(rt, alloc, 1000);
+    match question {
+        Question::First => expect_first(rt, alloc, checked, &mut bank),
+        Question::Letters => expect_sums(rt, alloc, checked, &mut bank),
+    }
+}
+
+/// The same of the text of a specification.
+fn ask_spec(rt: &impl Abort, alloc: Global, spec: &str, question: &Question) {
+    let checked = checked(rt, alloc, spec.as_bytes());
+    ask(rt, alloc, &checked, question);
 }
 
 #[test]
-fn no_list(rt: HostRuntime) -> Result<(), Fail> {
-    check_rows(
-        &rt,
-        rt.alloc(),
-        &[(Q, b"a", Some(1)), (Q, b"[a]{a}", Some(1))],
-    )
+fn the_first_that_is_broken(rt: HostRuntime) {
+    ask_spec(&rt, rt.alloc(), Q, &Question::First);
 }
 
 #[test]
-fn no_application(rt: HostRuntime) -> Result<(), Fail> {
-    check_rows(
-        &rt,
-        rt.alloc(),
-        &[
-            (Q, b"[f(a),3]", Some(2)),
-            (Q, b"[a{a},<a>]", Some(2)),
-            (Q, b"[g(1)]", Some(2)),
-            (ADD, b"[plus(s(z),z),3]", Some(2)),
-            (TWO, b"[0]", Some(2)),
-        ],
-    )
-}
-
-#[test]
-fn annotations_inside(rt: HostRuntime) -> Result<(), Fail> {
-    check_rows(
-        &rt,
-        rt.alloc(),
-        &[(Q, b"[f(a{b})]", Some(3)), (Q, b"[a{b},f(a{b})]", Some(3))],
-    )
-}
-
-#[test]
-fn undeclared(rt: HostRuntime) -> Result<(), Fail> {
-    check_rows(
-        &rt,
-        rt.alloc(),
-        &[
-            (Q, b"[\"a\"]", Some(4)),
-            (Q, b"[X]", Some(4)),
-            (Q, b"[\"a-b\"]", Some(4)),
-        ],
-    )
-}
-
-#[test]
-fn ill_filled(rt: HostRuntime) -> Result<(), Fail> {
-    check_rows(
-        &rt,
-        rt.alloc(),
-        &[(Q, b"[f(a,a)]", Some(5)), (Q, b"[f]", Some(5))],
-    )
-}
-
-#[test]
-fn ill_sorted(rt: HostRuntime) -> Result<(), Fail> {
-    check_rows(
-        &rt,
-        rt.alloc(),
-        &[(Q, b"[f(b)]", Some(6)), (TWO, b"[g(\"0\",\"0\")]", Some(6))],
-    )
-}
-
-#[test]
-fn the_first_that_is_broken(rt: HostRuntime) -> Result<(), Fail> {
-    check_first(
-        &rt,
-        rt.alloc(),
-        &[
-            (Q, b"[f(a),3,4]", Some(1)),
-            (Q, b"[f(a{b}),c,<a>]", Some(2)),
-            (Q, b"[f(b),f(a,a),f(a{b})]", Some(2)),
-            (Q, b"[f(b),c]", Some(1)),
-            (Q, b"[f(b),f]", Some(1)),
-            (Q, b"[f(b),a,f(b)]", Some(0)),
-            (Q, b"[a,f(a)]", None),
-            (Q, b"[3]{a}", None),
-            (Q, b"3", None),
-        ],
-    )
-}
-
-#[test]
-fn kept(rt: HostRuntime) -> Result<(), Fail> {
-    check_rows(
-        &rt,
-        rt.alloc(),
-        &[
-            (Q, b"[f(a){a}]", None),
-            (Q, b"[a{3}]", None),
-            (Q, b"[f(a){b,[3]},a{f(a)}]", None),
-            (Q, b"[ b , f(f(a)) ]", None),
-            (Q, b"[]", None),
-            (TWO, b"[\"0\"]", None),
-            (TWO, b"[g(\"0\",b)]", None),
-        ],
-    )
-}
-
-#[test]
-fn deep(rt: HostRuntime) -> Result<(), Fail> {
-    let terms = nested(rt.alloc(), 2000)?;
-    check_rows(&rt, rt.alloc(), &[(Q, &terms, None)])
-}
-
-fn check_letters(rt: &impl Abort, terms: &[Vec<Letter>]) {
-    assert_eq!(rt; terms.len(), 2);
-    assert_eq!(rt;
-        terms[0].as_slice(),
-        [symbol(0, 0), symbol(1, 1), symbol(0, 0), symbol(2, 2)].as_slice()
-    );
-    assert_eq!(rt; terms[1].as_slice(), [symbol(0, 0)].as_slice());
-}
-
-#[test]
-fn letters_in_order(rt: HostRuntime) -> Result<(), Fail> {
-    let terms = letters(rt.alloc(), ADD, b"[plus(s(z),z),z{3}]")?;
-    check_letters(&rt, &terms);
-    Ok(())
+fn letters_in_order(rt: HostRuntime) {
+    ask_spec(&rt, rt.alloc(), ADD, &Question::Letters);
 }

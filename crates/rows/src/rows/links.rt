@@ -1,107 +1,103 @@
 //! The symbols of specifications in a bank.
 
-ghost use Rattle.std.specs.Prelude.{◌≡◌, IfOk, length};
+ghost use Rattle.std.specs.Prelude.{◌≡◌, length};
 ghost use Rattle.rec_sorts.specs.Lookup.{symbols};
 
+use crate::rows::banks::plain_bank;
 use crate::rows::texts::{ADD, checked};
 use rec_sorts::{Checked, Links};
 use rx_plain::PlainBank;
 use rx_term::{Symbol, TermBank};
 use std::alloc::Global;
 use std::process::Abort;
-use std::test::Fail;
 
 const PRIMED: &str = "REC-SPEC P SORTS A CONS x' : -> A EVAL x' END-SPEC";
 
-/// A specification, and its symbols in a bank.
+/// The symbols of a specification in a bank.
+fn link(rt: &impl Abort, alloc: Global, checked: &Checked, bank: &mut PlainBank) -> Links
+    ensures { length result ≡ length (symbols checked.now.spec) }
+{
+    Links::make(alloc, checked, bank).expect(rt, "links")
+}
+
+/// Stops where the symbol of a number is another one, or the number of that.
+fn expect_number(rt: &impl Abort, checked: &Checked, links: &Links, number: u32, symbol: Symbol)
+    requires { length links.now ≡ length (symbols checked.now.spec) }
+{
+    assert!(rt; number < checked.symbols());
+    assert!(rt; links.symbol_of(number).0 == symbol.0);
+    assert!(rt; links.op_of(symbol) == Some(number));
+}
+
+/// Stops where the symbols of the addition have other numbers; the bank has them without cells.
+fn expect_addition(rt: &impl Abort, checked: &Checked, links: &Links, bank: &mut PlainBank)
+    requires { length links.now ≡ length (symbols checked.now.spec) }
+{
+    let z = bank.symbol(b"z", false, 0).expect(rt, "a symbol");
+    let s = bank.symbol(b"s", false, 1).expect(rt, "a symbol");
+    let plus = bank.symbol(b"plus", false, 2).expect(rt, "a symbol");
+    expect_number(rt, checked, links, 0, z);
+    expect_number(rt, checked, links, 1, s);
+    expect_number(rt, checked, links, 2, plus);
+    assert!(rt; checked.symbols() == 3 && bank.cells() == 0);
+}
+
+fn link_addition(rt: &impl Abort, alloc: Global, checked: &Checked, bank: &mut PlainBank) {
+    let links = link(rt, alloc, checked, bank);
+    expect_addition(rt, checked, &links, bank);
+}
+
+/// The symbol of a name that is quoted since no plain one is like it.
+fn link_primed(rt: &impl Abort, alloc: Global, checked: &Checked, bank: &mut PlainBank) {
+    let links = link(rt, alloc, checked, bank);
+    let primed = bank.symbol(b"x'", true, 0).expect(rt, "a symbol");
+    expect_number(rt, checked, &links, 0, primed);
+}
+
+/// Symbols of another arity, which is there before those of the addition, and of a quoted name.
+fn link_foreign(rt: &impl Abort, alloc: Global, checked: &Checked, bank: &mut PlainBank) {
+    let unary = bank.symbol(b"plus", false, 1).expect(rt, "a symbol");
+    let links = link(rt, alloc, checked, bank);
+    let quoted = bank.symbol(b"z", true, 0).expect(rt, "a symbol");
+    assert!(rt; links.op_of(unary) == None);
+    assert!(rt; links.op_of(quoted) == None);
+}
+
+/// Which symbols are linked.
 #[derive(Drop)]
-struct Linked {
-    checked: Checked,
-    links: Links,
+enum Linked {
+    Addition,
+    Primed,
+    Foreign,
 }
 
-/// The specification of a text, whose symbols the bank gets.
-fn link<B: TermBank>(alloc: Global, text: &str, bank: &mut B) -> Result<Linked, Fail>
-    ensures { IfOk result (λ l. length l.links ≡ length (symbols l.checked.spec)) }
-{
-    let checked = checked(alloc, text.as_bytes())?;
-    let links = Links::make(alloc, &checked, bank)?;
-    Ok(Linked { checked, links })
+/// Stops where symbols of a specification have other numbers.
+fn expect_linked(rt: &impl Abort, alloc: Global, checked: &Checked, linked: &Linked) {
+    let mut bank = plain_bank(rt, alloc, 10);
+    match linked {
+        Linked::Addition => link_addition(rt, alloc, checked, &mut bank),
+        Linked::Primed => link_primed(rt, alloc, checked, &mut bank),
+        Linked::Foreign => link_foreign(rt, alloc, checked, &mut bank),
+    }
 }
 
-/// Whether the symbol of a number is this one, and that of this one is the number.
-fn is_symbol_of(linked: &Linked, number: u32, symbol: Symbol) -> bool
-    requires { length linked.now.links ≡ length (symbols linked.now.checked.spec) }
-{
-    number < linked.checked.symbols()
-        && linked.links.symbol_of(number).0 == symbol.0
-        && linked.links.op_of(symbol) == Some(number)
-}
-
-fn check_addition(rt: &impl Abort, linked: &Linked, bank: &mut PlainBank) -> Result<(), Fail>
-    requires { length linked.now.links ≡ length (symbols linked.now.checked.spec) }
-{
-    let z = bank.symbol(b"z", false, 0)?;
-    let s = bank.symbol(b"s", false, 1)?;
-    let plus = bank.symbol(b"plus", false, 2)?;
-    assert!(rt; is_symbol_of(linked, 0, z));
-    assert!(rt; is_symbol_of(linked, 1, s));
-    assert!(rt; is_symbol_of(linked, 2, plus));
-    assert_eq!(rt; linked.checked.symbols(), 3);
-    assert_eq!(rt; bank.cells(), 0);
-    Ok(())
-}
-
-fn check_linked_addition(rt: &impl Abort, alloc: Global, bank: &mut PlainBank) -> Result<(), Fail> {
-    let linked = link(alloc, ADD, bank)?;
-    check_addition(rt, &linked, bank)
+/// The same of the text of a specification.
+fn expect_spec(rt: &impl Abort, alloc: Global, spec: &str, linked: &Linked) {
+    let checked = checked(rt, alloc, spec.as_bytes());
+    expect_linked(rt, alloc, &checked, linked);
 }
 
 #[test]
-fn addition(rt: HostRuntime) -> Result<(), Fail> {
-    let mut bank = PlainBank::new(rt.alloc(), 10)?;
-    check_linked_addition(&rt, rt.alloc(), &mut bank)
-}
-
-fn check_primed(rt: &impl Abort, linked: &Linked, bank: &mut PlainBank) -> Result<(), Fail>
-    requires { length linked.now.links ≡ length (symbols linked.now.checked.spec) }
-{
-    let primed = bank.symbol(b"x'", true, 0)?;
-    assert!(rt; is_symbol_of(linked, 0, primed));
-    Ok(())
-}
-
-fn check_linked_primed(rt: &impl Abort, alloc: Global, bank: &mut PlainBank) -> Result<(), Fail> {
-    let linked = link(alloc, PRIMED, bank)?;
-    check_primed(rt, &linked, bank)
+fn addition(rt: HostRuntime) {
+    expect_spec(&rt, rt.alloc(), ADD, &Linked::Addition);
 }
 
 #[test]
-fn quoted_where_no_plain_name(rt: HostRuntime) -> Result<(), Fail> {
-    let mut bank = PlainBank::new(rt.alloc(), 10)?;
-    check_linked_primed(&rt, rt.alloc(), &mut bank)
-}
-
-fn check_foreign(
-    rt: &impl Abort,
-    linked: &Linked,
-    bank: &mut PlainBank,
-    unary: Symbol,
-) -> Result<(), Fail> {
-    let quoted = bank.symbol(b"z", true, 0)?;
-    assert_eq!(rt; linked.links.op_of(unary), None);
-    assert_eq!(rt; linked.links.op_of(quoted), None);
-    Ok(())
-}
-
-fn check_linked_foreign(rt: &impl Abort, alloc: Global, bank: &mut PlainBank) -> Result<(), Fail> {
-    let unary = bank.symbol(b"plus", false, 1)?;
-    let linked = link(alloc, ADD, bank)?;
-    check_foreign(rt, &linked, bank, unary)
+fn quoted_where_no_plain_name(rt: HostRuntime) {
+    expect_spec(&rt, rt.alloc(), PRIMED, &Linked::Primed);
 }
 
 #[test]
-fn foreign_symbols_have_no_number(rt: HostRuntime) -> Result<(), Fail> {
-    let mut bank = PlainBank::new(rt.alloc(), 10)?;
-    check_linked_foreign(&rt, rt.alloc(), &mut bank)
+fn foreign_symbols_have_no_number(rt: HostRuntime) {
+    expect_spec(&rt, rt.alloc(), ADD, &Linked::Foreign);
 }

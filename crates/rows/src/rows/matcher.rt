@@ -1,22 +1,22 @@
 //! The least rule for terms.
 
-ghost use Rattle.std.specs.Prelude.{IfOk, IsSome};
+ghost use Rattle.std.specs.Prelude.{IsSome};
 ghost use Rattle.rx_term.specs.Store.{tree_at};
-ghost use Rattle.rec_sorts.specs.Linked.{HasMoreSymbols};
+ghost use Rattle.rec_sorts.specs.Linked.{AreLinked, HasMoreSymbols};
 ghost use Rattle.rec_match.specs.Next.{AreReady};
 
+use crate::rows::banks::{plain_bank, term_of};
 use crate::rows::counting::Counting;
-use crate::rows::texts::checked;
+use crate::rows::texts::{checked, expect, push};
 use rec_match::Matcher;
 use rec_sorts::{Checked, Links};
 use rx_plain::PlainBank;
 use rx_term::{Term, TermBank};
-use rx_text::read;
 use smallvec::SmallVec;
 use std::alloc::Global;
 use std::cell::Cell;
+use std::io::Write;
 use std::process::Abort;
-use std::test::Fail;
 
 const OVL: &[u8] = b"REC-SPEC Ovl SORTS N \
     CONS a : -> N b : -> N \
@@ -36,332 +36,278 @@ const PAIRS: &[u8] = b"REC-SPEC Pairs SORTS N \
 
 /// A term's text, the least rule that may be told, the rule that is, and which of its values are
 /// the term `a`.
-type Row = (&'static [u8], u32, Option<u32>, &'static [bool]);
+type Row = (&'static str, u32, Option<u32>, &'static [bool]);
 
 const OVERLAPPING: [Row; 11] = [
-    (b"f(a,a)", 0, Some(0), &[true]),
-    (b"f(a,a)", 1, Some(1), &[true]),
-    (b"f(a,a)", 2, Some(3), &[true, true]),
-    (b"f(a,a)", 4, None, &[]),
-    (b"f(a,b)", 0, Some(1), &[false]),
-    (b"f(a,b)", 2, Some(2), &[true]),
-    (b"f(a,b)", 3, Some(3), &[true, false]),
-    (b"f(b,a)", 0, Some(3), &[false, true]),
-    (b"f(b,b)", 0, Some(0), &[false]),
-    (b"f(b,b)", 1, Some(2), &[false]),
-    (b"f(b,b)", 3, Some(3), &[false, false]),
+    ("f(a,a)", 0, Some(0), &[true]),
+    ("f(a,a)", 1, Some(1), &[true]),
+    ("f(a,a)", 2, Some(3), &[true, true]),
+    ("f(a,a)", 4, None, &[]),
+    ("f(a,b)", 0, Some(1), &[false]),
+    ("f(a,b)", 2, Some(2), &[true]),
+    ("f(a,b)", 3, Some(3), &[true, false]),
+    ("f(b,a)", 0, Some(3), &[false, true]),
+    ("f(b,b)", 0, Some(0), &[false]),
+    ("f(b,b)", 1, Some(2), &[false]),
+    ("f(b,b)", 3, Some(3), &[false, false]),
 ];
 
 const OVERLAPPING_PAIRS: [Row; 11] = [
-    (b"g(p(a,a))", 0, Some(0), &[true]),
-    (b"g(p(a,a))", 1, Some(1), &[true]),
-    (b"g(p(a,a))", 2, Some(3), &[true, true]),
-    (b"g(p(a,b))", 0, Some(1), &[false]),
-    (b"g(p(a,b))", 2, Some(2), &[true]),
-    (b"g(p(b,b))", 1, Some(2), &[false]),
-    (b"g(p(b,a))", 0, Some(3), &[false, true]),
-    (b"g(p(b,a))", 4, Some(4), &[false]),
-    (b"g(p(b,a))", 5, None, &[]),
-    (b"g(a)", 0, Some(4), &[true]),
-    (b"g(p(a,b){b})", 0, Some(4), &[false]),
+    ("g(p(a,a))", 0, Some(0), &[true]),
+    ("g(p(a,a))", 1, Some(1), &[true]),
+    ("g(p(a,a))", 2, Some(3), &[true, true]),
+    ("g(p(a,b))", 0, Some(1), &[false]),
+    ("g(p(a,b))", 2, Some(2), &[true]),
+    ("g(p(b,b))", 1, Some(2), &[false]),
+    ("g(p(b,a))", 0, Some(3), &[false, true]),
+    ("g(p(b,a))", 4, Some(4), &[false]),
+    ("g(p(b,a))", 5, None, &[]),
+    ("g(a)", 0, Some(4), &[true]),
+    ("g(p(a,b){b})", 0, Some(4), &[false]),
 ];
 
 const UNMATCHED: [Row; 6] = [
-    (b"a", 0, None, &[]),
-    (b"7", 0, None, &[]),
-    (b"[a]", 0, None, &[]),
-    (b"f(a)", 0, None, &[]),
-    (b"f(a,a){b}", 0, None, &[]),
-    (b"<f(a,a)>", 0, None, &[]),
+    ("a", 0, None, &[]),
+    ("7", 0, None, &[]),
+    ("[a]", 0, None, &[]),
+    ("f(a)", 0, None, &[]),
+    ("f(a,a){b}", 0, None, &[]),
+    ("<f(a,a)>", 0, None, &[]),
 ];
 
 const WIDE: [Row; 3] = [
     (
-        b"w(b,b,b,b,b,b,b,b,b,b,b,b,b,b,b,b,b,b,b,a)",
+        "w(b,b,b,b,b,b,b,b,b,b,b,b,b,b,b,b,b,b,b,a)",
         0,
         Some(19),
         &[false; 19],
     ),
-    (b"w(b,b,b,b,b,b,b,b,b,b,b,b,b,b,b,b,b,b,b,b)", 0, None, &[]),
+    ("w(b,b,b,b,b,b,b,b,b,b,b,b,b,b,b,b,b,b,b,b)", 0, None, &[]),
     (
-        b"w(a,a,a,a,a,a,a,a,a,a,a,a,a,a,a,a,a,a,a,a)",
+        "w(a,a,a,a,a,a,a,a,a,a,a,a,a,a,a,a,a,a,a,a)",
         0,
         Some(0),
         &[true; 19],
     ),
 ];
 
-/// How many constants there are, a term's text, and the rule that is told.
-const CASES: [(u32, &[u8], Option<u32>); 5] = [
-    (200, b"k(c0)", Some(0)),
-    (200, b"k(c199)", Some(199)),
-    (200, b"k(a)", None),
-    (5_000, b"k(c4999)", Some(4999)),
-    (5_000, b"k(a)", None),
+/// Of 200 constants.
+const CASES: [Row; 3] = [
+    ("k(c0)", 0, Some(0), &[]),
+    ("k(c199)", 0, Some(199), &[]),
+    ("k(a)", 0, None, &[]),
 ];
 
-/// What the matcher says of a term: the rule, and which of its values are the term `a`.
-#[derive(Drop)]
-struct Said {
-    rule: Option<u32>,
-    are_a: Vec<bool>,
-}
+/// Of 5,000 constants.
+const MANY_CASES: [Row; 2] = [("k(c4999)", 0, Some(4999), &[]), ("k(a)", 0, None, &[])];
 
-/// Asserts that this is said.
-fn assert_said(rt: &impl Abort, said: &Said, rule: Option<u32>, are_a: &[bool]) {
-    assert_eq!(rt; said.rule, rule);
-    assert_eq!(rt; said.are_a.as_slice(), are_a);
+/// What stands before the variables of `w`.
+const HEAD_OF_WIDE: &[u8] = b"REC-SPEC Wide SORTS N \
+    CONS a : -> N b : -> N \
+    OPNS w : N N N N N N N N N N N N N N N N N N N N -> N \
+    VARS";
+
+/// What stands before the constants of `k`.
+const HEAD_OF_CASES: &[u8] = b"REC-SPEC Cases SORTS N CONS a : -> N";
+
+/// The symbols of a specification in a bank.
+fn link<B: TermBank>(rt: &impl Abort, alloc: Global, bank: &mut B, checked: &Checked) -> Links
+    ensures linked { AreLinked checked.now.spec (B.store bank.new) result }
+    ensures same { HasMoreSymbols (B.store bank.old) (B.store bank.new) }
+{
+    Links::make(alloc, checked, bank).expect(rt, "links")
 }
 
 /// The matcher of a checked specification, whose symbols the bank gets.
-fn build<B: TermBank>(alloc: Global, bank: &mut B, checked: &Checked) -> Result<Matcher, Fail>
-    ensures ready { IfOk result (AreReady (B.store bank.new)) }
+fn build<B: TermBank>(rt: &impl Abort, alloc: Global, bank: &mut B, checked: &Checked) -> Matcher
+    ensures ready { AreReady (B.store bank.new) result }
     ensures same { HasMoreSymbols (B.store bank.old) (B.store bank.new) }
 {
-    let links = Links::make(alloc, checked, bank)?;
-    Ok(Matcher::build(alloc, checked, &links)?)
+    let links = link(rt, alloc, bank, checked);
+    Matcher::build(alloc, checked, &links).expect(rt, "a matcher")
 }
 
-/// The matcher of a specification, whose symbols the bank gets.
-fn matcher_of<B: TermBank>(alloc: Global, bank: &mut B, spec: &[u8]) -> Result<Matcher, Fail>
-    ensures ready { IfOk result (AreReady (B.store bank.new)) }
-    ensures same { HasMoreSymbols (B.store bank.old) (B.store bank.new) }
-{
-    let checked = checked(alloc, spec)?;
-    build(alloc, bank, &checked)
-}
-
-/// Which of these terms are one.
-fn are(alloc: Global, one: Term, terms: &[Term]) -> Result<Vec<bool>, Fail> {
-    let mut same = Vec::new(alloc);
-    for term in terms {
-        same.push(term.0 == one.0)?;
+/// Whether just these of some terms are one.
+fn are(one: Term, terms: &[Term], wanted: &[bool]) -> bool {
+    if terms.len() != wanted.len() {
+        return false;
     }
-    Ok(same)
+    for (term, is_one) in terms.iter().zip(wanted) {
+        if (term.0 == one.0) != *is_one {
+            return false;
+        }
+    }
+    true
 }
 
-/// What the matcher says of a term, from a rule on.
-fn answer<B: TermBank>(
+/// Stops where the matcher tells another rule of a term from a rule on, or other values.
+fn expect_answer<B: TermBank>(
+    rt: &impl Abort,
     alloc: Global,
     bank: &B,
     matcher: &Matcher,
     a: Term,
     u: Term,
-    from: u32,
-) -> Result<Said, Fail>
+    row: &Row,
+)
     requires held { IsSome (tree_at (B.store bank.now) u) }
     requires ready { AreReady (B.store bank.now) matcher.now }
 {
     let mut bind = SmallVec::new(alloc);
-    let rule = matcher.next(bank, u, from, &mut bind)?;
-    Ok(Said {
-        rule,
-        are_a: are(alloc, a, bind.as_slice())?,
-    })
+    let rule = matcher
+        .next(bank, u, row.1, &mut bind)
+        .expect(rt, "an answer");
+    let holds = rule == row.2 && are(a, bind.as_slice(), row.3);
+    assert!(rt; holds, "{} from {}", row.0, row.1);
 }
 
-/// What the matcher of a specification says of a text's term.
-fn ask_of<B: TermBank>(
+/// Stops where the matcher of a specification, whose symbols the bank gets, says something else of
+/// a row's term.
+fn expect_row<B: TermBank>(
+    rt: &impl Abort,
     alloc: Global,
     bank: &mut B,
-    spec: &[u8],
-    text: &[u8],
-    from: u32,
-) -> Result<Said, Fail> {
-    let a = read(alloc, b"a", bank)?;
-    let u = read(alloc, text, bank)?;
-    let matcher = matcher_of(alloc, bank, spec)?;
-    answer(alloc, bank, &matcher, a, u, from)
+    checked: &Checked,
+    row: &Row,
+) {
+    let a = term_of(rt, alloc, bank, b"a");
+    let u = term_of(rt, alloc, bank, row.0.as_bytes());
+    let matcher = build(rt, alloc, bank, checked);
+    assert!(rt; bank.holds(u));
+    expect_answer(rt, alloc, bank, &matcher, a, u, row);
 }
 
-/// The same, in a bank of its own.
-fn ask(alloc: Global, spec: &[u8], text: &[u8], from: u32) -> Result<Said, Fail> {
-    let mut bank = PlainBank::new(alloc, 100)?;
-    ask_of(alloc, &mut bank, spec, text, from)
+/// A bank of 100 cells that counts how often its nodes are read.
+fn counting(rt: &impl Abort, alloc: Global) -> Counting<PlainBank> {
+    Counting {
+        bank: plain_bank(rt, alloc, 100),
+        reads: Cell::new(0),
+    }
 }
 
-/// Asserts what the matcher of a specification says of a row's term.
-fn assert_row(rt: &impl Abort, alloc: Global, spec: &[u8], row: Row) -> Result<(), Fail> {
-    let (text, from, rule, are_a) = row;
-    let said = ask(alloc, spec, text, from)?;
-    assert_said(rt, &said, rule, are_a);
-    Ok(())
+/// The same in a bank of its own, of whose nodes few are read.
+fn expect_row_alone(rt: &impl Abort, alloc: Global, checked: &Checked, row: &Row) {
+    let mut bank = counting(rt, alloc);
+    expect_row(rt, alloc, &mut bank, checked, row);
+    expect(rt, bank.reads.get() < 100, row.0);
 }
 
-/// The same of each row.
-fn assert_rows(rt: &impl Abort, alloc: Global, spec: &[u8], rows: &[Row]) -> Result<(), Fail> {
+/// The same of each row, and of the text of a specification.
+fn expect_rows(rt: &impl Abort, alloc: Global, spec: &[u8], rows: &[Row]) {
+    let checked = checked(rt, alloc, spec);
     for row in rows {
-        assert_row(rt, alloc, spec, *row)?;
+        expect_row_alone(rt, alloc, &checked, row);
     }
-    Ok(())
 }
 
 #[test]
-fn overlapping_rules(rt: HostRuntime) -> Result<(), Fail> {
-    assert_rows(&rt, rt.alloc(), OVL, &OVERLAPPING)
+fn overlapping_rules(rt: HostRuntime) {
+    expect_rows(&rt, rt.alloc(), OVL, &OVERLAPPING);
 }
 
 #[test]
-fn overlapping_rules_of_pairs(rt: HostRuntime) -> Result<(), Fail> {
-    assert_rows(&rt, rt.alloc(), PAIRS, &OVERLAPPING_PAIRS)
+fn overlapping_rules_of_pairs(rt: HostRuntime) {
+    expect_rows(&rt, rt.alloc(), PAIRS, &OVERLAPPING_PAIRS);
 }
 
-/// How many trees the matcher of a specification has for the symbol of a number.
-fn trees(alloc: Global, spec: &[u8], number: usize) -> Result<usize, Fail> {
-    let mut bank = PlainBank::new(alloc, 10)?;
-    let matcher = matcher_of(alloc, &mut bank, spec)?;
+#[test]
+fn what_no_rule_matches(rt: HostRuntime) {
+    expect_rows(&rt, rt.alloc(), OVL, &UNMATCHED);
+}
+
+/// How many trees a matcher has for the symbol of a number.
+fn trees_of(matcher: &Matcher, number: usize) -> usize {
     match matcher.forest.roots.get(number) {
-        Some(roots) => Ok(roots.len()),
-        None => Ok(0),
+        Some(roots) => roots.len(),
+        None => 0,
     }
 }
 
+/// The same of the matcher of a checked specification.
+fn trees_in(rt: &impl Abort, alloc: Global, checked: &Checked, number: usize) -> usize {
+    let mut bank = counting(rt, alloc);
+    let matcher = build(rt, alloc, &mut bank, checked);
+    trees_of(&matcher, number)
+}
+
+/// The same of the text of a specification.
+fn trees(rt: &impl Abort, alloc: Global, spec: &[u8], number: usize) -> usize {
+    let checked = checked(rt, alloc, spec);
+    trees_in(rt, alloc, &checked, number)
+}
+
 #[test]
-fn the_rules_of_pairs_have_a_tree(rt: HostRuntime) -> Result<(), Fail> {
-    assert_eq!(rt; trees(rt.alloc(), PAIRS, 3)?, 1);
-    Ok(())
+fn the_rules_of_pairs_have_a_tree(rt: HostRuntime) {
+    assert!(rt; trees(&rt, rt.alloc(), PAIRS, 3) == 1);
 }
 
 /// The symbol `w` has number 2. One tree would have a leaf for each set of its arguments.
 #[test]
-fn the_rules_of_many_arguments_have_a_tree_each(rt: HostRuntime) -> Result<(), Fail> {
-    let spec = wide(rt.alloc())?;
-    assert_eq!(rt; trees(rt.alloc(), spec.as_bytes(), 2)?, 20);
-    Ok(())
+fn the_rules_of_many_arguments_have_a_tree_each(rt: HostRuntime) {
+    let spec = wide(&rt, rt.alloc());
+    assert!(rt; trees(&rt, rt.alloc(), &spec, 2) == 20);
 }
 
-#[test]
-fn what_no_rule_matches(rt: HostRuntime) -> Result<(), Fail> {
-    assert_rows(&rt, rt.alloc(), OVL, &UNMATCHED)
-}
-
-/// A bank of 100 cells that counts how often its nodes are read.
-fn counting(alloc: Global) -> Result<Counting<PlainBank>, Fail> {
-    Ok(Counting {
-        bank: PlainBank::new(alloc, 100)?,
-        reads: Cell::new(0),
-    })
-}
-
-/// What the matcher of a specification says of a text's term, where few nodes are read for it.
-fn ask_counting(
-    rt: &impl Abort,
-    alloc: Global,
-    spec: &[u8],
-    text: &[u8],
-    from: u32,
-) -> Result<Said, Fail> {
-    let mut bank = counting(alloc)?;
-    let said = ask_of(alloc, &mut bank, spec, text, from)?;
-    assert_few(rt, bank.reads.get());
-    Ok(said)
-}
-
-/// Asserts that these are few reads.
-fn assert_few(rt: &impl Abort, reads: u32) {
-    assert!(rt; reads < 100, "{reads}");
-}
-
-/// A text's end.
-fn push(text: &mut String, end: String) -> Result<(), Fail> {
-    text.push_str(end.as_str())?;
-    Ok(())
-}
-
-/// An argument of the operator `w`: the variable of its place, or `a`.
-fn push_argument(alloc: Global, text: &mut String, i: u32, place: u32) -> Result<(), Fail> {
-    if i == place {
-        text.push_str("a")?;
-        return Ok(());
-    }
-    push(text, format!(in alloc; "X{i}")?)
+/// Adds a number between two texts.
+fn push_number(rt: &impl Abort, text: &mut Vec<u8>, before: &str, number: u32, behind: &str) {
+    assert!(rt; write!(text, "{before}{number}{behind}").is_ok());
 }
 
 /// A rule of the operator `w`, whose left side has `a` at one place and variables at the others.
-fn push_rule(alloc: Global, text: &mut String, place: u32) -> Result<(), Fail> {
+fn push_rule(rt: &impl Abort, text: &mut Vec<u8>, place: u32) {
     for i in 1..=20 {
-        text.push_str(if i == 1 { " w(" } else { "," })?;
-        push_argument(alloc, text, i, place)?;
+        push(rt, text, if i == 1 { b" w(" } else { b"," });
+        if i == place {
+            push(rt, text, b"a");
+        } else {
+            push_number(rt, text, "X", i, "");
+        }
     }
-    text.push_str(") -> b")?;
-    Ok(())
-}
-
-/// The variables and the rules of the operator `w`.
-fn push_rules(alloc: Global, text: &mut String) -> Result<(), Fail> {
-    for i in 1..=20 {
-        push(text, format!(in alloc; " X{i}")?)?;
-    }
-    text.push_str(" : N RULES")?;
-    for place in 1..=20 {
-        push_rule(alloc, text, place)?;
-    }
-    text.push_str(" EVAL a END-SPEC")?;
-    Ok(())
+    push(rt, text, b") -> b");
 }
 
 /// A specification of an operator `w` with 20 arguments and a rule for each of them.
-fn wide(alloc: Global) -> Result<String, Fail> {
-    let mut text = String::from_str(
-        alloc,
-        "REC-SPEC Wide SORTS N \
-            CONS a : -> N b : -> N \
-            OPNS w : N N N N N N N N N N N N N N N N N N N N -> N \
-            VARS",
-    )?;
-    push_rules(alloc, &mut text)?;
-    Ok(text)
-}
-
-/// Asserts what the matcher of a specification says of a row's term.
-fn assert_wide(rt: &impl Abort, alloc: Global, spec: &[u8], row: Row) -> Result<(), Fail> {
-    let (text, from, rule, are_a) = row;
-    let said = ask_counting(rt, alloc, spec, text, from)?;
-    assert_said(rt, &said, rule, are_a);
-    Ok(())
+fn wide(rt: &impl Abort, alloc: Global) -> Vec<u8> {
+    let mut text = Vec::from_slice(alloc, HEAD_OF_WIDE).expect(rt, "memory");
+    for i in 1..=20 {
+        push_number(rt, &mut text, " X", i, "");
+    }
+    push(rt, &mut text, b" : N RULES");
+    for place in 1..=20 {
+        push_rule(rt, &mut text, place);
+    }
+    push(rt, &mut text, b" EVAL a END-SPEC");
+    text
 }
 
 #[test]
-fn a_rule_for_each_argument(rt: HostRuntime) -> Result<(), Fail> {
-    let spec = wide(rt.alloc())?;
-    for row in WIDE {
-        assert_wide(&rt, rt.alloc(), spec.as_bytes(), row)?;
-    }
-    Ok(())
-}
-
-/// So many constants, and a rule of the operator `k` for each of them.
-fn push_cases(alloc: Global, text: &mut String, count: u32) -> Result<(), Fail> {
-    for i in 0..count {
-        push(text, format!(in alloc; " c{i} : -> N")?)?;
-    }
-    text.push_str(" OPNS k : N -> N RULES")?;
-    for i in 0..count {
-        push(text, format!(in alloc; " k(c{i}) -> a")?)?;
-    }
-    text.push_str(" EVAL a END-SPEC")?;
-    Ok(())
+fn a_rule_for_each_argument(rt: HostRuntime) {
+    let spec = wide(&rt, rt.alloc());
+    expect_rows(&rt, rt.alloc(), &spec, &WIDE);
 }
 
 /// A specification of an operator `k` with a rule for each of so many constants.
-fn cases(alloc: Global, count: u32) -> Result<String, Fail> {
-    let mut text = String::from_str(alloc, "REC-SPEC Cases SORTS N CONS a : -> N")?;
-    push_cases(alloc, &mut text, count)?;
-    Ok(text)
+fn cases(rt: &impl Abort, alloc: Global, count: u32) -> Vec<u8> {
+    let mut text = Vec::from_slice(alloc, HEAD_OF_CASES).expect(rt, "memory");
+    for i in 0..count {
+        push_number(rt, &mut text, " c", i, " : -> N");
+    }
+    push(rt, &mut text, b" OPNS k : N -> N RULES");
+    for i in 0..count {
+        push_number(rt, &mut text, " k(c", i, ") -> a");
+    }
+    push(rt, &mut text, b" EVAL a END-SPEC");
+    text
 }
 
-/// The rule that the matcher of such a specification tells of a text's term.
-fn case_of(rt: &impl Abort, alloc: Global, count: u32, text: &[u8]) -> Result<Option<u32>, Fail> {
-    let spec = cases(alloc, count)?;
-    let said = ask_counting(rt, alloc, spec.as_bytes(), text, 0)?;
-    Ok(said.rule)
+/// Stops where the matcher of such a specification says something else of its rows' terms.
+fn expect_cases(rt: &impl Abort, alloc: Global, count: u32, rows: &[Row]) {
+    let spec = cases(rt, alloc, count);
+    expect_rows(rt, alloc, &spec, rows);
 }
 
 #[test]
-fn a_rule_for_each_constant(rt: HostRuntime) -> Result<(), Fail> {
-    for (count, text, rule) in CASES {
-        let told = case_of(&rt, rt.alloc(), count, text)?;
-        assert_eq!(rt; told, rule);
-    }
-    Ok(())
+fn a_rule_for_each_constant(rt: HostRuntime) {
+    expect_cases(&rt, rt.alloc(), 200, &CASES);
+    expect_cases(&rt, rt.alloc(), 5_000, &MANY_CASES);
 }

@@ -1,9 +1,8 @@
-use crate::rows::texts::push_nested;
+use crate::rows::texts::{Nest, blanks, expect, spec_of};
 use rec_syntax::TokenKind::*;
 use rec_syntax::*;
-use std::alloc::{AllocError, Global};
+use std::alloc::Global;
 use std::process::Abort;
-use std::test::Fail;
 
 const ADDITION: &[u8; 192] = b"REC-SPEC Add
 SORTS Nat
@@ -110,6 +109,9 @@ const PLACES: [(&str, u32); 6] = [
     ("REC-SPEC E EVAL f(a,) END-SPEC", 20),
 ];
 
+/// The letters of the sum, from its end on: where each word begins, and how many arguments it has.
+const NODES: [(usize, usize); 6] = [(174, 0), (172, 1), (170, 1), (180, 0), (178, 1), (165, 2)];
+
 /// The place of a text that is outside the grammar.
 fn place(answer: Result<Syntax, SyntaxFault>) -> Option<u32> {
     match answer {
@@ -118,136 +120,180 @@ fn place(answer: Result<Syntax, SyntaxFault>) -> Option<u32> {
     }
 }
 
-/// A specification with a word inside `depth` others, as a term to evaluate.
-fn nested(alloc: Global, depth: u32) -> Result<Vec<u8>, AllocError> {
-    let mut text = Vec::from_slice(alloc, b"REC-SPEC E EVAL ")?;
-    push_nested(&mut text, depth, (b"s(", b')'), b"z")?;
-    text.extend_from_slice(b" END-SPEC")?;
-    Ok(text)
+/// Whether a term has these nodes.
+fn has_nodes(term: &Term, wanted: &[(usize, usize)]) -> bool {
+    let nodes = term.nodes();
+    if nodes.len() != wanted.len() {
+        return false;
+    }
+    for (node, (from, count)) in nodes.iter().zip(wanted) {
+        if node.word.from != *from || node.count != *count {
+            return false;
+        }
+    }
+    true
 }
 
-/// A specification of this many bytes, most of them blanks.
-fn blank(alloc: Global, length: usize) -> Result<Vec<u8>, AllocError> {
-    let mut text = Vec::from_slice(alloc, b"REC-SPEC E END-SPEC")?;
-    for _ in 19..length {
-        text.push(b' ')?;
+/// How many sorts, constructors, operators, groups of variables, rules and terms there are.
+fn lengths(spec: &Syntax) -> [usize; 6] {
+    [
+        spec.sorts().len(),
+        spec.constructors().len(),
+        spec.operators().len(),
+        spec.groups().len(),
+        spec.rules().len(),
+        spec.terms().len(),
+    ]
+}
+
+fn expect_addition(rt: &impl Abort, spec: &Syntax) {
+    let name = spec.name();
+    assert!(rt; name.from == 9 && name.to == 12);
+    assert!(rt; lengths(spec) == [1, 2, 1, 1, 2, 1]);
+    for term in spec.terms() {
+        assert!(rt; has_nodes(term, &NODES));
     }
-    Ok(text)
 }
 
 #[test]
-fn addition(rt: HostRuntime) -> Result<(), Fail> {
-    let spec = read_spec(rt.alloc(), ADDITION)?;
-    let name = spec.name();
-    assert_eq!(rt; (name.from, name.to), (9, 12));
-    assert_eq!(rt; spec.sorts().len(), 1);
-    assert_eq!(rt; spec.constructors().len(), 2);
-    assert_eq!(rt; spec.operators().len(), 1);
-    assert_eq!(rt; spec.groups().len(), 1);
-    assert_eq!(rt; spec.rules().len(), 2);
-    assert_eq!(rt; spec.terms().len(), 1);
-    for term in spec.terms() {
-        let mut nodes = Vec::new(rt.alloc());
-        for node in term.nodes() {
-            nodes.push((node.word.from, node.count))?;
-        }
-        let wanted = [(174, 0), (172, 1), (170, 1), (180, 0), (178, 1), (165, 2)];
-        assert_eq!(rt; nodes.as_slice(), wanted.as_slice());
-    }
-    Ok(())
+fn addition(rt: HostRuntime) {
+    let spec = spec_of(&rt, rt.alloc(), ADDITION);
+    expect_addition(&rt, &spec);
 }
 
 #[test]
 fn places(rt: HostRuntime) {
-    for (text, at) in PLACES {
+    for (text, at) in &PLACES {
         let found = place(read_spec(rt.alloc(), text.as_bytes()));
-        assert_eq!(rt; found, Some(at), "{text}");
+        expect(&rt, found == Some(*at), text);
     }
-    assert_eq!(rt; place(read_spec(rt.alloc(), &ADDITION[..184])), Some(184));
+    assert!(rt; place(read_spec(rt.alloc(), &ADDITION[..184])) == Some(184));
 }
 
-/// Asserts what may stand behind the beginnings of texts.
-fn assert_expected(
-    rt: &impl Abort,
-    alloc: Global,
-    rows: &[(&str, &[TokenKind])],
-) -> Result<(), Fail> {
+/// What may stand where a text leaves the grammar.
+fn expected(rt: &impl Abort, alloc: Global, text: &[u8]) -> Vec<TokenKind> {
+    expected_at_fault(alloc, text).expect(rt, "kinds of tokens")
+}
+
+/// Stops where something else may stand behind the beginnings of texts.
+fn expect_kinds(rt: &impl Abort, alloc: Global, rows: &[(&str, &[TokenKind])]) {
     for (text, wanted) in rows {
-        let kinds = expected_at_fault(alloc, text.as_bytes())?;
-        assert_eq!(rt; kinds.as_slice(), *wanted, "{text}");
+        let kinds = expected(rt, alloc, text.as_bytes());
+        expect(rt, kinds.as_slice() == *wanted, text);
     }
-    Ok(())
 }
 
 #[test]
-fn expected_in_declarations(rt: HostRuntime) -> Result<(), Fail> {
-    assert_expected(&rt, rt.alloc(), &DECLARED)
+fn expected_in_declarations(rt: HostRuntime) {
+    expect_kinds(&rt, rt.alloc(), &DECLARED);
 }
 
 #[test]
-fn expected_in_terms(rt: HostRuntime) -> Result<(), Fail> {
-    assert_expected(&rt, rt.alloc(), &TERMS)
+fn expected_in_terms(rt: HostRuntime) {
+    expect_kinds(&rt, rt.alloc(), &TERMS);
 }
 
 #[test]
-fn nothing_is_expected_of_a_specification(rt: HostRuntime) -> Result<(), Fail> {
-    let kinds = expected_at_fault(rt.alloc(), ADDITION)?;
-    assert!(rt; kinds.is_empty());
-    Ok(())
+fn nothing_is_expected_of_a_specification(rt: HostRuntime) {
+    assert!(rt; expected(&rt, rt.alloc(), ADDITION).is_empty());
+}
+
+/// The specification of a text that it keeps.
+fn owned(rt: &impl Abort, alloc: Global, text: &[u8]) -> Result<Syntax, SyntaxFault> {
+    read_owned(alloc, Vec::from_slice(alloc, text).expect(rt, "memory"))
 }
 
 #[test]
-fn a_text_that_is_kept(rt: HostRuntime) -> Result<(), Fail> {
-    let alloc = rt.alloc();
-    let spec = read_owned(alloc, Vec::from_slice(alloc, ADDITION)?)?;
+fn a_text_that_is_kept(rt: HostRuntime) {
+    let spec = owned(&rt, rt.alloc(), ADDITION).expect(&rt, "a specification");
     assert!(rt; spec.source() == ADDITION.as_slice());
-    assert_eq!(rt; spec.rules().len(), 2);
-    let cut = Vec::from_slice(alloc, &ADDITION[..184])?;
-    assert_eq!(rt; place(read_owned(alloc, cut)), Some(184));
-    Ok(())
+    assert!(rt; spec.rules().len() == 2);
 }
 
 #[test]
-fn the_least_one(rt: HostRuntime) -> Result<(), Fail> {
-    let spec = read_spec(rt.alloc(), b"REC-SPEC E END-SPEC")?;
-    assert_eq!(rt; spec.source().len(), 19);
-    assert!(rt; spec.sorts().is_empty());
-    assert!(rt; spec.terms().is_empty());
-    Ok(())
+fn a_kept_text_outside_the_grammar(rt: HostRuntime) {
+    assert!(rt; place(owned(&rt, rt.alloc(), &ADDITION[..184])) == Some(184));
 }
 
 #[test]
-fn a_condition(rt: HostRuntime) -> Result<(), Fail> {
-    let text = b"REC-SPEC E RULES f(X) -> z if g(X) -><- z and-if X ->/<- z END-SPEC";
-    let spec = read_spec(rt.alloc(), text)?;
-    let mut marks = Vec::new(rt.alloc());
-    for rule in spec.rules() {
-        for condition in &rule.conditions {
-            marks.push(condition.equal)?;
+fn the_least_one(rt: HostRuntime) {
+    let spec = spec_of(&rt, rt.alloc(), b"REC-SPEC E END-SPEC");
+    assert!(rt; spec.source().len() == 19);
+    assert!(rt; spec.sorts().is_empty() && spec.terms().is_empty());
+}
+
+/// Whether the conditions of a rule have these marks: whether each wants equal terms.
+fn has_marks(rule: &Rule, marks: &[bool]) -> bool {
+    if rule.conditions.len() != marks.len() {
+        return false;
+    }
+    for (condition, mark) in rule.conditions.iter().zip(marks) {
+        if condition.equal != *mark {
+            return false;
         }
     }
-    assert_eq!(rt; marks.as_slice(), [true, false].as_slice());
-    Ok(())
+    true
+}
+
+fn expect_marks(rt: &impl Abort, spec: &Syntax) {
+    assert!(rt; spec.rules().len() == 1);
+    for rule in spec.rules() {
+        assert!(rt; has_marks(rule, &[true, false]));
+    }
 }
 
 #[test]
-fn a_million_deep(rt: HostRuntime) -> Result<(), Fail> {
-    let text = nested(rt.alloc(), 1_000_000)?;
-    let spec = read_spec(rt.alloc(), &text)?;
+fn a_condition(rt: HostRuntime) {
+    let text = b"REC-SPEC E RULES f(X) -> z if g(X) -><- z and-if X ->/<- z END-SPEC";
+    let spec = spec_of(&rt, rt.alloc(), text);
+    expect_marks(&rt, &spec);
+}
+
+/// A word inside a million others, as a term to evaluate.
+const DEEP: Nest = Nest {
+    before: b"REC-SPEC E EVAL ",
+    open: b"s(",
+    inner: b"z",
+    close: b')',
+    after: b" END-SPEC",
+    depth: 1_000_000,
+};
+
+fn expect_deep(rt: &impl Abort, spec: &Syntax) {
+    assert!(rt; spec.terms().len() == 1);
     for term in spec.terms() {
-        assert_eq!(rt; term.nodes().len(), 1_000_001);
+        assert!(rt; term.nodes().len() == 1_000_001);
     }
-    assert_eq!(rt; spec.terms().len(), 1);
-    Ok(())
 }
 
 #[test]
-fn the_longest(rt: HostRuntime) -> Result<(), Fail> {
-    let mut text = blank(rt.alloc(), 16_777_216)?;
+fn a_million_deep(rt: HostRuntime) {
+    let text = DEEP.text(&rt, rt.alloc());
+    let spec = spec_of(&rt, rt.alloc(), &text);
+    expect_deep(&rt, &spec);
+}
+
+/// Whether a text is too long for a specification.
+fn is_long(answer: Result<Syntax, SyntaxFault>) -> bool {
+    matches!(answer, Err(SyntaxFault::Long))
+}
+
+/// A specification of this many bytes, most of them blanks.
+fn blank(rt: &impl Abort, alloc: Global, length: usize) -> Vec<u8> {
+    let mut text = blanks(rt, alloc, length);
+    assert!(rt; text.len() > 19);
+    text[..19].copy_from_slice(b"REC-SPEC E END-SPEC");
+    text
+}
+
+#[test]
+fn the_longest(rt: HostRuntime) {
+    let text = blank(&rt, rt.alloc(), 16_777_216);
     assert!(rt; read_spec(rt.alloc(), &text).is_ok());
-    text.push(b' ')?;
-    match read_spec(rt.alloc(), &text) {
-        Err(SyntaxFault::Long) => Ok(()),
-        Ok(_) | Err(_) => Err("a text of 16,777,217 bytes is too long")?,
-    }
+}
+
+#[test]
+fn one_that_is_too_long(rt: HostRuntime) {
+    let text = blank(&rt, rt.alloc(), 16_777_217);
+    assert!(rt; is_long(read_spec(rt.alloc(), &text)));
 }

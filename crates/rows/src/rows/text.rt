@@ -1,4 +1,5 @@
-use crate::rows::texts::push_nested;
+use crate::rows::banks::{expect_text, plain_bank, shared_bank, term_of, text_of};
+use crate::rows::texts::{Nest, blanks, expect, push};
 use rx_plain::PlainBank;
 use rx_shared::SharedBank;
 use rx_term::TermBank;
@@ -6,11 +7,10 @@ use rx_text::TokenKind::*;
 use rx_text::{
     RefusedWrite, TextFault, TokenKind, WriteFault, expected_at_fault, put, read, write,
 };
-use std::alloc::{AllocError, Global};
+use std::alloc::Global;
 use std::io;
 use std::io::Write;
 use std::process::Abort;
-use std::test::*;
 
 /// What may stand where a term is due.
 const BEGINS: [(&str, &[TokenKind]); 8] = [
@@ -72,110 +72,171 @@ const PRINTED: [(&str, &str); 10] = [
 ];
 
 /// The offset of the token at which the text leaves the grammar.
-fn place(rt: &impl Abort, alloc: Global, text: &[u8]) -> Option<u32> {
-    let mut bank = PlainBank::new(alloc, 10).expect(rt, "a bank");
-    match read(alloc, text, &mut bank) {
+fn place(alloc: Global, bank: &mut PlainBank, text: &[u8]) -> Option<u32> {
+    match read(alloc, text, bank) {
         Err(TextFault::Grammar { at }) => Some(at),
         _ => None,
     }
 }
 
-/// Whether the tree that the first text spells is printed as the second.
-fn prints(rt: &impl Abort, alloc: Global, text: &[u8], printed: &[u8]) -> bool {
-    let mut bank = PlainBank::new(alloc, 1000).expect(rt, "a bank");
-    let mut out = Vec::new(alloc);
-    match read(alloc, text, &mut bank) {
-        Ok(t) => write(alloc, &bank, t, &mut out).is_ok() && out.as_slice() == printed,
-        Err(_) => false,
+fn expect_places(rt: &impl Abort, alloc: Global, bank: &mut PlainBank) {
+    for (text, at) in &PLACES {
+        let found = place(alloc, bank, text.as_bytes());
+        expect(rt, found == Some(*at), text);
+    }
+}
+
+/// What the tree that a text spells is printed as; nothing where it spells none.
+fn printed(rt: &impl Abort, alloc: Global, bank: &mut PlainBank, text: &[u8]) -> Vec<u8> {
+    match read(alloc, text, bank) {
+        Ok(t) => text_of(rt, alloc, bank, t),
+        Err(_) => Vec::new(alloc),
+    }
+}
+
+fn expect_printed(rt: &impl Abort, alloc: Global, bank: &mut PlainBank) {
+    for (text, wanted) in &PRINTED {
+        let found = printed(rt, alloc, bank, text.as_bytes());
+        expect(rt, found.as_slice() == wanted.as_bytes(), text);
+    }
+}
+
+/// The brackets are read before a bank without room for their lists is asked.
+fn expect_no_room(rt: &impl Abort, alloc: Global, bank: &mut PlainBank) {
+    let bytes = BRACKETS.text(rt, alloc);
+    assert!(rt; read(alloc, &bytes, bank) == Err(TextFault::Full));
+}
+
+/// A full bank answers that; a text with a fault is answered first.
+fn fill(rt: &impl Abort, alloc: Global, bank: &mut PlainBank) {
+    assert!(rt; read(alloc, b"[1,2,3]", bank) == Err(TextFault::Full));
+    assert!(rt; bank.cells() == bank.cap());
+    assert!(rt; read(alloc, b"[1,2,3", bank) == Err(TextFault::Grammar { at: 6 }));
+}
+
+/// Stops unless a term of eight bytes has room in so many, and no fewer.
+fn expect_room(rt: &impl Abort, alloc: Global, bank: &mut PlainBank) {
+    let t = term_of(rt, alloc, bank, b"f(a,[1])");
+    assert!(rt; bank.holds(t));
+    for left in 0..8 {
+        let mut out = Small { left };
+        assert!(rt; write(alloc, bank, t, &mut out) == Err(WriteFault::Write));
+        assert!(rt; out.left == 0);
+    }
+    assert!(rt; write(alloc, bank, t, &mut Small { left: 8 }).is_ok());
+}
+
+/// As many blanks as a text may have bytes, and one byte more.
+fn expect_long(rt: &impl Abort, alloc: Global, bank: &mut PlainBank) {
+    let mut bytes = blanks(rt, alloc, 16_777_216);
+    assert!(rt; read(alloc, &bytes, bank) == Err(TextFault::Grammar { at: 16_777_216 }));
+    push(rt, &mut bytes, b"a");
+    assert!(rt; read(alloc, &bytes, bank) == Err(TextFault::Long));
+}
+
+/// What a bank of so many cells is asked.
+#[derive(Drop)]
+enum Question {
+    Places,
+    Printed,
+    NoRoom,
+    Full,
+    Room,
+    Long,
+}
+
+/// Stops where a bank of no terms answers otherwise.
+fn ask(rt: &impl Abort, alloc: Global, cells: u32, question: &Question) {
+    let mut bank = plain_bank(rt, alloc, cells);
+    match question {
+        Question::Places => expect_places(rt, alloc, &mut bank),
+        Question::Printed => expect_printed(rt, alloc, &mut bank),
+        Question::NoRoom => expect_no_room(rt, alloc, &mut bank),
+        Question::Full => fill(rt, alloc, &mut bank),
+        Question::Room => expect_room(rt, alloc, &mut bank),
+        Question::Long => expect_long(rt, alloc, &mut bank),
     }
 }
 
 #[test]
 fn places(rt: HostRuntime) {
-    for (text, at) in PLACES {
-        let found = place(&rt, rt.alloc(), text.as_bytes());
-        assert_eq!(rt; found, Some(at), "{text}");
-    }
-}
-
-/// Asserts what may stand where the texts leave the grammar.
-fn assert_expected(
-    rt: &impl Abort,
-    alloc: Global,
-    rows: &[(&str, &[TokenKind])],
-) -> Result<(), Fail> {
-    for (text, wanted) in rows {
-        let kinds = expected_at_fault(alloc, text.as_bytes())?;
-        assert_eq!(rt; kinds.as_slice(), *wanted, "{text}");
-    }
-    Ok(())
-}
-
-#[test]
-fn expected_where_a_term_is_due(rt: HostRuntime) -> Result<(), Fail> {
-    assert_expected(&rt, rt.alloc(), &BEGINS)
-}
-
-#[test]
-fn expected_behind_a_term(rt: HostRuntime) -> Result<(), Fail> {
-    assert_expected(&rt, rt.alloc(), &BEHIND)
-}
-
-#[test]
-fn nothing_is_expected_of_a_term(rt: HostRuntime) -> Result<(), Fail> {
-    let kinds = expected_at_fault(rt.alloc(), b"f(a,[1,2]){b}")?;
-    assert!(rt; kinds.is_empty());
-    Ok(())
+    ask(&rt, rt.alloc(), 10, &Question::Places);
 }
 
 #[test]
 fn printed_texts(rt: HostRuntime) {
-    for (text, printed) in PRINTED {
-        let is_printed = prints(&rt, rt.alloc(), text.as_bytes(), printed.as_bytes());
-        assert!(rt; is_printed, "{text}");
+    ask(&rt, rt.alloc(), 1000, &Question::Printed);
+}
+
+#[test]
+fn two_million_brackets(rt: HostRuntime) {
+    ask(&rt, rt.alloc(), 2, &Question::NoRoom);
+}
+
+#[test]
+fn a_full_bank(rt: HostRuntime) {
+    ask(&rt, rt.alloc(), 3, &Question::Full);
+}
+
+#[test]
+fn a_writer_that_stops(rt: HostRuntime) {
+    ask(&rt, rt.alloc(), 100, &Question::Room);
+}
+
+#[test]
+fn too_long(rt: HostRuntime) {
+    ask(&rt, rt.alloc(), 10, &Question::Long);
+}
+
+/// What may stand where a text leaves the grammar.
+fn expected(rt: &impl Abort, alloc: Global, text: &[u8]) -> Vec<TokenKind> {
+    expected_at_fault(alloc, text).expect(rt, "kinds of tokens")
+}
+
+/// Stops where something else may stand where the texts leave the grammar.
+fn expect_kinds(rt: &impl Abort, alloc: Global, rows: &[(&str, &[TokenKind])]) {
+    for (text, wanted) in rows {
+        let kinds = expected(rt, alloc, text.as_bytes());
+        expect(rt, kinds.as_slice() == *wanted, text);
     }
 }
 
-/// So many opening brackets, and as many closing ones.
-fn nested(alloc: Global, depth: u32) -> Result<Vec<u8>, AllocError> {
-    let mut text = Vec::new(alloc);
-    push_nested(&mut text, depth, (b"[", b']'), b"")?;
-    Ok(text)
-}
-
-/// The brackets are read before a bank without room for their lists is asked.
 #[test]
-fn two_million_brackets(rt: HostRuntime) -> Result<(), Fail> {
-    let alloc = rt.alloc();
-    let bytes = nested(alloc, 2_000_000).ok().ok_or("memory")?;
-    let mut bank = PlainBank::new(alloc, 2).ok().ok_or("a bank")?;
-    assert!(rt; read(alloc, &bytes, &mut bank) == Err(TextFault::Full));
-    Ok(())
+fn expected_where_a_term_is_due(rt: HostRuntime) {
+    expect_kinds(&rt, rt.alloc(), &BEGINS);
 }
 
 #[test]
-fn two_million_levels(rt: HostRuntime) -> Result<(), Fail> {
-    let alloc = rt.alloc();
-    let bytes = nested(alloc, 2_000_000).ok().ok_or("memory")?;
-    let mut bank = SharedBank::new(alloc, 2_000_000).ok().ok_or("a bank")?;
-    let t = read(alloc, &bytes, &mut bank)
-        .ok()
-        .ok_or("the bytes are a term")?;
-    let mut out = Vec::new(alloc);
-    assert!(rt; write(alloc, &bank, t, &mut out).is_ok());
-    assert!(rt; out.as_slice() == bytes.as_slice());
-    Ok(())
+fn expected_behind_a_term(rt: HostRuntime) {
+    expect_kinds(&rt, rt.alloc(), &BEHIND);
 }
 
-/// A full bank answers that; a text with a fault is answered first.
 #[test]
-fn a_full_bank(rt: HostRuntime) -> Result<(), Fail> {
-    let alloc = rt.alloc();
-    let mut bank = PlainBank::new(alloc, 3).ok().ok_or("a bank")?;
-    assert!(rt; read(alloc, b"[1,2,3]", &mut bank) == Err(TextFault::Full));
-    assert!(rt; bank.cells() == bank.cap());
-    assert!(rt; read(alloc, b"[1,2,3", &mut bank) == Err(TextFault::Grammar { at: 6 }));
-    Ok(())
+fn nothing_is_expected_of_a_term(rt: HostRuntime) {
+    assert!(rt; expected(&rt, rt.alloc(), b"f(a,[1,2]){b}").is_empty());
+}
+
+/// Two million opening brackets, and as many closing ones.
+const BRACKETS: Nest = Nest {
+    before: b"",
+    open: b"[",
+    inner: b"",
+    close: b']',
+    after: b"",
+    depth: 2_000_000,
+};
+
+/// Stops where a text spells no term, or one with another text.
+fn expect_same(rt: &impl Abort, alloc: Global, bank: &mut SharedBank, text: &[u8]) {
+    let t = term_of(rt, alloc, bank, text);
+    expect_text(rt, alloc, bank, t, text);
+}
+
+#[test]
+fn two_million_levels(rt: HostRuntime) {
+    let bytes = BRACKETS.text(&rt, rt.alloc());
+    let mut bank = shared_bank(&rt, rt.alloc(), 2_000_000);
+    expect_same(&rt, rt.alloc(), &mut bank, &bytes);
 }
 
 /// A writer with room for so many bytes.
@@ -196,41 +257,12 @@ impl Write for Small {
     }
 }
 
-#[test]
-fn a_writer_that_stops(rt: HostRuntime) -> Result<(), Fail> {
-    let alloc = rt.alloc();
-    let mut bank = PlainBank::new(alloc, 100).ok().ok_or("a bank")?;
-    let t = read(alloc, b"f(a,[1])", &mut bank).ok().ok_or("a term")?;
-    for left in 0..8 {
-        let mut out = Small { left };
-        assert!(rt; write(alloc, &bank, t, &mut out) == Err(WriteFault::Write));
-        assert_eq!(rt; out.left, 0);
-    }
-    let mut out = Small { left: 8 };
-    assert!(rt; write(alloc, &bank, t, &mut out).is_ok());
-    Ok(())
-}
-
 /// What has no room is refused; the empty text needs none.
 #[test]
 fn a_text_beyond_the_room(rt: HostRuntime) {
     let mut out = Small { left: 3 };
     assert!(rt; put(&mut out, b"abc").is_ok());
-    assert_eq!(rt; out.left, 0);
+    assert!(rt; out.left == 0);
     assert!(rt; put(&mut out, b"d") == Err(RefusedWrite));
     assert!(rt; put(&mut out, b"").is_ok());
-}
-
-#[test]
-fn too_long(rt: HostRuntime) -> Result<(), Fail> {
-    let alloc = rt.alloc();
-    let mut bank = PlainBank::new(alloc, 10).ok().ok_or("a bank")?;
-    let mut bytes = Vec::new(alloc);
-    for _ in 0..16_777_216 {
-        bytes.push(b' ').ok().ok_or("memory")?;
-    }
-    assert!(rt; read(alloc, &bytes, &mut bank) == Err(TextFault::Grammar { at: 16_777_216 }));
-    bytes.push(b'a').ok().ok_or("memory")?;
-    assert!(rt; read(alloc, &bytes, &mut bank) == Err(TextFault::Long));
-    Ok(())
 }

@@ -1,9 +1,9 @@
 //! Texts that several rows take.
 
 use rec_sorts::{Checked, check};
-use rec_syntax::read_spec;
-use std::alloc::{AllocError, Global};
-use std::test::Fail;
+use rec_syntax::{Syntax, read_spec};
+use std::alloc::Global;
+use std::process::Abort;
 
 /// A specification of each section, with one rule.
 pub const Q: &str = "REC-SPEC Q \
@@ -23,24 +23,54 @@ pub const ADD: &str = "REC-SPEC Add \
     RULES plus(z,Y) -> Y plus(s(X),Y) -> s(plus(X,Y)) \
     EVAL plus(s(s(z)),s(z)) END-SPEC";
 
-/// The checked specification of a text.
-pub fn checked(alloc: Global, spec: &[u8]) -> Result<Checked, Fail> {
-    Ok(check(alloc, read_spec(alloc, spec)?)?)
+/// A text between others, so many times.
+#[derive(Drop)]
+pub struct Nest<'a> {
+    pub before: &'a [u8],
+    pub open: &'a [u8],
+    pub inner: &'a [u8],
+    pub close: u8,
+    pub after: &'a [u8],
+    pub depth: u32,
 }
 
-/// Adds a text between so many openings and as many closings.
-pub fn push_nested(
-    text: &mut Vec<u8>,
-    depth: u32,
-    (open, close): (&[u8], u8),
-    inner: &[u8],
-) -> Result<(), AllocError> {
-    for _ in 0..depth {
-        text.extend_from_slice(open)?;
+impl Nest<'_> {
+    /// The whole text.
+    pub fn text(&self, rt: &impl Abort, alloc: Global) -> Vec<u8> {
+        let mut text = Vec::from_slice(alloc, self.before).expect(rt, "memory");
+        for _ in 0..self.depth {
+            assert!(rt; text.extend_from_slice(self.open).is_ok());
+        }
+        push(rt, &mut text, self.inner);
+        for _ in 0..self.depth {
+            assert!(rt; text.push(self.close).is_ok());
+        }
+        push(rt, &mut text, self.after);
+        text
     }
-    text.extend_from_slice(inner)?;
-    for _ in 0..depth {
-        text.push(close)?;
-    }
-    Ok(())
+}
+
+/// So many blanks.
+pub fn blanks(rt: &impl Abort, alloc: Global, count: usize) -> Vec<u8> {
+    vec![in alloc; b' '; count].expect(rt, "memory")
+}
+
+/// Adds a text's end.
+pub fn push(rt: &impl Abort, text: &mut Vec<u8>, end: &[u8]) {
+    assert!(rt; text.extend_from_slice(end).is_ok());
+}
+
+/// Stops where a row does not hold.
+pub fn expect(rt: &impl Abort, holds: bool, row: &str) {
+    assert!(rt; holds, "{row}");
+}
+
+/// The specification of a text.
+pub fn spec_of(rt: &impl Abort, alloc: Global, spec: &[u8]) -> Syntax {
+    read_spec(alloc, spec).expect(rt, "a specification")
+}
+
+/// The checked specification of a text.
+pub fn checked(rt: &impl Abort, alloc: Global, spec: &[u8]) -> Checked {
+    check(alloc, spec_of(rt, alloc, spec)).expect(rt, "a checked specification")
 }

@@ -3,13 +3,13 @@
 ghost use Rattle.rec_engine.specs.Engine.{SameEngine};
 ghost use Rattle.rec_trace.specs.Tracing.{Stands};
 
-use rec_engine::{Engine, Options};
-use rec_sorts::check;
-use rec_syntax::read_spec;
+use crate::rows::banks::{expect_text, plain_bank, term_of};
+use crate::rows::cases::{ANEW, Bank, Case, Question, expect_case};
+use crate::rows::texts::expect;
+use rec_engine::Engine;
 use rec_trace::{Look, Spot, Tracer, Turn, spot_of, write_firing, write_whole};
 use rx_plain::PlainBank;
-use rx_term::{Term, TermBank};
-use rx_text::{read, write};
+use rx_term::TermBank;
 use std::alloc::Global;
 use std::process::Abort;
 
@@ -50,47 +50,11 @@ const CUT: Look = Look {
     width: Some(7),
 };
 
-/// The term of a text.
-fn term_of(rt: &impl Abort, alloc: Global, bank: &mut PlainBank, text: &[u8]) -> Term {
-    read(alloc, text, bank).expect(rt, "a term")
-}
-
 /// A redex, and what it becomes.
 const ADDED: (&[u8], &[u8]) = (b"add(s(z),z)", b"s(add(z,z))");
 
 /// A redex of seven bytes.
 const SHORT: (&[u8], &[u8]) = (b"f(a,bc)", b"b");
-
-/// Stops where the line of this firing is another one.
-fn expect_firing(rt: &impl Abort, alloc: Global, texts: (&[u8], &[u8]), look: Look, wanted: &[u8]) {
-    let mut bank = PlainBank::new(alloc, 100).expect(rt, "a bank");
-    let redex = term_of(rt, alloc, &mut bank, texts.0);
-    let contractum = term_of(rt, alloc, &mut bank, texts.1);
-    assert!(rt; bank.holds(redex) && bank.holds(contractum));
-    let spot = Spot {
-        line: 7,
-        column: 10,
-    };
-    let mut line = Vec::new(alloc);
-    let written = write_firing(alloc, &bank, spot, redex, contractum, 3, look, &mut line);
-    assert!(rt; written.is_ok());
-    assert!(rt; line.as_slice() == wanted);
-}
-
-/// Stops where the line of this whole term is another one.
-fn expect_whole(rt: &impl Abort, alloc: Global, text: &[u8], look: Look, wanted: &[u8]) {
-    let mut bank = PlainBank::new(alloc, 100).expect(rt, "a bank");
-    let whole = term_of(rt, alloc, &mut bank, text);
-    assert!(rt; bank.holds(whole));
-    let spot = Spot {
-        line: 12,
-        column: 1,
-    };
-    let mut line = Vec::new(alloc);
-    let written = write_whole(alloc, &bank, spot, whole, 40, look, &mut line);
-    assert!(rt; written.is_ok());
-    assert!(rt; line.as_slice() == wanted);
-}
 
 #[test]
 fn spots(rt: HostRuntime) {
@@ -101,59 +65,75 @@ fn spots(rt: HostRuntime) {
     }
 }
 
+/// The texts of a redex and what it becomes, a look, and the line.
+type Firing = ((&'static [u8], &'static [u8]), Look, &'static str);
+
+const FIRINGS: [Firing; 4] = [
+    (ADDED, PLAIN, "7:10: add(s(z),z) -> s(add(z,z))\n"),
+    (ADDED, COUNTED, "7:10: add(s(z),z) -> s(add(z,z))\t3\n"),
+    (ADDED, CUT, "7:10: add(... -> s(ad...\n"),
+    (SHORT, CUT, "7:10: f(a,bc) -> b\n"),
+];
+
+/// A look at `s(add(z,z))`, and the line.
+type Whole = (Look, &'static str);
+
+const WHOLE_TERMS: [Whole; 3] = [
+    (PLAIN, "12:1: s(add(z,z))\n"),
+    (COUNTED, "12:1: s(add(z,z))\t40\n"),
+    (CUT, "12:1: s(ad...\n"),
+];
+/// The line of a firing, in this bank.
+fn line_of_firing(
+    rt: &impl Abort,
+    alloc: Global,
+    bank: &mut PlainBank,
+    texts: (&[u8], &[u8]),
+    look: Look,
+) -> Vec<u8> {
+    let redex = term_of(rt, alloc, bank, texts.0);
+    let contractum = term_of(rt, alloc, bank, texts.1);
+    assert!(rt; bank.holds(redex) && bank.holds(contractum));
+    let spot = Spot {
+        line: 7,
+        column: 10,
+    };
+    let mut line = Vec::new(alloc);
+    let written = write_firing(alloc, bank, spot, redex, contractum, 3, look, &mut line);
+    assert!(rt; written.is_ok());
+    line
+}
+
+/// The line of the whole term, in this bank.
+fn line_of_whole(rt: &impl Abort, alloc: Global, bank: &mut PlainBank, look: Look) -> Vec<u8> {
+    let whole = term_of(rt, alloc, bank, b"s(add(z,z))");
+    assert!(rt; bank.holds(whole));
+    let spot = Spot {
+        line: 12,
+        column: 1,
+    };
+    let mut line = Vec::new(alloc);
+    let written = write_whole(alloc, bank, spot, whole, 40, look, &mut line);
+    assert!(rt; written.is_ok());
+    line
+}
+
 #[test]
 fn firings(rt: HostRuntime) {
-    let alloc = rt.alloc();
-    expect_firing(
-        &rt,
-        alloc,
-        ADDED,
-        PLAIN,
-        b"7:10: add(s(z),z) -> s(add(z,z))\n",
-    );
-    expect_firing(
-        &rt,
-        alloc,
-        ADDED,
-        COUNTED,
-        b"7:10: add(s(z),z) -> s(add(z,z))\t3\n",
-    );
-    expect_firing(&rt, alloc, ADDED, CUT, b"7:10: add(... -> s(ad...\n");
-    expect_firing(&rt, alloc, SHORT, CUT, b"7:10: f(a,bc) -> b\n");
+    let mut bank = plain_bank(&rt, rt.alloc(), 100);
+    for (texts, look, wanted) in &FIRINGS {
+        let line = line_of_firing(&rt, rt.alloc(), &mut bank, *texts, *look);
+        expect(&rt, line.as_slice() == wanted.as_bytes(), wanted);
+    }
 }
 
 #[test]
 fn whole_terms(rt: HostRuntime) {
-    let alloc = rt.alloc();
-    expect_whole(&rt, alloc, b"s(add(z,z))", PLAIN, b"12:1: s(add(z,z))\n");
-    expect_whole(
-        &rt,
-        alloc,
-        b"s(add(z,z))",
-        COUNTED,
-        b"12:1: s(add(z,z))\t40\n",
-    );
-    expect_whole(&rt, alloc, b"s(add(z,z))", CUT, b"12:1: s(ad...\n");
-}
-
-/// An engine for the specification.
-fn engine_for(rt: &impl Abort, alloc: Global) -> Engine<PlainBank> {
-    let syntax = read_spec(alloc, SPEC).expect(rt, "a specification");
-    let checked = check(alloc, syntax).expect(rt, "a checked specification");
-    let bank = PlainBank::new(alloc, 1000).expect(rt, "a bank");
-    let options = Options {
-        memo: 0,
-        reclaim_every: 1,
-    };
-    Engine::new(alloc, checked, bank, options).expect(rt, "an engine")
-}
-
-/// Stops where a term has another text.
-fn expect_text<B: TermBank>(rt: &impl Abort, alloc: Global, bank: &B, t: Term, wanted: &[u8]) {
-    assert!(rt; bank.holds(t));
-    let mut text = Vec::new(alloc);
-    assert!(rt; write(alloc, bank, t, &mut text).is_ok());
-    assert!(rt; text.as_slice() == wanted);
+    let mut bank = plain_bank(&rt, rt.alloc(), 100);
+    for (look, wanted) in &WHOLE_TERMS {
+        let line = line_of_whole(&rt, rt.alloc(), &mut bank, *look);
+        expect(&rt, line.as_slice() == wanted.as_bytes(), wanted);
+    }
 }
 
 /// The next step of a trace, which is a firing or the value.
@@ -253,47 +233,88 @@ const BEHIND: Fired = Fired {
     left: 3,
 };
 
+/// Stops where the trace of the sum has other steps.
+fn trace_sum<B: TermBank>(rt: &impl Abort, alloc: Global, engine: &mut Engine<B>) {
+    assert!(rt; engine.eval_terms() == 2);
+    let mut tracer = Tracer::of_eval(alloc, engine, 0, 5).expect(rt, "a trace");
+    expect_fired(rt, alloc, engine, &mut tracer, &FIRST);
+    expect_fired(rt, alloc, engine, &mut tracer, &SECOND);
+    expect_value(rt, alloc, engine, &mut tracer, b"s(s(z))");
+}
+
+/// The same beside the whole terms.
+fn trace_whole<B: TermBank>(rt: &impl Abort, alloc: Global, engine: &mut Engine<B>) {
+    assert!(rt; engine.eval_terms() == 2);
+    let mut tracer = Tracer::of_eval(alloc, engine, 0, 5).expect(rt, "a trace");
+    expect_whole_term(rt, alloc, engine, &tracer, b"add(s(z),s(z))");
+    expect_fired(rt, alloc, engine, &mut tracer, &FIRST);
+    expect_whole_term(rt, alloc, engine, &tracer, b"s(add(z,s(z)))");
+    expect_fired(rt, alloc, engine, &mut tracer, &SECOND);
+    expect_whole_term(rt, alloc, engine, &tracer, b"s(s(z))");
+    expect_value(rt, alloc, engine, &mut tracer, b"s(s(z))");
+}
+
+/// The same of a term with a condition.
+fn trace_condition<B: TermBank>(rt: &impl Abort, alloc: Global, engine: &mut Engine<B>) {
+    assert!(rt; engine.eval_terms() == 2);
+    let mut tracer = Tracer::of_eval(alloc, engine, 1, 5).expect(rt, "a trace");
+    expect_fired(rt, alloc, engine, &mut tracer, &BEHIND);
+    expect_value(rt, alloc, engine, &mut tracer, b"s(z)");
+}
+
+/// Stops unless a trace of no steps is at its limit.
+fn trace_nothing<B: TermBank>(rt: &impl Abort, alloc: Global, engine: &mut Engine<B>) {
+    assert!(rt; engine.eval_terms() == 2);
+    let mut tracer = Tracer::of_eval(alloc, engine, 0, 0).expect(rt, "a trace");
+    let turn = tracer.next_step(alloc, engine).expect(rt, "a step");
+    assert!(rt; matches!(turn, Turn::Limit));
+}
+
+/// What is traced.
+#[derive(Drop)]
+pub enum Traced {
+    Sum,
+    WholeTerms,
+    Condition,
+    Nothing,
+}
+
+/// Stops where another trace comes of an engine for the specification.
+pub fn ask<B: TermBank>(rt: &impl Abort, alloc: Global, engine: &mut Engine<B>, traced: &Traced) {
+    match traced {
+        Traced::Sum => trace_sum(rt, alloc, engine),
+        Traced::WholeTerms => trace_whole(rt, alloc, engine),
+        Traced::Condition => trace_condition(rt, alloc, engine),
+        Traced::Nothing => trace_nothing(rt, alloc, engine),
+    }
+}
+
+/// The engine of a trace.
+fn case(traced: Traced) -> Case {
+    Case {
+        spec: SPEC,
+        options: ANEW,
+        bank: Bank::Plain(1000),
+        question: Question::Trace(traced),
+    }
+}
+
 #[test]
 fn sums(rt: HostRuntime) {
-    let alloc = rt.alloc();
-    let mut engine = engine_for(&rt, alloc);
-    assert!(rt; engine.eval_terms() == 2);
-    let mut tracer = Tracer::of_eval(alloc, &mut engine, 0, 5).expect(&rt, "a trace");
-    expect_fired(&rt, alloc, &mut engine, &mut tracer, &FIRST);
-    expect_fired(&rt, alloc, &mut engine, &mut tracer, &SECOND);
-    expect_value(&rt, alloc, &mut engine, &mut tracer, b"s(s(z))");
+    expect_case(&rt, rt.alloc(), &case(Traced::Sum));
 }
 
 #[test]
 fn whole_terms_of_a_trace(rt: HostRuntime) {
-    let alloc = rt.alloc();
-    let mut engine = engine_for(&rt, alloc);
-    assert!(rt; engine.eval_terms() == 2);
-    let mut tracer = Tracer::of_eval(alloc, &mut engine, 0, 5).expect(&rt, "a trace");
-    expect_whole_term(&rt, alloc, &mut engine, &tracer, b"add(s(z),s(z))");
-    expect_fired(&rt, alloc, &mut engine, &mut tracer, &FIRST);
-    expect_whole_term(&rt, alloc, &mut engine, &tracer, b"s(add(z,s(z)))");
-    expect_fired(&rt, alloc, &mut engine, &mut tracer, &SECOND);
-    expect_whole_term(&rt, alloc, &mut engine, &tracer, b"s(s(z))");
-    expect_value(&rt, alloc, &mut engine, &mut tracer, b"s(s(z))");
+    expect_case(&rt, rt.alloc(), &case(Traced::WholeTerms));
 }
 
 #[test]
 fn conditions(rt: HostRuntime) {
-    let alloc = rt.alloc();
-    let mut engine = engine_for(&rt, alloc);
-    assert!(rt; engine.eval_terms() == 2);
-    let mut tracer = Tracer::of_eval(alloc, &mut engine, 1, 5).expect(&rt, "a trace");
-    expect_fired(&rt, alloc, &mut engine, &mut tracer, &BEHIND);
-    expect_value(&rt, alloc, &mut engine, &mut tracer, b"s(z)");
+    expect_case(&rt, rt.alloc(), &case(Traced::Condition));
 }
 
 #[test]
 fn limits(rt: HostRuntime) {
-    let alloc = rt.alloc();
-    let mut engine = engine_for(&rt, alloc);
-    assert!(rt; engine.eval_terms() == 2);
-    let mut tracer = Tracer::of_eval(alloc, &mut engine, 0, 0).expect(&rt, "a trace");
-    let turn = tracer.next_step(alloc, &mut engine).expect(&rt, "a step");
-    assert!(rt; matches!(turn, Turn::Limit));
+    expect_case(&rt, rt.alloc(), &case(Traced::Nothing));
 }

@@ -3,10 +3,9 @@
 ghost use Rattle.std.specs.Prelude.{◌≡◌, IsSome};
 ghost use Rattle.rx_term.specs.Store.{tree_at};
 
-use crate::rows::engine::{
-    ADD, OPTIONS, TWENTY, engine_for, expect_text, is_room, outcome_of, plain_bank, shared_bank,
-    value_of,
-};
+use crate::rows::banks::expect_text;
+use crate::rows::cases::{Bank, Case, OPTIONS, Question, expect_case};
+use crate::rows::engine::{ADD, TWENTY, is_room, outcome_of, value_of};
 use rec_engine::{Engine, Outcome};
 use rx_term::{Term, TermBank};
 use smallvec::SmallVec;
@@ -88,27 +87,25 @@ fn list_of<B: TermBank>(rt: &impl Abort, engine: &mut Engine<B>, value: Term) ->
 
 /// Stops where a value of the addition has another text, or a sum takes other steps. In
 /// `add(s(z),z)` the second rule is used, and then the first.
-fn makes_values<B: TermBank + Drop>(rt: &impl Abort, alloc: Global, bank: B) {
-    let mut engine = engine_for(rt, alloc, ADD, bank, OPTIONS);
+fn makes_values<B: TermBank>(rt: &impl Abort, alloc: Global, engine: &mut Engine<B>) {
     let empty = engine.nil().expect(rt, "the empty list");
     expect_text(rt, alloc, engine.bank(), empty, b"[]");
-    let zero = constant(rt, &mut engine, empty, ZERO);
-    let one = applied(rt, &mut engine, SUCCESSOR, zero);
-    let sum = applied_to_both(rt, &mut engine, ADDITION, (one, zero));
+    let zero = constant(rt, engine, empty, ZERO);
+    let one = applied(rt, engine, SUCCESSOR, zero);
+    let sum = applied_to_both(rt, engine, ADDITION, (one, zero));
     expect_text(rt, alloc, engine.bank(), sum, b"add(s(z),z)");
-    let list = list_of(rt, &mut engine, sum);
+    let list = list_of(rt, engine, sum);
     expect_text(rt, alloc, engine.bank(), list, b"[add(s(z),z)]");
 }
 
 /// The same of calls.
-fn calls_values<B: TermBank + Drop>(rt: &impl Abort, alloc: Global, bank: B) {
-    let mut engine = engine_for(rt, alloc, ADD, bank, OPTIONS);
+fn calls_values<B: TermBank>(rt: &impl Abort, alloc: Global, engine: &mut Engine<B>) {
     let empty = engine.nil().expect(rt, "the empty list");
-    let zero = constant(rt, &mut engine, empty, ZERO);
-    let one = applied(rt, &mut engine, SUCCESSOR, zero);
+    let zero = constant(rt, engine, empty, ZERO);
+    let one = applied(rt, engine, SUCCESSOR, zero);
     let both = (one, zero);
-    assert!(rt; value_of(called_on_both(rt, &mut engine, ADDITION, both, 1)).is_none());
-    let outcome = called_on_both(rt, &mut engine, ADDITION, both, 2);
+    assert!(rt; value_of(called_on_both(rt, engine, ADDITION, both, 1)).is_none());
+    let outcome = called_on_both(rt, engine, ADDITION, both, 2);
     let (value, steps) = value_of(outcome).expect(rt, "a value");
     assert!(rt; value == one && steps == 2);
     expect_text(rt, alloc, engine.bank(), one, b"s(z)");
@@ -130,14 +127,13 @@ fn first_rule<B: TermBank>(
 }
 
 /// Stops where another rule matches `add(s(z),z)` than the second one, or any matches `s(z)`.
-fn tells_rules<B: TermBank + Drop>(rt: &impl Abort, alloc: Global, bank: B) {
-    let mut engine = engine_for(rt, alloc, ADD, bank, OPTIONS);
+fn tells_rules<B: TermBank>(rt: &impl Abort, alloc: Global, engine: &mut Engine<B>) {
     let empty = engine.nil().expect(rt, "the empty list");
-    let zero = constant(rt, &mut engine, empty, ZERO);
-    let one = applied(rt, &mut engine, SUCCESSOR, zero);
-    let sum = applied_to_both(rt, &mut engine, ADDITION, (one, zero));
-    assert!(rt; first_rule(rt, alloc, &engine, sum) == Some(1));
-    assert!(rt; first_rule(rt, alloc, &engine, one) == None);
+    let zero = constant(rt, engine, empty, ZERO);
+    let one = applied(rt, engine, SUCCESSOR, zero);
+    let sum = applied_to_both(rt, engine, ADDITION, (one, zero));
+    assert!(rt; first_rule(rt, alloc, engine, sum) == Some(1));
+    assert!(rt; first_rule(rt, alloc, engine, one) == None);
 }
 
 /// Whether there is no room for the term of a number.
@@ -150,37 +146,79 @@ fn lacks_room<B: TermBank>(rt: &impl Abort, engine: &mut Engine<B>, i: u32) -> b
 
 /// Stops unless the value of the first term keeps its four cells while it is protected, so that
 /// there is no room for the three more of the second term, and gives them up afterwards.
-fn keeps_protected<B: TermBank + Drop>(rt: &impl Abort, alloc: Global, bank: B) {
-    let mut engine = engine_for(rt, alloc, TWENTY, bank, OPTIONS);
-    let (value, _) = value_of(outcome_of(rt, &mut engine, 0, 0)).expect(rt, "a value");
+fn keeps_protected<B: TermBank>(rt: &impl Abort, alloc: Global, engine: &mut Engine<B>) {
+    let (value, _) = value_of(outcome_of(rt, engine, 0, 0)).expect(rt, "a value");
     assert!(rt; engine.bank().holds(value));
     engine.protect(value).expect(rt, "a root");
-    assert!(rt; lacks_room(rt, &mut engine, 1));
+    assert!(rt; lacks_room(rt, engine, 1));
     expect_text(rt, alloc, engine.bank(), value, b"h(c1)");
     engine.unprotect(value);
-    assert!(rt; !lacks_room(rt, &mut engine, 1));
+    assert!(rt; !lacks_room(rt, engine, 1));
+}
+
+/// What is done with values.
+#[derive(Drop)]
+pub enum Values {
+    Make,
+    Call,
+    TellRules,
+    Protect,
+}
+
+const MADE: Case = Case {
+    spec: ADD,
+    options: OPTIONS,
+    bank: Bank::Plain(100),
+    question: Question::Values(Values::Make),
+};
+
+const CALLED: Case = Case {
+    spec: ADD,
+    options: OPTIONS,
+    bank: Bank::Shared(100),
+    question: Question::Values(Values::Call),
+};
+
+const RULES: Case = Case {
+    spec: ADD,
+    options: OPTIONS,
+    bank: Bank::Plain(100),
+    question: Question::Values(Values::TellRules),
+};
+
+const PROTECTED: Case = Case {
+    spec: TWENTY,
+    options: OPTIONS,
+    bank: Bank::Plain(6),
+    question: Question::Values(Values::Protect),
+};
+
+/// Stops where something else comes of values.
+pub fn ask<B: TermBank>(rt: &impl Abort, alloc: Global, engine: &mut Engine<B>, values: &Values) {
+    match values {
+        Values::Make => makes_values(rt, alloc, engine),
+        Values::Call => calls_values(rt, alloc, engine),
+        Values::TellRules => tells_rules(rt, alloc, engine),
+        Values::Protect => keeps_protected(rt, alloc, engine),
+    }
 }
 
 #[test]
 fn values_that_are_made(rt: HostRuntime) {
-    let alloc = rt.alloc();
-    makes_values(&rt, alloc, plain_bank(&rt, alloc, 100));
+    expect_case(&rt, rt.alloc(), &MADE);
 }
 
 #[test]
 fn calls_on_values(rt: HostRuntime) {
-    let alloc = rt.alloc();
-    calls_values(&rt, alloc, shared_bank(&rt, alloc, 100));
+    expect_case(&rt, rt.alloc(), &CALLED);
 }
 
 #[test]
 fn rules_of_an_engine(rt: HostRuntime) {
-    let alloc = rt.alloc();
-    tells_rules(&rt, alloc, plain_bank(&rt, alloc, 100));
+    expect_case(&rt, rt.alloc(), &RULES);
 }
 
 #[test]
 fn protected_values(rt: HostRuntime) {
-    let alloc = rt.alloc();
-    keeps_protected(&rt, alloc, plain_bank(&rt, alloc, 6));
+    expect_case(&rt, rt.alloc(), &PROTECTED);
 }

@@ -1,11 +1,9 @@
 //! The rules, row by row.
 
-use crate::rows::texts::{Q, checked, push_nested};
+use crate::rows::texts::{Nest, Q, checked, expect, spec_of};
 use rec_sorts::{Checked, Letter, Meaning, SortFault, check};
-use rec_syntax::{Syntax, read_spec};
-use std::alloc::{AllocError, Global};
+use std::alloc::Global;
 use std::process::Abort;
-use std::test::Fail;
 
 /// A part of the specification, what it becomes, and the rule that is broken then, with its place.
 type Changed = (&'static str, &'static str, (u8, u32));
@@ -48,124 +46,116 @@ const REFUSED: [Refused; 3] = [
     ),
 ];
 
-fn fault_of(alloc: Global, syntax: Syntax) -> Result<Option<(u8, u32)>, Fail> {
-    match check(alloc, syntax) {
-        Err(SortFault::Rule { number, at }) => Ok(Some((number, at))),
-        Err(SortFault::Memory) => Err(Fail::from("memory")),
-        Ok(_) => Ok(None),
+/// The rule that a specification breaks, and where; none of number 0 stands for want of memory.
+fn fault(rt: &impl Abort, alloc: Global, text: &[u8]) -> Option<(u8, u32)> {
+    match check(alloc, spec_of(rt, alloc, text)) {
+        Err(SortFault::Rule { number, at }) => Some((number, at)),
+        Err(SortFault::Memory) => Some((0, 0)),
+        Ok(_) => None,
     }
 }
 
-/// The rule that a specification breaks, and where.
-fn fault(alloc: Global, text: &[u8]) -> Result<Option<(u8, u32)>, Fail> {
-    fault_of(alloc, read_spec(alloc, text)?)
-}
-
-/// The same of the specification with a part changed.
-fn fault_changed(alloc: Global, part: &str, changed: &str) -> Result<Option<(u8, u32)>, Fail> {
-    let text = Q.replace(alloc, part, changed)?;
-    fault(alloc, text.as_bytes())
+/// The specification with a part changed.
+fn changed_spec(rt: &impl Abort, alloc: Global, part: &str, changed: &str) -> String {
+    Q.replace(alloc, part, changed).expect(rt, "a text")
 }
 
 #[test]
-fn changed_parts(rt: HostRuntime) -> Result<(), Fail> {
-    for (part, changed, wanted) in CHANGED {
-        let found = fault_changed(rt.alloc(), part, changed)?;
-        assert_eq!(rt; found, Some(wanted), "{changed}");
+fn changed_parts(rt: HostRuntime) {
+    for (part, changed, wanted) in &CHANGED {
+        let text = changed_spec(&rt, rt.alloc(), part, changed);
+        let found = fault(&rt, rt.alloc(), text.as_bytes());
+        expect(&rt, found == Some(*wanted), changed);
     }
-    Ok(())
 }
 
 #[test]
-fn the_fault_that_is_told(rt: HostRuntime) -> Result<(), Fail> {
-    for (text, wanted) in REFUSED {
-        let found = fault(rt.alloc(), text.as_bytes())?;
-        assert_eq!(rt; found, Some(wanted), "{text}");
+fn the_fault_that_is_told(rt: HostRuntime) {
+    for (text, wanted) in &REFUSED {
+        let found = fault(&rt, rt.alloc(), text.as_bytes());
+        expect(&rt, found == Some(*wanted), text);
     }
-    Ok(())
 }
 
 #[test]
-fn good(rt: HostRuntime) -> Result<(), Fail> {
-    let found = fault(rt.alloc(), Q.as_bytes())?;
-    assert_eq!(rt; found, None);
-    Ok(())
+fn good(rt: HostRuntime) {
+    assert!(rt; fault(&rt, rt.alloc(), Q.as_bytes()) == None);
 }
 
-const NUMBERS: &[u8] = b"REC-SPEC N SORTS A CONS z : -> A s : A -> A EVAL ";
+/// A text of more than 100,000 bytes, with one term of 34,000 words `s` around `z`.
+const DEEP: Nest = Nest {
+    before: b"REC-SPEC N SORTS A CONS z : -> A s : A -> A EVAL ",
+    open: b"s(",
+    inner: b"z",
+    close: b')',
+    after: b" END-SPEC",
+    depth: 34_000,
+};
 
-/// A text of more than 100,000 bytes, with one term of 34,000 words `s` around another word.
-fn deep(alloc: Global, innermost: &[u8]) -> Result<Vec<u8>, AllocError> {
-    let mut text = Vec::from_slice(alloc, NUMBERS)?;
-    push_nested(&mut text, 34_000, (b"s(", b')'), innermost)?;
-    text.extend_from_slice(b" END-SPEC")?;
-    Ok(text)
+/// The same around a word that isn't declared.
+const DEEP_FAULT: Nest = Nest {
+    inner: b"y",
+    ..DEEP
+};
+
+fn expect_deep_letters(rt: &impl Abort, letters: &[Letter]) {
+    assert!(rt; letters.len() == 34_001);
+    assert!(rt; letters[0].meaning == Meaning::Symbol(0));
+    assert!(rt; letters[34_000].meaning == Meaning::Symbol(1));
 }
 
-fn check_deep_letters(rt: &impl Abort, letters: &[Letter]) {
-    assert_eq!(rt; letters.len(), 34_001);
-    assert_eq!(rt; letters[0].meaning, Meaning::Symbol(0));
-    assert_eq!(rt; letters[34_000].meaning, Meaning::Symbol(1));
-}
-
-fn check_one_term(rt: &impl Abort, checked: &Checked) {
+fn expect_one_term(rt: &impl Abort, checked: &Checked) {
     let terms = checked.terms();
-    assert_eq!(rt; terms.len(), 1);
-    check_deep_letters(rt, &terms[0]);
+    assert!(rt; terms.len() == 1);
+    expect_deep_letters(rt, &terms[0]);
 }
 
-fn check_deep(rt: &impl Abort, alloc: Global, text: &[u8]) -> Result<(), Fail> {
+#[test]
+fn a_long_term(rt: HostRuntime) {
+    let text = DEEP.text(&rt, rt.alloc());
     assert!(rt; text.len() > 100_000);
-    let checked = checked(alloc, text)?;
-    check_one_term(rt, &checked);
-    Ok(())
+    let checked = checked(&rt, rt.alloc(), &text);
+    expect_one_term(&rt, &checked);
 }
 
 #[test]
-fn a_long_term(rt: HostRuntime) -> Result<(), Fail> {
-    let text = deep(rt.alloc(), b"z")?;
-    check_deep(&rt, rt.alloc(), &text)
+fn a_place_far_behind(rt: HostRuntime) {
+    let text = DEEP_FAULT.text(&rt, rt.alloc());
+    assert!(rt; fault(&rt, rt.alloc(), &text) == Some((5, 68_049)));
 }
 
-#[test]
-fn a_place_far_behind(rt: HostRuntime) -> Result<(), Fail> {
-    let text = deep(rt.alloc(), b"y")?;
-    let found = fault(rt.alloc(), &text)?;
-    assert_eq!(rt; found, Some((5, 68_049)));
-    Ok(())
+fn expect_symbols(rt: &impl Abort, checked: &Checked) {
+    assert!(rt; checked.symbols() == 3);
+    assert!(rt;
+        checked.symbol_name(0) == b"a".as_slice() && checked.symbol_name(2) == b"f".as_slice()
+    );
+    assert!(rt; checked.arity(1) == 0 && checked.arity(2) == 1);
 }
 
-fn check_counts(rt: &impl Abort, checked: &Checked) {
-    assert_eq!(rt; checked.constructors(), 2);
-    assert_eq!(rt; checked.variables(), 2);
+fn expect_counts(rt: &impl Abort, checked: &Checked) {
+    assert!(rt; checked.constructors() == 2 && checked.variables() == 2);
 }
 
-fn check_symbols(rt: &impl Abort, checked: &Checked) {
-    assert_eq!(rt; checked.symbols(), 3);
-    assert_eq!(rt; checked.symbol_name(0), b"a".as_slice());
-    assert_eq!(rt; checked.symbol_name(2), b"f".as_slice());
-    assert_eq!(rt; checked.arity(1), 0);
-    assert_eq!(rt; checked.arity(2), 1);
+fn expect_left(rt: &impl Abort, left: &[Letter]) {
+    assert!(rt; left.len() == 2);
+    assert!(rt; left[0].meaning == Meaning::Variable(0));
+    assert!(rt; left[1].meaning == Meaning::Symbol(2) && left[1].count == 1);
 }
 
-fn check_left(rt: &impl Abort, left: &[Letter]) {
-    assert_eq!(rt; left.len(), 2);
-    assert_eq!(rt; left[0].meaning, Meaning::Variable(0));
-    assert_eq!(rt; left[1].meaning, Meaning::Symbol(2));
-    assert_eq!(rt; left[1].count, 1);
-}
-
-fn check_rule(rt: &impl Abort, checked: &Checked) {
+fn expect_rule(rt: &impl Abort, checked: &Checked) {
     let rules = checked.rules();
-    assert_eq!(rt; rules.len(), 1);
-    check_left(rt, &rules[0].left);
+    assert!(rt; rules.len() == 1);
+    expect_left(rt, &rules[0].left);
+}
+
+fn expect_all(rt: &impl Abort, checked: &Checked) {
+    expect_symbols(rt, checked);
+    expect_counts(rt, checked);
+    expect_rule(rt, checked);
 }
 
 #[test]
-fn letters(rt: HostRuntime) -> Result<(), Fail> {
-    let checked = checked(rt.alloc(), Q.as_bytes())?;
-    check_symbols(&rt, &checked);
-    check_counts(&rt, &checked);
-    check_rule(&rt, &checked);
-    Ok(())
+fn letters(rt: HostRuntime) {
+    let checked = checked(&rt, rt.alloc(), Q.as_bytes());
+    expect_all(&rt, &checked);
 }

@@ -1,0 +1,98 @@
+//! Engines over banks of no terms, and what is asked of them.
+
+use crate::rows::banks::{plain_bank, shared_bank};
+use crate::rows::engine::{Row, expect_rows};
+use crate::rows::texts::checked;
+use crate::rows::{depth, engine, observed, trace, values};
+use rec_engine::{Engine, Options};
+use rx_term::TermBank;
+use std::alloc::Global;
+use std::process::Abort;
+
+/// A bank that shares none or all, with so many cells.
+#[derive(Drop)]
+pub enum Bank {
+    Plain(u32),
+    Shared(u32),
+}
+
+/// What is asked of an engine.
+#[derive(Drop)]
+pub enum Question {
+    /// How terms end.
+    Rows(&'static [Row]),
+    /// What else there is of a module.
+    Cells(engine::Cells),
+    Depth(depth::Waits),
+    Values(values::Values),
+    Observed(observed::Counts),
+    Trace(trace::Traced),
+}
+
+/// An engine, and what is asked of it.
+#[derive(Drop)]
+pub struct Case {
+    pub spec: &'static [u8],
+    pub options: Options,
+    pub bank: Bank,
+    pub question: Question,
+}
+
+/// No results are remembered, and hardly ever is anything given back.
+pub const OPTIONS: Options = Options {
+    memo: 0,
+    reclaim_every: 262_144,
+};
+
+/// With a reclaim as soon as a cell is new.
+pub const ANEW: Options = Options {
+    memo: 0,
+    reclaim_every: 1,
+};
+
+/// Many results are remembered.
+pub const REMEMBERING: Options = Options {
+    memo: 65_536,
+    reclaim_every: 262_144,
+};
+
+/// Stops where an engine answers otherwise.
+fn ask<B: TermBank>(rt: &impl Abort, alloc: Global, engine: &mut Engine<B>, question: &Question) {
+    match question {
+        Question::Rows(rows) => expect_rows(rt, alloc, engine, rows),
+        Question::Cells(cells) => engine::ask(rt, alloc, engine, cells),
+        Question::Depth(waits) => depth::ask(rt, alloc, engine, waits),
+        Question::Values(values) => values::ask(rt, alloc, engine, values),
+        Question::Observed(counts) => observed::ask(rt, alloc, engine, counts),
+        Question::Trace(traced) => trace::ask(rt, alloc, engine, traced),
+    }
+}
+
+/// An engine for a specification over a bank.
+fn engine_for<B: TermBank + Drop>(
+    rt: &impl Abort,
+    alloc: Global,
+    spec: &[u8],
+    bank: B,
+    options: Options,
+) -> Engine<B> {
+    assert!(rt; options.memo <= 1_048_576);
+    assert!(rt; options.reclaim_every >= 1);
+    assert!(rt; options.reclaim_every <= 1_073_741_824);
+    let checked = checked(rt, alloc, spec);
+    Engine::new(alloc, checked, bank, options).expect(rt, "an engine")
+}
+
+/// Asks an engine over a bank.
+fn ask_over<B: TermBank + Drop>(rt: &impl Abort, alloc: Global, case: &Case, bank: B) {
+    let mut engine = engine_for(rt, alloc, case.spec, bank, case.options);
+    ask(rt, alloc, &mut engine, &case.question);
+}
+
+/// Stops where the engine of a case answers otherwise.
+pub fn expect_case(rt: &impl Abort, alloc: Global, case: &Case) {
+    match case.bank {
+        Bank::Plain(cells) => ask_over(rt, alloc, case, plain_bank(rt, alloc, cells)),
+        Bank::Shared(cells) => ask_over(rt, alloc, case, shared_bank(rt, alloc, cells)),
+    }
+}
