@@ -73,8 +73,11 @@ skipped ls ms b s first (f ∷ fs) rest next once same at_s at_b c =
     let one = leads_some (get_or ls f None) (λ n. IsChain ls n (fs ++ b ∷ s ∷ rest)) c.1 in
     elim (one_or_two f b) [
       | inl h ↦ absurd (omega (arith, once b, h.0, times-append b fs (b ∷ s ∷ rest), one_if-same b))
-      | inr h ↦ (c.0, some_leads (get_or ms f None) (λ n. IsChain ms n (fs ++ b ∷ rest)) one.0 (same f h.1 ∙ one.1)
-          (skipped ls ms b s one.0 fs rest next (λ t. omega (arith, once t)) same at_s at_b one.2))
+      | inr h ↦ (
+        c.0,
+        some_leads (get_or ms f None) (λ n. IsChain ms n (fs ++ b ∷ rest)) one.0 (same f h.1 ∙ one.1)
+            (skipped ls ms b s one.0 fs rest next (λ t. omega (arith, once t)) same at_s at_b one.2),
+      )
     ]
 
 -- from a slot in the list the links lead through what comes after it
