@@ -1,5 +1,6 @@
 -- References that are held, and the list and the application that are made of them.
-use Rattle.std.proofs.Common.{◌≡◌, ℕ, zero, suc, ◌-◌, ◌<◌, ◌≤◌, Bool, true, false, ◌&&◌, List, [], ◌∷◌, length, drop, get_or, Option, Some, IsSome, is_some, refl, sym, ap, ◌∙◌, subst, Result, Ok, Err, IfOk, eq-eqb, drop-cons, arith}
+use Rattle.std.proofs.Common.{◌≡◌, ℕ, zero, suc, ◌-◌, ◌<◌, ◌≤◌, Bool, true, false, ◌&&◌, List, [], ◌∷◌, length, drop, get_or, Option}
+use Rattle.std.proofs.Common.{Some, IsSome, is_some, refl, sym, ap, ◌∙◌, subst, Result, Ok, Err, IfOk, eq-eqb, drop-cons, arith}
 use Rattle.std.proofs.lemmas.List.{length-map}
 use Rattle.std.specs.FinMap as map
 use Rattle.rx_term.specs.Name.{Signature}
@@ -40,7 +41,8 @@ held_at w (n ∷ ns) (suc k) d h lt = held_at w ns k d (others_held w n ns h) (o
 
 -- the numbers from one place less on
 pub one_more : (ns : List ℕ) (left d : ℕ) → 0 < left → left ≤ length ns → drop (left - 1) ns ≡ get_or ns (left - 1) d ∷ drop left ns
-one_more ns left d pos le = let e : suc (left - 1) ≡ left = omega arith in drop-cons ns (left - 1) d (omega arith) ∙ ap (λ k. get_or ns (left - 1) d ∷ drop k ns) e
+one_more ns left d pos le = let e : suc (left - 1) ≡ left = omega arith in
+    drop-cons ns (left - 1) d (omega arith) ∙ ap (λ k. get_or ns (left - 1) d ∷ drop k ns) e
 
 have-length : (w : Store) (rs : List Term) (ts : List Tree) → HaveTrees w rs ts → length rs ≡ length ts
 have-length w [] [] h = refl
@@ -69,21 +71,26 @@ have-same v w (r ∷ rs) (t ∷ ts) e h = (ap (λ c. map.get c r.0) (sym e) ∙ 
 have-same v w [] (t ∷ ts) e h = absurd h
 have-same v w (r ∷ rs) [] e h = absurd h
 
-pub same_appl : (v w : Store) (name : List ℕ) (quoted : Bool) (ns : List ℕ) (tree : Option Tree) → w.content ≡ v.content → IsApplication w name quoted ns tree → IsApplication v name quoted ns tree
+pub same_appl : (v w : Store) (name : List ℕ) (quoted : Bool) (ns : List ℕ) (tree : Option Tree) → w.content ≡ v.content
+    → IsApplication w name quoted ns tree → IsApplication v name quoted ns tree
 same_appl v w name quoted ns tree e is = (is.0, have-same v w (terms_of ns) (to_list is.0) e is.1, is.2)
 
 -- what a make answers has the tree that it was asked for
-pub made_is : (old new : Store) (tree : Option Tree) (P : Option Tree → Type 0) (r : Result Term BankFault) → MakesOrRefuses old new tree r → P tree → IfOk r (λ t. P (tree_at new t))
+pub made_is : (old new : Store) (tree : Option Tree) (P : Option Tree → Type 0) (r : Result Term BankFault) → MakesOrRefuses old new tree r → P tree
+    → IfOk r (λ t. P (tree_at new t))
 made_is old new tree P (Ok t) m p = subst P (sym m.made) p
 made_is old new tree P (Err e) m p = tt
 
 -- the same of what holds of each thing of some kind
-pub made_for : (old new : Store) (tree : Option Tree) (X : Type 0) (P : X → Type 0) (Q : X → Option Tree → Type 0) (r : Result Term BankFault) → MakesOrRefuses old new tree r → ((x : X) → P x → Q x tree) → IfOk r (λ t. (x : X) → P x → Q x (tree_at new t))
+pub made_for : (old new : Store) (tree : Option Tree) (X : Type 0) (P : X → Type 0) (Q : X → Option Tree → Type 0) (r : Result Term BankFault)
+    → MakesOrRefuses old new tree r → ((x : X) → P x → Q x tree) → IfOk r (λ t. (x : X) → P x → Q x (tree_at new t))
 made_for old new tree X P Q (Ok t) m f = λ x p. subst (Q x) (sym m.made) (f x p)
 made_for old new tree X P Q (Err e) m f = tt
 
 -- an application of a symbol of a signature, made after the symbol
-pub same_appls : (old v new : Store) (s : Symbol) (g : Signature) (ns : List ℕ) (r : Result Term BankFault) → v.content ≡ old.content → signature_of v s ≡ Some g
-    → IfOk r (λ t. (h : Signature) → signature_of v s ≡ Some h → IsApplication v h.name h.quoted ns (tree_at new t)) → IfOk r (λ t. IsApplication old g.name g.quoted ns (tree_at new t))
+pub same_appls : (old v new : Store) (s : Symbol) (g : Signature) (ns : List ℕ) (r : Result Term BankFault) → v.content ≡ old.content
+    → signature_of v s ≡ Some g
+    → IfOk r (λ t. (h : Signature) → signature_of v s ≡ Some h → IsApplication v h.name h.quoted ns (tree_at new t))
+    → IfOk r (λ t. IsApplication old g.name g.quoted ns (tree_at new t))
 same_appls old v new s g ns (Ok t) e at h = same_appl old v g.name g.quoted ns (tree_at new t) e (h g at)
 same_appls old v new s g ns (Err e') e at h = tt

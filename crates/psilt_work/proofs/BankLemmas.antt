@@ -29,7 +29,8 @@ some-then None b f h = cc
 pub same_symbols : (old new : Store) (symbols : List ℕ) → new.symbols ≡ old.symbols → AreSymbols old symbols → AreSymbols new symbols
 same_symbols old new symbols e h n s at = subst (λ m. IsSome (map.get m s)) (sym e) (h n s at)
 
-pub grown_symbols : (old new : Store) (symbols : List ℕ) → ((s : Symbol) (g : Signature) → signature_of old s ≡ Some g → signature_of new s ≡ Some g) → AreSymbols old symbols → AreSymbols new symbols
+pub grown_symbols : (old new : Store) (symbols : List ℕ) → ((s : Symbol) (g : Signature) → signature_of old s ≡ Some g → signature_of new s ≡ Some g)
+    → AreSymbols old symbols → AreSymbols new symbols
 grown_symbols old new symbols f h n s at = some-then (map.get old.symbols s) (map.get new.symbols s) (λ g e. f (record { 0 = s }) g e) (h n s at)
 
 -- in a bank that grows
@@ -40,10 +41,12 @@ fits_still old new None g h = tt
 pub still_fits : (old new : Store) (o : Option Prepared) (symbols : List ℕ) → Grows old new → IsWhole old o symbols → IsWhole new o symbols
 still_fits old new o symbols g h = (fits_still old new o g h.0, grown_symbols old new symbols g.symbols h.1)
 
-pub fits_made : (old new : Store) (o : Option Prepared) (symbols : List ℕ) (tree : Option Tree) (x : Result Term BankFault) → MakesOrRefuses old new tree x → IsWhole old o symbols → IsWhole new o symbols
+pub fits_made : (old new : Store) (o : Option Prepared) (symbols : List ℕ) (tree : Option Tree) (x : Result Term BankFault)
+    → MakesOrRefuses old new tree x → IsWhole old o symbols → IsWhole new o symbols
 fits_made old new o symbols tree x m = still_fits old new o symbols (Grows-made old new tree x m)
 
-pub fits_added : (old new : Store) (o : Option Prepared) (symbols : List ℕ) (g : Signature) (x : Result Symbol BankFault) → AddsOrRefuses old new g x → IsWhole old o symbols → IsWhole new o symbols
+pub fits_added : (old new : Store) (o : Option Prepared) (symbols : List ℕ) (g : Signature) (x : Result Symbol BankFault) → AddsOrRefuses old new g x
+    → IsWhole old o symbols → IsWhole new o symbols
 fits_added old new o symbols g x m = still_fits old new o symbols (Grows-added old new g x m)
 
 -- a bank of the same trees and with more room
@@ -60,7 +63,8 @@ grows_reserved : (old new : Store) (k : ℕ) (x : Result (Unit {0}) BankFault) �
 grows_reserved old new k (Ok u) m = same-grows old new m.content m.beside m.room
 grows_reserved old new k (Err e) m = same-grows old new m.content m.beside m.room
 
-pub fits_reserved : (old new : Store) (o : Option Prepared) (symbols : List ℕ) (k : ℕ) (x : Result (Unit {0}) BankFault) → ReservesOrRefuses old new k x → IsWhole old o symbols → IsWhole new o symbols
+pub fits_reserved : (old new : Store) (o : Option Prepared) (symbols : List ℕ) (k : ℕ) (x : Result (Unit {0}) BankFault)
+    → ReservesOrRefuses old new k x → IsWhole old o symbols → IsWhole new o symbols
 fits_reserved old new o symbols k x m = still_fits old new o symbols (grows_reserved old new k x m)
 
 -- where a root is counted otherwise
@@ -68,10 +72,12 @@ fits_with : (old new : Store) (o : Option Prepared) (t : Term) (n : ℕ) → new
 fits_with old new (Some p) t n e h = fits-counted old new p t n e h
 fits_with old new None t n e h = tt
 
-pub fits_counted : (old new : Store) (o : Option Prepared) (symbols : List ℕ) (t : Term) (n : ℕ) → new ≡ with_count old t n → IsWhole old o symbols → IsWhole new o symbols
+pub fits_counted : (old new : Store) (o : Option Prepared) (symbols : List ℕ) (t : Term) (n : ℕ) → new ≡ with_count old t n → IsWhole old o symbols
+    → IsWhole new o symbols
 fits_counted old new o symbols t n e h = (fits_with old new o t n e h.0, same_symbols old new symbols (ap (λ (w : Store). w.symbols) e) h.1)
 
-pub fits_protected : (old new : Store) (o : Option Prepared) (symbols : List ℕ) (t : Term) (x : Result (Unit {0}) RootsFull) → ProtectsOrRefuses old new t x → IsWhole old o symbols → IsWhole new o symbols
+pub fits_protected : (old new : Store) (o : Option Prepared) (symbols : List ℕ) (t : Term) (x : Result (Unit {0}) RootsFull)
+    → ProtectsOrRefuses old new t x → IsWhole old o symbols → IsWhole new o symbols
 fits_protected old new o symbols t (Ok u) m h = fits_counted old new o symbols t _ m.1 h
 fits_protected old new o symbols t (Err e) m h = subst (λ w. IsWhole w o symbols) (sym m.1) h
 

@@ -73,14 +73,16 @@ pub list_again : (w w' v : Store) (t : Term) (r : Result Term BankFault) → tre
 list_again w w' v t r e h = subst (λ o. IfOk r (λ x. tree_at v x ≡ longer o (Some (Items none none)))) e h
 
 -- the list of a term alone keeps the rules where the term does
-module _ (b b' : BankState) (t list : Term) (same : b'.specified ≡ b.specified) (held : IsSome (tree_at (store_of b) t)) (kept : tree_at (store_of b') t ≡ tree_at (store_of b) t) (is : tree_at (store_of b') list ≡ longer (tree_at (store_of b) t) (Some (Items none none))) where
+module _ (b b' : BankState) (t list : Term) (same : b'.specified ≡ b.specified) (held : IsSome (tree_at (store_of b) t))
+    (kept : tree_at (store_of b') t ≡ tree_at (store_of b) t) (is : tree_at (store_of b') list ≡ longer (tree_at (store_of b) t) (Some (Items none none))) where
   pub given_is : IsSpecified b' (λ y. IfSome (tree_at (store_of b') list) (λ x. broken_by_terms y x ≡ None)) → IsSpecified b (λ y. IsGiven y (store_of b') t)
   given_is h =
       let x = some-value (tree_at (store_of b) t) held in
       let listed = is ∙ ap (λ o. longer o (Some (Items none none))) x.1 in
       (h.0, sym same ∙ h.1, record { tree = x.0; held = kept ∙ x.1; is_ground = subst (λ o. IfSome o (λ u. broken_by_terms h.0.spec u ≡ None)) listed h.2 })
 
-  pub broken_is : (number : ℕ) → IsSpecified b' (λ y. IfSome (tree_at (store_of b') list) (λ x. IsTermsFault (broken_by_terms y x) (terms.Rule number))) → IsSpecified b (λ y. HasTree (store_of b) t (λ u. broken_by_elements y (u ∷ []) ≡ Some number))
+  pub broken_is : (number : ℕ) → IsSpecified b' (λ y. IfSome (tree_at (store_of b') list) (λ x.
+      IsTermsFault (broken_by_terms y x) (terms.Rule number))) → IsSpecified b (λ y. HasTree (store_of b) t (λ u. broken_by_elements y (u ∷ []) ≡ Some number))
   broken_is number h =
       let x = some-value (tree_at (store_of b) t) held in
       let listed = is ∙ ap (λ o. longer o (Some (Items none none))) x.1 in
@@ -97,15 +99,19 @@ specified_map : (b : BankState) (P Q : Spec → Type 0) → ((y : Spec) → P y 
 specified_map b P Q f h = (h.0, h.1, f h.0.spec h.2)
 
 -- a specified term to evaluate
-pub gives_term : (b b' : BankState) (i : ℕ) (t : Term) → IsSpecified b (λ y. tree_at (store_of b') t ≡ eval_tree y i) → IsSpecified b (λ y. IsGiven y (store_of b') t)
+pub gives_term : (b b' : BankState) (i : ℕ) (t : Term) → IsSpecified b (λ y. tree_at (store_of b') t ≡ eval_tree y i)
+    → IsSpecified b (λ y. IsGiven y (store_of b') t)
     → IsSpecified b (λ y. HasTree (store_of b') t (λ u. IsGround y u × (eval_tree y i ≡ Some u)))
 gives_term b b' i t h k =
-    specified_map b (λ y. (tree_at (store_of b') t ≡ eval_tree y i) × IsGiven y (store_of b') t) (λ y. HasTree (store_of b') t (λ u. IsGround y u × (eval_tree y i ≡ Some u)))
-    (λ y p. (p.1.tree, p.1.held, (p.1.is_ground, sym p.0 ∙ p.1.held))) (both_specified b (λ y. tree_at (store_of b') t ≡ eval_tree y i) (λ y. IsGiven y (store_of b') t) h k)
+    specified_map b (λ y. (tree_at (store_of b') t ≡ eval_tree y i) × IsGiven y (store_of b') t) (λ y.
+    HasTree (store_of b') t (λ u. IsGround y u × (eval_tree y i ≡ Some u)))
+    (λ y p. (p.1.tree, p.1.held, (p.1.is_ground, sym p.0 ∙ p.1.held)))
+    (both_specified b (λ y. tree_at (store_of b') t ≡ eval_tree y i) (λ y. IsGiven y (store_of b') t) h k)
 
 -- what a term came to that keeps the rules
 pub comes_to : (b b' : BankState) (t : Term) (n : ℕ) (o : Outcome) → IsSpecified b (λ y. IsGiven y (store_of b) t)
-    → IsSpecified b (λ y. (u : Tree) → tree_at (store_of b) t ≡ Some u → IsOutcome y (store_of b') n u o) → IsSpecified b (λ y. (u : Tree) → tree_at (store_of b) t ≡ Some u → IsNormalised y (store_of b') n u o) → ComesTo b b' t n o
+    → IsSpecified b (λ y. (u : Tree) → tree_at (store_of b) t ≡ Some u → IsOutcome y (store_of b') n u o)
+    → IsSpecified b (λ y. (u : Tree) → tree_at (store_of b) t ≡ Some u → IsNormalised y (store_of b') n u o) → ComesTo b b' t n o
 comes_to b b' t n o given outcome rewriting =
     let P : Spec → Type 0 = λ y. (u : Tree) → tree_at (store_of b) t ≡ Some u → IsOutcome y (store_of b') n u o in
     let Q : Spec → Type 0 = λ y. (u : Tree) → tree_at (store_of b) t ≡ Some u → IsNormalised y (store_of b') n u o in
@@ -118,10 +124,12 @@ comes_told b b' t n (outcome.Value r k) h = h
 comes_told b b' t n outcome.Limit h = h
 
 -- the same seen from before its rules were asked
-comes_before : (b b' b'' : BankState) (t : Term) (n : ℕ) (o : Outcome) → b'.specified ≡ b.specified → tree_at (store_of b') t ≡ tree_at (store_of b) t → ComesTo b' b'' t n o → ComesTo b b'' t n o
+comes_before : (b b' b'' : BankState) (t : Term) (n : ℕ) (o : Outcome) → b'.specified ≡ b.specified → tree_at (store_of b') t ≡ tree_at (store_of b) t
+    → ComesTo b' b'' t n o → ComesTo b b'' t n o
 comes_before b b' b'' t n o same tree h = (h.0, sym same ∙ h.1, (h.2.0, sym tree ∙ h.2.1, h.2.2))
 
-pub normalises : (b b' b'' : BankState) (t : Term) (n rule : ℕ) (r : Result Normalised Fault) → b'.specified ≡ b.specified → tree_at (store_of b') t ≡ tree_at (store_of b) t → Comes b' b'' t n r → Normalises b b'' t n rule r
+pub normalises : (b b' b'' : BankState) (t : Term) (n rule : ℕ) (r : Result Normalised Fault) → b'.specified ≡ b.specified
+    → tree_at (store_of b') t ≡ tree_at (store_of b) t → Comes b' b'' t n r → Normalises b b'' t n rule r
 normalises b b' b'' t n rule (Ok v) same tree h = comes_before b b' b'' t n (outcome.Value v.term v.steps) same tree h
 normalises b b' b'' t n rule (Err fault.Limit) same tree h = comes_before b b' b'' t n outcome.Limit same tree h
 normalises b b' b'' t n rule (Err fault.Memory) same tree h = tt
@@ -145,7 +153,8 @@ pub same_bank : (v : Work) (b : BankState) → b.specified ≡ v.bank.specified 
 same_bank v b e f = rw (e, f) refl
 
 -- what comes of a term tells no fault at which bindings stay
-pub forgets_come : (b b' : BankState) (t : Term) (n : ℕ) (before after : List Term) (r : Result Normalised Fault) → Comes b b' t n r → after ≡ [] → Forgets before after r
+pub forgets_come : (b b' : BankState) (t : Term) (n : ℕ) (before after : List Term) (r : Result Normalised Fault) → Comes b b' t n r → after ≡ []
+    → Forgets before after r
 forgets_come b b' t n before after (Ok v) h e = e
 forgets_come b b' t n before after (Err fault.Limit) h e = e
 forgets_come b b' t n before after (Err fault.Memory) h e = e

@@ -28,11 +28,13 @@ item_some (more t ts) zero lt = refl
 item_some (more t ts) (suc i) lt = item_some ts i (omega (arith, lt))
 
 -- the item of the arguments is the argument
-pub arg_is : (o p q : Option Tree) (i : ℕ) (name : List ℕ) (quoted : Bool) (args anns : Trees) → o ≡ Some (Appl name quoted args anns) → p ≡ option_and_then args_of o
+pub arg_is : (o p q : Option Tree) (i : ℕ) (name : List ℕ) (quoted : Bool) (args anns : Trees) → o ≡ Some (Appl name quoted args anns)
+    → p ≡ option_and_then args_of o
     → q ≡ item_in i p → i < count_of args → IsSome q × (q ≡ option_and_then (arg_of i) o)
 arg_is o p q i name quoted args anns e f g lt =
     let s : q ≡ item_at i args = g ∙ rw (f, e) refl in (subst (λ x. IsSome x) (sym s) (item_some args i lt), s ∙ rw e refl)
 
 -- the list of the arguments has a place for each
-pub place_is : (o p : Option Tree) (i : ℕ) (name : List ℕ) (quoted : Bool) (args anns : Trees) → o ≡ Some (Appl name quoted args anns) → p ≡ option_and_then args_of o → i < count_of args → IsPlaceIn i p
+pub place_is : (o p : Option Tree) (i : ℕ) (name : List ℕ) (quoted : Bool) (args anns : Trees) → o ≡ Some (Appl name quoted args anns)
+    → p ≡ option_and_then args_of o → i < count_of args → IsPlaceIn i p
 place_is o p i name quoted args anns e f lt = (args, f ∙ rw e refl, lt)

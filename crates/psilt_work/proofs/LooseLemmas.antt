@@ -50,8 +50,10 @@ module _ (R Z : RattleType) (L : Laws Z) (g : Ghosts Z.Denot) where
         → Seq K 𝓛 (‵ (box_owns (g.dealloc_token x.alloc) R (block_ptr b o) x.value) ∷ ‵ (Z.own_val x.alloc (h ∷ [])) ∷ Γ) G)
         → Seq K 𝓛 (‵ (row.own_val x vs) ∷ Γ) G
     apart t x vs next =
-        fsplit t $ fpick t (λ parts. fsplit t $ feq_l t (λ whole. fsplit t $ feq_l t (λ pointer. fsplit t $ handle_tells handle t x.alloc parts.1.0 (λ h told fits. move t (1 ∷ []) $ drop t $ move t (1 ∷ []) $
-        in_a_block t x.at (λ p. box_owns (g.dealloc_token x.alloc) R p x.value) (fst∗ 𝓤 (never 𝓤) (sem 𝓛 (g.dealloc_token x.alloc (bare (lone R.mir)) null_ptr))) (λ b o at.
+        fsplit t $ fpick t (λ parts. fsplit t $ feq_l t (λ whole. fsplit t $ feq_l t (λ pointer.
+        fsplit t $ handle_tells handle t x.alloc parts.1.0 (λ h told fits. move t (1 ∷ []) $ drop t $ move t (1 ∷ []) $
+        in_a_block t x.at (λ p. box_owns (g.dealloc_token x.alloc) R p x.value)
+        (fst∗ 𝓤 (never 𝓤) (sem 𝓛 (g.dealloc_token x.alloc (bare (lone R.mir)) null_ptr))) (λ b o at.
         let by_pointer = subst (λ (ps : List Val). vs ≡ vstruct (of_list (ps ++ (parts.1.0 ++ []))) ∷ []) pointer whole in
         let by_handle = subst (λ (hs : List Val). vs ≡ vstruct (of_list (ptr_val x.at ∷ (hs ++ []))) ∷ []) told by_pointer in
         next b o h at (subst (λ (p : Ptr). vs ≡ vstruct (of_list (ptr_val p ∷ h ∷ [])) ∷ []) at by_handle) fits)))))
@@ -61,5 +63,7 @@ module _ (R Z : RattleType) (L : Laws Z) (g : Ghosts Z.Denot) where
         → Step K 𝓛 (‵ (row.own_val (record { at = block_ptr b o; alloc = a; value = v }) (beside (vptr b o) h ∷ [])) ∷ Γ) G
         (‵ (box_owns (g.dealloc_token a) R (block_ptr b o) v) ∷ ‵ (Z.own_val a (h ∷ [])) ∷ Γ) G
     together t b o h a v = step (λ rest. let made : Val = beside (vptr b o) h in
-        nothing t $ move t (2 ∷ 0 ∷ []) $ fjoin t $ feq_i t (List Val) (vptr b o ∷ []) (vptr b o ∷ []) refl $ fjoin t $ feq_i t (List Val) (made ∷ []) (made ∷ []) refl $ fjoin t $
-        fpack t (Valss (RawPtr ∷ Z ∷ [])) (within (shape (loose.the_type R Z g)) (block_ptr b o, (a, tt)) (made ∷ [])) (vptr b o ∷ [], (h ∷ [], tt)) $ fjoin t $ rest)
+        nothing t $ move t (2 ∷ 0 ∷ []) $ fjoin t $ feq_i t (List Val) (vptr b o ∷ []) (vptr b o ∷ []) refl $ fjoin t $ feq_i t (List Val) (made ∷ [])
+        (made ∷ []) refl $ fjoin t $
+        fpack t (Valss (RawPtr ∷ Z ∷ [])) (within (shape (loose.the_type R Z g)) (block_ptr b o, (a, tt)) (made ∷ [])) (vptr b o ∷ [], (h ∷ [], tt))
+        $ fjoin t $ rest)

@@ -17,7 +17,8 @@ counts a s x e = ap root_count e
 pub no_roots : (w : Store) (a : ArenaState) → IsSound w → Mirrors w a → (t : Term) → roots_at a t.0 ≡ 0 → w.roots t.0 ≡ 0
 no_roots w a sound m t z = elim (zero_or_more (w.roots t.0)) [
   | inl e ↦ e
-  | inr p ↦ (let taken = (m.slots t).0 (sound.rooted_held t p) in let e = m.roots t taken.0 taken.1 in let f = counts a t.0 taken.0 taken.1 in omega (arith, e, f, z, p))
+  | inr p ↦ (let taken = (m.slots t).0 (sound.rooted_held t p) in let e = m.roots t taken.0 taken.1 in let f = counts a t.0 taken.0 taken.1 in
+      omega (arith, e, f, z, p))
 ]
 
 -- what is not above 0

@@ -25,12 +25,15 @@ all_at P (m ∷ ns) zero n all e = let same : m ≡ n = cc in subst P same all.0
 all_at P (m ∷ ns) (suc i) n all e = all_at P ns i n all.1 e
 
 -- in a list in which no two are equal, each stands at one place
-pub one_place : (eq : ℕ → ℕ → Bool) → ((n : ℕ) → eq n n ≡ true) → (ns : List ℕ) → IsDistinct eq ns → (i j n : ℕ) → slice_get ns i ≡ Some n → slice_get ns j ≡ Some n → i ≡ j
+pub one_place : (eq : ℕ → ℕ → Bool) → ((n : ℕ) → eq n n ≡ true) → (ns : List ℕ) → IsDistinct eq ns → (i j n : ℕ) → slice_get ns i ≡ Some n
+    → slice_get ns j ≡ Some n → i ≡ j
 unfolding IsDistinct
 one_place eq is [] d i j n a b = cc
 one_place eq is (m ∷ ns) d zero zero n a b = refl
-one_place eq is (m ∷ ns) d zero (suc j) n a b = let same : m ≡ n = cc in let f : eq m n ≡ false = all_at (λ y. eq m y ≡ false) ns j n d.0 b in let t : eq m n ≡ true = ap (λ k. eq k n) same ∙ is n in cc
-one_place eq is (m ∷ ns) d (suc i) zero n a b = let same : m ≡ n = cc in let f : eq m n ≡ false = all_at (λ y. eq m y ≡ false) ns i n d.0 a in let t : eq m n ≡ true = ap (λ k. eq k n) same ∙ is n in cc
+one_place eq is (m ∷ ns) d zero (suc j) n a b = let same : m ≡ n = cc in let f : eq m n ≡ false = all_at (λ y. eq m y ≡ false) ns j n d.0 b in
+    let t : eq m n ≡ true = ap (λ k. eq k n) same ∙ is n in cc
+one_place eq is (m ∷ ns) d (suc i) zero n a b = let same : m ≡ n = cc in let f : eq m n ≡ false = all_at (λ y. eq m y ≡ false) ns i n d.0 a in
+    let t : eq m n ≡ true = ap (λ k. eq k n) same ∙ is n in cc
 one_place eq is (m ∷ ns) d (suc i) (suc j) n a b = ap suc (one_place eq is ns d.1 i j n a b)
 
 -- what stands in a list with one more behind
@@ -46,16 +49,19 @@ push_kept (k ∷ ns) s zero n e = e
 push_kept (k ∷ ns) s (suc i) n e = push_kept ns s i n e
 
 -- a symbol's number is put behind the others, or is there
-pub added_symbols : (w : Store) (found : Bool) (ns ms : List ℕ) (s : ℕ) → ms ≡ (if found then ns else ns ++ s ∷ []) → AreSymbols w ns → IsSome (map.get w.symbols s) → AreSymbols w ms
+pub added_symbols : (w : Store) (found : Bool) (ns ms : List ℕ) (s : ℕ) → ms ≡ (if found then ns else ns ++ s ∷ []) → AreSymbols w ns
+    → IsSome (map.get w.symbols s) → AreSymbols w ms
 added_symbols w true ns ms s e h here = subst (AreSymbols w) (sym e) h
 added_symbols w false ns ms s e h here = subst (AreSymbols w) (sym e) (λ i n. at_push (λ m. IsSome (map.get w.symbols m)) ns s i n h here)
 
-pub added_keeps : (found : Bool) (ns ms : List ℕ) (s : ℕ) → ms ≡ (if found then ns else ns ++ s ∷ []) → (i n : ℕ) → slice_get ns i ≡ Some n → slice_get ms i ≡ Some n
+pub added_keeps : (found : Bool) (ns ms : List ℕ) (s : ℕ) → ms ≡ (if found then ns else ns ++ s ∷ []) → (i n : ℕ) → slice_get ns i ≡ Some n
+    → slice_get ms i ≡ Some n
 added_keeps true ns ms s e i n at = subst (λ xs. slice_get xs i ≡ Some n) (sym e) at
 added_keeps false ns ms s e i n at = subst (λ xs. slice_get xs i ≡ Some n) (sym e) (push_kept ns s i n at)
 
 -- the same of what an insertion does, whether it was refused or not
-pub added : {A E : Type 0} (r : Result A E) (found : Bool) (ns ms : List ℕ) (s : ℕ) → IfOk r (λ _. ms ≡ (if found then ns else ns ++ s ∷ [])) → OnErr r (ms ≡ ns) → (b : Bool) × (ms ≡ (if b then ns else ns ++ s ∷ []))
+pub added : {A E : Type 0} (r : Result A E) (found : Bool) (ns ms : List ℕ) (s : ℕ) → IfOk r (λ _. ms ≡ (if found then ns else ns ++ s ∷ []))
+    → OnErr r (ms ≡ ns) → (b : Bool) × (ms ≡ (if b then ns else ns ++ s ∷ []))
 added (Ok a) found ns ms s e f = (found, e)
 added (Err a) found ns ms s e f = (true, f)
 
@@ -66,12 +72,18 @@ pub equal_number : (n : ℕ) → nat_eq n n ≡ true
 equal_number n = eq-eqb n n refl
 
 -- a place of the one number of a symbol is its number for C
-pub number_is : (b : BankState) (g : Signature) (n s : ℕ) → IsSound (store_of b) → ((i j m : ℕ) → slice_get b.symbols i ≡ Some m → slice_get b.symbols j ≡ Some m → i ≡ j)
+pub number_is : (b : BankState) (g : Signature) (n s : ℕ) → IsSound (store_of b)
+    → ((i j m : ℕ) → slice_get b.symbols i ≡ Some m → slice_get b.symbols j ≡ Some m → i ≡ j)
     → slice_get b.symbols n ≡ Some s → map.get (store_of b).symbols s ≡ Some g → IsNumberOf b g n
-number_is b g n s sound apart at here = (ap (option_and_then (λ m. map.get (store_of b).symbols m)) at ∙ here, λ k h. by_place k (slice_get b.symbols k) refl h) where
+number_is b g n s sound apart at here = (
+  ap (option_and_then (λ m. map.get (store_of b).symbols m)) at ∙ here,
+  λ k h.
+      by_place k (slice_get b.symbols k) refl h,
+) where
   by_place : (k : ℕ) (o : Option ℕ) → slice_get b.symbols k ≡ o → option_and_then (λ m. map.get (store_of b).symbols m) o ≡ Some g → k ≡ n
   by_place k None e h = cc
-  by_place k (Some m) e h = let same : m ≡ s = ap (λ (y : Symbol). y.0) (sound.symbols_one_to_one (record { 0 = m }) (record { 0 = s }) g h here) in apart k n s (e ∙ ap (λ x. Some x) same) at
+  by_place k (Some m) e h = let same : m ≡ s = ap (λ (y : Symbol). y.0) (sound.symbols_one_to_one (record { 0 = m }) (record { 0 = s }) g h here) in
+      apart k n s (e ∙ ap (λ x. Some x) same) at
 
 -- numbers stay where places and symbols do
 pub keeps_numbers : (old new : BankState) → ((i n : ℕ) → slice_get old.symbols i ≡ Some n → slice_get new.symbols i ≡ Some n)
@@ -87,22 +99,27 @@ adds_more old new g s a = record { content = a.content; roots = a.roots; cap = a
 
 pub more_symbols : (old new : Store) (g : Signature) (r : Result Symbol BankFault) → AddsOrRefuses old new g r → HasMoreSymbols old new
 more_symbols old new g (Ok s) a = adds_more old new g s a
-more_symbols old new g (Err e) a = subst (HasMoreSymbols old) (sym a.0) (record { content = refl; roots = refl; cap = refl; spare = refl; symbols = λ s h e'. e' })
+more_symbols old new g (Err e) a = subst (HasMoreSymbols old) (sym a.0)
+    (record { content = refl; roots = refl; cap = refl; spare = refl; symbols = λ s h e'. e' })
 
 -- what the symbol of a number stands for
-pub numbered_is : (b : BankState) (n : ℕ) (s : Symbol) → Some s ≡ option_map (λ m. record { 0 = m }) (slice_get b.symbols n) → signature_at b n ≡ signature_of (store_of b) s
+pub numbered_is : (b : BankState) (n : ℕ) (s : Symbol) → Some s ≡ option_map (λ m. record { 0 = m }) (slice_get b.symbols n)
+    → signature_at b n ≡ signature_of (store_of b) s
 numbered_is b n s e = by_place (slice_get b.symbols n) e where
-  by_place : (o : Option ℕ) → Some s ≡ option_map (λ m. record { 0 = m }) o → option_and_then (λ m. map.get (store_of b).symbols m) o ≡ signature_of (store_of b) s
+  by_place : (o : Option ℕ) → Some s ≡ option_map (λ m. record { 0 = m }) o
+      → option_and_then (λ m. map.get (store_of b).symbols m) o ≡ signature_of (store_of b) s
   by_place None q = cc
   by_place (Some m) q = let same : s ≡ record { 0 = m } = cc in ap (λ (y : Symbol). map.get (store_of b).symbols y.0) (sym same)
 
 -- it takes another number of arguments than were given
-pub other_arity : (o : Option Signature) (given a : ℕ) → IsSome o → option_and_then (λ g. Some g.arity) o ≡ Some a → (a ≡ given → ⊥) → Has o (λ g. given ≢ g.arity)
+pub other_arity : (o : Option Signature) (given a : ℕ) → IsSome o → option_and_then (λ g. Some g.arity) o ≡ Some a → (a ≡ given → ⊥)
+    → Has o (λ g. given ≢ g.arity)
 other_arity (Some g) given a h e ne = let same : g.arity ≡ a = cc in (g, refl, λ q. ne (sym same ∙ sym q))
 other_arity None given a h e ne = cc
 
 pub as_many : (o : Option Signature) (given a : ℕ) → option_and_then (λ g. Some g.arity) o ≡ Some a → a ≡ given → (g : Signature) → o ≡ Some g → g.arity ≡ given
-as_many o given a e n g h = let both : Some g.arity ≡ Some a = sym (ap (option_and_then (λ (x : Signature). Some x.arity)) h) ∙ e in let same : g.arity ≡ a = cc in same ∙ n
+as_many o given a e n g h = let both : Some g.arity ≡ Some a = sym (ap (option_and_then (λ (x : Signature). Some x.arity)) h) ∙ e in
+    let same : g.arity ≡ a = cc in same ∙ n
 
 -- what is told of its application
 pub applies_symbol : (o : Option Signature) (old new : Store) (args : List ℕ) (r : Result Term BankFault) → IsSome o → Grows old new

@@ -1,5 +1,6 @@
 -- What the calls on references answer: each fault has one meaning, and each answer what it did.
-use Rattle.std.specs.Prelude.{◌≡◌, ◌≢◌, ℕ, zero, suc, ◌+◌, ◌-◌, ◌<◌, ◌≤◌, ◌^◌, ℤ, Bool, true, false, List, ◌++◌, length, drop, map, Option, Some, None, Result, Ok, Err, IsSome, is_some}
+use Rattle.std.specs.Prelude.{◌≡◌, ◌≢◌, ℕ, zero, suc, ◌+◌, ◌-◌, ◌<◌, ◌≤◌, ◌^◌, ℤ, Bool, true, false, List}
+use Rattle.std.specs.Prelude.{◌++◌, length, drop, map, Option, Some, None, Result, Ok, Err, IsSome, is_some}
 use Rattle.std.specs.List.{list_all}
 use Rattle.std.specs.Option.{option_and_then}
 use Rattle.rx_term.specs.Name.{is_allowed}

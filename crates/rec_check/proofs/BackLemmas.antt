@@ -39,10 +39,12 @@ mutual
       subst (λ r. WalkedAll y Terms.none none s r) same (record { part = λ x v g. g; only = only; binding = tt; is = refl })
   walked_all y Terms.none (more u us) s s' only e = absurd (cc e)
   walked_all y (Terms.more t ts) none s s' only e = absurd (cc e)
-  walked_all y (Terms.more t ts) (more u us) s s' only e = by (walk_all y ts us s) refl e (λ r f. walked_all y ts us s r only f) (λ r f g. walked y t u r s' f g)
+  walked_all y (Terms.more t ts) (more u us) s s' only e = by (walk_all y ts us s) refl e (λ r f. walked_all y ts us s r only f) (λ r f g.
+      walked y t u r s' f g)
     where
       by : (o : Option Substitution) → walk_all y ts us s ≡ o → goes_on o (λ r. walk y t u r) ≡ Some s'
-          → ((r : Substitution) → walk_all y ts us s ≡ Some r → WalkedAll y ts us s r) → ((r : Substitution) → BindsOnly y r → walk y t u r ≡ Some s' → Walked y t u r s')
+          → ((r : Substitution) → walk_all y ts us s ≡ Some r → WalkedAll y ts us s r)
+          → ((r : Substitution) → BindsOnly y r → walk y t u r ≡ Some s' → Walked y t u r s')
           → WalkedAll y (Terms.more t ts) (more u us) s s'
       by None h e all first = absurd (cc e)
       by (Some r) h e all first =
@@ -61,7 +63,8 @@ mutual
   comes : (y : Spec) (g : Substitution) (t : Term) → BindsVariables y g t → (s : Substitution) → IsPartOf s g → Comes (walk y t (instance g t) s) g
   comes y g (Apply w ts) h s part = step_comes y w ts s (λ us. walk_all y ts us s) g h part (λ k. comes_all y g ts k s part)
 
-  comes_all : (y : Spec) (g : Substitution) (ts : Terms) → BindsVariablesAll y g ts → (s : Substitution) → IsPartOf s g → Comes (walk_all y ts (instances g ts) s) g
+  comes_all : (y : Spec) (g : Substitution) (ts : Terms) → BindsVariablesAll y g ts → (s : Substitution) → IsPartOf s g
+      → Comes (walk_all y ts (instances g ts) s) g
   comes_all y g Terms.none h s part = (s, refl, part)
   comes_all y g (Terms.more t ts) h s part =
       let all = comes_all y g ts h.1 s part in
@@ -106,22 +109,32 @@ mutual
       ap (λ ns. asked y (ns ++ ms) (u ∷ st) s) (reverse-append (named_all ts) (named_at w ts ∷ []))
       ∙ by (is_variable y w.bytes) refl (split.1.0) (λ us e. asked_walk_all y ts ms us st s split.0 e)
     where
-      by_variable : (zs : Terms) → zs ≡ Terms.none → goes_on (bound s w.bytes u) (λ r. asked y (reverse (named_all zs) ++ ms) st r) ≡ goes_on (bound s w.bytes u) (λ r. asked y ms st r)
+      by_variable : (zs : Terms) → zs ≡ Terms.none → goes_on (bound s w.bytes u) (λ r. asked y (reverse (named_all zs) ++ ms) st r) ≡ goes_on
+          (bound s w.bytes u) (λ r. asked y ms st r)
       by_variable zs e = ap (λ xs. goes_on (bound s w.bytes u) (λ r. asked y (reverse (named_all xs) ++ ms) st r)) e
 
-      by_opened : (o : Option Trees) → opened w.bytes (count ts) u ≡ o → ((us : Trees) → count_of us ≡ count ts → asked y (reverse (named_all ts) ++ ms) (stack_on us st) s ≡ goes_on (walk_all y ts us s) (λ r. asked y ms st r))
+      by_opened : (o : Option Trees) → opened w.bytes (count ts) u ≡ o
+          → ((us : Trees) → count_of us ≡ count ts → asked y (reverse (named_all ts) ++ ms) (stack_on us st) s ≡ goes_on (walk_all y ts us s) (λ r.
+          asked y ms st r))
           → goes_on o (λ us. asked y (reverse (named_all ts) ++ ms) (stack_on us st) s) ≡ goes_on (goes_on o (λ us. walk_all y ts us s)) (λ r. asked y ms st r)
       by_opened None h later = refl
       by_opened (Some us) h later = later us (opened_is w.bytes (count ts) u us h).1
 
       by : (b : Bool) → is_variable y w.bytes ≡ b → (is_variable y w.bytes ≡ true → count ts ≡ 0)
-          → ((us : Trees) → count_of us ≡ count ts → asked y (reverse (named_all ts) ++ ms) (stack_on us st) s ≡ goes_on (walk_all y ts us s) (λ r. asked y ms st r))
-          → ◌≡◌ {A = Option Substitution} (elim b [ true ↦ goes_on (bound s w.bytes u) (λ r. asked y (reverse (named_all ts) ++ ms) st r) | false ↦ goes_on (opened w.bytes (count ts) u) (λ us. asked y (reverse (named_all ts) ++ ms) (stack_on us st) s) ])
+          → ((us : Trees) → count_of us ≡ count ts → asked y (reverse (named_all ts) ++ ms) (stack_on us st) s ≡ goes_on (walk_all y ts us s) (λ r.
+          asked y ms st r))
+          → ◌≡◌ {A = Option Substitution}
+          (elim b [
+            | true ↦ goes_on (bound s w.bytes u) (λ r. asked y (reverse (named_all ts) ++ ms) st r)
+            | false ↦ goes_on
+                (opened w.bytes (count ts) u) (λ us. asked y (reverse (named_all ts) ++ ms) (stack_on us st) s)
+          ])
           (goes_on (elim b [ true ↦ bound s w.bytes u | false ↦ goes_on (opened w.bytes (count ts) u) (λ us. walk_all y ts us s) ]) (λ r. asked y ms st r))
       by true e h later = by_variable ts (no_count ts (h e))
       by false e h later = by_opened (opened w.bytes (count ts) u) refl later
 
-  asked_walk_all : (y : Spec) (ts : Terms) (ms : List Named) (us : Trees) (st : List Tree) (s : Substitution) → AreBare y (named_all ts) → count_of us ≡ count ts
+  asked_walk_all : (y : Spec) (ts : Terms) (ms : List Named) (us : Trees) (st : List Tree) (s : Substitution) → AreBare y (named_all ts)
+      → count_of us ≡ count ts
       → asked y (reverse (named_all ts) ++ ms) (stack_on us st) s ≡ goes_on (walk_all y ts us s) (λ r. asked y ms st r)
   asked_walk_all y Terms.none ms none st s bare e = refl
   asked_walk_all y Terms.none ms (more u us) st s bare e = absurd (let no : ⊥ = omega arith in no)

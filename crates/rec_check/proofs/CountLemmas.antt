@@ -69,7 +69,8 @@ mutual
   same-flat (Apply w ts) p =
       let own : Node = record { word = w; count = term_count ts } in
       let one : ℕ → ℕ = λ n. cond (p (record { word = w; count = n })) 1 0 in
-      let first : count_by p (map node_at (subterms (Apply w ts))) ≡ one (count ts) + count_by p (map node_at (subterms_all ts)) = count-cons p (record { word = w; count = count ts }) (map node_at (subterms_all ts)) in
+      let first : count_by p (map node_at (subterms (Apply w ts))) ≡ one (count ts) + count_by p (map node_at (subterms_all ts)) =
+      count-cons p (record { word = w; count = count ts }) (map node_at (subterms_all ts)) in
       let last : count_by p (own ∷ []) ≡ one (term_count ts) + count_by p [] = count-cons p own [] in
       let none_left : count_by p [] ≡ 0 = refl in
       let all : count_by p (flat_all ts ++ own ∷ []) ≡ count_by p (flat_all ts) + count_by p (own ∷ []) = count-append p (flat_all ts) (own ∷ []) in

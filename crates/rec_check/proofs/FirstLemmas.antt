@@ -1,7 +1,8 @@
 -- The first of the places at which a rule is broken.
 use Rattle.std.proofs.Common.{refl, sym, ap, ◌∙◌, arith, cond, inl, inr}
 use Rattle.std.proofs.lemmas.Bool.{cases_lt}
-use Rattle.std.specs.Prelude.{ℕ, zero, suc, ◌≡◌, ◌+◌, ◌<◌, ◌≤◌, ◌⊎◌, Bool, List, [], ◌∷◌, Option, Some, None, count_by, length, get_or, min, nat_eq, nat_lt, if◌then◌else◌}
+use Rattle.std.specs.Prelude.{ℕ, zero, suc, ◌≡◌, ◌+◌, ◌<◌, ◌≤◌, ◌⊎◌, Bool, List, [], ◌∷◌, Option, Some}
+use Rattle.std.specs.Prelude.{None, count_by, length, get_or, min, nat_eq, nat_lt, if◌then◌else◌}
 use Rattle.std.specs.List.Sorted.{IsNonDecreasingBy}
 use Rattle.std.proofs.lemmas.Bool.{lt-ltb, le-ltb}
 use Rattle.rec_syntax.specs.Tokens.{Word}
@@ -19,8 +20,10 @@ use Rattle.rec_check.proofs.CountLemmas.{count-cons, count-map}
 -- the rule of a number
 abbrev numbered : ℕ → Rule
 numbered n =
-    if nat_eq n 1 then rule.SortTwice else if nat_eq n 2 then rule.SymbolTwice else if nat_eq n 3 then rule.VariableTaken else if nat_eq n 4 then rule.SortUnknown
-    else if nat_eq n 5 then rule.WordUnknown else if nat_eq n 6 then rule.IllFilled else if nat_eq n 7 then rule.IllSorted else if nat_eq n 8 then rule.IllHeaded
+    if nat_eq n 1 then rule.SortTwice else if nat_eq n 2 then rule.SymbolTwice else if nat_eq n 3 then rule.VariableTaken else if nat_eq n 4 then
+    rule.SortUnknown
+    else if nat_eq n 5 then rule.WordUnknown else if nat_eq n 6 then rule.IllFilled else if nat_eq n 7 then rule.IllSorted else if nat_eq n 8 then
+    rule.IllHeaded
     else if nat_eq n 9 then rule.UnlikeSides else if nat_eq n 10 then rule.Unbound else rule.OpenTerm
 
 numbered-of : (r : Rule) → numbered (number_of r) ≡ r
@@ -46,10 +49,17 @@ Agree y (b ∷ bs) (r ∷ rs) = ((b.number ≡ number_of r) × (b.words ≡ brok
 Agree y _ _ = ⊥
 
 abbrev all_named : List Rule
-all_named = rule.SortTwice ∷ rule.SymbolTwice ∷ rule.VariableTaken ∷ rule.SortUnknown ∷ rule.WordUnknown ∷ rule.IllFilled ∷ rule.IllSorted ∷ rule.IllHeaded ∷ rule.UnlikeSides ∷ rule.Unbound ∷ rule.OpenTerm ∷ []
+all_named = rule.SortTwice ∷ rule.SymbolTwice ∷ rule.VariableTaken ∷ rule.SortUnknown ∷ rule.WordUnknown ∷ rule.IllFilled ∷ rule.IllSorted
+    ∷ rule.IllHeaded ∷ rule.UnlikeSides ∷ rule.Unbound ∷ rule.OpenTerm ∷ []
 
 agree_all : (y : Spec) → Agree y (all_rules y) all_named
-agree_all y = ((refl, refl), ((refl, refl), ((refl, refl), ((refl, refl), ((refl, refl), ((refl, refl), ((refl, refl), ((refl, refl), ((refl, refl), ((refl, refl), ((refl, refl), tt)))))))))))
+agree_all y = (
+  (refl, refl),
+  (
+    (refl, refl),
+    ((refl, refl), ((refl, refl), ((refl, refl), ((refl, refl), ((refl, refl), ((refl, refl), ((refl, refl), ((refl, refl), ((refl, refl), tt))))))))),
+  ),
+)
 
 -- the rule that is broken, with its places
 record HasRule (y : Spec) (f : Fault) : Type 0 where
@@ -75,7 +85,8 @@ broken_rule y f [] (r ∷ rs) a e = absurd a
 broken_rule y f (b ∷ bs) [] a e = absurd a
 broken_rule y f (b ∷ bs) (r ∷ rs) a e = by_places (places b.words) refl e (λ h. broken_rule y f bs rs a.1 h)
   where
-    by_places : (ps : List ℕ) → places b.words ≡ ps → (elim ps as (λ _. Option Fault) [ [] ↦ first_broken bs | q ∷ qs ↦ Some (record { number = b.number; at = least q qs }) ]) ≡ Some f
+    by_places : (ps : List ℕ) → places b.words ≡ ps
+        → (elim ps as (λ _. Option Fault) [ [] ↦ first_broken bs | q ∷ qs ↦ Some (record { number = b.number; at = least q qs }) ]) ≡ Some f
         → (first_broken bs ≡ Some f → HasRule y f) → HasRule y f
     by_places [] is h k = k h
     by_places (q ∷ qs) is h k = record {
@@ -115,7 +126,15 @@ none_below b p [] h =
 none_below b p (q ∷ ps) h =
     let first = least-first (min p q) ps in
     let rest = none_below b (min p q) ps h in
-    omega (arith, below-cons b p (q ∷ ps), below-cons b q ps, below-cons b (min p q) ps, rest, one_below-no b p (omega (arith, first, h)), one_below-no b q (omega (arith, first, h)))
+    omega (
+      arith,
+      below-cons b p (q ∷ ps),
+      below-cons b q ps,
+      below-cons b (min p q) ps,
+      rest,
+      one_below-no b p (omega (arith, first, h)),
+      one_below-no b q (omega (arith, first, h)),
+    )
 
 -- some one is not above it
 some_least : (p : ℕ) (ps : List ℕ) → 0 < below (suc (least p ps)) (p ∷ ps)
@@ -126,11 +145,25 @@ some_least p (q ∷ ps) = by_order (cases_lt p q) (some_least (min p q) ps)
     by_order (inl h) some =
         let e : min p q ≡ p = omega arith in
         let same : one_below (suc (least (min p q) ps)) (min p q) ≡ one_below (suc (least (min p q) ps)) p = ap (one_below (suc (least (min p q) ps))) e in
-        omega (arith, some, below-cons (suc (least (min p q) ps)) (min p q) ps, below-cons (suc (least (min p q) ps)) p (q ∷ ps), below-cons (suc (least (min p q) ps)) q ps, same)
+        omega (
+          arith,
+          some,
+          below-cons (suc (least (min p q) ps)) (min p q) ps,
+          below-cons (suc (least (min p q) ps)) p (q ∷ ps),
+          below-cons (suc (least (min p q) ps)) q ps,
+          same,
+        )
     by_order (inr h) some =
         let e : min p q ≡ q = omega arith in
         let same : one_below (suc (least (min p q) ps)) (min p q) ≡ one_below (suc (least (min p q) ps)) q = ap (one_below (suc (least (min p q) ps))) e in
-        omega (arith, some, below-cons (suc (least (min p q) ps)) (min p q) ps, below-cons (suc (least (min p q) ps)) p (q ∷ ps), below-cons (suc (least (min p q) ps)) q ps, same)
+        omega (
+          arith,
+          some,
+          below-cons (suc (least (min p q) ps)) (min p q) ps,
+          below-cons (suc (least (min p q) ps)) p (q ∷ ps),
+          below-cons (suc (least (min p q) ps)) q ps,
+          same,
+        )
 
 -- the same of findings
 abbrev found_below : ℕ → List Found → ℕ
@@ -150,7 +183,8 @@ none_found b (f ∷ fs) h =
     omega (arith, first, rest, all)
 
 -- the first of findings in order is at the least place
-first_at_least : (a : ℕ) (fs : List Found) → IsNonDecreasingBy (λ f. f.at) fs → found_below a fs ≡ 0 → 0 < found_below (suc a) fs → (first : Found) × (rest : List Found) × (fs ≡ first ∷ rest) × (first.at ≡ a)
+first_at_least : (a : ℕ) (fs : List Found) → IsNonDecreasingBy (λ f. f.at) fs → found_below a fs ≡ 0 → 0 < found_below (suc a) fs
+    → (first : Found) × (rest : List Found) × (fs ≡ first ∷ rest) × (first.at ≡ a)
 first_at_least a [] ordered none some = absurd (omega (arith, some, empty))
   where
     empty : found_below (suc a) [] ≡ 0
@@ -163,7 +197,8 @@ first_at_least a (f ∷ fs) ordered none some = (f, fs, refl, by_order (cases_lt
     by_order : (f.at < a) ⊎ (a ≤ f.at) → (a < f.at) ⊎ (f.at ≤ a) → f.at ≡ a
     by_order (inl low) _ = absurd (omega (arith, none, one_more a, one_below-yes a f.at low))
     by_order (inr high) (inl above) =
-        let all : found_below (suc a) (f ∷ fs) ≡ 0 = none_found (suc a) (f ∷ fs) (λ i d below_it. omega (arith, above, ordered zero i d (omega arith) below_it)) in
+        let all : found_below (suc a) (f ∷ fs) ≡ 0 = none_found (suc a) (f ∷ fs) (λ i d below_it.
+        omega (arith, above, ordered zero i d (omega arith) below_it)) in
         absurd (omega (arith, some, all))
     by_order (inr high) (inr within) = omega (arith, high, within)
 
@@ -178,7 +213,8 @@ first_place_law y f r fs e n o =
     let low : found_below f.at fs ≡ 0 = count f.at ∙ none_below f.at found.place found.others (omega (arith, found.least_at)) in
     let high : 0 < found_below (suc f.at) fs =
     let some : 0 < below (suc (least found.place found.others)) (found.place ∷ found.others) = some_least found.place found.others in
-    let same_count : below (suc (least found.place found.others)) (found.place ∷ found.others) ≡ below (suc f.at) (found.place ∷ found.others) = ap (λ (a : ℕ). below (suc a) (found.place ∷ found.others)) found.least_at in
+    let same_count : below (suc (least found.place found.others)) (found.place ∷ found.others) ≡ below (suc f.at) (found.place ∷ found.others) =
+    ap (λ (a : ℕ). below (suc a) (found.place ∷ found.others)) found.least_at in
     omega (arith, count (suc f.at), some, same_count)
     in
     first_at_least f.at fs o.ordered low high

@@ -12,7 +12,8 @@ use Rattle.rec_check.specs.declared.finding.Finding.{Finding}
 use Rattle.rec_check.specs.declared.spots.Spot.{Spot}
 
 module _ (name text : List ℕ) where
-  lines-append : (xs ys : List Finding) → lines_of name text (as_findings (xs ++ ys)) ≡ lines_of name text (as_findings xs) ++ lines_of name text (as_findings ys)
+  lines-append : (xs ys : List Finding) → lines_of name text (as_findings (xs ++ ys)) ≡ lines_of name text (as_findings xs) ++ lines_of name text
+      (as_findings ys)
   lines-append xs ys = ap (lines_of name text) (map-append as_found xs ys) ∙ flat_map-append (line_of name text) (as_findings xs) (as_findings ys)
 
   -- one line more
@@ -27,13 +28,15 @@ module _ (name text : List ℕ) where
 
   -- all lines are those so far, one more, and the others
   pub lines_rest : (xs : List Finding) (i : ℕ) (d : Finding) (spot : Spot) → i < length xs → spot ≡ spot_of text (get_or xs i d).at
-      → lines_of name text (as_findings xs) ≡ lines_of name text (as_findings (take i xs)) ++ (line_at name spot (as_found (get_or xs i d)) ++ lines_of name text (as_findings (drop (i + 1) xs)))
+      → lines_of name text (as_findings xs) ≡ lines_of name text (as_findings (take i xs))
+      ++ (line_at name spot (as_found (get_or xs i d)) ++ lines_of name text (as_findings (drop (i + 1) xs)))
   lines_rest xs i d spot h e =
       let x : Finding = get_or xs i d in
       ap (λ ys. lines_of name text (as_findings ys)) (sym (take-append-drop i xs))
       ∙ lines-append (take i xs) (drop i xs)
       ∙ ap (λ ys. lines_of name text (as_findings (take i xs)) ++ lines_of name text (as_findings ys)) (drop-turn xs i d h)
-      ∙ ap (λ (s : Spot). lines_of name text (as_findings (take i xs)) ++ (line_at name s (as_found x) ++ lines_of name text (as_findings (drop (i + 1) xs)))) (sym e)
+      ∙ ap (λ (s : Spot). lines_of name text (as_findings (take i xs))
+      ++ (line_at name s (as_found x) ++ lines_of name text (as_findings (drop (i + 1) xs)))) (sym e)
 
   pub lines_end : (xs : List Finding) (i : ℕ) → length xs ≤ i → lines_of name text (as_findings (take i xs)) ≡ lines_of name text (as_findings xs)
   lines_end xs i past = ap (λ ys. lines_of name text (as_findings ys)) (take_all i xs past)

@@ -18,11 +18,13 @@ grown_by_one v f xs i x old now new a h e before pushed one =
     ∙ ap (λ ys. map v old ++ ys) (sym (map-take_turn f xs i x h e))
 
 -- all items gave one
-pub grown_by_ones : {A B C : Type 0} (v : A → B) (f : C → B) (xs : List C) (i : ℕ) (old new : List A) → length xs ≤ i → map v new ≡ map v old ++ map f (take i xs) → map v new ≡ map v old ++ map f xs
+pub grown_by_ones : {A B C : Type 0} (v : A → B) (f : C → B) (xs : List C) (i : ℕ) (old new : List A) → length xs ≤ i
+    → map v new ≡ map v old ++ map f (take i xs) → map v new ≡ map v old ++ map f xs
 grown_by_ones v f xs i old new past before = before ∙ ap (λ ys. map v old ++ map f ys) (take_all i xs past)
 
 -- one item more gives some
-pub grown_by_some : {A B C D : Type 0} (v : A → B) (f : D → List B) (g : C → D) (xs : List C) (i : ℕ) (x : C) (old now new : List A) → i < length xs → x ≡ get_or xs i x
+pub grown_by_some : {A B C D : Type 0} (v : A → B) (f : D → List B) (g : C → D) (xs : List C) (i : ℕ) (x : C) (old now new : List A) → i < length xs
+    → x ≡ get_or xs i x
     → map v now ≡ map v old ++ flat_map f (map g (take i xs)) → map v new ≡ map v now ++ f (g x) → map v new ≡ map v old ++ flat_map f (map g (take (i + 1) xs))
 grown_by_some v f g xs i x old now new h e before pushed =
     pushed

@@ -2,7 +2,8 @@
 use Rattle.std.proofs.Common.{refl, sym, ap, ◌∙◌, arith, append_assoc, inl, inr}
 use Rattle.std.proofs.lemmas.Bool.{cases_lt}
 use Rattle.std.proofs.lemmas.List.{append-nil, drop_all, length-map}
-use Rattle.std.specs.Prelude.{ℕ, zero, suc, ◌≡◌, ◌-◌, ◌+◌, ◌<◌, ◌≤◌, ◌⊎◌, List, [], ◌∷◌, ◌++◌, Option, Some, None, option_map, length, map, take, drop, get_or, slice_get, min}
+use Rattle.std.specs.Prelude.{ℕ, zero, suc, ◌≡◌, ◌-◌, ◌+◌, ◌<◌, ◌≤◌, ◌⊎◌, List, [], ◌∷◌, ◌++◌, Option}
+use Rattle.std.specs.Prelude.{Some, None, option_map, length, map, take, drop, get_or, slice_get, min}
 use Rattle.rec_syntax.specs.Tokens as syntax
 use Rattle.rec_syntax.specs.Syntax.{Spec, head, arguments}
 use Rattle.rec_syntax.specs.Lexemes.{word_of}
@@ -21,7 +22,8 @@ use Rattle.rec_check.specs.declared.words.Word.{Word}
 use Rattle.rec_check.specs.declared.words.Counted.{Counted}
 use Rattle.rec_check.proofs.WalkLemmas.{flat-last, misfits-nothing}
 
-misfits-done : (y : Spec) (source : List ℕ) (hs : List Word) (ss : List Span) (n : ℕ) → n ≡ min (length hs) (length ss) → misfits y (as_words (drop n hs)) (words_of source (drop n ss)) ≡ []
+misfits-done : (y : Spec) (source : List ℕ) (hs : List Word) (ss : List Span) (n : ℕ) → n ≡ min (length hs) (length ss)
+    → misfits y (as_words (drop n hs)) (words_of source (drop n ss)) ≡ []
 misfits-done y source hs ss n e = by_end (cases_lt (length hs) (length ss))
   where
     by_end : (length hs < length ss) ⊎ (length ss ≤ length hs) → misfits y (as_words (drop n hs)) (words_of source (drop n ss)) ≡ []
@@ -44,8 +46,10 @@ map-drop f (suc n) [] = refl
 map-drop f (suc n) (x ∷ xs) = map-drop f n xs
 
 -- one node more
-pub ill_sorted_item : (y : Spec) (ns : List Counted) (i : ℕ) (d : Counted) (heads after : List Word) (base : ℕ) (found new all : List syntax.Word) → i < length ns → base ≡ length heads - (get_or ns i d).count
-    → new ≡ found ++ misfits y (as_words (drop base heads)) (argument_sorts y (get_or ns i d).word.bytes.now) → after ≡ take base heads ++ (get_or ns i d).word ∷ []
+pub ill_sorted_item : (y : Spec) (ns : List Counted) (i : ℕ) (d : Counted) (heads after : List Word) (base : ℕ) (found new all : List syntax.Word)
+    → i < length ns → base ≡ length heads - (get_or ns i d).count
+    → new ≡ found ++ misfits y (as_words (drop base heads)) (argument_sorts y (get_or ns i d).word.bytes.now)
+    → after ≡ take base heads ++ (get_or ns i d).word ∷ []
     → found ++ ill_sorted_among y (as_words heads) (as_nodes (drop i ns)) ≡ all → new ++ ill_sorted_among y (as_words after) (as_nodes (drop (i + 1) ns)) ≡ all
 ill_sorted_item y ns i d heads after base found new all h at grown pushed before =
     let n : Counted = get_or ns i d in
@@ -54,7 +58,8 @@ ill_sorted_item y ns i d heads after base found new all h at grown pushed before
     let sorts : List syntax.Word = argument_sorts y n.word.bytes.now in
     let stack : ℕ → List syntax.Word = λ b. take b hs ++ as_word n.word ∷ [] in
     let same_base : base ≡ length hs - n.count = at ∙ ap (λ (k : ℕ). k - n.count) (sym (length-map heads as_word)) in
-    let cut : as_words after ≡ stack base = ap as_words pushed ∙ map-append as_word (take base heads) (n.word ∷ []) ∙ ap (λ ws. ws ++ as_word n.word ∷ []) (map-take as_word base heads) in
+    let cut : as_words after ≡ stack base = ap as_words pushed ∙ map-append as_word (take base heads) (n.word ∷ [])
+    ∙ ap (λ ws. ws ++ as_word n.word ∷ []) (map-take as_word base heads) in
     let more : new ≡ found ++ misfits y (drop base hs) sorts = grown ∙ ap (λ ws. found ++ misfits y ws sorts) (map-drop as_word base heads) in
     ap (λ ws. new ++ ill_sorted_among y ws rest) cut
     ∙ ap (λ ws. ws ++ ill_sorted_among y (stack base) rest) more
@@ -72,12 +77,14 @@ some_word : (a b : nodes.Node) → ◌≡◌ {A = Option nodes.Node} (Some a) (S
 some_word a b e = ap (λ (o : Option nodes.Node). elim o as (λ _. syntax.Word) [ Some n ↦ n.word | None ↦ a.word ]) e
 
 -- the head of a term is its last node's word
-pub head_is : (source : List ℕ) (t : Term) → IsTerm source t → (ns : List Node) → ns ≡ t.nodes.items → (n : Node) → slice_get ns (length ns - 1) ≡ Some n → word_of source n.word ≡ head (term_of source t)
+pub head_is : (source : List ℕ) (t : Term) → IsTerm source t → (ns : List Node) → ns ≡ t.nodes.items → (n : Node)
+    → slice_get ns (length ns - 1) ≡ Some n → word_of source n.word ≡ head (term_of source t)
 head_is source t h ns e n last =
     let tree = term_of source t in
     let spelled : map (node_of source) ns ≡ flat tree = ap (map (node_of source)) e ∙ h.flat in
     let long : length (map (node_of source) ns) ≡ length ns = length-map ns (node_of source) in
-    let found : slice_get (map (node_of source) ns) (length ns - 1) ≡ Some (node_of source n) = slice_get-map (node_of source) ns (length ns - 1) ∙ ap (option_map (node_of source)) last in
+    let found : slice_get (map (node_of source) ns) (length ns - 1) ≡ Some (node_of source n) =
+    slice_get-map (node_of source) ns (length ns - 1) ∙ ap (option_map (node_of source)) last in
     let same : ◌≡◌ {A = Option nodes.Node} (Some (node_of source n)) (Some (record { word = head tree; count = term_count (arguments tree) })) =
     sym found ∙ ap (λ (k : ℕ). slice_get (map (node_of source) ns) (k - 1)) (sym long) ∙ ap (λ ms. slice_get ms (length ms - 1)) spelled ∙ flat-last tree in
     some_word (node_of source n) (record { word = head tree; count = term_count (arguments tree) }) same

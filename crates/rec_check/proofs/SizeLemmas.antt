@@ -1,9 +1,11 @@
 -- How many letters terms have.
 use Rattle.std.proofs.Common.{refl, sym, ap, arith, ◌∙◌, append_assoc, length-append, take, drop, inl, inr}
 use Rattle.std.proofs.lemmas.Bool.{cases_eq}
-use Rattle.std.proofs.lemmas.List.{drop-take, get_or-drop, get_or-take, take-append-drop, length-drop, length-map, length-reverse, length-take, map-append, take-map, take_all}
+use Rattle.std.proofs.lemmas.List.{drop-take, get_or-drop, get_or-take, take-append-drop, length-drop}
+use Rattle.std.proofs.lemmas.List.{length-map, length-reverse, length-take, map-append, take-map, take_all}
 use Rattle.std.proofs.Math.Seq.{take-append_seam}
-use Rattle.std.specs.Prelude.{ℕ, zero, suc, ◌≡◌, ◌≢◌, ◌≤◌, ◌<◌, ◌+◌, ◌-◌, ◌⊎◌, Bool, true, false, Contains, List, [], ◌∷◌, ◌++◌, Option, Some, None, get_or, is_some, length, map, reverse}
+use Rattle.std.specs.Prelude.{ℕ, zero, suc, ◌≡◌, ◌≢◌, ◌≤◌, ◌<◌, ◌+◌, ◌-◌, ◌⊎◌, Bool, true, false, Contains}
+use Rattle.std.specs.Prelude.{List, [], ◌∷◌, ◌++◌, Option, Some, None, get_or, is_some, length, map, reverse}
 use Rattle.rx_term.specs.Tree.{Tree, Trees, Int, Appl, Items, Hole, none, more}
 use Rattle.rec_syntax.specs.Syntax as syntax
 use Rattle.rec_syntax.specs.Syntax.{Term, Terms, Apply, Rule, Spec}
@@ -52,11 +54,13 @@ asked_few y [] st s r e = omega arith
 asked_few y (m ∷ ms) [] s r e = absurd (cc e)
 asked_few y (m ∷ ms) (u ∷ st) s r e = by (is_variable y m.name) e (λ q f. asked_few y ms st q r f) (λ us f. asked_few y ms (stack_on us st) s r f)
   where
-    taken : (o : Option Substitution) → goes_on o (λ q. asked y ms st q) ≡ Some r → ((q : Substitution) → asked y ms st q ≡ Some r → length ms ≤ nodes_on st) → suc (length ms) ≤ nodes u + nodes_on st
+    taken : (o : Option Substitution) → goes_on o (λ q. asked y ms st q) ≡ Some r
+        → ((q : Substitution) → asked y ms st q ≡ Some r → length ms ≤ nodes_on st) → suc (length ms) ≤ nodes u + nodes_on st
     taken None f later = absurd (cc f)
     taken (Some q) f later = let h = later q f in let k = some_nodes u in omega (arith, h, k)
 
-    opens : (o : Option Trees) → opened m.name m.arguments u ≡ o → goes_on o (λ us. asked y ms (stack_on us st) s) ≡ Some r → ((us : Trees) → asked y ms (stack_on us st) s ≡ Some r → length ms ≤ nodes_on (stack_on us st)) → suc (length ms) ≤ nodes u + nodes_on st
+    opens : (o : Option Trees) → opened m.name m.arguments u ≡ o → goes_on o (λ us. asked y ms (stack_on us st) s) ≡ Some r
+        → ((us : Trees) → asked y ms (stack_on us st) s ≡ Some r → length ms ≤ nodes_on (stack_on us st)) → suc (length ms) ≤ nodes u + nodes_on st
     opens None g f later = absurd (cc f)
     opens (Some us) g f later =
         let h = later us f in
@@ -64,8 +68,13 @@ asked_few y (m ∷ ms) (u ∷ st) s r e = by (is_variable y m.name) e (λ q f. a
         let all = nodes_stacked us st in
         omega (arith, h, own, all)
 
-    by : (b : Bool) → (elim b as (λ _. Option Substitution) [ true ↦ goes_on (bound s m.name u) (λ q. asked y ms st q) | false ↦ goes_on (opened m.name m.arguments u) (λ us. asked y ms (stack_on us st) s) ]) ≡ Some r
-        → ((q : Substitution) → asked y ms st q ≡ Some r → length ms ≤ nodes_on st) → ((us : Trees) → asked y ms (stack_on us st) s ≡ Some r → length ms ≤ nodes_on (stack_on us st)) → suc (length ms) ≤ nodes u + nodes_on st
+    by : (b : Bool) → (elim b as (λ _. Option Substitution) [
+      | true ↦ goes_on (bound s m.name u) (λ q. asked y ms st q)
+      | false ↦ goes_on
+          (opened m.name m.arguments u) (λ us. asked y ms (stack_on us st) s)
+    ]) ≡ Some r
+        → ((q : Substitution) → asked y ms st q ≡ Some r → length ms ≤ nodes_on st)
+        → ((us : Trees) → asked y ms (stack_on us st) s ≡ Some r → length ms ≤ nodes_on (stack_on us st)) → suc (length ms) ≤ nodes u + nodes_on st
     by true e first later = taken (bound s m.name u) e first
     by false e first later = opens (opened m.name m.arguments u) refl e later
 
@@ -84,8 +93,10 @@ mutual
       let a = length-append (named t) (named_all ts) in
       omega (arith, e, f, a)
 
-pub too_long : (left term : List Letter) → length term < length left → (y : Spec) (r : Rule) (t : Term) → fault y ≡ None → Contains y.rules r → AreLetters y left r.left → AreLetters y term t → false ≡ is_some (binds y r.left (tree_of t))
-too_long left term few y r t kept there l e = by (asked y (reverse (named r.left)) (tree_of t ∷ []) []) refl ∙ asked_binds y r.left (tree_of t) (left_bare y kept r there)
+pub too_long : (left term : List Letter) → length term < length left → (y : Spec) (r : Rule) (t : Term) → fault y ≡ None → Contains y.rules r
+    → AreLetters y left r.left → AreLetters y term t → false ≡ is_some (binds y r.left (tree_of t))
+too_long left term few y r t kept there l e = by (asked y (reverse (named r.left)) (tree_of t ∷ []) []) refl
+    ∙ asked_binds y r.left (tree_of t) (left_bare y kept r there)
   where
     by : (o : Option Substitution) → asked y (reverse (named r.left)) (tree_of t ∷ []) [] ≡ o → false ≡ is_some o
     by None f = refl
@@ -115,7 +126,8 @@ take_plus n i xs =
 pub before_end : {A : Type 0} (xs : List A) (i : ℕ) → i < length xs → take (length (take (i + 1) xs) - 1) (take (i + 1) xs) ≡ take i xs
 before_end xs i lt =
     let long = length-take (i + 1) xs in
-    ap (λ (k : ℕ). take k (take (i + 1) xs)) (let same : length (take (i + 1) xs) - 1 ≡ i = omega (arith, long, lt) in same) ∙ take_within i (i + 1) xs (omega arith)
+    ap (λ (k : ℕ). take k (take (i + 1) xs)) (let same : length (take (i + 1) xs) - 1 ≡ i = omega (arith, long, lt) in same)
+    ∙ take_within i (i + 1) xs (omega arith)
 
 -- ---- sizes of the terms that end at letters
 
@@ -125,7 +137,8 @@ sizes_front letters sizes n h = record {
   each = λ i lt y ms t e.
       let a = length-take n letters in
       let within : i < n = omega (arith, lt, a) in
-      get_or-take n sizes i 0 within ∙ h.each i (omega (arith, lt, a)) y ms t (ap (map (named_by y)) (sym (take_within (i + 1) n letters (omega (arith, within)))) ∙ e);
+      get_or-take n sizes i 0 within ∙ h.each i (omega (arith, lt, a)) y ms t
+      (ap (map (named_by y)) (sym (take_within (i + 1) n letters (omega (arith, within)))) ∙ e);
 }
 
 pub sizes_back : (letters : List Letter) (sizes : List ℕ) (n : ℕ) → AreSizes letters sizes → AreSizes (drop n letters) (drop n sizes)
@@ -143,7 +156,8 @@ sizes_back letters sizes n h = record {
       ∙ sym (append_assoc front ms (named t)));
 }
 
-pub last_size : (letters : List Letter) (sizes others : List ℕ) (size : ℕ) → AreSizes letters sizes → sizes ≡ others ++ size ∷ [] → (y : Spec) (ms : List Named) (t : Term) → map (named_by y) letters ≡ ms ++ named t → length letters ≡ length ms + size
+pub last_size : (letters : List Letter) (sizes others : List ℕ) (size : ℕ) → AreSizes letters sizes → sizes ≡ others ++ size ∷ []
+    → (y : Spec) (ms : List Named) (t : Term) → map (named_by y) letters ≡ ms ++ named t → length letters ≡ length ms + size
 last_size letters sizes others size h split y ms t e =
     let long = h.long in
     let own : length sizes ≡ length others + 1 = ap length split ∙ length-append others (size ∷ []) in
@@ -154,7 +168,8 @@ last_size letters sizes others size h split y ms t e =
     let total : length letters ≡ length ms + length (named t) = sym (length-map letters (named_by y)) ∙ ap length e ∙ length-append ms (named t) in
     omega (arith, is, here, total)
 
-pub no_size : (letters : List Letter) (sizes : List ℕ) → AreSizes letters sizes → length sizes ≡ 0 → (y : Spec) (ms : List Named) (t : Term) → map (named_by y) letters ≡ ms ++ named t → ⊥
+pub no_size : (letters : List Letter) (sizes : List ℕ) → AreSizes letters sizes → length sizes ≡ 0 → (y : Spec) (ms : List Named) (t : Term)
+    → map (named_by y) letters ≡ ms ++ named t → ⊥
 no_size letters sizes h empty y ms t e =
     let long = h.long in
     let some = some_names t in
@@ -162,10 +177,12 @@ no_size letters sizes h empty y ms t e =
     omega (arith, long, empty, some, total)
 
 -- a term less is due before the last one of those
-pub due_term : (letters : List Letter) (sizes : List ℕ) (m at due : ℕ) (y : Spec) (ms : List Named) → AreSizes (take m letters) sizes → m ≤ length letters → at ≤ m → 0 < at → 0 < due → AreDue letters at due y ms → AreDue letters (at - get_or sizes (at - 1) 0) (due - 1) y ms
+pub due_term : (letters : List Letter) (sizes : List ℕ) (m at due : ℕ) (y : Spec) (ms : List Named) → AreSizes (take m letters) sizes
+    → m ≤ length letters → at ≤ m → 0 < at → 0 < due → AreDue letters at due y ms → AreDue letters (at - get_or sizes (at - 1) 0) (due - 1) y ms
 due_term letters sizes m at due y ms h within below some left due_at = by due_at.terms due_at.names due_at.counted
   where
-    by : (ts : List Term) → map (named_by y) (take at letters) ≡ ms ++ names_below ts → length ts ≡ due → AreDue letters (at - get_or sizes (at - 1) 0) (due - 1) y ms
+    by : (ts : List Term) → map (named_by y) (take at letters) ≡ ms ++ names_below ts → length ts ≡ due
+        → AreDue letters (at - get_or sizes (at - 1) 0) (due - 1) y ms
     by [] e counted = absurd (let nothing : ⊥ = omega (arith, left, counted) in nothing)
     by (u ∷ us) e counted =
         let front : List Named = ms ++ names_below us in
@@ -174,10 +191,12 @@ due_term letters sizes m at due y ms h within below some left due_at = by due_at
         let same : take ((at - 1) + 1) (take m letters) ≡ take at letters =
         ap (λ (k : ℕ). take k (take m letters)) (let k : (at - 1) + 1 ≡ at = omega (arith, some) in k) ∙ take_within at m letters below
         in
-        let size : get_or sizes (at - 1) 0 ≡ length (named u) = h.each (at - 1) (omega (arith, long, within, below, some)) y front u (ap (map (named_by y)) same ∙ split) in
+        let size : get_or sizes (at - 1) 0 ≡ length (named u) = h.each (at - 1) (omega (arith, long, within, below, some)) y front u
+        (ap (map (named_by y)) same ∙ split) in
         let a = length-append front (named u) in
         let b = length-take at letters in
-        let total : at ≡ length front + length (named u) = (let c : length (take at letters) ≡ length (front ++ named u) = sym (length-map (take at letters) (named_by y)) ∙ ap length split in omega (arith, a, b, c, within, below)) in
+        let total : at ≡ length front + length (named u) = (let c : length (take at letters) ≡ length (front ++ named u) =
+        sym (length-map (take at letters) (named_by y)) ∙ ap length split in omega (arith, a, b, c, within, below)) in
         let next : at - get_or sizes (at - 1) 0 ≡ length front = omega (arith, size, total) in
         record {
           terms = us;
@@ -195,19 +214,23 @@ sizes_start letters sizes e = record { long = ap length e; each = λ i lt y ms t
 
 -- one size more
 pub sizes_more : (letters : List Letter) (sizes after : List ℕ) (i size : ℕ) → i < length letters → AreSizes (take i letters) sizes → after ≡ sizes ++ size ∷ []
-    → ((y : Spec) (ms : List Named) (t : Term) → map (named_by y) (take (i + 1) letters) ≡ ms ++ named t → size ≡ length (named t)) → AreSizes (take (i + 1) letters) after
+    → ((y : Spec) (ms : List Named) (t : Term) → map (named_by y) (take (i + 1) letters) ≡ ms ++ named t → size ≡ length (named t))
+    → AreSizes (take (i + 1) letters) after
 sizes_more letters sizes after i size lt h pushed own = record {
-  long = (let e = ap length pushed ∙ length-append sizes (size ∷ []) in let a = length-take i letters in let b = length-take (i + 1) letters in let c = h.long in omega (arith, e, a, b, c, lt));
+  long = (let e = ap length pushed ∙ length-append sizes (size ∷ []) in let a = length-take i letters in let b = length-take (i + 1) letters in
+      let c = h.long in omega (arith, e, a, b, c, lt));
   each = λ j below y ms t e. by j below (cases_eq j i) y ms t e;
 }
   where
     counted : length sizes ≡ i
     counted = let a = length-take i letters in let c = h.long in omega (arith, a, c, lt)
 
-    by : (j : ℕ) → j < length (take (i + 1) letters) → (j ≡ i) ⊎ (j ≢ i) → (y : Spec) (ms : List Named) (t : Term) → map (named_by y) (take (j + 1) (take (i + 1) letters)) ≡ ms ++ named t → get_or after j 0 ≡ length (named t)
+    by : (j : ℕ) → j < length (take (i + 1) letters) → (j ≡ i) ⊎ (j ≢ i) → (y : Spec) (ms : List Named) (t : Term)
+        → map (named_by y) (take (j + 1) (take (i + 1) letters)) ≡ ms ++ named t → get_or after j 0 ≡ length (named t)
     by j below (inl q) y ms t e =
         ap (λ xs. get_or xs j 0) pushed ∙ get-last sizes size j 0 (q ∙ sym counted)
-        ∙ own y ms t (ap (map (named_by y)) (sym (take_within (i + 1) (i + 1) letters (omega arith)) ∙ ap (λ (k : ℕ). take (k + 1) (take (i + 1) letters)) (sym q)) ∙ e)
+        ∙ own y ms t (ap (map (named_by y)) (sym (take_within (i + 1) (i + 1) letters (omega arith))
+        ∙ ap (λ (k : ℕ). take (k + 1) (take (i + 1) letters)) (sym q)) ∙ e)
     by j below (inr d) y ms t e =
         let b = length-take (i + 1) letters in
         let early : j < i = omega (arith, below, b, d) in

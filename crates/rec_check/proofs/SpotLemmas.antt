@@ -34,7 +34,8 @@ column_behind s b = by_test (b == 10)
     by_test true = omega arith
     by_test false = omega arith
 
-pub cursor_next : (text : List ℕ) (old new : Cursor) → IsCursor text old → old.at < length text → new.text.now ≡ old.text.now → new.at ≡ old.at + 1 → new.spot ≡ spot_behind old.spot (get_or old.text.now old.at 0) → IsCursor text new
+pub cursor_next : (text : List ℕ) (old new : Cursor) → IsCursor text old → old.at < length text → new.text.now ≡ old.text.now → new.at ≡ old.at + 1
+    → new.spot ≡ spot_behind old.spot (get_or old.text.now old.at 0) → IsCursor text new
 cursor_next text old new h below same at spot =
     let line = ap (λ (s : Spot). s.line) spot in
     let column = ap (λ (s : Spot). s.column) spot in
@@ -45,7 +46,9 @@ cursor_next text old new h below same at spot =
     record {
       text_is = same ∙ h.text_is;
       within = omega (arith, at, below);
-      spot_is = spot ∙ ap (λ (s : Spot). spot_behind s (get_or old.text.now old.at 0)) h.spot_is ∙ ap (λ (t : List ℕ). spot_behind (spot_of text old.at) (get_or t old.at 0)) h.text_is ∙ sym (spot_of-next text old.at below) ∙ ap (spot_of text) (sym at);
+      spot_is = spot ∙ ap (λ (s : Spot). spot_behind s (get_or old.text.now old.at 0)) h.spot_is
+          ∙ ap (λ (t : List ℕ). spot_behind (spot_of text old.at) (get_or t old.at 0)) h.text_is ∙ sym (spot_of-next text old.at below)
+          ∙ ap (spot_of text) (sym at);
       line_small = omega (arith, at, line, line_most, line_first);
       column_small = omega (arith, at, column, column_most, column_first);
     }

@@ -4,7 +4,8 @@ use Rattle.std.proofs.lemmas.List.{append-nil, length-append}
 use Rattle.std.proofs.lemmas.List.Concat.{flat_map-append}
 use lib.Dec.{eqb-suc-zero}
 use Rattle.std.proofs.Math.Seq.{take-append_seam, drop-append_seam}
-use Rattle.std.specs.Prelude.{ℕ, suc, ◌≡◌, ◌+◌, ◌-◌, Bool, true, false, ◌||◌, not, List, [], ◌∷◌, ◌++◌, Option, Some, None, count_by, length, map, flat_map, filter, take, drop, slice_get, nat_eq, bytes_eq}
+use Rattle.std.specs.Prelude.{ℕ, suc, ◌≡◌, ◌+◌, ◌-◌, Bool, true, false, ◌||◌, not, List, [], ◌∷◌, ◌++◌, Option, Some}
+use Rattle.std.specs.Prelude.{None, count_by, length, map, flat_map, filter, take, drop, slice_get, nat_eq, bytes_eq}
 use Rattle.rec_syntax.specs.Tokens.{Word}
 use Rattle.rec_syntax.specs.Syntax.{Term, Terms, Apply, none, more, Declaration, Condition, Rule, Spec, head, arguments, subterms, subterms_all}
 use Rattle.rec_syntax.specs.Nodes.{Node, flat, flat_all, term_count}
@@ -16,7 +17,8 @@ use Rattle.rec_check.specs.Findings.{HasSame}
 use Rattle.rec_check.specs.Lookups.{argument_sorts, ill_filled_among, present}
 use Rattle.rec_check.specs.Named.{node_words}
 use Rattle.rec_check.specs.Walks.{flat_terms, misfits, ill_sorted_among, unlike_heads, unlike_in_conditions, unlike_in, unbound_in}
-use Rattle.rec_check.proofs.CountLemmas.{count-cons, count-append, same-filter, same-map, same-trans, same-of, same-flat_map, same-flat_terms, same-flat, node_at}
+use Rattle.rec_check.proofs.CountLemmas.{count-cons, count-append, same-filter, same-map, same-trans}
+use Rattle.rec_check.proofs.CountLemmas.{same-of, same-flat_map, same-flat_terms, same-flat, node_at}
 
 -- the last node of a term is its own
 slice_get-last : {X : Type 0} (xs : List X) (x : X) → slice_get (xs ++ x ∷ []) (length xs) ≡ Some x
@@ -54,7 +56,8 @@ same-present ks ts = same-filter (λ w. mentions ks w.bytes) (heads (everywhere 
 -- a name is mentioned where some word has it
 mentions-count : (ws : List Word) (name : List ℕ) → mentions ws name ≡ not (nat_eq (count_by (λ w. bytes_eq w.bytes name) ws) 0)
 mentions-count [] name = refl
-mentions-count (w ∷ ws) name = by_test (bytes_eq w.bytes name) (mentions-count ws name) ∙ ap (λ (n : ℕ). not (nat_eq n 0)) (sym (count-cons (λ v. bytes_eq v.bytes name) w ws))
+mentions-count (w ∷ ws) name = by_test (bytes_eq w.bytes name) (mentions-count ws name)
+    ∙ ap (λ (n : ℕ). not (nat_eq n 0)) (sym (count-cons (λ v. bytes_eq v.bytes name) w ws))
   where
     positive : (n : ℕ) → true ≡ not (nat_eq (1 + n) 0)
     positive n = sym (ap not (eqb-suc-zero n)) ∙ ap (λ (k : ℕ). not (nat_eq k 0)) (let e : suc n ≡ 1 + n = omega arith in e)
@@ -79,7 +82,8 @@ module _ (y : Spec) where
   is_filled-node : (u : Term) → is_filled y u ≡ nat_eq (count (arguments u)) (length (argument_sorts y (head u).bytes))
   is_filled-node (Apply w ts) = by_symbol (symbol y w.bytes)
     where
-      by_symbol : (o : Option Declaration) → (elim o [ Some d ↦ nat_eq (count ts) (length d.arguments) | None ↦ nat_eq (count ts) 0 ]) ≡ nat_eq (count ts) (length (elim o as (λ _. List Word) [ Some d ↦ d.arguments | None ↦ [] ]))
+      by_symbol : (o : Option Declaration) → (elim o [ Some d ↦ nat_eq (count ts) (length d.arguments) | None ↦ nat_eq (count ts) 0 ]) ≡ nat_eq
+          (count ts) (length (elim o as (λ _. List Word) [ Some d ↦ d.arguments | None ↦ [] ]))
       by_symbol None = refl
       by_symbol (Some d) = refl
 
@@ -96,14 +100,18 @@ module _ (y : Spec) where
       rest = filter (λ n. not (nat_eq n.count (length (argument_sorts y n.word.bytes)))) (map node_at us)
 
       by_test : (b : Bool) → heads (filter (λ t. not (is_filled y t)) us) ≡ map (λ n. n.word) rest
-          → heads (cond (not b) (u ∷ filter (λ t. not (is_filled y t)) us) (filter (λ t. not (is_filled y t)) us)) ≡ map (λ n. n.word) (cond (not b) (node_at u ∷ rest) rest)
+          → heads (cond (not b) (u ∷ filter (λ t. not (is_filled y t)) us) (filter (λ t. not (is_filled y t)) us)) ≡ map (λ n. n.word)
+          (cond (not b) (node_at u ∷ rest) rest)
       by_test true h = h
       by_test false h = ap (λ ws. head u ∷ ws) h
 
   pub same-ill_filled : (ts : List Term) → HasSame (heads (filter (λ t. not (is_filled y t)) (everywhere ts))) (ill_filled_among y (flat_terms ts))
-  same-ill_filled ts = same-trans (heads (filter (λ t. not (is_filled y t)) (everywhere ts))) (ill_filled_among y (map node_at (everywhere ts))) (ill_filled_among y (flat_terms ts))
-      (same-of (heads (filter (λ t. not (is_filled y t)) (everywhere ts))) (ill_filled_among y (map node_at (everywhere ts))) (ill_filled-nodes (everywhere ts)))
-      (same-map (λ n. n.word) (filter (λ n. not (nat_eq n.count (length (argument_sorts y n.word.bytes)))) (map node_at (everywhere ts))) (filter (λ n. not (nat_eq n.count (length (argument_sorts y n.word.bytes)))) (flat_terms ts))
+  same-ill_filled ts = same-trans (heads (filter (λ t. not (is_filled y t)) (everywhere ts))) (ill_filled_among y (map node_at (everywhere ts)))
+      (ill_filled_among y (flat_terms ts))
+      (same-of (heads (filter (λ t. not (is_filled y t)) (everywhere ts))) (ill_filled_among y (map node_at (everywhere ts)))
+      (ill_filled-nodes (everywhere ts)))
+      (same-map (λ n. n.word) (filter (λ n. not (nat_eq n.count (length (argument_sorts y n.word.bytes)))) (map node_at (everywhere ts)))
+      (filter (λ n. not (nat_eq n.count (length (argument_sorts y n.word.bytes)))) (flat_terms ts))
       (same-filter (λ n. not (nat_eq n.count (length (argument_sorts y n.word.bytes)))) (map node_at (everywhere ts)) (flat_terms ts) (same-flat_terms ts)))
 
   -- arguments of another sort than declared
@@ -125,23 +133,27 @@ module _ (y : Spec) where
   misfits-placed (s ∷ ss) (more t ts) = by_test (same_sort (sort_of y t) (Some s.bytes)) (misfits-placed ss ts)
     where
       by_test : (b : Bool) → misfits y (heads_of ts) ss ≡ heads (ill_placed y ss ts)
-          → (elim b as (λ _. List Word) [ true ↦ misfits y (heads_of ts) ss | false ↦ head t ∷ misfits y (heads_of ts) ss ]) ≡ heads (elim b [ true ↦ ill_placed y ss ts | false ↦ t ∷ ill_placed y ss ts ])
+          → (elim b as (λ _. List Word) [ true ↦ misfits y (heads_of ts) ss | false ↦ head t ∷ misfits y (heads_of ts) ss ]) ≡ heads
+          (elim b [ true ↦ ill_placed y ss ts | false ↦ t ∷ ill_placed y ss ts ])
       by_test true h = h
       by_test false h = ap (λ ws. head t ∷ ws) h
 
   misfits-own : (w : Word) (ts : Terms) → misfits y (heads_of ts) (argument_sorts y w.bytes) ≡ heads (ill_sorted_in y (Apply w ts))
   misfits-own w ts = by_symbol (symbol y w.bytes)
     where
-      by_symbol : (o : Option Declaration) → misfits y (heads_of ts) (elim o as (λ _. List Word) [ Some d ↦ d.arguments | None ↦ [] ]) ≡ heads (elim o as (λ _. List Term) [ Some d ↦ ill_placed y d.arguments ts | None ↦ [] ])
+      by_symbol : (o : Option Declaration) → misfits y (heads_of ts) (elim o as (λ _. List Word) [ Some d ↦ d.arguments | None ↦ [] ]) ≡ heads
+          (elim o as (λ _. List Term) [ Some d ↦ ill_placed y d.arguments ts | None ↦ [] ])
       by_symbol None = misfits-nothing (heads_of ts)
       by_symbol (Some d) = misfits-placed d.arguments ts
 
   split_off : (hs : List Word) (ts : Terms) (w : Word) (ns : List Node)
-      → ill_sorted_among y (hs ++ heads_of ts) (record { word = w; count = term_count ts } ∷ ns) ≡ misfits y (heads_of ts) (argument_sorts y w.bytes) ++ ill_sorted_among y (hs ++ w ∷ []) ns
+      → ill_sorted_among y (hs ++ heads_of ts) (record { word = w; count = term_count ts } ∷ ns) ≡ misfits y (heads_of ts)
+      (argument_sorts y w.bytes) ++ ill_sorted_among y (hs ++ w ∷ []) ns
   split_off hs ts w ns =
       let base : length (hs ++ heads_of ts) - term_count ts ≡ length hs = omega (arith, length-append hs (heads_of ts), length-heads_of ts) in
       ap (λ (b : ℕ). misfits y (drop b (hs ++ heads_of ts)) (argument_sorts y w.bytes) ++ ill_sorted_among y (take b (hs ++ heads_of ts) ++ w ∷ []) ns) base
-      ∙ ap (λ zs. misfits y zs (argument_sorts y w.bytes) ++ ill_sorted_among y (take (length hs) (hs ++ heads_of ts) ++ w ∷ []) ns) (drop-append_seam hs (heads_of ts))
+      ∙ ap (λ zs. misfits y zs (argument_sorts y w.bytes) ++ ill_sorted_among y (take (length hs) (hs ++ heads_of ts) ++ w ∷ []) ns)
+      (drop-append_seam hs (heads_of ts))
       ∙ ap (λ zs. misfits y (heads_of ts) (argument_sorts y w.bytes) ++ ill_sorted_among y (zs ++ w ∷ []) ns) (take-append_seam hs (heads_of ts))
 
   abbrev found_in : List Term → List Word
@@ -161,41 +173,54 @@ module _ (y : Spec) where
         let later = ill_sorted_among y (hs ++ w ∷ []) ns in
         let apart : count_by p (ill_sorted_among y hs ((flat_all ts ++ own ∷ []) ++ ns)) ≡ count_by p (ill_sorted_among y hs (flat_all ts ++ own ∷ ns)) =
         ap (λ zs. count_by p (ill_sorted_among y hs zs)) (append_assoc (flat_all ts) (own ∷ []) ns) in
-        let inner : count_by p (ill_sorted_among y hs (flat_all ts ++ own ∷ ns)) ≡ count_by p (found_in (subterms_all ts)) + count_by p (ill_sorted_among y (hs ++ heads_of ts) (own ∷ ns)) = walk-terms p hs ts (own ∷ ns) in
+        let inner : count_by p (ill_sorted_among y hs (flat_all ts ++ own ∷ ns)) ≡ count_by p (found_in (subterms_all ts)) + count_by p
+        (ill_sorted_among y (hs ++ heads_of ts) (own ∷ ns)) = walk-terms p hs ts (own ∷ ns) in
         let split : count_by p (ill_sorted_among y (hs ++ heads_of ts) (own ∷ ns)) ≡ count_by p (heads (ill_sorted_in y (Apply w ts))) + count_by p later =
         ap (count_by p) (split_off hs ts w ns ∙ ap (λ zs. zs ++ later) (misfits-own w ts)) ∙ count-append p (heads (ill_sorted_in y (Apply w ts))) later in
         let all : count_by p (found_in (subterms (Apply w ts))) ≡ count_by p (heads (ill_sorted_in y (Apply w ts))) + count_by p (found_in (subterms_all ts)) =
-        ap (count_by p) (map-append head (ill_sorted_in y (Apply w ts)) (flat_map (ill_sorted_in y) (subterms_all ts))) ∙ count-append p (heads (ill_sorted_in y (Apply w ts))) (found_in (subterms_all ts)) in
+        ap (count_by p) (map-append head (ill_sorted_in y (Apply w ts)) (flat_map (ill_sorted_in y) (subterms_all ts)))
+        ∙ count-append p (heads (ill_sorted_in y (Apply w ts))) (found_in (subterms_all ts)) in
         omega (arith, apart, inner, split, all)
 
     walk-terms : (p : Word → Bool) (hs : List Word) (ts : Terms) (ns : List Node)
-        → count_by p (ill_sorted_among y hs (flat_all ts ++ ns)) ≡ count_by p (found_in (subterms_all ts)) + count_by p (ill_sorted_among y (hs ++ heads_of ts) ns)
+        → count_by p (ill_sorted_among y hs (flat_all ts ++ ns)) ≡ count_by p (found_in (subterms_all ts)) + count_by p
+        (ill_sorted_among y (hs ++ heads_of ts) ns)
     walk-terms p hs none ns =
         let nothing : count_by p (found_in (subterms_all none)) ≡ 0 = refl in
-        let same : count_by p (ill_sorted_among y (hs ++ []) ns) ≡ count_by p (ill_sorted_among y hs ns) = ap (λ zs. count_by p (ill_sorted_among y zs ns)) (append-nil hs) in
+        let same : count_by p (ill_sorted_among y (hs ++ []) ns) ≡ count_by p (ill_sorted_among y hs ns) =
+        ap (λ zs. count_by p (ill_sorted_among y zs ns)) (append-nil hs) in
         omega (arith, nothing, same)
     walk-terms p hs (more t ts) ns =
         let apart : count_by p (ill_sorted_among y hs ((flat t ++ flat_all ts) ++ ns)) ≡ count_by p (ill_sorted_among y hs (flat t ++ (flat_all ts ++ ns))) =
         ap (λ zs. count_by p (ill_sorted_among y hs zs)) (append_assoc (flat t) (flat_all ts) ns) in
-        let first : count_by p (ill_sorted_among y hs (flat t ++ (flat_all ts ++ ns))) ≡ count_by p (found_in (subterms t)) + count_by p (ill_sorted_among y (hs ++ head t ∷ []) (flat_all ts ++ ns)) = walk-term p hs t (flat_all ts ++ ns) in
-        let rest : count_by p (ill_sorted_among y (hs ++ head t ∷ []) (flat_all ts ++ ns)) ≡ count_by p (found_in (subterms_all ts)) + count_by p (ill_sorted_among y ((hs ++ head t ∷ []) ++ heads_of ts) ns) = walk-terms p (hs ++ head t ∷ []) ts ns in
-        let stack : count_by p (ill_sorted_among y ((hs ++ head t ∷ []) ++ heads_of ts) ns) ≡ count_by p (ill_sorted_among y (hs ++ (head t ∷ heads_of ts)) ns) = ap (λ zs. count_by p (ill_sorted_among y zs ns)) (append_assoc hs (head t ∷ []) (heads_of ts)) in
-        let all : count_by p (found_in (subterms t ++ subterms_all ts)) ≡ count_by p (found_in (subterms t)) + count_by p (found_in (subterms_all ts)) = found_in-append p (subterms t) (subterms_all ts) in
+        let first : count_by p (ill_sorted_among y hs (flat t ++ (flat_all ts ++ ns))) ≡ count_by p (found_in (subterms t)) + count_by p
+        (ill_sorted_among y (hs ++ head t ∷ []) (flat_all ts ++ ns)) = walk-term p hs t (flat_all ts ++ ns) in
+        let rest : count_by p (ill_sorted_among y (hs ++ head t ∷ []) (flat_all ts ++ ns)) ≡ count_by p (found_in (subterms_all ts)) + count_by p
+        (ill_sorted_among y ((hs ++ head t ∷ []) ++ heads_of ts) ns) = walk-terms p (hs ++ head t ∷ []) ts ns in
+        let stack : count_by p (ill_sorted_among y ((hs ++ head t ∷ []) ++ heads_of ts) ns) ≡ count_by p
+        (ill_sorted_among y (hs ++ (head t ∷ heads_of ts)) ns) = ap (λ zs. count_by p (ill_sorted_among y zs ns))
+        (append_assoc hs (head t ∷ []) (heads_of ts)) in
+        let all : count_by p (found_in (subterms t ++ subterms_all ts)) ≡ count_by p (found_in (subterms t)) + count_by p (found_in (subterms_all ts))
+        = found_in-append p (subterms t) (subterms_all ts) in
         omega (arith, apart, first, rest, stack, all)
 
   pub same-ill_sorted : (hs : List Word) (ts : List Term) → HasSame (heads (flat_map (ill_sorted_in y) (everywhere ts))) (ill_sorted_among y hs (flat_terms ts))
   same-ill_sorted hs [] p = refl
   same-ill_sorted hs (t ∷ ts) p =
-      let first : count_by p (ill_sorted_among y hs (flat t ++ flat_terms ts)) ≡ count_by p (found_in (subterms t)) + count_by p (ill_sorted_among y (hs ++ head t ∷ []) (flat_terms ts)) = walk-term p hs t (flat_terms ts) in
-      let rest : count_by p (found_in (everywhere ts)) ≡ count_by p (ill_sorted_among y (hs ++ head t ∷ []) (flat_terms ts)) = same-ill_sorted (hs ++ head t ∷ []) ts p in
-      let all : count_by p (found_in (subterms t ++ everywhere ts)) ≡ count_by p (found_in (subterms t)) + count_by p (found_in (everywhere ts)) = found_in-append p (subterms t) (everywhere ts) in
+      let first : count_by p (ill_sorted_among y hs (flat t ++ flat_terms ts)) ≡ count_by p (found_in (subterms t)) + count_by p
+      (ill_sorted_among y (hs ++ head t ∷ []) (flat_terms ts)) = walk-term p hs t (flat_terms ts) in
+      let rest : count_by p (found_in (everywhere ts)) ≡ count_by p (ill_sorted_among y (hs ++ head t ∷ []) (flat_terms ts)) =
+      same-ill_sorted (hs ++ head t ∷ []) ts p in
+      let all : count_by p (found_in (subterms t ++ everywhere ts)) ≡ count_by p (found_in (subterms t)) + count_by p (found_in (everywhere ts)) =
+      found_in-append p (subterms t) (everywhere ts) in
       omega (arith, first, rest, all)
 
   -- sides of different sorts
   heads-unlike : (l r : Term) → heads (unlike y l r) ≡ unlike_heads y (head l) (head r)
   heads-unlike l r = by_test (same_sort (sort_of y l) (sort_of y r))
     where
-      by_test : (b : Bool) → heads (elim b as (λ _. List Term) [ true ↦ [] | false ↦ l ∷ [] ]) ≡ (elim b as (λ _. List Word) [ true ↦ [] | false ↦ head l ∷ [] ])
+      by_test : (b : Bool) → heads (elim b as (λ _. List Term) [ true ↦ [] | false ↦ l ∷ [] ])
+          ≡ (elim b as (λ _. List Word) [ true ↦ [] | false ↦ head l ∷ [] ])
       by_test true = refl
       by_test false = refl
 
@@ -212,7 +237,8 @@ module _ (y : Spec) where
       ∙ ap (λ ws. ws ++ heads (flat_map (λ c. unlike y c.left c.right) r.conditions)) (heads-unlike r.left r.right)
       ∙ ap (λ ws. unlike_heads y (head r.left) (head r.right) ++ ws) (heads-unlike_conditions r.conditions)
 
-  pub heads-unlike_rules : (rs : List Rule) → heads (flat_map (λ r. unlike y r.left r.right ++ flat_map (λ c. unlike y c.left c.right) r.conditions) rs) ≡ flat_map (unlike_in y) rs
+  pub heads-unlike_rules : (rs : List Rule)
+      → heads (flat_map (λ r. unlike y r.left r.right ++ flat_map (λ c. unlike y c.left c.right) r.conditions) rs) ≡ flat_map (unlike_in y) rs
   heads-unlike_rules [] = refl
   heads-unlike_rules (r ∷ rs) =
       let f : Rule → List Term = λ r. unlike y r.left r.right ++ flat_map (λ c. unlike y c.left c.right) r.conditions in
@@ -221,7 +247,8 @@ module _ (y : Spec) where
       ∙ ap (λ ws. unlike_in y r ++ ws) (heads-unlike_rules rs)
 
   -- variables that are not in the left side
-  same-unbound_in : (r : Rule) → HasSame (missing (heads (subterms r.left)) (variables_among y (heads (everywhere (r.right ∷ condition_terms r.conditions))))) (unbound_in y r)
+  same-unbound_in : (r : Rule) → HasSame (missing (heads (subterms r.left))
+      (variables_among y (heads (everywhere (r.right ∷ condition_terms r.conditions))))) (unbound_in y r)
   same-unbound_in r =
       let ts : List Term = r.right ∷ condition_terms r.conditions in
       let ks : List Word = heads (subterms r.left) in
@@ -230,8 +257,11 @@ module _ (y : Spec) where
       let vs : List Word = variables_among y (node_words (flat_terms ts)) in
       same-trans (missing ks us) (missing js us) (missing js vs)
       (same-of (missing ks us) (missing js us) (missing-same ks js us (same-words-of r.left)))
-      (same-filter (λ w. not (mentions js w.bytes)) us vs (same-filter (λ w. is_variable y w.bytes) (heads (everywhere ts)) (node_words (flat_terms ts)) (same-words ts)))
+      (same-filter (λ w. not (mentions js w.bytes)) us vs (same-filter (λ w. is_variable y w.bytes) (heads (everywhere ts))
+      (node_words (flat_terms ts)) (same-words ts)))
 
   pub same-unbound : (rs : List Rule)
-      → HasSame (flat_map (λ r. missing (heads (subterms r.left)) (variables_among y (heads (everywhere (r.right ∷ condition_terms r.conditions))))) rs) (flat_map (unbound_in y) rs)
-  same-unbound rs = same-flat_map (λ r. missing (heads (subterms r.left)) (variables_among y (heads (everywhere (r.right ∷ condition_terms r.conditions))))) (unbound_in y) rs same-unbound_in
+      → HasSame (flat_map (λ r. missing (heads (subterms r.left)) (variables_among y (heads (everywhere (r.right ∷ condition_terms r.conditions)))))
+      rs) (flat_map (unbound_in y) rs)
+  same-unbound rs = same-flat_map (λ r. missing (heads (subterms r.left))
+      (variables_among y (heads (everywhere (r.right ∷ condition_terms r.conditions))))) (unbound_in y) rs same-unbound_in

@@ -19,7 +19,8 @@ use Rattle.rec_check.specs.Findings.{HasSame}
 use Rattle.rec_check.specs.Named.{as_word, as_words}
 use Rattle.rec_check.specs.declared.words.Word.{Word}
 
-pub if_ok_same : {E : Type 0} (r : Result (Vec Word Global) E) (zs xs : List syntax.Word) → IfOk r (λ v. as_words v.items ≡ xs) → HasSame zs xs → IfOk r (λ v. HasSame zs (as_words v.items))
+pub if_ok_same : {E : Type 0} (r : Result (Vec Word Global) E) (zs xs : List syntax.Word) → IfOk r (λ v. as_words v.items ≡ xs) → HasSame zs xs
+    → IfOk r (λ v. HasSame zs (as_words v.items))
 if_ok_same (Ok v) zs xs e h = λ p. h p ∙ ap (count_by p) (sym e)
 if_ok_same (Err f) zs xs e h = tt
 
@@ -32,18 +33,22 @@ shown-some (x ∷ xs) h = refl
 pub shown-place : (p : Spot) → (codes ": " ++ decimal p.line) ++ (codes ":" ++ decimal p.column) ≡ shown_text (spot_shown p)
 shown-place p =
     append_assoc (codes ": ") (decimal p.line) (codes ":" ++ decimal p.column)
-    ∙ shown-some (spot_shown p) (let all = length-append (decimal p.line) (codes ":" ++ decimal p.column) in let sign = length-append (codes ":") (decimal p.column) in let one : length (codes ":") ≡ 1 = refl in omega (arith, all, sign, one))
+    ∙ shown-some (spot_shown p) (let all = length-append (decimal p.line) (codes ":" ++ decimal p.column) in let sign =
+    length-append (codes ":") (decimal p.column) in let one : length (codes ":") ≡ 1 = refl in omega (arith, all, sign, one))
 
-pub if_ok_equal : {E : Type 0} (r : Result (Vec Word Global) E) (xs ys : List syntax.Word) → IfOk r (λ v. as_words v.items ≡ xs) → xs ≡ ys → IfOk r (λ v. as_words v.items ≡ ys)
+pub if_ok_equal : {E : Type 0} (r : Result (Vec Word Global) E) (xs ys : List syntax.Word) → IfOk r (λ v. as_words v.items ≡ xs) → xs ≡ ys
+    → IfOk r (λ v. as_words v.items ≡ ys)
 if_ok_equal (Ok v) xs ys e h = e ∙ h
 if_ok_equal (Err f) xs ys e h = tt
 
-pub if_ok_knows : {E : Type 0} (r : Result Names E) (xs zs : List syntax.Word) → IfOk r (λ n. Knows n xs) → ((name : List ℕ) → mentions xs name ≡ mentions zs name) → IfOk r (λ n. Knows n zs)
+pub if_ok_knows : {E : Type 0} (r : Result Names E) (xs zs : List syntax.Word) → IfOk r (λ n. Knows n xs)
+    → ((name : List ℕ) → mentions xs name ≡ mentions zs name) → IfOk r (λ n. Knows n zs)
 if_ok_knows (Ok n) xs zs e h = λ name. e name ∙ h name
 if_ok_knows (Err f) xs zs e h = tt
 
 -- one sort behind others, once more
-pub copies_item : (items : List Span) (i : ℕ) (old now new : List Word) (sort : Word) → i < length items → as_words now ≡ as_words old ++ map (λ _. as_word sort) (take i items) → new ≡ now ++ sort ∷ []
+pub copies_item : (items : List Span) (i : ℕ) (old now new : List Word) (sort : Word) → i < length items
+    → as_words now ≡ as_words old ++ map (λ _. as_word sort) (take i items) → new ≡ now ++ sort ∷ []
     → as_words new ≡ as_words old ++ map (λ _. as_word sort) (take (i + 1) items)
 copies_item items i old now new sort h before pushed =
     let d : Span = record { from = 0; to = 0 } in
@@ -51,13 +56,15 @@ copies_item items i old now new sort h before pushed =
     ∙ map-append as_word now (sort ∷ [])
     ∙ ap (λ ws. ws ++ as_word sort ∷ []) before
     ∙ append_assoc (as_words old) (map (λ _. as_word sort) (take i items)) (as_word sort ∷ [])
-    ∙ ap (λ ws. as_words old ++ ws) (sym (ap (map (λ _. as_word sort)) (take_more items i d h) ∙ map-append (λ _. as_word sort) (take i items) (get_or items i d ∷ [])))
+    ∙ ap (λ ws. as_words old ++ ws) (sym (ap (map (λ _. as_word sort)) (take_more items i d h)
+    ∙ map-append (λ _. as_word sort) (take i items) (get_or items i d ∷ [])))
 
 same_copies : {X Y Z : Type 0} (f : X → Y) (s : Z) (xs : List X) → map (λ _. s) xs ≡ map (λ _. s) (map f xs)
 same_copies f s [] = refl
 same_copies f s (x ∷ xs) = ap (λ ys. s ∷ ys) (same_copies f s xs)
 
-pub copies_end : (source : List ℕ) (items : List Span) (i : ℕ) (old mid new : List Word) (sort : Word) (s : syntax.Word) → length items ≤ i → mid ≡ old ++ sort ∷ [] → as_word sort ≡ s → as_words new ≡ as_words mid ++ map (λ _. as_word sort) (take i items)
+pub copies_end : (source : List ℕ) (items : List Span) (i : ℕ) (old mid new : List Word) (sort : Word) (s : syntax.Word) → length items ≤ i
+    → mid ≡ old ++ sort ∷ [] → as_word sort ≡ s → as_words new ≡ as_words mid ++ map (λ _. as_word sort) (take i items)
     → as_words new ≡ as_words old ++ s ∷ map (λ _. s) (words_of source items)
 copies_end source items i old mid new sort s past first is all =
     all

@@ -12,14 +12,16 @@ use Rattle.rec_syntax.specs.Grammar.{SpecText}
 use Rattle.rx_text.specs.Canon.{canon}
 use Rattle.rec_sorts.specs.Binding.{tree_of}
 use Rattle.rec_sorts.specs.Lookup.{symbols, names, variable_words}
-use Rattle.rec_sorts.specs.SpecRules.{Verdict, Long, Grammar, Breaks, Good, heads, all_terms, missing, sorts_of, fault, repeated_sorts, repeated_symbols, taken_variables, unknown_sorts, unknown_words, ill_filled, ill_sorted, ill_headed, unlike_sides, unbound, open_terms}
+use Rattle.rec_sorts.specs.SpecRules.{Verdict, Long, Grammar, Breaks, Good, heads, all_terms, missing, sorts_of, fault, repeated_sorts, repeated_symbols}
+use Rattle.rec_sorts.specs.SpecRules.{taken_variables, unknown_sorts, unknown_words, ill_filled, ill_sorted, ill_headed, unlike_sides, unbound, open_terms}
 use Rattle.rec_check.specs.Rewriting.{rewritten_by}
 use Rattle.rec_check.specs.Spots.{spot_of, spot_shown}
 use Rattle.rec_check.specs.Uncovered.{IsUncovered}
 use Rattle.rec_check.specs.declared.finding.Example.{Example}
 use Rattle.rec_check.specs.declared.finding.Finding.{Finding}
 use Rattle.rec_check.specs.declared.finding.Kind.{Kind}
-use Rattle.rec_check.specs.declared.finding.Kind.TheVariants.{TooLong, Outside, Broken, NeverTried, NeverMatches, NotCovered, UnusedSort, UnusedSymbol, UnusedVariable}
+use Rattle.rec_check.specs.declared.finding.Kind.TheVariants.{TooLong, Outside, Broken, NeverTried, NeverMatches}
+use Rattle.rec_check.specs.declared.finding.Kind.TheVariants.{NotCovered, UnusedSort, UnusedSymbol, UnusedVariable}
 use Rattle.rec_check.specs.declared.finding.Rule.{Rule}
 use Rattle.rec_check.specs.declared.finding.Rule.TheVariants as rule
 use Rattle.rec_check.specs.declared.finding.Shown.{Shown}

@@ -1,5 +1,6 @@
 -- What the name of a word stands for.
-use Rattle.std.specs.Prelude.{ℕ, ◌≡◌, not, List, [], ◌∷◌, ◌++◌, Option, Some, None, map, flat_map, filter, length, nat_eq, bytes_eq, is_some, ◌||◌, cond, if◌then◌else◌}
+use Rattle.std.specs.Prelude.{ℕ, ◌≡◌, not, List, [], ◌∷◌, ◌++◌, Option, Some, None, map, flat_map}
+use Rattle.std.specs.Prelude.{filter, length, nat_eq, bytes_eq, is_some, ◌||◌, cond, if◌then◌else◌}
 use Rattle.std.specs.HashMap.{get_by}
 use Rattle.rec_syntax.specs.Tokens.{Word}
 use Rattle.rec_syntax.specs.Syntax.{Spec}

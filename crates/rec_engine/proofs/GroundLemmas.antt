@@ -1,6 +1,7 @@
 -- Ground trees: those of good lists of given terms, those of a specification's terms to evaluate, and their nodes.
 use Rattle.std.proofs.Common.{refl, sym, ap, subst, ◌∙◌, arith, length, append_assoc}
-use Rattle.std.specs.Prelude.{ℕ, zero, suc, ◌≡◌, ◌<◌, ◌||◌, Bool, true, false, not, List, [], ◌∷◌, ◌++◌, Option, Some, None, map, flat_map, get_or, nat_eq, bytes_eq, slice_get}
+use Rattle.std.specs.Prelude.{ℕ, zero, suc, ◌≡◌, ◌<◌, ◌||◌, Bool, true, false, not, List, [], ◌∷◌, ◌++◌}
+use Rattle.std.specs.Prelude.{Option, Some, None, map, flat_map, get_or, nat_eq, bytes_eq, slice_get}
 use Rattle.std.specs.Bool.{beq}
 use Rattle.std.specs.List.{list_any}
 use Rattle.std.proofs.lemmas.Bool.{eqb-true}
@@ -10,10 +11,12 @@ use Rattle.rx_term.specs.Tree.{Tree, Trees, Appl, Int, Items, Hole, to_list, cou
 use Rattle.rec_syntax.specs.Tokens.{Word}
 use Rattle.rec_syntax.specs.Syntax.{Term, Terms, Apply, Declaration, Spec, head, subterms, subterms_all}
 use Rattle.rec_syntax.specs.Syntax as X
-use Rattle.rec_sorts.specs.Lookup.{symbols, symbol, declared, names, mentions, variable_words, variable_sort, is_variable, sort_of, same_sort, count, rule_terms}
+use Rattle.rec_sorts.specs.Lookup.{symbols, symbol, declared, names, mentions, variable_words}
+use Rattle.rec_sorts.specs.Lookup.{variable_sort, is_variable, sort_of, same_sort, count, rule_terms}
 use Rattle.rec_sorts.specs.SpecRules.{fault, all_rules, all_terms, everywhere, heads, is_filled, ill_placed, ill_sorted_in}
 use Rattle.rec_sorts.specs.Laws.{Every}
-use Rattle.rec_sorts.specs.TermRules.{nodes, nodes_all, arguments, tree_symbol, is_no_application, is_annotated, is_undeclared, is_ill_filled, tree_sort, are_ill_sorted, is_ill_sorted, first_passed, broken_by_elements}
+use Rattle.rec_sorts.specs.TermRules.{nodes, nodes_all, arguments, tree_symbol, is_no_application, is_annotated, is_undeclared}
+use Rattle.rec_sorts.specs.TermRules.{is_ill_filled, tree_sort, are_ill_sorted, is_ill_sorted, first_passed, broken_by_elements}
 use Rattle.rec_sorts.specs.Binding.{instances, tree_of, application}
 use Rattle.rec_sorts.specs.Walking.{backwards}
 use Rattle.rec_sorts.proofs.KeptLemmas.{all_kept, all_filled, missing_none, no_free_variable, bytes_eq-eq}
@@ -45,7 +48,8 @@ pub pass-none : (y : Spec) (ts : List Tree) → broken_by_elements y ts ≡ None
 pass-none y ts e =
     let all : List Tree = flat_map nodes ts in
     let inner : List Tree = flat_map (λ t. nodes_all (arguments t)) ts in
-    let f = all-failed (list_any is_no_application all) (list_any is_annotated inner) (list_any (is_undeclared y) all) (list_any (is_ill_filled y) all) (list_any (is_ill_sorted y) all) e in
+    let f = all-failed (list_any is_no_application all) (list_any is_annotated inner) (list_any (is_undeclared y) all)
+    (list_any (is_ill_filled y) all) (list_any (is_ill_sorted y) all) e in
     record { applications = f.0; unannotated = f.1; declared = f.2; filled = f.3; sorted = f.4 }
 
 unbroken : (y : Spec) (ts : List Tree) → PassNone y (flat_map nodes ts) (flat_map (λ t. nodes_all (arguments t)) ts) → broken_by_elements y ts ≡ None
@@ -61,13 +65,16 @@ or_false true b e = absurd (cc e)
 
 -- the number of a declaration, and its name and arguments by the number
 declared-number : (ds : List Declaration) (name : List ℕ) (d : Declaration) → declared ds name ≡ Some d
-    → (f : ℕ) × (f < length ds) × (get_or (map (λ (w : Word). w.bytes) (names ds)) f [] ≡ name) × (get_or (map (λ (d : Declaration). length d.arguments) ds) f 0 ≡ length d.arguments)
+    → (f : ℕ) × (f < length ds) × (get_or (map (λ (w : Word). w.bytes) (names ds)) f [] ≡ name)
+    × (get_or (map (λ (d : Declaration). length d.arguments) ds) f 0 ≡ length d.arguments)
 declared-number [] name d e = absurd (cc e)
 declared-number (x ∷ ds) name d e = by (bytes_eq x.name.bytes name) refl e (λ h. declared-number ds name d h)
   where
     by : (b : Bool) → bytes_eq x.name.bytes name ≡ b → ◌≡◌ {A = Option Declaration} (elim b [ true ↦ Some x | false ↦ declared ds name ]) (Some d)
-        → (declared ds name ≡ Some d → (f : ℕ) × (f < length ds) × (get_or (map (λ (w : Word). w.bytes) (names ds)) f [] ≡ name) × (get_or (map (λ (d : Declaration). length d.arguments) ds) f 0 ≡ length d.arguments))
-        → (f : ℕ) × (f < length (x ∷ ds)) × (get_or (map (λ (w : Word). w.bytes) (names (x ∷ ds))) f [] ≡ name) × (get_or (map (λ (d : Declaration). length d.arguments) (x ∷ ds)) f 0 ≡ length d.arguments)
+        → (declared ds name ≡ Some d → (f : ℕ) × (f < length ds) × (get_or (map (λ (w : Word). w.bytes) (names ds)) f [] ≡ name)
+        × (get_or (map (λ (d : Declaration). length d.arguments) ds) f 0 ≡ length d.arguments))
+        → (f : ℕ) × (f < length (x ∷ ds)) × (get_or (map (λ (w : Word). w.bytes) (names (x ∷ ds))) f [] ≡ name)
+        × (get_or (map (λ (d : Declaration). length d.arguments) (x ∷ ds)) f 0 ≡ length d.arguments)
     by true q e later = let is : x ≡ d = cc e in (zero, omega arith, bytes_eq-eq x.name.bytes name q, ap (λ (d : Declaration). length d.arguments) is)
     by false q e later = let r = later e in (suc r.0, (let lt = r.1 in omega (arith, lt)), r.2, r.3)
 
@@ -88,11 +95,13 @@ tree-node y (Hole inner anns) a u f = absurd (cc a)
 tree-node y (Appl name quoted args anns) a u f = by_quoted (beq quoted (not (plain_name name))) refl u f
   where
     by_symbol : (o : Option Declaration) → symbol y name ≡ o → quoted ≡ not (plain_name name) → ◌≡◌ {A = Bool} (elim o [ Some d ↦ false | None ↦ true ]) false
-        → ◌≡◌ {A = Bool} (elim o [ Some d ↦ not (nat_eq (length (to_list args)) (length d.arguments)) | None ↦ false ]) false → IsNode y (Appl name quoted args anns)
+        → ◌≡◌ {A = Bool} (elim o [ Some d ↦ not (nat_eq (length (to_list args)) (length d.arguments)) | None ↦ false ]) false
+        → IsNode y (Appl name quoted args anns)
     by_symbol None e q u f = absurd (cc u)
     by_symbol (Some d) e q u f =
         let n = declared-number (symbols y) name d e in
-        let same : count_of args ≡ length d.arguments = sym (length-to_list args) ∙ eqb-true (length (to_list args)) (length d.arguments) (not-false (nat_eq (length (to_list args)) (length d.arguments)) f) in (
+        let same : count_of args ≡ length d.arguments = sym (length-to_list args)
+        ∙ eqb-true (length (to_list args)) (length d.arguments) (not-false (nat_eq (length (to_list args)) (length d.arguments)) f) in (
           n.0,
           (
             count_of args,
@@ -114,7 +123,8 @@ tree-node y (Appl name quoted args anns) a u f = by_quoted (beq quoted (not (pla
     by_quoted true q u f = by_symbol (symbol y name) refl (beq-true quoted (not (plain_name name)) q) u f
     by_quoted false q u f = absurd (cc u)
 
-every-node : (y : Spec) (ts : List Tree) → list_any is_no_application ts ≡ false → list_any (is_undeclared y) ts ≡ false → list_any (is_ill_filled y) ts ≡ false → Every (IsNode y) ts
+every-node : (y : Spec) (ts : List Tree) → list_any is_no_application ts ≡ false → list_any (is_undeclared y) ts ≡ false
+    → list_any (is_ill_filled y) ts ≡ false → Every (IsNode y) ts
 every-node y [] a u f = tt
 every-node y (t ∷ ts) a u f =
     let a' = or_false (is_no_application t) (list_any is_no_application ts) a in
@@ -126,7 +136,8 @@ every-node y (t ∷ ts) a u f =
 pub ground-nodes : (y : Spec) (u : Tree) → IsGround y u → Every (IsNode y) (backwards u)
 ground-nodes y u e =
     let h = pass-none y (u ∷ []) e in
-    let over : (p : Tree → Bool) → list_any p (flat_map nodes (u ∷ [])) ≡ false → list_any p (backwards u) ≡ false = λ p q. any-backwards p u ∙ sym (ap (list_any p) (append-nil (nodes u))) ∙ q in
+    let over : (p : Tree → Bool) → list_any p (flat_map nodes (u ∷ [])) ≡ false → list_any p (backwards u) ≡ false = λ p q.
+    any-backwards p u ∙ sym (ap (list_any p) (append-nil (nodes u))) ∙ q in
     every-node y (backwards u) (over is_no_application h.applications) (over (is_undeclared y) h.declared) (over (is_ill_filled y) h.filled)
 
 -- ---- terms to evaluate
@@ -172,16 +183,19 @@ same-sorts y (Apply w ts) h = ap by_tree (applied-symbol y w.bytes (instances []
 itself : (y : Spec) (t : Term) → Every (IsFit y) (subterms t) → IsFit y t
 itself y (Apply w ts) h = h.0
 
-sorted-arguments : (y : Spec) (ss : List Word) (ts : Terms) → Every (IsFit y) (subterms_all ts) → ill_placed y ss ts ≡ [] → are_ill_sorted y ss (instances [] ts) ≡ false
+sorted-arguments : (y : Spec) (ss : List Word) (ts : Terms) → Every (IsFit y) (subterms_all ts) → ill_placed y ss ts ≡ []
+    → are_ill_sorted y ss (instances [] ts) ≡ false
 sorted-arguments y [] ts h e = refl
 sorted-arguments y (s ∷ ss) X.none h e = refl
 sorted-arguments y (s ∷ ss) (X.more t ts) h e =
     let k = every_append (IsFit y) (subterms t) (subterms_all ts) h in
     by (same_sort (sort_of y t) (Some s.bytes)) refl e (same-sorts y t (itself y t k.0)) (λ q. sorted-arguments y ss ts k.1 q)
   where
-    by : (b : Bool) → same_sort (sort_of y t) (Some s.bytes) ≡ b → ◌≡◌ {A = List Term} (elim b [ true ↦ ill_placed y ss ts | false ↦ t ∷ ill_placed y ss ts ]) [] → tree_sort y (tree_of t) ≡ sort_of y t
+    by : (b : Bool) → same_sort (sort_of y t) (Some s.bytes) ≡ b
+        → ◌≡◌ {A = List Term} (elim b [ true ↦ ill_placed y ss ts | false ↦ t ∷ ill_placed y ss ts ]) [] → tree_sort y (tree_of t) ≡ sort_of y t
         → (ill_placed y ss ts ≡ [] → are_ill_sorted y ss (instances [] ts) ≡ false) → are_ill_sorted y (s ∷ ss) (instances [] (X.more t ts)) ≡ false
-    by true q e same later = ap (λ o. not (same_sort o (Some s.bytes)) || are_ill_sorted y ss (instances [] ts)) same ∙ ap (λ b. not b || are_ill_sorted y ss (instances [] ts)) q ∙ later e
+    by true q e same later = ap (λ o. not (same_sort o (Some s.bytes)) || are_ill_sorted y ss (instances [] ts)) same
+        ∙ ap (λ b. not b || are_ill_sorted y ss (instances [] ts)) q ∙ later e
     by false q e same later = absurd (cc e)
 
 fine-node : (y : Spec) (w : Word) (ts : Terms) → Every (IsFit y) (subterms (Apply w ts)) → IsFine y (tree_of (Apply w ts))
@@ -234,10 +248,13 @@ fit-ground y t h =
     let fine = fine-nodes y t h in
     let inner = below y t h in
     let all : List Tree = nodes (tree_of t) in
-    let from : (p : Tree → Bool) → Every (λ u. p u ≡ false) all → list_any p (flat_map nodes (tree_of t ∷ [])) ≡ false = λ p k. ap (list_any p) (append-nil all) ∙ none-of-them p all k in
+    let from : (p : Tree → Bool) → Every (λ u. p u ≡ false) all → list_any p (flat_map nodes (tree_of t ∷ [])) ≡ false = λ p k.
+    ap (list_any p) (append-nil all) ∙ none-of-them p all k in
     unbroken y (tree_of t ∷ []) (record {
       applications = from is_no_application (every_map (IsFine y) (λ u. is_no_application u ≡ false) (λ u k. k.application) all fine);
-      unannotated = ap (list_any is_annotated) (append-nil (nodes_all (arguments (tree_of t)))) ∙ none-of-them is_annotated (nodes_all (arguments (tree_of t))) (every_map (IsFine y) (λ u. is_annotated u ≡ false) (λ u k. k.unannotated) (nodes_all (arguments (tree_of t))) inner);
+      unannotated = ap (list_any is_annotated) (append-nil (nodes_all (arguments (tree_of t))))
+          ∙ none-of-them is_annotated (nodes_all (arguments (tree_of t)))
+          (every_map (IsFine y) (λ u. is_annotated u ≡ false) (λ u k. k.unannotated) (nodes_all (arguments (tree_of t))) inner);
       declared = from (is_undeclared y) (every_map (IsFine y) (λ u. is_undeclared y u ≡ false) (λ u k. k.declared) all fine);
       filled = from (is_ill_filled y) (every_map (IsFine y) (λ u. is_ill_filled y u ≡ false) (λ u k. k.filled) all fine);
       sorted = from (is_ill_sorted y) (every_map (IsFine y) (λ u. is_ill_sorted y u ≡ false) (λ u k. k.sorted) all fine);
@@ -278,12 +295,14 @@ mentioned (x ∷ ds) name e = by (bytes_eq x.name.bytes name) e (λ q. mentioned
     by true e later = (x, refl)
     by false e later = later e
 
-fit : (y : Spec) (t : Term) → mentions (names (symbols y) ++ variable_words y.variables) (head t).bytes ≡ true → is_variable y (head t).bytes ≡ false → is_filled y t ≡ true → ill_sorted_in y t ≡ [] → IsFit y t
+fit : (y : Spec) (t : Term) → mentions (names (symbols y) ++ variable_words y.variables) (head t).bytes ≡ true → is_variable y (head t).bytes ≡ false
+    → is_filled y t ≡ true → ill_sorted_in y t ≡ [] → IsFit y t
 fit y t known closed filled sorted =
     let d = mentioned (symbols y) (head t).bytes (mentions_append (names (symbols y)) (variable_words y.variables) (head t).bytes known closed) in
     record { declaration = d.0; is_symbol = d.1; filled = filled; sorted = sorted }
 
-each-fit : (y : Spec) (ts : List Term) → Every (λ t. mentions (names (symbols y) ++ variable_words y.variables) (head t).bytes ≡ true) ts → Every (λ t. is_variable y (head t).bytes ≡ false) ts → Every (λ t. is_filled y t ≡ true) ts → Every (λ t. ill_sorted_in y t ≡ []) ts
+each-fit : (y : Spec) (ts : List Term) → Every (λ t. mentions (names (symbols y) ++ variable_words y.variables) (head t).bytes ≡ true) ts
+    → Every (λ t. is_variable y (head t).bytes ≡ false) ts → Every (λ t. is_filled y t ≡ true) ts → Every (λ t. ill_sorted_in y t ≡ []) ts
     → Every (IsFit y) ts
 each-fit y [] a b c d = tt
 each-fit y (t ∷ ts) a b c d = (fit y t a.0 b.0 c.0 d.0, each-fit y ts a.1 b.1 c.1 d.1)
@@ -294,17 +313,21 @@ flat-append f (x ∷ xs) ys = ap (λ zs. f x ++ zs) (flat-append f xs ys) ∙ sy
 
 -- what holds of all terms holds of those to evaluate
 pub of-terms : (y : Spec) (P : Term → Type 0) → Every P (all_terms y) → Every P (everywhere y.terms)
-of-terms y P h = (every_append P (everywhere (rule_terms y.rules)) (everywhere y.terms) (subst (Every P) (flat-append subterms (rule_terms y.rules) y.terms) h)).1
+of-terms y P h = (every_append P (everywhere (rule_terms y.rules)) (everywhere y.terms)
+    (subst (Every P) (flat-append subterms (rule_terms y.rules) y.terms) h)).1
 
 terms-fit : (y : Spec) → fault y ≡ None → Every (IsFit y) (everywhere y.terms)
 terms-fit y kept =
     let lists = all_kept (all_rules y) kept in
     each-fit y (everywhere y.terms)
     (of-terms y (λ t. mentions (names (symbols y) ++ variable_words y.variables) (head t).bytes ≡ true)
-    (every_heads (λ n. mentions (names (symbols y) ++ variable_words y.variables) n ≡ true) (all_terms y) (missing_none (names (symbols y) ++ variable_words y.variables) (heads (all_terms y)) lists.1.1.1.1.0)))
-    (every_heads (λ n. is_variable y n ≡ false) (everywhere y.terms) (filter_none (λ (w : Word). is_variable y w.bytes) (heads (everywhere y.terms)) (no_free_variable y kept)))
+    (every_heads (λ n. mentions (names (symbols y) ++ variable_words y.variables) n ≡ true) (all_terms y)
+    (missing_none (names (symbols y) ++ variable_words y.variables) (heads (all_terms y)) lists.1.1.1.1.0)))
+    (every_heads (λ n. is_variable y n ≡ false) (everywhere y.terms)
+    (filter_none (λ (w : Word). is_variable y w.bytes) (heads (everywhere y.terms)) (no_free_variable y kept)))
     (of-terms y (λ t. is_filled y t ≡ true) (all_filled y kept))
-    (of-terms y (λ t. ill_sorted_in y t ≡ []) (flat_none (ill_sorted_in y) (all_terms y) (heads_none (flat_map (ill_sorted_in y) (all_terms y)) lists.1.1.1.1.1.1.0)))
+    (of-terms y (λ t. ill_sorted_in y t ≡ []) (flat_none (ill_sorted_in y) (all_terms y)
+    (heads_none (flat_map (ill_sorted_in y) (all_terms y)) lists.1.1.1.1.1.1.0)))
 
 pub every-got : {A : Type 0} (P : A → Type 0) (xs : List A) → Every P xs → (i : ℕ) (x : A) → slice_get xs i ≡ Some x → P x
 every-got P [] h i x e = absurd (cc e)
@@ -313,4 +336,5 @@ every-got P (z ∷ xs) h (suc i) x e = every-got P xs h.1 i x e
 
 -- each term to evaluate is ground, as a tree
 pub term-ground : (y : Spec) → fault y ≡ None → (i : ℕ) (t : Term) → slice_get y.terms i ≡ Some t → IsGround y (tree_of t)
-term-ground y kept i t e = fit-ground y t (every-got (λ t. Every (IsFit y) (subterms t)) y.terms (every_flat (IsFit y) subterms y.terms (terms-fit y kept)) i t e)
+term-ground y kept i t e = fit-ground y t (every-got (λ t. Every (IsFit y) (subterms t)) y.terms
+    (every_flat (IsFit y) subterms y.terms (terms-fit y kept)) i t e)

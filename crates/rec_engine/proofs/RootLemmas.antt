@@ -18,6 +18,7 @@ ready-counted y c w new pace t n e r = subst (λ x. Ready y c x pace) (sym e) (r
   results = r.results;
 })
 
-pub ready-protected : (y : Spec) (c : Code) (w new : Store) (pace : Pace) (t : Term) (r : Result (Unit {0}) RootsFull) → ProtectsOrRefuses w new t r → Ready y c w pace → Ready y c new pace
+pub ready-protected : (y : Spec) (c : Code) (w new : Store) (pace : Pace) (t : Term) (r : Result (Unit {0}) RootsFull) → ProtectsOrRefuses w new t r
+    → Ready y c w pace → Ready y c new pace
 ready-protected y c w new pace t (Ok u) h r = ready-counted y c w new pace t _ h.1 r
 ready-protected y c w new pace t (Err e) h r = subst (λ x. Ready y c x pace) (sym h.1) r

@@ -44,14 +44,16 @@ bare : (anns : Trees) → ◌≡◌ {A = Bool} (elim anns [ none ↦ false | mor
 bare none e = refl
 bare (more a as') e = absurd (cc e)
 
-flagged : (y : Spec) (name : List ℕ) (quoted flag : Bool) → ◌≡◌ {A = Bool} (elim (elim (beq quoted flag) as (λ _. Option Declaration) [ true ↦ symbol y name | false ↦ None ]) [ Some d ↦ false | None ↦ true ]) false → flag ≡ quoted
+flagged : (y : Spec) (name : List ℕ) (quoted flag : Bool) → ◌≡◌ {A = Bool}
+    (elim (elim (beq quoted flag) as (λ _. Option Declaration) [ true ↦ symbol y name | false ↦ None ]) [ Some d ↦ false | None ↦ true ]) false → flag ≡ quoted
 flagged y name true true e = refl
 flagged y name true false e = absurd (cc e)
 flagged y name false true e = absurd (cc e)
 flagged y name false false e = refl
 
 mutual
-  same-tree : (y : Spec) (t : Tree) → list_any is_no_application (nodes t) ≡ false → list_any is_annotated (nodes t) ≡ false → list_any (is_undeclared y) (nodes t) ≡ false → tree_of (term_of t) ≡ t
+  same-tree : (y : Spec) (t : Tree) → list_any is_no_application (nodes t) ≡ false → list_any is_annotated (nodes t) ≡ false
+      → list_any (is_undeclared y) (nodes t) ≡ false → tree_of (term_of t) ≡ t
   same-tree y (Int z anns) a n u = absurd (cc a)
   same-tree y (Items items anns) a n u = absurd (cc a)
   same-tree y (Hole inner anns) a n u = absurd (cc a)
@@ -64,7 +66,8 @@ mutual
       ∙ ap (λ ts. Appl name quoted ts none) (same-trees y args a n'.1 u'.1)
       ∙ ap (λ ts. Appl name quoted args ts) (sym (bare anns n'.0))
 
-  same-trees : (y : Spec) (ts : Trees) → list_any is_no_application (nodes_all ts) ≡ false → list_any is_annotated (nodes_all ts) ≡ false → list_any (is_undeclared y) (nodes_all ts) ≡ false → instances [] (terms_of ts) ≡ ts
+  same-trees : (y : Spec) (ts : Trees) → list_any is_no_application (nodes_all ts) ≡ false → list_any is_annotated (nodes_all ts) ≡ false
+      → list_any (is_undeclared y) (nodes_all ts) ≡ false → instances [] (terms_of ts) ≡ ts
   same-trees y none a n u = refl
   same-trees y (more t ts) a n u =
       let a' = any-split is_no_application (nodes t) (nodes_all ts) a in
@@ -113,12 +116,14 @@ every-reverse : {A : Type 0} (P : A → Type 0) (xs : List A) → Every P xs →
 every-reverse P [] h = tt
 every-reverse P (x ∷ xs) h = subst (Every P) (sym (reverse-append (x ∷ []) xs)) (every-snoc P (reverse xs) x (every-reverse P xs h.1) h.0)
 
-every-named : (y : Spec) (P : Named → Type 0) → ((t : Tree) → IsNode y t → P (node_named t)) → (ts : List Tree) → Every (IsNode y) ts → Every P (map node_named ts)
+every-named : (y : Spec) (P : Named → Type 0) → ((t : Tree) → IsNode y t → P (node_named t)) → (ts : List Tree) → Every (IsNode y) ts
+    → Every P (map node_named ts)
 every-named y P f [] h = tt
 every-named y P f (t ∷ ts) h = (f t h.0, every-named y P f ts h.1)
 
 names-of : (y : Spec) (P : Named → Type 0) → ((t : Tree) → IsNode y t → P (node_named t)) → (u : Tree) → IsGround y u → Every P (named (term_of u))
-names-of y P f u ground = subst (Every P) (named-backwards u) (every-reverse P (map node_named (backwards u)) (every-named y P f (backwards u) (ground-nodes y u ground)))
+names-of y P f u ground = subst (Every P) (named-backwards u)
+    (every-reverse P (map node_named (backwards u)) (every-named y P f (backwards u) (ground-nodes y u ground)))
 
 pub spelled-makes : (y : Spec) → fault y ≡ None → (ls : List Letter) (u : Tree) → Spells y ls u → MakesOne y ls (tree_of (term_of u))
 spelled-makes y kept ls u h =
@@ -128,9 +133,11 @@ spelled-makes y kept ls u h =
 
 -- ---- what is answered
 
-pub spelled-made : (y : Spec) → fault y ≡ None → (w : Store) (ls : List Letter) (r : Result bank.Term EngineFault) → IfOk r (λ t. (u : Tree) → MakesOne y ls u → tree_at w t ≡ Some u) → IfOk r (λ t. (u : Tree) → Spells y ls u → tree_at w t ≡ Some (tree_of (term_of u)))
+pub spelled-made : (y : Spec) → fault y ≡ None → (w : Store) (ls : List Letter) (r : Result bank.Term EngineFault)
+    → IfOk r (λ t. (u : Tree) → MakesOne y ls u → tree_at w t ≡ Some u) → IfOk r (λ t. (u : Tree) → Spells y ls u → tree_at w t ≡ Some (tree_of (term_of u)))
 spelled-made y kept w ls (Ok t) h = λ u s. h (tree_of (term_of u)) (spelled-makes y kept ls u s)
 spelled-made y kept w ls (Err f) h = tt
 
-pub spelled-given : (y : Spec) → fault y ≡ None → (w : Store) (ls : List Letter) (u : Tree) → Spells y ls u → (r : Result bank.Term EngineFault) → IfOk r (λ t. (u : Tree) → MakesOne y ls u → tree_at w t ≡ Some u) → IfOk r (IsGiven y w)
+pub spelled-given : (y : Spec) → fault y ≡ None → (w : Store) (ls : List Letter) (u : Tree) → Spells y ls u → (r : Result bank.Term EngineFault)
+    → IfOk r (λ t. (u : Tree) → MakesOne y ls u → tree_at w t ≡ Some u) → IfOk r (IsGiven y w)
 spelled-given y kept w ls u s r h = terms-given w y ls (tree_of (term_of u)) r (ground-bare y u s.is_ground) (spelled-makes y kept ls u s) h

@@ -8,7 +8,8 @@ use Rattle.rec_sorts.specs.Lookup.{is_variable}
 use Rattle.rec_sorts.specs.Binding.{Bound, Substitution, value_of, bind_first, parts_at_variables, parts_at_variables_all, instance, binds}
 use Rattle.rec_sorts.specs.TermRules.{arguments}
 use Rattle.rec_sorts.specs.Evaluation.{Outcome, Done, Over, Eval}
-use Rattle.rec_sorts.proofs.DerivationLemmas.{Evals, variable, applied, arguments_over, EvalsAll, no_more, one_more, first_over, later_over, Tries, no_rule, no_match, nothing_left, fires, fails, conditions_over, derived}
+use Rattle.rec_sorts.proofs.DerivationLemmas.{Evals, variable, applied, arguments_over, EvalsAll, no_more, one_more, first_over}
+use Rattle.rec_sorts.proofs.DerivationLemmas.{later_over, Tries, no_rule, no_match, nothing_left, fires, fails, conditions_over, derived}
 
 -- a tree is built of applications of names that are quoted just where they must be, without annotations
 abbrev mutual
@@ -38,7 +39,8 @@ value_applied : (s : Substitution) (name : List ℕ) (v : Tree) → ValuesApplie
 value_applied [] name v h e = absurd (cc e)
 value_applied (b ∷ bs) name v h e = by_test (bytes_eq b.name name) e (λ k. value_applied bs name v h.1 k)
   where
-    by_test : (c : Bool) → ◌≡◌ {A = Option Tree} (elim c [ true ↦ Some b.value | false ↦ value_of bs name ]) (Some v) → (value_of bs name ≡ Some v → IsApplied v) → IsApplied v
+    by_test : (c : Bool) → ◌≡◌ {A = Option Tree} (elim c [ true ↦ Some b.value | false ↦ value_of bs name ]) (Some v)
+        → (value_of bs name ≡ Some v → IsApplied v) → IsApplied v
     by_test true k later = let same : b.value ≡ v = cc in subst IsApplied same h.0
     by_test false k later = later k
 
@@ -67,7 +69,8 @@ mutual
         | false ↦ all_parts_applied y s ts (arguments u) h (arguments_applied u k)
       ]
 
-  all_parts_applied : (y : Spec) (s : Substitution) (ls : Terms) (us : Trees) → ValuesApplied s → AreApplied us → ValuesApplied (parts_at_variables_all y s ls us)
+  all_parts_applied : (y : Spec) (s : Substitution) (ls : Terms) (us : Trees) → ValuesApplied s → AreApplied us
+      → ValuesApplied (parts_at_variables_all y s ls us)
   all_parts_applied y s Terms.none us h k = h
   all_parts_applied y s (Terms.more l ls) none h k = h
   all_parts_applied y s (Terms.more l ls) (more u us) h k = all_parts_applied y (parts_at_variables y s l u) ls us (parts_applied y s l u h k.0) k.1

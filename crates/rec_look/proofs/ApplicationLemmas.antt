@@ -132,7 +132,8 @@ begun-last t us is h xs ys e = elim (ends us (t ∷ []) xs ys e) [
     whole : Closed (us ++ t ∷ [])
     whole u there = elim (among-either u us (t ∷ []) there) [
       | inl q ↦ are-left (applications u) us (t ∷ []) (inside u q)
-      | inr q ↦ subst (λ z. AreAmong (applications z) (us ++ t ∷ [])) (sym (one-of u t q)) (subst (λ ts. AreAmong ts (us ++ t ∷ [])) (sym is) (are-same (us ++ t ∷ [])))
+      | inr q ↦ subst (λ z. AreAmong (applications z) (us ++ t ∷ [])) (sym (one-of u t q))
+          (subst (λ ts. AreAmong ts (us ++ t ∷ [])) (sym is) (are-same (us ++ t ∷ [])))
     ]
 
     by : (behind rest : List Tree) → t ∷ [] ≡ behind ++ rest → Closed (us ++ behind)
@@ -164,8 +165,10 @@ are-different ts [] h = tt
 are-different ts (x ∷ xs) h = (there-by x ts (different ts) (all_inserted tree_eq tree_eq_same [] ts) h.0, are-different ts xs h.1)
 
 -- the applications of one that was left were left too
-pub left-before : (v t : Tree) (before rest : List Tree) → applications v ≡ before ++ rest → IsAmong t (different before) → insert_all tree_eq (different before) (applications t) ≡ different before
-left-before v t before rest e there = all-there (different before) (applications t) (are-different before (applications t) (elim (among-inserted t [] before there) [ inl q ↦ absurd (cc q) | inr q ↦ begun-applications v before rest e t q ]))
+pub left-before : (v t : Tree) (before rest : List Tree) → applications v ≡ before ++ rest → IsAmong t (different before)
+    → insert_all tree_eq (different before) (applications t) ≡ different before
+left-before v t before rest e there = all-there (different before) (applications t)
+    (are-different before (applications t) (elim (among-inserted t [] before there) [ inl q ↦ absurd (cc q) | inr q ↦ begun-applications v before rest e t q ]))
 
 pub different-append : (xs ys : List Tree) → different (xs ++ ys) ≡ insert_all tree_eq (different xs) ys
 different-append xs ys = all_append tree_eq [] xs ys

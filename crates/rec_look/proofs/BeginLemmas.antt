@@ -23,7 +23,9 @@ pub begun-within : (y : Spec) (w : Store) (n : ℕ) (tracer : Tracer) (t : Term)
 begun-within y w n tracer t b = subst (IsWithin n) (sym b.trace) (trace-within y b.stands.order.good n t)
 
 -- that of the specification's own term of a number
-pub own-begins : (y : Spec) (w : Store) (n i : ℕ) (tracer : Tracer) → i < length y.terms → Stands y w tracer → IfSome (slice_get y.terms i) (λ t. rest_of y w tracer ≡ Trace y n t) → IfSome (slice_get y.terms i) (λ t. whole_of y w tracer ≡ tree_of t) → Begins y w n tracer (term_at y i)
+pub own-begins : (y : Spec) (w : Store) (n i : ℕ) (tracer : Tracer) → i < length y.terms → Stands y w tracer
+    → IfSome (slice_get y.terms i) (λ t. rest_of y w tracer ≡ Trace y n t) → IfSome (slice_get y.terms i) (λ t. whole_of y w tracer ≡ tree_of t)
+    → Begins y w n tracer (term_at y i)
 own-begins y w n i tracer low stands h k =
     let there = slice_get-get_or y.terms i (Apply nameless syntax.none) low in
     record {
@@ -36,17 +38,24 @@ own-begins y w n i tracer low stands h k =
 pub begins-same : (y z : Spec) (w : Store) (n : ℕ) (tracer : Tracer) (t : Term) → z ≡ y → Begins y w n tracer t → Begins z w n tracer t
 begins-same y z w n tracer t e b = subst (λ x. Begins x w n tracer t) (sym e) b
 
-module _ {W : Type 0} (contents : W → Option (List ℕ)) (source : List ℕ) (y : Spec) (shown : Shown) (n : ℕ) (task : Task) (w : Store) (tracer : Tracer) (notes : List ℕ) (begun : Begins y w n tracer task.term) (is : notes ≡ notes_text task.notes) where
+module _ {W : Type 0} (contents : W → Option (List ℕ)) (source : List ℕ) (y : Spec) (shown : Shown) (n : ℕ) (task : Task) (w : Store)
+    (tracer : Tracer) (notes : List ℕ) (begun : Begins y w n tracer task.term) (is : notes ≡ notes_text task.notes) where
   text-is : first_text shown (whole_of y w tracer) ++ told source shown n notes (rest_of y w tracer) ≡ task_text source y shown n task
   text-is =
       ap₂ (λ a b. first_text shown a ++ b) begun.whole (ap₂ (λ a b. told source shown n a b) is begun.trace)
       ∙ sym (task-told source y shown n task begun.stands.order.good)
 
-  pub task-prints : (a b c : Output W) (k l m : ℕ) → Prints contents a b k l (first_text shown (whole_of y w tracer)) → Prints contents b c l m (told source shown n notes (rest_of y w tracer)) → Prints contents a c k m (task_text source y shown n task)
-  task-prints a b c k l m h e = subst (λ text. Prints contents a c k m text) text-is (prints-both contents a b c k l m (first_text shown (whole_of y w tracer)) (told source shown n notes (rest_of y w tracer)) h e)
+  pub task-prints : (a b c : Output W) (k l m : ℕ) → Prints contents a b k l (first_text shown (whole_of y w tracer))
+      → Prints contents b c l m (told source shown n notes (rest_of y w tracer)) → Prints contents a c k m (task_text source y shown n task)
+  task-prints a b c k l m h e = subst (λ text. Prints contents a c k m text) text-is
+      (prints-both contents a b c k l m (first_text shown (whole_of y w tracer)) (told source shown n notes (rest_of y w tracer)) h e)
 
-  pub task-breaks-first : (a b : Output W) (k : ℕ) (f : RunFault) → Breaks contents a b k (first_text shown (whole_of y w tracer)) f → Breaks contents a b k (task_text source y shown n task) f
-  task-breaks-first a b k f s = subst (λ text. Breaks contents a b k text f) text-is (breaks-before contents a b k (first_text shown (whole_of y w tracer)) (told source shown n notes (rest_of y w tracer)) f s)
+  pub task-breaks-first : (a b : Output W) (k : ℕ) (f : RunFault) → Breaks contents a b k (first_text shown (whole_of y w tracer)) f
+      → Breaks contents a b k (task_text source y shown n task) f
+  task-breaks-first a b k f s = subst (λ text. Breaks contents a b k text f) text-is
+      (breaks-before contents a b k (first_text shown (whole_of y w tracer)) (told source shown n notes (rest_of y w tracer)) f s)
 
-  pub task-breaks-rest : (a b c : Output W) (k l : ℕ) (f : RunFault) → Prints contents a b k l (first_text shown (whole_of y w tracer)) → Breaks contents b c l (told source shown n notes (rest_of y w tracer)) f → Breaks contents a c k (task_text source y shown n task) f
-  task-breaks-rest a b c k l f h s = subst (λ text. Breaks contents a c k text f) text-is (breaks-behind contents a b c k l (first_text shown (whole_of y w tracer)) (told source shown n notes (rest_of y w tracer)) f h s)
+  pub task-breaks-rest : (a b c : Output W) (k l : ℕ) (f : RunFault) → Prints contents a b k l (first_text shown (whole_of y w tracer))
+      → Breaks contents b c l (told source shown n notes (rest_of y w tracer)) f → Breaks contents a c k (task_text source y shown n task) f
+  task-breaks-rest a b c k l f h s = subst (λ text. Breaks contents a c k text f) text-is
+      (breaks-behind contents a b c k l (first_text shown (whole_of y w tracer)) (told source shown n notes (rest_of y w tracer)) f h s)

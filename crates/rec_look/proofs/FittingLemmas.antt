@@ -58,10 +58,14 @@ first-fits y u n (suc k) e m f = by (binds y (get_or y.rules n no_rule).left u) 
     number_or (Some x) = x.number
     number_or None = 0
 
-    here : (o : Option Substitution) → binds y (get_or y.rules n no_rule).left u ≡ o → fitting_among y u (drop n y.rules) ≡ cond (is_some o) (get_or y.rules n no_rule ∷ fitting_among y u (drop (suc n) y.rules)) (fitting_among y u (drop (suc n) y.rules))
-    here o q = ap (fitting_among y u) (drop-cons y.rules n no_rule lt) ∙ ap (λ z. cond (is_some z) (get_or y.rules n no_rule ∷ fitting_among y u (drop (suc n) y.rules)) (fitting_among y u (drop (suc n) y.rules))) q
+    here : (o : Option Substitution) → binds y (get_or y.rules n no_rule).left u ≡ o
+        → fitting_among y u (drop n y.rules) ≡ cond (is_some o) (get_or y.rules n no_rule ∷ fitting_among y u (drop (suc n) y.rules))
+        (fitting_among y u (drop (suc n) y.rules))
+    here o q = ap (fitting_among y u) (drop-cons y.rules n no_rule lt)
+        ∙ ap (λ z. cond (is_some z) (get_or y.rules n no_rule ∷ fitting_among y u (drop (suc n) y.rules)) (fitting_among y u (drop (suc n) y.rules))) q
 
-    by : (o : Option Substitution) → binds y (get_or y.rules n no_rule).left u ≡ o → (first_match y (suc n) (drop (suc n) y.rules) u ≡ Some m → First y u (suc n) m.number) → First y u n m.number
+    by : (o : Option Substitution) → binds y (get_or y.rules n no_rule).left u ≡ o
+        → (first_match y (suc n) (drop (suc n) y.rules) u ≡ Some m → First y u (suc n) m.number) → First y u n m.number
     by (Some s) q later =
         let whole = sym (first-matched y n u no_rule s lt q) ∙ f in
         let en : n ≡ m.number = ap number_or whole in
@@ -79,7 +83,8 @@ first-of y u n m f = by (which (length y.rules) n)
     by (inr lt) = first-fits y u n (length y.rules - n) (omega (arith, lt)) m f
 
 -- from two numbers on the same rules match, where the same one is found first
-same-fits : (y : Spec) (u : Tree) (n m : ℕ) → first_match y n (drop n y.rules) u ≡ first_match y m (drop m y.rules) u → fitting_among y u (drop n y.rules) ≡ fitting_among y u (drop m y.rules)
+same-fits : (y : Spec) (u : Tree) (n m : ℕ) → first_match y n (drop n y.rules) u ≡ first_match y m (drop m y.rules) u
+    → fitting_among y u (drop n y.rules) ≡ fitting_among y u (drop m y.rules)
 same-fits y u n m e = by (first_match y m (drop m y.rules) u) refl
   where
     by : (o : Option NumberedMatch) → first_match y m (drop m y.rules) u ≡ o → fitting_among y u (drop n y.rules) ≡ fitting_among y u (drop m y.rules)
@@ -88,7 +93,8 @@ same-fits y u n m e = by (first_match y m (drop m y.rules) u) refl
 
 -- ---- a call's rules, by a matcher
 
-module _ (y : Spec) (w : Store) (m : Matcher) (ready : IsReady y w m) (k : ℕ) (ltk : k < length (symbols y)) (work : List Term) (args : Trees) (are : held_trees w work ≡ to_list args) (counted : count_of args ≡ arity_of y k) where
+module _ (y : Spec) (w : Store) (m : Matcher) (ready : IsReady y w m) (k : ℕ) (ltk : k < length (symbols y)) (work : List Term) (args : Trees)
+    (are : held_trees w work ≡ to_list args) (counted : count_of args ≡ arity_of y k) where
   abbrev pub name : List ℕ
   name = name_of y (Symbol k)
 
@@ -121,7 +127,8 @@ module _ (y : Spec) (w : Store) (m : Matcher) (ready : IsReady y w m) (k : ℕ) 
 
   -- none is left
   pub no-more : (at : ℕ) (bind : List Term) → HeadAt m at k → FindsFor w m at work bind None → fitting_among y (application name args) (drop at y.rules) ≡ []
-  no-more at bind head h = none-fits y at (drop at y.rules) (application name args) (ap (first_match y at (drop at y.rules)) (sym tree-is) ∙ finds at bind None head h)
+  no-more at bind head h = none-fits y at (drop at y.rules) (application name args)
+      (ap (first_match y at (drop at y.rules)) (sym tree-is) ∙ finds at bind None head h)
 
   found-first : (at i : ℕ) (bind : List Term) → HeadAt m at k → FindsFor w m at work bind (Some i) → First y (application name args) at i
   found-first at i bind head h =
@@ -132,7 +139,8 @@ module _ (y : Spec) (w : Store) (m : Matcher) (ready : IsReady y w m) (k : ℕ) 
   found-low at i bind head h = (found-first at i bind head h).low
 
   -- the next one
-  module _ (at i : ℕ) (bind : List Term) (head : HeadAt m at k) (h : FindsFor w m at work bind (Some i)) (s : LeftSide) (is : s ≡ get_or m.sides.items i s) where
+  module _ (at i : ℕ) (bind : List Term) (head : HeadAt m at k) (h : FindsFor w m at work bind (Some i)) (s : LeftSide)
+      (is : s ≡ get_or m.sides.items i s) where
     within : i < length m.sides.items
     within = let low = found-low at i bind head h in let ruled = ready.matcher.ruled in omega (arith, low, ruled)
 
@@ -158,12 +166,14 @@ module _ (y : Spec) (w : Store) (m : Matcher) (ready : IsReady y w m) (k : ℕ) 
         let a = (found-first at i bind head h).after in
         omega (arith, l, a, next-is)
 
-    pub next-fits : fitting_among y (application name args) (drop at y.rules) ≡ get_or y.rules i no_rule ∷ fitting_among y (application name args) (drop s.next y.rules)
+    pub next-fits : fitting_among y (application name args) (drop at y.rules) ≡ get_or y.rules i no_rule ∷ fitting_among y (application name args)
+        (drop s.next y.rules)
     next-fits =
         let side = ready.matcher.sides i no_rule (found-low at i bind head h) in
         let skips : Skips y name (suc i) (next_at m i) = subst (λ j. Skips y (name_of y (Symbol j)) (suc i) (next_at m i)) own side.skips in
         (found-first at i bind head h).fits
-        ∙ ap (λ rs. get_or y.rules i no_rule ∷ rs) (same-fits y (application name args) (suc i) (next_at m i) (skips args) ∙ ap (λ a. fitting_among y (application name args) (drop a y.rules)) (sym next-is))
+        ∙ ap (λ rs. get_or y.rules i no_rule ∷ rs) (same-fits y (application name args) (suc i) (next_at m i) (skips args)
+        ∙ ap (λ a. fitting_among y (application name args) (drop a y.rules)) (sym next-is))
 
   -- the first of the symbol's rules
   module _ (at : ℕ) (is : at ≡ get_or m.heads.items k at) where
@@ -180,17 +190,21 @@ module _ (y : Spec) (w : Store) (m : Matcher) (ready : IsReady y w m) (k : ℕ) 
 
 -- ---- by what is called
 
-pub arguments-are : (y : Spec) (w : Store) (call : Call) (called : IsCalled y w call) (list : Term) (old new : List Term) → tree_at w list ≡ part_at args_of w call.term → old ≡ [] → held_trees w new ≡ held_trees w old ++ to_list (items_of (held_tree w list)) → held_trees w new ≡ to_list called.args
+pub arguments-are : (y : Spec) (w : Store) (call : Call) (called : IsCalled y w call) (list : Term) (old new : List Term)
+    → tree_at w list ≡ part_at args_of w call.term → old ≡ [] → held_trees w new ≡ held_trees w old ++ to_list (items_of (held_tree w list))
+    → held_trees w new ≡ to_list called.args
 arguments-are y w call called list old new e empty h =
     let there : tree_at w list ≡ Some (list_of called.args) = e ∙ called.listed in
     h ∙ ap (λ rs. held_trees w rs ++ to_list (items_of (held_tree w list))) empty ∙ ap (λ o. to_list (items_of (unwrap_or o (list_of none)))) there
 
-module _ (y : Spec) (w : Store) (m : Matcher) (ready : IsReady y w m) (call : Call) (called : IsCalled y w call) (work : List Term) (are : held_trees w work ≡ to_list called.args) where
+module _ (y : Spec) (w : Store) (m : Matcher) (ready : IsReady y w m) (call : Call) (called : IsCalled y w call) (work : List Term)
+    (are : held_trees w work ≡ to_list called.args) where
   pub call-size : length work ≡ call.count
   call-size = sym (length-map work (held_tree w)) ∙ ap length are ∙ length-to_list called.args ∙ called.count
 
   pub call-can : (at : ℕ) → HeadAt m at call.symbol → CanFind w m call.symbol call.count at work
-  call-can at head = subst (λ n. CanFind w m call.symbol n at work) call-size (can-find y w m ready call.symbol called.declared work called.args are called.counted at head)
+  call-can at head = subst (λ n. CanFind w m call.symbol n at work) call-size
+      (can-find y w m ready call.symbol called.declared work called.args are called.counted at head)
 
   pub call-low : (at i : ℕ) (bind : List Term) → HeadAt m at call.symbol → FindsFor w m at work bind (Some i) → i < length y.rules
   call-low = found-low y w m ready call.symbol called.declared work called.args are called.counted
@@ -198,31 +212,44 @@ module _ (y : Spec) (w : Store) (m : Matcher) (ready : IsReady y w m) (call : Ca
   pub call-after : (at i : ℕ) (bind : List Term) → HeadAt m at call.symbol → FindsFor w m at work bind (Some i) → at ≤ i
   call-after at i bind head h = (found-first y w m ready call.symbol called.declared work called.args are called.counted at i bind head h).after
 
-  pub call-head : (at i : ℕ) (bind : List Term) → HeadAt m at call.symbol → FindsFor w m at work bind (Some i) → (s : LeftSide) → s ≡ get_or m.sides.items i s → HeadAt m s.next call.symbol
+  pub call-head : (at i : ℕ) (bind : List Term) → HeadAt m at call.symbol → FindsFor w m at work bind (Some i) → (s : LeftSide)
+      → s ≡ get_or m.sides.items i s → HeadAt m s.next call.symbol
   call-head at i bind head h s is = next-head y w m ready call.symbol called.declared work called.args are called.counted at i bind head h s is
 
-  pub call-later : (at i : ℕ) (bind : List Term) → HeadAt m at call.symbol → FindsFor w m at work bind (Some i) → (s : LeftSide) → s ≡ get_or m.sides.items i s → at < s.next
+  pub call-later : (at i : ℕ) (bind : List Term) → HeadAt m at call.symbol → FindsFor w m at work bind (Some i) → (s : LeftSide)
+      → s ≡ get_or m.sides.items i s → at < s.next
   call-later at i bind head h s is = next-later y w m ready call.symbol called.declared work called.args are called.counted at i bind head h s is
 
   -- one place more
-  pub call-more : (source : List ℕ) (at i : ℕ) (bind : List Term) (head : HeadAt m at call.symbol) (h : FindsFor w m at work bind (Some i)) (s : LeftSide) (is : s ≡ get_or m.sides.items i s) (spots found more : List Spot) (d : Spot) → AreSpots source y spots → more ≡ found ++ get_or spots i d ∷ []
-      → found ++ map (rule_spot source) (fitting_among y (bare_of (held_tree w call.term)) (drop at y.rules)) ≡ fitting_spots source y (bare_of (held_tree w call.term))
-      → more ++ map (rule_spot source) (fitting_among y (bare_of (held_tree w call.term)) (drop s.next y.rules)) ≡ fitting_spots source y (bare_of (held_tree w call.term))
+  pub call-more : (source : List ℕ) (at i : ℕ) (bind : List Term) (head : HeadAt m at call.symbol) (h : FindsFor w m at work bind (Some i))
+      (s : LeftSide) (is : s ≡ get_or m.sides.items i s) (spots found more : List Spot) (d : Spot) → AreSpots source y spots
+      → more ≡ found ++ get_or spots i d ∷ []
+      → found ++ map (rule_spot source) (fitting_among y (bare_of (held_tree w call.term)) (drop at y.rules)) ≡ fitting_spots source y
+      (bare_of (held_tree w call.term))
+      → more ++ map (rule_spot source) (fitting_among y (bare_of (held_tree w call.term)) (drop s.next y.rules)) ≡ fitting_spots source y
+      (bare_of (held_tree w call.term))
   call-more source at i bind head h s is spots found more d are-spots pushed so-far =
       let u = bare_of (held_tree w call.term) in
       let low = call-low at i bind head h in
-      let at-rule : get_or spots i d ≡ rule_spot source (get_or y.rules i no_rule) = ap (λ ps. get_or ps i d) are-spots ∙ get_or-map (rule_spot source) y.rules i no_rule d low in
-      let next : fitting_among y u (drop at y.rules) ≡ get_or y.rules i no_rule ∷ fitting_among y u (drop s.next y.rules) = subst (λ t. fitting_among y t (drop at y.rules) ≡ get_or y.rules i no_rule ∷ fitting_among y t (drop s.next y.rules)) (sym called.bare) (next-fits y w m ready call.symbol called.declared work called.args are called.counted at i bind head h s is) in
-      ap (λ ps. ps ++ map (rule_spot source) (fitting_among y u (drop s.next y.rules))) pushed ∙ append_assoc found (get_or spots i d ∷ []) (map (rule_spot source) (fitting_among y u (drop s.next y.rules)))
-      ∙ ap (λ p. found ++ p ∷ map (rule_spot source) (fitting_among y u (drop s.next y.rules))) at-rule ∙ ap (λ rs. found ++ map (rule_spot source) rs) (sym next) ∙ so-far
+      let at-rule : get_or spots i d ≡ rule_spot source (get_or y.rules i no_rule) =
+      ap (λ ps. get_or ps i d) are-spots ∙ get_or-map (rule_spot source) y.rules i no_rule d low in
+      let next : fitting_among y u (drop at y.rules) ≡ get_or y.rules i no_rule ∷ fitting_among y u (drop s.next y.rules) =
+      subst (λ t. fitting_among y t (drop at y.rules) ≡ get_or y.rules i no_rule ∷ fitting_among y t (drop s.next y.rules)) (sym called.bare)
+      (next-fits y w m ready call.symbol called.declared work called.args are called.counted at i bind head h s is) in
+      ap (λ ps. ps ++ map (rule_spot source) (fitting_among y u (drop s.next y.rules))) pushed
+      ∙ append_assoc found (get_or spots i d ∷ []) (map (rule_spot source) (fitting_among y u (drop s.next y.rules)))
+      ∙ ap (λ p. found ++ p ∷ map (rule_spot source) (fitting_among y u (drop s.next y.rules))) at-rule
+      ∙ ap (λ rs. found ++ map (rule_spot source) rs) (sym next) ∙ so-far
 
   -- all places
   pub call-all : (source : List ℕ) (at : ℕ) (bind : List Term) → HeadAt m at call.symbol → FindsFor w m at work bind None → (found : List Spot)
-      → found ++ map (rule_spot source) (fitting_among y (bare_of (held_tree w call.term)) (drop at y.rules)) ≡ fitting_spots source y (bare_of (held_tree w call.term))
+      → found ++ map (rule_spot source) (fitting_among y (bare_of (held_tree w call.term)) (drop at y.rules)) ≡ fitting_spots source y
+      (bare_of (held_tree w call.term))
       → found ≡ fitting_spots source y (bare_of (held_tree w call.term))
   call-all source at bind head h found so-far =
       let u = bare_of (held_tree w call.term) in
-      let rest : fitting_among y u (drop at y.rules) ≡ [] = ap (λ t. fitting_among y t (drop at y.rules)) called.bare ∙ no-more y w m ready call.symbol called.declared work called.args are called.counted at bind head h in
+      let rest : fitting_among y u (drop at y.rules) ≡ [] = ap (λ t. fitting_among y t (drop at y.rules)) called.bare
+      ∙ no-more y w m ready call.symbol called.declared work called.args are called.counted at bind head h in
       sym (append-nil found) ∙ ap (λ rs. found ++ map (rule_spot source) rs) (sym rest) ∙ so-far
 
   -- the first rule
@@ -230,8 +257,11 @@ module _ (y : Spec) (w : Store) (m : Matcher) (ready : IsReady y w m) (call : Ca
     pub begin-head : HeadAt m at call.symbol
     begin-head = first-head y w m ready call.symbol called.declared work called.args are called.counted at is
 
-    pub begin-all : (source : List ℕ) (found : List Spot) → found ≡ [] → found ++ map (rule_spot source) (fitting_among y (bare_of (held_tree w call.term)) (drop at y.rules)) ≡ fitting_spots source y (bare_of (held_tree w call.term))
+    pub begin-all : (source : List ℕ) (found : List Spot) → found ≡ []
+        → found ++ map (rule_spot source) (fitting_among y (bare_of (held_tree w call.term)) (drop at y.rules)) ≡ fitting_spots source y
+        (bare_of (held_tree w call.term))
     begin-all source found empty =
         let u = bare_of (held_tree w call.term) in
-        let e : fitting y u ≡ fitting_among y u (drop at y.rules) = subst (λ t. fitting y t ≡ fitting_among y t (drop at y.rules)) (sym called.bare) (first-all y w m ready call.symbol called.declared work called.args are called.counted at is) in
+        let e : fitting y u ≡ fitting_among y u (drop at y.rules) = subst (λ t. fitting y t ≡ fitting_among y t (drop at y.rules)) (sym called.bare)
+        (first-all y w m ready call.symbol called.declared work called.args are called.counted at is) in
         ap (λ ps. ps ++ map (rule_spot source) (fitting_among y u (drop at y.rules))) empty ∙ ap (map (rule_spot source)) (sym e)

@@ -7,7 +7,8 @@ use Rattle.rx_term.specs.Tree.{Tree, annotations, from_list, list_of, more, none
 use Rattle.rx_term.specs.Store.{Store, head_of, part_at, tail_of, tree_at}
 use Rattle.rx_term.specs.declared.Term.{Term as Reference}
 use Rattle.rec_syntax.specs.Syntax.{Spec}
-use Rattle.rec_sorts.specs.TermRules.{arguments, broken_by_elements, first_passed, is_annotated, is_ill_filled, is_ill_sorted, is_no_application, is_undeclared, nodes, nodes_all}
+use Rattle.rec_sorts.specs.TermRules.{arguments, broken_by_elements, first_passed, is_annotated, is_ill_filled}
+use Rattle.rec_sorts.specs.TermRules.{is_ill_sorted, is_no_application, is_undeclared, nodes, nodes_all}
 use Rattle.rec_engine.specs.Engine.{IsGround}
 use Rattle.std.proofs.lemmas.List.{take_more}
 use Rattle.std.specs.Prelude.{Vec}
@@ -56,10 +57,12 @@ none-broken y us k =
     let e = k.sorted in
     λ i. first_passed 2 (a i ∷ b i ∷ c i ∷ d i ∷ e i ∷ [])
 
-first-none : (p : Tree → Bool) (f : Tree → List Tree) (u : Tree) (us : List Tree) → list_any p (flat_map f (u ∷ us)) ≡ false → list_any p (flat_map f (u ∷ [])) ≡ false
+first-none : (p : Tree → Bool) (f : Tree → List Tree) (u : Tree) (us : List Tree) → list_any p (flat_map f (u ∷ us)) ≡ false
+    → list_any p (flat_map f (u ∷ [])) ≡ false
 first-none p f u us e = ap (list_any p) (append-nil (f u)) ∙ (any_parts p (f u) (flat_map f us) e).0
 
-others-none : (p : Tree → Bool) (f : Tree → List Tree) (u : Tree) (us : List Tree) → list_any p (flat_map f (u ∷ us)) ≡ false → list_any p (flat_map f us) ≡ false
+others-none : (p : Tree → Bool) (f : Tree → List Tree) (u : Tree) (us : List Tree) → list_any p (flat_map f (u ∷ us)) ≡ false
+    → list_any p (flat_map f us) ≡ false
 others-none p f u us e = (any_parts p (f u) (flat_map f us) e).1
 
 first-ground : (y : Spec) (u : Tree) (us : List Tree) → KeepsAll y (u ∷ us) → IsGround y u
@@ -93,9 +96,11 @@ each-ground y us i d e low = ground-at y us i d (keeps-all y us e) low
 dropped : (us : List Tree) (i : ℕ) (d : Tree) → i < length us → drop i us ≡ get_or us i d ∷ drop (i + 1) us
 dropped [] i d low = absurd (omega (arith, low))
 dropped (u ∷ us) zero d low = refl
-dropped (u ∷ us) (suc i) d low = dropped us i d (omega (arith, low)) ∙ ap (λ n. get_or us i d ∷ drop n (u ∷ us)) (let k : suc (i + 1) ≡ suc i + 1 = omega arith in k)
+dropped (u ∷ us) (suc i) d low = dropped us i d (omega (arith, low))
+    ∙ ap (λ n. get_or us i d ∷ drop n (u ∷ us)) (let k : suc (i + 1) ≡ suc i + 1 = omega arith in k)
 
-module _ (w : Store) (us : List Tree) (rest : Reference) (i : ℕ) (d : Tree) (low : i < length us) (here : tree_at w rest ≡ Some (list_of (from_list (drop i us)))) where
+module _ (w : Store) (us : List Tree) (rest : Reference) (i : ℕ) (d : Tree) (low : i < length us)
+    (here : tree_at w rest ≡ Some (list_of (from_list (drop i us)))) where
   there : tree_at w rest ≡ Some (list_of (more (get_or us i d) (from_list (drop (i + 1) us))))
   there = here ∙ ap (λ ts. Some (list_of (from_list ts))) (dropped us i d low)
 
@@ -111,7 +116,8 @@ item-is w t u e = ap (λ o. unwrap_or o (list_of none)) e
 -- ---- given terms by their numbers
 
 pub given-low : (y : Spec) (us : List Tree) (t : GivenTerms) (i : ℕ) → AreGivenTerms y us t → i < length t.letters.items → i < length us
-given-low y us t i h low = subst (λ k. i < k) (pairwise-length (λ (ls : Vec Letter Global) (u : Tree). AreLetters y ls.items (term_of u)) t.letters.items us h.letters) low
+given-low y us t i h low = subst (λ k. i < k) (pairwise-length (λ (ls : Vec Letter Global) (u : Tree). AreLetters y ls.items (term_of u))
+    t.letters.items us h.letters) low
 
 pub given-long : (y : Spec) (us : List Tree) (t : GivenTerms) → AreGivenTerms y us t → length us ≡ length t.letters.items
 given-long y us t h = sym (pairwise-length (λ (ls : Vec Letter Global) (u : Tree). AreLetters y ls.items (term_of u)) t.letters.items us h.letters)
@@ -119,15 +125,18 @@ given-long y us t h = sym (pairwise-length (λ (ls : Vec Letter Global) (u : Tre
 pub notes-long : (y : Spec) (us : List Tree) (t : GivenTerms) → AreGivenTerms y us t → length t.notes.items ≡ length t.letters.items
 notes-long y us t h = pairwise-length HasNotes t.notes.items us h.notes ∙ given-long y us t h
 
-pub given-spells : (y : Spec) (us : List Tree) (t : GivenTerms) (i : ℕ) (v : Vec Letter Global) (letters : List Letter) (d : Tree) → AreGivenTerms y us t → i < length t.letters.items → v ≡ get_or t.letters.items i v → letters ≡ v.items → Spells y letters (get_or us i d)
+pub given-spells : (y : Spec) (us : List Tree) (t : GivenTerms) (i : ℕ) (v : Vec Letter Global) (letters : List Letter) (d : Tree)
+    → AreGivenTerms y us t → i < length t.letters.items → v ≡ get_or t.letters.items i v → letters ≡ v.items → Spells y letters (get_or us i d)
 given-spells y us t i v letters d h low is all =
     let at = pairwise-at (λ (ls : Vec Letter Global) (u : Tree). AreLetters y ls.items (term_of u)) t.letters.items us i v d h.letters low in
     record {
-      letters = subst (λ ls. AreLetters y ls (term_of (get_or us i d))) (sym all) (subst (λ (x : Vec Letter Global). AreLetters y x.items (term_of (get_or us i d))) (sym is) at);
+      letters = subst (λ ls. AreLetters y ls (term_of (get_or us i d))) (sym all)
+          (subst (λ (x : Vec Letter Global). AreLetters y x.items (term_of (get_or us i d))) (sym is) at);
       is_ground = each-ground y us i d h.kept (given-low y us t i h low);
     }
 
-pub given-notes : (y : Spec) (us : List Tree) (t : GivenTerms) (i : ℕ) (v : Vec ℕ Global) (notes : List ℕ) (d : Tree) → AreGivenTerms y us t → i < length t.letters.items → v ≡ get_or t.notes.items i v → notes ≡ v.items → notes ≡ notes_text (annotations (get_or us i d))
+pub given-notes : (y : Spec) (us : List Tree) (t : GivenTerms) (i : ℕ) (v : Vec ℕ Global) (notes : List ℕ) (d : Tree) → AreGivenTerms y us t
+    → i < length t.letters.items → v ≡ get_or t.notes.items i v → notes ≡ v.items → notes ≡ notes_text (annotations (get_or us i d))
 given-notes y us t i v notes d h low is all =
     let there = subst (λ k. i < k) (sym (notes-long y us t h)) low in
     all ∙ subst (λ (x : Vec ℕ Global). HasNotes x (get_or us i d)) (sym is) (pairwise-at HasNotes t.notes.items us i v d h.notes there)
@@ -136,7 +145,9 @@ pub no-notes : (us : List Tree) → Pairwise HasNotes [] (take 0 us)
 no-notes [] = tt
 no-notes (u ∷ us) = tt
 
-pub notes-more : (w : Store) (us : List Tree) (i : ℕ) (r : Reference) (old new : List (Vec ℕ Global)) (text : Vec ℕ Global) → i < length us → tree_at w r ≡ Some (get_or us i (list_of none)) → new ≡ old ++ text ∷ [] → text.items ≡ notes_text (annotations (item_at w r)) → Pairwise HasNotes old (take i us) → Pairwise HasNotes new (take (i + 1) us)
+pub notes-more : (w : Store) (us : List Tree) (i : ℕ) (r : Reference) (old new : List (Vec ℕ Global)) (text : Vec ℕ Global) → i < length us
+    → tree_at w r ≡ Some (get_or us i (list_of none)) → new ≡ old ++ text ∷ [] → text.items ≡ notes_text (annotations (item_at w r))
+    → Pairwise HasNotes old (take i us) → Pairwise HasNotes new (take (i + 1) us)
 notes-more w us i r old new text low there pushed is h =
     let u = get_or us i (list_of none) in
     let own : HasNotes text u = is ∙ ap (λ t. notes_text (annotations t)) (item-is w r u there) in

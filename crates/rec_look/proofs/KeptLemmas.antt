@@ -2,7 +2,8 @@
 use Rattle.std.proofs.Common.{refl, sym, ap, ap₂, subst, ◌∙◌, arith, append-nil, take_all}
 use Rattle.std.proofs.lemmas.List.{drop-append-le, drop-drop, drop-map, drop_all, length-append, length-drop, length-map, map-append, take-append-le}
 use Rattle.std.proofs.Math.Seq.{drop-append_seam, drop-nil}
-use Rattle.std.specs.Prelude.{ℕ, zero, suc, ◌≡◌, ◌-◌, ◌+◌, ◌<◌, ◌≤◌, ◌==◌, Bool, true, false, List, [], ◌∷◌, ◌++◌, OnOk, Option, Some, None, Result, Ok, Err, Vec, drop, if◌then◌else◌, length, map, take}
+use Rattle.std.specs.Prelude.{ℕ, zero, suc, ◌≡◌, ◌-◌, ◌+◌, ◌<◌, ◌≤◌, ◌==◌, Bool, true, false, List, [], ◌∷◌, ◌++◌}
+use Rattle.std.specs.Prelude.{OnOk, Option, Some, None, Result, Ok, Err, Vec, drop, if◌then◌else◌, length, map, take}
 use Rattle.std.specs.declared.alloc.Global.{Global}
 use Rattle.std.proofs.lemmas.Bool.{eqb-true}
 use Rattle.rec_look.specs.Picks.{Picks, back_count, front_lines, left_out_count, rest_lines}
@@ -64,7 +65,8 @@ one-more ls l = length-append ls (l ∷ [])
 front-line : (p : Picks) (ls : List (List ℕ)) (l : List ℕ) → HasFront (front_left p (length ls)) → front_lines p (ls ++ l ∷ []) ≡ front_lines p ls ++ l ∷ []
 front-line p ls l = by p.first p.last
   where
-    by : (first last : Option ℕ) → HasFront (front_left (bounded p first last) (length ls)) → front_lines (bounded p first last) (ls ++ l ∷ []) ≡ front_lines (bounded p first last) ls ++ l ∷ []
+    by : (first last : Option ℕ) → HasFront (front_left (bounded p first last) (length ls))
+        → front_lines (bounded p first last) (ls ++ l ∷ []) ≡ front_lines (bounded p first last) ls ++ l ∷ []
     by (Some n) last some =
         let long = one-more ls l in
         let few : length ls ≤ n = omega (arith, some) in
@@ -130,7 +132,8 @@ kept-none p k front most none zero_out =
     }
 
 -- one that is only counted
-pub kept-counted : (p : Picks) (ls : List (List ℕ)) (l : List ℕ) (k k' : Kept) → place_of k ≡ Nowhere → k'.front ≡ k.front → k'.most ≡ k.most → k'.last ≡ k.last → k'.left_out ≡ k.left_out + 1 → HasKept p ls k → HasKept p (ls ++ l ∷ []) k'
+pub kept-counted : (p : Picks) (ls : List (List ℕ)) (l : List ℕ) (k k' : Kept) → place_of k ≡ Nowhere → k'.front ≡ k.front → k'.most ≡ k.most
+    → k'.last ≡ k.last → k'.left_out ≡ k.left_out + 1 → HasKept p ls k → HasKept p (ls ++ l ∷ []) k'
 kept-counted p ls l k k' e front most last out h =
     let none = nowhere k.front k.most e in
     let at = behind-line p ls l (sym h.front ∙ none.0) in
@@ -143,19 +146,23 @@ kept-counted p ls l k k' e front most last out h =
     record {
       front = front ∙ h.front ∙ sym at.left;
       most = most ∙ h.most;
-      last = ap (λ (v : _). texts_of v.items) last ∙ h.last ∙ drop_all (left_out_count p ls) rest (omega (arith, old)) ∙ sym (drop_all (left_out_count p (ls ++ l ∷ [])) (rest_lines p (ls ++ l ∷ [])) (omega (arith, new, long)));
+      last = ap (λ (v : _). texts_of v.items) last ∙ h.last ∙ drop_all (left_out_count p ls) rest (omega (arith, old))
+          ∙ sym (drop_all (left_out_count p (ls ++ l ∷ [])) (rest_lines p (ls ++ l ∷ [])) (omega (arith, new, long)));
       left_out = omega (arith, out, was, old, new);
     }
 
 -- no more are kept than there may be
 kept-few : (p : Picks) (ls : List (List ℕ)) (k : Kept) → HasKept p ls k → length k.last.items ≡ length (rest_lines p ls) - left_out_count p ls
-kept-few p ls k h = sym (length-map k.last.items (λ (line : Vec ℕ Global). line.items)) ∙ ap (λ (xs : List (List ℕ)). length xs) h.last ∙ length-drop (left_out_count p ls) (rest_lines p ls)
+kept-few p ls k h = sym (length-map k.last.items (λ (line : Vec ℕ Global). line.items)) ∙ ap (λ (xs : List (List ℕ)). length xs) h.last
+    ∙ length-drop (left_out_count p ls) (rest_lines p ls)
 
 pub kept-within : (p : Picks) (ls : List (List ℕ)) (k : Kept) → HasKept p ls k → length k.last.items ≤ k.most
 kept-within p ls k h = let few = kept-few p ls k h in let most = h.most in omega (arith, few, most)
 
 -- one that is kept
-pub kept-kept : (p : Picks) (ls : List (List ℕ)) (line : Vec ℕ Global) (k k' : Kept) → place_of k ≡ Behind → k'.front ≡ k.front → k'.most ≡ k.most → k'.last.items ≡ drop (length k.last.items + 1 - k.most) (k.last.items ++ line ∷ []) → k'.left_out ≡ k.left_out + (length k.last.items + 1 - k.most) → HasKept p ls k → HasKept p (ls ++ line.items ∷ []) k'
+pub kept-kept : (p : Picks) (ls : List (List ℕ)) (line : Vec ℕ Global) (k k' : Kept) → place_of k ≡ Behind → k'.front ≡ k.front → k'.most ≡ k.most
+    → k'.last.items ≡ drop (length k.last.items + 1 - k.most) (k.last.items ++ line ∷ [])
+    → k'.left_out ≡ k.left_out + (length k.last.items + 1 - k.most) → HasKept p ls k → HasKept p (ls ++ line.items ∷ []) k'
 kept-kept p ls line k k' e front most last out h =
     let l : List ℕ = line.items in
     let at = behind-line p ls l (sym h.front ∙ behind k.front k.most e) in
@@ -174,15 +181,19 @@ kept-kept p ls line k k' e front most last out h =
       last =
           ap texts_of last
           ∙ sym (drop-map (λ (v : Vec ℕ Global). v.items) j (k.last.items ++ line ∷ []))
-          ∙ ap (drop j) (map-append (λ (v : Vec ℕ Global). v.items) k.last.items (line ∷ []) ∙ ap (λ t. t ++ l ∷ []) h.last ∙ sym (drop-append-le old rest (l ∷ []) within))
+          ∙ ap (drop j) (map-append (λ (v : Vec ℕ Global). v.items) k.last.items (line ∷ []) ∙ ap (λ t. t ++ l ∷ []) h.last
+          ∙ sym (drop-append-le old rest (l ∷ []) within))
           ∙ drop-drop j old (rest ++ l ∷ [])
           ∙ sym (ap₂ drop new at.rest);
       left_out = omega (arith, out, was, new);
     }
 
 -- by a push, and what goes then
-pub kept-pushed : {X E : Type 0} (r : Result X E) (line : Vec ℕ Global) (k k1 k' : Kept) → place_of k ≡ Behind → k1.front ≡ k.front → k1.most ≡ k.most → k1.left_out ≡ k.left_out → k1.last.items ≡ k.last.items ++ line ∷ []
-    → k'.front ≡ k1.front → k'.most ≡ k1.most → OnOk r (length k1.last.items ≤ k1.most + 1 → k'.last.items ≡ drop (length k1.last.items - k1.most) k1.last.items) → OnOk r (length k1.last.items ≤ k1.most + 1 → k'.left_out ≡ k1.left_out + (length k1.last.items - k1.most))
+pub kept-pushed : {X E : Type 0} (r : Result X E) (line : Vec ℕ Global) (k k1 k' : Kept) → place_of k ≡ Behind → k1.front ≡ k.front → k1.most ≡ k.most
+    → k1.left_out ≡ k.left_out → k1.last.items ≡ k.last.items ++ line ∷ []
+    → k'.front ≡ k1.front → k'.most ≡ k1.most → OnOk r (length k1.last.items ≤ k1.most + 1
+    → k'.last.items ≡ drop (length k1.last.items - k1.most) k1.last.items)
+    → OnOk r (length k1.last.items ≤ k1.most + 1 → k'.left_out ≡ k1.left_out + (length k1.last.items - k1.most))
     → OnOk r ((p : Picks) (ls : List (List ℕ)) → HasKept p ls k → HasKept p (ls ++ line.items ∷ []) k')
 kept-pushed (Err x) line k k1 k' e f1 m1 o1 l1 f2 m2 l2 o2 = tt
 kept-pushed (Ok x) line k k1 k' e f1 m1 o1 l1 f2 m2 l2 o2 = λ p ls h.

@@ -4,7 +4,8 @@ use Rattle.std.proofs.lemmas.Bool.{eqb-true, leb-true}
 use Rattle.std.proofs.lemmas.List.{drop_all}
 use Rattle.std.proofs.lemmas.List.Elements.{filter-append}
 use Rattle.std.specs.List.{list_all}
-use Rattle.std.specs.Prelude.{ℕ, zero, suc, ◌≡◌, ◌-◌, ◌<◌, ◌≤◌, ◌^◌, ◌&&◌, ◌||◌, Bool, true, false, not, cond, List, [], ◌∷◌, ◌++◌, Option, Some, None, codes, decimal, drop, filter, flat_map, length, map, nat_eq, nat_le, take}
+use Rattle.std.specs.Prelude.{ℕ, zero, suc, ◌≡◌, ◌-◌, ◌<◌, ◌≤◌, ◌^◌, ◌&&◌, ◌||◌, Bool, true, false, not, cond, List, [], ◌∷◌, ◌++◌}
+use Rattle.std.specs.Prelude.{Option, Some, None, codes, decimal, drop, filter, flat_map, length, map, nat_eq, nat_le, take}
 use Rattle.std.specs.Fmt.{digits}
 use Rattle.rx_term.specs.Name.{plain_name, starts_name, continues_name}
 use Rattle.rx_term.specs.Tree.{Tree, Trees, Appl, Int, Items, Hole, annotated}
@@ -71,10 +72,12 @@ left-map : (keep : List ℕ → Bool) (f : Firing → List ℕ) (fs : List Firin
 left-map keep f [] h = tt
 left-map keep f (x ∷ fs) h = (h x, left-map keep f fs h)
 
-left-shown : (keep : List ℕ → Bool) (p : Picks) (ls : List (List ℕ)) → AreLeft keep ls → AreLeft keep (more_line (left_out_count p ls)) → AreLeft keep (shown_lines p ls)
+left-shown : (keep : List ℕ → Bool) (p : Picks) (ls : List (List ℕ)) → AreLeft keep ls → AreLeft keep (more_line (left_out_count p ls))
+    → AreLeft keep (shown_lines p ls)
 left-shown keep p ls h k =
     left-append keep (front_lines p ls) (last_lines p ls) (left-take keep _ ls h)
-    (left-append keep (more_line (left_out_count p ls)) (drop (left_out_count p ls) (rest_lines p ls)) k (left-drop keep (left_out_count p ls) (rest_lines p ls) (left-drop keep _ ls h)))
+    (left-append keep (more_line (left_out_count p ls)) (drop (left_out_count p ls) (rest_lines p ls)) k
+    (left-drop keep (left_out_count p ls) (rest_lines p ls) (left-drop keep _ ls h)))
 
 -- the value's line is that of evaluation
 spent-same : (counted : Bool) (k : ℕ) → spent_text counted k ≡ steps_text counted k
@@ -87,7 +90,8 @@ is-application (Int z anns) h = absurd h
 is-application (Items ts anns) h = absurd h
 is-application (Hole t anns) h = absurd h
 
-value-other : (y : Spec) (counted : Bool) (n : ℕ) (t : Term) (notes : Trees) (o : Outcome Tree) → Eval y n [] t ≡ o → begins_with_digit (value_line counted n notes o) ≡ false
+value-other : (y : Spec) (counted : Bool) (n : ℕ) (t : Term) (notes : Trees) (o : Outcome Tree) → Eval y n [] t ≡ o
+    → begins_with_digit (value_line counted n notes o) ≡ false
 value-other y counted n t notes (Done v left) e =
     let a = is-application v (value_is_applied y n t v left e) in
     ap (λ (u : Tree). begins_with_digit (value_line counted n notes (Done u left))) a.2 ∙ (value_line_law counted n left a.0 a.1 notes).0
@@ -116,8 +120,10 @@ first-digit : (width : Option ℕ) (u : Tree) → begins_with_digit (whole_text 
 first-digit width u =
     let line : List ℕ = decimal 0 in
     let zero : begins_with_digit line ≡ true = ap begins_with_digit zero-text in
-    let place : begins_with_digit (place_text 0 0) ≡ true = digit-front ((line ++ codes ":") ++ decimal 0) (codes ": ") (digit-front (line ++ codes ":") (decimal 0) (digit-front line (codes ":") zero)) in
-    digit-front ((place_text 0 0 ++ cut width (canon u)) ++ spent_text false 0) (codes "\n") (digit-front (place_text 0 0 ++ cut width (canon u)) (spent_text false 0) (digit-front (place_text 0 0) (cut width (canon u)) place))
+    let place : begins_with_digit (place_text 0 0) ≡ true = digit-front ((line ++ codes ":") ++ decimal 0) (codes ": ")
+    (digit-front (line ++ codes ":") (decimal 0) (digit-front line (codes ":") zero)) in
+    digit-front ((place_text 0 0 ++ cut width (canon u)) ++ spent_text false 0) (codes "\n")
+    (digit-front (place_text 0 0 ++ cut width (canon u)) (spent_text false 0) (digit-front (place_text 0 0) (cut width (canon u)) place))
 
 -- ---- lines of traces
 
@@ -133,7 +139,8 @@ step-digit source shown n short f = by shown.whole
     by false = (firing_line_law source shown.counted shown.width n f short).0
 
 -- so does that of the term itself
-first-digits : (keep : List ℕ → Bool) (shown : Shown) (u : Tree) → ((l : List ℕ) → begins_with_digit l ≡ true → keep l ≡ false) → AreLeft keep (first_lines shown u)
+first-digits : (keep : List ℕ → Bool) (shown : Shown) (u : Tree) → ((l : List ℕ) → begins_with_digit l ≡ true → keep l ≡ false)
+    → AreLeft keep (first_lines shown u)
 first-digits keep shown u h = by shown.whole
   where
     by : (whole : Bool) → AreLeft keep (elim whole [ true ↦ whole_text 0 0 false shown.width 0 u ∷ [] | false ↦ [] ])
@@ -152,8 +159,11 @@ module _ (source : List ℕ) (y : Spec) (shown : Shown) (n : ℕ) (good : fault 
       let ls = picked_lines source shown n r.firings in
       let last : List ℕ = value_line shown.counted n task.notes r.outcome in
       let outcome : r.outcome ≡ Eval y n [] task.term = (trace_law y good n task.term).0 in
-      let firings = left-map keep (step_line source shown n) (filter (is_picked source shown.picked) r.firings) (λ f. digits_go (step_line source shown n f) (step-digit source shown n short f)) in
-      let gone : AreLeft keep (first ++ shown_lines shown.picked ls) = left-append keep first (shown_lines shown.picked ls) (first-digits keep shown (tree_of task.term) digits_go) (left-shown keep shown.picked ls firings (mores_go ls)) in
+      let firings = left-map keep (step_line source shown n) (filter (is_picked source shown.picked) r.firings) (λ f.
+      digits_go (step_line source shown n f) (step-digit source shown n short f)) in
+      let gone : AreLeft keep (first ++ shown_lines shown.picked ls) =
+      left-append keep first (shown_lines shown.picked ls) (first-digits keep shown (tree_of task.term) digits_go)
+      (left-shown keep shown.picked ls firings (mores_go ls)) in
       filter-append keep (first ++ shown_lines shown.picked ls) (last ∷ [])
       ∙ ap₂ (λ (a b : List (List ℕ)). a ++ b) (left-none keep (first ++ shown_lines shown.picked ls) gone) (keeps keep last [] (values_stay task))
       ∙ ap (λ l. l ∷ []) (value-same shown.counted n task.notes r.outcome ∙ ap (shown_line shown.counted n task.notes) outcome)
@@ -181,7 +191,11 @@ or-false false false e f = refl
 
 mores-dotted : (k : ℕ) → AreLeft other (more_line k)
 mores-dotted zero = tt
-mores-dotted (suc k) = (dot-front (codes "... " ++ by_threes (decimal (suc k))) (codes " more\n") (dot-front (codes "... ") (by_threes (decimal (suc k))) refl), tt)
+mores-dotted (suc k) = (
+  dot-front (codes "... " ++ by_threes (decimal (suc k))) (codes " more\n")
+      (dot-front (codes "... ") (by_threes (decimal (suc k))) refl),
+  tt,
+)
   where
     dot-front : (xs ys : List ℕ) → other xs ≡ false → other (xs ++ ys) ≡ false
     dot-front [] ys h = absurd (cc h)
@@ -216,7 +230,8 @@ name-undotted name false e = refl
 name-undotted [] true e = absurd (cc e)
 name-undotted (b ∷ bs) true e = starts-undotted b (and-first (starts_name b) (list_all continues_name bs) e)
 
-value-undotted : (y : Spec) (counted : Bool) (n : ℕ) (t : Term) (notes : Trees) (o : Outcome Tree) → Eval y n [] t ≡ o → begins_with_dot (value_line counted n notes o) ≡ false
+value-undotted : (y : Spec) (counted : Bool) (n : ℕ) (t : Term) (notes : Trees) (o : Outcome Tree) → Eval y n [] t ≡ o
+    → begins_with_dot (value_line counted n notes o) ≡ false
 value-undotted y counted n t notes (Done v left) e =
     let a = is-application v (value_is_applied y n t v left e) in
     let name = a.0 in
@@ -227,7 +242,9 @@ value-undotted y counted n t notes (Done v left) e =
     let spent : List ℕ = spent_text counted (n - left) in
     ap (λ (u : Tree). begins_with_dot (value_line counted n notes (Done u left))) a.2
     ∙ undotted-false ((((own ++ args) ++ anns) ++ spent) ++ codes "\n")
-    (undotted-front (((own ++ args) ++ anns) ++ spent) (codes "\n") (undotted-front ((own ++ args) ++ anns) spent (undotted-front (own ++ args) anns (undotted-front own args (name-undotted name (plain_name name) refl)))))
+    (undotted-front (((own ++ args) ++ anns) ++ spent) (codes "\n")
+    (undotted-front ((own ++ args) ++ anns) spent (undotted-front (own ++ args) anns
+    (undotted-front own args (name-undotted name (plain_name name) refl)))))
 value-undotted y counted n t notes Over e = refl
 
 pub values_law_for : ValuesLaw
@@ -238,7 +255,8 @@ values_law_for source y given shown n good short =
     (λ task.
     let r = Trace y n task.term in
     let e = sym (trace_law y good n task.term).0 in
-    or-false (begins_with_digit (value_line shown.counted n task.notes r.outcome)) (begins_with_dot (value_line shown.counted n task.notes r.outcome)) (value-other y shown.counted n task.term task.notes r.outcome e) (value-undotted y shown.counted n task.term task.notes r.outcome e))
+    or-false (begins_with_digit (value_line shown.counted n task.notes r.outcome)) (begins_with_dot (value_line shown.counted n task.notes r.outcome))
+    (value-other y shown.counted n task.term task.notes r.outcome e) (value-undotted y shown.counted n task.term task.notes r.outcome e))
     (tasks y given)
 
 -- ---- no digit, where neither the first lines nor the last are asked for

@@ -52,7 +52,8 @@ module _ (source : List ℕ) (options : TraceOptions) (before : List (List ℕ))
       }
 
   -- its line stands in front
-  pub takes-front : (k k' : Kept) (line : Vec ℕ Global) → one ≡ line_is ∷ [] → line.items ≡ line_is → place_of k ≡ Front → HasKept p before k → HasKept p (before ++ line.items ∷ []) k' → TakesUp source options before f k' (Some line)
+  pub takes-front : (k k' : Kept) (line : Vec ℕ Global) → one ≡ line_is ∷ [] → line.items ≡ line_is → place_of k ≡ Front → HasKept p before k
+      → HasKept p (before ++ line.items ∷ []) k' → TakesUp source options before f k' (Some line)
   takes-front k k' line is text e h h' =
       let here : one ≡ line.items ∷ [] = is ∙ ap (λ l. l ∷ []) (sym text) in
       record {
@@ -61,7 +62,8 @@ module _ (source : List ℕ) (options : TraceOptions) (before : List (List ℕ))
       }
 
   -- it is kept
-  pub takes-behind : (k k' : Kept) (line : Vec ℕ Global) → one ≡ line_is ∷ [] → line.items ≡ line_is → place_of k ≡ Behind → HasKept p before k → HasKept p (before ++ line.items ∷ []) k' → TakesUp source options before f k' None
+  pub takes-behind : (k k' : Kept) (line : Vec ℕ Global) → one ≡ line_is ∷ [] → line.items ≡ line_is → place_of k ≡ Behind → HasKept p before k
+      → HasKept p (before ++ line.items ∷ []) k' → TakesUp source options before f k' None
   takes-behind k k' line is text e h h' =
       let here : one ≡ line.items ∷ [] = is ∙ ap (λ l. l ∷ []) (sym text) in
       record {
@@ -70,7 +72,8 @@ module _ (source : List ℕ) (options : TraceOptions) (before : List (List ℕ))
       }
 
   -- it is only counted
-  pub takes-counted : (k k' : Kept) → one ≡ line_is ∷ [] → place_of k ≡ Nowhere → k'.front ≡ k.front → k'.most ≡ k.most → k'.last ≡ k.last → k'.left_out ≡ k.left_out + 1 → HasKept p before k → TakesUp source options before f k' None
+  pub takes-counted : (k k' : Kept) → one ≡ line_is ∷ [] → place_of k ≡ Nowhere → k'.front ≡ k.front → k'.most ≡ k.most → k'.last ≡ k.last
+      → k'.left_out ≡ k.left_out + 1 → HasKept p before k → TakesUp source options before f k' None
   takes-counted k k' is e front most last out h = record {
     kept_on = subst (λ ls. HasKept p (before ++ ls) k') (sym is) (kept-counted p before line_is k k' e front most last out h);
     fresh = ap (fresh_lines p before) is ∙ fresh-nowhere p before line_is k h e;

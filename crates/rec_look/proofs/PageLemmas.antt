@@ -13,7 +13,8 @@ use Rattle.rec_engine.specs.declared.cells.EngineFault.{EngineFault}
 use Rattle.rec_engine.specs.declared.cells.EngineFault.TheVariants as engine
 use Rattle.rec_look.specs.Inner.Pages.{Breaks, Prints, stopped_after}
 
-reports-later : (f : RunFault) (lines more : ℕ) (before written : List ℕ) → more ≡ lines + newlines before → ReportsAfter more f written → ReportsAfter lines f (before ++ written)
+reports-later : (f : RunFault) (lines more : ℕ) (before written : List ℕ) → more ≡ lines + newlines before → ReportsAfter more f written
+    → ReportsAfter lines f (before ++ written)
 reports-later (fault.Memory k) lines more before written e h = let both = newlines-append before written in omega (arith, e, h, both)
 reports-later (fault.Room k) lines more before written e h = let both = newlines-append before written in omega (arith, e, h, both)
 reports-later fault.Read lines more before written e h = h
@@ -35,12 +36,17 @@ module _ {W : Type 0} (contents : W → Option (List ℕ)) where
   prints-none out lines = record { written = appends_same (contents_of contents out); counted = omega arith }
 
   -- a text, and another one behind it
-  pub prints-both : (a b c : Output W) (k l m : ℕ) (xs ys : List ℕ) → Prints contents a b k l xs → Prints contents b c l m ys → Prints contents a c k m (xs ++ ys)
+  pub prints-both : (a b c : Output W) (k l m : ℕ) (xs ys : List ℕ) → Prints contents a b k l xs → Prints contents b c l m ys
+      → Prints contents a c k m (xs ++ ys)
   prints-both a b c k l m xs ys h e =
       let both = newlines-append xs ys in
       let first = h.counted in
       let second = e.counted in
-      record { written = appends_both (contents_of contents a) (contents_of contents b) (contents_of contents c) xs ys h.written e.written; counted = omega (arith, both, first, second) }
+      record {
+        written = appends_both (contents_of contents a) (contents_of contents b) (contents_of contents c) xs ys h.written e.written;
+        counted =
+            omega (arith, both, first, second);
+      }
 
   -- a fault within a text is one within that and more
   pub breaks-before : (a b : Output W) (k : ℕ) (xs ys : List ℕ) (f : RunFault) → Breaks contents a b k xs f → Breaks contents a b k (xs ++ ys) f
@@ -52,7 +58,8 @@ module _ {W : Type 0} (contents : W → Option (List ℕ)) where
   }
 
   -- and one behind a text is one within both
-  pub breaks-behind : (a b c : Output W) (k l : ℕ) (xs ys : List ℕ) (f : RunFault) → Prints contents a b k l xs → Breaks contents b c l ys f → Breaks contents a c k (xs ++ ys) f
+  pub breaks-behind : (a b c : Output W) (k l : ℕ) (xs ys : List ℕ) (f : RunFault) → Prints contents a b k l xs → Breaks contents b c l ys f
+      → Breaks contents a c k (xs ++ ys) f
   breaks-behind a b c k l xs ys f h s = record {
     written = xs ++ s.written;
     appended = appends_both (contents_of contents a) (contents_of contents b) (contents_of contents c) xs s.written h.written s.appended;
@@ -62,14 +69,22 @@ module _ {W : Type 0} (contents : W → Option (List ℕ)) where
 
   -- nothing was written where an engine gave up
   pub breaks-engine : (out : Output W) (lines : ℕ) (text : List ℕ) (f : EngineFault) → Breaks contents out out lines text (stopped_after f lines)
-  breaks-engine out lines text f = record { written = []; appended = appends_same (contents_of contents out); front = (text, refl); reported = reports-none f lines }
+  breaks-engine out lines text f = record {
+    written = [];
+    appended = appends_same (contents_of contents out);
+    front = (text, refl);
+    reported =
+        reports-none f lines;
+  }
 
-  pub breaks-stopped : (out : Output W) (lines : ℕ) (text : List ℕ) (f : EngineFault) (fault : RunFault) → fault ≡ stopped_after f lines → Breaks contents out out lines text fault
+  pub breaks-stopped : (out : Output W) (lines : ℕ) (text : List ℕ) (f : EngineFault) (fault : RunFault) → fault ≡ stopped_after f lines
+      → Breaks contents out out lines text fault
   breaks-stopped out lines text f fault e = subst (λ z. Breaks contents out out lines text z) (sym e) (breaks-engine out lines text f)
 
   pub breaks-memory : (out : Output W) (lines : ℕ) (text : List ℕ) → Breaks contents out out lines text (fault.Memory lines)
   breaks-memory out lines text = breaks-engine out lines text engine.Memory
 
   -- the same where nothing was written before
-  pub breaks-first : (a b : Output W) (text : List ℕ) (f : RunFault) → Breaks contents a b 0 text f → Stops f text (contents_of contents a) (contents_of contents b)
+  pub breaks-first : (a b : Output W) (text : List ℕ) (f : RunFault) → Breaks contents a b 0 text f
+      → Stops f text (contents_of contents a) (contents_of contents b)
   breaks-first a b text f s = record { written = s.written; appended = s.appended; front = s.front; reported = reports-first f s.written s.reported }

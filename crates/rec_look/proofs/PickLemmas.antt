@@ -47,7 +47,8 @@ shown-more p before ls =
     (ap (λ t. t ++ end) more.1 ∙ append_assoc (front_lines p before) more.0 end)
 
 -- what is to be written yet, by what some lines add in front
-pub behind-more : (p : Picks) (before new ls : List (List ℕ)) → lines_behind p before (new ++ ls) ≡ fresh_lines p before new ++ lines_behind p (before ++ new) ls
+pub behind-more : (p : Picks) (before new ls : List (List ℕ))
+    → lines_behind p before (new ++ ls) ≡ fresh_lines p before new ++ lines_behind p (before ++ new) ls
 behind-more p before new ls =
     append_cancel_left (front_lines p before) (lines_behind p before (new ++ ls)) (fresh_lines p before new ++ lines_behind p (before ++ new) ls)
     (sym (shown-more p before (new ++ ls))

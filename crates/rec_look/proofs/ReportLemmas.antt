@@ -32,33 +32,41 @@ shown-of source y task o = elim o [
   | evaluation.Over ↦ []
 ]
 
-told-outcome : (source : List ℕ) (y : Spec) (w : Store) (n : ℕ) (u : Tree) (o : Outcome) → IsOutcome y w n u o → outcome_report source y w o ≡ value_report source y n (given_task u)
+told-outcome : (source : List ℕ) (y : Spec) (w : Store) (n : ℕ) (u : Tree) (o : Outcome) → IsOutcome y w n u o
+    → outcome_report source y w o ≡ value_report source y n (given_task u)
 told-outcome source y w n u (Value r steps) h =
     ap (stuck_text source y) (ap (λ z. unwrap_or z (list_of none)) h.there) ∙ ap (shown-of source y (given_task u)) (sym h.evaluated)
 told-outcome source y w n u Limit h = ap (shown-of source y (given_task u)) (sym h)
 
 -- of the outcome of a given term
-pub told-given : (source : List ℕ) (y z : Spec) (old w : Store) (n : ℕ) (t : Reference) (o : Outcome) → IsGiven y old t → z ≡ y → ((u : Tree) → tree_at old t ≡ Some u → IsOutcome z w n u o) → outcome_report source z w o ≡ value_report source y n (given_task (item_at old t))
+pub told-given : (source : List ℕ) (y z : Spec) (old w : Store) (n : ℕ) (t : Reference) (o : Outcome) → IsGiven y old t → z ≡ y
+    → ((u : Tree) → tree_at old t ≡ Some u → IsOutcome z w n u o) → outcome_report source z w o ≡ value_report source y n (given_task (item_at old t))
 told-given source y z old w n t o given same answered =
     told-outcome source z w n given.tree o (answered given.tree given.held)
     ∙ ap (λ x. value_report source x n (given_task given.tree)) same ∙ ap (λ u. value_report source y n (given_task u)) (sym (given_item y old t given))
 
 -- of the specification's own term
-own-told : (source : List ℕ) (y : Spec) (n : ℕ) (t : Term) → value_report source y n (given_task (tree_of t)) ≡ value_report source y n (record { term = t; notes = none })
+own-told : (source : List ℕ) (y : Spec) (n : ℕ) (t : Term) → value_report source y n (given_task (tree_of t)) ≡ value_report source y n
+    (record { term = t; notes = none })
 own-told source y n t = ap₂ (λ notes o. shown-of source y (record { term = t; notes = notes }) o) (bare_tree t) (eval-tree y n t)
 
-pub told-own : (source : List ℕ) (y z : Spec) (w : Store) (n i : ℕ) (t : Reference) → z ≡ y → i < length y.terms → tree_at w t ≡ eval_tree z i → value_report source z n (given_task (item_at w t)) ≡ value_report source y n (own_task y i)
+pub told-own : (source : List ℕ) (y z : Spec) (w : Store) (n i : ℕ) (t : Reference) → z ≡ y → i < length y.terms → tree_at w t ≡ eval_tree z i
+    → value_report source z n (given_task (item_at w t)) ≡ value_report source y n (own_task y i)
 told-own source y z w n i t same low here =
-    let own : tree_at w t ≡ Some (tree_of (term_at y i)) = here ∙ ap (λ x. eval_tree x i) same ∙ ap (option_map tree_of) (slice_get-get_or y.terms i (Apply nameless syntax.none) low) in
-    ap (λ x. value_report source x n (given_task (item_at w t))) same ∙ ap (λ o. value_report source y n (given_task (unwrap_or o (list_of none)))) own ∙ own-told source y n (term_at y i)
+    let own : tree_at w t ≡ Some (tree_of (term_at y i)) = here ∙ ap (λ x. eval_tree x i) same
+    ∙ ap (option_map tree_of) (slice_get-get_or y.terms i (Apply nameless syntax.none) low) in
+    ap (λ x. value_report source x n (given_task (item_at w t))) same
+    ∙ ap (λ o. value_report source y n (given_task (unwrap_or o (list_of none)))) own ∙ own-told source y n (term_at y i)
 
 -- ---- items, one after the other
 
 module _ {X : Type 0} (f : X → List ℕ) (xs : List X) where
-  pub told-more : (i : ℕ) (d : X) (old mid new : List ℕ) → i < length xs → mid ≡ old ++ flat_map f (take i xs) → new ≡ mid ++ f (get_or xs i d) → new ≡ old ++ flat_map f (take (i + 1) xs)
+  pub told-more : (i : ℕ) (d : X) (old mid new : List ℕ) → i < length xs → mid ≡ old ++ flat_map f (take i xs) → new ≡ mid ++ f (get_or xs i d)
+      → new ≡ old ++ flat_map f (take (i + 1) xs)
   told-more i d old mid new low h k =
       k ∙ ap (λ z. z ++ f (get_or xs i d)) h ∙ append_assoc old (flat_map f (take i xs)) (f (get_or xs i d))
-      ∙ ap (λ z. old ++ z) (sym (ap (flat_map f) (take_more xs i d low) ∙ flat_map-append f (take i xs) (get_or xs i d ∷ []) ∙ ap (λ z. flat_map f (take i xs) ++ z) (append-nil (f (get_or xs i d)))))
+      ∙ ap (λ z. old ++ z) (sym (ap (flat_map f) (take_more xs i d low) ∙ flat_map-append f (take i xs) (get_or xs i d ∷ [])
+      ∙ ap (λ z. flat_map f (take i xs) ++ z) (append-nil (f (get_or xs i d)))))
 
   pub told-all : (i : ℕ) (old new : List ℕ) → length xs ≤ i → new ≡ old ++ flat_map f (take i xs) → new ≡ old ++ flat_map f xs
   told-all i old new all h = h ∙ ap (λ z. old ++ flat_map f z) (take_all i xs all)
@@ -72,7 +80,8 @@ module _ (source : List ℕ) (y : Spec) (n : ℕ) where
   tasks-told : (us : List Tree) → stuck_report source y us n ≡ flat_map own-of y.terms ++ given_report source y n us
   tasks-told us =
       flat_map-append (value_report source y n) (map (λ (t : Term). record { term = t; notes = none }) y.terms) (map given_task us)
-      ∙ ap₂ (λ a b. a ++ b) (flat_map-map (value_report source y n) (λ (t : Term). record { term = t; notes = none }) y.terms) (flat_map-map (value_report source y n) given_task us)
+      ∙ ap₂ (λ a b. a ++ b) (flat_map-map (value_report source y n) (λ (t : Term). record { term = t; notes = none }) y.terms)
+      (flat_map-map (value_report source y n) given_task us)
 
   pub report-own : stuck_report source y [] n ≡ flat_map (λ (t : Term). value_report source y n (record { term = t; notes = none })) y.terms
   report-own = tasks-told [] ∙ append-nil (flat_map own-of y.terms)

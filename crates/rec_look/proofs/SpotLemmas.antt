@@ -3,7 +3,8 @@ use Rattle.std.proofs.Common.{refl, sym, ap, ◌∙◌, arith, length-append}
 use Rattle.std.proofs.lemmas.List.{length-map}
 use Rattle.std.proofs.Math.Seq.{take-add}
 use Rattle.std.specs.List.{slice_range}
-use Rattle.std.specs.Prelude.{ℕ, zero, suc, ◌≡◌, ◌-◌, ◌+◌, ◌≤◌, Bool, true, false, List, [], ◌∷◌, ◌++◌, Option, Some, option_map, length, map, take, nat_eq, slice_get}
+use Rattle.std.specs.Prelude.{ℕ, zero, suc, ◌≡◌, ◌-◌, ◌+◌, ◌≤◌, Bool, true, false, List, [], ◌∷◌}
+use Rattle.std.specs.Prelude.{◌++◌, Option, Some, option_map, length, map, take, nat_eq, slice_get}
 use Rattle.rec_syntax.specs.Tokens as syntax
 use Rattle.rec_syntax.specs.Syntax.{Apply, head, arguments}
 use Rattle.rec_syntax.specs.Syntax as tree
@@ -22,7 +23,9 @@ ends_in-append : (xs ys : List ℕ) → ends_in (xs ++ ys) ≡ ends_in xs + ends
 ends_in-append [] ys = omega arith
 ends_in-append (x ∷ xs) ys = by (nat_eq x 10) (ends_in-append xs ys)
   where
-    by : (b : Bool) → ends_in (xs ++ ys) ≡ ends_in xs + ends_in ys → ◌≡◌ {A = ℕ} (elim b [ true ↦ suc (ends_in (xs ++ ys)) | false ↦ ends_in (xs ++ ys) ]) ((elim b [ true ↦ suc (ends_in xs) | false ↦ ends_in xs ]) + ends_in ys)
+    by : (b : Bool) → ends_in (xs ++ ys) ≡ ends_in xs + ends_in ys
+        → ◌≡◌ {A = ℕ} (elim b [ true ↦ suc (ends_in (xs ++ ys)) | false ↦ ends_in (xs ++ ys) ])
+        ((elim b [ true ↦ suc (ends_in xs) | false ↦ ends_in xs ]) + ends_in ys)
     by true h = omega (arith, h)
     by false h = h
 
@@ -30,7 +33,10 @@ behind_end-append : (k : ℕ) (xs ys : List ℕ) → behind_end k (xs ++ ys) ≡
 behind_end-append k [] ys = refl
 behind_end-append k (x ∷ xs) ys = by (nat_eq x 10) (behind_end-append 0 xs ys) (behind_end-append (suc k) xs ys)
   where
-    by : (b : Bool) → behind_end 0 (xs ++ ys) ≡ behind_end (behind_end 0 xs) ys → behind_end (suc k) (xs ++ ys) ≡ behind_end (behind_end (suc k) xs) ys → ◌≡◌ {A = ℕ} (elim b [ true ↦ behind_end 0 (xs ++ ys) | false ↦ behind_end (suc k) (xs ++ ys) ]) (behind_end (elim b [ true ↦ behind_end 0 xs | false ↦ behind_end (suc k) xs ]) ys)
+    by : (b : Bool) → behind_end 0 (xs ++ ys) ≡ behind_end (behind_end 0 xs) ys
+        → behind_end (suc k) (xs ++ ys) ≡ behind_end (behind_end (suc k) xs) ys
+        → ◌≡◌ {A = ℕ} (elim b [ true ↦ behind_end 0 (xs ++ ys) | false ↦ behind_end (suc k) (xs ++ ys) ])
+        (behind_end (elim b [ true ↦ behind_end 0 xs | false ↦ behind_end (suc k) xs ]) ys)
     by true h e = h
     by false h e = e
 
@@ -46,7 +52,8 @@ behind_end-few : (k : ℕ) (xs : List ℕ) → behind_end k xs ≤ k + length xs
 behind_end-few k [] = omega arith
 behind_end-few k (x ∷ xs) = by (nat_eq x 10) (behind_end-few 0 xs) (behind_end-few (suc k) xs)
   where
-    by : (b : Bool) → behind_end 0 xs ≤ 0 + length xs → behind_end (suc k) xs ≤ suc k + length xs → (elim b [ true ↦ behind_end 0 xs | false ↦ behind_end (suc k) xs ]) ≤ k + suc (length xs)
+    by : (b : Bool) → behind_end 0 xs ≤ 0 + length xs → behind_end (suc k) xs ≤ suc k + length xs
+        → (elim b [ true ↦ behind_end 0 xs | false ↦ behind_end (suc k) xs ]) ≤ k + suc (length xs)
     by true h e = omega (arith, h)
     by false h e = omega (arith, e)
 
@@ -74,8 +81,10 @@ taken-on : (source : List ℕ) (from at : ℕ) → from ≤ at → take at sourc
 taken-on source from at le = let whole : at ≡ from + (at - from) = omega arith in ap (λ n. take n source) whole ∙ take-add from (at - from) source
 
 -- the spot of a later byte
-pub spot-behind : (source piece : List ℕ) (from at line column : ℕ) (known : Spot) → from ≤ at → piece ≡ slice_range source from at → known ≡ spot_at source from
-    → line ≡ known.line + ends_in piece → behind_end (column - 1) [] ≡ behind_end (known.column - 1) piece → 1 ≤ column → ◌≡◌ {A = Spot} (record { line = line; column = column }) (spot_at source at)
+pub spot-behind : (source piece : List ℕ) (from at line column : ℕ) (known : Spot) → from ≤ at → piece ≡ slice_range source from at
+    → known ≡ spot_at source from
+    → line ≡ known.line + ends_in piece → behind_end (column - 1) [] ≡ behind_end (known.column - 1) piece → 1 ≤ column
+    → ◌≡◌ {A = Spot} (record { line = line; column = column }) (spot_at source at)
 spot-behind source piece from at line column known le is e first behind some = λ i. record { line = lines i; column = columns i }
   where
     all : take at source ≡ take from source ++ piece
@@ -114,12 +123,14 @@ flat-last (Apply w ts) =
 some_word : (a b : nodes.Node) → ◌≡◌ {A = Option nodes.Node} (Some a) (Some b) → a.word ≡ b.word
 some_word a b e = cc e
 
-pub beginning : (source : List ℕ) (t : Term) → IsTerm source t → (ns : List Node) → ns ≡ t.nodes.items → (n : Node) → slice_get ns (length ns - 1) ≡ Some n → n.word.from ≡ (head (term_of source t)).at
+pub beginning : (source : List ℕ) (t : Term) → IsTerm source t → (ns : List Node) → ns ≡ t.nodes.items → (n : Node)
+    → slice_get ns (length ns - 1) ≡ Some n → n.word.from ≡ (head (term_of source t)).at
 beginning source t is ns all n last =
     let u : tree.Term = term_of source t in
     let spelled : map (node_of source) ns ≡ flat u = ap (map (node_of source)) all ∙ is.flat in
     let long : length (map (node_of source) ns) ≡ length ns = length-map ns (node_of source) in
-    let found : slice_get (map (node_of source) ns) (length ns - 1) ≡ Some (node_of source n) = slice_get-map (node_of source) ns (length ns - 1) ∙ ap (option_map (node_of source)) last in
+    let found : slice_get (map (node_of source) ns) (length ns - 1) ≡ Some (node_of source n) =
+    slice_get-map (node_of source) ns (length ns - 1) ∙ ap (option_map (node_of source)) last in
     let same : ◌≡◌ {A = Option nodes.Node} (Some (node_of source n)) (Some (record { word = head u; count = term_count (arguments u) })) =
     sym found ∙ ap (λ (k : ℕ). slice_get (map (node_of source) ns) (k - 1)) (sym long) ∙ ap (λ ms. slice_get ms (length ms - 1)) spelled ∙ flat-last u in
     ap (λ (w : syntax.Word). w.at) (some_word (node_of source n) (record { word = head u; count = term_count (arguments u) }) same)

@@ -30,12 +30,16 @@ use Rattle.rec_look.proofs.PickLemmas.{behind-more, behind-none, front-more, fro
 use Rattle.rec_look.proofs.TellingLemmas.{joined-append, within-end, within-next}
 
 -- these fired, and were told; the rest is left
-pub record SoFar {W : Type 0} (contents : W → Option (List ℕ)) (y : Spec) (first rest : Traced Tree) (telling : Telling) (kept : Kept) (out now : Output W) (lines more : ℕ) : Type 0 where
+pub record SoFar {W : Type 0} (contents : W → Option (List ℕ)) (y : Spec) (first rest : Traced Tree) (telling : Telling) (kept : Kept)
+    (out now : Output W) (lines more : ℕ) : Type 0 where
   pub fired : List Firing
   pub all : first.firings ≡ fired ++ rest.firings
   pub outcome : rest.outcome ≡ first.outcome
-  pub kept_on : (source : List ℕ) → IsTelling source y telling → HasKept (picks_by telling.options.picked) (picked_lines source (shown_by telling.options) telling.options.run.steps fired) kept
-  pub printed : (source : List ℕ) → IsTelling source y telling → Prints contents out now lines more (joined (front_lines (picks_by telling.options.picked) (picked_lines source (shown_by telling.options) telling.options.run.steps fired)))
+  pub kept_on : (source : List ℕ) → IsTelling source y telling
+      → HasKept (picks_by telling.options.picked) (picked_lines source (shown_by telling.options) telling.options.run.steps fired) kept
+  pub printed : (source : List ℕ) → IsTelling source y telling
+      → Prints contents out now lines more
+      (joined (front_lines (picks_by telling.options.picked) (picked_lines source (shown_by telling.options) telling.options.run.steps fired)))
 
 module _ {W : Type 0} (contents : W → Option (List ℕ)) (y : Spec) (telling : Telling) (first : Traced Tree) where
   abbrev shown : Shown
@@ -59,35 +63,45 @@ module _ {W : Type 0} (contents : W → Option (List ℕ)) (y : Spec) (telling :
     printed = λ source is. subst (λ ls. Prints contents out out lines lines (joined ls)) (sym (front-none p)) (prints-none contents out lines);
   }
 
-  pub so-far-more : (r s : Traced Tree) (f : Firing) (kept kept' : Kept) (out now new : Output W) (lines more most : ℕ) → SoFar contents y first r telling kept out now lines more → r ≡ firing_then f s
-      → ((source : List ℕ) (before : List (List ℕ)) → IsTelling source y telling → HasKept p before kept → Tells contents source telling.options before f kept' now new more most) → SoFar contents y first s telling kept' out new lines most
+  pub so-far-more : (r s : Traced Tree) (f : Firing) (kept kept' : Kept) (out now new : Output W) (lines more most : ℕ)
+      → SoFar contents y first r telling kept out now lines more → r ≡ firing_then f s
+      → ((source : List ℕ) (before : List (List ℕ)) → IsTelling source y telling → HasKept p before kept
+      → Tells contents source telling.options before f kept' now new more most) → SoFar contents y first s telling kept' out new lines most
   so-far-more r s f kept kept' out now new lines more most h e k = record {
     fired = h.fired ++ f ∷ [];
     all = h.all ∙ ap (λ (z : Traced Tree). h.fired ++ z.firings) e ∙ sym (append_assoc h.fired (f ∷ []) s.firings);
     outcome = ap (λ (z : Traced Tree). z.outcome) (sym e) ∙ h.outcome;
-    kept_on = λ source is. subst (λ ls. HasKept p ls kept') (sym (picked-append source shown n h.fired (f ∷ []))) (k source (picked source h.fired) is (h.kept_on source is)).kept_on;
+    kept_on = λ source is. subst (λ ls. HasKept p ls kept') (sym (picked-append source shown n h.fired (f ∷ [])))
+        (k source (picked source h.fired) is (h.kept_on source is)).kept_on;
     printed = λ source is.
         let before = picked source h.fired in
         let one = picked source (f ∷ []) in
         subst (λ text. Prints contents out new lines most text)
-        (sym (joined-append (front_lines p before) (fresh_lines p before one)) ∙ ap joined (sym (front-more p before one) ∙ ap (front_lines p) (sym (picked-append source shown n h.fired (f ∷ [])))))
-        (prints-both contents out now new lines more most (joined (front_lines p before)) (joined (fresh_lines p before one)) (h.printed source is) (k source before is (h.kept_on source is)).printed);
+        (sym (joined-append (front_lines p before) (fresh_lines p before one))
+        ∙ ap joined (sym (front-more p before one) ∙ ap (front_lines p) (sym (picked-append source shown n h.fired (f ∷ [])))))
+        (prints-both contents out now new lines more most (joined (front_lines p before)) (joined (fresh_lines p before one)) (h.printed source is)
+        (k source before is (h.kept_on source is)).printed);
   }
 
   -- nothing is left
   all-fired : (r : Traced Tree) (fired : List Firing) → first.firings ≡ fired ++ r.firings → r.firings ≡ [] → fired ≡ first.firings
   all-fired r fired all e = sym (all ∙ ap (λ fs. fired ++ fs) e ∙ append-nil fired)
 
-  pub so-far-kept : (r : Traced Tree) (kept : Kept) (out now : Output W) (lines more : ℕ) → SoFar contents y first r telling kept out now lines more → r.firings ≡ []
+  pub so-far-kept : (r : Traced Tree) (kept : Kept) (out now : Output W) (lines more : ℕ) → SoFar contents y first r telling kept out now lines more
+      → r.firings ≡ []
       → (source : List ℕ) → IsTelling source y telling → HasKept p (picked source first.firings) kept
   so-far-kept r kept out now lines more h e source is = subst (λ fs. HasKept p (picked source fs) kept) (all-fired r h.fired h.all e) (h.kept_on source is)
 
-  pub so-far-all : (r : Traced Tree) (kept : Kept) (out now : Output W) (lines more : ℕ) → SoFar contents y first r telling kept out now lines more → r.firings ≡ []
+  pub so-far-all : (r : Traced Tree) (kept : Kept) (out now : Output W) (lines more : ℕ) → SoFar contents y first r telling kept out now lines more
+      → r.firings ≡ []
       → (source : List ℕ) → IsTelling source y telling → Prints contents out now lines more (joined (front_lines p (picked source first.firings)))
-  so-far-all r kept out now lines more h e source is = subst (λ fs. Prints contents out now lines more (joined (front_lines p (picked source fs)))) (all-fired r h.fired h.all e) (h.printed source is)
+  so-far-all r kept out now lines more h e source is = subst (λ fs. Prints contents out now lines more (joined (front_lines p (picked source fs))))
+      (all-fired r h.fired h.all e) (h.printed source is)
 
-  pub so-far-breaks : (r : Traced Tree) (kept : Kept) (out now new : Output W) (lines more : ℕ) (f : RunFault) → SoFar contents y first r telling kept out now lines more
-      → ((source notes : List ℕ) (before : List (List ℕ)) → IsTelling source y telling → HasKept p before kept → Breaks contents now new more (told_behind source shown n notes before r) f)
+  pub so-far-breaks : (r : Traced Tree) (kept : Kept) (out now new : Output W) (lines more : ℕ) (f : RunFault)
+      → SoFar contents y first r telling kept out now lines more
+      → ((source notes : List ℕ) (before : List (List ℕ)) → IsTelling source y telling → HasKept p before kept
+      → Breaks contents now new more (told_behind source shown n notes before r) f)
       → (source notes : List ℕ) → IsTelling source y telling → Breaks contents out new lines (told source shown n notes first) f
   so-far-breaks r kept out now new lines more f h k source notes is =
       let before = picked source h.fired in
@@ -100,15 +114,19 @@ module _ {W : Type 0} (contents : W → Option (List ℕ)) (y : Spec) (telling :
       ∙ ap (λ ls. joined ls ++ end) (ap (shown_lines p) (picked-append source shown n h.fired r.firings) ∙ shown-more p before left)
       ∙ ap (λ t. t ++ end) (joined-append (front_lines p before) behind)
       ∙ append_assoc (joined (front_lines p before)) (joined behind) end in
-      subst (λ z. Breaks contents out new lines z f) (sym text) (breaks-behind contents out now new lines more (joined (front_lines p before)) (told_behind source shown n notes before r) f (h.printed source is) (k source notes before is (h.kept_on source is)))
+      subst (λ z. Breaks contents out new lines z f) (sym text) (breaks-behind contents out now new lines more (joined (front_lines p before))
+      (told_behind source shown n notes before r) f (h.printed source is) (k source notes before is (h.kept_on source is)))
 
 -- at first all is to be written yet
-pub told-first : (source : List ℕ) (shown : Shown) (n : ℕ) (notes : List ℕ) (t : Traced Tree) → told_behind source shown n notes [] t ≡ told source shown n notes t
-told-first source shown n notes t = ap (λ ls. joined ls ++ end_line shown.counted n notes t.outcome) (behind-none shown.picked (picked_lines source shown n t.firings))
+pub told-first : (source : List ℕ) (shown : Shown) (n : ℕ) (notes : List ℕ) (t : Traced Tree)
+    → told_behind source shown n notes [] t ≡ told source shown n notes t
+told-first source shown n notes t = ap (λ ls. joined ls ++ end_line shown.counted n notes t.outcome)
+    (behind-none shown.picked (picked_lines source shown n t.firings))
 
 -- what is to be written yet begins with what a firing adds in front
 pub told-next : (source : List ℕ) (shown : Shown) (n : ℕ) (notes : List ℕ) (before : List (List ℕ)) (f : Firing) (t r : Traced Tree) → r ≡ firing_then f t
-    → told_behind source shown n notes before r ≡ joined (fresh_lines shown.picked before (picked_lines source shown n (f ∷ []))) ++ told_behind source shown n notes (before ++ picked_lines source shown n (f ∷ [])) t
+    → told_behind source shown n notes before r ≡ joined (fresh_lines shown.picked before (picked_lines source shown n (f ∷ []))) ++ told_behind
+    source shown n notes (before ++ picked_lines source shown n (f ∷ [])) t
 told-next source shown n notes before f t r e =
     let one = picked_lines source shown n (f ∷ []) in
     let left = picked_lines source shown n t.firings in
@@ -116,23 +134,29 @@ told-next source shown n notes before f t r e =
     let fresh = fresh_lines shown.picked before one in
     let behind = lines_behind shown.picked (before ++ one) left in
     ap (told_behind source shown n notes before) e
-    ∙ ap (λ ls. joined ls ++ end) (ap (lines_behind shown.picked before) (picked-append source shown n (f ∷ []) t.firings) ∙ behind-more shown.picked before one left)
+    ∙ ap (λ ls. joined ls ++ end) (ap (lines_behind shown.picked before) (picked-append source shown n (f ∷ []) t.firings)
+    ∙ behind-more shown.picked before one left)
     ∙ ap (λ z. z ++ end) (joined-append fresh behind)
     ∙ append_assoc (joined fresh) (joined behind) end
 
 -- ---- the spot of a rule that fired
 
-pub fired-spot : (source : List ℕ) (y : Spec) (telling : Telling) (i : ℕ) (r : Rule) (d : Spot) → IsTelling source y telling → slice_get y.rules i ≡ Some r → get_or telling.spots.items i d ≡ rule_spot source r
+pub fired-spot : (source : List ℕ) (y : Spec) (telling : Telling) (i : ℕ) (r : Rule) (d : Spot) → IsTelling source y telling
+    → slice_get y.rules i ≡ Some r → get_or telling.spots.items i d ≡ rule_spot source r
 fired-spot source y telling i r d is e =
     let at = rule-at y i r e in
     ap (λ ss. get_or ss i d) is ∙ get_or-map (rule_spot source) y.rules i r d at.within ∙ ap (rule_spot source) (at.is r)
 
-pub spots-long : (source : List ℕ) (y : Spec) (telling : Telling) (i : ℕ) (r : Rule) → IsTelling source y telling → slice_get y.rules i ≡ Some r → i < length telling.spots.items
-spots-long source y telling i r is e = subst (λ ss. i < length ss) (sym is) (subst (λ k. i < k) (sym (length-map y.rules (rule_spot source))) (rule-at y i r e).within)
+pub spots-long : (source : List ℕ) (y : Spec) (telling : Telling) (i : ℕ) (r : Rule) → IsTelling source y telling → slice_get y.rules i ≡ Some r
+    → i < length telling.spots.items
+spots-long source y telling i r is e = subst (λ ss. i < length ss) (sym is)
+    (subst (λ k. i < k) (sym (length-map y.rules (rule_spot source))) (rule-at y i r e).within)
 
 -- ---- the line of a firing by what it is made of
 
-module _ (source : List ℕ) (shown : Shown) (n : ℕ) (f : Firing) (spot : Spot) (counted : Bool) (width : Option ℕ) (spent : ℕ) (where_is : spot ≡ rule_spot source f.found.rule) (counted_is : counted ≡ shown.counted) (width_is : width ≡ shown.width) (spent_is : spent ≡ n - f.left) where
+module _ (source : List ℕ) (shown : Shown) (n : ℕ) (f : Firing) (spot : Spot) (counted : Bool) (width : Option ℕ) (spent : ℕ)
+    (where_is : spot ≡ rule_spot source f.found.rule) (counted_is : counted ≡ shown.counted) (width_is : width ≡ shown.width)
+    (spent_is : spent ≡ n - f.left) where
   abbrev line_by : Bool → List ℕ
   line_by whole = elim whole [
     | true ↦ whole_line source shown.counted shown.width n f
@@ -147,38 +171,46 @@ module _ (source : List ℕ) (shown : Shown) (n : ℕ) (f : Firing) (spot : Spot
 
 -- ---- turns
 
-pub fired-stands : (y : Spec) (w : Store) (new : Tracer) (t : Turn) (rule : ℕ) (redex contractum : Reference) → t ≡ turn.Fired rule redex contractum → IsLimit t ⊎ Stands y w new → Stands y w new
+pub fired-stands : (y : Spec) (w : Store) (new : Tracer) (t : Turn) (rule : ℕ) (redex contractum : Reference) → t ≡ turn.Fired rule redex contractum
+    → IsLimit t ⊎ Stands y w new → Stands y w new
 fired-stands y w new t rule redex contractum e h = by (subst (λ (x : Turn). IsLimit x ⊎ Stands y w new) e h)
   where
     by : IsLimit (turn.Fired rule redex contractum) ⊎ Stands y w new → Stands y w new
     by (inl none) = absurd none
     by (inr h) = h
 
-pub turn-fired : (y : Spec) (w w' : Store) (old new : Tracer) (t : Turn) (rule : ℕ) (redex contractum : Reference) → t ≡ turn.Fired rule redex contractum → IsTurn y w w' old new t → HasFired y w w' old new rule redex contractum
+pub turn-fired : (y : Spec) (w w' : Store) (old new : Tracer) (t : Turn) (rule : ℕ) (redex contractum : Reference)
+    → t ≡ turn.Fired rule redex contractum → IsTurn y w w' old new t → HasFired y w w' old new rule redex contractum
 turn-fired y w w' old new t rule redex contractum e h = subst (IsTurn y w w' old new) e h
 
 -- what a trace comes to where nothing more fires
-pub turn-value : (y : Spec) (w w' : Store) (old new : Tracer) (t : Turn) (r : Reference) (n steps : ℕ) → t ≡ turn.Value r → IsTurn y w w' old new t → steps ≡ n - new.left → ((rest_of y w old).firings ≡ []) × IsEnd w' n (rest_of y w old).outcome (Value r steps)
+pub turn-value : (y : Spec) (w w' : Store) (old new : Tracer) (t : Turn) (r : Reference) (n steps : ℕ) → t ≡ turn.Value r → IsTurn y w w' old new t
+    → steps ≡ n - new.left → ((rest_of y w old).firings ≡ []) × IsEnd w' n (rest_of y w old).outcome (Value r steps)
 turn-value y w w' old new t r n steps e h k =
     let at = subst (IsTurn y w w' old new) e h in
     (ap (λ (z : Traced Tree). z.firings) at.2, (at.0, new.left, at.1, ap (λ (z : Traced Tree). z.outcome) at.2, k))
 
-pub turn-limit : (y : Spec) (w w' : Store) (old new : Tracer) (t : Turn) (n : ℕ) → t ≡ turn.Limit → IsTurn y w w' old new t → ((rest_of y w old).firings ≡ []) × IsEnd w' n (rest_of y w old).outcome Limit
+pub turn-limit : (y : Spec) (w w' : Store) (old new : Tracer) (t : Turn) (n : ℕ) → t ≡ turn.Limit → IsTurn y w w' old new t
+    → ((rest_of y w old).firings ≡ []) × IsEnd w' n (rest_of y w old).outcome Limit
 turn-limit y w w' old new t n e h =
     let at = subst (IsTurn y w w' old new) e h in
     (ap (λ (z : Traced Tree). z.firings) at, ap (λ (z : Traced Tree). z.outcome) at)
 
-pub value-left : (y : Spec) (w w' : Store) (old new : Tracer) (t : Turn) (r : Reference) (n : ℕ) → t ≡ turn.Value r → IsTurn y w w' old new t → IsWithin n (rest_of y w old) → new.left ≤ n
+pub value-left : (y : Spec) (w w' : Store) (old new : Tracer) (t : Turn) (r : Reference) (n : ℕ) → t ≡ turn.Value r → IsTurn y w w' old new t
+    → IsWithin n (rest_of y w old) → new.left ≤ n
 value-left y w w' old new t r n e h k = let at = subst (IsTurn y w w' old new) e h in within-end n at.0 new.left (rest_of y w old) at.2 k
 
-pub fired-left : (y : Spec) (w w' : Store) (old new : Tracer) (rule : ℕ) (redex contractum : Reference) (n : ℕ) (f : HasFired y w w' old new rule redex contractum) → IsWithin n (rest_of y w old) → (new.left ≤ n) × IsWithin n (rest_of y w' new)
+pub fired-left : (y : Spec) (w w' : Store) (old new : Tracer) (rule : ℕ) (redex contractum : Reference) (n : ℕ)
+    (f : HasFired y w w' old new rule redex contractum) → IsWithin n (rest_of y w old) → (new.left ≤ n) × IsWithin n (rest_of y w' new)
 fired-left y w w' old new rule redex contractum n f k =
     let at = within-next n f.firing (rest_of y w' new) (rest_of y w old) f.next k in
     (subst (λ m. m ≤ n) f.left_is at.0, at.1)
 
-module _ {W : Type 0} (contents : W → Option (List ℕ)) (z : Spec) (w w' : Store) (old new : Tracer) (telling : Telling) (kept : Kept) (rule : ℕ) (redex contractum : Reference) (f : HasFired z w w' old new rule redex contractum) where
+module _ {W : Type 0} (contents : W → Option (List ℕ)) (z : Spec) (w w' : Store) (old new : Tracer) (telling : Telling) (kept : Kept) (rule : ℕ)
+    (redex contractum : Reference) (f : HasFired z w w' old new rule redex contractum) where
   pub told-turn : (w2 : Store) (kept' : Kept) (out now : Output W) (lines more : ℕ) → rest_of z w2 new ≡ rest_of z w' new → Stands z w2 new
-      → ((source : List ℕ) (before : List (List ℕ)) → IsTelling source z telling → HasKept (picks_by telling.options.picked) before kept → Tells contents source telling.options before f.firing kept' out now lines more)
+      → ((source : List ℕ) (before : List (List ℕ)) → IsTelling source z telling → HasKept (picks_by telling.options.picked) before kept
+      → Tells contents source telling.options before f.firing kept' out now lines more)
       → HasTold contents z w w2 old new telling kept kept' out now lines more
   told-turn w2 kept' out now lines more same stands h = record {
     firing = f.firing;
@@ -188,11 +220,15 @@ module _ {W : Type 0} (contents : W → Option (List ℕ)) (z : Spec) (w w' : St
   }
 
   pub told-break : (source notes : List ℕ) (before : List (List ℕ)) (out now : Output W) (lines : ℕ) (fault : RunFault)
-      → Breaks contents out now lines (joined (fresh_lines (picks_by telling.options.picked) before (picked_lines source (shown_by telling.options) telling.options.run.steps (f.firing ∷ [])))) fault
+      → Breaks contents out now lines
+      (joined (fresh_lines (picks_by telling.options.picked) before
+      (picked_lines source (shown_by telling.options) telling.options.run.steps (f.firing ∷ [])))) fault
       → Breaks contents out now lines (told_behind source (shown_by telling.options) telling.options.run.steps notes before (rest_of z w old)) fault
   told-break source notes before out now lines fault h =
       let shown = shown_by telling.options in
       let n = telling.options.run.steps in
       let one = picked_lines source shown n (f.firing ∷ []) in
-      subst (λ text. Breaks contents out now lines text fault) (sym (told-next source shown n notes before f.firing (rest_of z w' new) (rest_of z w old) f.next))
-      (breaks-before contents out now lines (joined (fresh_lines shown.picked before one)) (told_behind source shown n notes (before ++ one) (rest_of z w' new)) fault h)
+      subst (λ text. Breaks contents out now lines text fault) (sym
+      (told-next source shown n notes before f.firing (rest_of z w' new) (rest_of z w old) f.next))
+      (breaks-before contents out now lines (joined (fresh_lines shown.picked before one))
+      (told_behind source shown n notes (before ++ one) (rest_of z w' new)) fault h)

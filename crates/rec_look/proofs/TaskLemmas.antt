@@ -18,25 +18,31 @@ use Rattle.rec_look.proofs.PageLemmas.{breaks-before, breaks-behind, prints-both
 
 -- ---- texts of items, one behind the other
 
-flat-more : {X : Type 0} (f : X → List ℕ) (xs : List X) (i : ℕ) (d : X) → i < length xs → flat_map f (take (i + 1) xs) ≡ flat_map f (take i xs) ++ f (get_or xs i d)
-flat-more f xs i d h = ap (flat_map f) (take_more xs i d h) ∙ flat_map-append f (take i xs) (get_or xs i d ∷ []) ∙ ap (λ z. flat_map f (take i xs) ++ z) (append-nil (f (get_or xs i d)))
+flat-more : {X : Type 0} (f : X → List ℕ) (xs : List X) (i : ℕ) (d : X) → i < length xs
+    → flat_map f (take (i + 1) xs) ≡ flat_map f (take i xs) ++ f (get_or xs i d)
+flat-more f xs i d h = ap (flat_map f) (take_more xs i d h) ∙ flat_map-append f (take i xs) (get_or xs i d ∷ [])
+    ∙ ap (λ z. flat_map f (take i xs) ++ z) (append-nil (f (get_or xs i d)))
 
 flat-split : {X : Type 0} (f : X → List ℕ) (xs : List X) (k : ℕ) → flat_map f xs ≡ flat_map f (take k xs) ++ flat_map f (drop k xs)
 flat-split f xs k = ap (flat_map f) (sym (take-append-drop k xs)) ∙ flat_map-append f (take k xs) (drop k xs)
 
 module _ {W X : Type 0} (contents : W → Option (List ℕ)) (f : X → List ℕ) (xs : List X) where
   -- one more
-  pub prints-more : (a b c : Output W) (k l m i : ℕ) (d : X) → i < length xs → Prints contents a b k l (flat_map f (take i xs)) → Prints contents b c l m (f (get_or xs i d)) → Prints contents a c k m (flat_map f (take (i + 1) xs))
-  prints-more a b c k l m i d low h e = subst (λ text. Prints contents a c k m text) (sym (flat-more f xs i d low)) (prints-both contents a b c k l m (flat_map f (take i xs)) (f (get_or xs i d)) h e)
+  pub prints-more : (a b c : Output W) (k l m i : ℕ) (d : X) → i < length xs → Prints contents a b k l (flat_map f (take i xs))
+      → Prints contents b c l m (f (get_or xs i d)) → Prints contents a c k m (flat_map f (take (i + 1) xs))
+  prints-more a b c k l m i d low h e = subst (λ text. Prints contents a c k m text) (sym (flat-more f xs i d low))
+      (prints-both contents a b c k l m (flat_map f (take i xs)) (f (get_or xs i d)) h e)
 
   -- all
   pub prints-all : (a b : Output W) (k l i : ℕ) → length xs ≤ i → Prints contents a b k l (flat_map f (take i xs)) → Prints contents a b k l (flat_map f xs)
   prints-all a b k l i all h = subst (λ text. Prints contents a b k l text) (ap (flat_map f) (take_all i xs all)) h
 
   -- a fault within one
-  pub breaks-within : (a b c : Output W) (k l i : ℕ) (d : X) (fault : RunFault) → i < length xs → Prints contents a b k l (flat_map f (take i xs)) → Breaks contents b c l (f (get_or xs i d)) fault → Breaks contents a c k (flat_map f xs) fault
+  pub breaks-within : (a b c : Output W) (k l i : ℕ) (d : X) (fault : RunFault) → i < length xs → Prints contents a b k l (flat_map f (take i xs))
+      → Breaks contents b c l (f (get_or xs i d)) fault → Breaks contents a c k (flat_map f xs) fault
   breaks-within a b c k l i d fault low h s =
-      subst (λ text. Breaks contents a c k text fault) (ap (λ z. z ++ flat_map f (drop (i + 1) xs)) (sym (flat-more f xs i d low)) ∙ sym (flat-split f xs (i + 1)))
+      subst (λ text. Breaks contents a c k text fault) (ap (λ z. z ++ flat_map f (drop (i + 1) xs)) (sym (flat-more f xs i d low))
+      ∙ sym (flat-split f xs (i + 1)))
       (breaks-before contents a c k (flat_map f (take i xs) ++ f (get_or xs i d)) (flat_map f (drop (i + 1) xs)) fault
       (breaks-behind contents a b c k l (flat_map f (take i xs)) (f (get_or xs i d)) fault h s))
 
@@ -53,7 +59,8 @@ module _ (source : List ℕ) (y : Spec) (shown : Shown) (n : ℕ) where
   traces-tasks : (us : List Tree) → traces source y us shown n ≡ flat_map text (tasks y us)
   traces-tasks us = joined-flat (task_lines source y shown n) (tasks y us)
 
-  tasks-text : (us : List Tree) → flat_map text (tasks y us) ≡ flat_map (λ (t : Term). text (record { term = t; notes = none })) y.terms ++ flat_map (λ u. text (given_task u)) us
+  tasks-text : (us : List Tree) → flat_map text (tasks y us) ≡ flat_map (λ (t : Term). text (record { term = t; notes = none })) y.terms ++ flat_map
+      (λ u. text (given_task u)) us
   tasks-text us =
       flat_map-append text (map (λ (t : Term). record { term = t; notes = none }) y.terms) (map given_task us)
       ∙ ap₂ (λ a b. a ++ b) (flat_map-map text (λ (t : Term). record { term = t; notes = none }) y.terms) (flat_map-map text given_task us)
@@ -74,13 +81,15 @@ pairwise-length P [] (y ∷ ys) h = absurd h
 pairwise-length P (x ∷ xs) [] h = absurd h
 pairwise-length P (x ∷ xs) (y ∷ ys) h = ap suc (pairwise-length P xs ys h.1)
 
-pub pairwise-at : {X Y : Type 0} (P : X → Y → Type 0) (xs : List X) (ys : List Y) (i : ℕ) (d : X) (e : Y) → Pairwise P xs ys → i < length xs → P (get_or xs i d) (get_or ys i e)
+pub pairwise-at : {X Y : Type 0} (P : X → Y → Type 0) (xs : List X) (ys : List Y) (i : ℕ) (d : X) (e : Y) → Pairwise P xs ys → i < length xs
+    → P (get_or xs i d) (get_or ys i e)
 pairwise-at P [] ys i d e h low = absurd (omega (arith, low))
 pairwise-at P (x ∷ xs) [] i d e h low = absurd h
 pairwise-at P (x ∷ xs) (y ∷ ys) zero d e h low = h.0
 pairwise-at P (x ∷ xs) (y ∷ ys) (suc i) d e h low = pairwise-at P xs ys i d e h.1 (omega (arith, low))
 
-pub pairwise-push : {X Y : Type 0} (P : X → Y → Type 0) (xs : List X) (ys : List Y) (x : X) (y : Y) → Pairwise P xs ys → P x y → Pairwise P (xs ++ x ∷ []) (ys ++ y ∷ [])
+pub pairwise-push : {X Y : Type 0} (P : X → Y → Type 0) (xs : List X) (ys : List Y) (x : X) (y : Y) → Pairwise P xs ys → P x y
+    → Pairwise P (xs ++ x ∷ []) (ys ++ y ∷ [])
 pairwise-push P [] [] x y h k = (k, tt)
 pairwise-push P [] (b ∷ ys) x y h k = absurd h
 pairwise-push P (a ∷ xs) [] x y h k = absurd h

@@ -30,7 +30,8 @@ use Rattle.rec_look.specs.Traces.{Shown, first_lines, picked_lines, task_text}
 
 -- ---- no more is left than there was at first
 
-within-follow : (y : Spec) (n : ℕ) (t : Tree) (fs : List Firing) (u : Tree) (left : ℕ) → Follow y n t fs u left → Every (λ (f : Firing). f.left ≤ n) fs × (left ≤ n)
+within-follow : (y : Spec) (n : ℕ) (t : Tree) (fs : List Firing) (u : Tree) (left : ℕ) → Follow y n t fs u left
+    → Every (λ (f : Firing). f.left ≤ n) fs × (left ≤ n)
 within-follow y n t [] u left h = (tt, h.1)
 within-follow y n t (f ∷ fs) u left h =
     let rest = within-follow y f.left f.after fs u left h.2 in
@@ -45,7 +46,8 @@ within-follow y n t (f ∷ fs) u left h =
     weaker (g ∷ gs) k le = let first = k.0 in (omega (arith, first, le), weaker gs k.1 le)
 
 -- of any outcome
-within-arrives : (y : Spec) (n : ℕ) (t : Tree) (fs : List Firing) (o : evaluation.Outcome Tree) → Arrives y n t (record { firings = fs; outcome = o }) → IsWithin n (record { firings = fs; outcome = o })
+within-arrives : (y : Spec) (n : ℕ) (t : Tree) (fs : List Firing) (o : evaluation.Outcome Tree) → Arrives y n t (record { firings = fs; outcome = o })
+    → IsWithin n (record { firings = fs; outcome = o })
 within-arrives y n t fs (Done v left) h = let k = within-follow y n t fs v left h in record { firings = k.0; outcome = k.1 }
 within-arrives y n t fs Over h = record { firings = (within-follow y n t fs h.0 0 h.1).0; outcome = tt }
 
@@ -68,7 +70,8 @@ pub end-held : (w : Store) (n : ℕ) (o : evaluation.Outcome Tree) (e : Outcome)
 end-held w n o (Value r steps) h = ap is_some h.2
 end-held w n o Limit h = tt
 
-pub end-written : (w : Store) (counted : Bool) (n : ℕ) (notes : List ℕ) (o : evaluation.Outcome Tree) (e : Outcome) → IsEnd w n o e → end_text w counted n notes e ++ codes "\n" ≡ end_line counted n notes o
+pub end-written : (w : Store) (counted : Bool) (n : ℕ) (notes : List ℕ) (o : evaluation.Outcome Tree) (e : Outcome) → IsEnd w n o e
+    → end_text w counted n notes e ++ codes "\n" ≡ end_line counted n notes o
 end-written w counted n notes o (Value r steps) h =
     ap₂ (λ (u : Tree) (k : ℕ). canon u ++ notes ++ steps_text counted k ++ codes "\n") (held-value w r h.0 h.2) h.4 ∙ sym (ap (end_line counted n notes) h.3)
 end-written w counted n notes o Limit h = sym (ap (end_line counted n notes) h)
@@ -78,7 +81,8 @@ spent-same : (counted : Bool) (k : ℕ) → spent_text counted k ≡ steps_text 
 spent-same true k = refl
 spent-same false k = refl
 
-value-end : (y : Spec) (counted : Bool) (n : ℕ) (t : Term) (notes : Trees) (o : evaluation.Outcome Tree) → Eval y n [] t ≡ o → end_line counted n (notes_text notes) o ≡ value_line counted n notes o
+value-end : (y : Spec) (counted : Bool) (n : ℕ) (t : Term) (notes : Trees) (o : evaluation.Outcome Tree) → Eval y n [] t ≡ o
+    → end_line counted n (notes_text notes) o ≡ value_line counted n notes o
 value-end y counted n t notes (Done v left) e =
     let bare = applied_unannotated v (value_is_applied y n t v left e) in
     sym (ap₂ (λ (a b : List ℕ). a ++ b ++ codes "\n") (canon_annotated v notes bare) (spent-same counted (n - left)))

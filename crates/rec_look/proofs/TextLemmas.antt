@@ -1,5 +1,6 @@
 -- The texts of terms without annotations, and their beginnings.
-use Rattle.std.proofs.Common.{◌≡◌, ℕ, ◌-◌, ◌≤◌, ◌<◌, ◌⊎◌, inl, inr, Bool, true, false, List, [], ◌∷◌, ◌++◌, Option, Some, None, IsSome, refl, sym, ap, ap₂, subst, ◌∙◌, arith, append-nil, length, length-append, take, drop, zero, suc}
+use Rattle.std.proofs.Common.{◌≡◌, ℕ, ◌-◌, ◌≤◌, ◌<◌, ◌⊎◌, inl, inr, Bool, true, false, List, [], ◌∷◌, ◌++◌, Option, Some, None, IsSome}
+use Rattle.std.proofs.Common.{refl, sym, ap, ap₂, subst, ◌∙◌, arith, append-nil, length, length-append, take, drop, zero, suc}
 use Rattle.std.specs.Prelude.{codes, nat_le, unwrap_or, if◌then◌else◌}
 use Rattle.std.specs.Option.{option_and_then}
 use Rattle.std.proofs.lemmas.Bool.{lt-leb}
@@ -37,7 +38,8 @@ take-front (x ∷ xs) ys zero e = absurd (let no : ⊥ = omega (arith, e) in no)
 take-front (x ∷ xs) ys (suc n) e = ap (λ z. x ∷ z) (take-front xs ys n (omega (arith, e)))
 
 -- a text but for its annotations
-pub without-notes : (u : Tree) (text notes rest : List ℕ) (n : ℕ) → text ≡ canon u → notes ≡ notes_text (annotations u) → n ≡ length text - length notes → rest ≡ take n text → rest ≡ canon (bare_of u)
+pub without-notes : (u : Tree) (text notes rest : List ℕ) (n : ℕ) → text ≡ canon u → notes ≡ notes_text (annotations u)
+    → n ≡ length text - length notes → rest ≡ take n text → rest ≡ canon (bare_of u)
 without-notes u text notes rest n is are long front =
     let bare = canon (bare_of u) in
     let more = notes_text (annotations u) in
@@ -60,7 +62,8 @@ no-notes : (ts : Trees) → list_unless_empty ts ≡ None → ts ≡ none
 no-notes none e = refl
 no-notes (more t ts) e = absurd (cc e)
 
-pub begins-bare : (w : Store) (t : Term) (text : List ℕ) → IsSome (tree_at w t) → HasAnns w t None → Begins (held_tree w t) text → Begins (bare_of (held_tree w t)) text
+pub begins-bare : (w : Store) (t : Term) (text : List ℕ) → IsSome (tree_at w t) → HasAnns w t None → Begins (held_tree w t) text
+    → Begins (bare_of (held_tree w t)) text
 begins-bare w t text held anns h = subst (λ u. Begins u text) (sym (bare-same (held_tree w t) (of (tree_at w t) held anns))) h
   where
     of : (o : Option Tree) → IsSome o → option_and_then anns_of o ≡ None → annotations (unwrap_or o (list_of none)) ≡ none

@@ -1,5 +1,6 @@
 -- A walk over the applications in a value, one visit after the other.
-use Rattle.std.proofs.Common.{◌≡◌, ◌+◌, ◌<◌, ◌⊎◌, inl, inr, ℕ, Bool, true, false, List, [], ◌∷◌, ◌++◌, Option, Some, None, IsSome, refl, sym, ap, subst, ◌∙◌, append_assoc, append-nil, arith, map}
+use Rattle.std.proofs.Common.{◌≡◌, ◌+◌, ◌<◌, ◌⊎◌, inl, inr, ℕ, Bool, true, false, List, [], ◌∷◌, ◌++◌, Option, Some}
+use Rattle.std.proofs.Common.{None, IsSome, refl, sym, ap, subst, ◌∙◌, append_assoc, append-nil, arith, map}
 use Rattle.std.specs.Prelude.{nat_eq, suc, unwrap_or}
 use Rattle.std.specs.List.{AllByRecursion, list_any}
 use Rattle.std.proofs.lemmas.Bool.Decides.{Decides-eqb, same_from_decides}
@@ -12,7 +13,8 @@ use Rattle.rx_term.specs.declared.Term.{Term}
 use Rattle.rx_term.proofs.TreeLemmas.{same_tree, tree_eq_same}
 use Rattle.rx_look.proofs.OrderLemmas.{any_map, map_insert}
 use Rattle.rec_look.specs.Stuck.{applications, different}
-use Rattle.rec_look.specs.Inner.Visits.{AreThere, CanVisit, Enters, Walked, left_by, left_by_all, place_of, reference, trees_of, visits_by, visits_by_all, visits_of}
+use Rattle.rec_look.specs.Inner.Visits.{AreThere, CanVisit, Enters, Walked, left_by, left_by_all, place_of}
+use Rattle.rec_look.specs.Inner.Visits.{reference, trees_of, visits_by, visits_by_all, visits_of}
 use Rattle.rec_look.specs.declared.stuck.applications.Visit.{Visit}
 use Rattle.rec_look.specs.declared.stuck.applications.Visit.TheVariants.{Enter, Leave}
 use Rattle.rec_look.proofs.ApplicationLemmas.{IsAmong, different-append, left-before}
@@ -63,14 +65,19 @@ held-at w r h = by (tree_at w r) h
     by (Some u) e = refl
 
 module _ (w : Store) (sound : IsSound w) where
-  same-reference : (i j : ℕ) → IsSome (tree_at w (reference i)) → IsSome (tree_at w (reference j)) → nat_eq i j ≡ tree_eq (held_tree w (reference i)) (held_tree w (reference j))
+  same-reference : (i j : ℕ) → IsSome (tree_at w (reference i)) → IsSome (tree_at w (reference j))
+      → nat_eq i j ≡ tree_eq (held_tree w (reference i)) (held_tree w (reference j))
   same-reference i j h k =
       same_from_decides (nat_eq i j) (tree_eq (held_tree w (reference i)) (held_tree w (reference j))) (Decides-eqb i j) (
-        (λ e. let same : held_tree w (reference j) ≡ held_tree w (reference i) = sym (same_tree (held_tree w (reference i)) (held_tree w (reference j)) e) in ap (λ (t : Term). t.0) (sound.one_to_one (reference i) (reference j) (held_tree w (reference i)) (held-at w (reference i) h) (held-at w (reference j) k ∙ ap (λ u. let o : Option Tree = Some u in o) same))),
+        (λ e. let same : held_tree w (reference j) ≡ held_tree w (reference i) =
+            sym (same_tree (held_tree w (reference i)) (held_tree w (reference j)) e) in
+            ap (λ (t : Term). t.0) (sound.one_to_one (reference i) (reference j) (held_tree w (reference i)) (held-at w (reference i) h)
+            (held-at w (reference j) k ∙ ap (λ u. let o : Option Tree = Some u in o) same))),
         (λ e. subst (λ n. tree_eq (held_tree w (reference i)) (held_tree w (reference n)) ≡ true) e (tree_eq_same (held_tree w (reference i)))),
       )
 
-  same-references : (i : ℕ) (ns : List ℕ) → IsSome (tree_at w (reference i)) → AreThere w ns → AllByRecursion (λ n. nat_eq i n ≡ tree_eq (held_tree w (reference i)) (held_tree w (reference n))) ns
+  same-references : (i : ℕ) (ns : List ℕ) → IsSome (tree_at w (reference i)) → AreThere w ns
+      → AllByRecursion (λ n. nat_eq i n ≡ tree_eq (held_tree w (reference i)) (held_tree w (reference n))) ns
   same-references i [] h hs = tt
   same-references i (n ∷ ns) h hs = (same-reference i n h hs.0, same-references i ns h hs.1)
 
@@ -87,7 +94,8 @@ there-inserted w ns ms n is hs h = subst (AreThere w) (sym is) (by (list_any (na
 
 -- ---- from a visit to the next one
 
-module _ (w : Store) (sound : IsSound w) (v : Tree) (left : List ℕ) (all vs : List Visit) (t : Term) (there : AreThere w left) (here : IsSome (tree_at w t)) where
+module _ (w : Store) (sound : IsSound w) (v : Tree) (left : List ℕ) (all vs : List Visit) (t : Term) (there : AreThere w left)
+    (here : IsSome (tree_at w t)) where
   tests : AllByRecursion (λ n. nat_eq t.0 n ≡ tree_eq (held_tree w t) (held_tree w (reference n))) left
   tests = same-references w sound t.0 left here there
 
@@ -98,7 +106,8 @@ module _ (w : Store) (sound : IsSound w) (v : Tree) (left : List ℕ) (all vs : 
       record {
         before = k.before ++ u ∷ [];
         all = k.all ∙ ap (λ ts. k.before ++ ts) (left-last w all vs (Leave t) is) ∙ sym (append_assoc k.before (u ∷ []) (left_by_all w vs));
-        trees = ap (trees_of w) keys ∙ map_insert (λ n. held_tree w (reference n)) nat_eq tree_eq left t.0 tests ∙ ap (λ ts. insert_key tree_eq ts u) k.trees ∙ sym (different-append k.before (u ∷ []));
+        trees = ap (trees_of w) keys ∙ map_insert (λ n. held_tree w (reference n)) nat_eq tree_eq left t.0 tests
+            ∙ ap (λ ts. insert_key tree_eq ts u) k.trees ∙ sym (different-append k.before (u ∷ []));
       }
 
   -- a tree is gone into
@@ -106,18 +115,21 @@ module _ (w : Store) (sound : IsSound w) (v : Tree) (left : List ℕ) (all vs : 
   walked-in is new e k = elim e.leaves [
     | inl q ↦ record {
       before = k.before;
-      all = k.all ∙ ap (λ ts. k.before ++ ts) (left-last w all vs (Enter t) is ∙ ap (λ ts. ts ++ left_by_all w vs) (sym q) ∙ sym (left-both w vs e.visits) ∙ ap (left_by_all w) (sym e.pushed));
+      all = k.all ∙ ap (λ ts. k.before ++ ts) (left-last w all vs (Enter t) is ∙ ap (λ ts. ts ++ left_by_all w vs) (sym q)
+          ∙ sym (left-both w vs e.visits) ∙ ap (left_by_all w) (sym e.pushed));
       trees = k.trees;
     }
     | inr q ↦
         let u = held_tree w t in
         let last = left-last w all vs (Enter t) is in
-        let among : IsAmong u (different k.before) = ap (list_any (tree_eq u)) (sym k.trees) ∙ sym (any_map (λ n. held_tree w (reference n)) (nat_eq t.0) (tree_eq u) left tests) ∙ q.0 in
+        let among : IsAmong u (different k.before) = ap (list_any (tree_eq u)) (sym k.trees)
+        ∙ sym (any_map (λ n. held_tree w (reference n)) (nat_eq t.0) (tree_eq u) left tests) ∙ q.0 in
         let same : new ≡ vs = e.pushed ∙ ap (λ us. vs ++ us) q.1 ∙ append-nil vs in
         let whole : applications v ≡ k.before ++ (applications u ++ left_by_all w vs) = k.all ∙ ap (λ ts. k.before ++ ts) last in
         record {
           before = k.before ++ applications u;
-          all = whole ∙ sym (append_assoc k.before (applications u) (left_by_all w vs)) ∙ ap (λ us. (k.before ++ applications u) ++ left_by_all w us) (sym same);
+          all = whole ∙ sym (append_assoc k.before (applications u) (left_by_all w vs))
+              ∙ ap (λ us. (k.before ++ applications u) ++ left_by_all w us) (sym same);
           trees = k.trees ∙ sym (different-append k.before (applications u) ∙ left-before v u k.before (applications u ++ left_by_all w vs) whole among);
         }
   ]
@@ -126,7 +138,8 @@ module _ (w : Store) (sound : IsSound w) (v : Tree) (left : List ℕ) (all vs : 
 pub entered-can : (w : Store) (t : Term) (left : List ℕ) (old new : List Visit) → Enters w t left old new → CanVisit w old → CanVisit w new
 entered-can w t left old new e h = subst (CanVisit w) (sym e.pushed) (can-both w old e.visits h e.can)
 
-pub entered-fewer : (w : Store) (t : Term) (left : List ℕ) (all old new : List Visit) → all ≡ old ++ Enter t ∷ [] → Enters w t left old new → visits_by_all w new < visits_by_all w all
+pub entered-fewer : (w : Store) (t : Term) (left : List ℕ) (all old new : List Visit) → all ≡ old ++ Enter t ∷ [] → Enters w t left old new
+    → visits_by_all w new < visits_by_all w all
 entered-fewer w t left all old new is e =
     let a = ap (visits_by_all w) e.pushed ∙ visits-both w old e.visits in
     let b = others-fewer w all old (Enter t) is in
@@ -134,10 +147,12 @@ entered-fewer w t left all old new is e =
     omega (arith, a, b, c)
 
 -- at the beginning, and at the end
-pub walk-begins : (w : Store) (value : Term) (visits : List Visit) (left : List ℕ) → visits ≡ [] ++ Enter value ∷ [] → left ≡ [] → Walked w (held_tree w value) left visits
+pub walk-begins : (w : Store) (value : Term) (visits : List Visit) (left : List ℕ) → visits ≡ [] ++ Enter value ∷ [] → left ≡ []
+    → Walked w (held_tree w value) left visits
 walk-begins w value visits left is none-left = rw (is, none-left) (record { before = []; all = refl; trees = refl })
 
-pub walk-ends : (w : Store) (v : Tree) (left : List ℕ) (visits : List Visit) → visits ≡ [] → Walked w v left visits → trees_of w left ≡ different (applications v)
+pub walk-ends : (w : Store) (v : Tree) (left : List ℕ) (visits : List Visit) → visits ≡ [] → Walked w v left visits
+    → trees_of w left ≡ different (applications v)
 walk-ends w v left visits is k =
     let whole : applications v ≡ k.before = k.all ∙ ap (λ us. k.before ++ left_by_all w us) is ∙ append-nil k.before in
     k.trees ∙ ap different (sym whole)

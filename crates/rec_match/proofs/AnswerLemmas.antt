@@ -51,7 +51,8 @@ cannot-open name k u other = by (opened name k u) refl
     by (Some us) e = let h = opened_is name k u us e in absurd (other us h.0 h.1)
 
 -- a left side matches no tree that is not opened
-unopened : (y : Spec) → fault y ≡ None → (l : X.Term) (j : ℕ) → j < length (symbols y) → (X.head l).bytes ≡ name_of y (Symbol j) → (u : Tree) → opened (name_of y (Symbol j)) (count (X.arguments l)) u ≡ None → binds y l u ≡ None
+unopened : (y : Spec) → fault y ≡ None → (l : X.Term) (j : ℕ) → j < length (symbols y) → (X.head l).bytes ≡ name_of y (Symbol j) → (u : Tree)
+    → opened (name_of y (Symbol j)) (count (X.arguments l)) u ≡ None → binds y l u ≡ None
 unopened y kept (Apply x ts) j lt e u closed =
     sym (walk_binds y (Apply x ts) u) ∙ ap at (ap (is_variable y) e ∙ (facts y kept).symbol_is_none j lt)
     ∙ ap (λ o. goes_on o (λ us. walk_all y ts us [])) (ap (λ n. opened n (count ts) u) e ∙ closed)
@@ -64,14 +65,16 @@ abbrev pub OpensNothing : Spec → Tree → Type 0
 OpensNothing y u = (j : ℕ) → j < length (symbols y) → (us : Trees) → application (name_of y (Symbol j)) us ≡ u → count_of us ≡ arity_of y j → ⊥
 
 -- no rule matches it
-pub none-matches : (y : Spec) (w : Store) (m : Matcher) → IsReady y w m → (u : Tree) → OpensNothing y u → (n k : ℕ) → n + k ≡ length y.rules → first_match y n (drop n y.rules) u ≡ None
+pub none-matches : (y : Spec) (w : Store) (m : Matcher) → IsReady y w m → (u : Tree) → OpensNothing y u → (n k : ℕ) → n + k ≡ length y.rules
+    → first_match y n (drop n y.rules) u ≡ None
 none-matches y w m ready u other n zero e = nothing y n u (omega (arith, e))
 none-matches y w m ready u other n (suc k) e =
     let lt : n < length y.rules = omega (arith, e) in
     let side = ready.matcher.sides n no_rule lt in
     first-passed y n u no_rule lt
     (unopened y ready.matcher.kept (get_or y.rules n no_rule).left (symbol_at m n) side.declared side.head u
-    (cannot-open (name_of y (Symbol (symbol_at m n))) (count (X.arguments (get_or y.rules n no_rule).left)) u (λ us q c. other (symbol_at m n) side.declared us q (c ∙ side.counted ∙ side.filled))))
+    (cannot-open (name_of y (Symbol (symbol_at m n))) (count (X.arguments (get_or y.rules n no_rule).left)) u (λ us q c.
+    other (symbol_at m n) side.declared us q (c ∙ side.counted ∙ side.filled))))
     ∙ none-matches y w m ready u other (suc n) k (omega (arith, e))
 
 pub none-next : (y : Spec) (w : Store) (m : Matcher) → IsReady y w m → (u : Tree) → OpensNothing y u → (from : ℕ) → next_match y from u ≡ None
@@ -100,7 +103,8 @@ no-symbol y w t kind.Cons h not_appl = no-cons y w t h
 no-symbol y w t (kind.Appl s) h not_appl = absurd (not_appl s refl)
 no-symbol y w t kind.Hole h not_appl = no-hole y w t h
 
-anns-none : (name : List ℕ) (quoted : Bool) (args anns : Trees) (b : List ℕ) (us : Trees) → application b us ≡ Appl name quoted args anns → (name ≡ b) × (quoted ≡ not (plain_name b)) × (args ≡ us) × (anns ≡ none)
+anns-none : (name : List ℕ) (quoted : Bool) (args anns : Trees) (b : List ℕ) (us : Trees) → application b us ≡ Appl name quoted args anns
+    → (name ≡ b) × (quoted ≡ not (plain_name b)) × (args ≡ us) × (anns ≡ none)
 anns-none name quoted args anns b us e = (cc e, cc e, cc e, cc e)
 
 -- an annotated tree
@@ -115,22 +119,27 @@ no-annotated y w t a s h anns j lt us e c =
     by (Some t) e h = cc e
 
 -- an application of another symbol
-pub no-number : (y : Spec) (w : Store) → IsSound w → (m : Matcher) → IsReady y w m → (t : Term) (s : bank.Symbol) → HasAppl w t s → NumberOf m.links s None → OpensNothing y (held_tree w t)
+pub no-number : (y : Spec) (w : Store) → IsSound w → (m : Matcher) → IsReady y w m → (t : Term) (s : bank.Symbol) → HasAppl w t s
+    → NumberOf m.links s None → OpensNothing y (held_tree w t)
 no-number y w sound m ready t s h number j lt us e c =
     let q = anns-none h.name h.quoted h.args h.anns (name_of y (Symbol j)) us (e ∙ ap or_empty h.here) in
-    let own : signature_of w s ≡ Some (signature y j) = h.symbol ∙ ap (λ g. let o : Option Signature = Some g in o) (is h.name h.quoted h.args us q.0 q.1 q.2 c) in
+    let own : signature_of w s ≡ Some (signature y j) = h.symbol
+    ∙ ap (λ g. let o : Option Signature = Some g in o) (is h.name h.quoted h.args us q.0 q.1 q.2 c) in
     let same : get_or m.links j s ≡ s = sound.symbols_one_to_one (get_or m.links j s) s (signature y j) (ready.linked.linked j s lt) own in
     let long = ready.linked.counted in
     absurd (cc (number.each j (omega (arith, lt, long)) same))
   where
-    is : (name : List ℕ) (quoted : Bool) (args us : Trees) → name ≡ name_of y (Symbol j) → quoted ≡ not (plain_name (name_of y (Symbol j))) → args ≡ us → count_of us ≡ arity_of y j
+    is : (name : List ℕ) (quoted : Bool) (args us : Trees) → name ≡ name_of y (Symbol j) → quoted ≡ not (plain_name (name_of y (Symbol j)))
+        → args ≡ us → count_of us ≡ arity_of y j
         → (let g : Signature = record { name = name; quoted = quoted; arity = count_of args } in g) ≡ signature y j
     is name quoted args us en eq ea ec =
         ap (λ x. let g : Signature = record { name = x; quoted = quoted; arity = count_of args } in g) en
         ∙ ap (λ x. let g : Signature = record { name = name_of y (Symbol j); quoted = x; arity = count_of args } in g) eq
-        ∙ ap (λ x. let g : Signature = record { name = name_of y (Symbol j); quoted = not (plain_name (name_of y (Symbol j))); arity = x } in g) (ap count_of ea ∙ ec)
+        ∙ ap (λ x. let g : Signature = record { name = name_of y (Symbol j); quoted = not (plain_name (name_of y (Symbol j))); arity = x } in g)
+        (ap count_of ea ∙ ec)
 
-plain-anns : (w : Store) (t : Term) (name : List ℕ) (quoted : Bool) (args anns : Trees) → tree_at w t ≡ Some (Appl name quoted args anns) → part_at anns_of w t ≡ None → anns ≡ none
+plain-anns : (w : Store) (t : Term) (name : List ℕ) (quoted : Bool) (args anns : Trees) → tree_at w t ≡ Some (Appl name quoted args anns)
+    → part_at anns_of w t ≡ None → anns ≡ none
 plain-anns w t name quoted args none e h = refl
 plain-anns w t name quoted args (more a as') e h = absurd (let x : Some (Items (more a as') none) ≡ None = sym (rw e refl) ∙ h in cc x)
 
@@ -140,7 +149,8 @@ pub record IsCall (y : Spec) (w : Store) (t : Term) (k : ℕ) (args : Trees) : T
   pub is : held_tree w t ≡ application (name_of y (Symbol k)) args
   pub counted : count_of args ≡ arity_of y k
 
-pub is-call : (y : Spec) (w : Store) (m : Matcher) → IsReady y w m → (t : Term) (s : bank.Symbol) (k : ℕ) → (h : HasAppl w t s) → NumberOf m.links s (Some k) → part_at anns_of w t ≡ None → IsCall y w t k h.args
+pub is-call : (y : Spec) (w : Store) (m : Matcher) → IsReady y w m → (t : Term) (s : bank.Symbol) (k : ℕ) → (h : HasAppl w t s)
+    → NumberOf m.links s (Some k) → part_at anns_of w t ≡ None → IsCall y w t k h.args
 is-call y w m ready t s k h number bare =
     let f = number.found k refl in
     let below = f.0 in
@@ -151,7 +161,8 @@ is-call y w m ready t s k h number bare =
     let plain = plain-anns w t h.name h.quoted h.args h.anns h.here bare in
     record {
       declared = lt;
-      is = ap or_empty h.here ∙ ap (λ x. Appl x h.quoted h.args h.anns) (ap (λ (g : Signature). g.name) same) ∙ ap (λ x. Appl (name_of y (Symbol k)) x h.args h.anns) (ap (λ (g : Signature). g.quoted) same)
+      is = ap or_empty h.here ∙ ap (λ x. Appl x h.quoted h.args h.anns) (ap (λ (g : Signature). g.name) same)
+          ∙ ap (λ x. Appl (name_of y (Symbol k)) x h.args h.anns) (ap (λ (g : Signature). g.quoted) same)
           ∙ ap (λ x. Appl (name_of y (Symbol k)) (not (plain_name (name_of y (Symbol k)))) h.args x) plain;
       counted = ap (λ (g : Signature). g.arity) same;
     }
@@ -160,7 +171,8 @@ is-call y w m ready t s k h number bare =
     some-is a b e = cc
 
 -- the rule that is found, and what it binds
-pub found-binds : (y : Spec) (u : Tree) (n k : ℕ) → n + k ≡ length y.rules → (m : NumberedMatch) → first_match y n (drop n y.rules) u ≡ Some m → (m.number < length y.rules) × (binds y (get_or y.rules m.number no_rule).left u ≡ Some m.values)
+pub found-binds : (y : Spec) (u : Tree) (n k : ℕ) → n + k ≡ length y.rules → (m : NumberedMatch) → first_match y n (drop n y.rules) u ≡ Some m
+    → (m.number < length y.rules) × (binds y (get_or y.rules m.number no_rule).left u ≡ Some m.values)
 found-binds y u n zero e m f = absurd (cc (sym (nothing y n u (omega (arith, e))) ∙ f))
 found-binds y u n (suc k) e m f = by (binds y (get_or y.rules n no_rule).left u) refl (λ q. found-binds y u (suc n) k (omega (arith, e)) m q)
   where
@@ -175,16 +187,22 @@ found-binds y u n (suc k) e m f = by (binds y (get_or y.rules n no_rule).left u)
     values_or (Some x) = x.values
     values_or None = []
 
-    by : (o : Option Substitution) → binds y (get_or y.rules n no_rule).left u ≡ o → (first_match y (suc n) (drop (suc n) y.rules) u ≡ Some m → (m.number < length y.rules) × (binds y (get_or y.rules m.number no_rule).left u ≡ Some m.values))
+    by : (o : Option Substitution) → binds y (get_or y.rules n no_rule).left u ≡ o
+        → (first_match y (suc n) (drop (suc n) y.rules) u ≡ Some m → (m.number < length y.rules)
+        × (binds y (get_or y.rules m.number no_rule).left u ≡ Some m.values))
         → (m.number < length y.rules) × (binds y (get_or y.rules m.number no_rule).left u ≡ Some m.values)
     by (Some s) q later =
         let whole = sym (first-matched y n u no_rule s lt q) ∙ f in
         let en : n ≡ m.number = ap number_or whole in
         let es : s ≡ m.values = ap values_or whole in
-        subst (λ j. (j < length y.rules) × (binds y (get_or y.rules j no_rule).left u ≡ Some m.values)) en (lt, q ∙ ap (λ x. let o : Option Substitution = Some x in o) es)
+        subst (λ j. (j < length y.rules) × (binds y (get_or y.rules j no_rule).left u ≡ Some m.values)) en (
+          lt,
+          q ∙ ap (λ x. let o : Option Substitution = Some x in o) es,
+        )
     by None q later = later (sym (first-passed y n u no_rule lt q) ∙ f)
 
-pub has-annotations : (y : Spec) (w : Store) (t : Term) (s : bank.Symbol) (o : Option Term) → HasAppl w t s → HasAnns w t o → is_some o ≡ true → OpensNothing y (held_tree w t)
+pub has-annotations : (y : Spec) (w : Store) (t : Term) (s : bank.Symbol) (o : Option Term) → HasAppl w t s → HasAnns w t o → is_some o ≡ true
+    → OpensNothing y (held_tree w t)
 has-annotations y w t s None h anns e = absurd (cc e)
 has-annotations y w t s (Some a) h anns e = no-annotated y w t a s h anns
 
@@ -203,12 +221,14 @@ all-later w m ready i s lt e = later-side m 0 0 i s lt e ready.spec w ready.read
 pub arity-is : (w : Store) (t : Term) (s : bank.Symbol) (h : HasAppl w t s) (n : ℕ) → arity_at w s ≡ Some n → count_of h.args ≡ n
 arity-is w t s h n e = let r : Some (count_of h.args) ≡ Some n = sym (ap (option_and_then (λ (g : Signature). Some g.arity)) h.symbol) ∙ e in cc r
 
-module _ (y : Spec) (w : Store) (m : Matcher) (ready : IsReady y w m) (u : Term) (k from at : ℕ) (args : Trees) (call : IsCall y w u k args) (reached : Reaches m k from at) (work : List Term) (are : held_trees w work ≡ to_list args) where
+module _ (y : Spec) (w : Store) (m : Matcher) (ready : IsReady y w m) (u : Term) (k from at : ℕ) (args : Trees) (call : IsCall y w u k args)
+    (reached : Reaches m k from at) (work : List Term) (are : held_trees w work ≡ to_list args) where
   work-counted : at < length m.sides.items → count_at m at ≡ length work
   work-counted lt =
       let ruled = ready.matcher.ruled in
       let side = ready.matcher.sides at no_rule (omega (arith, lt, ruled)) in
-      side.filled ∙ ap (arity_of y) ((reached y w ready call.declared).1 lt) ∙ sym call.counted ∙ sym (length-to_list args) ∙ ap length (sym are) ∙ length-map work (held_tree w)
+      side.filled ∙ ap (arity_of y) ((reached y w ready call.declared).1 lt) ∙ sym call.counted ∙ sym (length-to_list args) ∙ ap length (sym are)
+      ∙ length-map work (held_tree w)
 
   tree-is : application (name_of y (Symbol k)) (from_list (held_trees w work)) ≡ held_tree w u
   tree-is = ap (λ ts. application (name_of y (Symbol k)) (from_list ts)) are ∙ ap (application (name_of y (Symbol k))) (from_to_list args) ∙ sym call.is
@@ -231,7 +251,8 @@ module _ (y : Spec) (w : Store) (m : Matcher) (ready : IsReady y w m) (u : Term)
 pub arguments-long : (w : Store) (args : Trees) (n : ℕ) (work : List Term) → count_of args ≡ n → held_trees w work ≡ to_list args → n ≡ length work
 arguments-long w args n work en are = sym en ∙ sym (length-to_list args) ∙ ap length (sym are) ∙ length-map work (held_tree w)
 
-pub can-find-there : (w : Store) (m : Matcher) (ready : AreReady w m) (u : Term) (k n from at : ℕ) (args : Trees) → IsCall ready.spec w u k args → count_of args ≡ n → Reaches m k from at → (work : List Term) → held_trees w work ≡ to_list args → CanFind w m k n at work
+pub can-find-there : (w : Store) (m : Matcher) (ready : AreReady w m) (u : Term) (k n from at : ℕ) (args : Trees) → IsCall ready.spec w u k args
+    → count_of args ≡ n → Reaches m k from at → (work : List Term) → held_trees w work ≡ to_list args → CanFind w m k n at work
 can-find-there w m ready u k n from at args call en reached work are = record {
   spec = ready.spec;
   symbols = m.links;

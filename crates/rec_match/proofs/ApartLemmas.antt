@@ -28,7 +28,8 @@ contains-among (x ∷ vs) v (suc k, lt, e) = by (nat_eq x v) (contains-among vs 
     by false h = h
 
 -- the variables in the order in which they first occur
-pub numbers-variables : (y : Spec) (vs : List ℕ) (ls : List Letter) → All (λ l. IsMeaning y l.meaning) ls → AreVariables y vs → Apart vs → AreVariables y (numbers_in vs ls) × Apart (numbers_in vs ls)
+pub numbers-variables : (y : Spec) (vs : List ℕ) (ls : List Letter) → All (λ l. IsMeaning y l.meaning) ls → AreVariables y vs → Apart vs
+    → AreVariables y (numbers_in vs ls) × Apart (numbers_in vs ls)
 numbers-variables y vs [] meant declared apart = (declared, apart)
 numbers-variables y vs (l ∷ ls) meant declared apart =
     let k = one l.meaning (All-head (λ (l : Letter). IsMeaning y l.meaning) l ls meant) in
@@ -40,4 +41,7 @@ numbers-variables y vs (l ∷ ls) meant declared apart =
       where
         by : (b : Bool) → among vs v ≡ b → AreVariables y (elim b [ true ↦ vs | false ↦ vs ++ v ∷ [] ]) × Apart (elim b [ true ↦ vs | false ↦ vs ++ v ∷ [] ])
         by true e = (declared, apart)
-        by false e = (every-snoc (λ x. x < length (variable_words y.variables)) vs v declared h, one_more vs v apart (λ c. (let no : true ≡ false = sym (contains-among vs v c) ∙ e in absurd (cc no))))
+        by false e = (
+          every-snoc (λ x. x < length (variable_words y.variables)) vs v declared h,
+          one_more vs v apart (λ c. (let no : true ≡ false = sym (contains-among vs v c) ∙ e in absurd (cc no))),
+        )

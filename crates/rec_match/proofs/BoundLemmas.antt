@@ -18,7 +18,8 @@ abbrev pub BindsOnly : Spec → Substitution → Type 0
 BindsOnly y s = (name : List ℕ) (v : Tree) → value_of s name ≡ Some v → is_variable y name ≡ true
 
 pub with_one_only : (y : Spec) (s : Substitution) (name : List ℕ) (u : Tree) → is_variable y name ≡ true → BindsOnly y s → BindsOnly y (with_one s name u)
-with_one_only y s name u variable h = λ x v e. append_is s (record { name = name; value = u }) x v e (is_variable y x ≡ true) (λ g. h x v g) (λ is_x is_v. subst (λ n. is_variable y n ≡ true) is_x variable)
+with_one_only y s name u variable h = λ x v e. append_is s (record { name = name; value = u }) x v e (is_variable y x ≡ true) (λ g. h x v g)
+    (λ is_x is_v. subst (λ n. is_variable y n ≡ true) is_x variable)
 
 pub with_one_part : (s t : Substitution) (name : List ℕ) (u : Tree) → IsPartOf s t → value_of t name ≡ Some u → IsPartOf (with_one s name u) t
 with_one_part s t name u part e = λ x v g. append_is s (record { name = name; value = u }) x v g (value_of t x ≡ Some v) (λ h. part x v h)
@@ -39,7 +40,8 @@ and_parts false b e = absurd (cc e)
 pub opened_is : (name : List ℕ) (k : ℕ) (u : Tree) (us : Trees) → opened name k u ≡ Some us → (application name us ≡ u) × (count_of us ≡ k)
 opened_is name k u us e = by (tree_eq (application name (arguments u)) u && nat_eq (count_of (arguments u)) k) refl e
   where
-    by : (b : Bool) → tree_eq (application name (arguments u)) u && nat_eq (count_of (arguments u)) k ≡ b → ◌≡◌ {A = Option Trees} (elim b [ true ↦ Some (arguments u) | false ↦ None ]) (Some us) → (application name us ≡ u) × (count_of us ≡ k)
+    by : (b : Bool) → tree_eq (application name (arguments u)) u && nat_eq (count_of (arguments u)) k ≡ b
+        → ◌≡◌ {A = Option Trees} (elim b [ true ↦ Some (arguments u) | false ↦ None ]) (Some us) → (application name us ≡ u) × (count_of us ≡ k)
     by false h e = absurd (cc e)
     by true h e =
         let is : arguments u ≡ us = cc e in
@@ -49,7 +51,8 @@ opened_is name k u us e = by (tree_eq (application name (arguments u)) u && nat_
         )
 
 pub opened_same : (name : List ℕ) (k : ℕ) (us : Trees) → count_of us ≡ k → opened name k (application name us) ≡ Some us
-opened_same name k us e = by (tree_eq (application name us) (application name us)) (nat_eq (count_of us) k) (tree_eq_same (application name us)) (eq-eqb (count_of us) k e)
+opened_same name k us e = by (tree_eq (application name us) (application name us)) (nat_eq (count_of us) k) (tree_eq_same (application name us))
+    (eq-eqb (count_of us) k e)
   where
     by : (a b : Bool) → a ≡ true → b ≡ true → ◌≡◌ {A = Option Trees} (elim (a && b) [ true ↦ Some us | false ↦ None ]) (Some us)
     by a b e f = ap (λ c. by_test (c && b)) e ∙ ap by_test f
@@ -62,19 +65,23 @@ instance_by s w ts o = elim o [ Some v ↦ v | None ↦ application w.bytes (ins
 
 mutual
   -- with more bound, a term still has its variables bound, and the same instance
-  pub grown : (y : Spec) (s s' : Substitution) → IsPartOf s s' → BindsOnly y s' → (t : Term) → BindsVariables y s t → BindsVariables y s' t × (instance s' t ≡ instance s t)
+  pub grown : (y : Spec) (s s' : Substitution) → IsPartOf s s' → BindsOnly y s' → (t : Term) → BindsVariables y s t
+      → BindsVariables y s' t × (instance s' t ≡ instance s t)
   grown y s s' part only (Apply w ts) h = by (is_variable y w.bytes) refl h (λ k. grown_all y s s' part only ts k)
     where
-      by : (b : Bool) → is_variable y w.bytes ≡ b → MatchBool b ((v : Tree) × (value_of s w.bytes ≡ Some v)) ((value_of s w.bytes ≡ None) × BindsVariablesAll y s ts)
+      by : (b : Bool) → is_variable y w.bytes ≡ b → MatchBool b ((v : Tree) × (value_of s w.bytes ≡ Some v))
+          ((value_of s w.bytes ≡ None) × BindsVariablesAll y s ts)
           → (BindsVariablesAll y s ts → BindsVariablesAll y s' ts × (instances s' ts ≡ instances s ts))
-          → MatchBool b ((v : Tree) × (value_of s' w.bytes ≡ Some v)) ((value_of s' w.bytes ≡ None) × BindsVariablesAll y s' ts) × (instance s' (Apply w ts) ≡ instance s (Apply w ts))
+          → MatchBool b ((v : Tree) × (value_of s' w.bytes ≡ Some v)) ((value_of s' w.bytes ≡ None) × BindsVariablesAll y s' ts)
+          × (instance s' (Apply w ts) ≡ instance s (Apply w ts))
       by true e h later = ((h.0, part w.bytes h.0 h.1), ap (instance_by s' w ts) (part w.bytes h.0 h.1) ∙ sym (ap (instance_by s w ts) h.1))
       by false e h later =
           let k : BindsVariablesAll y s' ts × (instances s' ts ≡ instances s ts) = later h.1 in
           let no : value_of s' w.bytes ≡ None = unbound y s' only w.bytes e in
           ((no, k.0), ap (instance_by s' w ts) no ∙ ap (application w.bytes) k.1 ∙ sym (ap (instance_by s w ts) h.0))
 
-  pub grown_all : (y : Spec) (s s' : Substitution) → IsPartOf s s' → BindsOnly y s' → (ts : Terms) → BindsVariablesAll y s ts → BindsVariablesAll y s' ts × (instances s' ts ≡ instances s ts)
+  pub grown_all : (y : Spec) (s s' : Substitution) → IsPartOf s s' → BindsOnly y s' → (ts : Terms) → BindsVariablesAll y s ts
+      → BindsVariablesAll y s' ts × (instances s' ts ≡ instances s ts)
   grown_all y s s' part only Terms.none h = (tt, refl)
   grown_all y s s' part only (Terms.more t ts) h =
       let a = grown y s s' part only t h.0 in
@@ -97,22 +104,28 @@ pub record WalkedAll (y : Spec) (ts : Terms) (us : Trees) (s s' : Substitution) 
 abbrev pub binding_at : Spec → Substitution → Word → Terms → Bool → Type 0
 binding_at y s w ts b = MatchBool b ((v : Tree) × (value_of s w.bytes ≡ Some v)) ((value_of s w.bytes ≡ None) × BindsVariablesAll y s ts)
 
-pub walked_bound : (y : Spec) (w : Word) (ts : Terms) (u : Tree) (s s' : Substitution) → is_variable y w.bytes ≡ true → BindsOnly y s → bound s w.bytes u ≡ Some s'
+pub walked_bound : (y : Spec) (w : Word) (ts : Terms) (u : Tree) (s s' : Substitution) → is_variable y w.bytes ≡ true → BindsOnly y s
+    → bound s w.bytes u ≡ Some s'
     → IsPartOf s s' × BindsOnly y s' × (value_of s' w.bytes ≡ Some u)
 walked_bound y w ts u s s' variable only e = by (value_of s w.bytes) refl e
   where
-    by_test : (v : Tree) (b : Bool) → tree_eq v u ≡ b → value_of s w.bytes ≡ Some v → ◌≡◌ {A = Option Substitution} (elim b [ true ↦ Some s | false ↦ None ]) (Some s') → IsPartOf s s' × BindsOnly y s' × (value_of s' w.bytes ≡ Some u)
+    by_test : (v : Tree) (b : Bool) → tree_eq v u ≡ b → value_of s w.bytes ≡ Some v
+        → ◌≡◌ {A = Option Substitution} (elim b [ true ↦ Some s | false ↦ None ]) (Some s') → IsPartOf s s' × BindsOnly y s' × (value_of s' w.bytes ≡ Some u)
     by_test v true h is e =
         let same : s ≡ s' = cc e in
         subst (λ r. IsPartOf s r × BindsOnly y r × (value_of r w.bytes ≡ Some u)) same ((λ x v g. g), only, is ∙ ap Some (same_tree v u h))
     by_test v false h is e = absurd (cc e)
 
-    by : (o : Option Tree) → value_of s w.bytes ≡ o → ◌≡◌ {A = Option Substitution} (elim o [ None ↦ Some (with_one s w.bytes u) | Some v ↦ elim (tree_eq v u) [ true ↦ Some s | false ↦ None ] ]) (Some s')
+    by : (o : Option Tree) → value_of s w.bytes ≡ o → ◌≡◌ {A = Option Substitution}
+        (elim o [ None ↦ Some (with_one s w.bytes u) | Some v ↦ elim (tree_eq v u) [ true ↦ Some s | false ↦ None ] ]) (Some s')
         → IsPartOf s s' × BindsOnly y s' × (value_of s' w.bytes ≡ Some u)
     by None h e =
         let same : with_one s w.bytes u ≡ s' = cc e in
-        subst (λ r. IsPartOf s r × BindsOnly y r × (value_of r w.bytes ≡ Some u)) same
-        ((λ x v g. append_keeps s (record { name = w.bytes; value = u }) x v g), with_one_only y s w.bytes u variable only, append_finds s (record { name = w.bytes; value = u }) h)
+        subst (λ r. IsPartOf s r × BindsOnly y r × (value_of r w.bytes ≡ Some u)) same (
+          (λ x v g. append_keeps s (record { name = w.bytes; value = u }) x v g),
+          with_one_only y s w.bytes u variable only,
+          append_finds s (record { name = w.bytes; value = u }) h,
+        )
     by (Some v) h e = by_test v (tree_eq v u) refl h e
 
 -- a walk comes to a substitution, a part of a given one
@@ -130,7 +143,8 @@ bound_comes s t name u part e = by (value_of s name) refl
     by_test true h = (s, refl, part)
     by_test false h = absurd (cc h)
 
-    by : (o : Option Tree) → value_of s name ≡ o → Comes (elim o [ None ↦ Some (with_one s name u) | Some v ↦ elim (tree_eq v u) [ true ↦ Some s | false ↦ None ] ]) t
+    by : (o : Option Tree) → value_of s name ≡ o
+        → Comes (elim o [ None ↦ Some (with_one s name u) | Some v ↦ elim (tree_eq v u) [ true ↦ Some s | false ↦ None ] ]) t
     by None h = (with_one s name u, refl, with_one_part s t name u part e)
     by (Some v) h =
         let same : v ≡ u = cc (sym (part name v h) ∙ e) in
@@ -182,7 +196,8 @@ mutual
 
 mutual
   -- the parts of an instance bind all variables
-  pub reach : (y : Spec) (g : Substitution) → BindsOnly y g → (t : Term) (s s' : Substitution) → BindsOnly y s' → IsPartOf (parts_at_variables y s t (instance g t)) s' → BindsVariables y s' t
+  pub reach : (y : Spec) (g : Substitution) → BindsOnly y g → (t : Term) (s s' : Substitution) → BindsOnly y s'
+      → IsPartOf (parts_at_variables y s t (instance g t)) s' → BindsVariables y s' t
   reach y g only_g (Apply w ts) s s' only part = by (is_variable y w.bytes) refl part (λ f. reach_all y g only_g ts s s' only f)
     where
       by : (b : Bool) → is_variable y w.bytes ≡ b → IsPartOf (parts_at y s w ts (instance g (Apply w ts)) b) s'
@@ -194,7 +209,8 @@ mutual
           let is : instance g (Apply w ts) ≡ application w.bytes (instances g ts) = ap (instance_by g w ts) (unbound y g only_g w.bytes symbol) in
           (unbound y s' only w.bytes symbol, later (subst (λ u. IsPartOf (parts_at_variables_all y s ts (arguments u)) s') is part))
 
-  pub reach_all : (y : Spec) (g : Substitution) → BindsOnly y g → (ts : Terms) (s s' : Substitution) → BindsOnly y s' → IsPartOf (parts_at_variables_all y s ts (instances g ts)) s' → BindsVariablesAll y s' ts
+  pub reach_all : (y : Spec) (g : Substitution) → BindsOnly y g → (ts : Terms) (s s' : Substitution) → BindsOnly y s'
+      → IsPartOf (parts_at_variables_all y s ts (instances g ts)) s' → BindsVariablesAll y s' ts
   reach_all y g only_g Terms.none s s' only part = tt
   reach_all y g only_g (Terms.more t ts) s s' only part = (
     reach y g only_g t s s' only (λ x v f. part x v (parts_keep_all y (parts_at_variables y s t (instance g t)) ts (instances g ts) x v f)),

@@ -2,12 +2,14 @@
 use Rattle.std.proofs.Common.{refl, sym, ap, subst, ◌∙◌}
 use Rattle.std.proofs.lemmas.List.{length-map}
 use Rattle.std.proofs.lemmas.Bool.{eqb-true}
-use Rattle.std.specs.Prelude.{ℕ, ◌≡◌, ◌<◌, Bool, true, false, ◌||◌, not, cond, List, [], ◌∷◌, ◌++◌, Option, Some, None, filter, flat_map, length, nat_eq, MatchBool, bytes_eq}
+use Rattle.std.specs.Prelude.{ℕ, ◌≡◌, ◌<◌, Bool, true, false, ◌||◌, not, cond, List, [], ◌∷◌, ◌++◌}
+use Rattle.std.specs.Prelude.{Option, Some, None, filter, flat_map, length, nat_eq, MatchBool, bytes_eq}
 use Rattle.rx_term.specs.Tree.{Tree}
 use Rattle.rec_syntax.specs.Tokens.{Word}
 use Rattle.rec_syntax.specs.Syntax.{Term, Terms, Apply, Declaration, Condition, Rule, Spec, head, subterms, subterms_all}
 use Rattle.rec_sorts.specs.Lookup.{mentions, symbols, names, variable_words, declared, symbol, is_variable, count, condition_terms, rule_terms}
-use Rattle.rec_sorts.specs.SpecRules.{heads, everywhere, all_terms, missing, variables_among, is_filled, repeated_symbols, taken_variables, ill_filled, unbound, open_terms, all_rules, fault}
+use Rattle.rec_sorts.specs.SpecRules.{heads, everywhere, all_terms, missing, variables_among, is_filled, repeated_symbols}
+use Rattle.rec_sorts.specs.SpecRules.{taken_variables, ill_filled, unbound, open_terms, all_rules, fault}
 use Rattle.rec_sorts.specs.Binding.{Substitution, value_of}
 use Rattle.rec_sorts.specs.Laws.{Every, BindsVariables, BindsVariablesAll}
 use Rattle.rec_sorts.specs.Numbering.{Named, named, named_all, bytes_at}
@@ -22,7 +24,8 @@ pub filter_none : {X : Type 0} (p : X → Bool) (xs : List X) → filter p xs �
 filter_none p [] e = tt
 filter_none {X} p (x ∷ xs) e = by (p x) refl e (λ h. filter_none p xs h)
   where
-    by : (b : Bool) → p x ≡ b → cond b (x ∷ filter p xs) (filter p xs) ≡ [] → (filter p xs ≡ [] → Every (λ x. p x ≡ false) xs) → (p x ≡ false) × Every (λ x. p x ≡ false) xs
+    by : (b : Bool) → p x ≡ b → cond b (x ∷ filter p xs) (filter p xs) ≡ [] → (filter p xs ≡ [] → Every (λ x. p x ≡ false) xs)
+        → (p x ≡ false) × Every (λ x. p x ≡ false) xs
     by true h e later = absurd (cc e)
     by false h e later = (h, later e)
 
@@ -60,10 +63,13 @@ every_heads P (t ∷ ts) h = (h.0, every_heads P ts h.1)
 
 mutual
   -- what holds of each term inside a term holds of each of its names
-  pub every_named : (P : Term → Type 0) (Q : Named → Type 0) → ((w : Word) (ts : Terms) → P (Apply w ts) → Q (record { name = w.bytes; arguments = count ts })) → (t : Term) → Every P (subterms t) → Every Q (named t)
-  every_named P Q f (Apply w ts) h = every_joined Q (named_all ts) (record { name = w.bytes; arguments = count ts } ∷ []) (every_named_all P Q f ts h.1) (f w ts h.0, tt)
+  pub every_named : (P : Term → Type 0) (Q : Named → Type 0) → ((w : Word) (ts : Terms) → P (Apply w ts)
+      → Q (record { name = w.bytes; arguments = count ts })) → (t : Term) → Every P (subterms t) → Every Q (named t)
+  every_named P Q f (Apply w ts) h = every_joined Q (named_all ts) (record { name = w.bytes; arguments = count ts } ∷ [])
+      (every_named_all P Q f ts h.1) (f w ts h.0, tt)
 
-  every_named_all : (P : Term → Type 0) (Q : Named → Type 0) → ((w : Word) (ts : Terms) → P (Apply w ts) → Q (record { name = w.bytes; arguments = count ts })) → (ts : Terms) → Every P (subterms_all ts) → Every Q (named_all ts)
+  every_named_all : (P : Term → Type 0) (Q : Named → Type 0) → ((w : Word) (ts : Terms) → P (Apply w ts)
+      → Q (record { name = w.bytes; arguments = count ts })) → (ts : Terms) → Every P (subterms_all ts) → Every Q (named_all ts)
   every_named_all P Q f Terms.none h = tt
   every_named_all P Q f (Terms.more t ts) h =
       let k = every_append P (subterms t) (subterms_all ts) h in
@@ -74,18 +80,21 @@ undeclared : (ds : List Declaration) (name : List ℕ) → mentions (names ds) n
 undeclared [] name e = refl
 undeclared (d ∷ ds) name e = by (bytes_eq d.name.bytes name) e (λ h. undeclared ds name h)
   where
-    by : (b : Bool) → b || mentions (names ds) name ≡ false → (mentions (names ds) name ≡ false → declared ds name ≡ None) → ◌≡◌ {A = Option Declaration} (elim b [ true ↦ Some d | false ↦ declared ds name ]) None
+    by : (b : Bool) → b || mentions (names ds) name ≡ false → (mentions (names ds) name ≡ false → declared ds name ≡ None)
+        → ◌≡◌ {A = Option Declaration} (elim b [ true ↦ Some d | false ↦ declared ds name ]) None
     by true e later = absurd (cc e)
     by false e later = later e
 
 -- a variable's name is no symbol's
 apart : (y : Spec) → taken_variables y ≡ [] → (name : List ℕ) → is_variable y name ≡ true → mentions (names (symbols y)) name ≡ false
-apart y e name variable = not_before (names (symbols y)) (variable_words y.variables) name (repeated_none (names (symbols y)) (variable_words y.variables) e) variable
+apart y e name variable = not_before (names (symbols y)) (variable_words y.variables) name
+    (repeated_none (names (symbols y)) (variable_words y.variables) e) variable
 
 bare_at : (y : Spec) → taken_variables y ≡ [] → (w : Word) (ts : Terms) → not (is_filled y (Apply w ts)) ≡ false → is_variable y w.bytes ≡ true → count ts ≡ 0
 bare_at y taken w ts filled variable = by (symbol y w.bytes) (undeclared (symbols y) w.bytes (apart y taken w.bytes variable)) filled
   where
-    by : (o : Option Declaration) → o ≡ None → not (elim o [ Some d ↦ nat_eq (count ts) (length d.arguments) | None ↦ nat_eq (count ts) 0 ]) ≡ false → count ts ≡ 0
+    by : (o : Option Declaration) → o ≡ None → not (elim o [ Some d ↦ nat_eq (count ts) (length d.arguments) | None ↦ nat_eq (count ts) 0 ]) ≡ false
+        → count ts ≡ 0
     by (Some d) e h = absurd (cc e)
     by None e h = eqb-true (count ts) 0 (is_true (nat_eq (count ts) 0) h)
       where
@@ -114,7 +123,8 @@ pub record RuleFacts (y : Spec) (r : Rule) : Type 0 where
 -- what holds where all rules are kept
 pub record Facts (y : Spec) : Type 0 where
   pub symbols_differ : (k j : ℕ) → k < length (symbols y) → j < length (symbols y) → bytes_at (names (symbols y)) k ≡ bytes_at (names (symbols y)) j → k ≡ j
-  pub variables_differ : (k j : ℕ) → k < length (variable_words y.variables) → j < length (variable_words y.variables) → bytes_at (variable_words y.variables) k ≡ bytes_at (variable_words y.variables) j → k ≡ j
+  pub variables_differ : (k j : ℕ) → k < length (variable_words y.variables) → j < length (variable_words y.variables)
+      → bytes_at (variable_words y.variables) k ≡ bytes_at (variable_words y.variables) j → k ≡ j
   pub symbol_is_none : (k : ℕ) → k < length (symbols y) → is_variable y (bytes_at (names (symbols y)) k) ≡ false
   pub rules : Every (RuleFacts y) y.rules
   pub terms : Every (λ t. AreBare y (named t) × HasNoVariables y t) y.terms
@@ -123,14 +133,16 @@ pub variable_is_one : (y : Spec) (k : ℕ) → k < length (variable_words y.vari
 variable_is_one y k h = mentions_at (variable_words y.variables) k h
 
 -- words that are missing nowhere: each variable among them occurs
-occurring : (y : Spec) (known ws : List Word) → missing known (variables_among y ws) ≡ [] → Every (λ (w : Word). is_variable y w.bytes ≡ true → mentions known w.bytes ≡ true) ws
+occurring : (y : Spec) (known ws : List Word) → missing known (variables_among y ws) ≡ []
+    → Every (λ (w : Word). is_variable y w.bytes ≡ true → mentions known w.bytes ≡ true) ws
 occurring y known [] e = tt
 occurring y known (w ∷ ws) e = by (is_variable y w.bytes) refl e (λ h. occurring y known ws h)
   where
     known_all : missing known (w ∷ variables_among y ws) ≡ [] → (mentions known w.bytes ≡ true) × (missing known (variables_among y ws) ≡ [])
     known_all e = by_test (mentions known w.bytes) refl e
       where
-        by_test : (b : Bool) → mentions known w.bytes ≡ b → cond (not b) (w ∷ missing known (variables_among y ws)) (missing known (variables_among y ws)) ≡ [] → (mentions known w.bytes ≡ true) × (missing known (variables_among y ws) ≡ [])
+        by_test : (b : Bool) → mentions known w.bytes ≡ b → cond (not b) (w ∷ missing known (variables_among y ws))
+            (missing known (variables_among y ws)) ≡ [] → (mentions known w.bytes ≡ true) × (missing known (variables_among y ws) ≡ [])
         by_test true h e = (h, e)
         by_test false h e = absurd (cc e)
 
@@ -144,7 +156,12 @@ occurring y known (w ∷ ws) e = by (is_variable y w.bytes) refl e (λ h. occurr
 rule_facts : (y : Spec) → taken_variables y ≡ [] → (r : Rule)
     → Every (λ t. Every (λ u. not (is_filled y u) ≡ false) (subterms t)) (r.left ∷ r.right ∷ condition_terms r.conditions)
     → missing (heads (subterms r.left)) (variables_among y (heads (everywhere (r.right ∷ condition_terms r.conditions)))) ≡ [] → RuleFacts y r
-rule_facts y taken r filled bound = record { left = bare r.left filled.0; right = both r.right filled.1.0 occurs.0; conditions = of_conditions r.conditions filled.1.1 occurs.1 }
+rule_facts y taken r filled bound = record {
+  left = bare r.left filled.0;
+  right = both r.right filled.1.0 occurs.0;
+  conditions =
+      of_conditions r.conditions filled.1.1 occurs.1;
+}
   where
     bare : (t : Term) → Every (λ u. not (is_filled y u) ≡ false) (subterms t) → AreBare y (named t)
     bare t h = every_named (λ u. not (is_filled y u) ≡ false) (λ m. is_variable y m.name ≡ true → m.arguments ≡ 0) (λ w ts. bare_at y taken w ts) t h
@@ -152,26 +169,32 @@ rule_facts y taken r filled bound = record { left = bare r.left filled.0; right 
     Occurs : Term → Type 0
     Occurs t = Every (λ u. is_variable y (head u).bytes ≡ true → mentions (heads (subterms r.left)) (head u).bytes ≡ true) (subterms t)
 
-    occurs : Every (λ t. Every (λ u. is_variable y (head u).bytes ≡ true → mentions (heads (subterms r.left)) (head u).bytes ≡ true) (subterms t)) (r.right ∷ condition_terms r.conditions)
-    occurs = every_flat (λ u. is_variable y (head u).bytes ≡ true → mentions (heads (subterms r.left)) (head u).bytes ≡ true) subterms (r.right ∷ condition_terms r.conditions)
+    occurs : Every (λ t. Every (λ u. is_variable y (head u).bytes ≡ true → mentions (heads (subterms r.left)) (head u).bytes ≡ true) (subterms t))
+        (r.right ∷ condition_terms r.conditions)
+    occurs = every_flat (λ u. is_variable y (head u).bytes ≡ true → mentions (heads (subterms r.left)) (head u).bytes ≡ true) subterms
+        (r.right ∷ condition_terms r.conditions)
         (every_heads (λ n. is_variable y n ≡ true → mentions (heads (subterms r.left)) n ≡ true) (everywhere (r.right ∷ condition_terms r.conditions))
         (occurring y (heads (subterms r.left)) (heads (everywhere (r.right ∷ condition_terms r.conditions))) bound))
 
-    both : (t : Term) → Every (λ u. not (is_filled y u) ≡ false) (subterms t) → Every (λ u. is_variable y (head u).bytes ≡ true → mentions (heads (subterms r.left)) (head u).bytes ≡ true) (subterms t) → IsRead y r.left t
+    both : (t : Term) → Every (λ u. not (is_filled y u) ≡ false) (subterms t)
+        → Every (λ u. is_variable y (head u).bytes ≡ true → mentions (heads (subterms r.left)) (head u).bytes ≡ true) (subterms t) → IsRead y r.left t
     both t h k = record {
       bare = bare t h;
-      occurs = every_named (λ u. is_variable y (head u).bytes ≡ true → mentions (heads (subterms r.left)) (head u).bytes ≡ true) (λ m. is_variable y m.name ≡ true → mentions (heads (subterms r.left)) m.name ≡ true) (λ w ts h. h) t k;
+      occurs = every_named (λ u. is_variable y (head u).bytes ≡ true → mentions (heads (subterms r.left)) (head u).bytes ≡ true) (λ m.
+          is_variable y m.name ≡ true → mentions (heads (subterms r.left)) m.name ≡ true) (λ w ts h. h) t k;
     }
 
     of_conditions : (cs : List Condition) → Every (λ t. Every (λ u. not (is_filled y u) ≡ false) (subterms t)) (condition_terms cs)
-        → Every (λ t. Every (λ u. is_variable y (head u).bytes ≡ true → mentions (heads (subterms r.left)) (head u).bytes ≡ true) (subterms t)) (condition_terms cs)
+        → Every (λ t. Every (λ u. is_variable y (head u).bytes ≡ true → mentions (heads (subterms r.left)) (head u).bytes ≡ true) (subterms t))
+        (condition_terms cs)
         → Every (λ c. IsRead y r.left c.left × IsRead y r.left c.right) cs
     of_conditions [] h k = tt
     of_conditions (c ∷ cs) h k = ((both c.left h.0 k.0, both c.right h.1.0 k.1.0), of_conditions cs h.1.1 k.1.1)
 
 each_rule : (y : Spec) → taken_variables y ≡ [] → (rs : List Rule)
     → Every (λ r. Every (λ t. Every (λ u. not (is_filled y u) ≡ false) (subterms t)) (r.left ∷ r.right ∷ condition_terms r.conditions)) rs
-    → Every (λ r. missing (heads (subterms r.left)) (variables_among y (heads (everywhere (r.right ∷ condition_terms r.conditions)))) ≡ []) rs → Every (RuleFacts y) rs
+    → Every (λ r. missing (heads (subterms r.left)) (variables_among y (heads (everywhere (r.right ∷ condition_terms r.conditions)))) ≡ []) rs
+    → Every (RuleFacts y) rs
 each_rule y taken [] h k = tt
 each_rule y taken (r ∷ rs) h k = (rule_facts y taken r h.0 k.0, each_rule y taken rs h.1 k.1)
 
@@ -206,7 +229,8 @@ facts y e =
           (flat_none (λ r. missing (heads (subterms r.left)) (variables_among y (heads (everywhere (r.right ∷ condition_terms r.conditions))))) y.rules bound);
       terms = each_term y taken y.terms split.1
           (every_flat (λ u. is_variable y (head u).bytes ≡ false) subterms y.terms
-          (every_heads (λ n. is_variable y n ≡ false) (everywhere y.terms) (filter_none (λ (w : Word). is_variable y w.bytes) (heads (everywhere y.terms)) open_ones)));
+          (every_heads (λ n. is_variable y n ≡ false) (everywhere y.terms)
+          (filter_none (λ (w : Word). is_variable y w.bytes) (heads (everywhere y.terms)) open_ones)));
     }
   where
     no_variable : (k : ℕ) → k < length (names (symbols y)) → taken_variables y ≡ [] → is_variable y (bytes_at (names (symbols y)) k) ≡ false
@@ -221,22 +245,28 @@ heads_append : (ts us : List Term) → heads (ts ++ us) ≡ heads ts ++ heads us
 heads_append [] us = refl
 heads_append (t ∷ ts) us = ap (λ ws. head t ∷ ws) (heads_append ts us)
 
-mentions_append : (ws vs : List Word) (name : List ℕ) → mentions (ws ++ vs) name ≡ true → (P : Type 0) → (mentions ws name ≡ true → P) → (mentions vs name ≡ true → P) → P
+mentions_append : (ws vs : List Word) (name : List ℕ) → mentions (ws ++ vs) name ≡ true → (P : Type 0) → (mentions ws name ≡ true → P)
+    → (mentions vs name ≡ true → P) → P
 mentions_append [] vs name e P one other = other e
 mentions_append (w ∷ ws) vs name e P one other = by (bytes_eq w.bytes name) e one (λ h Q f g. mentions_append ws vs name h Q f g)
   where
-    by : (b : Bool) → b || mentions (ws ++ vs) name ≡ true → (b || mentions ws name ≡ true → P) → (mentions (ws ++ vs) name ≡ true → (Q : Type 0) → (mentions ws name ≡ true → Q) → (mentions vs name ≡ true → Q) → Q) → P
+    by : (b : Bool) → b || mentions (ws ++ vs) name ≡ true → (b || mentions ws name ≡ true → P)
+        → (mentions (ws ++ vs) name ≡ true → (Q : Type 0) → (mentions ws name ≡ true → Q) → (mentions vs name ≡ true → Q) → Q) → P
     by true e one later = one refl
     by false e one later = later e P one other
 
 mutual
   -- a variable that occurs in a left side is bound
-  pub occurring_bound : (y : Spec) (s : Substitution) (l : Term) → AreBare y (named l) → BindsVariables y s l → (name : List ℕ) → is_variable y name ≡ true → mentions (heads (subterms l)) name ≡ true → (v : Tree) × (value_of s name ≡ Some v)
+  pub occurring_bound : (y : Spec) (s : Substitution) (l : Term) → AreBare y (named l) → BindsVariables y s l → (name : List ℕ)
+      → is_variable y name ≡ true → mentions (heads (subterms l)) name ≡ true → (v : Tree) × (value_of s name ≡ Some v)
   occurring_bound y s (Apply w ts) bare binding name variable e =
-      let split = every_append (λ (m : Named). is_variable y m.name ≡ true → m.arguments ≡ 0) (named_all ts) (record { name = w.bytes; arguments = count ts } ∷ []) bare in
+      let split = every_append (λ (m : Named). is_variable y m.name ≡ true → m.arguments ≡ 0) (named_all ts)
+      (record { name = w.bytes; arguments = count ts } ∷ []) bare in
       by_name (bytes_eq w.bytes name) refl e (λ b f. occurring_bound_all y s ts split.0 b name variable f) split.1.0
     where
-      at_variable : (b : Bool) → is_variable y w.bytes ≡ b → b ≡ true → MatchBool b ((v : Tree) × (value_of s w.bytes ≡ Some v)) ((value_of s w.bytes ≡ None) × BindsVariablesAll y s ts) → (v : Tree) × (value_of s w.bytes ≡ Some v)
+      at_variable : (b : Bool) → is_variable y w.bytes ≡ b → b ≡ true
+          → MatchBool b ((v : Tree) × (value_of s w.bytes ≡ Some v)) ((value_of s w.bytes ≡ None) × BindsVariablesAll y s ts)
+          → (v : Tree) × (value_of s w.bytes ≡ Some v)
       at_variable true h e binding = binding
       at_variable false h e binding = absurd (cc e)
 
@@ -244,22 +274,27 @@ mutual
       no_more Terms.none h e = cc e
       no_more (Terms.more t zs) h e = cc h
 
-      at_symbol : (b : Bool) → is_variable y w.bytes ≡ b → MatchBool b ((v : Tree) × (value_of s w.bytes ≡ Some v)) ((value_of s w.bytes ≡ None) × BindsVariablesAll y s ts)
-          → (is_variable y w.bytes ≡ true → count ts ≡ 0) → (BindsVariablesAll y s ts → mentions (heads (subterms_all ts)) name ≡ true → (v : Tree) × (value_of s name ≡ Some v)) → mentions (heads (subterms_all ts)) name ≡ true → (v : Tree) × (value_of s name ≡ Some v)
+      at_symbol : (b : Bool) → is_variable y w.bytes ≡ b → MatchBool b ((v : Tree) × (value_of s w.bytes ≡ Some v))
+          ((value_of s w.bytes ≡ None) × BindsVariablesAll y s ts)
+          → (is_variable y w.bytes ≡ true → count ts ≡ 0) → (BindsVariablesAll y s ts → mentions (heads (subterms_all ts)) name ≡ true
+          → (v : Tree) × (value_of s name ≡ Some v)) → mentions (heads (subterms_all ts)) name ≡ true → (v : Tree) × (value_of s name ≡ Some v)
       at_symbol true h binding none_of later e = absurd (no_more ts (none_of h) e)
       at_symbol false h binding none_of later e = later binding.1 e
 
-      by_name : (b : Bool) → bytes_eq w.bytes name ≡ b → b || mentions (heads (subterms_all ts)) name ≡ true → (BindsVariablesAll y s ts → mentions (heads (subterms_all ts)) name ≡ true → (v : Tree) × (value_of s name ≡ Some v))
+      by_name : (b : Bool) → bytes_eq w.bytes name ≡ b → b || mentions (heads (subterms_all ts)) name ≡ true
+          → (BindsVariablesAll y s ts → mentions (heads (subterms_all ts)) name ≡ true → (v : Tree) × (value_of s name ≡ Some v))
           → (is_variable y w.bytes ≡ true → count ts ≡ 0) → (v : Tree) × (value_of s name ≡ Some v)
       by_name true h e later none_of =
           let same : w.bytes ≡ name = bytes_eq-eq w.bytes name h in
           subst (λ n. (v : Tree) × (value_of s n ≡ Some v)) same (at_variable (is_variable y w.bytes) refl (ap (is_variable y) same ∙ variable) binding)
       by_name false h e later none_of = at_symbol (is_variable y w.bytes) refl binding none_of later e
 
-  pub occurring_bound_all : (y : Spec) (s : Substitution) (ts : Terms) → AreBare y (named_all ts) → BindsVariablesAll y s ts → (name : List ℕ) → is_variable y name ≡ true → mentions (heads (subterms_all ts)) name ≡ true → (v : Tree) × (value_of s name ≡ Some v)
+  pub occurring_bound_all : (y : Spec) (s : Substitution) (ts : Terms) → AreBare y (named_all ts) → BindsVariablesAll y s ts → (name : List ℕ)
+      → is_variable y name ≡ true → mentions (heads (subterms_all ts)) name ≡ true → (v : Tree) × (value_of s name ≡ Some v)
   occurring_bound_all y s Terms.none bare binding name variable e = absurd (cc e)
   occurring_bound_all y s (Terms.more t ts) bare binding name variable e =
       let split = every_append (λ (m : Named). is_variable y m.name ≡ true → m.arguments ≡ 0) (named t) (named_all ts) bare in
-      mentions_append (heads (subterms t)) (heads (subterms_all ts)) name (ap (λ ws. mentions ws name) (sym (heads_append (subterms t) (subterms_all ts))) ∙ e) ((v : Tree) × (value_of s name ≡ Some v))
+      mentions_append (heads (subterms t)) (heads (subterms_all ts)) name
+      (ap (λ ws. mentions ws name) (sym (heads_append (subterms t) (subterms_all ts))) ∙ e) ((v : Tree) × (value_of s name ≡ Some v))
       (λ f. occurring_bound y s t split.0 binding.0 name variable f)
       (λ f. occurring_bound_all y s ts split.1 binding.1 name variable f)

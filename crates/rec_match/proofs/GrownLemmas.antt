@@ -42,7 +42,8 @@ pub record HaveTrees (y : Spec) (ns : List ℕ) (ps : Parts) (f : Forest) (roots
   pub stand : (k : ℕ) → k < n → StandFor f states (arity_of y k) (get_or roots k []) (whole_rows y k)
 
 -- one node, to which nothing leads
-pub trees_none : (y : Spec) (ns : List ℕ) (ps : Parts) (f : Forest) (roots : List (List ℕ)) → f.nodes.items ≡ Fail ∷ [] → roots ≡ [] → HaveTrees y ns ps f roots 0
+pub trees_none : (y : Spec) (ns : List ℕ) (ps : Parts) (f : Forest) (roots : List (List ℕ)) → f.nodes.items ≡ Fail ∷ [] → roots ≡ []
+    → HaveTrees y ns ps f roots 0
 trees_none y ns ps f roots e none = record {
   states = λ n. record { width = 0; rows = [] };
   growing = record { tasks = tt; nodes = λ n lt. inr (by n (get_or f.nodes.items n Fail) (ap (λ xs. get_or xs n Fail) e ∙ fail n)) };
@@ -59,7 +60,8 @@ trees_none y ns ps f roots e none = record {
     by n node q = subst (Grows y ns f (λ n. record { width = 0; rows = [] }) n) (sym q) refl
 
 -- one symbol more
-pub trees_more : (y : Spec) (ns : List ℕ) (ps : Parts) (f g : Forest) (roots roots' : List (List ℕ)) (n : ℕ) (own : List ℕ) → (h : HaveTrees y ns ps f roots n) → TreesGoOn y ns ps f h.states (arity_of y n) (whole_rows y n) g own → roots' ≡ roots ++ own ∷ []
+pub trees_more : (y : Spec) (ns : List ℕ) (ps : Parts) (f g : Forest) (roots roots' : List (List ℕ)) (n : ℕ) (own : List ℕ)
+    → (h : HaveTrees y ns ps f roots n) → TreesGoOn y ns ps f h.states (arity_of y n) (whole_rows y n) g own → roots' ≡ roots ++ own ∷ []
     → HaveTrees y ns ps g roots' (n + 1)
 trees_more y ns ps f g roots roots' n own h t e = record {
   states = t.goes.states;
@@ -72,7 +74,8 @@ trees_more y ns ps f g roots roots' n own h t e = record {
     by : (k : ℕ) → k < n + 1 → (k ≡ n) ⊎ (k ≢ n) → StandFor g t.goes.states (arity_of y k) (get_or roots' k []) (whole_rows y k)
     by k lt (inl is) =
         let at : get_or roots' k [] ≡ own = ap (λ xs. get_or xs k []) e ∙ get-last roots own k [] (is ∙ sym h.counted) in
-        subst (λ rs. StandFor g t.goes.states (arity_of y k) rs (whole_rows y k)) (sym at) (subst (λ j. StandFor g t.goes.states (arity_of y j) own (whole_rows y j)) (sym is) t.stand)
+        subst (λ rs. StandFor g t.goes.states (arity_of y k) rs (whole_rows y k)) (sym at)
+        (subst (λ j. StandFor g t.goes.states (arity_of y j) own (whole_rows y j)) (sym is) t.stand)
     by k lt (inr ne) =
         let below : k < n = omega (arith, lt, ne) in
         let c = h.counted in
@@ -87,15 +90,20 @@ every_from P d (x ∷ xs) h = (h 0 (omega arith), every_from P d xs (λ i lt. h 
 
 headed : (y : Spec) → fault y ≡ None → (hs : List ℕ) → AreHeads y hs → Every (IsHeaded y) y.rules
 headed y kept hs heads =
-    every_from (IsHeaded y) no_rule y.rules (λ i lt. (let h = heads.each i no_rule lt in ap (is_variable y) h.head ∙ (facts y kept).symbol_is_none (get_or hs i 0) h.declared))
+    every_from (IsHeaded y) no_rule y.rules (λ i lt. (let h = heads.each i no_rule lt in
+    ap (is_variable y) h.head ∙ (facts y kept).symbol_is_none (get_or hs i 0) h.declared))
 
 -- all symbols have trees
-pub trees_done : (y : Spec) → fault y ≡ None → (ns : List ℕ) (ps : Parts) (f g : Forest) (roots : List (List ℕ)) (hs : List ℕ) (n : ℕ) → AreHeads y hs → HaveTrees y ns ps f roots n → n ≡ length (symbols y)
-    → g.nodes.items ≡ f.nodes.items → g.places.items ≡ f.places.items → g.children.items ≡ f.children.items → map (λ v. v.items) g.roots.items ≡ roots → IsForest y ns g
+pub trees_done : (y : Spec) → fault y ≡ None → (ns : List ℕ) (ps : Parts) (f g : Forest) (roots : List (List ℕ)) (hs : List ℕ) (n : ℕ) → AreHeads y hs
+    → HaveTrees y ns ps f roots n → n ≡ length (symbols y)
+    → g.nodes.items ≡ f.nodes.items → g.places.items ≡ f.places.items → g.children.items ≡ f.children.items → map (λ v. v.items) g.roots.items ≡ roots
+    → IsForest y ns g
 trees_done y kept ns ps f g roots hs n heads h e nodes places children is = grown_forest y ns g (record {
   headed = headed y kept hs heads;
   states = h.states;
-  nodes = λ m lt. (let l = ap length nodes in let below : m < length f.nodes.items = omega (arith, lt, l) in subst (Grows y ns g h.states m) (sym (ap (λ xs. get_or xs m Fail) nodes)) (grows_later y ns f g h.states h.states same m (get_or f.nodes.items m Fail) below (grown m (h.growing.nodes m below))));
+  nodes = λ m lt. (let l = ap length nodes in let below : m < length f.nodes.items = omega (arith, lt, l) in
+      subst (Grows y ns g h.states m) (sym (ap (λ xs. get_or xs m Fail) nodes))
+      (grows_later y ns f g h.states h.states same m (get_or f.nodes.items m Fail) below (grown m (h.growing.nodes m below))));
   counted = sym (length-map g.roots.items (λ v. v.items)) ∙ ap length is ∙ h.counted ∙ e;
   roots = λ k lt. subst (λ xs. StandFor g h.states (arity_of y k) (get_or xs k []) (whole_rows y k)) (sym is)
       (stand_later y ns f g h.states h.states same (arity_of y k) (get_or roots k []) (whole_rows y k) (h.stand k (omega (arith, lt, e))));
@@ -118,4 +126,5 @@ number_of (s ∷ ss) (suc i) = number_of ss i
 
 -- symbols that differ have numbers that do
 pub numbers_apart : (y : Spec) (ss : List bank.Symbol) → AllDiffer ss → length ss ≡ length (symbols y) → AreApart y (numbers_of ss)
-numbers_apart y ss differ e i j lti ltj same = differ i j no_symbol (omega (arith, lti, e)) (omega (arith, ltj, e)) (ap (λ (n : ℕ). (let s : bank.Symbol = record { 0 = n } in s)) (sym (number_of ss i) ∙ same ∙ number_of ss j))
+numbers_apart y ss differ e i j lti ltj same = differ i j no_symbol (omega (arith, lti, e)) (omega (arith, ltj, e))
+    (ap (λ (n : ℕ). (let s : bank.Symbol = record { 0 = n } in s)) (sym (number_of ss i) ∙ same ∙ number_of ss j))

@@ -28,7 +28,8 @@ every-at P [] h i d lt = absurd (let none : ⊥ = omega (arith, lt) in none)
 every-at P (x ∷ xs) h zero d lt = h.0
 every-at P (x ∷ xs) h (suc i) d lt = every-at P xs h.1 i d (omega (arith, lt))
 
-pub pair-at : {A B : Type 0} (P : A → B → Type 0) (xs : List A) (ys : List B) → Pairwise P xs ys → (i : ℕ) (d : A) (e : B) → i < length ys → P (get_or xs i d) (get_or ys i e)
+pub pair-at : {A B : Type 0} (P : A → B → Type 0) (xs : List A) (ys : List B) → Pairwise P xs ys → (i : ℕ) (d : A) (e : B) → i < length ys
+    → P (get_or xs i d) (get_or ys i e)
 pair-at P [] [] h i d e lt = absurd (let none : ⊥ = omega (arith, lt) in none)
 pair-at P [] (y ∷ ys) h i d e lt = absurd h
 pair-at P (x ∷ xs) [] h i d e lt = absurd h
@@ -43,10 +44,12 @@ pair-long P (x ∷ xs) (y ∷ ys) h = ap suc (pair-long P xs ys h.1)
 
 pub all-reverse : {A : Type 0} (P : A → Type 0) (xs : List A) → All P xs → All P (reverse xs)
 all-reverse P [] h = All-nil P
-all-reverse P (x ∷ xs) h = subst (All P) (sym (reverse-append (x ∷ []) xs)) (All-push P (reverse xs) x (all-reverse P xs (All-tail P x xs h)) (All-head P x xs h))
+all-reverse P (x ∷ xs) h = subst (All P) (sym (reverse-append (x ∷ []) xs))
+    (All-push P (reverse xs) x (all-reverse P xs (All-tail P x xs h)) (All-head P x xs h))
 
 -- the declaration at a number is the first of its name, where no other has it
-declared-nth : (ds : List Declaration) (k : ℕ) (d : Declaration) → k < length ds → ((j : ℕ) → j < k → bytes_at (names ds) j ≡ bytes_at (names ds) k → ⊥) → declared ds (bytes_at (names ds) k) ≡ Some (get_or ds k d)
+declared-nth : (ds : List Declaration) (k : ℕ) (d : Declaration) → k < length ds
+    → ((j : ℕ) → j < k → bytes_at (names ds) j ≡ bytes_at (names ds) k → ⊥) → declared ds (bytes_at (names ds) k) ≡ Some (get_or ds k d)
 declared-nth [] k d lt apart = absurd (let none : ⊥ = omega (arith, lt) in none)
 declared-nth (e ∷ ds) zero d lt apart = ap at (bytes_eq-refl e.name.bytes)
   where
@@ -64,10 +67,12 @@ declared-nth (e ∷ ds) (suc k) d lt apart =
 abbrev pub IsFilledName : Spec → Named → Type 0
 IsFilledName y m = (k : ℕ) → k < length (symbols y) → m.name ≡ name_of y (Symbol k) → arity_of y k ≡ m.arguments
 
-pub filled-name : (y : Spec) → fault y ≡ None → (w : Word) (ts : Terms) → is_filled y (Apply w ts) ≡ true → IsFilledName y (record { name = w.bytes; arguments = count ts })
+pub filled-name : (y : Spec) → fault y ≡ None → (w : Word) (ts : Terms) → is_filled y (Apply w ts) ≡ true
+    → IsFilledName y (record { name = w.bytes; arguments = count ts })
 filled-name y kept w ts filled k lt e =
     let d : Declaration = get_or (symbols y) k none_declared in
-    let is : symbol y w.bytes ≡ Some d = ap (symbol y) e ∙ declared-nth (symbols y) k none_declared lt (λ j l q. (let same = (facts y kept).symbols_differ j k (omega (arith, l, lt)) lt q in omega (arith, same, l))) in
+    let is : symbol y w.bytes ≡ Some d = ap (symbol y) e ∙ declared-nth (symbols y) k none_declared lt (λ j l q.
+    (let same = (facts y kept).symbols_differ j k (omega (arith, l, lt)) lt q in omega (arith, same, l))) in
     let same : nat_eq (count ts) (length d.arguments) ≡ true = sym (ap at is) ∙ filled in
     get_or-map (λ (d : Declaration). length d.arguments) (symbols y) k none_declared 0 lt ∙ sym (eqb-true (count ts) (length d.arguments) same)
   where
@@ -87,14 +92,22 @@ pub filled-rule : (y : Spec) → fault y ≡ None → (i : ℕ) (r : Rule) → i
 filled-rule y kept i r lt =
     let each = every_flat (λ t. is_filled y t ≡ true) subterms (rule_terms y.rules ++ y.terms) (all_filled y kept) in
     let split = every_append (λ t. Every (λ u. is_filled y u ≡ true) (subterms t)) (rule_terms y.rules) y.terms each in
-    let rules = every_flat (λ t. Every (λ u. is_filled y u ≡ true) (subterms t)) (λ (r : Rule). r.left ∷ r.right ∷ condition_terms r.conditions) y.rules split.0 in
-    let own = every-at (λ (r : Rule). Every (λ t. Every (λ u. is_filled y u ≡ true) (subterms t)) (r.left ∷ r.right ∷ condition_terms r.conditions)) y.rules rules i r lt in
-    record { left = term (get_or y.rules i r).left own.0; right = term (get_or y.rules i r).right own.1.0; conditions = of_conditions (get_or y.rules i r).conditions own.1.1 }
+    let rules = every_flat (λ t. Every (λ u. is_filled y u ≡ true) (subterms t)) (λ (r : Rule). r.left ∷ r.right ∷ condition_terms r.conditions)
+    y.rules split.0 in
+    let own = every-at (λ (r : Rule). Every (λ t. Every (λ u. is_filled y u ≡ true) (subterms t)) (r.left ∷ r.right ∷ condition_terms r.conditions))
+    y.rules rules i r lt in
+    record {
+      left = term (get_or y.rules i r).left own.0;
+      right = term (get_or y.rules i r).right own.1.0;
+      conditions =
+          of_conditions (get_or y.rules i r).conditions own.1.1;
+    }
   where
     term : (t : Term) → Every (λ u. is_filled y u ≡ true) (subterms t) → Every (IsFilledName y) (named t)
     term t h = every_named (λ u. is_filled y u ≡ true) (IsFilledName y) (filled-name y kept) t h
 
-    of_conditions : (cs : List Condition) → Every (λ t. Every (λ u. is_filled y u ≡ true) (subterms t)) (condition_terms cs) → Every (λ c. Every (IsFilledName y) (named c.left) × Every (IsFilledName y) (named c.right)) cs
+    of_conditions : (cs : List Condition) → Every (λ t. Every (λ u. is_filled y u ≡ true) (subterms t)) (condition_terms cs)
+        → Every (λ c. Every (IsFilledName y) (named c.left) × Every (IsFilledName y) (named c.right)) cs
     of_conditions [] h = tt
     of_conditions (c ∷ cs) h = ((term c.left h.0, term c.right h.1.0), of_conditions cs h.1.1)
 
@@ -107,11 +120,13 @@ letters-filled y (l ∷ ls) meant h =
     (letters-filled y ls (All-tail (λ (l : Letter). IsMeaning y l.meaning) l ls meant) h.1)
 
 -- variables have no arguments
-pub letters-bare : (y : Spec) (ls : List Letter) → All (λ l. IsMeaning y l.meaning) ls → AreBare y (map (named_by y) ls) → All (λ (l : Letter). (v : ℕ) → l.meaning ≡ Variable v → l.count ≡ 0) ls
+pub letters-bare : (y : Spec) (ls : List Letter) → All (λ l. IsMeaning y l.meaning) ls → AreBare y (map (named_by y) ls)
+    → All (λ (l : Letter). (v : ℕ) → l.meaning ≡ Variable v → l.count ≡ 0) ls
 letters-bare y [] meant h = All-nil (λ (l : Letter). (v : ℕ) → l.meaning ≡ Variable v → l.count ≡ 0)
 letters-bare y (l ∷ ls) meant h =
     All-cons (λ (l : Letter). (v : ℕ) → l.meaning ≡ Variable v → l.count ≡ 0) l ls
-    (λ v e. h.0 (ap (λ m. is_variable y (name_of y m)) e ∙ variable_is_one y v (subst (IsMeaning y) e (All-head (λ (l : Letter). IsMeaning y l.meaning) l ls meant))))
+    (λ v e. h.0 (ap (λ m. is_variable y (name_of y m)) e ∙ variable_is_one y v
+    (subst (IsMeaning y) e (All-head (λ (l : Letter). IsMeaning y l.meaning) l ls meant))))
     (letters-bare y ls (All-tail (λ (l : Letter). IsMeaning y l.meaning) l ls meant) h.1)
 
 take-front : {A : Type 0} (xs ys : List A) (n : ℕ) → n ≡ length xs → take n (xs ++ ys) ≡ xs
@@ -134,45 +149,61 @@ parted y ls (Apply w ts) h =
     record {
       some = omega (arith, long);
       front = sym (take-map (named_by y) (length ls - 1) ls) ∙ ap (take (length ls - 1)) h.1 ∙ take-front (named_all ts) (m ∷ []) (length ls - 1) at;
-      last = λ d. sym (get_or-map (named_by y) ls (length ls - 1) d (named_by y d) (omega (arith, long))) ∙ ap (λ xs. get_or xs (length ls - 1) (named_by y d)) h.1 ∙ get-last (named_all ts) m (length ls - 1) (named_by y d) at;
+      last = λ d. sym (get_or-map (named_by y) ls (length ls - 1) d (named_by y d) (omega (arith, long)))
+          ∙ ap (λ xs. get_or xs (length ls - 1) (named_by y d)) h.1 ∙ get-last (named_all ts) m (length ls - 1) (named_by y d) at;
     }
 
 -- the letters of a rule's left side
-pub left-letters : (y : Spec) (rules : List LetterRule) (i : ℕ) (x : LetterRule) (r : Rule) → Pairwise (IsLetterRule y) rules y.rules → i < length rules → AreLetters y (get_or rules i x).left.items (get_or y.rules i r).left
-left-letters y rules i x r are lt = (pair-at (IsLetterRule y) rules y.rules are i x r (let l = pair-long (IsLetterRule y) rules y.rules are in omega (arith, lt, l))).0
+pub left-letters : (y : Spec) (rules : List LetterRule) (i : ℕ) (x : LetterRule) (r : Rule) → Pairwise (IsLetterRule y) rules y.rules
+    → i < length rules → AreLetters y (get_or rules i x).left.items (get_or y.rules i r).left
+left-letters y rules i x r are lt =
+    (pair-at (IsLetterRule y) rules y.rules are i x r (let l = pair-long (IsLetterRule y) rules y.rules are in omega (arith, lt, l))).0
 
-pub left-some : (y : Spec) (rules : List LetterRule) (i : ℕ) (x : LetterRule) → Pairwise (IsLetterRule y) rules y.rules → i < length rules → 0 < length (get_or rules i x).left.items
+pub left-some : (y : Spec) (rules : List LetterRule) (i : ℕ) (x : LetterRule) → Pairwise (IsLetterRule y) rules y.rules → i < length rules
+    → 0 < length (get_or rules i x).left.items
 left-some y rules i x are lt = (parted y (get_or rules i x).left.items (get_or y.rules i (no_rule)).left (left-letters y rules i x no_rule are lt)).some
   where
     no_rule : Rule
     no_rule = record { left = Apply (record { at = 0; bytes = [] }) X.none; right = Apply (record { at = 0; bytes = [] }) X.none; conditions = [] }
 
 -- its head is a symbol
-pub head-symbol : (y : Spec) (rules : List LetterRule) (i n k : ℕ) (x : LetterRule) (l : Letter) (r : Rule) → Pairwise (IsLetterRule y) rules y.rules → i < length rules → n ≡ length (get_or rules i x).left.items - 1 → l ≡ get_or (get_or rules i x).left.items n l → l.meaning ≡ Symbol k → IsHead y (get_or y.rules i r) k
+pub head-symbol : (y : Spec) (rules : List LetterRule) (i n k : ℕ) (x : LetterRule) (l : Letter) (r : Rule) → Pairwise (IsLetterRule y) rules y.rules
+    → i < length rules → n ≡ length (get_or rules i x).left.items - 1 → l ≡ get_or (get_or rules i x).left.items n l → l.meaning ≡ Symbol k
+    → IsHead y (get_or y.rules i r) k
 head-symbol y rules i n k x l r are lt en el is =
     let letters = left-letters y rules i x r are lt in
     let p = parted y (get_or rules i x).left.items (get_or y.rules i r).left letters in
     let some = p.some in
-    let same : l ≡ get_or (get_or rules i x).left.items (length (get_or rules i x).left.items - 1) l = el ∙ ap (λ j. get_or (get_or rules i x).left.items j l) en in
+    let same : l ≡ get_or (get_or rules i x).left.items (length (get_or rules i x).left.items - 1) l =
+    el ∙ ap (λ j. get_or (get_or rules i x).left.items j l) en in
     record {
-      declared = subst (IsMeaning y) (ap (λ (z : Letter). z.meaning) (sym same) ∙ is) (letters.0 (length (get_or rules i x).left.items - 1) l (omega (arith, some)));
+      declared = subst (IsMeaning y) (ap (λ (z : Letter). z.meaning) (sym same) ∙ is)
+          (letters.0 (length (get_or rules i x).left.items - 1) l (omega (arith, some)));
       head = sym (ap (λ (m : Named). m.name) (p.last l)) ∙ ap (λ (z : Letter). name_of y z.meaning) (sym same) ∙ ap (name_of y) is;
     }
 
-pub head-no_variable : (y : Spec) → fault y ≡ None → (rules : List LetterRule) (i n v : ℕ) (x : LetterRule) (l : Letter) (r : Rule) → Pairwise (IsLetterRule y) rules y.rules → i < length rules → n ≡ length (get_or rules i x).left.items - 1 → l ≡ get_or (get_or rules i x).left.items n l → l.meaning ≡ Variable v → ⊥
+pub head-no_variable : (y : Spec) → fault y ≡ None → (rules : List LetterRule) (i n v : ℕ) (x : LetterRule) (l : Letter) (r : Rule)
+    → Pairwise (IsLetterRule y) rules y.rules → i < length rules → n ≡ length (get_or rules i x).left.items - 1
+    → l ≡ get_or (get_or rules i x).left.items n l → l.meaning ≡ Variable v → ⊥
 head-no_variable y kept rules i n v x l r are lt en el is =
     let letters = left-letters y rules i x r are lt in
     let p = parted y (get_or rules i x).left.items (get_or y.rules i r).left letters in
     let some = p.some in
     let long = pair-long (IsLetterRule y) rules y.rules are in
-    let same : l ≡ get_or (get_or rules i x).left.items (length (get_or rules i x).left.items - 1) l = el ∙ ap (λ j. get_or (get_or rules i x).left.items j l) en in
-    let within = subst (IsMeaning y) (ap (λ (z : Letter). z.meaning) (sym same) ∙ is) (letters.0 (length (get_or rules i x).left.items - 1) l (omega (arith, some))) in
-    let name : (X.head (get_or y.rules i r).left).bytes ≡ name_of y (Variable v) = sym (ap (λ (m : Named). m.name) (p.last l)) ∙ ap (λ (z : Letter). name_of y z.meaning) (sym same) ∙ ap (name_of y) is in
-    cc (sym (every-at (λ (r : Rule). is_variable y (X.head r.left).bytes ≡ false) y.rules (left_sides_apply y kept) i r (omega (arith, lt, long))) ∙ ap (is_variable y) name ∙ variable_is_one y v within)
+    let same : l ≡ get_or (get_or rules i x).left.items (length (get_or rules i x).left.items - 1) l =
+    el ∙ ap (λ j. get_or (get_or rules i x).left.items j l) en in
+    let within = subst (IsMeaning y) (ap (λ (z : Letter). z.meaning) (sym same) ∙ is)
+    (letters.0 (length (get_or rules i x).left.items - 1) l (omega (arith, some))) in
+    let name : (X.head (get_or y.rules i r).left).bytes ≡ name_of y (Variable v) =
+    sym (ap (λ (m : Named). m.name) (p.last l)) ∙ ap (λ (z : Letter). name_of y z.meaning) (sym same) ∙ ap (name_of y) is in
+    cc (sym (every-at (λ (r : Rule). is_variable y (X.head r.left).bytes ≡ false) y.rules (left_sides_apply y kept) i r (omega (arith, lt, long)))
+    ∙ ap (is_variable y) name ∙ variable_is_one y v within)
 
 -- what is kept of a rule's left side
-pub is-left : (y : Spec) → fault y ≡ None → (rules : List LetterRule) (i n : ℕ) (x : LetterRule) (l : Letter) (r : Rule) (s : LeftSide) → Pairwise (IsLetterRule y) rules y.rules → i < length rules → n ≡ length (get_or rules i x).left.items - 1
-    → l ≡ get_or (get_or rules i x).left.items n l → IsHead y (get_or y.rules i r) s.symbol → s.count ≡ l.count → s.variables.items ≡ numbers_in [] (take n (get_or rules i x).left.items) → IsLeftSide y (get_or y.rules i r) s
+pub is-left : (y : Spec) → fault y ≡ None → (rules : List LetterRule) (i n : ℕ) (x : LetterRule) (l : Letter) (r : Rule) (s : LeftSide)
+    → Pairwise (IsLetterRule y) rules y.rules → i < length rules → n ≡ length (get_or rules i x).left.items - 1
+    → l ≡ get_or (get_or rules i x).left.items n l → IsHead y (get_or y.rules i r) s.symbol → s.count ≡ l.count
+    → s.variables.items ≡ numbers_in [] (take n (get_or rules i x).left.items) → IsLeftSide y (get_or y.rules i r) s
 is-left y kept rules i n x l r s are lt en el head ec variables =
     let letters = left-letters y rules i x r are lt in
     let t = (get_or y.rules i r).left in
@@ -192,11 +223,13 @@ is-left y kept rules i n x l r s are lt en el head ec variables =
       letters = take n ls;
       meant = all-reverse (λ (l : Letter). IsMeaning y l.meaning) (take n ls) meant;
       named = front;
-      filled_letters = all-reverse (λ (l : Letter). (k : ℕ) → l.meaning ≡ Symbol k → arity_of y k ≡ l.count) (take n ls) (letters-filled y (take n ls) meant (subst (λ ms. Every (IsFilledName y) ms) (sym front) halves.0));
+      filled_letters = all-reverse (λ (l : Letter). (k : ℕ) → l.meaning ≡ Symbol k → arity_of y k ≡ l.count) (take n ls)
+          (letters-filled y (take n ls) meant (subst (λ ms. Every (IsFilledName y) ms) (sym front) halves.0));
       variables = variables;
     }
   where
-    names-split : (t : Term) → Every (IsFilledName y) (named t) → Every (IsFilledName y) (named_all (X.arguments t)) × IsFilledName y (record { name = (X.head t).bytes; arguments = count (X.arguments t) })
+    names-split : (t : Term) → Every (IsFilledName y) (named t) → Every (IsFilledName y) (named_all (X.arguments t))
+        × IsFilledName y (record { name = (X.head t).bytes; arguments = count (X.arguments t) })
     names-split (Apply w ts) h = let k = every_append (IsFilledName y) (named_all ts) (record { name = w.bytes; arguments = count ts } ∷ []) h in (k.0, k.1.0)
 
 -- the variables of letters are those of a specification

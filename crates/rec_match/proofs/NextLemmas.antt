@@ -24,7 +24,8 @@ found-after : (y : Spec) (rs : List Rule) (n : ℕ) (u : Tree) (m : NumberedMatc
 found-after y [] n u m e = absurd (cc e)
 found-after y (r ∷ rs) n u m e = by (binds y r.left u) e (λ f. found-after y rs (suc n) u m f)
   where
-    by : (o : Option Substitution) → ◌≡◌ {A = Option NumberedMatch} (elim o [ Some s ↦ Some (record { number = n; values = s }) | None ↦ first_match y (suc n) rs u ]) (Some m)
+    by : (o : Option Substitution) → ◌≡◌ {A = Option NumberedMatch}
+        (elim o [ Some s ↦ Some (record { number = n; values = s }) | None ↦ first_match y (suc n) rs u ]) (Some m)
         → (first_match y (suc n) rs u ≡ Some m → suc n ≤ m.number) → n ≤ m.number
     by (Some s) e later = let q : n ≡ m.number = ap number_or e in omega (arith, q)
       where
@@ -43,15 +44,18 @@ pub nothing : (y : Spec) (j : ℕ) (u : Tree) → length y.rules ≤ j → first
 nothing y j u le = ap (λ rs. first_match y j rs u) (drop_of_length-le y.rules le)
 
 -- the rules from one number on find what those from a later one on find, or a rule before it
-found-before : (y : Spec) (n k : ℕ) (u : Tree) → (first_match y n (drop n y.rules) u ≡ first_match y (n + k) (drop (n + k) y.rules) u) ⊎ ((m : NumberedMatch) × (first_match y n (drop n y.rules) u ≡ Some m) × (m.number < n + k))
+found-before : (y : Spec) (n k : ℕ) (u : Tree) → (first_match y n (drop n y.rules) u ≡ first_match y (n + k) (drop (n + k) y.rules) u)
+    ⊎ ((m : NumberedMatch) × (first_match y n (drop n y.rules) u ≡ Some m) × (m.number < n + k))
 found-before y n zero u = inl (ap (λ j. first_match y j (drop j y.rules) u) (let q : n ≡ n + 0 = omega arith in q))
 found-before y n (suc k) u = by_length (which (length y.rules) n) (found-before y (suc n) k u)
   where
     Goal : Type 0
-    Goal = (first_match y n (drop n y.rules) u ≡ first_match y (n + suc k) (drop (n + suc k) y.rules) u) ⊎ ((m : NumberedMatch) × (first_match y n (drop n y.rules) u ≡ Some m) × (m.number < n + suc k))
+    Goal = (first_match y n (drop n y.rules) u ≡ first_match y (n + suc k) (drop (n + suc k) y.rules) u)
+        ⊎ ((m : NumberedMatch) × (first_match y n (drop n y.rules) u ≡ Some m) × (m.number < n + suc k))
 
     Later : Type 0
-    Later = (first_match y (suc n) (drop (suc n) y.rules) u ≡ first_match y (suc n + k) (drop (suc n + k) y.rules) u) ⊎ ((m : NumberedMatch) × (first_match y (suc n) (drop (suc n) y.rules) u ≡ Some m) × (m.number < suc n + k))
+    Later = (first_match y (suc n) (drop (suc n) y.rules) u ≡ first_match y (suc n + k) (drop (suc n + k) y.rules) u)
+        ⊎ ((m : NumberedMatch) × (first_match y (suc n) (drop (suc n) y.rules) u ≡ Some m) × (m.number < suc n + k))
 
     by_rule : n < length y.rules → Later → (o : Option Substitution) → binds y (get_or y.rules n no_rule).left u ≡ o → Goal
     by_rule lt later (Some s) e = inr ((record { number = n; values = s }), first-matched y n u no_rule s lt e, omega arith)
@@ -84,19 +88,25 @@ pub nearing-first : (m : Matcher) (k from at : ℕ) (d : ℕ) → at ≡ get_or 
 nearing-first m k from at d e y w ready lt =
     let l = ready.matcher.symbols in
     subst (λ a. (from ≤ a → Skips y (name_of y (Symbol k)) from a) × HeadAt m a k) (sym e)
-    (let h = ready.matcher.heads k d (omega (arith, lt, l)) in ((λ le. skips-between y (name_of y (Symbol k)) 0 from (get_or m.heads.items k d) (omega arith) le h.0), h.1))
+    (let h = ready.matcher.heads k d (omega (arith, lt, l)) in
+    ((λ le. skips-between y (name_of y (Symbol k)) 0 from (get_or m.heads.items k d) (omega arith) le h.0), h.1))
 
-pub nearing-next : (m : Matcher) (k from at : ℕ) (s : LeftSide) → at < from → at < length m.sides.items → s ≡ get_or m.sides.items at s → Nearing m k from at → Nearing m k from s.next
+pub nearing-next : (m : Matcher) (k from at : ℕ) (s : LeftSide) → at < from → at < length m.sides.items → s ≡ get_or m.sides.items at s
+    → Nearing m k from at → Nearing m k from s.next
 nearing-next m k from at s before lt e near y w ready ltk =
     let n = near y w ready ltk in
     let ruled = ready.matcher.ruled in
     let side = ready.matcher.sides at no_rule (omega (arith, lt, ruled)) in
     let is : s.next ≡ next_at m at = side-is (λ (x : LeftSide). x.next) m at s 0 lt e in
     let own : symbol_at m at ≡ k = n.1 lt in
-    subst (λ a. (from ≤ a → Skips y (name_of y (Symbol k)) from a) × HeadAt m a k) (sym is)
-    ((λ le. skips-between y (name_of y (Symbol k)) (suc at) from (next_at m at) (omega (arith, before)) le (subst (λ j. Skips y (name_of y (Symbol j)) (suc at) (next_at m at)) own side.skips)), (λ q. side.next q ∙ own))
+    subst (λ a. (from ≤ a → Skips y (name_of y (Symbol k)) from a) × HeadAt m a k) (sym is) (
+      (λ le. skips-between y (name_of y (Symbol k)) (suc at) from (next_at m at) (omega (arith, before)) le
+          (subst (λ j. Skips y (name_of y (Symbol j)) (suc at) (next_at m at)) own side.skips)),
+      (λ q. side.next q ∙ own),
+    )
 
-pub later-side : (m : Matcher) (k from at : ℕ) (s : LeftSide) → at < length m.sides.items → s ≡ get_or m.sides.items at s → (y : Spec) (w : Store) → IsReady y w m → at < s.next
+pub later-side : (m : Matcher) (k from at : ℕ) (s : LeftSide) → at < length m.sides.items → s ≡ get_or m.sides.items at s → (y : Spec) (w : Store)
+    → IsReady y w m → at < s.next
 later-side m k from at s lt e y w ready =
     let ruled = ready.matcher.ruled in
     let side = ready.matcher.sides at no_rule (omega (arith, lt, ruled)) in
@@ -111,7 +121,8 @@ reaches m k from at (inr le) near y w ready lt =
     let ruled = ready.matcher.ruled in (
       (λ vs. elim (which from at) [
         | inl h ↦ n.0 h vs
-        | inr h ↦ nothing y from (application (name_of y (Symbol k)) vs) (omega (arith, ruled, le, h)) ∙ sym (nothing y at (application (name_of y (Symbol k)) vs) (omega (arith, ruled, le)))
+        | inr h ↦ nothing y from (application (name_of y (Symbol k)) vs) (omega (arith, ruled, le, h))
+            ∙ sym (nothing y at (application (name_of y (Symbol k)) vs) (omega (arith, ruled, le)))
       ]),
       n.1,
     )

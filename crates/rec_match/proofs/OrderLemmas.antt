@@ -49,14 +49,17 @@ pub record Numbered (n : ℕ) (letters : List Letter) (vs : List ℕ) (ps : List
   pub within : All (λ v. v < n) vs
 
 -- one letter more
-pub numbered-symbol : (n : ℕ) (letters : List Letter) (i : ℕ) (d : Letter) (vs : List ℕ) (ps : List (Option ℕ)) (k : ℕ) → i < length letters → (get_or letters i d).meaning ≡ Symbol k → Numbered n (take i letters) vs ps → Numbered n (take (i + 1) letters) vs ps
+pub numbered-symbol : (n : ℕ) (letters : List Letter) (i : ℕ) (d : Letter) (vs : List ℕ) (ps : List (Option ℕ)) (k : ℕ) → i < length letters
+    → (get_or letters i d).meaning ≡ Symbol k → Numbered n (take i letters) vs ps → Numbered n (take (i + 1) letters) vs ps
 numbered-symbol n letters i d vs ps k lt e h = record {
   places = h.places;
-  numbers = h.numbers ∙ sym (ap (numbers_in []) (take-next letters i d lt) ∙ numbers-snoc [] (take i letters) (get_or letters i d) ∙ ap (with_letter (numbers_in [] (take i letters))) e);
+  numbers = h.numbers ∙ sym (ap (numbers_in []) (take-next letters i d lt) ∙ numbers-snoc [] (take i letters) (get_or letters i d)
+      ∙ ap (with_letter (numbers_in [] (take i letters))) e);
   within = h.within;
 }
 
-next-number : (letters : List Letter) (i : ℕ) (d : Letter) (vs : List ℕ) (v : ℕ) (b : Bool) → i < length letters → (get_or letters i d).meaning ≡ Variable v → vs ≡ numbers_in [] (take i letters) → among vs v ≡ b
+next-number : (letters : List Letter) (i : ℕ) (d : Letter) (vs : List ℕ) (v : ℕ) (b : Bool) → i < length letters
+    → (get_or letters i d).meaning ≡ Variable v → vs ≡ numbers_in [] (take i letters) → among vs v ≡ b
     → numbers_in [] (take (i + 1) letters) ≡ elim b [ true ↦ vs | false ↦ vs ++ v ∷ [] ]
 next-number letters i d vs v b lt e is has =
     ap (numbers_in []) (take-next letters i d lt) ∙ numbers-snoc [] (take i letters) (get_or letters i d) ∙ ap (with_letter (numbers_in [] (take i letters))) e
@@ -65,14 +68,16 @@ next-number letters i d vs v b lt e is has =
     at : Bool → List ℕ
     at b = elim b [ true ↦ vs | false ↦ vs ++ v ∷ [] ]
 
-pub numbered-again : (n : ℕ) (letters : List Letter) (i : ℕ) (d : Letter) (vs : List ℕ) (ps : List (Option ℕ)) (v p : ℕ) → i < length letters → (get_or letters i d).meaning ≡ Variable v → IsPlace vs v (Some p) → Numbered n (take i letters) vs ps → Numbered n (take (i + 1) letters) vs ps
+pub numbered-again : (n : ℕ) (letters : List Letter) (i : ℕ) (d : Letter) (vs : List ℕ) (ps : List (Option ℕ)) (v p : ℕ) → i < length letters
+    → (get_or letters i d).meaning ≡ Variable v → IsPlace vs v (Some p) → Numbered n (take i letters) vs ps → Numbered n (take (i + 1) letters) vs ps
 numbered-again n letters i d vs ps v p lt e place h = record {
   places = h.places;
   numbers = sym (next-number letters i d vs v true lt e h.numbers (contains-among vs v (first-contains vs v p place)));
   within = h.within;
 }
 
-pub numbered-first : (n : ℕ) (letters : List Letter) (i : ℕ) (d : Letter) (vs vs' : List ℕ) (ps ps' : List (Option ℕ)) (v : ℕ) → i < length letters → (get_or letters i d).meaning ≡ Variable v → v < n → IsPlace vs v None → vs' ≡ vs ++ v ∷ [] → ArePlacesIn (vs ++ v ∷ []) n ps'
+pub numbered-first : (n : ℕ) (letters : List Letter) (i : ℕ) (d : Letter) (vs vs' : List ℕ) (ps ps' : List (Option ℕ)) (v : ℕ) → i < length letters
+    → (get_or letters i d).meaning ≡ Variable v → v < n → IsPlace vs v None → vs' ≡ vs ++ v ∷ [] → ArePlacesIn (vs ++ v ∷ []) n ps'
     → Numbered n (take i letters) vs ps → Numbered n (take (i + 1) letters) vs' ps'
 numbered-first n letters i d vs vs' ps ps' v lt e below out ev places h = record {
   places = subst (λ xs. ArePlacesIn xs n ps') (sym ev) places;

@@ -24,7 +24,8 @@ pub first-last : (vs : List ℕ) (v : ℕ) → (Contains vs v → ⊥) → First
 first-last [] v out = refl
 first-last (w ∷ vs) v out = ((λ e. out (zero, omega arith, e)), first-last vs v (λ c. out (contains-later w vs v c)))
 
-pub places-give : (vs : List ℕ) (n v p : ℕ) (ps ps' : List (Option ℕ)) → v < n → ArePlacesIn vs n ps → (Contains vs v → ⊥) → p ≡ length vs → ps' ≡ set ps v (Some p) → ArePlacesIn (vs ++ v ∷ []) n ps'
+pub places-give : (vs : List ℕ) (n v p : ℕ) (ps ps' : List (Option ℕ)) → v < n → ArePlacesIn vs n ps → (Contains vs v → ⊥) → p ≡ length vs
+    → ps' ≡ set ps v (Some p) → ArePlacesIn (vs ++ v ∷ []) n ps'
 places-give vs n v p ps ps' lt so out ep es = record {
   counted = ap length es ∙ length-set ps v (Some p) ∙ so.counted;
   each = λ w h. by w h (cases_eq w v);
@@ -40,8 +41,10 @@ places-give vs n v p ps ps' lt so out ep es = record {
 
     by : (w : ℕ) → w < n → (w ≡ v) ⊎ (w ≢ v) → IsPlace (vs ++ v ∷ []) w (get_or ps' w None)
     by w h (inl e) =
-        let is : get_or ps' v None ≡ Some p = ap (λ xs. get_or xs v None) es ∙ get_or-set_same ps v (Some p) None (let c = so.counted in omega (arith, c, lt)) in
-        subst (λ x. IsPlace (vs ++ v ∷ []) x (get_or ps' x None)) (sym e) (subst (IsPlace (vs ++ v ∷ []) v) (sym is) (subst (λ q. FirstAt (vs ++ v ∷ []) v q) (sym ep) (first-last vs v out)))
+        let is : get_or ps' v None ≡ Some p = ap (λ xs. get_or xs v None) es
+        ∙ get_or-set_same ps v (Some p) None (let c = so.counted in omega (arith, c, lt)) in
+        subst (λ x. IsPlace (vs ++ v ∷ []) x (get_or ps' x None)) (sym e)
+        (subst (IsPlace (vs ++ v ∷ []) v) (sym is) (subst (λ q. FirstAt (vs ++ v ∷ []) v q) (sym ep) (first-last vs v out)))
     by w h (inr ne) =
         let is : get_or ps' w None ≡ get_or ps w None = ap (λ xs. get_or xs w None) es ∙ get_or-set_other ps v w (Some p) None ne in
         subst (IsPlace (vs ++ v ∷ []) w) (sym is) (more w ne (get_or ps w None) (so.each w h))

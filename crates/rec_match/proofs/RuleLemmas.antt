@@ -24,8 +24,11 @@ use Rattle.rec_match.proofs.PushLemmas.{part_pushed, can_push, part_later, more_
 -- letters of a specification that is kept have as many arguments as they are declared with
 filled_letters : (y : Spec) → fault y ≡ None → (ls : List Letter) → All (λ (l : Letter). IsMeaning y l.meaning) ls → AreFilled y ls → Every (IsFilled y) ls
 filled_letters y kept [] meant filled = tt
-filled_letters y kept (l ∷ ls) meant filled =
-    (by l.meaning refl, filled_letters y kept ls (All-tail (λ (l : Letter). IsMeaning y l.meaning) l ls meant) (All-tail (λ (l : Letter). (k : ℕ) → l.meaning ≡ Symbol k → Rattle.rec_sorts.specs.Numbering.arity_of y k ≡ l.count) l ls filled))
+filled_letters y kept (l ∷ ls) meant filled = (
+  by l.meaning refl,
+  filled_letters y kept ls (All-tail (λ (l : Letter). IsMeaning y l.meaning) l ls meant)
+      (All-tail (λ (l : Letter). (k : ℕ) → l.meaning ≡ Symbol k → Rattle.rec_sorts.specs.Numbering.arity_of y k ≡ l.count) l ls filled),
+)
   where
     own : IsMeaning y l.meaning
     own = All-head (λ (l : Letter). IsMeaning y l.meaning) l ls meant
@@ -33,20 +36,29 @@ filled_letters y kept (l ∷ ls) meant filled =
     by : (m : Meaning) → l.meaning ≡ m → IsHead y l.meaning (name_of y l.meaning) l.count
     by (Symbol k) e =
         let lt = subst (IsMeaning y) e own in
-        subst (λ n. IsHead y n (name_of y n) l.count) (sym e) (lt, refl, sym (All-head (λ (l : Letter). (k : ℕ) → l.meaning ≡ Symbol k → Rattle.rec_sorts.specs.Numbering.arity_of y k ≡ l.count) l ls filled k e), (facts y kept).symbol_is_none k lt)
+        subst (λ n. IsHead y n (name_of y n) l.count) (sym e) (
+          lt,
+          refl,
+          sym (All-head (λ (l : Letter). (k : ℕ) → l.meaning ≡ Symbol k → Rattle.rec_sorts.specs.Numbering.arity_of y k ≡ l.count) l ls filled k e),
+          (facts y kept).symbol_is_none k lt,
+        )
     by (Variable v) e = let lt = subst (IsMeaning y) e own in subst (λ n. IsHead y n (name_of y n) l.count) (sym e) (lt, refl, variable_is_one y v lt)
 
 -- the letters of a rule's left side
-pub left_filled : (y : Spec) → fault y ≡ None → (rules : List LetterRule) (i : ℕ) (x : LetterRule) (r : Rule) → Pairwise (IsLetterRule y) rules y.rules → i < length rules → Every (IsFilled y) (get_or rules i x).left.items
+pub left_filled : (y : Spec) → fault y ≡ None → (rules : List LetterRule) (i : ℕ) (x : LetterRule) (r : Rule)
+    → Pairwise (IsLetterRule y) rules y.rules → i < length rules → Every (IsFilled y) (get_or rules i x).left.items
 left_filled y kept rules i x r are lt =
     let letters = left-letters y rules i x r are lt in
     let long = pair-long (IsLetterRule y) rules y.rules are in
     let ls = (get_or rules i x).left.items in
-    filled_letters y kept ls letters.0 (letters-filled y ls letters.0 (subst (λ ms. Every (Rattle.rec_match.proofs.LetterLemmas.IsFilledName y) ms) (sym letters.1) (filled-rule y kept i r (omega (arith, lt, long))).left))
+    filled_letters y kept ls letters.0 (letters-filled y ls letters.0
+    (subst (λ ms. Every (Rattle.rec_match.proofs.LetterLemmas.IsFilledName y) ms) (sym letters.1) (filled-rule y kept i r (omega (arith, lt, long))).left))
 
 -- one left side more
-pub left_parts_more : (y : Spec) → fault y ≡ None → (rules : List LetterRule) (i : ℕ) (x : LetterRule) (ps qs : Parts) (numbers numbers' ms : List ℕ) (d : ℕ) → Pairwise (IsLetterRule y) rules y.rules → i < length rules
-    → AreLeftParts y ps numbers i → Pushed ps [] (get_or rules i x).left.items qs ms → numbers' ≡ numbers ++ get_or ms 0 d ∷ [] → AreLeftParts y qs numbers' (i + 1)
+pub left_parts_more : (y : Spec) → fault y ≡ None → (rules : List LetterRule) (i : ℕ) (x : LetterRule) (ps qs : Parts) (numbers numbers' ms : List ℕ)
+    (d : ℕ) → Pairwise (IsLetterRule y) rules y.rules → i < length rules
+    → AreLeftParts y ps numbers i → Pushed ps [] (get_or rules i x).left.items qs ms → numbers' ≡ numbers ++ get_or ms 0 d ∷ []
+    → AreLeftParts y qs numbers' (i + 1)
 left_parts_more y kept rules i x ps qs numbers numbers' ms d are lt h p e = record {
   whole = own.whole;
   long = (let l = ap length e ∙ length-append numbers (get_or ms 0 d ∷ []) in let g = h.long in omega (arith, l, g));
@@ -57,15 +69,22 @@ left_parts_more y kept rules i x ps qs numbers numbers' ms d are lt h p e = reco
     t r = (get_or y.rules i r).left
 
     pushed : (r : Rule) → (n : ℕ) × PushesTerm y ps (t r) qs n × (ms ≡ n ∷ [])
-    pushed r = part_pushed y (t r) (get_or rules i x).left.items ps qs ms (left-letters y rules i x r are lt).1 (left_filled y kept rules i x r are lt) h.whole p
+    pushed r = part_pushed y (t r) (get_or rules i x).left.items ps qs ms (left-letters y rules i x r are lt).1
+        (left_filled y kept rules i x r are lt) h.whole p
 
     no_rule : Rule
-    no_rule = record { left = Rattle.rec_syntax.specs.Syntax.Apply (record { at = 0; bytes = [] }) Rattle.rec_syntax.specs.Syntax.none; right = Rattle.rec_syntax.specs.Syntax.Apply (record { at = 0; bytes = [] }) Rattle.rec_syntax.specs.Syntax.none; conditions = [] }
+    no_rule = record {
+      left = Rattle.rec_syntax.specs.Syntax.Apply (record { at = 0; bytes = [] }) Rattle.rec_syntax.specs.Syntax.none;
+      right =
+          Rattle.rec_syntax.specs.Syntax.Apply (record { at = 0; bytes = [] }) Rattle.rec_syntax.specs.Syntax.none;
+      conditions = [];
+    }
 
     own : PushesTerm y ps (t no_rule) qs (pushed no_rule).0
     own = (pushed no_rule).1
 
-    each : (j : ℕ) (r : Rule) → j < i + 1 → (j ≡ i) ⊎ (j ≢ i) → (get_or numbers' j 0 < length qs.parts.items) × IsPart y qs (get_or numbers' j 0) (get_or y.rules j r).left
+    each : (j : ℕ) (r : Rule) → j < i + 1 → (j ≡ i) ⊎ (j ≢ i) → (get_or numbers' j 0 < length qs.parts.items)
+        × IsPart y qs (get_or numbers' j 0) (get_or y.rules j r).left
     each j r l (inl is) =
         let q = pushed r in
         let top : get_or ms 0 d ≡ q.0 = ap (λ xs. get_or xs 0 d) q.2 in
@@ -79,19 +98,35 @@ left_parts_more y kept rules i x ps qs numbers numbers' ms d are lt h p e = reco
         let o0 = o.0 in
         let le = more_long ps qs own.more in
         let at : get_or numbers' j 0 ≡ get_or numbers j 0 = ap (λ xs. get_or xs j 0) e ∙ get-front numbers (get_or ms 0 d) j 0 (omega (arith, below, long)) in
-        subst (λ n. (n < length qs.parts.items) × IsPart y qs n (get_or y.rules j r).left) (sym at) ((let s : get_or numbers j 0 < length qs.parts.items = omega (arith, o0, le) in s), part_later y ps qs own.more h.whole (get_or y.rules j r).left (get_or numbers j 0) o.0 o.1)
+        subst (λ n. (n < length qs.parts.items) × IsPart y qs n (get_or y.rules j r).left) (sym at) (
+          (let s : get_or numbers j 0 < length qs.parts.items = omega (arith, o0, le) in s),
+          part_later y ps qs own.more h.whole (get_or y.rules j r).left (get_or numbers j 0) o.0 o.1,
+        )
 
 -- a left side leaves one part
-pub left_some : (y : Spec) → fault y ≡ None → (rules : List LetterRule) (i : ℕ) (x : LetterRule) (ps qs : Parts) (ms : List ℕ) → Pairwise (IsLetterRule y) rules y.rules → i < length rules → IsWhole ps → Pushed ps [] (get_or rules i x).left.items qs ms → length ms ≡ 1
+pub left_some : (y : Spec) → fault y ≡ None → (rules : List LetterRule) (i : ℕ) (x : LetterRule) (ps qs : Parts) (ms : List ℕ)
+    → Pairwise (IsLetterRule y) rules y.rules → i < length rules → IsWhole ps → Pushed ps [] (get_or rules i x).left.items qs ms → length ms ≡ 1
 left_some y kept rules i x ps qs ms are lt whole p =
-    ap length (part_pushed y (get_or y.rules i no_rule).left (get_or rules i x).left.items ps qs ms (left-letters y rules i x no_rule are lt).1 (left_filled y kept rules i x no_rule are lt) whole p).2
+    ap length (part_pushed y (get_or y.rules i no_rule).left (get_or rules i x).left.items ps qs ms (left-letters y rules i x no_rule are lt).1
+    (left_filled y kept rules i x no_rule are lt) whole p).2
   where
     no_rule : Rule
-    no_rule = record { left = Rattle.rec_syntax.specs.Syntax.Apply (record { at = 0; bytes = [] }) Rattle.rec_syntax.specs.Syntax.none; right = Rattle.rec_syntax.specs.Syntax.Apply (record { at = 0; bytes = [] }) Rattle.rec_syntax.specs.Syntax.none; conditions = [] }
+    no_rule = record {
+      left = Rattle.rec_syntax.specs.Syntax.Apply (record { at = 0; bytes = [] }) Rattle.rec_syntax.specs.Syntax.none;
+      right =
+          Rattle.rec_syntax.specs.Syntax.Apply (record { at = 0; bytes = [] }) Rattle.rec_syntax.specs.Syntax.none;
+      conditions = [];
+    }
 
 -- a left side's letters can be put on an empty stack
-pub left_can : (y : Spec) (rules : List LetterRule) (i : ℕ) (x : LetterRule) (n : ℕ) → Pairwise (IsLetterRule y) rules y.rules → i < length rules → CanPush n (counts_of (get_or rules i x).left.items)
+pub left_can : (y : Spec) (rules : List LetterRule) (i : ℕ) (x : LetterRule) (n : ℕ) → Pairwise (IsLetterRule y) rules y.rules → i < length rules
+    → CanPush n (counts_of (get_or rules i x).left.items)
 left_can y rules i x n are lt = can_push y (get_or y.rules i no_rule).left (get_or rules i x).left.items n (left-letters y rules i x no_rule are lt).1
   where
     no_rule : Rule
-    no_rule = record { left = Rattle.rec_syntax.specs.Syntax.Apply (record { at = 0; bytes = [] }) Rattle.rec_syntax.specs.Syntax.none; right = Rattle.rec_syntax.specs.Syntax.Apply (record { at = 0; bytes = [] }) Rattle.rec_syntax.specs.Syntax.none; conditions = [] }
+    no_rule = record {
+      left = Rattle.rec_syntax.specs.Syntax.Apply (record { at = 0; bytes = [] }) Rattle.rec_syntax.specs.Syntax.none;
+      right =
+          Rattle.rec_syntax.specs.Syntax.Apply (record { at = 0; bytes = [] }) Rattle.rec_syntax.specs.Syntax.none;
+      conditions = [];
+    }

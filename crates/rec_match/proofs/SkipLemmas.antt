@@ -1,6 +1,7 @@
 -- A matcher that is made of the left sides of a specification's rules.
 use Rattle.std.proofs.Common.{refl, sym, ap, subst, arith, ◌∙◌, inl, inr, length, length-append, drop}
-use Rattle.std.specs.Prelude.{ℕ, zero, suc, ◌≡◌, ◌≢◌, ◌<◌, ◌≤◌, ◌+◌, ◌-◌, ◌⊎◌, Bool, true, false, ◌&&◌, not, List, [], ◌∷◌, ◌++◌, Option, Some, None, get_or, nat_eq, bytes_eq}
+use Rattle.std.specs.Prelude.{ℕ, zero, suc, ◌≡◌, ◌≢◌, ◌<◌, ◌≤◌, ◌+◌, ◌-◌, ◌⊎◌, Bool, true, false, ◌&&◌}
+use Rattle.std.specs.Prelude.{not, List, [], ◌∷◌, ◌++◌, Option, Some, None, get_or, nat_eq, bytes_eq}
 use Rattle.std.specs.Bool.{beq}
 use Rattle.std.proofs.lemmas.Bool.{cases_eq}
 use Rattle.std.proofs.lemmas.List.{get_or-map}
@@ -33,13 +34,16 @@ opened-other : (a b : List ℕ) (c : ℕ) (vs : Trees) → bytes_eq a b ≡ fals
 opened-other a b c vs e = ap at e
   where
     at : Bool → Option Trees
-    at t = elim ((t && beq (not (plain_name a)) (not (plain_name b)) && trees_eq vs vs && trees_eq none none) && nat_eq (count_of vs) c) [ true ↦ Some vs | false ↦ None ]
+    at t = elim ((t && beq (not (plain_name a)) (not (plain_name b)) && trees_eq vs vs && trees_eq none none) && nat_eq (count_of vs) c)
+        [ true ↦ Some vs | false ↦ None ]
 
 -- a left side matches no application of another symbol
-pub other-head : (y : Spec) → fault y ≡ None → (l : X.Term) (j k : ℕ) → j < length (symbols y) → k < length (symbols y) → (head l).bytes ≡ name_of y (Symbol j) → j ≢ k → (vs : Trees) → binds y l (application (name_of y (Symbol k)) vs) ≡ None
+pub other-head : (y : Spec) → fault y ≡ None → (l : X.Term) (j k : ℕ) → j < length (symbols y) → k < length (symbols y)
+    → (head l).bytes ≡ name_of y (Symbol j) → j ≢ k → (vs : Trees) → binds y l (application (name_of y (Symbol k)) vs) ≡ None
 other-head y kept (Apply w ts) j k ltj ltk e apart vs =
     sym (walk_binds y (Apply w ts) u) ∙ ap at (ap (is_variable y) e ∙ (facts y kept).symbol_is_none j ltj)
-    ∙ ap (λ o. goes_on o (λ us. walk_all y ts us [])) (ap (λ n. opened n (count ts) u) e ∙ opened-other (name_of y (Symbol j)) (name_of y (Symbol k)) (count ts) vs differ)
+    ∙ ap (λ o. goes_on o (λ us. walk_all y ts us [])) (ap (λ n. opened n (count ts) u) e
+    ∙ opened-other (name_of y (Symbol j)) (name_of y (Symbol k)) (count ts) vs differ)
   where
     u : Tree
     u = application (name_of y (Symbol k)) vs
@@ -58,8 +62,10 @@ pub no_rule : Rule
 no_rule = record { left = Apply (record { at = 0; bytes = [] }) X.none; right = Apply (record { at = 0; bytes = [] }) X.none; conditions = [] }
 
 -- between rules of a symbol none of the rules matches an application of it
-skipped : (y : Spec) → fault y ≡ None → (fs : List ℕ) → AreHeads y fs → (k from at n : ℕ) → k < length (symbols y) → at ≡ from + n → at ≤ length y.rules → ((j : ℕ) → from ≤ j → j < at → get_or fs j 0 ≢ k) → Skips y (name_of y (Symbol k)) from at
-skipped y kept fs heads k from at zero lt e le others vs = ap (λ j. first_match y j (drop j y.rules) (application (name_of y (Symbol k)) vs)) (let q : from ≡ at = omega (arith, e) in q)
+skipped : (y : Spec) → fault y ≡ None → (fs : List ℕ) → AreHeads y fs → (k from at n : ℕ) → k < length (symbols y) → at ≡ from + n
+    → at ≤ length y.rules → ((j : ℕ) → from ≤ j → j < at → get_or fs j 0 ≢ k) → Skips y (name_of y (Symbol k)) from at
+skipped y kept fs heads k from at zero lt e le others vs = ap (λ j. first_match y j (drop j y.rules) (application (name_of y (Symbol k)) vs))
+    (let q : from ≡ at = omega (arith, e) in q)
 skipped y kept fs heads k from at (suc n) lt e le others vs =
     let within : from < length y.rules = omega (arith, e, le) in
     let h = heads.each from no_rule within in
@@ -67,7 +73,8 @@ skipped y kept fs heads k from at (suc n) lt e le others vs =
     (other-head y kept (get_or y.rules from no_rule).left (get_or fs from 0) k h.declared lt h.head (others from (omega arith) (omega (arith, e))) vs)
     ∙ skipped y kept fs heads k (suc from) at n lt (omega (arith, e)) le (λ j l q. others j (omega (arith, l)) q) vs
 
-pub skips-next : (y : Spec) → fault y ≡ None → (fs : List ℕ) → AreHeads y fs → (k from at : ℕ) → k < length (symbols y) → IsNext fs k from at → Skips y (name_of y (Symbol k)) from at
+pub skips-next : (y : Spec) → fault y ≡ None → (fs : List ℕ) → AreHeads y fs → (k from at : ℕ) → k < length (symbols y) → IsNext fs k from at
+    → Skips y (name_of y (Symbol k)) from at
 skips-next y kept fs heads k from at lt next =
     let a = next.after in
     let w = next.within in
@@ -83,7 +90,9 @@ pub one-head : (y : Spec) → fault y ≡ None → (r : Rule) (j k : ℕ) → Is
 one-head y kept r j k a b = (facts y kept).symbols_differ j k a.declared b.declared (sym a.head ∙ b.head)
 
 -- the first sides make the matcher
-pub matcher-built : (y : Spec) → fault y ≡ None → (ss : List bank.Symbol) (fs nexts : List ℕ) (m : Matcher) (n : ℕ) → m.links ≡ ss → AreHeads y fs → AreChainsFrom fs (length (symbols y)) 0 m.heads.items nexts → AreSides y fs nexts m.sides.items n → n ≡ length y.rules → IsForest y (numbers_of ss) m.forest → IsMatcher y ss m
+pub matcher-built : (y : Spec) → fault y ≡ None → (ss : List bank.Symbol) (fs nexts : List ℕ) (m : Matcher) (n : ℕ) → m.links ≡ ss → AreHeads y fs
+    → AreChainsFrom fs (length (symbols y)) 0 m.heads.items nexts → AreSides y fs nexts m.sides.items n → n ≡ length y.rules
+    → IsForest y (numbers_of ss) m.forest → IsMatcher y ss m
 matcher-built y kept ss fs nexts m n links heads chains made en forest = record {
   kept = kept;
   linked = links;
@@ -91,7 +100,8 @@ matcher-built y kept ss fs nexts m n links heads chains made en forest = record 
   sides = λ i r lt. side i r lt;
   symbols = chains.counted;
   heads = λ k d lt. (let l = chains.counted in let ltk : k < length (symbols y) = omega (arith, lt, l) in let next = chains.heads_next k ltk in
-      subst (λ at. Skips y (name_of y (Symbol k)) 0 at × HeadAt m at k) (get_or_default m.heads.items k 0 d lt) (skips-next y kept fs heads k 0 (get_or m.heads.items k 0) ltk next, head-at k 0 (get_or m.heads.items k 0) next));
+      subst (λ at. Skips y (name_of y (Symbol k)) 0 at × HeadAt m at k) (get_or_default m.heads.items k 0 d lt)
+      (skips-next y kept fs heads k 0 (get_or m.heads.items k 0) ltk next, head-at k 0 (get_or m.heads.items k 0) next));
   forest = forest;
 }
   where
@@ -119,7 +129,9 @@ matcher-built y kept ss fs nexts m n links heads chains made en forest = record 
         let ex : next_at m i ≡ get_or nexts i 0 = get_or-map (λ (s : LeftSide). s.next) m.sides.items i d 0 within ∙ made.nexts_of i d below in
         let ef : symbol_at m i ≡ get_or fs i 0 = symbol-is i below in
         let declared : symbol_at m i < length (symbols y) = subst (λ k. k < length (symbols y)) (sym es) is.is_head.declared in
-        let next : IsNext fs (symbol_at m i) (suc i) (next_at m i) = subst (λ k. IsNext fs k (suc i) (next_at m i)) (sym ef) (subst (IsNext fs (get_or fs i 0) (suc i)) (sym ex) (chains.nexts_next i (omega arith) (omega (arith, lt, c)))) in
+        let next : IsNext fs (symbol_at m i) (suc i) (next_at m i) =
+        subst (λ k. IsNext fs k (suc i) (next_at m i)) (sym ef) (subst (IsNext fs (get_or fs i 0) (suc i)) (sym ex)
+        (chains.nexts_next i (omega arith) (omega (arith, lt, c)))) in
         let after = next.after in
         record {
           declared = declared;
@@ -137,7 +149,9 @@ matcher-built y kept ss fs nexts m n links heads chains made en forest = record 
         }
 
 -- one side more
-pub sides-next : (y : Spec) (fs nexts : List ℕ) (sides sides' : List LeftSide) (n : ℕ) (s : LeftSide) → AreSides y fs nexts sides n → sides' ≡ sides ++ s ∷ [] → ((r : Rule) → IsLeftSide y (get_or y.rules n r) s) → s.symbol ≡ get_or fs n 0 → s.next ≡ get_or nexts n 0 → AreSides y fs nexts sides' (n + 1)
+pub sides-next : (y : Spec) (fs nexts : List ℕ) (sides sides' : List LeftSide) (n : ℕ) (s : LeftSide) → AreSides y fs nexts sides n
+    → sides' ≡ sides ++ s ∷ [] → ((r : Rule) → IsLeftSide y (get_or y.rules n r) s) → s.symbol ≡ get_or fs n 0 → s.next ≡ get_or nexts n 0
+    → AreSides y fs nexts sides' (n + 1)
 sides-next y fs nexts sides sides' n s made e own symbol next = record {
   long = (let l = ap length e ∙ length-append sides (s ∷ []) in let g = made.long in omega (arith, l, g));
   each = λ i r d lt. (let p : At i d = place i d lt in elim p [
@@ -165,4 +179,7 @@ sides-next y fs nexts sides sides' n s made e own symbol next = record {
       where
         by : (i ≡ n) ⊎ (i ≢ n) → At i d
         by (inl q) = inl (q, tt)
-        by (inr ne) = let below : i < n = omega (arith, lt, ne) in inr (below, ap (λ xs. get_or xs i d) e ∙ get-front sides s i d (let l = made.long in omega (arith, l, below)))
+        by (inr ne) = let below : i < n = omega (arith, lt, ne) in inr (
+          below,
+          ap (λ xs. get_or xs i d) e ∙ get-front sides s i d (let l = made.long in omega (arith, l, below)),
+        )

@@ -31,7 +31,8 @@ pub linked-numbers : (y : Spec) (w : Store) (ss : List bank.Symbol) → AreLinke
 linked-numbers y w ss linked k lt =
     let long = linked.counted in
     let d : bank.Symbol = record { 0 = 0 } in
-    ap (λ n. let s : bank.Symbol = record { 0 = n } in signature_of w s) (get_or-map (λ (s : bank.Symbol). s.0) ss k d 0 (omega (arith, lt, long))) ∙ linked.linked k d lt
+    ap (λ n. let s : bank.Symbol = record { 0 = n } in signature_of w s) (get_or-map (λ (s : bank.Symbol). s.0) ss k d 0 (omega (arith, lt, long)))
+    ∙ linked.linked k d lt
 
 -- the last of some references
 pub args-long : (w : Store) (m : Matcher) (k n at : ℕ) (work args : List Term) → CanFind w m k n at work → args ≡ drop (length work - n) work → length args ≡ n
@@ -41,7 +42,8 @@ args-long w m k n at work args can ea =
     omega (arith, l, le)
 
 -- the trees of a symbol can be run
-pub can-run : (w : Store) (m : Matcher) (k n at : ℕ) (work args : List Term) → CanFind w m k n at work → args ≡ drop (length work - n) work → CanRun w m.forest k (length args)
+pub can-run : (w : Store) (m : Matcher) (k n at : ℕ) (work args : List Term) → CanFind w m k n at work → args ≡ drop (length work - n) work
+    → CanRun w m.forest k (length args)
 can-run w m k n at work args can ea = record {
   spec = can.spec;
   numbers = numbers_of can.symbols;
@@ -52,7 +54,8 @@ can-run w m k n at work args can ea = record {
 }
 
 -- a rule that matches an application of a symbol is one of the symbol's
-own-rule : (y : Spec) (ss : List bank.Symbol) (m : Matcher) → IsMatcher y ss m → (k i : ℕ) → k < length (symbols y) → i < length y.rules → (args : List Tree) (s : Substitution) → binds y (get_or y.rules i no_rule).left (application (name_of y (Symbol k)) (from_list args)) ≡ Some s
+own-rule : (y : Spec) (ss : List bank.Symbol) (m : Matcher) → IsMatcher y ss m → (k i : ℕ) → k < length (symbols y) → i < length y.rules
+    → (args : List Tree) (s : Substitution) → binds y (get_or y.rules i no_rule).left (application (name_of y (Symbol k)) (from_list args)) ≡ Some s
     → symbol_at m i ≡ k
 own-rule y ss m matcher k i ltk lt args s binding = by (cases_eq (symbol_at m i) k)
   where
@@ -61,22 +64,28 @@ own-rule y ss m matcher k i ltk lt args s binding = by (cases_eq (symbol_at m i)
 
     by : (symbol_at m i ≡ k) ⊎ (symbol_at m i ≢ k) → symbol_at m i ≡ k
     by (inl e) = e
-    by (inr ne) = absurd (cc (sym (other-head y matcher.kept (get_or y.rules i no_rule).left (symbol_at m i) k side.declared ltk side.head ne (from_list args)) ∙ binding))
+    by (inr ne) = absurd (cc (sym (other-head y matcher.kept (get_or y.rules i no_rule).left (symbol_at m i) k side.declared ltk side.head ne
+        (from_list args)) ∙ binding))
 
-module _ (w : Store) (m : Matcher) (k n at : ℕ) (work args bind : List Term) (found : Option ℕ) (can : CanFind w m k n at work) (ea : args ≡ drop (length work - n) work) (runs : Runs w m.forest k at args bind found) where
+module _ (w : Store) (m : Matcher) (k n at : ℕ) (work args bind : List Term) (found : Option ℕ) (can : CanFind w m k n at work)
+    (ea : args ≡ drop (length work - n) work) (runs : Runs w m.forest k at args bind found) where
   -- behind the last rule the trees find none
   trees-find-none : length m.sides.items ≤ at → FindsFor w m at work bind found
   trees-find-none le y ss below own j linked matcher ltj head split counted =
-      by found (runs can.spec (numbers_of can.symbols) (linked-numbers can.spec w can.symbols can.linked) can.matcher.forest can.declared (args-long w m k n at work args can ea ∙ can.counted))
+      by found (runs can.spec (numbers_of can.symbols) (linked-numbers can.spec w can.symbols can.linked) can.matcher.forest can.declared
+      (args-long w m k n at work args can ea ∙ can.counted))
     where
-      by : (o : Option ℕ) → forests.Finds can.spec w (name_of can.spec (Symbol k)) at args bind o → Rattle.rec_match.specs.Matching.Finds y w m (name_of y (Symbol j)) at own bind o
+      by : (o : Option ℕ) → forests.Finds can.spec w (name_of can.spec (Symbol k)) at args bind o
+          → Rattle.rec_match.specs.Matching.Finds y w m (name_of y (Symbol j)) at own bind o
       by None h = nothing y at (application (name_of y (Symbol j)) (from_list (held_trees w own))) (let l = matcher.ruled in omega (arith, l, le))
-      by (Some i) h = absurd (cc (sym (nothing can.spec at (application (name_of can.spec (Symbol k)) (from_list (held_trees w args))) (let l = can.matcher.ruled in omega (arith, l, le))) ∙ h.first))
+      by (Some i) h = absurd (cc (sym (nothing can.spec at (application (name_of can.spec (Symbol k)) (from_list (held_trees w args))) (let l =
+          can.matcher.ruled in omega (arith, l, le))) ∙ h.first))
 
   -- where there is a rule, it is one of the symbol
   trees-find-one : at < length m.sides.items → FindsFor w m at work bind found
   trees-find-one lt y ss below own j linked matcher ltj head split counted =
-      by found (runs y (numbers_of ss) (linked-numbers y w ss linked) matcher.forest (subst (λ i. i < length (symbols y)) (sym same) ltj) (ap length is ∙ sym (counted lt) ∙ side.filled ∙ ap (arity_of y) (can.head lt)))
+      by found (runs y (numbers_of ss) (linked-numbers y w ss linked) matcher.forest (subst (λ i. i < length (symbols y)) (sym same) ltj)
+      (ap length is ∙ sym (counted lt) ∙ side.filled ∙ ap (arity_of y) (can.head lt)))
     where
       side : IsSide y ss m at (get_or y.rules at no_rule)
       side = matcher.sides at no_rule (let l = matcher.ruled in omega (arith, l, lt))
@@ -91,17 +100,21 @@ module _ (w : Store) (m : Matcher) (k n at : ℕ) (work args bind : List Term) (
       u = application (name_of y (Symbol j)) (from_list (held_trees w own))
 
       here : application (name_of y (Symbol k)) (from_list (held_trees w args)) ≡ u
-      here = ap (λ i. application (name_of y (Symbol i)) (from_list (held_trees w args))) same ∙ ap (λ xs. application (name_of y (Symbol j)) (from_list (held_trees w xs))) is
+      here = ap (λ i. application (name_of y (Symbol i)) (from_list (held_trees w args))) same
+          ∙ ap (λ xs. application (name_of y (Symbol j)) (from_list (held_trees w xs))) is
 
       whole : at + (length y.rules - at) ≡ length y.rules
       whole = let l = matcher.ruled in omega (arith, lt, l)
 
-      by : (o : Option ℕ) → forests.Finds y w (name_of y (Symbol k)) at args bind o → Rattle.rec_match.specs.Matching.Finds y w m (name_of y (Symbol j)) at own bind o
+      by : (o : Option ℕ) → forests.Finds y w (name_of y (Symbol k)) at args bind o
+          → Rattle.rec_match.specs.Matching.Finds y w m (name_of y (Symbol j)) at own bind o
       by None h = ap (first_match y at (drop at y.rules)) (sym here) ∙ h.0
       by (Some i) h =
-          let first : first_match y at (drop at y.rules) u ≡ Some (record { number = i; values = h.values }) = ap (first_match y at (drop at y.rules)) (sym here) ∙ h.first in
+          let first : first_match y at (drop at y.rules) u ≡ Some (record { number = i; values = h.values }) =
+          ap (first_match y at (drop at y.rules)) (sym here) ∙ h.first in
           let b = found-binds y u at (length y.rules - at) whole (record { number = i; values = h.values }) first in
-          let paired = side-paired y matcher.kept ss w m i (get_or y.rules i no_rule) (matcher.sides i no_rule b.0) (every-at (RuleFacts y) y.rules (facts y matcher.kept).rules i no_rule b.0).left u h.values b.1 bind h.bound in
+          let paired = side-paired y matcher.kept ss w m i (get_or y.rules i no_rule) (matcher.sides i no_rule b.0)
+          (every-at (RuleFacts y) y.rules (facts y matcher.kept).rules i no_rule b.0).left u h.values b.1 bind h.bound in
           record {
             values = h.values;
             first = first;

@@ -12,7 +12,8 @@ use Rattle.rec_engine.specs.declared.engine.Outcome.{Outcome}
 use Rattle.rec_engine.specs.declared.depth.DepthFault.TheVariants as engine
 use Rattle.rx_run.specs.declared.ending.RunFault.{RunFault}
 use Rattle.rx_run.specs.declared.ending.RunFault.TheVariants as run
-use Rattle.rec_run.specs.Depth.{DeepOnlyFor, HasRoomWithin, IsBounded, IsFull, LineDeepOnly, RunDeepOnly, after_lines, of_depth, of_engine, of_line, unbounded, unbounded_fault, unbounded_line, unbounded_line_fault}
+use Rattle.rec_run.specs.Depth.{DeepOnlyFor, HasRoomWithin, IsBounded, IsFull, LineDeepOnly, RunDeepOnly, after_lines, of_depth}
+use Rattle.rec_run.specs.Depth.{of_engine, of_line, unbounded, unbounded_fault, unbounded_line, unbounded_line_fault}
 use Rattle.rec_run.specs.EvaluatedLines.{LineLacks, fault_after}
 use Rattle.rec_run.specs.Run.{HasRoom}
 use Rattle.rec_run.specs.declared.depth.LineDepthFault.{LineDepthFault}
@@ -33,7 +34,8 @@ module _ {A : Type 0} where
       by (Err unlimited.Memory) h = tt
       by (Err unlimited.Room) h = tt
 
-  pub engine-room : (w : Store) (work : List Term) (m : Pairs) (x : Result A EngineFault) (r : Result A DepthFault) → r ≡ of_engine x → RoomOnly w work m x → RoomOnlyWithin w work m r
+  pub engine-room : (w : Store) (work : List Term) (m : Pairs) (x : Result A EngineFault) (r : Result A DepthFault) → r ≡ of_engine x
+      → RoomOnly w work m x → RoomOnlyWithin w work m r
   engine-room w work m x r e h = subst (RoomOnlyWithin w work m) (sym e) (by x h)
     where
       by : (x : Result A EngineFault) → RoomOnly w work m x → RoomOnlyWithin w work m (of_engine x)
@@ -72,7 +74,8 @@ line-ok P x r e h = subst (λ z. OnOk z P) (sym e) (by P x h)
     by P (Ok a) h = h
     by P (Err f) h = tt
 
-pub line-deep : {A : Type 0} (waiting : ℕ) (depth : Option ℕ) (x : Result A LineFault) (r : Result A LineDepthFault) → r ≡ of_line x → LineDeepOnly waiting depth r
+pub line-deep : {A : Type 0} (waiting : ℕ) (depth : Option ℕ) (x : Result A LineFault) (r : Result A LineDepthFault) → r ≡ of_line x
+    → LineDeepOnly waiting depth r
 line-deep waiting depth x r e = subst (LineDeepOnly waiting depth) (sym e) (by waiting depth x)
   where
     by : {A : Type 0} (waiting : ℕ) (depth : Option ℕ) (x : Result A LineFault) → LineDeepOnly waiting depth (of_line x)

@@ -30,24 +30,29 @@ verdict_by (Read y) = Some (verdict_by_rules y (fault y))
 verdict_by (Fault at) = Some (Grammar at)
 verdict_by Unfinished = None
 
-rules_verdict : (bytes : List ℕ) (y : Spec) (o : Option rules.Fault) → Fits bytes → comes_of bytes ≡ Read y → fault y ≡ o → SpecVerdict bytes (verdict_by_rules y o)
+rules_verdict : (bytes : List ℕ) (y : Spec) (o : Option rules.Fault) → Fits bytes → comes_of bytes ≡ Read y → fault y ≡ o
+    → SpecVerdict bytes (verdict_by_rules y o)
 rules_verdict bytes y None fits e k = (fits, read_spells bytes y e, k)
 rules_verdict bytes y (Some f) fits e k = (fits, (y, read_spells bytes y e, k))
 
 machine_verdict : (bytes : List ℕ) (o : Outcome) (v : Verdict) → Fits bytes → comes_of bytes ≡ o → verdict_by o ≡ Some v → SpecVerdict bytes v
-machine_verdict bytes (Read y) v fits e k = let same : verdict_by_rules y (fault y) ≡ v = cc in subst (SpecVerdict bytes) same (rules_verdict bytes y (fault y) fits e refl)
+machine_verdict bytes (Read y) v fits e k = let same : verdict_by_rules y (fault y) ≡ v = cc in
+    subst (SpecVerdict bytes) same (rules_verdict bytes y (fault y) fits e refl)
 machine_verdict bytes (Fault at) v fits e k = let same : Grammar at ≡ v = cc in subst (SpecVerdict bytes) same (fits, stops_at_place bytes at e)
 machine_verdict bytes Unfinished v fits e k = absurd (cc k)
 
 due_by_verdict : (bytes : List ℕ) (shown : Shown) (n : ℕ) (d : Due) (o : Option Verdict) → ((v : Verdict) → o ≡ Some v → SpecVerdict bytes v)
     → option_map (due_of_spec shown n) o ≡ Some d → IsDue bytes None shown n d
 due_by_verdict bytes shown n d None h e = absurd (cc e)
-due_by_verdict bytes shown n d (Some v) h e = let same : due_of_spec shown n v ≡ d = cc in (v, h v refl, subst (IsDueAfter v None shown n) same (after_spec shown n v))
+due_by_verdict bytes shown n d (Some v) h e = let same : due_of_spec shown n v ≡ d = cc in
+    (v, h v refl, subst (IsDueAfter v None shown n) same (after_spec shown n v))
 
 -- what is due for a text that is not too long: both premises are computed
-pub due_of_text : (bytes : List ℕ) (shown : Shown) (n : ℕ) (d : Due) → nat_le (length bytes) 16777216 ≡ true → option_map (due_of_spec shown n) (verdict_by (comes_of bytes)) ≡ Some d
+pub due_of_text : (bytes : List ℕ) (shown : Shown) (n : ℕ) (d : Due) → nat_le (length bytes) 16777216 ≡ true
+    → option_map (due_of_spec shown n) (verdict_by (comes_of bytes)) ≡ Some d
     → IsDue bytes None shown n d
-due_of_text bytes shown n d fits e = due_by_verdict bytes shown n d (verdict_by (comes_of bytes)) (λ v. machine_verdict bytes (comes_of bytes) v (leb-true (length bytes) 16777216 fits) refl) e
+due_of_text bytes shown n d fits e = due_by_verdict bytes shown n d (verdict_by (comes_of bytes)) (λ v.
+    machine_verdict bytes (comes_of bytes) v (leb-true (length bytes) 16777216 fits) refl) e
 
 -- the verdict on a tree by what the rules of given terms answer
 abbrev pub terms_by_rules : Option ℕ → Option (List Tree) → Option TermsVerdict
@@ -61,30 +66,37 @@ terms_verdict_by y (Some t) place = terms_by_rules (broken_by_terms y t) (elemen
 terms_verdict_by y None (Some at) = Some (Outside at)
 terms_verdict_by y None None = None
 
-tree_verdict : (y : Spec) (bytes : List ℕ) (t : Tree) → Fits bytes → Spells bytes t → (broken : Option ℕ) (o : Option (List Tree)) → broken_by_terms y t ≡ broken → elements t ≡ o
+tree_verdict : (y : Spec) (bytes : List ℕ) (t : Tree) → Fits bytes → Spells bytes t → (broken : Option ℕ) (o : Option (List Tree))
+    → broken_by_terms y t ≡ broken → elements t ≡ o
     → (v : TermsVerdict) → terms_by_rules broken o ≡ Some v → IsTermsVerdict y bytes v
 tree_verdict y bytes t fits spelt (Some number) o b k v e = let same : BreaksTerms number ≡ v = cc in subst (IsTermsVerdict y bytes) same (fits, (t, spelt, b))
 tree_verdict y bytes t fits spelt None (Some ts) b k v e = let same : GoodTerms ts ≡ v = cc in subst (IsTermsVerdict y bytes) same (fits, (t, spelt, b, k))
 tree_verdict y bytes t fits spelt None None b k v e = absurd (cc e)
 
-terms_verdict : (y : Spec) (bytes : List ℕ) (o : Option Tree) (place : Option ℕ) → Fits bytes → machine.read (kinds bytes) ≡ o → machine.fault_at (tokens bytes) machine.Due [] ≡ place
+terms_verdict : (y : Spec) (bytes : List ℕ) (o : Option Tree) (place : Option ℕ) → Fits bytes → machine.read (kinds bytes) ≡ o
+    → machine.fault_at (tokens bytes) machine.Due [] ≡ place
     → (v : TermsVerdict) → terms_verdict_by y o place ≡ Some v → IsTermsVerdict y bytes v
-terms_verdict y bytes (Some t) place fits r f v e = tree_verdict y bytes t fits (read_spelled (kinds bytes) t r) (broken_by_terms y t) (elements t) refl refl v e
+terms_verdict y bytes (Some t) place fits r f v e = tree_verdict y bytes t fits (read_spelled (kinds bytes) t r) (broken_by_terms y t) (elements t)
+    refl refl v e
 terms_verdict y bytes None (Some at) fits r f v e = let same : Outside at ≡ v = cc in subst (IsTermsVerdict y bytes) same (fits, is_place bytes at f)
 terms_verdict y bytes None None fits r f v e = absurd (cc e)
 
 -- what is due after the verdict on the specification
 abbrev pub due_by : List ℕ → Shown → ℕ → Verdict → Option Due
-due_by terms shown n (Good y) = option_map (due_of_terms y shown n) (terms_verdict_by y (machine.read (kinds terms)) (machine.fault_at (tokens terms) machine.Due []))
+due_by terms shown n (Good y) = option_map (due_of_terms y shown n)
+    (terms_verdict_by y (machine.read (kinds terms)) (machine.fault_at (tokens terms) machine.Due []))
 due_by terms shown n v = Some (due_of_spec shown n v)
 
-due_after : (terms : List ℕ) (shown : Shown) (n : ℕ) (d : Due) → Fits terms → (v : Verdict) → due_by terms shown n v ≡ Some d → IsDueAfter v (Some terms) shown n d
+due_after : (terms : List ℕ) (shown : Shown) (n : ℕ) (d : Due) → Fits terms → (v : Verdict) → due_by terms shown n v ≡ Some d
+    → IsDueAfter v (Some terms) shown n d
 due_after terms shown n d fits (Good y) e = by_terms (terms_verdict_by y (machine.read (kinds terms)) (machine.fault_at (tokens terms) machine.Due [])) refl e
   where
-    by_terms : (o : Option TermsVerdict) → terms_verdict_by y (machine.read (kinds terms)) (machine.fault_at (tokens terms) machine.Due []) ≡ o → option_map (due_of_terms y shown n) o ≡ Some d
+    by_terms : (o : Option TermsVerdict) → terms_verdict_by y (machine.read (kinds terms)) (machine.fault_at (tokens terms) machine.Due []) ≡ o
+        → option_map (due_of_terms y shown n) o ≡ Some d
         → (v : TermsVerdict) × IsTermsVerdict y terms v × (d ≡ due_of_terms y shown n v)
     by_terms None k e = absurd (cc e)
-    by_terms (Some v) k e = let same : d ≡ due_of_terms y shown n v = cc in (v, terms_verdict y terms (machine.read (kinds terms)) (machine.fault_at (tokens terms) machine.Due []) fits refl refl v k, same)
+    by_terms (Some v) k e = let same : d ≡ due_of_terms y shown n v = cc in
+        (v, terms_verdict y terms (machine.read (kinds terms)) (machine.fault_at (tokens terms) machine.Due []) fits refl refl v k, same)
 due_after terms shown n d fits Long e = let same : d ≡ due_of_spec shown n Long = cc in same
 due_after terms shown n d fits (Grammar at) e = let same : d ≡ due_of_spec shown n (Grammar at) = cc in same
 due_after terms shown n d fits (Breaks f) e = let same : d ≡ due_of_spec shown n (Breaks f) = cc in same
@@ -92,9 +104,11 @@ due_after terms shown n d fits (Breaks f) e = let same : d ≡ due_of_spec shown
 -- what is due for two texts that are not too long: all premises are computed
 pub due_of_texts : (spec terms : List ℕ) (shown : Shown) (n : ℕ) (d : Due) → nat_le (length spec) 16777216 ≡ true → nat_le (length terms) 16777216 ≡ true
     → option_and_then (due_by terms shown n) (verdict_by (comes_of spec)) ≡ Some d → IsDue spec (Some terms) shown n d
-due_of_texts spec terms shown n d fits short e = by_verdict (verdict_by (comes_of spec)) (λ v. machine_verdict spec (comes_of spec) v (leb-true (length spec) 16777216 fits) refl) e
+due_of_texts spec terms shown n d fits short e = by_verdict (verdict_by (comes_of spec)) (λ v.
+    machine_verdict spec (comes_of spec) v (leb-true (length spec) 16777216 fits) refl) e
   where
-    by_verdict : (o : Option Verdict) → ((v : Verdict) → o ≡ Some v → SpecVerdict spec v) → option_and_then (due_by terms shown n) o ≡ Some d → IsDue spec (Some terms) shown n d
+    by_verdict : (o : Option Verdict) → ((v : Verdict) → o ≡ Some v → SpecVerdict spec v) → option_and_then (due_by terms shown n) o ≡ Some d
+        → IsDue spec (Some terms) shown n d
     by_verdict None h e = absurd (cc e)
     by_verdict (Some v) h e = (v, h v refl, due_after terms shown n d (leb-true (length terms) 16777216 short) v e)
 
@@ -121,13 +135,15 @@ abbrev pub due_for : List ℕ → Option (List ℕ) → Shown → ℕ → Option
 due_for spec None shown n = option_map (due_of_spec shown n) (verdict_by (comes_of spec))
 due_for spec (Some terms) shown n = option_and_then (due_by terms shown n) (verdict_by (comes_of spec))
 
-row_due : (spec : List ℕ) (terms : Option (List ℕ)) (shown : Shown) (n : ℕ) (d : Due) → are_short spec terms ≡ true → due_for spec terms shown n ≡ Some d → IsDue spec terms shown n d
+row_due : (spec : List ℕ) (terms : Option (List ℕ)) (shown : Shown) (n : ℕ) (d : Due) → are_short spec terms ≡ true
+    → due_for spec terms shown n ≡ Some d → IsDue spec terms shown n d
 row_due spec None shown n d fits e = due_of_text spec shown n d fits e
 row_due spec (Some terms) shown n d fits e =
     let both = and_parts (nat_le (length spec) 16777216) (nat_le (length terms) 16777216) fits in
     due_of_texts spec terms shown n d both.0 both.1 e
 
 -- so is each row that is computed to be
-pub rows_due : (rs : List Row) → map (λ r. are_short r.spec r.terms) rs ≡ map (λ r. true) rs → map (λ r. due_for r.spec r.terms r.shown r.steps) rs ≡ map (λ r. Some r.due) rs → AreDue rs
+pub rows_due : (rs : List Row) → map (λ r. are_short r.spec r.terms) rs ≡ map (λ r. true) rs
+    → map (λ r. due_for r.spec r.terms r.shown r.steps) rs ≡ map (λ r. Some r.due) rs → AreDue rs
 rows_due [] fits e = tt
 rows_due (r ∷ rs) fits e = (row_due r.spec r.terms r.shown r.steps r.due (cc fits) (cc e), rows_due rs (cc fits) (cc e))

@@ -25,7 +25,8 @@ long_spec = refl
 spec_outside : due_of_spec (bare true) 7 (Grammar 17) ≡ due Refused (codes "!spec G\n") (Some (record { text = source.Spec; rule = named.G; at = 17 }))
 spec_outside = refl
 
-broken_spec : due_of_spec (bare true) 7 (Breaks (record { number = 10; at = 88 })) ≡ due Refused (codes "!spec S10\n") (Some (record { text = source.Spec; rule = named.S 10; at = 88 }))
+broken_spec : due_of_spec (bare true) 7 (Breaks (record { number = 10; at = 88 })) ≡ due Refused (codes "!spec S10\n")
+    (Some (record { text = source.Spec; rule = named.S 10; at = 88 }))
 unfolding digits
 broken_spec = refl
 
@@ -57,12 +58,14 @@ unfolding Eval digits
 good_terms = refl
 
 -- the steps stand behind the annotations, and not behind a limit
-good_terms-counted : due_of_terms q (bare true) 1 (GoodTerms (Appl (codes "f") false (more a none) (more b none) ∷ f (f a) ∷ [])) ≡ due Done (codes "a\t1\na{b}\t1\n!limit 1\n") None
+good_terms-counted : due_of_terms q (bare true) 1 (GoodTerms (Appl (codes "f") false (more a none) (more b none) ∷ f (f a) ∷ [])) ≡ due Done
+    (codes "a\t1\na{b}\t1\n!limit 1\n") None
 unfolding Eval digits
 good_terms-counted = refl
 
 -- a refused specification is all that is told, whatever the terms are
-terms_unread : (terms : List ℕ) (d : Due) → IsDueAfter (Grammar 17) (Some terms) (bare true) 7 d → d ≡ due Refused (codes "!spec G\n") (Some (record { text = source.Spec; rule = named.G; at = 17 }))
+terms_unread : (terms : List ℕ) (d : Due) → IsDueAfter (Grammar 17) (Some terms) (bare true) 7 d
+    → d ≡ due Refused (codes "!spec G\n") (Some (record { text = source.Spec; rule = named.G; at = 17 }))
 terms_unread terms d h = h
 
 -- 16777216 bytes are not too many, and one more is
@@ -88,5 +91,6 @@ terms_not_long_at_the_limit y bytes e h = omega (arith, e, h)
 good_keeps_rules : (bytes : List ℕ) (y : Spec) → SpecVerdict bytes (Good y) → fault y ≡ None
 good_keeps_rules bytes y h = h.2
 
-good_terms_keep_rules : (y : Spec) (bytes : List ℕ) (ts : List Tree) → IsTermsVerdict y bytes (GoodTerms ts) → (t : Tree) × (broken_by_terms y t ≡ None) × (elements t ≡ Some ts)
+good_terms_keep_rules : (y : Spec) (bytes : List ℕ) (ts : List Tree) → IsTermsVerdict y bytes (GoodTerms ts)
+    → (t : Tree) × (broken_by_terms y t ≡ None) × (elements t ≡ Some ts)
 good_terms_keep_rules y bytes ts h = (h.1.0, h.1.2, h.1.3)

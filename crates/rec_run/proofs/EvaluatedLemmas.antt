@@ -1,5 +1,6 @@
 -- From what an engine answers to the lines that are due.
-use Rattle.std.proofs.Common.{◌≡◌, ◌≢◌, ℕ, ◌+◌, ◌-◌, ◌<◌, ◌^◌, Bool, true, cond, List, [], ◌++◌, Option, Some, None, IsSome, IfSome, get_or, take, length, refl, sym, ap, ap₂, subst, ◌∙◌, arith, append-nil}
+use Rattle.std.proofs.Common.{◌≡◌, ◌≢◌, ℕ, ◌+◌, ◌-◌, ◌<◌, ◌^◌, Bool, true, cond, List, [], ◌++◌, Option, Some, None}
+use Rattle.std.proofs.Common.{IsSome, IfSome, get_or, take, length, refl, sym, ap, ap₂, subst, ◌∙◌, arith, append-nil}
 use Rattle.std.specs.Prelude.{codes, decimal, is_some, unwrap_or}
 use Rattle.std.specs.Option.{option_map}
 use Rattle.std.specs.Io.KnownBytes.{Appends}
@@ -51,22 +52,26 @@ line_said Bare n notes = append-nil (codes "!limit " ++ decimal n)
 line_said Annotated n notes = refl
 
 -- with what is said besides it is the text of the term's line
-pub outcome_text-line : (y : Spec) (w : Store) (counted : Bool) (limits : LimitLines) (n : ℕ) (u : Tree) (o : Outcome) → IsOutcome y w n u o → outcome_text w counted n o ++ said o limits (annotations u) ≡ given_text y (shown_by counted limits) n u
+pub outcome_text-line : (y : Spec) (w : Store) (counted : Bool) (limits : LimitLines) (n : ℕ) (u : Tree) (o : Outcome) → IsOutcome y w n u o
+    → outcome_text w counted n o ++ said o limits (annotations u) ≡ given_text y (shown_by counted limits) n u
 outcome_text-line y w counted limits n u (Value r steps) h =
     let spent = h.spent in
     let back : steps ≡ n - h.left = omega (arith, spent) in
     append-nil (canon (item_at w r) ++ steps_text counted steps)
-    ∙ ap₂ (λ t k. canon t ++ steps_text counted k) (ap (λ o. unwrap_or o (list_of none)) h.there) back ∙ ap (evaluation_text (annotations u) (shown_by counted limits) n) (sym h.evaluated)
+    ∙ ap₂ (λ t k. canon t ++ steps_text counted k) (ap (λ o. unwrap_or o (list_of none)) h.there) back
+    ∙ ap (evaluation_text (annotations u) (shown_by counted limits) n) (sym h.evaluated)
 outcome_text-line y w counted limits n u Limit h = line_said limits n (annotations u) ∙ ap (evaluation_text (annotations u) (shown_by counted limits) n) (sym h)
 
 -- what is said of a term that stays
-said_stays : (o : Outcome) (limits : LimitLines) (old new : Store) (t : Reference) → StaysFor limits old t → Keeps old new [] → said o limits (annotations (item_at new t)) ≡ said o limits (annotations (item_at old t))
+said_stays : (o : Outcome) (limits : LimitLines) (old new : Store) (t : Reference) → StaysFor limits old t → Keeps old new []
+    → said o limits (annotations (item_at new t)) ≡ said o limits (annotations (item_at old t))
 said_stays (Value r steps) limits old new t h keeps = refl
 said_stays Limit Bare old new t h keeps = refl
 said_stays Limit Annotated old new t h keeps = ap (λ u. notes_text (annotations (unwrap_or u (list_of none)))) (h new keeps)
 
 -- a term that stays is there
-pub there_for : {B : Type 0} (store : B → Store) (limits : LimitLines) (old : Store) (again new : B) (t : Reference) → again ≡ new → StaysFor limits old t → Keeps old (store new) [] → IsSome (tree_at old t) → IsThereFor limits (store again) t
+pub there_for : {B : Type 0} (store : B → Store) (limits : LimitLines) (old : Store) (again new : B) (t : Reference) → again ≡ new
+    → StaysFor limits old t → Keeps old (store new) [] → IsSome (tree_at old t) → IsThereFor limits (store again) t
 there_for store Bare old again new t one h keeps held = tt
 there_for store Annotated old again new t one h keeps held = ap is_some (ap (λ b. tree_at (store b) t) one ∙ h (store new) keeps) ∙ held
 
@@ -81,18 +86,21 @@ given_item y w t given = ap (λ o. unwrap_or o (list_of none)) given.held
 
 -- what is shown of an answer, by the bank that an engine gives twice, is the text of the line of the term that was given
 pub answered-line :
-    {B : Type 0} (store : B → Store) (y z : Spec) (old : Store) (asked again new : B) (counted : Bool) (limits : LimitLines) (n : ℕ) (t : Reference) (o : Outcome) → asked ≡ new → again ≡ new → IsGiven y old t → z ≡ y → ((u : Tree) → tree_at old t ≡ Some u → IsOutcome z (store new) n u o)
+    {B : Type 0} (store : B → Store) (y z : Spec) (old : Store) (asked again new : B) (counted : Bool) (limits : LimitLines) (n : ℕ) (t : Reference)
+    (o : Outcome) → asked ≡ new → again ≡ new → IsGiven y old t → z ≡ y → ((u : Tree) → tree_at old t ≡ Some u → IsOutcome z (store new) n u o)
     → StaysFor limits old t → Keeps old (store new) []
     → outcome_text (store asked) counted n o ++ said o limits (annotations (item_at (store again) t)) ≡ given_text y (shown_by counted limits) n (item_at old t)
 answered-line store y z old asked again new counted limits n t o one two given same answered stays keeps =
     let shown = shown_by counted limits in
     ap₂ (λ text more. text ++ more) (ap (λ b. outcome_text (store b) counted n o) one)
-    (ap (λ b. said o limits (annotations (item_at (store b) t))) two ∙ said_stays o limits old (store new) t stays keeps ∙ ap (λ u. said o limits (annotations u)) (given_item y old t given))
+    (ap (λ b. said o limits (annotations (item_at (store b) t))) two ∙ said_stays o limits old (store new) t stays keeps
+    ∙ ap (λ u. said o limits (annotations u)) (given_item y old t given))
     ∙ outcome_text-line z (store new) counted limits n given.tree o (answered given.tree given.held)
     ∙ ap (λ x. given_text x shown n given.tree) same ∙ ap (given_text y shown n) (sym (given_item y old t given))
 
 -- the text of the line of the term at the front of a rest
-pub front-line : (y z : Spec) (w : Store) (us : List Tree) (rest r : Reference) (i : ℕ) (shown : Shown) (n : ℕ) (here : FrontAt y w us rest i) → z ≡ y → tree_at w r ≡ Some here.tree
+pub front-line : (y z : Spec) (w : Store) (us : List Tree) (rest r : Reference) (i : ℕ) (shown : Shown) (n : ℕ) (here : FrontAt y w us rest i) → z ≡ y
+    → tree_at w r ≡ Some here.tree
     → given_text z shown n (item_at w r) ≡ given_text y shown n (get_or us i (list_of none))
 front-line y z w us rest r i shown n here same held =
     ap (λ x. given_text x shown n (item_at w r)) same ∙ ap (given_text y shown n) (ap (λ o. unwrap_or o (list_of none)) held ∙ sym here.got)
@@ -108,7 +116,8 @@ mutual
   evaluate-trees c n Terms.none = refl
   evaluate-trees c n (Terms.more t ts) =
       then_agrees (evaluate c n [] (term_of (tree_of t))) (evaluate c n [] t)
-      (λ v left. evaluate_all c left [] (terms_of (instances [] ts)) then λ vs rest. Done (more v vs) rest) (λ v left. evaluate_all c left [] ts then λ vs rest. Done (more v vs) rest)
+      (λ v left. evaluate_all c left [] (terms_of (instances [] ts)) then λ vs rest. Done (more v vs) rest) (λ v left.
+      evaluate_all c left [] ts then λ vs rest. Done (more v vs) rest)
       (evaluate-tree c n t) (λ v left e. ap (λ o. o then λ vs rest. Done (more v vs) rest) (evaluate-trees c left ts))
 
 pub eval-tree : (y : Spec) (n : ℕ) (t : Term) → Eval y n [] (term_of (tree_of t)) ≡ Eval y n [] t
@@ -122,15 +131,18 @@ bare_tree (Apply w ts) = refl
 tree-line : (y : Spec) (shown : Shown) (n : ℕ) (t : Term) → given_text y shown n (tree_of t) ≡ line_text y shown n t
 tree-line y shown n t = ap₂ (λ notes o. evaluation_text notes shown n o) (bare_tree t) (eval-tree y n t)
 
-pub own-line : (y z : Spec) (w : Store) (shown : Shown) (n i : ℕ) (t : Reference) → z ≡ y → i < length y.terms → tree_at w t ≡ eval_tree z i → given_text z shown n (item_at w t) ≡ text_at y shown n i
+pub own-line : (y z : Spec) (w : Store) (shown : Shown) (n i : ℕ) (t : Reference) → z ≡ y → i < length y.terms → tree_at w t ≡ eval_tree z i
+    → given_text z shown n (item_at w t) ≡ text_at y shown n i
 own-line y z w shown n i t same low here =
-    let own : tree_at w t ≡ Some (tree_of (term_at y i)) = here ∙ ap (λ x. eval_tree x i) same ∙ ap (option_map tree_of) (slice_get-get_or y.terms i (Apply nameless syntax.none) low) in
+    let own : tree_at w t ≡ Some (tree_of (term_at y i)) = here ∙ ap (λ x. eval_tree x i) same
+    ∙ ap (option_map tree_of) (slice_get-get_or y.terms i (Apply nameless syntax.none) low) in
     ap (λ x. given_text x shown n (item_at w t)) same ∙ ap (λ o. given_text y shown n (unwrap_or o (list_of none))) own ∙ tree-line y shown n (term_at y i)
 
 -- ---- faults
 
 -- a line's want of cells is the run's
-pub line_lacks : (w : Store) (work : List Reference) (m : Pairs) (f : LineFault) (lines : ℕ) (r : RunFault) → r ≡ fault_after f lines → LineLacks w work m f → RunLacks w work m r
+pub line_lacks : (w : Store) (work : List Reference) (m : Pairs) (f : LineFault) (lines : ℕ) (r : RunFault) → r ≡ fault_after f lines
+    → LineLacks w work m f → RunLacks w work m r
 line_lacks w work m f lines r e h = subst (RunLacks w work m) (sym e) (of f h)
   where
     of : (f : LineFault) → LineLacks w work m f → RunLacks w work m (fault_after f lines)
@@ -153,17 +165,21 @@ front_due Write text old new h = front_before old new text (codes "\n") h
 
 -- ---- lines
 
-front_of : {X : Type 0} (w : LineFault) (f : X → List ℕ) (items : List X) (i : ℕ) (d : X) (front rest : List ℕ) → i < length items → due_before w (f (get_or items i d)) ≡ front ++ rest → IsFront (lines_of f (take i items) ++ front) (lines_of f items)
+front_of : {X : Type 0} (w : LineFault) (f : X → List ℕ) (items : List X) (i : ℕ) (d : X) (front rest : List ℕ) → i < length items
+    → due_before w (f (get_or items i d)) ≡ front ++ rest → IsFront (lines_of f (take i items) ++ front) (lines_of f items)
 front_of Memory f items i d front rest h e = front_in_lines f items i d front (rest ++ codes "\n") h (front_in_line (f (get_or items i d)) front rest e)
 front_of Room f items i d front rest h e = front_in_lines f items i d front (rest ++ codes "\n") h (front_in_line (f (get_or items i d)) front rest e)
 front_of Write f items i d front rest h e = front_in_lines f items i d front rest h e
 
-report_of : {X : Type 0} (w : LineFault) (f : X → List ℕ) (items : List X) (i : ℕ) (d : X) (front rest : List ℕ) → NoEnds f items → i < length items → due_before w (f (get_or items i d)) ≡ front ++ rest → Reports (fault_after w i) (lines_of f (take i items) ++ front)
+report_of : {X : Type 0} (w : LineFault) (f : X → List ℕ) (items : List X) (i : ℕ) (d : X) (front rest : List ℕ) → NoEnds f items → i < length items
+    → due_before w (f (get_or items i d)) ≡ front ++ rest → Reports (fault_after w i) (lines_of f (take i items) ++ front)
 report_of Memory f items i d front rest no_ends h e = ends_before f items i d front rest no_ends h e
 report_of Room f items i d front rest no_ends h e = ends_before f items i d front rest no_ends h e
 report_of Write f items i d front rest no_ends h e = tt
 
-report_after : {X : Type 0} (w : LineFault) (first : ℕ) (f : X → List ℕ) (items : List X) (i : ℕ) (d : X) (front rest : List ℕ) → NoEnds f items → i < length items → due_before w (f (get_or items i d)) ≡ front ++ rest → ReportsAfter first (fault_after w (first + i)) (lines_of f (take i items) ++ front)
+report_after : {X : Type 0} (w : LineFault) (first : ℕ) (f : X → List ℕ) (items : List X) (i : ℕ) (d : X) (front rest : List ℕ) → NoEnds f items
+    → i < length items → due_before w (f (get_or items i d)) ≡ front ++ rest
+    → ReportsAfter first (fault_after w (first + i)) (lines_of f (take i items) ++ front)
 report_after Memory first f items i d front rest no_ends h e = ap (λ n. first + n) (ends_before f items i d front rest no_ends h e)
 report_after Room first f items i d front rest no_ends h e = ap (λ n. first + n) (ends_before f items i d front rest no_ends h e)
 report_after Write first f items i d front rest no_ends h e = tt
@@ -184,7 +200,8 @@ lines_stopped w f items i d old between new no_ends h so_far (front, appended, (
 
 -- so did the lines behind others
 pub lines_stopped_after :
-    {X : Type 0} (w : LineFault) (first : ℕ) (f : X → List ℕ) (items : List X) (i : ℕ) (d : X) (old between new : Option (List ℕ)) → NoEnds f items → i < length items
+    {X : Type 0} (w : LineFault) (first : ℕ) (f : X → List ℕ) (items : List X) (i : ℕ) (d : X) (old between new : Option (List ℕ)) → NoEnds f items
+    → i < length items
     → Appends old between (lines_of f (take i items))
     → AppendsFront (due_before w (f (get_or items i d))) between new
     → StopsAfter first (fault_after w (first + i)) (lines_of f items) old new
@@ -197,11 +214,13 @@ lines_stopped_after w first f items i d old between new no_ends h so_far (front,
     }
 
 -- the line of no term of a list has a line end before its own
-pub held_no_ends : (y : Spec) (w : Store) (list : Reference) (shown : Shown) (n : ℕ) → n < 2 ^ 64 → IsSound w → HoldsTerms y w list → NoEnds (given_text y shown n) (given_at w list)
+pub held_no_ends : (y : Spec) (w : Store) (list : Reference) (shown : Shown) (n : ℕ) → n < 2 ^ 64 → IsSound w → HoldsTerms y w list
+    → NoEnds (given_text y shown n) (given_at w list)
 held_no_ends y w list shown n few sound holds k d low =
     let us = given_at w list in
     let valid = (and_parts (are_trees (from_list us)) true (sound.valid list (list_of (from_list us)) holds.held)).0 in
-    given_text-newlines y shown n few (get_or us k d) (notes-newlines (annotations (get_or us k d)) (annotations_trees (get_or us k d) (all_trees us valid k d low)))
+    given_text-newlines y shown n few (get_or us k d) (notes-newlines (annotations (get_or us k d))
+    (annotations_trees (get_or us k d) (all_trees us valid k d low)))
 
 -- ---- a protected list
 
@@ -218,10 +237,12 @@ holds-content y old new list e h =
     }
 
 -- terms that are protected once, where symbols are added
-pub protects : (y : Spec) (old mid new : Store) (list : Reference) → HoldsTerms y old list → mid ≡ with_count old list 1 → HasMoreSymbols mid new → ProtectsTerms y new list
+pub protects : (y : Spec) (old mid new : Store) (list : Reference) → HoldsTerms y old list → mid ≡ with_count old list 1 → HasMoreSymbols mid new
+    → ProtectsTerms y new list
 protects y old mid new list h counted grown =
     let content : new.content ≡ old.content = grown.content ∙ ap (λ (w : Store). w.content) counted in
-    let one : new.roots list.0 ≡ 1 = ap (λ f. f list.0) (grown.roots ∙ ap (λ (w : Store). w.roots) counted) ∙ ap (λ b. cond b 1 (old.roots list.0)) (eq-eqb list.0 list.0 refl) in
+    let one : new.roots list.0 ≡ 1 = ap (λ f. f list.0) (grown.roots ∙ ap (λ (w : Store). w.roots) counted)
+    ∙ ap (λ b. cond b 1 (old.roots list.0)) (eq-eqb list.0 list.0 refl) in
     record { holds = holds-content y old new list content h; protected = omega (arith, one) }
 
 -- it stays so

@@ -1,5 +1,6 @@
 -- From what was read of the text of terms to what is due for it.
-use Rattle.std.proofs.Common.{◌≡◌, ℕ, ◌+◌, List, Option, Some, None, Result, Ok, Err, IfErr, IfOk, IfSome, IsErrAnd, IsSome, OnOk, take, refl, sym, ap, subst, ◌∙◌, arith}
+use Rattle.std.proofs.Common.{◌≡◌, ℕ, ◌+◌, List, Option, Some, None, Result, Ok, Err, IfErr, IfOk}
+use Rattle.std.proofs.Common.{IfSome, IsErrAnd, IsSome, OnOk, take, refl, sym, ap, subst, ◌∙◌, arith}
 use Rattle.std.specs.Prelude.{option_map}
 use Rattle.std.proofs.lemmas.List.{length-take}
 use Rattle.rx_term.specs.Tree.{Tree}
@@ -14,7 +15,8 @@ use Rattle.rec_sorts.specs.TermRules.{broken_by_terms}
 use Rattle.rec_sorts.specs.TermsFaults.{IsTermsFault}
 use Rattle.rec_sorts.specs.declared.fault.TermsFault.{TermsFault}
 use Rattle.rec_sorts.specs.declared.fault.TermsFault.TheVariants as rule
-use Rattle.rec_run.specs.GivenTerms.{EndsRefused, HoldsList, HoldsTerms, IsListRead, IsReadAs, IsReadFor, IsReadFrom, IsReady, IsRefusal, IsRefused, IsTermsRead, refused_terms, OnGoodSpec, OnRefusedSpec, job_alone_of, job_of, list_refused}
+use Rattle.rec_run.specs.GivenTerms.{EndsRefused, HoldsList, HoldsTerms, IsListRead, IsReadAs, IsReadFor, IsReadFrom, IsReady, IsRefusal}
+use Rattle.rec_run.specs.GivenTerms.{IsRefused, IsTermsRead, refused_terms, OnGoodSpec, OnRefusedSpec, job_alone_of, job_of, list_refused}
 use Rattle.rx_run.specs.TermRuns.{IsReadingOf}
 use Rattle.rec_run.specs.Output.{GoodTerms, BreaksTerms, TooLong, Outside, Shown, TermsVerdict, IsTermsVerdict, due_of_terms}
 use Rattle.rx_run.specs.Run.{fault_of_read}
@@ -47,7 +49,8 @@ terms_front y bytes (BreaksTerms number) h = subst (λ text. IsTermsVerdict y te
 terms_front y bytes (GoodTerms us) h = subst (λ text. IsTermsVerdict y text (GoodTerms us)) (short_front bytes h.0) h
 
 -- what was read of a text of terms is the verdict on it
-pub read_front : (known : Option (List ℕ)) (text given : List ℕ) (y : Spec) (w : Store) (r : Reading Reference) → IfSome known (λ bytes. text ≡ take (LIMIT + 1) bytes) → given ≡ text → IsTermsRead y w given r → IfSome known (λ bytes. IsTermsRead y w bytes r)
+pub read_front : (known : Option (List ℕ)) (text given : List ℕ) (y : Spec) (w : Store) (r : Reading Reference)
+    → IfSome known (λ bytes. text ≡ take (LIMIT + 1) bytes) → given ≡ text → IsTermsRead y w given r → IfSome known (λ bytes. IsTermsRead y w bytes r)
 read_front None text given y w r front same h = tt
 read_front (Some bytes) text given y w r front same (v, h, is) = (v, terms_front y bytes v (subst (λ t. IsTermsVerdict y t v) (same ∙ front) h), is)
 
@@ -62,16 +65,19 @@ list_read : (y : Spec) (w : Store) (bytes : List ℕ) (r : Reading Reference) �
 list_read y w bytes (RefusedRun r) (v, h, is) = λ shown n. (v, h, refused_due y shown n r v is)
 list_read y w bytes (GoodRun list) (v, h, is) = λ shown n. (v, h, ap (due_of_terms y shown n) (sym is))
 
-pub read_due : (known : Option (List ℕ)) (y : Spec) (w : Store) (r : Reading Reference) → IfSome known (λ bytes. IsTermsRead y w bytes r) → IfSome known (λ bytes. IsListRead y w bytes r)
+pub read_due : (known : Option (List ℕ)) (y : Spec) (w : Store) (r : Reading Reference) → IfSome known (λ bytes. IsTermsRead y w bytes r)
+    → IfSome known (λ bytes. IsListRead y w bytes r)
 read_due None y w r h = tt
 read_due (Some bytes) y w r h = list_read y w bytes r h
 
 -- and with a good specification what is due for both texts
-job_read : (w : Store) (checked : Sourced) (bytes : List ℕ) (r : Reading Reference) → IsListRead checked.spec w bytes r → IsReadFor w checked.spec bytes (job_of checked r)
+job_read : (w : Store) (checked : Sourced) (bytes : List ℕ) (r : Reading Reference) → IsListRead checked.spec w bytes r
+    → IsReadFor w checked.spec bytes (job_of checked r)
 job_read w checked bytes (RefusedRun r) h = h
 job_read w checked bytes (GoodRun list) h = h
 
-pub job_due : (w : Store) (known : Option (List ℕ)) (checked : Sourced) (r : Reading Reference) (job : Reading Job) → job ≡ job_of checked r → IfSome known (λ bytes. IsListRead checked.spec w bytes r) → IfSome known (λ bytes. IsReadFor w checked.spec bytes job)
+pub job_due : (w : Store) (known : Option (List ℕ)) (checked : Sourced) (r : Reading Reference) (job : Reading Job) → job ≡ job_of checked r
+    → IfSome known (λ bytes. IsListRead checked.spec w bytes r) → IfSome known (λ bytes. IsReadFor w checked.spec bytes job)
 job_due w None checked r job e h = tt
 job_due w (Some bytes) checked r job e h = subst (IsReadFor w checked.spec bytes) (sym e) (job_read w checked bytes r h)
 
@@ -81,13 +87,15 @@ job_ready w checked (RefusedRun r) h = tt
 job_ready w checked (GoodRun list) h = λ x e. let same : list ≡ x = cc in subst (HoldsTerms checked.spec w) same h
 
 -- a text of terms that is no term's
-pub no_term : (y : Spec) (w : Store) (bytes : List ℕ) (r : Refusal) (v : text.Verdict) → refused_text source.Terms v ≡ Some r → IsVerdict bytes v → IsTermsRead y w bytes (RefusedRun r)
+pub no_term : (y : Spec) (w : Store) (bytes : List ℕ) (r : Refusal) (v : text.Verdict) → refused_text source.Terms v ≡ Some r → IsVerdict bytes v
+    → IsTermsRead y w bytes (RefusedRun r)
 no_term y w bytes r text.TooLong e h = (TooLong, h, e)
 no_term y w bytes r (text.Outside at) e h = (Outside at, h, e)
 no_term y w bytes r (Spelt t) e h = absurd (cc e)
 
 -- a text of terms that is one
-pub some_term : (y : Spec) (w : Store) (bytes : List ℕ) (list : Reference) (v : text.Verdict) (r : Reading Reference) → IsReadingOf source.Terms w (GoodRun list) v → IsVerdict bytes v
+pub some_term : (y : Spec) (w : Store) (bytes : List ℕ) (list : Reference) (v : text.Verdict) (r : Reading Reference)
+    → IsReadingOf source.Terms w (GoodRun list) v → IsVerdict bytes v
     → IfSome (tree_at w list) (λ t. (bytes : List ℕ) → Fits bytes → Spells bytes t → IsTermsRead y w bytes r) → IsTermsRead y w bytes r
 some_term y w bytes list v r (u, here, e) h k =
     let of = subst (λ o. IfSome o (λ t. (bytes : List ℕ) → Fits bytes → Spells bytes t → IsTermsRead y w bytes r)) here k in
@@ -95,23 +103,29 @@ some_term y w bytes list v r (u, here, e) h k =
     of bytes spelt.0 spelt.1
 
 -- a list that is not accepted: the rule that it breaks is due
-broken_list : (o : Option Tree) (y : Spec) (w : Store) (number : ℕ) → IfSome o (λ t. broken_by_terms y t ≡ Some number) → IfSome o (λ t. (bytes : List ℕ) → Fits bytes → Spells bytes t → IsTermsRead y w bytes (RefusedRun (record { text = source.Terms; reason = reason.TermsRule number })))
+broken_list : (o : Option Tree) (y : Spec) (w : Store) (number : ℕ) → IfSome o (λ t. broken_by_terms y t ≡ Some number)
+    → IfSome o (λ t. (bytes : List ℕ) → Fits bytes → Spells bytes t
+    → IsTermsRead y w bytes (RefusedRun (record { text = source.Terms; reason = reason.TermsRule number })))
 broken_list None y w number h = tt
 broken_list (Some t) y w number h = λ bytes fits spells. (BreaksTerms number, (fits, (t, spells, h)), refl)
 
-due_refused : (o : Option Tree) (y : Spec) (w : Store) (e : TermsFault) → IfSome o (λ t. IsTermsFault (broken_by_terms y t) e) → IfOk (list_refused e) (λ r. IfSome o (λ t. (bytes : List ℕ) → Fits bytes → Spells bytes t → IsTermsRead y w bytes r))
+due_refused : (o : Option Tree) (y : Spec) (w : Store) (e : TermsFault) → IfSome o (λ t. IsTermsFault (broken_by_terms y t) e)
+    → IfOk (list_refused e) (λ r. IfSome o (λ t. (bytes : List ℕ) → Fits bytes → Spells bytes t → IsTermsRead y w bytes r))
 due_refused o y w (rule.Rule number) h = broken_list o y w number h
 due_refused o y w rule.Memory h = tt
 
-pub list_due : (result : Result (Reading Reference) RunFault) (o : Option Tree) (y : Spec) (w : Store) (e : TermsFault) → result ≡ list_refused e → IfSome o (λ t. IsTermsFault (broken_by_terms y t) e)
+pub list_due : (result : Result (Reading Reference) RunFault) (o : Option Tree) (y : Spec) (w : Store) (e : TermsFault) → result ≡ list_refused e
+    → IfSome o (λ t. IsTermsFault (broken_by_terms y t) e)
     → IfOk result (λ r. IfSome o (λ t. (bytes : List ℕ) → Fits bytes → Spells bytes t → IsTermsRead y w bytes r))
-list_due result o y w e same h = subst (λ z. IfOk z (λ r. IfSome o (λ t. (bytes : List ℕ) → Fits bytes → Spells bytes t → IsTermsRead y w bytes r))) (sym same) (due_refused o y w e h)
+list_due result o y w e same h = subst (λ z. IfOk z (λ r. IfSome o (λ t. (bytes : List ℕ) → Fits bytes → Spells bytes t → IsTermsRead y w bytes r)))
+    (sym same) (due_refused o y w e h)
 
 holds_refused : (y : Spec) (w : Store) (e : TermsFault) → IfOk (list_refused e) (HoldsList y w)
 holds_refused y w (rule.Rule number) = tt
 holds_refused y w rule.Memory = tt
 
-pub refused_holds : (y : Spec) (w : Store) (result : Result (Reading Reference) RunFault) (e : TermsFault) → result ≡ list_refused e → IfOk result (HoldsList y w)
+pub refused_holds : (y : Spec) (w : Store) (result : Result (Reading Reference) RunFault) (e : TermsFault) → result ≡ list_refused e
+    → IfOk result (HoldsList y w)
 refused_holds y w result e same = subst (λ z. IfOk z (HoldsList y w)) (sym same) (holds_refused y w e)
 
 list_memory : (e : TermsFault) → IfErr (list_refused e) (λ f. f ≡ fault.Memory 0)
@@ -126,14 +140,16 @@ pub good_list : (w : Store) (y : Spec) (list : Reference) → IfSome (tree_at w 
     → IfSome (tree_at w list) (λ t. (bytes : List ℕ) → Fits bytes → Spells bytes t → IsTermsRead y w bytes (GoodRun list))
 good_list w y list h = by (tree_at w list) refl h
   where
-    by : (o : Option Tree) → tree_at w list ≡ o → IfSome o (λ t. broken_by_terms y t ≡ None) → IfSome o (λ t. (bytes : List ℕ) → Fits bytes → Spells bytes t → IsTermsRead y w bytes (GoodRun list))
+    by : (o : Option Tree) → tree_at w list ≡ o → IfSome o (λ t. broken_by_terms y t ≡ None)
+        → IfSome o (λ t. (bytes : List ℕ) → Fits bytes → Spells bytes t → IsTermsRead y w bytes (GoodRun list))
     by None here kept = tt
     by (Some t) here kept = λ bytes fits spells.
         let found = kept_elements y t kept in
         (GoodTerms found.0, (fits, (t, spells, kept, found.1)), ap GoodTerms (sym (given_elements w list t found.0 here found.1)))
 
 -- its terms keep the rules
-pub list_holds : (w : Store) (y : Spec) (list : Reference) → IsSome (tree_at w list) → IfSome (tree_at w list) (λ t. broken_by_terms y t ≡ None) → HoldsTerms y w list
+pub list_holds : (w : Store) (y : Spec) (list : Reference) → IsSome (tree_at w list) → IfSome (tree_at w list) (λ t. broken_by_terms y t ≡ None)
+    → HoldsTerms y w list
 list_holds w y list there h = by (tree_at w list) refl there h
   where
     by : (o : Option Tree) → tree_at w list ≡ o → IsSome o → IfSome o (λ t. broken_by_terms y t ≡ None) → HoldsTerms y w list
@@ -141,19 +157,22 @@ list_holds w y list there h = by (tree_at w list) refl there h
     by (Some t) here there kept = holds_terms y w list t here kept
 
 -- what both texts came to, where terms are given
-read_both : (w : Store) (bytes given : Option (List ℕ)) (first : Reading Sourced) (r : Reading Job) → IfSome bytes (λ b. IsSpecRead b first) → ((v : Verdict) → IsSpecReading first v → IfSome given (λ b. IsReadAs w v b r))
+read_both : (w : Store) (bytes given : Option (List ℕ)) (first : Reading Sourced) (r : Reading Job) → IfSome bytes (λ b. IsSpecRead b first)
+    → ((v : Verdict) → IsSpecReading first v → IfSome given (λ b. IsReadAs w v b r))
     → IfSome (both_texts bytes (option_map (λ b. Some b) given)) (λ texts. IsReadFrom w texts r)
 read_both w None given first r h k = tt
 read_both w (Some b) None first r h k = tt
 read_both w (Some b) (Some t) first r (v, h, is) k = λ shown n. (v, h, k v is shown n)
 
-pub read_with : (w : Store) (result : Result (Reading Job) RunFault) (bytes given : Option (List ℕ)) (first : Reading Sourced) → IfSome bytes (λ b. IsSpecRead b first) → IfOk result (λ r. (v : Verdict) → IsSpecReading first v → IfSome given (λ b. IsReadAs w v b r))
+pub read_with : (w : Store) (result : Result (Reading Job) RunFault) (bytes given : Option (List ℕ)) (first : Reading Sourced)
+    → IfSome bytes (λ b. IsSpecRead b first) → IfOk result (λ r. (v : Verdict) → IsSpecReading first v → IfSome given (λ b. IsReadAs w v b r))
     → IfOk result (λ r. IfSome (both_texts bytes (option_map (λ b. Some b) given)) (λ texts. IsReadFrom w texts r))
 read_with w (Err e) bytes given first h k = tt
 read_with w (Ok r) bytes given first h k = read_both w bytes given first r h k
 
 -- what holds where a refused specification was read holds where its text is refused
-pub on_refused : (P : Type 0) (bytes : Option (List ℕ)) (first : Reading Sourced) → IfSome bytes (λ b. IsSpecRead b first) → ((v : Verdict) → IsSpecReading first v → IsRefusal v → P) → OnRefusedSpec bytes P
+pub on_refused : (P : Type 0) (bytes : Option (List ℕ)) (first : Reading Sourced) → IfSome bytes (λ b. IsSpecRead b first)
+    → ((v : Verdict) → IsSpecReading first v → IsRefusal v → P) → OnRefusedSpec bytes P
 on_refused P None first h k = tt
 on_refused P (Some b) first (u, h, came) k = λ v is refused. k u came (subst IsRefusal (one_verdict b v u is h) refused)
 
@@ -192,18 +211,21 @@ good_reading (RefusedSpec r) v y is e = cc (is, e)
 good_reading (GoodSpec checked) v y is e = tt
 
 -- beside a good specification the text of terms is read
-pub terms_out : {X E : Type 0} (P : Type 0) (result : Result X E) (bytes : Option (List ℕ)) (first : Reading Sourced) → IfSome bytes (λ b. IsSpecRead b first) → OnOk result (IsGood first → P)
+pub terms_out : {X E : Type 0} (P : Type 0) (result : Result X E) (bytes : Option (List ℕ)) (first : Reading Sourced)
+    → IfSome bytes (λ b. IsSpecRead b first) → OnOk result (IsGood first → P)
     → OnOk result (OnGoodSpec bytes P)
 terms_out P (Err e) bytes first h k = tt
 terms_out P (Ok x) None first h k = tt
 terms_out P (Ok x) (Some b) first (v, h, came) k = λ y is. k (good_reading first v y came (one_verdict b v (Good y) h is))
 
 -- where a specification is refused
-pub read_after_refusal : (w : Store) (r : Refusal) (given : Option (List ℕ)) (v : Verdict) → refused_spec v ≡ Some r → IfSome given (λ b. IsReadAs w v b (RefusedRun r))
+pub read_after_refusal : (w : Store) (r : Refusal) (given : Option (List ℕ)) (v : Verdict) → refused_spec v ≡ Some r
+    → IfSome given (λ b. IsReadAs w v b (RefusedRun r))
 read_after_refusal w r None v e = tt
 read_after_refusal w r (Some b) v e = λ shown n. after_refusal v r (Some b) shown n e
 
 -- where it is good
-pub read_after_good : (w : Store) (checked : Sourced) (given : Option (List ℕ)) (r : Reading Job) → IfSome given (λ b. IsReadFor w checked.spec b r) → (v : Verdict) → v ≡ Good checked.spec → IfSome given (λ b. IsReadAs w v b r)
+pub read_after_good : (w : Store) (checked : Sourced) (given : Option (List ℕ)) (r : Reading Job) → IfSome given (λ b. IsReadFor w checked.spec b r)
+    → (v : Verdict) → v ≡ Good checked.spec → IfSome given (λ b. IsReadAs w v b r)
 read_after_good w checked None r h v e = tt
 read_after_good w checked (Some b) r h v e = subst (λ z. IsReadAs w z b r) (sym e) h

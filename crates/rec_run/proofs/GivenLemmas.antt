@@ -1,5 +1,6 @@
 -- What holds of given terms that keep the rules, and of the list that a bank holds of them.
-use Rattle.std.proofs.Common.{◌≡◌, ℕ, zero, suc, ◌<◌, Bool, true, false, ◌||◌, ◌&&◌, List, [], ◌∷◌, ◌++◌, Option, Some, None, get_or, drop, length, refl, sym, ap, ◌∙◌, arith}
+use Rattle.std.proofs.Common.{◌≡◌, ℕ, zero, suc, ◌<◌, Bool, true, false, ◌||◌, ◌&&◌, List, [], ◌∷◌, ◌++◌}
+use Rattle.std.proofs.Common.{Option, Some, None, get_or, drop, length, refl, sym, ap, ◌∙◌, arith}
 use Rattle.std.specs.Prelude.{All, unwrap_or}
 use Rattle.std.specs.List.{list_any}
 use Rattle.std.proofs.lemmas.List.Folds.{list_any-append}
@@ -78,7 +79,8 @@ list_elements (Hole inner anns) us e = absurd (cc e)
 pub kept_elements : (y : Spec) (t : Tree) → broken_by_terms y t ≡ None → (us : List Tree) × (elements t ≡ Some us) × (broken_by_elements y us ≡ None)
 kept_elements y t e = by (elements t) refl e
   where
-    by : (o : Option (List Tree)) → elements t ≡ o → ◌≡◌ {A = Option ℕ} (elim o [ None ↦ Some 1 | Some us ↦ broken_by_elements y us ]) None → (us : List Tree) × (elements t ≡ Some us) × (broken_by_elements y us ≡ None)
+    by : (o : Option (List Tree)) → elements t ≡ o → ◌≡◌ {A = Option ℕ} (elim o [ None ↦ Some 1 | Some us ↦ broken_by_elements y us ]) None
+        → (us : List Tree) × (elements t ≡ Some us) × (broken_by_elements y us ≡ None)
     by None is h = absurd (cc h)
     by (Some us) is h = (us, is, h)
 

@@ -1,5 +1,6 @@
 -- A list of terms that keep the rules, and a bank that holds it.
-use Rattle.std.proofs.Common.{◌≡◌, ℕ, zero, suc, ◌+◌, ◌<◌, ◌≤◌, Bool, false, List, [], ◌∷◌, Some, None, Contains, inl, inr, get_or, drop, length, append-nil, refl, sym, ap, subst, ◌∙◌, arith}
+use Rattle.std.proofs.Common.{◌≡◌, ℕ, zero, suc, ◌+◌, ◌<◌, ◌≤◌, Bool, false, List, [], ◌∷◌, Some, None, Contains}
+use Rattle.std.proofs.Common.{inl, inr, get_or, drop, length, append-nil, refl, sym, ap, subst, ◌∙◌, arith}
 use Rattle.std.specs.Prelude.{flat_map, is_some}
 use Rattle.std.specs.Option.{option_and_then}
 use Rattle.std.specs.List.{list_any, AllByRecursion, IsDistinct}
@@ -18,7 +19,8 @@ use Rattle.rx_term.proofs.KeepLemmas.{kept-root}
 use Rattle.rx_term.proofs.PartsLemmas.{cons_cases, item-part, no_element, parts-self, parts-trans, rest-part}
 use Rattle.rx_term.proofs.TreeLemmas.{tree_eq-Decides, to_from_list, length-to_list}
 use Rattle.rec_syntax.specs.Syntax.{Spec}
-use Rattle.rec_sorts.specs.TermRules.{nodes, nodes_all, arguments, first_passed, is_no_application, is_annotated, is_undeclared, is_ill_filled, is_ill_sorted, broken_by_elements}
+use Rattle.rec_sorts.specs.TermRules.{nodes, nodes_all, arguments, first_passed, is_no_application, is_annotated}
+use Rattle.rec_sorts.specs.TermRules.{is_undeclared, is_ill_filled, is_ill_sorted, broken_by_elements}
 use Rattle.rec_engine.specs.Engine.{IsGround}
 use Rattle.rx_run.proofs.CountedPartLemmas.{different, listed, tree_equivalence, trees}
 use Rattle.rec_run.specs.EvaluatedLines.{StaysFor}
@@ -58,10 +60,12 @@ none-broken y us k =
     λ i. first_passed 2 (a i ∷ b i ∷ c i ∷ d i ∷ e i ∷ [])
 
 -- of a first element and the others
-first-none : (p : Tree → Bool) (f : Tree → List Tree) (u : Tree) (us : List Tree) → list_any p (flat_map f (u ∷ us)) ≡ false → list_any p (flat_map f (u ∷ [])) ≡ false
+first-none : (p : Tree → Bool) (f : Tree → List Tree) (u : Tree) (us : List Tree) → list_any p (flat_map f (u ∷ us)) ≡ false
+    → list_any p (flat_map f (u ∷ [])) ≡ false
 first-none p f u us e = ap (list_any p) (append-nil (f u)) ∙ (any_parts p (f u) (flat_map f us) e).0
 
-others-none : (p : Tree → Bool) (f : Tree → List Tree) (u : Tree) (us : List Tree) → list_any p (flat_map f (u ∷ us)) ≡ false → list_any p (flat_map f us) ≡ false
+others-none : (p : Tree → Bool) (f : Tree → List Tree) (u : Tree) (us : List Tree) → list_any p (flat_map f (u ∷ us)) ≡ false
+    → list_any p (flat_map f us) ≡ false
 others-none p f u us e = (any_parts p (f u) (flat_map f us) e).1
 
 first-ground : (y : Spec) (u : Tree) (us : List Tree) → KeepsAll y (u ∷ us) → IsGround y u
@@ -99,19 +103,23 @@ rest_part : (us : List Tree) (i : ℕ) → Contains (parts (list_of (from_list u
 rest_part [] zero = parts-self (list_of none)
 rest_part [] (suc i) = parts-self (list_of none)
 rest_part (u ∷ us) zero = parts-self (list_of (from_list (u ∷ us)))
-rest_part (u ∷ us) (suc i) = parts-trans (list_of (from_list (u ∷ us))) (list_of (from_list us)) (list_of (from_list (drop i us))) (rest-part u (from_list us) none) (rest_part us i)
+rest_part (u ∷ us) (suc i) = parts-trans (list_of (from_list (u ∷ us))) (list_of (from_list us)) (list_of (from_list (drop i us)))
+    (rest-part u (from_list us) none) (rest_part us i)
 
 -- so it stays where the list is protected
-pub kept_rest : (old new : Store) (list rest : Reference) (us : List Tree) (i : ℕ) → Keeps old new [] → tree_at old list ≡ Some (list_of (from_list us)) → 0 < old.roots list.0
+pub kept_rest : (old new : Store) (list rest : Reference) (us : List Tree) (i : ℕ) → Keeps old new []
+    → tree_at old list ≡ Some (list_of (from_list us)) → 0 < old.roots list.0
     → tree_at old rest ≡ Some (list_of (from_list (drop i us))) → tree_at new rest ≡ Some (list_of (from_list (drop i us)))
 kept_rest old new list rest us i keeps held protected here =
     keeps.trees rest (list_of (from_list (drop i us))) here (list, (list_of (from_list us), inl protected, held, rest_part us i))
 
 -- also where the list was protected before
-kept_later : (first old new : Store) (list rest : Reference) (us : List Tree) (i : ℕ) → Keeps first old [] → Keeps old new [] → tree_at first list ≡ Some (list_of (from_list us)) → 0 < first.roots list.0
+kept_later : (first old new : Store) (list rest : Reference) (us : List Tree) (i : ℕ) → Keeps first old [] → Keeps old new []
+    → tree_at first list ≡ Some (list_of (from_list us)) → 0 < first.roots list.0
     → tree_at old rest ≡ Some (list_of (from_list (drop i us))) → tree_at new rest ≡ Some (list_of (from_list (drop i us)))
 kept_later first old new list rest us i before keeps held protected here =
-    kept_rest old new list rest us i keeps (kept-root before list protected (ap is_some held) ∙ held) (subst (λ roots. 0 < roots list.0) (sym before.beside.roots) protected) here
+    kept_rest old new list rest us i keeps (kept-root before list protected (ap is_some held) ∙ held)
+    (subst (λ roots. 0 < roots list.0) (sym before.beside.roots) protected) here
 
 -- the term at the front of a rest
 pub record FrontAt (y : Spec) (w : Store) (us : List Tree) (rest : Reference) (i : ℕ) : Type 0 where
@@ -128,11 +136,13 @@ further [] (suc i) u vs e = absurd (cc e)
 further (t ∷ us) zero u vs e = cc e
 further (t ∷ us) (suc i) u vs e = let k : suc i + 1 ≡ suc (i + 1) = omega arith in ap (λ n. drop n (t ∷ us)) k ∙ further us i u vs e
 
-pub front_there : (y : Spec) (w : Store) (us : List Tree) (rest : Reference) (i : ℕ) → broken_by_elements y us ≡ None → tree_at w rest ≡ Some (list_of (from_list (drop i us))) → HasKind w rest kind.Cons → FrontAt y w us rest i
+pub front_there : (y : Spec) (w : Store) (us : List Tree) (rest : Reference) (i : ℕ) → broken_by_elements y us ≡ None
+    → tree_at w rest ≡ Some (list_of (from_list (drop i us))) → HasKind w rest kind.Cons → FrontAt y w us rest i
 front_there y w us rest i kept here cons = by (drop i us) refl
   where
     by : (vs : List Tree) → drop i us ≡ vs → FrontAt y w us rest i
-    by [] e = absurd (let no : Some (list_of none) ≡ Some (Items (more cons.first cons.rest) cons.anns) = ap (λ ts. Some (list_of (from_list ts))) (sym e) ∙ sym here ∙ cons.here in cc no)
+    by [] e = absurd (let no : Some (list_of none) ≡ Some (Items (more cons.first cons.rest) cons.anns) =
+        ap (λ ts. Some (list_of (from_list ts))) (sym e) ∙ sym here ∙ cons.here in cc no)
     by (v ∷ vs) e =
         let at = got_at us i v vs (list_of none) e in
         let there : tree_at w rest ≡ Some (list_of (more v (from_list vs))) = here ∙ ap (λ ts. Some (list_of (from_list ts))) e in
@@ -147,10 +157,12 @@ front_there y w us rest i kept here cons = by (drop i us) refl
 
 -- each item is a part of the list
 item_at_part : (us : List Tree) (i : ℕ) (u : Tree) (vs : List Tree) → drop i us ≡ u ∷ vs → Contains (parts (list_of (from_list us))) u
-item_at_part us i u vs e = parts-trans (list_of (from_list us)) (list_of (from_list (drop i us))) u (rest_part us i) (subst (λ ts. Contains (parts (list_of (from_list ts))) u) (sym e) (item-part u (from_list vs) none))
+item_at_part us i u vs e = parts-trans (list_of (from_list us)) (list_of (from_list (drop i us))) u (rest_part us i)
+    (subst (λ ts. Contains (parts (list_of (from_list ts))) u) (sym e) (item-part u (from_list vs) none))
 
 -- so it stays where the list is protected, as it was before
-pub front_stays : (y : Spec) (first old : Store) (list rest r : Reference) (us : List Tree) (i : ℕ) (limits : LimitLines) → Keeps first old [] → tree_at first list ≡ Some (list_of (from_list us)) → 0 < first.roots list.0
+pub front_stays : (y : Spec) (first old : Store) (list rest r : Reference) (us : List Tree) (i : ℕ) (limits : LimitLines) → Keeps first old []
+    → tree_at first list ≡ Some (list_of (from_list us)) → 0 < first.roots list.0
     → tree_at old rest ≡ Some (list_of (from_list (drop i us))) → (front : FrontAt y old us rest i) → tree_at old r ≡ Some front.tree → StaysFor limits old r
 front_stays y first old list rest r us i Bare before held protected here front there = tt
 front_stays y first old list rest r us i Annotated before held protected here front there = λ new keeps. by (drop i us) refl new keeps
@@ -166,16 +178,27 @@ front_stays y first old list rest r us i Annotated before held protected here fr
     by (v ∷ vs) e new keeps =
         let first_is : Some v ≡ Some front.tree = sym (ap (option_and_then head_of) (here ∙ ap (λ ts. Some (list_of (from_list ts))) e)) ∙ front.first in
         let same : v ≡ front.tree = cc first_is in
-        keeps.trees r front.tree there (list, (list_of (from_list us), inl still, at_list, subst (λ u. Contains (parts (list_of (from_list us))) u) same (item_at_part us i v vs e))) ∙ sym there
+        keeps.trees r front.tree there (
+          list,
+          (
+            list_of (from_list us),
+            inl still,
+            at_list,
+            subst (λ u. Contains (parts (list_of (from_list us))) u) same (item_at_part us i v vs e),
+          ),
+        ) ∙ sym there
 
 -- behind it the other items are left, also later
-pub others_later : (y : Spec) (first old new : Store) (list rest : Reference) (us : List Tree) (i : ℕ) → Keeps first old [] → Keeps old new [] → tree_at first list ≡ Some (list_of (from_list us)) → 0 < first.roots list.0
-    → tree_at old rest ≡ Some (list_of (from_list (drop i us))) → FrontAt y old us rest i → part_at tail_of new rest ≡ Some (list_of (from_list (drop (i + 1) us)))
+pub others_later : (y : Spec) (first old new : Store) (list rest : Reference) (us : List Tree) (i : ℕ) → Keeps first old [] → Keeps old new []
+    → tree_at first list ≡ Some (list_of (from_list us)) → 0 < first.roots list.0
+    → tree_at old rest ≡ Some (list_of (from_list (drop i us))) → FrontAt y old us rest i
+    → part_at tail_of new rest ≡ Some (list_of (from_list (drop (i + 1) us)))
 others_later y first old new list rest us i before keeps held protected here front =
     ap (option_and_then tail_of) (kept_later first old new list rest us i before keeps held protected here ∙ sym here) ∙ front.others
 
 -- where a rest is no list with a first item, no item is left
-pub no_front : (w : Store) (us : List Tree) (rest : Reference) (i : ℕ) (k : Kind) → tree_at w rest ≡ Some (list_of (from_list (drop i us))) → HasKind w rest k → (k ≡ kind.Cons → ⊥) → length us ≤ i
+pub no_front : (w : Store) (us : List Tree) (rest : Reference) (i : ℕ) (k : Kind) → tree_at w rest ≡ Some (list_of (from_list (drop i us)))
+    → HasKind w rest k → (k ≡ kind.Cons → ⊥) → length us ≤ i
 no_front w us rest i k here is other = by (drop i us) refl
   where
     left : (us : List Tree) (i : ℕ) → drop i us ≡ [] → length us ≤ i
@@ -215,7 +238,8 @@ sized : (us : List Tree) → count_of (from_list us) ≡ length us
 sized us = sym (length-to_list (from_list us)) ∙ ap length (to_from_list us)
 
 longer_differs : (us vs : List Tree) → length vs < length us → tree_eq (list_of (from_list us)) (list_of (from_list vs)) ≡ false
-longer_differs us vs h = different (list_of (from_list us)) (list_of (from_list vs)) (λ e. let same : length us ≡ length vs = sym (sized us) ∙ ap size e ∙ sized vs in omega (arith, h, same))
+longer_differs us vs h = different (list_of (from_list us)) (list_of (from_list vs)) (λ e. let same : length us ≡ length vs =
+    sym (sized us) ∙ ap size e ∙ sized vs in omega (arith, h, same))
 
 each_differs : (us vs : List Tree) → length vs < length us → AllByRecursion (λ z. tree_eq (list_of (from_list us)) z ≡ false) (rests vs)
 each_differs us [] h = (longer_differs us [] h, tt)

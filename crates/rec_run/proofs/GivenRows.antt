@@ -1,6 +1,6 @@
 -- Two texts, of a specification and of given terms, from their bytes to what is due.
 use Rattle.std.proofs.Common.{refl}
-use Rattle.std.specs.Prelude.{ℕ, List, [], ◌∷◌, Bool, codes, true, false, Option, Some, None}
+use Rattle.std.specs.Prelude.{ℕ, List, [], ◌∷◌, ◌++◌, Bool, codes, true, false, Option, Some, None}
 use Rattle.std.specs.Fmt.{digits}
 use Rattle.rec_sorts.specs.Evaluation.{Eval}
 use Rattle.rx_run.specs.Due.{Due}
@@ -31,7 +31,9 @@ abbrev q : List ℕ
 q = codes "REC-SPEC Q SORTS A B\nCONS a : -> A  b : -> B\nOPNS f : A -> A\nVARS X Y : A\nRULES f(X) -> X\nEVAL f(a)\nEND-SPEC\n"
 
 abbrev addition : List ℕ
-addition = codes "REC-SPEC Add\nSORTS Nat\nCONS\n  z : -> Nat\n  s : Nat -> Nat\nOPNS\n  plus : Nat Nat -> Nat\nVARS\n  X Y : Nat\nRULES\n  plus(z,Y) -> Y\n  plus(s(X),Y) -> s(plus(X,Y))\nEVAL\n  plus(s(s(z)),s(z))\nEND-SPEC\n"
+addition = codes "REC-SPEC Add\nSORTS Nat\nCONS\n  z : -> Nat\n  s : Nat -> Nat\nOPNS\n  plus : Nat Nat -> Nat\n"
+    ++ codes "VARS\n  X Y : Nat\nRULES\n  plus(z,Y) -> Y\n  plus(s(X),Y) -> s(plus(X,Y))\n"
+    ++ codes "EVAL\n  plus(s(s(z)),s(z))\nEND-SPEC\n"
 
 abbrev zero : List ℕ
 zero = codes "REC-SPEC Zero SORTS Nat\nCONS 0 : -> Nat  s : Nat -> Nat  x' : -> Nat\nEVAL s(0) x'\nEND-SPEC\n"

@@ -24,17 +24,20 @@ seen_above b h = let k = leb-true 32 b (and_parts (nat_le 32 b) (nat_le b 126) h
 
 continuing-newlines : (bs : List ℕ) → list_all continues_name bs ≡ true → newlines bs ≡ 0
 continuing-newlines [] h = refl
-continuing-newlines (b ∷ bs) h = let k = and_parts (continues_name b) (list_all continues_name bs) h in above_end b bs (seen_above b (continuing_seen b k.0)) (continuing-newlines bs k.1)
+continuing-newlines (b ∷ bs) h = let k = and_parts (continues_name b) (list_all continues_name bs) h in
+    above_end b bs (seen_above b (continuing_seen b k.0)) (continuing-newlines bs k.1)
 
 plain-newlines : (name : List ℕ) → plain_name name ≡ true → newlines name ≡ 0
 plain-newlines [] h = refl
-plain-newlines (b ∷ bs) h = let k = and_parts (starts_name b) (list_all continues_name bs) h in above_end b bs (seen_above b (letter_seen b k.0)) (continuing-newlines bs k.1)
+plain-newlines (b ∷ bs) h = let k = and_parts (starts_name b) (list_all continues_name bs) h in
+    above_end b bs (seen_above b (letter_seen b k.0)) (continuing-newlines bs k.1)
 
 octal-newlines : (b : ℕ) → newlines (octal_text b) ≡ 0
 octal-newlines b =
     let last = (48 + b % 8) ∷ [] in
     let middle = (48 + b / 8 % 8) ∷ last in
-    above_end 92 ((48 + b / 64) ∷ middle) (omega arith) (above_end (48 + b / 64) middle (omega arith) (above_end (48 + b / 8 % 8) last (omega arith) (above_end (48 + b % 8) [] (omega arith) refl)))
+    above_end 92 ((48 + b / 64) ∷ middle) (omega arith) (above_end (48 + b / 64) middle (omega arith)
+    (above_end (48 + b / 8 % 8) last (omega arith) (above_end (48 + b % 8) [] (omega arith) refl)))
 
 chosen-newlines : (c : Bool) (xs ys : List ℕ) → (c ≡ true → newlines xs ≡ 0) → (c ≡ false → newlines ys ≡ 0) → newlines (cond c xs ys) ≡ 0
 chosen-newlines true xs ys h k = h refl
@@ -56,14 +59,16 @@ quoted-newlines [] = refl
 quoted-newlines (b ∷ bs) = no_ends (quoted_byte b) (flat_map quoted_byte bs) (quoted_byte-newlines b) (quoted-newlines bs)
 
 name_text-newlines : (name : List ℕ) (quoted : Bool) → quoted ≡ not (plain_name name) → newlines (name_text name quoted) ≡ 0
-name_text-newlines name true h = above_end 34 (flat_map quoted_byte name ++ 34 ∷ []) (omega arith) (no_ends (flat_map quoted_byte name) (34 ∷ []) (quoted-newlines name) refl)
+name_text-newlines name true h = above_end 34 (flat_map quoted_byte name ++ 34 ∷ []) (omega arith)
+    (no_ends (flat_map quoted_byte name) (34 ∷ []) (quoted-newlines name) refl)
 name_text-newlines name false h = plain-newlines name (by_flag (plain_name name) h)
   where
     by_flag : (b : Bool) → false ≡ not b → b ≡ true
     by_flag true e = refl
     by_flag false e = absurd (cc e)
 
-enclosed-newlines : (left : ℕ) (ts : Trees) (text : List ℕ) (right : ℕ) (empty : List ℕ) → 10 < left → 10 < right → newlines text ≡ 0 → newlines empty ≡ 0 → newlines (enclosed left ts text right empty) ≡ 0
+enclosed-newlines : (left : ℕ) (ts : Trees) (text : List ℕ) (right : ℕ) (empty : List ℕ) → 10 < left → 10 < right → newlines text ≡ 0
+    → newlines empty ≡ 0 → newlines (enclosed left ts text right empty) ≡ 0
 enclosed-newlines left none text right empty h k l m = m
 enclosed-newlines left (more t ts) text right empty h k l m = above_end left (text ++ right ∷ []) h (no_ends text (right ∷ []) l (above_end right [] k refl))
 
@@ -88,7 +93,8 @@ mutual
 
   canon_others-newlines : (ts : Trees) → AreApplied ts → newlines (canon_others ts) ≡ 0
   canon_others-newlines none h = refl
-  canon_others-newlines (more t ts) h = above_end 44 (canon t ++ canon_others ts) (omega arith) (no_ends (canon t) (canon_others ts) (canon-newlines t h.0) (canon_others-newlines ts h.1))
+  canon_others-newlines (more t ts) h = above_end 44 (canon t ++ canon_others ts) (omega arith)
+      (no_ends (canon t) (canon_others ts) (canon-newlines t h.0) (canon_others-newlines ts h.1))
 
 digits-newlines : (ds : List ℕ) → AllDigits 10 ds → newlines ds ≡ 0
 digits-newlines [] h = refl

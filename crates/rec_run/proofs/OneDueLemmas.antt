@@ -50,10 +50,12 @@ one_terms_verdict y bytes (BreaksTerms l) TooLong (fits, h) k = absurd (omega (a
 one_terms_verdict y bytes (BreaksTerms l) (Outside b) (fits, (t, text, broken)) (again, k) = absurd (trees_or_places.not_both bytes t b text k)
 one_terms_verdict y bytes (BreaksTerms l) (BreaksTerms m) (fits, (t, text, broken)) (again, (u, other, spoilt)) =
     let e = ap (broken_by_terms y) (one_tree bytes t u text other) in let same : l ≡ m = cc (broken, e, spoilt) in ap BreaksTerms same
-one_terms_verdict y bytes (BreaksTerms l) (GoodTerms us) (fits, (t, text, broken)) (again, (u, other, good, these)) = absurd (cc (broken, ap (broken_by_terms y) (one_tree bytes t u text other), good))
+one_terms_verdict y bytes (BreaksTerms l) (GoodTerms us) (fits, (t, text, broken)) (again, (u, other, good, these)) =
+    absurd (cc (broken, ap (broken_by_terms y) (one_tree bytes t u text other), good))
 one_terms_verdict y bytes (GoodTerms ts) TooLong (fits, h) k = absurd (omega (arith, k, fits))
 one_terms_verdict y bytes (GoodTerms ts) (Outside b) (fits, (t, text, good, these)) (again, k) = absurd (trees_or_places.not_both bytes t b text k)
-one_terms_verdict y bytes (GoodTerms ts) (BreaksTerms m) (fits, (t, text, good, these)) (again, (u, other, spoilt)) = absurd (cc (good, ap (broken_by_terms y) (one_tree bytes t u text other), spoilt))
+one_terms_verdict y bytes (GoodTerms ts) (BreaksTerms m) (fits, (t, text, good, these)) (again, (u, other, spoilt)) =
+    absurd (cc (good, ap (broken_by_terms y) (one_tree bytes t u text other), spoilt))
 one_terms_verdict y bytes (GoodTerms ts) (GoodTerms us) (fits, (t, text, good, these)) (again, (u, other, kept, those)) =
     let e = ap elements (one_tree bytes t u text other) in let same : ts ≡ us = cc (these, e, those) in ap GoodTerms same
 

@@ -12,7 +12,8 @@ use Rattle.rec_run.specs.Run.{TellsReads}
 
 module _ {R S T : Type 0} (first : Input R) (second : Input S) where
   -- the first one was not read
-  pub reads_first : (r : Result T RunFault) (f : ReadFault) → IsErrAnd r (λ e. e ≡ fault_of_read f) → (f ≡ unreadable.Read → HasRefusedRead first) → TellsReads first second r
+  pub reads_first : (r : Result T RunFault) (f : ReadFault) → IsErrAnd r (λ e. e ≡ fault_of_read f) → (f ≡ unreadable.Read → HasRefusedRead first)
+      → TellsReads first second r
   reads_first (Ok x) f h k = absurd h
   reads_first (Err e) unreadable.Memory h k = λ is. absurd (cc (h, is))
   reads_first (Err e) unreadable.Read h k = λ is. inl (k refl)

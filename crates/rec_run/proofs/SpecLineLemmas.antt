@@ -1,5 +1,6 @@
 -- The lines of a specification's terms and of given ones.
-use Rattle.std.proofs.Common.{get_or, length, ap₂, append_assoc, ◌≡◌, ℕ, ◌-◌, ◌<◌, ◌^◌, Bool, true, false, List, [], ◌∷◌, ◌++◌, refl, sym, ap, ◌∙◌, append-nil, arith}
+use Rattle.std.proofs.Common.{get_or, length, ap₂, append_assoc, ◌≡◌, ℕ, ◌-◌, ◌<◌, ◌^◌, Bool, true}
+use Rattle.std.proofs.Common.{false, List, [], ◌∷◌, ◌++◌, refl, sym, ap, ◌∙◌, append-nil, arith}
 use Rattle.std.specs.Prelude.{flat_map, map, codes, decimal}
 use Rattle.std.specs.Fmt.{signed_decimal}
 use Rattle.rx_term.specs.Tree.{Tree, Trees, Int, Appl, Items, Hole, annotated, annotations, none}
@@ -32,13 +33,15 @@ line-evaluation_text : (notes : Trees) (shown : Shown) (n : ℕ) (o : Outcome Tr
 line-evaluation_text notes shown n (Done v left) = refl
 line-evaluation_text notes shown n Over = refl
 
-own_lines : (y : Spec) (shown : Shown) (n : ℕ) (ts : List Term) (more : List Task) → flat_map (λ l. l) (map (line y shown n) (map own ts ++ more)) ≡ lines_of (line_text y shown n) ts ++ flat_map (λ l. l) (map (line y shown n) more)
+own_lines : (y : Spec) (shown : Shown) (n : ℕ) (ts : List Term) (more : List Task)
+    → flat_map (λ l. l) (map (line y shown n) (map own ts ++ more)) ≡ lines_of (line_text y shown n) ts ++ flat_map (λ l. l) (map (line y shown n) more)
 own_lines y shown n [] more = refl
 own_lines y shown n (t ∷ ts) more =
     ap₂ (λ l ls. l ++ ls) (line-evaluation_text none shown n (Eval y n [] t)) (own_lines y shown n ts more)
     ∙ sym (append_assoc (line_text y shown n t ++ codes "\n") (lines_of (line_text y shown n) ts) (flat_map (λ l. l) (map (line y shown n) more)))
 
-given_lines_of : (y : Spec) (shown : Shown) (n : ℕ) (us : List Tree) → flat_map (λ l. l) (map (line y shown n) (map given us)) ≡ lines_of (given_text y shown n) us
+given_lines_of : (y : Spec) (shown : Shown) (n : ℕ) (us : List Tree)
+    → flat_map (λ l. l) (map (line y shown n) (map given us)) ≡ lines_of (given_text y shown n) us
 given_lines_of y shown n [] = refl
 given_lines_of y shown n (u ∷ us) = ap₂ (λ l ls. l ++ ls) (line-evaluation_text (annotations u) shown n (Eval y n [] (term_of u))) (given_lines_of y shown n us)
 
@@ -47,14 +50,17 @@ pub lines-own : (y : Spec) (shown : Shown) (n : ℕ) → lines y [] shown n ≡ 
 lines-own y shown n = own_lines y shown n y.terms [] ∙ append-nil (lines_of (line_text y shown n) y.terms)
 
 -- they have no annotations, so limit lines have none
-own_text-any : (counted : Bool) (limits : LimitLines) (n : ℕ) (o : Outcome Tree) → evaluation_text none (shown_by counted limits) n o ≡ evaluation_text none (bare counted) n o
+own_text-any : (counted : Bool) (limits : LimitLines) (n : ℕ) (o : Outcome Tree)
+    → evaluation_text none (shown_by counted limits) n o ≡ evaluation_text none (bare counted) n o
 own_text-any counted limits n (Done v left) = refl
 own_text-any counted Bare n Over = refl
 own_text-any counted Annotated n Over = append-nil (codes "!limit " ++ decimal n)
 
-own_lines-any : (y : Spec) (counted : Bool) (limits : LimitLines) (n : ℕ) (ts : List Term) → lines_of (line_text y (shown_by counted limits) n) ts ≡ lines_of (line_text y (bare counted) n) ts
+own_lines-any : (y : Spec) (counted : Bool) (limits : LimitLines) (n : ℕ) (ts : List Term)
+    → lines_of (line_text y (shown_by counted limits) n) ts ≡ lines_of (line_text y (bare counted) n) ts
 own_lines-any y counted limits n [] = refl
-own_lines-any y counted limits n (t ∷ ts) = ap₂ (λ text more. text ++ codes "\n" ++ more) (own_text-any counted limits n (Eval y n [] t)) (own_lines-any y counted limits n ts)
+own_lines-any y counted limits n (t ∷ ts) = ap₂ (λ text more. text ++ codes "\n" ++ more) (own_text-any counted limits n (Eval y n [] t))
+    (own_lines-any y counted limits n ts)
 
 pub lines-any : (y : Spec) (counted : Bool) (limits : LimitLines) (n : ℕ) → lines y [] (shown_by counted limits) n ≡ lines y [] (bare counted) n
 lines-any y counted limits n = lines-own y (shown_by counted limits) n ∙ own_lines-any y counted limits n y.terms ∙ sym (lines-own y (bare counted) n)
@@ -75,8 +81,10 @@ canon_annotated (Int z anns) notes e = sym (ap (λ a. canon (Int z a) ++ notes_t
 canon_annotated (Appl name quoted args anns) notes e =
     let text = name_text name quoted ++ enclosed 40 args (canon_all args) 41 (no_arguments name quoted) in
     sym (ap (λ a. canon (Appl name quoted args a) ++ notes_text notes) e ∙ ap (λ x. x ++ notes_text notes) (append-nil text))
-canon_annotated (Items items anns) notes e = sym (ap (λ a. canon (Items items a) ++ notes_text notes) e ∙ append_assoc (91 ∷ canon_all items) (93 ∷ []) (notes_text notes))
-canon_annotated (Hole inner anns) notes e = sym (ap (λ a. canon (Hole inner a) ++ notes_text notes) e ∙ append_assoc (60 ∷ canon inner) (62 ∷ []) (notes_text notes))
+canon_annotated (Items items anns) notes e = sym (ap (λ a. canon (Items items a) ++ notes_text notes) e
+    ∙ append_assoc (91 ∷ canon_all items) (93 ∷ []) (notes_text notes))
+canon_annotated (Hole inner anns) notes e = sym (ap (λ a. canon (Hole inner a) ++ notes_text notes) e
+    ∙ append_assoc (60 ∷ canon inner) (62 ∷ []) (notes_text notes))
 
 bare-newlines : (n : ℕ) → n < 2 ^ 64 → newlines (codes "!limit " ++ decimal n) ≡ 0
 bare-newlines n h = no_ends (codes "!limit ") (decimal n) refl (decimal-newlines n h)
@@ -85,7 +93,8 @@ limit-newlines : (limits : LimitLines) (n : ℕ) (notes : Trees) → newlines (n
 limit-newlines Bare n notes k h = bare-newlines n h
 limit-newlines Annotated n notes k h = no_ends (codes "!limit " ++ decimal n) (notes_text notes) (bare-newlines n h) k
 
-evaluation_text-newlines : (y : Spec) (notes : Trees) (shown : Shown) (n : ℕ) (t : Term) (o : Outcome Tree) → newlines (notes_text notes) ≡ 0 → n < 2 ^ 64 → Eval y n [] t ≡ o → newlines (evaluation_text notes shown n o) ≡ 0
+evaluation_text-newlines : (y : Spec) (notes : Trees) (shown : Shown) (n : ℕ) (t : Term) (o : Outcome Tree) → newlines (notes_text notes) ≡ 0
+    → n < 2 ^ 64 → Eval y n [] t ≡ o → newlines (evaluation_text notes shown n o) ≡ 0
 evaluation_text-newlines y notes shown n t (Done v left) k h e =
     let a = value_is_applied y n t v left e in
     no_ends (canon (annotated v notes)) (steps_text shown.count (n - left))
@@ -102,5 +111,6 @@ pub newlines-own : (y : Spec) (shown : Shown) (n : ℕ) → n < 2 ^ 64 → newli
 newlines-own y shown n h = ap newlines (lines-own y shown n) ∙ newlines-lines_of (line_text y shown n) y.terms (line_text-newlines y shown n h y.terms)
 
 -- nor has that of a given term whose annotations have none
-pub given_text-newlines : (y : Spec) (shown : Shown) (n : ℕ) → n < 2 ^ 64 → (u : Tree) → newlines (notes_text (annotations u)) ≡ 0 → newlines (given_text y shown n u) ≡ 0
+pub given_text-newlines : (y : Spec) (shown : Shown) (n : ℕ) → n < 2 ^ 64 → (u : Tree) → newlines (notes_text (annotations u)) ≡ 0
+    → newlines (given_text y shown n u) ≡ 0
 given_text-newlines y shown n h u k = evaluation_text-newlines y (annotations u) shown n (term_of u) (Eval y n [] (term_of u)) k h refl

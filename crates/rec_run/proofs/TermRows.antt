@@ -22,10 +22,16 @@ abbrev pub q : Spec
 q = record {
   name = (w 9 (codes "Q"));
   sorts = ((w 17 (codes "A")) ∷ (w 19 (codes "B")) ∷ []);
-  constructors = ((record { name = (w 26 (codes "a")); arguments = ([]); sort = (w 33 (codes "A")) }) ∷ (record { name = (w 35 (codes "b")); arguments = ([]); sort = (w 42 (codes "B")) }) ∷ []);
+  constructors = ((record { name = (w 26 (codes "a")); arguments = ([]); sort = (w 33 (codes "A")) })
+      ∷ (record { name = (w 35 (codes "b")); arguments = ([]); sort = (w 42 (codes "B")) }) ∷ []);
   operators = ((record { name = (w 49 (codes "f")); arguments = ((w 53 (codes "A")) ∷ []); sort = (w 58 (codes "A")) }) ∷ []);
   variables = ((record { first = (w 65 (codes "X")); others = ((w 67 (codes "Y")) ∷ []); sort = (w 71 (codes "A")) }) ∷ []);
-  rules = ((record { left = (Apply (w 79 (codes "f")) (Terms.more (Apply (w 81 (codes "X")) Terms.none) Terms.none)); right = (Apply (w 87 (codes "X")) Terms.none); conditions = ([]) }) ∷ []);
+  rules = ((record {
+    left = (Apply (w 79 (codes "f")) (Terms.more (Apply (w 81 (codes "X")) Terms.none) Terms.none));
+    right =
+        (Apply (w 87 (codes "X")) Terms.none);
+    conditions = ([]);
+  }) ∷ []);
   terms = ((Apply (w 94 (codes "f")) (Terms.more (Apply (w 96 (codes "a")) Terms.none) Terms.none)) ∷ []);
 }
 
@@ -38,15 +44,18 @@ row_1 : broken_by_terms q (Items (more (Appl (codes "a") false none none) none) 
 row_1 = refl
 
 -- [f(a),3]
-row_2 : broken_by_terms q (Items (more (Appl (codes "f") false (more (Appl (codes "a") false none none) none) none) (more (Int (ℤ.pos 3) none) none)) none) ≡ Some 2
+row_2 : broken_by_terms q (Items (more (Appl (codes "f") false (more (Appl (codes "a") false none none) none) none) (more (Int (ℤ.pos 3) none) none))
+    none) ≡ Some 2
 row_2 = refl
 
 -- [a{a},<a>]
-row_3 : broken_by_terms q (Items (more (Appl (codes "a") false none (more (Appl (codes "a") false none none) none)) (more (Hole (Appl (codes "a") false none none) none) none)) none) ≡ Some 2
+row_3 : broken_by_terms q (Items (more (Appl (codes "a") false none (more (Appl (codes "a") false none none) none))
+    (more (Hole (Appl (codes "a") false none none) none) none)) none) ≡ Some 2
 row_3 = refl
 
 -- [f(a{b})]
-row_4 : broken_by_terms q (Items (more (Appl (codes "f") false (more (Appl (codes "a") false none (more (Appl (codes "b") false none none) none)) none) none) none) none) ≡ Some 3
+row_4 : broken_by_terms q (Items
+    (more (Appl (codes "f") false (more (Appl (codes "a") false none (more (Appl (codes "b") false none none) none)) none) none) none) none) ≡ Some 3
 row_4 = refl
 
 -- ["a"]
@@ -58,7 +67,8 @@ row_6 : broken_by_terms q (Items (more (Appl (codes "X") false none none) none) 
 row_6 = refl
 
 -- [f(a,a)]
-row_7 : broken_by_terms q (Items (more (Appl (codes "f") false (more (Appl (codes "a") false none none) (more (Appl (codes "a") false none none) none)) none) none) none) ≡ Some 5
+row_7 : broken_by_terms q (Items
+    (more (Appl (codes "f") false (more (Appl (codes "a") false none none) (more (Appl (codes "a") false none none) none)) none) none) none) ≡ Some 5
 row_7 = refl
 
 -- [f]
@@ -70,7 +80,8 @@ row_9 : broken_by_terms q (Items (more (Appl (codes "f") false (more (Appl (code
 row_9 = refl
 
 -- [f(a){a}]
-row_10 : broken_by_terms q (Items (more (Appl (codes "f") false (more (Appl (codes "a") false none none) none) (more (Appl (codes "a") false none none) none)) none) none) ≡ None
+row_10 : broken_by_terms q (Items
+    (more (Appl (codes "f") false (more (Appl (codes "a") false none none) none) (more (Appl (codes "a") false none none) none)) none) none) ≡ None
 row_10 = refl
 
 -- [a{3}]
@@ -78,41 +89,58 @@ row_11 : broken_by_terms q (Items (more (Appl (codes "a") false none (more (Int 
 row_11 = refl
 
 -- [b,f(f(a))]
-row_12 : broken_by_terms q (Items (more (Appl (codes "b") false none none) (more (Appl (codes "f") false (more (Appl (codes "f") false (more (Appl (codes "a") false none none) none) none) none) none) none)) none) ≡ None
+row_12 : broken_by_terms q (Items (more (Appl (codes "b") false none none)
+    (more (Appl (codes "f") false (more (Appl (codes "f") false (more (Appl (codes "a") false none none) none) none) none) none) none)) none) ≡ None
 row_12 = refl
 
 -- [f(a){b,[3]},a{f(a)}]
-row_13 : broken_by_terms q (Items (more (Appl (codes "f") false (more (Appl (codes "a") false none none) none) (more (Appl (codes "b") false none none) (more (Items (more (Int (ℤ.pos 3) none) none) none) none))) (more (Appl (codes "a") false none (more (Appl (codes "f") false (more (Appl (codes "a") false none none) none) none) none)) none)) none) ≡ None
+row_13 : broken_by_terms q (Items
+    (more (Appl (codes "f") false (more (Appl (codes "a") false none none) none)
+    (more (Appl (codes "b") false none none) (more (Items (more (Int (ℤ.pos 3) none) none) none) none)))
+    (more (Appl (codes "a") false none (more (Appl (codes "f") false (more (Appl (codes "a") false none none) none) none) none)) none)) none) ≡ None
 row_13 = refl
 
 -- []
 row_14 : broken_by_terms q (Items none none) ≡ None
 row_14 = refl
 
-given : each_line q ((Appl (codes "b") false none none) ∷ (Appl (codes "f") false (more (Appl (codes "f") false (more (Appl (codes "a") false none none) none) none) none) none) ∷ []) (bare false) 1 ≡ codes "a\n" ∷ codes "b\n" ∷ limit 1 ∷ []
+given : each_line q ((Appl (codes "b") false none none) ∷ (Appl (codes "f") false
+    (more (Appl (codes "f") false (more (Appl (codes "a") false none none) none) none) none) none) ∷ []) (bare false) 1 ≡ codes "a\n" ∷ codes
+    "b\n" ∷ limit 1 ∷ []
 unfolding Eval
 given = refl
 
 -- annotations at the root, and the count
-annotated_terms : each_line q ((Appl (codes "f") false (more (Appl (codes "a") false none none) none) (more (Appl (codes "b") false none none) (more (Items (more (Int (ℤ.pos 3) none) none) none) none))) ∷ (Appl (codes "a") false none (more (Appl (codes "f") false (more (Appl (codes "a") false none none) none) none) none)) ∷ []) (bare true) 1 ≡ codes "a\t1\n" ∷ codes "a{b,[3]}\t1\n" ∷ codes "a{f(a)}\t0\n" ∷ []
+annotated_terms : each_line q ((Appl (codes "f") false (more (Appl (codes "a") false none none) none)
+    (more (Appl (codes "b") false none none) (more (Items (more (Int (ℤ.pos 3) none) none) none) none)))
+    ∷ (Appl (codes "a") false none (more (Appl (codes "f") false (more (Appl (codes "a") false none none) none) none) none)) ∷ []) (bare true)
+    1 ≡ codes "a\t1\n" ∷ codes "a{b,[3]}\t1\n" ∷ codes "a{f(a)}\t0\n" ∷ []
 unfolding Eval digits
 annotated_terms = refl
 
-annotated_limit : each_line q ((Appl (codes "f") false (more (Appl (codes "f") false (more (Appl (codes "a") false none none) none) none) none) (more (Appl (codes "b") false none none) none)) ∷ []) (bare true) 1 ≡ codes "a\t1\n" ∷ codes "!limit 1\n" ∷ []
+annotated_limit : each_line q ((Appl (codes "f") false (more (Appl (codes "f") false (more (Appl (codes "a") false none none) none) none) none)
+    (more (Appl (codes "b") false none none) none)) ∷ []) (bare true) 1 ≡ codes "a\t1\n" ∷ codes "!limit 1\n" ∷ []
 unfolding Eval digits
 annotated_limit = refl
 
 -- the same where limit lines bear annotations
-annotated_limits : each_line q ((Appl (codes "f") false (more (Appl (codes "f") false (more (Appl (codes "a") false none none) none) none) none) (more (Appl (codes "b") false none none) none)) ∷ (Appl (codes "f") false (more (Appl (codes "f") false (more (Appl (codes "a") false none none) none) none) none) none) ∷ []) (shown_by true Annotated) 1 ≡ codes "a\t1\n" ∷ codes "!limit 1{b}\n" ∷ codes "!limit 1\n" ∷ []
+annotated_limits : each_line q
+    ((Appl (codes "f") false (more (Appl (codes "f") false (more (Appl (codes "a") false none none) none) none) none)
+    (more (Appl (codes "b") false none none) none)) ∷ (Appl (codes "f") false
+    (more (Appl (codes "f") false (more (Appl (codes "a") false none none) none) none) none) none) ∷ []) (shown_by true Annotated) 1 ≡ codes
+    "a\t1\n" ∷ codes "!limit 1{b}\n" ∷ codes "!limit 1\n" ∷ []
 unfolding Eval digits
 annotated_limits = refl
 
 -- [f(f(3))]
-row_15 : broken_by_terms q (Items (more (Appl (codes "f") false (more (Appl (codes "f") false (more (Int (ℤ.pos 3) none) none) none) none) none) none) none) ≡ Some 2
+row_15 : broken_by_terms q (Items (more (Appl (codes "f") false (more (Appl (codes "f") false (more (Int (ℤ.pos 3) none) none) none) none) none) none)
+    none) ≡ Some 2
 row_15 = refl
 
 -- [f(a{b}),3]
-row_16 : broken_by_terms q (Items (more (Appl (codes "f") false (more (Appl (codes "a") false none (more (Appl (codes "b") false none none) none)) none) none) (more (Int (ℤ.pos 3) none) none)) none) ≡ Some 2
+row_16 : broken_by_terms q (Items
+    (more (Appl (codes "f") false (more (Appl (codes "a") false none (more (Appl (codes "b") false none none) none)) none) none)
+    (more (Int (ℤ.pos 3) none) none)) none) ≡ Some 2
 row_16 = refl
 
 -- [c(3)]
@@ -120,31 +148,40 @@ row_17 : broken_by_terms q (Items (more (Appl (codes "c") false (more (Int (ℤ.
 row_17 = refl
 
 -- [f(f(a{b}))]
-row_18 : broken_by_terms q (Items (more (Appl (codes "f") false (more (Appl (codes "f") false (more (Appl (codes "a") false none (more (Appl (codes "b") false none none) none)) none) none) none) none) none) none) ≡ Some 3
+row_18 : broken_by_terms q (Items
+    (more (Appl (codes "f") false (more
+    (Appl (codes "f") false (more (Appl (codes "a") false none (more (Appl (codes "b") false none none) none)) none) none) none) none) none) none) ≡ Some 3
 row_18 = refl
 
 -- [a{b},f(a{b})]
-row_19 : broken_by_terms q (Items (more (Appl (codes "a") false none (more (Appl (codes "b") false none none) none)) (more (Appl (codes "f") false (more (Appl (codes "a") false none (more (Appl (codes "b") false none none) none)) none) none) none)) none) ≡ Some 3
+row_19 : broken_by_terms q (Items (more (Appl (codes "a") false none (more (Appl (codes "b") false none none) none))
+    (more (Appl (codes "f") false (more (Appl (codes "a") false none (more (Appl (codes "b") false none none) none)) none) none) none)) none) ≡ Some 3
 row_19 = refl
 
 -- [c(a{b})]
-row_20 : broken_by_terms q (Items (more (Appl (codes "c") false (more (Appl (codes "a") false none (more (Appl (codes "b") false none none) none)) none) none) none) none) ≡ Some 3
+row_20 : broken_by_terms q (Items
+    (more (Appl (codes "c") false (more (Appl (codes "a") false none (more (Appl (codes "b") false none none) none)) none) none) none) none) ≡ Some 3
 row_20 = refl
 
 -- [f(f(c))]
-row_21 : broken_by_terms q (Items (more (Appl (codes "f") false (more (Appl (codes "f") false (more (Appl (codes "c") false none none) none) none) none) none) none) none) ≡ Some 4
+row_21 : broken_by_terms q (Items
+    (more (Appl (codes "f") false (more (Appl (codes "f") false (more (Appl (codes "c") false none none) none) none) none) none) none) none) ≡ Some 4
 row_21 = refl
 
 -- [f(c,c)]
-row_22 : broken_by_terms q (Items (more (Appl (codes "f") false (more (Appl (codes "c") false none none) (more (Appl (codes "c") false none none) none)) none) none) none) ≡ Some 4
+row_22 : broken_by_terms q (Items
+    (more (Appl (codes "f") false (more (Appl (codes "c") false none none) (more (Appl (codes "c") false none none) none)) none) none) none) ≡ Some 4
 row_22 = refl
 
 -- [f(f(a,a))]
-row_23 : broken_by_terms q (Items (more (Appl (codes "f") false (more (Appl (codes "f") false (more (Appl (codes "a") false none none) (more (Appl (codes "a") false none none) none)) none) none) none) none) none) ≡ Some 5
+row_23 : broken_by_terms q (Items
+    (more (Appl (codes "f") false (more
+    (Appl (codes "f") false (more (Appl (codes "a") false none none) (more (Appl (codes "a") false none none) none)) none) none) none) none) none) ≡ Some 5
 row_23 = refl
 
 -- [f(b,b)]
-row_24 : broken_by_terms q (Items (more (Appl (codes "f") false (more (Appl (codes "b") false none none) (more (Appl (codes "b") false none none) none)) none) none) none) ≡ Some 5
+row_24 : broken_by_terms q (Items
+    (more (Appl (codes "f") false (more (Appl (codes "b") false none none) (more (Appl (codes "b") false none none) none)) none) none) none) ≡ Some 5
 row_24 = refl
 
 -- [a(a)]
@@ -152,15 +189,19 @@ row_25 : broken_by_terms q (Items (more (Appl (codes "a") false (more (Appl (cod
 row_25 = refl
 
 -- [f(f(b))]
-row_26 : broken_by_terms q (Items (more (Appl (codes "f") false (more (Appl (codes "f") false (more (Appl (codes "b") false none none) none) none) none) none) none) none) ≡ Some 6
+row_26 : broken_by_terms q (Items
+    (more (Appl (codes "f") false (more (Appl (codes "f") false (more (Appl (codes "b") false none none) none) none) none) none) none) none) ≡ Some 6
 row_26 = refl
 
 -- [a,f(b)]
-row_27 : broken_by_terms q (Items (more (Appl (codes "a") false none none) (more (Appl (codes "f") false (more (Appl (codes "b") false none none) none) none) none)) none) ≡ Some 6
+row_27 : broken_by_terms q (Items (more (Appl (codes "a") false none none)
+    (more (Appl (codes "f") false (more (Appl (codes "b") false none none) none) none) none)) none) ≡ Some 6
 row_27 = refl
 
 -- [a{3,<x>,"y"}]
-row_28 : broken_by_terms q (Items (more (Appl (codes "a") false none (more (Int (ℤ.pos 3) none) (more (Hole (Appl (codes "x") false none none) none) (more (Appl (codes "y") true none none) none)))) none) none) ≡ None
+row_28 : broken_by_terms q (Items
+    (more (Appl (codes "a") false none (more (Int (ℤ.pos 3) none)
+    (more (Hole (Appl (codes "x") false none none) none) (more (Appl (codes "y") true none none) none)))) none) none) ≡ None
 row_28 = refl
 
 -- REC-SPEC Zero SORTS Nat CONS 0 : -> Nat s : Nat -> Nat x' : -> Nat EVAL s(0) x' END-SPEC
@@ -168,7 +209,9 @@ abbrev zero : Spec
 zero = record {
   name = (w 9 (codes "Zero"));
   sorts = ((w 20 (codes "Nat")) ∷ []);
-  constructors = ((record { name = (w 29 (codes "0")); arguments = ([]); sort = (w 36 (codes "Nat")) }) ∷ (record { name = (w 40 (codes "s")); arguments = ((w 44 (codes "Nat")) ∷ []); sort = (w 51 (codes "Nat")) }) ∷ (record { name = (w 55 (codes "x'")); arguments = ([]); sort = (w 63 (codes "Nat")) }) ∷ []);
+  constructors = ((record { name = (w 29 (codes "0")); arguments = ([]); sort = (w 36 (codes "Nat")) })
+      ∷ (record { name = (w 40 (codes "s")); arguments = ((w 44 (codes "Nat")) ∷ []); sort = (w 51 (codes "Nat")) })
+      ∷ (record { name = (w 55 (codes "x'")); arguments = ([]); sort = (w 63 (codes "Nat")) }) ∷ []);
   operators = ([]);
   variables = ([]);
   rules = ([]);
@@ -176,7 +219,9 @@ zero = record {
 }
 
 -- ["0","x'",s("0")]
-quoted_names : broken_by_terms zero (Items (more (Appl (codes "0") true none none) (more (Appl (codes "x'") true none none) (more (Appl (codes "s") false (more (Appl (codes "0") true none none) none) none) none))) none) ≡ None
+quoted_names : broken_by_terms zero
+    (Items (more (Appl (codes "0") true none none) (more (Appl (codes "x'") true none none)
+    (more (Appl (codes "s") false (more (Appl (codes "0") true none none) none) none) none))) none) ≡ None
 quoted_names = refl
 
 -- [s(x_)]
@@ -196,7 +241,9 @@ abbrev two : Spec
 two = record {
   name = (w 9 (codes "Two"));
   sorts = ((w 19 (codes "A")) ∷ (w 21 (codes "B")) ∷ []);
-  constructors = ((record { name = (w 28 (codes "a")); arguments = ([]); sort = (w 35 (codes "A")) }) ∷ (record { name = (w 37 (codes "b")); arguments = ([]); sort = (w 44 (codes "B")) }) ∷ (record { name = (w 46 (codes "p")); arguments = ((w 50 (codes "A")) ∷ (w 52 (codes "B")) ∷ []); sort = (w 57 (codes "A")) }) ∷ []);
+  constructors = ((record { name = (w 28 (codes "a")); arguments = ([]); sort = (w 35 (codes "A")) })
+      ∷ (record { name = (w 37 (codes "b")); arguments = ([]); sort = (w 44 (codes "B")) })
+      ∷ (record { name = (w 46 (codes "p")); arguments = ((w 50 (codes "A")) ∷ (w 52 (codes "B")) ∷ []); sort = (w 57 (codes "A")) }) ∷ []);
   operators = ([]);
   variables = ([]);
   rules = ([]);
@@ -204,13 +251,16 @@ two = record {
 }
 
 -- [p(a,b)]
-both_sorts : broken_by_terms two (Items (more (Appl (codes "p") false (more (Appl (codes "a") false none none) (more (Appl (codes "b") false none none) none)) none) none) none) ≡ None
+both_sorts : broken_by_terms two
+    (Items (more (Appl (codes "p") false (more (Appl (codes "a") false none none) (more (Appl (codes "b") false none none) none)) none) none) none) ≡ None
 both_sorts = refl
 
 -- [p(a,a)]
-second_sort : broken_by_terms two (Items (more (Appl (codes "p") false (more (Appl (codes "a") false none none) (more (Appl (codes "a") false none none) none)) none) none) none) ≡ Some 6
+second_sort : broken_by_terms two
+    (Items (more (Appl (codes "p") false (more (Appl (codes "a") false none none) (more (Appl (codes "a") false none none) none)) none) none) none) ≡ Some 6
 second_sort = refl
 
 -- [p(b,b)]
-first_sort : broken_by_terms two (Items (more (Appl (codes "p") false (more (Appl (codes "b") false none none) (more (Appl (codes "b") false none none) none)) none) none) none) ≡ Some 6
+first_sort : broken_by_terms two
+    (Items (more (Appl (codes "p") false (more (Appl (codes "b") false none none) (more (Appl (codes "b") false none none) none)) none) none) none) ≡ Some 6
 first_sort = refl

@@ -24,7 +24,8 @@ pub one_due_for : (shown : Shown) (n : ℕ) (texts : Texts) (d e : Due) → IsDu
 one_due_for shown n texts d e h k = one_due texts.spec texts.terms shown n d e h k
 
 -- what the texts came to says what is due for them
-pub due_for : (w : Store) (shown : Shown) (n : ℕ) (texts : Option Texts) (r : Reading Job) → IfSome texts (λ t. IsReadFrom w t r) → IfSome texts (λ t. IsDueFor shown n t (run_due w shown n r))
+pub due_for : (w : Store) (shown : Shown) (n : ℕ) (texts : Option Texts) (r : Reading Job) → IfSome texts (λ t. IsReadFrom w t r)
+    → IfSome texts (λ t. IsDueFor shown n t (run_due w shown n r))
 due_for w shown n None r h = tt
 due_for w shown n (Some t) r h = h shown n
 
@@ -38,12 +39,14 @@ verdict_front bytes (verdict.Breaks f) h = subst (λ text. SpecVerdict text (ver
 verdict_front bytes (verdict.Good y) h = subst (λ text. SpecVerdict text (verdict.Good y)) (short_front bytes h.0) h
 
 -- what was read says what the text comes to
-pub spec_read : (known : Option (List ℕ)) (text : List ℕ) (r : Reading Sourced) → IfSome known (λ bytes. text ≡ take (LIMIT + 1) bytes) → IsSpecRead text r → IfSome known (λ bytes. IsSpecRead bytes r)
+pub spec_read : (known : Option (List ℕ)) (text : List ℕ) (r : Reading Sourced) → IfSome known (λ bytes. text ≡ take (LIMIT + 1) bytes)
+    → IsSpecRead text r → IfSome known (λ bytes. IsSpecRead bytes r)
 spec_read None text r e h = tt
 spec_read (Some bytes) text r e (v, h, is) = (v, verdict_front bytes v (subst (λ t. SpecVerdict t v) e h), is)
 
 -- a good one keeps the text
-pub kept_text : (known : Option (List ℕ)) (text : List ℕ) (r : Reading Sourced) → IfSome known (λ bytes. text ≡ take (LIMIT + 1) bytes) → IsSpecRead text r → KeepsText text r → IfSome known (λ bytes. KeepsText bytes r)
+pub kept_text : (known : Option (List ℕ)) (text : List ℕ) (r : Reading Sourced) → IfSome known (λ bytes. text ≡ take (LIMIT + 1) bytes)
+    → IsSpecRead text r → KeepsText text r → IfSome known (λ bytes. KeepsText bytes r)
 kept_text None text r e h k = tt
 kept_text (Some bytes) text (Refused r) e h k = tt
 kept_text (Some bytes) text (Good checked) e (v, h, is) k =
@@ -51,7 +54,8 @@ kept_text (Some bytes) text (Good checked) e (v, h, is) k =
     k ∙ e ∙ short_front bytes (subst (λ t. length t ≤ LIMIT) e fits)
 
 -- a refused specification is all that counts
-pub after_refusal : (v : Verdict) (r : Refusal) (terms : Option (List ℕ)) (shown : Shown) (n : ℕ) → refused_spec v ≡ Some r → IsDueAfter v terms shown n (refusal_due r)
+pub after_refusal : (v : Verdict) (r : Refusal) (terms : Option (List ℕ)) (shown : Shown) (n : ℕ) → refused_spec v ≡ Some r
+    → IsDueAfter v terms shown n (refusal_due r)
 after_refusal verdict.Long r terms shown n e = ap refusal_due (same_refusal e)
 after_refusal (verdict.Grammar at) r terms shown n e = ap refusal_due (same_refusal e)
 after_refusal (verdict.Breaks f) r terms shown n e = ap refusal_due (same_refusal e)
@@ -65,10 +69,12 @@ after_spec shown n (verdict.Breaks f) = refl
 after_spec shown n (verdict.Good y) = refl
 
 -- a specification without given terms
-pub read_alone : (w : Store) (known : Option (List ℕ)) (first : Reading Sourced) (r : Reading Job) → r ≡ job_alone_of first → IfSome known (λ bytes. IsSpecRead bytes first) → IfSome (both_texts known (Some None)) (λ texts. IsReadFrom w texts r)
+pub read_alone : (w : Store) (known : Option (List ℕ)) (first : Reading Sourced) (r : Reading Job) → r ≡ job_alone_of first
+    → IfSome known (λ bytes. IsSpecRead bytes first) → IfSome (both_texts known (Some None)) (λ texts. IsReadFrom w texts r)
 read_alone w known first r e h = subst (λ z. IfSome (both_texts known (Some None)) (λ texts. IsReadFrom w texts z)) (sym e) (of known first h)
   where
-    of : (known : Option (List ℕ)) (first : Reading Sourced) → IfSome known (λ bytes. IsSpecRead bytes first) → IfSome (both_texts known (Some None)) (λ texts. IsReadFrom w texts (job_alone_of first))
+    of : (known : Option (List ℕ)) (first : Reading Sourced) → IfSome known (λ bytes. IsSpecRead bytes first)
+        → IfSome (both_texts known (Some None)) (λ texts. IsReadFrom w texts (job_alone_of first))
     of None first h = tt
     of (Some bytes) (Refused r) (v, h, is) = λ shown n. (v, h, after_refusal v r None shown n is)
     of (Some bytes) (Good checked) (v, h, is) = λ shown n. (verdict.Good checked.spec, subst (SpecVerdict bytes) is h, refl)

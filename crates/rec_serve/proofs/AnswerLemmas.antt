@@ -1,5 +1,6 @@
 -- What holds of answers, and of what is due for requests.
-use Rattle.std.proofs.Common.{◌≡◌, ◌≢◌, ℕ, suc, ◌+◌, ◌-◌, ◌<◌, ◌^◌, Bool, true, false, List, [], ◌∷◌, ◌++◌, Option, Some, None, inl, inr, refl, sym, ap, ap₂, subst, ◌∙◌, append_assoc, get_or, length, arith}
+use Rattle.std.proofs.Common.{◌≡◌, ◌≢◌, ℕ, suc, ◌+◌, ◌-◌, ◌<◌, ◌^◌, Bool, true, false, List, [], ◌∷◌, ◌++◌, Option, Some}
+use Rattle.std.proofs.Common.{None, inl, inr, refl, sym, ap, ap₂, subst, ◌∙◌, append_assoc, get_or, length, arith}
 use Rattle.std.specs.Prelude.{◌⊎◌, IsTrue, flat_map, codes, decimal, nat_lt, not}
 use Rattle.std.specs.List.{list_all, list_any}
 use Rattle.std.proofs.lemmas.Bool.{and_parts}
@@ -13,7 +14,8 @@ use Rattle.rx_text.proofs.ValidLemmas.{spelt_valid}
 use Rattle.rec_syntax.specs.Syntax.{Spec}
 use Rattle.rec_sorts.specs.Evaluation.{Outcome, Done, Over, Eval, term_of}
 use Rattle.rec_sorts.specs.Numbering.{Pairwise}
-use Rattle.rec_sorts.specs.TermRules.{arguments, broken_by_elements, first_passed, is_annotated, is_ill_filled, is_ill_sorted, is_no_application, is_undeclared, nodes, nodes_all}
+use Rattle.rec_sorts.specs.TermRules.{arguments, broken_by_elements, first_passed, is_annotated, is_ill_filled}
+use Rattle.rec_sorts.specs.TermRules.{is_ill_sorted, is_no_application, is_undeclared, nodes, nodes_all}
 use Rattle.rec_engine.proofs.ValueTreeLemmas.{IsApplied, value_is_applied}
 use Rattle.rx_run.specs.Bytes.{newlines}
 use Rattle.rec_run.specs.GivenTerms.{given_text}
@@ -45,7 +47,8 @@ one_answer y counted n r =
 -- ---- one line
 
 -- the line of a given term is its text and a line end
-pub line-text : (y : Spec) (counted : Bool) (n : ℕ) (u : Tree) → line y (bare counted) n (record { term = term_of u; notes = annotations u }) ≡ given_text y (bare counted) n u ++ codes "\n"
+pub line-text : (y : Spec) (counted : Bool) (n : ℕ) (u : Tree)
+    → line y (bare counted) n (record { term = term_of u; notes = annotations u }) ≡ given_text y (bare counted) n u ++ codes "\n"
 line-text y counted n u = by (Eval y n [] (term_of u))
   where
     by : (o : Outcome Tree) → ◌≡◌ {A = List ℕ} (elim o [
@@ -65,14 +68,16 @@ rule_below : (y : Spec) (ts : List Tree) (m : ℕ) → broken_by_elements y ts �
 rule_below y ts m e =
     let all = flat_map nodes ts in
     let inner = flat_map (λ (t : Tree). nodes_all (arguments t)) ts in
-    passed_below 2 (list_any is_no_application all ∷ list_any is_annotated inner ∷ list_any (is_undeclared y) all ∷ list_any (is_ill_filled y) all ∷ list_any (is_ill_sorted y) all ∷ []) m e
+    passed_below 2 (list_any is_no_application all ∷ list_any is_annotated inner ∷ list_any (is_undeclared y) all ∷ list_any (is_ill_filled y)
+    all ∷ list_any (is_ill_sorted y) all ∷ []) m e
 
 record InLine (a : List ℕ) : Type 0 where
   text : List ℕ
   is : a ≡ text ++ codes "\n"
   none : newlines text ≡ 0
 
-tree_line : (y : Spec) (counted : Bool) (n : ℕ) (r : List ℕ) (t : Tree) → n < 2 ^ 64 → IsTrue (list_all (λ b. nat_lt b 256) r) → Spells r t → (o : Option ℕ) → broken_by_elements y (t ∷ []) ≡ o → InLine (answer_by y counted n t o)
+tree_line : (y : Spec) (counted : Bool) (n : ℕ) (r : List ℕ) (t : Tree) → n < 2 ^ 64 → IsTrue (list_all (λ b. nat_lt b 256) r) → Spells r t
+    → (o : Option ℕ) → broken_by_elements y (t ∷ []) ≡ o → InLine (answer_by y counted n t o)
 tree_line y counted n r t few low spelt (Some m) e =
     let k = rule_below y (t ∷ []) m e in
     let small : m < 2 ^ 64 = omega (arith, k) in
@@ -84,7 +89,8 @@ tree_line y counted n r t few low spelt None e =
       none = given_text-newlines y (bare counted) n few t (notes-newlines (annotations t) (annotations_trees t (spelt_valid r t low spelt)));
     }
 
-after_line : (y : Spec) (counted : Bool) (n : ℕ) (r : List ℕ) → n < 2 ^ 64 → IsTrue (list_all (λ b. nat_lt b 256) r) → (v : Verdict) → IsVerdict r v → InLine (answer_after y counted n v)
+after_line : (y : Spec) (counted : Bool) (n : ℕ) (r : List ℕ) → n < 2 ^ 64 → IsTrue (list_all (λ b. nat_lt b 256) r) → (v : Verdict) → IsVerdict r v
+    → InLine (answer_after y counted n v)
 after_line y counted n r few low TooLong h = record { text = codes "!term L1"; is = refl; none = refl }
 after_line y counted n r few low (Outside at) h = record { text = codes "!term A"; is = refl; none = refl }
 after_line y counted n r few low (Spelt t) h = tree_line y counted n r t few low h.1 (broken_by_elements y (t ∷ [])) refl
@@ -103,9 +109,11 @@ record BeginsWant (a : List ℕ) : Type 0 where
 
 begins_want : (depth : Option ℕ) (a : List ℕ) → IsWant depth a → BeginsWant a
 begins_want depth a (inl e) = record { first = ap (λ z. get_or z 0 0) e; second = inr (ap (λ z. get_or z 1 0) e) }
-begins_want depth a (inr (inl e)) = let k : get_or a 1 0 ≡ 99 = ap (λ z. get_or z 1 0) e in record { first = ap (λ z. get_or z 0 0) e; second = inl (omega (arith, k)) }
+begins_want depth a (inr (inl e)) = let k : get_or a 1 0 ≡ 99 = ap (λ z. get_or z 1 0) e in
+    record { first = ap (λ z. get_or z 0 0) e; second = inl (omega (arith, k)) }
 begins_want None a (inr (inr e)) = absurd e
-begins_want (Some d) a (inr (inr e)) = let k : get_or a 1 0 ≡ 100 = ap (λ z. get_or z 1 0) e in record { first = ap (λ z. get_or z 0 0) e; second = inl (omega (arith, k)) }
+begins_want (Some d) a (inr (inr e)) = let k : get_or a 1 0 ≡ 100 = ap (λ z. get_or z 1 0) e in
+    record { first = ap (λ z. get_or z 0 0) e; second = inl (omega (arith, k)) }
 
 -- another second byte
 other_second : (depth : Option ℕ) (a : List ℕ) → (get_or a 1 0 ≡ 116) ⊎ (get_or a 1 0 ≡ 108) → IsWant depth a → ⊥
@@ -131,9 +139,11 @@ value_first (Int z anns) notes rest h e = absurd h
 value_first (Items ts anns) notes rest h e = absurd h
 value_first (Hole t anns) notes rest h e = absurd h
 
-line_wants : (y : Spec) (counted : Bool) (n : ℕ) (depth : Option ℕ) (u : Tree) (o : Outcome Tree) → Eval y n [] (term_of u) ≡ o → IsWant depth (evaluation_text (annotations u) (bare counted) n o ++ codes "\n") → ⊥
+line_wants : (y : Spec) (counted : Bool) (n : ℕ) (depth : Option ℕ) (u : Tree) (o : Outcome Tree) → Eval y n [] (term_of u) ≡ o
+    → IsWant depth (evaluation_text (annotations u) (bare counted) n o ++ codes "\n") → ⊥
 line_wants y counted n depth u (Done v left) e w =
-    other_first depth _ (λ k. value_first v (annotations u) (steps_text counted (n - left) ++ codes "\n") (value_is_applied y n (term_of u) v left e) (ap (λ z. get_or z 0 0) (sym (append_assoc (canon (annotated v (annotations u))) (steps_text counted (n - left)) (codes "\n"))) ∙ k)) w
+    other_first depth _ (λ k. value_first v (annotations u) (steps_text counted (n - left) ++ codes "\n") (value_is_applied y n (term_of u) v left e)
+    (ap (λ z. get_or z 0 0) (sym (append_assoc (canon (annotated v (annotations u))) (steps_text counted (n - left)) (codes "\n"))) ∙ k)) w
 line_wants y counted n depth u Over e w = other_second depth _ (inr refl) w
 
 tree_wants : (y : Spec) (counted : Bool) (n : ℕ) (depth : Option ℕ) (t : Tree) (o : Option ℕ) → IsWant depth (answer_by y counted n t o) → ⊥
@@ -151,7 +161,8 @@ no_want y counted n depth r a (v, h, e) w = after_wants y counted n depth v (sub
 -- ---- what is due
 
 -- of two lists one behind the other
-pub pairwise_both : {X Y : Type 0} (P : X → Y → Type 0) (xs us : List X) (ys vs : List Y) → Pairwise P xs ys → Pairwise P us vs → Pairwise P (xs ++ us) (ys ++ vs)
+pub pairwise_both : {X Y : Type 0} (P : X → Y → Type 0) (xs us : List X) (ys vs : List Y) → Pairwise P xs ys → Pairwise P us vs
+    → Pairwise P (xs ++ us) (ys ++ vs)
 pairwise_both P [] us [] vs h k = k
 pairwise_both P [] us (y ∷ ys) vs h k = absurd h
 pairwise_both P (x ∷ xs) us [] vs h k = absurd h
@@ -161,20 +172,23 @@ pub joined-append : (xs ys : List (List ℕ)) → joined (xs ++ ys) ≡ joined x
 joined-append [] ys = refl
 joined-append (x ∷ xs) ys = ap (λ z. x ++ z) (joined-append xs ys) ∙ sym (append_assoc x (joined xs) (joined ys))
 
-due_both : (y : Spec) (counted : Bool) (n : ℕ) (rs ss : List (List ℕ)) (a b : List ℕ) → IsDue y counted n rs a → IsDue y counted n ss b → IsDue y counted n (rs ++ ss) (a ++ b)
+due_both : (y : Spec) (counted : Bool) (n : ℕ) (rs ss : List (List ℕ)) (a b : List ℕ) → IsDue y counted n rs a → IsDue y counted n ss b
+    → IsDue y counted n (rs ++ ss) (a ++ b)
 due_both y counted n rs ss a b h k = record {
   answers = h.answers ++ k.answers;
   each = pairwise_both (IsAnswer y counted n) rs ss h.answers k.answers h.each k.each;
   all = ap₂ (λ x z. x ++ z) h.all k.all ∙ sym (joined-append h.answers k.answers);
 }
 
-same_answers : (y : Spec) (counted : Bool) (n : ℕ) (rs xs ys : List (List ℕ)) → Pairwise (IsAnswer y counted n) rs xs → Pairwise (IsAnswer y counted n) rs ys → xs ≡ ys
+same_answers : (y : Spec) (counted : Bool) (n : ℕ) (rs xs ys : List (List ℕ)) → Pairwise (IsAnswer y counted n) rs xs
+    → Pairwise (IsAnswer y counted n) rs ys → xs ≡ ys
 same_answers y counted n [] [] [] h k = refl
 same_answers y counted n [] [] (b ∷ ys) h k = absurd k
 same_answers y counted n [] (a ∷ xs) ys h k = absurd h
 same_answers y counted n (r ∷ rs) [] ys h k = absurd h
 same_answers y counted n (r ∷ rs) (a ∷ xs) [] h k = absurd k
-same_answers y counted n (r ∷ rs) (a ∷ xs) (b ∷ ys) h k = ap₂ (λ z zs. z ∷ zs) (same_answer y counted n r a b h.0 k.0) (same_answers y counted n rs xs ys h.1 k.1)
+same_answers y counted n (r ∷ rs) (a ∷ xs) (b ∷ ys) h k = ap₂ (λ z zs. z ∷ zs) (same_answer y counted n r a b h.0 k.0)
+    (same_answers y counted n rs xs ys h.1 k.1)
 
 one_due : (y : Spec) (counted : Bool) (n : ℕ) (rs : List (List ℕ)) (a b : List ℕ) → IsDue y counted n rs a → IsDue y counted n rs b → a ≡ b
 one_due y counted n rs a b h k = h.all ∙ ap joined (same_answers y counted n rs h.answers k.answers h.each k.each) ∙ sym k.all

@@ -1,5 +1,6 @@
 -- What is kept of a request, and what is left of a stream.
-use Rattle.std.proofs.Common.{◌≡◌, ℕ, zero, suc, ◌+◌, ◌-◌, ◌<◌, Bool, true, false, List, [], ◌∷◌, ◌++◌, Option, Some, None, refl, sym, ap, subst, ◌∙◌, append_assoc, append-nil, length, take, drop, min, lit<, arith}
+use Rattle.std.proofs.Common.{◌≡◌, ℕ, zero, suc, ◌+◌, ◌-◌, ◌<◌, Bool, true, false, List, [], ◌∷◌, ◌++◌, Option, Some, None}
+use Rattle.std.proofs.Common.{refl, sym, ap, subst, ◌∙◌, append_assoc, append-nil, length, take, drop, min, lit<, arith}
 use Rattle.std.specs.Prelude.{◌==◌, MatchBool, MatchOption, position, slice_range}
 use Rattle.std.proofs.lemmas.List.{drop-drop, drop_all, length-append, length-take}
 use Rattle.std.specs.Io.KnownBytes.{IsAtEnd, Keeps}
@@ -26,7 +27,8 @@ take_min (suc n) [] = let e : min (suc n) 0 ≡ 0 = omega arith in rw e refl
 take_min (suc n) (y ∷ ys) = let e : min (suc n) (suc (length ys)) ≡ suc (min n (length ys)) = omega arith in rw e (ap (λ z. y ∷ z) (take_min n ys))
 
 -- a piece more of a line of which the front is kept
-pub kept_more : (most k : ℕ) (text line piece : List ℕ) → text ≡ take most line → k ≡ min (most - length text) (length piece) → text ++ take k piece ≡ take most (line ++ piece)
+pub kept_more : (most k : ℕ) (text line piece : List ℕ) → text ≡ take most line → k ≡ min (most - length text) (length piece)
+    → text ++ take k piece ≡ take most (line ++ piece)
 kept_more most k text line piece e is =
     let size : length text ≡ min most (length line) = ap length e ∙ length-take most line in
     let room : most - length text ≡ most - length line = omega (arith, size) in
@@ -62,7 +64,8 @@ pub none_more : (r : Request) (line piece : List ℕ) → length piece ≡ 0 →
 none_more r line piece none is = subst (IsRead r) (sym (ap (λ z. line ++ z) (nothing_of piece none) ∙ append-nil line)) is
 
 -- a piece more of a request that is not lost, of which this is kept
-pub read_more : (lost : Bool) (k : ℕ) (text more line piece : List ℕ) → lost ≡ false → MatchBool lost (0 < length line) (text ≡ take 16777217 line) → k ≡ min (16777217 - length text) (length piece) → more ≡ text ++ take k piece
+pub read_more : (lost : Bool) (k : ℕ) (text more line piece : List ℕ) → lost ≡ false → MatchBool lost (0 < length line) (text ≡ take 16777217 line)
+    → k ≡ min (16777217 - length text) (length piece) → more ≡ text ++ take k piece
     → MatchBool lost (0 < length (line ++ piece)) (more ≡ take 16777217 (line ++ piece))
 read_more true k text more line piece e is few kept = absurd (cc e)
 read_more false k text more line piece e is few kept = kept ∙ kept_more 16777217 k text line piece is few
@@ -98,14 +101,16 @@ left_again a None e = tt
 left_again a (Some rest) e = ap requests (sym (ap (λ z. z ++ rest) e))
 
 -- after a piece without a line end
-pub begins_taken : (old known : Option (List ℕ)) (a b : ReadAhead) (line piece : List ℕ) → Begins old (left_of a known) line → Takes a b false piece → Begins old (left_of b known) (line ++ piece)
+pub begins_taken : (old known : Option (List ℕ)) (a b : ReadAhead) (line piece : List ℕ) → Begins old (left_of a known) line → Takes a b false piece
+    → Begins old (left_of b known) (line ++ piece)
 begins_taken None known a b line piece h t = tt
 begins_taken (Some bytes) None a b line piece h t = absurd h
 begins_taken (Some bytes) (Some rest) a b line piece h t =
     h ∙ ap (all_in_front line) (t.front rest) ∙ sym (front-append line piece (requests (unread b ++ rest)))
 
 -- after one that a line end follows
-pub splits_taken : (old known : Option (List ℕ)) (a b : ReadAhead) (line piece : List ℕ) → Begins old (left_of a known) line → Takes a b true piece → Splits old (left_of b known) ((line ++ piece) ∷ [])
+pub splits_taken : (old known : Option (List ℕ)) (a b : ReadAhead) (line piece : List ℕ) → Begins old (left_of a known) line → Takes a b true piece
+    → Splits old (left_of b known) ((line ++ piece) ∷ [])
 splits_taken None known a b line piece h t = tt
 splits_taken (Some bytes) None a b line piece h t = absurd h
 splits_taken (Some bytes) (Some rest) a b line piece h t =
@@ -113,7 +118,8 @@ splits_taken (Some bytes) (Some rest) a b line piece h t =
     h ∙ ap (all_in_front line) (t.front rest) ∙ sym (front-append line piece ([] ∷ others)) ∙ front-ended (line ++ piece) others
 
 -- at the end of the stream, behind a line without its end
-pub splits_end : (old known : Option (List ℕ)) (a : ReadAhead) (line : List ℕ) → Begins old (left_of a known) line → unread a ≡ [] → IsAtEnd known → 0 < length line → Splits old (left_of a known) (line ∷ [])
+pub splits_end : (old known : Option (List ℕ)) (a : ReadAhead) (line : List ℕ) → Begins old (left_of a known) line → unread a ≡ [] → IsAtEnd known
+    → 0 < length line → Splits old (left_of a known) (line ∷ [])
 splits_end None known a line h e end some = tt
 splits_end (Some bytes) None a line h e end some = absurd h
 splits_end (Some bytes) (Some rest) a line h e end some =
@@ -121,14 +127,16 @@ splits_end (Some bytes) (Some rest) a line h e end some =
     h ∙ ap (all_in_front line) none ∙ front-alone line some ∙ ap (λ z. line ∷ z) (sym none)
 
 -- and behind nothing
-pub over_end : (old known : Option (List ℕ)) (a : ReadAhead) (line : List ℕ) → Begins old (left_of a known) line → unread a ≡ [] → IsAtEnd known → line ≡ [] → IsOver old
+pub over_end : (old known : Option (List ℕ)) (a : ReadAhead) (line : List ℕ) → Begins old (left_of a known) line → unread a ≡ [] → IsAtEnd known
+    → line ≡ [] → IsOver old
 over_end None known a line h e end nothing = tt
 over_end (Some bytes) None a line h e end nothing = absurd h
 over_end (Some bytes) (Some rest) a line h e end nothing =
     h ∙ ap (λ z. all_in_front z (requests (unread a ++ rest))) nothing ∙ ap requests (ap (λ z. z ++ rest) e ∙ end)
 
 -- at the end of the stream, by whether a byte was read
-pub at_end : (o : Option Request) (r : Request) (old known : Option (List ℕ)) (a : ReadAhead) (line : List ℕ) → Begins old (left_of a known) line → unread a ≡ [] → IsAtEnd known → IsRead r line
+pub at_end : (o : Option Request) (r : Request) (old known : Option (List ℕ)) (a : ReadAhead) (line : List ℕ) → Begins old (left_of a known) line
+    → unread a ≡ [] → IsAtEnd known → IsRead r line
     → MatchOption o ((l : List ℕ) → IsRead r l → l ≡ []) (λ q. (q ≡ r) × ((l : List ℕ) → IsRead r l → 0 < length l))
     → MatchOption o (IsOver old × IsAtEnd known) (λ q. (l : List ℕ) × IsRead q l × Splits old (left_of a known) (l ∷ []))
 at_end None r old known a line h e end is last = (over_end old known a line h e end (last line is), end)
@@ -143,7 +151,8 @@ keeps_both (Some x) (Some y) (Some z) h k = k ∙ h
 
 -- ---- pieces
 
-pub takes_ended : (a b : ReadAhead) (i : ℕ) → position (λ c. c == 10) (unread a) ≡ Some i → unread b ≡ drop (i + 1) (unread a) → Takes a b true (take i (unread a))
+pub takes_ended : (a b : ReadAhead) (i : ℕ) → position (λ c. c == 10) (unread a) ≡ Some i → unread b ≡ drop (i + 1) (unread a)
+    → Takes a b true (take i (unread a))
 takes_ended a b i at d =
     let end = ends_at (unread a) i at in
     record {

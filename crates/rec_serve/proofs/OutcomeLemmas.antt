@@ -1,5 +1,6 @@
 -- From what an engine answers to the line of a request.
-use Rattle.std.proofs.Common.{◌≡◌, ◌≢◌, ℕ, ◌-◌, List, [], ◌∷◌, ◌++◌, Bool, false, ◌<◌, length, take, Option, Some, None, IfErr, IfSome, IsSome, inl, inr, refl, sym, ap, ap₂, subst, ◌∙◌, append-nil, arith}
+use Rattle.std.proofs.Common.{◌≡◌, ◌≢◌, ℕ, ◌-◌, List, [], ◌∷◌, ◌++◌, Bool, false, ◌<◌, length, take, Option, Some, None}
+use Rattle.std.proofs.Common.{IfErr, IfSome, IsSome, inl, inr, refl, sym, ap, ap₂, subst, ◌∙◌, append-nil, arith}
 use Rattle.std.specs.Prelude.{Err, IfOk, MatchBool, Ok, Result, codes, option_map, unwrap_or}
 use Rattle.rx_term.specs.Tree.{Tree, annotated, annotations, list_of, none}
 use Rattle.rx_term.specs.Store.{Store, tree_at}
@@ -40,7 +41,8 @@ use Rattle.rec_serve.specs.declared.request.Request.{Request}
 use Rattle.rec_serve.proofs.AnswerLemmas.{line-text}
 
 -- what is shown of what the bare tree of a term comes to is the text of the term's line
-pub shown-text : (y : Spec) (w : Store) (counted : Bool) (n : ℕ) (u : Tree) (o : Outcome) → IsOutcome y w n (tree_of (term_of u)) o → shown w counted n (annotations u) o ≡ given_text y (bare counted) n u
+pub shown-text : (y : Spec) (w : Store) (counted : Bool) (n : ℕ) (u : Tree) (o : Outcome) → IsOutcome y w n (tree_of (term_of u)) o
+    → shown w counted n (annotations u) o ≡ given_text y (bare counted) n u
 shown-text y w counted n u (Value r steps) h =
     let notes = annotations u in
     let spent = h.spent in
@@ -73,12 +75,16 @@ pairwise_filled P (x ∷ xs) y h = omega arith
 -- ---- answers
 
 -- the answer to a request whose term was evaluated
-pub answers_tree : {B : Type 0} (store : B → Store) (y z : Spec) (own : Option Tree) (asked new : B) (counted : Bool) (n : ℕ) (u : Tree) (o : Outcome) (a : Answered) → own ≡ Some u → broken_by_elements y (u ∷ []) ≡ None → asked ≡ new → z ≡ y → IsOutcome z (store new) n (tree_of (term_of u)) o
-    → IfSome own (λ t. a.text.items ≡ shown (store asked) counted n (annotations t) o ++ codes "\n") → a.refusal ≡ None → IfSome own (λ t. AnswersTree y counted n t a)
+pub answers_tree : {B : Type 0} (store : B → Store) (y z : Spec) (own : Option Tree) (asked new : B) (counted : Bool) (n : ℕ) (u : Tree) (o : Outcome)
+    (a : Answered) → own ≡ Some u → broken_by_elements y (u ∷ []) ≡ None → asked ≡ new → z ≡ y → IsOutcome z (store new) n (tree_of (term_of u)) o
+    → IfSome own (λ t. a.text.items ≡ shown (store asked) counted n (annotations t) o ++ codes "\n") → a.refusal ≡ None
+    → IfSome own (λ t. AnswersTree y counted n t a)
 answers_tree store y z own asked new counted n u o a held kept one same is written plain =
-    let text : a.text.items ≡ shown (store asked) counted n (annotations u) o ++ codes "\n" = subst (λ w. IfSome w (λ t. a.text.items ≡ shown (store asked) counted n (annotations t) o ++ codes "\n")) held written in
+    let text : a.text.items ≡ shown (store asked) counted n (annotations u) o ++ codes "\n" =
+    subst (λ w. IfSome w (λ t. a.text.items ≡ shown (store asked) counted n (annotations t) o ++ codes "\n")) held written in
     subst (λ w. IfSome w (λ t. AnswersTree y counted n t a)) (sym held) (record {
-      text = text ∙ ap (λ b. shown (store b) counted n (annotations u) o ++ codes "\n") one ∙ shown-line y z (store new) counted n u o same is ∙ ap (answer_by y counted n u) (sym kept);
+      text = text ∙ ap (λ b. shown (store b) counted n (annotations u) o ++ codes "\n") one ∙ shown-line y z (store new) counted n u o same is
+          ∙ ap (answer_by y counted n u) (sym kept);
       refusal = plain ∙ ap (option_map refusal.Rule) (sym kept);
     })
 
@@ -93,12 +99,20 @@ record Alone (w v : Store) (term list : Reference) : Type 0 where
   held : tree_at v term ≡ Some tree
   listed : tree_at v list ≡ Some (list_of (more tree none))
 
-alone_of : (w v : Store) (term list : Reference) → IsSome (tree_at w term) → Grows w v → IfSome (tree_at w term) (λ u. tree_at v list ≡ Some (list_of (more u none))) → Alone w v term list
+alone_of : (w v : Store) (term list : Reference) → IsSome (tree_at w term) → Grows w v
+    → IfSome (tree_at w term) (λ u. tree_at v list ≡ Some (list_of (more u none))) → Alone w v term list
 alone_of w v term list some grows there =
     let t = some_tree (tree_at w term) some in
-    record { tree = t.0; was = t.1; held = grows.trees term t.0 t.1; listed = subst (λ o. IfSome o (λ u. tree_at v list ≡ Some (list_of (more u none)))) t.1 there }
+    record {
+      tree = t.0;
+      was = t.1;
+      held = grows.trees term t.0 t.1;
+      listed =
+          subst (λ o. IfSome o (λ u. tree_at v list ≡ Some (list_of (more u none)))) t.1 there;
+    }
 
-pub checked_alone : (y z : Spec) (w v : Store) (term list : Reference) → IsSome (tree_at w term) → Grows w v → IfSome (tree_at w term) (λ u. tree_at v list ≡ Some (list_of (more u none))) → IfSome (tree_at v list) (λ t. broken_by_terms z t ≡ None) → z ≡ y
+pub checked_alone : (y z : Spec) (w v : Store) (term list : Reference) → IsSome (tree_at w term) → Grows w v
+    → IfSome (tree_at w term) (λ u. tree_at v list ≡ Some (list_of (more u none))) → IfSome (tree_at v list) (λ t. broken_by_terms z t ≡ None) → z ≡ y
     → (t : Tree) × (tree_at v term ≡ Some t) × (tree_at v list ≡ Some (list_of (more t none))) × (broken_by_elements y (t ∷ []) ≡ None)
 checked_alone y z w v term list some grows there kept same =
     let a = alone_of w v term list some grows there in
@@ -106,13 +120,18 @@ checked_alone y z w v term list some grows there kept same =
     (a.tree, a.held, a.listed, subst (λ x. broken_by_elements x (a.tree ∷ []) ≡ None) same none_broken)
 
 -- the answer to a request whose term breaks a rule
-pub refused_tree : (y z : Spec) (counted : Bool) (n : ℕ) (w v : Store) (term list : Reference) (f : TermsFault) (number : ℕ) (r : Result Answered Want) → IsSome (tree_at w term) → Grows w v → IfSome (tree_at w term) (λ u. tree_at v list ≡ Some (list_of (more u none)))
-    → IfSome (tree_at v list) (λ t. IsTermsFault (broken_by_terms z t) f) → f ≡ rule.Rule number → z ≡ y → IfOk r (λ a. a.text.items ≡ refusal_line (refusal.Rule number)) → IfOk r (λ a. a.refusal ≡ Some (refusal.Rule number)) → IfOk r (λ a. IfSome (tree_at w term) (λ t. AnswersTree y counted n t a))
+pub refused_tree : (y z : Spec) (counted : Bool) (n : ℕ) (w v : Store) (term list : Reference) (f : TermsFault) (number : ℕ)
+    (r : Result Answered Want) → IsSome (tree_at w term) → Grows w v → IfSome (tree_at w term) (λ u. tree_at v list ≡ Some (list_of (more u none)))
+    → IfSome (tree_at v list) (λ t. IsTermsFault (broken_by_terms z t) f) → f ≡ rule.Rule number → z ≡ y
+    → IfOk r (λ a. a.text.items ≡ refusal_line (refusal.Rule number)) → IfOk r (λ a. a.refusal ≡ Some (refusal.Rule number))
+    → IfOk r (λ a. IfSome (tree_at w term) (λ t. AnswersTree y counted n t a))
 refused_tree y z counted n w v term list f number (Err e) some grows there broken is same text refused = tt
 refused_tree y z counted n w v term list f number (Ok a) some grows there broken is same text refused =
     let t = alone_of w v term list some grows there in
-    let named : IfSome (tree_at v list) (λ t. IsTermsFault (broken_by_terms z t) (rule.Rule number)) = subst (λ x. IfSome (tree_at v list) (λ t. IsTermsFault (broken_by_terms z t) x)) is broken in
-    let first : broken_by_elements z (t.tree ∷ []) ≡ Some number = subst (λ o. IfSome o (λ t. IsTermsFault (broken_by_terms z t) (rule.Rule number))) t.listed named in
+    let named : IfSome (tree_at v list) (λ t. IsTermsFault (broken_by_terms z t) (rule.Rule number)) =
+    subst (λ x. IfSome (tree_at v list) (λ t. IsTermsFault (broken_by_terms z t) x)) is broken in
+    let first : broken_by_elements z (t.tree ∷ []) ≡ Some number =
+    subst (λ o. IfSome o (λ t. IsTermsFault (broken_by_terms z t) (rule.Rule number))) t.listed named in
     let here : broken_by_elements y (t.tree ∷ []) ≡ Some number = subst (λ x. broken_by_elements x (t.tree ∷ []) ≡ Some number) same first in
     subst (λ o. IfSome o (λ t. AnswersTree y counted n t a)) (sym t.was) (record {
       text = text ∙ ap (answer_by y counted n t.tree) (sym here);
@@ -120,27 +139,33 @@ refused_tree y z counted n w v term list f number (Ok a) some grows there broken
     })
 
 -- the answer to a request that spells a tree
-pub answered_spelt : (y : Spec) (counted : Bool) (n : ℕ) (request : List ℕ) (own : Option Tree) (u : Tree) (r : Result Answered Want) → own ≡ Some u → IsVerdict request (Spelt u) → IfOk r (λ a. IfSome own (λ t. AnswersTree y counted n t a)) → IfOk r (IsAnswered y counted n request)
+pub answered_spelt : (y : Spec) (counted : Bool) (n : ℕ) (request : List ℕ) (own : Option Tree) (u : Tree) (r : Result Answered Want) → own ≡ Some u
+    → IsVerdict request (Spelt u) → IfOk r (λ a. IfSome own (λ t. AnswersTree y counted n t a)) → IfOk r (IsAnswered y counted n request)
 answered_spelt y counted n request own u (Err e) held is h = tt
 answered_spelt y counted n request own u (Ok a) held is h =
     let t : AnswersTree y counted n u a = subst (λ o. IfSome o (λ t. AnswersTree y counted n t a)) held h in
     record { verdict = Spelt u; is = is; text = t.text; refusal = t.refusal }
 
 -- and to one that spells none
-pub answered_refused : (y : Spec) (counted : Bool) (n : ℕ) (request : List ℕ) (v : Verdict) (f : Refusal) (r : Result Answered Want) → IsVerdict request v → refusal_line f ≡ answer_after y counted n v → Some f ≡ refusal_after y v → IfOk r (λ a. a.text.items ≡ refusal_line f) → IfOk r (λ a. a.refusal ≡ Some f)
+pub answered_refused : (y : Spec) (counted : Bool) (n : ℕ) (request : List ℕ) (v : Verdict) (f : Refusal) (r : Result Answered Want)
+    → IsVerdict request v → refusal_line f ≡ answer_after y counted n v → Some f ≡ refusal_after y v → IfOk r (λ a. a.text.items ≡ refusal_line f)
+    → IfOk r (λ a. a.refusal ≡ Some f)
     → IfOk r (IsAnswered y counted n request)
 answered_refused y counted n request v f (Err e) is line refused text why = tt
 answered_refused y counted n request v f (Ok a) is line refused text why = record { verdict = v; is = is; text = text ∙ line; refusal = why ∙ refused }
 
 -- the answer to what was kept of a request is that to the request
-pub kept_answer : (y : Spec) (counted : Bool) (n : ℕ) (q : Request) (text : List ℕ) (r : Result Answered Want) → q.is_lost ≡ false → text ≡ q.text.items → IfOk r (IsAnswered y counted n text) → IfOk r (λ a. (line : List ℕ) → IsRead q line → IsAnswer y counted n line a.text.items)
+pub kept_answer : (y : Spec) (counted : Bool) (n : ℕ) (q : Request) (text : List ℕ) (r : Result Answered Want) → q.is_lost ≡ false
+    → text ≡ q.text.items → IfOk r (IsAnswered y counted n text) → IfOk r (λ a. (line : List ℕ) → IsRead q line → IsAnswer y counted n line a.text.items)
 kept_answer y counted n q text (Err e) kept same h = tt
 kept_answer y counted n q text (Ok a) kept same h = λ line is.
     let front : q.text.items ≡ take 16777217 line = subst (λ b. MatchBool b (0 < length line) (q.text.items ≡ take 16777217 line)) kept is in
     (h.verdict, verdict_given (Some line) text h.verdict (same ∙ front) h.is, h.text)
 
 -- what is written for a request is a reply to it
-pub reply_is : (y : Spec) (counted : Bool) (n waiting : ℕ) (depth : Option ℕ) (q : Request) (r : Result Answered Want) → IfErr r (WantsDepth waiting depth) → IfOk r (λ a. (line : List ℕ) → IsRead q line → IsAnswer y counted n line a.text.items) → (line : List ℕ) → IsRead q line → IsReply y counted n depth line (text_of r)
+pub reply_is : (y : Spec) (counted : Bool) (n waiting : ℕ) (depth : Option ℕ) (q : Request) (r : Result Answered Want)
+    → IfErr r (WantsDepth waiting depth) → IfOk r (λ a. (line : List ℕ) → IsRead q line → IsAnswer y counted n line a.text.items) → (line : List ℕ)
+    → IsRead q line → IsReply y counted n depth line (text_of r)
 reply_is y counted n waiting depth q (Ok a) deep h line is = inl (h line is)
 reply_is y counted n waiting depth q (Err want.Memory) deep h line is = inr (inl refl)
 reply_is y counted n waiting depth q (Err want.Cells) deep h line is = inr (inr (inl refl))

@@ -1,5 +1,6 @@
 -- Replies one after the other.
-use Rattle.std.proofs.Common.{◌≡◌, ℕ, ◌+◌, Bool, List, [], ◌∷◌, ◌++◌, Option, Some, None, IfSome, inl, inr, refl, sym, ap, subst, ◌∙◌, append-nil, length, arith}
+use Rattle.std.proofs.Common.{◌≡◌, ℕ, ◌+◌, Bool, List, [], ◌∷◌, ◌++◌, Option, Some, None, IfSome}
+use Rattle.std.proofs.Common.{inl, inr, refl, sym, ap, subst, ◌∙◌, append-nil, length, arith}
 use Rattle.std.specs.Prelude.{MatchOption}
 use Rattle.std.proofs.lemmas.List.{length-append}
 use Rattle.std.specs.Io.KnownBytes.{Appends, Keeps}
@@ -34,10 +35,12 @@ module _ (y : Spec) (counted : Bool) (n : ℕ) (depth : Option ℕ) where
   replied_none old left was h = record { done = []; replies = []; split = h; each = tt; few = refl; written = appends_same was }
 
   -- one more
-  pub replied_more : (old mid left was between now : Option (List ℕ)) (count : ℕ) → Replied old mid was between count → Replies y counted n depth mid left between now → Replied old left was now (count + 1)
+  pub replied_more : (old mid left was between now : Option (List ℕ)) (count : ℕ) → Replied old mid was between count
+      → Replies y counted n depth mid left between now → Replied old left was now (count + 1)
   replied_more old mid left was between now count h k =
       let size = length-append h.done (k.line ∷ []) in
-      let one : joined (h.replies ++ k.text ∷ []) ≡ joined h.replies ++ k.text = joined-append h.replies (k.text ∷ []) ∙ ap (λ z. joined h.replies ++ z) (append-nil k.text) in
+      let one : joined (h.replies ++ k.text ∷ []) ≡ joined h.replies ++ k.text =
+      joined-append h.replies (k.text ∷ []) ∙ ap (λ z. joined h.replies ++ z) (append-nil k.text) in
       let few = h.few in
       record {
         done = h.done ++ k.line ∷ [];
@@ -49,7 +52,8 @@ module _ (y : Spec) (counted : Bool) (n : ℕ) (depth : Option ℕ) where
       }
 
   -- all
-  pub converses : (old left remaining was between now : Option (List ℕ)) (count : ℕ) → Replied old left was between count → EndsStep left remaining between now → IfSome old (λ bytes. Converses y counted n depth bytes was now)
+  pub converses : (old left remaining was between now : Option (List ℕ)) (count : ℕ) → Replied old left was between count
+      → EndsStep left remaining between now → IfSome old (λ bytes. Converses y counted n depth bytes was now)
   converses None left remaining was between now count h e = tt
   converses (Some bytes) None remaining was between now count h e = absurd (h.split)
   converses (Some bytes) (Some rest) remaining was between now count h e =
@@ -68,28 +72,54 @@ module _ (y : Spec) (counted : Bool) (n : ℕ) (depth : Option ℕ) where
   nothing_begun (serve.Write a) (r ∷ rs) = inl refl
 
   -- nothing was read
-  pub breaks_at_once : (known was : Option (List ℕ)) (fault : ServeFault) → answered_before fault ≡ 0 → IfSome known (λ bytes. BreaksOff y counted n depth bytes fault was was)
+  pub breaks_at_once : (known was : Option (List ℕ)) (fault : ServeFault) → answered_before fault ≡ 0
+      → IfSome known (λ bytes. BreaksOff y counted n depth bytes fault was was)
   breaks_at_once None was fault a = tt
-  breaks_at_once (Some bytes) was fault a = record { done = []; left = requests bytes; split = refl; replies = []; each = tt; count = a; part = []; begun = nothing_begun fault (requests bytes); written = appends_same was }
+  breaks_at_once (Some bytes) was fault a = record {
+    done = [];
+    left = requests bytes;
+    split = refl;
+    replies = [];
+    each = tt;
+    count = a;
+    part = [];
+    begun = nothing_begun fault (requests bytes);
+    written = appends_same was;
+  }
 
   -- the next request was read, and its reply written
-  pub replies_one : (o : Option Request) (q : Request) (old left was mid now : Option (List ℕ)) → o ≡ Some q → (P : Type 0) → MatchOption o P (λ r. (line : List ℕ) × IsRead r line × Splits old left (line ∷ []))
-      → Keeps was mid → ((line : List ℕ) → IsRead q line → (text : List ℕ) × IsReply y counted n depth line text × Appends mid now text) → Replies y counted n depth old left was now
+  pub replies_one : (o : Option Request) (q : Request) (old left was mid now : Option (List ℕ)) → o ≡ Some q → (P : Type 0)
+      → MatchOption o P (λ r. (line : List ℕ) × IsRead r line × Splits old left (line ∷ []))
+      → Keeps was mid → ((line : List ℕ) → IsRead q line → (text : List ℕ) × IsReply y counted n depth line text × Appends mid now text)
+      → Replies y counted n depth old left was now
   replies_one o q old left was mid now e P h k f =
-      let got : (line : List ℕ) × IsRead q line × Splits old left (line ∷ []) = subst (λ x. MatchOption x P (λ r. (line : List ℕ) × IsRead r line × Splits old left (line ∷ []))) e h in
+      let got : (line : List ℕ) × IsRead q line × Splits old left (line ∷ []) =
+      subst (λ x. MatchOption x P (λ r. (line : List ℕ) × IsRead r line × Splits old left (line ∷ []))) e h in
       let reply = f got.0 got.1 in
       record { line = got.0; text = reply.0; split = got.2; is = reply.1; written = appends_both was mid now [] reply.0 (appends_none was mid k) reply.2 }
 
   -- or a front of it
-  pub replies_front : (o : Option Request) (q : Request) (old left was mid now : Option (List ℕ)) → o ≡ Some q → (P : Type 0) → MatchOption o P (λ r. (line : List ℕ) × IsRead r line × Splits old left (line ∷ []))
-      → Keeps was mid → ((line : List ℕ) → IsRead q line → (text : List ℕ) × IsReply y counted n depth line text × AppendsFront text mid now) → StopsReply y counted n depth old was now
+  pub replies_front : (o : Option Request) (q : Request) (old left was mid now : Option (List ℕ)) → o ≡ Some q → (P : Type 0)
+      → MatchOption o P (λ r. (line : List ℕ) × IsRead r line × Splits old left (line ∷ []))
+      → Keeps was mid → ((line : List ℕ) → IsRead q line → (text : List ℕ) × IsReply y counted n depth line text × AppendsFront text mid now)
+      → StopsReply y counted n depth old was now
   replies_front o q old left was mid now e P h k f =
-      let got : (line : List ℕ) × IsRead q line × Splits old left (line ∷ []) = subst (λ x. MatchOption x P (λ r. (line : List ℕ) × IsRead r line × Splits old left (line ∷ []))) e h in
+      let got : (line : List ℕ) × IsRead q line × Splits old left (line ∷ []) =
+      subst (λ x. MatchOption x P (λ r. (line : List ℕ) × IsRead r line × Splits old left (line ∷ []))) e h in
       let reply = f got.0 got.1 in
-      record { left = left; line = got.0; text = reply.0; split = got.2; is = reply.1; written = front_after was mid now [] reply.0 (appends_none was mid k) reply.2 }
+      record {
+        left = left;
+        line = got.0;
+        text = reply.0;
+        split = got.2;
+        is = reply.1;
+        written =
+            front_after was mid now [] reply.0 (appends_none was mid k) reply.2;
+      }
 
   -- a fault between replies
-  pub breaks_between : (old left was between now : Option (List ℕ)) (count : ℕ) (fault : ServeFault) → answered_before fault ≡ count → Replied old left was between count → Keeps between now → IfSome old (λ bytes. BreaksOff y counted n depth bytes fault was now)
+  pub breaks_between : (old left was between now : Option (List ℕ)) (count : ℕ) (fault : ServeFault) → answered_before fault ≡ count
+      → Replied old left was between count → Keeps between now → IfSome old (λ bytes. BreaksOff y counted n depth bytes fault was now)
   breaks_between None left was between now count fault a h k = tt
   breaks_between (Some bytes) None was between now count fault a h k = absurd (h.split)
   breaks_between (Some bytes) (Some rest) was between now count fault a h k = record {
@@ -105,7 +135,8 @@ module _ (y : Spec) (counted : Bool) (n : ℕ) (depth : Option ℕ) where
   }
 
   -- a fault within a reply
-  breaks_within : (old left was between now : Option (List ℕ)) (count : ℕ) → Replied old left was between count → StopsReply y counted n depth left between now → IfSome old (λ bytes. BreaksOff y counted n depth bytes (serve.Write count) was now)
+  breaks_within : (old left was between now : Option (List ℕ)) (count : ℕ) → Replied old left was between count
+      → StopsReply y counted n depth left between now → IfSome old (λ bytes. BreaksOff y counted n depth bytes (serve.Write count) was now)
   breaks_within None left was between now count h s = tt
   breaks_within (Some bytes) None was between now count h s = absurd (h.split)
   breaks_within (Some bytes) (Some rest) was between now count h s = by s.left s.split
@@ -124,10 +155,13 @@ module _ (y : Spec) (counted : Bool) (n : ℕ) (depth : Option ℕ) where
         written = appends_both was between now (joined h.replies) s.written.0 h.written s.written.1;
       }
 
-  pub breaks_off : (old left was between now : Option (List ℕ)) (count : ℕ) (f : StreamFault) (fault : ServeFault) → fault ≡ stopped_after f count → Replied old left was between count → StopsStep y counted n depth f left between now → IfSome old (λ bytes. BreaksOff y counted n depth bytes fault was now)
+  pub breaks_off : (old left was between now : Option (List ℕ)) (count : ℕ) (f : StreamFault) (fault : ServeFault) → fault ≡ stopped_after f count
+      → Replied old left was between count → StopsStep y counted n depth f left between now
+      → IfSome old (λ bytes. BreaksOff y counted n depth bytes fault was now)
   breaks_off old left was between now count f fault e h s = subst (λ x. IfSome old (λ bytes. BreaksOff y counted n depth bytes x was now)) (sym e) (by f s)
     where
-      by : (f : StreamFault) → StopsStep y counted n depth f left between now → IfSome old (λ bytes. BreaksOff y counted n depth bytes (stopped_after f count) was now)
+      by : (f : StreamFault) → StopsStep y counted n depth f left between now
+          → IfSome old (λ bytes. BreaksOff y counted n depth bytes (stopped_after f count) was now)
       by Read s = breaks_between old left was between now count (serve.Read count) refl h s
       by Write (inl k) = breaks_between old left was between now count (serve.Write count) refl h k
       by Write (inr k) = breaks_within old left was between now count h k

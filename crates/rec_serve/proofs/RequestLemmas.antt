@@ -1,5 +1,6 @@
 -- The requests of bytes: piece by piece, and as the lines of a stream.
-use Rattle.std.proofs.Common.{◌≡◌, ℕ, suc, ◌+◌, ◌<◌, ◌≤◌, Bool, true, false, ◌==◌, List, [], ◌∷◌, ◌++◌, Option, Some, None, inl, inr, refl, sym, ap, subst, ◌∙◌, append_assoc, length, take, drop, arith}
+use Rattle.std.proofs.Common.{◌≡◌, ℕ, suc, ◌+◌, ◌<◌, ◌≤◌, Bool, true, false, ◌==◌, List, [], ◌∷◌, ◌++◌, Option, Some}
+use Rattle.std.proofs.Common.{None, inl, inr, refl, sym, ap, subst, ◌∙◌, append_assoc, length, take, drop, arith}
 use Rattle.std.specs.Prelude.{◌⊎◌, cond, codes, not, nat_lt, position}
 use Rattle.std.specs.List.{position_or_len}
 use Rattle.std.proofs.lemmas.Bool.{eqb-true}
@@ -35,7 +36,8 @@ inside : (bs rest : List ℕ) → length bs ≤ position_or_len is_end bs → re
 inside [] rest h = refl
 inside (b ∷ bs) rest h = by (inside bs rest) (b == 10) refl
   where
-    by : (length bs ≤ position_or_len is_end bs → requests (bs ++ rest) ≡ all_in_front bs (requests rest)) → (t : Bool) → (b == 10) ≡ t → requests (b ∷ (bs ++ rest)) ≡ in_front b (all_in_front bs (requests rest))
+    by : (length bs ≤ position_or_len is_end bs → requests (bs ++ rest) ≡ all_in_front bs (requests rest)) → (t : Bool) → (b == 10) ≡ t
+        → requests (b ∷ (bs ++ rest)) ≡ in_front b (all_in_front bs (requests rest))
     by others true e = absurd (let k = first_end b bs e in omega (arith, h, k))
     by others false e = begun_at b (bs ++ rest) e ∙ ap (in_front b) (others (let k = later_end b bs e in omega (arith, h, k)))
 
@@ -45,7 +47,10 @@ up_to : (bs rest : List ℕ) → position_or_len is_end bs < length bs
 up_to [] rest h = absurd (omega (arith, h))
 up_to (b ∷ bs) rest h = by (up_to bs rest) (b == 10) refl
   where
-    by : (position_or_len is_end bs < length bs → requests (bs ++ rest) ≡ all_in_front (take (position_or_len is_end bs) bs) ([] ∷ requests (drop (position_or_len is_end bs + 1) bs ++ rest))) → (t : Bool) → (b == 10) ≡ t → requests (b ∷ (bs ++ rest)) ≡ all_in_front (take (position_or_len is_end (b ∷ bs)) (b ∷ bs)) ([] ∷ requests (drop (position_or_len is_end (b ∷ bs) + 1) (b ∷ bs) ++ rest))
+    by : (position_or_len is_end bs < length bs → requests (bs ++ rest) ≡ all_in_front (take (position_or_len is_end bs) bs)
+        ([] ∷ requests (drop (position_or_len is_end bs + 1) bs ++ rest))) → (t : Bool) → (b == 10) ≡ t
+        → requests (b ∷ (bs ++ rest)) ≡ all_in_front (take (position_or_len is_end (b ∷ bs)) (b ∷ bs))
+        ([] ∷ requests (drop (position_or_len is_end (b ∷ bs) + 1) (b ∷ bs) ++ rest))
     by others true e = rw (first_end b bs e) (ended_at b (bs ++ rest) e)
     by others false e =
         let k = position_or_len is_end bs in
@@ -57,7 +62,8 @@ up_to (b ∷ bs) rest h = by (up_to bs rest) (b == 10) refl
 pub none_inside : (bs rest : List ℕ) → position (λ b. b == 10) bs ≡ None → requests (bs ++ rest) ≡ all_in_front bs (requests rest)
 none_inside bs rest e = by (nat_lt (position_or_len is_end bs) (length bs)) refl e
   where
-    by : (t : Bool) → nat_lt (position_or_len is_end bs) (length bs) ≡ t → ◌≡◌ {A = Option ℕ} (cond t (Some (position_or_len is_end bs)) None) None → requests (bs ++ rest) ≡ all_in_front bs (requests rest)
+    by : (t : Bool) → nat_lt (position_or_len is_end bs) (length bs) ≡ t → ◌≡◌ {A = Option ℕ} (cond t (Some (position_or_len is_end bs)) None) None
+        → requests (bs ++ rest) ≡ all_in_front bs (requests rest)
     by true k h = absurd (cc h)
     by false k h = inside bs rest (grind (arith, nat_tests, k))
 
@@ -68,7 +74,8 @@ pub record EndsAt (bs : List ℕ) (i : ℕ) : Type 0 where
 pub ends_at : (bs : List ℕ) (i : ℕ) → position (λ b. b == 10) bs ≡ Some i → EndsAt bs i
 ends_at bs i e = by (nat_lt (position_or_len is_end bs) (length bs)) refl e
   where
-    by : (t : Bool) → nat_lt (position_or_len is_end bs) (length bs) ≡ t → ◌≡◌ {A = Option ℕ} (cond t (Some (position_or_len is_end bs)) None) (Some i) → EndsAt bs i
+    by : (t : Bool) → nat_lt (position_or_len is_end bs) (length bs) ≡ t
+        → ◌≡◌ {A = Option ℕ} (cond t (Some (position_or_len is_end bs)) None) (Some i) → EndsAt bs i
     by false k h = absurd (cc h)
     by true k h =
         let low : position_or_len is_end bs < length bs = grind (arith, nat_tests, k) in
@@ -181,7 +188,8 @@ line_first : (r rest : List ℕ) → newlines r ≡ 0 → requests (r ++ 10 ∷ 
 line_first [] rest h = refl
 line_first (b ∷ bs) rest h = by (line_first bs rest) (b == 10) refl
   where
-    by : (newlines bs ≡ 0 → requests (bs ++ 10 ∷ rest) ≡ bs ∷ requests rest) → (t : Bool) → (b == 10) ≡ t → requests (b ∷ (bs ++ 10 ∷ rest)) ≡ (b ∷ bs) ∷ requests rest
+    by : (newlines bs ≡ 0 → requests (bs ++ 10 ∷ rest) ≡ bs ∷ requests rest) → (t : Bool) → (b == 10) ≡ t
+        → requests (b ∷ (bs ++ 10 ∷ rest)) ≡ (b ∷ bs) ∷ requests rest
     by others true e = absurd (ended_line b bs e h)
     by others false e = begun_at b (bs ++ 10 ∷ rest) e ∙ ap (in_front b) (others (others_line b bs e h))
 
@@ -206,7 +214,8 @@ pub requests-divided : (xs ys : List ℕ) → requests (xs ++ 10 ∷ ys) ≡ req
 requests-divided [] ys = refl
 requests-divided (x ∷ xs) ys = by (requests-divided xs ys) (x == 10) refl
   where
-    by : requests (xs ++ 10 ∷ ys) ≡ requests (xs ++ 10 ∷ []) ++ requests ys → (t : Bool) → (x == 10) ≡ t → requests (x ∷ (xs ++ 10 ∷ ys)) ≡ requests (x ∷ (xs ++ 10 ∷ [])) ++ requests ys
+    by : requests (xs ++ 10 ∷ ys) ≡ requests (xs ++ 10 ∷ []) ++ requests ys → (t : Bool) → (x == 10) ≡ t
+        → requests (x ∷ (xs ++ 10 ∷ ys)) ≡ requests (x ∷ (xs ++ 10 ∷ [])) ++ requests ys
     by others true e = ended_at x (xs ++ 10 ∷ ys) e ∙ ap (λ z. [] ∷ z) others ∙ ap (λ z. z ++ requests ys) (sym (ended_at x (xs ++ 10 ∷ []) e))
     by others false e =
         begun_at x (xs ++ 10 ∷ ys) e ∙ ap (in_front x) others

@@ -26,8 +26,10 @@ use Rattle.rec_serve.proofs.ReplyLemmas.{breaks_at_once}
 the_reading : (text : List ℕ) (r : Reading Sourced) (v : Verdict) → IsSpecRead text r → SpecVerdict text v → IsSpecReading r v
 the_reading text r v (w, h, is) k = subst (IsSpecReading r) (one_verdict text w v h k) is
 
-pub breaks_serving : (counted : Bool) (n : ℕ) (depth : Option ℕ) (spec known : Option (List ℕ)) (r : Reading Sourced) (result : Result Finish ServeFault) (old new : Option (List ℕ)) → IfSome spec (λ text. IsSpecRead text r)
-    → IfErr result (λ fault. (v : Verdict) → IsSpecReading r v → BreaksAfter counted n depth v known fault old new) → IfErr result (λ fault. BreaksServing counted n depth spec known fault old new)
+pub breaks_serving : (counted : Bool) (n : ℕ) (depth : Option ℕ) (spec known : Option (List ℕ)) (r : Reading Sourced)
+    (result : Result Finish ServeFault) (old new : Option (List ℕ)) → IfSome spec (λ text. IsSpecRead text r)
+    → IfErr result (λ fault. (v : Verdict) → IsSpecReading r v → BreaksAfter counted n depth v known fault old new)
+    → IfErr result (λ fault. BreaksServing counted n depth spec known fault old new)
 breaks_serving counted n depth spec known r (Ok x) old new h k = tt
 breaks_serving counted n depth None known r (Err fault) old new h k = tt
 breaks_serving counted n depth (Some text) known r (Err fault) old new h k = λ v is. k v (the_reading text r v h is)
@@ -42,17 +44,20 @@ read_place : (counted : Bool) (n : ℕ) (r : Reading Sourced) (v : Verdict) → 
 read_place counted n (reading.Refused r) v e = refused_place counted n r v e
 read_place counted n (reading.Good checked) v e = ap (λ x. (due_of_spec (bare counted) n x).place) (sym e)
 
-pub placed_serving : (counted : Bool) (n : ℕ) (spec : Option (List ℕ)) (r : Reading Sourced) (result : Result Finish ServeFault) (place : Option Place) → IfSome spec (λ text. IsSpecRead text r) → OnOk result (place ≡ place_of r) → OnOk result (PlacedServing counted n spec place)
+pub placed_serving : (counted : Bool) (n : ℕ) (spec : Option (List ℕ)) (r : Reading Sourced) (result : Result Finish ServeFault)
+    (place : Option Place) → IfSome spec (λ text. IsSpecRead text r) → OnOk result (place ≡ place_of r) → OnOk result (PlacedServing counted n spec place)
 placed_serving counted n spec r (Err fault) place h e = tt
 placed_serving counted n None r (Ok x) place h e = tt
 placed_serving counted n (Some text) r (Ok x) place (v, h, is) e = (v, h, e ∙ read_place counted n r v is)
 
-pub good_serving : (spec : Option (List ℕ)) (r : Reading Sourced) (result : Result Finish ServeFault) (P : Type 0) → IfSome spec (λ text. IsSpecRead text r) → OnOk result ((y : Spec) → IsSpecReading r (Good y) → P) → OnOk result (OnGoodSpec spec P)
+pub good_serving : (spec : Option (List ℕ)) (r : Reading Sourced) (result : Result Finish ServeFault) (P : Type 0)
+    → IfSome spec (λ text. IsSpecRead text r) → OnOk result ((y : Spec) → IsSpecReading r (Good y) → P) → OnOk result (OnGoodSpec spec P)
 good_serving spec r (Err fault) P h k = tt
 good_serving None r (Ok x) P h k = tt
 good_serving (Some text) r (Ok x) P h k = λ y is. k y (the_reading text r (Good y) h is)
 
-pub refused_serving : (spec : Option (List ℕ)) (r : Reading Sourced) (P : Type 0) → IfSome spec (λ text. IsSpecRead text r) → ((v : Verdict) → IsSpecReading r v → IsRefusal v → P) → OnRefusedSpec spec P
+pub refused_serving : (spec : Option (List ℕ)) (r : Reading Sourced) (P : Type 0) → IfSome spec (λ text. IsSpecRead text r)
+    → ((v : Verdict) → IsSpecReading r v → IsRefusal v → P) → OnRefusedSpec spec P
 refused_serving None r P h k = tt
 refused_serving (Some text) r P h k = λ v is refused. k v (the_reading text r v h is) refused
 
@@ -63,12 +68,14 @@ unread_first unread.Read = refl
 nothing_front : (text : List ℕ) (old : Option (List ℕ)) → AppendsFront text old old
 nothing_front text old = ([], appends_same old, (text, refl))
 
-unread_after : (counted : Bool) (n : ℕ) (depth : Option ℕ) (v : Verdict) (known : Option (List ℕ)) (fault : ServeFault) (old : Option (List ℕ)) → answered_before fault ≡ 0 → BreaksAfter counted n depth v known fault old old
+unread_after : (counted : Bool) (n : ℕ) (depth : Option ℕ) (v : Verdict) (known : Option (List ℕ)) (fault : ServeFault) (old : Option (List ℕ))
+    → answered_before fault ≡ 0 → BreaksAfter counted n depth v known fault old old
 unread_after counted n depth (Good y) known fault old a = breaks_at_once y counted n depth known old fault a
 unread_after counted n depth verdict.Long known fault old a = (a, nothing_front _ old)
 unread_after counted n depth (verdict.Grammar at) known fault old a = (a, nothing_front _ old)
 unread_after counted n depth (verdict.Breaks f) known fault old a = (a, nothing_front _ old)
 
-pub breaks_unread : (counted : Bool) (n : ℕ) (depth : Option ℕ) (spec known : Option (List ℕ)) (f : ReadFault) (fault : ServeFault) (old : Option (List ℕ)) → fault ≡ unread_fault f → BreaksServing counted n depth spec known fault old old
+pub breaks_unread : (counted : Bool) (n : ℕ) (depth : Option ℕ) (spec known : Option (List ℕ)) (f : ReadFault) (fault : ServeFault)
+    (old : Option (List ℕ)) → fault ≡ unread_fault f → BreaksServing counted n depth spec known fault old old
 breaks_unread counted n depth None known f fault old e = tt
 breaks_unread counted n depth (Some text) known f fault old e = λ v is. unread_after counted n depth v known fault old (ap answered_before e ∙ unread_first f)

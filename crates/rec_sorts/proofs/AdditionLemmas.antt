@@ -12,7 +12,8 @@ use Rattle.rec_sorts.specs.Lookup.{names, variable_words}
 use Rattle.rec_sorts.specs.SpecRules.{sorts_of}
 use Rattle.rec_sorts.specs.Least.{earlier}
 use Rattle.rec_sorts.specs.Names.{Numbers}
-use Rattle.rec_sorts.specs.Declaring.{sort_numbers, unnumbered, least_unnumbered, Additions, both, nothing_added, added_by, added_by_symbol, added_by_symbols, added_by_group, added_by_groups, Adds}
+use Rattle.rec_sorts.specs.Declaring.{sort_numbers, unnumbered, least_unnumbered, Additions, both, nothing_added, added_by}
+use Rattle.rec_sorts.specs.Declaring.{added_by_symbol, added_by_symbols, added_by_group, added_by_groups, Adds}
 use Rattle.rec_sorts.specs.Agreeing.{variable_sorts}
 use Rattle.rec_sorts.specs.declared.declarations.Declared.{Declared}
 use Rattle.rec_sorts.proofs.LeastPlaceLemmas.{earlier_assoc, earlier_none}
@@ -21,11 +22,13 @@ use Rattle.rec_sorts.proofs.StackLemmas.{map-append}
 use Rattle.rec_sorts.proofs.TurnLemmas.{map-take_turn}
 
 -- something is added, and then more
-pub Adds-both : (source : List ℕ) (numbers : Numbers) (c d e : Declared) (a b : Additions) → Adds source numbers c d a → Adds source numbers d e b → Adds source numbers c e (both a b)
+pub Adds-both : (source : List ℕ) (numbers : Numbers) (c d e : Declared) (a b : Additions) → Adds source numbers c d a → Adds source numbers d e b
+    → Adds source numbers c e (both a b)
 Adds-both source numbers c d e a b h k = record {
   words_added = k.words_added ∙ ap (λ xs. xs ++ b.words) h.words_added ∙ append_assoc (words_of source c.words.items) a.words b.words;
   sorts_added = k.sorts_added ∙ ap (λ xs. xs ++ b.sorts) h.sorts_added ∙ append_assoc c.sorts.items a.sorts b.sorts;
-  arguments_added = k.arguments_added ∙ ap (λ xs. xs ++ b.arguments) h.arguments_added ∙ append_assoc (map (λ v. v.items) c.arguments.items) a.arguments b.arguments;
+  arguments_added = k.arguments_added ∙ ap (λ xs. xs ++ b.arguments) h.arguments_added
+      ∙ append_assoc (map (λ v. v.items) c.arguments.items) a.arguments b.arguments;
   within_added = λ w. k.within_added (h.within_added w);
   unknown_added =
       k.unknown_added
@@ -52,7 +55,13 @@ added_by-append add (x ∷ xs) ys = ap (both (add x)) (added_by-append add xs ys
 
 -- what symbols add
 pub added_by_symbols-parts : (numbers : Numbers) (ds : List Declaration)
-    → added_by_symbols numbers ds ≡ record { words = names ds; sorts = map (λ d. numbers d.sort.bytes) ds; arguments = map (λ d. sort_numbers numbers d.arguments) ds; named = flat_map sorts_of ds }
+    → added_by_symbols numbers ds ≡ record {
+      words = names ds;
+      sorts = map (λ d. numbers d.sort.bytes) ds;
+      arguments =
+          map (λ d. sort_numbers numbers d.arguments) ds;
+      named = flat_map sorts_of ds;
+    }
 added_by_symbols-parts numbers [] = refl
 added_by_symbols-parts numbers (d ∷ ds) = ap (both (added_by_symbol numbers d)) (added_by_symbols-parts numbers ds)
 
@@ -63,7 +72,8 @@ added_by_groups-parts numbers [] = refl
 added_by_groups-parts numbers (v ∷ vs) = ap (both (added_by_group numbers v)) (added_by_groups-parts numbers vs)
 
 -- some words are pushed, one after another
-pub words_pushed : {X Y : Type 0} (f : X → Y) (xs ys zs others : List X) (x : X) (i : ℕ) → ys ≡ xs ++ x ∷ [] → zs ≡ ys ++ take i others → length others ≤ i → map f zs ≡ map f xs ++ f x ∷ map f others
+pub words_pushed : {X Y : Type 0} (f : X → Y) (xs ys zs others : List X) (x : X) (i : ℕ) → ys ≡ xs ++ x ∷ [] → zs ≡ ys ++ take i others
+    → length others ≤ i → map f zs ≡ map f xs ++ f x ∷ map f others
 words_pushed f xs ys zs others x i first rest done =
     ap (map f) (rest ∙ ap (λ us. ys ++ us) (take_all i others done) ∙ ap (λ us. us ++ others) first ∙ append_assoc xs (x ∷ []) others)
     ∙ map-append f xs (x ∷ others)
@@ -73,16 +83,27 @@ pub within_pushed : (source : List ℕ) (xs ys : List Span) (x : Span) → ys �
 within_pushed source xs ys x grown w all = subst (All (Within source)) (sym grown) (All-push (Within source) xs x all w)
 
 -- some are pushed
-pub all_within_pushed : (source : List ℕ) (xs ys zs others : List Span) (x : Span) (i : ℕ) → ys ≡ xs ++ x ∷ [] → zs ≡ ys ++ take i others → Within source x → All (Within source) others → All (Within source) xs → All (Within source) zs
-all_within_pushed source xs ys zs others x i first rest w ws all = subst (All (Within source)) (sym rest) (All-append (Within source) ys (take i others) (within_pushed source xs ys x first w all) (All-take (Within source) i others ws))
+pub all_within_pushed : (source : List ℕ) (xs ys zs others : List Span) (x : Span) (i : ℕ) → ys ≡ xs ++ x ∷ [] → zs ≡ ys ++ take i others
+    → Within source x → All (Within source) others → All (Within source) xs → All (Within source) zs
+all_within_pushed source xs ys zs others x i first rest w ws all =
+    subst (All (Within source)) (sym rest) (All-append (Within source) ys (take i others) (within_pushed source xs ys x first w all)
+    (All-take (Within source) i others ws))
 
 -- no word is taken away
-pub words_longer : (source : List ℕ) (numbers : Numbers) (old new : Declared) (a : Additions) → Adds source numbers old new a → length old.words.items ≤ length new.words.items
+pub words_longer : (source : List ℕ) (numbers : Numbers) (old new : Declared) (a : Additions) → Adds source numbers old new a
+    → length old.words.items ≤ length new.words.items
 words_longer source numbers old new a h =
-    omega (arith, sym (length-map new.words.items (word_of source)), sym (length-map old.words.items (word_of source)), ap length h.words_added, length-append (words_of source old.words.items) a.words)
+    omega (
+      arith,
+      sym (length-map new.words.items (word_of source)),
+      sym (length-map old.words.items (word_of source)),
+      ap length h.words_added,
+      length-append (words_of source old.words.items) a.words,
+    )
 
 -- their sort is pushed as often
-pub sorts_pushed : {X Y : Type 0} (f : X → Y) (xs ys zs : List (Option ℕ)) (others : List X) (sort c : Option ℕ) (i : ℕ) → sort ≡ c → ys ≡ xs ++ sort ∷ [] → zs ≡ ys ++ map (λ _. sort) (take i others) → length others ≤ i
+pub sorts_pushed : {X Y : Type 0} (f : X → Y) (xs ys zs : List (Option ℕ)) (others : List X) (sort c : Option ℕ) (i : ℕ) → sort ≡ c
+    → ys ≡ xs ++ sort ∷ [] → zs ≡ ys ++ map (λ _. sort) (take i others) → length others ≤ i
     → zs ≡ xs ++ c ∷ map (λ _. c) (map f others)
 sorts_pushed {X = X} f xs ys zs others sort c i e first rest done =
     rest
@@ -101,23 +122,28 @@ abbrev pub lists : Vec (Vec (Option ℕ) Global) Global → List (List (Option �
 lists vs = map (λ v. v.items) vs.items
 
 -- one more list is pushed
-pub list_pushed : (xs ys : List (Vec (Option ℕ) Global)) (v : Vec (Option ℕ) Global) (items : List (Option ℕ)) → ys ≡ xs ++ v ∷ [] → v.items ≡ items → map (λ v. v.items) ys ≡ map (λ v. v.items) xs ++ items ∷ []
+pub list_pushed : (xs ys : List (Vec (Option ℕ) Global)) (v : Vec (Option ℕ) Global) (items : List (Option ℕ)) → ys ≡ xs ++ v ∷ [] → v.items ≡ items
+    → map (λ v. v.items) ys ≡ map (λ v. v.items) xs ++ items ∷ []
 list_pushed xs ys v items grown e = ap (map (λ v. v.items)) grown ∙ map-append (λ v. v.items) xs (v ∷ []) ∙ ap (λ zs. map (λ v. v.items) xs ++ zs ∷ []) e
 
 -- the least place of a sort that is not declared is kept
-pub unknown_pushed : (numbers : Numbers) (ws : List Word) (w : Word) (old unknown missing both new : Option ℕ) → unknown ≡ least_unnumbered numbers ws → missing ≡ unnumbered numbers w → both ≡ earlier unknown missing → new ≡ earlier old both
+pub unknown_pushed : (numbers : Numbers) (ws : List Word) (w : Word) (old unknown missing both new : Option ℕ) → unknown ≡ least_unnumbered numbers ws
+    → missing ≡ unnumbered numbers w → both ≡ earlier unknown missing → new ≡ earlier old both
     → new ≡ earlier old (least_unnumbered numbers (ws ++ w ∷ []))
 unknown_pushed numbers ws w old unknown missing both new eu em eb en =
     en
     ∙ ap (earlier old)
-    (eb ∙ ap (λ p. earlier p missing) eu ∙ ap (earlier (least_unnumbered numbers ws)) (em ∙ sym (earlier_none (unnumbered numbers w))) ∙ sym (least_of-append (unnumbered numbers) ws (w ∷ [])))
+    (eb ∙ ap (λ p. earlier p missing) eu ∙ ap (earlier (least_unnumbered numbers ws)) (em ∙ sym (earlier_none (unnumbered numbers w)))
+    ∙ sym (least_of-append (unnumbered numbers) ws (w ∷ [])))
 
 -- one more item is added
-pub added_turn : {X Y : Type 0} (add : Y → Additions) (spell : X → Y) (source : List ℕ) (numbers : Numbers) (old mid new : Declared) (xs : List X) (i : ℕ) (x : X) → i < length xs → x ≡ get_or xs i x
+pub added_turn : {X Y : Type 0} (add : Y → Additions) (spell : X → Y) (source : List ℕ) (numbers : Numbers) (old mid new : Declared) (xs : List X)
+    (i : ℕ) (x : X) → i < length xs → x ≡ get_or xs i x
     → Adds source numbers old mid (added_by add (map spell (take i xs))) → Adds source numbers mid new (add (spell x))
     → Adds source numbers old new (added_by add (map spell (take (i + 1) xs)))
 added_turn add spell source numbers old mid new xs i x h e all one =
     let before = map spell (take i xs) in
     subst (Adds source numbers old new)
-    (sym (ap (added_by add) (map-take_turn spell xs i x h e) ∙ added_by-append add before (spell x ∷ []) ∙ ap (both (added_by add before)) (both-nothing (add (spell x)))))
+    (sym (ap (added_by add) (map-take_turn spell xs i x h e) ∙ added_by-append add before (spell x ∷ [])
+    ∙ ap (both (added_by add before)) (both-nothing (add (spell x)))))
     (Adds-both source numbers old mid new (added_by add before) (add (spell x)) all one)

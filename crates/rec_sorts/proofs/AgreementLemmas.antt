@@ -5,7 +5,8 @@ use Rattle.std.proofs.lemmas.List.{length-map, length-append}
 use Rattle.std.proofs.lemmas.Option.{slice_get-get_or}
 use Rattle.std.proofs.lemmas.Slice.Eq.{bytes_eq-Decides}
 use Rattle.std.proofs.Math.Seq.{get_or-append_seam}
-use Rattle.std.specs.Prelude.{ℕ, ◌≡◌, ◌-◌, Bool, true, false, not, List, [], ◌∷◌, ◌++◌, Option, Some, None, length, map, slice_get, nat_eq, bytes_eq, is_some, is_none}
+use Rattle.std.specs.Prelude.{ℕ, ◌≡◌, ◌-◌, Bool, true, false, not, List, [], ◌∷◌, ◌++◌, Option, Some}
+use Rattle.std.specs.Prelude.{None, length, map, slice_get, nat_eq, bytes_eq, is_some, is_none}
 use Rattle.std.specs.Option.{option_eq, option_map, option_and_then}
 use Rattle.rec_syntax.specs.Tokens.{Word}
 use Rattle.rec_syntax.specs.Syntax.{Term, Terms, Apply, none, more, Declaration, Spec, head, arguments, subterms}
@@ -53,19 +54,23 @@ head_placed-meaning s (Apply w ts) = refl
 
 module _ (y : Spec) (s : Scope) (h : IsScope y s) where
   -- the words that are not declared
-  pub unknown-term : (t : Term) → unknown_among (letters_of s t) ≡ least_of (λ u. place_where (not (mentions (names (symbols y) ++ variable_words y.variables) (head u).bytes)) (head u).at) (subterms t)
+  pub unknown-term : (t : Term) → unknown_among (letters_of s t) ≡ least_of (λ u.
+      place_where (not (mentions (names (symbols y) ++ variable_words y.variables) (head u).bytes)) (head u).at) (subterms t)
   unknown-term t =
       least_of-map (λ p. place_where (is_none p.meaning) p.at) (placed_by s) (flat t)
       ∙ least_of-flat (λ w n. place_where (is_none (meaning_of s w.bytes)) w.at) t
       ∙ least_of-same (subterms t) (λ u. ap (λ b. place_where b (head u).at) (is_none-name y s h (head u).bytes))
 
-  filled-by : (n : ℕ) (o : Option Declaration) → nat_eq n (length (arguments_by y s h o)) ≡ elim o as (λ _. Bool) [ Some d ↦ nat_eq n (length d.arguments) | None ↦ nat_eq n 0 ]
+  filled-by : (n : ℕ) (o : Option Declaration) → nat_eq n (length (arguments_by y s h o)) ≡ elim o as (λ _. Bool)
+      [ Some d ↦ nat_eq n (length d.arguments) | None ↦ nat_eq n 0 ]
   filled-by n (Some d) = ap (nat_eq n) (length-map d.arguments (λ w. first_at y.sorts w.bytes))
   filled-by n None = refl
 
-  filled-at : (u : Term) → place_where (not (nat_eq (count (arguments u)) (length (arguments_at s (meaning_of s (head u).bytes))))) (head u).at ≡ place_where (not (is_filled y u)) (head u).at
+  filled-at : (u : Term) → place_where (not (nat_eq (count (arguments u)) (length (arguments_at s (meaning_of s (head u).bytes)))))
+      (head u).at ≡ place_where (not (is_filled y u)) (head u).at
   filled-at (Apply w ts) =
-      ap (λ b. place_where (not b) w.at) (ap (λ (xs : List (Option ℕ)). nat_eq (count ts) (length xs)) (arguments_at-name y s h w.bytes) ∙ filled-by (count ts) (symbol y w.bytes))
+      ap (λ b. place_where (not b) w.at) (ap (λ (xs : List (Option ℕ)). nat_eq (count ts) (length xs)) (arguments_at-name y s h w.bytes)
+      ∙ filled-by (count ts) (symbol y w.bytes))
 
   -- the words with another number of arguments than declared
   pub filled-term : (t : Term) → ill_filled_among s (letters_of s t) ≡ least_of (λ u. place_where (not (is_filled y u)) (head u).at) (subterms t)
@@ -82,24 +87,29 @@ module _ (y : Spec) (s : Scope) (h : IsScope y s) where
     sort_of-known : (t : Term) → IsKnown y.sorts (sort_of y t)
     sort_of-known t = sort_known y sorts_kept (head t).bytes
 
-    placed-at : (ss : List Word) (ts : Terms) → AreKnown y.sorts ss → misplaced s (heads_of s ts) (sort_numbers (first_at y.sorts) ss) ≡ least_place (heads (ill_placed y ss ts))
+    placed-at : (ss : List Word) (ts : Terms) → AreKnown y.sorts ss
+        → misplaced s (heads_of s ts) (sort_numbers (first_at y.sorts) ss) ≡ least_place (heads (ill_placed y ss ts))
     placed-at [] ts k = misplaced-nothing s (heads_of s ts)
     placed-at (v ∷ ss) none k = refl
     placed-at (v ∷ ss) (more t ts) k =
         ap (λ b. earlier (place_where (not b) (head_placed s t).at) (misplaced s (heads_of s ts) (sort_numbers (first_at y.sorts) ss)))
-        (ap (λ (o : Option ℕ). option_eq nat_eq o (first_at y.sorts v.bytes)) (head-sort t) ∙ option_eq-numbers y.sorts (sort_of y t) (Some v.bytes) (sort_of-known t) k.0)
-        ∙ ap (λ (n : ℕ). earlier (place_where (not (same_sort (sort_of y t) (Some v.bytes))) n) (misplaced s (heads_of s ts) (sort_numbers (first_at y.sorts) ss))) (head_placed-at s t)
+        (ap (λ (o : Option ℕ). option_eq nat_eq o (first_at y.sorts v.bytes)) (head-sort t)
+        ∙ option_eq-numbers y.sorts (sort_of y t) (Some v.bytes) (sort_of-known t) k.0)
+        ∙ ap (λ (n : ℕ). earlier (place_where (not (same_sort (sort_of y t) (Some v.bytes))) n)
+        (misplaced s (heads_of s ts) (sort_numbers (first_at y.sorts) ss))) (head_placed-at s t)
         ∙ ap (earlier (place_where (not (same_sort (sort_of y t) (Some v.bytes))) (head t).at)) (placed-at ss ts k.1)
         ∙ by_test (same_sort (sort_of y t) (Some v.bytes)) (ill_placed y ss ts)
       where
-        by_test : (b : Bool) (us : List Term) → earlier (place_where (not b) (head t).at) (least_place (heads us)) ≡ least_place (heads (elim b as (λ _. List Term) [ true ↦ us | false ↦ t ∷ us ]))
+        by_test : (b : Bool) (us : List Term) → earlier (place_where (not b) (head t).at) (least_place (heads us)) ≡ least_place
+            (heads (elim b as (λ _. List Term) [ true ↦ us | false ↦ t ∷ us ]))
         by_test true us = refl
         by_test false us = refl
 
     sorted-at : (u : Term) → misplaced_in s u ≡ least_place (heads (ill_sorted_in y u))
     sorted-at (Apply w ts) = ap (misplaced s (heads_of s ts)) (arguments_at-name y s h w.bytes) ∙ by_symbol (symbol y w.bytes) refl
       where
-        by_symbol : (o : Option Declaration) → symbol y w.bytes ≡ o → misplaced s (heads_of s ts) (arguments_by y s h o) ≡ least_place (heads (elim o as (λ _. List Term) [ Some d ↦ ill_placed y d.arguments ts | None ↦ [] ]))
+        by_symbol : (o : Option Declaration) → symbol y w.bytes ≡ o → misplaced s (heads_of s ts) (arguments_by y s h o) ≡ least_place
+            (heads (elim o as (λ _. List Term) [ Some d ↦ ill_placed y d.arguments ts | None ↦ [] ]))
         by_symbol (Some d) e = placed-at d.arguments ts (arguments_known y sorts_kept w.bytes d e)
         by_symbol None e = misplaced-nothing s (heads_of s ts)
 
@@ -130,7 +140,8 @@ module _ (y : Spec) (s : Scope) (h : IsScope y s) where
         by_test false = refl
 
   -- a left side whose head is no operator
-  pub headed-term : repeated_symbols y ≡ [] → (t : Term) → ill_headed_at s (letters_of s t) ≡ place_where (not (mentions (names y.operators) (head t).bytes)) (head t).at
+  pub headed-term : repeated_symbols y ≡ [] → (t : Term) → ill_headed_at s (letters_of s t) ≡ place_where
+      (not (mentions (names y.operators) (head t).bytes)) (head t).at
   headed-term kept t =
       ap by_last (last_letter-letters s t)
       ∙ ap (λ b. place_where (not b) (head_placed s t).at) (ap (is_operator s) (head_placed-meaning s t) ∙ is_operator-name y s h kept (head t).bytes)
@@ -140,7 +151,8 @@ module _ (y : Spec) (s : Scope) (h : IsScope y s) where
       by_last o = elim o [ None ↦ None | Some p ↦ place_where (not (is_operator s p.meaning)) p.at ]
 
   -- the variables of a term that are not bound
-  pub unbound-term : (bound : ℕ → Bool) (t : Term) → unbound_among bound (letters_of s t) ≡ least_of (λ u. place_where (is_unbound bound (meaning_of s (head u).bytes)) (head u).at) (subterms t)
+  pub unbound-term : (bound : ℕ → Bool) (t : Term) → unbound_among bound (letters_of s t) ≡ least_of (λ u.
+      place_where (is_unbound bound (meaning_of s (head u).bytes)) (head u).at) (subterms t)
   unbound-term bound t =
       least_of-map (λ p. place_where (is_unbound bound p.meaning) p.at) (placed_by s) (flat t)
       ∙ least_of-flat (λ w n. place_where (is_unbound bound (meaning_of s w.bytes)) w.at) t
@@ -177,7 +189,8 @@ module _ (y : Spec) (s : Scope) (h : IsScope y s) where
       by_symbol None f = by_number (first_at (variable_words y.variables) name) (sym (meaning-variable y s h name f) ∙ e)
 
   -- the words for a variable are those with its name
-  pub same_variable : (name : List ℕ) (k : ℕ) → meaning_of s name ≡ Some (Variable k) → (other : List ℕ) → is_the_variable k (meaning_of s other) ≡ bytes_eq other name
+  pub same_variable : (name : List ℕ) (k : ℕ) → meaning_of s name ≡ Some (Variable k) → (other : List ℕ)
+      → is_the_variable k (meaning_of s other) ≡ bytes_eq other name
   same_variable name k e other = by_bytes (bytes_eq other name) refl
     where
       by_meaning : (m : Option Meaning) → meaning_of s other ≡ m → bytes_eq other name ≡ false → is_the_variable k m ≡ false
@@ -188,7 +201,8 @@ module _ (y : Spec) (s : Scope) (h : IsScope y s) where
           by_number : (b : Bool) → nat_eq k j ≡ b → nat_eq k j ≡ false
           by_number true n =
               let same : k ≡ j = eqb-true k j n in
-              let one : other ≡ name = first_at-one (variable_words y.variables) other name j (variable_number other j is) (variable_number name k e ∙ ap (λ (i : ℕ). Some i) same) in
+              let one : other ≡ name = first_at-one (variable_words y.variables) other name j (variable_number other j is)
+              (variable_number name k e ∙ ap (λ (i : ℕ). Some i) same) in
               absurd (false≢true (sym differ ∙ ap (λ (b : List ℕ). bytes_eq b name) one ∙ (bytes_eq-Decides name name).1 refl))
           by_number false n = n
 

@@ -74,7 +74,8 @@ filter-filter p q (x ∷ xs) = by_test (q x) (filter-filter p q xs)
     by_test false e = e
 
 module _ (y : Spec) (s : Scope) (h : IsScope y s) (kept : taken_variables y ≡ []) where
-  binds-name : (left : Term) (name : List ℕ) (k : ℕ) → meaning_of s name ≡ Some (Variable k) → binds_variable (letters_of s left) k ≡ mentions (heads (subterms left)) name
+  binds-name : (left : Term) (name : List ℕ) (k : ℕ) → meaning_of s name ≡ Some (Variable k)
+      → binds_variable (letters_of s left) k ≡ mentions (heads (subterms left)) name
   binds-name left name k e =
       any-map (λ p. is_the_variable k p.meaning) (placed_by s) (flat left)
       ∙ ap (λ q. list_any q (flat left)) (same_function (λ (n : Node). same_variable y s h name k e n.word.bytes))
@@ -82,33 +83,39 @@ module _ (y : Spec) (s : Scope) (h : IsScope y s) (kept : taken_variables y ≡ 
       ∙ any-heads (subterms left) name
 
   -- a name stands for a variable that is not bound
-  unbound-name : (left : Term) (name : List ℕ) → is_unbound (binds_variable (letters_of s left)) (meaning_of s name) ≡ is_variable y name && not (mentions (heads (subterms left)) name)
+  unbound-name : (left : Term) (name : List ℕ) → is_unbound (binds_variable (letters_of s left)) (meaning_of s name) ≡ is_variable y name && not
+      (mentions (heads (subterms left)) name)
   unbound-name left name =
       is_unbound-name y s h kept (binds_variable (letters_of s left)) name
       ∙ by_test (is_variable y name) (variable-name y s h kept name)
     where
-      by_meaning : (m : Option Meaning) → meaning_of s name ≡ m → is_unbound (λ _. false) m ≡ true → is_unbound (binds_variable (letters_of s left)) m ≡ not (mentions (heads (subterms left)) name)
+      by_meaning : (m : Option Meaning) → meaning_of s name ≡ m → is_unbound (λ _. false) m ≡ true
+          → is_unbound (binds_variable (letters_of s left)) m ≡ not (mentions (heads (subterms left)) name)
       by_meaning None is e = absurd (false≢true e)
       by_meaning (Some (Symbol k)) is e = absurd (false≢true e)
       by_meaning (Some (Variable k)) is e = ap not (binds-name left name k is)
 
-      by_test : (b : Bool) → is_unbound (λ _. false) (meaning_of s name) ≡ b → b && is_unbound (binds_variable (letters_of s left)) (meaning_of s name) ≡ b && not (mentions (heads (subterms left)) name)
+      by_test : (b : Bool) → is_unbound (λ _. false) (meaning_of s name) ≡ b
+          → b && is_unbound (binds_variable (letters_of s left)) (meaning_of s name) ≡ b && not (mentions (heads (subterms left)) name)
       by_test true e = by_meaning (meaning_of s name) refl e
       by_test false e = refl
 
   -- the unbound variables of some terms
   pub unbound-terms : (left : Term) (ts : List Term)
-      → least_of (λ t. unbound_among (binds_variable (letters_of s left)) (letters_of s t)) ts ≡ least_place (missing (heads (subterms left)) (variables_among y (heads (everywhere ts))))
+      → least_of (λ t. unbound_among (binds_variable (letters_of s left)) (letters_of s t)) ts ≡ least_place
+      (missing (heads (subterms left)) (variables_among y (heads (everywhere ts))))
   unbound-terms left ts =
       least_of-same ts (λ t. unbound-term y s h (binds_variable (letters_of s left)) t
       ∙ least_of-same (subterms t) (λ u. ap (λ b. place_where b (head u).at) (unbound-name left (head u).bytes)))
-      ∙ sym (least_of-flat_map (λ u. place_where (is_variable y (head u).bytes && not (mentions (heads (subterms left)) (head u).bytes)) (head u).at) subterms ts)
+      ∙ sym (least_of-flat_map (λ u. place_where (is_variable y (head u).bytes && not (mentions (heads (subterms left)) (head u).bytes)) (head u).at)
+      subterms ts)
       ∙ sym (least_place-heads (λ w. is_variable y w.bytes && not (mentions (heads (subterms left)) w.bytes)) (everywhere ts))
       ∙ ap least_place (sym (filter-filter (λ w. not (mentions (heads (subterms left)) w.bytes)) (λ w. is_variable y w.bytes) (heads (everywhere ts))))
 
   -- the variables of some terms
   pub open-terms : (ts : List Term) → least_of (λ t. unbound_among (λ _. false) (letters_of s t)) ts ≡ least_place (variables_among y (heads (everywhere ts)))
   open-terms ts =
-      least_of-same ts (λ t. unbound-term y s h (λ _. false) t ∙ least_of-same (subterms t) (λ u. ap (λ b. place_where b (head u).at) (variable-name y s h kept (head u).bytes)))
+      least_of-same ts (λ t. unbound-term y s h (λ _. false) t ∙ least_of-same (subterms t) (λ u.
+      ap (λ b. place_where b (head u).at) (variable-name y s h kept (head u).bytes)))
       ∙ sym (least_of-flat_map (λ u. place_where (is_variable y (head u).bytes) (head u).at) subterms ts)
       ∙ sym (least_place-heads (λ w. is_variable y w.bytes) (everywhere ts))

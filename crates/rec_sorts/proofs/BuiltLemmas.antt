@@ -31,18 +31,22 @@ apart before cs os e = only os (walk before cs e)
     only [] h = tt
     only (w ∷ ws) h = (h.0.1, only ws h.1)
 
-    unseen : (before : List Word) (ws : List Word) → Every (λ w. mentions before w.bytes ≡ false) ws → Every (λ w. (mentions before w.bytes ≡ false) × (mentions [] w.bytes ≡ false)) ws
+    unseen : (before : List Word) (ws : List Word) → Every (λ w. mentions before w.bytes ≡ false) ws
+        → Every (λ w. (mentions before w.bytes ≡ false) × (mentions [] w.bytes ≡ false)) ws
     unseen before [] h = tt
     unseen before (w ∷ ws) h = ((h.0, refl), unseen before ws h.1)
 
-    move : (before : List Word) (c : Word) (cs ws : List Word) → Every (λ w. (mentions (c ∷ before) w.bytes ≡ false) × (mentions cs w.bytes ≡ false)) ws → Every (λ w. (mentions before w.bytes ≡ false) × (mentions (c ∷ cs) w.bytes ≡ false)) ws
+    move : (before : List Word) (c : Word) (cs ws : List Word) → Every (λ w. (mentions (c ∷ before) w.bytes ≡ false) × (mentions cs w.bytes ≡ false))
+        ws → Every (λ w. (mentions before w.bytes ≡ false) × (mentions (c ∷ cs) w.bytes ≡ false)) ws
     move before c cs [] h = tt
     move before c cs (w ∷ ws) h =
         let at : bytes_eq c.bytes w.bytes ≡ false = or_left (bytes_eq c.bytes w.bytes) (mentions before w.bytes) h.0.0 in
         ((or_right (bytes_eq c.bytes w.bytes) (mentions before w.bytes) h.0.0, ap (λ b. b || mentions cs w.bytes) at ∙ h.0.1), move before c cs ws h.1)
 
-    by_test : (before : List Word) (c : Word) (cs : List Word) (b : Bool) → ◌≡◌ {A = List Word} (elim b [ true ↦ c ∷ repeated before (cs ++ os) | false ↦ repeated (c ∷ before) (cs ++ os) ]) []
-        → (repeated (c ∷ before) (cs ++ os) ≡ [] → Every (λ w. (mentions (c ∷ before) w.bytes ≡ false) × (mentions cs w.bytes ≡ false)) os) → Every (λ w. (mentions before w.bytes ≡ false) × (mentions (c ∷ cs) w.bytes ≡ false)) os
+    by_test : (before : List Word) (c : Word) (cs : List Word) (b : Bool)
+        → ◌≡◌ {A = List Word} (elim b [ true ↦ c ∷ repeated before (cs ++ os) | false ↦ repeated (c ∷ before) (cs ++ os) ]) []
+        → (repeated (c ∷ before) (cs ++ os) ≡ [] → Every (λ w. (mentions (c ∷ before) w.bytes ≡ false) × (mentions cs w.bytes ≡ false)) os)
+        → Every (λ w. (mentions before w.bytes ≡ false) × (mentions (c ∷ cs) w.bytes ≡ false)) os
     by_test before c cs true e later = absurd (cc e)
     by_test before c cs false e later = move before c cs os (later e)
 
@@ -62,14 +66,17 @@ bind_only : (y : Spec) (s : Substitution) (name : List ℕ) (u : Tree) → is_va
 unfolding Binds_only
 bind_only y s name u variable h = by_value (value_of s name)
   where
-    by_value : (o : Option Tree) → (x : List ℕ) (v : Tree) → value_of (elim o [ Some w ↦ s | None ↦ s ++ (record { name = name; value = u } ∷ []) ]) x ≡ Some v → is_variable y x ≡ true
+    by_value : (o : Option Tree) → (x : List ℕ) (v : Tree) → value_of (elim o [ Some w ↦ s | None ↦ s ++ (record { name = name; value = u } ∷ []) ])
+        x ≡ Some v → is_variable y x ≡ true
     by_value (Some w) x v e = h x v e
-    by_value None x v e = append_is s (record { name = name; value = u }) x v e (is_variable y x ≡ true) (λ g. h x v g) (λ is_x is_v. subst (λ n. is_variable y n ≡ true) is_x variable)
+    by_value None x v e = append_is s (record { name = name; value = u }) x v e (is_variable y x ≡ true) (λ g. h x v g) (λ is_x is_v.
+        subst (λ n. is_variable y n ≡ true) is_x variable)
 
 abbrev parts_by : Spec → Substitution → Word → Terms → Tree → Bool → Substitution
 parts_by y s w ts u b = elim b [ true ↦ bind_first s w.bytes u | false ↦ parts_at_variables_all y s ts (arguments u) ]
 
-only_at : (y : Spec) (s : Substitution) (w : Word) (ts : Terms) (u : Tree) (b : Bool) → is_variable y w.bytes ≡ b → Binds_only y s → Binds_only y (parts_at_variables_all y s ts (arguments u)) → Binds_only y (parts_by y s w ts u b)
+only_at : (y : Spec) (s : Substitution) (w : Word) (ts : Terms) (u : Tree) (b : Bool) → is_variable y w.bytes ≡ b → Binds_only y s
+    → Binds_only y (parts_at_variables_all y s ts (arguments u)) → Binds_only y (parts_by y s w ts u b)
 only_at y s w ts u true e h later = bind_only y s w.bytes u e h
 only_at y s w ts u false e h later = later
 
@@ -97,15 +104,18 @@ name_of (Appl name quoted args anns) = name
 name_of t = []
 
 -- a left side that is no variable has the head of the trees that it matches
-same_head : (y : Spec) (l : Term) (name : List ℕ) (us : Trees) (s : Substitution) → is_variable y (head l).bytes ≡ false → binds y l (application name us) ≡ Some s → (head l).bytes ≡ name
+same_head : (y : Spec) (l : Term) (name : List ℕ) (us : Trees) (s : Substitution) → is_variable y (head l).bytes ≡ false
+    → binds y l (application name us) ≡ Some s → (head l).bytes ≡ name
 unfolding name_of Binds_only
-same_head y (Apply w ts) name us s no_variable e = ap name_of (sym (ap (instance_by s w ts) (unbound (value_of s w.bytes) refl)) ∙ (binding_law y (Apply w ts) (application name us)).0 s e)
+same_head y (Apply w ts) name us s no_variable e = ap name_of
+    (sym (ap (instance_by s w ts) (unbound (value_of s w.bytes) refl)) ∙ (binding_law y (Apply w ts) (application name us)).0 s e)
   where
     parts : Substitution
     parts = parts_at_variables y [] (Apply w ts) (application name us)
 
     only : Binds_only y s
-    only = subst (Binds_only y) (bound_is parts s (tree_eq (instance parts (Apply w ts)) (application name us)) e) (parts_only y [] (Apply w ts) (application name us) (λ x v f. absurd (cc f)))
+    only = subst (Binds_only y) (bound_is parts s (tree_eq (instance parts (Apply w ts)) (application name us)) e)
+        (parts_only y [] (Apply w ts) (application name us) (λ x v f. absurd (cc f)))
 
     unbound : (o : Option Tree) → value_of s w.bytes ≡ o → value_of s w.bytes ≡ None
     unbound None f = f
@@ -118,7 +128,8 @@ no_rule : (y : Spec) (rs : List Rule) (n : ℕ) (name : List ℕ) (us : Trees) �
     → Every (λ r. is_variable y (head r.left).bytes ≡ false) rs → Try y rs n (application name us) ≡ Done (application name us) n
 no_rule y [] n name us constructor separate heads no_variables = R.try_none y n (application name us)
 no_rule y (r ∷ rs) n name us constructor separate heads no_variables =
-    R.try_no_match y r rs n (application name us) (unmatched (binds y r.left (application name us)) refl) ∙ no_rule y rs n name us constructor separate heads.1 no_variables.1
+    R.try_no_match y r rs n (application name us) (unmatched (binds y r.left (application name us)) refl)
+    ∙ no_rule y rs n name us constructor separate heads.1 no_variables.1
   where
     unmatched : (o : Option Substitution) → binds y r.left (application name us) ≡ o → binds y r.left (application name us) ≡ None
     unmatched None e = e
@@ -141,7 +152,8 @@ facts y e =
       no_variables = left_sides_apply y e;
     }
 
-same_tree : (name : List ℕ) (quoted : Bool) (args anns : Trees) → quoted ≡ not (plain_name name) → anns ≡ none → application name args ≡ Appl name quoted args anns
+same_tree : (name : List ℕ) (quoted : Bool) (args anns : Trees) → quoted ≡ not (plain_name name) → anns ≡ none
+    → application name args ≡ Appl name quoted args anns
 same_tree name quoted args anns e f = cc (e, f)
 
 mutual

@@ -31,26 +31,39 @@ all_added numbers y = record {
 }
 
 -- what symbols and then groups add
-pub Adds-all : (source : List ℕ) (numbers : Numbers) (y : Spec) (d₀ d₁ d₂ d₃ : Declared) → Adds source numbers d₀ d₁ (added_by_symbols numbers y.constructors) → Adds source numbers d₁ d₂ (added_by_symbols numbers y.operators)
+pub Adds-all : (source : List ℕ) (numbers : Numbers) (y : Spec) (d₀ d₁ d₂ d₃ : Declared)
+    → Adds source numbers d₀ d₁ (added_by_symbols numbers y.constructors) → Adds source numbers d₁ d₂ (added_by_symbols numbers y.operators)
     → Adds source numbers d₂ d₃ (added_by_groups numbers y.variables) → Adds source numbers d₀ d₃ (all_added numbers y)
 Adds-all source numbers y d₀ d₁ d₂ d₃ c o g =
     subst (Adds source numbers d₀ d₃)
-    (ap (λ a. both a (added_by_groups numbers y.variables)) (sym (added_by-append (added_by_symbol numbers) y.constructors y.operators) ∙ added_by_symbols-parts numbers (symbols y))
-    ∙ ap (both (record { words = names (symbols y); sorts = map (λ d. numbers d.sort.bytes) (symbols y); arguments = map (λ d. sort_numbers numbers d.arguments) (symbols y); named = flat_map sorts_of (symbols y) })) (added_by_groups-parts numbers y.variables))
-    (Adds-both source numbers d₀ d₂ d₃ (both (added_by_symbols numbers y.constructors) (added_by_symbols numbers y.operators)) (added_by_groups numbers y.variables)
+    (ap (λ a. both a (added_by_groups numbers y.variables)) (sym (added_by-append (added_by_symbol numbers) y.constructors y.operators)
+    ∙ added_by_symbols-parts numbers (symbols y))
+    ∙ ap (both (record {
+      words = names (symbols y);
+      sorts = map (λ d. numbers d.sort.bytes) (symbols y);
+      arguments =
+          map (λ d. sort_numbers numbers d.arguments) (symbols y);
+      named = flat_map sorts_of (symbols y);
+    })) (added_by_groups-parts numbers y.variables))
+    (Adds-both source numbers d₀ d₂ d₃ (both (added_by_symbols numbers y.constructors) (added_by_symbols numbers y.operators))
+    (added_by_groups numbers y.variables)
     (Adds-both source numbers d₀ d₁ d₂ (added_by_symbols numbers y.constructors) (added_by_symbols numbers y.operators) c o) g)
 
 -- as many words are read before the groups as there are symbols
-pub symbols-read : (source : List ℕ) (numbers : Numbers) (y : Spec) (d₀ d₁ d₂ : Declared) → d₀.words.items ≡ [] → Adds source numbers d₀ d₁ (added_by_symbols numbers y.constructors) → Adds source numbers d₁ d₂ (added_by_symbols numbers y.operators)
+pub symbols-read : (source : List ℕ) (numbers : Numbers) (y : Spec) (d₀ d₁ d₂ : Declared) → d₀.words.items ≡ []
+    → Adds source numbers d₀ d₁ (added_by_symbols numbers y.constructors) → Adds source numbers d₁ d₂ (added_by_symbols numbers y.operators)
     → length d₂.words.items ≡ length (symbols y)
 symbols-read source numbers y d₀ d₁ d₂ empty c o =
     let both_added = Adds-both source numbers d₀ d₁ d₂ (added_by_symbols numbers y.constructors) (added_by_symbols numbers y.operators) c o in
     let all : words_of source d₂.words.items ≡ names (symbols y) =
-    both_added.words_added ∙ ap (λ xs. words_of source xs ++ (both (added_by_symbols numbers y.constructors) (added_by_symbols numbers y.operators)).words) empty
-    ∙ ap (λ (a : Additions). a.words) (sym (added_by-append (added_by_symbol numbers) y.constructors y.operators) ∙ added_by_symbols-parts numbers (symbols y)) in
+    both_added.words_added ∙ ap (λ xs.
+    words_of source xs ++ (both (added_by_symbols numbers y.constructors) (added_by_symbols numbers y.operators)).words) empty
+    ∙ ap (λ (a : Additions). a.words) (sym (added_by-append (added_by_symbol numbers) y.constructors y.operators)
+    ∙ added_by_symbols-parts numbers (symbols y)) in
     sym (length-map d₂.words.items (word_of source)) ∙ ap length all ∙ length-map (symbols y) (λ d. d.name)
 
-module _ (source : List ℕ) (y : Spec) (words : List Span) (n : ℕ) (all : words_of source words ≡ names (symbols y) ++ variable_words y.variables) (long : n ≡ length (symbols y)) where
+module _ (source : List ℕ) (y : Spec) (words : List Span) (n : ℕ) (all : words_of source words ≡ names (symbols y) ++ variable_words y.variables)
+    (long : n ≡ length (symbols y)) where
   long_names : n ≡ length (names (symbols y))
   long_names = long ∙ sym (length-map (symbols y) (λ d. d.name))
 
@@ -70,10 +83,12 @@ pub record NamesRead (y : Spec) (n : ℕ) (front back : List Word) (g₀ g₁ g�
   pub symbols_repeated : least_repeated g₀ 0 front ≡ least_place (repeated_symbols y)
   pub variables_repeated : least_repeated g₁ n back ≡ least_place (taken_variables y)
 
-module _ (y : Spec) (n : ℕ) (long : n ≡ length (symbols y)) (front back : List Word) (first : front ≡ names (symbols y)) (second : back ≡ variable_words y.variables)
+module _ (y : Spec) (n : ℕ) (long : n ≡ length (symbols y)) (front back : List Word) (first : front ≡ names (symbols y))
+    (second : back ≡ variable_words y.variables)
     (g₀ g₁ g₂ : Numbers) (start : g₀ ≡ (λ _. None)) (numbered : g₁ ≡ numbers_after g₀ 0 front) (then_numbered : g₂ ≡ numbers_after g₁ n back) where
   names_numbered : g₁ ≡ first_at (names (symbols y))
-  names_numbered = numbered ∙ ap (λ (g : Numbers). numbers_after g 0 front) start ∙ ap (numbers_after (first_at []) 0) first ∙ numbers_after-first_at [] (names (symbols y))
+  names_numbered = numbered ∙ ap (λ (g : Numbers). numbers_after g 0 front) start ∙ ap (numbers_after (first_at []) 0) first
+      ∙ numbers_after-first_at [] (names (symbols y))
 
   -- the words have the numbers of their places, and those that repeat are found
   pub names_read : NamesRead y n front back g₀ g₁ g₂
@@ -100,21 +115,25 @@ none-not (Some k) = refl
 -- the sorts that have no number are not declared
 pub unnumbered-sorts : (sorts ws : List Word) → least_unnumbered (first_at sorts) ws ≡ least_place (missing sorts ws)
 unnumbered-sorts sorts ws =
-    least_of-same ws (λ w. ap (λ b. place_where b w.at) (none-not (first_at sorts w.bytes) ∙ ap not (is_some-first_at sorts w.bytes)) ∙ sym (place_where-cond (not (mentions sorts w.bytes)) w.at))
+    least_of-same ws (λ w. ap (λ b. place_where b w.at) (none-not (first_at sorts w.bytes) ∙ ap not (is_some-first_at sorts w.bytes))
+    ∙ sym (place_where-cond (not (mentions sorts w.bytes)) w.at))
     ∙ sym (least_of-filter (λ w. Some w.at) (λ w. not (mentions sorts w.bytes)) ws)
 
 none_within : (source : List ℕ) (xs : List Span) → xs ≡ [] → All (Within source) xs
 none_within source xs e = subst (All (Within source)) (sym e) (λ k d l. absurd (omega arith))
 
 -- where nothing was declared before, all that a specification declares is read
-pub declared-read : (y : Spec) (source : List ℕ) (numbers : Numbers) (d₀ d₁ d₂ d₃ : Declared) (n : ℕ) → n ≡ length d₂.words.items → numbers ≡ first_at y.sorts → d₀.words.items ≡ [] → d₀.sorts.items ≡ [] → d₀.arguments.items ≡ [] → d₀.unknown ≡ None
-    → Adds source numbers d₀ d₁ (added_by_symbols numbers y.constructors) → Adds source numbers d₁ d₂ (added_by_symbols numbers y.operators) → Adds source numbers d₂ d₃ (added_by_groups numbers y.variables)
+pub declared-read : (y : Spec) (source : List ℕ) (numbers : Numbers) (d₀ d₁ d₂ d₃ : Declared) (n : ℕ) → n ≡ length d₂.words.items
+    → numbers ≡ first_at y.sorts → d₀.words.items ≡ [] → d₀.sorts.items ≡ [] → d₀.arguments.items ≡ [] → d₀.unknown ≡ None
+    → Adds source numbers d₀ d₁ (added_by_symbols numbers y.constructors) → Adds source numbers d₁ d₂ (added_by_symbols numbers y.operators)
+    → Adds source numbers d₂ d₃ (added_by_groups numbers y.variables)
     → IsDeclared y source d₃ n
 declared-read y source numbers d₀ d₁ d₂ d₃ n long en ew es ea eu c o g =
     let all = Adds-all source numbers y d₀ d₁ d₂ d₃ c o g in
     record {
       words_read = all.words_added ∙ ap (λ xs. words_of source xs ++ (names (symbols y) ++ variable_words y.variables)) ew;
-      sorts_read = all.sorts_added ∙ ap (λ xs. xs ++ (map (λ d. numbers d.sort.bytes) (symbols y) ++ variable_sorts numbers y.variables)) es ∙ ap (λ (g : Numbers). map (λ d. g d.sort.bytes) (symbols y) ++ variable_sorts g y.variables) en;
+      sorts_read = all.sorts_added ∙ ap (λ xs. xs ++ (map (λ d. numbers d.sort.bytes) (symbols y) ++ variable_sorts numbers y.variables)) es
+          ∙ ap (λ (g : Numbers). map (λ d. g d.sort.bytes) (symbols y) ++ variable_sorts g y.variables) en;
       arguments_read =
           all.arguments_added
           ∙ ap (λ xs. map (λ v. v.items) xs ++ (map (λ d. sort_numbers numbers d.arguments) (symbols y) ++ [])) ea
@@ -131,16 +150,20 @@ declared-read y source numbers d₀ d₁ d₂ d₃ n long en ew es ea eu c o g =
     }
 
 -- what symbols of another copy of the text add
-pub symbols_of : (source copy : List ℕ) (numbers : Numbers) (old new : Declared) (ds : List parts.Declaration) (all : List Declaration) → copy ≡ source → map (declaration_of source) ds ≡ all
+pub symbols_of : (source copy : List ℕ) (numbers : Numbers) (old new : Declared) (ds : List parts.Declaration) (all : List Declaration)
+    → copy ≡ source → map (declaration_of source) ds ≡ all
     → Adds copy numbers old new (added_by_symbols numbers (map (declaration_of copy) ds)) → Adds source numbers old new (added_by_symbols numbers all)
 symbols_of source copy numbers old new ds all e f h =
-    subst (λ cs. Adds source numbers old new (added_by_symbols numbers cs)) f (subst (λ (t : List ℕ). Adds t numbers old new (added_by_symbols numbers (map (declaration_of t) ds))) e h)
+    subst (λ cs. Adds source numbers old new (added_by_symbols numbers cs)) f
+    (subst (λ (t : List ℕ). Adds t numbers old new (added_by_symbols numbers (map (declaration_of t) ds))) e h)
 
 -- what groups of another copy of the text add
-pub groups_of : (source copy : List ℕ) (numbers : Numbers) (old new : Declared) (gs : List group.Group) (all : List Variables) → copy ≡ source → map (group_of source) gs ≡ all
+pub groups_of : (source copy : List ℕ) (numbers : Numbers) (old new : Declared) (gs : List group.Group) (all : List Variables) → copy ≡ source
+    → map (group_of source) gs ≡ all
     → Adds copy numbers old new (added_by_groups numbers (map (group_of copy) gs)) → Adds source numbers old new (added_by_groups numbers all)
 groups_of source copy numbers old new gs all e f h =
-    subst (λ vs. Adds source numbers old new (added_by_groups numbers vs)) f (subst (λ (t : List ℕ). Adds t numbers old new (added_by_groups numbers (map (group_of t) gs))) e h)
+    subst (λ vs. Adds source numbers old new (added_by_groups numbers vs)) f
+    (subst (λ (t : List ℕ). Adds t numbers old new (added_by_groups numbers (map (group_of t) gs))) e h)
 
 -- sorts that are numbered from 0 on have the numbers of their places
 pub sorts_numbered : (sorts ws : List Word) (g h : Numbers) → g ≡ (λ _. None) → ws ≡ sorts → h ≡ numbers_after g 0 ws → h ≡ first_at sorts

@@ -23,7 +23,8 @@ mutual
     one_more : (n : ℕ) (s : Substitution) (t : Term) (ts : Terms) (v : Tree) (left : ℕ) (vs : Trees) (rest : ℕ)
         → Evals y n s t (Done v left) → EvalsAll y left s ts (Done vs rest) → EvalsAll y n s (Terms.more t ts) (Done (more v vs) rest)
     first_over : (n : ℕ) (s : Substitution) (t : Term) (ts : Terms) → Evals y n s t Over → EvalsAll y n s (Terms.more t ts) Over
-    later_over : (n : ℕ) (s : Substitution) (t : Term) (ts : Terms) (v : Tree) (left : ℕ) → Evals y n s t (Done v left) → EvalsAll y left s ts Over → EvalsAll y n s (Terms.more t ts) Over
+    later_over : (n : ℕ) (s : Substitution) (t : Term) (ts : Terms) (v : Tree) (left : ℕ) → Evals y n s t (Done v left) → EvalsAll y left s ts Over
+        → EvalsAll y n s (Terms.more t ts) Over
 
   pub data Tries (y : Spec) : List Rule → ℕ → Tree → Outcome Tree → Type 0 where
     no_rule : (n : ℕ) (u : Tree) → Tries y [] n u (Done u n)
@@ -33,16 +34,20 @@ mutual
         → HoldsAll y n s r.conditions (Done true left) → Evals y left s r.right o → Tries y (r ∷ rs) (suc n) u o
     fails : (r : Rule) (rs : List Rule) (n : ℕ) (u : Tree) (s : Substitution) (left : ℕ) (o : Outcome Tree) → binds y r.left u ≡ Some s
         → HoldsAll y n s r.conditions (Done false left) → Tries y rs left u o → Tries y (r ∷ rs) (suc n) u o
-    conditions_over : (r : Rule) (rs : List Rule) (n : ℕ) (u : Tree) (s : Substitution) → binds y r.left u ≡ Some s → HoldsAll y n s r.conditions Over → Tries y (r ∷ rs) (suc n) u Over
+    conditions_over : (r : Rule) (rs : List Rule) (n : ℕ) (u : Tree) (s : Substitution) → binds y r.left u ≡ Some s → HoldsAll y n s r.conditions Over
+        → Tries y (r ∷ rs) (suc n) u Over
 
   pub data HoldsAll (y : Spec) : ℕ → Substitution → List Condition → Outcome Bool → Type 0 where
     no_condition : (n : ℕ) (s : Substitution) → HoldsAll y n s [] (Done true n)
     goes_on : (n : ℕ) (s : Substitution) (c : Condition) (cs : List Condition) (u : Tree) (left : ℕ) (v : Tree) (rest : ℕ) (o : Outcome Bool)
-        → Evals y n s c.left (Done u left) → Evals y left s c.right (Done v rest) → beq (tree_eq u v) c.equal ≡ true → HoldsAll y rest s cs o → HoldsAll y n s (c ∷ cs) o
+        → Evals y n s c.left (Done u left) → Evals y left s c.right (Done v rest) → beq (tree_eq u v) c.equal ≡ true → HoldsAll y rest s cs o
+        → HoldsAll y n s (c ∷ cs) o
     says_no : (n : ℕ) (s : Substitution) (c : Condition) (cs : List Condition) (u : Tree) (left : ℕ) (v : Tree) (rest : ℕ)
-        → Evals y n s c.left (Done u left) → Evals y left s c.right (Done v rest) → beq (tree_eq u v) c.equal ≡ false → HoldsAll y n s (c ∷ cs) (Done false rest)
+        → Evals y n s c.left (Done u left) → Evals y left s c.right (Done v rest) → beq (tree_eq u v) c.equal ≡ false
+        → HoldsAll y n s (c ∷ cs) (Done false rest)
     left_over : (n : ℕ) (s : Substitution) (c : Condition) (cs : List Condition) → Evals y n s c.left Over → HoldsAll y n s (c ∷ cs) Over
-    right_over : (n : ℕ) (s : Substitution) (c : Condition) (cs : List Condition) (u : Tree) (left : ℕ) → Evals y n s c.left (Done u left) → Evals y left s c.right Over → HoldsAll y n s (c ∷ cs) Over
+    right_over : (n : ℕ) (s : Substitution) (c : Condition) (cs : List Condition) (u : Tree) (left : ℕ) → Evals y n s c.left (Done u left)
+        → Evals y left s c.right Over → HoldsAll y n s (c ∷ cs) Over
 
 -- what the relation says, the function answers
 mutual
@@ -83,22 +88,27 @@ unfolding Eval EvalAll Call Try Holds
 derive_holds y n ih s [] m low = no_condition m s
 derive_holds y n ih s (c ∷ cs) m low = by_left (λ k h. derive_holds y n ih s cs k h) (Eval y m s c.left) refl
   where
-    by_answer : ((k : ℕ) → k < n → HoldsAll y k s cs (Holds y k s cs)) → (u : Tree) (left : ℕ) → Eval y m s c.left ≡ Done u left → (v : Tree) (rest : ℕ) → Eval y left s c.right ≡ Done v rest → rest < n → left < n
+    by_answer : ((k : ℕ) → k < n → HoldsAll y k s cs (Holds y k s cs)) → (u : Tree) (left : ℕ) → Eval y m s c.left ≡ Done u left
+        → (v : Tree) (rest : ℕ) → Eval y left s c.right ≡ Done v rest → rest < n → left < n
         → (b : Bool) → beq (tree_eq u v) c.equal ≡ b → HoldsAll y m s (c ∷ cs) (Holds y m s (c ∷ cs))
     by_answer later u left e1 v rest e2 low2 low1 true b = subst (HoldsAll y m s (c ∷ cs)) (sym (R.holds_goes_on y m s c cs u left v rest e1 e2 b))
-        (goes_on m s c cs u left v rest (Holds y rest s cs) (subst (Evals y m s c.left) e1 (ih m s c.left low)) (subst (Evals y left s c.right) e2 (ih left s c.right low1)) b (later rest low2))
+        (goes_on m s c cs u left v rest (Holds y rest s cs) (subst (Evals y m s c.left) e1 (ih m s c.left low))
+        (subst (Evals y left s c.right) e2 (ih left s c.right low1)) b (later rest low2))
     by_answer later u left e1 v rest e2 low2 low1 false b = subst (HoldsAll y m s (c ∷ cs)) (sym (R.holds_fails y m s c cs u left v rest e1 e2 b))
         (says_no m s c cs u left v rest (subst (Evals y m s c.left) e1 (ih m s c.left low)) (subst (Evals y left s c.right) e2 (ih left s c.right low1)) b)
 
-    by_right : ((k : ℕ) → k < n → HoldsAll y k s cs (Holds y k s cs)) → (u : Tree) (left : ℕ) → Eval y m s c.left ≡ Done u left → left < n → (o : Outcome Tree) → Eval y left s c.right ≡ o → HoldsAll y m s (c ∷ cs) (Holds y m s (c ∷ cs))
+    by_right : ((k : ℕ) → k < n → HoldsAll y k s cs (Holds y k s cs)) → (u : Tree) (left : ℕ) → Eval y m s c.left ≡ Done u left → left < n
+        → (o : Outcome Tree) → Eval y left s c.right ≡ o → HoldsAll y m s (c ∷ cs) (Holds y m s (c ∷ cs))
     by_right later u left e1 low1 Over e2 = subst (HoldsAll y m s (c ∷ cs)) (sym (R.holds_over_right y m s c cs u left e1 e2))
         (right_over m s c cs u left (subst (Evals y m s c.left) e1 (ih m s c.left low)) (subst (Evals y left s c.right) e2 (ih left s c.right low1)))
     by_right later u left e1 low1 (Done v rest) e2 =
         let le : rest ≤ left = left_le (λ n. Eval y n s c.right) (steady_Eval y s c.right) left v rest e2 in
         by_answer later u left e1 v rest e2 (omega arith) low1 (beq (tree_eq u v) c.equal) refl
 
-    by_left : ((k : ℕ) → k < n → HoldsAll y k s cs (Holds y k s cs)) → (o : Outcome Tree) → Eval y m s c.left ≡ o → HoldsAll y m s (c ∷ cs) (Holds y m s (c ∷ cs))
-    by_left later Over e1 = subst (HoldsAll y m s (c ∷ cs)) (sym (R.holds_over_left y m s c cs e1)) (left_over m s c cs (subst (Evals y m s c.left) e1 (ih m s c.left low)))
+    by_left : ((k : ℕ) → k < n → HoldsAll y k s cs (Holds y k s cs)) → (o : Outcome Tree) → Eval y m s c.left ≡ o
+        → HoldsAll y m s (c ∷ cs) (Holds y m s (c ∷ cs))
+    by_left later Over e1 = subst (HoldsAll y m s (c ∷ cs)) (sym (R.holds_over_left y m s c cs e1))
+        (left_over m s c cs (subst (Evals y m s c.left) e1 (ih m s c.left low)))
     by_left later (Done u left) e1 =
         let le : left ≤ m = left_le (λ n. Eval y n s c.left) (steady_Eval y s c.left) m u left e1 in
         by_right later u left e1 (omega arith) (Eval y left s c.right) refl
@@ -111,24 +121,29 @@ derive_tries y n ih (r ∷ rs) m le u = by_match (λ k h. derive_tries y n ih rs
     Goal : ℕ → Type 0
     Goal k = Tries y (r ∷ rs) k u (Try y (r ∷ rs) k u)
 
-    by_conditions : ((k : ℕ) → k ≤ n → Tries y rs k u (Try y rs k u)) → (s : Substitution) → binds y r.left u ≡ Some s → (k : ℕ) → k < n → (o : Outcome Bool) → Holds y k s r.conditions ≡ o → Tries y (r ∷ rs) (suc k) u (Try y (r ∷ rs) (suc k) u)
+    by_conditions : ((k : ℕ) → k ≤ n → Tries y rs k u (Try y rs k u)) → (s : Substitution) → binds y r.left u ≡ Some s → (k : ℕ) → k < n
+        → (o : Outcome Bool) → Holds y k s r.conditions ≡ o → Tries y (r ∷ rs) (suc k) u (Try y (r ∷ rs) (suc k) u)
     by_conditions later s b k low Over h = subst (Tries y (r ∷ rs) (suc k) u) (sym (R.try_over y r rs k u s b h))
         (conditions_over r rs k u s b (subst (HoldsAll y k s r.conditions) h (derive_holds y n ih s r.conditions k low)))
     by_conditions later s b k low (Done true left) h =
         let less : left ≤ k = left_le (λ n. Holds y n s r.conditions) (steady_holds (Eval y) (steady_Eval y) s r.conditions) k true left h in
         subst (Tries y (r ∷ rs) (suc k) u) (sym (R.try_fires y r rs k u s left b h))
-        (fires r rs k u s left (Eval y left s r.right) b (subst (HoldsAll y k s r.conditions) h (derive_holds y n ih s r.conditions k low)) (ih left s r.right (omega arith)))
+        (fires r rs k u s left (Eval y left s r.right) b (subst (HoldsAll y k s r.conditions) h (derive_holds y n ih s r.conditions k low))
+        (ih left s r.right (omega arith)))
     by_conditions later s b k low (Done false left) h =
         let less : left ≤ k = left_le (λ n. Holds y n s r.conditions) (steady_holds (Eval y) (steady_Eval y) s r.conditions) k false left h in
         subst (Tries y (r ∷ rs) (suc k) u) (sym (R.try_fails y r rs k u s left b h))
-        (fails r rs k u s left (Try y rs left u) b (subst (HoldsAll y k s r.conditions) h (derive_holds y n ih s r.conditions k low)) (later left (omega arith)))
+        (fails r rs k u s left (Try y rs left u) b (subst (HoldsAll y k s r.conditions) h (derive_holds y n ih s r.conditions k low))
+        (later left (omega arith)))
 
-    by_match : ((k : ℕ) → k ≤ n → Tries y rs k u (Try y rs k u)) → (o : Option Substitution) → binds y r.left u ≡ o → (m : ℕ) → m ≤ n → Tries y (r ∷ rs) m u (Try y (r ∷ rs) m u)
+    by_match : ((k : ℕ) → k ≤ n → Tries y rs k u (Try y rs k u)) → (o : Option Substitution) → binds y r.left u ≡ o → (m : ℕ) → m ≤ n
+        → Tries y (r ∷ rs) m u (Try y (r ∷ rs) m u)
     by_match later None b m le = subst (Tries y (r ∷ rs) m u) (sym (R.try_no_match y r rs m u b)) (no_match r rs m u (Try y rs m u) b (later m le))
     by_match later (Some s) b zero le = subst (Tries y (r ∷ rs) zero u) (sym (R.try_nothing_left y r rs u s b)) (nothing_left r rs u s b)
     by_match later (Some s) b (suc k) le = by_conditions later s b k le (Holds y k s r.conditions) refl
 
-pub derive_at_word : (y : Spec) (n : ℕ) → DerivedBelow y n → (s : Substitution) (w : Word) (ts : Terms) → (m : ℕ) → m ≤ n → EvalsAll y m s ts (EvalAll y m s ts) → Evals y m s (Apply w ts) (Eval y m s (Apply w ts))
+pub derive_at_word : (y : Spec) (n : ℕ) → DerivedBelow y n → (s : Substitution) (w : Word) (ts : Terms) → (m : ℕ) → m ≤ n
+    → EvalsAll y m s ts (EvalAll y m s ts) → Evals y m s (Apply w ts) (Eval y m s (Apply w ts))
 unfolding Eval EvalAll Call Try Holds
 derive_at_word y n ih s w ts m le all = by_value (value_of s w.bytes) refl
   where
@@ -137,19 +152,24 @@ derive_at_word y n ih s w ts m le all = by_value (value_of s w.bytes) refl
     by_all b (Done vs left) e =
         let less : left ≤ m = left_le (λ n. EvalAll y n s ts) (steady_evaluate_all (Call y) (steady_call y (Eval y) (steady_Eval y)) s ts) m vs left e in
         subst (Evals y m s (Apply w ts)) (sym (R.eval_application y m s w ts vs left b e))
-        (applied m s w ts vs left (Call y left (application w.bytes vs)) b (subst (EvalsAll y m s ts) e all) (derive_tries y n ih y.rules left (omega arith) (application w.bytes vs)))
+        (applied m s w ts vs left (Call y left (application w.bytes vs)) b (subst (EvalsAll y m s ts) e all)
+        (derive_tries y n ih y.rules left (omega arith) (application w.bytes vs)))
 
     by_value : (o : Option Tree) → value_of s w.bytes ≡ o → Evals y m s (Apply w ts) (Eval y m s (Apply w ts))
     by_value (Some v) b = subst (Evals y m s (Apply w ts)) (sym (R.eval_variable y m s w ts v b)) (variable m s w ts v b)
     by_value None b = by_all b (EvalAll y m s ts) refl
 
-pub derive_more : (y : Spec) (n : ℕ) (s : Substitution) (t : Term) (ts : Terms) → (m : ℕ) → m ≤ n → Evals y m s t (Eval y m s t) → ((k : ℕ) → k ≤ n → EvalsAll y k s ts (EvalAll y k s ts)) → EvalsAll y m s (Terms.more t ts) (EvalAll y m s (Terms.more t ts))
+pub derive_more : (y : Spec) (n : ℕ) (s : Substitution) (t : Term) (ts : Terms) → (m : ℕ) → m ≤ n → Evals y m s t (Eval y m s t)
+    → ((k : ℕ) → k ≤ n → EvalsAll y k s ts (EvalAll y k s ts)) → EvalsAll y m s (Terms.more t ts) (EvalAll y m s (Terms.more t ts))
 unfolding Eval EvalAll Call Try Holds
 derive_more y n s t ts m le first later = by_first (Eval y m s t) refl
   where
-    by_later : (v : Tree) (left : ℕ) → Eval y m s t ≡ Done v left → left ≤ n → (o : Outcome Trees) → EvalAll y left s ts ≡ o → EvalsAll y m s (Terms.more t ts) (EvalAll y m s (Terms.more t ts))
-    by_later v left e le2 Over e2 = subst (EvalsAll y m s (Terms.more t ts)) (sym (R.all_over_later y m s t ts v left e e2)) (later_over m s t ts v left (subst (Evals y m s t) e first) (subst (EvalsAll y left s ts) e2 (later left le2)))
-    by_later v left e le2 (Done vs rest) e2 = subst (EvalsAll y m s (Terms.more t ts)) (sym (R.all_more y m s t ts v left vs rest e e2)) (one_more m s t ts v left vs rest (subst (Evals y m s t) e first) (subst (EvalsAll y left s ts) e2 (later left le2)))
+    by_later : (v : Tree) (left : ℕ) → Eval y m s t ≡ Done v left → left ≤ n → (o : Outcome Trees) → EvalAll y left s ts ≡ o
+        → EvalsAll y m s (Terms.more t ts) (EvalAll y m s (Terms.more t ts))
+    by_later v left e le2 Over e2 = subst (EvalsAll y m s (Terms.more t ts)) (sym (R.all_over_later y m s t ts v left e e2))
+        (later_over m s t ts v left (subst (Evals y m s t) e first) (subst (EvalsAll y left s ts) e2 (later left le2)))
+    by_later v left e le2 (Done vs rest) e2 = subst (EvalsAll y m s (Terms.more t ts)) (sym (R.all_more y m s t ts v left vs rest e e2))
+        (one_more m s t ts v left vs rest (subst (Evals y m s t) e first) (subst (EvalsAll y left s ts) e2 (later left le2)))
 
     by_first : (o : Outcome Tree) → Eval y m s t ≡ o → EvalsAll y m s (Terms.more t ts) (EvalAll y m s (Terms.more t ts))
     by_first Over e = subst (EvalsAll y m s (Terms.more t ts)) (sym (R.all_over_first y m s t ts e)) (first_over m s t ts (subst (Evals y m s t) e first))

@@ -33,7 +33,8 @@ not_repeated before w ws e = by (mentions before w.bytes) e
 -- a word that is not repeated stands nowhere behind
 clash : (w : Word) (before ws : List Word) (j : ℕ) → j < length ws → repeated (w ∷ before) ws ≡ [] → w.bytes ≡ bytes_at ws j → ⊥
 clash w before ws j h e same =
-    let apart : bytes_eq w.bytes (bytes_at ws j) || mentions before (bytes_at ws j) ≡ false = at_of (λ n. mentions (w ∷ before) n ≡ false) ws j h (repeated_none (w ∷ before) ws e) in
+    let apart : bytes_eq w.bytes (bytes_at ws j) || mentions before (bytes_at ws j) ≡ false =
+    at_of (λ n. mentions (w ∷ before) n ≡ false) ws j h (repeated_none (w ∷ before) ws e) in
     let equal : bytes_eq w.bytes (bytes_at ws j) ≡ true = ap (bytes_eq w.bytes) (sym same) ∙ bytes_eq-refl w.bytes in
     cc (sym (ap (λ b. b || mentions before (bytes_at ws j)) equal) ∙ apart)
 

@@ -1,7 +1,8 @@
 -- The first given term that alone breaks the rule that all of them break.
 use Rattle.std.proofs.Common.{refl, sym, ap, ◌∙◌, rules, tests, append-nil, inl, inr}
 use Rattle.std.proofs.lemmas.Iterator.Adapters.{position_from-zero}
-use Rattle.std.specs.Prelude.{ℕ, ◌≡◌, ◌⊎◌, ◌+◌, Bool, true, false, cond, ◌||◌, List, [], ◌∷◌, Option, Some, None, Result, Ok, Err, IsSome, IfSome, IfOk, is_some, map, flat_map, nat_eq}
+use Rattle.std.specs.Prelude.{ℕ, ◌≡◌, ◌⊎◌, ◌+◌, Bool, true, false, cond, ◌||◌, List, [], ◌∷◌, Option, Some}
+use Rattle.std.specs.Prelude.{None, Result, Ok, Err, IsSome, IfSome, IfOk, is_some, map, flat_map, nat_eq}
 use Rattle.std.specs.declared.alloc.AllocError.{AllocError}
 use Rattle.std.specs.List.{list_any, position, position_from}
 use Rattle.std.proofs.lemmas.List.Folds.{list_any-append}
@@ -12,7 +13,8 @@ use Rattle.rx_term.specs.declared.Term.{Term}
 use Rattle.rx_term.specs.Walks.{held_tree, held_trees}
 use Rattle.rec_syntax.specs.Syntax.{Spec}
 use Rattle.rec_sorts.specs.SpecRules.{fault}
-use Rattle.rec_sorts.specs.TermRules.{elements, broken_by_elements, broken_by_terms, first_passed, nodes, nodes_all, arguments, is_no_application, is_annotated, is_undeclared, is_ill_filled, is_ill_sorted, breaks_alone, first_breaking, broken_element}
+use Rattle.rec_sorts.specs.TermRules.{elements, broken_by_elements, broken_by_terms, first_passed, nodes, nodes_all, arguments, is_no_application}
+use Rattle.rec_sorts.specs.TermRules.{is_annotated, is_undeclared, is_ill_filled, is_ill_sorted, breaks_alone, first_breaking, broken_element}
 use Rattle.rec_sorts.specs.Agreeing.{IsScope}
 use Rattle.rec_sorts.specs.Inner.GivenTerms.{is_broken_alone}
 use Rattle.rec_sorts.specs.declared.scope.Scope.{Scope}
@@ -20,14 +22,16 @@ use Rattle.rec_sorts.specs.Laws.{ElementLaw}
 use Rattle.rec_sorts.proofs.GivenRuleLemmas.{broken-nodes, if_held}
 
 -- where tests have the same answers, the first to pass is the same
-position-map : {X Y : Type 0} (p : X → Bool) (q : Y → Bool) (f : Y → X) → ((y : Y) → q y ≡ p (f y)) → (i : ℕ) (ys : List Y) → position_from q i ys ≡ position_from p i (map f ys)
+position-map : {X Y : Type 0} (p : X → Bool) (q : Y → Bool) (f : Y → X) → ((y : Y) → q y ≡ p (f y)) → (i : ℕ) (ys : List Y)
+    → position_from q i ys ≡ position_from p i (map f ys)
 position-map p q f same i [] = refl
 position-map p q f same i (y ∷ ys) =
     ap (λ b. cond b (Some i) (position_from q (i + 1) ys)) (same y)
     ∙ ap (λ o. cond (p (f y)) (Some i) o) (position-map p q f same (i + 1) ys)
 
 -- the place among references
-pub breaking-held : (s : Scope) (w : Store) (number : ℕ) (rs : List Term) → position_from (λ r. is_broken_alone s number (held_tree w r)) 0 rs ≡ position (is_broken_alone s number) (held_trees w rs)
+pub breaking-held : (s : Scope) (w : Store) (number : ℕ) (rs : List Term)
+    → position_from (λ r. is_broken_alone s number (held_tree w r)) 0 rs ≡ position (is_broken_alone s number) (held_trees w rs)
 breaking-held s w number rs =
     position-map (is_broken_alone s number) (λ r. is_broken_alone s number (held_tree w r)) (held_tree w) (λ r. refl) 0 rs
     ∙ sym (position_from-zero (is_broken_alone s number) (held_trees w rs))
@@ -40,7 +44,8 @@ abbrev broken_in : Spec → Option (List Tree) → Option ℕ
 broken_in y o = elim o [ None ↦ Some 1 | Some ts ↦ broken_by_elements y ts ]
 
 -- where the terms are these, and break this rule
-pub element-first : (y : Spec) (t : Tree) (ts : List Tree) (number : ℕ) → elements t ≡ Some ts → Some number ≡ broken_by_terms y t → position (breaks_alone y number) ts ≡ broken_element y t
+pub element-first : (y : Spec) (t : Tree) (ts : List Tree) (number : ℕ) → elements t ≡ Some ts → Some number ≡ broken_by_terms y t
+    → position (breaks_alone y number) ts ≡ broken_element y t
 element-first y t ts number listed broken =
     let here : broken_by_elements y ts ≡ Some number = sym (ap (broken_in y) listed) ∙ sym broken in
     sym (ap (option_and_then (first_breaking y)) listed ∙ ap (option_and_then (λ n. position (breaks_alone y n) ts)) here)
@@ -54,8 +59,10 @@ elements-listed (Appl name quoted args anns) e = absurd (cc e)
 elements-listed (Hole inner anns) e = absurd (cc e)
 
 -- what is found among a list's items
-pub element-found : (y : Spec) (s : Scope) → IsScope y s → fault y ≡ None → (w : Store) (list : Term) (number : ℕ) (r : Result (Option ℕ) AllocError) → is_some (elements (held_tree w list)) ≡ true → Some number ≡ broken_by_terms y (held_tree w list)
-    → IfOk r (λ o. o ≡ position (is_broken_alone s number) (to_list (items_of (held_tree w list)))) → IfOk r (λ o. IfSome (tree_at w list) (λ t. o ≡ broken_element y t))
+pub element-found : (y : Spec) (s : Scope) → IsScope y s → fault y ≡ None → (w : Store) (list : Term) (number : ℕ) (r : Result (Option ℕ) AllocError)
+    → is_some (elements (held_tree w list)) ≡ true → Some number ≡ broken_by_terms y (held_tree w list)
+    → IfOk r (λ o. o ≡ position (is_broken_alone s number) (to_list (items_of (held_tree w list))))
+    → IfOk r (λ o. IfSome (tree_at w list) (λ t. o ≡ broken_element y t))
 element-found y s h kept w list number (Err e) listed broken found = tt
 element-found y s h kept w list number (Ok o) listed broken found =
     let t : Tree = held_tree w list in
@@ -90,13 +97,15 @@ tests_of y us =
     ∷ list_any (is_ill_sorted y) (flat_map nodes us)
     ∷ []
 
-joined : (p : Tree → Bool) (f : Tree → List Tree) (t : Tree) (ts : List Tree) → list_any p (flat_map f (t ∷ ts)) ≡ list_any p (flat_map f (t ∷ [])) || list_any p (flat_map f ts)
+joined : (p : Tree → Bool) (f : Tree → List Tree) (t : Tree) (ts : List Tree)
+    → list_any p (flat_map f (t ∷ ts)) ≡ list_any p (flat_map f (t ∷ [])) || list_any p (flat_map f ts)
 joined p f t ts =
     list_any-append p (f t) (flat_map f ts)
     ∙ ap (λ us. list_any p us || list_any p (flat_map f ts)) (sym (append-nil (f t)))
 
 -- a rule that terms break is broken by the first of them alone, or by the others
-first_or_others : (y : Spec) (n : ℕ) (t : Tree) (ts : List Tree) → broken_by_elements y (t ∷ ts) ≡ Some n → (broken_by_elements y (t ∷ []) ≡ Some n) ⊎ (broken_by_elements y ts ≡ Some n)
+first_or_others : (y : Spec) (n : ℕ) (t : Tree) (ts : List Tree) → broken_by_elements y (t ∷ ts) ≡ Some n
+    → (broken_by_elements y (t ∷ []) ≡ Some n) ⊎ (broken_by_elements y ts ≡ Some n)
 first_or_others y n t ts e = either_first 2 n (tests_of y (t ∷ [])) (tests_of y ts) (sym joint ∙ e)
   where
     joint : broken_by_elements y (t ∷ ts) ≡ first_passed 2 (ors (tests_of y (t ∷ [])) (tests_of y ts))

@@ -3,7 +3,8 @@ use Rattle.std.proofs.Common.{refl, sym, ap, subst, ◌∙◌, arith}
 use Rattle.std.proofs.lemmas.List.{map-append, reverse-append, take_all}
 use Rattle.std.proofs.lemmas.Simd.{map-map}
 use Rattle.std.proofs.lemmas.List.Elements.{All-nil, All-cons, All-push}
-use Rattle.std.specs.Prelude.{ℕ, ◌≡◌, ◌||◌, is_none, Bool, true, false, List, [], ◌∷◌, ◌++◌, Option, Some, None, All, IfSome, ◌≤◌, length, map, take, flat_map, reverse, unwrap_or}
+use Rattle.std.specs.Prelude.{ℕ, ◌≡◌, ◌||◌, is_none, Bool, true, false, List, [], ◌∷◌, ◌++◌, Option, Some}
+use Rattle.std.specs.Prelude.{None, All, IfSome, ◌≤◌, length, map, take, flat_map, reverse, unwrap_or}
 use Rattle.std.specs.List.{list_any}
 use Rattle.std.proofs.lemmas.List.Folds.{list_any-append}
 use Rattle.rx_term.specs.Tree.{Tree, Trees, Int, Appl, Items, Hole, none, more, count_of, to_list, items_of}
@@ -13,7 +14,8 @@ use Rattle.rx_term.specs.Walks.{held_tree, held_trees}
 use Rattle.rec_syntax.specs.Syntax.{Declaration, Spec}
 use Rattle.rec_sorts.specs.Lookup.{count}
 use Rattle.rec_sorts.specs.Laws.{Every}
-use Rattle.rec_sorts.specs.TermRules.{nodes, arguments, tree_symbol, is_undeclared, is_no_application, is_annotated, is_ill_filled, is_ill_sorted, first_passed, nodes_all, elements, broken_by_elements, broken_by_terms}
+use Rattle.rec_sorts.specs.TermRules.{nodes, arguments, tree_symbol, is_undeclared, is_no_application, is_annotated, is_ill_filled}
+use Rattle.rec_sorts.specs.TermRules.{is_ill_sorted, first_passed, nodes_all, elements, broken_by_elements, broken_by_terms}
 use Rattle.rec_sorts.specs.Evaluation.{term_of, terms_of}
 use Rattle.rec_sorts.specs.Numbering.{IsMeaning, name_of, Named, named, named_all, named_by, AreLetters, Pairwise}
 use Rattle.rec_sorts.specs.Agreeing.{IsScope}
@@ -45,7 +47,8 @@ map-reverse f (x ∷ xs) =
 
 All-reverse : {X : Type 0} (P : X → Type 0) (xs : List X) → All P xs → All P (reverse xs)
 All-reverse P [] h = h
-All-reverse P (x ∷ xs) h = subst (All P) (sym (reverse-cons x xs)) (All-push P (reverse xs) x (All-reverse P xs (λ k d l. h (ℕ.suc k) d (omega arith))) (h 0 x (omega arith)))
+All-reverse P (x ∷ xs) h = subst (All P) (sym (reverse-cons x xs))
+    (All-push P (reverse xs) x (All-reverse P xs (λ k d l. h (ℕ.suc k) d (omega arith))) (h 0 x (omega arith)))
 
 count-terms : (ts : Trees) → count (terms_of ts) ≡ count_of ts
 count-terms none = refl
@@ -75,13 +78,15 @@ none_passes : {X : Type 0} (p : X → Bool) (xs : List X) → list_any p xs ≡ 
 none_passes p [] e = tt
 none_passes p (x ∷ xs) e = by_test (p x) refl e (λ k. none_passes p xs k)
   where
-    by_test : (b : Bool) → p x ≡ b → b || list_any p xs ≡ false → (list_any p xs ≡ false → Every (λ x. p x ≡ false) xs) → (p x ≡ false) × Every (λ x. p x ≡ false) xs
+    by_test : (b : Bool) → p x ≡ b → b || list_any p xs ≡ false → (list_any p xs ≡ false → Every (λ x. p x ≡ false) xs)
+        → (p x ≡ false) × Every (λ x. p x ≡ false) xs
     by_test true is e later = absurd (cc e)
     by_test false is e later = (is, later e)
 
 module _ (y : Spec) (s : Scope) (h : IsScope y s) where
   -- the letter of a node that stands for a symbol
-  pub letter-node : (t : Tree) (d : Declaration) → tree_symbol y t ≡ Some d → IsMeaning y (node_letter s t).meaning × (named_by y (node_letter s t) ≡ node_named t)
+  pub letter-node : (t : Tree) (d : Declaration) → tree_symbol y t ≡ Some d
+      → IsMeaning y (node_letter s t).meaning × (named_by y (node_letter s t) ≡ node_named t)
   letter-node (Int z anns) d e = absurd (cc e)
   letter-node (Items items anns) d e = absurd (cc e)
   letter-node (Hole inner anns) d e = absurd (cc e)
@@ -98,11 +103,13 @@ module _ (y : Spec) (s : Scope) (h : IsScope y s) where
   letter-declared : (t : Tree) → is_undeclared y t ≡ false → IsMeaning y (node_letter s t).meaning × (named_by y (node_letter s t) ≡ node_named t)
   letter-declared t e = by_symbol (tree_symbol y t) refl e
     where
-      by_symbol : (o : Option Declaration) → tree_symbol y t ≡ o → undeclared_by o ≡ false → IsMeaning y (node_letter s t).meaning × (named_by y (node_letter s t) ≡ node_named t)
+      by_symbol : (o : Option Declaration) → tree_symbol y t ≡ o → undeclared_by o ≡ false
+          → IsMeaning y (node_letter s t).meaning × (named_by y (node_letter s t) ≡ node_named t)
       by_symbol (Some d) is e = letter-node t d is
       by_symbol None is e = absurd (cc e)
 
-  letters-nodes : (ts : List Tree) → Every (λ t. is_undeclared y t ≡ false) ts → All (λ l. IsMeaning y l.meaning) (map (node_letter s) ts) × (map (named_by y) (map (node_letter s) ts) ≡ map node_named ts)
+  letters-nodes : (ts : List Tree) → Every (λ t. is_undeclared y t ≡ false) ts
+      → All (λ l. IsMeaning y l.meaning) (map (node_letter s) ts) × (map (named_by y) (map (node_letter s) ts) ≡ map node_named ts)
   letters-nodes [] k = (All-nil (λ (l : Letter). IsMeaning y l.meaning), refl)
   letters-nodes (t ∷ ts) k =
       let one = letter-declared t k.0 in
@@ -112,7 +119,8 @@ module _ (y : Spec) (s : Scope) (h : IsScope y s) where
       )
 
   -- the letters of a term whose nodes are declared
-  letters-term : (t : Tree) (ls : List Letter) → list_any (is_undeclared y) (nodes t) ≡ false → ls ≡ reverse (map (node_letter s) (backwards t)) → AreLetters y ls (term_of t)
+  letters-term : (t : Tree) (ls : List Letter) → list_any (is_undeclared y) (nodes t) ≡ false → ls ≡ reverse (map (node_letter s) (backwards t))
+      → AreLetters y ls (term_of t)
   letters-term t ls known e =
       let all = letters-nodes (backwards t) (none_passes (is_undeclared y) (backwards t) (any-backwards (is_undeclared y) t ∙ known)) in
       subst (λ (xs : List Letter). AreLetters y xs (term_of t)) (sym e) (
@@ -125,13 +133,15 @@ module _ (y : Spec) (s : Scope) (h : IsScope y s) where
   or_false true b e = absurd (cc e)
 
   -- those of some terms
-  pub letters-terms : {V : Type 0} (items : V → List Letter) (vs : List V) (ts : List Tree) → list_any (is_undeclared y) (flat_map nodes ts) ≡ false → map items vs ≡ map (λ t. reverse (map (node_letter s) (backwards t))) ts
+  pub letters-terms : {V : Type 0} (items : V → List Letter) (vs : List V) (ts : List Tree) → list_any (is_undeclared y) (flat_map nodes ts) ≡ false
+      → map items vs ≡ map (λ t. reverse (map (node_letter s) (backwards t))) ts
       → Pairwise (λ v t. AreLetters y (items v) (term_of t)) vs ts
   letters-terms items [] [] known e = tt
   letters-terms items [] (t ∷ ts) known e = absurd (cc e)
   letters-terms items (v ∷ vs) [] known e = absurd (cc e)
   letters-terms items (v ∷ vs) (t ∷ ts) known e =
-      let each = or_false (list_any (is_undeclared y) (nodes t)) (list_any (is_undeclared y) (flat_map nodes ts)) (sym (list_any-append (is_undeclared y) (nodes t) (flat_map nodes ts)) ∙ known) in
+      let each = or_false (list_any (is_undeclared y) (nodes t)) (list_any (is_undeclared y) (flat_map nodes ts))
+      (sym (list_any-append (is_undeclared y) (nodes t) (flat_map nodes ts)) ∙ known) in
       let first : items v ≡ reverse (map (node_letter s) (backwards t)) = cc e in
       let others : map items vs ≡ map (λ u. reverse (map (node_letter s) (backwards u))) ts = cc e in
       (letters-term t (items v) each.0 first, letters-terms items vs ts each.1 others)
@@ -148,10 +158,12 @@ pub kept-declared : (y : Spec) (ts : List Tree) → broken_by_elements y ts ≡ 
 kept-declared y ts e =
     let all : List Tree = flat_map nodes ts in
     let inner : List Tree = flat_map (λ t. nodes_all (arguments t)) ts in
-    third_failed (list_any is_no_application all) (list_any is_annotated inner) (list_any (is_undeclared y) all) (list_any (is_ill_filled y) all) (list_any (is_ill_sorted y) all) e
+    third_failed (list_any is_no_application all) (list_any is_annotated inner) (list_any (is_undeclared y) all) (list_any (is_ill_filled y) all)
+    (list_any (is_ill_sorted y) all) e
 
 -- the letters of the nodes that a walk found
-pub letters-walked : (s : Scope) (w : Store) (found items : List Term) (term : Term) (ls : List Letter) (i : ℕ) → ls ≡ map (λ r. node_letter s (held_tree w r)) (take i items) → length items ≤ i → items ≡ found
+pub letters-walked : (s : Scope) (w : Store) (found items : List Term) (term : Term) (ls : List Letter) (i : ℕ)
+    → ls ≡ map (λ r. node_letter s (held_tree w r)) (take i items) → length items ≤ i → items ≡ found
     → held_trees w found ≡ backwards (held_tree w term) → ls ≡ map (node_letter s) (backwards (held_tree w term))
 letters-walked s w found items term ls i read past same trees =
     read
@@ -174,8 +186,10 @@ broken-listed : (y : Spec) (t : Tree) (ts : List Tree) → elements t ≡ Some t
 broken-listed y t ts e h = sym (ap (broken_in y) e) ∙ h
 
 -- the letters of a list's terms
-pub letters-listed : (y : Spec) (s : Scope) → IsScope y s → (w : Store) (list : Term) {V : Type 0} (letters_of : V → List Letter) (vs : List V) (items : List Term) → IfSome (tree_at w list) (λ t. broken_by_terms y t ≡ None)
-    → map letters_of vs ≡ map (λ r. reverse (map (node_letter s) (backwards (held_tree w r)))) items → held_trees w items ≡ to_list (items_of (held_tree w list))
+pub letters-listed : (y : Spec) (s : Scope) → IsScope y s → (w : Store) (list : Term) {V : Type 0} (letters_of : V → List Letter) (vs : List V)
+    (items : List Term) → IfSome (tree_at w list) (λ t. broken_by_terms y t ≡ None)
+    → map letters_of vs ≡ map (λ r. reverse (map (node_letter s) (backwards (held_tree w r)))) items
+    → held_trees w items ≡ to_list (items_of (held_tree w list))
     → (t : Tree) (ts : List Tree) → tree_at w list ≡ Some t → elements t ≡ Some ts → Pairwise (λ v u. AreLetters y (letters_of v) (term_of u)) vs ts
 letters-listed y s h w list letters_of vs items kept read trees t ts here is =
     let whole : held_tree w list ≡ t = held w list t here in

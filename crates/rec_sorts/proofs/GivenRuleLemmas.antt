@@ -1,7 +1,8 @@
 -- What the numbers of what is declared show of given terms is what their rules ask.
 use Rattle.std.proofs.Common.{refl, sym, ap, ◌∙◌, arith}
 use Rattle.std.proofs.lemmas.List.{length-map}
-use Rattle.std.specs.Prelude.{ℕ, ◌≡◌, ◌<◌, ◌&&◌, ◌||◌, Bool, true, false, not, List, [], ◌∷◌, ◌++◌, Option, Some, None, length, flat_map, nat_eq, is_some, is_none, unwrap_or, IfSome}
+use Rattle.std.specs.Prelude.{ℕ, ◌≡◌, ◌<◌, ◌&&◌, ◌||◌, Bool, true, false, not, List, [], ◌∷◌, ◌++◌, Option}
+use Rattle.std.specs.Prelude.{Some, None, length, flat_map, nat_eq, is_some, is_none, unwrap_or, IfSome}
 use Rattle.std.specs.Bool.{beq}
 use Rattle.std.specs.List.{list_any}
 use Rattle.std.specs.Option.{option_eq, option_map, option_and_then}
@@ -12,7 +13,8 @@ use Rattle.rec_syntax.specs.Syntax.{Declaration, Spec}
 use Rattle.rec_sorts.specs.Lookup.{symbols, symbol, variable_words, same_sort}
 use Rattle.rec_sorts.specs.SpecRules.{fault, all_rules, unknown_sorts}
 use Rattle.rec_sorts.specs.Laws.{Every}
-use Rattle.rec_sorts.specs.TermRules.{nodes, arguments, is_no_application, is_annotated, tree_symbol, is_undeclared, is_ill_filled, tree_sort, are_ill_sorted, is_ill_sorted, first_passed, elements, broken_by_elements, broken_by_terms}
+use Rattle.rec_sorts.specs.TermRules.{nodes, arguments, is_no_application, is_annotated, tree_symbol, is_undeclared, is_ill_filled, tree_sort}
+use Rattle.rec_sorts.specs.TermRules.{are_ill_sorted, is_ill_sorted, first_passed, elements, broken_by_elements, broken_by_terms}
 use Rattle.rec_sorts.specs.Names.{first_at}
 use Rattle.rec_sorts.specs.Declaring.{sort_numbers}
 use Rattle.rec_sorts.specs.Scope.{meaning_of, sort_at, arguments_at}
@@ -103,7 +105,8 @@ module _ (y : Spec) (s : Scope) (h : IsScope y s) where
   misfilled_at : Option Meaning → ℕ → Bool
   misfilled_at m n = is_some m && not (nat_eq n (length (arguments_at s m)))
 
-  arguments-symbol : (name : List ℕ) (d : Declaration) (m : Option Meaning) → Stands y s name d m → arguments_at s m ≡ sort_numbers (first_at y.sorts) d.arguments
+  arguments-symbol : (name : List ℕ) (d : Declaration) (m : Option Meaning) → Stands y s name d m
+      → arguments_at s m ≡ sort_numbers (first_at y.sorts) d.arguments
   arguments-symbol name d m f =
       ap (arguments_at s) f.same
       ∙ arguments_at-name y s h name
@@ -170,19 +173,24 @@ module _ (y : Spec) (s : Scope) (h : IsScope y s) where
         by_symbol None e = ap (λ m. are_misfits s (arguments_at s m) (arguments t)) (unmeant t e)
 
   -- the rules 2 to 6
-  pub broken-nodes : fault y ≡ None → (ts all inner : List Tree) → all ≡ unstacked ts → inner ≡ unstacked (flat_map (λ t. to_list (arguments t)) ts) → broken_by_nodes s all inner ≡ broken_by_elements y ts
+  pub broken-nodes : fault y ≡ None → (ts all inner : List Tree) → all ≡ unstacked ts → inner ≡ unstacked (flat_map (λ t. to_list (arguments t)) ts)
+      → broken_by_nodes s all inner ≡ broken_by_elements y ts
   broken-nodes kept ts all inner p q =
       let every : Every (λ b. b.words ≡ []) (all_rules y) = all_kept (all_rules y) kept in
       let sorts : unknown_sorts y ≡ [] = every.1.1.1.0 in
       let one = ap (list_any is_no_application) p ∙ any-unstacked is_no_application ts in
       let two = ap (list_any is_annotated) q ∙ any-inner is_annotated ts in
-      let three = ap (list_any (is_nameless s)) p ∙ any-unstacked (is_nameless s) ts ∙ any-same (is_nameless s) (is_undeclared y) nameless-undeclared (flat_map nodes ts) in
-      let four = ap (list_any (is_misfilled s)) p ∙ any-unstacked (is_misfilled s) ts ∙ any-same (is_misfilled s) (is_ill_filled y) misfilled-ill_filled (flat_map nodes ts) in
-      let five = ap (list_any (has_misfit s)) p ∙ any-unstacked (has_misfit s) ts ∙ any-same (has_misfit s) (is_ill_sorted y) (misfit-ill_sorted sorts) (flat_map nodes ts) in
+      let three = ap (list_any (is_nameless s)) p ∙ any-unstacked (is_nameless s) ts
+      ∙ any-same (is_nameless s) (is_undeclared y) nameless-undeclared (flat_map nodes ts) in
+      let four = ap (list_any (is_misfilled s)) p ∙ any-unstacked (is_misfilled s) ts
+      ∙ any-same (is_misfilled s) (is_ill_filled y) misfilled-ill_filled (flat_map nodes ts) in
+      let five = ap (list_any (has_misfit s)) p ∙ any-unstacked (has_misfit s) ts
+      ∙ any-same (has_misfit s) (is_ill_sorted y) (misfit-ill_sorted sorts) (flat_map nodes ts) in
       λ i. first_passed 2 (one i ∷ two i ∷ three i ∷ four i ∷ five i ∷ [])
 
   -- all six
-  pub broken-list : fault y ≡ None → (t : Tree) (all inner : List Tree) → is_some (elements t) ≡ true → all ≡ unstacked (to_list (items_of t)) → inner ≡ unstacked (flat_map (λ t. to_list (arguments t)) (to_list (items_of t)))
+  pub broken-list : fault y ≡ None → (t : Tree) (all inner : List Tree) → is_some (elements t) ≡ true → all ≡ unstacked (to_list (items_of t))
+      → inner ≡ unstacked (flat_map (λ t. to_list (arguments t)) (to_list (items_of t)))
       → broken_by_nodes s all inner ≡ broken_by_terms y t
   broken-list kept (Items items none) all inner e p q = broken-nodes kept (to_list items) all inner p q
   broken-list kept (Items items (more a as')) all inner e p q = absurd (cc e)

@@ -2,7 +2,8 @@
 use Rattle.std.proofs.Common.{refl, sym, ap, subst, ◌∙◌, arith}
 use Rattle.std.proofs.lemmas.List.{length-map}
 use Rattle.std.proofs.lemmas.Slice.Eq.{bytes_eq-Decides}
-use Rattle.std.specs.Prelude.{ℕ, ◌≡◌, ◌<◌, zero, suc, length, filter, flat_map, Bool, true, false, ◌||◌, not, cond, List, [], ◌∷◌, ◌++◌, Option, Some, None, map, bytes_eq}
+use Rattle.std.specs.Prelude.{ℕ, ◌≡◌, ◌<◌, zero, suc, length, filter, flat_map, Bool, true, false, ◌||◌}
+use Rattle.std.specs.Prelude.{not, cond, List, [], ◌∷◌, ◌++◌, Option, Some, None, map, bytes_eq}
 use Rattle.rec_syntax.specs.Tokens.{Word}
 use Rattle.rec_syntax.specs.Syntax.{Term, Declaration, Rule, Spec, head, subterms}
 use Rattle.rec_sorts.specs.Lookup.{mentions, repeated, names, symbols, variable_words, is_variable, places, condition_terms}
@@ -30,7 +31,8 @@ pub missing_none : (known ws : List Word) → missing known ws ≡ [] → Every 
 missing_none known [] e = tt
 missing_none known (w ∷ ws) e = by_test (mentions known w.bytes) refl e (λ h. missing_none known ws h)
   where
-    by_test : (b : Bool) → mentions known w.bytes ≡ b → cond (not b) (w ∷ missing known ws) (missing known ws) ≡ [] → (missing known ws ≡ [] → Every (λ w. mentions known w.bytes ≡ true) ws) → Every (λ w. mentions known w.bytes ≡ true) (w ∷ ws)
+    by_test : (b : Bool) → mentions known w.bytes ≡ b → cond (not b) (w ∷ missing known ws) (missing known ws) ≡ []
+        → (missing known ws ≡ [] → Every (λ w. mentions known w.bytes ≡ true) ws) → Every (λ w. mentions known w.bytes ≡ true) (w ∷ ws)
     by_test true h e later = (h, later e)
     by_test false h e later = absurd (cc e)
 
@@ -46,16 +48,20 @@ repeated_none before (w ∷ ws) e = by_test (mentions before w.bytes) refl e (λ
     widen [] h = tt
     widen (z ∷ zs) h = (or_false (bytes_eq w.bytes z.bytes) (mentions before z.bytes) h.0, widen zs h.1)
 
-    by_test : (b : Bool) → mentions before w.bytes ≡ b → ◌≡◌ {A = List Word} (elim b [ true ↦ w ∷ repeated before ws | false ↦ repeated (w ∷ before) ws ]) [] → (repeated (w ∷ before) ws ≡ [] → Every (λ x. mentions (w ∷ before) x.bytes ≡ false) ws) → Every (λ x. mentions before x.bytes ≡ false) (w ∷ ws)
+    by_test : (b : Bool) → mentions before w.bytes ≡ b → ◌≡◌ {A = List Word}
+        (elim b [ true ↦ w ∷ repeated before ws | false ↦ repeated (w ∷ before) ws ]) []
+        → (repeated (w ∷ before) ws ≡ [] → Every (λ x. mentions (w ∷ before) x.bytes ≡ false) ws) → Every (λ x. mentions before x.bytes ≡ false) (w ∷ ws)
     by_test true h e later = absurd (cc e)
     by_test false h e later = (h, widen ws (later e))
 
 -- a name that is not among those before, and is one of these, is not among those before
-pub not_before : (before ws : List Word) (name : List ℕ) → Every (λ w. mentions before w.bytes ≡ false) ws → mentions ws name ≡ true → mentions before name ≡ false
+pub not_before : (before ws : List Word) (name : List ℕ) → Every (λ w. mentions before w.bytes ≡ false) ws → mentions ws name ≡ true
+    → mentions before name ≡ false
 not_before before [] name h e = absurd (cc e)
 not_before before (w ∷ ws) name h e = by_test (bytes_eq w.bytes name) refl e (λ k. not_before before ws name h.1 k)
   where
-    by_test : (b : Bool) → bytes_eq w.bytes name ≡ b → b || mentions ws name ≡ true → (mentions ws name ≡ true → mentions before name ≡ false) → mentions before name ≡ false
+    by_test : (b : Bool) → bytes_eq w.bytes name ≡ b → b || mentions ws name ≡ true → (mentions ws name ≡ true → mentions before name ≡ false)
+        → mentions before name ≡ false
     by_test true is e later = subst (λ n. mentions before n ≡ false) (bytes_eq-eq w.bytes name is) h.0
     by_test false is e later = later e
 
@@ -67,7 +73,8 @@ mentions_more : (ds es : List Declaration) (name : List ℕ) → mentions (names
 mentions_more [] es name e = e
 mentions_more (d ∷ ds) es name e = or_right (bytes_eq d.name.bytes name) (mentions (names (ds ++ es)) name) (mentions_more ds es name e)
 
-no_variable : (y : Spec) → Every (λ w. mentions (names (symbols y)) w.bytes ≡ false) (variable_words y.variables) → (name : List ℕ) → mentions (names y.operators) name ≡ true → is_variable y name ≡ false
+no_variable : (y : Spec) → Every (λ w. mentions (names (symbols y)) w.bytes ≡ false) (variable_words y.variables) → (name : List ℕ)
+    → mentions (names y.operators) name ≡ true → is_variable y name ≡ false
 no_variable y h name e = by_test (is_variable y name) refl
   where
     by_test : (b : Bool) → is_variable y name ≡ b → is_variable y name ≡ false
@@ -118,7 +125,8 @@ one_number before [] j k e g h same = absurd (omega arith)
 one_number before (w ∷ ws) zero zero e g h same = refl
 one_number before (w ∷ ws) zero (suc k) e g h same = absurd (no_later before ws w k (first_kept before ws w e) (omega arith) same)
 one_number before (w ∷ ws) (suc j) zero e g h same = absurd (no_later before ws w j (first_kept before ws w e) (omega arith) (sym same))
-one_number before (w ∷ ws) (suc j) (suc k) e g h same = ap (λ (n : ℕ). suc n) (one_number (w ∷ before) ws j k (first_kept before ws w e) (omega arith) (omega arith) same)
+one_number before (w ∷ ws) (suc j) (suc k) e g h same = ap (λ (n : ℕ). suc n)
+    (one_number (w ∷ before) ws j k (first_kept before ws w e) (omega arith) (omega arith) same)
 
 module _ (y : Spec) (kept : fault y ≡ None) where
   kept_lists : Every (λ b. b.words ≡ []) (all_rules y)
@@ -131,7 +139,8 @@ module _ (y : Spec) (kept : fault y ≡ None) where
       one_number [] (names (symbols y)) j k kept_lists.1.0 (omega arith) (omega arith) same
 
   -- distinct variables have distinct names
-  pub variables_differ : (j k : ℕ) → j < length (variable_words y.variables) → k < length (variable_words y.variables) → name_of y (Variable j) ≡ name_of y (Variable k) → j ≡ k
+  pub variables_differ : (j k : ℕ) → j < length (variable_words y.variables) → k < length (variable_words y.variables)
+      → name_of y (Variable j) ≡ name_of y (Variable k) → j ≡ k
   variables_differ j k g h same = one_number (names (symbols y)) (variable_words y.variables) j k kept_lists.1.1.0 g h same
 
   -- no variable has a symbol's name
@@ -140,7 +149,8 @@ module _ (y : Spec) (kept : fault y ≡ None) where
       let long : length (names (symbols y)) ≡ length (symbols y) = length-map (symbols y) (λ d. d.name) in
       cc (sym (mentions-at (names (symbols y)) j (omega arith))
       ∙ ap (mentions (names (symbols y))) same
-      ∙ not_before (names (symbols y)) (variable_words y.variables) (name_of y (Variable k)) (repeated_none (names (symbols y)) (variable_words y.variables) kept_lists.1.1.0) (mentions-at (variable_words y.variables) k h))
+      ∙ not_before (names (symbols y)) (variable_words y.variables) (name_of y (Variable k))
+      (repeated_none (names (symbols y)) (variable_words y.variables) kept_lists.1.1.0) (mentions-at (variable_words y.variables) k h))
 
   -- each word of a term has the number of arguments that it is declared with
   pub all_filled : Every (λ t. is_filled y t ≡ true) (all_terms y)
@@ -150,7 +160,9 @@ module _ (y : Spec) (kept : fault y ≡ None) where
       filled_each [] e = tt
       filled_each (t ∷ ts) e = by_test (is_filled y t) refl e (λ h. filled_each ts h)
         where
-          by_test : (b : Bool) → is_filled y t ≡ b → heads (cond (not b) (t ∷ filter (λ u. not (is_filled y u)) ts) (filter (λ u. not (is_filled y u)) ts)) ≡ [] → (heads (filter (λ u. not (is_filled y u)) ts) ≡ [] → Every (λ u. is_filled y u ≡ true) ts)
+          by_test : (b : Bool) → is_filled y t ≡ b
+              → heads (cond (not b) (t ∷ filter (λ u. not (is_filled y u)) ts) (filter (λ u. not (is_filled y u)) ts)) ≡ []
+              → (heads (filter (λ u. not (is_filled y u)) ts) ≡ [] → Every (λ u. is_filled y u ≡ true) ts)
               → Every (λ u. is_filled y u ≡ true) (t ∷ ts)
           by_test true h e later = (h, later e)
           by_test false h e later = absurd (cc e)
@@ -160,7 +172,8 @@ module _ (y : Spec) (kept : fault y ≡ None) where
   operators_head = missing_none (names y.operators) (map (λ r. head r.left) y.rules) kept_lists.1.1.1.1.1.1.1.0
 
   -- the variables of a right side and of conditions occur in the left side
-  pub variables_bound : Every (λ r. Every (λ w. mentions (heads (subterms r.left)) w.bytes ≡ true) (variables_among y (heads (everywhere (r.right ∷ condition_terms r.conditions))))) y.rules
+  pub variables_bound : Every (λ r. Every (λ w. mentions (heads (subterms r.left)) w.bytes ≡ true)
+      (variables_among y (heads (everywhere (r.right ∷ condition_terms r.conditions))))) y.rules
   variables_bound = bound_each y.rules kept_lists.1.1.1.1.1.1.1.1.1.0
     where
       nothing_left : (xs zs : List Word) → xs ++ zs ≡ [] → xs ≡ []
@@ -171,11 +184,16 @@ module _ (y : Spec) (kept : fault y ≡ None) where
       nothing_right [] zs e = e
       nothing_right (x ∷ xs) zs e = absurd (cc e)
 
-      bound_each : (rs : List Rule) → flat_map (λ r. missing (heads (subterms r.left)) (variables_among y (heads (everywhere (r.right ∷ condition_terms r.conditions))))) rs ≡ []
-          → Every (λ r. Every (λ w. mentions (heads (subterms r.left)) w.bytes ≡ true) (variables_among y (heads (everywhere (r.right ∷ condition_terms r.conditions))))) rs
+      bound_each : (rs : List Rule) → flat_map (λ r. missing (heads (subterms r.left))
+          (variables_among y (heads (everywhere (r.right ∷ condition_terms r.conditions))))) rs ≡ []
+          → Every (λ r. Every (λ w. mentions (heads (subterms r.left)) w.bytes ≡ true)
+          (variables_among y (heads (everywhere (r.right ∷ condition_terms r.conditions))))) rs
       bound_each [] e = tt
-      bound_each (r ∷ rs) e =
-          (missing_none (heads (subterms r.left)) (variables_among y (heads (everywhere (r.right ∷ condition_terms r.conditions)))) (nothing_left _ _ e), bound_each rs (nothing_right _ _ e))
+      bound_each (r ∷ rs) e = (
+        missing_none (heads (subterms r.left)) (variables_among y (heads (everywhere (r.right ∷ condition_terms r.conditions))))
+            (nothing_left _ _ e),
+        bound_each rs (nothing_right _ _ e),
+      )
 
   -- no variable occurs in the terms to evaluate
   pub no_free_variable : variables_among y (heads (everywhere y.terms)) ≡ []

@@ -5,7 +5,8 @@ use Rattle.std.proofs.lemmas.Bool.{eqb-true}
 use Rattle.std.proofs.lemmas.Bool.{false≢true, leb-true, le-leb}
 use Rattle.std.proofs.lemmas.List.{length-map}
 use Rattle.std.proofs.lemmas.Slice.Eq.{bytes_eq-Decides}
-use Rattle.std.specs.Prelude.{ℕ, ◌≡◌, ◌+◌, ◌<◌, ◌≤◌, Bool, true, false, ◌&&◌, ◌||◌, List, [], ◌∷◌, ◌++◌, Option, Some, None, length, map, flat_map, nat_eq, nat_le, bytes_eq, is_some}
+use Rattle.std.specs.Prelude.{ℕ, ◌≡◌, ◌+◌, ◌<◌, ◌≤◌, Bool, true, false, ◌&&◌, ◌||◌, List, [], ◌∷◌, ◌++◌}
+use Rattle.std.specs.Prelude.{Option, Some, None, length, map, flat_map, nat_eq, nat_le, bytes_eq, is_some}
 use Rattle.std.specs.Option.{option_map, option_and_then, option_eq}
 use Rattle.rec_syntax.specs.Tokens.{Word}
 use Rattle.rec_syntax.specs.Syntax.{Declaration, Variables, Spec}
@@ -22,7 +23,8 @@ use Rattle.rec_sorts.specs.declared.scope.Scope.{Scope}
 use Rattle.rec_sorts.proofs.KeptLemmas.{bytes_eq-eq, repeated_none, not_before, missing_none}
 use Rattle.rec_sorts.proofs.TableLemmas.{is_some-first_at}
 use Rattle.rec_sorts.proofs.StackLemmas.{map-append}
-use Rattle.rec_sorts.proofs.MeaningLemmas.{first_at-among, first_at-after, first_at-one, mentions-declared, meaning-symbol, meaning-variable, some_number, some_same, shifted}
+use Rattle.rec_sorts.proofs.MeaningLemmas.{first_at-among, first_at-after, first_at-one, mentions-declared}
+use Rattle.rec_sorts.proofs.MeaningLemmas.{meaning-symbol, meaning-variable, some_number, some_same, shifted}
 
 shifted_least : (n : ℕ) (o : Option ℕ) (k : ℕ) → shifted n o ≡ Some k → n ≤ k
 shifted_least n None k e = absurd (cc e)
@@ -43,11 +45,13 @@ abbrev repeated_test : Bool → Word → List Word → List Word → List Word
 repeated_test b w before ws = elim b [ true ↦ w ∷ repeated before ws | false ↦ repeated (w ∷ before) ws ]
 
 -- where no word repeats, a name is not both among the first ones and the others
-pub apart : (before xs ys : List Word) (name : List ℕ) → repeated before (xs ++ ys) ≡ [] → mentions ys name ≡ true → (mentions xs name ≡ false) × (mentions before name ≡ false)
+pub apart : (before xs ys : List Word) (name : List ℕ) → repeated before (xs ++ ys) ≡ [] → mentions ys name ≡ true
+    → (mentions xs name ≡ false) × (mentions before name ≡ false)
 apart before [] ys name e h = (refl, not_before before ys name (repeated_none before ys e) h)
 apart before (x ∷ xs) ys name e h = by_test (mentions before x.bytes) e (λ k. apart (x ∷ before) xs ys name k h)
   where
-    by_test : (b : Bool) → repeated_test b x before (xs ++ ys) ≡ [] → (repeated (x ∷ before) (xs ++ ys) ≡ [] → (mentions xs name ≡ false) × (bytes_eq x.bytes name || mentions before name ≡ false))
+    by_test : (b : Bool) → repeated_test b x before (xs ++ ys) ≡ []
+        → (repeated (x ∷ before) (xs ++ ys) ≡ [] → (mentions xs name ≡ false) × (bytes_eq x.bytes name || mentions before name ≡ false))
         → (bytes_eq x.bytes name || mentions xs name ≡ false) × (mentions before name ≡ false)
     by_test true k later = absurd (cc k)
     by_test false k later =
@@ -57,7 +61,8 @@ apart before (x ∷ xs) ys name e h = by_test (mentions before x.bytes) e (λ k.
 
 pub mentions-append : (xs ys : List Word) (name : List ℕ) → mentions (xs ++ ys) name ≡ mentions xs name || mentions ys name
 mentions-append [] ys name = refl
-mentions-append (x ∷ xs) ys name = ap (λ b. bytes_eq x.bytes name || b) (mentions-append xs ys name) ∙ sym (or_assoc (bytes_eq x.bytes name) (mentions xs name) (mentions ys name))
+mentions-append (x ∷ xs) ys name = ap (λ b. bytes_eq x.bytes name || b) (mentions-append xs ys name)
+    ∙ sym (or_assoc (bytes_eq x.bytes name) (mentions xs name) (mentions ys name))
   where
     or_assoc : (a b c : Bool) → (a || b) || c ≡ a || (b || c)
     or_assoc true b c = refl
@@ -85,12 +90,14 @@ module _ (y : Spec) (s : Scope) (h : IsScope y s) where
       distinct_names = ap (repeated []) (sym (names-append y.constructors y.operators)) ∙ distinct
 
       split : first_at words name ≡ first_at (names y.constructors ++ (names y.operators ++ variable_words y.variables)) name
-      split = ap (λ ws. first_at ws name) (ap (λ ws. ws ++ variable_words y.variables) (names-append y.constructors y.operators) ∙ append_assoc (names y.constructors) (names y.operators) (variable_words y.variables))
+      split = ap (λ ws. first_at ws name) (ap (λ ws. ws ++ variable_words y.variables) (names-append y.constructors y.operators)
+          ∙ append_assoc (names y.constructors) (names y.operators) (variable_words y.variables))
 
       long : length (names y.constructors) ≡ length y.constructors
       long = length-map y.constructors (λ d. d.name)
 
-      by_constructor : (k : ℕ) → first_at words name ≡ Some k → mentions (names (symbols y)) name ≡ true → (b : Bool) → mentions (names y.constructors) name ≡ b → nat_le s.constructors k ≡ mentions (names y.operators) name
+      by_constructor : (k : ℕ) → first_at words name ≡ Some k → mentions (names (symbols y)) name ≡ true → (b : Bool)
+          → mentions (names y.constructors) name ≡ b → nat_le s.constructors k ≡ mentions (names y.operators) name
       by_constructor k at there true is =
           let f = first_at-among (names y.constructors) (names y.operators ++ variable_words y.variables) name is in
           let same : f.place ≡ k = some_number f.place k (sym f.found ∙ sym split ∙ at) in
@@ -103,7 +110,8 @@ module _ (y : Spec) (s : Scope) (h : IsScope y s) where
       by_constructor k at there false is =
           let moved : shifted (length (names y.constructors)) (first_at (names y.operators ++ variable_words y.variables) name) ≡ Some k =
           sym (first_at-after (names y.constructors) (names y.operators ++ variable_words y.variables) name is) ∙ sym split ∙ at in
-          let high : length (names y.constructors) ≤ k = shifted_least (length (names y.constructors)) (first_at (names y.operators ++ variable_words y.variables) name) k moved in
+          let high : length (names y.constructors) ≤ k = shifted_least (length (names y.constructors))
+          (first_at (names y.operators ++ variable_words y.variables) name) k moved in
           le-leb s.constructors k (omega (arith, high, long, h.constructors_counted))
           ∙ sym there ∙ both name ∙ ap (λ b. b || mentions (names y.operators) name) is
 
@@ -114,7 +122,8 @@ module _ (y : Spec) (s : Scope) (h : IsScope y s) where
       by_symbol None e =
           ap (is_operator s) (meaning-variable y s h name e)
           ∙ operator-variable (first_at (variable_words y.variables) name)
-          ∙ sym (or_false (mentions (names y.constructors) name) (mentions (names y.operators) name) (sym (both name) ∙ mentions-declared (symbols y) name ∙ ap is_some e)).1
+          ∙ sym (or_false (mentions (names y.constructors) name) (mentions (names y.operators) name)
+          (sym (both name) ∙ mentions-declared (symbols y) name ∙ ap is_some e)).1
 
   -- a symbol is no variable
   pub no_variable : taken_variables y ≡ [] → (name : List ℕ) (d : Declaration) → symbol y name ≡ Some d → is_variable y name ≡ false
@@ -122,15 +131,18 @@ module _ (y : Spec) (s : Scope) (h : IsScope y s) where
     where
       by_test : (b : Bool) → is_variable y name ≡ b → is_variable y name ≡ false
       by_test true m =
-          absurd (false≢true (sym (not_before (names (symbols y)) (variable_words y.variables) name (repeated_none (names (symbols y)) (variable_words y.variables) distinct) m)
+          absurd (false≢true (sym (not_before (names (symbols y)) (variable_words y.variables) name
+          (repeated_none (names (symbols y)) (variable_words y.variables) distinct) m)
           ∙ mentions-declared (symbols y) name ∙ ap is_some e))
       by_test false m = m
 
   -- a name is a variable's where it stands for one
-  pub is_unbound-name : taken_variables y ≡ [] → (bound : ℕ → Bool) (name : List ℕ) → is_unbound bound (meaning_of s name) ≡ is_variable y name && is_unbound bound (meaning_of s name)
+  pub is_unbound-name : taken_variables y ≡ [] → (bound : ℕ → Bool) (name : List ℕ)
+      → is_unbound bound (meaning_of s name) ≡ is_variable y name && is_unbound bound (meaning_of s name)
   is_unbound-name distinct bound name = by_symbol (symbol y name) refl
     where
-      by_number : (o : Option ℕ) (b : Bool) → is_some o ≡ b → is_unbound bound (option_map (λ k. Variable k) o) ≡ b && is_unbound bound (option_map (λ k. Variable k) o)
+      by_number : (o : Option ℕ) (b : Bool) → is_some o ≡ b → is_unbound bound (option_map (λ k. Variable k) o) ≡ b && is_unbound bound
+          (option_map (λ k. Variable k) o)
       by_number None b e = by_false b e
         where
           by_false : (b : Bool) → false ≡ b → false ≡ b && false
@@ -139,7 +151,8 @@ module _ (y : Spec) (s : Scope) (h : IsScope y s) where
       by_number (Some k) true e = refl
       by_number (Some k) false e = absurd (false≢true (sym e))
 
-      by_symbol : (o : Option Declaration) → symbol y name ≡ o → is_unbound bound (meaning_of s name) ≡ is_variable y name && is_unbound bound (meaning_of s name)
+      by_symbol : (o : Option Declaration) → symbol y name ≡ o → is_unbound bound (meaning_of s name) ≡ is_variable y name && is_unbound bound
+          (meaning_of s name)
       by_symbol (Some d) e =
           let f = meaning-symbol y s h name d e in
           ap (is_unbound bound) f.4 ∙ sym (ap (λ b. b && is_unbound bound (meaning_of s name)) (no_variable distinct name d e))
@@ -181,7 +194,8 @@ same_numbers ws a b j k e f = by_bytes (bytes_eq a b) refl
     by_bytes false is = by_number (nat_eq j k) refl is
 
 -- so sorts are compared by their numbers
-pub option_eq-numbers : (ws : List Word) (o p : Option (List ℕ)) → IsKnown ws o → IsKnown ws p → option_eq nat_eq (option_and_then (first_at ws) o) (option_and_then (first_at ws) p) ≡ same_sort o p
+pub option_eq-numbers : (ws : List Word) (o p : Option (List ℕ)) → IsKnown ws o → IsKnown ws p
+    → option_eq nat_eq (option_and_then (first_at ws) o) (option_and_then (first_at ws) p) ≡ same_sort o p
 option_eq-numbers ws None None h k = refl
 option_eq-numbers ws None (Some b) h k = let n = number_known ws b k in ap (λ q. option_eq nat_eq None q) n.1
 option_eq-numbers ws (Some a) None h k = let m = number_known ws a h in ap (λ q. option_eq nat_eq q None) m.1
@@ -201,11 +215,14 @@ known_rest : (sorts xs ys : List Word) → AreKnown sorts (xs ++ ys) → AreKnow
 known_rest sorts [] ys h = h
 known_rest sorts (x ∷ xs) ys h = known_rest sorts xs ys h.1
 
-known_symbol : (sorts : List Word) (ds : List Declaration) (name : List ℕ) (d : Declaration) → AreKnown sorts (flat_map sorts_of ds) → declared ds name ≡ Some d → AreKnown sorts (sorts_of d)
+known_symbol : (sorts : List Word) (ds : List Declaration) (name : List ℕ) (d : Declaration) → AreKnown sorts (flat_map sorts_of ds)
+    → declared ds name ≡ Some d → AreKnown sorts (sorts_of d)
 known_symbol sorts [] name d h e = absurd (cc e)
-known_symbol sorts (c ∷ ds) name d h e = by_test (bytes_eq c.name.bytes name) e (λ k. known_symbol sorts ds name d (known_rest sorts (sorts_of c) (flat_map sorts_of ds) h) k)
+known_symbol sorts (c ∷ ds) name d h e = by_test (bytes_eq c.name.bytes name) e (λ k.
+    known_symbol sorts ds name d (known_rest sorts (sorts_of c) (flat_map sorts_of ds) h) k)
   where
-    by_test : (b : Bool) → ◌≡◌ {A = Option Declaration} (elim b [ true ↦ Some c | false ↦ declared ds name ]) (Some d) → (declared ds name ≡ Some d → AreKnown sorts (sorts_of d)) → AreKnown sorts (sorts_of d)
+    by_test : (b : Bool) → ◌≡◌ {A = Option Declaration} (elim b [ true ↦ Some c | false ↦ declared ds name ]) (Some d)
+        → (declared ds name ≡ Some d → AreKnown sorts (sorts_of d)) → AreKnown sorts (sorts_of d)
     by_test true k later = subst (λ x. AreKnown sorts (sorts_of x)) (some_same c d k) (known_first sorts (sorts_of c) (flat_map sorts_of ds) h)
     by_test false k later = later k
 
@@ -213,7 +230,8 @@ known_variable : (sorts : List Word) (vs : List Variables) (name : List ℕ) →
 known_variable sorts [] name h = tt
 known_variable sorts (v ∷ vs) name h = by_test (mentions (v.first ∷ v.others) name) (known_variable sorts vs name h.1)
   where
-    by_test : (b : Bool) → IsKnown sorts (variable_sort vs name) → IsKnown sorts (elim b as (λ _. Option (List ℕ)) [ true ↦ Some v.sort.bytes | false ↦ variable_sort vs name ])
+    by_test : (b : Bool) → IsKnown sorts (variable_sort vs name)
+        → IsKnown sorts (elim b as (λ _. Option (List ℕ)) [ true ↦ Some v.sort.bytes | false ↦ variable_sort vs name ])
     by_test true later = h.0
     by_test false later = later
 
@@ -223,16 +241,19 @@ module _ (y : Spec) (kept : unknown_sorts y ≡ []) where
 
   -- the sorts of a symbol are declared
   pub sorts_known : (name : List ℕ) (d : Declaration) → symbol y name ≡ Some d → AreKnown y.sorts (sorts_of d)
-  sorts_known name d e = known_symbol y.sorts (symbols y) name d (known_first y.sorts (flat_map sorts_of (symbols y)) (map (λ v. v.sort) y.variables) all_known) e
+  sorts_known name d e = known_symbol y.sorts (symbols y) name d
+      (known_first y.sorts (flat_map sorts_of (symbols y)) (map (λ v. v.sort) y.variables) all_known) e
 
   -- so are those of its arguments
   pub arguments_known : (name : List ℕ) (d : Declaration) → symbol y name ≡ Some d → AreKnown y.sorts d.arguments
   arguments_known name d e = known_first y.sorts d.arguments (d.sort ∷ []) (sorts_known name d e)
 
   -- the sort of a name is declared
-  pub sort_known : (name : List ℕ) → IsKnown y.sorts (elim (symbol y name) as (λ _. Option (List ℕ)) [ Some d ↦ Some d.sort.bytes | None ↦ variable_sort y.variables name ])
+  pub sort_known : (name : List ℕ)
+      → IsKnown y.sorts (elim (symbol y name) as (λ _. Option (List ℕ)) [ Some d ↦ Some d.sort.bytes | None ↦ variable_sort y.variables name ])
   sort_known name = by_symbol (symbol y name) refl
     where
-      by_symbol : (o : Option Declaration) → symbol y name ≡ o → IsKnown y.sorts (elim o as (λ _. Option (List ℕ)) [ Some d ↦ Some d.sort.bytes | None ↦ variable_sort y.variables name ])
+      by_symbol : (o : Option Declaration) → symbol y name ≡ o → IsKnown y.sorts
+          (elim o as (λ _. Option (List ℕ)) [ Some d ↦ Some d.sort.bytes | None ↦ variable_sort y.variables name ])
       by_symbol (Some d) e = (known_rest y.sorts d.arguments (d.sort ∷ []) (sorts_known name d e)).0
       by_symbol None e = known_variable y.sorts y.variables name (known_rest y.sorts (flat_map sorts_of (symbols y)) (map (λ v. v.sort) y.variables) all_known)

@@ -14,7 +14,8 @@ use Rattle.rec_sorts.specs.Least.{earlier, least_of, least_place, place_where}
 use Rattle.rec_sorts.specs.Names.{first_at}
 use Rattle.rec_sorts.specs.Scope.{meaning_of}
 use Rattle.rec_sorts.specs.Letters.{placed_by, letter_of, bare, unknown_among}
-use Rattle.rec_sorts.specs.Reading.{letters_of, binds_variable, condition_places, conditions_places, rule_places, rules_places, open_term_places, open_terms_places, SpellsTerm, SpellsCondition, SpellsRule}
+use Rattle.rec_sorts.specs.Reading.{letters_of, binds_variable, condition_places, conditions_places, rule_places, rules_places}
+use Rattle.rec_sorts.specs.Reading.{open_term_places, open_terms_places, SpellsTerm, SpellsCondition, SpellsRule}
 use Rattle.rec_sorts.specs.Numbering.{IsMeaning, name_of, Named, named, named_all, named_by, AreLetters, Pairwise, IsLetterCondition, IsLetterRule}
 use Rattle.rec_sorts.specs.Agreeing.{IsScope}
 use Rattle.rec_sorts.specs.declared.letters.Letter.{Letter}
@@ -63,7 +64,8 @@ none_each : {X : Type 0} (f : X → Option ℕ) (xs : List X) → least_of f xs 
 none_each f [] e = tt
 none_each f (x ∷ xs) e = let b = both_none (f x) (least_of f xs) e in (b.0, none_each f xs b.1)
 
-pair_each : {X Y : Type 0} (P R : X → Y → Type 0) (Q : Y → Type 0) → ((x : X) (y : Y) → P x y → Q y → R x y) → (xs : List X) (ys : List Y) → Pairwise P xs ys → Every Q ys → Pairwise R xs ys
+pair_each : {X Y : Type 0} (P R : X → Y → Type 0) (Q : Y → Type 0) → ((x : X) (y : Y) → P x y → Q y → R x y) → (xs : List X) (ys : List Y)
+    → Pairwise P xs ys → Every Q ys → Pairwise R xs ys
 pair_each P R Q f [] [] h k = tt
 pair_each P R Q f (x ∷ xs) (y ∷ ys) h k = (f x y h.0 k.0, pair_each P R Q f xs ys h.1 k.1)
 pair_each P R Q f [] (y ∷ ys) h k = absurd h
@@ -90,13 +92,15 @@ module _ (y : Spec) (s : Scope) (h : IsScope y s) where
       by_symbol (Some d) e =
           let f = meaning-symbol y s h name d e in
           let n = first_at-number (names (symbols y) ++ variable_words y.variables) name f.0 f.2 in
-          let long : length (map (λ (w : Word). w.bytes) (names (symbols y))) ≡ length (symbols y) = length-map (names (symbols y)) (λ (w : Word). w.bytes) ∙ length-map (symbols y) (λ d. d.name) in
+          let long : length (map (λ (w : Word). w.bytes) (names (symbols y))) ≡ length (symbols y) =
+          length-map (names (symbols y)) (λ (w : Word). w.bytes) ∙ length-map (symbols y) (λ d. d.name) in
           record {
             meaning = Symbol f.0;
             stands = f.4;
             there = f.1;
             named_so =
-                sym (get_or_append_left (map (λ (w : Word). w.bytes) (names (symbols y))) (map (λ (w : Word). w.bytes) (variable_words y.variables)) [] f.0 (omega (arith, f.1, long)))
+                sym (get_or_append_left (map (λ (w : Word). w.bytes) (names (symbols y))) (map (λ (w : Word). w.bytes) (variable_words y.variables))
+                [] f.0 (omega (arith, f.1, long)))
                 ∙ ap (λ (ns : List (List ℕ)). get_or ns f.0 []) (sym (map-append (λ (w : Word). w.bytes) (names (symbols y)) (variable_words y.variables)))
                 ∙ n.there;
           }
@@ -126,7 +130,8 @@ module _ (y : Spec) (s : Scope) (h : IsScope y s) where
       let all = letters_each (flat t) (known_each (flat t) known) in
       subst (λ (xs : List Letter). AreLetters y xs t) (sym e) (all.0, all.1 ∙ named-flat t)
 
-  is_letter_condition : (bound : ℕ → Bool) (l : LetterCondition) (c : Condition) → SpellsCondition s l c → (condition_places s bound c).unknown ≡ None → IsLetterCondition y l c
+  is_letter_condition : (bound : ℕ → Bool) (l : LetterCondition) (c : Condition) → SpellsCondition s l c → (condition_places s bound c).unknown ≡ None
+      → IsLetterCondition y l c
   is_letter_condition bound l c e known =
       let both = both_none (earlier (unknown_among (letters_of s c.left)) (unknown_among (letters_of s c.right))) None known in
       let b = both_none (unknown_among (letters_of s c.left)) (unknown_among (letters_of s c.right)) both.0 in
@@ -135,13 +140,16 @@ module _ (y : Spec) (s : Scope) (h : IsScope y s) where
   is_letter_rule : (l : LetterRule) (r : Rule) → SpellsRule s l r → (rule_places s r).unknown ≡ None → IsLetterRule y l r
   is_letter_rule l r e known =
       let bound = binds_variable (letters_of s r.left) in
-      let a = both_none (earlier (earlier (unknown_among (letters_of s r.left)) (unknown_among (letters_of s r.right))) None) (conditions_places s bound r.conditions).unknown known in
+      let a = both_none (earlier (earlier (unknown_among (letters_of s r.left)) (unknown_among (letters_of s r.right))) None)
+      (conditions_places s bound r.conditions).unknown known in
       let both = both_none (earlier (unknown_among (letters_of s r.left)) (unknown_among (letters_of s r.right))) None a.0 in
       let b = both_none (unknown_among (letters_of s r.left)) (unknown_among (letters_of s r.right)) both.0 in
-      let c = none_each (λ (c : Condition). (condition_places s bound c).unknown) r.conditions (sym (field-over (λ p. p.unknown) (λ p q. refl) refl (condition_places s bound) r.conditions) ∙ a.1) in (
+      let c = none_each (λ (c : Condition). (condition_places s bound c).unknown) r.conditions
+      (sym (field-over (λ p. p.unknown) (λ p q. refl) refl (condition_places s bound) r.conditions) ∙ a.1) in (
         are_letters l.left.items r.left e.0 b.0,
         are_letters l.right.items r.right e.1 b.1,
-        pair_each (SpellsCondition s) (IsLetterCondition y) (λ c. (condition_places s bound c).unknown ≡ None) (is_letter_condition bound) l.conditions.items r.conditions e.2 c,
+        pair_each (SpellsCondition s) (IsLetterCondition y) (λ c. (condition_places s bound c).unknown ≡ None) (is_letter_condition bound)
+            l.conditions.items r.conditions e.2 c,
       )
 
   module _ (kept : fault y ≡ None) where
@@ -154,11 +162,14 @@ module _ (y : Spec) (s : Scope) (h : IsScope y s) where
     pub rules-lettered : (ls : List LetterRule) → Pairwise (SpellsRule s) ls y.rules → Pairwise (IsLetterRule y) ls y.rules
     rules-lettered ls spelled =
         pair_each (SpellsRule s) (IsLetterRule y) (λ r. (rule_places s r).unknown ≡ None) is_letter_rule ls y.rules spelled
-        (none_each (λ (r : Rule). (rule_places s r).unknown) y.rules (sym (field-over (λ p. p.unknown) (λ p q. refl) refl (rule_places s) y.rules) ∙ all_known.0))
+        (none_each (λ (r : Rule). (rule_places s r).unknown) y.rules
+        (sym (field-over (λ p. p.unknown) (λ p q. refl) refl (rule_places s) y.rules) ∙ all_known.0))
 
     -- the letters of the terms to evaluate
-    pub terms-lettered : {V : Type 0} (items : V → List Letter) (ls : List V) → Pairwise (λ v t. SpellsTerm s (items v) t) ls y.terms → Pairwise (λ v t. AreLetters y (items v) t) ls y.terms
+    pub terms-lettered : {V : Type 0} (items : V → List Letter) (ls : List V) → Pairwise (λ v t. SpellsTerm s (items v) t) ls y.terms
+        → Pairwise (λ v t. AreLetters y (items v) t) ls y.terms
     terms-lettered items ls spelled =
         pair_each (λ v t. SpellsTerm s (items v) t) (λ v t. AreLetters y (items v) t) (λ t. (open_term_places s t).unknown ≡ None)
         (λ v t e known. are_letters (items v) t e (both_none (unknown_among (letters_of s t)) None known).0) ls y.terms spelled
-        (none_each (λ (t : Term). (open_term_places s t).unknown) y.terms (sym (field-over (λ p. p.unknown) (λ p q. refl) refl (open_term_places s) y.terms) ∙ all_known.1))
+        (none_each (λ (t : Term). (open_term_places s t).unknown) y.terms
+        (sym (field-over (λ p. p.unknown) (λ p q. refl) refl (open_term_places s) y.terms) ∙ all_known.1))

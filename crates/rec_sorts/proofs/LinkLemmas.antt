@@ -37,7 +37,8 @@ module _ (ss ss' : List bank.Symbol) (n : ℕ) (s : bank.Symbol) (counted : leng
   last k d e = ap (λ xs. get_or xs k d) split ∙ ap (λ j. get_or (ss ++ s ∷ []) j d) (omega (arith, counted, e)) ∙ get_or-append_seam ss s [] d
 
 -- no two symbols have one name
-pub symbols_differ : (y : Spec) → fault y ≡ None → (k j : ℕ) → k < length (symbols y) → j < length (symbols y) → name_of y (Symbol k) ≡ name_of y (Symbol j) → k ≡ j
+pub symbols_differ : (y : Spec) → fault y ≡ None → (k j : ℕ) → k < length (symbols y) → j < length (symbols y)
+    → name_of y (Symbol k) ≡ name_of y (Symbol j) → k ≡ j
 symbols_differ y kept k j hk hj same = differ [] (names (symbols y)) (all_kept (all_rules y) kept).1.0 k j (rw length-map hk) (rw length-map hj) same
 
 more-symbols : {old now new : Store} {g : Signature} {s : bank.Symbol} → HasMoreSymbols old now → Adds now new g s → HasMoreSymbols old new
@@ -50,10 +51,12 @@ more-symbols same adds = record {
 }
 
 -- what was added, where it was not kept, changes no more than that
-pub has-more : (y : Spec) (old now new : Store) (ss : List bank.Symbol) (n : ℕ) (g : Signature) (s : bank.Symbol) → LinkedSoFar y old now ss n → Adds now new g s → HasMoreSymbols old new
+pub has-more : (y : Spec) (old now new : Store) (ss : List bank.Symbol) (n : ℕ) (g : Signature) (s : bank.Symbol) → LinkedSoFar y old now ss n
+    → Adds now new g s → HasMoreSymbols old new
 has-more y old now new ss n g s so adds = more-symbols so.same adds
 
-pub linked-next : (y : Spec) (old now new : Store) (ss ss' : List bank.Symbol) (n : ℕ) (g : Signature) (s : bank.Symbol) → LinkedSoFar y old now ss n → n < length (symbols y) → Adds now new g s → g ≡ signature y n → ss' ≡ ss ++ s ∷ []
+pub linked-next : (y : Spec) (old now new : Store) (ss ss' : List bank.Symbol) (n : ℕ) (g : Signature) (s : bank.Symbol) → LinkedSoFar y old now ss n
+    → n < length (symbols y) → Adds now new g s → g ≡ signature y n → ss' ≡ ss ++ s ∷ []
     → LinkedSoFar y old new ss' (n + 1)
 linked-next y old now new ss ss' n g s so lt adds is split = record {
   counted = one_longer ss ss' n s so.counted split;
@@ -64,7 +67,8 @@ linked-next y old now new ss ss' n g s so lt adds is split = record {
   where
     by_place : (k : ℕ) (d : bank.Symbol) → (k ≡ n) ⊎ (k ≢ n) → k < n + 1 → signature_of new (get_or ss' k d) ≡ Some (signature y k)
     by_place k d (inl e) h = ap (signature_of new) (last ss ss' n s so.counted split k d e) ∙ adds.added ∙ ap Some is ∙ ap (λ j. Some (signature y j)) (sym e)
-    by_place k d (inr ne) h = let below : k < n = omega (arith, h, ne) in ap (signature_of new) (front ss ss' n s so.counted split k d below) ∙ kept-Adds adds (get_or ss k d) (signature y k) (so.linked k d below)
+    by_place k d (inr ne) h = let below : k < n = omega (arith, h, ne) in
+        ap (signature_of new) (front ss ss' n s so.counted split k d below) ∙ kept-Adds adds (get_or ss k d) (signature y k) (so.linked k d below)
 
 -- no two of a specification's symbols in a bank are one
 pub linked-differ : (y : Spec) (old now : Store) (ss : List bank.Symbol) (n : ℕ) → fault y ≡ None → LinkedSoFar y old now ss n → AllDiffer ss
@@ -82,7 +86,8 @@ linked-differ y old now ss n kept so i j d hi hj e =
     name_or None = []
 
 -- one more symbol, which is none of the others, has the next number
-numbers-push : (ss ss' : List bank.Symbol) (numbers numbers' : ℕ → Option ℕ) (n : ℕ) (s : bank.Symbol) → length ss ≡ n → NumbersOf ss numbers → ((k : ℕ) → k < n → get_or ss k s ≡ s → ⊥) → ss' ≡ ss ++ s ∷ []
+numbers-push : (ss ss' : List bank.Symbol) (numbers numbers' : ℕ → Option ℕ) (n : ℕ) (s : bank.Symbol) → length ss ≡ n → NumbersOf ss numbers
+    → ((k : ℕ) → k < n → get_or ss k s ≡ s → ⊥) → ss' ≡ ss ++ s ∷ []
     → numbers' s.0 ≡ Some n → ((q : ℕ) → nat_eq s.0 q ≡ false → numbers' q ≡ numbers q) → NumbersOf ss' numbers'
 numbers-push ss ss' numbers numbers' n s counted numbered fresh split here others t = by_symbol t (cases_eq s.0 t.0)
   where
@@ -129,10 +134,12 @@ numbers-push ss ss' numbers numbers' n s counted numbered fresh split here other
             o ∙ (numbered t).each k (omega (arith, below, counted)) (sym (front ss ss' n s counted split k t below) ∙ f)
 
 -- the symbol at the next place gets this as its number
-pub numbers-next : (ss : List bank.Symbol) (numbers numbers' : ℕ → Option ℕ) (i : ℕ) (s : bank.Symbol) → AllDiffer ss → i < length ss → s ≡ get_or ss i s → NumbersOf (take i ss) numbers
+pub numbers-next : (ss : List bank.Symbol) (numbers numbers' : ℕ → Option ℕ) (i : ℕ) (s : bank.Symbol) → AllDiffer ss → i < length ss
+    → s ≡ get_or ss i s → NumbersOf (take i ss) numbers
     → numbers' s.0 ≡ Some i → ((q : ℕ) → nat_eq s.0 q ≡ false → numbers' q ≡ numbers q) → NumbersOf (take (i + 1) ss) numbers'
 numbers-next ss numbers numbers' i s differ lt is numbered here others =
-    numbers-push (take i ss) (take (i + 1) ss) numbers numbers' i s (length-take-le i ss (omega (arith, lt))) numbered fresh (take_more ss i s lt ∙ ap (λ x. take i ss ++ x ∷ []) (sym is)) here others
+    numbers-push (take i ss) (take (i + 1) ss) numbers numbers' i s (length-take-le i ss (omega (arith, lt))) numbered fresh
+    (take_more ss i s lt ∙ ap (λ x. take i ss ++ x ∷ []) (sym is)) here others
   where
     fresh : (k : ℕ) → k < i → get_or (take i ss) k s ≡ s → ⊥
     fresh k h e =

@@ -2,7 +2,8 @@
 use Rattle.std.proofs.Common.{refl, sym, ap, subst, ◌∙◌, arith}
 use Rattle.std.proofs.lemmas.Bool.{false≢true, lt-ltb, le-ltb}
 use Rattle.std.proofs.lemmas.List.{length-map, get_or-map, get_or_append_left, get_or-append-add}
-use Rattle.std.specs.Prelude.{ℕ, ◌≡◌, ◌+◌, ◌-◌, ◌<◌, Bool, true, false, not, ◌||◌, List, [], ◌∷◌, ◌++◌, Option, Some, None, suc, length, map, get_or, bytes_eq, cond, is_some, is_none}
+use Rattle.std.specs.Prelude.{ℕ, ◌≡◌, ◌+◌, ◌-◌, ◌<◌, Bool, true, false, not, ◌||◌, List, [], ◌∷◌, ◌++◌, Option}
+use Rattle.std.specs.Prelude.{Some, None, suc, length, map, get_or, bytes_eq, cond, is_some, is_none}
 use Rattle.std.specs.Option.{option_map, option_and_then}
 use Rattle.rec_syntax.specs.Tokens.{Word}
 use Rattle.rec_syntax.specs.Syntax.{Declaration, Variables, Spec}
@@ -52,11 +53,17 @@ pub first_at-among : (ws us : List Word) (name : List ℕ) → mentions ws name 
 first_at-among [] us name e = absurd (false≢true e)
 first_at-among (w ∷ ws) us name e = by_test (bytes_eq w.bytes name) refl e (λ h. first_at-among ws us name h)
   where
-    by_test : (b : Bool) → bytes_eq w.bytes name ≡ b → b || mentions ws name ≡ true → (mentions ws name ≡ true → IsAmongFirst ws us name) → IsAmongFirst (w ∷ ws) us name
+    by_test : (b : Bool) → bytes_eq w.bytes name ≡ b → b || mentions ws name ≡ true → (mentions ws name ≡ true → IsAmongFirst ws us name)
+        → IsAmongFirst (w ∷ ws) us name
     by_test true is e later = record { place = 0; found = ap (λ b. at_test b (first_at (ws ++ us) name)) is; within = omega arith }
     by_test false is e later =
         let h : IsAmongFirst ws us name = later e in
-        record { place = suc h.place; found = ap (λ b. at_test b (first_at (ws ++ us) name)) is ∙ ap (option_map suc) h.found; within = omega (arith, h.within) }
+        record {
+          place = suc h.place;
+          found = ap (λ b. at_test b (first_at (ws ++ us) name)) is ∙ ap (option_map suc) h.found;
+          within =
+              omega (arith, h.within);
+        }
 
 -- a symbol that is declared has a number, at which its declaration stands
 pub record IsDeclaredAt (ds : List Declaration) (us : List Word) (name : List ℕ) (d : Declaration) : Type 0 where
@@ -79,17 +86,31 @@ pub declared-at : (ds : List Declaration) (us : List Word) (name : List ℕ) (d 
 declared-at [] us name d e = absurd (cc e)
 declared-at (c ∷ ds) us name d e = by_test (bytes_eq c.name.bytes name) refl e (λ h. declared-at ds us name d h)
   where
-    by_test : (b : Bool) → bytes_eq c.name.bytes name ≡ b → declared_test b c (declared ds name) ≡ Some d → (declared ds name ≡ Some d → IsDeclaredAt ds us name d) → IsDeclaredAt (c ∷ ds) us name d
-    by_test true is e later = record { place = 0; found = ap (λ b. at_test b (first_at (names ds ++ us) name)) is; within = omega arith; there = some_same c d e }
+    by_test : (b : Bool) → bytes_eq c.name.bytes name ≡ b → declared_test b c (declared ds name) ≡ Some d
+        → (declared ds name ≡ Some d → IsDeclaredAt ds us name d) → IsDeclaredAt (c ∷ ds) us name d
+    by_test true is e later = record {
+      place = 0;
+      found = ap (λ b. at_test b (first_at (names ds ++ us) name)) is;
+      within = omega arith;
+      there =
+          some_same c d e;
+    }
     by_test false is e later =
         let h : IsDeclaredAt ds us name d = later e in
-        record { place = suc h.place; found = ap (λ b. at_test b (first_at (names ds ++ us) name)) is ∙ ap (option_map suc) h.found; within = omega (arith, h.within); there = h.there }
+        record {
+          place = suc h.place;
+          found = ap (λ b. at_test b (first_at (names ds ++ us) name)) is ∙ ap (option_map suc) h.found;
+          within =
+              omega (arith, h.within);
+          there = h.there;
+        }
 
 pub mentions-declared : (ds : List Declaration) (name : List ℕ) → mentions (names ds) name ≡ is_some (declared ds name)
 mentions-declared [] name = refl
 mentions-declared (d ∷ ds) name = by_test (bytes_eq d.name.bytes name) (mentions-declared ds name)
   where
-    by_test : (b : Bool) → mentions (names ds) name ≡ is_some (declared ds name) → b || mentions (names ds) name ≡ is_some (declared_test b d (declared ds name))
+    by_test : (b : Bool) → mentions (names ds) name ≡ is_some (declared ds name)
+        → b || mentions (names ds) name ≡ is_some (declared_test b d (declared ds name))
     by_test true h = refl
     by_test false h = h
 
@@ -117,7 +138,8 @@ item_at-shifted xs rest n (Some k) e =
     ap (λ (j : ℕ). get_or (xs ++ rest) j None) moved ∙ get_or-append-add xs rest k None
 
 -- a variable's sort stands at its number
-item_at-variable : (g : Numbers) (vs : List Variables) (name : List ℕ) → item_at (variable_sorts g vs) (first_at (variable_words vs) name) ≡ option_and_then g (variable_sort vs name)
+item_at-variable : (g : Numbers) (vs : List Variables) (name : List ℕ)
+    → item_at (variable_sorts g vs) (first_at (variable_words vs) name) ≡ option_and_then g (variable_sort vs name)
 item_at-variable g [] name = refl
 item_at-variable g (v ∷ vs) name = by_test (mentions (v.first ∷ v.others) name) refl (item_at-variable g vs name)
   where
@@ -127,18 +149,21 @@ item_at-variable g (v ∷ vs) name = by_test (mentions (v.first ∷ v.others) na
     sorts : List (Option ℕ)
     sorts = map (λ _. g v.sort.bytes) (v.first ∷ v.others)
 
-    by_test : (b : Bool) → mentions (v.first ∷ v.others) name ≡ b → item_at (variable_sorts g vs) (first_at (variable_words vs) name) ≡ option_and_then g (variable_sort vs name)
+    by_test : (b : Bool) → mentions (v.first ∷ v.others) name ≡ b
+        → item_at (variable_sorts g vs) (first_at (variable_words vs) name) ≡ option_and_then g (variable_sort vs name)
         → item_at (map (λ _. g v.sort.bytes) (v.first ∷ v.others) ++ variable_sorts g vs) (first_at ((v.first ∷ v.others) ++ variable_words vs) name)
         ≡ option_and_then g (elim b as (λ _. Option (List ℕ)) [ true ↦ Some v.sort.bytes | false ↦ variable_sort vs name ])
     by_test true is h =
         let f = first_at-among (v.first ∷ v.others) (variable_words vs) name is in
-        let long : length (map (λ (w : Word). g v.sort.bytes) (v.first ∷ v.others)) ≡ length (v.first ∷ v.others) = length-map (v.first ∷ v.others) (λ (w : Word). g v.sort.bytes) in
+        let long : length (map (λ (w : Word). g v.sort.bytes) (v.first ∷ v.others)) ≡ length (v.first ∷ v.others) =
+        length-map (v.first ∷ v.others) (λ (w : Word). g v.sort.bytes) in
         ap (item_at (map (λ _. g v.sort.bytes) (v.first ∷ v.others) ++ variable_sorts g vs)) f.found
         ∙ get_or_append_left (map (λ (w : Word). g v.sort.bytes) (v.first ∷ v.others)) (variable_sorts g vs) None f.place (omega (arith, f.within, long))
         ∙ get_or-map (λ (w : Word). g v.sort.bytes) (v.first ∷ v.others) f.place v.first None f.within
     by_test false is h =
         ap (item_at (map (λ _. g v.sort.bytes) (v.first ∷ v.others) ++ variable_sorts g vs)) (first_at-after (v.first ∷ v.others) (variable_words vs) name is)
-        ∙ item_at-shifted (map (λ (w : Word). g v.sort.bytes) (v.first ∷ v.others)) (variable_sorts g vs) (length (v.first ∷ v.others)) (first_at (variable_words vs) name) (length-map (v.first ∷ v.others) (λ (w : Word). g v.sort.bytes))
+        ∙ item_at-shifted (map (λ (w : Word). g v.sort.bytes) (v.first ∷ v.others)) (variable_sorts g vs) (length (v.first ∷ v.others))
+        (first_at (variable_words vs) name) (length-map (v.first ∷ v.others) (λ (w : Word). g v.sort.bytes))
         ∙ h
 
 -- the word at a name's number has that name
@@ -179,10 +204,17 @@ module _ (y : Spec) (s : Scope) (h : IsScope y s) where
       ∙ ap (λ (n : ℕ). option_map (numbered n) (first_at words name)) h.symbols_counted
 
   -- a name that is declared as a symbol stands for it
-  pub meaning-symbol : (name : List ℕ) (d : Declaration) → symbol y name ≡ Some d → (k : ℕ) × (k < length (symbols y)) × (first_at words name ≡ Some k) × (get_or (symbols y) k d ≡ d) × (meaning_of s name ≡ Some (Symbol k))
+  pub meaning-symbol : (name : List ℕ) (d : Declaration) → symbol y name ≡ Some d
+      → (k : ℕ) × (k < length (symbols y)) × (first_at words name ≡ Some k) × (get_or (symbols y) k d ≡ d) × (meaning_of s name ≡ Some (Symbol k))
   meaning-symbol name d e =
-      let f = declared-at (symbols y) (variable_words y.variables) name d e in
-      (f.place, f.within, f.found, f.there, meaning-numbers name ∙ ap meaning_by f.found ∙ ap (λ (m : Meaning). Some m) (numbered-symbol (length (symbols y)) f.place f.within))
+      let f = declared-at (symbols y) (variable_words y.variables) name d e in (
+        f.place,
+        f.within,
+        f.found,
+        f.there,
+        meaning-numbers name ∙ ap meaning_by f.found
+            ∙ ap (λ (m : Meaning). Some m) (numbered-symbol (length (symbols y)) f.place f.within),
+      )
 
   -- another name stands for a variable, if it is one
   pub meaning-variable : (name : List ℕ) → symbol y name ≡ None → meaning_of s name ≡ option_map (λ k. Variable k) (first_at (variable_words y.variables) name)

@@ -20,13 +20,16 @@ unfolding Eval EvalAll Call Try Holds
 eval_variable y n s w ts v e = meets y n s (Apply w ts) ∙ ap (at_word y n s w ts) e
 
 -- an application evaluates its arguments, and then calls its head on their values
-pub eval_application : (y : Spec) (n : ℕ) (s : Substitution) (w : Word) (ts : Terms) (vs : Trees) (left : ℕ) → value_of s w.bytes ≡ None → EvalAll y n s ts ≡ Done vs left
+pub eval_application : (y : Spec) (n : ℕ) (s : Substitution) (w : Word) (ts : Terms) (vs : Trees) (left : ℕ) → value_of s w.bytes ≡ None
+    → EvalAll y n s ts ≡ Done vs left
     → Eval y n s (Apply w ts) ≡ Call y left (application w.bytes vs)
 unfolding Eval EvalAll Call Try Holds
-eval_application y n s w ts vs left e all = meets y n s (Apply w ts) ∙ ap (at_word y n s w ts) e ∙ ap (λ o. o then λ vs left. Call y left (application w.bytes vs)) all
+eval_application y n s w ts vs left e all = meets y n s (Apply w ts) ∙ ap (at_word y n s w ts) e
+    ∙ ap (λ o. o then λ vs left. Call y left (application w.bytes vs)) all
 
 -- over the limit in an argument is over the limit
-pub eval_over : (y : Spec) (n : ℕ) (s : Substitution) (w : Word) (ts : Terms) → value_of s w.bytes ≡ None → EvalAll y n s ts ≡ Over → Eval y n s (Apply w ts) ≡ Over
+pub eval_over : (y : Spec) (n : ℕ) (s : Substitution) (w : Word) (ts : Terms) → value_of s w.bytes ≡ None → EvalAll y n s ts ≡ Over
+    → Eval y n s (Apply w ts) ≡ Over
 unfolding Eval EvalAll Call Try Holds
 eval_over y n s w ts e all = meets y n s (Apply w ts) ∙ ap (at_word y n s w ts) e ∙ ap (λ o. o then λ vs left. Call y left (application w.bytes vs)) all
 
@@ -39,7 +42,8 @@ abbrev pub all_then : Spec → Substitution → Terms → Outcome Tree → Outco
 all_then y s ts o = o then λ v left. EvalAll y left s ts then λ vs rest. Done (more v vs) rest
 
 -- each argument has what the one before left
-pub all_more : (y : Spec) (n : ℕ) (s : Substitution) (t : Term) (ts : Terms) (v : Tree) (left : ℕ) (vs : Trees) (rest : ℕ) → Eval y n s t ≡ Done v left → EvalAll y left s ts ≡ Done vs rest
+pub all_more : (y : Spec) (n : ℕ) (s : Substitution) (t : Term) (ts : Terms) (v : Tree) (left : ℕ) (vs : Trees) (rest : ℕ)
+    → Eval y n s t ≡ Done v left → EvalAll y left s ts ≡ Done vs rest
     → EvalAll y n s (Terms.more t ts) ≡ Done (more v vs) rest
 unfolding Eval EvalAll Call Try Holds
 all_more y n s t ts v left vs rest e e2 = ap (all_then y s ts) (sym (meets y n s t) ∙ e) ∙ ap (λ o. o then λ vs rest. Done (more v vs) rest) e2
@@ -48,7 +52,8 @@ pub all_over_first : (y : Spec) (n : ℕ) (s : Substitution) (t : Term) (ts : Te
 unfolding Eval EvalAll Call Try Holds
 all_over_first y n s t ts e = ap (all_then y s ts) (sym (meets y n s t) ∙ e)
 
-pub all_over_later : (y : Spec) (n : ℕ) (s : Substitution) (t : Term) (ts : Terms) (v : Tree) (left : ℕ) → Eval y n s t ≡ Done v left → EvalAll y left s ts ≡ Over → EvalAll y n s (Terms.more t ts) ≡ Over
+pub all_over_later : (y : Spec) (n : ℕ) (s : Substitution) (t : Term) (ts : Terms) (v : Tree) (left : ℕ) → Eval y n s t ≡ Done v left
+    → EvalAll y left s ts ≡ Over → EvalAll y n s (Terms.more t ts) ≡ Over
 unfolding Eval EvalAll Call Try Holds
 all_over_later y n s t ts v left e e2 = ap (all_then y s ts) (sym (meets y n s t) ∙ e) ∙ ap (λ o. o then λ vs rest. Done (more v vs) rest) e2
 
@@ -88,13 +93,15 @@ unfolding Eval EvalAll Call Try Holds
 try_nothing_left y r rs u s e = ap (at_rule y r rs zero u) e
 
 -- a rule that matches spends a step; where its conditions hold, its right side is evaluated
-pub try_fires : (y : Spec) (r : Rule) (rs : List Rule) (n : ℕ) (u : Tree) (s : Substitution) (left : ℕ) → binds y r.left u ≡ Some s → Holds y n s r.conditions ≡ Done true left
+pub try_fires : (y : Spec) (r : Rule) (rs : List Rule) (n : ℕ) (u : Tree) (s : Substitution) (left : ℕ) → binds y r.left u ≡ Some s
+    → Holds y n s r.conditions ≡ Done true left
     → Try y (r ∷ rs) (suc n) u ≡ Eval y left s r.right
 unfolding Eval EvalAll Call Try Holds
 try_fires y r rs n u s left e h = ap (at_rule y r rs (suc n) u) e ∙ ap (at_conditions y r rs u s) h
 
 -- where they fail, the next rule has what they left
-pub try_fails : (y : Spec) (r : Rule) (rs : List Rule) (n : ℕ) (u : Tree) (s : Substitution) (left : ℕ) → binds y r.left u ≡ Some s → Holds y n s r.conditions ≡ Done false left
+pub try_fails : (y : Spec) (r : Rule) (rs : List Rule) (n : ℕ) (u : Tree) (s : Substitution) (left : ℕ) → binds y r.left u ≡ Some s
+    → Holds y n s r.conditions ≡ Done false left
     → Try y (r ∷ rs) (suc n) u ≡ Try y rs left u
 unfolding Eval EvalAll Call Try Holds
 try_fails y r rs n u s left e h = ap (at_rule y r rs (suc n) u) e ∙ ap (at_conditions y r rs u s) h
@@ -111,7 +118,8 @@ unfolding Eval EvalAll Call Try Holds
 holds_none y n s = refl
 
 abbrev pub after_left : Spec → Substitution → Condition → List Condition → Outcome Tree → Outcome Bool
-after_left y s c cs o = o then λ u left. Eval y left s c.right then λ v rest. elim (beq (tree_eq u v) c.equal) [ true ↦ Holds y rest s cs | false ↦ Done false rest ]
+after_left y s c cs o = o then λ u left. Eval y left s c.right then λ v rest.
+    elim (beq (tree_eq u v) c.equal) [ true ↦ Holds y rest s cs | false ↦ Done false rest ]
 
 abbrev pub after_right : Spec → Substitution → Condition → List Condition → Tree → Outcome Tree → Outcome Bool
 after_right y s c cs u o = o then λ v rest. elim (beq (tree_eq u v) c.equal) [ true ↦ Holds y rest s cs | false ↦ Done false rest ]
@@ -135,7 +143,8 @@ pub holds_over_left : (y : Spec) (n : ℕ) (s : Substitution) (c : Condition) (c
 unfolding Eval EvalAll Call Try Holds
 holds_over_left y n s c cs e1 = ap (after_left y s c cs) e1
 
-pub holds_over_right : (y : Spec) (n : ℕ) (s : Substitution) (c : Condition) (cs : List Condition) (u : Tree) (left : ℕ) → Eval y n s c.left ≡ Done u left → Eval y left s c.right ≡ Over → Holds y n s (c ∷ cs) ≡ Over
+pub holds_over_right : (y : Spec) (n : ℕ) (s : Substitution) (c : Condition) (cs : List Condition) (u : Tree) (left : ℕ)
+    → Eval y n s c.left ≡ Done u left → Eval y left s c.right ≡ Over → Holds y n s (c ∷ cs) ≡ Over
 unfolding Eval EvalAll Call Try Holds
 holds_over_right y n s c cs u left e1 e2 = ap (after_left y s c cs) e1 ∙ ap (after_right y s c cs u) e2
 

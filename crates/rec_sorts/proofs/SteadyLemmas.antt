@@ -6,7 +6,8 @@ use Rattle.std.specs.Bool.{beq}
 use Rattle.rx_term.specs.Tree.{Tree, none, more, tree_eq}
 use Rattle.rec_syntax.specs.Syntax.{Term, Terms, Apply, Condition, Rule, Spec}
 use Rattle.rec_sorts.specs.Binding.{Substitution, value_of, application, binds}
-use Rattle.rec_sorts.specs.Evaluation.{Outcome, Done, Over, ◌then◌, Evaluator, Caller, evaluate, evaluate_all, holds, spend, Match, first_rule, call, evaluate_within}
+use Rattle.rec_sorts.specs.Evaluation.{Outcome, Done, Over, ◌then◌, Evaluator, Caller, evaluate, evaluate_all}
+use Rattle.rec_sorts.specs.Evaluation.{holds, spend, Match, first_rule, call, evaluate_within}
 
 -- f answers a with exactly the cost c
 pub record Costs {A : Type 0} (f : ℕ → Outcome A) (a : A) (c : ℕ) : Type 0 where
@@ -123,7 +124,8 @@ steady_first_rule y eval se (r ∷ rs) u = by_match (binds y r.left u) (steady_f
     by_match None later = later
     by_match (Some s) later = steady_spend (λ left. holds eval left s r.conditions then after s)
         (steady_then (λ left. holds eval left s r.conditions) (after s) (steady_holds eval se s r.conditions)
-        (λ holding. steady_if holding (λ rest. Done (Some (record { rule = r; values = s })) rest) (λ rest. first_rule y eval rs rest u) (steady_done (Some (record { rule = r; values = s }))) later))
+        (λ holding. steady_if holding (λ rest. Done (Some (record { rule = r; values = s })) rest) (λ rest. first_rule y eval rs rest u)
+        (steady_done (Some (record { rule = r; values = s }))) later))
 
 -- a caller whose every answer has one cost
 abbrev pub SteadyCaller : Caller → Type 0
@@ -139,10 +141,12 @@ steady_call y eval se u = steady_then (λ n. first_rule y eval y.rules n u) afte
     by_found (Some m) = se m.values m.rule.right
     by_found None = steady_done u
 
-pub steady_head : (call : Caller) → SteadyCaller call → (s : Substitution) (name : List ℕ) (ts : Terms) (o : Option Tree) → Steady (λ n. evaluate_all call n s ts)
+pub steady_head : (call : Caller) → SteadyCaller call → (s : Substitution) (name : List ℕ) (ts : Terms) (o : Option Tree)
+    → Steady (λ n. evaluate_all call n s ts)
     → Steady (λ n. elim o [ Some v ↦ Done v n | None ↦ evaluate_all call n s ts then λ vs left. call left (application name vs) ])
 steady_head call sc s name ts (Some v) all = steady_done v
-steady_head call sc s name ts None all = steady_then (λ n. evaluate_all call n s ts) (λ vs left. call left (application name vs)) all (λ vs. sc (application name vs))
+steady_head call sc s name ts None all = steady_then (λ n. evaluate_all call n s ts) (λ vs left. call left (application name vs)) all (λ vs.
+    sc (application name vs))
 
 pub steady_more : (call : Caller) (s : Substitution) (t : Term) (ts : Terms) → Steady (λ n. evaluate call n s t) → Steady (λ n. evaluate_all call n s ts)
     → Steady (λ n. evaluate call n s t then λ v left. evaluate_all call left s ts then λ vs rest. Done (more v vs) rest)
@@ -159,4 +163,5 @@ mutual
 
 pub steady_within : (y : Spec) (depth : ℕ) → SteadyEvaluator (evaluate_within y depth)
 steady_within y zero s t = steady_over
-steady_within y (suc depth) s t = steady_evaluate (call y (λ m r u. evaluate_within y depth m r u)) (steady_call y (λ m r u. evaluate_within y depth m r u) (steady_within y depth)) s t
+steady_within y (suc depth) s t = steady_evaluate (call y (λ m r u. evaluate_within y depth m r u))
+    (steady_call y (λ m r u. evaluate_within y depth m r u) (steady_within y depth)) s t

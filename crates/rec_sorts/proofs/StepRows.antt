@@ -106,10 +106,12 @@ not_annotated : IsBuilt add (Appl (codes "z") false none (more z none)) → ⊥
 not_annotated h = absurd (cc h.2)
 
 -- a budget of the cost is enough, and one less is not
-with_the_cost : CostLaw → (y : Spec) (n : ℕ) (b : Substitution) (t : Term) (v : Tree) (left : ℕ) → Eval y n b t ≡ Done v left → Eval y (n - left) b t ≡ Done v ((n - left) - (n - left))
+with_the_cost : CostLaw → (y : Spec) (n : ℕ) (b : Substitution) (t : Term) (v : Tree) (left : ℕ) → Eval y n b t ≡ Done v left
+    → Eval y (n - left) b t ≡ Done v ((n - left) - (n - left))
 with_the_cost law y n b t v left e = (law y n b t v left e).1 (n - left) (omega arith)
 
-with_one_less : CostLaw → (y : Spec) (n m : ℕ) (b : Substitution) (t : Term) (v : Tree) (left : ℕ) → Eval y n b t ≡ Done v left → suc m ≡ n - left → Eval y m b t ≡ Over
+with_one_less : CostLaw → (y : Spec) (n m : ℕ) (b : Substitution) (t : Term) (v : Tree) (left : ℕ) → Eval y n b t ≡ Done v left → suc m ≡ n - left
+    → Eval y m b t ≡ Over
 with_one_less law y n m b t v left e k = (law y n b t v left e).2 m (omega arith)
 
 -- no rule fires below the head of a value
@@ -118,7 +120,8 @@ no_step_below : RewritingLaw → (y : Spec) → fault y ≡ None → (n m : ℕ)
 no_step_below law y kept n m t name below left e = ((law y kept n t _ left e).1 m).1.0
 
 -- where no rule has conditions, the value is as many steps away as were spent
-each_step_counts : RewritingLaw → (y : Spec) → fault y ≡ None → Unconditional y → (n : ℕ) (t : Term) (v : Tree) (left : ℕ) → Eval y n [] t ≡ Done v left → Steps y n (n - left) (tree_of t) v
+each_step_counts : RewritingLaw → (y : Spec) → fault y ≡ None → Unconditional y → (n : ℕ) (t : Term) (v : Tree) (left : ℕ)
+    → Eval y n [] t ≡ Done v left → Steps y n (n - left) (tree_of t) v
 each_step_counts law y kept h n t v left e =
     let l = (law y kept n t v left e).0 in
     subst (λ k. Steps y n k (tree_of t) v) (l.3 h) l.2

@@ -43,14 +43,16 @@ term_count-count (more t ts) = add-one (term_count ts) ∙ ap (λ (n : ℕ). suc
 
 mutual
   -- what a word and its number of arguments give is collected over the nodes as over the subterms
-  pub least_of-flat : (g : Word → ℕ → Option ℕ) (t : Term) → least_of (λ n. g n.word n.count) (flat t) ≡ least_of (λ u. g (head u) (count (arguments u))) (subterms t)
+  pub least_of-flat : (g : Word → ℕ → Option ℕ) (t : Term) → least_of (λ n. g n.word n.count) (flat t) ≡ least_of (λ u.
+      g (head u) (count (arguments u))) (subterms t)
   least_of-flat g (Apply w ts) =
       least_of-append (λ n. g n.word n.count) (flat_all ts) (record { word = w; count = term_count ts } ∷ [])
       ∙ earlier_comm (least_of (λ n. g n.word n.count) (flat_all ts)) (earlier (g w (term_count ts)) None)
       ∙ ap (λ p. earlier p (least_of (λ n. g n.word n.count) (flat_all ts))) (earlier_none (g w (term_count ts)) ∙ ap (g w) (term_count-count ts))
       ∙ ap (earlier (g w (count ts))) (least_of-flat_all g ts)
 
-  pub least_of-flat_all : (g : Word → ℕ → Option ℕ) (ts : Terms) → least_of (λ n. g n.word n.count) (flat_all ts) ≡ least_of (λ u. g (head u) (count (arguments u))) (subterms_all ts)
+  pub least_of-flat_all : (g : Word → ℕ → Option ℕ) (ts : Terms)
+      → least_of (λ n. g n.word n.count) (flat_all ts) ≡ least_of (λ u. g (head u) (count (arguments u))) (subterms_all ts)
   least_of-flat_all g none = refl
   least_of-flat_all g (more t ts) =
       least_of-append (λ n. g n.word n.count) (flat t) (flat_all ts)

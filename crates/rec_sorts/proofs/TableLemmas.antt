@@ -51,7 +51,8 @@ is_some-first_at (w ∷ ws) name = by_test (bytes_eq w.bytes name) (first_at ws 
 is_some-given_first : (g : Numbers) (name : List ℕ) (k : ℕ) (other : List ℕ) → is_some (given_first g name k other) ≡ bytes_eq name other || is_some (g other)
 is_some-given_first g name k other = by_test (g other) (bytes_eq name other)
   where
-    by_test : (o : Option ℕ) (b : Bool) → is_some (elim o as (λ _. Option ℕ) [ Some j ↦ Some j | None ↦ elim b [ true ↦ Some k | false ↦ None ] ]) ≡ b || is_some o
+    by_test : (o : Option ℕ) (b : Bool) → is_some (elim o as (λ _. Option ℕ) [ Some j ↦ Some j | None ↦ elim b [ true ↦ Some k | false ↦ None ] ]) ≡ b
+        || is_some o
     by_test None true = refl
     by_test None false = refl
     by_test (Some j) true = refl
@@ -73,10 +74,13 @@ least_repeated-repeated g next before (w ∷ ws) same =
     grown name = is_some-given_first g w.bytes next name ∙ ap (λ b. bytes_eq w.bytes name || b) (same name)
 
     Later : List Word → Type 0
-    Later b = ((name : List ℕ) → is_some (given_first g w.bytes next name) ≡ mentions b name) → least_repeated (given_first g w.bytes next) (suc next) ws ≡ least_place (repeated b ws)
+    Later b = ((name : List ℕ) → is_some (given_first g w.bytes next name) ≡ mentions b name)
+        → least_repeated (given_first g w.bytes next) (suc next) ws ≡ least_place (repeated b ws)
 
     by_test : (b : Bool) → mentions before w.bytes ≡ b → ((b : List Word) → Later b)
-        → earlier (place_where b w.at) (least_repeated (given_first g w.bytes next) (suc next) ws) ≡ least_place (elim b [ true ↦ w ∷ repeated before ws | false ↦ repeated (w ∷ before) ws ])
+        → earlier (place_where b w.at) (least_repeated (given_first g w.bytes next) (suc next) ws) ≡ least_place
+        (elim b [ true ↦ w ∷ repeated before ws | false ↦ repeated (w ∷ before) ws ])
     by_test true e later =
-        ap (earlier (Some w.at)) (later before (λ name. grown name ∙ or_true (bytes_eq w.bytes name) (mentions before name) (λ b. subst (λ n. mentions before n ≡ true) (bytes_eq-eq w.bytes name b) e)))
+        ap (earlier (Some w.at)) (later before (λ name. grown name ∙ or_true (bytes_eq w.bytes name) (mentions before name) (λ b.
+        subst (λ n. mentions before n ≡ true) (bytes_eq-eq w.bytes name b) e)))
     by_test false e later = later (w ∷ before) grown

@@ -27,7 +27,8 @@ part_held f w r part t here e = e ∙ ap (option_and_then f) here
 
 -- ---- the items of a list
 
-module _ (w : Store) (r first rest : Term) (h : HasCons w r) (at_first : tree_at w first ≡ part_at head_of w r) (at_rest : tree_at w rest ≡ part_at tail_of w r) where
+module _ (w : Store) (r first rest : Term) (h : HasCons w r) (at_first : tree_at w first ≡ part_at head_of w r)
+    (at_rest : tree_at w rest ≡ part_at tail_of w r) where
   pub first_there : tree_at w first ≡ Some h.first
   first_there = part_held head_of w r first (Items (more h.first h.rest) h.anns) h.here at_first
 
@@ -47,7 +48,8 @@ items_of-none w r (kind.Appl s) h n = let here = h.here in rw here refl
 items_of-none w r kind.Hole h n = let here = h.here in rw here refl
 
 -- one item more on the stack
-pub items_turn : (w : Store) (stack grown before : List Term) (r first rest list : Term) → grown ≡ stack ++ first ∷ [] → items_of (held_tree w r) ≡ more (held_tree w first) (items_of (held_tree w rest))
+pub items_turn : (w : Store) (stack grown before : List Term) (r first rest list : Term) → grown ≡ stack ++ first ∷ []
+    → items_of (held_tree w r) ≡ more (held_tree w first) (items_of (held_tree w rest))
     → held_trees w stack ++ to_list (items_of (held_tree w r)) ≡ held_trees w before ++ to_list (items_of (held_tree w list))
     → held_trees w grown ++ to_list (items_of (held_tree w rest)) ≡ held_trees w before ++ to_list (items_of (held_tree w list))
 items_turn w stack grown before r first rest list e cons whole =
@@ -85,7 +87,8 @@ backwards-node (Items items anns) = refl
 backwards-node (Hole inner anns) = refl
 
 -- the top of the stack is a node, and its arguments take its place
-pub node_turn : (w : Store) (stack rest grown : List Term) (r : Term) → stack ≡ rest ++ r ∷ [] → held_trees w grown ≡ held_trees w rest ++ to_list (arguments (held_tree w r))
+pub node_turn : (w : Store) (stack rest grown : List Term) (r : Term) → stack ≡ rest ++ r ∷ []
+    → held_trees w grown ≡ held_trees w rest ++ to_list (arguments (held_tree w r))
     → unstacked (held_trees w stack) ≡ held_tree w r ∷ unstacked (held_trees w grown)
 node_turn w stack rest grown r popped pushed =
     ap (λ rs. unstacked (held_trees w rs)) popped
@@ -98,12 +101,14 @@ node_turn w stack rest grown r popped pushed =
     ∙ ap unstacked (sym pushed))
 
 -- so there is one node less to come
-pub node_less : (w : Store) (stack rest grown : List Term) (r : Term) → stack ≡ rest ++ r ∷ [] → held_trees w grown ≡ held_trees w rest ++ to_list (arguments (held_tree w r))
+pub node_less : (w : Store) (stack rest grown : List Term) (r : Term) → stack ≡ rest ++ r ∷ []
+    → held_trees w grown ≡ held_trees w rest ++ to_list (arguments (held_tree w r))
     → length (unstacked (held_trees w grown)) < length (unstacked (held_trees w stack))
 node_less w stack rest grown r popped pushed = let e = ap length (node_turn w stack rest grown r popped pushed) in omega arith
 
 -- one node more is found
-pub found_turn : (w : Store) (found more_found stack grown : List Term) (r : Term) (all : List Tree) → more_found ≡ found ++ r ∷ [] → unstacked (held_trees w stack) ≡ held_tree w r ∷ unstacked (held_trees w grown)
+pub found_turn : (w : Store) (found more_found stack grown : List Term) (r : Term) (all : List Tree) → more_found ≡ found ++ r ∷ []
+    → unstacked (held_trees w stack) ≡ held_tree w r ∷ unstacked (held_trees w grown)
     → held_trees w found ++ unstacked (held_trees w stack) ≡ all → held_trees w more_found ++ unstacked (held_trees w grown) ≡ all
 found_turn w found more_found stack grown r all e turn whole =
     ap (λ rs. held_trees w rs ++ unstacked (held_trees w grown)) e
@@ -155,7 +160,8 @@ module _ (p : Tree → Bool) where
       ap (list_any p) (unstacked-append (to_list (arguments t)) (flat_map (λ u. to_list (arguments u)) ts))
       ∙ list_any-append p (unstacked (flat_map (λ u. to_list (arguments u)) ts)) (unstacked (to_list (arguments t)))
       ∙ ap (λ b. b || list_any p (unstacked (to_list (arguments t)))) (any-inner ts)
-      ∙ ap (λ b. list_any p (flat_map (λ u. nodes_all (arguments u)) ts) || b) (ap (list_any p) (unstacked-to_list (arguments t)) ∙ any-backwards_all (arguments t))
+      ∙ ap (λ b. list_any p (flat_map (λ u. nodes_all (arguments u)) ts) || b)
+      (ap (list_any p) (unstacked-to_list (arguments t)) ∙ any-backwards_all (arguments t))
       ∙ or_comm (list_any p (flat_map (λ u. nodes_all (arguments u)) ts)) (list_any p (nodes_all (arguments t)))
       ∙ sym (list_any-append p (nodes_all (arguments t)) (flat_map (λ u. nodes_all (arguments u)) ts))
 
@@ -167,8 +173,10 @@ module _ (p : Tree → Bool) where
 -- ---- rules
 
 -- the first test that passes gives the first rule that nodes break
-pub broken_is : (w : Store) (s : Scope) (all inner : List Term) (a b c d e : Bool) → a ≡ list_any (λ r. is_no_application (held_tree w r)) all → b ≡ list_any (λ r. is_annotated (held_tree w r)) inner
-    → c ≡ list_any (λ r. is_nameless s (held_tree w r)) all → d ≡ list_any (λ r. is_misfilled s (held_tree w r)) all → e ≡ list_any (λ r. has_misfit s (held_tree w r)) all
+pub broken_is : (w : Store) (s : Scope) (all inner : List Term) (a b c d e : Bool) → a ≡ list_any (λ r. is_no_application (held_tree w r)) all
+    → b ≡ list_any (λ r. is_annotated (held_tree w r)) inner
+    → c ≡ list_any (λ r. is_nameless s (held_tree w r)) all → d ≡ list_any (λ r. is_misfilled s (held_tree w r)) all
+    → e ≡ list_any (λ r. has_misfit s (held_tree w r)) all
     → first_passed 2 (a ∷ b ∷ c ∷ d ∷ e ∷ []) ≡ broken_by_nodes s (held_trees w all) (held_trees w inner)
 broken_is w s all inner a b c d e p q r t u =
     let one = p ∙ any-held is_no_application w all in

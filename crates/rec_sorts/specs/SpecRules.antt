@@ -5,7 +5,8 @@ use Rattle.rec_syntax.specs.Tokens.{Word}
 use Rattle.rec_syntax.specs.Syntax.{Term, Terms, Apply, none, more, Declaration, Spec, head, subterms}
 use Rattle.rec_syntax.specs.Grammar.{SpecText}
 use Rattle.rec_syntax.specs.Place.{IsFaultPlace}
-use Rattle.rec_sorts.specs.Lookup.{mentions, repeated, places, symbols, names, variable_words, symbol, is_variable, sort_of, same_sort, count, condition_terms, rule_terms}
+use Rattle.rec_sorts.specs.Lookup.{mentions, repeated, places, symbols, names, variable_words, symbol}
+use Rattle.rec_sorts.specs.Lookup.{is_variable, sort_of, same_sort, count, condition_terms, rule_terms}
 
 -- the first words of terms
 abbrev pub heads : List Term → List Word

@@ -28,19 +28,23 @@ placed t at = record { at = at; token = t }
 abbrev pub Decides : List ℕ → Config → List Placed → Type 0
 Decides bytes c ps = outcome (Some c) 0 ps ≡ comes_of bytes
 
-first_step : (c : Config) (ps rest : List Placed) (t : Token) (at : ℕ) (o : Option Config) → ps ≡ placed t at ∷ rest → step c.due c.read t ≡ o → outcome (Some c) 0 ps ≡ outcome o at rest
+first_step : (c : Config) (ps rest : List Placed) (t : Token) (at : ℕ) (o : Option Config) → ps ≡ placed t at ∷ rest → step c.due c.read t ≡ o
+    → outcome (Some c) 0 ps ≡ outcome o at rest
 first_step c ps rest t at o cut e = ap (λ (qs : List Placed). outcome (Some c) 0 qs) cut ∙ ap (λ (x : Option Config). outcome x at rest) e
 
 -- the state behind a token decides as the state before it did
-pub turn : (bytes : List ℕ) (c after : Config) (ps rest : List Placed) (t : Token) (at : ℕ) → Decides bytes c ps → ps ≡ placed t at ∷ rest → step c.due c.read t ≡ Some after → Decides bytes after rest
+pub turn : (bytes : List ℕ) (c after : Config) (ps rest : List Placed) (t : Token) (at : ℕ) → Decides bytes c ps → ps ≡ placed t at ∷ rest
+    → step c.due c.read t ≡ Some after → Decides bytes after rest
 turn bytes c after ps rest t at h cut e = outcome-last after 0 at rest ∙ sym (first_step c ps rest t at (Some after) cut e) ∙ h
 
 -- a token that is refused is at the fault's place
-pub refused_at : (bytes : List ℕ) (c : Config) (ps rest : List Placed) (t : Token) (at : ℕ) → Decides bytes c ps → ps ≡ placed t at ∷ rest → step c.due c.read t ≡ None → IsFaultPlace bytes at
+pub refused_at : (bytes : List ℕ) (c : Config) (ps rest : List Placed) (t : Token) (at : ℕ) → Decides bytes c ps → ps ≡ placed t at ∷ rest
+    → step c.due c.read t ≡ None → IsFaultPlace bytes at
 refused_at bytes c ps rest t at h cut e = stops_at_place bytes at (sym h ∙ first_step c ps rest t at None cut e)
 
 -- where the end is taken, the specification is spelled
-pub spelled : (bytes : List ℕ) (c after : Config) (ps : List Placed) (at : ℕ) → Decides bytes c ps → ps ≡ placed token.End at ∷ [] → step c.due c.read token.End ≡ Some after → SpecText bytes after.read
+pub spelled : (bytes : List ℕ) (c after : Config) (ps : List Placed) (at : ℕ) → Decides bytes c ps → ps ≡ placed token.End at ∷ []
+    → step c.due c.read token.End ≡ Some after → SpecText bytes after.read
 spelled bytes c after ps at h cut e =
     let over : after.due ≡ machine.Done = subst Over e (step_over c.due c.read) in
     read_spells bytes after.read (sym h ∙ first_step c ps [] token.End at (Some after) cut e ∙ ap (λ (d : machine.Due). stopped d after.read) over)
@@ -66,11 +70,13 @@ pub reads_on : (source : Vec ℕ Global) (P : Config → List Placed → Type 0)
 reads_on source P goes from d e r after x text h more is within first moves same =
     let bytes = source.items in
     let first_cut = rw (is, h.same) at first in
-    let cut : tokens_from bytes from ≡ placed (token_of bytes x.kind) x.at ∷ tokens_from bytes x.to = first_cut ∙ ap (λ (ps : List Placed). placed (token_of bytes x.kind) x.at ∷ ps) (behind_is bytes x.kind x.to more) in
+    let cut : tokens_from bytes from ≡ placed (token_of bytes x.kind) x.at ∷ tokens_from bytes x.to =
+    first_cut ∙ ap (λ (ps : List Placed). placed (token_of bytes x.kind) x.at ∷ ps) (behind_is bytes x.kind x.to more) in
     let m = moved r.source.items bytes d r after x.kind (Ok e) (ap (λ (v : Vec ℕ Global). v.items) h.same) moves in
     record {
       within = rw (is, h.same) at within;
       same = same ∙ h.same;
       state = m.1;
-      follows = goes (config_of bytes d r) (config_of bytes e after) (tokens_from bytes from) (tokens_from bytes x.to) (token_of bytes x.kind) x.at h.follows cut m.0;
+      follows = goes (config_of bytes d r) (config_of bytes e after) (tokens_from bytes from) (tokens_from bytes x.to) (token_of bytes x.kind) x.at
+          h.follows cut m.0;
     }

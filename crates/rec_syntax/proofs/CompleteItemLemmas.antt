@@ -9,32 +9,41 @@ use Rattle.rec_syntax.proofs.LevelLemmas.{before}
 use Rattle.rec_syntax.proofs.SoundTermLemmas.{further}
 use Rattle.rec_syntax.proofs.CompleteTermLemmas.{takes, Follows}
 
-pub words_taken : (ws : List Word) (y : Spec) (us l : List Token) → each word ws us l → run (to (Between (In Sorts)) y) us ≡ run (to (Between (In Sorts)) (record y { sorts = y.sorts ++ ws })) l
+pub words_taken : (ws : List Word) (y : Spec) (us l : List Token) → each word ws us l
+    → run (to (Between (In Sorts)) y) us ≡ run (to (Between (In Sorts)) (record y { sorts = y.sorts ++ ws })) l
 words_taken [] y us l e = rw (e, append-nil) refl
 words_taken (w ∷ ws) y us l (a, e, k) = rw e (words_taken ws (record y { sorts = y.sorts ++ w ∷ [] }) a l k ∙ rw (append_assoc y.sorts (w ∷ []) ws) refl)
 
-args_taken : (c : Bool) (w : Word) (vs ws : List Word) (y : Spec) (us l : List Token) → each word ws us l → run (to (Args c w vs) y) us ≡ run (to (Args c w (vs ++ ws)) y) l
+args_taken : (c : Bool) (w : Word) (vs ws : List Word) (y : Spec) (us l : List Token) → each word ws us l
+    → run (to (Args c w vs) y) us ≡ run (to (Args c w (vs ++ ws)) y) l
 args_taken c w vs [] y us l e = rw (e, append-nil) refl
 args_taken c w vs (x ∷ ws) y us l (a, e, k) = rw e (args_taken c w (vs ++ x ∷ []) ws y a l k ∙ rw (append_assoc vs (x ∷ []) ws) refl)
 
-group_taken : (w : Word) (vs ws : List Word) (y : Spec) (us l : List Token) → each word ws us l → run (to (Grouped w vs) y) us ≡ run (to (Grouped w (vs ++ ws)) y) l
+group_taken : (w : Word) (vs ws : List Word) (y : Spec) (us l : List Token) → each word ws us l
+    → run (to (Grouped w vs) y) us ≡ run (to (Grouped w (vs ++ ws)) y) l
 group_taken w vs [] y us l e = rw (e, append-nil) refl
 group_taken w vs (x ∷ ws) y us l (a, e, k) = rw e (group_taken w (vs ++ x ∷ []) ws y a l k ∙ rw (append_assoc vs (x ∷ []) ws) refl)
 
-pub cons_taken : (ds : List Declaration) (y : Spec) (us l : List Token) → each declaration ds us l → run (to (Between (In Cons)) y) us ≡ run (to (Between (In Cons)) (record y { constructors = y.constructors ++ ds })) l
+pub cons_taken : (ds : List Declaration) (y : Spec) (us l : List Token) → each declaration ds us l
+    → run (to (Between (In Cons)) y) us ≡ run (to (Between (In Cons)) (record y { constructors = y.constructors ++ ds })) l
 cons_taken [] y us l e = rw (e, append-nil) refl
 cons_taken (d ∷ ds) y us l (a, (b, e, (c, f, (g, k, (h, i, j)))), r) =
-    rw (e, f) (args_taken true d.name [] d.arguments y c g k ∙ rw (i, j) (cons_taken ds (record y { constructors = y.constructors ++ d ∷ [] }) a l r ∙ rw (append_assoc y.constructors (d ∷ []) ds) refl))
+    rw (e, f) (args_taken true d.name [] d.arguments y c g k ∙ rw (i, j)
+    (cons_taken ds (record y { constructors = y.constructors ++ d ∷ [] }) a l r ∙ rw (append_assoc y.constructors (d ∷ []) ds) refl))
 
-pub opns_taken : (ds : List Declaration) (y : Spec) (us l : List Token) → each declaration ds us l → run (to (Between (In Opns)) y) us ≡ run (to (Between (In Opns)) (record y { operators = y.operators ++ ds })) l
+pub opns_taken : (ds : List Declaration) (y : Spec) (us l : List Token) → each declaration ds us l
+    → run (to (Between (In Opns)) y) us ≡ run (to (Between (In Opns)) (record y { operators = y.operators ++ ds })) l
 opns_taken [] y us l e = rw (e, append-nil) refl
 opns_taken (d ∷ ds) y us l (a, (b, e, (c, f, (g, k, (h, i, j)))), r) =
-    rw (e, f) (args_taken false d.name [] d.arguments y c g k ∙ rw (i, j) (opns_taken ds (record y { operators = y.operators ++ d ∷ [] }) a l r ∙ rw (append_assoc y.operators (d ∷ []) ds) refl))
+    rw (e, f) (args_taken false d.name [] d.arguments y c g k ∙ rw (i, j)
+    (opns_taken ds (record y { operators = y.operators ++ d ∷ [] }) a l r ∙ rw (append_assoc y.operators (d ∷ []) ds) refl))
 
-pub vars_taken : (vs : List Variables) (y : Spec) (us l : List Token) → each variables vs us l → run (to (Between (In Vars)) y) us ≡ run (to (Between (In Vars)) (record y { variables = y.variables ++ vs })) l
+pub vars_taken : (vs : List Variables) (y : Spec) (us l : List Token) → each variables vs us l
+    → run (to (Between (In Vars)) y) us ≡ run (to (Between (In Vars)) (record y { variables = y.variables ++ vs })) l
 vars_taken [] y us l e = rw (e, append-nil) refl
 vars_taken (v ∷ vs) y us l (a, (b, e, (c, k, (d, f, g))), r) =
-    rw e (group_taken v.first [] v.others y b c k ∙ rw (f, g) (vars_taken vs (record y { variables = y.variables ++ v ∷ [] }) a l r ∙ rw (append_assoc y.variables (v ∷ []) vs) refl))
+    rw e (group_taken v.first [] v.others y b c k ∙ rw (f, g) (vars_taken vs (record y { variables = y.variables ++ v ∷ [] }) a l r
+    ∙ rw (append_assoc y.variables (v ∷ []) vs) refl))
 
 -- what may stand behind a rule or a term of EVAL: a word, a section's word, or END-SPEC
 abbrev pub Ends : List Token → Type 0
@@ -49,26 +58,30 @@ ends_follow (Head s ∷ us) h = tt
 ends_follow (EndSpec ∷ us) h = tt
 ends_follow us h = absurd h
 
-rule_complete : (x r : Term) (y : Spec) (us : List Token) → Ends us → run (to (After (Right x) r []) y) us ≡ run (to (Between (In Rules)) (with_rule y (record { left = x; right = r; conditions = [] }))) us
+rule_complete : (x r : Term) (y : Spec) (us : List Token) → Ends us
+    → run (to (After (Right x) r []) y) us ≡ run (to (Between (In Rules)) (with_rule y (record { left = x; right = r; conditions = [] }))) us
 rule_complete x r y (Plain w ∷ us) h = refl
 rule_complete x r y (Head s ∷ us) h = refl
 rule_complete x r y (EndSpec ∷ us) h = refl
 rule_complete x r y us h = absurd h
 
 conditions_complete : (x r : Term) (cs : List Condition) (z : Term) (b : Bool) (t : Term) (y : Spec) (us : List Token) → Ends us
-    → run (to (After (CondRight x r cs z b) t []) y) us ≡ run (to (Between (In Rules)) (with_rule y (record { left = x; right = r; conditions = cs ++ record { left = z; right = t; equal = b } ∷ [] }))) us
+    → run (to (After (CondRight x r cs z b) t []) y) us ≡ run (to (Between (In Rules))
+    (with_rule y (record { left = x; right = r; conditions = cs ++ record { left = z; right = t; equal = b } ∷ [] }))) us
 conditions_complete x r cs z b t y (Plain w ∷ us) h = refl
 conditions_complete x r cs z b t y (Head s ∷ us) h = refl
 conditions_complete x r cs z b t y (EndSpec ∷ us) h = refl
 conditions_complete x r cs z b t y us h = absurd h
 
-eval_complete : (t : Term) (y : Spec) (us : List Token) → Ends us → run (to (After InEval t []) y) us ≡ run (to (Between (In Eval)) (record y { terms = y.terms ++ t ∷ [] })) us
+eval_complete : (t : Term) (y : Spec) (us : List Token) → Ends us
+    → run (to (After InEval t []) y) us ≡ run (to (Between (In Eval)) (record y { terms = y.terms ++ t ∷ [] })) us
 eval_complete t y (Plain w ∷ us) h = refl
 eval_complete t y (Head s ∷ us) h = refl
 eval_complete t y (EndSpec ∷ us) h = refl
 eval_complete t y us h = absurd h
 
-mark_step : (x r : Term) (cs : List Condition) (z : Term) (b : Bool) (y : Spec) (us : List Token) → run (to (After (CondLeft x r cs) z []) y) (comparison b ∷ us) ≡ run (to (AtTerm (CondRight x r cs z b) []) y) us
+mark_step : (x r : Term) (cs : List Condition) (z : Term) (b : Bool) (y : Spec) (us : List Token)
+    → run (to (After (CondLeft x r cs) z []) y) (comparison b ∷ us) ≡ run (to (AtTerm (CondRight x r cs z b) []) y) us
 mark_step x r cs z true y us = refl
 mark_step x r cs z false y us = refl
 
@@ -93,7 +106,8 @@ conditions_follow [] us l e h = rw e (ends_follow l h)
 conditions_follow (c ∷ cs) us l (a, e, k) h = rw e tt
 
 more_taken : (cs before : List Condition) (x r z : Term) (b : Bool) (t : Term) (y : Spec) (us l : List Token) → each further cs us l → Ends l
-    → run (to (After (CondRight x r before z b) t []) y) us ≡ run (to (Between (In Rules)) (with_rule y (record { left = x; right = r; conditions = before ++ record { left = z; right = t; equal = b } ∷ cs }))) l
+    → run (to (After (CondRight x r before z b) t []) y) us ≡ run
+    (to (Between (In Rules)) (with_rule y (record { left = x; right = r; conditions = before ++ record { left = z; right = t; equal = b } ∷ cs }))) l
 more_taken [] before x r z b t y us l e h = rw e (conditions_complete x r before z b t y l h)
 more_taken (c ∷ cs) before x r z b t y us l (a, (d, e, k), q) h =
     let done : Condition = record { left = z; right = t; equal = b } in
@@ -118,7 +132,8 @@ first_eval (Apply v args) y us l (a, e, k) = rw e refl
 term_ends : (t : Term) (us l : List Token) → term t us l → Ends us
 term_ends (Apply v args) us l (a, e, k) = rw e tt
 
-rule_taken : (r : Rule) (y : Spec) (us l : List Token) → rule r us l → Ends l → run (to (Between (In Rules)) y) us ≡ run (to (Between (In Rules)) (with_rule y r)) l
+rule_taken : (r : Rule) (y : Spec) (us l : List Token) → rule r us l → Ends l
+    → run (to (Between (In Rules)) y) us ≡ run (to (Between (In Rules)) (with_rule y r)) l
 rule_taken r y us l (a, s, (b, e, (c, t, k))) h =
     first_left r.left y us a s
     ∙ takes r.left Left [] y us a s (rw e tt)
@@ -130,7 +145,8 @@ rules_end : (rs : List Rule) (us l : List Token) → each rule rs us l → Ends 
 rules_end [] us l e h = rw e h
 rules_end (r ∷ rs) us l (a, (b, s, k), q) h = term_ends r.left us b s
 
-pub rules_taken : (rs : List Rule) (y : Spec) (us l : List Token) → each rule rs us l → Ends l → run (to (Between (In Rules)) y) us ≡ run (to (Between (In Rules)) (record y { rules = y.rules ++ rs })) l
+pub rules_taken : (rs : List Rule) (y : Spec) (us l : List Token) → each rule rs us l → Ends l
+    → run (to (Between (In Rules)) y) us ≡ run (to (Between (In Rules)) (record y { rules = y.rules ++ rs })) l
 rules_taken [] y us l e h = rw (e, append-nil) refl
 rules_taken (r ∷ rs) y us l (a, k, q) h =
     rw (← append_assoc y.rules (r ∷ []) rs)
@@ -140,7 +156,8 @@ evals_end : (ts : List Term) (us l : List Token) → each term ts us l → Ends 
 evals_end [] us l e h = rw e h
 evals_end (t ∷ ts) us l (a, k, q) h = term_ends t us a k
 
-pub evals_taken : (ts : List Term) (y : Spec) (us l : List Token) → each term ts us l → Ends l → run (to (Between (In Eval)) y) us ≡ run (to (Between (In Eval)) (record y { terms = y.terms ++ ts })) l
+pub evals_taken : (ts : List Term) (y : Spec) (us l : List Token) → each term ts us l → Ends l
+    → run (to (Between (In Eval)) y) us ≡ run (to (Between (In Eval)) (record y { terms = y.terms ++ ts })) l
 evals_taken [] y us l e h = rw (e, append-nil) refl
 evals_taken (t ∷ ts) y us l (a, k, q) h =
     rw (← append_assoc y.terms (t ∷ []) ts)

@@ -14,11 +14,30 @@ cut Top y = record { name = y.name; sorts = []; constructors = []; operators = [
 cut (In Sorts) y = record { name = y.name; sorts = y.sorts; constructors = []; operators = []; variables = []; rules = []; terms = [] }
 cut (In Cons) y = record { name = y.name; sorts = y.sorts; constructors = y.constructors; operators = []; variables = []; rules = []; terms = [] }
 cut (In Opns) y = record { name = y.name; sorts = y.sorts; constructors = y.constructors; operators = y.operators; variables = []; rules = []; terms = [] }
-cut (In Vars) y = record { name = y.name; sorts = y.sorts; constructors = y.constructors; operators = y.operators; variables = y.variables; rules = []; terms = [] }
-cut (In Rules) y = record { name = y.name; sorts = y.sorts; constructors = y.constructors; operators = y.operators; variables = y.variables; rules = y.rules; terms = [] }
+cut (In Vars) y = record {
+  name = y.name;
+  sorts = y.sorts;
+  constructors = y.constructors;
+  operators = y.operators;
+  variables = y.variables;
+  rules =
+      [];
+  terms = [];
+}
+cut (In Rules) y = record {
+  name = y.name;
+  sorts = y.sorts;
+  constructors = y.constructors;
+  operators = y.operators;
+  variables = y.variables;
+  rules =
+      y.rules;
+  terms = [];
+}
 cut (In Eval) y = y
 
-items_taken : (s : Section) (y : Spec) (us l : List Token) → items s y us l → Ends l → run (to (Between (In s)) (cut (before s) y)) us ≡ run (to (Between (In s)) (cut (In s) y)) l
+items_taken : (s : Section) (y : Spec) (us l : List Token) → items s y us l → Ends l
+    → run (to (Between (In s)) (cut (before s) y)) us ≡ run (to (Between (In s)) (cut (In s) y)) l
 items_taken Sorts y us l k h = words_taken y.sorts (cut Top y) us l k
 items_taken Cons y us l k h = cons_taken y.constructors (cut (In Sorts) y) us l k
 items_taken Opns y us l k h = opns_taken y.operators (cut (In Cons) y) us l k
@@ -46,7 +65,8 @@ section_reached : (s : Section) (y : Spec) (ts us l : List Token) → Stands s y
 section_reached s y ts us l (inl k) h (m, le, e) = (m, λ x g. le x (before_in s x g), e ∙ rw (k.0, cut_empty s y k.1) refl)
 section_reached s y ts us l (inr (n, f, k)) h (m, le, e) =
     let opens : later m s ≡ true = le s (after_before s) in
-    let head : run (to (Between m) (cut (before s) y)) us ≡ run (to (Between (In s)) (cut (before s) y)) n = rw f (ap (λ (b : Bool). run (when b (to (Between (In s)) (cut (before s) y))) n) opens) in
+    let head : run (to (Between m) (cut (before s) y)) us ≡ run (to (Between (In s)) (cut (before s) y)) n =
+    rw f (ap (λ (b : Bool). run (when b (to (Between (In s)) (cut (before s) y))) n) opens) in
     (In s, λ x g. g, e ∙ head ∙ items_taken s y n l k h)
 
 ended : (ts us l : List Token) (y : Spec) → Reaches ts (In Eval) y us → us ≡ EndSpec ∷ l → l ≡ End ∷ [] → run (Some start) ts ≡ to Done y

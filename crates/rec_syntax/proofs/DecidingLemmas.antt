@@ -2,7 +2,8 @@
 use Rattle.std.proofs.Common.{◌≡◌, ◌⊎◌, ℕ, zero, suc, ◌+◌, List, [], ◌∷◌, Option, Some, None, refl, sym, ◌∙◌, inl, inr}
 use Rattle.rec_syntax.specs.Tokens.{Token, End, Placed, extra, token_at, in_front, scan, placed_tokens}
 use Rattle.rec_syntax.specs.Syntax.{Spec, Term, Apply, none}
-use Rattle.rec_syntax.specs.Inner.Machine.{Frame, Role, Left, Right, CondLeft, CondRight, InEval, Due, Called, After, Ended, Done, Config, start, complete, after, step, Outcome, Read, Fault, outcome}
+use Rattle.rec_syntax.specs.Inner.Machine.{Frame, Role, Left, Right, CondLeft, CondRight, InEval, Due, Called, After, Ended}
+use Rattle.rec_syntax.specs.Inner.Machine.{Done, Config, start, complete, after, step, Outcome, Read, Fault, outcome}
 use Rattle.rec_syntax.specs.Grammar.{SpecText}
 use Rattle.rec_syntax.specs.Place.{IsFaultPlace}
 use Rattle.rec_syntax.specs.Laws.{OneReading, ReadOrFault}

@@ -1,5 +1,6 @@
 -- What may stand at the place of a fault is what the machine takes there.
-use Rattle.std.proofs.Common.{◌≡◌, ◌↔◌, ℕ, Bool, true, false, List, [], ◌∷◌, ◌++◌, Option, Some, None, is_some, refl, sym, ap, subst, ◌∙◌, append_assoc, drop, length, reverse, arith, Contains, not, ◌⊎◌, inl, inr}
+use Rattle.std.proofs.Common.{◌≡◌, ◌↔◌, ℕ, Bool, true, false, List, [], ◌∷◌, ◌++◌, Option, Some, None, is_some, refl, sym}
+use Rattle.std.proofs.Common.{ap, subst, ◌∙◌, append_assoc, drop, length, reverse, arith, Contains, not, ◌⊎◌, inl, inr}
 use Rattle.std.proofs.lemmas.List.{append-nil, length-reverse}
 use Rattle.std.specs.List.{filter}
 use Rattle.std.proofs.lemmas.Bool.{eqb-false, not-true}
@@ -10,7 +11,10 @@ use Rattle.rec_syntax.specs.Tokens as tokens
 use Rattle.rec_syntax.specs.Tokens.{Word, Token, Placed, placed_tokens, bare}
 use Rattle.rec_syntax.specs.Syntax.{Term, Apply, none, Condition, Spec}
 use Rattle.rec_syntax.specs.Place.{CanGoOn, IsFaultPlace}
-use Rattle.rec_syntax.specs.Inner.Machine.{Frame, Role, Left, Right, CondLeft, CondRight, InEval, Level, Top, In, Due, Start, Title, Between, Named, Args, Result, Grouped, GroupSort, AtTerm, Called, First, After, Ended, Done, Config, to, item, between, with_rule, complete, after, step, run, start}
+use Rattle.rec_syntax.specs.Inner.Machine.{Frame, Role, Left, Right, CondLeft, CondRight, InEval, Level, Top}
+use Rattle.rec_syntax.specs.Inner.Machine.{In, Due, Start, Title, Between, Named, Args, Result, Grouped}
+use Rattle.rec_syntax.specs.Inner.Machine.{GroupSort, AtTerm, Called, First, After, Ended, Done, Config, to}
+use Rattle.rec_syntax.specs.Inner.Machine.{item, between, with_rule, complete, after, step, run, start}
 use Rattle.rec_syntax.specs.Nodes.{newest}
 use Rattle.rec_syntax.specs.Lexemes.{word_of}
 use Rattle.rec_syntax.specs.Inner.Reader.{frames_of}
@@ -18,7 +22,8 @@ use Rattle.rec_syntax.specs.declared.reader.Call.{Call}
 use Rattle.rec_syntax.specs.declared.lexer.Part.TheVariants.{Sorts, Cons, Opns, Vars, Rules, Eval}
 use Rattle.rec_syntax.specs.Expected.{IsOf, MayStand, sample, is_taken}
 use Rattle.rec_syntax.specs.declared.token_kind.TokenKind.{TokenKind}
-use Rattle.rec_syntax.specs.declared.token_kind.TokenKind.TheVariants.{PlainWord, RecSpec, Section, EndSpec, If, AndIf, Colon, Open, Close, Comma, Arrow, Equal, Unequal, End}
+use Rattle.rec_syntax.specs.declared.token_kind.TokenKind.TheVariants.{PlainWord, RecSpec, Section, EndSpec, If, AndIf, Colon}
+use Rattle.rec_syntax.specs.declared.token_kind.TokenKind.TheVariants.{Open, Close, Comma, Arrow, Equal, Unequal, End}
 use Rattle.rec_syntax.proofs.AnsweringLemmas.{placed}
 use Rattle.rec_syntax.proofs.DecidingLemmas.{Over, step_over}
 use Rattle.rec_syntax.proofs.PlaceLemmas.{bare-append, same_before, not_both}
@@ -84,12 +89,14 @@ by_kind d y Unequal t e = ap (λ (u : Token). is_some (step d y u)) e
 by_kind d y End t e = ap (λ (u : Token). is_some (step d y u)) e
 
 -- behind a right side, and behind a condition's right term, a rule may end
-pub rule_ends : (l r : Term) (y : Spec) (k : TokenKind) → (k ≡ If → ⊥) → is_taken (complete (Right l) r y) k ≡ is_taken (between (In tokens.Rules) (with_rule y (record { left = l; right = r; conditions = [] }))) k
+pub rule_ends : (l r : Term) (y : Spec) (k : TokenKind) → (k ≡ If → ⊥)
+    → is_taken (complete (Right l) r y) k ≡ is_taken (between (In tokens.Rules) (with_rule y (record { left = l; right = r; conditions = [] }))) k
 rule_ends l r y If h = absurd (h refl)
 rule_ends l r y k h = refl
 
 pub conditions_end : (l r : Term) (cs : List Condition) (x : Term) (e : Bool) (t : Term) (y : Spec) (k : TokenKind) → (k ≡ AndIf → ⊥)
-    → is_taken (complete (CondRight l r cs x e) t y) k ≡ is_taken (between (In tokens.Rules) (with_rule y (record { left = l; right = r; conditions = cs ++ record { left = x; right = t; equal = e } ∷ [] }))) k
+    → is_taken (complete (CondRight l r cs x e) t y) k ≡ is_taken
+    (between (In tokens.Rules) (with_rule y (record { left = l; right = r; conditions = cs ++ record { left = x; right = t; equal = e } ∷ [] }))) k
 conditions_end l r cs x e t y AndIf h = absurd (h refl)
 conditions_end l r cs x e t y k h = refl
 
@@ -104,9 +111,11 @@ argument_ends p t f fs y Comma = refl
 argument_ends p t f fs y Close = refl
 argument_ends p t f fs y k = refl
 
-pub within_call : (bytes : List ℕ) (p : Role) (t : Term) (cs : List Call) (made : List Term) (y : Spec) (k : TokenKind) → (cs ≡ [] → ⊥) → is_taken (after p t (frames_of bytes cs made) y) k ≡ goes_on k
+pub within_call : (bytes : List ℕ) (p : Role) (t : Term) (cs : List Call) (made : List Term) (y : Spec) (k : TokenKind) → (cs ≡ [] → ⊥)
+    → is_taken (after p t (frames_of bytes cs made) y) k ≡ goes_on k
 within_call bytes p t [] made y k h = absurd (h refl)
-within_call bytes p t (c ∷ cs) made y k h = argument_ends p t (record { word = word_of bytes c.word; arguments = newest c.count made none }) (frames_of bytes cs (drop c.count made)) y k
+within_call bytes p t (c ∷ cs) made y k h = argument_ends p t (record { word = word_of bytes c.word; arguments = newest c.count made none })
+    (frames_of bytes cs (drop c.count made)) y k
 
 sample_is : (k : TokenKind) → IsOf k (sample k)
 sample_is PlainWord = (record { at = 0; bytes = [] }, refl)
@@ -125,21 +134,28 @@ sample_is Unequal = refl
 sample_is End = refl
 
 -- tokens that are taken, and one more
-one_more : (us : List Token) (c : Config) (t : Token) (o : Option Config) → run (Some start) us ≡ Some c → step c.due c.read t ≡ o → run (Some start) (us ++ t ∷ []) ≡ o
+one_more : (us : List Token) (c : Config) (t : Token) (o : Option Config) → run (Some start) us ≡ Some c → step c.due c.read t ≡ o
+    → run (Some start) (us ++ t ∷ []) ≡ o
 one_more us c t o e f = rw (run-append, e) f
 
 some_begins : (us : List Token) (o : Option Config) → run (Some start) us ≡ o → is_some o ≡ true → CanGoOn us
 some_begins us None e h = absurd cc
 some_begins us (Some c) e h = taken_begins us c e
 
-begins_some : (us : List Token) (c : Config) (t : Token) (o : Option Config) → run (Some start) us ≡ Some c → step c.due c.read t ≡ o → CanGoOn (us ++ t ∷ []) → is_some o ≡ true
+begins_some : (us : List Token) (c : Config) (t : Token) (o : Option Config) → run (Some start) us ≡ Some c → step c.due c.read t ≡ o
+    → CanGoOn (us ++ t ∷ []) → is_some o ≡ true
 begins_some us c t None e f h = absurd (refused_begins_none us c t e f h)
 begins_some us c t (Some d) e f h = refl
 
 -- behind tokens that lead to a state, just the kinds that it takes may stand
 pub may_stand : (us : List Token) (c : Config) (k : TokenKind) → run (Some start) us ≡ Some c → (is_taken (step c.due c.read) k ≡ true) ↔ MayStand us k
 may_stand us c k e = (
-  λ h. (sample k, sample_is k, some_begins (us ++ sample k ∷ []) (step c.due c.read (sample k)) (one_more us c (sample k) (step c.due c.read (sample k)) e refl) h),
+  λ h. (
+    sample k,
+    sample_is k,
+    some_begins (us ++ sample k ∷ []) (step c.due c.read (sample k))
+        (one_more us c (sample k) (step c.due c.read (sample k)) e refl) h,
+  ),
   λ m. sym (by_kind c.due c.read k m.0 m.1) ∙ begins_some us c m.0 (step c.due c.read m.0) e refl m.2,
 )
 
@@ -150,7 +166,8 @@ pub record Reached (bytes : List ℕ) (c : Config) (ps : List Placed) : Type 0 w
   pub led : run (Some start) (bare before) ≡ Some c
 
 -- a token that is taken leads on
-pub reached_next : (bytes : List ℕ) (c d : Config) (ps rest : List Placed) (t : Token) (at : ℕ) → Reached bytes c ps → ps ≡ placed t at ∷ rest → step c.due c.read t ≡ Some d → Reached bytes d rest
+pub reached_next : (bytes : List ℕ) (c d : Config) (ps rest : List Placed) (t : Token) (at : ℕ) → Reached bytes c ps → ps ≡ placed t at ∷ rest
+    → step c.due c.read t ≡ Some d → Reached bytes d rest
 reached_next bytes c d ps rest t at r e f = record {
   before = r.before ++ placed t at ∷ [];
   cut = r.cut ∙ ap (λ (qs : List Placed). r.before ++ qs) e ∙ sym (append_assoc r.before (placed t at ∷ []) rest);
@@ -162,7 +179,8 @@ abbrev pub IsFaultState : List ℕ → Config → Type 0
 IsFaultState bytes c = (at : ℕ) (fault : IsFaultPlace bytes at) → run (Some start) (bare fault.before) ≡ Some c
 
 -- a token that is refused is at the fault's place
-pub refused_state : (bytes : List ℕ) (c : Config) (ps rest : List Placed) (t : Token) (at : ℕ) → Reached bytes c ps → ps ≡ placed t at ∷ rest → step c.due c.read t ≡ None → IsFaultState bytes c
+pub refused_state : (bytes : List ℕ) (c : Config) (ps rest : List Placed) (t : Token) (at : ℕ) → Reached bytes c ps → ps ≡ placed t at ∷ rest
+    → step c.due c.read t ≡ None → IsFaultState bytes c
 refused_state bytes c ps rest t at r e f place fault =
     let here : IsFaultPlace bytes at = record {
       before = r.before;
@@ -175,12 +193,14 @@ refused_state bytes c ps rest t at r e f place fault =
     ap (λ (qs : List Placed). run (Some start) (bare qs)) (same_before bytes place at fault here) ∙ r.led
 
 -- where the end is taken, there is no fault
-pub ended_state : (bytes : List ℕ) (c d : Config) (ps : List Placed) (at : ℕ) → Reached bytes c ps → ps ≡ placed tokens.End at ∷ [] → step c.due c.read tokens.End ≡ Some d → IsFaultState bytes d
+pub ended_state : (bytes : List ℕ) (c d : Config) (ps : List Placed) (at : ℕ) → Reached bytes c ps → ps ≡ placed tokens.End at ∷ []
+    → step c.due c.read tokens.End ≡ Some d → IsFaultState bytes d
 ended_state bytes c d ps at r e f place fault =
     let last = reached_next bytes c d ps [] tokens.End at r e f in
     let over : d.due ≡ Done = subst Over f (step_over c.due c.read) in
     let whole : placed_tokens bytes ≡ last.before = last.cut ∙ append-nil last.before in
-    let done : run (Some start) (bare (placed_tokens bytes)) ≡ to Done d.read = ap (λ (qs : List Placed). run (Some start) (bare qs)) whole ∙ last.led ∙ ap (λ (x : Due). to x d.read) over in
+    let done : run (Some start) (bare (placed_tokens bytes)) ≡ to Done d.read =
+    ap (λ (qs : List Placed). run (Some start) (bare qs)) whole ∙ last.led ∙ ap (λ (x : Due). to x d.read) over in
     absurd (not_both bytes d.read place (read_is_text (bare (placed_tokens bytes)) d.read done) fault)
 
 pub none_since : (o : Option Config) → is_some o ≡ false → o ≡ None
@@ -202,7 +222,8 @@ is_going_on k (inr e) = rw e refl
 
 -- the kinds
 abbrev pub all_kinds : List TokenKind
-all_kinds = PlainWord ∷ RecSpec ∷ Section Sorts ∷ Section Cons ∷ Section Opns ∷ Section Vars ∷ Section Rules ∷ Section Eval ∷ EndSpec ∷ If ∷ AndIf ∷ Colon ∷ Open ∷ Close ∷ Comma ∷ Arrow ∷ Equal ∷ Unequal ∷ End ∷ []
+all_kinds = PlainWord ∷ RecSpec ∷ Section Sorts ∷ Section Cons ∷ Section Opns ∷ Section Vars ∷ Section Rules ∷ Section
+    Eval ∷ EndSpec ∷ If ∷ AndIf ∷ Colon ∷ Open ∷ Close ∷ Comma ∷ Arrow ∷ Equal ∷ Unequal ∷ End ∷ []
 
 listed : (k : TokenKind) → Contains all_kinds k
 listed PlainWord = (0, omega arith, refl)
@@ -229,10 +250,11 @@ listed End = (18, omega arith, refl)
 pub kinds_passing : (p : TokenKind → Bool) (k : TokenKind) → Contains (filter p all_kinds) k ↔ (p k ≡ true)
 kinds_passing p k = (
   All-contains (λ x. p x ≡ true) (filter p all_kinds) k (filter_passes p all_kinds),
-  λ e. elim (Contains-append_cases (filter p all_kinds) (filter q all_kinds) k (Contains-permutation all_kinds _ k (IsPermutation-filter_both p q (λ x. refl) all_kinds) (listed k))) [
-    | inl c ↦ c
-    | inr c ↦ let fails = not-true (p k) (All-contains (λ x. q x ≡ true) (filter q all_kinds) k (filter_passes q all_kinds) c) in absurd (cc (fails, e))
-  ],
+  λ e. elim (Contains-append_cases (filter p all_kinds) (filter q all_kinds) k
+      (Contains-permutation all_kinds _ k (IsPermutation-filter_both p q (λ x. refl) all_kinds) (listed k))) [
+        | inl c ↦ c
+        | inr c ↦ let fails = not-true (p k) (All-contains (λ x. q x ≡ true) (filter q all_kinds) k (filter_passes q all_kinds) c) in absurd (cc (fails, e))
+      ],
 )
   where
     q : TokenKind → Bool

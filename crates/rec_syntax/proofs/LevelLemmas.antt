@@ -67,7 +67,8 @@ pub one : (s : Section) (y : Spec) (ts l : List Token) → sections (up_to (befo
 one s y ts l k e = rw up_to_in (l, k, left_out s y l e)
 
 -- sections that are left out, up to a later one
-pub raise : (s : Section) (l : Level) (y : Spec) (ts m : List Token) → later l s ≡ true → sections (up_to l) y ts m → Empties l y → sections (up_to (before s)) y ts m
+pub raise : (s : Section) (l : Level) (y : Spec) (ts m : List Token) → later l s ≡ true → sections (up_to l) y ts m → Empties l y
+    → sections (up_to (before s)) y ts m
 raise Sorts Top y ts m h k e = k
 raise Sorts (In Sorts) y ts m h k e = absurd cc
 raise Cons Top y ts m h k e = one Sorts y ts m k (e Sorts refl)
@@ -84,8 +85,10 @@ raise Rules (In Sorts) y ts m h k e = one Vars y ts m (one Opns y ts m (one Cons
 raise Rules (In Cons) y ts m h k e = one Vars y ts m (one Opns y ts m k (e Opns refl)) (e Vars refl)
 raise Rules (In Opns) y ts m h k e = one Vars y ts m k (e Vars refl)
 raise Rules (In Vars) y ts m h k e = k
-raise Eval Top y ts m h k e = one Rules y ts m (one Vars y ts m (one Opns y ts m (one Cons y ts m (one Sorts y ts m k (e Sorts refl)) (e Cons refl)) (e Opns refl)) (e Vars refl)) (e Rules refl)
-raise Eval (In Sorts) y ts m h k e = one Rules y ts m (one Vars y ts m (one Opns y ts m (one Cons y ts m k (e Cons refl)) (e Opns refl)) (e Vars refl)) (e Rules refl)
+raise Eval Top y ts m h k e = one Rules y ts m (one Vars y ts m
+    (one Opns y ts m (one Cons y ts m (one Sorts y ts m k (e Sorts refl)) (e Cons refl)) (e Opns refl)) (e Vars refl)) (e Rules refl)
+raise Eval (In Sorts) y ts m h k e =
+    one Rules y ts m (one Vars y ts m (one Opns y ts m (one Cons y ts m k (e Cons refl)) (e Opns refl)) (e Vars refl)) (e Rules refl)
 raise Eval (In Cons) y ts m h k e = one Rules y ts m (one Vars y ts m (one Opns y ts m k (e Opns refl)) (e Vars refl)) (e Rules refl)
 raise Eval (In Opns) y ts m h k e = one Rules y ts m (one Vars y ts m k (e Vars refl)) (e Rules refl)
 raise Eval (In Vars) y ts m h k e = one Rules y ts m k (e Rules refl)

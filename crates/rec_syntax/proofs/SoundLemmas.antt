@@ -1,12 +1,16 @@
 -- What the machine has taken is spelled so.
 use Rattle.std.proofs.Common.{◌≡◌, Bool, true, false, List, [], ◌∷◌, ◌++◌, Option, Some, None, refl, sym, subst, inl, inr}
-use Rattle.rec_syntax.specs.Tokens.{Word, Section, Sorts, Cons, Opns, Vars, Rules, Eval, Token, Plain, RecSpec, Head, EndSpec, If, AndIf, Colon, Open, Close, Comma, Arrow, Equal, Unequal, End}
+use Rattle.rec_syntax.specs.Tokens.{Word, Section, Sorts, Cons, Opns, Vars, Rules, Eval, Token, Plain, RecSpec, Head}
+use Rattle.rec_syntax.specs.Tokens.{EndSpec, If, AndIf, Colon, Open, Close, Comma, Arrow, Equal, Unequal, End}
 use Rattle.rec_syntax.specs.Syntax.{Term, Apply, none, Declaration, Condition, Rule, Spec}
 use Rattle.rec_syntax.specs.Grammar.{Phrase, ◌then◌, token, word, each, term, declaration, specification}
-use Rattle.rec_syntax.specs.Inner.Machine.{Frame, Role, Left, Right, CondLeft, CondRight, InEval, Level, Top, In, Due, Start, Title, Between, Named, Args, Result, Grouped, GroupSort, AtTerm, Called, First, After, Ended, Done, Config, to, later, when, item, between, with_rule, declared, complete, after, step, then_step, run, start}
+use Rattle.rec_syntax.specs.Inner.Machine.{Frame, Role, Left, Right, CondLeft, CondRight, InEval, Level, Top, In, Due, Start, Title, Between}
+use Rattle.rec_syntax.specs.Inner.Machine.{Named, Args, Result, Grouped, GroupSort, AtTerm, Called, First, After, Ended, Done, Config, to}
+use Rattle.rec_syntax.specs.Inner.Machine.{later, when, item, between, with_rule, declared, complete, after, step, then_step, run, start}
 use Rattle.rec_syntax.proofs.SectionLemmas.{sections}
 use Rattle.rec_syntax.proofs.LevelLemmas.{up_to, Empties}
-use Rattle.rec_syntax.proofs.SoundSectionLemmas.{Sofar, sofar_spelled, head_taken, all_spelled, each-last, sort_read, cons_read, opns_read, vars_read, rule_read, eval_read}
+use Rattle.rec_syntax.proofs.SoundSectionLemmas.{Sofar, sofar_spelled, head_taken, all_spelled, each-last}
+use Rattle.rec_syntax.proofs.SoundSectionLemmas.{sort_read, cons_read, opns_read, vars_read, rule_read, eval_read}
 use Rattle.rec_syntax.proofs.SoundTermLemmas.{opening, listed-snoc, closed_term, keyed-last, keyed-more, before_term}
 
 -- CONS where the flag is set, else OPNS
@@ -45,7 +49,8 @@ item_taken (In Vars) y w ts l k = (Plain w ∷ l, k, (l, refl, refl))
 item_taken (In Rules) y w ts l k = (Plain w ∷ l, k, (Plain w ∷ l, refl, refl))
 item_taken (In Eval) y w ts l k = (Plain w ∷ l, k, (Plain w ∷ l, refl, refl))
 
-when_taken : (b : Bool) (v : Level) (s : Section) (y : Spec) (ts l : List Token) → later v s ≡ b → Sofar v y ts (Head s ∷ l) → IfTaken (when b (to (Between (In s)) y)) ts l
+when_taken : (b : Bool) (v : Level) (s : Section) (y : Spec) (ts l : List Token) → later v s ≡ b → Sofar v y ts (Head s ∷ l)
+    → IfTaken (when b (to (Between (In s)) y)) ts l
 when_taken true v s y ts l h k = head_taken v s y ts l h k
 when_taken false v s y ts l h k = tt
 
@@ -55,7 +60,8 @@ between_taken v y (Head s) ts l k = when_taken (later v s) v s y ts l refl k
 between_taken v y EndSpec ts l k = let q = sofar_spelled v y ts (EndSpec ∷ l) k in (EndSpec ∷ l, all_spelled v y ts (EndSpec ∷ l) q.0 q.1, refl)
 between_taken v y u ts l k = tt
 
-declared_taken : (c : Bool) (d : Declaration) (y : Spec) (ts m l : List Token) → Sofar (In (section_of c)) y ts m → declaration d m l → IfTaken (declared c d y) ts l
+declared_taken : (c : Bool) (d : Declaration) (y : Spec) (ts m l : List Token) → Sofar (In (section_of c)) y ts m → declaration d m l
+    → IfTaken (declared c d y) ts l
 declared_taken true d y ts m l k s = cons_read y d ts m l k s
 declared_taken false d y ts m l k s = opns_read y d ts m l k s
 
@@ -74,10 +80,15 @@ complete_taken (CondRight x r cs z b) t y AndIf ts m l (j, (a, k, (n, h, (o, e, 
 complete_taken (CondRight x r cs z b) t y u ts m l (j, (a, k, (n, h, (o, e, (q, g, i)))), (f, d, c)) s =
     let last : Condition = record { left = z; right = t; equal = b } in
     let whole : Rule = record { left = x; right = r; conditions = cs ++ last ∷ [] } in
-    between_taken (In Rules) (with_rule y whole) u ts l (rule_read y whole ts a (u ∷ l) k (n, h, (o, e, (q, g, keyed-last cs last q j (u ∷ l) i (f, d, (m, c, s))))))
+    between_taken (In Rules) (with_rule y whole) u ts l (rule_read y whole ts a (u ∷ l) k (
+      n,
+      h,
+      (o, e, (q, g, keyed-last cs last q j (u ∷ l) i (f, d, (m, c, s)))),
+    ))
 complete_taken InEval t y u ts m l k s = between_taken (In Eval) (record y { terms = y.terms ++ t ∷ [] }) u ts l (eval_read y t ts m (u ∷ l) k s)
 
-after_taken : (p : Role) (t : Term) (fs : List Frame) (y : Spec) (u : Token) (ts l : List Token) → Taken (After p t fs) y ts (u ∷ l) → IfTaken (after p t fs y u) ts l
+after_taken : (p : Role) (t : Term) (fs : List Frame) (y : Spec) (u : Token) (ts l : List Token) → Taken (After p t fs) y ts (u ∷ l)
+    → IfTaken (after p t fs y u) ts l
 after_taken p t [] y u ts l (a, k, (b, e, s)) = complete_taken p t y u ts a l k (subst (λ us. term t us (u ∷ l)) (sym e) s)
 after_taken p t (f ∷ fs) y Comma ts l (a, k, (b, (c, h, (d, e, (g, i, r))), s)) = (a, k, (c, h, (d, e, (g, i, listed-snoc f.arguments t g b l r s))))
 after_taken p t (f ∷ fs) y Close ts l (a, k, (b, (c, h, (d, e, (g, i, r))), s)) = (a, k, (c, h, closed_term f.word f.arguments t c g b l (rw i at e) r s))
@@ -96,7 +107,8 @@ title_empties y w e Eval h = e Eval h
 
 -- all sections one after another are a specification
 whole_text : (y : Spec) (ts m l : List Token) → sections (up_to (In Eval)) y ts m → m ≡ EndSpec ∷ End ∷ l → specification y ts l
-whole_text y ts m l (a, (b, (c, (d, (e, (f, (g, h, i), j), k), n), o), p), q) z = (g, h, (f, i, (e, j, (d, k, (c, n, (b, o, (a, p, (m, q, (End ∷ l, z, refl)))))))))
+whole_text y ts m l (a, (b, (c, (d, (e, (f, (g, h, i), j), k), n), o), p), q) z =
+    (g, h, (f, i, (e, j, (d, k, (c, n, (b, o, (a, p, (m, q, (End ∷ l, z, refl)))))))))
 
 step_taken : (d : Due) (y : Spec) (u : Token) (ts l : List Token) → Taken d y ts (u ∷ l) → IfTaken (step d y u) ts l
 step_taken Start y RecSpec ts l k = k
@@ -105,10 +117,12 @@ step_taken (Between v) y u ts l k = between_taken v y u ts l k
 step_taken (Named c w) y Colon ts l (a, k, e) = (a, k, (Colon ∷ l, e, (l, refl, refl)))
 step_taken (Args c w ws) y (Plain v) ts l (a, k, (b, e, (m, f, r))) = (a, k, (b, e, (m, f, each-last word ws v m (Plain v ∷ l) l r refl)))
 step_taken (Args c w ws) y Arrow ts l (a, k, (b, e, (m, f, r))) = (a, k, (b, e, (m, f, (Arrow ∷ l, r, refl))))
-step_taken (Result c w ws) y (Plain v) ts l (a, k, (b, e, (m, f, (n, r, g)))) = declared_taken c (record { name = w; arguments = ws; sort = v }) y ts a l k (b, e, (m, f, (n, r, (Plain v ∷ l, g, refl))))
+step_taken (Result c w ws) y (Plain v) ts l (a, k, (b, e, (m, f, (n, r, g)))) =
+    declared_taken c (record { name = w; arguments = ws; sort = v }) y ts a l k (b, e, (m, f, (n, r, (Plain v ∷ l, g, refl))))
 step_taken (Grouped w ws) y (Plain v) ts l (a, k, (b, e, r)) = (a, k, (b, e, each-last word ws v b (Plain v ∷ l) l r refl))
 step_taken (Grouped w ws) y Colon ts l (a, k, (b, e, r)) = (a, k, (b, e, (Colon ∷ l, r, refl)))
-step_taken (GroupSort w ws) y (Plain v) ts l (a, k, (b, e, (m, r, f))) = vars_read y (record { first = w; others = ws; sort = v }) ts a l k (b, e, (m, r, (Plain v ∷ l, f, refl)))
+step_taken (GroupSort w ws) y (Plain v) ts l (a, k, (b, e, (m, r, f))) =
+    vars_read y (record { first = w; others = ws; sort = v }) ts a l k (b, e, (m, r, (Plain v ∷ l, f, refl)))
 step_taken (AtTerm p fs) y (Plain w) ts l (a, k, h) = (a, k, (Plain w ∷ l, h, refl))
 step_taken (First p x fs) y (Plain w) ts l (a, k, (b, h, (m, e, f))) = (a, k, (Plain w ∷ l, (b, h, (m, e, (Plain w ∷ l, f, refl))), refl))
 step_taken (First p x fs) y Close ts l (a, k, (b, h, (m, e, f))) = (a, k, (b, h, (m, e, inr (Close ∷ l, f, refl))))

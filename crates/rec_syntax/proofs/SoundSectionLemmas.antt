@@ -70,20 +70,25 @@ each-last P (y ∷ ys) x ts m l (a, h, r) k = (a, h, each-last P ys x a m l r k)
 
 -- one more item of a section
 
-pub sort_read : (y : Spec) (w : Word) (ts m l : List Token) → Sofar (In Sorts) y ts m → word w m l → Sofar (In Sorts) (record y { sorts = y.sorts ++ w ∷ [] }) ts l
+pub sort_read : (y : Spec) (w : Word) (ts m l : List Token) → Sofar (In Sorts) y ts m → word w m l
+    → Sofar (In Sorts) (record y { sorts = y.sorts ++ w ∷ [] }) ts l
 sort_read y w ts m l ((a, up, (b, e, k)), h) x = ((a, up, (b, e, each-last word y.sorts w b m l k x)), keep_sorts y (y.sorts ++ w ∷ []) h)
 
-pub cons_read : (y : Spec) (d : Declaration) (ts m l : List Token) → Sofar (In Cons) y ts m → declaration d m l → Sofar (In Cons) (record y { constructors = y.constructors ++ d ∷ [] }) ts l
+pub cons_read : (y : Spec) (d : Declaration) (ts m l : List Token) → Sofar (In Cons) y ts m → declaration d m l
+    → Sofar (In Cons) (record y { constructors = y.constructors ++ d ∷ [] }) ts l
 cons_read y d ts m l ((a, up, (b, e, k)), h) x = ((a, up, (b, e, each-last declaration y.constructors d b m l k x)), keep_cons y (y.constructors ++ d ∷ []) h)
 
-pub opns_read : (y : Spec) (d : Declaration) (ts m l : List Token) → Sofar (In Opns) y ts m → declaration d m l → Sofar (In Opns) (record y { operators = y.operators ++ d ∷ [] }) ts l
+pub opns_read : (y : Spec) (d : Declaration) (ts m l : List Token) → Sofar (In Opns) y ts m → declaration d m l
+    → Sofar (In Opns) (record y { operators = y.operators ++ d ∷ [] }) ts l
 opns_read y d ts m l ((a, up, (b, e, k)), h) x = ((a, up, (b, e, each-last declaration y.operators d b m l k x)), keep_opns y (y.operators ++ d ∷ []) h)
 
-pub vars_read : (y : Spec) (v : Variables) (ts m l : List Token) → Sofar (In Vars) y ts m → variables v m l → Sofar (In Vars) (record y { variables = y.variables ++ v ∷ [] }) ts l
+pub vars_read : (y : Spec) (v : Variables) (ts m l : List Token) → Sofar (In Vars) y ts m → variables v m l
+    → Sofar (In Vars) (record y { variables = y.variables ++ v ∷ [] }) ts l
 vars_read y v ts m l ((a, up, (b, e, k)), h) x = ((a, up, (b, e, each-last variables y.variables v b m l k x)), keep_vars y (y.variables ++ v ∷ []) h)
 
 pub rule_read : (y : Spec) (r : Rule) (ts m l : List Token) → Sofar (In Rules) y ts m → rule r m l → Sofar (In Rules) (with_rule y r) ts l
 rule_read y r ts m l ((a, up, (b, e, k)), h) x = ((a, up, (b, e, each-last rule y.rules r b m l k x)), keep_rules y (y.rules ++ r ∷ []) h)
 
-pub eval_read : (y : Spec) (t : Term) (ts m l : List Token) → Sofar (In Eval) y ts m → term t m l → Sofar (In Eval) (record y { terms = y.terms ++ t ∷ [] }) ts l
+pub eval_read : (y : Spec) (t : Term) (ts m l : List Token) → Sofar (In Eval) y ts m → term t m l
+    → Sofar (In Eval) (record y { terms = y.terms ++ t ∷ [] }) ts l
 eval_read y t ts m l ((a, up, (b, e, k)), h) x = ((a, up, (b, e, each-last term y.terms t b m l k x)), keep_evals y (y.terms ++ t ∷ []) h)

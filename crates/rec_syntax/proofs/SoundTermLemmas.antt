@@ -27,13 +27,18 @@ listed-snoc (more x xs) t a m l (b, h, (c, e, r)) k = (b, h, (c, e, listed-snoc 
 
 listed-further : (ts : Terms) (t : Term) (a m l : List Token) → listed ts a m → term t m (Close ∷ l) → further_arguments (snoc ts t) (Comma ∷ a) l
 listed-further none t a m l e k = (a, refl, (Close ∷ l, subst (λ us. term t us (Close ∷ l)) (sym e) k, refl))
-listed-further (more x xs) t a m l (b, h, (c, e, r)) k = (a, refl, (b, h, subst (λ us. further_arguments (snoc xs t) us l) (sym e) (listed-further xs t c m l r k)))
+listed-further (more x xs) t a m l (b, h, (c, e, r)) k = (
+  a,
+  refl,
+  (b, h, subst (λ us. further_arguments (snoc xs t) us l) (sym e) (listed-further xs t c m l r k)),
+)
 
 listed-close : (ts : Terms) (t : Term) (a m l : List Token) → listed ts a m → term t m (Close ∷ l) → to_close (snoc ts t) a l
 listed-close none t a m l e k = (Close ∷ l, subst (λ us. term t us (Close ∷ l)) (sym e) k, refl)
 listed-close (more x xs) t a m l (b, h, (c, e, r)) k = (b, h, subst (λ us. further_arguments (snoc xs t) us l) (sym e) (listed-further xs t c m l r k))
 
-pub closed_term : (w : Word) (ts : Terms) (t : Term) (a b m l : List Token) → a ≡ Plain w ∷ Open ∷ b → listed ts b m → term t m (Close ∷ l) → term (Apply w (snoc ts t)) a l
+pub closed_term : (w : Word) (ts : Terms) (t : Term) (a b m l : List Token) → a ≡ Plain w ∷ Open ∷ b → listed ts b m → term t m (Close ∷ l)
+    → term (Apply w (snoc ts t)) a l
 closed_term w none t a b m l e k s = (Open ∷ b, e, (b, refl, listed-close none t b m l k s))
 closed_term w (more x xs) t a b m l e k s = (Open ∷ b, e, (b, refl, listed-close (more x xs) t b m l k s))
 
@@ -54,7 +59,8 @@ pub keyed-last : (cs : List Condition) (c : Condition) (ts m l : List Token) →
 keyed-last [] c ts m l e k = (m, e, (l, k, refl))
 keyed-last (x ∷ cs) c ts m l (a, e, (b, h, r)) k = (a, e, (b, h, further-last cs c b m l r k))
 
-pub keyed-more : (key : Token) (cs : List Condition) (c : Condition) (ts m l : List Token) → keyed key cs ts m → condition c m (AndIf ∷ l) → keyed key (cs ++ c ∷ []) ts l
+pub keyed-more : (key : Token) (cs : List Condition) (c : Condition) (ts m l : List Token) → keyed key cs ts m → condition c m (AndIf ∷ l)
+    → keyed key (cs ++ c ∷ []) ts l
 keyed-more key [] c ts m l e k = (m, e, (AndIf ∷ l, k, refl))
 keyed-more key (x ∷ cs) c ts m l (a, e, (b, h, r)) k = (a, e, (b, h, keyed-more AndIf cs c b m l r k))
 

@@ -1,5 +1,6 @@
 -- Pushing to the nodes and the open applications of a term that is being read.
-use Rattle.std.proofs.Common.{Some, ◌≡◌, ℕ, zero, suc, ◌+◌, ◌-◌, ◌≤◌, ◌<◌, List, [], ◌∷◌, ◌++◌, length, map, reverse, drop, refl, sym, ap, ◌∙◌, append_assoc, arith, add-one, length-drop}
+use Rattle.std.proofs.Common.{Some, ◌≡◌, ℕ, zero, suc, ◌+◌, ◌-◌, ◌≤◌, ◌<◌, List, [], ◌∷◌, ◌++◌, length, map}
+use Rattle.std.proofs.Common.{reverse, drop, refl, sym, ap, ◌∙◌, append_assoc, arith, add-one, length-drop}
 use Rattle.std.specs.List.{All}
 use Rattle.std.proofs.lemmas.List.{append-nil, reverse-append}
 use Rattle.std.proofs.lemmas.List.Elements.{All-push, All-pop}
@@ -27,7 +28,8 @@ made_by-push : (made : List syntax.Term) (ns : List nodes.Node) (n : nodes.Node)
 made_by-push made [] n = refl
 made_by-push made (m ∷ ns) n = made_by-push (assembled m made) ns n
 
-Enough-push : (made : List syntax.Term) (ns : List nodes.Node) (n : nodes.Node) → Enough made ns → n.count ≤ length (made_by made ns) → Enough made (ns ++ n ∷ [])
+Enough-push : (made : List syntax.Term) (ns : List nodes.Node) (n : nodes.Node) → Enough made ns → n.count ≤ length (made_by made ns)
+    → Enough made (ns ++ n ∷ [])
 Enough-push made [] n h le = (le, tt)
 Enough-push made (m ∷ ns) n h le = (h.0, Enough-push (assembled m made) ns n h.1 le)
 
@@ -50,7 +52,8 @@ length-nodes bytes (n ∷ ns) = ap suc (length-nodes bytes ns)
 pub made-push : (bytes : List ℕ) (ns : List Node) (n : Node) → made_of bytes (ns ++ n ∷ []) ≡ assembled (node_of bytes n) (made_of bytes ns)
 made-push bytes ns n = rw nodes-push (made_by-push [] (map (node_of bytes) ns) (node_of bytes n))
 
-enough-push : (bytes : List ℕ) (ns : List Node) (n : Node) → Enough [] (map (node_of bytes) ns) → n.count ≤ length (made_of bytes ns) → Enough [] (map (node_of bytes) (ns ++ n ∷ []))
+enough-push : (bytes : List ℕ) (ns : List Node) (n : Node) → Enough [] (map (node_of bytes) ns) → n.count ≤ length (made_of bytes ns)
+    → Enough [] (map (node_of bytes) (ns ++ n ∷ []))
 enough-push bytes ns n h le = rw nodes-push (Enough-push [] (map (node_of bytes) ns) (node_of bytes n) h le)
 
 pub calls-push : (calls : List Call) (c : Call) → reverse (calls ++ c ∷ []) ≡ c ∷ reverse calls
@@ -67,29 +70,36 @@ node_stack bytes loose before calls n ns words word s counted = record {
 }
 
 -- a word without arguments is one more term
-pub leaf : (bytes : List ℕ) (w : Span) (calls : List Call) (ns after : List Node) → after ≡ ns ++ record { word = w; count = 0 } ∷ [] → Within bytes w → IsStack bytes 0 calls ns
+pub leaf : (bytes : List ℕ) (w : Span) (calls : List Call) (ns after : List Node) → after ≡ ns ++ record { word = w; count = 0 } ∷ [] → Within bytes w
+    → IsStack bytes 0 calls ns
     → (made_of bytes after ≡ Apply (word_of bytes w) none ∷ made_of bytes ns) × IsStack bytes 1 calls after
 leaf bytes w calls ns after e word s =
     let n : Node = record { word = w; count = 0 } in
     (rw (e, made-push bytes ns n) refl, rw e (node_stack bytes 0 calls calls n ns s.calls word s (omega (arith, s.counted))))
 
-close_core : (bytes : List ℕ) (p : Role) (y : syntax.Spec) (cs : List Call) (c : Call) (made : List syntax.Term) (n : nodes.Node) → 0 < length made → n ≡ record { word = word_of bytes c.word; count = c.count + 1 }
-    → machine.after p (newest_term made) (frames_of bytes (c ∷ cs) (rest made)) y token.Close ≡ to (machine.After p (newest_term (assembled n made)) (frames_of bytes cs (rest (assembled n made)))) y
+close_core : (bytes : List ℕ) (p : Role) (y : syntax.Spec) (cs : List Call) (c : Call) (made : List syntax.Term) (n : nodes.Node) → 0 < length made
+    → n ≡ record { word = word_of bytes c.word; count = c.count + 1 }
+    → machine.after p (newest_term made) (frames_of bytes (c ∷ cs) (rest made)) y token.Close ≡ to
+    (machine.After p (newest_term (assembled n made)) (frames_of bytes cs (rest (assembled n made)))) y
 close_core bytes p y cs c [] n h e = absurd (omega arith)
 close_core bytes p y cs c (t ∷ made) n h e = rw (e, add-one, newest-snoc c.count made none t) refl
 
-comma_core : (bytes : List ℕ) (p : Role) (y : syntax.Spec) (cs : List Call) (c d : Call) (made : List syntax.Term) → 0 < length made → d ≡ record { word = c.word; count = c.count + 1 }
+comma_core : (bytes : List ℕ) (p : Role) (y : syntax.Spec) (cs : List Call) (c d : Call) (made : List syntax.Term) → 0 < length made
+    → d ≡ record { word = c.word; count = c.count + 1 }
     → machine.after p (newest_term made) (frames_of bytes (c ∷ cs) (rest made)) y token.Comma ≡ to (machine.AtTerm p (frames_of bytes (d ∷ cs) made)) y
 comma_core bytes p y cs c d [] h e = absurd (omega arith)
 comma_core bytes p y cs c d (t ∷ made) h e = rw (e, add-one, newest-snoc c.count made none t) refl
 
 -- what is left of the open applications, and the innermost
-words_of_calls : (bytes : List ℕ) (before calls : List Call) (c : Call) → before ≡ calls ++ c ∷ [] → All (λ x. Within bytes x.word) before → All (λ x. Within bytes x.word) calls × Within bytes c.word
+words_of_calls : (bytes : List ℕ) (before calls : List Call) (c : Call) → before ≡ calls ++ c ∷ [] → All (λ x. Within bytes x.word) before
+    → All (λ x. Within bytes x.word) calls × Within bytes c.word
 words_of_calls bytes before calls c e h = All-pop (λ (x : Call). Within bytes x.word) before calls (Some c) e h
 
 -- a closing parenthesis makes the innermost application a term
-pub closes : (bytes : List ℕ) (p : Role) (y : syntax.Spec) (before calls : List Call) (c : Call) (ns after : List Node) → before ≡ calls ++ c ∷ [] → after ≡ ns ++ record { word = c.word; count = c.count + 1 } ∷ [] → IsStack bytes 1 before ns
-    → (machine.after p (newest_term (made_of bytes ns)) (frames_of bytes (reverse before) (rest (made_of bytes ns))) y token.Close ≡ to (machine.After p (newest_term (made_of bytes after)) (frames_of bytes (reverse calls) (rest (made_of bytes after)))) y) × IsStack bytes 1 calls after
+pub closes : (bytes : List ℕ) (p : Role) (y : syntax.Spec) (before calls : List Call) (c : Call) (ns after : List Node) → before ≡ calls ++ c ∷ []
+    → after ≡ ns ++ record { word = c.word; count = c.count + 1 } ∷ [] → IsStack bytes 1 before ns
+    → (machine.after p (newest_term (made_of bytes ns)) (frames_of bytes (reverse before) (rest (made_of bytes ns))) y token.Close ≡ to
+    (machine.After p (newest_term (made_of bytes after)) (frames_of bytes (reverse calls) (rest (made_of bytes after)))) y) × IsStack bytes 1 calls after
 closes bytes p y before calls c ns after e f s =
     let made : List syntax.Term = made_of bytes ns in
     let n : Node = record { word = c.word; count = c.count + 1 } in
@@ -100,8 +110,10 @@ closes bytes p y before calls c ns after e f s =
     )
 
 -- a comma makes the term an argument of the innermost application
-pub goes_on : (bytes : List ℕ) (p : Role) (y : syntax.Spec) (before calls after : List Call) (c d : Call) (ns : List Node) → before ≡ calls ++ c ∷ [] → after ≡ calls ++ d ∷ [] → d ≡ record { word = c.word; count = c.count + 1 } → IsStack bytes 1 before ns
-    → (machine.after p (newest_term (made_of bytes ns)) (frames_of bytes (reverse before) (rest (made_of bytes ns))) y token.Comma ≡ to (machine.AtTerm p (frames_of bytes (reverse after) (made_of bytes ns))) y) × IsStack bytes 0 after ns
+pub goes_on : (bytes : List ℕ) (p : Role) (y : syntax.Spec) (before calls after : List Call) (c d : Call) (ns : List Node) → before ≡ calls ++ c ∷ []
+    → after ≡ calls ++ d ∷ [] → d ≡ record { word = c.word; count = c.count + 1 } → IsStack bytes 1 before ns
+    → (machine.after p (newest_term (made_of bytes ns)) (frames_of bytes (reverse before) (rest (made_of bytes ns))) y token.Comma ≡ to
+    (machine.AtTerm p (frames_of bytes (reverse after) (made_of bytes ns))) y) × IsStack bytes 0 after ns
 goes_on bytes p y before calls after c d ns e f g s =
     let made : List syntax.Term = made_of bytes ns in
     let words = words_of_calls bytes before calls c e s.calls in
@@ -118,7 +130,8 @@ goes_on bytes p y before calls after c d ns e f g s =
     )
 
 -- an open application has no more arguments than there are nodes
-pub count_fits : (bytes : List ℕ) (before calls : List Call) (c : Call) (ns : List Node) → before ≡ calls ++ c ∷ [] → IsStack bytes 1 before ns → c.count + 1 ≤ length ns
+pub count_fits : (bytes : List ℕ) (before calls : List Call) (c : Call) (ns : List Node) → before ≡ calls ++ c ∷ [] → IsStack bytes 1 before ns
+    → c.count + 1 ≤ length ns
 count_fits bytes before calls c ns e s =
     let count : c.count + total (reverse calls) + 1 ≡ length (made_of bytes ns) = rw (e, calls-push) at s.counted in
     omega (arith, length-made_by [] (map (node_of bytes) ns), length-nodes bytes ns)
@@ -133,7 +146,8 @@ count-newest zero made ts h = omega arith
 count-newest (suc k) [] ts h = absurd (omega arith)
 count-newest (suc k) (t ∷ made) ts h = omega (arith, count-newest k made (more t ts) (omega arith))
 
-flat-newest : (k : ℕ) (made : List syntax.Term) (ts : Terms) → k ≤ length made → flat_made (drop k made) ++ flat_all (newest k made ts) ≡ flat_made made ++ flat_all ts
+flat-newest : (k : ℕ) (made : List syntax.Term) (ts : Terms) → k ≤ length made
+    → flat_made (drop k made) ++ flat_all (newest k made ts) ≡ flat_made made ++ flat_all ts
 flat-newest zero made ts h = refl
 flat-newest (suc k) [] ts h = absurd (omega arith)
 flat-newest (suc k) (t ∷ made) ts h = flat-newest k made (more t ts) (omega arith) ∙ sym (append_assoc (flat_made made) (flat t) (flat_all ts))
@@ -141,8 +155,10 @@ flat-newest (suc k) (t ∷ made) ts h = flat-newest k made (more t ts) (omega ar
 flat-joined : (n : nodes.Node) (made : List syntax.Term) → n.count ≤ length made → flat_made (assembled n made) ≡ flat_made made ++ n ∷ []
 flat-joined n made h =
     let args : term_count (newest n.count made none) ≡ n.count = omega (arith, count-newest n.count made none h) in
-    let front : flat_made (drop n.count made) ++ flat_all (newest n.count made none) ≡ flat_made made = flat-newest n.count made none h ∙ append-nil (flat_made made) in
-    rw args (sym (append_assoc (flat_made (drop n.count made)) (flat_all (newest n.count made none)) (n ∷ [])) ∙ ap (λ (ms : List nodes.Node). ms ++ n ∷ []) front)
+    let front : flat_made (drop n.count made) ++ flat_all (newest n.count made none) ≡ flat_made made =
+    flat-newest n.count made none h ∙ append-nil (flat_made made) in
+    rw args (sym (append_assoc (flat_made (drop n.count made)) (flat_all (newest n.count made none)) (n ∷ []))
+    ∙ ap (λ (ms : List nodes.Node). ms ++ n ∷ []) front)
 
 flat-made_by : (made : List syntax.Term) (ns : List nodes.Node) → Enough made ns → flat_made (made_by made ns) ≡ flat_made made ++ ns
 flat-made_by made [] h = sym (append-nil (flat_made made))

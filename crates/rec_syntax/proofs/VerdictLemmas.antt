@@ -26,7 +26,8 @@ taken_begins us c e =
     (f.0, finish c.due, read_is_text (us ++ finish c.due) f.0 whole)
 
 -- tokens that lead to a state are finished as the state is
-finish_from : (us rest : List Token) (y : Spec) (o : Option Config) → run (Some start) us ≡ o → run o rest ≡ to Done y → (z : Spec) × (vs : List Token) × specification z (us ++ vs) [] × OnlyA vs
+finish_from : (us rest : List Token) (y : Spec) (o : Option Config) → run (Some start) us ≡ o → run o rest ≡ to Done y
+    → (z : Spec) × (vs : List Token) × specification z (us ++ vs) [] × OnlyA vs
 finish_from us rest y None e f = absurd (cc (f, run-none rest))
 finish_from us rest y (Some c) e f =
     let g = finished c.due c.read in
@@ -79,7 +80,15 @@ refusal_here c p ps place None e f later =
 refusal_here c p ps place (Some c') e f later =
     let r = later c' f in
     let led : run (step c.due c.read p.token) (bare r.before) ≡ Some r.state = rw e r.led in
-    record { before = p ∷ r.before; token = r.token; after = r.after; cut = ap (λ (qs : List Placed). p ∷ qs) r.cut; state = r.state; led = led; refuses = r.refuses }
+    record {
+      before = p ∷ r.before;
+      token = r.token;
+      after = r.after;
+      cut = ap (λ (qs : List Placed). p ∷ qs) r.cut;
+      state = r.state;
+      led = led;
+      refuses = r.refuses;
+    }
 
 outcome-fault : (c : Config) (last : ℕ) (ps : List Placed) (place : ℕ) → outcome (Some c) last ps ≡ Fault place → Refusal c ps place
 outcome-fault c last [] place e = absurd (stopped-fault c.due c.read place e)

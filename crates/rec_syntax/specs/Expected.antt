@@ -8,7 +8,8 @@ use Rattle.rec_syntax.specs.Lexemes.{section_of, token_of}
 use Rattle.rec_syntax.specs.Inner.Reader.{config_of}
 use Rattle.rec_syntax.specs.declared.lexer.LexemeKind.{LexemeKind}
 use Rattle.rec_syntax.specs.declared.token_kind.TokenKind.{TokenKind}
-use Rattle.rec_syntax.specs.declared.token_kind.TokenKind.TheVariants.{PlainWord, RecSpec, Section, EndSpec, If, AndIf, Colon, Open, Close, Comma, Arrow, Equal, Unequal, End}
+use Rattle.rec_syntax.specs.declared.token_kind.TokenKind.TheVariants.{PlainWord, RecSpec, Section, EndSpec, If, AndIf, Colon}
+use Rattle.rec_syntax.specs.declared.token_kind.TokenKind.TheVariants.{Open, Close, Comma, Arrow, Equal, Unequal, End}
 use Rattle.rec_syntax.specs.declared.reader.Due.{Due}
 use Rattle.rec_syntax.specs.declared.reader.Reader.{Reader}
 

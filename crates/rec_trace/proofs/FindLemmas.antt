@@ -43,7 +43,8 @@ by_match y r rs n u o = elim o [
 passed : (y : Spec) (r : Rule) (rs : List Rule) (n : ℕ) (u : Tree) → binds y r.left u ≡ None → first_rule y (Eval y) (r ∷ rs) n u ≡ first_rule y (Eval y) rs n u
 passed y r rs n u e = ap (by_match y r rs n u) e
 
-matched : (y : Spec) (r : Rule) (rs : List Rule) (n : ℕ) (u : Tree) (s : Substitution) → binds y r.left u ≡ Some s → first_rule y (Eval y) (r ∷ rs) n u ≡ spend n (λ left. tried y r s rs u (Holds y left s r.conditions))
+matched : (y : Spec) (r : Rule) (rs : List Rule) (n : ℕ) (u : Tree) (s : Substitution) → binds y r.left u ≡ Some s
+    → first_rule y (Eval y) (r ∷ rs) n u ≡ spend n (λ left. tried y r s rs u (Holds y left s r.conditions))
 unfolding Holds
 matched y r rs n u s e = ap (by_match y r rs n u) e
 
@@ -51,14 +52,24 @@ first-at : (y : Spec) (rs : List Rule) (u : Tree) (from : ℕ) (m : NumberedMatc
 first-at y [] u from m e = absurd (cc e)
 first-at y (r ∷ rs) u from m e = by (binds y r.left u) refl e (λ f. first-at y rs u (suc from) m f)
   where
-    by : (o : Option Substitution) → binds y r.left u ≡ o → ◌≡◌ {A = Option NumberedMatch} (elim o [ Some s ↦ Some (record { number = from; values = s }) | None ↦ first_match y (suc from) rs u ]) (Some m)
+    by : (o : Option Substitution) → binds y r.left u ≡ o → ◌≡◌ {A = Option NumberedMatch}
+        (elim o [ Some s ↦ Some (record { number = from; values = s }) | None ↦ first_match y (suc from) rs u ]) (Some m)
         → (first_match y (suc from) rs u ≡ Some m → FirstAt y rs u (suc from) m) → FirstAt y (r ∷ rs) u from m
     by (Some t) h f later =
         let same = some-same (let a : NumberedMatch = record { number = from; values = t } in a) m f in
         let number : from ≡ m.number = ap (λ k. k.number) same in
         let values : t ≡ m.values = ap (λ k. k.values) same in
         let binding : binds y r.left u ≡ Some m.values = h ∙ ap (λ x. let o : Option Substitution = Some x in o) values in
-        record { place = 0; rule = r; others = rs; is = omega (arith, number); split = refl; binding = binding; tries = λ n. matched y r rs n u m.values binding }
+        record {
+          place = 0;
+          rule = r;
+          others = rs;
+          is = omega (arith, number);
+          split = refl;
+          binding = binding;
+          tries = λ n.
+              matched y r rs n u m.values binding;
+        }
     by None h f later =
         let k : FirstAt y rs u (suc from) m = later f in
         record {
@@ -75,7 +86,8 @@ none-match : (y : Spec) (rs : List Rule) (u : Tree) (from : ℕ) → first_match
 none-match y [] u from e n = refl
 none-match y (r ∷ rs) u from e n = by (binds y r.left u) refl e (λ f. none-match y rs u (suc from) f n)
   where
-    by : (o : Option Substitution) → binds y r.left u ≡ o → ◌≡◌ {A = Option NumberedMatch} (elim o [ Some s ↦ Some (record { number = from; values = s }) | None ↦ first_match y (suc from) rs u ]) None
+    by : (o : Option Substitution) → binds y r.left u ≡ o → ◌≡◌ {A = Option NumberedMatch}
+        (elim o [ Some s ↦ Some (record { number = from; values = s }) | None ↦ first_match y (suc from) rs u ]) None
         → (first_match y (suc from) rs u ≡ None → first_rule y (Eval y) rs n u ≡ Done None n) → first_rule y (Eval y) (r ∷ rs) n u ≡ Done None n
     by (Some t) h f later = absurd (cc f)
     by None h f later = passed y r rs n u h ∙ later f
@@ -87,10 +99,12 @@ pub record NextRule (y : Spec) (u : Tree) (from i : ℕ) : Type 0 where
   pub later : from ≤ i
   pub within : i < length y.rules
   pub match : IsMatch y i u rule values
-  pub tries : (n : ℕ) → first_rule y (Eval y) (drop from y.rules) n u ≡ spend n (λ left. tried y rule values (drop (suc i) y.rules) u (Holds y left values rule.conditions))
+  pub tries : (n : ℕ) → first_rule y (Eval y) (drop from y.rules) n u ≡ spend n (λ left.
+      tried y rule values (drop (suc i) y.rules) u (Holds y left values rule.conditions))
 
 -- where a list begins
-at-front : {A : Type 0} (xs : List A) (k : ℕ) (x : A) (rest : List A) → drop k xs ≡ x ∷ rest → (k < length xs) × (slice_get xs k ≡ Some x) × (rest ≡ drop (suc k) xs)
+at-front : {A : Type 0} (xs : List A) (k : ℕ) (x : A) (rest : List A) → drop k xs ≡ x ∷ rest
+    → (k < length xs) × (slice_get xs k ≡ Some x) × (rest ≡ drop (suc k) xs)
 at-front [] zero x rest e = absurd (cc e)
 at-front [] (suc k) x rest e = absurd (cc e)
 at-front (z ∷ xs) zero x rest e = (omega arith, (let same : z ≡ x = cc e in ap (λ a. Some a) same), (let same : xs ≡ rest = cc e in sym same))
@@ -130,12 +144,15 @@ spent (suc n) f lt = ap f (let e : n ≡ suc n - 1 = omega arith in e)
 
 -- a rule was tried for the tree on top: it fires, or the next ones are tried, or the limit is passed
 abbrev pub Tried : Spec → Store → Store → Tracer → Tracer → Tree → ℕ → Option Bool → Type 0
-Tried y w w' a d u i (Some true) = (m : Match) × (first_rule y (Eval y) y.rules a.left u ≡ Done (Some m) d.left) × IsMatch y i u m.rule m.values × IsSame y w w' a d
+Tried y w w' a d u i (Some true) = (m : Match) × (first_rule y (Eval y) y.rules a.left u ≡ Done (Some m) d.left) × IsMatch y i u m.rule m.values
+    × IsSame y w w' a d
 Tried y w w' a d u i (Some false) = (first_rule y (Eval y) (drop (i + 1) y.rules) d.left u ≡ first_rule y (Eval y) y.rules a.left u) × IsSame y w w' a d
 Tried y w w' a d u i None = first_rule y (Eval y) y.rules a.left u ≡ Over
 
-pub tried-rule : (y : Spec) (w w1 w2 : Store) (a b b' d : Tracer) (u : Tree) (from i : ℕ) (o : Option Bool) (n : NextRule y u from i) → IsSame y w w1 a b → first_rule y (Eval y) (drop from y.rules) b.left u ≡ first_rule y (Eval y) y.rules a.left u → 0 < b.left
-    → b'.left ≡ b.left - 1 → moves_at y w1 b' ≡ moves_at y w1 b → stack_at w1 b' ≡ stack_at w1 b → AreAnswered y w1 w2 b' d (Holds y b'.left n.values n.rule.conditions) o → Tried y w w2 a d u i o
+pub tried-rule : (y : Spec) (w w1 w2 : Store) (a b b' d : Tracer) (u : Tree) (from i : ℕ) (o : Option Bool) (n : NextRule y u from i)
+    → IsSame y w w1 a b → first_rule y (Eval y) (drop from y.rules) b.left u ≡ first_rule y (Eval y) y.rules a.left u → 0 < b.left
+    → b'.left ≡ b.left - 1 → moves_at y w1 b' ≡ moves_at y w1 b → stack_at w1 b' ≡ stack_at w1 b
+    → AreAnswered y w1 w2 b' d (Holds y b'.left n.values n.rule.conditions) o → Tried y w w2 a d u i o
 tried-rule y w w1 w2 a b b' d u from i o n state comes some less moves stack h = by o h
   where
     step : first_rule y (Eval y) y.rules a.left u ≡ tried y n.rule n.values (drop (suc i) y.rules) u (Holds y b'.left n.values n.rule.conditions)
@@ -154,14 +171,17 @@ tried-rule y w w1 w2 a b b' d u from i o n state comes some less moves stack h =
       both q.1,
     )
     by (Some false) q = (
-      ap (λ k. first_rule y (Eval y) (drop k y.rules) d.left u) (let e : i + 1 ≡ suc i = omega arith in e) ∙ sym (step ∙ ap (tried y n.rule n.values (drop (suc i) y.rules) u) q.0),
+      ap (λ k. first_rule y (Eval y) (drop k y.rules) d.left u) (let e : i + 1 ≡ suc i = omega arith in e)
+          ∙ sym (step ∙ ap (tried y n.rule n.values (drop (suc i) y.rules) u) q.0),
       both q.1,
     )
     by None q = step ∙ ap (tried y n.rule n.values (drop (suc i) y.rules) u) q
 
 -- no step is left for a rule that matches
-pub nothing-left : (y : Spec) (u : Tree) (from i n : ℕ) (F : Outcome (Option Match)) → NextRule y u from i → n ≡ 0 → first_rule y (Eval y) (drop from y.rules) n u ≡ F → F ≡ Over
-nothing-left y u from i n F next e comes = sym comes ∙ next.tries n ∙ ap (λ k. spend k (λ left. tried y next.rule next.values (drop (suc i) y.rules) u (Holds y left next.values next.rule.conditions))) e
+pub nothing-left : (y : Spec) (u : Tree) (from i n : ℕ) (F : Outcome (Option Match)) → NextRule y u from i → n ≡ 0
+    → first_rule y (Eval y) (drop from y.rules) n u ≡ F → F ≡ Over
+nothing-left y u from i n F next e comes = sym comes ∙ next.tries n
+    ∙ ap (λ k. spend k (λ left. tried y next.rule next.values (drop (suc i) y.rules) u (Holds y left next.values next.rule.conditions))) e
 
 pub none-of : (o : Option ℕ) → ((x : ℕ) → o ≡ Some x → ⊥) → o ≡ None
 none-of None h = refl

@@ -23,7 +23,8 @@ use Rattle.rec_trace.specs.declared.tracer.Turn.TheVariants as turn
 use Rattle.rec_trace.proofs.RunLemmas.{written-is}
 
 -- a side that was only written down
-pub side-written : (y : Spec) (w w1 : Store) (a b : Tracer) (s : Substitution) (t : Term) (yes : Bool) → Gives y w w1 a b (evaluate (caller y false) a.left s t) yes → (b.left ≡ a.left) × Adds y w w1 a b (instance s t)
+pub side-written : (y : Spec) (w w1 : Store) (a b : Tracer) (s : Substitution) (t : Term) (yes : Bool)
+    → Gives y w w1 a b (evaluate (caller y false) a.left s t) yes → (b.left ≡ a.left) × Adds y w w1 a b (instance s t)
 side-written y w w1 a b s t true h =
     let same : Done (instance s t) a.left ≡ Done h.0 b.left = sym (written-is y a.left s t) ∙ h.1 in
     let value : instance s t ≡ h.0 = cc same in
@@ -32,16 +33,20 @@ side-written y w w1 a b s t true h =
 side-written y w w1 a b s t false h = absurd (cc (sym (written-is y a.left s t) ∙ h))
 
 -- the rule has fired
-pub fired : (y : Spec) (w w1 w2 w3 : Store) (a b d e : Tracer) (r : Rule) (s : Substitution) (redex contractum : Reference) → 0 < length (stack_at w a) → b.left ≡ a.left → Adds y w w1 a b (instance s r.right) → HasMoves y w1 w2 b d (moves s r.right) → d.left ≡ b.left
-    → AreKept w3 e.lists → e.left ≡ d.left → e.steps ≡ d.steps → Hold w3 e.lists (listed w2 d.lists.given) (drop 2 (stack_at w2 d)) → ((t : Reference) → tree_at w3 t ≡ tree_at w2 t)
-    → tree_at w2 redex ≡ Some (get_or (stack_at w2 d) 1 (list_of none)) → tree_at w2 contractum ≡ Some (get_or (stack_at w2 d) 0 (list_of none)) → turns.HasFired y w w3 a e r s redex contractum
+pub fired : (y : Spec) (w w1 w2 w3 : Store) (a b d e : Tracer) (r : Rule) (s : Substitution) (redex contractum : Reference)
+    → 0 < length (stack_at w a) → b.left ≡ a.left → Adds y w w1 a b (instance s r.right) → HasMoves y w1 w2 b d (moves s r.right) → d.left ≡ b.left
+    → AreKept w3 e.lists → e.left ≡ d.left → e.steps ≡ d.steps → Hold w3 e.lists (listed w2 d.lists.given) (drop 2 (stack_at w2 d))
+    → ((t : Reference) → tree_at w3 t ≡ tree_at w2 t)
+    → tree_at w2 redex ≡ Some (get_or (stack_at w2 d) 1 (list_of none)) → tree_at w2 contractum ≡ Some (get_or (stack_at w2 d) 0 (list_of none))
+    → turns.HasFired y w w3 a e r s redex contractum
 fired y w w1 w2 w3 a b d e r s redex contractum some bl adds front dl kept el steps hold content redex_at contractum_at =
     let stack : stack_at w2 d ≡ instance s r.right ∷ stack_at w a = front.stack ∙ adds.stack in
     record {
       order = record {
         good = front.order.good;
         kept = kept;
-        steps = subst (λ (z : Vec Step Global). AreSteps y (reverse z.items) (listed w3 e.lists.given)) (sym steps) (subst (AreSteps y (reverse d.steps.items)) (sym hold.given) front.order.steps);
+        steps = subst (λ (z : Vec Step Global). AreSteps y (reverse z.items) (listed w3 e.lists.given)) (sym steps)
+            (subst (AreSteps y (reverse d.steps.items)) (sym hold.given) front.order.steps);
       };
       left_is = el ∙ dl ∙ bl;
       moves_are =
@@ -57,12 +62,14 @@ fired y w w1 w2 w3 a b d e r s redex contractum some bl adds front dl kept el st
     split (v ∷ st) lt = refl
 
 -- a symbol was applied to the values on top
-pub applied-order : (y : Spec) (w w1 : Store) (a b : Tracer) (st : List Tree) → IsInOrder y w a → AreKept w1 b.lists → b.steps ≡ a.steps → Hold w1 b.lists (listed w a.lists.given) st → IsInOrder y w1 b × (moves_at y w1 b ≡ moves_at y w a) × (stack_at w1 b ≡ st)
+pub applied-order : (y : Spec) (w w1 : Store) (a b : Tracer) (st : List Tree) → IsInOrder y w a → AreKept w1 b.lists → b.steps ≡ a.steps
+    → Hold w1 b.lists (listed w a.lists.given) st → IsInOrder y w1 b × (moves_at y w1 b ≡ moves_at y w a) × (stack_at w1 b ≡ st)
 applied-order y w w1 a b st order kept steps hold = (
   record {
     good = order.good;
     kept = kept;
-    steps = subst (λ (z : Vec Step Global). AreSteps y (reverse z.items) (listed w1 b.lists.given)) (sym steps) (subst (AreSteps y (reverse a.steps.items)) (sym hold.given) order.steps);
+    steps = subst (λ (z : Vec Step Global). AreSteps y (reverse z.items) (listed w1 b.lists.given)) (sym steps)
+        (subst (AreSteps y (reverse a.steps.items)) (sym hold.given) order.steps);
   },
   ap (λ (z : Vec Step Global). moves_of y (reverse z.items) (listed w1 b.lists.given)) steps ∙ ap (moves_of y (reverse a.steps.items)) hold.given,
   hold.stack,
@@ -72,12 +79,16 @@ tail-is : (u v : Tree) (xs ys : List Tree) → u ∷ xs ≡ v ∷ ys → xs ≡ 
 tail-is u v xs ys e = cc
 
 -- what is found for a call, where the symbol was applied to the values on top
-module _ (y : Spec) (w w1 w2 : Store) (a b d : Tracer) (u : Tree) (st : List Tree) (moves_same : moves_at y w1 b ≡ moves_at y w a) (stack_is : stack_at w1 b ≡ u ∷ st) (left_same : b.left ≡ a.left) where
+module _ (y : Spec) (w w1 w2 : Store) (a b d : Tracer) (u : Tree) (st : List Tree) (moves_same : moves_at y w1 b ≡ moves_at y w a)
+    (stack_is : stack_at w1 b ≡ u ∷ st) (left_same : b.left ≡ a.left) where
   asked-is : first_rule y (Eval y) y.rules b.left (on_top (stack_at w1 b)) ≡ first_rule y (Eval y) y.rules a.left u
-  asked-is = ap (λ n. first_rule y (Eval y) y.rules n (on_top (stack_at w1 b))) left_same ∙ ap (λ (xs : List Tree). first_rule y (Eval y) y.rules a.left (on_top xs)) stack_is
+  asked-is = ap (λ n. first_rule y (Eval y) y.rules n (on_top (stack_at w1 b))) left_same
+      ∙ ap (λ (xs : List Tree). first_rule y (Eval y) y.rules a.left (on_top xs)) stack_is
 
-  pub call-fires : (w3 : Store) (e : Tracer) (i : ℕ) (t : Turn) → T.IsFound y w1 w2 b d (first_rule y (Eval y) y.rules b.left (on_top (stack_at w1 b))) (found.Rule i)
-      → ((r : Rule) (s : Substitution) → IsMatch y i (on_top (stack_at w2 d)) r s → Fires y w2 w3 d e i r s t) → Comes y w w3 a e u st (first_rule y (Eval y) y.rules a.left u) (Some t)
+  pub call-fires : (w3 : Store) (e : Tracer) (i : ℕ) (t : Turn)
+      → T.IsFound y w1 w2 b d (first_rule y (Eval y) y.rules b.left (on_top (stack_at w1 b))) (found.Rule i)
+      → ((r : Rule) (s : Substitution) → IsMatch y i (on_top (stack_at w2 d)) r s → Fires y w2 w3 d e i r s t)
+      → Comes y w w3 a e u st (first_rule y (Eval y) y.rules a.left u) (Some t)
   call-fires w3 e i (turn.Fired rule redex contractum) f fires =
       let h = fires f.0.rule f.0.values (subst (λ xs. IsMatch y i (on_top xs) f.0.rule f.0.values) (sym f.3.stack) f.2) in
       let same : stack_at w2 d ≡ u ∷ st = f.3.stack ∙ stack_is in (
@@ -93,8 +104,10 @@ module _ (y : Spec) (w w1 w2 : Store) (a b d : Tracer) (u : Tree) (st : List Tre
   call-fires w3 e i (turn.Value t) f fires = absurd (fires f.0.rule f.0.values (subst (λ xs. IsMatch y i (on_top xs) f.0.rule f.0.values) (sym f.3.stack) f.2))
   call-fires w3 e i turn.Limit f fires = absurd (fires f.0.rule f.0.values (subst (λ xs. IsMatch y i (on_top xs) f.0.rule f.0.values) (sym f.3.stack) f.2))
 
-  pub call-ends : T.IsFound y w1 w2 b d (first_rule y (Eval y) y.rules b.left (on_top (stack_at w1 b))) found.Nothing → Comes y w w2 a d u st (first_rule y (Eval y) y.rules a.left u) None
+  pub call-ends : T.IsFound y w1 w2 b d (first_rule y (Eval y) y.rules b.left (on_top (stack_at w1 b))) found.Nothing
+      → Comes y w w2 a d u st (first_rule y (Eval y) y.rules a.left u) None
   call-ends f = (sym asked-is ∙ f.0, f.1.order, f.1.moves ∙ moves_same, f.1.stack ∙ stack_is)
 
-  pub call-over : T.IsFound y w1 w2 b d (first_rule y (Eval y) y.rules b.left (on_top (stack_at w1 b))) found.Limit → Comes y w w2 a d u st (first_rule y (Eval y) y.rules a.left u) (Some turn.Limit)
+  pub call-over : T.IsFound y w1 w2 b d (first_rule y (Eval y) y.rules b.left (on_top (stack_at w1 b))) found.Limit
+      → Comes y w w2 a d u st (first_rule y (Eval y) y.rules a.left u) (Some turn.Limit)
   call-over f = sym asked-is ∙ f

@@ -1,6 +1,7 @@
 -- Which lines begin with a digit.
 use Rattle.std.proofs.Common.{refl, sym, ap, ◌∙◌, arith}
-use Rattle.std.specs.Prelude.{ℕ, zero, suc, ◌+◌, ◌-◌, ◌%◌, ◌^◌, ◌==◌, ◌≡◌, ◌<◌, ◌≤◌, ◌&&◌, ◌||◌, not, Bool, true, false, List, [], ◌∷◌, ◌++◌, codes, decimal, length, nat_eq, nat_le, take}
+use Rattle.std.specs.Prelude.{ℕ, zero, suc, ◌+◌, ◌-◌, ◌%◌, ◌^◌, ◌==◌, ◌≡◌, ◌<◌, ◌≤◌, ◌&&◌, ◌||◌, not, Bool}
+use Rattle.std.specs.Prelude.{true, false, List, [], ◌∷◌, ◌++◌, codes, decimal, length, nat_eq, nat_le, take}
 use Rattle.std.proofs.lemmas.Bool.{eqb-true, leb-true, le-leb, lt-leb}
 use Rattle.std.proofs.lemmas.Fmt.{decimal_by_steps}
 use Rattle.std.specs.List.{list_all}
@@ -66,7 +67,8 @@ value_line_law counted n left name ts notes =
     let anns : List ℕ = enclosed 123 notes (canon_all notes) 125 [] in
     let spent : List ℕ = spent_text counted (n - left) in (
       other-false ((((own ++ args) ++ anns) ++ spent) ++ codes "\n")
-          (other-front (((own ++ args) ++ anns) ++ spent) (codes "\n") (other-front ((own ++ args) ++ anns) spent (other-front (own ++ args) anns (other-front own args (name-begins name (plain_name name) refl))))),
+          (other-front (((own ++ args) ++ anns) ++ spent) (codes "\n")
+          (other-front ((own ++ args) ++ anns) spent (other-front (own ++ args) anns (other-front own args (name-begins name (plain_name name) refl))))),
       refl,
     )
 

@@ -1,6 +1,7 @@
 -- Lists in a bank, what protects them, and what others protect.
 use Rattle.std.proofs.Common.{◌+◌, ◌-◌, ◌<◌, ◌≤◌, ℕ, arith, refl, sym, ap, subst, ◌∙◌, length, drop, get_or, inl}
-use Rattle.std.specs.Prelude.{zero, suc, ◌≡◌, ◌==◌, Bool, List, [], ◌∷◌, OnOk, Option, Some, Ok, Err, Result, IsSome, is_some, Contains, if◌then◌else◌, unwrap_or}
+use Rattle.std.specs.Prelude.{zero, suc, ◌≡◌, ◌==◌, Bool, List, [], ◌∷◌, OnOk, Option, Some, Ok}
+use Rattle.std.specs.Prelude.{Err, Result, IsSome, is_some, Contains, if◌then◌else◌, unwrap_or}
 use Rattle.std.specs.Option.{option_and_then}
 use Rattle.std.proofs.lemmas.Bool.Decides.{nat_tests}
 use Rattle.rx_term.specs.Tree.{Tree, Trees, none, more, from_list, items_of, list_of, to_list}
@@ -40,7 +41,8 @@ pub same-list : (w w' : Store) (r : Term) → tree_at w' r ≡ tree_at w r → I
 same-list w w' r e list = (is-list w' r (listed w r) (e ∙ list), items-are w' r (listed w r) (e ∙ list))
 
 -- a list with one item more
-pub longer-list : (w : Store) (t below : Term) → IsSome (tree_at w t) → IsList w below → longer (tree_at w t) (tree_at w below) ≡ Some (list_of (from_list (held_tree w t ∷ listed w below)))
+pub longer-list : (w : Store) (t below : Term) → IsSome (tree_at w t) → IsList w below
+    → longer (tree_at w t) (tree_at w below) ≡ Some (list_of (from_list (held_tree w t ∷ listed w below)))
 longer-list w t below held list =
     let x = some-value (tree_at w t) held in
     ap (λ o. longer o (tree_at w below)) x.1 ∙ ap (longer (Some x.0)) list
@@ -52,14 +54,17 @@ first-of [] lt = let no : ⊥ = omega (arith, lt) in absurd no
 first-of (x ∷ xs) lt = refl
 
 pub head-is : (w : Store) (r : Term) → IsList w r → 0 < length (listed w r) → part_at head_of w r ≡ Some (get_or (listed w r) 0 (list_of none))
-head-is w r list lt = ap (option_and_then head_of) (list ∙ ap (λ (xs : List Tree). let o : Option Tree = Some (list_of (from_list xs)) in o) (first-of (listed w r) lt))
+head-is w r list lt = ap (option_and_then head_of) (list ∙ ap (λ (xs : List Tree). let o : Option Tree = Some (list_of (from_list xs)) in o)
+    (first-of (listed w r) lt))
 
 pub tail-is : (w : Store) (r : Term) → IsList w r → 0 < length (listed w r) → part_at tail_of w r ≡ Some (list_of (from_list (drop 1 (listed w r))))
-tail-is w r list lt = ap (option_and_then tail_of) (list ∙ ap (λ (xs : List Tree). let o : Option Tree = Some (list_of (from_list xs)) in o) (first-of (listed w r) lt))
+tail-is w r list lt = ap (option_and_then tail_of) (list ∙ ap (λ (xs : List Tree). let o : Option Tree = Some (list_of (from_list xs)) in o)
+    (first-of (listed w r) lt))
 
 -- one count goes up, and then another one goes down
 moved : (f : ℕ → ℕ) (a b k : ℕ) → 0 < f a
-    → (if k == a then (if a == b then f b + 1 else f a) - 1 else (if k == b then f b + 1 else f k)) + (if k == a then 1 else 0) ≡ f k + (if k == b then 1 else 0)
+    → (if k == a then (if a == b then f b + 1 else f a) - 1 else (if k == b then f b + 1 else f k)) + (if k == a then 1 else 0) ≡ f
+    k + (if k == b then 1 else 0)
 moved f a b k low = grind (arith, nat_tests)
 
 pub itself : (k : ℕ) → ◌≡◌ {A = ℕ} (if k == k then 1 else 0) 1
@@ -143,7 +148,8 @@ pub moved-tree : (w w' : Store) (a b r : Term) → w' ≡ protected_instead w a 
 moved-tree w w' a b r e = ap (λ x. tree_at x r) e
 
 -- a reference on top of a list becomes the stack
-pub put-stays : (w w1 w2 : Store) (l : Lists) (t below r : Term) → AreKept w l → IsSome (tree_at w t) → IsList w below → Keeps w w1 (t ∷ below ∷ []) → tree_at w1 r ≡ longer (tree_at w t) (tree_at w below) → w2 ≡ protected_instead w1 l.stack r
+pub put-stays : (w w1 w2 : Store) (l : Lists) (t below r : Term) → AreKept w l → IsSome (tree_at w t) → IsList w below → Keeps w w1 (t ∷ below ∷ [])
+    → tree_at w1 r ≡ longer (tree_at w t) (tree_at w below) → w2 ≡ protected_instead w1 l.stack r
     → Stays w w2 l (record l { stack = r }) × Hold w2 (record l { stack = r }) (listed w l.given) (held_tree w t ∷ listed w below)
 put-stays w w1 w2 l t below r kept held list keeps made e =
     let is = made ∙ longer-list w t below held list in
@@ -156,7 +162,8 @@ put-stays w w1 w2 l t below r kept held list keeps made e =
     )
 
 -- a reference on top of those that are to be given
-pub offer-stays : (w w1 w2 : Store) (l : Lists) (t r : Term) → AreKept w l → IsSome (tree_at w t) → Keeps w w1 (t ∷ l.given ∷ []) → tree_at w1 r ≡ longer (tree_at w t) (tree_at w l.given) → w2 ≡ protected_instead w1 l.given r
+pub offer-stays : (w w1 w2 : Store) (l : Lists) (t r : Term) → AreKept w l → IsSome (tree_at w t) → Keeps w w1 (t ∷ l.given ∷ [])
+    → tree_at w1 r ≡ longer (tree_at w t) (tree_at w l.given) → w2 ≡ protected_instead w1 l.given r
     → Stays w w2 l (record l { given = r }) × Hold w2 (record l { given = r }) (held_tree w t ∷ listed w l.given) (listed w l.stack)
 offer-stays w w1 w2 l t r kept held keeps made e =
     let is = made ∙ longer-list w t l.given held kept.given in
@@ -191,15 +198,18 @@ popping-first w count stack values list e = subst (Popping w count (listed w sta
   held = AllHeld-nil w;
 })
 
-pub popping-some : (w : Store) (count : ℕ) (st : List Tree) (i : ℕ) (below : Term) (values : List Term) → Popping w count st i below values → i < count → count ≤ length st → 0 < length (listed w below)
+pub popping-some : (w : Store) (count : ℕ) (st : List Tree) (i : ℕ) (below : Term) (values : List Term) → Popping w count st i below values
+    → i < count → count ≤ length st → 0 < length (listed w below)
 popping-some w count st i below values p lt le = subst (λ (xs : List Tree). 0 < length xs) (sym p.left) (let d = length-drop i st in omega (arith, d, lt, le))
 
 taken-next : (k : ℕ) (v : Tree) (st : List Tree) (vs : Trees) → 0 < k → taken k (v ∷ st) vs ≡ taken (k - 1) st (more v vs)
 taken-next zero v st vs lt = let no : ⊥ = omega (arith, lt) in absurd no
 taken-next (suc k) v st vs lt = ap (λ j. taken j st (more v vs)) (let e : k ≡ suc k - 1 = omega arith in e)
 
-pub popping-next : (w : Store) (count : ℕ) (st : List Tree) (i : ℕ) (below value rest : Term) (values more_values : List Term) → Popping w count st i below values → i < count → count ≤ length st
-    → tree_at w value ≡ part_at head_of w below → tree_at w rest ≡ part_at tail_of w below → more_values ≡ value ∷ values → Popping w count st (i + 1) rest more_values
+pub popping-next : (w : Store) (count : ℕ) (st : List Tree) (i : ℕ) (below value rest : Term) (values more_values : List Term)
+    → Popping w count st i below values → i < count → count ≤ length st
+    → tree_at w value ≡ part_at head_of w below → tree_at w rest ≡ part_at tail_of w below → more_values ≡ value ∷ values
+    → Popping w count st (i + 1) rest more_values
 popping-next w count st i below value rest values more_values p lt le head tail e =
     let some = popping-some w count st i below values p lt le in
     let first : tree_at w value ≡ Some (get_or (listed w below) 0 (list_of none)) = head ∙ head-is w below p.list some in
@@ -212,7 +222,8 @@ popping-next w count st i below value rest values more_values p lt le head tail 
           p.taking
           ∙ ap (λ (xs : List Tree). taken (count - i) xs (from_list (held_trees w values))) (first-of (listed w below) some)
           ∙ taken-next (count - i) (get_or (listed w below) 0 (list_of none)) (drop 1 (listed w below)) (from_list (held_trees w values)) (omega (arith, lt))
-          ∙ ap (λ k. taken k (drop 1 (listed w below)) (more (get_or (listed w below) 0 (list_of none)) (from_list (held_trees w values)))) (let z : count - i - 1 ≡ count - (i + 1) = omega arith in z)
+          ∙ ap (λ k. taken k (drop 1 (listed w below)) (more (get_or (listed w below) 0 (list_of none)) (from_list (held_trees w values))))
+          (let z : count - i - 1 ≡ count - (i + 1) = omega arith in z)
           ∙ ap (λ (xs : List Tree). taken (count - (i + 1)) xs (more (get_or (listed w below) 0 (list_of none)) (from_list (held_trees w values)))) (sym is)
           ∙ ap (λ (o : Option Tree). taken (count - (i + 1)) (listed w rest) (more (unwrap_or o (list_of none)) (from_list (held_trees w values)))) (sym first);
       counted = ap suc p.counted ∙ (let z : suc i ≡ i + 1 = omega arith in z);
@@ -220,7 +231,8 @@ popping-next w count st i below value rest values more_values p lt le head tail 
     })
 
 -- all were taken
-pub popped : (w : Store) (count : ℕ) (st : List Tree) (i : ℕ) (below : Term) (values : List Term) → Popping w count st i below values → count ≤ i → i ≤ count → (from_list (held_trees w values) ≡ taken count st none) × (length values ≡ count) × (listed w below ≡ drop count st)
+pub popped : (w : Store) (count : ℕ) (st : List Tree) (i : ℕ) (below : Term) (values : List Term) → Popping w count st i below values → count ≤ i
+    → i ≤ count → (from_list (held_trees w values) ≡ taken count st none) × (length values ≡ count) × (listed w below ≡ drop count st)
 popped w count st i below values p ge le =
     let e : i ≡ count = omega arith in (
       sym (p.taking ∙ ap (λ k. taken k (listed w below) (from_list (held_trees w values))) (let z : count - i ≡ 0 = omega arith in z)),
@@ -238,7 +250,8 @@ pub below-kept : (w w1 : Store) (below : Term) → IsList w below → Keeps w w1
 below-kept w w1 below list keeps = same-list w w1 below (kept-work keeps below (cons_head below []) (is-there w below list)) list
 
 -- a tree that was made comes on top of what stands below
-pub put-result : (w w1 w2 : Store) (l m : Lists) (below term : Term) (v : Tree) (st : List Tree) → AreKept w l → IsList w below → Keeps w w1 (below ∷ []) → tree_at w1 term ≡ Some v → listed w below ≡ st → Hold w2 m (listed w1 l.given) (held_tree w1 term ∷ listed w1 below)
+pub put-result : (w w1 w2 : Store) (l m : Lists) (below term : Term) (v : Tree) (st : List Tree) → AreKept w l → IsList w below
+    → Keeps w w1 (below ∷ []) → tree_at w1 term ≡ Some v → listed w below ≡ st → Hold w2 m (listed w1 l.given) (held_tree w1 term ∷ listed w1 below)
     → Hold w2 m (listed w l.given) (v ∷ st)
 put-result w w1 w2 l m below term v st kept list keeps is rest h = record {
   given = h.given ∙ kept-given w w1 (below ∷ []) l kept keeps;
@@ -259,12 +272,14 @@ pub record IsBelow (w : Store) (stack rest below : Term) : Type 0 where
   pub below_is : listed w below ≡ drop 2 (listed w stack)
   pub second_is : part_at head_of w rest ≡ Some (get_or (listed w stack) 1 (list_of none))
 
-two-of : (xs : List Tree) → 1 < length xs → (drop 1 (drop 1 xs) ≡ drop 2 xs) × (get_or (drop 1 xs) 0 (list_of none) ≡ get_or xs 1 (list_of none)) × (0 < length (drop 1 xs))
+two-of : (xs : List Tree) → 1 < length xs → (drop 1 (drop 1 xs) ≡ drop 2 xs) × (get_or (drop 1 xs) 0 (list_of none) ≡ get_or xs 1 (list_of none))
+    × (0 < length (drop 1 xs))
 two-of [] lt = let no : ⊥ = omega (arith, lt) in absurd no
 two-of (x ∷ []) lt = let no : ⊥ = omega (arith, lt) in absurd no
 two-of (x ∷ z ∷ xs) lt = (refl, refl, omega arith)
 
-pub is-below : (w : Store) (stack rest below : Term) → IsList w stack → 1 < length (listed w stack) → tree_at w rest ≡ part_at tail_of w stack → tree_at w below ≡ part_at tail_of w rest → IsBelow w stack rest below
+pub is-below : (w : Store) (stack rest below : Term) → IsList w stack → 1 < length (listed w stack) → tree_at w rest ≡ part_at tail_of w stack
+    → tree_at w below ≡ part_at tail_of w rest → IsBelow w stack rest below
 is-below w stack rest below list lt first second =
     let two = two-of (listed w stack) lt in
     let others : tree_at w rest ≡ Some (list_of (from_list (drop 1 (listed w stack)))) = first ∙ tail-is w stack list (omega (arith, lt)) in
@@ -277,11 +292,13 @@ is-below w stack rest below list lt first second =
       rest_is = is;
       below_list = is-list w below (drop 1 (listed w rest)) last;
       below_is = items-are w below (drop 1 (listed w rest)) last ∙ ap (drop 1) is ∙ two.0;
-      second_is = head-is w rest rest_list some ∙ ap (λ (xs : List Tree). let o : Option Tree = Some (get_or xs 0 (list_of none)) in o) is ∙ ap (λ u. let o : Option Tree = Some u in o) two.1;
+      second_is = head-is w rest rest_list some ∙ ap (λ (xs : List Tree). let o : Option Tree = Some (get_or xs 0 (list_of none)) in o) is
+          ∙ ap (λ u. let o : Option Tree = Some u in o) two.1;
     }
 
 -- a list of two has a first item, and so has what stands below it
-pub rest-some : (w : Store) (stack rest : Term) → IsList w stack → 1 < length (listed w stack) → tree_at w rest ≡ part_at tail_of w stack → IsSome (part_at head_of w rest) × IsSome (part_at tail_of w rest)
+pub rest-some : (w : Store) (stack rest : Term) → IsList w stack → 1 < length (listed w stack) → tree_at w rest ≡ part_at tail_of w stack
+    → IsSome (part_at head_of w rest) × IsSome (part_at tail_of w rest)
 rest-some w stack rest list lt first =
     let two = two-of (listed w stack) lt in
     let others : tree_at w rest ≡ Some (list_of (from_list (drop 1 (listed w stack)))) = first ∙ tail-is w stack list (omega (arith, lt)) in
@@ -290,12 +307,15 @@ rest-some w stack rest list lt first =
     (ap is_some (head-is w rest rest_list some), ap is_some (tail-is w rest rest_list some))
 
 -- a list that is protected twice
-twice : (f : ℕ → ℕ) (a k : ℕ) → (if k == a then 1 else 0) + (if k == a then 1 else 0) ≤ (if k == a then (if a == a then f a + 1 else f a) + 1 else (if k == a then f a + 1 else f k))
+twice : (f : ℕ → ℕ) (a k : ℕ) → (if k == a then 1 else 0) + (if k == a then 1 else 0)
+    ≤ (if k == a then (if a == a then f a + 1 else f a) + 1 else (if k == a then f a + 1 else f k))
 twice f a k = grind (arith, nat_tests)
 
-pub empty-kept : (w w1 w2 : Store) (nil : Term) → tree_at w nil ≡ Some (list_of none) → w1 ≡ with_count w nil (w.roots nil.0 + 1) → w2 ≡ with_count w1 nil (w1.roots nil.0 + 1) → AreKept w2 (record { given = nil; stack = nil }) × (listed w2 nil ≡ [])
+pub empty-kept : (w w1 w2 : Store) (nil : Term) → tree_at w nil ≡ Some (list_of none) → w1 ≡ with_count w nil (w.roots nil.0 + 1)
+    → w2 ≡ with_count w1 nil (w1.roots nil.0 + 1) → AreKept w2 (record { given = nil; stack = nil }) × (listed w2 nil ≡ [])
 empty-kept w w1 w2 nil is e1 e2 =
     let there : tree_at w2 nil ≡ Some (list_of (from_list [])) = ap (λ x. tree_at x nil) e2 ∙ ap (λ x. tree_at x nil) e1 ∙ is in
     let list = is-list w2 nil [] there in
-    let rooted = λ (k : ℕ). subst (λ x. count_among (record { given = nil; stack = nil }) k ≤ x.roots k) (sym e2) (subst (λ x. count_among (record { given = nil; stack = nil }) k ≤ (with_count x nil (x.roots nil.0 + 1)).roots k) (sym e1) (twice w.roots nil.0 k)) in
+    let rooted = λ (k : ℕ). subst (λ x. count_among (record { given = nil; stack = nil }) k ≤ x.roots k) (sym e2)
+    (subst (λ x. count_among (record { given = nil; stack = nil }) k ≤ (with_count x nil (x.roots nil.0 + 1)).roots k) (sym e1) (twice w.roots nil.0 k)) in
     (record { given = list; stack = list; counted = rooted }, items-are w2 nil [] there)

@@ -13,7 +13,8 @@ use Rattle.rec_syntax.specs.Syntax.{Term, Terms, Apply, Rule, Spec}
 use Rattle.rec_sorts.specs.Lookup.{count, is_variable, symbols}
 use Rattle.rec_sorts.specs.TermRules.{arguments}
 use Rattle.rec_sorts.specs.Laws.{Every}
-use Rattle.rec_sorts.specs.Binding.{Bound, Substitution, bind_first, binds, instance, next_match, parts_at_variables, parts_at_variables_all, value_of, NumberedMatch}
+use Rattle.rec_sorts.specs.Binding.{Bound, Substitution, bind_first, binds, instance, next_match}
+use Rattle.rec_sorts.specs.Binding.{parts_at_variables, parts_at_variables_all, value_of, NumberedMatch}
 use Rattle.rec_sorts.specs.Numbering.{AreLetters, Named, arity_of, name_of, named, named_all, named_by}
 use Rattle.rec_sorts.specs.declared.letters.Letter.{Letter}
 use Rattle.rec_sorts.specs.declared.letters.Meaning.TheVariants.{Symbol, Variable}
@@ -55,7 +56,10 @@ arguments-parts u t c = by t c
   where
     items : (ts : Trees) → Contains (parts u) (list_of ts) → AllParts u ts
     items none h = tt
-    items (more x xs) h = (parts-trans u (list_of (more x xs)) x h (item-part x xs none), items xs (parts-trans u (list_of (more x xs)) (list_of xs) h (rest-part x xs none)))
+    items (more x xs) h = (
+      parts-trans u (list_of (more x xs)) x h (item-part x xs none),
+      items xs (parts-trans u (list_of (more x xs)) (list_of xs) h (rest-part x xs none)),
+    )
 
     by : (t : Tree) → Contains (parts u) t → AllParts u (arguments t)
     by (Appl name quoted args anns) h = items args (parts-trans u (Appl name quoted args anns) (list_of args) h (args-part name quoted args anns))
@@ -75,11 +79,13 @@ mutual
       first (Some x) = h
       first None = every-joined u s (record { name = w.bytes; value = v } ∷ []) h (c, tt)
 
-      by : (b : Bool) → AreParts u (parts_at_variables_all y s ts (arguments v)) → AreParts u (elim b [ true ↦ bind_first s w.bytes v | false ↦ parts_at_variables_all y s ts (arguments v) ])
+      by : (b : Bool) → AreParts u (parts_at_variables_all y s ts (arguments v))
+          → AreParts u (elim b [ true ↦ bind_first s w.bytes v | false ↦ parts_at_variables_all y s ts (arguments v) ])
       by true later = first (value_of s w.bytes)
       by false later = later
 
-  bound-parts-all : (y : Spec) (u : Tree) (s : Substitution) (ts : Terms) (vs : Trees) → AreParts u s → AllParts u vs → AreParts u (parts_at_variables_all y s ts vs)
+  bound-parts-all : (y : Spec) (u : Tree) (s : Substitution) (ts : Terms) (vs : Trees) → AreParts u s → AllParts u vs
+      → AreParts u (parts_at_variables_all y s ts vs)
   bound-parts-all y u s Terms.none vs h c = h
   bound-parts-all y u s (Terms.more t ts) none h c = h
   bound-parts-all y u s (Terms.more t ts) (more v vs) h c = bound-parts-all y u (parts_at_variables y s t v) ts vs (bound-parts y u s t v h c.0) c.1
@@ -103,12 +109,14 @@ held-list : (w : Store) (r : Reference) → IsList w r → held_tree w r ≡ lis
 held-list w r list = ap (λ (o : Option Tree). unwrap_or o (list_of none)) list
 
 -- the values of a match at a tree on the stack
-each-value : (u : Tree) (s : Substitution) → AreParts u s → (w : Store) (bind : List Reference) → held_trees w bind ≡ values_of s → (t : Reference) → Contains bind t → Contains (parts u) (held_tree w t)
+each-value : (u : Tree) (s : Substitution) → AreParts u s → (w : Store) (bind : List Reference) → held_trees w bind ≡ values_of s → (t : Reference)
+    → Contains bind t → Contains (parts u) (held_tree w t)
 each-value u [] h w [] e t c = absurd (let l = c.1 in let no : ⊥ = omega (arith, l) in no)
 each-value u [] h w (b ∷ bs) e t c = absurd (cc e)
 each-value u (x ∷ s) h w [] e t c = absurd (cc e)
 each-value u (x ∷ s) h w (b ∷ bs) e t c = elim (cons_cases b bs t c) [
-  | inl q ↦ subst (λ (z : Reference). Contains (parts u) (held_tree w z)) q (subst (Contains (parts u)) (sym (first-of-two (held_tree w b) x.value (held_trees w bs) (values_of s) e)) h.0)
+  | inl q ↦ subst (λ (z : Reference). Contains (parts u) (held_tree w z)) q
+      (subst (Contains (parts u)) (sym (first-of-two (held_tree w b) x.value (held_trees w bs) (values_of s) e)) h.0)
   | inr d ↦ each-value u s h.1 w bs (rest-of-two (held_tree w b) x.value (held_trees w bs) (values_of s) e) t d
 ]
   where
@@ -118,18 +126,22 @@ each-value u (x ∷ s) h w (b ∷ bs) e t c = elim (cons_cases b bs t c) [
     rest-of-two : (a b : Tree) (xs ys : List Tree) → a ∷ xs ≡ b ∷ ys → xs ≡ ys
     rest-of-two a b xs ys e = cc
 
-pub has-values : (y : Spec) (w : Store) (stack redex : Reference) (i : ℕ) (r : Rule) (s : Substitution) (bind : List Reference) (found : Option ℕ) → IsList w stack → Contains (listed w stack) (held_tree w redex) → IsMatch y i (held_tree w redex) r s → IsAnswer y w redex i bind found → HasValues w stack bind s
+pub has-values : (y : Spec) (w : Store) (stack redex : Reference) (i : ℕ) (r : Rule) (s : Substitution) (bind : List Reference) (found : Option ℕ)
+    → IsList w stack → Contains (listed w stack) (held_tree w redex) → IsMatch y i (held_tree w redex) r s → IsAnswer y w redex i bind found
+    → HasValues w stack bind s
 has-values y w stack redex i r s bind found list in_stack match answer = by found answer
   where
     first : next_match y i (held_tree w redex) ≡ Some (record { number = i; values = s })
     first =
         let at = rule-at y i r match.rule in
-        first-matched y i (held_tree w redex) no_rule s at.within (subst (λ (z : Rule). binds y z.left (held_tree w redex) ≡ Some s) (sym (at.is no_rule)) match.binds)
+        first-matched y i (held_tree w redex) no_rule s at.within (subst (λ (z : Rule). binds y z.left (held_tree w redex) ≡ Some s)
+        (sym (at.is no_rule)) match.binds)
 
     by : (o : Option ℕ) → IsAnswer y w redex i bind o → HasValues w stack bind s
     by None h = absurd (cc (sym h.0 ∙ first))
     by (Some k) h =
-        let same : (let a : NumberedMatch = record { number = k; values = h.values } in a) ≡ record { number = i; values = s } = some-same (let a : NumberedMatch = record { number = k; values = h.values } in a) (record { number = i; values = s }) (sym h.first ∙ first) in
+        let same : (let a : NumberedMatch = record { number = k; values = h.values } in a) ≡ record { number = i; values = s } =
+        some-same (let a : NumberedMatch = record { number = k; values = h.values } in a) (record { number = i; values = s }) (sym h.first ∙ first) in
         let values : held_trees w bind ≡ values_of s = h.bound ∙ ap (λ (m : NumberedMatch). values_of m.values) same in
         record {
           values = values;
@@ -144,7 +156,8 @@ has-values y w stack redex i r s bind found list in_stack match answer = by foun
 same-trees : (w w' : Store) (bind : List Reference) → ((t : Reference) → Contains bind t → tree_at w' t ≡ tree_at w t) → held_trees w' bind ≡ held_trees w bind
 same-trees w w' [] h = refl
 same-trees w w' (b ∷ bs) h =
-    ap (λ (o : Option Tree). unwrap_or o (list_of none) ∷ held_trees w' bs) (h b (cons_head b bs)) ∙ ap (λ xs. held_tree w b ∷ xs) (same-trees w w' bs (λ t c. h t (cons_tail b bs t c)))
+    ap (λ (o : Option Tree). unwrap_or o (list_of none) ∷ held_trees w' bs) (h b (cons_head b bs))
+    ∙ ap (λ xs. held_tree w b ∷ xs) (same-trees w w' bs (λ t c. h t (cons_tail b bs t c)))
 
 held-some : (w : Store) (t : Reference) → IsSome (tree_at w t) → tree_at w t ≡ Some (held_tree w t)
 held-some w t h = let x = some-value (tree_at w t) h in x.1 ∙ ap (λ (o : Option Tree). let q : Option Tree = Some (unwrap_or o (list_of none)) in q) (sym x.1)
@@ -152,8 +165,10 @@ held-some w t h = let x = some-value (tree_at w t) h in x.1 ∙ ap (λ (o : Opti
 pub keeps-values : (w w' : Store) (stack : Reference) (bind : List Reference) → IsList w stack → KeepsStack w w' stack → KeepsValues w w' stack bind
 keeps-values w w' stack bind list keeps s h =
     let there : IsSome (tree_at w stack) = ap is_some list in
-    let root : tree_at w' stack ≡ tree_at w stack = keeps stack (held_tree w stack) (held-some w stack there) (parts-self (held_tree w stack)) ∙ sym (held-some w stack there) in
-    let each : ((t : Reference) → Contains bind t → tree_at w' t ≡ tree_at w t) = λ t c. keeps t (held_tree w t) (held-some w t (h.held t c)) (h.within t c) ∙ sym (held-some w t (h.held t c)) in
+    let root : tree_at w' stack ≡ tree_at w stack = keeps stack (held_tree w stack) (held-some w stack there) (parts-self (held_tree w stack))
+    ∙ sym (held-some w stack there) in
+    let each : ((t : Reference) → Contains bind t → tree_at w' t ≡ tree_at w t) = λ t c.
+    keeps t (held_tree w t) (held-some w t (h.held t c)) (h.within t c) ∙ sym (held-some w t (h.held t c)) in
     record {
       values = same-trees w w' bind each ∙ h.values;
       held = λ t c. subst IsSome (sym (each t c)) (h.held t c);
@@ -167,25 +182,34 @@ snoc-reverse : (xs : List Step) (x : Step) → reverse (xs ++ x ∷ []) ≡ x �
 snoc-reverse xs x = reverse-append xs (x ∷ [])
 
 -- a variable's value is to be given next
-pub pushed-variable : (y : Spec) (w w' : Store) (old new : Tracer) (i : ℕ) (bind : List Reference) (l : Letter) (v : ℕ) (t : Reference) → IsInOrder y w old → AreKept w' new.lists → l.meaning ≡ Variable v
+pub pushed-variable : (y : Spec) (w w' : Store) (old new : Tracer) (i : ℕ) (bind : List Reference) (l : Letter) (v : ℕ) (t : Reference)
+    → IsInOrder y w old → AreKept w' new.lists → l.meaning ≡ Variable v
     → Hold w' new.lists (held_tree w t ∷ listed w old.lists.given) (listed w old.lists.stack) → new.steps.items ≡ old.steps.items ++ step.Give ∷ []
-    → ((r : Rule) (s : Substitution) (u : Tree) → IsMatch y i u r s → HasValues w old.lists.stack bind s → value_of s (name_of y (Variable v)) ≡ Some (held_tree w t))
+    → ((r : Rule) (s : Substitution) (u : Tree) → IsMatch y i u r s → HasValues w old.lists.stack bind s
+    → value_of s (name_of y (Variable v)) ≡ Some (held_tree w t))
     → HasPushed y w w' old new i bind (l ∷ [])
 pushed-variable y w w' old new i bind l v t order kept is hold steps value =
     let turned = ap reverse steps ∙ snoc-reverse old.steps.items step.Give in
     record {
-      order = record { good = order.good; kept = kept; steps = subst (λ ss. AreSteps y ss (listed w' new.lists.given)) (sym turned) (subst (λ gs. AreSteps y (step.Give ∷ reverse old.steps.items) gs) (sym hold.given) order.steps) };
+      order = record {
+        good = order.good;
+        kept = kept;
+        steps = subst (λ ss. AreSteps y ss (listed w' new.lists.given)) (sym turned)
+            (subst (λ gs. AreSteps y (step.Give ∷ reverse old.steps.items) gs) (sym hold.given) order.steps);
+      };
       stack = hold.stack;
       moves = λ r s u match values.
           ap (λ ss. moves_of y ss (listed w' new.lists.given)) turned ∙ ap (moves_of y (step.Give ∷ reverse old.steps.items)) hold.given
-          ∙ ap (λ (m : Move). m ∷ moves_at y w old) (sym (ap (λ m. at (value_of s (name_of y m)) (name_of y m)) is ∙ ap (λ o. at o (name_of y (Variable v))) (value r s u match values)));
+          ∙ ap (λ (m : Move). m ∷ moves_at y w old) (sym (ap (λ m. at (value_of s (name_of y m)) (name_of y m)) is
+          ∙ ap (λ o. at o (name_of y (Variable v))) (value r s u match values)));
     }
   where
     at : Option Tree → List ℕ → Move
     at o name = elim o [ Some x ↦ Give x | None ↦ Invoke name l.count ]
 
 -- a symbol is to be called next
-pub pushed-symbol : (y : Spec) (w : Store) (old new : Tracer) (i : ℕ) (bind : List Reference) (l : Letter) (k : ℕ) → IsInOrder y w old → new.lists ≡ old.lists → l.meaning ≡ Symbol k → k < length (symbols y) → arity_of y k ≡ l.count
+pub pushed-symbol : (y : Spec) (w : Store) (old new : Tracer) (i : ℕ) (bind : List Reference) (l : Letter) (k : ℕ) → IsInOrder y w old
+    → new.lists ≡ old.lists → l.meaning ≡ Symbol k → k < length (symbols y) → arity_of y k ≡ l.count
     → new.steps.items ≡ old.steps.items ++ step.Invoke k l.count ∷ [] → HasPushed y w w old new i bind (l ∷ [])
 pushed-symbol y w old new i bind l k order lists is lt arity steps =
     let turned = ap reverse steps ∙ snoc-reverse old.steps.items (step.Invoke k l.count) in
@@ -193,33 +217,39 @@ pushed-symbol y w old new i bind l k order lists is lt arity steps =
       order = record {
         good = order.good;
         kept = subst (AreKept w) (sym lists) order.kept;
-        steps = subst (λ ss. AreSteps y ss (listed w new.lists.given)) (sym turned) (subst (λ (z : Lists). AreSteps y (step.Invoke k l.count ∷ reverse old.steps.items) (listed w z.given)) (sym lists) (lt, arity, order.steps));
+        steps = subst (λ ss. AreSteps y ss (listed w new.lists.given)) (sym turned)
+            (subst (λ (z : Lists). AreSteps y (step.Invoke k l.count ∷ reverse old.steps.items) (listed w z.given)) (sym lists) (lt, arity, order.steps));
       };
       stack = ap (λ (z : Lists). listed w z.stack) lists;
       moves = λ r s u match values.
           let no_value = unbound y s (binds-only y r.left u s match.binds) (name_of y (Symbol k)) ((facts y order.good).symbol_is_none k lt) in
-          ap (λ ss. moves_of y ss (listed w new.lists.given)) turned ∙ ap (λ (z : Lists). moves_of y (step.Invoke k l.count ∷ reverse old.steps.items) (listed w z.given)) lists
-          ∙ ap (λ (m : Move). m ∷ moves_at y w old) (sym (ap (λ m. at (value_of s (name_of y m)) (name_of y m)) is ∙ ap (λ o. at o (name_of y (Symbol k))) no_value));
+          ap (λ ss. moves_of y ss (listed w new.lists.given)) turned ∙ ap (λ (z : Lists).
+          moves_of y (step.Invoke k l.count ∷ reverse old.steps.items) (listed w z.given)) lists
+          ∙ ap (λ (m : Move). m ∷ moves_at y w old) (sym (ap (λ m. at (value_of s (name_of y m)) (name_of y m)) is
+          ∙ ap (λ o. at o (name_of y (Symbol k))) no_value));
     }
   where
     at : Option Tree → List ℕ → Move
     at o name = elim o [ Some x ↦ Give x | None ↦ Invoke name l.count ]
 
 -- letters one after the other
-pub pushed-more : (y : Spec) (w w1 w2 : Store) (a b c : Tracer) (i : ℕ) (bind : List Reference) (l : Letter) (ls : List Letter) → b.lists.stack ≡ a.lists.stack → KeepsValues w w1 a.lists.stack bind → HasPushed y w w1 a b i bind ls → HasPushed y w1 w2 b c i bind (l ∷ [])
+pub pushed-more : (y : Spec) (w w1 w2 : Store) (a b c : Tracer) (i : ℕ) (bind : List Reference) (l : Letter) (ls : List Letter)
+    → b.lists.stack ≡ a.lists.stack → KeepsValues w w1 a.lists.stack bind → HasPushed y w w1 a b i bind ls → HasPushed y w1 w2 b c i bind (l ∷ [])
     → HasPushed y w w2 a c i bind (l ∷ ls)
 pushed-more y w w1 w2 a b c i bind l ls same keeps p q = record {
   order = q.order;
   stack = q.stack ∙ p.stack;
   moves = λ r s u match values.
-      q.moves r s u match (subst (λ k. HasValues w1 k bind s) (sym same) (keeps s values)) ∙ ap (λ ms. move_of s (named_by y l) ∷ ms) (p.moves r s u match values);
+      q.moves r s u match (subst (λ k. HasValues w1 k bind s) (sym same) (keeps s values))
+      ∙ ap (λ ms. move_of s (named_by y l) ∷ ms) (p.moves r s u match values);
 }
 
 -- what has a value has no arguments
 abbrev NoArguments : Substitution → List Named → Type 0
 NoArguments s ms = Every (λ (m : Named). (v : Tree) → value_of s m.name ≡ Some v → m.arguments ≡ 0) ms
 
-no_arguments : (y : Spec) (s : Substitution) → BindsOnly y s → (ms : List Named) → Every (λ (m : Named). is_variable y m.name ≡ true → m.arguments ≡ 0) ms → NoArguments s ms
+no_arguments : (y : Spec) (s : Substitution) → BindsOnly y s → (ms : List Named)
+    → Every (λ (m : Named). is_variable y m.name ≡ true → m.arguments ≡ 0) ms → NoArguments s ms
 no_arguments y s only [] bare = tt
 no_arguments y s only (m ∷ ms) bare = ((λ v e. bare.0 (only m.name v e)), no_arguments y s only ms bare.1)
 
@@ -242,8 +272,10 @@ mutual
       given : (v : Tree) (zs : Terms) → zs ≡ Terms.none → map (move_of s) (named_all zs) ++ (Give v ∷ []) ≡ Give v ∷ []
       given v zs e = ap (λ xs. map (move_of s) (named_all xs) ++ (Give v ∷ [])) e
 
-      by : (o : Option Tree) → value_of s w.bytes ≡ o → ((v : Tree) → value_of s w.bytes ≡ Some v → count ts ≡ 0) → map (move_of s) (named_all ts) ≡ moves_all s ts
-          → map (move_of s) (named_all ts) ++ ((elim o [ Some v ↦ Give v | None ↦ Invoke w.bytes (count ts) ]) ∷ []) ≡ (elim o [ Some v ↦ Give v ∷ [] | None ↦ moves_all s ts ++ Invoke w.bytes (count ts) ∷ [] ])
+      by : (o : Option Tree) → value_of s w.bytes ≡ o → ((v : Tree) → value_of s w.bytes ≡ Some v → count ts ≡ 0)
+          → map (move_of s) (named_all ts) ≡ moves_all s ts
+          → map (move_of s) (named_all ts) ++ ((elim o [ Some v ↦ Give v | None ↦ Invoke w.bytes (count ts) ]) ∷ [])
+          ≡ (elim o [ Some v ↦ Give v ∷ [] | None ↦ moves_all s ts ++ Invoke w.bytes (count ts) ∷ [] ])
       by (Some v) e h later = given v ts (no_count ts (h v e))
       by None e h later = ap (λ ms. ms ++ (Invoke w.bytes (count ts) ∷ [])) later
 
@@ -251,10 +283,12 @@ mutual
   named-moves-all s Terms.none h = refl
   named-moves-all s (Terms.more t ts) h =
       let split = split_arguments s (named t) (named_all ts) h in
-      map-append (move_of s) (named t) (named_all ts) ∙ ap (λ ms. ms ++ map (move_of s) (named_all ts)) (named-moves s t split.0) ∙ ap (λ ms. moves s t ++ ms) (named-moves-all s ts split.1)
+      map-append (move_of s) (named t) (named_all ts) ∙ ap (λ ms. ms ++ map (move_of s) (named_all ts)) (named-moves s t split.0)
+      ∙ ap (λ ms. moves s t ++ ms) (named-moves-all s ts split.1)
 
 -- the letters of a rule's term are its moves
-pub row-moves : (y : Spec) (r : Rule) (s : Substitution) (u : Tree) (ls : List Letter) (t : Term) → binds y r.left u ≡ Some s → IsRow y r ls t → map (move_of s) (map (named_by y) ls) ≡ moves s t
+pub row-moves : (y : Spec) (r : Rule) (s : Substitution) (u : Tree) (ls : List Letter) (t : Term) → binds y r.left u ≡ Some s → IsRow y r ls t
+    → map (move_of s) (map (named_by y) ls) ≡ moves s t
 row-moves y r s u ls t e row = ap (map (move_of s)) row.letters.1 ∙ named-moves s t (no_arguments y s (binds-only y r.left u s e) (named t) row.bare)
 
 -- the letters of a ground term are its moves

@@ -1,5 +1,6 @@
 -- A row of moves that is gone through: it comes to what its term evaluates to.
-use Rattle.std.proofs.Common.{◌+◌, ◌-◌, ◌<◌, ◌≤◌, ℕ, arith, refl, sym, ap, subst, ◌∙◌, length, drop, take, append_assoc, append-nil, length-append, length-drop, vec_len}
+use Rattle.std.proofs.Common.{◌+◌, ◌-◌, ◌<◌, ◌≤◌, ℕ, arith, refl, sym, ap, subst, ◌∙◌, length, drop}
+use Rattle.std.proofs.Common.{take, append_assoc, append-nil, length-append, length-drop, vec_len}
 use Rattle.std.specs.Prelude.{zero, suc, ◌≡◌, Bool, true, false, List, [], ◌∷◌, ◌++◌, Option, Some, None, reverse}
 use Rattle.std.proofs.lemmas.List.{length-reverse}
 use Rattle.rx_term.specs.Tree.{Tree, Trees, none, more}
@@ -23,9 +24,14 @@ use Rattle.rec_trace.specs.declared.tracer.Tracer.{Tracer}
 -- each term leaves one value
 mutual
   pub fits-moves : (s : Substitution) (t : Term) (ms : List Move) (d e : ℕ) → Fits ms (suc d) e → Fits (moves s t ++ ms) d e
-  fits-moves s (Apply w ts) ms d e h = by (value_of s w.bytes) (fits-all s ts (Invoke w.bytes (count ts) ∷ ms) d e (omega arith, subst (λ n. Fits ms n e) (let q : suc d ≡ suc (d + count ts - count ts) = omega arith in q) h))
+  fits-moves s (Apply w ts) ms d e h = by (value_of s w.bytes)
+      (fits-all s ts (Invoke w.bytes (count ts) ∷ ms) d e (
+        omega arith,
+        subst (λ n. Fits ms n e) (let q : suc d ≡ suc (d + count ts - count ts) = omega arith in q) h,
+      ))
     where
-      by : (o : Option Tree) → Fits (moves_all s ts ++ (Invoke w.bytes (count ts) ∷ ms)) d e → Fits ((elim o [ Some v ↦ Give v ∷ [] | None ↦ moves_all s ts ++ Invoke w.bytes (count ts) ∷ [] ]) ++ ms) d e
+      by : (o : Option Tree) → Fits (moves_all s ts ++ (Invoke w.bytes (count ts) ∷ ms)) d e
+          → Fits ((elim o [ Some v ↦ Give v ∷ [] | None ↦ moves_all s ts ++ Invoke w.bytes (count ts) ∷ [] ]) ++ ms) d e
       by (Some v) k = h
       by None k = subst (λ ns. Fits ns d e) (sym (append_assoc (moves_all s ts) (Invoke w.bytes (count ts) ∷ []) ms)) k
 
@@ -33,7 +39,8 @@ mutual
   fits-all s Terms.none ms d e h = subst (λ n. Fits ms n e) (let q : d + 0 ≡ d = omega arith in q) h
   fits-all s (Terms.more t ts) ms d e h =
       subst (λ ns. Fits ns d e) (sym (append_assoc (moves s t) (moves_all s ts) ms))
-      (fits-moves s t (moves_all s ts ++ ms) d e (fits-all s ts ms (suc d) e (subst (λ n. Fits ms n e) (let q : d + suc (count ts) ≡ suc d + count ts = omega arith in q) h)))
+      (fits-moves s t (moves_all s ts ++ ms) d e (fits-all s ts ms (suc d) e
+      (subst (λ n. Fits ms n e) (let q : d + suc (count ts) ≡ suc d + count ts = omega arith in q) h)))
 
 pub fits-one : (s : Substitution) (t : Term) → Fits (moves s t) 0 1
 fits-one s t = subst (λ ms. Fits ms 0 1) (append-nil (moves s t)) (fits-moves s t [] 0 1 refl)
@@ -44,7 +51,8 @@ sized c n s Terms.none none left e = refl
 sized c n s Terms.none (more v vs) left e = absurd (cc e)
 sized c n s (Terms.more t ts) vs left e = by (evaluate c n s t) e (λ m us rest f. sized c m s ts us rest f)
   where
-    inner : (v : Tree) (o : Outcome Trees) → ((us : Trees) (rest : ℕ) → o ≡ Done us rest → size us ≡ count ts) → (o then λ us rest. Done (more v us) rest) ≡ Done vs left → size vs ≡ suc (count ts)
+    inner : (v : Tree) (o : Outcome Trees) → ((us : Trees) (rest : ℕ) → o ≡ Done us rest → size us ≡ count ts)
+        → (o then λ us rest. Done (more v us) rest) ≡ Done vs left → size vs ≡ suc (count ts)
     inner v Over rec e = absurd (cc e)
     inner v (Done us rest) rec e = let is : more v us ≡ vs = cc e in ap size (sym is) ∙ ap suc (rec us rest refl)
 
@@ -61,31 +69,41 @@ invoked c name k left ms vs st e =
 
 mutual
   -- running the moves of a term is evaluating it, and then running the rest with its value on top
-  run-moves : (c : Caller) (n : ℕ) (s : Substitution) (t : Term) (ms : List Move) (st : List Tree) → result c n (moves s t ++ ms) st ≡ (evaluate c n s t then λ v left. result c left ms (v ∷ st))
+  run-moves : (c : Caller) (n : ℕ) (s : Substitution) (t : Term) (ms : List Move) (st : List Tree)
+      → result c n (moves s t ++ ms) st ≡ (evaluate c n s t then λ v left. result c left ms (v ∷ st))
   run-moves c n s (Apply w ts) ms st = by_value (value_of s w.bytes) (run-all c n s ts (Invoke w.bytes (count ts) ∷ ms) st)
     where
       by_outcome : (o : Outcome Trees) → ((vs : Trees) (left : ℕ) → o ≡ Done vs left → size vs ≡ count ts)
-          → (o then λ vs left. result c left (Invoke w.bytes (count ts) ∷ ms) (stack_on vs st)) ≡ ((o then λ vs left. c left (application w.bytes vs)) then λ v left. result c left ms (v ∷ st))
+          → (o then λ vs left. result c left (Invoke w.bytes (count ts) ∷ ms) (stack_on vs st))
+          ≡ ((o then λ vs left. c left (application w.bytes vs)) then λ v left. result c left ms (v ∷ st))
       by_outcome Over h = refl
       by_outcome (Done vs left) h = invoked c w.bytes (count ts) left ms vs st (h vs left refl)
 
-      by_value : (o : Option Tree) → result c n (moves_all s ts ++ Invoke w.bytes (count ts) ∷ ms) st ≡ (evaluate_all c n s ts then λ vs left. result c left (Invoke w.bytes (count ts) ∷ ms) (stack_on vs st))
+      by_value : (o : Option Tree) → result c n (moves_all s ts ++ Invoke w.bytes (count ts) ∷ ms) st ≡ (evaluate_all c n s ts then λ vs left.
+          result c left (Invoke w.bytes (count ts) ∷ ms) (stack_on vs st))
           → result c n ((elim o [ Some v ↦ Give v ∷ [] | None ↦ moves_all s ts ++ Invoke w.bytes (count ts) ∷ [] ]) ++ ms) st
-          ≡ ((elim o [ Some v ↦ Done v n | None ↦ evaluate_all c n s ts then λ vs left. c left (application w.bytes vs) ]) then λ v left. result c left ms (v ∷ st))
+          ≡ ((elim o [ Some v ↦ Done v n | None ↦ evaluate_all c n s ts then λ vs left. c left (application w.bytes vs) ]) then λ v left.
+          result c left ms (v ∷ st))
       by_value (Some v) h = refl
-      by_value None h = ap (λ x. result c n x st) (append_assoc (moves_all s ts) (Invoke w.bytes (count ts) ∷ []) ms) ∙ h ∙ by_outcome (evaluate_all c n s ts) (λ vs left e. sized c n s ts vs left e)
+      by_value None h = ap (λ x. result c n x st) (append_assoc (moves_all s ts) (Invoke w.bytes (count ts) ∷ []) ms) ∙ h
+          ∙ by_outcome (evaluate_all c n s ts) (λ vs left e. sized c n s ts vs left e)
 
-  run-all : (c : Caller) (n : ℕ) (s : Substitution) (ts : Terms) (ms : List Move) (st : List Tree) → result c n (moves_all s ts ++ ms) st ≡ (evaluate_all c n s ts then λ vs left. result c left ms (stack_on vs st))
+  run-all : (c : Caller) (n : ℕ) (s : Substitution) (ts : Terms) (ms : List Move) (st : List Tree)
+      → result c n (moves_all s ts ++ ms) st ≡ (evaluate_all c n s ts then λ vs left. result c left ms (stack_on vs st))
   run-all c n s Terms.none ms st = refl
   run-all c n s (Terms.more t ts) ms st =
-      ap (λ x. result c n x st) (append_assoc (moves s t) (moves_all s ts) ms) ∙ run-moves c n s t (moves_all s ts ++ ms) st ∙ by (evaluate c n s t) (λ v left. run-all c left s ts ms (v ∷ st))
+      ap (λ x. result c n x st) (append_assoc (moves s t) (moves_all s ts) ms) ∙ run-moves c n s t (moves_all s ts ++ ms) st
+      ∙ by (evaluate c n s t) (λ v left. run-all c left s ts ms (v ∷ st))
     where
-      inner : (v : Tree) (o : Outcome Trees) → (o then λ vs left. result c left ms (stack_on vs (v ∷ st))) ≡ ((o then λ vs rest. Done (more v vs) rest) then λ vs left. result c left ms (stack_on vs st))
+      inner : (v : Tree) (o : Outcome Trees) → (o then λ vs left. result c left ms (stack_on vs (v ∷ st)))
+          ≡ ((o then λ vs rest. Done (more v vs) rest) then λ vs left. result c left ms (stack_on vs st))
       inner v Over = refl
       inner v (Done vs left) = refl
 
-      by : (o : Outcome Tree) → ((v : Tree) (left : ℕ) → result c left (moves_all s ts ++ ms) (v ∷ st) ≡ (evaluate_all c left s ts then λ vs rest. result c rest ms (stack_on vs (v ∷ st))))
-          → (o then λ v left. result c left (moves_all s ts ++ ms) (v ∷ st)) ≡ ((o then λ v left. evaluate_all c left s ts then λ vs rest. Done (more v vs) rest) then λ vs left. result c left ms (stack_on vs st))
+      by : (o : Outcome Tree) → ((v : Tree) (left : ℕ) → result c left (moves_all s ts ++ ms) (v ∷ st) ≡ (evaluate_all c left s ts then λ vs rest.
+          result c rest ms (stack_on vs (v ∷ st))))
+          → (o then λ v left. result c left (moves_all s ts ++ ms) (v ∷ st))
+          ≡ ((o then λ v left. evaluate_all c left s ts then λ vs rest. Done (more v vs) rest) then λ vs left. result c left ms (stack_on vs st))
       by Over h = refl
       by (Done v left) h = h v left ∙ inner v (evaluate_all c left s ts)
 
@@ -107,7 +125,11 @@ mutual
   written-is y n s (Apply w ts) = by (value_of s w.bytes) (written-all-is y n s ts)
     where
       by : (o : Option Tree) → evaluate_all (caller y false) n s ts ≡ Done (instances s ts) n
-          → ◌≡◌ {A = Outcome Tree} (elim o [ Some v ↦ Done v n | None ↦ evaluate_all (caller y false) n s ts then λ vs left. Done (application w.bytes vs) left ]) (Done (elim o [ Some v ↦ v | None ↦ application w.bytes (instances s ts) ]) n)
+          → ◌≡◌ {A = Outcome Tree} (elim o [
+            | Some v ↦ Done v n
+            | None ↦ evaluate_all (caller y false) n s ts then λ vs left.
+                Done (application w.bytes vs) left
+          ]) (Done (elim o [ Some v ↦ v | None ↦ application w.bytes (instances s ts) ]) n)
       by (Some v) all = refl
       by None all = ap (λ o. o then λ vs left. Done (application w.bytes vs) left) all
 
@@ -136,7 +158,8 @@ record Moved (c : Caller) (n n' : ℕ) (ms ms' : List Move) (vs base st' : List 
   stack : st' ≡ values ++ base
   comes : result c n' (take j ms') values ≡ result c n (take (suc j) ms) vs
 
-moved : (c : Caller) (n n' : ℕ) (ms ms' : List Move) (vs base st' : List Tree) (j : ℕ) → Fits (take (suc j) ms) (length vs) 1 → Moves c n n' ms (vs ++ base) ms' st' true → Moved c n n' ms ms' vs base st' j
+moved : (c : Caller) (n n' : ℕ) (ms ms' : List Move) (vs base st' : List Tree) (j : ℕ) → Fits (take (suc j) ms) (length vs) 1
+    → Moves c n n' ms (vs ++ base) ms' st' true → Moved c n n' ms ms' vs base st' j
 moved c n n' [] ms' vs base st' j fits h = absurd h
 moved c n n' (Give v ∷ ms) ms' vs base st' j fits h = record {
   values = v ∷ vs;
@@ -154,14 +177,17 @@ moved c n n' (Invoke name k ∷ ms) ms' vs base st' j fits h =
       stack = h.3 ∙ ap (λ xs. h.0 ∷ xs) (drop-front k vs base fits.0);
       comes =
           ap (λ xs. result c n' (take j xs) (h.0 ∷ drop k vs)) h.2
-          ∙ ap (λ (o : Outcome Tree). o then λ v left. result c left (take j ms) (v ∷ drop k vs)) (sym (ap (λ us. c n (application name us)) (sym (taken-front k vs base none fits.0)) ∙ h.1));
+          ∙ ap (λ (o : Outcome Tree). o then λ v left. result c left (take j ms) (v ∷ drop k vs))
+          (sym (ap (λ us. c n (application name us)) (sym (taken-front k vs base none fits.0)) ∙ h.1));
     }
 
-failed : (c : Caller) (n n' : ℕ) (ms ms' : List Move) (vs base st' : List Tree) (j : ℕ) → Fits (take (suc j) ms) (length vs) 1 → Moves c n n' ms (vs ++ base) ms' st' false → result c n (take (suc j) ms) vs ≡ Over
+failed : (c : Caller) (n n' : ℕ) (ms ms' : List Move) (vs base st' : List Tree) (j : ℕ) → Fits (take (suc j) ms) (length vs) 1
+    → Moves c n n' ms (vs ++ base) ms' st' false → result c n (take (suc j) ms) vs ≡ Over
 failed c n n' [] ms' vs base st' j fits h = absurd h
 failed c n n' (Give v ∷ ms) ms' vs base st' j fits h = absurd h
 failed c n n' (Invoke name k ∷ ms) ms' vs base st' j fits h =
-    ap (λ (o : Outcome Tree). o then λ v left. result c left (take j ms) (v ∷ drop k vs)) (ap (λ us. c n (application name us)) (sym (taken-front k vs base none fits.0)) ∙ h)
+    ap (λ (o : Outcome Tree). o then λ v left. result c left (take j ms) (v ∷ drop k vs))
+    (ap (λ us. c n (application name us)) (sym (taken-front k vs base none fits.0)) ∙ h)
 
 can-turn : (ms : List Move) (j d others : ℕ) → suc j ≤ length ms → Fits (take (suc j) ms) d 1 → CanTurn ms (d + others)
 can-turn [] j d others le fits = let no : ⊥ = omega (arith, le) in absurd no
@@ -185,7 +211,8 @@ pub record Running (c : Caller) (y : Spec) (w0 w : Store) (old now : Tracer) (fl
   pub fits : Fits (take (vec_len now.steps - floor) (moves_at y w now)) (length values) 1
   pub rest : drop (vec_len now.steps - floor) (moves_at y w now) ≡ drop (vec_len old.steps - floor) (moves_at y w0 old)
   pub stack : stack_at w now ≡ values ++ stack_at w0 old
-  pub comes : result c now.left (take (vec_len now.steps - floor) (moves_at y w now)) values ≡ result c old.left (take (vec_len old.steps - floor) (moves_at y w0 old)) []
+  pub comes : result c now.left (take (vec_len now.steps - floor) (moves_at y w now)) values ≡ result c old.left
+      (take (vec_len old.steps - floor) (moves_at y w0 old)) []
 
 module _ (c : Caller) (y : Spec) (w0 w : Store) (old now : Tracer) (floor : ℕ) (r : Running c y w0 w old now floor) (some : floor < vec_len now.steps) where
   rest_count : ℕ
@@ -203,9 +230,11 @@ module _ (c : Caller) (y : Spec) (w0 w : Store) (old now : Tracer) (floor : ℕ)
       subst (λ d. CanTurn (moves_at y w now) d) (sym (ap length r.stack ∙ length-append r.values (stack_at w0 old)))
       (can-turn (moves_at y w now) (vec_len now.steps - floor - 1) (length r.values) (length (stack_at w0 old)) (omega (arith, many, long, some)) now-fits)
 
-  pub running-next : (w' : Store) (new : Tracer) → vec_len new.steps + 1 ≡ vec_len now.steps → IsInOrder y w' new → Moves c now.left new.left (moves_at y w now) (stack_at w now) (moves_at y w' new) (stack_at w' new) true → Running c y w0 w' old new floor
+  pub running-next : (w' : Store) (new : Tracer) → vec_len new.steps + 1 ≡ vec_len now.steps → IsInOrder y w' new
+      → Moves c now.left new.left (moves_at y w now) (stack_at w now) (moves_at y w' new) (stack_at w' new) true → Running c y w0 w' old new floor
   running-next w' new fewer order h =
-      let m = moved c now.left new.left (moves_at y w now) (moves_at y w' new) r.values (stack_at w0 old) (stack_at w' new) (vec_len now.steps - floor - 1) now-fits
+      let m = moved c now.left new.left (moves_at y w now) (moves_at y w' new) r.values (stack_at w0 old) (stack_at w' new)
+      (vec_len now.steps - floor - 1) now-fits
       (subst (λ st. Moves c now.left new.left (moves_at y w now) st (moves_at y w' new) (stack_at w' new) true) r.stack h) in
       let same : vec_len now.steps - floor - 1 ≡ vec_len new.steps - floor = omega (arith, fewer) in
       record {
@@ -214,10 +243,12 @@ module _ (c : Caller) (y : Spec) (w0 w : Store) (old now : Tracer) (floor : ℕ)
         fits = subst (λ k. Fits (take k (moves_at y w' new)) (length m.values) 1) same m.fits;
         rest = ap (λ k. drop k (moves_at y w' new)) (sym same) ∙ m.rest ∙ ap (λ k. drop k (moves_at y w now)) (sym split) ∙ r.rest;
         stack = m.stack;
-        comes = ap (λ k. result c new.left (take k (moves_at y w' new)) m.values) (sym same) ∙ m.comes ∙ ap (λ k. result c now.left (take k (moves_at y w now)) r.values) (sym split) ∙ r.comes;
+        comes = ap (λ k. result c new.left (take k (moves_at y w' new)) m.values) (sym same) ∙ m.comes
+            ∙ ap (λ k. result c now.left (take k (moves_at y w now)) r.values) (sym split) ∙ r.comes;
       }
 
-  pub running-failed : (w' : Store) (new : Tracer) → Moves c now.left new.left (moves_at y w now) (stack_at w now) (moves_at y w' new) (stack_at w' new) false → result c old.left (take (vec_len old.steps - floor) (moves_at y w0 old)) [] ≡ Over
+  pub running-failed : (w' : Store) (new : Tracer) → Moves c now.left new.left (moves_at y w now) (stack_at w now) (moves_at y w' new)
+      (stack_at w' new) false → result c old.left (take (vec_len old.steps - floor) (moves_at y w0 old)) [] ≡ Over
   running-failed w' new h =
       sym r.comes ∙ ap (λ k. result c now.left (take k (moves_at y w now)) r.values) split
       ∙ failed c now.left new.left (moves_at y w now) (moves_at y w' new) r.values (stack_at w0 old) (stack_at w' new) (vec_len now.steps - floor - 1) now-fits
@@ -228,7 +259,8 @@ one-of [] e = let no : ⊥ = omega (arith, e) in absurd no
 one-of (v ∷ []) e = (v, refl)
 one-of (v ∷ u ∷ vs) e = let no : ⊥ = omega (arith, e) in absurd no
 
-pub running-ends : (c : Caller) (y : Spec) (w0 w : Store) (old now : Tracer) (floor : ℕ) → Running c y w0 w old now floor → vec_len now.steps ≤ floor → HasRun c y w0 w old now (vec_len old.steps - floor) true
+pub running-ends : (c : Caller) (y : Spec) (w0 w : Store) (old now : Tracer) (floor : ℕ) → Running c y w0 w old now floor → vec_len now.steps ≤ floor
+    → HasRun c y w0 w old now (vec_len old.steps - floor) true
 running-ends c y w0 w old now floor r le =
     let zero_left : vec_len now.steps - floor ≡ 0 = omega (arith, le) in
     let one = one-of r.values (subst (λ k. Fits (take k (moves_at y w now)) (length r.values) 1) zero_left r.fits) in (
@@ -258,7 +290,9 @@ pub record IsInFront (y : Spec) (w w' : Store) (old new : Tracer) (ms : List Mov
   pub front : take (vec_len new.steps - floor) (moves_at y w' new) ≡ ms
   pub back : drop (vec_len new.steps - floor) (moves_at y w' new) ≡ moves_at y w old
 
-pub in-front : (y : Spec) (w w' : Store) (old new : Tracer) (ms : List Move) (floor : ℕ) → IsInOrder y w old → IsInOrder y w' new → moves_at y w' new ≡ ms ++ moves_at y w old → vec_len old.steps ≡ length old.steps.items → vec_len new.steps ≡ length new.steps.items → floor ≡ vec_len old.steps
+pub in-front : (y : Spec) (w w' : Store) (old new : Tracer) (ms : List Move) (floor : ℕ) → IsInOrder y w old → IsInOrder y w' new
+    → moves_at y w' new ≡ ms ++ moves_at y w old → vec_len old.steps ≡ length old.steps.items → vec_len new.steps ≡ length new.steps.items
+    → floor ≡ vec_len old.steps
     → IsInFront y w w' old new ms floor
 in-front y w w' old new ms floor order order' split long long' is =
     let many = as-many y w old order in
@@ -272,7 +306,8 @@ in-front y w w' old new ms floor order order' split long long' is =
     }
 
 -- a side of a rule was gone through
-pub side-gives : (y : Spec) (w w1 w2 : Store) (old mid new : Tracer) (floor : ℕ) (called : Bool) (s : Substitution) (t : Term) (yes : Bool) → HasMoves y w w1 old mid (moves s t) → IsInFront y w w1 old mid (moves s t) floor → mid.left ≡ old.left
+pub side-gives : (y : Spec) (w w1 w2 : Store) (old mid new : Tracer) (floor : ℕ) (called : Bool) (s : Substitution) (t : Term) (yes : Bool)
+    → HasMoves y w w1 old mid (moves s t) → IsInFront y w w1 old mid (moves s t) floor → mid.left ≡ old.left
     → HasRun (caller y called) y w1 w2 mid new (vec_len mid.steps - floor) yes → Gives y w w2 old new (evaluate (caller y called) old.left s t) yes
 side-gives y w w1 w2 old mid new floor called s t true h f left run = (
   run.0,
@@ -281,6 +316,8 @@ side-gives y w w1 w2 old mid new floor called s t true h f left run = (
 )
   where
     evaluated : evaluate (caller y called) old.left s t ≡ result (caller y called) mid.left (take (vec_len mid.steps - floor) (moves_at y w1 mid)) []
-    evaluated = sym (run-one (caller y called) old.left s t) ∙ ap (λ n. result (caller y called) n (moves s t) []) (sym left) ∙ ap (λ ms. result (caller y called) mid.left ms []) (sym f.front)
+    evaluated = sym (run-one (caller y called) old.left s t) ∙ ap (λ n. result (caller y called) n (moves s t) []) (sym left)
+        ∙ ap (λ ms. result (caller y called) mid.left ms []) (sym f.front)
 side-gives y w w1 w2 old mid new floor called s t false h f left run =
-    sym (run-one (caller y called) old.left s t) ∙ ap (λ n. result (caller y called) n (moves s t) []) (sym left) ∙ ap (λ ms. result (caller y called) mid.left ms []) (sym f.front) ∙ run
+    sym (run-one (caller y called) old.left s t) ∙ ap (λ n. result (caller y called) n (moves s t) []) (sym left)
+    ∙ ap (λ ms. result (caller y called) mid.left ms []) (sym f.front) ∙ run

@@ -45,7 +45,8 @@ rule-at y i r e = elim (slice_get_cases y.rules i).1 [
 ]
 
 -- the letters of a rule's term can stand in it
-reads : (y : Spec) (r : Rule) (ls : List Letter) → All (λ l. IsMeaning y l.meaning) ls → AreFilled y ls → Every (λ (m : Named). is_variable y m.name ≡ true → mentions (heads (subterms r.left)) m.name ≡ true) (map (named_by y) ls) → Every (IsRead y r) ls
+reads : (y : Spec) (r : Rule) (ls : List Letter) → All (λ l. IsMeaning y l.meaning) ls → AreFilled y ls
+    → Every (λ (m : Named). is_variable y m.name ≡ true → mentions (heads (subterms r.left)) m.name ≡ true) (map (named_by y) ls) → Every (IsRead y r) ls
 reads y r [] meant filled occurs = tt
 reads y r (l ∷ ls) meant filled occurs =
     let here = All-head (λ (l : Letter). IsMeaning y l.meaning) l ls meant in (
@@ -54,12 +55,15 @@ reads y r (l ∷ ls) meant filled occurs =
         filled = All-head (λ (l : Letter). (k : ℕ) → l.meaning ≡ Symbol k → arity_of y k ≡ l.count) l ls filled;
         occurs = λ v e.
             let lt = subst (IsMeaning y) e here in
-            subst (λ m. mentions (heads (subterms r.left)) (name_of y m) ≡ true) e (occurs.0 (ap (λ m. is_variable y (name_of y m)) e ∙ variable_is_one y v lt));
+            subst (λ m. mentions (heads (subterms r.left)) (name_of y m) ≡ true) e
+            (occurs.0 (ap (λ m. is_variable y (name_of y m)) e ∙ variable_is_one y v lt));
       },
-      reads y r ls (All-tail (λ (l : Letter). IsMeaning y l.meaning) l ls meant) (All-tail (λ (l : Letter). (k : ℕ) → l.meaning ≡ Symbol k → arity_of y k ≡ l.count) l ls filled) occurs.1,
+      reads y r ls (All-tail (λ (l : Letter). IsMeaning y l.meaning) l ls meant)
+          (All-tail (λ (l : Letter). (k : ℕ) → l.meaning ≡ Symbol k → arity_of y k ≡ l.count) l ls filled) occurs.1,
     )
 
-row-of-term : (y : Spec) (r : Rule) (ls : List Letter) (t : Term) → AreLetters y ls t → Every (IsFilledName y) (named t) → IsReadTerm y r.left t → IsRow y r ls t
+row-of-term : (y : Spec) (r : Rule) (ls : List Letter) (t : Term) → AreLetters y ls t → Every (IsFilledName y) (named t) → IsReadTerm y r.left t
+    → IsRow y r ls t
 row-of-term y r ls t letters filled read = record {
   letters = letters;
   read = reads y r ls letters.0 (letters-filled y ls letters.0 (subst (Every (IsFilledName y)) (sym letters.1) filled))
@@ -71,11 +75,14 @@ row-of-term y r ls t letters filled read = record {
 pub record IsRuleRead (y : Spec) (r : Rule) (x : LetterRule) : Type 0 where
   pub right : IsRow y r x.right.items r.right
   pub counted : length x.conditions.items ≡ length r.conditions
-  pub lefts : (j : ℕ) (d : LetterCondition) → j < length r.conditions → IsRow y r (get_or x.conditions.items j d).left.items (get_or r.conditions j no_condition).left
-  pub rights : (j : ℕ) (d : LetterCondition) → j < length r.conditions → IsRow y r (get_or x.conditions.items j d).right.items (get_or r.conditions j no_condition).right
+  pub lefts : (j : ℕ) (d : LetterCondition) → j < length r.conditions
+      → IsRow y r (get_or x.conditions.items j d).left.items (get_or r.conditions j no_condition).left
+  pub rights : (j : ℕ) (d : LetterCondition) → j < length r.conditions
+      → IsRow y r (get_or x.conditions.items j d).right.items (get_or r.conditions j no_condition).right
   pub equals : (j : ℕ) (d : LetterCondition) → j < length r.conditions → (get_or x.conditions.items j d).equal ≡ (get_or r.conditions j no_condition).equal
 
-pub rule-read : (y : Spec) → fault y ≡ None → (rules : List LetterRule) → Pairwise (IsLetterRule y) rules y.rules → (i : ℕ) (r : Rule) (x : LetterRule) → slice_get y.rules i ≡ Some r → x ≡ get_or rules i x → IsRuleRead y r x
+pub rule-read : (y : Spec) → fault y ≡ None → (rules : List LetterRule) → Pairwise (IsLetterRule y) rules y.rules
+    → (i : ℕ) (r : Rule) (x : LetterRule) → slice_get y.rules i ≡ Some r → x ≡ get_or rules i x → IsRuleRead y r x
 rule-read y kept rules are i r x e ex = subst (λ z. IsRuleRead y z x) (at.is no_rule) (subst (IsRuleRead y (get_or y.rules i no_rule)) (sym ex) made)
   where
     at : RuleAt y i r
@@ -90,7 +97,8 @@ rule-read y kept rules are i r x e ex = subst (λ z. IsRuleRead y z x) (at.is no
     letters : IsLetterRule y (get_or rules i x) (get_or y.rules i no_rule)
     letters = pair-at (IsLetterRule y) rules y.rules are i x no_rule at.within
 
-    conditions : (j : ℕ) (d : LetterCondition) → j < length (get_or y.rules i no_rule).conditions → IsLetterCondition y (get_or (get_or rules i x).conditions.items j d) (get_or (get_or y.rules i no_rule).conditions j no_condition)
+    conditions : (j : ℕ) (d : LetterCondition) → j < length (get_or y.rules i no_rule).conditions
+        → IsLetterCondition y (get_or (get_or rules i x).conditions.items j d) (get_or (get_or y.rules i no_rule).conditions j no_condition)
     conditions j d lt = pair-at (IsLetterCondition y) (get_or rules i x).conditions.items (get_or y.rules i no_rule).conditions letters.2 j d no_condition lt
 
     known : RuleFacts y (get_or y.rules i no_rule)
@@ -102,12 +110,18 @@ rule-read y kept rules are i r x e ex = subst (λ z. IsRuleRead y z x) (at.is no
         record {
           right = row-of-term y (get_or y.rules i no_rule) (get_or rules i x).right.items (get_or y.rules i no_rule).right letters.1 filled.right known.right;
           counted = pair-long (IsLetterCondition y) (get_or rules i x).conditions.items (get_or y.rules i no_rule).conditions letters.2;
-          lefts = λ j d lt. row-of-term y (get_or y.rules i no_rule) (get_or (get_or rules i x).conditions.items j d).left.items (get_or (get_or y.rules i no_rule).conditions j no_condition).left (conditions j d lt).0
-              (every-at (λ (c : Condition). Every (IsFilledName y) (named c.left) × Every (IsFilledName y) (named c.right)) (get_or y.rules i no_rule).conditions filled.conditions j no_condition lt).0
-              (every-at (λ (c : Condition). IsReadTerm y (get_or y.rules i no_rule).left c.left × IsReadTerm y (get_or y.rules i no_rule).left c.right) (get_or y.rules i no_rule).conditions known.conditions j no_condition lt).0;
-          rights = λ j d lt. row-of-term y (get_or y.rules i no_rule) (get_or (get_or rules i x).conditions.items j d).right.items (get_or (get_or y.rules i no_rule).conditions j no_condition).right (conditions j d lt).1
-              (every-at (λ (c : Condition). Every (IsFilledName y) (named c.left) × Every (IsFilledName y) (named c.right)) (get_or y.rules i no_rule).conditions filled.conditions j no_condition lt).1
-              (every-at (λ (c : Condition). IsReadTerm y (get_or y.rules i no_rule).left c.left × IsReadTerm y (get_or y.rules i no_rule).left c.right) (get_or y.rules i no_rule).conditions known.conditions j no_condition lt).1;
+          lefts = λ j d lt. row-of-term y (get_or y.rules i no_rule) (get_or (get_or rules i x).conditions.items j d).left.items
+              (get_or (get_or y.rules i no_rule).conditions j no_condition).left (conditions j d lt).0
+              (every-at (λ (c : Condition). Every (IsFilledName y) (named c.left) × Every (IsFilledName y) (named c.right))
+              (get_or y.rules i no_rule).conditions filled.conditions j no_condition lt).0
+              (every-at (λ (c : Condition). IsReadTerm y (get_or y.rules i no_rule).left c.left
+              × IsReadTerm y (get_or y.rules i no_rule).left c.right) (get_or y.rules i no_rule).conditions known.conditions j no_condition lt).0;
+          rights = λ j d lt. row-of-term y (get_or y.rules i no_rule) (get_or (get_or rules i x).conditions.items j d).right.items
+              (get_or (get_or y.rules i no_rule).conditions j no_condition).right (conditions j d lt).1
+              (every-at (λ (c : Condition). Every (IsFilledName y) (named c.left) × Every (IsFilledName y) (named c.right))
+              (get_or y.rules i no_rule).conditions filled.conditions j no_condition lt).1
+              (every-at (λ (c : Condition). IsReadTerm y (get_or y.rules i no_rule).left c.left
+              × IsReadTerm y (get_or y.rules i no_rule).left c.right) (get_or y.rules i no_rule).conditions known.conditions j no_condition lt).1;
           equals = λ j d lt. (conditions j d lt).2;
         }
 
@@ -116,9 +130,11 @@ pub record MatchFacts (y : Spec) (w : Store) (m : Matcher) (i : ℕ) (r : Rule) 
   pub within : i < length m.sides.items
   pub pairs : Paired y w m i bind s
   pub all : AreVariables y (variables_at m i)
-  pub known : (v : ℕ) → v < length (variable_words y.variables) → mentions (heads (subterms r.left)) (name_of y (Variable v)) ≡ true → Contains (variables_at m i) v
+  pub known : (v : ℕ) → v < length (variable_words y.variables) → mentions (heads (subterms r.left)) (name_of y (Variable v)) ≡ true
+      → Contains (variables_at m i) v
 
-pub match-facts : (y : Spec) (w : Store) (m : Matcher) (stack : Reference) (i : ℕ) (u : Tree) (r : Rule) (s : Substitution) (bind : List Reference) → IsReady y w m → IsMatch y i u r s → HasValues w stack bind s → MatchFacts y w m i r bind s
+pub match-facts : (y : Spec) (w : Store) (m : Matcher) (stack : Reference) (i : ℕ) (u : Tree) (r : Rule) (s : Substitution) (bind : List Reference)
+    → IsReady y w m → IsMatch y i u r s → HasValues w stack bind s → MatchFacts y w m i r bind s
 match-facts y w m stack i u r s bind ready match values =
     let at = rule-at y i r match.rule in
     let kept = ready.matcher.kept in
@@ -143,21 +159,27 @@ match-facts y w m stack i u r s bind ready match values =
 pub first-here : (vs : List ℕ) (v p : ℕ) → p < length vs → get_or vs p 0 ≡ v → ((k : ℕ) → k < p → get_or vs k 0 ≡ v → ⊥) → FirstAt vs v p
 first-here [] v p lt e unmet = let no : ⊥ = omega (arith, lt) in absurd no
 first-here (x ∷ vs) v zero lt e unmet = e
-first-here (x ∷ vs) v (suc p) lt e unmet = (λ q. unmet zero (omega arith) q, first-here vs v p (omega (arith, lt)) e (λ k l q. unmet (suc k) (omega (arith, l)) q))
+first-here (x ∷ vs) v (suc p) lt e unmet = (
+  λ q. unmet zero (omega arith) q,
+  first-here vs v p (omega (arith, lt)) e (λ k l q. unmet (suc k) (omega (arith, l)) q),
+)
 
 -- the variables of a rule, as they stand
 pub variables-are : (m : Matcher) (i : ℕ) (x : LeftSide) → i < length m.sides.items → x ≡ get_or m.sides.items i x → variables_at m i ≡ x.variables.items
 variables-are m i x lt e = get_or-map (λ (s : LeftSide). s.variables.items) m.sides.items i x [] lt ∙ ap (λ (s : LeftSide). s.variables.items) (sym e)
 
-pub next-is : (m : Matcher) (i : ℕ) (x : LeftSide) → i < length m.sides.items → x ≡ get_or m.sides.items i x → (y : Spec) (w : Store) → IsReady y w m → i < x.next
+pub next-is : (m : Matcher) (i : ℕ) (x : LeftSide) → i < length m.sides.items → x ≡ get_or m.sides.items i x → (y : Spec) (w : Store) → IsReady y w m
+    → i < x.next
 next-is m i x lt e y w ready =
     let ruled = ready.matcher.ruled in
     let l = (ready.matcher.sides i no_rule (omega (arith, lt, ruled))).later in
-    let is : get_or (map (λ (s : LeftSide). s.next) m.sides.items) i 0 ≡ x.next = get_or-map (λ (s : LeftSide). s.next) m.sides.items i x 0 lt ∙ ap (λ (s : LeftSide). s.next) (sym e) in
+    let is : get_or (map (λ (s : LeftSide). s.next) m.sides.items) i 0 ≡ x.next =
+    get_or-map (λ (s : LeftSide). s.next) m.sides.items i x 0 lt ∙ ap (λ (s : LeftSide). s.next) (sym e) in
     omega (arith, is, l)
 
 -- the value of a variable at its place
-pub value-there : (y : Spec) (w : Store) (m : Matcher) (i : ℕ) (r : Rule) (bind : List Reference) (s : Substitution) (v p : ℕ) (d : Reference) → fault y ≡ None → MatchFacts y w m i r bind s → v < length (variable_words y.variables) → FirstAt (variables_at m i) v p → p < length bind
+pub value-there : (y : Spec) (w : Store) (m : Matcher) (i : ℕ) (r : Rule) (bind : List Reference) (s : Substitution) (v p : ℕ) (d : Reference)
+    → fault y ≡ None → MatchFacts y w m i r bind s → v < length (variable_words y.variables) → FirstAt (variables_at m i) v p → p < length bind
     → value_of s (name_of y (Variable v)) ≡ Some (held_tree w (get_or bind p d))
 value-there y w m i r bind s v p d kept f lt first within =
     let counted = f.pairs.counted in

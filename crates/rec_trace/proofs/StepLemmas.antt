@@ -60,20 +60,25 @@ gives-one : (y : Spec) (ss : List Step) (gs : List Tree) → AreSteps y (step.Gi
 gives-one y ss [] h = absurd h
 gives-one y ss (v ∷ gs) h = record { steps = h; moves = refl }
 
-pub step-gives : (y : Spec) (w w1 : Store) (a b : Tracer) → Stands y w a → reverse a.steps.items ≡ step.Give ∷ reverse b.steps.items → AreKept w1 b.lists → b.left ≡ a.left
+pub step-gives : (y : Spec) (w w1 : Store) (a b : Tracer) → Stands y w a → reverse a.steps.items ≡ step.Give ∷ reverse b.steps.items
+    → AreKept w1 b.lists → b.left ≡ a.left
     → Hold w1 b.lists (drop 1 (listed w a.lists.given)) (get_or (listed w a.lists.given) 0 (list_of none) ∷ stack_at w a) → SameTrace y w w1 a b
 step-gives y w w1 a b s turned kept left hold =
-    let steps : AreSteps y (step.Give ∷ reverse b.steps.items) (listed w a.lists.given) = subst (λ ss. AreSteps y ss (listed w a.lists.given)) turned s.order.steps in
+    let steps : AreSteps y (step.Give ∷ reverse b.steps.items) (listed w a.lists.given) =
+    subst (λ ss. AreSteps y ss (listed w a.lists.given)) turned s.order.steps in
     let one = gives-one y (reverse b.steps.items) (listed w a.lists.given) steps in
     let before : moves_at y w a ≡ Give (get_or (listed w a.lists.given) 0 (list_of none)) ∷ moves_at y w1 b =
-    ap (λ ss. moves_of y ss (listed w a.lists.given)) turned ∙ one.moves ∙ ap (λ gs. Give (get_or (listed w a.lists.given) 0 (list_of none)) ∷ moves_of y (reverse b.steps.items) gs) (sym hold.given) in
-    let fits : Fits (Give (get_or (listed w a.lists.given) 0 (list_of none)) ∷ moves_at y w1 b) (length (stack_at w a)) 1 = subst (λ ms. Fits ms (length (stack_at w a)) 1) before s.fits in
+    ap (λ ss. moves_of y ss (listed w a.lists.given)) turned ∙ one.moves
+    ∙ ap (λ gs. Give (get_or (listed w a.lists.given) 0 (list_of none)) ∷ moves_of y (reverse b.steps.items) gs) (sym hold.given) in
+    let fits : Fits (Give (get_or (listed w a.lists.given) 0 (list_of none)) ∷ moves_at y w1 b) (length (stack_at w a)) 1 =
+    subst (λ ms. Fits ms (length (stack_at w a)) 1) before s.fits in
     record {
       stands = record {
         order = record { good = s.order.good; kept = kept; steps = subst (AreSteps y (reverse b.steps.items)) (sym hold.given) one.steps };
         fits = subst (λ (st : List Tree). Fits (moves_at y w1 b) (length st) 1) (sym hold.stack) fits;
       };
-      rest = ap (λ n. ahead y n (moves_at y w1 b) (stack_at w1 b)) left ∙ ap (ahead y a.left (moves_at y w1 b)) hold.stack ∙ sym (ap (λ ms. ahead y a.left ms (stack_at w a)) before);
+      rest = ap (λ n. ahead y n (moves_at y w1 b) (stack_at w1 b)) left ∙ ap (ahead y a.left (moves_at y w1 b)) hold.stack
+          ∙ sym (ap (λ ms. ahead y a.left ms (stack_at w a)) before);
       whole = ap (written (moves_at y w1 b)) hold.stack ∙ sym (ap (λ ms. written ms (stack_at w a)) before);
     }
 
@@ -86,15 +91,24 @@ pub record IsCalling (y : Spec) (w : Store) (a b : Tracer) (f k : ℕ) : Type 0 
   pub moves : moves_at y w a ≡ Invoke (name_of y (Symbol f)) k ∷ moves_at y w b
   pub fits : Fits (moves_at y w b) (suc (length (stack_at w b) - k)) 1
 
-pub is-calling : (y : Spec) (w : Store) (a b : Tracer) (f k : ℕ) → Stands y w a → reverse a.steps.items ≡ step.Invoke f k ∷ reverse b.steps.items → b.lists ≡ a.lists → IsCalling y w a b f k
+pub is-calling : (y : Spec) (w : Store) (a b : Tracer) (f k : ℕ) → Stands y w a → reverse a.steps.items ≡ step.Invoke f k ∷ reverse b.steps.items
+    → b.lists ≡ a.lists → IsCalling y w a b f k
 is-calling y w a b f k s turned lists =
-    let steps : AreSteps y (step.Invoke f k ∷ reverse b.steps.items) (listed w a.lists.given) = subst (λ ss. AreSteps y ss (listed w a.lists.given)) turned s.order.steps in
+    let steps : AreSteps y (step.Invoke f k ∷ reverse b.steps.items) (listed w a.lists.given) =
+    subst (λ ss. AreSteps y ss (listed w a.lists.given)) turned s.order.steps in
     let same : moves_at y w a ≡ Invoke (name_of y (Symbol f)) k ∷ moves_at y w b =
-    ap (λ ss. moves_of y ss (listed w a.lists.given)) turned ∙ ap (λ (l : Lists). Invoke (name_of y (Symbol f)) k ∷ moves_of y (reverse b.steps.items) (listed w l.given)) (sym lists) in
+    ap (λ ss. moves_of y ss (listed w a.lists.given)) turned ∙ ap (λ (l : Lists).
+    Invoke (name_of y (Symbol f)) k ∷ moves_of y (reverse b.steps.items) (listed w l.given)) (sym lists) in
     let fits : Fits (Invoke (name_of y (Symbol f)) k ∷ moves_at y w b) (length (stack_at w b)) 1 =
-    subst (λ (l : Lists). Fits (Invoke (name_of y (Symbol f)) k ∷ moves_at y w b) (length (listed w l.stack)) 1) (sym lists) (subst (λ ms. Fits ms (length (stack_at w a)) 1) same s.fits) in
+    subst (λ (l : Lists). Fits (Invoke (name_of y (Symbol f)) k ∷ moves_at y w b) (length (listed w l.stack)) 1) (sym lists)
+    (subst (λ ms. Fits ms (length (stack_at w a)) 1) same s.fits) in
     record {
-      order = record { good = s.order.good; kept = subst (AreKept w) (sym lists) s.order.kept; steps = subst (λ (l : Lists). AreSteps y (reverse b.steps.items) (listed w l.given)) (sym lists) steps.2 };
+      order = record {
+        good = s.order.good;
+        kept = subst (AreKept w) (sym lists) s.order.kept;
+        steps =
+            subst (λ (l : Lists). AreSteps y (reverse b.steps.items) (listed w l.given)) (sym lists) steps.2;
+      };
       declared = steps.0;
       arity = steps.1;
       enough = fits.0;
@@ -102,13 +116,16 @@ is-calling y w a b f k s turned lists =
       fits = fits.1;
     }
 
-module _ (y : Spec) (w w1 : Store) (a b d : Tracer) (f k : ℕ) (stack_same : stack_at w b ≡ stack_at w a) (left_same : b.left ≡ a.left) (h : IsCalling y w a b f k) where
+module _ (y : Spec) (w w1 : Store) (a b d : Tracer) (f k : ℕ) (stack_same : stack_at w b ≡ stack_at w a) (left_same : b.left ≡ a.left)
+    (h : IsCalling y w a b f k) where
   u : Tree
   u = application (name_of y (Symbol f)) (taken k (stack_at w b) none)
 
-  called-is : rest_of y w a ≡ after_call y (moves_at y w b) (drop k (stack_at w b)) (application (name_of y (Symbol f)) (taken k (stack_at w b) none)) (first_rule y (Eval y) y.rules b.left (application (name_of y (Symbol f)) (taken k (stack_at w b) none)))
+  called-is : rest_of y w a ≡ after_call y (moves_at y w b) (drop k (stack_at w b)) (application (name_of y (Symbol f)) (taken k (stack_at w b) none))
+      (first_rule y (Eval y) y.rules b.left (application (name_of y (Symbol f)) (taken k (stack_at w b) none)))
   called-is =
-      ap (λ n. ahead y n (moves_at y w a) (stack_at w a)) (sym left_same) ∙ ap (ahead y b.left (moves_at y w a)) (sym stack_same) ∙ ap (λ ms. ahead y b.left ms (stack_at w b)) h.moves
+      ap (λ n. ahead y n (moves_at y w a) (stack_at w a)) (sym left_same) ∙ ap (ahead y b.left (moves_at y w a)) (sym stack_same)
+      ∙ ap (λ ms. ahead y b.left ms (stack_at w b)) h.moves
       ∙ (state_law y).calls b.left (name_of y (Symbol f)) k (moves_at y w b) (stack_at w b)
 
   whole-is : whole_of y w a ≡ written (moves_at y w b) (application (name_of y (Symbol f)) (taken k (stack_at w b) none) ∷ drop k (stack_at w b))
@@ -120,11 +137,13 @@ module _ (y : Spec) (w w1 : Store) (a b d : Tracer) (f k : ℕ) (stack_same : st
       record {
         stands = record {
           order = c.1;
-          fits = subst (λ ms. Fits ms (length (stack_at w1 d)) 1) (sym c.2) (subst (λ (st : List Tree). Fits (moves_at y w b) (length st) 1) (sym c.3) (subst (λ n. Fits (moves_at y w b) (suc n) 1) (sym long) h.fits));
+          fits = subst (λ ms. Fits ms (length (stack_at w1 d)) 1) (sym c.2)
+              (subst (λ (st : List Tree). Fits (moves_at y w b) (length st) 1) (sym c.3) (subst (λ n. Fits (moves_at y w b) (suc n) 1) (sym long) h.fits));
         };
         rest =
             ap (λ ms. ahead y d.left ms (stack_at w1 d)) c.2 ∙ ap (ahead y d.left (moves_at y w b)) c.3
-            ∙ sym (called-is ∙ ap (after_call y (moves_at y w b) (drop k (stack_at w b)) (application (name_of y (Symbol f)) (taken k (stack_at w b) none))) c.0);
+            ∙ sym (called-is ∙ ap (after_call y (moves_at y w b) (drop k (stack_at w b))
+            (application (name_of y (Symbol f)) (taken k (stack_at w b) none))) c.0);
         whole = ap (λ ms. written ms (stack_at w1 d)) c.2 ∙ ap (written (moves_at y w b)) c.3 ∙ sym whole-is;
       }
 
@@ -132,11 +151,15 @@ module _ (y : Spec) (w w1 : Store) (a b d : Tracer) (f k : ℕ) (stack_same : st
   step-turns (turn.Fired rule redex contractum) c =
       let long : length (drop k (stack_at w b)) ≡ length (stack_at w b) - k = length-drop k (stack_at w b) in (
         record {
-          firing = firing (λ v. written (moves_at y w b) (v ∷ drop k (stack_at w b))) (application (name_of y (Symbol f)) (taken k (stack_at w b) none)) c.0 d.left;
+          firing = firing (λ v. written (moves_at y w b) (v ∷ drop k (stack_at w b)))
+              (application (name_of y (Symbol f)) (taken k (stack_at w b) none)) c.0 d.left;
           next =
               called-is ∙ ap (after_call y (moves_at y w b) (drop k (stack_at w b)) (application (name_of y (Symbol f)) (taken k (stack_at w b) none))) c.1
-              ∙ ap (λ st. firing_then (firing (λ v. written (moves_at y w b) (v ∷ drop k (stack_at w b))) (application (name_of y (Symbol f)) (taken k (stack_at w b) none)) c.0 d.left) (ahead y d.left (moves c.0.values c.0.rule.right ++ moves_at y w b) st)) (sym c.5)
-              ∙ ap (λ ms. firing_then (firing (λ v. written (moves_at y w b) (v ∷ drop k (stack_at w b))) (application (name_of y (Symbol f)) (taken k (stack_at w b) none)) c.0 d.left) (ahead y d.left ms (stack_at w1 d))) (sym c.4);
+              ∙ ap (λ st. firing_then (firing (λ v. written (moves_at y w b) (v ∷ drop k (stack_at w b)))
+              (application (name_of y (Symbol f)) (taken k (stack_at w b) none)) c.0 d.left)
+              (ahead y d.left (moves c.0.values c.0.rule.right ++ moves_at y w b) st)) (sym c.5)
+              ∙ ap (λ ms. firing_then (firing (λ v. written (moves_at y w b) (v ∷ drop k (stack_at w b)))
+              (application (name_of y (Symbol f)) (taken k (stack_at w b) none)) c.0 d.left) (ahead y d.left ms (stack_at w1 d))) (sym c.4);
           rule_is = c.2;
           redex_is = c.6;
           contractum_is = c.7;
@@ -150,11 +173,16 @@ module _ (y : Spec) (w w1 : Store) (a b d : Tracer) (f k : ℕ) (stack_same : st
           order = c.3;
           fits = subst (λ ms. Fits ms (length (stack_at w1 d)) 1) (sym c.4)
               (fits-moves c.0.values c.0.rule.right (moves_at y w b) (length (stack_at w1 d)) 1
-              (subst (λ (st : List Tree). Fits (moves_at y w b) (suc (length st)) 1) (sym c.5) (subst (λ n. Fits (moves_at y w b) (suc n) 1) (sym long) h.fits)));
+              (subst (λ (st : List Tree). Fits (moves_at y w b) (suc (length st)) 1) (sym c.5)
+              (subst (λ n. Fits (moves_at y w b) (suc n) 1) (sym long) h.fits)));
         }),
       )
   step-turns (turn.Value t) c = absurd c
-  step-turns turn.Limit c = (called-is ∙ ap (after_call y (moves_at y w b) (drop k (stack_at w b)) (application (name_of y (Symbol f)) (taken k (stack_at w b) none))) c, inl tt)
+  step-turns turn.Limit c = (
+    called-is
+        ∙ ap (after_call y (moves_at y w b) (drop k (stack_at w b)) (application (name_of y (Symbol f)) (taken k (stack_at w b) none))) c,
+    inl tt,
+  )
 
 -- a turn of a state of the same trace is one of the trace
 pub turn-since : (y : Spec) (w w1 w2 : Store) (a b d : Tracer) (t : Turn) → SameTrace y w w1 a b → IsTurn y w1 w2 b d t → IsTurn y w w2 a d t
@@ -177,7 +205,8 @@ same-stands y w a b s lists steps = record {
   order = record {
     good = s.order.good;
     kept = subst (AreKept w) (sym lists) s.order.kept;
-    steps = subst (λ (xs : List Step). AreSteps y (reverse xs) (listed w b.lists.given)) (sym steps) (subst (λ (l : Lists). AreSteps y (reverse a.steps.items) (listed w l.given)) (sym lists) s.order.steps);
+    steps = subst (λ (xs : List Step). AreSteps y (reverse xs) (listed w b.lists.given)) (sym steps)
+        (subst (λ (l : Lists). AreSteps y (reverse a.steps.items) (listed w l.given)) (sym lists) s.order.steps);
   };
   fits = subst (λ (xs : List Step). Fits (moves_of y (reverse xs) (listed w b.lists.given)) (length (listed w b.lists.stack)) 1) (sym steps)
       (subst (λ (l : Lists). Fits (moves_of y (reverse a.steps.items) (listed w l.given)) (length (listed w l.stack)) 1) (sym lists) s.fits);
@@ -186,14 +215,20 @@ same-stands y w a b s lists steps = record {
 -- the calls of a ground term's letters
 pub ground-first : (y : Spec) (steps : List Step) (ls : List Letter) (k : ℕ) → steps ≡ [] → k ≡ length ls → IsGroundRow y steps (drop k ls)
 ground-first y steps ls k e long =
-    subst (λ xs. IsGroundRow y steps xs) (sym (drop-end ls k (omega (arith, long)))) (subst (λ (xs : List Step). IsGroundRow y xs []) (sym e) (record { can = tt; moves_are = refl }))
+    subst (λ xs. IsGroundRow y steps xs) (sym (drop-end ls k (omega (arith, long))))
+    (subst (λ (xs : List Step). IsGroundRow y xs []) (sym e) (record { can = tt; moves_are = refl }))
 
-pub ground-more : (y : Spec) (steps longer : List Step) (l : Letter) (ls : List Letter) (k : ℕ) → IsGroundRow y steps ls → IsApplied y l → l.meaning ≡ Symbol k → longer ≡ steps ++ step.Invoke k l.count ∷ [] → IsGroundRow y longer (l ∷ ls)
+pub ground-more : (y : Spec) (steps longer : List Step) (l : Letter) (ls : List Letter) (k : ℕ) → IsGroundRow y steps ls → IsApplied y l
+    → l.meaning ≡ Symbol k → longer ≡ steps ++ step.Invoke k l.count ∷ [] → IsGroundRow y longer (l ∷ ls)
 ground-more y steps longer l ls k row applied is e =
     let number : applied.number ≡ k = symbol-same applied.number k (sym applied.symbol ∙ is) in
     let turned = popped-step longer steps (step.Invoke k l.count) e in
     record {
-      can = subst (λ ss. AreSteps y ss []) (sym turned) (subst (λ j. j < length (symbols y)) number applied.declared, ap (arity_of y) (sym number) ∙ applied.filled, row.can);
+      can = subst (λ ss. AreSteps y ss []) (sym turned) (
+        subst (λ j. j < length (symbols y)) number applied.declared,
+        ap (arity_of y) (sym number) ∙ applied.filled,
+        row.can,
+      );
       moves_are =
           ap (λ ss. moves_of y ss []) turned ∙ ap (λ ms. Invoke (name_of y (Symbol k)) l.count ∷ ms) row.moves_are
           ∙ ap (λ m. Invoke (name_of y m) l.count ∷ map (move_of []) (map (named_by y) ls)) (sym is);
@@ -203,14 +238,17 @@ ground-more y steps longer l ls k row applied is e =
     symbol-same a b e = cc
 
 -- the first state
-pub new-stands : (y : Spec) (w : Store) (t : Tracer) (ls : List Letter) (term : Term) → fault y ≡ None → AreKept w t.lists → listed w t.lists.given ≡ [] → listed w t.lists.stack ≡ [] → IsGroundRow y t.steps.items ls → AreLetters y ls term
+pub new-stands : (y : Spec) (w : Store) (t : Tracer) (ls : List Letter) (term : Term) → fault y ≡ None → AreKept w t.lists
+    → listed w t.lists.given ≡ [] → listed w t.lists.stack ≡ [] → IsGroundRow y t.steps.items ls → AreLetters y ls term
     → Stands y w t × (rest_of y w t ≡ Trace y t.left term) × (whole_of y w t ≡ tree_of term)
 new-stands y w t ls term good kept given stack row letters =
     let is : moves_at y w t ≡ moves [] term = ap (moves_of y (reverse t.steps.items)) given ∙ row.moves_are ∙ ground-moves y ls term letters in (
       record {
         order = record { good = good; kept = kept; steps = subst (AreSteps y (reverse t.steps.items)) (sym given) row.can };
-        fits = subst (λ ms. Fits ms (length (stack_at w t)) 1) (sym is) (subst (λ (st : List Tree). Fits (moves [] term) (length st) 1) (sym stack) (fits-one [] term));
+        fits = subst (λ ms. Fits ms (length (stack_at w t)) 1) (sym is)
+            (subst (λ (st : List Tree). Fits (moves [] term) (length st) 1) (sym stack) (fits-one [] term));
       },
       ap (λ ms. ahead y t.left ms (stack_at w t)) is ∙ ap (ahead y t.left (moves [] term)) stack ∙ (state_law y).begins t.left term,
-      ap (λ ms. written ms (stack_at w t)) is ∙ ap (written (moves [] term)) stack ∙ ap (λ ms. written ms []) (sym (append-nil (moves [] term))) ∙ written-moves [] term [] [],
+      ap (λ ms. written ms (stack_at w t)) is ∙ ap (written (moves [] term)) stack ∙ ap (λ ms. written ms []) (sym (append-nil (moves [] term)))
+          ∙ written-moves [] term [] [],
     )

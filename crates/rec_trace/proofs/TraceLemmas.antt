@@ -10,8 +10,10 @@ use Rattle.rec_sorts.specs.Laws.{fired, step, step_all, Steps, Every, Unconditio
 use Rattle.rec_sorts.proofs.KeptLemmas.{LeftSidesApply, left_sides_apply}
 use Rattle.rec_sorts.proofs.SteadyLemmas.{steady_first_rule, steady_call, steady_evaluate, steady_evaluate_all, SteadyCaller, Costs, below_or_from}
 use Rattle.rec_sorts.proofs.EquationLemmas.{steady_Eval, match_spends, meets, left_le, then_agrees}
-use Rattle.rec_sorts.proofs.RewritingLemmas.{Normal, Normal_all, Normal_values, by_arguments, by_rest, by_first, no_step, no_step_all, found_normal, plain_answer, plain_first_rule, value_normal, fired_of}
-use Rattle.rec_trace.specs.Trace.{Firing, Traced, quiet, ◌next◌, Tracer, CallTracer, trace, trace_all, firing, trace_call, trace_within, TraceIn, TraceCall, DepthLaw, Trace, first_redex, first_redex_all, IsStep, Follow, TraceLaw, FollowLaw}
+use Rattle.rec_sorts.proofs.RewritingLemmas.{Normal, Normal_all, Normal_values, by_arguments, by_rest, by_first, no_step}
+use Rattle.rec_sorts.proofs.RewritingLemmas.{no_step_all, found_normal, plain_answer, plain_first_rule, value_normal, fired_of}
+use Rattle.rec_trace.specs.Trace.{Firing, Traced, quiet, ◌next◌, Tracer, CallTracer, trace, trace_all, firing, trace_call, trace_within}
+use Rattle.rec_trace.specs.Trace.{TraceIn, TraceCall, DepthLaw, Trace, first_redex, first_redex_all, IsStep, Follow, TraceLaw, FollowLaw}
 
 -- the same outcome as evaluation
 
@@ -29,7 +31,8 @@ next_outcome {A} {B} t f = by_outcome t.outcome
 abbrev AgreeUpTo : ℕ → CallTracer → Caller → Type 0
 AgreeUpTo n tracer c = (whole : Tree → Tree) (m : ℕ) (u : Tree) → m ≤ n → (tracer whole m u).outcome ≡ c m u
 
-next_agrees : {A B : Type 0} (t : Traced A) (o : Outcome A) (f : A → ℕ → Traced B) (g : A → ℕ → Outcome B) → t.outcome ≡ o → ((a : A) (left : ℕ) → o ≡ Done a left → (f a left).outcome ≡ g a left) → (t next f).outcome ≡ (o then g)
+next_agrees : {A B : Type 0} (t : Traced A) (o : Outcome A) (f : A → ℕ → Traced B) (g : A → ℕ → Outcome B) → t.outcome ≡ o
+    → ((a : A) (left : ℕ) → o ≡ Done a left → (f a left).outcome ≡ g a left) → (t next f).outcome ≡ (o then g)
 next_agrees t o f g same h = next_outcome t f ∙ then_agrees t.outcome o (λ a left. (f a left).outcome) g same (λ a left e. h a left (sym same ∙ e))
 
 abbrev trace_head : CallTracer → (Tree → Tree) → ℕ → Substitution → Word → Terms → Option Tree → Traced Tree
@@ -44,7 +47,8 @@ evaluate_head c n s w ts o = elim o [
   | None ↦ evaluate_all c n s ts then λ vs left. c left (application w.bytes vs)
 ]
 
-head_agrees : (tracer : CallTracer) (c : Caller) → SteadyCaller c → (n : ℕ) → AgreeUpTo n tracer c → (whole : Tree → Tree) (s : Substitution) (w : Word) (ts : Terms) (o : Option Tree)
+head_agrees : (tracer : CallTracer) (c : Caller) → SteadyCaller c → (n : ℕ) → AgreeUpTo n tracer c
+    → (whole : Tree → Tree) (s : Substitution) (w : Word) (ts : Terms) (o : Option Tree)
     → (trace_all tracer (λ us. whole (application w.bytes us)) n s ts).outcome ≡ evaluate_all c n s ts
     → (trace_head tracer whole n s w ts o).outcome ≡ evaluate_head c n s w ts o
 head_agrees tracer c sc n agree whole s w ts (Some v) all = refl
@@ -54,10 +58,13 @@ head_agrees tracer c sc n agree whole s w ts None all =
     (λ vs left e. agree whole left (application w.bytes vs) (left_le (λ n. evaluate_all c n s ts) (steady_evaluate_all c sc s ts) n vs left e))
 
 mutual
-  trace_agrees : (tracer : CallTracer) (c : Caller) → SteadyCaller c → (n : ℕ) → AgreeUpTo n tracer c → (whole : Tree → Tree) (s : Substitution) (t : Term) → (trace tracer whole n s t).outcome ≡ evaluate c n s t
-  trace_agrees tracer c sc n agree whole s (Apply w ts) = head_agrees tracer c sc n agree whole s w ts (value_of s w.bytes) (trace_all_agrees tracer c sc n agree (λ us. whole (application w.bytes us)) s ts)
+  trace_agrees : (tracer : CallTracer) (c : Caller) → SteadyCaller c → (n : ℕ) → AgreeUpTo n tracer c
+      → (whole : Tree → Tree) (s : Substitution) (t : Term) → (trace tracer whole n s t).outcome ≡ evaluate c n s t
+  trace_agrees tracer c sc n agree whole s (Apply w ts) = head_agrees tracer c sc n agree whole s w ts (value_of s w.bytes)
+      (trace_all_agrees tracer c sc n agree (λ us. whole (application w.bytes us)) s ts)
 
-  trace_all_agrees : (tracer : CallTracer) (c : Caller) → SteadyCaller c → (n : ℕ) → AgreeUpTo n tracer c → (whole : Trees → Tree) (s : Substitution) (ts : Terms) → (trace_all tracer whole n s ts).outcome ≡ evaluate_all c n s ts
+  trace_all_agrees : (tracer : CallTracer) (c : Caller) → SteadyCaller c → (n : ℕ) → AgreeUpTo n tracer c
+      → (whole : Trees → Tree) (s : Substitution) (ts : Terms) → (trace_all tracer whole n s ts).outcome ≡ evaluate_all c n s ts
   trace_all_agrees tracer c sc n agree whole s Terms.none = refl
   trace_all_agrees tracer c sc n agree whole s (Terms.more t ts) =
       next_agrees (trace tracer (λ u. whole (more u (instances s ts))) n s t) (evaluate c n s t)
@@ -66,13 +73,15 @@ mutual
       (trace_agrees tracer c sc n agree (λ u. whole (more u (instances s ts))) s t)
       (λ v left e. next_agrees (trace_all tracer (λ us. whole (more v us)) left s ts) (evaluate_all c left s ts)
       (λ vs rest. quiet (Done (more v vs) rest)) (λ vs rest. Done (more v vs) rest)
-      (trace_all_agrees tracer c sc left (λ w m u low. agree w m u (let le : left ≤ n = left_le (λ n. evaluate c n s t) (steady_evaluate c sc s t) n v left e in omega arith)) (λ us. whole (more v us)) s ts)
+      (trace_all_agrees tracer c sc left (λ w m u low. agree w m u (let le : left ≤ n =
+      left_le (λ n. evaluate c n s t) (steady_evaluate c sc s t) n v left e in omega arith)) (λ us. whole (more v us)) s ts)
       (λ vs rest e2. refl))
 
 abbrev tracer_within : Spec → ℕ → Tracer
 tracer_within y depth = λ whole m r u. trace_within y depth whole m r u
 
-call_agrees : (y : Spec) (tracer : Tracer) (n : ℕ) → ((whole : Tree → Tree) (m : ℕ) (s : Substitution) (t : Term) → m < n → (tracer whole m s t).outcome ≡ Eval y m s t)
+call_agrees : (y : Spec) (tracer : Tracer) (n : ℕ) → ((whole : Tree → Tree) (m : ℕ) (s : Substitution) (t : Term) → m < n
+    → (tracer whole m s t).outcome ≡ Eval y m s t)
     → (whole : Tree → Tree) (u : Tree) → (trace_call y tracer whole n u).outcome ≡ call y (Eval y) n u
 call_agrees y tracer n agree whole u = by_found (first_rule y (Eval y) y.rules n u) refl
   where
@@ -81,7 +90,11 @@ call_agrees y tracer n agree whole u = by_found (first_rule y (Eval y) y.rules n
           | Over ↦ quiet Over
           | Done found left ↦ elim found [
             | None ↦ quiet (Done u left)
-            | Some m ↦ record { firings = firing whole u m left ∷ (tracer whole left m.values m.rule.right).firings; outcome = (tracer whole left m.values m.rule.right).outcome }
+            | Some m ↦ record {
+              firings = firing whole u m left ∷ (tracer whole left m.values m.rule.right).firings;
+              outcome =
+                  (tracer whole left m.values m.rule.right).outcome;
+            }
           ]
         ]).outcome (o then λ found left. elim found [ Some m ↦ Eval y left m.values m.rule.right | None ↦ Done u left ])
     by_found Over e = refl
@@ -107,7 +120,8 @@ call_outcome y whole n u = call_agrees y (λ w m s t. TraceIn y w m s t) n (λ w
 
 -- a depth above the budget is no limit
 
-next_same : {A B : Type 0} (t t' : Traced A) (f f' : A → ℕ → Traced B) → t ≡ t' → ((a : A) (left : ℕ) → t.outcome ≡ Done a left → f a left ≡ f' a left) → (t next f) ≡ (t' next f')
+next_same : {A B : Type 0} (t t' : Traced A) (f f' : A → ℕ → Traced B) → t ≡ t'
+    → ((a : A) (left : ℕ) → t.outcome ≡ Done a left → f a left ≡ f' a left) → (t next f) ≡ (t' next f')
 next_same {A} {B} t t' f f' same h = by_outcome t.outcome refl ∙ ap (λ x. x next f') same
   where
     by_outcome : (o : Outcome A) → t.outcome ≡ o → ◌≡◌ {A = Traced B} (elim o as (λ _. Traced B) [
@@ -123,7 +137,8 @@ next_same {A} {B} t t' f f' same h = by_outcome t.outcome refl ∙ ap (λ x. x n
 abbrev SameUpTo : ℕ → CallTracer → CallTracer → Type 0
 SameUpTo n c c' = (whole : Tree → Tree) (m : ℕ) (u : Tree) → m ≤ n → c whole m u ≡ c' whole m u
 
-head_same : (c c' : CallTracer) (e : Caller) → SteadyCaller e → (n : ℕ) → AgreeUpTo n c e → SameUpTo n c c' → (whole : Tree → Tree) (s : Substitution) (w : Word) (ts : Terms) (o : Option Tree)
+head_same : (c c' : CallTracer) (e : Caller) → SteadyCaller e → (n : ℕ) → AgreeUpTo n c e → SameUpTo n c c'
+    → (whole : Tree → Tree) (s : Substitution) (w : Word) (ts : Terms) (o : Option Tree)
     → trace_all c (λ us. whole (application w.bytes us)) n s ts ≡ trace_all c' (λ us. whole (application w.bytes us)) n s ts
     → trace_head c whole n s w ts o ≡ trace_head c' whole n s w ts o
 head_same c c' e se n agree same whole s w ts (Some v) all = refl
@@ -131,13 +146,17 @@ head_same c c' e se n agree same whole s w ts None all =
     next_same (trace_all c (λ us. whole (application w.bytes us)) n s ts) (trace_all c' (λ us. whole (application w.bytes us)) n s ts)
     (λ vs left. c whole left (application w.bytes vs)) (λ vs left. c' whole left (application w.bytes vs)) all
     (λ vs left h. same whole left (application w.bytes vs)
-    (left_le (λ n. evaluate_all e n s ts) (steady_evaluate_all e se s ts) n vs left (sym (trace_all_agrees c e se n agree (λ us. whole (application w.bytes us)) s ts) ∙ h)))
+    (left_le (λ n. evaluate_all e n s ts) (steady_evaluate_all e se s ts) n vs left
+    (sym (trace_all_agrees c e se n agree (λ us. whole (application w.bytes us)) s ts) ∙ h)))
 
 mutual
-  trace_same : (c c' : CallTracer) (e : Caller) → SteadyCaller e → (n : ℕ) → AgreeUpTo n c e → SameUpTo n c c' → (whole : Tree → Tree) (s : Substitution) (t : Term) → trace c whole n s t ≡ trace c' whole n s t
-  trace_same c c' e se n agree same whole s (Apply w ts) = head_same c c' e se n agree same whole s w ts (value_of s w.bytes) (trace_all_same c c' e se n agree same (λ us. whole (application w.bytes us)) s ts)
+  trace_same : (c c' : CallTracer) (e : Caller) → SteadyCaller e → (n : ℕ) → AgreeUpTo n c e → SameUpTo n c c'
+      → (whole : Tree → Tree) (s : Substitution) (t : Term) → trace c whole n s t ≡ trace c' whole n s t
+  trace_same c c' e se n agree same whole s (Apply w ts) = head_same c c' e se n agree same whole s w ts (value_of s w.bytes)
+      (trace_all_same c c' e se n agree same (λ us. whole (application w.bytes us)) s ts)
 
-  trace_all_same : (c c' : CallTracer) (e : Caller) → SteadyCaller e → (n : ℕ) → AgreeUpTo n c e → SameUpTo n c c' → (whole : Trees → Tree) (s : Substitution) (ts : Terms) → trace_all c whole n s ts ≡ trace_all c' whole n s ts
+  trace_all_same : (c c' : CallTracer) (e : Caller) → SteadyCaller e → (n : ℕ) → AgreeUpTo n c e → SameUpTo n c c'
+      → (whole : Trees → Tree) (s : Substitution) (ts : Terms) → trace_all c whole n s ts ≡ trace_all c' whole n s ts
   trace_all_same c c' e se n agree same whole s Terms.none = refl
   trace_all_same c c' e se n agree same whole s (Terms.more t ts) =
       next_same (trace c (λ u. whole (more u (instances s ts))) n s t) (trace c' (λ u. whole (more u (instances s ts))) n s t)
@@ -145,10 +164,13 @@ mutual
       (λ v left. trace_all c' (λ us. whole (more v us)) left s ts next λ vs rest. quiet (Done (more v vs) rest))
       (trace_same c c' e se n agree same (λ u. whole (more u (instances s ts))) s t)
       (λ v left h.
-      let low : left ≤ n = left_le (λ n. evaluate e n s t) (steady_evaluate e se s t) n v left (sym (trace_agrees c e se n agree (λ u. whole (more u (instances s ts))) s t) ∙ h) in
-      ap (λ x. x next λ vs rest. quiet (Done (more v vs) rest)) (trace_all_same c c' e se left (λ k m u le. agree k m u (omega arith)) (λ k m u le. same k m u (omega arith)) (λ us. whole (more v us)) s ts))
+      let low : left ≤ n = left_le (λ n. evaluate e n s t) (steady_evaluate e se s t) n v left
+      (sym (trace_agrees c e se n agree (λ u. whole (more u (instances s ts))) s t) ∙ h) in
+      ap (λ x. x next λ vs rest. quiet (Done (more v vs) rest)) (trace_all_same c c' e se left (λ k m u le. agree k m u (omega arith)) (λ k m u le.
+      same k m u (omega arith)) (λ us. whole (more v us)) s ts))
 
-call_same : (y : Spec) (tracer tracer' : Tracer) (n : ℕ) → ((whole : Tree → Tree) (m : ℕ) (s : Substitution) (t : Term) → m < n → tracer whole m s t ≡ tracer' whole m s t)
+call_same : (y : Spec) (tracer tracer' : Tracer) (n : ℕ) → ((whole : Tree → Tree) (m : ℕ) (s : Substitution) (t : Term) → m < n
+    → tracer whole m s t ≡ tracer' whole m s t)
     → (whole : Tree → Tree) (u : Tree) → trace_call y tracer whole n u ≡ trace_call y tracer' whole n u
 call_same y tracer tracer' n same whole u = by_found (first_rule y (Eval y) y.rules n u) refl
   where
@@ -160,13 +182,21 @@ call_same y tracer tracer' n same whole u = by_found (first_rule y (Eval y) y.ru
           | Over ↦ quiet Over
           | Done found left ↦ elim found [
             | None ↦ quiet (Done u left)
-            | Some m ↦ record { firings = firing whole u m left ∷ (tracer whole left m.values m.rule.right).firings; outcome = (tracer whole left m.values m.rule.right).outcome }
+            | Some m ↦ record {
+              firings = firing whole u m left ∷ (tracer whole left m.values m.rule.right).firings;
+              outcome =
+                  (tracer whole left m.values m.rule.right).outcome;
+            }
           ]
         ]) (elim o as (λ _. Traced Tree) [
           | Over ↦ quiet Over
           | Done found left ↦ elim found [
             | None ↦ quiet (Done u left)
-            | Some m ↦ record { firings = firing whole u m left ∷ (tracer' whole left m.values m.rule.right).firings; outcome = (tracer' whole left m.values m.rule.right).outcome }
+            | Some m ↦ record {
+              firings = firing whole u m left ∷ (tracer' whole left m.values m.rule.right).firings;
+              outcome =
+                  (tracer' whole left m.values m.rule.right).outcome;
+            }
           ]
         ])
     by_found Over e = refl
@@ -175,7 +205,8 @@ call_same y tracer tracer' n same whole u = by_found (first_rule y (Eval y) y.ru
         ap (λ (later : Traced Tree). let r : Traced Tree = record { firings = firing whole u m left ∷ later.firings; outcome = later.outcome } in r)
         (same whole left m.values m.rule.right (match_spends y (Eval y) (steady_Eval y) y.rules n u m left e))
 
-depth_is_no_limit : (y : Spec) (d d' : ℕ) (whole : Tree → Tree) (n : ℕ) (s : Substitution) (t : Term) → n < d → n < d' → trace_within y d whole n s t ≡ trace_within y d' whole n s t
+depth_is_no_limit : (y : Spec) (d d' : ℕ) (whole : Tree → Tree) (n : ℕ) (s : Substitution) (t : Term) → n < d → n < d'
+    → trace_within y d whole n s t ≡ trace_within y d' whole n s t
 depth_is_no_limit y zero d' whole n s t h h' = absurd (let no : ⊥ = omega arith in no)
 depth_is_no_limit y (suc d) zero whole n s t h h' = absurd (let no : ⊥ = omega arith in no)
 depth_is_no_limit y (suc d) (suc d') whole n s t h h' =
@@ -187,9 +218,11 @@ depth_is_no_limit y (suc d) (suc d') whole n s t h h' =
 pub depth_law : DepthLaw
 unfolding TraceIn TraceCall
 depth_law y whole n s t =
-    trace_same (trace_call y (tracer_within y n)) (trace_call y (λ w k r v. trace_within y (suc k) w k r v)) (call y (Eval y)) (steady_call y (Eval y) (steady_Eval y)) n
+    trace_same (trace_call y (tracer_within y n)) (trace_call y (λ w k r v. trace_within y (suc k) w k r v)) (call y (Eval y))
+    (steady_call y (Eval y) (steady_Eval y)) n
     (λ w m u le. call_agrees y (tracer_within y n) m (λ w2 k r v lower. within_agrees y n w2 k r v (omega arith)) w u)
-    (λ w m u le. call_same y (tracer_within y n) (λ w k r v. trace_within y (suc k) w k r v) m (λ w2 k r v lower. depth_is_no_limit y n (suc k) w2 k r v (omega arith) (omega arith)) w u)
+    (λ w m u le. call_same y (tracer_within y n) (λ w k r v. trace_within y (suc k) w k r v) m (λ w2 k r v lower.
+    depth_is_no_limit y n (suc k) w2 k r v (omega arith) (omega arith)) w u)
     whole s t
 
 -- the firings are steps
@@ -207,7 +240,8 @@ follow_above : (y : Spec) (n n' : ℕ) (t : Tree) (fs : List Firing) (u : Tree) 
 follow_above y n n' t [] u left le h = (h.0, let low = h.1 in omega arith)
 follow_above y n n' t (f ∷ fs) u left le h = (h.0, is_step_above y n n' f le h.1, h.2)
 
-follow_join : (y : Spec) (n k : ℕ) (a b c : Tree) (fs gs : List Firing) (left : ℕ) → Follow y n a fs b k → Follow y k b gs c left → Follow y n a (fs ++ gs) c left
+follow_join : (y : Spec) (n k : ℕ) (a b c : Tree) (fs gs : List Firing) (left : ℕ) → Follow y n a fs b k → Follow y k b gs c left
+    → Follow y n a (fs ++ gs) c left
 follow_join y n k a b c [] gs left h later = subst (λ x. Follow y n x gs c left) (sym h.0) (follow_above y k n b gs c left h.1 later)
 follow_join y n k a b c (f ∷ fs) gs left h later = (h.0, h.1, follow_join y f.left k f.after b c fs gs left h.2 later)
 
@@ -219,17 +253,26 @@ Leads y whole Good n start t = elim t.outcome [
 ]
 
 -- one after the other
-leads_next : {A B : Type 0} (y : Spec) (n : ℕ) (start : Tree) (whole : A → Tree) (Good : A → Type 0) (whole' : B → Tree) (Good' : B → Type 0) (t : Traced A) (f : A → ℕ → Traced B)
+leads_next : {A B : Type 0} (y : Spec) (n : ℕ) (start : Tree) (whole : A → Tree) (Good : A → Type 0) (whole' : B → Tree) (Good' : B → Type 0)
+    (t : Traced A) (f : A → ℕ → Traced B)
     → Leads y whole Good n start t → ((v : A) (left : ℕ) → Good v → Leads y whole' Good' left (whole v) (f v left)) → Leads y whole' Good' n start (t next f)
 leads_next {A} {B} y n start whole Good whole' Good' t f h later = by_first t.outcome h
   where
     by_later : (v : A) (left : ℕ) → Follow y n start t.firings (whole v) left → (o : Outcome B) (gs : List Firing)
         → (elim o as (λ _. Type 0) [ Done w rest ↦ Good' w × Follow y left (whole v) gs (whole' w) rest | Over ↦ (u : Tree) × Follow y left (whole v) gs u 0 ])
-        → (elim o as (λ _. Type 0) [ Done w rest ↦ Good' w × Follow y n start (t.firings ++ gs) (whole' w) rest | Over ↦ (u : Tree) × Follow y n start (t.firings ++ gs) u 0 ])
+        → (elim o as (λ _. Type 0) [
+          | Done w rest ↦ Good' w × Follow y n start (t.firings ++ gs) (whole' w) rest
+          | Over ↦ (u : Tree)
+              × Follow y n start (t.firings ++ gs) u 0
+        ])
     by_later v left first (Done w rest) gs k = (k.0, follow_join y n left start (whole v) (whole' w) t.firings gs rest first k.1)
     by_later v left first Over gs k = (k.0, follow_join y n left start (whole v) k.0 t.firings gs 0 first k.1)
 
-    by_first : (o : Outcome A) → (elim o as (λ _. Type 0) [ Done v left ↦ Good v × Follow y n start t.firings (whole v) left | Over ↦ (u : Tree) × Follow y n start t.firings u 0 ])
+    by_first : (o : Outcome A) → (elim o as (λ _. Type 0) [
+      | Done v left ↦ Good v × Follow y n start t.firings (whole v) left
+      | Over ↦ (u : Tree)
+          × Follow y n start t.firings u 0
+    ])
         → Leads y whole' Good' n start (elim o as (λ _. Traced B) [
           | Done a left ↦ record { firings = t.firings ++ (f a left).firings; outcome = (f a left).outcome }
           | Over ↦ record { firings = t.firings; outcome = Over }
@@ -257,7 +300,8 @@ redex_or y n ts o = elim o [ Some u ↦ Some u | None ↦ first_redex_all y n ts
 
 mutual
   no_redex : (y : Spec) (n : ℕ) (t : Tree) → Normal y t → first_redex y n t ≡ None
-  no_redex y n (Appl name quoted args anns) h = ap (redex_by y n (Appl name quoted args anns)) (no_redex_all y n args h.0) ∙ ap (own_redex (Appl name quoted args anns)) (h.1.0 n)
+  no_redex y n (Appl name quoted args anns) h = ap (redex_by y n (Appl name quoted args anns)) (no_redex_all y n args h.0)
+      ∙ ap (own_redex (Appl name quoted args anns)) (h.1.0 n)
   no_redex y n (Tree.Int z anns) h = refl
   no_redex y n (Tree.Items items anns) h = refl
   no_redex y n (Tree.Hole inner anns) h = refl
@@ -296,8 +340,10 @@ RightCalls y tracer = (whole : Tree → Tree) → Passes y whole → (n : ℕ) (
 abbrev instance_by : Substitution → Word → Terms → Option Tree → Tree
 instance_by s w ts o = elim o [ Some v ↦ v | None ↦ application w.bytes (instances s ts) ]
 
-right_head : (y : Spec) (tracer : CallTracer) → RightCalls y tracer → (whole : Tree → Tree) → Passes y whole → (n : ℕ) (s : Substitution) (w : Word) (ts : Terms) → Normal_values y s
-    → Leads y (λ us. whole (application w.bytes us)) (Normal_all y) n (whole (application w.bytes (instances s ts))) (trace_all tracer (λ us. whole (application w.bytes us)) n s ts)
+right_head : (y : Spec) (tracer : CallTracer) → RightCalls y tracer → (whole : Tree → Tree) → Passes y whole
+    → (n : ℕ) (s : Substitution) (w : Word) (ts : Terms) → Normal_values y s
+    → Leads y (λ us. whole (application w.bytes us)) (Normal_all y) n (whole (application w.bytes (instances s ts)))
+    (trace_all tracer (λ us. whole (application w.bytes us)) n s ts)
     → (o : Option Tree) → value_of s w.bytes ≡ o → Leads y whole (Normal y) n (whole (instance_by s w ts o)) (trace_head tracer whole n s w ts o)
 right_head y tracer right whole passes n s w ts h all (Some v) e = (value_normal y s w.bytes v h e, (refl, omega arith))
 right_head y tracer right whole passes n s w ts h all None e =
@@ -312,7 +358,8 @@ mutual
       (right_trace_all y tracer right (λ us. whole (application w.bytes us)) (passes_inside y whole w.bytes passes) n s ts h)
       (value_of s w.bytes) refl
 
-  right_trace_all : (y : Spec) (tracer : CallTracer) → RightCalls y tracer → (whole : Trees → Tree) → PassesAll y whole → (n : ℕ) (s : Substitution) (ts : Terms) → Normal_values y s
+  right_trace_all : (y : Spec) (tracer : CallTracer) → RightCalls y tracer → (whole : Trees → Tree) → PassesAll y whole
+      → (n : ℕ) (s : Substitution) (ts : Terms) → Normal_values y s
       → Leads y whole (Normal_all y) n (whole (instances s ts)) (trace_all tracer whole n s ts)
   right_trace_all y tracer right whole passes n s Terms.none h = (tt, (refl, omega arith))
   right_trace_all y tracer right whole passes n s (Terms.more t ts) h =
@@ -342,13 +389,18 @@ right_call y heads tracer right whole passes n name us normal_us = by_found (fir
           | Over ↦ quiet Over
           | Done found left ↦ elim found [
             | None ↦ quiet (Done u left)
-            | Some m ↦ record { firings = firing whole u m left ∷ (tracer whole left m.values m.rule.right).firings; outcome = (tracer whole left m.values m.rule.right).outcome }
+            | Some m ↦ record {
+              firings = firing whole u m left ∷ (tracer whole left m.values m.rule.right).firings;
+              outcome =
+                  (tracer whole left m.values m.rule.right).outcome;
+            }
           ]
         ])
     by_found Over b = (whole u, (refl, omega arith))
     by_found (Done None middle) b =
         let (c, sum_c, costs_c) = steady_first_rule y (Eval y) (steady_Eval y) y.rules u n None middle b in
-        let plain : (Unconditional y → (middle ≡ n) × Every (λ r. binds y r.left u ≡ None) y.rules) = λ h. subst (plain_answer y.rules y n u) b (plain_first_rule y y.rules n u h) in
+        let plain : (Unconditional y → (middle ≡ n) × Every (λ r. binds y r.left u ≡ None) y.rules) = λ h.
+        subst (plain_answer y.rules y n u) b (plain_first_rule y y.rules n u h) in
         ((normal_us, (never c costs_c, λ h. (plain h).1)), (refl, omega arith))
     by_found (Done (Some m) middle) b =
         let low : middle < n = match_spends y (Eval y) (steady_Eval y) y.rules n u m middle b in
@@ -365,14 +417,23 @@ right_call y heads tracer right whole passes n name us normal_us = by_found (fir
         (right whole passes middle m.values m.rule.right (found_normal y y.rules n u m middle heads normal_us b))
       where
         by_later : IsStep y n (firing whole u m middle) → (o : Outcome Tree) (gs : List Firing)
-            → (elim o as (λ _. Type 0) [ Done w rest ↦ Normal y w × Follow y middle (whole (instance m.values m.rule.right)) gs (whole w) rest | Over ↦ (v : Tree) × Follow y middle (whole (instance m.values m.rule.right)) gs v 0 ])
-            → (elim o as (λ _. Type 0) [ Done w rest ↦ Normal y w × Follow y n (whole u) (firing whole u m middle ∷ gs) (whole w) rest | Over ↦ (v : Tree) × Follow y n (whole u) (firing whole u m middle ∷ gs) v 0 ])
+            → (elim o as (λ _. Type 0) [
+              | Done w rest ↦ Normal y w × Follow y middle (whole (instance m.values m.rule.right)) gs (whole w) rest
+              | Over
+                  ↦ (v : Tree) × Follow y middle (whole (instance m.values m.rule.right)) gs v 0
+            ])
+            → (elim o as (λ _. Type 0) [
+              | Done w rest ↦ Normal y w × Follow y n (whole u) (firing whole u m middle ∷ gs) (whole w) rest
+              | Over ↦
+                  (v : Tree) × Follow y n (whole u) (firing whole u m middle ∷ gs) v 0
+            ])
         by_later one (Done w rest) gs k = (k.0, (refl, one, k.1))
         by_later one Over gs k = (k.0, (refl, one, k.1))
 
 right_within : (y : Spec) → LeftSidesApply y → (d : ℕ) → Right y (tracer_within y d)
 right_within y heads zero whole passes n s t h = (whole (instance s t), (refl, omega arith))
-right_within y heads (suc d) whole passes n s t h = right_trace y (trace_call y (tracer_within y d)) (right_call y heads (tracer_within y d) (right_within y heads d)) whole passes n s t h
+right_within y heads (suc d) whole passes n s t h = right_trace y (trace_call y (tracer_within y d))
+    (right_call y heads (tracer_within y d) (right_within y heads d)) whole passes n s t h
 
 nothing_round : (y : Spec) → Passes y (λ u. u)
 nothing_round y = record { steps = λ m u u' e. e; first = λ m u r e. e }

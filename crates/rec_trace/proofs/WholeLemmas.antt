@@ -21,7 +21,8 @@ pub record StandsStill (y : Spec) (w w' : Store) (t : Tracer) : Type 0 where
   pub stands : Stands y w' t
   pub rest : rest_of y w' t ≡ rest_of y w t
 
-pub stands-still : (y : Spec) (w w' : Store) (t : Tracer) → Stands y w t → AreKept w' t.lists → tree_at w' t.lists.given ≡ tree_at w t.lists.given → tree_at w' t.lists.stack ≡ tree_at w t.lists.stack → StandsStill y w w' t
+pub stands-still : (y : Spec) (w w' : Store) (t : Tracer) → Stands y w t → AreKept w' t.lists → tree_at w' t.lists.given ≡ tree_at w t.lists.given
+    → tree_at w' t.lists.stack ≡ tree_at w t.lists.stack → StandsStill y w w' t
 stands-still y w w' t s kept e k =
     let given : listed w' t.lists.given ≡ listed w t.lists.given = (same-list w w' t.lists.given e s.order.kept.given).1 in
     let stack : listed w' t.lists.stack ≡ listed w t.lists.stack = (same-list w w' t.lists.stack k s.order.kept.stack).1 in
@@ -41,7 +42,8 @@ record Same (ms : List Move) (st : List Tree) (ms' : List Move) (st' : List Tree
   tree : written ms' st' ≡ written ms st
   fits : Fits ms' (length st') 1
 
-same-written : (y : Spec) (n n' : ℕ) (ms : List Move) (st : List Tree) (ms' : List Move) (st' : List Tree) → Fits ms (length st) 1 → Moves (caller y false) n n' ms st ms' st' true → Same ms st ms' st'
+same-written : (y : Spec) (n n' : ℕ) (ms : List Move) (st : List Tree) (ms' : List Move) (st' : List Tree) → Fits ms (length st) 1
+    → Moves (caller y false) n n' ms st ms' st' true → Same ms st ms' st'
 same-written y n n' [] st ms' st' fits h = absurd h
 same-written y n n' (Give v ∷ ms) st ms' st' fits h = record {
   tree = ap (λ xs. written xs st') h.1 ∙ ap (written ms) h.2;
@@ -52,7 +54,8 @@ same-written y n n' (Invoke name k ∷ ms) st ms' st' fits h =
     let long : length (drop k st) ≡ length st - k = length-drop k st in
     record {
       tree = ap (λ xs. written xs st') h.2 ∙ ap (written ms) h.3 ∙ ap (λ v. written ms (v ∷ drop k st)) (sym is);
-      fits = subst (λ xs. Fits xs (length st') 1) (sym h.2) (subst (λ (xs : List Tree). Fits ms (length xs) 1) (sym h.3) (subst (λ d. Fits ms (suc d) 1) (sym long) fits.1));
+      fits = subst (λ xs. Fits xs (length st') 1) (sym h.2) (subst (λ (xs : List Tree). Fits ms (length xs) 1) (sym h.3)
+          (subst (λ d. Fits ms (suc d) 1) (sym long) fits.1));
     }
 
 never-ends : (y : Spec) (n n' : ℕ) (ms : List Move) (st : List Tree) (ms' : List Move) (st' : List Tree) → Moves (caller y false) n n' ms st ms' st' false → ⊥
@@ -71,14 +74,18 @@ can [] d some fits = let no : ⊥ = omega (arith, some) in absurd no
 can (Give v ∷ ms) d some fits = tt
 can (Invoke name k ∷ ms) d some fits = fits.0
 
-pub writing-can : (y : Spec) (w0 w : Store) (old now : Tracer) → Writing y w0 w old now → vec_len now.steps ≡ length now.steps.items → 0 < vec_len now.steps → CanTurn (moves_at y w now) (length (stack_at w now))
-writing-can y w0 w old now h long some = let many = as-many y w now h.order in can (moves_at y w now) (length (stack_at w now)) (omega (arith, many, long, some)) h.fits
+pub writing-can : (y : Spec) (w0 w : Store) (old now : Tracer) → Writing y w0 w old now → vec_len now.steps ≡ length now.steps.items
+    → 0 < vec_len now.steps → CanTurn (moves_at y w now) (length (stack_at w now))
+writing-can y w0 w old now h long some = let many = as-many y w now h.order in
+    can (moves_at y w now) (length (stack_at w now)) (omega (arith, many, long, some)) h.fits
 
-pub writing-next : (y : Spec) (w0 w w' : Store) (old now new : Tracer) (more : Bool) → Writing y w0 w old now → Turns (caller y false) y w w' now new more → Writing y w0 w' old new
+pub writing-next : (y : Spec) (w0 w w' : Store) (old now new : Tracer) (more : Bool) → Writing y w0 w old now
+    → Turns (caller y false) y w w' now new more → Writing y w0 w' old new
 writing-next y w0 w w' old now new true h t =
     let s = same-written y now.left new.left (moves_at y w now) (stack_at w now) (moves_at y w' new) (stack_at w' new) h.fits t.1 in
     record { order = t.0; fits = s.fits; whole = s.tree ∙ h.whole }
-writing-next y w0 w w' old now new false h t = absurd (never-ends y now.left new.left (moves_at y w now) (stack_at w now) (moves_at y w' new) (stack_at w' new) t)
+writing-next y w0 w w' old now new false h t =
+    absurd (never-ends y now.left new.left (moves_at y w now) (stack_at w now) (moves_at y w' new) (stack_at w' new) t)
 
 -- ---- what the copy leaves
 
@@ -88,7 +95,8 @@ pub record CopyGone (w w' : Store) (l : Lists) : Type 0 where
   pub given : tree_at w' l.given ≡ tree_at w l.given
   pub stack : tree_at w' l.stack ≡ tree_at w l.stack
 
-pub copy-gone : (w w1 w2 : Store) (l m : Lists) → AreKeptTwice w l → Stays w w1 l m → ((k : ℕ) → w2.roots k + count_among m k ≡ w1.roots k) → ((t : Reference) → tree_at w2 t ≡ tree_at w1 t) → CopyGone w w2 l
+pub copy-gone : (w w1 w2 : Store) (l m : Lists) → AreKeptTwice w l → Stays w w1 l m → ((k : ℕ) → w2.roots k + count_among m k ≡ w1.roots k)
+    → ((t : Reference) → tree_at w2 t ≡ tree_at w1 t) → CopyGone w w2 l
 copy-gone w w1 w2 l m twice stays ended same =
     let g = stays.spares.trees l.given _ twice.kept.given (low-given) in
     let s = stays.spares.trees l.stack _ twice.kept.stack (low-stack) in

@@ -1,5 +1,6 @@
 -- What a trace writes: a line for each rule that fires, and then the line of the term.
-use Rattle.std.specs.Prelude.{ℕ, suc, ◌-◌, ◌^◌, ◌≡◌, ◌<◌, ◌&&◌, Bool, true, false, List, [], ◌∷◌, ◌++◌, Option, Some, None, codes, decimal, flat_map, if◌then◌else◌, length, map, nat_eq, nat_le, take}
+use Rattle.std.specs.Prelude.{ℕ, suc, ◌-◌, ◌^◌, ◌≡◌, ◌<◌, ◌&&◌, Bool, true, false, List, [], ◌∷◌, ◌++◌, Option, Some}
+use Rattle.std.specs.Prelude.{None, codes, decimal, flat_map, if◌then◌else◌, length, map, nat_eq, nat_le, take}
 use Rattle.rx_term.specs.Tree.{Tree, Trees, annotated}
 use Rattle.rx_text.specs.Canon.{canon}
 use Rattle.rec_syntax.specs.Syntax.{Term, Spec, head}

@@ -20,7 +20,8 @@ use Rattle.recw_web.specs.declared.told.Told.{Told}
 
 module _ (IsDue : Due → Type 0) (lines : List ℕ) (place : Option Place) (status : ℕ) (told : Told) (old new : List ℕ) where
   -- the run ended
-  answers_handed : (finish : Finish) → IsHanded finish lines place status told old new → Ends IsDue finish (Some []) (Some lines) → IsPlaced IsDue place → Answers IsDue status told old new
+  answers_handed : (finish : Finish) → IsHanded finish lines place status told old new → Ends IsDue finish (Some []) (Some lines)
+      → IsPlaced IsDue place → Answers IsDue status told old new
   answers_handed finish h e p =
       record {
         done = λ s. record { due = e.due; is_due = e.is_due; ends = e.ends ∙ h.done s; written = h.written (omega (arith, s)) ∙ e.written };
@@ -45,17 +46,25 @@ module _ (IsDue : Due → Type 0) (lines : List ℕ) (place : Option Place) (sta
       }
 
   -- by how the run ended, which wrote behind nothing
-  pub answers_by : (end : Result Finish RunFault) (before : List ℕ) → before ≡ [] → IfOk end (λ f. IsHanded f lines place status told old new) → IfErr end (λ f. IsWithheld status old new) → IfOk end (λ f. Ends IsDue f (Some before) (Some lines)) → OnOk end (IsPlaced IsDue place) → Answers IsDue status told old new
+  pub answers_by : (end : Result Finish RunFault) (before : List ℕ) → before ≡ [] → IfOk end (λ f. IsHanded f lines place status told old new)
+      → IfErr end (λ f. IsWithheld status old new) → IfOk end (λ f. Ends IsDue f (Some before) (Some lines)) → OnOk end (IsPlaced IsDue place)
+      → Answers IsDue status told old new
   answers_by (Ok finish) before b h w e p = answers_handed finish h (subst (λ z. Ends IsDue finish (Some z) (Some lines)) b e) p
   answers_by (Err fault) before b h w e p = answers_withheld w
 
 -- the run's limits are those that were asked for
-pub answers_asked : (asked : Options) (count : Bool) (steps : ℕ) (spec : List ℕ) (terms : Option (List ℕ)) (status : ℕ) (told : Told) (old new : List ℕ) → steps ≡ min asked.steps (10 ^ 18) → count ≡ asked.count → Answers (IsDue spec terms (bare count) steps) status told old new → Answers (IsEvalDue asked spec terms) status told old new
+pub answers_asked : (asked : Options) (count : Bool) (steps : ℕ) (spec : List ℕ) (terms : Option (List ℕ)) (status : ℕ) (told : Told)
+    (old new : List ℕ) → steps ≡ min asked.steps (10 ^ 18) → count ≡ asked.count → Answers (IsDue spec terms (bare count) steps) status told old new
+    → Answers (IsEvalDue asked spec terms) status told old new
 answers_asked asked count steps spec terms status told old new e f h =
-    subst (λ n. Answers (IsDue spec terms (bare asked.count) n) status told old new) e (subst (λ b. Answers (IsDue spec terms (bare b) steps) status told old new) f h)
+    subst (λ n. Answers (IsDue spec terms (bare asked.count) n) status told old new) e
+    (subst (λ b. Answers (IsDue spec terms (bare b) steps) status told old new) f h)
 
 -- a check ended so, or met a fault, and is handed over as a run that does
-pub answers_checked : (name spec lines : List ℕ) (judged : Result Judgement RunFault) (end : Result Finish RunFault) (status : ℕ) (told : Told) (old new before : List ℕ) → before ≡ [] → IfOk judged (λ j. end ≡ Ok (finish_of j)) → IfErr judged (λ f. end ≡ Err f) → IfOk judged (λ j. Tells name spec j (Some before) (Some lines)) → IfOk end (λ f. IsHanded f lines None status told old new) → IfErr end (λ f. IsWithheld status old new) → Answers (IsCheckDue name spec) status told old new
+pub answers_checked : (name spec lines : List ℕ) (judged : Result Judgement RunFault) (end : Result Finish RunFault) (status : ℕ) (told : Told)
+    (old new before : List ℕ) → before ≡ [] → IfOk judged (λ j. end ≡ Ok (finish_of j)) → IfErr judged (λ f. end ≡ Err f)
+    → IfOk judged (λ j. Tells name spec j (Some before) (Some lines)) → IfOk end (λ f. IsHanded f lines None status told old new)
+    → IfErr end (λ f. IsWithheld status old new) → Answers (IsCheckDue name spec) status told old new
 answers_checked name spec lines (Ok j) end status told old new before b o f t h w =
     let g = subst (λ z. Tells name spec j (Some z) (Some lines)) b t in
     let due = checked name spec j g.found in
@@ -68,14 +77,22 @@ answers_checked name spec lines (Err fault) end status told old new before b o f
     answers_withheld (IsCheckDue name spec) lines None status told old new (subst (λ z. IfErr z (λ x. IsWithheld status old new)) f w)
 
 -- a run of a graph ended so, or met a fault, and is handed over as a run that does
-pub answers_drawn : (IsDue : Due → Type 0) (lines : List ℕ) (place : Option Place) (drawn : Result Finish LookFault) (end : Result Finish RunFault) (status : ℕ) (told : Told) (old new before : List ℕ) → before ≡ [] → IfOk drawn (λ f. end ≡ Ok f) → IfErr drawn (λ l. (f : RunFault) × (end ≡ Err f) × (fault_of_run f ≡ l)) → IfOk drawn (λ f. Ends IsDue f (Some before) (Some lines)) → OnOk drawn (IsPlaced IsDue place) → IfOk end (λ f. IsHanded f lines place status told old new) → IfErr end (λ f. IsWithheld status old new) → Answers IsDue status told old new
+pub answers_drawn : (IsDue : Due → Type 0) (lines : List ℕ) (place : Option Place) (drawn : Result Finish LookFault) (end : Result Finish RunFault)
+    (status : ℕ) (told : Told) (old new before : List ℕ) → before ≡ [] → IfOk drawn (λ f. end ≡ Ok f)
+    → IfErr drawn (λ l. (f : RunFault) × (end ≡ Err f) × (fault_of_run f ≡ l)) → IfOk drawn (λ f. Ends IsDue f (Some before) (Some lines))
+    → OnOk drawn (IsPlaced IsDue place) → IfOk end (λ f. IsHanded f lines place status told old new) → IfErr end (λ f. IsWithheld status old new)
+    → Answers IsDue status told old new
 answers_drawn IsDue lines place (Ok finish) end status told old new before b o f e p h w =
     answers_by IsDue lines place status told old new (Ok finish) before b (subst (λ z. IfOk z (λ x. IsHanded x lines place status told old new)) o h) tt e p
 answers_drawn IsDue lines place (Err l) end status told old new before b o f e p h w =
     answers_withheld IsDue lines place status told old new (subst (λ z. IfErr z (λ x. IsWithheld status old new)) f.1 w)
 
 -- the run's limits and how it shows traces are those that were asked for
-pub answers_traced : (asked : TraceOptions) (shown : Shown) (steps : ℕ) (spec : List ℕ) (terms : Option (List ℕ)) (status : ℕ) (told : Told) (old new : List ℕ) → steps ≡ min asked.limits.steps (10 ^ 18) → shown ≡ shown_as asked → Answers (IsTraceDueFor shown steps (record { spec = spec; terms = terms })) status told old new → Answers (IsTraceAsked asked spec terms) status told old new
+pub answers_traced : (asked : TraceOptions) (shown : Shown) (steps : ℕ) (spec : List ℕ) (terms : Option (List ℕ)) (status : ℕ) (told : Told)
+    (old new : List ℕ) → steps ≡ min asked.limits.steps (10 ^ 18) → shown ≡ shown_as asked
+    → Answers (IsTraceDueFor shown steps (record { spec = spec; terms = terms })) status told old new
+    → Answers (IsTraceAsked asked spec terms) status told old new
 answers_traced asked shown steps spec terms status told old new e f h =
     let texts : Texts = record { spec = spec; terms = terms } in
-    subst (λ n. Answers (IsTraceDueFor (shown_as asked) n texts) status told old new) e (subst (λ s. Answers (IsTraceDueFor s steps texts) status told old new) f h)
+    subst (λ n. Answers (IsTraceDueFor (shown_as asked) n texts) status told old new) e
+    (subst (λ s. Answers (IsTraceDueFor s steps texts) status told old new) f h)

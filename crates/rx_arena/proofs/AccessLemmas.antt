@@ -31,9 +31,11 @@ abbrev pub cell_lies : Share → Cell → ℕ → ℕ → Fml
 cell_lies q x b o = fat q (lone C.the_row.mir) b o (cell_val x)
 
 module _ {M : Type 1} {𝓤 : Ura M} {𝓛 : Logic 𝓤} {K : Type 0} {Γ : List (Item 𝓤)} {G : Goal 𝓤 𝓛.H} where
-  pub cell_out : K → (x : Cell) (b o : ℕ) → (CellFits x → Seq K 𝓛 (‵ (cell_lies full_share x b o) ∷ Γ) G) → Seq K 𝓛 (‵ (part_at C.the_row full_share x b o) ∷ Γ) G
+  pub cell_out : K → (x : Cell) (b o : ℕ) → (CellFits x → Seq K 𝓛 (‵ (cell_lies full_share x b o) ∷ Γ) G)
+      → Seq K 𝓛 (‵ (part_at C.the_row full_share x b o) ∷ Γ) G
   cell_out t x b o k =
-      use1 𝓛 (some (λ (v : Val). ‵ (fat full_share (lone C.the_row.mir) b o v) ⊛ ‵ (C.the_row.own_val x (v ∷ [])))) (part_out 𝓛 C.the_row refl full_share x b o) $ pick t (λ v. split t $ move t (1 ∷ []) $
+      use1 𝓛 (some (λ (v : Val). ‵ (fat full_share (lone C.the_row.mir) b o v) ⊛ ‵ (C.the_row.own_val x (v ∷ []))))
+      (part_out 𝓛 C.the_row refl full_share x b o) $ pick t (λ v. split t $ move t (1 ∷ []) $
       facts t C.the_row (Is C.the_row) (shows 𝓛 C.the_row) x (v ∷ []) (λ is. let told = cell_told x (v ∷ []) is in
       rewrite t 0 (λ (w : Val). ‵ (fat full_share (lone C.the_row.mir) b o w)) (ap only told.0) refl $ k told.1))
 
@@ -43,11 +45,14 @@ module _ {M : Type 1} {𝓤 : Ura M} {𝓛 : Logic 𝓤} {K : Type 0} {Γ : List
       use2 𝓛 (‵ (part_at C.the_row full_share x b o)) (part_in 𝓛 C.the_row refl full_share x b o (cell_val x)) $ s)
 
 -- what a slot owns is its room, once what lies there is forgotten
-pub slot_forgotten : {M : Type 1} {𝓤 : Ura M} (𝓛 : Logic 𝓤) (bs : List Ptr) (s : ℕ) (c : Option Node) → ent 𝓤 (sem 𝓛 (slot_owns bs s c)) (sem 𝓛 (slot_owns bs s None))
+pub slot_forgotten : {M : Type 1} {𝓤 : Ura M} (𝓛 : Logic 𝓤) (bs : List Ptr) (s : ℕ) (c : Option Node)
+    → ent 𝓤 (sem 𝓛 (slot_owns bs s c)) (sem 𝓛 (slot_owns bs s None))
 slot_forgotten {𝓤 = 𝓤} 𝓛 bs s None = id⊢ 𝓤 _
 slot_forgotten {𝓤 = 𝓤} 𝓛 bs s (Some n) = let x = cell_of bs s n in
-    qed 𝓛 (‵ (slot_owns bs s (Some n)) ∷ []) ∵ in_a_block ! (place bs s) (λ p. lies_at C.the_row full_share p x) (id⊢ 𝓤 (never 𝓤)) (λ b o e. cell_out ! x b o (λ f.
-    use1 𝓛 (‵ (froom (lone C.the_row.mir) b o)) (𝓛.laws.at_room (lone C.the_row.mir) b o (cell_val x)) $ rewrite ! 0 (λ (p : Ptr). ‵ (room_at C.the_row p)) (sym e) refl $ done !))
+    qed 𝓛 (‵ (slot_owns bs s (Some n)) ∷ []) ∵ in_a_block ! (place bs s) (λ p. lies_at C.the_row full_share p x) (id⊢ 𝓤 (never 𝓤)) (λ b o e.
+    cell_out ! x b o (λ f.
+    use1 𝓛 (‵ (froom (lone C.the_row.mir) b o)) (𝓛.laws.at_room (lone C.the_row.mir) b o (cell_val x)) $ rewrite ! 0 (λ (p : Ptr).
+    ‵ (room_at C.the_row p)) (sym e) refl $ done !))
 
 module _ {M : Type 1} {𝓤 : Ura M} {𝓛 : Logic 𝓤} {K : Type 0} {Γ : List (Item 𝓤)} {G : Goal 𝓤 𝓛.H} (bs : List Ptr) (cs : List (Option Node)) (p : Place) where
   -- the room of a slot, whatever lies there
@@ -68,15 +73,19 @@ module _ {M : Type 1} {𝓤 : Ura M} {𝓛 : Logic 𝓤} {K : Type 0} {Γ : List
       rewrite t 0 (λ (j : ℕ). ‵ (slot_owns bs j (Some m))) {x = p.slot + 0} (omega arith) refl $
       use2 𝓛 (‵ (slots_own bs 0 (set cs p.slot (Some m)))) (one_returned 𝓛 bs 0 cs p.slot (Some m) within) $ s)
 
-module _ {M : Type 1} {𝓤 : Ura M} {𝓛 : Logic 𝓤} {K : Type 0} {Γ : List (Item 𝓤)} {G : Goal 𝓤 𝓛.H} (bs : List Ptr) (cs : List (Option Node)) (p : Place) (n : Node) where
+module _ {M : Type 1} {𝓤 : Ura M} {𝓛 : Logic 𝓤} {K : Type 0} {Γ : List (Item 𝓤)} {G : Goal 𝓤 𝓛.H} (bs : List Ptr) (cs : List (Option Node))
+    (p : Place) (n : Node) where
   pub slot_opens : K → IsPlace bs p → get_or cs p.slot None ≡ Some n
-      → ((b o : ℕ) → p.at ≡ block_ptr b o → CellFits (cell_of bs p.slot n) → Seq K 𝓛 (‵ (cell_lies full_share (cell_of bs p.slot n) b o) ∷ ‵ (all_but bs 0 cs p.slot) ∷ Γ) G)
+      → ((b o : ℕ) → p.at ≡ block_ptr b o → CellFits (cell_of bs p.slot n)
+      → Seq K 𝓛 (‵ (cell_lies full_share (cell_of bs p.slot n) b o) ∷ ‵ (all_but bs 0 cs p.slot) ∷ Γ) G)
       → Seq K 𝓛 (‵ (slots_own bs 0 cs) ∷ Γ) G
   slot_opens t placed held k =
       let x = cell_of bs p.slot n in
-      use1 𝓛 (‵ (slot_owns bs (p.slot + 0) (get_or cs p.slot None)) ⊛ ‵ (all_but bs 0 cs p.slot)) (one_taken 𝓛 bs 0 cs p.slot (held_within cs p.slot n held)) $ split t $
+      use1 𝓛 (‵ (slot_owns bs (p.slot + 0) (get_or cs p.slot None)) ⊛ ‵ (all_but bs 0 cs p.slot))
+      (one_taken 𝓛 bs 0 cs p.slot (held_within cs p.slot n held)) $ split t $
       rewrite t 0 (λ (j : ℕ). ‵ (slot_owns bs j (get_or cs p.slot None))) {x = p.slot} (omega arith) refl $
-      rewrite t 0 (λ (z : Option Node). ‵ (slot_owns bs p.slot z)) held refl $ rewrite t 0 (λ (q : Ptr). ‵ (lies_at C.the_row full_share q x)) (sym placed) refl $
+      rewrite t 0 (λ (z : Option Node). ‵ (slot_owns bs p.slot z)) held refl $ rewrite t 0 (λ (q : Ptr). ‵ (lies_at C.the_row full_share q x))
+      (sym placed) refl $
       in_a_block t p.at (λ q. lies_at C.the_row full_share q x) (id⊢ 𝓤 (never 𝓤)) (λ b o e. cell_out t x b o (λ f. k b o e f))
 
   pub slot_looks : K → {κ : Lft} → IsPlace bs p → get_or cs p.slot None ≡ Some n
@@ -91,9 +100,11 @@ module _ {M : Type 1} {𝓤 : Ura M} {𝓛 : Logic 𝓤} {K : Type 0} {Γ : List
 module _ {M : Type 1} {𝓤 : Ura M} {𝓛 : Logic 𝓤} {K : Type 0} {Γ : List (Item 𝓤)} {G : Goal 𝓤 𝓛.H} where
   -- a part of the cell, and the way back to the token
   pub cell_seen : K → Soaks G → {κ : Lft} {q : Share} (x : Cell) (b o : ℕ)
-      → ((part : Share) → CellFits x → Seq K 𝓛 (‵ (cell_lies part x b o) ∷ Shut 𝓛 κ q (part_at C.the_row part x b o) ∷ Γ) G) → Seq K 𝓛 (‵ (hidden_shr C.the_row κ x b o) ∷ ‵ (flft κ q) ∷ Γ) G
+      → ((part : Share) → CellFits x → Seq K 𝓛 (‵ (cell_lies part x b o) ∷ Shut 𝓛 κ q (part_at C.the_row part x b o) ∷ Γ) G)
+      → Seq K 𝓛 (‵ (hidden_shr C.the_row κ x b o) ∷ ‵ (flft κ q) ∷ Γ) G
   cell_seen t z x b o k =
-      looks t z C.the_row (LL.copied C.the_type cell.the_copy 𝓛).opens x b o (λ part vs. move t (1 ∷ []) $ facts t C.the_row (Is C.the_row) (shows 𝓛 C.the_row) x vs (λ is. let told = cell_told x vs is in
+      looks t z C.the_row (LL.copied C.the_type cell.the_copy 𝓛).opens x b o (λ part vs.
+      move t (1 ∷ []) $ facts t C.the_row (Is C.the_row) (shows 𝓛 C.the_row) x vs (λ is. let told = cell_told x vs is in
       rewrite t 0 (λ (us : List Val). ‵ (cell_at part C.the_row.mir us b o)) told.0 refl $
       use1 𝓛 (‵ (cell_lies part x b o)) (𝓛.laws.raw_at part (lone C.the_row.mir) b o (cell_val x)) $ move t (2 ∷ []) $ drop t $ k part told.1))
 
@@ -101,4 +112,5 @@ module _ {M : Type 1} {𝓤 : Ura M} {𝓛 : Logic 𝓤} {K : Type 0} {Γ : List
       → Step K 𝓛 (‵ (flft κ q) ∷ Γ) G (‵ (cell_lies part x b o) ∷ Shut 𝓛 κ q (part_at C.the_row part x b o) ∷ Γ) G
   cell_shut t z part x b o f = step (λ s.
       owned t C.the_row (Is C.the_row) (LL.makes C.the_type cell.the_plain 𝓛) x (cell_val x ∷ []) (cell_is x f) $ move t (1 ∷ 0 ∷ []) $
-      use1 𝓛 (‵ (cell_at part C.the_row.mir (cell_val x ∷ []) b o)) (𝓛.laws.at_raw part (lone C.the_row.mir) b o (cell_val x)) $ shuts t z C.the_row part x (cell_val x ∷ []) b o $ s)
+      use1 𝓛 (‵ (cell_at part C.the_row.mir (cell_val x ∷ []) b o)) (𝓛.laws.at_raw part (lone C.the_row.mir) b o (cell_val x)) $ shuts t z C.the_row
+      part x (cell_val x ∷ []) b o $ s)

@@ -47,7 +47,8 @@ first_taken a c None law h = tt
 first_taken a c (Some s) law h = law.chained_taken s.0 (first_chained a c (Some s) h)
 
 -- the slot after one stands in a chain
-pub next_chained : (a : ArenaState) (k : ℕ) (next : Option Slot) → InChain a k → ((c : ℕ) (before after : List ℕ) → chain_at a c ≡ before ++ k ∷ after → IsFirst next after) → IfSome next (λ s. InChain a s.0)
+pub next_chained : (a : ArenaState) (k : ℕ) (next : Option Slot) → InChain a k
+    → ((c : ℕ) (before after : List ℕ) → chain_at a c ≡ before ++ k ∷ after → IsFirst next after) → IfSome next (λ s. InChain a s.0)
 next_chained a k None h found = tt
 next_chained a k (Some s) h found =
     let at = some_chain k a.chains h in

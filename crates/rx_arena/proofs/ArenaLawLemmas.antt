@@ -1,11 +1,14 @@
 -- What is true of every arena stays true: of what users see alone.
-use Rattle.std.proofs.Common.{◌≡◌, ◌≢◌, ℕ, zero, suc, ◌+◌, ◌<◌, ◌≤◌, inl, inr, List, [], ◌∷◌, ◌++◌, length, get_or, set, map, Some, None, refl, sym, ap, subst, ◌∙◌, arith}
+use Rattle.std.proofs.Common.{◌≡◌, ◌≢◌, ℕ, zero, suc, ◌+◌, ◌<◌, ◌≤◌, inl, inr, List, [], ◌∷◌, ◌++◌}
+use Rattle.std.proofs.Common.{length, get_or, set, map, Some, None, refl, sym, ap, subst, ◌∙◌, arith}
 use Rattle.std.specs.Prelude.{Option, true, false, replicate, take, ◌^◌}
 use Rattle.std.specs.Option.{option_map}
 use Rattle.std.proofs.lemmas.List.{length-set, length-replicate, length-take}
 use Rattle.rx_arena.specs.Put.{one_if, times, times_in, put, one_some, filled, altered}
-use Rattle.rx_arena.specs.Arena.{Taken, ArenaState, taken_at, IsTaken, taken_count, chain_at, IsLoose, marked_at, is_marked, IsMarked, IsArena, empty_arena, with_marking}
-use Rattle.rx_arena.proofs.PutLemmas.{one_or_two, one_if-same, get_or-put_same, get_or-put_other, filled-put, filled-map, get_or-map_option, times_in-set, times_in-at}
+use Rattle.rx_arena.specs.Arena.{Taken, ArenaState, taken_at, IsTaken, taken_count, chain_at, IsLoose}
+use Rattle.rx_arena.specs.Arena.{marked_at, is_marked, IsMarked, IsArena, empty_arena, with_marking}
+use Rattle.rx_arena.proofs.PutLemmas.{one_or_two, one_if-same, get_or-put_same, get_or-put_other, filled-put}
+use Rattle.rx_arena.proofs.PutLemmas.{filled-map, get_or-map_option, times_in-set, times_in-at}
 use Rattle.rx_arena.proofs.ChainLemmas.{one_or_more}
 
 pub times_in-replicate : (s n : ℕ) → times_in s (replicate n []) ≡ 0
@@ -33,7 +36,8 @@ pub taken_marked : (a : ArenaState) (s : ℕ) → IsMarked a s → (t : Taken) �
 taken_marked a s e = some_of (taken_at a s) e
 
 -- other chains with the same slots, or some of them
-chains_law : (a : ArenaState) → IsArena a → (css : List (List ℕ)) → ((s : ℕ) → times_in s css ≤ times_in s a.chains) → length css < 2 ^ 32 → IsArena (record a { chains = css })
+chains_law : (a : ArenaState) → IsArena a → (css : List (List ℕ)) → ((s : ℕ) → times_in s css ≤ times_in s a.chains) → length css < 2 ^ 32
+    → IsArena (record a { chains = css })
 chains_law a law css fewer few = record {
   alone = λ s. omega (arith, fewer s, law.alone s);
   chained_taken = λ s h. law.chained_taken s (omega (arith, h, fewer s));
@@ -48,7 +52,8 @@ chains_law a law css fewer few = record {
 module _ (a : ArenaState) (law : IsArena a) where
   pub push_law : (c s : ℕ) → c < length a.chains → IsTaken a s → IsLoose a s → IsArena (record a { chains = set a.chains c (s ∷ chain_at a c) })
   push_law c s lt taken loose =
-      let added : (t : ℕ) → times_in t (set a.chains c (s ∷ chain_at a c)) ≡ times_in t a.chains + one_if s t = λ t. omega (arith, times_in-set t a.chains c (s ∷ chain_at a c) lt) in
+      let added : (t : ℕ) → times_in t (set a.chains c (s ∷ chain_at a c)) ≡ times_in t a.chains + one_if s t = λ t.
+      omega (arith, times_in-set t a.chains c (s ∷ chain_at a c) lt) in
       record {
         alone = λ t. elim (one_or_two s t) [
           | inl h ↦ (let none = subst (λ z. times_in z a.chains ≡ 0) h.1 loose in omega (arith, added t, h.0, none))
@@ -67,8 +72,10 @@ module _ (a : ArenaState) (law : IsArena a) where
       }
 
   -- a chain that loses some of its slots
-  pub shrink_law : (c : ℕ) (d : List ℕ) → c < length a.chains → ((t : ℕ) → times t d ≤ times t (chain_at a c)) → IsArena (record a { chains = set a.chains c d })
-  shrink_law c d lt fewer = chains_law a law (set a.chains c d) (λ t. omega (arith, times_in-set t a.chains c d lt, fewer t)) (omega (arith, length-set a.chains c d, law.few_chains))
+  pub shrink_law : (c : ℕ) (d : List ℕ) → c < length a.chains → ((t : ℕ) → times t d ≤ times t (chain_at a c))
+      → IsArena (record a { chains = set a.chains c d })
+  shrink_law c d lt fewer = chains_law a law (set a.chains c d) (λ t. omega (arith, times_in-set t a.chains c d lt, fewer t))
+      (omega (arith, length-set a.chains c d, law.few_chains))
 
   pub pop_law : (c s : ℕ) (rest : List ℕ) → c < length a.chains → chain_at a c ≡ s ∷ rest → IsArena (record a { chains = set a.chains c rest })
   pop_law c s rest lt e = shrink_law c rest lt (λ t. subst (λ z. times t rest ≤ times t z) (sym e) (omega arith))
@@ -113,7 +120,8 @@ module _ (a : ArenaState) (law : IsArena a) where
         small_cap = law.small_cap;
       }
 
-  pub altered_law : (s : ℕ) (f : Taken → Taken) (t : Taken) → taken_at a s ≡ Some t → (0 < times s a.gray → (f t).marked ≡ true) → IsArena (record a { cells = altered s f a.cells })
+  pub altered_law : (s : ℕ) (f : Taken → Taken) (t : Taken) → taken_at a s ≡ Some t → (0 < times s a.gray → (f t).marked ≡ true)
+      → IsArena (record a { cells = altered s f a.cells })
   altered_law s f t e marked = subst (λ z. IsArena (record a { cells = put a.cells s z })) (sym (ap (option_map f) e)) (changed_law s t (f t) e marked)
 
   -- a slot that is gray is marked, and so one that is not marked is not gray
@@ -159,7 +167,8 @@ module _ (a : ArenaState) (law : IsArena a) where
   pub loose_free : (s : ℕ) → taken_at a s ≡ None → IsLoose a s
   loose_free s none = elim (one_or_more (times_in s a.chains)) [ inl z ↦ z | inr h ↦ (let t = law.chained_taken s h in let e = t.1 in absurd (cc)) ]
 
-  pub take_law : (s : ℕ) (u : Taken) (spare : ℕ) → taken_at a s ≡ None → s < a.cap → spare + filled (put a.cells s (Some u)) ≤ a.cap → IsArena (record a { cells = put a.cells s (Some u); spare = spare })
+  pub take_law : (s : ℕ) (u : Taken) (spare : ℕ) → taken_at a s ≡ None → s < a.cap → spare + filled (put a.cells s (Some u)) ≤ a.cap
+      → IsArena (record a { cells = put a.cells s (Some u); spare = spare })
   take_law s u spare none lt fit = record {
     alone = law.alone;
     chained_taken = λ k i. (let old = law.chained_taken k i in
@@ -229,14 +238,16 @@ behind_law a law n le =
     let none : List ℕ = [] in
     let len = length-replicate (n + 1) none in
     chains_law a law (set (replicate (n + 1) []) n (chain_at a 0))
-    (λ s. (let count = times_in-set s (replicate (n + 1) []) n (chain_at a 0) (omega (arith, len)) in omega (arith, count, times_in-replicate s (n + 1), times_in-at s a.chains 0)))
+    (λ s. (let count = times_in-set s (replicate (n + 1) []) n (chain_at a 0) (omega (arith, len)) in
+    omega (arith, count, times_in-replicate s (n + 1), times_in-at s a.chains 0)))
     (omega (arith, le, len, length-set (replicate (n + 1) none) n (chain_at a 0)))
 
 pub truncate_law : (a : ArenaState) → IsArena a → (n : ℕ) → IsArena (record a { chains = take n a.chains })
 truncate_law a law n = chains_law a law (take n a.chains) (λ s. times_in-take s n a.chains) (omega (arith, length-take n a.chains, law.few_chains))
 
 pub cleared_law : (a : ArenaState) → IsArena a → (n : ℕ) → n ≤ 2 ^ 30 → IsArena (record a { chains = replicate n [] })
-cleared_law a law n le = chains_law a law (replicate n []) (λ s. omega (arith, times_in-replicate s n)) (let none : List ℕ = [] in omega (arith, le, length-replicate n none))
+cleared_law a law n le = chains_law a law (replicate n []) (λ s. omega (arith, times_in-replicate s n)) (let none : List ℕ = [] in
+    omega (arith, le, length-replicate n none))
 
 -- all marks are forgotten, where no slot is gray
 unmarked_some : (o : Option Taken) (t : Taken) → o ≡ Some t → option_map (with_marking false) o ≡ Some (with_marking false t)
@@ -249,7 +260,10 @@ some_unmarked (Some u) t e = (u, refl)
 pub turn_law : (a : ArenaState) → IsArena a → a.gray ≡ [] → IsArena (record a { cells = map (option_map (with_marking false)) a.cells })
 turn_law a law none = record {
   alone = law.alone;
-  chained_taken = λ s h. (let t = law.chained_taken s h in (with_marking false t.0, get_or-map_option (with_marking false) a.cells s ∙ unmarked_some (taken_at a s) t.0 t.1));
+  chained_taken = λ s h. (let t = law.chained_taken s h in (
+    with_marking false t.0,
+    get_or-map_option (with_marking false) a.cells s ∙ unmarked_some (taken_at a s) t.0 t.1,
+  ));
   gray_once = law.gray_once;
   gray_marked = λ s h. absurd (let no : times s a.gray ≡ 0 = ap (times s) none in omega (arith, h, no));
   fits = (let same = filled-map (with_marking false) a.cells in let fit = law.fits in omega (arith, same, fit));

@@ -1,5 +1,6 @@
 -- Words that say what cells say.
-use Rattle.std.proofs.Common.{◌≡◌, ◌≢◌, ℕ, zero, suc, ◌+◌, ◌*◌, ◌<◌, ◌≤◌, ◌/◌, ◌%◌, List, ◌∷◌, ◌++◌, length, get_or, set, map, Some, None, refl, sym, ap, ◌∙◌, arith}
+use Rattle.std.proofs.Common.{◌≡◌, ◌≢◌, ℕ, zero, suc, ◌+◌, ◌*◌, ◌<◌, ◌≤◌, ◌/◌, ◌%◌, List, ◌∷◌, ◌++◌}
+use Rattle.std.proofs.Common.{length, get_or, set, map, Some, None, refl, sym, ap, ◌∙◌, arith}
 use Rattle.std.specs.Prelude.{Option, Bool, true, false, nat_eq, nat_lt, cond, replicate, IfSome}
 use Rattle.std.specs.Option.{option_map}
 use Rattle.std.proofs.lemmas.Bool.{ltb-true, lt-ltb, le-ltb}
@@ -128,15 +129,18 @@ module _ (ws : List ℕ) (cs : List (Option Node)) (said : ws ≡ map word_besid
   said-at s d lt = ap (λ z. get_or z s d) said ∙ get_or-map word_beside cs s None d lt
 
 -- what a word says of its body is so of the cell that it stands beside
-pub first-by_word : (o : Option Taken) (w a : ℕ) → IfSome o (λ t. w ≡ word_of t.body) → ((b : CellBody) → w ≡ word_of b → a ≡ b.a) → IfSome o (λ t. a ≡ t.body.a)
+pub first-by_word : (o : Option Taken) (w a : ℕ) → IfSome o (λ t. w ≡ word_of t.body) → ((b : CellBody) → w ≡ word_of b → a ≡ b.a)
+    → IfSome o (λ t. a ≡ t.body.a)
 first-by_word None w a e says = tt
 first-by_word (Some t) w a e says = says t.body e
 
-pub second-by_word : (o : Option Taken) (w b : ℕ) → IfSome o (λ t. w ≡ word_of t.body) → ((x : CellBody) → w ≡ word_of x → b ≡ x.b) → IfSome o (λ t. b ≡ t.body.b)
+pub second-by_word : (o : Option Taken) (w b : ℕ) → IfSome o (λ t. w ≡ word_of t.body) → ((x : CellBody) → w ≡ word_of x → b ≡ x.b)
+    → IfSome o (λ t. b ≡ t.body.b)
 second-by_word None w b e says = tt
 second-by_word (Some t) w b e says = says t.body e
 
-pub face-by_word : (o : Option Taken) (w : ℕ) (f : Face) → IfSome o (λ t. w ≡ word_of t.body) → ((b : CellBody) → w ≡ word_of b → f ≡ face_of b) → IfSome o (λ t. f ≡ face_of t.body)
+pub face-by_word : (o : Option Taken) (w : ℕ) (f : Face) → IfSome o (λ t. w ≡ word_of t.body) → ((b : CellBody) → w ≡ word_of b → f ≡ face_of b)
+    → IfSome o (λ t. f ≡ face_of t.body)
 face-by_word None w f e says = tt
 face-by_word (Some t) w f e says = says t.body e
 
@@ -166,7 +170,8 @@ second-said w b ne e = ap (λ (f : Face). f.b) (unpacked-word w b ne e)
 pub anns-said : (w : ℕ) (b : CellBody) → w ≢ ask → w ≡ word_of b → None ≡ b.anns
 anns-said w b ne e = ap (λ (f : Face). f.anns) (unpacked-word w b ne e)
 
-pub face-parts : (w k x y : ℕ) (b : CellBody) → w ≢ ask → w ≡ word_of b → k ≡ b.kind → x ≡ b.a → y ≡ b.b → record { kind = k; a = x; b = y; anns = None } ≡ face_of b
+pub face-parts : (w k x y : ℕ) (b : CellBody) → w ≢ ask → w ≡ word_of b → k ≡ b.kind → x ≡ b.a → y ≡ b.b
+    → record { kind = k; a = x; b = y; anns = None } ≡ face_of b
 face-parts w k x y b ne e ek ea eb = λ i. record { kind = ek i; a = ea i; b = eb i; anns = anns-said w b ne e i }
 
 -- a word that says what a cell says is that of a cell which was not given back

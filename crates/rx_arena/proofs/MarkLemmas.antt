@@ -17,7 +17,8 @@ length-with_marks (k ∷ ks) [] e = absurd (omega (arith, e))
 length-with_marks (k ∷ ks) (c ∷ cs) e = ap suc (length-with_marks ks cs (omega (arith, e)))
 
 -- what lies at one slot
-pub at-with_marks : (ks : List ℕ) (cs : List (Option Node)) (s : ℕ) → HasMarks ks cs → get_or (with_marks ks cs) s None ≡ option_map (with_mark (get_or ks s 0)) (get_or cs s None)
+pub at-with_marks : (ks : List ℕ) (cs : List (Option Node)) (s : ℕ) → HasMarks ks cs
+    → get_or (with_marks ks cs) s None ≡ option_map (with_mark (get_or ks s 0)) (get_or cs s None)
 at-with_marks [] [] s e = refl
 at-with_marks [] (c ∷ cs) s e = absurd (omega (arith, e))
 at-with_marks (k ∷ ks) [] s e = absurd (omega (arith, e))
@@ -25,7 +26,8 @@ at-with_marks (k ∷ ks) (c ∷ cs) zero e = refl
 at-with_marks (k ∷ ks) (c ∷ cs) (suc s) e = at-with_marks ks cs s (omega (arith, e))
 
 -- a mark and a cell are written
-pub set-with_marks : (ks : List ℕ) (cs : List (Option Node)) (s k : ℕ) (c : Option Node) → HasMarks ks cs → with_marks (set ks s k) (set cs s c) ≡ set (with_marks ks cs) s (option_map (with_mark k) c)
+pub set-with_marks : (ks : List ℕ) (cs : List (Option Node)) (s k : ℕ) (c : Option Node) → HasMarks ks cs
+    → with_marks (set ks s k) (set cs s c) ≡ set (with_marks ks cs) s (option_map (with_mark k) c)
 set-with_marks [] [] s k c e = refl
 set-with_marks [] (d ∷ cs) s k c e = absurd (omega (arith, e))
 set-with_marks (j ∷ ks) [] s k c e = absurd (omega (arith, e))
@@ -37,17 +39,20 @@ remarked j k None = refl
 remarked j k (Some n) = refl
 
 -- a mark alone is written
-pub mark-with_marks : (ks : List ℕ) (cs : List (Option Node)) (s k : ℕ) → HasMarks ks cs → with_marks (set ks s k) cs ≡ changed s (with_mark k) (with_marks ks cs)
+pub mark-with_marks : (ks : List ℕ) (cs : List (Option Node)) (s k : ℕ) → HasMarks ks cs
+    → with_marks (set ks s k) cs ≡ changed s (with_mark k) (with_marks ks cs)
 mark-with_marks ks cs s k e =
     ap (with_marks (set ks s k)) (sym (set-get_or cs s None)) ∙ set-with_marks ks cs s k (get_or cs s None) e
     ∙ ap (set (with_marks ks cs) s) (remarked (get_or ks s 0) k (get_or cs s None) ∙ sym (ap (option_map (with_mark k)) (at-with_marks ks cs s e)))
 
-commuted : (k : ℕ) (f : Node → Node) (c : Option Node) → ((n : Node) → with_mark k (f n) ≡ f (with_mark k n)) → option_map (with_mark k) (option_map f c) ≡ option_map f (option_map (with_mark k) c)
+commuted : (k : ℕ) (f : Node → Node) (c : Option Node) → ((n : Node) → with_mark k (f n) ≡ f (with_mark k n))
+    → option_map (with_mark k) (option_map f c) ≡ option_map f (option_map (with_mark k) c)
 commuted k f None h = refl
 commuted k f (Some n) h = ap (λ m. Some m) (h n)
 
 -- a cell alone is changed
-pub changed-with_marks : (ks : List ℕ) (cs : List (Option Node)) (s : ℕ) (f : Node → Node) → HasMarks ks cs → ((k : ℕ) (n : Node) → with_mark k (f n) ≡ f (with_mark k n)) → with_marks ks (changed s f cs) ≡ changed s f (with_marks ks cs)
+pub changed-with_marks : (ks : List ℕ) (cs : List (Option Node)) (s : ℕ) (f : Node → Node) → HasMarks ks cs
+    → ((k : ℕ) (n : Node) → with_mark k (f n) ≡ f (with_mark k n)) → with_marks ks (changed s f cs) ≡ changed s f (with_marks ks cs)
 changed-with_marks ks cs s f e h = let k = get_or ks s 0 in
     ap (λ z. with_marks z (changed s f cs)) (sym (set-get_or ks s 0)) ∙ set-with_marks ks cs s k (option_map f (get_or cs s None)) e
     ∙ ap (set (with_marks ks cs) s) (commuted k f (get_or cs s None) (h k) ∙ sym (ap (option_map f) (at-with_marks ks cs s e)))
@@ -57,7 +62,8 @@ empty-with_marks zero = refl
 empty-with_marks (suc n) = ap (λ z. None ∷ z) (empty-with_marks n)
 
 -- a block is added
-pub grown-with_marks : (ks : List ℕ) (cs : List (Option Node)) (n : ℕ) → HasMarks ks cs → with_marks (ks ++ replicate n 0) (cs ++ replicate n None) ≡ with_marks ks cs ++ replicate n None
+pub grown-with_marks : (ks : List ℕ) (cs : List (Option Node)) (n : ℕ) → HasMarks ks cs
+    → with_marks (ks ++ replicate n 0) (cs ++ replicate n None) ≡ with_marks ks cs ++ replicate n None
 grown-with_marks [] [] n e = empty-with_marks n
 grown-with_marks [] (c ∷ cs) n e = absurd (omega (arith, e))
 grown-with_marks (k ∷ ks) [] n e = absurd (omega (arith, e))
@@ -76,14 +82,16 @@ shown k None P Q h p = tt
 shown k (Some n) P Q h p = h n p
 
 -- a fact of a cell is one of what is seen
-pub shown-with_marks : (ks : List ℕ) (cs : List (Option Node)) (s : ℕ) (P Q : Node → Type 0) → HasMarks ks cs → ((n : Node) → P n → Q (with_mark (get_or ks s 0) n)) → IfSome (get_or cs s None) P → IfSome (get_or (with_marks ks cs) s None) Q
+pub shown-with_marks : (ks : List ℕ) (cs : List (Option Node)) (s : ℕ) (P Q : Node → Type 0) → HasMarks ks cs
+    → ((n : Node) → P n → Q (with_mark (get_or ks s 0) n)) → IfSome (get_or cs s None) P → IfSome (get_or (with_marks ks cs) s None) Q
 shown-with_marks ks cs s P Q e h p = subst (λ z. IfSome z Q) (sym (at-with_marks ks cs s e)) (shown (get_or ks s 0) (get_or cs s None) P Q h p)
 
 unshown : (k : ℕ) (c : Option Node) (P Q : Node → Type 0) → ((n : Node) → Q (with_mark k n) → P n) → IfSome (option_map (with_mark k) c) Q → IfSome c P
 unshown k None P Q h q = tt
 unshown k (Some n) P Q h q = h n q
 
-pub unshown-with_marks : (ks : List ℕ) (cs : List (Option Node)) (s : ℕ) (P Q : Node → Type 0) → HasMarks ks cs → ((n : Node) → Q (with_mark (get_or ks s 0) n) → P n) → IfSome (get_or (with_marks ks cs) s None) Q → IfSome (get_or cs s None) P
+pub unshown-with_marks : (ks : List ℕ) (cs : List (Option Node)) (s : ℕ) (P Q : Node → Type 0) → HasMarks ks cs
+    → ((n : Node) → Q (with_mark (get_or ks s 0) n) → P n) → IfSome (get_or (with_marks ks cs) s None) Q → IfSome (get_or cs s None) P
 unshown-with_marks ks cs s P Q e h q = unshown (get_or ks s 0) (get_or cs s None) P Q h (subst (λ z. IfSome z Q) (at-with_marks ks cs s e) q)
 
 any_some : (c : Option Node) (k : ℕ) → IfSome (option_map (with_mark k) c) (λ n. k ≡ n.mark)
@@ -109,7 +117,9 @@ some-held ks cs None e h = tt
 some-held ks cs (Some t) e h = held-with_marks ks cs t e h
 
 -- a link that is seen to lead to a node leads to a cell
-pub link-with_marks : (ks : List ℕ) (cs : List (Option Node)) (s : ℕ) (l : Link) → HasMarks ks cs → IfSome (get_or (with_marks ks cs) s None) (λ n. IfSome (next_in l n) (IsHeld (with_marks ks cs))) → IfSome (get_or cs s None) (λ n. IfSome (next_in l n) (IsHeld cs))
+pub link-with_marks : (ks : List ℕ) (cs : List (Option Node)) (s : ℕ) (l : Link) → HasMarks ks cs
+    → IfSome (get_or (with_marks ks cs) s None) (λ n. IfSome (next_in l n) (IsHeld (with_marks ks cs)))
+    → IfSome (get_or cs s None) (λ n. IfSome (next_in l n) (IsHeld cs))
 link-with_marks ks cs s l e = unshown-with_marks ks cs s (λ n. IfSome (next_in l n) (IsHeld cs)) (λ n. IfSome (next_in l n) (IsHeld (with_marks ks cs))) e
     (λ n h. some-held ks cs (next_in l n) e (subst (λ z. IfSome z (IsHeld (with_marks ks cs))) (sym (next-marked l (get_or ks s 0) n)) h))
 
@@ -124,13 +134,16 @@ get_or_any (k ∷ ks) zero lt d e = refl
 get_or_any (k ∷ ks) (suc s) lt d e = get_or_any ks s (omega (arith, lt)) d e
 
 -- a list with what one block adds
-pub resized : {A : Type 0} (xs : List A) (x : A) (n m : ℕ) → n ≡ length xs → m ≡ length xs → take (n + 1024) xs ++ replicate (n + 1024 - m) x ≡ xs ++ replicate 1024 x
+pub resized : {A : Type 0} (xs : List A) (x : A) (n m : ℕ) → n ≡ length xs → m ≡ length xs
+    → take (n + 1024) xs ++ replicate (n + 1024 - m) x ≡ xs ++ replicate 1024 x
 resized xs x n m e f = let more : n + 1024 - m ≡ 1024 = omega (arith, e, f) in
     λ i. take_all (n + 1024) xs (omega (arith, e)) i ++ replicate (more i) x
 
 -- a list from which it is taken away again
-pub cut-back : {A : Type 0} (xs mid new : List A) (x : A) (n m : ℕ) → n ≡ length xs → m ≡ length xs → mid ≡ take (n + 1024) xs ++ replicate (n + 1024 - m) x → new ≡ take n mid → new ≡ xs
-cut-back xs mid new x n m e f is cut = cut ∙ ap (take n) (is ∙ resized xs x n m e f) ∙ take-append-le n xs (replicate 1024 x) (omega (arith, e)) ∙ take_all n xs (omega (arith, e))
+pub cut-back : {A : Type 0} (xs mid new : List A) (x : A) (n m : ℕ) → n ≡ length xs → m ≡ length xs
+    → mid ≡ take (n + 1024) xs ++ replicate (n + 1024 - m) x → new ≡ take n mid → new ≡ xs
+cut-back xs mid new x n m e f is cut = cut ∙ ap (take n) (is ∙ resized xs x n m e f) ∙ take-append-le n xs (replicate 1024 x) (omega (arith, e))
+    ∙ take_all n xs (omega (arith, e))
 
 pub below-marks : (ks : List ℕ) (cs : List (Option Node)) (s : ℕ) → HasMarks ks cs → s < length (with_marks ks cs) → s < length cs
 below-marks ks cs s e lt = let f = length-with_marks ks cs e in omega (arith, lt, f)

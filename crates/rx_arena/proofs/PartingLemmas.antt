@@ -15,7 +15,8 @@ pub parting_begins : (init : ArenaState) (c : ℕ) → c < length init.chains �
 parting_begins init c lt none = record { popping = popping_begins init c lt none; cells = refl; spare = refl }
 
 -- a slot is popped
-module _ (init : ArenaState) (c : ℕ) (self : ArenaState) (inv : Parting init c self) (s : ℕ) (one : ArenaState) (split : chain_at self c ≡ s ∷ chain_at one c) (rest : one ≡ record self { chains = set self.chains c (chain_at one c) }) (free : IsLoose one s) where
+module _ (init : ArenaState) (c : ℕ) (self : ArenaState) (inv : Parting init c self) (s : ℕ) (one : ArenaState)
+    (split : chain_at self c ≡ s ∷ chain_at one c) (rest : one ≡ record self { chains = set self.chains c (chain_at one c) }) (free : IsLoose one s) where
   cells_stay : one.cells ≡ init.cells
   cells_stay = ap (λ (v : ArenaState). v.cells) rest ∙ inv.cells
 

@@ -34,7 +34,8 @@ module _ (init : ArenaState) (n k : ℕ) (self : ArenaState) (inv : Placing init
   pub placing_loose : IsLoose self k
   placing_loose = inv.left k (omega arith)
 
-  module _ (to : ℕ) (two : ArenaState) (below : to < n) (to_is : to ≡ hash_at init k % n) (put_there : two ≡ record self { chains = set self.chains to (k ∷ chain_at self to) }) where
+  module _ (to : ℕ) (two : ArenaState) (below : to < n) (to_is : to ≡ hash_at init k % n)
+      (put_there : two ≡ record self { chains = set self.chains to (k ∷ chain_at self to) }) where
     two_chains : two.chains ≡ set self.chains to (k ∷ chain_at self to)
     two_chains = ap (λ (v : ArenaState). v.chains) put_there
 
@@ -48,7 +49,8 @@ module _ (init : ArenaState) (n k : ℕ) (self : ArenaState) (inv : Placing init
     gained : (c s : ℕ) → times s (chain_at two c) ≡ times s (chain_at self c) + cond (nat_eq to c) (one_if k s) 0
     gained c s = elim (one_or_two c to) [
       | inl h ↦ (let hit : cond (nat_eq to c) (one_if k s) 0 ≡ one_if k s = ap (λ b. cond b (one_if k s) 0) (eq-eqb to c (sym h.1)) in
-          let there : times s (chain_at two c) ≡ one_if k s + times s (chain_at self c) = subst (λ z. times s (chain_at two z) ≡ one_if k s + times s (chain_at self z)) (sym h.1) (ap (times s) two_to) in
+          let there : times s (chain_at two c) ≡ one_if k s + times s (chain_at self c) =
+          subst (λ z. times s (chain_at two z) ≡ one_if k s + times s (chain_at self z)) (sym h.1) (ap (times s) two_to) in
           omega (arith, hit, there))
       | inr h ↦ (let miss : cond (nat_eq to c) (one_if k s) 0 ≡ 0 = ap (λ b. cond b (one_if k s) 0) (ne_eqb to c (λ e. h.1 (sym e))) in
           let there = ap (times s) (two_other c h.1) in
@@ -59,10 +61,13 @@ module _ (init : ArenaState) (n k : ℕ) (self : ArenaState) (inv : Placing init
     placed_on law = record {
       law = law;
       lens = ap length two_chains ∙ length-set self.chains to (k ∷ chain_at self to) ∙ inv.lens;
-      same = put_there ∙ ap (λ (v : ArenaState). record v { chains = set self.chains to (k ∷ chain_at self to) }) inv.same ∙ ap (λ z. record init { chains = z }) (sym two_chains);
+      same = put_there ∙ ap (λ (v : ArenaState). record v { chains = set self.chains to (k ∷ chain_at self to) }) inv.same
+          ∙ ap (λ z. record init { chains = z }) (sym two_chains);
       done = λ c lc s lt. elim (one_or_two k s) [
-        | inl h ↦ (let free : times s (chain_at self c) ≡ 0 = (let at = times_in-at s self.chains c in let none = inv.left s (omega (arith, h.1)) in omega (arith, at, none)) in
-            let gain : cond (nat_eq to c) (one_if k s) 0 ≡ cond (nat_eq (hash_at init s % n) c) 1 0 = λ i. cond (nat_eq ((to_is ∙ ap (λ z. hash_at init z % n) h.1) i) c) (h.0 i) 0 in
+        | inl h ↦ (let free : times s (chain_at self c) ≡ 0 = (let at = times_in-at s self.chains c in let none = inv.left s (omega (arith, h.1)) in
+            omega (arith, at, none)) in
+            let gain : cond (nat_eq to c) (one_if k s) 0 ≡ cond (nat_eq (hash_at init s % n) c) 1 0 = λ i.
+            cond (nat_eq ((to_is ∙ ap (λ z. hash_at init z % n) h.1) i) c) (h.0 i) 0 in
             let all = gained c s in
             omega (arith, free, gain, all))
         | inr h ↦ (let none : cond (nat_eq to c) (one_if k s) 0 ≡ 0 = ap (λ z. cond (nat_eq to c) z 0) h.0 ∙ cond_zero (nat_eq to c) in
@@ -87,7 +92,8 @@ module _ (init mid new : ArenaState) (n end : ℕ) (cleared : mid ≡ record ini
   pub cleared_taken : IsArena init → (s : ℕ) → times_in s init.chains ≡ 1 → IsTaken mid s
   cleared_taken law s one = subst (λ (v : ArenaState). IsTaken v s) (sym cleared) (law.chained_taken s (omega (arith, one)))
 
-  pub placed_all : ((s : ℕ) → s < end → times_in s init.chains ≡ 1) → ((s : ℕ) → end ≤ s → IsLoose init s) → ((c : ℕ) → c < n → (s : ℕ) → s < end → times s (chain_at new c) ≡ cond (nat_eq (hash_at mid s % n) c) 1 0)
+  pub placed_all : ((s : ℕ) → s < end → times_in s init.chains ≡ 1) → ((s : ℕ) → end ≤ s → IsLoose init s)
+      → ((c : ℕ) → c < n → (s : ℕ) → s < end → times s (chain_at new c) ≡ cond (nat_eq (hash_at mid s % n) c) 1 0)
       → ((s : ℕ) → end ≤ s → IsLoose new s) → (c : ℕ) → c < n → (s : ℕ) → times s (chain_at new c) ≡ times_hashed init n c s
   placed_all inside outside dealt past c lc s = elim (less_or_not s end) [
     | inl lt ↦ dealt c lc s lt ∙ (λ i. cond (nat_eq (hash_at (cleared i) s % n) c) 1 0) ∙ sym (ap (λ z. cond (nat_eq (hash_at init s % n) c) z 0) (inside s lt))

@@ -1,14 +1,17 @@
 -- The store under a pool: what its slots hold as they are taken, given back and changed.
-use Rattle.std.proofs.Common.{◌≡◌, ◌≢◌, ℕ, zero, suc, ◌+◌, ◌-◌, ◌<◌, ◌≤◌, ◌⊎◌, inl, inr, List, [], ◌∷◌, ◌++◌, length, get_or, set, take, true, Some, None, refl, sym, ap, subst, ◌∙◌, arith}
+use Rattle.std.proofs.Common.{◌≡◌, ◌≢◌, ℕ, zero, suc, ◌+◌, ◌-◌, ◌<◌, ◌≤◌, ◌⊎◌, inl, inr, List, [], ◌∷◌, ◌++◌}
+use Rattle.std.proofs.Common.{length, get_or, set, take, true, Some, None, refl, sym, ap, subst, ◌∙◌, arith}
 use Rattle.std.specs.Prelude.{Option, replicate, nat_eq, true}
 use Rattle.std.specs.Option.{option_map}
-use Rattle.std.proofs.lemmas.List.{length-append, length-set, length-take, length-take-le, get_or-set_same, get_or-set_other, get_or-take, get_or_past, take-append-le}
+use Rattle.std.proofs.lemmas.List.{length-append, length-set, length-take, length-take-le, get_or-set_same}
+use Rattle.std.proofs.lemmas.List.{get_or-set_other, get_or-take, get_or_past, take-append-le}
 use Rattle.rx_arena.specs.Inner.Node.{Node}
 use Rattle.rx_arena.specs.Inner.Held.{IsHeld}
 use Rattle.rx_arena.specs.Put.{times, put, one_some, filled, without}
 use Rattle.rx_arena.specs.Inner.Links.{links, IsChain}
 use Rattle.rx_arena.specs.Inner.Pool.{IsPool, cells_of, is_given_back}
-use Rattle.rx_arena.proofs.PutLemmas.{one_or_two, one_if-same, put-put, put-set, put_end, within_some, without-put, get_or-without_other, get_or-without_same, some-without, filled-put, filled_some, get_or-map_option, get_or-put_same, get_or-put_other}
+use Rattle.rx_arena.proofs.PutLemmas.{one_or_two, one_if-same, put-put, put-set, put_end, within_some, without-put, get_or-without_other}
+use Rattle.rx_arena.proofs.PutLemmas.{get_or-without_same, some-without, filled-put, filled_some, get_or-map_option, get_or-put_same, get_or-put_other}
 use Rattle.rx_arena.proofs.ChainLemmas.{chain_agrees, chain_stays, member_some, one_or_more}
 
 pub lt_or_le : (a b : ℕ) → (a < b) ⊎ (b ≤ a)
@@ -36,10 +39,13 @@ get_or-grown (x ∷ xs) k zero = refl
 get_or-grown (x ∷ xs) k (suc t) = get_or-grown xs k t
 
 -- the free links after a write to one slot
-pub links-set_other : (f : Node → Option ℕ) (slots : List (Option Node)) (s t : ℕ) (v : Option Node) → t ≢ s → get_or (links f (set slots s v)) t None ≡ get_or (links f slots) t None
-links-set_other f slots s t v ne = get_or-map_option f (set slots s v) t ∙ ap (option_map f) (get_or-set_other slots s t v None ne) ∙ sym (get_or-map_option f slots t)
+pub links-set_other : (f : Node → Option ℕ) (slots : List (Option Node)) (s t : ℕ) (v : Option Node) → t ≢ s
+    → get_or (links f (set slots s v)) t None ≡ get_or (links f slots) t None
+links-set_other f slots s t v ne = get_or-map_option f (set slots s v) t ∙ ap (option_map f) (get_or-set_other slots s t v None ne)
+    ∙ sym (get_or-map_option f slots t)
 
-pub links-set_same : (f : Node → Option ℕ) (slots : List (Option Node)) (s : ℕ) (v : Option Node) → s < length slots → get_or (links f (set slots s v)) s None ≡ option_map f v
+pub links-set_same : (f : Node → Option ℕ) (slots : List (Option Node)) (s : ℕ) (v : Option Node) → s < length slots
+    → get_or (links f (set slots s v)) s None ≡ option_map f v
 links-set_same f slots s v lt = get_or-map_option f (set slots s v) s ∙ ap (option_map f) (get_or-set_same slots s v None lt)
 
 some-mapped : (f : Node → Option ℕ) (c : Option Node) (next : Option ℕ) → option_map f c ≡ Some next → (n : Node) × (c ≡ Some n) × (f n ≡ next)
@@ -54,7 +60,8 @@ length-without xs (s ∷ ss) below =
     ap length (put-set (without xs ss) s None lt) ∙ length-set (without xs ss) s None ∙ rest
 
 -- what the links say of a slot that holds a node
-pub links_some : (f : Node → Option ℕ) (slots : List (Option Node)) (s : ℕ) (next : Option ℕ) → get_or (links f slots) s None ≡ Some next → (n : Node) × (get_or slots s None ≡ Some n) × (f n ≡ next)
+pub links_some : (f : Node → Option ℕ) (slots : List (Option Node)) (s : ℕ) (next : Option ℕ) → get_or (links f slots) s None ≡ Some next
+    → (n : Node) × (get_or slots s None ≡ Some n) × (f n ≡ next)
 links_some f slots s next e = some-mapped f (get_or slots s None) next (sym (get_or-map_option f slots s) ∙ e)
 
 -- what a taken slot holds lies in the store
@@ -64,7 +71,8 @@ pub record IsTakenAt (slots : List (Option Node)) (free : List ℕ) (fresh s : �
   pub within : s < length slots
   pub at_store : get_or slots s None ≡ Some n
 
-pub taken_at : (slots : List (Option Node)) (free : List ℕ) (fresh s : ℕ) (n : Node) → get_or (cells_of slots free fresh) s None ≡ Some n → IsTakenAt slots free fresh s n
+pub taken_at : (slots : List (Option Node)) (free : List ℕ) (fresh s : ℕ) (n : Node) → get_or (cells_of slots free fresh) s None ≡ Some n
+    → IsTakenAt slots free fresh s n
 taken_at slots free fresh s n e =
     let w = some-without (take fresh slots) free s n e in
     let l : s < length (take fresh slots) = within_some (take fresh slots) s n w.1 in
@@ -72,7 +80,8 @@ taken_at slots free fresh s n e =
     record { away = w.0; below = lt; within = omega (arith, l, length-take fresh slots); at_store = sym (get_or-take fresh slots s None lt) ∙ w.1 }
 
 -- the store's cells after a write to a taken slot, or to one that is free
-pub cells-set : (slots : List (Option Node)) (free : List ℕ) (fresh s : ℕ) (v : Option Node) → times s free ≡ 0 → s < fresh → fresh ≤ length slots → cells_of (set slots s v) free fresh ≡ put (cells_of slots free fresh) s v
+pub cells-set : (slots : List (Option Node)) (free : List ℕ) (fresh s : ℕ) (v : Option Node) → times s free ≡ 0 → s < fresh → fresh ≤ length slots
+    → cells_of (set slots s v) free fresh ≡ put (cells_of slots free fresh) s v
 cells-set slots free fresh s v away lt le =
     let within : s < length (take fresh slots) = omega (arith, lt, le, length-take-le fresh slots le) in
     ap (λ xs. without xs free) (take-set fresh slots s v ∙ sym (put-set (take fresh slots) s v within)) ∙ without-put (take fresh slots) free s v away
@@ -128,7 +137,8 @@ module _ (slots : List (Option Node)) (free : List ℕ) (fresh taken room cap : 
   empty-set s m ls t le = get_or-set_other slots s t (Some m) None (λ e. absurd (omega (arith, ls, le, e))) ∙ p.empty t le
 
   -- a taken slot gets another node
-  pub pool-set : (s : ℕ) (n m : Node) → m.mark ≤ 1 → get_or (cells_of slots free fresh) s None ≡ Some n → IsPool (set slots s (Some m)) free fresh taken room cap
+  pub pool-set : (s : ℕ) (n m : Node) → m.mark ≤ 1 → get_or (cells_of slots free fresh) s None ≡ Some n
+      → IsPool (set slots s (Some m)) free fresh taken room cap
   pool-set s n m small e =
       let at = taken_at slots free fresh s n e in
       let put_is = cells-set slots free fresh s (Some m) at.away at.below in_store in
@@ -177,7 +187,8 @@ module _ (slots : List (Option Node)) (free : List ℕ) (fresh taken room cap : 
           once = λ t. (let o = subst (λ (z : List ℕ). times t z ≤ 1) split (p.once t) in omega (arith, o));
           held = held-set s m reused-below;
           empty = empty-set s m reused-below;
-          free_known = λ t h. ap is_given_back (get_or-set_other slots s t (Some m) None (free_apart rest s t reused-away h)) ∙ p.free_known t (subst (λ (z : List ℕ). 0 < times t z) (sym split) (omega (arith, h)));
+          free_known = λ t h. ap is_given_back (get_or-set_other slots s t (Some m) None (free_apart rest s t reused-away h))
+              ∙ p.free_known t (subst (λ (z : List ℕ). 0 < times t z) (sym split) (omega (arith, h)));
           taken_known = taken_after _ _ s (Some m) (reused-cells m) p.taken_known (small_mark m small);
           free_counted = omega (arith, len, p.free_counted);
           taken_counted = omega (arith, now, was, count, p.taken_counted);
@@ -207,26 +218,35 @@ module _ (slots : List (Option Node)) (free : List ℕ) (fresh taken room cap : 
           ]
 
       pub extended-chain : (m : Node) → IsChain (links (λ n. n.free) (set slots fresh (Some m))) first free
-      extended-chain m = chain_stays (links (λ n. n.free) slots) (links (λ n. n.free) (set slots fresh (Some m))) fresh first free extended-away (λ t ne. links-set_other (λ n. n.free) slots fresh t (Some m) ne) c
+      extended-chain m = chain_stays (links (λ n. n.free) slots) (links (λ n. n.free) (set slots fresh (Some m))) fresh first free extended-away
+          (λ t ne. links-set_other (λ n. n.free) slots fresh t (Some m) ne) c
 
       pub extended-was_free : get_or (cells_of slots free fresh) fresh None ≡ None
-      extended-was_free = get_or-without_other (take fresh slots) free fresh extended-away ∙ get_or_past (take fresh slots) fresh None (omega (arith, length-take-le fresh slots in_store))
+      extended-was_free = get_or-without_other (take fresh slots) free fresh extended-away
+          ∙ get_or_past (take fresh slots) fresh None (omega (arith, length-take-le fresh slots in_store))
 
       pub extended-cells : (m : Node) → cells_of (set slots fresh (Some m)) free (fresh + 1) ≡ put (cells_of slots free fresh) fresh (Some m)
       extended-cells m =
-          ap (λ xs. without xs free) (take-set_next slots fresh (Some m) extended-within ∙ sym (put_end (take fresh slots) fresh (Some m) (length-take-le fresh slots in_store)))
+          ap (λ xs. without xs free) (take-set_next slots fresh (Some m) extended-within
+          ∙ sym (put_end (take fresh slots) fresh (Some m) (length-take-le fresh slots in_store)))
           ∙ without-put (take fresh slots) free fresh (Some m) extended-away
 
       pub extended-pool : (m : Node) → m.mark ≤ 1 → IsPool (set slots fresh (Some m)) free (fresh + 1) (taken + 1) room cap
       extended-pool m small =
           let count = filled-put (cells_of slots free fresh) fresh (Some m) in
           let was : one_some (get_or (cells_of slots free fresh) fresh None) ≡ 0 = ap one_some extended-was_free in
-          let now : filled (cells_of (set slots fresh (Some m)) free (fresh + 1)) ≡ filled (put (cells_of slots free fresh) fresh (Some m)) = ap filled (extended-cells m) in
+          let now : filled (cells_of (set slots fresh (Some m)) free (fresh + 1)) ≡ filled (put (cells_of slots free fresh) fresh (Some m)) =
+          ap filled (extended-cells m) in
           record {
             once = p.once;
             held = λ t lt. elim (one_or_two t fresh) [
-              | inl h ↦ (m, subst (λ z. get_or (set slots fresh (Some m)) z None ≡ Some m) (sym h.1) (get_or-set_same slots fresh (Some m) None extended-within))
-              | inr h ↦ (let was_held = p.held t (let ne = h.1 in omega (arith, lt, ne)) in (was_held.0, get_or-set_other slots fresh t (Some m) None h.1 ∙ was_held.1))
+              | inl h ↦ (
+                m,
+                subst (λ z. get_or (set slots fresh (Some m)) z None ≡ Some m) (sym h.1)
+                    (get_or-set_same slots fresh (Some m) None extended-within),
+              )
+              | inr h ↦ (let was_held = p.held t (let ne = h.1 in omega (arith, lt, ne)) in
+                  (was_held.0, get_or-set_other slots fresh t (Some m) None h.1 ∙ was_held.1))
             ];
             empty = λ t le. get_or-set_other slots fresh t (Some m) None (λ e. absurd (omega (arith, le, e))) ∙ p.empty t (omega (arith, le));
             free_known = λ t h. ap is_given_back (get_or-set_other slots fresh t (Some m) None (free_apart free fresh t extended-away h)) ∙ p.free_known t h;
@@ -246,7 +266,8 @@ module _ (slots : List (Option Node)) (free : List ℕ) (fresh taken room cap : 
     given_back-at = taken_at slots free fresh s n e
 
     pub given_back-cells : cells_of (set slots s (Some m)) (s ∷ free) fresh ≡ put (cells_of slots free fresh) s None
-    given_back-cells = ap (λ xs. put xs s None) (cells-set slots free fresh s (Some m) given_back-at.away given_back-at.below in_store) ∙ put-put (cells_of slots free fresh) s (Some m) None
+    given_back-cells = ap (λ xs. put xs s None) (cells-set slots free fresh s (Some m) given_back-at.away given_back-at.below in_store)
+        ∙ put-put (cells_of slots free fresh) s (Some m) None
 
     pub given_back-some_taken : 0 < taken
     given_back-some_taken = omega (arith, p.taken_counted, filled_some (cells_of slots free fresh) s n e)
@@ -265,7 +286,8 @@ module _ (slots : List (Option Node)) (free : List ℕ) (fresh taken room cap : 
           held = held-set s m given_back-at.below;
           empty = empty-set s m given_back-at.below;
           free_known = λ t h. elim (one_or_two s t) [
-            | inl q ↦ ap (λ z. is_given_back (get_or (set slots s (Some m)) z None)) (sym q.1) ∙ ap is_given_back (get_or-set_same slots s (Some m) None given_back-at.within) ∙ mark
+            | inl q ↦ ap (λ z. is_given_back (get_or (set slots s (Some m)) z None)) (sym q.1)
+                ∙ ap is_given_back (get_or-set_same slots s (Some m) None given_back-at.within) ∙ mark
             | inr q ↦ ap is_given_back (get_or-set_other slots s t (Some m) None (λ e. q.1 (sym e))) ∙ p.free_known t (omega (arith, h, q.0))
           ];
           taken_known = taken_after _ _ s None given_back-cells p.taken_known (λ n q. absurd (cc));
@@ -280,10 +302,12 @@ module _ (slots : List (Option Node)) (free : List ℕ) (fresh taken room cap : 
 
   -- a block is added
   module _ (lt : room < cap) where
-    pub grown-chain : (first : Option ℕ) → IsChain (links (λ n. n.free) slots) first free → IsChain (links (λ n. n.free) (slots ++ replicate 1024 None)) first free
+    pub grown-chain : (first : Option ℕ) → IsChain (links (λ n. n.free) slots) first free
+        → IsChain (links (λ n. n.free) (slots ++ replicate 1024 None)) first free
     grown-chain first c =
         chain_agrees (links (λ n. n.free) slots) (links (λ n. n.free) (slots ++ replicate 1024 None)) first free
-        (λ t h. get_or-map_option (λ n. n.free) (slots ++ replicate 1024 None) t ∙ ap (option_map (λ (n : Node). n.free)) (get_or-grown slots 1024 t) ∙ sym (get_or-map_option (λ n. n.free) slots t)) c
+        (λ t h. get_or-map_option (λ n. n.free) (slots ++ replicate 1024 None) t ∙ ap (option_map (λ (n : Node). n.free)) (get_or-grown slots 1024 t)
+        ∙ sym (get_or-map_option (λ n. n.free) slots t)) c
 
     pub grown-cells : cells_of (slots ++ replicate 1024 None) free fresh ≡ cells_of slots free fresh
     grown-cells = ap (λ xs. without xs free) (take-append-le fresh slots (replicate 1024 None) in_store)

@@ -1,5 +1,6 @@
 -- What each call of a pool makes of the store, the free list and the cells.
-use Rattle.std.proofs.Common.{◌≡◌, ◌≢◌, ◌⊎◌, ℕ, ◌+◌, ◌-◌, ◌<◌, ◌≤◌, List, [], ◌∷◌, ◌++◌, length, get_or, set, Some, None, IfSome, inl, inr, refl, sym, ap, subst, ◌∙◌, arith}
+use Rattle.std.proofs.Common.{◌≡◌, ◌≢◌, ◌⊎◌, ℕ, ◌+◌, ◌-◌, ◌<◌, ◌≤◌, List, [], ◌∷◌, ◌++◌, length, get_or}
+use Rattle.std.proofs.Common.{set, Some, None, IfSome, inl, inr, refl, sym, ap, subst, ◌∙◌, arith}
 use Rattle.std.specs.Prelude.{Option, Bool, true, false, not, nat_eq, nat_lt, replicate, take, ◌^◌, min}
 use Rattle.std.proofs.lemmas.Bool.{eqb-true, ne_eqb}
 use Rattle.std.proofs.lemmas.Bool.Decides.{nat_tests}
@@ -17,7 +18,9 @@ use Rattle.rx_arena.specs.Inner.Links.{Links, links, IsChain, Listed}
 use Rattle.rx_arena.specs.Inner.Pool.{PoolState, IsPool, cells_of, is_given_back, is_unmarked_node}
 use Rattle.rx_arena.proofs.PutLemmas.{within_some, filled-put, get_or-without_other, get_or-without_same}
 use Rattle.rx_arena.proofs.ChainLemmas.{one_or_more, chain_stays, popped, pushed, listed_is, first_some}
-use Rattle.rx_arena.proofs.PoolLemmas.{lt_or_le, cells-length, links-set_other, links-set_same, links_some, taken_at, cells-set, pool-set, reused-away, reused-below, reused-was_free, reused-cells, reused-pool, extended-chain, extended-was_free, extended-cells, extended-pool, given_back-cells, given_back-some_taken, given_back-pool, grown-chain, grown-cells, grown-pool}
+use Rattle.rx_arena.proofs.PoolLemmas.{lt_or_le, cells-length, links-set_other, links-set_same, links_some, taken_at, cells-set, pool-set, reused-away}
+use Rattle.rx_arena.proofs.PoolLemmas.{reused-below, reused-was_free, reused-cells, reused-pool, extended-chain, extended-was_free, extended-cells}
+use Rattle.rx_arena.proofs.PoolLemmas.{extended-pool, given_back-cells, given_back-some_taken, given_back-pool, grown-chain, grown-cells, grown-pool}
 
 -- the two marks of taken cells
 pub mark_of_small : (turned marked : Bool) → mark_of turned marked ≤ 1
@@ -37,13 +40,15 @@ two_apart : (turned : Bool) → nat_eq 2 (mark_of turned false) ≡ false
 two_apart false = refl
 two_apart true = refl
 
-pub mark_shown : (turned : Bool) (o : Option Node) (k w : ℕ) → w ≡ mark_of turned false → IfSome o (λ n. k ≡ n.mark) → IfSome o (λ n. not (nat_eq k w) ≡ has_mark turned n)
+pub mark_shown : (turned : Bool) (o : Option Node) (k w : ℕ) → w ≡ mark_of turned false → IfSome o (λ n. k ≡ n.mark)
+    → IfSome o (λ n. not (nat_eq k w) ≡ has_mark turned n)
 mark_shown turned None k w e h = tt
 mark_shown turned (Some n) k w e h = λ i. not (nat_eq (h i) (e i))
 
 -- two states that differ in no part
 pub same_pool : (cells cells' : List (Option Node)) (free free' : List ℕ) (fresh room cap : ℕ) (turned : Bool) → cells ≡ cells' → free ≡ free'
-    → ◌≡◌ {A = PoolState} (record { cells = cells; free = free; fresh = fresh; room = room; cap = cap; turned = turned }) (record { cells = cells'; free = free'; fresh = fresh; room = room; cap = cap; turned = turned })
+    → ◌≡◌ {A = PoolState} (record { cells = cells; free = free; fresh = fresh; room = room; cap = cap; turned = turned })
+    (record { cells = cells'; free = free'; fresh = fresh; room = room; cap = cap; turned = turned })
 same_pool cells cells' free free' fresh room cap turned e f = λ i. record { cells = e i; free = f i; fresh = fresh; room = room; cap = cap; turned = turned }
 
 -- the free links of the nodes
@@ -56,7 +61,8 @@ pub record Step (slots : List (Option Node)) (first : Option ℕ) (free : List �
   pub pool : IsPool slots free fresh taken room cap
   pub cells_is : cells_of slots free fresh ≡ cells
 
-module _ {slots : List (Option Node)} {first : Option ℕ} {free : List ℕ} {fresh taken room cap : ℕ} {cells : List (Option Node)} (st : Step slots first free fresh taken room cap cells) (l : Listed (frees slots) first) where
+module _ {slots : List (Option Node)} {first : Option ℕ} {free : List ℕ} {fresh taken room cap : ℕ} {cells : List (Option Node)}
+    (st : Step slots first free fresh taken room cap cells) (l : Listed (frees slots) first) where
   pub step_pool : IsPool slots l.0 fresh taken room cap
   step_pool = subst (λ z. IsPool slots z fresh taken room cap) (sym (listed_is (frees slots) first l free st.chain)) st.pool
 
@@ -66,15 +72,19 @@ module _ {slots : List (Option Node)} {first : Option ℕ} {free : List ℕ} {fr
   pub step_cells : cells_of slots l.0 fresh ≡ cells
   step_cells = ap (λ (z : List ℕ). cells_of slots z fresh) (listed_is (frees slots) first l free st.chain) ∙ st.cells_is
 
-  pub step_state : (turned : Bool) → ◌≡◌ {A = PoolState} (record { cells = cells_of slots l.0 fresh; free = l.0; fresh = fresh; room = room; cap = cap; turned = turned }) (record { cells = cells; free = free; fresh = fresh; room = room; cap = cap; turned = turned })
+  pub step_state : (turned : Bool)
+      → ◌≡◌ {A = PoolState} (record { cells = cells_of slots l.0 fresh; free = l.0; fresh = fresh; room = room; cap = cap; turned = turned })
+      (record { cells = cells; free = free; fresh = fresh; room = room; cap = cap; turned = turned })
   step_state turned = same_pool _ _ _ _ fresh room cap turned step_cells step_free
 
 -- what is taken and what is spare fit
-pub pool_fits : {slots : List (Option Node)} {free : List ℕ} {fresh taken room cap : ℕ} → IsPool slots free fresh taken room cap → (min cap room - filled (cells_of slots free fresh)) + filled (cells_of slots free fresh) ≤ cap
+pub pool_fits : {slots : List (Option Node)} {free : List ℕ} {fresh taken room cap : ℕ} → IsPool slots free fresh taken room cap
+    → (min cap room - filled (cells_of slots free fresh)) + filled (cells_of slots free fresh) ≤ cap
 pool_fits p = omega (arith, p.taken_counted, p.free_counted, p.fresh_in_cap)
 
 -- the taken slots are below the room and the limit
-pub pool_room : {slots : List (Option Node)} {free : List ℕ} {fresh taken room cap : ℕ} → IsPool slots free fresh taken room cap → (filled (cells_of slots free fresh) ≡ taken) × (taken ≤ room) × (taken ≤ cap)
+pub pool_room : {slots : List (Option Node)} {free : List ℕ} {fresh taken room cap : ℕ} → IsPool slots free fresh taken room cap
+    → (filled (cells_of slots free fresh) ≡ taken) × (taken ≤ room) × (taken ≤ cap)
 pool_room p = (p.taken_counted, omega (arith, p.free_counted, p.fresh_in_room), omega (arith, p.free_counted, p.fresh_in_cap))
 
 -- one more is taken
@@ -82,9 +92,11 @@ pub filled-taken : (cells : List (Option Node)) (s : ℕ) (b : Node) → get_or 
 filled-taken cells s b e = let none = ap one_some e in omega (arith, filled-put cells s (Some b), none)
 
 -- a node at its slot is changed
-pub changed_at : (base slots new : List (Option Node)) (s : ℕ) (n : Node) (f : Node → Node) → s < length base → slots ≡ set base s (Some n) → new ≡ changed s f slots → new ≡ set base s (Some (f n))
+pub changed_at : (base slots new : List (Option Node)) (s : ℕ) (n : Node) (f : Node → Node) → s < length base → slots ≡ set base s (Some n)
+    → new ≡ changed s f slots → new ≡ set base s (Some (f n))
 changed_at base slots new s n f lt is e =
-    e ∙ ap (changed s f) is ∙ ap (λ z. set (set base s (Some n)) s (option_map f z)) (get_or-set_same base s (Some n) None lt) ∙ set-set base s (Some n) (Some (f n))
+    e ∙ ap (changed s f) is ∙ ap (λ z. set (set base s (Some n)) s (option_map f z)) (get_or-set_same base s (Some n) None lt)
+    ∙ set-set base s (Some n) (Some (f n))
 
 pub held_at : (base slots : List (Option Node)) (s : ℕ) (n : Node) → s < length base → slots ≡ set base s (Some n) → IsHeld slots s
 held_at base slots s n lt e = (n, ap (λ (z : List (Option Node)). get_or z s None) e ∙ get_or-set_same base s (Some n) None lt)
@@ -93,7 +105,8 @@ pub itself_at : (base : List (Option Node)) (s : ℕ) (n : Node) → get_or base
 itself_at base s n e = sym (set-get_or base s None) ∙ ap (λ z. set base s z) e
 
 -- a step over an equal store
-step_at : (slots new : List (Option Node)) (first : Option ℕ) (free : List ℕ) (fresh taken room cap : ℕ) (cells : List (Option Node)) → new ≡ slots → Step slots first free fresh taken room cap cells → Step new first free fresh taken room cap cells
+step_at : (slots new : List (Option Node)) (first : Option ℕ) (free : List ℕ) (fresh taken room cap : ℕ) (cells : List (Option Node)) → new ≡ slots
+    → Step slots first free fresh taken room cap cells → Step new first free fresh taken room cap cells
 step_at slots new first free fresh taken room cap cells e st = subst (λ z. Step z first free fresh taken room cap cells) (sym e) st
 
 pub new-step : (cap : ℕ) → cap ≤ 2 ^ 30 → Step [] None [] 0 0 0 cap []
@@ -149,7 +162,8 @@ module _ (x : Inside) (p : IsPool x.store x.listed.0 x.fresh x.taken x.room x.ca
   abbrev cells : List (Option Node)
   cells = cells_in x
 
-  pub extended-step : (new : List (Option Node)) (b : Node) → b.mark ≤ 1 → fresh < room → fresh < cap → new ≡ set slots fresh (Some b) → Step new first l.0 (fresh + 1) (taken + 1) room cap (put cells fresh (Some b))
+  pub extended-step : (new : List (Option Node)) (b : Node) → b.mark ≤ 1 → fresh < room → fresh < cap → new ≡ set slots fresh (Some b)
+      → Step new first l.0 (fresh + 1) (taken + 1) room cap (put cells fresh (Some b))
   extended-step new b small lr lc e = step_at (set slots fresh (Some b)) new first l.0 (fresh + 1) (taken + 1) room cap (put cells fresh (Some b)) e (record {
     chain = extended-chain slots l.0 fresh taken room cap p lr lc first l.1 b;
     pool = extended-pool slots l.0 fresh taken room cap p lr lc first l.1 b small;
@@ -191,28 +205,33 @@ module _ (x : Inside) (p : IsPool x.store x.listed.0 x.fresh x.taken x.room x.ca
   within_links None h = tt
   within_links (Some t) h = within_store t h
 
-  pub link_held : (f : Node → Option ℕ) (s : ℕ) → IsHeld cells s → IfSome (get_or cells s None) (λ n. IfSome (f n) (IsHeld cells)) → IfSome (get_or slots s None) (λ n. IfSome (f n) (IsHeld slots))
+  pub link_held : (f : Node → Option ℕ) (s : ℕ) → IsHeld cells s → IfSome (get_or cells s None) (λ n. IfSome (f n) (IsHeld cells))
+      → IfSome (get_or slots s None) (λ n. IfSome (f n) (IsHeld slots))
   link_held f s h k =
       let at = (taken_at slots l.0 fresh s h.0 h.1).at_store in
       subst (λ z. IfSome z (λ n. IfSome (f n) (IsHeld slots))) (sym at) (held_links (f h.0) (subst (λ z. IfSome z (λ n. IfSome (f n) (IsHeld cells))) h.1 k))
 
   -- a change of a taken slot's node that keeps its free link
-  pub kept-step : (new : List (Option Node)) (s : ℕ) (f : Node → Node) → ((n : Node) → n.mark ≤ 1 → (f n).mark ≤ 1) → IsHeld cells s → new ≡ changed s f slots → Keeps x new (altered s f cells)
+  pub kept-step : (new : List (Option Node)) (s : ℕ) (f : Node → Node) → ((n : Node) → n.mark ≤ 1 → (f n).mark ≤ 1) → IsHeld cells s
+      → new ≡ changed s f slots → Keeps x new (altered s f cells)
   kept-step new s f small h e =
       let at = taken_at slots l.0 fresh s h.0 h.1 in
       let is : changed s f slots ≡ set slots s (Some (f h.0)) = ap (λ z. set slots s (option_map f z)) at.at_store in
       let shows : altered s f cells ≡ put cells s (Some (f h.0)) = ap (λ z. put cells s (option_map f z)) h.1 in
       step_at (set slots s (Some (f h.0))) new first l.0 fresh taken room cap (altered s f cells) (e ∙ is) (record {
-        chain = chain_stays (frees slots) (frees (set slots s (Some (f h.0)))) s first l.0 at.away (λ t ne. links-set_other (λ n. n.free) slots s t (Some (f h.0)) ne) l.1;
+        chain = chain_stays (frees slots) (frees (set slots s (Some (f h.0)))) s first l.0 at.away (λ t ne.
+            links-set_other (λ n. n.free) slots s t (Some (f h.0)) ne) l.1;
         pool = pool-set slots l.0 fresh taken room cap p s h.0 (f h.0) (small h.0 (p.taken_known s h.0 h.1)) h.1;
         cells_is = cells-set slots l.0 fresh s (Some (f h.0)) at.away at.below (omega (arith, p.room_is, p.fresh_in_room)) ∙ sym shows;
       })
 
-  apart_of : (next : Option ℕ) → IfSome next (λ s. (0 < times s l.0) × ((k : Option ℕ) × (get_or (frees slots) s None ≡ Some k))) → (s : ℕ) → times s l.0 ≡ 0 → IfSome next (λ t. ¬ (t ≡ s))
+  apart_of : (next : Option ℕ) → IfSome next (λ s. (0 < times s l.0) × ((k : Option ℕ) × (get_or (frees slots) s None ≡ Some k))) → (s : ℕ)
+      → times s l.0 ≡ 0 → IfSome next (λ t. ¬ (t ≡ s))
   apart_of None h s away = tt
   apart_of (Some t) h s away = λ e. (let here : 0 < times s l.0 = subst (λ z. 0 < times z l.0) e h.0 in absurd (omega (arith, here, away)))
 
-  within_of : (next : Option ℕ) → IfSome next (λ s. (0 < times s l.0) × ((k : Option ℕ) × (get_or (frees slots) s None ≡ Some k))) → IfSome next (λ t. t < length slots)
+  within_of : (next : Option ℕ) → IfSome next (λ s. (0 < times s l.0) × ((k : Option ℕ) × (get_or (frees slots) s None ≡ Some k)))
+      → IfSome next (λ t. t < length slots)
   within_of None h = tt
   within_of (Some t) h = let n = links_some (λ n. n.free) slots t h.1.0 h.1.1 in within_some slots t n.0 n.1
 
@@ -225,21 +244,25 @@ module _ (x : Inside) (p : IsPool x.store x.listed.0 x.fresh x.taken x.room x.ca
 
   -- a node with another mark is held still
   marked_at_first : (mid : List (Option Node)) (s : ℕ) (h : IsHeld cells s) → mid ≡ changed s (with_mark 2) slots → mid ≡ set slots s (Some (with_mark 2 h.0))
-  marked_at_first mid s h e = (let at = taken_at slots l.0 fresh s h.0 h.1 in changed_at slots slots mid s h.0 (with_mark 2) at.within (itself_at slots s h.0 at.at_store) e)
+  marked_at_first mid s h e = (let at = taken_at slots l.0 fresh s h.0 h.1 in
+      changed_at slots slots mid s h.0 (with_mark 2) at.within (itself_at slots s h.0 at.at_store) e)
 
-  pub remarked_held : (mid : List (Option Node)) (s : ℕ) → IsHeld cells s → mid ≡ changed s (with_mark 2) slots → IsHeld mid s × IfSome first (λ t. t < length mid)
+  pub remarked_held : (mid : List (Option Node)) (s : ℕ) → IsHeld cells s → mid ≡ changed s (with_mark 2) slots
+      → IsHeld mid s × IfSome first (λ t. t < length mid)
   remarked_held mid s h e =
       let is = marked_at_first mid s h e in
       let len : length mid ≡ length slots = ap length is ∙ length-set slots s (Some (with_mark 2 h.0)) in
       (held_at slots mid s (with_mark 2 h.0) (taken_at slots l.0 fresh s h.0 h.1).within is, subst (λ n. IfSome first (λ t. t < n)) (sym len) first_within)
 
-  pub given_back-step : (mid new : List (Option Node)) (s : ℕ) → IsHeld cells s → mid ≡ changed s (with_mark 2) slots → new ≡ changed s (with_next Free first) mid → Step new (Some s) (s ∷ l.0) fresh (taken - 1) room cap (put cells s None)
+  pub given_back-step : (mid new : List (Option Node)) (s : ℕ) → IsHeld cells s → mid ≡ changed s (with_mark 2) slots
+      → new ≡ changed s (with_next Free first) mid → Step new (Some s) (s ∷ l.0) fresh (taken - 1) room cap (put cells s None)
   given_back-step mid new s h e f =
       let at = taken_at slots l.0 fresh s h.0 h.1 in
       let m : Node = with_next Free first (with_mark 2 h.0) in
       let is : new ≡ set slots s (Some m) = changed_at slots mid new s (with_mark 2 h.0) (with_next Free first) at.within (marked_at_first mid s h e) f in
       step_at (set slots s (Some m)) new (Some s) (s ∷ l.0) fresh (taken - 1) room cap (put cells s None) is (record {
-        chain = pushed (frees slots) (frees (set slots s (Some m))) s first l.0 at.away (λ t ne. links-set_other (λ n. n.free) slots s t (Some m) ne) (links-set_same (λ n. n.free) slots s (Some m) at.within) l.1;
+        chain = pushed (frees slots) (frees (set slots s (Some m))) s first l.0 at.away (λ t ne. links-set_other (λ n. n.free) slots s t (Some m) ne)
+            (links-set_same (λ n. n.free) slots s (Some m) at.within) l.1;
         pool = given_back-pool slots l.0 fresh taken room cap p s h.0 h.1 m refl;
         cells_is = given_back-cells slots l.0 fresh taken room cap p s h.0 h.1 m;
       })
@@ -256,9 +279,11 @@ module _ (x : Inside) (p : IsPool x.store x.listed.0 x.fresh x.taken x.room x.ca
     by_cell (Some n) e = absurd (let lt = (taken_at slots l.0 fresh s n e).below in omega (arith, lt, le))
 
   -- what lies at a slot that was ever taken: a taken cell, or one that was given back
-  known_at : (s k : ℕ) → s < fresh → IfSome (get_or slots s None) (λ n. k ≡ n.mark) → ((k ≤ 1) × ((n : Node) × (get_or cells s None ≡ Some n) × (k ≡ n.mark))) ⊎ ((k ≡ 2) × (get_or cells s None ≡ None))
+  known_at : (s k : ℕ) → s < fresh → IfSome (get_or slots s None) (λ n. k ≡ n.mark)
+      → ((k ≤ 1) × ((n : Node) × (get_or cells s None ≡ Some n) × (k ≡ n.mark))) ⊎ ((k ≡ 2) × (get_or cells s None ≡ None))
   known_at s k lt read = elim (one_or_more (times s l.0)) [
-    | inl away ↦ (let here : get_or cells s None ≡ Some node.0 = get_or-without_other (take fresh slots) l.0 s away ∙ get_or-take fresh slots s None lt ∙ node.1 in
+    | inl away ↦ (let here : get_or cells s None ≡ Some node.0 =
+        get_or-without_other (take fresh slots) l.0 s away ∙ get_or-take fresh slots s None lt ∙ node.1 in
         inl (subst (λ z. z ≤ 1) (sym mark) (p.taken_known s node.0 here), (node.0, here, mark)))
     | inr h ↦ inr (mark ∙ eqb-true node.0.mark 2 (sym (ap is_given_back node.1) ∙ p.free_known s h), get_or-without_same (take fresh slots) l.0 s h)
   ] where
@@ -269,7 +294,8 @@ module _ (x : Inside) (p : IsPool x.store x.listed.0 x.fresh x.taken x.room x.ca
     mark = subst (λ z. IfSome z (λ n. k ≡ n.mark)) node.1 read
 
   -- a slot is taken and not marked, as its mark says
-  pub unmarked_held : (turned : Bool) (s k : ℕ) → s < fresh → IfSome (get_or slots s None) (λ n. k ≡ n.mark) → nat_eq k (mark_of turned false) ≡ is_unmarked_node turned (get_or cells s None)
+  pub unmarked_held : (turned : Bool) (s k : ℕ) → s < fresh → IfSome (get_or slots s None) (λ n. k ≡ n.mark)
+      → nat_eq k (mark_of turned false) ≡ is_unmarked_node turned (get_or cells s None)
   unmarked_held turned s k lt read = elim (known_at s k lt read) [
     | inl h ↦ ap (λ (z : ℕ). nat_eq z (mark_of turned false)) h.1.2 ∙ sym (ap (is_unmarked_node turned) h.1.1)
     | inr h ↦ ap (λ (z : ℕ). nat_eq z (mark_of turned false)) h.0 ∙ two_apart turned ∙ sym (ap (is_unmarked_node turned) h.1)
@@ -281,7 +307,8 @@ module _ (x : Inside) (p : IsPool x.store x.listed.0 x.fresh x.taken x.room x.ca
 
   -- a taken slot's word
   pub word_there : (s : ℕ) → IsHeld cells s → (w : ℕ) → w ≡ word_beside (get_or slots s None) → IfSome (get_or cells s None) (λ n. w ≡ word_of n.body)
-  word_there s h w e = subst (λ z. IfSome z (λ n. w ≡ word_of n.body)) (sym h.1) (e ∙ ap word_beside (taken_at slots l.0 fresh s h.0 h.1).at_store ∙ word-taken h.0 (p.taken_known s h.0 h.1))
+  word_there s h w e = subst (λ z. IfSome z (λ n. w ≡ word_of n.body)) (sym h.1)
+      (e ∙ ap word_beside (taken_at slots l.0 fresh s h.0 h.1).at_store ∙ word-taken h.0 (p.taken_known s h.0 h.1))
 
   -- a slot with a word is taken
   pub worded_held : (s w : ℕ) → w ≢ ask → w ≡ word_beside (get_or slots s None) → (n : Node) × (get_or cells s None ≡ Some n) × (w ≡ word_of n.body)
@@ -296,9 +323,11 @@ module _ (x : Inside) (p : IsPool x.store x.listed.0 x.fresh x.taken x.room x.ca
     node = word-node (get_or slots s None) w ne e
 
   -- so is a slot taken and protected: by its mark, where its node is protected
-  pub protected_held : (s k : ℕ) → s < fresh → IfSome (get_or slots s None) (λ n. k ≡ n.mark) → is_protected_node (get_or slots s None) ≡ true → not (nat_eq k 2) ≡ is_protected_node (get_or cells s None)
+  pub protected_held : (s k : ℕ) → s < fresh → IfSome (get_or slots s None) (λ n. k ≡ n.mark) → is_protected_node (get_or slots s None) ≡ true
+      → not (nat_eq k 2) ≡ is_protected_node (get_or cells s None)
   protected_held s k lt read is = elim (known_at s k lt read) [
-    | inl h ↦ ap not (ne_eqb k 2 (λ e. (let small = h.0 in absurd (omega (arith, small, e))))) ∙ sym (ap is_protected_node (h.1.1 ∙ sym (taken_at slots l.0 fresh s h.1.0 h.1.1).at_store) ∙ is)
+    | inl h ↦ ap not (ne_eqb k 2 (λ e. (let small = h.0 in absurd (omega (arith, small, e)))))
+        ∙ sym (ap is_protected_node (h.1.1 ∙ sym (taken_at slots l.0 fresh s h.1.0 h.1.1).at_store) ∙ is)
     | inr h ↦ ap (λ (z : ℕ). not (nat_eq z 2)) h.0 ∙ sym (ap is_protected_node h.1)
   ]
 
@@ -320,7 +349,8 @@ module _ (x : Inside) (p : IsPool x.store x.listed.0 x.fresh x.taken x.room x.ca
     abbrev pub front_node : (n : Node) × (get_or slots s None ≡ Some n) × (n.free ≡ front.2)
     front_node = links_some (λ n. n.free) slots s front.2 front.3
 
-    held_of : (next : Option ℕ) → IfSome next (λ t. (0 < times t front.0) × ((k : Option ℕ) × (get_or (frees slots) t None ≡ Some k))) → IfSome next (IsHeld slots)
+    held_of : (next : Option ℕ) → IfSome next (λ t. (0 < times t front.0) × ((k : Option ℕ) × (get_or (frees slots) t None ≡ Some k)))
+        → IfSome next (IsHeld slots)
     held_of None h = tt
     held_of (Some t) h = let n = links_some (λ n. n.free) slots t h.1.0 h.1.1 in (n.0, n.1)
 
@@ -328,7 +358,8 @@ module _ (x : Inside) (p : IsPool x.store x.listed.0 x.fresh x.taken x.room x.ca
     front_held = (front_node.0, front_node.1)
 
     pub front_link : IfSome (get_or slots s None) (λ n. IfSome n.free (IsHeld slots))
-    front_link = subst (λ z. IfSome z (λ n. IfSome n.free (IsHeld slots))) (sym front_node.1) (subst (λ z. IfSome z (IsHeld slots)) (sym front_node.2) (held_of front.2 (first_some (frees slots) front.2 front.0 front.4)))
+    front_link = subst (λ z. IfSome z (λ n. IfSome n.free (IsHeld slots))) (sym front_node.1)
+        (subst (λ z. IfSome z (IsHeld slots)) (sym front_node.2) (held_of front.2 (first_some (frees slots) front.2 front.0 front.4)))
 
     pub front_split : l.0 ≡ s ∷ front.0
     front_split = front.1
@@ -339,12 +370,14 @@ module _ (x : Inside) (p : IsPool x.store x.listed.0 x.fresh x.taken x.room x.ca
     pub front_below : s < cap
     front_below = omega (arith, reused-below slots l.0 fresh taken room cap p s front.0 front.1 front_held, p.fresh_in_cap)
 
-    pub reused-step : (new : List (Option Node)) (b : Node) (next : Option ℕ) → b.mark ≤ 1 → IfSome (get_or slots s None) (λ n. next ≡ n.free) → new ≡ set slots s (Some b) → Step new next front.0 fresh (taken + 1) room cap (put cells s (Some b))
+    pub reused-step : (new : List (Option Node)) (b : Node) (next : Option ℕ) → b.mark ≤ 1 → IfSome (get_or slots s None) (λ n. next ≡ n.free)
+        → new ≡ set slots s (Some b) → Step new next front.0 fresh (taken + 1) room cap (put cells s (Some b))
     reused-step new b next small led e =
         let n_is : next ≡ front.2 = subst (λ z. IfSome z (λ n. next ≡ n.free)) front_node.1 led ∙ front_node.2 in
         let away = reused-away slots l.0 fresh taken room cap p s front.0 front.1 front_held in
         step_at (set slots s (Some b)) new next front.0 fresh (taken + 1) room cap (put cells s (Some b)) e (record {
-          chain = chain_stays (frees slots) (frees (set slots s (Some b))) s next front.0 away (λ t ne. links-set_other (λ n. n.free) slots s t (Some b) ne) (subst (λ z. IsChain (frees slots) z front.0) (sym n_is) front.4);
+          chain = chain_stays (frees slots) (frees (set slots s (Some b))) s next front.0 away (λ t ne.
+              links-set_other (λ n. n.free) slots s t (Some b) ne) (subst (λ z. IsChain (frees slots) z front.0) (sym n_is) front.4);
           pool = reused-pool slots l.0 fresh taken room cap p s front.0 front.1 front_held b small;
           cells_is = reused-cells slots l.0 fresh taken room cap p s front.0 front.1 front_held b;
         })

@@ -75,7 +75,8 @@ popping_begins init c lt none = record {
 }
 
 -- a slot is popped
-module _ (init : ArenaState) (c : ℕ) (self : ArenaState) (inv : Popping init c self) (s : ℕ) (one : ArenaState) (split : chain_at self c ≡ s ∷ chain_at one c) (rest : one ≡ record self { chains = set self.chains c (chain_at one c) }) (free : IsLoose one s) where
+module _ (init : ArenaState) (c : ℕ) (self : ArenaState) (inv : Popping init c self) (s : ℕ) (one : ArenaState)
+    (split : chain_at self c ≡ s ∷ chain_at one c) (rest : one ≡ record self { chains = set self.chains c (chain_at one c) }) (free : IsLoose one s) where
   pub here : 0 < times s (chain_at self c)
   here = subst (λ z. 0 < times s z) (sym split) (omega (arith, one_if-same s))
 
@@ -129,7 +130,8 @@ module _ (init : ArenaState) (c : ℕ) (self : ArenaState) (inv : Popping init c
         within = within_one;
         chains = chains_from;
         cap = ap (λ (v : ArenaState). v.cap) rest ∙ inv.cap;
-        gray = reverse-cons s one.gray (kept_of init (chain_at one c)) ∙ (λ i. reverse (gray_is i) ++ sym (ap (kept_of init) split ∙ kept-yes init s (chain_at one c) mark) i) ∙ inv.gray;
+        gray = reverse-cons s one.gray (kept_of init (chain_at one c))
+            ∙ (λ i. reverse (gray_is i) ++ sym (ap (kept_of init) split ∙ kept-yes init s (chain_at one c) mark) i) ∙ inv.gray;
         left = λ t h. ap (λ (z : List (Option Taken)). get_or z t None) cells_are ∙ inv.left t (was_left t h);
         left_in = λ t h. inv.left_in t (was_left t h);
         not_gray = λ t h. elim (one_or_two s t) [

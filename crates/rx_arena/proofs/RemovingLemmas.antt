@@ -1,5 +1,6 @@
 -- A slot leaves its chain: what the chain is without it, and what the arena is then.
-use Rattle.std.proofs.Common.{◌≡◌, ◌≢◌, ℕ, zero, suc, ◌+◌, ◌-◌, ◌<◌, ◌≤◌, inl, inr, List, [], ◌∷◌, ◌++◌, length, get_or, set, Some, None, IfSome, refl, sym, ap, subst, ◌∙◌, arith}
+use Rattle.std.proofs.Common.{◌≡◌, ◌≢◌, ℕ, zero, suc, ◌+◌, ◌-◌, ◌<◌, ◌≤◌, inl, inr, List, [], ◌∷◌, ◌++◌}
+use Rattle.std.proofs.Common.{length, get_or, set, Some, None, IfSome, refl, sym, ap, subst, ◌∙◌, arith}
 use Rattle.std.specs.Prelude.{Option, MatchOption, cond, nat_eq, not}
 use Rattle.std.proofs.lemmas.List.{append_assoc, length-append, length-set, set-set, set-get_or}
 use Rattle.std.proofs.lemmas.Bool.Decides.{eqb_tells}
@@ -37,13 +38,15 @@ besides-behind s [] rest once = elim (eqb_tells s s) [
 ]
 besides-behind s (f ∷ fs) rest once = elim (eqb_tells f s) [
   | inl h ↦ (let one : one_if f s ≡ 1 = ap (λ y. cond y 1 0) h.0 in absurd (omega (arith, once s, one, times-append s fs (s ∷ rest), one_if-same s)))
-  | inr h ↦ ap (λ y. cond (not y) (f ∷ besides s (fs ++ s ∷ rest)) (besides s (fs ++ s ∷ rest))) h.0 ∙ ap (λ z. f ∷ z) (besides-behind s fs rest (λ t. omega (arith, once t)))
+  | inr h ↦ ap (λ y. cond (not y) (f ∷ besides s (fs ++ s ∷ rest)) (besides s (fs ++ s ∷ rest))) h.0
+      ∙ ap (λ z. f ∷ z) (besides-behind s fs rest (λ t. omega (arith, once t)))
 ]
 
 pub besides-second : (b s : ℕ) (front rest : List ℕ) → ((t : ℕ) → times t (front ++ b ∷ s ∷ rest) ≤ 1) → besides s (front ++ b ∷ s ∷ rest) ≡ front ++ b ∷ rest
 besides-second b s front rest once =
     let moved : (front ++ b ∷ []) ++ s ∷ rest ≡ front ++ b ∷ s ∷ rest = append_assoc front (b ∷ []) (s ∷ rest) in
-    ap (besides s) (sym moved) ∙ besides-behind s (front ++ b ∷ []) rest (λ t. subst (λ z. times t z ≤ 1) (sym moved) (once t)) ∙ append_assoc front (b ∷ []) rest
+    ap (besides s) (sym moved) ∙ besides-behind s (front ++ b ∷ []) rest (λ t. subst (λ z. times t z ≤ 1) (sym moved) (once t))
+    ∙ append_assoc front (b ∷ []) rest
 
 -- the chains are one slot shorter together
 pub total-skipped : (m : ℕ) (css : List (List ℕ)) (i b s : ℕ) (front rest : List ℕ) → i < length css → get_or css i [] ≡ front ++ b ∷ s ∷ rest → m ≡ total css
@@ -62,19 +65,22 @@ module _ (x : Inside) (law : IsArena (opened x)) (c b s : ℕ) (front rest : Lis
 
   pub before_in : InChain (opened x) b
   before_in =
-      let here : 0 < times b (chain_at (opened x) c) = subst (λ z. 0 < times b z) (sym split) (omega (arith, times-append b front (b ∷ s ∷ rest), one_if-same b)) in
+      let here : 0 < times b (chain_at (opened x) c) = subst (λ z. 0 < times b z) (sym split)
+      (omega (arith, times-append b front (b ∷ s ∷ rest), one_if-same b)) in
       omega (arith, here, times_in-at b x.chained.0 c)
 
   pub slot_in : InChain (opened x) s
   slot_in =
-      let here : 0 < times s (chain_at (opened x) c) = subst (λ z. 0 < times s z) (sym split) (omega (arith, times-append s front (b ∷ s ∷ rest), one_if-same s)) in
+      let here : 0 < times s (chain_at (opened x) c) = subst (λ z. 0 < times s z) (sym split)
+      (omega (arith, times-append s front (b ∷ s ∷ rest), one_if-same s)) in
       omega (arith, here, times_in-at s x.chained.0 c)
 
   pub before_held : IsHeld x.pool.cells b
   before_held = held_taken x law b (law.chained_taken b before_in)
 
   row : IsChain (chain_links x.pool.cells) (get_or x.heads c None) ((front ++ b ∷ []) ++ s ∷ rest)
-  row = subst (IsChain (chain_links x.pool.cells) (get_or x.heads c None)) (split ∙ sym (append_assoc front (b ∷ []) (s ∷ rest))) (chains.chain_at (chain_links x.pool.cells) x.heads x.chained.0 c x.chained.1)
+  row = subst (IsChain (chain_links x.pool.cells) (get_or x.heads c None)) (split ∙ sym (append_assoc front (b ∷ []) (s ∷ rest)))
+      (chains.chain_at (chain_links x.pool.cells) x.heads x.chained.0 c x.chained.1)
 
   abbrev on : (next : Option ℕ) × (get_or (chain_links x.pool.cells) s None ≡ Some next) × IsChain (chain_links x.pool.cells) next rest
   on = chain_after (chain_links x.pool.cells) (get_or x.heads c None) (front ++ b ∷ []) s rest row
@@ -87,11 +93,13 @@ module _ (x : Inside) (law : IsArena (opened x)) (c b s : ℕ) (front rest : Lis
     next_is = subst (λ z. IfSome z (λ n. next ≡ n.chain)) node.1 led ∙ node.2
 
     pub next_held : IfSome next (IsHeld x.pool.cells)
-    next_held = subst (λ z. IfSome z (IsHeld x.pool.cells)) (sym next_is) (led_held_by x.pool.cells (λ n. n.chain) rest on.0 (first_some (chain_links x.pool.cells) on.0 rest on.2))
+    next_held = subst (λ z. IfSome z (IsHeld x.pool.cells)) (sym next_is)
+        (led_held_by x.pool.cells (λ n. n.chain) rest on.0 (first_some (chain_links x.pool.cells) on.0 rest on.2))
 
     pub next_apart : IfSome next (λ t. ¬ (t ≡ b))
     next_apart = subst (λ z. IfSome z (λ t. ¬ (t ≡ b))) (sym next_is)
-        (led_apart_by x.pool.cells (λ n. n.chain) rest on.0 (first_some (chain_links x.pool.cells) on.0 rest on.2) b (omega (arith, once b, times-append b front (b ∷ s ∷ rest), one_if-same b)))
+        (led_apart_by x.pool.cells (λ n. n.chain) rest on.0 (first_some (chain_links x.pool.cells) on.0 rest on.2) b
+        (omega (arith, once b, times-append b front (b ∷ s ∷ rest), one_if-same b)))
 
     pub skips : (q : PoolState) → c < length x.chained.0 → q ≡ record x.pool { cells = altered b (with_next Chain next) x.pool.cells }
         → ArenaStep q x.heads x.gray_first (record (opened x) { chains = set x.chained.0 c (front ++ b ∷ rest) })
@@ -112,7 +120,8 @@ pub seeking_begins : (ss : List ℕ) (sought : ℕ) (next : Option Slot) → IsF
 seeking_begins ss sought next first = record { walk = walk_begins ss next first; last_is = refl; away = refl }
 
 module _ (ss : List ℕ) (sought : ℕ) (last next : Option Slot) (inv : Seeking ss sought last next) (s : Slot) (is : next ≡ Some s) where
-  pub seeking_on : s.0 ≢ sought → (far : Option Slot) → ((before after : List ℕ) → ss ≡ before ++ s.0 ∷ after → IsFirst far after) → Seeking ss sought (Some s) far
+  pub seeking_on : s.0 ≢ sought → (far : Option Slot) → ((before after : List ℕ) → ss ≡ before ++ s.0 ∷ after → IsFirst far after)
+      → Seeking ss sought (Some s) far
   seeking_on ne far found = record {
     walk = walk_on ss next inv.walk s is far found;
     last_is = (inv.walk.before, refl);
@@ -148,5 +157,6 @@ popped_slot a b c s (Some t) law row first after =
     let split = row.1 in
     let popped : chain_at a c ≡ t.0 ∷ chain_at b c = first in
     let is : chain_at b c ≡ row.0 = cc in
-    let left : besides s (chain_at a c) ≡ row.0 = ap (besides s) split ∙ besides-behind s [] row.0 (λ u. subst (λ z. times u z ≤ 1) split (chain_once a law c u)) in
+    let left : besides s (chain_at a c) ≡ row.0 = ap (besides s) split
+    ∙ besides-behind s [] row.0 (λ u. subst (λ z. times u z ≤ 1) split (chain_once a law c u)) in
     after ∙ ap (λ z. record a { chains = set a.chains c z }) (is ∙ sym left)

@@ -27,7 +27,8 @@ pub sorting_begins : (init : ArenaState) (c : ℕ) → c < length init.chains �
 sorting_begins init c lt none = record { popping = popping_begins init c lt none; cells = refl; spare = refl }
 
 -- a slot is popped
-module _ (init : ArenaState) (c : ℕ) (self : ArenaState) (inv : Sorting init c self) (s : ℕ) (one : ArenaState) (split : chain_at self c ≡ s ∷ chain_at one c) (rest : one ≡ record self { chains = set self.chains c (chain_at one c) }) (free : IsLoose one s) where
+module _ (init : ArenaState) (c : ℕ) (self : ArenaState) (inv : Sorting init c self) (s : ℕ) (one : ArenaState)
+    (split : chain_at self c ≡ s ∷ chain_at one c) (rest : one ≡ record self { chains = set self.chains c (chain_at one c) }) (free : IsLoose one s) where
   cells_stay : one.cells ≡ self.cells
   cells_stay = cells_are init c self inv.popping s one split rest free
 
@@ -51,21 +52,24 @@ module _ (init : ArenaState) (c : ℕ) (self : ArenaState) (inv : Sorting init c
       })
 
   -- a slot that is not marked is given back
-  pub sorted_unmarked : (two : ArenaState) → marked_at one s ≡ false → two ≡ record one { cells = put one.cells s None; spare = one.spare + 1 } → Sorting init c two
+  pub sorted_unmarked : (two : ArenaState) → marked_at one s ≡ false → two ≡ record one { cells = put one.cells s None; spare = one.spare + 1 }
+      → Sorting init c two
   sorted_unmarked two m e =
       let drops : dropped_of init (chain_at self c) ≡ s ∷ dropped_of init (chain_at one c) =
       ap (dropped_of init) split ∙ dropped-no init s (chain_at one c) (sym init_mark ∙ m) in
       let spare_is : one.spare ≡ self.spare = ap (λ (v : ArenaState). v.spare) rest in
       let longer : length (dropped_of init (chain_at self c)) ≡ length (dropped_of init (chain_at one c)) + 1 = ap length drops ∙ (omega arith) in
       subst (Sorting init c) (sym e) (record {
-        popping = popped_unmarked init c self inv.popping s one split rest free _ (put one.cells s None) (one.spare + 1) m refl (λ t ne. get_or-put_other one.cells s t None ne);
+        popping = popped_unmarked init c self inv.popping s one split rest free _ (put one.cells s None) (one.spare + 1) m refl (λ t ne.
+            get_or-put_other one.cells s t None ne);
         cells = (λ i. emptied (put (cells_stay i) s None) (dropped_of init (chain_at one c))) ∙ ap (emptied self.cells) (sym drops) ∙ inv.cells;
         spare = omega (arith, spare_is, longer, inv.spare);
       })
 
 -- nothing is left of the chain
 pub sorted : (init : ArenaState) (c : ℕ) (self : ArenaState) → Sorting init c self → chain_at self c ≡ []
-    → (self.cells ≡ emptied init.cells (dropped_from init c)) × (reverse self.gray ≡ kept_in init c) × (self.chains ≡ set init.chains c []) × (self.spare ≡ init.spare + length (dropped_from init c))
+    → (self.cells ≡ emptied init.cells (dropped_from init c)) × (reverse self.gray ≡ kept_in init c) × (self.chains ≡ set init.chains c [])
+    × (self.spare ≡ init.spare + length (dropped_from init c))
 sorted init c self inv none =
     let drops : dropped_of init (chain_at self c) ≡ [] = ap (dropped_of init) none in
     let count : length (dropped_of init (chain_at self c)) ≡ 0 = ap length drops in
@@ -84,7 +88,8 @@ pub record Restoring (init : ArenaState) (c : ℕ) (self : ArenaState) : Type 0 
   pub built : reverse self.gray ++ chain_at self c ≡ reverse init.gray
   pub loose : (t : ℕ) → 0 < times t self.gray → IsLoose self t
 
-pub restoring_begins : (init : ArenaState) (c : ℕ) → c < length init.chains → chain_at init c ≡ [] → ((t : ℕ) → 0 < times t init.gray → IsLoose init t) → Restoring init c init
+pub restoring_begins : (init : ArenaState) (c : ℕ) → c < length init.chains → chain_at init c ≡ []
+    → ((t : ℕ) → 0 < times t init.gray → IsLoose init t) → Restoring init c init
 restoring_begins init c lt none loose = record {
   within = lt;
   same = ap (λ z. record init { chains = z }) (sym (set-get_or init.chains c []));
@@ -92,7 +97,8 @@ restoring_begins init c lt none loose = record {
   loose = loose;
 }
 
-module _ (init : ArenaState) (c : ℕ) (self : ArenaState) (inv : Restoring init c self) (s : ℕ) (one : ArenaState) (split : self.gray ≡ s ∷ one.gray) (rest : one ≡ record self { gray = one.gray }) (away : times s one.gray ≡ 0) where
+module _ (init : ArenaState) (c : ℕ) (self : ArenaState) (inv : Restoring init c self) (s : ℕ) (one : ArenaState) (split : self.gray ≡ s ∷ one.gray)
+    (rest : one ≡ record self { gray = one.gray }) (away : times s one.gray ≡ 0) where
   one_chains : one.chains ≡ self.chains
   one_chains = ap (λ (v : ArenaState). v.chains) rest
 
@@ -108,9 +114,14 @@ module _ (init : ArenaState) (c : ℕ) (self : ArenaState) (inv : Restoring init
       let at : get_or (set one.chains c (s ∷ chain_at one c)) c [] ≡ s ∷ chain_at one c = get_or-set_same one.chains c (s ∷ chain_at one c) [] lt in
       let old : chain_at one c ≡ chain_at self c = ap (λ (z : List (List ℕ)). get_or z c []) one_chains in
       let chains : set one.chains c (s ∷ chain_at one c) ≡ set init.chains c (s ∷ chain_at one c) =
-      ap (λ z. set z c (s ∷ chain_at one c)) (one_chains ∙ ap (λ (v : ArenaState). v.chains) inv.same) ∙ set-set init.chains c (chain_at self c) (s ∷ chain_at one c) in
-      let base : record one { chains = set init.chains c (s ∷ chain_at one c) } ≡ record init { chains = set init.chains c (s ∷ chain_at one c); gray = one.gray } =
-      ap (λ (v : ArenaState). record v { chains = set init.chains c (s ∷ chain_at one c) }) (rest ∙ ap (λ (v : ArenaState). record v { gray = one.gray }) inv.same) in
+      ap (λ z. set z c (s ∷ chain_at one c)) (one_chains ∙ ap (λ (v : ArenaState). v.chains) inv.same)
+      ∙ set-set init.chains c (chain_at self c) (s ∷ chain_at one c) in
+      let base : record one { chains = set init.chains c (s ∷ chain_at one c) } ≡ record init {
+        chains = set init.chains c (s ∷ chain_at one c);
+        gray = one.gray;
+      } =
+      ap (λ (v : ArenaState). record v { chains = set init.chains c (s ∷ chain_at one c) })
+      (rest ∙ ap (λ (v : ArenaState). record v { gray = one.gray }) inv.same) in
       subst (Restoring init c) (sym e) (record {
         within = omega (arith, lt, length-set one.chains c (s ∷ chain_at one c));
         same = ap (λ z. record one { chains = z }) chains ∙ base ∙ ap (λ z. record init { chains = set init.chains c z; gray = one.gray }) (sym at);
@@ -124,7 +135,8 @@ module _ (init : ArenaState) (c : ℕ) (self : ArenaState) (inv : Restoring init
         ];
       })
 
-pub restored_all : (init : ArenaState) (c : ℕ) (self : ArenaState) → Restoring init c self → self.gray ≡ [] → self ≡ record init { chains = set init.chains c (reverse init.gray); gray = [] }
+pub restored_all : (init : ArenaState) (c : ℕ) (self : ArenaState) → Restoring init c self → self.gray ≡ []
+    → self ≡ record init { chains = set init.chains c (reverse init.gray); gray = [] }
 restored_all init c self inv none =
     let chain : chain_at self c ≡ reverse init.gray = ap (λ z. reverse z ++ chain_at self c) (sym none) ∙ inv.built in
     inv.same ∙ (λ i. record init { chains = set init.chains c (chain i); gray = none i })

@@ -39,7 +39,8 @@ total-behind m n (c ∷ d ∷ css) one e = absurd (omega (arith, one))
 pub total-pushed : (m : ℕ) (css : List (List ℕ)) (i s : ℕ) → i < length css → m ≡ total css → m + 1 ≡ total (set css i (s ∷ get_or css i []))
 total-pushed m css i s lt e = let more = total-set css i (s ∷ get_or css i []) lt in omega (arith, more, e)
 
-pub total-popped : (m : ℕ) (css : List (List ℕ)) (i s : ℕ) (rest : List ℕ) → i < length css → get_or css i [] ≡ s ∷ rest → m ≡ total css → (0 < m) × (m - 1 ≡ total (set css i rest))
+pub total-popped : (m : ℕ) (css : List (List ℕ)) (i s : ℕ) (rest : List ℕ) → i < length css → get_or css i [] ≡ s ∷ rest → m ≡ total css
+    → (0 < m) × (m - 1 ≡ total (set css i rest))
 total-popped m css i s rest lt split e =
     let more = total-set css i rest lt in
     let long : length (get_or css i []) ≡ 1 + length rest = ap length split ∙ (omega arith) in
@@ -60,7 +61,8 @@ sum_zero (suc n) = omega (arith, sum_zero n)
 
 sum_past : (t n : ℕ) → n ≤ t → sum_to (λ s. one_if t s) n ≡ 0
 sum_past t zero le = refl
-sum_past t (suc n) le = let here = one_if-other t n (λ e. absurd (omega (arith, e, le))) in let rest = sum_past t n (omega (arith, le)) in omega (arith, here, rest)
+sum_past t (suc n) le = let here = one_if-other t n (λ e. absurd (omega (arith, e, le))) in let rest = sum_past t n (omega (arith, le)) in
+    omega (arith, here, rest)
 
 sum_one : (t n : ℕ) → t < n → sum_to (λ s. one_if t s) n ≡ 1
 sum_one t zero lt = absurd (omega arith)
@@ -117,7 +119,8 @@ pub total_small : (a : ArenaState) → IsArena a → total a.chains ≤ 2 ^ 30
 total_small a law = let few = total_few a.chains a.cap law.alone (λ s lt. law.below s (law.chained_taken s lt)) in omega (arith, few, law.small_cap)
 
 -- where the chains hold as many slots as there are below n, each of these stands in one
-pub all_inside : (a : ArenaState) → IsArena a → (n : ℕ) → ((s : ℕ) → n ≤ s → taken_at a s ≡ None) → total a.chains ≡ n → (s : ℕ) → s < n → times_in s a.chains ≡ 1
+pub all_inside : (a : ArenaState) → IsArena a → (n : ℕ) → ((s : ℕ) → n ≤ s → taken_at a s ≡ None) → total a.chains ≡ n → (s : ℕ) → s < n
+    → times_in s a.chains ≡ 1
 all_inside a law n past e s lt = total_full a.chains n law.alone (λ t here. below t here) e s lt where
   below : (t : ℕ) → 0 < times_in t a.chains → t < n
   below t here = elim (less_or_not t n) [

@@ -42,7 +42,8 @@ pub record Walk (ss : List ℕ) (next : Option Slot) : Type 0 where
 abbrev pub walk_begins : (ss : List ℕ) (next : Option Slot) → IsFirst next ss → Walk ss next
 walk_begins ss next h = record { before = []; after = ss; split = refl; first = h }
 
-left_of-split : (before after : List ℕ) (next : Option Slot) → IsFirst next after → ((t : ℕ) → times t (before ++ after) ≤ 1) → left_of next (before ++ after) ≡ after
+left_of-split : (before after : List ℕ) (next : Option Slot) → IsFirst next after → ((t : ℕ) → times t (before ++ after) ≤ 1)
+    → left_of next (before ++ after) ≡ after
 left_of-split before after None h once = sym h
 left_of-split before after (Some s) h once =
     subst (λ z. rest_from s.0 (before ++ z) ≡ z) (sym h.1) (rest_from-first s.0 before h.0 (subst (λ z. (t : ℕ) → times t (before ++ z) ≤ 1) h.1 once))
@@ -87,7 +88,8 @@ module _ (ss : List ℕ) (next : Option Slot) (w : Walk ss next) (s : Slot) (is 
   pub passed_is : (k : ℕ) → k ≡ s.0 → 0 < times k (w.before ++ s.0 ∷ [])
   passed_is k e = subst (λ z. 0 < times z (w.before ++ s.0 ∷ [])) (sym e) (omega (arith, one_if-same s.0, times-append s.0 w.before (s.0 ∷ [])))
 
-  pub left_less : (far : Option Slot) → ((before after : List ℕ) → ss ≡ before ++ s.0 ∷ after → IsFirst far after) → ((t : ℕ) → times t ss ≤ 1) → length (left_of far ss) < length (left_of next ss)
+  pub left_less : (far : Option Slot) → ((before after : List ℕ) → ss ≡ before ++ s.0 ∷ after → IsFirst far after) → ((t : ℕ) → times t ss ≤ 1)
+      → length (left_of far ss) < length (left_of next ss)
   left_less far found once =
       let now = ap length (left_of-walk ss next w once ∙ here.1) in
       let then = ap length (left_of-walk ss far (walk_on far found) once) in

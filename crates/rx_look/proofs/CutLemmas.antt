@@ -1,5 +1,6 @@
 -- How integers and names are cut, whatever follows them that does not go on with them.
-use Rattle.std.proofs.Common.{◌≡◌, ℕ, ◌+◌, ◌^◌, suc, true, false, ◌||◌, List, [], ◌∷◌, ◌++◌, refl, pos, negsuc, ℤ, neg_ℤ, sym, ap, ◌∙◌, append_assoc, inl, inr, length, arith, length-append}
+use Rattle.std.proofs.Common.{◌≡◌, ℕ, ◌+◌, ◌^◌, suc, true, false, ◌||◌, List, [], ◌∷◌, ◌++◌, refl, pos, negsuc}
+use Rattle.std.proofs.Common.{ℤ, neg_ℤ, sym, ap, ◌∙◌, append_assoc, inl, inr, length, arith, length-append}
 use Rattle.std.specs.Prelude.{nat_lt, flat_map, decimal}
 use Rattle.std.specs.Fmt.{signed_decimal}
 use Rattle.std.specs.List.{prefix_len, list_all}
@@ -28,13 +29,15 @@ digits_all [] h = refl
 digits_all (d ∷ ds) h = let k = digit_from_value d h.0 in rw (le-leb 48 d k.0, le-leb d 57 k.1, digits_all ds h.1) refl
 
 -- an integer, by its sign
-natural_cut : (ds r : List ℕ) (n : ℕ) → IsNumeral 10 ds → digits_value 10 ds ≡ n → is_i32 (pos n) ≡ true → Stops r → kinds_from 0 (ds ++ r) ≡ Integer (pos n) ∷ kinds_from 0 r
+natural_cut : (ds r : List ℕ) (n : ℕ) → IsNumeral 10 ds → digits_value 10 ds ≡ n → is_i32 (pos n) ≡ true → Stops r
+    → kinds_from 0 (ds ++ r) ≡ Integer (pos n) ∷ kinds_from 0 r
 natural_cut [] r n h e f s = absurd (omega (arith, h.0))
 natural_cut (d ∷ ds) r n h e f s =
     let k = and_parts (is_digit d) (list_all is_digit ds) (digits_all (d ∷ ds) h.1) in
     number_cut d ds r k.0 k.1 s.no_digit (ap (λ m. is_i32 (pos m)) e ∙ f) ∙ ap (λ m. Integer (pos m) ∷ kinds_from 0 r) e
 
-minus_cut : (ds r : List ℕ) (n : ℕ) → IsNumeral 10 ds → digits_value 10 ds ≡ n → is_i32 (neg_ℤ (pos n)) ≡ true → Stops r → kinds_from 0 (45 ∷ ds ++ r) ≡ Integer (neg_ℤ (pos n)) ∷ kinds_from 0 r
+minus_cut : (ds r : List ℕ) (n : ℕ) → IsNumeral 10 ds → digits_value 10 ds ≡ n → is_i32 (neg_ℤ (pos n)) ≡ true → Stops r
+    → kinds_from 0 (45 ∷ ds ++ r) ≡ Integer (neg_ℤ (pos n)) ∷ kinds_from 0 r
 minus_cut [] r n h e f s = absurd (omega (arith, h.0))
 minus_cut (d ∷ ds) r n h e f s =
     let k = and_parts (is_digit d) (list_all is_digit ds) (digits_all (d ∷ ds) h.1) in

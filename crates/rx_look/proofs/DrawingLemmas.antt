@@ -1,5 +1,6 @@
 -- The graph of a term under way.
-use Rattle.std.proofs.Common.{◌≡◌, ℕ, ◌+◌, ◌-◌, ◌<◌, ◌≤◌, suc, Bool, true, false, List, [], ◌∷◌, ◌++◌, Option, Some, None, IsSome, Result, Ok, Err, OnOk, refl, sym, ap, subst, ◌∙◌, append_assoc, append-nil, arith, map, slice_get}
+use Rattle.std.proofs.Common.{◌≡◌, ℕ, ◌+◌, ◌-◌, ◌<◌, ◌≤◌, suc, Bool, true, false, List, [], ◌∷◌, ◌++◌, Option, Some, None, IsSome}
+use Rattle.std.proofs.Common.{Result, Ok, Err, OnOk, refl, sym, ap, subst, ◌∙◌, append_assoc, append-nil, arith, map, slice_get}
 use Rattle.std.specs.Prelude.{codes, min, nat_eq, nat_lt, if◌then◌else◌, unwrap_or}
 use Rattle.std.specs.List.{AllByRecursion, list_any, position_or_len}
 use Rattle.std.specs.Io.KnownBytes.{Appends}
@@ -16,7 +17,8 @@ use Rattle.rx_term.proofs.TreeLemmas.{same_tree, tree_eq_same}
 use Rattle.rx_text.specs.Written.{AppendsFront}
 use Rattle.rx_text.proofs.AppendingLemmas.{appends_both, front_after, front_before, front_within}
 use Rattle.rx_look.specs.Drawing.{AreHeld, Follows, Passes, next_found, next_lines, term_of, trees_found}
-use Rattle.rx_look.specs.Graph.{Link, edge_line, first_lines, found, graph_text, inside_links, link_line, link_lines, link_to, links, number_in, order, part_lines, rest_line, with_own}
+use Rattle.rx_look.specs.Graph.{Link, edge_line, first_lines, found, graph_text, inside_links, link_line}
+use Rattle.rx_look.specs.Graph.{link_lines, link_to, links, number_in, order, part_lines, rest_line, with_own}
 use Rattle.rx_look.specs.declared.graph.Graph.{Graph}
 use Rattle.rx_look.proofs.GraphLemmas.{AreAmong, among_inserted, first_front, lines_append, lines_later, part_in_order}
 use Rattle.rx_look.proofs.OrderLemmas.{all_append, all_begins, map_append, map_insert, place_insert, place_map}
@@ -41,11 +43,14 @@ module _ (w : Store) (sound : IsSound w) where
   same_reference : (i j : ℕ) → IsHere w i → IsHere w j → nat_eq i j ≡ tree_eq (tree_of w i) (tree_of w j)
   same_reference i j h k =
       same_from_decides (nat_eq i j) (tree_eq (tree_of w i) (tree_of w j)) (Decides-eqb i j) (
-        (λ e. let same : tree_of w j ≡ tree_of w i = sym (same_tree (tree_of w i) (tree_of w j) e) in ap (λ (t : Term). t.0) (sound.one_to_one (term_of i) (term_of j) (tree_of w i) (held_at w (term_of i) h) (held_at w (term_of j) k ∙ ap (λ u. let o : Option Tree = Some u in o) same))),
+        (λ e. let same : tree_of w j ≡ tree_of w i = sym (same_tree (tree_of w i) (tree_of w j) e) in
+            ap (λ (t : Term). t.0) (sound.one_to_one (term_of i) (term_of j) (tree_of w i) (held_at w (term_of i) h)
+            (held_at w (term_of j) k ∙ ap (λ u. let o : Option Tree = Some u in o) same))),
         (λ e. subst (λ n. tree_eq (tree_of w i) (tree_of w n) ≡ true) e (tree_eq_same (tree_of w i))),
       )
 
-  same_references : (i : ℕ) (ns : List ℕ) → IsHere w i → AllByRecursion (IsHere w) ns → AllByRecursion (λ n. nat_eq i n ≡ tree_eq (tree_of w i) (tree_of w n)) ns
+  same_references : (i : ℕ) (ns : List ℕ) → IsHere w i → AllByRecursion (IsHere w) ns
+      → AllByRecursion (λ n. nat_eq i n ≡ tree_eq (tree_of w i) (tree_of w n)) ns
   same_references i [] h hs = tt
   same_references i (n ∷ ns) h hs = (same_reference i n h hs.0, same_references i ns h hs.1)
 
@@ -67,22 +72,28 @@ abbrev pub edge_if : ℕ → ℕ → ℕ → List ℕ → List ℕ
 edge_if k from number name = if nat_lt number k then edge_line from number name else []
 
 -- a part was found, and the line of the edge to it added
-pub follows_one : (w : Store) → IsSound w → (from : ℕ) (name : List ℕ) (part : Term) (number : ℕ) (old new : Graph) → AreHeld w old → IsSome (tree_at w part) → number ≡ position_or_len (nat_eq part.0) old.found.keys
-    → new.found.keys ≡ insert_key nat_eq old.found.keys part.0 → new.nodes ≡ old.nodes → new.lines.items ≡ old.lines.items ++ edge_if old.nodes from number name → Follows w from (link_to name (held_tree w part) ∷ []) old new
+pub follows_one : (w : Store) → IsSound w → (from : ℕ) (name : List ℕ) (part : Term) (number : ℕ) (old new : Graph) → AreHeld w old
+    → IsSome (tree_at w part) → number ≡ position_or_len (nat_eq part.0) old.found.keys
+    → new.found.keys ≡ insert_key nat_eq old.found.keys part.0 → new.nodes ≡ old.nodes
+    → new.lines.items ≡ old.lines.items ++ edge_if old.nodes from number name → Follows w from (link_to name (held_tree w part) ∷ []) old new
 follows_one w sound from name part number old new held here at keys nodes lines =
     let tests = same_references w sound part.0 old.found.keys here held in
     let t = held_tree w part in
-    let all : trees_found w new ≡ insert_key tree_eq (trees_found w old) t = ap (map (tree_of w)) keys ∙ map_insert (tree_of w) nat_eq tree_eq old.found.keys part.0 tests in
-    let place : number ≡ number_in (trees_found w new) t = at ∙ place_map (tree_of w) (nat_eq part.0) (tree_eq t) old.found.keys tests ∙ sym (place_insert tree_eq tree_eq_same (trees_found w old) t) ∙ ap (λ ts. number_in ts t) (sym all) in
+    let all : trees_found w new ≡ insert_key tree_eq (trees_found w old) t =
+    ap (map (tree_of w)) keys ∙ map_insert (tree_of w) nat_eq tree_eq old.found.keys part.0 tests in
+    let place : number ≡ number_in (trees_found w new) t = at ∙ place_map (tree_of w) (nat_eq part.0) (tree_eq t) old.found.keys tests
+    ∙ sym (place_insert tree_eq tree_eq_same (trees_found w old) t) ∙ ap (λ ts. number_in ts t) (sym all) in
     record {
       found = all;
-      lines = lines ∙ ap (λ n. old.lines.items ++ edge_if old.nodes from n name) place ∙ ap (λ xs. old.lines.items ++ xs) (sym (append-nil (link_line old.nodes (trees_found w new) from (link_to name t))));
+      lines = lines ∙ ap (λ n. old.lines.items ++ edge_if old.nodes from n name) place
+          ∙ ap (λ xs. old.lines.items ++ xs) (sym (append-nil (link_line old.nodes (trees_found w new) from (link_to name t))));
       nodes = nodes;
       held = subst (AllByRecursion (IsHere w)) (sym keys) (held_inserted w old.found.keys part.0 held here);
     }
 
 -- links after links
-pub follows_both : (w : Store) (from : ℕ) (ls ms : List Link) (old mid new : Graph) → Follows w from ls old mid → Follows w from ms mid new → Follows w from (ls ++ ms) old new
+pub follows_both : (w : Store) (from : ℕ) (ls ms : List Link) (old mid new : Graph) → Follows w from ls old mid → Follows w from ms mid new
+    → Follows w from (ls ++ ms) old new
 follows_both w from ls ms old mid new a b =
     let parts : List Link → List Tree = map (λ l. l.part) in
     let begins = all_begins tree_eq (trees_found w mid) (parts ms) in
@@ -92,8 +103,10 @@ follows_both w from ls ms old mid new a b =
     let first_lines = link_lines old.nodes (trees_found w new) from ls in
     let second_lines = link_lines old.nodes (trees_found w new) from ms in
     record {
-      found = b.found ∙ ap (λ ts. insert_all tree_eq ts (parts ms)) a.found ∙ sym (all_append tree_eq (trees_found w old) (parts ls) (parts ms)) ∙ ap (insert_all tree_eq (trees_found w old)) (sym (map_append (λ l. l.part) ls ms));
-      lines = b.lines ∙ ap (λ k. mid.lines.items ++ link_lines k (trees_found w new) from ms) a.nodes ∙ ap (λ xs. xs ++ second_lines) (a.lines ∙ ap (λ xs. old.lines.items ++ xs) (sym first)) ∙ append_assoc old.lines.items first_lines second_lines
+      found = b.found ∙ ap (λ ts. insert_all tree_eq ts (parts ms)) a.found ∙ sym (all_append tree_eq (trees_found w old) (parts ls) (parts ms))
+          ∙ ap (insert_all tree_eq (trees_found w old)) (sym (map_append (λ l. l.part) ls ms));
+      lines = b.lines ∙ ap (λ k. mid.lines.items ++ link_lines k (trees_found w new) from ms) a.nodes
+          ∙ ap (λ xs. xs ++ second_lines) (a.lines ∙ ap (λ xs. old.lines.items ++ xs) (sym first)) ∙ append_assoc old.lines.items first_lines second_lines
           ∙ ap (λ xs. old.lines.items ++ xs) (sym (lines_append old.nodes (trees_found w new) from ls ms));
       nodes = b.nodes ∙ a.nodes;
       held = b.held;
@@ -112,13 +125,16 @@ edge_left k from number name h = by (nat_lt number k) refl
     by true e = absurd (let lt = (Decides-ltb number k).0 e in omega (arith, h, lt))
     by false e = rw e refl
 
-module _ (w : Store) (sound : IsSound w) (from : ℕ) (name : List ℕ) (part : Term) (number : ℕ) (old mid new : Graph) (held : AreHeld w old) (here : IsSome (tree_at w part)) (at : number ≡ position_or_len (nat_eq part.0) old.found.keys)
+module _ (w : Store) (sound : IsSound w) (from : ℕ) (name : List ℕ) (part : Term) (number : ℕ) (old mid new : Graph) (held : AreHeld w old)
+    (here : IsSome (tree_at w part)) (at : number ≡ position_or_len (nat_eq part.0) old.found.keys)
     (keys : mid.found.keys ≡ insert_key nat_eq old.found.keys part.0) (nodes : mid.nodes ≡ old.nodes) (lines : mid.lines ≡ old.lines) where
-  pub follows_written : number < mid.nodes → new.found ≡ mid.found → new.nodes ≡ mid.nodes → new.lines.items ≡ mid.lines.items ++ edge_line from number name → Follows w from (link_to name (held_tree w part) ∷ []) old new
+  pub follows_written : number < mid.nodes → new.found ≡ mid.found → new.nodes ≡ mid.nodes
+      → new.lines.items ≡ mid.lines.items ++ edge_line from number name → Follows w from (link_to name (held_tree w part) ∷ []) old new
   follows_written lt found same written =
       let less : number < old.nodes = omega (arith, lt, nodes) in
       follows_one w sound from name part number old new held here at (ap (λ s. s.keys) found ∙ keys) (same ∙ nodes)
-      (written ∙ ap (λ xs. xs ++ edge_line from number name) (ap (λ v. v.items) lines) ∙ ap (λ xs. old.lines.items ++ xs) (sym (edge_written old.nodes from number name less)))
+      (written ∙ ap (λ xs. xs ++ edge_line from number name) (ap (λ v. v.items) lines)
+      ∙ ap (λ xs. old.lines.items ++ xs) (sym (edge_written old.nodes from number name less)))
 
   pub follows_left : mid.nodes ≤ number → Follows w from (link_to name (held_tree w part) ∷ []) old mid
   follows_left le =
@@ -127,7 +143,8 @@ module _ (w : Store) (sound : IsSound w) (from : ℕ) (name : List ℕ) (part : 
       (ap (λ v. v.items) lines ∙ sym (append-nil old.lines.items) ∙ ap (λ xs. old.lines.items ++ xs) (sym (edge_left old.nodes from number name past)))
 
 -- links and then others
-pub follows_on : {X E : Type 0} (r : Result X E) (w : Store) (from : ℕ) (all ls ms : List Link) (old mid new : Graph) → all ≡ ls ++ ms → Follows w from ls old mid → OnOk r (Follows w from ms mid new) → OnOk r (Follows w from all old new)
+pub follows_on : {X E : Type 0} (r : Result X E) (w : Store) (from : ℕ) (all ls ms : List Link) (old mid new : Graph) → all ≡ ls ++ ms
+    → Follows w from ls old mid → OnOk r (Follows w from ms mid new) → OnOk r (Follows w from all old new)
 follows_on (Err e) w from all ls ms old mid new is a b = tt
 follows_on (Ok x) w from all ls ms old mid new is a b = subst (λ ks. Follows w from ks old new) (sym is) (follows_both w from ls ms old mid new a b)
 
@@ -150,7 +167,8 @@ module _ (w : Store) (u : Tree) (k n : ℕ) (old now : Option (List ℕ)) (g : G
   next_is = ap (λ ts. with_own ts (slice_get ts n)) d.found
 
   lines_are : next_lines w n g ≡ part_lines k (order u) n (slice_get (order u) n)
-  lines_are = ap (λ j. part_lines j (next_found w n g) n (slice_get (trees_found w g) n)) d.nodes ∙ ap (λ ts. part_lines k (with_own ts (slice_get ts n)) n (slice_get ts n)) d.found ∙ sym (part_in_order k u n lt)
+  lines_are = ap (λ j. part_lines j (next_found w n g) n (slice_get (trees_found w g) n)) d.nodes
+      ∙ ap (λ ts. part_lines k (with_own ts (slice_get ts n)) n (slice_get ts n)) d.found ∙ sym (part_in_order k u n lt)
 
   pub drawn_on : (after : Option (List ℕ)) (new : Graph) → Passes w n g new → Appends now after (next_lines w n g) → Drawn w u k (n + 1) old after new
   drawn_on after new p a =
@@ -159,7 +177,8 @@ module _ (w : Store) (u : Tree) (k n : ℕ) (old now : Option (List ℕ)) (g : G
         found = p.found ∙ next_is;
         nodes = p.nodes ∙ d.nodes;
         held = p.held;
-        written = appends_both old now after (first_lines k (order u) n) (part_lines k (order u) n (slice_get (order u) n)) d.written (subst (Appends now after) lines_are a);
+        written = appends_both old now after (first_lines k (order u) n) (part_lines k (order u) n (slice_get (order u) n)) d.written
+            (subst (Appends now after) lines_are a);
       })
 
   pub drawn_stopped : (after : Option (List ℕ)) (m : ℕ) → n < m → AppendsFront (next_lines w n g) now after → AppendsFront (first_lines k (order u) m) old after
@@ -167,7 +186,8 @@ module _ (w : Store) (u : Tree) (k n : ℕ) (old now : Option (List ℕ)) (g : G
       let first = first_lines k (order u) n in
       let here = part_lines k (order u) n (slice_get (order u) n) in
       let (rest, e) = first_front k (order u) (suc n) m less in
-      front_within old now after (first_lines k (order u) m) first here rest (e ∙ append_assoc first here rest) d.written (subst (λ xs. AppendsFront xs now after) lines_are f)
+      front_within old now after (first_lines k (order u) m) first here rest (e ∙ append_assoc first here rest) d.written
+      (subst (λ xs. AppendsFront xs now after) lines_are f)
 
 -- ---- the whole text, in four pieces
 
@@ -205,7 +225,8 @@ module _ (k n r : ℕ) (u : Tree) (counted : n ≡ part_count u) (left : r ≡ n
   parts_text = first_lines k (order u) (min k n)
 
   pieces_are : heading ++ parts_text ++ rest_line r ++ closing ≡ graph_text k u
-  pieces_are = ap (λ m. heading ++ parts_text ++ rest_line m ++ closing) left ∙ ap (λ m. heading ++ first_lines k (order u) (min k m) ++ rest_line (m - k) ++ closing) counted
+  pieces_are = ap (λ m. heading ++ parts_text ++ rest_line m ++ closing) left
+      ∙ ap (λ m. heading ++ first_lines k (order u) (min k m) ++ rest_line (m - k) ++ closing) counted
 
   fronts : (new : Option (List ℕ)) → AppendsFront (heading ++ parts_text ++ rest_line r ++ closing) old new → AppendsFront (graph_text k u) old new
   fronts new f = subst (λ xs. AppendsFront xs old new) pieces_are f

@@ -33,7 +33,9 @@ module _ {T : Type 0} (IsDue : T → Due → Type 0) where
   breaks_unwritten (Some x) fault old r = λ d is. record { written = []; appended = appends_same old; front = (d.text, refl); reported = r }
 
   -- a front of what is due, where one thing is due at most
-  pub breaks_due : ((x : T) (d e : Due) → IsDue x d → IsDue x e → d ≡ e) → (texts : Option T) (d : Due) (fault : LookFault) (old new : Option (List ℕ)) → IfSome texts (λ x. IsDue x d) → Stops fault d.text old new → BreaksFor IsDue texts fault old new
+  pub breaks_due : ((x : T) (d e : Due) → IsDue x d → IsDue x e → d ≡ e)
+      → (texts : Option T) (d : Due) (fault : LookFault) (old new : Option (List ℕ)) → IfSome texts (λ x. IsDue x d) → Stops fault d.text old new
+      → BreaksFor IsDue texts fault old new
   breaks_due one None d fault old new h s = tt
   breaks_due one (Some x) d fault old new h s = λ e is. subst (λ (z : Due). Stops fault z.text old new) (one x d e h is) s
 
@@ -52,10 +54,16 @@ stops_writing Write text old new h (front, a, is) = record { written = front; ap
 
 -- all was written, and the flush was refused
 pub stops_flush : (text : List ℕ) (old mid new : Option (List ℕ)) → Appends old mid text → Keeps mid new → Stops Write text old new
-stops_flush text old mid new a k = record { written = text; appended = appends_flushed text old mid new a k; front = ([], sym (append-nil text)); reported = tt }
+stops_flush text old mid new a k = record {
+  written = text;
+  appended = appends_flushed text old mid new a k;
+  front = ([], sym (append-nil text));
+  reported = tt;
+}
 
 -- the text of a tree over several lines was written, and the line end was refused
-pub end_refused : (n : ℕ) (o : Option Tree) (old mid new : Option (List ℕ)) → IsSome o → IfSome o (λ u. Appends old mid (laid n u)) → AppendsFront (codes "\n") mid new → Stops Write (option_map_or (indented_lines n) o []) old new
+pub end_refused : (n : ℕ) (o : Option Tree) (old mid new : Option (List ℕ)) → IsSome o → IfSome o (λ u. Appends old mid (laid n u))
+    → AppendsFront (codes "\n") mid new → Stops Write (option_map_or (indented_lines n) o []) old new
 end_refused n None old mid new held a f = absurd (cc held)
 end_refused n (Some u) old mid new held a f = stops_writing Write (indented_lines n u) old new tt (front_after old mid new (laid n u) (codes "\n") a f)
 

@@ -1,5 +1,6 @@
 -- The parts of a tree in the order in which they are found.
-use Rattle.std.proofs.Common.{◌≡◌, ℕ, ◌+◌, ◌-◌, ◌<◌, ◌≤◌, zero, suc, true, List, [], ◌∷◌, ◌++◌, Option, Some, None, refl, sym, ap, subst, ◌∙◌, append_assoc, append-nil, arith, map, slice_get}
+use Rattle.std.proofs.Common.{◌≡◌, ℕ, ◌+◌, ◌-◌, ◌<◌, ◌≤◌, zero, suc, true, List, [], ◌∷◌, ◌++◌, Option, Some}
+use Rattle.std.proofs.Common.{None, refl, sym, ap, subst, ◌∙◌, append_assoc, append-nil, arith, map, slice_get}
 use Rattle.std.specs.List.{AllByRecursion, list_any}
 use Rattle.indexmap.specs.IndexSet.{insert_all}
 use Rattle.rx_term.specs.Tree.{Tree, Trees, none, more, Int, Appl, Items, Hole, list_of, tree_eq}
@@ -28,7 +29,8 @@ abbrev pub AreAmong : List Tree → List Link → Type 0
 AreAmong ts ls = AllByRecursion (λ l. list_any (tree_eq l.part) ts ≡ true) ls
 
 pub among_inserted : (ts : List Tree) (ls : List Link) → AreAmong (insert_all tree_eq ts (map (λ l. l.part) ls)) ls
-among_inserted ts ls = let us = map (λ l. l.part) ls in all_of_map (λ l. l.part) (λ u. list_any (tree_eq u) (insert_all tree_eq ts us) ≡ true) ls (all_inserted tree_eq tree_eq_same ts us)
+among_inserted ts ls = let us = map (λ l. l.part) ls in all_of_map (λ l. l.part) (λ u. list_any (tree_eq u) (insert_all tree_eq ts us) ≡ true) ls
+    (all_inserted tree_eq tree_eq_same ts us)
 
 -- their lines stay when more is found
 pub lines_later : (k : ℕ) (ts us : List Tree) (n : ℕ) (ls : List Link) → Begins ts us → AreAmong ts ls → link_lines k us n ls ≡ link_lines k ts n ls
@@ -40,7 +42,8 @@ lines_later k ts us n (l ∷ ls) b h =
 
 pub lines_append : (k : ℕ) (ts : List Tree) (n : ℕ) (ls ms : List Link) → link_lines k ts n (ls ++ ms) ≡ link_lines k ts n ls ++ link_lines k ts n ms
 lines_append k ts n [] ms = refl
-lines_append k ts n (l ∷ ls) ms = ap (λ xs. link_line k ts n l ++ xs) (lines_append k ts n ls ms) ∙ sym (append_assoc (link_line k ts n l) (link_lines k ts n ls) (link_lines k ts n ms))
+lines_append k ts n (l ∷ ls) ms = ap (λ xs. link_line k ts n l ++ xs) (lines_append k ts n ls ms)
+    ∙ sym (append_assoc (link_line k ts n l) (link_lines k ts n ls) (link_lines k ts n ms))
 
 -- ---- what is found
 
@@ -64,7 +67,8 @@ comes_after n k le = let e = after-is n (k - n) in omega (arith, e, le)
 -- what was found stays where it is
 pub found_begins : (t : Tree) (n m : ℕ) → Begins (found t n) (found t (after n m))
 found_begins t n zero = begins_same (found t n)
-found_begins t n (suc m) = begins_on (found t n) (found t (after n m)) (found t (after n (suc m))) (found_begins t n m) (own_begins (found t (after n m)) (slice_get (found t (after n m)) (after n m)))
+found_begins t n (suc m) = begins_on (found t n) (found t (after n m)) (found t (after n (suc m))) (found_begins t n m)
+    (own_begins (found t (after n m)) (slice_get (found t (after n m)) (after n m)))
 
 -- where all that was found was looked at, no more is found
 found_ends : (t : Tree) (n m : ℕ) → slice_get (found t n) n ≡ None → (found t (after n m) ≡ found t n) × (slice_get (found t n) (after n m) ≡ None)
@@ -95,11 +99,13 @@ order_at t n lt = ap (λ c. slice_get (found t c) n) (comes_after n (part_count 
 part_later : (k : ℕ) (ts us : List Tree) (n : ℕ) (o : Option Tree) → Begins (with_own ts o) us → part_lines k us n o ≡ part_lines k (with_own ts o) n o
 part_later k ts us n None b = refl
 part_later k ts us n (Some t) b =
-    let among : AreAmong (with_own ts (Some t)) (links t) = subst (λ vs. AreAmong (insert_all tree_eq ts vs) (links t)) (own_links t) (among_inserted ts (links t)) in
+    let among : AreAmong (with_own ts (Some t)) (links t) = subst (λ vs. AreAmong (insert_all tree_eq ts vs) (links t)) (own_links t)
+    (among_inserted ts (links t)) in
     let same = lines_later k (with_own ts (Some t)) us n (links t) b among in
     rw same refl
 
-pub part_in_order : (k : ℕ) (t : Tree) (n : ℕ) → n < part_count t → part_lines k (order t) n (slice_get (order t) n) ≡ part_lines k (with_own (found t n) (slice_get (found t n) n)) n (slice_get (found t n) n)
+pub part_in_order : (k : ℕ) (t : Tree) (n : ℕ) → n < part_count t
+    → part_lines k (order t) n (slice_get (order t) n) ≡ part_lines k (with_own (found t n) (slice_get (found t n) n)) n (slice_get (found t n) n)
 part_in_order k t n lt =
     let at : slice_get (order t) n ≡ slice_get (found t n) n = order_at t n lt in
     let b : Begins (found t (suc n)) (order t) = order_begins t (suc n) lt in

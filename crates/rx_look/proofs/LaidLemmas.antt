@@ -44,15 +44,18 @@ module _ (n m left right : ℕ) (t u : Token) (opens : Cuts left t) (closes : Cu
   between_cut text r =
       let a = new_line (m + n) in
       let b = new_line m in
-      let e : (((a ++ text) ++ b) ++ (right ∷ [])) ++ r ≡ a ++ (text ++ (b ++ (right ∷ r))) = append_assoc ((a ++ text) ++ b) (right ∷ []) r ∙ append_assoc (a ++ text) b (right ∷ r) ∙ append_assoc a text (b ++ (right ∷ r)) in
+      let e : (((a ++ text) ++ b) ++ (right ∷ [])) ++ r ≡ a ++ (text ++ (b ++ (right ∷ r))) =
+      append_assoc ((a ++ text) ++ b) (right ∷ []) r ∙ append_assoc (a ++ text) b (right ∷ r) ∙ append_assoc a text (b ++ (right ∷ r)) in
       opens ((((a ++ text) ++ b) ++ (right ∷ [])) ++ r) ∙ ap (λ ts. t ∷ ts) (ap (kinds_from 0) e ∙ line_cut (m + n) (text ++ (b ++ (right ∷ r))))
 
   between_same : (text plain r q : List ℕ) → Alike text plain → Same r q → Same (between n m left text right ++ r) (left ∷ (plain ++ (right ∷ q)))
   between_same text plain r q inside e =
       let ends : Same (new_line m ++ (right ∷ r)) (right ∷ q) = line_cut m (right ∷ r) ∙ closes r ∙ ap (λ ts. u ∷ ts) e ∙ sym (closes q) in
-      between_cut text r ∙ ap (λ ts. t ∷ ts) (inside (new_line m ++ (right ∷ r)) (right ∷ q) (line_stops m (right ∷ r)) (stops q) ends) ∙ sym (opens (plain ++ (right ∷ q)))
+      between_cut text r ∙ ap (λ ts. t ∷ ts) (inside (new_line m ++ (right ∷ r)) (right ∷ q) (line_stops m (right ∷ r)) (stops q) ends)
+      ∙ sym (opens (plain ++ (right ∷ q)))
 
-  block_same : (ts : Trees) (text plain empty r q : List ℕ) → Alike text plain → Same (empty ++ r) (empty ++ q) → Same r q → Same (block n m left ts text right empty ++ r) (enclosed left ts plain right empty ++ q)
+  block_same : (ts : Trees) (text plain empty r q : List ℕ) → Alike text plain → Same (empty ++ r) (empty ++ q) → Same r q
+      → Same (block n m left ts text right empty ++ r) (enclosed left ts plain right empty ++ q)
   block_same none text plain empty r q inside shown e = shown
   block_same (more v vs) text plain empty r q inside shown e =
       between_same text plain r q inside e ∙ ap (λ x. kinds_from 0 (left ∷ x)) (sym (append_assoc plain (right ∷ []) q))
@@ -75,27 +78,39 @@ plain_arguments_stop none text r s = s
 plain_arguments_stop (more t ts) text r s = record { no_name = refl; no_digit = refl }
 
 -- an application, from what stands behind its name
-module _ (n m : ℕ) (args : Trees) (text plain b d r q : List ℕ) (inside : Alike text plain) (left : Stops (b ++ r)) (right : Stops (d ++ q)) (behind : Same (b ++ r) (d ++ q)) where
-  arguments_same : (empty : List ℕ) → Same (empty ++ (b ++ r)) (empty ++ (d ++ q)) → Same (block n m 40 args text 41 empty ++ (b ++ r)) (enclosed 40 args plain 41 empty ++ (d ++ q))
-  arguments_same empty shown = block_same n m 40 41 Open Close (λ x. refl) (λ x. refl) (λ x. mark_stops 41 x refl refl) args text plain empty (b ++ r) (d ++ q) inside shown behind
+module _ (n m : ℕ) (args : Trees) (text plain b d r q : List ℕ) (inside : Alike text plain) (left : Stops (b ++ r)) (right : Stops (d ++ q))
+    (behind : Same (b ++ r) (d ++ q)) where
+  arguments_same : (empty : List ℕ) → Same (empty ++ (b ++ r)) (empty ++ (d ++ q))
+      → Same (block n m 40 args text 41 empty ++ (b ++ r)) (enclosed 40 args plain 41 empty ++ (d ++ q))
+  arguments_same empty shown = block_same n m 40 41 Open Close (λ x. refl) (λ x. refl) (λ x. mark_stops 41 x refl refl) args text plain empty (b ++ r)
+      (d ++ q) inside shown behind
 
-  named_same : (name : List ℕ) (quoted : Bool) → no_arguments name quoted ≡ [] → ((x : List ℕ) → Stops x → kinds_from 0 (name_text name quoted ++ x) ≡ Name name quoted ∷ kinds_from 0 x)
-      → Same (((name_text name quoted ++ block n m 40 args text 41 (no_arguments name quoted)) ++ b) ++ r) (((name_text name quoted ++ enclosed 40 args plain 41 (no_arguments name quoted)) ++ d) ++ q)
+  named_same : (name : List ℕ) (quoted : Bool) → no_arguments name quoted ≡ []
+      → ((x : List ℕ) → Stops x → kinds_from 0 (name_text name quoted ++ x) ≡ Name name quoted ∷ kinds_from 0 x)
+      → Same (((name_text name quoted ++ block n m 40 args text 41 (no_arguments name quoted)) ++ b) ++ r)
+      (((name_text name quoted ++ enclosed 40 args plain 41 (no_arguments name quoted)) ++ d) ++ q)
   named_same name quoted none_shown cut =
       let word = name_text name quoted in
       let x = block n m 40 args text 41 [] in
       let y = enclosed 40 args plain 41 [] in
-      let e : ((word ++ block n m 40 args text 41 (no_arguments name quoted)) ++ b) ++ r ≡ word ++ (x ++ (b ++ r)) = ap (λ z. ((word ++ block n m 40 args text 41 z) ++ b) ++ r) none_shown ∙ append_assoc (word ++ x) b r ∙ append_assoc word x (b ++ r) in
-      let f : ((word ++ enclosed 40 args plain 41 (no_arguments name quoted)) ++ d) ++ q ≡ word ++ (y ++ (d ++ q)) = ap (λ z. ((word ++ enclosed 40 args plain 41 z) ++ d) ++ q) none_shown ∙ append_assoc (word ++ y) d q ∙ append_assoc word y (d ++ q) in
-      ap (kinds_from 0) e ∙ cut (x ++ (b ++ r)) (arguments_stop n m args text (b ++ r) left) ∙ ap (λ ts. Name name quoted ∷ ts) (arguments_same [] behind) ∙ sym (cut (y ++ (d ++ q)) (plain_arguments_stop args plain (d ++ q) right)) ∙ ap (kinds_from 0) (sym f)
+      let e : ((word ++ block n m 40 args text 41 (no_arguments name quoted)) ++ b) ++ r ≡ word ++ (x ++ (b ++ r)) =
+      ap (λ z. ((word ++ block n m 40 args text 41 z) ++ b) ++ r) none_shown ∙ append_assoc (word ++ x) b r ∙ append_assoc word x (b ++ r) in
+      let f : ((word ++ enclosed 40 args plain 41 (no_arguments name quoted)) ++ d) ++ q ≡ word ++ (y ++ (d ++ q)) =
+      ap (λ z. ((word ++ enclosed 40 args plain 41 z) ++ d) ++ q) none_shown ∙ append_assoc (word ++ y) d q ∙ append_assoc word y (d ++ q) in
+      ap (kinds_from 0) e ∙ cut (x ++ (b ++ r)) (arguments_stop n m args text (b ++ r) left)
+      ∙ ap (λ ts. Name name quoted ∷ ts) (arguments_same [] behind) ∙ sym (cut (y ++ (d ++ q)) (plain_arguments_stop args plain (d ++ q) right))
+      ∙ ap (kinds_from 0) (sym f)
 
   application_same : (name : List ℕ) (quoted : Bool) → is_name name quoted ≡ true
-      → Same (((name_text name quoted ++ block n m 40 args text 41 (no_arguments name quoted)) ++ b) ++ r) (((name_text name quoted ++ enclosed 40 args plain 41 (no_arguments name quoted)) ++ d) ++ q)
-  application_same name true h = named_same name true (no_arguments_quoted name) (λ x s. quoted_cut name x (and_parts (list_all (λ b. nat_lt b 256) name) true h).0)
+      → Same (((name_text name quoted ++ block n m 40 args text 41 (no_arguments name quoted)) ++ b) ++ r)
+      (((name_text name quoted ++ enclosed 40 args plain 41 (no_arguments name quoted)) ++ d) ++ q)
+  application_same name true h = named_same name true (no_arguments_quoted name) (λ x s.
+      quoted_cut name x (and_parts (list_all (λ b. nat_lt b 256) name) true h).0)
   application_same (c ∷ cs) false h = named_same (c ∷ cs) false refl (λ x s. unquoted_cut c cs x h s)
   application_same [] false h =
       let shown : List ℕ = 40 ∷ 41 ∷ [] in
-      ap (kinds_from 0) (append_assoc (block n m 40 args text 41 shown) b r) ∙ arguments_same shown (ap (λ ts. Open ∷ Close ∷ ts) behind) ∙ ap (kinds_from 0) (sym (append_assoc (enclosed 40 args plain 41 shown) d q))
+      ap (kinds_from 0) (append_assoc (block n m 40 args text 41 shown) b r) ∙ arguments_same shown (ap (λ ts. Open ∷ Close ∷ ts) behind)
+      ∙ ap (kinds_from 0) (sym (append_assoc (enclosed 40 args plain 41 shown) d q))
 
 -- other terms stop at a comma, or where they end
 others_stop : (n m : ℕ) (ts : Trees) (r : List ℕ) → Stops r → Stops (laid_others n m ts ++ r)
@@ -107,14 +122,18 @@ plain_others_stop none r s = s
 plain_others_stop (more t ts) r s = mark_stops 44 _ refl refl
 
 -- annotations and items, from what stands between their marks
-notes_same : (n m : ℕ) (anns : Trees) → Alike (laid_all n (m + n) anns) (canon_all anns) → Alike (block n m 123 anns (laid_all n (m + n) anns) 125 []) (enclosed 123 anns (canon_all anns) 125 [])
+notes_same : (n m : ℕ) (anns : Trees) → Alike (laid_all n (m + n) anns) (canon_all anns)
+    → Alike (block n m 123 anns (laid_all n (m + n) anns) 125 []) (enclosed 123 anns (canon_all anns) 125 [])
 notes_same n m anns inside r q s p e =
-    block_same n m 123 125 OpenBrace CloseBrace (λ x. refl) (λ x. refl) (λ x. mark_stops 125 x refl refl) anns (laid_all n (m + n) anns) (canon_all anns) [] r q inside e e
+    block_same n m 123 125 OpenBrace CloseBrace (λ x. refl) (λ x. refl) (λ x. mark_stops 125 x refl refl) anns (laid_all n (m + n) anns)
+    (canon_all anns) [] r q inside e e
 
-items_same : (n m : ℕ) (items : Trees) → Alike (laid_all n (m + n) items) (canon_all items) → (r q : List ℕ) → Same r q → Same (block n m 91 items (laid_all n (m + n) items) 93 (91 ∷ 93 ∷ []) ++ r) (91 ∷ (canon_all items ++ (93 ∷ q)))
+items_same : (n m : ℕ) (items : Trees) → Alike (laid_all n (m + n) items) (canon_all items) → (r q : List ℕ) → Same r q
+    → Same (block n m 91 items (laid_all n (m + n) items) 93 (91 ∷ 93 ∷ []) ++ r) (91 ∷ (canon_all items ++ (93 ∷ q)))
 items_same n m none inside r q e = ap (λ ts. OpenBracket ∷ CloseBracket ∷ ts) e
 items_same n m (more t ts) inside r q e =
-    between_same n m 91 93 OpenBracket CloseBracket (λ x. refl) (λ x. refl) (λ x. mark_stops 93 x refl refl) (laid_all n (m + n) (more t ts)) (canon_all (more t ts)) r q inside e
+    between_same n m 91 93 OpenBracket CloseBracket (λ x. refl) (λ x. refl) (λ x. mark_stops 93 x refl refl) (laid_all n (m + n) (more t ts))
+    (canon_all (more t ts)) r q inside e
 
 mutual
   tree_same : (n m : ℕ) (t : Tree) → is_tree t ≡ true → Alike (laid_at n m t) (canon t)
@@ -122,26 +141,31 @@ mutual
       let k = and_parts (is_i32 z) (are_trees anns) h in
       let b = block n m 123 anns (laid_all n (m + n) anns) 125 [] in
       let d = enclosed 123 anns (canon_all anns) 125 [] in
-      ap (kinds_from 0) (append_assoc (signed_decimal z) b r) ∙ integer_cut z (b ++ r) k.0 (block_stops n m anns (laid_all n (m + n) anns) r s) ∙ ap (λ ts. Integer z ∷ ts) (notes_same n m anns (trees_same n (m + n) anns k.1) r q s p e)
+      ap (kinds_from 0) (append_assoc (signed_decimal z) b r) ∙ integer_cut z (b ++ r) k.0 (block_stops n m anns (laid_all n (m + n) anns) r s)
+      ∙ ap (λ ts. Integer z ∷ ts) (notes_same n m anns (trees_same n (m + n) anns k.1) r q s p e)
       ∙ sym (integer_cut z (d ++ q) k.0 (plain_stops anns (canon_all anns) q p)) ∙ ap (kinds_from 0) (sym (append_assoc (signed_decimal z) d q))
   tree_same n m (Appl name quoted args anns) h r q s p e =
       let k = and_parts (is_name name quoted && are_trees args) (are_trees anns) h in
       let l = and_parts (is_name name quoted) (are_trees args) k.0 in
-      application_same n m args (laid_all n (m + n) args) (canon_all args) (block n m 123 anns (laid_all n (m + n) anns) 125 []) (enclosed 123 anns (canon_all anns) 125 []) r q
-      (trees_same n (m + n) args l.1) (block_stops n m anns (laid_all n (m + n) anns) r s) (plain_stops anns (canon_all anns) q p) (notes_same n m anns (trees_same n (m + n) anns k.1) r q s p e) name quoted l.0
+      application_same n m args (laid_all n (m + n) args) (canon_all args) (block n m 123 anns (laid_all n (m + n) anns) 125 [])
+      (enclosed 123 anns (canon_all anns) 125 []) r q
+      (trees_same n (m + n) args l.1) (block_stops n m anns (laid_all n (m + n) anns) r s) (plain_stops anns (canon_all anns) q p)
+      (notes_same n m anns (trees_same n (m + n) anns k.1) r q s p e) name quoted l.0
   tree_same n m (Items items anns) h r q s p e =
       let k = and_parts (are_trees items) (are_trees anns) h in
       let a = block n m 91 items (laid_all n (m + n) items) 93 (91 ∷ 93 ∷ []) in
       let b = block n m 123 anns (laid_all n (m + n) anns) 125 [] in
       let d = enclosed 123 anns (canon_all anns) 125 [] in
-      ap (kinds_from 0) (append_assoc a b r) ∙ items_same n m items (trees_same n (m + n) items k.0) (b ++ r) (d ++ q) (notes_same n m anns (trees_same n (m + n) anns k.1) r q s p e) ∙ ap (λ x. kinds_from 0 (91 ∷ x)) (sym (append_assoc (canon_all items) (93 ∷ d) q))
+      ap (kinds_from 0) (append_assoc a b r) ∙ items_same n m items (trees_same n (m + n) items k.0) (b ++ r) (d ++ q)
+      (notes_same n m anns (trees_same n (m + n) anns k.1) r q s p e) ∙ ap (λ x. kinds_from 0 (91 ∷ x)) (sym (append_assoc (canon_all items) (93 ∷ d) q))
   tree_same n m (Hole inner anns) h r q s p e =
       let k = and_parts (is_tree inner) (are_trees anns) h in
       let a = between n m 60 (laid_at n (m + n) inner) 62 in
       let b = block n m 123 anns (laid_all n (m + n) anns) 125 [] in
       let d = enclosed 123 anns (canon_all anns) 125 [] in
       ap (kinds_from 0) (append_assoc a b r)
-      ∙ between_same n m 60 62 Less Greater (λ x. refl) (λ x. refl) (λ x. mark_stops 62 x refl refl) (laid_at n (m + n) inner) (canon inner) (b ++ r) (d ++ q) (tree_same n (m + n) inner k.0) (notes_same n m anns (trees_same n (m + n) anns k.1) r q s p e)
+      ∙ between_same n m 60 62 Less Greater (λ x. refl) (λ x. refl) (λ x. mark_stops 62 x refl refl) (laid_at n (m + n) inner) (canon inner) (b ++ r)
+      (d ++ q) (tree_same n (m + n) inner k.0) (notes_same n m anns (trees_same n (m + n) anns k.1) r q s p e)
       ∙ ap (λ x. kinds_from 0 (60 ∷ x)) (sym (append_assoc (canon inner) (62 ∷ d) q))
 
   trees_same : (n m : ℕ) (ts : Trees) → are_trees ts ≡ true → Alike (laid_all n m ts) (canon_all ts)
@@ -149,7 +173,8 @@ mutual
   trees_same n m (more t ts) h r q s p e =
       let k = and_parts (is_tree t) (are_trees ts) h in
       ap (kinds_from 0) (append_assoc (laid_at n m t) (laid_others n m ts) r)
-      ∙ tree_same n m t k.0 (laid_others n m ts ++ r) (canon_others ts ++ q) (others_stop n m ts r s) (plain_others_stop ts q p) (others_same n m ts k.1 r q s p e)
+      ∙ tree_same n m t k.0 (laid_others n m ts ++ r) (canon_others ts ++ q) (others_stop n m ts r s) (plain_others_stop ts q p)
+      (others_same n m ts k.1 r q s p e)
       ∙ ap (kinds_from 0) (sym (append_assoc (canon t) (canon_others ts) q))
 
   others_same : (n m : ℕ) (ts : Trees) → are_trees ts ≡ true → Alike (laid_others n m ts) (canon_others ts)
@@ -161,7 +186,8 @@ mutual
       let c = laid_others n m ts in
       let f : ((a ++ b) ++ c) ++ r ≡ a ++ (b ++ (c ++ r)) = append_assoc (a ++ b) c r ∙ append_assoc a b (c ++ r) in
       ap (λ ts. Comma ∷ ts) (
-      ap (kinds_from 0) f ∙ line_cut m (b ++ (c ++ r)) ∙ tree_same n m t k.0 (c ++ r) (canon_others ts ++ q) (others_stop n m ts r s) (plain_others_stop ts q p) (others_same n m ts k.1 r q s p e)
+      ap (kinds_from 0) f ∙ line_cut m (b ++ (c ++ r)) ∙ tree_same n m t k.0 (c ++ r) (canon_others ts ++ q) (others_stop n m ts r s)
+      (plain_others_stop ts q p) (others_same n m ts k.1 r q s p e)
       ∙ ap (kinds_from 0) (sym (append_assoc (canon t) (canon_others ts) q)))
 
 -- so it spells what the printed text does

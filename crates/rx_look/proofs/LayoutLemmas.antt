@@ -1,5 +1,6 @@
 -- What is left to do of a text over several lines.
-use Rattle.std.proofs.Common.{◌≡◌, ℕ, ◌+◌, ◌<◌, ◌≤◌, Bool, ◌&&◌, not, cond, List, [], ◌∷◌, ◌++◌, Option, Some, None, IsSome, IfSome, Result, Ok, Err, OnOk, refl, sym, ap, subst, ◌∙◌, append_assoc, append-nil, arith}
+use Rattle.std.proofs.Common.{◌≡◌, ℕ, ◌+◌, ◌<◌, ◌≤◌, Bool, ◌&&◌, not, cond, List, [], ◌∷◌, ◌++◌, Option, Some, None, IsSome}
+use Rattle.std.proofs.Common.{IfSome, Result, Ok, Err, OnOk, refl, sym, ap, subst, ◌∙◌, append_assoc, append-nil, arith}
 use Rattle.std.specs.Prelude.{replicate, codes, vec_len}
 use Rattle.std.specs.List.{AllByRecursion}
 use Rattle.std.specs.Io.KnownBytes.{Appends}
@@ -17,7 +18,8 @@ use Rattle.rx_text.specs.Written.{AppendsFront}
 use Rattle.rx_text.specs.declared.faults.WriteFault.{WriteFault}
 use Rattle.rx_text.proofs.AppendingLemmas.{appends_both, front_within}
 use Rattle.rx_look.specs.Laid.{between, laid}
-use Rattle.rx_look.specs.Layout.{Adds, IsBlank, IsJob, IsPiece, Keeps, Leaves, Spreads, arguments_laid, arguments_size, atom_text, body_laid, body_size, job_text, job_at, jobs_size, jobs_text, notes_laid, piece_size, piece_text, room, sizes}
+use Rattle.rx_look.specs.Layout.{Adds, IsBlank, IsJob, IsPiece, Keeps, Leaves, Spreads, arguments_laid, arguments_size, atom_text, body_laid}
+use Rattle.rx_look.specs.Layout.{body_size, job_text, job_at, jobs_size, jobs_text, notes_laid, piece_size, piece_text, room, sizes}
 use Rattle.rx_look.specs.declared.layout.Atom.TheVariants as atom
 use Rattle.rx_look.specs.declared.layout.Piece.{Piece}
 use Rattle.rx_look.specs.declared.layout.Piece.TheVariants as piece
@@ -35,7 +37,8 @@ All-split P [] x h = (tt, h.0)
 All-split P (y ∷ ys) x h = let k = All-split P ys x h.1 in ((h.0, k.0), k.1)
 
 -- a list with no first item
-no_items : (w : Store) (t : Term) (k : Kind) → HasKind w t k → IsList (tree_at w t) → (k ≡ kind.Cons → ⊥) → (anns : Trees) × (tree_at w t ≡ Some (Items none anns))
+no_items : (w : Store) (t : Term) (k : Kind) → HasKind w t k → IsList (tree_at w t) → (k ≡ kind.Cons → ⊥)
+    → (anns : Trees) × (tree_at w t ≡ Some (Items none anns))
 no_items w t (kind.Int z) h l n = absurd (rw h.here at l)
 no_items w t kind.Nil h l n = (h.anns, h.here)
 no_items w t kind.Cons h l n = absurd (n refl)
@@ -59,14 +62,16 @@ jobs_wider w (j ∷ js) k l h all = let m = all.0.1 in ((all.0.0, omega (arith, 
 
 jobs_text-append : (w : Store) (n : ℕ) (js ks : List Job) → jobs_text w n (js ++ ks) ≡ jobs_text w n ks ++ jobs_text w n js
 jobs_text-append w n [] ks = sym (append-nil (jobs_text w n ks))
-jobs_text-append w n (j ∷ js) ks = ap (λ xs. xs ++ job_text w n j) (jobs_text-append w n js ks) ∙ append_assoc (jobs_text w n ks) (jobs_text w n js) (job_text w n j)
+jobs_text-append w n (j ∷ js) ks = ap (λ xs. xs ++ job_text w n j) (jobs_text-append w n js ks)
+    ∙ append_assoc (jobs_text w n ks) (jobs_text w n js) (job_text w n j)
 
 jobs_size-append : (w : Store) (js ks : List Job) → jobs_size w (js ++ ks) ≡ jobs_size w js + jobs_size w ks
 jobs_size-append w [] ks = omega arith
 jobs_size-append w (j ∷ js) ks = omega (arith, jobs_size-append w js ks)
 
 -- first the one text was left, and then another before it
-pub spreads_both : (w : Store) (whole first second : List ℕ) (space s t : ℕ) (old mid new : Layout) → Spreads w second s old mid → Spreads w first t mid new → whole ≡ first ++ second → s + t ≤ space + 1 → Spreads w whole space old new
+pub spreads_both : (w : Store) (whole first second : List ℕ) (space s t : ℕ) (old mid new : Layout) → Spreads w second s old mid
+    → Spreads w first t mid new → whole ≡ first ++ second → s + t ≤ space + 1 → Spreads w whole space old new
 spreads_both w whole first second space s t old mid new a b e h =
     let both = append_assoc old.jobs.items a.added b.added in
     let x = a.less in
@@ -76,13 +81,15 @@ spreads_both w whole first second space s t old mid new a b e h =
     record {
       added = a.added ++ b.added;
       adds = record { jobs = b.adds.jobs ∙ ap (λ js. js ++ b.added) a.adds.jobs ∙ both; kept = Keeps-trans a.adds.kept b.adds.kept };
-      text = e ∙ ap (λ xs. xs ++ second) (b.text ∙ ap (λ n. jobs_text w n b.added) indent) ∙ ap (λ xs. jobs_text w old.indent b.added ++ xs) a.text ∙ sym (jobs_text-append w old.indent a.added b.added);
+      text = e ∙ ap (λ xs. xs ++ second) (b.text ∙ ap (λ n. jobs_text w n b.added) indent) ∙ ap (λ xs. jobs_text w old.indent b.added ++ xs) a.text
+          ∙ sym (jobs_text-append w old.indent a.added b.added);
       jobs = All-append (IsJob w (room new)) a.added b.added (jobs_wider w a.added (room mid) (room new) b.adds.kept.room a.jobs) b.jobs;
       less = omega (arith, x, y, z, h);
     }
 
 -- one job was left
-pub spreads_one : (w : Store) (old new : Layout) (j : Job) → Adds (j ∷ []) old new → IsPiece w j.piece → j.margin ≤ room old → Spreads w (job_text w old.indent j) (piece_size w j.piece + 1) old new
+pub spreads_one : (w : Store) (old new : Layout) (j : Job) → Adds (j ∷ []) old new → IsPiece w j.piece → j.margin ≤ room old
+    → Spreads w (job_text w old.indent j) (piece_size w j.piece + 1) old new
 spreads_one w old new j h p m =
     let r = h.kept.room in
     record { added = j ∷ []; adds = h; text = refl; jobs = ((p, omega (arith, m, r)), tt); less = omega arith }
@@ -119,7 +126,8 @@ module _ (w : Store) (t : Term) (s : Symbol) (h : HasAppl w t s) (n m : ℕ) whe
         let f : Some (list_of h.args) ≡ Some (Items none e.0) = sym listed ∙ e.1 in
         cc f
 
-    pub constant_text : (b : Bool) → IfSome (signature_of w s) (λ g. b ≡ (is_empty g.name && not g.quoted)) → seen [] (arguments_laid n m) (tree_at w t) ≡ cond b (codes "()") []
+    pub constant_text : (b : Bool) → IfSome (signature_of w s) (λ g. b ≡ (is_empty g.name && not g.quoted))
+        → seen [] (arguments_laid n m) (tree_at w t) ≡ cond b (codes "()") []
     constant_text b e =
         let here = h.here in
         let none_there = args_none in
@@ -142,7 +150,8 @@ module _ (w : Store) (t : Term) (s : Symbol) (h : HasAppl w t s) (n m : ℕ) whe
   name_held = let sig = h.symbol in rw sig refl
 
 -- its name was left before its arguments
-pub application_leaves : (r : Result (Unit {0}) WriteFault) (w : Store) (t : Term) (s : Symbol) (h : HasAppl w t s) (m : ℕ) (j : Job) (old mid new : Layout) → m ≤ room old → j ≡ job_at m (piece.Atom (atom.Name s))
+pub application_leaves : (r : Result (Unit {0}) WriteFault) (w : Store) (t : Term) (s : Symbol) (h : HasAppl w t s) (m : ℕ) (j : Job)
+    (old mid new : Layout) → m ≤ room old → j ≡ job_at m (piece.Atom (atom.Name s))
     → Spreads w (seen [] (arguments_laid old.indent m) (tree_at w t)) (seen 1 arguments_size (tree_at w t)) old mid → OnOk r (Adds (j ∷ []) mid new)
     → OnOk r (Spreads w (seen [] (body_laid old.indent m) (tree_at w t)) (seen 1 body_size (tree_at w t)) old new)
 application_leaves (Err e) w t s h m j old mid new at is a b = tt
@@ -150,7 +159,9 @@ application_leaves (Ok x) w t s h m j old mid new at is a b =
     let k = a.adds.kept.room in
     let named = job_at m (piece.Atom (atom.Name s)) in
     let one = spreads_one w mid new named (subst (λ (i : Job). Adds (i ∷ []) mid new) is b) (name_held w t s h old.indent m) (omega (arith, at, k)) in
-    spreads_both w (seen [] (body_laid old.indent m) (tree_at w t)) (atom_text w m (atom.Name s)) (seen [] (arguments_laid old.indent m) (tree_at w t)) (seen 1 body_size (tree_at w t)) (seen 1 arguments_size (tree_at w t)) 2 old mid new a one (application_text w t s h old.indent m) (application_size w t s h old.indent m)
+    spreads_both w (seen [] (body_laid old.indent m) (tree_at w t)) (atom_text w m (atom.Name s))
+    (seen [] (arguments_laid old.indent m) (tree_at w t)) (seen 1 body_size (tree_at w t)) (seen 1 arguments_size (tree_at w t)) 2 old mid new a
+    one (application_text w t s h old.indent m) (application_size w t s h old.indent m)
 
 -- ---- annotations
 
@@ -165,7 +176,9 @@ pub record Noted (w : Store) (n m : ℕ) (o : Option Tree) (a : Term) : Type 0 w
 -- ---- the loop
 
 -- and of one that was
-pub leaves_written : (r : Result (Unit {0}) WriteFault) (w : Store) (whole : List ℕ) (space : ℕ) (before after : Option (List ℕ)) (old new : Layout) → IsBlank new → new.indent ≡ old.indent → new.jobs.items ≡ old.jobs.items → room old ≤ room new → 0 < space → OnOk r (Appends before after whole) → OnOk r (Leaves w whole space before after old new)
+pub leaves_written : (r : Result (Unit {0}) WriteFault) (w : Store) (whole : List ℕ) (space : ℕ) (before after : Option (List ℕ)) (old new : Layout)
+    → IsBlank new → new.indent ≡ old.indent → new.jobs.items ≡ old.jobs.items → room old ≤ room new → 0 < space → OnOk r (Appends before after whole)
+    → OnOk r (Leaves w whole space before after old new)
 leaves_written (Err x) w whole space before after old new blank i e r less a = tt
 leaves_written (Ok x) w whole space before after old new blank i e r less a =
     record {
@@ -173,7 +186,17 @@ leaves_written (Ok x) w whole space before after old new blank i e r less a =
       rest = [];
       written = a;
       text = sym (append-nil whole);
-      spreads = record { added = []; adds = record { jobs = e ∙ sym (append-nil old.jobs.items); kept = record { indent = i; room = r; blank = blank } }; text = refl; jobs = tt; less = less };
+      spreads = record {
+        added = [];
+        adds = record {
+          jobs = e ∙ sym (append-nil old.jobs.items);
+          kept =
+              record { indent = i; room = r; blank = blank };
+        };
+        text = refl;
+        jobs = tt;
+        less = less;
+      };
     }
 
 -- what was written, and the jobs that are left, are the whole text
@@ -186,7 +209,8 @@ pub record Writing (w : Store) (n : ℕ) (whole : List ℕ) (old now : Option (L
   pub blank : IsBlank left
 
 -- one job was taken off
-module _ (w : Store) (n : ℕ) (whole : List ℕ) (old now : Option (List ℕ)) (layout left : Layout) (j : Job) (u : Writing w n whole old now layout) (popped : layout.jobs.items ≡ left.jobs.items ++ j ∷ []) (indent : left.indent ≡ layout.indent) (blanks : left.blanks ≡ layout.blanks) where
+module _ (w : Store) (n : ℕ) (whole : List ℕ) (old now : Option (List ℕ)) (layout left : Layout) (j : Job) (u : Writing w n whole old now layout)
+    (popped : layout.jobs.items ≡ left.jobs.items ++ j ∷ []) (indent : left.indent ≡ layout.indent) (blanks : left.blanks ≡ layout.blanks) where
   pub room_left : room left ≡ room layout
   room_left = ap (λ b. vec_len b) blanks
 
@@ -205,35 +229,44 @@ module _ (w : Store) (n : ℕ) (whole : List ℕ) (old now : Option (List ℕ)) 
   pub job_left : IsJob w (room left) j
   job_left = jobs_are.1
 
-  pub writing_on : (new : Option (List ℕ)) (after : Layout) → Leaves w (job_text w left.indent j) (piece_size w j.piece) now new left after → Writing w n whole old new after
+  pub writing_on : (new : Option (List ℕ)) (after : Layout) → Leaves w (job_text w left.indent j) (piece_size w j.piece) now new left after
+      → Writing w n whole old new after
   writing_on new after l =
       let rest : List ℕ = jobs_text w n left.jobs.items in
       let s = l.spreads in
       let kept = s.adds.kept in
-      let grown : jobs_text w n after.jobs.items ≡ jobs_text w n s.added ++ rest = ap (jobs_text w n) s.adds.jobs ∙ jobs_text-append w n left.jobs.items s.added in
+      let grown : jobs_text w n after.jobs.items ≡ jobs_text w n s.added ++ rest =
+      ap (jobs_text w n) s.adds.jobs ∙ jobs_text-append w n left.jobs.items s.added in
       let added : l.rest ≡ jobs_text w n s.added = s.text ∙ ap (λ k. jobs_text w k s.added) indent_left in
       let stay = jobs_wider w left.jobs.items (room left) (room after) kept.room jobs_are.0 in
       let jobs = s.adds.jobs in
       record {
         front = u.front ++ l.front;
         written = appends_both old now new u.front l.front u.written l.written;
-        text = parts ∙ ap (λ xs. u.front ++ (xs ++ rest)) (ap (λ k. job_text w k j) (sym indent_left) ∙ l.text ∙ ap (λ xs. l.front ++ xs) added) ∙ ap (λ xs. u.front ++ xs) (append_assoc l.front (jobs_text w n s.added) rest) ∙ sym (append_assoc u.front l.front (jobs_text w n s.added ++ rest)) ∙ ap (λ xs. (u.front ++ l.front) ++ xs) (sym grown);
+        text = parts ∙ ap (λ xs. u.front ++ (xs ++ rest)) (ap (λ k. job_text w k j) (sym indent_left) ∙ l.text ∙ ap (λ xs. l.front ++ xs) added)
+            ∙ ap (λ xs. u.front ++ xs) (append_assoc l.front (jobs_text w n s.added) rest)
+            ∙ sym (append_assoc u.front l.front (jobs_text w n s.added ++ rest)) ∙ ap (λ xs. (u.front ++ l.front) ++ xs) (sym grown);
         jobs = rw jobs (All-append (IsJob w (room after)) left.jobs.items s.added stay s.jobs);
         indent = kept.indent ∙ indent_left;
         blank = kept.blank;
       }
 
-  pub less_left : (new : Option (List ℕ)) (after : Layout) → Leaves w (job_text w left.indent j) (piece_size w j.piece) now new left after → jobs_size w after.jobs.items < jobs_size w layout.jobs.items
+  pub less_left : (new : Option (List ℕ)) (after : Layout) → Leaves w (job_text w left.indent j) (piece_size w j.piece) now new left after
+      → jobs_size w after.jobs.items < jobs_size w layout.jobs.items
   less_left new after l =
       let less = l.spreads.less in
-      let grown : jobs_size w after.jobs.items ≡ jobs_size w left.jobs.items + jobs_size w l.spreads.added = ap (jobs_size w) l.spreads.adds.jobs ∙ jobs_size-append w left.jobs.items l.spreads.added in
-      let before : jobs_size w layout.jobs.items ≡ jobs_size w left.jobs.items + (piece_size w j.piece + 0) = ap (jobs_size w) popped ∙ jobs_size-append w left.jobs.items (j ∷ []) in
+      let grown : jobs_size w after.jobs.items ≡ jobs_size w left.jobs.items + jobs_size w l.spreads.added =
+      ap (jobs_size w) l.spreads.adds.jobs ∙ jobs_size-append w left.jobs.items l.spreads.added in
+      let before : jobs_size w layout.jobs.items ≡ jobs_size w left.jobs.items + (piece_size w j.piece + 0) =
+      ap (jobs_size w) popped ∙ jobs_size-append w left.jobs.items (j ∷ []) in
       omega (arith, less, grown, before)
 
   pub writing_stopped : (new : Option (List ℕ)) → AppendsFront (job_text w left.indent j) now new → AppendsFront whole old new
-  writing_stopped new h = front_within old now new whole u.front (job_text w n j) (jobs_text w n left.jobs.items) parts u.written (subst (λ k. AppendsFront (job_text w k j) now new) indent_left h)
+  writing_stopped new h = front_within old now new whole u.front (job_text w n j) (jobs_text w n left.jobs.items) parts u.written
+      (subst (λ k. AppendsFront (job_text w k j) now new) indent_left h)
 
 -- of the text of the tree of a reference
-pub if_front : (n : ℕ) (o : Option Tree) (old new : Option (List ℕ)) → AppendsFront (seen [] (laid n) o) old new → IfSome o (λ u. AppendsFront (laid n u) old new)
+pub if_front : (n : ℕ) (o : Option Tree) (old new : Option (List ℕ)) → AppendsFront (seen [] (laid n) o) old new
+    → IfSome o (λ u. AppendsFront (laid n u) old new)
 if_front n None old new h = tt
 if_front n (Some u) old new h = h

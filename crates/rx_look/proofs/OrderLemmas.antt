@@ -1,5 +1,6 @@
 -- Lists without repeats that grow at their ends, and the places of their items.
-use Rattle.std.proofs.Common.{◌≡◌, ℕ, ◌+◌, zero, suc, Bool, true, false, List, [], ◌∷◌, ◌++◌, Some, None, refl, sym, ap, ◌∙◌, append_assoc, append-nil, map, slice_get}
+use Rattle.std.proofs.Common.{◌≡◌, ℕ, ◌+◌, zero, suc, Bool, true, false, List, [], ◌∷◌, ◌++◌, Some}
+use Rattle.std.proofs.Common.{None, refl, sym, ap, ◌∙◌, append_assoc, append-nil, map, slice_get}
 use Rattle.std.specs.List.{AllByRecursion, list_any, position_or_len}
 use Rattle.indexmap.specs.IndexSet.{insert_key, insert_all}
 
@@ -28,7 +29,8 @@ module _ {X : Type 0} where
   place_more p [] ys h = absurd (cc h)
   place_more p (x ∷ xs) ys h = by (p x) refl (place_more p xs ys)
     where
-      by : (b : Bool) → p x ≡ b → (list_any p xs ≡ true → position_or_len p (xs ++ ys) ≡ position_or_len p xs) → position_or_len p ((x ∷ xs) ++ ys) ≡ position_or_len p (x ∷ xs)
+      by : (b : Bool) → p x ≡ b → (list_any p xs ≡ true → position_or_len p (xs ++ ys) ≡ position_or_len p xs)
+          → position_or_len p ((x ∷ xs) ++ ys) ≡ position_or_len p (x ∷ xs)
       by true e others = rw e refl
       by false e others = rw e (ap (λ n. 1 + n) (others (rw e at h)))
 
@@ -37,7 +39,8 @@ module _ {X : Type 0} where
   place_last p [] y h e = rw e refl
   place_last p (x ∷ xs) y h e = by (p x) refl (λ k. place_last p xs y k e)
     where
-      by : (b : Bool) → p x ≡ b → (list_any p xs ≡ false → position_or_len p (xs ++ y ∷ []) ≡ position_or_len p xs) → position_or_len p ((x ∷ xs) ++ y ∷ []) ≡ position_or_len p (x ∷ xs)
+      by : (b : Bool) → p x ≡ b → (list_any p xs ≡ false → position_or_len p (xs ++ y ∷ []) ≡ position_or_len p xs)
+          → position_or_len p ((x ∷ xs) ++ y ∷ []) ≡ position_or_len p (x ∷ xs)
       by true q others = absurd (let k : true ≡ false = rw q at h in cc k)
       by false q others = rw q (ap (λ n. 1 + n) (others (rw q at h)))
 
@@ -119,7 +122,8 @@ pub map_append : {X Y : Type 0} (f : X → Y) (xs ys : List X) → map f (xs ++ 
 map_append f [] ys = refl
 map_append f (x ∷ xs) ys = ap (λ zs. f x ∷ zs) (map_append f xs ys)
 
-pub map_insert : {X Y : Type 0} (f : X → Y) (eq : X → X → Bool) (other : Y → Y → Bool) (xs : List X) (x : X) → AllByRecursion (λ y. eq x y ≡ other (f x) (f y)) xs → map f (insert_key eq xs x) ≡ insert_key other (map f xs) (f x)
+pub map_insert : {X Y : Type 0} (f : X → Y) (eq : X → X → Bool) (other : Y → Y → Bool) (xs : List X) (x : X)
+    → AllByRecursion (λ y. eq x y ≡ other (f x) (f y)) xs → map f (insert_key eq xs x) ≡ insert_key other (map f xs) (f x)
 map_insert f eq other xs x h = by (list_any (eq x) xs) refl
   where
     same : list_any (eq x) xs ≡ list_any (other (f x)) (map f xs)

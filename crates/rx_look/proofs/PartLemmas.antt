@@ -1,5 +1,6 @@
 -- The parts in order are the different parts, each once.
-use Rattle.std.proofs.Common.{◌≡◌, ℕ, ◌<◌, ◌≤◌, ◌⊎◌, zero, suc, inl, inr, Bool, true, false, ◌||◌, List, [], ◌∷◌, Option, Some, None, Contains, refl, sym, ap, subst, ◌∙◌, arith, length, slice_get}
+use Rattle.std.proofs.Common.{◌≡◌, ℕ, ◌<◌, ◌≤◌, ◌⊎◌, zero, suc, inl, inr, Bool, true, false, ◌||◌, List, [], ◌∷◌}
+use Rattle.std.proofs.Common.{Option, Some, None, Contains, refl, sym, ap, subst, ◌∙◌, arith, length, slice_get}
 use Rattle.std.specs.List.{IsDistinct, list_any}
 use Rattle.std.specs.Cmp.{IsEquivalence}
 use Rattle.std.proofs.lemmas.Bool.Decides.{same_from_decides}
@@ -45,7 +46,8 @@ module _ {X : Type 0} {eq : X → X → Bool} (laws : IsEquivalence eq) where
   -- several more are there, and no others
   member_insert_all : (xs ys : List X) (q : X) → list_any (eq q) (insert_all eq xs ys) ≡ (list_any (eq q) xs || list_any (eq q) ys)
   member_insert_all xs [] q = sym (or_false (list_any (eq q) xs))
-  member_insert_all xs (y ∷ ys) q = member_insert_all (insert_key eq xs y) ys q ∙ ap (λ b. b || list_any (eq q) ys) (member_insert xs y q) ∙ or_assoc (list_any (eq q) xs) (eq q y) (list_any (eq q) ys)
+  member_insert_all xs (y ∷ ys) q = member_insert_all (insert_key eq xs y) ys q ∙ ap (λ b. b || list_any (eq q) ys) (member_insert xs y q)
+      ∙ or_assoc (list_any (eq q) xs) (eq q y) (list_any (eq q) ys)
     where
       or_assoc : (a b c : Bool) → ((a || b) || c) ≡ (a || (b || c))
       or_assoc true b c = refl
@@ -97,10 +99,12 @@ found_parts t zero p h = elim (either (tree_eq p t) false h) [
 ]
 found_parts t (suc n) p h = by (slice_get (found t n) n) refl h (found_parts t n)
   where
-    by : (o : Option Tree) → slice_get (found t n) n ≡ o → Has (with_own (found t n) o) p → ((q : Tree) → Has (found t n) q → Contains (parts t) q) → Contains (parts t) p
+    by : (o : Option Tree) → slice_get (found t n) n ≡ o → Has (with_own (found t n) o) p → ((q : Tree) → Has (found t n) q → Contains (parts t) q)
+        → Contains (parts t) p
     by None e k before = before p k
     by (Some u) e k before =
-        elim (either (list_any (tree_eq p) (found t n)) (list_any (tree_eq p) (own_parts u)) (sym (member_insert_all tree_equivalence (found t n) (own_parts u) p) ∙ k)) [
+        elim (either (list_any (tree_eq p) (found t n)) (list_any (tree_eq p) (own_parts u))
+        (sym (member_insert_all tree_equivalence (found t n) (own_parts u) p) ∙ k)) [
           | inl a ↦ before p a
           | inr a ↦ parts-trans t u p (before u (at_has (found t n) n u e)) (parts-named u p (in_has (own_parts u) p a))
         ]
@@ -111,7 +115,8 @@ found_few t n =
     let all = insert_all tree_eq [] (parts t) in
     let once : IsDistinct tree_eq all = distinct_insert_all tree_equivalence [] (parts t) none_distinct in
     let same : length all ≡ part_count t = length-from_keys tree_equivalence all (parts t) once (λ q. member_insert_all tree_equivalence [] (parts t) q) in
-    let le = length-le_from_is_member tree_equivalence (found t n) all (found_distinct t n) (λ q h. member_insert_all tree_equivalence [] (parts t) q ∙ has_in (parts t) q (found_parts t n q h)) in
+    let le = length-le_from_is_member tree_equivalence (found t n) all (found_distinct t n) (λ q h.
+    member_insert_all tree_equivalence [] (parts t) q ∙ has_in (parts t) q (found_parts t n q h)) in
     omega (arith, same, le)
 
 -- ---- all are found
@@ -137,7 +142,8 @@ order_closed t u q c d =
     let lt : n < part_count t = omega (arith, few, short) in
     let before : slice_get (found t n) n ≡ Some u = sym (order_at t n lt) ∙ at in
     let next : found t (suc n) ≡ insert_all tree_eq (found t n) (own_parts u) = ap (with_own (found t n)) before in
-    let has : Has (found t (suc n)) q = ap (list_any (tree_eq q)) next ∙ member_insert_all tree_equivalence (found t n) (own_parts u) q ∙ ap (λ b. list_any (tree_eq q) (found t n) || b) (has_in (own_parts u) q d) ∙ or_one (list_any (tree_eq q) (found t n)) in
+    let has : Has (found t (suc n)) q = ap (list_any (tree_eq q)) next ∙ member_insert_all tree_equivalence (found t n) (own_parts u) q
+    ∙ ap (λ b. list_any (tree_eq q) (found t n) || b) (has_in (own_parts u) q d) ∙ or_one (list_any (tree_eq q) (found t n)) in
     let b = order_begins t (suc n) lt in
     in_has (order t) q (ap (list_any (tree_eq q)) b.1 ∙ any_more (tree_eq q) (found t (suc n)) b.0 has)
   where
@@ -163,8 +169,9 @@ lists_parts t =
       once = found_distinct t (part_count t);
       all = all;
       only = only;
-      count = length-from_keys tree_equivalence (order t) (parts t) (found_distinct t (part_count t)) (λ q. same_from_decides _ _ (is_member-Decides tree_eq-Decides (order t) q) (
-        (λ e. all q ((is_member-Decides tree_eq-Decides (parts t) q).0 e)),
-        (λ c. (is_member-Decides tree_eq-Decides (parts t) q).1 (only q c)),
-      ));
+      count = length-from_keys tree_equivalence (order t) (parts t) (found_distinct t (part_count t)) (λ q.
+          same_from_decides _ _ (is_member-Decides tree_eq-Decides (order t) q) (
+            (λ e. all q ((is_member-Decides tree_eq-Decides (parts t) q).0 e)),
+            (λ c. (is_member-Decides tree_eq-Decides (parts t) q).1 (only q c)),
+          ));
     }

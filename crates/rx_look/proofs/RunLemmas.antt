@@ -16,7 +16,8 @@ still_unrooted (Indented n) old new e h = tt
 still_unrooted (Graph n) old new e h = λ t. ap (λ roots. roots t) e ∙ h t
 
 -- the lines of a tree that is held
-pub lines_held : (lines : Tree → List ℕ) (w v : Store) (t : Term) → IsSome (tree_at w t) → tree_at v t ≡ tree_at w t → lines_at lines w t ≡ lines (held_tree v t)
+pub lines_held : (lines : Tree → List ℕ) (w v : Store) (t : Term) → IsSome (tree_at w t) → tree_at v t ≡ tree_at w t
+    → lines_at lines w t ≡ lines (held_tree v t)
 lines_held lines w v t h same = by (tree_at w t) refl h
   where
     by : (o : Option Tree) → tree_at w t ≡ o → IsSome o → lines_at lines w t ≡ lines (held_tree v t)
@@ -24,7 +25,8 @@ lines_held lines w v t h same = by (tree_at w t) refl h
     by (Some u) e k = rw (same, e) refl
 
 -- the parts of the one tree that is kept
-pub counted_tree : (w v : Store) (t : Term) (n : ℕ) → IsSome (tree_at w t) → tree_at v t ≡ tree_at w t → IfSome (tree_at w t) (λ u. n ≡ part_count u) → n ≡ part_count (held_tree v t)
+pub counted_tree : (w v : Store) (t : Term) (n : ℕ) → IsSome (tree_at w t) → tree_at v t ≡ tree_at w t → IfSome (tree_at w t) (λ u. n ≡ part_count u)
+    → n ≡ part_count (held_tree v t)
 counted_tree w v t n h same c = by (tree_at w t) refl h c
   where
     by : (o : Option Tree) → tree_at w t ≡ o → IsSome o → IfSome o (λ u. n ≡ part_count u) → n ≡ part_count (held_tree v t)

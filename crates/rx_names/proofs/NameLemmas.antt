@@ -1,5 +1,6 @@
 -- A table of names as a map of symbols.
-use Rattle.std.proofs.Common.{ℕ, zero, suc, ◌≡◌, ◌≢◌, true, ◌&&◌, List, [], ◌∷◌, ◌++◌, length, Option, Some, None, IsSome, is_some, refl, sym, ap, ◌∙◌, subst, inl, inr, arith, slice_get, nat_eq}
+use Rattle.std.proofs.Common.{ℕ, zero, suc, ◌≡◌, ◌≢◌, true, ◌&&◌, List, [], ◌∷◌, ◌++◌, length, Option, Some, None}
+use Rattle.std.proofs.Common.{IsSome, is_some, refl, sym, ap, ◌∙◌, subst, inl, inr, arith, slice_get, nat_eq}
 use Rattle.std.specs.Prelude.{Decides, MatchOption, Result, Ok, Err}
 use Rattle.std.specs.Ordering.{nat_cmp}
 use Rattle.rx_names.specs.declared.faults.NamesFault.{NamesFault}
@@ -40,7 +41,8 @@ pub record Stands (ws : List (List ℕ)) (es : List Entry) (s : ℕ) (g : Signat
 
 pub stands : (ws : List (List ℕ)) (es : List Entry) (s : ℕ) (g : Signature) → map.get (symbols_from ws es) s ≡ Some g → Stands ws es s g
 stands ws es s g e = by_entry (slice_get es s) refl (sym (symbols-at ws es s) ∙ e) where
-  by_word : (x : Entry) → slice_get es s ≡ Some x → (o : Option (List ℕ)) → slice_get ws x.word ≡ o → option_map (λ w. let g : Signature = record { name = w; quoted = x.quoted; arity = x.arity } in g) o ≡ Some g → Stands ws es s g
+  by_word : (x : Entry) → slice_get es s ≡ Some x → (o : Option (List ℕ)) → slice_get ws x.word ≡ o
+      → option_map (λ w. let g : Signature = record { name = w; quoted = x.quoted; arity = x.arity } in g) o ≡ Some g → Stands ws es s g
   by_word x q None p e = cc
   by_word x q (Some w) p e =
       let same : (let h : Signature = record { name = w; quoted = x.quoted; arity = x.arity } in h) ≡ g = cc in
@@ -59,7 +61,8 @@ table n = record {
   apart = λ s t g a b. (
       let x = stands (words_of n.words) n.entries.keys s g a in
       let y = stands (words_of n.words) n.entries.keys t g b in
-      let same : x.entry ≡ y.entry = same_entry x.entry y.entry (n.words.apart x.entry.word y.entry.word g.name x.word y.word) (x.quoted ∙ sym y.quoted) (x.arity ∙ sym y.arity) in
+      let same : x.entry ≡ y.entry = same_entry x.entry y.entry (n.words.apart x.entry.word y.entry.word g.name x.word y.word)
+      (x.quoted ∙ sym y.quoted) (x.arity ∙ sym y.arity) in
       n.apart s t x.entry x.at (y.at ∙ ap (λ z. Some z) (sym same)));
   valid = λ s g a. (
       let x = stands (words_of n.words) n.entries.keys s g a in
@@ -92,7 +95,8 @@ module _ (ws vs : List (List ℕ)) (es : List Entry) (kept : KeepsPlaces ws vs) 
   pub kept-symbols : symbols_from vs es ≡ symbols_from ws es
   kept-symbols = tabulate-same (length es) (signature_at vs es) (signature_at ws es) kept-at
 
-pub Placed-allowed : (ws : List (List ℕ)) (es new : List Entry) (e : Entry) → Placed es new e → AllAllowed ws es → is_allowed_word (slice_get ws e.word) e.quoted ≡ true → AllAllowed ws new
+pub Placed-allowed : (ws : List (List ℕ)) (es new : List Entry) (e : Entry) → Placed es new e → AllAllowed ws es
+    → is_allowed_word (slice_get ws e.word) e.quoted ≡ true → AllAllowed ws new
 Placed-allowed ws es new e placed allowed ok = elim placed [
   | inl q ↦ subst (AllAllowed ws) (sym q) allowed
   | inr q ↦ subst (AllAllowed ws) (sym q.1) (λ i f at. elim (push-cases es e i f at) [
@@ -107,7 +111,8 @@ push-other [] e (suc t) ne = refl
 push-other (x ∷ xs) e zero ne = refl
 push-other (x ∷ xs) e (suc t) ne = push-other xs e t (λ q. ne (omega (arith, q)))
 
-pub says-entry : (ws : List (List ℕ)) (e : Entry) (g : Signature) → slice_get ws e.word ≡ Some g.name → e.quoted ≡ g.quoted → e.arity ≡ g.arity → signature_in ws e ≡ Some g
+pub says-entry : (ws : List (List ℕ)) (e : Entry) (g : Signature) → slice_get ws e.word ≡ Some g.name → e.quoted ≡ g.quoted → e.arity ≡ g.arity
+    → signature_in ws e ≡ Some g
 says-entry ws e g p q r = rw p (ap (λ z. Some z) (λ i. let h : Signature = record { name = g.name; quoted = q i; arity = r i } in h))
 
 -- an entry put in, or found
@@ -134,10 +139,12 @@ module _ (ws : List (List ℕ)) (es new : List Entry) (e : Entry) (place : ℕ) 
   only-placed : (g : Signature) → AreApart ws → AreApart new → Stands ws new place g → (t : ℕ) → map.get (symbols_from ws new) t ≡ Some g → t ≡ place
   only-placed g words entries here t held =
       let there = stands ws new t g held in
-      let same : there.entry ≡ here.entry = same_entry there.entry here.entry (words there.entry.word here.entry.word g.name there.word here.word) (there.quoted ∙ sym here.quoted) (there.arity ∙ sym here.arity) in
+      let same : there.entry ≡ here.entry = same_entry there.entry here.entry (words there.entry.word here.entry.word g.name there.word here.word)
+      (there.quoted ∙ sym here.quoted) (there.arity ∙ sym here.arity) in
       entries t place there.entry there.at (here.at ∙ ap (λ z. Some z) (sym same))
 
-  pub Interns-placed : (g : Signature) → AreApart ws → AreApart new → slice_get ws e.word ≡ Some g.name → e.quoted ≡ g.quoted → e.arity ≡ g.arity → Interns (symbols_from ws es) (symbols_from ws new) g (record { 0 = place })
+  pub Interns-placed : (g : Signature) → AreApart ws → AreApart new → slice_get ws e.word ≡ Some g.name → e.quoted ≡ g.quoted → e.arity ≡ g.arity
+      → Interns (symbols_from ws es) (symbols_from ws new) g (record { 0 = place })
   Interns-placed g words entries word quoted arity = record {
     added = symbols-at ws new place ∙ ap (option_and_then (signature_in ws)) at ∙ says-entry ws e g word quoted arity;
     only = only-placed g words entries (record { entry = e; at = at; word = word; quoted = quoted; arity = arity });
@@ -152,7 +159,8 @@ entry_eq-Decides e f = (
       let p = both_parts (nat_eq e.word f.word) (beq e.quoted f.quoted && nat_eq e.arity f.arity) h in
       let q = both_parts (beq e.quoted f.quoted) (nat_eq e.arity f.arity) p.1 in
       same_entry e f ((Decides-eqb e.word f.word).0 p.0) ((booleans_Decides e.quoted f.quoted).0 q.0) ((Decides-eqb e.arity f.arity).0 q.1)),
-  λ h. both_true ((Decides-eqb e.word f.word).1 (ap (λ x. x.word) h)) (both_true ((booleans_Decides e.quoted f.quoted).1 (ap (λ x. x.quoted) h)) ((Decides-eqb e.arity f.arity).1 (ap (λ x. x.arity) h))),
+  λ h. both_true ((Decides-eqb e.word f.word).1 (ap (λ x. x.word) h))
+      (both_true ((booleans_Decides e.quoted f.quoted).1 (ap (λ x. x.quoted) h)) ((Decides-eqb e.arity f.arity).1 (ap (λ x. x.arity) h))),
 )
 
 module _ (n : Names) (g : Signature) where
@@ -169,10 +177,13 @@ module _ (n : Names) (g : Signature) where
         nowhere s.0 (x.at ∙ ap (λ z. Some z) same)
 
     pub has-entry : (s : Symbol) → slice_get n.entries.keys s.0 ≡ Some e → map.get (symbols_of n) s.0 ≡ Some g
-    has-entry s at = symbols-at (words_of n.words) n.entries.keys s.0 ∙ ap (option_and_then (signature_in (words_of n.words))) at ∙ says-entry (words_of n.words) e g word quoted arity
+    has-entry s at = symbols-at (words_of n.words) n.entries.keys s.0 ∙ ap (option_and_then (signature_in (words_of n.words))) at
+        ∙ says-entry (words_of n.words) e g word quoted arity
 
 -- what the entry that was read says of its symbol
-pub the-entry : (n : Names) (s : ℕ) (e : Entry) (read : List Entry) → IsSome (map.get (symbols_of n) s) → read ≡ n.entries.keys → slice_get read s ≡ Some e → (w : List ℕ) × ((slice_get (words_of n.words) e.word ≡ Some w) × ((v : List ℕ) → slice_get (words_of n.words) e.word ≡ Some v → map.get (symbols_of n) s ≡ Some (record { name = v; quoted = e.quoted; arity = e.arity })))
+pub the-entry : (n : Names) (s : ℕ) (e : Entry) (read : List Entry) → IsSome (map.get (symbols_of n) s) → read ≡ n.entries.keys
+    → slice_get read s ≡ Some e → (w : List ℕ) × ((slice_get (words_of n.words) e.word ≡ Some w)
+    × ((v : List ℕ) → slice_get (words_of n.words) e.word ≡ Some v → map.get (symbols_of n) s ≡ Some (record { name = v; quoted = e.quoted; arity = e.arity })))
 the-entry n s e read held same at =
     let g = some-value (map.get (symbols_of n) s) held in
     let x = stands (words_of n.words) n.entries.keys s g.0 g.1 in
@@ -188,17 +199,21 @@ the-entry n s e read held same at =
     )
 
 -- what the search for an entry says of its signature
-pub found-or-lacks : (n : Names) (g : Signature) (e : Entry) → slice_get (words_of n.words) e.word ≡ Some g.name → e.quoted ≡ g.quoted → e.arity ≡ g.arity → (r : Option Symbol) → MatchOption r ((i : ℕ) → slice_get n.entries.keys i ≢ Some e) (λ s. slice_get n.entries.keys s.0 ≡ Some e) → FindsOrLacks (symbols_of n) g r
+pub found-or-lacks : (n : Names) (g : Signature) (e : Entry) → slice_get (words_of n.words) e.word ≡ Some g.name → e.quoted ≡ g.quoted
+    → e.arity ≡ g.arity → (r : Option Symbol) → MatchOption r ((i : ℕ) → slice_get n.entries.keys i ≢ Some e) (λ s.
+    slice_get n.entries.keys s.0 ≡ Some e) → FindsOrLacks (symbols_of n) g r
 found-or-lacks n g e word quoted arity None m = lacks-entry n g e word quoted arity m
 found-or-lacks n g e word quoted arity (Some s) m = has-entry n g e word quoted arity s m
 
 -- taking in a name keeps what each symbol stands for
-pub kept-Interns : {old new : map.FinMap nat_cmp Signature} {g : Signature} {s : Symbol} → Interns old new g s → (t : ℕ) (d : Signature) → map.get old t ≡ Some d → map.get new t ≡ Some d
+pub kept-Interns : {old new : map.FinMap nat_cmp Signature} {g : Signature} {s : Symbol} → Interns old new g s → (t : ℕ) (d : Signature)
+    → map.get old t ≡ Some d → map.get new t ≡ Some d
 kept-Interns {old = old} {s = s} m t d h = elim (eqb_tells t s.0) [
   | inl p ↦ (let there : IsSome (map.get old s.0) = ap is_some (subst (λ k. map.get old k ≡ Some d) p.1 h) in ap (λ n. map.get n t) (m.there there) ∙ h)
   | inr p ↦ m.others t p.1 ∙ h
 ]
 
-pub kept-interned : (old new : map.FinMap nat_cmp Signature) (g : Signature) (x : Result Symbol NamesFault) → InternsOrRefuses old new g x → (t : ℕ) (d : Signature) → map.get old t ≡ Some d → map.get new t ≡ Some d
+pub kept-interned : (old new : map.FinMap nat_cmp Signature) (g : Signature) (x : Result Symbol NamesFault) → InternsOrRefuses old new g x
+    → (t : ℕ) (d : Signature) → map.get old t ≡ Some d → map.get new t ≡ Some d
 kept-interned old new g (Ok s) m t d h = kept-Interns m t d h
 kept-interned old new g (Err e) m t d h = ap (λ n. map.get n t) m ∙ h

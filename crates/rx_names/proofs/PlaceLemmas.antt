@@ -1,5 +1,6 @@
 -- Lists in which each thing stands at one place, with one thing more.
-use Rattle.std.proofs.Common.{ℕ, zero, suc, ◌≡◌, ◌≢◌, ◌⊎◌, Bool, true, false, ◌||◌, List, [], ◌∷◌, ◌++◌, length, map, Option, Some, None, is_some, refl, sym, ap, ◌∙◌, subst, inl, inr, arith, slice_get, get_or, nat_lt}
+use Rattle.std.proofs.Common.{ℕ, zero, suc, ◌≡◌, ◌≢◌, ◌⊎◌, Bool, true, false, ◌||◌, List, [], ◌∷◌, ◌++◌, length, map, Option}
+use Rattle.std.proofs.Common.{Some, None, is_some, refl, sym, ap, ◌∙◌, subst, inl, inr, arith, slice_get, get_or, nat_lt}
 use Rattle.std.specs.Prelude.{Decides, MatchOption, if◌then◌else◌, IfOk, OnErr, Result, Ok, Err}
 use Rattle.std.specs.List.{list_all, list_any, position}
 use Rattle.std.proofs.lemmas.Option.{slice_get-get_or}
@@ -12,7 +13,8 @@ push-kept (z ∷ zs) x zero y e = e
 push-kept (z ∷ zs) x (suc i) y e = push-kept zs x i y e
 
 -- what stands in the longer list stood before, or is the new thing at the end
-pub push-cases : {X : Type 0} (xs : List X) (x : X) (i : ℕ) (y : X) → slice_get (xs ++ x ∷ []) i ≡ Some y → (slice_get xs i ≡ Some y) ⊎ ((i ≡ length xs) × (x ≡ y))
+pub push-cases : {X : Type 0} (xs : List X) (x : X) (i : ℕ) (y : X) → slice_get (xs ++ x ∷ []) i ≡ Some y
+    → (slice_get xs i ≡ Some y) ⊎ ((i ≡ length xs) × (x ≡ y))
 push-cases [] x zero y e = inr (refl, cc)
 push-cases [] x (suc i) y e = cc
 push-cases (z ∷ zs) x zero y e = inl e
@@ -38,7 +40,9 @@ AllBytes-push ws w all fit i v e = elim (push-cases ws w i v e) [ inl p ↦ all 
 any-place : {X : Type 0} (p : X → Bool) (xs : List X) → list_any p xs ≡ true → (i : ℕ) × ((x : X) × (slice_get xs i ≡ Some x) × (p x ≡ true))
 any-place p [] e = cc
 any-place p (x ∷ xs) e = by_head (p x) refl e (λ q. any-place p xs q) where
-  by_head : (b : Bool) → p x ≡ b → (b || list_any p xs) ≡ true → (list_any p xs ≡ true → (i : ℕ) × ((y : _) × (slice_get xs i ≡ Some y) × (p y ≡ true))) → (i : ℕ) × ((y : _) × (slice_get (x ∷ xs) i ≡ Some y) × (p y ≡ true))
+  by_head : (b : Bool) → p x ≡ b → (b || list_any p xs) ≡ true
+      → (list_any p xs ≡ true → (i : ℕ) × ((y : _) × (slice_get xs i ≡ Some y) × (p y ≡ true)))
+      → (i : ℕ) × ((y : _) × (slice_get (x ∷ xs) i ≡ Some y) × (p y ≡ true))
   by_head true q e rest = (zero, (x, refl, q))
   by_head false q e rest = let r = rest e in (suc r.0, (r.1.0, r.1.1, r.1.2))
 
@@ -88,7 +92,8 @@ module _ {X Y : Type 0} (f : X → Y) (w : Y) (p : X → Bool) (exact : (x : X) 
       map-at f (x ∷ xs) i (get_or (x ∷ xs) i x) (slice_get-get_or (x ∷ xs) i x r.0) ∙ ap (λ z. Some z) (sym ((exact (get_or (x ∷ xs) i x)).0 r.1))
 
   -- what the search answers
-  pub searched : (xs : List X) (r : Option ℕ) → r ≡ position p xs → is_some r ≡ list_any p xs → MatchOption r ((i : ℕ) → slice_get (map f xs) i ≢ Some w) (λ i. slice_get (map f xs) i ≡ Some w)
+  pub searched : (xs : List X) (r : Option ℕ) → r ≡ position p xs → is_some r ≡ list_any p xs
+      → MatchOption r ((i : ℕ) → slice_get (map f xs) i ≢ Some w) (λ i. slice_get (map f xs) i ≡ Some w)
   searched xs None e s = none-found xs (sym s)
   searched xs (Some i) e s = found-at xs i (sym e)
 
@@ -97,7 +102,8 @@ abbrev pub Placed : {X : Type 0} → List X → List X → X → Type 0
 Placed xs new x = (new ≡ xs) ⊎ (((i : ℕ) → slice_get xs i ≢ Some x) × (new ≡ xs ++ x ∷ []))
 
 -- what an insertion does, whether it was refused or not
-pub inserted-once : {A E X : Type 0} (r : Result A E) (found : Bool) (xs new : List X) (x : X) → IfOk r (λ _. new ≡ (if found then xs else xs ++ x ∷ [])) → OnErr r (new ≡ xs) → (found ≡ false → (i : ℕ) → slice_get xs i ≢ Some x) → Placed xs new x
+pub inserted-once : {A E X : Type 0} (r : Result A E) (found : Bool) (xs new : List X) (x : X)
+    → IfOk r (λ _. new ≡ (if found then xs else xs ++ x ∷ [])) → OnErr r (new ≡ xs) → (found ≡ false → (i : ℕ) → slice_get xs i ≢ Some x) → Placed xs new x
 inserted-once (Ok a) true xs new x p q lacks = inl p
 inserted-once (Ok a) false xs new x p q lacks = inr (lacks refl, p)
 inserted-once (Err a) found xs new x p q lacks = inl q
@@ -121,10 +127,12 @@ Placed-bytes ws new w placed all fit = elim placed [
 ]
 
 -- each thing seen by a function
-pub Placed-map : {X Y : Type 0} (f : X → Y) (xs new : List X) (x : X) → (new ≡ xs) ⊎ (new ≡ xs ++ x ∷ []) → ((i : ℕ) → slice_get (map f xs) i ≢ Some (f x)) → Placed (map f xs) (map f new) (f x)
+pub Placed-map : {X Y : Type 0} (f : X → Y) (xs new : List X) (x : X) → (new ≡ xs) ⊎ (new ≡ xs ++ x ∷ [])
+    → ((i : ℕ) → slice_get (map f xs) i ≢ Some (f x)) → Placed (map f xs) (map f new) (f x)
 Placed-map f xs new x p nowhere = elim p [ inl e ↦ inl (ap (map f) e) | inr e ↦ inr (nowhere, ap (map f) e ∙ map-push f xs x) ]
 
-pub inserted-new : {A E X : Type 0} (r : Result A E) (found : Bool) (xs new : List X) (x : X) → IfOk r (λ _. new ≡ (if found then xs else xs ++ x ∷ [])) → OnErr r (new ≡ xs) → found ≡ false → (new ≡ xs) ⊎ (new ≡ xs ++ x ∷ [])
+pub inserted-new : {A E X : Type 0} (r : Result A E) (found : Bool) (xs new : List X) (x : X)
+    → IfOk r (λ _. new ≡ (if found then xs else xs ++ x ∷ [])) → OnErr r (new ≡ xs) → found ≡ false → (new ≡ xs) ⊎ (new ≡ xs ++ x ∷ [])
 inserted-new (Ok a) true xs new x p q e = cc
 inserted-new (Ok a) false xs new x p q e = inr p
 inserted-new (Err a) found xs new x p q e = inl q
@@ -135,8 +143,10 @@ map-same (x ∷ xs) = ap (λ ys. x ∷ ys) (map-same xs)
 
 -- a search for a thing itself
 module _ {X : Type 0} (w : X) (p : X → Bool) (exact : (x : X) → Decides (p x) (w ≡ x)) where
-  pub searched-itself : (xs : List X) (r : Option ℕ) → r ≡ position p xs → is_some r ≡ list_any p xs → MatchOption r ((i : ℕ) → slice_get xs i ≢ Some w) (λ i. slice_get xs i ≡ Some w)
-  searched-itself xs r e s = subst (λ ys. MatchOption r ((i : ℕ) → slice_get ys i ≢ Some w) (λ i. slice_get ys i ≡ Some w)) (map-same xs) (searched (λ x. x) w p exact xs r e s)
+  pub searched-itself : (xs : List X) (r : Option ℕ) → r ≡ position p xs → is_some r ≡ list_any p xs
+      → MatchOption r ((i : ℕ) → slice_get xs i ≢ Some w) (λ i. slice_get xs i ≡ Some w)
+  searched-itself xs r e s = subst (λ ys. MatchOption r ((i : ℕ) → slice_get ys i ≢ Some w) (λ i. slice_get ys i ≡ Some w)) (map-same xs)
+      (searched (λ x. x) w p exact xs r e s)
 
   pub lacks-itself : (xs : List X) → list_any p xs ≡ false → (i : ℕ) → slice_get xs i ≢ Some w
   lacks-itself xs e i q = none-found (λ x. x) w p exact xs e i (ap (λ ys. slice_get ys i) (map-same xs) ∙ q)

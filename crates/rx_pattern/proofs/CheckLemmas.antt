@@ -1,5 +1,6 @@
 -- A turn of the loop that looks for placeholders.
-use Rattle.std.proofs.Common.{ℕ, ◌+◌, ◌<◌, ◌≤◌, ◌≡◌, IsSome, Bool, true, false, ◌&&◌, List, [], ◌∷◌, ◌++◌, Option, Some, None, reverse, refl, sym, ap, ◌∙◌, arith}
+use Rattle.std.proofs.Common.{ℕ, ◌+◌, ◌<◌, ◌≤◌, ◌≡◌, IsSome, Bool, true, false, ◌&&◌, List, []}
+use Rattle.std.proofs.Common.{◌∷◌, ◌++◌, Option, Some, None, reverse, refl, sym, ap, ◌∙◌, arith}
 use Rattle.std.specs.Prelude.{is_some}
 use Rattle.rx_term.specs.Tree.{Tree, Trees, none, more, Int, Appl, Items, Hole}
 use Rattle.rx_term.specs.Store.{Store, tree_at}
@@ -30,11 +31,13 @@ and_assoc false b c = refl
 
 knows_each-append : (ts us : List Tree) → knows_each (ts ++ us) ≡ (knows_each ts && knows_each us)
 knows_each-append [] us = refl
-knows_each-append (t ∷ ts) us = ap (λ (b : Bool). knows_placeholders t && b) (knows_each-append ts us) ∙ sym (and_assoc (knows_placeholders t) (knows_each ts) (knows_each us))
+knows_each-append (t ∷ ts) us = ap (λ (b : Bool). knows_placeholders t && b) (knows_each-append ts us)
+    ∙ sym (and_assoc (knows_placeholders t) (knows_each ts) (knows_each us))
 
 plain_each-append : (ts us : List Tree) → plain_each (ts ++ us) ≡ (plain_each ts && plain_each us)
 plain_each-append [] us = refl
-plain_each-append (t ∷ ts) us = ap (λ (b : Bool). has_plain_placeholders t && b) (plain_each-append ts us) ∙ sym (and_assoc (has_plain_placeholders t) (plain_each ts) (plain_each us))
+plain_each-append (t ∷ ts) us = ap (λ (b : Bool). has_plain_placeholders t && b) (plain_each-append ts us)
+    ∙ sym (and_assoc (has_plain_placeholders t) (plain_each ts) (plain_each us))
 
 knows-notes : (anns : Trees) → all_known anns ≡ knows_each (notes anns)
 knows-notes none = refl
@@ -56,7 +59,8 @@ plain-below : (t : Tree) → has_plain_placeholders t ≡ (own_plain t && plain_
 plain-below (Int z anns) = plain-notes anns
 plain-below (Appl name quoted args anns) = rw (and_true (all_plain args), plain-notes anns) refl
 plain-below (Items none anns) = plain-notes anns
-plain-below (Items (more t ts) anns) = and_assoc (has_plain_placeholders t) (all_plain ts) (all_plain anns) ∙ rw (and_true (all_plain ts), plain-notes anns) refl
+plain-below (Items (more t ts) anns) = and_assoc (has_plain_placeholders t) (all_plain ts) (all_plain anns)
+    ∙ rw (and_true (all_plain ts), plain-notes anns) refl
 plain-below (Hole inner none) = refl
 plain-below (Hole inner (more t ts)) = refl
 
@@ -121,9 +125,16 @@ pub record Looking (w : Store) (p : Tree) (plain : Bool) (stack : List Term) : T
   pub bare : has_plain_placeholders p ≡ (plain && plain_each trees)
 
 pub begun : (w : Store) (p : Tree) (t : Term) (stack : List Term) → tree_at w t ≡ Some p → stack ≡ t ∷ [] → Looking w p true stack
-begun w p t stack there e = record { trees = p ∷ []; stands = rw e (there, tt); knows = sym (and_true (knows_placeholders p)); bare = sym (and_true (has_plain_placeholders p)) }
+begun w p t stack there e = record {
+  trees = p ∷ [];
+  stands = rw e (there, tt);
+  knows = sym (and_true (knows_placeholders p));
+  bare =
+      sym (and_true (has_plain_placeholders p));
+}
 
-top : (w : Store) (stack rest : List Term) (r : Term) (us : List Tree) → stack ≡ rest ++ r ∷ [] → OnStack (HasTree w) stack us → (u : Tree) × ((vs : List Tree) × (us ≡ u ∷ vs) × (tree_at w r ≡ Some u) × OnStack (HasTree w) rest vs)
+top : (w : Store) (stack rest : List Term) (r : Term) (us : List Tree) → stack ≡ rest ++ r ∷ [] → OnStack (HasTree w) stack us
+    → (u : Tree) × ((vs : List Tree) × (us ≡ u ∷ vs) × (tree_at w r ≡ Some u) × OnStack (HasTree w) rest vs)
 top w stack rest r (u ∷ vs) e h = let p = pop (HasTree w) stack rest r u vs e h in (u, (vs, refl, p.0, p.1))
 top w stack rest r [] e h = absurd (empty_stack w (reverse rest) r (rw (e, push-reverse rest r) at h)) where
   empty_stack : (w : Store) (rs : List Term) (r : Term) → AreEach (HasTree w) (r ∷ rs) [] → ⊥
@@ -140,11 +151,13 @@ module _ (w : Store) (p : Tree) (plain : Bool) (stack rest : List Term) (r : Ter
   turn_needs = ap is_some first.1.2
 
   known_so_far : knows_placeholders p ≡ (own_known first.0 && (knows_each (below first.0) && knows_each others))
-  known_so_far = h.knows ∙ ap knows_each first.1.1 ∙ ap (λ (b : Bool). b && knows_each others) (knows-below first.0) ∙ and_assoc (own_known first.0) (knows_each (below first.0)) (knows_each others)
+  known_so_far = h.knows ∙ ap knows_each first.1.1 ∙ ap (λ (b : Bool). b && knows_each others) (knows-below first.0)
+      ∙ and_assoc (own_known first.0) (knows_each (below first.0)) (knows_each others)
 
   plain_so_far : has_plain_placeholders p ≡ ((plain && own_plain first.0) && (plain_each (below first.0) && plain_each others))
   plain_so_far = h.bare ∙ ap (λ (us : List Tree). plain && plain_each us) first.1.1 ∙ ap (λ (b : Bool). plain && (b && plain_each others)) (plain-below first.0)
-      ∙ ap (λ (b : Bool). plain && b) (and_assoc (own_plain first.0) (plain_each (below first.0)) (plain_each others)) ∙ sym (and_assoc plain (own_plain first.0) (plain_each (below first.0) && plain_each others))
+      ∙ ap (λ (b : Bool). plain && b) (and_assoc (own_plain first.0) (plain_each (below first.0)) (plain_each others))
+      ∙ sym (and_assoc plain (own_plain first.0) (plain_each (below first.0) && plain_each others))
 
   pub turn_unknown : (b : Bool) → ((u : Tree) → tree_at w r ≡ Some u → b ≡ own_known u) → b ≡ false → unfit p ≡ Some pattern.Unknown
   turn_unknown b test e =
@@ -152,7 +165,8 @@ module _ (w : Store) (p : Tree) (plain : Bool) (stack rest : List Term) (r : Ter
       let k : knows_placeholders p ≡ false = known_so_far ∙ ap (λ (x : Bool). x && (knows_each (below first.0) && knows_each others)) own in
       rw k refl
 
-  pub turn_on : (b d new_plain : Bool) (after : List Term) → ((u : Tree) → tree_at w r ≡ Some u → b ≡ own_known u) → b ≡ true → ((u : Tree) → tree_at w r ≡ Some u → d ≡ own_plain u) → new_plain ≡ (plain && d)
+  pub turn_on : (b d new_plain : Bool) (after : List Term) → ((u : Tree) → tree_at w r ≡ Some u → b ≡ own_known u) → b ≡ true
+      → ((u : Tree) → tree_at w r ≡ Some u → d ≡ own_plain u) → new_plain ≡ (plain && d)
       → ((u : Tree) → tree_at w r ≡ Some u → PushesTrees w (below u) rest after) → Looking w p new_plain after
   turn_on b d new_plain after known y bare e pushes =
       let own : own_known first.0 ≡ true = sym (known first.0 first.1.2) ∙ y in
@@ -161,12 +175,15 @@ module _ (w : Store) (p : Tree) (plain : Bool) (stack rest : List Term) (r : Ter
         trees = below first.0 ++ others;
         stands = pushes first.0 first.1.2 others first.1.3;
         knows = known_so_far ∙ ap (λ (x : Bool). x && (knows_each (below first.0) && knows_each others)) own ∙ sym (knows_each-append (below first.0) others);
-        bare = plain_so_far ∙ ap (λ (x : Bool). x && (plain_each (below first.0) && plain_each others)) (sym is) ∙ ap (λ (x : Bool). new_plain && x) (sym (plain_each-append (below first.0) others));
+        bare = plain_so_far ∙ ap (λ (x : Bool). x && (plain_each (below first.0) && plain_each others)) (sym is)
+            ∙ ap (λ (x : Bool). new_plain && x) (sym (plain_each-append (below first.0) others));
       }
 
-  pub turn_less : (after : List Term) → ((u : Tree) → tree_at w r ≡ Some u → PushesTrees w (below u) rest after) → weight_of w (reverse after) < weight_of w (reverse stack)
+  pub turn_less : (after : List Term) → ((u : Tree) → tree_at w r ≡ Some u → PushesTrees w (below u) rest after)
+      → weight_of w (reverse after) < weight_of w (reverse stack)
   turn_less after pushes =
       let a : weight_of w (reverse stack) ≡ weight_each h.trees = weight_of-each w (reverse stack) h.trees h.stands in
       let b : weight_each h.trees ≡ weight_each (first.0 ∷ others) = ap weight_each first.1.1 in
-      let c : weight_of w (reverse after) ≡ weight_each (below first.0 ++ others) = weight_of-each w (reverse after) (below first.0 ++ others) (pushes first.0 first.1.2 others first.1.3) in
+      let c : weight_of w (reverse after) ≡ weight_each (below first.0 ++ others) =
+      weight_of-each w (reverse after) (below first.0 ++ others) (pushes first.0 first.1.2 others first.1.3) in
       omega (arith, weight_each-append (below first.0) others, weight-below first.0)

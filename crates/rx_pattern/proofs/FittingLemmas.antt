@@ -1,5 +1,6 @@
 -- Whether terms go into the blanks of nodes.
-use Rattle.std.proofs.Common.{ℕ, suc, zero, ◌+◌, ◌<◌, ◌≤◌, ◌≡◌, Bool, true, false, not, List, [], ◌∷◌, ◌++◌, Option, Some, None, IsSome, length, drop, get_or, refl, sym, ap, ◌∙◌, subst, arith, add-one}
+use Rattle.std.proofs.Common.{ℕ, suc, zero, ◌+◌, ◌<◌, ◌≤◌, ◌≡◌, Bool, true, false, not, List, [], ◌∷◌, ◌++◌, Option}
+use Rattle.std.proofs.Common.{Some, None, IsSome, length, drop, get_or, refl, sym, ap, ◌∙◌, subst, arith, add-one}
 use Rattle.std.specs.Prelude.{option_map, is_some}
 use Rattle.rx_term.specs.Tree.{Tree, Trees, none, more, Int, Appl, Items, Hole, annotations}
 use Rattle.rx_term.specs.Store.{Store, tree_at, list_unless_empty}
@@ -59,7 +60,8 @@ HaveTrees-length w (r ∷ rs) (b ∷ bs) h = ap suc (HaveTrees-length w rs bs h.
 HaveTrees-length w [] (b ∷ bs) h = absurd h
 HaveTrees-length w (r ∷ rs) [] h = absurd h
 
-pub tree_there : (w : Store) (rs : List Term) (bs : List Tree) (k : ℕ) (r : Term) → HaveTrees w rs bs → k < length rs → r ≡ get_or rs k r → (b : Tree) × (tree_at w r ≡ Some b) × (drop k bs ≡ b ∷ drop (suc k) bs)
+pub tree_there : (w : Store) (rs : List Term) (bs : List Tree) (k : ℕ) (r : Term) → HaveTrees w rs bs → k < length rs → r ≡ get_or rs k r
+    → (b : Tree) × (tree_at w r ≡ Some b) × (drop k bs ≡ b ∷ drop (suc k) bs)
 tree_there w (x ∷ rs) (b ∷ bs) zero r h lt e = (b, rw e h.0, refl)
 tree_there w (x ∷ rs) (b ∷ bs) (suc k) r h lt e = let t = tree_there w rs bs k r h.1 (omega arith) e in (t.0, t.1, t.2)
 tree_there w [] [] k r h lt e = absurd (omega arith)
@@ -73,7 +75,8 @@ first_takes x blanks b bs e = rw e refl
 first_misfit : (x : Blank) (blanks : List Blank) (b : Tree) (bs : List Tree) → takes x b ≡ false → misfit (x ∷ blanks) (b ∷ bs) ≡ Some 0
 first_misfit x blanks b bs e = rw e refl
 
-module _ (w : Store) (all left : List Blank) (s : Step) (at : ℕ) (args : List Term) (r : Term) (bs : List Tree) (blank : is_blank s ≡ true) (held : HaveTrees w args bs) (lt : at < length args) (is : r ≡ get_or args at r)
+module _ (w : Store) (all left : List Blank) (s : Step) (at : ℕ) (args : List Term) (r : Term) (bs : List Tree) (blank : is_blank s ≡ true)
+    (held : HaveTrees w args bs) (lt : at < length args) (is : r ≡ get_or args at r)
     (h : Looking all (blanks_of_step s ++ left) at bs) (b : Bool) (test : (u : Tree) → tree_at w r ≡ Some u → b ≡ takes_as s u) where
   x : (x : Blank) × (blanks_of_step s ≡ x ∷ []) × ((t : Tree) → takes_as s t ≡ takes x t)
   x = one_blank s blank
@@ -85,22 +88,29 @@ module _ (w : Store) (all left : List Blank) (s : Step) (at : ℕ) (args : List 
   taken = sym (x.2 there.0) ∙ sym (test there.0 there.1)
 
   so_far : misfit all bs ≡ moved at (misfit (x.0 ∷ left) (there.0 ∷ drop (at + 1) bs))
-  so_far = h.same ∙ ap (λ (ss : List Blank). moved at (misfit (ss ++ left) (drop at bs))) x.1 ∙ ap (λ (cs : List Tree). moved at (misfit (x.0 ∷ left) cs)) there.2
+  so_far = h.same ∙ ap (λ (ss : List Blank). moved at (misfit (ss ++ left) (drop at bs))) x.1
+      ∙ ap (λ (cs : List Tree). moved at (misfit (x.0 ∷ left) cs)) there.2
 
   pub blank_on : b ≡ true → Looking all left (at + 1) bs
-  blank_on e = record { same = so_far ∙ ap (moved at) (first_takes x.0 left there.0 (drop (at + 1) bs) (taken ∙ e)) ∙ moved_more at (misfit left (drop (at + 1) bs)) }
+  blank_on e = record {
+    same = so_far ∙ ap (moved at) (first_takes x.0 left there.0 (drop (at + 1) bs) (taken ∙ e))
+        ∙ moved_more at (misfit left (drop (at + 1) bs));
+  }
 
   pub blank_off : b ≡ false → misfit all bs ≡ Some at
-  blank_off e = so_far ∙ ap (moved at) (first_misfit x.0 left there.0 (drop (at + 1) bs) (taken ∙ e)) ∙ ap (λ (n : ℕ). let o : Option ℕ = Some n in o) (omega arith)
+  blank_off e = so_far ∙ ap (moved at) (first_misfit x.0 left there.0 (drop (at + 1) bs) (taken ∙ e))
+      ∙ ap (λ (n : ℕ). let o : Option ℕ = Some n in o) (omega arith)
 
-pub other_on : (all left : List Blank) (s : Step) (at : ℕ) (bs : List Tree) → is_blank s ≡ false → Looking all (blanks_of_step s ++ left) at bs → Looking all left at bs
+pub other_on : (all left : List Blank) (s : Step) (at : ℕ) (bs : List Tree) → is_blank s ≡ false → Looking all (blanks_of_step s ++ left) at bs
+    → Looking all left at bs
 other_on all left s at bs e h = record { same = h.same ∙ ap (λ (ss : List Blank). moved at (misfit (ss ++ left) (drop at bs))) (no_blank s e) }
 
 pub ended : (all : List Blank) (at : ℕ) (bs : List Tree) → Looking all [] at bs → misfit all bs ≡ None
 ended all at bs h = h.same
 
 -- a list without annotations
-rest_taken : (u : Tree) → fits AnyList u ≡ true → (b : Bool) → (annotations u ≡ none → b ≡ true) → ((t : Tree) (ts : Trees) → annotations u ≡ more t ts → b ≡ false) → b ≡ takes filling.Rest u
+rest_taken : (u : Tree) → fits AnyList u ≡ true → (b : Bool) → (annotations u ≡ none → b ≡ true)
+    → ((t : Tree) (ts : Trees) → annotations u ≡ more t ts → b ≡ false) → b ≡ takes filling.Rest u
 rest_taken (Items items none) e b yes' no' = yes' refl
 rest_taken (Items items (more t ts)) e b yes' no' = no' t ts refl
 rest_taken (Int z anns) e b yes' no' = absurd (let y : ⊥ = cc in y)
@@ -115,12 +125,15 @@ not_true : (b : Bool) → not b ≡ true → b ≡ false
 not_true false e = refl
 not_true true e = absurd (let z : ⊥ = cc in z)
 
-pub takes_rest : (w : Store) (t : Term) (u : Tree) (a : Option Term) (b c : Bool) → tree_at w t ≡ Some u → c ≡ fits AnyList u → c ≡ true → HasAnns w t a → is_some a ≡ not b → b ≡ takes filling.Rest u
-takes_rest w t u None b c e f y notes n = rest_taken u (sym f ∙ y) b (λ q. not_false b (sym n)) (λ v vs q. absurd (let l = listed_notes w t u None e notes in let z : ⊥ = cc in z))
-takes_rest w t u (Some r) b c e f y notes n = rest_taken u (sym f ∙ y) b (λ q. absurd (noted_list (annotations u) q (rw e at notes))) (λ v vs q. not_true b (sym n)) where
-  noted_list : (ts : Trees) → ts ≡ none → IsSome (list_unless_empty ts) × (tree_at w r ≡ list_unless_empty ts) → ⊥
-  noted_list none q h = let i = h.0 in cc
-  noted_list (more v vs) q h = cc
+pub takes_rest : (w : Store) (t : Term) (u : Tree) (a : Option Term) (b c : Bool) → tree_at w t ≡ Some u → c ≡ fits AnyList u → c ≡ true
+    → HasAnns w t a → is_some a ≡ not b → b ≡ takes filling.Rest u
+takes_rest w t u None b c e f y notes n = rest_taken u (sym f ∙ y) b (λ q. not_false b (sym n)) (λ v vs q.
+    absurd (let l = listed_notes w t u None e notes in let z : ⊥ = cc in z))
+takes_rest w t u (Some r) b c e f y notes n = rest_taken u (sym f ∙ y) b (λ q. absurd (noted_list (annotations u) q (rw e at notes))) (λ v vs q.
+    not_true b (sym n)) where
+      noted_list : (ts : Trees) → ts ≡ none → IsSome (list_unless_empty ts) × (tree_at w r ≡ list_unless_empty ts) → ⊥
+      noted_list none q h = let i = h.0 in cc
+      noted_list (more v vs) q h = cc
 
 pub takes_no_rest : (u : Tree) (c : Bool) → c ≡ fits AnyList u → c ≡ false → c ≡ takes filling.Rest u
 takes_no_rest (Items items anns) c f n = absurd (let z : ⊥ = cc in z)
@@ -135,14 +148,16 @@ same_at [] k d e h = absurd (omega arith)
 same_at (x ∷ xs) zero d e h = refl
 same_at (x ∷ xs) (suc k) d e h = same_at xs k d e (omega arith)
 
-pub place_blank : (at n : ℕ) (s : Step) (left here : List Blank) → here ≡ blanks_of_step s ++ left → is_blank s ≡ true → at + length here ≡ n → (at < n) × (at + 1 + length left ≡ n)
+pub place_blank : (at n : ℕ) (s : Step) (left here : List Blank) → here ≡ blanks_of_step s ++ left → is_blank s ≡ true → at + length here ≡ n
+    → (at < n) × (at + 1 + length left ≡ n)
 place_blank at n s left here e y counted =
     let x = one_blank s y in
     let f : here ≡ x.0 ∷ left = e ∙ ap (λ (ss : List Blank). ss ++ left) x.1 in
     let k = ap length f in
     (omega arith, omega arith)
 
-pub place_other : (at n : ℕ) (s : Step) (left here : List Blank) → here ≡ blanks_of_step s ++ left → is_blank s ≡ false → at + length here ≡ n → at + length left ≡ n
+pub place_other : (at n : ℕ) (s : Step) (left here : List Blank) → here ≡ blanks_of_step s ++ left → is_blank s ≡ false → at + length here ≡ n
+    → at + length left ≡ n
 place_other at n s left here e other counted = let k = ap length (e ∙ ap (λ (ss : List Blank). ss ++ left) (no_blank s other)) in omega arith
 
 -- the invariant of the loop
@@ -151,7 +166,8 @@ pub record Checking (w : Store) (all left : List Blank) (args : List Term) (at i
   pub counted : at + length left ≡ length args
   pub fits : (bs : List Tree) → HaveTrees w args bs → Looking all left at bs
 
-module _ (w : Store) (all here left : List Blank) (s : Step) (args : List Term) (at i : ℕ) (steps : here ≡ blanks_of_step s ++ left) (h : Checking w all here args at i) where
+module _ (w : Store) (all here left : List Blank) (s : Step) (args : List Term) (at i : ℕ) (steps : here ≡ blanks_of_step s ++ left)
+    (h : Checking w all here args at i) where
   looking : (bs : List Tree) → HaveTrees w args bs → Looking all (blanks_of_step s ++ left) at bs
   looking bs held = subst (λ (ss : List Blank). Looking all ss at bs) steps (h.fits bs held)
 
@@ -183,10 +199,12 @@ module _ (w : Store) (all here left : List Blank) (s : Step) (args : List Term) 
 pub started : (w : Store) (all : List Blank) (args : List Term) → length all ≡ length args → Checking w all all args 0 0
 started w all args e = record { within = omega arith; counted = omega arith; fits = λ bs held. begun all bs }
 
-pub all_fit : (w : Store) (all left : List Blank) (args : List Term) (at i : ℕ) → left ≡ [] → Checking w all left args at i → (bs : List Tree) → HaveTrees w args bs → misfit all bs ≡ None
+pub all_fit : (w : Store) (all left : List Blank) (args : List Term) (at i : ℕ) → left ≡ [] → Checking w all left args at i → (bs : List Tree)
+    → HaveTrees w args bs → misfit all bs ≡ None
 all_fit w all left args at i e h bs held = ended all at bs (subst (λ (ss : List Blank). Looking all ss at bs) e (h.fits bs held))
 
-pub as_many : (w : Store) (args : List Term) (bs : List Tree) (blanks : List Blank) (n : ℕ) → HaveTrees w args bs → n ≡ length blanks → n ≡ length args → length bs ≡ length blanks
+pub as_many : (w : Store) (args : List Term) (bs : List Tree) (blanks : List Blank) (n : ℕ) → HaveTrees w args bs → n ≡ length blanks
+    → n ≡ length args → length bs ≡ length blanks
 as_many w args bs blanks n h e f = let k = HaveTrees-length w args bs h in omega arith
 
 pub drop-past : {A : Type 0} (xs : List A) (i : ℕ) → length xs ≤ i → drop i xs ≡ []

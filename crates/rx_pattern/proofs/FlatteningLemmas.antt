@@ -1,5 +1,6 @@
 -- A turn of the loop that makes the nodes of a pattern.
-use Rattle.std.proofs.Common.{suc, ◌-◌, ◌<◌, ◌≤◌, ◌≡◌, Bool, true, false, List, [], ◌∷◌, ◌++◌, Some, length, map, reverse, refl, sym, ap, ◌∙◌, subst, arith, append_assoc, length-append}
+use Rattle.std.proofs.Common.{suc, ◌-◌, ◌<◌, ◌≤◌, ◌≡◌, Bool, true, false, List, [], ◌∷◌, ◌++◌, Some, length}
+use Rattle.std.proofs.Common.{map, reverse, refl, sym, ap, ◌∙◌, subst, arith, append_assoc, length-append}
 use Rattle.std.specs.Prelude.{IsTrue}
 use Rattle.std.proofs.lemmas.List.{append-nil}
 use Rattle.rx_term.specs.Tree.{Tree, Trees, none, more, Int, Appl, Items, Hole}
@@ -18,7 +19,8 @@ use Rattle.rx_pattern.proofs.StackLemmas.{pop, push-reverse}
 use Rattle.rx_pattern.proofs.SpellingLemmas.{spell}
 
 -- the first step, and those of what is behind it
-spell_items : (p : Tree) (ps : Trees) (vs : List Piece) (b : Bool) → is_rest p ps ≡ b → spell (Several (more p ps) ∷ vs) ≡ (opens (Several (more p ps))).0 ∷ spell ((opens (Several (more p ps))).1 ++ vs)
+spell_items : (p : Tree) (ps : Trees) (vs : List Piece) (b : Bool) → is_rest p ps ≡ b
+    → spell (Several (more p ps) ∷ vs) ≡ (opens (Several (more p ps))).0 ∷ spell ((opens (Several (more p ps))).1 ++ vs)
 spell_items p ps vs true e = rw e refl
 spell_items p ps vs false e = rw e refl
 
@@ -34,7 +36,8 @@ abbrev AllOfPattern : List Piece → Type 0
 AllOfPattern [] = Unit {0}
 AllOfPattern (v ∷ vs) = IsOfPattern v × AllOfPattern vs
 
-items_of_pattern : (p : Tree) (ps : Trees) (vs : List Piece) (b : Bool) → is_rest p ps ≡ b → IsOfPattern (Several (more p ps)) → AllOfPattern vs → AllOfPattern ((opens (Several (more p ps))).1 ++ vs)
+items_of_pattern : (p : Tree) (ps : Trees) (vs : List Piece) (b : Bool) → is_rest p ps ≡ b → IsOfPattern (Several (more p ps)) → AllOfPattern vs
+    → AllOfPattern ((opens (Several (more p ps))).1 ++ vs)
 items_of_pattern p ps vs true e h k = rw e k
 items_of_pattern p ps vs false e h k =
     let a = both_parts (knows_placeholders p) (all_known ps) h.0 in
@@ -62,12 +65,14 @@ pub record Underway (w : Store) (p : Tree) (nodes : List Node) (jobs : List Job)
   pub patterns : AllOfPattern left
   pub same : code p [] ≡ map step_of nodes ++ spell left
 
-pub begun : (w : Store) (p : Tree) (t : Term) (nodes : List Node) (jobs : List Job) → tree_at w t ≡ Some p → IsTrue (is_pattern p) → nodes ≡ [] → jobs ≡ job.Tree t ∷ [] → Underway w p nodes jobs
+pub begun : (w : Store) (p : Tree) (t : Term) (nodes : List Node) (jobs : List Job) → tree_at w t ≡ Some p → IsTrue (is_pattern p) → nodes ≡ []
+    → jobs ≡ job.Tree t ∷ [] → Underway w p nodes jobs
 begun w p t nodes jobs there h e f =
     let k = both_parts (knows_placeholders p) (has_plain_placeholders p) h in
     record { left = One p ∷ []; stands = rw f (there, tt); patterns = (k, tt); same = rw e refl }
 
-top : (w : Store) (jobs rest : List Job) (j : Job) (vs : List Piece) → jobs ≡ rest ++ j ∷ [] → OnStack (IsFor w) jobs vs → (v : Piece) × ((others : List Piece) × (vs ≡ v ∷ others) × IsFor w j v × OnStack (IsFor w) rest others)
+top : (w : Store) (jobs rest : List Job) (j : Job) (vs : List Piece) → jobs ≡ rest ++ j ∷ [] → OnStack (IsFor w) jobs vs
+    → (v : Piece) × ((others : List Piece) × (vs ≡ v ∷ others) × IsFor w j v × OnStack (IsFor w) rest others)
 top w jobs rest j (v ∷ vs) e h = let p = pop (IsFor w) jobs rest j v vs e h in (v, (vs, refl, p.0, p.1))
 top w jobs rest j [] e h = absurd (empty_stack w (reverse rest) j (rw (e, push-reverse rest j) at h)) where
   empty_stack : (w : Store) (js : List Job) (i : Job) → AreEach (IsFor w) (i ∷ js) [] → ⊥
@@ -95,19 +100,23 @@ module _ (w : Store) (p : Tree) (nodes : List Node) (jobs rest : List Job) (j : 
   pub turn_needs : (v : Piece) × IsFor w j v × IsOfPattern v
   turn_needs = (first.0, first.1.2, patterned.0)
 
-  pub turn_on : (n : Node) (more_nodes : List Node) (after : List Job) → ((v : Piece) → IsFor w j v → Opens w v (step_of n) rest after) → more_nodes ≡ nodes ++ n ∷ [] → Underway w p more_nodes after
+  pub turn_on : (n : Node) (more_nodes : List Node) (after : List Job) → ((v : Piece) → IsFor w j v → Opens w v (step_of n) rest after)
+      → more_nodes ≡ nodes ++ n ∷ [] → Underway w p more_nodes after
   turn_on n more_nodes after met e =
       let m = met first.0 first.1.2 in
-      let steps : spell h.left ≡ step_of n ∷ spell ((opens first.0).1 ++ first.1.0) = ap spell first.1.1 ∙ spell-opens first.0 first.1.0 ∙ ap (λ (s : Step). s ∷ spell ((opens first.0).1 ++ first.1.0)) (sym m.0) in
+      let steps : spell h.left ≡ step_of n ∷ spell ((opens first.0).1 ++ first.1.0) =
+      ap spell first.1.1 ∙ spell-opens first.0 first.1.0 ∙ ap (λ (s : Step). s ∷ spell ((opens first.0).1 ++ first.1.0)) (sym m.0) in
       record {
         left = (opens first.0).1 ++ first.1.0;
         stands = m.1 first.1.0 first.1.3;
         patterns = opened first.0 first.1.0 patterned.0 patterned.1;
-        same = h.same ∙ ap (λ (ss : List Step). map step_of nodes ++ ss) steps ∙ sym (append_assoc (map step_of nodes) (step_of n ∷ []) (spell ((opens first.0).1 ++ first.1.0)))
+        same = h.same ∙ ap (λ (ss : List Step). map step_of nodes ++ ss) steps
+            ∙ sym (append_assoc (map step_of nodes) (step_of n ∷ []) (spell ((opens first.0).1 ++ first.1.0)))
             ∙ ap (λ (ss : List Step). ss ++ spell ((opens first.0).1 ++ first.1.0)) (sym (ap (map step_of) e ∙ nodes-push nodes n));
       }
 
-  pub turn_less : (n : Node) (more_nodes : List Node) (after : List Job) → Underway w p more_nodes after → more_nodes ≡ nodes ++ n ∷ [] → length (code p []) - length more_nodes < length (code p []) - length nodes
+  pub turn_less : (n : Node) (more_nodes : List Node) (after : List Job) → Underway w p more_nodes after → more_nodes ≡ nodes ++ n ∷ []
+      → length (code p []) - length more_nodes < length (code p []) - length nodes
   turn_less n more_nodes after k e = let a = within w p more_nodes after k in let b = ap length e in omega (arith, length-append nodes (n ∷ []))
 
 no_jobs : (w : Store) (jobs : List Job) (vs : List Piece) → jobs ≡ [] → OnStack (IsFor w) jobs vs → vs ≡ []
@@ -115,4 +124,5 @@ no_jobs w jobs [] e h = refl
 no_jobs w jobs (v ∷ vs) e h = absurd (rw e at h)
 
 pub ended : (w : Store) (p : Tree) (nodes : List Node) (jobs : List Job) → jobs ≡ [] → Underway w p nodes jobs → map step_of nodes ≡ code p []
-ended w p nodes jobs e h = sym (h.same ∙ ap (λ (vs : List Piece). map step_of nodes ++ spell vs) (no_jobs w jobs h.left e h.stands) ∙ append-nil (map step_of nodes))
+ended w p nodes jobs e h = sym (h.same ∙ ap (λ (vs : List Piece). map step_of nodes ++ spell vs) (no_jobs w jobs h.left e h.stands)
+    ∙ append-nil (map step_of nodes))

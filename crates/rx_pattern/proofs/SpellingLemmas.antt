@@ -4,15 +4,18 @@ use Rattle.std.specs.Prelude.{bytes_eq, codes, is_some, map}
 use Rattle.std.proofs.lemmas.Slice.Eq.{bytes_eq-Decides}
 use Rattle.rx_term.specs.Tree.{Tree, Trees, none, more, Int, Appl, Items, Hole, is_none}
 use Rattle.rx_term.proofs.TreeLemmas.{both_parts}
-use Rattle.rx_pattern.specs.Pattern.{PlaceholderKind, AnyTerm, AnyInt, AnyStr, AnyAppl, AnyPlaceholder, AnyList, kind_named, kind_of, is_rest, is_list_kind, knows_placeholders, all_known, has_plain_placeholders, all_plain}
-use Rattle.rx_pattern.specs.Code.{Step, Number, Named, Listing, Holding, End, Item, Rest, code, code_of_all, Piece, One, Several, word_of, placeholder, assembled, pieces}
+use Rattle.rx_pattern.specs.Pattern.{PlaceholderKind, AnyTerm, AnyInt, AnyStr, AnyAppl, AnyPlaceholder, AnyList, kind_named, kind_of}
+use Rattle.rx_pattern.specs.Pattern.{is_rest, is_list_kind, knows_placeholders, all_known, has_plain_placeholders, all_plain}
+use Rattle.rx_pattern.specs.Code.{Step, Number, Named, Listing, Holding, End, Item, Rest, code, code_of_all}
+use Rattle.rx_pattern.specs.Code.{Piece, One, Several, word_of, placeholder, assembled, pieces}
 use Rattle.rx_pattern.specs.Nodes.{step_of, tree_of_nodes, AreNodes}
 use Rattle.rx_pattern.specs.declared.nodes.Node.{Node}
 
 -- ---- words
 
 -- a choice by a test of a word
-named_or : (word : List ℕ) (text : List ℕ) (kind : PlaceholderKind) (others : Option PlaceholderKind) (k : PlaceholderKind) → cond (bytes_eq word text) (Some kind) others ≡ Some k → ((word ≡ text) × (kind ≡ k)) ⊎ (others ≡ Some k)
+named_or : (word : List ℕ) (text : List ℕ) (kind : PlaceholderKind) (others : Option PlaceholderKind) (k : PlaceholderKind)
+    → cond (bytes_eq word text) (Some kind) others ≡ Some k → ((word ≡ text) × (kind ≡ k)) ⊎ (others ≡ Some k)
 named_or word text kind others k e = by_test (bytes_eq word text) refl e where
   by_test : (b : Bool) → bytes_eq word text ≡ b → cond b (Some kind) others ≡ Some k → ((word ≡ text) × (kind ≡ k)) ⊎ (others ≡ Some k)
   by_test true q f = inl ((bytes_eq-Decides word text).0 q, cc)
@@ -38,7 +41,11 @@ named_word word k e =
                             elim (named_or word (codes "placeholder") AnyPlaceholder _ k e4) [
                               | inl h ↦ chosen word _ AnyPlaceholder k refl h
                               | inr e5 ↦
-                                  elim (named_or word (codes "list") AnyList None k e5) [ inl h ↦ chosen word _ AnyList k refl h | inr e6 ↦ absurd (let z : ⊥ = cc in z) ]
+                                  elim (named_or word (codes "list") AnyList None k e5) [
+                                    | inl h ↦ chosen word _ AnyList k refl h
+                                    | inr e6 ↦ absurd
+                                        (let z : ⊥ = cc in z)
+                                  ]
                             ]
                       ]
                 ]
@@ -82,7 +89,8 @@ list_kind (Some AnyPlaceholder) e = absurd (let z : ⊥ = cc in z)
 
 -- a last `<list>` without annotations, and nothing after it
 pub rest_is : (p : Tree) (ps : Trees) → is_rest p ps ≡ true → has_plain_placeholders p ≡ true → (p ≡ placeholder AnyList) × (ps ≡ none)
-rest_is (Hole inner anns) none e plain = (placeholder_is inner AnyList anns (list_kind (kind_of inner) (both_parts (is_list_kind (kind_of inner)) true e).0) plain, refl)
+rest_is (Hole inner anns) none e plain =
+    (placeholder_is inner AnyList anns (list_kind (kind_of inner) (both_parts (is_list_kind (kind_of inner)) true e).0) plain, refl)
 rest_is (Hole inner anns) (more t ts) e plain = absurd (let f = (both_parts (is_list_kind (kind_of inner)) false e).1 in let z : ⊥ = cc in z)
 rest_is (Int y anns) ps e plain = absurd (let z : ⊥ = cc in z)
 rest_is (Appl name quoted args anns) ps e plain = absurd (let z : ⊥ = cc in z)
@@ -100,11 +108,13 @@ mutual
   pieces-code (Appl name quoted args anns) rest k h =
       let kk = both_parts _ _ k in
       let hh = both_parts _ _ h in
-      ap (assembled (Named name quoted)) (pieces-code_of_all args (code_of_all anns rest) kk.0 hh.0 ∙ ap (λ (ps : List Piece). Several args ∷ ps) (pieces-code_of_all anns rest kk.1 hh.1))
+      ap (assembled (Named name quoted)) (pieces-code_of_all args (code_of_all anns rest) kk.0 hh.0
+      ∙ ap (λ (ps : List Piece). Several args ∷ ps) (pieces-code_of_all anns rest kk.1 hh.1))
   pieces-code (Items items anns) rest k h =
       let kk = both_parts _ _ k in
       let hh = both_parts _ _ h in
-      ap (assembled Listing) (pieces-code_of_all items (code_of_all anns rest) kk.0 hh.0 ∙ ap (λ (ps : List Piece). Several items ∷ ps) (pieces-code_of_all anns rest kk.1 hh.1))
+      ap (assembled Listing) (pieces-code_of_all items (code_of_all anns rest) kk.0 hh.0
+      ∙ ap (λ (ps : List Piece). Several items ∷ ps) (pieces-code_of_all anns rest kk.1 hh.1))
   pieces-code (Hole inner anns) rest k h =
       let kk = both_parts _ _ k in
       let kind = some_kind (kind_of inner) kk.0 in
@@ -117,7 +127,8 @@ mutual
       let hh = both_parts _ _ h in
       elim (test_of (is_rest p ps)) [
         | inl r ↦ (let is = rest_is p ps r hh.0 in rw r (ap (λ (ts : Trees). Several ts ∷ pieces rest) (λ i. more (sym is.0 i) (sym is.1 i))))
-        | inr r ↦ rw r (ap (assembled Item) (pieces-code p (code_of_all ps rest) kk.0 hh.0 ∙ ap (λ (qs : List Piece). One p ∷ qs) (pieces-code_of_all ps rest kk.1 hh.1)))
+        | inr r ↦ rw r (ap (assembled Item) (pieces-code p (code_of_all ps rest) kk.0 hh.0
+            ∙ ap (λ (qs : List Piece). One p ∷ qs) (pieces-code_of_all ps rest kk.1 hh.1)))
       ]
 
 -- ---- what is left
@@ -150,7 +161,8 @@ first_same e = (cc, cc)
 abbrev Next : Step → List Piece → List Step → Type 0
 Next s qs ns = (spell qs ≡ ns) × CanJoin s qs
 
-next_item : (t : Tree) (ts : Trees) (ps : List Piece) (ns : List Step) (b : Bool) → is_rest t ts ≡ b → cond b (Rest ∷ spell ps) (Item ∷ code t (code_of_all ts (spell ps))) ≡ Item ∷ ns → Next Item (One t ∷ Several ts ∷ ps) ns
+next_item : (t : Tree) (ts : Trees) (ps : List Piece) (ns : List Step) (b : Bool) → is_rest t ts ≡ b
+    → cond b (Rest ∷ spell ps) (Item ∷ code t (code_of_all ts (spell ps))) ≡ Item ∷ ns → Next Item (One t ∷ Several ts ∷ ps) ns
 next_item t ts ps ns true r e = absurd (let f = (first_same e).0 in let z : ⊥ = cc in z)
 next_item t ts ps ns false r e = ((first_same e).1, r)
 

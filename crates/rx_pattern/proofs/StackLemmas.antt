@@ -26,13 +26,15 @@ same p q = cc
 pub push-reverse : {A : Type 0} (xs : List A) (x : A) → reverse (xs ++ x ∷ []) ≡ x ∷ reverse xs
 push-reverse xs x = reverse-append xs (x ∷ [])
 
-pub push : {A B : Type 0} (R : A → B → Type 0) (before after : List A) (x : A) (v : B) (vs : List B) → after ≡ before ++ x ∷ [] → R x v → OnStack R before vs → OnStack R after (v ∷ vs)
+pub push : {A B : Type 0} (R : A → B → Type 0) (before after : List A) (x : A) (v : B) (vs : List B) → after ≡ before ++ x ∷ [] → R x v
+    → OnStack R before vs → OnStack R after (v ∷ vs)
 push R before after x v vs e r h = rw (e, push-reverse before x) (r, h)
 
 first_on : {A B : Type 0} (R : A → B → Type 0) (x : A) (xs : List A) (v : B) (vs : List B) → AreEach R (x ∷ xs) (v ∷ vs) → R x v × AreEach R xs vs
 first_on R x xs v vs h = h
 
-pub pop : {A B : Type 0} (R : A → B → Type 0) (before after : List A) (x : A) (v : B) (vs : List B) → before ≡ after ++ x ∷ [] → OnStack R before (v ∷ vs) → R x v × OnStack R after vs
+pub pop : {A B : Type 0} (R : A → B → Type 0) (before after : List A) (x : A) (v : B) (vs : List B) → before ≡ after ++ x ∷ []
+    → OnStack R before (v ∷ vs) → R x v × OnStack R after vs
 pop R before after x v vs e h = first_on R x (reverse after) v vs (rw (e, push-reverse after x) at h)
 
 pub still_stands : (old new : Store) → Grows old new → (x : Option Term) (v : Piece) → Stands old x v → Stands new x v
@@ -56,14 +58,16 @@ still_have old new g (r ∷ rs) (t ∷ ts) h = (g.trees r t h.0, still_have old 
 still_have old new g [] (t ∷ ts) h = absurd h
 still_have old new g (r ∷ rs) [] h = absurd h
 
-HaveTrees-push : (w : Store) (rs : List Term) (r : Term) (ts : List Tree) (t : Tree) → HaveTrees w rs ts → tree_at w r ≡ Some t → HaveTrees w (rs ++ r ∷ []) (ts ++ t ∷ [])
+HaveTrees-push : (w : Store) (rs : List Term) (r : Term) (ts : List Tree) (t : Tree) → HaveTrees w rs ts → tree_at w r ≡ Some t
+    → HaveTrees w (rs ++ r ∷ []) (ts ++ t ∷ [])
 HaveTrees-push w [] r [] t h e = (e, tt)
 HaveTrees-push w (x ∷ xs) r (y ∷ ys) t h e = (h.0, HaveTrees-push w xs r ys t h.1 e)
 HaveTrees-push w [] r (y ∷ ys) t h e = absurd h
 HaveTrees-push w (x ∷ xs) r [] t h e = absurd h
 
 -- one binding more
-pub adds_one : (old new : Store) → Grows old new → (before after : List Term) (r : Term) (t : Tree) → after ≡ before ++ r ∷ [] → tree_at new r ≡ Some t → Adds old new (t ∷ []) before after
+pub adds_one : (old new : Store) → Grows old new → (before after : List Term) (r : Term) (t : Tree) → after ≡ before ++ r ∷ []
+    → tree_at new r ≡ Some t → Adds old new (t ∷ []) before after
 adds_one old new g before after r t e there = λ cs h. rw e (HaveTrees-push new before r cs t (still_have old new g before cs h) there)
 
 -- the annotations of a tree, as a list

@@ -38,17 +38,20 @@ removed-len m k u e =
     let less : map.len (map.remove m k) ≡ map.len m - 1 = map.len-remove nat_cmp_total m k ∙ rw e refl in
     omega arith
 
-other_place : (m : map.FinMap nat_cmp Tree) (k q : ℕ) (ts us : Trees) → map.get m k ≡ Some (list_of us) → map.get m q ≡ Some (list_of ts) → count_of ts < count_of us → q ≢ k
+other_place : (m : map.FinMap nat_cmp Tree) (k q : ℕ) (ts us : Trees) → map.get m k ≡ Some (list_of us) → map.get m q ≡ Some (list_of ts)
+    → count_of ts < count_of us → q ≢ k
 other_place m k q ts us e f lt same =
     let g : map.get m q ≡ Some (list_of us) = subst (λ (j : ℕ). map.get m j ≡ Some (list_of us)) (sym same) e in
     let h : ts ≡ us = cc in
     let n = ap count_of h in
     omega arith
 
-still_has : (m : map.FinMap nat_cmp Tree) (k : ℕ) (ts us : Trees) → map.get m k ≡ Some (list_of us) → count_of ts < count_of us → Has m ts → Has (map.remove m k) ts
+still_has : (m : map.FinMap nat_cmp Tree) (k : ℕ) (ts us : Trees) → map.get m k ≡ Some (list_of us) → count_of ts < count_of us → Has m ts
+    → Has (map.remove m k) ts
 still_has m k ts us e lt h = (h.0, not_removed m k h.0 (other_place m k h.0 ts us e h.1 lt) ∙ h.1)
 
-still_has_tails : (m : map.FinMap nat_cmp Tree) (k : ℕ) (ts us : Trees) → map.get m k ≡ Some (list_of us) → count_of ts < count_of us → HasTails m ts → HasTails (map.remove m k) ts
+still_has_tails : (m : map.FinMap nat_cmp Tree) (k : ℕ) (ts us : Trees) → map.get m k ≡ Some (list_of us) → count_of ts < count_of us → HasTails m ts
+    → HasTails (map.remove m k) ts
 still_has_tails m k none us e lt h = still_has m k none us e lt h
 still_has_tails m k (more t ts) us e lt h = (still_has m k (more t ts) us e lt h.0, still_has_tails m k ts us e (omega arith) h.1)
 

@@ -26,7 +26,8 @@ module _ (xs : List Slot) (i : ℕ) (s : Slot) (n : ℕ) (lt : i < length xs) (h
   recount-heap = λ j t. at t j where
     at : (t : ℕ) → heap_of (slice_set xs i (recounted s n)) t ≡ heap_of xs t
     at t = elim (eqb_tells t i) [
-      | inl p ↦ subst (λ k. heap_of (slice_set xs i (recounted s n)) k ≡ heap_of xs k) (sym p.1) (ap cell_at (get-set_same xs i (recounted s n) lt) ∙ sym (read-cell xs i s lt here))
+      | inl p ↦ subst (λ k. heap_of (slice_set xs i (recounted s n)) k ≡ heap_of xs k) (sym p.1)
+          (ap cell_at (get-set_same xs i (recounted s n) lt) ∙ sym (read-cell xs i s lt here))
       | inr p ↦ ap cell_at (get-set_other xs i t (recounted s n) p.1)
     ]
 
@@ -45,15 +46,20 @@ module _ (xs : List Slot) (i : ℕ) (s : Slot) (n : ℕ) (lt : i < length xs) (h
   recount-len = grind (arith, elements)
 
 -- a count more or less changes nothing else
-pub recount-store : (b : PlainBank) (t : Term) (s : Slot) (n : ℕ) (lt : t.0 < length b.slots.items) (here : s ≡ get_or b.slots.items t.0 s) (w : Least (is_whole (heap_of (slice_set b.slots.items t.0 (recounted s n))) (table b) (length (slice_set b.slots.items t.0 (recounted s n))))) → store_from (symbols_of b.names) (slice_set b.slots.items t.0 (recounted s n)) w b.cap b.taken (vec_capacity b.slots) ≡ with_count (store_of b) t n
+pub recount-store : (b : PlainBank) (t : Term) (s : Slot) (n : ℕ) (lt : t.0 < length b.slots.items) (here : s ≡ get_or b.slots.items t.0 s)
+    (w : Least (is_whole (heap_of (slice_set b.slots.items t.0 (recounted s n))) (table b) (length (slice_set b.slots.items t.0 (recounted s n)))))
+    → store_from (symbols_of b.names) (slice_set b.slots.items t.0 (recounted s n)) w b.cap b.taken (vec_capacity b.slots) ≡ with_count (store_of b) t n
 recount-store b t s n lt here w =
     let ys = slice_set b.slots.items t.0 (recounted s n) in
-    let content = content-unique (table b) (heap_of b.slots.items) (heap_of ys) (length b.slots.items) (length ys) (recount-heap b.slots.items t.0 s n lt here) (recount-len b.slots.items t.0 s n lt here) b.whole w in
+    let content = content-unique (table b) (heap_of b.slots.items) (heap_of ys) (length b.slots.items) (length ys)
+    (recount-heap b.slots.items t.0 s n lt here) (recount-len b.slots.items t.0 s n lt here) b.whole w in
     let roots = recount-roots b.slots.items t.0 s n lt here in
     λ j. record { content = content j; symbols = symbols_of b.names; roots = roots j; cap = b.cap; spare = (store_of b).spare }
 
 -- another count in a taken slot keeps what is known of counts
-pub recount-unrooted : (xs : List Slot) (i : ℕ) (s : Slot) (n : ℕ) (lt : i < length xs) (here : s ≡ get_or xs i s) → IsSome (heap_of xs i) → ((t : ℕ) → heap_of xs t ≡ None → roots_of xs t ≡ 0) → (t : ℕ) → heap_of (slice_set xs i (recounted s n)) t ≡ None → roots_of (slice_set xs i (recounted s n)) t ≡ 0
+pub recount-unrooted : (xs : List Slot) (i : ℕ) (s : Slot) (n : ℕ) (lt : i < length xs) (here : s ≡ get_or xs i s) → IsSome (heap_of xs i)
+    → ((t : ℕ) → heap_of xs t ≡ None → roots_of xs t ≡ 0) → (t : ℕ) → heap_of (slice_set xs i (recounted s n)) t ≡ None
+    → roots_of (slice_set xs i (recounted s n)) t ≡ 0
 recount-unrooted xs i s n lt here taken old t e =
     let before : heap_of xs t ≡ None = sym (ap (λ h. h t) (recount-heap xs i s n lt here)) ∙ e in
     elim (eqb_tells t i) [
@@ -61,7 +67,8 @@ recount-unrooted xs i s n lt here taken old t e =
       | inr p ↦ ap (λ r. r t) (recount-roots xs i s n lt here) ∙ rw p.0 (old t before)
     ]
 
-pub recount-counts : (xs : List Slot) (i : ℕ) (s : Slot) (n : ℕ) (lt : i < length xs) (here : s ≡ get_or xs i s) → n ≤ 65535 → ((t : ℕ) → roots_of xs t ≤ 65535) → (t : ℕ) → roots_of (slice_set xs i (recounted s n)) t ≤ 65535
+pub recount-counts : (xs : List Slot) (i : ℕ) (s : Slot) (n : ℕ) (lt : i < length xs) (here : s ≡ get_or xs i s) → n ≤ 65535
+    → ((t : ℕ) → roots_of xs t ≤ 65535) → (t : ℕ) → roots_of (slice_set xs i (recounted s n)) t ≤ 65535
 recount-counts xs i s n lt here fits old t =
     let e = ap (λ r. r t) (recount-roots xs i s n lt here) in
     elim (eqb_tells t i) [

@@ -1,5 +1,6 @@
 -- Marks: one more, those of several slots, and all that is linked.
-use Rattle.std.proofs.Common.{List, [], ◌∷◌, ◌++◌, length, get_or, map, take, ℕ, zero, suc, ◌≡◌, ◌+◌, ◌≤◌, ◌<◌, Bool, true, false, Option, Some, None, refl, sym, ap, ◌∙◌, subst, inl, inr, arith, slice_get, Contains, nat_lt, add-one, not}
+use Rattle.std.proofs.Common.{List, [], ◌∷◌, ◌++◌, length, get_or, map, take, ℕ, zero, suc, ◌≡◌, ◌+◌, ◌≤◌, ◌<◌, Bool, true, false, Option}
+use Rattle.std.proofs.Common.{Some, None, refl, sym, ap, ◌∙◌, subst, inl, inr, arith, slice_get, Contains, nat_lt, add-one, not}
 use Rattle.std.specs.Prelude.{slice_set, if◌then◌else◌}
 use Rattle.std.proofs.lemmas.Bool.{ltb-true, lt-ltb}
 use Rattle.std.proofs.lemmas.Bool.Decides.{eqb_tells}
@@ -10,7 +11,8 @@ use Rattle.rx_term.proofs.ReclaimLemmas.{IsLinked-trans}
 use Rattle.rx_term.proofs.HeapLemmas.{lt_or_le}
 use Rattle.rx_term.specs.declared.Term.{Term}
 use Rattle.rx_plain.specs.Slots.{heap_of, roots_of, marks_of, mark_in, cell_at, cell_in, cell_of}
-use Rattle.rx_plain.specs.Marks.{unmarked, count_unless, Keeps, Marks, Fresh, cell_links, links_below, AreLinksWithin, IsMarkClosedAt, MarksAreClosed, OnlyLinked, Progress, Passes, Spreads, IsStart, Reaches, root_marked}
+use Rattle.rx_plain.specs.Marks.{unmarked, count_unless, Keeps, Marks, Fresh, cell_links, links_below, AreLinksWithin, IsMarkClosedAt}
+use Rattle.rx_plain.specs.Marks.{MarksAreClosed, OnlyLinked, Progress, Passes, Spreads, IsStart, Reaches, root_marked}
 use Rattle.rx_plain.specs.declared.slots.Slot.{Slot}
 use Rattle.rx_plain.specs.declared.slots.Body.{Body}
 
@@ -19,7 +21,8 @@ count-one true n k e = e
 count-one false n k e = omega (arith, e)
 
 -- a mark more is an unmarked slot less
-pub one-fewer : (xs : List Slot) (i : ℕ) (d y : Slot) → i < length xs → (get_or xs i d).mark ≡ false → y.mark ≡ true → unmarked xs ≡ unmarked (slice_set xs i y) + 1
+pub one-fewer : (xs : List Slot) (i : ℕ) (d y : Slot) → i < length xs → (get_or xs i d).mark ≡ false → y.mark ≡ true
+    → unmarked xs ≡ unmarked (slice_set xs i y) + 1
 one-fewer [] i d y lt e f = absurd (omega arith)
 one-fewer (x ∷ xs) zero d y lt e f = rw (e, f) refl
 one-fewer (x ∷ xs) (suc i) d y lt e f = count-one x.mark (unmarked xs) (unmarked (slice_set xs i y)) (one-fewer xs i d y (omega arith) e f)
@@ -47,7 +50,8 @@ pub LinksWithin-kept : {a b : List Slot} → Keeps a b → AreLinksWithin a → 
 LinksWithin-kept {b = b} k within t i x e c = subst (λ n. i < n) (sym k.len) (within t i x (sym (ap (λ h. h t) k.heap) ∙ e) c)
 
 -- what is linked in the slots afterwards was linked before
-linked-back : {a b : List Slot} → Keeps a b → OnlyLinked a b → (t : ℕ) → IsLinked (heap_of b) (λ s. marks_of b s ≡ true) t → IsLinked (heap_of a) (λ s. marks_of a s ≡ true) t
+linked-back : {a b : List Slot} → Keeps a b → OnlyLinked a b → (t : ℕ) → IsLinked (heap_of b) (λ s. marks_of b s ≡ true) t
+    → IsLinked (heap_of a) (λ s. marks_of a s ≡ true) t
 linked-back {a = a} {b = b} k only t l = IsLinked-trans (λ s e. only s e) (subst (λ h. IsLinked h (λ s. marks_of b s ≡ true) t) k.heap l)
 
 pub OnlyLinked-refl : (xs : List Slot) → OnlyLinked xs xs
@@ -57,22 +61,26 @@ pub OnlyLinked-trans : (a b c : List Slot) → Keeps a b → OnlyLinked a b → 
 OnlyLinked-trans a b c k p q t e = linked-back k p t (q t e)
 
 -- the links of a marked slot
-below-links : (xs : List Slot) (t i : ℕ) → Contains (links_below (slice_get xs t)) i → (x : Cell) × (marks_of xs t ≡ true) × (heap_of xs t ≡ Some x) × Contains (links x) i
+below-links : (xs : List Slot) (t i : ℕ) → Contains (links_below (slice_get xs t)) i
+    → (x : Cell) × (marks_of xs t ≡ true) × (heap_of xs t ≡ Some x) × Contains (links x) i
 below-links xs t i h = by_slot (slice_get xs t) refl h where
   by_cell : (o : Option Cell) → Contains (cell_links o) i → (x : Cell) × (o ≡ Some x) × Contains (links x) i
   by_cell None c = absurd (no_element i c)
   by_cell (Some x) c = (x, refl, c)
 
-  by_mark : (s : Slot) → slice_get xs t ≡ Some s → (b : Bool) → s.mark ≡ b → Contains (if b then cell_links (cell_in s.body) else []) i → (x : Cell) × (marks_of xs t ≡ true) × (heap_of xs t ≡ Some x) × Contains (links x) i
+  by_mark : (s : Slot) → slice_get xs t ≡ Some s → (b : Bool) → s.mark ≡ b → Contains (if b then cell_links (cell_in s.body) else []) i
+      → (x : Cell) × (marks_of xs t ≡ true) × (heap_of xs t ≡ Some x) × Contains (links x) i
   by_mark s e true q c = let r = by_cell (cell_in s.body) c in (r.0, ap mark_in e ∙ q, ap cell_at e ∙ r.1, r.2)
   by_mark s e false q c = absurd (no_element i c)
 
-  by_slot : (o : Option Slot) → slice_get xs t ≡ o → Contains (links_below o) i → (x : Cell) × (marks_of xs t ≡ true) × (heap_of xs t ≡ Some x) × Contains (links x) i
+  by_slot : (o : Option Slot) → slice_get xs t ≡ o → Contains (links_below o) i
+      → (x : Cell) × (marks_of xs t ≡ true) × (heap_of xs t ≡ Some x) × Contains (links x) i
   by_slot None e c = absurd (no_element i c)
   by_slot (Some s) e c = by_mark s e s.mark refl c
 
 -- and the other way
-below-from : (xs : List Slot) (t i : ℕ) (x : Cell) → marks_of xs t ≡ true → heap_of xs t ≡ Some x → Contains (links x) i → Contains (links_below (slice_get xs t)) i
+below-from : (xs : List Slot) (t i : ℕ) (x : Cell) → marks_of xs t ≡ true → heap_of xs t ≡ Some x → Contains (links x) i
+    → Contains (links_below (slice_get xs t)) i
 below-from xs t i x m e c = by_slot (slice_get xs t) m e where
   by_slot : (o : Option Slot) → mark_in o ≡ true → cell_at o ≡ Some x → Contains (links_below o) i
   by_slot None p q = cc
@@ -99,14 +107,17 @@ fewer-trans old now next true lt f = omega arith
 fewer-trans old now next false lt f = subst (λ xs. unmarked xs < unmarked old) (sym f) lt
 
 -- one slot more of a pass
-pub Progress-step : (old now next : List Slot) (k : ℕ) (fresh below : Bool) → Progress fresh old now k → Marks now next (links_below (slice_get now k)) → Fresh below now next → (fresh ≡ true → Progress fresh old next (k + 1)) × (fresh ≡ false → Progress below old next (k + 1))
+pub Progress-step : (old now next : List Slot) (k : ℕ) (fresh below : Bool) → Progress fresh old now k
+    → Marks now next (links_below (slice_get now k)) → Fresh below now next
+    → (fresh ≡ true → Progress fresh old next (k + 1)) × (fresh ≡ false → Progress below old next (k + 1))
 Progress-step old now next k true below p m f = (λ e. fewer-trans old now next below p f, λ e. cc)
 Progress-step old now next k false true p m f = (λ e. cc, λ e. subst (λ xs. unmarked next < unmarked xs) p.0 f)
 Progress-step old now next k false false p m f = (
   λ e. cc,
   λ e. (
       let same : next ≡ old = f ∙ p.0 in
-      let here : Marks old old (links_below (slice_get old k)) = subst (λ xs. Marks xs xs (links_below (slice_get xs k))) p.0 (subst (λ xs. Marks now xs (links_below (slice_get now k))) f m) in
+      let here : Marks old old (links_below (slice_get old k)) = subst (λ xs. Marks xs xs (links_below (slice_get xs k))) p.0
+      (subst (λ xs. Marks now xs (links_below (slice_get now k))) f m) in
       (same, closed-until old k p.1 (closed-here old k here))),
 )
 
@@ -126,10 +137,12 @@ pub settled : (old new : List Slot) → Passes old new false → (new ≡ old) �
 settled old new p = (p.progress.0, subst MarksAreClosed (sym p.progress.0) (closed-all old p.progress.1))
 
 -- what a slot names, by cases
-pub below-marked : (xs : List Slot) (t : ℕ) (s : Slot) (x : Body) → slice_get xs t ≡ Some s → s.mark ≡ true → s.body ≡ Some x → links (cell_of x) ≡ links_below (slice_get xs t)
+pub below-marked : (xs : List Slot) (t : ℕ) (s : Slot) (x : Body) → slice_get xs t ≡ Some s → s.mark ≡ true → s.body ≡ Some x
+    → links (cell_of x) ≡ links_below (slice_get xs t)
 below-marked xs t s x e m b = rw (e, m, b) refl
 
-pub body-links : (xs : List Slot) (t : ℕ) (s : Slot) (x : Body) → AreLinksWithin xs → slice_get xs t ≡ Some s → s.body ≡ Some x → (i : ℕ) → Contains (links (cell_of x)) i → i < length xs
+pub body-links : (xs : List Slot) (t : ℕ) (s : Slot) (x : Body) → AreLinksWithin xs → slice_get xs t ≡ Some s → s.body ≡ Some x → (i : ℕ)
+    → Contains (links (cell_of x)) i → i < length xs
 body-links xs t s x within e b i c = within t i (cell_of x) (ap cell_at e ∙ ap cell_in b) c
 
 take-suc : (ts : List Term) (k : ℕ) (d : Term) → k < length ts → map (λ t. t.0) (take (suc k) ts) ≡ map (λ t. t.0) (take k ts) ++ (get_or ts k d).0 ∷ []
@@ -185,7 +198,8 @@ from-map (t ∷ ts) i c = elim (cons_cases t.0 (map (λ t. t.0) ts) i c) [
   | inr q ↦ (let r = from-map ts i q in (r.0, cons_tail t ts r.0 r.1, r.2))
 ]
 
-pub Reaches-from : (xs marked new : List Slot) (extra : List Term) → Marks (map root_marked xs) marked (map (λ t. t.0) extra) → Spreads marked new → Reaches xs new extra
+pub Reaches-from : (xs marked new : List Slot) (extra : List Term) → Marks (map root_marked xs) marked (map (λ t. t.0) extra) → Spreads marked new
+    → Reaches xs new extra
 Reaches-from xs marked new extra m s = record {
   heap = s.keeps.heap ∙ m.keeps.heap ∙ heap-rooted xs;
   roots = s.keeps.roots ∙ m.keeps.roots ∙ roots-rooted xs;

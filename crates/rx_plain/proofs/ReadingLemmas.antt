@@ -20,7 +20,8 @@ use Rattle.rx_plain.specs.declared.bank.PlainBank.{PlainBank}
 use Rattle.rx_plain.specs.Inner.Soundness.{table, cell-within, bank-heap}
 
 -- a held reference has a cell, which says its tree
-pub held-cell : (b : PlainBank) (t : ℕ) → IsSome (map.get (store_of b).content t) → (x : Cell) × (heap_of b.slots.items t ≡ Some x) × (map.get (store_of b).content t ≡ cell_tree (λ k. map.get (store_of b).content k) (table b) x)
+pub held-cell : (b : PlainBank) (t : ℕ) → IsSome (map.get (store_of b).content t)
+    → (x : Cell) × (heap_of b.slots.items t ≡ Some x) × (map.get (store_of b).content t ≡ cell_tree (λ k. map.get (store_of b).content k) (table b) x)
 unfolding content_by
 held-cell b t held =
     let u = some-value (map.get (store_of b).content t) held in
@@ -48,7 +49,8 @@ cell-there None = refl
 cell-there (Some b) = refl
 
 -- the tree of an integer's cell is an integer
-pub int-cell : (c : ℕ → Option Tree) (o : Option Tree) (notes : Option ℕ) (z : ℤ) → o ≡ noted_tree c (int_tree z) notes → IsSome o → (anns : Trees) × (o ≡ Some (Int z anns))
+pub int-cell : (c : ℕ → Option Tree) (o : Option Tree) (notes : Option ℕ) (z : ℤ) → o ≡ noted_tree c (int_tree z) notes → IsSome o
+    → (anns : Trees) × (o ≡ Some (Int z anns))
 int-cell c o None z e held =
     let u = some-value o held in
     let p = if-some (is_i32 z) (Int z none) u.0 (sym e ∙ u.1) in
@@ -59,7 +61,8 @@ int-cell c o (Some a) z e held =
     let q = if-some (is_i32 z) (Int z none) p.0 p.1.1.1 in
     (more p.1.0 p.1.1.0, u.1 ∙ ap (λ v. let w : Option Tree = Some v in w) (sym p.1.1.3 ∙ ap (λ v. annotated v (more p.1.0 p.1.1.0)) (sym q.1)))
 
-pub body-anns : (b : PlainBank) (t : Term) (o : Option Term) (x : Cell) → heap_of b.slots.items t.0 ≡ Some x → x.notes ≡ notes_of o → IsSome (tree_at (store_of b) t) → HasAnns (store_of b) t o
+pub body-anns : (b : PlainBank) (t : Term) (o : Option Term) (x : Cell) → heap_of b.slots.items t.0 ≡ Some x → x.notes ≡ notes_of o
+    → IsSome (tree_at (store_of b) t) → HasAnns (store_of b) t o
 unfolding content_by
 body-anns b t o x holds notes held = by_tree (annotations u.0) refl o refl where
   u : (v : Tree) × (tree_at (store_of b) t ≡ Some v)
@@ -77,10 +80,14 @@ body-anns b t o x holds notes held = by_tree (annotations u.0) refl o refl where
 
   by_tree : (anns : Trees) → annotations u.0 ≡ anns → (p : Option Term) → o ≡ p → HasAnns (store_of b) t p
   by_tree none e None q = of_list ∙ ap list_unless_empty e
-  by_tree none e (Some a) q = absurd (let n : notes_of (Some a) ≡ None = subst (λ p. notes_of p ≡ None) q (subst (λ l. Notes (λ k. map.get (store_of b).content k) (notes_of o) l) e known_notes) in let z : ⊥ = cc in z)
-  by_tree (more v vs) e None q = absurd (let n = subst (λ p. Notes (λ k. map.get (store_of b).content k) (notes_of p) (more v vs)) q (subst (λ l. Notes (λ k. map.get (store_of b).content k) (notes_of o) l) e known_notes) in let w : None ≡ Some n.0 = n.1 in let z : ⊥ = cc in z)
+  by_tree none e (Some a) q = absurd (let n : notes_of (Some a) ≡ None =
+      subst (λ p. notes_of p ≡ None) q (subst (λ l. Notes (λ k. map.get (store_of b).content k) (notes_of o) l) e known_notes) in let z : ⊥ = cc in z)
+  by_tree (more v vs) e None q =
+      absurd (let n = subst (λ p. Notes (λ k. map.get (store_of b).content k) (notes_of p) (more v vs)) q
+      (subst (λ l. Notes (λ k. map.get (store_of b).content k) (notes_of o) l) e known_notes) in let w : None ≡ Some n.0 = n.1 in let z : ⊥ = cc in z)
   by_tree (more v vs) e (Some a) q =
-      let n = subst (λ p. Notes (λ k. map.get (store_of b).content k) (notes_of p) (more v vs)) q (subst (λ l. Notes (λ k. map.get (store_of b).content k) (notes_of o) l) e known_notes) in
+      let n = subst (λ p. Notes (λ k. map.get (store_of b).content k) (notes_of p) (more v vs)) q
+      (subst (λ l. Notes (λ k. map.get (store_of b).content k) (notes_of o) l) e known_notes) in
       let w : a.0 ≡ n.0 = (let r : Some a.0 ≡ Some n.0 = n.1 in cc) in
       let listed : part_at anns_of (store_of b) t ≡ Some (Items (more v vs) none) = of_list ∙ ap list_unless_empty e in
       (ap is_some listed, ap (map.get (store_of b).content) w ∙ n.2 ∙ sym listed)

@@ -1,5 +1,6 @@
 -- What a bank keeps when the slots that are not marked are freed.
-use Rattle.std.proofs.Common.{List, [], length, map, take, get_or, ℕ, zero, suc, ◌≡◌, ◌+◌, ◌≤◌, ◌<◌, Bool, true, false, Option, Some, None, IsSome, is_some, refl, sym, ap, ◌∙◌, subst, inl, inr, arith, Contains, vec_capacity, add-one}
+use Rattle.std.proofs.Common.{List, [], length, map, take, get_or, ℕ, zero, suc, ◌≡◌, ◌+◌, ◌≤◌, ◌<◌, Bool, true, false, Option, Some}
+use Rattle.std.proofs.Common.{None, IsSome, is_some, refl, sym, ap, ◌∙◌, subst, inl, inr, arith, Contains, vec_capacity, add-one}
 use Rattle.std.specs.Prelude.{if◌then◌else◌, count_by}
 use Rattle.std.specs.FinMap as fin
 use Rattle.std.specs.Ordering.{nat_cmp}
@@ -44,23 +45,28 @@ module _ (zs : List Slot) (m : Table) (n : ℕ) (whole : is_whole (heap_of zs) m
     f : ℕ → Option Tree
     f = tree_of (heap_of zs) m n
 
-    put-none : (o : Option Tree) → o ≡ None → fin.len (tabulate k f) ≡ count_by is_taken (take k zs) → is_taken (get_or zs k free_slot) ≡ false → fin.len (put_some (tabulate k f) k o) ≡ count_by is_taken (take (suc k) zs)
-    put-none o q before free = rw q (before ∙ sym (count_by_more_no is_taken zs k free_slot (omega arith) free) ∙ ap (λ j. count_by is_taken (take j zs)) (add-one k))
+    put-none : (o : Option Tree) → o ≡ None → fin.len (tabulate k f) ≡ count_by is_taken (take k zs) → is_taken (get_or zs k free_slot) ≡ false
+        → fin.len (put_some (tabulate k f) k o) ≡ count_by is_taken (take (suc k) zs)
+    put-none o q before free = rw q (before ∙ sym (count_by_more_no is_taken zs k free_slot (omega arith) free)
+        ∙ ap (λ j. count_by is_taken (take j zs)) (add-one k))
 
-    put-some : (o : Option Tree) (u : Tree) → o ≡ Some u → fin.len (tabulate k f) ≡ count_by is_taken (take k zs) → is_taken (get_or zs k free_slot) ≡ true → fin.len (put_some (tabulate k f) k o) ≡ count_by is_taken (take (suc k) zs)
+    put-some : (o : Option Tree) (u : Tree) → o ≡ Some u → fin.len (tabulate k f) ≡ count_by is_taken (take k zs)
+        → is_taken (get_or zs k free_slot) ≡ true → fin.len (put_some (tabulate k f) k o) ≡ count_by is_taken (take (suc k) zs)
     put-some o u q before there =
         let a = len-insert-new (tabulate k f) k u (past-tabulate k k f (omega arith)) in
         let b = count_by_more_yes is_taken zs k free_slot (omega arith) there in
         let c : count_by is_taken (take (k + 1) zs) ≡ count_by is_taken (take (suc k) zs) = ap (λ j. count_by is_taken (take j zs)) (add-one k) in
         rw q (omega (arith, a, b, c, before))
 
-    by_cell : (o : Option Cell) → heap_of zs k ≡ o → fin.len (tabulate k f) ≡ count_by is_taken (take k zs) → fin.len (put_some (tabulate k f) k (f k)) ≡ count_by is_taken (take (suc k) zs)
+    by_cell : (o : Option Cell) → heap_of zs k ≡ o → fin.len (tabulate k f) ≡ count_by is_taken (take k zs)
+        → fin.len (put_some (tabulate k f) k (f k)) ≡ count_by is_taken (take (suc k) zs)
     by_cell None q before = put-none (f k) (untaken (heap_of zs) m n k q) before (sym (taken-at k (omega arith)) ∙ ap is_some q)
     by_cell (Some x) q before =
         let v = some-value (f k) (whole-at (heap_of zs) m (length zs) n k whole (omega arith) (ap is_some q)) in
         put-some (f k) v.0 v.1 before (sym (taken-at k (omega arith)) ∙ ap is_some q)
 
-pub count-content : (zs : List Slot) (m : Table) (w : Least (is_whole (heap_of zs) m (length zs))) → fin.len (content_by (heap_of zs) m (length zs) w) ≡ count_by is_taken zs
+pub count-content : (zs : List Slot) (m : Table) (w : Least (is_whole (heap_of zs) m (length zs)))
+    → fin.len (content_by (heap_of zs) m (length zs) w) ≡ count_by is_taken zs
 unfolding content_by
 count-content zs m w = tabulate-count zs m w.0 w.1.passes (length zs) (omega arith) ∙ ap (count_by is_taken) (take-length zs)
 
@@ -85,14 +91,18 @@ module _ (b : PlainBank) (marked ys : List Slot) (extra : List Term) (r : Reache
   least-after = least (is_whole (kept_slots keep (heap_of b.slots.items)) (table b) (length b.slots.items)) b.whole.0 whole-after
 
   pub reclaimed-whole : Least (is_whole (heap_of ys) (table b) (length ys))
-  reclaimed-whole = whole-along (table b) (kept_slots keep (heap_of b.slots.items)) (heap_of ys) (length b.slots.items) (length ys) heap-after reclaimed-len least-after
+  reclaimed-whole = whole-along (table b) (kept_slots keep (heap_of b.slots.items)) (heap_of ys) (length b.slots.items) (length ys) heap-after
+      reclaimed-len least-after
 
-  content-after : (w : Least (is_whole (heap_of ys) (table b) (length ys))) → content_by (heap_of ys) (table b) (length ys) w ≡ content_of (kept_slots keep (heap_of b.slots.items)) (table b) (length b.slots.items) least-after.0
+  content-after : (w : Least (is_whole (heap_of ys) (table b) (length ys)))
+      → content_by (heap_of ys) (table b) (length ys) w ≡ content_of (kept_slots keep (heap_of b.slots.items)) (table b) (length b.slots.items) least-after.0
   unfolding content_by
-  content-after w = content-unique (table b) (kept_slots keep (heap_of b.slots.items)) (heap_of ys) (length b.slots.items) (length ys) heap-after reclaimed-len least-after w
+  content-after w = content-unique (table b) (kept_slots keep (heap_of b.slots.items)) (heap_of ys) (length b.slots.items) (length ys) heap-after
+      reclaimed-len least-after w
 
   pub reclaimed-distinct : IsDistinct (heap_of ys)
-  reclaimed-distinct = subst IsDistinct (sym heap-after) (kept-heap (heap_of b.slots.items) (table b) (length b.slots.items) b.whole.0 (bank-heap b) keep closed-keep b.whole.0 whole-after).distinct
+  reclaimed-distinct = subst IsDistinct (sym heap-after) (kept-heap (heap_of b.slots.items) (table b) (length b.slots.items) b.whole.0 (bank-heap b)
+      keep closed-keep b.whole.0 whole-after).distinct
 
   -- what is not kept is not rooted
   not-rooted : (t : ℕ) → keep t ≡ false → roots_of b.slots.items t ≡ 0
@@ -130,21 +140,28 @@ module _ (b : PlainBank) (marked ys : List Slot) (extra : List Term) (r : Reache
   root-kept s h = elim h [ inl p ↦ inl p | inr p ↦ inr (subst (Contains extra) (same_ref p.0 (record { 0 = s }) p.2) p.1) ]
 
   module _ (w : Least (is_whole (heap_of ys) (table b) (length ys))) where
-    kept-after : (t : Term) (u : Tree) → tree_at (store_of b) t ≡ Some u → IsReached (store_of b) extra u → fin.get (content_by (heap_of ys) (table b) (length ys) w) t.0 ≡ Some u
+    kept-after : (t : Term) (u : Tree) → tree_at (store_of b) t ≡ Some u → IsReached (store_of b) extra u
+        → fin.get (content_by (heap_of ys) (table b) (length ys) w) t.0 ≡ Some u
     unfolding content_by
     kept-after t u e (s, (v, root, at, part)) =
-        let k = kept-part (heap_of b.slots.items) (table b) (length b.slots.items) b.whole.0 (bank-heap b) keep closed-keep least-after.0 least-after.1.passes s.0 t.0 u v (kept-root s root) at part e in
-        ap (λ c. fin.get c t.0) (content-after w) ∙ kept-content (heap_of b.slots.items) (table b) (length b.slots.items) b.whole.0 (bank-heap b) keep closed-keep least-after.0 least-after.1.passes t.0 u k e
+        let k = kept-part (heap_of b.slots.items) (table b) (length b.slots.items) b.whole.0 (bank-heap b) keep closed-keep least-after.0
+        least-after.1.passes s.0 t.0 u v (kept-root s root) at part e in
+        ap (λ c. fin.get c t.0) (content-after w) ∙ kept-content (heap_of b.slots.items) (table b) (length b.slots.items) b.whole.0 (bank-heap b) keep
+        closed-keep least-after.0 least-after.1.passes t.0 u k e
 
-    only-after : (t : Term) (u : Tree) → fin.get (content_by (heap_of ys) (table b) (length ys) w) t.0 ≡ Some u → (tree_at (store_of b) t ≡ Some u) × IsReached (store_of b) extra u
+    only-after : (t : Term) (u : Tree) → fin.get (content_by (heap_of ys) (table b) (length ys) w) t.0 ≡ Some u
+        → (tree_at (store_of b) t ≡ Some u) × IsReached (store_of b) extra u
     unfolding content_by
     only-after t u e =
-        let o = only-content (heap_of b.slots.items) (table b) (length b.slots.items) b.whole.0 (bank-heap b) keep closed-keep least-after.0 least-after.1.passes t.0 u (sym (ap (λ c. fin.get c t.0) (content-after w)) ∙ e) in
-        let l = linked-part (heap_of b.slots.items) (table b) (length b.slots.items) b.whole.0 (bank-heap b) (IsStart b.slots.items extra) start-held t.0 (r.only t.0 o.0) in
+        let o = only-content (heap_of b.slots.items) (table b) (length b.slots.items) b.whole.0 (bank-heap b) keep closed-keep least-after.0
+        least-after.1.passes t.0 u (sym (ap (λ c. fin.get c t.0) (content-after w)) ∙ e) in
+        let l = linked-part (heap_of b.slots.items) (table b) (length b.slots.items) b.whole.0 (bank-heap b) (IsStart b.slots.items extra) start-held
+        t.0 (r.only t.0 o.0) in
         let same : l.1.1.0 ≡ u = (let p = l.1.1.3 in let q = o.1 in cc) in
         (o.1, (record { 0 = l.0 }, (l.1.0, root-kept l.0 l.1.1.1, l.1.1.2, subst (Contains (parts l.1.0)) same l.1.1.4)))
 
-    pub reclaimed : (taken : ℕ) → taken ≡ count_by is_taken ys → Reclaims (store_of b) (store_from (symbols_of b.names) ys w b.cap taken (vec_capacity b.slots)) extra
+    pub reclaimed : (taken : ℕ) → taken ≡ count_by is_taken ys → Reclaims (store_of b)
+        (store_from (symbols_of b.names) ys w b.cap taken (vec_capacity b.slots)) extra
     reclaimed taken count = record {
       kept = kept-after;
       only = only-after;
@@ -180,10 +197,12 @@ written n xs items = take n (xs ++ drop (length xs) items)
 pub written-same : (n : ℕ) (xs items : List Slot) → n ≡ length items → length xs ≡ length items → written n xs items ≡ xs
 written-same n xs items p q =
     let gone : drop (length xs) items ≡ [] = ap (λ k. drop k items) q ∙ drop-length items in
-    ap (λ k. take k (xs ++ drop (length xs) items)) (p ∙ sym q) ∙ ap (λ zs. take (length xs) (xs ++ zs)) gone ∙ ap (take (length xs)) (append-nil xs) ∙ take-length xs
+    ap (λ k. take k (xs ++ drop (length xs) items)) (p ∙ sym q) ∙ ap (λ zs. take (length xs) (xs ++ zs)) gone ∙ ap (take (length xs)) (append-nil xs)
+    ∙ take-length xs
 
 -- both writes back, of the marked slots and then of the swept ones, are whole
-pub swept-back : (n : ℕ) (xs marked read new : List Slot) → n ≡ length xs → length marked ≡ length xs → read ≡ written n marked xs → new ≡ map swept_of read → (written n new (written n marked xs) ≡ new) × (new ≡ map swept_of marked)
+pub swept-back : (n : ℕ) (xs marked read new : List Slot) → n ≡ length xs → length marked ≡ length xs → read ≡ written n marked xs
+    → new ≡ map swept_of read → (written n new (written n marked xs) ≡ new) × (new ≡ map swept_of marked)
 swept-back n xs marked read new size len seen frees =
     let back = written-same n marked xs size len in
     let done : new ≡ map swept_of marked = frees ∙ ap (map swept_of) (seen ∙ back) in

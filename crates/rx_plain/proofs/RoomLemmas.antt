@@ -12,7 +12,8 @@ use Rattle.rx_plain.specs.Inner.Soundness.{table}
 use Rattle.rx_plain.proofs.ContentLemmas.{same-content}
 
 -- more room for the same slots
-pub same-slots-reserve : (b : PlainBank) (ys : List Slot) (w : Least (is_whole (heap_of ys) (table b) (length ys))) (room k : ℕ) → ys ≡ b.slots.items → vec_capacity b.slots ≤ room → b.taken + k ≤ b.cap → b.taken + k ≤ room → Reserves (store_of b) (store_from (symbols_of b.names) ys w b.cap b.taken room) k
+pub same-slots-reserve : (b : PlainBank) (ys : List Slot) (w : Least (is_whole (heap_of ys) (table b) (length ys))) (room k : ℕ) → ys ≡ b.slots.items
+    → vec_capacity b.slots ≤ room → b.taken + k ≤ b.cap → b.taken + k ≤ room → Reserves (store_of b) (store_from (symbols_of b.names) ys w b.cap b.taken room) k
 same-slots-reserve b ys w room k items enough limit wanted = record {
   content = same-content (table b) b.slots.items ys items b.whole w;
   beside = record { symbols = refl; roots = ap roots_of items; cap = refl };
@@ -20,7 +21,9 @@ same-slots-reserve b ys w room k items enough limit wanted = record {
   reserved = omega arith;
 }
 
-pub same-slots-refused : (b : PlainBank) (ys : List Slot) (w : Least (is_whole (heap_of ys) (table b) (length ys))) (room k : ℕ) (e : BankFault) → ys ≡ b.slots.items → vec_capacity b.slots ≤ room → ReserveFits (store_of b) k e → RefusesReserve (store_of b) (store_from (symbols_of b.names) ys w b.cap b.taken room) k e
+pub same-slots-refused : (b : PlainBank) (ys : List Slot) (w : Least (is_whole (heap_of ys) (table b) (length ys))) (room k : ℕ) (e : BankFault)
+    → ys ≡ b.slots.items → vec_capacity b.slots ≤ room → ReserveFits (store_of b) k e
+    → RefusesReserve (store_of b) (store_from (symbols_of b.names) ys w b.cap b.taken room) k e
 same-slots-refused b ys w room k e items enough fits = record {
   content = same-content (table b) b.slots.items ys items b.whole w;
   beside = record { symbols = refl; roots = ap roots_of items; cap = refl };

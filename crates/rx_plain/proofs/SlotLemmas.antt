@@ -57,7 +57,8 @@ Puts-push xs s x fresh = record {
   taken = ap cell_at (get-push_same xs s) ∙ fresh.0;
   others = λ t ne. ap cell_at (get-push_other xs t s ne);
   roots = λ t. elim (eqb_tells t (length xs)) [
-    | inl p ↦ subst (λ j. roots_of (xs ++ s ∷ []) j ≡ roots_of xs j) (sym p.1) (ap count_in (get-push_same xs s) ∙ fresh.1 ∙ sym (ap count_in (slice_get_past xs (length xs) (omega arith))))
+    | inl p ↦ subst (λ j. roots_of (xs ++ s ∷ []) j ≡ roots_of xs j) (sym p.1)
+        (ap count_in (get-push_same xs s) ∙ fresh.1 ∙ sym (ap count_in (slice_get_past xs (length xs) (omega arith))))
     | inr p ↦ ap count_in (get-push_other xs t s p.1)
   ];
   free = ap cell_at (slice_get_past xs (length xs) (omega arith));

@@ -1,5 +1,6 @@
 -- Slots that are written one by one: one more of them, and what a sweep leaves.
-use Rattle.std.proofs.Common.{List, [], ◌∷◌, ◌++◌, length, take, drop, get_or, map, ℕ, suc, zero, ◌≡◌, ◌+◌, ◌<◌, Bool, true, false, None, refl, sym, ap, ◌∙◌, arith, add-one}
+use Rattle.std.proofs.Common.{List, [], ◌∷◌, ◌++◌, length, take, drop, get_or, map, ℕ, suc, zero, ◌≡◌}
+use Rattle.std.proofs.Common.{◌+◌, ◌<◌, Bool, true, false, None, refl, sym, ap, ◌∙◌, arith, add-one}
 use Rattle.std.specs.Prelude.{slice_set, if◌then◌else◌}
 use Rattle.rx_term.specs.Heap.{kept_slots}
 use Rattle.rx_plain.specs.Slots.{swept_by, swept_of, heap_of, roots_of, marks_of, cell_in}
@@ -20,7 +21,8 @@ get-partly f (x ∷ xs) zero d lt = refl
 get-partly f (x ∷ xs) (suc i) d lt = get-partly f xs i d (omega arith)
 
 -- one turn: the slot at i is rewritten
-pub rewrite-turn : (f : Slot → Slot) (xs now : List Slot) (i : ℕ) (s d : Slot) → now ≡ partly f xs i → i < length xs → s ≡ f (get_or now i d) → slice_set now i s ≡ partly f xs (i + 1)
+pub rewrite-turn : (f : Slot → Slot) (xs now : List Slot) (i : ℕ) (s d : Slot) → now ≡ partly f xs i → i < length xs → s ≡ f (get_or now i d)
+    → slice_set now i s ≡ partly f xs (i + 1)
 rewrite-turn f xs now i s d e lt read =
     let same : s ≡ f (get_or xs i d) = read ∙ ap (λ ys. f (get_or ys i d)) e ∙ ap f (get-partly f xs i d lt) in
     ap (λ ys. slice_set ys i s) e ∙ ap (slice_set (partly f xs i) i) same ∙ set-partly f xs i d lt ∙ ap (partly f xs) (sym (add-one i))

@@ -1,5 +1,6 @@
 -- After all but one term was reclaimed, there are as many cells as the term has different parts.
-use Rattle.std.proofs.Common.{ℕ, ◌≡◌, ◌<◌, ◌⊎◌, Bool, true, false, ◌&&◌, cond, T, List, [], ◌∷◌, Option, Some, IsSome, IfSome, inl, inr, map, Contains, refl, sym, ap, subst, ◌∙◌, arith}
+use Rattle.std.proofs.Common.{ℕ, ◌≡◌, ◌<◌, ◌⊎◌, Bool, true, false, ◌&&◌, cond, T, List, [], ◌∷◌, Option, Some}
+use Rattle.std.proofs.Common.{IsSome, IfSome, inl, inr, map, Contains, refl, sym, ap, subst, ◌∙◌, arith}
 use Rattle.std.proofs.Common.{Ordering, Less, Equal, Greater}
 use Rattle.std.specs.Ordering.{is_lt, is_eq, nat_cmp, eq_by_cmp}
 use Rattle.std.specs.List.{AllByRecursion, IsDistinct}
@@ -54,7 +55,8 @@ above x (e ∷ es) h k u q = by (eq_by_cmp nat_cmp k e.0) refl (above x es (both
     by false t others = others (ap (λ b. cond b (Some e.1) (find nat_cmp k es)) (sym t) ∙ q)
 
 -- what the later entries have is found among all
-later : (e : ℕ × Tree) (es : List (ℕ × Tree)) → T (below_all nat_cmp e.0 es) → (k : ℕ) (u : Tree) → find nat_cmp k es ≡ Some u → find nat_cmp k (e ∷ es) ≡ Some u
+later : (e : ℕ × Tree) (es : List (ℕ × Tree)) → T (below_all nat_cmp e.0 es) → (k : ℕ) (u : Tree) → find nat_cmp k es ≡ Some u
+    → find nat_cmp k (e ∷ es) ≡ Some u
 later e es h k u q = ap (λ b. cond b (Some e.1) (find nat_cmp k es)) (apart k e.0 (above e.0 es h k u q)) ∙ q
 
 first_found : (e : ℕ × Tree) (es : List (ℕ × Tree)) → find nat_cmp e.0 (e ∷ es) ≡ Some e.1
@@ -81,7 +83,8 @@ listed [] k u q = absurd (cc q)
 listed (e ∷ es) k u q = by (eq_by_cmp nat_cmp k e.0) refl (listed es k u)
   where
     by : (b : Bool) → eq_by_cmp nat_cmp k e.0 ≡ b → (find nat_cmp k es ≡ Some u → Contains (trees es) u) → Contains (trees (e ∷ es)) u
-    by true t others = subst (λ z. Contains (trees (e ∷ es)) z) (some_same e.1 u (ap (λ b. cond b (Some e.1) (find nat_cmp k es)) (sym t) ∙ q)) (cons_head e.1 (trees es))
+    by true t others = subst (λ z. Contains (trees (e ∷ es)) z) (some_same e.1 u (ap (λ b. cond b (Some e.1) (find nat_cmp k es)) (sym t) ∙ q))
+        (cons_head e.1 (trees es))
     by false t others = cons_tail e.1 (trees es) u (others (ap (λ b. cond b (Some e.1) (find nat_cmp k es)) (sym t) ∙ q))
 
 -- what holds of each element holds of all
@@ -110,15 +113,19 @@ distinct (e ∷ es) s one =
     different e.1 u (λ q.
     let same : e.0 ≡ r.0 = one e.0 r.0 u (first_found e es ∙ ap (λ v. let y : Option Tree = Some v in y) q) (later e es below r.0 u r.1) in
     let less = above e.0 es below r.0 u r.1 in
-    omega (arith, same, less))) in
-    (each (λ u. tree_eq e.1 u ≡ false) (trees es) differs, distinct es (rising e es s).1 (λ i j u p q. one i j u (later e es below i u p) (later e es below j u q)))
+    omega (arith, same, less))) in (
+      each (λ u. tree_eq e.1 u ≡ false) (trees es) differs,
+      distinct es (rising e es s).1 (λ i j u p q.
+          one i j u (later e es below i u p) (later e es below j u q)),
+    )
 
 pub tree_equivalence : IsEquivalence tree_eq
 tree_equivalence = decided tree_eq tree_eq-Decides
 
 -- a one-to-one map whose values are the elements of a list has as many keys as the list has different elements
 len-distinct : (m : map.FinMap nat_cmp Tree) (ts : List Tree) → ((i j : ℕ) (u : Tree) → map.get m i ≡ Some u → map.get m j ≡ Some u → i ≡ j)
-    → ((i : ℕ) (u : Tree) → map.get m i ≡ Some u → Contains ts u) → ((u : Tree) → Contains ts u → (i : ℕ) × (map.get m i ≡ Some u)) → map.len m ≡ distinct_count tree_eq ts
+    → ((i : ℕ) (u : Tree) → map.get m i ≡ Some u → Contains ts u) → ((u : Tree) → Contains ts u → (i : ℕ) × (map.get m i ≡ Some u))
+    → map.len m ≡ distinct_count tree_eq ts
 len-distinct m ts one within has =
     let es = map.entries m in
     let s = map.entries_sorted m in
@@ -131,7 +138,8 @@ len-distinct m ts one within has =
     ))
 
 -- the parts of the one term that is kept
-module _ (old new : Store) (t : Term) (u : Tree) (here : tree_at old t ≡ Some u) (unrooted : (r : ℕ) → old.roots r ≡ 0) (sound : IsSound old) (sound_after : IsSound new) (reclaimed : Reclaims old new (t ∷ [])) where
+module _ (old new : Store) (t : Term) (u : Tree) (here : tree_at old t ≡ Some u) (unrooted : (r : ℕ) → old.roots r ≡ 0) (sound : IsSound old)
+    (sound_after : IsSound new) (reclaimed : Reclaims old new (t ∷ [])) where
   kept_root : Contains (t ∷ []) t
   kept_root = cons_head t []
 
@@ -155,10 +163,12 @@ module _ (old new : Store) (t : Term) (u : Tree) (here : tree_at old t ≡ Some 
       (s.0.0, reclaimed.kept s.0 v s.1 (t, (u, inr kept_root, here, c)))
 
   pub counted_parts : cells new ≡ part_count u
-  counted_parts = len-distinct new.content (parts u) (λ i j v p q. ap (λ (x : Term). x.0) (sound_after.one_to_one (record { 0 = i }) (record { 0 = j }) v p q)) inside held
+  counted_parts = len-distinct new.content (parts u) (λ i j v p q.
+      ap (λ (x : Term). x.0) (sound_after.one_to_one (record { 0 = i }) (record { 0 = j }) v p q)) inside held
 
 -- the same of a count that is that of the cells
-pub counted_held : (old new : Store) (t : Term) (n : ℕ) → IsSome (tree_at old t) → ((r : ℕ) → old.roots r ≡ 0) → IsSound old → IsSound new → Reclaims old new (t ∷ []) → n ≡ cells new → IfSome (tree_at old t) (λ u. n ≡ part_count u)
+pub counted_held : (old new : Store) (t : Term) (n : ℕ) → IsSome (tree_at old t) → ((r : ℕ) → old.roots r ≡ 0) → IsSound old → IsSound new
+    → Reclaims old new (t ∷ []) → n ≡ cells new → IfSome (tree_at old t) (λ u. n ≡ part_count u)
 counted_held old new t n held unrooted sound sound_after reclaimed e =
     let x = some-value (tree_at old t) held in
     subst (λ o. IfSome o (λ u. n ≡ part_count u)) (sym x.1) (e ∙ counted_parts old new t x.0 x.1 unrooted sound sound_after reclaimed)

@@ -1,5 +1,6 @@
 -- Texts that are made of lines: their fronts, and how many line ends these have.
-use Rattle.std.proofs.Common.{suc, ◌≡◌, ℕ, ◌+◌, ◌<◌, ◌≤◌, List, [], ◌∷◌, ◌++◌, Option, take, drop, get_or, length, length-take-le, refl, sym, ap, subst, ◌∙◌, append_assoc, append-nil, take_all, take-append-drop, arith}
+use Rattle.std.proofs.Common.{suc, ◌≡◌, ℕ, ◌+◌, ◌<◌, ◌≤◌, List, [], ◌∷◌, ◌++◌, Option, take, drop, get_or, length, length-take-le}
+use Rattle.std.proofs.Common.{refl, sym, ap, subst, ◌∙◌, append_assoc, append-nil, take_all, take-append-drop, arith}
 use Rattle.std.specs.Prelude.{All, flat_map, codes}
 use Rattle.std.proofs.lemmas.List.Elements.{All-take}
 use Rattle.std.proofs.lemmas.List.{take_more}
@@ -37,29 +38,37 @@ pub newlines-front : (front rest : List ℕ) → newlines (front ++ rest) ≡ 0 
 newlines-front front rest h = let e = newlines-append front rest in omega (arith, e, h)
 
 -- the lines up to an item, and its own
-lines_of-more : {X : Type 0} (f : X → List ℕ) (items : List X) (i : ℕ) (d : X) → i < length items → lines_of f (take (i + 1) items) ≡ lines_of f (take i items) ++ (f (get_or items i d) ++ codes "\n")
+lines_of-more : {X : Type 0} (f : X → List ℕ) (items : List X) (i : ℕ) (d : X) → i < length items
+    → lines_of f (take (i + 1) items) ≡ lines_of f (take i items) ++ (f (get_or items i d) ++ codes "\n")
 lines_of-more f items i d h =
     ap (lines_of f) (take_more items i d h) ∙ flat_map-append (λ x. f x ++ codes "\n") (take i items) (get_or items i d ∷ [])
     ∙ ap (λ z. lines_of f (take i items) ++ z) (append-nil (f (get_or items i d) ++ codes "\n"))
 
-pub appends_more : {X : Type 0} (f : X → List ℕ) (items : List X) (i : ℕ) (d : X) (old between new : Option (List ℕ)) → i < length items → Appends old between (lines_of f (take i items)) → Appends between new (f (get_or items i d) ++ codes "\n") → Appends old new (lines_of f (take (i + 1) items))
+pub appends_more : {X : Type 0} (f : X → List ℕ) (items : List X) (i : ℕ) (d : X) (old between new : Option (List ℕ)) → i < length items
+    → Appends old between (lines_of f (take i items)) → Appends between new (f (get_or items i d) ++ codes "\n")
+    → Appends old new (lines_of f (take (i + 1) items))
 appends_more f items i d old between new low before line =
-    subst (λ text. Appends old new text) (sym (lines_of-more f items i d low)) (appends_both old between new (lines_of f (take i items)) (f (get_or items i d) ++ codes "\n") before line)
+    subst (λ text. Appends old new text) (sym (lines_of-more f items i d low))
+    (appends_both old between new (lines_of f (take i items)) (f (get_or items i d) ++ codes "\n") before line)
 
 -- the lines of all items
-pub appends_all : {X : Type 0} (f : X → List ℕ) (items : List X) (i : ℕ) (old new : Option (List ℕ)) → length items ≤ i → Appends old new (lines_of f (take i items)) → Appends old new (lines_of f items)
+pub appends_all : {X : Type 0} (f : X → List ℕ) (items : List X) (i : ℕ) (old new : Option (List ℕ)) → length items ≤ i
+    → Appends old new (lines_of f (take i items)) → Appends old new (lines_of f items)
 appends_all f items i old new all h = subst (λ text. Appends old new text) (ap (lines_of f) (take_all i items all)) h
 
 -- the lines up to an item begin all lines
-lines_of-front : {X : Type 0} (f : X → List ℕ) (items : List X) (i : ℕ) (d : X) → i < length items → (rest : List ℕ) × (lines_of f items ≡ lines_of f (take i items) ++ (f (get_or items i d) ++ codes "\n" ++ rest))
+lines_of-front : {X : Type 0} (f : X → List ℕ) (items : List X) (i : ℕ) (d : X) → i < length items
+    → (rest : List ℕ) × (lines_of f items ≡ lines_of f (take i items) ++ (f (get_or items i d) ++ codes "\n" ++ rest))
 lines_of-front f items i d h = (
   lines_of f (drop (i + 1) items),
   ap (lines_of f) (sym (take-append-drop (i + 1) items)) ∙ flat_map-append (λ x. f x ++ codes "\n") (take (i + 1) items) (drop (i + 1) items)
-      ∙ ap (λ z. z ++ lines_of f (drop (i + 1) items)) (lines_of-more f items i d h) ∙ append_assoc (lines_of f (take i items)) (f (get_or items i d) ++ codes "\n") (lines_of f (drop (i + 1) items)),
+      ∙ ap (λ z. z ++ lines_of f (drop (i + 1) items)) (lines_of-more f items i d h)
+      ∙ append_assoc (lines_of f (take i items)) (f (get_or items i d) ++ codes "\n") (lines_of f (drop (i + 1) items)),
 )
 
 -- a front of a line after the lines before it is a front of all lines
-pub front_in_lines : {X : Type 0} (f : X → List ℕ) (items : List X) (i : ℕ) (d : X) (front rest : List ℕ) → i < length items → f (get_or items i d) ++ codes "\n" ≡ front ++ rest → IsFront (lines_of f (take i items) ++ front) (lines_of f items)
+pub front_in_lines : {X : Type 0} (f : X → List ℕ) (items : List X) (i : ℕ) (d : X) (front rest : List ℕ) → i < length items
+    → f (get_or items i d) ++ codes "\n" ≡ front ++ rest → IsFront (lines_of f (take i items) ++ front) (lines_of f items)
 front_in_lines f items i d front rest h e =
     let all = lines_of-front f items i d h in
     let before = lines_of f (take i items) in (
@@ -72,7 +81,8 @@ pub front_in_line : (text front rest : List ℕ) → text ≡ front ++ rest → 
 front_in_line text front rest e = ap (λ z. z ++ codes "\n") e ∙ append_assoc front rest (codes "\n")
 
 -- before the line end of an item there are as many line ends as its number
-pub ends_before : {X : Type 0} (f : X → List ℕ) (items : List X) (i : ℕ) (d : X) (front rest : List ℕ) → NoEnds f items → i < length items → f (get_or items i d) ≡ front ++ rest → i ≡ newlines (lines_of f (take i items) ++ front)
+pub ends_before : {X : Type 0} (f : X → List ℕ) (items : List X) (i : ℕ) (d : X) (front rest : List ℕ) → NoEnds f items → i < length items
+    → f (get_or items i d) ≡ front ++ rest → i ≡ newlines (lines_of f (take i items) ++ front)
 ends_before f items i d front rest no_ends h e =
     let both = newlines-append (lines_of f (take i items)) front in
     let before = newlines-lines_of f (take i items) (All-take (λ x. newlines (f x) ≡ 0) i items no_ends) in
@@ -80,14 +90,16 @@ ends_before f items i d front rest no_ends h e =
     let none = newlines-front front rest (ap newlines (sym e) ∙ no_ends i d h) in
     omega (arith, both, before, long, none)
 
-reports_all : (stop : RunFault) (first : ℕ) (before written : List ℕ) → newlines before ≡ first → ReportsAfter first stop written → Reports stop (before ++ written)
+reports_all : (stop : RunFault) (first : ℕ) (before written : List ℕ) → newlines before ≡ first → ReportsAfter first stop written
+    → Reports stop (before ++ written)
 reports_all (fault.Memory lines) first before written h k = let e = newlines-append before written in omega (arith, e, h, k)
 reports_all (fault.Room lines) first before written h k = let e = newlines-append before written in omega (arith, e, h, k)
 reports_all fault.Read first before written h k = absurd k
 reports_all fault.Write first before written h k = tt
 
 -- what stopped behind a text stopped within both
-pub stops_behind : (stop : RunFault) (first : ℕ) (before text : List ℕ) (old between new : Option (List ℕ)) → newlines before ≡ first → Appends old between before → StopsAfter first stop text between new → Stops stop (before ++ text) old new
+pub stops_behind : (stop : RunFault) (first : ℕ) (before text : List ℕ) (old between new : Option (List ℕ)) → newlines before ≡ first
+    → Appends old between before → StopsAfter first stop text between new → Stops stop (before ++ text) old new
 stops_behind stop first before text old between new h so_far s =
     record {
       written = before ++ s.written;

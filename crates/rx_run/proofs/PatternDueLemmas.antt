@@ -45,14 +45,16 @@ module _ (after : Tree → Verdict → Due) where
   both pattern second = due_of_pattern (λ p. after p second) pattern
 
   -- the pattern is refused, whatever the second text is
-  pub refused_both : (known : Option (List ℕ)) (text : List ℕ) (r : Refusal) → IsPatternRead text (Refused r) → IfSome known (λ bytes. IsDueOfBoth both text bytes (refusal_due r))
+  pub refused_both : (known : Option (List ℕ)) (text : List ℕ) (r : Refusal) → IsPatternRead text (Refused r)
+      → IfSome known (λ bytes. IsDueOfBoth both text bytes (refusal_due r))
   refused_both None text r h = tt
   refused_both (Some bytes) text r (v, (is, e)) =
       let w = one_verdict bytes in
       record { on_first = v; on_second = w.0; first_is = is; second_is = w.1; due_is = sym (e (λ p. after p w.0)) }
 
   -- the pattern is good
-  pub good_both : (known : Option (List ℕ)) (text : List ℕ) (p : Tree) (a : Due) → SpellsPattern text p → IfSome known (λ bytes. (v : Verdict) × (IsVerdict bytes v × (a ≡ after p v))) → IfSome known (λ bytes. IsDueOfBoth both text bytes a)
+  pub good_both : (known : Option (List ℕ)) (text : List ℕ) (p : Tree) (a : Due) → SpellsPattern text p
+      → IfSome known (λ bytes. (v : Verdict) × (IsVerdict bytes v × (a ≡ after p v))) → IfSome known (λ bytes. IsDueOfBoth both text bytes a)
   good_both None text p a s h = tt
   good_both (Some bytes) text p a s (v, (is, e)) =
       record { on_first = Spelt p; on_second = v; first_is = s.spelt; second_is = is; due_is = e ∙ sym (ap (λ o. unless_unfit o (after p v)) s.fit) }
@@ -64,7 +66,8 @@ unspelt_pattern text r (Outside at) e h = (Outside at, (h, λ next. sym (ap refu
 unspelt_pattern text r (Spelt t) e h = absurd (cc e)
 
 -- a pattern's text that spells a tree
-pub spelt_pattern : (from : Source) (w : Store) (text : List ℕ) (t : Term) (v : Verdict) (r : Reading Tree) → IsReadingOf from w (Good t) v → IsVerdict text v → ((u : Tree) → tree_at w t ≡ Some u → IsPatternOf u r) → IsPatternRead text r
+pub spelt_pattern : (from : Source) (w : Store) (text : List ℕ) (t : Term) (v : Verdict) (r : Reading Tree) → IsReadingOf from w (Good t) v
+    → IsVerdict text v → ((u : Tree) → tree_at w t ≡ Some u → IsPatternOf u r) → IsPatternRead text r
 spelt_pattern from w text t v (Refused r) (u, here, e) h of = (v, (h, λ next. ap (due_of_pattern next) e ∙ of u here (next u)))
 spelt_pattern from w text t v (Good p) (u, here, e) h of =
     let k = of u here in
@@ -74,7 +77,8 @@ spelt_pattern from w text t v (Good p) (u, here, e) h of =
     }
 
 -- a text that spells a tree, by what is due after its verdict
-pub spelt_due : (after : Verdict → Due) (from : Source) (w : Store) (t : Term) (v : Verdict) → IsReadingOf from w (Good t) v → (a : Due) → ((u : Tree) → tree_at w t ≡ Some u → a ≡ after (Spelt u)) → a ≡ after v
+pub spelt_due : (after : Verdict → Due) (from : Source) (w : Store) (t : Term) (v : Verdict) → IsReadingOf from w (Good t) v → (a : Due)
+    → ((u : Tree) → tree_at w t ≡ Some u → a ≡ after (Spelt u)) → a ≡ after v
 spelt_due after from w t v (u, here, e) a of = of u here ∙ sym (ap after e)
 
 -- arguments that spell no tree
@@ -84,14 +88,16 @@ unspelt_args p r (Outside at) e = ap refusal_due (same_refusal e)
 unspelt_args p r (Spelt t) e = absurd (cc e)
 
 -- what is due by the verdict on what was read is so by that on the text
-pub due_read : (known : Option (List ℕ)) (a : Due) (after : Verdict → Due) (v : Verdict) → IfSome known (λ bytes. IsVerdict bytes v) → a ≡ after v → IfSome known (λ bytes. (w : Verdict) × (IsVerdict bytes w × (a ≡ after w)))
+pub due_read : (known : Option (List ℕ)) (a : Due) (after : Verdict → Due) (v : Verdict) → IfSome known (λ bytes. IsVerdict bytes v) → a ≡ after v
+    → IfSome known (λ bytes. (w : Verdict) × (IsVerdict bytes w × (a ≡ after w)))
 due_read None a after v h e = tt
 due_read (Some bytes) a after v h e = (v, (h, e))
 
 -- a text that is refused as a pattern spells none
 pub no_pattern : (text : List ℕ) (r : Refusal) → IsPatternRead text (Refused r) → (p : Tree) → SpellsPattern text p → ⊥
 no_pattern text r (v, (is, due)) p spelt =
-    let none : unless_unfit (unfit p) (done []) ≡ refusal_due r = subst (λ z. due_of_pattern (λ q. done []) z ≡ refusal_due r) (same_verdict text v (Spelt p) is spelt.spelt) (due (λ q. done [])) in
+    let none : unless_unfit (unfit p) (done []) ≡ refusal_due r =
+    subst (λ z. due_of_pattern (λ q. done []) z ≡ refusal_due r) (same_verdict text v (Spelt p) is spelt.spelt) (due (λ q. done [])) in
     let fit : unless_unfit None (done []) ≡ refusal_due r = subst (λ z. unless_unfit z (done []) ≡ refusal_due r) spelt.fit none in
     let ends : finish.Done ≡ finish.Refused = ap (λ (d : Due). d.finish) fit in
     cc

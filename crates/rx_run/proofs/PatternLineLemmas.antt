@@ -1,5 +1,6 @@
 -- The lines of an answer: which are due, and what is left where writing them stops.
-use Rattle.std.proofs.Common.{◌≡◌, ℕ, ◌+◌, ◌<◌, List, [], ◌∷◌, ◌++◌, Option, Some, None, true, false, IfSome, IsSome, length, take, drop, get_or, refl, sym, ap, subst, ◌∙◌, arith, append-nil, take-append-drop}
+use Rattle.std.proofs.Common.{◌≡◌, ℕ, ◌+◌, ◌<◌, List, [], ◌∷◌, ◌++◌, Option, Some, None, true, false, IfSome, IsSome}
+use Rattle.std.proofs.Common.{length, take, drop, get_or, refl, sym, ap, subst, ◌∙◌, arith, append-nil, take-append-drop}
 use Rattle.std.specs.Prelude.{codes, flat_map}
 use Rattle.std.proofs.lemmas.List.{take_more, length-take}
 use Rattle.std.proofs.lemmas.List.Concat.{flat_map-append}
@@ -73,7 +74,8 @@ refused_within : (lines : ℕ) (text : List ℕ) (between new : Option (List ℕ
 refused_within lines text between new (front, a, rest) = record { written = front; appended = a; front = rest; reported = tt }
 
 -- memory ran out within the printed text of a tree
-stops_memory_in : (lines : ℕ) (u : Tree) (between new : Option (List ℕ)) → newlines (canon u) ≡ 0 → AppendsFront (canon u) between new → StopsAfter lines (fault.Memory lines) (term_line u) between new
+stops_memory_in : (lines : ℕ) (u : Tree) (between new : Option (List ℕ)) → newlines (canon u) ≡ 0 → AppendsFront (canon u) between new
+    → StopsAfter lines (fault.Memory lines) (term_line u) between new
 stops_memory_in lines u between new none (front, a, (rest, e)) =
     let no = newlines-front front rest (ap newlines (sym e) ∙ none) in
     record {
@@ -84,30 +86,35 @@ stops_memory_in lines u between new none (front, a, (rest, e)) =
     }
 
 -- what holds of the line of a reference that is held, by what holds of its tree
-line_held : (w : Store) (t : Term) (P : Tree → Type 0) (Q : List ℕ → Type 0) → IsSome (tree_at w t) → IfSome (tree_at w t) P → ((u : Tree) → tree_at w t ≡ Some u → P u → Q (term_line u)) → Q (line_at w t)
+line_held : (w : Store) (t : Term) (P : Tree → Type 0) (Q : List ℕ → Type 0) → IsSome (tree_at w t) → IfSome (tree_at w t) P
+    → ((u : Tree) → tree_at w t ≡ Some u → P u → Q (term_line u)) → Q (line_at w t)
 line_held w t P Q held h so = by (tree_at w t) refl held h
   where
     by : (o : Option Tree) → tree_at w t ≡ o → IsSome o → IfSome o P → Q (line_at w t)
     by None e k p = absurd (cc k)
     by (Some u) e k p = rw e (so u e p)
 
-pub stops_memory : (w : Store) (t : Term) (lines : ℕ) (between new : Option (List ℕ)) → IsSound w → IsSome (tree_at w t) → IfSome (tree_at w t) (λ u. AppendsFront (canon u) between new) → StopsAfter lines (fault.Memory lines) (line_at w t) between new
+pub stops_memory : (w : Store) (t : Term) (lines : ℕ) (between new : Option (List ℕ)) → IsSound w → IsSome (tree_at w t)
+    → IfSome (tree_at w t) (λ u. AppendsFront (canon u) between new) → StopsAfter lines (fault.Memory lines) (line_at w t) between new
 stops_memory w t lines between new sound held h =
     line_held w t (λ u. AppendsFront (canon u) between new) (λ text. StopsAfter lines (fault.Memory lines) text between new) held h
     (λ u e f. stops_memory_in lines u between new (in_line-newlines (canon u) (stays_in_line u (sound.valid t u e)).0) f)
 
 -- the writer refused the printed text, or the line end
-pub text_refused : (w : Store) (t : Term) (lines : ℕ) (between new : Option (List ℕ)) → IsSome (tree_at w t) → IfSome (tree_at w t) (λ u. AppendsFront (canon u) between new) → StopsAfter lines fault.Write (line_at w t) between new
+pub text_refused : (w : Store) (t : Term) (lines : ℕ) (between new : Option (List ℕ)) → IsSome (tree_at w t)
+    → IfSome (tree_at w t) (λ u. AppendsFront (canon u) between new) → StopsAfter lines fault.Write (line_at w t) between new
 text_refused w t lines between new held h =
     line_held w t (λ u. AppendsFront (canon u) between new) (λ text. StopsAfter lines fault.Write text between new) held h
     (λ u e f. refused_within lines (term_line u) between new (front_before between new (canon u) (codes "\n") f))
 
-pub end_refused : (w : Store) (t : Term) (lines : ℕ) (between mid new : Option (List ℕ)) → IsSome (tree_at w t) → IfSome (tree_at w t) (λ u. Appends between mid (canon u)) → AppendsFront (codes "\n") mid new → StopsAfter lines fault.Write (line_at w t) between new
+pub end_refused : (w : Store) (t : Term) (lines : ℕ) (between mid new : Option (List ℕ)) → IsSome (tree_at w t)
+    → IfSome (tree_at w t) (λ u. Appends between mid (canon u)) → AppendsFront (codes "\n") mid new → StopsAfter lines fault.Write (line_at w t) between new
 end_refused w t lines between mid new held h f =
     line_held w t (λ u. Appends between mid (canon u)) (λ text. StopsAfter lines fault.Write text between new) held h
     (λ u e a. refused_within lines (term_line u) between new (front_after between mid new (canon u) (codes "\n") a f))
 
-pub line_written : (w : Store) (t : Term) (old mid new : Option (List ℕ)) → IsSome (tree_at w t) → IfSome (tree_at w t) (λ u. Appends old mid (canon u)) → Appends mid new (codes "\n") → Appends old new (line_at w t)
+pub line_written : (w : Store) (t : Term) (old mid new : Option (List ℕ)) → IsSome (tree_at w t)
+    → IfSome (tree_at w t) (λ u. Appends old mid (canon u)) → Appends mid new (codes "\n") → Appends old new (line_at w t)
 line_written w t old mid new held h k =
     line_held w t (λ u. Appends old mid (canon u)) (λ text. Appends old new text) held h (λ u e a. appends_both old mid new (canon u) (codes "\n") a k)
 
@@ -120,10 +127,12 @@ abbrev pub yes_lines : Store → List Term → List ℕ
 yes_lines w rs = codes "yes\n" ++ flat_map (line_at w) rs
 
 -- with one reference more
-pub yes_lines-more : (w : Store) (rs : List Term) (i : ℕ) (d : Term) → i < length rs → yes_lines w (take (i + 1) rs) ≡ yes_lines w (take i rs) ++ line_at w (get_or rs i d)
+pub yes_lines-more : (w : Store) (rs : List Term) (i : ℕ) (d : Term) → i < length rs
+    → yes_lines w (take (i + 1) rs) ≡ yes_lines w (take i rs) ++ line_at w (get_or rs i d)
 yes_lines-more w rs i d h =
     ap (λ z. codes "yes\n" ++ z) (
-    ap (flat_map (line_at w)) (take_more rs i d h) ∙ flat_map-append (line_at w) (take i rs) (get_or rs i d ∷ []) ∙ ap (λ z. flat_map (line_at w) (take i rs) ++ z) (append-nil (line_at w (get_or rs i d))))
+    ap (flat_map (line_at w)) (take_more rs i d h) ∙ flat_map-append (line_at w) (take i rs) (get_or rs i d ∷ [])
+    ∙ ap (λ z. flat_map (line_at w) (take i rs) ++ z) (append-nil (line_at w (get_or rs i d))))
 
 -- those up to a reference begin all
 yes_lines-front : (w : Store) (rs : List Term) (i : ℕ) → yes_lines w rs ≡ yes_lines w (take i rs) ++ flat_map (line_at w) (drop i rs)
@@ -131,7 +140,9 @@ yes_lines-front w rs i =
     ap (λ z. codes "yes\n" ++ z) (ap (flat_map (line_at w)) (sym (take-append-drop i rs)) ∙ flat_map-append (line_at w) (take i rs) (drop i rs))
 
 -- the line of a binding stopped: so did the lines
-pub stops_binding : (w : Store) (rs : List Term) (i : ℕ) (d : Term) (f : RunFault) (old between new : Option (List ℕ)) → IsSound w → AllHeld w rs → i < length rs → Appends old between (yes_lines w (take i rs)) → StopsAfter (i + 1) f (line_at w (get_or rs i d)) between new → Stops f (yes_lines w rs) old new
+pub stops_binding : (w : Store) (rs : List Term) (i : ℕ) (d : Term) (f : RunFault) (old between new : Option (List ℕ)) → IsSound w → AllHeld w rs
+    → i < length rs → Appends old between (yes_lines w (take i rs)) → StopsAfter (i + 1) f (line_at w (get_or rs i d)) between new
+    → Stops f (yes_lines w rs) old new
 stops_binding w rs i d f old between new sound held low wrote stops =
     let long = length-take i rs in
     let ends = ends_of_lines w (take i rs) sound (AllHeld-take w rs i held) in
@@ -140,4 +151,5 @@ stops_binding w rs i d f old between new sound held low wrote stops =
     let count : newlines (yes_lines w (take i rs)) ≡ i + 1 = omega (arith, long, ends, both, first, low) in
     let s = stops_behind f (i + 1) (yes_lines w (take i rs)) (line_at w (get_or rs i d)) old between new count wrote stops in
     let so_far : Stops f (yes_lines w (take (i + 1) rs)) old new = subst (λ (text : List ℕ). Stops f text old new) (sym (yes_lines-more w rs i d low)) s in
-    subst (λ (text : List ℕ). Stops f text old new) (sym (yes_lines-front w rs (i + 1))) (stops_before f (yes_lines w (take (i + 1) rs)) (flat_map (line_at w) (drop (i + 1) rs)) old new so_far)
+    subst (λ (text : List ℕ). Stops f text old new) (sym (yes_lines-front w rs (i + 1)))
+    (stops_before f (yes_lines w (take (i + 1) rs)) (flat_map (line_at w) (drop (i + 1) rs)) old new so_far)

@@ -1,5 +1,6 @@
 -- References of the elements of a list that a bank holds.
-use Rattle.std.proofs.Common.{◌≡◌, ◌≢◌, ◌⊎◌, inl, inr, ℕ, ◌+◌, ◌<◌, List, [], ◌∷◌, ◌++◌, Option, Some, None, Result, Ok, is_some, false, refl, sym, ap, ◌∙◌, arith, append_assoc, subst}
+use Rattle.std.proofs.Common.{◌≡◌, ◌≢◌, ◌⊎◌, inl, inr, ℕ, ◌+◌, ◌<◌, List, [], ◌∷◌, ◌++◌, Option, Some, None}
+use Rattle.std.proofs.Common.{Result, Ok, is_some, false, refl, sym, ap, ◌∙◌, arith, append_assoc, subst}
 use Rattle.std.specs.Option.{option_and_then, option_map_or}
 use Rattle.rx_term.specs.Tree.{Tree, Trees, none, more, Items, list_of, to_list, count_of}
 use Rattle.rx_term.specs.Store.{Store, tree_at, part_at, head_of, tail_of, anns_of}
@@ -16,7 +17,8 @@ use Rattle.rx_run.specs.PatternRuns.{made_due}
 use Rattle.rx_run.specs.Inner.PatternAnswers.{HasElements}
 use Rattle.rx_run.specs.TermRuns.{line_at}
 
-have-more : (w : Store) (rs : List Term) (ts : List Tree) (r : Term) (t : Tree) → HaveTrees w rs ts → tree_at w r ≡ Some t → HaveTrees w (rs ++ r ∷ []) (ts ++ t ∷ [])
+have-more : (w : Store) (rs : List Term) (ts : List Tree) (r : Term) (t : Tree) → HaveTrees w rs ts → tree_at w r ≡ Some t
+    → HaveTrees w (rs ++ r ∷ []) (ts ++ t ∷ [])
 have-more w [] [] r t h e = (e, tt)
 have-more w [] (u ∷ us) r t h e = absurd h
 have-more w (s ∷ ss) [] r t h e = absurd h
@@ -57,7 +59,8 @@ pub record TakesOne (w : Store) (list : Term) (found : List Term) (rest head tai
   pub smaller : left_at w tail < left_at w rest
 
 -- one item more
-pub takes_one : (w : Store) (list : Term) (found : List Term) (rest head tail : Term) → IsPartWay w list found rest → HasCons w rest → tree_at w head ≡ part_at head_of w rest → tree_at w tail ≡ part_at tail_of w rest → TakesOne w list found rest head tail
+pub takes_one : (w : Store) (list : Term) (found : List Term) (rest head tail : Term) → IsPartWay w list found rest → HasCons w rest
+    → tree_at w head ≡ part_at head_of w rest → tree_at w tail ≡ part_at tail_of w rest → TakesOne w list found rest head tail
 takes_one w list found rest head tail p h e f = by p.left p.here p.split
   where
     by : (left : Trees) → tree_at w rest ≡ Some (list_of left) → to_list p.all ≡ p.done ++ to_list left → TakesOne w list found rest head tail
@@ -86,17 +89,21 @@ plain_list : (items anns : Trees) → anns_of (Items items anns) ≡ None → It
 plain_list items none e = refl
 plain_list items (more t ts) e = absurd (cc e)
 
-pub list_here : (w : Store) (t : Term) (items anns : Trees) → tree_at w t ≡ Some (Items items anns) → part_at anns_of w t ≡ None → tree_at w t ≡ Some (list_of items)
+pub list_here : (w : Store) (t : Term) (items anns : Trees) → tree_at w t ≡ Some (Items items anns) → part_at anns_of w t ≡ None
+    → tree_at w t ≡ Some (list_of items)
 list_here w t items anns e n =
     let no : anns_of (Items items anns) ≡ None = sym (ap (option_and_then anns_of) e) ∙ n in
     e ∙ ap (λ (u : Tree). Some u) (plain_list items anns no)
 
 -- a list without annotations
-pub listed : (w : Store) (t : Term) (k : Kind) (anns : Option Term) → HasKind w t k → (k ≡ kind.Nil) ⊎ (k ≡ kind.Cons) → HasAnns w t anns → is_some anns ≡ false → (ts : Trees) × (tree_at w t ≡ Some (list_of ts))
+pub listed : (w : Store) (t : Term) (k : Kind) (anns : Option Term) → HasKind w t k → (k ≡ kind.Nil) ⊎ (k ≡ kind.Cons) → HasAnns w t anns
+    → is_some anns ≡ false → (ts : Trees) × (tree_at w t ≡ Some (list_of ts))
 listed w t k (Some a) h e n bare = absurd (cc bare)
 listed w t k None h (inl e) n bare = let nil : HasNil w t = subst (HasKind w t) e h in (none, list_here w t none nil.anns nil.here n)
-listed w t k None h (inr e) n bare = let cons : HasCons w t = subst (HasKind w t) e h in (more cons.first cons.rest, list_here w t (more cons.first cons.rest) cons.anns cons.here n)
+listed w t k None h (inr e) n bare = let cons : HasCons w t = subst (HasKind w t) e h in
+    (more cons.first cons.rest, list_here w t (more cons.first cons.rest) cons.anns cons.here n)
 
 -- its elements were found
-pub found_elements : (w : Store) (t : Term) (rs : List Term) → (ts : Trees) × (tree_at w t ≡ Some (list_of ts)) → ((ts : Trees) → tree_at w t ≡ Some (list_of ts) → HaveTrees w rs (to_list ts)) → HasElements w (option_and_then elements (tree_at w t)) (Some rs)
+pub found_elements : (w : Store) (t : Term) (rs : List Term) → (ts : Trees) × (tree_at w t ≡ Some (list_of ts))
+    → ((ts : Trees) → tree_at w t ≡ Some (list_of ts) → HaveTrees w rs (to_list ts)) → HasElements w (option_and_then elements (tree_at w t)) (Some rs)
 found_elements w t rs (ts, e) h = subst (λ (o : Option Tree). HasElements w (option_and_then elements o) (Some rs)) (sym e) (h ts e)

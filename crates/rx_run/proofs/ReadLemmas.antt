@@ -1,5 +1,6 @@
 -- What reads one after another do to known bytes.
-use Rattle.std.proofs.Common.{◌≡◌, ℕ, ◌≤◌, List, ◌++◌, Option, Some, None, IfSome, length, take, drop, sym, ap, ◌∙◌, append_assoc, append-nil, take_all, take_at, take-append-drop}
+use Rattle.std.proofs.Common.{◌≡◌, ℕ, ◌≤◌, List, ◌++◌, Option, Some, None, IfSome, length, take, drop, sym}
+use Rattle.std.proofs.Common.{ap, ◌∙◌, append_assoc, append-nil, take_all, take_at, take-append-drop}
 use Rattle.std.proofs.lemmas.List.{append_cancel_left}
 use Rattle.std.specs.Io.KnownBytes.{Consumes, IsAtEnd}
 
@@ -11,7 +12,8 @@ consumes_both (Some a) (Some b) None xs ys h k = absurd k
 consumes_both (Some a) (Some b) (Some c) xs ys h k = h ∙ ap (λ z. xs ++ z) k ∙ sym (append_assoc xs ys c)
 
 -- what was read to the end is all
-pub reads_all : (old new : Option (List ℕ)) (text : List ℕ) (n : ℕ) → Consumes old new text → IsAtEnd new → length text ≤ n → IfSome old (λ bytes. text ≡ take n bytes)
+pub reads_all : (old new : Option (List ℕ)) (text : List ℕ) (n : ℕ) → Consumes old new text → IsAtEnd new → length text ≤ n
+    → IfSome old (λ bytes. text ≡ take n bytes)
 reads_all None _ text n h k l = tt
 reads_all (Some a) None text n h k l = absurd h
 reads_all (Some a) (Some b) text n h k l =
@@ -25,7 +27,8 @@ reads_front (Some a) None text n h l = absurd h
 reads_front (Some a) (Some b) text n h l = sym (take_at text b n l) ∙ ap (take n) (sym h)
 
 -- what was read is the front of a length, and the rest is left
-pub reads_out : (old new : Option (List ℕ)) (text : List ℕ) (n : ℕ) → Consumes old new text → IfSome old (λ bytes. text ≡ take n bytes) → IfSome old (λ bytes. new ≡ Some (drop n bytes))
+pub reads_out : (old new : Option (List ℕ)) (text : List ℕ) (n : ℕ) → Consumes old new text → IfSome old (λ bytes. text ≡ take n bytes)
+    → IfSome old (λ bytes. new ≡ Some (drop n bytes))
 reads_out None _ text n h k = tt
 reads_out (Some a) None text n h k = absurd h
 reads_out (Some a) (Some b) text n h k =

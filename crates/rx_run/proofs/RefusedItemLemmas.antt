@@ -27,13 +27,15 @@ one_pattern bytes p q h k = let e = same_verdict bytes (Spelt p) (Spelt q) h.spe
 
 module _ {X : Type 0} (after : Verdict → Option X) where
   -- a text that spells no tree
-  pub unspelt_item : (from : Source) (text : List ℕ) (r : Refusal) (v : Verdict) → after TooLong ≡ None → ((at : ℕ) → after (Outside at) ≡ None) → refused_text from v ≡ Some r → IsVerdict text v → (u : Verdict) → IsVerdict text u → None ≡ after u
+  pub unspelt_item : (from : Source) (text : List ℕ) (r : Refusal) (v : Verdict) → after TooLong ≡ None → ((at : ℕ) → after (Outside at) ≡ None)
+      → refused_text from v ≡ Some r → IsVerdict text v → (u : Verdict) → IsVerdict text u → None ≡ after u
   unspelt_item from text r TooLong long outside e h u k = sym long ∙ ap after (same_verdict text TooLong u h k)
   unspelt_item from text r (Outside at) long outside e h u k = sym (outside at) ∙ ap after (same_verdict text (Outside at) u h k)
   unspelt_item from text r (Spelt t) long outside e h u k = absurd (cc e)
 
   -- a text that spells a tree
-  pub spelt_item : (from : Source) (w : Store) (text : List ℕ) (t : Term) (v : Verdict) (o : Option X) → IsReadingOf from w (reading.Good t) v → IsVerdict text v → ((s : Tree) → tree_at w t ≡ Some s → o ≡ after (Spelt s)) → (u : Verdict) → IsVerdict text u → o ≡ after u
+  pub spelt_item : (from : Source) (w : Store) (text : List ℕ) (t : Term) (v : Verdict) (o : Option X) → IsReadingOf from w (reading.Good t) v
+      → IsVerdict text v → ((s : Tree) → tree_at w t ≡ Some s → o ≡ after (Spelt s)) → (u : Verdict) → IsVerdict text u → o ≡ after u
   spelt_item from w text t v o (s, here, e) h is u k = is s here ∙ ap after (sym e ∙ same_verdict text v u h k)
 
 -- ---- arguments
@@ -42,7 +44,8 @@ abbrev misfit_by : Tree → List Tree → Result Tree Fault → Option Misfit
 misfit_by p ts r = elim r [ Ok t ↦ None | Err filling.Count ↦ Some (Count (length (blanks p)) (length ts)) | Err (Kinds at) ↦ Some (Kind at) ]
 
 -- trees of another number
-pub misfit_count : (w : Store) (p : Tree) (rs : List Term) (ts : List Tree) (wanted given : ℕ) → wanted ≡ length (blanks p) → given ≡ length rs → HaveTrees w rs ts → filling p ts ≡ Err filling.Count → Some (Count wanted given) ≡ misfit_of p ts
+pub misfit_count : (w : Store) (p : Tree) (rs : List Term) (ts : List Tree) (wanted given : ℕ) → wanted ≡ length (blanks p) → given ≡ length rs
+    → HaveTrees w rs ts → filling p ts ≡ Err filling.Count → Some (Count wanted given) ≡ misfit_of p ts
 misfit_count w p rs ts wanted given is n held e =
     ap (λ k. Some (Count k given)) is
     ∙ ap (λ k. Some (Count (length (blanks p)) k)) (n ∙ HaveTrees-length w rs ts held)

@@ -39,7 +39,8 @@ module _ {R T : Type 0} (input : Input R) where
   read_on (Err e) f h k = λ is. k (sym h ∙ is)
 
   -- that of a text that was not read
-  pub read_of : (r : Result T RunFault) (f : ReadFault) → IsErrAnd r (λ e. e ≡ fault_of_read f) → (f ≡ unreadable.Read → HasRefusedRead input) → TellsRead input r
+  pub read_of : (r : Result T RunFault) (f : ReadFault) → IsErrAnd r (λ e. e ≡ fault_of_read f) → (f ≡ unreadable.Read → HasRefusedRead input)
+      → TellsRead input r
   read_of (Ok x) f h k = absurd h
   read_of (Err e) unreadable.Memory h k = λ is. absurd (cc (h, is))
   read_of (Err e) unreadable.Read h k = λ is. k refl

@@ -30,7 +30,8 @@ verdict_front bytes (Outside at) h = subst (λ text. IsVerdict text (Outside at)
 verdict_front bytes (Spelt t) h = subst (λ text. IsVerdict text (Spelt t)) (short_front bytes h.0) h
 
 -- the verdict on what was read is that on the text
-pub verdict_given : (known : Option (List ℕ)) (text : List ℕ) (v : Verdict) → IfSome known (λ bytes. text ≡ take (LIMIT + 1) bytes) → IsVerdict text v → IfSome known (λ bytes. IsVerdict bytes v)
+pub verdict_given : (known : Option (List ℕ)) (text : List ℕ) (v : Verdict) → IfSome known (λ bytes. text ≡ take (LIMIT + 1) bytes) → IsVerdict text v
+    → IfSome known (λ bytes. IsVerdict bytes v)
 verdict_given None text v e h = tt
 verdict_given (Some bytes) text v e h = verdict_front bytes v (subst (λ t. IsVerdict t v) e h)
 
@@ -45,7 +46,8 @@ due_after : (lines : Tree → List ℕ) (w : Store) (r : Reading Term) (v : Verd
 due_after lines w (Refused r) v e = refused_due lines r v e
 due_after lines w (Good t) v (u, here, e) = ap (λ o. done (option_map_or lines o [])) here ∙ sym (ap (due_of lines) e)
 
-pub given_due : (lines : Tree → List ℕ) (known : Option (List ℕ)) (w : Store) (r : Reading Term) → IsGiven known w r → IfSome known (λ bytes. IsDueOf lines bytes (due_at lines w r))
+pub given_due : (lines : Tree → List ℕ) (known : Option (List ℕ)) (w : Store) (r : Reading Term) → IsGiven known w r
+    → IfSome known (λ bytes. IsDueOf lines bytes (due_at lines w r))
 given_due lines None w r g = tt
 given_due lines (Some bytes) w r (v, is, h) = (v, h, due_after lines w r v is)
 
@@ -71,7 +73,8 @@ in_line-newlines [] h = refl
 in_line-newlines (b ∷ bs) h = other_byte b bs (h 0 0 (omega arith)).0 (in_line-newlines bs (λ k d lt. h (suc k) d (omega arith)))
 
 -- the lines of a term whose parts are counted
-pub share_lines-at : (w v : Store) (t : Term) (n : ℕ) → IsSome (tree_at w t) → tree_at v t ≡ tree_at w t → IfSome (tree_at w t) (λ u. n ≡ part_count u) → lines_at share_lines w t ≡ line_at v t ++ cells_line n
+pub share_lines-at : (w v : Store) (t : Term) (n : ℕ) → IsSome (tree_at w t) → tree_at v t ≡ tree_at w t
+    → IfSome (tree_at w t) (λ u. n ≡ part_count u) → lines_at share_lines w t ≡ line_at v t ++ cells_line n
 share_lines-at w v t n held same counted = by (tree_at w t) refl held counted
   where
     by : (o : Option Tree) → tree_at w t ≡ o → IsSome o → IfSome o (λ u. n ≡ part_count u) → lines_at share_lines w t ≡ line_at v t ++ cells_line n

@@ -12,7 +12,8 @@ use Rattle.rx_run.specs.declared.streams.TheConstants.{LIMIT}
 use Rattle.rx_text.proofs.AppendingLemmas.{appends_same}
 
 module _ {T : Type 0} (IsDue : T → Due → Type 0) where
-  pub ends_due : (texts : Option T) (d : Due) (finish : Finish) (old new : Option (List ℕ)) → IfSome texts (λ x. IsDue x d) → d.finish ≡ finish → Appends old new d.text → EndsFor IsDue texts finish old new
+  pub ends_due : (texts : Option T) (d : Due) (finish : Finish) (old new : Option (List ℕ)) → IfSome texts (λ x. IsDue x d) → d.finish ≡ finish
+      → Appends old new d.text → EndsFor IsDue texts finish old new
   ends_due None d finish old new h e w = tt
   ends_due (Some x) d finish old new h e w = record { due = d; is_due = h; ends = e; written = w }
 
@@ -21,7 +22,8 @@ module _ {T : Type 0} (IsDue : T → Due → Type 0) where
   placed_due (Some x) d place h e = record { due = d; is_due = h; placed = e }
 
   -- where one thing is due at most
-  pub breaks_due : ((x : T) (d e : Due) → IsDue x d → IsDue x e → d ≡ e) → (texts : Option T) (d : Due) (fault : RunFault) (old new : Option (List ℕ)) → IfSome texts (λ x. IsDue x d) → Stops fault d.text old new → BreaksFor IsDue texts fault old new
+  pub breaks_due : ((x : T) (d e : Due) → IsDue x d → IsDue x e → d ≡ e) → (texts : Option T) (d : Due) (fault : RunFault) (old new : Option (List ℕ))
+      → IfSome texts (λ x. IsDue x d) → Stops fault d.text old new → BreaksFor IsDue texts fault old new
   breaks_due one None d fault old new h s = tt
   breaks_due one (Some x) d fault old new h s = λ e is. subst (λ (z : Due). Stops fault z.text old new) (one x d e h is) s
 

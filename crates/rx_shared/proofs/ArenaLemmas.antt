@@ -7,7 +7,8 @@ use Rattle.std.proofs.lemmas.List.{length-set, get_or-set_same, get_or-set_other
 use Rattle.std.proofs.lemmas.Nat.{mod_below}
 use Rattle.rx_arena.specs.declared.CellBody.{CellBody}
 use Rattle.rx_arena.specs.Put.{times, times_in, put, altered}
-use Rattle.rx_arena.specs.Arena.{Taken, ArenaState, taken_at, chain_at, IsLoose, is_marked, marked_at, root_count, roots_at, stored_hash, hash_at, new_cell, with_count, times_hashed, IsArena, empty_arena}
+use Rattle.rx_arena.specs.Arena.{Taken, ArenaState, taken_at, chain_at, IsLoose, is_marked, marked_at, root_count, roots_at}
+use Rattle.rx_arena.specs.Arena.{stored_hash, hash_at, new_cell, with_count, times_hashed, IsArena, empty_arena}
 use Rattle.rx_arena.proofs.PutLemmas.{one_if-same, one_if-other, get_or-put_same, get_or-put_other, times_in-at}
 use Rattle.rx_arena.proofs.ChainLemmas.{one_or_more}
 use Rattle.rx_shared.specs.Bodies.{IsWritten}
@@ -53,7 +54,8 @@ tidy-empty cap chains a e law =
     (λ s. ap is_marked (none s)) (ap (λ (v : ArenaState). v.gray) e) (λ s. let z : roots_at a s ≡ 0 = ap root_count (none s) in omega (arith, z))
 
 -- the chains are dealt out anew
-pub tidy-dealt : (a z : ArenaState) (n : ℕ) → IsTidy a → IsArena z → z ≡ record a { chains = z.chains } → 0 < n → length z.chains ≡ n → ((c : ℕ) → c < n → (s : ℕ) → times s (chain_at z c) ≡ times_hashed a n c s) → IsTidy z
+pub tidy-dealt : (a z : ArenaState) (n : ℕ) → IsTidy a → IsArena z → z ≡ record a { chains = z.chains } → 0 < n → length z.chains ≡ n
+    → ((c : ℕ) → c < n → (s : ℕ) → times s (chain_at z c) ≡ times_hashed a n c s) → IsTidy z
 tidy-dealt a z n tidy law rest pos len dealt =
     let at : (s : ℕ) → taken_at z s ≡ taken_at a s = λ s. ap (λ (v : ArenaState). taken_at v s) rest in
     tidy-from z law (λ s t e. tidy.written s t (sym (at s) ∙ e)) (λ s t e. by_hash s t (sym (at s) ∙ e))
@@ -81,9 +83,11 @@ tidy-same a z tidy law cells chains gray =
     (λ s. subst (λ k. k ≤ 65535) (sym (ap root_count (at s))) (tidy.counted s))
 
 -- another count at one slot
-module _ (a z : ArenaState) (k n : ℕ) (t : Taken) (here : taken_at a k ≡ Some t) (tidy : IsTidy a) (law : IsArena z) (after : z ≡ record a { cells = altered k (with_count n) a.cells }) where
+module _ (a z : ArenaState) (k n : ℕ) (t : Taken) (here : taken_at a k ≡ Some t) (tidy : IsTidy a) (law : IsArena z)
+    (after : z ≡ record a { cells = altered k (with_count n) a.cells }) where
   counted-here : taken_at z k ≡ Some (with_count n t)
-  counted-here = ap (λ (v : ArenaState). taken_at v k) after ∙ get_or-put_same a.cells k (option_map (with_count n) (get_or a.cells k None)) ∙ ap (option_map (with_count n)) here
+  counted-here = ap (λ (v : ArenaState). taken_at v k) after ∙ get_or-put_same a.cells k (option_map (with_count n) (get_or a.cells k None))
+      ∙ ap (option_map (with_count n)) here
 
   counted-else : (s : ℕ) → s ≢ k → taken_at z s ≡ taken_at a s
   counted-else s ne = ap (λ (v : ArenaState). taken_at v s) after ∙ get_or-put_other a.cells k s (option_map (with_count n) (get_or a.cells k None)) ne
@@ -105,14 +109,16 @@ module _ (a z : ArenaState) (k n : ℕ) (t : Taken) (here : taken_at a k ≡ Som
 
   pub counted-was : (s : ℕ) (u : Taken) → taken_at z s ≡ Some u → (v : Taken) × (taken_at a s ≡ Some v) × (v.body ≡ u.body)
   counted-was s u e = elim (eqb_tells s k) [
-    | inl p ↦ (let same : with_count n t ≡ u = (let q : taken_at z s ≡ Some (with_count n t) = ap (taken_at z) p.1 ∙ counted-here in cc) in (t, ap (taken_at a) p.1 ∙ here, ap (λ (v : Taken). v.body) same))
+    | inl p ↦ (let same : with_count n t ≡ u = (let q : taken_at z s ≡ Some (with_count n t) = ap (taken_at z) p.1 ∙ counted-here in cc) in
+        (t, ap (taken_at a) p.1 ∙ here, ap (λ (v : Taken). v.body) same))
     | inr p ↦ (u, sym (counted-else s p.1) ∙ e, refl)
   ]
 
   pub tidy-counted : n ≤ 65535 → IsTidy z
   tidy-counted fits = tidy-from z law
       (λ s u e. let v = counted-was s u e in subst IsWritten v.2 (tidy.written s v.0 v.1))
-      (λ s u e. let v = counted-was s u e in ap (λ (css : List (List ℕ)). times s (get_or css (u.body.hash % length css) [])) same_css ∙ ap (λ (b : CellBody). times s (chain_at a (b.hash % length a.chains))) (sym v.2) ∙ tidy.homed s v.0 v.1)
+      (λ s u e. let v = counted-was s u e in ap (λ (css : List (List ℕ)). times s (get_or css (u.body.hash % length css) [])) same_css
+      ∙ ap (λ (b : CellBody). times s (chain_at a (b.hash % length a.chains))) (sym v.2) ∙ tidy.homed s v.0 v.1)
       (λ s. elim (eqb_tells s k) [
         | inl p ↦ ap (marked_at z) p.1 ∙ ap is_marked counted-here ∙ sym (ap is_marked here) ∙ tidy.unmarked k
         | inr p ↦ ap is_marked (counted-else s p.1) ∙ tidy.unmarked s
@@ -148,16 +154,19 @@ module _ (old mid new : ArenaState) (k c : ℕ) (b : CellBody) (tidy : IsTidy ol
   added-spare = ap (λ (v : ArenaState). v.spare) after
 
   pub added-here : taken_at new k ≡ Some (new_cell b)
-  added-here = ap (λ (v : ArenaState). taken_at v k) after ∙ ap (λ (z : List (Option Taken)). get_or z k None) cells ∙ get_or-put_same old.cells k (Some (new_cell b))
+  added-here = ap (λ (v : ArenaState). taken_at v k) after ∙ ap (λ (z : List (Option Taken)). get_or z k None) cells
+      ∙ get_or-put_same old.cells k (Some (new_cell b))
 
   pub added-else : (s : ℕ) → s ≢ k → taken_at new s ≡ taken_at old s
-  added-else s ne = ap (λ (v : ArenaState). taken_at v s) after ∙ ap (λ (z : List (Option Taken)). get_or z s None) cells ∙ get_or-put_other old.cells k s (Some (new_cell b)) ne
+  added-else s ne = ap (λ (v : ArenaState). taken_at v s) after ∙ ap (λ (z : List (Option Taken)). get_or z s None) cells
+      ∙ get_or-put_other old.cells k s (Some (new_cell b)) ne
 
   chain_here : chain_at new c ≡ k ∷ chain_at mid c
   chain_here = ap (λ (z : List (List ℕ)). get_or z c []) new_chains ∙ get_or-set_same mid.chains c (k ∷ chain_at mid c) [] lt_mid
 
   chain_else : (d : ℕ) → d ≢ c → chain_at new d ≡ chain_at old d
-  chain_else d ne = ap (λ (z : List (List ℕ)). get_or z d []) new_chains ∙ get_or-set_other mid.chains c d (k ∷ chain_at mid c) [] ne ∙ ap (λ (z : List (List ℕ)). get_or z d []) same_chains
+  chain_else d ne = ap (λ (z : List (List ℕ)). get_or z d []) new_chains ∙ get_or-set_other mid.chains c d (k ∷ chain_at mid c) [] ne
+      ∙ ap (λ (z : List (List ℕ)). get_or z d []) same_chains
 
   home_here : times k (chain_at new c) ≡ 1
   home_here =
@@ -167,7 +176,8 @@ module _ (old mid new : ArenaState) (k c : ℕ) (b : CellBody) (tidy : IsTidy ol
   home_else : (s d : ℕ) → s ≢ k → times s (chain_at old d) ≡ 1 → times s (chain_at new d) ≡ 1
   home_else s d ne one = elim (eqb_tells d c) [
     | inl p ↦ (
-        let same : times s (chain_at mid c) ≡ times s (chain_at old d) = ap (λ (z : List (List ℕ)). times s (get_or z c [])) same_chains ∙ ap (λ e. times s (chain_at old e)) (sym p.1) in
+        let same : times s (chain_at mid c) ≡ times s (chain_at old d) =
+        ap (λ (z : List (List ℕ)). times s (get_or z c [])) same_chains ∙ ap (λ e. times s (chain_at old e)) (sym p.1) in
         ap (λ e. times s (chain_at new e)) p.1 ∙ ap (times s) chain_here ∙ omega (arith, one, same, one_if-other k s (λ e. ne (sym e))))
     | inr p ↦ ap (times s) (chain_else d p.1) ∙ one
   ]
@@ -183,9 +193,11 @@ module _ (old mid new : ArenaState) (k c : ℕ) (b : CellBody) (tidy : IsTidy ol
       ])
       (λ s t e. elim (eqb_tells s k) [
         | inl p ↦ (
-            let home : t.body.hash % length new.chains ≡ c = ap (λ v. v.body.hash % length new.chains) (sym (of_new t s p.1 e)) ∙ ap (λ n. b.hash % n) added-chains ∙ sym chain in
+            let home : t.body.hash % length new.chains ≡ c = ap (λ v. v.body.hash % length new.chains) (sym (of_new t s p.1 e))
+            ∙ ap (λ n. b.hash % n) added-chains ∙ sym chain in
             ap (λ d. times s (chain_at new d)) home ∙ ap (λ r. times r (chain_at new c)) p.1 ∙ home_here)
-        | inr p ↦ ap (λ n. times s (chain_at new (t.body.hash % n))) added-chains ∙ home_else s (t.body.hash % length old.chains) p.1 (tidy.homed s t (sym (added-else s p.1) ∙ e))
+        | inr p ↦ ap (λ n. times s (chain_at new (t.body.hash % n))) added-chains
+            ∙ home_else s (t.body.hash % length old.chains) p.1 (tidy.homed s t (sym (added-else s p.1) ∙ e))
       ])
       (λ s. elim (eqb_tells s k) [
         | inl p ↦ ap (marked_at new) p.1 ∙ ap is_marked added-here

@@ -8,7 +8,8 @@ use Rattle.rx_sweep.specs.Inner.Marking.{Marks}
 use Rattle.rx_sweep.proofs.MarkStepLemmas.{marks_then, marks_by}
 use Rattle.rx_shared.specs.Tidy.{IsOneOf}
 
-pub marks_more : (a z y : ArenaState) (rs ss : List Term) (r : Term) → ss ≡ rs ++ r ∷ [] → Marks a z (IsOneOf rs) → Marks z y (λ s. s ≡ r.0) → Marks a y (IsOneOf ss)
+pub marks_more : (a z y : ArenaState) (rs ss : List Term) (r : Term) → ss ≡ rs ++ r ∷ [] → Marks a z (IsOneOf rs) → Marks z y (λ s. s ≡ r.0)
+    → Marks a y (IsOneOf ss)
 marks_more a z y rs ss r e m n =
     subst (λ ts. Marks a y (IsOneOf ts)) (sym e) (marks_by a y (λ s. IsOneOf rs s ⊎ (s ≡ r.0)) (IsOneOf (rs ++ r ∷ []))
     (λ s h. elim h [

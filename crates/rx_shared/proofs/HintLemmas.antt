@@ -72,7 +72,8 @@ module _ (b : SharedBank) where
       → (w : Least (is_whole (heap_of b.arena) (table b) b.arena.cap))
       → Makes (store_of b) (store_from (symbols_of b.names) b.arena w) (tree_of_body (store_of b) body) (record { 0 = i })
   found-beside body tree i e w =
-      subst (λ v. Makes (store_of b) v (tree_of_body (store_of b) body) (record { 0 = i })) (sym (same-store (symbols_of b.names) b.arena b.arena b.whole w refl refl refl refl)) (found b body tree i e)
+      subst (λ v. Makes (store_of b) v (tree_of_body (store_of b) body) (record { 0 = i }))
+      (sym (same-store (symbols_of b.names) b.arena b.arena b.whole w refl refl refl refl)) (found b body tree i e)
 
 -- a slot whose cell has the word of the body that is looked for holds it
 pub guessed : (a : ArenaState) (s w : ℕ) (body : CellBody) → HoldsWord a s w → w ≡ word_of body → heap_of a s ≡ Some (cell_of body)
@@ -82,7 +83,8 @@ guessed a s w body (t, here, is, ne) e = ap cell_in here ∙ ap (λ (f : Face). 
 pub held-small : (b : SharedBank) (t : Term) → IsSome (tree_at (store_of b) t) → t.0 < 1073741824
 held-small b t held = elim (lt_or_le t.0 b.arena.cap) [
   | inl lt ↦ (let small = b.tidy.small in omega (arith, lt, small))
-  | inr le ↦ absurd (let there = sym (cell-held b t.0) ∙ held in let gone = ap (λ o. is_some (cell_in o)) (b.tidy.bounded t.0 le) in let both = sym gone ∙ there in cc)
+  | inr le ↦ absurd (let there = sym (cell-held b t.0) ∙ held in let gone = ap (λ o. is_some (cell_in o)) (b.tidy.bounded t.0 le) in let both =
+      sym gone ∙ there in cc)
 ]
 
 -- the list behind a first item is held, and so are arguments

@@ -1,5 +1,6 @@
 -- What a list names, by count and by membership.
-use Rattle.std.proofs.Common.{◌≡◌, ℕ, zero, suc, ◌+◌, ◌<◌, inl, inr, List, [], ◌∷◌, ◌++◌, get_or, length, take, map, refl, sym, ap, subst, ◌∙◌, arith, add-one, Contains}
+use Rattle.std.proofs.Common.{◌≡◌, ℕ, zero, suc, ◌+◌, ◌<◌, inl, inr, List, [], ◌∷◌, ◌++◌, get_or}
+use Rattle.std.proofs.Common.{length, take, map, refl, sym, ap, subst, ◌∙◌, arith, add-one, Contains}
 use Rattle.std.specs.Prelude.{Bool, filter}
 use Rattle.rx_term.proofs.PartsLemmas.{cons_head, cons_tail, cons_cases, no_element}
 use Rattle.rx_arena.specs.Put.{one_if, times}

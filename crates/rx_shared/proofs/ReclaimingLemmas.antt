@@ -1,5 +1,6 @@
 -- What a bank keeps when its arena is collected.
-use Rattle.std.proofs.Common.{◌≡◌, ℕ, zero, suc, ◌%◌, ◌<◌, ◌≤◌, ◌⊎◌, inl, inr, Bool, true, false, List, [], length, get_or, Option, Some, None, IsSome, is_some, refl, sym, ap, subst, ◌∙◌, arith, Contains}
+use Rattle.std.proofs.Common.{◌≡◌, ℕ, zero, suc, ◌%◌, ◌<◌, ◌≤◌, ◌⊎◌, inl, inr, Bool, true, false, List, [], length}
+use Rattle.std.proofs.Common.{get_or, Option, Some, None, IsSome, is_some, refl, sym, ap, subst, ◌∙◌, arith, Contains}
 use Rattle.std.specs.Prelude.{if◌then◌else◌, filter}
 use Rattle.std.proofs.lemmas.List.{length-map}
 use Rattle.std.proofs.lemmas.List.Elements.{Contains-append_left, Contains-append_right, Contains-append_cases}
@@ -55,12 +56,14 @@ module _ (x : CellBody) (written : IsWritten x) where
   pub named-linked : (t : ℕ) → 0 < times t (names x) → Contains (links (cell_of x)) t
   named-linked t h = elim (Contains-append_cases (annotations x.anns) (words x.kind x.a x.b) t (counted_in (names x) t h)) [
     | inl p ↦ Contains-append_right (node_links (node_of x.kind x.a x.b)) (notes_links (notes_of x.anns)) t (subst (λ ss. Contains ss t) (notes-links x.anns) p)
-    | inr p ↦ Contains-append_left (node_links (node_of x.kind x.a x.b)) (notes_links (notes_of x.anns)) t (subst (λ ss. Contains ss t) (words-links x.kind x.a x.b written.kind) p)
+    | inr p ↦ Contains-append_left (node_links (node_of x.kind x.a x.b)) (notes_links (notes_of x.anns)) t
+        (subst (λ ss. Contains ss t) (words-links x.kind x.a x.b written.kind) p)
   ]
 
   pub linked-named : (t : ℕ) → Contains (links (cell_of x)) t → 0 < times t (names x)
   linked-named t h = in_counted (names x) t (elim (Contains-append_cases (node_links (node_of x.kind x.a x.b)) (notes_links (notes_of x.anns)) t h) [
-    | inl p ↦ Contains-append_right (annotations x.anns) (words x.kind x.a x.b) t (subst (λ ss. Contains ss t) (sym (words-links x.kind x.a x.b written.kind)) p)
+    | inl p ↦ Contains-append_right (annotations x.anns) (words x.kind x.a x.b) t
+        (subst (λ ss. Contains ss t) (sym (words-links x.kind x.a x.b written.kind)) p)
     | inr p ↦ Contains-append_left (annotations x.anns) (words x.kind x.a x.b) t (subst (λ ss. Contains ss t) (sym (notes-links x.anns)) p)
   ])
 
@@ -198,8 +201,12 @@ module _ (b : SharedBank) (g : ArenaState) (extra : List Term) (m : Marks b.aren
         let v = collected-was s t e in
         let home = b.tidy.homed s v.0 v.1 in
         let k = v.0.body.hash % length b.arena.chains in
-        let same : chain_at z k ≡ filter (λ s. is_taken z s) (chain_at b.arena k) = ap (λ (css : List (List ℕ)). get_or css k []) left.chains ∙ get_or-map_filter (λ s. is_taken z s) g.chains k ∙ ap (λ (css : List (List ℕ)). filter (λ s. is_taken z s) (get_or css k [])) (same_chains b.arena g m.same) in
-        ap (λ (y : CellBody). times s (chain_at z (y.hash % length z.chains))) (sym v.2) ∙ ap (λ n. times s (chain_at z (v.0.body.hash % n))) collected-chains ∙ ap (times s) same ∙ times-filter_true (λ s. is_taken z s) s (chain_at b.arena k) (taken-keep s (t, e)) ∙ home)
+        let same : chain_at z k ≡ filter (λ s. is_taken z s) (chain_at b.arena k) =
+        ap (λ (css : List (List ℕ)). get_or css k []) left.chains ∙ get_or-map_filter (λ s. is_taken z s) g.chains k
+        ∙ ap (λ (css : List (List ℕ)). filter (λ s. is_taken z s) (get_or css k [])) (same_chains b.arena g m.same) in
+        ap (λ (y : CellBody). times s (chain_at z (y.hash % length z.chains))) (sym v.2)
+        ∙ ap (λ n. times s (chain_at z (v.0.body.hash % n))) collected-chains ∙ ap (times s) same
+        ∙ times-filter_true (λ s. is_taken z s) s (chain_at b.arena k) (taken-keep s (t, e)) ∙ home)
         left.no_marks left.no_gray
         (λ s. subst (λ n. n ≤ 65535) (sym (collected-roots s)) (b.tidy.counted s))
 
@@ -213,7 +220,8 @@ module _ (b : SharedBank) (g : ArenaState) (extra : List Term) (m : Marks b.aren
     collected-whole = whole-along (table b) (kept_slots keep (heap_of b.arena)) (heap_of z) b.arena.cap z.cap collected-heap collected-cap least_after
 
     pub collected-distinct : IsDistinct (heap_of z)
-    collected-distinct = subst IsDistinct (sym collected-heap) (kept-heap (heap_of b.arena) (table b) b.arena.cap b.whole.0 (bank-heap b) keep closed-keep b.whole.0 whole_after).distinct
+    collected-distinct = subst IsDistinct (sym collected-heap) (kept-heap (heap_of b.arena) (table b) b.arena.cap b.whole.0 (bank-heap b) keep
+        closed-keep b.whole.0 whole_after).distinct
 
     kept-root : (s : Term) → IsKeptRoot (store_of b) extra s → keep s.0 ≡ true
     kept-root s h = start-keep s.0 (elim h [ inl p ↦ inl p | inr p ↦ inr (s, p, refl) ])
@@ -232,17 +240,23 @@ module _ (b : SharedBank) (g : ArenaState) (extra : List Term) (m : Marks b.aren
       unfolding content_by
       content-after = content-unique (table b) (kept_slots keep (heap_of b.arena)) (heap_of z) b.arena.cap z.cap collected-heap collected-cap least_after w
 
-      kept-after : (t : Term) (u : Tree) → tree_at (store_of b) t ≡ Some u → IsReached (store_of b) extra u → fin.get (content_by (heap_of z) (table b) z.cap w) t.0 ≡ Some u
+      kept-after : (t : Term) (u : Tree) → tree_at (store_of b) t ≡ Some u → IsReached (store_of b) extra u
+          → fin.get (content_by (heap_of z) (table b) z.cap w) t.0 ≡ Some u
       unfolding content_by
       kept-after t u e (s, (v, root, at, part)) =
-          let k = kept-part (heap_of b.arena) (table b) b.arena.cap b.whole.0 (bank-heap b) keep closed-keep least_after.0 least_after.1.passes s.0 t.0 u v (kept-root s root) at part e in
-          ap (λ c. fin.get c t.0) content-after ∙ kept-content (heap_of b.arena) (table b) b.arena.cap b.whole.0 (bank-heap b) keep closed-keep least_after.0 least_after.1.passes t.0 u k e
+          let k = kept-part (heap_of b.arena) (table b) b.arena.cap b.whole.0 (bank-heap b) keep closed-keep least_after.0 least_after.1.passes s.0
+          t.0 u v (kept-root s root) at part e in
+          ap (λ c. fin.get c t.0) content-after ∙ kept-content (heap_of b.arena) (table b) b.arena.cap b.whole.0 (bank-heap b) keep closed-keep
+          least_after.0 least_after.1.passes t.0 u k e
 
-      only-after : (t : Term) (u : Tree) → fin.get (content_by (heap_of z) (table b) z.cap w) t.0 ≡ Some u → (tree_at (store_of b) t ≡ Some u) × IsReached (store_of b) extra u
+      only-after : (t : Term) (u : Tree) → fin.get (content_by (heap_of z) (table b) z.cap w) t.0 ≡ Some u
+          → (tree_at (store_of b) t ≡ Some u) × IsReached (store_of b) extra u
       unfolding content_by
       only-after t u e =
-          let o = only-content (heap_of b.arena) (table b) b.arena.cap b.whole.0 (bank-heap b) keep closed-keep least_after.0 least_after.1.passes t.0 u (sym (ap (λ c. fin.get c t.0) content-after) ∙ e) in
-          let l = linked-part (heap_of b.arena) (table b) b.arena.cap b.whole.0 (bank-heap b) (IsStart b extra) start-held t.0 (reached-linked t.0 ((left.taken t.0).0 (keep-taken t.0 o.0))) in
+          let o = only-content (heap_of b.arena) (table b) b.arena.cap b.whole.0 (bank-heap b) keep closed-keep least_after.0 least_after.1.passes t.0
+          u (sym (ap (λ c. fin.get c t.0) content-after) ∙ e) in
+          let l = linked-part (heap_of b.arena) (table b) b.arena.cap b.whole.0 (bank-heap b) (IsStart b extra) start-held t.0
+          (reached-linked t.0 ((left.taken t.0).0 (keep-taken t.0 o.0))) in
           let same : l.1.1.0 ≡ u = (let p = l.1.1.3 in let q = o.1 in cc) in
           (o.1, (record { 0 = l.0 }, (l.1.0, root-kept l.0 l.1.1.1, l.1.1.2, subst (Contains (parts l.1.0)) same l.1.1.4)))
 

@@ -18,8 +18,11 @@ search_begins a c b next h = record { walk = walk_begins (chain_at a c) next h; 
 pub searched : (a : ArenaState) (c : ℕ) (b : CellBody) (next : Option Slot) → Search a c b next → next ≡ None → IsAbsent a b (chain_at a c)
 searched a c b next s e = subst (IsAbsent a b) (walked (chain_at a c) next s.walk e) s.absent
 
-pub search_on : (a : ArenaState) (c : ℕ) (b : CellBody) (next : Option Slot) (s : Search a c b next) (k : Slot) (is : next ≡ Some k) (far : Option Slot) → ((before after : List ℕ) → chain_at a c ≡ before ++ k.0 ∷ after → IsFirst far after) → ((t : Taken) → taken_at a k.0 ≡ Some t → t.body ≢ b) → Search a c b far
+pub search_on : (a : ArenaState) (c : ℕ) (b : CellBody) (next : Option Slot) (s : Search a c b next) (k : Slot) (is : next ≡ Some k)
+    (far : Option Slot) → ((before after : List ℕ) → chain_at a c ≡ before ++ k.0 ∷ after → IsFirst far after)
+    → ((t : Taken) → taken_at a k.0 ≡ Some t → t.body ≢ b) → Search a c b far
 search_on a c b next s k is far found differs = record {
   walk = walk_on (chain_at a c) next s.walk k is far found;
-  absent = λ j t lt e. elim (passed (chain_at a c) next s.walk k is j lt) [ inl p ↦ s.absent j t p e | inr p ↦ differs t (subst (λ z. taken_at a z ≡ Some t) p e) ];
+  absent = λ j t lt e. elim (passed (chain_at a c) next s.walk k is j lt)
+      [ inl p ↦ s.absent j t p e | inr p ↦ differs t (subst (λ z. taken_at a z ≡ Some t) p e) ];
 }

@@ -53,7 +53,8 @@ module _ (a b : ArenaState) (p : SameButMarks a b) where
   same_count = sym (filled-map (with_marking false) b.cells) ∙ ap (λ (v : ArenaState). filled v.cells) p.bare_same ∙ filled-map (with_marking false) a.cells
 
   pub same_at : (s : ℕ) → unmarked (taken_at b s) ≡ unmarked (taken_at a s)
-  same_at s = sym (get_or-map_option (with_marking false) b.cells s) ∙ ap (λ (v : ArenaState). get_or v.cells s None) p.bare_same ∙ get_or-map_option (with_marking false) a.cells s
+  same_at s = sym (get_or-map_option (with_marking false) b.cells s) ∙ ap (λ (v : ArenaState). get_or v.cells s None) p.bare_same
+      ∙ get_or-map_option (with_marking false) a.cells s
 
   pub same_names : (s : ℕ) → named_at b s ≡ named_at a s
   same_names s = sym (names-unmarked (taken_at b s)) ∙ ap cell_names (same_at s) ∙ names-unmarked (taken_at a s)

@@ -7,12 +7,14 @@ use Rattle.rx_arena.proofs.PutLemmas.{get_or-map_option}
 use Rattle.rx_sweep.specs.Reach.{unmarked, is_taken, cell_names, named_at, IsClosed, IsReached, CanCollect, Collected}
 use Rattle.rx_sweep.specs.Reach.IsReached.{rooted, grayed, named}
 use Rattle.rx_sweep.specs.Inner.Marking.{bare, SameButMarks, Marks, Swept}
-use Rattle.rx_sweep.proofs.BareLemmas.{same_trans, same_at, same_names, same_roots, same_chains, same_spare, same_cap, same_count, same_taken, taken_same, unmarked-clear, names-unmarked}
+use Rattle.rx_sweep.proofs.BareLemmas.{same_trans, same_at, same_names, same_roots, same_chains, same_spare, same_cap}
+use Rattle.rx_sweep.proofs.BareLemmas.{same_count, same_taken, taken_same, unmarked-clear, names-unmarked}
 use Rattle.rx_sweep.proofs.SpreadingLemmas.{marked_taken}
 use Rattle.rx_sweep.proofs.SweepLemmas.{true_or_false, times_in-filter_true}
 
 -- a set that holds the protected and the gray slots, and all that its slots name, holds the reached ones
-pub reached_in : (a : ArenaState) (P : ℕ → Type 0) → ((s : ℕ) → 0 < roots_at a s → P s) → ((s : ℕ) → 0 < times s a.gray → P s) → ((s t : ℕ) → P s → 0 < times t (named_at a s) → P t) → (s : ℕ) → IsReached a s → P s
+pub reached_in : (a : ArenaState) (P : ℕ → Type 0) → ((s : ℕ) → 0 < roots_at a s → P s) → ((s : ℕ) → 0 < times s a.gray → P s)
+    → ((s t : ℕ) → P s → 0 < times t (named_at a s) → P t) → (s : ℕ) → IsReached a s → P s
 reached_in a P r g n _ (rooted s h) = r s h
 reached_in a P r g n _ (grayed s h) = g s h
 reached_in a P r g n _ (named s t h e) = n s t (reached_in a P r g n s h) e
@@ -48,7 +50,8 @@ module _ (old : ArenaState) (law : IsArena old) (can : CanCollect old) (one : Ar
   reached_one s h = elim (m.only s h) [ inl w ↦ grayed s (can.marked_gray s w) | inr w ↦ rooted s w.0 ]
 
   -- after all that those lead to is marked
-  module _ (law_one : IsArena one) (two : ArenaState) (same : SameButMarks one two) (stay : (s : ℕ) → IsMarked one s → IsMarked two s) (found : (s : ℕ) → IsMarked two s → IsReached one s) (closed : (s t : ℕ) → IsMarked two s → 0 < times t (named_at one s) → IsMarked two t) where
+  module _ (law_one : IsArena one) (two : ArenaState) (same : SameButMarks one two) (stay : (s : ℕ) → IsMarked one s → IsMarked two s)
+      (found : (s : ℕ) → IsMarked two s → IsReached one s) (closed : (s t : ℕ) → IsMarked two s → 0 < times t (named_at one s) → IsMarked two t) where
     pub same_two : SameButMarks old two
     same_two = same_trans old one two m.same same
 
@@ -99,7 +102,8 @@ module _ (old : ArenaState) (law : IsArena old) (can : CanCollect old) (one : Ar
         none_stays s e = none_unmarked (taken_at four s) (same_at three four same_four s ∙ ap unmarked e)
 
         clear_four : (s : ℕ) → marked_at four s ≡ false
-        clear_four s = ap (λ (v : ArenaState). marked_at v s) turned ∙ ap is_marked (get_or-map_option (with_marking false) three.cells s) ∙ marked-unmarked (taken_at three s)
+        clear_four s = ap (λ (v : ArenaState). marked_at v s) turned ∙ ap is_marked (get_or-map_option (with_marking false) three.cells s)
+            ∙ marked-unmarked (taken_at three s)
 
         kept_four : (s : ℕ) → IsReached old s → taken_at four s ≡ unmarked (taken_at old s)
         kept_four s r =
@@ -150,7 +154,8 @@ module _ (old : ArenaState) (law : IsArena old) (can : CanCollect old) (one : Ar
           chains = chains_four;
           no_marks = clear_four;
           no_gray = ap (λ (v : ArenaState). v.gray) turned ∙ swept.no_gray;
-          spare = (λ i. same_spare three four same_four i + same_count three four same_four i) ∙ swept.spare ∙ (λ i. same_spare old two same_two i + same_count old two same_two i);
+          spare = (λ i. same_spare three four same_four i + same_count three four same_four i) ∙ swept.spare
+              ∙ (λ i. same_spare old two same_two i + same_count old two same_two i);
           cap = same_cap three four same_four ∙ swept.cap ∙ same_cap old two same_two;
           ready = ready_four;
         }

@@ -1,11 +1,13 @@
 -- Slot by slot, from the last one down, what is not marked leaves the chain that its hash names, and goes back.
-use Rattle.std.proofs.Common.{◌≡◌, ◌≢◌, ℕ, ◌+◌, ◌%◌, ◌<◌, ◌≤◌, ◌⊎◌, inl, inr, List, [], ◌∷◌, length, get_or, set, map, Some, None, refl, sym, ap, subst, ◌∙◌, arith}
+use Rattle.std.proofs.Common.{◌≡◌, ◌≢◌, ℕ, ◌+◌, ◌%◌, ◌<◌, ◌≤◌, ◌⊎◌, inl, inr, List, [], ◌∷◌, length}
+use Rattle.std.proofs.Common.{get_or, set, map, Some, None, refl, sym, ap, subst, ◌∙◌, arith}
 use Rattle.std.specs.Prelude.{Option, Bool, true, false, not, cond, filter, nat_eq, nat_lt}
 use Rattle.std.proofs.lemmas.List.{length-set, get_or-set_same, get_or-set_other}
 use Rattle.std.proofs.lemmas.Bool.{cases_lt, lt-ltb, le-ltb}
 use Rattle.std.proofs.lemmas.Bool.Decides.{eqb_tells}
 use Rattle.rx_arena.specs.Put.{times, times_in, put}
-use Rattle.rx_arena.specs.Arena.{Taken, ArenaState, taken_at, IsTaken, chain_at, InChain, IsLoose, hash_at, stored_hash, is_marked, is_unmarked, marked_at, besides, IsArena}
+use Rattle.rx_arena.specs.Arena.{Taken, ArenaState, taken_at, IsTaken, chain_at, InChain, IsLoose, hash_at}
+use Rattle.rx_arena.specs.Arena.{stored_hash, is_marked, is_unmarked, marked_at, besides, IsArena}
 use Rattle.rx_arena.proofs.PutLemmas.{one_if-same, times_in-set}
 use Rattle.rx_arena.proofs.ChainLemmas.{some_chain}
 use Rattle.rx_sweep.specs.Reach.{unmarked, home, IsHomed}
@@ -30,7 +32,8 @@ same_homed a b p homed s c h =
 -- tests that agree on what a list names filter it alike
 filter-agree : (p q : ℕ → Bool) (ts : List ℕ) → ((s : ℕ) → 0 < times s ts → p s ≡ q s) → filter p ts ≡ filter q ts
 filter-agree p q [] same = refl
-filter-agree p q (t ∷ ts) same = λ i. cond (same t (omega (arith, one_if-same t)) i) (t ∷ filter-agree p q ts (λ s h. same s (omega (arith, h))) i) (filter-agree p q ts (λ s h. same s (omega (arith, h))) i)
+filter-agree p q (t ∷ ts) same = λ i. cond (same t (omega (arith, one_if-same t)) i) (t ∷ filter-agree p q ts (λ s h. same s (omega (arith, h))) i)
+    (filter-agree p q ts (λ s h. same s (omega (arith, h))) i)
 
 -- what passes both tests
 filter-both : (p q : ℕ → Bool) (ts : List ℕ) → filter p (filter q ts) ≡ filter (λ s. cond (q s) (p s) false) ts
@@ -43,7 +46,8 @@ filter-both p q (t ∷ ts) = by_first (q t) (filter q ts) (filter (λ s. cond (q
 -- a list whose slots all pass the test stays
 filter-all : (p : ℕ → Bool) (ts : List ℕ) → ((s : ℕ) → 0 < times s ts → p s ≡ true) → filter p ts ≡ ts
 filter-all p [] all = refl
-filter-all p (t ∷ ts) all = ap (λ y. cond y (t ∷ filter p ts) (filter p ts)) (all t (omega (arith, one_if-same t))) ∙ ap (λ z. t ∷ z) (filter-all p ts (λ s h. all s (omega (arith, h))))
+filter-all p (t ∷ ts) all = ap (λ y. cond y (t ∷ filter p ts) (filter p ts)) (all t (omega (arith, one_if-same t)))
+    ∙ ap (λ z. t ∷ z) (filter-all p ts (λ s h. all s (omega (arith, h))))
 
 -- a filtered list names nothing more
 times-filter_less : (p : ℕ → Bool) (s : ℕ) (ts : List ℕ) → 0 < times s (filter p ts) → 0 < times s ts
@@ -111,7 +115,8 @@ module _ (a : ArenaState) (k : ℕ) (there : 0 < times k (chain_at a (home a k))
   -- it leaves that chain
   module _ (b : ArenaState) (chains : b.chains ≡ set a.chains (home a k) (besides k (chain_at a (home a k)))) where
     left_here : chain_at b (home a k) ≡ besides k (chain_at a (home a k))
-    left_here = ap (λ (z : List (List ℕ)). get_or z (home a k) []) chains ∙ get_or-set_same a.chains (home a k) (besides k (chain_at a (home a k))) [] home_below
+    left_here = ap (λ (z : List (List ℕ)). get_or z (home a k) []) chains
+        ∙ get_or-set_same a.chains (home a k) (besides k (chain_at a (home a k))) [] home_below
 
     left_else : (c : ℕ) → c ≢ home a k → chain_at b c ≡ chain_at a c
     left_else c ne = ap (λ (z : List (List ℕ)). get_or z c []) chains ∙ get_or-set_other a.chains (home a k) c (besides k (chain_at a (home a k))) [] ne
@@ -183,23 +188,32 @@ module _ (init : ArenaState) (k : ℕ) (self : ArenaState) (inv : Sweeping init 
         let t = giving_taken init k self inv.cells yes in
         let c = some_chain k init.chains (chained k (t.0, sym here ∙ t.1)) in
         let was : 0 < times k (chain_at init (home self k)) = subst (λ z. 0 < times k (chain_at init z)) (homed k c.0 c.2 ∙ sym same_home) c.2 in
-        let kept = ap (times k) (inv.left (home self k)) ∙ times-filter_true (stays init (k + 1)) k (chain_at init (home self k)) (stays-below init (k + 1) k (omega arith)) in
+        let kept = ap (times k) (inv.left (home self k)) ∙ times-filter_true (stays init (k + 1)) k (chain_at init (home self k))
+        (stays-below init (k + 1) k (omega arith)) in
         omega (arith, was, kept)
 
-    module _ (there : 0 < times k (chain_at self (home self k))) (two : ArenaState) (after : two ≡ record self { cells = put self.cells k None; chains = set self.chains (home self k) (besides k (chain_at self (home self k))); spare = self.spare + 1 }) where
+    module _ (there : 0 < times k (chain_at self (home self k))) (two : ArenaState)
+        (after : two ≡ record self {
+          cells = put self.cells k None;
+          chains = set self.chains (home self k) (besides k (chain_at self (home self k)));
+          spare = self.spare + 1;
+        }) where
       chains : two.chains ≡ set self.chains (home self k) (besides k (chain_at self (home self k)))
       chains = ap (λ (v : ArenaState). v.chains) after
 
       at_home : chain_at two (home self k) ≡ filter (stays init k) (chain_at init (home self k))
-      at_home = left_here self k there two chains ∙ ap (besides k) (inv.left (home self k)) ∙ filter-both (λ t. not (nat_eq t k)) (stays init (k + 1)) (chain_at init (home self k))
-          ∙ filter-agree (λ s. cond (stays init (k + 1) s) (not (nat_eq s k)) false) (stays init k) (chain_at init (home self k)) (λ s h. stays-besides init k white s)
+      at_home = left_here self k there two chains ∙ ap (besides k) (inv.left (home self k))
+          ∙ filter-both (λ t. not (nat_eq t k)) (stays init (k + 1)) (chain_at init (home self k))
+          ∙ filter-agree (λ s. cond (stays init (k + 1) s) (not (nat_eq s k)) false) (stays init k) (chain_at init (home self k)) (λ s h.
+          stays-besides init k white s)
 
       -- the slot is in no other chain
       other : IsHomed init → (c : ℕ) → c ≢ home self k → chain_at two c ≡ filter (stays init k) (chain_at init c)
-      other homed c ne = left_else self k there two chains c ne ∙ inv.left c ∙ filter-agree (stays init (k + 1)) (stays init k) (chain_at init c) (λ s h. elim (eqb_tells s k) [
-        | inl e ↦ absurd (ne (homed k c (subst (λ z. 0 < times z (chain_at init c)) e.1 h) ∙ sym same_home))
-        | inr e ↦ stays-next init k s e.1
-      ])
+      other homed c ne = left_else self k there two chains c ne ∙ inv.left c
+          ∙ filter-agree (stays init (k + 1)) (stays init k) (chain_at init c) (λ s h. elim (eqb_tells s k) [
+            | inl e ↦ absurd (ne (homed k c (subst (λ z. 0 < times z (chain_at init c)) e.1 h) ∙ sym same_home))
+            | inr e ↦ stays-next init k s e.1
+          ])
 
       pub sweeping_on : IsHomed init → IsArena two → Sweeping init k two
       sweeping_on homed law = record {
@@ -212,10 +226,12 @@ module _ (init : ArenaState) (k : ℕ) (self : ArenaState) (inv : Sweeping init 
       }
 
 -- all slots were looked at
-pub sweeping_end : (init : ArenaState) (k : ℕ) (self : ArenaState) → Sweeping init k self → k ≤ 0 → self.chains ≡ map (filter (λ s. marked_at init s)) init.chains
+pub sweeping_end : (init : ArenaState) (k : ℕ) (self : ArenaState) → Sweeping init k self → k ≤ 0
+    → self.chains ≡ map (filter (λ s. marked_at init s)) init.chains
 sweeping_end init k self inv zero = lists_same self.chains (map (filter (λ s. marked_at init s)) init.chains)
     (inv.count ∙ sym (length-map_lists (filter (λ s. marked_at init s)) init.chains))
-    (λ c h. inv.left c ∙ filter-agree (stays init k) (λ s. marked_at init s) (chain_at init c) (λ s h. ap (cond (marked_at init s) true) (le-ltb s k (omega (arith, zero))) ∙ itself (marked_at init s))
+    (λ c h. inv.left c ∙ filter-agree (stays init k) (λ s. marked_at init s) (chain_at init c) (λ s h.
+    ap (cond (marked_at init s) true) (le-ltb s k (omega (arith, zero))) ∙ itself (marked_at init s))
     ∙ sym (get_or-map_nil (filter (λ s. marked_at init s)) refl init.chains c)) where
       itself : (y : Bool) → cond y true false ≡ y
       itself true = refl

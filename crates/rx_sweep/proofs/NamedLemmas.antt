@@ -44,7 +44,8 @@ marks_list_one a b s ss e m =
     subst (λ z. Marks a b (λ k. 0 < times k z)) (sym e) (marks_by a b (λ k. k ≡ s) (λ k. 0 < times k (s ∷ [])) (λ k h. one_in s k h) (λ k h. in_one s k h) m)
 
 -- the slots of one list and another
-pub marks_append : (a b c : ArenaState) (xs ys : List ℕ) → Marks a b (λ k. 0 < times k xs) → Marks b c (λ k. 0 < times k ys) → Marks a c (λ k. 0 < times k (xs ++ ys))
+pub marks_append : (a b c : ArenaState) (xs ys : List ℕ) → Marks a b (λ k. 0 < times k xs) → Marks b c (λ k. 0 < times k ys)
+    → Marks a c (λ k. 0 < times k (xs ++ ys))
 marks_append a b c xs ys m n =
     marks_by a c (λ k. (0 < times k xs) ⊎ (0 < times k ys)) (λ k. 0 < times k (xs ++ ys))
     (λ k h. elim h [ inl p ↦ omega (arith, p, times-append k xs ys) | inr p ↦ omega (arith, p, times-append k xs ys) ])

@@ -39,7 +39,9 @@ named_in b P first second notes s h =
     ]
 
 -- a slot is taken, and goes in front of a chain
-module _ (old taken linked : ArenaState) (k c : ℕ) (b : CellBody) (free : taken_at old k ≡ None) (cells : taken.cells ≡ put old.cells k (Some (new_cell b))) (rest : taken ≡ record old { cells = taken.cells; spare = taken.spare }) (loose : IsLoose taken k) (lt : c < length taken.chains) (after : linked ≡ record taken { chains = set taken.chains c (k ∷ chain_at taken c) }) where
+module _ (old taken linked : ArenaState) (k c : ℕ) (b : CellBody) (free : taken_at old k ≡ None)
+    (cells : taken.cells ≡ put old.cells k (Some (new_cell b))) (rest : taken ≡ record old { cells = taken.cells; spare = taken.spare })
+    (loose : IsLoose taken k) (lt : c < length taken.chains) (after : linked ≡ record taken { chains = set taken.chains c (k ∷ chain_at taken c) }) where
   linked_here : taken_at linked k ≡ Some (new_cell b)
   linked_here = ap (λ (v : ArenaState). taken_at v k) after ∙ just_taken old taken k (new_cell b) cells
 
@@ -131,12 +133,14 @@ rooted_ready old new k n e can =
       chained = λ s h. ap (λ (v : ArenaState). times_in s v.chains) e ∙ can.chained s (changed_was (with_count n) (λ t. refl) old new k cells s h);
       closed = changed_closed (with_count n) (λ t. refl) old new k cells can;
       marked_gray = λ s h. subst (λ z. 0 < times s z) (sym (ap (λ (v : ArenaState). v.gray) e)) (can.marked_gray s (elim (one_or_two s k) [
-        | inl i ↦ ap (marked_at old) i.1 ∙ sym (mark-counted n (taken_at old k)) ∙ sym (ap is_marked (changed_here (with_count n) (λ t. refl) old new k cells)) ∙ ap (marked_at new) (sym i.1) ∙ h
+        | inl i ↦ ap (marked_at old) i.1 ∙ sym (mark-counted n (taken_at old k))
+            ∙ sym (ap is_marked (changed_here (with_count n) (λ t. refl) old new k cells)) ∙ ap (marked_at new) (sym i.1) ∙ h
         | inr i ↦ sym (ap is_marked (changed_else (with_count n) (λ t. refl) old new k cells s i.1)) ∙ h
       ]));
     }
 
-pub grayed_ready : (old new : ArenaState) (k : ℕ) → new ≡ record old { cells = altered k (with_marking true) old.cells; gray = k ∷ old.gray } → CanCollect old → CanCollect new
+pub grayed_ready : (old new : ArenaState) (k : ℕ) → new ≡ record old { cells = altered k (with_marking true) old.cells; gray = k ∷ old.gray }
+    → CanCollect old → CanCollect new
 grayed_ready old new k e can =
     let cells = ap (λ (v : ArenaState). v.cells) e in
     record {
@@ -144,6 +148,7 @@ grayed_ready old new k e can =
       closed = changed_closed (with_marking true) (λ t. refl) old new k cells can;
       marked_gray = λ s h. subst (λ z. 0 < times s z) (sym (ap (λ (v : ArenaState). v.gray) e)) (elim (one_or_two k s) [
         | inl i ↦ omega (arith, i.0)
-        | inr i ↦ (let in_old = can.marked_gray s (sym (ap is_marked (changed_else (with_marking true) (λ t. refl) old new k cells s (λ p. i.1 (sym p)))) ∙ h) in omega (arith, in_old))
+        | inr i ↦ (let in_old = can.marked_gray s
+            (sym (ap is_marked (changed_else (with_marking true) (λ t. refl) old new k cells s (λ p. i.1 (sym p)))) ∙ h) in omega (arith, in_old))
       ]);
     }

@@ -40,7 +40,8 @@ names_read None t face e h = absurd (cc)
 names_read (Some u) t face e h = ap face_names (sym h)
 
 -- a slot leaves the gray list, and what it names is marked
-module _ (init self : ArenaState) (inv : Spreading init self) (s : ℕ) (one : ArenaState) (split : self.gray ≡ s ∷ one.gray) (rest : one ≡ record self { gray = one.gray }) (m : IsMarked one s) where
+module _ (init self : ArenaState) (inv : Spreading init self) (s : ℕ) (one : ArenaState) (split : self.gray ≡ s ∷ one.gray)
+    (rest : one ≡ record self { gray = one.gray }) (m : IsMarked one s) where
   cells_are : one.cells ≡ self.cells
   cells_are = ap (λ (v : ArenaState). v.cells) rest
 
@@ -83,7 +84,8 @@ module _ (init self : ArenaState) (inv : Spreading init self) (s : ℕ) (one : A
           | inr p ↦ absurd (let some = p.1 in omega (arith, none, some))
           | inl p ↦ elim (one_or_two s k) [
             | inl e ↦ n.marked t (subst (λ z. 0 < times t z) named_is (subst (λ z. 0 < times t (named_at init z)) (sym e.1) names_t))
-            | inr e ↦ (let away : times k one.gray ≡ 0 = elim (one_or_more (times k one.gray)) [ inl z ↦ z | inr z ↦ absurd (let g = n.gray_stay k z in omega (arith, g, none)) ] in
+            | inr e ↦ (let away : times k one.gray ≡ 0 = elim (one_or_more (times k one.gray))
+                [ inl z ↦ z | inr z ↦ absurd (let g = n.gray_stay k z in omega (arith, g, none)) ] in
                 let was_away : times k self.gray ≡ 0 = ap (times k) split ∙ (omega (arith, e.0, away)) in
                 n.marked_stay t (ap is_marked (at t) ∙ inv.done k (was k p) was_away t names_t))
           ]
@@ -97,18 +99,26 @@ pub record Onward (init a : ArenaState) (next : Option Slot) : Type 0 where
   pub marked : IfSome next (λ s. IsMarked a s.0)
   pub ended : IfNone next (a.gray ≡ [])
 
-pub onward_begins : (init a : ArenaState) (next : Option Slot) → ((s : ℕ) → IsMarked init s → 0 < times s init.gray) → IsArena a → ahead a next ≡ init → IfSome next (λ s. IsMarked a s.0) → IfNone next (a.gray ≡ []) → Onward init a next
-onward_begins init a next gray law same marked ended = record { law = law; spreading = subst (Spreading init) (sym same) (spreading_begins init gray); marked = marked; ended = ended }
+pub onward_begins : (init a : ArenaState) (next : Option Slot) → ((s : ℕ) → IsMarked init s → 0 < times s init.gray) → IsArena a → ahead a next ≡ init
+    → IfSome next (λ s. IsMarked a s.0) → IfNone next (a.gray ≡ []) → Onward init a next
+onward_begins init a next gray law same marked ended = record {
+  law = law;
+  spreading = subst (Spreading init) (sym same) (spreading_begins init gray);
+  marked = marked;
+  ended = ended;
+}
 
 -- what the slot names is marked, and the marking goes on
-module _ (init a : ArenaState) (next : Option Slot) (slot : Slot) (from : Onward init a next) (is : next ≡ Some slot) (face : Face) (read : IfSome (taken_at a slot.0) (λ t. face ≡ face_of t.body)) where
+module _ (init a : ArenaState) (next : Option Slot) (slot : Slot) (from : Onward init a next) (is : next ≡ Some slot) (face : Face)
+    (read : IfSome (taken_at a slot.0) (λ t. face ≡ face_of t.body)) where
   inv : Onward init a (Some slot)
   inv = subst (Onward init a) is from
 
   pub onward_named : IsClosed init → (k : ℕ) → 0 < times k (face_names face) → IsTaken a k
   onward_named = spread_named init (ahead a (Some slot)) inv.spreading slot.0 a refl refl inv.marked face read
 
-  module _ (b : ArenaState) (named : Option Slot) (n : Marks a (ahead b named) (λ k. 0 < times k (face_names face))) (c : ArenaState) (after : Option Slot) (same : ahead c after ≡ ahead b named) where
+  module _ (b : ArenaState) (named : Option Slot) (n : Marks a (ahead b named) (λ k. 0 < times k (face_names face))) (c : ArenaState)
+      (after : Option Slot) (same : ahead c after ≡ ahead b named) where
     pub onward_less : work_left (ahead c after) < work_left (ahead a next)
     onward_less =
         let less = spread_less init (ahead a (Some slot)) inv.spreading slot.0 a refl refl inv.marked face read (ahead b named) n in
@@ -117,7 +127,8 @@ module _ (init a : ArenaState) (next : Option Slot) (slot : Slot) (from : Onward
     pub onward_on : IsArena c → IfSome after (λ s. IsMarked c s.0) → IfNone after (c.gray ≡ []) → Onward init c after
     onward_on law marked ended = record {
       law = law;
-      spreading = subst (Spreading init) (sym same) (spread_on init (ahead a (Some slot)) inv.spreading slot.0 a refl refl inv.marked face read (ahead b named) n);
+      spreading = subst (Spreading init) (sym same) (spread_on init (ahead a (Some slot)) inv.spreading slot.0 a refl refl inv.marked face read
+          (ahead b named) n);
       marked = marked;
       ended = ended;
     }

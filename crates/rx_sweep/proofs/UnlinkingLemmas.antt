@@ -4,7 +4,8 @@ use Rattle.std.specs.Prelude.{Option, Bool, true, false, cond, not, filter}
 use Rattle.std.proofs.lemmas.List.{length-set, get_or-set_same, get_or-set_other}
 use Rattle.std.proofs.lemmas.Bool.Decides.{eqb_tells}
 use Rattle.rx_arena.specs.Put.{times_in, put, one_some, filled}
-use Rattle.rx_arena.specs.Arena.{Taken, ArenaState, taken_at, IsTaken, taken_count, chain_at, IsLoose, is_marked, is_unmarked, marked_at, IsMarked, root_count, roots_at, kept_in, IsArena}
+use Rattle.rx_arena.specs.Arena.{Taken, ArenaState, taken_at, IsTaken, taken_count, chain_at, IsLoose, is_marked}
+use Rattle.rx_arena.specs.Arena.{is_unmarked, marked_at, IsMarked, root_count, roots_at, kept_in, IsArena}
 use Rattle.rx_arena.proofs.PutLemmas.{get_or-put_same, get_or-put_other, filled-put}
 use Rattle.rx_arena.proofs.ChainLemmas.{one_or_more}
 use Rattle.rx_sweep.proofs.RootStepLemmas.{below_next}
@@ -28,15 +29,19 @@ module _ (init : ArenaState) (i : ℕ) (self : ArenaState) (inv : Unlinking init
   pub unlinking_gray : init.gray ≡ [] → self.gray ≡ []
   unlinking_gray e = ap (λ (v : ArenaState). v.gray) inv.rest ∙ e
 
-  pub unlinking_on : (two : ArenaState) → i < length init.chains → two ≡ record self { chains = set self.chains i (kept_in self i) } → IsArena two → Unlinking init (i + 1) two
+  pub unlinking_on : (two : ArenaState) → i < length init.chains → two ≡ record self { chains = set self.chains i (kept_in self i) } → IsArena two
+      → Unlinking init (i + 1) two
   unlinking_on two lt after law =
       let chains : two.chains ≡ set self.chains i (kept_in self i) = ap (λ (v : ArenaState). v.chains) after in
-      let other : (c : ℕ) → c ≢ i → chain_at two c ≡ chain_at self c = λ c ne. ap (λ (z : List (List ℕ)). get_or z c []) chains ∙ get_or-set_other self.chains i c (kept_in self i) [] ne in
+      let other : (c : ℕ) → c ≢ i → chain_at two c ≡ chain_at self c = λ c ne.
+      ap (λ (z : List (List ℕ)). get_or z c []) chains ∙ get_or-set_other self.chains i c (kept_in self i) [] ne in
       let marks : (s : ℕ) → marked_at self s ≡ marked_at init s = λ s. ap (λ (v : ArenaState). marked_at v s) inv.rest in
-      let here : chain_at two i ≡ kept_in init i = ap (λ (z : List (List ℕ)). get_or z i []) chains ∙ get_or-set_same self.chains i (kept_in self i) [] (unlinking_within lt) ∙ (λ k. filter (λ s. marks s k) (inv.left i (omega arith) k)) in
+      let here : chain_at two i ≡ kept_in init i = ap (λ (z : List (List ℕ)). get_or z i []) chains
+      ∙ get_or-set_same self.chains i (kept_in self i) [] (unlinking_within lt) ∙ (λ k. filter (λ s. marks s k) (inv.left i (omega arith) k)) in
       record {
         law = law;
-        rest = after ∙ ap (λ (v : ArenaState). record v { chains = set self.chains i (kept_in self i) }) inv.rest ∙ ap (λ z. record init { chains = z }) (sym chains);
+        rest = after ∙ ap (λ (v : ArenaState). record v { chains = set self.chains i (kept_in self i) }) inv.rest
+            ∙ ap (λ z. record init { chains = z }) (sym chains);
         count = ap length chains ∙ length-set self.chains i (kept_in self i) ∙ inv.count;
         done = λ c h. elim (below_next c i h) [
           | inl e ↦ (let ne : c ≢ i = omega (arith, e) in other c ne ∙ inv.done c e)
@@ -48,15 +53,18 @@ module _ (init : ArenaState) (i : ℕ) (self : ArenaState) (inv : Unlinking init
   pub unlinked_chains : length init.chains ≤ i → self.chains ≡ map (filter (λ s. marked_at init s)) init.chains
   unlinked_chains end = lists_same self.chains (map (filter (λ s. marked_at init s)) init.chains)
       (inv.count ∙ sym (length-map_lists (filter (λ s. marked_at init s)) init.chains))
-      (λ c h. inv.done c (omega (arith, h, end, length-map_lists (filter (λ s. marked_at init s)) init.chains)) ∙ sym (get_or-map_nil (filter (λ s. marked_at init s)) refl init.chains c))
+      (λ c h. inv.done c (omega (arith, h, end, length-map_lists (filter (λ s. marked_at init s)) init.chains))
+      ∙ sym (get_or-map_nil (filter (λ s. marked_at init s)) refl init.chains c))
 
 times_in-filter_false : (p : ℕ → Bool) (s : ℕ) (css : List (List ℕ)) → p s ≡ false → times_in s (map (filter p) css) ≡ 0
 times_in-filter_false p s [] e = refl
 times_in-filter_false p s (c ∷ cs) e = let a = times-filter_false p s c e in let b = times_in-filter_false p s cs e in omega (arith, a, b)
 
 -- what is not marked is in no chain any more
-pub unlinked_loose : (old mid : ArenaState) → mid ≡ record old { chains = mid.chains } → mid.chains ≡ map (filter (λ s. marked_at old s)) old.chains → (s : ℕ) → marked_at mid s ≡ false → IsLoose mid s
-unlinked_loose old mid rest chains s m = ap (times_in s) chains ∙ times_in-filter_false (λ s. marked_at old s) s old.chains (sym (ap (λ (v : ArenaState). marked_at v s) rest) ∙ m)
+pub unlinked_loose : (old mid : ArenaState) → mid ≡ record old { chains = mid.chains } → mid.chains ≡ map (filter (λ s. marked_at old s)) old.chains
+    → (s : ℕ) → marked_at mid s ≡ false → IsLoose mid s
+unlinked_loose old mid rest chains s m = ap (times_in s) chains
+    ∙ times_in-filter_false (λ s. marked_at old s) s old.chains (sym (ap (λ (v : ArenaState). marked_at v s) rest) ∙ m)
 
 -- the slots from k on are given back where they are not marked
 pub record GivingBack (init : ArenaState) (k : ℕ) (self : ArenaState) : Type 0 where
@@ -102,9 +110,11 @@ module _ (init : ArenaState) (k : ℕ) (self : ArenaState) (inv : GivingBack ini
     giving_loose same loose = ap (times_in k) same ∙ loose k was_unmarked
 
     pub giving_unrooted : ((s : ℕ) → 0 < roots_at init s → IsMarked init s) → roots_at self k ≡ 0
-    giving_unrooted roots = ap root_count here ∙ elim (one_or_more (roots_at init k)) [ inl z ↦ z | inr p ↦ absurd (let on = roots k p in let off = was_unmarked in cc) ]
+    giving_unrooted roots = ap root_count here ∙ elim (one_or_more (roots_at init k))
+        [ inl z ↦ z | inr p ↦ absurd (let on = roots k p in let off = was_unmarked in cc) ]
 
-    pub giving_on : (two : ArenaState) (cs : List (List ℕ)) → two ≡ record self { cells = put self.cells k None; chains = cs; spare = self.spare + 1 } → IsArena two → GivingBack init k two
+    pub giving_on : (two : ArenaState) (cs : List (List ℕ)) → two ≡ record self { cells = put self.cells k None; chains = cs; spare = self.spare + 1 }
+        → IsArena two → GivingBack init k two
     giving_on two cs after law = record {
       law = law;
       gray = ap (λ (v : ArenaState). v.gray) after ∙ inv.gray;
@@ -117,10 +127,12 @@ module _ (init : ArenaState) (k : ℕ) (self : ArenaState) (inv : GivingBack ini
           let was = inv.spare in
           omega (arith, one, fill, more, count, was));
       done = λ s le. elim (eqb_tells s k) [
-        | inl e ↦ ap (taken_at two) e.1 ∙ ap (λ (v : ArenaState). taken_at v k) after ∙ get_or-put_same self.cells k None ∙ sym (ap (λ b. cond b (taken_at init s) None) (ap (marked_at init) e.1 ∙ was_unmarked))
+        | inl e ↦ ap (taken_at two) e.1 ∙ ap (λ (v : ArenaState). taken_at v k) after ∙ get_or-put_same self.cells k None
+            ∙ sym (ap (λ b. cond b (taken_at init s) None) (ap (marked_at init) e.1 ∙ was_unmarked))
         | inr e ↦ ap (λ (v : ArenaState). taken_at v s) after ∙ get_or-put_other self.cells k s None e.1 ∙ inv.done s (split s le e.1)
       ];
-      left = λ s lt. (let ne : s ≢ k = omega (arith, lt) in ap (λ (v : ArenaState). taken_at v s) after ∙ get_or-put_other self.cells k s None ne ∙ inv.left s (omega (arith, lt)));
+      left = λ s lt. (let ne : s ≢ k = omega (arith, lt) in ap (λ (v : ArenaState). taken_at v s) after ∙ get_or-put_other self.cells k s None ne
+          ∙ inv.left s (omega (arith, lt)));
     }
 
   pub giving_past : is_unmarked (taken_at self k) ≡ false → GivingBack init k self
@@ -130,7 +142,8 @@ module _ (init : ArenaState) (k : ℕ) (self : ArenaState) (inv : GivingBack ini
     cap = inv.cap;
     spare = inv.spare;
     done = λ s le. elim (eqb_tells s k) [
-      | inl e ↦ subst (λ z. taken_at self z ≡ cond (marked_at init z) (taken_at init z) None) (sym e.1) (here ∙ kept_else (taken_at init k) (sym (ap is_unmarked here) ∙ white))
+      | inl e ↦ subst (λ z. taken_at self z ≡ cond (marked_at init z) (taken_at init z) None) (sym e.1)
+          (here ∙ kept_else (taken_at init k) (sym (ap is_unmarked here) ∙ white))
       | inr e ↦ inv.done s (split s le e.1)
     ];
     left = λ s lt. inv.left s (omega (arith, lt));

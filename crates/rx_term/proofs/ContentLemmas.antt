@@ -1,5 +1,6 @@
 -- The content of a heap: what a new cell adds to it.
-use Rattle.std.proofs.Common.{ℕ, suc, zero, ◌≡◌, ◌≢◌, ◌≤◌, ◌<◌, true, Option, Some, None, IsSome, is_some, IsTrue, refl, sym, ap, ◌∙◌, subst, inl, inr, arith, Contains}
+use Rattle.std.proofs.Common.{ℕ, suc, zero, ◌≡◌, ◌≢◌, ◌≤◌, ◌<◌, true, Option, Some, None, IsSome}
+use Rattle.std.proofs.Common.{is_some, IsTrue, refl, sym, ap, ◌∙◌, subst, inl, inr, arith, Contains}
 use Rattle.std.specs.Ordering.{nat_cmp}
 use Rattle.std.specs.Cmp.{nat_cmp_total}
 use Rattle.std.specs.FinMap as map
@@ -9,7 +10,8 @@ use Rattle.rx_term.specs.Parts.{parts}
 use Rattle.rx_term.specs.Name.{Signature}
 use Rattle.rx_term.specs.Heap.{Cell, Heap, Table, tree_of, Says, IsHeap, IsTable, IsDistinct, is_whole, content_of, tabulate, put_some}
 use Rattle.rx_term.proofs.StoreLemmas.{some-value, inserted, not_inserted, len-insert-new}
-use Rattle.rx_term.proofs.HeapLemmas.{valid-tree, opens, closes, Says-some, Says-alike, kept-tree_of, lt_or_le, one_tree, one_place, reaches, get-tabulate, past-tabulate, whole-at, whole-from}
+use Rattle.rx_term.proofs.HeapLemmas.{valid-tree, opens, closes, Says-some, Says-alike, kept-tree_of, lt_or_le}
+use Rattle.rx_term.proofs.HeapLemmas.{one_tree, one_place, reaches, get-tabulate, past-tabulate, whole-at, whole-from}
 
 pub untaken : (h : Heap) (m : Table) (n t : ℕ) → h t ≡ None → tree_of h m n t ≡ None
 unfolding tree_of
@@ -53,7 +55,8 @@ module _ (h : Heap) (m : Table) (len n : ℕ) (heap : IsHeap h m len n) where
   pub content-one_place : (s t : ℕ) (u : Tree) → map.get (content_of h m len n) s ≡ Some u → map.get (content_of h m len n) t ≡ Some u → s ≡ t
   content-one_place s t u a b = one_place h m heap.distinct heap.symbols n n s t u (sym (content-at s) ∙ a) (sym (content-at t) ∙ b)
 
-  pub content-closed : (t : ℕ) (u v : Tree) → map.get (content_of h m len n) t ≡ Some u → Contains (parts u) v → (s : ℕ) × (map.get (content_of h m len n) s ≡ Some v)
+  pub content-closed : (t : ℕ) (u v : Tree) → map.get (content_of h m len n) t ≡ Some u → Contains (parts u) v
+      → (s : ℕ) × (map.get (content_of h m len n) s ≡ Some v)
   content-closed t u v e p = let r = reaches h m n t u v (sym (content-at t) ∙ e) p in (r.0, known r.1.0 r.0 v r.1.1)
 
   -- each tree is valid
@@ -81,7 +84,8 @@ module _ (h g : Heap) (m : Table) (len wide n i : ℕ) (x : Cell) (u : Tree) (he
   old-tree t v e = kept-tree_of h g m m grown (λ s d q. q) n (suc n) t v (omega arith) e
 
   new-tree : tree_of g m (suc n) i ≡ Some u
-  new-tree = closes g m n i x u taken (Says-some (at h m len n heap) (tree_of g m n) m m (λ s d q. q) x u (λ k v _ q. kept-tree_of h g m m grown (λ s d p. p) n n k v (omega arith) (sym (content-at h m len n heap k) ∙ q)) says_tree)
+  new-tree = closes g m n i x u taken (Says-some (at h m len n heap) (tree_of g m n) m m (λ s d q. q) x u (λ k v _ q.
+      kept-tree_of h g m m grown (λ s d p. p) n n k v (omega arith) (sym (content-at h m len n heap k) ∙ q)) says_tree)
 
   pub new-whole : is_whole g m wide (suc n) ≡ true
   new-whole = whole-from g m wide (suc n) (λ t lt held. elim (eqb_tells t i) [
@@ -127,13 +131,15 @@ module _ (h g : Heap) (m : Table) (len wide n i : ℕ) (x : Cell) (u : Tree) (he
         empty_slot : (o : Option Cell) → h t ≡ o → h t ≡ None
         empty_slot None q = q
         empty_slot (Some y) q = elim (lt_or_le t len) [
-          | inl lt ↦ (let v = some-value (tree_of h m n t) (whole-at h m len n t heap.whole lt (ap is_some q)) in let z : map.get (content_of h m len n) t ≡ Some v.0 = content-at h m len n heap t ∙ v.1 in cc)
+          | inl lt ↦ (let v = some-value (tree_of h m n t) (whole-at h m len n t heap.whole lt (ap is_some q)) in
+              let z : map.get (content_of h m len n) t ≡ Some v.0 = content-at h m len n heap t ∙ v.1 in cc)
           | inr le ↦ heap.bounded t le
         ]
 
     pub new-content : content_of g m wide k ≡ map.insert (content_of h m len n) i u
     new-content = map.same_map nat_cmp_total map.nat_cmp-IsAntisymmetric _ _ (λ q. elim (eqb_tells q i) [
-      | inl p ↦ subst (λ j. map.get (content_of g m wide k) j ≡ map.get (map.insert (content_of h m len n) i u) j) (sym p.1) (new-made ∙ sym (inserted (content_of h m len n) i u))
+      | inl p ↦ subst (λ j. map.get (content_of g m wide k) j ≡ map.get (map.insert (content_of h m len n) i u) j) (sym p.1)
+          (new-made ∙ sym (inserted (content_of h m len n) i u))
       | inr p ↦ new-others q p.1 ∙ sym (not_inserted (content_of h m len n) i q u p.1)
     ])
 
@@ -159,7 +165,8 @@ module _ (h : Heap) (m l : Table) (len n : ℕ) (heap : IsHeap h m len n)
   same-tree t v e = kept-tree_of h h m l (λ s x q. q) grows n n t v (omega arith) e
 
   pub table-whole : is_whole h l len n ≡ true
-  table-whole = whole-from h l len n (λ t lt held. (let v = some-value (tree_of h m n t) (whole-at h m len n t heap.whole lt held) in ap is_some (same-tree t v.0 v.1)))
+  table-whole = whole-from h l len n (λ t lt held. (let v = some-value (tree_of h m n t) (whole-at h m len n t heap.whole lt held) in
+      ap is_some (same-tree t v.0 v.1)))
 
   pub table-heap : (k : ℕ) → is_whole h l len k ≡ true → IsHeap h l len k
   table-heap k w = record { bounded = heap.bounded; distinct = heap.distinct; whole = w; symbols = table }
@@ -172,6 +179,7 @@ module _ (h : Heap) (m l : Table) (len n : ℕ) (heap : IsHeap h m len n)
       empty_slot : (o : Option Cell) → h t ≡ o → h t ≡ None
       empty_slot None q = q
       empty_slot (Some y) q = elim (lt_or_le t len) [
-        | inl lt ↦ (let v = some-value (tree_of h m n t) (whole-at h m len n t heap.whole lt (ap is_some q)) in let z : map.get (content_of h m len n) t ≡ Some v.0 = content-at h m len n heap t ∙ v.1 in cc)
+        | inl lt ↦ (let v = some-value (tree_of h m n t) (whole-at h m len n t heap.whole lt (ap is_some q)) in
+            let z : map.get (content_of h m len n) t ≡ Some v.0 = content-at h m len n heap t ∙ v.1 in cc)
         | inr le ↦ heap.bounded t le
       ]

@@ -1,5 +1,6 @@
 -- Cells that name one another: their trees are unique, differ where the cells do, and outlive the cells that they do not name.
-use Rattle.std.proofs.Common.{◌++◌, ℕ, suc, zero, ◌≡◌, ◌≢◌, ◌⊎◌, ◌+◌, ◌≤◌, ◌<◌, Bool, true, false, Option, Some, None, IsSome, is_some, refl, sym, ap, ◌∙◌, subst, inl, inr, arith, Contains, eq-eqb}
+use Rattle.std.proofs.Common.{◌++◌, ℕ, suc, zero, ◌≡◌, ◌≢◌, ◌⊎◌, ◌+◌, ◌≤◌, ◌<◌, Bool, true, false, Option, Some}
+use Rattle.std.proofs.Common.{None, IsSome, is_some, refl, sym, ap, ◌∙◌, subst, inl, inr, arith, Contains, eq-eqb}
 use Rattle.std.proofs.lemmas.Bool.{eqb-true}
 use Rattle.std.specs.Cmp.Derive.{both_true}
 use Rattle.std.specs.Prelude.{IsTrue}
@@ -18,13 +19,15 @@ use Rattle.rx_term.proofs.PartsLemmas.{cons_cases, no_element, list_parts-parts,
 use Rattle.std.proofs.lemmas.List.Elements.{Contains-append_cases}
 use Rattle.rx_term.specs.Name.{Signature}
 use Rattle.rx_term.specs.Store.{longer, applied, held_open}
-use Rattle.rx_term.specs.Heap.{Node, number, empty, pair, application, placeholder, Cell, Heap, Table, with_notes, node_tree, noted_tree, cell_tree, put_some, tabulate, tree_of, Notes, Says, IsDistinct, IsTable, is_whole, IsLeast}
+use Rattle.rx_term.specs.Heap.{Node, number, empty, pair, application, placeholder, Cell, Heap, Table, with_notes, node_tree, noted_tree}
+use Rattle.rx_term.specs.Heap.{cell_tree, put_some, tabulate, tree_of, Notes, Says, IsDistinct, IsTable, is_whole, IsLeast}
 
 eqb_same : (n : ℕ) → eqb n n ≡ true
 eqb_same n = eq-eqb n n refl
 
 module _ (c d : ℕ → Option Tree) (m n : Table) (known_symbol : (s : ℕ) (g : Signature) → m s ≡ Some g → n s ≡ Some g) where
-  Notes-some : (u : Tree) (l : Option ℕ) (anns : Trees) → annotations u ≡ anns → ((k : ℕ) (v : Tree) → Contains (parts u) v → c k ≡ Some v → d k ≡ Some v) → Notes c l anns → Notes d l anns
+  Notes-some : (u : Tree) (l : Option ℕ) (anns : Trees) → annotations u ≡ anns
+      → ((k : ℕ) (v : Tree) → Contains (parts u) v → c k ≡ Some v → d k ≡ Some v) → Notes c l anns → Notes d l anns
   Notes-some u l none e known h = h
   Notes-some u l (more v vs) e known (i, a, b) = (i, a, known _ _ (notes-part u v vs e) b)
 
@@ -40,7 +43,8 @@ module _ (c d : ℕ → Option Tree) (m n : Table) (known_symbol : (s : ℕ) (g 
       (i, e, known i v (inner-part v anns) a, Notes-some (Hole v anns) _ _ refl known t)
 
 module _ (c : ℕ → Option Tree) (m : Table) where
-  noted-said : (o : Option Tree) (l : Option ℕ) (u : Tree) (anns : Trees) → o ≡ Some u → annotated u none ≡ u → Notes c l anns → noted_tree c o l ≡ Some (annotated u anns)
+  noted-said : (o : Option Tree) (l : Option ℕ) (u : Tree) (anns : Trees) → o ≡ Some u → annotated u none ≡ u → Notes c l anns
+      → noted_tree c o l ≡ Some (annotated u anns)
   noted-said o l u none e plain h = rw (h, e, plain) refl
   noted-said o l u (more v vs) e plain (i, a, b) = rw (a, e, b) refl
 
@@ -49,11 +53,13 @@ module _ (c : ℕ → Option Tree) (m : Table) where
   said x (Int z anns) (a, f, n) = noted-said _ _ (Int z none) anns (rw a (rw f refl)) refl n
   said x (Items none anns) (a, n) = noted-said _ _ (Items none none) anns (rw a refl) refl n
   said x (Items (more v vs) anns) (i, (j, e, a, b, n)) = noted-said _ _ (Items (more v vs) none) anns (rw (e, a, b) refl) refl n
-  said x (Appl name quoted args anns) (s, (j, e, g, b, n)) = noted-said _ _ (Appl name quoted args none) anns (rw (e, g, b) (rw (eqb_same (count_of args)) refl)) refl n
+  said x (Appl name quoted args anns) (s, (j, e, g, b, n)) = noted-said _ _ (Appl name quoted args none) anns
+      (rw (e, g, b) (rw (eqb_same (count_of args)) refl)) refl n
   said x (Hole v anns) (i, e, a, n) = noted-said _ _ (Hole v none) anns (rw (e, a) refl) refl n
 
   -- what the four ways to make a tree were given
-  longer-parts : (a b : Option Tree) (u : Tree) → longer a b ≡ Some u → (x : Tree) × ((xs : Trees) × (a ≡ Some x) × (b ≡ Some (Items xs none)) × (Items (more x xs) none ≡ u))
+  longer-parts : (a b : Option Tree) (u : Tree) → longer a b ≡ Some u
+      → (x : Tree) × ((xs : Trees) × (a ≡ Some x) × (b ≡ Some (Items xs none)) × (Items (more x xs) none ≡ u))
   longer-parts None b u e = cc
   longer-parts (Some x) None u e = cc
   longer-parts (Some x) (Some (Int z anns)) u e = cc
@@ -66,7 +72,8 @@ pub if-some : (b : Bool) (t u : Tree) → (if b then Some t else None) ≡ Some 
 if-some true t u e = (refl, cc)
 if-some false t u e = cc
 
-applied-parts : (g : Option Signature) (b : Option Tree) (u : Tree) → applied g b ≡ Some u → (s : Signature) × ((args : Trees) × (g ≡ Some s) × (b ≡ Some (Items args none)) × (count_of args ≡ s.arity) × (Appl s.name s.quoted args none ≡ u))
+applied-parts : (g : Option Signature) (b : Option Tree) (u : Tree) → applied g b ≡ Some u
+    → (s : Signature) × ((args : Trees) × (g ≡ Some s) × (b ≡ Some (Items args none)) × (count_of args ≡ s.arity) × (Appl s.name s.quoted args none ≡ u))
 applied-parts None b u e = cc
 applied-parts (Some s) None u e = cc
 applied-parts (Some s) (Some (Int z anns)) u e = cc
@@ -81,7 +88,8 @@ held_open-parts : (a : Option Tree) (u : Tree) → held_open a ≡ Some u → (x
 held_open-parts None u e = cc
 held_open-parts (Some x) u e = (x, refl, cc)
 
-pub with_notes-parts : (a b : Option Tree) (u : Tree) → with_notes a b ≡ Some u → (t : Tree) × ((x : Tree) × ((xs : Trees) × (a ≡ Some t) × (b ≡ Some (Items (more x xs) none)) × (annotated t (more x xs) ≡ u)))
+pub with_notes-parts : (a b : Option Tree) (u : Tree) → with_notes a b ≡ Some u
+    → (t : Tree) × ((x : Tree) × ((xs : Trees) × (a ≡ Some t) × (b ≡ Some (Items (more x xs) none)) × (annotated t (more x xs) ≡ u)))
 with_notes-parts None b u e = cc
 with_notes-parts (Some x) None u e = cc
 with_notes-parts (Some x) (Some (Int z anns)) u e = cc
@@ -92,7 +100,8 @@ with_notes-parts (Some x) (Some (Items (more y ys) (more z zs))) u e = cc
 with_notes-parts (Some x) (Some (Hole v anns)) u e = cc
 
 module _ (c : ℕ → Option Tree) (m : Table) where
-  pub node-says : (n : Node) (l : Option ℕ) (u : Tree) (anns : Trees) → node_tree c m n ≡ Some u → Notes c l anns → Says c m (record { node = n; notes = l }) (annotated u anns) × (annotated u none ≡ u)
+  pub node-says : (n : Node) (l : Option ℕ) (u : Tree) (anns : Trees) → node_tree c m n ≡ Some u → Notes c l anns
+      → Says c m (record { node = n; notes = l }) (annotated u anns) × (annotated u none ≡ u)
   node-says (number z) l u anns e h =
       let p = if-some (is_i32 z) (Int z none) u e in
       subst (λ v. Says c m (record { node = number z; notes = l }) (annotated v anns) × (annotated v none ≡ v)) p.1 ((refl, p.0, h), refl)
@@ -105,8 +114,10 @@ module _ (c : ℕ → Option Tree) (m : Table) where
   node-says (application s j) l u anns e h =
       let p = applied-parts (m s) (c j) u e in
       let g = p.0 in
-      let e' : m s ≡ Some (record { name = g.name; quoted = g.quoted; arity = count_of p.1.0 }) = p.1.1 ∙ ap (λ n. Some (record { name = g.name; quoted = g.quoted; arity = n })) (sym p.1.3) in
-      subst (λ v. Says c m (record { node = application s j; notes = l }) (annotated v anns) × (annotated v none ≡ v)) p.1.4 ((s, (j, refl, e', p.1.2, h)), refl)
+      let e' : m s ≡ Some (record { name = g.name; quoted = g.quoted; arity = count_of p.1.0 }) =
+      p.1.1 ∙ ap (λ n. Some (record { name = g.name; quoted = g.quoted; arity = n })) (sym p.1.3) in
+      subst (λ v. Says c m (record { node = application s j; notes = l }) (annotated v anns) × (annotated v none ≡ v)) p.1.4
+      ((s, (j, refl, e', p.1.2, h)), refl)
   node-says (placeholder i) l u anns e h =
       let p = held_open-parts (c i) u e in
       subst (λ v. Says c m (record { node = placeholder i; notes = l }) (annotated v anns) × (annotated v none ≡ v)) p.2 ((i, refl, p.1, h), refl)
@@ -123,7 +134,8 @@ module _ (c : ℕ → Option Tree) (m : Table) where
   says x u e = noted-says x.node x.notes u e
 
 -- two cells of one tree are alike, where each tree stands in one place only
-module _ (c d : ℕ → Option Tree) (m : Table) (one_place : (i j : ℕ) (v : Tree) → c i ≡ Some v → d j ≡ Some v → i ≡ j) (one_symbol : (s t : ℕ) (g : Signature) → m s ≡ Some g → m t ≡ Some g → s ≡ t) where
+module _ (c d : ℕ → Option Tree) (m : Table) (one_place : (i j : ℕ) (v : Tree) → c i ≡ Some v → d j ≡ Some v → i ≡ j)
+    (one_symbol : (s t : ℕ) (g : Signature) → m s ≡ Some g → m t ≡ Some g → s ≡ t) where
   Notes-alike : (k l : Option ℕ) (anns : Trees) → Notes c k anns → Notes d l anns → k ≡ l
   Notes-alike k l none a b = cc
   Notes-alike k l (more v vs) (i, a, p) (j, b, q) = let e : i ≡ j = one_place i j _ p q in cc
@@ -152,7 +164,8 @@ module _ (h : Heap) (m : Table) where
   unfolding tree_of
   opens zero t u e = cc
   opens (suc k) t u e = opened (h t) refl e where
-    opened : (o : Option Cell) → h t ≡ o → option_and_then (cell_tree (tree_of h m k) m) o ≡ Some u → (j : ℕ) × ((x : Cell) × (suc k ≡ suc j) × (h t ≡ Some x) × Says (tree_of h m j) m x u)
+    opened : (o : Option Cell) → h t ≡ o → option_and_then (cell_tree (tree_of h m k) m) o ≡ Some u
+        → (j : ℕ) × ((x : Cell) × (suc k ≡ suc j) × (h t ≡ Some x) × Says (tree_of h m j) m x u)
     opened None q e = cc
     opened (Some x) q e = (k, (x, refl, q, says (tree_of h m k) m x u e))
 
@@ -163,17 +176,23 @@ module _ (h : Heap) (m : Table) where
 
 pub lt_or_le : (t n : ℕ) → (t < n) ⊎ (n ≤ t)
 lt_or_le t zero = inr (omega arith)
-lt_or_le t (suc n) = elim (eqb_tells t n) [ inl p ↦ inl (omega (arith, p.1)) | inr p ↦ elim (lt_or_le t n) [ inl q ↦ inl (omega arith) | inr q ↦ inr (omega (arith, p.1)) ] ]
+lt_or_le t (suc n) = elim (eqb_tells t n) [
+  | inl p ↦ inl (omega (arith, p.1))
+  | inr p ↦ elim (lt_or_le t n)
+      [ inl q ↦ inl (omega arith) | inr q ↦ inr (omega (arith, p.1)) ]
+]
 
 -- a larger heap and table, and a larger depth, keep each tree
-pub kept-tree_of : (h g : Heap) (m l : Table) → ((t : ℕ) (x : Cell) → h t ≡ Some x → g t ≡ Some x) → ((s : ℕ) (d : Signature) → m s ≡ Some d → l s ≡ Some d) → (n k t : ℕ) (u : Tree) → n ≤ k → tree_of h m n t ≡ Some u → tree_of g l k t ≡ Some u
+pub kept-tree_of : (h g : Heap) (m l : Table) → ((t : ℕ) (x : Cell) → h t ≡ Some x → g t ≡ Some x)
+    → ((s : ℕ) (d : Signature) → m s ≡ Some d → l s ≡ Some d) → (n k t : ℕ) (u : Tree) → n ≤ k → tree_of h m n t ≡ Some u → tree_of g l k t ≡ Some u
 kept-tree_of h g m l cells symbols zero k t u le e = let o = opens h m zero t u e in absurd (omega (arith, o.1.1))
 kept-tree_of h g m l cells symbols (suc n) zero t u le e = absurd (omega arith)
 kept-tree_of h g m l cells symbols (suc n) (suc k) t u le e =
     let o = opens h m (suc n) t u e in
     let j : o.0 ≡ n = omega (arith, o.1.1) in
     let s = subst (λ j. Says (tree_of h m j) m o.1.0 u) j o.1.3 in
-    closes g l k t o.1.0 u (cells _ _ o.1.2) (Says-some (tree_of h m n) (tree_of g l k) m l symbols o.1.0 u (λ i v _ p. kept-tree_of h g m l cells symbols n k i v (omega arith) p) s)
+    closes g l k t o.1.0 u (cells _ _ o.1.2) (Says-some (tree_of h m n) (tree_of g l k) m l symbols o.1.0 u (λ i v _ p.
+    kept-tree_of h g m l cells symbols n k i v (omega arith) p) s)
 
 module _ (h : Heap) (m : Table) where
   pub deeper : (n k t : ℕ) (u : Tree) → n ≤ k → tree_of h m n t ≡ Some u → tree_of h m k t ≡ Some u
@@ -266,7 +285,8 @@ module _ (c : ℕ → Option Tree) (m : Table) (table : IsTable m) (each : (i : 
   valid-cell x (Int z anns) (a, f, n) = both_true f (notes-valid _ anns n)
   valid-cell x (Items none anns) (a, n) = both_true refl (notes-valid _ anns n)
   valid-cell x (Items (more v vs) anns) (i, (j, e, a, b, n)) = both_true (both_true (each i v a) (items-valid j vs b)) (notes-valid _ anns n)
-  valid-cell x (Appl name quoted args anns) (s, (j, e, g, b, n)) = both_true (both_true (table.valid s (record { name = name; quoted = quoted; arity = count_of args }) g) (items-valid j args b)) (notes-valid _ anns n)
+  valid-cell x (Appl name quoted args anns) (s, (j, e, g, b, n)) =
+      both_true (both_true (table.valid s (record { name = name; quoted = quoted; arity = count_of args }) g) (items-valid j args b)) (notes-valid _ anns n)
   valid-cell x (Hole v anns) (i, e, a, n) = both_true (each i v a) (notes-valid _ anns n)
 
 pub valid-tree : (h : Heap) (m : Table) → IsTable m → (n t : ℕ) (u : Tree) → tree_of h m n t ≡ Some u → IsTrue (is_tree u)

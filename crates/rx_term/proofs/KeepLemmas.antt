@@ -37,7 +37,8 @@ pub Keeps-Reclaims : {old new : Store} {work : List Term} → Reclaims old new w
 Keeps-Reclaims m = record { trees = m.kept; beside = m.beside }
 
 -- a make that was refused, and then a reclaim
-pub Keeps-after-refusal : {old mid new : Store} {tree : Option Tree} {e : BankFault} {work : List Term} → Refuses old mid tree e → Reclaims mid new work → Keeps old new work
+pub Keeps-after-refusal : {old mid new : Store} {tree : Option Tree} {e : BankFault} {work : List Term} → Refuses old mid tree e
+    → Reclaims mid new work → Keeps old new work
 Keeps-after-refusal {work = work} r m = Keeps-trans (Keeps-Refuses work r) (Keeps-Reclaims m)
 
 pub reached-more : (w : Store) (xs ys : List Term) (u : Tree) → ((t : Term) → Contains xs t → Contains ys t) → IsReached w xs u → IsReached w ys u
@@ -48,15 +49,18 @@ pub Keeps-fewer : {old new : Store} {xs ys : List Term} → ((t : Term) → Cont
 Keeps-fewer {old = old} {xs = xs} {ys = ys} within k = record { trees = λ t u e h. k.trees t u e (reached-more old xs ys u within h); beside = k.beside }
 
 -- a reference of the work list keeps its tree
-pub kept-work : {old new : Store} {work : List Term} → Keeps old new work → (t : Term) → Contains work t → IsSome (tree_at old t) → tree_at new t ≡ tree_at old t
+pub kept-work : {old new : Store} {work : List Term} → Keeps old new work → (t : Term) → Contains work t → IsSome (tree_at old t)
+    → tree_at new t ≡ tree_at old t
 kept-work {old = old} k t c h = let x = some-value (tree_at old t) h in k.trees t x.0 x.1 (t, (x.0, inr c, x.1, parts-self x.0)) ∙ sym x.1
 
 -- so it is still held
-pub still-held : {old new : Store} {work : List Term} → Keeps old new work → ((t : Term) → Contains work t → IsSome (tree_at old t)) → (t : Term) → Contains work t → IsSome (tree_at new t)
+pub still-held : {old new : Store} {work : List Term} → Keeps old new work → ((t : Term) → Contains work t → IsSome (tree_at old t)) → (t : Term)
+    → Contains work t → IsSome (tree_at new t)
 still-held k held t c = subst IsSome (sym (kept-work k t c (held t c))) (held t c)
 
 -- a protected reference keeps its tree
-pub kept-root : {old new : Store} {work : List Term} → Keeps old new work → (t : Term) → 0 < old.roots t.0 → IsSome (tree_at old t) → tree_at new t ≡ tree_at old t
+pub kept-root : {old new : Store} {work : List Term} → Keeps old new work → (t : Term) → 0 < old.roots t.0 → IsSome (tree_at old t)
+    → tree_at new t ≡ tree_at old t
 kept-root {old = old} k t p h = let x = some-value (tree_at old t) h in k.trees t x.0 x.1 (t, (x.0, inl p, x.1, parts-self x.0)) ∙ sym x.1
 
 -- right after a reclaim, a make that is refused for want of cells finds nothing that could be given back

@@ -35,20 +35,23 @@ with_notes-at : (a c : Option Tree) (t v : Tree) (vs : Trees) → a ≡ Some t �
 with_notes-at a c t v vs p q = rw (p, q) refl
 
 -- the tree of a node below its annotations
-bare : (c : ℕ → Option Tree) (m : Table) (n : Node) (l : Option ℕ) (t : Tree) → noted_tree c (node_tree c m n) l ≡ Some t → (u : Tree) × (node_tree c m n ≡ Some u) × (annotated u none ≡ u) × ((a : Trees) → annotated t a ≡ annotated u a)
+bare : (c : ℕ → Option Tree) (m : Table) (n : Node) (l : Option ℕ) (t : Tree) → noted_tree c (node_tree c m n) l ≡ Some t
+    → (u : Tree) × (node_tree c m n ≡ Some u) × (annotated u none ≡ u) × ((a : Trees) → annotated t a ≡ annotated u a)
 bare c m n None t e = (t, e, (node-says c m n None t none e refl).1, λ a. refl)
 bare c m n (Some i) t e =
     let p = with_notes-parts (node_tree c m n) (c i) t e in
     (p.0, p.1.1.1, (node-says c m n None p.0 none p.1.1.1 refl).1, λ a. ap (λ v. annotated v a) (sym p.1.1.3) ∙ annotated-twice p.0 (more p.1.0 p.1.1.0) a)
 
 -- a cell with other annotations is of the annotated tree
-pub annotated-cell : (w : Store) (n : Node) (l r : Option ℕ) (t a : Term) → tree_at w t ≡ tree_of_cell w (record { node = n; notes = l }) → IsSome (noted (tree_at w t) (tree_at w a)) → IsNotesOf (tree_at w a) a.0 r
+pub annotated-cell : (w : Store) (n : Node) (l r : Option ℕ) (t a : Term) → tree_at w t ≡ tree_of_cell w (record { node = n; notes = l })
+    → IsSome (noted (tree_at w t) (tree_at w a)) → IsNotesOf (tree_at w a) a.0 r
     → tree_of_cell w (record { node = n; notes = r }) ≡ noted (tree_at w t) (tree_at w a)
 annotated-cell w n l r t a tree held notes = by_notes r notes where
   given : (v : Tree) × ((ts : Trees) × (tree_at w t ≡ Some v) × (tree_at w a ≡ Some (Items ts none)))
   given = noted-given (tree_at w t) (tree_at w a) held
 
-  low : (u : Tree) × (node_tree (λ k. map.get w.content k) (λ s. map.get w.symbols s) n ≡ Some u) × (annotated u none ≡ u) × ((b : Trees) → annotated given.0 b ≡ annotated u b)
+  low : (u : Tree) × (node_tree (λ k. map.get w.content k) (λ s. map.get w.symbols s) n ≡ Some u) × (annotated u none ≡ u)
+      × ((b : Trees) → annotated given.0 b ≡ annotated u b)
   low = bare (λ k. map.get w.content k) (λ s. map.get w.symbols s) n l given.0 (sym tree ∙ given.1.1)
 
   right : noted (tree_at w t) (tree_at w a) ≡ Some (annotated low.0 given.1.0)
@@ -62,8 +65,10 @@ annotated-cell w n l r t a tree held notes = by_notes r notes where
   by_notes None e = low.1 ∙ ap (λ v. let o : Option Tree = Some v in o) (sym (by_list given.1.0 refl e)) ∙ sym right
   by_notes (Some s) (same, (v, (vs, (anns, e)))) =
       let list : given.1.0 ≡ more v vs = (let p = given.1.2 in cc) in
-      let link : map.get w.content s ≡ Some (Items (more v vs) none) = ap (map.get w.content) same ∙ given.1.2 ∙ ap (λ b. let o : Option Tree = Some (Items b none) in o) list in
-      with_notes-at (node_tree (λ k. map.get w.content k) (λ s. map.get w.symbols s) n) (map.get w.content s) low.0 v vs low.1 link ∙ ap (λ b. let o : Option Tree = Some (annotated low.0 b) in o) (sym list) ∙ sym right
+      let link : map.get w.content s ≡ Some (Items (more v vs) none) =
+      ap (map.get w.content) same ∙ given.1.2 ∙ ap (λ b. let o : Option Tree = Some (Items b none) in o) list in
+      with_notes-at (node_tree (λ k. map.get w.content k) (λ s. map.get w.symbols s) n) (map.get w.content s) low.0 v vs low.1 link
+      ∙ ap (λ b. let o : Option Tree = Some (annotated low.0 b) in o) (sym list) ∙ sym right
 
 -- a cell's annotations are those of its tree
 pub says-notes : (c : ℕ → Option Tree) (m : Table) (x : Cell) (u : Tree) → Says c m x u → Notes c x.notes (annotations u)

@@ -1,11 +1,14 @@
 -- What stays of a heap whose kept slots name kept slots alone.
-use Rattle.std.proofs.Common.{[], ◌∷◌, ◌++◌, ℕ, suc, zero, ◌≡◌, ◌⊎◌, Bool, true, false, Option, Some, None, IsSome, is_some, refl, sym, ap, ◌∙◌, subst, inl, inr, arith, Contains}
+use Rattle.std.proofs.Common.{[], ◌∷◌, ◌++◌, ℕ, suc, zero, ◌≡◌, ◌⊎◌, Bool, true, false, Option, Some, None}
+use Rattle.std.proofs.Common.{IsSome, is_some, refl, sym, ap, ◌∙◌, subst, inl, inr, arith, Contains}
 use Rattle.std.specs.Prelude.{if◌then◌else◌}
 use Rattle.std.proofs.lemmas.List.Elements.{Contains-append_left, Contains-append_right, Contains-append_cases}
 use Rattle.rx_term.specs.Tree.{Tree, Int, Appl, Items, Hole, Trees, none, more, annotations}
 use Rattle.rx_term.specs.Parts.{parts}
-use Rattle.rx_term.proofs.PartsLemmas.{cons_head, cons_tail, cons_cases, no_element, notes-part, item-part, rest-part, args-part, inner-part, parts-self, parts-trans}
-use Rattle.rx_term.specs.Heap.{Node, number, empty, pair, application, placeholder, IsLinked, start, along, Cell, Heap, Table, tree_of, Notes, Says, links, node_links, notes_links, kept_slots}
+use Rattle.rx_term.proofs.PartsLemmas.{cons_head, cons_tail, cons_cases, no_element, notes-part, item-part}
+use Rattle.rx_term.proofs.PartsLemmas.{rest-part, args-part, inner-part, parts-self, parts-trans}
+use Rattle.rx_term.specs.Heap.{Node, number, empty, pair, application, placeholder, IsLinked, start, along, Cell}
+use Rattle.rx_term.specs.Heap.{Heap, Table, tree_of, Notes, Says, links, node_links, notes_links, kept_slots}
 use Rattle.std.specs.FinMap as map
 use Rattle.rx_term.specs.Heap.{IsHeap, is_whole, content_of}
 use Rattle.rx_term.proofs.ContentLemmas.{known, content-at, cell-of, content-closed, content-one_place}
@@ -27,8 +30,16 @@ module _ (c d : ℕ → Option Tree) (m : Table) (x : Cell) (known : (i : ℕ) (
   pub Says-linked : (u : Tree) → Says c m x u → Says d m x u
   Says-linked (Int z anns) (a, f, t) = (a, f, Notes-linked anns t)
   Says-linked (Items none anns) (a, t) = (a, Notes-linked anns t)
-  Says-linked (Items (more v vs) anns) (i, (j, e, a, b, t)) =
-      (i, (j, e, known i v (node-link (pair i j) i e (cons_head i (j ∷ []))) a, known j (Items vs none) (node-link (pair i j) j e (cons_tail i (j ∷ []) j (cons_head j []))) b, Notes-linked anns t))
+  Says-linked (Items (more v vs) anns) (i, (j, e, a, b, t)) = (
+    i,
+    (
+      j,
+      e,
+      known i v (node-link (pair i j) i e (cons_head i (j ∷ []))) a,
+      known j (Items vs none) (node-link (pair i j) j e (cons_tail i (j ∷ []) j (cons_head j []))) b,
+      Notes-linked anns t,
+    ),
+  )
   Says-linked (Appl name quoted args anns) (s, (j, e, g, b, t)) =
       (s, (j, e, g, known j (Items args none) (node-link (application s j) j e (cons_head j [])) b, Notes-linked anns t))
   Says-linked (Hole v anns) (i, e, a, t) = (i, e, known i v (node-link (placeholder i) i e (cons_head i [])) a, Notes-linked anns t)
@@ -44,7 +55,8 @@ module _ (h : Heap) (m : Table) (keep : ℕ → Bool) (closed : (t i : ℕ) (x :
       let o = opens h m (suc n) t u e in
       let j : o.0 ≡ n = omega (arith, o.1.1) in
       let s = subst (λ j. Says (tree_of h m j) m o.1.0 u) j o.1.3 in
-      closes (kept_slots keep h) m n t o.1.0 u (stays t o.1.0 k o.1.2) (Says-linked (tree_of h m n) (tree_of (kept_slots keep h) m n) m o.1.0 (λ i v l q. kept-tree n i v (closed t i o.1.0 k o.1.2 l) q) u s)
+      closes (kept_slots keep h) m n t o.1.0 u (stays t o.1.0 k o.1.2)
+      (Says-linked (tree_of h m n) (tree_of (kept_slots keep h) m n) m o.1.0 (λ i v l q. kept-tree n i v (closed t i o.1.0 k o.1.2 l) q) u s)
 
   only-kept : (t : ℕ) (x : Cell) (b : Bool) → keep t ≡ b → (if b then h t else None) ≡ Some x → (keep t ≡ true) × (h t ≡ Some x)
   only-kept t x true k e = (k, e)
@@ -69,16 +81,20 @@ module _ (c : ℕ → Option Tree) (m : Table) where
       | inr q ↦ absurd (no_element _ q)
     ]
 
-  link-in : (n : Node) (l : Option ℕ) (x : Cell) (i : ℕ) → x.node ≡ n → x.notes ≡ l → Contains (links x) i → Contains (node_links n) i ⊎ Contains (notes_links l) i
-  link-in n l x i e q h = Contains-append_cases (node_links n) (notes_links l) i (subst (λ k. Contains (node_links k ++ notes_links l) i) e (subst (λ k. Contains (node_links x.node ++ notes_links k) i) q h))
+  link-in : (n : Node) (l : Option ℕ) (x : Cell) (i : ℕ) → x.node ≡ n → x.notes ≡ l → Contains (links x) i
+      → Contains (node_links n) i ⊎ Contains (notes_links l) i
+  link-in n l x i e q h = Contains-append_cases (node_links n) (notes_links l) i
+      (subst (λ k. Contains (node_links k ++ notes_links l) i) e (subst (λ k. Contains (node_links x.node ++ notes_links k) i) q h))
 
   one-link : (j i : ℕ) → Contains (j ∷ []) i → j ≡ i
   one-link j i h = elim (cons_cases j [] i h) [ inl e ↦ e | inr q ↦ absurd (no_element _ q) ]
 
   -- the tree of a slot that a cell names is a part of the cell's tree
   pub link-part : (x : Cell) (u : Tree) (i : ℕ) → Says c m x u → Contains (links x) i → (v : Tree) × (c i ≡ Some v) × Contains (parts u) v
-  link-part x (Int z anns) i (a, f, n) h = elim (link-in (number z) x.notes x i a refl h) [ inl q ↦ absurd (no_element _ q) | inr q ↦ notes-linked (Int z anns) x.notes i n q ]
-  link-part x (Items none anns) i (a, n) h = elim (link-in empty x.notes x i a refl h) [ inl q ↦ absurd (no_element _ q) | inr q ↦ notes-linked (Items none anns) x.notes i n q ]
+  link-part x (Int z anns) i (a, f, n) h = elim (link-in (number z) x.notes x i a refl h)
+      [ inl q ↦ absurd (no_element _ q) | inr q ↦ notes-linked (Int z anns) x.notes i n q ]
+  link-part x (Items none anns) i (a, n) h = elim (link-in empty x.notes x i a refl h)
+      [ inl q ↦ absurd (no_element _ q) | inr q ↦ notes-linked (Items none anns) x.notes i n q ]
   link-part x (Items (more v vs) anns) i (j, (k, e, a, b, n)) h = elim (link-in (pair j k) x.notes x i e refl h) [
     | inl q ↦ elim (cons_cases j (k ∷ []) i q) [
       | inl p ↦ (v, ap c (sym p) ∙ a, item-part v vs anns)
@@ -101,8 +117,11 @@ IsLinked-trans f (start p) = f _ p
 IsLinked-trans f (along l e c) = along (IsLinked-trans f l) e c
 
 -- the tree of a linked slot is a part of the tree of a slot to begin with
-module _ (h : Heap) (m : Table) (len n : ℕ) (heap : IsHeap h m len n) (from : ℕ → Type 0) (each : (s : ℕ) → from s → IsSome (map.get (content_of h m len n) s)) where
-  pub linked-part : (t : ℕ) → IsLinked h from t → (s : ℕ) × ((u : Tree) × ((v : Tree) × from s × (map.get (content_of h m len n) s ≡ Some u) × (map.get (content_of h m len n) t ≡ Some v) × Contains (parts u) v))
+module _ (h : Heap) (m : Table) (len n : ℕ) (heap : IsHeap h m len n) (from : ℕ → Type 0) (each : (s : ℕ) → from s
+    → IsSome (map.get (content_of h m len n) s)) where
+  pub linked-part : (t : ℕ) → IsLinked h from t
+      → (s : ℕ) × ((u : Tree) × ((v : Tree) × from s × (map.get (content_of h m len n) s ≡ Some u) × (map.get (content_of h m len n) t ≡ Some v)
+      × Contains (parts u) v))
   linked-part t (start p) = let u = some-value (map.get (content_of h m len n) t) (each t p) in (t, (u.0, (u.0, p, u.1, u.1, parts-self u.0)))
   linked-part i (along {t = t} {x = x} l e c) =
       let r = linked-part t l in
@@ -112,7 +131,8 @@ module _ (h : Heap) (m : Table) (len n : ℕ) (heap : IsHeap h m len n) (from : 
       (r.0, (r.1.0, (w.0, r.1.1.1, r.1.1.2, w.1, parts-trans r.1.0 r.1.1.0 w.0 r.1.1.4 w.2)))
 
 -- the kept slots of a whole heap are a whole heap, at the same depth
-module _ (h : Heap) (m : Table) (len n : ℕ) (heap : IsHeap h m len n) (keep : ℕ → Bool) (closed : (t i : ℕ) (x : Cell) → keep t ≡ true → h t ≡ Some x → Contains (links x) i → keep i ≡ true) where
+module _ (h : Heap) (m : Table) (len n : ℕ) (heap : IsHeap h m len n) (keep : ℕ → Bool) (closed : (t i : ℕ) (x : Cell) → keep t ≡ true → h t ≡ Some x
+    → Contains (links x) i → keep i ≡ true) where
   some-kept : (t : ℕ) (b : Bool) → keep t ≡ b → IsSome (if b then h t else None) → (keep t ≡ true) × IsSome (h t)
   some-kept t true k s = (k, s)
   some-kept t false k s = cc
@@ -141,16 +161,19 @@ module _ (h : Heap) (m : Table) (len n : ℕ) (heap : IsHeap h m len n) (keep : 
 
   -- what a reclaim leaves: the kept references, with their trees
   module _ (d : ℕ) (w : is_whole (kept_slots keep h) m len d ≡ true) where
-    pub kept-content : (t : ℕ) (u : Tree) → keep t ≡ true → map.get (content_of h m len n) t ≡ Some u → map.get (content_of (kept_slots keep h) m len d) t ≡ Some u
+    pub kept-content : (t : ℕ) (u : Tree) → keep t ≡ true → map.get (content_of h m len n) t ≡ Some u
+        → map.get (content_of (kept_slots keep h) m len d) t ≡ Some u
     kept-content t u k e = known (kept_slots keep h) m len d (kept-heap d w) n t u (kept-tree h m keep closed n t u k (sym (content-at h m len n heap t) ∙ e))
 
-    pub only-content : (t : ℕ) (u : Tree) → map.get (content_of (kept_slots keep h) m len d) t ≡ Some u → (keep t ≡ true) × (map.get (content_of h m len n) t ≡ Some u)
+    pub only-content : (t : ℕ) (u : Tree) → map.get (content_of (kept_slots keep h) m len d) t ≡ Some u
+        → (keep t ≡ true) × (map.get (content_of h m len n) t ≡ Some u)
     only-content t u e =
         let o = only-kept-tree h m keep closed d t u (sym (content-at (kept_slots keep h) m len d (kept-heap d w) t) ∙ e) in
         (o.0, known h m len n heap d t u o.1)
 
     -- a tree that is a part of a kept slot's tree keeps its slot
-    pub kept-part : (r t : ℕ) (u v : Tree) → keep r ≡ true → map.get (content_of h m len n) r ≡ Some v → Contains (parts v) u → map.get (content_of h m len n) t ≡ Some u → keep t ≡ true
+    pub kept-part : (r t : ℕ) (u v : Tree) → keep r ≡ true → map.get (content_of h m len n) r ≡ Some v → Contains (parts v) u
+        → map.get (content_of h m len n) t ≡ Some u → keep t ≡ true
     kept-part r t u v k e p q =
         let s = content-closed (kept_slots keep h) m len d (kept-heap d w) r v u (kept-content r v k e) p in
         let o = only-content s.0 u s.1 in

@@ -46,10 +46,12 @@ kept-Makes {old = old} {r = r} m t v h =
     ]
 
 -- a new symbol keeps what each one stands for
-pub kept-Adds : {old new : Store} {g : Signature} {s : Symbol} → Adds old new g s → (t : Symbol) (v : Signature) → signature_of old t ≡ Some v → signature_of new t ≡ Some v
+pub kept-Adds : {old new : Store} {g : Signature} {s : Symbol} → Adds old new g s → (t : Symbol) (v : Signature) → signature_of old t ≡ Some v
+    → signature_of new t ≡ Some v
 kept-Adds {old = old} {s = s} m t v h =
     elim (same_symbol t s) [
-      | inl e ↦ (let there : IsSome (signature_of old s) = some_of (subst (λ x. signature_of old x ≡ Some v) e h) in ap (λ w. signature_of w t) (m.there there) ∙ h)
+      | inl e ↦ (let there : IsSome (signature_of old s) = some_of (subst (λ x. signature_of old x ≡ Some v) e h) in
+          ap (λ w. signature_of w t) (m.there there) ∙ h)
       | inr n ↦ m.others t n ∙ h
     ]
 

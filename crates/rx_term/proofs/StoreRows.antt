@@ -163,7 +163,8 @@ unreached_goes : (old new : Store) (t : Term) (tree : Tree) → Reclaims old new
 unreached_goes old new t tree h unreached e = unreached (h.only t tree e).1
 
 -- and keeps what is handed in, with its parts
-handed_in_stays : (old new : Store) (t r : Term) → Reclaims old new (r ∷ []) → tree_at old r ≡ Some (Items (more b none) none) → tree_at old t ≡ Some b → tree_at new t ≡ Some b
+handed_in_stays : (old new : Store) (t r : Term) → Reclaims old new (r ∷ []) → tree_at old r ≡ Some (Items (more b none) none)
+    → tree_at old t ≡ Some b → tree_at new t ≡ Some b
 handed_in_stays old new t r h e k = h.kept t b k (r, (Items (more b none) none, inr (cons_head r []), e, (1, omega arith, refl)))
 
 -- a rooted one is there, and no tree has two references
@@ -197,7 +198,8 @@ not_cons_kind : (w : Store) (t : Term) → tree_at w t ≡ Some (Items none none
 not_cons_kind w t e h = absurd (cc (e, h.here))
 
 -- `f(a,b){a}` is an application of the symbol that takes two arguments
-appl_kind : (w : Store) (t : Term) (s : Symbol) → signature_of w s ≡ Some f → tree_at w t ≡ Some (Appl (codes "f") false (more a (more b none)) (more a none)) → HasKind w t (kind.Appl s)
+appl_kind : (w : Store) (t : Term) (s : Symbol) → signature_of w s ≡ Some f
+    → tree_at w t ≡ Some (Appl (codes "f") false (more a (more b none)) (more a none)) → HasKind w t (kind.Appl s)
 appl_kind w t s k e = record { name = codes "f"; quoted = false; args = more a (more b none); anns = more a none; symbol = k; here = e }
 
 -- and not of another one

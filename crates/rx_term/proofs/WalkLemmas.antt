@@ -1,6 +1,7 @@
 -- One more item in front of a list that is under way.
 use Rattle.std.proofs.lemmas.List.{get_or_default}
-use Rattle.std.proofs.Common.{suc, ℕ, ◌≡◌, ◌⊎◌, inl, inr, ◌-◌, ◌<◌, ◌≤◌, List, [], ◌∷◌, length, take, drop, get_or, Option, Some, None, IsSome, refl, sym, ap, ◌∙◌, subst, arith, Contains, drop-cons, take-append-drop}
+use Rattle.std.proofs.Common.{suc, ℕ, ◌≡◌, ◌⊎◌, inl, inr, ◌-◌, ◌<◌, ◌≤◌, List, [], ◌∷◌, length, take, drop, get_or, Option}
+use Rattle.std.proofs.Common.{Some, None, IsSome, refl, sym, ap, ◌∙◌, subst, arith, Contains, drop-cons, take-append-drop}
 use Rattle.std.proofs.lemmas.List.{append-nil}
 use Rattle.std.proofs.lemmas.List.Elements.{Contains-append_left, Contains-append_right, Contains-append_cases, Contains-push}
 use Rattle.rx_term.proofs.PartsLemmas.{list_parts-parts, cons_head, cons_tail, cons_cases}
@@ -18,7 +19,8 @@ some-tree None e = cc
 some-tree (Some x) e = (x, refl)
 
 -- the next item and the list have trees that make a longer one
-pub next : (old now : Store) (rs : List Term) (r list : Term) → Grows old now → IsSome (tree_at old r) → Lists old rs (tree_at now list) → (x : Tree) × ((xs : Trees) × (tree_at now r ≡ Some x) × (tree_at now list ≡ Some (Items xs none)) × HaveTrees old (r ∷ rs) (to_list (more x xs)))
+pub next : (old now : Store) (rs : List Term) (r list : Term) → Grows old now → IsSome (tree_at old r) → Lists old rs (tree_at now list)
+    → (x : Tree) × ((xs : Trees) × (tree_at now r ≡ Some x) × (tree_at now list ≡ Some (Items xs none)) × HaveTrees old (r ∷ rs) (to_list (more x xs)))
 next old now rs r list grows held (xs, each, e) =
     let x = some-tree (tree_at old r) held in
     (x.0, (xs, grows.trees r x.0 x.1, e, (x.1, each)))
@@ -27,17 +29,22 @@ pub is_longer : (a b : Option Tree) (x : Tree) (xs : Trees) → a ≡ Some x →
 is_longer a b x xs p q = rw (p, q) refl
 
 pub dropped : (rs : List Term) (left : ℕ) (d : Term) → 0 < left → left ≤ length rs → drop (left - 1) rs ≡ get_or rs (left - 1) d ∷ drop left rs
-dropped rs left d pos le = let e : suc (left - 1) ≡ left = omega arith in drop-cons rs (left - 1) d (omega arith) ∙ ap (λ k. get_or rs (left - 1) d ∷ drop k rs) e
+dropped rs left d pos le = let e : suc (left - 1) ≡ left = omega arith in
+    drop-cons rs (left - 1) d (omega arith) ∙ ap (λ k. get_or rs (left - 1) d ∷ drop k rs) e
 
 pub item-in : (rs : List Term) (k : ℕ) (d : Term) → k < length rs → Contains rs (get_or rs k d)
 item-in rs k d lt = (k, lt, get_or_default rs k _ d lt)
 
 -- the parts of a list, and of an application, are those of what its node gives
-pub cons-covers : (w : Store) (h t : Term) (x : Tree) (xs anns : Trees) → tree_at w h ≡ Some x → tree_at w t ≡ Some (Items xs none) → parts (Items (more x xs) anns) ≡ Items (more x xs) anns ∷ (all_parts w (h ∷ t ∷ []) ++ annotation_parts anns)
-cons-covers w h t x xs anns p q = rw (p, q) (rw (append-nil (parts (Items xs none))) (ap (λ ps. Items (more x xs) anns ∷ ((parts x ++ ps) ++ annotation_parts anns)) (list_parts-parts xs)))
+pub cons-covers : (w : Store) (h t : Term) (x : Tree) (xs anns : Trees) → tree_at w h ≡ Some x → tree_at w t ≡ Some (Items xs none)
+    → parts (Items (more x xs) anns) ≡ Items (more x xs) anns ∷ (all_parts w (h ∷ t ∷ []) ++ annotation_parts anns)
+cons-covers w h t x xs anns p q =
+    rw (p, q) (rw (append-nil (parts (Items xs none))) (ap (λ ps. Items (more x xs) anns ∷ ((parts x ++ ps) ++ annotation_parts anns)) (list_parts-parts xs)))
 
-pub appl-covers : (w : Store) (t : Term) (name : List ℕ) (quoted : Bool) (args anns : Trees) → tree_at w t ≡ Some (Items args none) → parts (Appl name quoted args anns) ≡ Appl name quoted args anns ∷ (all_parts w (t ∷ []) ++ annotation_parts anns)
-appl-covers w t name quoted args anns q = rw q (ap (λ ps. Appl name quoted args anns ∷ (ps ++ annotation_parts anns)) (list_parts-parts args ∙ sym (append-nil (parts (Items args none)))))
+pub appl-covers : (w : Store) (t : Term) (name : List ℕ) (quoted : Bool) (args anns : Trees) → tree_at w t ≡ Some (Items args none)
+    → parts (Appl name quoted args anns) ≡ Appl name quoted args anns ∷ (all_parts w (t ∷ []) ++ annotation_parts anns)
+appl-covers w t name quoted args anns q =
+    rw q (ap (λ ps. Appl name quoted args anns ∷ (ps ++ annotation_parts anns)) (list_parts-parts args ∙ sym (append-nil (parts (Items args none)))))
 
 pub some-here : {o : Option Tree} {x : Tree} → o ≡ Some x → IsSome o
 some-here e = ap is_some e
@@ -45,7 +52,8 @@ some-here e = ap is_some e
 -- the parts of some references, then of more
 pub all_parts-append : (w : Store) (xs ys : List Term) → all_parts w (xs ++ ys) ≡ all_parts w xs ++ all_parts w ys
 all_parts-append w [] ys = refl
-all_parts-append w (x ∷ xs) ys = ap (λ ps. parts_of (tree_at w x) ++ ps) (all_parts-append w xs ys) ∙ sym (append_assoc (parts_of (tree_at w x)) (all_parts w xs) (all_parts w ys))
+all_parts-append w (x ∷ xs) ys = ap (λ ps. parts_of (tree_at w x) ++ ps) (all_parts-append w xs ys)
+    ∙ sym (append_assoc (parts_of (tree_at w x)) (all_parts w xs) (all_parts w ys))
 
 -- ---- references that are held
 
@@ -104,15 +112,18 @@ trees_from-AllHeld w (r ∷ rs) held =
     (x.0 ∷ xs.0, (x.1, xs.1))
 
 -- the parts with one reference more on top
-pub top-parts : (w : Store) (rest : List Term) (u : Term) (tree : Tree) → tree_at w u ≡ Some tree → all_parts w (rest ++ u ∷ []) ≡ all_parts w rest ++ parts tree
+pub top-parts : (w : Store) (rest : List Term) (u : Term) (tree : Tree) → tree_at w u ≡ Some tree
+    → all_parts w (rest ++ u ∷ []) ≡ all_parts w rest ++ parts tree
 top-parts w rest u tree e = all_parts-append w rest (u ∷ []) ∙ rw e (ap (λ ps. all_parts w rest ++ ps) (append-nil (parts tree)))
 
-module _ (w : Store) (rest inside notes : List Term) (u : Term) (tree : Tree) (here : tree_at w u ≡ Some tree) (covers : parts tree ≡ tree ∷ (all_parts w inside ++ all_parts w notes)) where
+module _ (w : Store) (rest inside notes : List Term) (u : Term) (tree : Tree) (here : tree_at w u ≡ Some tree)
+    (covers : parts tree ≡ tree ∷ (all_parts w inside ++ all_parts w notes)) where
   before : all_parts w (rest ++ u ∷ []) ≡ all_parts w rest ++ tree ∷ (all_parts w inside ++ all_parts w notes)
   before = top-parts w rest u tree here ∙ ap (λ ps. all_parts w rest ++ ps) covers
 
   afterwards : all_parts w ((rest ++ inside) ++ notes) ≡ all_parts w rest ++ (all_parts w inside ++ all_parts w notes)
-  afterwards = all_parts-append w (rest ++ inside) notes ∙ ap (λ ps. ps ++ all_parts w notes) (all_parts-append w rest inside) ∙ append_assoc (all_parts w rest) (all_parts w inside) (all_parts w notes)
+  afterwards = all_parts-append w (rest ++ inside) notes ∙ ap (λ ps. ps ++ all_parts w notes) (all_parts-append w rest inside)
+      ∙ append_assoc (all_parts w rest) (all_parts w inside) (all_parts w notes)
 
   -- the node itself is the one part less
   pub less-left : length (all_parts w (rest ++ u ∷ [])) ≡ length (all_parts w ((rest ++ inside) ++ notes)) + 1
@@ -128,19 +139,23 @@ pub AllHeld-pushed : (w : Store) (rest inside notes : List Term) → AllHeld w r
 AllHeld-pushed w rest inside notes p q r = AllHeld-append w (rest ++ inside) notes (AllHeld-append w rest inside p q) r
 
 -- one turn of a walk: what stands below the top took its place
-pub walked : (w : Store) (old rest mid new : List Term) (u : Term) → old ≡ rest ++ u ∷ [] → PushesInside w u rest mid → PushesAnns w u mid new → AllHeld w old → AllHeld w new × (length (all_parts w old) ≡ length (all_parts w new) + 1)
+pub walked : (w : Store) (old rest mid new : List Term) (u : Term) → old ≡ rest ++ u ∷ [] → PushesInside w u rest mid → PushesAnns w u mid new
+    → AllHeld w old → AllHeld w new × (length (all_parts w old) ≡ length (all_parts w new) + 1)
 walked w old rest mid new u popped p q held =
     let same : q.tree ≡ p.tree = (let x = p.here in let y = q.here in cc) in
     let at : new ≡ (rest ++ p.kids) ++ q.kids = q.pushed ∙ ap (λ xs. xs ++ q.kids) p.pushed in
-    let covers : parts p.tree ≡ p.tree ∷ (all_parts w p.kids ++ all_parts w q.kids) = p.covers ∙ ap (λ ps. p.tree ∷ (all_parts w p.kids ++ ps)) (subst (λ t. annotation_parts (annotations t) ≡ all_parts w q.kids) same q.covers) in
+    let covers : parts p.tree ≡ p.tree ∷ (all_parts w p.kids ++ all_parts w q.kids) =
+    p.covers ∙ ap (λ ps. p.tree ∷ (all_parts w p.kids ++ ps)) (subst (λ t. annotation_parts (annotations t) ≡ all_parts w q.kids) same q.covers) in
     let below = (AllHeld-split w rest u (subst (AllHeld w) popped held)).0 in (
       subst (AllHeld w) (sym at) (AllHeld-pushed w rest p.kids q.kids below p.held q.held),
       (let l = less-left w rest p.kids q.kids u p.tree p.here covers in rw (at, popped) l),
     )
 
 -- the walk begins with the one reference
-pub begun : (w : Store) (t : Term) → IsSome (tree_at w t) → (m : ℕ) → option_and_then (λ u. Some (min (length (parts u)) m)) (tree_at w t) ≡ Some (min (0 + length (all_parts w (t ∷ []))) m)
-begun w t held m = let x = some-tree (tree_at w t) held in rw x.1 (ap (λ n. let o : Option ℕ = Some (min n m) in o) (ap length (sym (append-nil (parts x.0))) ∙ sym (zero-add (length (parts x.0 ++ [])))))
+pub begun : (w : Store) (t : Term) → IsSome (tree_at w t) → (m : ℕ)
+    → option_and_then (λ u. Some (min (length (parts u)) m)) (tree_at w t) ≡ Some (min (0 + length (all_parts w (t ∷ []))) m)
+begun w t held m = let x = some-tree (tree_at w t) held in rw x.1
+    (ap (λ n. let o : Option ℕ = Some (min n m) in o) (ap length (sym (append-nil (parts x.0))) ∙ sym (zero-add (length (parts x.0 ++ [])))))
 
 -- one node more counted, one left to count less
 pub counted-turn : (count left all next most : ℕ) → next ≡ min (count + 1) most → all ≡ left + 1 → min (count + all) most ≡ min (next + left) most

@@ -1,5 +1,6 @@
 -- What writes one after another do to known bytes.
-use Rattle.std.proofs.Common.{◌≡◌, ℕ, ◌+◌, ◌-◌, ◌≤◌, arith, List, [], ◌++◌, Option, Some, None, Result, Ok, Err, OnErr, length, take, drop, sym, ap, ◌∙◌, append_assoc, append-nil, take-add, take-append-drop}
+use Rattle.std.proofs.Common.{◌≡◌, ℕ, ◌+◌, ◌-◌, ◌≤◌, arith, List, [], ◌++◌, Option, Some, None, Result, Ok, Err, OnErr}
+use Rattle.std.proofs.Common.{length, take, drop, sym, ap, ◌∙◌, append_assoc, append-nil, take-add, take-append-drop}
 use Rattle.std.proofs.lemmas.List.{take_rest}
 use Rattle.std.specs.Io.KnownBytes.{Appends, Keeps}
 use Rattle.rx_text.specs.Written.{AppendsFront}
@@ -24,18 +25,21 @@ keeps_taken (Some a) None text n z h = absurd h
 keeps_taken (Some a) (Some b) text n z h = let none : n ≡ 0 = omega arith in let same : b ≡ a ++ [] = rw none at h in same ∙ append-nil a
 
 -- one more piece of a text was written
-pub appends_piece : (old between new : Option (List ℕ)) (text : List ℕ) (at n : ℕ) → Appends old between (take at text) → Appends between new (take n (take (length text - at) (drop at text))) → Appends old new (take (at + n) text)
+pub appends_piece : (old between new : Option (List ℕ)) (text : List ℕ) (at n : ℕ) → Appends old between (take at text)
+    → Appends between new (take n (take (length text - at) (drop at text))) → Appends old new (take (at + n) text)
 appends_piece None _ _ text at n h k = tt
 appends_piece (Some a) None _ text at n h k = absurd h
 appends_piece (Some a) (Some b) None text at n h k = absurd k
 appends_piece (Some a) (Some b) (Some c) text at n h k =
-    appends_both (Some a) (Some b) (Some c) (take at text) (take n (drop at text)) h (k ∙ ap (λ z. b ++ take n z) (take_rest text at)) ∙ ap (λ z. a ++ z) (sym (take-add at n text))
+    appends_both (Some a) (Some b) (Some c) (take at text) (take n (drop at text)) h (k ∙ ap (λ z. b ++ take n z) (take_rest text at))
+    ∙ ap (λ z. a ++ z) (sym (take-add at n text))
 
 -- the writer stopped within a text
 pub appends_front : (old new : Option (List ℕ)) (text : List ℕ) (at : ℕ) → Appends old new (take at text) → AppendsFront text old new
 appends_front old new text at h = (take at text, h, (drop at text, sym (take-append-drop at text)))
 
-pub keeps_front : (old between new : Option (List ℕ)) (text : List ℕ) (at : ℕ) → Appends old between (take at text) → Keeps between new → AppendsFront text old new
+pub keeps_front : (old between new : Option (List ℕ)) (text : List ℕ) (at : ℕ) → Appends old between (take at text) → Keeps between new
+    → AppendsFront text old new
 keeps_front None between new text at h k = appends_front None new text at tt
 keeps_front (Some a) None _ text at h k = absurd h
 keeps_front (Some a) (Some b) None text at h k = absurd k
@@ -57,19 +61,22 @@ on_err (Ok x) p = tt
 on_err (Err e) p = p
 
 -- a front of a piece in the middle, after what was written before
-pub front_within : (old between new : Option (List ℕ)) (whole xs ys zs : List ℕ) → whole ≡ xs ++ (ys ++ zs) → Appends old between xs → AppendsFront ys between new → AppendsFront whole old new
+pub front_within : (old between new : Option (List ℕ)) (whole xs ys zs : List ℕ) → whole ≡ xs ++ (ys ++ zs) → Appends old between xs
+    → AppendsFront ys between new → AppendsFront whole old new
 front_within old between new whole xs ys zs e h k =
     let f = front_before old new (xs ++ ys) zs (front_after old between new xs ys h k) in
     let same : whole ≡ (xs ++ ys) ++ zs = e ∙ sym (append_assoc xs ys zs) in
     rw same f
 
 -- a front of a text whose front was to be written
-pub err_front : {X E : Type 0} (r : Result X E) (old new : Option (List ℕ)) (whole xs rest : List ℕ) → whole ≡ xs ++ rest → OnErr r (AppendsFront xs old new) → OnErr r (AppendsFront whole old new)
+pub err_front : {X E : Type 0} (r : Result X E) (old new : Option (List ℕ)) (whole xs rest : List ℕ) → whole ≡ xs ++ rest
+    → OnErr r (AppendsFront xs old new) → OnErr r (AppendsFront whole old new)
 err_front (Ok x) old new whole xs rest e h = tt
 err_front (Err x) old new whole xs rest e h = rw e (front_before old new xs rest h)
 
 -- the same behind what was written before
-pub err_within : {X E : Type 0} (r : Result X E) (old between new : Option (List ℕ)) (whole xs ys zs : List ℕ) → whole ≡ xs ++ (ys ++ zs) → Appends old between xs → OnErr r (AppendsFront ys between new) → OnErr r (AppendsFront whole old new)
+pub err_within : {X E : Type 0} (r : Result X E) (old between new : Option (List ℕ)) (whole xs ys zs : List ℕ) → whole ≡ xs ++ (ys ++ zs)
+    → Appends old between xs → OnErr r (AppendsFront ys between new) → OnErr r (AppendsFront whole old new)
 err_within (Ok x) old between new whole xs ys zs e a h = tt
 err_within (Err x) old between new whole xs ys zs e a h = front_within old between new whole xs ys zs e a h
 

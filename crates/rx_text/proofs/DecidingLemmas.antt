@@ -26,13 +26,17 @@ pub record Decides (bytes : List ℕ) (s : State) (ps : List (ℕ × Token)) : T
   pub fault : fault_at ps s.0 s.1 ≡ fault_at (tokens bytes) machine.Due []
   pub tree : tree_of (run (map (λ t. t.1) ps) s.0 s.1) ≡ read (kinds bytes)
 
-pub goes_on : (bytes : List ℕ) (s r : State) (ps rest : List (ℕ × Token)) (t : Token) (at : ℕ) → Decides bytes s ps → ps ≡ (at, t) ∷ rest → step s.0 s.1 t ≡ Some r → Decides bytes r rest
+pub goes_on : (bytes : List ℕ) (s r : State) (ps rest : List (ℕ × Token)) (t : Token) (at : ℕ) → Decides bytes s ps → ps ≡ (at, t) ∷ rest
+    → step s.0 s.1 t ≡ Some r → Decides bytes r rest
 goes_on bytes s r ps rest t at d cut e =
-    let f : fault_at ps s.0 s.1 ≡ fault_at rest r.0 r.1 = ap (λ qs. fault_at qs s.0 s.1) cut ∙ ap (λ o. next_state (Some at) (λ n gs. fault_at rest n gs) o) e in
-    let k : tree_of (run (map (λ t. t.1) ps) s.0 s.1) ≡ tree_of (run (map (λ t. t.1) rest) r.0 r.1) = ap (λ qs. tree_of (run (map (λ t. t.1) qs) s.0 s.1)) cut ∙ ap (λ o. tree_of (next_state None (λ n gs. run (map (λ t. t.1) rest) n gs) o)) e in
+    let f : fault_at ps s.0 s.1 ≡ fault_at rest r.0 r.1 = ap (λ qs. fault_at qs s.0 s.1) cut
+    ∙ ap (λ o. next_state (Some at) (λ n gs. fault_at rest n gs) o) e in
+    let k : tree_of (run (map (λ t. t.1) ps) s.0 s.1) ≡ tree_of (run (map (λ t. t.1) rest) r.0 r.1) =
+    ap (λ qs. tree_of (run (map (λ t. t.1) qs) s.0 s.1)) cut ∙ ap (λ o. tree_of (next_state None (λ n gs. run (map (λ t. t.1) rest) n gs) o)) e in
     record { fault = sym f ∙ d.fault; tree = sym k ∙ d.tree }
 
-pub refused_at : (bytes : List ℕ) (s : State) (ps rest : List (ℕ × Token)) (t : Token) (at : ℕ) → Decides bytes s ps → ps ≡ (at, t) ∷ rest → step s.0 s.1 t ≡ None → IsPlace bytes at
+pub refused_at : (bytes : List ℕ) (s : State) (ps rest : List (ℕ × Token)) (t : Token) (at : ℕ) → Decides bytes s ps → ps ≡ (at, t) ∷ rest
+    → step s.0 s.1 t ≡ None → IsPlace bytes at
 refused_at bytes s ps rest t at d cut e =
     let f : fault_at ps s.0 s.1 ≡ Some at = ap (λ qs. fault_at qs s.0 s.1) cut ∙ ap (λ o. next_state (Some at) (λ n gs. fault_at rest n gs) o) e in
     is_place bytes at (sym d.fault ∙ f)
@@ -57,19 +61,22 @@ pub record Reads (bytes : List ℕ) (P : State → List (ℕ × Token) → Type 
 pub reads_on : (bytes : List ℕ) (P : State → List (ℕ × Token) → Type 0)
     → ((s r : State) (ps rest : List (ℕ × Token)) (t : Token) (at : ℕ) → P s ps → ps ≡ (at, t) ∷ rest → step s.0 s.1 t ≡ Some r → P r rest)
     → (from : ℕ) (d e : Due) (r after : Reader) (x : Lexeme) → Reads bytes P from d r → (x.kind ≡ End → ⊥)
-    → x.to ≤ length r.bytes.now → Advances x.kind from x.to → tokens_after r.bytes.now from ≡ (x.at, token_of r.bytes.now x.kind) ∷ behind r.bytes.now x.kind x.to
+    → x.to ≤ length r.bytes.now → Advances x.kind from x.to → tokens_after r.bytes.now from ≡ (x.at, token_of r.bytes.now x.kind) ∷ behind r.bytes.now
+    x.kind x.to
     → Steps d r x.kind (Ok e) after → after.bytes.now ≡ r.bytes.now → node_count e after ≤ node_count d r + 1 → Reads bytes P x.to e after
 reads_on bytes P goes from d e r after x h more within advances first moves same few =
     let m = rw (h.same) at moves in
     let first_cut = rw (h.same) at first in
-    let cut : tokens_after bytes from ≡ (x.at, token_of bytes x.kind) ∷ tokens_after bytes x.to = first_cut ∙ ap (λ (ps : List (ℕ × Token)). (x.at, token_of bytes x.kind) ∷ ps) (behind_is bytes x.kind x.to more) in
+    let cut : tokens_after bytes from ≡ (x.at, token_of bytes x.kind) ∷ tokens_after bytes x.to =
+    first_cut ∙ ap (λ (ps : List (ℕ × Token)). (x.at, token_of bytes x.kind) ∷ ps) (behind_is bytes x.kind x.to more) in
     let far : from < x.to = takes_byte x.kind from x.to more advances in
     record {
       within = rw (h.same) at within;
       same = same ∙ h.same;
       state = m.1;
       few = omega (arith, few, h.few);
-      follows = goes (state_of bytes d r.frames.items r.nodes.items) (state_of bytes e after.frames.items after.nodes.items) (tokens_after bytes from) (tokens_after bytes x.to) (token_of bytes x.kind) x.at h.follows cut m.0;
+      follows = goes (state_of bytes d r.frames.items r.nodes.items) (state_of bytes e after.frames.items after.nodes.items) (tokens_after bytes from)
+          (tokens_after bytes x.to) (token_of bytes x.kind) x.at h.follows cut m.0;
     }
 
 -- the end is read behind a whole term alone
@@ -108,7 +115,8 @@ one_left [] t e h = absurd (omega arith)
 one_left (u ∷ []) t e h = ap (λ x. x ∷ []) h
 one_left (u ∷ v ∷ made) t e h = absurd (omega arith)
 
-pub is_read : (bytes : List ℕ) (s : State) (ps : List (ℕ × Token)) (at : ℕ) (d : Due) (frames : List Frame) (ns : List Node) → Decides bytes s ps → ps ≡ (at, token.End) ∷ []
+pub is_read : (bytes : List ℕ) (s : State) (ps : List (ℕ × Token)) (at : ℕ) (d : Due) (frames : List Frame) (ns : List Node) → Decides bytes s ps
+    → ps ≡ (at, token.End) ∷ []
     → step s.0 s.1 token.End ≡ Some (state_of bytes d frames ns) → IsState bytes d frames ns → AreRead bytes ns
 is_read bytes s ps at d frames ns decides cut e state =
     let made : List Tree = made_of bytes ns in
@@ -120,5 +128,6 @@ is_read bytes s ps at d frames ns decides cut e state =
     let count : total (reverse frames) + 1 ≡ length made = rw (due_is.0) at state.stack.counted in
     let one : length made ≡ 1 = sym count ∙ ap (λ fs. total fs + 1) closed in
     let read_is : read (kinds bytes) ≡ Some t
-    = sym decides.tree ∙ ap (λ qs. tree_of (run (map (λ t. t.1) qs) s.0 s.1)) cut ∙ ap (λ o. tree_of (next_state None (λ n gs. run [] n gs) o)) (e ∙ ap (λ (x : State). Some x) ended.1) in
+    = sym decides.tree ∙ ap (λ qs. tree_of (run (map (λ t. t.1) qs) s.0 s.1)) cut
+    ∙ ap (λ o. tree_of (next_state None (λ n gs. run [] n gs) o)) (e ∙ ap (λ (x : State). Some x) ended.1) in
     (t, read_spelled (kinds bytes) t read_is, record { alone = one_left made t one due_is.1; enough = state.stack.enough; names = state.stack.names })

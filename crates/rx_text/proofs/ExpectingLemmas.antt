@@ -1,5 +1,6 @@
 -- What may stand at the place of a fault is what the machine takes there.
-use Rattle.std.proofs.Common.{◌≡◌, ◌↔◌, ℕ, ℤ, pos, Bool, true, false, List, [], ◌∷◌, ◌++◌, map, reverse, length, Option, Some, None, is_some, refl, sym, ap, ◌∙◌, append_assoc, ◌<◌, ◌-◌, get_or, Contains, not, inl, inr, arith}
+use Rattle.std.proofs.Common.{◌≡◌, ◌↔◌, ℕ, ℤ, pos, Bool, true, false, List, [], ◌∷◌, ◌++◌, map, reverse, length, Option, Some}
+use Rattle.std.proofs.Common.{None, is_some, refl, sym, ap, ◌∙◌, append_assoc, ◌<◌, ◌-◌, get_or, Contains, not, inl, inr, arith}
 use Rattle.std.proofs.lemmas.List.{append-nil, map-append, length-reverse, get_or-reverse}
 use Rattle.std.specs.List.{filter}
 use Rattle.std.proofs.lemmas.Bool.{not-true}
@@ -14,7 +15,8 @@ use Rattle.rx_text.specs.Machine.{Mode, State, start, close, first, whole, body,
 use Rattle.rx_text.specs.Reader.{frame_of}
 use Rattle.rx_text.specs.Expected.{IsOf, MayStand, before, sample, is_taken}
 use Rattle.rx_text.specs.declared.token_kind.TokenKind.{TokenKind}
-use Rattle.rx_text.specs.declared.token_kind.TokenKind.TheVariants.{Integer, Name, Open, Close, OpenBracket, CloseBracket, OpenBrace, CloseBrace, Less, Greater, Comma, End}
+use Rattle.rx_text.specs.declared.token_kind.TokenKind.TheVariants.{Integer, Name, Open, Close, OpenBracket, CloseBracket}
+use Rattle.rx_text.specs.declared.token_kind.TokenKind.TheVariants.{OpenBrace, CloseBrace, Less, Greater, Comma, End}
 use Rattle.rx_text.specs.declared.reader.Opening.{Opening}
 use Rattle.rx_text.specs.declared.reader.Opening.TheVariants as opening
 use Rattle.rx_text.proofs.DecidingLemmas.{step_ended, some_same}
@@ -55,7 +57,8 @@ by_kind m fs Comma t e = ap (λ (u : Token). is_some (step m fs u)) e
 by_kind m fs End t e = ap (λ (u : Token). is_some (step m fs u)) e
 
 -- a name may be a whole term, and so may a body
-pub name_ends : (name : List ℕ) (quoted : Bool) (fs : List machine.Frame) (k : TokenKind) → (k ≡ Open → ⊥) → (k ≡ OpenBrace → ⊥) → is_taken (after_name name quoted fs) k ≡ is_taken (whole (annotated (Appl name quoted none none) none) fs) k
+pub name_ends : (name : List ℕ) (quoted : Bool) (fs : List machine.Frame) (k : TokenKind) → (k ≡ Open → ⊥) → (k ≡ OpenBrace → ⊥)
+    → is_taken (after_name name quoted fs) k ≡ is_taken (whole (annotated (Appl name quoted none none) none) fs) k
 name_ends name quoted fs Open h i = absurd (h refl)
 name_ends name quoted fs OpenBrace h i = absurd (i refl)
 name_ends name quoted fs k h i = refl
@@ -65,7 +68,8 @@ body_ends u fs OpenBrace h = absurd (h refl)
 body_ends u fs k h = refl
 
 -- an item may be the last one
-pub item_ends : (bytes : List ℕ) (o : Opening) (u : Tree) (n : ℕ) (made : List Tree) (fs : List machine.Frame) (k : TokenKind) → (o ≡ opening.Placeholder → ⊥) → (k ≡ Comma → ⊥)
+pub item_ends : (bytes : List ℕ) (o : Opening) (u : Tree) (n : ℕ) (made : List Tree) (fs : List machine.Frame) (k : TokenKind)
+    → (o ≡ opening.Placeholder → ⊥) → (k ≡ Comma → ⊥)
     → is_taken (whole u (frame_of bytes o n made ∷ fs)) k ≡ is_taken (close (frame_of bytes o n made) fs) k
 item_ends bytes opening.Placeholder u n made fs k h i = absurd (h refl)
 item_ends bytes o u n made fs Comma h i = absurd (i refl)
@@ -74,7 +78,8 @@ item_ends bytes opening.List u n made fs k h i = refl
 item_ends bytes opening.Annotations u n made fs k h i = refl
 
 -- behind an opening mark stands one of three marks, or a term
-pub item_begins : (f : machine.Frame) (fs : List machine.Frame) (k : TokenKind) → (k ≡ Close → ⊥) → (k ≡ CloseBracket → ⊥) → (k ≡ CloseBrace → ⊥) → is_taken (first f fs) k ≡ is_taken (start (f ∷ fs)) k
+pub item_begins : (f : machine.Frame) (fs : List machine.Frame) (k : TokenKind) → (k ≡ Close → ⊥) → (k ≡ CloseBracket → ⊥) → (k ≡ CloseBrace → ⊥)
+    → is_taken (first f fs) k ≡ is_taken (start (f ∷ fs)) k
 item_begins f fs Close h i j = absurd (h refl)
 item_begins f fs CloseBracket h i j = absurd (i refl)
 item_begins f fs CloseBrace h i j = absurd (j refl)
@@ -95,7 +100,8 @@ sample_is Comma = refl
 sample_is End = refl
 
 -- more tokens go on from the state that the first ones lead to
-run_by : (ts us : List Token) (s : State) (o : Option State) → ((n : Mode) (gs : List machine.Frame) → run ts n gs ≡ Some s → run (ts ++ us) n gs ≡ run us s.0 s.1)
+run_by : (ts us : List Token) (s : State) (o : Option State)
+    → ((n : Mode) (gs : List machine.Frame) → run ts n gs ≡ Some s → run (ts ++ us) n gs ≡ run us s.0 s.1)
     → next_state None (λ n gs. run ts n gs) o ≡ Some s → next_state None (λ n gs. run (ts ++ us) n gs) o ≡ run us s.0 s.1
 run_by ts us s None go e = absurd (cc e)
 run_by ts us s (Some r) go e = go r.0 r.1 e
@@ -109,7 +115,8 @@ one_token t s None e = rw e refl
 one_token t s (Some r) e = rw e refl
 
 -- tokens that are taken, and one more
-one_more : (us : List Token) (s : State) (t : Token) (o : Option State) → run us machine.Due [] ≡ Some s → step s.0 s.1 t ≡ o → run (us ++ t ∷ []) machine.Due [] ≡ o
+one_more : (us : List Token) (s : State) (t : Token) (o : Option State) → run us machine.Due [] ≡ Some s → step s.0 s.1 t ≡ o
+    → run (us ++ t ∷ []) machine.Due [] ≡ o
 one_more us s t o e f = run_on us (t ∷ []) machine.Due [] s e ∙ one_token t s o f
 
 some_begins : (us : List Token) (o : Option State) → run us machine.Due [] ≡ o → is_some o ≡ true → Begins us
@@ -120,7 +127,8 @@ some_begins us (Some s) e h = run_begins us s e
 none_begins : (us : List Token) → run us machine.Due [] ≡ None → ¬ Begins us
 none_begins us e b = let k = begins_run us b in absurd (cc (e, k.1))
 
-begins_some : (us : List Token) (s : State) (t : Token) (o : Option State) → run us machine.Due [] ≡ Some s → step s.0 s.1 t ≡ o → Begins (us ++ t ∷ []) → is_some o ≡ true
+begins_some : (us : List Token) (s : State) (t : Token) (o : Option State) → run us machine.Due [] ≡ Some s → step s.0 s.1 t ≡ o
+    → Begins (us ++ t ∷ []) → is_some o ≡ true
 begins_some us s t None e f b = absurd (none_begins (us ++ t ∷ []) (one_more us s t None e f) b)
 begins_some us s t (Some r) e f b = refl
 
@@ -142,11 +150,13 @@ pub record Reached (bytes : List ℕ) (s : State) (ps : List (ℕ × Token)) : T
   pub led : run (bare front) machine.Due [] ≡ Some s
 
 -- a token that is taken leads on
-pub reached_next : (bytes : List ℕ) (s r : State) (ps rest : List (ℕ × Token)) (t : Token) (at : ℕ) → Reached bytes s ps → ps ≡ (at, t) ∷ rest → step s.0 s.1 t ≡ Some r → Reached bytes r rest
+pub reached_next : (bytes : List ℕ) (s r : State) (ps rest : List (ℕ × Token)) (t : Token) (at : ℕ) → Reached bytes s ps → ps ≡ (at, t) ∷ rest
+    → step s.0 s.1 t ≡ Some r → Reached bytes r rest
 reached_next bytes s r ps rest t at h e f = record {
   front = h.front ++ (at, t) ∷ [];
   cut = h.cut ∙ ap (λ (qs : List (ℕ × Token)). h.front ++ qs) e ∙ sym (append_assoc h.front ((at, t) ∷ []) rest);
-  led = ap (λ (us : List Token). run us machine.Due []) (map-append (λ (p : ℕ × Token). p.1) h.front ((at, t) ∷ [])) ∙ one_more (bare h.front) s t (Some r) h.led f;
+  led = ap (λ (us : List Token). run us machine.Due []) (map-append (λ (p : ℕ × Token). p.1) h.front ((at, t) ∷ []))
+      ∙ one_more (bare h.front) s t (Some r) h.led f;
 }
 
 -- a state is the one behind the tokens before the fault
@@ -154,7 +164,8 @@ abbrev pub IsFaultState : List ℕ → State → Type 0
 IsFaultState bytes s = (at : ℕ) (place : IsPlace bytes at) → run (before bytes at place) machine.Due [] ≡ Some s
 
 -- a token that is refused is at the fault's place
-pub refused_state : (bytes : List ℕ) (s : State) (ps rest : List (ℕ × Token)) (t : Token) (at : ℕ) → Reached bytes s ps → ps ≡ (at, t) ∷ rest → step s.0 s.1 t ≡ None → IsFaultState bytes s
+pub refused_state : (bytes : List ℕ) (s : State) (ps rest : List (ℕ × Token)) (t : Token) (at : ℕ) → Reached bytes s ps → ps ≡ (at, t) ∷ rest
+    → step s.0 s.1 t ≡ None → IsFaultState bytes s
 refused_state bytes s ps rest t at h e f x place =
     let here : IsPlace bytes at = (
       h.front,
@@ -167,12 +178,14 @@ refused_state bytes s ps rest t at h e f x place =
     ap (λ (qs : List (ℕ × Token)). run (bare qs) machine.Due []) (same_before bytes x at place here) ∙ h.led
 
 -- where the end is taken, there is no fault
-pub ended_state : (bytes : List ℕ) (s r : State) (ps : List (ℕ × Token)) (at : ℕ) → Reached bytes s ps → ps ≡ (at, tokens.End) ∷ [] → step s.0 s.1 tokens.End ≡ Some r → IsFaultState bytes r
+pub ended_state : (bytes : List ℕ) (s r : State) (ps : List (ℕ × Token)) (at : ℕ) → Reached bytes s ps → ps ≡ (at, tokens.End) ∷ []
+    → step s.0 s.1 tokens.End ≡ Some r → IsFaultState bytes r
 ended_state bytes s r ps at h e f x place =
     let last = reached_next bytes s r ps [] tokens.End at h e f in
     let ended = step_ended s.0 s.1 r f in
     let all : tokens.tokens bytes ≡ last.front = last.cut ∙ append-nil last.front in
-    let done : run (kinds bytes) machine.Due [] ≡ Some (machine.Done ended.0, []) = ap (λ (qs : List (ℕ × Token)). run (bare qs) machine.Due []) all ∙ last.led ∙ ap (λ (q : State). Some q) ended.1 in
+    let done : run (kinds bytes) machine.Due [] ≡ Some (machine.Done ended.0, []) =
+    ap (λ (qs : List (ℕ × Token)). run (bare qs) machine.Due []) all ∙ last.led ∙ ap (λ (q : State). Some q) ended.1 in
     let is_read : read (kinds bytes) ≡ Some ended.0 = ap tree_of done in
     absurd (not_both bytes ended.0 x (read_spelled (kinds bytes) ended.0 is_read) place)
 
@@ -202,10 +215,11 @@ listed End = (11, omega arith, refl)
 pub kinds_passing : (p : TokenKind → Bool) (k : TokenKind) → Contains (filter p all_kinds) k ↔ (p k ≡ true)
 kinds_passing p k = (
   All-contains (λ x. p x ≡ true) (filter p all_kinds) k (filter_passes p all_kinds),
-  λ e. elim (Contains-append_cases (filter p all_kinds) (filter q all_kinds) k (Contains-permutation all_kinds _ k (IsPermutation-filter_both p q (λ x. refl) all_kinds) (listed k))) [
-    | inl c ↦ c
-    | inr c ↦ let fails = not-true (p k) (All-contains (λ x. q x ≡ true) (filter q all_kinds) k (filter_passes q all_kinds) c) in absurd (cc (fails, e))
-  ],
+  λ e. elim (Contains-append_cases (filter p all_kinds) (filter q all_kinds) k
+      (Contains-permutation all_kinds _ k (IsPermutation-filter_both p q (λ x. refl) all_kinds) (listed k))) [
+        | inl c ↦ c
+        | inr c ↦ let fails = not-true (p k) (All-contains (λ x. q x ≡ true) (filter q all_kinds) k (filter_passes q all_kinds) c) in absurd (cc (fails, e))
+      ],
 )
   where
     q : TokenKind → Bool

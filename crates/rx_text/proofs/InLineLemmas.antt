@@ -1,5 +1,6 @@
 -- A printed text has bytes from 32 to 126 alone, and no `!` in front.
-use Rattle.std.proofs.Common.{◌≡◌, ◌≢◌, ℕ, ◌+◌, ◌/◌, ◌%◌, ◌<◌, ◌≤◌, ◌^◌, suc, true, false, Bool, ◌&&◌, ◌||◌, ◌==◌, not, cond, List, [], ◌∷◌, ◌++◌, refl, pos, negsuc, ℤ, inl, inr, arith}
+use Rattle.std.proofs.Common.{◌≡◌, ◌≢◌, ℕ, ◌+◌, ◌/◌, ◌%◌, ◌<◌, ◌≤◌, ◌^◌, suc, true, false, Bool, ◌&&◌, ◌||◌}
+use Rattle.std.proofs.Common.{◌==◌, not, cond, List, [], ◌∷◌, ◌++◌, refl, pos, negsuc, ℤ, inl, inr, arith}
 use Rattle.std.specs.Prelude.{nat_le, nat_lt, flat_map, decimal, codes, slice_index}
 use Rattle.std.specs.Fmt.{signed_decimal}
 use Rattle.std.specs.List.{list_all, list_any, AllByRecursion}
@@ -63,7 +64,8 @@ continuing_seen b h =
     elim (or_cases (starts_name b || is_digit b) (list_any (λ c. b == c) (codes "-+*$.")) h) [
       | inl k ↦ elim (or_cases (starts_name b) (is_digit b) k) [
         | inl l ↦ letter_seen b l
-        | inr l ↦ let m = and_parts (nat_le 48 b) (nat_le b 57) l in let x = leb-true 48 b m.0 in let y = leb-true b 57 m.1 in seen_between b (omega (arith, x)) (omega (arith, y))
+        | inr l ↦ let m = and_parts (nat_le 48 b) (nat_le b 57) l in let x = leb-true 48 b m.0 in let y = leb-true b 57 m.1 in
+            seen_between b (omega (arith, x)) (omega (arith, y))
       ]
       | inr k ↦ one_of_seen b (codes "-+*$.") refl k
     ]
@@ -73,7 +75,11 @@ name_seen [] h = refl
 name_seen (b ∷ bs) h = let k = and_parts (continues_name b) (list_all continues_name bs) h in rw (continuing_seen b k.0, name_seen bs k.1) refl
 
 octal_seen : (b : ℕ) → b < 256 → list_all seen (octal_text b) ≡ true
-octal_seen b h = rw (seen_between (48 + b / 64) (omega arith) (omega arith), seen_between (48 + b / 8 % 8) (omega arith) (omega arith), seen_between (48 + b % 8) (omega arith) (omega arith)) refl
+octal_seen b h = rw (
+  seen_between (48 + b / 64) (omega arith) (omega arith),
+  seen_between (48 + b / 8 % 8) (omega arith) (omega arith),
+  seen_between (48 + b % 8) (omega arith) (omega arith),
+) refl
 
 chosen_seen : (c : Bool) (xs ys : List ℕ) → (c ≡ true → list_all seen xs ≡ true) → (c ≡ false → list_all seen ys ≡ true) → list_all seen (cond c xs ys) ≡ true
 chosen_seen true xs ys h k = h refl
@@ -81,7 +87,8 @@ chosen_seen false xs ys h k = k refl
 
 quoted_byte_seen : (b : ℕ) → b < 256 → list_all seen (quoted_byte b) ≡ true
 quoted_byte_seen b h =
-    chosen_seen (b == 34 || b == 92) _ _ (λ e. elim (or_cases (b == 34) (b == 92) e) [ inl k ↦ rw ((Decides-eqb b 34).0 k) refl | inr k ↦ rw ((Decides-eqb b 92).0 k) refl ]) (λ _.
+    chosen_seen (b == 34 || b == 92) _ _ (λ e. elim (or_cases (b == 34) (b == 92) e)
+    [ inl k ↦ rw ((Decides-eqb b 34).0 k) refl | inr k ↦ rw ((Decides-eqb b 92).0 k) refl ]) (λ _.
     chosen_seen (b == 10) _ _ (λ _. refl) (λ _.
     chosen_seen (b == 9) _ _ (λ _. refl) (λ _.
     chosen_seen (b == 13) _ _ (λ _. refl) (λ _.
@@ -89,7 +96,8 @@ quoted_byte_seen b h =
 
 quoted_seen : (name : List ℕ) → list_all (λ b. nat_lt b 256) name ≡ true → list_all seen (flat_map quoted_byte name) ≡ true
 quoted_seen [] h = refl
-quoted_seen (b ∷ bs) h = let k = and_parts (nat_lt b 256) (list_all (λ b. nat_lt b 256) bs) h in both_seen (quoted_byte b) (flat_map quoted_byte bs) (quoted_byte_seen b (leb-true (suc b) 256 k.0)) (quoted_seen bs k.1)
+quoted_seen (b ∷ bs) h = let k = and_parts (nat_lt b 256) (list_all (λ b. nat_lt b 256) bs) h in
+    both_seen (quoted_byte b) (flat_map quoted_byte bs) (quoted_byte_seen b (leb-true (suc b) 256 k.0)) (quoted_seen bs k.1)
 
 name_text_seen : (name : List ℕ) (quoted : Bool) → is_name name quoted ≡ true → list_all seen (name_text name quoted) ≡ true
 name_text_seen name true h = both_seen (flat_map quoted_byte name) (34 ∷ []) (quoted_seen name (and_parts (list_all (λ b. nat_lt b 256) name) true h).0) refl
@@ -100,7 +108,8 @@ name_text_seen (b ∷ bs) false h =
       | inr k ↦ absurd (cc k)
     ]
 
-enclosed_seen : (left : ℕ) (ts : Trees) (text : List ℕ) (right : ℕ) (empty : List ℕ) → seen left ≡ true → seen right ≡ true → list_all seen text ≡ true → list_all seen empty ≡ true → list_all seen (enclosed left ts text right empty) ≡ true
+enclosed_seen : (left : ℕ) (ts : Trees) (text : List ℕ) (right : ℕ) (empty : List ℕ) → seen left ≡ true → seen right ≡ true
+    → list_all seen text ≡ true → list_all seen empty ≡ true → list_all seen (enclosed left ts text right empty) ≡ true
 enclosed_seen left none text right empty h k l m = m
 enclosed_seen left (more t ts) text right empty h k l m = rw h (both_seen text (right ∷ []) l (rw k refl))
 
@@ -116,7 +125,8 @@ mutual
       let k = and_parts (is_name name quoted && are_trees args) (are_trees anns) h in
       let l = and_parts (is_name name quoted) (are_trees args) k.0 in
       both_seen (name_text name quoted ++ enclosed 40 args (canon_all args) 41 (no_arguments name quoted)) _
-      (both_seen (name_text name quoted) _ (name_text_seen name quoted l.0) (enclosed_seen 40 args (canon_all args) 41 (no_arguments name quoted) refl refl (canon_all_seen args l.1) (no_arguments_seen name quoted)))
+      (both_seen (name_text name quoted) _ (name_text_seen name quoted l.0)
+      (enclosed_seen 40 args (canon_all args) 41 (no_arguments name quoted) refl refl (canon_all_seen args l.1) (no_arguments_seen name quoted)))
       (enclosed_seen 123 anns (canon_all anns) 125 [] refl refl (canon_all_seen anns k.1) refl)
   canon_seen (Items items anns) h =
       let k = and_parts (are_trees items) (are_trees anns) h in
@@ -127,11 +137,13 @@ mutual
 
   canon_all_seen : (ts : Trees) → are_trees ts ≡ true → list_all seen (canon_all ts) ≡ true
   canon_all_seen none h = refl
-  canon_all_seen (more t ts) h = let k = and_parts (is_tree t) (are_trees ts) h in both_seen (canon t) (canon_others ts) (canon_seen t k.0) (canon_others_seen ts k.1)
+  canon_all_seen (more t ts) h = let k = and_parts (is_tree t) (are_trees ts) h in
+      both_seen (canon t) (canon_others ts) (canon_seen t k.0) (canon_others_seen ts k.1)
 
   canon_others_seen : (ts : Trees) → are_trees ts ≡ true → list_all seen (canon_others ts) ≡ true
   canon_others_seen none h = refl
-  canon_others_seen (more t ts) h = let k = and_parts (is_tree t) (are_trees ts) h in both_seen (canon t) (canon_others ts) (canon_seen t k.0) (canon_others_seen ts k.1)
+  canon_others_seen (more t ts) h = let k = and_parts (is_tree t) (are_trees ts) h in
+      both_seen (canon t) (canon_others ts) (canon_seen t k.0) (canon_others_seen ts k.1)
 
 no_controls : (xs : List ℕ) → list_all seen xs ≡ true → AllByRecursion (λ b. (b ≢ 10) × (b ≢ 9)) xs
 no_controls [] h = tt
@@ -162,7 +174,8 @@ first_name (b ∷ bs) false args anns h e =
 first_canon : (t : Tree) → is_tree t ≡ true → slice_index (canon t) 0 ≢ 33
 first_canon (Int z anns) h e = first_integer z _ (and_parts (is_i32 z) (are_trees anns) h).0 e
 first_canon (Appl name quoted args anns) h e =
-    first_name name quoted args anns (and_parts (is_name name quoted) (are_trees args) (and_parts (is_name name quoted && are_trees args) (are_trees anns) h).0).0 e
+    first_name name quoted args anns (and_parts (is_name name quoted) (are_trees args)
+    (and_parts (is_name name quoted && are_trees args) (are_trees anns) h).0).0 e
 first_canon (Items items anns) h e = omega (arith, e)
 first_canon (Hole inner anns) h e = omega (arith, e)
 

@@ -1,5 +1,6 @@
 -- What is left to do after a front of a tree's text was written.
-use Rattle.std.proofs.Common.{◌≡◌, ℕ, ◌+◌, ◌<◌, Bool, List, [], ◌∷◌, ◌++◌, Option, Some, None, IsSome, IfSome, Result, Ok, Err, OnOk, refl, sym, ap, ◌∙◌, append_assoc, append-nil, arith}
+use Rattle.std.proofs.Common.{◌≡◌, ℕ, ◌+◌, ◌<◌, Bool, List, [], ◌∷◌, ◌++◌, Option, Some, None, IsSome, IfSome}
+use Rattle.std.proofs.Common.{Result, Ok, Err, OnOk, refl, sym, ap, ◌∙◌, append_assoc, append-nil, arith}
 use Rattle.std.specs.List.{AllByRecursion}
 use Rattle.std.specs.Io.KnownBytes.{Appends}
 use Rattle.std.specs.Option.{option_and_then}
@@ -21,18 +22,40 @@ use Rattle.rx_text.specs.declared.writer.Job.TheVariants as job
 -- ---- in general
 
 -- nothing is left
-pub leaves_none : (w : Store) (whole : List ℕ) (room : ℕ) (old new : Option (List ℕ)) (before : List Job) → 0 < room → Appends old new whole → Leaves w whole room old new before before
-leaves_none w whole room old new before h a = record { front = whole; added = []; grown = sym (append-nil before); written = a; text = sym (append-nil whole); jobs = tt; less = h }
+pub leaves_none : (w : Store) (whole : List ℕ) (room : ℕ) (old new : Option (List ℕ)) (before : List Job) → 0 < room → Appends old new whole
+    → Leaves w whole room old new before before
+leaves_none w whole room old new before h a = record {
+  front = whole;
+  added = [];
+  grown = sym (append-nil before);
+  written = a;
+  text =
+      sym (append-nil whole);
+  jobs = tt;
+  less = h;
+}
 
 -- two jobs are left
-pub leaves_two : (w : Store) (whole front : List ℕ) (room : ℕ) (old new : Option (List ℕ)) (before after : List Job) (j k : Job) → after ≡ before ++ j ∷ k ∷ [] → IsJob w j → IsJob w k → whole ≡ front ++ (job_text w k ++ job_text w j) → job_size w j + job_size w k < room
+pub leaves_two : (w : Store) (whole front : List ℕ) (room : ℕ) (old new : Option (List ℕ)) (before after : List Job) (j k : Job)
+    → after ≡ before ++ j ∷ k ∷ [] → IsJob w j → IsJob w k → whole ≡ front ++ (job_text w k ++ job_text w j) → job_size w j + job_size w k < room
     → Appends old new front → Leaves w whole room old new before after
-leaves_two w whole front room old new before after j k e p q text less a = record { front = front; added = j ∷ k ∷ []; grown = e; written = a; text = text; jobs = (p, (q, tt)); less = omega (arith, less) }
+leaves_two w whole front room old new before after j k e p q text less a =
+    record { front = front; added = j ∷ k ∷ []; grown = e; written = a; text = text; jobs = (p, (q, tt)); less = omega (arith, less) }
 
 -- jobs that are added, with nothing written
-pub adds_leaves : (r : Result (Unit {0}) WriteFault) (w : Store) (whole : List ℕ) (room : ℕ) (old new : Option (List ℕ)) (before after : List Job) → OnOk r (Adds w whole room before after) → Appends old new [] → OnOk r (Leaves w whole room old new before after)
+pub adds_leaves : (r : Result (Unit {0}) WriteFault) (w : Store) (whole : List ℕ) (room : ℕ) (old new : Option (List ℕ)) (before after : List Job)
+    → OnOk r (Adds w whole room before after) → Appends old new [] → OnOk r (Leaves w whole room old new before after)
 adds_leaves (Err e) w whole room old new before after h a = tt
-adds_leaves (Ok u) w whole room old new before after h a = record { front = []; added = h.added; grown = h.grown; written = a; text = h.text; jobs = h.jobs; less = h.less }
+adds_leaves (Ok u) w whole room old new before after h a = record {
+  front = [];
+  added = h.added;
+  grown = h.grown;
+  written = a;
+  text = h.text;
+  jobs =
+      h.jobs;
+  less = h.less;
+}
 
 pub jobs_text-append : (w : Store) (js ks : List Job) → jobs_text w (js ++ ks) ≡ jobs_text w ks ++ jobs_text w js
 jobs_text-append w [] ks = sym (append-nil (jobs_text w ks))
@@ -43,7 +66,8 @@ jobs_size-append w [] ks = omega arith
 jobs_size-append w (j ∷ js) ks = omega (arith, jobs_size-append w js ks)
 
 -- a job was left before
-pub leaves_after : (w : Store) (whole inside : List ℕ) (room inner : ℕ) (old new : Option (List ℕ)) (before between after : List Job) (j : Job) → between ≡ before ++ j ∷ [] → IsJob w j → whole ≡ inside ++ job_text w j → inner + job_size w j ≡ room
+pub leaves_after : (w : Store) (whole inside : List ℕ) (room inner : ℕ) (old new : Option (List ℕ)) (before between after : List Job) (j : Job)
+    → between ≡ before ++ j ∷ [] → IsJob w j → whole ≡ inside ++ job_text w j → inner + job_size w j ≡ room
     → Leaves w inside inner old new between after → Leaves w whole room old new before after
 leaves_after w whole inside room inner old new before between after j e p text left h =
     let less = h.less in
@@ -68,7 +92,8 @@ head_is w t head h e = let here = h.here in rw here at e
 tail_is : (w : Store) (t tail : Term) (h : HasCons w t) → tree_at w tail ≡ part_at tail_of w t → tree_at w tail ≡ Some (list_of h.rest)
 tail_is w t tail h e = let here = h.here in rw here at e
 
-module _ (w : Store) (t head tail : Term) (h : HasCons w t) (at_head : tree_at w head ≡ part_at head_of w t) (at_tail : tree_at w tail ≡ part_at tail_of w t) where
+module _ (w : Store) (t head tail : Term) (h : HasCons w t) (at_head : tree_at w head ≡ part_at head_of w t)
+    (at_tail : tree_at w tail ≡ part_at tail_of w t) where
   first_is : tree_at w head ≡ Some h.first
   first_is = head_is w t head h at_head
 
@@ -79,17 +104,20 @@ module _ (w : Store) (t head tail : Term) (h : HasCons w t) (at_head : tree_at w
   others_text = let here = h.here in let f = first_is in let r = rest_is in rw (here, f, r) refl
 
 -- a list with no first item
-no_items : (w : Store) (t : Term) (k : Kind) → HasKind w t k → IsList (tree_at w t) → (k ≡ kind.Cons → ⊥) → (anns : Trees) × (tree_at w t ≡ Some (Items none anns))
+no_items : (w : Store) (t : Term) (k : Kind) → HasKind w t k → IsList (tree_at w t) → (k ≡ kind.Cons → ⊥)
+    → (anns : Trees) × (tree_at w t ≡ Some (Items none anns))
 no_items w t (kind.Int z) h l n = absurd (rw h.here at l)
 no_items w t kind.Nil h l n = (h.anns, h.here)
 no_items w t kind.Cons h l n = absurd (n refl)
 no_items w t (kind.Appl s) h l n = absurd (rw h.here at l)
 no_items w t kind.Hole h l n = absurd (rw h.here at l)
 
-no_items_text : (w : Store) (t : Term) (k : Kind) → HasKind w t k → IsList (tree_at w t) → (k ≡ kind.Cons → ⊥) → (job_text w (job.Others t) ≡ []) × (job_size w (job.Others t) ≡ 1)
+no_items_text : (w : Store) (t : Term) (k : Kind) → HasKind w t k → IsList (tree_at w t) → (k ≡ kind.Cons → ⊥)
+    → (job_text w (job.Others t) ≡ []) × (job_size w (job.Others t) ≡ 1)
 no_items_text w t k h l n = let e = no_items w t k h l n in let here = e.1 in (rw here refl, rw here refl)
 
-pub nothing_left : (w : Store) (t : Term) (k : Kind) (old : Option (List ℕ)) (before : List Job) → HasKind w t k → IsList (tree_at w t) → (k ≡ kind.Cons → ⊥) → Leaves w (job_text w (job.Others t)) (job_size w (job.Others t)) old old before before
+pub nothing_left : (w : Store) (t : Term) (k : Kind) (old : Option (List ℕ)) (before : List Job) → HasKind w t k → IsList (tree_at w t)
+    → (k ≡ kind.Cons → ⊥) → Leaves w (job_text w (job.Others t)) (job_size w (job.Others t)) old old before before
 nothing_left w t k old before h l n =
     let e = no_items_text w t k h l n in
     let room : 0 < job_size w (job.Others t) = rw (e.1) (omega arith) in
@@ -97,7 +125,8 @@ nothing_left w t k old before h l n =
 
 -- ---- applications
 
-module _ (w : Store) (t : Term) (s : Symbol) (h : HasAppl w t s) (name : List ℕ) (quoted : Bool) (named : name_at w s ≡ Some name) (flag : quoted_at w s ≡ Some quoted) where
+module _ (w : Store) (t : Term) (s : Symbol) (h : HasAppl w t s) (name : List ℕ) (quoted : Bool) (named : name_at w s ≡ Some name)
+    (flag : quoted_at w s ≡ Some quoted) where
   name_is : h.name ≡ name
   name_is = let sig = h.symbol in let e = rw sig at named in cc e
 
@@ -130,10 +159,12 @@ module _ (w : Store) (t : Term) (s : Symbol) (h : HasAppl w t s) (name : List �
     pub arguments_job : IsJob w (job.Items args)
     arguments_job = is_list w args (more some.first some.rest) some.anns some.here
 
-    pub application_leaves : (old new : Option (List ℕ)) (before after : List Job) → after ≡ before ++ job.Byte 41 ∷ job.Items args ∷ [] → Appends old new (name_text name quoted ++ 40 ∷ [])
+    pub application_leaves : (old new : Option (List ℕ)) (before after : List Job) → after ≡ before ++ job.Byte 41 ∷ job.Items args ∷ []
+        → Appends old new (name_text name quoted ++ 40 ∷ [])
         → Leaves w (seen [] body_text (tree_at w t)) (seen 1 body_size (tree_at w t)) old new before after
     application_leaves old new before after grown a =
-        leaves_two w (seen [] body_text (tree_at w t)) (name_text name quoted ++ 40 ∷ []) (seen 1 body_size (tree_at w t)) old new before after (job.Byte 41) (job.Items args) grown tt arguments_job application_text application_less a
+        leaves_two w (seen [] body_text (tree_at w t)) (name_text name quoted ++ 40 ∷ []) (seen 1 body_size (tree_at w t)) old new before after
+        (job.Byte 41) (job.Items args) grown tt arguments_job application_text application_less a
 
 -- ---- bodies and annotations
 
@@ -153,12 +184,14 @@ notes_none (Items items (more v vs)) e = absurd (cc e)
 notes_none (Hole inner none) e = refl
 notes_none (Hole inner (more v vs)) e = absurd (cc e)
 
-no_notes_in : (o : Option Tree) → option_and_then anns_of o ≡ None → (seen [] (λ u. notes_text (annotations u)) o ≡ []) × (0 < seen 1 (λ u. 2 + sizes (annotations u)) o)
+no_notes_in : (o : Option Tree) → option_and_then anns_of o ≡ None
+    → (seen [] (λ u. notes_text (annotations u)) o ≡ []) × (0 < seen 1 (λ u. 2 + sizes (annotations u)) o)
 no_notes_in None e = (refl, omega arith)
 no_notes_in (Some u) e = (notes_none u e, omega arith)
 
 -- no annotations
-pub no_notes : (w : Store) (t : Term) (old : Option (List ℕ)) (before : List Job) → part_at anns_of w t ≡ None → Leaves w (job_text w (job.Notes t)) (job_size w (job.Notes t)) old old before before
+pub no_notes : (w : Store) (t : Term) (old : Option (List ℕ)) (before : List Job) → part_at anns_of w t ≡ None
+    → Leaves w (job_text w (job.Notes t)) (job_size w (job.Notes t)) old old before before
 no_notes w t old before e =
     let n = no_notes_in (tree_at w t) e in
     leaves_none w (job_text w (job.Notes t)) (job_size w (job.Notes t)) old old before n.1 (rw (n.0) (appends_same old))
@@ -186,7 +219,8 @@ size_parts (Appl name quoted args anns) = omega arith
 size_parts (Items items anns) = omega arith
 size_parts (Hole inner anns) = omega arith
 
-parts_in : (o : Option Tree) → IsSome o → (seen [] canon o ≡ seen [] body_text o ++ seen [] (λ u. notes_text (annotations u)) o) × (seen 1 body_size o + seen 1 (λ u. 2 + sizes (annotations u)) o ≡ seen 1 size o)
+parts_in : (o : Option Tree) → IsSome o → (seen [] canon o ≡ seen [] body_text o ++ seen [] (λ u. notes_text (annotations u)) o)
+    × (seen 1 body_size o + seen 1 (λ u. 2 + sizes (annotations u)) o ≡ seen 1 size o)
 parts_in None e = absurd (cc e)
 parts_in (Some u) e = (canon_parts u, size_parts u)
 
@@ -194,12 +228,15 @@ parts_in (Some u) e = (canon_parts u, size_parts u)
 pub tree_text : (w : Store) (t : Term) → IsSome (tree_at w t) → job_text w (job.Tree t) ≡ seen [] body_text (tree_at w t) ++ job_text w (job.Notes t)
 tree_text w t h = (parts_in (tree_at w t) h).0
 
-pub tree_leaves : (r : Result (Unit {0}) WriteFault) (w : Store) (t : Term) (old new : Option (List ℕ)) (before between after : List Job) → between ≡ before ++ job.Notes t ∷ [] → IsSome (tree_at w t)
-    → OnOk r (Leaves w (seen [] body_text (tree_at w t)) (seen 1 body_size (tree_at w t)) old new between after) → OnOk r (Leaves w (job_text w (job.Tree t)) (job_size w (job.Tree t)) old new before after)
+pub tree_leaves : (r : Result (Unit {0}) WriteFault) (w : Store) (t : Term) (old new : Option (List ℕ)) (before between after : List Job)
+    → between ≡ before ++ job.Notes t ∷ [] → IsSome (tree_at w t)
+    → OnOk r (Leaves w (seen [] body_text (tree_at w t)) (seen 1 body_size (tree_at w t)) old new between after)
+    → OnOk r (Leaves w (job_text w (job.Tree t)) (job_size w (job.Tree t)) old new before after)
 tree_leaves (Err e) w t old new before between after grown h l = tt
 tree_leaves (Ok u) w t old new before between after grown h l =
     let p = parts_in (tree_at w t) h in
-    leaves_after w (job_text w (job.Tree t)) (seen [] body_text (tree_at w t)) (job_size w (job.Tree t)) (seen 1 body_size (tree_at w t)) old new before between after (job.Notes t) grown h p.0 p.1 l
+    leaves_after w (job_text w (job.Tree t)) (seen [] body_text (tree_at w t)) (job_size w (job.Tree t)) (seen 1 body_size (tree_at w t)) old new
+    before between after (job.Notes t) grown h p.0 p.1 l
 
 -- ---- all jobs
 
@@ -218,7 +255,8 @@ pub record Writing (w : Store) (whole : List ℕ) (old now : Option (List ℕ)) 
   pub text : whole ≡ front ++ jobs_text w left
   pub jobs : AllByRecursion (IsJob w) left
 
-module _ (w : Store) (whole : List ℕ) (old now : Option (List ℕ)) (jobs left : List Job) (j : Job) (u : Writing w whole old now jobs) (popped : jobs ≡ left ++ j ∷ []) where
+module _ (w : Store) (whole : List ℕ) (old now : Option (List ℕ)) (jobs left : List Job) (j : Job) (u : Writing w whole old now jobs)
+    (popped : jobs ≡ left ++ j ∷ []) where
   parts : whole ≡ u.front ++ (job_text w j ++ jobs_text w left)
   parts = u.text ∙ ap (λ xs. u.front ++ xs) (ap (jobs_text w) popped ∙ jobs_text-append w left (j ∷ []))
 
@@ -232,7 +270,8 @@ module _ (w : Store) (whole : List ℕ) (old now : Option (List ℕ)) (jobs left
       record {
         front = u.front ++ l.front;
         written = appends_both old now new u.front l.front u.written l.written;
-        text = parts ∙ ap (λ xs. u.front ++ (xs ++ rest)) l.text ∙ ap (λ xs. u.front ++ xs) (append_assoc l.front (jobs_text w l.added) rest) ∙ sym (append_assoc u.front l.front (jobs_text w l.added ++ rest)) ∙ ap (λ xs. (u.front ++ l.front) ++ xs) (sym grown);
+        text = parts ∙ ap (λ xs. u.front ++ (xs ++ rest)) l.text ∙ ap (λ xs. u.front ++ xs) (append_assoc l.front (jobs_text w l.added) rest)
+            ∙ sym (append_assoc u.front l.front (jobs_text w l.added ++ rest)) ∙ ap (λ xs. (u.front ++ l.front) ++ xs) (sym grown);
         jobs = let e = l.grown in rw e (All-append (IsJob w) left l.added jobs_are.0 l.jobs);
       }
 

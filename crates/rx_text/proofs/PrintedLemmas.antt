@@ -1,5 +1,6 @@
 -- The printed text of a tree spells that tree.
-use Rattle.std.proofs.Common.{◌≡◌, ℕ, ◌+◌, ◌^◌, suc, true, false, Bool, ◌&&◌, ◌||◌, List, [], ◌∷◌, ◌++◌, refl, pos, negsuc, ℤ, neg_ℤ, sym, ap, ◌∙◌, append_assoc, inl, inr, length, arith, length-append}
+use Rattle.std.proofs.Common.{◌≡◌, ℕ, ◌+◌, ◌^◌, suc, true, false, Bool, ◌&&◌, ◌||◌, List, [], ◌∷◌, ◌++◌, refl, pos}
+use Rattle.std.proofs.Common.{negsuc, ℤ, neg_ℤ, sym, ap, ◌∙◌, append_assoc, inl, inr, length, arith, length-append}
 use Rattle.std.specs.Prelude.{nat_lt, flat_map, decimal}
 use Rattle.std.specs.Fmt.{signed_decimal}
 use Rattle.std.specs.List.{prefix_len, list_all}
@@ -11,7 +12,8 @@ use Rattle.std.proofs.lemmas.Bool.{le-leb, leb-true}
 use Rattle.rx_term.specs.Name.{starts_name, continues_name, is_digit, plain_name, is_name}
 use Rattle.rx_term.specs.Tree.{Tree, Trees, none, more, Int, Appl, Items, Hole, is_i32, is_tree, are_trees}
 use Rattle.rx_text.specs.Token.{Token, Integer, Name, Close, CloseBrace, End}
-use Rattle.rx_text.specs.Grammar.{Term, Arguments, Annotations, Terms, Others, integer, named, nameless, list, hole, no_parentheses, parentheses, no_braces, braces, no_terms, terms, no_others, comma}
+use Rattle.rx_text.specs.Grammar.{Term, Arguments, Annotations, Terms, Others, integer, named, nameless, list, hole}
+use Rattle.rx_text.specs.Grammar.{no_parentheses, parentheses, no_braces, braces, no_terms, terms, no_others, comma}
 use Rattle.rx_text.specs.Canon.{canon, canon_all, canon_others, enclosed, name_text, no_arguments, quoted_byte}
 use Rattle.rx_text.specs.Law.{PrintedSpells}
 use Rattle.rx_text.proofs.CuttingLemmas.{kinds_from, kinds_are, pass, name_cut, number_cut, negative_cut, quoted_reads, and_parts, or_cases}
@@ -29,13 +31,15 @@ digits_all (d ∷ ds) h =
     rw (le-leb 48 d k.0, le-leb d 57 k.1, digits_all ds h.1) refl
 
 -- an integer
-digits_cut : (ds r : List ℕ) (n : ℕ) → IsNumeral 10 ds → digits_value 10 ds ≡ n → is_i32 (pos n) ≡ true → Stops r → kinds_from 0 (ds ++ r) ≡ Integer (pos n) ∷ kinds_from 0 r
+digits_cut : (ds r : List ℕ) (n : ℕ) → IsNumeral 10 ds → digits_value 10 ds ≡ n → is_i32 (pos n) ≡ true → Stops r
+    → kinds_from 0 (ds ++ r) ≡ Integer (pos n) ∷ kinds_from 0 r
 digits_cut [] r n h e f s = absurd (omega (arith, h.0))
 digits_cut (d ∷ ds) r n h e f s =
     let k = and_parts (is_digit d) (list_all is_digit ds) (digits_all (d ∷ ds) h.1) in
     number_cut d ds r k.0 k.1 s.no_digit (ap (λ m. is_i32 (pos m)) e ∙ f) ∙ ap (λ m. Integer (pos m) ∷ kinds_from 0 r) e
 
-minus_cut : (ds r : List ℕ) (n : ℕ) → IsNumeral 10 ds → digits_value 10 ds ≡ n → is_i32 (neg_ℤ (pos n)) ≡ true → Stops r → kinds_from 0 (45 ∷ ds ++ r) ≡ Integer (neg_ℤ (pos n)) ∷ kinds_from 0 r
+minus_cut : (ds r : List ℕ) (n : ℕ) → IsNumeral 10 ds → digits_value 10 ds ≡ n → is_i32 (neg_ℤ (pos n)) ≡ true → Stops r
+    → kinds_from 0 (45 ∷ ds ++ r) ≡ Integer (neg_ℤ (pos n)) ∷ kinds_from 0 r
 minus_cut [] r n h e f s = absurd (omega (arith, h.0))
 minus_cut (d ∷ ds) r n h e f s =
     let k = and_parts (is_digit d) (list_all is_digit ds) (digits_all (d ∷ ds) h.1) in
@@ -105,8 +109,10 @@ no_arguments_quoted (b ∷ bs) = refl
 
 -- an application, from its arguments and annotations
 module _ (args anns : Trees) (r : List ℕ) (s : Stops r) where
-  named_printed : (name : List ℕ) (quoted : Bool) → no_arguments name quoted ≡ [] → ((x : List ℕ) → Stops x → kinds_from 0 (name_text name quoted ++ x) ≡ Name name quoted ∷ kinds_from 0 x)
-      → Terms (kinds_from 0 (canon_all args ++ 41 ∷ (enclosed 123 anns (canon_all anns) 125 [] ++ r))) args (Close ∷ kinds_from 0 (enclosed 123 anns (canon_all anns) 125 [] ++ r))
+  named_printed : (name : List ℕ) (quoted : Bool) → no_arguments name quoted ≡ []
+      → ((x : List ℕ) → Stops x → kinds_from 0 (name_text name quoted ++ x) ≡ Name name quoted ∷ kinds_from 0 x)
+      → Terms (kinds_from 0 (canon_all args ++ 41 ∷ (enclosed 123 anns (canon_all anns) 125 [] ++ r))) args
+      (Close ∷ kinds_from 0 (enclosed 123 anns (canon_all anns) 125 [] ++ r))
       → Terms (kinds_from 0 (canon_all anns ++ 125 ∷ r)) anns (CloseBrace ∷ kinds_from 0 r)
       → Term (kinds_from 0 (canon (Appl name quoted args anns) ++ r)) (Appl name quoted args anns) (kinds_from 0 r)
   named_printed name quoted none_shown cut g k =
@@ -115,24 +121,28 @@ module _ (args anns : Trees) (r : List ℕ) (s : Stops r) where
       let shown = enclosed 40 args (canon_all args) 41 (no_arguments name quoted) in
       let plain = enclosed 40 args (canon_all args) 41 [] in
       let e : ((text ++ shown) ++ behind) ++ r ≡ text ++ (plain ++ (behind ++ r))
-      = append_assoc (text ++ shown) behind r ∙ append_assoc text shown (behind ++ r) ∙ ap (λ x. text ++ (enclosed 40 args (canon_all args) 41 x ++ (behind ++ r))) none_shown in
+      = append_assoc (text ++ shown) behind r ∙ append_assoc text shown (behind ++ r)
+      ∙ ap (λ x. text ++ (enclosed 40 args (canon_all args) 41 x ++ (behind ++ r))) none_shown in
       from_bytes e (from_tokens (cut (plain ++ (behind ++ r)) (stops_before_arguments args (behind ++ r) (stops_before_braces anns r s)))
       (named (parentheses_printed args (behind ++ r) g) (braces_printed anns r k)))
 
 nameless_printed : (args anns : Trees) (r : List ℕ)
-    → Terms (kinds_from 0 (canon_all args ++ 41 ∷ (enclosed 123 anns (canon_all anns) 125 [] ++ r))) args (Close ∷ kinds_from 0 (enclosed 123 anns (canon_all anns) 125 [] ++ r))
+    → Terms (kinds_from 0 (canon_all args ++ 41 ∷ (enclosed 123 anns (canon_all anns) 125 [] ++ r))) args
+    (Close ∷ kinds_from 0 (enclosed 123 anns (canon_all anns) 125 [] ++ r))
     → Terms (kinds_from 0 (canon_all anns ++ 125 ∷ r)) anns (CloseBrace ∷ kinds_from 0 r)
     → Term (kinds_from 0 (canon (Appl [] false args anns) ++ r)) (Appl [] false args anns) (kinds_from 0 r)
 nameless_printed none anns r g k = nameless no_terms (braces_printed anns r k)
 nameless_printed (more t ts) anns r g k =
     let behind = enclosed 123 anns (canon_all anns) 125 [] in
     let inside = canon_all (more t ts) in
-    let e : ((inside ++ 41 ∷ []) ++ behind) ++ r ≡ inside ++ 41 ∷ (behind ++ r) = append_assoc (inside ++ 41 ∷ []) behind r ∙ append_assoc inside (41 ∷ []) (behind ++ r) in
+    let e : ((inside ++ 41 ∷ []) ++ behind) ++ r ≡ inside ++ 41 ∷ (behind ++ r) =
+    append_assoc (inside ++ 41 ∷ []) behind r ∙ append_assoc inside (41 ∷ []) (behind ++ r) in
     from_bytes (ap (λ x. 40 ∷ x) e) (nameless g (braces_printed anns r k))
 
 -- by the name
 appl_printed : (name : List ℕ) (quoted : Bool) (args anns : Trees) (r : List ℕ) → Stops r → is_name name quoted ≡ true
-    → Terms (kinds_from 0 (canon_all args ++ 41 ∷ (enclosed 123 anns (canon_all anns) 125 [] ++ r))) args (Close ∷ kinds_from 0 (enclosed 123 anns (canon_all anns) 125 [] ++ r))
+    → Terms (kinds_from 0 (canon_all args ++ 41 ∷ (enclosed 123 anns (canon_all anns) 125 [] ++ r))) args
+    (Close ∷ kinds_from 0 (enclosed 123 anns (canon_all anns) 125 [] ++ r))
     → Terms (kinds_from 0 (canon_all anns ++ 125 ∷ r)) anns (CloseBrace ∷ kinds_from 0 r)
     → Term (kinds_from 0 (canon (Appl name quoted args anns) ++ r)) (Appl name quoted args anns) (kinds_from 0 r)
 appl_printed name true args anns r s h g k =
@@ -166,24 +176,28 @@ mutual
       let k = and_parts (are_trees items) (are_trees anns) h in
       let behind = enclosed 123 anns (canon_all anns) 125 [] in
       from_bytes (ap (λ x. 91 ∷ x) (append_assoc (canon_all items) (93 ∷ behind) r))
-      (list (terms_printed items (93 ∷ (behind ++ r)) k.0 (mark_stops 93 _ refl refl)) (braces_printed anns r (terms_printed anns (125 ∷ r) k.1 (mark_stops 125 r refl refl))))
+      (list (terms_printed items (93 ∷ (behind ++ r)) k.0 (mark_stops 93 _ refl refl))
+      (braces_printed anns r (terms_printed anns (125 ∷ r) k.1 (mark_stops 125 r refl refl))))
   printed (Hole inner anns) r h s =
       let k = and_parts (is_tree inner) (are_trees anns) h in
       let behind = enclosed 123 anns (canon_all anns) 125 [] in
       from_bytes (ap (λ x. 60 ∷ x) (append_assoc (canon inner) (62 ∷ behind) r))
-      (hole (printed inner (62 ∷ (behind ++ r)) k.0 (mark_stops 62 _ refl refl)) (braces_printed anns r (terms_printed anns (125 ∷ r) k.1 (mark_stops 125 r refl refl))))
+      (hole (printed inner (62 ∷ (behind ++ r)) k.0 (mark_stops 62 _ refl refl))
+      (braces_printed anns r (terms_printed anns (125 ∷ r) k.1 (mark_stops 125 r refl refl))))
 
   terms_printed : (ts : Trees) (r : List ℕ) → are_trees ts ≡ true → Stops r → Terms (kinds_from 0 (canon_all ts ++ r)) ts (kinds_from 0 r)
   terms_printed none r h s = no_terms
   terms_printed (more t ts) r h s =
       let k = and_parts (is_tree t) (are_trees ts) h in
-      terms (from_bytes (append_assoc (canon t) (canon_others ts) r) (printed t (canon_others ts ++ r) k.0 (stops_before_others ts r s))) (others_printed ts r k.1 s)
+      terms (from_bytes (append_assoc (canon t) (canon_others ts) r) (printed t (canon_others ts ++ r) k.0 (stops_before_others ts r s)))
+      (others_printed ts r k.1 s)
 
   others_printed : (ts : Trees) (r : List ℕ) → are_trees ts ≡ true → Stops r → Others (kinds_from 0 (canon_others ts ++ r)) ts (kinds_from 0 r)
   others_printed none r h s = no_others
   others_printed (more t ts) r h s =
       let k = and_parts (is_tree t) (are_trees ts) h in
-      comma (from_bytes (append_assoc (canon t) (canon_others ts) r) (printed t (canon_others ts ++ r) k.0 (stops_before_others ts r s))) (others_printed ts r k.1 s)
+      comma (from_bytes (append_assoc (canon t) (canon_others ts) r) (printed t (canon_others ts ++ r) k.0 (stops_before_others ts r s)))
+      (others_printed ts r k.1 s)
 
 pub printed_spells : PrintedSpells
 printed_spells t h =

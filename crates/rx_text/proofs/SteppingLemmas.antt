@@ -1,5 +1,6 @@
 -- Each step of the reader on its stack and nodes is a step of the machine.
-use Rattle.std.proofs.Common.{◌≡◌, ℕ, suc, ◌+◌, ◌-◌, ◌≤◌, ◌<◌, List, [], ◌∷◌, ◌++◌, length, map, drop, reverse, Some, None, true, ℤ, pos, negsuc, w32, to_z, of_z, refl, sym, ap, ◌∙◌, arith, add-one, length-drop}
+use Rattle.std.proofs.Common.{◌≡◌, ℕ, suc, ◌+◌, ◌-◌, ◌≤◌, ◌<◌, List, [], ◌∷◌, ◌++◌, length, map, drop, reverse, Some, None}
+use Rattle.std.proofs.Common.{true, ℤ, pos, negsuc, w32, to_z, of_z, refl, sym, ap, ◌∙◌, arith, add-one, length-drop}
 use Rattle.std.proofs.lemmas.List.{reverse-append, length-reverse}
 use Rattle.std.specs.List.{AllByRecursion}
 use Rattle.std.proofs.lemmas.Int.{to_z-of_z}
@@ -75,7 +76,8 @@ made-push : (bytes : List ℕ) (ns : List Node) (n : Node) → made_of bytes (ns
 made-push bytes ns n = rw nodes-push (trees-push [] (map (node_of bytes) ns) (node_of bytes n))
 
 -- a node more, with the trees that it takes before it
-pub add_node : (bytes : List ℕ) (k l : ℕ) (frames : List Frame) (ns after : List Node) (n : Node) → after ≡ ns ++ n ∷ [] → IsStack bytes k frames ns → IsNode bytes n → needed (node_of bytes n) ≤ k → l + needed (node_of bytes n) ≡ k + 1
+pub add_node : (bytes : List ℕ) (k l : ℕ) (frames : List Frame) (ns after : List Node) (n : Node) → after ≡ ns ++ n ∷ [] → IsStack bytes k frames ns
+    → IsNode bytes n → needed (node_of bytes n) ≤ k → l + needed (node_of bytes n) ≡ k + 1
     → (made_of bytes after ≡ assembled (node_of bytes n) (made_of bytes ns)) × IsStack bytes l frames after
 add_node bytes k l frames ns after n e s name takes left =
     let count = s.counted in
@@ -96,13 +98,15 @@ frames-push : (fs : List Frame) (f : Frame) → reverse (fs ++ f ∷ []) ≡ f �
 frames-push fs f = reverse-append fs (f ∷ [])
 
 -- what is no longer open has its trees
-pub pop_frame : (bytes : List ℕ) (k : ℕ) (before frames : List Frame) (f : Frame) (ns : List Node) → before ≡ frames ++ f ∷ [] → IsStack bytes k before ns → IsStack bytes (held f.opening f.count + k) frames ns × IsOpening bytes f.opening
+pub pop_frame : (bytes : List ℕ) (k : ℕ) (before frames : List Frame) (f : Frame) (ns : List Node) → before ≡ frames ++ f ∷ []
+    → IsStack bytes k before ns → IsStack bytes (held f.opening f.count + k) frames ns × IsOpening bytes f.opening
 pop_frame bytes k before frames f ns e s =
     let count : held f.opening f.count + total (reverse frames) + k ≡ length (made_of bytes ns) = rw (e, frames-push) at s.counted in
     let names = All-front (λ (g : Frame). IsOpening bytes g.opening) frames f (rw e at s.openings) in
     (record { enough = s.enough; counted = omega (arith, count); openings = names.0; names = s.names }, names.1)
 
-pub push_frame : (bytes : List ℕ) (k l : ℕ) (frames after : List Frame) (f : Frame) (ns : List Node) → after ≡ frames ++ f ∷ [] → IsStack bytes l frames ns → l ≡ held f.opening f.count + k → IsOpening bytes f.opening → IsStack bytes k after ns
+pub push_frame : (bytes : List ℕ) (k l : ℕ) (frames after : List Frame) (f : Frame) (ns : List Node) → after ≡ frames ++ f ∷ []
+    → IsStack bytes l frames ns → l ≡ held f.opening f.count + k → IsOpening bytes f.opening → IsStack bytes k after ns
 push_frame bytes k l frames after f ns e s left name =
     let count = s.counted in
     record {
@@ -125,7 +129,8 @@ held-above opening.Placeholder k h = absurd (h refl)
 held-above opening.Annotations k h = omega arith
 
 -- what is open has no more items than there are nodes
-pub count_fits : (bytes : List ℕ) (before frames : List Frame) (f : Frame) (ns : List Node) → before ≡ frames ++ f ∷ [] → (f.opening ≡ opening.Placeholder → ⊥) → IsState bytes Whole before ns → f.count + 1 ≤ length ns
+pub count_fits : (bytes : List ℕ) (before frames : List Frame) (f : Frame) (ns : List Node) → before ≡ frames ++ f ∷ []
+    → (f.opening ≡ opening.Placeholder → ⊥) → IsState bytes Whole before ns → f.count + 1 ≤ length ns
 count_fits bytes before frames f ns e h s =
     let p = pop_frame bytes 1 before frames f ns e s.stack in
     let count = p.0.counted in
@@ -134,7 +139,8 @@ count_fits bytes before frames f ns e h s =
 -- ---- steps
 
 -- a body was made
-body_made : (bytes : List ℕ) (frames : List Frame) (after : List Node) (t : Tree) (made : List Tree) → made_of bytes after ≡ t ∷ made → annotated t none ≡ t → IsStack bytes 1 frames after
+body_made : (bytes : List ℕ) (frames : List Frame) (after : List Node) (t : Tree) (made : List Tree) → made_of bytes after ≡ t ∷ made
+    → annotated t none ≡ t → IsStack bytes 1 frames after
     → (Some (machine.Body t, frames_of bytes (reverse frames) made) ≡ Some (state_of bytes Body frames after)) × IsState bytes Body frames after
 body_made bytes frames after t made e bare s = (rw e refl, record { stack = s; bare = rw e bare; word = tt })
 
@@ -142,27 +148,34 @@ pub in_word : (z : ℤ) → is_i32 z ≡ true → to_z w32 (of_z w32 z) ≡ z
 in_word (pos n) h = let lt : n < 2147483648 = grind (arith, nat_tests, h) in to_z-of_z w32 (pos n) (omega arith)
 in_word (negsuc n) h = let lt : n < 2147483648 = grind (arith, nat_tests, h) in to_z-of_z w32 (negsuc n) (omega arith)
 
-pub integer_moves : (bytes : List ℕ) (z : ℤ) (frames : List Frame) (ns after : List Node) → is_i32 z ≡ true → after ≡ ns ++ node.Integer (to_z w32 (of_z w32 z)) ∷ [] → IsStack bytes 0 frames ns
-    → (Some (machine.Body (Int z none), frames_of bytes (reverse frames) (made_of bytes ns)) ≡ Some (state_of bytes Body frames after)) × IsState bytes Body frames after
+pub integer_moves : (bytes : List ℕ) (z : ℤ) (frames : List Frame) (ns after : List Node) → is_i32 z ≡ true
+    → after ≡ ns ++ node.Integer (to_z w32 (of_z w32 z)) ∷ [] → IsStack bytes 0 frames ns
+    → (Some (machine.Body (Int z none), frames_of bytes (reverse frames) (made_of bytes ns)) ≡ Some (state_of bytes Body frames after))
+    × IsState bytes Body frames after
 integer_moves bytes z frames ns after h e s =
     let f : after ≡ ns ++ node.Integer z ∷ [] = e ∙ ap (λ (x : ℤ). ns ++ node.Integer x ∷ []) (in_word z h) in
     let a = add_node bytes 0 1 frames ns after (node.Integer z) f s h (omega arith) (omega arith) in
     body_made bytes frames after (Int z none) (made_of bytes ns) a.0 refl a.1
 
-pub arguments_move : (bytes : List ℕ) (w : Word) (k : ℕ) (frames : List Frame) (ns after : List Node) → after ≡ ns ++ node.Application w k ∷ [] → IsStack bytes k frames ns → IsWord bytes w
-    → (machine.close (frame_of bytes (opening.Arguments w) k (made_of bytes ns)) (frames_of bytes (reverse frames) (drop k (made_of bytes ns))) token.Close ≡ Some (state_of bytes Body frames after)) × IsState bytes Body frames after
+pub arguments_move : (bytes : List ℕ) (w : Word) (k : ℕ) (frames : List Frame) (ns after : List Node) → after ≡ ns ++ node.Application w k ∷ []
+    → IsStack bytes k frames ns → IsWord bytes w
+    → (machine.close (frame_of bytes (opening.Arguments w) k (made_of bytes ns)) (frames_of bytes (reverse frames) (drop k (made_of bytes ns)))
+    token.Close ≡ Some (state_of bytes Body frames after)) × IsState bytes Body frames after
 arguments_move bytes w k frames ns after e s name =
     let a = add_node bytes k 1 frames ns after (node.Application w k) e s name (omega arith) (omega arith) in
     body_made bytes frames after (Appl (name_of bytes w) w.quoted (newest k (made_of bytes ns)) none) (drop k (made_of bytes ns)) a.0 refl a.1
 
 pub list_moves : (bytes : List ℕ) (k : ℕ) (frames : List Frame) (ns after : List Node) → after ≡ ns ++ node.List k ∷ [] → IsStack bytes k frames ns
-    → (machine.close (frame_of bytes opening.List k (made_of bytes ns)) (frames_of bytes (reverse frames) (drop k (made_of bytes ns))) token.CloseBracket ≡ Some (state_of bytes Body frames after)) × IsState bytes Body frames after
+    → (machine.close (frame_of bytes opening.List k (made_of bytes ns)) (frames_of bytes (reverse frames) (drop k (made_of bytes ns)))
+    token.CloseBracket ≡ Some (state_of bytes Body frames after)) × IsState bytes Body frames after
 list_moves bytes k frames ns after e s =
     let a = add_node bytes k 1 frames ns after (node.List k) e s tt (omega arith) (omega arith) in
     body_made bytes frames after _ (drop k (made_of bytes ns)) a.0 refl a.1
 
-pub annotations_move : (bytes : List ℕ) (k : ℕ) (frames : List Frame) (ns after : List Node) → after ≡ ns ++ node.Annotations k ∷ [] → IsStack bytes (k + 1) frames ns
-    → (machine.close (frame_of bytes opening.Annotations k (made_of bytes ns)) (frames_of bytes (reverse frames) (rest (drop k (made_of bytes ns)))) token.CloseBrace ≡ Some (state_of bytes Whole frames after)) × IsState bytes Whole frames after
+pub annotations_move : (bytes : List ℕ) (k : ℕ) (frames : List Frame) (ns after : List Node) → after ≡ ns ++ node.Annotations k ∷ []
+    → IsStack bytes (k + 1) frames ns
+    → (machine.close (frame_of bytes opening.Annotations k (made_of bytes ns)) (frames_of bytes (reverse frames) (rest (drop k (made_of bytes ns))))
+    token.CloseBrace ≡ Some (state_of bytes Whole frames after)) × IsState bytes Whole frames after
 annotations_move bytes k frames ns after e s =
     let a = add_node bytes (k + 1) 1 frames ns after (node.Annotations k) e s tt (omega arith) (omega arith) in
     (rw (a.0) refl, record { stack = a.1; bare = tt; word = tt })
@@ -173,14 +186,18 @@ top_first [] h = absurd (omega arith)
 top_first (t ∷ made) h = refl
 
 next_core : (bytes : List ℕ) (o : Opening) (k : ℕ) (fs : List Frame) (t : Tree) (made : List Tree) → (o ≡ opening.Placeholder → ⊥)
-    → machine.next_item t (frame_of bytes o k made ∷ frames_of bytes fs (under o k made)) ≡ Some (machine.Due, frame_of bytes o (suc k) (t ∷ made) ∷ frames_of bytes fs (under o (suc k) (t ∷ made)))
+    → machine.next_item t (frame_of bytes o k made ∷ frames_of bytes fs (under o k made)) ≡ Some (
+      machine.Due,
+      frame_of bytes o (suc k) (t ∷ made) ∷ frames_of bytes fs (under o (suc k) (t ∷ made)),
+    )
 next_core bytes (opening.Arguments w) k fs t made h = refl
 next_core bytes opening.List k fs t made h = refl
 next_core bytes opening.Placeholder k fs t made h = absurd (h refl)
 next_core bytes opening.Annotations k fs t made h = refl
 
 end_core : (bytes : List ℕ) (o : Opening) (k : ℕ) (fs : List Frame) (t : Tree) (made : List Tree) (tok : Token) → (o ≡ opening.Placeholder → ⊥)
-    → machine.end_item t (frame_of bytes o k made ∷ frames_of bytes fs (under o k made)) tok ≡ machine.close (frame_of bytes o (suc k) (t ∷ made)) (frames_of bytes fs (under o (suc k) (t ∷ made))) tok
+    → machine.end_item t (frame_of bytes o k made ∷ frames_of bytes fs (under o k made)) tok ≡ machine.close (frame_of bytes o (suc k) (t ∷ made))
+    (frames_of bytes fs (under o (suc k) (t ∷ made))) tok
 end_core bytes (opening.Arguments w) k fs t made tok h = refl
 end_core bytes opening.List k fs t made tok h = refl
 end_core bytes opening.Placeholder k fs t made tok h = absurd (h refl)
@@ -192,37 +209,48 @@ longer f = record { opening = f.opening; count = f.count + 1 }
 some_made : (bytes : List ℕ) (before : List Frame) (ns : List Node) → IsState bytes Whole before ns → 0 < length (made_of bytes ns)
 some_made bytes before ns s = let count = s.stack.counted in omega (arith, count)
 
-pub next_moves : (bytes : List ℕ) (before frames after : List Frame) (f : Frame) (ns : List Node) → before ≡ frames ++ f ∷ [] → after ≡ frames ++ longer f ∷ [] → (f.opening ≡ opening.Placeholder → ⊥) → IsState bytes Whole before ns
-    → (machine.next_item (top (made_of bytes ns)) (frames_of bytes (reverse before) (rest (made_of bytes ns))) ≡ Some (state_of bytes Term after ns)) × IsState bytes Term after ns
+pub next_moves : (bytes : List ℕ) (before frames after : List Frame) (f : Frame) (ns : List Node) → before ≡ frames ++ f ∷ []
+    → after ≡ frames ++ longer f ∷ [] → (f.opening ≡ opening.Placeholder → ⊥) → IsState bytes Whole before ns
+    → (machine.next_item (top (made_of bytes ns)) (frames_of bytes (reverse before) (rest (made_of bytes ns))) ≡ Some (state_of bytes Term after ns))
+    × IsState bytes Term after ns
 next_moves bytes before frames after f ns e g h s =
     let made : List Tree = made_of bytes ns in
     let p = pop_frame bytes 1 before frames f ns e s.stack in
     let whole : made ≡ top made ∷ rest made = top_first made (some_made bytes before ns s) in
     let core = next_core bytes f.opening f.count (reverse frames) (top made) (rest made) h in
-    let same : frames_of bytes (longer f ∷ reverse frames) (top made ∷ rest made) ≡ frames_of bytes (longer f ∷ reverse frames) made = ap (λ (m : List Tree). frames_of bytes (longer f ∷ reverse frames) m) (sym whole) in
-    let long : frame_of bytes f.opening (suc f.count) (top made ∷ rest made) ∷ frames_of bytes (reverse frames) (under f.opening (suc f.count) (top made ∷ rest made)) ≡ frames_of bytes (longer f ∷ reverse frames) (top made ∷ rest made) = rw add-one refl in (
+    let same : frames_of bytes (longer f ∷ reverse frames) (top made ∷ rest made) ≡ frames_of bytes (longer f ∷ reverse frames) made =
+    ap (λ (m : List Tree). frames_of bytes (longer f ∷ reverse frames) m) (sym whole) in
+    let long : frame_of bytes f.opening (suc f.count) (top made ∷ rest made) ∷ frames_of bytes (reverse frames)
+    (under f.opening (suc f.count) (top made ∷ rest made)) ≡ frames_of bytes (longer f ∷ reverse frames) (top made ∷ rest made) = rw add-one refl in (
       rw (e, g, frames-push, frames-push) (core ∙ ap (λ (x : List machine.Frame). Some (machine.Due, x)) (long ∙ same)),
       record { stack = push_frame bytes 0 _ frames after (longer f) ns g p.0 (omega (arith, held-longer f.opening f.count h)) p.1; bare = tt; word = tt },
     )
 
-pub end_requires : (bytes : List ℕ) (before frames : List Frame) (f : Frame) (ns : List Node) → before ≡ frames ++ f ∷ [] → (f.opening ≡ opening.Placeholder → ⊥) → IsState bytes Whole before ns
+pub end_requires : (bytes : List ℕ) (before frames : List Frame) (f : Frame) (ns : List Node) → before ≡ frames ++ f ∷ []
+    → (f.opening ≡ opening.Placeholder → ⊥) → IsState bytes Whole before ns
     → IsStack bytes (held f.opening (f.count + 1)) frames ns × IsOpening bytes f.opening
 end_requires bytes before frames f ns e h s = let p = pop_frame bytes 1 before frames f ns e s.stack in (rw (held-longer f.opening f.count h) p.0, p.1)
 
-pub end_moves : (bytes : List ℕ) (before frames : List Frame) (f : Frame) (ns : List Node) (tok : Token) → before ≡ frames ++ f ∷ [] → (f.opening ≡ opening.Placeholder → ⊥) → IsState bytes Whole before ns
+pub end_moves : (bytes : List ℕ) (before frames : List Frame) (f : Frame) (ns : List Node) (tok : Token) → before ≡ frames ++ f ∷ []
+    → (f.opening ≡ opening.Placeholder → ⊥) → IsState bytes Whole before ns
     → machine.end_item (top (made_of bytes ns)) (frames_of bytes (reverse before) (rest (made_of bytes ns))) tok
-    ≡ machine.close (frame_of bytes f.opening (f.count + 1) (made_of bytes ns)) (frames_of bytes (reverse frames) (under f.opening (f.count + 1) (made_of bytes ns))) tok
+    ≡ machine.close (frame_of bytes f.opening (f.count + 1) (made_of bytes ns))
+    (frames_of bytes (reverse frames) (under f.opening (f.count + 1) (made_of bytes ns))) tok
 end_moves bytes before frames f ns tok e h s =
     let made : List Tree = made_of bytes ns in
     let whole : made ≡ top made ∷ rest made = top_first made (some_made bytes before ns s) in
     let core = end_core bytes f.opening f.count (reverse frames) (top made) (rest made) tok h in
-    let same : machine.close (frame_of bytes f.opening (suc f.count) (top made ∷ rest made)) (frames_of bytes (reverse frames) (under f.opening (suc f.count) (top made ∷ rest made))) tok
+    let same : machine.close (frame_of bytes f.opening (suc f.count) (top made ∷ rest made))
+    (frames_of bytes (reverse frames) (under f.opening (suc f.count) (top made ∷ rest made))) tok
     ≡ machine.close (frame_of bytes f.opening (suc f.count) made) (frames_of bytes (reverse frames) (under f.opening (suc f.count) made)) tok
-    = ap (λ (m : List Tree). machine.close (frame_of bytes f.opening (suc f.count) m) (frames_of bytes (reverse frames) (under f.opening (suc f.count) m)) tok) (sym whole) in
+    = ap (λ (m : List Tree). machine.close (frame_of bytes f.opening (suc f.count) m)
+    (frames_of bytes (reverse frames) (under f.opening (suc f.count) m)) tok) (sym whole) in
     rw (e, frames-push, add-one) (core ∙ same)
 
-pub placeholder_moves : (bytes : List ℕ) (before frames : List Frame) (f : Frame) (ns after : List Node) → before ≡ frames ++ f ∷ [] → f.opening ≡ opening.Placeholder → after ≡ ns ++ node.Placeholder ∷ [] → IsState bytes Whole before ns
-    → (machine.end_hole (top (made_of bytes ns)) (frames_of bytes (reverse before) (rest (made_of bytes ns))) ≡ Some (state_of bytes Body frames after)) × IsState bytes Body frames after
+pub placeholder_moves : (bytes : List ℕ) (before frames : List Frame) (f : Frame) (ns after : List Node) → before ≡ frames ++ f ∷ []
+    → f.opening ≡ opening.Placeholder → after ≡ ns ++ node.Placeholder ∷ [] → IsState bytes Whole before ns
+    → (machine.end_hole (top (made_of bytes ns)) (frames_of bytes (reverse before) (rest (made_of bytes ns))) ≡ Some
+    (state_of bytes Body frames after)) × IsState bytes Body frames after
 placeholder_moves bytes before frames f ns after e o g s =
     let p = pop_frame bytes 1 before frames f ns e s.stack in
     let stack : IsStack bytes 1 frames ns = rw o at p.0 in
@@ -235,15 +263,18 @@ text_core bytes [] t made h = absurd (omega arith)
 text_core bytes (f ∷ fs) t made h = refl
 
 -- the end, where something is open
-pub text_refused : (bytes : List ℕ) (frames : List Frame) (t : Tree) (made : List Tree) → 0 < length frames → machine.end_text t (frames_of bytes (reverse frames) made) ≡ None
+pub text_refused : (bytes : List ℕ) (frames : List Frame) (t : Tree) (made : List Tree) → 0 < length frames
+    → machine.end_text t (frames_of bytes (reverse frames) made) ≡ None
 text_refused bytes frames t made h = text_core bytes (reverse frames) t made (omega (arith, length-reverse frames))
 
 -- a name that is not called is a body
-pub name_is_body : (bytes : List ℕ) (n : List ℕ) (q : _) (fs : List machine.Frame) (k : LexemeKind) → (k ≡ kind.Open → ⊥) → machine.after_name n q fs (token_of bytes k) ≡ machine.body (Appl n q none none) fs (token_of bytes k)
+pub name_is_body : (bytes : List ℕ) (n : List ℕ) (q : _) (fs : List machine.Frame) (k : LexemeKind) → (k ≡ kind.Open → ⊥)
+    → machine.after_name n q fs (token_of bytes k) ≡ machine.body (Appl n q none none) fs (token_of bytes k)
 name_is_body bytes n q fs kind.Open h = absurd (h refl)
 name_is_body bytes n q fs k h = refl
 
-pub leaf : (bytes : List ℕ) (w : Word) (frames : List Frame) (ns after : List Node) → after ≡ ns ++ node.Application w 0 ∷ [] → IsState bytes (Named w) frames ns → (made_of bytes after ≡ Appl (name_of bytes w) w.quoted none none ∷ made_of bytes ns) × IsState bytes Body frames after
+pub leaf : (bytes : List ℕ) (w : Word) (frames : List Frame) (ns after : List Node) → after ≡ ns ++ node.Application w 0 ∷ []
+    → IsState bytes (Named w) frames ns → (made_of bytes after ≡ Appl (name_of bytes w) w.quoted none none ∷ made_of bytes ns) × IsState bytes Body frames after
 leaf bytes w frames ns after e s =
     let a = add_node bytes 0 1 frames ns after (node.Application w 0) e s.stack s.word (omega arith) (omega arith) in
     (a.0, record { stack = a.1; bare = rw (a.0) refl; word = tt })

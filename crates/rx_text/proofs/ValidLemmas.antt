@@ -1,5 +1,6 @@
 -- What bytes spell keeps the ranges: its integers fit, and its names are names.
-use Rattle.std.proofs.Common.{◌≡◌, ℕ, ◌+◌, ◌-◌, ◌*◌, zero, suc, true, false, Bool, ◌&&◌, ◌||◌, ◌==◌, cond, List, [], ◌∷◌, refl, pos, ℤ, neg_ℤ, ap, ◌⊎◌, inl, inr, arith}
+use Rattle.std.proofs.Common.{◌≡◌, ℕ, ◌+◌, ◌-◌, ◌*◌, zero, suc, true, false, Bool, ◌&&◌, ◌||◌, ◌==◌}
+use Rattle.std.proofs.Common.{cond, List, [], ◌∷◌, refl, pos, ℤ, neg_ℤ, ap, ◌⊎◌, inl, inr, arith}
 use Rattle.std.specs.Prelude.{Option, Some, None, nat_le, nat_lt, take_while, option_map}
 use Rattle.std.specs.List.{list_all}
 use Rattle.std.specs.Str.Parse.{digits_value}
@@ -7,8 +8,10 @@ use Rattle.std.proofs.lemmas.List.Sums.{take_while-cons}
 use Rattle.std.proofs.lemmas.Bool.{le-leb, leb-true}
 use Rattle.rx_term.specs.Name.{starts_name, continues_name, is_digit, is_name}
 use Rattle.rx_term.specs.Tree.{Tree, Trees, is_i32, is_tree, are_trees}
-use Rattle.rx_text.specs.Token.{Token, Integer, Name, Open, Close, OpenBracket, CloseBracket, OpenBrace, CloseBrace, Less, Greater, Comma, Bad, token_at, is_layout, quoted, item, after_item, escape, octal, is_octal, quoted_token, integer_token, mark, starts_with_digit}
-use Rattle.rx_text.specs.Grammar.{Term, Arguments, Annotations, Terms, Others, integer, named, nameless, list, hole, no_parentheses, parentheses, no_braces, braces, no_terms, terms, no_others, comma, Spells}
+use Rattle.rx_text.specs.Token.{Token, Integer, Name, Open, Close, OpenBracket, CloseBracket, OpenBrace, CloseBrace, Less, Greater, Comma, Bad, token_at}
+use Rattle.rx_text.specs.Token.{is_layout, quoted, item, after_item, escape, octal, is_octal, quoted_token, integer_token, mark, starts_with_digit}
+use Rattle.rx_text.specs.Grammar.{Term, Arguments, Annotations, Terms, Others, integer, named, nameless, list, hole}
+use Rattle.rx_text.specs.Grammar.{no_parentheses, parentheses, no_braces, braces, no_terms, terms, no_others, comma, Spells}
 use Rattle.rx_text.proofs.CuttingLemmas.{kinds_from, kinds_are, and_parts, true_or_false}
 use Rattle.rx_text.proofs.InLineLemmas.{seen, letter_seen, continuing_seen}
 
@@ -58,13 +61,15 @@ taken_pass p (x ∷ xs) = rw (take_while-cons p x xs) (chosen_all (p x) p x (tak
 
 continuing_bytes : (bs : List ℕ) → list_all continues_name bs ≡ true → list_all byte bs ≡ true
 continuing_bytes [] h = refl
-continuing_bytes (b ∷ bs) h = let k = and_parts (continues_name b) (list_all continues_name bs) h in rw (seen_byte b (continuing_seen b k.0), continuing_bytes bs k.1) refl
+continuing_bytes (b ∷ bs) h = let k = and_parts (continues_name b) (list_all continues_name bs) h in
+    rw (seen_byte b (continuing_seen b k.0), continuing_bytes bs k.1) refl
 
 plain_in_range : (b : ℕ) (bs : List ℕ) → starts_name b ≡ true → list_all continues_name bs ≡ true → is_name (b ∷ bs) false ≡ true
 plain_in_range b bs h k = rw (seen_byte b (letter_seen b h), continuing_bytes bs k, h, k) refl
 
 -- quoted names
-chosen_item : (c : Bool) (x y : Option (ℕ × ℕ)) (i : ℕ × ℕ) → cond c x y ≡ Some i → (x ≡ Some i → byte i.0 ≡ true) → (c ≡ false → y ≡ Some i → byte i.0 ≡ true) → byte i.0 ≡ true
+chosen_item : (c : Bool) (x y : Option (ℕ × ℕ)) (i : ℕ × ℕ) → cond c x y ≡ Some i → (x ≡ Some i → byte i.0 ≡ true)
+    → (c ≡ false → y ≡ Some i → byte i.0 ≡ true) → byte i.0 ≡ true
 chosen_item true x y i e h k = h e
 chosen_item false x y i e h k = k refl e
 
@@ -80,7 +85,8 @@ no_item e = cc e
 octal_byte : (cs : List ℕ) (i : ℕ × ℕ) → octal cs ≡ Some i → byte i.0 ≡ true
 octal_byte (b ∷ c ∷ d ∷ bs) i e = go (true_or_false (nat_le 48 b && nat_le b 51 && is_octal c && is_octal d))
   where
-    go : ((nat_le 48 b && nat_le b 51 && is_octal c && is_octal d) ≡ true) ⊎ ((nat_le 48 b && nat_le b 51 && is_octal c && is_octal d) ≡ false) → byte i.0 ≡ true
+    go : ((nat_le 48 b && nat_le b 51 && is_octal c && is_octal d) ≡ true) ⊎ ((nat_le 48 b && nat_le b 51 && is_octal c && is_octal d) ≡ false)
+        → byte i.0 ≡ true
     go (inl h) =
         let k = and_parts (nat_le 48 b && nat_le b 51 && is_octal c) (is_octal d) h in
         let l = and_parts (nat_le 48 b && nat_le b 51) (is_octal c) k.0 in
@@ -114,7 +120,8 @@ longer_bytes : (o : Option (List ℕ × ℕ)) → name_bytes o ≡ true → name
 longer_bytes None h = refl
 longer_bytes (Some q) h = h
 
-item_bytes : (o : Option (ℕ × ℕ)) (rest : ℕ → Option (List ℕ × ℕ)) → ((i : ℕ × ℕ) → o ≡ Some i → byte i.0 ≡ true) → ((n : ℕ) → name_bytes (rest n) ≡ true) → name_bytes (after_item o rest) ≡ true
+item_bytes : (o : Option (ℕ × ℕ)) (rest : ℕ → Option (List ℕ × ℕ)) → ((i : ℕ × ℕ) → o ≡ Some i → byte i.0 ≡ true)
+    → ((n : ℕ) → name_bytes (rest n) ≡ true) → name_bytes (after_item o rest) ≡ true
 item_bytes None rest h k = refl
 item_bytes (Some i) rest h k = front (rest i.1) (k i.1)
   where
@@ -183,21 +190,25 @@ mutual
       let j = term_valid g (after Less ts e) in
       let k = annotations_valid h (after Greater us j.1) in (both_true j.0 k.0, k.1)
 
-  arguments_valid : {ts rest : List Token} {as' : Trees} → Arguments ts as' rest → list_all in_range ts ≡ true → (are_trees as' ≡ true) × (list_all in_range rest ≡ true)
+  arguments_valid : {ts rest : List Token} {as' : Trees} → Arguments ts as' rest → list_all in_range ts ≡ true
+      → (are_trees as' ≡ true) × (list_all in_range rest ≡ true)
   arguments_valid no_parentheses e = (refl, e)
   arguments_valid (parentheses {ts = ts} {us = us} g) e = let j = terms_valid g (after Open ts e) in (j.0, after Close us j.1)
 
-  annotations_valid : {ts rest : List Token} {as' : Trees} → Annotations ts as' rest → list_all in_range ts ≡ true → (are_trees as' ≡ true) × (list_all in_range rest ≡ true)
+  annotations_valid : {ts rest : List Token} {as' : Trees} → Annotations ts as' rest → list_all in_range ts ≡ true
+      → (are_trees as' ≡ true) × (list_all in_range rest ≡ true)
   annotations_valid no_braces e = (refl, e)
   annotations_valid (braces {ts = ts} {us = us} g) e = let j = terms_valid g (after OpenBrace ts e) in (j.0, after CloseBrace us j.1)
 
-  terms_valid : {ts rest : List Token} {as' : Trees} → Terms ts as' rest → list_all in_range ts ≡ true → (are_trees as' ≡ true) × (list_all in_range rest ≡ true)
+  terms_valid : {ts rest : List Token} {as' : Trees} → Terms ts as' rest → list_all in_range ts ≡ true
+      → (are_trees as' ≡ true) × (list_all in_range rest ≡ true)
   terms_valid no_terms e = (refl, e)
   terms_valid (terms g o) e =
       let j = term_valid g e in
       let k = others_valid o j.1 in (both_true j.0 k.0, k.1)
 
-  others_valid : {ts rest : List Token} {as' : Trees} → Others ts as' rest → list_all in_range ts ≡ true → (are_trees as' ≡ true) × (list_all in_range rest ≡ true)
+  others_valid : {ts rest : List Token} {as' : Trees} → Others ts as' rest → list_all in_range ts ≡ true
+      → (are_trees as' ≡ true) × (list_all in_range rest ≡ true)
   others_valid no_others e = (refl, e)
   others_valid (comma {ts = ts} g o) e =
       let j = term_valid g (after Comma ts e) in

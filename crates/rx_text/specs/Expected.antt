@@ -9,7 +9,8 @@ use Rattle.rx_text.specs.Lexemes.{token_of}
 use Rattle.rx_text.specs.Reader.{state_of}
 use Rattle.rx_text.specs.declared.lexer.LexemeKind.{LexemeKind}
 use Rattle.rx_text.specs.declared.token_kind.TokenKind.{TokenKind}
-use Rattle.rx_text.specs.declared.token_kind.TokenKind.TheVariants.{Integer, Name, Open, Close, OpenBracket, CloseBracket, OpenBrace, CloseBrace, Less, Greater, Comma, End}
+use Rattle.rx_text.specs.declared.token_kind.TokenKind.TheVariants.{Integer, Name, Open, Close, OpenBracket, CloseBracket}
+use Rattle.rx_text.specs.declared.token_kind.TokenKind.TheVariants.{OpenBrace, CloseBrace, Less, Greater, Comma, End}
 use Rattle.rx_text.specs.declared.reader.Due.{Due}
 use Rattle.rx_text.specs.declared.reader.Reader.{Reader}
 

@@ -7,7 +7,8 @@ use Rattle.rx_text.specs.Token as token
 use Rattle.rx_text.specs.Token.{Token, tokens_from, quoted}
 use Rattle.rx_text.specs.declared.nodes.Word.{Word}
 use Rattle.rx_text.specs.declared.lexer.LexemeKind.{LexemeKind}
-use Rattle.rx_text.specs.declared.lexer.LexemeKind.TheVariants.{Integer, Name, Open, Close, OpenBracket, CloseBracket, OpenBrace, CloseBrace, Less, Greater, Comma, Bad, End}
+use Rattle.rx_text.specs.declared.lexer.LexemeKind.TheVariants.{Integer, Name, Open, Close, OpenBracket, CloseBracket}
+use Rattle.rx_text.specs.declared.lexer.LexemeKind.TheVariants.{OpenBrace, CloseBrace, Less, Greater, Comma, Bad, End}
 
 -- the name that was read up to its closing quote
 abbrev pub quoted_name : Option (List ℕ × ℕ) → List ℕ

@@ -26,7 +26,8 @@ put_none xs k none s = elim (one_or_two s k) [
   | inr h ↦ ap root_count (get_or-put_other xs k s None h.1) ∙ none s
 ]
 
-emptied_none : (xs : List (Option Taken)) (ss : List ℕ) → ((s : ℕ) → root_count (get_or xs s None) ≡ 0) → (s : ℕ) → root_count (get_or (emptied xs ss) s None) ≡ 0
+emptied_none : (xs : List (Option Taken)) (ss : List ℕ) → ((s : ℕ) → root_count (get_or xs s None) ≡ 0) → (s : ℕ)
+    → root_count (get_or (emptied xs ss) s None) ≡ 0
 emptied_none xs [] none = none
 emptied_none xs (k ∷ ss) none = emptied_none (put xs k None) ss (put_none xs k none)
 

@@ -15,7 +15,8 @@ kept_root w t r n k = elim (eqb_tells r.0 t.0) [
 ]
 
 -- so what a reclaim leaves was reached from the roots, or from t
-pub only_reached : (a b c : Store) (t : Term) (n : ℕ) → b ≡ with_count a t n → Reclaims b c [] → (s : Term) (u : Tree) → tree_at c s ≡ Some u → IsReached a (t ∷ []) u
+pub only_reached : (a b c : Store) (t : Term) (n : ℕ) → b ≡ with_count a t n → Reclaims b c [] → (s : Term) (u : Tree) → tree_at c s ≡ Some u
+    → IsReached a (t ∷ []) u
 only_reached a b c t n e m s u h =
     let k = (m.only s u h).1 in
     (k.0, (k.1.0, kept_root a t k.0 n (rw e at k.1.1), rw e at k.1.2, k.1.3))

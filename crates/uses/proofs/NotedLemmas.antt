@@ -9,10 +9,13 @@ use Rattle.rx_term.specs.Steps.{MakesOrRefuses}
 use Rattle.rx_term.specs.declared.Term.{Term}
 use Rattle.rx_term.specs.declared.faults.BankFault.{BankFault}
 
-pub noted_there : (w : Store) (t anns : Term) (u : Tree) (us : Trees) → tree_at w t ≡ Some u → tree_at w anns ≡ Some (list_of us) → IsSome (noted (tree_at w t) (tree_at w anns))
+pub noted_there : (w : Store) (t anns : Term) (u : Tree) (us : Trees) → tree_at w t ≡ Some u → tree_at w anns ≡ Some (list_of us)
+    → IsSome (noted (tree_at w t) (tree_at w anns))
 noted_there w t anns u us e f = rw (e, f) refl
 
-pub noted_made : (old new : Store) (t anns : Term) (u : Tree) (us : Trees) (x : Result Term BankFault) → tree_at old t ≡ Some u → tree_at old anns ≡ Some (list_of us) → MakesOrRefuses old new (noted (tree_at old t) (tree_at old anns)) x → IfOk x (λ r. tree_at new r ≡ Some (annotated u us))
+pub noted_made : (old new : Store) (t anns : Term) (u : Tree) (us : Trees) (x : Result Term BankFault) → tree_at old t ≡ Some u
+    → tree_at old anns ≡ Some (list_of us) → MakesOrRefuses old new (noted (tree_at old t) (tree_at old anns)) x
+    → IfOk x (λ r. tree_at new r ≡ Some (annotated u us))
 noted_made old new t anns u us (Ok r) e f m = m.made ∙ rw (e, f) refl
 noted_made old new t anns u us (Err fault) e f m = tt
 

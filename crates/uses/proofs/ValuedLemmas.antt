@@ -13,7 +13,8 @@ use Rattle.rec_engine.specs.declared.cells.EngineFault.{EngineFault}
 use Rattle.uses.specs.Evaluated.{IsHeld}
 
 -- a term is given where the list of it alone keeps the rules
-pub given_alone : (y : Spec) (w : Store) (t list : Term) (u : Tree) → tree_at w t ≡ Some u → tree_at w list ≡ Some (list_of (more u none)) → IfSome (tree_at w list) (λ v. broken_by_terms y v ≡ None) → IsGiven y w t
+pub given_alone : (y : Spec) (w : Store) (t list : Term) (u : Tree) → tree_at w t ≡ Some u → tree_at w list ≡ Some (list_of (more u none))
+    → IfSome (tree_at w list) (λ v. broken_by_terms y v ≡ None) → IsGiven y w t
 given_alone y w t list u held alone kept = record { tree = u; held = held; is_ground = subst (λ o. IfSome o (λ v. broken_by_terms y v ≡ None)) alone kept }
 
 -- it stays so with its tree
@@ -21,7 +22,8 @@ pub given_still : (y z : Spec) (old new : Store) (t : Term) → z ≡ y → tree
 given_still y z old new t same here given = record { tree = given.tree; held = here ∙ given.held; is_ground = rw same given.is_ground }
 
 -- and in a new engine
-pub given_in_engine : {B : Type 0} (store : B → Store) (y : Spec) (old : Store) (x : Result (EngineState B) EngineFault) → IfOk x (λ e. e.spec ≡ y) → IfOk x (λ e. HasMoreSymbols old (store e.bank)) → IfOk x (λ e. (t : Term) → IsGiven y old t → IsGiven e.spec (store e.bank) t)
+pub given_in_engine : {B : Type 0} (store : B → Store) (y : Spec) (old : Store) (x : Result (EngineState B) EngineFault) → IfOk x (λ e. e.spec ≡ y)
+    → IfOk x (λ e. HasMoreSymbols old (store e.bank)) → IfOk x (λ e. (t : Term) → IsGiven y old t → IsGiven e.spec (store e.bank) t)
 given_in_engine store y old (Ok e) same grown = λ t given. given_still y e.spec old (store e.bank) t same (ap (λ c. map.get c t.0) grown.content) given
 given_in_engine store y old (Err fault) same grown = tt
 

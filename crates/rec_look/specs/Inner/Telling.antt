@@ -1,5 +1,6 @@
 -- How a trace is told by a tracer's turns.
-use Rattle.std.specs.Prelude.{ℕ, zero, suc, ◌-◌, ◌≡◌, ◌≤◌, ◌==◌, ◌++◌, ◌∷◌, Bool, true, false, List, [], Option, Some, None, Vec, codes, decimal, drop, flat_map, if◌then◌else◌, length, map}
+use Rattle.std.specs.Prelude.{ℕ, zero, suc, ◌-◌, ◌≡◌, ◌≤◌, ◌==◌, ◌++◌, ◌∷◌, Bool, true, false, List, [], Option}
+use Rattle.std.specs.Prelude.{Some, None, Vec, codes, decimal, drop, flat_map, if◌then◌else◌, length, map}
 use Rattle.std.specs.Option.{option_to_list}
 use Rattle.std.specs.declared.alloc.Global.{Global}
 use Rattle.rx_term.specs.Tree.{Tree, annotations, none}

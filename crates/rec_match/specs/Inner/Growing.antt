@@ -1,6 +1,7 @@
 -- How matching trees grow: each node stands for rows that are left, and its children for what is
 -- left of them.
-use Rattle.std.specs.Prelude.{ℕ, ◌≡◌, ◌+◌, ◌<◌, ◌≤◌, ◌≢◌, suc, Bool, true, false, List, [], ◌∷◌, ◌++◌, Option, Some, None, All, length, get_or, bytes_eq, slice_range}
+use Rattle.std.specs.Prelude.{ℕ, ◌≡◌, ◌+◌, ◌<◌, ◌≤◌, ◌≢◌, suc, Bool, true, false, List, [], ◌∷◌}
+use Rattle.std.specs.Prelude.{◌++◌, Option, Some, None, All, length, get_or, bytes_eq, slice_range}
 use Rattle.std.specs.Option.{option_map}
 use Rattle.rec_syntax.specs.Syntax as R
 use Rattle.rec_syntax.specs.Syntax.{Spec}

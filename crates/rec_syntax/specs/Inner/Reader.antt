@@ -18,7 +18,8 @@ use Rattle.rec_syntax.specs.declared.reader.Symbols.TheVariants.{Constructors, O
 use Rattle.rec_syntax.specs.declared.reader.Role.{Role}
 use Rattle.rec_syntax.specs.declared.reader.Role.TheVariants.{Left, Right, ConditionLeft, ConditionRight, InEval}
 use Rattle.rec_syntax.specs.declared.reader.Due.{Due}
-use Rattle.rec_syntax.specs.declared.reader.Due.TheVariants.{Start, Title, Between, Named, Arguments, ResultSort, Grouped, GroupSort, AtTerm, Called, First, After, Ended, Done}
+use Rattle.rec_syntax.specs.declared.reader.Due.TheVariants.{Start, Title, Between, Named, Arguments, ResultSort, Grouped}
+use Rattle.rec_syntax.specs.declared.reader.Due.TheVariants.{GroupSort, AtTerm, Called, First, After, Ended, Done}
 use Rattle.rec_syntax.specs.declared.reader.Call.{Call}
 use Rattle.rec_syntax.specs.declared.reader.Reader.{Reader}
 use Rattle.rec_syntax.specs.declared.reader.Stop.{Stop}

@@ -1,5 +1,6 @@
 -- What each turn of a tracer needs, and what it does.
-use Rattle.std.specs.Prelude.{ℕ, ◌≡◌, ◌≤◌, ◌<◌, Bool, true, false, Contains, IsSome, List, [], ◌∷◌, ◌++◌, Option, Some, None, drop, length, map, reverse, slice_get, take}
+use Rattle.std.specs.Prelude.{ℕ, ◌≡◌, ◌≤◌, ◌<◌, Bool, true, false, Contains, IsSome, List, [], ◌∷◌}
+use Rattle.std.specs.Prelude.{◌++◌, Option, Some, None, drop, length, map, reverse, slice_get, take}
 use Rattle.std.specs.Option.{option_map}
 use Rattle.rx_term.specs.Tree.{Tree, none}
 use Rattle.rx_term.specs.Store.{Store, tree_at}

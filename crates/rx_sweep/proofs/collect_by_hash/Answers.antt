@@ -24,13 +24,15 @@ pub sweep_by_hash-requires-clause-homed : goal.sweep_by_hash-requires-clause-hom
 sweep_by_hash-requires-clause-homed c =
     let r = c.mark_roots.ensures in
     let m = c.mark_on.ensures in
-    same_homed c.args.arena.now c.mark_on.new.arena (same_two c.args.arena.now r.old_law c.requires.can c.mark_roots.new.arena r.marks r.law c.mark_on.new.arena m.same m.stay m.reached m.closed) c.requires.homed
+    same_homed c.args.arena.now c.mark_on.new.arena (same_two c.args.arena.now r.old_law c.requires.can c.mark_roots.new.arena r.marks r.law
+    c.mark_on.new.arena m.same m.stay m.reached m.closed) c.requires.homed
 
 pub turn_marks-requires-clause-marked : goal.turn_marks-requires-clause-marked
 turn_marks-requires-clause-marked c =
     let r = c.mark_roots.ensures in
     let m = c.mark_on.ensures in
-    all_marked c.args.arena.now r.old_law c.requires.can c.mark_roots.new.arena r.marks r.law c.mark_on.new.arena m.same m.stay m.reached m.closed c.sweep_by_hash.new.arena c.sweep_by_hash.ensures.swept
+    all_marked c.args.arena.now r.old_law c.requires.can c.mark_roots.new.arena r.marks r.law c.mark_on.new.arena m.same m.stay m.reached m.closed
+    c.sweep_by_hash.new.arena c.sweep_by_hash.ensures.swept
 
 pub returns-clause-collected : goal.returns-clause-collected
 returns-clause-collected c =

@@ -12,10 +12,12 @@ pub returns-clause-ready : goal.returns-clause-ready
 returns-clause-ready c =
     let t = c.in_ok-slot.ensures in
     let lt = subst (λ (v : ArenaState). 0 < length v.chains) (sym t.rest) c.requires.chains in
-    linked_ready c.args.arena.now c.take.new.self c.chain_push.new.self c.in_ok-slot.slot.0 0 c.args.body t.free t.cells t.rest t.loose lt c.chain_push.ensures.after c.requires.ready c.requires.parts
+    linked_ready c.args.arena.now c.take.new.self c.chain_push.new.self c.in_ok-slot.slot.0 0 c.args.body t.free t.cells t.rest t.loose lt
+    c.chain_push.ensures.after c.requires.ready c.requires.parts
 
 pub returns-clause-taken : goal.returns-clause-taken
 returns-clause-taken c =
     let t = c.in_ok-slot.ensures in
     let lt = subst (λ (v : ArenaState). 0 < length v.chains) (sym t.rest) c.requires.chains in
-    linked_taken c.args.arena.now c.take.new.self c.chain_push.new.self c.in_ok-slot.slot.0 0 c.args.body t.free t.cells t.rest t.loose lt c.chain_push.ensures.after
+    linked_taken c.args.arena.now c.take.new.self c.chain_push.new.self c.in_ok-slot.slot.0 0 c.args.body t.free t.cells t.rest t.loose lt
+    c.chain_push.ensures.after

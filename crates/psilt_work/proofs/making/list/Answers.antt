@@ -11,13 +11,15 @@ use Rattle.psilt_work.proofs.making.list.Goals as goal
 pub cons-requires : goal.cons-requires
 cons-requires c =
     let old = store_of c.args.bank.now in let now = store_of c.loop-left.bank in let items = c.args.items.now in let at = c.loop-left.left - 1 in
-    let n = next old now (terms_of (drop c.loop-left.left items)) (term_of (get_or items at 0)) c.loop-left.list c.loop-left.invariant.grows (held_at old items at 0 c.requires (omega arith)) c.loop-left.invariant.lists in
+    let n = next old now (terms_of (drop c.loop-left.left items)) (term_of (get_or items at 0)) c.loop-left.list c.loop-left.invariant.grows
+    (held_at old items at 0 c.requires (omega arith)) c.loop-left.invariant.lists in
     ap is_some (is_longer _ _ n.0 n.1.0 n.1.1 n.1.2)
 
 pub loop-left-preserved : goal.loop-left-preserved
 loop-left-preserved c =
     let old = store_of c.args.bank.now in let now = store_of c.loop-left.bank in let items = c.args.items.now in let at = c.loop-left.left - 1 in
-    let n = next old now (terms_of (drop c.loop-left.left items)) (term_of (get_or items at 0)) c.loop-left.list c.loop-left.invariant.grows (held_at old items at 0 c.requires (omega arith)) c.loop-left.invariant.lists in
+    let n = next old now (terms_of (drop c.loop-left.left items)) (term_of (get_or items at 0)) c.loop-left.list c.loop-left.invariant.grows
+    (held_at old items at 0 c.requires (omega arith)) c.loop-left.invariant.lists in
     record {
       within = omega arith;
       grows = Grows-trans c.loop-left.invariant.grows (Grows-Makes c.in_ok-list-2.ensures.made);

@@ -6,4 +6,5 @@ use Rattle.rec_check.specs.Walks.{unbound_in}
 use Rattle.rec_check.proofs.broken.push_unbound.Given as goal
 
 abbrev pub invariant-loop-rule : goal.invariant-loop-rule
-invariant-loop-rule l = as_words l.found.items ≡ as_words l.initial.found.items ++ flat_map (unbound_in l.syntax.spec) (map (rule_of l.syntax.source) (take l.rule-index l.rules))
+invariant-loop-rule l = as_words l.found.items ≡ as_words l.initial.found.items ++ flat_map (unbound_in l.syntax.spec)
+    (map (rule_of l.syntax.source) (take l.rule-index l.rules))

@@ -9,5 +9,7 @@ use Rattle.rec_check.proofs.broken.unbound.Goals as goal
 pub returns : goal.returns
 returns c =
     let y = c.args.syntax.now.spec in
-    let found = c.in_ok-push_unbound.ensures ∙ ap (λ ws. as_words ws ++ flat_map (unbound_in y) (map (rule_of c.args.syntax.now.source) c.rules.result.now)) c.new-found.ensures.items ∙ ap (flat_map (unbound_in y)) c.rules.ensures.rules in
+    let found = c.in_ok-push_unbound.ensures
+    ∙ ap (λ ws. as_words ws ++ flat_map (unbound_in y) (map (rule_of c.args.syntax.now.source) c.rules.result.now)) c.new-found.ensures.items
+    ∙ ap (flat_map (unbound_in y)) c.rules.ensures.rules in
     λ p. same-unbound y y.rules p ∙ ap (count_by p) (sym found)

@@ -9,4 +9,5 @@ use Rattle.rec_check.proofs.broken.unbound_of.Goals as goal
 pub returns : goal.returns
 returns c =
     let left = node_words (flat (rule_of c.args.syntax.now.source c.args.rule.now).left) in
-    if_ok_equal c.missing.result (missing left (as_words c.deref.result.now)) _ (c.missing.ensures left c.in_ok-bound.ensures) (ap (missing left) (ap as_words c.deref.ensures.value ∙ c.in_ok-used.ensures))
+    if_ok_equal c.missing.result (missing left (as_words c.deref.result.now)) _ (c.missing.ensures left c.in_ok-bound.ensures)
+    (ap (missing left) (ap as_words c.deref.ensures.value ∙ c.in_ok-used.ensures))

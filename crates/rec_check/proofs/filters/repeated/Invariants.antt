@@ -7,4 +7,5 @@ use Rattle.rec_check.proofs.LookupLemmas.{repeated_by}
 use Rattle.rec_check.proofs.filters.repeated.Given as goal
 
 abbrev pub invariant-loop-word : goal.invariant-loop-word
-invariant-loop-word l = as_words l.found.items ++ repeated_by (λ name. is_some (number_in l.names name)) (as_words (drop l.word-index l.words)) ≡ repeated (as_words l.before) (as_words l.words)
+invariant-loop-word l = as_words l.found.items ++ repeated_by (λ name. is_some (number_in l.names name))
+    (as_words (drop l.word-index l.words)) ≡ repeated (as_words l.before) (as_words l.words)

@@ -9,12 +9,14 @@ pub returns-in_err-put-clause-err : goal.returns-in_err-put-clause-err
 returns-in_err-put-clause-err g c =
     let shown = c.args.shown.now in
     on_err c.from_residual.result
-    (subst (λ text. AppendsFront text (g.W.Write.contents c.args.out.now.writer.now) (g.W.Write.contents c.put.new.self.writer.now)) (shown-some shown (search rules))
+    (subst (λ text. AppendsFront text (g.W.Write.contents c.args.out.now.writer.now) (g.W.Write.contents c.put.new.self.writer.now))
+    (shown-some shown (search rules))
     (front_before _ _ (codes ": ") shown c.in_err-put.ensures.front))
 
 pub returns-in_err-put-2-clause-err : goal.returns-in_err-put-2-clause-err
 returns-in_err-put-2-clause-err g c =
     let shown = c.args.shown.now in
     on_err c.from_residual-in_err-put-2.result
-    (subst (λ text. AppendsFront text (g.W.Write.contents c.args.out.now.writer.now) (g.W.Write.contents c.put-2.new.self.writer.now)) (shown-some shown (search rules))
+    (subst (λ text. AppendsFront text (g.W.Write.contents c.args.out.now.writer.now) (g.W.Write.contents c.put-2.new.self.writer.now))
+    (shown-some shown (search rules))
     (front_after _ _ _ (codes ": ") shown c.in_ok-put.ensures.written c.in_err-put-2.ensures.front))

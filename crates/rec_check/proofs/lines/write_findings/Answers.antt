@@ -14,7 +14,8 @@ loop-finding-preserved g c =
     let same = h.cursor.text_is in
     let at = rw same at c.spot-spot.ensures.spot in
     record {
-      written = subst (Appends (g.W.Write.contents c.args.out.now.writer.now) (g.W.Write.contents c.write_finding.new.out.writer.now)) (lines_turn c.args.name.now c.args.text.now c.args.findings.now c.loop-finding.finding-index _ c.spot-spot.result c.loop-finding-test.true at)
+      written = subst (Appends (g.W.Write.contents c.args.out.now.writer.now) (g.W.Write.contents c.write_finding.new.out.writer.now))
+          (lines_turn c.args.name.now c.args.text.now c.args.findings.now c.loop-finding.finding-index _ c.spot-spot.result c.loop-finding-test.true at)
           (appends_both _ _ _ _ _ h.written c.in_ok-write_finding.ensures.ok);
       writable = search rules;
       same = search rules;
@@ -27,7 +28,9 @@ returns-in_err-write_finding-clause-err g c =
     let same = h.cursor.text_is in
     let at = rw same at c.spot-spot.ensures.spot in
     on_err c.from_residual.result
-    (front_within _ _ _ _ _ _ _ (lines_rest c.args.name.now c.args.text.now c.args.findings.now c.loop-finding.finding-index _ c.spot-spot.result c.loop-finding-test.true at) h.written c.in_err-write_finding.ensures.err)
+    (front_within _ _ _ _ _ _ _ (lines_rest c.args.name.now c.args.text.now c.args.findings.now c.loop-finding.finding-index _ c.spot-spot.result
+    c.loop-finding-test.true at) h.written c.in_err-write_finding.ensures.err)
 
 pub returns-clause-ok : goal.returns-clause-ok
-returns-clause-ok g c = subst (Appends (g.W.Write.contents c.args.out.now.writer.now) (g.W.Write.contents c.loop-finding.out.writer.now)) (lines_end c.args.name.now c.args.text.now c.args.findings.now c.loop-finding.finding-index c.loop-finding-test.false) c.loop-finding.invariant.written
+returns-clause-ok g c = subst (Appends (g.W.Write.contents c.args.out.now.writer.now) (g.W.Write.contents c.loop-finding.out.writer.now))
+    (lines_end c.args.name.now c.args.text.now c.args.findings.now c.loop-finding.finding-index c.loop-finding-test.false) c.loop-finding.invariant.written

@@ -9,7 +9,8 @@ use Rattle.rec_check.proofs.lines.write_findings.Given as goal
 -- the lines so far were written
 abbrev pub invariant-loop-finding : goal.invariant-loop-finding
 invariant-loop-finding g l = record {
-  written : Appends (g.W.Write.contents l.fn.out.writer.now) (g.W.Write.contents l.out.writer.now) (lines_of l.name l.text (as_findings (take l.finding-index l.findings)));
+  written : Appends (g.W.Write.contents l.fn.out.writer.now) (g.W.Write.contents l.out.writer.now)
+      (lines_of l.name l.text (as_findings (take l.finding-index l.findings)));
   writable : IsWritable l.out;
   same : IsSameOutput l.fn.out l.out;
   cursor : IsCursor l.text l.cursor;

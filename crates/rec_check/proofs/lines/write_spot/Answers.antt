@@ -21,4 +21,5 @@ returns-in_err-put-clause-err g c =
     let line = codes ":" ++ decimal c.args.spot.line in
     let column = codes ":" ++ decimal c.args.spot.column in
     on_err c.from_residual-in_err-put.result
-    (front_after _ _ _ (line ++ column) (codes ": ") (appends_both _ _ _ line column c.in_ok-put_numbered_to.ensures.ok c.in_ok-put_numbered_to-2.ensures.ok) c.in_err-put.ensures.front)
+    (front_after _ _ _ (line ++ column) (codes ": ") (appends_both _ _ _ line column c.in_ok-put_numbered_to.ensures.ok
+    c.in_ok-put_numbered_to-2.ensures.ok) c.in_err-put.ensures.front)

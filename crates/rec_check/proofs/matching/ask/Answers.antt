@@ -28,9 +28,11 @@ returns-in-Symbol c =
     let split = c.in-Some.ensures.cases.0 in
     record {
       asks = subst (Asks c.args.letter terms v v)
-          (seen (λ p. p.letters.now) b c.split_at.result.0 others (c.split_at.ensures.front ∙ ap (λ ls. take (length others) ls) split ∙ take-append_seam others (last ∷ [])) ∙ ap (option_map (λ p. p.letters.now)) (sym c.then_some.ensures))
+          (seen (λ p. p.letters.now) b c.split_at.result.0 others (c.split_at.ensures.front ∙ ap (λ ls. take (length others) ls) split
+          ∙ take-append_seam others (last ∷ [])) ∙ ap (option_map (λ p. p.letters.now)) (sym c.then_some.ensures))
           (ask_symbol c.args.letter c.in-Symbol.field-0 terms others last v b c.in-Symbol.is split c.same_letter.ensures.same c.same_letter.ensures.other);
-      sizes = subst (λ o. IfSome o (λ p. AreSizes p.letters.now p.sizes.now)) (sym c.then_some.ensures) (let_through (λ p. AreSizes p.letters.now p.sizes.now) b c.split_at.result.0 c.split_at.ensures.front_sizes);
+      sizes = subst (λ o. IfSome o (λ p. AreSizes p.letters.now p.sizes.now)) (sym c.then_some.ensures)
+          (let_through (λ p. AreSizes p.letters.now p.sizes.now) b c.split_at.result.0 c.split_at.ensures.front_sizes);
     }
 
 pub returns-in_ok-bind-in-Variable : goal.returns-in_ok-bind-in-Variable
@@ -42,8 +44,11 @@ returns-in_ok-bind-in-Variable c =
     let cut = c.split_at-in-Variable in
     record {
       asks = subst (Asks c.args.letter terms old new)
-          (seen (λ p. p.letters.now) found cut.result.0 (take c.before_last.result terms) cut.ensures.front ∙ ap (option_map (λ p. p.letters.now)) (sym c.then_some-in-Variable.ensures))
-          (ask_variable c.args.letter c.in-Variable.variable c.before_last.result terms old new found c.in-Variable.is (search rules) c.before_last.ensures.split
+          (seen (λ p. p.letters.now) found cut.result.0 (take c.before_last.result terms) cut.ensures.front
+          ∙ ap (option_map (λ p. p.letters.now)) (sym c.then_some-in-Variable.ensures))
+          (ask_variable c.args.letter c.in-Variable.variable c.before_last.result terms old new found c.in-Variable.is (search rules)
+          c.before_last.ensures.split
           (subst (λ part. Binds c.in-Variable.variable part old new found) cut.ensures.back c.in_ok-bind-in-Variable.ensures));
-      sizes = subst (λ o. IfSome o (λ p. AreSizes p.letters.now p.sizes.now)) (sym c.then_some-in-Variable.ensures) (let_through (λ p. AreSizes p.letters.now p.sizes.now) found cut.result.0 cut.ensures.front_sizes);
+      sizes = subst (λ o. IfSome o (λ p. AreSizes p.letters.now p.sizes.now)) (sym c.then_some-in-Variable.ensures)
+          (let_through (λ p. AreSizes p.letters.now p.sizes.now) found cut.result.0 cut.ensures.front_sizes);
     }

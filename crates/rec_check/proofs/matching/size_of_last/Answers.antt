@@ -18,7 +18,8 @@ loop-due-init c =
     let last : ℕ = length letters - 1 in
     record {
       within = omega (arith, some);
-      are = λ y ms t e. due_next letters (length letters) last 1 (get_or letters last no_letter).count no_letter y ms (omega arith) (omega (arith, some)) (omega arith) (λ le. omega arith) (due_start letters y ms t e);
+      are = λ y ms t e. due_next letters (length letters) last 1 (get_or letters last no_letter).count no_letter y ms (omega arith)
+          (omega (arith, some)) (omega arith) (λ le. omega arith) (due_start letters y ms t e);
     }
 
 pub loop-due-preserved : goal.loop-due-preserved
@@ -34,7 +35,8 @@ loop-due-preserved c =
     record {
       within = omega (arith, within, next);
       are = λ y ms t e. subst (λ (k : ℕ). AreDue letters k (c.loop-due.due - 1) y ms) (sym next)
-          (due_term letters c.args.sizes.now (length letters - 1) at c.loop-due.due y ms c.requires.sizes (omega arith) (omega (arith, within)) some due (h.are y ms t e));
+          (due_term letters c.args.sizes.now (length letters - 1) at c.loop-due.due y ms c.requires.sizes (omega arith) (omega (arith, within)) some
+          due (h.are y ms t e));
     }
 
 pub returns : goal.returns

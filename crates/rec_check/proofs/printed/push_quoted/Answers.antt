@@ -11,6 +11,7 @@ returns c =
     let quoted = flat_map quoted_byte name in
     c.in_ok-push-2.ensures.items
     ∙ ap (λ xs. xs ++ 34 ∷ [])
-    (c.loop-byte.invariant ∙ ap (λ ns. c.push.new.self.items ++ flat_map quoted_byte ns) (take_all c.loop-byte.byte-index name c.loop-byte-test.false) ∙ ap (λ xs. xs ++ quoted) c.in_ok-push.ensures.items)
+    (c.loop-byte.invariant ∙ ap (λ ns. c.push.new.self.items ++ flat_map quoted_byte ns) (take_all c.loop-byte.byte-index name c.loop-byte-test.false)
+    ∙ ap (λ xs. xs ++ quoted) c.in_ok-push.ensures.items)
     ∙ append_assoc (text ++ 34 ∷ []) quoted (34 ∷ [])
     ∙ append_assoc text (34 ∷ []) (quoted ++ 34 ∷ [])

@@ -9,14 +9,17 @@ pub unreachable-requires : goal.unreachable-requires
 unreachable-requires c =
     let y = c.args.checked.now.spec in
     let q = get_or y.rules c.args.rule skip.no_rule in
-    no_variable y c.syntax-kept.ensures.kept q (rule_there y.rules c.args.rule skip.no_rule c.requires) c.deref.result.now c.in-Some._others.now c.in-Some.letter.now
-    (subst (λ ls. AreLetters y ls q.left) (sym c.deref.ensures.value) (c.letters.ensures skip.no_rule).0) c.in-Some.ensures.cases.0 c.in-Variable.field-0 c.in-Variable.is
+    no_variable y c.syntax-kept.ensures.kept q (rule_there y.rules c.args.rule skip.no_rule c.requires) c.deref.result.now c.in-Some._others.now
+    c.in-Some.letter.now
+    (subst (λ ls. AreLetters y ls q.left) (sym c.deref.ensures.value) (c.letters.ensures skip.no_rule).0) c.in-Some.ensures.cases.0
+    c.in-Variable.field-0 c.in-Variable.is
 
 pub unreachable-requires-in-None : goal.unreachable-requires-in-None
 unreachable-requires-in-None c =
     let y = c.args.checked.now.spec in
     let q = get_or y.rules c.args.rule skip.no_rule in
-    no_last y [] q.left c.deref.result.now c.in-None.ensures.cases (subst (λ ls. AreLetters y ls q.left) (sym c.deref.ensures.value) (c.letters.ensures skip.no_rule).0).1
+    no_last y [] q.left c.deref.result.now c.in-None.ensures.cases
+    (subst (λ ls. AreLetters y ls q.left) (sym c.deref.ensures.value) (c.letters.ensures skip.no_rule).0).1
 
 pub returns : goal.returns
 returns c r =

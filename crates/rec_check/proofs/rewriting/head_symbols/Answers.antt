@@ -9,12 +9,14 @@ use Rattle.rec_match.proofs.LetterLemmas.{pair-long}
 use Rattle.rec_check.proofs.rewriting.head_symbols.Goals as goal
 
 -- one symbol more
-more : (y : Spec) (fs fs' : List ℕ) (n k : ℕ) → length fs ≡ n → ((i : ℕ) (r : Rule) → i < n → IsHead y (get_or y.rules i r) (get_or fs i 0)) → fs' ≡ fs ++ k ∷ [] → ((r : Rule) → IsHead y (get_or y.rules n r) k)
+more : (y : Spec) (fs fs' : List ℕ) (n k : ℕ) → length fs ≡ n → ((i : ℕ) (r : Rule) → i < n → IsHead y (get_or y.rules i r) (get_or fs i 0))
+    → fs' ≡ fs ++ k ∷ [] → ((r : Rule) → IsHead y (get_or y.rules n r) k)
     → (i : ℕ) (r : Rule) → i < n + 1 → IsHead y (get_or y.rules i r) (get_or fs' i 0)
 more y fs fs' n k long each e own i r lt = by (cases_eq i n)
   where
     by : (i ≡ n) ⊎ (i ≢ n) → IsHead y (get_or y.rules i r) (get_or fs' i 0)
-    by (inl q) = subst (λ j. IsHead y (get_or y.rules j r) (get_or fs' j 0)) (sym q) (subst (IsHead y (get_or y.rules n r)) (sym (ap (λ xs. get_or xs n 0) e ∙ get-last fs k n 0 (sym long))) (own r))
+    by (inl q) = subst (λ j. IsHead y (get_or y.rules j r) (get_or fs' j 0)) (sym q)
+        (subst (IsHead y (get_or y.rules n r)) (sym (ap (λ xs. get_or xs n 0) e ∙ get-last fs k n 0 (sym long))) (own r))
     by (inr d) =
         let below : i < n = omega (arith, lt, d) in
         subst (IsHead y (get_or y.rules i r)) (sym (ap (λ xs. get_or xs i 0) e ∙ get-front fs k i 0 (omega (arith, below, long)))) (each i r below)
@@ -29,8 +31,10 @@ head_symbol-requires c =
 
 pub loop-rule-preserved : goal.loop-rule-preserved
 loop-rule-preserved c = record {
-  counted = (let i = c.loop-rule.invariant.counted in let e = ap length c.in_ok-push.ensures.items ∙ length-append c.loop-rule.heads.items (c.head_symbol.result ∷ []) in omega (arith, i, e));
-  each = more c.args.checked.now.spec c.loop-rule.heads.items c.push.new.self.items c.loop-rule.rule c.head_symbol.result c.loop-rule.invariant.counted c.loop-rule.invariant.each c.in_ok-push.ensures.items c.head_symbol.ensures;
+  counted = (let i = c.loop-rule.invariant.counted in let e = ap length c.in_ok-push.ensures.items
+      ∙ length-append c.loop-rule.heads.items (c.head_symbol.result ∷ []) in omega (arith, i, e));
+  each = more c.args.checked.now.spec c.loop-rule.heads.items c.push.new.self.items c.loop-rule.rule c.head_symbol.result
+      c.loop-rule.invariant.counted c.loop-rule.invariant.each c.in_ok-push.ensures.items c.head_symbol.ensures;
 }
 
 pub returns : goal.returns

@@ -16,4 +16,5 @@ unreachable-requires c =
 pub returns : goal.returns
 returns c r =
     let y = c.args.checked.now.spec in
-    subst (λ x. IsLetterRule y x (get_or y.rules c.args.rule r)) (sym c.in-Some.ensures.lookup.1) (pair-at (IsLetterRule y) c.rules.result.now y.rules c.rules.ensures.letters c.args.rule c.in-Some.letters.now r c.requires)
+    subst (λ x. IsLetterRule y x (get_or y.rules c.args.rule r)) (sym c.in-Some.ensures.lookup.1)
+    (pair-at (IsLetterRule y) c.rules.result.now y.rules c.rules.ensures.letters c.args.rule c.in-Some.letters.now r c.requires)

@@ -10,12 +10,17 @@ use Rattle.rec_check.proofs.RunLemmas.{fault_numbered, no_number}
 use Rattle.rec_check.proofs.runs.tell_broken.Goals as goal
 
 pub unreachable-requires : goal.unreachable-requires
-unreachable-requires g c = no_number c.args.number (fault_numbered c.requires.broken.0 (record { number = c.args.number; at = c.args.at }) c.requires.broken.2) (c.in-None.ensures.none refl)
+unreachable-requires g c = no_number c.args.number (fault_numbered c.requires.broken.0 (record { number = c.args.number; at = c.args.at })
+    c.requires.broken.2) (c.in-None.ensures.none refl)
 
 pub tell_rule-requires-clause-broken : goal.tell_rule-requires-clause-broken
 tell_rule-requires-clause-broken g c =
-    let b = c.requires.broken in
-    (record { number = c.args.number; at = c.args.at }, ap fault (one_reading c.args.text.now c.in-Ok.syntax.spec b.0 c.in-Ok.ensures.spelled b.1) ∙ b.2, c.in-Some.ensures.some)
+    let b = c.requires.broken in (
+      record { number = c.args.number; at = c.args.at },
+      ap fault (one_reading c.args.text.now c.in-Ok.syntax.spec b.0 c.in-Ok.ensures.spelled b.1)
+          ∙ b.2,
+      c.in-Some.ensures.some,
+    )
 
 pub unreachable-requires-in-Err-Long : goal.unreachable-requires-in-Err-Long
 unreachable-requires-in-Err-Long g c =
@@ -24,4 +29,5 @@ unreachable-requires-in-Err-Long g c =
 
 pub unreachable-requires-in-Err-Grammar : goal.unreachable-requires-in-Err-Grammar
 unreachable-requires-in-Err-Grammar g c =
-    not_both c.args.text.now c.requires.broken.0 c.in-Err-Grammar.field-0-0 c.requires.broken.1 (subst (IsPlaced c.args.text.now) c.in-Err-Grammar.field-0-is c.in-Err-Grammar.ensures.place)
+    not_both c.args.text.now c.requires.broken.0 c.in-Err-Grammar.field-0-0 c.requires.broken.1
+    (subst (IsPlaced c.args.text.now) c.in-Err-Grammar.field-0-is c.in-Err-Grammar.ensures.place)

@@ -11,4 +11,5 @@ tell-requires g c =
     let b = c.requires.broken in
     subst (λ t. Examined t (as_findings c.deref.result.now) Refused) (sym c.source.ensures.text)
     (subst (λ ws. Examined s.source (as_findings ws) Refused) (sym c.deref.ensures.value)
-    (broken_examined s.source s.spec b.0 c.args.rule (as_findings c.in_ok-findings.findings.items) c.requires.fits c.requires.spelled b.1 b.2 c.in_ok-findings.ensures))
+    (broken_examined s.source s.spec b.0 c.args.rule (as_findings c.in_ok-findings.findings.items) c.requires.fits c.requires.spelled b.1 b.2
+    c.in_ok-findings.ensures))

@@ -4,4 +4,5 @@ use Rattle.rec_syntax.specs.Parts.{declaration_of}
 use Rattle.rec_check.proofs.scope.push_own_sorts.Given as goal
 
 abbrev pub invariant-loop-declaration : goal.invariant-loop-declaration
-invariant-loop-declaration l = as_words l.words.items ≡ as_words l.initial.words.items ++ map (λ d. d.sort) (map (declaration_of l.syntax.source) (take l.declaration-index l.declarations))
+invariant-loop-declaration l = as_words l.words.items ≡ as_words l.initial.words.items ++ map (λ d. d.sort)
+    (map (declaration_of l.syntax.source) (take l.declaration-index l.declarations))

@@ -13,7 +13,8 @@ use Rattle.rec_check.proofs.UncoveredLemmas.{at_below, call_is}
 use Rattle.rec_check.proofs.uncovered.apply.Goals as goal
 
 pub symbol_name-requires : goal.symbol_name-requires
-symbol_name-requires c = at_below (symbols c.args.checked.now.spec) c.args.symbol (declaration_of c.args.checked.now.source c.args.declaration.now) c.requires.symbol
+symbol_name-requires c = at_below (symbols c.args.checked.now.spec) c.args.symbol (declaration_of c.args.checked.now.source c.args.declaration.now)
+    c.requires.symbol
 
 pub arity-requires : goal.arity-requires
 arity-requires c = at_below (symbols c.args.checked.now.spec) c.args.symbol (declaration_of c.args.checked.now.source c.args.declaration.now) c.requires.symbol
@@ -25,8 +26,11 @@ returns c = λ sorts all.
     let name = c.symbol_name.result.now in
     let counted = length-map c.args.terms.now (λ (g : Ground). g.sort.now) in
     let r =
-    call_is s.spec c.args.symbol c.arity.result d (sorts_had c.args.terms.now) c.in_ok-letters.letters.items c.push.new.self.items name c.push_name.new.text.items c.join.new.text.items c.push_end.new.text.items c.requires.symbol sorts c.symbol_name.ensures c.arity.ensures
-    (c.in_ok-push_name.ensures ∙ ap (λ xs. xs ++ name_text name (not (plain_name name))) c.new-text.ensures.items) (c.in_ok-letters.ensures s.spec all) (λ lt. c.in_ok-push_end.ensures.some (omega (arith, counted, lt))) (λ e. c.in_ok-push_end.ensures.none (omega (arith, counted, e))) c.in_ok-push.ensures.items in
+    call_is s.spec c.args.symbol c.arity.result d (sorts_had c.args.terms.now) c.in_ok-letters.letters.items c.push.new.self.items name
+    c.push_name.new.text.items c.join.new.text.items c.push_end.new.text.items c.requires.symbol sorts c.symbol_name.ensures c.arity.ensures
+    (c.in_ok-push_name.ensures ∙ ap (λ xs. xs ++ name_text name (not (plain_name name))) c.new-text.ensures.items)
+    (c.in_ok-letters.ensures s.spec all) (λ lt. c.in_ok-push_end.ensures.some (omega (arith, counted, lt))) (λ e.
+    c.in_ok-push_end.ensures.none (omega (arith, counted, e))) c.in_ok-push.ensures.items in
     record {
       term = r.0;
       called = r.1;

@@ -14,7 +14,8 @@ returns c =
     let tried = never_tried text y [] y.rules in
     let inside = never_matching_inside text y in
     let first = c.push_rewritten.new.found.items in
-    if_ok_warned c.in_order.result tried (never_matching text y) inside (unused y) (as_examples c.args.examples.now) (as_findings c.push_examples.new.found.items)
+    if_ok_warned c.in_order.result tried (never_matching text y) inside (unused y) (as_examples c.args.examples.now)
+    (as_findings c.push_examples.new.found.items)
     (c.in_ok-push_examples.ensures
     ∙ ap (λ fs. fs ++ as_examples c.args.examples.now)
     (c.in_ok-push_unused.ensures

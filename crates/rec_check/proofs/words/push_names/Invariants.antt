@@ -5,4 +5,5 @@ use Rattle.rec_sorts.specs.Lookup.{names}
 use Rattle.rec_check.proofs.words.push_names.Given as goal
 
 abbrev pub invariant-loop-declaration : goal.invariant-loop-declaration
-invariant-loop-declaration l = as_words l.words.items ≡ as_words l.initial.words.items ++ names (map (declaration_of l.syntax.source) (take l.declaration-index l.declarations))
+invariant-loop-declaration l = as_words l.words.items ≡ as_words l.initial.words.items ++ names
+    (map (declaration_of l.syntax.source) (take l.declaration-index l.declarations))

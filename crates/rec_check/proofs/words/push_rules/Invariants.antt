@@ -6,4 +6,5 @@ use Rattle.rec_sorts.specs.Lookup.{rule_terms}
 use Rattle.rec_check.proofs.words.push_rules.Given as goal
 
 abbrev pub invariant-loop-rule : goal.invariant-loop-rule
-invariant-loop-rule l = as_nodes l.nodes.items ≡ as_nodes l.initial.nodes.items ++ flat_terms (rule_terms (map (rule_of l.syntax.source) (take l.rule-index l.rules)))
+invariant-loop-rule l = as_nodes l.nodes.items ≡ as_nodes l.initial.nodes.items ++ flat_terms
+    (rule_terms (map (rule_of l.syntax.source) (take l.rule-index l.rules)))

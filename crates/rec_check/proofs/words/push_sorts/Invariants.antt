@@ -6,4 +6,5 @@ use Rattle.rec_sorts.specs.SpecRules.{sorts_of}
 use Rattle.rec_check.proofs.words.push_sorts.Given as goal
 
 abbrev pub invariant-loop-declaration : goal.invariant-loop-declaration
-invariant-loop-declaration l = as_words l.words.items ≡ as_words l.initial.words.items ++ flat_map sorts_of (map (declaration_of l.syntax.source) (take l.declaration-index l.declarations))
+invariant-loop-declaration l = as_words l.words.items ≡ as_words l.initial.words.items ++ flat_map sorts_of
+    (map (declaration_of l.syntax.source) (take l.declaration-index l.declarations))

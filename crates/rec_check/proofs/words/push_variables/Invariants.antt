@@ -5,4 +5,5 @@ use Rattle.rec_sorts.specs.Lookup.{variable_words}
 use Rattle.rec_check.proofs.words.push_variables.Given as goal
 
 abbrev pub invariant-loop-group : goal.invariant-loop-group
-invariant-loop-group l = as_words l.words.items ≡ as_words l.initial.words.items ++ variable_words (map (group_of l.syntax.source) (take l.group-index l.groups))
+invariant-loop-group l = as_words l.words.items ≡ as_words l.initial.words.items ++ variable_words
+    (map (group_of l.syntax.source) (take l.group-index l.groups))

@@ -23,10 +23,12 @@ returns-in-Err-Full-make_apart-clause-makes g c =
     let k = Keeps-after-refusal c.in-Err-Full.ensures c.reclaim.ensures.reclaims in
     record {
       held = still-held (Keeps-trans k (Keeps-Refuses c.args.work.now c.in-Err-Full-make_apart.ensures)) c.requires.work;
-      exhausted = exhausted c.reclaim.ensures.reclaims (subst (λ e. Refuses mid new (built mid c.args.node) e) c.in-Err-Full-make_apart.field-0-is c.in-Err-Full-make_apart.ensures);
+      exhausted = exhausted c.reclaim.ensures.reclaims (subst (λ e. Refuses mid new (built mid c.args.node) e) c.in-Err-Full-make_apart.field-0-is
+          c.in-Err-Full-make_apart.ensures);
       forgotten = c.clear.ensures.empty;
     }
 
 pub returns-in-Err-Full-make_apart-clause-known : goal.returns-in-Err-Full-make_apart-clause-known
 returns-in-Err-Full-make_apart-clause-known g c =
-    known-forgotten (known-trans (known-refused c.args.pace.now c.in-Err-Full.ensures) (known-trans c.reclaim.ensures.known (known-refused c.reclaim.new.pace c.in-Err-Full-make_apart.ensures))) refl c.clear.ensures.empty
+    known-forgotten (known-trans (known-refused c.args.pace.now c.in-Err-Full.ensures)
+    (known-trans c.reclaim.ensures.known (known-refused c.reclaim.new.pace c.in-Err-Full-make_apart.ensures))) refl c.clear.ensures.empty

@@ -18,5 +18,6 @@ reclaim-requires g c =
 
 pub returns-in-Some-clause-keeps : goal.returns-in-Some-clause-keeps
 returns-in-Some-clause-keeps g c =
-    let reclaims = subst (Reclaims (g.B.TermBank.store c.args.bank.now) (g.B.TermBank.store c.reclaim.new.bank)) c.deref.ensures.value c.reclaim.ensures.reclaims in
+    let reclaims = subst (Reclaims (g.B.TermBank.store c.args.bank.now) (g.B.TermBank.store c.reclaim.new.bank)) c.deref.ensures.value
+    c.reclaim.ensures.reclaims in
     Keeps-fewer c.in-Some.ensures.all (Keeps-Reclaims reclaims)

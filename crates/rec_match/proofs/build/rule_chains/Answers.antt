@@ -17,7 +17,8 @@ chain-requires c =
     let b = (h.each k no_rule (omega (arith, lt, l))).declared in let q : get_or fs k d ≡ get_or fs k 0 = get_or_default fs k d 0 lt in omega (arith, b, e, q)))
 
 -- the chains are those of the rules' symbols
-chained : (y : Spec) (fs xs : List ℕ) (n : ℕ) (chains : Chains) → AreHeads y fs → xs ≡ fs → n ≡ length (symbols y) → AreChains xs n chains → ChainsRules y chains
+chained : (y : Spec) (fs xs : List ℕ) (n : ℕ) (chains : Chains) → AreHeads y fs → xs ≡ fs → n ≡ length (symbols y) → AreChains xs n chains
+    → ChainsRules y chains
 chained y fs xs n chains heads same counted are = record {
   symbols_of = fs;
   heads = heads;
@@ -25,4 +26,5 @@ chained y fs xs n chains heads same counted are = record {
 }
 
 pub returns : goal.returns
-returns c = chained c.args.checked.now.spec c.in_ok-symbols.symbols.items c.deref.result.now c.symbols.result c.in_ok-chains.chains c.in_ok-symbols.ensures c.deref.ensures.value c.symbols.ensures c.in_ok-chains.ensures
+returns c = chained c.args.checked.now.spec c.in_ok-symbols.symbols.items c.deref.result.now c.symbols.result c.in_ok-chains.chains
+    c.in_ok-symbols.ensures c.deref.ensures.value c.symbols.ensures c.in_ok-chains.ensures

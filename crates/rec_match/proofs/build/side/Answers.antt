@@ -37,5 +37,6 @@ variables_of-requires-clause-below c =
 pub returns-clause-side : goal.returns-clause-side
 returns-clause-side c r =
     let l = c.len-size.ensures ∙ (get_or c.args.rules.now c.args.rule c.index-rules-rule.result).left.ok.0 in
-    is-left c.args.checked.now.spec c.requires.kept c.args.rules.now c.args.rule (c.len-size.result - 1) c.index-rules-rule.result c.index.result.now r _ c.requires.letters c.requires.rule (ap (λ n. n - 1) l) c.index.ensures (c.head-symbol.ensures r) refl
+    is-left c.args.checked.now.spec c.requires.kept c.args.rules.now c.args.rule (c.len-size.result - 1) c.index-rules-rule.result c.index.result.now
+    r _ c.requires.letters c.requires.rule (ap (λ n. n - 1) l) c.index.ensures (c.head-symbol.ensures r) refl
     (c.in_ok-variables.ensures.variables ∙ ap (λ xs. numbers_in [] (take (c.len-size.result - 1) xs)) c.deref.ensures.value)

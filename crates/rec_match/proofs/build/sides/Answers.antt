@@ -19,7 +19,8 @@ loop-rule-preserved c = record {
       (let y = c.args.checked.now.spec in
       let l = pair-long (IsLetterRule y) c.rules-rules.result.now y.rules c.rules-rules.ensures.letters in
       let t = c.loop-rule-test.true in
-      sides-next y fs c.args.nexts.now c.loop-rule.sides.items c.push.new.self.items c.loop-rule.rule c.in_ok-side.field-0 (c.loop-rule.invariant.sides fs heads) c.in_ok-push.ensures.items c.in_ok-side.ensures.side
+      sides-next y fs c.args.nexts.now c.loop-rule.sides.items c.push.new.self.items c.loop-rule.rule c.in_ok-side.field-0
+      (c.loop-rule.invariant.sides fs heads) c.in_ok-push.ensures.items c.in_ok-side.ensures.side
       (one-head y c.rules-rules.ensures.kept _ _ _ (c.in_ok-side.ensures.side no_rule).is_head (heads.each c.loop-rule.rule no_rule (omega (arith, l, t))))
       c.in_ok-side.ensures.next);
 }
@@ -30,4 +31,5 @@ returns c fs heads =
     let l = pair-long (IsLetterRule y) c.rules-rules.result.now y.rules c.rules-rules.ensures.letters in
     let t = c.loop-rule-test.false in
     let q = c.loop-rule.auto.rule-end in
-    subst (AreSides y fs c.args.nexts.now c.loop-rule.sides.items) (let e : c.loop-rule.rule ≡ length y.rules = omega (arith, t, q, l) in e) (c.loop-rule.invariant.sides fs heads)
+    subst (AreSides y fs c.args.nexts.now c.loop-rule.sides.items) (let e : c.loop-rule.rule ≡ length y.rules = omega (arith, t, q, l) in e)
+    (c.loop-rule.invariant.sides fs heads)

@@ -1,6 +1,7 @@
 use Rattle.std.proofs.Common.{sym, ap, subst, arith, ◌∙◌, ◌+◌, length, drop, [], append-nil}
 use Rattle.std.proofs.Math.Seq.{drop-length}
-use Rattle.rec_match.proofs.FillLemmas.{Filling, filling-first, filling-done, first-within, first-filled, again-within, again-there, again-filled, again-differs}
+use Rattle.rec_match.proofs.FillLemmas.{Filling, filling-first, filling-done, first-within, first-filled}
+use Rattle.rec_match.proofs.FillLemmas.{again-within, again-there, again-filled, again-differs}
 use Rattle.rec_match.proofs.RunLemmas.{cut_back}
 use Rattle.rec_match.proofs.forest.fill.Goals as goal
 use Rattle.rec_match.proofs.forest.fill.Goals.{in-First, in-Again+else-index}
@@ -13,7 +14,8 @@ loop-place-init c =
 
 pub index-value-requires : goal.index-value-requires
 index-value-requires c =
-    let h = first-within c.args.places.now c.args.first c.loop-place.place-index c.args.work.now.items c.loop-place.work.items _ c.requires.within c.loop-place-test.true c.loop-place.invariant.0 c.in-First.register c.in-First.is in
+    let h = first-within c.args.places.now c.args.first c.loop-place.place-index c.args.work.now.items c.loop-place.work.items _ c.requires.within
+    c.loop-place-test.true c.loop-place.invariant.0 c.in-First.register c.in-First.is in
     let size = c.loop-place.work.ok.0 in
     omega (arith, h, size)
 
@@ -25,13 +27,16 @@ push_reserved-requires c =
 
 pub index-requires : goal.index-requires
 index-requires c =
-    let h = again-there c.args.places.now c.args.first c.loop-place.place-index c.args.work.now.items c.loop-place.work.items _ c.requires.within c.loop-place-test.true c.loop-place.invariant.0 c.in-Again.register c.in-Again.value c.len-count.result c.in-Again.is (c.len-count.ensures ∙ c.args.work.now.ok.0) in
+    let h = again-there c.args.places.now c.args.first c.loop-place.place-index c.args.work.now.items c.loop-place.work.items _ c.requires.within
+    c.loop-place-test.true c.loop-place.invariant.0 c.in-Again.register c.in-Again.value c.len-count.result c.in-Again.is
+    (c.len-count.ensures ∙ c.args.work.now.ok.0) in
     let size = c.loop-place.work.ok.0 in
     omega (arith, h, size)
 
 pub index-requires-in-Again : goal.index-requires-in-Again
 index-requires-in-Again c =
-    let h = again-within c.args.places.now c.args.first c.loop-place.place-index c.args.work.now.items c.loop-place.work.items _ c.requires.within c.loop-place-test.true c.loop-place.invariant.0 c.in-Again.register c.in-Again.value c.in-Again.is in
+    let h = again-within c.args.places.now c.args.first c.loop-place.place-index c.args.work.now.items c.loop-place.work.items _ c.requires.within
+    c.loop-place-test.true c.loop-place.invariant.0 c.in-Again.register c.in-Again.value c.in-Again.is in
     let size = c.loop-place.work.ok.0 in
     omega (arith, h, size)
 
@@ -40,8 +45,13 @@ returns-then-index-clause-fills c =
     let old = c.args.work.now.items in
     let so_far = c.loop-place.invariant.0 in
     let size = c.len-count.ensures ∙ c.args.work.now.ok.0 in
-    let same = cut_back old c.loop-place.work.items c.truncate.new.self.items c.len-count.result size c.truncate.ensures.items (so_far.values, so_far.split) in (
-      again-differs c.args.places.now c.args.first c.loop-place.place-index old c.loop-place.work.items _ c.requires.within c.loop-place-test.true so_far c.in-Again.register c.in-Again.value c.len-count.result c.index.result.now c.index-in-Again.result.now c.in-Again.is size c.index.ensures c.index-in-Again.ensures
+    let same = cut_back old c.loop-place.work.items c.truncate.new.self.items c.len-count.result size c.truncate.ensures.items (
+      so_far.values,
+      so_far.split,
+    ) in (
+      again-differs c.args.places.now c.args.first c.loop-place.place-index old c.loop-place.work.items _ c.requires.within c.loop-place-test.true
+          so_far c.in-Again.register c.in-Again.value c.len-count.result c.index.result.now c.index-in-Again.result.now c.in-Again.is size
+          c.index.ensures c.index-in-Again.ensures
           c.if-index.true,
       ap (drop (length old)) same ∙ drop-length old,
     )
@@ -50,7 +60,8 @@ pub returns-then-index-clause-behind : goal.returns-then-index-clause-behind
 returns-then-index-clause-behind c =
     let old = c.args.work.now.items in
     let so_far = c.loop-place.invariant.0 in
-    let same = cut_back old c.loop-place.work.items c.truncate.new.self.items c.len-count.result (c.len-count.ensures ∙ c.args.work.now.ok.0) c.truncate.ensures.items (so_far.values, so_far.split) in
+    let same = cut_back old c.loop-place.work.items c.truncate.new.self.items c.len-count.result (c.len-count.ensures ∙ c.args.work.now.ok.0)
+    c.truncate.ensures.items (so_far.values, so_far.split) in
     ([], same ∙ sym (append-nil old))
 
 pub returns-in_err-reserve-clause-behind : goal.returns-in_err-reserve-clause-behind
@@ -68,16 +79,20 @@ loop-place-preserved c =
     let more = c.loop-place-test.true in
     elim c.match-place.branch [
       | in-First w ↦
-          let held = first-filled ps first i old now _ c.requires.within c.loop-place-test.true so_far w.in-First.register w.index-value.result.now c.match-place.work.items w.in-First.is w.index-value.ensures (ap (λ v. v.items) w.work-is ∙ w.push_reserved.ensures.items) in
+          let held = first-filled ps first i old now _ c.requires.within c.loop-place-test.true so_far w.in-First.register w.index-value.result.now
+          c.match-place.work.items w.in-First.is w.index-value.ensures (ap (λ v. v.items) w.work-is ∙ w.push_reserved.ensures.items) in
           let put = w.push_reserved.ensures in
           (held, grind (arith, room, more, put.len, put.capacity, w.work-is))
       | in-Again+else-index w ↦
-          let held = again-filled ps first i old now _ c.requires.within c.loop-place-test.true so_far w.in-Again.register w.in-Again.value c.len-count.result w.index.result.now w.index-in-Again.result.now w.in-Again.is (c.len-count.ensures ∙ c.args.work.now.ok.0) w.index.ensures w.index-in-Again.ensures w.if-index.false in
+          let held = again-filled ps first i old now _ c.requires.within c.loop-place-test.true so_far w.in-Again.register w.in-Again.value
+          c.len-count.result w.index.result.now w.index-in-Again.result.now w.in-Again.is (c.len-count.ensures ∙ c.args.work.now.ok.0)
+          w.index.ensures w.index-in-Again.ensures w.if-index.false in
           (subst (Filling ps first old (i + 1)) (sym (ap (λ v. v.items) w.work-is)) held, grind (arith, room, more, w.work-is))
     ]
 
 pub returns-clause-fills : goal.returns-clause-fills
-returns-clause-fills c = filling-done c.args.places.now c.args.first c.loop-place.place-index c.args.work.now.items c.loop-place.work.items c.loop-place-test.false c.loop-place.invariant.0
+returns-clause-fills c = filling-done c.args.places.now c.args.first c.loop-place.place-index c.args.work.now.items c.loop-place.work.items
+    c.loop-place-test.false c.loop-place.invariant.0
 
 pub returns-clause-behind : goal.returns-clause-behind
 returns-clause-behind c = (c.loop-place.invariant.0.values, c.loop-place.invariant.0.split)

@@ -15,7 +15,8 @@ loop-i-preserved c =
     let w = c.loop-i.invariant.within in
     record {
       within = omega (arith, w);
-      pushed = reversed-next c.args.codes.now c.args.rest.now.items c.loop-i.rest.items c.push.new.self.items (c.loop-i.i - 1) c.loop-i.i _ (omega (arith, t)) (omega (arith, t, w)) c.loop-i.invariant.pushed c.in_ok-push.ensures.items;
+      pushed = reversed-next c.args.codes.now c.args.rest.now.items c.loop-i.rest.items c.push.new.self.items (c.loop-i.i - 1) c.loop-i.i _
+          (omega (arith, t)) (omega (arith, t, w)) c.loop-i.invariant.pushed c.in_ok-push.ensures.items;
     }
 
 pub returns : goal.returns

@@ -15,4 +15,5 @@ loop-symbol-preserved c ps r base =
 pub returns : goal.returns
 returns c ps r base =
     let t = c.loop-symbol-test.false in
-    subst (λ ks. AreShares ps r base ks [] c.loop-symbol.shares.items) (take_all c.loop-symbol.symbol-index c.args.symbols.now (omega (arith, t))) (c.loop-symbol.invariant ps r base)
+    subst (λ ks. AreShares ps r base ks [] c.loop-symbol.shares.items) (take_all c.loop-symbol.symbol-index c.args.symbols.now (omega (arith, t)))
+    (c.loop-symbol.invariant ps r base)

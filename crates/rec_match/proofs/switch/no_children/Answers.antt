@@ -14,4 +14,5 @@ returns-clause-none c q = by (cases_lt q c.args.span)
 
     by : (q < c.args.span) ⊎ (c.args.span ≤ q) → (get_or c.in_ok-window.window.items q no_child).node ≡ 0
     by (inl lt) = ap (λ (x : Child). x.node) (all ∙ get_or-replicate c.args.span q no_child no_child lt)
-    by (inr le) = ap (λ (x : Child). x.node) (get_or_past c.in_ok-window.window.items q no_child (let l = c.in_ok-window.ensures.len in let v = c.in_ok-window.window.ok.0 in omega (arith, le, l, v)))
+    by (inr le) = ap (λ (x : Child). x.node) (get_or_past c.in_ok-window.window.items q no_child (let l = c.in_ok-window.ensures.len in let v =
+        c.in_ok-window.window.ok.0 in omega (arith, le, l, v)))

@@ -8,7 +8,8 @@ use Rattle.rec_match.proofs.trees.grow_all.Goals as goal
 pub grow_trees-requires-clause-ready : goal.grow_trees-requires-clause-ready
 grow_trees-requires-clause-ready c = record {
   linked = c.requires.linked;
-  ground = is_ground c.args.checked.now.spec c.syntax-kept.ensures.kept (numbers_of c.args.links.now) c.args.left.now.parts (numbers_apart c.args.checked.now.spec c.args.links.now c.symbols-differ.ensures.differ c.requires.linked) c.requires.left.whole;
+  ground = is_ground c.args.checked.now.spec c.syntax-kept.ensures.kept (numbers_of c.args.links.now) c.args.left.now.parts
+      (numbers_apart c.args.checked.now.spec c.args.links.now c.symbols-differ.ensures.differ c.requires.linked) c.requires.left.whole;
   left = c.requires.left;
   chains = c.requires.chains;
 }

@@ -24,5 +24,8 @@ returns-in-Ok-clause-term g c = λ t is.
     let letters = c.in_ok-letters.letters.items in
     let one : c.requires.0 ≡ t = cc (sym c.requires.1, is) in
     let are = subst (λ z. AreLetters z letters (term_of t)) c.checked.ensures (c.in_ok-letters.ensures t is) in
-    let spells : Spells y c.deref.result.now t = record { letters = subst (λ ls. AreLetters y ls (term_of t)) (sym c.deref.ensures.value) are; is_ground = subst (λ (u : Tree). broken_by_elements y (u ∷ []) ≡ None) one c.requires.2 } in
+    let spells : Spells y c.deref.result.now t = record {
+      letters = subst (λ ls. AreLetters y ls (term_of t)) (sym c.deref.ensures.value) are;
+      is_ground = subst (λ (u : Tree). broken_by_elements y (u ∷ []) ≡ None) one c.requires.2;
+    } in
     c.in-Ok.ensures.term t spells

@@ -12,7 +12,8 @@ loop-answered-init g c =
     let known = g.R.Read.remaining c.args.requests.now in
     record {
       same = record { spec = refl; options = refl };
-      replied = replied_none c.args.engine.now.spec c.args.settings.options.count c.args.settings.options.steps c.args.settings.depth known (left_of c.args.ahead.now known) (g.W.Write.contents c.args.out.now) (left_again c.args.ahead.now known c.requires);
+      replied = replied_none c.args.engine.now.spec c.args.settings.options.count c.args.settings.options.steps c.args.settings.depth known
+          (left_of c.args.ahead.now known) (g.W.Write.contents c.args.out.now) (left_again c.args.ahead.now known c.requires);
     }
 
 pub returns-in-Err-clause-fault : goal.returns-in-Err-clause-fault
@@ -24,7 +25,8 @@ returns-in-Err-clause-fault g c =
     let between = g.W.Write.contents c.loop-answered.out in
     let now = g.W.Write.contents c.answer_next.new.out in
     let inv = c.loop-answered.invariant in
-    breaks_off c.args.engine.now.spec counted n depth (g.R.Read.remaining c.args.requests.now) left (g.W.Write.contents c.args.out.now) between now c.loop-answered.answered c.in-Err.fault c.after.result c.after.ensures inv.replied
+    breaks_off c.args.engine.now.spec counted n depth (g.R.Read.remaining c.args.requests.now) left (g.W.Write.contents c.args.out.now) between now
+    c.loop-answered.answered c.in-Err.fault c.after.result c.after.ensures inv.replied
     (subst (λ y. StopsStep y counted n depth c.in-Err.fault left between now) inv.same.spec c.in-Err.ensures.fault)
 
 pub loop-answered-preserved : goal.loop-answered-preserved
@@ -40,8 +42,10 @@ loop-answered-preserved g c =
     let now = g.W.Write.contents c.answer_next.new.out in
     let inv = c.loop-answered.invariant in
     let step : Replies c.loop-answered.engine.spec counted n depth mid left between now =
-    subst (λ (m : Bool). MatchBool m (Replies c.loop-answered.engine.spec counted n depth mid left between now) (EndsStep mid (g.R.Read.remaining c.answer_next.new.requests) between now)) c.in-Ok-true.field-0-test c.in-Ok-true.ensures.step in
+    subst (λ (m : Bool). MatchBool m (Replies c.loop-answered.engine.spec counted n depth mid left between now)
+    (EndsStep mid (g.R.Read.remaining c.answer_next.new.requests) between now)) c.in-Ok-true.field-0-test c.in-Ok-true.ensures.step in
     record {
       same = same_engine_both inv.same c.in-Ok-true.ensures.same;
-      replied = replied_more c.args.engine.now.spec counted n depth old mid left was between now c.loop-answered.answered inv.replied (subst (λ y. Replies y counted n depth mid left between now) inv.same.spec step);
+      replied = replied_more c.args.engine.now.spec counted n depth old mid left was between now c.loop-answered.answered inv.replied
+          (subst (λ y. Replies y counted n depth mid left between now) inv.same.spec step);
     }

@@ -9,7 +9,8 @@ pub returns-in-Ok-clause-ok : goal.returns-in-Ok-clause-ok
 returns-in-Ok-clause-ok g c = λ line is.
     let r = c.answer_kept-found.result in (
       text_of r,
-      reply_is c.args.engine.now.spec c.args.settings.options.count c.args.settings.options.steps _ c.args.settings.depth c.args.request.now r c.answer_kept-found.ensures.deep c.answer_kept-found.ensures.answered line is,
+      reply_is c.args.engine.now.spec c.args.settings.options.count c.args.settings.options.steps _ c.args.settings.depth c.args.request.now r
+          c.answer_kept-found.ensures.deep c.answer_kept-found.ensures.answered line is,
       subst (λ t. Appends (g.W.Write.contents c.args.out.now) (g.W.Write.contents c.put.new.out) t) c.reply_text.ensures c.in-Ok.ensures.written,
     )
 
@@ -17,6 +18,7 @@ pub returns-clause-err : goal.returns-clause-err
 returns-clause-err g c = λ line is.
     let r = c.answer_kept-found.result in (
       text_of r,
-      reply_is c.args.engine.now.spec c.args.settings.options.count c.args.settings.options.steps _ c.args.settings.depth c.args.request.now r c.answer_kept-found.ensures.deep c.answer_kept-found.ensures.answered line is,
+      reply_is c.args.engine.now.spec c.args.settings.options.count c.args.settings.options.steps _ c.args.settings.depth c.args.request.now r
+          c.answer_kept-found.ensures.deep c.answer_kept-found.ensures.answered line is,
       subst (λ t. AppendsFront t (g.W.Write.contents c.args.out.now) (g.W.Write.contents c.put.new.out)) c.reply_text.ensures c.in-Err.ensures.front,
     )

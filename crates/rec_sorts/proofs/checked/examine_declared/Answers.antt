@@ -29,7 +29,8 @@ returns c =
           ∷ p.unbound
           ∷ p.free
           ∷ [])) read.places
-          ∙ first_place-found y s h d.repeated_sort d.repeated_symbol d.taken_variable d.unknown_sort c.requires.sorts_repeated c.requires.symbols_repeated c.requires.variables_taken c.requires.sorts_unknown;
+          ∙ first_place-found y s h d.repeated_sort d.repeated_symbol d.taken_variable d.unknown_sort c.requires.sorts_repeated
+          c.requires.symbols_repeated c.requires.variables_taken c.requires.sorts_unknown;
       constructors_counted = h.constructors_counted;
       symbols_counted = h.symbols_counted;
       variables_counted = omega (arith, variables-counted y s h, s.sorts.ok.0);

@@ -13,6 +13,7 @@ returns g c =
     let scope : IsScope y s = subst (λ v. IsScope v.spec s) c.syntax.ensures.same c.in_ok-scope.ensures in
     record {
       letters = IfOk-weaker c.letters_of_all.result _ _
-          (λ v read. letters-listed y s scope w c.args.list (λ ls. ls.items) v.items c.deref.result.now c.requires.kept read (ap (held_trees w) c.deref.ensures.value ∙ c.in_ok-elements.ensures.trees))
+          (λ v read. letters-listed y s scope w c.args.list (λ ls. ls.items) v.items c.deref.result.now c.requires.kept read
+          (ap (held_trees w) c.deref.ensures.value ∙ c.in_ok-elements.ensures.trees))
           c.letters_of_all.ensures;
     }

@@ -13,7 +13,8 @@ loop-i-preserved c =
     let i = c.loop-i.i in
     let none : Symbol = record { 0 = 0 } in
     let lt : i < length ss = let t = c.loop-i-test.true in omega (arith, t) in
-    numbers-next ss (λ q. get nat_eq c.loop-i.numbers q) (λ q. get nat_eq c.insert.new.self q) i (get_or ss i none) c.requires.differ lt (get_or_default ss i none (get_or ss i none) lt) c.loop-i.invariant (search rules) (search rules)
+    numbers-next ss (λ q. get nat_eq c.loop-i.numbers q) (λ q. get nat_eq c.insert.new.self q) i (get_or ss i none) c.requires.differ lt
+    (get_or_default ss i none (get_or ss i none) lt) c.loop-i.invariant (search rules) (search rules)
 
 pub returns : goal.returns
 returns c = subst (λ xs. NumbersOf xs (λ s. get nat_eq c.loop-i.numbers s)) (take_all c.loop-i.i c.args.symbols.now c.loop-i-test.false) c.loop-i.invariant

@@ -14,10 +14,13 @@ returns c =
     let words = c.deref.result.now in
     let copy = c.source.result.now in
     let first : words_of copy (take n words) ≡ names (symbols y) =
-    ap (λ t. words_of t (take n words)) c.source.ensures.text ∙ ap (λ ws. words_of source (take n ws)) c.deref.ensures.value ∙ first_words source y d.words.items n c.requires.words_read c.requires.symbols_read in
+    ap (λ t. words_of t (take n words)) c.source.ensures.text ∙ ap (λ ws. words_of source (take n ws)) c.deref.ensures.value
+    ∙ first_words source y d.words.items n c.requires.words_read c.requires.symbols_read in
     let second : words_of copy (drop n words) ≡ variable_words y.variables =
-    ap (λ t. words_of t (drop n words)) c.source.ensures.text ∙ ap (λ ws. words_of source (drop n ws)) c.deref.ensures.value ∙ other_words source y d.words.items n c.requires.words_read c.requires.symbols_read in
-    let found = names_read y n c.requires.symbols_read (words_of copy (take n words)) (words_of copy (drop n words)) first second (given_to c.in_ok-words.words) _ (given_to c.number_parts.new.names) c.in_ok-words.ensures refl c.in_ok-repeated.ensures.numbers in
+    ap (λ t. words_of t (drop n words)) c.source.ensures.text ∙ ap (λ ws. words_of source (drop n ws)) c.deref.ensures.value
+    ∙ other_words source y d.words.items n c.requires.words_read c.requires.symbols_read in
+    let found = names_read y n c.requires.symbols_read (words_of copy (take n words)) (words_of copy (drop n words)) first second
+    (given_to c.in_ok-words.words) _ (given_to c.number_parts.new.names) c.in_ok-words.ensures refl c.in_ok-repeated.ensures.numbers in
     record {
       words = found.numbered;
       symbols = c.in_ok-symbols.ensures;

@@ -13,7 +13,8 @@ returns c =
         words_numbered = numbered.words;
         sorts_listed = read.sorts_read;
         arguments_listed = read.arguments_read;
-        constructors_counted = c.in_ok-constructors.ensures ∙ sym (length-map c.constructors.result.now (declaration_of c.args.syntax.now.source)) ∙ ap length c.constructors.ensures.constructors;
+        constructors_counted = c.in_ok-constructors.ensures ∙ sym (length-map c.constructors.result.now (declaration_of c.args.syntax.now.source))
+            ∙ ap length c.constructors.ensures.constructors;
         symbols_counted = numbered.symbols ∙ read.symbols_read;
       };
       sorts_repeated = c.requires.repeated;

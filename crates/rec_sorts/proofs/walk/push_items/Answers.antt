@@ -18,6 +18,8 @@ loop-stack-preserved g c =
     let h = c.in-Cons.ensures in
     record {
       rest = ap is_some (rest_there w r c.head.result c.tail-rest.result h c.head.ensures c.tail-rest.ensures);
-      held = subst (AllHeld w) (sym c.in_ok-push.ensures.items) (AllHeld-push w c.loop-stack.stack.items c.head.result c.loop-stack.invariant.held (ap is_some (first_there w r c.head.result c.tail-rest.result h c.head.ensures c.tail-rest.ensures)));
-      trees = items_turn w c.loop-stack.stack.items c.push.new.self.items c.args.stack.now.items r c.head.result c.tail-rest.result c.args.list c.in_ok-push.ensures.items (items_of-cons w r c.head.result c.tail-rest.result h c.head.ensures c.tail-rest.ensures) c.loop-stack.invariant.trees;
+      held = subst (AllHeld w) (sym c.in_ok-push.ensures.items) (AllHeld-push w c.loop-stack.stack.items c.head.result c.loop-stack.invariant.held
+          (ap is_some (first_there w r c.head.result c.tail-rest.result h c.head.ensures c.tail-rest.ensures)));
+      trees = items_turn w c.loop-stack.stack.items c.push.new.self.items c.args.stack.now.items r c.head.result c.tail-rest.result c.args.list
+          c.in_ok-push.ensures.items (items_of-cons w r c.head.result c.tail-rest.result h c.head.ensures c.tail-rest.ensures) c.loop-stack.invariant.trees;
     }

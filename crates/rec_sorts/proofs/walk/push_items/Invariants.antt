@@ -10,7 +10,8 @@ invariant-loop-stack g l =
     record {
       rest : IsSome (tree_at w l.rest);
       held : AllHeld w l.stack.items;
-      trees : held_trees w l.stack.items ++ to_list (items_of (held_tree w l.rest)) ≡ held_trees w l.fn.stack.items ++ to_list (items_of (held_tree w l.fn.list));
+      trees : held_trees w l.stack.items ++ to_list (items_of (held_tree w l.rest)) ≡ held_trees w l.fn.stack.items ++ to_list
+          (items_of (held_tree w l.fn.list));
     }
 
 abbrev pub decreases-loop-stack : goal.decreases-loop-stack

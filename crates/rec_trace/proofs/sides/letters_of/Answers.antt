@@ -18,7 +18,8 @@ pub index-requires : goal.index-requires
 index-requires c =
     let x = c.index-rules-rule.result in
     let lt = subst (HasSide c.requires.0) c.in-Left.is c.requires.2 in
-    let counted = (rule-read c.args.checked.now.spec c.rules-rules.ensures.kept c.rules-rules.result.now c.rules-rules.ensures.letters c.args.rule c.requires.0 x c.requires.1 c.index-rules-rule.is).counted in
+    let counted = (rule-read c.args.checked.now.spec c.rules-rules.ensures.kept c.rules-rules.result.now c.rules-rules.ensures.letters c.args.rule
+    c.requires.0 x c.requires.1 c.index-rules-rule.is).counted in
     let v = x.conditions.ok.0 in
     omega (arith, lt, counted, v)
 
@@ -26,7 +27,8 @@ pub index-requires-in-Right : goal.index-requires-in-Right
 index-requires-in-Right c =
     let x = c.index-rules-rule.result in
     let lt = subst (HasSide c.requires.0) c.in-Right.is c.requires.2 in
-    let counted = (rule-read c.args.checked.now.spec c.rules-rules.ensures.kept c.rules-rules.result.now c.rules-rules.ensures.letters c.args.rule c.requires.0 x c.requires.1 c.index-rules-rule.is).counted in
+    let counted = (rule-read c.args.checked.now.spec c.rules-rules.ensures.kept c.rules-rules.result.now c.rules-rules.ensures.letters c.args.rule
+    c.requires.0 x c.requires.1 c.index-rules-rule.is).counted in
     let v = x.conditions.ok.0 in
     omega (arith, lt, counted, v)
 
@@ -36,7 +38,8 @@ returns-in-Contractum c =
     let x = c.index-rules-rule.result in
     if-ok c.copied.result (λ v e r q.
     let read = rule-read y c.rules-rules.ensures.kept c.rules-rules.result.now c.rules-rules.ensures.letters c.args.rule r x q c.index-rules-rule.is in
-    subst (λ ls. IsRow y r ls (side_of r c.args.side)) (sym (e ∙ c.deref.ensures.value)) (subst (λ side. IsRow y r x.right.items (side_of r side)) (sym c.in-Contractum.is) read.right))
+    subst (λ ls. IsRow y r ls (side_of r c.args.side)) (sym (e ∙ c.deref.ensures.value))
+    (subst (λ side. IsRow y r x.right.items (side_of r side)) (sym c.in-Contractum.is) read.right))
     c.copied.ensures
 
 pub returns-in-Left : goal.returns-in-Left
@@ -49,7 +52,8 @@ returns-in-Left c =
     let same = some-same c.requires.0 r (sym c.requires.1 ∙ q) in
     let lt = subst (λ (z : Rule). i < length z.conditions) same (subst (HasSide c.requires.0) c.in-Left.is c.requires.2) in
     subst (λ ls. IsRow y r ls (side_of r c.args.side)) (sym (e ∙ c.deref-in-Left.ensures.value ∙ ap (λ (z : LetterCondition). z.left.items) c.index.ensures))
-    (subst (λ side. IsRow y r (get_or x.conditions.items i c.index.result.now).left.items (side_of r side)) (sym c.in-Left.is) (read.lefts i c.index.result.now lt)))
+    (subst (λ side. IsRow y r (get_or x.conditions.items i c.index.result.now).left.items (side_of r side)) (sym c.in-Left.is)
+    (read.lefts i c.index.result.now lt)))
     c.copied-in-Left.ensures
 
 pub returns-in-Right : goal.returns-in-Right
@@ -61,6 +65,8 @@ returns-in-Right c =
     let read = rule-read y c.rules-rules.ensures.kept c.rules-rules.result.now c.rules-rules.ensures.letters c.args.rule r x q c.index-rules-rule.is in
     let same = some-same c.requires.0 r (sym c.requires.1 ∙ q) in
     let lt = subst (λ (z : Rule). i < length z.conditions) same (subst (HasSide c.requires.0) c.in-Right.is c.requires.2) in
-    subst (λ ls. IsRow y r ls (side_of r c.args.side)) (sym (e ∙ c.deref-in-Right.ensures.value ∙ ap (λ (z : LetterCondition). z.right.items) c.index-in-Right.ensures))
-    (subst (λ side. IsRow y r (get_or x.conditions.items i c.index-in-Right.result.now).right.items (side_of r side)) (sym c.in-Right.is) (read.rights i c.index-in-Right.result.now lt)))
+    subst (λ ls. IsRow y r ls (side_of r c.args.side)) (sym (e ∙ c.deref-in-Right.ensures.value
+    ∙ ap (λ (z : LetterCondition). z.right.items) c.index-in-Right.ensures))
+    (subst (λ side. IsRow y r (get_or x.conditions.items i c.index-in-Right.result.now).right.items (side_of r side)) (sym c.in-Right.is)
+    (read.rights i c.index-in-Right.result.now lt)))
     c.copied-in-Right.ensures

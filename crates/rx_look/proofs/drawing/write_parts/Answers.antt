@@ -16,7 +16,8 @@ returns-in_err-write_part-clause-front g c =
     let within : l.number < most = omega (arith, passed) in
     let lt : l.number < part_count u = omega (arith, counted, within) in
     on_err c.from_residual.result
-    (drawn_stopped w u c.args.extent.nodes l.number (g.W.Write.contents c.args.out.now.writer.now) (g.W.Write.contents l.out.writer.now) l.graph l.invariant.0 lt (g.W.Write.contents c.write_part.new.out.writer.now) most within c.in_err-write_part.ensures.front)
+    (drawn_stopped w u c.args.extent.nodes l.number (g.W.Write.contents c.args.out.now.writer.now) (g.W.Write.contents l.out.writer.now) l.graph
+    l.invariant.0 lt (g.W.Write.contents c.write_part.new.out.writer.now) most within c.in_err-write_part.ensures.front)
 
 pub loop-number-preserved : goal.loop-number-preserved
 loop-number-preserved g c =
@@ -26,7 +27,9 @@ loop-number-preserved g c =
     let counted = c.requires.counted in
     let passed = c.loop-number-test.true in
     let lt : l.number < part_count u = omega (arith, counted, passed) in (
-      drawn_on w u c.args.extent.nodes l.number (g.W.Write.contents c.args.out.now.writer.now) (g.W.Write.contents l.out.writer.now) l.graph l.invariant.0 lt (g.W.Write.contents c.write_part.new.out.writer.now) c.write_part.new.graph c.in_ok-write_part.ensures.passed c.in_ok-write_part.ensures.written,
+      drawn_on w u c.args.extent.nodes l.number (g.W.Write.contents c.args.out.now.writer.now) (g.W.Write.contents l.out.writer.now) l.graph
+          l.invariant.0 lt (g.W.Write.contents c.write_part.new.out.writer.now) c.write_part.new.graph c.in_ok-write_part.ensures.passed
+          c.in_ok-write_part.ensures.written,
       search rules,
       search rules,
     )

@@ -6,4 +6,5 @@ use Rattle.rx_look.proofs.drawing.write_parts.Given as goal
 abbrev pub invariant-loop-number : goal.invariant-loop-number
 invariant-loop-number g l =
     let w = g.B.TermBank.store l.fn.bank in
-    Drawn w (held_tree w l.fn.t) l.fn.extent.nodes l.number (g.W.Write.contents l.fn.out.writer.now) (g.W.Write.contents l.out.writer.now) l.graph × IsWritable l.out × IsSameOutput l.fn.out l.out
+    Drawn w (held_tree w l.fn.t) l.fn.extent.nodes l.number (g.W.Write.contents l.fn.out.writer.now) (g.W.Write.contents l.out.writer.now) l.graph
+    × IsWritable l.out × IsSameOutput l.fn.out l.out

@@ -10,7 +10,8 @@ use Rattle.rx_look.proofs.indented.write_indented_to.Given as goal
 abbrev pub invariant-loop-job : goal.invariant-loop-job
 invariant-loop-job g l =
     let w = g.B.TermBank.store l.fn.bank in
-    Writing w l.fn.indent (seen [] (laid l.fn.indent) (tree_at w l.fn.t)) (g.W.Write.contents l.fn.out.writer.now) (g.W.Write.contents l.out.writer.now) l.layout × IsWritable l.out × IsSameOutput l.fn.out l.out
+    Writing w l.fn.indent (seen [] (laid l.fn.indent) (tree_at w l.fn.t)) (g.W.Write.contents l.fn.out.writer.now)
+    (g.W.Write.contents l.out.writer.now) l.layout × IsWritable l.out × IsSameOutput l.fn.out l.out
 
 abbrev pub decreases-loop-job : goal.decreases-loop-job
 decreases-loop-job g l = jobs_size (g.B.TermBank.store l.fn.bank) l.layout.jobs.items

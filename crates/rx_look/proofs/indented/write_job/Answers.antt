@@ -14,5 +14,6 @@ returns-in-Atom-clause-written g c =
     let enough : m ≤ vec_len c.args.layout.now.blanks = c.requires.job.1 in
     let len : length blanks ≡ vec_len c.args.layout.now.blanks = c.deref.ensures.len in
     let taken : length (take m blanks) ≡ m = length-take-le m blanks (omega (arith, enough, len)) in
-    let written = subst (λ k. OnOk c.write_atom.result (Appends (g.W.Write.contents c.args.out.now.writer.now) (g.W.Write.contents c.write_atom.new.out.writer.now) (atom_text w k c.in-Atom.atom))) taken c.write_atom.ensures.written in
+    let written = subst (λ k. OnOk c.write_atom.result (Appends (g.W.Write.contents c.args.out.now.writer.now)
+    (g.W.Write.contents c.write_atom.new.out.writer.now) (atom_text w k c.in-Atom.atom))) taken c.write_atom.ensures.written in
     leaves_written c.write_atom.result w _ _ _ _ c.args.layout.now _ c.requires.blank refl refl (omega arith) (rw is (omega arith)) (rw is written)

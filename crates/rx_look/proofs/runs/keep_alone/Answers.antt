@@ -10,4 +10,5 @@ returns-clause-counted g c =
     let old = g.B.TermBank.store c.args.bank.now in
     let new = g.B.TermBank.store c.reclaim.new.self in
     counted_tree old new c.args.t c.cells.result c.requires.held (kept_alone old new c.args.t c.requires.held c.reclaim.ensures)
-    (counted_held old new c.args.t c.cells.result c.requires.held c.requires.unrooted (g.met.B.TermBank.sound c.args.bank.now) (g.met.B.TermBank.sound c.reclaim.new.self) c.reclaim.ensures c.cells.ensures)
+    (counted_held old new c.args.t c.cells.result c.requires.held c.requires.unrooted (g.met.B.TermBank.sound c.args.bank.now)
+    (g.met.B.TermBank.sound c.reclaim.new.self) c.reclaim.ensures c.cells.ensures)

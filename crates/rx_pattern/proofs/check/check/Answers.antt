@@ -16,17 +16,21 @@ pub returns-then-not-is_known-clause-unfit : goal.returns-then-not-is_known-clau
 returns-then-not-is_known-clause-unfit g c = λ u e.
     let w = g.B.TermBank.store c.args.bank.now in
     let p = unwrap_or (tree_at w c.args.t) (Items none none) in
-    let why = turn_unknown w p c.loop-u.plain c.loop-u.stack.items c.pop.new.self.items c.in-Some.u c.in-Some.ensures.items c.loop-u.invariant c.is_known.result c.is_known.ensures c.if-not-is_known.true in
+    let why = turn_unknown w p c.loop-u.plain c.loop-u.stack.items c.pop.new.self.items c.in-Some.u c.in-Some.ensures.items c.loop-u.invariant
+    c.is_known.result c.is_known.ensures c.if-not-is_known.true in
     rw e at why
 
 pub loop-u-smaller : goal.loop-u-smaller
 loop-u-smaller g c =
     let w = g.B.TermBank.store c.args.bank.now in
-    let less = turn_less w (unwrap_or (tree_at w c.args.t) (Items none none)) c.loop-u.plain c.loop-u.stack.items c.pop.new.self.items c.in-Some.u c.in-Some.ensures.items c.loop-u.invariant c.push_below.new.stack.items c.in_ok-push_below.ensures in
+    let less = turn_less w (unwrap_or (tree_at w c.args.t) (Items none none)) c.loop-u.plain c.loop-u.stack.items c.pop.new.self.items c.in-Some.u
+    c.in-Some.ensures.items c.loop-u.invariant c.push_below.new.stack.items c.in_ok-push_below.ensures in
     omega (arith, less)
 
 pub loop-u-preserved : goal.loop-u-preserved
 loop-u-preserved g c =
     let w = g.B.TermBank.store c.args.bank.now in
-    turn_on w (unwrap_or (tree_at w c.args.t) (Items none none)) c.loop-u.plain c.loop-u.stack.items c.pop.new.self.items c.in-Some.u c.in-Some.ensures.items c.loop-u.invariant
-    c.is_known.result c.is_plain-plain.result (c.loop-u.plain && c.is_plain-plain.result) c.push_below.new.stack.items c.is_known.ensures c.if-not-is_known.false c.is_plain-plain.ensures refl c.in_ok-push_below.ensures
+    turn_on w (unwrap_or (tree_at w c.args.t) (Items none none)) c.loop-u.plain c.loop-u.stack.items c.pop.new.self.items c.in-Some.u
+    c.in-Some.ensures.items c.loop-u.invariant
+    c.is_known.result c.is_plain-plain.result (c.loop-u.plain && c.is_plain-plain.result) c.push_below.new.stack.items c.is_known.ensures
+    c.if-not-is_known.false c.is_plain-plain.ensures refl c.in_ok-push_below.ensures

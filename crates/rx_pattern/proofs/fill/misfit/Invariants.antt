@@ -6,4 +6,5 @@ use Rattle.rx_pattern.proofs.fill.misfit.Given as goal
 
 abbrev pub invariant-loop-node : goal.invariant-loop-node
 invariant-loop-node g l =
-    Checking (g.B.TermBank.store l.bank) (blanks_of_steps (map step_of l.nodes)) (blanks_of_steps (map step_of (drop l.node-index l.nodes))) l.args l.at l.node-index
+    Checking (g.B.TermBank.store l.bank) (blanks_of_steps (map step_of l.nodes)) (blanks_of_steps (map step_of (drop l.node-index l.nodes))) l.args
+    l.at l.node-index

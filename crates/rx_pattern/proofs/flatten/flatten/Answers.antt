@@ -18,4 +18,6 @@ loop-job-init g c =
 pub loop-job-preserved : goal.loop-job-preserved
 loop-job-preserved g c =
     let w = g.B.TermBank.store c.args.bank.now in
-    turn_on w (unwrap_or (tree_at w c.args.t) (Items none none)) c.loop-job.nodes.items c.loop-job.jobs.items c.pop.new.self.items c.in-Some.job c.in-Some.ensures.items c.loop-job.invariant c.in_ok-node.node c.push-in-Some.new.self.items c.next_node.new.jobs.items c.in_ok-node.ensures c.in_ok-push-2.ensures.items
+    turn_on w (unwrap_or (tree_at w c.args.t) (Items none none)) c.loop-job.nodes.items c.loop-job.jobs.items c.pop.new.self.items c.in-Some.job
+    c.in-Some.ensures.items c.loop-job.invariant c.in_ok-node.node c.push-in-Some.new.self.items c.next_node.new.jobs.items c.in_ok-node.ensures
+    c.in_ok-push-2.ensures.items

@@ -10,4 +10,5 @@ returns-then-not-fits-clause-met g c = λ u e.
 pub returns-clause-met : goal.returns-clause-met
 returns-clause-met g c = λ u e.
     let w = g.B.TermBank.store c.args.bank.now in
-    list_met w c.args.t c.anns.result c.args.subjects.now.items c.push.new.self.items c.push-2.new.self.items u e (sym (c.fits.ensures u e) ∙ c.if-not-fits.false) c.anns.ensures c.in_ok-push.ensures.items c.in_ok-push-2.ensures.items
+    list_met w c.args.t c.anns.result c.args.subjects.now.items c.push.new.self.items c.push-2.new.self.items u e
+    (sym (c.fits.ensures u e) ∙ c.if-not-fits.false) c.anns.ensures c.in_ok-push.ensures.items c.in_ok-push-2.ensures.items

@@ -13,7 +13,8 @@ invariant-loop-node g l =
     let old = g.B.TermBank.store l.fn.bank in
     let w = g.B.TermBank.store l.bank in
     record {
-      underway : Underway w (map step_of (drop l.node-index l.nodes)) (matching (tree_of_nodes l.nodes) (unwrap_or (tree_at old l.fn.t) (Items none none))) l.subjects.items l.out.items;
+      underway : Underway w (map step_of (drop l.node-index l.nodes))
+          (matching (tree_of_nodes l.nodes) (unwrap_or (tree_at old l.fn.t) (Items none none))) l.subjects.items l.out.items;
       grows : Grows old w;
       added : AddsOnlyLists old w;
     }

@@ -8,7 +8,8 @@ pub mark_shape-inside-requires : goal.mark_shape-inside-requires
 mark_shape-inside-requires c i h = c.requires i (Contains-append_left (node_links (node_of c.args.body.shape)) (notes_links (notes_of c.args.body.anns)) i h)
 
 pub mark_notes-beside-requires : goal.mark_notes-beside-requires
-mark_notes-beside-requires c i h = within-after c.mark_shape-inside.ensures.marks i (c.requires i (Contains-append_right (node_links (node_of c.args.body.shape)) (notes_links (notes_of c.args.body.anns)) i h))
+mark_notes-beside-requires c i h = within-after c.mark_shape-inside.ensures.marks i
+    (c.requires i (Contains-append_right (node_links (node_of c.args.body.shape)) (notes_links (notes_of c.args.body.anns)) i h))
 
 pub returns-then-inside-clause-marks : goal.returns-then-inside-clause-marks
 returns-then-inside-clause-marks c = Marks-trans c.mark_shape-inside.ensures.marks c.mark_notes-beside.ensures.marks

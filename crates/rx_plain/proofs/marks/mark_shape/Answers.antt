@@ -7,7 +7,8 @@ pub mark-first-requires : goal.mark-first-requires
 mark-first-requires c = c.requires c.in-Cons.head.0 (rw c.in-Cons.is (cons_head c.in-Cons.head.0 (c.in-Cons.tail.0 ∷ [])))
 
 pub mark-second-requires : goal.mark-second-requires
-mark-second-requires c = within-after c.mark-first.ensures.marks c.in-Cons.tail.0 (c.requires c.in-Cons.tail.0 (rw c.in-Cons.is (cons_tail c.in-Cons.head.0 (c.in-Cons.tail.0 ∷ []) c.in-Cons.tail.0 (cons_head c.in-Cons.tail.0 []))))
+mark-second-requires c = within-after c.mark-first.ensures.marks c.in-Cons.tail.0
+    (c.requires c.in-Cons.tail.0 (rw c.in-Cons.is (cons_tail c.in-Cons.head.0 (c.in-Cons.tail.0 ∷ []) c.in-Cons.tail.0 (cons_head c.in-Cons.tail.0 []))))
 
 pub mark-requires : goal.mark-requires
 mark-requires c = c.requires c.in-Appl.args.0 (rw c.in-Appl.is (cons_head c.in-Appl.args.0 []))

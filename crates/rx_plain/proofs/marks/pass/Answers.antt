@@ -20,7 +20,8 @@ loop-place-preserved c =
     let now = c.loop-place.slots in
     let next = c.mark_below-below.new.slots in
     let m = c.mark_below-below.ensures.marks in
-    let step = Progress-step old now next c.loop-place.place c.loop-place.fresh c.mark_below-below.result c.loop-place.invariant.progress m c.mark_below-below.ensures.fresh in
+    let step = Progress-step old now next c.loop-place.place c.loop-place.fresh c.mark_below-below.result c.loop-place.invariant.progress m
+    c.mark_below-below.ensures.fresh in
     record {
       keeps = Keeps-trans c.loop-place.invariant.keeps m.keeps;
       only = OnlyLinked-trans old now next c.loop-place.invariant.keeps c.loop-place.invariant.only (OnlyLinked-below now next c.loop-place.place m);

@@ -4,7 +4,8 @@ use Rattle.rx_run.proofs.refused_items.misfit_of_elements.Goals as goal
 
 pub returns-in-Err-Count : goal.returns-in-Err-Count
 returns-in-Err-Count g c = λ ts held.
-    misfit_count (g.B.TermBank.store c.args.bank.now) c.args.pattern.now c.args.args.now ts c.placeholders.result (length c.args.args.now) c.placeholders.ensures refl held
+    misfit_count (g.B.TermBank.store c.args.bank.now) c.args.pattern.now c.args.args.now ts c.placeholders.result (length c.args.args.now)
+    c.placeholders.ensures refl held
     ((c.in-Err-Count.ensures.count ts held).0 (ap Err c.in-Err-Count.field-0-is))
 
 pub returns-in-Err-Kind : goal.returns-in-Err-Kind

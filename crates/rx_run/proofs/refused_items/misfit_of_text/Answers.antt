@@ -12,12 +12,14 @@ pub returns-in-Refused : goal.returns-in-Refused
 returns-in-Refused g c =
     let w = g.B.TermBank.store c.parse.new.bank in
     let v = c.in_ok-parse.ensures.read in
-    unspelt_item (misfit_in c.args.pattern.now) source.Args c.args.args.now c.in-Refused.field-0 v.0 refl (λ at. refl) (subst (λ (r : Reading Term). IsReadingOf source.Args w r v.0) c.in-Refused.is v.1) v.2
+    unspelt_item (misfit_in c.args.pattern.now) source.Args c.args.args.now c.in-Refused.field-0 v.0 refl (λ at. refl)
+    (subst (λ (r : Reading Term). IsReadingOf source.Args w r v.0) c.in-Refused.is v.1) v.2
 
 pub returns : goal.returns
 returns g c =
     let w = g.B.TermBank.store c.parse.new.bank in
     let v = c.in_ok-parse.ensures.read in
     if_ok_map c.misfit_of_term.result _ _
-    (λ found h. spelt_item (misfit_in c.args.pattern.now) source.Args w c.args.args.now c.in-Good.t v.0 found (subst (λ (r : Reading Term). IsReadingOf source.Args w r v.0) c.in-Good.is v.1) v.2 h)
+    (λ found h. spelt_item (misfit_in c.args.pattern.now) source.Args w c.args.args.now c.in-Good.t v.0 found
+    (subst (λ (r : Reading Term). IsReadingOf source.Args w r v.0) c.in-Good.is v.1) v.2 h)
     c.misfit_of_term.ensures

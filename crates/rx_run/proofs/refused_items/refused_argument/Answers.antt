@@ -9,7 +9,8 @@ use Rattle.rx_run.proofs.refused_items.refused_argument.Goals as goal
 
 pub returns-in-Refused-clause-first : goal.returns-in-Refused-clause-first
 returns-in-Refused-clause-first c = λ p v spelt is.
-    absurd (no_pattern c.args.pattern.now c.in-Refused.field-0 (subst (λ (r : Reading Tree). IsPatternRead c.args.pattern.now r) c.in-Refused.is c.in_ok-read_pattern.ensures.read) p spelt)
+    absurd (no_pattern c.args.pattern.now c.in-Refused.field-0 (subst (λ (r : Reading Tree). IsPatternRead c.args.pattern.now r) c.in-Refused.is
+    c.in_ok-read_pattern.ensures.read) p spelt)
 
 pub returns-in-Good-clause-first : goal.returns-in-Good-clause-first
 returns-in-Good-clause-first c =

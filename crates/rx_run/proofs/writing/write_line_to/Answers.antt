@@ -5,7 +5,8 @@ use Rattle.rx_run.proofs.writing.write_line_to.Goals as goal
 
 pub returns-in-Err-Memory-clause-err : goal.returns-in-Err-Memory-clause-err
 returns-in-Err-Memory-clause-err g c =
-    stops_memory (g.B.TermBank.store c.args.bank.now) c.args.t c.args.lines _ _ (g.met.B.TermBank.sound c.args.bank.now) c.requires.held c.in-Err-Memory.ensures.front
+    stops_memory (g.B.TermBank.store c.args.bank.now) c.args.t c.args.lines _ _ (g.met.B.TermBank.sound c.args.bank.now) c.requires.held
+    c.in-Err-Memory.ensures.front
 
 pub returns-in-Err-Write-clause-err : goal.returns-in-Err-Write-clause-err
 returns-in-Err-Write-clause-err g c =

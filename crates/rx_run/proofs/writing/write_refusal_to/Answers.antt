@@ -22,4 +22,5 @@ returns-in_err-put-clause-err g c =
     let word = word_of c.args.refusal.text in
     let name = name_of c.args.refusal.reason in
     on_err c.from_residual-in_err-put.result
-    (front_after _ _ _ (word ++ name) (codes "\n") (appends_both _ _ _ word name c.in_ok-write_word.ensures.ok c.in_ok-write_name.ensures.ok) c.in_err-put.ensures.front)
+    (front_after _ _ _ (word ++ name) (codes "\n") (appends_both _ _ _ word name c.in_ok-write_word.ensures.ok c.in_ok-write_name.ensures.ok)
+    c.in_err-put.ensures.front)

@@ -6,12 +6,14 @@ use Rattle.rx_sweep.proofs.marking.mark_ahead.Goals as goal
 pub returns-clause-marks : goal.returns-clause-marks
 returns-clause-marks c =
     let taken = c.requires.taken in
-    marks_one c.args.arena.now (record c.mark.new.self { gray = c.args.slot.0 ∷ c.mark.new.self.gray }) c.args.slot.0 taken.0 taken.1 (sym c.marked.ensures ∙ c.if-marked.false)
+    marks_one c.args.arena.now (record c.mark.new.self { gray = c.args.slot.0 ∷ c.mark.new.self.gray }) c.args.slot.0 taken.0 taken.1
+    (sym c.marked.ensures ∙ c.if-marked.false)
     (ap (λ (v : ArenaState). record v { gray = c.args.slot.0 ∷ v.gray }) c.mark.ensures.after)
 
 pub returns-clause-marked : goal.returns-clause-marked
 returns-clause-marked c =
     let taken = c.requires.taken in
-    let m = marks_one c.args.arena.now (record c.mark.new.self { gray = c.args.slot.0 ∷ c.mark.new.self.gray }) c.args.slot.0 taken.0 taken.1 (sym c.marked.ensures ∙ c.if-marked.false)
+    let m = marks_one c.args.arena.now (record c.mark.new.self { gray = c.args.slot.0 ∷ c.mark.new.self.gray }) c.args.slot.0 taken.0 taken.1
+    (sym c.marked.ensures ∙ c.if-marked.false)
     (ap (λ (v : ArenaState). record v { gray = c.args.slot.0 ∷ v.gray }) c.mark.ensures.after) in
     m.marked c.args.slot.0 refl

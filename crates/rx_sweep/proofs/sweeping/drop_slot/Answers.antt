@@ -8,7 +8,8 @@ use Rattle.rx_sweep.proofs.HomingLemmas.{home_some, home_below, left_loose}
 use Rattle.rx_sweep.proofs.sweeping.drop_slot.Goals as goal
 
 -- the chain that is looked up is the slot's own
-named : (a : ArenaState) (k to : ℕ) (body : CellBody) → IsTaken a k → IfSome (taken_at a k) (λ t. body ≡ t.body) → to ≡ body.hash % length a.chains → to ≡ home a k
+named : (a : ArenaState) (k to : ℕ) (body : CellBody) → IsTaken a k → IfSome (taken_at a k) (λ t. body ≡ t.body) → to ≡ body.hash % length a.chains
+    → to ≡ home a k
 named a k to body taken read is = is ∙ ap (λ z. z % length a.chains) (hash_of a k body taken read)
 
 pub home-chain-requires : goal.home-chain-requires
@@ -27,11 +28,13 @@ chain_remove-requires-clause-there c =
 pub give_back-requires-clause-loose : goal.give_back-requires-clause-loose
 give_back-requires-clause-loose c =
     let is = named c.args.arena.now c.args.slot.0 c.home-chain.result c.read.result c.requires.taken c.read.ensures c.home-chain.ensures.value in
-    let after = c.chain_remove.ensures.after ∙ ap (λ z. record c.args.arena.now { chains = set c.args.arena.now.chains z (besides c.args.slot.0 (chain_at c.args.arena.now z)) }) is in
+    let after = c.chain_remove.ensures.after
+    ∙ ap (λ z. record c.args.arena.now { chains = set c.args.arena.now.chains z (besides c.args.slot.0 (chain_at c.args.arena.now z)) }) is in
     left_loose c.args.arena.now c.args.slot.0 c.requires.there c.chain_remove.new.self (ap (λ (v : ArenaState). v.chains) after) c.home-chain.ensures.law
 
 pub returns-clause-after : goal.returns-clause-after
 returns-clause-after c =
     let is = named c.args.arena.now c.args.slot.0 c.home-chain.result c.read.result c.requires.taken c.read.ensures c.home-chain.ensures.value in
-    let after = c.chain_remove.ensures.after ∙ ap (λ z. record c.args.arena.now { chains = set c.args.arena.now.chains z (besides c.args.slot.0 (chain_at c.args.arena.now z)) }) is in
+    let after = c.chain_remove.ensures.after
+    ∙ ap (λ z. record c.args.arena.now { chains = set c.args.arena.now.chains z (besides c.args.slot.0 (chain_at c.args.arena.now z)) }) is in
     c.give_back.ensures.after ∙ ap (λ (v : ArenaState). record v { cells = put v.cells c.args.slot.0 None; spare = v.spare + 1 }) after

@@ -9,7 +9,8 @@ pub drop_slot-requires-clause-there : goal.drop_slot-requires-clause-there
 drop_slot-requires-clause-there c =
     let next : c.loop-number.number ≡ (c.loop-number.number - 1) + 1 = let pos = c.loop-number-test.true in omega (arith, pos) in
     let inv = subst (λ n. Sweeping c.args.arena.now n c.loop-number.arena) next c.loop-number.invariant in
-    sweeping_there c.args.arena.now (c.loop-number.number - 1) c.loop-number.arena inv (sym c.holds_unmarked.ensures ∙ c.if-holds_unmarked.true) c.requires.chained c.requires.homed
+    sweeping_there c.args.arena.now (c.loop-number.number - 1) c.loop-number.arena inv (sym c.holds_unmarked.ensures ∙ c.if-holds_unmarked.true)
+    c.requires.chained c.requires.homed
 
 pub loop-number-preserved-then-holds_unmarked : goal.loop-number-preserved-then-holds_unmarked
 loop-number-preserved-then-holds_unmarked c =
@@ -17,13 +18,15 @@ loop-number-preserved-then-holds_unmarked c =
     let inv = subst (λ n. Sweeping c.args.arena.now n c.loop-number.arena) next c.loop-number.invariant in
     let white = sym c.holds_unmarked.ensures ∙ c.if-holds_unmarked.true in
     let there = sweeping_there c.args.arena.now (c.loop-number.number - 1) c.loop-number.arena inv white c.requires.chained c.requires.homed in
-    sweeping_on c.args.arena.now (c.loop-number.number - 1) c.loop-number.arena inv white there c.drop_slot.new.arena c.drop_slot.ensures.after c.requires.homed c.drop_slot.ensures.law
+    sweeping_on c.args.arena.now (c.loop-number.number - 1) c.loop-number.arena inv white there c.drop_slot.new.arena c.drop_slot.ensures.after
+    c.requires.homed c.drop_slot.ensures.law
 
 pub loop-number-preserved : goal.loop-number-preserved
 loop-number-preserved c =
     let next : c.loop-number.number ≡ (c.loop-number.number - 1) + 1 = let pos = c.loop-number-test.true in omega (arith, pos) in
     let inv = subst (λ n. Sweeping c.args.arena.now n c.loop-number.arena) next c.loop-number.invariant in
-    sweeping_past c.args.arena.now (c.loop-number.number - 1) c.loop-number.arena inv c.slots-number.ensures.law (sym c.holds_unmarked.ensures ∙ c.if-holds_unmarked.false)
+    sweeping_past c.args.arena.now (c.loop-number.number - 1) c.loop-number.arena inv c.slots-number.ensures.law
+    (sym c.holds_unmarked.ensures ∙ c.if-holds_unmarked.false)
 
 pub returns-clause-swept : goal.returns-clause-swept
 returns-clause-swept c =

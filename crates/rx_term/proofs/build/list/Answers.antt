@@ -12,7 +12,8 @@ cons-requires g c =
     let now = g.B.TermBank.store c.loop-left.bank in
     let d : Term = record { 0 = 0 } in
     let r = get_or c.args.items.now (c.loop-left.left - 1) d in
-    let n = next old now (drop c.loop-left.left c.args.items.now) r c.loop-left.list c.loop-left.invariant.grows (c.requires r (item-in c.args.items.now (c.loop-left.left - 1) d (omega arith))) c.loop-left.invariant.lists in
+    let n = next old now (drop c.loop-left.left c.args.items.now) r c.loop-left.list c.loop-left.invariant.grows
+    (c.requires r (item-in c.args.items.now (c.loop-left.left - 1) d (omega arith))) c.loop-left.invariant.lists in
     ap is_some (is_longer _ _ n.0 n.1.0 n.1.1 n.1.2)
 
 pub loop-left-preserved : goal.loop-left-preserved
@@ -21,7 +22,8 @@ loop-left-preserved g c =
     let now = g.B.TermBank.store c.loop-left.bank in
     let d : Term = record { 0 = 0 } in
     let r = get_or c.args.items.now (c.loop-left.left - 1) d in
-    let n = next old now (drop c.loop-left.left c.args.items.now) r c.loop-left.list c.loop-left.invariant.grows (c.requires r (item-in c.args.items.now (c.loop-left.left - 1) d (omega arith))) c.loop-left.invariant.lists in
+    let n = next old now (drop c.loop-left.left c.args.items.now) r c.loop-left.list c.loop-left.invariant.grows
+    (c.requires r (item-in c.args.items.now (c.loop-left.left - 1) d (omega arith))) c.loop-left.invariant.lists in
     let made = c.in_ok-list-2.ensures.made in
     record {
       within = omega arith;

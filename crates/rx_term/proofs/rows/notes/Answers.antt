@@ -15,7 +15,8 @@ record Parts (w : Store) (seven list : Term) : Type 0 where
   seven_is : tree_at w seven ≡ Some (Int (pos 7) none)
   list_is : tree_at w list ≡ Some sevens
 
-made : {u v w x : Store} {seven nil list : Term} → Makes u v (Some (Int (pos 7) none)) seven → Makes v w (Some (Items none none)) nil → Makes w x (longer (tree_at w seven) (tree_at w nil)) list → Parts x seven list
+made : {u v w x : Store} {seven nil list : Term} → Makes u v (Some (Int (pos 7) none)) seven → Makes v w (Some (Items none none)) nil
+    → Makes w x (longer (tree_at w seven) (tree_at w nil)) list → Parts x seven list
 made {w = w} {seven = seven} {nil = nil} s n l =
     let there = kept-Makes n seven (Int (pos 7) none) s.made in
     let empty = n.made in

@@ -11,14 +11,17 @@ push_inside-requires g c =
 pub loop-u-smaller : goal.loop-u-smaller
 loop-u-smaller g c =
     let w = g.B.TermBank.store c.args.bank.now in
-    let t = walked w c.loop-u.stack.items c.pop.new.self.items c.push_inside.new.stack.items c.push_anns.new.stack.items c.in-Some.u c.in-Some.ensures.items c.in_ok-push_inside.ensures c.in_ok-push_anns.ensures c.loop-u.invariant.held in
+    let t = walked w c.loop-u.stack.items c.pop.new.self.items c.push_inside.new.stack.items c.push_anns.new.stack.items c.in-Some.u
+    c.in-Some.ensures.items c.in_ok-push_inside.ensures c.in_ok-push_anns.ensures c.loop-u.invariant.held in
     omega (arith, t.1)
 
 pub loop-u-preserved : goal.loop-u-preserved
 loop-u-preserved g c =
     let w = g.B.TermBank.store c.args.bank.now in
-    let t = walked w c.loop-u.stack.items c.pop.new.self.items c.push_inside.new.stack.items c.push_anns.new.stack.items c.in-Some.u c.in-Some.ensures.items c.in_ok-push_inside.ensures c.in_ok-push_anns.ensures c.loop-u.invariant.held in
-    let e = counted-turn c.loop-u.count (length (all_parts w c.push_anns.new.stack.items)) (length (all_parts w c.loop-u.stack.items)) c.saturating_add-count.result 18446744073709551615 c.saturating_add-count.ensures t.1 in
+    let t = walked w c.loop-u.stack.items c.pop.new.self.items c.push_inside.new.stack.items c.push_anns.new.stack.items c.in-Some.u
+    c.in-Some.ensures.items c.in_ok-push_inside.ensures c.in_ok-push_anns.ensures c.loop-u.invariant.held in
+    let e = counted-turn c.loop-u.count (length (all_parts w c.push_anns.new.stack.items)) (length (all_parts w c.loop-u.stack.items))
+    c.saturating_add-count.result 18446744073709551615 c.saturating_add-count.ensures t.1 in
     record {
       held = t.0;
       within = omega (arith, c.saturating_add-count.ensures);

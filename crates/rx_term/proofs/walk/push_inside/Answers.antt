@@ -15,7 +15,8 @@ returns-in_ok-push-in-Cons-2 g c =
       tree = Items (more k.first k.rest) k.anns;
       kids = c.head.result ∷ c.tail.result ∷ [];
       here = k.here;
-      pushed = c.in_ok-push-in-Cons-2.ensures.items ∙ ap (λ xs. xs ++ c.tail.result ∷ []) c.in_ok-push-in-Cons.ensures.items ∙ append_assoc c.args.stack.now.items (c.head.result ∷ []) (c.tail.result ∷ []);
+      pushed = c.in_ok-push-in-Cons-2.ensures.items ∙ ap (λ xs. xs ++ c.tail.result ∷ []) c.in_ok-push-in-Cons.ensures.items
+          ∙ append_assoc c.args.stack.now.items (c.head.result ∷ []) (c.tail.result ∷ []);
       held = AllHeld-cons w c.head.result (c.tail.result ∷ []) (some-here p) (AllHeld-one w c.tail.result (some-here q));
       covers = cons-covers w c.head.result c.tail.result k.first k.rest k.anns p q;
     }

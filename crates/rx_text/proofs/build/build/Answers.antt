@@ -13,7 +13,8 @@ pub make-requires : goal.make-requires
 make-requires g c =
     let l = c.loop-node in
     let cut = next_node c.args.nodes.now l.node-index c.loop-node-test.true in
-    let h = turn_needs (g.B.TermBank.store l.bank) c.args.bytes.now l.made.items c.args.nodes.now _ _ (get_or c.args.nodes.now l.node-index no_node) cut l.invariant.under_way in
+    let h = turn_needs (g.B.TermBank.store l.bank) c.args.bytes.now l.made.items c.args.nodes.now _ _ (get_or c.args.nodes.now l.node-index no_node)
+    cut l.invariant.under_way in
     record { held = h.0; name = h.1 }
 
 pub loop-node-preserved : goal.loop-node-preserved
@@ -21,21 +22,24 @@ loop-node-preserved g c =
     let l = c.loop-node in
     let cut = next_node c.args.nodes.now l.node-index c.loop-node-test.true in
     record {
-      under_way = rw c.in_ok-push.ensures.items (turn (g.B.TermBank.store l.bank) (g.B.TermBank.store c.make.new.bank) c.args.bytes.now l.made.items _ c.args.nodes.now _ _ (get_or c.args.nodes.now l.node-index no_node) cut l.invariant.under_way c.in_ok-term.ensures.made);
+      under_way = rw c.in_ok-push.ensures.items (turn (g.B.TermBank.store l.bank) (g.B.TermBank.store c.make.new.bank) c.args.bytes.now l.made.items _
+          c.args.nodes.now _ _ (get_or c.args.nodes.now l.node-index no_node) cut l.invariant.under_way c.in_ok-term.ensures.made);
       grows = Grows-trans l.invariant.grows c.make.ensures.grows;
     }
 
 pub index-requires : goal.index-requires
 index-requires g c =
     let l = c.loop-node in
-    let h = ended (g.B.TermBank.store l.bank) c.args.bytes.now l.made.items c.args.nodes.now _ c.requires.0 (drop-past c.args.nodes.now l.node-index c.loop-node-test.false) l.invariant.under_way c.requires.1 in
+    let h = ended (g.B.TermBank.store l.bank) c.args.bytes.now l.made.items c.args.nodes.now _ c.requires.0
+    (drop-past c.args.nodes.now l.node-index c.loop-node-test.false) l.invariant.under_way c.requires.1 in
     let one = held_length (g.B.TermBank.store l.bank) l.made.items (c.requires.0 ∷ []) h in
     omega (arith, one, l.made.ok.0)
 
 pub returns-clause-made : goal.returns-clause-made
 returns-clause-made g c = λ t nodes.
     let l = c.loop-node in
-    let h = ended (g.B.TermBank.store l.bank) c.args.bytes.now l.made.items c.args.nodes.now _ t (drop-past c.args.nodes.now l.node-index c.loop-node-test.false) l.invariant.under_way nodes in
+    let h = ended (g.B.TermBank.store l.bank) c.args.bytes.now l.made.items c.args.nodes.now _ t
+    (drop-past c.args.nodes.now l.node-index c.loop-node-test.false) l.invariant.under_way nodes in
     only_one (g.B.TermBank.store l.bank) l.made.items c.index.result.now t h c.index.ensures
 
 pub returns-in_err-term-clause-grows : goal.returns-in_err-term-clause-grows

@@ -17,10 +17,14 @@ loop-index-preserved g c =
     let m = c.in_ok-list-2.ensures in
     let w = g.B.TermBank.store l.bank in
     let v = g.B.TermBank.store c.cons.new.self in
-    let popped : l.made.items ≡ c.pop.new.self.items ++ c.unwrap-item.result ∷ [] = c.pop.ensures.items ∙ ap (λ o. c.pop.new.self.items ++ option_to_list o) c.unwrap-item.ensures in
+    let popped : l.made.items ≡ c.pop.new.self.items ++ c.unwrap-item.result ∷ [] =
+    c.pop.ensures.items ∙ ap (λ o. c.pop.new.self.items ++ option_to_list o) c.unwrap-item.ensures in
     let fits : (trees : List Tree) → Holds (g.B.TermBank.store c.args.bank.now) c.args.made.now.items trees → l._index < length trees
-    = λ trees h. let e = as_many (g.B.TermBank.store c.args.bank.now) c.args.made.now.items trees c.requires.held.0 h c.requires.held.1 in let f = c.requires.held.2 in let t = c.loop-index-test.true in omega (arith, e, f, t) in
-    let turn = λ (trees : List Tree) (h : Holds (g.B.TermBank.store c.args.bank.now) c.args.made.now.items trees). item_on w v l.made.items c.pop.new.self.items c.unwrap-item.result l.list c.in_ok-list-2.list l._index trees (fits trees h) popped (l.invariant.left trees h) (l.invariant.list trees h) m in
+    = λ trees h. let e = as_many (g.B.TermBank.store c.args.bank.now) c.args.made.now.items trees c.requires.held.0 h c.requires.held.1 in let f =
+    c.requires.held.2 in let t = c.loop-index-test.true in omega (arith, e, f, t) in
+    let turn = λ (trees : List Tree) (h : Holds (g.B.TermBank.store c.args.bank.now) c.args.made.now.items trees).
+    item_on w v l.made.items c.pop.new.self.items c.unwrap-item.result l.list c.in_ok-list-2.list l._index trees (fits trees h) popped
+    (l.invariant.left trees h) (l.invariant.list trees h) m in
     record {
       list = λ trees h. (turn trees h).0;
       left = λ trees h. (turn trees h).1;

@@ -8,4 +8,5 @@ returns-clause-first c =
     let at = c.after_layout-at.result in
     let lt : at < length bytes = omega arith in
     c.after_layout-at.ensures.same
-    ∙ token_first bytes at (get_or bytes at 0) c.token-kind.result.1 c.token-kind.result.0 (next_byte bytes at lt) (c.after_layout-at.ensures.blank lt) c.token-kind.ensures.token c.token-kind.ensures.end c.token-kind.ensures.within lt c.token-kind.ensures.inner
+    ∙ token_first bytes at (get_or bytes at 0) c.token-kind.result.1 c.token-kind.result.0 (next_byte bytes at lt)
+    (c.after_layout-at.ensures.blank lt) c.token-kind.ensures.token c.token-kind.ensures.end c.token-kind.ensures.within lt c.token-kind.ensures.inner

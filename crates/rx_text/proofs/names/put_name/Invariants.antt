@@ -5,4 +5,5 @@ use Rattle.rx_text.proofs.names.put_name.Given as goal
 
 abbrev pub invariant-loop-byte : goal.invariant-loop-byte
 invariant-loop-byte g l =
-    Appends (g.W.Write.contents l.fn.out.writer.now) (g.W.Write.contents l.out.writer.now) (begun_name l.name l.byte-index) × IsWritable l.out × IsSameOutput l.fn.out l.out
+    Appends (g.W.Write.contents l.fn.out.writer.now) (g.W.Write.contents l.out.writer.now) (begun_name l.name l.byte-index) × IsWritable l.out
+    × IsSameOutput l.fn.out l.out

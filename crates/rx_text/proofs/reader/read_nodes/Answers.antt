@@ -9,14 +9,16 @@ returns-in-Err-Refused c =
     let l = c.loop-due in
     let x = c.next-lexeme.result in
     let m = rw (c.in-Err-Refused.field-0-is, l.invariant.same) at c.in-Err-Refused.ensures.moves in
-    refused_at bytes (state_of bytes l.due l.reader.frames.items l.reader.nodes.items) (tokens_after bytes l.from) (behind bytes x.kind x.to) (token_of bytes x.kind) x.at l.invariant.follows (rw (l.invariant.same) at c.next-lexeme.ensures.first) m
+    refused_at bytes (state_of bytes l.due l.reader.frames.items l.reader.nodes.items) (tokens_after bytes l.from) (behind bytes x.kind x.to)
+    (token_of bytes x.kind) x.at l.invariant.follows (rw (l.invariant.same) at c.next-lexeme.ensures.first) m
 
 pub returns-in-End : goal.returns-in-End
 returns-in-End c =
     let bytes = c.args.bytes.now in
     let l = c.loop-due in
     let m = rw (l.invariant.same, c.in-End.is) at c.in-Ok.ensures.moves in
-    is_read bytes (state_of bytes l.due l.reader.frames.items l.reader.nodes.items) (tokens_after bytes l.from) c.next-lexeme.result.at c.in-Ok.due c.step.new.self.frames.items c.step.new.self.nodes.items l.invariant.follows (rw (l.invariant.same, c.in-End.is) at c.next-lexeme.ensures.first) m.0 m.1
+    is_read bytes (state_of bytes l.due l.reader.frames.items l.reader.nodes.items) (tokens_after bytes l.from) c.next-lexeme.result.at c.in-Ok.due
+    c.step.new.self.frames.items c.step.new.self.nodes.items l.invariant.follows (rw (l.invariant.same, c.in-End.is) at c.next-lexeme.ensures.first) m.0 m.1
 
 pub loop-due-preserved : goal.loop-due-preserved
 loop-due-preserved c =

@@ -12,10 +12,14 @@ returns-in_err-put_operator-clause-front g c =
     let w = g.B.TermBank.store c.args.bank.now in
     let name = c.name_of-name.result.now in
     let quoted = c.quoted_of-quoted.result in
-    on_err _ (front_of (g.W.Write.contents c.args.out.now.writer.now) (g.W.Write.contents c.put_operator.new.out.writer.now) (seen [] body_text (tree_at w c.args.term)) (name_text name quoted ++ 40 ∷ []) (job_text w (job.Items c.args-args.result) ++ job_text w (job.Byte 41))
-    (application_text w c.args.term c.args.symbol c.requires.job name quoted c.name_of-name.ensures c.quoted_of-quoted.ensures c.args-args.result c.in-Cons.ensures c.args-args.ensures) c.in_err-put_operator.ensures.front)
+    on_err _ (front_of (g.W.Write.contents c.args.out.now.writer.now) (g.W.Write.contents c.put_operator.new.out.writer.now)
+    (seen [] body_text (tree_at w c.args.term)) (name_text name quoted ++ 40 ∷ []) (job_text w (job.Items c.args-args.result) ++ job_text w (job.Byte 41))
+    (application_text w c.args.term c.args.symbol c.requires.job name quoted c.name_of-name.ensures c.quoted_of-quoted.ensures c.args-args.result
+    c.in-Cons.ensures c.args-args.ensures) c.in_err-put_operator.ensures.front)
 
 pub returns-in_ok-put_operator-clause-written : goal.returns-in_ok-put_operator-clause-written
 returns-in_ok-put_operator-clause-written g c =
-    application_leaves (g.B.TermBank.store c.args.bank.now) c.args.term c.args.symbol c.requires.job c.name_of-name.result.now c.quoted_of-quoted.result c.name_of-name.ensures c.quoted_of-quoted.ensures c.args-args.result c.in-Cons.ensures c.args-args.ensures
-    (g.W.Write.contents c.args.out.now.writer.now) (g.W.Write.contents c.put_operator.new.out.writer.now) c.args.jobs.now.items c.leave.new.jobs.items c.in_ok-leave.ensures.left c.in_ok-put_operator.ensures.written
+    application_leaves (g.B.TermBank.store c.args.bank.now) c.args.term c.args.symbol c.requires.job c.name_of-name.result.now
+    c.quoted_of-quoted.result c.name_of-name.ensures c.quoted_of-quoted.ensures c.args-args.result c.in-Cons.ensures c.args-args.ensures
+    (g.W.Write.contents c.args.out.now.writer.now) (g.W.Write.contents c.put_operator.new.out.writer.now) c.args.jobs.now.items c.leave.new.jobs.items
+    c.in_ok-leave.ensures.left c.in_ok-put_operator.ensures.written

@@ -10,7 +10,8 @@ returns-in-Items-clause-written g c =
     let w = g.B.TermBank.store c.args.bank.now in
     let j = job.Items c.in-Items.list in
     let old = g.W.Write.contents c.args.out.now.writer.now in
-    rw c.in-Items.is (adds_leaves c.leave_items.result w (job_text w j) (job_size w j) old old c.args.jobs.now.items c.leave_items.new.jobs.items c.leave_items.ensures.left (appends_same old))
+    rw c.in-Items.is (adds_leaves c.leave_items.result w (job_text w j) (job_size w j) old old c.args.jobs.now.items c.leave_items.new.jobs.items
+    c.leave_items.ensures.left (appends_same old))
 
 pub returns-in-Items-clause-cause : goal.returns-in-Items-clause-cause
 returns-in-Items-clause-cause g c = tells_memory c.args.out.now c.leave_items.result c.leave_items.ensures.memory c.requires.open

@@ -13,4 +13,5 @@ pub returns-clause-front : goal.returns-clause-front
 returns-clause-front g c =
     let w = g.B.TermBank.store c.args.bank.now in
     let f = notes_front w c.args.term c.in-Some.ensures.0 in
-    err_front c.put_mark.result (g.W.Write.contents c.args.out.now.writer.now) (g.W.Write.contents c.put_mark.new.out.writer.now) (job_text w (job.Notes c.args.term)) (123 ∷ []) f.0 f.1 c.put_mark.ensures.front
+    err_front c.put_mark.result (g.W.Write.contents c.args.out.now.writer.now) (g.W.Write.contents c.put_mark.new.out.writer.now)
+    (job_text w (job.Notes c.args.term)) (123 ∷ []) f.0 f.1 c.put_mark.ensures.front

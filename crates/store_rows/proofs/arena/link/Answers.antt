@@ -10,10 +10,15 @@ use Rattle.store_rows.proofs.arena.link.Goals as goal
 
 pub chain_push-requires-clause-taken : goal.chain_push-requires-clause-taken
 chain_push-requires-clause-taken g c =
-    let cells : c.take.new.self.cells ≡ put c.args.arena.now.cells c.expect-slot.result.0 (Some (new_cell c.body.result)) = subst (λ (r : Result Slot ArenaFault). IfOk r (λ s. c.take.new.self.cells ≡ put c.args.arena.now.cells s.0 (Some (new_cell c.body.result)))) c.expect-slot.ensures c.take.ensures.cells in
+    let cells : c.take.new.self.cells ≡ put c.args.arena.now.cells c.expect-slot.result.0 (Some (new_cell c.body.result)) =
+    subst (λ (r : Result Slot ArenaFault). IfOk r (λ s. c.take.new.self.cells ≡ put c.args.arena.now.cells s.0 (Some (new_cell c.body.result))))
+    c.expect-slot.ensures c.take.ensures.cells in
     (new_cell c.body.result, just_taken c.args.arena.now c.take.new.self c.expect-slot.result.0 (new_cell c.body.result) cells)
 
 pub returns : goal.returns
 returns g c =
-    let cells : c.take.new.self.cells ≡ put c.args.arena.now.cells c.expect-slot.result.0 (Some (new_cell c.body.result)) = subst (λ (r : Result Slot ArenaFault). IfOk r (λ s. c.take.new.self.cells ≡ put c.args.arena.now.cells s.0 (Some (new_cell c.body.result)))) c.expect-slot.ensures c.take.ensures.cells in
-    no_roots_same c.take.new.self c.chain_push.new.self (no_roots_taken c.args.arena.now c.take.new.self c.expect-slot.result.0 c.body.result c.requires cells) (ap (λ (v : ArenaState). v.cells) c.chain_push.ensures.after)
+    let cells : c.take.new.self.cells ≡ put c.args.arena.now.cells c.expect-slot.result.0 (Some (new_cell c.body.result)) =
+    subst (λ (r : Result Slot ArenaFault). IfOk r (λ s. c.take.new.self.cells ≡ put c.args.arena.now.cells s.0 (Some (new_cell c.body.result))))
+    c.expect-slot.ensures c.take.ensures.cells in
+    no_roots_same c.take.new.self c.chain_push.new.self (no_roots_taken c.args.arena.now c.take.new.self c.expect-slot.result.0 c.body.result
+    c.requires cells) (ap (λ (v : ArenaState). v.cells) c.chain_push.ensures.after)

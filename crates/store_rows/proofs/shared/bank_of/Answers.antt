@@ -8,6 +8,7 @@ use Rattle.store_rows.proofs.shared.bank_of.Goals as goal
 
 pub returns : goal.returns
 returns g c =
-    let empty : IsEmptyStore (store_of c.expect-bank.result) c.args.cap = subst (λ (r : Result SharedBank BankFault). IfOk r (λ b. IsEmptyStore (store_of b) c.args.cap)) c.expect-bank.ensures c.new.ensures.empty in
+    let empty : IsEmptyStore (store_of c.expect-bank.result) c.args.cap =
+    subst (λ (r : Result SharedBank BankFault). IfOk r (λ b. IsEmptyStore (store_of b) c.args.cap)) c.expect-bank.ensures c.new.ensures.empty in
     let value : c.expect.result.value ≡ c.expect-bank.result = subst (λ r. IfOk r (λ b. b.value ≡ c.expect-bank.result)) c.expect.ensures c.new-2.ensures.ok in
     subst (λ (b : SharedBank). IsEmptyStore (store_of b) c.args.cap) (sym value) empty

@@ -12,4 +12,5 @@ pub returns : goal.returns
 returns c =
     let t = c.in_ok-slot.ensures in
     let lt = subst (λ (v : ArenaState). c.args.chain < length v.chains) (sym t.rest) c.requires.chain in
-    linked_ready c.args.arena.now c.take.new.self c.chain_push.new.self c.in_ok-slot.slot.0 c.args.chain c.args.body t.free t.cells t.rest t.loose lt c.chain_push.ensures.after c.requires.ready c.requires.parts
+    linked_ready c.args.arena.now c.take.new.self c.chain_push.new.self c.in_ok-slot.slot.0 c.args.chain c.args.body t.free t.cells t.rest t.loose lt
+    c.chain_push.ensures.after c.requires.ready c.requires.parts

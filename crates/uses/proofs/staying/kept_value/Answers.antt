@@ -3,7 +3,8 @@ use Rattle.uses.proofs.staying.kept_value.Goals as goal
 
 pub returns-in_err-t-clause-keeps : goal.returns-in_err-t-clause-keeps
 returns-in_err-t-clause-keeps g c =
-    roots_kept (g.B.TermBank.store c.args.engine.now.bank) (g.B.TermBank.store c.given_term.new.self.bank) (g.met.B.TermBank.sound c.args.engine.now.bank) c.in_err-t.ensures.keeps
+    roots_kept (g.B.TermBank.store c.args.engine.now.bank) (g.B.TermBank.store c.given_term.new.self.bank)
+    (g.met.B.TermBank.sound c.args.engine.now.bank) c.in_err-t.ensures.keeps
 
 pub returns-in_err-value-clause-keeps : goal.returns-in_err-value-clause-keeps
 returns-in_err-value-clause-keeps g c =

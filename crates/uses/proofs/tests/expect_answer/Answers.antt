@@ -2,4 +2,5 @@ use Rattle.uses.proofs.RootLemmas.{roots_kept}
 use Rattle.uses.proofs.tests.expect_answer.Goals as goal
 
 pub returns : goal.returns
-returns g c = roots_kept (g.B.TermBank.store c.args.engine.now.bank) (g.B.TermBank.store c.answer.new.engine.bank) (g.met.B.TermBank.sound c.args.engine.now.bank) c.answer.ensures.keeps
+returns g c = roots_kept (g.B.TermBank.store c.args.engine.now.bank) (g.B.TermBank.store c.answer.new.engine.bank)
+    (g.met.B.TermBank.sound c.args.engine.now.bank) c.answer.ensures.keeps

@@ -11,4 +11,6 @@ returns-clause-same g c =
     let new = g.B.TermBank.store c.read.new.bank in
     let v = some-value (tree_at old c.args.t) c.requires in
     let read = c.in_ok-again.ensures.spelt in
-    same_reference old new c.args.t c.in_ok-again.again c.as_slice.result.now v.0 read.0 (g.met.B.TermBank.sound c.args.bank.now) (g.met.B.TermBank.sound c.read.new.bank) c.in_ok-again.ensures.grows c.printed_text.ensures.spells c.printed_text.ensures.one v.1 (c.as_slice.ensures.value ∙ c.in_ok-text.ensures v.0 v.1) read.1 read.2.1
+    same_reference old new c.args.t c.in_ok-again.again c.as_slice.result.now v.0 read.0 (g.met.B.TermBank.sound c.args.bank.now)
+    (g.met.B.TermBank.sound c.read.new.bank) c.in_ok-again.ensures.grows c.printed_text.ensures.spells c.printed_text.ensures.one v.1
+    (c.as_slice.ensures.value ∙ c.in_ok-text.ensures v.0 v.1) read.1 read.2.1

@@ -7,7 +7,8 @@ use Rattle.psilt_work.proofs.BankLemmas.{still_fits}
 use Rattle.psilt_work.proofs.bank.Bank.filled.Goals as goal
 
 pub invariant_of-self : goal.invariant_of-self
-invariant_of-self c = still_fits (store_of c.self.inside.shared) (store_of c.make.new.bank) c.self.inside.prepared c.self.inside.symbols.keys c.make.ensures.grows c.self.invariant
+invariant_of-self c = still_fits (store_of c.self.inside.shared) (store_of c.make.new.bank) c.self.inside.prepared c.self.inside.symbols.keys
+    c.make.ensures.grows c.self.invariant
 
 pub returns-clause-kind : goal.returns-clause-kind
 returns-clause-kind c = λ bs h at. c.make.ensures.kind bs (subst (λ (b : BankState). HaveTrees (banks.store_of b) c.args.args.now bs) (sym c.self.view_is) h) at

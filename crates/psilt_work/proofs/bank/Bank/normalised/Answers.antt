@@ -18,8 +18,11 @@ returns-clause-outcome c =
     let spec_is = c.normalise-outcome.ensures.same.spec ∙ c.over-engine.ensures.spec in
     let now = sym (ap (λ (b : BankState). store_of b) c.of.ensures) in
     let old = ap shared.store_of (c.over-engine.ensures.bank ∙ ap (λ (b : BankState). b.shared) c.self.view_is) in
-    subst (λ (w : Store). IfOk c.normalise-outcome.result (λ (o : Outcome). IsSpecified c.args.self (λ y. (u : Tree) → tree_at w c.args.given.term ≡ Some u → IsOutcome y (store_of c.of.result) c.args.given.steps u o))) old
-    (on_spec c.args.self (specified_by p) f.spec (shared.store_of f.bank) (store_of c.of.result) (λ (y : Spec) (w : Store) (o : Outcome). (u : Tree) → tree_at (shared.store_of e.bank) c.args.given.term ≡ Some u → IsOutcome y w c.args.given.steps u o) c.normalise-outcome.result self_spec spec_is now c.normalise-outcome.ensures.outcome)
+    subst (λ (w : Store). IfOk c.normalise-outcome.result (λ (o : Outcome).
+    IsSpecified c.args.self (λ y. (u : Tree) → tree_at w c.args.given.term ≡ Some u → IsOutcome y (store_of c.of.result) c.args.given.steps u o))) old
+    (on_spec c.args.self (specified_by p) f.spec (shared.store_of f.bank) (store_of c.of.result) (λ (y : Spec) (w : Store) (o : Outcome). (u : Tree)
+    → tree_at (shared.store_of e.bank) c.args.given.term ≡ Some u → IsOutcome y w c.args.given.steps u o) c.normalise-outcome.result self_spec
+    spec_is now c.normalise-outcome.ensures.outcome)
 
 pub returns-clause-rewriting : goal.returns-clause-rewriting
 returns-clause-rewriting c =
@@ -28,10 +31,14 @@ returns-clause-rewriting c =
     let spec_is = c.normalise-outcome.ensures.same.spec ∙ c.over-engine.ensures.spec in
     let now = sym (ap (λ (b : BankState). store_of b) c.of.ensures) in
     let old = ap shared.store_of (c.over-engine.ensures.bank ∙ ap (λ (b : BankState). b.shared) c.self.view_is) in
-    subst (λ (w : Store). IfOk c.normalise-outcome.result (λ (o : Outcome). IsSpecified c.args.self (λ y. (u : Tree) → tree_at w c.args.given.term ≡ Some u → IsNormalised y (store_of c.of.result) c.args.given.steps u o))) old
-    (on_spec c.args.self (specified_by p) f.spec (shared.store_of f.bank) (store_of c.of.result) (λ (y : Spec) (w : Store) (o : Outcome). (u : Tree) → tree_at (shared.store_of e.bank) c.args.given.term ≡ Some u → IsNormalised y w c.args.given.steps u o) c.normalise-outcome.result self_spec spec_is now c.normalise-outcome.ensures.rewriting)
+    subst (λ (w : Store). IfOk c.normalise-outcome.result (λ (o : Outcome).
+    IsSpecified c.args.self (λ y. (u : Tree) → tree_at w c.args.given.term ≡ Some u → IsNormalised y (store_of c.of.result) c.args.given.steps u o))) old
+    (on_spec c.args.self (specified_by p) f.spec (shared.store_of f.bank) (store_of c.of.result) (λ (y : Spec) (w : Store) (o : Outcome). (u : Tree)
+    → tree_at (shared.store_of e.bank) c.args.given.term ≡ Some u → IsNormalised y w c.args.given.steps u o) c.normalise-outcome.result self_spec
+    spec_is now c.normalise-outcome.ensures.rewriting)
 
 pub returns-clause-room : goal.returns-clause-room
 returns-clause-room c =
     let f = c.normalise-outcome.new.self in
-    room_is (shared.store_of f.bank) (store_of c.of.result) f.work f.memo c.normalise-outcome.result (sym (ap (λ (b : BankState). store_of b) c.of.ensures)) c.normalise-outcome.ensures.room
+    room_is (shared.store_of f.bank) (store_of c.of.result) f.work f.memo c.normalise-outcome.result
+    (sym (ap (λ (b : BankState). store_of b) c.of.ensures)) c.normalise-outcome.ensures.room

@@ -12,7 +12,8 @@ use Rattle.psilt_work.proofs.bank.Bank.number.Goals as goal
 pub invariant_of-self-2 : goal.invariant_of-self-2
 invariant_of-self-2 c =
     let ns = c.self.inside.symbols.keys in let ms = c.insert_full.new.self.keys in
-    let whole = fits_added (shared.store_of c.self.inside.shared) (shared.store_of c.symbol.new.self) c.self.inside.prepared ns _ c.symbol.result c.symbol.ensures c.self.invariant in
+    let whole = fits_added (shared.store_of c.self.inside.shared) (shared.store_of c.symbol.new.self) c.self.inside.prepared ns _ c.symbol.result
+    c.symbol.ensures c.self.invariant in
     let p = added c.insert_full.result _ ns ms c.in-Ok.symbol.0 c.insert_full.ensures.keys c.insert_full.ensures.err in
     (whole.0, added_symbols (shared.store_of c.symbol.new.self) p.0 ns ms c.in-Ok.symbol.0 p.1 whole.1 (ap is_some c.in-Ok.ensures.added))
 
@@ -24,7 +25,8 @@ returns-clause-number c =
       | in-Ok-insert_full w ↦ (
           let k = w.in-Ok-insert_full.ensures.stored in
           rw w.result-is (number_is b _ w.in-Ok-insert_full.place c.in-Ok.symbol.0 (sound c.symbol.new.self)
-          (one_place _ equal_number ms c.insert_full.ensures.unique) (k.1 ∙ ap (λ x. Some x) (sym (same_number c.in-Ok.symbol.0 k.0 k.2))) c.in-Ok.ensures.added)
+          (one_place _ equal_number ms c.insert_full.ensures.unique) (k.1 ∙ ap (λ x. Some x) (sym (same_number c.in-Ok.symbol.0 k.0 k.2)))
+          c.in-Ok.ensures.added)
           )
       | in-Err w ↦ rw w.result-is tt
     ]
@@ -36,4 +38,5 @@ returns-clause-keeps c =
     let old : BankState = record { shared = c.self.inside.shared; specified = option_map specified_by c.self.inside.prepared; symbols = ns } in
     let new : BankState = record { shared = c.symbol.new.self; specified = option_map specified_by c.self.inside.prepared; symbols = ms } in
     subst (λ (b : BankState). KeepsNumbers b new) c.self.view_is
-    (keeps_numbers old new (added_keeps p.0 ns ms c.in-Ok.symbol.0 p.1) (more_symbols (shared.store_of c.self.inside.shared) (shared.store_of c.symbol.new.self) _ c.symbol.result c.symbol.ensures).symbols)
+    (keeps_numbers old new (added_keeps p.0 ns ms c.in-Ok.symbol.0 p.1)
+    (more_symbols (shared.store_of c.self.inside.shared) (shared.store_of c.symbol.new.self) _ c.symbol.result c.symbol.ensures).symbols)

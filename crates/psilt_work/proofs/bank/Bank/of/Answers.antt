@@ -7,4 +7,5 @@ use Rattle.psilt_work.proofs.bank.Bank.of.Goals as goal
 
 pub invariant_of-result : goal.invariant_of-result
 invariant_of-result c =
-    subst (λ (s : SharedBank). FitsIn (store_of s) c.apart-shared.result.1 × AreSymbols (store_of s) c.args.symbols.keys) (sym c.apart-shared.ensures.bank) (c.apart-shared.ensures.fits, c.requires)
+    subst (λ (s : SharedBank). FitsIn (store_of s) c.apart-shared.result.1 × AreSymbols (store_of s) c.args.symbols.keys)
+    (sym c.apart-shared.ensures.bank) (c.apart-shared.ensures.fits, c.requires)

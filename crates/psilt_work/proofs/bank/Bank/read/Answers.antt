@@ -3,4 +3,5 @@ use Rattle.psilt_work.proofs.BankLemmas.{still_fits}
 use Rattle.psilt_work.proofs.bank.Bank.read.Goals as goal
 
 pub invariant_of-self : goal.invariant_of-self
-invariant_of-self c = still_fits (store_of c.self.inside.shared) (store_of c.read.new.bank) c.self.inside.prepared c.self.inside.symbols.keys c.read.ensures.grows c.self.invariant
+invariant_of-self c = still_fits (store_of c.self.inside.shared) (store_of c.read.new.bank) c.self.inside.prepared c.self.inside.symbols.keys
+    c.read.ensures.grows c.self.invariant

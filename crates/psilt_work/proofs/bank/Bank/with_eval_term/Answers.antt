@@ -15,7 +15,8 @@ returns-clause-term c =
     let self_spec = sym (ap (λ (b : BankState). b.specified) c.self.view_is) ∙ ap (option_map specified_by) c.in-Some.is in
     let spec_is = c.eval_term-term.ensures.same.spec ∙ c.over-engine.ensures.spec in
     let now = sym (ap (λ (b : BankState). store_of b) c.of.ensures) in
-    on_spec c.args.self (specified_by p) f.spec (shared.store_of f.bank) (store_of c.of.result) (λ (y : Spec) (w : Store) (t : Term). tree_at w t ≡ eval_tree y c.args.i) c.eval_term-term.result self_spec spec_is now c.eval_term-term.ensures.term
+    on_spec c.args.self (specified_by p) f.spec (shared.store_of f.bank) (store_of c.of.result) (λ (y : Spec) (w : Store) (t : Term).
+    tree_at w t ≡ eval_tree y c.args.i) c.eval_term-term.result self_spec spec_is now c.eval_term-term.ensures.term
 
 pub returns-clause-given : goal.returns-clause-given
 returns-clause-given c =
@@ -23,9 +24,11 @@ returns-clause-given c =
     let self_spec = sym (ap (λ (b : BankState). b.specified) c.self.view_is) ∙ ap (option_map specified_by) c.in-Some.is in
     let spec_is = c.eval_term-term.ensures.same.spec ∙ c.over-engine.ensures.spec in
     let now = sym (ap (λ (b : BankState). store_of b) c.of.ensures) in
-    on_spec c.args.self (specified_by p) f.spec (shared.store_of f.bank) (store_of c.of.result) (λ (y : Spec) (w : Store) (t : Term). IsGiven y w t) c.eval_term-term.result self_spec spec_is now c.eval_term-term.ensures.given
+    on_spec c.args.self (specified_by p) f.spec (shared.store_of f.bank) (store_of c.of.result) (λ (y : Spec) (w : Store) (t : Term). IsGiven y w t)
+    c.eval_term-term.result self_spec spec_is now c.eval_term-term.ensures.given
 
 pub returns-clause-room : goal.returns-clause-room
 returns-clause-room c =
     let f = c.eval_term-term.new.self in
-    room_is (shared.store_of f.bank) (store_of c.of.result) f.work f.memo c.eval_term-term.result (sym (ap (λ (b : BankState). store_of b) c.of.ensures)) c.eval_term-term.ensures.needed
+    room_is (shared.store_of f.bank) (store_of c.of.result) f.work f.memo c.eval_term-term.result
+    (sym (ap (λ (b : BankState). store_of b) c.of.ensures)) c.eval_term-term.ensures.needed

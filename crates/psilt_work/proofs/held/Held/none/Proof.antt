@@ -33,5 +33,6 @@ none_spec 𝓤 𝓛 𝓜 𝓡 wired =
     split ! $ keep ! (0 ∷ []) $ enter ! 𝓣.C 𝓣.Λ code.function [] Post $ alloc_all ! (λ l. pass_all ! refl tt $
     sets ! (agg ! (and_then ! (lit ! tt) (no_more !))) refl (tt, (record { fits = lit< tt }, tt)) $ returns ! (look_at ! 0 refl) $ free_all ! refl $
     -- [the tokens]
-    use0 𝓛 (raw (fact 𝓤 (made.value ≡ None))) (fact_i 𝓤 (made.value ≡ None) (emp 𝓤) refl) $ nothing ! $ use0 𝓛 (‵ (held_field null_ptr)) (held_filled 𝓛 null_ptr) $ fjoin ! $ nothing ! $
+    use0 𝓛 (raw (fact 𝓤 (made.value ≡ None))) (fact_i 𝓤 (made.value ≡ None) (emp 𝓤) refl) $ nothing ! $ use0 𝓛 (‵ (held_field null_ptr))
+    (held_filled 𝓛 null_ptr) $ fjoin ! $ nothing ! $
     keep ! (3 ∷ 0 ∷ 1 ∷ 2 ∷ []) $ by ! (leaves 𝓛 E stays c z (held_val null_ptr) made tt tt)))

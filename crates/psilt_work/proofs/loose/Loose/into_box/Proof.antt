@@ -16,7 +16,8 @@ use prog.Wp.{WpFn}
 use contract.BorrowLft.{◌⊑◌}
 use contract.Monad.{fact}
 use contract.Running.{tables}
-use types.Kit.{‵, raw, ◌⊛◌, some, later, at_ret, ◌$◌, ◌∵◌, !, qed, by, move, keep, drop, split, split3, join, fsplit, fjoin, pick, suffices, use1, await, rewrite, feq_i}
+use types.Kit.{‵, raw, ◌⊛◌, some, later, at_ret, ◌$◌, ◌∵◌, !, qed, by, move, keep, drop, split}
+use types.Kit.{split3, join, fsplit, fjoin, pick, suffices, use1, await, rewrite, feq_i}
 use types.Part.{sub, whole}
 use types.Run.{stop, fld, of_opd, no_more, and_then, first, blocks, exec, returns, enter}
 use types.ByLocal.{alloc_all, pass_all, free_all, look_at, get, get_in, sets, lands_last, env}
@@ -55,17 +56,24 @@ into_box_spec 𝓤 𝓛 𝓜 𝓡 wired T A L LA g d dx dd allocator glue glued 
     -- [the box's memory; the handle; nothing; the tokens; the `requires`]
     let w : Val = beside (vptr b o) h in let suits = beside_suits R Z LZ g b o h fits in
     let asked : callee.Ghost = ((κs, qs, tt, (x.alloc, (block_ptr b o, tt)), (h ∷ [], (vptr b o ∷ [], tt))), x.value) in
-    move ! (4 ∷ []) $ use1 𝓛 (raw (fact 𝓤 (κs.0 ⊑ T.lives)) ⊛ raw (fact 𝓤 (κs.1.0 ⊑ A.lives)) ⊛ ‵ ftrue) (id⊢ 𝓤 _) $ split3 ! $ move ! (2 ∷ []) $ drop ! $ move ! (1 ∷ 2 ∷ []) $ join ! $ move ! (1 ∷ 0 ∷ []) $ join ! $
-    move ! (2 ∷ []) $ feq_i ! (List Val) (vptr b o ∷ []) (vptr b o ∷ []) refl $ fjoin ! $ move ! (2 ∷ 0 ∷ []) $ fjoin ! $ move ! (2 ∷ 0 ∷ []) $ join ! $ join ! $ use1 𝓛 (raw (callee.pre asked)) (id⊢ 𝓤 _) $
+    move ! (4 ∷ []) $ use1 𝓛 (raw (fact 𝓤 (κs.0 ⊑ T.lives)) ⊛ raw (fact 𝓤 (κs.1.0 ⊑ A.lives)) ⊛ ‵ ftrue) (id⊢ 𝓤 _) $ split3 ! $ move ! (2 ∷ []) $ drop
+    ! $ move ! (1 ∷ 2 ∷ []) $ join ! $ move ! (1 ∷ 0 ∷ []) $ join ! $
+    move ! (2 ∷ []) $ feq_i ! (List Val) (vptr b o ∷ []) (vptr b o ∷ []) refl $ fjoin ! $ move ! (2 ∷ 0 ∷ []) $ fjoin ! $ move ! (2 ∷ 0 ∷ []) $ join !
+    $ join ! $ use1 𝓛 (raw (callee.pre asked)) (id⊢ 𝓤 _) $
     suffices ! (runs (w ∷ [])) (subst (λ (us : List Val). ent 𝓤 (runs (w ∷ [])) (runs us)) (sym (λ i. are_words i ++ [])) (id⊢ 𝓤 (runs (w ∷ [])))) $
     enter ! 𝓣.C 𝓣.Λ fn (w ∷ []) Post $ alloc_all ! (λ l. pass_all ! refl (suits, tt) $ let Ev = env fn.locals l in
-    sets ! (of_opd ! (get_in ! (fld ! refl (stop !)) (sub ! 0 refl (whole !)))) refl (tt, tt) $ sets ! (of_opd ! (get_in ! (fld ! refl (stop !)) (sub ! 1 refl (whole !)))) refl fits $
+    sets ! (of_opd ! (get_in ! (fld ! refl (stop !)) (sub ! 0 refl (whole !)))) refl (tt, tt) $ sets !
+    (of_opd ! (get_in ! (fld ! refl (stop !)) (sub ! 1 refl (whole !)))) refl fits $
     first ! $ blocks ! $ sets ! (of_opd ! (get ! refl)) refl fits $
-    calls_at_last ! (framed 𝓤 𝓛.H 𝓜 𝓣) callee (met 𝓤 𝓛 𝓜 𝓡 (code.calls-std::boxed::Box::from_raw 𝓡.env wired) T A L LA g d dd allocator glued) asked (and_then ! (get ! refl) (and_then ! (get ! refl) (no_more !))) (λ u.
-    use1 𝓛 (later (some (λ (r : Boxed.Denot). (tokens ⊛ ‵ (Boxed.own_val r (u ∷ []))) ⊛ some (λ (ls : Lasts (raw_box.ended T A g d dd) κs asked.0.3). ‵ (lasts (raw_box.ended T A g d dd) κs asked.0.3 ls) ⊛ (raw (fact 𝓤 (r.value ≡ x.value)) ⊛ raw (fact 𝓤 (r.alloc ≡ x.alloc))))))) (id⊢ 𝓤 (callee.post asked u)) $
+    calls_at_last ! (framed 𝓤 𝓛.H 𝓜 𝓣) callee (met 𝓤 𝓛 𝓜 𝓡 (code.calls-std::boxed::Box::from_raw 𝓡.env wired) T A L LA g d dd allocator glued) asked
+    (and_then ! (get ! refl) (and_then ! (get ! refl) (no_more !))) (λ u.
+    use1 𝓛 (later (some (λ (r : Boxed.Denot). (tokens ⊛ ‵ (Boxed.own_val r (u ∷ []))) ⊛ some (λ (ls : Lasts (raw_box.ended T A g d dd) κs asked.0.3).
+    ‵ (lasts (raw_box.ended T A g d dd) κs asked.0.3 ls) ⊛ (raw (fact 𝓤 (r.value ≡ x.value)) ⊛ raw (fact 𝓤 (r.alloc ≡ x.alloc)))))))
+    (id⊢ 𝓤 (callee.post asked u)) $
     await ! tt $ pick ! (λ r. split ! $ move ! (1 ∷ []) $ pick ! (λ _. split3 ! $ drop ! $ move ! (2 ∷ []) $ split ! $ move ! (1 ∷ []) $
     -- [the box; the tokens; its value is told]
-    box_out boxes ! r (u ∷ []) (λ b' o' h' at' word fits'. box_in boxes ! r b' o' r.value at' refl $ rewrite ! 0 (λ (us : List Val). ‵ (Boxed.own_val r us)) (sym word) refl $
+    box_out boxes ! r (u ∷ []) (λ b' o' h' at' word fits'. box_in boxes ! r b' o' r.value at' refl $ rewrite ! 0 (λ (us : List Val).
+    ‵ (Boxed.own_val r us)) (sym word) refl $
     let good : Suits (layout Boxed) u = subst (Suits (layout Boxed)) (sym (ap only word)) (beside_suits R Z LZ g b' o' h' fits') in
     lands_last ! refl good $ exec ! 𝓣.C 𝓣.Λ Ev (after 3 fn.body) (at_ret Ev Post) $ sets ! (of_opd ! (get ! refl)) refl good $ nothing ! $ nothing ! $ fjoin ! $
     returns ! (look_at ! 0 refl) $ free_all ! refl $ keep ! (2 ∷ 0 ∷ 1 ∷ 3 ∷ []) $ by ! (leaves 𝓛 E stays c z u r ((tt, (tt, tt)), tt) (tt, tt)))))))))

@@ -19,14 +19,16 @@ pub returns-in-Ok-filled-clause-answer : goal.returns-in-Ok-filled-clause-answer
 returns-in-Ok-filled-clause-answer c =
     let w = store_of c.args.self.now.bank in let same = c.deref.ensures.value ∙ c.in-Ok.ensures in
     let all = subst (λ ts. AllHeld w ts) (sym same) (all_held w c.args.args.now (sym c.are_held.ensures ∙ c.if-not-are_held.false)) in
-    on_filling _ c.in-Some.pattern.now w c.args.args.now c.deref.result.now (λ (r : Result Tree filling.Fault). (u : Tree) × (r ≡ Ok u) × (tree_at (store_of c.filled.new.self) c.in-Ok-filled.t ≡ Some u)) (sym c.in-Some.ensures) same all c.in-Ok-filled.ensures.made
+    on_filling _ c.in-Some.pattern.now w c.args.args.now c.deref.result.now (λ (r : Result Tree filling.Fault).
+    (u : Tree) × (r ≡ Ok u) × (tree_at (store_of c.filled.new.self) c.in-Ok-filled.t ≡ Some u)) (sym c.in-Some.ensures) same all c.in-Ok-filled.ensures.made
 
 pub returns-in-Err-Count-clause-answer : goal.returns-in-Err-Count-clause-answer
 returns-in-Err-Count-clause-answer c =
     let w = store_of c.args.self.now.bank in let same = c.deref.ensures.value ∙ c.in-Ok.ensures in
     let all = subst (λ ts. AllHeld w ts) (sym same) (all_held w c.args.args.now (sym c.are_held.ensures ∙ c.if-not-are_held.false)) in
     let e = is_err c.filled.result c.in-Err-Count.field-0 _ c.in-Err-Count.is c.in-Err-Count.field-0-is in (
-      on_filling _ c.in-Some.pattern.now w c.args.args.now c.deref.result.now (λ (r : Result Tree filling.Fault). r ≡ Err Count) (sym c.in-Some.ensures) same all (λ bs h. (c.filled.ensures.count bs h).0 e),
+      on_filling _ c.in-Some.pattern.now w c.args.args.now c.deref.result.now (λ (r : Result Tree filling.Fault). r ≡ Err Count)
+          (sym c.in-Some.ensures) same all (λ bs h. (c.filled.ensures.count bs h).0 e),
       c.in-Err-Count.ensures.unchanged (subst IsOfTerms (sym c.in-Err-Count.field-0-is) tt),
     )
 
@@ -35,6 +37,7 @@ returns-in-Err-Kind-clause-answer c =
     let w = store_of c.args.self.now.bank in let same = c.deref.ensures.value ∙ c.in-Ok.ensures in
     let all = subst (λ ts. AllHeld w ts) (sym same) (all_held w c.args.args.now (sym c.are_held.ensures ∙ c.if-not-are_held.false)) in
     let e = is_err c.filled.result c.in-Err-Kind.field-0 _ c.in-Err-Kind.is c.in-Err-Kind.field-0-is in (
-      on_filling _ c.in-Some.pattern.now w c.args.args.now c.deref.result.now (λ (r : Result Tree filling.Fault). (at : ℕ) × (r ≡ Err (Kinds at))) (sym c.in-Some.ensures) same all (λ bs h. (c.in-Err-Kind.field-0-0, (c.filled.ensures.kind bs h c.in-Err-Kind.field-0-0).0 e)),
+      on_filling _ c.in-Some.pattern.now w c.args.args.now c.deref.result.now (λ (r : Result Tree filling.Fault). (at : ℕ) × (r ≡ Err (Kinds at)))
+          (sym c.in-Some.ensures) same all (λ bs h. (c.in-Err-Kind.field-0-0, (c.filled.ensures.kind bs h c.in-Err-Kind.field-0-0).0 e)),
       c.in-Err-Kind.ensures.unchanged (subst IsOfTerms (sym c.in-Err-Kind.field-0-is) tt),
     )

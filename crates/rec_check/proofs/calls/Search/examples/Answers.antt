@@ -25,9 +25,12 @@ loop-operator-preserved c =
     let below : k < length (symbols y) = (let e = c.symbols-operator-end.ensures in let test = c.loop-operator-test.true in omega (arith, e, test)) in
     elim c.match-branch-2.branch [
       | in-Some+in_ok-push w ↦ subst (λ (x : Vec Example Global). ShowCalls y next (as_examples x.items)) (sym w.examples-is)
-          (subst (λ (fs : List Found). ShowCalls y next fs) (sym (ap as_examples w.in_ok-push.ensures.items ∙ map-append as_example old (w.in-Some.example ∷ [])))
-          (shown_turn y k (as_examples old) w.in-Some.example low (subst (λ (o : Option Example). IfSome o (IsExampleOf y k)) w.in-Some.is c.in_ok-example.ensures) c.loop-operator.invariant))
-      | in_default w ↦ subst (λ (x : Vec Example Global). ShowCalls y next (as_examples x.items)) (sym w.examples-is) (unshown_turn y k (as_examples old) low below c.loop-operator.invariant)
+          (subst (λ (fs : List Found). ShowCalls y next fs) (sym (ap as_examples w.in_ok-push.ensures.items
+          ∙ map-append as_example old (w.in-Some.example ∷ [])))
+          (shown_turn y k (as_examples old) w.in-Some.example low (subst (λ (o : Option Example). IfSome o (IsExampleOf y k)) w.in-Some.is
+          c.in_ok-example.ensures) c.loop-operator.invariant))
+      | in_default w ↦ subst (λ (x : Vec Example Global). ShowCalls y next (as_examples x.items)) (sym w.examples-is)
+          (unshown_turn y k (as_examples old) low below c.loop-operator.invariant)
     ]
 
 pub returns : goal.returns

@@ -4,4 +4,5 @@ use Rattle.rec_check.proofs.calls.Search.examples.Given as goal
 
 -- the examples of the operators so far
 abbrev pub invariant-loop-operator : goal.invariant-loop-operator
-invariant-loop-operator l = ShowCalls l.self.asker.checked.now.spec (take (l.operator - length l.self.asker.checked.now.spec.constructors) l.self.asker.checked.now.spec.operators) (as_examples l.examples.items)
+invariant-loop-operator l = ShowCalls l.self.asker.checked.now.spec
+    (take (l.operator - length l.self.asker.checked.now.spec.constructors) l.self.asker.checked.now.spec.operators) (as_examples l.examples.items)

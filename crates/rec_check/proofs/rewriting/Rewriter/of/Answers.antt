@@ -8,4 +8,5 @@ pub chain-requires : goal.chain-requires
 chain-requires c =
     subst (λ xs. All (λ k. k < c.symbols.result) xs) (sym c.deref.ensures.value)
     (λ k d lt. (let fs = c.in_ok-heads.heads.items in let h = c.in_ok-heads.ensures in let l = h.counted in let e = c.symbols.ensures in
-    let b = (h.each k skip.no_rule (omega (arith, lt, l))).declared in let q : get_or fs k d ≡ get_or fs k 0 = get_or_default fs k d 0 lt in omega (arith, b, e, q)))
+    let b = (h.each k skip.no_rule (omega (arith, lt, l))).declared in let q : get_or fs k d ≡ get_or fs k 0 = get_or_default fs k d 0 lt in
+    omega (arith, b, e, q)))

@@ -7,4 +7,5 @@ use Rattle.rec_check.proofs.rewriting.Rewriter.push_inner_words.Given as goal
 -- those of the arguments so far
 abbrev pub invariant-loop-i : goal.invariant-loop-i
 invariant-loop-i l = (r : Rule) → as_findings l.found.items ≡ as_findings l.initial.found.items
-    ++ never_matching_in l.self.checked.now.source l.self.checked.now.spec (take l.i (postorder_all (arguments (get_or l.self.checked.now.spec.rules l.rule r).left)))
+    ++ never_matching_in l.self.checked.now.source l.self.checked.now.spec
+    (take l.i (postorder_all (arguments (get_or l.self.checked.now.spec.rules l.rule r).left)))

@@ -8,4 +8,5 @@ use Rattle.rec_check.proofs.rewriting.Rewriter.push_never_matching.Given as goal
 -- those of the rules so far
 abbrev pub invariant-loop-rule : goal.invariant-loop-rule
 invariant-loop-rule l = as_findings l.found.items ≡ as_findings l.initial.found.items
-    ++ flat_map (λ r. never_matching_in l.self.checked.now.source l.self.checked.now.spec (postorder_all (arguments r.left))) (take l.rule l.self.checked.now.spec.rules)
+    ++ flat_map (λ r. never_matching_in l.self.checked.now.source l.self.checked.now.spec (postorder_all (arguments r.left)))
+    (take l.rule l.self.checked.now.spec.rules)

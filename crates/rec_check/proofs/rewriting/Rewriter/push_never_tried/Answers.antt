@@ -18,11 +18,13 @@ loop-i-preserved c =
     let items = c.rules-rule-items.result.now in
     let t = (get_or y.rules i d).left in
     let o = rewritten_by y (take i y.rules) t in
-    let is = subst (λ (x : Sourced). as_word c.head_of-word.result ≡ head (term_of x.source c.rule-item.result.left)) c.syntax-syntax.ensures.same c.head_of-word.ensures in
+    let is = subst (λ (x : Sourced). as_word c.head_of-word.result ≡ head (term_of x.source c.rule-item.result.left)) c.syntax-syntax.ensures.same
+    c.head_of-word.ensures in
     let rules = subst (λ (x : Sourced). map (rule_of x.source) items ≡ x.spec.rules) c.syntax-syntax.ensures.same c.rules-rule-items.ensures.rules in
     let long = rules_long s.source items y.rules rules in
     let test = c.loop-i-test.true in
     let lt : i < length items = omega (arith, test) in
-    tried_turn s.source y i d (as_word c.head_of-word.result) o (as_findings c.args.found.now.items) (as_findings c.loop-i.found.items) (as_findings c.push.new.found.items) (omega (arith, lt, long))
+    tried_turn s.source y i d (as_word c.head_of-word.result) o (as_findings c.args.found.now.items) (as_findings c.loop-i.found.items)
+    (as_findings c.push.new.found.items) (omega (arith, lt, long))
     (is ∙ ap head (left_term s.source items y.rules i c.rule-item.result d rules lt c.rule-item.is)) refl c.loop-i.invariant
     (c.in_ok-push.ensures o (c.in_ok-by.ensures.first d))

@@ -4,4 +4,5 @@ use Rattle.rec_check.proofs.rewriting.Rewriter.push_never_tried.Given as goal
 
 -- those of the rules so far
 abbrev pub invariant-loop-i : goal.invariant-loop-i
-invariant-loop-i l = as_findings l.found.items ≡ as_findings l.initial.found.items ++ never_tried l.self.checked.now.source l.self.checked.now.spec [] (take l.i l.self.checked.now.spec.rules)
+invariant-loop-i l = as_findings l.found.items ≡ as_findings l.initial.found.items ++ never_tried l.self.checked.now.source l.self.checked.now.spec []
+    (take l.i l.self.checked.now.spec.rules)

@@ -17,7 +17,9 @@ returns-then-len-eq0 c =
     (λ b. (r : Rule) (t : Term) → AreLetters y term t → b ≡ rewrites y (get_or y.rules c.args.rule r) t) (λ b h r t are.
     let q = get_or y.rules c.args.rule r in
     let own = c.letters-rule.ensures r in
-    rewrites_bare y x q t b own (search rules) (h y q t c.syntax-kept.ensures.kept (rule_there y.rules c.args.rule r c.requires.rule) (subst (λ ls. AreLetters y ls q.left) (sym c.deref.ensures.value) own.0) are)) c.matches.ensures
+    rewrites_bare y x q t b own (search rules) (h y q t c.syntax-kept.ensures.kept (rule_there y.rules c.args.rule r c.requires.rule)
+    (subst (λ ls. AreLetters y ls q.left) (sym c.deref.ensures.value) own.0) are)) c.matches.ensures
 
 pub returns-else-len-eq0 : goal.returns-else-len-eq0
-returns-else-len-eq0 c = λ r t are. rewrites_never c.args.self.now.checked.now.spec c.letters-rule.result.now (get_or c.args.self.now.checked.now.spec.rules c.args.rule r) t (c.letters-rule.ensures r) (search rules)
+returns-else-len-eq0 c = λ r t are. rewrites_never c.args.self.now.checked.now.spec c.letters-rule.result.now
+    (get_or c.args.self.now.checked.now.spec.rules c.args.rule r) t (c.letters-rule.ensures r) (search rules)

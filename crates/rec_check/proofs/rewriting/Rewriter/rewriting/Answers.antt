@@ -21,14 +21,19 @@ returns-in-Symbol-clause-first c =
     let y = c.args.self.now.checked.now.spec in
     let terms = c.args.terms.letters.now in
     if_ok_so c.rewriting_call.result
-    (λ (found : Option ℕ). (ms : List Named) (t : Term) → map (named_by y) terms ≡ ms ++ named t → (head t).bytes ≡ name_of y (Symbol c.in-Symbol.symbol) → IsFirstWord y found (rewritten_by y (take c.args.before y.rules) t))
-    (λ (found : Option ℕ). (ms : List Named) (t : Term) → map (named_by y) terms ≡ ms ++ named t → IsFirstWord y found (rewritten_by y (take c.args.before y.rules) t))
-    (λ found h ms t e. h ms t e (last_is y ms t c.in-Some._others.now terms c.in-Some.last.now c.in-Some.ensures.cases.0 e ∙ ap (name_of y) c.in-Symbol.is)) c.rewriting_call.ensures.first
+    (λ (found : Option ℕ). (ms : List Named) (t : Term) → map (named_by y) terms ≡ ms ++ named t
+    → (head t).bytes ≡ name_of y (Symbol c.in-Symbol.symbol) → IsFirstWord y found (rewritten_by y (take c.args.before y.rules) t))
+    (λ (found : Option ℕ). (ms : List Named) (t : Term) → map (named_by y) terms ≡ ms ++ named t
+    → IsFirstWord y found (rewritten_by y (take c.args.before y.rules) t))
+    (λ found h ms t e. h ms t e (last_is y ms t c.in-Some._others.now terms c.in-Some.last.now c.in-Some.ensures.cases.0 e
+    ∙ ap (name_of y) c.in-Symbol.is)) c.rewriting_call.ensures.first
 
 pub returns-in-Variable-clause-first : goal.returns-in-Variable-clause-first
 returns-in-Variable-clause-first c = λ ms t e.
     let y = c.args.self.now.checked.now.spec in
     let h = c.requires.rules in
     let last = c.in-Some.last.now in
-    none_variable y h.kept h.heads h.are_heads c.in-Variable.field-0 (subst (IsMeaning y) c.in-Variable.is (All-last y c.in-Some._others.now last (subst (AreMeant y) c.in-Some.ensures.cases.0 c.requires.meant))) t
-    (last_is y ms t c.in-Some._others.now c.args.terms.letters.now last c.in-Some.ensures.cases.0 e ∙ ap (name_of y) c.in-Variable.is) c.args.before c.requires.before
+    none_variable y h.kept h.heads h.are_heads c.in-Variable.field-0
+    (subst (IsMeaning y) c.in-Variable.is (All-last y c.in-Some._others.now last (subst (AreMeant y) c.in-Some.ensures.cases.0 c.requires.meant))) t
+    (last_is y ms t c.in-Some._others.now c.args.terms.letters.now last c.in-Some.ensures.cases.0 e ∙ ap (name_of y) c.in-Variable.is) c.args.before
+    c.requires.before

@@ -18,5 +18,6 @@ returns-clause-first c = λ r.
     let before = take c.args.rule y.rules in
     let t = (get_or y.rules c.args.rule r).left in
     let letters = c.deref-2.result.now in
-    if_ok_so c.rewriting.result (λ (found : Option ℕ). (ms : List Named) (t : Term) → map (named_by y) letters ≡ ms ++ named t → IsFirstWord y found (rewritten_by y before t)) (λ (found : Option ℕ). IsFirstWord y found (rewritten_by y before t))
+    if_ok_so c.rewriting.result (λ (found : Option ℕ). (ms : List Named) (t : Term) → map (named_by y) letters ≡ ms ++ named t
+    → IsFirstWord y found (rewritten_by y before t)) (λ (found : Option ℕ). IsFirstWord y found (rewritten_by y before t))
     (λ found h. h [] t (subst (λ ls. map (named_by y) ls ≡ named t) (sym c.deref-2.ensures.value) (c.letters.ensures r).0.1)) c.rewriting.ensures.first

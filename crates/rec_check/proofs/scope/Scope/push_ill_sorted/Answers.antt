@@ -16,9 +16,11 @@ returns c =
     let old = as_words c.args.found.now.items in
     let same : base ≡ length heads - c.args.node.count = search rules in
     record {
-      heads = c.in_ok-push.ensures.items ∙ ap (λ ws. ws ++ c.args.node.word ∷ []) c.truncate.ensures.items ∙ ap (λ (n : ℕ). take n heads ++ c.args.node.word ∷ []) same;
+      heads = c.in_ok-push.ensures.items ∙ ap (λ ws. ws ++ c.args.node.word ∷ []) c.truncate.ensures.items
+          ∙ ap (λ (n : ℕ). take n heads ++ c.args.node.word ∷ []) same;
       found = c.in_ok-push_misfits.ensures
-          ∙ ap (λ ws. old ++ misfits y (as_words ws) (words_of c.args.self.now.syntax.now.source c.arguments-sorts.result.now)) (take_all (length given - base) (drop base given) (let l = length-drop base given in omega (arith, l)) ∙ ap (drop base) c.deref.ensures.value)
+          ∙ ap (λ ws. old ++ misfits y (as_words ws) (words_of c.args.self.now.syntax.now.source c.arguments-sorts.result.now))
+          (take_all (length given - base) (drop base given) (let l = length-drop base given in omega (arith, l)) ∙ ap (drop base) c.deref.ensures.value)
           ∙ ap (λ ws. old ++ misfits y (as_words (drop base heads)) ws) c.arguments-sorts.ensures.sorts
           ∙ ap (λ (n : ℕ). old ++ misfits y (as_words (drop n heads)) (argument_sorts y c.args.node.word.bytes.now)) same;
     }

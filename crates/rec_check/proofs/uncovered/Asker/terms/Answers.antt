@@ -17,6 +17,8 @@ loop-letter-preserved c =
     elim c.match-branch-2.branch [
       | in-Some+in_ok-push w ↦ subst (λ (x : Vec Ground Global). All (IsGroundOf y) x.items) (sym w.stack-is)
           (ground_pushed y base old w.truncate.new.self.items w.push.new.self.items w.in-Some.term w.truncate.ensures.items w.in_ok-push.ensures.items
-          (subst (λ (o : Option Ground). IfSome o (IsGroundOf y)) w.in-Some.is (c.in_ok-term.ensures (All-take (IsGroundOf y) (length given - base) (drop base given) (All-drop (IsGroundOf y) base given terms)))) c.loop-letter.invariant)
+          (subst (λ (o : Option Ground). IfSome o (IsGroundOf y)) w.in-Some.is
+          (c.in_ok-term.ensures (All-take (IsGroundOf y) (length given - base) (drop base given) (All-drop (IsGroundOf y) base given terms))))
+          c.loop-letter.invariant)
       | in_default w ↦ subst (λ (x : Vec Ground Global). All (IsGroundOf y) x.items) (sym w.stack-is) c.loop-letter.invariant
     ]

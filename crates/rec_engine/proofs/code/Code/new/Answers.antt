@@ -5,7 +5,9 @@ use Rattle.rec_engine.proofs.code.Code.new.Goals as goal
 
 pub compile_all-requires : goal.compile_all-requires
 compile_all-requires c =
-    let all : CanCompileAll c.in-Ok.matcher c.rules.result.now c.variables.result = λ i lt. can-compile c.args.checked.now.spec c.rules.ensures.kept c.args.links c.in-Ok.matcher c.in-Ok.ensures c.rules.result.now c.rules.ensures.letters i lt _ c.variables.ensures in
+    let all : CanCompileAll c.in-Ok.matcher c.rules.result.now c.variables.result = λ i lt.
+    can-compile c.args.checked.now.spec c.rules.ensures.kept c.args.links c.in-Ok.matcher c.in-Ok.ensures c.rules.result.now
+    c.rules.ensures.letters i lt _ c.variables.ensures in
     all
 
 pub returns-clause-code : goal.returns-clause-code

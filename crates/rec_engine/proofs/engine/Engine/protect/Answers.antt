@@ -3,5 +3,8 @@ use Rattle.rec_engine.proofs.engine.Engine.protect.Goals as goal
 
 pub invariant_of-self : goal.invariant_of-self
 invariant_of-self g c =
-    let m = c.self.inside.machine in
-    (c.self.invariant.0, ready-protected m.checked.spec m.code (g.B.TermBank.store m.bank) (g.B.TermBank.store c.protect.new.self) m.state.pace c.args.t c.protect.result c.protect.ensures c.self.invariant.1)
+    let m = c.self.inside.machine in (
+      c.self.invariant.0,
+      ready-protected m.checked.spec m.code (g.B.TermBank.store m.bank) (g.B.TermBank.store c.protect.new.self) m.state.pace
+          c.args.t c.protect.result c.protect.ensures c.self.invariant.1,
+    )

@@ -15,8 +15,12 @@ returns-in_err-empty-clause-stays g c =
 pub run_finish-requires-clause-ends : goal.run_finish-requires-clause-ends
 run_finish-requires-clause-ends g c =
     let w0 = g.B.TermBank.store c.args.self.now.bank in
-    let w1 = g.B.TermBank.store c.set_out.new.self.bank in
-    (Done (called c.args.self.now.checked.spec c.args.symbol (held_trees w0 c.args.values.now)) 0, applies-behind c.args.self.now.checked.spec c.set_out.new.self.checked.spec c.set_out.new.self.code w0 w1 _ c.args.symbol c.args.kept c.args.values.now _ c.in_ok-empty.ensures.stays.spec c.in_ok-empty.ensures.stays.keeps c.requires.values c.requires.symbol c.requires.count c.clear.ensures.items c.in_ok-empty.ensures.set)
+    let w1 = g.B.TermBank.store c.set_out.new.self.bank in (
+      Done (called c.args.self.now.checked.spec c.args.symbol (held_trees w0 c.args.values.now)) 0,
+      applies-behind c.args.self.now.checked.spec c.set_out.new.self.checked.spec c.set_out.new.self.code w0 w1 _ c.args.symbol c.args.kept
+          c.args.values.now _ c.in_ok-empty.ensures.stays.spec c.in_ok-empty.ensures.stays.keeps c.requires.values c.requires.symbol c.requires.count
+          c.clear.ensures.items c.in_ok-empty.ensures.set,
+    )
 
 pub returns-in_err-reached-clause-stays : goal.returns-in_err-reached-clause-stays
 returns-in_err-reached-clause-stays g c =
@@ -25,7 +29,15 @@ returns-in_err-reached-clause-stays g c =
     let w2 = g.B.TermBank.store c.run_finish.new.self.bank in
     let s = c.set_out.ensures.stays in
     let t = c.run_finish.ensures.stays in
-    record { spec = t.spec ∙ s.spec; code = t.code ∙ s.code; depth = t.depth ∙ s.depth; bottom = refl; keeps = kept-first w0 w1 w2 c.args.kept c.in_ok-empty.empty c.args.values.now s.keeps t.keeps; ready = ready-through s.spec s.code t.ready }
+    record {
+      spec = t.spec ∙ s.spec;
+      code = t.code ∙ s.code;
+      depth = t.depth ∙ s.depth;
+      bottom = refl;
+      keeps =
+          kept-first w0 w1 w2 c.args.kept c.in_ok-empty.empty c.args.values.now s.keeps t.keeps;
+      ready = ready-through s.spec s.code t.ready;
+    }
 
 pub returns-in-Deep-clause-stays : goal.returns-in-Deep-clause-stays
 returns-in-Deep-clause-stays g c =
@@ -34,7 +46,15 @@ returns-in-Deep-clause-stays g c =
     let w2 = g.B.TermBank.store c.run_finish.new.self.bank in
     let s = c.set_out.ensures.stays in
     let t = c.run_finish.ensures.stays in
-    record { spec = t.spec ∙ s.spec; code = t.code ∙ s.code; depth = t.depth ∙ s.depth; bottom = refl; keeps = kept-first w0 w1 w2 c.args.kept c.in_ok-empty.empty c.args.values.now s.keeps t.keeps; ready = ready-through s.spec s.code t.ready }
+    record {
+      spec = t.spec ∙ s.spec;
+      code = t.code ∙ s.code;
+      depth = t.depth ∙ s.depth;
+      bottom = refl;
+      keeps =
+          kept-first w0 w1 w2 c.args.kept c.in_ok-empty.empty c.args.values.now s.keeps t.keeps;
+      ready = ready-through s.spec s.code t.ready;
+    }
 
 pub returns-in-Value-clause-stays : goal.returns-in-Value-clause-stays
 returns-in-Value-clause-stays g c =
@@ -43,7 +63,15 @@ returns-in-Value-clause-stays g c =
     let w2 = g.B.TermBank.store c.run_finish.new.self.bank in
     let s = c.set_out.ensures.stays in
     let t = c.run_finish.ensures.stays in
-    record { spec = t.spec ∙ s.spec; code = t.code ∙ s.code; depth = t.depth ∙ s.depth; bottom = refl; keeps = kept-first w0 w1 w2 c.args.kept c.in_ok-empty.empty c.args.values.now s.keeps t.keeps; ready = ready-through s.spec s.code t.ready }
+    record {
+      spec = t.spec ∙ s.spec;
+      code = t.code ∙ s.code;
+      depth = t.depth ∙ s.depth;
+      bottom = refl;
+      keeps =
+          kept-first w0 w1 w2 c.args.kept c.in_ok-empty.empty c.args.values.now s.keeps t.keeps;
+      ready = ready-through s.spec s.code t.ready;
+    }
 
 pub unreachable-requires : goal.unreachable-requires
 unreachable-requires g c =
@@ -52,7 +80,10 @@ unreachable-requires g c =
     let w2 = g.B.TermBank.store c.run_finish.new.self.bank in
     let y = c.args.self.now.checked.spec in
     let u = called y c.args.symbol (held_trees w0 c.args.values.now) in
-    applied-reached u 0 w2 c.run_finish.new.self.state c.run_finish.new.self.work.items c.in_ok-reached.reached c.in-Limit.is (c.in_ok-reached.ensures.comes (Done u 0) (applies-behind c.args.self.now.checked.spec c.set_out.new.self.checked.spec c.set_out.new.self.code w0 w1 _ c.args.symbol c.args.kept c.args.values.now _ c.in_ok-empty.ensures.stays.spec c.in_ok-empty.ensures.stays.keeps c.requires.values c.requires.symbol c.requires.count c.clear.ensures.items c.in_ok-empty.ensures.set))
+    applied-reached u 0 w2 c.run_finish.new.self.state c.run_finish.new.self.work.items c.in_ok-reached.reached c.in-Limit.is
+    (c.in_ok-reached.ensures.comes (Done u 0) (applies-behind c.args.self.now.checked.spec c.set_out.new.self.checked.spec c.set_out.new.self.code
+    w0 w1 _ c.args.symbol c.args.kept c.args.values.now _ c.in_ok-empty.ensures.stays.spec c.in_ok-empty.ensures.stays.keeps c.requires.values
+    c.requires.symbol c.requires.count c.clear.ensures.items c.in_ok-empty.ensures.set))
 
 pub index-requires : goal.index-requires
 index-requires g c =
@@ -61,7 +92,10 @@ index-requires g c =
     let w2 = g.B.TermBank.store c.run_finish.new.self.bank in
     let y = c.args.self.now.checked.spec in
     let u = called y c.args.symbol (held_trees w0 c.args.values.now) in
-    let two = applied-within u 0 w2 c.run_finish.new.self.state c.run_finish.new.self.work.items c.in_ok-reached.reached c.in-Value.is (c.in_ok-reached.ensures.comes (Done u 0) (applies-behind c.args.self.now.checked.spec c.set_out.new.self.checked.spec c.set_out.new.self.code w0 w1 _ c.args.symbol c.args.kept c.args.values.now _ c.in_ok-empty.ensures.stays.spec c.in_ok-empty.ensures.stays.keeps c.requires.values c.requires.symbol c.requires.count c.clear.ensures.items c.in_ok-empty.ensures.set)) in
+    let two = applied-within u 0 w2 c.run_finish.new.self.state c.run_finish.new.self.work.items c.in_ok-reached.reached c.in-Value.is
+    (c.in_ok-reached.ensures.comes (Done u 0) (applies-behind c.args.self.now.checked.spec c.set_out.new.self.checked.spec c.set_out.new.self.code
+    w0 w1 _ c.args.symbol c.args.kept c.args.values.now _ c.in_ok-empty.ensures.stays.spec c.in_ok-empty.ensures.stays.keeps c.requires.values
+    c.requires.symbol c.requires.count c.clear.ensures.items c.in_ok-empty.ensures.set)) in
     let l = c.run_finish.new.self.work.ok.0 in
     omega (arith, two, l)
 
@@ -72,4 +106,8 @@ returns-in-Value-clause-exact g c =
     let w2 = g.B.TermBank.store c.run_finish.new.self.bank in
     let y = c.args.self.now.checked.spec in
     let u = called y c.args.symbol (held_trees w0 c.args.values.now) in
-    applied-value u 0 w2 c.run_finish.new.self.state c.run_finish.new.self.work.items c.in_ok-reached.reached c.index.result.now c.in_ok-reached.ensures.held c.in-Value.is (c.in_ok-reached.ensures.comes (Done u 0) (applies-behind c.args.self.now.checked.spec c.set_out.new.self.checked.spec c.set_out.new.self.code w0 w1 _ c.args.symbol c.args.kept c.args.values.now _ c.in_ok-empty.ensures.stays.spec c.in_ok-empty.ensures.stays.keeps c.requires.values c.requires.symbol c.requires.count c.clear.ensures.items c.in_ok-empty.ensures.set)) c.index.ensures
+    applied-value u 0 w2 c.run_finish.new.self.state c.run_finish.new.self.work.items c.in_ok-reached.reached c.index.result.now
+    c.in_ok-reached.ensures.held c.in-Value.is (c.in_ok-reached.ensures.comes (Done u 0)
+    (applies-behind c.args.self.now.checked.spec c.set_out.new.self.checked.spec c.set_out.new.self.code w0 w1 _ c.args.symbol c.args.kept
+    c.args.values.now _ c.in_ok-empty.ensures.stays.spec c.in_ok-empty.ensures.stays.keeps c.requires.values c.requires.symbol c.requires.count
+    c.clear.ensures.items c.in_ok-empty.ensures.set)) c.index.ensures

@@ -16,8 +16,12 @@ returns-in_err-empty-clause-stays g c =
 pub run_call-requires-clause-invokes : goal.run_call-requires-clause-invokes
 run_call-requires-clause-invokes g c =
     let w0 = g.B.TermBank.store c.args.self.now.bank in
-    let w1 = g.B.TermBank.store c.set_out.new.self.bank in
-    (Call c.args.self.now.checked.spec c.args.n (called c.args.self.now.checked.spec c.args.symbol (held_trees w0 c.args.values.now)), begins-behind c.args.self.now.checked.spec c.set_out.new.self.checked.spec c.set_out.new.self.code w0 w1 _ c.args.symbol c.args.kept c.args.values.now _ c.in_ok-empty.ensures.stays.spec c.in_ok-empty.ensures.stays.keeps c.requires.values c.requires.symbol c.requires.count c.clear.ensures.items c.in_ok-empty.ensures.set)
+    let w1 = g.B.TermBank.store c.set_out.new.self.bank in (
+      Call c.args.self.now.checked.spec c.args.n (called c.args.self.now.checked.spec c.args.symbol (held_trees w0 c.args.values.now)),
+      begins-behind c.args.self.now.checked.spec c.set_out.new.self.checked.spec c.set_out.new.self.code w0 w1 _ c.args.symbol c.args.kept
+          c.args.values.now _ c.in_ok-empty.ensures.stays.spec c.in_ok-empty.ensures.stays.keeps c.requires.values c.requires.symbol c.requires.count
+          c.clear.ensures.items c.in_ok-empty.ensures.set,
+    )
 
 pub returns-in_err-reached-clause-stays : goal.returns-in_err-reached-clause-stays
 returns-in_err-reached-clause-stays g c =
@@ -26,7 +30,15 @@ returns-in_err-reached-clause-stays g c =
     let w2 = g.B.TermBank.store c.run_call.new.self.bank in
     let s = c.set_out.ensures.stays in
     let t = c.run_call.ensures.stays in
-    record { spec = t.spec ∙ s.spec; code = t.code ∙ s.code; depth = t.depth ∙ s.depth; bottom = refl; keeps = kept-first w0 w1 w2 c.args.kept c.in_ok-empty.empty c.args.values.now s.keeps t.keeps; ready = ready-through s.spec s.code t.ready }
+    record {
+      spec = t.spec ∙ s.spec;
+      code = t.code ∙ s.code;
+      depth = t.depth ∙ s.depth;
+      bottom = refl;
+      keeps =
+          kept-first w0 w1 w2 c.args.kept c.in_ok-empty.empty c.args.values.now s.keeps t.keeps;
+      ready = ready-through s.spec s.code t.ready;
+    }
 
 pub returns-in-Limit-clause-stays : goal.returns-in-Limit-clause-stays
 returns-in-Limit-clause-stays g c =
@@ -35,7 +47,15 @@ returns-in-Limit-clause-stays g c =
     let w2 = g.B.TermBank.store c.run_call.new.self.bank in
     let s = c.set_out.ensures.stays in
     let t = c.run_call.ensures.stays in
-    record { spec = t.spec ∙ s.spec; code = t.code ∙ s.code; depth = t.depth ∙ s.depth; bottom = refl; keeps = kept-first w0 w1 w2 c.args.kept c.in_ok-empty.empty c.args.values.now s.keeps t.keeps; ready = ready-through s.spec s.code t.ready }
+    record {
+      spec = t.spec ∙ s.spec;
+      code = t.code ∙ s.code;
+      depth = t.depth ∙ s.depth;
+      bottom = refl;
+      keeps =
+          kept-first w0 w1 w2 c.args.kept c.in_ok-empty.empty c.args.values.now s.keeps t.keeps;
+      ready = ready-through s.spec s.code t.ready;
+    }
 
 pub returns-in-Deep-clause-stays : goal.returns-in-Deep-clause-stays
 returns-in-Deep-clause-stays g c =
@@ -44,7 +64,15 @@ returns-in-Deep-clause-stays g c =
     let w2 = g.B.TermBank.store c.run_call.new.self.bank in
     let s = c.set_out.ensures.stays in
     let t = c.run_call.ensures.stays in
-    record { spec = t.spec ∙ s.spec; code = t.code ∙ s.code; depth = t.depth ∙ s.depth; bottom = refl; keeps = kept-first w0 w1 w2 c.args.kept c.in_ok-empty.empty c.args.values.now s.keeps t.keeps; ready = ready-through s.spec s.code t.ready }
+    record {
+      spec = t.spec ∙ s.spec;
+      code = t.code ∙ s.code;
+      depth = t.depth ∙ s.depth;
+      bottom = refl;
+      keeps =
+          kept-first w0 w1 w2 c.args.kept c.in_ok-empty.empty c.args.values.now s.keeps t.keeps;
+      ready = ready-through s.spec s.code t.ready;
+    }
 
 pub returns-in-Value-clause-stays : goal.returns-in-Value-clause-stays
 returns-in-Value-clause-stays g c =
@@ -53,7 +81,15 @@ returns-in-Value-clause-stays g c =
     let w2 = g.B.TermBank.store c.run_call.new.self.bank in
     let s = c.set_out.ensures.stays in
     let t = c.run_call.ensures.stays in
-    record { spec = t.spec ∙ s.spec; code = t.code ∙ s.code; depth = t.depth ∙ s.depth; bottom = refl; keeps = kept-first w0 w1 w2 c.args.kept c.in_ok-empty.empty c.args.values.now s.keeps t.keeps; ready = ready-through s.spec s.code t.ready }
+    record {
+      spec = t.spec ∙ s.spec;
+      code = t.code ∙ s.code;
+      depth = t.depth ∙ s.depth;
+      bottom = refl;
+      keeps =
+          kept-first w0 w1 w2 c.args.kept c.in_ok-empty.empty c.args.values.now s.keeps t.keeps;
+      ready = ready-through s.spec s.code t.ready;
+    }
 
 pub returns-in-Limit-clause-exact : goal.returns-in-Limit-clause-exact
 returns-in-Limit-clause-exact g c =
@@ -62,7 +98,10 @@ returns-in-Limit-clause-exact g c =
     let w2 = g.B.TermBank.store c.run_call.new.self.bank in
     let y = c.args.self.now.checked.spec in
     let u = called y c.args.symbol (held_trees w0 c.args.values.now) in
-    call-limit y c.args.n u w2 c.run_call.new.self.state c.run_call.new.self.work.items c.in_ok-reached.reached c.in-Limit.is (c.in_ok-reached.ensures.comes (Call y c.args.n u) (begins-behind c.args.self.now.checked.spec c.set_out.new.self.checked.spec c.set_out.new.self.code w0 w1 _ c.args.symbol c.args.kept c.args.values.now _ c.in_ok-empty.ensures.stays.spec c.in_ok-empty.ensures.stays.keeps c.requires.values c.requires.symbol c.requires.count c.clear.ensures.items c.in_ok-empty.ensures.set))
+    call-limit y c.args.n u w2 c.run_call.new.self.state c.run_call.new.self.work.items c.in_ok-reached.reached c.in-Limit.is
+    (c.in_ok-reached.ensures.comes (Call y c.args.n u) (begins-behind c.args.self.now.checked.spec c.set_out.new.self.checked.spec
+    c.set_out.new.self.code w0 w1 _ c.args.symbol c.args.kept c.args.values.now _ c.in_ok-empty.ensures.stays.spec
+    c.in_ok-empty.ensures.stays.keeps c.requires.values c.requires.symbol c.requires.count c.clear.ensures.items c.in_ok-empty.ensures.set))
 
 pub index-term-requires : goal.index-term-requires
 index-term-requires g c =
@@ -71,7 +110,10 @@ index-term-requires g c =
     let w2 = g.B.TermBank.store c.run_call.new.self.bank in
     let y = c.args.self.now.checked.spec in
     let u = called y c.args.symbol (held_trees w0 c.args.values.now) in
-    let r = call-within y c.args.n u w2 c.run_call.new.self.state c.run_call.new.self.work.items c.in_ok-reached.reached c.in-Value.is (c.in_ok-reached.ensures.comes (Call y c.args.n u) (begins-behind c.args.self.now.checked.spec c.set_out.new.self.checked.spec c.set_out.new.self.code w0 w1 _ c.args.symbol c.args.kept c.args.values.now _ c.in_ok-empty.ensures.stays.spec c.in_ok-empty.ensures.stays.keeps c.requires.values c.requires.symbol c.requires.count c.clear.ensures.items c.in_ok-empty.ensures.set)) in
+    let r = call-within y c.args.n u w2 c.run_call.new.self.state c.run_call.new.self.work.items c.in_ok-reached.reached c.in-Value.is
+    (c.in_ok-reached.ensures.comes (Call y c.args.n u) (begins-behind c.args.self.now.checked.spec c.set_out.new.self.checked.spec
+    c.set_out.new.self.code w0 w1 _ c.args.symbol c.args.kept c.args.values.now _ c.in_ok-empty.ensures.stays.spec
+    c.in_ok-empty.ensures.stays.keeps c.requires.values c.requires.symbol c.requires.count c.clear.ensures.items c.in_ok-empty.ensures.set)) in
     let two = r.0 in
     let l = c.run_call.new.self.work.ok.0 in
     omega (arith, two, l)
@@ -83,7 +125,10 @@ overflow_sub-steps g c =
     let w2 = g.B.TermBank.store c.run_call.new.self.bank in
     let y = c.args.self.now.checked.spec in
     let u = called y c.args.symbol (held_trees w0 c.args.values.now) in
-    (call-within y c.args.n u w2 c.run_call.new.self.state c.run_call.new.self.work.items c.in_ok-reached.reached c.in-Value.is (c.in_ok-reached.ensures.comes (Call y c.args.n u) (begins-behind c.args.self.now.checked.spec c.set_out.new.self.checked.spec c.set_out.new.self.code w0 w1 _ c.args.symbol c.args.kept c.args.values.now _ c.in_ok-empty.ensures.stays.spec c.in_ok-empty.ensures.stays.keeps c.requires.values c.requires.symbol c.requires.count c.clear.ensures.items c.in_ok-empty.ensures.set))).1
+    (call-within y c.args.n u w2 c.run_call.new.self.state c.run_call.new.self.work.items c.in_ok-reached.reached c.in-Value.is
+    (c.in_ok-reached.ensures.comes (Call y c.args.n u) (begins-behind c.args.self.now.checked.spec c.set_out.new.self.checked.spec
+    c.set_out.new.self.code w0 w1 _ c.args.symbol c.args.kept c.args.values.now _ c.in_ok-empty.ensures.stays.spec
+    c.in_ok-empty.ensures.stays.keeps c.requires.values c.requires.symbol c.requires.count c.clear.ensures.items c.in_ok-empty.ensures.set))).1
 
 pub returns-in-Value-clause-exact : goal.returns-in-Value-clause-exact
 returns-in-Value-clause-exact g c =
@@ -92,7 +137,11 @@ returns-in-Value-clause-exact g c =
     let w2 = g.B.TermBank.store c.run_call.new.self.bank in
     let y = c.args.self.now.checked.spec in
     let u = called y c.args.symbol (held_trees w0 c.args.values.now) in
-    call-value y c.args.n u w2 c.run_call.new.self.state c.run_call.new.self.work.items c.in_ok-reached.reached c.index-term.result.now c.in_ok-reached.ensures.held c.in-Value.is (c.in_ok-reached.ensures.comes (Call y c.args.n u) (begins-behind c.args.self.now.checked.spec c.set_out.new.self.checked.spec c.set_out.new.self.code w0 w1 _ c.args.symbol c.args.kept c.args.values.now _ c.in_ok-empty.ensures.stays.spec c.in_ok-empty.ensures.stays.keeps c.requires.values c.requires.symbol c.requires.count c.clear.ensures.items c.in_ok-empty.ensures.set)) c.index-term.ensures
+    call-value y c.args.n u w2 c.run_call.new.self.state c.run_call.new.self.work.items c.in_ok-reached.reached c.index-term.result.now
+    c.in_ok-reached.ensures.held c.in-Value.is (c.in_ok-reached.ensures.comes (Call y c.args.n u)
+    (begins-behind c.args.self.now.checked.spec c.set_out.new.self.checked.spec c.set_out.new.self.code w0 w1 _ c.args.symbol c.args.kept
+    c.args.values.now _ c.in_ok-empty.ensures.stays.spec c.in_ok-empty.ensures.stays.keeps c.requires.values c.requires.symbol c.requires.count
+    c.clear.ensures.items c.in_ok-empty.ensures.set)) c.index-term.ensures
 
 pub returns-in-Deep-clause-deep : goal.returns-in-Deep-clause-deep
 returns-in-Deep-clause-deep g c =
@@ -100,4 +149,8 @@ returns-in-Deep-clause-deep g c =
     let w1 = g.B.TermBank.store c.set_out.new.self.bank in
     let y = c.args.self.now.checked.spec in
     let u = called y c.args.symbol (held_trees w0 c.args.values.now) in
-    came-full (g.B.TermBank.store c.run_call.new.self.bank) c.run_call.new.self.state c.run_call.new.self.work.items (Call y c.args.n u) c.in_ok-reached.reached c.in-Deep.is (c.in_ok-reached.ensures.comes (Call y c.args.n u) (begins-behind c.args.self.now.checked.spec c.set_out.new.self.checked.spec c.set_out.new.self.code w0 w1 _ c.args.symbol c.args.kept c.args.values.now _ c.in_ok-empty.ensures.stays.spec c.in_ok-empty.ensures.stays.keeps c.requires.values c.requires.symbol c.requires.count c.clear.ensures.items c.in_ok-empty.ensures.set))
+    came-full (g.B.TermBank.store c.run_call.new.self.bank) c.run_call.new.self.state c.run_call.new.self.work.items (Call y c.args.n u)
+    c.in_ok-reached.reached c.in-Deep.is (c.in_ok-reached.ensures.comes (Call y c.args.n u)
+    (begins-behind c.args.self.now.checked.spec c.set_out.new.self.checked.spec c.set_out.new.self.code w0 w1 _ c.args.symbol c.args.kept
+    c.args.values.now _ c.in_ok-empty.ensures.stays.spec c.in_ok-empty.ensures.stays.keeps c.requires.values c.requires.symbol c.requires.count
+    c.clear.ensures.items c.in_ok-empty.ensures.set))

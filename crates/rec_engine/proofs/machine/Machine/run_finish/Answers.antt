@@ -7,11 +7,16 @@ run_on-requires-clause-sound g c = sound-next c.requires.sound c.finish.ensures.
 
 pub run_on-requires-clause-goes : goal.run_on-requires-clause-goes
 run_on-requires-clause-goes g c =
-    let o = c.requires.ends.0 in
-    (o, after-next c.finish.ensures.stays c.finish.new.self.state c.finish.new.self.work.items o c.in_ok-flow.flow (c.in_ok-flow.ensures.goes.each o c.requires.ends.1))
+    let o = c.requires.ends.0 in (
+      o,
+      after-next c.finish.ensures.stays c.finish.new.self.state c.finish.new.self.work.items o c.in_ok-flow.flow
+          (c.in_ok-flow.ensures.goes.each o c.requires.ends.1),
+    )
 
 pub returns-clause-stays : goal.returns-clause-stays
 returns-clause-stays g c = stays-more c.finish.ensures.stays c.run_on.ensures.stays
 
 pub returns-clause-comes : goal.returns-clause-comes
-returns-clause-comes g c = ok-map c.run_on.result (λ end k o h. k o (after-next c.finish.ensures.stays c.finish.new.self.state c.finish.new.self.work.items o c.in_ok-flow.flow (c.in_ok-flow.ensures.goes.each o h))) c.run_on.ensures.comes
+returns-clause-comes g c = ok-map c.run_on.result (λ end k o h.
+    k o (after-next c.finish.ensures.stays c.finish.new.self.state c.finish.new.self.work.items o c.in_ok-flow.flow
+    (c.in_ok-flow.ensures.goes.each o h))) c.run_on.ensures.comes

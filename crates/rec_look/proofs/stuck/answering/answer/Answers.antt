@@ -30,7 +30,8 @@ returns-clause-cells g c = λ refused.
 
 pub returns-clause-bounded : goal.returns-clause-bounded
 returns-clause-bounded g c =
-    fault_behind _ _ _ (IsBounded c.args.settings.depth) tt c.write_due-written.result c.end_run.result c.end_run.ensures.ends c.write_due-written.ensures.bounded
+    fault_behind _ _ _ (IsBounded c.args.settings.depth) tt c.write_due-written.result c.end_run.result c.end_run.ensures.ends
+    c.write_due-written.ensures.bounded
 
 pub returns-clause-report : goal.returns-clause-report
 returns-clause-report g c = on-behind _ _ _ _ c.write_due-written.result c.end_run.result c.end_run.ensures.ends c.write_due-written.ensures.report

@@ -25,4 +25,5 @@ returns-in-Good-clause-cells g c = λ refused. absurd (subst IsRefused c.in-Good
 pub returns-in-Refused-clause-report : goal.returns-in-Refused-clause-report
 returns-in-Refused-clause-report g c =
     let old = c.args.report.now.lines.items in
-    on_ok_any (unbounded c.refuse.result) (subst (λ (r : Reading Job). old ≡ old ++ job_report (g.B.TermBank.store c.args.bank) c.args.settings.options.steps r) (sym c.in-Refused.is) (sym (append-nil old)))
+    on_ok_any (unbounded c.refuse.result) (subst (λ (r : Reading Job).
+    old ≡ old ++ job_report (g.B.TermBank.store c.args.bank) c.args.settings.options.steps r) (sym c.in-Refused.is) (sym (append-nil old)))

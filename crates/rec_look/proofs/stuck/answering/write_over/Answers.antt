@@ -15,10 +15,14 @@ write_lines-written-requires-clause-protected g c = λ list is.
     (subst (λ b. ProtectsTerms c.args.engine.spec (g.B.TermBank.store b) list) (sym c.begin.ensures.bank) (c.requires.protected list is))
 
 pub write_lines-written-requires-clause-told : goal.write_lines-written-requires-clause-told
-write_lines-written-requires-clause-told g c = (c.requires.told.0, subst (λ (y : Spec). AreSpots c.requires.told.0 y c.args.report.now.spots.items) (sym c.begin.ensures.same.spec) c.requires.told.1)
+write_lines-written-requires-clause-told g c = (
+  c.requires.told.0,
+  subst (λ (y : Spec). AreSpots c.requires.told.0 y c.args.report.now.spots.items) (sym c.begin.ensures.same.spec) c.requires.told.1,
+)
 
 pub returns-clause-bounded : goal.returns-clause-bounded
-returns-clause-bounded g c = bounded_by c.write_lines-written.new.engine.waiting c.args.settings.depth c.write_lines-written.result c.write_lines-written.ensures.deep
+returns-clause-bounded g c = bounded_by c.write_lines-written.new.engine.waiting c.args.settings.depth c.write_lines-written.result
+    c.write_lines-written.ensures.deep
 
 pub returns-clause-report : goal.returns-clause-report
 returns-clause-report g c =

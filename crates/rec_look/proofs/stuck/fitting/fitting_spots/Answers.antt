@@ -6,7 +6,8 @@ use Rattle.rec_syntax.specs.Syntax.{Spec}
 use Rattle.rec_match.specs.Matching.{FindsFor}
 use Rattle.rec_look.specs.Inner.Calls.{IsCalled}
 use Rattle.rec_look.specs.Picks.{rule_spot}
-use Rattle.rec_look.proofs.FittingLemmas.{arguments-are, begin-all, begin-head, call-after, call-all, call-can, call-head, call-later, call-low, call-more, call-size}
+use Rattle.rec_look.proofs.FittingLemmas.{arguments-are, begin-all, begin-head, call-after, call-all}
+use Rattle.rec_look.proofs.FittingLemmas.{call-can, call-head, call-later, call-low, call-more, call-size}
 use Rattle.rec_look.proofs.stuck.fitting.fitting_spots.Goals as goal
 
 pub loop-found-init : goal.loop-found-init
@@ -16,23 +17,28 @@ loop-found-init g c =
     let call = c.args.call in
     let (source, y, ready, called, spots) = c.requires in
     let work = c.push_items.new.stack.items in
-    let are : (y : Spec) (k : IsCalled y w call) → held_trees w work ≡ to_list k.args = λ y k. arguments-are y w call k c.args-2.result c.new-arguments.result.items work c.args-2.ensures c.new-arguments.ensures.items c.in_ok-push_items.ensures.trees in
+    let are : (y : Spec) (k : IsCalled y w call) → held_trees w work ≡ to_list k.args = λ y k.
+    arguments-are y w call k c.args-2.result c.new-arguments.result.items work c.args-2.ensures c.new-arguments.ensures.items
+    c.in_ok-push_items.ensures.trees in
     record {
       held = c.in_ok-push_items.ensures.held;
       trees = are;
       head = begin-head y w m ready call called work (are y called) c.index-at.result.now c.index-at.ensures;
-      left = λ source y ready called spots. begin-all y w m ready call called work (are y called) c.index-at.result.now c.index-at.ensures source c.new-found.result.items c.new-found.ensures.items;
+      left = λ source y ready called spots. begin-all y w m ready call called work (are y called) c.index-at.result.now c.index-at.ensures source
+          c.new-found.result.items c.new-found.ensures.items;
     }
 
 pub next_rule-requires-clause-counted : goal.next_rule-requires-clause-counted
 next_rule-requires-clause-counted g c =
     let (source, y, ready, called, spots) = c.requires in
-    call-size y (g.B.TermBank.store c.args.bank.now) c.args.matcher.now ready c.args.call called c.loop-found.arguments.items (c.loop-found.invariant.trees y called)
+    call-size y (g.B.TermBank.store c.args.bank.now) c.args.matcher.now ready c.args.call called c.loop-found.arguments.items
+    (c.loop-found.invariant.trees y called)
 
 pub next_rule-requires-clause-can : goal.next_rule-requires-clause-can
 next_rule-requires-clause-can g c =
     let (source, y, ready, called, spots) = c.requires in
-    call-can y (g.B.TermBank.store c.args.bank.now) c.args.matcher.now ready c.args.call called c.loop-found.arguments.items (c.loop-found.invariant.trees y called) c.loop-found.at c.loop-found.invariant.head
+    call-can y (g.B.TermBank.store c.args.bank.now) c.args.matcher.now ready c.args.call called c.loop-found.arguments.items
+    (c.loop-found.invariant.trees y called) c.loop-found.at c.loop-found.invariant.head
 
 pub bounds-spots-rule : goal.bounds-spots-rule
 bounds-spots-rule g c =
@@ -70,7 +76,8 @@ loop-found-smaller g c =
     let f = subst (λ (o : Option ℕ). FindsFor w m c.loop-found.at work bind o) c.in-Some.is c.in_ok-rule.ensures.found.1 in
     let low = call-low y w m ready c.args.call called work (i.trees y called) c.loop-found.at c.in-Some.rule bind i.head f in
     let after = call-after y w m ready c.args.call called work (i.trees y called) c.loop-found.at c.in-Some.rule bind i.head f in
-    let later = call-later y w m ready c.args.call called work (i.trees y called) c.loop-found.at c.in-Some.rule bind i.head f c.index.result.now c.index.ensures in
+    let later = call-later y w m ready c.args.call called work (i.trees y called) c.loop-found.at c.in-Some.rule bind i.head f c.index.result.now
+    c.index.ensures in
     let ruled = ready.matcher.ruled in
     let less : length m.sides.items - c.index.result.now.next < length m.sides.items - c.loop-found.at = omega (arith, low, after, later, ruled) in
     less
@@ -91,7 +98,9 @@ loop-found-preserved g c =
       trees = λ y k. ap (held_trees w) same ∙ i.trees y k;
       head = call-head y w m ready call called work (i.trees y called) c.loop-found.at c.in-Some.rule bind i.head f c.index.result.now c.index.ensures;
       left = λ source y ready called spots.
-          call-more y w m ready call called work (i.trees y called) source c.loop-found.at c.in-Some.rule bind i.head f c.index.result.now c.index.ensures c.args.spots.now c.loop-found.found.items c.push.new.self.items _ spots c.in_ok-push.ensures.items (i.left source y ready called spots);
+          call-more y w m ready call called work (i.trees y called) source c.loop-found.at c.in-Some.rule bind i.head f c.index.result.now
+          c.index.ensures c.args.spots.now c.loop-found.found.items c.push.new.self.items _ spots c.in_ok-push.ensures.items
+          (i.left source y ready called spots);
     }
 
 no-some : (o : Option ℕ) → ((x : ℕ) → o ≡ Some x → ⊥) → o ≡ None
@@ -105,5 +114,7 @@ returns g c =
     let work = c.loop-found.arguments.items in
     let i = c.loop-found.invariant in
     let bind = c.in_ok-rule.ensures.found.0 in
-    let f = subst (λ (o : Option ℕ). FindsFor w m c.loop-found.at work bind o) (no-some c.in_ok-rule.field-0 c.in_default.not-Some) c.in_ok-rule.ensures.found.1 in
-    λ source y ready called spots. call-all y w m ready c.args.call called work (i.trees y called) source c.loop-found.at bind i.head f c.loop-found.found.items (i.left source y ready called spots)
+    let f = subst (λ (o : Option ℕ). FindsFor w m c.loop-found.at work bind o) (no-some c.in_ok-rule.field-0 c.in_default.not-Some)
+    c.in_ok-rule.ensures.found.1 in
+    λ source y ready called spots. call-all y w m ready c.args.call called work (i.trees y called) source c.loop-found.at bind i.head f
+    c.loop-found.found.items (i.left source y ready called spots)

@@ -15,8 +15,10 @@ invariant-loop-found g l = record {
   held : AllHeld (g.B.TermBank.store l.bank) l.arguments.items;
   trees : (y : Spec) (c : IsCalled y (g.B.TermBank.store l.bank) l.call) → held_trees (g.B.TermBank.store l.bank) l.arguments.items ≡ to_list c.args;
   head : HeadAt l.matcher l.at l.call.symbol;
-  left : (source : List ℕ) (y : Spec) → IsReady y (g.B.TermBank.store l.bank) l.matcher → IsCalled y (g.B.TermBank.store l.bank) l.call → AreSpots source y l.spots
-      → l.found.items ++ map (rule_spot source) (fitting_among y (bare_of (held_tree (g.B.TermBank.store l.bank) l.call.term)) (drop l.at y.rules)) ≡ fitting_spots source y (bare_of (held_tree (g.B.TermBank.store l.bank) l.call.term));
+  left : (source : List ℕ) (y : Spec) → IsReady y (g.B.TermBank.store l.bank) l.matcher → IsCalled y (g.B.TermBank.store l.bank) l.call
+      → AreSpots source y l.spots
+      → l.found.items ++ map (rule_spot source) (fitting_among y (bare_of (held_tree (g.B.TermBank.store l.bank) l.call.term)) (drop l.at y.rules))
+      ≡ fitting_spots source y (bare_of (held_tree (g.B.TermBank.store l.bank) l.call.term));
 }
 
 abbrev pub decreases-loop-found : goal.decreases-loop-found

@@ -40,7 +40,8 @@ record Next (y : Spec) (w : Store) (us : List Tree) (rest r : Reference) (i : �
   pub held : tree_at w r ≡ Some front.tree
 
 -- it is what the bank that an engine gives, twice, tells of the rest
-next_term : {B : Type 0} (store : B → Store) (y : Spec) (first second bank : B) (us : List Tree) (rest r : Reference) (i : ℕ) → first ≡ bank → second ≡ bank → broken_by_elements y us ≡ None → tree_at (store bank) rest ≡ Some (list_of (from_list (drop i us)))
+next_term : {B : Type 0} (store : B → Store) (y : Spec) (first second bank : B) (us : List Tree) (rest r : Reference) (i : ℕ) → first ≡ bank
+    → second ≡ bank → broken_by_elements y us ≡ None → tree_at (store bank) rest ≡ Some (list_of (from_list (drop i us)))
     → HasKind (store first) rest Cons → tree_at (store second) r ≡ part_at head_of (store second) rest → Next y (store bank) us rest r i
 next_term store y first second bank us rest r i e k kept left kind head =
     let front = front_there y (store bank) us rest i kept left (subst (λ b. HasKind (store b) rest Cons) e kind) in
@@ -52,27 +53,38 @@ returns-in_default g c =
     let kind = subst (λ b. HasKind (g.B.TermBank.store b) c.loop-i.rest c.kind.result) c.bank-in-loop-i.ensures c.kind.ensures in
     let all = no_front (g.B.TermBank.store c.loop-i.engine.bank) us c.loop-i.rest c.loop-i.i c.kind.result c.loop-i.invariant.left kind c.in_default.not-Cons in
     record {
-      ok = appends_all (given_text c.args.engine.now.spec (shown_of c.args.settings) c.args.settings.options.steps) us c.loop-i.i _ _ all c.loop-i.invariant.written;
+      ok = appends_all (given_text c.args.engine.now.spec (shown_of c.args.settings) c.args.settings.options.steps) us c.loop-i.i _ _ all
+          c.loop-i.invariant.written;
       err = tt;
       deep = tt;
       same_output = c.loop-i.invariant.same_output;
       cause = c.loop-i.invariant.writable;
       spots = c.loop-i.invariant.spots;
-      report = λ source spots. told-all (λ u. value_report source c.args.engine.now.spec c.args.settings.options.steps (given_task u)) us c.loop-i.i c.args.report.now.lines.items c.loop-i.report.lines.items all (c.loop-i.invariant.report source spots);
+      report = λ source spots. told-all (λ u. value_report source c.args.engine.now.spec c.args.settings.options.steps (given_task u)) us c.loop-i.i
+          c.args.report.now.lines.items c.loop-i.report.lines.items all (c.loop-i.invariant.report source spots);
     }
 
 pub write_evaluation-requires-clause-given : goal.write_evaluation-requires-clause-given
 write_evaluation-requires-clause-given g c =
     let us = given_at (g.B.TermBank.store c.args.engine.now.bank) c.args.list in
-    let next = next_term g.B.TermBank.store c.args.engine.now.spec _ _ _ us c.loop-i.rest c.head-term.result c.loop-i.i c.bank-in-loop-i.ensures c.bank-in-loop-i-2.ensures c.requires.protected.holds.kept c.loop-i.invariant.left c.in-Cons.ensures c.head-term.ensures in
-    record { tree = next.front.tree; held = next.held; is_ground = subst (λ z. IsGround z next.front.tree) (sym c.loop-i.invariant.same.spec) next.front.is_ground }
+    let next = next_term g.B.TermBank.store c.args.engine.now.spec _ _ _ us c.loop-i.rest c.head-term.result c.loop-i.i c.bank-in-loop-i.ensures
+    c.bank-in-loop-i-2.ensures c.requires.protected.holds.kept c.loop-i.invariant.left c.in-Cons.ensures c.head-term.ensures in
+    record {
+      tree = next.front.tree;
+      held = next.held;
+      is_ground =
+          subst (λ z. IsGround z next.front.tree) (sym c.loop-i.invariant.same.spec) next.front.is_ground;
+    }
 
 pub write_evaluation-requires-clause-stays : goal.write_evaluation-requires-clause-stays
 write_evaluation-requires-clause-stays g c =
     let y = c.args.engine.now.spec in
     let us = given_at (g.B.TermBank.store c.args.engine.now.bank) c.args.list in
-    let next = next_term g.B.TermBank.store y _ _ _ us c.loop-i.rest c.head-term.result c.loop-i.i c.bank-in-loop-i.ensures c.bank-in-loop-i-2.ensures c.requires.protected.holds.kept c.loop-i.invariant.left c.in-Cons.ensures c.head-term.ensures in
-    front_stays y (g.B.TermBank.store c.args.engine.now.bank) (g.B.TermBank.store c.loop-i.engine.bank) c.args.list c.loop-i.rest c.head-term.result us c.loop-i.i c.args.settings.limits c.loop-i.invariant.keeps c.requires.protected.holds.held c.requires.protected.protected c.loop-i.invariant.left next.front next.held
+    let next = next_term g.B.TermBank.store y _ _ _ us c.loop-i.rest c.head-term.result c.loop-i.i c.bank-in-loop-i.ensures c.bank-in-loop-i-2.ensures
+    c.requires.protected.holds.kept c.loop-i.invariant.left c.in-Cons.ensures c.head-term.ensures in
+    front_stays y (g.B.TermBank.store c.args.engine.now.bank) (g.B.TermBank.store c.loop-i.engine.bank) c.args.list c.loop-i.rest c.head-term.result
+    us c.loop-i.i c.args.settings.limits c.loop-i.invariant.keeps c.requires.protected.holds.held c.requires.protected.protected
+    c.loop-i.invariant.left next.front next.held
 
 pub returns-in-Err-clause-err : goal.returns-in-Err-clause-err
 returns-in-Err-clause-err g c =
@@ -82,23 +94,30 @@ returns-in-Err-clause-err g c =
     let why : LineFault = unbounded_line_fault c.in-Err.fault in
     let end = unbounded_fault c.after.result in
     let us = given_at (g.B.TermBank.store c.args.engine.now.bank) c.args.list in
-    let next = next_term g.B.TermBank.store y _ _ _ us c.loop-i.rest c.head-term.result c.loop-i.i c.bank-in-loop-i.ensures c.bank-in-loop-i-2.ensures c.requires.protected.holds.kept c.loop-i.invariant.left c.in-Cons.ensures c.head-term.ensures in
-    let is = front-line y c.loop-i.engine.spec _ us _ c.head-term.result c.loop-i.i (shown_of c.args.settings) n next.front c.loop-i.invariant.same.spec next.held in
+    let next = next_term g.B.TermBank.store y _ _ _ us c.loop-i.rest c.head-term.result c.loop-i.i c.bank-in-loop-i.ensures c.bank-in-loop-i-2.ensures
+    c.requires.protected.holds.kept c.loop-i.invariant.left c.in-Cons.ensures c.head-term.ensures in
+    let is = front-line y c.loop-i.engine.spec _ us _ c.head-term.result c.loop-i.i (shown_of c.args.settings) n next.front
+    c.loop-i.invariant.same.spec next.held in
     let few : n < 2 ^ 64 = omega (arith, c.args.settings.options.steps_in_range) in
     let old = g.W.Write.contents c.args.out.now.writer.now in
     let after = g.W.Write.contents c.write_evaluation.new.out.writer.now in
-    let fault : end ≡ fault_after why (length y.terms + c.loop-i.i) = fault_after-same why (c.from-first.result + c.from.result) (length y.terms + c.loop-i.i) end (after-told c.in-Err.fault _ c.after.result c.after.ensures) (omega arith) in
+    let fault : end ≡ fault_after why (length y.terms + c.loop-i.i) =
+    fault_after-same why (c.from-first.result + c.from.result) (length y.terms + c.loop-i.i) end
+    (after-told c.in-Err.fault _ c.after.result c.after.ensures) (omega arith) in
     subst (λ stop. StopsAfter (length y.terms) stop (lines_of f us) old after) (sym fault)
     (lines_stopped_after why (length y.terms) f us c.loop-i.i (list_of none) _ _ _
-    (held_no_ends y (g.B.TermBank.store c.args.engine.now.bank) c.args.list (shown_of c.args.settings) n few (g.met.B.TermBank.sound c.args.engine.now.bank) c.requires.protected.holds) next.front.low c.loop-i.invariant.written
+    (held_no_ends y (g.B.TermBank.store c.args.engine.now.bank) c.args.list (shown_of c.args.settings) n few
+    (g.met.B.TermBank.sound c.args.engine.now.bank) c.requires.protected.holds) next.front.low c.loop-i.invariant.written
     (subst (λ text. AppendsFront (due_before why text) (g.W.Write.contents c.loop-i.out.writer.now) after) is c.in-Err.ensures.err))
 
 pub tail-rest-requires : goal.tail-rest-requires
 tail-rest-requires g c =
     let y = c.args.engine.now.spec in
     let us = given_at (g.B.TermBank.store c.args.engine.now.bank) c.args.list in
-    let next = next_term g.B.TermBank.store y _ _ _ us c.loop-i.rest c.head-term.result c.loop-i.i c.bank-in-loop-i.ensures c.bank-in-loop-i-2.ensures c.requires.protected.holds.kept c.loop-i.invariant.left c.in-Cons.ensures c.head-term.ensures in
-    let others = others_later y _ _ _ c.args.list _ us c.loop-i.i c.loop-i.invariant.keeps c.in-Ok.ensures.keeps c.requires.protected.holds.held c.requires.protected.protected c.loop-i.invariant.left next.front in
+    let next = next_term g.B.TermBank.store y _ _ _ us c.loop-i.rest c.head-term.result c.loop-i.i c.bank-in-loop-i.ensures c.bank-in-loop-i-2.ensures
+    c.requires.protected.holds.kept c.loop-i.invariant.left c.in-Cons.ensures c.head-term.ensures in
+    let others = others_later y _ _ _ c.args.list _ us c.loop-i.i c.loop-i.invariant.keeps c.in-Ok.ensures.keeps c.requires.protected.holds.held
+    c.requires.protected.protected c.loop-i.invariant.left next.front in
     subst (λ b. IsSome (part_at tail_of (g.B.TermBank.store b) c.loop-i.rest)) (sym c.bank-in-loop-i-3.ensures) (ap is_some others)
 
 pub loop-i-preserved : goal.loop-i-preserved
@@ -106,15 +125,20 @@ loop-i-preserved g c =
     let y = c.args.engine.now.spec in
     let n = c.args.settings.options.steps in
     let us = given_at (g.B.TermBank.store c.args.engine.now.bank) c.args.list in
-    let next = next_term g.B.TermBank.store y _ _ _ us c.loop-i.rest c.head-term.result c.loop-i.i c.bank-in-loop-i.ensures c.bank-in-loop-i-2.ensures c.requires.protected.holds.kept c.loop-i.invariant.left c.in-Cons.ensures c.head-term.ensures in
-    let is = front-line y c.loop-i.engine.spec _ us _ c.head-term.result c.loop-i.i (shown_of c.args.settings) n next.front c.loop-i.invariant.same.spec next.held in
-    let others = others_later y _ _ _ c.args.list _ us c.loop-i.i c.loop-i.invariant.keeps c.in-Ok.ensures.keeps c.requires.protected.holds.held c.requires.protected.protected c.loop-i.invariant.left next.front in
+    let next = next_term g.B.TermBank.store y _ _ _ us c.loop-i.rest c.head-term.result c.loop-i.i c.bank-in-loop-i.ensures c.bank-in-loop-i-2.ensures
+    c.requires.protected.holds.kept c.loop-i.invariant.left c.in-Cons.ensures c.head-term.ensures in
+    let is = front-line y c.loop-i.engine.spec _ us _ c.head-term.result c.loop-i.i (shown_of c.args.settings) n next.front
+    c.loop-i.invariant.same.spec next.held in
+    let others = others_later y _ _ _ c.args.list _ us c.loop-i.i c.loop-i.invariant.keeps c.in-Ok.ensures.keeps c.requires.protected.holds.held
+    c.requires.protected.protected c.loop-i.invariant.left next.front in
     record {
       same = same_engine_both c.loop-i.invariant.same c.in-Ok.ensures.same;
       keeps = Keeps-trans c.loop-i.invariant.keeps c.in-Ok.ensures.keeps;
-      left = subst (λ b. tree_at (g.B.TermBank.store b) c.tail-rest.result ≡ part_at tail_of (g.B.TermBank.store b) c.loop-i.rest) c.bank-in-loop-i-3.ensures c.tail-rest.ensures ∙ others;
+      left = subst (λ b. tree_at (g.B.TermBank.store b) c.tail-rest.result ≡ part_at tail_of (g.B.TermBank.store b) c.loop-i.rest)
+          c.bank-in-loop-i-3.ensures c.tail-rest.ensures ∙ others;
       written = appends_more (given_text y (shown_of c.args.settings) n) us c.loop-i.i (list_of none) _ _ _ next.front.low c.loop-i.invariant.written
-          (subst (λ text. Appends (g.W.Write.contents c.loop-i.out.writer.now) (g.W.Write.contents c.write_evaluation.new.out.writer.now) (text ++ codes "\n")) is c.in-Ok.ensures.ok);
+          (subst (λ text. Appends (g.W.Write.contents c.loop-i.out.writer.now) (g.W.Write.contents c.write_evaluation.new.out.writer.now)
+          (text ++ codes "\n")) is c.in-Ok.ensures.ok);
       writable = c.in-Ok.ensures.cause;
       same_output = c.in-Ok.ensures.same_output ∙ c.loop-i.invariant.same_output;
       spots = c.in-Ok.ensures.spots ∙ c.loop-i.invariant.spots;
@@ -123,34 +147,48 @@ loop-i-preserved g c =
           let u = get_or us c.loop-i.i (list_of none) in
           let w = g.B.TermBank.store c.loop-i.engine.bank in
           let here : item_at w c.head-term.result ≡ u = ap (λ o. unwrap_or o (list_of none)) next.held ∙ sym next.front.got in
-          let more = subst (λ (z : Spec). AreSpots source z c.loop-i.report.spots.items → c.write_evaluation.new.report.lines.items ≡ c.loop-i.report.lines.items ++ value_report source z n (given_task (item_at w c.head-term.result))) c.loop-i.invariant.same.spec (c.in-Ok.ensures.report source) there in
-          told-more (λ u. value_report source y n (given_task u)) us c.loop-i.i (list_of none) c.args.report.now.lines.items c.loop-i.report.lines.items c.write_evaluation.new.report.lines.items next.front.low (c.loop-i.invariant.report source spots) (more ∙ ap (λ t. c.loop-i.report.lines.items ++ value_report source y n (given_task t)) here);
+          let more = subst (λ (z : Spec). AreSpots source z c.loop-i.report.spots.items
+          → c.write_evaluation.new.report.lines.items ≡ c.loop-i.report.lines.items ++ value_report source z n
+          (given_task (item_at w c.head-term.result))) c.loop-i.invariant.same.spec (c.in-Ok.ensures.report source) there in
+          told-more (λ u. value_report source y n (given_task u)) us c.loop-i.i (list_of none) c.args.report.now.lines.items
+          c.loop-i.report.lines.items c.write_evaluation.new.report.lines.items next.front.low (c.loop-i.invariant.report source spots)
+          (more ∙ ap (λ t. c.loop-i.report.lines.items ++ value_report source y n (given_task t)) here);
     }
 
 pub returns-clause-ok : goal.returns-clause-ok
 returns-clause-ok g c =
     let us = given_at (g.B.TermBank.store c.args.engine.now.bank) c.args.list in
     let short : length us < cells (g.B.TermBank.store c.bank.result.now) =
-    subst (λ b. length us < cells (g.B.TermBank.store b)) (sym c.bank.ensures) (fewer_items (g.B.TermBank.store c.args.engine.now.bank) c.args.list us (g.met.B.TermBank.sound c.args.engine.now.bank) c.requires.protected.holds.held) in
+    subst (λ b. length us < cells (g.B.TermBank.store b)) (sym c.bank.ensures)
+    (fewer_items (g.B.TermBank.store c.args.engine.now.bank) c.args.list us (g.met.B.TermBank.sound c.args.engine.now.bank)
+    c.requires.protected.holds.held) in
     let all : length us ≤ c.loop-i.i = omega (arith, short) in
     appends_all (given_text c.args.engine.now.spec (shown_of c.args.settings) c.args.settings.options.steps) us c.loop-i.i _ _ all c.loop-i.invariant.written
 
 pub returns-in-Err-clause-cause : goal.returns-in-Err-clause-cause
-returns-in-Err-clause-cause g c = λ is. c.in-Err.ensures.cause (after_write (unbounded_line_fault c.in-Err.fault) _ (unbounded_fault c.after.result) (after-told c.in-Err.fault _ c.after.result c.after.ensures) is)
+returns-in-Err-clause-cause g c = λ is. c.in-Err.ensures.cause
+    (after_write (unbounded_line_fault c.in-Err.fault) _ (unbounded_fault c.after.result) (after-told c.in-Err.fault _ c.after.result c.after.ensures) is)
 
 pub returns-in-Err-clause-deep : goal.returns-in-Err-clause-deep
-returns-in-Err-clause-deep g c = after-deep c.in-Err.fault _ c.after.result c.after.ensures c.write_evaluation.new.engine.waiting c.args.settings.depth c.in-Err.ensures.deep
+returns-in-Err-clause-deep g c = after-deep c.in-Err.fault _ c.after.result c.after.ensures c.write_evaluation.new.engine.waiting
+    c.args.settings.depth c.in-Err.ensures.deep
 
 pub write_evaluation-requires-clause-told : goal.write_evaluation-requires-clause-told
 write_evaluation-requires-clause-told g c =
     let source = c.requires.told.0 in
-    let y = c.args.engine.now.spec in
-    (source, subst (λ (z : Spec). AreSpots source z c.loop-i.report.spots.items) (sym c.loop-i.invariant.same.spec) (subst (λ (v : Vec Spot Global). AreSpots source y v.items) (sym c.loop-i.invariant.spots) c.requires.told.1))
+    let y = c.args.engine.now.spec in (
+      source,
+      subst (λ (z : Spec). AreSpots source z c.loop-i.report.spots.items) (sym c.loop-i.invariant.same.spec)
+          (subst (λ (v : Vec Spot Global). AreSpots source y v.items) (sym c.loop-i.invariant.spots) c.requires.told.1),
+    )
 
 pub returns-clause-report : goal.returns-clause-report
 returns-clause-report g c =
     let us = given_at (g.B.TermBank.store c.args.engine.now.bank) c.args.list in
     let short : length us < cells (g.B.TermBank.store c.bank.result.now) =
-    subst (λ b. length us < cells (g.B.TermBank.store b)) (sym c.bank.ensures) (fewer_items (g.B.TermBank.store c.args.engine.now.bank) c.args.list us (g.met.B.TermBank.sound c.args.engine.now.bank) c.requires.protected.holds.held) in
+    subst (λ b. length us < cells (g.B.TermBank.store b)) (sym c.bank.ensures)
+    (fewer_items (g.B.TermBank.store c.args.engine.now.bank) c.args.list us (g.met.B.TermBank.sound c.args.engine.now.bank)
+    c.requires.protected.holds.held) in
     let all : length us ≤ c.loop-i.i = omega (arith, short) in
-    λ source spots. told-all (λ u. value_report source c.args.engine.now.spec c.args.settings.options.steps (given_task u)) us c.loop-i.i c.args.report.now.lines.items c.loop-i.report.lines.items all (c.loop-i.invariant.report source spots)
+    λ source spots. told-all (λ u. value_report source c.args.engine.now.spec c.args.settings.options.steps (given_task u)) us c.loop-i.i
+    c.args.report.now.lines.items c.loop-i.report.lines.items all (c.loop-i.invariant.report source spots)

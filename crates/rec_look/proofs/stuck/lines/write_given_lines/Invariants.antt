@@ -20,10 +20,13 @@ invariant-loop-i g l = record {
   same : SameEngine l.fn.engine l.engine;
   keeps : Keeps (g.B.TermBank.store l.fn.engine.bank) (g.B.TermBank.store l.engine.bank) [];
   left : tree_at (g.B.TermBank.store l.engine.bank) l.rest ≡ Some (list_of (from_list (drop l.i (given_at (g.B.TermBank.store l.fn.engine.bank) l.fn.list))));
-  written : Appends (g.W.Write.contents l.fn.out.writer.now) (g.W.Write.contents l.out.writer.now) (lines_of (given_text l.fn.engine.spec (shown_of l.settings) l.settings.options.steps) (take l.i (given_at (g.B.TermBank.store l.fn.engine.bank) l.fn.list)));
+  written : Appends (g.W.Write.contents l.fn.out.writer.now) (g.W.Write.contents l.out.writer.now)
+      (lines_of (given_text l.fn.engine.spec (shown_of l.settings) l.settings.options.steps)
+      (take l.i (given_at (g.B.TermBank.store l.fn.engine.bank) l.fn.list)));
   writable : IsWritable l.out;
   same_output : IsSameOutput l.fn.out l.out;
   spots : l.report.spots ≡ l.fn.report.spots;
   report : (source : List ℕ) → AreSpots source l.fn.engine.spec l.fn.report.spots.items
-      → l.report.lines.items ≡ l.fn.report.lines.items ++ flat_map (λ u. value_report source l.fn.engine.spec l.settings.options.steps (given_task u)) (take l.i (given_at (g.B.TermBank.store l.fn.engine.bank) l.fn.list));
+      → l.report.lines.items ≡ l.fn.report.lines.items ++ flat_map (λ u. value_report source l.fn.engine.spec l.settings.options.steps (given_task u))
+      (take l.i (given_at (g.B.TermBank.store l.fn.engine.bank) l.fn.list));
 }

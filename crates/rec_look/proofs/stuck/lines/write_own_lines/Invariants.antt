@@ -18,10 +18,12 @@ abbrev pub invariant-loop-i : goal.invariant-loop-i
 invariant-loop-i g l = record {
   same : SameEngine l.fn.engine l.engine;
   keeps : Keeps (g.B.TermBank.store l.fn.engine.bank) (g.B.TermBank.store l.engine.bank) [];
-  written : Appends (g.W.Write.contents l.fn.out.writer.now) (g.W.Write.contents l.out.writer.now) (lines_of (line_text l.fn.engine.spec (bare l.settings.options.count) l.settings.options.steps) (take l.i l.fn.engine.spec.terms));
+  written : Appends (g.W.Write.contents l.fn.out.writer.now) (g.W.Write.contents l.out.writer.now)
+      (lines_of (line_text l.fn.engine.spec (bare l.settings.options.count) l.settings.options.steps) (take l.i l.fn.engine.spec.terms));
   writable : IsWritable l.out;
   same_output : IsSameOutput l.fn.out l.out;
   spots : l.report.spots ≡ l.fn.report.spots;
   report : (source : List ℕ) → AreSpots source l.fn.engine.spec l.fn.report.spots.items
-      → l.report.lines.items ≡ l.fn.report.lines.items ++ flat_map (λ (t : Term). value_report source l.fn.engine.spec l.settings.options.steps (record { term = t; notes = none })) (take l.i l.fn.engine.spec.terms);
+      → l.report.lines.items ≡ l.fn.report.lines.items ++ flat_map (λ (t : Term).
+      value_report source l.fn.engine.spec l.settings.options.steps (record { term = t; notes = none })) (take l.i l.fn.engine.spec.terms);
 }

@@ -11,7 +11,8 @@ use Rattle.rec_look.proofs.stuck.short_text.bare_beginning.Goals as goal
 pub returns-in-None : goal.returns-in-None
 returns-in-None g c =
     let w = g.B.TermBank.store c.args.bank.now in
-    if_ok_map c.beginning.result _ _ (λ text h. begins-bare w c.args.t text.items c.requires (subst (λ (o : Option Term). HasAnns w c.args.t o) c.in-None.is c.anns.ensures) h) c.beginning.ensures
+    if_ok_map c.beginning.result _ _ (λ text h. begins-bare w c.args.t text.items c.requires
+    (subst (λ (o : Option Term). HasAnns w c.args.t o) c.in-None.is c.anns.ensures) h) c.beginning.ensures
 
 pub returns-in-Some : goal.returns-in-Some
 returns-in-Some g c =

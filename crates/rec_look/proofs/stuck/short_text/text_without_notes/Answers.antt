@@ -15,11 +15,14 @@ pub returns : goal.returns
 returns g c =
     let w = g.B.TermBank.store c.args.bank.now in
     let u = held_tree w c.args.t in
-    let a = of_held (tree_at w c.args.t) (λ t. Appends (Some c.new-text.result.items) (Some c.write.new.out.items) (canon t)) c.requires c.in-Ok.ensures.written in
+    let a = of_held (tree_at w c.args.t) (λ t. Appends (Some c.new-text.result.items) (Some c.write.new.out.items) (canon t)) c.requires
+    c.in-Ok.ensures.written in
     let b = c.in-Ok-write_notes.ensures.ok in
     let m = c.len.ensures in
     let n = c.len-2.ensures in
     let k = c.saturating_sub.ensures in
     let p = c.write.new.out.ok.0 in
     let q = c.write_notes.new.out.ok.0 in
-    without-notes u c.write.new.out.items c.write_notes.new.out.items c.truncate.new.self.items c.saturating_sub.result (a ∙ ap (λ xs. xs ++ canon u) c.new-text.ensures.items) (b ∙ ap (λ xs. xs ++ notes_text (annotations u)) c.new-notes.ensures.items) (omega (arith, m, n, k, p, q)) c.truncate.ensures.items
+    without-notes u c.write.new.out.items c.write_notes.new.out.items c.truncate.new.self.items c.saturating_sub.result
+    (a ∙ ap (λ xs. xs ++ canon u) c.new-text.ensures.items) (b ∙ ap (λ xs. xs ++ notes_text (annotations u)) c.new-notes.ensures.items)
+    (omega (arith, m, n, k, p, q)) c.truncate.ensures.items

@@ -19,13 +19,15 @@ returns-in-Refused-clause-told g c = λ source v kept is.
 pub returns-in-Good-clause-due : goal.returns-in-Good-clause-due
 returns-in-Good-clause-due g c =
     if_ok_map c.read_terms.result _ _
-    (λ r h v is. read_after_good (g.B.TermBank.store c.read_terms.new.bank) c.in-Good.checked _ r h v (subst (λ (z : Reading Sourced). IsSpecReading z v) c.in-Good.is is))
+    (λ r h v is. read_after_good (g.B.TermBank.store c.read_terms.new.bank) c.in-Good.checked _ r h v
+    (subst (λ (z : Reading Sourced). IsSpecReading z v) c.in-Good.is is))
     c.read_terms.ensures.due
 
 pub returns-in-Good-clause-told : goal.returns-in-Good-clause-told
 returns-in-Good-clause-told g c =
     if_ok_map c.read_terms.result _ _
-    (λ r h source v kept is. told-good (g.B.TermBank.store c.read_terms.new.bank) source c.in-Good.checked _ r h v (subst (λ (z : Reading Sourced). KeepsText source z) c.in-Good.is kept) (subst (λ (z : Reading Sourced). IsSpecReading z v) c.in-Good.is is))
+    (λ r h source v kept is. told-good (g.B.TermBank.store c.read_terms.new.bank) source c.in-Good.checked _ r h v
+    (subst (λ (z : Reading Sourced). KeepsText source z) c.in-Good.is kept) (subst (λ (z : Reading Sourced). IsSpecReading z v) c.in-Good.is is))
     c.read_terms.ensures.told
 
 pub returns-in-Good-clause-unread : goal.returns-in-Good-clause-unread

@@ -3,10 +3,12 @@ use Rattle.rec_look.proofs.ToldLemmas.{told-with}
 use Rattle.rec_look.proofs.stuck.texts.read_both.Goals as goal
 
 pub returns-clause-due : goal.returns-clause-due
-returns-clause-due g c = read_with (g.B.TermBank.store c.read_after.new.bank) c.read_after.result _ _ c.in_ok-first.first c.in_ok-first.ensures.verdict c.read_after.ensures.due
+returns-clause-due g c = read_with (g.B.TermBank.store c.read_after.new.bank) c.read_after.result _ _ c.in_ok-first.first
+    c.in_ok-first.ensures.verdict c.read_after.ensures.due
 
 pub returns-clause-told : goal.returns-clause-told
-returns-clause-told g c = told-with (g.B.TermBank.store c.read_after.new.bank) c.read_after.result _ _ c.in_ok-first.first c.in_ok-first.ensures.verdict c.in_ok-first.ensures.source c.read_after.ensures.told
+returns-clause-told g c = told-with (g.B.TermBank.store c.read_after.new.bank) c.read_after.result _ _ c.in_ok-first.first
+    c.in_ok-first.ensures.verdict c.in_ok-first.ensures.source c.read_after.ensures.told
 
 pub returns-clause-terms_out : goal.returns-clause-terms_out
 returns-clause-terms_out g c = terms_out _ c.read_after.result _ c.in_ok-first.first c.in_ok-first.ensures.verdict c.read_after.ensures.out

@@ -23,7 +23,8 @@ returns-in-Ok-clause-output g c =
     let n = c.args.settings.options.steps in
     let w = g.B.TermBank.store c.read_both.new.bank in
     let r = c.in-Ok.reading in
-    ends_by (IsDueFor shown n) (job_lines w shown n) _ r (unbounded c.answer.result) _ _ (due_for w shown n _ r (c.in-Ok.ensures.due)) c.answer.ensures.ends c.answer.ensures.ok
+    ends_by (IsDueFor shown n) (job_lines w shown n) _ r (unbounded c.answer.result) _ _ (due_for w shown n _ r (c.in-Ok.ensures.due))
+    c.answer.ensures.ends c.answer.ensures.ok
 
 pub returns-in-Ok-clause-place : goal.returns-in-Ok-clause-place
 returns-in-Ok-clause-place g c =
@@ -39,7 +40,8 @@ returns-in-Ok-clause-fault g c =
     let n = c.args.settings.options.steps in
     let w = g.B.TermBank.store c.read_both.new.bank in
     let r = c.in-Ok.reading in
-    breaks_by (IsDueFor shown n) (job_lines w shown n) (one_due_for shown n) _ r (unbounded c.answer.result) _ _ (due_for w shown n _ r (c.in-Ok.ensures.due)) c.answer.ensures.err
+    breaks_by (IsDueFor shown n) (job_lines w shown n) (one_due_for shown n) _ r (unbounded c.answer.result) _ _
+    (due_for w shown n _ r (c.in-Ok.ensures.due)) c.answer.ensures.err
 
 pub returns-in-Ok-clause-cells : goal.returns-in-Ok-clause-cells
 returns-in-Ok-clause-cells g c = refused_map _ c.answer.ensures.cells c.in-Ok.ensures.refused
@@ -54,10 +56,12 @@ pub returns-in-Err-clause-fault : goal.returns-in-Err-clause-fault
 returns-in-Err-clause-fault g c =
     let old = g.B.TermBank.store c.args.bank in
     let new = g.B.TermBank.store c.read_both.new.bank in
-    breaks_unwritten (IsDueFor (shown_of c.args.settings) c.args.settings.options.steps) _ c.in-Err.fault _ (reports_unwritten old new c.in-Err.fault c.in-Err.ensures.fault)
+    breaks_unwritten (IsDueFor (shown_of c.args.settings) c.args.settings.options.steps) _ c.in-Err.fault _
+    (reports_unwritten old new c.in-Err.fault c.in-Err.ensures.fault)
 
 pub returns-in-Err-clause-cells : goal.returns-in-Err-clause-cells
 returns-in-Err-clause-cells g c = c.in-Err.ensures.refused
 
 pub returns-in-Ok-clause-report : goal.returns-in-Ok-clause-report
-returns-in-Ok-clause-report g c = tells-by (unbounded c.answer.result) (g.B.TermBank.store c.read_both.new.bank) c.args.settings.options.steps _ c.in-Ok.reading c.args.report.now.lines.items c.answer.new.report.lines.items (c.in-Ok.ensures.told) c.answer.ensures.report
+returns-in-Ok-clause-report g c = tells-by (unbounded c.answer.result) (g.B.TermBank.store c.read_both.new.bank) c.args.settings.options.steps _
+    c.in-Ok.reading c.args.report.now.lines.items c.answer.new.report.lines.items (c.in-Ok.ensures.told) c.answer.ensures.report

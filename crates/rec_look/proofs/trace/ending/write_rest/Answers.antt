@@ -17,10 +17,14 @@ returns-clause-ok g c =
     let shown = shown_by c.args.telling.now.options in
     let n = c.args.telling.now.options.run.steps in
     let w1 = g.B.TermBank.store c.write_firings.new.engine.bank in
-    let end : end_text (g.B.TermBank.store c.bank.result.now) shown.counted n c.args.notes.now c.in_ok-outcome.outcome ++ codes "\n" ≡ end_line shown.counted n c.args.notes.now rest.outcome =
-    ap (λ b. end_text (g.B.TermBank.store b) shown.counted n c.args.notes.now c.in_ok-outcome.outcome ++ codes "\n") c.bank.ensures ∙ end-written w1 shown.counted n c.args.notes.now rest.outcome c.in_ok-outcome.outcome c.in_ok-outcome.ensures.end in
+    let end : end_text (g.B.TermBank.store c.bank.result.now) shown.counted n c.args.notes.now c.in_ok-outcome.outcome ++ codes "\n" ≡ end_line
+    shown.counted n c.args.notes.now rest.outcome =
+    ap (λ b. end_text (g.B.TermBank.store b) shown.counted n c.args.notes.now c.in_ok-outcome.outcome ++ codes "\n") c.bank.ensures
+    ∙ end-written w1 shown.counted n c.args.notes.now rest.outcome c.in_ok-outcome.outcome c.in_ok-outcome.ensures.end in
     on_ok_of c.write_end.result
-    (λ h source is. prints-both g.W.Write.contents c.args.out.now c.write_firings.new.out c.write_end.new.out c.args.lines.now c.write_firings.new.lines c.write_end.new.lines (steps_lines source shown n rest.firings) (end_line shown.counted n c.args.notes.now rest.outcome) (c.in_ok-outcome.ensures.ok source is)
+    (λ h source is. prints-both g.W.Write.contents c.args.out.now c.write_firings.new.out c.write_end.new.out c.args.lines.now
+    c.write_firings.new.lines c.write_end.new.lines (steps_lines source shown n rest.firings)
+    (end_line shown.counted n c.args.notes.now rest.outcome) (c.in_ok-outcome.ensures.ok source is)
     (subst (λ text. Prints g.W.Write.contents c.write_firings.new.out c.write_end.new.out c.write_firings.new.lines c.write_end.new.lines text) end h))
     c.write_end.ensures.ok
 
@@ -31,10 +35,14 @@ returns-clause-err g c =
     let shown = shown_by c.args.telling.now.options in
     let n = c.args.telling.now.options.run.steps in
     let w1 = g.B.TermBank.store c.write_firings.new.engine.bank in
-    let end : end_text (g.B.TermBank.store c.bank.result.now) shown.counted n c.args.notes.now c.in_ok-outcome.outcome ++ codes "\n" ≡ end_line shown.counted n c.args.notes.now rest.outcome =
-    ap (λ b. end_text (g.B.TermBank.store b) shown.counted n c.args.notes.now c.in_ok-outcome.outcome ++ codes "\n") c.bank.ensures ∙ end-written w1 shown.counted n c.args.notes.now rest.outcome c.in_ok-outcome.outcome c.in_ok-outcome.ensures.end in
+    let end : end_text (g.B.TermBank.store c.bank.result.now) shown.counted n c.args.notes.now c.in_ok-outcome.outcome ++ codes "\n" ≡ end_line
+    shown.counted n c.args.notes.now rest.outcome =
+    ap (λ b. end_text (g.B.TermBank.store b) shown.counted n c.args.notes.now c.in_ok-outcome.outcome ++ codes "\n") c.bank.ensures
+    ∙ end-written w1 shown.counted n c.args.notes.now rest.outcome c.in_ok-outcome.outcome c.in_ok-outcome.ensures.end in
     IfErr-weaker c.write_end.result _ _
-    (λ fault h source is. breaks-behind g.W.Write.contents c.args.out.now c.write_firings.new.out c.write_end.new.out c.args.lines.now c.write_firings.new.lines (steps_lines source shown n rest.firings) (end_line shown.counted n c.args.notes.now rest.outcome) fault (c.in_ok-outcome.ensures.ok source is)
+    (λ fault h source is. breaks-behind g.W.Write.contents c.args.out.now c.write_firings.new.out c.write_end.new.out c.args.lines.now
+    c.write_firings.new.lines (steps_lines source shown n rest.firings) (end_line shown.counted n c.args.notes.now rest.outcome) fault
+    (c.in_ok-outcome.ensures.ok source is)
     (subst (λ text. Breaks g.W.Write.contents c.write_firings.new.out c.write_end.new.out c.write_firings.new.lines text fault) end h))
     c.write_end.ensures.err
 

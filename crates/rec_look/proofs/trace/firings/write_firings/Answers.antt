@@ -24,7 +24,8 @@ returns-in_err-write_kept-clause-err g c =
     let ls = picked_lines source shown n rest.firings in
     let end = end_line shown.counted n notes rest.outcome in
     subst (λ text. Breaks g.W.Write.contents c.args.out.now out2 c.args.lines.now text fault) (told-parts source shown n notes rest)
-    (breaks-behind g.W.Write.contents c.args.out.now out1 out2 c.args.lines.now lines1 (joined (front_lines shown.picked ls)) (joined (last_lines shown.picked ls) ++ end) fault (c.in_ok-outcome.ensures.ok source is)
+    (breaks-behind g.W.Write.contents c.args.out.now out1 out2 c.args.lines.now lines1 (joined (front_lines shown.picked ls))
+    (joined (last_lines shown.picked ls) ++ end) fault (c.in_ok-outcome.ensures.ok source is)
     (breaks-before g.W.Write.contents out1 out2 lines1 (joined (last_lines shown.picked ls)) end fault
     (c.in_err-write_kept.ensures.err shown.picked ls (c.in_ok-outcome.ensures.kept_on source is)))))
 
@@ -36,5 +37,6 @@ returns-clause-ok g c =
     λ source is.
     let ls = picked_lines source shown n rest.firings in
     subst (λ text. Prints g.W.Write.contents c.args.out.now c.write_kept.new.out c.args.lines.now c.write_kept.new.lines text) (steps-parts source shown n rest)
-    (prints-both g.W.Write.contents c.args.out.now c.write_steps.new.out c.write_kept.new.out c.args.lines.now c.write_steps.new.lines c.write_kept.new.lines (joined (front_lines shown.picked ls)) (joined (last_lines shown.picked ls)) (c.in_ok-outcome.ensures.ok source is)
+    (prints-both g.W.Write.contents c.args.out.now c.write_steps.new.out c.write_kept.new.out c.args.lines.now c.write_steps.new.lines
+    c.write_kept.new.lines (joined (front_lines shown.picked ls)) (joined (last_lines shown.picked ls)) (c.in_ok-outcome.ensures.ok source is)
     (c.in_ok-write_kept.ensures.ok shown.picked ls (c.in_ok-outcome.ensures.kept_on source is)))

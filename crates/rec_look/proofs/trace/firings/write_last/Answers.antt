@@ -17,7 +17,8 @@ returns-in_err-print-clause-err g c =
     let text = c.deref.ensures.value ∙ ap (λ (v : Vec ℕ Global). v.items) c.index.ensures in
     if_err_at c.from_residual.result _ fault c.from_residual.ensures.1
     (subst (λ text. Breaks g.W.Write.contents c.args.out.now c.print.new.out c.args.lines.now text fault) (sym (kept-text items))
-    (breaks-within g.W.Write.contents (λ (v : Vec ℕ Global). v.items) items c.args.out.now c.loop-i.out c.print.new.out c.args.lines.now c.loop-i.lines c.loop-i.i c.index.result.now fault low c.loop-i.invariant.printed
+    (breaks-within g.W.Write.contents (λ (v : Vec ℕ Global). v.items) items c.args.out.now c.loop-i.out c.print.new.out c.args.lines.now
+    c.loop-i.lines c.loop-i.i c.index.result.now fault low c.loop-i.invariant.printed
     (subst (λ text. Breaks g.W.Write.contents c.loop-i.out c.print.new.out c.loop-i.lines text fault) text c.in_err-print.ensures.err)))
 
 pub returns-clause-ok : goal.returns-clause-ok
@@ -27,4 +28,5 @@ returns-clause-ok g c =
     let b = c.args.last.now.ok.0 in
     let all : length items ≤ c.loop-i.i = omega (arith, a, b) in
     subst (λ text. Prints g.W.Write.contents c.args.out.now c.loop-i.out c.args.lines.now c.loop-i.lines text) (sym (kept-text items))
-    (prints-all g.W.Write.contents (λ (v : Vec ℕ Global). v.items) items c.args.out.now c.loop-i.out c.args.lines.now c.loop-i.lines c.loop-i.i all c.loop-i.invariant.printed)
+    (prints-all g.W.Write.contents (λ (v : Vec ℕ Global). v.items) items c.args.out.now c.loop-i.out c.args.lines.now c.loop-i.lines c.loop-i.i all
+    c.loop-i.invariant.printed)

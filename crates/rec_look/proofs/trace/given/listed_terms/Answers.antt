@@ -14,7 +14,8 @@ pub notes_of_all-requires-clause-count : goal.notes_of_all-requires-clause-count
 notes_of_all-requires-clause-count g c =
     let us = given_at (g.B.TermBank.store c.args.bank.now) c.args.list in
     c.len.ensures ∙ c.in_ok-letters.letters.ok.0
-    ∙ pairwise-length (λ (ls : Vec Letter Global) (u : Tree). AreLetters c.args.checked.now.spec ls.items (term_of u)) c.in_ok-letters.letters.items us (c.in_ok-letters.ensures.letters (list_of (from_list us)) us c.requires.held (elements-listed us))
+    ∙ pairwise-length (λ (ls : Vec Letter Global) (u : Tree). AreLetters c.args.checked.now.spec ls.items (term_of u)) c.in_ok-letters.letters.items
+    us (c.in_ok-letters.ensures.letters (list_of (from_list us)) us c.requires.held (elements-listed us))
 
 pub returns : goal.returns
 returns g c =

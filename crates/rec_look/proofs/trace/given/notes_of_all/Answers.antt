@@ -47,7 +47,9 @@ loop-index-preserved g c =
     let low : c.loop-index._index < length us = omega (arith, count) in
     record {
       left = c.tail-rest.ensures ∙ other-items w us c.loop-index.rest c.loop-index._index (list_of none) low c.loop-index.invariant.left;
-      made = notes-more w us c.loop-index._index c.head.result c.loop-index.notes.items c.push.new.self.items c.in_ok-text.text low (c.head.ensures ∙ first-item w us c.loop-index.rest c.loop-index._index (list_of none) low c.loop-index.invariant.left) c.in_ok-push.ensures.items c.in_ok-text.ensures c.loop-index.invariant.made;
+      made = notes-more w us c.loop-index._index c.head.result c.loop-index.notes.items c.push.new.self.items c.in_ok-text.text low
+          (c.head.ensures ∙ first-item w us c.loop-index.rest c.loop-index._index (list_of none) low c.loop-index.invariant.left)
+          c.in_ok-push.ensures.items c.in_ok-text.ensures c.loop-index.invariant.made;
     }
 
 pub returns : goal.returns

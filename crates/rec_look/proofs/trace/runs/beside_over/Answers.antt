@@ -17,7 +17,8 @@ returns-in-Ok-clause-output g c =
     let n = c.args.options.run.steps in
     let w = g.B.TermBank.store c.read_both.new.bank in
     let r = c.in-Ok.reading in
-    ends_by (IsTraceDueFor shown n) (job_traces w shown n) _ r c.answer.result _ _ (due_for w shown n _ r c.in-Ok.ensures.due) c.answer.ensures.ends c.answer.ensures.ok
+    ends_by (IsTraceDueFor shown n) (job_traces w shown n) _ r c.answer.result _ _ (due_for w shown n _ r c.in-Ok.ensures.due) c.answer.ensures.ends
+    c.answer.ensures.ok
 
 pub returns-in-Ok-clause-place : goal.returns-in-Ok-clause-place
 returns-in-Ok-clause-place g c =
@@ -33,7 +34,8 @@ returns-in-Ok-clause-fault g c =
     let n = c.args.options.run.steps in
     let w = g.B.TermBank.store c.read_both.new.bank in
     let r = c.in-Ok.reading in
-    breaks_by (IsTraceDueFor shown n) (job_traces w shown n) (one_trace_due_for shown n) _ r c.answer.result _ _ (due_for w shown n _ r c.in-Ok.ensures.due) c.answer.ensures.err
+    breaks_by (IsTraceDueFor shown n) (job_traces w shown n) (one_trace_due_for shown n) _ r c.answer.result _ _
+    (due_for w shown n _ r c.in-Ok.ensures.due) c.answer.ensures.err
 
 pub returns-in-Ok-clause-cells : goal.returns-in-Ok-clause-cells
 returns-in-Ok-clause-cells g c = refused_map _ c.answer.ensures.cells c.in-Ok.ensures.refused
@@ -48,7 +50,8 @@ pub returns-in-Err-clause-fault : goal.returns-in-Err-clause-fault
 returns-in-Err-clause-fault g c =
     let old = g.B.TermBank.store c.args.bank in
     let new = g.B.TermBank.store c.read_both.new.bank in
-    breaks_unwritten (IsTraceDueFor (shown_by c.args.options) c.args.options.run.steps) _ c.in-Err.fault _ (reports_unwritten old new c.in-Err.fault c.in-Err.ensures.fault)
+    breaks_unwritten (IsTraceDueFor (shown_by c.args.options) c.args.options.run.steps) _ c.in-Err.fault _
+    (reports_unwritten old new c.in-Err.fault c.in-Err.ensures.fault)
 
 pub returns-in-Err-clause-cells : goal.returns-in-Err-clause-cells
 returns-in-Err-clause-cells g c = c.in-Err.ensures.refused

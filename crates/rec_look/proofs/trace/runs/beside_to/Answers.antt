@@ -9,7 +9,8 @@ pub beside_over-requires-clause-unrooted : goal.beside_over-requires-clause-unro
 beside_over-requires-clause-unrooted g c = c.in-Ok.ensures.empty.2
 
 pub returns-in-Err-clause-fault : goal.returns-in-Err-clause-fault
-returns-in-Err-clause-fault g c = breaks_unwritten (IsTraceDueFor (shown_by c.args.options) c.args.options.run.steps) _ c.in-Err.fault _ (rw c.in-Err.ensures.fault refl)
+returns-in-Err-clause-fault g c = breaks_unwritten (IsTraceDueFor (shown_by c.args.options) c.args.options.run.steps) _ c.in-Err.fault _
+    (rw c.in-Err.ensures.fault refl)
 
 pub returns-in-Err-clause-cells : goal.returns-in-Err-clause-cells
 returns-in-Err-clause-cells g c = refused_any _ (memory_has_room c.in-Err.fault c.in-Err.ensures.fault)

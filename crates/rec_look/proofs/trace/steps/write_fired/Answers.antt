@@ -13,15 +13,19 @@ returns-in-Ok-clause-ok g c =
     let takes = c.in-Ok.ensures.line source w t before is kept f in
     record {
       kept_on = takes.kept_on;
-      printed = subst (λ ls. Prints g.W.Write.contents c.args.out.now c.print_some.new.out c.args.lines.now c.print_some.new.lines (joined ls)) (sym takes.fresh) h;
+      printed = subst (λ ls. Prints g.W.Write.contents c.args.out.now c.print_some.new.out c.args.lines.now c.print_some.new.lines (joined ls))
+          (sym takes.fresh) h;
     })
     c.print_some.ensures.ok
 
 pub returns-in-Ok-clause-err : goal.returns-in-Ok-clause-err
 returns-in-Ok-clause-err g c =
     IfErr-weaker c.print_some.result _ _
-    (λ fault h source w t before is kept f. subst (λ ls. Breaks g.W.Write.contents c.args.out.now c.print_some.new.out c.args.lines.now (joined ls) fault) (sym (c.in-Ok.ensures.line source w t before is kept f).fresh) h)
+    (λ fault h source w t before is kept f.
+    subst (λ ls. Breaks g.W.Write.contents c.args.out.now c.print_some.new.out c.args.lines.now (joined ls) fault)
+    (sym (c.in-Ok.ensures.line source w t before is kept f).fresh) h)
     c.print_some.ensures.err
 
 pub returns-in-Err-clause-err : goal.returns-in-Err-clause-err
-returns-in-Err-clause-err g c = λ source w t before is kept f. breaks-stopped g.W.Write.contents c.args.out.now c.args.lines.now _ c.in-Err.fault _ c.stopped.ensures
+returns-in-Err-clause-err g c = λ source w t before is kept f.
+    breaks-stopped g.W.Write.contents c.args.out.now c.args.lines.now _ c.in-Err.fault _ c.stopped.ensures

@@ -12,7 +12,8 @@ invariant-turns g l = record {
   same : SameEngine l.fn.engine l.engine;
   stands : Stands l.fn.engine.spec (g.B.TermBank.store l.engine.bank) l.tracer;
   within : IsWithin l.telling.options.run.steps (rest_of l.fn.engine.spec (g.B.TermBank.store l.engine.bank) l.tracer);
-  so_far : SoFar g.W.Write.contents l.fn.engine.spec (rest_of l.fn.engine.spec (g.B.TermBank.store l.fn.engine.bank) l.fn.tracer) (rest_of l.fn.engine.spec (g.B.TermBank.store l.engine.bank) l.tracer) l.telling l.kept l.fn.out l.out l.fn.lines l.lines;
+  so_far : SoFar g.W.Write.contents l.fn.engine.spec (rest_of l.fn.engine.spec (g.B.TermBank.store l.fn.engine.bank) l.fn.tracer)
+      (rest_of l.fn.engine.spec (g.B.TermBank.store l.engine.bank) l.tracer) l.telling l.kept l.fn.out l.out l.fn.lines l.lines;
   writable : IsWritable l.out;
   same_output : IsSameOutput l.fn.out l.out;
 }

@@ -28,8 +28,12 @@ write_given_trace-requires-clause-given g c =
     let a = c.len-i-end.ensures in
     let b = terms.letters.ok.0 in
     let low : c.loop-i.i < length terms.letters.items = omega (arith, a, b) in
-    let u = get_or c.requires.given.0 c.loop-i.i (list_of none) in
-    (u, subst (λ (z : Spec). Spells z c.deref.result.now u) (sym c.loop-i.invariant.same.spec) (given-spells y c.requires.given.0 terms c.loop-i.i c.index-letters.result.now c.deref.result.now (list_of none) c.requires.given.1 low c.index-letters.ensures c.deref.ensures.value))
+    let u = get_or c.requires.given.0 c.loop-i.i (list_of none) in (
+      u,
+      subst (λ (z : Spec). Spells z c.deref.result.now u) (sym c.loop-i.invariant.same.spec)
+          (given-spells y c.requires.given.0 terms c.loop-i.i c.index-letters.result.now c.deref.result.now (list_of none) c.requires.given.1 low
+          c.index-letters.ensures c.deref.ensures.value),
+    )
 
 pub returns-in_err-write_given_trace-clause-err : goal.returns-in_err-write_given_trace-clause-err
 returns-in_err-write_given_trace-clause-err g c =
@@ -43,13 +47,17 @@ returns-in_err-write_given_trace-clause-err g c =
     let a = c.len-i-end.ensures in
     let b = terms.letters.ok.0 in
     let low : c.loop-i.i < length terms.letters.items = omega (arith, a, b) in
-    let broken = subst (λ (z : Spec). (source : List ℕ) (u : Tree) → IsTelling source z telling → Spells z c.deref.result.now u → c.deref-in-loop-i.result.now ≡ notes_text (annotations u) → Breaks g.W.Write.contents c.loop-i.out c.write_given_trace.new.out c.loop-i.lines (task_text source z shown n (given_task u)) fault) i.same.spec c.in_err-write_given_trace.ensures.err in
+    let broken = subst (λ (z : Spec). (source : List ℕ) (u : Tree) → IsTelling source z telling → Spells z c.deref.result.now u
+    → c.deref-in-loop-i.result.now ≡ notes_text (annotations u) → Breaks g.W.Write.contents c.loop-i.out c.write_given_trace.new.out
+    c.loop-i.lines (task_text source z shown n (given_task u)) fault) i.same.spec c.in_err-write_given_trace.ensures.err in
     if_err_at c.from_residual.result _ fault c.from_residual.ensures.1
     (λ source us is given.
-    breaks-within g.W.Write.contents (λ u. task_text source y shown n (given_task u)) us c.args.out.now c.loop-i.out c.write_given_trace.new.out c.args.lines.now c.loop-i.lines c.loop-i.i (list_of none) fault (given-low y us terms c.loop-i.i given low) (i.printed source us is given)
+    breaks-within g.W.Write.contents (λ u. task_text source y shown n (given_task u)) us c.args.out.now c.loop-i.out c.write_given_trace.new.out
+    c.args.lines.now c.loop-i.lines c.loop-i.i (list_of none) fault (given-low y us terms c.loop-i.i given low) (i.printed source us is given)
     (broken source (get_or us c.loop-i.i (list_of none)) is
     (given-spells y us terms c.loop-i.i c.index-letters.result.now c.deref.result.now (list_of none) given low c.index-letters.ensures c.deref.ensures.value)
-    (given-notes y us terms c.loop-i.i c.index-notes.result.now c.deref-in-loop-i.result.now (list_of none) given low c.index-notes.ensures c.deref-in-loop-i.ensures.value)))
+    (given-notes y us terms c.loop-i.i c.index-notes.result.now c.deref-in-loop-i.result.now (list_of none) given low c.index-notes.ensures
+    c.deref-in-loop-i.ensures.value)))
 
 pub loop-i-preserved : goal.loop-i-preserved
 loop-i-preserved g c =
@@ -62,14 +70,20 @@ loop-i-preserved g c =
     let a = c.len-i-end.ensures in
     let b = terms.letters.ok.0 in
     let low : c.loop-i.i < length terms.letters.items = omega (arith, a, b) in
-    let printed = subst (λ (z : Spec). (source : List ℕ) (u : Tree) → IsTelling source z telling → Spells z c.deref.result.now u → c.deref-in-loop-i.result.now ≡ notes_text (annotations u) → Prints g.W.Write.contents c.loop-i.out c.write_given_trace.new.out c.loop-i.lines c.write_given_trace.new.lines (task_text source z shown n (given_task u))) i.same.spec c.in_ok-write_given_trace.ensures.ok in
+    let printed = subst (λ (z : Spec). (source : List ℕ) (u : Tree) → IsTelling source z telling → Spells z c.deref.result.now u
+    → c.deref-in-loop-i.result.now ≡ notes_text (annotations u) → Prints g.W.Write.contents c.loop-i.out c.write_given_trace.new.out
+    c.loop-i.lines c.write_given_trace.new.lines (task_text source z shown n (given_task u))) i.same.spec c.in_ok-write_given_trace.ensures.ok in
     record {
       same = same_both i.same c.in_ok-write_given_trace.ensures.same;
       printed = λ source us is given.
-          prints-more g.W.Write.contents (λ u. task_text source y shown n (given_task u)) us c.args.out.now c.loop-i.out c.write_given_trace.new.out c.args.lines.now c.loop-i.lines c.write_given_trace.new.lines c.loop-i.i (list_of none) (given-low y us terms c.loop-i.i given low) (i.printed source us is given)
+          prints-more g.W.Write.contents (λ u. task_text source y shown n (given_task u)) us c.args.out.now c.loop-i.out c.write_given_trace.new.out
+          c.args.lines.now c.loop-i.lines c.write_given_trace.new.lines c.loop-i.i (list_of none) (given-low y us terms c.loop-i.i given low)
+          (i.printed source us is given)
           (printed source (get_or us c.loop-i.i (list_of none)) is
-          (given-spells y us terms c.loop-i.i c.index-letters.result.now c.deref.result.now (list_of none) given low c.index-letters.ensures c.deref.ensures.value)
-          (given-notes y us terms c.loop-i.i c.index-notes.result.now c.deref-in-loop-i.result.now (list_of none) given low c.index-notes.ensures c.deref-in-loop-i.ensures.value));
+          (given-spells y us terms c.loop-i.i c.index-letters.result.now c.deref.result.now (list_of none) given low c.index-letters.ensures
+          c.deref.ensures.value)
+          (given-notes y us terms c.loop-i.i c.index-notes.result.now c.deref-in-loop-i.result.now (list_of none) given low c.index-notes.ensures
+          c.deref-in-loop-i.ensures.value));
       writable = c.in_ok-write_given_trace.ensures.cause;
       same_output = c.in_ok-write_given_trace.ensures.same_output ∙ i.same_output;
     }
@@ -85,4 +99,5 @@ returns-clause-ok g c =
     let b = terms.letters.ok.0 in
     let all : length terms.letters.items ≤ c.loop-i.i = omega (arith, a, b) in
     λ source us is given.
-    prints-all g.W.Write.contents (λ u. task_text source y shown n (given_task u)) us c.args.out.now c.loop-i.out c.args.lines.now c.loop-i.lines c.loop-i.i (subst (λ k. k ≤ c.loop-i.i) (sym (given-long y us terms given)) all) (c.loop-i.invariant.printed source us is given)
+    prints-all g.W.Write.contents (λ u. task_text source y shown n (given_task u)) us c.args.out.now c.loop-i.out c.args.lines.now c.loop-i.lines
+    c.loop-i.i (subst (λ k. k ≤ c.loop-i.i) (sym (given-long y us terms given)) all) (c.loop-i.invariant.printed source us is given)

@@ -11,7 +11,9 @@ use Rattle.rec_look.proofs.trace.terms.write_given_traces.Given as goal
 abbrev pub invariant-loop-i : goal.invariant-loop-i
 invariant-loop-i g l = record {
   same : SameEngine l.fn.engine l.engine;
-  printed : (source : List ℕ) (us : List Tree) → IsTelling source l.fn.engine.spec l.telling → AreGivenTerms l.fn.engine.spec us l.terms → Prints g.W.Write.contents l.fn.out l.out l.fn.lines l.lines (given_traces source l.fn.engine.spec (shown_by l.telling.options) l.telling.options.run.steps (take l.i us));
+  printed : (source : List ℕ) (us : List Tree) → IsTelling source l.fn.engine.spec l.telling → AreGivenTerms l.fn.engine.spec us l.terms
+      → Prints g.W.Write.contents l.fn.out l.out l.fn.lines l.lines
+      (given_traces source l.fn.engine.spec (shown_by l.telling.options) l.telling.options.run.steps (take l.i us));
   writable : IsWritable l.out;
   same_output : IsSameOutput l.fn.out l.out;
 }

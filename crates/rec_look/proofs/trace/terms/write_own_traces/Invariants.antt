@@ -13,7 +13,10 @@ use Rattle.rec_look.proofs.trace.terms.write_own_traces.Given as goal
 abbrev pub invariant-loop-i : goal.invariant-loop-i
 invariant-loop-i g l = record {
   same : SameEngine l.fn.engine l.engine;
-  printed : (source : List ℕ) → IsTelling source l.fn.engine.spec l.telling → Prints g.W.Write.contents l.fn.out l.out l.fn.lines l.lines (flat_map (λ (t : Term). task_text source l.fn.engine.spec (shown_by l.telling.options) l.telling.options.run.steps (record { term = t; notes = none })) (take l.i l.fn.engine.spec.terms));
+  printed : (source : List ℕ) → IsTelling source l.fn.engine.spec l.telling
+      → Prints g.W.Write.contents l.fn.out l.out l.fn.lines l.lines
+      (flat_map (λ (t : Term). task_text source l.fn.engine.spec (shown_by l.telling.options) l.telling.options.run.steps
+      (record { term = t; notes = none })) (take l.i l.fn.engine.spec.terms));
   writable : IsWritable l.out;
   same_output : IsSameOutput l.fn.out l.out;
 }

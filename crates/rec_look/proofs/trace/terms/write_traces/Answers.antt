@@ -14,7 +14,10 @@ use Rattle.rec_look.proofs.TaskLemmas.{traces-both}
 use Rattle.rec_look.proofs.trace.terms.write_traces.Goals as goal
 
 pub write_given_traces-requires-clause-given : goal.write_given_traces-requires-clause-given
-write_given_traces-requires-clause-given g c = (c.requires.given.0, subst (λ (z : Spec). AreGivenTerms z c.requires.given.0 c.args.terms.now) (sym c.write_own_traces.ensures.same.spec) c.requires.given.1)
+write_given_traces-requires-clause-given g c = (
+  c.requires.given.0,
+  subst (λ (z : Spec). AreGivenTerms z c.requires.given.0 c.args.terms.now) (sym c.write_own_traces.ensures.same.spec) c.requires.given.1,
+)
 
 pub returns-clause-ok : goal.returns-clause-ok
 returns-clause-ok g c =
@@ -26,10 +29,13 @@ returns-clause-ok g c =
     let out2 = c.write_given_traces.new.out in
     let lines1 = c.write_own_traces.new.lines in
     let lines2 = c.write_given_traces.new.lines in
-    let k = subst (λ (z : Spec). OnOk c.write_given_traces.result ((source : List ℕ) (us : List Tree) → IsTelling source z telling → AreGivenTerms z us c.args.terms.now → Prints g.W.Write.contents out1 out2 lines1 lines2 (given_traces source z shown n us))) c.write_own_traces.ensures.same.spec c.write_given_traces.ensures.ok in
+    let k = subst (λ (z : Spec). OnOk c.write_given_traces.result ((source : List ℕ) (us : List Tree) → IsTelling source z telling
+    → AreGivenTerms z us c.args.terms.now → Prints g.W.Write.contents out1 out2 lines1 lines2 (given_traces source z shown n us)))
+    c.write_own_traces.ensures.same.spec c.write_given_traces.ensures.ok in
     on_ok_of c.write_given_traces.result
     (λ h source us is given. subst (λ text. Writes g.W.Write.contents c.args.out.now out2 text) (sym (traces-both source y shown n us))
-    (prints-both g.W.Write.contents c.args.out.now out1 out2 0 lines1 lines2 (traces source y [] shown n) (given_traces source y shown n us) (c.in_ok-write_own_traces.ensures.ok source is) (h source us is given)).written)
+    (prints-both g.W.Write.contents c.args.out.now out1 out2 0 lines1 lines2 (traces source y [] shown n) (given_traces source y shown n us)
+    (c.in_ok-write_own_traces.ensures.ok source is) (h source us is given)).written)
     k
 
 pub returns-clause-err : goal.returns-clause-err
@@ -41,9 +47,14 @@ returns-clause-err g c =
     let out1 = c.write_own_traces.new.out in
     let out2 = c.write_given_traces.new.out in
     let lines1 = c.write_own_traces.new.lines in
-    let k = subst (λ (z : Spec). IfErr c.write_given_traces.result (λ fault. (source : List ℕ) (us : List Tree) → IsTelling source z telling → AreGivenTerms z us c.args.terms.now → Breaks g.W.Write.contents out1 out2 lines1 (given_traces source z shown n us) fault)) c.write_own_traces.ensures.same.spec c.write_given_traces.ensures.err in
+    let k = subst (λ (z : Spec). IfErr c.write_given_traces.result (λ fault. (source : List ℕ) (us : List Tree) → IsTelling source z telling
+    → AreGivenTerms z us c.args.terms.now → Breaks g.W.Write.contents out1 out2 lines1 (given_traces source z shown n us) fault))
+    c.write_own_traces.ensures.same.spec c.write_given_traces.ensures.err in
     IfErr-weaker c.write_given_traces.result _ _
-    (λ fault h source us is given. subst (λ text. Stops fault text (contents_of g.W.Write.contents c.args.out.now) (contents_of g.W.Write.contents out2)) (sym (traces-both source y shown n us))
+    (λ fault h source us is given.
+    subst (λ text. Stops fault text (contents_of g.W.Write.contents c.args.out.now) (contents_of g.W.Write.contents out2))
+    (sym (traces-both source y shown n us))
     (breaks-first g.W.Write.contents c.args.out.now out2 _ fault
-    (breaks-behind g.W.Write.contents c.args.out.now out1 out2 0 lines1 (traces source y [] shown n) (given_traces source y shown n us) fault (c.in_ok-write_own_traces.ensures.ok source is) (h source us is given))))
+    (breaks-behind g.W.Write.contents c.args.out.now out1 out2 0 lines1 (traces source y [] shown n) (given_traces source y shown n us) fault
+    (c.in_ok-write_own_traces.ensures.ok source is) (h source us is given))))
     k

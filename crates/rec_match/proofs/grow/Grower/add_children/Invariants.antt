@@ -11,7 +11,8 @@ invariant-loop-share l = record {
   long : length l.children.items ≡ l.window.span;
   longer : length l.fn.growth.forest.nodes.items ≤ length l.growth.forest.nodes.items;
   out : (register : ℕ) (coded : List Coded) → AreShares l.self.left.now.parts register l.width (symbols_of l.fn.shares.items) coded l.fn.shares.items
-      → BranchesOut l.self.checked.now.spec (numbers_of l.self.links.now) l.self.left.now.parts l.fn.growth.forest (tasks_of l.fn.growth) l.width coded l.growth.forest (tasks_of l.growth) register l.window.low (symbols_of l.fn.shares.items) l.children.items (length l.shares.items);
+      → BranchesOut l.self.checked.now.spec (numbers_of l.self.links.now) l.self.left.now.parts l.fn.growth.forest (tasks_of l.fn.growth) l.width
+      coded l.growth.forest (tasks_of l.growth) register l.window.low (symbols_of l.fn.shares.items) l.children.items (length l.shares.items);
 }
 
 abbrev pub decreases-loop-share : goal.decreases-loop-share

@@ -19,7 +19,8 @@ pub index-requires : goal.index-requires
 index-requires c =
     let ps = c.args.self.now.left.now.parts in
     let p = c.args.path.now in
-    let there = (asks_next c.args.self.now.checked.now.spec (numbers_of c.args.self.now.links.now) ps c.args.forest.now p.node p.width p.rule p.values.items (reverse p.rest.items) c.args.code c.requires.can).there in
+    let there = (asks_next c.args.self.now.checked.now.spec (numbers_of c.args.self.now.links.now) ps c.args.forest.now p.node p.width p.rule
+    p.values.items (reverse p.rest.items) c.args.code c.requires.can).there in
     let v = ps.parts.ok.0 in
     omega (arith, there, v)
 
@@ -27,8 +28,11 @@ pub pass-requires-clause-asks : goal.pass-requires-clause-asks
 pass-requires-clause-asks c =
     let ps = c.args.self.now.left.now.parts in
     let p = c.args.path.now in
-    let next = asks_next c.args.self.now.checked.now.spec (numbers_of c.args.self.now.links.now) ps c.args.forest.now p.node p.width p.rule p.values.items (reverse p.rest.items) c.args.code c.requires.can in
-    let meant : (part_at ps c.args.code.part).meaning ≡ Symbol c.in-Symbol.symbol = ap (λ (q : Part). q.meaning) (get_or_default ps.parts.items c.args.code.part no_part c.index.result.now next.there ∙ sym c.index.ensures) ∙ c.in-Symbol.is in
+    let next = asks_next c.args.self.now.checked.now.spec (numbers_of c.args.self.now.links.now) ps c.args.forest.now p.node p.width p.rule
+    p.values.items (reverse p.rest.items) c.args.code c.requires.can in
+    let meant : (part_at ps c.args.code.part).meaning ≡ Symbol c.in-Symbol.symbol =
+    ap (λ (q : Part). q.meaning) (get_or_default ps.parts.items c.args.code.part no_part c.index.result.now next.there ∙ sym c.index.ensures)
+    ∙ c.in-Symbol.is in
     record { code = is_code ps c.requires.ready.ground.whole c.args.code next.there; declared = next.symbol c.in-Symbol.symbol meant; meaning = meant }
 
 pub returns-in_ok-push-in-Variable-clause-steps : goal.returns-in_ok-push-in-Variable-clause-steps
@@ -37,15 +41,20 @@ returns-in_ok-push-in-Variable-clause-steps c =
     let f = c.args.forest.now in
     let p = c.args.path.now in
     let old = row_task p.node p.width p.rule (p.values.items ++ c.args.code ∷ reverse p.rest.items) ∷ [] in
-    subst (λ cs. StepsBy g f old f (row_task p.node p.width p.rule cs ∷ [])) (value_taken p.values.items c.push.new.self.items (reverse p.rest.items) c.args.code c.in_ok-push-in-Variable.ensures.items)
+    subst (λ cs. StepsBy g f old f (row_task p.node p.width p.rule cs ∷ []))
+    (value_taken p.values.items c.push.new.self.items (reverse p.rest.items) c.args.code c.in_ok-push-in-Variable.ensures.items)
     (steps_none g.checked.now.spec (numbers_of g.links.now) g.left.now.parts f old)
 
 pub returns-in_ok-push-in-Variable-clause-values : goal.returns-in_ok-push-in-Variable-clause-values
 returns-in_ok-push-in-Variable-clause-values c =
     let ps = c.args.self.now.left.now.parts in
     let p = c.args.path.now in
-    let next = asks_next c.args.self.now.checked.now.spec (numbers_of c.args.self.now.links.now) ps c.args.forest.now p.node p.width p.rule p.values.items (reverse p.rest.items) c.args.code c.requires.can in
-    let meant : (part_at ps c.args.code.part).meaning ≡ Variable c.in-Variable.field-0 = ap (λ (q : Part). q.meaning) (get_or_default ps.parts.items c.args.code.part no_part c.index.result.now next.there ∙ sym c.index.ensures) ∙ c.in-Variable.is in
+    let next = asks_next c.args.self.now.checked.now.spec (numbers_of c.args.self.now.links.now) ps c.args.forest.now p.node p.width p.rule
+    p.values.items (reverse p.rest.items) c.args.code c.requires.can in
+    let meant : (part_at ps c.args.code.part).meaning ≡ Variable c.in-Variable.field-0 =
+    ap (λ (q : Part). q.meaning) (get_or_default ps.parts.items c.args.code.part no_part c.index.result.now next.there ∙ sym c.index.ensures)
+    ∙ c.in-Variable.is in
     let P = λ (d : Code). IsValue (part_at ps d.part).meaning (variable_count c.args.self.now.checked.now.spec) in
     subst (All P) (sym c.in_ok-push-in-Variable.ensures.items)
-    (All-push P p.values.items c.args.code c.requires.values (subst (λ m. IsValue m (variable_count c.args.self.now.checked.now.spec)) (sym meant) (next.variable c.in-Variable.field-0 meant)))
+    (All-push P p.values.items c.args.code c.requires.values (subst (λ m. IsValue m (variable_count c.args.self.now.checked.now.spec)) (sym meant)
+    (next.variable c.in-Variable.field-0 meant)))

@@ -19,10 +19,15 @@ returns-clause-steps c =
     let coded = map coded_of c.args.rows.now in
     let shares = c.in_ok-shares.ensures in
     let covers : Covers ns asked low (length window) = subst (Covers ns asked low) (sym c.in_ok-children.ensures.long) c.requires.covers in
-    let kept = subst (λ ms. map coded_of c.in_ok-left.left.items ≡ changed_codes (kept_codes ps register ms) coded) c.deref.ensures.value c.in_ok-left.ensures in
-    switch_steps y ns ps c.requires.ready.ground c.args.work.now.growth.forest c.add.new.self.forest c.add_children.new.growth.forest c.write_switch.new.self _ _ _ c.args.node width register low
+    let kept = subst (λ ms. map coded_of c.in_ok-left.left.items ≡ changed_codes (kept_codes ps register ms) coded) c.deref.ensures.value
+    c.in_ok-left.ensures in
+    switch_steps y ns ps c.requires.ready.ground c.args.work.now.growth.forest c.add.new.self.forest c.add_children.new.growth.forest
+    c.write_switch.new.self _ _ _ c.args.node width register low
     coded c.in_ok-other.other marks asked window c.requires.marks.marked.listed covers c.requires.register
-    (subst (λ xs. Adds c.args.work.now.growth.forest (tasks_of c.args.work.now.growth) c.add.new.self.forest (tasks_of c.add.new.self) width xs c.in_ok-other.other) kept c.in_ok-other.ensures)
-    (subst (λ ks. BranchesOut y ns ps c.add.new.self.forest (tasks_of c.add.new.self) width coded c.add_children.new.growth.forest (tasks_of c.add_children.new.growth) register low ks window 0) shares.symbols
+    (subst (λ xs. Adds c.args.work.now.growth.forest (tasks_of c.args.work.now.growth) c.add.new.self.forest (tasks_of c.add.new.self) width xs
+    c.in_ok-other.other) kept c.in_ok-other.ensures)
+    (subst (λ ks. BranchesOut y ns ps c.add.new.self.forest (tasks_of c.add.new.self) width coded c.add_children.new.growth.forest
+    (tasks_of c.add_children.new.growth) register low ks window 0) shares.symbols
     (c.in_ok-children.ensures.branches register coded (record { symbols = refl; each = shares.each })))
-    (subst (λ xs. WritesSwitch c.add_children.new.growth.forest c.write_switch.new.self c.args.node register low xs c.in_ok-other.other) c.deref-2.ensures.value c.in_ok-write_switch.ensures)
+    (subst (λ xs. WritesSwitch c.add_children.new.growth.forest c.write_switch.new.self c.args.node register low xs c.in_ok-other.other)
+    c.deref-2.ensures.value c.in_ok-write_switch.ensures)

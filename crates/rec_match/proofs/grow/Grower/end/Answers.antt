@@ -16,6 +16,8 @@ returns-clause-steps c =
     let values = p.values.items in
     subst (λ xs. Steps y ns ps f (row_task p.node p.width p.rule (values ++ reverse xs) ∷ []) h []) (sym c.requires.done)
     (subst (λ cs. Steps y ns ps f (row_task p.node p.width p.rule cs ∷ []) h []) (sym (append-nil values))
-    (end_steps y ns ps c.requires.ready.ground f c.add_node.new.self h p.node p.width p.rule c.in_ok-places.places.items values c.in_ok-next.next c.in_ok-next.ensures.adds
-    (subst (λ pl. WritesTry c.add_node.new.self h p.node p.rule pl c.in_ok-next.next) c.deref-2.ensures.value c.in_ok-write_try.ensures) c.requires.can.1.tasks.0.there
+    (end_steps y ns ps c.requires.ready.ground f c.add_node.new.self h p.node p.width p.rule c.in_ok-places.places.items values c.in_ok-next.next
+    c.in_ok-next.ensures.adds
+    (subst (λ pl. WritesTry c.add_node.new.self h p.node p.rule pl c.in_ok-next.next) c.deref-2.ensures.value c.in_ok-write_try.ensures)
+    c.requires.can.1.tasks.0.there
     (ap (code_places ps []) (sym c.deref.ensures.value) ∙ c.in_ok-places.ensures.places)))

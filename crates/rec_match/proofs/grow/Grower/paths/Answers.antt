@@ -34,12 +34,14 @@ path-requires-clause-can c =
     let x = c.loop-row.invariant.trees k.states k.rows k.growing k.left in
     let t = c.loop-row-test.true in
     let long = length-map rows coded_of in
-    let coded : get_or (map coded_of rows) i (coded_of item) ≡ coded_of item = get_or-map coded_of rows i item (coded_of item) t ∙ ap coded_of (sym c.row-item.is) in
+    let coded : get_or (map coded_of rows) i (coded_of item) ≡ coded_of item =
+    get_or-map coded_of rows i item (coded_of item) t ∙ ap coded_of (sym c.row-item.is) in
     record {
       states = x.goes.states;
       rows = get_or k.rows i no_row ∷ [];
       growing = x.goes.growing;
-      left = subst (λ z. AreLeft y ps c.args.width (z ∷ []) (get_or k.rows i no_row ∷ [])) coded (left_at y ns ps c.args.width (map coded_of rows) k.rows i (coded_of item) no_row k.left (omega (arith, t, long)));
+      left = subst (λ z. AreLeft y ps c.args.width (z ∷ []) (get_or k.rows i no_row ∷ [])) coded
+          (left_at y ns ps c.args.width (map coded_of rows) k.rows i (coded_of item) no_row k.left (omega (arith, t, long)));
     }
 
 pub loop-row-preserved : goal.loop-row-preserved
@@ -52,12 +54,16 @@ loop-row-preserved c =
     let item = c.row-item.result in
     let t = c.loop-row-test.true in
     let long = length-map rows coded_of in
-    let coded : get_or (map coded_of rows) i (coded_of item) ≡ coded_of item = get_or-map coded_of rows i item (coded_of item) t ∙ ap coded_of (sym c.row-item.is) in
+    let coded : get_or (map coded_of rows) i (coded_of item) ≡ coded_of item =
+    get_or-map coded_of rows i item (coded_of item) t ∙ ap coded_of (sym c.row-item.is) in
     record {
       given = c.in_ok-path.ensures.given;
       trees = λ s bs grow left.
-          trees_on y ns ps c.args.forest.now c.loop-row.forest c.path.new.forest s c.args.width (map coded_of rows) bs i (coded_of item) no_row c.loop-row.roots.items c.push.new.self.items c.in_ok-path.field-0 (omega (arith, t, long)) left
-          (c.loop-row.invariant.trees s bs grow left) (subst (λ z. AreTrees y ns ps c.loop-row.forest c.args.width (z ∷ []) c.path.new.forest (c.in_ok-path.field-0 ∷ [])) (sym coded) c.in_ok-path.ensures.tree) c.in_ok-push.ensures.items;
+          trees_on y ns ps c.args.forest.now c.loop-row.forest c.path.new.forest s c.args.width (map coded_of rows) bs i (coded_of item) no_row
+          c.loop-row.roots.items c.push.new.self.items c.in_ok-path.field-0 (omega (arith, t, long)) left
+          (c.loop-row.invariant.trees s bs grow left)
+          (subst (λ z. AreTrees y ns ps c.loop-row.forest c.args.width (z ∷ []) c.path.new.forest (c.in_ok-path.field-0 ∷ [])) (sym coded)
+          c.in_ok-path.ensures.tree) c.in_ok-push.ensures.items;
     }
 
 pub returns : goal.returns
@@ -68,4 +74,5 @@ returns c s bs grow left =
     let t = c.loop-row-test.false in
     let long = length-map c.args.rows.now coded_of in
     let rows = left_long y ns ps c.args.width (map coded_of c.args.rows.now) bs left in
-    subst (λ xs. TreesGoOn y ns ps c.args.forest.now s c.args.width xs c.loop-row.forest c.loop-row.roots.items) (take_all c.loop-row.row-index bs (omega (arith, t, long, rows))) (c.loop-row.invariant.trees s bs grow left)
+    subst (λ xs. TreesGoOn y ns ps c.args.forest.now s c.args.width xs c.loop-row.forest c.loop-row.roots.items)
+    (take_all c.loop-row.row-index bs (omega (arith, t, long, rows))) (c.loop-row.invariant.trees s bs grow left)

@@ -12,6 +12,8 @@ use Rattle.rec_match.proofs.grow.Grower.paths.Given as goal
 abbrev pub invariant-loop-row : goal.invariant-loop-row
 invariant-loop-row l = record {
   given : ArePlaces [] (variable_count l.self.checked.now.spec) l.given;
-  trees : (s : ℕ → State) (rows : List Row) → Growing l.self.checked.now.spec (numbers_of l.self.links.now) l.self.left.now.parts l.fn.forest [] s → AreLeft l.self.checked.now.spec l.self.left.now.parts l.width (map coded_of l.rows) rows
-      → TreesGoOn l.self.checked.now.spec (numbers_of l.self.links.now) l.self.left.now.parts l.fn.forest s l.width (take l.row-index rows) l.forest l.roots.items;
+  trees : (s : ℕ → State) (rows : List Row) → Growing l.self.checked.now.spec (numbers_of l.self.links.now) l.self.left.now.parts l.fn.forest [] s
+      → AreLeft l.self.checked.now.spec l.self.left.now.parts l.width (map coded_of l.rows) rows
+      → TreesGoOn l.self.checked.now.spec (numbers_of l.self.links.now) l.self.left.now.parts l.fn.forest s l.width (take l.row-index rows) l.forest
+      l.roots.items;
 }

@@ -17,7 +17,8 @@ pub returns-then-is_empty-clause-steps : goal.returns-then-is_empty-clause-steps
 returns-then-is_empty-clause-steps c =
     let none = eqb-true _ 0 (sym c.is_empty.ensures ∙ c.if-is_empty.true) in
     let v = c.args.rows.ok.0 in
-    empty_steps c.args.self.now.checked.now.spec (numbers_of c.args.self.now.links.now) c.args.self.now.left.now.parts c.args.work.now.growth.forest _ _ c.args.node c.args.width (map coded_of c.args.rows.items)
+    empty_steps c.args.self.now.checked.now.spec (numbers_of c.args.self.now.links.now) c.args.self.now.left.now.parts c.args.work.now.growth.forest _
+    _ c.args.node c.args.width (map coded_of c.args.rows.items)
     (ap (map coded_of) (no_rows c.args.rows.items (omega (arith, none, v)))) refl refl refl
 
 pub switch-requires-clause-some : goal.switch-requires-clause-some
@@ -34,4 +35,5 @@ switch-requires-clause-registers c =
 
 pub switch-requires-clause-codes : goal.switch-requires-clause-codes
 switch-requires-clause-codes c =
-    subst (λ xs. All (λ (row : CodeRow). All (IsCode c.args.self.now.left.now.parts) row.codes.items) xs) (sym c.deref-2.ensures.value) (rows_there c.args.self.now.left.now.parts c.requires.ready.ground.whole c.args.rows.items c.requires.can.1.tasks.0.rows.there)
+    subst (λ xs. All (λ (row : CodeRow). All (IsCode c.args.self.now.left.now.parts) row.codes.items) xs) (sym c.deref-2.ensures.value)
+    (rows_there c.args.self.now.left.now.parts c.requires.ready.ground.whole c.args.rows.items c.requires.can.1.tasks.0.rows.there)

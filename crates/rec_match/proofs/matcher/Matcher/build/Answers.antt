@@ -12,5 +12,7 @@ pub returns : goal.returns
 returns c =
     let y = c.args.checked.now.spec in
     let h = c.in_ok-chains.ensures in
-    matcher-built y c.syntax-kept.ensures.kept c.args.links.now h.symbols_of c.in_ok-chains.chains.nexts.items _ (length y.rules) c.in_ok-own.ensures h.heads h.chains
-    (subst (λ ns. AreSides y h.symbols_of ns c.in_ok-sides.sides.items (length y.rules)) c.deref.ensures.value (c.in_ok-sides.ensures h.symbols_of h.heads)) refl c.in_ok-forest.ensures
+    matcher-built y c.syntax-kept.ensures.kept c.args.links.now h.symbols_of c.in_ok-chains.chains.nexts.items _ (length y.rules) c.in_ok-own.ensures
+    h.heads h.chains
+    (subst (λ ns. AreSides y h.symbols_of ns c.in_ok-sides.sides.items (length y.rules)) c.deref.ensures.value
+    (c.in_ok-sides.ensures h.symbols_of h.heads)) refl c.in_ok-forest.ensures

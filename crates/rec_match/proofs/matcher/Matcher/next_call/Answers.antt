@@ -12,7 +12,8 @@ use Rattle.rec_match.proofs.AnswerLemmas.{declared-number, all-later, is-call, c
 use Rattle.rec_match.proofs.matcher.Matcher.next_call.Goals as goal
 
 pub first_rule-at-requires-clause-symbol : goal.first_rule-at-requires-clause-symbol
-first_rule-at-requires-clause-symbol g c = declared-number (g.B.TermBank.store c.args.bank.now) c.args.self.now c.args.call.symbol c.args.call.number c.requires.ready c.requires.number
+first_rule-at-requires-clause-symbol g c = declared-number (g.B.TermBank.store c.args.bank.now) c.args.self.now c.args.call.symbol c.args.call.number
+    c.requires.ready c.requires.number
 
 pub first_rule-at-requires-clause-later : goal.first_rule-at-requires-clause-later
 first_rule-at-requires-clause-later g c = all-later (g.B.TermBank.store c.args.bank.now) c.args.self.now c.requires.ready
@@ -21,7 +22,8 @@ pub find_rule-requires-clause-held : goal.find_rule-requires-clause-held
 find_rule-requires-clause-held g c =
     let w = g.B.TermBank.store c.args.bank.now in
     let h = c.requires.appl in
-    let pushed = c.in_ok-push_arguments.ensures.pushes h.args (argument_list w c.args.call.term c.args-2.result c.args.call.symbol h c.args-2.ensures) (subst (AllHeld w) (sym c.requires.work) (AllHeld-nil w)) in
+    let pushed = c.in_ok-push_arguments.ensures.pushes h.args (argument_list w c.args.call.term c.args-2.result c.args.call.symbol h c.args-2.ensures)
+    (subst (AllHeld w) (sym c.requires.work) (AllHeld-nil w)) in
     pushed.0
 
 pub find_rule-requires-clause-can : goal.find_rule-requires-clause-can
@@ -30,10 +32,12 @@ find_rule-requires-clause-can g c =
     let m = c.args.self.now in
     let u = c.args.call.term in
     let h = c.requires.appl in
-    let pushed = c.in_ok-push_arguments.ensures.pushes h.args (argument_list w u c.args-2.result c.args.call.symbol h c.args-2.ensures) (subst (AllHeld w) (sym c.requires.work) (AllHeld-nil w)) in
+    let pushed = c.in_ok-push_arguments.ensures.pushes h.args (argument_list w u c.args-2.result c.args.call.symbol h c.args-2.ensures)
+    (subst (AllHeld w) (sym c.requires.work) (AllHeld-nil w)) in
     let are : held_trees w c.push_arguments.new.registers.items ≡ to_list h.args = pushed.1 ∙ ap (λ xs. held_trees w xs ++ to_list h.args) c.requires.work in
     let call = is-call c.requires.ready.spec w m c.requires.ready.ready u c.args.call.symbol c.args.call.number h c.requires.number c.requires.bare in
-    can-find-there w m c.requires.ready u c.args.call.number c.arity_of-count.result c.args.from c.first_rule-at.result h.args call (arity-is w u c.args.call.symbol h c.arity_of-count.result c.arity_of-count.ensures) c.first_rule-at.ensures c.push_arguments.new.registers.items are
+    can-find-there w m c.requires.ready u c.args.call.number c.arity_of-count.result c.args.from c.first_rule-at.result h.args call
+    (arity-is w u c.args.call.symbol h c.arity_of-count.result c.arity_of-count.ensures) c.first_rule-at.ensures c.push_arguments.new.registers.items are
 
 pub returns-in_default-clause-answers : goal.returns-in_default-clause-answers
 returns-in_default-clause-answers g c = λ y ready. (
@@ -42,11 +46,14 @@ returns-in_default-clause-answers g c = λ y ready. (
       let m = c.args.self.now in
       let u = c.args.call.term in
       let h = c.requires.appl in
-      let pushed = c.in_ok-push_arguments.ensures.pushes h.args (argument_list w u c.args-2.result c.args.call.symbol h c.args-2.ensures) (subst (AllHeld w) (sym c.requires.work) (AllHeld-nil w)) in
+      let pushed = c.in_ok-push_arguments.ensures.pushes h.args (argument_list w u c.args-2.result c.args.call.symbol h c.args-2.ensures)
+      (subst (AllHeld w) (sym c.requires.work) (AllHeld-nil w)) in
       let are : held_trees w c.push_arguments.new.registers.items ≡ to_list h.args = pushed.1 ∙ ap (λ xs. held_trees w xs ++ to_list h.args) c.requires.work in
       let call = is-call y w m ready u c.args.call.symbol c.args.call.number h c.requires.number c.requires.bare in
-      answer-none y w m ready u c.args.call.number c.args.from c.first_rule-at.result h.args call c.first_rule-at.ensures c.push_arguments.new.registers.items are []
-      (subst (FindsOn w m (length c.push_arguments.new.registers.items - c.arity_of-count.result) c.first_rule-at.result c.push_arguments.new.registers.items c.find_rule.new.work.items) c.in_default.is c.in_ok-hit.ensures.finds).0
+      answer-none y w m ready u c.args.call.number c.args.from c.first_rule-at.result h.args call c.first_rule-at.ensures
+      c.push_arguments.new.registers.items are []
+      (subst (FindsOn w m (length c.push_arguments.new.registers.items - c.arity_of-count.result) c.first_rule-at.result
+      c.push_arguments.new.registers.items c.find_rule.new.work.items) c.in_default.is c.in_ok-hit.ensures.finds).0
       ),
   c.requires.empty,
 )
@@ -59,12 +66,17 @@ settle-requires g c =
     let hit = c.in-Some.hit in
     let registers = c.push_arguments.new.registers.items in
     let count = c.arity_of-count.result in
-    let pushed = c.in_ok-push_arguments.ensures.pushes h.args (argument_list w c.args.call.term c.args-2.result c.args.call.symbol h c.args-2.ensures) (subst (AllHeld w) (sym c.requires.work) (AllHeld-nil w)) in
+    let pushed = c.in_ok-push_arguments.ensures.pushes h.args (argument_list w c.args.call.term c.args-2.result c.args.call.symbol h c.args-2.ensures)
+    (subst (AllHeld w) (sym c.requires.work) (AllHeld-nil w)) in
     let are : held_trees w registers ≡ to_list h.args = pushed.1 ∙ ap (λ xs. held_trees w xs ++ to_list h.args) c.requires.work in
     let long = arguments-long w h.args count registers (arity-is w c.args.call.term c.args.call.symbol h count c.arity_of-count.ensures) are in
-    let finds = subst (FindsOn w m (length registers - count) c.first_rule-at.result registers c.find_rule.new.work.items) c.in-Some.is c.in_ok-hit.ensures.finds in
+    let finds = subst (FindsOn w m (length registers - count) c.first_rule-at.result registers c.find_rule.new.work.items) c.in-Some.is
+    c.in_ok-hit.ensures.finds in
     let zero : length registers - count ≡ 0 = omega (arith, long) in
-    record { there = subst (λ k. StandAbove m.forest k count c.find_rule.new.work.items hit.values) zero (stand-above-fewer (length registers - count) c.find_rule.new.work.items m.forest (length registers) count hit.values (omega (arith, long)) finds.0) }
+    record {
+      there = subst (λ k. StandAbove m.forest k count c.find_rule.new.work.items hit.values) zero
+          (stand-above-fewer (length registers - count) c.find_rule.new.work.items m.forest (length registers) count hit.values (omega (arith, long)) finds.0);
+    }
 
 pub slice_bounds-extend_from_slice-count : goal.slice_bounds-extend_from_slice-count
 slice_bounds-extend_from_slice-count g c =
@@ -75,12 +87,14 @@ slice_bounds-extend_from_slice-count g c =
     let registers = c.push_arguments.new.registers.items in
     let found = c.find_rule.new.work.items in
     let count = c.arity_of-count.result in
-    let pushed = c.in_ok-push_arguments.ensures.pushes h.args (argument_list w c.args.call.term c.args-2.result c.args.call.symbol h c.args-2.ensures) (subst (AllHeld w) (sym c.requires.work) (AllHeld-nil w)) in
+    let pushed = c.in_ok-push_arguments.ensures.pushes h.args (argument_list w c.args.call.term c.args-2.result c.args.call.symbol h c.args-2.ensures)
+    (subst (AllHeld w) (sym c.requires.work) (AllHeld-nil w)) in
     let are : held_trees w registers ≡ to_list h.args = pushed.1 ∙ ap (λ xs. held_trees w xs ++ to_list h.args) c.requires.work in
     let long = arguments-long w h.args count registers (arity-is w c.args.call.term c.args.call.symbol h count c.arity_of-count.ensures) are in
     let finds = subst (FindsOn w m (length registers - count) c.first_rule-at.result registers found) c.in-Some.is c.in_ok-hit.ensures.finds in
     let within = above-within (length registers - count) found m.forest (length registers) hit.values finds.0 in
-    let longer = settled-long count found (values_among m.forest 0 found hit.values) c.settle.new.work.items (omega (arith, long, within)) c.in_ok-settle.ensures in
+    let longer = settled-long count found (values_among m.forest 0 found hit.values) c.settle.new.work.items (omega (arith, long, within))
+    c.in_ok-settle.ensures in
     subst (λ (xs : List Term). count ≤ length xs) (sym c.deref.ensures.value) longer
 
 pub slice_bounds-extend_from_slice-start : goal.slice_bounds-extend_from_slice-start
@@ -92,12 +106,14 @@ slice_bounds-extend_from_slice-start g c =
     let registers = c.push_arguments.new.registers.items in
     let found = c.find_rule.new.work.items in
     let count = c.arity_of-count.result in
-    let pushed = c.in_ok-push_arguments.ensures.pushes h.args (argument_list w c.args.call.term c.args-2.result c.args.call.symbol h c.args-2.ensures) (subst (AllHeld w) (sym c.requires.work) (AllHeld-nil w)) in
+    let pushed = c.in_ok-push_arguments.ensures.pushes h.args (argument_list w c.args.call.term c.args-2.result c.args.call.symbol h c.args-2.ensures)
+    (subst (AllHeld w) (sym c.requires.work) (AllHeld-nil w)) in
     let are : held_trees w registers ≡ to_list h.args = pushed.1 ∙ ap (λ xs. held_trees w xs ++ to_list h.args) c.requires.work in
     let long = arguments-long w h.args count registers (arity-is w c.args.call.term c.args.call.symbol h count c.arity_of-count.ensures) are in
     let finds = subst (FindsOn w m (length registers - count) c.first_rule-at.result registers found) c.in-Some.is c.in_ok-hit.ensures.finds in
     let within = above-within (length registers - count) found m.forest (length registers) hit.values finds.0 in
-    let longer = settled-long count found (values_among m.forest 0 found hit.values) c.settle.new.work.items (omega (arith, long, within)) c.in_ok-settle.ensures in
+    let longer = settled-long count found (values_among m.forest 0 found hit.values) c.settle.new.work.items (omega (arith, long, within))
+    c.in_ok-settle.ensures in
     subst (λ (xs : List Term). count ≤ length xs) (sym c.deref.ensures.value) longer
 
 pub returns-clause-answers : goal.returns-clause-answers
@@ -111,7 +127,8 @@ returns-clause-answers g c = λ y ready.
     let found = c.find_rule.new.work.items in
     let settled = c.settle.new.work.items in
     let count = c.arity_of-count.result in
-    let pushed = c.in_ok-push_arguments.ensures.pushes h.args (argument_list w u c.args-2.result c.args.call.symbol h c.args-2.ensures) (subst (AllHeld w) (sym c.requires.work) (AllHeld-nil w)) in
+    let pushed = c.in_ok-push_arguments.ensures.pushes h.args (argument_list w u c.args-2.result c.args.call.symbol h c.args-2.ensures)
+    (subst (AllHeld w) (sym c.requires.work) (AllHeld-nil w)) in
     let are : held_trees w registers ≡ to_list h.args = pushed.1 ∙ ap (λ xs. held_trees w xs ++ to_list h.args) c.requires.work in
     let long = arguments-long w h.args count registers (arity-is w u c.args.call.symbol h count c.arity_of-count.ensures) are in
     let call = is-call y w m ready u c.args.call.symbol c.args.call.number h c.requires.number c.requires.bare in
@@ -119,6 +136,9 @@ returns-clause-answers g c = λ y ready.
     let zero : length registers - count ≡ 0 = omega (arith, long) in
     let within = above-within (length registers - count) found m.forest (length registers) hit.values finds.0 in
     let values = values_among m.forest (length registers - count) found hit.values in
-    let rest : drop count settled ≡ values = settled-rest count found (values_among m.forest 0 found hit.values) settled (omega (arith, long, within)) c.in_ok-settle.ensures ∙ ap (λ k. values_among m.forest k found hit.values) (sym zero) in
-    answer-some y w m ready u c.args.call.number c.args.from c.first_rule-at.result h.args call c.first_rule-at.ensures registers are c.extend_from_slice.new.self.items values hit.rule finds.1
-    (c.in_ok-extend_from_slice.ensures.ok ∙ ap (λ xs. xs ++ take (length c.deref.result.now - count) (drop count c.deref.result.now)) c.requires.empty ∙ rest_is c.deref.result.now settled count c.deref.ensures.value ∙ rest)
+    let rest : drop count settled ≡ values = settled-rest count found (values_among m.forest 0 found hit.values) settled (omega (arith, long, within))
+    c.in_ok-settle.ensures ∙ ap (λ k. values_among m.forest k found hit.values) (sym zero) in
+    answer-some y w m ready u c.args.call.number c.args.from c.first_rule-at.result h.args call c.first_rule-at.ensures registers are
+    c.extend_from_slice.new.self.items values hit.rule finds.1
+    (c.in_ok-extend_from_slice.ensures.ok ∙ ap (λ xs. xs ++ take (length c.deref.result.now - count) (drop count c.deref.result.now)) c.requires.empty
+    ∙ rest_is c.deref.result.now settled count c.deref.ensures.value ∙ rest)

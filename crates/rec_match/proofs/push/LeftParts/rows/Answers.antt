@@ -19,7 +19,8 @@ loop-rule-init c =
     let heads = c.args.chains.now.heads.items in
     let counted = h.chains.counted in
     let at : c.index-rule.result.now ≡ get_or heads k 0 = read heads k c.index-rule.result.now c.index-rule.ensures (omega (arith, lt, counted)) in
-    rows_first c.args.checked.now.spec c.rules-count.ensures.kept k lt c.args.self.now.parts (map coded_of c.new-rows.result.items) h.symbols_of h.heads c.index-rule.result.now (ap (map coded_of) c.new-rows.ensures.items)
+    rows_first c.args.checked.now.spec c.rules-count.ensures.kept k lt c.args.self.now.parts (map coded_of c.new-rows.result.items) h.symbols_of
+    h.heads c.index-rule.result.now (ap (map coded_of) c.new-rows.ensures.items)
     (subst (IsNext h.symbols_of k 0) (sym at) (h.chains.heads_next k lt))
 
 pub index-requires : goal.index-requires
@@ -57,7 +58,9 @@ loop-rule-smaller c =
     let nexts_long = h.chains.long in
     let counted = h.heads.counted in
     let at = read nexts c.loop-rule.rule c.index-rule-in-loop-rule.result.now c.index-rule-in-loop-rule.ensures (omega (arith, t, long, nexts_long, counted)) in
-    let after = (chain_on c.args.checked.now.spec c.rules-count.ensures.kept c.args.symbol c.requires.symbol c.args.self.now.parts (map coded_of c.loop-rule.rows.items) h.symbols_of c.args.chains.now.heads.items nexts _ c.loop-rule.rule h.heads h.chains c.loop-rule.invariant (omega (arith, t, long))).after in
+    let after = (chain_on c.args.checked.now.spec c.rules-count.ensures.kept c.args.symbol c.requires.symbol c.args.self.now.parts
+    (map coded_of c.loop-rule.rows.items) h.symbols_of c.args.chains.now.heads.items nexts _ c.loop-rule.rule h.heads h.chains
+    c.loop-rule.invariant (omega (arith, t, long))).after in
     omega (arith, t, long, at, after)
 
 pub loop-rule-preserved : goal.loop-rule-preserved
@@ -75,14 +78,19 @@ loop-rule-preserved c =
     let numbers_long = c.requires.parts.long in
     let at = read nexts c.loop-rule.rule c.index-rule-in-loop-rule.result.now c.index-rule-in-loop-rule.ensures (omega (arith, t, long, nexts_long, counted)) in
     let part = read numbers c.loop-rule.rule c.index.result.now c.index.ensures (omega (arith, t, long, numbers_long)) in
-    let next = chain_on y c.rules-count.ensures.kept c.args.symbol c.requires.symbol ps (map coded_of c.loop-rule.rows.items) h.symbols_of c.args.chains.now.heads.items nexts _ c.loop-rule.rule h.heads h.chains c.loop-rule.invariant lt in
+    let next = chain_on y c.rules-count.ensures.kept c.args.symbol c.requires.symbol ps (map coded_of c.loop-rule.rows.items) h.symbols_of
+    c.args.chains.now.heads.items nexts _ c.loop-rule.rule h.heads h.chains c.loop-rule.invariant lt in
     let codes = c.in_ok-codes.ensures ∙ ap (λ n. numbered_from 0 (arguments_at ps n)) part in
-    rows_next y c.rules-count.ensures.kept c.args.symbol c.requires.symbol ps numbers (map coded_of c.loop-rule.rows.items) (map coded_of c.push.new.self.items) h.symbols_of c.loop-rule.rule c.index-rule-in-loop-rule.result.now c.requires.parts h.heads c.loop-rule.invariant lt
-    (ap (map coded_of) c.in_ok-push.ensures.items ∙ map-append coded_of c.loop-rule.rows.items _ ∙ ap (λ cs. map coded_of c.loop-rule.rows.items ++ (let r : Coded = record { number = c.loop-rule.rule; codes = cs } in r) ∷ []) codes)
+    rows_next y c.rules-count.ensures.kept c.args.symbol c.requires.symbol ps numbers (map coded_of c.loop-rule.rows.items)
+    (map coded_of c.push.new.self.items) h.symbols_of c.loop-rule.rule c.index-rule-in-loop-rule.result.now c.requires.parts h.heads
+    c.loop-rule.invariant lt
+    (ap (map coded_of) c.in_ok-push.ensures.items ∙ map-append coded_of c.loop-rule.rows.items _
+    ∙ ap (λ cs. map coded_of c.loop-rule.rows.items ++ (let r : Coded = record { number = c.loop-rule.rule; codes = cs } in r) ∷ []) codes)
     (subst (IsNext h.symbols_of c.args.symbol (suc c.loop-rule.rule)) (sym at) next)
 
 pub returns : goal.returns
 returns c =
     let long = pair-long (IsLetterRule c.args.checked.now.spec) c.rules-count.result.now c.args.checked.now.spec.rules c.rules-count.ensures.letters in
     let t = c.loop-rule-test.false in
-    rows_all c.args.checked.now.spec c.rules-count.ensures.kept c.args.symbol c.requires.symbol c.args.self.now.parts (map coded_of c.loop-rule.rows.items) c.loop-rule.rule c.loop-rule.invariant (omega (arith, t, long))
+    rows_all c.args.checked.now.spec c.rules-count.ensures.kept c.args.symbol c.requires.symbol c.args.self.now.parts
+    (map coded_of c.loop-rule.rows.items) c.loop-rule.rule c.loop-rule.invariant (omega (arith, t, long))

@@ -21,8 +21,10 @@ invariant_of-self-clause-idle g c k flag =
     let within = c.loop-place-test.true in
     let old = c.index-in-loop-place.result.now in
     let kept : c.kept-set.result ≡ kept_by (is_held w) (blank_entry place) (get_or sets.items place old) =
-    c.kept-set.ensures ∙ ap (λ (b : Entry). kept_by (is_held w) b old) c.blank.ensures ∙ ap (kept_by (is_held w) (blank_entry place)) c.index-in-loop-place.ensures in
-    ap (λ (s : Set). look_up (slice_set sets.items place s) count k) kept ∙ kept-none w sets.items count k place _ (c.loop-place.self.counted (omega arith)).0 (omega arith) (c.loop-place.self.idle k flag)
+    c.kept-set.ensures ∙ ap (λ (b : Entry). kept_by (is_held w) b old) c.blank.ensures
+    ∙ ap (kept_by (is_held w) (blank_entry place)) c.index-in-loop-place.ensures in
+    ap (λ (s : Set). look_up (slice_set sets.items place s) count k) kept
+    ∙ kept-none w sets.items count k place _ (c.loop-place.self.counted (omega arith)).0 (omega arith) (c.loop-place.self.idle k flag)
 
 pub loop-place-preserved : goal.loop-place-preserved
 loop-place-preserved g c =
@@ -41,7 +43,8 @@ loop-place-preserved g c =
     let many = (c.loop-place.self.counted (omega arith)).0 in
     let old = c.index-in-loop-place.result.now in
     let kept : c.kept-set.result ≡ kept_by (is_held w) (blank_entry place) (get_or sets.items place old) =
-    c.kept-set.ensures ∙ ap (λ (b : Entry). kept_by (is_held w) b old) c.blank.ensures ∙ ap (kept_by (is_held w) (blank_entry place)) c.index-in-loop-place.ensures in
+    c.kept-set.ensures ∙ ap (λ (b : Entry). kept_by (is_held w) b old) c.blank.ensures
+    ∙ ap (kept_by (is_held w) (blank_entry place)) c.index-in-loop-place.ensures in
     let inside : block_of place ≡ c.args.block = omega arith in
     record {
       len = c.loop-place.invariant.len;
@@ -88,4 +91,5 @@ returns-clause-held g c k here =
     let counted = sets.ok.0 in
     let past = c.loop-place-test.false in
     let now_here : block_of (place_of count k) ≡ c.args.block = ap (λ (n : ℕ). block_of (place_of n k)) c.loop-place.invariant.count ∙ here in
-    all-held (g.B.TermBank.store c.args.bank.now) c.args.self.now.sets.items sets.items c.args.self.now.count count place k (λ le. omega (arith, le, now_here)) (c.loop-place.invariant.held k now_here) (c.loop-place.invariant.as_before k)
+    all-held (g.B.TermBank.store c.args.bank.now) c.args.self.now.sets.items sets.items c.args.self.now.count count place k (λ le.
+    omega (arith, le, now_here)) (c.loop-place.invariant.held k now_here) (c.loop-place.invariant.as_before k)

@@ -8,8 +8,10 @@ abbrev pub invariant-loop-place : goal.invariant-loop-place
 invariant-loop-place g l = record {
   len : vec_len l.self.sets ≡ vec_len l.fn.self.sets;
   count : l.self.count ≡ l.fn.self.count;
-  held : (k : ℕ) → block_of (place_of l.self.count k) ≡ l.block → place_of l.self.count k < l.place → look_up l.self.sets.items l.self.count k ≡ held_pair (g.B.TermBank.store l.bank) k (look_up l.fn.self.sets.items l.fn.self.count k);
+  held : (k : ℕ) → block_of (place_of l.self.count k) ≡ l.block → place_of l.self.count k < l.place
+      → look_up l.self.sets.items l.self.count k ≡ held_pair (g.B.TermBank.store l.bank) k (look_up l.fn.self.sets.items l.fn.self.count k);
   as_before : (k : ℕ) → l.place ≤ place_of l.self.count k → look_up l.self.sets.items l.self.count k ≡ look_up l.fn.self.sets.items l.fn.self.count k;
   others : (k : ℕ) → block_of (place_of l.self.count k) ≢ l.block → look_up l.self.sets.items l.self.count k ≡ look_up l.fn.self.sets.items l.fn.self.count k;
-  free : l.left ≡ false → (k : ℕ) → block_of (place_of l.self.count k) ≡ l.block → place_of l.self.count k < l.place → look_up l.self.sets.items l.self.count k ≡ None;
+  free : l.left ≡ false → (k : ℕ) → block_of (place_of l.self.count k) ≡ l.block → place_of l.self.count k < l.place
+      → look_up l.self.sets.items l.self.count k ≡ None;
 }

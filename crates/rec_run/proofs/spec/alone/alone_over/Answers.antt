@@ -22,7 +22,8 @@ returns-in-Ok-clause-output g c =
     let n = c.args.settings.options.steps in
     let w = g.B.TermBank.store c.args.bank in
     let r = c.in-Ok.reading in
-    ends_by (IsDueFor shown n) (job_lines w shown n) _ r (unbounded c.answer.result.end) _ _ (due_for w shown n _ r (c.in-Ok.ensures.due w)) c.answer.ensures.ends c.answer.ensures.ok
+    ends_by (IsDueFor shown n) (job_lines w shown n) _ r (unbounded c.answer.result.end) _ _ (due_for w shown n _ r (c.in-Ok.ensures.due w))
+    c.answer.ensures.ends c.answer.ensures.ok
 
 pub returns-in-Ok-clause-place : goal.returns-in-Ok-clause-place
 returns-in-Ok-clause-place g c =
@@ -30,7 +31,8 @@ returns-in-Ok-clause-place g c =
     let n = c.args.settings.options.steps in
     let w = g.B.TermBank.store c.args.bank in
     let r = c.in-Ok.reading in
-    placed_by (IsDueFor shown n) (job_lines w shown n) _ r (unbounded c.answer.result.end) _ (due_for w shown n _ r (c.in-Ok.ensures.due w)) c.answer.ensures.place
+    placed_by (IsDueFor shown n) (job_lines w shown n) _ r (unbounded c.answer.result.end) _ (due_for w shown n _ r (c.in-Ok.ensures.due w))
+    c.answer.ensures.place
 
 pub returns-in-Ok-clause-fault : goal.returns-in-Ok-clause-fault
 returns-in-Ok-clause-fault g c =
@@ -38,7 +40,8 @@ returns-in-Ok-clause-fault g c =
     let n = c.args.settings.options.steps in
     let w = g.B.TermBank.store c.args.bank in
     let r = c.in-Ok.reading in
-    breaks_by (IsDueFor shown n) (job_lines w shown n) (one_due_for shown n) _ r (unbounded c.answer.result.end) _ _ (due_for w shown n _ r (c.in-Ok.ensures.due w)) c.answer.ensures.err
+    breaks_by (IsDueFor shown n) (job_lines w shown n) (one_due_for shown n) _ r (unbounded c.answer.result.end) _ _
+    (due_for w shown n _ r (c.in-Ok.ensures.due w)) c.answer.ensures.err
 
 pub returns-in-Ok-clause-cells : goal.returns-in-Ok-clause-cells
 returns-in-Ok-clause-cells g c = refused_map _ c.answer.ensures.cells c.in-Ok.ensures.refused
@@ -51,7 +54,8 @@ returns-in-Ok-clause-unused g c = refused_map _ c.answer.ensures.unused c.in-Ok.
 
 pub returns-in-Err-clause-fault : goal.returns-in-Err-clause-fault
 returns-in-Err-clause-fault g c =
-    breaks_unwritten (IsDueFor (shown_of c.args.settings) c.args.settings.options.steps) _ c.in-Err.fault _ (reports_reading c.in-Err.fault c.in-Err.ensures.fault)
+    breaks_unwritten (IsDueFor (shown_of c.args.settings) c.args.settings.options.steps) _ c.in-Err.fault _
+    (reports_reading c.in-Err.fault c.in-Err.ensures.fault)
 
 pub returns-in-Err-clause-room : goal.returns-in-Err-clause-room
 returns-in-Err-clause-room g c = has_room_exhausts _ _ c.in-Err.fault (reading_has_room c.in-Err.fault c.in-Err.ensures.fault)

@@ -23,7 +23,8 @@ returns-in-Ok-clause-output g c =
     let n = c.args.settings.options.steps in
     let w = g.B.TermBank.store c.read_both_from.new.bank in
     let r = c.in-Ok.reading in
-    ends_by (IsDueFor shown n) (job_lines w shown n) _ r (unbounded c.answer.result.end) _ _ (due_for w shown n _ r (c.in-Ok.ensures.due)) c.answer.ensures.ends c.answer.ensures.ok
+    ends_by (IsDueFor shown n) (job_lines w shown n) _ r (unbounded c.answer.result.end) _ _ (due_for w shown n _ r (c.in-Ok.ensures.due))
+    c.answer.ensures.ends c.answer.ensures.ok
 
 pub returns-in-Ok-clause-place : goal.returns-in-Ok-clause-place
 returns-in-Ok-clause-place g c =
@@ -31,7 +32,8 @@ returns-in-Ok-clause-place g c =
     let n = c.args.settings.options.steps in
     let w = g.B.TermBank.store c.read_both_from.new.bank in
     let r = c.in-Ok.reading in
-    placed_by (IsDueFor shown n) (job_lines w shown n) _ r (unbounded c.answer.result.end) _ (due_for w shown n _ r (c.in-Ok.ensures.due)) c.answer.ensures.place
+    placed_by (IsDueFor shown n) (job_lines w shown n) _ r (unbounded c.answer.result.end) _ (due_for w shown n _ r (c.in-Ok.ensures.due))
+    c.answer.ensures.place
 
 pub returns-in-Ok-clause-fault : goal.returns-in-Ok-clause-fault
 returns-in-Ok-clause-fault g c =
@@ -39,7 +41,8 @@ returns-in-Ok-clause-fault g c =
     let n = c.args.settings.options.steps in
     let w = g.B.TermBank.store c.read_both_from.new.bank in
     let r = c.in-Ok.reading in
-    breaks_by (IsDueFor shown n) (job_lines w shown n) (one_due_for shown n) _ r (unbounded c.answer.result.end) _ _ (due_for w shown n _ r (c.in-Ok.ensures.due)) c.answer.ensures.err
+    breaks_by (IsDueFor shown n) (job_lines w shown n) (one_due_for shown n) _ r (unbounded c.answer.result.end) _ _
+    (due_for w shown n _ r (c.in-Ok.ensures.due)) c.answer.ensures.err
 
 pub returns-in-Ok-clause-cells : goal.returns-in-Ok-clause-cells
 returns-in-Ok-clause-cells g c = refused_map _ c.answer.ensures.cells c.in-Ok.ensures.refused
@@ -53,7 +56,8 @@ returns-in-Ok-clause-terms_read g c = on_ok_any (unbounded c.answer.result.end) 
 pub returns-in-Ok-clause-room : goal.returns-in-Ok-clause-room
 returns-in-Ok-clause-room g c =
     let ended = c.answer.result in
-    IfErr-weaker (unbounded ended.end) _ _ (exhausts_in (g.B.TermBank.store c.args.bank) (g.B.TermBank.store ended.bank) ended.needed.items) c.answer.ensures.room
+    IfErr-weaker (unbounded ended.end) _ _ (exhausts_in (g.B.TermBank.store c.args.bank) (g.B.TermBank.store ended.bank) ended.needed.items)
+    c.answer.ensures.room
 
 pub returns-in-Ok-clause-unused : goal.returns-in-Ok-clause-unused
 returns-in-Ok-clause-unused g c = refused_map₂ _ (λ refused same. c.answer.ensures.unused refused ∙ same) c.in-Ok.ensures.refused c.in-Ok.ensures.unused
@@ -62,7 +66,8 @@ pub returns-in-Err-clause-fault : goal.returns-in-Err-clause-fault
 returns-in-Err-clause-fault g c =
     let old = g.B.TermBank.store c.args.bank in
     let new = g.B.TermBank.store c.read_both_from.new.bank in
-    breaks_unwritten (IsDueFor (shown_of c.args.settings) c.args.settings.options.steps) _ c.in-Err.fault _ (reports_unwritten old new c.in-Err.fault c.in-Err.ensures.fault)
+    breaks_unwritten (IsDueFor (shown_of c.args.settings) c.args.settings.options.steps) _ c.in-Err.fault _
+    (reports_unwritten old new c.in-Err.fault c.in-Err.ensures.fault)
 
 pub returns-in-Err-clause-room : goal.returns-in-Err-clause-room
 returns-in-Err-clause-room g c =
@@ -71,4 +76,5 @@ returns-in-Err-clause-room g c =
     fills_in old new _ c.in-Err.fault (room_unwritten old new c.in-Err.fault c.in-Err.ensures.fault) c.new.ensures.items
 
 pub returns-in-Ok-clause-read_cause : goal.returns-in-Ok-clause-read_cause
-returns-in-Ok-clause-read_cause g c = reads_over c.read_both_from.new.spec c.read_both_from.new.terms (unbounded c.answer.result.end) c.in-Ok.ensures.cause c.answer.ensures.no_reader
+returns-in-Ok-clause-read_cause g c = reads_over c.read_both_from.new.spec c.read_both_from.new.terms (unbounded c.answer.result.end)
+    c.in-Ok.ensures.cause c.answer.ensures.no_reader

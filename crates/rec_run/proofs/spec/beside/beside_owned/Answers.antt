@@ -13,7 +13,8 @@ pub beside_over-requires-clause-limit : goal.beside_over-requires-clause-limit
 beside_over-requires-clause-limit g c = c.in-Ok.ensures.empty.3
 
 pub returns-in-Err-clause-fault : goal.returns-in-Err-clause-fault
-returns-in-Err-clause-fault g c = breaks_unwritten (IsDueFor (shown_of c.args.settings) c.args.settings.options.steps) _ c.in-Err.fault _ (rw c.in-Err.ensures.fault refl)
+returns-in-Err-clause-fault g c = breaks_unwritten (IsDueFor (shown_of c.args.settings) c.args.settings.options.steps) _ c.in-Err.fault _
+    (rw c.in-Err.ensures.fault refl)
 
 pub returns-in-Err-clause-cells : goal.returns-in-Err-clause-cells
 returns-in-Err-clause-cells g c = refused_any _ (memory_has_room c.in-Err.fault c.in-Err.ensures.fault)

@@ -21,14 +21,16 @@ returns-clause-ok g c =
 pub returns-clause-err : goal.returns-clause-err
 returns-clause-err g c =
     let text = (run_due (g.B.TermBank.store c.args.bank) (shown_of c.args.settings) c.args.settings.options.steps c.args.reading).text in
-    err_behind _ _ _ text _ c.write_due-written.result.written c.end_run.result c.end_run.ensures.ends c.write_due-written.ensures.ok c.write_due-written.ensures.err
+    err_behind _ _ _ text _ c.write_due-written.result.written c.end_run.result c.end_run.ensures.ends c.write_due-written.ensures.ok
+    c.write_due-written.ensures.err
 
 pub returns-clause-room : goal.returns-clause-room
 returns-clause-room g c =
     let left = c.write_due-written.result in
     let P = RoomExhausts (g.B.TermBank.store left.bank) left.needed.items in
     told_err P c.end_run.result
-    (fault_behind _ _ _ (λ fault. P (unbounded_fault fault)) tt left.written c.end_run.result c.end_run.ensures.ends (err_told P left.written c.write_due-written.ensures.room))
+    (fault_behind _ _ _ (λ fault. P (unbounded_fault fault)) tt left.written c.end_run.result c.end_run.ensures.ends
+    (err_told P left.written c.write_due-written.ensures.room))
 
 pub returns-clause-cells : goal.returns-clause-cells
 returns-clause-cells g c = λ refused.
@@ -36,7 +38,8 @@ returns-clause-cells g c = λ refused.
 
 pub returns-clause-bounded : goal.returns-clause-bounded
 returns-clause-bounded g c =
-    fault_behind _ _ _ (IsBounded c.args.settings.depth) tt c.write_due-written.result.written c.end_run.result c.end_run.ensures.ends c.write_due-written.ensures.bounded
+    fault_behind _ _ _ (IsBounded c.args.settings.depth) tt c.write_due-written.result.written c.end_run.result c.end_run.ensures.ends
+    c.write_due-written.ensures.bounded
 
 pub returns-clause-no_reader : goal.returns-clause-no_reader
 returns-clause-no_reader g c =

@@ -10,7 +10,8 @@ use Rattle.rec_run.proofs.spec.due.write_due.Goals as goal
 pub returns-in-Refused-clause-room : goal.returns-in-Refused-clause-room
 returns-in-Refused-clause-room g c =
     told_err (RoomExhausts _ _) c.refuse.result
-    (IfErr-weaker c.refuse.result _ _ (λ f e. has_room_exhausts _ _ (unbounded_fault f) (room_told f (write-within c.args.settings.depth f e).0)) c.refuse.ensures.write)
+    (IfErr-weaker c.refuse.result _ _ (λ f e. has_room_exhausts _ _ (unbounded_fault f) (room_told f (write-within c.args.settings.depth f e).0))
+    c.refuse.ensures.write)
 
 pub returns-in-Refused-clause-cells : goal.returns-in-Refused-clause-cells
 returns-in-Refused-clause-cells g c = λ refused. IfErr-weaker c.refuse.result _ _ (λ f e. (write-within c.args.settings.depth f e).0) c.refuse.ensures.write

@@ -12,7 +12,8 @@ use Rattle.rec_run.proofs.spec.evaluated.write_evaluated.Goals as goal
 
 pub returns-in-Err-clause-err : goal.returns-in-Err-clause-err
 returns-in-Err-clause-err g c =
-    stops_unwritten (lines c.args.checked.spec (given_by (g.B.TermBank.store c.args.bank) c.args.list) (shown_of c.args.settings) c.args.settings.options.steps) (g.W.Write.contents c.args.out.now.writer.now)
+    stops_unwritten (lines c.args.checked.spec (given_by (g.B.TermBank.store c.args.bank) c.args.list) (shown_of c.args.settings)
+    c.args.settings.options.steps) (g.W.Write.contents c.args.out.now.writer.now)
 
 pub observe_lines-written-requires-clause-protected : goal.observe_lines-written-requires-clause-protected
 observe_lines-written-requires-clause-protected g c =
@@ -28,7 +29,9 @@ returns-in-Ok-clause-room g c =
     (IfErr-weaker written _ _ (lacks_exhausts (g.B.TermBank.store e.bank) e.work e.memo) c.observe_lines-written.ensures.room))
 
 pub returns-in-Ok-clause-cap : goal.returns-in-Ok-clause-cap
-returns-in-Ok-clause-cap g c = ap (λ b. (g.B.TermBank.store b).cap) c.into_parts-bank.ensures.bank ∙ c.observe_lines-written.ensures.keeps.beside.cap ∙ c.in-Ok.ensures.cap
+returns-in-Ok-clause-cap g c = ap (λ b. (g.B.TermBank.store b).cap) c.into_parts-bank.ensures.bank ∙ c.observe_lines-written.ensures.keeps.beside.cap
+    ∙ c.in-Ok.ensures.cap
 
 pub returns-in-Ok-clause-bounded : goal.returns-in-Ok-clause-bounded
-returns-in-Ok-clause-bounded g c = bounded_by c.observe_lines-written.new.engine.waiting c.args.settings.depth c.observe_lines-written.result c.observe_lines-written.ensures.deep
+returns-in-Ok-clause-bounded g c = bounded_by c.observe_lines-written.new.engine.waiting c.args.settings.depth c.observe_lines-written.result
+    c.observe_lines-written.ensures.deep

@@ -9,7 +9,8 @@ pub returns-in-None-clause-outcome : goal.returns-in-None-clause-outcome
 returns-in-None-clause-outcome g c = engine-ok _ c.normalise_watched.result c.answered.result c.answered.ensures c.normalise_watched.ensures.outcome
 
 pub returns-in-None-clause-kept : goal.returns-in-None-clause-kept
-returns-in-None-clause-kept g c = engine-ok (IsKept c.normalise_watched.new.self.work) c.normalise_watched.result c.answered.result c.answered.ensures c.normalise_watched.ensures.kept
+returns-in-None-clause-kept g c = engine-ok (IsKept c.normalise_watched.new.self.work) c.normalise_watched.result c.answered.result c.answered.ensures
+    c.normalise_watched.ensures.kept
 
 pub returns-in-None-clause-room : goal.returns-in-None-clause-room
 returns-in-None-clause-room g c = engine-room _ _ _ c.normalise_watched.result c.answered.result c.answered.ensures c.normalise_watched.ensures.room

@@ -8,10 +8,12 @@ pub returns-clause-ok : goal.returns-clause-ok
 returns-clause-ok g c = told_on_line _ c.write_evaluation_within.result c.unbounded_line.result c.unbounded_line.ensures c.write_evaluation_within.ensures.ok
 
 pub returns-clause-err : goal.returns-clause-err
-returns-clause-err g c = err_same _ (unbounded_line c.write_evaluation_within.result) c.unbounded_line.result c.unbounded_line.ensures c.write_evaluation_within.ensures.err
+returns-clause-err g c = err_same _ (unbounded_line c.write_evaluation_within.result) c.unbounded_line.result c.unbounded_line.ensures
+    c.write_evaluation_within.ensures.err
 
 pub returns-clause-room : goal.returns-clause-room
-returns-clause-room g c = err_same _ (unbounded_line c.write_evaluation_within.result) c.unbounded_line.result c.unbounded_line.ensures c.write_evaluation_within.ensures.room
+returns-clause-room g c = err_same _ (unbounded_line c.write_evaluation_within.result) c.unbounded_line.result c.unbounded_line.ensures
+    c.write_evaluation_within.ensures.room
 
 pub returns-clause-cause : goal.returns-clause-cause
 returns-clause-cause g c = subst (TellsLine c.write_evaluation_within.new.out) (sym c.unbounded_line.ensures) c.write_evaluation_within.ensures.cause

@@ -16,7 +16,9 @@ invariant-loop-i g l = record {
   same : SameEngine l.fn.engine l.engine;
   keeps : Keeps (g.B.TermBank.store l.fn.engine.bank) (g.B.TermBank.store l.engine.bank) [];
   left : tree_at (g.B.TermBank.store l.engine.bank) l.rest ≡ Some (list_of (from_list (drop l.i (given_at (g.B.TermBank.store l.fn.engine.bank) l.fn.list))));
-  written : Appends (g.W.Write.contents l.fn.out.writer.now) (g.W.Write.contents l.out.writer.now) (lines_of (given_text l.fn.engine.spec (shown_of l.settings) l.settings.options.steps) (take l.i (given_at (g.B.TermBank.store l.fn.engine.bank) l.fn.list)));
+  written : Appends (g.W.Write.contents l.fn.out.writer.now) (g.W.Write.contents l.out.writer.now)
+      (lines_of (given_text l.fn.engine.spec (shown_of l.settings) l.settings.options.steps)
+      (take l.i (given_at (g.B.TermBank.store l.fn.engine.bank) l.fn.list)));
   writable : IsWritable l.out;
   same_output : IsSameOutput l.fn.out l.out;
 }

@@ -21,7 +21,8 @@ use Rattle.rx_run.proofs.ErrorLemmas.{on_ok_of}
 use Rattle.rec_run.proofs.spec.lines.write_lines_observed.Goals as goal
 
 -- all lines are the specification's own and, by what these left of the engine, those of the list
-all_lines : (y z : Spec) (old new : Store) (given : Option Reference) (list : Reference) (counted : Bool) (limits : LimitLines) (n : ℕ) → Keeps old new [] → z ≡ y → given ≡ Some list → ProtectsTerms y old list
+all_lines : (y z : Spec) (old new : Store) (given : Option Reference) (list : Reference) (counted : Bool) (limits : LimitLines) (n : ℕ)
+    → Keeps old new [] → z ≡ y → given ≡ Some list → ProtectsTerms y old list
     → lines y (given_by old given) (shown_by counted limits) n ≡ lines y [] (bare counted) n ++ given_lines z (shown_by counted limits) n (given_at new list)
 all_lines y z old new given list counted limits n keeps same is held =
     let shown = shown_by counted limits in
@@ -31,7 +32,9 @@ all_lines y z old new given list counted limits n keeps same is held =
     ∙ ap (λ x. lines y [] (bare counted) n ++ given_lines x shown n (given_at new list)) (sym same)
 
 -- what stopped within the specification's own lines stopped within all
-own_stops : (y : Spec) (w : Store) (given : Option Reference) (counted : Bool) (limits : LimitLines) (n : ℕ) (fault : RunFault) (old new : Option (List ℕ)) → Stops fault (lines y [] (bare counted) n) old new → Stops fault (lines y (given_by w given) (shown_by counted limits) n) old new
+own_stops : (y : Spec) (w : Store) (given : Option Reference) (counted : Bool) (limits : LimitLines) (n : ℕ) (fault : RunFault)
+    (old new : Option (List ℕ)) → Stops fault (lines y [] (bare counted) n) old new
+    → Stops fault (lines y (given_by w given) (shown_by counted limits) n) old new
 own_stops y w given counted limits n fault old new s =
     let shown = shown_by counted limits in
     let more = given_lines y shown n (given_by w given) in
@@ -40,7 +43,8 @@ own_stops y w given counted limits n fault old new s =
 
 pub returns-in-Err-clause-err : goal.returns-in-Err-clause-err
 returns-in-Err-clause-err g c =
-    own_stops c.args.engine.now.spec (g.B.TermBank.store c.args.engine.now.bank) c.args.list c.args.settings.options.count c.args.settings.limits c.args.settings.options.steps (unbounded_fault c.in-Err.fault) _ _ c.in-Err.ensures.err
+    own_stops c.args.engine.now.spec (g.B.TermBank.store c.args.engine.now.bank) c.args.list c.args.settings.options.count c.args.settings.limits
+    c.args.settings.options.steps (unbounded_fault c.in-Err.fault) _ _ c.in-Err.ensures.err
 
 pub returns-in-None-clause-ok : goal.returns-in-None-clause-ok
 returns-in-None-clause-ok g c =
@@ -82,11 +86,14 @@ returns-in-Some-clause-err g c =
     let n = c.args.settings.options.steps in
     let counted = c.args.settings.options.count in
     let limits = c.args.settings.limits in
-    let e = all_lines _ _ _ (g.B.TermBank.store c.write_own_lines.new.engine.bank) _ c.in-Some.list counted limits n own.keeps own.same.spec c.in-Some.is (c.requires.protected c.in-Some.list c.in-Some.is) in
+    let e = all_lines _ _ _ (g.B.TermBank.store c.write_own_lines.new.engine.bank) _ c.in-Some.list counted limits n own.keeps own.same.spec
+    c.in-Some.is (c.requires.protected c.in-Some.list c.in-Some.is) in
     let few : n < 2 ^ 64 = omega (arith, c.args.settings.options.steps_in_range) in
     IfErr-weaker (unbounded c.write_given_lines.result) _ _
-    (λ fault h. subst (λ text. Stops fault text (g.W.Write.contents c.args.out.now.writer.now) (g.W.Write.contents c.write_given_lines.new.out.writer.now)) (sym e)
-    (stops_behind fault (length z.terms) (lines y [] (bare counted) n) _ _ _ _ (newlines-own y (bare counted) n few ∙ ap (λ x. length x.terms) (sym own.same.spec)) own.ok h))
+    (λ fault h. subst (λ text. Stops fault text (g.W.Write.contents c.args.out.now.writer.now)
+    (g.W.Write.contents c.write_given_lines.new.out.writer.now)) (sym e)
+    (stops_behind fault (length z.terms) (lines y [] (bare counted) n) _ _ _ _
+    (newlines-own y (bare counted) n few ∙ ap (λ x. length x.terms) (sym own.same.spec)) own.ok h))
     c.write_given_lines.ensures.err
 
 pub returns-in-Some-clause-same : goal.returns-in-Some-clause-same

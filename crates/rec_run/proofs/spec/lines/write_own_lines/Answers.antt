@@ -32,16 +32,20 @@ returns-in-Err-clause-err g c =
     let few : n < 2 ^ 64 = omega (arith, c.args.settings.options.steps_in_range) in
     let f : LineFault = unbounded_line_fault c.in-Err.fault in
     let stop = unbounded_fault c.after.result in
-    let fault : stop ≡ fault_after f c.loop-i.i = fault_after-same f c.from.result c.loop-i.i stop (after-told c.in-Err.fault _ c.after.result c.after.ensures) (omega arith) in
+    let fault : stop ≡ fault_after f c.loop-i.i = fault_after-same f c.from.result c.loop-i.i stop
+    (after-told c.in-Err.fault _ c.after.result c.after.ensures) (omega arith) in
     subst (λ stop. Stops stop (lines y [] (bare c.args.settings.options.count) n) old new) (sym fault)
     (subst (λ text. Stops (fault_after f c.loop-i.i) text old new) (sym (lines-own y (bare c.args.settings.options.count) n))
-    (lines_stopped f show y.terms c.loop-i.i (Apply nameless syntax.none) _ _ _ (line_text-newlines y (bare c.args.settings.options.count) n few y.terms) low c.loop-i.invariant.written
-    (subst (λ z. AppendsFront (due_before f (text_at z (bare c.args.settings.options.count) n c.loop-i.i)) (g.W.Write.contents c.loop-i.out.writer.now) new) c.loop-i.invariant.same.spec c.in-Err.ensures.err)))
+    (lines_stopped f show y.terms c.loop-i.i (Apply nameless syntax.none) _ _ _
+    (line_text-newlines y (bare c.args.settings.options.count) n few y.terms) low c.loop-i.invariant.written
+    (subst (λ z. AppendsFront (due_before f (text_at z (bare c.args.settings.options.count) n c.loop-i.i))
+    (g.W.Write.contents c.loop-i.out.writer.now) new) c.loop-i.invariant.same.spec c.in-Err.ensures.err)))
 
 pub returns-in-Err-clause-room : goal.returns-in-Err-clause-room
 returns-in-Err-clause-room g c =
     let e = c.write_own_line.new.engine in
-    line_lacks (g.B.TermBank.store e.bank) e.work e.memo (unbounded_line_fault c.in-Err.fault) _ (unbounded_fault c.after.result) (after-told c.in-Err.fault _ c.after.result c.after.ensures) c.in-Err.ensures.room
+    line_lacks (g.B.TermBank.store e.bank) e.work e.memo (unbounded_line_fault c.in-Err.fault) _ (unbounded_fault c.after.result)
+    (after-told c.in-Err.fault _ c.after.result c.after.ensures) c.in-Err.ensures.room
 
 pub loop-i-preserved : goal.loop-i-preserved
 loop-i-preserved g c =
@@ -51,8 +55,10 @@ loop-i-preserved g c =
     record {
       same = same_engine_both c.loop-i.invariant.same c.in-Ok.ensures.same;
       keeps = Keeps-trans c.loop-i.invariant.keeps c.in-Ok.ensures.keeps;
-      written = appends_more (line_text y (bare c.args.settings.options.count) n) y.terms c.loop-i.i (Apply nameless syntax.none) _ _ _ low c.loop-i.invariant.written
-          (subst (λ z. Appends (g.W.Write.contents c.loop-i.out.writer.now) (g.W.Write.contents c.write_own_line.new.out.writer.now) (text_at z (bare c.args.settings.options.count) n c.loop-i.i ++ codes "\n")) c.loop-i.invariant.same.spec c.in-Ok.ensures.ok);
+      written = appends_more (line_text y (bare c.args.settings.options.count) n) y.terms c.loop-i.i (Apply nameless syntax.none) _ _ _ low
+          c.loop-i.invariant.written
+          (subst (λ z. Appends (g.W.Write.contents c.loop-i.out.writer.now) (g.W.Write.contents c.write_own_line.new.out.writer.now)
+          (text_at z (bare c.args.settings.options.count) n c.loop-i.i ++ codes "\n")) c.loop-i.invariant.same.spec c.in-Ok.ensures.ok);
       writable = c.in-Ok.ensures.cause;
       same_output = c.in-Ok.ensures.same_output ∙ c.loop-i.invariant.same_output;
     }
@@ -61,14 +67,18 @@ pub returns-clause-ok : goal.returns-clause-ok
 returns-clause-ok g c =
     let y = c.args.engine.now.spec in
     let all : length y.terms ≤ c.loop-i.i = omega arith in
-    subst (λ text. Appends (g.W.Write.contents c.args.out.now.writer.now) (g.W.Write.contents c.loop-i.out.writer.now) text) (sym (lines-own y (bare c.args.settings.options.count) c.args.settings.options.steps))
+    subst (λ text. Appends (g.W.Write.contents c.args.out.now.writer.now) (g.W.Write.contents c.loop-i.out.writer.now) text)
+    (sym (lines-own y (bare c.args.settings.options.count) c.args.settings.options.steps))
     (appends_all (line_text y (bare c.args.settings.options.count) c.args.settings.options.steps) y.terms c.loop-i.i _ _ all c.loop-i.invariant.written)
 
 pub returns-in-Err-clause-cause : goal.returns-in-Err-clause-cause
-returns-in-Err-clause-cause g c = λ is. c.in-Err.ensures.cause (after_write (unbounded_line_fault c.in-Err.fault) _ (unbounded_fault c.after.result) (after-told c.in-Err.fault _ c.after.result c.after.ensures) is)
+returns-in-Err-clause-cause g c = λ is. c.in-Err.ensures.cause
+    (after_write (unbounded_line_fault c.in-Err.fault) _ (unbounded_fault c.after.result) (after-told c.in-Err.fault _ c.after.result c.after.ensures) is)
 
 pub returns-in-Err-clause-no_reader : goal.returns-in-Err-clause-no_reader
-returns-in-Err-clause-no_reader g c = after_read (unbounded_line_fault c.in-Err.fault) _ (unbounded_fault c.after.result) (after-told c.in-Err.fault _ c.after.result c.after.ensures)
+returns-in-Err-clause-no_reader g c = after_read (unbounded_line_fault c.in-Err.fault) _ (unbounded_fault c.after.result)
+    (after-told c.in-Err.fault _ c.after.result c.after.ensures)
 
 pub returns-in-Err-clause-deep : goal.returns-in-Err-clause-deep
-returns-in-Err-clause-deep g c = after-deep c.in-Err.fault _ c.after.result c.after.ensures c.write_own_line.new.engine.waiting c.args.settings.depth c.in-Err.ensures.deep
+returns-in-Err-clause-deep g c = after-deep c.in-Err.fault _ c.after.result c.after.ensures c.write_own_line.new.engine.waiting c.args.settings.depth
+    c.in-Err.ensures.deep

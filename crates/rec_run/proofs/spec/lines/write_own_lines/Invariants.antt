@@ -13,7 +13,8 @@ abbrev pub invariant-loop-i : goal.invariant-loop-i
 invariant-loop-i g l = record {
   same : SameEngine l.fn.engine l.engine;
   keeps : Keeps (g.B.TermBank.store l.fn.engine.bank) (g.B.TermBank.store l.engine.bank) [];
-  written : Appends (g.W.Write.contents l.fn.out.writer.now) (g.W.Write.contents l.out.writer.now) (lines_of (line_text l.fn.engine.spec (bare l.settings.options.count) l.settings.options.steps) (take l.i l.fn.engine.spec.terms));
+  written : Appends (g.W.Write.contents l.fn.out.writer.now) (g.W.Write.contents l.out.writer.now)
+      (lines_of (line_text l.fn.engine.spec (bare l.settings.options.count) l.settings.options.steps) (take l.i l.fn.engine.spec.terms));
   writable : IsWritable l.out;
   same_output : IsSameOutput l.fn.out l.out;
 }

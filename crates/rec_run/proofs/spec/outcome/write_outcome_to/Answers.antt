@@ -15,9 +15,11 @@ returns-in_err-write_to-in-Value-clause-err g c =
     let w = g.B.TermBank.store c.args.bank.now in
     let held = subst (HoldsValue w) c.in-Value.is c.requires.held in
     on_err c.from_residual.result
-    (subst (λ o. AppendsFront (outcome_text w c.args.options.count c.args.options.steps o) (g.W.Write.contents c.args.out.now.writer.now) (g.W.Write.contents c.write_to.new.out.writer.now)) (sym c.in-Value.is)
+    (subst (λ o. AppendsFront (outcome_text w c.args.options.count c.args.options.steps o) (g.W.Write.contents c.args.out.now.writer.now)
+    (g.W.Write.contents c.write_to.new.out.writer.now)) (sym c.in-Value.is)
     (front_before _ _ (canon (item_at w c.in-Value.term)) (steps_text c.args.options.count c.in-Value.steps)
-    (of_held (tree_at w c.in-Value.term) (λ u. AppendsFront (canon u) (g.W.Write.contents c.args.out.now.writer.now) (g.W.Write.contents c.write_to.new.out.writer.now)) held c.in_err-write_to-in-Value.ensures.front)))
+    (of_held (tree_at w c.in-Value.term) (λ u. AppendsFront (canon u) (g.W.Write.contents c.args.out.now.writer.now)
+    (g.W.Write.contents c.write_to.new.out.writer.now)) held c.in_err-write_to-in-Value.ensures.front)))
 
 pub returns-in_err-write_steps_to-in-Value-clause-err :
     goal.returns-in_err-write_steps_to-in-Value-clause-err
@@ -25,7 +27,9 @@ returns-in_err-write_steps_to-in-Value-clause-err g c =
     let w = g.B.TermBank.store c.args.bank.now in
     let held = subst (HoldsValue w) c.in-Value.is c.requires.held in
     on_err c.from_residual-in_err-write_steps_to-in-Value.result
-    (subst (λ o. AppendsFront (outcome_text w c.args.options.count c.args.options.steps o) (g.W.Write.contents c.args.out.now.writer.now) (g.W.Write.contents c.write_steps_to.new.out.writer.now)) (sym c.in-Value.is)
+    (subst (λ o. AppendsFront (outcome_text w c.args.options.count c.args.options.steps o) (g.W.Write.contents c.args.out.now.writer.now)
+    (g.W.Write.contents c.write_steps_to.new.out.writer.now)) (sym c.in-Value.is)
     (front_after _ _ _ (canon (item_at w c.in-Value.term)) (steps_text c.args.options.count c.in-Value.steps)
-    (of_held (tree_at w c.in-Value.term) (λ u. Appends (g.W.Write.contents c.args.out.now.writer.now) (g.W.Write.contents c.write_to.new.out.writer.now) (canon u)) held c.in_ok-write_to-in-Value.ensures.written)
+    (of_held (tree_at w c.in-Value.term) (λ u. Appends (g.W.Write.contents c.args.out.now.writer.now)
+    (g.W.Write.contents c.write_to.new.out.writer.now) (canon u)) held c.in_ok-write_to-in-Value.ensures.written)
     c.in_err-write_steps_to-in-Value.ensures.err))

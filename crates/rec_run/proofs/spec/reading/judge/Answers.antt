@@ -14,5 +14,8 @@ returns-in-Err-Grammar-clause-verdict c =
     let at = c.in-Err-Grammar.at in
     let long = rw c.in-Err-Grammar.field-0-is at c.in-Err-Grammar.ensures.long in
     let short = not_more (length c.args.text.items) (lt_or_le 16777216 (length c.args.text.items)) (λ more. let e = long.1 more in cc e) in
-    subst (IsSpecRead c.args.text.items) (sym c.refused-in-Err-Grammar.ensures)
-    (Grammar at, (short, rw c.in-Err-Grammar.field-0-is at c.in-Err-Grammar.ensures.place), ap (λ (n : ℕ). refused_spec (Grammar n)) (sym c.in-Err-Grammar.at-is))
+    subst (IsSpecRead c.args.text.items) (sym c.refused-in-Err-Grammar.ensures) (
+      Grammar at,
+      (short, rw c.in-Err-Grammar.field-0-is at c.in-Err-Grammar.ensures.place),
+      ap (λ (n : ℕ). refused_spec (Grammar n)) (sym c.in-Err-Grammar.at-is),
+    )

@@ -14,7 +14,8 @@ returns-in-Refused-clause-due g c = λ v is.
 pub returns-in-Good-clause-due : goal.returns-in-Good-clause-due
 returns-in-Good-clause-due g c =
     if_ok_map c.read_terms.result _ _
-    (λ r h v is. read_after_good (g.B.TermBank.store c.read_terms.new.bank) c.in-Good.checked _ r h v (subst (λ (z : Reading Sourced). IsSpecReading z v) c.in-Good.is is))
+    (λ r h v is. read_after_good (g.B.TermBank.store c.read_terms.new.bank) c.in-Good.checked _ r h v
+    (subst (λ (z : Reading Sourced). IsSpecReading z v) c.in-Good.is is))
     c.read_terms.ensures.due
 
 pub returns-in-Good-clause-unread : goal.returns-in-Good-clause-unread

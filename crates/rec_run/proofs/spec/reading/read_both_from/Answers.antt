@@ -3,7 +3,8 @@ use Rattle.rec_run.proofs.ReadsLemmas.{reads_first, reads_second}
 use Rattle.rec_run.proofs.spec.reading.read_both_from.Goals as goal
 
 pub returns-clause-due : goal.returns-clause-due
-returns-clause-due g c = read_with (g.B.TermBank.store c.read_after.new.bank) c.read_after.result _ _ c.in_ok-first.first c.in_ok-first.ensures.verdict c.read_after.ensures.due
+returns-clause-due g c = read_with (g.B.TermBank.store c.read_after.new.bank) c.read_after.result _ _ c.in_ok-first.first
+    c.in_ok-first.ensures.verdict c.read_after.ensures.due
 
 pub returns-clause-terms_out : goal.returns-clause-terms_out
 returns-clause-terms_out g c = terms_out _ c.read_after.result _ c.in_ok-first.first c.in_ok-first.ensures.verdict c.read_after.ensures.out
@@ -21,7 +22,9 @@ pub returns-in_err-first-clause-refused : goal.returns-in_err-first-clause-refus
 returns-in_err-first-clause-refused g c = refused_any _ (read_fault_refused c.from_residual.result c.in_err-first.field-0.0 c.from_residual.ensures.1)
 
 pub returns-clause-cause : goal.returns-clause-cause
-returns-clause-cause g c = reads_second c.read_spec_text_from.new.spec c.read_after.new.terms c.read_after.result c.in_ok-first.ensures.cause c.read_after.ensures.cause
+returns-clause-cause g c = reads_second c.read_spec_text_from.new.spec c.read_after.new.terms c.read_after.result c.in_ok-first.ensures.cause
+    c.read_after.ensures.cause
 
 pub returns-in_err-first-clause-cause : goal.returns-in_err-first-clause-cause
-returns-in_err-first-clause-cause g c = reads_first c.read_spec_text_from.new.spec c.args.terms.now c.from_residual.result c.in_err-first.field-0.0 c.from_residual.ensures.1 c.in_err-first.ensures.cause
+returns-in_err-first-clause-cause g c = reads_first c.read_spec_text_from.new.spec c.args.terms.now c.from_residual.result c.in_err-first.field-0.0
+    c.from_residual.ensures.1 c.in_err-first.ensures.cause

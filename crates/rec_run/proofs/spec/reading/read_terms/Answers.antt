@@ -4,7 +4,8 @@ use Rattle.rec_run.proofs.GivenDueLemmas.{job_due, job_ready, read_due}
 use Rattle.rec_run.proofs.spec.reading.read_terms.Goals as goal
 
 pub returns-clause-due : goal.returns-clause-due
-returns-clause-due g c = job_due (g.B.TermBank.store c.read_terms_text_from.new.bank) _ c.args.checked c.in_ok-reading.reading _ c.job_from.ensures (read_due _ c.args.checked.spec (g.B.TermBank.store c.read_terms_text_from.new.bank) c.in_ok-reading.reading c.in_ok-reading.ensures.verdict)
+returns-clause-due g c = job_due (g.B.TermBank.store c.read_terms_text_from.new.bank) _ c.args.checked c.in_ok-reading.reading _ c.job_from.ensures
+    (read_due _ c.args.checked.spec (g.B.TermBank.store c.read_terms_text_from.new.bank) c.in_ok-reading.reading c.in_ok-reading.ensures.verdict)
 
 pub returns-clause-ready : goal.returns-clause-ready
 returns-clause-ready g c =

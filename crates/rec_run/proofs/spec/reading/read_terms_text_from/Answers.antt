@@ -13,11 +13,14 @@ returns-clause-verdict g c =
     c.judge_terms.ensures.verdict
 
 pub returns-clause-fault : goal.returns-clause-fault
-returns-clause-fault g c = IfErr-weaker c.judge_terms.result _ _ (unwritten (g.B.TermBank.store c.args.bank.now) (g.B.TermBank.store c.judge_terms.new.bank)) c.judge_terms.ensures.fault
+returns-clause-fault g c = IfErr-weaker c.judge_terms.result _ _
+    (unwritten (g.B.TermBank.store c.args.bank.now) (g.B.TermBank.store c.judge_terms.new.bank)) c.judge_terms.ensures.fault
 
 pub returns-clause-cause : goal.returns-clause-cause
 returns-clause-cause g c =
-    read_ran_out c.read_all_from.new.input c.judge_terms.result (g.B.TermBank.store c.args.bank.now) (g.B.TermBank.store c.judge_terms.new.bank) c.in_ok-text.ensures.cause c.judge_terms.ensures.fault
+    read_ran_out c.read_all_from.new.input c.judge_terms.result (g.B.TermBank.store c.args.bank.now) (g.B.TermBank.store c.judge_terms.new.bank)
+    c.in_ok-text.ensures.cause c.judge_terms.ensures.fault
 
 pub returns-in_err-text-clause-cause : goal.returns-in_err-text-clause-cause
-returns-in_err-text-clause-cause g c = read_of c.read_all_from.new.input c.from_residual.result c.in_err-text.field-0.0 c.from_residual.ensures.1 c.in_err-text.ensures.cause
+returns-in_err-text-clause-cause g c = read_of c.read_all_from.new.input c.from_residual.result c.in_err-text.field-0.0 c.from_residual.ensures.1
+    c.in_err-text.ensures.cause

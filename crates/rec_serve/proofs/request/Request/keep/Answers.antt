@@ -15,4 +15,5 @@ returns-in-Ok c = λ line is.
     let size = c.len.ensures in
     let own = text.ok.0 in
     let few : c.min-room.result ≡ min (16777217 - length text.items) (length c.args.piece.now) = omega (arith, room, size, own) in
-    read_more c.args.self.now.is_lost c.min-room.result text.items c.extend_from_slice.new.self.items line c.args.piece.now c.if-self.false is few c.in-Ok.ensures.items
+    read_more c.args.self.now.is_lost c.min-room.result text.items c.extend_from_slice.new.self.items line c.args.piece.now c.if-self.false is few
+    c.in-Ok.ensures.items

@@ -13,10 +13,14 @@ returns c =
     let group = c.args.group.now in
     record {
       words_added =
-          words_pushed (word_of source) old.words.items c.push.new.self.items c.loop-word.self.words.items group.others.items group.first c.loop-word.word-index c.in_ok-push.ensures.items c.loop-word.invariant.words (omega (arith, ap length c.as_slice-word-items.ensures));
+          words_pushed (word_of source) old.words.items c.push.new.self.items c.loop-word.self.words.items group.others.items group.first
+          c.loop-word.word-index c.in_ok-push.ensures.items c.loop-word.invariant.words (omega (arith, ap length c.as_slice-word-items.ensures));
       sorts_added =
-          sorts_pushed (word_of source) old.sorts.items c.push-2.new.self.items c.loop-word.self.sorts.items group.others.items c.in_ok-sort.sort _ c.loop-word.word-index c.in_ok-sort.ensures.sort c.in_ok-push-2.ensures.items c.loop-word.invariant.sorts (omega (arith, ap length c.as_slice-word-items.ensures));
+          sorts_pushed (word_of source) old.sorts.items c.push-2.new.self.items c.loop-word.self.sorts.items group.others.items c.in_ok-sort.sort _
+          c.loop-word.word-index c.in_ok-sort.ensures.sort c.in_ok-push-2.ensures.items c.loop-word.invariant.sorts
+          (omega (arith, ap length c.as_slice-word-items.ensures));
       arguments_added = ap lists c.loop-word.invariant.arguments ∙ sym (append-nil (lists old.arguments));
-      within_added = all_within_pushed source old.words.items c.push.new.self.items c.loop-word.self.words.items group.others.items group.first c.loop-word.word-index c.in_ok-push.ensures.items c.loop-word.invariant.words c.requires.first c.requires.others;
+      within_added = all_within_pushed source old.words.items c.push.new.self.items c.loop-word.self.words.items group.others.items group.first
+          c.loop-word.word-index c.in_ok-push.ensures.items c.loop-word.invariant.words c.requires.first c.requires.others;
       unknown_added = c.loop-word.invariant.unknown ∙ c.earlier-self.ensures ∙ ap (earlier old.unknown) (c.in_ok-sort.ensures.missing ∙ sym (earlier_none _));
     }

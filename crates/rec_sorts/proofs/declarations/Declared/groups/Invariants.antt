@@ -6,4 +6,5 @@ use Rattle.rec_sorts.proofs.declarations.Declared.groups.Given as goal
 
 abbrev pub invariant-loop-group : goal.invariant-loop-group
 invariant-loop-group l =
-    Adds l.sorts.source.now (given_to l.sorts.names) l.initial.self l.self (added_by_groups (given_to l.sorts.names) (map (group_of l.sorts.source.now) (take l.group-index l.groups)))
+    Adds l.sorts.source.now (given_to l.sorts.names) l.initial.self l.self
+    (added_by_groups (given_to l.sorts.names) (map (group_of l.sorts.source.now) (take l.group-index l.groups)))

@@ -16,9 +16,12 @@ returns c =
     record {
       words_added = ap (map (word_of source)) c.in_ok-push.ensures.items ∙ map-append (word_of source) old.words.items (d.name ∷ []);
       sorts_added = c.in_ok-push-2.ensures.items ∙ ap (λ k. old.sorts.items ++ k ∷ []) c.in_ok-sort.ensures.sort;
-      arguments_added = list_pushed old.arguments.items c.push-3.new.self.items c.in_ok-arguments.arguments _ c.in_ok-push-3.ensures.items (c.in_ok-arguments.ensures.sorts ∙ ap (λ ws. sort_numbers numbers (words_of source ws)) c.as_slice.ensures);
+      arguments_added = list_pushed old.arguments.items c.push-3.new.self.items c.in_ok-arguments.arguments _ c.in_ok-push-3.ensures.items
+          (c.in_ok-arguments.ensures.sorts ∙ ap (λ ws. sort_numbers numbers (words_of source ws)) c.as_slice.ensures);
       within_added = within_pushed source old.words.items c.push.new.self.items d.name c.in_ok-push.ensures.items c.requires.name;
       unknown_added =
-          unknown_pushed numbers (words_of source d.arguments.items) (word_of source d.sort) old.unknown c.in_ok-arguments.unknown c.in_ok-sort.missing c.earlier.result c.earlier-self.result
-          (c.in_ok-arguments.ensures.missing ∙ ap (λ ws. least_unnumbered numbers (words_of source ws)) c.as_slice.ensures) c.in_ok-sort.ensures.missing c.earlier.ensures c.earlier-self.ensures;
+          unknown_pushed numbers (words_of source d.arguments.items) (word_of source d.sort) old.unknown c.in_ok-arguments.unknown
+          c.in_ok-sort.missing c.earlier.result c.earlier-self.result
+          (c.in_ok-arguments.ensures.missing ∙ ap (λ ws. least_unnumbered numbers (words_of source ws)) c.as_slice.ensures)
+          c.in_ok-sort.ensures.missing c.earlier.ensures c.earlier-self.ensures;
     }

@@ -9,5 +9,6 @@ pub loop-declaration-preserved : goal.loop-declaration-preserved
 loop-declaration-preserved c =
     let source = c.args.sorts.now.source.now in
     let numbers = given_to c.args.sorts.now.names in
-    added_turn (added_by_symbol numbers) (declaration_of source) source numbers c.args.self.now c.loop-declaration.self c.symbol.new.self c.args.declarations.now c.loop-declaration.declaration-index c.declaration-item.result (omega arith)
+    added_turn (added_by_symbol numbers) (declaration_of source) source numbers c.args.self.now c.loop-declaration.self c.symbol.new.self
+    c.args.declarations.now c.loop-declaration.declaration-index c.declaration-item.result (omega arith)
     c.declaration-item.is c.loop-declaration.invariant c.in_ok-symbol.ensures

@@ -8,5 +8,6 @@ use Rattle.rec_sorts.proofs.declarations.Sorts.find_all.Given as goal
 abbrev pub invariant-loop-word : goal.invariant-loop-word
 invariant-loop-word l = record {
   sorts : l.sorts.items ≡ sort_numbers (given_to l.self.names) (words_of l.self.source.now (take l.word-index l.words));
-  missing : earlier l.unknown (least_unnumbered (given_to l.self.names) (words_of l.self.source.now (drop l.word-index l.words))) ≡ least_unnumbered (given_to l.self.names) (words_of l.self.source.now l.words);
+  missing : earlier l.unknown (least_unnumbered (given_to l.self.names) (words_of l.self.source.now (drop l.word-index l.words))) ≡ least_unnumbered
+      (given_to l.self.names) (words_of l.self.source.now l.words);
 }

@@ -13,7 +13,8 @@ key name = record { bytes = record { ref_ptr = (0, 0); now = name } }
 pub returns-in-None-clause-given : goal.returns-in-None-clause-given
 returns-in-None-clause-given c =
     let absent : given_to c.args.self.now c.args.name.now ≡ None = search rules in
-    same_function (λ other. c.in_ok-insert.ensures.updates.0 (key other) ∙ given_first-new (given_to c.args.self.now) c.args.name.now c.args.number other absent)
+    same_function (λ other. c.in_ok-insert.ensures.updates.0 (key other)
+    ∙ given_first-new (given_to c.args.self.now) c.args.name.now c.args.number other absent)
 
 pub returns-in_ok-insert-in-Some-clause-given : goal.returns-in_ok-insert-in-Some-clause-given
 returns-in_ok-insert-in-Some-clause-given c =

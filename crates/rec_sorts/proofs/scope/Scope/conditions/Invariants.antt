@@ -8,5 +8,7 @@ use Rattle.rec_sorts.proofs.scope.Scope.conditions.Given as goal
 abbrev pub invariant-loop-condition : goal.invariant-loop-condition
 invariant-loop-condition l = record {
   letters : Pairwise (SpellsCondition l.self) l.letters.items (map (condition_of l.self.source.now) (take l.condition-index l.conditions));
-  places : joined l.places (conditions_places l.self (binds_variable l.bound.letters.now) (map (condition_of l.self.source.now) (drop l.condition-index l.conditions))) ≡ conditions_places l.self (binds_variable l.bound.letters.now) (map (condition_of l.self.source.now) l.conditions);
+  places : joined l.places (conditions_places l.self (binds_variable l.bound.letters.now)
+      (map (condition_of l.self.source.now) (drop l.condition-index l.conditions))) ≡ conditions_places l.self (binds_variable l.bound.letters.now)
+      (map (condition_of l.self.source.now) l.conditions);
 }

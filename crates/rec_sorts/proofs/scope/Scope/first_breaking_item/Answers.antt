@@ -10,5 +10,6 @@ returns g c =
     let w = g.B.TermBank.store c.args.bank.now in
     let s = c.args.self.now in
     subst (λ o. IfOk c.first_breaking.result (λ r. r ≡ o))
-    (breaking-held s w c.args.number c.deref.result.now ∙ ap (position (is_broken_alone s c.args.number)) (ap (held_trees w) c.deref.ensures.value ∙ c.in_ok-items.ensures.trees))
+    (breaking-held s w c.args.number c.deref.result.now ∙ ap (position (is_broken_alone s c.args.number))
+    (ap (held_trees w) c.deref.ensures.value ∙ c.in_ok-items.ensures.trees))
     c.first_breaking.ensures

@@ -14,9 +14,11 @@ loop-placed-preserved c =
     let sorts = c.arguments-sorts.result.now in
     let heads = c.deref.result.now in
     let lt : i < length letters = omega arith in
-    ill_sorted_turn s letters i _ c.loop-placed.heads.items c.truncate.new.self.items c.push.new.self.items base c.loop-placed.least c.misplaced.result c.earlier-least.result _
+    ill_sorted_turn s letters i _ c.loop-placed.heads.items c.truncate.new.self.items c.push.new.self.items base c.loop-placed.least
+    c.misplaced.result c.earlier-least.result _
     lt (get_or_default letters i _ _ lt) (search rules)
     (c.misplaced.ensures
-    ∙ ap (λ ps. misplaced s ps sorts) (take_all (length heads - base) (drop base heads) (let l = length-drop base heads in omega (arith, l)) ∙ ap (drop base) c.deref.ensures.value)
+    ∙ ap (λ ps. misplaced s ps sorts) (take_all (length heads - base) (drop base heads) (let l = length-drop base heads in omega (arith, l))
+    ∙ ap (drop base) c.deref.ensures.value)
     ∙ ap (misplaced s (drop base c.loop-placed.heads.items)) c.arguments-sorts.ensures)
     c.earlier-least.ensures (search rules) c.in_ok-push.ensures.items c.loop-placed.invariant

@@ -6,4 +6,5 @@ use Rattle.rec_sorts.specs.Inner.GivenTerms.{node_letter}
 use Rattle.rec_sorts.proofs.scope.Scope.letters_of_all.Given as goal
 
 abbrev pub invariant-loop-term : goal.invariant-loop-term
-invariant-loop-term g l = map (λ v. v.items) l.letters.items ≡ map (λ r. reverse (map (node_letter l.self) (backwards (held_tree (g.B.TermBank.store l.bank) r)))) (take l.term-index l.terms)
+invariant-loop-term g l = map (λ v. v.items) l.letters.items ≡ map (λ r.
+    reverse (map (node_letter l.self) (backwards (held_tree (g.B.TermBank.store l.bank) r)))) (take l.term-index l.terms)

@@ -11,4 +11,5 @@ returns-clause-places c =
     let left = c.sides.new.left.items in
     let right = c.sides.new.room.right.items in
     c.join.ensures
-    ∙ rule_places-parts s r left right _ _ c.in_ok-of_sides.ensures.left c.in_ok-of_sides.ensures.right c.in_ok-of_sides.ensures.places (c.in_ok-read.ensures.places ∙ ap (λ xs. bound_places s xs right r.conditions) (c.in_ok-bound.ensures ∙ c.deref.ensures.value))
+    ∙ rule_places-parts s r left right _ _ c.in_ok-of_sides.ensures.left c.in_ok-of_sides.ensures.right c.in_ok-of_sides.ensures.places
+    (c.in_ok-read.ensures.places ∙ ap (λ xs. bound_places s xs right r.conditions) (c.in_ok-bound.ensures ∙ c.deref.ensures.value))

@@ -8,5 +8,6 @@ use Rattle.rec_sorts.proofs.scope.Scope.rules.Given as goal
 abbrev pub invariant-loop-rule : goal.invariant-loop-rule
 invariant-loop-rule l = record {
   letters : Pairwise (SpellsRule l.self) l.letters.items (map (rule_of l.self.source.now) (take l.rule-index l.rules));
-  places : joined l.places (rules_places l.self (map (rule_of l.self.source.now) (drop l.rule-index l.rules))) ≡ rules_places l.self (map (rule_of l.self.source.now) l.rules);
+  places : joined l.places (rules_places l.self (map (rule_of l.self.source.now) (drop l.rule-index l.rules))) ≡ rules_places l.self
+      (map (rule_of l.self.source.now) l.rules);
 }

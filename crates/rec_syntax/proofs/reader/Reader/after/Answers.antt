@@ -7,13 +7,15 @@ use Rattle.rec_syntax.proofs.reader.Reader.after.Goals as goal
 pub overflow_add-call : goal.overflow_add-call
 overflow_add-call c =
     let r = c.args.self.now in
-    let fits : c.in-Some.call.count + 1 ≤ length r.nodes.items = count_fits r.source.items r.calls.items _ c.in-Some.call r.nodes.items c.in-Some.ensures.items c.requires.state.due.stack in
+    let fits : c.in-Some.call.count + 1 ≤ length r.nodes.items =
+    count_fits r.source.items r.calls.items _ c.in-Some.call r.nodes.items c.in-Some.ensures.items c.requires.state.due.stack in
     omega (arith, r.nodes.ok.0)
 
 pub overflow_add-call-in-Close : goal.overflow_add-call-in-Close
 overflow_add-call-in-Close c =
     let r = c.args.self.now in
-    let fits : c.in-Some.call.count + 1 ≤ length r.nodes.items = count_fits r.source.items r.calls.items _ c.in-Some.call r.nodes.items c.in-Some.ensures.items c.requires.state.due.stack in
+    let fits : c.in-Some.call.count + 1 ≤ length r.nodes.items =
+    count_fits r.source.items r.calls.items _ c.in-Some.call r.nodes.items c.in-Some.ensures.items c.requires.state.due.stack in
     omega (arith, r.nodes.ok.0)
 
 pub returns-in_ok-push-in-Comma-clause-moves : goal.returns-in_ok-push-in-Comma-clause-moves
@@ -21,7 +23,8 @@ returns-in_ok-push-in-Comma-clause-moves c =
     let r = c.args.self.now in
     let bytes = r.source.items in
     let h = c.requires.state in
-    let one = goes_on bytes (role_of bytes r.role) (spec_of bytes r.sections) r.calls.items _ c.push.new.self.items c.in-Some.call _ r.nodes.items c.in-Some.ensures.items c.in_ok-push-in-Comma.ensures.items refl h.due.stack in
+    let one = goes_on bytes (role_of bytes r.role) (spec_of bytes r.sections) r.calls.items _ c.push.new.self.items c.in-Some.call _ r.nodes.items
+    c.in-Some.ensures.items c.in_ok-push-in-Comma.ensures.items refl h.due.stack in
     rw (c.in-Comma.is) (one.0, record { sections = h.sections; due = record { role = h.due.role; stack = one.1 } })
 
 pub returns-in_ok-push-in-Close-clause-moves : goal.returns-in_ok-push-in-Close-clause-moves
@@ -29,5 +32,6 @@ returns-in_ok-push-in-Close-clause-moves c =
     let r = c.args.self.now in
     let bytes = r.source.items in
     let h = c.requires.state in
-    let one = closes bytes (role_of bytes r.role) (spec_of bytes r.sections) r.calls.items _ c.in-Some.call r.nodes.items c.push-in-Close.new.self.items c.in-Some.ensures.items c.in_ok-push-in-Close.ensures.items h.due.stack in
+    let one = closes bytes (role_of bytes r.role) (spec_of bytes r.sections) r.calls.items _ c.in-Some.call r.nodes.items
+    c.push-in-Close.new.self.items c.in-Some.ensures.items c.in_ok-push-in-Close.ensures.items h.due.stack in
     rw (c.in-Close.is) (one.0, record { sections = h.sections; due = record { role = h.due.role; stack = one.1 } })

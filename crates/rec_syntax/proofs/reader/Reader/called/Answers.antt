@@ -18,6 +18,7 @@ returns-in_ok-push-in_default c =
     let h = c.requires.state in
     let one = leaf bytes c.args.word r.calls.items r.nodes.items c.push.new.self.items c.in_ok-push-in_default.ensures.items h.due.0 h.due.1.stack in
     record {
-      moves = called_moves bytes (role_of bytes r.role) (spec_of bytes r.sections) c.args.word c.args.token r.calls.items r.nodes.items c.push.new.self.items c.after.result c.after.new.self c.in_default.not-Open one.0 c.after.ensures.moves;
+      moves = called_moves bytes (role_of bytes r.role) (spec_of bytes r.sections) c.args.word c.args.token r.calls.items r.nodes.items
+          c.push.new.self.items c.after.result c.after.new.self c.in_default.not-Open one.0 c.after.ensures.moves;
       same = c.after.ensures.same;
     }

@@ -19,5 +19,6 @@ returns-clause-moves c =
     let r = c.args.self.now in
     let bytes = r.source.items in
     let spelled = λ (ns : List Node). spelled_by (map (node_of bytes) ns) in
-    subst (λ (ns : List Node). Moves bytes (machine.complete (role_of bytes r.role) (spelled ns) (spec_of bytes r.sections) (token_of bytes c.args.token)) c.completed.result c.completed.new.self)
+    subst (λ (ns : List Node). Moves bytes (machine.complete (role_of bytes r.role) (spelled ns) (spec_of bytes r.sections)
+    (token_of bytes c.args.token)) c.completed.result c.completed.new.self)
     (c.in_ok-nodes.ensures.items ∙ c.deref.ensures.value) c.completed.ensures.moves

@@ -26,5 +26,6 @@ pub returns : goal.returns
 returns c y k =
     let l = c.loop-kind in
     let p = is_taken (step (due_of c.args.self.now.source.items c.args.due c.args.self.now) y) in
-    let kept : l.kinds.items ≡ filter p all_kinds = l.invariant y ∙ ap (filter p) (take_all l.kind-index all_kinds (let test = c.loop-kind-test.false in omega (arith, test))) in
+    let kept : l.kinds.items ≡ filter p all_kinds = l.invariant y
+    ∙ ap (filter p) (take_all l.kind-index all_kinds (let test = c.loop-kind-test.false in omega (arith, test))) in
     rw kept (kinds_passing p k)

@@ -14,7 +14,8 @@ use Rattle.rec_syntax.proofs.reader.Reader.expected_in_text.Goals as goal
 abbrev AreTaken : List ℕ → Due → Reader → List TokenKind → Type 0
 AreTaken bytes d r ks = (k : TokenKind) → Contains ks k ↔ (is_taken (step (due_of bytes d r) (spec_of bytes r.sections)) k ≡ true)
 
-exact : {E : Type 0} → (bytes : List ℕ) (d : Due) (r : Reader) (result : Result (Vec TokenKind Global) E) → IsAtFault bytes d r → IfOk result (λ ks. AreTaken bytes d r ks.items) → IfOk result (λ ks. AreExpected bytes ks.items)
+exact : {E : Type 0} → (bytes : List ℕ) (d : Due) (r : Reader) (result : Result (Vec TokenKind Global) E) → IsAtFault bytes d r
+    → IfOk result (λ ks. AreTaken bytes d r ks.items) → IfOk result (λ ks. AreExpected bytes ks.items)
 exact bytes d r (Err e) h t = tt
 exact bytes d r (Ok ks) h t = λ at fault k.
     let stand = may_stand (bare fault.before) (config_of bytes d r) k (h at fault) in
@@ -27,5 +28,6 @@ returns c =
     let r = c.read_to_fault.new.self in
     let same : r.source.items ≡ bytes = ap (λ (v : Vec ℕ Global). v.items) c.read_to_fault.ensures.same in
     let taken : IfOk c.expected.result (λ ks. AreTaken bytes d r ks.items) =
-    subst (λ (bs : List ℕ). IfOk c.expected.result (λ ks. (k : TokenKind) → Contains ks.items k ↔ (is_taken (step (due_of bs d r) (spec_of bytes r.sections)) k ≡ true))) same (c.expected.ensures (spec_of bytes r.sections)) in
+    subst (λ (bs : List ℕ). IfOk c.expected.result (λ ks. (k : TokenKind) → Contains ks.items k
+    ↔ (is_taken (step (due_of bs d r) (spec_of bytes r.sections)) k ≡ true))) same (c.expected.ensures (spec_of bytes r.sections)) in
     exact bytes d r c.expected.result c.in_ok-due.ensures.reached taken

@@ -23,7 +23,8 @@ returns-in-Err-Refused-clause-place c =
     let l = c.loop-due in
     let x = c.next-lexeme.result in
     let cut = rw (c.deref.ensures.value, l.invariant.same) at c.next-lexeme.ensures.first in
-    let m = moved l.self.source.items bytes l.due l.self c.step.new.self x.kind (Err Refused) (ap (λ (v : Vec ℕ Global). v.items) l.invariant.same) (rw c.in-Err-Refused.field-0-is at c.in-Err-Refused.ensures.moves) in
+    let m = moved l.self.source.items bytes l.due l.self c.step.new.self x.kind (Err Refused) (ap (λ (v : Vec ℕ Global). v.items) l.invariant.same)
+    (rw c.in-Err-Refused.field-0-is at c.in-Err-Refused.ensures.moves) in
     refused_at bytes (config_of bytes l.due l.self) (tokens_from bytes l.from) (behind bytes x.kind x.to) (token_of bytes x.kind) x.at l.invariant.follows cut m
 
 pub returns-in-End-clause-spelled : goal.returns-in-End-clause-spelled
@@ -33,9 +34,11 @@ returns-in-End-clause-spelled c =
     let x = c.next-lexeme.result in
     let r = c.step.new.self in
     let cut = rw (c.deref.ensures.value, l.invariant.same, c.in-End.is) at c.next-lexeme.ensures.first in
-    let moves = moved l.self.source.items bytes l.due l.self r x.kind (Ok c.in-Ok.due) (ap (λ (v : Vec ℕ Global). v.items) l.invariant.same) c.in-Ok.ensures.moves in
+    let moves = moved l.self.source.items bytes l.due l.self r x.kind (Ok c.in-Ok.due) (ap (λ (v : Vec ℕ Global). v.items) l.invariant.same)
+    c.in-Ok.ensures.moves in
     let m = rw c.in-End.is at moves in
-    let text : SpecText bytes (spec_of bytes r.sections) = spelled bytes (config_of bytes l.due l.self) (config_of bytes c.in-Ok.due r) (tokens_from bytes l.from) x.at l.invariant.follows cut m.0 in
+    let text : SpecText bytes (spec_of bytes r.sections) = spelled bytes (config_of bytes l.due l.self) (config_of bytes c.in-Ok.due r)
+    (tokens_from bytes l.from) x.at l.invariant.follows cut m.0 in
     let same : r.source ≡ c.args.self.now.source = c.step.ensures.same ∙ l.invariant.same in
     let read : SpecText bytes (spec_of r.source.items r.sections) = subst (λ (v : Vec ℕ Global). SpecText bytes (spec_of v.items r.sections)) (sym same) text in
     subst (SpecText bytes) (sym c.take_syntax.ensures.spec) read
@@ -44,5 +47,6 @@ pub loop-due-preserved : goal.loop-due-preserved
 loop-due-preserved c =
     let bytes = c.args.self.now.source.items in
     let l = c.loop-due in
-    reads_on c.args.self.now.source (Decides bytes) (turn bytes) l.from l.due c.in-Ok.due l.self c.step.new.self c.next-lexeme.result c.deref.result.now l.invariant c.in_default.not-End
+    reads_on c.args.self.now.source (Decides bytes) (turn bytes) l.from l.due c.in-Ok.due l.self c.step.new.self c.next-lexeme.result
+    c.deref.result.now l.invariant c.in_default.not-End
     c.deref.ensures.value c.next-lexeme.ensures.within c.next-lexeme.ensures.first c.in-Ok.ensures.moves c.step.ensures.same

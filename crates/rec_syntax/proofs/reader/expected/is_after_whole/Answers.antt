@@ -8,7 +8,8 @@ pub returns-in_default-kind : goal.returns-in_default-kind
 returns-in_default-kind c =
     λ bytes t y.
     let l = term_of bytes c.in-Right.field-0 in
-    rw c.in-Right.is (c.is_after_item.ensures (with_rule y (record { left = l; right = t; conditions = [] })) ∙ sym (rule_ends l t y c.args.kind c.in_default-kind.not-If))
+    rw c.in-Right.is (c.is_after_item.ensures (with_rule y (record { left = l; right = t; conditions = [] }))
+    ∙ sym (rule_ends l t y c.args.kind c.in_default-kind.not-If))
 
 pub returns-in_default-kind-2 : goal.returns-in_default-kind-2
 returns-in_default-kind-2 c =

@@ -21,15 +21,19 @@ returns-in_err-protect_instead-clause-parts g c =
 
 pub returns-clause-stays : goal.returns-clause-stays
 returns-clause-stays g c =
-    (offer-stays (g.B.TermBank.store c.args.engine.now.bank) (g.B.TermBank.store c.hold.new.self.bank) (g.B.TermBank.store c.protect_instead.new.engine.bank) c.args.self.now c.args.t c.in_ok-list.list c.requires.kept c.requires.held
+    (offer-stays (g.B.TermBank.store c.args.engine.now.bank) (g.B.TermBank.store c.hold.new.self.bank)
+    (g.B.TermBank.store c.protect_instead.new.engine.bank) c.args.self.now c.args.t c.in_ok-list.list c.requires.kept c.requires.held
     c.hold.ensures.keeps c.in_ok-list.ensures.held c.in_ok-protect_instead.ensures.ok).0
 
 pub returns-clause-parts : goal.returns-clause-parts
 returns-clause-parts g c = λ t u e part.
-    moved-tree (g.B.TermBank.store c.hold.new.self.bank) (g.B.TermBank.store c.protect_instead.new.engine.bank) c.args.self.now.given c.in_ok-list.list t c.in_ok-protect_instead.ensures.ok
-    ∙ stack-parts (g.B.TermBank.store c.args.engine.now.bank) (g.B.TermBank.store c.hold.new.self.bank) (c.args.t ∷ c.args.self.now.given ∷ []) c.args.self.now c.requires.kept c.hold.ensures.keeps t u e part
+    moved-tree (g.B.TermBank.store c.hold.new.self.bank) (g.B.TermBank.store c.protect_instead.new.engine.bank) c.args.self.now.given
+    c.in_ok-list.list t c.in_ok-protect_instead.ensures.ok
+    ∙ stack-parts (g.B.TermBank.store c.args.engine.now.bank) (g.B.TermBank.store c.hold.new.self.bank) (c.args.t ∷ c.args.self.now.given ∷ [])
+    c.args.self.now c.requires.kept c.hold.ensures.keeps t u e part
 
 pub returns-clause-offered : goal.returns-clause-offered
 returns-clause-offered g c =
-    (offer-stays (g.B.TermBank.store c.args.engine.now.bank) (g.B.TermBank.store c.hold.new.self.bank) (g.B.TermBank.store c.protect_instead.new.engine.bank) c.args.self.now c.args.t c.in_ok-list.list c.requires.kept c.requires.held
+    (offer-stays (g.B.TermBank.store c.args.engine.now.bank) (g.B.TermBank.store c.hold.new.self.bank)
+    (g.B.TermBank.store c.protect_instead.new.engine.bank) c.args.self.now c.args.t c.in_ok-list.list c.requires.kept c.requires.held
     c.hold.ensures.keeps c.in_ok-list.ensures.held c.in_ok-protect_instead.ensures.ok).1

@@ -13,10 +13,14 @@ returns-in_err-protect_instead-clause-stays g c =
 
 pub returns-clause-stays : goal.returns-clause-stays
 returns-clause-stays g c =
-    (put-stays (g.B.TermBank.store c.args.engine.now.bank) (g.B.TermBank.store c.hold.new.self.bank) (g.B.TermBank.store c.protect_instead.new.engine.bank) c.args.self.now c.args.t c.args.below c.in_ok-list.list c.requires.kept c.requires.held c.requires.below
+    (put-stays (g.B.TermBank.store c.args.engine.now.bank) (g.B.TermBank.store c.hold.new.self.bank)
+    (g.B.TermBank.store c.protect_instead.new.engine.bank) c.args.self.now c.args.t c.args.below c.in_ok-list.list c.requires.kept c.requires.held
+    c.requires.below
     c.hold.ensures.keeps c.in_ok-list.ensures.held c.in_ok-protect_instead.ensures.ok).0
 
 pub returns-clause-put : goal.returns-clause-put
 returns-clause-put g c =
-    (put-stays (g.B.TermBank.store c.args.engine.now.bank) (g.B.TermBank.store c.hold.new.self.bank) (g.B.TermBank.store c.protect_instead.new.engine.bank) c.args.self.now c.args.t c.args.below c.in_ok-list.list c.requires.kept c.requires.held c.requires.below
+    (put-stays (g.B.TermBank.store c.args.engine.now.bank) (g.B.TermBank.store c.hold.new.self.bank)
+    (g.B.TermBank.store c.protect_instead.new.engine.bank) c.args.self.now c.args.t c.args.below c.in_ok-list.list c.requires.kept c.requires.held
+    c.requires.below
     c.hold.ensures.keeps c.in_ok-list.ensures.held c.in_ok-protect_instead.ensures.ok).1

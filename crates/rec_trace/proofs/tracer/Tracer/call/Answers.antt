@@ -60,9 +60,12 @@ returns-in_ok-fire-in-Rule-clause-comes g c =
     let mid = applied-order y w w1 a b (u ∷ st) c.requires.order c.apply.ensures.stays.kept refl c.in_ok-apply.ensures.applied in
     let w2 = g.B.TermBank.store c.find.new.engine.bank in
     let d = c.find.new.self in
-    let found = subst (λ z. IsFound z w1 w2 b d (first_rule z (Eval z) z.rules b.left (on_top (stack_at w1 b))) c.in_ok-rule.field-0) c.apply.ensures.same.spec c.in_ok-rule.ensures.found in
+    let found = subst (λ z. IsFound z w1 w2 b d (first_rule z (Eval z) z.rules b.left (on_top (stack_at w1 b))) c.in_ok-rule.field-0)
+    c.apply.ensures.same.spec c.in_ok-rule.ensures.found in
     let w3 = g.B.TermBank.store c.fire.new.engine.bank in
-    let fires = subst (λ z. (r : Rule) (s : Substitution) → IsMatch z c.in-Rule.rule (on_top (stack_at w2 d)) r s → Fires z w2 w3 d c.fire.new.self c.in-Rule.rule r s c.in_ok-fire-in-Rule.field-0) (c.find.ensures.same.spec ∙ c.apply.ensures.same.spec) c.in_ok-fire-in-Rule.ensures.fires in
+    let fires = subst (λ z. (r : Rule) (s : Substitution) → IsMatch z c.in-Rule.rule (on_top (stack_at w2 d)) r s
+    → Fires z w2 w3 d c.fire.new.self c.in-Rule.rule r s c.in_ok-fire-in-Rule.field-0) (c.find.ensures.same.spec ∙ c.apply.ensures.same.spec)
+    c.in_ok-fire-in-Rule.ensures.fires in
     call-fires y w w1 w2 a b d u st mid.1 mid.2 refl w3 c.fire.new.self c.in-Rule.rule c.in_ok-fire-in-Rule.field-0
     (subst (IsFound y w1 w2 b d (first_rule y (Eval y) y.rules b.left (on_top (stack_at w1 b)))) c.in-Rule.is found) fires
 
@@ -81,8 +84,10 @@ returns-in-Nothing-clause-comes g c =
     let mid = applied-order y w w1 a b (u ∷ st) c.requires.order c.apply.ensures.stays.kept refl c.in_ok-apply.ensures.applied in
     let w2 = g.B.TermBank.store c.find.new.engine.bank in
     let d = c.find.new.self in
-    let found = subst (λ z. IsFound z w1 w2 b d (first_rule z (Eval z) z.rules b.left (on_top (stack_at w1 b))) c.in_ok-rule.field-0) c.apply.ensures.same.spec c.in_ok-rule.ensures.found in
-    call-ends y w w1 w2 a b d u st mid.1 mid.2 refl (subst (IsFound y w1 w2 b d (first_rule y (Eval y) y.rules b.left (on_top (stack_at w1 b)))) c.in-Nothing.is found)
+    let found = subst (λ z. IsFound z w1 w2 b d (first_rule z (Eval z) z.rules b.left (on_top (stack_at w1 b))) c.in_ok-rule.field-0)
+    c.apply.ensures.same.spec c.in_ok-rule.ensures.found in
+    call-ends y w w1 w2 a b d u st mid.1 mid.2 refl (subst (IsFound y w1 w2 b d (first_rule y (Eval y) y.rules b.left (on_top (stack_at w1 b))))
+    c.in-Nothing.is found)
 
 pub returns-in-Limit-clause-stays : goal.returns-in-Limit-clause-stays
 returns-in-Limit-clause-stays g c = stays-trans c.apply.ensures.stays c.find.ensures.stays
@@ -99,5 +104,7 @@ returns-in-Limit-clause-comes g c =
     let mid = applied-order y w w1 a b (u ∷ st) c.requires.order c.apply.ensures.stays.kept refl c.in_ok-apply.ensures.applied in
     let w2 = g.B.TermBank.store c.find.new.engine.bank in
     let d = c.find.new.self in
-    let found = subst (λ z. IsFound z w1 w2 b d (first_rule z (Eval z) z.rules b.left (on_top (stack_at w1 b))) c.in_ok-rule.field-0) c.apply.ensures.same.spec c.in_ok-rule.ensures.found in
-    call-over y w w1 w2 a b d u st mid.1 mid.2 refl (subst (IsFound y w1 w2 b d (first_rule y (Eval y) y.rules b.left (on_top (stack_at w1 b)))) c.in-Limit.is found)
+    let found = subst (λ z. IsFound z w1 w2 b d (first_rule z (Eval z) z.rules b.left (on_top (stack_at w1 b))) c.in_ok-rule.field-0)
+    c.apply.ensures.same.spec c.in_ok-rule.ensures.found in
+    call-over y w w1 w2 a b d u st mid.1 mid.2 refl (subst (IsFound y w1 w2 b d (first_rule y (Eval y) y.rules b.left (on_top (stack_at w1 b))))
+    c.in-Limit.is found)

@@ -29,7 +29,8 @@ index-requires g c =
     let y = c.args.engine.now.spec in
     let x = c.index-rules-rule.result in
     let letters = subst (λ z. Pairwise (IsLetterRule z) c.rules.result.now z.rules) c.checked.ensures c.rules.ensures.letters in
-    let counted = (rule-read y c.requires.order.good c.rules.result.now letters c.args.rule c.requires.can.0 x c.requires.can.1 c.index-rules-rule.is).counted in
+    let counted = (rule-read y c.requires.order.good c.rules.result.now letters c.args.rule c.requires.can.0 x c.requires.can.1
+    c.index-rules-rule.is).counted in
     let v = x.conditions.ok.0 in
     let lt = c.requires.can.2 in
     let same = ap (λ (z : LetterRule). vec_len z.conditions) c.index-rules-rule.is in
@@ -39,8 +40,10 @@ pub returns-clause-held : goal.returns-clause-held
 returns-clause-held g c =
     let w = g.B.TermBank.store c.args.engine.now.bank in
     let b = is-below w c.args.self.now.lists.stack c.tail-rest.result c.tail-below.result c.requires.order.kept.stack c.requires.two
-    (subst (λ b. tree_at (g.B.TermBank.store b) c.tail-rest.result ≡ part_at tail_of (g.B.TermBank.store b) c.args.self.now.lists.stack) c.bank-2.ensures c.tail-rest.ensures)
-    (subst (λ b. tree_at (g.B.TermBank.store b) c.tail-below.result ≡ part_at tail_of (g.B.TermBank.store b) c.tail-rest.result) c.bank-4.ensures c.tail-below.ensures) in
+    (subst (λ b. tree_at (g.B.TermBank.store b) c.tail-rest.result ≡ part_at tail_of (g.B.TermBank.store b) c.args.self.now.lists.stack)
+    c.bank-2.ensures c.tail-rest.ensures)
+    (subst (λ b. tree_at (g.B.TermBank.store b) c.tail-below.result ≡ part_at tail_of (g.B.TermBank.store b) c.tail-rest.result) c.bank-4.ensures
+    c.tail-below.ensures) in
     record { given = c.in_ok-cut.ensures.cut.given; stack = c.in_ok-cut.ensures.cut.stack ∙ b.below_is }
 
 pub returns-clause-answer : goal.returns-clause-answer
@@ -59,13 +62,15 @@ returns-clause-answer g c = λ r e.
     ∙ read.equals c.args.i c.index.result.now (subst (λ (z : Rule). c.args.i < length z.conditions) same c.requires.can.2) in
     let b = is-below w stack c.tail-rest.result c.tail-below.result c.requires.order.kept.stack c.requires.two
     (subst (λ b. tree_at (g.B.TermBank.store b) c.tail-rest.result ≡ part_at tail_of (g.B.TermBank.store b) stack) c.bank-2.ensures c.tail-rest.ensures)
-    (subst (λ b. tree_at (g.B.TermBank.store b) c.tail-below.result ≡ part_at tail_of (g.B.TermBank.store b) c.tail-rest.result) c.bank-4.ensures c.tail-below.ensures) in
+    (subst (λ b. tree_at (g.B.TermBank.store b) c.tail-below.result ≡ part_at tail_of (g.B.TermBank.store b) c.tail-rest.result) c.bank-4.ensures
+    c.tail-below.ensures) in
     let two = c.requires.two in
     let right : tree_at w c.head-right.result ≡ Some (get_or st 0 (list_of none)) =
     subst (λ b. tree_at (g.B.TermBank.store b) c.head-right.result ≡ part_at head_of (g.B.TermBank.store b) stack) c.bank.ensures c.head-right.ensures
     ∙ head-is w stack c.requires.order.kept.stack (omega (arith, two)) in
     let left : tree_at w c.head-left.result ≡ Some (get_or st 1 (list_of none)) =
-    subst (λ b. tree_at (g.B.TermBank.store b) c.head-left.result ≡ part_at head_of (g.B.TermBank.store b) c.tail-rest.result) c.bank-3.ensures c.head-left.ensures
+    subst (λ b. tree_at (g.B.TermBank.store b) c.head-left.result ≡ part_at head_of (g.B.TermBank.store b) c.tail-rest.result) c.bank-3.ensures
+    c.head-left.ensures
     ∙ b.second_is in
     let test = same_trees w c.head-left.result c.head-right.result (g.met.B.TermBank.sound c.args.engine.now.bank) (ap is_some left) (ap is_some right) in
     let shown : tree_eq (get_or st 1 (list_of none)) (get_or st 0 (list_of none)) ≡ nat_eq c.head-left.result.0 c.head-right.result.0 =

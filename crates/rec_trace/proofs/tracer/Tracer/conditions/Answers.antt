@@ -42,14 +42,16 @@ condition-requires g c =
     let letters = subst (λ z. Pairwise (IsLetterRule z) c.rules.result.now z.rules) c.checked.ensures c.rules.ensures.letters in
     let q = c.requires.can in
     let counted : c.len-count.result ≡ length q.0.conditions =
-    c.len-count.ensures ∙ ap (λ (z : LetterRule). vec_len z.conditions) (sym c.index-rules-rule.is) ∙ x.conditions.ok.0 ∙ (rule-read y c.requires.order.good c.rules.result.now letters c.args.rule q.0 x q.2.rule c.index-rules-rule.is).counted in
+    c.len-count.ensures ∙ ap (λ (z : LetterRule). vec_len z.conditions) (sym c.index-rules-rule.is) ∙ x.conditions.ok.0
+    ∙ (rule-read y c.requires.order.good c.rules.result.now letters c.args.rule q.0 x q.2.rule c.index-rules-rule.is).counted in
     let t = c.loop-i-test.true in
     record {
       order = subst (λ z. IsInOrder z w1 b) (sym i.same.spec) i.state.order;
       can = (
         q.0,
         q.1,
-        subst (λ z. IsMatch z c.args.rule (on_top (stack_at w1 b)) q.0 q.1) (sym i.same.spec) (subst (λ st. IsMatch y c.args.rule (on_top st) q.0 q.1) (sym i.state.stack) q.2),
+        subst (λ z. IsMatch z c.args.rule (on_top (stack_at w1 b)) q.0 q.1) (sym i.same.spec)
+            (subst (λ st. IsMatch y c.args.rule (on_top st) q.0 q.1) (sym i.state.stack) q.2),
         omega (arith, t, counted),
         subst (λ (st : List Tree). 0 < length st) (sym i.state.stack) q.3,
       );
@@ -68,20 +70,30 @@ loop-i-preserved g c =
     let w2 = g.B.TermBank.store c.condition.new.engine.bank in
     let d = c.condition.new.self in
     let q = c.requires.can in
-    let answers = subst (λ z. (r : Rule) (s : Substitution) → IsMatch z c.args.rule (on_top (stack_at w1 b)) r s → AreAnswered z w1 w2 b d (Holds z b.left s (get_or r.conditions c.loop-i.i no_condition ∷ [])) c.in_ok-condition.field-0) i.same.spec c.in_ok-condition.ensures.answers in
+    let answers = subst (λ z. (r : Rule) (s : Substitution) → IsMatch z c.args.rule (on_top (stack_at w1 b)) r s
+    → AreAnswered z w1 w2 b d (Holds z b.left s (get_or r.conditions c.loop-i.i no_condition ∷ [])) c.in_ok-condition.field-0) i.same.spec
+    c.in_ok-condition.ensures.answers in
     let counted : c.len-count.result ≡ length q.0.conditions =
-    c.len-count.ensures ∙ ap (λ (z : LetterRule). vec_len z.conditions) (sym c.index-rules-rule.is) ∙ x.conditions.ok.0 ∙ (rule-read y c.requires.order.good c.rules.result.now letters c.args.rule q.0 x q.2.rule c.index-rules-rule.is).counted in
+    c.len-count.ensures ∙ ap (λ (z : LetterRule). vec_len z.conditions) (sym c.index-rules-rule.is) ∙ x.conditions.ok.0
+    ∙ (rule-read y c.requires.order.good c.rules.result.now letters c.args.rule q.0 x q.2.rule c.index-rules-rule.is).counted in
     let t = c.loop-i-test.true in
-    let said = asked y w w1 w2 a b d q.1 q.0.conditions c.loop-i.i (Some true) i.state (i.comes q.0 q.1 q.2) (omega (arith, t, counted)) (subst (AreAnswered y w1 w2 b d (Holds y b.left q.1 (get_or q.0.conditions c.loop-i.i no_condition ∷ []))) (c.in-Some-true.is ∙ ap (λ v. let o : Option Bool = Some v in o) c.in-Some-true.field-0-test) (answers q.0 q.1 (subst (λ st. IsMatch y c.args.rule (on_top st) q.0 q.1) (sym i.state.stack) q.2))) in
+    let said = asked y w w1 w2 a b d q.1 q.0.conditions c.loop-i.i (Some true) i.state (i.comes q.0 q.1 q.2) (omega (arith, t, counted))
+    (subst (AreAnswered y w1 w2 b d (Holds y b.left q.1 (get_or q.0.conditions c.loop-i.i no_condition ∷ [])))
+    (c.in-Some-true.is ∙ ap (λ v. let o : Option Bool = Some v in o) c.in-Some-true.field-0-test)
+    (answers q.0 q.1 (subst (λ st. IsMatch y c.args.rule (on_top st) q.0 q.1) (sym i.state.stack) q.2))) in
     record {
       same = same_both i.same c.condition.ensures.same;
       stays = stays-trans i.stays c.condition.ensures.stays;
       state = said.1;
       comes = λ r s match.
           let counted : c.len-count.result ≡ length r.conditions =
-          c.len-count.ensures ∙ ap (λ (z : LetterRule). vec_len z.conditions) (sym c.index-rules-rule.is) ∙ x.conditions.ok.0 ∙ (rule-read y c.requires.order.good c.rules.result.now letters c.args.rule r x match.rule c.index-rules-rule.is).counted in
+          c.len-count.ensures ∙ ap (λ (z : LetterRule). vec_len z.conditions) (sym c.index-rules-rule.is) ∙ x.conditions.ok.0
+          ∙ (rule-read y c.requires.order.good c.rules.result.now letters c.args.rule r x match.rule c.index-rules-rule.is).counted in
           let t = c.loop-i-test.true in
-          let said = asked y w w1 w2 a b d s r.conditions c.loop-i.i (Some true) i.state (i.comes r s match) (omega (arith, t, counted)) (subst (AreAnswered y w1 w2 b d (Holds y b.left s (get_or r.conditions c.loop-i.i no_condition ∷ []))) (c.in-Some-true.is ∙ ap (λ v. let o : Option Bool = Some v in o) c.in-Some-true.field-0-test) (answers r s (subst (λ st. IsMatch y c.args.rule (on_top st) r s) (sym i.state.stack) match))) in
+          let said = asked y w w1 w2 a b d s r.conditions c.loop-i.i (Some true) i.state (i.comes r s match) (omega (arith, t, counted))
+          (subst (AreAnswered y w1 w2 b d (Holds y b.left s (get_or r.conditions c.loop-i.i no_condition ∷ [])))
+          (c.in-Some-true.is ∙ ap (λ v. let o : Option Bool = Some v in o) c.in-Some-true.field-0-test)
+          (answers r s (subst (λ st. IsMatch y c.args.rule (on_top st) r s) (sym i.state.stack) match))) in
           said.0;
     }
 
@@ -103,11 +115,17 @@ returns-in-Some-false-clause-answers g c = λ r s match.
     let letters = subst (λ z. Pairwise (IsLetterRule z) c.rules.result.now z.rules) c.checked.ensures c.rules.ensures.letters in
     let w2 = g.B.TermBank.store c.condition.new.engine.bank in
     let d = c.condition.new.self in
-    let answers = subst (λ z. (r : Rule) (s : Substitution) → IsMatch z c.args.rule (on_top (stack_at w1 b)) r s → AreAnswered z w1 w2 b d (Holds z b.left s (get_or r.conditions c.loop-i.i no_condition ∷ [])) c.in_ok-condition.field-0) i.same.spec c.in_ok-condition.ensures.answers in
+    let answers = subst (λ z. (r : Rule) (s : Substitution) → IsMatch z c.args.rule (on_top (stack_at w1 b)) r s
+    → AreAnswered z w1 w2 b d (Holds z b.left s (get_or r.conditions c.loop-i.i no_condition ∷ [])) c.in_ok-condition.field-0) i.same.spec
+    c.in_ok-condition.ensures.answers in
     let counted : c.len-count.result ≡ length r.conditions =
-    c.len-count.ensures ∙ ap (λ (z : LetterRule). vec_len z.conditions) (sym c.index-rules-rule.is) ∙ x.conditions.ok.0 ∙ (rule-read y c.requires.order.good c.rules.result.now letters c.args.rule r x match.rule c.index-rules-rule.is).counted in
+    c.len-count.ensures ∙ ap (λ (z : LetterRule). vec_len z.conditions) (sym c.index-rules-rule.is) ∙ x.conditions.ok.0
+    ∙ (rule-read y c.requires.order.good c.rules.result.now letters c.args.rule r x match.rule c.index-rules-rule.is).counted in
     let t = c.loop-i-test.true in
-    let said = asked y w w1 w2 a b d s r.conditions c.loop-i.i (Some false) i.state (i.comes r s match) (omega (arith, t, counted)) (subst (AreAnswered y w1 w2 b d (Holds y b.left s (get_or r.conditions c.loop-i.i no_condition ∷ []))) (c.in-Some-false.is ∙ ap (λ v. let o : Option Bool = Some v in o) c.in-Some-false.field-0-test) (answers r s (subst (λ st. IsMatch y c.args.rule (on_top st) r s) (sym i.state.stack) match))) in
+    let said = asked y w w1 w2 a b d s r.conditions c.loop-i.i (Some false) i.state (i.comes r s match) (omega (arith, t, counted))
+    (subst (AreAnswered y w1 w2 b d (Holds y b.left s (get_or r.conditions c.loop-i.i no_condition ∷ [])))
+    (c.in-Some-false.is ∙ ap (λ v. let o : Option Bool = Some v in o) c.in-Some-false.field-0-test)
+    (answers r s (subst (λ st. IsMatch y c.args.rule (on_top st) r s) (sym i.state.stack) match))) in
     (said.0, said.1)
 
 pub returns-in-None-clause-stays : goal.returns-in-None-clause-stays
@@ -125,11 +143,16 @@ returns-in-None-clause-answers g c = λ r s match.
     let letters = subst (λ z. Pairwise (IsLetterRule z) c.rules.result.now z.rules) c.checked.ensures c.rules.ensures.letters in
     let w2 = g.B.TermBank.store c.condition.new.engine.bank in
     let d = c.condition.new.self in
-    let answers = subst (λ z. (r : Rule) (s : Substitution) → IsMatch z c.args.rule (on_top (stack_at w1 b)) r s → AreAnswered z w1 w2 b d (Holds z b.left s (get_or r.conditions c.loop-i.i no_condition ∷ [])) c.in_ok-condition.field-0) i.same.spec c.in_ok-condition.ensures.answers in
+    let answers = subst (λ z. (r : Rule) (s : Substitution) → IsMatch z c.args.rule (on_top (stack_at w1 b)) r s
+    → AreAnswered z w1 w2 b d (Holds z b.left s (get_or r.conditions c.loop-i.i no_condition ∷ [])) c.in_ok-condition.field-0) i.same.spec
+    c.in_ok-condition.ensures.answers in
     let counted : c.len-count.result ≡ length r.conditions =
-    c.len-count.ensures ∙ ap (λ (z : LetterRule). vec_len z.conditions) (sym c.index-rules-rule.is) ∙ x.conditions.ok.0 ∙ (rule-read y c.requires.order.good c.rules.result.now letters c.args.rule r x match.rule c.index-rules-rule.is).counted in
+    c.len-count.ensures ∙ ap (λ (z : LetterRule). vec_len z.conditions) (sym c.index-rules-rule.is) ∙ x.conditions.ok.0
+    ∙ (rule-read y c.requires.order.good c.rules.result.now letters c.args.rule r x match.rule c.index-rules-rule.is).counted in
     let t = c.loop-i-test.true in
-    let said = asked y w w1 w2 a b d s r.conditions c.loop-i.i None i.state (i.comes r s match) (omega (arith, t, counted)) (subst (AreAnswered y w1 w2 b d (Holds y b.left s (get_or r.conditions c.loop-i.i no_condition ∷ []))) (c.in-None.is) (answers r s (subst (λ st. IsMatch y c.args.rule (on_top st) r s) (sym i.state.stack) match))) in
+    let said = asked y w w1 w2 a b d s r.conditions c.loop-i.i None i.state (i.comes r s match) (omega (arith, t, counted))
+    (subst (AreAnswered y w1 w2 b d (Holds y b.left s (get_or r.conditions c.loop-i.i no_condition ∷ []))) (c.in-None.is)
+    (answers r s (subst (λ st. IsMatch y c.args.rule (on_top st) r s) (sym i.state.stack) match))) in
     said
 
 pub returns-clause-answers : goal.returns-clause-answers
@@ -143,6 +166,7 @@ returns-clause-answers g c = λ r s match.
     let x = c.index-rules-rule.result in
     let letters = subst (λ z. Pairwise (IsLetterRule z) c.rules.result.now z.rules) c.checked.ensures c.rules.ensures.letters in
     let counted : c.len-count.result ≡ length r.conditions =
-    c.len-count.ensures ∙ ap (λ (z : LetterRule). vec_len z.conditions) (sym c.index-rules-rule.is) ∙ x.conditions.ok.0 ∙ (rule-read y c.requires.order.good c.rules.result.now letters c.args.rule r x match.rule c.index-rules-rule.is).counted in
+    c.len-count.ensures ∙ ap (λ (z : LetterRule). vec_len z.conditions) (sym c.index-rules-rule.is) ∙ x.conditions.ok.0
+    ∙ (rule-read y c.requires.order.good c.rules.result.now letters c.args.rule r x match.rule c.index-rules-rule.is).counted in
     let t = c.loop-i-test.false in
     all-asked y w w1 a b s r.conditions c.loop-i.i i.state (i.comes r s match) (omega (arith, t, counted))

@@ -24,7 +24,8 @@ rules-init g c = record {
 }
 
 pub next_rule-requires-clause-order : goal.next_rule-requires-clause-order
-next_rule-requires-clause-order g c = subst (λ z. IsInOrder z (g.B.TermBank.store c.rules.engine.bank) c.rules.self) (sym c.rules.invariant.same.spec) c.rules.invariant.state.order
+next_rule-requires-clause-order g c = subst (λ z. IsInOrder z (g.B.TermBank.store c.rules.engine.bank) c.rules.self) (sym c.rules.invariant.same.spec)
+    c.rules.invariant.state.order
 
 pub next_rule-requires-clause-some : goal.next_rule-requires-clause-some
 next_rule-requires-clause-some g c = subst (λ (st : List Tree). 0 < length st) (sym c.rules.invariant.state.stack) c.requires.some
@@ -46,7 +47,13 @@ returns-then-self-eq0-clause-found g c =
 pub conditions-requires-clause-order : goal.conditions-requires-clause-order
 conditions-requires-clause-order g c =
     let i = c.rules.invariant in
-    record { good = subst (λ (z : Spec). fault z ≡ None) (sym i.same.spec) i.state.order.good; kept = i.state.order.kept; steps = subst (λ z. AreSteps z (reverse c.rules.self.steps.items) (listed (g.B.TermBank.store c.rules.engine.bank) c.rules.self.lists.given)) (sym i.same.spec) i.state.order.steps }
+    record {
+      good = subst (λ (z : Spec). fault z ≡ None) (sym i.same.spec) i.state.order.good;
+      kept = i.state.order.kept;
+      steps =
+          subst (λ z. AreSteps z (reverse c.rules.self.steps.items) (listed (g.B.TermBank.store c.rules.engine.bank) c.rules.self.lists.given))
+          (sym i.same.spec) i.state.order.steps;
+    }
 
 pub conditions-requires-clause-can : goal.conditions-requires-clause-can
 conditions-requires-clause-can g c =
@@ -62,7 +69,8 @@ conditions-requires-clause-can g c =
     let n = next-rule y u c.rules.from c.in-Some.rule (here ∙ c.in-Some.is) in (
       n.rule,
       n.values,
-      subst (λ z. IsMatch z c.in-Some.rule (on_top (stack_at w1 b)) n.rule n.values) (sym i.same.spec) (subst (λ st. IsMatch y c.in-Some.rule (on_top st) n.rule n.values) (sym i.state.stack) n.match),
+      subst (λ z. IsMatch z c.in-Some.rule (on_top (stack_at w1 b)) n.rule n.values) (sym i.same.spec)
+          (subst (λ st. IsMatch y c.in-Some.rule (on_top st) n.rule n.values) (sym i.state.stack) n.match),
       subst (λ (st : List Tree). 0 < length st) (sym i.state.stack) c.requires.some,
     )
 
@@ -88,8 +96,11 @@ returns-in-Some-true-clause-found g c =
     let w2 = g.B.TermBank.store c.conditions.new.engine.bank in
     let d = c.conditions.new.self in
     let less : Tracer = record { steps = b.steps; lists = b.lists; left = b.left - 1 } in
-    let answers = subst (λ z. (r : Rule) (s : Substitution) → IsMatch z c.in-Some.rule (on_top (stack_at w1 b)) r s → AreAnswered z w1 w2 less d (Holds z (b.left - 1) s r.conditions) c.in_ok-conditions.field-0) i.same.spec c.in_ok-conditions.ensures.answers in
-    let answer = subst (AreAnswered y w1 w2 less d (Holds y (b.left - 1) n.values n.rule.conditions)) (c.in-Some-true.is ∙ ap (λ v. let o : Option Bool = Some v in o) c.in-Some-true.field-0-test) (answers n.rule n.values (subst (λ st. IsMatch y c.in-Some.rule (on_top st) n.rule n.values) (sym i.state.stack) n.match)) in
+    let answers = subst (λ z. (r : Rule) (s : Substitution) → IsMatch z c.in-Some.rule (on_top (stack_at w1 b)) r s
+    → AreAnswered z w1 w2 less d (Holds z (b.left - 1) s r.conditions) c.in_ok-conditions.field-0) i.same.spec c.in_ok-conditions.ensures.answers in
+    let answer = subst (AreAnswered y w1 w2 less d (Holds y (b.left - 1) n.values n.rule.conditions))
+    (c.in-Some-true.is ∙ ap (λ v. let o : Option Bool = Some v in o) c.in-Some-true.field-0-test)
+    (answers n.rule n.values (subst (λ st. IsMatch y c.in-Some.rule (on_top st) n.rule n.values) (sym i.state.stack) n.match)) in
     let said = tried-rule y w w1 w2 a b less d u c.rules.from c.in-Some.rule (Some true) n i.state i.comes (omega (arith, some)) refl refl refl answer in
     said
 
@@ -123,8 +134,11 @@ rules-preserved g c =
     let w2 = g.B.TermBank.store c.conditions.new.engine.bank in
     let d = c.conditions.new.self in
     let less : Tracer = record { steps = b.steps; lists = b.lists; left = b.left - 1 } in
-    let answers = subst (λ z. (r : Rule) (s : Substitution) → IsMatch z c.in-Some.rule (on_top (stack_at w1 b)) r s → AreAnswered z w1 w2 less d (Holds z (b.left - 1) s r.conditions) c.in_ok-conditions.field-0) i.same.spec c.in_ok-conditions.ensures.answers in
-    let answer = subst (AreAnswered y w1 w2 less d (Holds y (b.left - 1) n.values n.rule.conditions)) (c.in-Some-false.is ∙ ap (λ v. let o : Option Bool = Some v in o) c.in-Some-false.field-0-test) (answers n.rule n.values (subst (λ st. IsMatch y c.in-Some.rule (on_top st) n.rule n.values) (sym i.state.stack) n.match)) in
+    let answers = subst (λ z. (r : Rule) (s : Substitution) → IsMatch z c.in-Some.rule (on_top (stack_at w1 b)) r s
+    → AreAnswered z w1 w2 less d (Holds z (b.left - 1) s r.conditions) c.in_ok-conditions.field-0) i.same.spec c.in_ok-conditions.ensures.answers in
+    let answer = subst (AreAnswered y w1 w2 less d (Holds y (b.left - 1) n.values n.rule.conditions))
+    (c.in-Some-false.is ∙ ap (λ v. let o : Option Bool = Some v in o) c.in-Some-false.field-0-test)
+    (answers n.rule n.values (subst (λ st. IsMatch y c.in-Some.rule (on_top st) n.rule n.values) (sym i.state.stack) n.match)) in
     let said = tried-rule y w w1 w2 a b less d u c.rules.from c.in-Some.rule (Some false) n i.state i.comes (omega (arith, some)) refl refl refl answer in
     record {
       same = same_both i.same c.conditions.ensures.same;
@@ -170,8 +184,10 @@ returns-in-None-clause-found g c =
     let w2 = g.B.TermBank.store c.conditions.new.engine.bank in
     let d = c.conditions.new.self in
     let less : Tracer = record { steps = b.steps; lists = b.lists; left = b.left - 1 } in
-    let answers = subst (λ z. (r : Rule) (s : Substitution) → IsMatch z c.in-Some.rule (on_top (stack_at w1 b)) r s → AreAnswered z w1 w2 less d (Holds z (b.left - 1) s r.conditions) c.in_ok-conditions.field-0) i.same.spec c.in_ok-conditions.ensures.answers in
-    let answer = subst (AreAnswered y w1 w2 less d (Holds y (b.left - 1) n.values n.rule.conditions)) (c.in-None.is) (answers n.rule n.values (subst (λ st. IsMatch y c.in-Some.rule (on_top st) n.rule n.values) (sym i.state.stack) n.match)) in
+    let answers = subst (λ z. (r : Rule) (s : Substitution) → IsMatch z c.in-Some.rule (on_top (stack_at w1 b)) r s
+    → AreAnswered z w1 w2 less d (Holds z (b.left - 1) s r.conditions) c.in_ok-conditions.field-0) i.same.spec c.in_ok-conditions.ensures.answers in
+    let answer = subst (AreAnswered y w1 w2 less d (Holds y (b.left - 1) n.values n.rule.conditions)) (c.in-None.is)
+    (answers n.rule n.values (subst (λ st. IsMatch y c.in-Some.rule (on_top st) n.rule n.values) (sym i.state.stack) n.match)) in
     let said = tried-rule y w w1 w2 a b less d u c.rules.from c.in-Some.rule None n i.state i.comes (omega (arith, some)) refl refl refl answer in
     said
 

@@ -27,12 +27,15 @@ second-redex-requires-clause-two g c =
     let b = c.side.new.self in
     let q = c.requires.can in
     let st = stack_at w a in
-    let top = subst (λ k. tree_at (g.B.TermBank.store k) c.head-redex.result ≡ part_at head_of (g.B.TermBank.store k) a.lists.stack) c.bank.ensures c.head-redex.ensures ∙ head-is w a.lists.stack c.requires.order.kept.stack q.3 in
+    let top = subst (λ k. tree_at (g.B.TermBank.store k) c.head-redex.result ≡ part_at head_of (g.B.TermBank.store k) a.lists.stack) c.bank.ensures
+    c.head-redex.ensures ∙ head-is w a.lists.stack c.requires.order.kept.stack q.3 in
     let held = held-as w c.head-redex.result (on_top st) top in
-    let wrote = side-written y w w1 a b q.1 q.0.right c.in_ok-side.field-0 (c.in_ok-side.ensures.gives q.0 q.1 (subst (λ u. IsMatch y c.args.rule u q.0 q.1) (sym held) q.2)) in
+    let wrote = side-written y w w1 a b q.1 q.0.right c.in_ok-side.field-0
+    (c.in_ok-side.ensures.gives q.0 q.1 (subst (λ u. IsMatch y c.args.rule u q.0 q.1) (sym held) q.2)) in
     let some = q.3 in
     subst (λ k. 1 < length (listed (g.B.TermBank.store k) b.lists.stack)) (sym c.bank-2.ensures)
-    (subst (λ (xs : List Tree). 1 < length xs) (sym wrote.1.stack) (let more_than : 1 < length (instance q.1 q.0.right ∷ st) = omega (arith, some) in more_than))
+    (subst (λ (xs : List Tree). 1 < length xs) (sym wrote.1.stack) (let more_than : 1 < length (instance q.1 q.0.right ∷ st) = omega (arith, some) in
+    more_than))
 
 pub push_side-requires-clause-order : goal.push_side-requires-clause-order
 push_side-requires-clause-order g c =
@@ -43,9 +46,11 @@ push_side-requires-clause-order g c =
     let b = c.side.new.self in
     let q = c.requires.can in
     let st = stack_at w a in
-    let top = subst (λ k. tree_at (g.B.TermBank.store k) c.head-redex.result ≡ part_at head_of (g.B.TermBank.store k) a.lists.stack) c.bank.ensures c.head-redex.ensures ∙ head-is w a.lists.stack c.requires.order.kept.stack q.3 in
+    let top = subst (λ k. tree_at (g.B.TermBank.store k) c.head-redex.result ≡ part_at head_of (g.B.TermBank.store k) a.lists.stack) c.bank.ensures
+    c.head-redex.ensures ∙ head-is w a.lists.stack c.requires.order.kept.stack q.3 in
     let held = held-as w c.head-redex.result (on_top st) top in
-    let wrote = side-written y w w1 a b q.1 q.0.right c.in_ok-side.field-0 (c.in_ok-side.ensures.gives q.0 q.1 (subst (λ u. IsMatch y c.args.rule u q.0 q.1) (sym held) q.2)) in
+    let wrote = side-written y w w1 a b q.1 q.0.right c.in_ok-side.field-0
+    (c.in_ok-side.ensures.gives q.0 q.1 (subst (λ u. IsMatch y c.args.rule u q.0 q.1) (sym held) q.2)) in
     let some = q.3 in
     subst (λ z. IsInOrder z w1 b) (sym c.side.ensures.same.spec) wrote.1.order
 
@@ -58,12 +63,15 @@ push_side-requires-clause-can g c =
     let b = c.side.new.self in
     let q = c.requires.can in
     let st = stack_at w a in
-    let top = subst (λ k. tree_at (g.B.TermBank.store k) c.head-redex.result ≡ part_at head_of (g.B.TermBank.store k) a.lists.stack) c.bank.ensures c.head-redex.ensures ∙ head-is w a.lists.stack c.requires.order.kept.stack q.3 in
+    let top = subst (λ k. tree_at (g.B.TermBank.store k) c.head-redex.result ≡ part_at head_of (g.B.TermBank.store k) a.lists.stack) c.bank.ensures
+    c.head-redex.ensures ∙ head-is w a.lists.stack c.requires.order.kept.stack q.3 in
     let held = held-as w c.head-redex.result (on_top st) top in
-    let wrote = side-written y w w1 a b q.1 q.0.right c.in_ok-side.field-0 (c.in_ok-side.ensures.gives q.0 q.1 (subst (λ u. IsMatch y c.args.rule u q.0 q.1) (sym held) q.2)) in
+    let wrote = side-written y w w1 a b q.1 q.0.right c.in_ok-side.field-0
+    (c.in_ok-side.ensures.gives q.0 q.1 (subst (λ u. IsMatch y c.args.rule u q.0 q.1) (sym held) q.2)) in
     let some = q.3 in
     let again : tree_at w1 c.second-redex.result ≡ Some (on_top st) =
-    subst (λ k. tree_at (g.B.TermBank.store k) c.second-redex.result ≡ Some (get_or (listed (g.B.TermBank.store k) b.lists.stack) 1 (list_of none))) c.bank-2.ensures c.second-redex.ensures
+    subst (λ k. tree_at (g.B.TermBank.store k) c.second-redex.result ≡ Some (get_or (listed (g.B.TermBank.store k) b.lists.stack) 1 (list_of none)))
+    c.bank-2.ensures c.second-redex.ensures
     ∙ ap (λ (xs : List Tree). let o : Option Tree = Some (get_or xs 1 (list_of none)) in o) wrote.1.stack in
     subst (λ z. CanTake z w1 b c.args.rule Contractum c.second-redex.result) (sym c.side.ensures.same.spec)
     (can-take y w1 b c.args.rule Contractum c.second-redex.result (on_top st) q.0 q.1 q.2 tt again
@@ -81,20 +89,26 @@ head-contractum-requires g c =
     let b = c.side.new.self in
     let q = c.requires.can in
     let st = stack_at w a in
-    let top = subst (λ k. tree_at (g.B.TermBank.store k) c.head-redex.result ≡ part_at head_of (g.B.TermBank.store k) a.lists.stack) c.bank.ensures c.head-redex.ensures ∙ head-is w a.lists.stack c.requires.order.kept.stack q.3 in
+    let top = subst (λ k. tree_at (g.B.TermBank.store k) c.head-redex.result ≡ part_at head_of (g.B.TermBank.store k) a.lists.stack) c.bank.ensures
+    c.head-redex.ensures ∙ head-is w a.lists.stack c.requires.order.kept.stack q.3 in
     let held = held-as w c.head-redex.result (on_top st) top in
-    let wrote = side-written y w w1 a b q.1 q.0.right c.in_ok-side.field-0 (c.in_ok-side.ensures.gives q.0 q.1 (subst (λ u. IsMatch y c.args.rule u q.0 q.1) (sym held) q.2)) in
+    let wrote = side-written y w w1 a b q.1 q.0.right c.in_ok-side.field-0
+    (c.in_ok-side.ensures.gives q.0 q.1 (subst (λ u. IsMatch y c.args.rule u q.0 q.1) (sym held) q.2)) in
     let some = q.3 in
     let again : tree_at w1 c.second-redex.result ≡ Some (on_top st) =
-    subst (λ k. tree_at (g.B.TermBank.store k) c.second-redex.result ≡ Some (get_or (listed (g.B.TermBank.store k) b.lists.stack) 1 (list_of none))) c.bank-2.ensures c.second-redex.ensures
+    subst (λ k. tree_at (g.B.TermBank.store k) c.second-redex.result ≡ Some (get_or (listed (g.B.TermBank.store k) b.lists.stack) 1 (list_of none)))
+    c.bank-2.ensures c.second-redex.ensures
     ∙ ap (λ (xs : List Tree). let o : Option Tree = Some (get_or xs 1 (list_of none)) in o) wrote.1.stack in
     let w2 = g.B.TermBank.store c.push_side.new.engine.bank in
     let d = c.push_side.new.self in
-    let pushes = subst (λ z. (r : Rule) (s : Substitution) → IsMatch z c.args.rule (held_tree w1 c.second-redex.result) r s → HasMoves z w1 w2 b d (moves s r.right)) c.side.ensures.same.spec c.in_ok-push_side.ensures.pushed in
+    let pushes = subst (λ z. (r : Rule) (s : Substitution) → IsMatch z c.args.rule (held_tree w1 c.second-redex.result) r s
+    → HasMoves z w1 w2 b d (moves s r.right)) c.side.ensures.same.spec c.in_ok-push_side.ensures.pushed in
     let pushed = pushes q.0 q.1 (subst (λ u. IsMatch y c.args.rule u q.0 q.1) (sym (held-as w1 c.second-redex.result (on_top st) again)) q.2) in
     let list = pushed.order.kept.stack in
-    let two : 1 < length (stack_at w2 d) = subst (λ (xs : List Tree). 1 < length xs) (sym (pushed.stack ∙ wrote.1.stack)) (let more_than : 1 < length (instance q.1 q.0.right ∷ st) = omega (arith, some) in more_than) in
-    subst (λ k. IsSome (part_at head_of (g.B.TermBank.store k) d.lists.stack)) (sym c.bank-3.ensures) (ap is_some (head-is w2 d.lists.stack list (omega (arith, two))))
+    let two : 1 < length (stack_at w2 d) = subst (λ (xs : List Tree). 1 < length xs) (sym (pushed.stack ∙ wrote.1.stack))
+    (let more_than : 1 < length (instance q.1 q.0.right ∷ st) = omega (arith, some) in more_than) in
+    subst (λ k. IsSome (part_at head_of (g.B.TermBank.store k) d.lists.stack)) (sym c.bank-3.ensures)
+    (ap is_some (head-is w2 d.lists.stack list (omega (arith, two))))
 
 pub tail-rest-requires : goal.tail-rest-requires
 tail-rest-requires g c =
@@ -105,20 +119,26 @@ tail-rest-requires g c =
     let b = c.side.new.self in
     let q = c.requires.can in
     let st = stack_at w a in
-    let top = subst (λ k. tree_at (g.B.TermBank.store k) c.head-redex.result ≡ part_at head_of (g.B.TermBank.store k) a.lists.stack) c.bank.ensures c.head-redex.ensures ∙ head-is w a.lists.stack c.requires.order.kept.stack q.3 in
+    let top = subst (λ k. tree_at (g.B.TermBank.store k) c.head-redex.result ≡ part_at head_of (g.B.TermBank.store k) a.lists.stack) c.bank.ensures
+    c.head-redex.ensures ∙ head-is w a.lists.stack c.requires.order.kept.stack q.3 in
     let held = held-as w c.head-redex.result (on_top st) top in
-    let wrote = side-written y w w1 a b q.1 q.0.right c.in_ok-side.field-0 (c.in_ok-side.ensures.gives q.0 q.1 (subst (λ u. IsMatch y c.args.rule u q.0 q.1) (sym held) q.2)) in
+    let wrote = side-written y w w1 a b q.1 q.0.right c.in_ok-side.field-0
+    (c.in_ok-side.ensures.gives q.0 q.1 (subst (λ u. IsMatch y c.args.rule u q.0 q.1) (sym held) q.2)) in
     let some = q.3 in
     let again : tree_at w1 c.second-redex.result ≡ Some (on_top st) =
-    subst (λ k. tree_at (g.B.TermBank.store k) c.second-redex.result ≡ Some (get_or (listed (g.B.TermBank.store k) b.lists.stack) 1 (list_of none))) c.bank-2.ensures c.second-redex.ensures
+    subst (λ k. tree_at (g.B.TermBank.store k) c.second-redex.result ≡ Some (get_or (listed (g.B.TermBank.store k) b.lists.stack) 1 (list_of none)))
+    c.bank-2.ensures c.second-redex.ensures
     ∙ ap (λ (xs : List Tree). let o : Option Tree = Some (get_or xs 1 (list_of none)) in o) wrote.1.stack in
     let w2 = g.B.TermBank.store c.push_side.new.engine.bank in
     let d = c.push_side.new.self in
-    let pushes = subst (λ z. (r : Rule) (s : Substitution) → IsMatch z c.args.rule (held_tree w1 c.second-redex.result) r s → HasMoves z w1 w2 b d (moves s r.right)) c.side.ensures.same.spec c.in_ok-push_side.ensures.pushed in
+    let pushes = subst (λ z. (r : Rule) (s : Substitution) → IsMatch z c.args.rule (held_tree w1 c.second-redex.result) r s
+    → HasMoves z w1 w2 b d (moves s r.right)) c.side.ensures.same.spec c.in_ok-push_side.ensures.pushed in
     let pushed = pushes q.0 q.1 (subst (λ u. IsMatch y c.args.rule u q.0 q.1) (sym (held-as w1 c.second-redex.result (on_top st) again)) q.2) in
     let list = pushed.order.kept.stack in
-    let two : 1 < length (stack_at w2 d) = subst (λ (xs : List Tree). 1 < length xs) (sym (pushed.stack ∙ wrote.1.stack)) (let more_than : 1 < length (instance q.1 q.0.right ∷ st) = omega (arith, some) in more_than) in
-    subst (λ k. IsSome (part_at tail_of (g.B.TermBank.store k) d.lists.stack)) (sym c.bank-4.ensures) (ap is_some (tail-is w2 d.lists.stack list (omega (arith, two))))
+    let two : 1 < length (stack_at w2 d) = subst (λ (xs : List Tree). 1 < length xs) (sym (pushed.stack ∙ wrote.1.stack))
+    (let more_than : 1 < length (instance q.1 q.0.right ∷ st) = omega (arith, some) in more_than) in
+    subst (λ k. IsSome (part_at tail_of (g.B.TermBank.store k) d.lists.stack)) (sym c.bank-4.ensures)
+    (ap is_some (tail-is w2 d.lists.stack list (omega (arith, two))))
 
 pub head-redex-requires-2 : goal.head-redex-requires-2
 head-redex-requires-2 g c =
@@ -129,21 +149,28 @@ head-redex-requires-2 g c =
     let b = c.side.new.self in
     let q = c.requires.can in
     let st = stack_at w a in
-    let top = subst (λ k. tree_at (g.B.TermBank.store k) c.head-redex.result ≡ part_at head_of (g.B.TermBank.store k) a.lists.stack) c.bank.ensures c.head-redex.ensures ∙ head-is w a.lists.stack c.requires.order.kept.stack q.3 in
+    let top = subst (λ k. tree_at (g.B.TermBank.store k) c.head-redex.result ≡ part_at head_of (g.B.TermBank.store k) a.lists.stack) c.bank.ensures
+    c.head-redex.ensures ∙ head-is w a.lists.stack c.requires.order.kept.stack q.3 in
     let held = held-as w c.head-redex.result (on_top st) top in
-    let wrote = side-written y w w1 a b q.1 q.0.right c.in_ok-side.field-0 (c.in_ok-side.ensures.gives q.0 q.1 (subst (λ u. IsMatch y c.args.rule u q.0 q.1) (sym held) q.2)) in
+    let wrote = side-written y w w1 a b q.1 q.0.right c.in_ok-side.field-0
+    (c.in_ok-side.ensures.gives q.0 q.1 (subst (λ u. IsMatch y c.args.rule u q.0 q.1) (sym held) q.2)) in
     let some = q.3 in
     let again : tree_at w1 c.second-redex.result ≡ Some (on_top st) =
-    subst (λ k. tree_at (g.B.TermBank.store k) c.second-redex.result ≡ Some (get_or (listed (g.B.TermBank.store k) b.lists.stack) 1 (list_of none))) c.bank-2.ensures c.second-redex.ensures
+    subst (λ k. tree_at (g.B.TermBank.store k) c.second-redex.result ≡ Some (get_or (listed (g.B.TermBank.store k) b.lists.stack) 1 (list_of none)))
+    c.bank-2.ensures c.second-redex.ensures
     ∙ ap (λ (xs : List Tree). let o : Option Tree = Some (get_or xs 1 (list_of none)) in o) wrote.1.stack in
     let w2 = g.B.TermBank.store c.push_side.new.engine.bank in
     let d = c.push_side.new.self in
-    let pushes = subst (λ z. (r : Rule) (s : Substitution) → IsMatch z c.args.rule (held_tree w1 c.second-redex.result) r s → HasMoves z w1 w2 b d (moves s r.right)) c.side.ensures.same.spec c.in_ok-push_side.ensures.pushed in
+    let pushes = subst (λ z. (r : Rule) (s : Substitution) → IsMatch z c.args.rule (held_tree w1 c.second-redex.result) r s
+    → HasMoves z w1 w2 b d (moves s r.right)) c.side.ensures.same.spec c.in_ok-push_side.ensures.pushed in
     let pushed = pushes q.0 q.1 (subst (λ u. IsMatch y c.args.rule u q.0 q.1) (sym (held-as w1 c.second-redex.result (on_top st) again)) q.2) in
     let list = pushed.order.kept.stack in
-    let two : 1 < length (stack_at w2 d) = subst (λ (xs : List Tree). 1 < length xs) (sym (pushed.stack ∙ wrote.1.stack)) (let more_than : 1 < length (instance q.1 q.0.right ∷ st) = omega (arith, some) in more_than) in
-    let rest = subst (λ k. tree_at (g.B.TermBank.store k) c.tail-rest.result ≡ part_at tail_of (g.B.TermBank.store k) d.lists.stack) c.bank-4.ensures c.tail-rest.ensures in
-    subst (λ k. IsSome (part_at head_of (g.B.TermBank.store k) c.tail-rest.result)) (sym c.bank-5.ensures) (rest-some w2 d.lists.stack c.tail-rest.result list two rest).0
+    let two : 1 < length (stack_at w2 d) = subst (λ (xs : List Tree). 1 < length xs) (sym (pushed.stack ∙ wrote.1.stack))
+    (let more_than : 1 < length (instance q.1 q.0.right ∷ st) = omega (arith, some) in more_than) in
+    let rest = subst (λ k. tree_at (g.B.TermBank.store k) c.tail-rest.result ≡ part_at tail_of (g.B.TermBank.store k) d.lists.stack) c.bank-4.ensures
+    c.tail-rest.ensures in
+    subst (λ k. IsSome (part_at head_of (g.B.TermBank.store k) c.tail-rest.result)) (sym c.bank-5.ensures)
+    (rest-some w2 d.lists.stack c.tail-rest.result list two rest).0
 
 pub tail-below-requires : goal.tail-below-requires
 tail-below-requires g c =
@@ -154,21 +181,28 @@ tail-below-requires g c =
     let b = c.side.new.self in
     let q = c.requires.can in
     let st = stack_at w a in
-    let top = subst (λ k. tree_at (g.B.TermBank.store k) c.head-redex.result ≡ part_at head_of (g.B.TermBank.store k) a.lists.stack) c.bank.ensures c.head-redex.ensures ∙ head-is w a.lists.stack c.requires.order.kept.stack q.3 in
+    let top = subst (λ k. tree_at (g.B.TermBank.store k) c.head-redex.result ≡ part_at head_of (g.B.TermBank.store k) a.lists.stack) c.bank.ensures
+    c.head-redex.ensures ∙ head-is w a.lists.stack c.requires.order.kept.stack q.3 in
     let held = held-as w c.head-redex.result (on_top st) top in
-    let wrote = side-written y w w1 a b q.1 q.0.right c.in_ok-side.field-0 (c.in_ok-side.ensures.gives q.0 q.1 (subst (λ u. IsMatch y c.args.rule u q.0 q.1) (sym held) q.2)) in
+    let wrote = side-written y w w1 a b q.1 q.0.right c.in_ok-side.field-0
+    (c.in_ok-side.ensures.gives q.0 q.1 (subst (λ u. IsMatch y c.args.rule u q.0 q.1) (sym held) q.2)) in
     let some = q.3 in
     let again : tree_at w1 c.second-redex.result ≡ Some (on_top st) =
-    subst (λ k. tree_at (g.B.TermBank.store k) c.second-redex.result ≡ Some (get_or (listed (g.B.TermBank.store k) b.lists.stack) 1 (list_of none))) c.bank-2.ensures c.second-redex.ensures
+    subst (λ k. tree_at (g.B.TermBank.store k) c.second-redex.result ≡ Some (get_or (listed (g.B.TermBank.store k) b.lists.stack) 1 (list_of none)))
+    c.bank-2.ensures c.second-redex.ensures
     ∙ ap (λ (xs : List Tree). let o : Option Tree = Some (get_or xs 1 (list_of none)) in o) wrote.1.stack in
     let w2 = g.B.TermBank.store c.push_side.new.engine.bank in
     let d = c.push_side.new.self in
-    let pushes = subst (λ z. (r : Rule) (s : Substitution) → IsMatch z c.args.rule (held_tree w1 c.second-redex.result) r s → HasMoves z w1 w2 b d (moves s r.right)) c.side.ensures.same.spec c.in_ok-push_side.ensures.pushed in
+    let pushes = subst (λ z. (r : Rule) (s : Substitution) → IsMatch z c.args.rule (held_tree w1 c.second-redex.result) r s
+    → HasMoves z w1 w2 b d (moves s r.right)) c.side.ensures.same.spec c.in_ok-push_side.ensures.pushed in
     let pushed = pushes q.0 q.1 (subst (λ u. IsMatch y c.args.rule u q.0 q.1) (sym (held-as w1 c.second-redex.result (on_top st) again)) q.2) in
     let list = pushed.order.kept.stack in
-    let two : 1 < length (stack_at w2 d) = subst (λ (xs : List Tree). 1 < length xs) (sym (pushed.stack ∙ wrote.1.stack)) (let more_than : 1 < length (instance q.1 q.0.right ∷ st) = omega (arith, some) in more_than) in
-    let rest = subst (λ k. tree_at (g.B.TermBank.store k) c.tail-rest.result ≡ part_at tail_of (g.B.TermBank.store k) d.lists.stack) c.bank-4.ensures c.tail-rest.ensures in
-    subst (λ k. IsSome (part_at tail_of (g.B.TermBank.store k) c.tail-rest.result)) (sym c.bank-6.ensures) (rest-some w2 d.lists.stack c.tail-rest.result list two rest).1
+    let two : 1 < length (stack_at w2 d) = subst (λ (xs : List Tree). 1 < length xs) (sym (pushed.stack ∙ wrote.1.stack))
+    (let more_than : 1 < length (instance q.1 q.0.right ∷ st) = omega (arith, some) in more_than) in
+    let rest = subst (λ k. tree_at (g.B.TermBank.store k) c.tail-rest.result ≡ part_at tail_of (g.B.TermBank.store k) d.lists.stack) c.bank-4.ensures
+    c.tail-rest.ensures in
+    subst (λ k. IsSome (part_at tail_of (g.B.TermBank.store k) c.tail-rest.result)) (sym c.bank-6.ensures)
+    (rest-some w2 d.lists.stack c.tail-rest.result list two rest).1
 
 pub cut-requires-clause-below : goal.cut-requires-clause-below
 cut-requires-clause-below g c =
@@ -179,21 +213,28 @@ cut-requires-clause-below g c =
     let b = c.side.new.self in
     let q = c.requires.can in
     let st = stack_at w a in
-    let top = subst (λ k. tree_at (g.B.TermBank.store k) c.head-redex.result ≡ part_at head_of (g.B.TermBank.store k) a.lists.stack) c.bank.ensures c.head-redex.ensures ∙ head-is w a.lists.stack c.requires.order.kept.stack q.3 in
+    let top = subst (λ k. tree_at (g.B.TermBank.store k) c.head-redex.result ≡ part_at head_of (g.B.TermBank.store k) a.lists.stack) c.bank.ensures
+    c.head-redex.ensures ∙ head-is w a.lists.stack c.requires.order.kept.stack q.3 in
     let held = held-as w c.head-redex.result (on_top st) top in
-    let wrote = side-written y w w1 a b q.1 q.0.right c.in_ok-side.field-0 (c.in_ok-side.ensures.gives q.0 q.1 (subst (λ u. IsMatch y c.args.rule u q.0 q.1) (sym held) q.2)) in
+    let wrote = side-written y w w1 a b q.1 q.0.right c.in_ok-side.field-0
+    (c.in_ok-side.ensures.gives q.0 q.1 (subst (λ u. IsMatch y c.args.rule u q.0 q.1) (sym held) q.2)) in
     let some = q.3 in
     let again : tree_at w1 c.second-redex.result ≡ Some (on_top st) =
-    subst (λ k. tree_at (g.B.TermBank.store k) c.second-redex.result ≡ Some (get_or (listed (g.B.TermBank.store k) b.lists.stack) 1 (list_of none))) c.bank-2.ensures c.second-redex.ensures
+    subst (λ k. tree_at (g.B.TermBank.store k) c.second-redex.result ≡ Some (get_or (listed (g.B.TermBank.store k) b.lists.stack) 1 (list_of none)))
+    c.bank-2.ensures c.second-redex.ensures
     ∙ ap (λ (xs : List Tree). let o : Option Tree = Some (get_or xs 1 (list_of none)) in o) wrote.1.stack in
     let w2 = g.B.TermBank.store c.push_side.new.engine.bank in
     let d = c.push_side.new.self in
-    let pushes = subst (λ z. (r : Rule) (s : Substitution) → IsMatch z c.args.rule (held_tree w1 c.second-redex.result) r s → HasMoves z w1 w2 b d (moves s r.right)) c.side.ensures.same.spec c.in_ok-push_side.ensures.pushed in
+    let pushes = subst (λ z. (r : Rule) (s : Substitution) → IsMatch z c.args.rule (held_tree w1 c.second-redex.result) r s
+    → HasMoves z w1 w2 b d (moves s r.right)) c.side.ensures.same.spec c.in_ok-push_side.ensures.pushed in
     let pushed = pushes q.0 q.1 (subst (λ u. IsMatch y c.args.rule u q.0 q.1) (sym (held-as w1 c.second-redex.result (on_top st) again)) q.2) in
     let list = pushed.order.kept.stack in
-    let two : 1 < length (stack_at w2 d) = subst (λ (xs : List Tree). 1 < length xs) (sym (pushed.stack ∙ wrote.1.stack)) (let more_than : 1 < length (instance q.1 q.0.right ∷ st) = omega (arith, some) in more_than) in
-    let rest = subst (λ k. tree_at (g.B.TermBank.store k) c.tail-rest.result ≡ part_at tail_of (g.B.TermBank.store k) d.lists.stack) c.bank-4.ensures c.tail-rest.ensures in
-    let under = subst (λ k. tree_at (g.B.TermBank.store k) c.tail-below.result ≡ part_at tail_of (g.B.TermBank.store k) c.tail-rest.result) c.bank-6.ensures c.tail-below.ensures in
+    let two : 1 < length (stack_at w2 d) = subst (λ (xs : List Tree). 1 < length xs) (sym (pushed.stack ∙ wrote.1.stack))
+    (let more_than : 1 < length (instance q.1 q.0.right ∷ st) = omega (arith, some) in more_than) in
+    let rest = subst (λ k. tree_at (g.B.TermBank.store k) c.tail-rest.result ≡ part_at tail_of (g.B.TermBank.store k) d.lists.stack) c.bank-4.ensures
+    c.tail-rest.ensures in
+    let under = subst (λ k. tree_at (g.B.TermBank.store k) c.tail-below.result ≡ part_at tail_of (g.B.TermBank.store k) c.tail-rest.result)
+    c.bank-6.ensures c.tail-below.ensures in
     let stands = is-below w2 d.lists.stack c.tail-rest.result c.tail-below.result list two rest under in
     stands.below_list
 
@@ -212,26 +253,37 @@ returns-clause-fires g c = λ r s match.
     let b = c.side.new.self in
     let q = c.requires.can in
     let st = stack_at w a in
-    let top = subst (λ k. tree_at (g.B.TermBank.store k) c.head-redex.result ≡ part_at head_of (g.B.TermBank.store k) a.lists.stack) c.bank.ensures c.head-redex.ensures ∙ head-is w a.lists.stack c.requires.order.kept.stack q.3 in
+    let top = subst (λ k. tree_at (g.B.TermBank.store k) c.head-redex.result ≡ part_at head_of (g.B.TermBank.store k) a.lists.stack) c.bank.ensures
+    c.head-redex.ensures ∙ head-is w a.lists.stack c.requires.order.kept.stack q.3 in
     let held = held-as w c.head-redex.result (on_top st) top in
-    let wrote = side-written y w w1 a b s r.right c.in_ok-side.field-0 (c.in_ok-side.ensures.gives r s (subst (λ u. IsMatch y c.args.rule u r s) (sym held) match)) in
+    let wrote = side-written y w w1 a b s r.right c.in_ok-side.field-0
+    (c.in_ok-side.ensures.gives r s (subst (λ u. IsMatch y c.args.rule u r s) (sym held) match)) in
     let some = q.3 in
     let again : tree_at w1 c.second-redex.result ≡ Some (on_top st) =
-    subst (λ k. tree_at (g.B.TermBank.store k) c.second-redex.result ≡ Some (get_or (listed (g.B.TermBank.store k) b.lists.stack) 1 (list_of none))) c.bank-2.ensures c.second-redex.ensures
+    subst (λ k. tree_at (g.B.TermBank.store k) c.second-redex.result ≡ Some (get_or (listed (g.B.TermBank.store k) b.lists.stack) 1 (list_of none)))
+    c.bank-2.ensures c.second-redex.ensures
     ∙ ap (λ (xs : List Tree). let o : Option Tree = Some (get_or xs 1 (list_of none)) in o) wrote.1.stack in
     let w2 = g.B.TermBank.store c.push_side.new.engine.bank in
     let d = c.push_side.new.self in
-    let pushes = subst (λ z. (r : Rule) (s : Substitution) → IsMatch z c.args.rule (held_tree w1 c.second-redex.result) r s → HasMoves z w1 w2 b d (moves s r.right)) c.side.ensures.same.spec c.in_ok-push_side.ensures.pushed in
+    let pushes = subst (λ z. (r : Rule) (s : Substitution) → IsMatch z c.args.rule (held_tree w1 c.second-redex.result) r s
+    → HasMoves z w1 w2 b d (moves s r.right)) c.side.ensures.same.spec c.in_ok-push_side.ensures.pushed in
     let pushed = pushes r s (subst (λ u. IsMatch y c.args.rule u r s) (sym (held-as w1 c.second-redex.result (on_top st) again)) match) in
     let list = pushed.order.kept.stack in
-    let two : 1 < length (stack_at w2 d) = subst (λ (xs : List Tree). 1 < length xs) (sym (pushed.stack ∙ wrote.1.stack)) (let more_than : 1 < length (instance s r.right ∷ st) = omega (arith, some) in more_than) in
-    let rest = subst (λ k. tree_at (g.B.TermBank.store k) c.tail-rest.result ≡ part_at tail_of (g.B.TermBank.store k) d.lists.stack) c.bank-4.ensures c.tail-rest.ensures in
-    let under = subst (λ k. tree_at (g.B.TermBank.store k) c.tail-below.result ≡ part_at tail_of (g.B.TermBank.store k) c.tail-rest.result) c.bank-6.ensures c.tail-below.ensures in
+    let two : 1 < length (stack_at w2 d) = subst (λ (xs : List Tree). 1 < length xs) (sym (pushed.stack ∙ wrote.1.stack))
+    (let more_than : 1 < length (instance s r.right ∷ st) = omega (arith, some) in more_than) in
+    let rest = subst (λ k. tree_at (g.B.TermBank.store k) c.tail-rest.result ≡ part_at tail_of (g.B.TermBank.store k) d.lists.stack) c.bank-4.ensures
+    c.tail-rest.ensures in
+    let under = subst (λ k. tree_at (g.B.TermBank.store k) c.tail-below.result ≡ part_at tail_of (g.B.TermBank.store k) c.tail-rest.result)
+    c.bank-6.ensures c.tail-below.ensures in
     let stands = is-below w2 d.lists.stack c.tail-rest.result c.tail-below.result list two rest under in
     let after : Tracer = record { steps = d.steps; lists = c.cut.new.self; left = d.left } in
-    let redex_at = subst (λ k. tree_at (g.B.TermBank.store k) c.head-redex-2.result ≡ part_at head_of (g.B.TermBank.store k) c.tail-rest.result) c.bank-5.ensures c.head-redex-2.ensures ∙ stands.second_is in
-    let contractum_at = subst (λ k. tree_at (g.B.TermBank.store k) c.head-contractum.result ≡ part_at head_of (g.B.TermBank.store k) d.lists.stack) c.bank-3.ensures c.head-contractum.ensures ∙ head-is w2 d.lists.stack list (omega (arith, two)) in (
+    let redex_at = subst (λ k. tree_at (g.B.TermBank.store k) c.head-redex-2.result ≡ part_at head_of (g.B.TermBank.store k) c.tail-rest.result)
+    c.bank-5.ensures c.head-redex-2.ensures ∙ stands.second_is in
+    let contractum_at = subst (λ k. tree_at (g.B.TermBank.store k) c.head-contractum.result ≡ part_at head_of (g.B.TermBank.store k) d.lists.stack)
+    c.bank-3.ensures c.head-contractum.ensures ∙ head-is w2 d.lists.stack list (omega (arith, two)) in (
       refl,
-      fired y w w1 w2 (g.B.TermBank.store c.cut.new.engine.bank) a b d after r s c.head-redex-2.result c.head-contractum.result q.3 wrote.0 wrote.1 pushed c.push_side.ensures.left c.cut.ensures.stays.kept refl refl
-          (record { given = c.in_ok-cut.ensures.cut.given; stack = c.in_ok-cut.ensures.cut.stack ∙ stands.below_is }) c.cut.ensures.content redex_at contractum_at,
+      fired y w w1 w2 (g.B.TermBank.store c.cut.new.engine.bank) a b d after r s c.head-redex-2.result c.head-contractum.result q.3 wrote.0 wrote.1
+          pushed c.push_side.ensures.left c.cut.ensures.stays.kept refl refl
+          (record { given = c.in_ok-cut.ensures.cut.given; stack = c.in_ok-cut.ensures.cut.stack ∙ stands.below_is }) c.cut.ensures.content redex_at
+          contractum_at,
     )

@@ -29,7 +29,8 @@ give-requires-clause-some g c =
     let b : Tracer = record { steps = c.pop.new.self; lists = a.lists; left = a.left } in
     let i = c.turns.invariant in
     let turned = popped-step a.steps.items c.pop.new.self.items step.Give (c.in-Some.ensures.items ∙ ap (λ x. c.pop.new.self.items ++ x ∷ []) c.in-Give.is) in
-    some-given y (reverse c.pop.new.self.items) (listed w1 a.lists.given) (subst (λ ss. AreSteps y ss (listed w1 a.lists.given)) turned i.trace.stands.order.steps)
+    some-given y (reverse c.pop.new.self.items) (listed w1 a.lists.given)
+    (subst (λ ss. AreSteps y ss (listed w1 a.lists.given)) turned i.trace.stands.order.steps)
 
 pub returns-in_err-give-in-Give-clause-spares : goal.returns-in_err-give-in-Give-clause-spares
 returns-in_err-give-in-Give-clause-spares g c = stays-trans c.turns.invariant.stays c.give.ensures.stays
@@ -48,7 +49,8 @@ turns-preserved-in-Continue-1 g c =
     record {
       same = same_both i.same c.give.ensures.same;
       stays = stays-trans i.stays c.give.ensures.stays;
-      trace = trace-more y w w1 w2 c.args.self.now a d i.trace (step-gives y w1 w2 a d i.trace.stands turned c.give.ensures.stays.kept refl c.in_ok-give-in-Give.ensures.given);
+      trace = trace-more y w w1 w2 c.args.self.now a d i.trace (step-gives y w1 w2 a d i.trace.stands turned c.give.ensures.stays.kept refl
+          c.in_ok-give-in-Give.ensures.given);
     }
 
 pub call-requires : goal.call-requires
@@ -59,7 +61,8 @@ call-requires g c =
     let a = c.turns.self in
     let b : Tracer = record { steps = c.pop.new.self; lists = a.lists; left = a.left } in
     let i = c.turns.invariant in
-    let turned = popped-step a.steps.items c.pop.new.self.items (step.Invoke c.in-Invoke.symbol c.in-Invoke.count) (c.in-Some.ensures.items ∙ ap (λ x. c.pop.new.self.items ++ x ∷ []) c.in-Invoke.is) in
+    let turned = popped-step a.steps.items c.pop.new.self.items (step.Invoke c.in-Invoke.symbol c.in-Invoke.count)
+    (c.in-Some.ensures.items ∙ ap (λ x. c.pop.new.self.items ++ x ∷ []) c.in-Invoke.is) in
     let h = is-calling y w1 a b c.in-Invoke.symbol c.in-Invoke.count i.trace.stands turned refl in
     record {
       order = subst (λ z. IsInOrder z w1 b) (sym i.same.spec) h.order;
@@ -79,11 +82,13 @@ turns-preserved g c =
     let a = c.turns.self in
     let b : Tracer = record { steps = c.pop.new.self; lists = a.lists; left = a.left } in
     let i = c.turns.invariant in
-    let turned = popped-step a.steps.items c.pop.new.self.items (step.Invoke c.in-Invoke.symbol c.in-Invoke.count) (c.in-Some.ensures.items ∙ ap (λ x. c.pop.new.self.items ++ x ∷ []) c.in-Invoke.is) in
+    let turned = popped-step a.steps.items c.pop.new.self.items (step.Invoke c.in-Invoke.symbol c.in-Invoke.count)
+    (c.in-Some.ensures.items ∙ ap (λ x. c.pop.new.self.items ++ x ∷ []) c.in-Invoke.is) in
     let h = is-calling y w1 a b c.in-Invoke.symbol c.in-Invoke.count i.trace.stands turned refl in
     let w2 = g.B.TermBank.store c.call.new.engine.bank in
     let d = c.call.new.self in
-    let comes = subst (λ z. ComesTo z w1 w2 b d (name_of z (Symbol c.in-Invoke.symbol)) c.in-Invoke.count c.in_ok-turn-in-Invoke.field-0) i.same.spec c.in_ok-turn-in-Invoke.ensures.comes in
+    let comes = subst (λ z. ComesTo z w1 w2 b d (name_of z (Symbol c.in-Invoke.symbol)) c.in-Invoke.count c.in_ok-turn-in-Invoke.field-0) i.same.spec
+    c.in_ok-turn-in-Invoke.ensures.comes in
     let ended = subst (ComesTo y w1 w2 b d (name_of y (Symbol c.in-Invoke.symbol)) c.in-Invoke.count) c.in_default-2.is comes in
     record {
       same = same_both i.same c.call.ensures.same;
@@ -99,11 +104,13 @@ turns-smaller g c =
     let a = c.turns.self in
     let b : Tracer = record { steps = c.pop.new.self; lists = a.lists; left = a.left } in
     let i = c.turns.invariant in
-    let turned = popped-step a.steps.items c.pop.new.self.items (step.Invoke c.in-Invoke.symbol c.in-Invoke.count) (c.in-Some.ensures.items ∙ ap (λ x. c.pop.new.self.items ++ x ∷ []) c.in-Invoke.is) in
+    let turned = popped-step a.steps.items c.pop.new.self.items (step.Invoke c.in-Invoke.symbol c.in-Invoke.count)
+    (c.in-Some.ensures.items ∙ ap (λ x. c.pop.new.self.items ++ x ∷ []) c.in-Invoke.is) in
     let h = is-calling y w1 a b c.in-Invoke.symbol c.in-Invoke.count i.trace.stands turned refl in
     let w2 = g.B.TermBank.store c.call.new.engine.bank in
     let d = c.call.new.self in
-    let comes = subst (λ z. ComesTo z w1 w2 b d (name_of z (Symbol c.in-Invoke.symbol)) c.in-Invoke.count c.in_ok-turn-in-Invoke.field-0) i.same.spec c.in_ok-turn-in-Invoke.ensures.comes in
+    let comes = subst (λ z. ComesTo z w1 w2 b d (name_of z (Symbol c.in-Invoke.symbol)) c.in-Invoke.count c.in_ok-turn-in-Invoke.field-0) i.same.spec
+    c.in_ok-turn-in-Invoke.ensures.comes in
     let ended = subst (ComesTo y w1 w2 b d (name_of y (Symbol c.in-Invoke.symbol)) c.in-Invoke.count) c.in_default-2.is comes in
     let many = as-many y w1 b h.order in
     let many' = as-many y w2 d ended.1 in
@@ -125,11 +132,13 @@ returns-in-Some-2-clause-stands g c =
     let a = c.turns.self in
     let b : Tracer = record { steps = c.pop.new.self; lists = a.lists; left = a.left } in
     let i = c.turns.invariant in
-    let turned = popped-step a.steps.items c.pop.new.self.items (step.Invoke c.in-Invoke.symbol c.in-Invoke.count) (c.in-Some.ensures.items ∙ ap (λ x. c.pop.new.self.items ++ x ∷ []) c.in-Invoke.is) in
+    let turned = popped-step a.steps.items c.pop.new.self.items (step.Invoke c.in-Invoke.symbol c.in-Invoke.count)
+    (c.in-Some.ensures.items ∙ ap (λ x. c.pop.new.self.items ++ x ∷ []) c.in-Invoke.is) in
     let h = is-calling y w1 a b c.in-Invoke.symbol c.in-Invoke.count i.trace.stands turned refl in
     let w2 = g.B.TermBank.store c.call.new.engine.bank in
     let d = c.call.new.self in
-    let comes = subst (λ z. ComesTo z w1 w2 b d (name_of z (Symbol c.in-Invoke.symbol)) c.in-Invoke.count c.in_ok-turn-in-Invoke.field-0) i.same.spec c.in_ok-turn-in-Invoke.ensures.comes in
+    let comes = subst (λ z. ComesTo z w1 w2 b d (name_of z (Symbol c.in-Invoke.symbol)) c.in-Invoke.count c.in_ok-turn-in-Invoke.field-0) i.same.spec
+    c.in_ok-turn-in-Invoke.ensures.comes in
     let turn = subst (ComesTo y w1 w2 b d (name_of y (Symbol c.in-Invoke.symbol)) c.in-Invoke.count) c.in-Some-2.is comes in
     (step-turns y w1 w2 a b d c.in-Invoke.symbol c.in-Invoke.count refl refl h c.in-Some-2.turn turn).1
 
@@ -141,10 +150,13 @@ returns-in-Some-2-clause-turn g c =
     let a = c.turns.self in
     let b : Tracer = record { steps = c.pop.new.self; lists = a.lists; left = a.left } in
     let i = c.turns.invariant in
-    let turned = popped-step a.steps.items c.pop.new.self.items (step.Invoke c.in-Invoke.symbol c.in-Invoke.count) (c.in-Some.ensures.items ∙ ap (λ x. c.pop.new.self.items ++ x ∷ []) c.in-Invoke.is) in
+    let turned = popped-step a.steps.items c.pop.new.self.items (step.Invoke c.in-Invoke.symbol c.in-Invoke.count)
+    (c.in-Some.ensures.items ∙ ap (λ x. c.pop.new.self.items ++ x ∷ []) c.in-Invoke.is) in
     let h = is-calling y w1 a b c.in-Invoke.symbol c.in-Invoke.count i.trace.stands turned refl in
     let w2 = g.B.TermBank.store c.call.new.engine.bank in
     let d = c.call.new.self in
-    let comes = subst (λ z. ComesTo z w1 w2 b d (name_of z (Symbol c.in-Invoke.symbol)) c.in-Invoke.count c.in_ok-turn-in-Invoke.field-0) i.same.spec c.in_ok-turn-in-Invoke.ensures.comes in
+    let comes = subst (λ z. ComesTo z w1 w2 b d (name_of z (Symbol c.in-Invoke.symbol)) c.in-Invoke.count c.in_ok-turn-in-Invoke.field-0) i.same.spec
+    c.in_ok-turn-in-Invoke.ensures.comes in
     let turn = subst (ComesTo y w1 w2 b d (name_of y (Symbol c.in-Invoke.symbol)) c.in-Invoke.count) c.in-Some-2.is comes in
-    turn-since y w w1 w2 c.args.self.now a d c.in-Some-2.turn i.trace (step-turns y w1 w2 a b d c.in-Invoke.symbol c.in-Invoke.count refl refl h c.in-Some-2.turn turn).0
+    turn-since y w w1 w2 c.args.self.now a d c.in-Some-2.turn i.trace
+    (step-turns y w1 w2 a b d c.in-Invoke.symbol c.in-Invoke.count refl refl h c.in-Some-2.turn turn).0

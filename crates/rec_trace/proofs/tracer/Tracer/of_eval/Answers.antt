@@ -32,7 +32,8 @@ pub ground_steps-requires : goal.ground_steps-requires
 ground_steps-requires g c =
     let y = c.checked.result.now.spec in
     let within = subst (λ (z : Spec). c.args.i < length z.terms) (sym c.checked.ensures) c.requires in
-    let made = row-makes items y c.terms.result.now c.terms.ensures.letters c.terms.ensures.kept c.args.i within c.index-terms-i.result c.index-terms-i.is no_term in
+    let made = row-makes items y c.terms.result.now c.terms.ensures.letters c.terms.ensures.kept c.args.i within c.index-terms-i.result
+    c.index-terms-i.is no_term in
     (y, (subst (λ ls. MakesOne y ls (tree_of (get_or y.terms c.args.i no_term))) (sym c.deref.ensures.value) made).applied)
 
 pub returns-clause-stands : goal.returns-clause-stands
@@ -42,8 +43,11 @@ returns-clause-stands g c =
     let r : Tracer = record { steps = c.in_ok-steps.steps; lists = c.in_ok-lists.lists; left = c.args.n } in
     let within = subst (λ (z : Spec). c.args.i < length z.terms) (sym c.checked.ensures) c.requires in
     let term = get_or y.terms c.args.i no_term in
-    let made = subst (λ ls. MakesOne y ls (tree_of term)) (sym c.deref.ensures.value) (row-makes items y c.terms.result.now c.terms.ensures.letters c.terms.ensures.kept c.args.i within c.index-terms-i.result c.index-terms-i.is no_term) in
-    let letters = subst (λ ls. AreLetters y ls term) (sym c.deref.ensures.value) (subst (λ x. AreLetters y (items x) term) (sym c.index-terms-i.is) (pair-at (λ v t. AreLetters y (items v) t) c.terms.result.now y.terms c.terms.ensures.letters c.args.i c.index-terms-i.result no_term within)) in
+    let made = subst (λ ls. MakesOne y ls (tree_of term)) (sym c.deref.ensures.value)
+    (row-makes items y c.terms.result.now c.terms.ensures.letters c.terms.ensures.kept c.args.i within c.index-terms-i.result c.index-terms-i.is no_term) in
+    let letters = subst (λ ls. AreLetters y ls term) (sym c.deref.ensures.value)
+    (subst (λ x. AreLetters y (items x) term) (sym c.index-terms-i.is)
+    (pair-at (λ v t. AreLetters y (items v) t) c.terms.result.now y.terms c.terms.ensures.letters c.args.i c.index-terms-i.result no_term within)) in
     let of = c.in_ok-lists.ensures in
     subst (λ z. Stands z w r) c.checked.ensures
     (new-stands y w r c.deref.result.now term c.terms.ensures.kept of.kept of.given of.stack (c.in_ok-steps.ensures y made.applied) letters).0
@@ -55,8 +59,11 @@ returns-clause-begins g c =
     let r : Tracer = record { steps = c.in_ok-steps.steps; lists = c.in_ok-lists.lists; left = c.args.n } in
     let within = subst (λ (z : Spec). c.args.i < length z.terms) (sym c.checked.ensures) c.requires in
     let term = get_or y.terms c.args.i no_term in
-    let made = subst (λ ls. MakesOne y ls (tree_of term)) (sym c.deref.ensures.value) (row-makes items y c.terms.result.now c.terms.ensures.letters c.terms.ensures.kept c.args.i within c.index-terms-i.result c.index-terms-i.is no_term) in
-    let letters = subst (λ ls. AreLetters y ls term) (sym c.deref.ensures.value) (subst (λ x. AreLetters y (items x) term) (sym c.index-terms-i.is) (pair-at (λ v t. AreLetters y (items v) t) c.terms.result.now y.terms c.terms.ensures.letters c.args.i c.index-terms-i.result no_term within)) in
+    let made = subst (λ ls. MakesOne y ls (tree_of term)) (sym c.deref.ensures.value)
+    (row-makes items y c.terms.result.now c.terms.ensures.letters c.terms.ensures.kept c.args.i within c.index-terms-i.result c.index-terms-i.is no_term) in
+    let letters = subst (λ ls. AreLetters y ls term) (sym c.deref.ensures.value)
+    (subst (λ x. AreLetters y (items x) term) (sym c.index-terms-i.is)
+    (pair-at (λ v t. AreLetters y (items v) t) c.terms.result.now y.terms c.terms.ensures.letters c.args.i c.index-terms-i.result no_term within)) in
     let of = c.in_ok-lists.ensures in
     subst (λ (z : Spec). IfSome (slice_get z.terms c.args.i) (λ t. rest_of z w r ≡ Trace z c.args.n t)) c.checked.ensures
     (subst (λ o. IfSome o (λ t. rest_of y w r ≡ Trace y c.args.n t)) (sym (slice_get-get_or y.terms c.args.i no_term within))
@@ -69,8 +76,11 @@ returns-clause-whole g c =
     let r : Tracer = record { steps = c.in_ok-steps.steps; lists = c.in_ok-lists.lists; left = c.args.n } in
     let within = subst (λ (z : Spec). c.args.i < length z.terms) (sym c.checked.ensures) c.requires in
     let term = get_or y.terms c.args.i no_term in
-    let made = subst (λ ls. MakesOne y ls (tree_of term)) (sym c.deref.ensures.value) (row-makes items y c.terms.result.now c.terms.ensures.letters c.terms.ensures.kept c.args.i within c.index-terms-i.result c.index-terms-i.is no_term) in
-    let letters = subst (λ ls. AreLetters y ls term) (sym c.deref.ensures.value) (subst (λ x. AreLetters y (items x) term) (sym c.index-terms-i.is) (pair-at (λ v t. AreLetters y (items v) t) c.terms.result.now y.terms c.terms.ensures.letters c.args.i c.index-terms-i.result no_term within)) in
+    let made = subst (λ ls. MakesOne y ls (tree_of term)) (sym c.deref.ensures.value)
+    (row-makes items y c.terms.result.now c.terms.ensures.letters c.terms.ensures.kept c.args.i within c.index-terms-i.result c.index-terms-i.is no_term) in
+    let letters = subst (λ ls. AreLetters y ls term) (sym c.deref.ensures.value)
+    (subst (λ x. AreLetters y (items x) term) (sym c.index-terms-i.is)
+    (pair-at (λ v t. AreLetters y (items v) t) c.terms.result.now y.terms c.terms.ensures.letters c.args.i c.index-terms-i.result no_term within)) in
     let of = c.in_ok-lists.ensures in
     subst (λ (z : Spec). IfSome (slice_get z.terms c.args.i) (λ t. whole_of z w r ≡ tree_of t)) c.checked.ensures
     (subst (λ o. IfSome o (λ t. whole_of y w r ≡ tree_of t)) (sym (slice_get-get_or y.terms c.args.i no_term within))

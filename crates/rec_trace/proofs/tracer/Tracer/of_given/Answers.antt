@@ -21,7 +21,8 @@ returns-clause-stands g c =
     let u = c.requires.0 in
     let spelled = c.requires.1 in
     let of = c.in_ok-lists.ensures in
-    (new-stands y w (record { steps = c.in_ok-steps.steps; lists = c.in_ok-lists.lists; left = c.args.n }) c.args.letters.now (term_of u) good of.kept of.given of.stack (c.in_ok-steps.ensures y (spelled-makes y good c.args.letters.now u spelled).applied) spelled.letters).0
+    (new-stands y w (record { steps = c.in_ok-steps.steps; lists = c.in_ok-lists.lists; left = c.args.n }) c.args.letters.now (term_of u) good of.kept
+    of.given of.stack (c.in_ok-steps.ensures y (spelled-makes y good c.args.letters.now u spelled).applied) spelled.letters).0
 
 pub returns-clause-begins : goal.returns-clause-begins
 returns-clause-begins g c = λ u spelled.
@@ -29,7 +30,8 @@ returns-clause-begins g c = λ u spelled.
     let w = g.B.TermBank.store c.empty.new.engine.bank in
     let good : fault y ≡ None = subst (λ (z : Spec). fault z ≡ None) c.checked.ensures c.syntax-kept.ensures.kept in
     let of = c.in_ok-lists.ensures in
-    (new-stands y w (record { steps = c.in_ok-steps.steps; lists = c.in_ok-lists.lists; left = c.args.n }) c.args.letters.now (term_of u) good of.kept of.given of.stack (c.in_ok-steps.ensures y (spelled-makes y good c.args.letters.now u spelled).applied) spelled.letters).1
+    (new-stands y w (record { steps = c.in_ok-steps.steps; lists = c.in_ok-lists.lists; left = c.args.n }) c.args.letters.now (term_of u) good of.kept
+    of.given of.stack (c.in_ok-steps.ensures y (spelled-makes y good c.args.letters.now u spelled).applied) spelled.letters).1
 
 pub returns-clause-whole : goal.returns-clause-whole
 returns-clause-whole g c = λ u spelled.
@@ -37,4 +39,5 @@ returns-clause-whole g c = λ u spelled.
     let w = g.B.TermBank.store c.empty.new.engine.bank in
     let good : fault y ≡ None = subst (λ (z : Spec). fault z ≡ None) c.checked.ensures c.syntax-kept.ensures.kept in
     let of = c.in_ok-lists.ensures in
-    (new-stands y w (record { steps = c.in_ok-steps.steps; lists = c.in_ok-lists.lists; left = c.args.n }) c.args.letters.now (term_of u) good of.kept of.given of.stack (c.in_ok-steps.ensures y (spelled-makes y good c.args.letters.now u spelled).applied) spelled.letters).2
+    (new-stands y w (record { steps = c.in_ok-steps.steps; lists = c.in_ok-lists.lists; left = c.args.n }) c.args.letters.now (term_of u) good of.kept
+    of.given of.stack (c.in_ok-steps.ensures y (spelled-makes y good c.args.letters.now u spelled).applied) spelled.letters).2

@@ -30,7 +30,8 @@ letters-preserved g c =
       stack = c.push_letter.ensures.stack ∙ i.stack;
       values = λ s h. subst (λ k. KeepsValues w1 w2 k c.args.bind.now) i.stack p.values s (i.values s h);
       pushed = subst (λ ls. HasPushed y w w2 c.args.self.now c.push_letter.new.self c.args.rule c.args.bind.now ls) split
-          (pushed-more y w w1 w2 c.args.self.now c.letters.self c.push_letter.new.self c.args.rule c.args.bind.now l (drop c.letters.at c.args.letters.now) i.stack i.values i.pushed
+          (pushed-more y w w1 w2 c.args.self.now c.letters.self c.push_letter.new.self c.args.rule c.args.bind.now l
+          (drop c.letters.at c.args.letters.now) i.stack i.values i.pushed
           (subst (λ z. HasPushed z w1 w2 c.letters.self c.push_letter.new.self c.args.rule c.args.bind.now (l ∷ [])) i.same.spec p.pushed));
     }
 

@@ -13,7 +13,8 @@ invariant-letters g l = record {
   left : l.self.left ≡ l.fn.self.left;
   stack : l.self.lists.stack ≡ l.fn.self.lists.stack;
   values : KeepsValues (g.B.TermBank.store l.fn.engine.bank) (g.B.TermBank.store l.engine.bank) l.fn.self.lists.stack l.bind;
-  pushed : HasPushed l.fn.engine.spec (g.B.TermBank.store l.fn.engine.bank) (g.B.TermBank.store l.engine.bank) l.fn.self l.self l.rule l.bind (drop l.at l.letters);
+  pushed : HasPushed l.fn.engine.spec (g.B.TermBank.store l.fn.engine.bank) (g.B.TermBank.store l.engine.bank) l.fn.self l.self l.rule l.bind
+      (drop l.at l.letters);
 }
 
 abbrev pub decreases-letters : goal.decreases-letters

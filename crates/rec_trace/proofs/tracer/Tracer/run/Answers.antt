@@ -13,7 +13,8 @@ turn-requires-clause-fits g c =
     let t = c.steps-test.true in
     let l = c.len.ensures in
     subst (λ z. CanTurn (moves_at z w c.steps.self) (length (stack_at w c.steps.self))) (sym i.same.spec)
-    (running-can (caller y c.args.called) y (g.B.TermBank.store c.args.engine.now.bank) w c.args.self.now c.steps.self c.args.floor i.running (omega (arith, t, l)) c.steps.self.steps.ok.0)
+    (running-can (caller y c.args.called) y (g.B.TermBank.store c.args.engine.now.bank) w c.args.self.now c.steps.self c.args.floor i.running
+    (omega (arith, t, l)) c.steps.self.steps.ok.0)
 
 pub returns-in_err-turn-clause-stays : goal.returns-in_err-turn-clause-stays
 returns-in_err-turn-clause-stays g c = stays-trans c.steps.invariant.stays c.turn.ensures.stays
@@ -31,7 +32,8 @@ returns-then-not-branch-clause-gives g c =
     let l = c.len.ensures in
     let turns = subst (λ z. Turns (caller z c.args.called) z w w' c.steps.self c.turn.new.self c.in_ok-turn.field-0) i.same.spec c.in_ok-turn.ensures.turns in
     let no = subst (Turns (caller y c.args.called) y w w' c.steps.self c.turn.new.self) c.if-not-branch.true turns in
-    running-failed (caller y c.args.called) y (g.B.TermBank.store c.args.engine.now.bank) w c.args.self.now c.steps.self c.args.floor i.running (omega (arith, t, l)) w' c.turn.new.self no
+    running-failed (caller y c.args.called) y (g.B.TermBank.store c.args.engine.now.bank) w c.args.self.now c.steps.self c.args.floor i.running
+    (omega (arith, t, l)) w' c.turn.new.self no
 
 pub steps-preserved : goal.steps-preserved
 steps-preserved g c =
@@ -48,7 +50,8 @@ steps-preserved g c =
       within = omega (arith, t, l, fewer);
       same = same_both i.same c.turn.ensures.same;
       stays = stays-trans i.stays c.turn.ensures.stays;
-      running = running-next (caller y c.args.called) y (g.B.TermBank.store c.args.engine.now.bank) w c.args.self.now c.steps.self c.args.floor i.running (omega (arith, t, l)) w' c.turn.new.self fewer yes.0 yes.1;
+      running = running-next (caller y c.args.called) y (g.B.TermBank.store c.args.engine.now.bank) w c.args.self.now c.steps.self c.args.floor
+          i.running (omega (arith, t, l)) w' c.turn.new.self fewer yes.0 yes.1;
     }
 
 pub returns-clause-gives : goal.returns-clause-gives
@@ -56,4 +59,5 @@ returns-clause-gives g c =
     let y = c.args.engine.now.spec in
     let t = c.steps-test.false in
     let l = c.len.ensures in
-    running-ends (caller y c.args.called) y (g.B.TermBank.store c.args.engine.now.bank) (g.B.TermBank.store c.steps.engine.bank) c.args.self.now c.steps.self c.args.floor c.steps.invariant.running (omega (arith, t, l))
+    running-ends (caller y c.args.called) y (g.B.TermBank.store c.args.engine.now.bank) (g.B.TermBank.store c.steps.engine.bank) c.args.self.now
+    c.steps.self c.args.floor c.steps.invariant.running (omega (arith, t, l))

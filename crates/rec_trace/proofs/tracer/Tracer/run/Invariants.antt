@@ -10,7 +10,8 @@ invariant-steps g l = record {
   within : l.floor ≤ vec_len l.self.steps;
   same : SameEngine l.fn.engine l.engine;
   stays : Stays (g.B.TermBank.store l.fn.engine.bank) (g.B.TermBank.store l.engine.bank) l.fn.self.lists l.self.lists;
-  running : Running (caller l.fn.engine.spec l.called) l.fn.engine.spec (g.B.TermBank.store l.fn.engine.bank) (g.B.TermBank.store l.engine.bank) l.fn.self l.self l.floor;
+  running : Running (caller l.fn.engine.spec l.called) l.fn.engine.spec (g.B.TermBank.store l.fn.engine.bank) (g.B.TermBank.store l.engine.bank)
+      l.fn.self l.self l.floor;
 }
 
 abbrev pub decreases-steps : goal.decreases-steps

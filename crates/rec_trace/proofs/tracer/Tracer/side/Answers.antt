@@ -15,11 +15,13 @@ run-requires g c =
     let w1 = g.B.TermBank.store c.push_side.new.engine.bank in
     let q = c.requires.can in
     let h = c.in_ok-push_side.ensures.pushed q.0 q.1 q.2 in
-    let f = in-front y w w1 c.args.self.now c.push_side.new.self (moves q.1 (side_of q.0 c.args.side)) c.len-floor.result c.requires.order h.order h.moves c.args.self.now.steps.ok.0 c.push_side.new.self.steps.ok.0 c.len-floor.ensures in
+    let f = in-front y w w1 c.args.self.now c.push_side.new.self (moves q.1 (side_of q.0 c.args.side)) c.len-floor.result c.requires.order h.order
+    h.moves c.args.self.now.steps.ok.0 c.push_side.new.self.steps.ok.0 c.len-floor.ensures in
     record {
       order = subst (λ z. IsInOrder z w1 c.push_side.new.self) (sym c.push_side.ensures.same.spec) h.order;
       floor = f.within;
-      fits = subst (λ z. Fits (take (vec_len c.push_side.new.self.steps - c.len-floor.result) (moves_at z w1 c.push_side.new.self)) 0 1) (sym c.push_side.ensures.same.spec)
+      fits = subst (λ z. Fits (take (vec_len c.push_side.new.self.steps - c.len-floor.result) (moves_at z w1 c.push_side.new.self)) 0 1)
+          (sym c.push_side.ensures.same.spec)
           (subst (λ ms. Fits ms 0 1) (sym f.front) (fits-one q.1 (side_of q.0 c.args.side)));
     }
 
@@ -34,7 +36,10 @@ returns-clause-gives g c =
     let w2 = g.B.TermBank.store c.run.new.engine.bank in
     if-ok c.run.result (λ yes run r s match.
     let h = c.in_ok-push_side.ensures.pushed r s match in
-    let f = in-front y w w1 c.args.self.now c.push_side.new.self (moves s (side_of r c.args.side)) c.len-floor.result c.requires.order h.order h.moves c.args.self.now.steps.ok.0 c.push_side.new.self.steps.ok.0 c.len-floor.ensures in
-    side-gives y w w1 w2 c.args.self.now c.push_side.new.self c.run.new.self c.len-floor.result c.args.called s (side_of r c.args.side) yes h f c.push_side.ensures.left
-    (subst (λ z. HasRun (caller z c.args.called) z w1 w2 c.push_side.new.self c.run.new.self (vec_len c.push_side.new.self.steps - c.len-floor.result) yes) c.push_side.ensures.same.spec run))
+    let f = in-front y w w1 c.args.self.now c.push_side.new.self (moves s (side_of r c.args.side)) c.len-floor.result c.requires.order h.order h.moves
+    c.args.self.now.steps.ok.0 c.push_side.new.self.steps.ok.0 c.len-floor.ensures in
+    side-gives y w w1 w2 c.args.self.now c.push_side.new.self c.run.new.self c.len-floor.result c.args.called s (side_of r c.args.side) yes h f
+    c.push_side.ensures.left
+    (subst (λ z. HasRun (caller z c.args.called) z w1 w2 c.push_side.new.self c.run.new.self (vec_len c.push_side.new.self.steps - c.len-floor.result)
+    yes) c.push_side.ensures.same.spec run))
     c.run.ensures.gives

@@ -23,7 +23,8 @@ returns-clause-stands g c =
     let w3 = g.B.TermBank.store c.end.new.engine.bank in
     let t = c.args.self.now in
     let made = c.in_ok-copy.ensures in
-    let gone = copy-gone w1 w2 w3 t.lists c.write_down-whole.new.self.lists made.twice (subst (λ l. Stays w1 w2 l c.write_down-whole.new.self.lists) made.lists c.write_down-whole.ensures.stays) c.end.ensures.counts c.end.ensures.trees in
+    let gone = copy-gone w1 w2 w3 t.lists c.write_down-whole.new.self.lists made.twice
+    (subst (λ l. Stays w1 w2 l c.write_down-whole.new.self.lists) made.lists c.write_down-whole.ensures.stays) c.end.ensures.counts c.end.ensures.trees in
     (stands-still c.args.engine.now.spec w w3 t c.requires gone.kept (gone.given ∙ made.trees t.lists.given) (gone.stack ∙ made.trees t.lists.stack)).stands
 
 pub returns-clause-rest : goal.returns-clause-rest
@@ -34,5 +35,6 @@ returns-clause-rest g c =
     let w3 = g.B.TermBank.store c.end.new.engine.bank in
     let t = c.args.self.now in
     let made = c.in_ok-copy.ensures in
-    let gone = copy-gone w1 w2 w3 t.lists c.write_down-whole.new.self.lists made.twice (subst (λ l. Stays w1 w2 l c.write_down-whole.new.self.lists) made.lists c.write_down-whole.ensures.stays) c.end.ensures.counts c.end.ensures.trees in
+    let gone = copy-gone w1 w2 w3 t.lists c.write_down-whole.new.self.lists made.twice
+    (subst (λ l. Stays w1 w2 l c.write_down-whole.new.self.lists) made.lists c.write_down-whole.ensures.stays) c.end.ensures.counts c.end.ensures.trees in
     (stands-still c.args.engine.now.spec w w3 t c.requires gone.kept (gone.given ∙ made.trees t.lists.given) (gone.stack ∙ made.trees t.lists.stack)).rest

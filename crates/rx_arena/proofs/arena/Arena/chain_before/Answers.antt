@@ -8,11 +8,13 @@ loop-next-init c = seeking_begins (chain_at c.args.self.now c.args.chain) c.args
 
 pub chain_next-next-requires : goal.chain_next-next-requires
 chain_next-next-requires c =
-    chain_in c.args.self.now c.args.chain c.in-Some.here.0 (walk_at (chain_at c.args.self.now c.args.chain) c.loop-next.next c.loop-next.invariant.walk c.in-Some.here c.in-Some.is)
+    chain_in c.args.self.now c.args.chain c.in-Some.here.0 (walk_at (chain_at c.args.self.now c.args.chain) c.loop-next.next
+    c.loop-next.invariant.walk c.in-Some.here c.in-Some.is)
 
 pub loop-next-smaller : goal.loop-next-smaller
 loop-next-smaller c =
-    left_less (chain_at c.args.self.now c.args.chain) c.loop-next.next c.loop-next.invariant.walk c.in-Some.here c.in-Some.is c.chain_next-next.result (c.chain_next-next.ensures.next c.args.chain)
+    left_less (chain_at c.args.self.now c.args.chain) c.loop-next.next c.loop-next.invariant.walk c.in-Some.here c.in-Some.is c.chain_next-next.result
+    (c.chain_next-next.ensures.next c.args.chain)
     (chain_once c.args.self.now c.chain_first-next.ensures.law c.args.chain)
 
 pub loop-next-preserved : goal.loop-next-preserved

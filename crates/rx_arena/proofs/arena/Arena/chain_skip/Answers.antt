@@ -18,8 +18,10 @@ next-next-requires c =
 
 pub set_next-requires-clause-held : goal.set_next-requires-clause-held
 set_next-requires-clause-held c =
-    let r = subst (λ v. Row v c.args.chain c.args.before.0 c.args.slot.0) (sym c.self.view_is) c.requires.row in
-    (before_held c.self.inside c.self.invariant c.args.chain c.args.before.0 c.args.slot.0 r.0 r.1 r.2, next_held c.self.inside c.self.invariant c.args.chain c.args.before.0 c.args.slot.0 r.0 r.1 r.2 c.next-next.result c.next-next.ensures)
+    let r = subst (λ v. Row v c.args.chain c.args.before.0 c.args.slot.0) (sym c.self.view_is) c.requires.row in (
+      before_held c.self.inside c.self.invariant c.args.chain c.args.before.0 c.args.slot.0 r.0 r.1 r.2,
+      next_held c.self.inside c.self.invariant c.args.chain c.args.before.0 c.args.slot.0 r.0 r.1 r.2 c.next-next.result c.next-next.ensures,
+    )
 
 pub set_next-requires-clause-apart : goal.set_next-requires-clause-apart
 set_next-requires-clause-apart c =
@@ -33,22 +35,30 @@ overflow_sub-self c =
     (total-skipped c.self.inside.linked c.self.inside.chained.0 c.args.chain c.args.before.0 c.args.slot.0 r.0 r.1 lt r.2 c.self.inside.counted).0
 
 -- what the call makes of the parts
-stepped : (c : After-set_next) → ArenaStep c.set_next.new.self c.self.inside.heads c.self.inside.gray_first (record (opened c.self.inside) { chains = set c.self.inside.chained.0 c.args.chain (besides c.args.slot.0 (chain_at (opened c.self.inside) c.args.chain)) })
+stepped : (c : After-set_next) → ArenaStep c.set_next.new.self c.self.inside.heads c.self.inside.gray_first
+    (record (opened c.self.inside) { chains = set c.self.inside.chained.0 c.args.chain (besides c.args.slot.0 (chain_at (opened c.self.inside) c.args.chain)) })
 stepped c =
     let lt = subst (λ (v : ArenaState). c.args.chain < length v.chains) (sym c.self.view_is) c.requires.chain in
     let r = subst (λ v. Row v c.args.chain c.args.before.0 c.args.slot.0) (sym c.self.view_is) c.requires.row in
-    let left = ap (besides c.args.slot.0) r.2 ∙ besides-second c.args.before.0 c.args.slot.0 r.0 r.1 (once c.self.inside c.self.invariant c.args.chain c.args.before.0 c.args.slot.0 r.0 r.1 r.2) in
-    subst (λ z. ArenaStep c.set_next.new.self c.self.inside.heads c.self.inside.gray_first (record (opened c.self.inside) { chains = set c.self.inside.chained.0 c.args.chain z })) (sym left)
-    (skips c.self.inside c.self.invariant c.args.chain c.args.before.0 c.args.slot.0 r.0 r.1 r.2 c.next-next.result c.next-next.ensures c.set_next.new.self lt c.set_next.ensures)
+    let left = ap (besides c.args.slot.0) r.2 ∙ besides-second c.args.before.0 c.args.slot.0 r.0 r.1
+    (once c.self.inside c.self.invariant c.args.chain c.args.before.0 c.args.slot.0 r.0 r.1 r.2) in
+    subst (λ z. ArenaStep c.set_next.new.self c.self.inside.heads c.self.inside.gray_first
+    (record (opened c.self.inside) { chains = set c.self.inside.chained.0 c.args.chain z })) (sym left)
+    (skips c.self.inside c.self.invariant c.args.chain c.args.before.0 c.args.slot.0 r.0 r.1 r.2 c.next-next.result c.next-next.ensures
+    c.set_next.new.self lt c.set_next.ensures)
 
 pub invariant_of-self-inside : goal.invariant_of-self-inside
 invariant_of-self-inside c =
     let st = stepped (goal.at.invariant_of-self-inside c).After-set_next in
     let lt = subst (λ (v : ArenaState). c.args.chain < length v.chains) (sym c.self.view_is) c.requires.chain in
     let r = subst (λ v. Row v c.args.chain c.args.before.0 c.args.slot.0) (sym c.self.view_is) c.requires.row in
-    let left = ap (besides c.args.slot.0) r.2 ∙ besides-second c.args.before.0 c.args.slot.0 r.0 r.1 (once c.self.inside c.self.invariant c.args.chain c.args.before.0 c.args.slot.0 r.0 r.1 r.2) in
-    let count = (total-skipped c.self.inside.linked c.self.inside.chained.0 c.args.chain c.args.before.0 c.args.slot.0 r.0 r.1 lt r.2 c.self.inside.counted).1 in
-    ((set c.self.inside.chained.0 c.args.chain (besides c.args.slot.0 (chain_at (opened c.self.inside) c.args.chain)), st.chained), ((c.self.inside.grayed.0, st.grayed), (count ∙ ap (λ z. total (set c.self.inside.chained.0 c.args.chain z)) (sym left), tt)))
+    let left = ap (besides c.args.slot.0) r.2 ∙ besides-second c.args.before.0 c.args.slot.0 r.0 r.1
+    (once c.self.inside c.self.invariant c.args.chain c.args.before.0 c.args.slot.0 r.0 r.1 r.2) in
+    let count = (total-skipped c.self.inside.linked c.self.inside.chained.0 c.args.chain c.args.before.0 c.args.slot.0 r.0 r.1 lt r.2
+    c.self.inside.counted).1 in (
+      (set c.self.inside.chained.0 c.args.chain (besides c.args.slot.0 (chain_at (opened c.self.inside) c.args.chain)), st.chained),
+      ((c.self.inside.grayed.0, st.grayed), (count ∙ ap (λ z. total (set c.self.inside.chained.0 c.args.chain z)) (sym left), tt)),
+    )
 
 pub invariant_of-self : goal.invariant_of-self
 invariant_of-self c = step_law (stepped (goal.at.invariant_of-self c).After-set_next) c.self-1.given.0 c.self-1.given.1.0

@@ -14,7 +14,8 @@ pub loop-from-preserved : goal.loop-from-preserved
 loop-from-preserved c =
     let e = c.move_chain.ensures in
     let high : c.loop-from.from < length c.args.self.now.chains = omega (arith, c.loop-from-test.true, c.chains-old.ensures.count) in
-    gathered_on c.args.self.now c.loop-from.from c.loop-from.self c.loop-from.invariant c.loop-from.auto.from high c.move_chain.new.self e.chains e.rest e.others e.moved e.empty
+    gathered_on c.args.self.now c.loop-from.from c.loop-from.self c.loop-from.invariant c.loop-from.auto.from high c.move_chain.new.self e.chains
+    e.rest e.others e.moved e.empty
 
 pub keep_chains-requires : goal.keep_chains-requires
 keep_chains-requires c =

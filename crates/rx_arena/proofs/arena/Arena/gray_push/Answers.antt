@@ -15,7 +15,8 @@ pub set_next-requires-clause-held : goal.set_next-requires-clause-held
 set_next-requires-clause-held c =
     let h = subst (λ (v : ArenaState). IsTaken v c.args.slot.0) (sym c.self.view_is) c.requires.taken in
     let unmarked = subst (λ (v : ArenaState). marked_at v c.args.slot.0 ≡ false) (sym c.self.view_is) c.requires.unmarked in
-    gray_push_held c.self.inside c.self.invariant c.set_mark.new.self c.set_mark.new.self c.args.slot.0 h (unmarked_away _ c.self.invariant c.args.slot.0 unmarked) c.set_mark.ensures
+    gray_push_held c.self.inside c.self.invariant c.set_mark.new.self c.set_mark.new.self c.args.slot.0 h
+    (unmarked_away _ c.self.invariant c.args.slot.0 unmarked) c.set_mark.ensures
 
 pub set_next-requires-clause-apart : goal.set_next-requires-clause-apart
 set_next-requires-clause-apart c =
@@ -23,11 +24,17 @@ set_next-requires-clause-apart c =
     gray_apart c.self.inside c.self.invariant c.args.slot.0 (unmarked_away _ c.self.invariant c.args.slot.0 unmarked)
 
 -- what the call makes of the parts
-stepped : (c : After-set_next) → ArenaStep c.set_next.new.self c.self.inside.heads (Some c.args.slot.0) (record (opened c.self.inside) { cells = altered c.args.slot.0 (with_marking true) (opened c.self.inside).cells; gray = c.args.slot.0 ∷ (opened c.self.inside).gray })
+stepped : (c : After-set_next) → ArenaStep c.set_next.new.self c.self.inside.heads (Some c.args.slot.0)
+    (record (opened c.self.inside) {
+      cells = altered c.args.slot.0 (with_marking true) (opened c.self.inside).cells;
+      gray =
+          c.args.slot.0 ∷ (opened c.self.inside).gray;
+    })
 stepped c =
     let h = subst (λ (v : ArenaState). IsTaken v c.args.slot.0) (sym c.self.view_is) c.requires.taken in
     let unmarked = subst (λ (v : ArenaState). marked_at v c.args.slot.0 ≡ false) (sym c.self.view_is) c.requires.unmarked in
-    gray_push_step c.self.inside c.self.invariant c.set_mark.new.self c.set_next.new.self c.args.slot.0 h (unmarked_away _ c.self.invariant c.args.slot.0 unmarked) c.set_mark.ensures c.set_next.ensures
+    gray_push_step c.self.inside c.self.invariant c.set_mark.new.self c.set_next.new.self c.args.slot.0 h
+    (unmarked_away _ c.self.invariant c.args.slot.0 unmarked) c.set_mark.ensures c.set_next.ensures
 
 pub invariant_of-self-inside : goal.invariant_of-self-inside
 invariant_of-self-inside c =
@@ -38,7 +45,8 @@ pub invariant_of-self : goal.invariant_of-self
 invariant_of-self c = step_law (stepped (goal.at.invariant_of-self c).After-set_next) c.self-1.given.0 c.self-1.given.1.0
 
 pub returns-clause-after : goal.returns-clause-after
-returns-clause-after c = step_state (stepped (goal.at.returns-clause-after c).After-set_next) c.self-1.given.0 c.self-1.given.1.0 ∙ ap (λ (v : ArenaState). record v { cells = altered c.args.slot.0 (with_marking true) v.cells; gray = c.args.slot.0 ∷ v.gray }) c.self.view_is
+returns-clause-after c = step_state (stepped (goal.at.returns-clause-after c).After-set_next) c.self-1.given.0 c.self-1.given.1.0
+    ∙ ap (λ (v : ArenaState). record v { cells = altered c.args.slot.0 (with_marking true) v.cells; gray = c.args.slot.0 ∷ v.gray }) c.self.view_is
 
 pub returns-clause-law : goal.returns-clause-law
 returns-clause-law c = step_law (stepped (goal.at.returns-clause-law c).After-set_next) c.self-1.given.0 c.self-1.given.1.0

@@ -11,4 +11,5 @@ returns c =
     let s = c.args.slot.0 in
     let at = shown_at c.self.inside c.self.invariant s in
     subst (λ (v : ArenaState). IsTrue c.is_protected.result ↔ 0 < roots_at v s) c.self.view_is
-    (subst (λ o. IsTrue c.is_protected.result ↔ 0 < root_count o) (sym at) (shown_protected p.turned (get_or p.cells s None) c.is_protected.result c.is_protected.ensures))
+    (subst (λ o. IsTrue c.is_protected.result ↔ 0 < root_count o) (sym at)
+    (shown_protected p.turned (get_or p.cells s None) c.is_protected.result c.is_protected.ensures))

@@ -13,10 +13,13 @@ set_mark-requires c =
     held_taken c.self.inside c.self.invariant c.args.slot.0 h
 
 -- what the call makes of the parts
-stepped : (c : After-set_mark) → ArenaStep c.set_mark.new.self c.self.inside.heads c.self.inside.gray_first (record (opened c.self.inside) { cells = altered c.args.slot.0 (with_marking true) (opened c.self.inside).cells })
+stepped : (c : After-set_mark) → ArenaStep c.set_mark.new.self c.self.inside.heads c.self.inside.gray_first
+    (record (opened c.self.inside) { cells = altered c.args.slot.0 (with_marking true) (opened c.self.inside).cells })
 stepped c =
     let h = subst (λ (v : ArenaState). IsTaken v c.args.slot.0) (sym c.self.view_is) c.requires in
-    altered_step c.self.inside c.self.invariant c.set_mark.new.self c.args.slot.0 (with_mark (mark_of c.self.inside.pool.turned true)) (with_marking true) h c.set_mark.ensures (λ n. (shown-marked c.self.inside.pool.turned true n, refl, refl)) (altered_law _ c.self.invariant c.args.slot.0 (with_marking true) h.0 h.1 (λ g. refl))
+    altered_step c.self.inside c.self.invariant c.set_mark.new.self c.args.slot.0 (with_mark (mark_of c.self.inside.pool.turned true))
+    (with_marking true) h c.set_mark.ensures (λ n. (shown-marked c.self.inside.pool.turned true n, refl, refl))
+    (altered_law _ c.self.invariant c.args.slot.0 (with_marking true) h.0 h.1 (λ g. refl))
 
 pub invariant_of-self-inside : goal.invariant_of-self-inside
 invariant_of-self-inside c =
@@ -27,7 +30,8 @@ pub invariant_of-self : goal.invariant_of-self
 invariant_of-self c = step_law (stepped (goal.at.invariant_of-self c).After-set_mark) c.self-1.given.0 c.self-1.given.1.0
 
 pub returns-clause-after : goal.returns-clause-after
-returns-clause-after c = step_state (stepped (goal.at.returns-clause-after c).After-set_mark) c.self-1.given.0 c.self-1.given.1.0 ∙ ap (λ (v : ArenaState). record v { cells = altered c.args.slot.0 (with_marking true) v.cells }) c.self.view_is
+returns-clause-after c = step_state (stepped (goal.at.returns-clause-after c).After-set_mark) c.self-1.given.0 c.self-1.given.1.0
+    ∙ ap (λ (v : ArenaState). record v { cells = altered c.args.slot.0 (with_marking true) v.cells }) c.self.view_is
 
 pub returns-clause-law : goal.returns-clause-law
 returns-clause-law c = step_law (stepped (goal.at.returns-clause-law c).After-set_mark) c.self-1.given.0 c.self-1.given.1.0

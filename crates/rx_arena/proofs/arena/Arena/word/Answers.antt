@@ -12,4 +12,5 @@ word-requires c =
 
 pub returns : goal.returns
 returns c =
-    subst (λ (v : ArenaState). IfSome (taken_at v c.args.slot.0) (λ t. c.word.result ≡ word_of t.body)) c.self.view_is (word_at c.self.inside c.self.invariant c.args.slot.0 c.word.result c.word.ensures)
+    subst (λ (v : ArenaState). IfSome (taken_at v c.args.slot.0) (λ t. c.word.result ≡ word_of t.body)) c.self.view_is
+    (word_at c.self.inside c.self.invariant c.args.slot.0 c.word.result c.word.ensures)

@@ -39,8 +39,10 @@ stayed = (stay_dropped (param_at f.ended.signature.params 0) f.ended.kept.0, (st
 pub number_spec : {M : Type 1} → statement M
 number_spec 𝓤 𝓛 𝓜 𝓡 wired =
     let c = f.clauses 𝓛 𝓜.mem 𝓡.returns in let W = walk_of 𝓛 f.ended stayed c in let 𝓣 = tables 𝓤 𝓛.H 𝓜 𝓡 𝓡.env in
-    proved 𝓛 f.ended stayed c 𝓜 𝓡
-    (Goes-dropped 𝓛 1 (param_at f.ended.signature.params 0) f.ended.kept.0 (λ κs x w. refl), (Goes-dropped 𝓛 1 (param_at f.ended.signature.params 1) f.ended.kept.1.0 (λ κs x w. refl), tt))
+    proved 𝓛 f.ended stayed c 𝓜 𝓡 (
+      Goes-dropped 𝓛 1 (param_at f.ended.signature.params 0) f.ended.kept.0 (λ κs x w. refl),
+      (Goes-dropped 𝓛 1 (param_at f.ended.signature.params 1) f.ended.kept.1.0 (λ κs x w. refl), tt),
+    )
     f.Key.name code.function (code.unfolded 𝓤 𝓛.H 𝓜 𝓡 wired)
     (λ κs. (shr_vals, ((λ p. lead_val p ∷ []), tt))) (λ κs. (shr_Tells (named 0) κs.0 Cs, (lead_Tells, tt))) (λ κs qs bounds a g are.
     let κ = κs.0 in let rb = a.0.ref_ptr.0 in let ro = a.0.ref_ptr.1 in let d = a.0.now in let p = a.1.0 in
@@ -57,15 +59,18 @@ number_spec 𝓤 𝓛 𝓜 𝓡 wired =
     -- [what the `&` to the owner holds; the token]
     unhide ! $ fsplit ! $ drop ! $
     slot_looks d.blocks d.slots next m ! asked.2 asked.3.1 (λ b o e.
-    let good : LeadGood (record p { to = block_ptr b o }) = subst (λ (q : Ptr). LeadGood (record p { to = q })) e ((lead_laws.the_row_laws.lawful 𝓛).typed p (lead_val p ∷ []) are.1.0).0 in
+    let good : LeadGood (record p { to = block_ptr b o }) = subst (λ (q : Ptr). LeadGood (record p { to = q })) e
+    ((lead_laws.the_row_laws.lawful 𝓛).typed p (lead_val p ∷ []) are.1.0).0 in
     -- [what a `&` to the cell holds; the token]
     regoal ! Runs e refl $ enter ! _ _ _ _ _ $ alloc_all ! (λ l. pass_all ! refl ((tt, tt), (good, tt)) $
     let E = env code.Mir.locals l in
     cell_seen ! tt x b o (λ part fits. let few = fits.1 in
     first ! $ blocks ! $
-    sets_last ! (of_opd ! (load ! (from ! (fld ! refl (hop ! (look_in_at ! 2 (sub ! 2 refl (whole !))) (fld ! refl (stop !))))) (look_in ! 0 (sub ! 5 refl (whole !))))) refl (tt, record { fits = few }) $
+    sets_last ! (of_opd ! (load ! (from ! (fld ! refl (hop ! (look_in_at ! 2 (sub ! 2 refl (whole !))) (fld ! refl (stop !)))))
+    (look_in ! 0 (sub ! 5 refl (whole !))))) refl (tt, record { fits = few }) $
     exec ! 𝓣.C 𝓣.Λ E (after 1 code.function.body) (at_ret E (W.post y)) $ cell_shut ! tt part x b o fits $
     sets ! (of_opd ! (get ! refl)) refl (tt, record { fits = few }) $ returns ! (look_at ! 0 refl) $ free_all ! refl $
-    flt_i ! t (2 ^ 32) few $ feq_i ! (List Val) (vint w32 t ∷ []) (vint w32 t ∷ []) refl $ fjoin ! $ use0 𝓛 (raw (fact 𝓤 Given)) (fact_i 𝓤 Given (emp 𝓤) given) $
+    flt_i ! t (2 ^ 32) few $ feq_i ! (List Val) (vint w32 t ∷ []) (vint w32 t ∷ []) refl $ fjoin ! $ use0 𝓛 (raw (fact 𝓤 Given))
+    (fact_i 𝓤 Given (emp 𝓤) given) $
     nothing ! $ nothing ! $ fjoin ! $ nothing ! $ fjoin ! $ nothing ! $ move ! (4 ∷ 0 ∷ []) $ join ! $ move ! (0 ∷ 1 ∷ 3 ∷ []) $
     by ! (leaves 𝓛 f.ended stayed c y (vint w32 t) t (tt, (tt, tt)) (tt, (tt, tt))))))))

@@ -16,4 +16,5 @@ pub returns : goal.returns
 returns c =
     let lt = subst (λ z. c.args.slot < length z) (sym c.self.view_is) c.requires in
     subst (λ z. c.index.result.now ≡ word_beside (node_at z c.args.slot)) c.self.view_is
-    (c.index.ensures ∙ said-at c.self.inside.words.items (with_marks c.self.inside.marks.items c.self.inside.cells) c.self.inside.said c.args.slot c.index.result.now lt)
+    (c.index.ensures ∙ said-at c.self.inside.words.items (with_marks c.self.inside.marks.items c.self.inside.cells) c.self.inside.said c.args.slot
+    c.index.result.now lt)

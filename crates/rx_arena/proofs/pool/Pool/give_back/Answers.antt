@@ -2,7 +2,8 @@ use Rattle.std.proofs.Common.{Some, ◌≡◌, ◌+◌, ◌-◌, ◌∷◌, None
 use Rattle.rx_arena.specs.Inner.Held.{IsHeld}
 use Rattle.rx_arena.specs.Put.{put, filled}
 use Rattle.rx_arena.specs.Inner.Pool.{PoolState, spare_of, cells_of}
-use Rattle.rx_arena.proofs.PoolStepLemmas.{Step, cells_in, pool_room, given_back-step, given_back_some, first_apart, remarked_held, held_in_store, step_pool, step_state}
+use Rattle.rx_arena.proofs.PoolStepLemmas.{Step, cells_in, pool_room, given_back-step, given_back_some}
+use Rattle.rx_arena.proofs.PoolStepLemmas.{first_apart, remarked_held, held_in_store, step_pool, step_state}
 use Rattle.rx_arena.proofs.pool.Pool.give_back.Goals.{After-set_next}
 use Rattle.rx_arena.proofs.pool.Pool.give_back.Goals as goal
 
@@ -27,7 +28,8 @@ overflow_sub-self c =
     given_back_some c.self.inside c.self.invariant c.args.slot h
 
 -- what the call makes of the parts
-stepped : (c : After-set_next) → Step c.set_next.new.self (Some c.args.slot) (c.args.slot ∷ c.self.inside.listed.0) c.self.inside.fresh (c.self.inside.taken - 1) c.self.inside.room c.self.inside.cap (put (cells_in c.self.inside) c.args.slot None)
+stepped : (c : After-set_next) → Step c.set_next.new.self (Some c.args.slot) (c.args.slot ∷ c.self.inside.listed.0) c.self.inside.fresh
+    (c.self.inside.taken - 1) c.self.inside.room c.self.inside.cap (put (cells_in c.self.inside) c.args.slot None)
 stepped c =
     let h = subst (λ (v : PoolState). IsHeld v.cells c.args.slot) (sym c.self.view_is) c.requires in
     given_back-step c.self.inside c.self.invariant c.give_back.new.self c.set_next.new.self c.args.slot h c.give_back.ensures c.set_next.ensures
@@ -51,4 +53,5 @@ returns-clause-spare c =
     let new = pool_room (step_pool (stepped (goal.at.returns-clause-spare c).After-set_next) c.self-1.given.0) in
     let old = pool_room c.self.invariant in
     let some = given_back_some c.self.inside c.self.invariant c.args.slot h in
-    subst (λ (v : PoolState). (min c.self.inside.cap c.self.inside.room - filled (cells_of c.set_next.new.self c.self-1.given.0.0 c.self.inside.fresh)) ≡ spare_of v + 1) c.self.view_is (omega (arith, new, old, some))
+    subst (λ (v : PoolState). (min c.self.inside.cap c.self.inside.room - filled
+    (cells_of c.set_next.new.self c.self-1.given.0.0 c.self.inside.fresh)) ≡ spare_of v + 1) c.self.view_is (omega (arith, new, old, some))

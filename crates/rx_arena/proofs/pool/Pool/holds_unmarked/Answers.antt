@@ -8,7 +8,8 @@ use Rattle.rx_arena.proofs.pool.Pool.holds_unmarked.Goals as goal
 pub returns-then-slot-self : goal.returns-then-slot-self
 returns-then-slot-self c =
     ap (nat_eq c.mark.result) c.mark_of.ensures
-    ∙ subst (λ (v : PoolState). nat_eq c.mark.result (mark_of c.self.inside.turned false) ≡ is_unmarked_node v.turned (get_or v.cells c.args.slot None)) c.self.view_is
+    ∙ subst (λ (v : PoolState). nat_eq c.mark.result (mark_of c.self.inside.turned false) ≡ is_unmarked_node v.turned
+    (get_or v.cells c.args.slot None)) c.self.view_is
     (unmarked_held c.self.inside c.self.invariant c.self.inside.turned c.args.slot c.mark.result c.if-slot-self.true c.mark.ensures)
 
 pub returns-else-slot-self : goal.returns-else-slot-self

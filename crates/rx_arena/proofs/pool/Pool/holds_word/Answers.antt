@@ -11,4 +11,5 @@ word-requires c = let lt = c.if-slot-self.true in let e = c.self.invariant.room_
 pub returns-then-slot-self : goal.returns-then-slot-self
 returns-then-slot-self c = λ is.
     subst (λ (v : PoolState). (n : Node) × (get_or v.cells c.args.slot None ≡ Some n) × (c.args.word ≡ word_of n.body)) c.self.view_is
-    (worded_held c.self.inside c.self.invariant c.args.slot c.args.word c.requires (let same : c.word.result ≡ c.args.word = search rules in sym same ∙ c.word.ensures))
+    (worded_held c.self.inside c.self.invariant c.args.slot c.args.word c.requires (let same : c.word.result ≡ c.args.word = search rules in
+    sym same ∙ c.word.ensures))

@@ -21,10 +21,13 @@ pub set_mark-requires-clause-mark : goal.set_mark-requires-clause-mark
 set_mark-requires-clause-mark c = subst (λ k. k ≤ 1) (sym c.mark_of.ensures) (mark_of_small c.self.inside.turned c.args.marked)
 
 -- what the call makes of the parts
-stepped : (c : After-set_mark) → Keeps c.self.inside c.set_mark.new.self (altered c.args.slot (with_mark (mark_of c.self.inside.turned c.args.marked)) (cells_in c.self.inside))
+stepped : (c : After-set_mark) → Keeps c.self.inside c.set_mark.new.self
+    (altered c.args.slot (with_mark (mark_of c.self.inside.turned c.args.marked)) (cells_in c.self.inside))
 stepped c =
     let h = subst (λ (v : PoolState). IsHeld v.cells c.args.slot) (sym c.self.view_is) c.requires in
-    kept-step c.self.inside c.self.invariant c.set_mark.new.self c.args.slot (with_mark (mark_of c.self.inside.turned c.args.marked)) (λ n le. mark_of_small c.self.inside.turned c.args.marked) h (c.set_mark.ensures ∙ ap (λ k. changed c.args.slot (with_mark k) c.self.inside.store) c.mark_of.ensures)
+    kept-step c.self.inside c.self.invariant c.set_mark.new.self c.args.slot (with_mark (mark_of c.self.inside.turned c.args.marked)) (λ n le.
+    mark_of_small c.self.inside.turned c.args.marked) h (c.set_mark.ensures
+    ∙ ap (λ k. changed c.args.slot (with_mark k) c.self.inside.store) c.mark_of.ensures)
 
 pub invariant_of-self-inside : goal.invariant_of-self-inside
 invariant_of-self-inside c =

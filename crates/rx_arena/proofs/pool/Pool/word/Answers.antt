@@ -13,4 +13,5 @@ word-requires c =
 pub returns : goal.returns
 returns c =
     let h = subst (λ (v : PoolState). IsHeld v.cells c.args.slot) (sym c.self.view_is) c.requires in
-    subst (λ (v : PoolState). IfSome (get_or v.cells c.args.slot None) (λ n. c.word.result ≡ word_of n.body)) c.self.view_is (word_there c.self.inside c.self.invariant c.args.slot h c.word.result c.word.ensures)
+    subst (λ (v : PoolState). IfSome (get_or v.cells c.args.slot None) (λ n. c.word.result ≡ word_of n.body)) c.self.view_is
+    (word_there c.self.inside c.self.invariant c.args.slot h c.word.result c.word.ensures)

@@ -20,7 +20,12 @@ returns-in-Ok-clause-deeper c =
     let within = c.requires.within in
     record {
       jobs = refl;
-      kept = record { indent = refl; room = omega (arith, long); blank = blanks_more old.items new.items (vec_len old) k c.requires.blank more ∙ ap (λ n. replicate n 32) (sym long) };
+      kept = record {
+        indent = refl;
+        room = omega (arith, long);
+        blank =
+            blanks_more old.items new.items (vec_len old) k c.requires.blank more ∙ ap (λ n. replicate n 32) (sym long);
+      };
       deeper = ap (λ n. c.args.margin + n) i;
       within = omega (arith, long, within);
     }

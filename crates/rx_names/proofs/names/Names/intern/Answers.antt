@@ -24,7 +24,8 @@ invariant_of-self-2 c =
     let n = c.args.self.now in
     let e : Entry = record { word = c.in-Ok.word; quoted = c.args.quoted; arity = c.args.arity } in
     let es = c.insert_full.new.self.keys in
-    let placed = inserted-once c.insert_full.result _ n.entries.keys es e c.insert_full.ensures.keys c.insert_full.ensures.err (lacks-itself e _ (entry_eq-Decides e) n.entries.keys) in
+    let placed = inserted-once c.insert_full.result _ n.entries.keys es e c.insert_full.ensures.keys c.insert_full.ensures.err
+    (lacks-itself e _ (entry_eq-Decides e) n.entries.keys) in
     let allowed = kept-allowed (words_of n.words) (words_of c.intern.new.self) n.entries.keys c.intern.ensures.kept n.allowed in
     let ok : is_allowed_word (slice_get (words_of c.intern.new.self) c.in-Ok.word) c.args.quoted ≡ true = rw c.in-Ok.ensures.stands c.requires in
     record {
@@ -40,13 +41,16 @@ returns-in-Ok-insert_full c =
     let vs = words_of c.intern.new.self in
     let es = c.insert_full.new.self.keys in
     let place = c.in-Ok-insert_full.place in
-    let placed = inserted-once c.insert_full.result _ n.entries.keys es e c.insert_full.ensures.keys c.insert_full.ensures.err (lacks-itself e _ (entry_eq-Decides e) n.entries.keys) in
+    let placed = inserted-once c.insert_full.result _ n.entries.keys es e c.insert_full.ensures.keys c.insert_full.ensures.err
+    (lacks-itself e _ (entry_eq-Decides e) n.entries.keys) in
     let k = c.in-Ok-insert_full.ensures.stored in
     let at : slice_get es place ≡ Some e = k.1 ∙ ap (λ z. Some z) (sym ((entry_eq-Decides e k.0).0 k.2)) in
     subst (λ m. Interns m (symbols_from vs es) g (record { 0 = place })) (kept-symbols (words_of n.words) vs n.entries.keys c.intern.ensures.kept n.allowed)
-    (Interns-placed vs n.entries.keys es e place placed at g c.intern.new.self.apart (Placed-apart n.entries.keys es e placed n.apart) c.in-Ok.ensures.stands refl refl)
+    (Interns-placed vs n.entries.keys es e place placed at g c.intern.new.self.apart (Placed-apart n.entries.keys es e placed n.apart)
+    c.in-Ok.ensures.stands refl refl)
 
 pub returns-in-Err-insert_full : goal.returns-in-Err-insert_full
 returns-in-Err-insert_full c =
     let n = c.args.self.now in
-    ap (symbols_from (words_of c.intern.new.self)) c.in-Err-insert_full.ensures.err ∙ kept-symbols (words_of n.words) (words_of c.intern.new.self) n.entries.keys c.intern.ensures.kept n.allowed
+    ap (symbols_from (words_of c.intern.new.self)) c.in-Err-insert_full.ensures.err
+    ∙ kept-symbols (words_of n.words) (words_of c.intern.new.self) n.entries.keys c.intern.ensures.kept n.allowed

@@ -22,6 +22,7 @@ pub returns-clause-tree : goal.returns-clause-tree
 returns-clause-tree c =
     let b = c.args.self.now in
     let x = held-cell b c.args.t.0 c.requires in
-    let holds : heap_of b.slots.items c.args.t.0 ≡ Some (cell_of c.unwrap.result) = read-cell b.slots.items c.args.t.0 c.index.result.now (held-within b c.args.t c.requires) c.index.ensures ∙ ap cell_in c.unwrap.ensures in
+    let holds : heap_of b.slots.items c.args.t.0 ≡ Some (cell_of c.unwrap.result) =
+    read-cell b.slots.items c.args.t.0 c.index.result.now (held-within b c.args.t c.requires) c.index.ensures ∙ ap cell_in c.unwrap.ensures in
     let same : x.0 ≡ cell_of c.unwrap.result = cc in
     rw same at x.2

@@ -14,7 +14,8 @@ use Rattle.rx_term.specs.Heap.{IsDistinct}
 use Rattle.rx_plain.proofs.bank.PlainBank.make.Goals as goal
 
 pub returns-in-Some : goal.returns-in-Some
-returns-in-Some c = found c.args.self.now c.args.body c.requires c.in-Some.i (subst (λ xs. heap_of xs c.in-Some.i ≡ Some (cell_of c.args.body)) c.deref.ensures.value c.in-Some.ensures.1)
+returns-in-Some c = found c.args.self.now c.args.body c.requires c.in-Some.i
+    (subst (λ xs. heap_of xs c.in-Some.i ≡ Some (cell_of c.args.body)) c.deref.ensures.value c.in-Some.ensures.1)
 
 pub overflow_add-self : goal.overflow_add-self
 overflow_add-self c = let b = c.args.self.now in let p = taken-le b in let q = b.bounded in let r = b.limited in omega arith
@@ -24,10 +25,12 @@ invariant_of-self c =
     let b = c.args.self.now in
     let items = b.slots.items in
     let nowhere = subst (λ xs. (t : ℕ) → heap_of xs t ≡ Some (cell_of c.args.body) → ⊥) c.deref.ensures.value c.in_default.ensures in
-    let free = subst (λ xs. (c.in-Some-find_free.i < length xs) × (heap_of xs c.in-Some-find_free.i ≡ None)) c.deref-2.ensures.value c.in-Some-find_free.ensures in
+    let free = subst (λ xs. (c.in-Some-find_free.i < length xs) × (heap_of xs c.in-Some-find_free.i ≡ None)) c.deref-2.ensures.value
+    c.in-Some-find_free.ensures in
     let slot : Slot = record { body = Some c.args.body; roots = 0; mark = false } in
     let ys = slice_set items c.in-Some-find_free.i slot in
-    let puts : Puts items ys c.in-Some-find_free.i (cell_of c.args.body) = Puts-set items c.in-Some-find_free.i slot (cell_of c.args.body) free.0 free.1 b.unrooted (refl, refl) in
+    let puts : Puts items ys c.in-Some-find_free.i (cell_of c.args.body) =
+    Puts-set items c.in-Some-find_free.i slot (cell_of c.args.body) free.0 free.1 b.unrooted (refl, refl) in
     let whole = put-whole b c.args.body c.requires nowhere ys c.in-Some-find_free.i puts in
     let len = put-len-by b c.args.body c.requires nowhere ys c.in-Some-find_free.i puts whole in
     let counted = b.counted in
@@ -47,7 +50,8 @@ returns-in-Some-find_free c =
     let b = c.args.self.now in
     let items = b.slots.items in
     let nowhere = subst (λ xs. (t : ℕ) → heap_of xs t ≡ Some (cell_of c.args.body) → ⊥) c.deref.ensures.value c.in_default.ensures in
-    let free = subst (λ xs. (c.in-Some-find_free.i < length xs) × (heap_of xs c.in-Some-find_free.i ≡ None)) c.deref-2.ensures.value c.in-Some-find_free.ensures in
+    let free = subst (λ xs. (c.in-Some-find_free.i < length xs) × (heap_of xs c.in-Some-find_free.i ≡ None)) c.deref-2.ensures.value
+    c.in-Some-find_free.ensures in
     let slot : Slot = record { body = Some c.args.body; roots = 0; mark = false } in
     let same_room : vec_capacity b.slots ≤ vec_capacity b.slots = omega arith in
     put-makes b c.args.body c.requires nowhere (slice_set items c.in-Some-find_free.i slot) c.in-Some-find_free.i
@@ -93,7 +97,8 @@ returns-in-Err c =
     let full = c.in-Err.ensures.full in
     let spare : (store_of b).spare ≡ 0 = omega arith in
     let fits : map.len (store_of b).content < b.cap = omega arith in
-    put-refuses b c.args.body c.requires nowhere c.push.new.self.items _ _ (vec_capacity c.push.new.self) c.in-Err.ensures.items c.in-Err.ensures.capacity spare fits
+    put-refuses b c.args.body c.requires nowhere c.push.new.self.items _ _ (vec_capacity c.push.new.self) c.in-Err.ensures.items
+    c.in-Err.ensures.capacity spare fits
 
 pub overflow_add-self-in-Ok : goal.overflow_add-self-in-Ok
 overflow_add-self-in-Ok c = let b = c.args.self.now in let p = taken-le b in let q = b.bounded in let r = b.limited in omega arith
@@ -106,7 +111,8 @@ invariant_of-self-in-Ok c =
     let slot : Slot = record { body = Some c.args.body; roots = 0; mark = false } in
     let ys = c.push.new.self.items in
     let e : ys ≡ items ++ slot ∷ [] = c.in-Ok.ensures.items in
-    let puts : Puts items ys (length items) (cell_of c.args.body) = subst (λ zs. Puts items zs (length items) (cell_of c.args.body)) (sym e) (Puts-push items slot (cell_of c.args.body) (refl, refl)) in
+    let puts : Puts items ys (length items) (cell_of c.args.body) =
+    subst (λ zs. Puts items zs (length items) (cell_of c.args.body)) (sym e) (Puts-push items slot (cell_of c.args.body) (refl, refl)) in
     let whole = put-whole b c.args.body c.requires nowhere ys (length items) puts in
     let len = put-len-by b c.args.body c.requires nowhere ys (length items) puts whole in
     let counted = b.counted in
@@ -132,5 +138,7 @@ returns-in-Ok c =
     let e : ys ≡ items ++ slot ∷ [] = c.in-Ok.ensures.items in
     let size = b.slots.ok.0 in
     let at_end : length items ≡ c.len-i.result = omega (arith, c.len-i.ensures) in
-    let puts : Puts items ys c.len-i.result (cell_of c.args.body) = subst (λ zs. Puts items zs c.len-i.result (cell_of c.args.body)) (sym e) (subst (λ j. Puts items (items ++ slot ∷ []) j (cell_of c.args.body)) at_end (Puts-push items slot (cell_of c.args.body) (refl, refl))) in
+    let puts : Puts items ys c.len-i.result (cell_of c.args.body) =
+    subst (λ zs. Puts items zs c.len-i.result (cell_of c.args.body)) (sym e)
+    (subst (λ j. Puts items (items ++ slot ∷ []) j (cell_of c.args.body)) at_end (Puts-push items slot (cell_of c.args.body) (refl, refl))) in
     put-makes b c.args.body c.requires nowhere ys c.len-i.result puts _ (vec_capacity c.push.new.self) c.in-Ok.ensures.capacity

@@ -24,4 +24,9 @@ invariant_of-result c =
     }
 
 pub returns-in-Ok-clause-empty : goal.returns-in-Ok-clause-empty
-returns-in-Ok-clause-empty c = (empty-content (table_of (symbols_of c.in-Ok.names)) c.new-in-Ok.result.items c.new-in-Ok.ensures.items _, c.in-Ok.ensures, subst (λ xs. (t : ℕ) → roots_of xs t ≡ 0) (sym c.new-in-Ok.ensures.items) (λ t. refl), refl)
+returns-in-Ok-clause-empty c = (
+  empty-content (table_of (symbols_of c.in-Ok.names)) c.new-in-Ok.result.items c.new-in-Ok.ensures.items _,
+  c.in-Ok.ensures,
+  subst (λ xs. (t : ℕ) → roots_of xs t ≡ 0) (sym c.new-in-Ok.ensures.items) (λ t. refl),
+  refl,
+)

@@ -35,7 +35,8 @@ invariant_of-self c =
       whole = whole;
       unrooted = recount-unrooted b.slots.items c.args.t.0 s n lt c.index-slot.ensures (ap is_some x.1) b.unrooted;
       counts = recount-counts b.slots.items c.args.t.0 s n lt c.index-slot.ensures fits b.counts;
-      counted = b.counted ∙ sym (ap map.len (content-unique (table b) (heap_of b.slots.items) (heap_of ys) (length b.slots.items) (length ys) heap len b.whole whole));
+      counted = b.counted ∙ sym (ap map.len (content-unique (table b) (heap_of b.slots.items) (heap_of ys) (length b.slots.items) (length ys) heap len
+          b.whole whole));
     }
 
 pub returns : goal.returns

@@ -7,5 +7,6 @@ use Rattle.rx_plain.proofs.bank.PlainBankTermBank.annotated.Goals as goal
 
 pub returns : goal.returns
 returns c =
-    let e = annotated-cell (store_of c.args.self.now) (node_of c.body-body.result.shape) (notes_of c.body-body.result.anns) (notes_of c.notes-notes.result) c.args.t c.args.anns c.body-body.ensures.tree c.requires c.notes-notes.ensures in
+    let e = annotated-cell (store_of c.args.self.now) (node_of c.body-body.result.shape) (notes_of c.body-body.result.anns)
+    (notes_of c.notes-notes.result) c.args.t c.args.anns c.body-body.ensures.tree c.requires c.notes-notes.ensures in
     subst (λ o. MakesOrRefuses (store_of c.args.self.now) (store_of c.make.new.self) o c.make.result) e c.make.ensures

@@ -11,7 +11,8 @@ returns-in-Some c =
     let xs = c.deref.result.now in
     let same = c.deref.ensures.value in
     let read = read-cell xs c.args.t.0 c.in-Some.slot.now c.in-Some.ensures.lookup.3.0 c.in-Some.ensures.lookup.1 in
-    c.is_some.ensures ∙ sym (cell-there c.in-Some.slot.now.body) ∙ ap is_some (sym read) ∙ ap (λ ys. is_some (heap_of ys c.args.t.0)) same ∙ sym (cell-held b c.args.t.0)
+    c.is_some.ensures ∙ sym (cell-there c.in-Some.slot.now.body) ∙ ap is_some (sym read) ∙ ap (λ ys. is_some (heap_of ys c.args.t.0)) same
+    ∙ sym (cell-held b c.args.t.0)
 
 pub returns-in-None : goal.returns-in-None
 returns-in-None c =

@@ -15,6 +15,7 @@ returns-in-Int c =
     let at : ℕ → Option Tree = λ t. map.get w.content t in
     let tree = c.body.ensures.tree in
     let shape = c.in-Int.is in
-    let e : tree_at w c.args.t ≡ noted_tree at (int_tree c.in-Int.z) (notes_of c.body.result.anns) = tree ∙ ap (λ s. noted_tree at (node_tree at (λ s. map.get w.symbols s) (node_of s)) (notes_of c.body.result.anns)) shape in
+    let e : tree_at w c.args.t ≡ noted_tree at (int_tree c.in-Int.z) (notes_of c.body.result.anns) =
+    tree ∙ ap (λ s. noted_tree at (node_tree at (λ s. map.get w.symbols s) (node_of s)) (notes_of c.body.result.anns)) shape in
     let r = int-cell at (tree_at w c.args.t) (notes_of c.body.result.anns) c.in-Int.z e c.requires in
     record { anns = r.0; here = grind (arith, to_z-of_z, r.1) }

@@ -5,7 +5,8 @@ use Rattle.rx_plain.specs.Marks.{Reaches, AreLinksWithin}
 use Rattle.rx_plain.specs.Slots.{swept_of, is_taken}
 use Rattle.rx_plain.specs.Inner.Soundness.{table}
 use Rattle.rx_plain.proofs.ReadingLemmas.{held-within}
-use Rattle.rx_plain.proofs.ReclaimingLemmas.{written, swept-back, bank-within, reclaimed-whole, reclaimed-distinct, reclaimed-roots, reclaimed-unrooted, reclaimed-len, reclaimed, count-content}
+use Rattle.rx_plain.proofs.ReclaimingLemmas.{written, swept-back, bank-within, reclaimed-whole, reclaimed-distinct}
+use Rattle.rx_plain.proofs.ReclaimingLemmas.{reclaimed-roots, reclaimed-unrooted, reclaimed-len, reclaimed, count-content}
 use Rattle.rx_plain.proofs.bank.PlainBankTermBank.reclaim.Goals as goal
 
 pub mark_reached-requires-clause-within : goal.mark_reached-requires-clause-within
@@ -21,7 +22,8 @@ invariant_of-self c =
     let extra = c.args.extra.now in
     let r = subst (λ xs. Reaches xs marked extra) c.deref_mut.ensures.value c.mark_reached.ensures in
     let size : b.slots.len ≡ length b.slots.items = (let k = b.slots.ok.0 in omega arith) in
-    let both = swept-back b.slots.len b.slots.items marked c.deref_mut-2.result.now c.sweep.new.slots size r.len c.deref_mut-2.ensures.value c.sweep.ensures.slots in
+    let both = swept-back b.slots.len b.slots.items marked c.deref_mut-2.result.now c.sweep.new.slots size r.len c.deref_mut-2.ensures.value
+    c.sweep.ensures.slots in
     let ys = written b.slots.len c.sweep.new.slots (written b.slots.len marked b.slots.items) in
     let swept : ys ≡ map swept_of marked = both.0 ∙ both.1 in
     let whole = reclaimed-whole b marked ys extra r swept c.requires in
@@ -43,7 +45,8 @@ returns c =
     let extra = c.args.extra.now in
     let r = subst (λ xs. Reaches xs marked extra) c.deref_mut.ensures.value c.mark_reached.ensures in
     let size : b.slots.len ≡ length b.slots.items = (let k = b.slots.ok.0 in omega arith) in
-    let both = swept-back b.slots.len b.slots.items marked c.deref_mut-2.result.now c.sweep.new.slots size r.len c.deref_mut-2.ensures.value c.sweep.ensures.slots in
+    let both = swept-back b.slots.len b.slots.items marked c.deref_mut-2.result.now c.sweep.new.slots size r.len c.deref_mut-2.ensures.value
+    c.sweep.ensures.slots in
     let ys = written b.slots.len c.sweep.new.slots (written b.slots.len marked b.slots.items) in
     let swept : ys ≡ map swept_of marked = both.0 ∙ both.1 in
     reclaimed b marked ys extra r swept c.requires _ c.sweep.result (c.sweep.ensures.taken ∙ ap (count_by is_taken) (sym both.0))

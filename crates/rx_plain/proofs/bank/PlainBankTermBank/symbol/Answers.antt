@@ -24,14 +24,21 @@ invariant_of-self c =
       whole = whole;
       unrooted = b.unrooted;
       counts = b.counts;
-      counted = b.counted ∙ sym (ap map.len (renamed-content (heap_of b.slots.items) (length b.slots.items) b.names c.intern.new.self b.whole (bank-heap b) grows whole));
+      counted = b.counted ∙ sym (ap map.len (renamed-content (heap_of b.slots.items) (length b.slots.items) b.names c.intern.new.self b.whole
+          (bank-heap b) grows whole));
     }
 
 pub returns-in-Ok : goal.returns-in-Ok
 returns-in-Ok c =
     let b = c.args.self.now in
     let g : Signature = record { name = c.args.name.now; quoted = c.args.quoted; arity = c.args.arity } in
-    renamed-adds (heap_of b.slots.items) (length b.slots.items) b.names c.intern.new.self b.whole (bank-heap b) (kept-interned (symbols_of b.names) (symbols_of c.intern.new.self) g c.intern.result c.intern.ensures) _ (roots_of b.slots.items) b.cap (store_of b).spare g c.in-Ok.symbol c.in-Ok.ensures
+    renamed-adds (heap_of b.slots.items) (length b.slots.items) b.names c.intern.new.self b.whole (bank-heap b)
+    (kept-interned (symbols_of b.names) (symbols_of c.intern.new.self) g c.intern.result c.intern.ensures) _ (roots_of b.slots.items) b.cap
+    (store_of b).spare g c.in-Ok.symbol c.in-Ok.ensures
 
 pub returns-in-Err : goal.returns-in-Err
-returns-in-Err c = let b = c.args.self.now in (renamed-same (heap_of b.slots.items) (length b.slots.items) b.names c.intern.new.self b.whole (bank-heap b) _ (roots_of b.slots.items) b.cap (store_of b).spare c.in-Err.ensures, refl)
+returns-in-Err c = let b = c.args.self.now in (
+  renamed-same (heap_of b.slots.items) (length b.slots.items) b.names c.intern.new.self b.whole (bank-heap b) _ (roots_of b.slots.items) b.cap
+      (store_of b).spare c.in-Err.ensures,
+  refl,
+)

@@ -23,4 +23,5 @@ returns-in-Err-Kind-clause-due g c = λ ts h.
     ap (answer_due (g.B.TermBank.store c.make.new.bank)) c.refused-in-Err-Kind.ensures ∙ ap made_due (sym wrong)
 
 pub returns-in-Err-Full-clause-fault : goal.returns-in-Err-Full-clause-fault
-returns-in-Err-Full-clause-fault g c = (refl, record { full = c.in-Err-Full.ensures.full (ap Err c.in-Err-Full.field-0-is); grows = c.in-Err-Full.ensures.grows })
+returns-in-Err-Full-clause-fault g c =
+    (refl, record { full = c.in-Err-Full.ensures.full (ap Err c.in-Err-Full.field-0-is); grows = c.in-Err-Full.ensures.grows })

@@ -13,5 +13,6 @@ returns-in-Refused-clause-due g c = λ text read.
 pub returns-in-Good-clause-due : goal.returns-in-Good-clause-due
 returns-in-Good-clause-due g c =
     if_ok_map c.make_of_text.result _ _
-    (λ answer h text read. good_both due_of_args (Some c.args.args.now) text c.in-Good.pattern (answer_due (g.B.TermBank.store c.make_of_text.new.bank) answer) (subst (λ (r : Reading Tree). IsPatternRead text r) c.in-Good.is read) h)
+    (λ answer h text read. good_both due_of_args (Some c.args.args.now) text c.in-Good.pattern
+    (answer_due (g.B.TermBank.store c.make_of_text.new.bank) answer) (subst (λ (r : Reading Tree). IsPatternRead text r) c.in-Good.is read) h)
     c.make_of_text.ensures.due

@@ -15,14 +15,16 @@ use Rattle.rx_run.proofs.pattern.answer.make_of_text.Goals as goal
 pub returns-in-Refused-clause-due : goal.returns-in-Refused-clause-due
 returns-in-Refused-clause-due g c =
     let w = g.B.TermBank.store c.parse.new.bank in
-    let v = subst (λ (r : Reading Term). (v : Verdict) × IsReadingOf source.Args w r v × IsVerdict c.args.args.now v) c.in-Refused.is c.in_ok-refusal.ensures.read in
+    let v = subst (λ (r : Reading Term). (v : Verdict) × IsReadingOf source.Args w r v × IsVerdict c.args.args.now v) c.in-Refused.is
+    c.in_ok-refusal.ensures.read in
     due_read (Some c.args.args.now) (refusal_due c.in-Refused.refusal) (due_of_args c.args.pattern.now) v.0 v.2
     (unspelt_args c.args.pattern.now c.in-Refused.refusal v.0 v.1)
 
 pub returns-in-Good-clause-due : goal.returns-in-Good-clause-due
 returns-in-Good-clause-due g c =
     let w = g.B.TermBank.store c.parse.new.bank in
-    let v = subst (λ (r : Reading Term). (v : Verdict) × IsReadingOf source.Args w r v × IsVerdict c.args.args.now v) c.in-Good.is c.in_ok-refusal.ensures.read in
+    let v = subst (λ (r : Reading Term). (v : Verdict) × IsReadingOf source.Args w r v × IsVerdict c.args.args.now v) c.in-Good.is
+    c.in_ok-refusal.ensures.read in
     if_ok_map c.make_of_term.result _ _
     (λ answer h.
     due_read (Some c.args.args.now) (answer_due (g.B.TermBank.store c.make_of_term.new.bank) answer) (due_of_args c.args.pattern.now) v.0 v.2

@@ -28,7 +28,8 @@ returns-in-Good-clause-due g c =
     let lines = λ (t : Tree). match_lines (matching c.args.pattern.now t) in
     let v = subst (λ (r : Reading Term). IsGiven (g.R.Read.remaining c.args.input.now.reader.now) w r) c.in-Good.is c.in_ok-refusal.ensures.read in
     if_ok_map c.match_term.result _ _
-    (λ answer h. due_read _ (answer_due (g.B.TermBank.store c.match_term.new.bank) answer) (due_of lines) v.0 v.2 (spelt_due (due_of lines) source.Term w c.in-Good.t v.0 v.1 _ h))
+    (λ answer h. due_read _ (answer_due (g.B.TermBank.store c.match_term.new.bank) answer) (due_of lines) v.0 v.2
+    (spelt_due (due_of lines) source.Term w c.in-Good.t v.0 v.1 _ h))
     c.match_term.ensures.due
 
 pub returns-in-Good-clause-fault : goal.returns-in-Good-clause-fault
@@ -40,4 +41,5 @@ returns-in-Good-clause-fault g c =
 
 pub returns-in-Good-clause-cause : goal.returns-in-Good-clause-cause
 returns-in-Good-clause-cause g c =
-    read_ran_out c.read_term.new.input c.match_term.result (g.B.TermBank.store c.read_term.new.bank) (g.B.TermBank.store c.match_term.new.bank) c.in_ok-refusal.ensures.cause c.match_term.ensures.fault
+    read_ran_out c.read_term.new.input c.match_term.result (g.B.TermBank.store c.read_term.new.bank) (g.B.TermBank.store c.match_term.new.bank)
+    c.in_ok-refusal.ensures.cause c.match_term.ensures.fault

@@ -20,7 +20,8 @@ returns-in-Refused-clause-due g c = λ text read.
 pub returns-in-Good-clause-due : goal.returns-in-Good-clause-due
 returns-in-Good-clause-due g c =
     if_ok_map c.match_input.result _ _
-    (λ answer h text read. good_both after _ text c.in-Good.pattern (answer_due (g.B.TermBank.store c.match_input.new.bank) answer) (subst (λ (r : Reading Tree). IsPatternRead text r) c.in-Good.is read) h)
+    (λ answer h text read. good_both after _ text c.in-Good.pattern (answer_due (g.B.TermBank.store c.match_input.new.bank) answer)
+    (subst (λ (r : Reading Tree). IsPatternRead text r) c.in-Good.is read) h)
     c.match_input.ensures.due
 
 pub returns-in-Refused-clause-input_read : goal.returns-in-Refused-clause-input_read

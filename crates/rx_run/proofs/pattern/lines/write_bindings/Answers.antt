@@ -21,4 +21,5 @@ returns-in_err-write_line_to-clause-err g c =
     let w = g.B.TermBank.store c.args.bank.now in
     let f = c.in_err-write_line_to.field-0.0 in
     if_err_at c.from_residual-in_err-write_line_to.result _ f c.from_residual-in_err-write_line_to.ensures.1
-    (stops_binding w c.args.bindings.now c.loop-i.i (record { 0 = 0 }) f _ _ _ (g.met.B.TermBank.sound c.args.bank.now) c.requires.held c.loop-i-test.true c.loop-i.invariant.0 c.in_err-write_line_to.ensures.err)
+    (stops_binding w c.args.bindings.now c.loop-i.i (record { 0 = 0 }) f _ _ _ (g.met.B.TermBank.sound c.args.bank.now) c.requires.held
+    c.loop-i-test.true c.loop-i.invariant.0 c.in_err-write_line_to.ensures.err)

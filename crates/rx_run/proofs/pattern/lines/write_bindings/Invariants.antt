@@ -7,4 +7,5 @@ use Rattle.rx_run.proofs.pattern.lines.write_bindings.Given as goal
 -- the lines so far were written
 abbrev pub invariant-loop-i : goal.invariant-loop-i
 invariant-loop-i g l =
-    Appends (g.W.Write.contents l.fn.out.writer.now) (g.W.Write.contents l.out.writer.now) (yes_lines (g.B.TermBank.store l.bank) (take l.i l.bindings)) × IsWritable l.out × IsSameOutput l.fn.out l.out
+    Appends (g.W.Write.contents l.fn.out.writer.now) (g.W.Write.contents l.out.writer.now)
+    (yes_lines (g.B.TermBank.store l.bank) (take l.i l.bindings)) × IsWritable l.out × IsSameOutput l.fn.out l.out

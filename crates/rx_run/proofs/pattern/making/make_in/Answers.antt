@@ -33,4 +33,5 @@ returns-in_err-reading-clause-cause g c =
     let old = g.B.TermBank.store c.args.patterns.now in
     let new = g.B.TermBank.store c.read_pattern_in.new.bank in
     let f = c.in_err-reading.field-0.0 in
-    write_on c.args.out.now c.from_residual.result f c.from_residual.ensures.1 (λ is. absurd (at_once_unwritten f (at_once old new f c.in_err-reading.ensures.fault) is))
+    write_on c.args.out.now c.from_residual.result f c.from_residual.ensures.1 (λ is.
+    absurd (at_once_unwritten f (at_once old new f c.in_err-reading.ensures.fault) is))

@@ -28,20 +28,24 @@ returns-in_err-answer-clause-room g c =
 pub returns-clause-output : goal.returns-clause-output
 returns-clause-output g c =
     let w = g.B.TermBank.store c.make_of_reading.new.bank in
-    ends_by (IsMakeDue c.args.pattern.now) (answer_lines w) (Some c.args.args.now) c.in_ok-answer.answer c.end_answer.result _ _ (c.in_ok-answer.ensures.due c.args.pattern.now c.requires.read) c.end_answer.ensures.ends c.end_answer.ensures.ok
+    ends_by (IsMakeDue c.args.pattern.now) (answer_lines w) (Some c.args.args.now) c.in_ok-answer.answer c.end_answer.result _ _
+    (c.in_ok-answer.ensures.due c.args.pattern.now c.requires.read) c.end_answer.ensures.ends c.end_answer.ensures.ok
 
 pub returns-clause-place : goal.returns-clause-place
 returns-clause-place g c =
     let w = g.B.TermBank.store c.make_of_reading.new.bank in
-    placed_by (IsMakeDue c.args.pattern.now) (answer_lines w) (Some c.args.args.now) c.in_ok-answer.answer c.end_answer.result _ (c.in_ok-answer.ensures.due c.args.pattern.now c.requires.read) c.end_answer.ensures.place
+    placed_by (IsMakeDue c.args.pattern.now) (answer_lines w) (Some c.args.args.now) c.in_ok-answer.answer c.end_answer.result _
+    (c.in_ok-answer.ensures.due c.args.pattern.now c.requires.read) c.end_answer.ensures.place
 
 pub returns-clause-fault : goal.returns-clause-fault
 returns-clause-fault g c =
     let w = g.B.TermBank.store c.make_of_reading.new.bank in
-    breaks_by (IsMakeDue c.args.pattern.now) (answer_lines w) (λ x. same_due make_due c.args.pattern.now x) (Some c.args.args.now) c.in_ok-answer.answer c.end_answer.result _ _ (c.in_ok-answer.ensures.due c.args.pattern.now c.requires.read) c.end_answer.ensures.err
+    breaks_by (IsMakeDue c.args.pattern.now) (answer_lines w) (λ x. same_due make_due c.args.pattern.now x) (Some c.args.args.now)
+    c.in_ok-answer.answer c.end_answer.result _ _ (c.in_ok-answer.ensures.due c.args.pattern.now c.requires.read) c.end_answer.ensures.err
 
 pub returns-clause-room : goal.returns-clause-room
-returns-clause-room g c = IfErr-weaker c.end_answer.result _ _ (room_writing (g.B.TermBank.store c.args.bank.now) (g.B.TermBank.store c.make_of_reading.new.bank)) c.end_answer.ensures.writing
+returns-clause-room g c = IfErr-weaker c.end_answer.result _ _
+    (room_writing (g.B.TermBank.store c.args.bank.now) (g.B.TermBank.store c.make_of_reading.new.bank)) c.end_answer.ensures.writing
 
 pub returns-clause-no_reader : goal.returns-clause-no_reader
 returns-clause-no_reader g c = IfErr-weaker c.end_answer.result _ _ no_reader_writing c.end_answer.ensures.writing
@@ -51,4 +55,5 @@ returns-in_err-answer-clause-cause g c =
     let old = g.B.TermBank.store c.args.bank.now in
     let new = g.B.TermBank.store c.make_of_reading.new.bank in
     let f = c.in_err-answer.field-0.0 in
-    write_on c.args.out.now c.from_residual.result f c.from_residual.ensures.1 (λ is. absurd (unwritten_unrefused old new f (unwritten old new f c.in_err-answer.ensures.fault) is))
+    write_on c.args.out.now c.from_residual.result f c.from_residual.ensures.1 (λ is.
+    absurd (unwritten_unrefused old new f (unwritten old new f c.in_err-answer.ensures.fault) is))

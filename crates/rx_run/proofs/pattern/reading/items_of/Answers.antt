@@ -11,6 +11,7 @@ loop-found-init g c =
 pub loop-found-preserved : goal.loop-found-preserved
 loop-found-preserved g c =
     let w = g.B.TermBank.store c.args.bank.now in
-    let taken = takes_one w c.args.list c.loop-found.found.items c.loop-found.rest c.head.result c.tail-rest.result c.loop-found.invariant c.in-Cons.ensures c.head.ensures c.tail-rest.ensures in
+    let taken = takes_one w c.args.list c.loop-found.found.items c.loop-found.rest c.head.result c.tail-rest.result c.loop-found.invariant
+    c.in-Cons.ensures c.head.ensures c.tail-rest.ensures in
     let e : c.push.new.self.items ≡ c.loop-found.found.items ++ c.head.result ∷ [] = c.in_ok-push.ensures.items in
     subst (λ (rs : List Term). IsPartWay w c.args.list rs c.tail-rest.result) (sym e) taken.part_way

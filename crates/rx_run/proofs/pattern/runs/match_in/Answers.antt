@@ -12,7 +12,8 @@ returns-in_err-reading-clause-fault g c =
     let new = g.B.TermBank.store c.read_pattern_in.new.bank in
     let f = c.in_err-reading.field-0.0 in
     if_err_at c.from_residual.result _ f c.from_residual.ensures.1
-    (breaks_unwritten (IsMatchDue c.args.pattern.now) (g.R.Read.remaining c.args.input.now.reader.now) f _ (reports_ran_out old new f c.in_err-reading.ensures.fault))
+    (breaks_unwritten (IsMatchDue c.args.pattern.now) (g.R.Read.remaining c.args.input.now.reader.now) f _
+    (reports_ran_out old new f c.in_err-reading.ensures.fault))
 
 pub returns-in_err-reading-clause-room : goal.returns-in_err-reading-clause-room
 returns-in_err-reading-clause-room g c =
@@ -32,11 +33,13 @@ returns-in_err-reading-clause-read_cause g c =
     let old = g.B.TermBank.store c.args.patterns.now in
     let new = g.B.TermBank.store c.read_pattern_in.new.bank in
     let f = c.in_err-reading.field-0.0 in
-    read_on c.args.input.now c.from_residual.result f c.from_residual.ensures.1 (λ is. absurd (at_once_unread f (at_once old new f c.in_err-reading.ensures.fault) is))
+    read_on c.args.input.now c.from_residual.result f c.from_residual.ensures.1 (λ is.
+    absurd (at_once_unread f (at_once old new f c.in_err-reading.ensures.fault) is))
 
 pub returns-in_err-reading-clause-write_cause : goal.returns-in_err-reading-clause-write_cause
 returns-in_err-reading-clause-write_cause g c =
     let old = g.B.TermBank.store c.args.patterns.now in
     let new = g.B.TermBank.store c.read_pattern_in.new.bank in
     let f = c.in_err-reading.field-0.0 in
-    write_on c.args.out.now c.from_residual.result f c.from_residual.ensures.1 (λ is. absurd (at_once_unwritten f (at_once old new f c.in_err-reading.ensures.fault) is))
+    write_on c.args.out.now c.from_residual.result f c.from_residual.ensures.1 (λ is.
+    absurd (at_once_unwritten f (at_once old new f c.in_err-reading.ensures.fault) is))

@@ -15,7 +15,8 @@ returns-in_err-answer-clause-fault g c =
     let new = g.B.TermBank.store c.match_reading.new.bank in
     let f = c.in_err-answer.field-0.0 in
     if_err_at c.from_residual.result _ f c.from_residual.ensures.1
-    (breaks_unwritten (IsMatchDue c.args.pattern.now) (g.R.Read.remaining c.args.input.now.reader.now) f _ (reports_unwritten old new f c.in_err-answer.ensures.fault))
+    (breaks_unwritten (IsMatchDue c.args.pattern.now) (g.R.Read.remaining c.args.input.now.reader.now) f _
+    (reports_unwritten old new f c.in_err-answer.ensures.fault))
 
 pub returns-in_err-answer-clause-room : goal.returns-in_err-answer-clause-room
 returns-in_err-answer-clause-room g c =
@@ -30,20 +31,25 @@ returns-in_err-answer-clause-unread g c = c.in_err-answer.ensures.unread c.args.
 pub returns-clause-output : goal.returns-clause-output
 returns-clause-output g c =
     let w = g.B.TermBank.store c.match_reading.new.bank in
-    ends_by (IsMatchDue c.args.pattern.now) (answer_lines w) (g.R.Read.remaining c.args.input.now.reader.now) c.in_ok-answer.answer c.end_answer.result _ _ (c.in_ok-answer.ensures.due c.args.pattern.now c.requires.read) c.end_answer.ensures.ends c.end_answer.ensures.ok
+    ends_by (IsMatchDue c.args.pattern.now) (answer_lines w) (g.R.Read.remaining c.args.input.now.reader.now) c.in_ok-answer.answer
+    c.end_answer.result _ _ (c.in_ok-answer.ensures.due c.args.pattern.now c.requires.read) c.end_answer.ensures.ends c.end_answer.ensures.ok
 
 pub returns-clause-place : goal.returns-clause-place
 returns-clause-place g c =
     let w = g.B.TermBank.store c.match_reading.new.bank in
-    placed_by (IsMatchDue c.args.pattern.now) (answer_lines w) (g.R.Read.remaining c.args.input.now.reader.now) c.in_ok-answer.answer c.end_answer.result _ (c.in_ok-answer.ensures.due c.args.pattern.now c.requires.read) c.end_answer.ensures.place
+    placed_by (IsMatchDue c.args.pattern.now) (answer_lines w) (g.R.Read.remaining c.args.input.now.reader.now) c.in_ok-answer.answer
+    c.end_answer.result _ (c.in_ok-answer.ensures.due c.args.pattern.now c.requires.read) c.end_answer.ensures.place
 
 pub returns-clause-fault : goal.returns-clause-fault
 returns-clause-fault g c =
     let w = g.B.TermBank.store c.match_reading.new.bank in
-    breaks_by (IsMatchDue c.args.pattern.now) (answer_lines w) (λ x. same_due match_due c.args.pattern.now x) (g.R.Read.remaining c.args.input.now.reader.now) c.in_ok-answer.answer c.end_answer.result _ _ (c.in_ok-answer.ensures.due c.args.pattern.now c.requires.read) c.end_answer.ensures.err
+    breaks_by (IsMatchDue c.args.pattern.now) (answer_lines w) (λ x. same_due match_due c.args.pattern.now x)
+    (g.R.Read.remaining c.args.input.now.reader.now) c.in_ok-answer.answer c.end_answer.result _ _
+    (c.in_ok-answer.ensures.due c.args.pattern.now c.requires.read) c.end_answer.ensures.err
 
 pub returns-clause-room : goal.returns-clause-room
-returns-clause-room g c = IfErr-weaker c.end_answer.result _ _ (room_writing (g.B.TermBank.store c.args.bank.now) (g.B.TermBank.store c.match_reading.new.bank)) c.end_answer.ensures.writing
+returns-clause-room g c = IfErr-weaker c.end_answer.result _ _
+    (room_writing (g.B.TermBank.store c.args.bank.now) (g.B.TermBank.store c.match_reading.new.bank)) c.end_answer.ensures.writing
 
 pub returns-clause-input_read : goal.returns-clause-input_read
 returns-clause-input_read g c = on_ok_any c.end_answer.result (λ p. c.in_ok-answer.ensures.input_read c.args.pattern.now p c.requires.read)

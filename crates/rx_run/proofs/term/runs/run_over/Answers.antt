@@ -9,10 +9,12 @@ use Rattle.rx_run.proofs.WholeRunLemmas.{breaks_unwritten}
 use Rattle.rx_run.proofs.term.runs.run_over.Goals as goal
 
 pub write_due-requires-clause-held : goal.write_due-requires-clause-held
-write_due-requires-clause-held g c = given_held (g.R.Read.remaining c.args.input.now.reader.now) (g.B.TermBank.store c.read_term.new.bank) c.in_ok-reading.reading c.in_ok-reading.ensures.read
+write_due-requires-clause-held g c = given_held (g.R.Read.remaining c.args.input.now.reader.now) (g.B.TermBank.store c.read_term.new.bank)
+    c.in_ok-reading.reading c.in_ok-reading.ensures.read
 
 pub write_due-requires-clause-unrooted : goal.write_due-requires-clause-unrooted
-write_due-requires-clause-unrooted g c = still_unrooted c.args.lines (g.B.TermBank.store c.args.bank.now) (g.B.TermBank.store c.read_term.new.bank) c.in_ok-reading.ensures.grows.roots c.requires.unrooted
+write_due-requires-clause-unrooted g c = still_unrooted c.args.lines (g.B.TermBank.store c.args.bank.now) (g.B.TermBank.store c.read_term.new.bank)
+    c.in_ok-reading.ensures.grows.roots c.requires.unrooted
 
 pub returns-in_err-reading-clause-fault : goal.returns-in_err-reading-clause-fault
 returns-in_err-reading-clause-fault g c =
@@ -20,7 +22,8 @@ returns-in_err-reading-clause-fault g c =
     let new = g.B.TermBank.store c.read_term.new.bank in
     let f = c.in_err-reading.field-0.0 in
     if_err_at c.from_residual.result _ f c.from_residual.ensures.1
-    (breaks_unwritten (IsDueOf (lines_for c.args.lines)) (g.R.Read.remaining c.args.input.now.reader.now) f _ (reports_unwritten old new f c.in_err-reading.ensures.fault))
+    (breaks_unwritten (IsDueOf (lines_for c.args.lines)) (g.R.Read.remaining c.args.input.now.reader.now) f _
+    (reports_unwritten old new f c.in_err-reading.ensures.fault))
 
 pub returns-in_err-reading-clause-room : goal.returns-in_err-reading-clause-room
 returns-in_err-reading-clause-room g c =
@@ -43,7 +46,8 @@ returns-in_err-write_due-clause-fault g c =
     let r = c.in_ok-reading.reading in
     let f = c.in_err-write_due.field-0.0 in
     if_err_at c.from_residual-in_err-write_due.result _ f c.from_residual-in_err-write_due.ensures.1
-    (breaks_read (IsDueOf lines) (lines_at lines w) (one_due_of lines) _ r f _ _ (given_due lines _ w r c.in_ok-reading.ensures.read) c.in_err-write_due.ensures.err)
+    (breaks_read (IsDueOf lines) (lines_at lines w) (one_due_of lines) _ r f _ _ (given_due lines _ w r c.in_ok-reading.ensures.read)
+    c.in_err-write_due.ensures.err)
 
 pub returns-in_err-flush-clause-fault : goal.returns-in_err-flush-clause-fault
 returns-in_err-flush-clause-fault g c =
@@ -51,14 +55,16 @@ returns-in_err-flush-clause-fault g c =
     let w = g.B.TermBank.store c.read_term.new.bank in
     let r = c.in_ok-reading.reading in
     if_err_at c.from_residual-in_err-flush.result _ Write c.from_residual-in_err-flush.ensures.1
-    (breaks_flush (IsDueOf lines) (lines_at lines w) (one_due_of lines) _ r _ _ _ (given_due lines _ w r c.in_ok-reading.ensures.read) c.in_ok-write_due.ensures.ok c.in_err-flush.ensures.kept)
+    (breaks_flush (IsDueOf lines) (lines_at lines w) (one_due_of lines) _ r _ _ _ (given_due lines _ w r c.in_ok-reading.ensures.read)
+    c.in_ok-write_due.ensures.ok c.in_err-flush.ensures.kept)
 
 pub returns-clause-output : goal.returns-clause-output
 returns-clause-output g c =
     let lines = lines_for c.args.lines in
     let w = g.B.TermBank.store c.read_term.new.bank in
     let r = c.in_ok-reading.reading in
-    ends_read (IsDueOf lines) (lines_at lines w) _ r _ _ _ _ (given_due lines _ w r c.in_ok-reading.ensures.read) c.finish.ensures c.in_ok-write_due.ensures.ok c.in_ok-flush.ensures.kept
+    ends_read (IsDueOf lines) (lines_at lines w) _ r _ _ _ _ (given_due lines _ w r c.in_ok-reading.ensures.read) c.finish.ensures
+    c.in_ok-write_due.ensures.ok c.in_ok-flush.ensures.kept
 
 pub returns-clause-place : goal.returns-clause-place
 returns-clause-place g c =
@@ -77,4 +83,5 @@ returns-in_err-reading-clause-write_cause g c =
 pub returns-in_err-write_due-clause-read_cause : goal.returns-in_err-write_due-clause-read_cause
 returns-in_err-write_due-clause-read_cause g c =
     let f = c.in_err-write_due.field-0.0 in
-    read_on c.read_term.new.input c.from_residual-in_err-write_due.result f c.from_residual-in_err-write_due.ensures.1 (λ is. absurd (no_reader_writing f c.in_err-write_due.ensures.writing is))
+    read_on c.read_term.new.input c.from_residual-in_err-write_due.result f c.from_residual-in_err-write_due.ensures.1 (λ is.
+    absurd (no_reader_writing f c.in_err-write_due.ensures.writing is))

@@ -18,7 +18,8 @@ returns-in_err-write_line_to-clause-err g c =
     let lines = share_lines-at w v c.args.t c.keep_alone-cells.result c.requires.held c.keep_alone-cells.ensures.kept c.keep_alone-cells.ensures.counted in
     if_err_at c.from_residual.result _ f c.from_residual.ensures.1
     (subst (λ (text : List ℕ). Stops f text (g.W.Write.contents c.args.out.now.writer.now) (g.W.Write.contents c.write_line_to.new.out.writer.now)) (sym lines)
-    (stops_before f (line_at v c.args.t) (cells_line c.keep_alone-cells.result) _ _ (stops_first f (line_at v c.args.t) _ _ c.in_err-write_line_to.ensures.err)))
+    (stops_before f (line_at v c.args.t) (cells_line c.keep_alone-cells.result) _ _
+    (stops_first f (line_at v c.args.t) _ _ c.in_err-write_line_to.ensures.err)))
 
 pub returns-in_err-write_cells-clause-err : goal.returns-in_err-write_cells-clause-err
 returns-in_err-write_cells-clause-err g c =
@@ -26,8 +27,10 @@ returns-in_err-write_cells-clause-err g c =
     let v = g.B.TermBank.store c.keep_alone-cells.new.bank in
     let lines = share_lines-at w v c.args.t c.keep_alone-cells.result c.requires.held c.keep_alone-cells.ensures.kept c.keep_alone-cells.ensures.counted in
     if_err_at c.from_residual-in_err-write_cells.result _ Write c.from_residual-in_err-write_cells.ensures.1
-    (subst (λ (text : List ℕ). Stops Write text (g.W.Write.contents c.args.out.now.writer.now) (g.W.Write.contents c.write_cells.new.out.writer.now)) (sym lines)
-    (stops_write _ _ _ (front_after _ _ _ (line_at v c.args.t) (cells_line c.keep_alone-cells.result) c.in_ok-write_line_to.ensures.ok c.in_err-write_cells.ensures.err)))
+    (subst (λ (text : List ℕ). Stops Write text (g.W.Write.contents c.args.out.now.writer.now) (g.W.Write.contents c.write_cells.new.out.writer.now))
+    (sym lines)
+    (stops_write _ _ _ (front_after _ _ _ (line_at v c.args.t) (cells_line c.keep_alone-cells.result) c.in_ok-write_line_to.ensures.ok
+    c.in_err-write_cells.ensures.err)))
 
 pub returns-clause-ok : goal.returns-clause-ok
 returns-clause-ok g c =

@@ -19,4 +19,5 @@ make_by_hash-requires-clause-nowhere c =
 pub returns : goal.returns
 returns c =
     let w = store_of c.args.self.now in
-    subst (λ (x : CellBody). MakesOrRefuses w (store_of c.make_by_hash.new.self) (tree_of_body w x) c.make_by_hash.result) c.body-whole.ensures c.make_by_hash.ensures
+    subst (λ (x : CellBody). MakesOrRefuses w (store_of c.make_by_hash.new.self) (tree_of_body w x) c.make_by_hash.result) c.body-whole.ensures
+    c.make_by_hash.ensures

@@ -22,6 +22,7 @@ pub add-requires-clause-nowhere : goal.add-requires-clause-nowhere
 add-requires-clause-nowhere c =
     let b = c.args.self.now in
     elim c.if-not-is_new.branch [
-      | then-not-is_new+in_default w ↦ nowhere-else b.arena c.args.body b.tidy c.requires.written (subst (λ n. IsAbsent b.arena c.args.body (chain_at b.arena n)) c.home-chain.ensures w.in_default.ensures)
+      | then-not-is_new+in_default w ↦ nowhere-else b.arena c.args.body b.tidy c.requires.written
+          (subst (λ n. IsAbsent b.arena c.args.body (chain_at b.arena n)) c.home-chain.ensures w.in_default.ensures)
       | else-not-is_new w ↦ c.requires.nowhere w.if-not-is_new.false
     ]

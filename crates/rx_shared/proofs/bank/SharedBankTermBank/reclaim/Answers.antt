@@ -4,7 +4,8 @@ use Rattle.rx_shared.specs.Inner.Soundness.{bank-law}
 use Rattle.rx_sweep.proofs.HomingLemmas.{same_homed}
 use Rattle.rx_shared.proofs.ReadingLemmas.{held-taken}
 use Rattle.rx_shared.proofs.MirroringLemmas.{bank-homed}
-use Rattle.rx_shared.proofs.ReclaimingLemmas.{can_collect, collected-cap, collected-chains, collected-tidy, collected-distinct, collected-whole, collected-was, collected-reclaims}
+use Rattle.rx_shared.proofs.ReclaimingLemmas.{can_collect, collected-cap, collected-chains, collected-tidy}
+use Rattle.rx_shared.proofs.ReclaimingLemmas.{collected-distinct, collected-whole, collected-was, collected-reclaims}
 use Rattle.rx_shared.proofs.HintLemmas.{covers-along}
 use Rattle.rx_shared.proofs.bank.SharedBankTermBank.reclaim.Goals as goal
 

@@ -6,7 +6,8 @@ use Rattle.rx_text.proofs.output.Output.put.Given as goal
 -- the front so far was written
 abbrev pub invariant-loop-at : goal.invariant-loop-at
 invariant-loop-at g l =
-    (l.at ≤ length l.text) × Appends (g.W.Write.contents l.fn.self.writer.now) (g.W.Write.contents l.self.writer.now) (take l.at l.text) × IsWritable l.self × IsSameOutput l.fn.self l.self
+    (l.at ≤ length l.text) × Appends (g.W.Write.contents l.fn.self.writer.now) (g.W.Write.contents l.self.writer.now) (take l.at l.text)
+    × IsWritable l.self × IsSameOutput l.fn.self l.self
 
 abbrev pub decreases-loop-at : goal.decreases-loop-at
 decreases-loop-at g l = length l.text - l.at

@@ -28,5 +28,6 @@ returns c made k =
     let l = c.loop-kind in
     let r = c.args.self.now in
     let p = is_taken (step (mode_of r.bytes.now c.args.due made) (frames_of r.bytes.now (reverse r.frames.items) (owned c.args.due made))) in
-    let kept : l.kinds.items ≡ filter p all_kinds = l.invariant made ∙ ap (filter p) (take_all l.kind-index all_kinds (let test = c.loop-kind-test.false in omega (arith, test))) in
+    let kept : l.kinds.items ≡ filter p all_kinds = l.invariant made
+    ∙ ap (filter p) (take_all l.kind-index all_kinds (let test = c.loop-kind-test.false in omega (arith, test))) in
     rw kept (kinds_passing p k)

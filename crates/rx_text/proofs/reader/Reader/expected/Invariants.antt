@@ -8,4 +8,6 @@ use Rattle.rx_text.proofs.reader.Reader.expected.Given as goal
 
 abbrev pub invariant-loop-kind : goal.invariant-loop-kind
 invariant-loop-kind l =
-    (made : List Tree) → l.kinds.items ≡ filter (is_taken (step (mode_of l.self.bytes.now l.due made) (frames_of l.self.bytes.now (reverse l.self.frames.items) (owned l.due made)))) (take l.kind-index l.kind-items)
+    (made : List Tree) → l.kinds.items ≡ filter
+    (is_taken (step (mode_of l.self.bytes.now l.due made) (frames_of l.self.bytes.now (reverse l.self.frames.items) (owned l.due made))))
+    (take l.kind-index l.kind-items)

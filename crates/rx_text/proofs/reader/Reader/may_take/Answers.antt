@@ -8,4 +8,6 @@ pub returns-in-Some : goal.returns-in-Some
 returns-in-Some c =
     let r = c.args.self.now in
     let bytes = r.bytes.now in
-    λ made. c.is_expected.ensures made ∙ sym (by_kind (mode_of bytes c.args.due made) (frames_of bytes (reverse r.frames.items) (owned c.args.due made)) c.in-Some.kind (token_of bytes c.args.token) (c.in-Some.ensures bytes))
+    λ made. c.is_expected.ensures made
+    ∙ sym (by_kind (mode_of bytes c.args.due made) (frames_of bytes (reverse r.frames.items) (owned c.args.due made)) c.in-Some.kind
+    (token_of bytes c.args.token) (c.in-Some.ensures bytes))

@@ -15,7 +15,9 @@ returns-in_ok-push-in_default c =
     let r = c.args.self.now in
     let l = leaf r.bytes.now c.args.word r.frames.items r.nodes.items c.push.new.self.items c.in_ok-push-in_default.ensures.items c.requires.state in
     record {
-      moves = rw (name_is_body r.bytes.now (name_of r.bytes.now c.args.word) c.args.word.quoted (frames_of r.bytes.now (reverse r.frames.items) (made_of r.bytes.now r.nodes.items)) c.args.token c.in_default.not-Open) (rw (l.0) at c.body.ensures.moves);
+      moves = rw (name_is_body r.bytes.now (name_of r.bytes.now c.args.word) c.args.word.quoted
+          (frames_of r.bytes.now (reverse r.frames.items) (made_of r.bytes.now r.nodes.items)) c.args.token c.in_default.not-Open)
+          (rw (l.0) at c.body.ensures.moves);
       same = c.body.ensures.same;
       few = search rules;
     }

@@ -15,5 +15,6 @@ returns-clause-expected c at place k =
     let stand = may_stand (before bytes at place) (state_of bytes d r.frames.items r.nodes.items) k (c.in_ok-due.ensures.reached at place) in
     let taken = c.in_ok-expected.ensures made k in
     let same : r.bytes.now ≡ bytes = c.in_ok-due.ensures.same in
-    let here = subst (λ (bs : List ℕ). Contains ks k ↔ (is_taken (step (mode_of bs d made) (frames_of bs (reverse r.frames.items) (owned d made))) k ≡ true)) same taken in
+    let here = subst (λ (bs : List ℕ). Contains ks k
+    ↔ (is_taken (step (mode_of bs d made) (frames_of bs (reverse r.frames.items) (owned d made))) k ≡ true)) same taken in
     (λ x. stand.0 (here.0 x), λ m. here.1 (stand.1 m))

@@ -18,18 +18,25 @@ returns-then-not-may_take-clause-reached c =
     let x = c.next-lexeme.result in
     let made = made_of bytes l.reader.nodes.items in
     let text = l.reader.bytes.now in
-    let took : c.may_take.result ≡ is_some (step (mode_of text l.due made) (frames_of text (reverse l.reader.frames.items) (owned l.due made)) (token_of text x.kind)) = c.may_take.ensures made in
-    let fails : is_some (step (mode_of text l.due made) (frames_of text (reverse l.reader.frames.items) (owned l.due made)) (token_of text x.kind)) ≡ false = cc (took, c.if-not-may_take.true) in
-    let here = subst (λ (bs : List ℕ). is_some (step (mode_of bs l.due made) (frames_of bs (reverse l.reader.frames.items) (owned l.due made)) (token_of bs x.kind)) ≡ false) l.invariant.same fails in
+    let took : c.may_take.result ≡ is_some (step (mode_of text l.due made) (frames_of text (reverse l.reader.frames.items) (owned l.due made))
+    (token_of text x.kind)) = c.may_take.ensures made in
+    let fails : is_some (step (mode_of text l.due made) (frames_of text (reverse l.reader.frames.items) (owned l.due made)) (token_of text x.kind))
+    ≡ false = cc (took, c.if-not-may_take.true) in
+    let here = subst (λ (bs : List ℕ).
+    is_some (step (mode_of bs l.due made) (frames_of bs (reverse l.reader.frames.items) (owned l.due made)) (token_of bs x.kind)) ≡ false)
+    l.invariant.same fails in
     let m = none_since (step (mode_of bytes l.due made) (frames_of bytes (reverse l.reader.frames.items) (owned l.due made)) (token_of bytes x.kind)) here in
-    refused_state bytes (state_of bytes l.due l.reader.frames.items l.reader.nodes.items) (tokens_after bytes l.from) (behind bytes x.kind x.to) (token_of bytes x.kind) x.at l.invariant.follows (rw (l.invariant.same) at c.next-lexeme.ensures.first) m
+    refused_state bytes (state_of bytes l.due l.reader.frames.items l.reader.nodes.items) (tokens_after bytes l.from) (behind bytes x.kind x.to)
+    (token_of bytes x.kind) x.at l.invariant.follows (rw (l.invariant.same) at c.next-lexeme.ensures.first) m
 
 pub returns-in-End-clause-reached : goal.returns-in-End-clause-reached
 returns-in-End-clause-reached c =
     let bytes = c.args.bytes.now in
     let l = c.loop-lexeme in
     let m = rw (l.invariant.same, c.in-End.is) at c.in-Ok.ensures.moves in
-    ended_state bytes (state_of bytes l.due l.reader.frames.items l.reader.nodes.items) (state_of bytes c.in-Ok.due c.step.new.self.frames.items c.step.new.self.nodes.items) (tokens_after bytes l.from) c.next-lexeme.result.at l.invariant.follows (rw (l.invariant.same, c.in-End.is) at c.next-lexeme.ensures.first) m.0
+    ended_state bytes (state_of bytes l.due l.reader.frames.items l.reader.nodes.items)
+    (state_of bytes c.in-Ok.due c.step.new.self.frames.items c.step.new.self.nodes.items) (tokens_after bytes l.from) c.next-lexeme.result.at
+    l.invariant.follows (rw (l.invariant.same, c.in-End.is) at c.next-lexeme.ensures.first) m.0
 
 pub loop-lexeme-preserved : goal.loop-lexeme-preserved
 loop-lexeme-preserved c =

@@ -28,7 +28,8 @@ returns-in-Some-clause-lines g c =
     let old = c.args.self.now.lines.items in
     let k = subst (λ (o : Option Call). IsCallOf y w c.args.t o) c.in-Some.is c.call_of.ensures in
     on_ok_of c.add_call.result
-    (λ h source spots. h source spots ∙ ap (λ (t : Term). old ++ stuck_line source y (held_tree w t)) k.1 ∙ ap (λ z. old ++ z) (sym (line-of-call source y (held_tree w c.args.t) k.0)))
+    (λ h source spots. h source spots ∙ ap (λ (t : Term). old ++ stuck_line source y (held_tree w t)) k.1
+    ∙ ap (λ z. old ++ z) (sym (line-of-call source y (held_tree w c.args.t) k.0)))
     c.add_call.ensures.lines
 
 pub returns-in-None-clause-lines : goal.returns-in-None-clause-lines

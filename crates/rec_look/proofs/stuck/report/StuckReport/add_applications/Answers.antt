@@ -21,8 +21,10 @@ loop-i-preserved g c =
     record {
       spots = c.in_ok-add_application.ensures.spots ∙ i.spots;
       lines = λ source spots.
-          let more = c.in_ok-add_application.ensures.lines source (subst (λ (v : Vec Spot Global). AreSpots source y v.items) (sym i.spots) spots) ∙ ap (λ k. mid ++ line_if source y (held_tree w (reference k))) (sym got.1) in
-          told-more (λ n. line_if source y (held_tree w (reference n))) keys c.loop-i.i 0 old mid c.add_application.new.self.lines.items got.0 (i.lines source spots) more;
+          let more = c.in_ok-add_application.ensures.lines source (subst (λ (v : Vec Spot Global). AreSpots source y v.items) (sym i.spots) spots)
+          ∙ ap (λ k. mid ++ line_if source y (held_tree w (reference k))) (sym got.1) in
+          told-more (λ n. line_if source y (held_tree w (reference n))) keys c.loop-i.i 0 old mid c.add_application.new.self.lines.items got.0
+          (i.lines source spots) more;
     }
 
 pub returns-clause-lines : goal.returns-clause-lines
@@ -32,4 +34,5 @@ returns-clause-lines g c =
     let keys = c.args.found.now.keys in
     let long = c.len-i-end.ensures.len in
     let all : length keys ≤ c.loop-i.i = omega (arith, long) in
-    λ source spots. told-all (λ n. line_if source y (held_tree w (reference n))) keys c.loop-i.i c.args.self.now.lines.items c.loop-i.self.lines.items all (c.loop-i.invariant.lines source spots)
+    λ source spots. told-all (λ n. line_if source y (held_tree w (reference n))) keys c.loop-i.i c.args.self.now.lines.items c.loop-i.self.lines.items
+    all (c.loop-i.invariant.lines source spots)

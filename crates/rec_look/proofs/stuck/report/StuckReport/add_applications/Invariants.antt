@@ -10,5 +10,6 @@ abbrev pub invariant-loop-i : goal.invariant-loop-i
 invariant-loop-i g l = record {
   spots : l.self.spots ≡ l.fn.self.spots;
   lines : (source : List ℕ) → AreSpots source l.engine.spec l.fn.self.spots.items
-      → l.self.lines.items ≡ l.fn.self.lines.items ++ flat_map (λ n. line_if source l.engine.spec (held_tree (g.B.TermBank.store l.engine.bank) (reference n))) (take l.i l.found.keys);
+      → l.self.lines.items ≡ l.fn.self.lines.items ++ flat_map (λ n.
+      line_if source l.engine.spec (held_tree (g.B.TermBank.store l.engine.bank) (reference n))) (take l.i l.found.keys);
 }

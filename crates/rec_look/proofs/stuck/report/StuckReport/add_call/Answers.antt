@@ -24,6 +24,7 @@ returns-clause-lines g c =
     let ready = subst (λ b. IsReady y (store b) c.matcher.result.now) (sym c.bank-2.ensures) c.matcher.ensures in
     let called = subst (λ b. IsCalled y (store b) call) (sym c.bank-2.ensures) c.requires.call in
     let there = subst (λ (ps : List Spot). AreSpots source y ps) (sym c.deref.ensures.value) spots in
-    let found = c.deref-3.ensures.value ∙ c.in_ok-spots.ensures source y ready called there ∙ ap (λ b. fitting_spots source y (bare_of (held_tree (store b) call.term))) c.bank-2.ensures in
+    let found = c.deref-3.ensures.value ∙ c.in_ok-spots.ensures source y ready called there
+    ∙ ap (λ b. fitting_spots source y (bare_of (held_tree (store b) call.term))) c.bank-2.ensures in
     line-told source y (held_tree (store bank) call.term) _ _ _ _ text found h)
     c.add_line.ensures

@@ -16,5 +16,7 @@ returns-clause-lines g c =
     let w = g.B.TermBank.store c.args.engine.now.bank in
     let old = c.args.self.now.lines.items in
     let v = held_tree w c.args.value in
-    let trees = subst (λ b. trees_of (g.B.TermBank.store b) c.in_ok-found.found.keys ≡ different (applications (held_tree (g.B.TermBank.store b) c.args.value))) c.bank.ensures c.in_ok-found.ensures.trees in
-    on_ok_of c.add_applications.result (λ h source spots. h source spots ∙ ap (λ z. old ++ z) (all-lines source y w c.in_ok-found.found.keys v trees)) c.add_applications.ensures.lines
+    let trees = subst (λ b. trees_of (g.B.TermBank.store b) c.in_ok-found.found.keys ≡ different
+    (applications (held_tree (g.B.TermBank.store b) c.args.value))) c.bank.ensures c.in_ok-found.ensures.trees in
+    on_ok_of c.add_applications.result (λ h source spots. h source spots ∙ ap (λ z. old ++ z) (all-lines source y w c.in_ok-found.found.keys v trees))
+    c.add_applications.ensures.lines
