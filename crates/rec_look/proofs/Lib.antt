@@ -1,4 +1,3 @@
-mod SpotLemmas
 mod PageLemmas
 mod PickLemmas
 mod KeptLemmas
@@ -11,12 +10,3 @@ mod TaskLemmas
 mod GivenLemmas
 mod DueLemmas
 mod LawLemmas
-mod ApplicationLemmas
-mod VisitLemmas
-mod ToldLemmas
-mod FittingLemmas
-mod ReportLemmas
-mod CallLemmas
-mod TextLemmas
-mod AddLemmas
-mod FrontLemmas

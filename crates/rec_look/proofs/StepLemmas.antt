@@ -20,7 +20,8 @@ use Rattle.rec_trace.specs.declared.tracer.Turn.{Turn}
 use Rattle.rec_trace.specs.declared.tracer.Turn.TheVariants as turn
 use Rattle.rec_trace.proofs.SideLemmas.{rule-at}
 use Rattle.rec_look.specs.Inner.Pages.{Breaks, Prints}
-use Rattle.rec_look.specs.Picks.{Picks, front_lines, picks_by, rule_spot, shown_lines}
+use Rattle.rec_look.specs.Picks.{Picks, front_lines, picks_by, shown_lines}
+use Rattle.rec_trace.specs.Lines.{rule_spot}
 use Rattle.rec_look.specs.Inner.Telling.{HasKept, HasTold, IsEnd, IsTelling, IsWithin, Tells, end_line, fresh_lines, lines_behind, told, told_behind}
 use Rattle.rec_look.specs.Traces.{Shown, picked_lines, shown_by, step_line}
 use Rattle.rec_look.specs.declared.trace.kept.Kept.{Kept}

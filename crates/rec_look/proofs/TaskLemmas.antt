@@ -12,7 +12,8 @@ use Rattle.rec_run.specs.Output.{Task, tasks}
 use Rattle.rec_trace.specs.Lines.{joined}
 use Rattle.rx_run.specs.declared.ending.RunFault.{RunFault}
 use Rattle.rec_look.specs.Inner.Pages.{Breaks, Prints}
-use Rattle.rec_look.specs.Inner.Telling.{given_task, given_traces}
+use Rattle.rec_look.specs.Inner.Telling.{given_traces}
+use Rattle.rec_run.specs.Output.{given_task}
 use Rattle.rec_look.specs.Traces.{Shown, task_lines, task_text, traces}
 use Rattle.rec_look.proofs.PageLemmas.{breaks-before, breaks-behind, prints-both}
 

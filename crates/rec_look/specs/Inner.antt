@@ -1,6 +1,4 @@
 -- What the proofs speak of inside this crate: no public contract cites it.
-pub mod Calls
 pub mod Due
 pub mod Pages
 pub mod Telling
-pub mod Visits

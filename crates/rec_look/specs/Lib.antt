@@ -1,4 +1,3 @@
 pub mod Picks
 pub mod Traces
-pub mod Stuck
 pub mod Inner

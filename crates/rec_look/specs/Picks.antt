@@ -4,8 +4,7 @@
 use Rattle.std.specs.Prelude.{ℕ, zero, suc, ◌-◌, ◌%◌, ◌==◌, ◌&&◌, Bool, true, false, List, [], ◌∷◌, ◌++◌, Option}
 use Rattle.std.specs.Prelude.{Some, None, bytes_eq, codes, decimal, drop, length, option_map, take, if◌then◌else◌}
 use Rattle.rx_term.specs.Tree.{Tree, Appl}
-use Rattle.rec_syntax.specs.Syntax.{Rule, head}
-use Rattle.rec_trace.specs.Lines.{column_of, line_of}
+use Rattle.rec_trace.specs.Lines.{rule_spot}
 use Rattle.rec_trace.specs.Trace.{Firing}
 use Rattle.rec_trace.specs.declared.lines.Spot.{Spot}
 use Rattle.rec_look.specs.declared.trace.picked.Picked.{Picked}
@@ -36,13 +35,6 @@ all_picked = record { place = None; symbol = None; first = None; last = None }
 abbrev pub where_asked : {X : Type 0} → (X → Bool) → Option X → Bool
 where_asked holds None = true
 where_asked holds (Some x) = holds x
-
--- the spot of a byte, and that at which a rule begins
-abbrev pub spot_at : List ℕ → ℕ → Spot
-spot_at source at = record { line = line_of source at; column = column_of source at }
-
-abbrev pub rule_spot : List ℕ → Rule → Spot
-rule_spot source r = spot_at source (head r.left).at
 
 -- a spot is at a place
 abbrev pub is_at : Spot → RulePlace → Bool

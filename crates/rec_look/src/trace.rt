@@ -12,7 +12,6 @@ pub(crate) mod page;
 pub(crate) mod picked;
 pub(crate) mod reading;
 pub(crate) mod runs;
-pub(crate) mod spots;
 pub(crate) mod steps;
 pub(crate) mod telling;
 pub(crate) mod terms;

@@ -58,10 +58,13 @@ line y shown n task = elim (Eval y n [] task.term) [
   | Over ↦ limit_text shown.limits n task.notes ++ codes "\n"
 ]
 
+-- a given term, whose annotations its value bears
+abbrev pub given_task : Tree → Task
+given_task t = record { term = term_of t; notes = annotations t }
+
 -- the specification's own terms, and then the given ones
 abbrev pub tasks : Spec → List Tree → List Task
-tasks y given = map (λ t. record { term = t; notes = none }) y.terms
-    ++ map (λ t. record { term = term_of t; notes = annotations t }) given
+tasks y given = map (λ t. record { term = t; notes = none }) y.terms ++ map given_task given
 
 -- their lines, each with the whole budget
 abbrev pub each_line : Spec → List Tree → Shown → ℕ → List (List ℕ)

@@ -9,7 +9,7 @@ use Rattle.rec_sorts.specs.SpecRules.{SpecVerdict, Verdict}
 use Rattle.rec_sorts.specs.Evaluation as evaluation
 use Rattle.rec_sorts.specs.Evaluation.{Eval}
 use Rattle.rx_run.specs.Due.{steps_text}
-use Rattle.rec_run.specs.Output.{Shown, limit_text}
+use Rattle.rec_run.specs.Output.{Shown, Task, limit_text}
 use Rattle.rx_run.specs.declared.ending.Source.TheVariants as source
 use Rattle.rx_run.specs.declared.refusal.Reading.{Reading}
 use Rattle.rx_run.specs.declared.refusal.Reading.TheVariants as reading
@@ -57,6 +57,10 @@ line_text y shown n t = evaluation_text none shown n (Eval y n [] t)
 -- the term of the list of terms that has this number
 abbrev pub term_at : Spec → ℕ → Term
 term_at y i = get_or y.terms i (Apply nameless syntax.none)
+
+-- the specification's own term of this number, without annotations
+abbrev pub own_task : Spec → ℕ → Task
+own_task y i = record { term = term_at y i; notes = none }
 
 -- the text of its line
 abbrev pub text_at : Spec → Shown → ℕ → ℕ → List ℕ

@@ -10,5 +10,6 @@ pub mod FindLemmas
 pub mod FireLemmas
 pub mod StepLemmas
 pub mod WholeLemmas
+pub mod SpotLemmas
 mod TraceRows
 mod LineRows

@@ -3,10 +3,11 @@ use Rattle.std.specs.Prelude.{ℕ, suc, ◌-◌, ◌^◌, ◌≡◌, ◌<◌, �
 use Rattle.std.specs.Prelude.{None, codes, decimal, flat_map, if◌then◌else◌, length, map, nat_eq, nat_le, take}
 use Rattle.rx_term.specs.Tree.{Tree, Trees, annotated}
 use Rattle.rx_text.specs.Canon.{canon}
-use Rattle.rec_syntax.specs.Syntax.{Term, Spec, head}
+use Rattle.rec_syntax.specs.Syntax.{Rule, Term, Spec, head}
 use Rattle.rec_sorts.specs.Binding.{application, tree_of}
 use Rattle.rec_sorts.specs.Evaluation.{Outcome, Done, Over}
 use Rattle.rec_trace.specs.Trace.{Firing, Trace}
+use Rattle.rec_trace.specs.declared.lines.Spot.{Spot}
 
 -- how many line ends there are, and how many bytes stand behind the last one
 abbrev pub ends_in : List ℕ → ℕ
@@ -48,6 +49,13 @@ line_of source at = suc (ends_in (take at source))
 
 abbrev pub column_of : List ℕ → ℕ → ℕ
 column_of source at = suc (behind_end 0 (take at source))
+
+-- the spot of a place, and that at which a rule begins
+abbrev pub spot_at : List ℕ → ℕ → Spot
+spot_at source at = record { line = line_of source at; column = column_of source at }
+
+abbrev pub rule_spot : List ℕ → Rule → Spot
+rule_spot source r = spot_at source (head r.left).at
 
 -- the line of a rule that fires, where its left side begins
 abbrev pub firing_line : List ℕ → Bool → Option ℕ → ℕ → Firing → List ℕ

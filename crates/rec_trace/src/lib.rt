@@ -5,7 +5,9 @@ pub mod laws;
 mod lines;
 mod lists;
 mod sides;
+mod spots;
 mod tracer;
 
 pub use lines::{Look, Spot, firing_line, spot_of, whole_line, write_firing, write_whole};
+pub use spots::rule_spots;
 pub use tracer::{Tracer, Turn};

@@ -9,11 +9,11 @@ use crate::recorded::Watched;
 use crate::serve::serve;
 use crate::work::{Calls, Firings, Values, Work};
 use crate::{look, report};
-use rec_look::StuckReport;
 use rec_run::{
     Finish, Observer, Profiler, RunDepthFault, RunFault, Source, Watch, run_aterm_at, run_make_at,
     run_match_at, run_share_at,
 };
+use rec_stuck::StuckReport;
 use recw_words::status::{eval_status, match_status};
 use recw_words::{Audience, EvalOptions, Request, STANDARD_INPUT};
 use rx_look::{run_aterm_indented_at, run_share_dot_at};

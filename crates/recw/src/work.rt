@@ -2,8 +2,9 @@
 
 use crate::evidence::Evidence;
 use crate::options::{run_settings, trace_options};
-use rec_look::{StuckReport, run_stuck, run_trace};
+use rec_look::run_trace;
 use rec_run::{Finish, Observer, Profiler, RunDepthFault, Watch, run_observed};
+use rec_stuck::{StuckReport, run_stuck};
 use recw_words::{EvalOptions, Shown};
 use std::io::{Read, Write};
 

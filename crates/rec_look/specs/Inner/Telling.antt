@@ -18,7 +18,7 @@ use Rattle.rec_engine.specs.declared.engine.Outcome.{Outcome}
 use Rattle.rec_engine.specs.declared.engine.Outcome.TheVariants.{Value, Limit}
 use Rattle.rx_run.specs.Due.{steps_text}
 use Rattle.rec_run.specs.GivenTerms.{item_at}
-use Rattle.rec_run.specs.Output.{Task, notes_text}
+use Rattle.rec_run.specs.Output.{Task, given_task, notes_text}
 use Rattle.rec_run.specs.Reading.{term_at}
 use Rattle.rec_trace.specs.Lines.{joined, whole_text}
 use Rattle.rec_trace.specs.States.{firing_then}
@@ -26,7 +26,8 @@ use Rattle.rec_trace.specs.Trace.{Firing, Trace, Traced}
 use Rattle.rec_trace.specs.Tracing.{Stands, rest_of, whole_of}
 use Rattle.rec_trace.specs.declared.tracer.Tracer.{Tracer}
 use Rattle.rec_look.specs.Inner.Pages.{Prints}
-use Rattle.rec_look.specs.Picks.{Picks, back_count, front_lines, left_out_count, picks_by, rest_lines, rule_spot, shown_lines}
+use Rattle.rec_look.specs.Picks.{Picks, back_count, front_lines, left_out_count, picks_by, rest_lines, shown_lines}
+use Rattle.rec_trace.specs.Lines.{rule_spot}
 use Rattle.rec_look.specs.Traces.{Shown, picked_lines, shown_by, task_text}
 use Rattle.rec_look.specs.declared.trace.given.GivenTerms.{GivenTerms}
 use Rattle.rec_look.specs.declared.trace.kept.Kept.{Kept}
@@ -176,13 +177,6 @@ pub record AreGivenTerms (y : Spec) (us : List Tree) (g : GivenTerms) : Type 0 w
 -- what is written before the first firing of a term
 abbrev pub first_text : Shown → Tree → List ℕ
 first_text shown u = elim shown.whole [ true ↦ whole_text 0 0 false shown.width 0 u | false ↦ [] ]
-
--- the specification's own term of a number, without annotations, and a given one with its own
-abbrev pub own_task : Spec → ℕ → Task
-own_task y i = record { term = term_at y i; notes = none }
-
-abbrev pub given_task : Tree → Task
-given_task u = record { term = evaluation.term_of u; notes = annotations u }
 
 -- the traces of given terms
 abbrev pub given_traces : List ℕ → Spec → Shown → ℕ → List Tree → List ℕ

@@ -15,12 +15,12 @@ ghost use Rattle.rec_look.specs.Traces.{shown_by, traces};
 
 use crate::trace::given::{GivenTerms, given_terms};
 use crate::trace::options::TraceOptions;
-use crate::trace::spots::rule_spots;
 use crate::trace::telling::Telling;
 use crate::trace::terms::write_traces;
 use rec_engine::Engine;
 use rec_run::{Job, engine_over};
 use rec_sorts::Checked;
+use rec_trace::rule_spots;
 use rx_run::{Finish, Place, Reading, RunFault, write_refusal_to};
 use rx_term::{Term, TermBank};
 use rx_text::{Output, RefusedWrite};

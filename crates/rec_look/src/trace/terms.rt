@@ -9,13 +9,9 @@ ghost use Rattle.rec_engine.specs.Engine.{SameEngine, Spells};
 ghost use Rattle.rec_run.specs.Output.{notes_text};
 ghost use Rattle.rec_look.specs.Inner.Pages.{Breaks, Prints};
 ghost use Rattle.rec_look.specs.Traces.{shown_by, task_text, traces};
-ghost use Rattle.rec_look.specs.Inner.Telling.{
-  AreGivenTerms,
-  IsTelling,
-  given_task,
-  given_traces,
-  own_task,
-};
+ghost use Rattle.rec_look.specs.Inner.Telling.{AreGivenTerms, IsTelling, given_traces};
+ghost use Rattle.rec_run.specs.Output.{given_task};
+ghost use Rattle.rec_run.specs.Reading.{own_task};
 
 use crate::trace::ending::write_trace;
 use crate::trace::given::GivenTerms;

@@ -5,7 +5,8 @@ use Rattle.rx_run.proofs.ErrorLemmas.{on_ok_of}
 use Rattle.rec_syntax.specs.Syntax.{Spec}
 use Rattle.rec_run.specs.Output.{Task, notes_text}
 use Rattle.rec_look.specs.Inner.Pages.{Breaks, Prints}
-use Rattle.rec_look.specs.Inner.Telling.{Begins, IsTelling, given_task}
+use Rattle.rec_look.specs.Inner.Telling.{Begins, IsTelling}
+use Rattle.rec_run.specs.Output.{given_task}
 use Rattle.rec_look.specs.Traces.{shown_by, task_text}
 use Rattle.rec_look.proofs.PageLemmas.{breaks-stopped}
 use Rattle.rec_look.proofs.trace.terms.write_given_trace.Goals as goal

@@ -7,7 +7,8 @@ use Rattle.rec_engine.specs.Engine.{Spells}
 use Rattle.rec_run.specs.Output.{notes_text}
 use Rattle.rec_trace.proofs.ListLemmas.{same_both}
 use Rattle.rec_look.specs.Inner.Pages.{Breaks, Prints}
-use Rattle.rec_look.specs.Inner.Telling.{IsTelling, given_task}
+use Rattle.rec_look.specs.Inner.Telling.{IsTelling}
+use Rattle.rec_run.specs.Output.{given_task}
 use Rattle.rec_look.specs.Traces.{shown_by, task_text}
 use Rattle.rec_look.proofs.GivenLemmas.{given-long, given-low, given-notes, given-spells, notes-long}
 use Rattle.rec_look.proofs.TaskLemmas.{breaks-within, prints-all, prints-more}

@@ -8,7 +8,8 @@ use Rattle.rec_look.specs.Traces.{shown_by, task_text}
 use Rattle.rec_look.proofs.PageLemmas.{breaks-stopped}
 use Rattle.rec_syntax.specs.Syntax.{Spec}
 use Rattle.rec_run.specs.Reading.{term_at}
-use Rattle.rec_look.specs.Inner.Telling.{Begins, IsTelling, own_task}
+use Rattle.rec_look.specs.Inner.Telling.{Begins, IsTelling}
+use Rattle.rec_run.specs.Reading.{own_task}
 use Rattle.rec_look.proofs.BeginLemmas.{begins-same, own-begins}
 use Rattle.rec_look.proofs.trace.terms.write_own_trace.Goals as goal
 

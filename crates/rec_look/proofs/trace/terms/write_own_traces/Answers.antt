@@ -6,7 +6,8 @@ use Rattle.rec_syntax.specs.Syntax as syntax
 use Rattle.rx_run.proofs.ErrorLemmas.{if_err_at}
 use Rattle.rec_trace.proofs.ListLemmas.{same_both}
 use Rattle.rec_look.specs.Inner.Pages.{Breaks, Prints}
-use Rattle.rec_look.specs.Inner.Telling.{IsTelling, own_task}
+use Rattle.rec_look.specs.Inner.Telling.{IsTelling}
+use Rattle.rec_run.specs.Reading.{own_task}
 use Rattle.rec_look.specs.Traces.{shown_by, task_text}
 use Rattle.rec_look.proofs.TaskLemmas.{breaks-within, prints-all, prints-more, traces-own}
 use Rattle.rec_look.proofs.trace.terms.write_own_traces.Goals as goal

@@ -1,0 +1,9 @@
+mod ApplicationLemmas
+mod VisitLemmas
+mod ToldLemmas
+mod FittingLemmas
+mod ReportLemmas
+mod CallLemmas
+mod TextLemmas
+mod AddLemmas
+mod FrontLemmas

@@ -1,0 +1,194 @@
+use Rattle.std.proofs.Common.{◌≡◌, ◌+◌, ◌<◌, ◌≤◌, ◌^◌, ℕ, List, IsSome, None, Some, ap, arith, drop, length, subst, sym, ◌∙◌}
+use Rattle.std.specs.Prelude.{codes, is_some, ◌++◌}
+use Rattle.std.specs.Io.KnownBytes.{Appends}
+use Rattle.rx_term.specs.Kinds.{HasKind}
+use Rattle.rx_term.specs.Store.{Store, cells, head_of, part_at, tail_of, tree_at}
+use Rattle.rx_term.specs.Tree.{Tree, from_list, list_of, none}
+use Rattle.rx_term.specs.declared.Kind.TheVariants.{Cons}
+use Rattle.rx_term.specs.declared.Term.{Term as Reference}
+use Rattle.rx_term.proofs.KeepLemmas.{Keeps-trans}
+use Rattle.rx_text.specs.Written.{AppendsFront}
+use Rattle.rec_syntax.specs.Syntax.{Spec}
+use Rattle.rec_sorts.specs.TermRules.{broken_by_elements}
+use Rattle.rec_engine.specs.Engine.{IsGround}
+use Rattle.rec_run.specs.EvaluatedLines.{due_before, fault_after}
+use Rattle.rec_run.specs.GivenTerms.{given_at, given_text}
+use Rattle.rec_run.specs.Output.{shown_of}
+use Rattle.rx_run.specs.Run.{StopsAfter}
+use Rattle.rec_run.proofs.EvaluatedLemmas.{held_no_ends, lines_stopped_after, fault_after-same, line_lacks, same_engine_both}
+use Rattle.rec_run.proofs.GivenListLemmas.{FrontAt, fewer_items, front_stays, front_there, no_front, others_later}
+use Rattle.rec_stuck.proofs.FrontLemmas.{front-line}
+use Rattle.rx_run.proofs.LineFrontLemmas.{appends_all, appends_more, lines_of}
+use Rattle.rec_run.proofs.EvaluatedLemmas.{after_read, after_write}
+use Rattle.rec_run.specs.Depth.{unbounded_fault, unbounded_line_fault}
+use Rattle.rec_run.specs.declared.spec.lines.LineFault.{LineFault}
+use Rattle.rec_run.proofs.DepthLemmas.{after-deep, after-told}
+use Rattle.std.proofs.Common.{get_or}
+use Rattle.std.specs.Prelude.{Vec, unwrap_or}
+use Rattle.std.specs.declared.alloc.Global.{Global}
+use Rattle.rec_run.specs.GivenTerms.{item_at}
+use Rattle.rec_trace.specs.declared.lines.Spot.{Spot}
+use Rattle.rec_stuck.specs.Inner.Calls.{AreSpots}
+use Rattle.rec_stuck.specs.Stuck.{value_report}
+use Rattle.rec_run.specs.Output.{given_task}
+use Rattle.rec_stuck.proofs.ReportLemmas.{told-all, told-more}
+use Rattle.rec_stuck.proofs.lines.write_given_lines.Goals as goal
+
+-- the term whose line is next
+record Next (y : Spec) (w : Store) (us : List Tree) (rest r : Reference) (i : ℕ) : Type 0 where
+  pub front : FrontAt y w us rest i
+  pub held : tree_at w r ≡ Some front.tree
+
+-- it is what the bank that an engine gives, twice, tells of the rest
+next_term : {B : Type 0} (store : B → Store) (y : Spec) (first second bank : B) (us : List Tree) (rest r : Reference) (i : ℕ) → first ≡ bank
+    → second ≡ bank → broken_by_elements y us ≡ None → tree_at (store bank) rest ≡ Some (list_of (from_list (drop i us)))
+    → HasKind (store first) rest Cons → tree_at (store second) r ≡ part_at head_of (store second) rest → Next y (store bank) us rest r i
+next_term store y first second bank us rest r i e k kept left kind head =
+    let front = front_there y (store bank) us rest i kept left (subst (λ b. HasKind (store b) rest Cons) e kind) in
+    record { front = front; held = subst (λ b. tree_at (store b) r ≡ part_at head_of (store b) rest) k head ∙ front.first }
+
+pub returns-in_default : goal.returns-in_default
+returns-in_default g c =
+    let us = given_at (g.B.TermBank.store c.args.engine.now.bank) c.args.list in
+    let kind = subst (λ b. HasKind (g.B.TermBank.store b) c.loop-i.rest c.kind.result) c.bank-in-loop-i.ensures c.kind.ensures in
+    let all = no_front (g.B.TermBank.store c.loop-i.engine.bank) us c.loop-i.rest c.loop-i.i c.kind.result c.loop-i.invariant.left kind c.in_default.not-Cons in
+    record {
+      ok = appends_all (given_text c.args.engine.now.spec (shown_of c.args.settings) c.args.settings.options.steps) us c.loop-i.i _ _ all
+          c.loop-i.invariant.written;
+      err = tt;
+      deep = tt;
+      same_output = c.loop-i.invariant.same_output;
+      cause = c.loop-i.invariant.writable;
+      spots = c.loop-i.invariant.spots;
+      report = λ source spots. told-all (λ u. value_report source c.args.engine.now.spec c.args.settings.options.steps (given_task u)) us c.loop-i.i
+          c.args.report.now.lines.items c.loop-i.report.lines.items all (c.loop-i.invariant.report source spots);
+    }
+
+pub write_evaluation-requires-clause-given : goal.write_evaluation-requires-clause-given
+write_evaluation-requires-clause-given g c =
+    let us = given_at (g.B.TermBank.store c.args.engine.now.bank) c.args.list in
+    let next = next_term g.B.TermBank.store c.args.engine.now.spec _ _ _ us c.loop-i.rest c.head-term.result c.loop-i.i c.bank-in-loop-i.ensures
+    c.bank-in-loop-i-2.ensures c.requires.protected.holds.kept c.loop-i.invariant.left c.in-Cons.ensures c.head-term.ensures in
+    record {
+      tree = next.front.tree;
+      held = next.held;
+      is_ground =
+          subst (λ z. IsGround z next.front.tree) (sym c.loop-i.invariant.same.spec) next.front.is_ground;
+    }
+
+pub write_evaluation-requires-clause-stays : goal.write_evaluation-requires-clause-stays
+write_evaluation-requires-clause-stays g c =
+    let y = c.args.engine.now.spec in
+    let us = given_at (g.B.TermBank.store c.args.engine.now.bank) c.args.list in
+    let next = next_term g.B.TermBank.store y _ _ _ us c.loop-i.rest c.head-term.result c.loop-i.i c.bank-in-loop-i.ensures c.bank-in-loop-i-2.ensures
+    c.requires.protected.holds.kept c.loop-i.invariant.left c.in-Cons.ensures c.head-term.ensures in
+    front_stays y (g.B.TermBank.store c.args.engine.now.bank) (g.B.TermBank.store c.loop-i.engine.bank) c.args.list c.loop-i.rest c.head-term.result
+    us c.loop-i.i c.args.settings.limits c.loop-i.invariant.keeps c.requires.protected.holds.held c.requires.protected.protected
+    c.loop-i.invariant.left next.front next.held
+
+pub returns-in-Err-clause-err : goal.returns-in-Err-clause-err
+returns-in-Err-clause-err g c =
+    let y = c.args.engine.now.spec in
+    let n = c.args.settings.options.steps in
+    let f = given_text y (shown_of c.args.settings) n in
+    let why : LineFault = unbounded_line_fault c.in-Err.fault in
+    let end = unbounded_fault c.after.result in
+    let us = given_at (g.B.TermBank.store c.args.engine.now.bank) c.args.list in
+    let next = next_term g.B.TermBank.store y _ _ _ us c.loop-i.rest c.head-term.result c.loop-i.i c.bank-in-loop-i.ensures c.bank-in-loop-i-2.ensures
+    c.requires.protected.holds.kept c.loop-i.invariant.left c.in-Cons.ensures c.head-term.ensures in
+    let is = front-line y c.loop-i.engine.spec _ us _ c.head-term.result c.loop-i.i (shown_of c.args.settings) n next.front
+    c.loop-i.invariant.same.spec next.held in
+    let few : n < 2 ^ 64 = omega (arith, c.args.settings.options.steps_in_range) in
+    let old = g.W.Write.contents c.args.out.now.writer.now in
+    let after = g.W.Write.contents c.write_evaluation.new.out.writer.now in
+    let fault : end ≡ fault_after why (length y.terms + c.loop-i.i) =
+    fault_after-same why (c.from-first.result + c.from.result) (length y.terms + c.loop-i.i) end
+    (after-told c.in-Err.fault _ c.after.result c.after.ensures) (omega arith) in
+    subst (λ stop. StopsAfter (length y.terms) stop (lines_of f us) old after) (sym fault)
+    (lines_stopped_after why (length y.terms) f us c.loop-i.i (list_of none) _ _ _
+    (held_no_ends y (g.B.TermBank.store c.args.engine.now.bank) c.args.list (shown_of c.args.settings) n few
+    (g.met.B.TermBank.sound c.args.engine.now.bank) c.requires.protected.holds) next.front.low c.loop-i.invariant.written
+    (subst (λ text. AppendsFront (due_before why text) (g.W.Write.contents c.loop-i.out.writer.now) after) is c.in-Err.ensures.err))
+
+pub tail-rest-requires : goal.tail-rest-requires
+tail-rest-requires g c =
+    let y = c.args.engine.now.spec in
+    let us = given_at (g.B.TermBank.store c.args.engine.now.bank) c.args.list in
+    let next = next_term g.B.TermBank.store y _ _ _ us c.loop-i.rest c.head-term.result c.loop-i.i c.bank-in-loop-i.ensures c.bank-in-loop-i-2.ensures
+    c.requires.protected.holds.kept c.loop-i.invariant.left c.in-Cons.ensures c.head-term.ensures in
+    let others = others_later y _ _ _ c.args.list _ us c.loop-i.i c.loop-i.invariant.keeps c.in-Ok.ensures.keeps c.requires.protected.holds.held
+    c.requires.protected.protected c.loop-i.invariant.left next.front in
+    subst (λ b. IsSome (part_at tail_of (g.B.TermBank.store b) c.loop-i.rest)) (sym c.bank-in-loop-i-3.ensures) (ap is_some others)
+
+pub loop-i-preserved : goal.loop-i-preserved
+loop-i-preserved g c =
+    let y = c.args.engine.now.spec in
+    let n = c.args.settings.options.steps in
+    let us = given_at (g.B.TermBank.store c.args.engine.now.bank) c.args.list in
+    let next = next_term g.B.TermBank.store y _ _ _ us c.loop-i.rest c.head-term.result c.loop-i.i c.bank-in-loop-i.ensures c.bank-in-loop-i-2.ensures
+    c.requires.protected.holds.kept c.loop-i.invariant.left c.in-Cons.ensures c.head-term.ensures in
+    let is = front-line y c.loop-i.engine.spec _ us _ c.head-term.result c.loop-i.i (shown_of c.args.settings) n next.front
+    c.loop-i.invariant.same.spec next.held in
+    let others = others_later y _ _ _ c.args.list _ us c.loop-i.i c.loop-i.invariant.keeps c.in-Ok.ensures.keeps c.requires.protected.holds.held
+    c.requires.protected.protected c.loop-i.invariant.left next.front in
+    record {
+      same = same_engine_both c.loop-i.invariant.same c.in-Ok.ensures.same;
+      keeps = Keeps-trans c.loop-i.invariant.keeps c.in-Ok.ensures.keeps;
+      left = subst (λ b. tree_at (g.B.TermBank.store b) c.tail-rest.result ≡ part_at tail_of (g.B.TermBank.store b) c.loop-i.rest)
+          c.bank-in-loop-i-3.ensures c.tail-rest.ensures ∙ others;
+      written = appends_more (given_text y (shown_of c.args.settings) n) us c.loop-i.i (list_of none) _ _ _ next.front.low c.loop-i.invariant.written
+          (subst (λ text. Appends (g.W.Write.contents c.loop-i.out.writer.now) (g.W.Write.contents c.write_evaluation.new.out.writer.now)
+          (text ++ codes "\n")) is c.in-Ok.ensures.ok);
+      writable = c.in-Ok.ensures.cause;
+      same_output = c.in-Ok.ensures.same_output ∙ c.loop-i.invariant.same_output;
+      spots = c.in-Ok.ensures.spots ∙ c.loop-i.invariant.spots;
+      report = λ source spots.
+          let there = subst (λ (v : Vec Spot Global). AreSpots source y v.items) (sym c.loop-i.invariant.spots) spots in
+          let u = get_or us c.loop-i.i (list_of none) in
+          let w = g.B.TermBank.store c.loop-i.engine.bank in
+          let here : item_at w c.head-term.result ≡ u = ap (λ o. unwrap_or o (list_of none)) next.held ∙ sym next.front.got in
+          let more = subst (λ (z : Spec). AreSpots source z c.loop-i.report.spots.items
+          → c.write_evaluation.new.report.lines.items ≡ c.loop-i.report.lines.items ++ value_report source z n
+          (given_task (item_at w c.head-term.result))) c.loop-i.invariant.same.spec (c.in-Ok.ensures.report source) there in
+          told-more (λ u. value_report source y n (given_task u)) us c.loop-i.i (list_of none) c.args.report.now.lines.items
+          c.loop-i.report.lines.items c.write_evaluation.new.report.lines.items next.front.low (c.loop-i.invariant.report source spots)
+          (more ∙ ap (λ t. c.loop-i.report.lines.items ++ value_report source y n (given_task t)) here);
+    }
+
+pub returns-clause-ok : goal.returns-clause-ok
+returns-clause-ok g c =
+    let us = given_at (g.B.TermBank.store c.args.engine.now.bank) c.args.list in
+    let short : length us < cells (g.B.TermBank.store c.bank.result.now) =
+    subst (λ b. length us < cells (g.B.TermBank.store b)) (sym c.bank.ensures)
+    (fewer_items (g.B.TermBank.store c.args.engine.now.bank) c.args.list us (g.met.B.TermBank.sound c.args.engine.now.bank)
+    c.requires.protected.holds.held) in
+    let all : length us ≤ c.loop-i.i = omega (arith, short) in
+    appends_all (given_text c.args.engine.now.spec (shown_of c.args.settings) c.args.settings.options.steps) us c.loop-i.i _ _ all c.loop-i.invariant.written
+
+pub returns-in-Err-clause-cause : goal.returns-in-Err-clause-cause
+returns-in-Err-clause-cause g c = λ is. c.in-Err.ensures.cause
+    (after_write (unbounded_line_fault c.in-Err.fault) _ (unbounded_fault c.after.result) (after-told c.in-Err.fault _ c.after.result c.after.ensures) is)
+
+pub returns-in-Err-clause-deep : goal.returns-in-Err-clause-deep
+returns-in-Err-clause-deep g c = after-deep c.in-Err.fault _ c.after.result c.after.ensures c.write_evaluation.new.engine.waiting
+    c.args.settings.depth c.in-Err.ensures.deep
+
+pub write_evaluation-requires-clause-told : goal.write_evaluation-requires-clause-told
+write_evaluation-requires-clause-told g c =
+    let source = c.requires.told.0 in
+    let y = c.args.engine.now.spec in (
+      source,
+      subst (λ (z : Spec). AreSpots source z c.loop-i.report.spots.items) (sym c.loop-i.invariant.same.spec)
+          (subst (λ (v : Vec Spot Global). AreSpots source y v.items) (sym c.loop-i.invariant.spots) c.requires.told.1),
+    )
+
+pub returns-clause-report : goal.returns-clause-report
+returns-clause-report g c =
+    let us = given_at (g.B.TermBank.store c.args.engine.now.bank) c.args.list in
+    let short : length us < cells (g.B.TermBank.store c.bank.result.now) =
+    subst (λ b. length us < cells (g.B.TermBank.store b)) (sym c.bank.ensures)
+    (fewer_items (g.B.TermBank.store c.args.engine.now.bank) c.args.list us (g.met.B.TermBank.sound c.args.engine.now.bank)
+    c.requires.protected.holds.held) in
+    let all : length us ≤ c.loop-i.i = omega (arith, short) in
+    λ source spots. told-all (λ u. value_report source c.args.engine.now.spec c.args.settings.options.steps (given_task u)) us c.loop-i.i
+    c.args.report.now.lines.items c.loop-i.report.lines.items all (c.loop-i.invariant.report source spots)
