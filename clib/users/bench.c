@@ -22,13 +22,13 @@ static void tell(const char *what, double times)
 
 /* As large as a cell of the store. */
 struct cell {
-    uint64_t words[8];
+    uint64_t words[6];
 };
 
 static void fill(struct cell *cell, uint64_t word)
 {
     int i;
-    for (i = 0; i < 8; i++)
+    for (i = 0; i < 6; i++)
         cell->words[i] = word;
 }
 
@@ -51,7 +51,7 @@ static int machine(uint32_t cells)
     start();
     for (i = 0; i < cells; i++)
         fill(&in_turn[i], i);
-    tell("64 bytes in turn, in new memory", cells);
+    tell("48 bytes in turn, in new memory", cells);
     start();
     for (i = 0; i < cells; i++)
         fill(&in_turn[i], i);
@@ -59,7 +59,7 @@ static int machine(uint32_t cells)
     start();
     for (i = 0; i < cells; i++)
         fill(&drawn_at[drawn(i, cells)], i);
-    tell("64 bytes at a place by chance, in new memory", cells);
+    tell("48 bytes at a place by chance, in new memory", cells);
     start();
     for (i = 0; i < cells; i++)
         fill(&drawn_at[drawn(i, cells)], i);

@@ -16,14 +16,15 @@ use denote.Steps.{facts, owned, looks, shuts, only}
 use denote.Struct.Laws as LL
 use denote.Struct.Lending.{lent_at}
 use borrow.Table.OneValue.{part_in, part_out}
-use Rattle.rx_arena.specs.Inner.Node.{Node}
+use Rattle.rx_arena.specs.Inner.Node.{Stored}
 use Rattle.rx_arena.specs.Inner.Held.{IsPlace}
 use Rattle.rx_arena.specs.Inner.Ownership.{place, cell_of, slot_owns, slots_own, slot_lent, slots_lent}
 use Rattle.rx_arena.specs.declared.cells.Cell.{Cell}
 use Rattle.rx_arena.specs.declared.cells.Place.{Place}
 use Rattle.rx_arena.specs.contracts.cells.Cell as C
 use Rattle.rx_arena.proofs.cells.Cell.TheLaws as cell
-use Rattle.rx_arena.proofs.SlotLemmas.{all_but, one_taken, one_returned, one_lent, held_within}
+use Rattle.rx_arena.proofs.SlotLemmas.{all_but, one_taken, one_returned, one_lent}
+use Rattle.rx_arena.proofs.PutLemmas.{within_some}
 use Rattle.rx_arena.proofs.StepLemmas.{cell_val, cell_is, cell_told, CellFits}
 
 -- the cell at a place, as the machine has it
@@ -45,7 +46,7 @@ module _ {M : Type 1} {𝓤 : Ura M} {𝓛 : Logic 𝓤} {K : Type 0} {Γ : List
       use2 𝓛 (‵ (part_at C.the_row full_share x b o)) (part_in 𝓛 C.the_row refl full_share x b o (cell_val x)) $ s)
 
 -- what a slot owns is its room, once what lies there is forgotten
-pub slot_forgotten : {M : Type 1} {𝓤 : Ura M} (𝓛 : Logic 𝓤) (bs : List Ptr) (s : ℕ) (c : Option Node)
+pub slot_forgotten : {M : Type 1} {𝓤 : Ura M} (𝓛 : Logic 𝓤) (bs : List Ptr) (s : ℕ) (c : Option Stored)
     → ent 𝓤 (sem 𝓛 (slot_owns bs s c)) (sem 𝓛 (slot_owns bs s None))
 slot_forgotten {𝓤 = 𝓤} 𝓛 bs s None = id⊢ 𝓤 _
 slot_forgotten {𝓤 = 𝓤} 𝓛 bs s (Some n) = let x = cell_of bs s n in
@@ -54,7 +55,7 @@ slot_forgotten {𝓤 = 𝓤} 𝓛 bs s (Some n) = let x = cell_of bs s n in
     use1 𝓛 (‵ (froom (lone C.the_row.mir) b o)) (𝓛.laws.at_room (lone C.the_row.mir) b o (cell_val x)) $ rewrite ! 0 (λ (p : Ptr).
     ‵ (room_at C.the_row p)) (sym e) refl $ done !))
 
-module _ {M : Type 1} {𝓤 : Ura M} {𝓛 : Logic 𝓤} {K : Type 0} {Γ : List (Item 𝓤)} {G : Goal 𝓤 𝓛.H} (bs : List Ptr) (cs : List (Option Node)) (p : Place) where
+module _ {M : Type 1} {𝓤 : Ura M} {𝓛 : Logic 𝓤} {K : Type 0} {Γ : List (Item 𝓤)} {G : Goal 𝓤 𝓛.H} (bs : List Ptr) (cs : List (Option Stored)) (p : Place) where
   -- the room of a slot, whatever lies there
   pub slot_cleared : K → IsPlace bs p → p.slot < length cs
       → ((b o : ℕ) → p.at ≡ block_ptr b o → Seq K 𝓛 (‵ (froom (lone C.the_row.mir) b o) ∷ ‵ (all_but bs 0 cs p.slot) ∷ Γ) G)
@@ -65,7 +66,7 @@ module _ {M : Type 1} {𝓤 : Ura M} {𝓛 : Logic 𝓤} {K : Type 0} {Γ : List
       rewrite t 0 (λ (j : ℕ). ‵ (slot_owns bs j None)) {x = p.slot} (omega arith) refl $ rewrite t 0 (λ (q : Ptr). ‵ (room_at C.the_row q)) (sym placed) refl $
       in_a_block t p.at (λ q. room_at C.the_row q) (id⊢ 𝓤 (never 𝓤)) k
 
-  pub slot_closes : K → IsPlace bs p → p.slot < length cs → (m : Node) → CellFits (cell_of bs p.slot m) → (b o : ℕ) → p.at ≡ block_ptr b o
+  pub slot_closes : K → IsPlace bs p → p.slot < length cs → (m : Stored) → CellFits (cell_of bs p.slot m) → (b o : ℕ) → p.at ≡ block_ptr b o
       → Step K 𝓛 (‵ (slots_own bs 0 (set cs p.slot (Some m))) ∷ Γ) G (‵ (cell_lies full_share (cell_of bs p.slot m) b o) ∷ ‵ (all_but bs 0 cs p.slot) ∷ Γ) G
   slot_closes t placed within m f b o e = step (λ s.
       let x = cell_of bs p.slot m in
@@ -73,8 +74,8 @@ module _ {M : Type 1} {𝓤 : Ura M} {𝓛 : Logic 𝓤} {K : Type 0} {Γ : List
       rewrite t 0 (λ (j : ℕ). ‵ (slot_owns bs j (Some m))) {x = p.slot + 0} (omega arith) refl $
       use2 𝓛 (‵ (slots_own bs 0 (set cs p.slot (Some m)))) (one_returned 𝓛 bs 0 cs p.slot (Some m) within) $ s)
 
-module _ {M : Type 1} {𝓤 : Ura M} {𝓛 : Logic 𝓤} {K : Type 0} {Γ : List (Item 𝓤)} {G : Goal 𝓤 𝓛.H} (bs : List Ptr) (cs : List (Option Node))
-    (p : Place) (n : Node) where
+module _ {M : Type 1} {𝓤 : Ura M} {𝓛 : Logic 𝓤} {K : Type 0} {Γ : List (Item 𝓤)} {G : Goal 𝓤 𝓛.H} (bs : List Ptr) (cs : List (Option Stored))
+    (p : Place) (n : Stored) where
   pub slot_opens : K → IsPlace bs p → get_or cs p.slot None ≡ Some n
       → ((b o : ℕ) → p.at ≡ block_ptr b o → CellFits (cell_of bs p.slot n)
       → Seq K 𝓛 (‵ (cell_lies full_share (cell_of bs p.slot n) b o) ∷ ‵ (all_but bs 0 cs p.slot) ∷ Γ) G)
@@ -82,9 +83,9 @@ module _ {M : Type 1} {𝓤 : Ura M} {𝓛 : Logic 𝓤} {K : Type 0} {Γ : List
   slot_opens t placed held k =
       let x = cell_of bs p.slot n in
       use1 𝓛 (‵ (slot_owns bs (p.slot + 0) (get_or cs p.slot None)) ⊛ ‵ (all_but bs 0 cs p.slot))
-      (one_taken 𝓛 bs 0 cs p.slot (held_within cs p.slot n held)) $ split t $
+      (one_taken 𝓛 bs 0 cs p.slot (within_some cs p.slot n held)) $ split t $
       rewrite t 0 (λ (j : ℕ). ‵ (slot_owns bs j (get_or cs p.slot None))) {x = p.slot} (omega arith) refl $
-      rewrite t 0 (λ (z : Option Node). ‵ (slot_owns bs p.slot z)) held refl $ rewrite t 0 (λ (q : Ptr). ‵ (lies_at C.the_row full_share q x))
+      rewrite t 0 (λ (z : Option Stored). ‵ (slot_owns bs p.slot z)) held refl $ rewrite t 0 (λ (q : Ptr). ‵ (lies_at C.the_row full_share q x))
       (sym placed) refl $
       in_a_block t p.at (λ q. lies_at C.the_row full_share q x) (id⊢ 𝓤 (never 𝓤)) (λ b o e. cell_out t x b o (λ f. k b o e f))
 
@@ -92,9 +93,9 @@ module _ {M : Type 1} {𝓤 : Ura M} {𝓛 : Logic 𝓤} {K : Type 0} {Γ : List
       → ((b o : ℕ) → p.at ≡ block_ptr b o → Seq K 𝓛 (‵ (hidden_shr C.the_row κ (cell_of bs p.slot n) b o) ∷ Γ) G) → Seq K 𝓛 (‵ (slots_lent bs 0 cs κ) ∷ Γ) G
   slot_looks t {κ} placed held k =
       let x = cell_of bs p.slot n in
-      use1 𝓛 (‵ (slot_lent bs (p.slot + 0) (get_or cs p.slot None) κ)) (one_lent 𝓛 bs κ 0 cs p.slot (held_within cs p.slot n held)) $
+      use1 𝓛 (‵ (slot_lent bs (p.slot + 0) (get_or cs p.slot None) κ)) (one_lent 𝓛 bs κ 0 cs p.slot (within_some cs p.slot n held)) $
       rewrite t 0 (λ (j : ℕ). ‵ (slot_lent bs j (get_or cs p.slot None) κ)) {x = p.slot} (omega arith) refl $
-      rewrite t 0 (λ (z : Option Node). ‵ (slot_lent bs p.slot z κ)) held refl $ rewrite t 0 (λ (q : Ptr). ‵ (lent_at C.the_row q x κ)) (sym placed) refl $
+      rewrite t 0 (λ (z : Option Stored). ‵ (slot_lent bs p.slot z κ)) held refl $ rewrite t 0 (λ (q : Ptr). ‵ (lent_at C.the_row q x κ)) (sym placed) refl $
       in_a_block t p.at (λ q. lent_at C.the_row q x κ) (fst∗ 𝓤 (never 𝓤) (sem 𝓛 (shared_of C.the_row x 0 0 κ))) (λ b o e. fsplit t $ drop t $ hide t $ k b o e)
 
 module _ {M : Type 1} {𝓤 : Ura M} {𝓛 : Logic 𝓤} {K : Type 0} {Γ : List (Item 𝓤)} {G : Goal 𝓤 𝓛.H} where

@@ -5,10 +5,9 @@ use Rattle.std.specs.Prelude.{Option, Bool, true, false, not, nat_eq, min, take,
 use Rattle.rx_arena.specs.declared.arena.Arena.TheInside.{Inside}
 use Rattle.rx_arena.specs.declared.fault.ArenaFault.{ArenaFault}
 use Rattle.std.specs.Option.{option_map}
-use Rattle.std.proofs.lemmas.List.{length-append, length-replicate, set-set, set-get_or}
+use Rattle.std.proofs.lemmas.List.{set-set, set-get_or}
 use Rattle.rx_arena.specs.declared.CellBody.{CellBody}
-use Rattle.rx_arena.specs.Inner.Node.{Node, mark_of, has_mark, lone, with_mark, with_next}
-use Rattle.rx_arena.specs.declared.cells.Link.TheVariants.{Chain, Gray}
+use Rattle.rx_arena.specs.Inner.Node.{Node, mark_of, has_mark, lone, with_mark, with_chain, with_next}
 use Rattle.rx_arena.specs.Inner.Held.{IsHeld}
 use Rattle.rx_arena.specs.Put.{times, times_in, put, one_some, filled, altered}
 use Rattle.rx_arena.specs.Inner.Links.{Links, links, IsChain, Listed, AreChains, Chained}
@@ -28,7 +27,7 @@ abbrev pub chain_links : List (Option Node) → Links
 chain_links cells = links (λ n. n.chain) cells
 
 abbrev pub gray_links : List (Option Node) → Links
-gray_links cells = links (λ n. n.gray) cells
+gray_links cells = links (λ n. n.next) cells
 
 -- what an arena shows
 abbrev pub opened : Inside → ArenaState
@@ -172,7 +171,7 @@ module _ (x : Inside) (law : IsArena (opened x)) where
 
   -- a change that shows no link
   pub altered_step : (q : PoolState) (s : ℕ) (f : Node → Node) (g : Taken → Taken) → IsTaken a s → q ≡ record p { cells = altered s f p.cells }
-      → ((n : Node) → (shown_of p.turned (f n) ≡ g (shown_of p.turned n)) × ((f n).chain ≡ n.chain) × ((f n).gray ≡ n.gray))
+      → ((n : Node) → (shown_of p.turned (f n) ≡ g (shown_of p.turned n)) × ((f n).chain ≡ n.chain) × ((f n).next ≡ n.next))
       → IsArena (record a { cells = altered s g a.cells }) → ArenaStep q heads first (record a { cells = altered s g a.cells })
   altered_step q s f g taken e like law' =
       let n = taken_node s taken.0 taken.1 in
@@ -184,7 +183,7 @@ module _ (x : Inside) (law : IsArena (opened x)) where
         chained = chains_agree (chain_links p.cells) (chain_links (put p.cells s (Some (f n.0)))) heads l.0 (λ t _.
             links-kept (λ n. n.chain) p.cells s n.0 (f n.0) n.1 (like n.0).1 t) l.1;
         grayed = chain_agrees (gray_links p.cells) (gray_links (put p.cells s (Some (f n.0)))) first m.0 (λ t _.
-            links-kept (λ n. n.gray) p.cells s n.0 (f n.0) n.1 (like n.0).2 t) m.1;
+            links-kept (λ n. n.next) p.cells s n.0 (f n.0) n.1 (like n.0).2 t) m.1;
         state_is = λ i. record { cells = (shown-put s (f n.0) ∙ shows) i; chains = l.0; gray = m.0; spare = same_spare s n.0 (f n.0) n.1 i; cap = p.cap };
         law = law';
       })
@@ -219,20 +218,20 @@ module _ (x : Inside) (law : IsArena (opened x)) where
       (first_some (chain_links p.cells) (get_or heads c None) (chain_at a c) (chains.chain_at (chain_links p.cells) heads l.0 c l.1))
       s (omega (arith, loose, times_in-at s a.chains c))
 
-  pub gray_held : IfSome first (IsHeld p.cells)
-  gray_held = led_held_by p.cells (λ n. n.gray) m.0 first (first_some (gray_links p.cells) first m.0 m.1)
+  gray_held : IfSome first (IsHeld p.cells)
+  gray_held = led_held_by p.cells (λ n. n.next) m.0 first (first_some (gray_links p.cells) first m.0 m.1)
 
-  pub gray_apart : (s : ℕ) → times s a.gray ≡ 0 → IfSome first (λ t. ¬ (t ≡ s))
-  gray_apart s away = led_apart_by p.cells (λ n. n.gray) m.0 first (first_some (gray_links p.cells) first m.0 m.1) s away
+  pub gray_small : IfSome first (λ t. t < 4294967295)
+  gray_small = held_small first gray_held
 
   pub push_step : (q : PoolState) (c s : ℕ) → c < length a.chains → IsTaken a s → IsLoose a s
-      → q ≡ record p { cells = altered s (with_next Chain (get_or heads c None)) p.cells }
+      → q ≡ record p { cells = altered s (with_chain (get_or heads c None)) p.cells }
       → ArenaStep q (set heads c (Some s)) first (record a { chains = set a.chains c (s ∷ chain_at a c) })
   push_step q c s lt taken loose e =
       let n = taken_node s taken.0 taken.1 in
-      let k : Node = with_next Chain (get_or heads c None) n.0 in
-      let is : altered s (with_next Chain (get_or heads c None)) p.cells ≡ put p.cells s (Some k) =
-      altered-at p.cells s (with_next Chain (get_or heads c None)) n.0 n.1 in
+      let k : Node = with_chain (get_or heads c None) n.0 in
+      let is : altered s (with_chain (get_or heads c None)) p.cells ≡ put p.cells s (Some k) =
+      altered-at p.cells s (with_chain (get_or heads c None)) n.0 n.1 in
       let b : ArenaState = record a { chains = set a.chains c (s ∷ chain_at a c) } in
       let others : (t : ℕ) → t ≢ s → get_or (chain_links (put p.cells s (Some k))) t None ≡ get_or (chain_links p.cells) t None = λ t ne.
       links-put_other (λ n. n.chain) p.cells s t (Some k) ne in
@@ -243,7 +242,7 @@ module _ (x : Inside) (law : IsArena (opened x)) where
             (pushed (chain_links p.cells) (chain_links (put p.cells s (Some k))) s (get_or heads c None) (chain_at a c) away others
             (links-put_same (λ n. n.chain) p.cells s (Some k)) (chains.chain_at (chain_links p.cells) heads l.0 c l.1));
         grayed = chain_agrees (gray_links p.cells) (gray_links (put p.cells s (Some k))) first m.0 (λ t _.
-            links-kept (λ n. n.gray) p.cells s n.0 k n.1 refl t) m.1;
+            links-kept (λ n. n.next) p.cells s n.0 k n.1 refl t) m.1;
         state_is = λ i. record {
           cells = (shown-put s k ∙ unshown s n.0 k n.1 refl) i;
           chains = b.chains;
@@ -255,20 +254,20 @@ module _ (x : Inside) (law : IsArena (opened x)) where
         law = push_law a law c s lt taken loose;
       })
 
-  pub gray_link_step : (q : PoolState) (s : ℕ) → IsMarked a s → times s a.gray ≡ 0 → q ≡ record p { cells = altered s (with_next Gray first) p.cells }
+  pub gray_link_step : (q : PoolState) (s : ℕ) → IsMarked a s → times s a.gray ≡ 0 → q ≡ record p { cells = altered s (with_next first) p.cells }
       → ArenaStep q heads (Some s) (record a { gray = s ∷ a.gray })
   gray_link_step q s marked away e =
       let t = taken_marked a s marked in
       let n = taken_node s t.0 t.1 in
-      let k : Node = with_next Gray first n.0 in
-      let is : altered s (with_next Gray first) p.cells ≡ put p.cells s (Some k) = altered-at p.cells s (with_next Gray first) n.0 n.1 in
+      let k : Node = with_next first n.0 in
+      let is : altered s (with_next first) p.cells ≡ put p.cells s (Some k) = altered-at p.cells s (with_next first) n.0 n.1 in
       let others : (t : ℕ) → t ≢ s → get_or (gray_links (put p.cells s (Some k))) t None ≡ get_or (gray_links p.cells) t None = λ t ne.
-      links-put_other (λ n. n.gray) p.cells s t (Some k) ne in
+      links-put_other (λ n. n.next) p.cells s t (Some k) ne in
       subst (λ z. ArenaStep z heads (Some s) (record a { gray = s ∷ a.gray })) (sym (e ∙ ap (λ z. record p { cells = z }) is)) (record {
         chained = chains_agree (chain_links p.cells) (chain_links (put p.cells s (Some k))) heads l.0 (λ t _.
             links-kept (λ n. n.chain) p.cells s n.0 k n.1 refl t) l.1;
         grayed = pushed (gray_links p.cells) (gray_links (put p.cells s (Some k))) s first m.0 away others
-            (links-put_same (λ n. n.gray) p.cells s (Some k)) m.1;
+            (links-put_same (λ n. n.next) p.cells s (Some k)) m.1;
         state_is = λ i. record {
           cells = (shown-put s k ∙ unshown s n.0 k n.1 refl) i;
           chains = l.0;
@@ -316,14 +315,14 @@ module _ (x : Inside) (law : IsArena (opened x)) where
   -- a slot leaves its chain, from behind another one
   pub skip_step : (q : PoolState) (c b s : ℕ) (front rest : List ℕ) (next : Option ℕ) → c < length a.chains → chain_at a c ≡ front ++ b ∷ s ∷ rest
       → ((t : ℕ) → times t (front ++ b ∷ s ∷ rest) ≤ 1)
-      → get_or (chain_links p.cells) s None ≡ Some next → IsTaken a b → q ≡ record p { cells = altered b (with_next Chain next) p.cells }
+      → get_or (chain_links p.cells) s None ≡ Some next → IsTaken a b → q ≡ record p { cells = altered b (with_chain next) p.cells }
       → ArenaStep q heads first (record a { chains = set a.chains c (front ++ b ∷ rest) })
   skip_step q c b s front rest next lt split once at_s taken e =
       let n = taken_node b taken.0 taken.1 in
-      let k : Node = with_next Chain next n.0 in
+      let k : Node = with_chain next n.0 in
       let ls : Links = chain_links p.cells in
       let ms : Links = chain_links (put p.cells b (Some k)) in
-      let is : altered b (with_next Chain next) p.cells ≡ put p.cells b (Some k) = altered-at p.cells b (with_next Chain next) n.0 n.1 in
+      let is : altered b (with_chain next) p.cells ≡ put p.cells b (Some k) = altered-at p.cells b (with_chain next) n.0 n.1 in
       let new : List ℕ = front ++ b ∷ rest in
       let others : (t : ℕ) → t ≢ b → get_or ms t None ≡ get_or ls t None = λ t ne. links-put_other (λ n. n.chain) p.cells b t (Some k) ne in
       let here : times b (chain_at a c) ≡ times b front + (1 + times b (s ∷ rest)) =
@@ -342,7 +341,7 @@ module _ (x : Inside) (law : IsArena (opened x)) where
         chained = (let one = subst (λ z. AreChains ms z (set (set a.chains c []) c new)) back full in
             subst (AreChains ms heads) (set-set a.chains c [] new) one);
         grayed = chain_agrees (gray_links p.cells) (gray_links (put p.cells b (Some k))) first m.0 (λ t _.
-            links-kept (λ n. n.gray) p.cells b n.0 k n.1 refl t) m.1;
+            links-kept (λ n. n.next) p.cells b n.0 k n.1 refl t) m.1;
         state_is = λ i. record {
           cells = (shown-put b k ∙ unshown b n.0 k n.1 refl) i;
           chains = b'.chains;
@@ -361,20 +360,15 @@ module _ (x : Inside) (law : IsArena (opened x)) where
         × IsChain (gray_links p.cells) next rest
     gray_front = popped (gray_links p.cells) first s m.0 m.1 is
 
-    abbrev pub gray_front_node : (n : Node) × (get_or p.cells s None ≡ Some n) × (n.gray ≡ gray_front.2)
-    gray_front_node = links_some (λ n. n.gray) p.cells s gray_front.2 gray_front.3
+    abbrev pub gray_front_node : (n : Node) × (get_or p.cells s None ≡ Some n) × (n.next ≡ gray_front.2)
+    gray_front_node = links_some (λ n. n.next) p.cells s gray_front.2 gray_front.3
 
-    pub gray_asked : IsHeld p.cells s × IfSome (get_or p.cells s None) (λ n. IfSome n.gray (IsHeld p.cells))
-    gray_asked = (
-      (gray_front_node.0, gray_front_node.1),
-      subst (λ z. IfSome z (λ n. IfSome n.gray (IsHeld p.cells))) (sym gray_front_node.1)
-          (subst (λ z. IfSome z (IsHeld p.cells)) (sym gray_front_node.2)
-          (led_held_by p.cells (λ n. n.gray) gray_front.0 gray_front.2 (first_some (gray_links p.cells) gray_front.2 gray_front.0 gray_front.4))),
-    )
+    pub gray_asked : IsHeld p.cells s
+    gray_asked = (gray_front_node.0, gray_front_node.1)
 
-    pub gray_pop_step : (next : Option ℕ) → IfSome (get_or p.cells s None) (λ n. next ≡ n.gray) → ArenaStep p heads next (record a { gray = gray_front.0 })
+    pub gray_pop_step : (next : Option ℕ) → IfSome (get_or p.cells s None) (λ n. next ≡ n.next) → ArenaStep p heads next (record a { gray = gray_front.0 })
     gray_pop_step next led =
-        let n_is : next ≡ gray_front.2 = subst (λ z. IfSome z (λ n. next ≡ n.gray)) gray_front_node.1 led ∙ gray_front_node.2 in
+        let n_is : next ≡ gray_front.2 = subst (λ z. IfSome z (λ n. next ≡ n.next)) gray_front_node.1 led ∙ gray_front_node.2 in
         record {
           chained = l.1;
           grayed = subst (λ z. IsChain (gray_links p.cells) z gray_front.0) (sym n_is) gray_front.4;
@@ -403,7 +397,7 @@ module _ (x : Inside) (law : IsArena (opened x)) where
             free_links (λ n. n.chain) s (Some (lone (mark_of p.turned false) b)) t ne) l.1);
         grayed = subst (λ z. IsChain (gray_links z) first m.0) (sym e)
             (chain_stays (gray_links p.cells) (gray_links (put p.cells s (Some (lone (mark_of p.turned false) b)))) s first m.0 (gray_free s free)
-            (λ t ne. free_links (λ n. n.gray) s (Some (lone (mark_of p.turned false) b)) t ne) m.1);
+            (λ t ne. free_links (λ n. n.next) s (Some (lone (mark_of p.turned false) b)) t ne) m.1);
         state_is = λ i. record { cells = shows i; chains = l.0; gray = m.0; spare = spare_of q; cap = ec i };
         law = take_law a law s (new_cell b) (spare_of q) free lt (omega (arith, fit, count, ec));
       }
@@ -419,7 +413,7 @@ module _ (x : Inside) (law : IsArena (opened x)) where
       subst (λ z. spare_of z ≡ spare_of p + 1 → ArenaStep z heads first (record a { cells = put a.cells s None; spare = a.spare + 1 })) (sym e)
       (λ spare. record {
         chained = chains_stay (chain_links p.cells) (chain_links (put p.cells s None)) s heads l.0 loose (λ t ne. free_links (λ n. n.chain) s None t ne) l.1;
-        grayed = chain_stays (gray_links p.cells) (gray_links (put p.cells s None)) s first m.0 away (λ t ne. free_links (λ n. n.gray) s None t ne) m.1;
+        grayed = chain_stays (gray_links p.cells) (gray_links (put p.cells s None)) s first m.0 away (λ t ne. free_links (λ n. n.next) s None t ne) m.1;
         state_is = λ i. record { cells = map-put (shown_of p.turned) p.cells s None i; chains = l.0; gray = m.0; spare = spare i; cap = p.cap };
         law = give_back_law a law s taken loose away;
       }) es
@@ -480,10 +474,10 @@ module _ (x : Inside) (law : IsArena (opened x)) (q r : PoolState) (s : ℕ) (ta
   now_taken : IsTaken marked s
   now_taken = let t = taken_marked marked s now_marked in (t.0, t.1)
 
-  pub gray_push_held : IsHeld q.cells s × IfSome x.gray_first (IsHeld q.cells)
-  gray_push_held = (held_taken y mark_law s (subst (λ z. IsTaken z s) (sym mark_step.state_is) now_taken), gray_held y mark_law)
+  pub gray_push_held : IsHeld q.cells s
+  gray_push_held = held_taken y mark_law s (subst (λ z. IsTaken z s) (sym mark_step.state_is) now_taken)
 
-  pub gray_push_step : r ≡ record q { cells = altered s (with_next Gray x.gray_first) q.cells }
+  pub gray_push_step : r ≡ record q { cells = altered s (with_next x.gray_first) q.cells }
       → ArenaStep r x.heads (Some s) (record b { cells = altered s (with_marking true) b.cells; gray = s ∷ b.gray })
   gray_push_step f =
       subst (λ z. ArenaStep r x.heads (Some s) (record z { gray = s ∷ z.gray })) mark_step.state_is

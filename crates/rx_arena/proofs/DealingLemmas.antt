@@ -1,5 +1,5 @@
 -- The slots of the chains are dealt out to new chains, by their hashes.
-use Rattle.std.proofs.Common.{◌≡◌, ◌≢◌, ℕ, zero, suc, ◌+◌, ◌-◌, ◌%◌, ◌<◌, ◌≤◌, inl, inr, List, [], ◌∷◌}
+use Rattle.std.proofs.Common.{◌≡◌, ◌≢◌, ℕ, ◌+◌, ◌%◌, ◌<◌, ◌≤◌, inl, inr, List, [], ◌∷◌}
 use Rattle.std.proofs.Common.{length, get_or, set, take, IfSome, refl, sym, ap, subst, ◌∙◌, arith}
 use Rattle.std.specs.Prelude.{Bool, true, false, cond, nat_eq, replicate}
 use Rattle.std.proofs.Math.Nat.{mod-one}

@@ -1,18 +1,13 @@
--- Words that say what cells say.
-use Rattle.std.proofs.Common.{◌≡◌, ◌≢◌, ℕ, zero, suc, ◌+◌, ◌*◌, ◌<◌, ◌≤◌, ◌/◌, ◌%◌, List, ◌∷◌, ◌++◌}
-use Rattle.std.proofs.Common.{length, get_or, set, map, Some, None, refl, sym, ap, ◌∙◌, arith}
-use Rattle.std.specs.Prelude.{Option, Bool, true, false, nat_eq, nat_lt, cond, replicate, IfSome}
+-- Words that say what cells say, and whether cells are protected.
+use Rattle.std.proofs.Common.{◌≡◌, ◌≢◌, ℕ, zero, suc, ◌+◌, ◌*◌, ◌<◌, ◌≤◌, ◌/◌, ◌%◌, Some, None, refl, sym, ap, ◌∙◌, arith}
+use Rattle.std.specs.Prelude.{Option, Bool, true, false, nat_eq, nat_lt, cond, IfSome}
 use Rattle.std.specs.Option.{option_map}
 use Rattle.std.proofs.lemmas.Bool.{ltb-true, lt-ltb, le-ltb}
-use Rattle.std.proofs.lemmas.List.{length-map, map-set, map-append, get_or-map}
 use Rattle.std.proofs.lemmas.Nat.{div-mul-add, mod-mul-add}
-use Rattle.std.proofs.Math.Seq.{map-set_same}
 use Rattle.rx_arena.specs.declared.CellBody.{CellBody}
 use Rattle.rx_arena.specs.declared.Face.{Face}
 use Rattle.rx_arena.specs.declared.Slot.{Slot}
-use Rattle.rx_arena.specs.declared.cells.Link.{Link}
-use Rattle.rx_arena.specs.declared.cells.Link.TheVariants.{Chain, Gray, Free}
-use Rattle.rx_arena.specs.Inner.Node.{Node, node_at, changed, with_mark, with_next}
+use Rattle.rx_arena.specs.Inner.Node.{Node, with_mark, given_back, is_protected_node}
 use Rattle.rx_arena.specs.Arena.{Taken}
 use Rattle.rx_arena.specs.Faces.{face_of, ask, packed, fits, word_of, word_beside}
 
@@ -66,7 +61,8 @@ unpacked-word w b ne e = by_fit (fits b.kind b.a b.b b.anns) refl where
   by_fit false h = absurd (ne (e ∙ word-large b h))
 
 -- a change that keeps the body and the mark keeps the word
-same_word : (f : Node → Node) (o : Option Node) → ((n : Node) → ((f n).body ≡ n.body) × ((f n).mark ≡ n.mark)) → word_beside (option_map f o) ≡ word_beside o
+pub same_word : (f : Node → Node) (o : Option Node) → ((n : Node) → ((f n).body ≡ n.body) × ((f n).mark ≡ n.mark))
+    → word_beside (option_map f o) ≡ word_beside o
 same_word f None h = refl
 same_word f (Some n) h = λ i. cond (nat_eq ((h n).1 i) 2) ask (word_of ((h n).0 i))
 
@@ -80,53 +76,19 @@ pub word-taken : (n : Node) → n.mark ≤ 1 → word_beside (Some n) ≡ word_o
 word-taken n le = ap (λ z. cond z ask (word_of n.body)) (small_apart n.mark le)
 
 -- a mark of a cell that was not given back keeps the word
-marked_word : (k : ℕ) (o : Option Node) → k ≤ 1 → IfSome o (λ n. n.mark ≤ 1) → word_beside (option_map (with_mark k) o) ≡ word_beside o
+pub marked_word : (k : ℕ) (o : Option Node) → k ≤ 1 → IfSome o (λ n. n.mark ≤ 1) → word_beside (option_map (with_mark k) o) ≡ word_beside o
 marked_word k None le h = refl
 marked_word k (Some n) le h = word-taken (with_mark k n) le ∙ sym (word-taken n h)
 
-given_back_word : (o : Option Node) → ask ≡ word_beside (option_map (with_mark 2) o)
-given_back_word None = refl
-given_back_word (Some n) = refl
+pub given_back_word : (t : Option ℕ) (o : Option Node) → ask ≡ word_beside (option_map (given_back t) o)
+given_back_word t None = refl
+given_back_word t (Some n) = refl
 
-pub linked-body : (l : Link) (t : Option ℕ) (n : Node) → ((with_next l t n).body ≡ n.body) × ((with_next l t n).mark ≡ n.mark)
-linked-body Chain t n = (refl, refl)
-linked-body Gray t n = (refl, refl)
-linked-body Free t n = (refl, refl)
-
-none-said : (n : ℕ) → map word_beside (replicate n None) ≡ replicate n ask
-none-said zero = refl
-none-said (suc n) = ap (λ z. ask ∷ z) (none-said n)
-
-module _ (ws : List ℕ) (cs : List (Option Node)) (said : ws ≡ map word_beside cs) where
-  pub said-length : length ws ≡ length cs
-  said-length = ap length said ∙ length-map cs word_beside
-
-  -- a cell is replaced
-  pub said-set : (s : ℕ) (c : Option Node) → set ws s (word_beside c) ≡ map word_beside (set cs s c)
-  said-set s c = ap (λ z. set z s (word_beside c)) said ∙ sym (map-set word_beside cs s c)
-
-  kept : (s : ℕ) (f : Node → Node) → word_beside (option_map f (node_at cs s)) ≡ word_beside (node_at cs s) → ws ≡ map word_beside (changed s f cs)
-  kept s f h = said ∙ sym (map-set_same word_beside cs s (option_map f (node_at cs s)) None h)
-
-  -- a cell is changed, but for its body and its mark
-  pub said-changed : (s : ℕ) (f : Node → Node) → ((n : Node) → ((f n).body ≡ n.body) × ((f n).mark ≡ n.mark)) → ws ≡ map word_beside (changed s f cs)
-  said-changed s f h = kept s f (same_word f (node_at cs s) h)
-
-  -- a cell is marked
-  pub said-marked : (s k : ℕ) → k ≤ 1 → IfSome (node_at cs s) (λ n. n.mark ≤ 1) → ws ≡ map word_beside (changed s (with_mark k) cs)
-  said-marked s k le h = kept s (with_mark k) (marked_word k (node_at cs s) le h)
-
-  -- a cell is given back
-  pub said-given_back : (s : ℕ) → set ws s ask ≡ map word_beside (changed s (with_mark 2) cs)
-  said-given_back s = ap (set ws s) (given_back_word (node_at cs s)) ∙ said-set s (option_map (with_mark 2) (node_at cs s))
-
-  -- a block is added
-  pub said-grown : (n : ℕ) → ws ++ replicate n ask ≡ map word_beside (cs ++ replicate n None)
-  said-grown n = (λ i. said i ++ sym (none-said n) i) ∙ sym (map-append word_beside cs (replicate n None))
-
-  -- the word beside a slot
-  pub said-at : (s d : ℕ) → s < length cs → get_or ws s d ≡ word_beside (node_at cs s)
-  said-at s d lt = ap (λ z. get_or z s d) said ∙ get_or-map word_beside cs s None d lt
+-- a change that keeps the root count keeps whether the node is protected
+pub same_protected : (f : Node → Node) (o : Option Node) → ((n : Node) → (f n).roots ≡ n.roots)
+    → is_protected_node (option_map f o) ≡ is_protected_node o
+same_protected f None h = refl
+same_protected f (Some n) h = ap (nat_lt 0) (h n)
 
 -- what a word says of its body is so of the cell that it stands beside
 pub first-by_word : (o : Option Taken) (w a : ℕ) → IfSome o (λ t. w ≡ word_of t.body) → ((b : CellBody) → w ≡ word_of b → a ≡ b.a)

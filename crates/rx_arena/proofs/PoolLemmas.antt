@@ -38,7 +38,7 @@ get_or-grown [] (suc k) (suc t) = get_or-grown [] k t
 get_or-grown (x ∷ xs) k zero = refl
 get_or-grown (x ∷ xs) k (suc t) = get_or-grown xs k t
 
--- the free links after a write to one slot
+-- the links after a write to one slot
 pub links-set_other : (f : Node → Option ℕ) (slots : List (Option Node)) (s t : ℕ) (v : Option Node) → t ≢ s
     → get_or (links f (set slots s v)) t None ≡ get_or (links f slots) t None
 links-set_other f slots s t v ne = get_or-map_option f (set slots s v) t ∙ ap (option_map f) (get_or-set_other slots s t v None ne)
@@ -207,19 +207,19 @@ module _ (slots : List (Option Node)) (free : List ℕ) (fresh taken room cap : 
     pub extended-unheld : get_or slots fresh None ≡ None
     extended-unheld = p.empty fresh (omega arith)
 
-    module _ (first : Option ℕ) (c : IsChain (links (λ n. n.free) slots) first free) where
+    module _ (first : Option ℕ) (c : IsChain (links (λ n. n.next) slots) first free) where
       pub extended-away : times fresh free ≡ 0
       extended-away =
           elim (one_or_more (times fresh free)) [
             | inl z ↦ z
-            | inr h ↦ (let m = member_some (links (λ n. n.free) slots) first free fresh c h in
-                let l = links_some (λ n. n.free) slots fresh m.0 m.1 in
+            | inr h ↦ (let m = member_some (links (λ n. n.next) slots) first free fresh c h in
+                let l = links_some (λ n. n.next) slots fresh m.0 m.1 in
                 let none = extended-unheld in let some = l.1 in absurd (cc))
           ]
 
-      pub extended-chain : (m : Node) → IsChain (links (λ n. n.free) (set slots fresh (Some m))) first free
-      extended-chain m = chain_stays (links (λ n. n.free) slots) (links (λ n. n.free) (set slots fresh (Some m))) fresh first free extended-away
-          (λ t ne. links-set_other (λ n. n.free) slots fresh t (Some m) ne) c
+      pub extended-chain : (m : Node) → IsChain (links (λ n. n.next) (set slots fresh (Some m))) first free
+      extended-chain m = chain_stays (links (λ n. n.next) slots) (links (λ n. n.next) (set slots fresh (Some m))) fresh first free extended-away
+          (λ t ne. links-set_other (λ n. n.next) slots fresh t (Some m) ne) c
 
       pub extended-was_free : get_or (cells_of slots free fresh) fresh None ≡ None
       extended-was_free = get_or-without_other (take fresh slots) free fresh extended-away
@@ -302,12 +302,12 @@ module _ (slots : List (Option Node)) (free : List ℕ) (fresh taken room cap : 
 
   -- a block is added
   module _ (lt : room < cap) where
-    pub grown-chain : (first : Option ℕ) → IsChain (links (λ n. n.free) slots) first free
-        → IsChain (links (λ n. n.free) (slots ++ replicate 1024 None)) first free
+    pub grown-chain : (first : Option ℕ) → IsChain (links (λ n. n.next) slots) first free
+        → IsChain (links (λ n. n.next) (slots ++ replicate 1024 None)) first free
     grown-chain first c =
-        chain_agrees (links (λ n. n.free) slots) (links (λ n. n.free) (slots ++ replicate 1024 None)) first free
-        (λ t h. get_or-map_option (λ n. n.free) (slots ++ replicate 1024 None) t ∙ ap (option_map (λ (n : Node). n.free)) (get_or-grown slots 1024 t)
-        ∙ sym (get_or-map_option (λ n. n.free) slots t)) c
+        chain_agrees (links (λ n. n.next) slots) (links (λ n. n.next) (slots ++ replicate 1024 None)) first free
+        (λ t h. get_or-map_option (λ n. n.next) (slots ++ replicate 1024 None) t ∙ ap (option_map (λ (n : Node). n.next)) (get_or-grown slots 1024 t)
+        ∙ sym (get_or-map_option (λ n. n.next) slots t)) c
 
     pub grown-cells : cells_of (slots ++ replicate 1024 None) free fresh ≡ cells_of slots free fresh
     grown-cells = ap (λ xs. without xs free) (take-append-le fresh slots (replicate 1024 None) in_store)

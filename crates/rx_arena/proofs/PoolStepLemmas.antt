@@ -5,11 +5,9 @@ use Rattle.std.specs.Prelude.{Option, Bool, true, false, not, nat_eq, nat_lt, re
 use Rattle.std.proofs.lemmas.Bool.{eqb-true, ne_eqb}
 use Rattle.std.proofs.lemmas.Bool.Decides.{nat_tests}
 use Rattle.std.specs.Option.{option_map}
-use Rattle.std.proofs.lemmas.List.{get_or-set_same, set-set, set-get_or, length-set, get_or-take}
-use Rattle.rx_arena.specs.Inner.Node.{Node, mark_of, has_mark, with_mark, with_next, changed, is_protected_node}
+use Rattle.std.proofs.lemmas.List.{get_or-take}
+use Rattle.rx_arena.specs.Inner.Node.{Node, mark_of, has_mark, given_back, changed, is_protected_node}
 use Rattle.rx_arena.specs.declared.pool.Pool.TheInside.{Inside}
-use Rattle.rx_arena.specs.declared.cells.Link.{Link}
-use Rattle.rx_arena.specs.declared.cells.Link.TheVariants.{Chain, Gray, Free}
 use Rattle.rx_arena.specs.Inner.Held.{IsHeld}
 use Rattle.rx_arena.specs.Faces.{ask, word_of, word_beside}
 use Rattle.rx_arena.proofs.FaceLemmas.{word-taken, word-node}
@@ -29,12 +27,6 @@ mark_of_small false true = omega arith
 mark_of_small true false = omega arith
 mark_of_small true true = omega arith
 
--- a link changes no mark
-pub linked_small : (l : Link) (t : Option ℕ) (n : Node) → n.mark ≤ 1 → (with_next l t n).mark ≤ 1
-linked_small Chain t n le = le
-linked_small Gray t n le = le
-linked_small Free t n le = le
-
 -- neither is that of a cell that was given back
 two_apart : (turned : Bool) → nat_eq 2 (mark_of turned false) ≡ false
 two_apart false = refl
@@ -51,9 +43,9 @@ pub same_pool : (cells cells' : List (Option Node)) (free free' : List ℕ) (fre
     (record { cells = cells'; free = free'; fresh = fresh; room = room; cap = cap; turned = turned })
 same_pool cells cells' free free' fresh room cap turned e f = λ i. record { cells = e i; free = f i; fresh = fresh; room = room; cap = cap; turned = turned }
 
--- the free links of the nodes
+-- the nodes' links in their lists
 abbrev pub frees : List (Option Node) → Links
-frees slots = links (λ n. n.free) slots
+frees slots = links (λ n. n.next) slots
 
 -- the store, with its free list and counts, holds these cells
 pub record Step (slots : List (Option Node)) (first : Option ℕ) (free : List ℕ) (fresh taken room cap : ℕ) (cells : List (Option Node)) : Type 0 where
@@ -90,19 +82,6 @@ pool_room p = (p.taken_counted, omega (arith, p.free_counted, p.fresh_in_room), 
 -- one more is taken
 pub filled-taken : (cells : List (Option Node)) (s : ℕ) (b : Node) → get_or cells s None ≡ None → filled (put cells s (Some b)) ≡ filled cells + 1
 filled-taken cells s b e = let none = ap one_some e in omega (arith, filled-put cells s (Some b), none)
-
--- a node at its slot is changed
-pub changed_at : (base slots new : List (Option Node)) (s : ℕ) (n : Node) (f : Node → Node) → s < length base → slots ≡ set base s (Some n)
-    → new ≡ changed s f slots → new ≡ set base s (Some (f n))
-changed_at base slots new s n f lt is e =
-    e ∙ ap (changed s f) is ∙ ap (λ z. set (set base s (Some n)) s (option_map f z)) (get_or-set_same base s (Some n) None lt)
-    ∙ set-set base s (Some n) (Some (f n))
-
-pub held_at : (base slots : List (Option Node)) (s : ℕ) (n : Node) → s < length base → slots ≡ set base s (Some n) → IsHeld slots s
-held_at base slots s n lt e = (n, ap (λ (z : List (Option Node)). get_or z s None) e ∙ get_or-set_same base s (Some n) None lt)
-
-pub itself_at : (base : List (Option Node)) (s : ℕ) (n : Node) → get_or base s None ≡ Some n → base ≡ set base s (Some n)
-itself_at base s n e = sym (set-get_or base s None) ∙ ap (λ z. set base s z) e
 
 -- a step over an equal store
 step_at : (slots new : List (Option Node)) (first : Option ℕ) (free : List ℕ) (fresh taken room cap : ℕ) (cells : List (Option Node)) → new ≡ slots
@@ -205,13 +184,14 @@ module _ (x : Inside) (p : IsPool x.store x.listed.0 x.fresh x.taken x.room x.ca
   within_links None h = tt
   within_links (Some t) h = within_store t h
 
-  pub link_held : (f : Node → Option ℕ) (s : ℕ) → IsHeld cells s → IfSome (get_or cells s None) (λ n. IfSome (f n) (IsHeld cells))
-      → IfSome (get_or slots s None) (λ n. IfSome (f n) (IsHeld slots))
-  link_held f s h k =
+  pub link_held : (s : ℕ) → IsHeld cells s → IfSome (get_or cells s None) (λ n. IfSome n.chain (IsHeld cells))
+      → IfSome (get_or slots s None) (λ n. IfSome n.chain (IsHeld slots))
+  link_held s h k =
       let at = (taken_at slots l.0 fresh s h.0 h.1).at_store in
-      subst (λ z. IfSome z (λ n. IfSome (f n) (IsHeld slots))) (sym at) (held_links (f h.0) (subst (λ z. IfSome z (λ n. IfSome (f n) (IsHeld cells))) h.1 k))
+      subst (λ z. IfSome z (λ n. IfSome n.chain (IsHeld slots))) (sym at) (held_links h.0.chain
+      (subst (λ z. IfSome z (λ n. IfSome n.chain (IsHeld cells))) h.1 k))
 
-  -- a change of a taken slot's node that keeps its free link
+  -- a change of a taken slot's node: the slot is not in the free list, which stays
   pub kept-step : (new : List (Option Node)) (s : ℕ) (f : Node → Node) → ((n : Node) → n.mark ≤ 1 → (f n).mark ≤ 1) → IsHeld cells s
       → new ≡ changed s f slots → Keeps x new (altered s f cells)
   kept-step new s f small h e =
@@ -220,49 +200,33 @@ module _ (x : Inside) (p : IsPool x.store x.listed.0 x.fresh x.taken x.room x.ca
       let shows : altered s f cells ≡ put cells s (Some (f h.0)) = ap (λ z. put cells s (option_map f z)) h.1 in
       step_at (set slots s (Some (f h.0))) new first l.0 fresh taken room cap (altered s f cells) (e ∙ is) (record {
         chain = chain_stays (frees slots) (frees (set slots s (Some (f h.0)))) s first l.0 at.away (λ t ne.
-            links-set_other (λ n. n.free) slots s t (Some (f h.0)) ne) l.1;
+            links-set_other (λ n. n.next) slots s t (Some (f h.0)) ne) l.1;
         pool = pool-set slots l.0 fresh taken room cap p s h.0 (f h.0) (small h.0 (p.taken_known s h.0 h.1)) h.1;
         cells_is = cells-set slots l.0 fresh s (Some (f h.0)) at.away at.below (omega (arith, p.room_is, p.fresh_in_room)) ∙ sym shows;
       })
 
-  apart_of : (next : Option ℕ) → IfSome next (λ s. (0 < times s l.0) × ((k : Option ℕ) × (get_or (frees slots) s None ≡ Some k))) → (s : ℕ)
-      → times s l.0 ≡ 0 → IfSome next (λ t. ¬ (t ≡ s))
-  apart_of None h s away = tt
-  apart_of (Some t) h s away = λ e. (let here : 0 < times s l.0 = subst (λ z. 0 < times z l.0) e h.0 in absurd (omega (arith, here, away)))
+  small_of : (next : Option ℕ) → IfSome next (λ s. (0 < times s l.0) × ((k : Option ℕ) × (get_or (frees slots) s None ≡ Some k)))
+      → IfSome next (λ t. t < 4294967295)
+  small_of None h = tt
+  small_of (Some t) h =
+      let n = links_some (λ n. n.next) slots t h.1.0 h.1.1 in
+      let lt = within_some slots t n.0 n.1 in
+      let small = p.cap_small in
+      omega (arith, lt, p.room_is, p.room_in_cap, small)
 
-  within_of : (next : Option ℕ) → IfSome next (λ s. (0 < times s l.0) × ((k : Option ℕ) × (get_or (frees slots) s None ≡ Some k)))
-      → IfSome next (λ t. t < length slots)
-  within_of None h = tt
-  within_of (Some t) h = let n = links_some (λ n. n.free) slots t h.1.0 h.1.1 in within_some slots t n.0 n.1
+  -- the free list's first slot is below what stands for none
+  pub first_small : IfSome first (λ t. t < 4294967295)
+  first_small = small_of first (first_some (frees slots) first l.0 l.1)
 
-  -- what `give_back` asks of the free list's first slot
-  pub first_apart : (s : ℕ) → IsHeld cells s → IfSome first (λ t. ¬ (t ≡ s))
-  first_apart s h = apart_of first (first_some (frees slots) first l.0 l.1) s (taken_at slots l.0 fresh s h.0 h.1).away
-
-  pub first_within : IfSome first (λ t. t < length slots)
-  first_within = within_of first (first_some (frees slots) first l.0 l.1)
-
-  -- a node with another mark is held still
-  marked_at_first : (mid : List (Option Node)) (s : ℕ) (h : IsHeld cells s) → mid ≡ changed s (with_mark 2) slots → mid ≡ set slots s (Some (with_mark 2 h.0))
-  marked_at_first mid s h e = (let at = taken_at slots l.0 fresh s h.0 h.1 in
-      changed_at slots slots mid s h.0 (with_mark 2) at.within (itself_at slots s h.0 at.at_store) e)
-
-  pub remarked_held : (mid : List (Option Node)) (s : ℕ) → IsHeld cells s → mid ≡ changed s (with_mark 2) slots
-      → IsHeld mid s × IfSome first (λ t. t < length mid)
-  remarked_held mid s h e =
-      let is = marked_at_first mid s h e in
-      let len : length mid ≡ length slots = ap length is ∙ length-set slots s (Some (with_mark 2 h.0)) in
-      (held_at slots mid s (with_mark 2 h.0) (taken_at slots l.0 fresh s h.0 h.1).within is, subst (λ n. IfSome first (λ t. t < n)) (sym len) first_within)
-
-  pub given_back-step : (mid new : List (Option Node)) (s : ℕ) → IsHeld cells s → mid ≡ changed s (with_mark 2) slots
-      → new ≡ changed s (with_next Free first) mid → Step new (Some s) (s ∷ l.0) fresh (taken - 1) room cap (put cells s None)
-  given_back-step mid new s h e f =
+  pub given_back-step : (new : List (Option Node)) (s : ℕ) → IsHeld cells s → new ≡ changed s (given_back first) slots
+      → Step new (Some s) (s ∷ l.0) fresh (taken - 1) room cap (put cells s None)
+  given_back-step new s h e =
       let at = taken_at slots l.0 fresh s h.0 h.1 in
-      let m : Node = with_next Free first (with_mark 2 h.0) in
-      let is : new ≡ set slots s (Some m) = changed_at slots mid new s (with_mark 2 h.0) (with_next Free first) at.within (marked_at_first mid s h e) f in
+      let m : Node = given_back first h.0 in
+      let is : new ≡ set slots s (Some m) = e ∙ ap (λ z. set slots s (option_map (given_back first) z)) at.at_store in
       step_at (set slots s (Some m)) new (Some s) (s ∷ l.0) fresh (taken - 1) room cap (put cells s None) is (record {
-        chain = pushed (frees slots) (frees (set slots s (Some m))) s first l.0 at.away (λ t ne. links-set_other (λ n. n.free) slots s t (Some m) ne)
-            (links-set_same (λ n. n.free) slots s (Some m) at.within) l.1;
+        chain = pushed (frees slots) (frees (set slots s (Some m))) s first l.0 at.away (λ t ne. links-set_other (λ n. n.next) slots s t (Some m) ne)
+            (links-set_same (λ n. n.next) slots s (Some m) at.within) l.1;
         pool = given_back-pool slots l.0 fresh taken room cap p s h.0 h.1 m refl;
         cells_is = given_back-cells slots l.0 fresh taken room cap p s h.0 h.1 m;
       })
@@ -346,20 +310,11 @@ module _ (x : Inside) (p : IsPool x.store x.listed.0 x.fresh x.taken x.room x.ca
     abbrev pub front : (rest : List ℕ) × (l.0 ≡ s ∷ rest) × (next : Option ℕ) × (get_or (frees slots) s None ≡ Some next) × IsChain (frees slots) next rest
     front = popped (frees slots) first s l.0 l.1 is
 
-    abbrev pub front_node : (n : Node) × (get_or slots s None ≡ Some n) × (n.free ≡ front.2)
-    front_node = links_some (λ n. n.free) slots s front.2 front.3
-
-    held_of : (next : Option ℕ) → IfSome next (λ t. (0 < times t front.0) × ((k : Option ℕ) × (get_or (frees slots) t None ≡ Some k)))
-        → IfSome next (IsHeld slots)
-    held_of None h = tt
-    held_of (Some t) h = let n = links_some (λ n. n.free) slots t h.1.0 h.1.1 in (n.0, n.1)
+    abbrev pub front_node : (n : Node) × (get_or slots s None ≡ Some n) × (n.next ≡ front.2)
+    front_node = links_some (λ n. n.next) slots s front.2 front.3
 
     pub front_held : IsHeld slots s
     front_held = (front_node.0, front_node.1)
-
-    pub front_link : IfSome (get_or slots s None) (λ n. IfSome n.free (IsHeld slots))
-    front_link = subst (λ z. IfSome z (λ n. IfSome n.free (IsHeld slots))) (sym front_node.1)
-        (subst (λ z. IfSome z (IsHeld slots)) (sym front_node.2) (held_of front.2 (first_some (frees slots) front.2 front.0 front.4)))
 
     pub front_split : l.0 ≡ s ∷ front.0
     front_split = front.1
@@ -370,14 +325,14 @@ module _ (x : Inside) (p : IsPool x.store x.listed.0 x.fresh x.taken x.room x.ca
     pub front_below : s < cap
     front_below = omega (arith, reused-below slots l.0 fresh taken room cap p s front.0 front.1 front_held, p.fresh_in_cap)
 
-    pub reused-step : (new : List (Option Node)) (b : Node) (next : Option ℕ) → b.mark ≤ 1 → IfSome (get_or slots s None) (λ n. next ≡ n.free)
+    pub reused-step : (new : List (Option Node)) (b : Node) (next : Option ℕ) → b.mark ≤ 1 → IfSome (get_or slots s None) (λ n. next ≡ n.next)
         → new ≡ set slots s (Some b) → Step new next front.0 fresh (taken + 1) room cap (put cells s (Some b))
     reused-step new b next small led e =
-        let n_is : next ≡ front.2 = subst (λ z. IfSome z (λ n. next ≡ n.free)) front_node.1 led ∙ front_node.2 in
+        let n_is : next ≡ front.2 = subst (λ z. IfSome z (λ n. next ≡ n.next)) front_node.1 led ∙ front_node.2 in
         let away = reused-away slots l.0 fresh taken room cap p s front.0 front.1 front_held in
         step_at (set slots s (Some b)) new next front.0 fresh (taken + 1) room cap (put cells s (Some b)) e (record {
           chain = chain_stays (frees slots) (frees (set slots s (Some b))) s next front.0 away (λ t ne.
-              links-set_other (λ n. n.free) slots s t (Some b) ne) (subst (λ z. IsChain (frees slots) z front.0) (sym n_is) front.4);
+              links-set_other (λ n. n.next) slots s t (Some b) ne) (subst (λ z. IsChain (frees slots) z front.0) (sym n_is) front.4);
           pool = reused-pool slots l.0 fresh taken room cap p s front.0 front.1 front_held b small;
           cells_is = reused-cells slots l.0 fresh taken room cap p s front.0 front.1 front_held b;
         })

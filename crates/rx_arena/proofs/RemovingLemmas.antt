@@ -1,24 +1,22 @@
 -- A slot leaves its chain: what the chain is without it, and what the arena is then.
-use Rattle.std.proofs.Common.{◌≡◌, ◌≢◌, ℕ, zero, suc, ◌+◌, ◌-◌, ◌<◌, ◌≤◌, inl, inr, List, [], ◌∷◌, ◌++◌}
+use Rattle.std.proofs.Common.{◌≡◌, ◌≢◌, ℕ, ◌-◌, ◌<◌, ◌≤◌, inl, inr, List, [], ◌∷◌, ◌++◌}
 use Rattle.std.proofs.Common.{length, get_or, set, Some, None, IfSome, refl, sym, ap, subst, ◌∙◌, arith}
-use Rattle.std.specs.Prelude.{Option, MatchOption, cond, nat_eq, not}
-use Rattle.std.proofs.lemmas.List.{append_assoc, length-append, length-set, set-set, set-get_or}
+use Rattle.std.specs.Prelude.{Option, MatchOption, cond, not}
+use Rattle.std.proofs.lemmas.List.{append_assoc, length-append}
 use Rattle.std.proofs.lemmas.Bool.Decides.{eqb_tells}
 use Rattle.rx_arena.specs.declared.Slot.{Slot}
 use Rattle.rx_arena.specs.declared.arena.Arena.TheInside.{Inside}
-use Rattle.rx_arena.specs.declared.cells.Link.TheVariants.{Chain}
-use Rattle.rx_arena.specs.Inner.Node.{Node, with_next}
+use Rattle.rx_arena.specs.Inner.Node.{Node, with_chain}
 use Rattle.rx_arena.specs.Inner.Held.{IsHeld}
-use Rattle.rx_arena.specs.Inner.Links.{Links, IsChain, AreChains}
+use Rattle.rx_arena.specs.Inner.Links.{IsChain}
 use Rattle.rx_arena.specs.Inner.Pool.{PoolState}
-use Rattle.rx_arena.specs.Put.{one_if, times, times_in, put, altered, total}
+use Rattle.rx_arena.specs.Put.{one_if, times, altered, total}
 use Rattle.rx_arena.specs.Arena.{ArenaState, chain_at, InChain, IsFirst, IsArena, besides}
-use Rattle.rx_arena.proofs.WalkLemmas.{Walk, walk_begins, here, walk_split, walk_on, walked, chain_once}
-use Rattle.rx_arena.proofs.PutLemmas.{one_if-same, one_if-other, times_in-set, times_in-at, times-append}
+use Rattle.rx_arena.proofs.WalkLemmas.{Walk, walk_begins, walk_on, chain_once}
+use Rattle.rx_arena.proofs.PutLemmas.{one_if-same, one_if-other, times_in-at, times-append}
 use Rattle.rx_arena.proofs.ChainLemmas as chains
 use Rattle.rx_arena.proofs.ChainLemmas.{chain_after, chains_stay, chains-set, first_some, skipped}
 use Rattle.rx_arena.proofs.PoolLemmas.{links_some}
-use Rattle.rx_arena.proofs.ArenaLawLemmas.{shrink_law}
 use Rattle.rx_arena.proofs.ArenaStepLemmas.{ArenaStep, chain_links, opened, held_taken, led_held_by, led_apart_by, skip_step}
 use Rattle.rx_arena.proofs.TotalLemmas.{total-set}
 
@@ -101,7 +99,7 @@ module _ (x : Inside) (law : IsArena (opened x)) (c b s : ℕ) (front rest : Lis
         (led_apart_by x.pool.cells (λ n. n.chain) rest on.0 (first_some (chain_links x.pool.cells) on.0 rest on.2) b
         (omega (arith, once b, times-append b front (b ∷ s ∷ rest), one_if-same b)))
 
-    pub skips : (q : PoolState) → c < length x.chained.0 → q ≡ record x.pool { cells = altered b (with_next Chain next) x.pool.cells }
+    pub skips : (q : PoolState) → c < length x.chained.0 → q ≡ record x.pool { cells = altered b (with_chain next) x.pool.cells }
         → ArenaStep q x.heads x.gray_first (record (opened x) { chains = set x.chained.0 c (front ++ b ∷ rest) })
     skips q lt e = skip_step x law q c b s front rest next lt split once (on.1 ∙ ap Some (sym next_is)) (law.chained_taken b before_in) e
 
@@ -127,26 +125,6 @@ module _ (ss : List ℕ) (sought : ℕ) (last next : Option Slot) (inv : Seeking
     last_is = (inv.walk.before, refl);
     away = omega (arith, inv.away, times-append sought inv.walk.before (s.0 ∷ []), one_if-other s.0 sought ne);
   }
-
-  -- the slot is found behind the last one, or it is the first
-  abbrev pub Found : Option Slot → Type 0
-  Found None = (rest : List ℕ) × (ss ≡ s.0 ∷ rest)
-  Found (Some b) = (front : List ℕ) × (rest : List ℕ) × (ss ≡ front ++ b.0 ∷ s.0 ∷ rest)
-
-  found_by : (o : Option Slot) → IsLast o inv.walk.before → Found o
-  found_by None e = let w = here ss next inv.walk s is in (w.0, walk_split ss next inv.walk s is ∙ ap (λ z. z ++ s.0 ∷ w.0) e)
-  found_by (Some b) e =
-      let w = here ss next inv.walk s is in
-      (e.0, w.0, walk_split ss next inv.walk s is ∙ ap (λ z. z ++ s.0 ∷ w.0) e.1 ∙ append_assoc e.0 (b.0 ∷ []) (s.0 ∷ w.0))
-
-  pub seeking_found : Found last
-  seeking_found = found_by last inv.last_is
-
--- a walk to the end has passed the slot
-pub seeking_ends : (ss : List ℕ) (sought : ℕ) (last next : Option Slot) → Seeking ss sought last next → next ≡ None → 0 < times sought ss → ⊥
-seeking_ends ss sought last next inv e there =
-    let all = ap (times sought) (walked ss next inv.walk e) in
-    absurd (omega (arith, inv.away, all, there))
 
 -- the first slot of a chain is popped
 pub popped_slot : (a b : ArenaState) (c s : ℕ) (r : Option Slot) → IsArena a → (rest : List ℕ) × (chain_at a c ≡ s ∷ rest)

@@ -82,12 +82,6 @@ module _ (ss : List ℕ) (next : Option Slot) (w : Walk ss next) (s : Slot) (is 
     | inr e ↦ inl (omega (arith, h, e.0, times-append k w.before (s.0 ∷ [])))
   ]
 
-  pub passed_was : (k : ℕ) → 0 < times k w.before → 0 < times k (w.before ++ s.0 ∷ [])
-  passed_was k h = omega (arith, h, times-append k w.before (s.0 ∷ []))
-
-  pub passed_is : (k : ℕ) → k ≡ s.0 → 0 < times k (w.before ++ s.0 ∷ [])
-  passed_is k e = subst (λ z. 0 < times z (w.before ++ s.0 ∷ [])) (sym e) (omega (arith, one_if-same s.0, times-append s.0 w.before (s.0 ∷ [])))
-
   pub left_less : (far : Option Slot) → ((before after : List ℕ) → ss ≡ before ++ s.0 ∷ after → IsFirst far after) → ((t : ℕ) → times t ss ≤ 1)
       → length (left_of far ss) < length (left_of next ss)
   left_less far found once =

@@ -1,11 +1,11 @@
 -- What the proofs speak of inside this crate: no public contract cites it.
 pub mod Block
 pub mod Blocks
-pub mod Heads
 pub mod Held
 pub mod Links
-pub mod Marks
 pub mod Node
+pub mod Numbers
 pub mod Ownership
 pub mod Pool
 pub mod Real
+pub mod Tables

@@ -19,11 +19,10 @@ ghost use Rattle.rx_arena.specs.Arena.{marked_at, IsMarked, roots_at};
 ghost use Rattle.rx_arena.specs.Arena.{new_cell, with_count, with_marking};
 ghost use Rattle.rx_arena.specs.Arena.{IsFirst, is_unmarked, IsArena, empty_arena};
 
-use crate::cells::Link;
 use crate::faces::word;
 use crate::fault::ArenaFault;
-use crate::heads::{Heads, home};
 use crate::pool::Pool;
+use crate::slot_table::SlotTable;
 use crate::{CellBody, Slot};
 use std::alloc::Global;
 use std::marker::Model;
@@ -33,13 +32,13 @@ use std::marker::Model;
 pub struct Arena {
     alloc: Global,
     pool: Pool,
-    heads: Heads,
+    heads: SlotTable,
     gray_first: Option<u32>,
     linked: u32,
     ghost chained: { Chained (links (λ n. n.chain) pool.cells)
         heads } by { Chained-prop (links (λ n. n.chain) pool.cells) heads },
-    ghost grayed: { Listed (links (λ n. n.gray) pool.cells)
-        gray_first } by { Listed-prop (links (λ n. n.gray) pool.cells) gray_first },
+    ghost grayed: { Listed (links (λ n. n.next) pool.cells)
+        gray_first } by { Listed-prop (links (λ n. n.next) pool.cells) gray_first },
     ghost counted: { linked ≡ total chained.0 } by { total-prop linked chained.0 },
 }
 
@@ -51,6 +50,19 @@ impl Model for Arena {
     ghost view = { λ a. state_of a.pool a.chained.0 a.grayed.0 };
 
     ghost invariant = { λ a. IsArena (state_of a.pool a.chained.0 a.grayed.0) };
+}
+
+/// The chain that a hash names: its low bits, where the number of chains is a power of two.
+#[inline(always)]
+fn home(hash: u64, chains: u32) -> u32
+    requires { 0 < chains }
+    ensures { result ≡ hash % chains }
+{
+    if chains == 1 << chains.trailing_zeros() {
+        (hash & u64::from(chains - 1)) as u32
+    } else {
+        (hash % u64::from(chains)) as u32
+    }
 }
 
 /// The slot of a number.
@@ -70,7 +82,7 @@ impl Arena {
         ensures law { IfOk result IsArena }
         ensures fault { IfErr result (λ e. e ≡ ArenaFault.Memory) }
     {
-        let heads = Heads::new(alloc, chains)?;
+        let heads = SlotTable::new(alloc, chains)?;
         let pool = Pool::new(alloc, cap);
         Ok(Arena {
             alloc,
@@ -234,7 +246,7 @@ impl Arena {
             → chain_at self.now c ≡ before ++ slot.0 ∷ after → IsFirst result after }
         ensures law { IsArena self.now }
     {
-        slot_of(self.pool.next(slot.0, Link::Chain))
+        slot_of(self.pool.chain_next(slot.0))
     }
 
     /// Puts a slot in front of a chain.
@@ -247,8 +259,7 @@ impl Arena {
             { chains = slice_set self.old.chains chain (slot.0 ∷ chain_at self.old chain) } }
         ensures law { IsArena self.new }
     {
-        self.pool
-            .set_next(slot.0, Link::Chain, self.heads.get(chain));
+        self.pool.set_chain_next(slot.0, self.heads.get(chain));
         self.heads.set(chain, Some(slot.0));
         self.linked += 1;
     }
@@ -267,7 +278,7 @@ impl Arena {
     {
         match self.heads.get(chain) {
             Some(slot) => {
-                let next = self.pool.next(slot, Link::Chain);
+                let next = self.pool.chain_next(slot);
                 self.heads.set(chain, next);
                 self.linked -= 1;
                 Some(Slot(slot))
@@ -296,7 +307,7 @@ impl Arena {
         ensures law { IsArena self.new }
     {
         self.pool.set_mark(slot.0, true);
-        self.pool.set_next(slot.0, Link::Gray, self.gray_first);
+        self.pool.set_next(slot.0, self.gray_first);
         self.gray_first = Some(slot.0);
     }
 
@@ -307,7 +318,7 @@ impl Arena {
         ensures after { self.new ≡ record self.old { gray = slot.0 ∷ self.old.gray } }
         ensures law { IsArena self.new }
     {
-        self.pool.set_next(slot.0, Link::Gray, self.gray_first);
+        self.pool.set_next(slot.0, self.gray_first);
         self.gray_first = Some(slot.0);
     }
 
@@ -323,7 +334,7 @@ impl Arena {
     {
         match self.gray_first {
             Some(slot) => {
-                self.gray_first = self.pool.next(slot, Link::Gray);
+                self.gray_first = self.pool.next(slot);
                 Some(Slot(slot))
             }
             None => None,

@@ -1,47 +1,32 @@
 //! Cells in memory. Only this file and `room.rt` hold pointers. Each function here works on the
-//! cell at one place, and one that follows a link reads the number in the cell behind it too.
+//! cell at one place, and one that follows its link reads the number in the cell behind it too.
 ghost use Rattle.std.specs.Prelude.{◌≡◌, ℕ, ◌*◌, ◌<◌, List, [], ◌∷◌, ◌++◌, length, replicate};
 ghost use Rattle.std.specs.Prelude.{slice_set};
 ghost use Rattle.std.specs.Prelude.{Option, Some, None, IfSome};
 ghost use denote.RawPtr.{Ptr, InBlock};
 ghost use Rattle.rx_arena.specs.Inner.Real.{InBlock-prop, IsLast};
-ghost use Rattle.rx_arena.specs.Inner.Node.{Node, node_at, lone, led_to, changed, HaveLinks};
-ghost use Rattle.rx_arena.specs.Inner.Node.{with_roots, next_in, with_next};
+ghost use Rattle.rx_arena.specs.Inner.Node.{Stored, node_at, lone_cell, led_to, changed, HaveLinks};
+ghost use Rattle.rx_arena.specs.Inner.Node.{cell_with_roots, cell_with_chain};
 
 use crate::room::Room;
 use crate::{CellBody, Slot};
 use std::marker::{Model, PhantomData};
 use std::mem::size_of;
 
-/// One of the lists that a cell can stand in.
-#[derive(Clone, Copy)]
-pub enum Link {
-    Chain,
-    Gray,
-    Free,
-}
-
-/// For each list a pointer to the next cell, or to the cell itself at the end.
-#[derive(Clone, Copy)]
-pub struct Links {
-    chain: *mut Cell,
-    gray: *mut Cell,
-    free: *mut Cell,
-}
-
-/// A cell. The crate's root says how it lies.
+/// A cell, with a pointer to the next one of its chain, or to itself at the end. The crate's root
+/// says how it lies.
 pub struct Cell {
-    links: Links,
-    a: u64,
-    b: u64,
-    hash: u64,
-    anns: Option<Slot>,
+    chain: *mut Cell,
     number: u32,
     pub(crate) roots: u16,
     kind: u8,
+    hash: u64,
+    a: u64,
+    b: u64,
+    anns: Option<Slot>,
 }
 
-const _: () = prove!(size_of::<Cell>() == 64);
+const _: () = prove!(size_of::<Cell>() == 48);
 
 /// Where a block begins. It owns nothing.
 #[derive(Clone, Copy)]
@@ -57,34 +42,25 @@ pub struct Place {
     pub(crate) at: *mut Cell,
 }
 
-/// What a link is to become: the next slot, if there is one, and the pointer for it.
+/// What a cell's link is to become: the next slot, if there is one, and the pointer for it.
 #[derive(Clone, Copy)]
 pub struct Target {
     pub(crate) slot: Option<u32>,
     pub(crate) to: *mut Cell,
 }
 
-/// A link of the cell in a slot, and where it leads.
+/// A slot, and where the link of its cell leads.
 #[derive(Clone, Copy)]
 pub struct Lead {
     slot: u32,
-    link: Link,
     to: *mut Cell,
-}
-
-/// What the links of a cell are to become: one of them leads to the next slot, if there is one.
-#[derive(Clone, Copy)]
-pub struct Relink {
-    link: Link,
-    slot: Option<u32>,
-    links: Links,
 }
 
 /// The owner of the cells' memory. It takes no space.
 pub struct Cells {
     mark: PhantomData<*mut Cell>,
     ghost blocks: { List Ptr },
-    ghost slots: { List (Option Node) },
+    ghost slots: { List (Option Stored) },
 }
 
 impl Model for Cells {
@@ -93,47 +69,6 @@ impl Model for Cells {
     ghost also_owns = { λ c. slots_own c.blocks 0 c.slots };
 
     ghost also_shares = { λ c _ κ. slots_lent c.blocks 0 c.slots κ };
-}
-
-impl Links {
-    ghost use Rattle.rx_arena.specs.Inner.Ownership.{pointer_in, with_pointer};
-
-    /// Where a link leads.
-    #[inline(always)]
-    fn get(self, link: Link) -> *mut Cell
-        ensures { result ≡ pointer_in link self }
-    {
-        match link {
-            Link::Chain => self.chain,
-            Link::Gray => self.gray,
-            Link::Free => self.free,
-        }
-    }
-
-    /// The links with one of them to this cell.
-    #[inline(always)]
-    fn with(self, link: Link, to: *mut Cell) -> Links
-        ensures { result ≡ with_pointer link to self }
-    {
-        let Links { chain, gray, free } = self;
-        match link {
-            Link::Chain => Links {
-                chain: to,
-                gray,
-                free,
-            },
-            Link::Gray => Links {
-                chain,
-                gray: to,
-                free,
-            },
-            Link::Free => Links {
-                chain,
-                gray,
-                free: to,
-            },
-        }
-    }
 }
 
 impl Cell {
@@ -155,7 +90,7 @@ impl Cell {
 
 impl Cells {
     ghost use Rattle.rx_arena.specs.Inner.Ownership.{cell_of, link_to};
-    ghost use Rattle.rx_arena.specs.Inner.Held.{IsPlace, IsHeld, IsLead, IsRelink};
+    ghost use Rattle.rx_arena.specs.Inner.Held.{IsPlace, IsHeld, IsLead};
 
     /// An owner of no cells.
     pub(crate) fn new() -> Cells
@@ -194,32 +129,28 @@ impl Cells {
         let Cells { mark: _ } = self;
     }
 
-    /// Writes a new node into a slot, over what lies there.
+    /// Writes a new cell into a slot, over what lies there.
     #[inline(always)]
     pub(crate) fn fill(&mut self, at: Place, body: CellBody)
         requires { IsPlace self.old.blocks at × (at.slot < length self.old.slots) }
         ensures blocks { self.new.blocks ≡ self.old.blocks }
-        ensures slots { self.new.slots ≡ slice_set self.old.slots at.slot (Some (lone 0 body)) }
+        ensures slots { self.new.slots ≡ slice_set self.old.slots at.slot (Some (lone_cell body)) }
     {
         unsafe {
             at.at.write(Cell {
-                links: Links {
-                    chain: at.at,
-                    gray: at.at,
-                    free: at.at,
-                },
-                a: body.a,
-                b: body.b,
-                hash: body.hash,
-                anns: body.anns,
+                chain: at.at,
                 number: at.slot,
                 roots: 0,
                 kind: body.kind,
+                hash: body.hash,
+                a: body.a,
+                b: body.b,
+                anns: body.anns,
             })
         }
     }
 
-    /// Lends the cell, whose links only this file reads.
+    /// Lends the cell, whose link only this file reads.
     pub(crate) fn get(&self, at: Place) -> &Cell
         requires { IsPlace self.now.blocks at × IsHeld self.now.slots at.slot }
         ensures { IfSome (node_at self.now.slots at.slot)
@@ -232,67 +163,44 @@ impl Cells {
     pub(crate) fn set_roots(&mut self, at: Place, count: u16)
         requires { IsPlace self.old.blocks at × IsHeld self.old.slots at.slot }
         ensures blocks { self.new.blocks ≡ self.old.blocks }
-        ensures slots { self.new.slots ≡ changed at.slot (with_roots count) self.old.slots }
+        ensures slots { self.new.slots ≡ changed at.slot (cell_with_roots count) self.old.slots }
     {
         unsafe { (*at.at).roots = count }
     }
 
-    /// Writes the links.
-    fn set_links(&mut self, at: Place, new: Relink)
-        requires { IsPlace self.old.blocks at
-            × IsRelink self.old.blocks self.old.slots at.slot new }
-        ensures blocks { self.new.blocks ≡ self.old.blocks }
-        ensures slots { self.new.slots ≡ changed at.slot (with_next new.link new.slot)
-            self.old.slots }
-    {
-        unsafe { (*at.at).links = new.links }
-    }
-
-    /// Writes the link to the next cell of a list.
-    #[inline(always)]
-    pub(crate) fn set_link(&mut self, at: Place, link: Link, next: Target)
+    /// Writes the link to the next cell of the chain.
+    pub(crate) fn set_chain(&mut self, at: Place, next: Target)
         requires { IsPlace self.old.blocks at
             × IsHeld self.old.slots at.slot
             × (next.to ≡ link_to self.old.blocks at.slot next.slot) }
         ensures blocks { self.new.blocks ≡ self.old.blocks }
-        ensures slots { self.new.slots ≡ changed at.slot (with_next link next.slot) self.old.slots }
+        ensures slots { self.new.slots ≡ changed at.slot (cell_with_chain next.slot)
+            self.old.slots }
     {
-        let links = self.get(at).links.with(link, next.to);
-        self.set_links(
-            at,
-            Relink {
-                link,
-                slot: next.slot,
-                links,
-            },
-        )
+        unsafe { (*at.at).chain = next.to }
     }
 
     /// The number in the cell that a link leads to.
     fn number(&self, lead: Lead) -> u32
         requires { IsLead self.now.blocks self.now.slots lead }
         ensures { IfSome (node_at self.now.slots lead.slot)
-            (λ n. result ≡ led_to lead.slot (next_in lead.link n)) }
+            (λ n. result ≡ led_to lead.slot n.chain) }
     {
         unsafe { (*lead.to).number }
     }
 
-    /// The number of the cell that a link leads to: the cell's own, where the list ends.
+    /// The number of the cell that the link leads to: the cell's own, where the chain ends.
     #[inline(always)]
-    pub(crate) fn link_of(&self, at: Place, link: Link) -> u32
+    pub(crate) fn chain_number(&self, at: Place) -> u32
         requires { IsPlace self.now.blocks at
             × IsHeld self.now.slots at.slot
             × IfSome (node_at self.now.slots at.slot)
-            (λ n. IsHeld self.now.slots (led_to at.slot (next_in link n))) }
+            (λ n. IsHeld self.now.slots (led_to at.slot n.chain)) }
         ensures { IfSome (node_at self.now.slots at.slot)
-            (λ n. result ≡ led_to at.slot (next_in link n)) }
+            (λ n. result ≡ led_to at.slot n.chain) }
     {
-        let to = self.get(at).links.get(link);
-        self.number(Lead {
-            slot: at.slot,
-            link,
-            to,
-        })
+        let to = self.get(at).chain;
+        self.number(Lead { slot: at.slot, to })
     }
 }
 
@@ -303,7 +211,7 @@ impl Base {
     /// Where the cell with this index in the block lies.
     pub(crate) fn cell(self, index: usize) -> *mut Cell
         requires { index < 1024 }
-        ensures { result ≡ self.at +ₚ (index * 64) }
+        ensures { result ≡ self.at +ₚ (index * 48) }
     {
         unsafe { self.at.add(index) }
     }

@@ -5,16 +5,15 @@ ghost use Rattle.std.specs.Prelude.{◌≢◌, IsTrue, OnErr, OnSome, IfNone, ge
 ghost use Rattle.rx_arena.specs.Inner.Held.{IsHeld};
 ghost use Rattle.rx_arena.specs.Faces.{ask, word_of};
 ghost use Rattle.rx_arena.specs.Inner.Node as spec;
-ghost use Rattle.rx_arena.specs.Inner.Node.{Node, lone, has_mark, is_protected_node, next_in, with_mark};
-ghost use Rattle.rx_arena.specs.Inner.Node.{with_next, with_roots};
+ghost use Rattle.rx_arena.specs.Inner.Node.{Node, lone, has_mark, is_protected_node, with_mark};
+ghost use Rattle.rx_arena.specs.Inner.Node.{with_chain, with_next, with_roots};
 ghost use Rattle.rx_arena.specs.Put.{put, filled, altered};
 ghost use Rattle.rx_arena.specs.Inner.Links.{Listed, Listed-prop, links};
 ghost use Rattle.rx_arena.specs.Inner.Pool.{spare_of, is_unmarked_node};
 
 use crate::CellBody;
-use crate::cells::Link;
 use crate::fault::ArenaFault;
-use crate::marked::{GIVEN_BACK, MarkedStore};
+use crate::slots::{GIVEN_BACK, Slots};
 use std::alloc::Global;
 use std::marker::Model;
 
@@ -37,15 +36,15 @@ fn mark_of(turned: bool, marked: bool) -> u8
 /// The slots that are taken. A slot that is given back is the next to be taken.
 #[derive(Drop)]
 pub(crate) struct Pool {
-    store: MarkedStore,
+    store: Slots,
     free: Option<u32>,
     fresh: u32,
     taken: u32,
     room: u32,
     cap: u32,
     turned: bool,
-    ghost listed: { Listed (links (λ n. n.free) store)
-        free } by { Listed-prop (links (λ n. n.free) store) free },
+    ghost listed: { Listed (links (λ n. n.next) store)
+        free } by { Listed-prop (links (λ n. n.next) store) free },
 }
 
 impl Model for Pool {
@@ -79,7 +78,7 @@ impl Pool {
         } }
     {
         Pool {
-            store: MarkedStore::new(alloc),
+            store: Slots::new(alloc),
             free: None,
             fresh: 0,
             taken: 0,
@@ -123,7 +122,7 @@ impl Pool {
     {
         match self.free {
             Some(slot) => {
-                self.free = self.store.next(slot, Link::Free);
+                self.free = self.store.next(slot);
                 self.store
                     .fill(slot, body, word, mark_of(self.turned, false));
                 self.taken += 1;
@@ -179,8 +178,7 @@ impl Pool {
             { cells = put self.old.cells slot None; free = slot ∷ self.old.free } }
         ensures spare { spare_of self.new ≡ spare_of self.old + 1 }
     {
-        self.store.give_back(slot);
-        self.store.set_next(slot, Link::Free, self.free);
+        self.store.give_back(slot, self.free);
         self.free = Some(slot);
         self.taken -= 1;
     }
@@ -251,14 +249,23 @@ impl Pool {
         self.store.mark(slot) != mark_of(self.turned, false)
     }
 
-    /// The next slot of a list.
+    /// The next slot of a taken slot's chain.
     #[inline(always)]
-    pub(crate) fn next(&self, slot: u32, link: Link) -> Option<u32>
+    pub(crate) fn chain_next(&self, slot: u32) -> Option<u32>
         requires { IsHeld self.now.cells slot × IfSome (get_or self.now.cells slot None)
-            (λ n. IfSome (next_in link n) (IsHeld self.now.cells)) }
-        ensures { IfSome (get_or self.now.cells slot None) (λ n. result ≡ next_in link n) }
+            (λ n. IfSome n.chain (IsHeld self.now.cells)) }
+        ensures { IfSome (get_or self.now.cells slot None) (λ n. result ≡ n.chain) }
     {
-        self.store.next(slot, link)
+        self.store.chain_next(slot)
+    }
+
+    /// The next slot of a list of taken slots.
+    #[inline(always)]
+    pub(crate) fn next(&self, slot: u32) -> Option<u32>
+        requires { IsHeld self.now.cells slot }
+        ensures { IfSome (get_or self.now.cells slot None) (λ n. result ≡ n.next) }
+    {
+        self.store.next(slot)
     }
 
     /// Sets how often a taken slot is rooted.
@@ -289,15 +296,26 @@ impl Pool {
         self.turned = !self.turned;
     }
 
-    /// Links a taken slot to the next one of a list.
+    /// Links a taken slot to the next one of its chain.
     #[inline(always)]
-    pub(crate) fn set_next(&mut self, slot: u32, link: Link, next: Option<u32>)
+    pub(crate) fn set_chain_next(&mut self, slot: u32, next: Option<u32>)
         requires held { IsHeld self.old.cells slot × IfSome next (IsHeld self.old.cells) }
         requires apart { IfSome next (λ t. ¬ (t ≡ slot)) }
         ensures { self.new ≡ record self.old
-            { cells = altered slot (with_next link next) self.old.cells } }
+            { cells = altered slot (with_chain next) self.old.cells } }
     {
-        self.store.set_next(slot, link, next)
+        self.store.set_chain_next(slot, next)
+    }
+
+    /// Links a taken slot to the next one of a list of taken slots.
+    #[inline(always)]
+    pub(crate) fn set_next(&mut self, slot: u32, next: Option<u32>)
+        requires held { IsHeld self.old.cells slot }
+        requires small { IfSome next (λ t. t < 4294967295) }
+        ensures { self.new ≡ record self.old
+            { cells = altered slot (with_next next) self.old.cells } }
+    {
+        self.store.set_next(slot, next)
     }
 
     /// Takes a slot, one that was given back where there is one, for a body whose word is known.

@@ -2,14 +2,14 @@
 ghost use Rattle.std.specs.Prelude.{◌≡◌, ◌≢◌, ℕ, ◌*◌, ◌<◌, List, [], ◌++◌, length, replicate};
 ghost use Rattle.std.specs.Prelude.{slice_set};
 ghost use Rattle.std.specs.Prelude.{Option, Some, None, IfSome, OnOk, OnErr};
-ghost use Rattle.rx_arena.specs.Inner.Node.{Node, node_at, lone, changed};
-ghost use Rattle.rx_arena.specs.Inner.Node.{with_roots, next_in, with_next};
+ghost use Rattle.rx_arena.specs.Inner.Node.{Stored, node_at, lone_cell, changed};
+ghost use Rattle.rx_arena.specs.Inner.Node.{cell_with_roots, cell_with_chain};
 ghost use Rattle.rx_arena.specs.Inner.Held.{IsHeld};
 ghost use Rattle.rx_arena.specs.Inner.Ownership as spec;
 ghost use Rattle.rx_arena.specs.Inner.Blocks.{bases};
 
 use crate::CellBody;
-use crate::cells::{Base, Cells, Link, Place, Target};
+use crate::cells::{Base, Cells, Place, Target};
 use crate::room::{BLOCK, Lease, allocate};
 use std::alloc::{AllocError, Allocator, Global};
 use std::marker::Model;
@@ -30,10 +30,10 @@ pub struct Store<A: Allocator + Copy = Global> {
 
 impl<A: Allocator + Copy> Model for Store<A> {
     ghost use Rattle.std.specs.Prelude.{List, Option};
-    ghost use Rattle.rx_arena.specs.Inner.Node.{Node};
+    ghost use Rattle.rx_arena.specs.Inner.Node.{Stored};
     ghost use Rattle.rx_arena.specs.Inner.Blocks.{Agree};
 
-    ghost Value = { List (Option Node) };
+    ghost Value = { List (Option Stored) };
 
     ghost view = { λ s. s.cells.slots };
 
@@ -52,7 +52,7 @@ fn place<A: Allocator>(blocks: &[Block<A>], slot: u32) -> Place
     }
 }
 
-/// What a link of `slot` becomes.
+/// What the link of `slot` becomes.
 fn target<A: Allocator>(blocks: &[Block<A>], slot: u32, next: Option<u32>) -> Target
     requires slot { slot < 1024 * length blocks.now }
     requires next { IfSome next (λ t. t < 1024 * length blocks.now) }
@@ -68,7 +68,7 @@ fn target<A: Allocator>(blocks: &[Block<A>], slot: u32, next: Option<u32>) -> Ta
     }
 }
 
-/// The slot that a link of `slot` is to, by the number found behind the link.
+/// The slot that the link of `slot` is to, by the number found behind the link.
 fn other(slot: u32, found: u32) -> Option<u32>
     ensures end { found ≡ slot → result ≡ None }
     ensures on { found ≢ slot → result ≡ Some found }
@@ -104,11 +104,11 @@ impl<A: Allocator + Copy> Store<A> {
         }
     }
 
-    /// Puts a new node with this body, in no list, over what lies at the slot.
+    /// Puts a new cell with this body, in no chain, over what lies at the slot.
     #[inline(always)]
     pub(crate) fn fill(&mut self, slot: u32, body: CellBody)
         requires { slot < length self.old }
-        ensures { self.new ≡ slice_set self.old slot (Some (lone 0 body)) }
+        ensures { self.new ≡ slice_set self.old slot (Some (lone_cell body)) }
     {
         let at = place(&self.blocks, slot);
         self.cells.fill(at, body)
@@ -133,32 +133,32 @@ impl<A: Allocator + Copy> Store<A> {
     /// Replaces the root count.
     pub(crate) fn set_roots(&mut self, slot: u32, count: u16)
         requires { IsHeld self.old slot }
-        ensures { self.new ≡ changed slot (with_roots count) self.old }
+        ensures { self.new ≡ changed slot (cell_with_roots count) self.old }
     {
         let at = place(&self.blocks, slot);
         self.cells.set_roots(at, count)
     }
 
-    /// The next slot of a list.
+    /// The next slot of the chain.
     #[inline(always)]
-    pub(crate) fn next(&self, slot: u32, link: Link) -> Option<u32>
+    pub(crate) fn chain_next(&self, slot: u32) -> Option<u32>
         requires { IsHeld self.now slot
-            × IfSome (node_at self.now slot) (λ n. IfSome (next_in link n) (IsHeld self.now)) }
-        ensures { IfSome (node_at self.now slot) (λ n. result ≡ next_in link n) }
+            × IfSome (node_at self.now slot) (λ n. IfSome n.chain (IsHeld self.now)) }
+        ensures { IfSome (node_at self.now slot) (λ n. result ≡ n.chain) }
     {
-        other(slot, self.cells.link_of(place(&self.blocks, slot), link))
+        other(slot, self.cells.chain_number(place(&self.blocks, slot)))
     }
 
-    /// Links the slot to the next one of a list.
+    /// Links the slot to the next one of its chain.
     #[inline(always)]
-    pub(crate) fn set_next(&mut self, slot: u32, link: Link, next: Option<u32>)
+    pub(crate) fn set_chain_next(&mut self, slot: u32, next: Option<u32>)
         requires held { IsHeld self.old slot × IfSome next (λ t. t < length self.old) }
         requires apart { IfSome next (λ t. ¬ (t ≡ slot)) }
-        ensures { self.new ≡ changed slot (with_next link next) self.old }
+        ensures { self.new ≡ changed slot (cell_with_chain next) self.old }
     {
         let at = place(&self.blocks, slot);
         let target = target(&self.blocks, slot, next);
-        self.cells.set_link(at, link, target)
+        self.cells.set_chain(at, target)
     }
 }
 

@@ -1,5 +1,5 @@
 -- Slot by slot, from the last one down, what is not marked leaves the chain that its hash names, and goes back.
-use Rattle.std.proofs.Common.{◌≡◌, ◌≢◌, ℕ, ◌+◌, ◌%◌, ◌<◌, ◌≤◌, ◌⊎◌, inl, inr, List, [], ◌∷◌, length}
+use Rattle.std.proofs.Common.{◌≡◌, ◌≢◌, ℕ, ◌+◌, ◌%◌, ◌<◌, ◌≤◌, inl, inr, List, [], ◌∷◌, length}
 use Rattle.std.proofs.Common.{get_or, set, map, Some, None, refl, sym, ap, subst, ◌∙◌, arith}
 use Rattle.std.specs.Prelude.{Option, Bool, true, false, not, cond, filter, nat_eq, nat_lt}
 use Rattle.std.proofs.lemmas.List.{length-set, get_or-set_same, get_or-set_other}
@@ -48,13 +48,6 @@ filter-all : (p : ℕ → Bool) (ts : List ℕ) → ((s : ℕ) → 0 < times s t
 filter-all p [] all = refl
 filter-all p (t ∷ ts) all = ap (λ y. cond y (t ∷ filter p ts) (filter p ts)) (all t (omega (arith, one_if-same t)))
     ∙ ap (λ z. t ∷ z) (filter-all p ts (λ s h. all s (omega (arith, h))))
-
--- a filtered list names nothing more
-times-filter_less : (p : ℕ → Bool) (s : ℕ) (ts : List ℕ) → 0 < times s (filter p ts) → 0 < times s ts
-times-filter_less p s ts h = elim (true_or_false (p s)) [
-  | inl is ↦ subst (λ n. 0 < n) (times-filter_true p s ts is) h
-  | inr is ↦ absurd (omega (arith, h, times-filter_false p s ts is))
-]
 
 -- a taken slot that is not unmarked is marked
 pub not_white : (o : Option Taken) (t : Taken) → is_unmarked o ≡ false → is_marked o ≡ false → o ≡ Some t → ⊥

@@ -5,7 +5,7 @@ use rx_arena::Store;
 use std::process::Abort;
 
 /// How many bytes the cells of a block take.
-const BLOCK_BYTES: usize = 1024 * 64;
+const BLOCK_BYTES: usize = 1024 * 48;
 
 /// Stops where other than so many blocks are taken from a heap: what is taken beside them is less
 /// than a block.

@@ -11,9 +11,9 @@ ghost use Rattle.rx_arena.specs.Arena.{hash_at};
 ghost use Rattle.rx_arena.specs.Arena.{times_hashed, IsArena};
 
 use crate::Slot;
-use crate::arena::Arena;
+use crate::arena::{Arena, home};
 use crate::fault::ArenaFault;
-use crate::heads::{Heads, home};
+use crate::slot_table::SlotTable;
 
 impl Arena {
     /// Keeps the first chains alone, where the others are empty.
@@ -22,7 +22,7 @@ impl Arena {
         ensures after { self.new ≡ record self.old { chains = take count self.old.chains } }
         ensures law { IsArena self.new }
     {
-        self.heads.truncate(count);
+        self.heads.truncate(count as usize);
     }
 
     /// Moves each slot of a chain to the one of the first `count` chains that its hash names.
@@ -61,16 +61,16 @@ impl Arena {
     }
 
     /// The heads of so many empty chains.
-    fn empty_heads(&self, count: u32) -> Result<Heads, ArenaFault>
+    fn empty_heads(&self, count: u32) -> Result<SlotTable, ArenaFault>
         ensures ok { IfOk result (λ h. h ≡ replicate count None) }
         ensures fault { IfErr result (λ e. e ≡ ArenaFault.Memory) }
         ensures law { IsArena self.now }
     {
-        Heads::new(self.alloc, count)
+        SlotTable::new(self.alloc, count)
     }
 
     /// Puts the one chain behind `count` empty ones, whose heads these are, with one for its own.
-    fn put_behind(&mut self, empty: Heads, count: u32)
+    fn put_behind(&mut self, empty: SlotTable, count: u32)
         requires one { length self.old.chains ≡ 1 }
         requires empty { empty ≡ replicate (count + 1) None }
         requires count { count ≤ 2 ^ 30 }
@@ -111,7 +111,7 @@ impl Arena {
         ensures fault { IfErr result (λ e. e ≡ ArenaFault.Memory) }
         ensures law { IsArena self.new }
     {
-        let heads = Heads::new(self.alloc, count)?;
+        let heads = SlotTable::new(self.alloc, count)?;
         self.heads = heads;
         self.linked = 0;
         Ok(())

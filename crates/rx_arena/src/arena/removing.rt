@@ -7,7 +7,6 @@ ghost use Rattle.rx_arena.specs.Arena.{chain_at, besides, IsArena};
 
 use crate::Slot;
 use crate::arena::Arena;
-use crate::cells::Link;
 
 impl Arena {
     /// The slot before this one in its chain; none, where the chain begins with it.
@@ -43,8 +42,8 @@ impl Arena {
         } }
         ensures law { IsArena self.new }
     {
-        let next = self.pool.next(slot.0, Link::Chain);
-        self.pool.set_next(before.0, Link::Chain, next);
+        let next = self.pool.chain_next(slot.0);
+        self.pool.set_chain_next(before.0, next);
         self.linked -= 1;
     }
 

@@ -2,7 +2,7 @@ use Rattle.std.proofs.Common.{Some, ◌≡◌, ◌∷◌, sym, ap, subst, ◌∙
 use Rattle.rx_arena.specs.Put.{altered}
 use Rattle.rx_arena.specs.Arena.{ArenaState, IsTaken, marked_at, with_marking}
 use Rattle.rx_arena.proofs.ArenaLawLemmas.{unmarked_away}
-use Rattle.rx_arena.proofs.ArenaStepLemmas.{ArenaStep, opened, gray_push_step, gray_push_held, gray_apart, step_law, step_state, held_taken}
+use Rattle.rx_arena.proofs.ArenaStepLemmas.{ArenaStep, opened, gray_push_step, gray_push_held, gray_small, step_law, step_state, held_taken}
 use Rattle.rx_arena.proofs.arena.Arena.gray_push.Goals.{After-set_next}
 use Rattle.rx_arena.proofs.arena.Arena.gray_push.Goals as goal
 
@@ -18,10 +18,8 @@ set_next-requires-clause-held c =
     gray_push_held c.self.inside c.self.invariant c.set_mark.new.self c.set_mark.new.self c.args.slot.0 h
     (unmarked_away _ c.self.invariant c.args.slot.0 unmarked) c.set_mark.ensures
 
-pub set_next-requires-clause-apart : goal.set_next-requires-clause-apart
-set_next-requires-clause-apart c =
-    let unmarked = subst (λ (v : ArenaState). marked_at v c.args.slot.0 ≡ false) (sym c.self.view_is) c.requires.unmarked in
-    gray_apart c.self.inside c.self.invariant c.args.slot.0 (unmarked_away _ c.self.invariant c.args.slot.0 unmarked)
+pub set_next-requires-clause-small : goal.set_next-requires-clause-small
+set_next-requires-clause-small c = gray_small c.self.inside c.self.invariant
 
 -- what the call makes of the parts
 stepped : (c : After-set_next) → ArenaStep c.set_next.new.self c.self.inside.heads (Some c.args.slot.0)

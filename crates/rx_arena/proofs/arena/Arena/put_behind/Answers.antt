@@ -2,7 +2,6 @@ use Rattle.std.proofs.Common.{◌≡◌, ◌+◌, ◌<◌, [], List, ℕ, None, 
 use Rattle.std.specs.Prelude.{Option, replicate}
 use Rattle.std.proofs.lemmas.List.{length-replicate}
 use Rattle.rx_arena.specs.Arena.{ArenaState, chain_at}
-use Rattle.rx_arena.specs.Inner.Held.{IsHeld}
 use Rattle.std.specs.Prelude.{IfSome}
 use Rattle.rx_arena.proofs.ArenaStepLemmas.{ArenaStep, opened, behind_step, within_heads, held_small, head_held, step_law, step_state}
 use Rattle.rx_arena.proofs.TotalLemmas.{total-behind}
@@ -14,8 +13,8 @@ get-head-requires c =
     let one = subst (λ (v : ArenaState). length v.chains ≡ 1) (sym c.self.view_is) c.requires.one in
     within_heads c.self.inside c.self.invariant 0 (omega (arith, one))
 
-pub set-requires-clause-chain : goal.set-requires-clause-chain
-set-requires-clause-chain c =
+pub set-requires-clause-entry : goal.set-requires-clause-entry
+set-requires-clause-entry c =
     let none : Option ℕ = None in
     let long = ap length c.requires.empty in
     omega (arith, long, length-replicate (c.args.count + 1) none)

@@ -21,7 +21,7 @@ use denote.Signature.{types_at}
 use denote.Steps.{nothing, heard}
 use denote.Triple.Walked.{Stays, walk_of, stay_dropped, Goes-dropped}
 use Rattle.std.proofs.VecSteps.Shapes.{after}
-use Rattle.rx_arena.specs.Inner.Node.{Node, led_to, next_in}
+use Rattle.rx_arena.specs.Inner.Node.{Stored, led_to}
 use Rattle.rx_arena.specs.Inner.Held.{IsLead}
 use Rattle.rx_arena.specs.Inner.Ownership.{cell_of}
 use Rattle.rx_arena.specs.declared.cells.Place.{Place}
@@ -51,11 +51,11 @@ number_spec 𝓤 𝓛 𝓜 𝓡 wired =
     let Runs = λ (q : Ptr). prop (WpFn 𝓤 𝓛.H 𝓣.C 𝓣.Λ code.function (vptr rb ro ∷ lead_val (record p { to = q }) ∷ []) (W.post y)) in
     qed 𝓛 (((‵ (flft κ qs.0) ⊛ ‵ ftrue) ⊛ ‵ (owns (types_at f.signature.params κs) a y.0.4)) ∷ raw (fact 𝓤 Asked) ∷ []) ∵
     move ! (1 ∷ []) $ heard ! Asked (λ asked. split ! $ split ! $ move ! (2 ∷ []) $ fsplit ! $ fsplit ! $ keep ! (1 ∷ 3 ∷ []) $
-    let t = led_to p.slot (next_in p.link asked.0) in let m = asked.3.0 in
+    let t = led_to p.slot asked.0.chain in let m = asked.3.0 in
     let next : Place = record { slot = t; at = p.to } in let x = cell_of d.blocks t m in
-    let Named = λ (n : Node). t ≡ led_to p.slot (next_in p.link n) in
+    let Named = λ (n : Stored). t ≡ led_to p.slot n.chain in
     let Given = IfSome (get_or d.slots p.slot None) Named in
-    let given : Given = subst (λ (z : Option Node). IfSome z Named) (sym asked.1) refl in
+    let given : Given = subst (λ (z : Option Stored). IfSome z Named) (sym asked.1) refl in
     -- [what the `&` to the owner holds; the token]
     unhide ! $ fsplit ! $ drop ! $
     slot_looks d.blocks d.slots next m ! asked.2 asked.3.1 (λ b o e.
@@ -66,8 +66,8 @@ number_spec 𝓤 𝓛 𝓜 𝓡 wired =
     let E = env code.Mir.locals l in
     cell_seen ! tt x b o (λ part fits. let few = fits.1 in
     first ! $ blocks ! $
-    sets_last ! (of_opd ! (load ! (from ! (fld ! refl (hop ! (look_in_at ! 2 (sub ! 2 refl (whole !))) (fld ! refl (stop !)))))
-    (look_in ! 0 (sub ! 5 refl (whole !))))) refl (tt, record { fits = few }) $
+    sets_last ! (of_opd ! (load ! (from ! (fld ! refl (hop ! (look_in_at ! 2 (sub ! 1 refl (whole !))) (fld ! refl (stop !)))))
+    (look_in ! 0 (sub ! 1 refl (whole !))))) refl (tt, record { fits = few }) $
     exec ! 𝓣.C 𝓣.Λ E (after 1 code.function.body) (at_ret E (W.post y)) $ cell_shut ! tt part x b o fits $
     sets ! (of_opd ! (get ! refl)) refl (tt, record { fits = few }) $ returns ! (look_at ! 0 refl) $ free_all ! refl $
     flt_i ! t (2 ^ 32) few $ feq_i ! (List Val) (vint w32 t ∷ []) (vint w32 t ∷ []) refl $ fjoin ! $ use0 𝓛 (raw (fact 𝓤 Given))

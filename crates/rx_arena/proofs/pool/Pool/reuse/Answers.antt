@@ -4,24 +4,21 @@ use Rattle.rx_arena.specs.Put.{put, filled}
 use Rattle.rx_arena.specs.Inner.Pool.{PoolState}
 use Rattle.rx_arena.specs.Inner.Pool.{spare_of}
 use Rattle.rx_arena.proofs.ChainLemmas.{ended}
-use Rattle.rx_arena.proofs.SlotLemmas.{held_within}
+use Rattle.rx_arena.proofs.PutLemmas.{within_some}
 use Rattle.rx_arena.proofs.PoolStepLemmas.{Step, cells_in, mark_of_small, reused-step, step_pool, step_free, step_cells, same_pool}
-use Rattle.rx_arena.proofs.PoolStepLemmas.{front, front_held, front_link, front_split, front_free, front_below, pool_fits}
+use Rattle.rx_arena.proofs.PoolStepLemmas.{front, front_held, front_split, front_free, front_below, pool_fits}
 use Rattle.rx_arena.proofs.pool.Pool.reuse.Goals.{After-fill}
 use Rattle.rx_arena.proofs.pool.Pool.reuse.Goals as goal
 
 pub next-self-inside-requires : goal.next-self-inside-requires
-next-self-inside-requires c = (
-  front_held c.self.inside c.self.invariant c.in-Some.slot c.in-Some.is,
-  front_link c.self.inside c.self.invariant c.in-Some.slot c.in-Some.is,
-)
+next-self-inside-requires c = front_held c.self.inside c.self.invariant c.in-Some.slot c.in-Some.is
 
 pub fill-requires-clause-mark : goal.fill-requires-clause-mark
 fill-requires-clause-mark c = subst (λ k. k ≤ 1) (sym c.mark_of.ensures) (mark_of_small c.self.inside.turned false)
 
 pub fill-requires-clause-slot : goal.fill-requires-clause-slot
 fill-requires-clause-slot c = let h = front_held c.self.inside c.self.invariant c.in-Some.slot c.in-Some.is in
-    held_within c.self.inside.store c.in-Some.slot h.0 h.1
+    within_some c.self.inside.store c.in-Some.slot h.0 h.1
 
 -- what the call makes of the parts
 stepped : (c : After-fill) → Step c.fill.new.self c.next-self-inside.result (front c.self.inside c.self.invariant c.in-Some.slot c.in-Some.is).0
