@@ -10,5 +10,5 @@ returns-then-place-len-clause-others c k p apart is =
     let counted = sets.ok.0 in
     let len = c.len.ensures in
     let within = c.if-place-len.true in
-    look_up-before sets.items c.args.self.now.count k c.place_in-place.result c.index.result.now c.led_by.result p (omega arith)
-    (λ h. ap (λ (s : Set). answer_of s k) (sym c.index.ensures) ∙ c.led_by.ensures.others k p apart h) is
+    look_up-before sets.items c.args.self.now.count k c.place_in-place.result c.index.result.now c.put_first.result p (omega arith)
+    (λ h. ap (λ (s : Set). answer_of s k) (sym c.index.ensures) ∙ c.put_first.ensures.others k p apart h) is

@@ -20,8 +20,8 @@ invariant_of-self-clause-idle g c k flag =
     let counted = sets.ok.0 in
     let within = c.loop-place-test.true in
     let old = c.index-in-loop-place.result.now in
-    let kept : c.kept-set.result ≡ kept_by (is_held w) (blank_entry place) (get_or sets.items place old) =
-    c.kept-set.ensures ∙ ap (λ (b : Entry). kept_by (is_held w) b old) c.blank.ensures
+    let kept : c.keep_held-set.result ≡ kept_by (is_held w) (blank_entry place) (get_or sets.items place old) =
+    c.keep_held-set.ensures ∙ ap (λ (b : Entry). kept_by (is_held w) b old) c.blank.ensures
     ∙ ap (kept_by (is_held w) (blank_entry place)) c.index-in-loop-place.ensures in
     ap (λ (s : Set). look_up (slice_set sets.items place s) count k) kept
     ∙ kept-none w sets.items count k place _ (c.loop-place.self.counted (omega arith)).0 (omega arith) (c.loop-place.self.idle k flag)
@@ -42,8 +42,8 @@ loop-place-preserved g c =
     let short : place < length sets.items = omega arith in
     let many = (c.loop-place.self.counted (omega arith)).0 in
     let old = c.index-in-loop-place.result.now in
-    let kept : c.kept-set.result ≡ kept_by (is_held w) (blank_entry place) (get_or sets.items place old) =
-    c.kept-set.ensures ∙ ap (λ (b : Entry). kept_by (is_held w) b old) c.blank.ensures
+    let kept : c.keep_held-set.result ≡ kept_by (is_held w) (blank_entry place) (get_or sets.items place old) =
+    c.keep_held-set.ensures ∙ ap (λ (b : Entry). kept_by (is_held w) b old) c.blank.ensures
     ∙ ap (kept_by (is_held w) (blank_entry place)) c.index-in-loop-place.ensures in
     let inside : block_of place ≡ c.args.block = omega arith in
     record {
@@ -55,7 +55,7 @@ loop-place-preserved g c =
       others = λ k apart. look_up-set-other sets.items count k place _ (λ e. apart (ap block_of e ∙ inside)) ∙ before.others k apart;
       free = λ none k here lt.
           let left = neither c.loop-place.left c.is_free.result none in
-          free-turn sets.items count k place c.kept-set.result many short (sym c.is_free.ensures ∙ left.1) (before.free left.0 k here) lt;
+          free-turn sets.items count k place c.keep_held-set.result many short (sym c.is_free.ensures ∙ left.1) (before.free left.0 k here) lt;
     }
 
 pub invariant_of-self-2-clause-idle : goal.invariant_of-self-2-clause-idle

@@ -2,7 +2,7 @@ use Rattle.std.proofs.Common.{List, ◌++◌, ap, subst, sym, ◌∙◌}
 use Rattle.rx_term.specs.declared.Term.{Term}
 use Rattle.rec_memo.specs.Handed.{HandsOver}
 use Rattle.rec_memo.proofs.HandedLemmas.{hands-none, hands-more}
-use Rattle.rec_memo.proofs.memo.Memo.gathered.Goals as goal
+use Rattle.rec_memo.proofs.memo.Memo.gather.Goals as goal
 
 pub loop-block-init : goal.loop-block-init
 loop-block-init g c =
