@@ -100,7 +100,7 @@ impl SharedBank {
 
     /// The same, where the word beside the cell says it.
     #[inline(always)]
-    fn said(&self, t: Term) -> Option<Face>
+    fn face_beside(&self, t: Term) -> Option<Face>
         requires { IsSome (tree_at (store_of self.now) t) }
         ensures { IfSome result (HoldsFace self.now.arena t.0) }
     {
@@ -227,7 +227,7 @@ impl TermBank for SharedBank {
 
     #[inline(always)]
     fn kind(&self, t: Term) -> Kind {
-        match self.said(t) {
+        match self.face_beside(t) {
             Some(face) => self.kind_of(t, face),
             None => self.kind_in_cell(t),
         }

@@ -2,7 +2,7 @@ use Rattle.std.proofs.Common.{◌≡◌, subst}
 use Rattle.std.specs.Prelude.{IfSome}
 use Rattle.rx_arena.specs.Faces.{word_of}
 use Rattle.rx_shared.proofs.ReadingLemmas.{held-taken, faces-held}
-use Rattle.rx_shared.proofs.bank.SharedBank.said.Goals as goal
+use Rattle.rx_shared.proofs.bank.SharedBank.face_beside.Goals as goal
 
 pub word-requires : goal.word-requires
 word-requires c = held-taken c.args.self.now c.args.t.0 c.requires
