@@ -18,7 +18,7 @@ pub struct Words {
 }
 
 /// A copy of some bytes.
-fn copied(alloc: Global, bytes: &[u8]) -> Result<Vec<u8>, AllocError>
+fn copy_of(alloc: Global, bytes: &[u8]) -> Result<Vec<u8>, AllocError>
     ensures same { IfOk result (λ v. v.items ≡ bytes.now) }
     ensures fit { IfOk result (λ v. list_all (λ b. nat_lt b 256) v.items ≡ true) }
 {
@@ -69,7 +69,7 @@ impl Words {
         if let Some(place) = self.find(word) {
             return Ok(place);
         }
-        let copy = copied(self.alloc, word)?;
+        let copy = copy_of(self.alloc, word)?;
         let (place, _) = self.stored.insert_full(copy)?;
         Ok(place)
     }

@@ -1,6 +1,6 @@
 use Rattle.std.proofs.Common.{◌≡◌, true, take, nat_lt}
 use Rattle.std.specs.List.{list_all}
-use Rattle.rx_names.proofs.words.copied.Given as goal
+use Rattle.rx_names.proofs.words.copy_of.Given as goal
 
 abbrev pub invariant-loop-byte : goal.invariant-loop-byte
 invariant-loop-byte l = record {
