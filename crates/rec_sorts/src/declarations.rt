@@ -7,7 +7,7 @@ ghost use Rattle.rec_syntax.specs.Lexemes.{word_of};
 ghost use Rattle.rec_sorts.specs.Names.{given_to, numbers_after, least_repeated};
 
 use crate::names::Names;
-use crate::places::{earlier, number, place_where};
+use crate::places::{earlier_place, number, place_where};
 use rec_syntax::{Declaration, Group, Span};
 use std::alloc::{AllocError, Global};
 
@@ -46,7 +46,7 @@ pub fn number_words<'a>(
     for (i, word) in words.iter().enumerate() {
         let at = number(word.from)?;
         let fresh = names.give(&source[word.from..word.to], number(first + i)?)?;
-        repeated = earlier(repeated, place_where(!fresh, at));
+        repeated = earlier_place(repeated, place_where(!fresh, at));
     }
     Ok(repeated)
 }
@@ -83,7 +83,7 @@ impl<'a> Sorts<'a> {
         let mut unknown = None;
         for word in words {
             let (sort, missing) = self.find(*word)?;
-            unknown = earlier(unknown, missing);
+            unknown = earlier_place(unknown, missing);
             sorts.push(sort)?;
         }
         Ok((sorts, unknown))
@@ -123,7 +123,7 @@ impl Declared {
     {
         let (arguments, unknown) = sorts.find_all(alloc, declaration.arguments.as_slice())?;
         let (sort, missing) = sorts.find(declaration.sort)?;
-        self.unknown = earlier(self.unknown, earlier(unknown, missing));
+        self.unknown = earlier_place(self.unknown, earlier_place(unknown, missing));
         self.words.push(declaration.name)?;
         self.sorts.push(sort)?;
         self.arguments.push(arguments)?;
@@ -156,7 +156,7 @@ impl Declared {
             (group_of sorts.now.source.now group.now))) }
     {
         let (sort, missing) = sorts.find(group.sort)?;
-        self.unknown = earlier(self.unknown, missing);
+        self.unknown = earlier_place(self.unknown, missing);
         self.words.push(group.first)?;
         self.sorts.push(sort)?;
         for word in group.others.as_slice() {

@@ -6,7 +6,7 @@ ghost use Rattle.rec_sorts.specs.Least.{earlier, place_where, is_nowhere, joined
 use std::alloc::AllocError;
 
 /// The lesser of two places.
-pub fn earlier(first: Option<u32>, second: Option<u32>) -> Option<u32>
+pub fn earlier_place(first: Option<u32>, second: Option<u32>) -> Option<u32>
     ensures { result ≡ earlier first second }
 {
     match (first, second) {
@@ -69,13 +69,13 @@ impl TermPlaces {
             return self;
         }
         TermPlaces {
-            unknown: earlier(self.unknown, other.unknown),
-            ill_filled: earlier(self.ill_filled, other.ill_filled),
-            ill_sorted: earlier(self.ill_sorted, other.ill_sorted),
-            ill_headed: earlier(self.ill_headed, other.ill_headed),
-            unlike: earlier(self.unlike, other.unlike),
-            unbound: earlier(self.unbound, other.unbound),
-            free: earlier(self.free, other.free),
+            unknown: earlier_place(self.unknown, other.unknown),
+            ill_filled: earlier_place(self.ill_filled, other.ill_filled),
+            ill_sorted: earlier_place(self.ill_sorted, other.ill_sorted),
+            ill_headed: earlier_place(self.ill_headed, other.ill_headed),
+            unlike: earlier_place(self.unlike, other.unlike),
+            unbound: earlier_place(self.unbound, other.unbound),
+            free: earlier_place(self.free, other.free),
         }
     }
 }

@@ -8,7 +8,7 @@ ghost use Rattle.rec_sorts.specs.Reading.{binds_variable, is_unbound, unbound_am
 
 use crate::bound::Bound;
 use crate::letters::{Letter, LetterCondition, LetterRule, Meaning};
-use crate::places::{TermPlaces, earlier, place_where};
+use crate::places::{TermPlaces, earlier_place, place_where};
 use crate::scope::Scope;
 use crate::terms::{Placed, Room, bare_letters};
 use rec_syntax::{Condition, Rule, Syntax, Term};
@@ -30,12 +30,12 @@ pub struct Sections {
 }
 
 /// The least place of a variable that is not bound.
-fn unbound(letters: &[Placed], bound: &Bound) -> Option<u32>
+fn unbound_place(letters: &[Placed], bound: &Bound) -> Option<u32>
     ensures { result ≡ unbound_among (binds_variable bound.now.letters.now) letters.now }
 {
     let mut least = None;
     for placed in letters {
-        least = earlier(least, place_where(bound.lacks(placed.meaning), placed.at));
+        least = earlier_place(least, place_where(bound.lacks(placed.meaning), placed.at));
     }
     least
 }
@@ -53,7 +53,7 @@ fn first_variable(letters: &[Placed]) -> Option<u32>
 {
     let mut least = None;
     for placed in letters {
-        least = earlier(least, place_where(is_variable(placed.meaning), placed.at));
+        least = earlier_place(least, place_where(is_variable(placed.meaning), placed.at));
     }
     least
 }
@@ -68,7 +68,7 @@ impl Scope<'_> {
     ghost use Rattle.rec_sorts.specs.Least.{joined};
 
     /// The place of a term's first word, where this is no operator.
-    fn ill_headed(&self, letters: &[Placed]) -> Option<u32>
+    fn ill_headed_place(&self, letters: &[Placed]) -> Option<u32>
         ensures { result ≡ ill_headed_at self.now letters.now }
     {
         let head = letters.last()?;
@@ -76,7 +76,7 @@ impl Scope<'_> {
     }
 
     /// The place of the left one of two terms, where their sorts differ.
-    fn unlike(&self, left: &[Placed], right: &[Placed]) -> Option<u32>
+    fn unlike_place(&self, left: &[Placed], right: &[Placed]) -> Option<u32>
         ensures { result ≡ unlike_at self.now left.now right.now }
     {
         let left = left.last()?;
@@ -106,8 +106,11 @@ impl Scope<'_> {
         let left = self.term(&condition.left, &mut room.left, &mut room.heads)?;
         let right = self.term(&condition.right, &mut room.right, &mut room.heads)?;
         let own = TermPlaces {
-            unlike: self.unlike(&room.left, &room.right),
-            unbound: earlier(unbound(&room.left, bound), unbound(&room.right, bound)),
+            unlike: self.unlike_place(&room.left, &room.right),
+            unbound: earlier_place(
+                unbound_place(&room.left, bound),
+                unbound_place(&room.right, bound),
+            ),
             ..TermPlaces::NONE
         };
         Ok(left.join(right).join(own))
@@ -208,9 +211,9 @@ impl Scope<'_> {
             room.old.right.items (rule_of self.now.source.now rule.now).conditions) }
     {
         let own = TermPlaces {
-            ill_headed: self.ill_headed(bound.letters),
-            unlike: self.unlike(bound.letters, &room.right),
-            unbound: unbound(&room.right, bound),
+            ill_headed: self.ill_headed_place(bound.letters),
+            unlike: self.unlike_place(bound.letters, &room.right),
+            unbound: unbound_place(&room.right, bound),
             ..TermPlaces::NONE
         };
         let left = bare_letters(alloc, bound.letters)?;

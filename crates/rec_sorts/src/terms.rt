@@ -5,7 +5,7 @@ ghost use Rattle.rec_syntax.specs.Parts.{Within, IsTerm, node_of, term_of};
 ghost use Rattle.rec_sorts.specs.Letters.{bare, unknown_among};
 
 use crate::letters::{Letter, Meaning};
-use crate::places::{TermPlaces, earlier, number, place_where};
+use crate::places::{TermPlaces, earlier_place, number, place_where};
 use crate::scope::Scope;
 use rec_syntax::{Node, Term};
 use std::alloc::{AllocError, Global};
@@ -54,12 +54,12 @@ pub fn bare_letters(alloc: Global, letters: &[Placed]) -> Result<Vec<Letter>, Al
 }
 
 /// The least place of a word that is not declared.
-fn unknown(letters: &[Placed]) -> Option<u32>
+fn unknown_place(letters: &[Placed]) -> Option<u32>
     ensures { result ≡ unknown_among letters.now }
 {
     let mut least = None;
     for placed in letters {
-        least = earlier(least, place_where(placed.meaning.is_none(), placed.at));
+        least = earlier_place(least, place_where(placed.meaning.is_none(), placed.at));
     }
     least
 }
@@ -87,32 +87,32 @@ impl Scope<'_> {
     }
 
     /// The least place of a word with another number of arguments than declared.
-    fn ill_filled(&self, letters: &[Placed]) -> Option<u32>
+    fn ill_filled_place(&self, letters: &[Placed]) -> Option<u32>
         ensures { result ≡ ill_filled_among self.now letters.now }
     {
         let mut least = None;
         for placed in letters {
             let filled = placed.count as usize == self.arguments(placed.meaning).len();
-            least = earlier(least, place_where(!filled, placed.at));
+            least = earlier_place(least, place_where(!filled, placed.at));
         }
         least
     }
 
     /// The least place of an argument with another sort than the one for it.
-    fn misplaced(&self, arguments: &[Placed], sorts: &[Option<u32>]) -> Option<u32>
+    fn misplaced_place(&self, arguments: &[Placed], sorts: &[Option<u32>]) -> Option<u32>
         ensures { result ≡ misplaced self.now arguments.now sorts.now }
     {
         let mut least = None;
         for (argument, sort) in arguments.iter().zip(sorts) {
             let fits = self.sort(argument.meaning) == *sort;
-            least = earlier(least, place_where(!fits, argument.at));
+            least = earlier_place(least, place_where(!fits, argument.at));
         }
         least
     }
 
     /// The least place of an argument with another sort than declared, by a stack of the heads of
     /// the terms so far.
-    fn ill_sorted(
+    fn ill_sorted_place(
         &self,
         letters: &[Placed],
         heads: &mut Vec<Placed>,
@@ -124,7 +124,7 @@ impl Scope<'_> {
         for placed in letters {
             let base = heads.len().saturating_sub(placed.count as usize);
             let sorts = self.arguments(placed.meaning);
-            least = earlier(least, self.misplaced(&heads[base..], sorts));
+            least = earlier_place(least, self.misplaced_place(&heads[base..], sorts));
             heads.truncate(base);
             heads.push(*placed)?;
         }
@@ -145,9 +145,9 @@ impl Scope<'_> {
     {
         self.letters(term.nodes(), letters)?;
         Ok(TermPlaces {
-            unknown: unknown(letters),
-            ill_filled: self.ill_filled(letters),
-            ill_sorted: self.ill_sorted(letters, heads)?,
+            unknown: unknown_place(letters),
+            ill_filled: self.ill_filled_place(letters),
+            ill_sorted: self.ill_sorted_place(letters, heads)?,
             ..TermPlaces::NONE
         })
     }

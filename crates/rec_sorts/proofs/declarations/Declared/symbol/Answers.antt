@@ -21,7 +21,7 @@ returns c =
       within_added = within_pushed source old.words.items c.push.new.self.items d.name c.in_ok-push.ensures.items c.requires.name;
       unknown_added =
           unknown_pushed numbers (words_of source d.arguments.items) (word_of source d.sort) old.unknown c.in_ok-arguments.unknown
-          c.in_ok-sort.missing c.earlier.result c.earlier-self.result
+          c.in_ok-sort.missing c.earlier_place.result c.earlier_place-self.result
           (c.in_ok-arguments.ensures.missing ∙ ap (λ ws. least_unnumbered numbers (words_of source ws)) c.as_slice.ensures)
-          c.in_ok-sort.ensures.missing c.earlier.ensures c.earlier-self.ensures;
+          c.in_ok-sort.ensures.missing c.earlier_place.ensures c.earlier_place-self.ensures;
     }

@@ -1,7 +1,7 @@
 use Rattle.std.proofs.Common.{◌≡◌, length, min, rules}
 use Rattle.std.proofs.lemmas.Slice.Zip.{zip_end}
 use Rattle.rec_sorts.proofs.TurnLemmas.{misplaced_end}
-use Rattle.rec_sorts.proofs.scope.Scope.misplaced.Goals as goal
+use Rattle.rec_sorts.proofs.scope.Scope.misplaced_place.Goals as goal
 
 pub returns : goal.returns
 returns c =
