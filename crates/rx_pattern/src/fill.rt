@@ -17,7 +17,7 @@ ghost use Rattle.rx_pattern.specs.Making.{IsMisfit, HasParts, IsValid};
 ghost use Rattle.rx_pattern.specs.Faults.{IsMakeRefusal};
 
 use crate::faults::MakeFault;
-use crate::lists::{count, noted, plain};
+use crate::lists::{annotate, count, plain_list};
 use crate::nodes::{Class, Name, Node};
 use crate::words::fits;
 use rx_term::{BankFault, Term, TermBank};
@@ -94,7 +94,7 @@ fn apply<B: TermBank>(bank: &mut B, name: &Name, args: Option<Term>) -> Result<T
     ensures refused { IfErr result (IsBankRefusal (B.store bank.new)) }
     ensures grows { Grows (B.store bank.old) (B.store bank.new) }
 {
-    let args = plain(bank, args)?;
+    let args = plain_list(bank, args)?;
     let arity = count(bank, args);
     let symbol = bank.symbol(&name.bytes, name.quoted, arity)?;
     bank.appl(symbol, args)
@@ -117,7 +117,7 @@ fn push_noted<B: TermBank>(
     ensures grows { Grows (B.store bank.old) (B.store bank.new) }
 {
     let anns = made.pop().unwrap();
-    let whole = noted(bank, t, anns)?;
+    let whole = annotate(bank, t, anns)?;
     made.push(Some(whole))?;
     Ok(())
 }
@@ -172,7 +172,7 @@ fn push_list<B: TermBank>(bank: &mut B, made: &mut Vec<Option<Term>>) -> Result<
     ensures grows { Grows (B.store bank.old) (B.store bank.new) }
 {
     let items = made.pop().unwrap();
-    let t = plain(bank, items)?;
+    let t = plain_list(bank, items)?;
     push_noted(bank, t, made)
 }
 
@@ -188,7 +188,7 @@ fn push_item<B: TermBank>(bank: &mut B, made: &mut Vec<Option<Term>>) -> Result<
 {
     let head = made.pop().unwrap().unwrap();
     let others = made.pop().unwrap();
-    let tail = plain(bank, others)?;
+    let tail = plain_list(bank, others)?;
     let list = bank.cons(head, tail)?;
     made.push(Some(list))?;
     Ok(())

@@ -23,7 +23,7 @@ pub fn is_empty<B: TermBank>(bank: &B, list: Option<Term>) -> bool
 }
 
 /// The items as a list without annotations.
-pub fn plain<B: TermBank>(bank: &mut B, list: Option<Term>) -> Result<Term, BankFault>
+pub fn plain_list<B: TermBank>(bank: &mut B, list: Option<Term>) -> Result<Term, BankFault>
     requires { (ts : Trees) × IsListed (B.store bank.old) list ts }
     ensures list { IfOk result (λ r. (ts : Trees) → IsListed (B.store bank.old) list ts
         → tree_at (B.store bank.new) r ≡ Some (list_of ts)) }
@@ -42,7 +42,7 @@ pub fn plain<B: TermBank>(bank: &mut B, list: Option<Term>) -> Result<Term, Bank
 }
 
 /// The tree with the items as its annotations.
-pub fn noted<B: TermBank>(bank: &mut B, t: Term, anns: Option<Term>) -> Result<Term, BankFault>
+pub fn annotate<B: TermBank>(bank: &mut B, t: Term, anns: Option<Term>) -> Result<Term, BankFault>
     requires bare { (u : Tree) × (tree_at (B.store bank.old) t ≡ Some u) × (annotations u ≡ none) }
     requires list { (as' : Trees) × IsListed (B.store bank.old) anns as' }
     ensures noted { IfOk result (λ r. (u : Tree) (as' : Trees)
@@ -54,7 +54,7 @@ pub fn noted<B: TermBank>(bank: &mut B, t: Term, anns: Option<Term>) -> Result<T
     if anns.is_none() {
         return Ok(t);
     }
-    let list = plain(bank, anns)?;
+    let list = plain_list(bank, anns)?;
     bank.annotated(t, list)
 }
 

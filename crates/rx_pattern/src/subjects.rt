@@ -16,7 +16,7 @@ ghost use Rattle.rx_pattern.specs.Held.{AddsOnlyLists};
 ghost use Rattle.rx_pattern.specs.Faults.{IsMatchRefusal};
 
 use crate::faults::PatternFault;
-use crate::lists::{is_empty, plain};
+use crate::lists::{is_empty, plain_list};
 use crate::nodes::{Class, Name, Node};
 use crate::words::fits;
 use rx_term::{Kind, Symbol, Term, TermBank};
@@ -157,7 +157,7 @@ fn bind_rest<B: TermBank>(
     ensures grows { Grows (B.store bank.old) (B.store bank.new) }
     ensures added { AddsOnlyLists (B.store bank.old) (B.store bank.new) }
 {
-    let rest = plain(bank, list)?;
+    let rest = plain_list(bank, list)?;
     out.push(rest)?;
     Ok(())
 }
