@@ -7,7 +7,7 @@ use Rattle.rec_syntax.specs.Syntax.{Spec}
 use Rattle.rec_sorts.specs.Linked.{signature}
 use Rattle.rec_memo.proofs.KnownLemmas.{IsKnown-Grows}
 use Rattle.rec_engine.specs.declared.code.Code.{Code}
-use Rattle.rec_engine.specs.declared.cells.Pace.{Pace}
+use Rattle.rec_engine.specs.declared.pace.Pace.{Pace}
 use Rattle.rec_engine.specs.declared.engine.prepared.Prepared.{Prepared}
 use Rattle.rec_engine.specs.Remembered.{IsResult}
 use Rattle.rec_engine.specs.Prepared.{FitsIn}
@@ -24,8 +24,8 @@ ready-grown y c w w' pace g r = record {
 
 -- it still fits where its bank has grown
 pub fits-grown : (w w' : Store) (p : Prepared) → Grows w w' → FitsIn w p → FitsIn w' p
-fits-grown w w' p g f = record { ready = ready-grown p.checked.spec p.code w w' p.state.pace g f.ready }
+fits-grown w w' p g f = record { ready = ready-grown p.checked.spec p.code w w' p.pace g f.ready }
 
 -- and where one of its roots is counted otherwise
 pub fits-counted : (w new : Store) (p : Prepared) (t : Term) (n : ℕ) → new ≡ with_count w t n → FitsIn w p → FitsIn new p
-fits-counted w new p t n e f = record { ready = ready-counted p.checked.spec p.code w new p.state.pace t n e f.ready }
+fits-counted w new p t n e f = record { ready = ready-counted p.checked.spec p.code w new p.pace t n e f.ready }

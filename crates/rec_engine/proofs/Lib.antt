@@ -2,6 +2,7 @@ pub mod FirstLinkLemmas
 pub mod FirstTurnLemmas
 pub mod FlatLemmas
 pub mod KnownConstantLemmas
+pub mod HeapLemmas
 pub mod KeptNodeLemmas
 pub mod EndLemmas
 pub mod BuildingLemmas

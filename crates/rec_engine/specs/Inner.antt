@@ -3,6 +3,7 @@ pub mod Answered
 pub mod Building
 pub mod Compiled
 pub mod Given
+pub mod Heap
 pub mod Made
 pub mod Pace
 pub mod Written

@@ -14,9 +14,9 @@ abbrev pub options_of : Prepared → Options
 options_of p = p.options
 
 abbrev pub memo_of : Prepared → Pairs
-memo_of p = p.state.pace.memo
+memo_of p = p.pace.memo
 
 -- its code is that of the specification, whose symbols this bank has, and what it remembers of the
 -- bank's terms is right
 pub record FitsIn (w : Store) (p : Prepared) : Type 0 where
-  pub ready : Ready (spec_of p) p.code w p.state.pace
+  pub ready : Ready (spec_of p) p.code w p.pace

@@ -21,7 +21,7 @@ pub enum DepthFault {
 }
 
 /// The answer of a call that says how many may wait: where there is none, as many do.
-pub(crate) fn bounded<T>(answer: Result<Option<T>, EngineFault>) -> Result<T, DepthFault>
+pub(crate) fn tell_deep<T>(answer: Result<Option<T>, EngineFault>) -> Result<T, DepthFault>
     ensures { result ≡ bounded answer }
 {
     match answer {
@@ -33,7 +33,7 @@ pub(crate) fn bounded<T>(answer: Result<Option<T>, EngineFault>) -> Result<T, De
 }
 
 /// The answer of a call for which as many may wait as there is memory for.
-pub(crate) fn unbounded<T>(answer: Result<T, DepthFault>) -> Result<T, EngineFault>
+pub(crate) fn hide_deep<T>(answer: Result<T, DepthFault>) -> Result<T, EngineFault>
     ensures { result ≡ unbounded answer }
 {
     match answer {

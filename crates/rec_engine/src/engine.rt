@@ -24,9 +24,9 @@ ghost use Rattle.rec_engine.specs.Engine.{Spells};
 
 use crate::cells::EngineFault;
 use crate::code::Op;
+use crate::heap::Heap;
 use crate::machine::Machine;
 use crate::parts::Parts;
-use crate::terms::make_term;
 pub use prepared::Prepared;
 use rec_match::Matcher;
 use rec_sorts::{Checked, Letter};
@@ -77,9 +77,9 @@ impl<B: TermBank> Model for Engine<B> {
     ghost view = { λ e. record {
       spec = e.machine.checked.spec;
       options = e.options;
-      bank = e.machine.bank;
-      memo = e.machine.state.pace.memo;
-      work = e.machine.work.items;
+      bank = e.machine.heap.bank;
+      memo = e.machine.heap.pace.memo;
+      work = e.machine.heap.work.items;
       waiting = length e.machine.state.frames.items;
     } };
 
@@ -137,13 +137,13 @@ impl<B: TermBank> Engine<B> {
         ensures refused { IfErr result (λ b. HasMoreSymbols (B.store bank) (B.store b)) }
     {
         match Parts::find(alloc, &checked, &mut bank, options) {
-            Ok(parts) => Ok(Engine::assembled(alloc, checked, bank, options, parts)),
+            Ok(parts) => Ok(Engine::assemble(alloc, checked, bank, options, parts)),
             Err(_) => Err(bank),
         }
     }
 
     /// The engine of these parts.
-    fn assembled(
+    fn assemble(
         alloc: Global,
         checked: Checked,
         bank: B,
@@ -153,20 +153,24 @@ impl<B: TermBank> Engine<B> {
         requires code { IsCode checked.spec parts.code.value }
         requires linked { AreLinked checked.spec (B.store bank) parts.code.value.links }
         requires terms { parts.terms ≡ length checked.spec.terms }
-        requires constants { KnowsNone parts.state.pace.constants }
-        requires memo { RemembersNothing options.memo parts.state.pace.memo }
+        requires constants { KnowsNone parts.pace.constants }
+        requires memo { RemembersNothing options.memo parts.pace.memo }
         ensures spec { result.spec ≡ checked.spec }
         ensures options { result.options ≡ options }
         ensures store { B.store result.bank ≡ B.store bank }
         ensures memo { RemembersNothing options.memo result.memo }
         ensures work { result.work ≡ [] }
     {
+        let heap = Heap {
+            bank,
+            work: Vec::new(alloc),
+            pace: parts.pace,
+        };
         let machine = Machine {
             checked,
-            bank,
+            heap,
             code: Box::into_inner(parts.code),
             state: parts.state,
-            work: Vec::new(alloc),
         };
         Engine {
             machine,
@@ -190,14 +194,15 @@ impl<B: TermBank> Engine<B> {
         drop(found);
         let Machine {
             checked,
-            bank,
+            heap,
             code,
             state,
-            work,
         } = machine;
         drop(checked);
         drop(code);
         drop(state);
+        let Heap { bank, work, pace } = heap;
+        drop(pace);
         (bank, work)
     }
 
@@ -225,15 +230,10 @@ impl<B: TermBank> Engine<B> {
         let machine = &mut self.machine;
         let checked = &machine.checked;
         let letters = &checked.terms()[i as usize];
-        let made = make_term(
-            checked,
-            &mut machine.bank,
-            &machine.code.links,
-            &mut machine.state.pace,
-            &mut machine.work,
-            letters,
-        );
-        let_go(&mut machine.work, &made);
+        let made = machine
+            .heap
+            .make_term(checked, &machine.code.links, letters);
+        let_go(&mut machine.heap.work, &made);
         made
     }
 
@@ -254,15 +254,10 @@ impl<B: TermBank> Engine<B> {
         ensures needed { RoomOnly (B.store self.new.bank) self.new.work self.new.memo result }
     {
         let machine = &mut self.machine;
-        let made = make_term(
-            &machine.checked,
-            &mut machine.bank,
-            &machine.code.links,
-            &mut machine.state.pace,
-            &mut machine.work,
-            letters,
-        );
-        let_go(&mut machine.work, &made);
+        let made = machine
+            .heap
+            .make_term(&machine.checked, &machine.code.links, letters);
+        let_go(&mut machine.heap.work, &made);
         made
     }
 
@@ -275,7 +270,7 @@ impl<B: TermBank> Engine<B> {
         ensures roots { ProtectsOrRefuses (B.store self.old.bank) (B.store self.new.bank) t
             result }
     {
-        self.machine.bank.protect(t)
+        self.machine.heap.bank.protect(t)
     }
 
     /// Counts a term as a root once less.
@@ -287,7 +282,7 @@ impl<B: TermBank> Engine<B> {
         ensures roots { B.store self.new.bank ≡ with_count (B.store self.old.bank) t
             ((B.store self.old.bank).roots t.0 - 1) }
     {
-        self.machine.bank.unprotect(t)
+        self.machine.heap.bank.unprotect(t)
     }
 
     /// Which rule matches.
@@ -308,6 +303,6 @@ impl<B: TermBank> Engine<B> {
     pub fn bank(&self) -> &B
         ensures { result.now ≡ self.now.bank }
     {
-        &self.machine.bank
+        &self.machine.heap.bank
     }
 }

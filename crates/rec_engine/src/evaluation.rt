@@ -5,20 +5,20 @@ ghost use Rattle.rx_term.specs.Tree.{Tree};
 ghost use Rattle.rx_term.specs.Store.{tree_at};
 ghost use Rattle.rx_term.specs.Steps.{Keeps};
 ghost use Rattle.rec_syntax.specs.Syntax as Syntax;
-ghost use Rattle.rx_term.specs.Walks.{AllHeld};
 ghost use Rattle.rec_engine.specs.Inner.Answered.{IsTermCode, IsAnswer, StandsAbove, HasNotes};
 ghost use Rattle.rec_engine.specs.declared.evaluation.Reached.TheVariants.{Deep};
 ghost use Rattle.rec_engine.specs.Machine.{AreFull, IsDeepOnly};
 ghost use Rattle.rec_engine.specs.Engine.{IsGiven, IsOutcome, IsKept};
+ghost use Rattle.rec_engine.specs.Inner.Heap.{IsHeld};
 ghost use Rattle.rec_engine.specs.Turn.{IsReady, StaysFor, RoomOnlyIn};
 
-use crate::building::{push, push_nil};
-use crate::cells::{EngineFault, Node, make};
+use crate::cells::{EngineFault, Node};
 use crate::code::Op;
 use crate::engine::Outcome;
 use crate::given::load;
 use crate::machine::{End, Machine};
 use crate::watch::Watch;
+use crate::work::push;
 use rx_term::{Term, TermBank};
 
 /// What a term comes to.
@@ -39,21 +39,21 @@ impl<B: TermBank> Machine<B> {
         watch: &mut V,
     ) -> Result<Reached, EngineFault>
         requires ready { IsReady B.store self.old }
-        requires idle { self.old.work.items ≡ [] }
-        requires held { IsSome (tree_at (B.store self.old.bank) t) }
+        requires idle { self.old.heap.work.items ≡ [] }
+        requires held { IsSome (tree_at (B.store self.old.heap.bank) t) }
         requires own { (u : Syntax.Term)
             × IsTermCode self.old.checked.spec u (drop pc self.old.code.ops.items) }
         ensures stays { StaysFor B.store (t ∷ []) self.old self.new }
         ensures exact { IfOk result (λ r. (u : Syntax.Term)
             → IsTermCode self.old.checked.spec u (drop pc self.old.code.ops.items)
-            → IsAnswer self.old.checked.spec (B.store self.new.bank) n u r) }
-        ensures held { IfOk result (λ r. AllHeld (B.store self.new.bank) self.new.work.items) }
-        ensures stands { IfOk result (StandsAbove self.new.work.items t) }
+            → IsAnswer self.old.checked.spec (B.store self.new.heap.bank) n u r) }
+        ensures held { IfOk result (λ r. IsHeld B.store self.new.heap) }
+        ensures stands { IfOk result (StandsAbove self.new.heap.work.items t) }
         ensures deep { IfOk result (λ r. r ≡ Deep → AreFull self.new.state) }
         ensures room { RoomOnlyIn B.store self.new result }
     {
-        push(&mut self.work, t)?;
-        let empty = push_nil(&mut self.bank, &mut self.work, &mut self.state.pace)?;
+        push(&mut self.heap.work, t)?;
+        let empty = self.heap.push_nil()?;
         self.state.frames.clear();
         self.state.pc = pc;
         self.state.base = 2;
@@ -65,7 +65,7 @@ impl<B: TermBank> Machine<B> {
             End::Deep => Ok(Reached::Deep),
             End::Limit => Ok(Reached::Limit),
             End::Value => {
-                let term = self.work[2];
+                let term = self.heap.work[2];
                 let steps = n - self.state.left;
                 Ok(Reached::Value { term, steps })
             }
@@ -75,24 +75,23 @@ impl<B: TermBank> Machine<B> {
     /// A value, with the annotations of the term put on it where there are any.
     fn annotate(&mut self, t: Term, value: Term) -> Result<Term, EngineFault>
         requires ready { IsReady B.store self.old }
-        requires held { AllHeld (B.store self.old.bank) self.old.work.items }
-        requires term { Contains self.old.work.items t }
-        requires value { Contains self.old.work.items value }
-        ensures stays { StaysFor B.store self.old.work.items self.old self.new }
+        requires held { IsHeld B.store self.old.heap }
+        requires term { Contains self.old.heap.work.items t }
+        requires value { Contains self.old.heap.work.items value }
+        ensures stays { StaysFor B.store self.old.heap.work.items self.old self.new }
         ensures annotated { IfOk result
-            (HasNotes (B.store self.old.bank) (B.store self.new.bank) t value) }
-        ensures kept { IfOk result (Contains self.new.work.items) }
-        ensures all_held { IfOk result
-            (λ r. AllHeld (B.store self.new.bank) self.new.work.items) }
+            (HasNotes (B.store self.old.heap.bank) (B.store self.new.heap.bank) t value) }
+        ensures kept { IfOk result (Contains self.new.heap.work.items) }
+        ensures all_held { IfOk result (λ r. IsHeld B.store self.new.heap) }
         ensures room { RoomOnlyIn B.store self.new result }
     {
-        let Some(anns) = self.bank.anns(t) else {
+        let Some(anns) = self.heap.bank.anns(t) else {
             return Ok(value);
         };
-        push(&mut self.work, anns)?;
+        push(&mut self.heap.work, anns)?;
         let node = Node::Annotated(value, anns);
-        let noted = make(&mut self.bank, &self.work, &mut self.state.pace, node)?;
-        push(&mut self.work, noted)?;
+        let noted = self.heap.make(node)?;
+        push(&mut self.heap.work, noted)?;
         Ok(noted)
     }
 
@@ -106,25 +105,25 @@ impl<B: TermBank> Machine<B> {
         watch: &mut V,
     ) -> Result<Option<Outcome>, EngineFault>
         requires ready { IsReady B.store self.old }
-        requires given { IsGiven self.old.checked.spec (B.store self.old.bank) t }
+        requires given { IsGiven self.old.checked.spec (B.store self.old.heap.bank) t }
         ensures ready { IsReady B.store self.new }
         ensures spec { self.new.checked.spec ≡ self.old.checked.spec }
-        ensures keeps { Keeps (B.store self.old.bank) (B.store self.new.bank) (t ∷ []) }
+        ensures keeps { Keeps (B.store self.old.heap.bank) (B.store self.new.heap.bank) (t ∷ []) }
         ensures outcome { IfOk result (λ r. IfSome r (λ o. (u : Tree)
-            → tree_at (B.store self.old.bank) t ≡ Some u
-            → IsOutcome self.old.checked.spec (B.store self.new.bank) n u o)) }
-        ensures kept { IfOk result (λ r. IfSome r (IsKept self.new.work.items)) }
-        ensures held { IfOk result (λ r. AllHeld (B.store self.new.bank) self.new.work.items) }
+            → tree_at (B.store self.old.heap.bank) t ≡ Some u
+            → IsOutcome self.old.checked.spec (B.store self.new.heap.bank) n u o)) }
+        ensures kept { IfOk result (λ r. IfSome r (IsKept self.new.heap.work.items)) }
+        ensures held { IfOk result (λ r. IsHeld B.store self.new.heap) }
         ensures depth { self.new.state.depth ≡ self.old.state.depth }
         ensures deep { IfOk result (IsDeepOnly self.new.state) }
         ensures room { RoomOnlyIn B.store self.new result }
     {
-        self.work.clear();
+        self.heap.work.clear();
         let pc = self.code.ops.len();
         let stack = &mut self.state.pending;
         match load(
             &self.checked,
-            &self.bank,
+            &self.heap.bank,
             &self.code.links,
             stack,
             found,

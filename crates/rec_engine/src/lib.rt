@@ -13,13 +13,16 @@ mod due;
 mod engine;
 mod evaluation;
 mod given;
+mod heap;
 mod hints;
 mod machine;
+mod pace;
 mod parts;
 mod remembering;
 mod runs;
 mod terms;
 mod watch;
+mod work;
 
 pub use cells::EngineFault;
 pub use counting::{RuleCount, Tally};

@@ -6,7 +6,6 @@ ghost use Rattle.rec_engine.specs.Constants.{KnowsNone};
 ghost use Rattle.rec_engine.specs.Engine.{AreInRange, RemembersNothing};
 ghost use Rattle.rec_engine.specs.Machine.{IsCode};
 
-use crate::cells::Pace;
 use crate::code::Code;
 use crate::constants::Constants;
 use crate::counting::Ledger;
@@ -14,6 +13,7 @@ use crate::due::Due;
 use crate::engine::Options;
 use crate::hints::Hints;
 use crate::machine::State;
+use crate::pace::Pace;
 use rec_memo::Memo;
 use rec_sorts::{Checked, Links};
 use rx_term::TermBank;
@@ -27,6 +27,7 @@ pub(crate) struct Parts {
     pub(crate) terms: u32,
     pub(crate) code: Box<Code>,
     pub(crate) state: State,
+    pub(crate) pace: Pace,
 }
 
 /// The code of a specification, whose symbols a bank has from now on.
@@ -49,29 +50,33 @@ fn linked_code<B: TermBank>(
     }
 }
 
-/// The state before anything is evaluated by a specification's code over a bank: nothing is
-/// remembered.
-fn first_state<B: TermBank>(
+/// When a bank first gives back what is not needed by code; nothing is known of its terms.
+fn first_pace<B: TermBank>(
     alloc: Global,
-    checked: &Checked,
     bank: &B,
     code: &Code,
     options: Options,
-) -> Result<State, AllocError>
+) -> Result<Pace, AllocError>
     requires { AreInRange options }
-    ensures constants { IfOk result (λ s. KnowsNone s.pace.constants) }
-    ensures memo { IfOk result (λ s. RemembersNothing options.memo s.pace.memo) }
+    ensures constants { IfOk result (λ p. KnowsNone p.constants) }
+    ensures memo { IfOk result (λ p. RemembersNothing options.memo p.memo) }
 {
     let constants = Constants::new(alloc, code.ops.len())?;
     let memo = Memo::new(alloc, options.memo)?;
-    let hints = Hints::new(alloc, checked.symbols() as usize, options.memo)?;
-    let pace = Pace {
+    Ok(Pace {
         due: Due::new(bank.cells(), options.reclaim_every),
         constants,
         memo,
         ledger: Ledger::new(bank.cells()),
-    };
-    Ok(State::new(alloc, pace, hints))
+    })
+}
+
+/// The state before anything is evaluated of a specification.
+fn first_state(alloc: Global, checked: &Checked, options: Options) -> Result<State, AllocError>
+    requires { AreInRange options }
+{
+    let hints = Hints::new(alloc, checked.symbols() as usize, options.memo)?;
+    Ok(State::new(alloc, hints))
 }
 
 impl Parts {
@@ -88,8 +93,8 @@ impl Parts {
         ensures linked { IfOk result
             (λ p. AreLinked checked.now.spec (B.store bank.new) p.code.value.links) }
         ensures terms { IfOk result (λ p. p.terms ≡ length checked.now.spec.terms) }
-        ensures constants { IfOk result (λ p. KnowsNone p.state.pace.constants) }
-        ensures memo { IfOk result (λ p. RemembersNothing options.memo p.state.pace.memo) }
+        ensures constants { IfOk result (λ p. KnowsNone p.pace.constants) }
+        ensures memo { IfOk result (λ p. RemembersNothing options.memo p.pace.memo) }
         ensures same { HasMoreSymbols (B.store bank.old) (B.store bank.new) }
     {
         let Ok(terms) = u32::try_from(checked.terms().len()) else {
@@ -98,8 +103,16 @@ impl Parts {
         let Ok(code) = linked_code(alloc, checked, bank) else {
             return Err(AllocError);
         };
-        match first_state(alloc, checked, bank, &code, options) {
-            Ok(state) => Ok(Parts { terms, code, state }),
+        let Ok(pace) = first_pace(alloc, bank, &code, options) else {
+            return Err(AllocError);
+        };
+        match first_state(alloc, checked, options) {
+            Ok(state) => Ok(Parts {
+                terms,
+                code,
+                state,
+                pace,
+            }),
             Err(_) => Err(AllocError),
         }
     }

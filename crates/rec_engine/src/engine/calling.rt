@@ -13,7 +13,7 @@ ghost use Rattle.rec_engine.specs.Depth.{RoomOnlyWithin, DeepOnly};
 ghost use Rattle.rec_engine.specs.Engine.{SameEngine, IsCallOutcome};
 
 use crate::cells::EngineFault;
-use crate::depth::{DepthFault, bounded, unbounded};
+use crate::depth::{DepthFault, hide_deep, tell_deep};
 use crate::engine::{Engine, Outcome};
 use rx_term::{Term, TermBank};
 
@@ -37,7 +37,7 @@ impl<B: TermBank> Engine<B> {
             (called self.old.spec symbol (held_trees (B.store self.old.bank) values.now))) }
         ensures room { RoomOnly (B.store self.new.bank) self.new.work self.new.memo result }
     {
-        unbounded(self.call_to(kept, symbol, values, n, usize::MAX))
+        hide_deep(self.call_to(kept, symbol, values, n, usize::MAX))
     }
 
     /// The same where at most `depth` calls may wait at once, counted as by `normalise_within`.
@@ -86,8 +86,8 @@ impl<B: TermBank> Engine<B> {
         self.machine.state.depth = depth;
         self.machine.state.left = n;
         let outcome = self.machine.call_values(kept, symbol, values, n);
-        self.machine.state.spent = self.machine.state.spent_with(n);
-        bounded(outcome)
+        self.machine.state.spent = self.machine.state.steps_spent(n);
+        tell_deep(outcome)
     }
 
     /// The application of a symbol to values, of which no rule is asked. Beside it a reference is

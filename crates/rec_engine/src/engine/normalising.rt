@@ -11,7 +11,7 @@ ghost use Rattle.rec_engine.specs.Engine.{SameEngine, IsGiven, IsOutcome, IsNorm
 
 use crate::cells::EngineFault;
 use crate::counting::{Counts, RuleCount, Tally};
-use crate::depth::{DepthFault, bounded, unbounded};
+use crate::depth::{DepthFault, hide_deep, tell_deep};
 use crate::engine::{Engine, Outcome, let_go};
 use crate::watch::{Unwatched, Watch};
 use rx_term::{Term, TermBank};
@@ -33,7 +33,7 @@ impl<B: TermBank> Engine<B> {
         ensures held { AllHeld (B.store self.new.bank) self.new.work }
         ensures room { RoomOnly (B.store self.new.bank) self.new.work self.new.memo result }
     {
-        unbounded(self.normalise_to(t, n, usize::MAX, &mut Unwatched))
+        hide_deep(self.normalise_to(t, n, usize::MAX, &mut Unwatched))
     }
 
     /// The same where at most `depth` may wait at once: the term for its call, a right side or a
@@ -77,7 +77,7 @@ impl<B: TermBank> Engine<B> {
         ensures held { AllHeld (B.store self.new.bank) self.new.work }
         ensures room { RoomOnly (B.store self.new.bank) self.new.work self.new.memo result }
     {
-        let outcome = unbounded(self.normalise_to(t, n, usize::MAX, watch));
+        let outcome = hide_deep(self.normalise_to(t, n, usize::MAX, watch));
         watch.cease();
         outcome
     }
@@ -129,11 +129,10 @@ impl<B: TermBank> Engine<B> {
 
     /// What was done so far.
     pub fn tally(&self) -> Tally {
-        let state = &self.machine.state;
-        state
-            .pace
+        let heap = &self.machine.heap;
+        heap.pace
             .ledger
-            .tally(state.spent, self.machine.bank.cells())
+            .tally(self.machine.state.spent, heap.bank.cells())
     }
 
     /// The same for any number of calls.
@@ -161,8 +160,8 @@ impl<B: TermBank> Engine<B> {
         self.machine.state.depth = depth;
         self.machine.state.left = n;
         let outcome = self.machine.normalise(&mut self.found, t, n, watch);
-        self.machine.state.spent = self.machine.state.spent_with(n);
-        let_go(&mut self.machine.work, &outcome);
-        bounded(outcome)
+        self.machine.state.spent = self.machine.state.steps_spent(n);
+        let_go(&mut self.machine.heap.work, &outcome);
+        tell_deep(outcome)
     }
 }

@@ -3,9 +3,10 @@
 ghost use Rattle.std.specs.Prelude.{◌≡◌, length};
 
 use super::{Engine, Options};
-use crate::cells::reclaim;
 use crate::code::{Code, Op};
+use crate::heap::Heap;
 use crate::machine::{Machine, State};
+use crate::pace::Pace;
 use rec_sorts::Checked;
 use rx_term::{Term, TermBank};
 
@@ -17,6 +18,7 @@ pub struct Prepared {
     code: Code,
     state: State,
     work: Vec<Term>,
+    pace: Pace,
     options: Options,
     terms: u32,
     found: Vec<Op>,
@@ -39,19 +41,19 @@ impl Prepared {
         let Prepared {
             checked,
             code,
-            mut state,
+            state,
             work,
+            mut pace,
             options,
             terms,
             found,
         } = self;
-        state.pace.ledger.go_on(bank.cells());
+        pace.ledger.go_on(bank.cells());
         let machine = Machine {
             checked,
-            bank,
+            heap: Heap { bank, work, pace },
             code,
             state,
-            work,
         };
         Engine {
             machine,
@@ -72,8 +74,8 @@ impl Prepared {
         ensures options { options_of self.new ≡ options_of self.old }
     {
         self.work.clear();
-        self.state.pace.ledger.go_on(bank.cells());
-        reclaim(bank, kept, &mut self.state.pace);
+        self.pace.ledger.go_on(bank.cells());
+        self.pace.reclaim(bank, kept);
     }
 
     /// How many terms to evaluate the specification has.
@@ -110,17 +112,22 @@ impl<B: TermBank> Engine<B> {
         } = self;
         let Machine {
             checked,
-            bank,
+            heap,
             code,
-            mut state,
-            work,
+            state,
         } = machine;
-        state.pace.ledger.grow(bank.cells());
+        let Heap {
+            bank,
+            work,
+            mut pace,
+        } = heap;
+        pace.ledger.grow(bank.cells());
         let prepared = Prepared {
             checked,
             code,
             state,
             work,
+            pace,
             options,
             terms,
             found,

@@ -5,6 +5,6 @@ pub invariant_of-self : goal.invariant_of-self
 invariant_of-self g c =
     let m = c.self.inside.machine in (
       c.self.invariant.0,
-      ready-counted m.checked.spec m.code (g.B.TermBank.store m.bank) (g.B.TermBank.store c.unprotect.new.self) m.state.pace
+      ready-counted m.checked.spec m.code (g.B.TermBank.store m.heap.bank) (g.B.TermBank.store c.unprotect.new.self) m.heap.pace
           c.args.t _ c.unprotect.ensures c.self.invariant.1,
     )

@@ -8,15 +8,15 @@ use Rattle.rec_engine.proofs.machine.Machine.call_values.Goals as goal
 
 pub returns-in_err-empty-clause-stays : goal.returns-in_err-empty-clause-stays
 returns-in_err-empty-clause-stays g c =
-    let w0 = g.B.TermBank.store c.args.self.now.bank in
-    let w1 = g.B.TermBank.store c.set_out.new.self.bank in
+    let w0 = g.B.TermBank.store c.args.self.now.heap.bank in
+    let w1 = g.B.TermBank.store c.set_out.new.self.heap.bank in
     let s = c.set_out.ensures.stays in
     record { spec = s.spec; code = s.code; depth = s.depth; bottom = refl; keeps = one-kept w0 w1 c.args.kept c.args.values.now s.keeps; ready = s.ready }
 
 pub run_call-requires-clause-invokes : goal.run_call-requires-clause-invokes
 run_call-requires-clause-invokes g c =
-    let w0 = g.B.TermBank.store c.args.self.now.bank in
-    let w1 = g.B.TermBank.store c.set_out.new.self.bank in (
+    let w0 = g.B.TermBank.store c.args.self.now.heap.bank in
+    let w1 = g.B.TermBank.store c.set_out.new.self.heap.bank in (
       Call c.args.self.now.checked.spec c.args.n (called c.args.self.now.checked.spec c.args.symbol (held_trees w0 c.args.values.now)),
       begins-behind c.args.self.now.checked.spec c.set_out.new.self.checked.spec c.set_out.new.self.code w0 w1 _ c.args.symbol c.args.kept
           c.args.values.now _ c.in_ok-empty.ensures.stays.spec c.in_ok-empty.ensures.stays.keeps c.requires.values c.requires.symbol c.requires.count
@@ -25,9 +25,9 @@ run_call-requires-clause-invokes g c =
 
 pub returns-in_err-reached-clause-stays : goal.returns-in_err-reached-clause-stays
 returns-in_err-reached-clause-stays g c =
-    let w0 = g.B.TermBank.store c.args.self.now.bank in
-    let w1 = g.B.TermBank.store c.set_out.new.self.bank in
-    let w2 = g.B.TermBank.store c.run_call.new.self.bank in
+    let w0 = g.B.TermBank.store c.args.self.now.heap.bank in
+    let w1 = g.B.TermBank.store c.set_out.new.self.heap.bank in
+    let w2 = g.B.TermBank.store c.run_call.new.self.heap.bank in
     let s = c.set_out.ensures.stays in
     let t = c.run_call.ensures.stays in
     record {
@@ -42,9 +42,9 @@ returns-in_err-reached-clause-stays g c =
 
 pub returns-in-Limit-clause-stays : goal.returns-in-Limit-clause-stays
 returns-in-Limit-clause-stays g c =
-    let w0 = g.B.TermBank.store c.args.self.now.bank in
-    let w1 = g.B.TermBank.store c.set_out.new.self.bank in
-    let w2 = g.B.TermBank.store c.run_call.new.self.bank in
+    let w0 = g.B.TermBank.store c.args.self.now.heap.bank in
+    let w1 = g.B.TermBank.store c.set_out.new.self.heap.bank in
+    let w2 = g.B.TermBank.store c.run_call.new.self.heap.bank in
     let s = c.set_out.ensures.stays in
     let t = c.run_call.ensures.stays in
     record {
@@ -59,9 +59,9 @@ returns-in-Limit-clause-stays g c =
 
 pub returns-in-Deep-clause-stays : goal.returns-in-Deep-clause-stays
 returns-in-Deep-clause-stays g c =
-    let w0 = g.B.TermBank.store c.args.self.now.bank in
-    let w1 = g.B.TermBank.store c.set_out.new.self.bank in
-    let w2 = g.B.TermBank.store c.run_call.new.self.bank in
+    let w0 = g.B.TermBank.store c.args.self.now.heap.bank in
+    let w1 = g.B.TermBank.store c.set_out.new.self.heap.bank in
+    let w2 = g.B.TermBank.store c.run_call.new.self.heap.bank in
     let s = c.set_out.ensures.stays in
     let t = c.run_call.ensures.stays in
     record {
@@ -76,9 +76,9 @@ returns-in-Deep-clause-stays g c =
 
 pub returns-in-Value-clause-stays : goal.returns-in-Value-clause-stays
 returns-in-Value-clause-stays g c =
-    let w0 = g.B.TermBank.store c.args.self.now.bank in
-    let w1 = g.B.TermBank.store c.set_out.new.self.bank in
-    let w2 = g.B.TermBank.store c.run_call.new.self.bank in
+    let w0 = g.B.TermBank.store c.args.self.now.heap.bank in
+    let w1 = g.B.TermBank.store c.set_out.new.self.heap.bank in
+    let w2 = g.B.TermBank.store c.run_call.new.self.heap.bank in
     let s = c.set_out.ensures.stays in
     let t = c.run_call.ensures.stays in
     record {
@@ -93,51 +93,51 @@ returns-in-Value-clause-stays g c =
 
 pub returns-in-Limit-clause-exact : goal.returns-in-Limit-clause-exact
 returns-in-Limit-clause-exact g c =
-    let w0 = g.B.TermBank.store c.args.self.now.bank in
-    let w1 = g.B.TermBank.store c.set_out.new.self.bank in
-    let w2 = g.B.TermBank.store c.run_call.new.self.bank in
+    let w0 = g.B.TermBank.store c.args.self.now.heap.bank in
+    let w1 = g.B.TermBank.store c.set_out.new.self.heap.bank in
+    let w2 = g.B.TermBank.store c.run_call.new.self.heap.bank in
     let y = c.args.self.now.checked.spec in
     let u = called y c.args.symbol (held_trees w0 c.args.values.now) in
-    call-limit y c.args.n u w2 c.run_call.new.self.state c.run_call.new.self.work.items c.in_ok-reached.reached c.in-Limit.is
+    call-limit y c.args.n u w2 c.run_call.new.self.state c.run_call.new.self.heap.work.items c.in_ok-reached.reached c.in-Limit.is
     (c.in_ok-reached.ensures.comes (Call y c.args.n u) (begins-behind c.args.self.now.checked.spec c.set_out.new.self.checked.spec
     c.set_out.new.self.code w0 w1 _ c.args.symbol c.args.kept c.args.values.now _ c.in_ok-empty.ensures.stays.spec
     c.in_ok-empty.ensures.stays.keeps c.requires.values c.requires.symbol c.requires.count c.clear.ensures.items c.in_ok-empty.ensures.set))
 
 pub index-term-requires : goal.index-term-requires
 index-term-requires g c =
-    let w0 = g.B.TermBank.store c.args.self.now.bank in
-    let w1 = g.B.TermBank.store c.set_out.new.self.bank in
-    let w2 = g.B.TermBank.store c.run_call.new.self.bank in
+    let w0 = g.B.TermBank.store c.args.self.now.heap.bank in
+    let w1 = g.B.TermBank.store c.set_out.new.self.heap.bank in
+    let w2 = g.B.TermBank.store c.run_call.new.self.heap.bank in
     let y = c.args.self.now.checked.spec in
     let u = called y c.args.symbol (held_trees w0 c.args.values.now) in
-    let r = call-within y c.args.n u w2 c.run_call.new.self.state c.run_call.new.self.work.items c.in_ok-reached.reached c.in-Value.is
+    let r = call-within y c.args.n u w2 c.run_call.new.self.state c.run_call.new.self.heap.work.items c.in_ok-reached.reached c.in-Value.is
     (c.in_ok-reached.ensures.comes (Call y c.args.n u) (begins-behind c.args.self.now.checked.spec c.set_out.new.self.checked.spec
     c.set_out.new.self.code w0 w1 _ c.args.symbol c.args.kept c.args.values.now _ c.in_ok-empty.ensures.stays.spec
     c.in_ok-empty.ensures.stays.keeps c.requires.values c.requires.symbol c.requires.count c.clear.ensures.items c.in_ok-empty.ensures.set)) in
     let two = r.0 in
-    let l = c.run_call.new.self.work.ok.0 in
+    let l = c.run_call.new.self.heap.work.ok.0 in
     omega (arith, two, l)
 
 pub overflow_sub-steps : goal.overflow_sub-steps
 overflow_sub-steps g c =
-    let w0 = g.B.TermBank.store c.args.self.now.bank in
-    let w1 = g.B.TermBank.store c.set_out.new.self.bank in
-    let w2 = g.B.TermBank.store c.run_call.new.self.bank in
+    let w0 = g.B.TermBank.store c.args.self.now.heap.bank in
+    let w1 = g.B.TermBank.store c.set_out.new.self.heap.bank in
+    let w2 = g.B.TermBank.store c.run_call.new.self.heap.bank in
     let y = c.args.self.now.checked.spec in
     let u = called y c.args.symbol (held_trees w0 c.args.values.now) in
-    (call-within y c.args.n u w2 c.run_call.new.self.state c.run_call.new.self.work.items c.in_ok-reached.reached c.in-Value.is
+    (call-within y c.args.n u w2 c.run_call.new.self.state c.run_call.new.self.heap.work.items c.in_ok-reached.reached c.in-Value.is
     (c.in_ok-reached.ensures.comes (Call y c.args.n u) (begins-behind c.args.self.now.checked.spec c.set_out.new.self.checked.spec
     c.set_out.new.self.code w0 w1 _ c.args.symbol c.args.kept c.args.values.now _ c.in_ok-empty.ensures.stays.spec
     c.in_ok-empty.ensures.stays.keeps c.requires.values c.requires.symbol c.requires.count c.clear.ensures.items c.in_ok-empty.ensures.set))).1
 
 pub returns-in-Value-clause-exact : goal.returns-in-Value-clause-exact
 returns-in-Value-clause-exact g c =
-    let w0 = g.B.TermBank.store c.args.self.now.bank in
-    let w1 = g.B.TermBank.store c.set_out.new.self.bank in
-    let w2 = g.B.TermBank.store c.run_call.new.self.bank in
+    let w0 = g.B.TermBank.store c.args.self.now.heap.bank in
+    let w1 = g.B.TermBank.store c.set_out.new.self.heap.bank in
+    let w2 = g.B.TermBank.store c.run_call.new.self.heap.bank in
     let y = c.args.self.now.checked.spec in
     let u = called y c.args.symbol (held_trees w0 c.args.values.now) in
-    call-value y c.args.n u w2 c.run_call.new.self.state c.run_call.new.self.work.items c.in_ok-reached.reached c.index-term.result.now
+    call-value y c.args.n u w2 c.run_call.new.self.state c.run_call.new.self.heap.work.items c.in_ok-reached.reached c.index-term.result.now
     c.in_ok-reached.ensures.held c.in-Value.is (c.in_ok-reached.ensures.comes (Call y c.args.n u)
     (begins-behind c.args.self.now.checked.spec c.set_out.new.self.checked.spec c.set_out.new.self.code w0 w1 _ c.args.symbol c.args.kept
     c.args.values.now _ c.in_ok-empty.ensures.stays.spec c.in_ok-empty.ensures.stays.keeps c.requires.values c.requires.symbol c.requires.count
@@ -145,11 +145,11 @@ returns-in-Value-clause-exact g c =
 
 pub returns-in-Deep-clause-deep : goal.returns-in-Deep-clause-deep
 returns-in-Deep-clause-deep g c =
-    let w0 = g.B.TermBank.store c.args.self.now.bank in
-    let w1 = g.B.TermBank.store c.set_out.new.self.bank in
+    let w0 = g.B.TermBank.store c.args.self.now.heap.bank in
+    let w1 = g.B.TermBank.store c.set_out.new.self.heap.bank in
     let y = c.args.self.now.checked.spec in
     let u = called y c.args.symbol (held_trees w0 c.args.values.now) in
-    came-full (g.B.TermBank.store c.run_call.new.self.bank) c.run_call.new.self.state c.run_call.new.self.work.items (Call y c.args.n u)
+    came-full (g.B.TermBank.store c.run_call.new.self.heap.bank) c.run_call.new.self.state c.run_call.new.self.heap.work.items (Call y c.args.n u)
     c.in_ok-reached.reached c.in-Deep.is (c.in_ok-reached.ensures.comes (Call y c.args.n u)
     (begins-behind c.args.self.now.checked.spec c.set_out.new.self.checked.spec c.set_out.new.self.code w0 w1 _ c.args.symbol c.args.kept
     c.args.values.now _ c.in_ok-empty.ensures.stays.spec c.in_ok-empty.ensures.stays.keeps c.requires.values c.requires.symbol c.requires.count

@@ -9,7 +9,7 @@ pub run_on-requires-clause-goes : goal.run_on-requires-clause-goes
 run_on-requires-clause-goes g c =
     let o = c.requires.invokes.0 in (
       o,
-      after-next c.invoke.ensures.stays c.invoke.new.self.state c.invoke.new.self.work.items o c.in_ok-flow.flow
+      after-next c.invoke.ensures.stays c.invoke.new.self.state c.invoke.new.self.heap.work.items o c.in_ok-flow.flow
           (c.in_ok-flow.ensures.goes.each o c.requires.invokes.1),
     )
 
@@ -18,5 +18,5 @@ returns-clause-stays g c = stays-more c.invoke.ensures.stays c.run_on.ensures.st
 
 pub returns-clause-comes : goal.returns-clause-comes
 returns-clause-comes g c = ok-map c.run_on.result (λ end k o h.
-    k o (after-next c.invoke.ensures.stays c.invoke.new.self.state c.invoke.new.self.work.items o c.in_ok-flow.flow
+    k o (after-next c.invoke.ensures.stays c.invoke.new.self.state c.invoke.new.self.heap.work.items o c.in_ok-flow.flow
     (c.in_ok-flow.ensures.goes.each o h))) c.run_on.ensures.comes

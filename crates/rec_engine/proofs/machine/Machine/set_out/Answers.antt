@@ -6,51 +6,51 @@ use Rattle.rec_engine.proofs.machine.Machine.set_out.Goals as goal
 
 pub returns-in_err-empty-clause-stays : goal.returns-in_err-empty-clause-stays
 returns-in_err-empty-clause-stays g c =
-    let w0 = g.B.TermBank.store c.args.self.now.bank in
-    let w1 = g.B.TermBank.store c.make.new.bank in
+    let w0 = g.B.TermBank.store c.args.self.now.heap.bank in
+    let w1 = g.B.TermBank.store c.make.new.self.bank in
     stays-kept c.requires.ready (subst (λ xs. Keeps w0 w1 xs) (set-first c.clear.new.self.items c.push.new.work.items c.push_all.new.work.items
-    c.deref.result.now c.args.kept c.args.values.now c.clear.ensures.items c.in_ok-push.ensures.pushed c.in_ok-push_all.ensures.pushed
-    c.deref.ensures.value) c.make.ensures.keeps) c.make.ensures.known
+    c.args.kept c.args.values.now c.clear.ensures.items c.in_ok-push.ensures.pushed c.in_ok-push_all.ensures.pushed) c.make.ensures.kept.keeps)
+    c.make.ensures.kept.known
 
 pub returns-in_err-push-2-clause-stays : goal.returns-in_err-push-2-clause-stays
 returns-in_err-push-2-clause-stays g c =
-    let w0 = g.B.TermBank.store c.args.self.now.bank in
-    let w1 = g.B.TermBank.store c.make.new.bank in
+    let w0 = g.B.TermBank.store c.args.self.now.heap.bank in
+    let w1 = g.B.TermBank.store c.make.new.self.bank in
     stays-kept c.requires.ready (subst (λ xs. Keeps w0 w1 xs) (set-first c.clear.new.self.items c.push.new.work.items c.push_all.new.work.items
-    c.deref.result.now c.args.kept c.args.values.now c.clear.ensures.items c.in_ok-push.ensures.pushed c.in_ok-push_all.ensures.pushed
-    c.deref.ensures.value) c.make.ensures.keeps) c.make.ensures.known
+    c.args.kept c.args.values.now c.clear.ensures.items c.in_ok-push.ensures.pushed c.in_ok-push_all.ensures.pushed) c.make.ensures.kept.keeps)
+    c.make.ensures.kept.known
 
 pub returns-in_err-push-3-clause-stays : goal.returns-in_err-push-3-clause-stays
 returns-in_err-push-3-clause-stays g c =
-    let w0 = g.B.TermBank.store c.args.self.now.bank in
-    let w1 = g.B.TermBank.store c.make.new.bank in
+    let w0 = g.B.TermBank.store c.args.self.now.heap.bank in
+    let w1 = g.B.TermBank.store c.make.new.self.bank in
     stays-kept c.requires.ready (subst (λ xs. Keeps w0 w1 xs) (set-first c.clear.new.self.items c.push.new.work.items c.push_all.new.work.items
-    c.deref.result.now c.args.kept c.args.values.now c.clear.ensures.items c.in_ok-push.ensures.pushed c.in_ok-push_all.ensures.pushed
-    c.deref.ensures.value) c.make.ensures.keeps) c.make.ensures.known
+    c.args.kept c.args.values.now c.clear.ensures.items c.in_ok-push.ensures.pushed c.in_ok-push_all.ensures.pushed) c.make.ensures.kept.keeps)
+    c.make.ensures.kept.known
 
 pub returns-in_err-push_all-2-clause-stays : goal.returns-in_err-push_all-2-clause-stays
 returns-in_err-push_all-2-clause-stays g c =
-    let w0 = g.B.TermBank.store c.args.self.now.bank in
-    let w1 = g.B.TermBank.store c.make.new.bank in
+    let w0 = g.B.TermBank.store c.args.self.now.heap.bank in
+    let w1 = g.B.TermBank.store c.make.new.self.bank in
     stays-kept c.requires.ready (subst (λ xs. Keeps w0 w1 xs) (set-first c.clear.new.self.items c.push.new.work.items c.push_all.new.work.items
-    c.deref.result.now c.args.kept c.args.values.now c.clear.ensures.items c.in_ok-push.ensures.pushed c.in_ok-push_all.ensures.pushed
-    c.deref.ensures.value) c.make.ensures.keeps) c.make.ensures.known
+    c.args.kept c.args.values.now c.clear.ensures.items c.in_ok-push.ensures.pushed c.in_ok-push_all.ensures.pushed) c.make.ensures.kept.keeps)
+    c.make.ensures.kept.known
 
 pub returns-clause-stays : goal.returns-clause-stays
 returns-clause-stays g c =
-    let w0 = g.B.TermBank.store c.args.self.now.bank in
-    let w1 = g.B.TermBank.store c.make.new.bank in
+    let w0 = g.B.TermBank.store c.args.self.now.heap.bank in
+    let w1 = g.B.TermBank.store c.make.new.self.bank in
     stays-kept c.requires.ready (subst (λ xs. Keeps w0 w1 xs) (set-first c.clear.new.self.items c.push.new.work.items c.push_all.new.work.items
-    c.deref.result.now c.args.kept c.args.values.now c.clear.ensures.items c.in_ok-push.ensures.pushed c.in_ok-push_all.ensures.pushed
-    c.deref.ensures.value) c.make.ensures.keeps) c.make.ensures.known
+    c.args.kept c.args.values.now c.clear.ensures.items c.in_ok-push.ensures.pushed c.in_ok-push_all.ensures.pushed) c.make.ensures.kept.keeps)
+    c.make.ensures.kept.known
 
 pub returns-clause-held : goal.returns-clause-held
 returns-clause-held g c =
-    let w0 = g.B.TermBank.store c.args.self.now.bank in
-    let w1 = g.B.TermBank.store c.make.new.bank in
+    let w0 = g.B.TermBank.store c.args.self.now.heap.bank in
+    let w1 = g.B.TermBank.store c.make.new.self.bank in
     set-held w0 w1 c.args.kept c.in_ok-empty.empty c.args.values.now _
-    (subst (λ xs. Keeps w0 w1 xs) (set-first c.clear.new.self.items c.push.new.work.items c.push_all.new.work.items c.deref.result.now c.args.kept
-    c.args.values.now c.clear.ensures.items c.in_ok-push.ensures.pushed c.in_ok-push_all.ensures.pushed c.deref.ensures.value)
-    c.make.ensures.keeps) c.requires.kept c.requires.values c.in_ok-empty.ensures.makes
+    (subst (λ xs. Keeps w0 w1 xs) (set-first c.clear.new.self.items c.push.new.work.items c.push_all.new.work.items c.args.kept
+    c.args.values.now c.clear.ensures.items c.in_ok-push.ensures.pushed c.in_ok-push_all.ensures.pushed)
+    c.make.ensures.kept.keeps) c.requires.kept c.requires.values c.in_ok-empty.ensures.makes
     (set-second c.clear-2.new.self.items c.push-2.new.work.items c.push-3.new.work.items c.push_all-2.new.work.items c.args.kept c.in_ok-empty.empty
     c.args.values.now c.clear-2.ensures.items c.in_ok-push-2.ensures.pushed c.in_ok-push-3.ensures.pushed c.in_ok-push_all-2.ensures.pushed)
