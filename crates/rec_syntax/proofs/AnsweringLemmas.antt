@@ -5,9 +5,9 @@ use Rattle.rec_syntax.specs.Tokens.{Token, Placed}
 use Rattle.rec_syntax.specs.Grammar.{SpecText}
 use Rattle.rec_syntax.specs.Place.{IsFaultPlace}
 use Rattle.rec_syntax.specs.Inner.Machine as machine
-use Rattle.rec_syntax.specs.Inner.Machine.{Config, step, stopped, outcome}
+use Rattle.rec_syntax.specs.Inner.Machine.{State, step, stopped, outcome}
 use Rattle.rec_syntax.specs.Lexemes.{tokens_from, token_of, behind}
-use Rattle.rec_syntax.specs.Inner.Reader.{config_of, IsState, Steps}
+use Rattle.rec_syntax.specs.Inner.Reader.{state_of, IsState, Steps}
 use Rattle.rec_syntax.specs.declared.lexer.LexemeKind.{LexemeKind}
 use Rattle.rec_syntax.specs.declared.lexer.LexemeKind.TheVariants.{End}
 use Rattle.rec_syntax.specs.declared.lexer.Lexeme.{Lexeme}
@@ -17,7 +17,7 @@ use Rattle.rec_syntax.proofs.VerdictLemmas.{comes_of, read_spells, stops_at_plac
 use Rattle.rec_syntax.proofs.DecidingLemmas.{Over, step_over}
 use Rattle.rec_syntax.proofs.ReadingLemmas.{moved}
 
-outcome-last : (c : Config) (a b : ℕ) (ps : List Placed) → outcome (Some c) a ps ≡ outcome (Some c) b ps
+outcome-last : (c : State) (a b : ℕ) (ps : List Placed) → outcome (Some c) a ps ≡ outcome (Some c) b ps
 outcome-last c a b [] = refl
 outcome-last c a b (p ∷ ps) = refl
 
@@ -25,25 +25,25 @@ abbrev pub placed : Token → ℕ → Placed
 placed t at = record { at = at; token = t }
 
 -- what is left of the text decides what comes of it
-abbrev pub Decides : List ℕ → Config → List Placed → Type 0
+abbrev pub Decides : List ℕ → State → List Placed → Type 0
 Decides bytes c ps = outcome (Some c) 0 ps ≡ comes_of bytes
 
-first_step : (c : Config) (ps rest : List Placed) (t : Token) (at : ℕ) (o : Option Config) → ps ≡ placed t at ∷ rest → step c.due c.read t ≡ o
+first_step : (c : State) (ps rest : List Placed) (t : Token) (at : ℕ) (o : Option State) → ps ≡ placed t at ∷ rest → step c.due c.read t ≡ o
     → outcome (Some c) 0 ps ≡ outcome o at rest
-first_step c ps rest t at o cut e = ap (λ (qs : List Placed). outcome (Some c) 0 qs) cut ∙ ap (λ (x : Option Config). outcome x at rest) e
+first_step c ps rest t at o cut e = ap (λ (qs : List Placed). outcome (Some c) 0 qs) cut ∙ ap (λ (x : Option State). outcome x at rest) e
 
 -- the state behind a token decides as the state before it did
-pub turn : (bytes : List ℕ) (c after : Config) (ps rest : List Placed) (t : Token) (at : ℕ) → Decides bytes c ps → ps ≡ placed t at ∷ rest
+pub turn : (bytes : List ℕ) (c after : State) (ps rest : List Placed) (t : Token) (at : ℕ) → Decides bytes c ps → ps ≡ placed t at ∷ rest
     → step c.due c.read t ≡ Some after → Decides bytes after rest
 turn bytes c after ps rest t at h cut e = outcome-last after 0 at rest ∙ sym (first_step c ps rest t at (Some after) cut e) ∙ h
 
 -- a token that is refused is at the fault's place
-pub refused_at : (bytes : List ℕ) (c : Config) (ps rest : List Placed) (t : Token) (at : ℕ) → Decides bytes c ps → ps ≡ placed t at ∷ rest
+pub refused_at : (bytes : List ℕ) (c : State) (ps rest : List Placed) (t : Token) (at : ℕ) → Decides bytes c ps → ps ≡ placed t at ∷ rest
     → step c.due c.read t ≡ None → IsFaultPlace bytes at
 refused_at bytes c ps rest t at h cut e = stops_at_place bytes at (sym h ∙ first_step c ps rest t at None cut e)
 
 -- where the end is taken, the specification is spelled
-pub spelled : (bytes : List ℕ) (c after : Config) (ps : List Placed) (at : ℕ) → Decides bytes c ps → ps ≡ placed token.End at ∷ []
+pub spelled : (bytes : List ℕ) (c after : State) (ps : List Placed) (at : ℕ) → Decides bytes c ps → ps ≡ placed token.End at ∷ []
     → step c.due c.read token.End ≡ Some after → SpecText bytes after.read
 spelled bytes c after ps at h cut e =
     let over : after.due ≡ machine.Done = subst Over e (step_over c.due c.read) in
@@ -55,15 +55,15 @@ behind_is bytes End to h = absurd (h refl)
 behind_is bytes k to h = refl
 
 -- the reader stands at an offset, in a state of which P holds with the tokens that are left
-pub record Reads (source : Vec ℕ Global) (P : Config → List Placed → Type 0) (from : ℕ) (d : Due) (r : Reader) : Type 0 where
+pub record Reads (source : Vec ℕ Global) (P : State → List Placed → Type 0) (from : ℕ) (d : Due) (r : Reader) : Type 0 where
   pub within : from ≤ length source.items
   pub same : r.source ≡ source
   pub state : IsState source.items d r
-  pub follows : P (config_of source.items d r) (tokens_from source.items from)
+  pub follows : P (state_of source.items d r) (tokens_from source.items from)
 
 -- behind a token that is not the end it stands so too
-pub reads_on : (source : Vec ℕ Global) (P : Config → List Placed → Type 0)
-    → ((c after : Config) (ps rest : List Placed) (t : Token) (at : ℕ) → P c ps → ps ≡ placed t at ∷ rest → step c.due c.read t ≡ Some after → P after rest)
+pub reads_on : (source : Vec ℕ Global) (P : State → List Placed → Type 0)
+    → ((c after : State) (ps rest : List Placed) (t : Token) (at : ℕ) → P c ps → ps ≡ placed t at ∷ rest → step c.due c.read t ≡ Some after → P after rest)
     → (from : ℕ) (d e : Due) (r after : Reader) (x : Lexeme) (text : List ℕ) → Reads source P from d r → (x.kind ≡ End → ⊥)
     → text ≡ r.source.items → x.to ≤ length text → tokens_from text from ≡ placed (token_of text x.kind) x.at ∷ behind text x.kind x.to
     → Steps d r x.kind (Ok e) after → after.source ≡ r.source → Reads source P x.to e after
@@ -77,6 +77,6 @@ reads_on source P goes from d e r after x text h more is within first moves same
       within = rw (is, h.same) at within;
       same = same ∙ h.same;
       state = m.1;
-      follows = goes (config_of bytes d r) (config_of bytes e after) (tokens_from bytes from) (tokens_from bytes x.to) (token_of bytes x.kind) x.at
+      follows = goes (state_of bytes d r) (state_of bytes e after) (tokens_from bytes from) (tokens_from bytes x.to) (token_of bytes x.kind) x.at
           h.follows cut m.0;
     }

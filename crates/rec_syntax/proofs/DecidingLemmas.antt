@@ -3,7 +3,7 @@ use Rattle.std.proofs.Common.{◌≡◌, ◌⊎◌, ℕ, zero, suc, ◌+◌, Lis
 use Rattle.rec_syntax.specs.Tokens.{Token, End, Placed, extra, token_at, in_front, scan, placed_tokens}
 use Rattle.rec_syntax.specs.Syntax.{Spec, Term, Apply, none}
 use Rattle.rec_syntax.specs.Inner.Machine.{Frame, Role, Left, Right, CondLeft, CondRight, InEval, Due, Called, After, Ended}
-use Rattle.rec_syntax.specs.Inner.Machine.{Done, Config, start, complete, after, step, Outcome, Read, Fault, outcome}
+use Rattle.rec_syntax.specs.Inner.Machine.{Done, State, start, complete, after, step, Outcome, Read, Fault, outcome}
 use Rattle.rec_syntax.specs.Grammar.{SpecText}
 use Rattle.rec_syntax.specs.Place.{IsFaultPlace}
 use Rattle.rec_syntax.specs.Laws.{OneReading, ReadOrFault}
@@ -29,7 +29,7 @@ scan_closed at (suc covered) (b ∷ bytes) = scan_closed (at + 1) covered bytes
 scan_closed at zero (b ∷ bytes) = in_front_closed (token_at at b bytes) at (scan (at + 1) (extra b bytes) bytes) (scan_closed (at + 1) (extra b bytes) bytes)
 
 -- nothing is due behind the end
-abbrev pub Over : Option Config → Type 0
+abbrev pub Over : Option State → Type 0
 Over None = Unit {0}
 Over (Some c) = c.due ≡ Done
 
@@ -54,14 +54,14 @@ step_over d y = tt
 abbrev Decided : Outcome → Type 0
 Decided o = ((y : Spec) × (o ≡ Read y)) ⊎ ((at : ℕ) × (o ≡ Fault at))
 
-over_decided : (o : Option Config) (last : ℕ) → Over o → Decided (outcome o last [])
+over_decided : (o : Option State) (last : ℕ) → Over o → Decided (outcome o last [])
 over_decided None last h = inr (last, refl)
 over_decided (Some c) last h = rw h (inl (c.read, refl))
 
-end_decided : (c : Config) (t : Token) (at : ℕ) → t ≡ End → Decided (outcome (step c.due c.read t) at [])
+end_decided : (c : State) (t : Token) (at : ℕ) → t ≡ End → Decided (outcome (step c.due c.read t) at [])
 end_decided c t at e = rw e (over_decided (step c.due c.read End) at (step_over c.due c.read))
 
-decided : (o : Option Config) (last : ℕ) (ps : List Placed) → Closed ps → Decided (outcome o last ps)
+decided : (o : Option State) (last : ℕ) (ps : List Placed) → Closed ps → Decided (outcome o last ps)
 decided None last ps h = inr (last, refl)
 decided (Some c) last [] h = absurd h
 decided (Some c) last (p ∷ []) h = end_decided c p.token p.at h

@@ -13,7 +13,7 @@ use Rattle.rec_syntax.specs.Syntax.{Term, Apply, none, Condition, Spec}
 use Rattle.rec_syntax.specs.Place.{CanGoOn, IsFaultPlace}
 use Rattle.rec_syntax.specs.Inner.Machine.{Frame, Role, Left, Right, CondLeft, CondRight, InEval, Level, Top}
 use Rattle.rec_syntax.specs.Inner.Machine.{In, Due, Start, Title, Between, Named, Args, Result, Grouped}
-use Rattle.rec_syntax.specs.Inner.Machine.{GroupSort, AtTerm, Called, First, After, Ended, Done, Config, to}
+use Rattle.rec_syntax.specs.Inner.Machine.{GroupSort, AtTerm, Called, First, After, Ended, Done, State, to}
 use Rattle.rec_syntax.specs.Inner.Machine.{item, between, with_rule, complete, after, step, run, start}
 use Rattle.rec_syntax.specs.Nodes.{newest}
 use Rattle.rec_syntax.specs.Lexemes.{word_of}
@@ -31,7 +31,7 @@ use Rattle.rec_syntax.proofs.SoundLemmas.{read_is_text}
 use Rattle.rec_syntax.proofs.VerdictLemmas.{run-append, taken_begins, refused_begins_none}
 
 -- one plain word is taken where another one is
-abbrev Alike : (Token → Option Config) → Type 0
+abbrev Alike : (Token → Option State) → Type 0
 Alike f = (v w : Word) → is_some (f (tokens.Plain v)) ≡ is_some (f (tokens.Plain w))
 
 alike_item : (l : Level) (y : Spec) (v w : Word) → is_some (item l y v) ≡ is_some (item l y w)
@@ -134,21 +134,21 @@ sample_is Unequal = refl
 sample_is End = refl
 
 -- tokens that are taken, and one more
-one_more : (us : List Token) (c : Config) (t : Token) (o : Option Config) → run (Some start) us ≡ Some c → step c.due c.read t ≡ o
+one_more : (us : List Token) (c : State) (t : Token) (o : Option State) → run (Some start) us ≡ Some c → step c.due c.read t ≡ o
     → run (Some start) (us ++ t ∷ []) ≡ o
 one_more us c t o e f = rw (run-append, e) f
 
-some_begins : (us : List Token) (o : Option Config) → run (Some start) us ≡ o → is_some o ≡ true → CanGoOn us
+some_begins : (us : List Token) (o : Option State) → run (Some start) us ≡ o → is_some o ≡ true → CanGoOn us
 some_begins us None e h = absurd cc
 some_begins us (Some c) e h = taken_begins us c e
 
-begins_some : (us : List Token) (c : Config) (t : Token) (o : Option Config) → run (Some start) us ≡ Some c → step c.due c.read t ≡ o
+begins_some : (us : List Token) (c : State) (t : Token) (o : Option State) → run (Some start) us ≡ Some c → step c.due c.read t ≡ o
     → CanGoOn (us ++ t ∷ []) → is_some o ≡ true
 begins_some us c t None e f h = absurd (refused_begins_none us c t e f h)
 begins_some us c t (Some d) e f h = refl
 
 -- behind tokens that lead to a state, just the kinds that it takes may stand
-pub may_stand : (us : List Token) (c : Config) (k : TokenKind) → run (Some start) us ≡ Some c → (is_taken (step c.due c.read) k ≡ true) ↔ MayStand us k
+pub may_stand : (us : List Token) (c : State) (k : TokenKind) → run (Some start) us ≡ Some c → (is_taken (step c.due c.read) k ≡ true) ↔ MayStand us k
 may_stand us c k e = (
   λ h. (
     sample k,
@@ -160,13 +160,13 @@ may_stand us c k e = (
 )
 
 -- the tokens before these lead to the state
-pub record Reached (bytes : List ℕ) (c : Config) (ps : List Placed) : Type 0 where
+pub record Reached (bytes : List ℕ) (c : State) (ps : List Placed) : Type 0 where
   pub before : List Placed
   pub cut : placed_tokens bytes ≡ before ++ ps
   pub led : run (Some start) (bare before) ≡ Some c
 
 -- a token that is taken leads on
-pub reached_next : (bytes : List ℕ) (c d : Config) (ps rest : List Placed) (t : Token) (at : ℕ) → Reached bytes c ps → ps ≡ placed t at ∷ rest
+pub reached_next : (bytes : List ℕ) (c d : State) (ps rest : List Placed) (t : Token) (at : ℕ) → Reached bytes c ps → ps ≡ placed t at ∷ rest
     → step c.due c.read t ≡ Some d → Reached bytes d rest
 reached_next bytes c d ps rest t at r e f = record {
   before = r.before ++ placed t at ∷ [];
@@ -175,11 +175,11 @@ reached_next bytes c d ps rest t at r e f = record {
 }
 
 -- a state is the one behind the tokens before the fault
-abbrev pub IsFaultState : List ℕ → Config → Type 0
+abbrev pub IsFaultState : List ℕ → State → Type 0
 IsFaultState bytes c = (at : ℕ) (fault : IsFaultPlace bytes at) → run (Some start) (bare fault.before) ≡ Some c
 
 -- a token that is refused is at the fault's place
-pub refused_state : (bytes : List ℕ) (c : Config) (ps rest : List Placed) (t : Token) (at : ℕ) → Reached bytes c ps → ps ≡ placed t at ∷ rest
+pub refused_state : (bytes : List ℕ) (c : State) (ps rest : List Placed) (t : Token) (at : ℕ) → Reached bytes c ps → ps ≡ placed t at ∷ rest
     → step c.due c.read t ≡ None → IsFaultState bytes c
 refused_state bytes c ps rest t at r e f place fault =
     let here : IsFaultPlace bytes at = record {
@@ -193,7 +193,7 @@ refused_state bytes c ps rest t at r e f place fault =
     ap (λ (qs : List Placed). run (Some start) (bare qs)) (same_before bytes place at fault here) ∙ r.led
 
 -- where the end is taken, there is no fault
-pub ended_state : (bytes : List ℕ) (c d : Config) (ps : List Placed) (at : ℕ) → Reached bytes c ps → ps ≡ placed tokens.End at ∷ []
+pub ended_state : (bytes : List ℕ) (c d : State) (ps : List Placed) (at : ℕ) → Reached bytes c ps → ps ≡ placed tokens.End at ∷ []
     → step c.due c.read tokens.End ≡ Some d → IsFaultState bytes d
 ended_state bytes c d ps at r e f place fault =
     let last = reached_next bytes c d ps [] tokens.End at r e f in
@@ -203,7 +203,7 @@ ended_state bytes c d ps at r e f place fault =
     ap (λ (qs : List Placed). run (Some start) (bare qs)) whole ∙ last.led ∙ ap (λ (x : Due). to x d.read) over in
     absurd (not_both bytes d.read place (read_is_text (bare (placed_tokens bytes)) d.read done) fault)
 
-pub none_since : (o : Option Config) → is_some o ≡ false → o ≡ None
+pub none_since : (o : Option State) → is_some o ≡ false → o ≡ None
 none_since None h = refl
 none_since (Some c) h = absurd cc
 

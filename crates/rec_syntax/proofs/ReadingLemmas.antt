@@ -11,7 +11,7 @@ use Rattle.rec_syntax.specs.Inner.Machine as machine
 use Rattle.rec_syntax.specs.Inner.Machine.{Frame, In, complete, between, with_rule, to}
 use Rattle.rec_syntax.specs.Lexemes.{word_of, token_of}
 use Rattle.rec_syntax.specs.Parts.{term_of, condition_of, rule_of, spec_of, Within, IsTerm, IsCondition, IsRule, AreSections}
-use Rattle.rec_syntax.specs.Inner.Reader.{role_of, made_of, frames_of, rest, config_of, advance, IsRole, IsState, Moves}
+use Rattle.rec_syntax.specs.Inner.Reader.{role_of, made_of, frames_of, rest, state_of, advance, IsRole, IsState, Moves}
 use Rattle.rec_syntax.specs.declared.lexer.Span.{Span}
 use Rattle.rec_syntax.specs.declared.lexer.LexemeKind.{LexemeKind}
 use Rattle.rec_syntax.specs.declared.lexer.LexemeKind.TheVariants.{Open, AndIf}
@@ -66,7 +66,7 @@ condition_pushed bytes r v c e h k = record {
 -- nothing is read of the next term
 pub begun : (bytes : List ℕ) (s : Sections) (r : Reader) (p : Role) → r.role ≡ p → r.calls.items ≡ [] → r.nodes.items ≡ [] → r.sections ≡ s
     → AreSections bytes s → IsRole bytes p
-    → (to (machine.AtTerm (role_of bytes p) []) (spec_of bytes s) ≡ Some (config_of bytes AtTerm r)) × IsState bytes AtTerm r
+    → (to (machine.AtTerm (role_of bytes p) []) (spec_of bytes s) ≡ Some (state_of bytes AtTerm r)) × IsState bytes AtTerm r
 begun bytes s r p role calls nodes sections h k = (
   rw (role, calls, sections) refl,
   record {

@@ -5,7 +5,7 @@ use Rattle.rec_syntax.specs.Tokens.{EndSpec, If, AndIf, Colon, Open, Close, Comm
 use Rattle.rec_syntax.specs.Syntax.{Term, Apply, none, Declaration, Condition, Rule, Spec}
 use Rattle.rec_syntax.specs.Grammar.{Phrase, ◌then◌, token, word, each, term, declaration, specification}
 use Rattle.rec_syntax.specs.Inner.Machine.{Frame, Role, Left, Right, CondLeft, CondRight, InEval, Level, Top, In, Due, Start, Title, Between}
-use Rattle.rec_syntax.specs.Inner.Machine.{Named, Args, Result, Grouped, GroupSort, AtTerm, Called, First, After, Ended, Done, Config, to}
+use Rattle.rec_syntax.specs.Inner.Machine.{Named, Args, Result, Grouped, GroupSort, AtTerm, Called, First, After, Ended, Done, State, to}
 use Rattle.rec_syntax.specs.Inner.Machine.{later, when, item, between, with_rule, declared, complete, after, step, then_step, run, start}
 use Rattle.rec_syntax.proofs.SectionLemmas.{sections}
 use Rattle.rec_syntax.proofs.LevelLemmas.{up_to, Empties}
@@ -36,7 +36,7 @@ Taken Ended y ts l = (sections (up_to (In Eval)) y then token EndSpec) ts l
 Taken Done y ts l = specification y ts l
 
 -- the tokens that lead to a state, where there is one
-abbrev IfTaken : Option Config → Phrase
+abbrev IfTaken : Option State → Phrase
 IfTaken None ts l = Unit {0}
 IfTaken (Some c) ts l = Taken c.due c.read ts l
 
@@ -132,11 +132,11 @@ step_taken (After p t fs) y u ts l k = after_taken p t fs y u ts l k
 step_taken Ended y End ts l (a, k, e) = whole_text y ts a l k e
 step_taken d y u ts l k = tt
 
-then_taken : (o : Option Config) (u : Token) (ts l : List Token) → IfTaken o ts (u ∷ l) → IfTaken (then_step o u) ts l
+then_taken : (o : Option State) (u : Token) (ts l : List Token) → IfTaken o ts (u ∷ l) → IfTaken (then_step o u) ts l
 then_taken None u ts l k = tt
 then_taken (Some c) u ts l k = step_taken c.due c.read u ts l k
 
-run_taken : (o : Option Config) (ts us : List Token) → IfTaken o ts us → IfTaken (run o us) ts []
+run_taken : (o : Option State) (ts us : List Token) → IfTaken o ts us → IfTaken (run o us) ts []
 run_taken o ts [] k = k
 run_taken o ts (u ∷ us) k = run_taken (then_step o u) ts us (then_taken o u ts us k)
 

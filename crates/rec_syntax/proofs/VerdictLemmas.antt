@@ -5,12 +5,12 @@ use Rattle.rec_syntax.specs.Syntax.{Spec}
 use Rattle.rec_syntax.specs.Grammar.{specification, SpecText}
 use Rattle.rec_syntax.specs.Place.{CanGoOn, IsFaultPlace}
 use Rattle.rec_syntax.specs.Laws.{OnlyA, FinishByA}
-use Rattle.rec_syntax.specs.Inner.Machine.{Due, Done, Config, to, step, then_step, run, start, Outcome, Read, Fault, stopped, outcome, outcome_of}
+use Rattle.rec_syntax.specs.Inner.Machine.{Due, Done, State, to, step, then_step, run, start, Outcome, Read, Fault, stopped, outcome, outcome_of}
 use Rattle.rec_syntax.proofs.FinishLemmas.{finish, finished, only_a}
 use Rattle.rec_syntax.proofs.SoundLemmas.{read_is_text}
 use Rattle.rec_syntax.proofs.CompleteLemmas.{text_taken}
 
-pub run-append : (o : Option Config) (us vs : List Token) → run o (us ++ vs) ≡ run (run o us) vs
+pub run-append : (o : Option State) (us vs : List Token) → run o (us ++ vs) ≡ run (run o us) vs
 run-append o [] vs = refl
 run-append o (u ∷ us) vs = run-append (then_step o u) us vs
 
@@ -19,14 +19,14 @@ run-none [] = refl
 run-none (u ∷ us) = run-none us
 
 -- tokens that the machine takes begin a text
-pub taken_begins : (us : List Token) (c : Config) → run (Some start) us ≡ Some c → CanGoOn us
+pub taken_begins : (us : List Token) (c : State) → run (Some start) us ≡ Some c → CanGoOn us
 taken_begins us c e =
     let f = finished c.due c.read in
     let whole : run (Some start) (us ++ finish c.due) ≡ to Done f.0 = rw (run-append, e) f.1 in
     (f.0, finish c.due, read_is_text (us ++ finish c.due) f.0 whole)
 
 -- tokens that lead to a state are finished as the state is
-finish_from : (us rest : List Token) (y : Spec) (o : Option Config) → run (Some start) us ≡ o → run o rest ≡ to Done y
+finish_from : (us rest : List Token) (y : Spec) (o : Option State) → run (Some start) us ≡ o → run o rest ≡ to Done y
     → (z : Spec) × (vs : List Token) × specification z (us ++ vs) [] × OnlyA vs
 finish_from us rest y None e f = absurd (cc (f, run-none rest))
 finish_from us rest y (Some c) e f =
@@ -38,7 +38,7 @@ pub finish_by_a : FinishByA
 finish_by_a us (y, rest, k) = finish_from us rest y (run (Some start) us) refl (sym (run-append (Some start) us rest) ∙ text_taken (us ++ rest) y k)
 
 -- tokens that it refuses begin none
-pub refused_begins_none : (us : List Token) (c : Config) (u : Token) → run (Some start) us ≡ Some c → step c.due c.read u ≡ None → ¬ CanGoOn (us ++ u ∷ [])
+pub refused_begins_none : (us : List Token) (c : State) (u : Token) → run (Some start) us ≡ Some c → step c.due c.read u ≡ None → ¬ CanGoOn (us ++ u ∷ [])
 refused_begins_none us c u e r (y, rest, k) =
     let taken = text_taken ((us ++ u ∷ []) ++ rest) y k in
     let stuck : run (Some start) ((us ++ u ∷ []) ++ rest) ≡ None = rw (run-append, run-append, e, r) (run-none rest) in
@@ -52,28 +52,28 @@ stopped-fault : (d : Due) (y : Spec) (at : ℕ) → stopped d y ≡ Fault at →
 stopped-fault Done y at e = cc
 stopped-fault d y at e = cc
 
-outcome-read : (o : Option Config) (last : ℕ) (ps : List Placed) (y : Spec) → outcome o last ps ≡ Read y → run o (bare ps) ≡ to Done y
+outcome-read : (o : Option State) (last : ℕ) (ps : List Placed) (y : Spec) → outcome o last ps ≡ Read y → run o (bare ps) ≡ to Done y
 outcome-read None last ps y e = absurd cc
 outcome-read (Some c) last [] y e = stopped-read c.due c.read y e
 outcome-read (Some c) last (p ∷ ps) y e = outcome-read (step c.due c.read p.token) p.at ps y e
 
-read-outcome : (o : Option Config) (last : ℕ) (ps : List Placed) (y : Spec) → run o (bare ps) ≡ to Done y → outcome o last ps ≡ Read y
+read-outcome : (o : Option State) (last : ℕ) (ps : List Placed) (y : Spec) → run o (bare ps) ≡ to Done y → outcome o last ps ≡ Read y
 read-outcome None last ps y e = absurd (cc (e, run-none (bare ps)))
-read-outcome (Some c) last [] y e = ap (λ (o : Option Config). outcome o last []) e
+read-outcome (Some c) last [] y e = ap (λ (o : Option State). outcome o last []) e
 read-outcome (Some c) last (p ∷ ps) y e = read-outcome (step c.due c.read p.token) p.at ps y e
 
 -- the first token that the machine refuses
-record Refusal (c : Config) (ps : List Placed) (place : ℕ) : Type 0 where
+record Refusal (c : State) (ps : List Placed) (place : ℕ) : Type 0 where
   before : List Placed
   token : Token
   after : List Placed
   cut : ps ≡ before ++ record { at = place; token = token } ∷ after
-  state : Config
+  state : State
   led : run (Some c) (bare before) ≡ Some state
   refuses : step state.due state.read token ≡ None
 
-refusal_here : (c : Config) (p : Placed) (ps : List Placed) (place : ℕ) (o : Option Config) → step c.due c.read p.token ≡ o → outcome o p.at ps ≡ Fault place
-    → ((c' : Config) → outcome (Some c') p.at ps ≡ Fault place → Refusal c' ps place) → Refusal c (p ∷ ps) place
+refusal_here : (c : State) (p : Placed) (ps : List Placed) (place : ℕ) (o : Option State) → step c.due c.read p.token ≡ o → outcome o p.at ps ≡ Fault place
+    → ((c' : State) → outcome (Some c') p.at ps ≡ Fault place → Refusal c' ps place) → Refusal c (p ∷ ps) place
 refusal_here c p ps place None e f later =
     let here : p.at ≡ place = cc in
     record { before = []; token = p.token; after = ps; cut = rw (← here) refl; state = c; led = refl; refuses = e }
@@ -90,7 +90,7 @@ refusal_here c p ps place (Some c') e f later =
       refuses = r.refuses;
     }
 
-outcome-fault : (c : Config) (last : ℕ) (ps : List Placed) (place : ℕ) → outcome (Some c) last ps ≡ Fault place → Refusal c ps place
+outcome-fault : (c : State) (last : ℕ) (ps : List Placed) (place : ℕ) → outcome (Some c) last ps ≡ Fault place → Refusal c ps place
 outcome-fault c last [] place e = absurd (stopped-fault c.due c.read place e)
 outcome-fault c last (p ∷ ps) place e = refusal_here c p ps place (step c.due c.read p.token) refl e (λ c' h. outcome-fault c' p.at ps place h)
 

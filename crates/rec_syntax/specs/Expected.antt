@@ -3,9 +3,9 @@ use Rattle.std.specs.Prelude.{◌≡◌, ◌↔◌, ℕ, Bool, List, [], ◌∷�
 use Rattle.rec_syntax.specs.Tokens as tokens
 use Rattle.rec_syntax.specs.Tokens.{Word, Token, bare}
 use Rattle.rec_syntax.specs.Place.{CanGoOn, IsFaultPlace}
-use Rattle.rec_syntax.specs.Inner.Machine.{Config, start, run}
+use Rattle.rec_syntax.specs.Inner.Machine.{State, start, run}
 use Rattle.rec_syntax.specs.Lexemes.{section_of, token_of}
-use Rattle.rec_syntax.specs.Inner.Reader.{config_of}
+use Rattle.rec_syntax.specs.Inner.Reader.{state_of}
 use Rattle.rec_syntax.specs.declared.lexer.LexemeKind.{LexemeKind}
 use Rattle.rec_syntax.specs.declared.token_kind.TokenKind.{TokenKind}
 use Rattle.rec_syntax.specs.declared.token_kind.TokenKind.TheVariants.{PlainWord, RecSpec, Section, EndSpec, If, AndIf, Colon}
@@ -63,10 +63,10 @@ sample Unequal = tokens.Unequal
 sample End = tokens.End
 
 -- whether the machine takes a token of this kind
-abbrev pub is_taken : (Token → Option Config) → TokenKind → Bool
+abbrev pub is_taken : (Token → Option State) → TokenKind → Bool
 is_taken step k = is_some (step (sample k))
 
 -- the reader's state is the one behind the tokens before the fault
 abbrev pub IsAtFault : List ℕ → Due → Reader → Type 0
 IsAtFault bytes d r = (at : ℕ) (fault : IsFaultPlace bytes at)
-    → run (Some start) (bare fault.before) ≡ Some (config_of bytes d r)
+    → run (Some start) (bare fault.before) ≡ Some (state_of bytes d r)

@@ -7,7 +7,7 @@ ghost use Rattle.rec_syntax.specs.Length.{longest};
 ghost use Rattle.rec_syntax.specs.Lexemes.{IsToken};
 ghost use Rattle.rec_syntax.specs.Inner.Machine.{start};
 ghost use Rattle.rec_syntax.specs.Parts.{AreSections, spec_of};
-ghost use Rattle.rec_syntax.specs.Inner.Reader.{config_of, IsState, IsAt, Steps};
+ghost use Rattle.rec_syntax.specs.Inner.Reader.{state_of, IsState, IsAt, Steps};
 
 mod expected;
 mod items;
@@ -110,7 +110,7 @@ impl Reader {
     /// A reader before the first token.
     fn new(alloc: Global, source: Vec<u8>) -> Self
         ensures source { result.source ≡ source }
-        ensures start { config_of source.items Due.Start result ≡ start }
+        ensures start { state_of source.items Due.Start result ≡ start }
         ensures state { IsState source.items Due.Start result }
     {
         Reader {
@@ -138,13 +138,13 @@ impl Reader {
             },
             Due::Title => self.title(token),
             Due::Between(level) => self.between(level, token),
-            Due::Named(symbols, name) => self.named(symbols, name, token),
+            Due::Named(symbols, name) => self.after_name(symbols, name, token),
             Due::Arguments(symbols, name) => self.arguments(symbols, name, token),
             Due::ResultSort(symbols, name) => self.result_sort(symbols, name, token),
-            Due::Grouped(first) => self.grouped(first, token),
+            Due::Grouped(first) => self.group_words(first, token),
             Due::GroupSort(first) => self.group_sort(first, token),
             Due::AtTerm => self.at_term(token),
-            Due::Called(word) => self.called(word, token),
+            Due::Called(word) => self.after_word(word, token),
             Due::First(word) => self.first(word, token),
             Due::After => self.after(token),
             Due::Ended => match token {
@@ -170,7 +170,7 @@ impl Reader {
     /// The specification that the whole text spells, from before its first token on.
     fn read_text(&mut self) -> Result<Syntax, SyntaxFault>
         requires short { length self.old.source.items ≤ longest }
-        requires start { config_of self.old.source.items Due.Start self.old ≡ start }
+        requires start { state_of self.old.source.items Due.Start self.old ≡ start }
         requires state { IsAt Due.Start self.old }
         ensures source { IfOk result (λ s. s.source ≡ self.old.source.items) }
         ensures spelled { IfOk result (λ s. SpecText self.old.source.items s.spec) }

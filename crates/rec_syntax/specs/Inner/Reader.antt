@@ -5,7 +5,7 @@ use Rattle.rec_syntax.specs.Syntax.{none}
 use Rattle.rec_syntax.specs.Nodes as nodes
 use Rattle.rec_syntax.specs.Nodes.{newest, assembled, made_by, newest_term}
 use Rattle.rec_syntax.specs.Inner.Machine as machine
-use Rattle.rec_syntax.specs.Inner.Machine.{Frame, Config}
+use Rattle.rec_syntax.specs.Inner.Machine.{Frame, State}
 use Rattle.rec_syntax.specs.Lexemes.{word_of, section_of, token_of, Within}
 use Rattle.rec_syntax.specs.Parts.{words_of, node_of, term_of, condition_of, spec_of, IsTerm, IsRule, AreSections}
 use Rattle.rec_syntax.specs.declared.lexer.Span.{Span}
@@ -87,11 +87,11 @@ due_of bytes After r = machine.After (role_of bytes r.role)
 due_of bytes Ended r = machine.Ended
 due_of bytes Done r = machine.Done
 
-abbrev pub config_of : List ℕ → Due → Reader → Config
-config_of bytes d r = record { due = due_of bytes d r; read = spec_of bytes r.sections }
+abbrev pub state_of : List ℕ → Due → Reader → State
+state_of bytes d r = record { due = due_of bytes d r; read = spec_of bytes r.sections }
 
 -- the machine's answer to a token
-abbrev pub advance : List ℕ → Due → Reader → LexemeKind → Option Config
+abbrev pub advance : List ℕ → Due → Reader → LexemeKind → Option State
 advance bytes d r k = machine.step (due_of bytes d r) (spec_of bytes r.sections) (token_of bytes k)
 
 -- how many arguments the open applications have
@@ -148,8 +148,8 @@ pub record IsState (bytes : List ℕ) (d : Due) (r : Reader) : Type 0 where
   pub due : HoldsDue bytes d r
 
 -- a step of the machine, unless memory ran out
-abbrev pub Moves : List ℕ → Option Config → Result Due Stop → Reader → Type 0
-Moves bytes moved (Ok d) r = (moved ≡ Some (config_of bytes d r)) × IsState bytes d r
+abbrev pub Moves : List ℕ → Option State → Result Due Stop → Reader → Type 0
+Moves bytes moved (Ok d) r = (moved ≡ Some (state_of bytes d r)) × IsState bytes d r
 Moves bytes moved (Err stop.Refused) r = moved ≡ None
 Moves bytes moved (Err stop.Memory) r = Unit {0}
 

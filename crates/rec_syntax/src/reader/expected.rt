@@ -4,7 +4,7 @@ ghost use Rattle.std.specs.Prelude.{◌≡◌, ◌↔◌, ℕ, true, List, Conta
 ghost use Rattle.rec_syntax.specs.Syntax as syntax;
 ghost use Rattle.rec_syntax.specs.Syntax.{Spec};
 ghost use Rattle.rec_syntax.specs.Inner.Machine.{start, between, complete, after, step};
-ghost use Rattle.rec_syntax.specs.Inner.Reader.{level_of, role_of, due_of, open_of, config_of, IsAt};
+ghost use Rattle.rec_syntax.specs.Inner.Reader.{level_of, role_of, due_of, open_of, state_of, IsAt};
 ghost use Rattle.rec_syntax.specs.Lexemes.{token_of};
 ghost use Rattle.rec_syntax.specs.Expected.{is_taken, AreExpected, IsAtFault};
 
@@ -86,7 +86,7 @@ impl Reader {
     }
 
     /// The kinds of tokens that may stand here.
-    fn expected(&self, alloc: Global, due: Due) -> Result<Vec<TokenKind>, AllocError>
+    fn expected_kinds(&self, alloc: Global, due: Due) -> Result<Vec<TokenKind>, AllocError>
         ensures { (y : Spec) → IfOk result (λ kinds. (k : TokenKind) → Contains kinds.items k
             ↔ (is_taken (step (due_of self.now.source.items due self.now) y) k ≡ true)) }
     {
@@ -112,7 +112,7 @@ impl Reader {
 
     /// Reads the tokens before the fault's place, from the first one on; what is due there.
     fn read_to_fault(&mut self) -> Result<Due, AllocError>
-        requires start { config_of self.old.source.items Due.Start self.old ≡ start }
+        requires start { state_of self.old.source.items Due.Start self.old ≡ start }
         requires state { IsAt Due.Start self.old }
         ensures same { self.new.source ≡ self.old.source }
         ensures reached { IfOk result (λ due. IsAtFault self.old.source.items due self.new) }
@@ -137,12 +137,12 @@ impl Reader {
 
     /// What may stand at the fault's place, from before the first token on.
     fn expected_in_text(&mut self, alloc: Global) -> Result<Vec<TokenKind>, AllocError>
-        requires start { config_of self.old.source.items Due.Start self.old ≡ start }
+        requires start { state_of self.old.source.items Due.Start self.old ≡ start }
         requires state { IsAt Due.Start self.old }
         ensures { IfOk result (λ kinds. AreExpected self.old.source.items kinds.items) }
     {
         let due = self.read_to_fault()?;
-        self.expected(alloc, due)
+        self.expected_kinds(alloc, due)
     }
 }
 

@@ -91,7 +91,7 @@ impl Reader {
     }
 
     /// After a declaration's word: the colon.
-    pub(super) fn named(
+    pub(super) fn after_name(
         &mut self,
         symbols: Symbols,
         name: Span,
@@ -169,7 +169,7 @@ impl Reader {
     }
 
     /// After a group's first word: the others, and the colon.
-    pub(super) fn grouped(&mut self, first: Span, token: LexemeKind) -> Result<Due, Stop>
+    pub(super) fn group_words(&mut self, first: Span, token: LexemeKind) -> Result<Due, Stop>
         requires state { IsAt (Due.Grouped first) self.old }
         requires token { IsToken self.old.source.items token }
         ensures moves { Steps (Due.Grouped first) self.old token result self.new }

@@ -39,7 +39,7 @@ impl Reader {
     }
 
     /// After a term's word: an opening parenthesis, or what follows a term.
-    pub(super) fn called(&mut self, word: Span, token: LexemeKind) -> Result<Due, Stop>
+    pub(super) fn after_word(&mut self, word: Span, token: LexemeKind) -> Result<Due, Stop>
         requires state { IsAt (Due.Called word) self.old }
         requires token { IsToken self.old.source.items token }
         ensures moves { Steps (Due.Called word) self.old token result self.new }
@@ -114,11 +114,11 @@ impl Reader {
         ensures same { self.new.source ≡ self.old.source }
     {
         let nodes = Vec::from_slice(self.alloc, &self.nodes)?;
-        self.completed(Term { nodes }, token)
+        self.take_term(Term { nodes }, token)
     }
 
     /// After such a term, which is this one.
-    fn completed(&mut self, term: Term, token: LexemeKind) -> Result<Due, Stop>
+    fn take_term(&mut self, term: Term, token: LexemeKind) -> Result<Due, Stop>
         requires sections { AreSections self.old.source.items self.old.sections }
         requires role { IsRole self.old.source.items self.old.role }
         requires term { IsTerm self.old.source.items term }

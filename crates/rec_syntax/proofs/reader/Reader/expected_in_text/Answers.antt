@@ -2,7 +2,7 @@ use Rattle.std.proofs.Common.{◌≡◌, ◌↔◌, ℕ, true, List, Contains, I
 use Rattle.rec_syntax.specs.Tokens.{bare}
 use Rattle.rec_syntax.specs.Inner.Machine.{step}
 use Rattle.rec_syntax.specs.Parts.{spec_of}
-use Rattle.rec_syntax.specs.Inner.Reader.{due_of, config_of}
+use Rattle.rec_syntax.specs.Inner.Reader.{due_of, state_of}
 use Rattle.rec_syntax.specs.Expected.{is_taken, AreExpected, IsAtFault}
 use Rattle.rec_syntax.specs.declared.token_kind.TokenKind.{TokenKind}
 use Rattle.rec_syntax.specs.declared.reader.Due.{Due}
@@ -18,7 +18,7 @@ exact : {E : Type 0} → (bytes : List ℕ) (d : Due) (r : Reader) (result : Res
     → IfOk result (λ ks. AreTaken bytes d r ks.items) → IfOk result (λ ks. AreExpected bytes ks.items)
 exact bytes d r (Err e) h t = tt
 exact bytes d r (Ok ks) h t = λ at fault k.
-    let stand = may_stand (bare fault.before) (config_of bytes d r) k (h at fault) in
+    let stand = may_stand (bare fault.before) (state_of bytes d r) k (h at fault) in
     (λ x. stand.0 ((t k).0 x), λ m. (t k).1 (stand.1 m))
 
 pub returns : goal.returns
@@ -27,7 +27,7 @@ returns c =
     let d = c.in_ok-due.due in
     let r = c.read_to_fault.new.self in
     let same : r.source.items ≡ bytes = ap (λ (v : Vec ℕ Global). v.items) c.read_to_fault.ensures.same in
-    let taken : IfOk c.expected.result (λ ks. AreTaken bytes d r ks.items) =
-    subst (λ (bs : List ℕ). IfOk c.expected.result (λ ks. (k : TokenKind) → Contains ks.items k
-    ↔ (is_taken (step (due_of bs d r) (spec_of bytes r.sections)) k ≡ true))) same (c.expected.ensures (spec_of bytes r.sections)) in
-    exact bytes d r c.expected.result c.in_ok-due.ensures.reached taken
+    let taken : IfOk c.expected_kinds.result (λ ks. AreTaken bytes d r ks.items) =
+    subst (λ (bs : List ℕ). IfOk c.expected_kinds.result (λ ks. (k : TokenKind) → Contains ks.items k
+    ↔ (is_taken (step (due_of bs d r) (spec_of bytes r.sections)) k ≡ true))) same (c.expected_kinds.ensures (spec_of bytes r.sections)) in
+    exact bytes d r c.expected_kinds.result c.in_ok-due.ensures.reached taken

@@ -1,9 +1,9 @@
 use Rattle.std.proofs.Common.{◌≡◌, ℕ, ◌∙◌, ap, sym, subst, refl, Some, Ok, Err, Vec, Global, arith}
 use Rattle.rec_syntax.specs.Grammar.{SpecText}
 use Rattle.rec_syntax.specs.Parts.{spec_of}
-use Rattle.rec_syntax.specs.Inner.Machine.{Config, outcome}
+use Rattle.rec_syntax.specs.Inner.Machine.{State, outcome}
 use Rattle.rec_syntax.specs.Lexemes.{tokens_from, token_of, behind}
-use Rattle.rec_syntax.specs.Inner.Reader.{config_of}
+use Rattle.rec_syntax.specs.Inner.Reader.{state_of}
 use Rattle.rec_syntax.proofs.AnsweringLemmas.{Decides, refused_at, spelled, turn, reads_on}
 use Rattle.rec_syntax.proofs.ReadingLemmas.{moved}
 use Rattle.rec_syntax.specs.declared.reader.Stop.TheVariants.{Refused}
@@ -14,7 +14,7 @@ loop-due-init c = record {
   within = omega arith;
   same = refl;
   state = c.requires.state;
-  follows = ap (λ (x : Config). outcome (Some x) 0 (tokens_from c.args.self.now.source.items 0)) c.requires.start;
+  follows = ap (λ (x : State). outcome (Some x) 0 (tokens_from c.args.self.now.source.items 0)) c.requires.start;
 }
 
 pub returns-in-Err-Refused-clause-place : goal.returns-in-Err-Refused-clause-place
@@ -25,7 +25,7 @@ returns-in-Err-Refused-clause-place c =
     let cut = rw (c.deref.ensures.value, l.invariant.same) at c.next-lexeme.ensures.first in
     let m = moved l.self.source.items bytes l.due l.self c.step.new.self x.kind (Err Refused) (ap (λ (v : Vec ℕ Global). v.items) l.invariant.same)
     (rw c.in-Err-Refused.field-0-is at c.in-Err-Refused.ensures.moves) in
-    refused_at bytes (config_of bytes l.due l.self) (tokens_from bytes l.from) (behind bytes x.kind x.to) (token_of bytes x.kind) x.at l.invariant.follows cut m
+    refused_at bytes (state_of bytes l.due l.self) (tokens_from bytes l.from) (behind bytes x.kind x.to) (token_of bytes x.kind) x.at l.invariant.follows cut m
 
 pub returns-in-End-clause-spelled : goal.returns-in-End-clause-spelled
 returns-in-End-clause-spelled c =
@@ -37,7 +37,7 @@ returns-in-End-clause-spelled c =
     let moves = moved l.self.source.items bytes l.due l.self r x.kind (Ok c.in-Ok.due) (ap (λ (v : Vec ℕ Global). v.items) l.invariant.same)
     c.in-Ok.ensures.moves in
     let m = rw c.in-End.is at moves in
-    let text : SpecText bytes (spec_of bytes r.sections) = spelled bytes (config_of bytes l.due l.self) (config_of bytes c.in-Ok.due r)
+    let text : SpecText bytes (spec_of bytes r.sections) = spelled bytes (state_of bytes l.due l.self) (state_of bytes c.in-Ok.due r)
     (tokens_from bytes l.from) x.at l.invariant.follows cut m.0 in
     let same : r.source ≡ c.args.self.now.source = c.step.ensures.same ∙ l.invariant.same in
     let read : SpecText bytes (spec_of r.source.items r.sections) = subst (λ (v : Vec ℕ Global). SpecText bytes (spec_of v.items r.sections)) (sym same) text in

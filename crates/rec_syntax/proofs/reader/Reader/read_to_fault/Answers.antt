@@ -2,7 +2,7 @@ use Rattle.std.proofs.Common.{◌≡◌, ℕ, ap, subst, false, Ok, Vec, Global,
 use Rattle.rec_syntax.specs.Inner.Machine.{step}
 use Rattle.rec_syntax.specs.Parts.{spec_of}
 use Rattle.rec_syntax.specs.Lexemes.{tokens_from, token_of, behind}
-use Rattle.rec_syntax.specs.Inner.Reader.{config_of, due_of}
+use Rattle.rec_syntax.specs.Inner.Reader.{state_of, due_of}
 use Rattle.rec_syntax.proofs.AnsweringLemmas.{reads_on}
 use Rattle.rec_syntax.proofs.ReadingLemmas.{moved}
 use Rattle.rec_syntax.proofs.ExpectingLemmas.{Reached, none_since, refused_state, ended_state, reached_next}
@@ -21,7 +21,7 @@ returns-then-not-may_take-clause-reached c =
     let here : is_some (step (due_of bytes l.due l.self) y (token_of bytes x.kind)) ≡ false =
     subst (λ (v : Vec ℕ Global). is_some (step (due_of v.items l.due l.self) y (token_of v.items x.kind)) ≡ false) l.invariant.same refused in
     let m : step (due_of bytes l.due l.self) y (token_of bytes x.kind) ≡ None = none_since (step (due_of bytes l.due l.self) y (token_of bytes x.kind)) here in
-    refused_state bytes (config_of bytes l.due l.self) (tokens_from bytes l.from) (behind bytes x.kind x.to) (token_of bytes x.kind) x.at
+    refused_state bytes (state_of bytes l.due l.self) (tokens_from bytes l.from) (behind bytes x.kind x.to) (token_of bytes x.kind) x.at
     l.invariant.follows cut m
 
 pub returns-in-End-clause-reached : goal.returns-in-End-clause-reached
@@ -34,7 +34,7 @@ returns-in-End-clause-reached c =
     let moves = moved l.self.source.items bytes l.due l.self r x.kind (Ok c.in-Ok.due) (ap (λ (v : Vec ℕ Global). v.items) l.invariant.same)
     c.in-Ok.ensures.moves in
     let m = rw c.in-End.is at moves in
-    ended_state bytes (config_of bytes l.due l.self) (config_of bytes c.in-Ok.due r) (tokens_from bytes l.from) x.at l.invariant.follows cut m.0
+    ended_state bytes (state_of bytes l.due l.self) (state_of bytes c.in-Ok.due r) (tokens_from bytes l.from) x.at l.invariant.follows cut m.0
 
 pub loop-lexeme-preserved : goal.loop-lexeme-preserved
 loop-lexeme-preserved c =

@@ -1,5 +1,5 @@
 use Rattle.rec_syntax.proofs.ReadingLemmas.{term_pushed}
-use Rattle.rec_syntax.proofs.reader.Reader.completed.Goals as goal
+use Rattle.rec_syntax.proofs.reader.Reader.take_term.Goals as goal
 
 pub between-requires-clause-sections : goal.between-requires-clause-sections
 between-requires-clause-sections c =

@@ -2,7 +2,7 @@ use Rattle.rec_syntax.specs.Parts.{spec_of}
 use Rattle.rec_syntax.specs.Inner.Reader.{role_of}
 use Rattle.rec_syntax.proofs.TermStackLemmas.{leaf}
 use Rattle.rec_syntax.proofs.ReadingLemmas.{called_moves}
-use Rattle.rec_syntax.proofs.reader.Reader.called.Goals as goal
+use Rattle.rec_syntax.proofs.reader.Reader.after_word.Goals as goal
 
 pub after-requires : goal.after-requires
 after-requires c =

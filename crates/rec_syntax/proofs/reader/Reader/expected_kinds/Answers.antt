@@ -7,8 +7,8 @@ use Rattle.rec_syntax.specs.Inner.Reader.{due_of}
 use Rattle.rec_syntax.specs.Expected.{is_taken}
 use Rattle.rec_syntax.specs.declared.token_kind.TokenKind.TheVariants.{PlainWord}
 use Rattle.rec_syntax.proofs.ExpectingLemmas.{all_kinds, kinds_passing}
-use Rattle.rec_syntax.proofs.reader.Reader.expected.Goals as goal
-use Rattle.rec_syntax.proofs.reader.Reader.expected.Goals.{then-is_expected+in_ok-push, else-is_expected}
+use Rattle.rec_syntax.proofs.reader.Reader.expected_kinds.Goals as goal
+use Rattle.rec_syntax.proofs.reader.Reader.expected_kinds.Goals.{then-is_expected+in_ok-push, else-is_expected}
 
 pub loop-kind-preserved : goal.loop-kind-preserved
 loop-kind-preserved c y =
