@@ -110,6 +110,13 @@ at-front [] (suc k) x rest e = absurd (cc e)
 at-front (z ∷ xs) zero x rest e = (omega arith, (let same : z ≡ x = cc e in ap (λ a. Some a) same), (let same : xs ≡ rest = cc e in sym same))
 at-front (z ∷ xs) (suc k) x rest e = let h = at-front xs k x rest e in ((let l = h.0 in omega (arith, l)), h.1, h.2)
 
+-- what is found is a match
+pub matched-at : (y : Spec) (u : Tree) (from : ℕ) (m : NumberedMatch) → next_match y from u ≡ Some m → (r : Rule) × IsMatch y m.number u r m.values
+matched-at y u from m h =
+    let k = first-at y (drop from y.rules) u from m h in
+    let front = at-front y.rules m.number k.rule k.others (ap (λ j. drop j y.rules) k.is ∙ sym (drop-drop k.place from y.rules) ∙ k.split) in
+    (k.rule, record { rule = front.1; binds = k.binding })
+
 pub next-rule : (y : Spec) (u : Tree) (from i : ℕ) → number_of (next_match y from u) ≡ Some i → NextRule y u from i
 next-rule y u from i e = by (next_match y from u) refl e
   where

@@ -7,9 +7,11 @@ pub mod PushLemmas
 pub mod RunLemmas
 pub mod ConditionLemmas
 pub mod FindLemmas
+pub mod BoundLemmas
 pub mod FireLemmas
 pub mod StepLemmas
 pub mod WholeLemmas
 pub mod SpotLemmas
+pub mod RewriteLemmas
 mod TraceRows
 mod LineRows

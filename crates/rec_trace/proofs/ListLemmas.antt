@@ -1,6 +1,6 @@
 -- Lists in a bank, what protects them, and what others protect.
 use Rattle.std.proofs.Common.{◌+◌, ◌-◌, ◌<◌, ◌≤◌, ℕ, arith, refl, sym, ap, subst, ◌∙◌, length, drop, get_or, inl}
-use Rattle.std.specs.Prelude.{zero, suc, ◌≡◌, ◌==◌, Bool, List, [], ◌∷◌, OnOk, Option, Some, Ok}
+use Rattle.std.specs.Prelude.{zero, suc, ◌≡◌, ◌==◌, List, [], ◌∷◌, OnOk, Option, Some, Ok}
 use Rattle.std.specs.Prelude.{Err, Result, IsSome, is_some, Contains, if◌then◌else◌, unwrap_or}
 use Rattle.std.specs.Option.{option_and_then}
 use Rattle.std.proofs.lemmas.Bool.Decides.{nat_tests}
@@ -295,16 +295,6 @@ is-below w stack rest below list lt first second =
       second_is = head-is w rest rest_list some ∙ ap (λ (xs : List Tree). let o : Option Tree = Some (get_or xs 0 (list_of none)) in o) is
           ∙ ap (λ u. let o : Option Tree = Some u in o) two.1;
     }
-
--- a list of two has a first item, and so has what stands below it
-pub rest-some : (w : Store) (stack rest : Term) → IsList w stack → 1 < length (listed w stack) → tree_at w rest ≡ part_at tail_of w stack
-    → IsSome (part_at head_of w rest) × IsSome (part_at tail_of w rest)
-rest-some w stack rest list lt first =
-    let two = two-of (listed w stack) lt in
-    let others : tree_at w rest ≡ Some (list_of (from_list (drop 1 (listed w stack)))) = first ∙ tail-is w stack list (omega (arith, lt)) in
-    let some : 0 < length (listed w rest) = subst (λ (xs : List Tree). 0 < length xs) (sym (items-are w rest (drop 1 (listed w stack)) others)) two.2 in
-    let rest_list : IsList w rest = is-list w rest (drop 1 (listed w stack)) others in
-    (ap is_some (head-is w rest rest_list some), ap is_some (tail-is w rest rest_list some))
 
 -- a list that is protected twice
 twice : (f : ℕ → ℕ) (a k : ℕ) → (if k == a then 1 else 0) + (if k == a then 1 else 0)

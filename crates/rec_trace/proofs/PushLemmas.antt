@@ -1,11 +1,11 @@
 -- Letters that become steps: the moves of a term come first.
-use Rattle.std.proofs.Common.{◌<◌, ℕ, arith, refl, sym, ap, subst, ◌∙◌, length, map, inl, inr}
+use Rattle.std.proofs.Common.{◌+◌, ◌<◌, ◌≤◌, ℕ, arith, refl, sym, ap, subst, ◌∙◌, drop, get_or, length, map, inl, inr}
 use Rattle.std.specs.Prelude.{◌≡◌, Bool, true, false, List, [], ◌∷◌, ◌++◌, Option, Some, None, Contains, IsSome, is_some, reverse, unwrap_or}
-use Rattle.std.proofs.lemmas.List.{map-append, reverse-append}
+use Rattle.std.proofs.lemmas.List.{get_or-map, length-map, map-append, reverse-append}
 use Rattle.rx_term.specs.Tree.{Tree, Trees, Appl, Int, Items, Hole, from_list, none, more, list_of}
 use Rattle.rx_term.specs.Parts.{parts}
 use Rattle.rx_term.specs.Store.{Store, tree_at}
-use Rattle.rx_term.specs.Walks.{held_tree, held_trees}
+use Rattle.rx_term.specs.Walks.{AllHeld, held_tree, held_trees}
 use Rattle.rx_term.specs.declared.Term.{Term as Reference}
 use Rattle.rx_term.proofs.PartsLemmas.{args-part, cons_cases, cons_head, cons_tail, item-part, parts-self, parts-trans, rest-part}
 use Rattle.rx_term.proofs.StoreLemmas.{some-value}
@@ -24,10 +24,12 @@ use Rattle.rec_match.specs.Rows.{values_of}
 use Rattle.rec_match.proofs.BoundLemmas.{BindsOnly, parts_only, unbound}
 use Rattle.rec_match.proofs.FactLemmas.{facts}
 use Rattle.rec_match.proofs.FindLemmas.{first-matched}
+use Rattle.rec_match.proofs.LetterLemmas.{every-at}
+use Rattle.rec_engine.proofs.TermLemmas.{drop-at, drop-end}
 use Rattle.rec_engine.proofs.TriedRuleLemmas.{no_rule}
 use Rattle.rec_trace.specs.States.{Move, Give, Invoke, moves, moves_all}
 use Rattle.rec_trace.specs.Lists.{AreKept, Hold, IsList, KeepsStack, listed}
-use Rattle.rec_trace.specs.Inner.Sides.{HasValues, IsMatch, IsRow, KeepsValues, move_of}
+use Rattle.rec_trace.specs.Inner.Sides.{HasValues, IsMatch, IsRead, IsRow, KeepsValues, move_of}
 use Rattle.rec_trace.specs.Tracing.{AreSteps, HasPushed, IsInOrder, moves_at, moves_of}
 use Rattle.rec_trace.specs.declared.lists.Lists.{Lists}
 use Rattle.rec_trace.specs.declared.tracer.Step.{Step}
@@ -108,6 +110,13 @@ in-list (x ∷ xs) u c = elim (cons_cases x xs u c) [
 held-list : (w : Store) (r : Reference) → IsList w r → held_tree w r ≡ list_of (from_list (listed w r))
 held-list w r list = ap (λ (o : Option Tree). unwrap_or o (list_of none)) list
 
+-- a rule that matches is the first at or after its own number
+pub matched-first : (y : Spec) (i : ℕ) (u : Tree) (r : Rule) (s : Substitution) → IsMatch y i u r s
+    → next_match y i u ≡ Some (record { number = i; values = s })
+matched-first y i u r s match =
+    let at = rule-at y i r match.rule in
+    first-matched y i u no_rule s at.within (subst (λ (z : Rule). binds y z.left u ≡ Some s) (sym (at.is no_rule)) match.binds)
+
 -- the values of a match at a tree on the stack
 each-value : (u : Tree) (s : Substitution) → AreParts u s → (w : Store) (bind : List Reference) → held_trees w bind ≡ values_of s → (t : Reference)
     → Contains bind t → Contains (parts u) (held_tree w t)
@@ -126,31 +135,32 @@ each-value u (x ∷ s) h w (b ∷ bs) e t c = elim (cons_cases b bs t c) [
     rest-of-two : (a b : Tree) (xs ys : List Tree) → a ∷ xs ≡ b ∷ ys → xs ≡ ys
     rest-of-two a b xs ys e = cc
 
+-- references to the values of a match at a tree on the stack
+pub values-bound : (y : Spec) (w : Store) (stack : Reference) (l : Term) (u : Tree) (s : Substitution) (bind : List Reference) → IsList w stack
+    → Contains (listed w stack) u → binds y l u ≡ Some s → held_trees w bind ≡ values_of s → AllHeld w bind → HasValues w stack bind s
+values-bound y w stack l u s bind list in_stack e values held = record {
+  values = values;
+  held = held;
+  within = λ t c.
+      subst (λ v. Contains (parts v) (held_tree w t)) (sym (held-list w stack list))
+      (parts-trans (list_of (from_list (listed w stack))) u (held_tree w t) (in-list (listed w stack) u in_stack)
+      (each-value u s (binds-parts y l u s e) w bind values t c));
+}
+
 pub has-values : (y : Spec) (w : Store) (stack redex : Reference) (i : ℕ) (r : Rule) (s : Substitution) (bind : List Reference) (found : Option ℕ)
     → IsList w stack → Contains (listed w stack) (held_tree w redex) → IsMatch y i (held_tree w redex) r s → IsAnswer y w redex i bind found
     → HasValues w stack bind s
 has-values y w stack redex i r s bind found list in_stack match answer = by found answer
   where
     first : next_match y i (held_tree w redex) ≡ Some (record { number = i; values = s })
-    first =
-        let at = rule-at y i r match.rule in
-        first-matched y i (held_tree w redex) no_rule s at.within (subst (λ (z : Rule). binds y z.left (held_tree w redex) ≡ Some s)
-        (sym (at.is no_rule)) match.binds)
+    first = matched-first y i (held_tree w redex) r s match
 
     by : (o : Option ℕ) → IsAnswer y w redex i bind o → HasValues w stack bind s
     by None h = absurd (cc (sym h.0 ∙ first))
     by (Some k) h =
         let same : (let a : NumberedMatch = record { number = k; values = h.values } in a) ≡ record { number = i; values = s } =
         some-same (let a : NumberedMatch = record { number = k; values = h.values } in a) (record { number = i; values = s }) (sym h.first ∙ first) in
-        let values : held_trees w bind ≡ values_of s = h.bound ∙ ap (λ (m : NumberedMatch). values_of m.values) same in
-        record {
-          values = values;
-          held = h.held;
-          within = λ t c.
-              subst (λ v. Contains (parts v) (held_tree w t)) (sym (held-list w stack list))
-              (parts-trans (list_of (from_list (listed w stack))) (held_tree w redex) (held_tree w t) (in-list (listed w stack) (held_tree w redex) in_stack)
-              (each-value (held_tree w redex) s (binds-parts y r.left (held_tree w redex) s match.binds) w bind values t c));
-        }
+        values-bound y w stack r.left (held_tree w redex) s bind list in_stack match.binds (h.bound ∙ ap (λ (m : NumberedMatch). values_of m.values) same) h.held
 
 -- what is a part of the stack stays, and so do the values of a match
 same-trees : (w w' : Store) (bind : List Reference) → ((t : Reference) → Contains bind t → tree_at w' t ≡ tree_at w t) → held_trees w' bind ≡ held_trees w bind
@@ -187,7 +197,7 @@ pub pushed-variable : (y : Spec) (w w' : Store) (old new : Tracer) (i : ℕ) (bi
     → Hold w' new.lists (held_tree w t ∷ listed w old.lists.given) (listed w old.lists.stack) → new.steps.items ≡ old.steps.items ++ step.Give ∷ []
     → ((r : Rule) (s : Substitution) (u : Tree) → IsMatch y i u r s → HasValues w old.lists.stack bind s
     → value_of s (name_of y (Variable v)) ≡ Some (held_tree w t))
-    → HasPushed y w w' old new i bind (l ∷ [])
+    → HasPushed y w w' old new i bind (named_by y l ∷ [])
 pushed-variable y w w' old new i bind l v t order kept is hold steps value =
     let turned = ap reverse steps ∙ snoc-reverse old.steps.items step.Give in
     record {
@@ -210,7 +220,7 @@ pushed-variable y w w' old new i bind l v t order kept is hold steps value =
 -- a symbol is to be called next
 pub pushed-symbol : (y : Spec) (w : Store) (old new : Tracer) (i : ℕ) (bind : List Reference) (l : Letter) (k : ℕ) → IsInOrder y w old
     → new.lists ≡ old.lists → l.meaning ≡ Symbol k → k < length (symbols y) → arity_of y k ≡ l.count
-    → new.steps.items ≡ old.steps.items ++ step.Invoke k l.count ∷ [] → HasPushed y w w old new i bind (l ∷ [])
+    → new.steps.items ≡ old.steps.items ++ step.Invoke k l.count ∷ [] → HasPushed y w w old new i bind (named_by y l ∷ [])
 pushed-symbol y w old new i bind l k order lists is lt arity steps =
     let turned = ap reverse steps ∙ snoc-reverse old.steps.items (step.Invoke k l.count) in
     record {
@@ -232,17 +242,23 @@ pushed-symbol y w old new i bind l k order lists is lt arity steps =
     at : Option Tree → List ℕ → Move
     at o name = elim o [ Some x ↦ Give x | None ↦ Invoke name l.count ]
 
--- letters one after the other
-pub pushed-more : (y : Spec) (w w1 w2 : Store) (a b c : Tracer) (i : ℕ) (bind : List Reference) (l : Letter) (ls : List Letter)
-    → b.lists.stack ≡ a.lists.stack → KeepsValues w w1 a.lists.stack bind → HasPushed y w w1 a b i bind ls → HasPushed y w1 w2 b c i bind (l ∷ [])
-    → HasPushed y w w2 a c i bind (l ∷ ls)
-pushed-more y w w1 w2 a b c i bind l ls same keeps p q = record {
+-- names one after the other
+pub pushed-more : (y : Spec) (w w1 w2 : Store) (a b c : Tracer) (i : ℕ) (bind : List Reference) (n : Named) (ns : List Named)
+    → b.lists.stack ≡ a.lists.stack → KeepsValues w w1 a.lists.stack bind → HasPushed y w w1 a b i bind ns → HasPushed y w1 w2 b c i bind (n ∷ [])
+    → HasPushed y w w2 a c i bind (n ∷ ns)
+pushed-more y w w1 w2 a b c i bind n ns same keeps p q = record {
   order = q.order;
   stack = q.stack ∙ p.stack;
   moves = λ r s u match values.
       q.moves r s u match (subst (λ k. HasValues w1 k bind s) (sym same) (keeps s values))
-      ∙ ap (λ ms. move_of s (named_by y l) ∷ ms) (p.moves r s u match values);
+      ∙ ap (λ ms. move_of s n ∷ ms) (p.moves r s u match values);
 }
+
+-- nothing was pushed yet
+pub pushed-none : (y : Spec) (w : Store) (a : Tracer) (i : ℕ) (bind : List Reference) (ns : List Named) (k : ℕ) → IsInOrder y w a → length ns ≤ k
+    → HasPushed y w w a a i bind (drop k ns)
+pushed-none y w a i bind ns k order le = subst (HasPushed y w w a a i bind) (sym (drop-end ns k le))
+    (record { order = order; stack = refl; moves = λ r s u match values. refl })
 
 -- what has a value has no arguments
 abbrev NoArguments : Substitution → List Named → Type 0
@@ -286,10 +302,22 @@ mutual
       map-append (move_of s) (named t) (named_all ts) ∙ ap (λ ms. ms ++ map (move_of s) (named_all ts)) (named-moves s t split.0)
       ∙ ap (λ ms. moves s t ++ ms) (named-moves-all s ts split.1)
 
--- the letters of a rule's term are its moves
+-- the names of a rule's term, each as a move, are its moves
 pub row-moves : (y : Spec) (r : Rule) (s : Substitution) (u : Tree) (ls : List Letter) (t : Term) → binds y r.left u ≡ Some s → IsRow y r ls t
-    → map (move_of s) (map (named_by y) ls) ≡ moves s t
-row-moves y r s u ls t e row = ap (map (move_of s)) row.letters.1 ∙ named-moves s t (no_arguments y s (binds-only y r.left u s e) (named t) row.bare)
+    → map (move_of s) (named t) ≡ moves s t
+row-moves y r s u ls t e row = named-moves s t (no_arguments y s (binds-only y r.left u s e) (named t) row.bare)
+
+-- there are as many letters of a term as names, and each is that of a name
+pub row-long : (y : Spec) (r : Rule) (ls : List Letter) (t : Term) → IsRow y r ls t → length ls ≡ length (named t)
+row-long y r ls t row = sym (length-map ls (named_by y)) ∙ ap length row.letters.1
+
+pub row-letter : (y : Spec) (r : Rule) (ls : List Letter) (t : Term) (k : ℕ) (l : Letter) → IsRow y r ls t → k < length ls
+    → (named_by y (get_or ls k l) ∷ drop (k + 1) (named t) ≡ drop k (named t)) × IsRead y r (get_or ls k l)
+row-letter y r ls t k l row lt = (
+  ap (λ n. n ∷ drop (k + 1) (named t)) (sym (get_or-map (named_by y) ls k l (named_by y l) lt) ∙ ap (λ ns. get_or ns k (named_by y l)) row.letters.1)
+      ∙ sym (drop-at (named t) k (named_by y l) (subst (λ n. k < n) (row-long y r ls t row) lt)),
+  every-at (IsRead y r) ls row.read k l lt,
+)
 
 -- the letters of a ground term are its moves
 pub ground-moves : (y : Spec) (ls : List Letter) (t : Term) → AreLetters y ls t → map (move_of []) (map (named_by y) ls) ≡ moves [] t

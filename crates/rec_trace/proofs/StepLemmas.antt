@@ -3,7 +3,8 @@ use Rattle.std.proofs.Common.{◌-◌, ◌<◌, ◌≤◌, ℕ, arith, refl, sym
 use Rattle.std.specs.Prelude.{suc, ◌≡◌, ◌⊎◌, List, [], ◌∷◌, ◌++◌, Some, None, reverse}
 use Rattle.std.proofs.lemmas.List.{reverse-append}
 use Rattle.rx_term.specs.Tree.{Tree, list_of, none}
-use Rattle.rx_term.specs.Store.{Store}
+use Rattle.rx_term.specs.Store.{Store, tree_at}
+use Rattle.rx_term.specs.declared.Term.{Term as Reference}
 use Rattle.rec_syntax.specs.Syntax.{Spec, Term}
 use Rattle.rec_sorts.specs.Lookup.{symbols}
 use Rattle.rec_sorts.specs.Binding.{application, tree_of}
@@ -19,14 +20,15 @@ use Rattle.rec_trace.specs.Trace.{Trace, firing}
 use Rattle.rec_trace.specs.States.{Fits, Give, Invoke, after_call, ahead, firing_then, moves, written}
 use Rattle.rec_trace.specs.Inner.Sides.{move_of}
 use Rattle.rec_trace.specs.Lists.{AreKept, Hold, listed}
-use Rattle.rec_trace.specs.Tracing.{AreSteps, IsInOrder, IsLimit, IsTurn, Stands, moves_at, moves_of, rest_of, stack_at, whole_of}
+use Rattle.rec_trace.specs.Tracing.{AreSteps, HasFired, HasFiredAt, IsEvent, IsInOrder, Rewrites, Stands}
+use Rattle.rec_trace.specs.Tracing.{moves_at, moves_of, rest_of, stack_at, whole_of}
 use Rattle.rec_trace.specs.Inner.Turns.{ComesTo, IsGroundRow}
 use Rattle.rec_trace.specs.declared.lists.Lists.{Lists}
+use Rattle.rec_trace.specs.declared.tracer.Event.{Event}
+use Rattle.rec_trace.specs.declared.tracer.Event.TheVariants as event
 use Rattle.rec_trace.specs.declared.tracer.Step.{Step}
 use Rattle.rec_trace.specs.declared.tracer.Step.TheVariants as step
 use Rattle.rec_trace.specs.declared.tracer.Tracer.{Tracer}
-use Rattle.rec_trace.specs.declared.tracer.Turn.{Turn}
-use Rattle.rec_trace.specs.declared.tracer.Turn.TheVariants as turn
 use Rattle.rec_trace.proofs.PushLemmas.{ground-moves}
 use Rattle.rec_trace.proofs.RunLemmas.{fits-moves, fits-one}
 use Rattle.rec_trace.proofs.StateLemmas.{state_law, written-moves}
@@ -147,8 +149,8 @@ module _ (y : Spec) (w w1 : Store) (a b d : Tracer) (f k : ℕ) (stack_same : st
         whole = ap (λ ms. written ms (stack_at w1 d)) c.2 ∙ ap (written (moves_at y w b)) c.3 ∙ sym whole-is;
       }
 
-  pub step-turns : (t : Turn) → ComesTo y w w1 b d (name_of y (Symbol f)) k (Some t) → IsTurn y w w1 a d t × (IsLimit t ⊎ Stands y w1 d)
-  step-turns (turn.Fired rule redex contractum) c =
+  pub step-comes : (t : Event) → ComesTo y w w1 b d (name_of y (Symbol f)) k (Some t) → IsEvent y w w1 a d t × ((t ≡ event.Limit) ⊎ Stands y w1 d)
+  step-comes (event.Fired rule redex) c =
       let long : length (drop k (stack_at w b)) ≡ length (stack_at w b) - k = length-drop k (stack_at w b) in (
         record {
           firing = firing (λ v. written (moves_at y w b) (v ∷ drop k (stack_at w b)))
@@ -160,9 +162,9 @@ module _ (y : Spec) (w w1 : Store) (a b d : Tracer) (f k : ℕ) (stack_same : st
               (ahead y d.left (moves c.0.values c.0.rule.right ++ moves_at y w b) st)) (sym c.5)
               ∙ ap (λ ms. firing_then (firing (λ v. written (moves_at y w b) (v ∷ drop k (stack_at w b)))
               (application (name_of y (Symbol f)) (taken k (stack_at w b) none)) c.0 d.left) (ahead y d.left ms (stack_at w1 d))) (sym c.4);
-          rule_is = c.2;
+          rule_is = c.2.rule;
           redex_is = c.6;
-          contractum_is = c.7;
+          rewrites = record { rule = c.0.rule; values = c.0.values; rule_is = c.2.rule; binds_is = c.2.binds; result = refl };
           left_is = refl;
           before_is = sym whole-is;
           after_is =
@@ -177,27 +179,45 @@ module _ (y : Spec) (w w1 : Store) (a b d : Tracer) (f k : ℕ) (stack_same : st
               (subst (λ n. Fits (moves_at y w b) (suc n) 1) (sym long) h.fits)));
         }),
       )
-  step-turns (turn.Value t) c = absurd c
-  step-turns turn.Limit c = (
+  step-comes (event.Value t) c = absurd c
+  step-comes event.Limit c = (
     called-is
         ∙ ap (after_call y (moves_at y w b) (drop k (stack_at w b)) (application (name_of y (Symbol f)) (taken k (stack_at w b) none))) c,
-    inl tt,
+    inl refl,
   )
 
--- a turn of a state of the same trace is one of the trace
-pub turn-since : (y : Spec) (w w1 w2 : Store) (a b d : Tracer) (t : Turn) → SameTrace y w w1 a b → IsTurn y w1 w2 b d t → IsTurn y w w2 a d t
-turn-since y w w1 w2 a b d (turn.Fired rule redex contractum) s h = record {
+-- what comes next for a state of the same trace comes next in the trace
+pub event-since : (y : Spec) (w w1 w2 : Store) (a b d : Tracer) (t : Event) → SameTrace y w w1 a b → IsEvent y w1 w2 b d t → IsEvent y w w2 a d t
+event-since y w w1 w2 a b d (event.Fired rule redex) s h = record {
   firing = h.firing;
   next = sym s.rest ∙ h.next;
   rule_is = h.rule_is;
   redex_is = h.redex_is;
-  contractum_is = h.contractum_is;
+  rewrites = h.rewrites;
   left_is = h.left_is;
   before_is = h.before_is ∙ s.whole;
   after_is = h.after_is;
 }
-turn-since y w w1 w2 a b d (turn.Value t) s h = (h.0, h.1, sym s.rest ∙ h.2)
-turn-since y w w1 w2 a b d turn.Limit s h = sym s.rest ∙ h
+event-since y w w1 w2 a b d (event.Value t) s h = (h.0, h.1, sym s.rest ∙ h.2)
+event-since y w w1 w2 a b d event.Limit s h = sym s.rest ∙ h
+
+-- and where it is a firing, it is known what the redex became
+pub event-fired : (y : Spec) (w w1 w2 : Store) (a b : Tracer) (t : Event) (rule : ℕ) (old redex contractum : Reference) → t ≡ event.Fired rule old
+    → IsEvent y w w1 a b t → rest_of y w2 b ≡ rest_of y w1 b → whole_of y w2 b ≡ whole_of y w1 b → tree_at w2 redex ≡ tree_at w1 old
+    → ((u v : Tree) → tree_at w1 old ≡ Some u → Rewrites y rule u v → tree_at w2 contractum ≡ Some v)
+    → HasFired y w w2 a b rule redex contractum
+event-fired y w w1 w2 a b t rule old redex contractum is comes rest whole same made =
+    let h : HasFiredAt y w w1 a b rule old = subst (IsEvent y w w1 a b) is comes in
+    record {
+      firing = h.firing;
+      next = h.next ∙ ap (firing_then h.firing) (sym rest);
+      rule_is = h.rule_is;
+      redex_is = same ∙ h.redex_is;
+      contractum_is = made h.firing.redex h.firing.contractum h.redex_is h.rewrites;
+      left_is = h.left_is;
+      before_is = h.before_is;
+      after_is = h.after_is ∙ sym whole;
+    }
 
 -- the same steps over the same lists
 pub same-stands : (y : Spec) (w : Store) (a b : Tracer) → Stands y w a → b.lists ≡ a.lists → b.steps.items ≡ a.steps.items → Stands y w b

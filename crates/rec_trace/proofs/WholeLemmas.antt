@@ -1,5 +1,5 @@
 -- The whole term, written down from a copy of a state.
-use Rattle.std.proofs.Common.{◌+◌, ◌-◌, ◌<◌, ◌≤◌, ℕ, arith, sym, ap, subst, ◌∙◌, length, drop, length-drop, vec_len}
+use Rattle.std.proofs.Common.{◌+◌, ◌-◌, ◌<◌, ℕ, arith, sym, ap, subst, ◌∙◌, length, drop, length-drop, vec_len}
 use Rattle.std.specs.Prelude.{suc, ◌≡◌, Bool, true, false, List, [], ◌∷◌, reverse}
 use Rattle.rx_term.specs.Tree.{Tree, none}
 use Rattle.rx_term.specs.Store.{Store, tree_at}
@@ -20,6 +20,7 @@ use Rattle.rec_trace.proofs.RunLemmas.{as-many}
 pub record StandsStill (y : Spec) (w w' : Store) (t : Tracer) : Type 0 where
   pub stands : Stands y w' t
   pub rest : rest_of y w' t ≡ rest_of y w t
+  pub whole : whole_of y w' t ≡ whole_of y w t
 
 pub stands-still : (y : Spec) (w w' : Store) (t : Tracer) → Stands y w t → AreKept w' t.lists → tree_at w' t.lists.given ≡ tree_at w t.lists.given
     → tree_at w' t.lists.stack ≡ tree_at w t.lists.stack → StandsStill y w w' t
@@ -33,6 +34,7 @@ stands-still y w w' t s kept e k =
         fits = subst (λ (st : List Tree). Fits (moves_at y w' t) (length st) 1) (sym stack) (subst (λ ms. Fits ms (length (stack_at w t)) 1) (sym same) s.fits);
       };
       rest = ap (λ ms. ahead y t.left ms (stack_at w' t)) same ∙ ap (ahead y t.left (moves_at y w t)) stack;
+      whole = ap (λ ms. written ms (stack_at w' t)) same ∙ ap (written (moves_at y w t)) stack;
     }
 
 -- ---- writing down
@@ -117,3 +119,28 @@ copy-gone w w1 w2 l m twice stays ended same =
 
     low-stack : count_among l l.stack.0 < w.roots l.stack.0
     low-stack = let a = twice.twice l.stack.0 in let e = itself l.stack.0 in omega (arith, a, e)
+
+-- what others protect stays as well
+pub apart-stays : (w w1 w2 w3 : Store) (l m : Lists) → AreKept w3 l → ((k : ℕ) → w1.roots k ≡ w.roots k + count_among l k)
+    → ((t : Reference) → tree_at w1 t ≡ tree_at w t) → w1.cap ≡ w.cap → Stays w1 w2 l m → ((k : ℕ) → w3.roots k + count_among m k ≡ w2.roots k)
+    → ((t : Reference) → tree_at w3 t ≡ tree_at w2 t) → w3.cap ≡ w2.cap → Stays w w3 l l
+apart-stays w w1 w2 w3 l m kept again trees cap stays ended same ended_cap = record {
+  kept = kept;
+  spares = record {
+    counts = λ k. (let a = again k in let b = stays.spares.counts k in let c = ended k in omega (arith, a, b, c));
+    trees = λ t u e low. same t ∙ stays.spares.trees t u (trees t ∙ e) (let a = again t.0 in omega (arith, a, low));
+    cap = ended_cap ∙ stays.spares.cap ∙ cap;
+  };
+}
+
+-- nothing was protected
+pub refused-stays : (w w1 : Store) (l : Lists) → AreKept w1 l → ((k : ℕ) → w1.roots k ≡ w.roots k) → ((t : Reference) → tree_at w1 t ≡ tree_at w t)
+    → w1.cap ≡ w.cap → Stays w w1 l l
+refused-stays w w1 l kept counts trees cap = record {
+  kept = kept;
+  spares = record {
+    counts = λ k. ap (λ n. n + count_among l k) (counts k);
+    trees = λ t u e low. trees t ∙ e;
+    cap = cap;
+  };
+}

@@ -5,17 +5,18 @@ use Rattle.rx_term.specs.Store.{Store, tree_at}
 use Rattle.rx_term.specs.declared.Term.{Term as Reference}
 use Rattle.rec_syntax.specs.Syntax.{Rule, Spec}
 use Rattle.rec_sorts.specs.Lookup.{symbols}
-use Rattle.rec_sorts.specs.Binding.{Substitution, application}
+use Rattle.rec_sorts.specs.Binding.{Substitution, application, binds, instance}
 use Rattle.rec_sorts.specs.Evaluation.{Caller, Outcome, Done, Over, Match, Call, ◌then◌}
-use Rattle.rec_sorts.specs.Numbering.{arity_of, name_of, named_by}
+use Rattle.rec_sorts.specs.Numbering.{Named, arity_of, name_of}
 use Rattle.rec_sorts.specs.SpecRules.{fault}
-use Rattle.rec_sorts.specs.declared.letters.Letter.{Letter}
 use Rattle.rec_sorts.specs.declared.letters.Meaning.TheVariants.{Symbol}
 use Rattle.rec_engine.specs.Flat.{taken}
 use Rattle.rec_trace.specs.Trace.{Firing, Traced, quiet}
 use Rattle.rec_trace.specs.States.{Move, Give, Invoke, Fits, ahead, firing_then, written}
 use Rattle.rec_trace.specs.Lists.{AreKept, listed}
 use Rattle.rec_trace.specs.Inner.Sides.{HasValues, IsMatch, move_of}
+use Rattle.rec_trace.specs.declared.tracer.Event.{Event}
+use Rattle.rec_trace.specs.declared.tracer.Event.TheVariants as event
 use Rattle.rec_trace.specs.declared.tracer.Found.{Found}
 use Rattle.rec_trace.specs.declared.tracer.Found.TheVariants as found
 use Rattle.rec_trace.specs.declared.tracer.Step.{Step}
@@ -77,6 +78,33 @@ pub record HasFired (y : Spec) (w w' : Store) (old new : Tracer) (rule : ℕ)
   pub before_is : firing.before ≡ whole_of y w old
   pub after_is : firing.after ≡ whole_of y w' new
 
+-- the rule of a number makes one tree of another
+pub record Rewrites (y : Spec) (i : ℕ) (u v : Tree) : Type 0 where
+  pub rule : Rule
+  pub values : Substitution
+  pub rule_is : slice_get y.rules i ≡ Some rule
+  pub binds_is : binds y rule.left u ≡ Some values
+  pub result : v ≡ instance values rule.right
+
+-- the same as that a rule fired, but for the contractum, which is not written down
+pub record HasFiredAt (y : Spec) (w w' : Store) (old new : Tracer) (rule : ℕ) (redex : Reference)
+    : Type 0 where
+  pub firing : Firing
+  pub next : rest_of y w old ≡ firing_then firing (rest_of y w' new)
+  pub rule_is : slice_get y.rules rule ≡ Some firing.found.rule
+  pub redex_is : tree_at w' redex ≡ Some firing.redex
+  pub rewrites : Rewrites y rule firing.redex firing.contractum
+  pub left_is : firing.left ≡ new.left
+  pub before_is : firing.before ≡ whole_of y w old
+  pub after_is : firing.after ≡ whole_of y w' new
+
+-- what comes next in a trace
+abbrev pub IsEvent : Spec → Store → Store → Tracer → Tracer → Event → Type 0
+IsEvent y w w' old new (event.Fired rule redex) = HasFiredAt y w w' old new rule redex
+IsEvent y w w' old new (event.Value t) = (v : Tree) × (tree_at w' t ≡ Some v)
+    × (rest_of y w old ≡ quiet (Done v new.left))
+IsEvent y w w' old new event.Limit = rest_of y w old ≡ quiet Over
+
 -- what a step of a trace answers: the next firing, or that there is none and what the trace comes
 -- to
 abbrev pub IsTurn : Spec → Store → Store → Tracer → Tracer → Turn → Type 0
@@ -117,14 +145,14 @@ pub record IsSame (y : Spec) (w w' : Store) (old new : Tracer) : Type 0 where
   pub moves : moves_at y w' new ≡ moves_at y w old
   pub stack : stack_at w' new ≡ stack_at w old
 
--- the moves of letters come first, where the rule of a number matches with these values
+-- the moves of names come first, where the rule of a number matches with these values
 pub record HasPushed (y : Spec) (w w' : Store) (old new : Tracer) (i : ℕ) (bind : List Reference)
-    (ls : List Letter) : Type 0 where
+    (names : List Named) : Type 0 where
   pub order : IsInOrder y w' new
   pub stack : stack_at w' new ≡ stack_at w old
   pub moves : (r : Rule) (s : Substitution) (u : Tree) → IsMatch y i u r s
       → HasValues w old.lists.stack bind s
-      → moves_at y w' new ≡ map (move_of s) (map (named_by y) ls) ++ moves_at y w old
+      → moves_at y w' new ≡ map (move_of s) names ++ moves_at y w old
 
 -- the moves of a term come first
 pub record HasMoves (y : Spec) (w w' : Store) (old new : Tracer) (ms : List Move) : Type 0 where

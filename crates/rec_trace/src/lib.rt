@@ -10,4 +10,4 @@ mod tracer;
 
 pub use lines::{Look, Spot, firing_line, spot_of, whole_line, write_firing, write_whole};
 pub use spots::rule_spots;
-pub use tracer::{Tracer, Turn};
+pub use tracer::{Event, Rewrite, Tracer, Turn};

@@ -1,7 +1,7 @@
 //! The two lists that a tracer keeps in a bank: the values that are to be given, the next one
 //! first, and those on its stack, the top first. Both are protected.
 
-ghost use Rattle.std.specs.Prelude.{◌≡◌, ◌≤◌, ◌<◌, ◌∷◌, [], IfOk, IsSome, OnErr, OnOk};
+ghost use Rattle.std.specs.Prelude.{◌≡◌, ◌≤◌, ◌<◌, ◌+◌, ◌∷◌, ℕ, [], IfOk, IsSome, OnErr, OnOk};
 ghost use Rattle.std.specs.Prelude.{drop, get_or, length};
 ghost use Rattle.rx_term.specs.Tree.{from_list, list_of, none};
 ghost use Rattle.rx_term.specs.Store.{tree_at};
@@ -13,12 +13,13 @@ ghost use Rattle.rec_sorts.specs.declared.letters.Meaning.TheVariants.{Symbol};
 ghost use Rattle.rec_engine.specs.Engine.{SameEngine};
 ghost use Rattle.rec_engine.specs.Flat.{taken};
 ghost use Rattle.rec_trace.specs.Lists.{AreKept, AreKeptTwice, Hold, IsList, KeepsStack};
-ghost use Rattle.rec_trace.specs.Lists.{Stays, listed};
+ghost use Rattle.rec_trace.specs.Lists.{Stays, count_among, listed};
 ghost use Rattle.rec_trace.specs.Lists.{protected_instead};
 ghost use Rattle.rec_trace.specs.Inner.Calls.{IsCalled};
 
 use rec_engine::{Engine, EngineFault, Outcome};
 use rx_term::{Term, TermBank};
+use smallvec::SmallVec;
 use std::alloc::Global;
 
 /// The values that are to be given, and the stack.
@@ -31,7 +32,7 @@ pub(crate) struct Lists {
 /// The values on top of a stack, the lowest first, and what is below them.
 #[derive(Drop)]
 pub(crate) struct Popped {
-    pub(crate) values: Vec<Term>,
+    pub(crate) values: SmallVec<Term, 8>,
     pub(crate) below: Term,
 }
 
@@ -52,7 +53,7 @@ pub(crate) fn top<B: TermBank>(
     ensures rest { IfOk result (λ t. listed (B.store bank.now) t.below
         ≡ drop count (listed (B.store bank.now) stack)) }
 {
-    let mut values = Vec::new(alloc);
+    let mut values: SmallVec<Term, 8> = SmallVec::new(alloc);
     let mut below = stack;
     for i in 0..count {
         let value = bank.head(below);
@@ -110,7 +111,7 @@ impl Lists {
         })
     }
 
-    /// Both lists are protected once more.
+    /// Both lists are protected once more, or none.
     pub(crate) fn protect_again<B: TermBank>(
         self,
         engine: &mut Engine<B>,
@@ -121,6 +122,11 @@ impl Lists {
             ≡ tree_at (B.store engine.old.bank) t }
         ensures kept { AreKept (B.store engine.new.bank) self }
         ensures twice { OnOk result (AreKeptTwice (B.store engine.new.bank) self) }
+        ensures ok { OnOk result ((k : ℕ) → (B.store engine.new.bank).roots k
+            ≡ (B.store engine.old.bank).roots k + count_among self k) }
+        ensures err { OnErr result ((k : ℕ) → (B.store engine.new.bank).roots k
+            ≡ (B.store engine.old.bank).roots k) }
+        ensures cap { (B.store engine.new.bank).cap ≡ (B.store engine.old.bank).cap }
     {
         match engine.protect(self.given) {
             Ok(()) => {}
@@ -128,12 +134,15 @@ impl Lists {
         }
         match engine.protect(self.stack) {
             Ok(()) => Ok(()),
-            Err(_) => Err(EngineFault::Memory),
+            Err(_) => {
+                engine.unprotect(self.given);
+                Err(EngineFault::Memory)
+            }
         }
     }
 
     /// A reference on top of a list becomes the stack.
-    fn put<B: TermBank>(
+    pub(crate) fn put<B: TermBank>(
         &mut self,
         engine: &mut Engine<B>,
         t: Term,

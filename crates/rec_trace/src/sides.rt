@@ -1,6 +1,6 @@
 //! The sides of rules, and the values of their variables.
 
-ghost use Rattle.std.specs.Prelude.{◌≡◌, ◌<◌, IfOk, Some, Contains, length, slice_get, true};
+ghost use Rattle.std.specs.Prelude.{◌≡◌, ◌<◌, Some, Contains, length, slice_get, true};
 ghost use Rattle.rx_term.specs.Tree.{Tree};
 ghost use Rattle.rx_term.specs.Walks.{held_tree};
 ghost use Rattle.rec_syntax.specs.Syntax.{Rule, subterms};
@@ -11,10 +11,9 @@ ghost use Rattle.rec_sorts.specs.SpecRules.{heads};
 ghost use Rattle.rec_sorts.specs.declared.letters.Meaning.TheVariants.{Variable};
 ghost use Rattle.rec_trace.specs.Inner.Sides.{HasSide, HasValues, IsMatch, IsRow, side_of};
 
-use rec_engine::{Engine, EngineFault};
+use rec_engine::Engine;
 use rec_sorts::{Checked, Letter};
 use rx_term::{Term, TermBank};
-use std::alloc::Global;
 
 /// A side of a rule: its right side, or one of a condition of this number.
 #[derive(Clone, Copy, Drop)]
@@ -24,33 +23,18 @@ pub(crate) enum Side {
     Right(usize),
 }
 
-/// The letters of a side of a rule.
-pub(crate) fn letters_of(
-    alloc: Global,
-    checked: &Checked,
-    rule: u32,
-    side: Side,
-) -> Result<Vec<Letter>, EngineFault>
+/// The letters of a side of a rule, where they stand.
+pub(crate) fn letters_of(checked: &Checked, rule: u32, side: Side) -> &[Letter]
     requires { (r : Rule) × (slice_get checked.now.spec.rules rule ≡ Some r) × HasSide r side }
-    ensures { IfOk result (λ v. (r : Rule) → slice_get checked.now.spec.rules rule ≡ Some r
-        → IsRow checked.now.spec r v.items (side_of r side)) }
+    ensures { (r : Rule) → slice_get checked.now.spec.rules rule ≡ Some r
+        → IsRow checked.now.spec r result.now (side_of r side) }
 {
     let rules = checked.rules();
     let rule = &rules[rule as usize];
     match side {
-        Side::Contractum => copied(alloc, &rule.right),
-        Side::Left(i) => copied(alloc, &rule.conditions[i].left),
-        Side::Right(i) => copied(alloc, &rule.conditions[i].right),
-    }
-}
-
-/// The same letters.
-fn copied(alloc: Global, letters: &[Letter]) -> Result<Vec<Letter>, EngineFault>
-    ensures { IfOk result (λ v. v.items ≡ letters.now) }
-{
-    match Vec::from_slice(alloc, letters) {
-        Ok(copy) => Ok(copy),
-        Err(_) => Err(EngineFault::Memory),
+        Side::Contractum => &rule.right,
+        Side::Left(i) => &rule.conditions[i].left,
+        Side::Right(i) => &rule.conditions[i].right,
     }
 }
 

@@ -3,11 +3,12 @@
 mod beginning;
 mod finding;
 mod pushing;
+mod rewriting;
 mod whole;
 
 ghost use Rattle.std.specs.Prelude.{ℕ, ◌≡◌, ◌<◌, ◌≤◌, ◌+◌, ◌-◌, ◌⊎◌, IfOk, Some, get_or, length};
 ghost use Rattle.std.specs.Prelude.{take, vec_len};
-ghost use Rattle.rx_term.specs.Tree.{list_of, none};
+ghost use Rattle.rx_term.specs.Tree.{Tree, list_of, none};
 ghost use Rattle.rx_term.specs.Store.{tree_at};
 ghost use Rattle.rx_term.specs.Walks.{held_tree};
 ghost use Rattle.rec_syntax.specs.Syntax.{Rule, Spec};
@@ -20,19 +21,23 @@ ghost use Rattle.rec_sorts.specs.declared.letters.Meaning.TheVariants.{Symbol};
 ghost use Rattle.rec_engine.specs.Engine.{SameEngine};
 ghost use Rattle.rec_engine.specs.Inner.Made.{IsApplied};
 ghost use Rattle.rec_trace.specs.Lists.{AreKept, IsList, Stays, count_among, listed};
-ghost use Rattle.rec_trace.specs.Inner.Sides.{IsMatch, side_of};
+ghost use Rattle.rec_trace.specs.Inner.Sides.{CanPush, HasSide, HasValues, IsMatch, side_of};
 ghost use Rattle.rec_trace.specs.States.{Fits};
-ghost use Rattle.rec_trace.specs.Tracing.{Gives};
+ghost use Rattle.rec_trace.specs.Tracing.{Gives, IsEvent};
 ghost use Rattle.rec_trace.specs.Tracing.{IsInOrder, IsLimit, IsTurn, Stands, caller, moves_at};
-ghost use Rattle.rec_trace.specs.Tracing.{on_top, stack_at};
-ghost use Rattle.rec_trace.specs.Inner.Turns.{CanTake, CanTurn, ComesTo, Fires, HasCalled};
+ghost use Rattle.rec_trace.specs.Tracing.{stack_at};
+ghost use Rattle.rec_trace.specs.Inner.Turns.{CanTake, CanTurn, ComesTo, HasCalled, HasFired};
 ghost use Rattle.rec_trace.specs.Inner.Turns.{HasRun, IsGroundRow, Turns};
+ghost use Rattle.rec_trace.specs.declared.sides.Side.TheVariants.{Contractum};
+ghost use Rattle.rec_trace.specs.declared.tracer.Event.TheVariants.{Limit};
 
 use crate::lists::Lists;
 use crate::sides::Side;
 use rec_engine::{Engine, EngineFault};
 use rec_sorts::{Letter, Meaning};
+pub use rewriting::Rewrite;
 use rx_term::{Term, TermBank};
+use smallvec::SmallVec;
 use std::alloc::Global;
 
 /// What comes next: a value goes on top of the stack, or a symbol is called on the values on top.
@@ -66,6 +71,17 @@ pub enum Turn {
     Value {
         term: Term,
     },
+    /// More steps are needed than were given.
+    Limit,
+}
+
+/// The same before it is written down what a redex becomes.
+#[derive(Clone, Copy, Drop)]
+pub enum Event {
+    /// The rule of this number, from 0, fires at this redex.
+    Fired { rule: u32, redex: Term },
+    /// No rule fires any more: the value.
+    Value { term: Term },
     /// More steps are needed than were given.
     Limit,
 }
@@ -131,6 +147,7 @@ impl Tracer {
             ≡ (B.store engine.old.bank).roots k }
         ensures trees { (t : Term) → tree_at (B.store engine.new.bank) t
             ≡ tree_at (B.store engine.old.bank) t }
+        ensures cap { (B.store engine.new.bank).cap ≡ (B.store engine.old.bank).cap }
     {
         engine.unprotect(self.lists.given);
         engine.unprotect(self.lists.stack);
@@ -254,40 +271,31 @@ impl Tracer {
         self.run(alloc, engine, floor, called)
     }
 
-    /// The rule of a number fires at the tree on top.
+    /// The rule of a number fires at the tree on top, where these are its values: that tree.
     fn fire<B: TermBank>(
         &mut self,
-        alloc: Global,
         engine: &mut Engine<B>,
         rule: u32,
-    ) -> Result<Turn, EngineFault>
+        bind: &[Term],
+    ) -> Result<Term, EngineFault>
         requires order { IsInOrder engine.old.spec (B.store engine.old.bank) self.old }
-        requires can { (r : Rule) × (s : Substitution) × IsMatch engine.old.spec rule
-            (on_top (stack_at (B.store engine.old.bank) self.old)) r s
-            × (0 < length (stack_at (B.store engine.old.bank) self.old)) }
+        requires some { 0 < length (stack_at (B.store engine.old.bank) self.old) }
+        requires can { CanPush engine.old.spec (B.store engine.old.bank) self.old.lists.stack rule
+            bind.now (λ r. HasSide r Contractum) }
         ensures same { SameEngine engine.old engine.new }
         ensures stays { Stays (B.store engine.old.bank) (B.store engine.new.bank) self.old.lists
             self.new.lists }
-        ensures fires { IfOk result (λ turn. (r : Rule) (s : Substitution)
-            → IsMatch engine.old.spec rule
-            (on_top (stack_at (B.store engine.old.bank) self.old)) r s
-            → Fires engine.old.spec (B.store engine.old.bank) (B.store engine.new.bank) self.old
-            self.new rule r s turn) }
+        ensures fires { IfOk result (λ redex. (r : Rule) (s : Substitution) (u : Tree)
+            → IsMatch engine.old.spec rule u r s
+            → HasValues (B.store engine.old.bank) self.old.lists.stack bind.now s
+            → HasFired engine.old.spec (B.store engine.old.bank) (B.store engine.new.bank) self.old
+            self.new r s redex) }
     {
+        self.push_row(engine, rule, Side::Contractum, bind)?;
         let redex = engine.bank().head(self.lists.stack);
-        self.side(alloc, engine, rule, Side::Contractum, redex, false)?;
-        let redex = second(engine.bank(), self.lists.stack);
-        self.push_side(alloc, engine, rule, Side::Contractum, redex)?;
-        let contractum = engine.bank().head(self.lists.stack);
-        let rest = engine.bank().tail(self.lists.stack);
-        let redex = engine.bank().head(rest);
-        let below = engine.bank().tail(rest);
+        let below = engine.bank().tail(self.lists.stack);
         self.lists.cut(engine, below)?;
-        Ok(Turn::Fired {
-            rule,
-            redex,
-            contractum,
-        })
+        Ok(redex)
     }
 
     /// A symbol is called on the values on top: a rule fires, or the limit is passed. None, where
@@ -298,7 +306,7 @@ impl Tracer {
         engine: &mut Engine<B>,
         symbol: u32,
         count: u32,
-    ) -> Result<Option<Turn>, EngineFault>
+    ) -> Result<Option<Event>, EngineFault>
         requires order { IsInOrder engine.old.spec (B.store engine.old.bank) self.old }
         requires symbol { symbol < length (symbols engine.old.spec) }
         requires arity { arity_of engine.old.spec symbol ≡ count }
@@ -306,16 +314,50 @@ impl Tracer {
         ensures same { SameEngine engine.old engine.new }
         ensures stays { Stays (B.store engine.old.bank) (B.store engine.new.bank) self.old.lists
             self.new.lists }
-        ensures comes { IfOk result (λ turn. ComesTo engine.old.spec (B.store engine.old.bank)
+        ensures comes { IfOk result (λ event. ComesTo engine.old.spec (B.store engine.old.bank)
             (B.store engine.new.bank) self.old self.new
-            (name_of engine.old.spec (Symbol symbol)) count turn) }
+            (name_of engine.old.spec (Symbol symbol)) count event) }
     {
         self.lists.apply(alloc, engine, symbol, count)?;
-        match self.find(alloc, engine)? {
-            Found::Rule(rule) => Ok(Some(self.fire(alloc, engine, rule)?)),
+        let mut bind: SmallVec<Term, 8> = SmallVec::new(alloc);
+        match self.find(alloc, engine, &mut bind)? {
+            Found::Rule(rule) => {
+                let redex = self.fire(engine, rule, &bind)?;
+                Ok(Some(Event::Fired { rule, redex }))
+            }
             Found::Nothing => Ok(None),
-            Found::Limit => Ok(Some(Turn::Limit)),
+            Found::Limit => Ok(Some(Event::Limit)),
         }
+    }
+
+    /// Goes on to the next firing, to the value, or to the limit, as `next_step` does. What the
+    /// redex becomes is not written down: `rewrite` does so for a firing, before the next call.
+    pub fn next_event<B: TermBank>(
+        &mut self,
+        alloc: Global,
+        engine: &mut Engine<B>,
+    ) -> Result<Event, EngineFault>
+        requires { Stands engine.old.spec (B.store engine.old.bank) self.old }
+        ensures same { SameEngine engine.old engine.new }
+        ensures spares { Stays (B.store engine.old.bank) (B.store engine.new.bank) self.old.lists
+            self.new.lists }
+        ensures stands { IfOk result (λ event. (event ≡ Limit)
+            ⊎ Stands engine.old.spec (B.store engine.new.bank) self.new) }
+        ensures event { IfOk result (IsEvent engine.old.spec (B.store engine.old.bank)
+            (B.store engine.new.bank) self.old self.new) }
+    {
+        'turns: while let Some(step) = self.steps.pop() {
+            match step {
+                Step::Give => self.lists.give(engine)?,
+                Step::Invoke { symbol, count } => {
+                    if let Some(event) = self.call(alloc, engine, symbol, count)? {
+                        return Ok(event);
+                    }
+                }
+            }
+        }
+        let term = engine.bank().head(self.lists.stack);
+        Ok(Event::Value { term })
     }
 
     /// Goes on to the next firing, to the value, or to the limit.
@@ -333,17 +375,17 @@ impl Tracer {
         ensures turn { IfOk result (IsTurn engine.old.spec (B.store engine.old.bank)
             (B.store engine.new.bank) self.old self.new) }
     {
-        'turns: while let Some(step) = self.steps.pop() {
-            match step {
-                Step::Give => self.lists.give(engine)?,
-                Step::Invoke { symbol, count } => {
-                    if let Some(turn) = self.call(alloc, engine, symbol, count)? {
-                        return Ok(turn);
-                    }
-                }
+        match self.next_event(alloc, engine)? {
+            Event::Limit => Ok(Turn::Limit),
+            Event::Value { term } => Ok(Turn::Value { term }),
+            Event::Fired { rule, redex } => {
+                let Rewrite { redex, contractum } = self.rewrite(alloc, engine, rule, redex)?;
+                Ok(Turn::Fired {
+                    rule,
+                    redex,
+                    contractum,
+                })
             }
         }
-        let term = engine.bank().head(self.lists.stack);
-        Ok(Turn::Value { term })
     }
 }

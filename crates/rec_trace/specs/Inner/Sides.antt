@@ -67,10 +67,10 @@ pub record IsRow (y : Spec) (r : Rule) (ls : List Letter) (t : Term) : Type 0 wh
 abbrev pub move_of : Substitution → Named → Move
 move_of s m = elim (value_of s m.name) [ Some v ↦ Give v | None ↦ Invoke m.name m.arguments ]
 
--- a rule matches with these values, and letters can stand in it
-abbrev pub CanPush : Spec → Store → Reference → ℕ → List Reference → List Letter → Type 0
-CanPush y w stack i bind ls = (r : Rule) × (s : Substitution) × (u : Tree) × IsMatch y i u r s
-    × HasValues w stack bind s × Every (IsRead y r) ls
+-- a rule matches with these values, and this holds of it
+abbrev pub CanPush : Spec → Store → Reference → ℕ → List Reference → (Rule → Type 0) → Type 0
+CanPush y w stack i bind suits = (r : Rule) × (s : Substitution) × (u : Tree) × IsMatch y i u r s
+    × HasValues w stack bind s × suits r
 
 -- the values are still there
 abbrev pub KeepsValues : Store → Store → Reference → List Reference → Type 0

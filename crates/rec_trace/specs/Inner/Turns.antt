@@ -1,26 +1,26 @@
 -- What each turn of a tracer needs, and what it does.
 use Rattle.std.specs.Prelude.{ℕ, ◌≡◌, ◌≤◌, ◌<◌, Bool, true, false, Contains, IsSome, List, [], ◌∷◌}
-use Rattle.std.specs.Prelude.{◌++◌, Option, Some, None, drop, length, map, reverse, slice_get, take}
+use Rattle.std.specs.Prelude.{◌++◌, Option, Some, None, drop, length, map, reverse, take}
 use Rattle.std.specs.Option.{option_map}
 use Rattle.rx_term.specs.Tree.{Tree, none}
 use Rattle.rx_term.specs.Store.{Store, tree_at}
 use Rattle.rx_term.specs.Walks.{held_tree}
 use Rattle.rx_term.specs.declared.Term.{Term as Reference}
 use Rattle.rec_syntax.specs.Syntax.{Rule, Spec}
-use Rattle.rec_sorts.specs.Binding.{NumberedMatch, Substitution, application, instance}
+use Rattle.rec_sorts.specs.Binding.{NumberedMatch, Substitution, application}
 use Rattle.rec_sorts.specs.Evaluation.{Caller, Outcome, Done, Over, Match, Eval, first_rule}
 use Rattle.rec_sorts.specs.Numbering.{named_by}
 use Rattle.rec_sorts.specs.declared.letters.Letter.{Letter}
 use Rattle.rec_engine.specs.Flat.{taken}
 use Rattle.rec_trace.specs.States.{Move, Give, Invoke, moves}
 use Rattle.rec_trace.specs.Lists.{Hold, listed}
-use Rattle.rec_trace.specs.Inner.Sides.{HasSide, IsMatch, move_of}
+use Rattle.rec_trace.specs.Inner.Sides.{HasSide, HasValues, IsMatch, move_of}
 use Rattle.rec_trace.specs.Tracing.{AreSteps, IsInOrder, moves_at, moves_of, on_top, result, stack_at}
 use Rattle.rec_trace.specs.declared.sides.Side.{Side}
+use Rattle.rec_trace.specs.declared.tracer.Event.{Event}
+use Rattle.rec_trace.specs.declared.tracer.Event.TheVariants as event
 use Rattle.rec_trace.specs.declared.tracer.Step.{Step}
 use Rattle.rec_trace.specs.declared.tracer.Tracer.{Tracer}
-use Rattle.rec_trace.specs.declared.tracer.Turn.{Turn}
-use Rattle.rec_trace.specs.declared.tracer.Turn.TheVariants as turn
 
 -- a rule matches a tree that is a part of what stands on the stack, and has such a side
 abbrev pub CanTake : Spec → Store → Tracer → ℕ → Side → Reference → Type 0
@@ -80,40 +80,37 @@ HasCondition y st i j = (r : Rule) × (s : Substitution) × IsMatch y i (on_top 
 abbrev pub number_of : Option NumberedMatch → Option ℕ
 number_of o = option_map (λ m. m.number) o
 
+-- where the rule of a number matches the tree on top, references have its values
+abbrev pub IsBound : Spec → Store → Tracer → ℕ → List Reference → Type 0
+IsBound y w t i bind = (r : Rule) (s : Substitution) → IsMatch y i (on_top (stack_at w t)) r s
+    → HasValues w t.lists.stack bind s
+
 -- a rule fires at the tree on top: the moves of its right side come first, and the tree goes
 pub record HasFired (y : Spec) (w w' : Store) (old new : Tracer) (r : Rule) (s : Substitution)
-    (redex contractum : Reference) : Type 0 where
+    (redex : Reference) : Type 0 where
   pub order : IsInOrder y w' new
   pub left_is : new.left ≡ old.left
   pub moves_are : moves_at y w' new ≡ moves s r.right ++ moves_at y w old
   pub stack : on_top (stack_at w old) ∷ stack_at w' new ≡ stack_at w old
   pub redex_is : tree_at w' redex ≡ Some (on_top (stack_at w old))
-  pub contractum_is : tree_at w' contractum ≡ Some (instance s r.right)
-
-abbrev pub Fires : Spec → Store → Store → Tracer → Tracer → ℕ → Rule → Substitution → Turn → Type 0
-Fires y w w' old new i r s (turn.Fired rule redex contractum) = (rule ≡ i)
-    × HasFired y w w' old new r s redex contractum
-Fires y w w' old new i r s (turn.Value t) = ⊥
-Fires y w w' old new i r s turn.Limit = ⊥
 
 -- a call with what is found for it: the limit, or a rule that fires; or the tree is its own value
 abbrev pub Comes : Spec → Store → Store → Tracer → Tracer → Tree → List Tree
-    → Outcome (Option Match) → Option Turn → Type 0
+    → Outcome (Option Match) → Option Event → Type 0
 Comes y w w' old new u st o None = (o ≡ Done None new.left) × IsInOrder y w' new
     × (moves_at y w' new ≡ moves_at y w old) × (stack_at w' new ≡ u ∷ st)
-Comes y w w' old new u st o (Some turn.Limit) = o ≡ Over
-Comes y w w' old new u st o (Some (turn.Value t)) = ⊥
-Comes y w w' old new u st o (Some (turn.Fired i redex contractum)) = (m : Match)
-    × (o ≡ Done (Some m) new.left) × (slice_get y.rules i ≡ Some m.rule) × IsInOrder y w' new
+Comes y w w' old new u st o (Some event.Limit) = o ≡ Over
+Comes y w w' old new u st o (Some (event.Value t)) = ⊥
+Comes y w w' old new u st o (Some (event.Fired i redex)) = (m : Match)
+    × (o ≡ Done (Some m) new.left) × IsMatch y i u m.rule m.values × IsInOrder y w' new
     × (moves_at y w' new ≡ moves m.values m.rule.right ++ moves_at y w old)
     × (stack_at w' new ≡ st) × (tree_at w' redex ≡ Some u)
-    × (tree_at w' contractum ≡ Some (instance m.values m.rule.right))
 
-abbrev pub ComesTo : Spec → Store → Store → Tracer → Tracer → List ℕ → ℕ → Option Turn → Type 0
-ComesTo y w w' old new name k turn =
+abbrev pub ComesTo : Spec → Store → Store → Tracer → Tracer → List ℕ → ℕ → Option Event → Type 0
+ComesTo y w w' old new name k event =
     let u = application name (taken k (stack_at w old) none) in
     Comes y w w' old new u (drop k (stack_at w old))
-    (first_rule y (Eval y) y.rules old.left u) turn
+    (first_rule y (Eval y) y.rules old.left u) event
 
 -- steps are the calls of a ground term's letters
 pub record IsGroundRow (y : Spec) (steps : List Step) (ls : List Letter) : Type 0 where

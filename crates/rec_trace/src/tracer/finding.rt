@@ -1,6 +1,6 @@
 //! Which rule fires: rules that match, and their conditions.
 
-ghost use Rattle.std.specs.Prelude.{◌≡◌, ◌<◌, ◌∷◌, ◌+◌, []};
+ghost use Rattle.std.specs.Prelude.{◌≡◌, ◌<◌, ◌∷◌, ◌+◌, [], ℕ, true};
 ghost use Rattle.std.specs.Prelude.{IfOk, OnOk};
 ghost use Rattle.std.specs.Prelude.{Some, drop, get_or, length, slice_get};
 ghost use Rattle.std.specs.Bool.{beq};
@@ -14,7 +14,8 @@ ghost use Rattle.rec_trace.specs.Inner.Sides.{IsMatch, no_condition};
 ghost use Rattle.rec_trace.specs.Tracing.{AreAnswered, IsFound};
 ghost use Rattle.rec_trace.specs.Tracing.{IsInOrder};
 ghost use Rattle.rec_trace.specs.Tracing.{on_top, stack_at};
-ghost use Rattle.rec_trace.specs.Inner.Turns.{HasCondition, number_of};
+ghost use Rattle.rec_trace.specs.Inner.Turns.{HasCondition, IsBound, number_of};
+ghost use Rattle.rec_trace.specs.declared.tracer.Found.TheVariants as found;
 
 use crate::sides::Side;
 use crate::tracer::{Found, Tracer, second};
@@ -124,31 +125,73 @@ impl Tracer {
         Ok(Some(true))
     }
 
-    /// The first rule at or after a number that matches the tree on top.
+    /// Whether the conditions of a rule that matches the tree on top with these values hold; none,
+    /// where more steps are needed than are left. Where they hold, these are its values still.
+    fn try_rule<B: TermBank>(
+        &mut self,
+        alloc: Global,
+        engine: &mut Engine<B>,
+        rule: u32,
+        bind: &mut SmallVec<Term, 8>,
+    ) -> Result<Option<bool>, EngineFault>
+        requires order { IsInOrder engine.old.spec (B.store engine.old.bank) self.old }
+        requires can { (r : Rule) × (s : Substitution) × IsMatch engine.old.spec rule
+            (on_top (stack_at (B.store engine.old.bank) self.old)) r s
+            × (0 < length (stack_at (B.store engine.old.bank) self.old)) }
+        requires bound { IsBound engine.old.spec (B.store engine.old.bank) self.old rule
+            bind.old.items }
+        ensures same { SameEngine engine.old engine.new }
+        ensures stays { Stays (B.store engine.old.bank) (B.store engine.new.bank) self.old.lists
+            self.new.lists }
+        ensures answers { IfOk result (λ answer. (r : Rule) (s : Substitution)
+            → IsMatch engine.old.spec rule
+            (on_top (stack_at (B.store engine.old.bank) self.old)) r s
+            → AreAnswered engine.old.spec (B.store engine.old.bank) (B.store engine.new.bank)
+            self.old self.new (Holds engine.old.spec self.old.left s r.conditions) answer) }
+        ensures bound { IfOk result (λ answer. answer ≡ Some true
+            → IsBound engine.old.spec (B.store engine.new.bank) self.new rule bind.new.items) }
+    {
+        if engine.checked().rules()[rule as usize].conditions.len() == 0 {
+            return Ok(Some(true));
+        }
+        match self.conditions(alloc, engine, rule)? {
+            // what was evaluated may have given back the values: they are asked for once more
+            Some(true) => {
+                let _same = self.next_rule(engine, rule, bind)?;
+                Ok(Some(true))
+            }
+            Some(false) => Ok(Some(false)),
+            None => Ok(None),
+        }
+    }
+
+    /// The first rule at or after a number that matches the tree on top, and its values.
     fn next_rule<B: TermBank>(
         &self,
-        alloc: Global,
         engine: &Engine<B>,
         from: u32,
+        bind: &mut SmallVec<Term, 8>,
     ) -> Result<Option<u32>, EngineFault>
         requires order { IsInOrder engine.now.spec (B.store engine.now.bank) self.now }
         requires some { 0 < length (stack_at (B.store engine.now.bank) self.now) }
-        ensures { IfOk result (λ found. number_of (next_match engine.now.spec from
+        ensures found { IfOk result (λ found. number_of (next_match engine.now.spec from
             (on_top (stack_at (B.store engine.now.bank) self.now))) ≡ found) }
+        ensures bound { IfOk result (λ found. (i : ℕ) → found ≡ Some i
+            → IsBound engine.now.spec (B.store engine.now.bank) self.now i bind.new.items) }
     {
         let redex = engine.bank().head(self.lists.stack);
-        let mut bind: SmallVec<Term, 8> = SmallVec::new(alloc);
-        match engine.matcher().next(engine.bank(), redex, from, &mut bind) {
+        match engine.matcher().next(engine.bank(), redex, from, bind) {
             Ok(found) => Ok(found),
             Err(_) => Err(EngineFault::Memory),
         }
     }
 
-    /// The rule that fires at the tree on top.
+    /// The rule that fires at the tree on top, and its values.
     pub(super) fn find<B: TermBank>(
         &mut self,
         alloc: Global,
         engine: &mut Engine<B>,
+        bind: &mut SmallVec<Term, 8>,
     ) -> Result<Found, EngineFault>
         requires order { IsInOrder engine.old.spec (B.store engine.old.bank) self.old }
         requires some { 0 < length (stack_at (B.store engine.old.bank) self.old) }
@@ -159,14 +202,16 @@ impl Tracer {
             (B.store engine.new.bank) self.old self.new
             (first_rule engine.old.spec (Eval engine.old.spec) engine.old.spec.rules self.old.left
             (on_top (stack_at (B.store engine.old.bank) self.old)))) }
+        ensures bound { IfOk result (λ f. (i : ℕ) → f ≡ found.Rule i
+            → IsBound engine.old.spec (B.store engine.new.bank) self.new i bind.new.items) }
     {
         let mut from = 0;
-        'rules: while let Some(rule) = self.next_rule(alloc, engine, from)? {
+        'rules: while let Some(rule) = self.next_rule(engine, from, bind)? {
             if self.left == 0 {
                 return Ok(Found::Limit);
             }
             self.left -= 1;
-            match self.conditions(alloc, engine, rule)? {
+            match self.try_rule(alloc, engine, rule, bind)? {
                 Some(true) => return Ok(Found::Rule(rule)),
                 Some(false) => from = self.after(engine, rule),
                 None => return Ok(Found::Limit),

@@ -2,12 +2,15 @@
 
 ghost use Rattle.std.specs.Prelude.{◌≡◌, ◌++◌, ◌∷◌, []};
 ghost use Rattle.std.specs.Prelude.{OnOk};
+ghost use Rattle.rx_term.specs.Tree.{Tree};
 ghost use Rattle.rx_term.specs.Walks.{held_tree};
 ghost use Rattle.rec_syntax.specs.Syntax.{Rule};
 ghost use Rattle.rec_sorts.specs.Binding.{Substitution};
+ghost use Rattle.rec_sorts.specs.Numbering.{named_by};
 ghost use Rattle.rec_engine.specs.Engine.{SameEngine};
 ghost use Rattle.rec_trace.specs.Lists.{Stays};
-ghost use Rattle.rec_trace.specs.Inner.Sides.{CanPush, IsMatch, KeepsValues, side_of};
+ghost use Rattle.rec_trace.specs.Inner.Sides.{CanPush, HasSide, HasValues, IsMatch, IsRead};
+ghost use Rattle.rec_trace.specs.Inner.Sides.{KeepsValues, side_of};
 ghost use Rattle.rec_trace.specs.States.{moves};
 ghost use Rattle.rec_trace.specs.Tracing.{HasMoves, HasPushed};
 ghost use Rattle.rec_trace.specs.Tracing.{IsInOrder};
@@ -44,7 +47,7 @@ impl Tracer {
     ) -> Result<(), EngineFault>
         requires order { IsInOrder engine.old.spec (B.store engine.old.bank) self.old }
         requires can { CanPush engine.old.spec (B.store engine.old.bank) self.old.lists.stack rule
-            bind.now (letter ∷ []) }
+            bind.now (λ r. IsRead engine.old.spec r letter) }
         ensures same { SameEngine engine.old engine.new }
         ensures stays { Stays (B.store engine.old.bank) (B.store engine.new.bank) self.old.lists
             self.new.lists }
@@ -53,7 +56,8 @@ impl Tracer {
             (B.store engine.new.bank) self.old.lists.stack bind.now) }
         ensures stack { self.new.lists.stack ≡ self.old.lists.stack }
         ensures pushed { OnOk result (HasPushed engine.old.spec (B.store engine.old.bank)
-            (B.store engine.new.bank) self.old self.new rule bind.now (letter ∷ [])) }
+            (B.store engine.new.bank) self.old self.new rule bind.now
+            (named_by engine.old.spec letter ∷ [])) }
     {
         match letter.meaning {
             Meaning::Variable(variable) => {
@@ -68,28 +72,33 @@ impl Tracer {
         }
     }
 
-    /// The steps of letters come next, where a rule matches with these values.
-    fn push_row<B: TermBank>(
+    /// The steps of a side of a rule come next, where the rule matches with these values. Its
+    /// letters are read where they stand.
+    pub(super) fn push_row<B: TermBank>(
         &mut self,
         engine: &mut Engine<B>,
         rule: u32,
-        letters: &[Letter],
+        side: Side,
         bind: &[Term],
     ) -> Result<(), EngineFault>
         requires order { IsInOrder engine.old.spec (B.store engine.old.bank) self.old }
         requires can { CanPush engine.old.spec (B.store engine.old.bank) self.old.lists.stack rule
-            bind.now letters.now }
+            bind.now (λ r. HasSide r side) }
         ensures same { SameEngine engine.old engine.new }
         ensures stays { Stays (B.store engine.old.bank) (B.store engine.new.bank) self.old.lists
             self.new.lists }
         ensures left { self.new.left ≡ self.old.left }
-        ensures pushed { OnOk result (HasPushed engine.old.spec (B.store engine.old.bank)
-            (B.store engine.new.bank) self.old self.new rule bind.now letters.now) }
+        ensures pushed { OnOk result ((r : Rule) (s : Substitution) (u : Tree)
+            → IsMatch engine.old.spec rule u r s
+            → HasValues (B.store engine.old.bank) self.old.lists.stack bind.now s
+            → HasMoves engine.old.spec (B.store engine.old.bank) (B.store engine.new.bank)
+            self.old self.new (moves s (side_of r side))) }
     {
-        let mut at = letters.len();
+        let mut at = letters_of(engine.checked(), rule, side).len();
         'letters: while at > 0 {
             at -= 1;
-            self.push_letter(engine, rule, letters[at], bind)?;
+            let letter = letters_of(engine.checked(), rule, side)[at];
+            self.push_letter(engine, rule, letter, bind)?;
         }
         Ok(())
     }
@@ -114,10 +123,9 @@ impl Tracer {
             → HasMoves engine.old.spec (B.store engine.old.bank) (B.store engine.new.bank)
             self.old self.new (moves s (side_of r side))) }
     {
-        let letters = letters_of(alloc, engine.checked(), rule, side)?;
         let mut bind: SmallVec<Term, 8> = SmallVec::new(alloc);
         match engine.matcher().next(engine.bank(), redex, rule, &mut bind) {
-            Ok(_) => self.push_row(engine, rule, &letters, &bind),
+            Ok(_) => self.push_row(engine, rule, side, &bind),
             Err(_) => Err(EngineFault::Memory),
         }
     }

@@ -26,7 +26,7 @@ pub loop-i-preserved : goal.loop-i-preserved
 loop-i-preserved g c =
     let w = g.B.TermBank.store c.args.bank.now in
     popping-next w c.args.count (listed w c.args.stack) c.loop-i.i c.loop-i.below c.head-value.result c.tail-below.result c.loop-i.values.items
-    c.insert.new.self.items c.loop-i.invariant c.loop-i-test.true c.requires.count c.head-value.ensures c.tail-below.ensures c.in-Ok.ensures.items
+    c.insert.new.self.items c.loop-i.invariant c.loop-i-test.true c.requires.count c.head-value.ensures c.tail-below.ensures c.in-Ok.ensures.ok
 
 pub returns : goal.returns
 returns g c =

@@ -4,7 +4,7 @@ use Rattle.rec_sorts.specs.declared.letters.LetterCondition.{LetterCondition}
 use Rattle.rec_sorts.specs.Numbering.{IsLetterRule}
 use Rattle.rec_match.proofs.LetterLemmas.{pair-long}
 use Rattle.rec_trace.specs.Inner.Sides.{HasSide, IsRow, side_of}
-use Rattle.rec_trace.proofs.SideLemmas.{if-ok, rule-at, rule-read, some-same}
+use Rattle.rec_trace.proofs.SideLemmas.{rule-at, rule-read, some-same}
 use Rattle.rec_trace.proofs.sides.letters_of.Goals as goal
 
 pub bounds-rules-rule : goal.bounds-rules-rule
@@ -33,40 +33,34 @@ index-requires-in-Right c =
     omega (arith, lt, counted, v)
 
 pub returns-in-Contractum : goal.returns-in-Contractum
-returns-in-Contractum c =
+returns-in-Contractum c = λ r q.
     let y = c.args.checked.now.spec in
     let x = c.index-rules-rule.result in
-    if-ok c.copied.result (λ v e r q.
     let read = rule-read y c.rules-rules.ensures.kept c.rules-rules.result.now c.rules-rules.ensures.letters c.args.rule r x q c.index-rules-rule.is in
-    subst (λ ls. IsRow y r ls (side_of r c.args.side)) (sym (e ∙ c.deref.ensures.value))
-    (subst (λ side. IsRow y r x.right.items (side_of r side)) (sym c.in-Contractum.is) read.right))
-    c.copied.ensures
+    subst (λ ls. IsRow y r ls (side_of r c.args.side)) (sym c.deref.ensures.value)
+    (subst (λ side. IsRow y r x.right.items (side_of r side)) (sym c.in-Contractum.is) read.right)
 
 pub returns-in-Left : goal.returns-in-Left
-returns-in-Left c =
+returns-in-Left c = λ r q.
     let y = c.args.checked.now.spec in
     let x = c.index-rules-rule.result in
     let i = c.in-Left.i in
-    if-ok c.copied-in-Left.result (λ v e r q.
     let read = rule-read y c.rules-rules.ensures.kept c.rules-rules.result.now c.rules-rules.ensures.letters c.args.rule r x q c.index-rules-rule.is in
     let same = some-same c.requires.0 r (sym c.requires.1 ∙ q) in
     let lt = subst (λ (z : Rule). i < length z.conditions) same (subst (HasSide c.requires.0) c.in-Left.is c.requires.2) in
-    subst (λ ls. IsRow y r ls (side_of r c.args.side)) (sym (e ∙ c.deref-in-Left.ensures.value ∙ ap (λ (z : LetterCondition). z.left.items) c.index.ensures))
+    subst (λ ls. IsRow y r ls (side_of r c.args.side)) (sym (c.deref-in-Left.ensures.value ∙ ap (λ (z : LetterCondition). z.left.items) c.index.ensures))
     (subst (λ side. IsRow y r (get_or x.conditions.items i c.index.result.now).left.items (side_of r side)) (sym c.in-Left.is)
-    (read.lefts i c.index.result.now lt)))
-    c.copied-in-Left.ensures
+    (read.lefts i c.index.result.now lt))
 
 pub returns-in-Right : goal.returns-in-Right
-returns-in-Right c =
+returns-in-Right c = λ r q.
     let y = c.args.checked.now.spec in
     let x = c.index-rules-rule.result in
     let i = c.in-Right.i in
-    if-ok c.copied-in-Right.result (λ v e r q.
     let read = rule-read y c.rules-rules.ensures.kept c.rules-rules.result.now c.rules-rules.ensures.letters c.args.rule r x q c.index-rules-rule.is in
     let same = some-same c.requires.0 r (sym c.requires.1 ∙ q) in
     let lt = subst (λ (z : Rule). i < length z.conditions) same (subst (HasSide c.requires.0) c.in-Right.is c.requires.2) in
-    subst (λ ls. IsRow y r ls (side_of r c.args.side)) (sym (e ∙ c.deref-in-Right.ensures.value
+    subst (λ ls. IsRow y r ls (side_of r c.args.side)) (sym (c.deref-in-Right.ensures.value
     ∙ ap (λ (z : LetterCondition). z.right.items) c.index-in-Right.ensures))
     (subst (λ side. IsRow y r (get_or x.conditions.items i c.index-in-Right.result.now).right.items (side_of r side)) (sym c.in-Right.is)
-    (read.rights i c.index-in-Right.result.now lt)))
-    c.copied-in-Right.ensures
+    (read.rights i c.index-in-Right.result.now lt))

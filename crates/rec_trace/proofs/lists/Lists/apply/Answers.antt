@@ -38,5 +38,5 @@ returns-clause-applied g c =
     (put-result (g.B.TermBank.store c.args.engine.now.bank) (g.B.TermBank.store c.apply.new.self.bank) _ c.args.self.now _ c.in_ok-popped.popped.below
     c.in_ok-term.term _ _ c.requires.kept q.list c.apply.ensures.keeps
     (c.in_ok-term.ensures.applied ∙ ap (λ (vs : Trees). let o : Option Tree = Some (application name vs) in o)
-    (ap (λ xs. from_list (held_trees (g.B.TermBank.store c.args.engine.now.bank) xs)) c.deref.ensures.value ∙ q.values_are)) q.rest)
+    (ap (λ xs. from_list (held_trees (g.B.TermBank.store c.args.engine.now.bank) xs)) c.deref.ensures ∙ q.values_are)) q.rest)
     c.put.ensures.put

@@ -48,7 +48,7 @@ returns-clause-called g c =
     let spent = comes.4 in (
       comes.0,
       ap (λ (vs : Trees). Call y c.args.n (application (name_of y (Symbol c.args.symbol)) vs))
-          (sym q.values_are ∙ ap (λ xs. from_list (held_trees w xs)) (sym c.deref.ensures.value)) ∙ comes.3
+          (sym q.values_are ∙ ap (λ xs. from_list (held_trees w xs)) (sym c.deref.ensures)) ∙ comes.3
           ∙ ap (λ k. let o : Outcome Tree = Done comes.0 k in o) (let z : comes.1 ≡ c.args.n - c.in-Value.steps = omega (arith, spent) in z),
       put-result w w1 _ c.args.self.now _ c.in_ok-popped.popped.below c.in-Value.term _ _ c.requires.kept q.list c.call.ensures.keeps comes.2 q.rest
           c.in_ok-put-in-Value.ensures.put,

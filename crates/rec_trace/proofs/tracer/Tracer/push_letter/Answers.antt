@@ -26,7 +26,7 @@ returns-in_ok-offer-in-Variable-clause-pushed g c =
 
 pub returns-in-Symbol-clause-pushed : goal.returns-in-Symbol-clause-pushed
 returns-in-Symbol-clause-pushed g c =
-    let read = c.requires.can.5.0 in
+    let read = c.requires.can.5 in
     on-ok c.push-in-Symbol.result
     (λ steps. pushed-symbol c.args.engine.now.spec (g.B.TermBank.store c.args.engine.now.bank) c.args.self.now c.push-in-Symbol.new.self c.args.rule
     c.args.bind.now c.args.letter c.in-Symbol.symbol c.requires.order c.push-in-Symbol.ensures.lists c.in-Symbol.is

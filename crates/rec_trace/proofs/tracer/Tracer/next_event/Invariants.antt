@@ -2,7 +2,7 @@ use Rattle.std.proofs.Common.{vec_len}
 use Rattle.rec_engine.specs.Engine.{SameEngine}
 use Rattle.rec_trace.specs.Lists.{Stays}
 use Rattle.rec_trace.proofs.StepLemmas.{SameTrace}
-use Rattle.rec_trace.proofs.tracer.Tracer.next_step.Given as goal
+use Rattle.rec_trace.proofs.tracer.Tracer.next_event.Given as goal
 
 abbrev pub invariant-turns : goal.invariant-turns
 invariant-turns g l = record {
