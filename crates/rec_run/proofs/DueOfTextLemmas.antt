@@ -8,7 +8,7 @@ use Rattle.rx_text.specs.Token.{tokens, kinds}
 use Rattle.rx_text.specs.Grammar.{Spells}
 use Rattle.rx_text.specs.Machine as machine
 use Rattle.rx_text.proofs.MachineLemmas.{read_spelled}
-use Rattle.rx_text.proofs.FaultLemmas.{is_place}
+use Rattle.rx_text.proofs.FaultLemmas.{is_fault_place}
 use Rattle.rec_syntax.specs.Syntax.{Spec}
 use Rattle.rec_syntax.specs.Inner.Machine.{Outcome, Read, Fault, Unfinished}
 use Rattle.rec_syntax.proofs.VerdictLemmas.{comes_of, read_spells, stops_at_place}
@@ -74,29 +74,29 @@ tree_verdict y bytes t fits spelt None (Some ts) b k v e = let same : GoodTerms 
 tree_verdict y bytes t fits spelt None None b k v e = absurd (cc e)
 
 terms_verdict : (y : Spec) (bytes : List ℕ) (o : Option Tree) (place : Option ℕ) → Fits bytes → machine.read (kinds bytes) ≡ o
-    → machine.fault_at (tokens bytes) machine.Due [] ≡ place
+    → machine.fault_at (tokens bytes) machine.AtTerm [] ≡ place
     → (v : TermsVerdict) → terms_verdict_by y o place ≡ Some v → IsTermsVerdict y bytes v
 terms_verdict y bytes (Some t) place fits r f v e = tree_verdict y bytes t fits (read_spelled (kinds bytes) t r) (broken_by_terms y t) (elements t)
     refl refl v e
-terms_verdict y bytes None (Some at) fits r f v e = let same : Outside at ≡ v = cc in subst (IsTermsVerdict y bytes) same (fits, is_place bytes at f)
+terms_verdict y bytes None (Some at) fits r f v e = let same : Outside at ≡ v = cc in subst (IsTermsVerdict y bytes) same (fits, is_fault_place bytes at f)
 terms_verdict y bytes None None fits r f v e = absurd (cc e)
 
 -- what is due after the verdict on the specification
 abbrev pub due_by : List ℕ → Shown → ℕ → Verdict → Option Due
 due_by terms shown n (Good y) = option_map (due_of_terms y shown n)
-    (terms_verdict_by y (machine.read (kinds terms)) (machine.fault_at (tokens terms) machine.Due []))
+    (terms_verdict_by y (machine.read (kinds terms)) (machine.fault_at (tokens terms) machine.AtTerm []))
 due_by terms shown n v = Some (due_of_spec shown n v)
 
 due_after : (terms : List ℕ) (shown : Shown) (n : ℕ) (d : Due) → Fits terms → (v : Verdict) → due_by terms shown n v ≡ Some d
     → IsDueAfter v (Some terms) shown n d
-due_after terms shown n d fits (Good y) e = by_terms (terms_verdict_by y (machine.read (kinds terms)) (machine.fault_at (tokens terms) machine.Due [])) refl e
+due_after terms shown n d fits (Good y) e = by_terms (terms_verdict_by y (machine.read (kinds terms)) (machine.fault_at (tokens terms) machine.AtTerm [])) refl e
   where
-    by_terms : (o : Option TermsVerdict) → terms_verdict_by y (machine.read (kinds terms)) (machine.fault_at (tokens terms) machine.Due []) ≡ o
+    by_terms : (o : Option TermsVerdict) → terms_verdict_by y (machine.read (kinds terms)) (machine.fault_at (tokens terms) machine.AtTerm []) ≡ o
         → option_map (due_of_terms y shown n) o ≡ Some d
         → (v : TermsVerdict) × IsTermsVerdict y terms v × (d ≡ due_of_terms y shown n v)
     by_terms None k e = absurd (cc e)
     by_terms (Some v) k e = let same : d ≡ due_of_terms y shown n v = cc in
-        (v, terms_verdict y terms (machine.read (kinds terms)) (machine.fault_at (tokens terms) machine.Due []) fits refl refl v k, same)
+        (v, terms_verdict y terms (machine.read (kinds terms)) (machine.fault_at (tokens terms) machine.AtTerm []) fits refl refl v k, same)
 due_after terms shown n d fits Long e = let same : d ≡ due_of_spec shown n Long = cc in same
 due_after terms shown n d fits (Grammar at) e = let same : d ≡ due_of_spec shown n (Grammar at) = cc in same
 due_after terms shown n d fits (Breaks f) e = let same : d ≡ due_of_spec shown n (Breaks f) = cc in same

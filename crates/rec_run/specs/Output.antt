@@ -6,7 +6,7 @@
 use Rattle.std.specs.Prelude.{ℕ, ◌-◌, ◌≡◌, ◌<◌, length, Option, Some, None, Bool, List, [], ◌++◌, codes, decimal, map, flat_map}
 use Rattle.rx_term.specs.Tree.{Tree, Trees, none, annotated, annotations}
 use Rattle.rx_text.specs.Grammar.{Spells}
-use Rattle.rx_text.specs.Place.{IsPlace}
+use Rattle.rx_text.specs.Place.{IsFaultPlace}
 use Rattle.rx_text.specs.Canon.{canon, canon_all, enclosed}
 use Rattle.rec_syntax.specs.Syntax.{Term, Spec}
 use Rattle.rec_sorts.specs.TermRules.{broken_by_terms, elements}
@@ -85,7 +85,7 @@ pub data TermsVerdict : Type 0 where
 -- the verdict on a text of terms for a specification that keeps its rules
 abbrev pub IsTermsVerdict : Spec → List ℕ → TermsVerdict → Type 0
 IsTermsVerdict y bytes TooLong = 16777216 < length bytes
-IsTermsVerdict y bytes (Outside at) = Fits bytes × IsPlace bytes at
+IsTermsVerdict y bytes (Outside at) = Fits bytes × IsFaultPlace bytes at
 IsTermsVerdict y bytes (BreaksTerms number) = Fits bytes
     × ((t : Tree) × Spells bytes t × (broken_by_terms y t ≡ Some number))
 IsTermsVerdict y bytes (GoodTerms ts) = Fits bytes

@@ -3,12 +3,12 @@ use Rattle.std.proofs.Common.{◌≡◌, ℕ, ◌+◌, ◌<◌, ◌≤◌, List,
 use Rattle.rx_term.specs.Tree.{Tree, none, Appl, annotated}
 use Rattle.rx_text.specs.Token as token
 use Rattle.rx_text.specs.Token.{Token, tokens, kinds}
-use Rattle.rx_text.specs.Place.{IsPlace}
+use Rattle.rx_text.specs.Place.{IsFaultPlace}
 use Rattle.rx_text.specs.Machine as machine
-use Rattle.rx_text.specs.Machine.{Mode, State, step, run, read, tree_of, next_state, fault_at}
+use Rattle.rx_text.specs.Machine.{State, step, run, read, tree_of, next_state, fault_at}
 use Rattle.rx_text.specs.Nodes.{top}
 use Rattle.rx_text.specs.Lexemes.{tokens_after, token_of, behind, Advances}
-use Rattle.rx_text.specs.Reader.{made_of, frames_of, mode_of, state_of, total, node_count, IsState, Steps}
+use Rattle.rx_text.specs.Reader.{made_of, frames_of, due_of, state_of, total, node_count, IsState, Steps}
 use Rattle.rx_text.specs.Answer.{AreRead}
 use Rattle.rx_text.specs.declared.lexer.LexemeKind.{LexemeKind}
 use Rattle.rx_text.specs.declared.lexer.LexemeKind.TheVariants.{End}
@@ -19,11 +19,11 @@ use Rattle.rx_text.specs.declared.reader.Reader.{Reader}
 use Rattle.rx_text.specs.declared.reader.Due.{Due}
 use Rattle.rx_text.specs.declared.reader.Due.TheVariants as due
 use Rattle.rx_text.proofs.MachineLemmas.{read_spelled}
-use Rattle.rx_text.proofs.FaultLemmas.{is_place}
+use Rattle.rx_text.proofs.FaultLemmas.{is_fault_place}
 
 -- what is left of the text decides what is answered
 pub record Decides (bytes : List ℕ) (s : State) (ps : List (ℕ × Token)) : Type 0 where
-  pub fault : fault_at ps s.0 s.1 ≡ fault_at (tokens bytes) machine.Due []
+  pub fault : fault_at ps s.0 s.1 ≡ fault_at (tokens bytes) machine.AtTerm []
   pub tree : tree_of (run (map (λ t. t.1) ps) s.0 s.1) ≡ read (kinds bytes)
 
 pub goes_on : (bytes : List ℕ) (s r : State) (ps rest : List (ℕ × Token)) (t : Token) (at : ℕ) → Decides bytes s ps → ps ≡ (at, t) ∷ rest
@@ -36,10 +36,10 @@ goes_on bytes s r ps rest t at d cut e =
     record { fault = sym f ∙ d.fault; tree = sym k ∙ d.tree }
 
 pub refused_at : (bytes : List ℕ) (s : State) (ps rest : List (ℕ × Token)) (t : Token) (at : ℕ) → Decides bytes s ps → ps ≡ (at, t) ∷ rest
-    → step s.0 s.1 t ≡ None → IsPlace bytes at
+    → step s.0 s.1 t ≡ None → IsFaultPlace bytes at
 refused_at bytes s ps rest t at d cut e =
     let f : fault_at ps s.0 s.1 ≡ Some at = ap (λ qs. fault_at qs s.0 s.1) cut ∙ ap (λ o. next_state (Some at) (λ n gs. fault_at rest n gs) o) e in
-    is_place bytes at (sym d.fault ∙ f)
+    is_fault_place bytes at (sym d.fault ∙ f)
 
 pub behind_is : (bytes : List ℕ) (k : LexemeKind) (to : ℕ) → (k ≡ End → ⊥) → behind bytes k to ≡ tokens_after bytes to
 behind_is bytes End to h = absurd (h refl)
@@ -90,16 +90,16 @@ text_ended : (t : Tree) (fs : List machine.Frame) (s : State) → machine.end_te
 text_ended t [] s e = (t, sym (some_same e))
 text_ended t (f ∷ fs) s e = absurd (cc e)
 
-pub step_ended : (m : Mode) (fs : List machine.Frame) (s : State) → step m fs token.End ≡ Some s → IsEnded s
-step_ended machine.Due fs s e = absurd (cc e)
+pub step_ended : (m : machine.Due) (fs : List machine.Frame) (s : State) → step m fs token.End ≡ Some s → IsEnded s
+step_ended machine.AtTerm fs s e = absurd (cc e)
 step_ended (machine.First f) fs s e = absurd (cc e)
 step_ended (machine.Named n q) fs s e = text_ended (Appl n q none none) fs s e
 step_ended (machine.Body u) fs s e = text_ended (annotated u none) fs s e
 step_ended (machine.Whole u) fs s e = text_ended u fs s e
 step_ended (machine.Done u) fs s e = absurd (cc e)
 
-done_due : (bytes : List ℕ) (d : Due) (made : List Tree) (t : Tree) → mode_of bytes d made ≡ machine.Done t → (d ≡ due.Done) × (top made ≡ t)
-done_due bytes due.Term made t e = absurd (cc e)
+done_due : (bytes : List ℕ) (d : Due) (made : List Tree) (t : Tree) → due_of bytes d made ≡ machine.Done t → (d ≡ due.Done) × (top made ≡ t)
+done_due bytes due.AtTerm made t e = absurd (cc e)
 done_due bytes (due.First o) made t e = absurd (cc e)
 done_due bytes (due.Named w) made t e = absurd (cc e)
 done_due bytes due.Body made t e = absurd (cc e)
@@ -122,8 +122,8 @@ is_read bytes s ps at d frames ns decides cut e state =
     let made : List Tree = made_of bytes ns in
     let ended = step_ended s.0 s.1 (state_of bytes d frames ns) e in
     let t : Tree = ended.0 in
-    let mode : mode_of bytes d made ≡ machine.Done t = ap (λ (x : State). x.0) ended.1 in
-    let due_is = done_due bytes d made t mode in
+    let is_done : due_of bytes d made ≡ machine.Done t = ap (λ (x : State). x.0) ended.1 in
+    let due_is = done_due bytes d made t is_done in
     let closed : reverse frames ≡ [] = none_open bytes (reverse frames) _ (ap (λ (x : State). x.1) ended.1) in
     let count : total (reverse frames) + 1 ≡ length made = rw (due_is.0) at state.stack.counted in
     let one : length made ≡ 1 = sym count ∙ ap (λ fs. total fs + 1) closed in

@@ -9,9 +9,9 @@ use Rattle.std.proofs.lemmas.List.Sorted.{Contains-permutation, IsPermutation-fi
 use Rattle.rx_term.specs.Tree.{Tree, none, Appl, annotated}
 use Rattle.rx_text.specs.Token as tokens
 use Rattle.rx_text.specs.Token.{Token, kinds}
-use Rattle.rx_text.specs.Place.{Begins, IsPlace}
+use Rattle.rx_text.specs.Place.{CanGoOn, IsFaultPlace}
 use Rattle.rx_text.specs.Machine as machine
-use Rattle.rx_text.specs.Machine.{Mode, State, start, close, first, whole, body, after_name, step, next_state, run, read, tree_of}
+use Rattle.rx_text.specs.Machine.{Due, State, start, close, first, whole, body, after_name, step, next_state, run, read, tree_of}
 use Rattle.rx_text.specs.Reader.{frame_of}
 use Rattle.rx_text.specs.Expected.{IsOf, MayStand, before, sample, is_taken}
 use Rattle.rx_text.specs.declared.token_kind.TokenKind.{TokenKind}
@@ -21,20 +21,20 @@ use Rattle.rx_text.specs.declared.reader.Opening.{Opening}
 use Rattle.rx_text.specs.declared.reader.Opening.TheVariants as opening
 use Rattle.rx_text.proofs.DecidingLemmas.{step_ended, some_same}
 use Rattle.rx_text.proofs.FaultLemmas.{not_both}
-use Rattle.rx_text.proofs.MachineLemmas.{begins_run, run_begins, read_spelled}
+use Rattle.rx_text.proofs.MachineLemmas.{can_go_on_run, run_can_go_on, read_spelled}
 use Rattle.rx_text.proofs.PlaceLemmas.{same_before}
 
 -- one integer is taken where another one is, and one name where another one is
-alike_integers : (m : Mode) (fs : List machine.Frame) (y z : ℤ) → is_some (step m fs (tokens.Integer y)) ≡ is_some (step m fs (tokens.Integer z))
-alike_integers machine.Due fs y z = refl
+alike_integers : (m : Due) (fs : List machine.Frame) (y z : ℤ) → is_some (step m fs (tokens.Integer y)) ≡ is_some (step m fs (tokens.Integer z))
+alike_integers machine.AtTerm fs y z = refl
 alike_integers (machine.First f) fs y z = refl
 alike_integers (machine.Named n q) fs y z = refl
 alike_integers (machine.Body u) fs y z = refl
 alike_integers (machine.Whole u) fs y z = refl
 alike_integers (machine.Done u) fs y z = refl
 
-alike_names : (m : Mode) (fs : List machine.Frame) (x y : List ℕ) (p q : Bool) → is_some (step m fs (tokens.Name x p)) ≡ is_some (step m fs (tokens.Name y q))
-alike_names machine.Due fs x y p q = refl
+alike_names : (m : Due) (fs : List machine.Frame) (x y : List ℕ) (p q : Bool) → is_some (step m fs (tokens.Name x p)) ≡ is_some (step m fs (tokens.Name y q))
+alike_names machine.AtTerm fs x y p q = refl
 alike_names (machine.First f) fs x y p q = refl
 alike_names (machine.Named n r) fs x y p q = refl
 alike_names (machine.Body u) fs x y p q = refl
@@ -42,7 +42,7 @@ alike_names (machine.Whole u) fs x y p q = refl
 alike_names (machine.Done u) fs x y p q = refl
 
 -- whether a token is taken is decided by its kind
-pub by_kind : (m : Mode) (fs : List machine.Frame) (k : TokenKind) (t : Token) → IsOf k t → is_some (step m fs t) ≡ is_taken (step m fs) k
+pub by_kind : (m : Due) (fs : List machine.Frame) (k : TokenKind) (t : Token) → IsOf k t → is_some (step m fs t) ≡ is_taken (step m fs) k
 by_kind m fs Integer t (z, e) = ap (λ (u : Token). is_some (step m fs u)) e ∙ alike_integers m fs z (pos 0)
 by_kind m fs Name t (name, quoted, e) = ap (λ (u : Token). is_some (step m fs u)) e ∙ alike_names m fs name [] quoted false
 by_kind m fs Open t e = ap (λ (u : Token). is_some (step m fs u)) e
@@ -101,12 +101,12 @@ sample_is End = refl
 
 -- more tokens go on from the state that the first ones lead to
 run_by : (ts us : List Token) (s : State) (o : Option State)
-    → ((n : Mode) (gs : List machine.Frame) → run ts n gs ≡ Some s → run (ts ++ us) n gs ≡ run us s.0 s.1)
+    → ((n : Due) (gs : List machine.Frame) → run ts n gs ≡ Some s → run (ts ++ us) n gs ≡ run us s.0 s.1)
     → next_state None (λ n gs. run ts n gs) o ≡ Some s → next_state None (λ n gs. run (ts ++ us) n gs) o ≡ run us s.0 s.1
 run_by ts us s None go e = absurd (cc e)
 run_by ts us s (Some r) go e = go r.0 r.1 e
 
-run_on : (ts us : List Token) (m : Mode) (fs : List machine.Frame) (s : State) → run ts m fs ≡ Some s → run (ts ++ us) m fs ≡ run us s.0 s.1
+run_on : (ts us : List Token) (m : Due) (fs : List machine.Frame) (s : State) → run ts m fs ≡ Some s → run (ts ++ us) m fs ≡ run us s.0 s.1
 run_on [] us m fs s e = ap (λ (r : State). run us r.0 r.1) (some_same e)
 run_on (t ∷ ts) us m fs s e = run_by ts us s (step m fs t) (λ n gs h. run_on ts us n gs s h) e
 
@@ -115,28 +115,28 @@ one_token t s None e = rw e refl
 one_token t s (Some r) e = rw e refl
 
 -- tokens that are taken, and one more
-one_more : (us : List Token) (s : State) (t : Token) (o : Option State) → run us machine.Due [] ≡ Some s → step s.0 s.1 t ≡ o
-    → run (us ++ t ∷ []) machine.Due [] ≡ o
-one_more us s t o e f = run_on us (t ∷ []) machine.Due [] s e ∙ one_token t s o f
+one_more : (us : List Token) (s : State) (t : Token) (o : Option State) → run us machine.AtTerm [] ≡ Some s → step s.0 s.1 t ≡ o
+    → run (us ++ t ∷ []) machine.AtTerm [] ≡ o
+one_more us s t o e f = run_on us (t ∷ []) machine.AtTerm [] s e ∙ one_token t s o f
 
-some_begins : (us : List Token) (o : Option State) → run us machine.Due [] ≡ o → is_some o ≡ true → Begins us
-some_begins us None e h = absurd (cc h)
-some_begins us (Some s) e h = run_begins us s e
+some_can_go_on : (us : List Token) (o : Option State) → run us machine.AtTerm [] ≡ o → is_some o ≡ true → CanGoOn us
+some_can_go_on us None e h = absurd (cc h)
+some_can_go_on us (Some s) e h = run_can_go_on us s e
 
 -- tokens that the machine refuses begin no text
-none_begins : (us : List Token) → run us machine.Due [] ≡ None → ¬ Begins us
-none_begins us e b = let k = begins_run us b in absurd (cc (e, k.1))
+none_cannot_go_on : (us : List Token) → run us machine.AtTerm [] ≡ None → ¬ CanGoOn us
+none_cannot_go_on us e b = let k = can_go_on_run us b in absurd (cc (e, k.1))
 
-begins_some : (us : List Token) (s : State) (t : Token) (o : Option State) → run us machine.Due [] ≡ Some s → step s.0 s.1 t ≡ o
-    → Begins (us ++ t ∷ []) → is_some o ≡ true
-begins_some us s t None e f b = absurd (none_begins (us ++ t ∷ []) (one_more us s t None e f) b)
-begins_some us s t (Some r) e f b = refl
+can_go_on_some : (us : List Token) (s : State) (t : Token) (o : Option State) → run us machine.AtTerm [] ≡ Some s → step s.0 s.1 t ≡ o
+    → CanGoOn (us ++ t ∷ []) → is_some o ≡ true
+can_go_on_some us s t None e f b = absurd (none_cannot_go_on (us ++ t ∷ []) (one_more us s t None e f) b)
+can_go_on_some us s t (Some r) e f b = refl
 
 -- behind tokens that lead to a state, just the kinds that it takes may stand
-pub may_stand : (us : List Token) (s : State) (k : TokenKind) → run us machine.Due [] ≡ Some s → (is_taken (step s.0 s.1) k ≡ true) ↔ MayStand us k
+pub may_stand : (us : List Token) (s : State) (k : TokenKind) → run us machine.AtTerm [] ≡ Some s → (is_taken (step s.0 s.1) k ≡ true) ↔ MayStand us k
 may_stand us s k e = (
-  λ h. (sample k, sample_is k, some_begins (us ++ sample k ∷ []) (step s.0 s.1 (sample k)) (one_more us s (sample k) (step s.0 s.1 (sample k)) e refl) h),
-  λ m. sym (by_kind s.0 s.1 k m.0 m.1) ∙ begins_some us s m.0 (step s.0 s.1 m.0) e refl m.2,
+  λ h. (sample k, sample_is k, some_can_go_on (us ++ sample k ∷ []) (step s.0 s.1 (sample k)) (one_more us s (sample k) (step s.0 s.1 (sample k)) e refl) h),
+  λ m. sym (by_kind s.0 s.1 k m.0 m.1) ∙ can_go_on_some us s m.0 (step s.0 s.1 m.0) e refl m.2,
 )
 
 -- tokens without their places
@@ -147,7 +147,7 @@ bare ps = map (λ t. t.1) ps
 pub record Reached (bytes : List ℕ) (s : State) (ps : List (ℕ × Token)) : Type 0 where
   pub front : List (ℕ × Token)
   pub cut : tokens.tokens bytes ≡ front ++ ps
-  pub led : run (bare front) machine.Due [] ≡ Some s
+  pub led : run (bare front) machine.AtTerm [] ≡ Some s
 
 -- a token that is taken leads on
 pub reached_next : (bytes : List ℕ) (s r : State) (ps rest : List (ℕ × Token)) (t : Token) (at : ℕ) → Reached bytes s ps → ps ≡ (at, t) ∷ rest
@@ -155,27 +155,27 @@ pub reached_next : (bytes : List ℕ) (s r : State) (ps rest : List (ℕ × Toke
 reached_next bytes s r ps rest t at h e f = record {
   front = h.front ++ (at, t) ∷ [];
   cut = h.cut ∙ ap (λ (qs : List (ℕ × Token)). h.front ++ qs) e ∙ sym (append_assoc h.front ((at, t) ∷ []) rest);
-  led = ap (λ (us : List Token). run us machine.Due []) (map-append (λ (p : ℕ × Token). p.1) h.front ((at, t) ∷ []))
+  led = ap (λ (us : List Token). run us machine.AtTerm []) (map-append (λ (p : ℕ × Token). p.1) h.front ((at, t) ∷ []))
       ∙ one_more (bare h.front) s t (Some r) h.led f;
 }
 
 -- a state is the one behind the tokens before the fault
 abbrev pub IsFaultState : List ℕ → State → Type 0
-IsFaultState bytes s = (at : ℕ) (place : IsPlace bytes at) → run (before bytes at place) machine.Due [] ≡ Some s
+IsFaultState bytes s = (at : ℕ) (place : IsFaultPlace bytes at) → run (before bytes at place) machine.AtTerm [] ≡ Some s
 
 -- a token that is refused is at the fault's place
 pub refused_state : (bytes : List ℕ) (s : State) (ps rest : List (ℕ × Token)) (t : Token) (at : ℕ) → Reached bytes s ps → ps ≡ (at, t) ∷ rest
     → step s.0 s.1 t ≡ None → IsFaultState bytes s
 refused_state bytes s ps rest t at h e f x place =
-    let here : IsPlace bytes at = (
+    let here : IsFaultPlace bytes at = (
       h.front,
       rest,
       t,
       h.cut ∙ ap (λ (qs : List (ℕ × Token)). h.front ++ qs) e,
-      run_begins (bare h.front) s h.led,
-      none_begins (bare h.front ++ t ∷ []) (one_more (bare h.front) s t None h.led f),
+      run_can_go_on (bare h.front) s h.led,
+      none_cannot_go_on (bare h.front ++ t ∷ []) (one_more (bare h.front) s t None h.led f),
     ) in
-    ap (λ (qs : List (ℕ × Token)). run (bare qs) machine.Due []) (same_before bytes x at place here) ∙ h.led
+    ap (λ (qs : List (ℕ × Token)). run (bare qs) machine.AtTerm []) (same_before bytes x at place here) ∙ h.led
 
 -- where the end is taken, there is no fault
 pub ended_state : (bytes : List ℕ) (s r : State) (ps : List (ℕ × Token)) (at : ℕ) → Reached bytes s ps → ps ≡ (at, tokens.End) ∷ []
@@ -184,8 +184,8 @@ ended_state bytes s r ps at h e f x place =
     let last = reached_next bytes s r ps [] tokens.End at h e f in
     let ended = step_ended s.0 s.1 r f in
     let all : tokens.tokens bytes ≡ last.front = last.cut ∙ append-nil last.front in
-    let done : run (kinds bytes) machine.Due [] ≡ Some (machine.Done ended.0, []) =
-    ap (λ (qs : List (ℕ × Token)). run (bare qs) machine.Due []) all ∙ last.led ∙ ap (λ (q : State). Some q) ended.1 in
+    let done : run (kinds bytes) machine.AtTerm [] ≡ Some (machine.Done ended.0, []) =
+    ap (λ (qs : List (ℕ × Token)). run (bare qs) machine.AtTerm []) all ∙ last.led ∙ ap (λ (q : State). Some q) ended.1 in
     let is_read : read (kinds bytes) ≡ Some ended.0 = ap tree_of done in
     absurd (not_both bytes ended.0 x (read_spelled (kinds bytes) ended.0 is_read) place)
 

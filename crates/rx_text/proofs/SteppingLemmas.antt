@@ -21,7 +21,7 @@ use Rattle.rx_text.specs.declared.nodes.Node.TheVariants as node
 use Rattle.rx_text.specs.declared.reader.Opening.{Opening}
 use Rattle.rx_text.specs.declared.reader.Opening.TheVariants as opening
 use Rattle.rx_text.specs.declared.reader.Frame.{Frame}
-use Rattle.rx_text.specs.declared.reader.Due.TheVariants.{Term, Named, Body, Whole}
+use Rattle.rx_text.specs.declared.reader.Due.TheVariants.{AtTerm, Named, Body, Whole}
 
 -- ---- nodes
 
@@ -187,7 +187,7 @@ top_first (t ∷ made) h = refl
 
 next_core : (bytes : List ℕ) (o : Opening) (k : ℕ) (fs : List Frame) (t : Tree) (made : List Tree) → (o ≡ opening.Placeholder → ⊥)
     → machine.next_item t (frame_of bytes o k made ∷ frames_of bytes fs (under o k made)) ≡ Some (
-      machine.Due,
+      machine.AtTerm,
       frame_of bytes o (suc k) (t ∷ made) ∷ frames_of bytes fs (under o (suc k) (t ∷ made)),
     )
 next_core bytes (opening.Arguments w) k fs t made h = refl
@@ -211,8 +211,8 @@ some_made bytes before ns s = let count = s.stack.counted in omega (arith, count
 
 pub next_moves : (bytes : List ℕ) (before frames after : List Frame) (f : Frame) (ns : List Node) → before ≡ frames ++ f ∷ []
     → after ≡ frames ++ longer f ∷ [] → (f.opening ≡ opening.Placeholder → ⊥) → IsState bytes Whole before ns
-    → (machine.next_item (top (made_of bytes ns)) (frames_of bytes (reverse before) (rest (made_of bytes ns))) ≡ Some (state_of bytes Term after ns))
-    × IsState bytes Term after ns
+    → (machine.next_item (top (made_of bytes ns)) (frames_of bytes (reverse before) (rest (made_of bytes ns))) ≡ Some (state_of bytes AtTerm after ns))
+    × IsState bytes AtTerm after ns
 next_moves bytes before frames after f ns e g h s =
     let made : List Tree = made_of bytes ns in
     let p = pop_frame bytes 1 before frames f ns e s.stack in
@@ -222,7 +222,7 @@ next_moves bytes before frames after f ns e g h s =
     ap (λ (m : List Tree). frames_of bytes (longer f ∷ reverse frames) m) (sym whole) in
     let long : frame_of bytes f.opening (suc f.count) (top made ∷ rest made) ∷ frames_of bytes (reverse frames)
     (under f.opening (suc f.count) (top made ∷ rest made)) ≡ frames_of bytes (longer f ∷ reverse frames) (top made ∷ rest made) = rw add-one refl in (
-      rw (e, g, frames-push, frames-push) (core ∙ ap (λ (x : List machine.Frame). Some (machine.Due, x)) (long ∙ same)),
+      rw (e, g, frames-push, frames-push) (core ∙ ap (λ (x : List machine.Frame). Some (machine.AtTerm, x)) (long ∙ same)),
       record { stack = push_frame bytes 0 _ frames after (longer f) ns g p.0 (omega (arith, held-longer f.opening f.count h)) p.1; bare = tt; word = tt },
     )
 

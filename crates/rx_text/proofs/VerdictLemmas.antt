@@ -3,7 +3,7 @@ use Rattle.std.proofs.Common.{◌≡◌, ℕ, ◌<◌, ◌≤◌, List, length, 
 use Rattle.std.proofs.lemmas.Bool.{cases_lt}
 use Rattle.rx_term.specs.Tree.{Tree}
 use Rattle.rx_text.specs.Grammar.{Spells}
-use Rattle.rx_text.specs.Place.{IsPlace}
+use Rattle.rx_text.specs.Place.{IsFaultPlace}
 use Rattle.rx_text.specs.Verdict.{Verdict, TooLong, Outside, Spelt, longest, IsVerdict}
 use Rattle.rx_text.specs.Law.{OneVerdict}
 use Rattle.rx_text.proofs.UniqueLemmas.{one_tree}
@@ -15,7 +15,7 @@ too_long bytes h TooLong k = refl
 too_long bytes h (Outside at) k = absurd (omega (arith, h, k.0))
 too_long bytes h (Spelt t) k = absurd (omega (arith, h, k.0))
 
-outside : (bytes : List ℕ) (at : ℕ) → length bytes ≤ longest → IsPlace bytes at → (w : Verdict) → IsVerdict bytes w → w ≡ Outside at
+outside : (bytes : List ℕ) (at : ℕ) → length bytes ≤ longest → IsFaultPlace bytes at → (w : Verdict) → IsVerdict bytes w → w ≡ Outside at
 outside bytes at h p TooLong k = absurd (omega (arith, h, k))
 outside bytes at h p (Outside x) k = ap Outside (one_place bytes x at k.1 p)
 outside bytes at h p (Spelt t) k = absurd (not_both bytes t at k.1 p)

@@ -3,7 +3,7 @@ use Rattle.std.specs.Prelude.{◌≡◌, ℕ, List, [], ◌∷◌, map}
 use Rattle.std.specs.List.{AllByRecursion}
 use Rattle.rx_term.specs.Tree.{Tree}
 use Rattle.rx_text.specs.Grammar.{Spells}
-use Rattle.rx_text.specs.Place.{IsPlace}
+use Rattle.rx_text.specs.Place.{IsFaultPlace}
 use Rattle.rx_text.specs.Nodes.{Enough}
 use Rattle.rx_text.specs.Reader.{node_of, made_of, IsNode}
 use Rattle.rx_text.specs.declared.nodes.Node.{Node}
@@ -23,6 +23,6 @@ AreRead bytes ns = (t : Tree) × Spells bytes t × AreNodesOf bytes ns t
 -- the place of a fault, or that memory ran out
 abbrev pub IsFault : List ℕ → TextFault → Type 0
 IsFault bytes Long = ⊥
-IsFault bytes (Grammar at) = IsPlace bytes at
+IsFault bytes (Grammar at) = IsFaultPlace bytes at
 IsFault bytes Memory = Unit {0}
 IsFault bytes Full = ⊥

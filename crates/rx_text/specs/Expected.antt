@@ -2,7 +2,7 @@
 use Rattle.std.specs.Prelude.{◌≡◌, ◌↔◌, ℕ, ℤ, pos, Bool, false, List, [], ◌∷◌, ◌++◌, map, Contains, Option, Some, None, is_some}
 use Rattle.rx_text.specs.Token as tokens
 use Rattle.rx_text.specs.Token.{Token}
-use Rattle.rx_text.specs.Place.{Begins, IsPlace}
+use Rattle.rx_text.specs.Place.{CanGoOn, IsFaultPlace}
 use Rattle.rx_text.specs.Machine as machine
 use Rattle.rx_text.specs.Machine.{State, run}
 use Rattle.rx_text.specs.Lexemes.{token_of}
@@ -31,16 +31,16 @@ IsOf End t = t ≡ tokens.End
 
 -- some text of the grammar has a token of this kind behind these tokens
 abbrev pub MayStand : List Token → TokenKind → Type 0
-MayStand before k = (t : Token) × IsOf k t × Begins (before ++ t ∷ [])
+MayStand before k = (t : Token) × IsOf k t × CanGoOn (before ++ t ∷ [])
 
 -- the tokens before a fault's place
-abbrev pub before : (bytes : List ℕ) (at : ℕ) → IsPlace bytes at → List Token
+abbrev pub before : (bytes : List ℕ) (at : ℕ) → IsFaultPlace bytes at → List Token
 before bytes at place = map (λ t. t.1) place.0
 
 -- these are exactly the kinds of the tokens that some text has at the fault's place, behind the
 -- tokens before it
 abbrev pub AreExpected : List ℕ → List TokenKind → Type 0
-AreExpected bytes ks = (at : ℕ) (place : IsPlace bytes at) (k : TokenKind)
+AreExpected bytes ks = (at : ℕ) (place : IsFaultPlace bytes at) (k : TokenKind)
     → Contains ks k ↔ MayStand (before bytes at place) k
 
 -- a token's kind; a bad token has none
@@ -69,6 +69,6 @@ is_taken step k = is_some (step (sample k))
 
 -- the reader's state is the one behind the tokens before the fault
 abbrev pub IsAtFault : List ℕ → Due → Reader → Type 0
-IsAtFault bytes d r = (at : ℕ) (place : IsPlace bytes at)
-    → run (before bytes at place) machine.Due []
+IsAtFault bytes d r = (at : ℕ) (place : IsFaultPlace bytes at)
+    → run (before bytes at place) machine.AtTerm []
     ≡ Some (state_of bytes d r.frames.items r.nodes.items)

@@ -12,16 +12,16 @@ pub data Frame : Type 0 where
 
 -- a term is due; a term or the end of what was just opened; a name was read; a body; a term with
 -- its annotations; the end
-pub data Mode : Type 0 where
-  Due : Mode
-  First : Frame → Mode
-  Named : List ℕ → Bool → Mode
-  Body : Tree → Mode
-  Whole : Tree → Mode
-  Done : Tree → Mode
+pub data Due : Type 0 where
+  AtTerm : Due
+  First : Frame → Due
+  Named : List ℕ → Bool → Due
+  Body : Tree → Due
+  Whole : Tree → Due
+  Done : Tree → Due
 
 abbrev pub State : Type 0
-State = Mode × List Frame
+State = Due × List Frame
 
 -- the items so far, and those to come
 abbrev pub onto : Trees → Trees → Trees
@@ -34,7 +34,7 @@ start fs (Integer z) = Some (Body (Int z none), fs)
 start fs (Name n q) = Some (Named n q, fs)
 start fs Open = Some (First (InArguments [] false none), fs)
 start fs OpenBracket = Some (First (InList none), fs)
-start fs Less = Some (Due, InHole ∷ fs)
+start fs Less = Some (AtTerm, InHole ∷ fs)
 start fs _ = None
 
 -- what is open ends at its mark
@@ -59,9 +59,9 @@ end_item u (InAnnotations t items ∷ fs) tok = close (InAnnotations t (more u i
 end_item u _ tok = None
 
 abbrev pub next_item : Tree → List Frame → Option State
-next_item u (InArguments n q items ∷ fs) = Some (Due, InArguments n q (more u items) ∷ fs)
-next_item u (InList items ∷ fs) = Some (Due, InList (more u items) ∷ fs)
-next_item u (InAnnotations t items ∷ fs) = Some (Due, InAnnotations t (more u items) ∷ fs)
+next_item u (InArguments n q items ∷ fs) = Some (AtTerm, InArguments n q (more u items) ∷ fs)
+next_item u (InList items ∷ fs) = Some (AtTerm, InList (more u items) ∷ fs)
+next_item u (InAnnotations t items ∷ fs) = Some (AtTerm, InAnnotations t (more u items) ∷ fs)
 next_item u _ = None
 
 abbrev pub end_hole : Tree → List Frame → Option State
@@ -89,8 +89,8 @@ abbrev pub after_name : List ℕ → Bool → List Frame → Token → Option St
 after_name n q fs Open = Some (First (InArguments n q none), fs)
 after_name n q fs tok = body (Appl n q none none) fs tok
 
-abbrev pub step : Mode → List Frame → Token → Option State
-step Due fs tok = start fs tok
+abbrev pub step : Due → List Frame → Token → Option State
+step AtTerm fs tok = start fs tok
 step (First f) fs tok = first f fs tok
 step (Named n q) fs tok = after_name n q fs tok
 step (Body u) fs tok = body u fs tok
@@ -98,12 +98,12 @@ step (Whole u) fs tok = whole u fs tok
 step (Done u) fs tok = None
 
 -- the next state, where there is one
-abbrev pub next_state : {X : Type 0} → X → (Mode → List Frame → X) → Option State → X
+abbrev pub next_state : {X : Type 0} → X → (Due → List Frame → X) → Option State → X
 next_state x go None = x
 next_state x go (Some s) = go s.0 s.1
 
 -- from a state, over tokens
-abbrev pub run : List Token → Mode → List Frame → Option State
+abbrev pub run : List Token → Due → List Frame → Option State
 run [] m fs = Some (m, fs)
 run (tok ∷ ts) m fs = next_state None (λ n gs. run ts n gs) (step m fs tok)
 
@@ -114,9 +114,9 @@ tree_of _ = None
 
 -- a plain reader
 abbrev pub read : List Token → Option Tree
-read ts = tree_of (run ts Due [])
+read ts = tree_of (run ts AtTerm [])
 
 -- the offset of the first token that is not read
-abbrev pub fault_at : List (ℕ × Token) → Mode → List Frame → Option ℕ
+abbrev pub fault_at : List (ℕ × Token) → Due → List Frame → Option ℕ
 fault_at [] m fs = None
 fault_at (t ∷ ts) m fs = next_state (Some t.0) (λ n gs. fault_at ts n gs) (step m fs t.1)

@@ -14,7 +14,7 @@ use Rattle.rx_text.specs.declared.reader.Opening.{Opening}
 use Rattle.rx_text.specs.declared.reader.Opening.TheVariants as opening
 use Rattle.rx_text.specs.declared.reader.Frame.{Frame}
 use Rattle.rx_text.specs.declared.reader.Due.{Due}
-use Rattle.rx_text.specs.declared.reader.Due.TheVariants.{Term, First, Named, Body, Whole, Done}
+use Rattle.rx_text.specs.declared.reader.Due.TheVariants.{AtTerm, First, Named, Body, Whole, Done}
 use Rattle.rx_text.specs.declared.reader.Reader.{Reader}
 use Rattle.rx_text.specs.declared.reader.Stop.{Stop}
 use Rattle.rx_text.specs.declared.reader.Stop.TheVariants as stop
@@ -69,17 +69,17 @@ frames_of bytes [] made = []
 frames_of bytes (f ∷ fs) made = frame_of bytes f.opening f.count made
     ∷ frames_of bytes fs (under f.opening f.count made)
 
-abbrev pub mode_of : List ℕ → Due → List Tree → machine.Mode
-mode_of bytes Term made = machine.Due
-mode_of bytes (First o) made = machine.First (frame_of bytes o 0 made)
-mode_of bytes (Named w) made = machine.Named (name_of bytes w) w.quoted
-mode_of bytes Body made = machine.Body (top made)
-mode_of bytes Whole made = machine.Whole (top made)
-mode_of bytes Done made = machine.Done (top made)
+abbrev pub due_of : List ℕ → Due → List Tree → machine.Due
+due_of bytes AtTerm made = machine.AtTerm
+due_of bytes (First o) made = machine.First (frame_of bytes o 0 made)
+due_of bytes (Named w) made = machine.Named (name_of bytes w) w.quoted
+due_of bytes Body made = machine.Body (top made)
+due_of bytes Whole made = machine.Whole (top made)
+due_of bytes Done made = machine.Done (top made)
 
 -- the trees that belong to frames of the stack
 abbrev pub owned : Due → List Tree → List Tree
-owned Term made = made
+owned AtTerm made = made
 owned (First o) made = under o 0 made
 owned (Named w) made = made
 owned Body made = rest made
@@ -88,7 +88,7 @@ owned Done made = rest made
 
 -- how many trees belong to none
 abbrev pub loose : Due → ℕ
-loose Term = 0
+loose AtTerm = 0
 loose (First o) = held o 0
 loose (Named w) = 0
 loose Body = 1
@@ -97,7 +97,7 @@ loose Done = 1
 
 abbrev pub state_of : List ℕ → Due → List Frame → List Node → State
 state_of bytes d frames ns = (
-  mode_of bytes d (made_of bytes ns),
+  due_of bytes d (made_of bytes ns),
   frames_of bytes (reverse frames) (owned d (made_of bytes ns)),
 )
 

@@ -37,7 +37,7 @@ pub struct Frame {
 /// or a term; nothing.
 #[derive(Clone, Copy, Drop)]
 pub enum Due {
-    Term,
+    AtTerm,
     First(Opening),
     Named(Word),
     Body,
@@ -73,12 +73,13 @@ pub struct Reader<'a> {
 impl<'a> Reader<'a> {
     /// Where a term is due.
     fn start(&mut self, token: LexemeKind) -> Result<Due, Stop>
-        requires state { IsAt Due.Term self.old }
+        requires state { IsAt Due.AtTerm self.old }
         requires token { IsToken self.old.bytes.now token }
-        requires few { node_count Due.Term self.old ≤ longest }
-        ensures moves { Steps Due.Term self.old token result self.new }
+        requires few { node_count Due.AtTerm self.old ≤ longest }
+        ensures moves { Steps Due.AtTerm self.old token result self.new }
         ensures same { self.new.bytes.now ≡ self.old.bytes.now }
-        ensures few { IfOk result (λ d. node_count d self.new ≤ node_count Due.Term self.old + 1) }
+        ensures few { IfOk result
+            (λ d. node_count d self.new ≤ node_count Due.AtTerm self.old + 1) }
     {
         match token {
             LexemeKind::Integer(value) => {
@@ -93,7 +94,7 @@ impl<'a> Reader<'a> {
                     opening: Opening::Placeholder,
                     count: 0,
                 })?;
-                Ok(Due::Term)
+                Ok(Due::AtTerm)
             }
             _ => Err(Stop::Refused),
         }
@@ -180,7 +181,7 @@ impl<'a> Reader<'a> {
             opening: frame.opening,
             count: frame.count + 1,
         })?;
-        Ok(Due::Term)
+        Ok(Due::AtTerm)
     }
 
     /// One more item of what is open, and a mark that ends it.
@@ -267,7 +268,7 @@ impl<'a> Reader<'a> {
     }
 
     /// Behind a name.
-    fn named(&mut self, word: Word, token: LexemeKind) -> Result<Due, Stop>
+    fn after_name(&mut self, word: Word, token: LexemeKind) -> Result<Due, Stop>
         requires state { IsAt (Due.Named word) self.old }
         requires token { IsToken self.old.bytes.now token }
         requires few { node_count (Due.Named word) self.old ≤ longest }
@@ -295,9 +296,9 @@ impl<'a> Reader<'a> {
         ensures few { IfOk result (λ d. node_count d self.new ≤ node_count due self.old + 1) }
     {
         match due {
-            Due::Term => self.start(token),
+            Due::AtTerm => self.start(token),
             Due::First(opening) => self.first(opening, token),
-            Due::Named(word) => self.named(word, token),
+            Due::Named(word) => self.after_name(word, token),
             Due::Body => self.body(token),
             Due::Whole => self.whole(token),
             Due::Done => Err(Stop::Refused),
@@ -315,7 +316,7 @@ pub fn read_nodes(alloc: Global, bytes: &[u8]) -> Result<Vec<Node>, TextFault>
         frames: Vec::new(alloc),
         nodes: Vec::new(alloc),
     };
-    let mut due = Due::Term;
+    let mut due = Due::AtTerm;
     let mut from = 0;
     loop {
         let lexeme = next(reader.bytes, from);

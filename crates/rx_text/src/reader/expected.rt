@@ -5,7 +5,7 @@ ghost use Rattle.std.specs.Prelude.{IsErrOf, is_some, length, reverse};
 ghost use Rattle.rx_term.specs.Tree.{Tree};
 ghost use Rattle.rx_text.specs.Machine as machine;
 ghost use Rattle.rx_text.specs.Machine.{start, close, first, whole, step};
-ghost use Rattle.rx_text.specs.Reader.{frame_of, frames_of, mode_of, owned};
+ghost use Rattle.rx_text.specs.Reader.{frame_of, frames_of, due_of, owned};
 ghost use Rattle.rx_text.specs.Lexemes.{token_of};
 ghost use Rattle.rx_text.specs.Verdict.{longest};
 ghost use Rattle.rx_text.specs.Expected.{is_taken, AreExpected, IsAtFault};
@@ -83,11 +83,11 @@ impl<'a> Reader<'a> {
 
     /// Whether a token of this kind may stand here.
     fn is_expected(&self, due: Due, kind: TokenKind) -> bool
-        ensures { (made : List Tree) → result ≡ is_taken (step (mode_of self.now.bytes.now due made)
+        ensures { (made : List Tree) → result ≡ is_taken (step (due_of self.now.bytes.now due made)
             (frames_of self.now.bytes.now (reverse self.now.frames.items) (owned due made))) kind }
     {
         match due {
-            Due::Term => begins_term(kind),
+            Due::AtTerm => begins_term(kind),
             Due::First(opening) => is_first(opening, kind),
             Due::Named(_) => match kind {
                 TokenKind::Open | TokenKind::OpenBrace => true,
@@ -103,10 +103,10 @@ impl<'a> Reader<'a> {
     }
 
     /// The kinds of tokens that may stand here.
-    fn expected(&self, alloc: Global, due: Due) -> Result<Vec<TokenKind>, AllocError>
+    fn expected_kinds(&self, alloc: Global, due: Due) -> Result<Vec<TokenKind>, AllocError>
         ensures { (made : List Tree) → IfOk result
             (λ kinds. (k : TokenKind) → Contains kinds.items k
-            ↔ (is_taken (step (mode_of self.now.bytes.now due made) (frames_of self.now.bytes.now
+            ↔ (is_taken (step (due_of self.now.bytes.now due made) (frames_of self.now.bytes.now
             (reverse self.now.frames.items) (owned due made))) k ≡ true)) }
     {
         let mut kinds = Vec::new(alloc);
@@ -121,7 +121,7 @@ impl<'a> Reader<'a> {
     /// Whether this token may stand here.
     fn may_take(&self, due: Due, token: LexemeKind) -> bool
         ensures { (made : List Tree) → result ≡ is_some
-            (step (mode_of self.now.bytes.now due made) (frames_of self.now.bytes.now
+            (step (due_of self.now.bytes.now due made) (frames_of self.now.bytes.now
             (reverse self.now.frames.items) (owned due made)) (token_of self.now.bytes.now token)) }
     {
         match TokenKind::of(token) {
@@ -142,7 +142,7 @@ fn read_to_fault(alloc: Global, bytes: &[u8]) -> Result<(Due, Reader<'_>), Alloc
         frames: Vec::new(alloc),
         nodes: Vec::new(alloc),
     };
-    let mut due = Due::Term;
+    let mut due = Due::AtTerm;
     let mut from = 0;
     loop {
         let lexeme = next(reader.bytes, from);
@@ -170,5 +170,5 @@ pub fn expected_at_fault(alloc: Global, bytes: &[u8]) -> Result<Vec<TokenKind>, 
         return Err(TextFault::Long);
     }
     let (due, reader) = read_to_fault(alloc, bytes)?;
-    Ok(reader.expected(alloc, due)?)
+    Ok(reader.expected_kinds(alloc, due)?)
 }

@@ -1,7 +1,7 @@
 use Rattle.std.proofs.Common.{◌≡◌, ℕ, sym, subst, false, List, reverse, is_some}
 use Rattle.rx_text.specs.Machine.{step}
 use Rattle.rx_text.specs.Lexemes.{tokens_after, token_of, behind}
-use Rattle.rx_text.specs.Reader.{made_of, mode_of, frames_of, owned, state_of, IsState}
+use Rattle.rx_text.specs.Reader.{made_of, due_of, frames_of, owned, state_of, IsState}
 use Rattle.rx_text.proofs.DecidingLemmas.{reads_on}
 use Rattle.rx_text.proofs.ExpectingLemmas.{Reached, none_since, refused_state, ended_state, reached_next}
 use Rattle.rx_text.proofs.reader.expected.read_to_fault.Goals as goal
@@ -18,14 +18,14 @@ returns-then-not-may_take-clause-reached c =
     let x = c.next-lexeme.result in
     let made = made_of bytes l.reader.nodes.items in
     let text = l.reader.bytes.now in
-    let took : c.may_take.result ≡ is_some (step (mode_of text l.due made) (frames_of text (reverse l.reader.frames.items) (owned l.due made))
+    let took : c.may_take.result ≡ is_some (step (due_of text l.due made) (frames_of text (reverse l.reader.frames.items) (owned l.due made))
     (token_of text x.kind)) = c.may_take.ensures made in
-    let fails : is_some (step (mode_of text l.due made) (frames_of text (reverse l.reader.frames.items) (owned l.due made)) (token_of text x.kind))
+    let fails : is_some (step (due_of text l.due made) (frames_of text (reverse l.reader.frames.items) (owned l.due made)) (token_of text x.kind))
     ≡ false = cc (took, c.if-not-may_take.true) in
     let here = subst (λ (bs : List ℕ).
-    is_some (step (mode_of bs l.due made) (frames_of bs (reverse l.reader.frames.items) (owned l.due made)) (token_of bs x.kind)) ≡ false)
+    is_some (step (due_of bs l.due made) (frames_of bs (reverse l.reader.frames.items) (owned l.due made)) (token_of bs x.kind)) ≡ false)
     l.invariant.same fails in
-    let m = none_since (step (mode_of bytes l.due made) (frames_of bytes (reverse l.reader.frames.items) (owned l.due made)) (token_of bytes x.kind)) here in
+    let m = none_since (step (due_of bytes l.due made) (frames_of bytes (reverse l.reader.frames.items) (owned l.due made)) (token_of bytes x.kind)) here in
     refused_state bytes (state_of bytes l.due l.reader.frames.items l.reader.nodes.items) (tokens_after bytes l.from) (behind bytes x.kind x.to)
     (token_of bytes x.kind) x.at l.invariant.follows (rw (l.invariant.same) at c.next-lexeme.ensures.first) m
 

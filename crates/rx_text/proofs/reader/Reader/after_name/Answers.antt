@@ -2,7 +2,7 @@ use Rattle.std.proofs.Common.{rules, reverse}
 use Rattle.rx_text.specs.Lexemes.{name_of}
 use Rattle.rx_text.specs.Reader.{made_of, frames_of}
 use Rattle.rx_text.proofs.SteppingLemmas.{leaf, name_is_body}
-use Rattle.rx_text.proofs.reader.Reader.named.Goals as goal
+use Rattle.rx_text.proofs.reader.Reader.after_name.Goals as goal
 
 pub body-requires : goal.body-requires
 body-requires c =
