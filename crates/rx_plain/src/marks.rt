@@ -130,7 +130,7 @@ fn mark_extra(slots: &mut [Slot], extra: &[Term])
 }
 
 /// The slot, marked exactly where it is rooted.
-fn marked_by_roots(slot: Slot) -> Slot
+fn mark_if_rooted(slot: Slot) -> Slot
     ensures { result ≡ root_marked slot }
 {
     Slot {
@@ -145,7 +145,7 @@ fn mark_roots(slots: &mut [Slot])
     ensures { slots.new ≡ map root_marked slots.old }
 {
     for place in 0..slots.len() {
-        let slot = marked_by_roots(slots[place]);
+        let slot = mark_if_rooted(slots[place]);
         slots[place] = slot;
     }
 }

@@ -70,7 +70,7 @@ pub fn find_free(slots: &[Slot]) -> Option<usize>
 }
 
 /// The slot after a sweep: kept where it was marked, else free; unmarked.
-fn swept(slot: Slot) -> Slot
+fn sweep_slot(slot: Slot) -> Slot
     ensures { result ≡ swept_of slot }
 {
     if slot.mark {
@@ -94,7 +94,7 @@ pub fn sweep(slots: &mut [Slot]) -> usize
     ensures taken { result ≡ count_by is_taken slots.new }
 {
     for i in 0..slots.len() {
-        let slot = swept(slots[i]);
+        let slot = sweep_slot(slots[i]);
         slots[i] = slot;
     }
     slots.iter().filter(|s| s.body.is_some()).count()

@@ -6,5 +6,5 @@ use Rattle.rx_plain.proofs.marks.mark_roots.Goals as goal
 pub loop-place-preserved : goal.loop-place-preserved
 loop-place-preserved c =
     let len = c.loop-place.auto.slots in
-    rewrite-turn root_marked c.args.slots.now c.loop-place.slots c.loop-place.place c.marked_by_roots-slot.result _ c.loop-place.invariant (let h =
-    c.loop-place-test.true in omega arith) c.marked_by_roots-slot.ensures
+    rewrite-turn root_marked c.args.slots.now c.loop-place.slots c.loop-place.place c.mark_if_rooted-slot.result _ c.loop-place.invariant (let h =
+    c.loop-place-test.true in omega arith) c.mark_if_rooted-slot.ensures
