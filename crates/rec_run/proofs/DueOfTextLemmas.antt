@@ -89,7 +89,8 @@ due_by terms shown n v = Some (due_of_spec shown n v)
 
 due_after : (terms : List ℕ) (shown : Shown) (n : ℕ) (d : Due) → Fits terms → (v : Verdict) → due_by terms shown n v ≡ Some d
     → IsDueAfter v (Some terms) shown n d
-due_after terms shown n d fits (Good y) e = by_terms (terms_verdict_by y (machine.read (kinds terms)) (machine.fault_at (tokens terms) machine.AtTerm [])) refl e
+due_after terms shown n d fits (Good y) e =
+    by_terms (terms_verdict_by y (machine.read (kinds terms)) (machine.fault_at (tokens terms) machine.AtTerm [])) refl e
   where
     by_terms : (o : Option TermsVerdict) → terms_verdict_by y (machine.read (kinds terms)) (machine.fault_at (tokens terms) machine.AtTerm []) ≡ o
         → option_map (due_of_terms y shown n) o ≡ Some d
