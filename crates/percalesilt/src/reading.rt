@@ -125,7 +125,10 @@ pub extern "C" fn psilt_quoted(alloc: Global, psilt: &mut Psilt, term: u32, out:
         (λ v. ReadsOf v (term_of term) quoted_in (told result out.new)) }
     ensures out { result ≢ 0 → out.new ≡ out.old }
 {
-    tell(on_work!(psilt, alloc, work, work.quoted(Term(term))), out)
+    tell(
+        on_work!(psilt, alloc, work, work.is_quoted(Term(term))),
+        out,
+    )
 }
 
 /// Whether the reference is there: 0 where it is.

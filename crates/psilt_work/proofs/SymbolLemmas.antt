@@ -103,9 +103,9 @@ more_symbols old new g (Err e) a = subst (HasMoreSymbols old) (sym a.0)
     (record { content = refl; roots = refl; cap = refl; spare = refl; symbols = λ s h e'. e' })
 
 -- what the symbol of a number stands for
-pub numbered_is : (b : BankState) (n : ℕ) (s : Symbol) → Some s ≡ option_map (λ m. record { 0 = m }) (slice_get b.symbols n)
+pub symbol_at_is : (b : BankState) (n : ℕ) (s : Symbol) → Some s ≡ option_map (λ m. record { 0 = m }) (slice_get b.symbols n)
     → signature_at b n ≡ signature_of (store_of b) s
-numbered_is b n s e = by_place (slice_get b.symbols n) e where
+symbol_at_is b n s e = by_place (slice_get b.symbols n) e where
   by_place : (o : Option ℕ) → Some s ≡ option_map (λ m. record { 0 = m }) o
       → option_and_then (λ m. map.get (store_of b).symbols m) o ≡ signature_of (store_of b) s
   by_place None q = cc

@@ -1,13 +1,15 @@
 -- What the calls on references answer: each fault has one meaning, and each answer what it did.
-use Rattle.std.specs.Prelude.{◌≡◌, ◌≢◌, ℕ, zero, suc, ◌+◌, ◌-◌, ◌<◌, ◌≤◌, ◌^◌, ℤ, Bool, true, false, List}
-use Rattle.std.specs.Prelude.{◌++◌, length, drop, map, Option, Some, None, Result, Ok, Err, IsSome, is_some}
+use Rattle.std.specs.Prelude.{◌≡◌, ◌≢◌, ℕ, zero, suc, ◌+◌, ◌-◌, ◌<◌, ◌≤◌, ◌^◌, ℤ, Bool, true, false}
+use Rattle.std.specs.Prelude.{List, ◌++◌, length, drop, map, Option, Some, None, Result, Ok, Err}
+use Rattle.std.specs.Prelude.{IsSome, is_some}
 use Rattle.std.specs.List.{list_all}
 use Rattle.std.specs.Option.{option_and_then}
 use Rattle.rx_term.specs.Name.{is_allowed}
 use Rattle.rx_term.specs.Tree.{Tree, Trees, Appl, Items, none, more, count_of, items_of, to_list}
 use Rattle.rx_term.specs.Store.{Store, tree_at, part_at, args_of, cells}
 use Rattle.rx_term.specs.Kinds.{HasInt, HasNil, HasCons, HasAppl, HasHole}
-use Rattle.rx_term.specs.Steps.{Makes, Refuses, Grows, Reserves, RefusesReserve, Reclaims, with_count}
+use Rattle.rx_term.specs.Steps.{Makes, Refuses, Grows, Reserves, RefusesReserve, Reclaims}
+use Rattle.rx_term.specs.Steps.{with_count}
 use Rattle.rx_term.specs.Walks.{HaveTrees}
 use Rattle.rx_term.specs.declared.Term.{Term}
 use Rattle.rx_term.specs.declared.Symbol.{Symbol}
@@ -15,7 +17,8 @@ use Rattle.rx_term.specs.declared.faults.BankFault.TheVariants as bank
 use Rattle.rx_text.specs.Canon.{canon}
 use Rattle.rx_text.specs.Verdict.{IsVerdict, Spelt, Outside, TooLong}
 use Rattle.psilt_work.specs.declared.fault.Fault.{Fault}
-use Rattle.psilt_work.specs.declared.fault.Fault.TheVariants.{Memory, Full, Stale, Kind, Syntax, Range, Name, Roots, Unprotected}
+use Rattle.psilt_work.specs.declared.fault.Fault.TheVariants.{Memory, Full, Stale, Kind, Syntax}
+use Rattle.psilt_work.specs.declared.fault.Fault.TheVariants.{Range, Name, Roots, Unprotected}
 
 -- there is something, of which this is so
 abbrev pub Has : {X : Type 0} → Option X → (X → Type 0) → Type 0

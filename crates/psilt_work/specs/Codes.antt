@@ -4,8 +4,10 @@ use Rattle.rx_term.specs.declared.Term.{Term}
 use Rattle.rx_term.specs.declared.faults.BankFault.{BankFault}
 use Rattle.rx_term.specs.declared.faults.BankFault.TheVariants as bank
 use Rattle.psilt_work.specs.declared.fault.Fault.{Fault}
-use Rattle.psilt_work.specs.declared.fault.Fault.TheVariants.{Memory, Full, Closed, Stale, Kind, Syntax, Range, Name, Roots}
-use Rattle.psilt_work.specs.declared.fault.Fault.TheVariants.{Unprotected, Open, Rule, Limit, Unspecified, Unmatched, Unknown}
+use Rattle.psilt_work.specs.declared.fault.Fault.TheVariants.{Memory, Full, Closed, Stale, Kind}
+use Rattle.psilt_work.specs.declared.fault.Fault.TheVariants.{Syntax, Range, Name, Roots}
+use Rattle.psilt_work.specs.declared.fault.Fault.TheVariants.{Unprotected, Open, Rule, Limit}
+use Rattle.psilt_work.specs.declared.fault.Fault.TheVariants.{Unspecified, Unmatched, Unknown}
 
 -- the number of a fault
 abbrev pub number_of : Fault → ℕ

@@ -1,5 +1,6 @@
 -- What the calls answer that specify and evaluate.
-use Rattle.std.specs.Prelude.{◌≡◌, ℕ, ◌≤◌, Bool, true, ◌&&◌, nat_le, List, [], ◌∷◌, length, Some, None, Result, Ok, Err, IsSome}
+use Rattle.std.specs.Prelude.{◌≡◌, ℕ, ◌≤◌, Bool, true, ◌&&◌, nat_le, List, [], ◌∷◌, length, Some}
+use Rattle.std.specs.Prelude.{None, Result, Ok, Err, IsSome}
 use Rattle.rx_term.specs.Tree.{Tree}
 use Rattle.rx_term.specs.Store.{Store, tree_at, cells}
 use Rattle.rx_term.specs.declared.Term.{Term}
@@ -90,8 +91,8 @@ Unspecifies old new (Err e) = ⊥
 abbrev pub HasTree : Store → Term → (Tree → Type 0) → Type 0
 HasTree w t P = (u : Tree) × (tree_at w t ≡ Some u) × P u
 
--- the tree of a reference keeps the rules of terms; or this is the first one that it breaks; or there
--- was no room to ask them
+-- the tree of a reference keeps the rules of terms; or this is the first one that it breaks; or
+-- there was no room to ask them
 abbrev pub Checks : BankState → BankState → Term → ℕ → Result (Unit {0}) Fault → Type 0
 Checks old new t rule (Ok u) = IsSpecified old (λ y. IsGiven y (store_of new) t)
 Checks old new t rule (Err fault.Rule) = IsSpecified old

@@ -1,5 +1,6 @@
 -- What the calls on patterns answer. Patterns are known by their numbers.
-use Rattle.std.specs.Prelude.{◌≡◌, ◌≢◌, ℕ, ◌≤◌, false, List, length, slice_get, Option, Some, None, Result, Ok, Err, IsSome}
+use Rattle.std.specs.Prelude.{◌≡◌, ◌≢◌, ℕ, ◌≤◌, false, List, length, slice_get, Option, Some, None}
+use Rattle.std.specs.Prelude.{Result, Ok, Err, IsSome}
 use Rattle.std.specs.Option.{option_and_then, option_map}
 use Rattle.std.specs.Coded.{Coded, coded_list, coded_option}
 use Rattle.rx_term.specs.Tree.{Tree}
@@ -74,8 +75,8 @@ TellsNoPattern (none.Grammar at) f place rule = (f ≡ fault.Syntax) × (place �
 TellsNoPattern (none.Rule number) f place rule = (f ≡ fault.Rule) × (rule ≡ number)
 TellsNoPattern none.Memory f place rule = f ≡ fault.Memory
 
--- the pattern that a text spells gets a number; or none does, since the text is too long, leaves the
--- grammar or breaks a rule, or memory ran out
+-- the pattern that a text spells gets a number; or none does, since the text is too long, leaves
+-- the grammar or breaks a rule, or memory ran out
 abbrev pub ReadsPattern : List (Option Tree) → List (Option Tree) → List ℕ → ℕ → ℕ
     → Result ℕ Fault → Type 0
 ReadsPattern old new text place rule (Ok n) = (p : Tree) × SpellsPattern text p × Gets old new n p
@@ -102,8 +103,9 @@ Binds pattern old new t found = Has pattern (λ p. Has (tree_at old t) (λ u.
 abbrev pub BindsNothing : Option Tree → Store → Term → Type 0
 BindsNothing pattern w t = Has pattern (λ p. Has (tree_at w t) (λ u. matching p u ≡ None))
 
--- the bindings of a pattern take the place of those before, and their number is told; or those stay,
--- since the pattern does not match, there is no such pattern or reference, or there was no room
+-- the bindings of a pattern take the place of those before, and their number is told; or those
+-- stay, since the pattern does not match, there is no such pattern or reference, or there was no
+-- room
 abbrev pub Matches : Option Tree → Store → Store → List Term → List Term → Term → Result ℕ Fault
     → Type 0
 Matches pattern old new before after t (Ok k) = Binds pattern old new t after × (k ≡ length after)

@@ -8,7 +8,8 @@ use Rattle.rec_sorts.specs.Linked.{HasMoreSymbols}
 use Rattle.psilt_work.specs.Answers.{Has, are_held, IsApplication}
 use Rattle.psilt_work.specs.Banks.{BankState, signature_at, store_of}
 use Rattle.psilt_work.specs.declared.fault.Fault.{Fault}
-use Rattle.psilt_work.specs.declared.fault.Fault.TheVariants.{Memory, Full, Stale, Range, Name, Unknown}
+use Rattle.psilt_work.specs.declared.fault.Fault.TheVariants.{Memory, Full, Stale, Range, Name}
+use Rattle.psilt_work.specs.declared.fault.Fault.TheVariants.{Unknown}
 
 -- the number stands for a symbol, and no other number does
 abbrev pub IsNumberOf : BankState → Signature → ℕ → Type 0
@@ -20,7 +21,8 @@ abbrev pub KeepsNumbers : BankState → BankState → Type 0
 KeepsNumbers old new =
     (k : ℕ) (g : Signature) → signature_at old k ≡ Some g → signature_at new k ≡ Some g
 
--- the one number of a symbol; or nothing changed, since the name has to be quoted; or memory ran out
+-- the one number of a symbol; or nothing changed, since the name has to be quoted; or memory ran
+-- out
 abbrev pub GivesNumber : BankState → BankState → Signature → Result ℕ Fault → Type 0
 GivesNumber old new g (Ok n) = IsNumberOf new g n × KeepsNumbers old new
     × HasMoreSymbols (store_of old) (store_of new)

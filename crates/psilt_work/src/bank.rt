@@ -71,7 +71,7 @@ impl Bank {
     }
 
     /// The bank of shared terms.
-    pub(crate) fn shared(&self) -> &SharedBank
+    pub(crate) fn shared_bank(&self) -> &SharedBank
         ensures { result.now ≡ self.now.shared }
     {
         &self.shared
@@ -148,7 +148,7 @@ impl Bank {
     }
 
     /// The reference of a term with the items of a list in place of its annotations.
-    pub(crate) fn annotated(&mut self, t: Term, anns: Term) -> Result<Term, BankFault>
+    pub(crate) fn annotate(&mut self, t: Term, anns: Term) -> Result<Term, BankFault>
         requires { let w = store_of self.old in IsSome (noted (tree_at w t) (tree_at w anns)) }
         ensures made { let w = store_of self.old in
             MakesOrRefuses w (store_of self.new) (noted (tree_at w t) (tree_at w anns)) result }
@@ -177,7 +177,7 @@ impl Bank {
     }
 
     /// Whether a pattern matches a term, and references of its bindings.
-    pub(crate) fn matched(
+    pub(crate) fn match_term(
         &mut self,
         pattern: &Pattern,
         t: Term,
@@ -196,10 +196,11 @@ impl Bank {
     }
 
     /// A pattern with terms in place of its placeholders.
-    pub(crate) fn filled(&mut self, pattern: &Pattern, args: &[Term]) -> Result<Term, MakeFault>
+    pub(crate) fn fill(&mut self, pattern: &Pattern, args: &[Term]) -> Result<Term, MakeFault>
         requires { AllHeld (store_of self.old) args.now }
-        ensures made { IfOk result (λ r. (bs : List Tree) → HaveTrees (store_of self.old) args.now bs
-            → (u : Tree) × (filling pattern.now bs ≡ Ok u) × (tree_at (store_of self.new) r ≡ Some u)) }
+        ensures made { IfOk result (λ r. (bs : List Tree)
+            → HaveTrees (store_of self.old) args.now bs → (u : Tree)
+            × (filling pattern.now bs ≡ Ok u) × (tree_at (store_of self.new) r ≡ Some u)) }
         ensures count { (bs : List Tree) → HaveTrees (store_of self.old) args.now bs
             → (IsErrOf result MakeFault.Count ↔ (filling pattern.now bs ≡ Err Count)) }
         ensures kind { (bs : List Tree) → HaveTrees (store_of self.old) args.now bs → (at : ℕ)

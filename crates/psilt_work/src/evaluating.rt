@@ -40,7 +40,7 @@ fn are_options(memo: u32, reclaim: u32) -> bool
 }
 
 /// The fault where the bank gave up.
-fn refused(fault: BankFault) -> Fault
+fn fault_of_bank(fault: BankFault) -> Fault
     ensures { result ≡ of_bank fault }
 {
     match fault {
@@ -50,7 +50,7 @@ fn refused(fault: BankFault) -> Fault
 }
 
 /// The fault where the engine gave up.
-fn given_up(fault: EngineFault) -> Fault
+fn fault_of_engine(fault: EngineFault) -> Fault
     ensures { result ≡ of_engine fault }
 {
     match fault {
@@ -60,7 +60,7 @@ fn given_up(fault: EngineFault) -> Fault
 }
 
 /// What is told of an outcome.
-fn told(outcome: Outcome) -> Result<Normalised, Fault>
+fn value_or_fault(outcome: Outcome) -> Result<Normalised, Fault>
     ensures { result ≡ told_of outcome }
 {
     match outcome {
@@ -105,7 +105,8 @@ impl Work {
     /// Keeps the place and the rule of a refusal.
     fn refuse(&mut self, refusal: Refusal) -> Fault
         ensures fault { IsToldBy refusal result self.new.place self.new.rule }
-        ensures beside { self.new ≡ record self.old { place = self.new.place; rule = self.new.rule } }
+        ensures beside { self.new
+            ≡ record self.old { place = self.new.place; rule = self.new.rule } }
     {
         match refusal {
             Refusal::Memory => Fault::Memory,
@@ -148,7 +149,7 @@ impl Work {
         if !self.bank.is_specified() {
             return Err(Fault::Unspecified);
         }
-        if !self.bank.shared().holds(t) {
+        if !self.bank.shared_bank().holds(t) {
             return Err(Fault::Stale);
         }
         self.bound.clear();
@@ -165,8 +166,8 @@ impl Work {
         ensures beside { IsSameButBank self.old self.new }
     {
         match self.bank.normalise(t, steps) {
-            Ok(outcome) => told(outcome),
-            Err(fault) => Err(given_up(fault)),
+            Ok(outcome) => value_or_fault(outcome),
+            Err(fault) => Err(fault_of_engine(fault)),
         }
     }
 
@@ -181,7 +182,7 @@ impl Work {
     {
         let list = match list_anyway(&mut self.bank, t) {
             Ok(list) => list,
-            Err(fault) => return Err(refused(fault)),
+            Err(fault) => return Err(fault_of_bank(fault)),
         };
         match self.bank.check(alloc, list) {
             Ok(()) => Ok(()),
@@ -222,7 +223,7 @@ impl Work {
         self.bound.clear();
         match self.bank.eval_term(i) {
             Ok(t) => Ok(t),
-            Err(fault) => Err(given_up(fault)),
+            Err(fault) => Err(fault_of_engine(fault)),
         }
     }
 }

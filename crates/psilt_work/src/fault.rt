@@ -75,7 +75,7 @@ impl fmt::Display for Fault {
 }
 
 /// What a make of the bank comes to.
-pub(crate) fn made(answer: Result<Term, BankFault>) -> Result<Term, Fault>
+pub(crate) fn term_or_fault(answer: Result<Term, BankFault>) -> Result<Term, Fault>
     ensures { result ≡ made_of answer }
 {
     match answer {

@@ -23,7 +23,7 @@ impl Psilt {
     ghost use Rattle.psilt_work.specs.Handles.{work_of};
 
     /// A handle that is closed.
-    pub fn closed() -> Psilt
+    pub fn new() -> Psilt
         ensures { work_of result ≡ None }
     {
         Psilt {
@@ -33,7 +33,7 @@ impl Psilt {
     }
 
     /// A handle that holds the work.
-    fn opened(work: Box<Work>) -> Psilt
+    fn of(work: Box<Work>) -> Psilt
         ensures { work_of result ≡ Some work.value }
     {
         Psilt {
@@ -50,7 +50,7 @@ impl Psilt {
         if self.state != 1 {
             return None;
         }
-        let Psilt { state: _, held } = std::mem::replace(self, Psilt::closed());
+        let Psilt { state: _, held } = std::mem::replace(self, Psilt::new());
         Some(held.into_loose(alloc).into_box())
     }
 
@@ -59,6 +59,6 @@ impl Psilt {
         requires { work_of self.old ≡ None }
         ensures { work_of self.new ≡ Some work.value }
     {
-        *self = Psilt::opened(work);
+        *self = Psilt::of(work);
     }
 }

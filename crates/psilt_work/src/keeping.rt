@@ -17,7 +17,7 @@ impl Work {
         ensures answer { Protects (store_of self.old.bank) (store_of self.new.bank) t result }
         ensures beside { IsSameButBank self.old self.new }
     {
-        if !self.bank.shared().holds(t) {
+        if !self.bank.shared_bank().holds(t) {
             return Err(Fault::Stale);
         }
         match self.bank.protect(t) {
@@ -31,7 +31,7 @@ impl Work {
         ensures answer { Unprotects (store_of self.old.bank) (store_of self.new.bank) t result }
         ensures beside { IsSameButBank self.old self.new }
     {
-        if !self.bank.shared().arena().is_protected(Slot(t.0)) {
+        if !self.bank.shared_bank().arena().is_protected(Slot(t.0)) {
             return Err(Fault::Unprotected);
         }
         self.bank.unprotect(t);

@@ -11,7 +11,7 @@ ghost use Rattle.psilt_work.specs.Answers.{are_held, terms_of, is_plain_list, Ma
 ghost use Rattle.psilt_work.specs.Answers.{Applies, IsApplication};
 ghost use Rattle.psilt_work.specs.Works.{IsSameButBank};
 
-use crate::fault::made;
+use crate::fault::term_or_fault;
 use crate::{Bank, Fault, Work};
 use rx_term::{BankFault, Kind, Symbol, Term, TermBank, plain_name};
 
@@ -20,7 +20,7 @@ impl Work {
     pub fn are_held(&self, given: &[u32]) -> bool
         ensures { result ≡ are_held (store_of self.now.bank) given.now }
     {
-        let bank = self.bank.shared();
+        let bank = self.bank.shared_bank();
         given.iter().all(|n| bank.holds(Term(*n)))
     }
 
@@ -28,7 +28,7 @@ impl Work {
     fn is_plain_list(&self, t: Term) -> bool
         ensures { result ≡ is_plain_list (tree_at (store_of self.now.bank) t) }
     {
-        let bank = self.bank.shared();
+        let bank = self.bank.shared_bank();
         if !bank.holds(t) {
             return false;
         }
@@ -48,7 +48,7 @@ impl Work {
             (Some (Int value none)) result }
         ensures beside { IsSameButBank self.old self.new }
     {
-        made(self.bank.int(value))
+        term_or_fault(self.bank.int(value))
     }
 
     /// The empty list.
@@ -57,7 +57,7 @@ impl Work {
             (Some (Items none none)) result }
         ensures beside { IsSameButBank self.old self.new }
     {
-        made(self.bank.nil())
+        term_or_fault(self.bank.nil())
     }
 
     /// A list with one item more in front. `Kind` where the tail is no list without annotations.
@@ -73,19 +73,20 @@ impl Work {
         if !self.is_plain_list(tail) {
             return Err(Fault::Kind);
         }
-        made(self.bank.cons(head, tail))
+        term_or_fault(self.bank.cons(head, tail))
     }
 
     /// A placeholder of a term.
     pub fn hole(&mut self, inner: Term) -> Result<Term, Fault>
         ensures answer { let w = store_of self.old.bank in
-            MakesFrom w (store_of self.new.bank) (inner.0 ∷ []) (held_open (tree_at w inner)) result }
+            MakesFrom w (store_of self.new.bank) (inner.0 ∷ [])
+            (held_open (tree_at w inner)) result }
         ensures beside { IsSameButBank self.old self.new }
     {
         if !self.are_held(&[inner.0]) {
             return Err(Fault::Stale);
         }
-        made(self.bank.hole(inner))
+        term_or_fault(self.bank.hole(inner))
     }
 
     /// A term with the items of a list in place of its annotations. `Kind` where the list has
@@ -102,7 +103,7 @@ impl Work {
         if !self.is_plain_list(anns) {
             return Err(Fault::Kind);
         }
-        made(self.bank.annotated(t, anns))
+        term_or_fault(self.bank.annotate(t, anns))
     }
 
     /// An application of a name to the terms of some numbers. `Name` where the name is not quoted
@@ -121,12 +122,12 @@ impl Work {
         if !self.are_held(args) {
             return Err(Fault::Stale);
         }
-        made(applied(&mut self.bank, name, quoted, arity, args))
+        term_or_fault(apply_name(&mut self.bank, name, quoted, arity, args))
     }
 }
 
 /// The application of a name to the terms of some numbers, which are there.
-fn applied(
+fn apply_name(
     bank: &mut Bank,
     name: &[u8],
     quoted: bool,
@@ -143,15 +144,11 @@ fn applied(
     ensures known { bank.new.symbols ≡ bank.old.symbols }
 {
     let symbol = bank.symbol(name, quoted, arity)?;
-    symbol_applied(bank, symbol, args)
+    apply_symbol(bank, symbol, args)
 }
 
 /// The application of a symbol to the terms of some numbers, which are there.
-pub(crate) fn symbol_applied(
-    bank: &mut Bank,
-    symbol: Symbol,
-    args: &[u32],
-) -> Result<Term, BankFault>
+pub(crate) fn apply_symbol(bank: &mut Bank, symbol: Symbol, args: &[u32]) -> Result<Term, BankFault>
     requires symbol { IsSome (signature_of (store_of bank.old) symbol) }
     requires args { IsTrue (are_held (store_of bank.old) args.now) }
     requires arity { (g : Signature) → signature_of (store_of bank.old) symbol ≡ Some g

@@ -9,7 +9,7 @@ ghost use Rattle.psilt_work.specs.Patterns.{TellsNoPattern, pattern_at};
 ghost use Rattle.psilt_work.specs.Works.{IsSameButBank, IsSameButBound, IsSameButPatterns};
 
 use crate::keeping::references;
-use crate::spelling::{NoPattern, spelled};
+use crate::spelling::{NoPattern, read_pattern};
 use crate::{Fault, Work};
 use rx_pattern::{MakeFault, PatternFault};
 use rx_term::{Term, TermBank};
@@ -24,7 +24,7 @@ impl Work {
             self.new.rule result }
         ensures beside { IsSameButPatterns self.old self.new }
     {
-        match spelled(alloc, text) {
+        match read_pattern(alloc, text) {
             Ok(pattern) => match self.patterns.add(pattern) {
                 Ok(n) => Ok(n),
                 Err(_) => Err(Fault::Memory),
@@ -36,7 +36,8 @@ impl Work {
     /// Keeps the place and the rule of a text that spells no pattern.
     fn tell_no_pattern(&mut self, why: NoPattern) -> Fault
         ensures fault { TellsNoPattern why result self.new.place self.new.rule }
-        ensures beside { self.new ≡ record self.old { place = self.new.place; rule = self.new.rule } }
+        ensures beside { self.new
+            ≡ record self.old { place = self.new.place; rule = self.new.rule } }
     {
         match why {
             NoPattern::Memory => Fault::Memory,
@@ -77,11 +78,11 @@ impl Work {
         let Some(pattern) = self.patterns.get(n) else {
             return Err(Fault::Unknown);
         };
-        if !self.bank.shared().holds(t) {
+        if !self.bank.shared_bank().holds(t) {
             return Err(Fault::Stale);
         }
         let mut found = Vec::new(alloc);
-        match self.bank.matched(pattern, t, &mut found) {
+        match self.bank.match_term(pattern, t, &mut found) {
             Ok(true) => {
                 self.bound = found;
                 Ok(self.bound.len())
@@ -120,7 +121,7 @@ impl Work {
         let Ok(terms) = references(alloc, args) else {
             return Err(Fault::Memory);
         };
-        match self.bank.filled(pattern, &terms) {
+        match self.bank.fill(pattern, &terms) {
             Ok(t) => Ok(t),
             Err(MakeFault::Count) => Err(Fault::Range),
             Err(MakeFault::Kind { at: _ }) => Err(Fault::Kind),

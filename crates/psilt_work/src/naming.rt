@@ -11,8 +11,8 @@ ghost use Rattle.psilt_work.specs.Answers.{are_held, IsApplication};
 ghost use Rattle.psilt_work.specs.Symbols.{AppliesSymbol, GivesNumber, IsNumberOf, KeepsNumbers};
 ghost use Rattle.psilt_work.specs.Works.{IsSameButBank, IsSameButSymbols};
 
-use crate::fault::made;
-use crate::making::symbol_applied;
+use crate::fault::term_or_fault;
+use crate::making::apply_symbol;
 use crate::{Bank, Fault, Work};
 use rx_term::{Symbol, Term, TermBank, plain_name};
 use std::alloc::AllocError;
@@ -44,7 +44,7 @@ impl Bank {
     }
 
     /// The symbol of a number, where it stands for one.
-    pub(crate) fn numbered(&self, n: usize) -> Option<Symbol>
+    pub(crate) fn symbol_at(&self, n: usize) -> Option<Symbol>
         ensures symbol { result
             ≡ option_map (λ (s : ℕ). record { 0 = s }) (slice_get self.now.symbols n) }
         ensures there { IfSome result (λ s. IsSome (signature_of (store_of self.now) s)) }
@@ -81,15 +81,15 @@ impl Work {
             (store_of self.new.bank) args.now result }
         ensures beside { IsSameButBank self.old self.new }
     {
-        let Some(symbol) = self.bank.numbered(n) else {
+        let Some(symbol) = self.bank.symbol_at(n) else {
             return Err(Fault::Unknown);
         };
-        if self.bank.shared().arity_of(symbol) as usize != args.len() {
+        if self.bank.shared_bank().arity_of(symbol) as usize != args.len() {
             return Err(Fault::Range);
         }
         if !self.are_held(args) {
             return Err(Fault::Stale);
         }
-        made(symbol_applied(&mut self.bank, symbol, args))
+        term_or_fault(apply_symbol(&mut self.bank, symbol, args))
     }
 }

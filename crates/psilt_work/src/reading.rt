@@ -15,9 +15,10 @@ use rx_term::{Kind, Symbol, Term, TermBank};
 impl Work {
     /// Whether the reference is there: `Stale` where it is not.
     pub fn holds(&self, t: Term) -> Result<(), Fault>
-        ensures { let w = store_of self.now.bank in Looks w t (λ (_ : Unit {0}). IsSome (tree_at w t)) result }
+        ensures { let w = store_of self.now.bank in
+            Looks w t (λ (_ : Unit {0}). IsSome (tree_at w t)) result }
     {
-        if self.bank.shared().holds(t) {
+        if self.bank.shared_bank().holds(t) {
             Ok(())
         } else {
             Err(Fault::Stale)
@@ -28,7 +29,7 @@ impl Work {
     pub fn kind(&self, t: Term) -> Result<Kind, Fault>
         ensures { Looks (store_of self.now.bank) t (HasKind (store_of self.now.bank) t) result }
     {
-        let bank = self.bank.shared();
+        let bank = self.bank.shared_bank();
         if bank.holds(t) {
             Ok(bank.kind(t))
         } else {
@@ -40,7 +41,7 @@ impl Work {
     pub fn head(&self, t: Term) -> Result<Term, Fault>
         ensures { ReadsPart (store_of self.now.bank) t head_of result }
     {
-        let bank = self.bank.shared();
+        let bank = self.bank.shared_bank();
         if !bank.holds(t) {
             return Err(Fault::Stale);
         }
@@ -57,7 +58,7 @@ impl Work {
     pub fn tail(&self, t: Term) -> Result<Term, Fault>
         ensures { ReadsPart (store_of self.now.bank) t tail_of result }
     {
-        let bank = self.bank.shared();
+        let bank = self.bank.shared_bank();
         if !bank.holds(t) {
             return Err(Fault::Stale);
         }
@@ -74,7 +75,7 @@ impl Work {
     pub fn args(&self, t: Term) -> Result<Term, Fault>
         ensures { ReadsPart (store_of self.now.bank) t args_of result }
     {
-        let bank = self.bank.shared();
+        let bank = self.bank.shared_bank();
         if !bank.holds(t) {
             return Err(Fault::Stale);
         }
@@ -91,7 +92,7 @@ impl Work {
     pub fn inner(&self, t: Term) -> Result<Term, Fault>
         ensures { ReadsPart (store_of self.now.bank) t inner_of result }
     {
-        let bank = self.bank.shared();
+        let bank = self.bank.shared_bank();
         if !bank.holds(t) {
             return Err(Fault::Stale);
         }
@@ -108,7 +109,7 @@ impl Work {
     pub fn annotations(&self, t: Term) -> Result<Term, Fault>
         ensures { ReadsPart (store_of self.now.bank) t anns_of result }
     {
-        let bank = self.bank.shared();
+        let bank = self.bank.shared_bank();
         if !bank.holds(t) {
             return Err(Fault::Stale);
         }
@@ -122,7 +123,7 @@ impl Work {
     pub(crate) fn symbol_of(&self, t: Term) -> Result<Symbol, Fault>
         ensures { ReadsSymbol (store_of self.now.bank) t result }
     {
-        let bank = self.bank.shared();
+        let bank = self.bank.shared_bank();
         if !bank.holds(t) {
             return Err(Fault::Stale);
         }
@@ -144,7 +145,7 @@ impl Work {
             Ok(symbol) => symbol,
             Err(fault) => return Err(fault),
         };
-        let bank = self.bank.shared();
+        let bank = self.bank.shared_bank();
         if i >= bank.arity_of(symbol) {
             return Err(Fault::Range);
         }
@@ -152,11 +153,11 @@ impl Work {
     }
 
     /// Whether the name of an application is quoted.
-    pub fn quoted(&self, t: Term) -> Result<bool, Fault>
+    pub fn is_quoted(&self, t: Term) -> Result<bool, Fault>
         ensures { ReadsOf (store_of self.now.bank) t quoted_in result }
     {
         match self.symbol_of(t) {
-            Ok(symbol) => Ok(self.bank.shared().quoted_of(symbol)),
+            Ok(symbol) => Ok(self.bank.shared_bank().quoted_of(symbol)),
             Err(fault) => Err(fault),
         }
     }
@@ -166,7 +167,7 @@ impl Work {
         ensures { ReadsOf (store_of self.now.bank) t arity_in result }
     {
         match self.symbol_of(t) {
-            Ok(symbol) => Ok(self.bank.shared().arity_of(symbol)),
+            Ok(symbol) => Ok(self.bank.shared_bank().arity_of(symbol)),
             Err(fault) => Err(fault),
         }
     }

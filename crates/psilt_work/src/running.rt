@@ -146,11 +146,11 @@ impl Bank {
             checked,
             options,
         };
-        replace_with(self, wanted, Bank::specified)
+        replace_with(self, wanted, Bank::with_spec)
     }
 
     /// The same for a bank that is handed over.
-    fn specified(self, wanted: Wanted) -> (Bank, Result<(), AllocError>)
+    fn with_spec(self, wanted: Wanted) -> (Bank, Result<(), AllocError>)
         requires { AreInRange wanted.options }
         ensures store { HasMoreSymbols (store_of self) (store_of result.0) }
         ensures done { OnOk result.1 (result.0.specified
@@ -164,13 +164,13 @@ impl Bank {
             symbols,
         } = self;
         match wanted.over(shared) {
-            Ok(engine) => Bank::renewed(engine, prepared, symbols),
-            Err(shared) => Bank::unchanged(shared, prepared, symbols),
+            Ok(engine) => Bank::renew(engine, prepared, symbols),
+            Err(shared) => Bank::restore(shared, prepared, symbols),
         }
     }
 
     /// The bank of an engine that takes the place of what was prepared.
-    fn renewed(
+    fn renew(
         engine: Engine<SharedBank>,
         before: Option<Prepared>,
         symbols: IndexSet<u64>,
@@ -188,7 +188,7 @@ impl Bank {
     }
 
     /// The bank with what was prepared, where there is no memory for anything else.
-    fn unchanged(
+    fn restore(
         shared: SharedBank,
         prepared: Option<Prepared>,
         symbols: IndexSet<u64>,
@@ -259,16 +259,17 @@ impl Bank {
             → IsNormalised y (store_of self.new) steps u o)) }
         ensures room { IfErr result (IsRoom (store_of self.new)) }
     {
-        replace_with(self, Given { term: t, steps }, Bank::normalised)
+        replace_with(self, Given { term: t, steps }, Bank::with_outcome)
     }
 
     /// The same for a bank that is handed over.
-    fn normalised(self, given: Given) -> (Bank, Result<Outcome, EngineFault>)
+    fn with_outcome(self, given: Given) -> (Bank, Result<Outcome, EngineFault>)
         requires { IsSpecified self (λ y. IsGiven y (store_of self) given.term) }
         ensures same { result.0.specified ≡ self.specified }
         ensures known { result.0.symbols ≡ self.symbols }
         ensures keeps { Keeps (store_of self) (store_of result.0) [] }
-        ensures given { tree_at (store_of result.0) given.term ≡ tree_at (store_of self) given.term }
+        ensures given { tree_at (store_of result.0) given.term
+            ≡ tree_at (store_of self) given.term }
         ensures outcome { IfOk result.1 (λ o. IsSpecified self
             (λ y. (u : Tree) → tree_at (store_of self) given.term ≡ Some u
             → IsOutcome y (store_of result.0) given.steps u o)) }

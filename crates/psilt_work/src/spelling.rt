@@ -29,26 +29,26 @@ pub enum NoPattern {
 }
 
 /// The pattern that a text spells.
-pub(crate) fn spelled(alloc: Global, text: &[u8]) -> Result<Pattern, NoPattern>
+pub(crate) fn read_pattern(alloc: Global, text: &[u8]) -> Result<Pattern, NoPattern>
     ensures pattern { IfOk result (SpellsPattern text.now) }
     ensures none { IfErr result (IsNoPattern text.now) }
 {
     match SharedBank::new(alloc, MOST_CELLS) {
-        Ok(bank) => spelled_over(alloc, text, bank),
+        Ok(bank) => read_pattern_over(alloc, text, bank),
         Err(_) => Err(NoPattern::Memory),
     }
 }
 
 /// The same over a bank that is let go.
-fn spelled_over(alloc: Global, text: &[u8], mut bank: SharedBank) -> Result<Pattern, NoPattern>
+fn read_pattern_over(alloc: Global, text: &[u8], mut bank: SharedBank) -> Result<Pattern, NoPattern>
     ensures pattern { IfOk result (SpellsPattern text.now) }
     ensures none { IfErr result (IsNoPattern text.now) }
 {
-    spelled_in(alloc, text, &mut bank)
+    read_pattern_in(alloc, text, &mut bank)
 }
 
 /// The same over a bank.
-fn spelled_in(alloc: Global, text: &[u8], bank: &mut SharedBank) -> Result<Pattern, NoPattern>
+fn read_pattern_in(alloc: Global, text: &[u8], bank: &mut SharedBank) -> Result<Pattern, NoPattern>
     ensures pattern { IfOk result (SpellsPattern text.now) }
     ensures none { IfErr result (IsNoPattern text.now) }
 {

@@ -97,7 +97,7 @@ fn is_refused(alloc: Global, cells: u32) -> bool {
 
 #[test]
 fn a_handle_is_opened_and_closed(rt: HostRuntime) {
-    opens_and_closes(&rt, rt.alloc(), &mut Psilt::closed());
+    opens_and_closes(&rt, rt.alloc(), &mut Psilt::new());
     assert!(&rt; is_refused(rt.alloc(), 0));
     assert!(&rt; is_refused(rt.alloc(), 1_073_741_825));
 }

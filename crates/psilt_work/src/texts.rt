@@ -40,11 +40,11 @@ impl Work {
             self.new.text.items result }
         ensures beside { IsSameButText self.old self.new }
     {
-        if !self.bank.shared().holds(t) {
+        if !self.bank.shared_bank().holds(t) {
             return Err(Fault::Stale);
         }
         let mut text = Vec::new(alloc);
-        match write(alloc, self.bank.shared(), t, &mut text) {
+        match write(alloc, self.bank.shared_bank(), t, &mut text) {
             Ok(()) => {
                 self.text = text;
                 Ok(self.text.len())
@@ -63,7 +63,7 @@ impl Work {
             Ok(symbol) => symbol,
             Err(fault) => return Err(fault),
         };
-        match self.bank.shared().name_of(symbol).to_vec(alloc) {
+        match self.bank.shared_bank().name_of(symbol).to_vec(alloc) {
             Ok(text) => {
                 self.text = text;
                 Ok(self.text.len())

@@ -35,7 +35,7 @@ pub struct Work {
 }
 
 /// A value in a box.
-fn boxed<T: Drop>(alloc: Global, value: T) -> Result<Box<T>, Fault>
+fn box_of<T: Drop>(alloc: Global, value: T) -> Result<Box<T>, Fault>
     ensures value { IfOk result (λ b. b.value ≡ value) }
     ensures memory { IfErr result (λ fault. fault ≡ Fault.Memory) }
 {
@@ -57,7 +57,7 @@ impl Work {
             return Err(Fault::Range);
         }
         match SharedBank::new(alloc, cap) {
-            Ok(bank) => boxed(alloc, Work::over(alloc, bank)),
+            Ok(bank) => box_of(alloc, Work::over(alloc, bank)),
             Err(_) => Err(Fault::Memory),
         }
     }
@@ -81,14 +81,14 @@ impl Work {
     pub fn cells(&self) -> u32
         ensures { result ≡ cells (store_of self.now.bank) }
     {
-        self.bank.shared().cells()
+        self.bank.shared_bank().cells()
     }
 
     /// How many cells can be taken with no more memory.
     pub fn spare(&self) -> u32
         ensures { result ≡ (store_of self.now.bank).spare }
     {
-        self.bank.shared().spare()
+        self.bank.shared_bank().spare()
     }
 
     /// Makes room for `k` cells more.

@@ -199,7 +199,7 @@ fn take_apart(alloc: Global, work: &mut Work, t: Term, given: &[u32], call: &Cal
         Call::IsAppl => of_flag(Ok(is_appl(work.kind(t)))),
         Call::IsInt(z) => of_flag(Ok(is_int(work.kind(t), *z))),
         Call::Arity => of_count(work.arity(t)),
-        Call::Quoted => of_flag(work.quoted(t)),
+        Call::Quoted => of_flag(work.is_quoted(t)),
         Call::Print => of_number(work.print(alloc, t)),
         Call::Name => of_number(work.name(alloc, t)),
         _ => take_part(alloc, work, t, given, call),

@@ -1,13 +1,13 @@
 use Rattle.std.proofs.Common.{rules, refl, length, arith}
 use Rattle.rx_term.specs.Store.{signature_of}
 use Rattle.psilt_work.specs.Banks.{store_of}
-use Rattle.psilt_work.proofs.SymbolLemmas.{numbered_is, other_arity, applies_symbol}
+use Rattle.psilt_work.proofs.SymbolLemmas.{symbol_at_is, other_arity, applies_symbol}
 use Rattle.psilt_work.proofs.work.Work.apply.Goals as goal
 
 pub returns-then-arity_of-args-clause-answer : goal.returns-then-arity_of-args-clause-answer
 returns-then-arity_of-args-clause-answer c =
     let b = c.args.self.now.bank in (
-      rw (numbered_is b c.args.n c.in-Some.symbol c.in-Some.ensures.symbol)
+      rw (symbol_at_is b c.args.n c.in-Some.symbol c.in-Some.ensures.symbol)
           (other_arity (signature_of (store_of b) c.in-Some.symbol) (length c.args.args.now) c.arity_of.result c.in-Some.ensures.there (search rules)
           (λ e. omega (arith, e, c.if-arity_of-args.true))),
       refl,
@@ -16,6 +16,6 @@ returns-then-arity_of-args-clause-answer c =
 pub returns-clause-answer : goal.returns-clause-answer
 returns-clause-answer c =
     let b = c.args.self.now.bank in
-    rw (numbered_is b c.args.n c.in-Some.symbol c.in-Some.ensures.symbol, c.made.ensures)
-    (applies_symbol (signature_of (store_of b) c.in-Some.symbol) (store_of b) (store_of c.symbol_applied.new.bank) c.args.args.now
-    c.symbol_applied.result c.in-Some.ensures.there c.symbol_applied.ensures.grows c.symbol_applied.ensures.made)
+    rw (symbol_at_is b c.args.n c.in-Some.symbol c.in-Some.ensures.symbol, c.term_or_fault.ensures)
+    (applies_symbol (signature_of (store_of b) c.in-Some.symbol) (store_of b) (store_of c.apply_symbol.new.bank) c.args.args.now
+    c.apply_symbol.result c.in-Some.ensures.there c.apply_symbol.ensures.grows c.apply_symbol.ensures.made)

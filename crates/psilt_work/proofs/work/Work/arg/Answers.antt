@@ -12,8 +12,8 @@ use Rattle.psilt_work.proofs.work.Work.arg.Goals as goal
 
 pub item-requires : goal.item-requires
 item-requires c =
-    let r = c.shared-bank.result.now in let w = store_of r in
-    let h = subst (λ (b : SharedBank). HasAppl (store_of b) c.args.t c.in-Ok.symbol) (sym c.shared-bank.ensures) c.in-Ok.ensures in
+    let r = c.shared_bank-bank.result.now in let w = store_of r in
+    let h = subst (λ (b : SharedBank). HasAppl (store_of b) c.args.t c.in-Ok.symbol) (sym c.shared_bank-bank.ensures) c.in-Ok.ensures in
     let both : Some (count_of h.args) ≡ Some c.arity_of.result =
     sym (ap (λ s. option_and_then (λ (g : Signature). Some g.arity) s) h.symbol) ∙ c.arity_of.ensures in
     let n : count_of h.args ≡ c.arity_of.result = cc both in let lt : c.args.i < count_of h.args = omega (arith, n, c.if-i-arity_of.false) in
@@ -21,11 +21,11 @@ item-requires c =
 
 pub returns : goal.returns
 returns c =
-    let r = c.shared-bank.result.now in let w = store_of r in
-    let h = subst (λ (b : SharedBank). HasAppl (store_of b) c.args.t c.in-Ok.symbol) (sym c.shared-bank.ensures) c.in-Ok.ensures in
+    let r = c.shared_bank-bank.result.now in let w = store_of r in
+    let h = subst (λ (b : SharedBank). HasAppl (store_of b) c.args.t c.in-Ok.symbol) (sym c.shared_bank-bank.ensures) c.in-Ok.ensures in
     let both : Some (count_of h.args) ≡ Some c.arity_of.result =
     sym (ap (λ s. option_and_then (λ (g : Signature). Some g.arity) s) h.symbol) ∙ c.arity_of.ensures in
     let n : count_of h.args ≡ c.arity_of.result = cc both in let lt : c.args.i < count_of h.args = omega (arith, n, c.if-i-arity_of.false) in
-    subst (λ (b : SharedBank). ReadsArg (store_of b) c.args.t c.args.i (Ok c.item.result)) c.shared-bank.ensures
+    subst (λ (b : SharedBank). ReadsArg (store_of b) c.args.t c.args.i (Ok c.item.result)) c.shared_bank-bank.ensures
     (arg_is (tree_at w c.args.t) (tree_at w c.args-2.result) (tree_at w c.item.result) c.args.i h.name h.quoted h.args h.anns h.here c.args-2.ensures
     c.item.ensures lt)

@@ -8,7 +8,7 @@ use Rattle.psilt_work.proofs.work.Work.match_term.Goals as goal
 pub returns-in-Ok-true-clause-answer : goal.returns-in-Ok-true-clause-answer
 returns-in-Ok-true-clause-answer c =
     let w = store_of c.args.self.now.bank in let there : IsSome (tree_at w c.args.t) = search rules in (
-      binds _ c.in-Some.pattern.now w (store_of c.matched.new.self) c.args.t c.matched.new.found.items c.in-Ok-true.field-0 (sym c.in-Some.ensures)
+      binds _ c.in-Some.pattern.now w (store_of c.match_term.new.self) c.args.t c.match_term.new.found.items c.in-Ok-true.field-0 (sym c.in-Some.ensures)
           there c.in-Ok-true.field-0-test c.in-Ok-true.ensures.answer,
       search rules,
     )
@@ -16,7 +16,7 @@ returns-in-Ok-true-clause-answer c =
 pub returns-in-Ok-false-clause-answer : goal.returns-in-Ok-false-clause-answer
 returns-in-Ok-false-clause-answer c =
     let w = store_of c.args.self.now.bank in let there : IsSome (tree_at w c.args.t) = search rules in (
-      binds_nothing _ c.in-Some.pattern.now w (store_of c.matched.new.self) c.args.t c.matched.new.found.items c.in-Ok-false.field-0
+      binds_nothing _ c.in-Some.pattern.now w (store_of c.match_term.new.self) c.args.t c.match_term.new.found.items c.in-Ok-false.field-0
           (sym c.in-Some.ensures) there c.in-Ok-false.field-0-test c.in-Ok-false.ensures.answer,
       refl,
     )

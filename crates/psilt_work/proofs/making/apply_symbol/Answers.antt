@@ -5,7 +5,7 @@ use Rattle.rx_term.proofs.StoreLemmas.{some-value}
 use Rattle.psilt_work.specs.Banks.{store_of}
 use Rattle.psilt_work.specs.Answers.{IsApplication}
 use Rattle.psilt_work.proofs.AnswerLemmas.{appl_is, made_for}
-use Rattle.psilt_work.proofs.making.symbol_applied.Goals as goal
+use Rattle.psilt_work.proofs.making.apply_symbol.Goals as goal
 
 pub appl-requires : goal.appl-requires
 appl-requires c =

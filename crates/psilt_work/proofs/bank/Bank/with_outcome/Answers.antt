@@ -9,7 +9,7 @@ use Rattle.rec_engine.specs.Engine.{IsOutcome, IsNormalised}
 use Rattle.rec_engine.specs.declared.engine.Outcome.{Outcome}
 use Rattle.psilt_work.specs.Banks.{BankState, IsSpecified, specified_by, store_of}
 use Rattle.psilt_work.proofs.EvaluatingLemmas.{on_spec, room_is}
-use Rattle.psilt_work.proofs.bank.Bank.normalised.Goals as goal
+use Rattle.psilt_work.proofs.bank.Bank.with_outcome.Goals as goal
 
 pub returns-clause-outcome : goal.returns-clause-outcome
 returns-clause-outcome c =

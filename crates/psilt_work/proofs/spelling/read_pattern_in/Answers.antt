@@ -1,7 +1,7 @@
 use Rattle.rx_term.specs.Store.{tree_at}
 use Rattle.rx_shared.specs.State.{store_of}
 use Rattle.psilt_work.proofs.MatchingLemmas.{no_pattern}
-use Rattle.psilt_work.proofs.spelling.spelled_in.Goals as goal
+use Rattle.psilt_work.proofs.spelling.read_pattern_in.Goals as goal
 
 pub returns-in-Ok-clause-none : goal.returns-in-Ok-clause-none
 returns-in-Ok-clause-none c =
