@@ -31,7 +31,7 @@ macro_rules! on_work {
 pub(crate) use on_work;
 
 /// The number of an answer.
-pub(crate) fn done(answer: Result<(), Fault>) -> u32
+pub(crate) fn tell_done(answer: Result<(), Fault>) -> u32
     ensures { told result tt ≡ answer }
 {
     code(&answer)

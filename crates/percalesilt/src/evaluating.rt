@@ -11,7 +11,7 @@ ghost use Rattle.psilt_work.specs.Evaluating.{GivesTerm, normalised_of};
 ghost use Rattle.psilt_work.specs.Handles.{OnWork};
 ghost use Rattle.psilt_work.specs.Works.{IsSameButBound, IsSameButRun, IsSameButSpec, Forgets};
 
-use crate::answer::{done, give, on_work, tell, tell_value};
+use crate::answer::{give, on_work, tell, tell_done, tell_value};
 use psilt_work::Psilt;
 use rx_term::Term;
 use std::alloc::Global;
@@ -30,7 +30,7 @@ pub extern "C" fn psilt_spec(
         (λ v w. Specifies v.bank w.bank text.now memo reclaim w.place w.rule (told result tt)
         × IsSameButSpec v w) }
 {
-    done(on_work!(psilt, alloc, work, work.specify(alloc, text, memo, reclaim)))
+    tell_done(on_work!(psilt, alloc, work, work.specify(alloc, text, memo, reclaim)))
 }
 
 /// Nothing is specified any more.
@@ -39,7 +39,7 @@ pub extern "C" fn psilt_spec_free(alloc: Global, psilt: &mut Psilt) -> u32
     ensures answer { OnWork psilt.old psilt.new result
         (λ v w. Unspecifies v.bank w.bank (told result tt) × IsSameButSpec v w) }
 {
-    done(on_work!(psilt, alloc, work, work.unspecify()))
+    tell_done(on_work!(psilt, alloc, work, work.unspecify()))
 }
 
 /// What a term comes to within so many steps, and how many it took.

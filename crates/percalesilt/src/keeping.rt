@@ -8,7 +8,7 @@ ghost use Rattle.psilt_work.specs.Banks.{store_of};
 ghost use Rattle.psilt_work.specs.Handles.{OnBank, OnWork, InBank};
 ghost use Rattle.psilt_work.specs.Works.{IsSameButBound};
 
-use crate::answer::{done, on_work, tell};
+use crate::answer::{on_work, tell, tell_done};
 use psilt_work::Psilt;
 use rx_term::Term;
 use std::alloc::Global;
@@ -19,7 +19,7 @@ pub extern "C" fn psilt_protect(alloc: Global, psilt: &mut Psilt, term: u32) -> 
     ensures answer { OnBank psilt.old psilt.new result
         (λ v w. Protects v w (term_of term) (told result tt)) }
 {
-    done(on_work!(psilt, alloc, work, work.protect(Term(term))))
+    tell_done(on_work!(psilt, alloc, work, work.protect(Term(term))))
 }
 
 /// Counts a term as a root once less.
@@ -28,7 +28,7 @@ pub extern "C" fn psilt_unprotect(alloc: Global, psilt: &mut Psilt, term: u32) -
     ensures answer { OnBank psilt.old psilt.new result
         (λ v w. Unprotects v w (term_of term) (told result tt)) }
 {
-    done(on_work!(psilt, alloc, work, work.unprotect(Term(term))))
+    tell_done(on_work!(psilt, alloc, work, work.unprotect(Term(term))))
 }
 
 /// Gives up all terms but those that the roots and the given ones reach, and forgets the bindings
@@ -41,7 +41,7 @@ pub extern "C" fn psilt_reclaim(alloc: Global, psilt: &mut Psilt, kept: &[u32]) 
         × OnErr (told {X = Unit {0}} result tt) (w.bound ≡ v.bound)
         × IsSameButBound v w) }
 {
-    done(on_work!(psilt, alloc, work, work.reclaim(alloc, kept)))
+    tell_done(on_work!(psilt, alloc, work, work.reclaim(alloc, kept)))
 }
 
 /// Makes room for so many cells more.
@@ -50,7 +50,7 @@ pub extern "C" fn psilt_reserve(alloc: Global, psilt: &mut Psilt, count: u32) ->
     ensures answer { OnBank psilt.old psilt.new result
         (λ v w. MakesRoom v w count (told result tt)) }
 {
-    done(on_work!(psilt, alloc, work, work.reserve(count)))
+    tell_done(on_work!(psilt, alloc, work, work.reserve(count)))
 }
 
 /// How many cells are taken.

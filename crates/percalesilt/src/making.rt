@@ -43,7 +43,8 @@ pub extern "C" fn psilt_cons(
 ) -> u32
     ensures answer { OnBank psilt.old psilt.new result
         (λ v w. MakesFrom v w (head ∷ tail ∷ [])
-        (longer (tree_at v (term_of head)) (tree_at v (term_of tail))) (told result (term_of out.new))) }
+        (longer (tree_at v (term_of head)) (tree_at v (term_of tail)))
+        (told result (term_of out.new))) }
     ensures out { result ≢ 0 → out.new ≡ out.old }
 {
     give(
@@ -74,7 +75,8 @@ pub extern "C" fn psilt_annotate(
 ) -> u32
     ensures answer { OnBank psilt.old psilt.new result
         (λ v w. MakesFrom v w (term ∷ anns ∷ [])
-        (noted (tree_at v (term_of term)) (tree_at v (term_of anns))) (told result (term_of out.new))) }
+        (noted (tree_at v (term_of term)) (tree_at v (term_of anns)))
+        (told result (term_of out.new))) }
     ensures out { result ≢ 0 → out.new ≡ out.old }
 {
     give(

@@ -11,7 +11,7 @@ ghost use Rattle.psilt_work.specs.Patterns.{pattern_at};
 ghost use Rattle.psilt_work.specs.Handles.{OnWork};
 ghost use Rattle.psilt_work.specs.Works.{IsSameButBank, IsSameButBound, IsSameButPatterns};
 
-use crate::answer::{done, give, on_work, tell};
+use crate::answer::{give, on_work, tell, tell_done};
 use psilt_work::Psilt;
 use rx_term::Term;
 use std::alloc::Global;
@@ -39,7 +39,7 @@ pub extern "C" fn psilt_pattern_free(alloc: Global, psilt: &mut Psilt, pattern: 
         (λ v w. FreesPattern v.patterns w.patterns pattern (told result tt)
         × IsSameButPatterns v w) }
 {
-    done(on_work!(psilt, alloc, work, work.free_pattern(pattern)))
+    tell_done(on_work!(psilt, alloc, work, work.free_pattern(pattern)))
 }
 
 /// Matches a pattern with a term, keeps the bindings, and tells how many there are.

@@ -7,7 +7,7 @@ ghost use Rattle.psilt_work.specs.Answers.{term_of, Looks, HasKindNumber, ReadsP
 ghost use Rattle.psilt_work.specs.Answers.{ReadsOf, quoted_in, arity_in};
 ghost use Rattle.psilt_work.specs.Handles.{InBank};
 
-use crate::answer::{done, give, on_work, tell, tell_kind};
+use crate::answer::{give, on_work, tell, tell_done, tell_kind};
 use psilt_work::Psilt;
 use rx_term::Term;
 use std::alloc::Global;
@@ -24,7 +24,8 @@ pub extern "C" fn psilt_kind(
 ) -> u32
     ensures answer { InBank psilt.old psilt.new result
         (λ v. Looks v (term_of term)
-        (λ (k : ℕ × ℤ). HasKindNumber v (term_of term) k.0 k.1) (told result (kind.new, value.new))) }
+        (λ (k : ℕ × ℤ). HasKindNumber v (term_of term) k.0 k.1)
+        (told result (kind.new, value.new))) }
     ensures kept { result ≢ 0 → (kind.new ≡ kind.old) × (value.new ≡ value.old) }
 {
     tell_kind(
@@ -138,5 +139,5 @@ pub extern "C" fn psilt_holds(alloc: Global, psilt: &mut Psilt, term: u32) -> u3
         (λ v. Looks v (term_of term)
         (λ (_ : Unit {0}). IsSome (tree_at v (term_of term))) (told result tt)) }
 {
-    done(on_work!(psilt, alloc, work, work.holds(Term(term))))
+    tell_done(on_work!(psilt, alloc, work, work.holds(Term(term))))
 }

@@ -8,7 +8,7 @@ ghost use Rattle.psilt_work.specs.Answers.{term_of, Reads, Spells, Copies, print
 ghost use Rattle.psilt_work.specs.Handles.{OnWork};
 ghost use Rattle.psilt_work.specs.Works.{IsSameButText, IsSameButRead};
 
-use crate::answer::{done, give, on_work, tell};
+use crate::answer::{give, on_work, tell, tell_done};
 use psilt_work::Psilt;
 use rx_term::Term;
 use std::alloc::Global;
@@ -17,7 +17,8 @@ use std::alloc::Global;
 #[unsafe(no_mangle)]
 pub extern "C" fn psilt_read(alloc: Global, psilt: &mut Psilt, text: &[u8], out: &mut u32) -> u32
     ensures answer { OnWork psilt.old psilt.new result
-        (λ v w. Reads (store_of v.bank) (store_of w.bank) text.now w.place (told result (term_of out.new))
+        (λ v w. Reads (store_of v.bank) (store_of w.bank) text.now w.place
+        (told result (term_of out.new))
         × (told result (term_of out.new) ≡ Err Syntax → w.rule ≡ 0) × IsSameButRead v w) }
     ensures out { result ≢ 0 → out.new ≡ out.old }
 {
@@ -79,5 +80,5 @@ pub extern "C" fn psilt_text(alloc: Global, psilt: &mut Psilt, buffer: &mut [u8]
     ensures answer { OnWork psilt.old psilt.new result
         (λ v w. Copies v.text.items buffer.old buffer.new (told result tt) × (w ≡ v)) }
 {
-    done(on_work!(psilt, alloc, work, work.copy(buffer)))
+    tell_done(on_work!(psilt, alloc, work, work.copy(buffer)))
 }
