@@ -14,10 +14,10 @@ use Rattle.rec_trace.specs.Trace.{Firing, Traced}
 use Rattle.rec_trace.specs.declared.lines.Spot.{Spot}
 use Rattle.rx_term.specs.declared.Term.{Term as Reference}
 use Rattle.rec_engine.specs.declared.engine.Outcome.TheVariants.{Value, Limit}
-use Rattle.rec_trace.specs.Tracing.{HasFired, IsLimit, IsTurn, Stands, rest_of}
+use Rattle.rec_trace.specs.Tracing.{HasFiredAt, IsEvent, Stands, rest_of}
+use Rattle.rec_trace.specs.declared.tracer.Event.{Event}
+use Rattle.rec_trace.specs.declared.tracer.Event.TheVariants as event
 use Rattle.rec_trace.specs.declared.tracer.Tracer.{Tracer}
-use Rattle.rec_trace.specs.declared.tracer.Turn.{Turn}
-use Rattle.rec_trace.specs.declared.tracer.Turn.TheVariants as turn
 use Rattle.rec_trace.proofs.SideLemmas.{rule-at}
 use Rattle.rec_look.specs.Inner.Pages.{Breaks, Prints}
 use Rattle.rec_look.specs.Picks.{Picks, front_lines, picks_by, shown_lines}
@@ -170,45 +170,42 @@ module _ (source : List ℕ) (shown : Shown) (n : ℕ) (f : Firing) (spot : Spot
   pub line-whole : shown.whole ≡ true → whole_text spot.line spot.column counted width spent f.after ≡ step_line source shown n f
   line-whole e = (λ i. whole_text (where_is i).line (where_is i).column (counted_is i) (width_is i) (spent_is i) f.after) ∙ ap line_by (sym e)
 
--- ---- turns
+-- ---- events
 
-pub fired-stands : (y : Spec) (w : Store) (new : Tracer) (t : Turn) (rule : ℕ) (redex contractum : Reference) → t ≡ turn.Fired rule redex contractum
-    → IsLimit t ⊎ Stands y w new → Stands y w new
-fired-stands y w new t rule redex contractum e h = by (subst (λ (x : Turn). IsLimit x ⊎ Stands y w new) e h)
-  where
-    by : IsLimit (turn.Fired rule redex contractum) ⊎ Stands y w new → Stands y w new
-    by (inl none) = absurd none
-    by (inr h) = h
+pub fired-stands : (y : Spec) (w : Store) (new : Tracer) (t : Event) (rule : ℕ) (redex : Reference) → t ≡ event.Fired rule redex
+    → (t ≡ event.Limit) ⊎ Stands y w new → Stands y w new
+fired-stands y w new t rule redex e (inl limit) = absurd (cc (e, limit))
+fired-stands y w new t rule redex e (inr h) = h
 
-pub turn-fired : (y : Spec) (w w' : Store) (old new : Tracer) (t : Turn) (rule : ℕ) (redex contractum : Reference)
-    → t ≡ turn.Fired rule redex contractum → IsTurn y w w' old new t → HasFired y w w' old new rule redex contractum
-turn-fired y w w' old new t rule redex contractum e h = subst (IsTurn y w w' old new) e h
+pub event-fired : (y : Spec) (w w' : Store) (old new : Tracer) (t : Event) (rule : ℕ) (redex : Reference) → t ≡ event.Fired rule redex
+    → IsEvent y w w' old new t → HasFiredAt y w w' old new rule redex
+event-fired y w w' old new t rule redex e h = subst (IsEvent y w w' old new) e h
 
 -- what a trace comes to where nothing more fires
-pub turn-value : (y : Spec) (w w' : Store) (old new : Tracer) (t : Turn) (r : Reference) (n steps : ℕ) → t ≡ turn.Value r → IsTurn y w w' old new t
+pub event-value : (y : Spec) (w w' : Store) (old new : Tracer) (t : Event) (r : Reference) (n steps : ℕ) → t ≡ event.Value r → IsEvent y w w' old new t
     → steps ≡ n - new.left → ((rest_of y w old).firings ≡ []) × IsEnd w' n (rest_of y w old).outcome (Value r steps)
-turn-value y w w' old new t r n steps e h k =
-    let at = subst (IsTurn y w w' old new) e h in
+event-value y w w' old new t r n steps e h k =
+    let at = subst (IsEvent y w w' old new) e h in
     (ap (λ (z : Traced Tree). z.firings) at.2, (at.0, new.left, at.1, ap (λ (z : Traced Tree). z.outcome) at.2, k))
 
-pub turn-limit : (y : Spec) (w w' : Store) (old new : Tracer) (t : Turn) (n : ℕ) → t ≡ turn.Limit → IsTurn y w w' old new t
+pub event-limit : (y : Spec) (w w' : Store) (old new : Tracer) (t : Event) (n : ℕ) → t ≡ event.Limit → IsEvent y w w' old new t
     → ((rest_of y w old).firings ≡ []) × IsEnd w' n (rest_of y w old).outcome Limit
-turn-limit y w w' old new t n e h =
-    let at = subst (IsTurn y w w' old new) e h in
+event-limit y w w' old new t n e h =
+    let at = subst (IsEvent y w w' old new) e h in
     (ap (λ (z : Traced Tree). z.firings) at, ap (λ (z : Traced Tree). z.outcome) at)
 
-pub value-left : (y : Spec) (w w' : Store) (old new : Tracer) (t : Turn) (r : Reference) (n : ℕ) → t ≡ turn.Value r → IsTurn y w w' old new t
+pub value-left : (y : Spec) (w w' : Store) (old new : Tracer) (t : Event) (r : Reference) (n : ℕ) → t ≡ event.Value r → IsEvent y w w' old new t
     → IsWithin n (rest_of y w old) → new.left ≤ n
-value-left y w w' old new t r n e h k = let at = subst (IsTurn y w w' old new) e h in within-end n at.0 new.left (rest_of y w old) at.2 k
+value-left y w w' old new t r n e h k = let at = subst (IsEvent y w w' old new) e h in within-end n at.0 new.left (rest_of y w old) at.2 k
 
-pub fired-left : (y : Spec) (w w' : Store) (old new : Tracer) (rule : ℕ) (redex contractum : Reference) (n : ℕ)
-    (f : HasFired y w w' old new rule redex contractum) → IsWithin n (rest_of y w old) → (new.left ≤ n) × IsWithin n (rest_of y w' new)
-fired-left y w w' old new rule redex contractum n f k =
+pub fired-left : (y : Spec) (w w' : Store) (old new : Tracer) (rule : ℕ) (redex : Reference) (n : ℕ)
+    (f : HasFiredAt y w w' old new rule redex) → IsWithin n (rest_of y w old) → (new.left ≤ n) × IsWithin n (rest_of y w' new)
+fired-left y w w' old new rule redex n f k =
     let at = within-next n f.firing (rest_of y w' new) (rest_of y w old) f.next k in
     (subst (λ m. m ≤ n) f.left_is at.0, at.1)
 
 module _ {W : Type 0} (contents : W → Option (List ℕ)) (z : Spec) (w w' : Store) (old new : Tracer) (telling : Telling) (kept : Kept) (rule : ℕ)
-    (redex contractum : Reference) (f : HasFired z w w' old new rule redex contractum) where
+    (redex : Reference) (f : HasFiredAt z w w' old new rule redex) where
   pub told-turn : (w2 : Store) (kept' : Kept) (out now : Output W) (lines more : ℕ) → rest_of z w2 new ≡ rest_of z w' new → Stands z w2 new
       → ((source : List ℕ) (before : List (List ℕ)) → IsTelling source z telling → HasKept (picks_by telling.options.picked) before kept
       → Tells contents source telling.options before f.firing kept' out now lines more)

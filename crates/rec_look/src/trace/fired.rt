@@ -7,7 +7,7 @@ ghost use Rattle.rx_term.specs.Walks.{held_tree};
 ghost use Rattle.rec_syntax.specs.Syntax.{Spec};
 ghost use Rattle.rec_engine.specs.Engine.{SameEngine};
 ghost use Rattle.rec_trace.specs.Trace.{Firing};
-ghost use Rattle.rec_trace.specs.Tracing.{HasFired, Stands, rest_of};
+ghost use Rattle.rec_trace.specs.Tracing.{HasFiredAt, Stands, rest_of};
 ghost use Rattle.rec_trace.specs.declared.tracer.Tracer.{Tracer};
 ghost use Rattle.rec_look.specs.Picks.{is_at, is_call_of, is_picked, picks_by, where_asked};
 ghost use Rattle.rec_look.specs.Traces.{shown_by, step_line};
@@ -16,16 +16,15 @@ ghost use Rattle.rec_look.specs.Inner.Telling.{IsTelling};
 use crate::trace::picked::RulePlace;
 use crate::trace::telling::Telling;
 use rec_engine::{Engine, EngineFault};
-use rec_trace::{Spot, Tracer, firing_line, whole_line};
+use rec_trace::{Rewrite, Spot, Tracer, firing_line, whole_line};
 use rx_term::{Kind, Term, TermBank};
 use std::alloc::Global;
 
-/// A rule that fired: its number, the redex, and what it became.
+/// A rule that fired: its number, and the redex.
 #[derive(Clone, Copy, Drop)]
 pub(crate) struct Fired {
     pub(crate) rule: u32,
     pub(crate) redex: Term,
-    pub(crate) contractum: Term,
 }
 
 /// Whether a spot is at the place that is asked for.
@@ -69,7 +68,8 @@ pub(crate) fn is_picked<B: TermBank>(bank: &B, telling: &Telling<'_>, fired: Fir
         && is_asked_call(bank, fired.redex, picked.symbol)
 }
 
-/// The line of a rule that fired, by the tracer behind it.
+/// The line of a rule that fired, by the tracer behind it. What the redex became is written down
+/// for a line that shows it.
 pub(crate) fn step_text<B: TermBank>(
     alloc: Global,
     engine: &mut Engine<B>,
@@ -77,8 +77,8 @@ pub(crate) fn step_text<B: TermBank>(
     telling: &Telling<'_>,
     fired: Fired,
 ) -> Result<Vec<u8>, EngineFault>
-    requires fired { (w : Store) × (t : Tracer) × HasFired engine.old.spec w
-        (B.store engine.old.bank) t tracer.now fired.rule fired.redex fired.contractum }
+    requires fired { (w : Store) × (t : Tracer) × HasFiredAt engine.old.spec w
+        (B.store engine.old.bank) t tracer.now fired.rule fired.redex }
     requires stands { Stands engine.old.spec (B.store engine.old.bank) tracer.now }
     requires left { tracer.now.left ≤ telling.now.options.run.steps }
     requires telling { (source : List ℕ) × IsTelling source engine.old.spec telling.now }
@@ -88,8 +88,8 @@ pub(crate) fn step_text<B: TermBank>(
         ≡ rest_of engine.old.spec (B.store engine.old.bank) tracer.now }
     ensures text { IfOk result (λ line. (source : List ℕ) (w : Store) (t : Tracer)
         → IsTelling source engine.old.spec telling.now
-        → (f : HasFired engine.old.spec w (B.store engine.old.bank) t tracer.now fired.rule
-        fired.redex fired.contractum)
+        → (f : HasFiredAt engine.old.spec w (B.store engine.old.bank) t tracer.now fired.rule
+        fired.redex)
         → line.items ≡ step_line source (shown_by telling.now.options)
         telling.now.options.run.steps f.firing) }
 {
@@ -103,16 +103,8 @@ pub(crate) fn step_text<B: TermBank>(
             Err(_) => Err(EngineFault::Memory),
         }
     } else {
-        let bank = engine.bank();
-        match firing_line(
-            alloc,
-            bank,
-            spot,
-            fired.redex,
-            fired.contractum,
-            spent,
-            look,
-        ) {
+        let Rewrite { redex, contractum } = tracer.rewrite(alloc, engine, fired.rule, fired.redex)?;
+        match firing_line(alloc, engine.bank(), spot, redex, contractum, spent, look) {
             Ok(line) => Ok(line),
             Err(_) => Err(EngineFault::Memory),
         }

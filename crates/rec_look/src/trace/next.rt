@@ -3,7 +3,7 @@
 ghost use Rattle.std.specs.Prelude.{◌≡◌, ◌≤◌, ◌∷◌, ℕ, [], IfOk, List};
 ghost use Rattle.rx_term.specs.Store.{Store};
 ghost use Rattle.rec_engine.specs.Engine.{SameEngine};
-ghost use Rattle.rec_trace.specs.Tracing.{HasFired, Stands, rest_of};
+ghost use Rattle.rec_trace.specs.Tracing.{HasFiredAt, Stands, rest_of};
 ghost use Rattle.rec_trace.specs.declared.tracer.Tracer.{Tracer};
 ghost use Rattle.rec_look.specs.Picks.{picks_by};
 ghost use Rattle.rec_look.specs.Traces.{picked_lines, shown_by, step_line};
@@ -26,8 +26,8 @@ fn picked_line<B: TermBank>(
     fired: Fired,
     kept: &mut Kept,
 ) -> Result<Option<Vec<u8>>, EngineFault>
-    requires fired { (w : Store) × (t : Tracer) × HasFired engine.old.spec w
-        (B.store engine.old.bank) t tracer.now fired.rule fired.redex fired.contractum }
+    requires fired { (w : Store) × (t : Tracer) × HasFiredAt engine.old.spec w
+        (B.store engine.old.bank) t tracer.now fired.rule fired.redex }
     requires stands { Stands engine.old.spec (B.store engine.old.bank) tracer.now }
     requires left { tracer.now.left ≤ telling.now.options.run.steps }
     requires telling { (source : List ℕ) × IsTelling source engine.old.spec telling.now }
@@ -38,8 +38,8 @@ fn picked_line<B: TermBank>(
     ensures line { IfOk result (λ line. (source : List ℕ) (w : Store) (t : Tracer)
         (before : List (List ℕ)) → IsTelling source engine.old.spec telling.now
         → HasKept (picks_by telling.now.options.picked) before kept.old
-        → (f : HasFired engine.old.spec w (B.store engine.old.bank) t tracer.now fired.rule
-        fired.redex fired.contractum)
+        → (f : HasFiredAt engine.old.spec w (B.store engine.old.bank) t tracer.now fired.rule
+        fired.redex)
         → picked_lines source (shown_by telling.now.options) telling.now.options.run.steps
         (f.firing ∷ []) ≡ step_line source (shown_by telling.now.options)
         telling.now.options.run.steps f.firing ∷ []
@@ -73,8 +73,8 @@ pub(crate) fn next_line<B: TermBank>(
     fired: Fired,
     kept: &mut Kept,
 ) -> Result<Option<Vec<u8>>, EngineFault>
-    requires fired { (w : Store) × (t : Tracer) × HasFired engine.old.spec w
-        (B.store engine.old.bank) t tracer.now fired.rule fired.redex fired.contractum }
+    requires fired { (w : Store) × (t : Tracer) × HasFiredAt engine.old.spec w
+        (B.store engine.old.bank) t tracer.now fired.rule fired.redex }
     requires stands { Stands engine.old.spec (B.store engine.old.bank) tracer.now }
     requires left { tracer.now.left ≤ telling.now.options.run.steps }
     requires telling { (source : List ℕ) × IsTelling source engine.old.spec telling.now }
@@ -85,8 +85,8 @@ pub(crate) fn next_line<B: TermBank>(
     ensures line { IfOk result (λ line. (source : List ℕ) (w : Store) (t : Tracer)
         (before : List (List ℕ)) → IsTelling source engine.old.spec telling.now
         → HasKept (picks_by telling.now.options.picked) before kept.old
-        → (f : HasFired engine.old.spec w (B.store engine.old.bank) t tracer.now fired.rule
-        fired.redex fired.contractum)
+        → (f : HasFiredAt engine.old.spec w (B.store engine.old.bank) t tracer.now fired.rule
+        fired.redex)
         → TakesUp source telling.now.options before f.firing kept.new line) }
 {
     if is_picked(engine.bank(), telling, fired) {

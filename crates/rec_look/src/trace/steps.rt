@@ -8,7 +8,7 @@ ghost use Rattle.rx_run.specs.Streams.{TellsWrite};
 ghost use Rattle.rec_engine.specs.Engine.{SameEngine};
 ghost use Rattle.rec_trace.specs.Lines.{joined};
 ghost use Rattle.rec_trace.specs.Lists.{AreKept};
-ghost use Rattle.rec_trace.specs.Tracing.{HasFired, Stands, rest_of};
+ghost use Rattle.rec_trace.specs.Tracing.{HasFiredAt, Stands, rest_of};
 ghost use Rattle.rec_trace.specs.declared.tracer.Tracer.{Tracer};
 ghost use Rattle.rec_look.specs.Inner.Pages.{Breaks, Prints};
 ghost use Rattle.rec_look.specs.Picks.{front_lines, picks_by};
@@ -32,7 +32,7 @@ use crate::trace::next::next_line;
 use crate::trace::page::{print, stopped};
 use crate::trace::telling::Telling;
 use rec_engine::{Engine, Outcome};
-use rec_trace::{Tracer, Turn};
+use rec_trace::{Event, Tracer};
 use rx_run::RunFault;
 use rx_term::TermBank;
 use rx_text::Output;
@@ -70,8 +70,8 @@ fn write_fired<B: TermBank, W: Write>(
     out: &mut Output<'_, W>,
     lines: &mut u64,
 ) -> Result<(), RunFault>
-    requires fired { (w : Store) × (t : Tracer) × HasFired engine.old.spec w
-        (B.store engine.old.bank) t tracer.now fired.rule fired.redex fired.contractum }
+    requires fired { (w : Store) × (t : Tracer) × HasFiredAt engine.old.spec w
+        (B.store engine.old.bank) t tracer.now fired.rule fired.redex }
     requires stands { Stands engine.old.spec (B.store engine.old.bank) tracer.now }
     requires left { tracer.now.left ≤ telling.now.options.run.steps }
     requires telling { (source : List ℕ) × IsTelling source engine.old.spec telling.now }
@@ -83,15 +83,15 @@ fn write_fired<B: TermBank, W: Write>(
     ensures ok { OnOk result ((source : List ℕ) (w : Store) (t : Tracer)
         (before : List (List ℕ)) → IsTelling source engine.old.spec telling.now
         → HasKept (picks_by telling.now.options.picked) before kept.old
-        → (f : HasFired engine.old.spec w (B.store engine.old.bank) t tracer.now fired.rule
-        fired.redex fired.contractum)
+        → (f : HasFiredAt engine.old.spec w (B.store engine.old.bank) t tracer.now fired.rule
+        fired.redex)
         → Tells W.contents source telling.now.options before f.firing kept.new out.old out.new
         lines.old lines.new) }
     ensures err { IfErr result (λ fault. (source : List ℕ) (w : Store) (t : Tracer)
         (before : List (List ℕ)) → IsTelling source engine.old.spec telling.now
         → HasKept (picks_by telling.now.options.picked) before kept.old
-        → (f : HasFired engine.old.spec w (B.store engine.old.bank) t tracer.now fired.rule
-        fired.redex fired.contractum)
+        → (f : HasFiredAt engine.old.spec w (B.store engine.old.bank) t tracer.now fired.rule
+        fired.redex)
         → Breaks W.contents out.old out.new lines.old
         (joined (fresh_lines (picks_by telling.now.options.picked) before
         (picked_lines source (shown_by telling.now.options) telling.now.options.run.steps
@@ -135,34 +135,16 @@ fn write_turn<B: TermBank, W: Write>(
     ensures same_output { IsSameOutput out.old out.new }
     ensures cause { TellsWrite out.new result }
 {
-    match tracer.next_step(alloc, engine) {
+    match tracer.next_event(alloc, engine) {
         Err(fault) => Err(stopped(fault, *lines)),
-        Ok(Turn::Limit) => Ok(Some(Outcome::Limit)),
-        Ok(Turn::Value { term }) => {
+        Ok(Event::Limit) => Ok(Some(Outcome::Limit)),
+        Ok(Event::Value { term }) => {
             let steps = telling.options.run.steps - tracer.left();
             Ok(Some(Outcome::Value { term, steps }))
         }
-        Ok(
-            Turn::Fired {
-                rule,
-                redex,
-                contractum,
-            },
-        ) => {
-            write_fired(
-                alloc,
-                engine,
-                tracer,
-                telling,
-                Fired {
-                    rule,
-                    redex,
-                    contractum,
-                },
-                kept,
-                out,
-                lines,
-            )?;
+        Ok(Event::Fired { rule, redex }) => {
+            let fired = Fired { rule, redex };
+            write_fired(alloc, engine, tracer, telling, fired, kept, out, lines)?;
             Ok(None)
         }
     }

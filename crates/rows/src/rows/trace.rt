@@ -1,13 +1,13 @@
 //! A trace, one firing after the other, and its lines.
 
 ghost use Rattle.rec_engine.specs.Engine.{SameEngine};
-ghost use Rattle.rec_trace.specs.Tracing.{Stands};
+ghost use Rattle.rec_trace.specs.Tracing.{IsEvent, Stands};
 
 use crate::rows::banks::{expect_text, plain_bank, term_of};
 use crate::rows::cases::{ANEW, Bank, Case, Question, expect_case};
 use crate::rows::texts::expect;
 use rec_engine::Engine;
-use rec_trace::{Look, Spot, Tracer, Turn, spot_of, write_firing, write_whole};
+use rec_trace::{Event, Look, Spot, Tracer, Turn, spot_of, write_firing, write_whole};
 use rx_plain::PlainBank;
 use rx_term::TermBank;
 use std::alloc::Global;
@@ -193,6 +193,65 @@ fn expect_value<B: TermBank>(
     expect_text(rt, alloc, engine.bank(), term, wanted);
 }
 
+/// The next event of a trace, which is a firing or the value.
+fn event_of<B: TermBank>(
+    rt: &impl Abort,
+    alloc: Global,
+    engine: &mut Engine<B>,
+    tracer: &mut Tracer,
+) -> Event
+    requires { Stands engine.old.spec (B.store engine.old.bank) tracer.old }
+    ensures same { SameEngine engine.old engine.new }
+    ensures stands { Stands engine.old.spec (B.store engine.new.bank) tracer.new }
+    ensures event { IsEvent engine.old.spec (B.store engine.old.bank) (B.store engine.new.bank)
+        tracer.old tracer.new result }
+{
+    let event = tracer.next_event(alloc, engine).expect(rt, "an event");
+    assert!(rt; !matches!(event, Event::Limit));
+    event
+}
+
+/// Stops where the next event of a trace is another one than this firing, or where its redex
+/// becomes something else.
+fn expect_event<B: TermBank>(
+    rt: &impl Abort,
+    alloc: Global,
+    engine: &mut Engine<B>,
+    tracer: &mut Tracer,
+    wanted: &Fired,
+)
+    requires { Stands engine.old.spec (B.store engine.old.bank) tracer.old }
+    ensures same { SameEngine engine.old engine.new }
+    ensures stands { Stands engine.old.spec (B.store engine.new.bank) tracer.new }
+{
+    let Event::Fired { rule, redex } = event_of(rt, alloc, engine, tracer) else {
+        panic!(rt; "a firing")
+    };
+    assert!(rt; rule == wanted.rule && tracer.left() == wanted.left);
+    expect_text(rt, alloc, engine.bank(), redex, wanted.redex);
+    let made = tracer
+        .rewrite(alloc, engine, rule, redex)
+        .expect(rt, "what it becomes");
+    expect_text(rt, alloc, engine.bank(), made.redex, wanted.redex);
+    expect_text(rt, alloc, engine.bank(), made.contractum, wanted.contractum);
+}
+
+/// Stops where the next event of a trace is no value of this text.
+fn expect_last_event<B: TermBank>(
+    rt: &impl Abort,
+    alloc: Global,
+    engine: &mut Engine<B>,
+    tracer: &mut Tracer,
+    wanted: &[u8],
+)
+    requires { Stands engine.old.spec (B.store engine.old.bank) tracer.old }
+{
+    let Event::Value { term } = event_of(rt, alloc, engine, tracer) else {
+        panic!(rt; "a value")
+    };
+    expect_text(rt, alloc, engine.bank(), term, wanted);
+}
+
 /// Stops where the whole term has another text.
 fn expect_whole_term<B: TermBank>(
     rt: &impl Abort,
@@ -262,12 +321,30 @@ fn trace_condition<B: TermBank>(rt: &impl Abort, alloc: Global, engine: &mut Eng
     expect_value(rt, alloc, engine, &mut tracer, b"s(z)");
 }
 
+/// Stops where the trace of the sum has other events, or goes on otherwise behind a firing whose
+/// contractum is not written down.
+fn trace_events<B: TermBank>(rt: &impl Abort, alloc: Global, engine: &mut Engine<B>) {
+    assert!(rt; engine.eval_terms() == 2);
+    let mut tracer = Tracer::of_eval(alloc, engine, 0, 5).expect(rt, "a trace");
+    expect_event(rt, alloc, engine, &mut tracer, &FIRST);
+    expect_event(rt, alloc, engine, &mut tracer, &SECOND);
+    expect_last_event(rt, alloc, engine, &mut tracer, b"s(s(z))");
+    let mut tracer = Tracer::of_eval(alloc, engine, 0, 5).expect(rt, "a trace");
+    let first = event_of(rt, alloc, engine, &mut tracer);
+    assert!(rt; matches!(first, Event::Fired { .. }));
+    expect_fired(rt, alloc, engine, &mut tracer, &SECOND);
+    expect_last_event(rt, alloc, engine, &mut tracer, b"s(s(z))");
+}
+
 /// Stops unless a trace of no steps is at its limit.
 fn trace_nothing<B: TermBank>(rt: &impl Abort, alloc: Global, engine: &mut Engine<B>) {
     assert!(rt; engine.eval_terms() == 2);
     let mut tracer = Tracer::of_eval(alloc, engine, 0, 0).expect(rt, "a trace");
     let turn = tracer.next_step(alloc, engine).expect(rt, "a step");
     assert!(rt; matches!(turn, Turn::Limit));
+    let mut tracer = Tracer::of_eval(alloc, engine, 0, 0).expect(rt, "a trace");
+    let event = tracer.next_event(alloc, engine).expect(rt, "an event");
+    assert!(rt; matches!(event, Event::Limit));
 }
 
 /// What is traced.
@@ -276,6 +353,7 @@ pub enum Traced {
     Sum,
     WholeTerms,
     Condition,
+    Events,
     Nothing,
 }
 
@@ -285,6 +363,7 @@ pub fn ask<B: TermBank>(rt: &impl Abort, alloc: Global, engine: &mut Engine<B>, 
         Traced::Sum => trace_sum(rt, alloc, engine),
         Traced::WholeTerms => trace_whole(rt, alloc, engine),
         Traced::Condition => trace_condition(rt, alloc, engine),
+        Traced::Events => trace_events(rt, alloc, engine),
         Traced::Nothing => trace_nothing(rt, alloc, engine),
     }
 }
@@ -312,6 +391,11 @@ fn whole_terms_of_a_trace(rt: HostRuntime) {
 #[test]
 fn conditions(rt: HostRuntime) {
     expect_case(&rt, rt.alloc(), &case(Traced::Condition));
+}
+
+#[test]
+fn events(rt: HostRuntime) {
+    expect_case(&rt, rt.alloc(), &case(Traced::Events));
 }
 
 #[test]
