@@ -6,7 +6,7 @@ ghost use Rattle.rx_arena.specs.Put.{times};
 ghost use Rattle.rx_sweep.specs.Reach.{CanCollect, names};
 
 use crate::CELLS;
-use crate::needs::boxed;
+use crate::needs::heap_answer;
 use crate::report::Report;
 use rx_arena::arena::Arena;
 use rx_arena::{ArenaFault, CellBody, Slot};
@@ -21,7 +21,7 @@ const NEW: &[u8] = b"b";
 
 /// A name is given its symbol.
 pub fn try_intern(report: &mut Report) -> Option<()> {
-    let mut names = boxed(report.alloc, Names::new(report.alloc))?;
+    let mut names = heap_answer(report.alloc, Names::new(report.alloc))?;
     intern_twice(&mut *names, report)
 }
 
@@ -93,14 +93,14 @@ fn add_content(arena: &Arena, words: &mut Vec<(u64, u16)>) -> Option<()> {
 pub fn try_new(report: &mut Report) -> Option<()> {
     report.begin();
     report.tell(Arena::new(report.alloc, CELLS, 4));
-    let arena = boxed(report.alloc, Arena::new(report.alloc, CELLS, 4))?;
+    let arena = heap_answer(report.alloc, Arena::new(report.alloc, CELLS, 4))?;
     report.count(u64::from(arena.cells()), "cells");
     Some(())
 }
 
 /// A call of an arena whose next cell needs memory.
 pub fn try_filled(call: &str, report: &mut Report) -> Option<()> {
-    let mut arena = boxed(report.alloc, Arena::new(report.alloc, CELLS, 4))?;
+    let mut arena = heap_answer(report.alloc, Arena::new(report.alloc, CELLS, 4))?;
     let mut before = Vec::new(report.alloc);
     fill_and_try(call, &mut *arena, &mut before, report)
 }

@@ -1,7 +1,7 @@
 //! Makes of a bank, of which each growth may be refused; and its calls that ask for no memory.
 
 use crate::CELLS;
-use crate::needs::{boxed, read_held};
+use crate::needs::{heap_answer, read_held};
 use crate::report::Report;
 use rx_plain::PlainBank;
 use rx_shared::SharedBank;
@@ -82,9 +82,9 @@ fn attempt<B: TermBank>(bank: &mut B, call: Call) -> Result<Made, BankFault> {
         Call::Int => bank.int(77).map(Made::Tree),
         Call::Nil => bank.nil().map(Made::Tree),
         Call::Cons => list_of_one(bank).map(Made::Tree),
-        Call::Appl => applied(bank).map(Made::Tree),
+        Call::Appl => application(bank).map(Made::Tree),
         Call::Hole => held_open(bank).map(Made::Tree),
-        Call::Annotated => noted(bank).map(Made::Tree),
+        Call::Annotated => annotated_integer(bank).map(Made::Tree),
         Call::Symbol => bank.symbol(b"new", false, 3).map(Made::Symbol),
         Call::Reserve => bank.reserve(CELLS / 2).map(|()| Made::Room),
     }
@@ -98,7 +98,7 @@ fn list_of_one<B: TermBank>(bank: &mut B) -> Result<Term, BankFault> {
 }
 
 /// `g(b)`.
-fn applied<B: TermBank>(bank: &mut B) -> Result<Term, BankFault> {
+fn application<B: TermBank>(bank: &mut B) -> Result<Term, BankFault> {
     let b = constant(bank, b"b")?;
     let nil = bank.nil()?;
     let args = bank.cons(b, nil)?;
@@ -113,7 +113,7 @@ fn held_open<B: TermBank>(bank: &mut B) -> Result<Term, BankFault> {
 }
 
 /// `1{b}`.
-fn noted<B: TermBank>(bank: &mut B) -> Result<Term, BankFault> {
+fn annotated_integer<B: TermBank>(bank: &mut B) -> Result<Term, BankFault> {
     let b = constant(bank, b"b")?;
     let nil = bank.nil()?;
     let notes = bank.cons(b, nil)?;
@@ -189,7 +189,7 @@ fn call_once<B: TermBank>(bank: &mut B, call: Call, report: &mut Report) -> Opti
 pub fn try_new_plain(report: &mut Report) -> Option<()> {
     report.begin();
     report.tell(PlainBank::new(report.alloc, CELLS));
-    let bank = boxed(report.alloc, PlainBank::new(report.alloc, CELLS))?;
+    let bank = heap_answer(report.alloc, PlainBank::new(report.alloc, CELLS))?;
     report.count(u64::from(bank.cells()), "cells");
     Some(())
 }
@@ -198,7 +198,7 @@ pub fn try_new_plain(report: &mut Report) -> Option<()> {
 pub fn try_new_shared(report: &mut Report) -> Option<()> {
     report.begin();
     report.tell(SharedBank::new(report.alloc, CELLS));
-    let bank = boxed(report.alloc, SharedBank::new(report.alloc, CELLS))?;
+    let bank = heap_answer(report.alloc, SharedBank::new(report.alloc, CELLS))?;
     report.count(u64::from(bank.cells()), "cells");
     Some(())
 }
@@ -213,7 +213,7 @@ fn make_integers<B: TermBank>(bank: &mut B) -> Result<(), BankFault> {
 
 /// Eleven hundred integers, more than a shared bank has chains at first.
 pub fn try_thousand(report: &mut Report) -> Option<()> {
-    let mut bank = boxed(report.alloc, SharedBank::new(report.alloc, 2000))?;
+    let mut bank = heap_answer(report.alloc, SharedBank::new(report.alloc, 2000))?;
     make_integers_twice(&mut *bank, report)
 }
 
@@ -253,13 +253,13 @@ fn try_broad<B: TermBank>(bank: &mut B, report: &mut Report) -> Option<()> {
 
 /// A broad plain bank.
 pub fn try_broad_plain(report: &mut Report) -> Option<()> {
-    let mut bank = boxed(report.alloc, PlainBank::new(report.alloc, BROAD))?;
+    let mut bank = heap_answer(report.alloc, PlainBank::new(report.alloc, BROAD))?;
     try_broad(&mut *bank, report)
 }
 
 /// A broad shared bank.
 pub fn try_broad_shared(report: &mut Report) -> Option<()> {
-    let mut bank = boxed(report.alloc, SharedBank::new(report.alloc, BROAD))?;
+    let mut bank = heap_answer(report.alloc, SharedBank::new(report.alloc, BROAD))?;
     try_broad(&mut *bank, report)
 }
 

@@ -6,9 +6,9 @@ ghost use Rattle.std.specs.Prelude.{IfSome};
 ghost use Rattle.rec_engine.specs.Engine.{IsGiven};
 
 use crate::CELLS;
-use crate::needs::{boxed, read_held};
+use crate::needs::{heap_answer, read_held};
 use crate::report::Report;
-use crate::specifications::checked;
+use crate::specifications::checked_specification;
 use rec_engine::{Engine, Options, Outcome};
 use rec_memo::Memo;
 use rx_shared::SharedBank;
@@ -40,7 +40,7 @@ pub enum Asked {
 pub fn try_memo(report: &mut Report) -> Option<()> {
     report.begin();
     report.tell(Memo::new(report.alloc, 16));
-    let mut memo = boxed(report.alloc, Memo::new(report.alloc, 16))?;
+    let mut memo = heap_answer(report.alloc, Memo::new(report.alloc, 16))?;
     memo.put(Term(1), Term(2), 3);
     report.say(memo.get(Term(1)) == Some((Term(2), 3)), "remembered");
     Some(())
@@ -48,9 +48,9 @@ pub fn try_memo(report: &mut Report) -> Option<()> {
 
 /// An engine over a bank.
 fn engine_over<B: TermBank + Drop>(alloc: Global, bank: B) -> Option<Box<Engine<B>>> {
-    let checked = checked(alloc)?;
+    let checked = checked_specification(alloc)?;
     let checked = Box::into_inner(checked);
-    boxed(alloc, Engine::new(alloc, checked, bank, OPTIONS))
+    heap_answer(alloc, Engine::new(alloc, checked, bank, OPTIONS))
 }
 
 /// An engine is made, and then one over another bank.
@@ -65,7 +65,7 @@ pub fn try_new(report: &mut Report) -> Option<()> {
 
 /// Makes an engine where memory may be refused. It takes the bank and the specification.
 fn make_once<B: TermBank + Drop>(bank: B, report: &mut Report) -> Option<()> {
-    let checked = checked(report.alloc)?;
+    let checked = checked_specification(report.alloc)?;
     report.begin();
     let checked = Box::into_inner(checked);
     report.tell(Engine::new(report.alloc, checked, bank, OPTIONS));

@@ -13,7 +13,7 @@ mod texts;
 
 use crate::banks::Call;
 use crate::engines::Asked;
-use crate::needs::boxed;
+use crate::needs::heap_answer;
 use crate::report::Report;
 use rx_plain::PlainBank;
 use rx_shared::SharedBank;
@@ -65,7 +65,7 @@ fn try_plain(call: &str, report: &mut Report) -> Option<()> {
 
 /// A call of a plain bank that is there.
 fn try_over_plain(call: &str, report: &mut Report) -> Option<()> {
-    let mut bank = boxed(report.alloc, PlainBank::new(report.alloc, CELLS))?;
+    let mut bank = heap_answer(report.alloc, PlainBank::new(report.alloc, CELLS))?;
     try_bank(call, &mut *bank, report)
 }
 
@@ -81,7 +81,7 @@ fn try_shared(call: &str, report: &mut Report) -> Option<()> {
 
 /// A call of a shared bank that is there, or one of another kind over it.
 fn try_over_shared(kind: &str, call: &str, report: &mut Report) -> Option<()> {
-    let mut bank = boxed(report.alloc, SharedBank::new(report.alloc, CELLS))?;
+    let mut bank = heap_answer(report.alloc, SharedBank::new(report.alloc, CELLS))?;
     match kind {
         "shared" => try_bank(call, &mut *bank, report),
         "text" => try_text(call, &mut *bank, report),

@@ -8,7 +8,7 @@ use rx_text::read;
 use std::alloc::Global;
 
 /// What was made, on the heap: there it is one small value to its owner, whatever its parts.
-pub fn boxed<T: Drop, F: Drop>(alloc: Global, answer: Result<T, F>) -> Option<Box<T>>
+pub fn heap_answer<T: Drop, F: Drop>(alloc: Global, answer: Result<T, F>) -> Option<Box<T>>
     ensures { IfSome result (λ b. answer ≡ Ok b.value) }
 {
     match answer {

@@ -3,7 +3,7 @@
 ghost use Rattle.std.specs.Prelude.{IsSome};
 ghost use Rattle.rx_term.specs.Store.{tree_at};
 
-use crate::needs::{boxed, read_held};
+use crate::needs::{heap_answer, read_held};
 use crate::report::Report;
 use rx_pattern::Pattern;
 use rx_term::{Term, TermBank};
@@ -24,7 +24,7 @@ const SECOND: &[u8] = b"[2,3]";
 /// The pattern that the text spells.
 fn pattern<B: TermBank>(alloc: Global, bank: &mut B) -> Option<Box<Pattern>> {
     let t = read_held(alloc, bank, PATTERN)?;
-    boxed(alloc, Pattern::of(alloc, bank, t))
+    heap_answer(alloc, Pattern::of(alloc, bank, t))
 }
 
 /// The pattern of a term is taken.
@@ -32,7 +32,7 @@ pub fn try_of<B: TermBank>(bank: &mut B, report: &mut Report) -> Option<()> {
     let t = read_held(report.alloc, bank, PATTERN)?;
     report.begin();
     report.tell(Pattern::of(report.alloc, bank, t));
-    let pattern = boxed(report.alloc, Pattern::of(report.alloc, bank, t))?;
+    let pattern = heap_answer(report.alloc, Pattern::of(report.alloc, bank, t))?;
     show_bindings(bank, &*pattern, report)
 }
 

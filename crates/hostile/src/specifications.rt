@@ -8,7 +8,7 @@ ghost use Rattle.rec_sorts.specs.Lookup.{symbols};
 ghost use Rattle.rec_match.specs.Next.{AreReady};
 
 use crate::banks::{KEPT, add_content, compare, set_up, show_roots};
-use crate::needs::{boxed, read_held};
+use crate::needs::{heap_answer, read_held};
 use crate::report::Report;
 use rec_match::Matcher;
 use rec_sorts::{Checked, Links, check, check_terms};
@@ -32,16 +32,16 @@ const TERMS: &[u8] = b"[plus(z,s(z)),z{a}]";
 const SUM: &[u8] = b"plus(s(z),s(s(z)))";
 
 /// The specification after its check.
-pub fn checked(alloc: Global) -> Option<Box<Checked>> {
+pub fn checked_specification(alloc: Global) -> Option<Box<Checked>> {
     let syntax = read_spec(alloc, DOUBLING).ok()?;
-    boxed(alloc, check(alloc, syntax))
+    heap_answer(alloc, check(alloc, syntax))
 }
 
 /// A specification is read.
 pub fn try_read(report: &mut Report) -> Option<()> {
     report.begin();
     report.tell(read_spec(report.alloc, DOUBLING));
-    let syntax = boxed(report.alloc, read_spec(report.alloc, DOUBLING))?;
+    let syntax = heap_answer(report.alloc, read_spec(report.alloc, DOUBLING))?;
     show_syntax(&*syntax, report);
     Some(())
 }
@@ -56,7 +56,7 @@ fn show_syntax(syntax: &Syntax, report: &mut Report) {
 /// A specification is checked.
 pub fn try_check(report: &mut Report) -> Option<()> {
     check_once(report)?;
-    let checked = checked(report.alloc)?;
+    let checked = checked_specification(report.alloc)?;
     report.count(u64::from(checked.symbols()), "symbols");
     show_syntax(checked.syntax(), report);
     Some(())
@@ -73,7 +73,7 @@ fn check_once(report: &mut Report) -> Option<()> {
 /// Given terms are checked twice; memory may be refused the first time.
 pub fn try_check_terms<B: TermBank>(bank: &mut B, report: &mut Report) -> Option<()> {
     let list = read_held(report.alloc, bank, TERMS)?;
-    let checked = checked(report.alloc)?;
+    let checked = checked_specification(report.alloc)?;
     report.begin();
     report.tell(check_terms(report.alloc, &*checked, bank, list));
     let again = check_terms(report.alloc, &*checked, bank, list);
@@ -84,7 +84,7 @@ pub fn try_check_terms<B: TermBank>(bank: &mut B, report: &mut Report) -> Option
 /// The symbols get theirs in a bank.
 pub fn try_links<B: TermBank>(bank: &mut B, report: &mut Report) -> Option<()> {
     let kept = set_up(report.alloc, bank, KEPT)?;
-    let checked = checked(report.alloc)?;
+    let checked = checked_specification(report.alloc)?;
     link_twice(&*checked, bank, report)?;
     show_roots(bank, kept, report);
     Some(())
@@ -102,14 +102,14 @@ fn link_twice<B: TermBank>(checked: &Checked, bank: &mut B, report: &mut Report)
 
 /// Says how many symbols a specification gets in a bank.
 fn count_symbols<B: TermBank>(checked: &Checked, bank: &mut B, report: &mut Report) -> Option<()> {
-    let links = boxed(report.alloc, Links::make(report.alloc, checked, bank))?;
+    let links = heap_answer(report.alloc, Links::make(report.alloc, checked, bank))?;
     report.count(links.symbols().len() as u64, "symbols");
     Some(())
 }
 
 /// The matching trees are built.
 pub fn try_build<B: TermBank>(bank: &mut B, report: &mut Report) -> Option<()> {
-    let checked = checked(report.alloc)?;
+    let checked = checked_specification(report.alloc)?;
     build_over(&*checked, bank, report)
 }
 
@@ -125,7 +125,7 @@ fn build_twice(checked: &Checked, links: &Links, report: &mut Report) -> Option<
 {
     report.begin();
     report.tell(Matcher::build(report.alloc, checked, links));
-    let matcher = boxed(report.alloc, Matcher::build(report.alloc, checked, links))?;
+    let matcher = heap_answer(report.alloc, Matcher::build(report.alloc, checked, links))?;
     report.count(matcher.sides.len() as u64, "left sides");
     Some(())
 }
@@ -134,7 +134,7 @@ fn build_twice(checked: &Checked, links: &Links, report: &mut Report) -> Option<
 fn matcher_for<B: TermBank>(alloc: Global, bank: &mut B) -> Option<Matcher>
     ensures { IfSome result (AreReady (B.store bank.new)) }
 {
-    let checked = checked(alloc)?;
+    let checked = checked_specification(alloc)?;
     matcher_of(alloc, &*checked, bank)
 }
 

@@ -30,7 +30,7 @@ ghost use Rattle.rec_check.specs.Walks.{
   unlike_in_conditions,
 };
 
-use crate::filters::{missing, present, repeated};
+use crate::filters::{missing_words, present_words, repeated_words};
 use crate::finding::Rule;
 use crate::names::Names;
 use crate::scope::Scope;
@@ -94,7 +94,7 @@ fn unknown_sorts<'a>(alloc: Global, syntax: &'a Syntax) -> Result<Vec<Word<'a>>,
 {
     let known = sort_names(alloc, syntax)?;
     let sorts = named_sorts(alloc, syntax)?;
-    missing(alloc, &known, &sorts)
+    missing_words(alloc, &known, &sorts)
 }
 
 /// The names of symbols and variables.
@@ -113,36 +113,36 @@ fn unknown_words<'a>(alloc: Global, syntax: &'a Syntax) -> Result<Vec<Word<'a>>,
 {
     let known = declared_names(alloc, syntax)?;
     let words = all_words(alloc, syntax)?;
-    missing(alloc, &known, &words)
+    missing_words(alloc, &known, &words)
 }
 
 /// The words with another number of arguments than declared.
-fn ill_filled<'a>(alloc: Global, syntax: &'a Syntax) -> Result<Vec<Word<'a>>, AllocError>
+fn ill_filled_words<'a>(alloc: Global, syntax: &'a Syntax) -> Result<Vec<Word<'a>>, AllocError>
     ensures { IfOk result
         (λ v. HasSame (broken_words syntax.now.spec Rule.IllFilled) (as_words v.items)) }
 {
     let scope = Scope::of(alloc, syntax)?;
     let nodes = all_nodes(alloc, syntax)?;
-    scope.ill_filled(alloc, &nodes)
+    scope.ill_filled_words(alloc, &nodes)
 }
 
 /// The arguments of another sort than declared.
-fn ill_sorted<'a>(alloc: Global, syntax: &'a Syntax) -> Result<Vec<Word<'a>>, AllocError>
+fn ill_sorted_words<'a>(alloc: Global, syntax: &'a Syntax) -> Result<Vec<Word<'a>>, AllocError>
     ensures { IfOk result
         (λ v. HasSame (broken_words syntax.now.spec Rule.IllSorted) (as_words v.items)) }
 {
     let scope = Scope::of(alloc, syntax)?;
     let nodes = all_nodes(alloc, syntax)?;
-    scope.ill_sorted(alloc, &nodes)
+    scope.ill_sorted_words(alloc, &nodes)
 }
 
 /// The left sides that begin with no operator.
-fn ill_headed<'a>(alloc: Global, syntax: &'a Syntax) -> Result<Vec<Word<'a>>, AllocError>
+fn ill_headed_words<'a>(alloc: Global, syntax: &'a Syntax) -> Result<Vec<Word<'a>>, AllocError>
     ensures { IfOk result (λ v. as_words v.items ≡ ill_headed syntax.now.spec) }
 {
     let known = operator_names(alloc, syntax)?;
     let heads = left_heads(alloc, syntax)?;
-    missing(alloc, &known, &heads)
+    missing_words(alloc, &known, &heads)
 }
 
 /// The conditions whose sides have different sorts, behind other words.
@@ -244,11 +244,11 @@ fn used_variables<'a>(
         ∷ condition_terms (rule_of syntax.now.source rule.now).conditions)))) }
 {
     let words = right_words(alloc, syntax, rule)?;
-    present(alloc, known, &words)
+    present_words(alloc, known, &words)
 }
 
 /// The variables of a rule that are not in its left side, where these names are those of variables.
-fn unbound_of<'a>(
+fn unbound_variables_of<'a>(
     alloc: Global,
     syntax: &'a Syntax,
     known: &Names<'_>,
@@ -261,7 +261,7 @@ fn unbound_of<'a>(
 {
     let bound = left_names(alloc, syntax, rule)?;
     let used = used_variables(alloc, syntax, known, rule)?;
-    missing(alloc, &bound, &used)
+    missing_words(alloc, &bound, &used)
 }
 
 /// The same of rules, behind other words.
@@ -278,14 +278,14 @@ fn push_unbound<'a>(
         ++ flat_map (unbound_in syntax.now.spec) (map (rule_of syntax.now.source) rules.now)) }
 {
     for rule in rules {
-        let unbound = unbound_of(alloc, syntax, known, rule)?;
+        let unbound = unbound_variables_of(alloc, syntax, known, rule)?;
         found.extend_from_slice(&unbound)?;
     }
     Ok(())
 }
 
 /// The variables of right sides and conditions that are not in their left sides.
-fn unbound<'a>(alloc: Global, syntax: &'a Syntax) -> Result<Vec<Word<'a>>, AllocError>
+fn unbound_variables<'a>(alloc: Global, syntax: &'a Syntax) -> Result<Vec<Word<'a>>, AllocError>
     ensures { IfOk result
         (λ v. HasSame (broken_words syntax.now.spec Rule.Unbound) (as_words v.items)) }
 {
@@ -302,7 +302,7 @@ fn open_terms<'a>(alloc: Global, syntax: &'a Syntax) -> Result<Vec<Word<'a>>, Al
 {
     let known = variable_names(alloc, syntax)?;
     let words = evaluated_words(alloc, syntax)?;
-    present(alloc, &known, &words)
+    present_words(alloc, &known, &words)
 }
 
 /// The sorts that are declared twice.
@@ -310,7 +310,7 @@ fn repeated_sorts<'a>(alloc: Global, syntax: &'a Syntax) -> Result<Vec<Word<'a>>
     ensures { IfOk result (λ v. as_words v.items ≡ repeated_sorts syntax.now.spec) }
 {
     let sorts = sort_words(alloc, syntax)?;
-    repeated(alloc, &[], &sorts)
+    repeated_words(alloc, &[], &sorts)
 }
 
 /// The symbols that are declared twice.
@@ -318,7 +318,7 @@ fn repeated_symbols<'a>(alloc: Global, syntax: &'a Syntax) -> Result<Vec<Word<'a
     ensures { IfOk result (λ v. as_words v.items ≡ repeated_symbols syntax.now.spec) }
 {
     let symbols = symbol_words(alloc, syntax)?;
-    repeated(alloc, &[], &symbols)
+    repeated_words(alloc, &[], &symbols)
 }
 
 /// The variables that are declared twice, or have a symbol's name.
@@ -327,7 +327,7 @@ fn taken_variables<'a>(alloc: Global, syntax: &'a Syntax) -> Result<Vec<Word<'a>
 {
     let symbols = symbol_words(alloc, syntax)?;
     let variables = variables(alloc, syntax)?;
-    repeated(alloc, &symbols, &variables)
+    repeated_words(alloc, &symbols, &variables)
 }
 
 /// All words at which a specification breaks a rule, in any order.
@@ -344,11 +344,11 @@ pub fn broken_words<'a>(
         Rule::VariableTaken => taken_variables(alloc, syntax),
         Rule::SortUnknown => unknown_sorts(alloc, syntax),
         Rule::WordUnknown => unknown_words(alloc, syntax),
-        Rule::IllFilled => ill_filled(alloc, syntax),
-        Rule::IllSorted => ill_sorted(alloc, syntax),
-        Rule::IllHeaded => ill_headed(alloc, syntax),
+        Rule::IllFilled => ill_filled_words(alloc, syntax),
+        Rule::IllSorted => ill_sorted_words(alloc, syntax),
+        Rule::IllHeaded => ill_headed_words(alloc, syntax),
         Rule::UnlikeSides => unlike_sides(alloc, syntax),
-        Rule::Unbound => unbound(alloc, syntax),
+        Rule::Unbound => unbound_variables(alloc, syntax),
         Rule::OpenTerm => open_terms(alloc, syntax),
     }
 }

@@ -7,7 +7,7 @@ ghost use Rattle.rec_check.specs.Findings.{AreUncovered, as_examples};
 ghost use Rattle.rec_check.specs.Inner.Grounds.{IsAsker, IsExampleOf};
 ghost use Rattle.rec_check.specs.Inner.Trials.{AreSizes};
 
-use crate::fillings::{MOST, MOST_LETTERS, Shapes, filled};
+use crate::fillings::{MOST, MOST_LETTERS, Shapes, fill_holes};
 use crate::finding::Example;
 use crate::matching::{Terms, sizes};
 use crate::uncovered::Asker;
@@ -184,7 +184,7 @@ impl<'a> Search<'a> {
         ensures { IfOk result
             (λ o. IfSome o (IsExampleOf self.now.asker.checked.now.spec operator)) }
     {
-        let letters = filled(alloc, &self.shapes.fillings, call, is_mixed)?;
+        let letters = fill_holes(alloc, &self.shapes.fillings, call, is_mixed)?;
         match letters.split_last() {
             Some((_operator, arguments)) => self.asker.example(alloc, operator, arguments),
             None => Ok(None),

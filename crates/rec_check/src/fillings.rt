@@ -125,7 +125,7 @@ fn constructors_of(fillings: &[Filling], letter: Letter) -> &[u32] {
 }
 
 /// A term whose holes are filled, all with first terms, or with first and other ones in turn.
-pub(crate) fn filled(
+pub(crate) fn fill_holes(
     alloc: Global,
     fillings: &[Filling],
     letters: &[Letter],
@@ -257,7 +257,7 @@ impl Shapes {
     }
 
     /// A constructor of a sort over holes, where one more term of the sort is to be kept.
-    fn wanted(&self, sort: usize, i: usize) -> Option<&[Letter]> {
+    fn wanted_letters(&self, sort: usize, i: usize) -> Option<&[Letter]> {
         let filling = self.fillings.get(sort)?;
         if filling.terms.len() >= MOST_TERMS {
             return None;
@@ -268,10 +268,10 @@ impl Shapes {
 
     /// A constructor of a sort over terms that are known.
     fn grow(&mut self, alloc: Global, sort: usize, i: usize) -> Result<(), AllocError> {
-        let Some(open) = self.wanted(sort, i) else {
+        let Some(open) = self.wanted_letters(sort, i) else {
             return Ok(());
         };
-        let term = filled(alloc, &self.fillings, open, false)?;
+        let term = fill_holes(alloc, &self.fillings, open, false)?;
         if let Some(filling) = self.fillings.get_mut(sort) {
             filling.keep(term)?;
         }

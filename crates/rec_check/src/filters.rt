@@ -12,7 +12,7 @@ use crate::words::Word;
 use std::alloc::{AllocError, Global};
 
 /// The words whose name is not known.
-pub fn missing<'a>(
+pub fn missing_words<'a>(
     alloc: Global,
     known: &Names<'_>,
     words: &[Word<'a>],
@@ -30,7 +30,7 @@ pub fn missing<'a>(
 }
 
 /// The words whose name is known.
-pub fn present<'a>(
+pub fn present_words<'a>(
     alloc: Global,
     known: &Names<'_>,
     words: &[Word<'a>],
@@ -48,7 +48,7 @@ pub fn present<'a>(
 }
 
 /// The words whose name is that of a word before them.
-pub fn repeated<'a>(
+pub fn repeated_words<'a>(
     alloc: Global,
     before: &[Word<'a>],
     words: &[Word<'a>],

@@ -35,7 +35,7 @@ pub enum Rule {
 
 impl Rule {
     /// The rule of a number from 1.
-    pub(crate) fn numbered(number: u8) -> Option<Rule>
+    pub(crate) fn of_number(number: u8) -> Option<Rule>
         ensures some { IfSome result (λ r. number_of r ≡ number) }
         ensures none { result ≡ None → (number ≡ 0) ⊎ (11 < number) }
     {

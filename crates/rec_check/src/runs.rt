@@ -163,11 +163,11 @@ fn tell_warnings<W: Write>(
     let examples = uncovered_calls(alloc, checked)?;
     let findings = warnings(alloc, checked, &examples)?;
     let text = checked.syntax().source();
-    tell(name, text, &findings, judged(&findings), out)
+    tell(name, text, &findings, judge(&findings), out)
 }
 
 /// What the check of a good specification came to.
-fn judged(findings: &[Finding]) -> Judgement
+fn judge(findings: &[Finding]) -> Judgement
     ensures { (y : Spec) → result ≡ judgement_of (Good y) (as_findings findings.now) }
 {
     if findings.len() == 0 {
@@ -194,7 +194,7 @@ fn tell_broken<W: Write>(
     ensures fault { IfErr result
         (λ fault. Stops name.now text.now fault (W.contents out.old) (W.contents out.new)) }
 {
-    let rule = match Rule::numbered(number) {
+    let rule = match Rule::of_number(number) {
         Some(rule) => rule,
         None => unreachable!(),
     };

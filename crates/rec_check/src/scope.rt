@@ -211,7 +211,7 @@ impl<'a> Scope<'a> {
     }
 
     /// The words with another number of arguments than declared.
-    pub fn ill_filled(
+    pub fn ill_filled_words(
         &self,
         alloc: Global,
         nodes: &[Counted<'a>],
@@ -277,7 +277,7 @@ impl<'a> Scope<'a> {
     }
 
     /// The arguments of another sort than declared, by a stack of the heads of the terms so far.
-    pub fn ill_sorted(
+    pub fn ill_sorted_words(
         &self,
         alloc: Global,
         nodes: &[Counted<'a>],

@@ -7,7 +7,7 @@ ghost use Rattle.rec_sorts.specs.SpecRules.{all_terms, heads, sorts_of};
 ghost use Rattle.rec_check.specs.Lookups.{Knows};
 ghost use Rattle.rec_check.specs.Named.{as_words};
 
-use crate::filters::missing;
+use crate::filters::missing_words;
 use crate::names::Names;
 use crate::words::{Word, all_words, named_sorts, sort_words, symbol_words, variables};
 use rec_syntax::Syntax;
@@ -28,7 +28,7 @@ pub fn unused_sorts<'a>(alloc: Global, syntax: &'a Syntax) -> Result<Vec<Word<'a
 {
     let used = named_sort_names(alloc, syntax)?;
     let sorts = sort_words(alloc, syntax)?;
-    missing(alloc, &used, &sorts)
+    missing_words(alloc, &used, &sorts)
 }
 
 /// The names that stand in rules and in terms to evaluate.
@@ -45,7 +45,7 @@ pub fn unused_symbols<'a>(alloc: Global, syntax: &'a Syntax) -> Result<Vec<Word<
 {
     let used = used_names(alloc, syntax)?;
     let symbols = symbol_words(alloc, syntax)?;
-    missing(alloc, &used, &symbols)
+    missing_words(alloc, &used, &symbols)
 }
 
 /// The variables that stand in no rule.
@@ -54,5 +54,5 @@ pub fn unused_variables<'a>(alloc: Global, syntax: &'a Syntax) -> Result<Vec<Wor
 {
     let used = used_names(alloc, syntax)?;
     let words = variables(alloc, syntax)?;
-    missing(alloc, &used, &words)
+    missing_words(alloc, &used, &words)
 }

@@ -37,7 +37,7 @@ fn link(arena: &mut Arena, chain: u32, body: CellBody) -> Result<Slot, ArenaFaul
 }
 
 /// The same, where the chain and a free slot are there.
-fn linked(rt: &impl Abort, arena: &mut Arena, chain: u32, body: CellBody) -> Slot
+fn link_slot(rt: &impl Abort, arena: &mut Arena, chain: u32, body: CellBody) -> Slot
     requires ready { CanCollect arena.old }
     requires parts { (s : ℕ) → 0 < times s (names body) → IsTaken arena.old s }
     ensures { CanCollect arena.new }
@@ -58,7 +58,7 @@ fn leaf(rt: &impl Abort, arena: &mut Arena, chain: u32) -> Slot
         anns: None,
         hash: u64::from(chain),
     };
-    linked(rt, arena, chain, body)
+    link_slot(rt, arena, chain, body)
 }
 
 /// Stops where a slot is not taken, or is marked.
@@ -99,7 +99,7 @@ fn node(
         anns,
         hash: u64::from(chain),
     };
-    linked(rt, arena, chain, body)
+    link_slot(rt, arena, chain, body)
 }
 
 /// Replaces how often a cell is protected.

@@ -11,7 +11,7 @@ ghost use Rattle.rec_sorts.specs.SpecRules.{SpecVerdict, Good};
 ghost use Rattle.rec_engine.specs.Engine.{IsGiven, SameEngine, eval_tree};
 ghost use Rattle.uses.specs.Evaluated.{IsRefused, IsHeld, value_within, value_text};
 
-use crate::texts::{only, printed};
+use crate::texts::{only, text_of};
 use crate::{EvaluationFault, SpecFault};
 use rec_engine::{Engine, EngineFault, Options, Outcome};
 use rec_sorts::{Checked, check, check_terms};
@@ -26,7 +26,7 @@ const OPTIONS: Options = Options {
 };
 
 /// The specification that a text spells, once it is known to keep its rules.
-pub fn checked(alloc: Global, text: &[u8]) -> Result<Checked, SpecFault>
+pub fn specification_of(alloc: Global, text: &[u8]) -> Result<Checked, SpecFault>
     ensures good { IfOk result (λ c. SpecVerdict text.now (Good c.spec)) }
     ensures refused { IfErr result (IsRefused text.now) }
 {
@@ -94,7 +94,7 @@ pub fn value_of<B: TermBank>(
 }
 
 /// The printed text of that value.
-pub fn printed_value<B: TermBank>(
+pub fn value_text<B: TermBank>(
     alloc: Global,
     engine: &mut Engine<B>,
     t: Term,
@@ -110,11 +110,11 @@ pub fn printed_value<B: TermBank>(
     let Some(value) = value_of(engine, t, n)? else {
         return Ok(None);
     };
-    Ok(Some(printed(alloc, engine.bank(), value)?))
+    Ok(Some(text_of(alloc, engine.bank(), value)?))
 }
 
 /// The same of the specification's own term of a number, from 0.
-pub fn printed_own_value<B: TermBank>(
+pub fn own_value_text<B: TermBank>(
     alloc: Global,
     engine: &mut Engine<B>,
     i: u32,
@@ -127,5 +127,5 @@ pub fn printed_own_value<B: TermBank>(
     ensures keeps { Keeps (B.store engine.old.bank) (B.store engine.new.bank) [] }
 {
     let t = engine.eval_term(i)?;
-    printed_value(alloc, engine, t, n)
+    value_text(alloc, engine, t, n)
 }

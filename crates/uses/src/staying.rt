@@ -14,8 +14,8 @@ ghost use Rattle.uses.specs.Evaluated.{IsHeld, value_within, value_text};
 ghost use Rattle.uses.specs.Kept.{KeepsRoots, IsProtected};
 
 use crate::EvaluationFault;
-use crate::evaluating::{printed_value, value_of};
-use crate::texts::{only, printed};
+use crate::evaluating::{value_of, value_text};
+use crate::texts::{only, text_of};
 use rec_engine::Engine;
 use rec_sorts::{Checked, Letter, check_terms, term_letters};
 use rx_term::{Term, TermBank};
@@ -72,7 +72,7 @@ pub fn answer<B: TermBank>(
     ensures keeps { Keeps (B.store engine.old.bank) (B.store engine.new.bank) [] }
 {
     let t = engine.given_term(letters)?;
-    printed_value(alloc, engine, t, n)
+    value_text(alloc, engine, t, n)
 }
 
 /// The value of a request, which stays until it is let go; `None` where it takes more than `n`
@@ -113,7 +113,7 @@ pub fn let_go<B: TermBank>(
         ≡ with_count (B.store engine.old.bank) value
         ((B.store engine.old.bank).roots value.0 - 1)) }
 {
-    let text = printed(alloc, engine.bank(), value)?;
+    let text = text_of(alloc, engine.bank(), value)?;
     engine.unprotect(value);
     Ok(text)
 }

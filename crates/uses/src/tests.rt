@@ -5,11 +5,11 @@ ghost use Rattle.rx_term.specs.Tree.{Tree};
 ghost use Rattle.rec_engine.specs.Engine.{IsGiven, Spells};
 ghost use Rattle.uses.specs.Kept.{IsProtected, KeepsRoots};
 
-use crate::evaluating::{admit, checked, engine_over, printed_own_value, printed_value};
+use crate::evaluating::{admit, engine_over, own_value_text, specification_of, value_text};
 use crate::keeping::keep;
 use crate::rewriting::{pattern, rewrite};
 use crate::staying::{answer, kept_value, let_go, request};
-use crate::texts::{located, printed, read_back};
+use crate::texts::{name_at, read_back, text_of};
 use rec_engine::Engine;
 use rec_sorts::{Checked, Letter};
 use rx_pattern::Pattern;
@@ -38,13 +38,13 @@ fn bank_of(rt: &impl Abort, alloc: Global) -> Box<PlainBank> {
 }
 
 /// The reference of `x` with a line and a column.
-fn located_x<B: TermBank>(rt: &impl Abort, bank: &mut B, line: i32, column: i32) -> Term {
-    located(bank, X, line, column).expect(rt, "a located x")
+fn x_at<B: TermBank>(rt: &impl Abort, bank: &mut B, line: i32, column: i32) -> Term {
+    name_at(bank, X, line, column).expect(rt, "a located x")
 }
 
 /// The same of `y`.
-fn located_y<B: TermBank>(rt: &impl Abort, bank: &mut B, line: i32, column: i32) -> Term {
-    located(bank, Y, line, column).expect(rt, "a located y")
+fn y_at<B: TermBank>(rt: &impl Abort, bank: &mut B, line: i32, column: i32) -> Term {
+    name_at(bank, Y, line, column).expect(rt, "a located y")
 }
 
 /// The reference of the term that a text spells.
@@ -55,12 +55,12 @@ fn term<B: TermBank>(rt: &impl Abort, alloc: Global, bank: &mut B, text: &[u8]) 
 /// Stops where the printed text of a term is not this one.
 fn expect_text<B: TermBank>(rt: &impl Abort, alloc: Global, bank: &B, t: Term, wanted: &[u8]) {
     assert!(rt; bank.holds(t));
-    assert!(rt; printed(alloc, bank, t).expect(rt, "a text").as_slice() == wanted);
+    assert!(rt; text_of(alloc, bank, t).expect(rt, "a text").as_slice() == wanted);
 }
 
 /// Stops where a located name is not printed as it should be, or not read back from its own text.
 fn print_and_read<B: TermBank>(rt: &impl Abort, alloc: Global, bank: &mut B) {
-    let x = located_x(rt, bank, 3, -7);
+    let x = x_at(rt, bank, 3, -7);
     expect_text(rt, alloc, bank, x, b"x{at(3,-7)}");
     assert!(rt; bank.holds(x));
     assert!(rt; read_back(alloc, bank, x).expect(rt, "a term") == x);
@@ -77,7 +77,7 @@ fn pattern_of<B: TermBank>(rt: &impl Abort, alloc: Global, bank: &mut B, text: &
 }
 
 /// What the right pattern makes of what the left one binds in the term that a text spells.
-fn rewritten<B: TermBank>(
+fn rewrite_text<B: TermBank>(
     rt: &impl Abort,
     alloc: Global,
     bank: &mut B,
@@ -98,9 +98,11 @@ fn rewrite_sums<B: TermBank>(
     left: &Pattern,
     right: &Pattern,
 ) {
-    let made = rewritten(rt, alloc, bank, left, right, b"plus(x{at(3,7)}, 1)").expect(rt, "a sum");
+    let made = rewrite_text(rt, alloc, bank, left, right, b"plus(x{at(3,7)}, 1)").expect(
+        rt, "a sum",
+    );
     expect_text(rt, alloc, bank, made, b"add(x{at(3,7)},[1])");
-    assert!(rt; rewritten(rt, alloc, bank, left, right, b"plus(1,x)").is_none());
+    assert!(rt; rewrite_text(rt, alloc, bank, left, right, b"plus(1,x)").is_none());
 }
 
 /// The same, by the patterns of two texts.
@@ -117,10 +119,10 @@ fn rewrites_by_patterns(rt: HostRuntime) {
 
 /// Stops where other numbers of cells are taken, or more is left than is needed.
 fn keep_one<B: TermBank>(rt: &impl Abort, bank: &mut B) {
-    let x = located_x(rt, bank, 3, 7);
+    let x = x_at(rt, bank, 3, 7);
     // x{at(3,7)}, [at(3,7)], at(3,7), [3,7], [7], [], 3 and 7, and the constant x
     assert!(rt; bank.cells() == 9);
-    let y = located_y(rt, bank, 3, 8);
+    let y = y_at(rt, bank, 3, 8);
     // y{at(3,8)}, [at(3,8)], at(3,8), [3,8], [8], 8, and the constant y
     assert!(rt; bank.cells() == 16 && bank.holds(x));
     assert!(rt; keep(bank, x) == Ok(8));
@@ -134,7 +136,7 @@ fn keeps_what_is_needed(rt: HostRuntime) {
 
 /// A specification, of which only that it is one is known.
 fn addition(rt: &impl Abort, alloc: Global) -> Box<Checked> {
-    let addition = checked(alloc, ADDITION).expect(rt, "a specification");
+    let addition = specification_of(alloc, ADDITION).expect(rt, "a specification");
     Box::new(alloc, addition).expect(rt, "memory")
 }
 
@@ -154,7 +156,7 @@ fn engine_of<B: TermBank + Drop>(
 }
 
 /// The term that a text spells, once it is known to be one that can be evaluated.
-fn admitted<B: TermBank>(
+fn admit_text<B: TermBank>(
     rt: &impl Abort,
     alloc: Global,
     addition: &Checked,
@@ -189,7 +191,7 @@ fn expect_given<B: TermBank>(
 )
     requires { IsGiven engine.old.spec (B.store engine.old.bank) t }
 {
-    let found = printed_value(alloc, engine, t, n).expect(rt, "a value, or none");
+    let found = value_text(alloc, engine, t, n).expect(rt, "a value, or none");
     expect_found(rt, &found, wanted);
 }
 
@@ -202,7 +204,7 @@ fn evaluate_given<B: TermBank + Drop>(
     wanted: Option<&[u8]>,
 ) {
     let addition = addition(rt, alloc);
-    let sum = admitted(rt, alloc, &addition, &mut *bank, b"plus(s(z),z){at(3,7)}");
+    let sum = admit_text(rt, alloc, &addition, &mut *bank, b"plus(s(z),z){at(3,7)}");
     let mut engine = engine_of(rt, alloc, addition, bank);
     expect_given(rt, alloc, &mut engine, sum, n, wanted);
 }
@@ -216,7 +218,7 @@ fn expect_own<B: TermBank>(
     wanted: Option<&[u8]>,
 ) {
     assert!(rt; engine.eval_terms() > 0);
-    let found = printed_own_value(alloc, engine, 0, n).expect(rt, "a value, or none");
+    let found = own_value_text(alloc, engine, 0, n).expect(rt, "a value, or none");
     expect_found(rt, &found, wanted);
 }
 
@@ -267,7 +269,7 @@ fn refuses_foreign_terms(rt: HostRuntime) {
 }
 
 /// The numbered words of the term that a text spells.
-fn requested(rt: &impl Abort, alloc: Global, addition: &Checked, text: &[u8]) -> Vec<Letter>
+fn request_letters(rt: &impl Abort, alloc: Global, addition: &Checked, text: &[u8]) -> Vec<Letter>
     ensures { (u : Tree) × Spells addition.now.spec result.items u }
 {
     let requests = &mut *bank_of(rt, alloc);
@@ -285,13 +287,13 @@ fn expect_answer<B: TermBank>(
 )
     ensures { KeepsRoots (B.store engine.old.bank) (B.store engine.new.bank) }
 {
-    let letters = requested(rt, alloc, engine.checked(), text);
+    let letters = request_letters(rt, alloc, engine.checked(), text);
     let found = answer(alloc, engine, &letters, n).expect(rt, "a value, or none");
     expect_found(rt, &found, wanted);
 }
 
 /// The value of the term that a text spells, which is there within so many steps.
-fn kept_of<B: TermBank>(
+fn keep_value_of<B: TermBank>(
     rt: &impl Abort,
     alloc: Global,
     engine: &mut Engine<B>,
@@ -300,7 +302,7 @@ fn kept_of<B: TermBank>(
 ) -> Term
     ensures { IsProtected (B.store engine.new.bank) result }
 {
-    let letters = requested(rt, alloc, engine.checked(), text);
+    let letters = request_letters(rt, alloc, engine.checked(), text);
     let found = kept_value(engine, &letters, n).expect(rt, "a value, or none");
     found.expect(rt, "a value")
 }
@@ -322,7 +324,7 @@ fn expect_let_go<B: TermBank>(
 /// Stops where terms that are given one after the other come to other values, or one that is kept
 /// meanwhile is not there in the end.
 fn ask_in_turn<B: TermBank>(rt: &impl Abort, alloc: Global, engine: &mut Engine<B>) {
-    let kept = kept_of(rt, alloc, engine, b"plus(s(z),s(z))", 2);
+    let kept = keep_value_of(rt, alloc, engine, b"plus(s(z),s(z))", 2);
     expect_answer(rt, alloc, engine, b"plus(s(s(z)),z)", 2, None);
     expect_answer(rt, alloc, engine, b"s(plus(z,z)){x}", 1, Some(b"s(z)"));
     expect_let_go(rt, alloc, engine, kept, b"s(s(z))");

@@ -14,7 +14,7 @@ use rx_text::{WriteFault, laws, read, write};
 use std::alloc::Global;
 
 /// A name with the line and the column at which it stands in some source: `x{at(3,7)}`.
-pub fn located<B: TermBank>(
+pub fn name_at<B: TermBank>(
     bank: &mut B,
     name: &[u8],
     line: i32,
@@ -67,7 +67,7 @@ pub fn only<B: TermBank>(bank: &mut B, t: Term) -> Result<Term, BankFault>
 }
 
 /// The printed text of a term.
-pub fn printed<B: TermBank>(alloc: Global, bank: &B, t: Term) -> Result<Vec<u8>, WriteFault>
+pub fn text_of<B: TermBank>(alloc: Global, bank: &B, t: Term) -> Result<Vec<u8>, WriteFault>
     requires { IsSome (tree_at (B.store bank.now) t) }
     ensures { IfOk result
         (λ text. (u : Tree) → tree_at (B.store bank.now) t ≡ Some u → text.items ≡ canon u) }
@@ -83,7 +83,7 @@ pub fn read_back<B: TermBank>(alloc: Global, bank: &mut B, t: Term) -> Result<Te
     ensures same { IfOk result (λ r. r ≡ t) }
     ensures grows { Grows (B.store bank.old) (B.store bank.new) }
 {
-    let text = printed(alloc, bank, t)?;
+    let text = text_of(alloc, bank, t)?;
     let again = read(alloc, text.as_slice(), bank)?;
     laws::printed_text();
     Ok(again)

@@ -2,7 +2,7 @@
 
 use crate::rows::banks::{plain_bank, shared_bank};
 use crate::rows::engine::{Row, expect_rows};
-use crate::rows::texts::checked;
+use crate::rows::texts::checked_spec;
 use crate::rows::{depth, engine, observed, trace, values};
 use rec_engine::{Engine, Options};
 use rx_term::TermBank;
@@ -79,7 +79,7 @@ fn engine_for<B: TermBank + Drop>(
     assert!(rt; options.memo <= 1_048_576);
     assert!(rt; options.reclaim_every >= 1);
     assert!(rt; options.reclaim_every <= 1_073_741_824);
-    let checked = checked(rt, alloc, spec);
+    let checked = checked_spec(rt, alloc, spec);
     Engine::new(alloc, checked, bank, options).expect(rt, "an engine")
 }
 

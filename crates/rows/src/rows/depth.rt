@@ -2,7 +2,7 @@
 
 use crate::rows::cases::{Bank, Case, OPTIONS, Question, expect_case};
 use crate::rows::engine::{ADD, End, HIT, PAIR, Row, SUM, expect_rows, has_ended, value_of};
-use crate::rows::values::{ADDITION, SUCCESSOR, ZERO, applied, constant};
+use crate::rows::values::{ADDITION, SUCCESSOR, ZERO, apply_to, constant};
 use rec_engine::{DepthFault, Engine, Outcome};
 use rx_term::{Term, TermBank};
 use std::alloc::Global;
@@ -61,7 +61,7 @@ fn is_deep(outcome: Result<Outcome, DepthFault>) -> bool {
 }
 
 /// The call of a symbol on two values, where so many calls may wait; the first value is kept.
-fn called_within<B: TermBank>(
+fn call_on_both_within<B: TermBank>(
     rt: &impl Abort,
     engine: &mut Engine<B>,
     symbol: u32,
@@ -79,10 +79,10 @@ fn called_within<B: TermBank>(
 fn waits_in_call<B: TermBank>(rt: &impl Abort, engine: &mut Engine<B>) {
     let empty = engine.nil().expect(rt, "the empty list");
     let zero = constant(rt, engine, empty, ZERO);
-    let one = applied(rt, engine, SUCCESSOR, zero);
+    let one = apply_to(rt, engine, SUCCESSOR, zero);
     let both = (one, zero);
-    assert!(rt; is_deep(called_within(rt, engine, ADDITION, both, 2, 0)));
-    let outcome = called_within(rt, engine, ADDITION, both, 2, 1).expect(rt, "an outcome");
+    assert!(rt; is_deep(call_on_both_within(rt, engine, ADDITION, both, 2, 0)));
+    let outcome = call_on_both_within(rt, engine, ADDITION, both, 2, 1).expect(rt, "an outcome");
     let (value, steps) = value_of(outcome).expect(rt, "a value");
     assert!(rt; value == one && steps == 2);
 }

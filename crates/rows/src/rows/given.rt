@@ -1,7 +1,7 @@
 //! The rules of given terms, row by row, and their letters.
 
 use crate::rows::banks::{plain_bank, term_of};
-use crate::rows::texts::{ADD, Nest, Q, checked, expect};
+use crate::rows::texts::{ADD, Nest, Q, checked_spec, expect};
 use rec_sorts::{Checked, Letter, Meaning, TermsFault, broken_element, check_terms, term_letters};
 use rx_term::TermBank;
 use std::alloc::Global;
@@ -91,15 +91,15 @@ fn broken_in<B: TermBank>(
 }
 
 /// The same, in a bank of its own.
-fn broken(rt: &impl Abort, alloc: Global, checked: &Checked, terms: &[u8]) -> Option<u8> {
+fn broken_rule(rt: &impl Abort, alloc: Global, checked: &Checked, terms: &[u8]) -> Option<u8> {
     let mut bank = plain_bank(rt, alloc, 10_000);
     broken_in(rt, alloc, checked, &mut bank, terms)
 }
 
 /// The same of the terms beside the text of a specification.
 fn broken_beside(rt: &impl Abort, alloc: Global, spec: &str, terms: &[u8]) -> Option<u8> {
-    let checked = checked(rt, alloc, spec.as_bytes());
-    broken(rt, alloc, &checked, terms)
+    let checked = checked_spec(rt, alloc, spec.as_bytes());
+    broken_rule(rt, alloc, &checked, terms)
 }
 
 /// Stops where terms break another rule than their row has.
@@ -210,7 +210,7 @@ fn ask(rt: &impl Abort, alloc: Global, checked: &Checked, question: &Question) {
 
 /// The same of the text of a specification.
 fn ask_spec(rt: &impl Abort, alloc: Global, spec: &str, question: &Question) {
-    let checked = checked(rt, alloc, spec.as_bytes());
+    let checked = checked_spec(rt, alloc, spec.as_bytes());
     ask(rt, alloc, &checked, question);
 }
 

@@ -4,7 +4,7 @@ ghost use Rattle.std.specs.Prelude.{◌≡◌, length};
 ghost use Rattle.rec_sorts.specs.Lookup.{symbols};
 
 use crate::rows::banks::plain_bank;
-use crate::rows::texts::{ADD, checked};
+use crate::rows::texts::{ADD, checked_spec};
 use rec_sorts::{Checked, Links};
 use rx_plain::PlainBank;
 use rx_term::{Symbol, TermBank};
@@ -83,7 +83,7 @@ fn expect_linked(rt: &impl Abort, alloc: Global, checked: &Checked, linked: &Lin
 
 /// The same of the text of a specification.
 fn expect_spec(rt: &impl Abort, alloc: Global, spec: &str, linked: &Linked) {
-    let checked = checked(rt, alloc, spec.as_bytes());
+    let checked = checked_spec(rt, alloc, spec.as_bytes());
     expect_linked(rt, alloc, &checked, linked);
 }
 

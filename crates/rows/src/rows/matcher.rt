@@ -7,7 +7,7 @@ ghost use Rattle.rec_match.specs.Next.{AreReady};
 
 use crate::rows::banks::{plain_bank, term_of};
 use crate::rows::counting::Counting;
-use crate::rows::texts::{checked, expect, push};
+use crate::rows::texts::{checked_spec, expect, push};
 use rec_match::Matcher;
 use rec_sorts::{Checked, Links};
 use rx_plain::PlainBank;
@@ -194,7 +194,7 @@ fn expect_row_alone(rt: &impl Abort, alloc: Global, checked: &Checked, row: &Row
 
 /// The same of each row, and of the text of a specification.
 fn expect_rows(rt: &impl Abort, alloc: Global, spec: &[u8], rows: &[Row]) {
-    let checked = checked(rt, alloc, spec);
+    let checked = checked_spec(rt, alloc, spec);
     for row in rows {
         expect_row_alone(rt, alloc, &checked, row);
     }
@@ -232,7 +232,7 @@ fn trees_in(rt: &impl Abort, alloc: Global, checked: &Checked, number: usize) ->
 
 /// The same of the text of a specification.
 fn trees(rt: &impl Abort, alloc: Global, spec: &[u8], number: usize) -> usize {
-    let checked = checked(rt, alloc, spec);
+    let checked = checked_spec(rt, alloc, spec);
     trees_in(rt, alloc, &checked, number)
 }
 

@@ -70,7 +70,7 @@ const ENDS: [Told; 5] = [
 const ENDS_WITHOUT_ROOM: [Told; 2] = [(5, None, End::Room), (5, Some(3), End::Room)];
 
 /// The same fault where it is said how many calls may wait.
-fn bounded(fault: EngineFault) -> DepthFault {
+fn depth_fault(fault: EngineFault) -> DepthFault {
     match fault {
         EngineFault::Memory => DepthFault::Memory,
         EngineFault::Room => DepthFault::Room,
@@ -78,7 +78,7 @@ fn bounded(fault: EngineFault) -> DepthFault {
 }
 
 /// What the first term comes to within `n` steps, before a witness.
-fn watched<B: TermBank>(
+fn watch_first<B: TermBank>(
     rt: &impl Abort,
     engine: &mut Engine<B>,
     n: u64,
@@ -89,7 +89,7 @@ fn watched<B: TermBank>(
     let t = engine.eval_term(0).expect(rt, "a term");
     match depth {
         Some(depth) => engine.normalise_within_watched(t, n, depth, witness),
-        None => engine.normalise_watched(t, n, witness).map_err(bounded),
+        None => engine.normalise_watched(t, n, witness).map_err(depth_fault),
     }
 }
 
@@ -98,7 +98,7 @@ fn expect_told<B: TermBank>(rt: &impl Abort, alloc: Global, engine: &mut Engine<
     let mut witness = NOTHING;
     let mut ends: u32 = 0;
     for row in rows {
-        let outcome = watched(rt, engine, row.0, row.1, &mut witness);
+        let outcome = watch_first(rt, engine, row.0, row.1, &mut witness);
         let holds = has_ended(rt, alloc, engine.bank(), outcome, &row.2);
         ends = ends.saturating_add(1);
         assert!(rt;
@@ -113,7 +113,7 @@ fn expect_told<B: TermBank>(rt: &impl Abort, alloc: Global, engine: &mut Engine<
 /// Stops unless a witness hears each 65,536 rules of a term without an end.
 fn hears_of_rules<B: TermBank>(rt: &impl Abort, engine: &mut Engine<B>) {
     let mut witness = NOTHING;
-    let outcome = watched(rt, engine, LONG, None, &mut witness);
+    let outcome = watch_first(rt, engine, LONG, None, &mut witness);
     assert!(rt; matches!(outcome, Ok(Outcome::Limit)));
     assert!(rt; witness.told == 4 && witness.ceased == 1);
     assert!(rt; witness.goes_on);
@@ -194,7 +194,7 @@ fn counts_calls<B: TermBank>(rt: &impl Abort, alloc: Global, engine: &mut Engine
 }
 
 /// How often rules matched.
-fn matched(counts: &[RuleCount]) -> u64 {
+fn match_count(counts: &[RuleCount]) -> u64 {
     let mut sum: u64 = 0;
     for count in counts {
         sum = sum.saturating_add(count.matched);
@@ -209,7 +209,7 @@ fn counts_remembered<B: TermBank>(rt: &impl Abort, alloc: Global, engine: &mut E
     assert!(rt; engine.count_rules(alloc).is_ok());
     expect_rows(rt, alloc, engine, &LONGEST);
     let tally = engine.tally();
-    let matched = matched(engine.rule_counts());
+    let matched = match_count(engine.rule_counts());
     assert!(rt; tally.steps == FAST_STEPS);
     assert!(rt; tally.remembered > 0 && tally.saved < FAST_STEPS);
     assert!(rt; matched == FAST_STEPS - tally.saved);

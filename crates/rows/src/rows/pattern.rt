@@ -262,7 +262,7 @@ fn of_two<B: TermBank>(
 }
 
 /// What the pattern makes of the terms of some texts.
-fn made_of(
+fn make_of(
     rt: &impl Abort,
     alloc: Global,
     bank: &mut PlainBank,
@@ -283,7 +283,7 @@ fn made_of(
 /// Whether the terms of a row make its whole, or nothing for its reason.
 fn makes(rt: &impl Abort, alloc: Global, bank: &mut PlainBank, row: &Made) -> bool {
     let p = pattern(rt, alloc, bank, row.0.as_bytes());
-    let found = made_of(rt, alloc, bank, &p, row.1);
+    let found = make_of(rt, alloc, bank, &p, row.1);
     match row.2 {
         Ok(whole) => found == Ok(term_of(rt, alloc, bank, whole.as_bytes())),
         Err(fault) => found == Err(fault),

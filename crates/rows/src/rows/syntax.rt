@@ -171,14 +171,14 @@ fn places(rt: HostRuntime) {
 }
 
 /// What may stand where a text leaves the grammar.
-fn expected(rt: &impl Abort, alloc: Global, text: &[u8]) -> Vec<TokenKind> {
+fn expected_kinds(rt: &impl Abort, alloc: Global, text: &[u8]) -> Vec<TokenKind> {
     expected_at_fault(alloc, text).expect(rt, "kinds of tokens")
 }
 
 /// Stops where something else may stand behind the beginnings of texts.
 fn expect_kinds(rt: &impl Abort, alloc: Global, rows: &[(&str, &[TokenKind])]) {
     for (text, wanted) in rows {
-        let kinds = expected(rt, alloc, text.as_bytes());
+        let kinds = expected_kinds(rt, alloc, text.as_bytes());
         expect(rt, kinds.as_slice() == *wanted, text);
     }
 }
@@ -195,24 +195,24 @@ fn expected_in_terms(rt: HostRuntime) {
 
 #[test]
 fn nothing_is_expected_of_a_specification(rt: HostRuntime) {
-    assert!(rt; expected(&rt, rt.alloc(), ADDITION).is_empty());
+    assert!(rt; expected_kinds(&rt, rt.alloc(), ADDITION).is_empty());
 }
 
 /// The specification of a text that it keeps.
-fn owned(rt: &impl Abort, alloc: Global, text: &[u8]) -> Result<Syntax, SyntaxFault> {
+fn read_text_owned(rt: &impl Abort, alloc: Global, text: &[u8]) -> Result<Syntax, SyntaxFault> {
     read_owned(alloc, Vec::from_slice(alloc, text).expect(rt, "memory"))
 }
 
 #[test]
 fn a_text_that_is_kept(rt: HostRuntime) {
-    let spec = owned(&rt, rt.alloc(), ADDITION).expect(&rt, "a specification");
+    let spec = read_text_owned(&rt, rt.alloc(), ADDITION).expect(&rt, "a specification");
     assert!(rt; spec.source() == ADDITION.as_slice());
     assert!(rt; spec.rules().len() == 2);
 }
 
 #[test]
 fn a_kept_text_outside_the_grammar(rt: HostRuntime) {
-    assert!(rt; place(owned(&rt, rt.alloc(), &ADDITION[..184])) == Some(184));
+    assert!(rt; place(read_text_owned(&rt, rt.alloc(), &ADDITION[..184])) == Some(184));
 }
 
 #[test]

@@ -87,7 +87,7 @@ fn expect_places(rt: &impl Abort, alloc: Global, bank: &mut PlainBank) {
 }
 
 /// What the tree that a text spells is printed as; nothing where it spells none.
-fn printed(rt: &impl Abort, alloc: Global, bank: &mut PlainBank, text: &[u8]) -> Vec<u8> {
+fn printed_text(rt: &impl Abort, alloc: Global, bank: &mut PlainBank, text: &[u8]) -> Vec<u8> {
     match read(alloc, text, bank) {
         Ok(t) => text_of(rt, alloc, bank, t),
         Err(_) => Vec::new(alloc),
@@ -96,7 +96,7 @@ fn printed(rt: &impl Abort, alloc: Global, bank: &mut PlainBank, text: &[u8]) ->
 
 fn expect_printed(rt: &impl Abort, alloc: Global, bank: &mut PlainBank) {
     for (text, wanted) in &PRINTED {
-        let found = printed(rt, alloc, bank, text.as_bytes());
+        let found = printed_text(rt, alloc, bank, text.as_bytes());
         expect(rt, found.as_slice() == wanted.as_bytes(), text);
     }
 }
@@ -189,14 +189,14 @@ fn too_long(rt: HostRuntime) {
 }
 
 /// What may stand where a text leaves the grammar.
-fn expected(rt: &impl Abort, alloc: Global, text: &[u8]) -> Vec<TokenKind> {
+fn expected_kinds(rt: &impl Abort, alloc: Global, text: &[u8]) -> Vec<TokenKind> {
     expected_at_fault(alloc, text).expect(rt, "kinds of tokens")
 }
 
 /// Stops where something else may stand where the texts leave the grammar.
 fn expect_kinds(rt: &impl Abort, alloc: Global, rows: &[(&str, &[TokenKind])]) {
     for (text, wanted) in rows {
-        let kinds = expected(rt, alloc, text.as_bytes());
+        let kinds = expected_kinds(rt, alloc, text.as_bytes());
         expect(rt, kinds.as_slice() == *wanted, text);
     }
 }
@@ -213,7 +213,7 @@ fn expected_behind_a_term(rt: HostRuntime) {
 
 #[test]
 fn nothing_is_expected_of_a_term(rt: HostRuntime) {
-    assert!(rt; expected(&rt, rt.alloc(), b"f(a,[1,2]){b}").is_empty());
+    assert!(rt; expected_kinds(&rt, rt.alloc(), b"f(a,[1,2]){b}").is_empty());
 }
 
 /// Two million opening brackets, and as many closing ones.

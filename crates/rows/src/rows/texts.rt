@@ -71,6 +71,6 @@ pub fn spec_of(rt: &impl Abort, alloc: Global, spec: &[u8]) -> Syntax {
 }
 
 /// The checked specification of a text.
-pub fn checked(rt: &impl Abort, alloc: Global, spec: &[u8]) -> Checked {
+pub fn checked_spec(rt: &impl Abort, alloc: Global, spec: &[u8]) -> Checked {
     check(alloc, spec_of(rt, alloc, spec)).expect(rt, "a checked specification")
 }

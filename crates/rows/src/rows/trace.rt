@@ -321,19 +321,31 @@ fn trace_condition<B: TermBank>(rt: &impl Abort, alloc: Global, engine: &mut Eng
     expect_value(rt, alloc, engine, &mut tracer, b"s(z)");
 }
 
-/// Stops where the trace of the sum has other events, or goes on otherwise behind a firing whose
-/// contractum is not written down.
+/// The trace of the sum by events.
 fn trace_events<B: TermBank>(rt: &impl Abort, alloc: Global, engine: &mut Engine<B>) {
     assert!(rt; engine.eval_terms() == 2);
     let mut tracer = Tracer::of_eval(alloc, engine, 0, 5).expect(rt, "a trace");
     expect_event(rt, alloc, engine, &mut tracer, &FIRST);
     expect_event(rt, alloc, engine, &mut tracer, &SECOND);
     expect_last_event(rt, alloc, engine, &mut tracer, b"s(s(z))");
+}
+
+/// The same where it is not written down what the first redex becomes.
+fn trace_unwritten<B: TermBank>(rt: &impl Abort, alloc: Global, engine: &mut Engine<B>) {
+    assert!(rt; engine.eval_terms() == 2);
     let mut tracer = Tracer::of_eval(alloc, engine, 0, 5).expect(rt, "a trace");
     let first = event_of(rt, alloc, engine, &mut tracer);
     assert!(rt; matches!(first, Event::Fired { .. }));
     expect_fired(rt, alloc, engine, &mut tracer, &SECOND);
     expect_last_event(rt, alloc, engine, &mut tracer, b"s(s(z))");
+}
+
+/// The same of a term with a condition.
+fn trace_condition_events<B: TermBank>(rt: &impl Abort, alloc: Global, engine: &mut Engine<B>) {
+    assert!(rt; engine.eval_terms() == 2);
+    let mut tracer = Tracer::of_eval(alloc, engine, 1, 5).expect(rt, "a trace");
+    expect_event(rt, alloc, engine, &mut tracer, &BEHIND);
+    expect_last_event(rt, alloc, engine, &mut tracer, b"s(z)");
 }
 
 /// Stops unless a trace of no steps is at its limit.
@@ -354,6 +366,8 @@ pub enum Traced {
     WholeTerms,
     Condition,
     Events,
+    Unwritten,
+    ConditionEvents,
     Nothing,
 }
 
@@ -364,6 +378,8 @@ pub fn ask<B: TermBank>(rt: &impl Abort, alloc: Global, engine: &mut Engine<B>, 
         Traced::WholeTerms => trace_whole(rt, alloc, engine),
         Traced::Condition => trace_condition(rt, alloc, engine),
         Traced::Events => trace_events(rt, alloc, engine),
+        Traced::Unwritten => trace_unwritten(rt, alloc, engine),
+        Traced::ConditionEvents => trace_condition_events(rt, alloc, engine),
         Traced::Nothing => trace_nothing(rt, alloc, engine),
     }
 }
@@ -396,6 +412,16 @@ fn conditions(rt: HostRuntime) {
 #[test]
 fn events(rt: HostRuntime) {
     expect_case(&rt, rt.alloc(), &case(Traced::Events));
+}
+
+#[test]
+fn unwritten_contracta(rt: HostRuntime) {
+    expect_case(&rt, rt.alloc(), &case(Traced::Unwritten));
+}
+
+#[test]
+fn events_behind_conditions(rt: HostRuntime) {
+    expect_case(&rt, rt.alloc(), &case(Traced::ConditionEvents));
 }
 
 #[test]

@@ -33,7 +33,7 @@ pub fn constant<B: TermBank>(
 }
 
 /// The application of a symbol to a value, which is kept.
-pub fn applied<B: TermBank>(
+pub fn apply_to<B: TermBank>(
     rt: &impl Abort,
     engine: &mut Engine<B>,
     symbol: u32,
@@ -48,7 +48,7 @@ pub fn applied<B: TermBank>(
 }
 
 /// The application of a symbol to two values, the first of which is kept.
-fn applied_to_both<B: TermBank>(
+fn apply_to_both<B: TermBank>(
     rt: &impl Abort,
     engine: &mut Engine<B>,
     symbol: u32,
@@ -63,7 +63,7 @@ fn applied_to_both<B: TermBank>(
 }
 
 /// What the call of a symbol on two values comes to within `n` steps; the first one is kept.
-fn called_on_both<B: TermBank>(
+fn call_on_both<B: TermBank>(
     rt: &impl Abort,
     engine: &mut Engine<B>,
     symbol: u32,
@@ -91,8 +91,8 @@ fn makes_values<B: TermBank>(rt: &impl Abort, alloc: Global, engine: &mut Engine
     let empty = engine.nil().expect(rt, "the empty list");
     expect_text(rt, alloc, engine.bank(), empty, b"[]");
     let zero = constant(rt, engine, empty, ZERO);
-    let one = applied(rt, engine, SUCCESSOR, zero);
-    let sum = applied_to_both(rt, engine, ADDITION, (one, zero));
+    let one = apply_to(rt, engine, SUCCESSOR, zero);
+    let sum = apply_to_both(rt, engine, ADDITION, (one, zero));
     expect_text(rt, alloc, engine.bank(), sum, b"add(s(z),z)");
     let list = list_of(rt, engine, sum);
     expect_text(rt, alloc, engine.bank(), list, b"[add(s(z),z)]");
@@ -102,10 +102,10 @@ fn makes_values<B: TermBank>(rt: &impl Abort, alloc: Global, engine: &mut Engine
 fn calls_values<B: TermBank>(rt: &impl Abort, alloc: Global, engine: &mut Engine<B>) {
     let empty = engine.nil().expect(rt, "the empty list");
     let zero = constant(rt, engine, empty, ZERO);
-    let one = applied(rt, engine, SUCCESSOR, zero);
+    let one = apply_to(rt, engine, SUCCESSOR, zero);
     let both = (one, zero);
-    assert!(rt; value_of(called_on_both(rt, engine, ADDITION, both, 1)).is_none());
-    let outcome = called_on_both(rt, engine, ADDITION, both, 2);
+    assert!(rt; value_of(call_on_both(rt, engine, ADDITION, both, 1)).is_none());
+    let outcome = call_on_both(rt, engine, ADDITION, both, 2);
     let (value, steps) = value_of(outcome).expect(rt, "a value");
     assert!(rt; value == one && steps == 2);
     expect_text(rt, alloc, engine.bank(), one, b"s(z)");
@@ -130,8 +130,8 @@ fn first_rule<B: TermBank>(
 fn tells_rules<B: TermBank>(rt: &impl Abort, alloc: Global, engine: &mut Engine<B>) {
     let empty = engine.nil().expect(rt, "the empty list");
     let zero = constant(rt, engine, empty, ZERO);
-    let one = applied(rt, engine, SUCCESSOR, zero);
-    let sum = applied_to_both(rt, engine, ADDITION, (one, zero));
+    let one = apply_to(rt, engine, SUCCESSOR, zero);
+    let sum = apply_to_both(rt, engine, ADDITION, (one, zero));
     assert!(rt; first_rule(rt, alloc, engine, sum) == Some(1));
     assert!(rt; first_rule(rt, alloc, engine, one) == None);
 }

@@ -1,6 +1,6 @@
 //! The rules, row by row.
 
-use crate::rows::texts::{Nest, Q, checked, expect, spec_of};
+use crate::rows::texts::{Nest, Q, checked_spec, expect, spec_of};
 use rec_sorts::{Checked, Letter, Meaning, SortFault, check};
 use std::alloc::Global;
 use std::process::Abort;
@@ -114,7 +114,7 @@ fn expect_one_term(rt: &impl Abort, checked: &Checked) {
 fn a_long_term(rt: HostRuntime) {
     let text = DEEP.text(&rt, rt.alloc());
     assert!(rt; text.len() > 100_000);
-    let checked = checked(&rt, rt.alloc(), &text);
+    let checked = checked_spec(&rt, rt.alloc(), &text);
     expect_one_term(&rt, &checked);
 }
 
@@ -156,6 +156,6 @@ fn expect_all(rt: &impl Abort, checked: &Checked) {
 
 #[test]
 fn letters(rt: HostRuntime) {
-    let checked = checked(&rt, rt.alloc(), Q.as_bytes());
+    let checked = checked_spec(&rt, rt.alloc(), Q.as_bytes());
     expect_all(&rt, &checked);
 }

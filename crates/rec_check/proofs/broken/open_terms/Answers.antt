@@ -14,5 +14,5 @@ returns c =
     let y = c.args.syntax.now.spec in
     let ks = variable_words y.variables in
     let words : as_words c.deref.result.now ≡ node_words (flat_terms y.terms) = ap as_words c.deref.ensures.value ∙ c.in_ok-words.ensures in
-    if_ok_same c.present.result (open_terms y) (present ks (as_words c.deref.result.now)) (c.present.ensures ks c.in_ok-known.ensures) (λ p.
+    if_ok_same c.present_words.result (open_terms y) (present ks (as_words c.deref.result.now)) (c.present_words.ensures ks c.in_ok-known.ensures) (λ p.
     same-present ks y.terms p ∙ ap (λ ws. count_by p (present ks ws)) (sym words))

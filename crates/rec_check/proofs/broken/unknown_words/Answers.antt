@@ -14,5 +14,5 @@ returns c =
     let ts = rule_terms y.rules ++ y.terms in
     let ks = names (symbols y) ++ variable_words y.variables in
     let words : as_words c.deref.result.now ≡ node_words (flat_terms ts) = ap as_words c.deref.ensures.value ∙ c.in_ok-words.ensures in
-    if_ok_same c.missing.result (unknown_words y) (missing ks (as_words c.deref.result.now)) (c.missing.ensures ks c.in_ok-known.ensures) (λ p.
+    if_ok_same c.missing_words.result (unknown_words y) (missing ks (as_words c.deref.result.now)) (c.missing_words.ensures ks c.in_ok-known.ensures) (λ p.
     same-missing ks ts p ∙ ap (λ ws. count_by p (missing ks ws)) (sym words))

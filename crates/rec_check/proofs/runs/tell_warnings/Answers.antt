@@ -10,10 +10,10 @@ pub tell-requires : goal.tell-requires
 tell-requires g c =
     let s = c.args.checked.now in
     let items = c.in_ok-findings.findings.items in
-    subst (λ t. Examined t (as_findings c.deref-2.result.now) c.judged.result)
+    subst (λ t. Examined t (as_findings c.deref-2.result.now) c.judge.result)
     (sym (c.source-text.ensures.text ∙ ap (λ (x : Sourced). x.source) c.syntax.ensures.same))
-    (subst (λ ws. Examined s.source (as_findings ws) c.judged.result) (sym c.deref-2.ensures.value)
-    (good_examined s.source s.spec (as_examples c.in_ok-examples.examples.items) (as_findings items) c.judged.result c.requires.fits
+    (subst (λ ws. Examined s.source (as_findings ws) c.judge.result) (sym c.deref-2.ensures.value)
+    (good_examined s.source s.spec (as_examples c.in_ok-examples.examples.items) (as_findings items) c.judge.result c.requires.fits
     c.requires.spelled c.syntax.ensures.kept c.in_ok-examples.ensures
     (subst (λ es. AreInOrder (warnings s.source s.spec ++ as_examples es) (as_findings items)) c.deref.ensures.value c.in_ok-findings.ensures)
-    (c.judged.ensures s.spec ∙ ap (λ ws. judgement_of (Good s.spec) (as_findings ws)) c.deref-3.ensures.value)))
+    (c.judge.ensures s.spec ∙ ap (λ ws. judgement_of (Good s.spec) (as_findings ws)) c.deref-3.ensures.value)))

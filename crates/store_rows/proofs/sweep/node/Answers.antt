@@ -3,8 +3,8 @@ use Rattle.rx_arena.specs.Arena.{IsTaken}
 use Rattle.rx_sweep.proofs.ReadyLemmas.{named_in}
 use Rattle.store_rows.proofs.sweep.node.Goals as goal
 
-pub linked-requires-clause-parts : goal.linked-requires-clause-parts
-linked-requires-clause-parts g c =
+pub link_slot-requires-clause-parts : goal.link_slot-requires-clause-parts
+link_slot-requires-clause-parts g c =
     let is_taken = IsTaken c.args.arena.now in
     named_in (record { kind = c.args.kind; a = c.from.result; b = c.from-2.result; anns = c.args.anns; hash = c.from-3.result }) is_taken
     (subst is_taken (sym c.from.ensures) c.expect_taken.ensures) (subst is_taken (sym c.from-2.ensures) c.expect_taken-2.ensures) c.expect_anns_taken.ensures

@@ -1,6 +1,6 @@
 use Rattle.rec_check.specs.Named.{as_words}
 use Rattle.rec_check.proofs.LookupLemmas.{repeated_begin, repeated_item}
-use Rattle.rec_check.proofs.filters.repeated.Goals as goal
+use Rattle.rec_check.proofs.filters.repeated_words.Goals as goal
 
 pub loop-word-init : goal.loop-word-init
 loop-word-init c = repeated_begin c.in_ok-names.names (as_words c.args.before.now) (as_words c.args.words.now) c.new-found.result.items

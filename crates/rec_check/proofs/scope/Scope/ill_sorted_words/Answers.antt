@@ -1,7 +1,7 @@
 use Rattle.std.proofs.Common.{refl}
 use Rattle.rec_check.specs.Named.{as_words}
 use Rattle.rec_check.proofs.NodeLemmas.{ill_sorted_item}
-use Rattle.rec_check.proofs.scope.Scope.ill_sorted.Goals as goal
+use Rattle.rec_check.proofs.scope.Scope.ill_sorted_words.Goals as goal
 
 pub loop-node-preserved : goal.loop-node-preserved
 loop-node-preserved c =

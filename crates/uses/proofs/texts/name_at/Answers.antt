@@ -3,7 +3,7 @@ use Rattle.std.specs.Prelude.{codes}
 use Rattle.rx_term.specs.Tree.{Tree, Int, Appl, none, more}
 use Rattle.rx_term.proofs.StoreLemmas.{Grows-made, Grows-trans}
 use Rattle.uses.proofs.NotedLemmas.{noted_made, noted_there, in_word}
-use Rattle.uses.proofs.texts.located.Goals as goal
+use Rattle.uses.proofs.texts.name_at.Goals as goal
 
 pub returns-clause-tree : goal.returns-clause-tree
 returns-clause-tree g c =

@@ -4,7 +4,7 @@ use Rattle.rec_syntax.specs.Parts.{rule_of}
 use Rattle.rec_check.specs.Named.{as_words}
 use Rattle.rec_check.specs.Walks.{unbound_in}
 use Rattle.rec_check.proofs.WalkLemmas.{same-unbound}
-use Rattle.rec_check.proofs.broken.unbound.Goals as goal
+use Rattle.rec_check.proofs.broken.unbound_variables.Goals as goal
 
 pub returns : goal.returns
 returns c =

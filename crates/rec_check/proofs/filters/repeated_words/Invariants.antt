@@ -4,7 +4,7 @@ use Rattle.rec_check.specs.Named.{as_words}
 use Rattle.rec_check.specs.Lookups.{number_in}
 use Rattle.rec_sorts.specs.Lookup.{repeated}
 use Rattle.rec_check.proofs.LookupLemmas.{repeated_by}
-use Rattle.rec_check.proofs.filters.repeated.Given as goal
+use Rattle.rec_check.proofs.filters.repeated_words.Given as goal
 
 abbrev pub invariant-loop-word : goal.invariant-loop-word
 invariant-loop-word l = as_words l.found.items ++ repeated_by (λ name. is_some (number_in l.names name))
